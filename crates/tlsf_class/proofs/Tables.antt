@@ -1,0 +1,30 @@
+-- The definitions against known values.
+use Rattle.std.proofs.Common.{◌≡◌, ℕ, Some, refl, List, [], ◌∷◌, map}
+use Rattle.tlsf_class.specs.Classes.{low, classes, class_of, search_of}
+
+-- the least sizes of the first and the last class of rows 0, 1, 2, 3 and 16, and of the last class
+lows_of_rows : map low (4 ∷ 15 ∷ 16 ∷ 31 ∷ 32 ∷ 47 ∷ 48 ∷ 63 ∷ 256 ∷ 271 ∷ 272 ∷ []) ≡ 4 ∷ 15 ∷ 16 ∷ 31 ∷ 32 ∷ 62 ∷ 64 ∷ 124 ∷ 524288 ∷ 1015808 ∷ 1048576 ∷ []
+unfolding low
+lows_of_rows = refl
+
+-- sizes at and about the edges of rows and classes
+abbrev sizes : List ℕ
+sizes = 4 ∷ 15 ∷ 16 ∷ 31 ∷ 32 ∷ 33 ∷ 44 ∷ 60 ∷ 63 ∷ 460 ∷ 1048575 ∷ 1048576 ∷ []
+
+-- their classes, and the least sizes of these
+class_numbers : map class_of sizes ≡ 4 ∷ 15 ∷ 16 ∷ 31 ∷ 32 ∷ 32 ∷ 38 ∷ 46 ∷ 47 ∷ 92 ∷ 271 ∷ 272 ∷ []
+unfolding low classes class_of
+class_numbers = refl
+
+class_lows : map (λ size. low (class_of size)) sizes ≡ 4 ∷ 15 ∷ 16 ∷ 31 ∷ 32 ∷ 32 ∷ 44 ∷ 60 ∷ 62 ∷ 448 ∷ 1015808 ∷ 1048576 ∷ []
+unfolding low classes class_of
+class_lows = refl
+
+-- their search classes, and the least sizes of these
+search_numbers : map search_of sizes ≡ map Some (4 ∷ 15 ∷ 16 ∷ 31 ∷ 32 ∷ 33 ∷ 38 ∷ 46 ∷ 48 ∷ 93 ∷ 272 ∷ 272 ∷ [])
+unfolding low classes search_of
+search_numbers = refl
+
+search_lows : map low (4 ∷ 15 ∷ 16 ∷ 31 ∷ 32 ∷ 33 ∷ 38 ∷ 46 ∷ 48 ∷ 93 ∷ 272 ∷ 272 ∷ []) ≡ 4 ∷ 15 ∷ 16 ∷ 31 ∷ 32 ∷ 34 ∷ 44 ∷ 60 ∷ 64 ∷ 464 ∷ 1048576 ∷ 1048576 ∷ []
+unfolding low
+search_lows = refl

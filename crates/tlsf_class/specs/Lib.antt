@@ -1,0 +1,3 @@
+pub mod Bitmaps
+pub mod Classes
+pub mod Members

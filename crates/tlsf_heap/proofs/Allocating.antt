@@ -1,0 +1,144 @@
+-- What allocating answers and leaves, by the place of the block that is chosen.
+use Rattle.std.proofs.Common.{find, None, ◌≡◌, ℕ, zero, suc, ◌+◌, ◌-◌, ◌*◌, ◌^◌, ◌<◌, ◌≤◌, Bool, true, false, cond, eqb, List, [], ◌∷◌, ◌++◌, length, take, drop, map, Some, Result, Ok, Err, IsOk, refl, sym, ap, ◌∙◌, subst, inl, inr, arith, add-one, eq-eqb}
+use Rattle.std.specs.Prelude.{◌↔◌}
+use Rattle.std.specs.List.{AllByRecursion, list_all}
+use Rattle.std.proofs.lemmas.List.{drop_more, take-append-drop}
+use Rattle.std.proofs.lemmas.Bool.{false≢true, cases_lt}
+use Rattle.std.proofs.lemmas.Bool.Decides.{nat_tests}
+use Rattle.tlsf_heap.specs.Blocks.{Block, Live, Free, HeapState, size_of, words_in, want}
+use Rattle.tlsf_heap.specs.Lawful.{IsLawful, HasRoom, AreRegions}
+use Rattle.tlsf_heap.specs.GoodFit.{Site, is_fit, fits, is_as_good, choice, NoneFits, IsChoice, block_at, site_at}
+use Rattle.tlsf_heap.specs.Calls.{carved, ticked, allocated, allocated_at, refused, Outcome, last_tick}
+use Rattle.tlsf_heap.specs.declared.name.Name.{Name}
+use Rattle.tlsf_heap.specs.declared.refusal.Refusal.{Refusal}
+use Rattle.tlsf_heap.specs.declared.refusal.Refusal.TheVariants.{NoFit, Worn}
+use Rattle.tlsf_heap.specs.Shown.{shown}
+use Rattle.tlsf_heap.specs.declared.stored_block.StoredBlock.{StoredBlock}
+use Rattle.tlsf_heap.proofs.Finding.{not_true}
+use Rattle.tlsf_class.proofs.ClassOfSize.{le_from_serves}
+use Rattle.tlsf_heap.proofs.Sites.{choice_none, choice_is, fits_nothing}
+use Rattle.tlsf_heap.proofs.Edits.{carved_small, carved_large}
+use Rattle.tlsf_heap.proofs.Lawfulness.{lawful_split, lawful_whole, with_blocks}
+
+-- each block has four words
+blocks_many : (bs : List Block) → AllByRecursion HasRoom bs → 4 * length bs ≤ words_in bs
+blocks_many [] h = omega arith
+blocks_many (Live m s b ∷ bs) h = let e = blocks_many bs h.1 in omega (arith, h.0.0)
+blocks_many (Free m s ∷ bs) h = let e = blocks_many bs h.1 in omega (arith, h.0)
+
+-- where one has four more than it needs, there is room for a block more
+pub room_for_more : (bs : List Block) (i : ℕ) → i < length bs → 8 ≤ size_of (block_at bs i) → AllByRecursion HasRoom bs → 4 * length bs + 4 ≤ words_in bs
+room_for_more [] i l g h = absurd (omega (arith, l))
+room_for_more (Live m s b ∷ bs) zero l g h = let e = blocks_many bs h.1 in omega (arith, g)
+room_for_more (Free m s ∷ bs) zero l g h = let e = blocks_many bs h.1 in omega (arith, g)
+room_for_more (Live m s b ∷ bs) (suc i) l g h = let e = room_for_more bs i (omega arith) g h.1 in omega (arith, h.0.0)
+room_for_more (Free m s ∷ bs) (suc i) l g h = let e = room_for_more bs i (omega arith) g h.1 in omega (arith, h.0)
+
+-- what a fit block is
+pub fits_size : (n : ℕ) (b : Block) → is_fit n b ≡ true → n ≤ size_of b
+fits_size n (Live m s xs) h = absurd (false≢true h)
+fits_size n (Free m s) h = le_from_serves n m h
+
+pub split_at : (bs : List Block) (i : ℕ) → i < length bs → bs ≡ take i bs ++ block_at bs i ∷ drop (suc i) bs
+split_at bs i h = sym (take-append-drop i bs) ∙ ap (λ (l : List Block). take i bs ++ l) (drop_more bs i (Free 0 0) h) ∙ ap (λ (n : ℕ). take i bs ++ block_at bs i ∷ drop n bs) (add-one i)
+
+lawful_carved : (h : HeapState) (front back : List Block) (b : Block) (len : ℕ) → is_fit (want len) b ≡ true → IsLawful (with_blocks h (front ++ b ∷ back)) → IsLawful (ticked h (front ++ carved (size_of b) (want len) h.tick len ++ back))
+lawful_carved h front back (Live m s xs) len f lawful = absurd (false≢true f)
+lawful_carved h front back (Free m s) len f lawful =
+    let P : List Block → Type 0 = λ l. IsLawful (ticked h (front ++ l ++ back)) in
+    elim (cases_lt m (want len + 4)) [
+      | inl small ↦ subst P (sym (carved_small m (want len) h.tick len small)) (lawful_whole h front back m s (want len) len refl lawful (fits_size (want len) (Free m s) f))
+      | inr large ↦ subst P (sym (carved_large m (want len) h.tick len large)) (lawful_split h front back m s (want len) len refl lawful large)
+    ]
+
+module _ (h : HeapState) (len : ℕ) (lawful : IsLawful h) where
+  allocated_none : NoneFits (want len) h.blocks → allocated h len ≡ refused h NoFit
+  allocated_none none = ap (allocated_at h len) (choice_none (want len) h.blocks none)
+
+  fits_none : NoneFits (want len) h.blocks → fits (want len) h.blocks ≡ []
+  fits_none none = fits_nothing (want len) h.blocks none
+
+  module _ (i : ℕ) (c : IsChoice (want len) h.blocks i) where
+    chosen : choice (want len) h.blocks ≡ Some (site_at h.blocks i)
+    chosen = choice_is (want len) h.blocks i lawful.stamps_differ c
+
+    -- the blocks that are left
+    abbrev pub left : ℕ → List Block
+    left k = take i h.blocks ++ carved (size_of (block_at h.blocks i)) (want len) h.tick len ++ drop k h.blocks
+
+    abbrev pub answered : ℕ → Outcome Name
+    answered k = record { answer = Ok (record { heap = h.id; at = words_in (take i h.blocks); serial = h.tick }); heap = ticked h (left k) }
+
+    allocated_worn : h.tick ≡ 2 ^ 64 - 1 → allocated h len ≡ refused h Worn
+    allocated_worn e = ap (allocated_at h len) chosen ∙ ap (λ (b : Bool). cond b (refused h Worn) (answered (suc i))) (eq-eqb h.tick (2 ^ 64 - 1) e)
+
+    allocated_is : (h.tick ≡ 2 ^ 64 - 1 → ⊥) → allocated h len ≡ answered (i + 1)
+    allocated_is n =
+        let t : eqb h.tick (2 ^ 64 - 1) ≡ false = not_true _ (λ e. n (grind (arith, nat_tests))) in
+        ap (allocated_at h len) chosen ∙ ap (λ (b : Bool). cond b (refused h Worn) (answered (suc i))) t ∙ ap answered (sym (add-one i))
+
+    pub allocated_lawful : IsLawful (ticked h (left (i + 1)))
+    allocated_lawful =
+        let P : List Block → Type 0 = λ l. IsLawful (with_blocks h l) in
+        subst (λ (k : ℕ). IsLawful (ticked h (left k))) (sym (add-one i))
+        (lawful_carved h (take i h.blocks) (drop (suc i) h.blocks) (block_at h.blocks i) len c.fit (subst P (split_at h.blocks i c.within) lawful))
+
+-- where there is a choice there is a fit
+fits_some : (h : HeapState) (len i : ℕ) → IsLawful h → IsChoice (want len) h.blocks i → fits (want len) h.blocks ≡ [] → ⊥
+fits_some h len i lawful c e =
+    let some = choice_is (want len) h.blocks i lawful.stamps_differ c in
+    let none : choice (want len) h.blocks ≡ None = ap (λ (l : List Site). find (λ s. list_all (λ t. is_as_good s.block t.block) l) l) e in
+    let bad : Some (site_at h.blocks i) ≡ None = sym some ∙ none in cc
+
+-- what a call of `allocate` on the heap h ensures, whose answer and whose heap are these
+pub record Allocates (h : HeapState) (len : ℕ) (answer : Result Name Refusal) (left : HeapState) : Type 0 where
+  pub is_answer : answer ≡ (allocated h len).answer
+  pub is_heap : left ≡ (allocated h len).heap
+  pub no_fit : (answer ≡ Err NoFit) ↔ (fits (want len) h.blocks ≡ [])
+  pub ok : IsOk answer ↔ (¬ (fits (want len) h.blocks ≡ []) × ¬ (h.tick ≡ last_tick))
+
+-- the outcomes, for a heap h that a representation shows and the heap k that it stands for
+module _ (h k : HeapState) (len : ℕ) (lawful : IsLawful h) (same : h ≡ k) where
+  pub allocates_none : NoneFits (want len) h.blocks → Allocates k len (Err NoFit) k
+  allocates_none none = subst (λ (s : HeapState). Allocates s len (Err NoFit) s) same (record {
+    is_answer = sym (ap (λ (o : Outcome Name). o.answer) (allocated_none h len lawful none));
+    is_heap = sym (ap (λ (o : Outcome Name). o.heap) (allocated_none h len lawful none));
+    no_fit = (λ _. fits_none h len lawful none, λ _. refl);
+    ok = (λ f. absurd (false≢true f), λ p. absurd (p.0 (fits_none h len lawful none)));
+  })
+
+  module _ (i : ℕ) (chosen : IsChoice (want len) h.blocks i) where
+    pub allocates_worn : h.tick ≡ last_tick → Allocates k len (Err Worn) k
+    allocates_worn worn = subst (λ (s : HeapState). Allocates s len (Err Worn) s) same (record {
+      is_answer = sym (ap (λ (o : Outcome Name). o.answer) (allocated_worn h len lawful i chosen worn));
+      is_heap = sym (ap (λ (o : Outcome Name). o.heap) (allocated_worn h len lawful i chosen worn));
+      no_fit = (λ f. cc, λ f. absurd (fits_some h len i lawful chosen f));
+      ok = (λ f. absurd (false≢true f), λ p. absurd (p.1 worn));
+    })
+
+    pub allocates_some : (at : ℕ) (blocks : List Block) → at ≡ words_in (take i h.blocks) → blocks ≡ left h len lawful i chosen (i + 1) → ¬ (h.tick ≡ last_tick)
+        → Allocates k len (Ok (record { heap = h.id; at = at; serial = h.tick })) (ticked h blocks)
+    allocates_some at blocks is_at is_left fresh =
+        let made = allocated_is h len lawful i chosen fresh in
+        subst (λ (s : HeapState). Allocates s len (Ok (record { heap = h.id; at = at; serial = h.tick })) (ticked h blocks)) same (record {
+          is_answer = ap (λ (n : ℕ). Ok (record { heap = h.id; at = n; serial = h.tick })) is_at ∙ sym (ap (λ (o : Outcome Name). o.answer) made);
+          is_heap = ap (ticked h) is_left ∙ sym (ap (λ (o : Outcome Name). o.heap) made);
+          no_fit = (λ f. cc, λ f. absurd (fits_some h len i lawful chosen f));
+          ok = (λ _. (fits_some h len i lawful chosen, fresh), λ _. refl);
+        })
+
+-- what a search over the stored blocks found, for the words that are wanted
+pub choice_of : (n m i : ℕ) (xs ys : List StoredBlock) → n ≡ m → xs ≡ ys → IsChoice n (map shown xs) i → IsChoice m (map shown ys) i
+choice_of n m i xs ys e f c = subst (λ (l : List StoredBlock). IsChoice m (map shown l) i) f (subst (λ (k : ℕ). IsChoice k (map shown xs) i) e c)
+
+pub none_of : (n m : ℕ) (xs ys : List StoredBlock) → n ≡ m → xs ≡ ys → NoneFits n (map shown xs) → NoneFits m (map shown ys)
+none_of n m xs ys e f c = subst (λ (l : List StoredBlock). NoneFits m (map shown l)) f (subst (λ (k : ℕ). NoneFits k (map shown xs)) e c)
+
+-- the blocks of a lawful heap are of sizes that a region may have
+pub regions_of : (bs : List Block) → AllByRecursion HasRoom bs → words_in bs ≤ 2 ^ 20 → AreRegions bs
+regions_of [] h g = tt
+regions_of (Live m s xs ∷ bs) h g = ((h.0.0, omega arith), regions_of bs h.1 (omega arith))
+regions_of (Free m s ∷ bs) h g = ((h.0, omega arith), regions_of bs h.1 (omega arith))
+
+pub lawful_regions : (h : HeapState) → IsLawful h → h.words ≤ 2 ^ 20 → AreRegions h.blocks
+lawful_regions h lawful small = regions_of h.blocks lawful.rooms (omega (arith, lawful.whole))

@@ -1,0 +1,12 @@
+pub mod Finding
+pub mod Choosing
+pub mod ClassUpdates
+pub mod Sites
+pub mod Lawfulness
+pub mod Ends
+pub mod Edits
+pub mod Allocating
+pub mod Coalescing
+pub mod Releasing
+pub mod Naming
+pub mod Lying

@@ -1,0 +1,119 @@
+-- What the calls of a heap answer and leave.
+use Rattle.std.specs.Prelude.{ℕ, ◌+◌, ◌-◌, ◌^◌, List, [], ◌∷◌, ◌++◌, Option, Some, None, Result, Ok, Err, Bool, false, ◌&&◌, ◌==◌, nat_le, if◌then◌else◌, find, replicate, reverse}
+use Rattle.tlsf_heap.specs.Blocks.{Block, Live, Free, HeapState, size_of, want}
+use Rattle.tlsf_heap.specs.GoodFit.{Site, sites, place_of, choice}
+use Rattle.tlsf_heap.specs.declared.name.Name.{Name}
+use Rattle.tlsf_heap.specs.declared.refusal.Refusal.{Refusal}
+use Rattle.tlsf_heap.specs.declared.refusal.Refusal.TheVariants.{NoFit, Worn, Foreign, Stale}
+
+-- an answer, and the heap that the call leaves
+pub record Outcome (A : Type 0) : Type 0 where
+  pub answer : Result A Refusal
+  pub heap : HeapState
+
+-- a refusal leaves the heap as it was
+abbrev pub refused : {A : Type 0} → HeapState → Refusal → Outcome A
+refused h why = record { answer = Err why; heap = h }
+
+-- the last tick, at which nothing more can change
+abbrev pub last_tick : ℕ
+last_tick = 2 ^ 64 - 1
+
+abbrev pub is_worn : HeapState → Bool
+is_worn h = h.tick == last_tick
+
+-- the heap one tick later, with other blocks
+abbrev pub ticked : HeapState → List Block → HeapState
+ticked h blocks = record { id = h.id; words = h.words; tick = h.tick + 1; blocks = blocks }
+
+-- ---- open
+
+-- a new heap is one free block
+abbrev pub opened : ℕ → ℕ → ℕ → HeapState
+opened id words first = record { id = id; words = words; tick = first + 1; blocks = Free words first ∷ [] }
+
+-- ---- allocate
+
+-- what a free block of `size` words becomes, of which n are wanted: a live block, and a free rest of four words or more
+abbrev pub carved : ℕ → ℕ → ℕ → ℕ → List Block
+carved size n tick len =
+    if nat_le (n + 4) size then Live n tick (replicate len 0) ∷ Free (size - n) tick ∷ [] else Live size tick (replicate len 0) ∷ []
+
+abbrev pub allocated_at : HeapState → ℕ → Option Site → Outcome Name
+allocated_at h len None = refused h NoFit
+allocated_at h len (Some s) = if is_worn h then refused h Worn else record {
+  answer = Ok (record { heap = h.id; at = place_of s; serial = h.tick });
+  heap = ticked h (s.before ++ carved (size_of s.block) (want len) h.tick len ++ s.after);
+}
+
+-- a request of `len` bytes, served by good fit
+abbrev pub allocated : HeapState → ℕ → Outcome Name
+allocated h len = allocated_at h len (choice (want len) h.blocks)
+
+-- ---- release
+
+-- whether it is a live block with this serial
+abbrev pub has_serial : ℕ → Block → Bool
+has_serial serial (Live size own bytes) = own == serial
+has_serial serial (Free size stamp) = false
+
+-- whether the block that stands there has this place and this serial
+abbrev pub is_named : ℕ → ℕ → Site → Bool
+is_named at serial s = has_serial serial s.block && place_of s == at
+
+-- the live block that a name names
+abbrev pub named : Name → List Block → Option Site
+named name blocks = find (is_named name.at name.serial) (sites blocks)
+
+-- the size of the free block that a list begins with, or 0
+abbrev pub first_free : List Block → ℕ
+first_free [] = 0
+first_free (Live size serial bytes ∷ blocks) = 0
+first_free (Free size stamp ∷ blocks) = size
+
+-- the list without the free block that it begins with
+abbrev pub past_free : List Block → List Block
+past_free [] = []
+past_free (Live size serial bytes ∷ blocks) = Live size serial bytes ∷ blocks
+past_free (Free size stamp ∷ blocks) = blocks
+
+-- the size of the free block that a list ends with, or 0
+abbrev pub last_free : List Block → ℕ
+last_free blocks = first_free (reverse blocks)
+
+-- the list without the free block that it ends with
+abbrev pub before_free : List Block → List Block
+before_free blocks = reverse (past_free (reverse blocks))
+
+-- a block and its free neighbours become one free block
+abbrev pub coalesced : ℕ → Site → List Block
+coalesced tick s = before_free s.before ++ Free (last_free s.before + size_of s.block + first_free s.after) tick ∷ past_free s.after
+
+abbrev pub released_at : HeapState → Option Site → Outcome (Unit {0})
+released_at h None = refused h Stale
+released_at h (Some s) = if is_worn h then refused h Worn else record { answer = Ok tt; heap = ticked h (coalesced h.tick s) }
+
+-- the release of the block that a name names
+abbrev pub released : HeapState → Name → Outcome (Unit {0})
+released h name = if name.heap == h.id then released_at h (named name h.blocks) else refused h Foreign
+
+-- ---- calls in turn
+
+pub data Call : Type 0 where
+  Allocate : ℕ → Call  -- a length in bytes
+  Release : Name → Call
+
+-- what a call is answered
+pub data Answer : Type 0 where
+  Allocated : Result Name Refusal → Answer
+  Released : Result (Unit {0}) Refusal → Answer
+
+-- the answer to a call, and the heap that it leaves
+abbrev pub answered : HeapState → Call → Answer × HeapState
+answered h (Allocate len) = (Allocated (allocated h len).answer, (allocated h len).heap)
+answered h (Release name) = (Released (released h name).answer, (released h name).heap)
+
+-- the answers to calls in turn, and the heap that they leave
+abbrev pub run : HeapState → List Call → List Answer × HeapState
+run h [] = ([], h)
+run h (call ∷ calls) = let step = answered h call in let rest = run step.1 calls in (step.0 ∷ rest.0, rest.1)

@@ -1,0 +1,62 @@
+-- Good fit: which free block serves a request.
+use Rattle.std.specs.Prelude.{◌≡◌, ℕ, suc, ◌<◌, List, [], ◌∷◌, ◌++◌, Option, Bool, true, false, ◌&&◌, ◌||◌, ◌==◌, nat_lt, nat_le, length, filter, find, MatchOption, slice_index_or, take, drop}
+use Rattle.std.specs.List.{list_all}
+use Rattle.tlsf_class.specs.Classes.{class_of, serves}
+use Rattle.tlsf_heap.specs.Blocks.{Block, Free, size_of, words_in, is_free, stamp_of}
+
+-- a block where it stands: the blocks before it, the block, and those after it
+pub record Site : Type 0 where
+  pub before : List Block
+  pub block : Block
+  pub after : List Block
+
+-- the blocks of a list where they stand, behind the blocks `before`
+abbrev pub sites_behind : List Block → List Block → List Site
+sites_behind before [] = []
+sites_behind before (block ∷ after) = record { before = before; block = block; after = after } ∷ sites_behind (before ++ block ∷ []) after
+
+abbrev pub sites : List Block → List Site
+sites blocks = sites_behind [] blocks
+
+-- the place at which a block begins: the words of the blocks before it
+abbrev pub place_of : Site → ℕ
+place_of s = words_in s.before
+
+-- a free block of a class at or above the search class of n words
+abbrev pub is_fit : ℕ → Block → Bool
+is_fit n block = is_free block && serves (class_of (size_of block)) n
+
+-- the free blocks that may serve a request of n words
+abbrev pub fits : ℕ → List Block → List Site
+fits n blocks = filter (λ s. is_fit n s.block) (sites blocks)
+
+-- its class is lower, or it is the same and it became free as late
+abbrev pub is_as_good : Block → Block → Bool
+is_as_good a b =
+    nat_lt (class_of (size_of a)) (class_of (size_of b)) || (class_of (size_of a) == class_of (size_of b) && nat_le (stamp_of b) (stamp_of a))
+
+-- of those of the least class, the one that became free last
+abbrev pub choice : ℕ → List Block → Option Site
+choice n blocks = find (λ s. list_all (λ t. is_as_good s.block t.block) (fits n blocks)) (fits n blocks)
+
+-- the block at index i of a list
+abbrev pub block_at : List Block → ℕ → Block
+block_at blocks i = slice_index_or blocks i (Free 0 0)
+
+-- the block at index i where it stands
+abbrev pub site_at : List Block → ℕ → Site
+site_at blocks i = record { before = take i blocks; block = block_at blocks i; after = drop (suc i) blocks }
+
+-- no block may serve a request of n words
+abbrev pub NoneFits : ℕ → List Block → Type 0
+NoneFits n blocks = (i : ℕ) → i < length blocks → is_fit n (block_at blocks i) ≡ false
+
+-- the block at i may serve the request, and no other that may is better
+pub record IsChoice (n : ℕ) (blocks : List Block) (i : ℕ) : Type 0 where
+  pub within : i < length blocks
+  pub fit : is_fit n (block_at blocks i) ≡ true
+  pub best : (j : ℕ) → j < length blocks → is_fit n (block_at blocks j) ≡ true → is_as_good (block_at blocks i) (block_at blocks j) ≡ true
+
+-- what a search for the block that serves the request answers
+abbrev pub IsBestOf : ℕ → List Block → Option ℕ → Type 0
+IsBestOf n blocks found = MatchOption found (NoneFits n blocks) (IsChoice n blocks)

@@ -1,0 +1,11 @@
+pub use Rattle.tlsf_class.specs.Classes
+pub mod Blocks
+pub mod Lawful
+pub mod GoodFit
+pub mod Calls
+pub mod FreeClasses
+pub mod Shown
+pub mod Stored
+pub mod Numbers
+pub mod Named
+pub mod Laws

@@ -1,0 +1,152 @@
+ghost use Rattle.std.specs.Prelude.{◌≡◌, ℕ, ◌+◌, ◌-◌, ◌≤◌, ◌^◌, ◌↔◌, [], IfOk, OnErr, IsOk, IsErrOf};
+ghost use Rattle.tlsf_heap.specs.Blocks;
+ghost use Rattle.tlsf_heap.specs.Lawful.{IsLawful, IsRegion};
+ghost use Rattle.tlsf_heap.specs.GoodFit.{fits};
+ghost use Rattle.tlsf_heap.specs.Calls.{opened, allocated, released, last_tick};
+
+use crate::block_list::{
+    MOST_WORDS, carve, choice, coalesce, free_size, free_size_before, index_of, place_of,
+};
+use crate::free_classes::{update_carved, update_coalesced};
+use crate::name::Name;
+use crate::open_fault::OpenFault;
+use crate::refusal::Refusal;
+use crate::stored_block::StoredBlock;
+use std::alloc::Global;
+use std::marker::Model;
+use tlsf_class::{Bitmaps, class_of};
+
+/// A heap over a region of 4 to 2^20 words, kept by two-level segregated fit (ECRTS 2004, section 3).
+///
+/// Contracts see it as its number, its words, its tick and its blocks in the order of their places. The tick counts
+/// the accepted allocates and releases, and stamps what they change.
+#[derive(Drop)]
+pub struct Heap {
+    id: u32,
+    words: u32,
+    tick: u64,
+    blocks: Vec<StoredBlock>,
+    bitmaps: Bitmaps,
+}
+
+impl Model for Heap {
+    ghost use Rattle.tlsf_heap.specs.Blocks.{Shown};
+
+    ghost Value = { Shown };
+
+    ghost use Rattle.tlsf_heap.specs.Stored.{IsStored, state_of};
+
+    ghost view = { λ h. record { heap = state_of h } };
+
+    ghost invariant = { IsStored };
+}
+
+/// The words wanted for a request of `len` bytes.
+fn want(len: u32) -> u32
+    ensures { result ≡ Blocks.want len }
+{
+    (3 + len / 8 + u32::from(len % 8 != 0)).max(4)
+}
+
+impl Heap {
+    /// Opens a heap of number `id` over `words` words. It is one free block, stamped with the tick `first`.
+    ///
+    /// Refused as `BadSize` where `words` is below 4 or above 2^20, else as `Worn` where `first` is the last tick,
+    /// 2^64 - 1, else as `NoMemory` where the memory was not granted. No later call takes memory.
+    pub fn open(alloc: Global, id: u32, words: u32, first: u64) -> Result<Heap, OpenFault>
+        ensures heap { IfOk result (λ heap. heap.heap ≡ opened id words first) }
+        ensures lawful { IfOk result (λ heap. IsLawful heap.heap) }
+
+        // The refusals, in their order. Memory is refused only where no other refusal comes.
+        ensures bad_size { IsErrOf result OpenFault.BadSize ↔ ¬ (IsRegion words) }
+        ensures worn { IsRegion words → (IsErrOf result OpenFault.Worn ↔ (first ≡ last_tick)) }
+    {
+        if words < 4 || words > MOST_WORDS {
+            return Err(OpenFault::BadSize);
+        }
+        if first == u64::MAX {
+            return Err(OpenFault::Worn);
+        }
+        let Ok(mut blocks) = Vec::with_capacity(alloc, words as usize / 4) else {
+            return Err(OpenFault::NoMemory);
+        };
+        let _ = blocks.push(StoredBlock::Free {
+            size: words,
+            stamp: first,
+        });
+        let mut bitmaps = Bitmaps::new();
+        bitmaps.set(class_of(words));
+        Ok(Heap {
+            id,
+            words,
+            tick: first + 1,
+            blocks,
+            bitmaps,
+        })
+    }
+
+    /// Gives a block that holds `len` bytes of payload, all zero.
+    ///
+    /// Refused as `NoFit` where no free block lies in a class at or above the search class of the words wanted, else
+    /// as `Worn` where the tick is at its last value. Takes no memory.
+    pub fn allocate(&mut self, len: u32) -> Result<Name, Refusal>
+        ensures answer { result ≡ (allocated self.old.heap len).answer }
+        ensures heap { self.new.heap ≡ (allocated self.old.heap len).heap }
+
+        // What the answer comes to: when it is a name, when it is which refusal, and that a refusal changes nothing.
+        ensures no_fit { IsErrOf result Refusal.NoFit ↔ (fits (Blocks.want len) self.old.heap.blocks ≡ []) }
+        ensures ok { IsOk result ↔ (¬ (fits (Blocks.want len) self.old.heap.blocks ≡ []) × ¬ (self.old.heap.tick ≡ last_tick)) }
+        ensures err { OnErr result (self.new.heap ≡ self.old.heap) }
+        ensures was_lawful { IsLawful self.old.heap }
+        ensures lawful { IsLawful self.new.heap }
+    {
+        let words = want(len);
+        let Some(i) = choice(&mut self.bitmaps, &self.blocks, words) else {
+            return Err(Refusal::NoFit);
+        };
+        if self.tick == u64::MAX {
+            return Err(Refusal::Worn);
+        }
+        let name = Name {
+            heap: self.id,
+            at: place_of(&self.blocks, i),
+            serial: self.tick,
+        };
+        let size = self.blocks[i].size();
+        carve(&mut self.blocks, i, words, self.tick, len);
+        update_carved(&mut self.bitmaps, &self.blocks, size, words);
+        self.tick += 1;
+        Ok(name)
+    }
+
+    /// Takes back the block of that name, and merges it with its free neighbours.
+    ///
+    /// Refused as `Foreign` where the name is of another heap, else as `Stale` where no live block has that place and
+    /// serial, else as `Worn` where the tick is at its last value. Takes no memory.
+    pub fn release(&mut self, name: Name) -> Result<(), Refusal>
+        ensures answer { result ≡ (released self.old.heap name).answer }
+        ensures heap { self.new.heap ≡ (released self.old.heap name).heap }
+
+        // A refusal changes nothing.
+        ensures err { OnErr result (self.new.heap ≡ self.old.heap) }
+        ensures was_lawful { IsLawful self.old.heap }
+        ensures lawful { IsLawful self.new.heap }
+    {
+        if name.heap != self.id {
+            return Err(Refusal::Foreign);
+        }
+        let Some(i) = index_of(&self.blocks, name.at, name.serial) else {
+            return Err(Refusal::Stale);
+        };
+        if self.tick == u64::MAX {
+            return Err(Refusal::Worn);
+        }
+        let size = self.blocks[i].size();
+        let before = free_size_before(&self.blocks, i);
+        let after = free_size(&self.blocks, i + 1);
+        coalesce(&mut self.blocks, i, self.tick);
+        update_coalesced(&mut self.bitmaps, &self.blocks, before, size, after);
+        self.tick += 1;
+        Ok(())
+    }
+}

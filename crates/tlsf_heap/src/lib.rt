@@ -1,0 +1,30 @@
+//! A real-time heap over a region of 64-bit words: two-level segregated fit for one owner.
+//!
+//! A heap gives blocks of its region to those who ask, by good fit: of the free blocks in a size class at or above
+//! the request's search class it takes one of the least class, and of these the one that became free last. A block
+//! that is much larger than the request is split, and a block that is released is merged at once with its free
+//! neighbours (Masmano, Ripoll, Crespo and Real, "TLSF: A New Dynamic Memory Allocator for Real-Time Systems",
+//! ECRTS 2004, sections 3 and 4).
+//!
+//! A block is known by its [`Name`]: the heap, the place where it begins, and the serial that it got when it became
+//! live. A name that was forged, or that outlived its block, is refused.
+//!
+//! Contracts see a [`Heap`] as a list of blocks in the order of their places. Each call is one step of that list.
+#![tactic(auto)]
+
+mod block_list;
+mod free_classes;
+mod heap;
+mod laws;
+mod name;
+mod open_fault;
+mod refusal;
+mod stored_block;
+#[cfg(test)]
+mod tests;
+
+pub use heap::Heap;
+pub use laws::blocks_never_overlap;
+pub use name::Name;
+pub use open_fault::OpenFault;
+pub use refusal::Refusal;

@@ -1,0 +1,17 @@
+pub mod Histories
+pub mod AskedFaults
+pub mod Replaying
+pub mod Running
+pub mod Digits
+pub mod Shapes
+pub mod Cutting
+pub mod Judging
+pub mod Empty
+pub mod Faults
+pub mod Joining
+pub mod Rows
+pub mod Endings
+pub mod GrowingFronts
+pub mod LongInputs
+pub mod NamedCommands
+pub mod PieceCounts

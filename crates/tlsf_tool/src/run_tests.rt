@@ -1,0 +1,192 @@
+use crate::fakes::{EndlessReader, FakeReader, FakeWriter};
+use crate::run::run;
+use std::alloc::Global;
+use std::io::Read;
+use std::str;
+use std::test::Fail;
+
+// What a run wrote, and how it ended.
+#[derive(Drop)]
+struct Ending {
+    status: u8,
+    written: FakeWriter,
+    errors: FakeWriter,
+}
+
+impl Ending {
+    fn written(&self) -> Result<&str, Fail> {
+        Ok(str::from_utf8(&self.written.held)?)
+    }
+
+    fn errors(&self) -> Result<&str, Fail> {
+        Ok(str::from_utf8(&self.errors.held)?)
+    }
+}
+
+fn run_on<R: Read>(alloc: Global, words: &[&str], reader: &mut R) -> Ending {
+    let mut written = FakeWriter::new(alloc);
+    let mut errors = FakeWriter::new(alloc);
+    let status = run(alloc, words, reader, &mut written, &mut errors);
+    Ending {
+        status,
+        written,
+        errors,
+    }
+}
+
+#[test]
+fn replays(rt: HostRuntime) -> Result<(), Fail> {
+    for words in [["tlsf", "replay"], ["", "replay"]] {
+        let mut reader = FakeReader::new(b"tlsf 1 1 64 1\n");
+        let ending = run_on(rt.alloc(), &words, &mut reader);
+        assert_eq!(rt; ending.status, 0);
+        assert_eq!(rt; ending.errors()?, "");
+    }
+    Ok(())
+}
+
+#[test]
+fn reports_a_fault_of_the_reader(rt: HostRuntime) -> Result<(), Fail> {
+    let words = ["tlsf", "replay"];
+    let mut reader = FakeReader::new(b"tlsf 1 1 64 1\n");
+    reader.most = 3;
+    reader.fails_at = 2;
+    let ending = run_on(rt.alloc(), &words, &mut reader);
+    assert_eq!(rt; ending.status, 1);
+    assert_eq!(rt; ending.errors()?, "tlsf: read failed (16)\n");
+    assert_eq!(rt; ending.written()?, "");
+
+    let mut reader = EndlessReader {
+        most: 4096,
+        reads: 0,
+    };
+    let ending = run_on(rt.alloc(), &words, &mut reader);
+    assert_eq!(rt; ending.status, 1);
+    assert_eq!(rt; ending.errors()?, "tlsf: trace too long (15)\n");
+    assert_eq!(rt; ending.written()?, "");
+    Ok(())
+}
+
+// The writer's fault is reported, be it in a write or in the flush, and so for the help text.
+#[test]
+fn reports_a_fault_of_the_writer(rt: HostRuntime) -> Result<(), Fail> {
+    let alloc = rt.alloc();
+    for word in ["replay", "--help", "--version"] {
+        for (room, fails_when_full, flush_fails) in [
+            (5, true, false),
+            (5, false, false),
+            (usize::MAX, true, true),
+        ] {
+            let mut writer = FakeWriter::new(alloc);
+            writer.room = room;
+            writer.fails_when_full = fails_when_full;
+            writer.flush_fails = flush_fails;
+            let mut errors = FakeWriter::new(alloc);
+            let mut reader = FakeReader::new(b"tlsf 1 1 64 1\na 0 1 8\n");
+            let status = run(
+                alloc,
+                &["tlsf", word],
+                &mut reader,
+                &mut writer,
+                &mut errors,
+            );
+            assert_eq!(rt; status, 1, "{word}");
+            assert_eq!(rt;
+                str::from_utf8(&errors.held)?,
+                "tlsf: write failed (17)\n",
+                "{word}"
+            );
+        }
+    }
+    Ok(())
+}
+
+#[test]
+fn keeps_its_status_where_errors_cannot_be_written(rt: HostRuntime) {
+    let alloc = rt.alloc();
+    for (words, want) in [(["tlsf", "replay"], 1), (["tlsf", "nothing"], 2)] {
+        for room in [0, 4] {
+            let mut reader = FakeReader::new(b"tlsf 1 1 64 1\n");
+            reader.fails_at = 0;
+            let mut writer = FakeWriter::new(alloc);
+            let mut errors = FakeWriter::new(alloc);
+            errors.room = room;
+            errors.flush_fails = true;
+            let status = run(alloc, &words, &mut reader, &mut writer, &mut errors);
+            assert_eq!(rt; status, want);
+            assert_eq!(rt; errors.held.len(), room);
+        }
+    }
+}
+
+// The text goes to the writer, and nothing is read.
+#[test]
+fn shows_help_and_version(rt: HostRuntime) -> Result<(), Fail> {
+    let rows = [
+        (["tlsf", "--help"].as_slice(), "Usage: tlsf <COMMAND>"),
+        (["tlsf", "-h"].as_slice(), "Usage: tlsf <COMMAND>"),
+        (["tlsf", "help"].as_slice(), "Usage: tlsf <COMMAND>"),
+        (
+            ["tlsf", "replay", "--help"].as_slice(),
+            "Usage: tlsf replay",
+        ),
+        (["tlsf", "help", "replay"].as_slice(), "Usage: tlsf replay"),
+        (
+            ["tlsf", "replay", "-h"].as_slice(),
+            "trace from standard input",
+        ),
+        (["tlsf", "--version"].as_slice(), "tlsf 0.1.0\n"),
+        (["tlsf", "-V"].as_slice(), "tlsf 0.1.0\n"),
+    ];
+    for (words, text) in rows {
+        let mut reader = FakeReader::new(b"tlsf 1 1 64 1\n");
+        let ending = run_on(rt.alloc(), words, &mut reader);
+        assert_eq!(rt; ending.status, 0, "{text}");
+        assert!(rt; ending.written()?.contains(text), "{text}");
+        assert_eq!(rt; ending.errors()?, "");
+        assert_eq!(rt; reader.reads, 0);
+    }
+    Ok(())
+}
+
+// The text goes to the writer of errors, and nothing is read.
+#[test]
+fn refuses_other_words(rt: HostRuntime) -> Result<(), Fail> {
+    let rows = [
+        ([].as_slice(), "requires a subcommand"),
+        (["tlsf"].as_slice(), "requires a subcommand"),
+        (
+            ["tlsf", "nothing"].as_slice(),
+            "unrecognized subcommand 'nothing'",
+        ),
+        (
+            ["tlsf", "Replay"].as_slice(),
+            "unrecognized subcommand 'Replay'",
+        ),
+        (
+            ["tlsf", "replay", "now"].as_slice(),
+            "unexpected argument 'now' found",
+        ),
+        (
+            ["tlsf", "replay", "--fast"].as_slice(),
+            "unexpected argument '--fast' found",
+        ),
+        (
+            ["tlsf", "--fast", "replay"].as_slice(),
+            "unexpected argument '--fast' found",
+        ),
+        (
+            ["tlsf", "help", "nothing"].as_slice(),
+            "unrecognized subcommand 'nothing'",
+        ),
+    ];
+    for (words, text) in rows {
+        let mut reader = FakeReader::new(b"tlsf 1 1 64 1\n");
+        let ending = run_on(rt.alloc(), words, &mut reader);
+        assert_eq!(rt; ending.status, 2, "{text}");
+        assert!(rt; ending.errors()?.contains(text), "{text}");
+        assert_eq!(rt; ending.written()?, "");
+        assert_eq!(rt; reader.reads, 0);
+    }
+    Ok(())
+}

@@ -1,0 +1,37 @@
+use crate::fakes::FakeWriter;
+use crate::writing::{WriteError, write_out};
+use std::test::Fail;
+
+const TEXT: &[u8] = b"0 a 1 at 0 serial 1\n";
+
+#[test]
+fn writes_the_whole_text(rt: HostRuntime) {
+    for most in [1, 7, 20, 4096] {
+        let mut writer = FakeWriter::new(rt.alloc());
+        writer.most = most;
+        assert_eq!(rt; write_out(&mut writer, TEXT), Ok(()));
+        assert_eq!(rt; writer.held.as_slice(), TEXT);
+    }
+}
+
+#[test]
+fn stops_where_no_byte_is_taken(rt: HostRuntime) {
+    for (room, fails_when_full) in [(0, true), (0, false), (13, true), (13, false)] {
+        let mut writer = FakeWriter::new(rt.alloc());
+        writer.most = 5;
+        writer.room = room;
+        writer.fails_when_full = fails_when_full;
+        assert_eq!(rt; write_out(&mut writer, TEXT), Err(WriteError));
+        assert_eq!(rt; writer.held.as_slice(), &TEXT[..room]);
+    }
+}
+
+#[test]
+fn reports_a_flush_that_fails(rt: HostRuntime) {
+    for text in [TEXT, b"".as_slice()] {
+        let mut writer = FakeWriter::new(rt.alloc());
+        writer.flush_fails = true;
+        assert_eq!(rt; write_out(&mut writer, text), Err(WriteError));
+        assert_eq!(rt; writer.held.as_slice(), text);
+    }
+}

@@ -1,0 +1,21 @@
+//! The words of a region: headers with boundary tags, marks, payload lengths and links as fields of words, and the map of the words
+//! where blocks start.
+//!
+//! A block begins with a header of three words. The first holds its `Tag`, the second its mark, and the third the payload length of
+//! a live block or the `Links` of a free one. Places and sizes are in words, lengths in bytes. A place of 2^32 - 1 stands for none.
+#![tactic(auto)]
+
+mod bits;
+mod halves;
+mod links;
+mod no_memory;
+mod start_map;
+mod tag;
+#[cfg(test)]
+mod tests;
+mod words;
+
+pub use links::Links;
+pub use no_memory::NoMemory;
+pub use tag::Tag;
+pub use words::Words;

@@ -1,0 +1,229 @@
+ghost use Rattle.std.specs.Prelude.{◌≡◌, ◌+◌, ◌<◌, ◌≤◌, ◌^◌, ◌++◌, false, length, take, drop, replicate, slice_index, slice_index_or, slice_set, IfOk};
+ghost use Rattle.tlsf_words.specs.Fields.{tag_word, size_in, last_in, free_in, back_in, length_word, links_word, low_half, high_half};
+
+use crate::halves::low_half;
+use crate::links::Links;
+use crate::no_memory::NoMemory;
+use crate::start_map::StartMap;
+use crate::tag::Tag;
+use std::alloc::Global;
+use std::marker::Model;
+
+/// The 64-bit words of a region, 4 to 2^20, and a map that says at which of them a block starts. A place is the number of a word,
+/// from 0 on. Nothing but `open` allocates.
+#[derive(Drop)]
+pub struct Words {
+    words: Vec<u64>,
+    starts: StartMap,
+}
+
+impl Model for Words {
+    ghost use Rattle.tlsf_words.specs.Memory.{Memory, IsRegion};
+
+    ghost Value = { Memory };
+
+    ghost view = { λ w. record { words = w.words.items; starts = w.starts } };
+
+    ghost invariant = { λ w. IsRegion w.words.items w.starts };
+}
+
+impl Words {
+    /// A region of `n` words, 4 to 2^20: each word is zero, and no block starts anywhere. It fails only for want of memory.
+    pub fn open(alloc: Global, n: u32) -> Result<Words, NoMemory>
+        requires least { 4 ≤ n }
+        requires most { n ≤ 2 ^ 20 }
+        ensures words { IfOk result (λ region. region.words ≡ replicate n 0) }
+        ensures starts { IfOk result (λ region. region.starts ≡ replicate n false) }
+    {
+        let words = Vec::from_elem(alloc, 0u64, n as usize)?;
+        let starts = StartMap::open(alloc, n)?;
+        Ok(Words { words, starts })
+    }
+
+    /// How many words the region has.
+    #[inline]
+    pub fn len(&self) -> u32
+        ensures words { result ≡ length self.now.words }
+        ensures starts { result ≡ length self.now.starts }
+        ensures least { 4 ≤ result }
+        ensures most { result ≤ 2 ^ 20 }
+    {
+        self.words.len() as u32
+    }
+
+    /// The word at a place.
+    #[inline]
+    pub fn word(&mut self, at: u32) -> u64
+        requires { at < length self.old.words }
+        ensures value { result ≡ slice_index self.old.words at }
+        ensures words { self.new.words ≡ self.old.words }
+        ensures starts { self.new.starts ≡ self.old.starts }
+    {
+        self.read(at as usize)
+    }
+
+    /// The tag of the header at a place, its first word.
+    #[inline]
+    pub fn tag(&mut self, at: u32) -> Tag
+        requires { at < length self.old.words }
+        ensures size { result.size ≡ size_in (slice_index self.old.words at) }
+        ensures free { result.free ≡ free_in (slice_index self.old.words at) }
+        ensures last { result.last ≡ last_in (slice_index self.old.words at) }
+        ensures back { result.back ≡ back_in (slice_index self.old.words at) }
+        ensures words { self.new.words ≡ self.old.words }
+        ensures starts { self.new.starts ≡ self.old.starts }
+    {
+        Tag::of_word(self.read(at as usize))
+    }
+
+    /// Writes the tag of the header at a place.
+    #[inline]
+    pub fn set_tag(&mut self, at: u32, tag: Tag)
+        requires inside { at < length self.old.words }
+        requires size { tag.size < 2 ^ 30 }
+        ensures words { self.new.words ≡ slice_set self.old.words at (tag_word tag.size tag.last tag.free tag.back) }
+        ensures starts { self.new.starts ≡ self.old.starts }
+    {
+        self.write(at as usize, tag.to_word());
+    }
+
+    /// The mark of the header at a place, its second word: the serial of a live block or the stamp of a free one.
+    #[inline]
+    pub fn mark(&mut self, at: u32) -> u64
+        requires { at + 1 < length self.old.words }
+        ensures value { result ≡ slice_index self.old.words (at + 1) }
+        ensures words { self.new.words ≡ self.old.words }
+        ensures starts { self.new.starts ≡ self.old.starts }
+    {
+        self.read(at as usize + 1)
+    }
+
+    /// Writes the mark of the header at a place.
+    #[inline]
+    pub fn set_mark(&mut self, at: u32, mark: u64)
+        requires { at + 1 < length self.old.words }
+        ensures words { self.new.words ≡ slice_set self.old.words (at + 1) mark }
+        ensures starts { self.new.starts ≡ self.old.starts }
+    {
+        self.write(at as usize + 1, mark);
+    }
+
+    /// The payload length in bytes of the live block at a place, from the third word of its header.
+    #[inline]
+    pub fn length(&mut self, at: u32) -> u32
+        requires { at + 2 < length self.old.words }
+        ensures value { result ≡ low_half (slice_index self.old.words (at + 2)) }
+        ensures words { self.new.words ≡ self.old.words }
+        ensures starts { self.new.starts ≡ self.old.starts }
+    {
+        low_half(self.read(at as usize + 2))
+    }
+
+    /// Writes the payload length in bytes of the live block at a place. The upper half of its word becomes zero.
+    #[inline]
+    #[tactic(auto, unfolding(crate::specs::Fields::length_word))]
+    pub fn set_length(&mut self, at: u32, bytes: u32)
+        requires { at + 2 < length self.old.words }
+        ensures words { self.new.words ≡ slice_set self.old.words (at + 2) (length_word bytes) }
+        ensures starts { self.new.starts ≡ self.old.starts }
+    {
+        self.write(at as usize + 2, u64::from(bytes));
+    }
+
+    /// The links of the free block at a place, the third word of its header.
+    #[inline]
+    pub fn links(&mut self, at: u32) -> Links
+        requires { at + 2 < length self.old.words }
+        ensures next { result.next ≡ low_half (slice_index self.old.words (at + 2)) }
+        ensures previous { result.previous ≡ high_half (slice_index self.old.words (at + 2)) }
+        ensures words { self.new.words ≡ self.old.words }
+        ensures starts { self.new.starts ≡ self.old.starts }
+    {
+        Links::of_word(self.read(at as usize + 2))
+    }
+
+    /// Writes the links of the free block at a place.
+    #[inline]
+    pub fn set_links(&mut self, at: u32, links: Links)
+        requires { at + 2 < length self.old.words }
+        ensures words { self.new.words ≡ slice_set self.old.words (at + 2) (links_word links.next links.previous) }
+        ensures starts { self.new.starts ≡ self.old.starts }
+    {
+        self.write(at as usize + 2, links.to_word());
+    }
+
+    /// Whether a block starts at a place.
+    #[inline]
+    pub fn starts(&mut self, at: u32) -> bool
+        requires { at < length self.old.words }
+        ensures value { result ≡ slice_index_or self.old.starts at false }
+        ensures words { self.new.words ≡ self.old.words }
+        ensures starts { self.new.starts ≡ self.old.starts }
+    {
+        self.read_start(at)
+    }
+
+    /// Says whether a block starts at a place.
+    #[inline]
+    pub fn set_start(&mut self, at: u32, starts: bool)
+        requires { at < length self.old.words }
+        ensures words { self.new.words ≡ self.old.words }
+        ensures starts { self.new.starts ≡ slice_set self.old.starts at starts }
+    {
+        self.write_start(at, starts);
+    }
+
+    /// Makes `n` words zero, from a place on.
+    #[tactic(auto, using(crate::proofs::Zeros::zero_more))]
+    pub fn zero(&mut self, at: u32, n: u32)
+        requires { at + n ≤ length self.old.words }
+        ensures words { self.new.words ≡ take at self.old.words ++ replicate n 0 ++ drop (at + n) self.old.words }
+        ensures starts { self.new.starts ≡ self.old.starts }
+    {
+        for i in 0..n as usize {
+            self.write(at as usize + i, 0);
+        }
+    }
+
+    /// Each read of a stored word is here.
+    #[inline]
+    fn read(&mut self, at: usize) -> u64
+        requires { at < length self.old.words }
+        ensures value { result ≡ slice_index self.old.words at }
+        ensures words { self.new.words ≡ self.old.words }
+        ensures starts { self.new.starts ≡ self.old.starts }
+    {
+        self.words[at]
+    }
+
+    /// Each write of a stored word is here.
+    #[inline]
+    fn write(&mut self, at: usize, word: u64)
+        requires { at < length self.old.words }
+        ensures words { self.new.words ≡ slice_set self.old.words at word }
+        ensures starts { self.new.starts ≡ self.old.starts }
+    {
+        self.words[at] = word;
+    }
+
+    /// Each read of a start bit is here.
+    #[inline]
+    fn read_start(&mut self, at: u32) -> bool
+        requires { at < length self.old.words }
+        ensures value { result ≡ slice_index_or self.old.starts at false }
+        ensures words { self.new.words ≡ self.old.words }
+        ensures starts { self.new.starts ≡ self.old.starts }
+    {
+        self.starts.has(at)
+    }
+
+    /// Each write of a start bit is here.
+    #[inline]
+    fn write_start(&mut self, at: u32, starts: bool)
+        requires { at < length self.old.words }
+        ensures words { self.new.words ≡ self.old.words }
+        ensures starts { self.new.starts ≡ slice_set self.old.starts at starts }
+    {
+        self.starts.set(at, starts);
+    }
+}
