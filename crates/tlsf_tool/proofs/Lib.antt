@@ -13,5 +13,8 @@ pub mod Rows
 pub mod Endings
 pub mod GrowingFronts
 pub mod LongInputs
+pub mod ClassLines
 pub mod NamedCommands
+pub mod SizeWords
+pub mod Choosing
 pub mod PieceCounts

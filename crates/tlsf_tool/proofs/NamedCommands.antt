@@ -1,12 +1,12 @@
 -- A command line that comes to no fault names a command of the program.
-use Rattle.std.proofs.Common.{◌≡◌, ℕ, suc, Bool, true, false, cond, List, [], ◌∷◌, Option, Some, None, codes, fold, length, Result, Ok, Err, inl, inr, option_map, refl, sym, ◌∙◌, ap, subst, arith}
+use Rattle.std.proofs.Common.{◌≡◌, ◌⊎◌, ℕ, suc, Bool, true, false, cond, List, [], ◌∷◌, ◌&&◌, Option, Some, None, codes, fold, length, Result, Ok, Err, inl, inr, option_map, refl, sym, ◌∙◌, ap, subst, arith}
 use Rattle.std.specs.Prelude.{is_some, IfErr, IfOk}
 use Rattle.std.specs.Str.{bytes_eq}
 use Rattle.clap.specs.Faults.{check_fault, defaults_fault, entered_fault, other_fault, settle_fault, turn_fault, walk_fault, word_fault}
 use Rattle.clap.specs.Kinds.{Kinds, or_else}
 use Rattle.clap.specs.Lexer.{long_of, short_of}
-use Rattle.clap.specs.Simple.{App, argument_words, built, entered, names_of}
-use Rattle.clap.specs.Walk.{Held, Outcome, Row, Rule, Step, Text, Waiting, Walk, done, waits, plain, refused, idle, option, positional, next, trailing, subcommand, value}
+use Rattle.clap.specs.Simple.{App, Shape, argument_words, built, entered, names_of}
+use Rattle.clap.specs.Walk.{Held, Names, Outcome, Row, Rule, Step, Text, Waiting, Walk, done, waits, plain, refused, idle, option, positional, next, trailing, subcommand, value}
 use Rattle.clap.specs.Walk.{after_flag, after_step, answers_to, arg_by_index, finished, long_or_other, nothing_held, plain_word, settled, short_or_plain, subcommand_met, subcommand_or_other, to_positional, walk, walk_from, walked, walked_from, word_met}
 use Rattle.std.specs.Box.{box_value}
 use Rattle.clap.specs.Matches.{subcommand_name_of}
@@ -19,97 +19,81 @@ use Rattle.clap.specs.declared.error.Error.{Error}
 use Rattle.clap.specs.declared.error.kind.ErrorKind.TheVariants.{OutOfMemory}
 use Rattle.clap.proofs.OnLiterals.{clap_on_literals}
 use Rattle.tlsf_tool.specs.CommandLine.{command_in, faults_of, tlsf_app}
+use Rattle.tlsf_tool.proofs.SizeWords.{IsSized, nothing_first, nothing_second, size_found, steps_pass}
 
--- the program as `clap` builds it
 abbrev program : App
 program = built tlsf_app
 
--- the name of the one command
 abbrev replay_name : Text
 replay_name = codes "replay"
 
--- a step that is no subcommand but `replay`
+abbrev classes_name : Text
+classes_name = codes "classes"
+
+-- the name of a command of the program
+abbrev IsOwn : Text → Type 0
+IsOwn name = (name ≡ replay_name) ⊎ (name ≡ classes_name)
+
+-- a step that is no subcommand but these
 abbrev IsAllowed : Step → Type 0
 IsAllowed (next waiting) = Unit {0}
 IsAllowed (trailing position) = Unit {0}
-IsAllowed (subcommand name) = name ≡ replay_name
+IsAllowed (subcommand name) = IsOwn name
 IsAllowed value = Unit {0}
 
--- a walk that stopped, if at all, at `replay`
+-- a walk that stopped, if at all, at one of these
 abbrev StopsAllowed : Option (Text × List Text) → Type 0
 StopsAllowed None = Unit {0}
-StopsAllowed (Some stop) = stop.0 ≡ replay_name
-
--- ---- kinds
-
--- where no step of two fails, the first does not
-nothing_first : (a b : Kinds) → or_else a b ≡ [] → a ≡ []
-nothing_first [] b none = refl
-nothing_first (k ∷ ks) b none = none
-
--- where no step of two fails, the second does not
-nothing_second : (a b : Kinds) → or_else a b ≡ [] → b ≡ []
-nothing_second [] b none = none
-nothing_second (k ∷ ks) b none = let counted : suc (length ks) ≡ 0 = ap length none in absurd (omega (arith, counted))
-
--- none of five steps fails, so neither the first nor the last does
-ends_of_five : (a b c d e : Kinds) → or_else a (or_else b (or_else c (or_else d e))) ≡ [] → (a ≡ []) × (e ≡ [])
-ends_of_five a b c d e none =
-    (nothing_first a _ none, nothing_second d e (nothing_second c _ (nothing_second b _ (nothing_second a _ none))))
+StopsAllowed (Some stop) = IsOwn stop.0
 
 -- ---- one word
 
--- a word that is no flag
 plain_allowed : (rules : List Rule) (waiting : Waiting) (word : Text) (h : Held) → IsAllowed (plain_word rules waiting word h).1
 plain_allowed rules idle word h = tt
 plain_allowed rules (option id) word h = tt
 plain_allowed rules positional word h = tt
 
--- a flag, whatever it comes to
 flag_allowed : (rules : List Rule) (waiting : Waiting) (word : Text) (h : Held) (outcome : Outcome) → IsAllowed (after_flag rules waiting word h outcome).1
 flag_allowed rules waiting word h done = tt
 flag_allowed rules waiting word h (waits id) = tt
 flag_allowed rules waiting word h plain = plain_allowed rules waiting word h
 flag_allowed rules waiting word h refused = plain_allowed rules waiting word h
 
--- a word that may be a bundle of short flags
 short_allowed : (rules : List Rule) (waiting : Waiting) (word : Text) (flags : Option Text) (h : Held) → IsAllowed (short_or_plain rules waiting word flags h).1
 short_allowed rules waiting word (Some flags) h = flag_allowed rules waiting word _ _
 short_allowed rules waiting word None h = plain_allowed rules waiting word h
 
--- a word that may be a long flag
 long_allowed : (rules : List Rule) (waiting : Waiting) (word : Text) (long : Option (Text × Option Text)) (h : Held) → IsAllowed (long_or_other rules waiting word long h).1
 long_allowed rules waiting word (Some long) h = flag_allowed rules waiting word _ _
 long_allowed rules waiting word None h = short_allowed rules waiting word (short_of word) h
 
--- a word that names no subcommand; `b` says whether it is `--`
 other_allowed : (b : Bool) (rules : List Rule) (waiting : Waiting) (position : ℕ) (word : Text) (h : Held)
     → IsAllowed (cond b (h, trailing position) (long_or_other rules waiting word (long_of word) h)).1
 other_allowed true rules waiting position word h = tt
 other_allowed false rules waiting position word h = long_allowed rules waiting word (long_of word) h
 
--- the name of the subcommand that is found, of `replay` and `help`
-abbrev name_found : Bool → Bool → Option Text
-name_found b c = option_map (λ (s : Text × List Text). s.0) (cond b (Some (replay_name, [])) (cond c (Some (codes "help", [])) None))
+-- the name of the subcommand that is found, of `replay`, `classes` and `help`
+abbrev name_found : Bool → Bool → Bool → Option Text
+name_found a b c = option_map (λ (s : Text × List Text). s.0)
+    (cond a (Some (replay_name, [])) (cond b (Some (classes_name, [])) (cond c (Some (codes "help", [])) None)))
 
--- by whether the word is `replay`, and whether it is `help`
-named_allowed : (b c : Bool) (waiting : Waiting) (position : ℕ) (word : Text) (h : Held)
-    → other_fault program.top (name_found b c) word h ≡ []
-    → IsAllowed (subcommand_or_other program.top.rules (name_found b c) waiting position word h).1
-named_allowed true c waiting position word h none = refl
-named_allowed false true waiting position word h none = let counted : 2 ≡ 0 = ap length none in absurd (omega (arith, counted))
-named_allowed false false waiting position word h none = other_allowed (bytes_eq word (45 ∷ 45 ∷ [])) program.top.rules waiting position word h
+-- by whether the word is `replay`, whether it is `classes`, and whether it is `help`
+named_allowed : (a b c : Bool) (waiting : Waiting) (position : ℕ) (word : Text) (h : Held)
+    → other_fault program.top (name_found a b c) word h ≡ []
+    → IsAllowed (subcommand_or_other program.top.rules (name_found a b c) waiting position word h).1
+named_allowed true b c waiting position word h none = inl refl
+named_allowed false true c waiting position word h none = inr refl
+named_allowed false false true waiting position word h none = let counted : 2 ≡ 0 = ap length none in absurd (omega (arith, counted))
+named_allowed false false false waiting position word h none = other_allowed (bytes_eq word (45 ∷ 45 ∷ [])) program.top.rules waiting position word h
 
--- a word before `--`
 met_allowed : (waiting : Waiting) (position : ℕ) (word : Text) (h : Held)
     → other_fault program.top (subcommand_met (names_of program) waiting word) word h ≡ []
     → IsAllowed (subcommand_or_other program.top.rules (subcommand_met (names_of program) waiting word) waiting position word h).1
 met_allowed idle position word h none =
-    named_allowed (answers_to word (replay_name, [])) (answers_to word (codes "help", [])) idle position word h none
+    named_allowed (answers_to word (replay_name, [])) (answers_to word (classes_name, [])) (answers_to word (codes "help", [])) idle position word h none
 met_allowed (option id) position word h none = other_allowed (bytes_eq word (45 ∷ 45 ∷ [])) program.top.rules (option id) position word h
 met_allowed positional position word h none = other_allowed (bytes_eq word (45 ∷ 45 ∷ [])) program.top.rules positional position word h
 
--- any word
 word_allowed : (is_trailing : Bool) (waiting : Waiting) (position : ℕ) (word : Text) (h : Held)
     → word_fault program.top (names_of program) is_trailing waiting word h ≡ []
     → IsAllowed (word_met program.top.rules (names_of program) is_trailing waiting position word h).1
@@ -118,17 +102,14 @@ word_allowed false waiting position word h none = met_allowed waiting position w
 
 -- ---- the walk
 
--- a walk that has not stopped
 stays_allowed : (w : Walk) → w.stopped ≡ None → StopsAllowed w.stopped
 stays_allowed w is = subst StopsAllowed (sym is) tt
 
--- a word that goes to a positional
 positional_allowed : (found : Option Rule) (word : Text) (w : Walk) (h : Held) → w.stopped ≡ None
     → StopsAllowed (to_positional program.top.rules found word w h).stopped
 positional_allowed None word w h is = stays_allowed w is
 positional_allowed (Some rule) word w h is = tt
 
--- a step that a word takes
 step_allowed : (word : Text) (w : Walk) (h : Held) (step : Step) → w.stopped ≡ None → IsAllowed step
     → StopsAllowed (after_step program.top.rules word w h step).stopped
 step_allowed word w h (next waiting) is allowed = stays_allowed w is
@@ -136,7 +117,6 @@ step_allowed word w h (trailing position) is allowed = stays_allowed w is
 step_allowed word w h (subcommand name) is allowed = allowed
 step_allowed word w h value is allowed = positional_allowed (arg_by_index program.top.rules w.position) word w h is
 
--- a word's turn that does not fail
 turn_allowed : (stop : Option (Text × List Text)) (w : Walk) (word : Text) (more : Kinds) → w.stopped ≡ stop → StopsAllowed stop
     → cond (is_some stop) [] (or_else (word_fault program.top (names_of program) w.is_trailing w.waiting word w.held) more) ≡ []
     → StopsAllowed (walked_from program.top.rules (names_of program) stop w word).stopped
@@ -144,7 +124,6 @@ turn_allowed (Some stop) w word more is allowed none = allowed
 turn_allowed None w word more is allowed none =
     step_allowed word w _ _ is (word_allowed w.is_trailing w.waiting w.position word w.held (nothing_first _ _ none))
 
--- a walk that does not fail
 walk_allowed : (w : Walk) (words : List Text) → StopsAllowed w.stopped → walk_fault program.top (names_of program) w words ≡ []
     → StopsAllowed (fold (walked program.top.rules (names_of program)) w words).stopped
 unfolding walk_fault walked
@@ -155,33 +134,43 @@ walk_allowed w (word ∷ words) allowed none =
 
 -- ---- the command that was entered
 
--- the subcommand that is entered has the name
-entered_named : (name : Text) (words : List Text) → name ≡ replay_name → option_map (λ (named : Text × List Row). named.0) (entered program (Some (name, words))) ≡ Some replay_name
-entered_named name words is = subst (λ n. option_map (λ (named : Text × List Row). named.0) (entered program (Some (n, words))) ≡ Some replay_name) (sym is) refl
+-- the command that was entered is `replay`, or `classes` with one size
+abbrev pub IsNamed : Option (Text × List Row) → Type 0
+IsNamed named = ((rows : List Row) × (named ≡ Some (replay_name, rows)))
+    ⊎ ((rows : List Row) × (named ≡ Some (classes_name, rows)) × IsSized rows)
 
--- a level that needs a subcommand has entered it
-stop_named : (stop : Option (Text × List Text)) (rows : List Row) → StopsAllowed stop
-    → check_fault program.top rows (is_some (entered program stop)) ≡ []
-    → option_map (λ (named : Text × List Row). named.0) (entered program stop) ≡ Some replay_name
-stop_named None rows allowed none = let counted : 1 ≡ 0 = ap length none in absurd (omega (arith, counted))
-stop_named (Some stop) rows allowed none = entered_named stop.0 stop.1 allowed
+own_entered : (stop : Text × List Text) → IsOwn stop.0 → entered_fault program (Some stop) ≡ [] → IsNamed (entered program (Some stop))
+own_entered stop (inl is) none = inl (_, ap (λ (name : Text). entered program (Some (name, stop.1))) is)
+own_entered stop (inr is) none =
+    let level = subst (λ (name : Text). entered_fault program (Some (name, stop.1)) ≡ []) is none in
+    inr (_, ap (λ (name : Text). entered program (Some (name, stop.1))) is, size_found stop.1 level)
 
--- the one command, where there is no fault
-pub faultless_named : (words : List Text) → faults_of words ≡ [] → command_in words ≡ Some replay_name
+stop_named : (stop : Option (Text × List Text)) (rows : List Row) → StopsAllowed stop → entered_fault program stop ≡ []
+    → check_fault program.top rows (is_some (entered program stop)) ≡ [] → IsNamed (entered program stop)
+stop_named None rows allowed enters none = let counted : 1 ≡ 0 = ap length none in absurd (omega (arith, counted))
+stop_named (Some stop) rows allowed enters none = own_entered stop allowed enters
+
+-- one of the commands, where there is no fault
+pub faultless_named : (words : List Text) → faults_of words ≡ [] → IsNamed (subcommand_of tlsf_app words)
 faultless_named words none =
     let given = argument_words tlsf_app words in
     let end = walk program.top.rules (names_of program) nothing_held given in
-    let passed = ends_of_five (walk_fault program.top (names_of program) (walk_from nothing_held) given)
+    let passed = steps_pass (walk_fault program.top (names_of program) (walk_from nothing_held) given)
     (entered_fault program end.stopped) (settle_fault program.top.rules program.top.args_override_self end.held)
     (defaults_fault (settled program.top.rules end.held).rows program.top.rules)
     (check_fault program.top (finished program.top.rules end.held) (is_some (entered program end.stopped))) none in
     stop_named end.stopped (finished program.top.rules end.held)
-    (walk_allowed (walk_from nothing_held) given tt passed.0) passed.1
+    (walk_allowed (walk_from nothing_held) given tt passed.0) passed.1 passed.3
 
 -- the program's name, whatever that is, and `replay` come to no fault
 pub replay_faultless : (called : Text) → faults_of (called ∷ replay_name ∷ []) ≡ []
 unfolding clap_on_literals
 replay_faultless called = refl
+
+-- and name `replay`
+pub replay_named : (called : Text) → command_in (called ∷ replay_name ∷ []) ≡ Some replay_name
+unfolding clap_on_literals
+replay_named called = refl
 
 -- the name that matches give is that of the subcommand's rows
 pub subcommand_name-rows : (m : ArgMatches) → subcommand_name_of m ≡ option_map (λ (named : Text × List Row). named.0) (subcommand_rows_of m)
@@ -201,11 +190,13 @@ replay_fails (Err e) words called fails is =
       | inr other ↦ absurd other
     ]
 
--- a parse of the program's words that succeeds has met the command
+-- a parse of the program's words that succeeds has met the command that they name
 pub parsed_named : (r : Result ArgMatches Error) (a : App) (words : List Text) → a ≡ tlsf_app → IfOk r (HasMatchesOf a words)
-    → (is_simple_and_free a ≡ true → FailsBy (fault_of a words) r) → IfOk r (λ m. subcommand_name_of m ≡ Some replay_name)
-parsed_named (Err e) a words is matches kinds = tt
-parsed_named (Ok m) a words is matches kinds =
-    let rows = (matches (ap is_simple is)).1 ∙ ap (λ (x : App). subcommand_of x words) is in
-    let none = sym (ap (λ (x : App). fault_of x words) is) ∙ kinds (ap is_simple_and_free is) in
-    subcommand_name-rows m ∙ ap (option_map (λ (named : Text × List Row). named.0)) rows ∙ faultless_named words none
+    → IfOk r (λ m. subcommand_rows_of m ≡ subcommand_of tlsf_app words)
+parsed_named (Err e) a words is matches = tt
+parsed_named (Ok m) a words is matches = (matches (ap is_simple is)).1 ∙ ap (λ (x : App). subcommand_of x words) is
+
+-- and fails only by a fault of the words
+pub parsed_fails : (r : Result ArgMatches Error) (a : App) (words : List Text) → a ≡ tlsf_app
+    → (is_simple_and_free a ≡ true → FailsBy (fault_of a words) r) → FailsBy (faults_of words) r
+parsed_fails r a words is kinds = subst (λ (x : App). FailsBy (fault_of x words) r) is (kinds (ap is_simple_and_free is))

@@ -16,5 +16,6 @@ pub mod Entries
 pub mod Recalling
 pub mod History
 pub mod Replay
+pub mod ClassLines
 pub mod CommandLine
 pub mod Runs

@@ -1,14 +1,15 @@
 -- What a run of the program does.
 use Rattle.std.specs.Prelude.{◌≡◌, ◌⊎◌, ℕ, List, [], ◌∷◌, Option, Result, Ok, Err}
-use Rattle.std.specs.Io.KnownBytes.{Keeps}
+use Rattle.std.specs.Io.KnownBytes.{Appends, Keeps}
 use Rattle.clap.specs.Words.{IsAmong, Text}
 use Rattle.clap.specs.declared.error.kind.ErrorKind.{ErrorKind}
 use Rattle.clap.specs.declared.error.kind.ErrorKind.TheVariants.{DisplayHelp, DisplayVersion, OutOfMemory}
+use Rattle.tlsf_tool.specs.ClassLines.{class_line}
 use Rattle.tlsf_tool.specs.CommandLine.{Asks, faults_of}
 use Rattle.tlsf_tool.specs.Fronts.{AppendsFront}
 use Rattle.tlsf_tool.specs.Replay.{IsReplay}
 use Rattle.tlsf_tool.specs.TraceFaults.{fault_line, no_memory_fault, status_of_fault, write_fault}
-use Rattle.tlsf_tool.specs.declared.command_line.Choice.TheVariants.{Replay}
+use Rattle.tlsf_tool.specs.declared.command_line.Choice.TheVariants.{Classes, Replay}
 use Rattle.tlsf_tool.specs.declared.summary.Summary.{Summary}
 use Rattle.tlsf_tool.specs.declared.trace_fault.TraceFault.{TraceFault}
 
@@ -45,6 +46,13 @@ pub record LacksMemory (status : ℕ) (old new : Streams) : Type 0 where
   pub written : new.written ≡ old.written
   pub reported : AppendsFront old.errors new.errors (fault_line no_memory_fault)
 
+-- the line on a size of n words was written, or a front of it, where a write failed and was reported; nothing was read
+pub record ShowsClasses (n status : ℕ) (old new : Streams) : Type 0 where
+  pub left : new.left ≡ old.left
+  pub front : AppendsFront old.written new.written (class_line n)
+  pub ended : ((status ≡ 0) × Appends old.written new.written (class_line n) × (new.errors ≡ old.errors))
+      ⊎ ((status ≡ 1) × AppendsFront old.errors new.errors (fault_line write_fault))
+
 -- a text was shown, or a write failed and was reported
 pub record ShowsText (status : ℕ) (old new : Streams) : Type 0 where
   pub left : new.left ≡ old.left
@@ -64,11 +72,12 @@ ShowsAnswer DisplayVersion status old new = ShowsText status old new
 ShowsAnswer OutOfMemory status old new = LacksMemory status old new
 ShowsAnswer _ status old new = ShowsUsage status old new
 
--- how a run ends, by its words: it replays, it answers by one of the faults of the words, or it lacks memory
+-- how a run ends, by its words: it replays, it shows the classes of a size, it answers by one of the faults of the words, or it lacks memory
 abbrev pub Ends : List Text → ℕ → Streams → Streams → Type 0
 Ends words status old new = LacksMemory status old new
     ⊎ ((Asks words Replay × RunsReplay status old new)
-    ⊎ ((kind : ErrorKind) × IsAmong kind (faults_of words) × ShowsAnswer kind status old new))
+    ⊎ (((n : ℕ) × Asks words (Classes n) × ShowsClasses n status old new)
+    ⊎ ((kind : ErrorKind) × IsAmong kind (faults_of words) × ShowsAnswer kind status old new)))
 
 -- the run is a replay, unless memory ran out before
 abbrev pub ReplaysOrLacksMemory : ℕ → Streams → Streams → Type 0

@@ -1,9 +1,10 @@
-ghost use Rattle.std.specs.Prelude.{◌≡◌, ℕ, Some, List, [], ◌∷◌, codes, map, IfErr, IfOk};
-ghost use Rattle.clap.specs.Words.{app_of, kind_of, subcommand_name_of, FailsBy};
-ghost use Rattle.tlsf_tool.specs.CommandLine.{tlsf_app, faults_of, Asks};
+ghost use Rattle.std.specs.Prelude.{◌≡◌, ℕ, List, [], ◌∷◌, codes, false, map, IfErr, IfOk};
+ghost use Rattle.clap.specs.Words.{app_of, kind_of, subcommand_of, subcommand_rows_of, FailsBy};
+ghost use Rattle.clap.specs.declared.builder.command.Command.TheViews.{out-Command};
+ghost use Rattle.tlsf_tool.specs.CommandLine.{classes_app, tlsf_app, faults_of, Asks};
 
 use clap::error::ErrorKind;
-use clap::{ArgMatches, Command, Error};
+use clap::{Arg, ArgAction, ArgMatches, Command, Error};
 use std::alloc::{AllocError, Global};
 use std::convert::AsStr;
 
@@ -13,25 +14,78 @@ pub enum Choice {
     /// `tlsf replay`: read a trace from standard input, and write its reply lines to standard
     /// output.
     Replay,
+    /// `tlsf classes N`: write the class and the search class of a size of N words, 4 to 2^20, to
+    /// standard output.
+    Classes(u32),
+}
+
+const REPLAY_HELP: &str = "\
+Standard input is a trace. Its first line is 'tlsf 1 1 H 1', where H, 4 to
+1048576, is the words of the heap. Each line after it is one call: 'a 0 L N'
+asks for N bytes under the label L, and 'f 0 L' frees the block of the label L.
+A label is a number from 0 to 65535, and is made once.
+
+Standard output is one reply line for each call, once all of them have run.
+This is a trace, and these are its reply lines:
+
+  tlsf 1 1 64 1
+  a 0 1 8
+  a 0 2 100
+  f 0 1
+
+  0 a 1 at 0 serial 1
+  0 a 2 at 4 serial 2
+  0 f 1 freed
+
+The exit status is 0 where the replies are written, 1 where a fault of the
+trace, of a read or of a write ends the run, and 3 where memory runs out. A
+fault is one line on standard error, as 'tlsf: line 2: bad number (13)'.";
+
+const CLASSES_HELP: &str = "\
+Standard output is one line. For 460 words it is
+
+  class 92 low 448 search 93 low 464
+
+Free blocks of 460 words are kept in class 92, whose least size is 448 words.
+A request for 460 words is served from class 93 on, the least class in which
+no block is too small, as it begins at 464 words.";
+
+// The command `classes`.
+fn classes_command<'a>(alloc: Global) -> Result<Command<'a>, AllocError>
+    ensures app { IfOk result (λ command. app_of command ≡ classes_app) }
+    ensures local { IfOk result (λ command. (out-Command command).has_globals ≡ false) }
+{
+    let size = Arg::new(alloc, "N")
+        .help("A size in words")
+        .required(true)
+        .action(ArgAction::Set)
+        .value_parser(clap::value_parser!(u32).range(4..=1_048_576));
+    Command::new(alloc, "classes")
+        .about("Write the class and the search class of a size, each with its least size in words")
+        .after_help(CLASSES_HELP)
+        .arg(size)
 }
 
 // The program's commands and texts.
 fn tlsf_command<'a>(alloc: Global) -> Result<Command<'a>, AllocError>
     ensures { IfOk result (λ command. app_of command ≡ tlsf_app) }
 {
-    let replay = Command::new(alloc, "replay").about(
-        "Read a trace from standard input and write the reply lines to standard output",
-    );
+    let replay = Command::new(alloc, "replay")
+        .about("Read a trace from standard input and write the reply lines to standard output")
+        .after_help(REPLAY_HELP);
     Command::new(alloc, "tlsf")
+        .bin_name("tlsf")?
         .version("0.1.0")
         .about("A proved real-time heap: two-level segregated fit")
         .subcommand_required(true)
-        .subcommand(replay)
+        .subcommand(replay)?
+        .subcommand(classes_command(alloc)?)
 }
 
-// What `clap` makes of the words. Where it takes them they name a command of the program.
+// What `clap` makes of the words.
 fn parse<'a, S: AsStr>(alloc: Global, words: &'a [S]) -> Result<ArgMatches<'a>, Error>
-    ensures named { IfOk result (λ matches. subcommand_name_of matches ≡ Some (codes "replay")) }
+    ensures named { IfOk result (λ matches. subcommand_rows_of matches
+        ≡ subcommand_of tlsf_app (map S.text words.entry.now)) }
     ensures kinds { FailsBy (faults_of (map S.text words.entry.now)) result }
 {
     tlsf_command(alloc)?.try_get_matches_from(words)
@@ -51,9 +105,11 @@ pub fn choose<'a, S: AsStr>(alloc: Global, words: &'a [S]) -> Result<Choice, Err
         → IfErr result (λ error. kind_of error ≡ ErrorKind.OutOfMemory) }
 {
     let matches = parse(alloc, words)?;
-    if matches.subcommand_name() == Some("replay") {
-        Ok(Choice::Replay)
-    } else {
-        unreachable!()
+    match matches.subcommand_matches("classes") {
+        Some(given) => match given.get_one::<u32>("N") {
+            Some(size) => Ok(Choice::Classes(size)),
+            None => unreachable!(),
+        },
+        None => Ok(Choice::Replay),
     }
 }

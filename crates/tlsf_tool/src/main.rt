@@ -16,6 +16,7 @@
 
 mod answering;
 mod call_refusal;
+mod class_line;
 mod command_line;
 mod entry;
 #[cfg(test)]

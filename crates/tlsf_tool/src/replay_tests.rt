@@ -117,7 +117,7 @@ fn faults_with_their_lines(rt: HostRuntime) -> Result<(), Fail> {
         );
         assert_eq!(rt; status, 1);
         assert_eq!(rt; str::from_utf8(&errors.held)?, line);
-        assert!(rt; writer.held.is_empty(), "{line}");
+        assert!(rt; writer.held.is_empty());
     }
     Ok(())
 }

@@ -1,9 +1,10 @@
-ghost use Rattle.std.specs.Prelude.{◌≡◌, ℕ, List, [], ◌∷◌, Option, codes, map, IfOk};
+ghost use Rattle.std.specs.Prelude.{◌≡◌, ◌≤◌, ◌^◌, ℕ, List, [], ◌∷◌, Option, codes, map, IfOk};
 ghost use Rattle.clap.specs.Words.{kind_of};
 ghost use Rattle.tlsf_tool.specs.Fronts.{AppendsFront};
-ghost use Rattle.tlsf_tool.specs.Runs.{streams, Ends, ReplaysOrLacksMemory, RunsReplay, ShowsAnswer};
+ghost use Rattle.tlsf_tool.specs.Runs.{streams, Ends, ReplaysOrLacksMemory, RunsReplay, ShowsAnswer, ShowsClasses};
 ghost use Rattle.tlsf_tool.specs.TraceFaults.{fault_line, status_of_fault};
 
+use crate::class_line::write_class_line;
 use crate::command_line::{Choice, choose};
 use crate::replay::replay;
 use crate::trace_fault::TraceFault;
@@ -61,6 +62,20 @@ fn run_replay<R: Read, W: Write, E: Write>(
     }
 }
 
+// Writes the line on a size of `words`, and reports a write that fails.
+fn run_classes<W: Write, E: Write>(words: u32, writer: &mut W, errors: &mut E) -> u8
+    requires least { 4 ≤ words }
+    requires most { words ≤ 2 ^ 20 }
+    ensures { (left : Option (List ℕ)) → ShowsClasses words result
+        (streams left (W.contents writer.old) (E.contents errors.old))
+        (streams left (W.contents writer.new) (E.contents errors.new)) }
+{
+    match write_class_line(words, writer) {
+        Ok(()) => 0,
+        Err(fault) => report(TraceFault::from(fault), errors),
+    }
+}
+
 // Writes the text of `clap`, and flushes.
 fn show<W: Write>(error: &clap::Error, writer: &mut W) -> Result<(), WriteError> {
     let written = write!(writer, "{error}").and_then(|()| writer.flush());
@@ -110,6 +125,7 @@ pub fn run<S: AsStr, R: Read, W: Write, E: Write>(
 {
     match choose(alloc, words) {
         Ok(Choice::Replay) => run_replay(alloc, reader, writer, errors),
+        Ok(Choice::Classes(words)) => run_classes(words, writer, errors),
         Err(error) => answer(&error, writer, errors),
     }
 }

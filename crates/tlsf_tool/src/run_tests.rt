@@ -135,6 +135,24 @@ fn shows_help_and_version(rt: HostRuntime) -> Result<(), Fail> {
             ["tlsf", "replay", "-h"].as_slice(),
             "trace from standard input",
         ),
+        (
+            ["other", "replay", "--help"].as_slice(),
+            "Usage: tlsf replay",
+        ),
+        (["", "--help"].as_slice(), "Usage: tlsf <COMMAND>"),
+        (
+            ["tlsf", "replay", "--help"].as_slice(),
+            "  a 0 2 100\n  f 0 1\n\n  0 a 1 at 0 serial 1\n  0 a 2 at 4 serial 2\n  0 f 1 freed\n",
+        ),
+        (
+            ["tlsf", "classes", "--help"].as_slice(),
+            "Usage: tlsf classes <N>",
+        ),
+        (["tlsf", "classes", "-h"].as_slice(), "A size in words"),
+        (
+            ["tlsf", "help", "classes"].as_slice(),
+            "Usage: tlsf classes <N>",
+        ),
         (["tlsf", "--version"].as_slice(), "tlsf 0.1.0\n"),
         (["tlsf", "-V"].as_slice(), "tlsf 0.1.0\n"),
     ];
@@ -179,6 +197,36 @@ fn refuses_other_words(rt: HostRuntime) -> Result<(), Fail> {
             ["tlsf", "help", "nothing"].as_slice(),
             "unrecognized subcommand 'nothing'",
         ),
+        (["tlsf", "classes"].as_slice(), "Usage: tlsf classes <N>"),
+        (
+            ["tlsf", "classes", "4", "5"].as_slice(),
+            "unexpected argument '5' found",
+        ),
+        (
+            ["tlsf", "classes", "-5"].as_slice(),
+            "unexpected argument '-5' found",
+        ),
+        (
+            ["tlsf", "classes", "3"].as_slice(),
+            "invalid value '3' for '<N>': 3 is not in 4..=1048576",
+        ),
+        (
+            ["tlsf", "classes", "1048577"].as_slice(),
+            "1048577 is not in 4..=1048576",
+        ),
+        (
+            ["tlsf", "classes", "x"].as_slice(),
+            "invalid value 'x' for '<N>'",
+        ),
+        (
+            ["tlsf", "classes", " 5"].as_slice(),
+            "invalid value ' 5' for '<N>'",
+        ),
+        (["tlsf", "classes", ""].as_slice(), "for '<N>'"),
+        (
+            ["tlsf", "460", "classes"].as_slice(),
+            "unrecognized subcommand '460'",
+        ),
     ];
     for (words, text) in rows {
         let mut reader = FakeReader::new(b"tlsf 1 1 64 1\n");
@@ -187,6 +235,62 @@ fn refuses_other_words(rt: HostRuntime) -> Result<(), Fail> {
         assert!(rt; ending.errors()?.contains(text), "{text}");
         assert_eq!(rt; ending.written()?, "");
         assert_eq!(rt; reader.reads, 0);
+    }
+    Ok(())
+}
+
+// The line goes to the writer, and nothing is read. A plus sign and zeros may stand first.
+#[test]
+fn writes_classes(rt: HostRuntime) -> Result<(), Fail> {
+    let rows = [
+        ("4", "class 4 low 4 search 4 low 4\n"),
+        ("15", "class 15 low 15 search 15 low 15\n"),
+        ("16", "class 16 low 16 search 16 low 16\n"),
+        ("460", "class 92 low 448 search 93 low 464\n"),
+        ("1048575", "class 271 low 1015808 search 272 low 1048576\n"),
+        ("1048576", "class 272 low 1048576 search 272 low 1048576\n"),
+        ("+5", "class 5 low 5 search 5 low 5\n"),
+        ("0033", "class 32 low 32 search 33 low 34\n"),
+    ];
+    for (size, line) in rows {
+        let mut reader = FakeReader::new(b"tlsf 1 1 64 1\n");
+        for words in [
+            ["tlsf", "classes", size].as_slice(),
+            ["", "classes", "--", size].as_slice(),
+        ] {
+            let ending = run_on(rt.alloc(), words, &mut reader);
+            assert_eq!(rt; ending.status, 0, "{size}");
+            assert_eq!(rt; ending.written()?, line);
+            assert_eq!(rt; ending.errors()?, "");
+            assert_eq!(rt; reader.reads, 0);
+        }
+    }
+    Ok(())
+}
+
+// A front of the line is written, and the fault is reported, if it can be.
+#[test]
+fn reports_a_fault_of_the_writer_of_classes(rt: HostRuntime) -> Result<(), Fail> {
+    let alloc = rt.alloc();
+    let line = "class 92 low 448 search 93 low 464\n";
+    let fault = "tlsf: write failed (17)\n";
+    for (room, flush_fails, errors_room, written, reported) in [
+        (0, false, 64, "", fault),
+        (9, false, 64, "class 92 ", fault),
+        (9, false, 4, "class 92 ", "tlsf"),
+        (64, true, 64, line, fault),
+    ] {
+        let mut reader = FakeReader::new(b"");
+        let mut writer = FakeWriter::new(alloc);
+        writer.room = room;
+        writer.flush_fails = flush_fails;
+        let mut errors = FakeWriter::new(alloc);
+        errors.room = errors_room;
+        let words = ["tlsf", "classes", "460"];
+        let status = run(alloc, &words, &mut reader, &mut writer, &mut errors);
+        assert_eq!(rt; status, 1);
+        assert_eq!(rt; str::from_utf8(&writer.held)?, written);
+        assert_eq!(rt; str::from_utf8(&errors.held)?, reported);
     }
     Ok(())
 }

@@ -1,6 +1,5 @@
-use Rattle.std.proofs.Common.{rules, ◌∙◌, sym, refl, ap, string_bytes, length, List, ℕ}
-use Rattle.std.specs.Io.KnownBytes.{Appends}
-use Rattle.tlsf_tool.proofs.Replaying.{unread, unasked, unwritten, written}
+use Rattle.std.proofs.Common.{refl, string_bytes, rules}
+use Rattle.tlsf_tool.proofs.Replaying.{written}
 use Rattle.tlsf_tool.proofs.replay.replay.Goals as goal
 
 pub returns : goal.returns

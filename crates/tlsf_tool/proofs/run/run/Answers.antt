@@ -1,4 +1,5 @@
-use Rattle.std.proofs.Common.{inr}
+use Rattle.std.proofs.Common.{inl, inr}
+use Rattle.tlsf_tool.proofs.Choosing.{classes_differ}
 use Rattle.tlsf_tool.proofs.Endings.{answer_ends, answer_lacks}
 use Rattle.tlsf_tool.proofs.run.run.Goals as goal
 
@@ -9,3 +10,13 @@ returns-in-Err-clause-ends g c =
 pub returns-in-Err-clause-replay : goal.returns-in-Err-clause-replay
 returns-in-Err-clause-replay g c = λ called is.
     inr (answer_lacks _ _ _ _ (c.answer.ensures (g.R.Read.remaining c.args.reader.now)) (c.in-Err.ensures.replay called is))
+
+pub returns-in-Ok-Classes-clause-ends : goal.returns-in-Ok-Classes-clause-ends
+returns-in-Ok-Classes-clause-ends g c =
+    let asks = rw c.in-Ok-Classes.field-0-is at c.in-Ok-Classes.ensures.asked in
+    inr (inr (inl (c.in-Ok-Classes.words, asks, c.run_classes.ensures (g.R.Read.remaining c.args.reader.now))))
+
+pub returns-in-Ok-Classes-clause-replay : goal.returns-in-Ok-Classes-clause-replay
+returns-in-Ok-Classes-clause-replay g c =
+    let asks = rw c.in-Ok-Classes.field-0-is at c.in-Ok-Classes.ensures.asked in
+    λ called is. absurd (classes_differ _ called c.in-Ok-Classes.words asks is)
