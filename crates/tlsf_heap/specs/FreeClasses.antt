@@ -17,7 +17,7 @@ has_free_of blocks class = list_any (is_free_of class) blocks
 abbrev pub classes_of_free : List Block → List ℕ
 classes_of_free blocks = filter (has_free_of blocks) classes
 
--- the members are the classes that had a free block before those of `gone` went and those of `came` came
+-- the members are still those of before: the blocks of `gone` went, those of `came` came, and the others stayed
 pub record IsBehind (members : List ℕ) (gone came blocks : List Block) : Type 0 where
   pub others : List Block
   pub were : members ≡ classes_of_free (gone ++ others)

@@ -30,12 +30,12 @@ is_fit n block = is_free block && serves (class_of (size_of block)) n
 abbrev pub fits : ℕ → List Block → List Site
 fits n blocks = filter (λ s. is_fit n s.block) (sites blocks)
 
--- its class is lower, or it is the same and it became free as late
+-- its class is lower, or it is the same and it became free no earlier
 abbrev pub is_as_good : Block → Block → Bool
 is_as_good a b =
     nat_lt (class_of (size_of a)) (class_of (size_of b)) || (class_of (size_of a) == class_of (size_of b) && nat_le (stamp_of b) (stamp_of a))
 
--- of those of the least class, the one that became free last
+-- of the blocks that may serve n words, one of the least class, and of these the one that became free last
 abbrev pub choice : ℕ → List Block → Option Site
 choice n blocks = find (λ s. list_all (λ t. is_as_good s.block t.block) (fits n blocks)) (fits n blocks)
 

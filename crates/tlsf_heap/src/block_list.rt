@@ -11,7 +11,7 @@ ghost use Rattle.tlsf_heap.specs.FreeClasses.{classes_of_free, IsLastFreedOf};
 use crate::stored_block::StoredBlock;
 use tlsf_class::{Bitmaps, Class, search_of};
 
-/// The most words that a region may have, which are the most that a request may want.
+/// The most words that a region may have. No request for more is served.
 pub const MOST_WORDS: u32 = 1 << 20;
 
 /// The index of the free block of a class that became free last.

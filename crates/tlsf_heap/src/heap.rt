@@ -18,8 +18,8 @@ use tlsf_class::{Bitmaps, class_of};
 
 /// A heap over a region of 4 to 2^20 words, kept by two-level segregated fit (ECRTS 2004, section 3).
 ///
-/// Contracts see it as its number, its words, its tick and its blocks in the order of their places. The tick counts
-/// the accepted allocates and releases, and stamps what they change.
+/// Contracts see it as its number, its words, its tick and its blocks in the order of their places. The tick begins
+/// one above the first, rises by one with each accepted allocate or release, and stamps what they change.
 #[derive(Drop)]
 pub struct Heap {
     id: u32,
@@ -93,7 +93,7 @@ impl Heap {
         ensures answer { result ≡ (allocated self.old.heap len).answer }
         ensures heap { self.new.heap ≡ (allocated self.old.heap len).heap }
 
-        // What the answer comes to: when it is a name, when it is which refusal, and that a refusal changes nothing.
+        // What that comes to: when it is NoFit, when it is a name, and that a refusal changes nothing.
         ensures no_fit { IsErrOf result Refusal.NoFit ↔ (fits (Blocks.want len) self.old.heap.blocks ≡ []) }
         ensures ok { IsOk result ↔ (¬ (fits (Blocks.want len) self.old.heap.blocks ≡ []) × ¬ (self.old.heap.tick ≡ last_tick)) }
         ensures err { OnErr result (self.new.heap ≡ self.old.heap) }
@@ -119,7 +119,8 @@ impl Heap {
         Ok(name)
     }
 
-    /// Takes back the block of that name, and merges it with its free neighbours.
+    /// Takes back the block of that name, and merges it with its free neighbours. The free block that it becomes is
+    /// stamped with the tick.
     ///
     /// Refused as `Foreign` where the name is of another heap, else as `Stale` where no live block has that place and
     /// serial, else as `Worn` where the tick is at its last value. Takes no memory.

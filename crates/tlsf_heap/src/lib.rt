@@ -2,7 +2,7 @@
 //!
 //! A heap gives blocks of its region to those who ask, by good fit: of the free blocks in a size class at or above
 //! the request's search class it takes one of the least class, and of these the one that became free last. A block
-//! that is much larger than the request is split, and a block that is released is merged at once with its free
+//! of four words or more above the wanted ones is split, and a block that is released is merged at once with its free
 //! neighbours (Masmano, Ripoll, Crespo and Real, "TLSF: A New Dynamic Memory Allocator for Real-Time Systems",
 //! ECRTS 2004, sections 3 and 4).
 //!
