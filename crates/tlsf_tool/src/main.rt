@@ -1,12 +1,13 @@
-//! The program `tlsf`: it runs a trace on a heap and writes the reply lines.
+//! The program `tlsf`: it runs a trace on a heap and writes the reply lines, and shows size classes.
 //!
 //! `tlsf replay` reads a trace from standard input, runs it, and writes the reply lines to standard
 //! output. The whole trace is read before a line runs, and the whole text is made before a byte is
-//! written. `tlsf --help` and `tlsf --version` say the rest.
+//! written. `tlsf classes N` writes the size class and the search class of N words. `tlsf --help`
+//! and `tlsf --version` say the rest.
 //!
 //! | Exit status | When |
 //! |---|---|
-//! | 0 | the run is done, or the help or version text is written |
+//! | 0 | the run is done, or the class line, the help or the version text is written |
 //! | 1 | a fault of the trace, a read or a write ended the run; its line is on standard error |
 //! | 2 | the words of the command line are refused; the usage is on standard error |
 //! | 3 | memory ran out; the line `tlsf: out of memory (6)` is on standard error |
