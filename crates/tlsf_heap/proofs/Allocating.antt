@@ -1,5 +1,5 @@
 -- What allocating answers and leaves, by the place of the block that is chosen.
-use Rattle.std.proofs.Common.{find, None, ◌≡◌, ℕ, zero, suc, ◌+◌, ◌-◌, ◌*◌, ◌^◌, ◌<◌, ◌≤◌, Bool, true, false, cond, eqb, List, [], ◌∷◌, ◌++◌, length, take, drop, map, Some, Result, Ok, Err, IsOk, refl, sym, ap, ◌∙◌, subst, inl, inr, arith, add-one, eq-eqb}
+use Rattle.std.proofs.Common.{find, None, ◌≡◌, ℕ, zero, suc, ◌+◌, ◌-◌, ◌*◌, ◌^◌, ◌<◌, ◌≤◌, Bool, true, false, cond, eqb, List, [], ◌∷◌, ◌++◌, length, take, drop, Some, Result, Ok, Err, IsOk, refl, sym, ap, ◌∙◌, subst, inl, inr, arith, add-one, eq-eqb}
 use Rattle.std.specs.Prelude.{◌↔◌}
 use Rattle.std.specs.List.{AllByRecursion, list_all}
 use Rattle.std.proofs.lemmas.List.{drop_more, take-append-drop}
@@ -7,18 +7,17 @@ use Rattle.std.proofs.lemmas.Bool.{false≢true, cases_lt}
 use Rattle.std.proofs.lemmas.Bool.Decides.{nat_tests}
 use Rattle.tlsf_heap.specs.Blocks.{Block, Live, Free, HeapState, size_of, words_in, want}
 use Rattle.tlsf_heap.specs.Lawful.{IsLawful, HasRoom, AreRegions}
+use Rattle.tlsf_heap.specs.Regions.{RegionState}
 use Rattle.tlsf_heap.specs.GoodFit.{Site, is_fit, fits, is_as_good, choice, NoneFits, IsChoice, block_at, site_at}
 use Rattle.tlsf_heap.specs.Calls.{carved, ticked, allocated, allocated_at, refused, Outcome, last_tick}
 use Rattle.tlsf_heap.specs.declared.name.Name.{Name}
 use Rattle.tlsf_heap.specs.declared.refusal.Refusal.{Refusal}
 use Rattle.tlsf_heap.specs.declared.refusal.Refusal.TheVariants.{NoFit, Worn}
-use Rattle.tlsf_heap.specs.Shown.{shown}
-use Rattle.tlsf_heap.specs.declared.stored_block.StoredBlock.{StoredBlock}
 use Rattle.tlsf_heap.proofs.Finding.{not_true}
 use Rattle.tlsf_class.proofs.ClassOfSize.{le_from_serves}
 use Rattle.tlsf_heap.proofs.Sites.{choice_none, choice_is, fits_nothing}
 use Rattle.tlsf_heap.proofs.Edits.{carved_small, carved_large}
-use Rattle.tlsf_heap.proofs.Lawfulness.{lawful_split, lawful_whole, with_blocks}
+use Rattle.tlsf_heap.proofs.Lawfulness.{lawful_split, lawful_whole, with_blocks, with_region, region_is}
 
 -- each block has four words
 blocks_many : (bs : List Block) → AllByRecursion HasRoom bs → 4 * length bs ≤ words_in bs
@@ -63,10 +62,10 @@ module _ (h : HeapState) (len : ℕ) (lawful : IsLawful h) where
     chosen = choice_is (want len) h.blocks i lawful.stamps_differ c
 
     -- the blocks that are left
-    abbrev pub left : ℕ → List Block
+    abbrev left : ℕ → List Block
     left k = take i h.blocks ++ carved (size_of (block_at h.blocks i)) (want len) h.tick len ++ drop k h.blocks
 
-    abbrev pub answered : ℕ → Outcome Name
+    abbrev answered : ℕ → Outcome Name
     answered k = record { answer = Ok (record { heap = h.id; at = words_in (take i h.blocks); serial = h.tick }); heap = ticked h (left k) }
 
     allocated_worn : h.tick ≡ 2 ^ 64 - 1 → allocated h len ≡ refused h Worn
@@ -77,7 +76,7 @@ module _ (h : HeapState) (len : ℕ) (lawful : IsLawful h) where
         let t : eqb h.tick (2 ^ 64 - 1) ≡ false = not_true _ (λ e. n (grind (arith, nat_tests))) in
         ap (allocated_at h len) chosen ∙ ap (λ (b : Bool). cond b (refused h Worn) (answered (suc i))) t ∙ ap answered (sym (add-one i))
 
-    pub allocated_lawful : IsLawful (ticked h (left (i + 1)))
+    allocated_lawful : IsLawful (ticked h (left (i + 1)))
     allocated_lawful =
         let P : List Block → Type 0 = λ l. IsLawful (with_blocks h l) in
         subst (λ (k : ℕ). IsLawful (ticked h (left k))) (sym (add-one i))
@@ -96,46 +95,53 @@ pub record Allocates (h : HeapState) (len : ℕ) (answer : Result Name Refusal) 
   pub is_heap : left ≡ (allocated h len).heap
   pub no_fit : (answer ≡ Err NoFit) ↔ (fits (want len) h.blocks ≡ [])
   pub ok : IsOk answer ↔ (¬ (fits (want len) h.blocks ≡ []) × ¬ (h.tick ≡ last_tick))
+  pub lawful : IsLawful left
 
--- the outcomes, for a heap h that a representation shows and the heap k that it stands for
-module _ (h k : HeapState) (len : ℕ) (lawful : IsLawful h) (same : h ≡ k) where
-  pub allocates_none : NoneFits (want len) h.blocks → Allocates k len (Err NoFit) k
-  allocates_none none = subst (λ (s : HeapState). Allocates s len (Err NoFit) s) same (record {
-    is_answer = sym (ap (λ (o : Outcome Name). o.answer) (allocated_none h len lawful none));
-    is_heap = sym (ap (λ (o : Outcome Name). o.heap) (allocated_none h len lawful none));
-    no_fit = (λ _. fits_none h len lawful none, λ _. refl);
-    ok = (λ f. absurd (false≢true f), λ p. absurd (p.0 (fits_none h len lawful none)));
-  })
+-- the outcomes, for a heap h that a representation shows and the heap k that it stands for, by the words n that are wanted and the region that is left
+module _ (h k : HeapState) (len n : ℕ) (lawful : IsLawful h) (same : h ≡ k) (wanted : n ≡ want len) (region : RegionState) (words : region.words ≡ h.words) where
+  pub allocates_none : region.blocks ≡ h.blocks → NoneFits n h.blocks → Allocates k len (Err NoFit) (with_region h h.tick region)
+  allocates_none blocks unfit =
+      let kept = region_is h h.tick region h.blocks words blocks in
+      let none : NoneFits (want len) h.blocks = subst (λ (m : ℕ). NoneFits m h.blocks) wanted unfit in
+      subst (λ (s : HeapState). Allocates s len (Err NoFit) (with_region h h.tick region)) same (record {
+        is_answer = sym (ap (λ (o : Outcome Name). o.answer) (allocated_none h len lawful none));
+        is_heap = kept ∙ sym (ap (λ (o : Outcome Name). o.heap) (allocated_none h len lawful none));
+        no_fit = (λ _. fits_none h len lawful none, λ _. refl);
+        ok = (λ f. absurd (false≢true f), λ p. absurd (p.0 (fits_none h len lawful none)));
+        lawful = subst IsLawful (sym kept) lawful;
+      })
 
-  module _ (i : ℕ) (chosen : IsChoice (want len) h.blocks i) where
-    pub allocates_worn : h.tick ≡ last_tick → Allocates k len (Err Worn) k
-    allocates_worn worn = subst (λ (s : HeapState). Allocates s len (Err Worn) s) same (record {
-      is_answer = sym (ap (λ (o : Outcome Name). o.answer) (allocated_worn h len lawful i chosen worn));
-      is_heap = sym (ap (λ (o : Outcome Name). o.heap) (allocated_worn h len lawful i chosen worn));
-      no_fit = (λ f. cc, λ f. absurd (fits_some h len i lawful chosen f));
-      ok = (λ f. absurd (false≢true f), λ p. absurd (p.1 worn));
-    })
+  module _ (i : ℕ) (best : IsChoice n h.blocks i) where
+    abbrev is_chosen : IsChoice (want len) h.blocks i
+    is_chosen = subst (λ (m : ℕ). IsChoice m h.blocks i) wanted best
 
-    pub allocates_some : (at : ℕ) (blocks : List Block) → at ≡ words_in (take i h.blocks) → blocks ≡ left h len lawful i chosen (i + 1) → ¬ (h.tick ≡ last_tick)
-        → Allocates k len (Ok (record { heap = h.id; at = at; serial = h.tick })) (ticked h blocks)
-    allocates_some at blocks is_at is_left fresh =
-        let made = allocated_is h len lawful i chosen fresh in
-        subst (λ (s : HeapState). Allocates s len (Ok (record { heap = h.id; at = at; serial = h.tick })) (ticked h blocks)) same (record {
-          is_answer = ap (λ (n : ℕ). Ok (record { heap = h.id; at = n; serial = h.tick })) is_at ∙ sym (ap (λ (o : Outcome Name). o.answer) made);
-          is_heap = ap (ticked h) is_left ∙ sym (ap (λ (o : Outcome Name). o.heap) made);
-          no_fit = (λ f. cc, λ f. absurd (fits_some h len i lawful chosen f));
-          ok = (λ _. (fits_some h len i lawful chosen, fresh), λ _. refl);
+    pub allocates_worn : region.blocks ≡ h.blocks → h.tick ≡ last_tick → Allocates k len (Err Worn) (with_region h h.tick region)
+    allocates_worn blocks worn =
+        let kept = region_is h h.tick region h.blocks words blocks in
+        subst (λ (s : HeapState). Allocates s len (Err Worn) (with_region h h.tick region)) same (record {
+          is_answer = sym (ap (λ (o : Outcome Name). o.answer) (allocated_worn h len lawful i is_chosen worn));
+          is_heap = kept ∙ sym (ap (λ (o : Outcome Name). o.heap) (allocated_worn h len lawful i is_chosen worn));
+          no_fit = (λ f. cc, λ f. absurd (fits_some h len i lawful is_chosen f));
+          ok = (λ f. absurd (false≢true f), λ p. absurd (p.1 worn));
+          lawful = subst IsLawful (sym kept) lawful;
         })
 
--- what a search over the stored blocks found, for the words that are wanted
-pub choice_of : (n m i : ℕ) (xs ys : List StoredBlock) → n ≡ m → xs ≡ ys → IsChoice n (map shown xs) i → IsChoice m (map shown ys) i
-choice_of n m i xs ys e f c = subst (λ (l : List StoredBlock). IsChoice m (map shown l) i) f (subst (λ (k : ℕ). IsChoice k (map shown xs) i) e c)
-
-pub none_of : (n m : ℕ) (xs ys : List StoredBlock) → n ≡ m → xs ≡ ys → NoneFits n (map shown xs) → NoneFits m (map shown ys)
-none_of n m xs ys e f c = subst (λ (l : List StoredBlock). NoneFits m (map shown l)) f (subst (λ (k : ℕ). NoneFits k (map shown xs)) e c)
+    pub allocates_some : (at : ℕ) → words_in (take i h.blocks) ≡ at → region.blocks ≡ take i h.blocks ++ carved (size_of (block_at h.blocks i)) n h.tick len ++ drop (i + 1) h.blocks
+        → ¬ (h.tick ≡ last_tick) → Allocates k len (Ok (record { heap = h.id; at = at; serial = h.tick })) (with_region h (h.tick + 1) region)
+    allocates_some at is_at blocks fresh =
+        let wanted_blocks = blocks ∙ ap (λ (m : ℕ). take i h.blocks ++ carved (size_of (block_at h.blocks i)) m h.tick len ++ drop (i + 1) h.blocks) wanted in
+        let is_left = region_is h (h.tick + 1) region _ words wanted_blocks in
+        let made = allocated_is h len lawful i is_chosen fresh in
+        subst (λ (s : HeapState). Allocates s len (Ok (record { heap = h.id; at = at; serial = h.tick })) (with_region h (h.tick + 1) region)) same (record {
+          is_answer = ap (λ (m : ℕ). Ok (record { heap = h.id; at = m; serial = h.tick })) (sym is_at) ∙ sym (ap (λ (o : Outcome Name). o.answer) made);
+          is_heap = is_left ∙ sym (ap (λ (o : Outcome Name). o.heap) made);
+          no_fit = (λ f. cc, λ f. absurd (fits_some h len i lawful is_chosen f));
+          ok = (λ _. (fits_some h len i lawful is_chosen, fresh), λ _. refl);
+          lawful = subst IsLawful (sym is_left) (allocated_lawful h len lawful i is_chosen);
+        })
 
 -- the blocks of a lawful heap are of sizes that a region may have
-pub regions_of : (bs : List Block) → AllByRecursion HasRoom bs → words_in bs ≤ 2 ^ 20 → AreRegions bs
+regions_of : (bs : List Block) → AllByRecursion HasRoom bs → words_in bs ≤ 2 ^ 20 → AreRegions bs
 regions_of [] h g = tt
 regions_of (Live m s xs ∷ bs) h g = ((h.0.0, omega arith), regions_of bs h.1 (omega arith))
 regions_of (Free m s ∷ bs) h g = ((h.0, omega arith), regions_of bs h.1 (omega arith))

@@ -1,32 +1,29 @@
 -- The choice by classes: the free block of the least class that serves a request, which became free last.
-use Rattle.std.proofs.Common.{◌≡◌, ℕ, zero, suc, ◌+◌, ◌^◌, ◌<◌, ◌≤◌, nat_le, eqb, ◌||◌, true, false, List, [], ◌∷◌, length, get_or, map, Option, Some, None, refl, sym, ap, ◌∙◌, subst, inl, inr, arith, below_more}
+use Rattle.std.proofs.Common.{◌≡◌, ℕ, zero, suc, ◌^◌, ◌<◌, ◌≤◌, nat_le, eqb, ◌||◌, Bool, true, false, List, [], ◌∷◌, length, filter, Option, Some, None, refl, sym, ap, ◌∙◌, inl, inr, arith}
+use Rattle.std.specs.Prelude.{IsPermutation}
+use Rattle.std.specs.List.{list_any}
 use Rattle.std.proofs.lemmas.List.Folds.{list_any_at}
-use Rattle.std.proofs.lemmas.Bool.{cases_lt, false≢true, and_parts, and_from, leb-true, le-leb, eqb-true, eq-eqb}
+use Rattle.std.proofs.lemmas.Bool.{cases_lt, false≢true, and_from, leb-true, le-leb, eq-eqb}
 use Rattle.std.proofs.lemmas.Bool.Decides.{nat_tests}
 use Rattle.std.specs.Option.{option_map_or}
-use Rattle.tlsf_class.specs.Classes.{class_of, search_of, serves}
+use Rattle.tlsf_class.specs.Classes.{class_of, search_of, serves, classes}
 use Rattle.tlsf_class.specs.Members.{next_member}
 use Rattle.tlsf_class.proofs.ClassOfSize.{search_of-above, serves-from, class_of-bounds, HasClass}
-use Rattle.tlsf_class.proofs.Members.{next_member-filter_is, next_member-filter_is_none, IsNextMember}
+use Rattle.tlsf_class.proofs.Members.{filter-classes_same, next_member-filter_is, next_member-filter_is_none, IsNextMember}
 use Rattle.tlsf_heap.specs.Blocks.{Block, Live, Free, size_of, is_free, stamp_of}
 use Rattle.tlsf_heap.specs.Lawful.{IsRegion, AreRegions}
-use Rattle.tlsf_heap.specs.GoodFit.{is_fit, is_as_good, NoneFits, IsChoice, IsBestOf, block_at}
-use Rattle.tlsf_heap.specs.FreeClasses.{is_free_of, has_free_of, classes_of_free, NoneOf, IsLastFreed, IsLastFreedOf}
-use Rattle.tlsf_heap.specs.Shown.{shown}
-use Rattle.tlsf_heap.specs.declared.stored_block.StoredBlock.{StoredBlock}
+use Rattle.tlsf_heap.specs.GoodFit.{is_fit, is_as_good, NoneFits, IsChoice, IsBestAt, block_at}
+use Rattle.tlsf_heap.specs.FreePlaces.{free_places, has_class, classes_in, is_free_of, NoneOf, IsLastFreed, IsLastFreedAt}
+use Rattle.tlsf_heap.specs.declared.free_place.FreePlace.{FreePlace}
 use Rattle.tlsf_heap.proofs.Finding.{not_true}
+use Rattle.tlsf_heap.proofs.LastFreed.{free_and_of}
+use Rattle.tlsf_heap.proofs.Places.{has_class-listed}
 
 -- each block has a number of words that a region may have
 pub region_at : (bs : List Block) → AreRegions bs → (i : ℕ) → i < length bs → IsRegion (size_of (block_at bs i))
 region_at [] a i h = absurd (omega (arith, h))
 region_at (b ∷ bs) a zero h = a.0
 region_at (b ∷ bs) a (suc i) h = region_at bs a.1 i (omega arith)
-
--- and so has each stored block
-pub region_in : (xs : List StoredBlock) → AreRegions (map shown xs) → (i : ℕ) (d : StoredBlock) → i < length xs → IsRegion (size_of (shown (get_or xs i d)))
-region_in [] a i d h = absurd (omega (arith, h))
-region_in (x ∷ xs) a zero d h = a.0
-region_in (x ∷ xs) a (suc i) d h = region_in xs a.1 i d (omega arith)
 
 -- no block serves more words than a region may have
 pub none_above : (n : ℕ) (bs : List Block) → 2 ^ 20 < n → NoneFits n bs
@@ -36,58 +33,18 @@ none_above n bs above = λ i h. unfit (block_at bs i)
     unfit (Live m s xs) = refl
     unfit (Free m s) = ap (λ o. option_map_or (λ least. nat_le least (class_of m)) o false) (search_of-above n above)
 
+-- whether a block of the list is free and of this class
+abbrev has_free_of : List Block → ℕ → Bool
+has_free_of bs class = list_any (is_free_of class) bs
+
 -- a class of which no block is has no free block
-pub none_has : (bs : List Block) (class : ℕ) → NoneOf class bs → has_free_of bs class ≡ false
+none_has : (bs : List Block) (class : ℕ) → NoneOf class bs → has_free_of bs class ≡ false
 none_has [] class h = refl
 none_has (b ∷ bs) class h = ap (λ x. x || has_free_of bs class) (h 0 (omega arith)) ∙ none_has bs class (λ i l. h (suc i) (omega arith))
 
--- ---- the free block of a class that became free last
-
--- the one among the first i blocks, and its stamp
-pub record IsSoFar (class : ℕ) (bs : List Block) (i : ℕ) (last : Option ℕ) (latest : ℕ) : Type 0 where
-  pub seen : (j : ℕ) → j < i → is_free_of class (block_at bs j) ≡ true → stamp_of (block_at bs j) ≤ latest
-  pub none : last ≡ None → (j : ℕ) → j < i → is_free_of class (block_at bs j) ≡ false
-  pub zero_at : last ≡ None → latest ≡ 0
-  pub some : (k : ℕ) → last ≡ Some k → (k < i) × ((is_free_of class (block_at bs k) ≡ true) × (stamp_of (block_at bs k) ≡ latest))
-
-module _ (class : ℕ) (bs : List Block) (i : ℕ) (last : Option ℕ) (latest : ℕ) (so_far : IsSoFar class bs i last latest) where
-  -- the next block is a later one
-  pub later : is_free_of class (block_at bs i) ≡ true → latest ≤ stamp_of (block_at bs i) → IsSoFar class bs (i + 1) (Some i) (stamp_of (block_at bs i))
-  later here above = record {
-    seen = below_more _ _ (λ j l f. let e = so_far.seen j l f in omega arith) (λ _. omega arith);
-    none = λ e. cc;
-    zero_at = λ e. cc;
-    some = λ k e. let same : i ≡ k = cc in let P : ℕ → Type 0 = λ n. (n < i + 1) × ((is_free_of class (block_at bs n) ≡ true) × (stamp_of (block_at bs n) ≡ stamp_of (block_at bs i))) in subst P same (omega arith, (here, refl));
-  }
-
-  -- the next block is of another class
-  pub other_class : is_free_of class (block_at bs i) ≡ false → IsSoFar class bs (i + 1) last latest
-  other_class other = record {
-    seen = below_more _ _ so_far.seen (λ f. absurd (false≢true (sym other ∙ f)));
-    none = λ e. below_more _ _ (so_far.none e) other;
-    zero_at = so_far.zero_at;
-    some = λ k e. let was = so_far.some k e in (omega (arith, was.0), was.1);
-  }
-
-  -- the next block became free earlier
-  pub earlier : stamp_of (block_at bs i) < latest → IsSoFar class bs (i + 1) last latest
-  earlier below = record {
-    seen = below_more _ _ so_far.seen (λ f. omega arith);
-    none = λ e. absurd (omega (arith, so_far.zero_at e));
-    zero_at = so_far.zero_at;
-    some = λ k e. let was = so_far.some k e in (omega (arith, was.0), was.1);
-  }
-
--- over all blocks it is the answer
-pub last_freed : (class : ℕ) (bs : List Block) (last : Option ℕ) (latest : ℕ) → IsSoFar class bs (length bs) last latest → IsLastFreedOf class bs last
-last_freed class bs None latest all = all.none refl
-last_freed class bs (Some k) latest all =
-    let at = all.some k refl in
-    record { within = at.0; here = at.1.0; last = λ j l f. let e = all.seen j l f in omega (arith, at.1.1) }
-
 -- ---- the least class that serves
 
-module _ (n from : ℕ) (bs : List Block) (search : search_of n ≡ Some from) (sized : AreRegions bs) where
+module _ (n from : ℕ) (places : List FreePlace) (bs : List Block) (search : search_of n ≡ Some from) (sized : AreRegions bs) (listed : IsPermutation places (free_places 0 bs)) where
   fit_class : (b : Block) → is_fit n b ≡ true → (is_free b ≡ true) × (from ≤ class_of (size_of b))
   fit_class (Live m s xs) h = absurd (false≢true h)
   fit_class (Free m s) h = (refl, leb-true from (class_of m) (sym (serves-from n from (class_of m) search) ∙ h))
@@ -100,16 +57,20 @@ module _ (n from : ℕ) (bs : List Block) (search : search_of n ≡ Some from) (
       let class = class_of (size_of (block_at bs i)) in
       list_any_at (is_free_of class) bs i (Free 0 0) h (and_from (is_free (block_at bs i)) (eqb class class) free (eq-eqb class class refl))
 
+  -- the classes of the places are those of the free blocks
+  next_listed : next_member (classes_in places) from ≡ next_member (filter (has_free_of bs) classes) from
+  next_listed = ap (λ members. next_member members from) (filter-classes_same (has_class places) (has_free_of bs) (λ d l h. has_class-listed places bs listed d))
+
   -- no class has a free block, and none fits
-  pub none_listed : next_member (classes_of_free bs) from ≡ None → NoneFits n bs
+  pub none_listed : next_member (classes_in places) from ≡ None → NoneFits n bs
   none_listed none = λ i h. not_true _ (λ fit.
       let free = fit_class (block_at bs i) fit in
       let class = class_at i h in
-      false≢true (sym (next_member-filter_is_none (has_free_of bs) from none _ class.least free.1 class.most) ∙ has_at i h free.0))
+      false≢true (sym (next_member-filter_is_none (has_free_of bs) from (sym next_listed ∙ none) _ class.least free.1 class.most) ∙ has_at i h free.0))
 
-  module _ (class : ℕ) (next : next_member (classes_of_free bs) from ≡ Some class) where
+  module _ (class : ℕ) (next : next_member (classes_in places) from ≡ Some class) where
     is_next : IsNextMember (has_free_of bs) from class
-    is_next = next_member-filter_is (has_free_of bs) from class next
+    is_next = next_member-filter_is (has_free_of bs) from class (sym next_listed ∙ next)
 
     -- the class that was found has a free block
     has_listed : NoneOf class bs → ⊥
@@ -124,9 +85,6 @@ module _ (n from : ℕ) (bs : List Block) (search : search_of n ≡ Some from) (
           | inr fine ↦ fine
         ]
 
-    of_class : (b : Block) → is_free_of class b ≡ true → (is_free b ≡ true) × (class_of (size_of b) ≡ class)
-    of_class b h = let both = and_parts (is_free b) (eqb (class_of (size_of b)) class) h in (both.0, eqb-true (class_of (size_of b)) class both.1)
-
     good : (a b : Block) → class_of (size_of a) ≡ class → class ≤ class_of (size_of b) → (class_of (size_of b) ≡ class → stamp_of b ≤ stamp_of a) → is_as_good a b ≡ true
     good a b same above last = elim (cases_lt class (class_of (size_of b))) [
       | inl higher ↦ grind (arith, nat_tests)
@@ -136,7 +94,7 @@ module _ (n from : ℕ) (bs : List Block) (search : search_of n ≡ Some from) (
     -- the block of that class that became free last is the choice
     choice_listed : (i : ℕ) → IsLastFreed class bs i → IsChoice n bs i
     choice_listed i l =
-        let own = of_class (block_at bs i) l.here in
+        let own = free_and_of class (block_at bs i) l.here in
         record {
           within = l.within;
           fit = and_from (is_free (block_at bs i)) (serves (class_of (size_of (block_at bs i))) n) own.0
@@ -145,7 +103,7 @@ module _ (n from : ℕ) (bs : List Block) (search : search_of n ≡ Some from) (
               l.last j h (and_from (is_free (block_at bs j)) (eqb (class_of (size_of (block_at bs j))) class) (fit_class (block_at bs j) fit).0 (eq-eqb _ class same)));
         }
 
-    -- so what a search for it answers is what good fit asks
-    pub best_listed : (found : Option ℕ) → IsLastFreedOf class bs found → IsBestOf n bs found
+    -- so what a search for its place answers is what good fit asks
+    pub best_listed : (found : Option ℕ) → IsLastFreedAt class bs found → IsBestAt n bs found
     best_listed None none = absurd (has_listed none)
-    best_listed (Some i) last = choice_listed i last
+    best_listed (Some at) last = (last.0, last.1, choice_listed last.0 last.2)

@@ -1,12 +1,9 @@
 -- The free block that a list ends with.
-use Rattle.std.proofs.Common.{◌≡◌, ℕ, List, [], ◌∷◌, ◌++◌, refl, sym, ap, ◌∙◌}
-use Rattle.std.specs.Prelude.{reverse, replicate}
+use Rattle.std.proofs.Common.{◌≡◌, ℕ, List, [], ◌∷◌, ◌++◌, sym, ap, ◌∙◌}
+use Rattle.std.specs.Prelude.{reverse}
 use Rattle.std.proofs.lemmas.List.{reverse-append, reverse-reverse}
 use Rattle.tlsf_heap.specs.Blocks.{Block, Live, Free}
 use Rattle.tlsf_heap.specs.Calls.{first_free, past_free, last_free, before_free}
-use Rattle.tlsf_heap.specs.Shown.{shown}
-use Rattle.tlsf_heap.specs.declared.stored_block.StoredBlock.{StoredBlock}
-use Rattle.tlsf_heap.specs.declared.stored_block.StoredBlock.TheVariants as stored
 
 turned : (front : List Block) (b : Block) → reverse (front ++ b ∷ []) ≡ b ∷ reverse front
 turned front b = reverse-append front (b ∷ [])
@@ -18,9 +15,3 @@ pub ends_live : (front : List Block) (m s : ℕ) (xs : List ℕ) → (last_free 
 ends_live front m s xs =
     let t = turned front (Live m s xs) in
     (ap first_free t, ap (λ (l : List Block). reverse (past_free l)) t ∙ ap reverse (sym t) ∙ reverse-reverse (front ++ Live m s xs ∷ []))
-
--- a stored block that isn't free is live
-pub ends_other : (front : List Block) (x : StoredBlock) → ((m s : ℕ) → x ≡ stored.Free m s → ⊥)
-    → (last_free (front ++ shown x ∷ []) ≡ 0) × (before_free (front ++ shown x ∷ []) ≡ front ++ shown x ∷ [])
-ends_other front (stored.Live m s n) other = ends_live front m s (replicate n 0)
-ends_other front (stored.Free m s) other = absurd (other m s refl)

@@ -1,9 +1,10 @@
 -- What allocating leaves is lawful.
-use Rattle.std.proofs.Common.{◌≡◌, ◌≢◌, ℕ, ◌+◌, ◌-◌, ◌/◌, ◌<◌, ◌≤◌, List, [], ◌∷◌, ◌++◌, replicate, refl, sym, ap, ◌∙◌, subst, arith, append_assoc}
+use Rattle.std.proofs.Common.{◌≡◌, ◌≢◌, ℕ, ◌+◌, ◌-◌, ◌<◌, ◌≤◌, List, [], ◌∷◌, ◌++◌, replicate, refl, sym, ap, ◌∙◌, subst, arith, append_assoc}
 use Rattle.std.specs.List.{AllByRecursion}
 use Rattle.std.proofs.lemmas.List.{length-replicate}
 use Rattle.tlsf_heap.specs.Blocks.{Block, Live, Free, HeapState, words_in, serials, stamps, want}
 use Rattle.tlsf_heap.specs.Lawful.{IsLawful, HasRoom, AreApart, AreDistinct}
+use Rattle.tlsf_heap.specs.Regions.{RegionState}
 use Rattle.tlsf_heap.specs.Calls.{ticked}
 
 module _ {X : Type 0} (P : X → Type 0) where
@@ -81,10 +82,14 @@ apart_split m s n t r u b (Free a c ∷ Free d e ∷ front) back h = absurd h
 abbrev pub with_blocks : HeapState → List Block → HeapState
 with_blocks h bs = record { id = h.id; words = h.words; tick = h.tick; blocks = bs }
 
-module _ (h : HeapState) (front back : List Block) (m s n len : ℕ) (wanted : n ≡ want len) (lawful : IsLawful (with_blocks h (front ++ Free m s ∷ back))) where
-  room : 3 + (len + 7) / 8 ≤ n
-  room = omega arith
+-- the heap with another tick and what a region shows
+abbrev pub with_region : HeapState → ℕ → RegionState → HeapState
+with_region h tick region = record { id = h.id; words = region.words; tick = tick; blocks = region.blocks }
 
+pub region_is : (h : HeapState) (tick : ℕ) (region : RegionState) (bs : List Block) → region.words ≡ h.words → region.blocks ≡ bs → with_region h tick region ≡ record { id = h.id; words = h.words; tick = tick; blocks = bs }
+region_is h tick region bs words blocks = cc
+
+module _ (h : HeapState) (front back : List Block) (m s n len : ℕ) (wanted : n ≡ want len) (lawful : IsLawful (with_blocks h (front ++ Free m s ∷ back))) where
   total : words_in front + (m + words_in back) ≡ h.words
   total = sym (words_in-append front (Free m s ∷ back)) ∙ lawful.whole
 

@@ -1,25 +1,21 @@
 -- What releasing answers and leaves, by the index of the named block.
-use Rattle.std.proofs.Common.{◌≡◌, ℕ, suc, ◌<◌, Bool, true, false, cond, eqb, List, [], ◌∷◌, ◌++◌, length, take, drop, map, Some, None, Result, Ok, Err, sym, ap, ◌∙◌, subst, arith, eq-eqb}
-use Rattle.std.proofs.lemmas.Bool.{false≢true}
+use Rattle.std.proofs.Common.{◌≡◌, ℕ, suc, ◌+◌, ◌<◌, Bool, true, false, cond, eqb, List, ◌∷◌, ◌++◌, length, take, drop, Some, None, Result, Ok, Err, sym, ap, ◌∙◌, subst, arith, eq-eqb}
+use Rattle.std.proofs.lemmas.Bool.{false≢true, eqb-true}
 use Rattle.std.proofs.lemmas.Bool.Decides.{nat_tests}
 use Rattle.tlsf_heap.specs.Blocks.{Block, Live, Free, HeapState}
 use Rattle.tlsf_heap.specs.Lawful.{IsLawful}
-use Rattle.tlsf_heap.specs.GoodFit.{Site, sites, block_at, site_at}
+use Rattle.tlsf_heap.specs.GoodFit.{sites, block_at, site_at}
 use Rattle.tlsf_heap.specs.Calls.{Outcome, is_named, has_serial, named, coalesced, ticked, released, released_at, refused, last_tick}
+use Rattle.tlsf_heap.specs.Regions.{RegionState, StandsAt}
 use Rattle.tlsf_heap.specs.Named.{NoneNamed, IsFirst}
 use Rattle.tlsf_heap.specs.declared.name.Name.{Name}
-use Rattle.tlsf_heap.specs.Shown.{shown}
-use Rattle.tlsf_heap.specs.declared.stored_block.StoredBlock.{StoredBlock}
 use Rattle.tlsf_heap.specs.declared.refusal.Refusal.{Refusal}
 use Rattle.tlsf_heap.specs.declared.refusal.Refusal.TheVariants.{Worn, Foreign, Stale}
-use Rattle.tlsf_heap.proofs.Finding.{and_left, not_true, find_at, find_none}
-use Rattle.tlsf_heap.proofs.Sites.{length-sites, get_or-sites}
+use Rattle.tlsf_heap.proofs.Finding.{and_left, and_right, not_true, find_at, find_none}
+use Rattle.tlsf_heap.proofs.Sites.{nowhere, length-sites, get_or-sites}
 use Rattle.tlsf_heap.proofs.Allocating.{split_at}
-use Rattle.tlsf_heap.proofs.Lawfulness.{with_blocks}
+use Rattle.tlsf_heap.proofs.Lawfulness.{with_blocks, with_region, region_is}
 use Rattle.tlsf_heap.proofs.Coalescing.{lawful_coalesced}
-
-nowhere : Site
-nowhere = record { before = []; block = Free 0 0; after = [] }
 
 named_none : (name : Name) (bs : List Block) → NoneNamed name.at name.serial bs → named name bs ≡ None
 named_none name bs none =
@@ -47,19 +43,14 @@ module _ (h : HeapState) (name : Name) where
   of_own : name.heap ≡ h.id → (o : Outcome (Unit {0})) → released_at h (named name h.blocks) ≡ o → released h name ≡ o
   of_own e o f = ap (λ (b : Bool). cond b (released_at h (named name h.blocks)) (refused h Foreign)) (eq-eqb name.heap h.id e) ∙ f
 
-  released_foreign : (name.heap ≡ h.id → ⊥) → released h name ≡ refused h Foreign
-  released_foreign n =
-      let t : eqb name.heap h.id ≡ false = not_true _ (λ e. n (grind (arith, nat_tests))) in
-      ap (λ (b : Bool). cond b (released_at h (named name h.blocks)) (refused h Foreign)) t
-
   released_stale : name.heap ≡ h.id → NoneNamed name.at name.serial h.blocks → released h name ≡ refused h Stale
   released_stale e none = of_own e (refused h Stale) (ap (released_at h) (named_none name h.blocks none))
 
   module _ (i : ℕ) (first : IsFirst name.at name.serial h.blocks i) where
-    abbrev pub left : List Block
+    abbrev left : List Block
     left = coalesced h.tick (site_at h.blocks i)
 
-    abbrev pub freed : Outcome (Unit {0})
+    abbrev freed : Outcome (Unit {0})
     freed = record { answer = Ok tt; heap = ticked h left }
 
     released_worn : name.heap ≡ h.id → h.tick ≡ last_tick → released h name ≡ refused h Worn
@@ -72,7 +63,7 @@ module _ (h : HeapState) (name : Name) where
         let t : eqb h.tick last_tick ≡ false = not_true _ (λ w. n (grind (arith, nat_tests))) in
         of_own e freed (ap (released_at h) (named_is name h.blocks i first) ∙ ap (λ (b : Bool). cond b (refused h Worn) freed) t)
 
-    pub released_lawful : IsLawful h → IsLawful (ticked h left)
+    released_lawful : IsLawful h → IsLawful (ticked h left)
     released_lawful lawful =
         lawful_at h (take i h.blocks) (drop (suc i) h.blocks) (block_at h.blocks i) name.serial (and_left _ _ first.here)
         (subst (λ (l : List Block). IsLawful (with_blocks h l)) (split_at h.blocks i first.within) lawful)
@@ -81,36 +72,36 @@ module _ (h : HeapState) (name : Name) where
 pub record Releases (h : HeapState) (name : Name) (answer : Result (Unit {0}) Refusal) (left : HeapState) : Type 0 where
   pub is_answer : answer ≡ (released h name).answer
   pub is_heap : left ≡ (released h name).heap
+  pub lawful : IsLawful left
 
--- the outcomes, for a heap h that a representation shows and the heap k that it stands for
-module _ (h k : HeapState) (name : Name) (same : h ≡ k) where
-  refuses : (why : Refusal) → released h name ≡ refused h why → Releases k name (Err why) k
-  refuses why e = subst (λ (s : HeapState). Releases s name (Err why) s) same (record {
-    is_answer = sym (ap (λ (o : Outcome (Unit {0})). o.answer) e);
-    is_heap = sym (ap (λ (o : Outcome (Unit {0})). o.heap) e);
-  })
+-- the outcomes, for a heap h that a representation shows and the heap k that it stands for, by the region that is left
+module _ (h k : HeapState) (name : Name) (lawful : IsLawful h) (same : h ≡ k) (own : name.heap ≡ h.id) (region : RegionState) (words : region.words ≡ h.words) where
+  refuses : (why : Refusal) → region.blocks ≡ h.blocks → released h name ≡ refused h why → Releases k name (Err why) (with_region h h.tick region)
+  refuses why blocks e =
+      let kept = region_is h h.tick region h.blocks words blocks in
+      subst (λ (s : HeapState). Releases s name (Err why) (with_region h h.tick region)) same (record {
+        is_answer = sym (ap (λ (o : Outcome (Unit {0})). o.answer) e);
+        is_heap = kept ∙ sym (ap (λ (o : Outcome (Unit {0})). o.heap) e);
+        lawful = subst IsLawful (sym kept) lawful;
+      })
 
-  pub releases_foreign : (name.heap ≡ h.id → ⊥) → Releases k name (Err Foreign) k
-  releases_foreign other = refuses Foreign (released_foreign h name other)
+  pub releases_stale : region.blocks ≡ h.blocks → NoneNamed name.at name.serial h.blocks → Releases k name (Err Stale) (with_region h h.tick region)
+  releases_stale blocks none = refuses Stale blocks (released_stale h name own none)
 
-  pub releases_stale : name.heap ≡ h.id → NoneNamed name.at name.serial h.blocks → Releases k name (Err Stale) k
-  releases_stale own none = refuses Stale (released_stale h name own none)
+  module _ (i : ℕ) (first : IsFirst name.at name.serial h.blocks i) where
+    pub releases_worn : region.blocks ≡ h.blocks → h.tick ≡ last_tick → Releases k name (Err Worn) (with_region h h.tick region)
+    releases_worn blocks worn = refuses Worn blocks (released_worn h name i first own worn)
 
-  module _ (i : ℕ) (first : IsFirst name.at name.serial h.blocks i) (own : name.heap ≡ h.id) where
-    pub releases_worn : h.tick ≡ last_tick → Releases k name (Err Worn) k
-    releases_worn worn = refuses Worn (released_worn h name i first own worn)
-
-    pub releases_block : (blocks : List Block) → blocks ≡ left h name i first → (h.tick ≡ last_tick → ⊥) → Releases k name (Ok tt) (ticked h blocks)
-    releases_block blocks is_left fresh =
+    pub releases_block : region.blocks ≡ coalesced h.tick (site_at h.blocks i) → (h.tick ≡ last_tick → ⊥) → Releases k name (Ok tt) (with_region h (h.tick + 1) region)
+    releases_block blocks fresh =
+        let is_left = region_is h (h.tick + 1) region _ words blocks in
         let done = released_is h name i first own fresh in
-        subst (λ (s : HeapState). Releases s name (Ok tt) (ticked h blocks)) same (record {
+        subst (λ (s : HeapState). Releases s name (Ok tt) (with_region h (h.tick + 1) region)) same (record {
           is_answer = sym (ap (λ (o : Outcome (Unit {0})). o.answer) done);
-          is_heap = ap (ticked h) is_left ∙ sym (ap (λ (o : Outcome (Unit {0})). o.heap) done);
+          is_heap = is_left ∙ sym (ap (λ (o : Outcome (Unit {0})). o.heap) done);
+          lawful = subst IsLawful (sym is_left) (released_lawful h name i first lawful);
         })
 
--- what a search over the stored blocks found
-pub first_of : (at serial i : ℕ) (xs ys : List StoredBlock) → xs ≡ ys → IsFirst at serial (map shown xs) i → IsFirst at serial (map shown ys) i
-first_of at serial i xs ys e f = subst (λ (l : List StoredBlock). IsFirst at serial (map shown l) i) e f
-
-pub unnamed_of : (at serial : ℕ) (xs ys : List StoredBlock) → xs ≡ ys → NoneNamed at serial (map shown xs) → NoneNamed at serial (map shown ys)
-unnamed_of at serial xs ys e f = subst (λ (l : List StoredBlock). NoneNamed at serial (map shown l)) e f
+-- a named block begins at the place of its name
+pub named_stands : (at serial : ℕ) (bs : List Block) (i : ℕ) → IsFirst at serial bs i → StandsAt bs at i
+named_stands at serial bs i first = record { within = first.within; place = eqb-true _ _ (and_right (has_serial serial (block_at bs i)) _ first.here) }

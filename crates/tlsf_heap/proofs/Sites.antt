@@ -26,8 +26,8 @@ length-sites bs = length-sites_behind [] bs
 pub get_or-sites : (d : Site) (bs : List Block) (i : ℕ) → i < length bs → get_or (sites bs) i d ≡ site_at bs i
 get_or-sites d bs i h = get_or-sites_behind d [] bs i h
 
-none : Site
-none = record { before = []; block = Free 0 0; after = [] }
+pub nowhere : Site
+nowhere = record { before = []; block = Free 0 0; after = [] }
 
 -- no place's stamp is that of a later place
 stamp_in : (P : ℕ → Type 0) (bs : List Block) (i : ℕ) → i < length bs → is_free (block_at bs i) ≡ true → AllByRecursion P (stamps bs) → P (stamp_of (block_at bs i))
@@ -37,7 +37,7 @@ stamp_in P (Free m s ∷ bs) zero h f a = a.0
 stamp_in P (Live m s xs ∷ bs) (suc i) h f a = stamp_in P bs i (omega arith) f a
 stamp_in P (Free m s ∷ bs) (suc i) h f a = stamp_in P bs i (omega arith) f a.1
 
-pub stamps_apart : (bs : List Block) (i j : ℕ) → i < j → j < length bs → is_free (block_at bs i) ≡ true → is_free (block_at bs j) ≡ true → AreDistinct (stamps bs) → stamp_of (block_at bs i) ≢ stamp_of (block_at bs j)
+stamps_apart : (bs : List Block) (i j : ℕ) → i < j → j < length bs → is_free (block_at bs i) ≡ true → is_free (block_at bs j) ≡ true → AreDistinct (stamps bs) → stamp_of (block_at bs i) ≢ stamp_of (block_at bs j)
 stamps_apart [] i j l h f g a = absurd (omega (arith, h))
 stamps_apart (b ∷ bs) i zero l h f g a = absurd (omega (arith, l))
 stamps_apart (Live m s xs ∷ bs) zero (suc j) l h f g a = absurd (false≢true f)
@@ -54,18 +54,17 @@ as_good_both a b g h = grind (arith, nat_tests)
 
 pub fits_nothing : (n : ℕ) (bs : List Block) → NoneFits n bs → fits n bs ≡ []
 fits_nothing n bs h =
-    filter_none (λ s. is_fit n s.block) none (sites bs) (λ j l. ap (λ (s : Site). is_fit n s.block) (get_or-sites none bs j (omega (arith, length-sites bs, l))) ∙ h j (omega (arith, length-sites bs, l)))
+    filter_none (λ s. is_fit n s.block) nowhere (sites bs) (λ j l. ap (λ (s : Site). is_fit n s.block) (get_or-sites nowhere bs j (omega (arith, length-sites bs, l))) ∙ h j (omega (arith, length-sites bs, l)))
 
 pub choice_none : (n : ℕ) (bs : List Block) → NoneFits n bs → choice n bs ≡ None
-choice_none n bs h =
-    ap (find _) (filter_none (λ s. is_fit n s.block) none (sites bs) (λ j l. ap (λ (s : Site). is_fit n s.block) (get_or-sites none bs j (omega (arith, length-sites bs, l))) ∙ h j (omega (arith, length-sites bs, l))))
+choice_none n bs h = ap (find _) (fits_nothing n bs h)
 
 pub choice_is : (n : ℕ) (bs : List Block) (i : ℕ) → AreDistinct (stamps bs) → IsChoice n bs i → choice n bs ≡ Some (site_at bs i)
 choice_is n bs i apart c =
     let q : Site → Bool = λ s. is_fit n s.block in
     let p : Site → Bool = λ s. list_all (λ t. is_as_good s.block t.block) (fits n bs) in
-    let at : (j : ℕ) → j < length bs → get_or (sites bs) j none ≡ site_at bs j = get_or-sites none bs in
-    let is_best : p (site_at bs i) ≡ true = all_in (λ t. is_as_good (block_at bs i) t.block) q none (sites bs) (λ j l f.
+    let at : (j : ℕ) → j < length bs → get_or (sites bs) j nowhere ≡ site_at bs j = get_or-sites nowhere bs in
+    let is_best : p (site_at bs i) ≡ true = all_in (λ t. is_as_good (block_at bs i) t.block) q nowhere (sites bs) (λ j l f.
     let in_bs : j < length bs = omega (arith, length-sites bs, l) in
     rw (at j in_bs) (c.best j in_bs (rw (at j in_bs) at f))) in
     let worse : (j : ℕ) → j < i → (q (site_at bs j) && p (site_at bs j)) ≡ false = λ j l. not_true _ (λ e.
@@ -73,10 +72,10 @@ choice_is n bs i apart c =
     let j_fit : is_fit n (block_at bs j) ≡ true = and_left _ _ e in
     let j_best : p (site_at bs j) ≡ true = and_right (q (site_at bs j)) _ e in
     let j_good : is_as_good (block_at bs j) (block_at bs i) ≡ true =
-    rw (at i c.within) at (in_all (λ t. is_as_good (block_at bs j) t.block) q none (sites bs) j_best i (omega (arith, length-sites bs, c.within)) (rw (at i c.within) c.fit)) in
+    rw (at i c.within) at (in_all (λ t. is_as_good (block_at bs j) t.block) q nowhere (sites bs) j_best i (omega (arith, length-sites bs, c.within)) (rw (at i c.within) c.fit)) in
     stamps_apart bs j i l c.within (free_if_fit n _ j_fit) (free_if_fit n _ c.fit) apart (as_good_both (block_at bs j) (block_at bs i) j_good (c.best j j_in j_fit))) in
     find-filter p q (sites bs)
-    ∙ find_at (λ s. q s && p s) none (sites bs) i (omega (arith, length-sites bs, c.within))
+    ∙ find_at (λ s. q s && p s) nowhere (sites bs) i (omega (arith, length-sites bs, c.within))
     (rw (at i c.within) (ap (λ (b : Bool). b && p (site_at bs i)) c.fit ∙ is_best))
     (λ j l. rw (at j (omega (arith, l, c.within))) (worse j l))
     ∙ ap Some (at i c.within)

@@ -3,6 +3,7 @@ use Rattle.std.specs.Prelude.{◌≡◌, ℕ, suc, ◌<◌, List, [], ◌∷◌,
 use Rattle.std.specs.List.{list_all}
 use Rattle.tlsf_class.specs.Classes.{class_of, serves}
 use Rattle.tlsf_heap.specs.Blocks.{Block, Free, size_of, words_in, is_free, stamp_of}
+use Rattle.tlsf_heap.specs.Regions.{StandsAt}
 
 -- a block where it stands: the blocks before it, the block, and those after it
 pub record Site : Type 0 where
@@ -57,6 +58,6 @@ pub record IsChoice (n : ℕ) (blocks : List Block) (i : ℕ) : Type 0 where
   pub fit : is_fit n (block_at blocks i) ≡ true
   pub best : (j : ℕ) → j < length blocks → is_fit n (block_at blocks j) ≡ true → is_as_good (block_at blocks i) (block_at blocks j) ≡ true
 
--- what a search for the block that serves the request answers
-abbrev pub IsBestOf : ℕ → List Block → Option ℕ → Type 0
-IsBestOf n blocks found = MatchOption found (NoneFits n blocks) (IsChoice n blocks)
+-- what a search for the place of the block that serves the request answers
+abbrev pub IsBestAt : ℕ → List Block → Option ℕ → Type 0
+IsBestAt n blocks found = MatchOption found (NoneFits n blocks) (λ at. (i : ℕ) × StandsAt blocks at i × IsChoice n blocks i)

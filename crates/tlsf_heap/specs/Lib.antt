@@ -3,8 +3,10 @@ pub mod Blocks
 pub mod Lawful
 pub mod GoodFit
 pub mod Calls
-pub mod FreeClasses
-pub mod Shown
+pub mod Headers
+pub mod Image
+pub mod Regions
+pub mod FreePlaces
 pub mod Stored
 pub mod Numbers
 pub mod Named

@@ -1,5 +1,5 @@
 -- Which block a name names, for a search by index.
-use Rattle.std.specs.Prelude.{◌≡◌, ℕ, ◌<◌, List, Option, true, false, length, MatchOption}
+use Rattle.std.specs.Prelude.{◌≡◌, ℕ, ◌<◌, List, Bool, true, false, length, MatchBool}
 use Rattle.tlsf_heap.specs.Blocks.{Block}
 use Rattle.tlsf_heap.specs.GoodFit.{site_at}
 use Rattle.tlsf_heap.specs.Calls.{is_named}
@@ -14,6 +14,6 @@ pub record IsFirst (at serial : ℕ) (blocks : List Block) (i : ℕ) : Type 0 wh
   pub here : is_named at serial (site_at blocks i) ≡ true
   pub before : (j : ℕ) → j < i → is_named at serial (site_at blocks j) ≡ false
 
--- what a search for the named block answers
-abbrev pub IsFirstNamed : ℕ → ℕ → List Block → Option ℕ → Type 0
-IsFirstNamed at serial blocks found = MatchOption found (NoneNamed at serial blocks) (IsFirst at serial blocks)
+-- what the test of a name answers
+abbrev pub IsNameTest : ℕ → ℕ → List Block → Bool → Type 0
+IsNameTest at serial blocks answer = MatchBool answer ((i : ℕ) × IsFirst at serial blocks i) (NoneNamed at serial blocks)

@@ -4,17 +4,15 @@ ghost use Rattle.tlsf_heap.specs.Lawful.{IsLawful, IsRegion};
 ghost use Rattle.tlsf_heap.specs.GoodFit.{fits};
 ghost use Rattle.tlsf_heap.specs.Calls.{opened, allocated, released, last_tick};
 
-use crate::block_list::{
-    MOST_WORDS, carve, choice, coalesce, free_size, free_size_before, index_of, place_of,
-};
-use crate::free_classes::{update_carved, update_coalesced};
+use crate::fitting::{MOST_WORDS, carve, choose, coalesce};
+use crate::free_index::FreeIndex;
 use crate::name::Name;
 use crate::open_fault::OpenFault;
 use crate::refusal::Refusal;
-use crate::stored_block::StoredBlock;
+use crate::region::Region;
 use std::alloc::Global;
 use std::marker::Model;
-use tlsf_class::{Bitmaps, class_of};
+use tlsf_class::class_of;
 
 /// A heap over a region of 4 to 2^20 words, kept by two-level segregated fit (ECRTS 2004, section 3).
 ///
@@ -23,10 +21,9 @@ use tlsf_class::{Bitmaps, class_of};
 #[derive(Drop)]
 pub struct Heap {
     id: u32,
-    words: u32,
     tick: u64,
-    blocks: Vec<StoredBlock>,
-    bitmaps: Bitmaps,
+    region: Region,
+    free: FreeIndex,
 }
 
 impl Model for Heap {
@@ -67,21 +64,18 @@ impl Heap {
         if first == u64::MAX {
             return Err(OpenFault::Worn);
         }
-        let Ok(mut blocks) = Vec::with_capacity(alloc, words as usize / 4) else {
+        let Ok(mut free) = FreeIndex::open(alloc, words) else {
             return Err(OpenFault::NoMemory);
         };
-        let _ = blocks.push(StoredBlock::Free {
-            size: words,
-            stamp: first,
-        });
-        let mut bitmaps = Bitmaps::new();
-        bitmaps.set(class_of(words));
+        let Ok(region) = Region::open(alloc, words, first) else {
+            return Err(OpenFault::NoMemory);
+        };
+        free.insert(class_of(words), 0);
         Ok(Heap {
             id,
-            words,
             tick: first + 1,
-            blocks,
-            bitmaps,
+            region,
+            free,
         })
     }
 
@@ -101,22 +95,20 @@ impl Heap {
         ensures lawful { IsLawful self.new.heap }
     {
         let words = want(len);
-        let Some(i) = choice(&mut self.bitmaps, &self.blocks, words) else {
+        let Some(at) = choose(&mut self.free, &mut self.region, words) else {
             return Err(Refusal::NoFit);
         };
         if self.tick == u64::MAX {
             return Err(Refusal::Worn);
         }
-        let name = Name {
-            heap: self.id,
-            at: place_of(&self.blocks, i),
-            serial: self.tick,
-        };
-        let size = self.blocks[i].size();
-        carve(&mut self.blocks, i, words, self.tick, len);
-        update_carved(&mut self.bitmaps, &self.blocks, size, words);
+        let serial = self.tick;
+        carve(&mut self.free, &mut self.region, at, words, serial, len);
         self.tick += 1;
-        Ok(name)
+        Ok(Name {
+            heap: self.id,
+            at,
+            serial,
+        })
     }
 
     /// Takes back the block of that name, and merges it with its free neighbours. The free block that it becomes is
@@ -136,18 +128,28 @@ impl Heap {
         if name.heap != self.id {
             return Err(Refusal::Foreign);
         }
-        let Some(i) = index_of(&self.blocks, name.at, name.serial) else {
+        if !self.region.has_live(name.at, name.serial) {
             return Err(Refusal::Stale);
-        };
+        }
         if self.tick == u64::MAX {
             return Err(Refusal::Worn);
         }
-        let size = self.blocks[i].size();
-        let before = free_size_before(&self.blocks, i);
-        let after = free_size(&self.blocks, i + 1);
-        coalesce(&mut self.blocks, i, self.tick);
-        update_coalesced(&mut self.bitmaps, &self.blocks, before, size, after);
+        coalesce(&mut self.free, &mut self.region, name.at, self.tick);
         self.tick += 1;
         Ok(())
+    }
+}
+
+/// What tests see of the words.
+#[cfg(test)]
+impl Heap {
+    /// The word at a place, `None` outside the region.
+    pub fn word(&mut self, at: u32) -> Option<u64> {
+        self.region.word(at)
+    }
+
+    /// Whether a block starts at a place.
+    pub fn starts(&mut self, at: u32) -> bool {
+        self.region.starts(at)
     }
 }

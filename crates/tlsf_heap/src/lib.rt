@@ -12,14 +12,18 @@
 //! Contracts see a [`Heap`] as a list of blocks in the order of their places. Each call is one step of that list.
 #![tactic(auto)]
 
-mod block_list;
-mod free_classes;
+mod fitting;
+mod free_index;
+mod free_place;
+mod headers;
 mod heap;
 mod laws;
+#[cfg(test)]
+mod layout_tests;
 mod name;
 mod open_fault;
 mod refusal;
-mod stored_block;
+mod region;
 #[cfg(test)]
 mod tests;
 

@@ -156,3 +156,20 @@ fn refusals_have_their_numbers(rt: HostRuntime) -> Result<(), Fail> {
     assert_eq!(rt; text.as_str(), "no free block fits");
     Ok(())
 }
+
+/// The example of the README.
+fn first_block(alloc: Global) -> Result<u64, OpenFault> {
+    let mut heap = Heap::open(alloc, 0, 64, 0)?;
+    match heap.allocate(100) {
+        Ok(name) => {
+            let _ = heap.release(name);
+            Ok(name.serial)
+        }
+        Err(_) => Ok(0),
+    }
+}
+
+#[test]
+fn example_of_the_readme(rt: HostRuntime) {
+    assert_eq!(rt; first_block(rt.alloc()), Ok(1));
+}

@@ -70,6 +70,7 @@ impl Words {
         ensures free { result.free ≡ free_in (slice_index self.old.words at) }
         ensures last { result.last ≡ last_in (slice_index self.old.words at) }
         ensures back { result.back ≡ back_in (slice_index self.old.words at) }
+        ensures small { length self.old.words ≤ 2 ^ 20 }
         ensures words { self.new.words ≡ self.old.words }
         ensures starts { self.new.starts ≡ self.old.starts }
     {
@@ -190,6 +191,7 @@ impl Words {
     fn read(&mut self, at: usize) -> u64
         requires { at < length self.old.words }
         ensures value { result ≡ slice_index self.old.words at }
+        ensures small { length self.old.words ≤ 2 ^ 20 }
         ensures words { self.new.words ≡ self.old.words }
         ensures starts { self.new.starts ≡ self.old.starts }
     {

@@ -1,0 +1,135 @@
+-- What the words say of the block at a place and of its neighbours.
+use Rattle.std.proofs.Common.{◌≡◌, ℕ, zero, suc, ◌+◌, ◌^◌, ◌<◌, ◌≤◌, inl, inr, Bool, true, false, ◌&&◌, eqb, List, ◌∷◌, length, take, drop, get_or, refl, sym, ap, ◌∙◌, subst, arith}
+use Rattle.std.specs.Prelude.{◌==◌}
+use Rattle.std.proofs.lemmas.List.{drop_more, drop_all, take_all}
+use Rattle.std.proofs.lemmas.Bool.{false≢true, cases_lt, eq-eqb, eqb-true}
+use Rattle.tlsf_words.specs.Memory.{Memory}
+use Rattle.tlsf_words.specs.Fields.{size_in, last_in, free_in, back_in}
+use Rattle.tlsf_words.proofs.FieldLaws.{size_in-tag_word, last_in-tag_word, free_in-tag_word, back_in-tag_word}
+use Rattle.tlsf_heap.specs.Blocks.{Block, Live, Free, size_of, words_in, is_free}
+use Rattle.tlsf_heap.specs.GoodFit.{block_at, site_at}
+use Rattle.tlsf_heap.specs.Calls.{first_free, last_free, has_serial, is_named}
+use Rattle.tlsf_heap.specs.Image.{no_place, mark_of, StartsOnce, Shows, blocks_of}
+use Rattle.tlsf_heap.specs.Named.{NoneNamed, IsNameTest}
+use Rattle.tlsf_heap.specs.Regions.{RegionState, StandsAt, IsPlace}
+use Rattle.tlsf_heap.proofs.Edits.{first_is_last}
+use Rattle.tlsf_heap.proofs.Finding.{not_true, and_left, and_right}
+use Rattle.tlsf_heap.proofs.Showing.{word_at, start_at, back_behind, shown_here, four_here, ends_here, stands_once, place_of_start}
+use Rattle.tlsf_heap.proofs.Standing.{words_up_to, stands_next, back_next}
+
+-- the words of a region show its blocks
+pub shows_state : {m : Memory} {r : RegionState} → Shows m (blocks_of m.words) → record { words = length m.words; blocks = blocks_of m.words } ≡ r → Shows m r.blocks
+shows_state {m = m} shows same = subst (Shows m) (ap (λ (s : RegionState). s.blocks) same) shows
+
+-- words that were only read show what they showed
+pub shows_read : {m v : Memory} → v.words ≡ m.words → v.starts ≡ m.starts → Shows m (blocks_of m.words) → Shows v (blocks_of v.words)
+shows_read {m = m} {v = v} words starts h =
+    subst (λ (w : List ℕ). Shows (record { words = w; starts = v.starts }) (blocks_of w)) (sym words)
+    (subst (λ (s : List Bool). Shows (record { words = m.words; starts = s }) (blocks_of m.words)) (sym starts) h)
+
+-- what the words say of a block at a place
+pub record Says (m : Memory) (at back : ℕ) (b : Block) : Type 0 where
+  pub least : 4 ≤ size_of b
+  pub ends : at + size_of b ≤ length m.words
+  pub size : size_in (word_at m at) ≡ size_of b
+  pub last : last_in (word_at m at) ≡ eqb (at + size_of b) (length m.words)
+  pub free : free_in (word_at m at) ≡ is_free b
+  pub before : back_in (word_at m at) ≡ back
+  pub mark : word_at m (at + 1) ≡ mark_of b
+  pub starts : StartsOnce m.starts at (size_of b)
+
+-- a number that is the size of a free block, and 0 of a live one
+free_alone : (b : Block) (bs : List Block) (n : ℕ) → (is_free b ≡ true → n ≡ size_of b) → (is_free b ≡ false → n ≡ 0) → n ≡ first_free (b ∷ bs)
+free_alone (Live size serial bytes) bs n free live = live refl
+free_alone (Free size stamp) bs n free live = free refl
+
+pub has_serial-live : (b : Block) (serial : ℕ) → is_free b ≡ false → has_serial serial b ≡ (mark_of b == serial)
+has_serial-live (Live size own bytes) serial live = refl
+has_serial-live (Free size stamp) serial live = absurd (false≢true (sym live))
+
+pub has_serial-free : (b : Block) (serial : ℕ) → is_free b ≡ true → has_serial serial b ≡ false
+has_serial-free (Live size own bytes) serial free = absurd (false≢true free)
+has_serial-free (Free size stamp) serial free = refl
+
+-- what an answer of `free_size` says
+pub record FreeSize (words : List ℕ) (at n : ℕ) : Type 0 where
+  pub free : at < length words → free_in (get_or words at 0) ≡ true → n ≡ size_in (get_or words at 0)
+  pub live : at < length words → free_in (get_or words at 0) ≡ false → n ≡ 0
+  pub outside : length words ≤ at → n ≡ 0
+
+module _ {m : Memory} {bs : List Block} (shows : Shows m bs) where
+  module _ {at i : ℕ} (stands : StandsAt bs at i) where
+    pub says_here : Says m at (back_behind 0 no_place (take i bs)) (block_at bs i)
+    says_here =
+        let shown = shown_here m bs shows at i stands in
+        let ends = ends_here m bs shows at i stands in
+        let small : size_of (block_at bs i) < 2 ^ 30 = omega (arith, shows.small) in
+        record {
+          least = four_here m bs shows at i stands;
+          ends = ends;
+          size = ap size_in shown.tag ∙ size_in-tag_word _ _ _ _ small;
+          last = ap last_in shown.tag ∙ last_in-tag_word _ _ _ _ small;
+          free = ap free_in shown.tag ∙ free_in-tag_word _ _ _ _;
+          before = ap back_in shown.tag ∙ back_in-tag_word _ _ _ _ small;
+          mark = shown.mark;
+          starts = shown.starts;
+        }
+
+    -- the region ends with the last block
+    pub ends_last : length bs ≤ i + 1 → at + size_of (block_at bs i) ≡ length m.words
+    ends_last none = let all = ap words_in (take_all (i + 1) bs none) in omega (arith, words_up_to stands, shows.whole)
+
+    free_here : {n : ℕ} → FreeSize m.words at n → n ≡ first_free (drop i bs)
+    free_here {n = n} answer =
+        let says = says_here in
+        let inside : at < length m.words = omega arith in
+        free_alone (block_at bs i) (drop (i + 1) bs) n (λ free. answer.free inside (says.free ∙ free) ∙ says.size) (λ live. answer.live inside (says.free ∙ live))
+        ∙ ap first_free (sym (drop_more bs i (Free 0 0) stands.within))
+
+  -- a place of the region is within its words
+  pub in_region : {at : ℕ} → IsPlace bs at → at + 4 ≤ length m.words
+  in_region place = let says = says_here place.1 in omega arith
+
+  -- a block begins where a start bit says so
+  pub starts_here : {at n : ℕ} {starts : Bool} → n ≡ length m.words → at < n → starts ≡ start_at m at → starts ≡ true → IsPlace bs at
+  starts_here {at = at} long inside read set = place_of_start m bs at shows (omega arith) (sym read ∙ set)
+
+  -- the free size behind a block is what the list behind it begins with
+  pub free_behind : {at i n : ℕ} → StandsAt bs at i → FreeSize m.words (at + size_of (block_at bs i)) n → n ≡ first_free (drop (i + 1) bs)
+  free_behind {i = i} stands answer = elim (cases_lt (i + 1) (length bs)) [
+    | inl more ↦ free_here (stands_next stands more) answer
+    | inr none ↦ answer.outside (omega (arith, ends_last stands none)) ∙ ap first_free (sym (drop_all (i + 1) bs none))
+  ]
+
+  -- the free size at the place before a block is what the list before it ends with
+  pub free_before_it : {at i n : ℕ} → StandsAt bs at i → FreeSize m.words (back_behind 0 no_place (take i bs)) n → n ≡ last_free (take i bs)
+  free_before_it {i = zero} stands answer = answer.outside (omega (arith, shows.small))
+  free_before_it {i = suc j} {n = n} stands answer =
+      let more : j + 1 ≡ suc j = omega arith in
+      let within : j < length bs = omega (arith, stands.within) in
+      let before : StandsAt bs (words_in (take j bs)) j = record { within = within; place = refl } in
+      let place : back_behind 0 no_place (take (suc j) bs) ≡ words_in (take j bs) = ap (λ (k : ℕ). back_behind 0 no_place (take k bs)) (sym more) ∙ back_next before in
+      free_here before (subst (λ (k : ℕ). FreeSize m.words k n) place answer) ∙ first_is_last bs j (suc j) more within
+
+  -- no block is named where none that begins there has the serial
+  pub none_named : (at serial : ℕ) → ((i : ℕ) → StandsAt bs at i → has_serial serial (block_at bs i) ≡ false) → NoneNamed at serial bs
+  none_named at serial other i within =
+      not_true (is_named at serial (site_at bs i)) (λ e.
+      let place : words_in (take i bs) ≡ at = eqb-true _ _ (and_right (has_serial serial (block_at bs i)) _ e) in
+      false≢true (sym (other i (record { within = within; place = place })) ∙ and_left (has_serial serial (block_at bs i)) _ e))
+
+  -- where a block begins at the place, its serial decides
+  pub named_here : {at i : ℕ} (serial : ℕ) → StandsAt bs at i → (answer : Bool) → has_serial serial (block_at bs i) ≡ answer → IsNameTest at serial bs answer
+  named_here {at = at} {i = i} serial stands true e = (
+    i,
+    record {
+      within = stands.within;
+      here = ap (λ (b : Bool). b && words_in (take i bs) == at) e ∙ eq-eqb _ _ stands.place;
+      before = λ j l. not_true (is_named at serial (site_at bs j)) (λ f.
+          let place : words_in (take j bs) ≡ at = eqb-true _ _ (and_right (has_serial serial (block_at bs j)) _ f) in
+          let same = stands_once bs at j i shows.rooms (record { within = omega (arith, l, stands.within); place = place }) stands in
+          omega (arith, l, same));
+    },
+  )
+  named_here {at = at} {i = i} serial stands false e =
+      none_named at serial (λ j other. ap (λ (k : ℕ). has_serial serial (block_at bs k)) (stands_once bs at j i shows.rooms other stands) ∙ e)

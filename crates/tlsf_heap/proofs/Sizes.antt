@@ -1,0 +1,144 @@
+-- A block where it stands, and the words, free neighbours and places around it.
+use Rattle.std.proofs.Common.{◌≡◌, ℕ, zero, suc, ◌+◌, ◌*◌, ◌<◌, ◌≤◌, true, List, [], ◌∷◌, ◌++◌, length, get_or, take, drop, refl, sym, ap, ◌∙◌, subst, arith, add-one, append_assoc, length-take-le, length-append}
+use Rattle.std.proofs.lemmas.List.{take_at, drop_at, get_or_at}
+use Rattle.std.proofs.lemmas.Bool.{false≢true}
+use Rattle.tlsf_class.specs.Classes.{class_of}
+use Rattle.tlsf_heap.specs.Blocks.{Block, Live, Free, size_of, words_in, is_free, stamp_of}
+use Rattle.tlsf_heap.specs.Lawful.{IsRegion, AreRegions}
+use Rattle.tlsf_heap.specs.GoodFit.{block_at}
+use Rattle.tlsf_heap.specs.Regions.{StandsAt}
+use Rattle.tlsf_heap.specs.FreePlaces.{free_places}
+use Rattle.tlsf_heap.specs.declared.free_place.FreePlace.{FreePlace}
+use Rattle.tlsf_heap.specs.Calls.{first_free, past_free, last_free, before_free}
+use Rattle.tlsf_heap.proofs.Lawfulness.{all_left, all_right, words_in-append}
+use Rattle.tlsf_heap.proofs.Allocating.{split_at}
+use Rattle.tlsf_heap.proofs.Coalescing.{by_last}
+use Rattle.tlsf_heap.proofs.Places.{free_places-append}
+
+-- block i of a list begins at a place, behind the blocks `front` and before the blocks `back`
+pub record Around (blocks : List Block) (at i : ℕ) (front : List Block) (block : Block) (back : List Block) : Type 0 where
+  pub is : blocks ≡ front ++ block ∷ back
+  pub before : length front ≡ i
+  pub place : words_in front ≡ at
+
+pub around : (blocks : List Block) (at i : ℕ) → StandsAt blocks at i → Around blocks at i (take i blocks) (block_at blocks i) (drop (i + 1) blocks)
+around blocks at i stands = record {
+  is = split_at blocks i stands.within ∙ ap (λ (n : ℕ). take i blocks ++ block_at blocks i ∷ drop n blocks) (sym (add-one i));
+  before = let within = stands.within in length-take-le i blocks (omega arith);
+  place = stands.place;
+}
+
+-- a block of sizes that a region may have begins at one place
+index_at : (bs : List Block) (i j : ℕ) → AreRegions bs → i < length bs → j < length bs → words_in (take i bs) ≡ words_in (take j bs) → i ≡ j
+index_at [] i j sized h g e = absurd (omega (arith, h))
+index_at (b ∷ bs) zero zero sized h g e = refl
+index_at (b ∷ bs) zero (suc j) sized h g e = absurd (omega (arith, sized.0.0, e))
+index_at (b ∷ bs) (suc i) zero sized h g e = absurd (omega (arith, sized.0.0, e))
+index_at (b ∷ bs) (suc i) (suc j) sized h g e = ap suc (index_at bs i j sized.1 (omega (arith, h)) (omega (arith, g)) (omega (arith, e)))
+
+pub one_index : (bs : List Block) (at i j : ℕ) → AreRegions bs → StandsAt bs at i → StandsAt bs at j → i ≡ j
+one_index bs at i j sized s t = index_at bs i j sized s.within t.within (s.place ∙ sym t.place)
+
+module _ {bs : List Block} {at i : ℕ} {front : List Block} {b : Block} {back : List Block} (a : Around bs at i front b back) where
+  pub take_around : take i bs ≡ front
+  take_around = ap (take i) a.is ∙ take_at front (b ∷ back) i a.before
+
+  pub block_around : block_at bs i ≡ b
+  block_around = ap (λ (l : List Block). get_or l i (Free 0 0)) a.is ∙ get_or_at front b back (Free 0 0) i a.before
+
+  pub drop_around : drop (i + 1) bs ≡ back
+  drop_around =
+      let e : length (front ++ b ∷ []) ≡ i + 1 = omega (arith, length-append front (b ∷ []), a.before) in
+      ap (drop (i + 1)) (a.is ∙ sym (append_assoc front (b ∷ []) back)) ∙ drop_at (front ++ b ∷ []) back (i + 1) e
+
+  pub stands_around : StandsAt bs at i
+  stands_around = record {
+    within = omega (arith, ap length a.is, length-append front (b ∷ back), a.before);
+    place = ap words_in take_around ∙ a.place;
+  }
+
+  -- a block is replaced
+  pub edited : (xs new : List Block) → new ≡ take i bs ++ xs ++ drop (i + 1) bs → new ≡ front ++ (xs ++ back)
+  edited xs new e = e ∙ append_assoc (take i bs) xs (drop (i + 1) bs) ∙ ap (λ (l : List Block). l ++ (xs ++ drop (i + 1) bs)) take_around ∙ ap (λ (l : List Block). front ++ (xs ++ l)) drop_around
+
+  pub words_around : words_in bs ≡ at + size_of b + words_in back
+  words_around = ap words_in a.is ∙ omega (arith, words_in-append front (b ∷ back), a.place)
+
+  pub length_around : length bs ≡ length front + length back + 1
+  length_around = ap length a.is ∙ omega (arith, length-append front (b ∷ back))
+
+  pub region_around : AreRegions bs → IsRegion (size_of b)
+  region_around sized = (all_right (λ x. IsRegion (size_of x)) front (b ∷ back) (subst AreRegions a.is sized)).0
+
+  pub regions_front : AreRegions bs → AreRegions front
+  regions_front sized = all_left (λ x. IsRegion (size_of x)) front (b ∷ back) (subst AreRegions a.is sized)
+
+  pub regions_back : AreRegions bs → AreRegions back
+  regions_back sized = (all_right (λ x. IsRegion (size_of x)) front (b ∷ back) (subst AreRegions a.is sized)).1
+
+-- each block has four words
+pub regions_many : (bs : List Block) → AreRegions bs → 4 * length bs ≤ words_in bs
+regions_many [] sized = omega arith
+regions_many (b ∷ bs) sized = let e = regions_many bs sized.1 in omega (arith, sized.0.0)
+
+pub free_as : (b : Block) → is_free b ≡ true → b ≡ Free (size_of b) (stamp_of b)
+free_as (Live m s xs) e = absurd (false≢true e)
+free_as (Free m s) e = refl
+
+-- ---- free neighbours
+
+-- the free block that a list begins with, and those behind it
+pub next_is : (bs : List Block) → 0 < first_free bs → (s : ℕ) × (bs ≡ Free (first_free bs) s ∷ past_free bs)
+next_is [] h = absurd (omega (arith, h))
+next_is (Live m s xs ∷ bs) h = absurd (omega (arith, h))
+next_is (Free m s ∷ bs) h = (s, refl)
+
+pub next_none : (bs : List Block) → AreRegions bs → first_free bs ≡ 0 → past_free bs ≡ bs
+next_none [] sized e = refl
+next_none (Live m s xs ∷ bs) sized e = refl
+next_none (Free m s ∷ bs) sized e = absurd (omega (arith, sized.0.0, e))
+
+pub first_region : (bs : List Block) → AreRegions bs → 0 < first_free bs → IsRegion (first_free bs)
+first_region [] a h = absurd (omega (arith, h))
+first_region (Live m s xs ∷ bs) a h = absurd (omega (arith, h))
+first_region (Free m s ∷ bs) a h = a.0
+
+-- the free block that a list ends with, and those before it
+pub last_is : (bs : List Block) → 0 < last_free bs → (s : ℕ) × (bs ≡ before_free bs ++ Free (last_free bs) s ∷ [])
+last_is bs = by_last (λ all size rest. 0 < size → (s : ℕ) × (all ≡ rest ++ Free size s ∷ [])) bs
+    (λ h. absurd (omega (arith, h)))
+    (λ front m s xs h. absurd (omega (arith, h)))
+    (λ front m s h. (s, refl))
+
+pub last_none : (bs : List Block) → AreRegions bs → last_free bs ≡ 0 → before_free bs ≡ bs
+last_none bs = by_last (λ all size rest. AreRegions all → size ≡ 0 → rest ≡ all) bs
+    (λ a e. refl)
+    (λ front m s xs a e. refl)
+    (λ front m s a e. absurd (omega (arith, e, (all_right (λ b. IsRegion (size_of b)) front (Free m s ∷ []) a).0.0)))
+
+pub last_region : (bs : List Block) → AreRegions bs → 0 < last_free bs → IsRegion (last_free bs)
+last_region bs = by_last (λ all size rest. AreRegions all → 0 < size → IsRegion size) bs
+    (λ a h. absurd (omega (arith, h)))
+    (λ front m s xs a h. absurd (omega (arith, h)))
+    (λ front m s a h. (all_right (λ b. IsRegion (size_of b)) front (Free m s ∷ []) a).0)
+
+pub last_words : (bs : List Block) → words_in (before_free bs) + last_free bs ≡ words_in bs
+last_words bs = by_last (λ all size rest. words_in rest + size ≡ words_in all) bs
+    (omega arith)
+    (λ front m s xs. omega arith)
+    (λ front m s. omega (arith, words_in-append front (Free m s ∷ [])))
+
+-- ---- places of free blocks
+
+pub length-free_places : (at : ℕ) (bs : List Block) → length (free_places at bs) ≤ length bs
+length-free_places at [] = omega arith
+length-free_places at (Live m s b ∷ bs) = let e = length-free_places (at + m) bs in omega arith
+length-free_places at (Free m s ∷ bs) = let e = length-free_places (at + m) bs in omega arith
+
+-- the place of a free block of `size` words
+abbrev pub place : ℕ → ℕ → FreePlace
+place size at = record { class = class_of size; at = at }
+
+-- the places behind the blocks `front`, which end at a place
+pub places_behind : (front back : List Block) (at : ℕ) → words_in front ≡ at → free_places 0 (front ++ back) ≡ free_places 0 front ++ free_places at back
+places_behind front back at e = free_places-append 0 front back ∙ ap (λ (n : ℕ). free_places 0 front ++ free_places n back) (omega (arith, e))

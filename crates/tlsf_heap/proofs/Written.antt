@@ -1,0 +1,16 @@
+-- What the writes of a header leave.
+use Rattle.std.proofs.Common.{◌≡◌, ℕ, ◌+◌, ◌<◌, ◌≤◌, ◌^◌, List, ◌++◌, length, get_or, take, drop, replicate, ◌∙◌, arith, length-take-le, length-append, get_or-take}
+use Rattle.std.proofs.lemmas.List.{get_or_append_left}
+use Rattle.tlsf_words.specs.Fields.{size_in, low_half}
+
+-- a header says a size below 2^30
+pub size_in_below : (word : ℕ) → size_in word < 2 ^ 30
+unfolding size_in low_half
+size_in_below word = omega arith
+
+-- words before those that are made zero stay
+pub zeroed_before : (words : List ℕ) (at n k : ℕ) → k < at → at ≤ length words → get_or (take at words ++ replicate n 0 ++ drop (at + n) words) k 0 ≡ get_or words k 0
+zeroed_before words at n k before inside =
+    let l = length-take-le at words inside in
+    get_or_append_left (take at words ++ replicate n 0) (drop (at + n) words) 0 k (omega (arith, length-append (take at words) (replicate n 0)))
+    ∙ get_or_append_left (take at words) (replicate n 0) 0 k (omega arith) ∙ get_or-take at words k 0 before

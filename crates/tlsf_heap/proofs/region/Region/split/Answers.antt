@@ -1,0 +1,27 @@
+-- The clauses of `split_header` are a split of the words, and so one of the blocks.
+use Rattle.std.proofs.Common.{arith}
+use Rattle.tlsf_heap.proofs.Reading.{shows_state, says_here}
+use Rattle.tlsf_heap.proofs.Splitting.{Splits, splits_blocks}
+use Rattle.tlsf_heap.proofs.region.Region.split.Goals as goal
+
+pub split_header-requires : goal.split_header-requires
+split_header-requires c =
+    let says = says_here (shows_state c.self.invariant c.self.view_is) c.requires.rest.1 in
+    record { least = c.requires.least; rest = omega (arith, c.requires.rest.2); within = omega arith }
+
+splits : (c : goal.After-split_header) → Splits c.self.inside.words c.split_header.new.words c.args.at c.args.size c.args.stamp
+splits c =
+    let e = c.split_header.ensures in
+    record {
+      front = e.front;
+      front_mark = e.front_mark;
+      rest = e.rest;
+      rest_mark = e.rest_mark;
+      keeps = record { before = e.before; behind = e.behind; next = e.next; length = e.length; starts = e.starts };
+    }
+
+pub invariant_of-self : goal.invariant_of-self
+invariant_of-self c = (splits_blocks (shows_state c.self.invariant c.self.view_is) c.requires.least (splits c) c.requires.rest).shows
+
+pub returns-clause-blocks : goal.returns-clause-blocks
+returns-clause-blocks c = (splits_blocks (shows_state c.self.invariant c.self.view_is) c.requires.least (splits c) c.requires.rest).blocks

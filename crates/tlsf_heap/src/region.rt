@@ -1,0 +1,169 @@
+ghost use Rattle.std.specs.Prelude.{◌≡◌, ℕ, ◌+◌, ◌-◌, ◌<◌, ◌≤◌, ◌^◌, [], ◌∷◌, ◌++◌, length, take, drop, replicate, IfOk};
+ghost use Rattle.tlsf_heap.specs.Blocks.{Live, Free, size_of, words_for};
+ghost use Rattle.tlsf_heap.specs.GoodFit.{block_at};
+ghost use Rattle.tlsf_heap.specs.Calls;
+ghost use Rattle.tlsf_heap.specs.Image.{mark_of};
+ghost use Rattle.tlsf_heap.specs.Named.{IsNameTest};
+ghost use Rattle.tlsf_heap.specs.Regions.{StandsAt, IsPlace};
+
+use crate::headers::{
+    first_header, free_header, free_size, live_header, merge_headers, split_header,
+};
+use std::alloc::Global;
+use std::marker::Model;
+use tlsf_words::{NoMemory, Words};
+
+/// The words of a region, seen as the blocks that they show, one behind the other. A block is known by its place. Sizes and
+/// places are in words. Nothing but `open` allocates.
+#[derive(Drop)]
+pub struct Region {
+    words: Words,
+}
+
+impl Model for Region {
+    ghost use Rattle.std.specs.Prelude.{length};
+    ghost use Rattle.tlsf_heap.specs.Regions.{RegionState};
+    ghost use Rattle.tlsf_heap.specs.Image.{Shows, blocks_of};
+
+    ghost Value = { RegionState };
+
+    ghost view = { λ r. record { words = length r.words.words; blocks = blocks_of r.words.words } };
+
+    ghost invariant = { λ r. Shows r.words (blocks_of r.words.words) };
+}
+
+impl Region {
+    /// A region of so many words, 4 to 2^20, that is one free block.
+    pub fn open(alloc: Global, words: u32, stamp: u64) -> Result<Region, NoMemory>
+        requires least { 4 ≤ words }
+        requires most { words ≤ 2 ^ 20 }
+        ensures words { IfOk result (λ region. region.words ≡ words) }
+        ensures blocks { IfOk result (λ region. region.blocks ≡ Free words stamp ∷ []) }
+    {
+        let mut region = Words::open(alloc, words)?;
+        first_header(&mut region, stamp);
+        Ok(Region { words: region })
+    }
+
+    /// The size of the block at a place.
+    pub fn size(&mut self, at: u32) -> u32
+        requires { IsPlace self.old.blocks at }
+        ensures value { (i : ℕ) → StandsAt self.old.blocks at i → result ≡ size_of (block_at self.old.blocks i) }
+        ensures words { self.new.words ≡ self.old.words }
+        ensures blocks { self.new.blocks ≡ self.old.blocks }
+    {
+        self.words.tag(at).size
+    }
+
+    /// The serial of the live block at a place, or the stamp of the free one.
+    pub fn mark(&mut self, at: u32) -> u64
+        requires { IsPlace self.old.blocks at }
+        ensures value { (i : ℕ) → StandsAt self.old.blocks at i → result ≡ mark_of (block_at self.old.blocks i) }
+        ensures words { self.new.words ≡ self.old.words }
+        ensures blocks { self.new.blocks ≡ self.old.blocks }
+    {
+        self.words.mark(at)
+    }
+
+    /// Whether a live block begins at a place, of all numbers, and has this serial. No word is read unless a block begins there.
+    pub fn has_live(&mut self, at: u32, serial: u64) -> bool
+        ensures answer { IsNameTest at serial self.old.blocks result }
+        ensures words { self.new.words ≡ self.old.words }
+        ensures blocks { self.new.blocks ≡ self.old.blocks }
+    {
+        if at >= self.words.len() || !self.words.starts(at) {
+            return false;
+        }
+        !self.words.tag(at).free && self.words.mark(at) == serial
+    }
+
+    /// The size of the block behind the one at a place where that is free, or 0.
+    pub fn free_after(&mut self, at: u32) -> u32
+        requires { IsPlace self.old.blocks at }
+        ensures value { (i : ℕ) → StandsAt self.old.blocks at i → result ≡ Calls.first_free (drop (i + 1) self.old.blocks) }
+        ensures words { self.new.words ≡ self.old.words }
+        ensures blocks { self.new.blocks ≡ self.old.blocks }
+    {
+        let size = self.words.tag(at).size;
+        free_size(&mut self.words, at + size)
+    }
+
+    /// The size of the block before the one at a place where that is free, or 0.
+    pub fn free_before(&mut self, at: u32) -> u32
+        requires { IsPlace self.old.blocks at }
+        ensures value { (i : ℕ) → StandsAt self.old.blocks at i → result ≡ Calls.last_free (take i self.old.blocks) }
+        ensures words { self.new.words ≡ self.old.words }
+        ensures blocks { self.new.blocks ≡ self.old.blocks }
+    {
+        let back = self.words.tag(at).back;
+        free_size(&mut self.words, back)
+    }
+
+    /// Makes the block at a place two free ones, of `size` words and of the rest, which has this stamp.
+    pub fn split(&mut self, at: u32, size: u32, stamp: u64)
+        requires least { 4 ≤ size }
+        requires rest { (i : ℕ) × StandsAt self.old.blocks at i × (size + 4 ≤ size_of (block_at self.old.blocks i)) }
+        ensures words { self.new.words ≡ self.old.words }
+        ensures blocks { (i : ℕ) → StandsAt self.old.blocks at i → self.new.blocks ≡ take i self.old.blocks
+            ++ (Free size (mark_of (block_at self.old.blocks i)) ∷ Free (size_of (block_at self.old.blocks i) - size) stamp ∷ [])
+            ++ drop (i + 1) self.old.blocks }
+    {
+        split_header(&mut self.words, at, size, stamp);
+    }
+
+    /// Makes the block at a place a live one with `len` bytes of payload, all zero.
+    pub fn make_live(&mut self, at: u32, serial: u64, len: u32)
+        requires room { (i : ℕ) × StandsAt self.old.blocks at i × (words_for len ≤ size_of (block_at self.old.blocks i)) }
+        ensures words { self.new.words ≡ self.old.words }
+        ensures blocks { (i : ℕ) → StandsAt self.old.blocks at i → self.new.blocks ≡ take i self.old.blocks
+            ++ (Live (size_of (block_at self.old.blocks i)) serial (replicate len 0) ∷ []) ++ drop (i + 1) self.old.blocks }
+    {
+        live_header(&mut self.words, at, serial, len);
+    }
+
+    /// Makes the block at a place a free one.
+    pub fn make_free(&mut self, at: u32, stamp: u64)
+        requires { IsPlace self.old.blocks at }
+        ensures words { self.new.words ≡ self.old.words }
+        ensures blocks { (i : ℕ) → StandsAt self.old.blocks at i → self.new.blocks ≡ take i self.old.blocks
+            ++ (Free (size_of (block_at self.old.blocks i)) stamp ∷ []) ++ drop (i + 1) self.old.blocks }
+    {
+        free_header(&mut self.words, at, stamp);
+    }
+
+    /// Makes the block at a place and the one behind it one free block.
+    pub fn merge(&mut self, at: u32, stamp: u64)
+        requires { (i : ℕ) × StandsAt self.old.blocks at i × (i + 1 < length self.old.blocks) }
+        ensures words { self.new.words ≡ self.old.words }
+        ensures blocks { (i : ℕ) → StandsAt self.old.blocks at i → self.new.blocks ≡ take i self.old.blocks
+            ++ (Free (size_of (block_at self.old.blocks i) + size_of (block_at self.old.blocks (i + 1))) stamp ∷ []) ++ drop (i + 2) self.old.blocks }
+    {
+        merge_headers(&mut self.words, at, stamp);
+    }
+}
+
+/// What tests see of the words.
+#[cfg(test)]
+impl Region {
+    /// The word at a place, `None` outside the region.
+    #[tactic(auto, using(crate::proofs::Reading::shows_read))]
+    pub fn word(&mut self, at: u32) -> Option<u64>
+        ensures words { self.new.words ≡ self.old.words }
+        ensures blocks { self.new.blocks ≡ self.old.blocks }
+    {
+        if at < self.words.len() {
+            Some(self.words.word(at))
+        } else {
+            None
+        }
+    }
+
+    /// Whether a block starts at a place.
+    #[tactic(auto, using(crate::proofs::Reading::shows_read))]
+    pub fn starts(&mut self, at: u32) -> bool
+        ensures words { self.new.words ≡ self.old.words }
+        ensures blocks { self.new.blocks ≡ self.old.blocks }
+    {
+        at < self.words.len() && self.words.starts(at)
+    }
+}
