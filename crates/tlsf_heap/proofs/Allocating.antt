@@ -9,7 +9,7 @@ use Rattle.tlsf_heap.specs.Blocks.{Block, Live, Free, HeapState, size_of, words_
 use Rattle.tlsf_heap.specs.Lawful.{IsLawful, HasRoom, AreRegions}
 use Rattle.tlsf_heap.specs.Regions.{RegionState}
 use Rattle.tlsf_heap.specs.GoodFit.{Site, is_fit, fits, is_as_good, choice, NoneFits, IsChoice, block_at, site_at}
-use Rattle.tlsf_heap.specs.Calls.{carved, ticked, allocated, allocated_at, refused, Outcome, last_tick}
+use Rattle.tlsf_heap.specs.Calls.{with_blocks, carved, ticked, allocated, allocated_at, refused, Outcome, last_tick}
 use Rattle.tlsf_heap.specs.declared.name.Name.{Name}
 use Rattle.tlsf_heap.specs.declared.refusal.Refusal.{Refusal}
 use Rattle.tlsf_heap.specs.declared.refusal.Refusal.TheVariants.{NoFit, Worn}
@@ -17,7 +17,7 @@ use Rattle.tlsf_heap.proofs.Finding.{not_true}
 use Rattle.tlsf_class.proofs.ClassOfSize.{le_from_serves}
 use Rattle.tlsf_heap.proofs.Sites.{choice_none, choice_is, fits_nothing}
 use Rattle.tlsf_heap.proofs.Edits.{carved_small, carved_large}
-use Rattle.tlsf_heap.proofs.Lawfulness.{lawful_split, lawful_whole, with_blocks, with_region, region_is}
+use Rattle.tlsf_heap.proofs.Lawfulness.{lawful_split, lawful_whole, with_region, region_is}
 
 -- each block has four words
 blocks_many : (bs : List Block) → AllByRecursion HasRoom bs → 4 * length bs ≤ words_in bs

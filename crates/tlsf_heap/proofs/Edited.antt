@@ -10,12 +10,13 @@ use Rattle.tlsf_words.proofs.FieldLaws.{tag_word-fields}
 use Rattle.tlsf_heap.specs.Blocks.{Block, Live, Free, size_of, words_in, is_free, words_for}
 use Rattle.tlsf_heap.specs.GoodFit.{block_at}
 use Rattle.tlsf_heap.specs.Headers.{with_back, end_in}
-use Rattle.tlsf_heap.specs.Image.{no_place, mark_of, HoldsPayload, BlockAt, ShowsFrom, Shows, blocks_of, byte_in, bytes_at}
+use Rattle.tlsf_heap.specs.Image.{no_place, mark_of, HoldsPayload, BlockAt, ShowsFrom, Shows, blocks_of}
+use Rattle.tlsf_words.specs.Bytes.{byte_in, bytes_in}
 use Rattle.tlsf_heap.specs.Lawful.{HasRoom}
 use Rattle.tlsf_heap.specs.Regions.{StandsAt, IsPlace}
-use Rattle.tlsf_heap.proofs.Showing.{word_at, start_at, back_behind, stands_once, blocks_replaced}
+use Rattle.tlsf_heap.proofs.Showing.{word_at, start_at, back_behind, blocks_replaced}
 use Rattle.tlsf_heap.proofs.Standing.{around, stands_next, back_next}
-use Rattle.tlsf_heap.proofs.Reading.{says_here, ends_last}
+use Rattle.tlsf_heap.proofs.Reading.{at_index, says_here, ends_last}
 
 -- words show these blocks, and read as them
 abbrev pub ReadsAs : Memory → List Block → Type 0
@@ -72,11 +73,11 @@ module _ {m v : Memory} {bs : List Block} (shows : Shows m bs) {at : ℕ} where
       })
       (subst (Shows m) (sym whole) shows)
 
-  -- a place has one index, so what is shown where it has a property is shown at each
+  -- what is shown where the place's index has a property is shown at each
   pub leaves : {new : ℕ → List Block} (P : ℕ → Type 0) → (i : ℕ) × StandsAt bs at i × P i
       → ((i : ℕ) → StandsAt bs at i → P i → ReadsAs v (new i)) → Leaves v bs at new
   leaves P found each = record {
-    blocks = λ i stands. (each i stands (subst P (stands_once bs at found.0 i shows.rooms found.1 stands) found.2)).0;
+    blocks = λ i stands. (each i stands (at_index shows P found stands)).0;
     shows = (each found.0 found.1 found.2).1;
   }
 
@@ -115,7 +116,7 @@ module _ {m v : Memory} {bs : List Block} (shows : Shows m bs) {at i : ℕ} (sta
         starts = rw (changes.starts, changes.size) says.starts;
       }
 
-  one_changed : ReadsAs v (take i bs ++ (new ∷ []) ++ drop (i + 1) bs)
+  pub one_changed : ReadsAs v (take i bs ++ (new ∷ []) ++ drop (i + 1) bs)
   one_changed =
       let says = says_here shows stands in
       let keeps : Keeps m v at (at + size_of (block_at bs i)) at at (start_at m at) = record {
@@ -163,8 +164,8 @@ zero_map words from (suc len) zeros =
     ∙ ap (λ (xs : List ℕ). 0 ∷ xs) (zero_map words (from + 1) len (λ k a b. zeros k (omega arith) (omega arith)))
 
 -- the bytes of zero words are zero
-pub zero_bytes : (words : List ℕ) (at len : ℕ) → ((k : ℕ) → at ≤ k → k < at + (len + 7) / 8 → get_or words k 0 ≡ 0) → bytes_at words at len ≡ replicate len 0
-unfolding bytes_at byte_in
+pub zero_bytes : (words : List ℕ) (at len : ℕ) → ((k : ℕ) → at ≤ k → k < at + (len + 7) / 8 → get_or words k 0 ≡ 0) → bytes_in words (8 * at) len ≡ replicate len 0
+unfolding bytes_in byte_in
 zero_bytes words at len zeros =
     zero_map words (8 * at) len (λ k a b. ap (λ (w : ℕ). w / 256 ^ (k % 8) % 256) (zeros (k / 8) (omega arith) (omega arith)) ∙ ap (λ (w : ℕ). w % 256) (zero-div (256 ^ (k % 8))))
 

@@ -5,7 +5,7 @@ use Rattle.std.proofs.lemmas.List.{length-replicate}
 use Rattle.tlsf_heap.specs.Blocks.{Block, Live, Free, HeapState, words_in, serials, stamps, want}
 use Rattle.tlsf_heap.specs.Lawful.{IsLawful, HasRoom, AreApart, AreDistinct}
 use Rattle.tlsf_heap.specs.Regions.{RegionState}
-use Rattle.tlsf_heap.specs.Calls.{ticked}
+use Rattle.tlsf_heap.specs.Calls.{with_blocks, ticked}
 
 module _ {X : Type 0} (P : X → Type 0) where
   pub all_append : (xs ys : List X) → AllByRecursion P xs → AllByRecursion P ys → AllByRecursion P (xs ++ ys)
@@ -78,9 +78,6 @@ apart_split m s n t r u b (Live a c d ∷ front) back h = apart_split m s n t r 
 apart_split m s n t r u b (Free a c ∷ []) back h = absurd h
 apart_split m s n t r u b (Free a c ∷ Live d e f ∷ front) back h = apart_split m s n t r u b front back h
 apart_split m s n t r u b (Free a c ∷ Free d e ∷ front) back h = absurd h
-
-abbrev pub with_blocks : HeapState → List Block → HeapState
-with_blocks h bs = record { id = h.id; words = h.words; tick = h.tick; blocks = bs }
 
 -- the heap with another tick and what a region shows
 abbrev pub with_region : HeapState → ℕ → RegionState → HeapState

@@ -23,3 +23,6 @@ pub mod Sizes
 pub mod Carving
 pub mod Joining
 pub mod Forgetting
+pub mod Payloads
+pub mod Naming
+pub mod Writing

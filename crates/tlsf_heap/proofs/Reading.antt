@@ -86,6 +86,10 @@ module _ {m : Memory} {bs : List Block} (shows : Shows m bs) where
         free_alone (block_at bs i) (drop (i + 1) bs) n (λ free. answer.free inside (says.free ∙ free) ∙ says.size) (λ live. answer.live inside (says.free ∙ live))
         ∙ ap first_free (sym (drop_more bs i (Free 0 0) stands.within))
 
+  -- a place has one index
+  pub at_index : {at i : ℕ} (P : ℕ → Type 0) → (j : ℕ) × StandsAt bs at j × P j → StandsAt bs at i → P i
+  at_index {at = at} {i = i} P found stands = subst P (stands_once bs at found.0 i shows.rooms found.1 stands) found.2
+
   -- a place of the region is within its words
   pub in_region : {at : ℕ} → IsPlace bs at → at + 4 ≤ length m.words
   in_region place = let says = says_here place.1 in omega arith

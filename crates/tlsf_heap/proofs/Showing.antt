@@ -12,7 +12,8 @@ use Rattle.tlsf_heap.specs.Blocks.{Block, Live, Free, size_of, words_in, is_free
 use Rattle.tlsf_heap.specs.Lawful.{HasRoom}
 use Rattle.tlsf_heap.specs.GoodFit.{block_at}
 use Rattle.tlsf_heap.specs.Headers.{with_back}
-use Rattle.tlsf_heap.specs.Image.{no_place, byte_in, bytes_at, HoldsPayload, BlockAt, ShowsFrom, Shows, block_in, blocks_from, blocks_of}
+use Rattle.tlsf_words.specs.Bytes.{byte_in, bytes_in}
+use Rattle.tlsf_heap.specs.Image.{no_place, HoldsPayload, BlockAt, ShowsFrom, Shows, block_in, blocks_from, blocks_of}
 use Rattle.tlsf_heap.specs.Regions.{StandsAt, IsPlace}
 use Rattle.tlsf_heap.proofs.Lawfulness.{words_in-append, all_append, all_left, all_right}
 
@@ -157,7 +158,7 @@ same_bytes xs ys from (suc len) same =
     ∙ ap (λ (l : List ℕ). byte_in xs from ∷ l) (same_bytes xs ys (from + 1) len (λ k l g. same k (omega arith) (omega arith)))
 
 same_payload : (xs ys : List ℕ) (at : ℕ) (b : Block) → HasRoom b → ((k : ℕ) → at < k → k < at + size_of b → get_or ys k 0 ≡ get_or xs k 0) → HoldsPayload xs at b → HoldsPayload ys at b
-unfolding bytes_at
+unfolding bytes_in
 same_payload xs ys at (Live size serial bytes) room same h = (
   same (at + 2) (omega arith) (omega (arith, room.0)) ∙ h.0,
   same_bytes xs ys (8 * (at + 3)) (length bytes) (λ k l g. same (k / 8) (omega arith) (omega (arith, room.1))) ∙ h.1,

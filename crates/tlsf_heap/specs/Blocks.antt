@@ -35,6 +35,11 @@ abbrev pub stamp_of : Block → ℕ
 stamp_of (Live size serial bytes) = 0
 stamp_of (Free size stamp) = stamp
 
+-- the payload bytes of a live block
+abbrev pub bytes_of : Block → List ℕ
+bytes_of (Live size serial bytes) = bytes
+bytes_of (Free size stamp) = []
+
 -- the serials of the live blocks
 abbrev pub serials : List Block → List ℕ
 serials [] = []

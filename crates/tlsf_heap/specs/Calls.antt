@@ -1,10 +1,10 @@
 -- What the calls of a heap answer and leave.
-use Rattle.std.specs.Prelude.{ℕ, ◌+◌, ◌-◌, ◌^◌, List, [], ◌∷◌, ◌++◌, Option, Some, None, Result, Ok, Err, Bool, false, ◌&&◌, ◌==◌, nat_le, if◌then◌else◌, find, replicate, reverse}
-use Rattle.tlsf_heap.specs.Blocks.{Block, Live, Free, HeapState, size_of, want}
+use Rattle.std.specs.Prelude.{ℕ, ◌+◌, ◌-◌, ◌^◌, List, [], ◌∷◌, ◌++◌, Option, Some, None, Result, Ok, Err, Bool, false, ◌&&◌, ◌==◌, nat_le, if◌then◌else◌, find, replicate, reverse, length, take, drop}
+use Rattle.tlsf_heap.specs.Blocks.{Block, Live, Free, HeapState, size_of, bytes_of, want}
 use Rattle.tlsf_heap.specs.GoodFit.{Site, sites, place_of, choice}
 use Rattle.tlsf_heap.specs.declared.name.Name.{Name}
 use Rattle.tlsf_heap.specs.declared.refusal.Refusal.{Refusal}
-use Rattle.tlsf_heap.specs.declared.refusal.Refusal.TheVariants.{NoFit, Worn, Foreign, Stale}
+use Rattle.tlsf_heap.specs.declared.refusal.Refusal.TheVariants.{NoFit, Worn, Foreign, Stale, Range}
 
 -- an answer, and the heap that the call leaves
 pub record Outcome (A : Type 0) : Type 0 where
@@ -97,21 +97,72 @@ released_at h (Some s) = if is_worn h then refused h Worn else record { answer =
 abbrev pub released : HeapState → Name → Outcome (Unit {0})
 released h name = if name.heap == h.id then released_at h (named name h.blocks) else refused h Foreign
 
+-- ---- write
+
+-- some bytes with those from number `at` on replaced
+abbrev pub overwritten : List ℕ → ℕ → List ℕ → List ℕ
+overwritten bytes at new = take at bytes ++ new ++ drop (at + length new) bytes
+
+-- a block with other payload bytes
+abbrev pub with_bytes : Block → List ℕ → Block
+with_bytes (Live size serial bytes) new = Live size serial new
+with_bytes (Free size stamp) new = Free size stamp
+
+-- whether n bytes from number `at` on are bytes of the block
+abbrev pub has_bytes : Block → ℕ → ℕ → Bool
+has_bytes block at n = nat_le (at + n) (length (bytes_of block))
+
+-- the heap with other blocks, at the same tick
+abbrev pub with_blocks : HeapState → List Block → HeapState
+with_blocks h blocks = record { id = h.id; words = h.words; tick = h.tick; blocks = blocks }
+
+abbrev pub written_at : HeapState → ℕ → List ℕ → Option Site → Outcome (Unit {0})
+written_at h at bytes None = refused h Stale
+written_at h at bytes (Some s) = if has_bytes s.block at (length bytes) then record {
+  answer = Ok tt;
+  heap = with_blocks h (s.before ++ with_bytes s.block (overwritten (bytes_of s.block) at bytes) ∷ s.after);
+} else refused h Range
+
+-- a write of bytes into the payload of the block that a name names, from byte `at` of it on
+abbrev pub written : HeapState → Name → ℕ → List ℕ → Outcome (Unit {0})
+written h name at bytes = if name.heap == h.id then written_at h at bytes (named name h.blocks) else refused h Foreign
+
+-- ---- read
+
+abbrev pub read_at : ℕ → ℕ → Option Site → Result (List ℕ) Refusal
+read_at at n None = Err Stale
+read_at at n (Some s) = if has_bytes s.block at n then Ok (take n (drop at (bytes_of s.block))) else Err Range
+
+-- n bytes of the payload of the block that a name names, from byte `at` of it on; a read leaves the heap as it is
+abbrev pub read_of : HeapState → Name → ℕ → ℕ → Result (List ℕ) Refusal
+read_of h name at n = if name.heap == h.id then read_at at n (named name h.blocks) else Err Foreign
+
+-- whether a read is done, and why not
+abbrev pub read_answer : Result (List ℕ) Refusal → Result (Unit {0}) Refusal
+read_answer (Ok bytes) = Ok tt
+read_answer (Err why) = Err why
+
 -- ---- calls in turn
 
 pub data Call : Type 0 where
   Allocate : ℕ → Call  -- a length in bytes
   Release : Name → Call
+  Write : Name → ℕ → List ℕ → Call  -- from this byte on, these bytes
+  Read : Name → ℕ → ℕ → Call  -- from this byte on, so many bytes
 
 -- what a call is answered
 pub data Answer : Type 0 where
   Allocated : Result Name Refusal → Answer
   Released : Result (Unit {0}) Refusal → Answer
+  Written : Result (Unit {0}) Refusal → Answer
+  Got : Result (List ℕ) Refusal → Answer
 
 -- the answer to a call, and the heap that it leaves
 abbrev pub answered : HeapState → Call → Answer × HeapState
 answered h (Allocate len) = (Allocated (allocated h len).answer, (allocated h len).heap)
 answered h (Release name) = (Released (released h name).answer, (released h name).heap)
+answered h (Write name at bytes) = (Written (written h name at bytes).answer, (written h name at bytes).heap)
+answered h (Read name at n) = (Got (read_of h name at n), h)
 
 -- the answers to calls in turn, and the heap that they leave
 abbrev pub run : HeapState → List Call → List Answer × HeapState

@@ -1,7 +1,8 @@
 -- The blocks that the words of a region and its start map show.
-use Rattle.std.specs.Prelude.{◌≡◌, ℕ, zero, suc, ◌+◌, ◌*◌, ◌-◌, ◌/◌, ◌%◌, ◌^◌, ◌<◌, ◌≤◌, List, [], ◌∷◌, Bool, true, false, ◌==◌, nat_lt, if◌then◌else◌, length, map, slice_index, slice_index_or, ⊤}
-use Rattle.std.specs.List.{AllByRecursion, range_with_len}
+use Rattle.std.specs.Prelude.{◌≡◌, ℕ, zero, suc, ◌+◌, ◌*◌, ◌-◌, ◌^◌, ◌<◌, ◌≤◌, List, [], ◌∷◌, Bool, true, false, ◌==◌, nat_lt, if◌then◌else◌, length, slice_index, slice_index_or, ⊤}
+use Rattle.std.specs.List.{AllByRecursion}
 use Rattle.tlsf_words.specs.Memory.{Memory}
+use Rattle.tlsf_words.specs.Bytes.{bytes_in}
 use Rattle.tlsf_words.specs.Fields.{tag_word, size_in, free_in, length_word, low_half}
 use Rattle.tlsf_heap.specs.Blocks.{Block, Live, Free, size_of, words_in, is_free}
 use Rattle.tlsf_heap.specs.Lawful.{HasRoom}
@@ -15,17 +16,9 @@ abbrev pub mark_of : Block → ℕ
 mark_of (Live size serial bytes) = serial
 mark_of (Free size stamp) = stamp
 
--- byte k of the region: byte k % 8 of word k / 8, the lowest first
-unfoldable pub byte_in : List ℕ → ℕ → ℕ
-byte_in words k = slice_index words (k / 8) / 256 ^ (k % 8) % 256
-
--- the `len` bytes that begin with the word at a place
-unfoldable pub bytes_at : List ℕ → ℕ → ℕ → List ℕ
-bytes_at words at len = map (byte_in words) (range_with_len (8 * at) len)
-
 -- the third word of a live header is the payload length, and the payload is behind it
 abbrev pub HoldsPayload : List ℕ → ℕ → Block → Type 0
-HoldsPayload words at (Live size serial bytes) = (slice_index words (at + 2) ≡ length_word (length bytes)) × (bytes_at words (at + 3) (length bytes) ≡ bytes)
+HoldsPayload words at (Live size serial bytes) = (slice_index words (at + 2) ≡ length_word (length bytes)) × (bytes_in words (8 * (at + 3)) (length bytes) ≡ bytes)
 HoldsPayload words at (Free size stamp) = ⊤
 
 -- of so many places, a block starts at the first and at no other
@@ -59,7 +52,7 @@ pub record Shows (m : Memory) (blocks : List Block) : Type 0 where
 unfoldable pub block_in : List ℕ → ℕ → Block
 block_in words at =
     if free_in (slice_index words at) then Free (size_in (slice_index words at)) (slice_index words (at + 1))
-    else Live (size_in (slice_index words at)) (slice_index words (at + 1)) (bytes_at words (at + 3) (low_half (slice_index words (at + 2))))
+    else Live (size_in (slice_index words at)) (slice_index words (at + 1)) (bytes_in words (8 * (at + 3)) (low_half (slice_index words (at + 2))))
 
 -- the blocks from a place on, at most `most` of them
 unfoldable pub blocks_from : ℕ → List ℕ → ℕ → List Block

@@ -1,8 +1,11 @@
 -- Which block a name names, for a search by index.
-use Rattle.std.specs.Prelude.{◌≡◌, ℕ, ◌<◌, List, Bool, true, false, length, MatchBool}
-use Rattle.tlsf_heap.specs.Blocks.{Block}
+use Rattle.std.specs.Prelude.{◌≡◌, ◌≢◌, ℕ, ◌<◌, List, Bool, true, false, Result, length, MatchBool, MatchResult}
+use Rattle.tlsf_heap.specs.Blocks.{Block, HeapState}
 use Rattle.tlsf_heap.specs.GoodFit.{site_at}
 use Rattle.tlsf_heap.specs.Calls.{is_named}
+use Rattle.tlsf_heap.specs.declared.name.Name.{Name}
+use Rattle.tlsf_heap.specs.declared.refusal.Refusal.{Refusal}
+use Rattle.tlsf_heap.specs.declared.refusal.Refusal.TheVariants.{NoFit, Worn, Foreign, Stale, Range}
 
 -- no live block begins at this place with this serial
 abbrev pub NoneNamed : ℕ → ℕ → List Block → Type 0
@@ -17,3 +20,19 @@ pub record IsFirst (at serial : ℕ) (blocks : List Block) (i : ℕ) : Type 0 wh
 -- what the test of a name answers
 abbrev pub IsNameTest : ℕ → ℕ → List Block → Bool → Type 0
 IsNameTest at serial blocks answer = MatchBool answer ((i : ℕ) × IsFirst at serial blocks i) (NoneNamed at serial blocks)
+
+-- a heap has a live block of this name
+abbrev pub IsNamed : HeapState → Name → Type 0
+IsNamed h name = (name.heap ≡ h.id) × ((i : ℕ) × IsFirst name.at name.serial h.blocks i)
+
+-- a heap refuses a name for this reason: it is of another heap, or no live block of this one has it
+abbrev pub RefusesName : HeapState → Name → Refusal → Type 0
+RefusesName h name Foreign = name.heap ≢ h.id
+RefusesName h name Stale = (name.heap ≡ h.id) × NoneNamed name.at name.serial h.blocks
+RefusesName h name NoFit = ⊥
+RefusesName h name Worn = ⊥
+RefusesName h name Range = ⊥
+
+-- what the check of a name answers
+abbrev pub IsNameCheck : HeapState → Name → Result (Unit {0}) Refusal → Type 0
+IsNameCheck h name answer = MatchResult answer (λ done. IsNamed h name) (RefusesName h name)

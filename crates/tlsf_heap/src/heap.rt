@@ -1,8 +1,10 @@
-ghost use Rattle.std.specs.Prelude.{◌≡◌, ℕ, ◌+◌, ◌-◌, ◌≤◌, ◌^◌, ◌↔◌, [], IfOk, OnErr, IsOk, IsErrOf};
+ghost use Rattle.std.specs.Prelude.{◌≡◌, ℕ, ◌+◌, ◌-◌, ◌≤◌, ◌^◌, ◌↔◌, [], true, length, IfOk, OnOk, OnErr, IsOk, IsErrOf};
+ghost use Rattle.std.specs.Result.{result_unwrap_or};
 ghost use Rattle.tlsf_heap.specs.Blocks;
 ghost use Rattle.tlsf_heap.specs.Lawful.{IsLawful, IsRegion};
-ghost use Rattle.tlsf_heap.specs.GoodFit.{fits};
-ghost use Rattle.tlsf_heap.specs.Calls.{opened, allocated, released, last_tick};
+ghost use Rattle.tlsf_heap.specs.GoodFit.{fits, block_at};
+ghost use Rattle.tlsf_heap.specs.Named.{IsFirst, IsNameCheck};
+ghost use Rattle.tlsf_heap.specs.Calls.{opened, allocated, released, written, read_of, read_answer, has_bytes, last_tick};
 
 use crate::fitting::{MOST_WORDS, carve, choose, coalesce};
 use crate::free_index::FreeIndex;
@@ -125,17 +127,76 @@ impl Heap {
         ensures was_lawful { IsLawful self.old.heap }
         ensures lawful { IsLawful self.new.heap }
     {
+        self.check(name)?;
+        if self.tick == u64::MAX {
+            return Err(Refusal::Worn);
+        }
+        coalesce(&mut self.free, &mut self.region, name.at, self.tick);
+        self.tick += 1;
+        Ok(())
+    }
+
+    /// Writes bytes into the payload of the block of that name, from byte `at` of it on.
+    ///
+    /// Refused as `Foreign` where the name is of another heap, else as `Stale` where no live block has that place and
+    /// serial, else as `Range` where the bytes would go past the end of the payload. Takes no memory.
+    pub fn write(&mut self, name: Name, at: u32, bytes: &[u8]) -> Result<(), Refusal>
+        ensures answer { result ≡ (written self.old.heap name at bytes.now).answer }
+        ensures heap { self.new.heap ≡ (written self.old.heap name at bytes.now).heap }
+
+        // A refusal changes nothing.
+        ensures err { OnErr result (self.new.heap ≡ self.old.heap) }
+        ensures was_lawful { IsLawful self.old.heap }
+        ensures lawful { IsLawful self.new.heap }
+    {
+        self.check_range(name, at, bytes.len())?;
+        self.region.write(name.at, at, bytes);
+        Ok(())
+    }
+
+    /// Reads bytes of the payload of the block of that name, from byte `at` of it on, and fills `out` with them.
+    ///
+    /// Refused as `Foreign` where the name is of another heap, else as `Stale` where no live block has that place and
+    /// serial, else as `Range` where the bytes would go past the end of the payload. `out` is then as before. Takes no
+    /// memory.
+    pub fn read(&mut self, name: Name, at: u32, out: &mut [u8]) -> Result<(), Refusal>
+        ensures answer { result ≡ read_answer (read_of self.old.heap name at (length out.old)) }
+        ensures bytes { out.new ≡ result_unwrap_or (read_of self.old.heap name at (length out.old)) out.old }
+        ensures heap { self.new.heap ≡ self.old.heap }
+        ensures was_lawful { IsLawful self.old.heap }
+    {
+        self.check_range(name, at, out.len())?;
+        self.region.read(name.at, at, out);
+        Ok(())
+    }
+
+    /// Whether a live block of this heap has that name: if not, `Foreign` or else `Stale`.
+    fn check(&mut self, name: Name) -> Result<(), Refusal>
+        ensures answer { IsNameCheck self.old.heap name result }
+        ensures heap { self.new.heap ≡ self.old.heap }
+        ensures lawful { IsLawful self.old.heap }
+    {
         if name.heap != self.id {
             return Err(Refusal::Foreign);
         }
         if !self.region.has_live(name.at, name.serial) {
             return Err(Refusal::Stale);
         }
-        if self.tick == u64::MAX {
-            return Err(Refusal::Worn);
+        Ok(())
+    }
+
+    /// Whether `n` bytes from number `at` on are payload bytes of the block of that name.
+    fn check_range(&mut self, name: Name, at: u32, n: usize) -> Result<(), Refusal>
+        ensures answer { result ≡ read_answer (read_of self.old.heap name at n) }
+        ensures place { OnOk result ((i : ℕ) × IsFirst name.at name.serial self.old.heap.blocks i × (has_bytes (block_at self.old.heap.blocks i) at n ≡ true)) }
+        ensures heap { self.new.heap ≡ self.old.heap }
+        ensures lawful { IsLawful self.old.heap }
+    {
+        self.check(name)?;
+        let length = self.region.length(name.at) as usize;
+        if at as usize > length || n > length - at as usize {
+            return Err(Refusal::Range);
         }
-        coalesce(&mut self.free, &mut self.region, name.at, self.tick);
-        self.tick += 1;
         Ok(())
     }
 }

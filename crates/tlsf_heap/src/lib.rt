@@ -22,6 +22,8 @@ mod laws;
 mod layout_tests;
 mod name;
 mod open_fault;
+#[cfg(test)]
+mod payload_tests;
 mod refusal;
 mod region;
 #[cfg(test)]

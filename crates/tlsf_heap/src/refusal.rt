@@ -17,6 +17,9 @@ pub enum Refusal {
     /// No live block has that place and that serial.
     #[error("no live block has that name")]
     Stale,
+    /// The bytes that were named go past the end of the payload.
+    #[error("the payload ends before")]
+    Range,
 }
 
 impl Refusal {
@@ -31,6 +34,7 @@ impl Refusal {
             Refusal::Worn => 2,
             Refusal::Foreign => 3,
             Refusal::Stale => 4,
+            Refusal::Range => 7,
         }
     }
 }

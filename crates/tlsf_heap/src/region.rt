@@ -1,5 +1,5 @@
-ghost use Rattle.std.specs.Prelude.{◌≡◌, ℕ, ◌+◌, ◌-◌, ◌<◌, ◌≤◌, ◌^◌, [], ◌∷◌, ◌++◌, length, take, drop, replicate, IfOk};
-ghost use Rattle.tlsf_heap.specs.Blocks.{Live, Free, size_of, words_for};
+ghost use Rattle.std.specs.Prelude.{◌≡◌, ℕ, ◌+◌, ◌-◌, ◌<◌, ◌≤◌, ◌^◌, [], ◌∷◌, ◌++◌, false, length, take, drop, replicate, IfOk};
+ghost use Rattle.tlsf_heap.specs.Blocks.{Live, Free, size_of, is_free, bytes_of, words_for};
 ghost use Rattle.tlsf_heap.specs.GoodFit.{block_at};
 ghost use Rattle.tlsf_heap.specs.Calls;
 ghost use Rattle.tlsf_heap.specs.Image.{mark_of};
@@ -97,6 +97,37 @@ impl Region {
     {
         let back = self.words.tag(at).back;
         free_size(&mut self.words, back)
+    }
+
+    /// The payload length in bytes of the live block at a place.
+    pub fn length(&mut self, at: u32) -> u32
+        requires { (i : ℕ) × StandsAt self.old.blocks at i × (is_free (block_at self.old.blocks i) ≡ false) }
+        ensures value { (i : ℕ) → StandsAt self.old.blocks at i → result ≡ length (bytes_of (block_at self.old.blocks i)) }
+        ensures words { self.new.words ≡ self.old.words }
+        ensures blocks { self.new.blocks ≡ self.old.blocks }
+    {
+        self.words.length(at)
+    }
+
+    /// Reads payload bytes of the live block at a place, from byte `offset` of it on.
+    pub fn read(&mut self, at: u32, offset: u32, out: &mut [u8])
+        requires { (i : ℕ) × StandsAt self.old.blocks at i × (offset + length out.old ≤ length (bytes_of (block_at self.old.blocks i))) }
+        ensures bytes { (i : ℕ) → StandsAt self.old.blocks at i → out.new ≡ take (length out.old) (drop offset (bytes_of (block_at self.old.blocks i))) }
+        ensures words { self.new.words ≡ self.old.words }
+        ensures blocks { self.new.blocks ≡ self.old.blocks }
+    {
+        self.words.copy_out(at, offset, out);
+    }
+
+    /// Writes payload bytes of the live block at a place, from byte `offset` of it on.
+    pub fn write(&mut self, at: u32, offset: u32, bytes: &[u8])
+        requires { (i : ℕ) × StandsAt self.old.blocks at i × (offset + length bytes.now ≤ length (bytes_of (block_at self.old.blocks i))) }
+        ensures words { self.new.words ≡ self.old.words }
+        ensures blocks { (i : ℕ) → StandsAt self.old.blocks at i → self.new.blocks ≡ take i self.old.blocks
+            ++ (Calls.with_bytes (block_at self.old.blocks i) (Calls.overwritten (bytes_of (block_at self.old.blocks i)) offset bytes.now) ∷ [])
+            ++ drop (i + 1) self.old.blocks }
+    {
+        self.words.copy_in(at, offset, bytes);
     }
 
     /// Makes the block at a place two free ones, of `size` words and of the rest, which has this stamp.

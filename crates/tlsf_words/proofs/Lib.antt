@@ -1,3 +1,4 @@
+pub mod Bytes
 pub mod FieldLaws
 pub mod StartBits
 pub mod Zeros

@@ -9,6 +9,7 @@ mod bits;
 mod halves;
 mod links;
 mod no_memory;
+mod piece;
 mod start_map;
 mod tag;
 #[cfg(test)]

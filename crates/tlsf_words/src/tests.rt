@@ -10,8 +10,8 @@ const KEPT: u64 = 0xa5a5_a5a5_a5a5_a5a5;
 
 /// Makes each word `KEPT`, but for word 0, which no mark can reach.
 fn fill(rt: &impl Abort, words: &mut Words) {
-    for at in 0..7 {
-        assert!(rt; words.len() == 8);
+    for at in 0..words.len() - 1 {
+        assert!(rt; at + 1 < words.len());
         words.set_mark(at, KEPT);
     }
 }
@@ -99,6 +99,48 @@ fn zeros_and_their_neighbours(rt: HostRuntime) -> Result<(), Fail> {
     for (at, word) in [(1, KEPT), (2, 0), (3, 0), (4, 0), (5, KEPT), (7, KEPT)] {
         assert!(rt; at < words.len());
         assert_eq!(rt; words.word(at), word, "word {at}");
+    }
+    Ok(())
+}
+
+/// Writes bytes into the payload behind the header at 2 and reads them, and compares the region with plain bytes.
+fn check_copies(rt: &impl Abort, words: &mut Words, offset: u32, len: usize)
+    requires offset { offset ≤ 16 }
+    requires len { len ≤ 17 }
+{
+    let bytes: [u8; 17] = [1, 2, 3, 4, 5, 6, 7, 8, 9, 10, 11, 12, 13, 14, 15, 16, 17];
+    let start = 40 + offset as usize;
+    let mut plain = [0xa5; 128];
+    plain[start..start + len].copy_from_slice(&bytes[..len]);
+    fill(rt, words);
+    assert!(rt; words.len() == 16);
+    words.copy_in(2, offset, &bytes[..len]);
+    for at in 1..16 {
+        assert!(rt; words.len() == 16);
+        let word = words.word(at).to_le_bytes();
+        let first = 8 * at as usize;
+        assert!(rt;
+            word[..] == plain[first..first + 8],
+            "word {at} after {len} bytes at {offset}"
+        );
+    }
+    let mut out = [0; 17];
+    assert!(rt; words.len() == 16);
+    words.copy_out(2, offset, &mut out[..len]);
+    assert!(rt; out[..len] == bytes[..len], "{len} bytes read at {offset}");
+    assert!(rt;
+        out[len..].iter().all(|byte| *byte == 0),
+        "{len} bytes at {offset} and no more"
+    );
+}
+
+#[test]
+fn bytes_and_their_neighbours(rt: HostRuntime) -> Result<(), Fail> {
+    let mut words = Words::open(rt.alloc(), 16)?;
+    for offset in 0..=16 {
+        for len in 0..=17 {
+            check_copies(&rt, &mut words, offset, len);
+        }
     }
     Ok(())
 }

@@ -1,9 +1,11 @@
-ghost use Rattle.std.specs.Prelude.{◌≡◌, ◌+◌, ◌<◌, ◌≤◌, ◌^◌, ◌++◌, false, length, take, drop, replicate, slice_index, slice_index_or, slice_set, IfOk};
+ghost use Rattle.std.specs.Prelude.{◌≡◌, ℕ, ◌+◌, ◌*◌, ◌<◌, ◌≤◌, ◌≢◌, ◌^◌, ◌++◌, false, length, take, drop, replicate, slice_index, slice_index_or, slice_set, IfOk};
+ghost use Rattle.tlsf_words.specs.Bytes.{byte_in, bytes_in, payload_byte};
 ghost use Rattle.tlsf_words.specs.Fields.{tag_word, size_in, last_in, free_in, back_in, length_word, links_word, low_half, high_half};
 
 use crate::halves::low_half;
 use crate::links::Links;
 use crate::no_memory::NoMemory;
+use crate::piece::Piece;
 use crate::start_map::StartMap;
 use crate::tag::Tag;
 use std::alloc::Global;
@@ -184,6 +186,78 @@ impl Words {
         for i in 0..n as usize {
             self.write(at as usize + i, 0);
         }
+    }
+
+    /// Writes bytes into the payload behind the header at a place, from a byte offset of it on. Whole words are written at once.
+    pub fn copy_in(&mut self, at: u32, offset: u32, bytes: &[u8])
+        requires { payload_byte at offset + length bytes.now ≤ 8 * length self.old.words }
+        ensures bytes { bytes_in self.new.words (payload_byte at offset) (length bytes.now) ≡ bytes.now }
+        ensures before { (k : ℕ) → k < payload_byte at offset → byte_in self.new.words k ≡ byte_in self.old.words k }
+        ensures behind { (k : ℕ) → payload_byte at offset + length bytes.now ≤ k → byte_in self.new.words k ≡ byte_in self.old.words k }
+        ensures words_before { (k : ℕ) → 8 * k + 8 ≤ payload_byte at offset → slice_index self.new.words k ≡ slice_index self.old.words k }
+        ensures words_behind { (k : ℕ) → payload_byte at offset + length bytes.now ≤ 8 * k → slice_index self.new.words k ≡ slice_index self.old.words k }
+        ensures length { length self.new.words ≡ length self.old.words }
+        ensures starts { self.new.starts ≡ self.old.starts }
+    {
+        let start = 8 * (at as usize + 3) + offset as usize;
+        let skip = start % 8;
+        for i in 0..(skip + bytes.len()).div_ceil(8) {
+            let piece = Piece::of(skip, bytes.len(), i);
+            self.write_piece(
+                start / 8 + i,
+                piece.first,
+                &bytes[piece.from..piece.from + piece.len],
+            );
+        }
+    }
+
+    /// Reads bytes of the payload behind the header at a place, from a byte offset of it on. Whole words are read at once.
+    pub fn copy_out(&mut self, at: u32, offset: u32, out: &mut [u8])
+        requires { payload_byte at offset + length out.old ≤ 8 * length self.old.words }
+        ensures bytes { out.new ≡ bytes_in self.old.words (payload_byte at offset) (length out.old) }
+        ensures words { self.new.words ≡ self.old.words }
+        ensures starts { self.new.starts ≡ self.old.starts }
+    {
+        let start = 8 * (at as usize + 3) + offset as usize;
+        let skip = start % 8;
+        for i in 0..(skip + out.len()).div_ceil(8) {
+            let piece = Piece::of(skip, out.len(), i);
+            self.read_piece(
+                start / 8 + i,
+                piece.first,
+                &mut out[piece.from..piece.from + piece.len],
+            );
+        }
+    }
+
+    /// Writes bytes into one word, from byte `first` of it on. Its other bytes stay.
+    #[inline]
+    fn write_piece(&mut self, place: usize, first: usize, bytes: &[u8])
+        requires inside { place < length self.old.words }
+        requires within { first + length bytes.now ≤ 8 }
+        ensures bytes { (k : ℕ) → k < length bytes.now → byte_in self.new.words (8 * place + first + k) ≡ slice_index bytes.now k }
+        ensures before { (k : ℕ) → k < 8 * place + first → byte_in self.new.words k ≡ byte_in self.old.words k }
+        ensures behind { (k : ℕ) → 8 * place + first + length bytes.now ≤ k → byte_in self.new.words k ≡ byte_in self.old.words k }
+        ensures words { (k : ℕ) → k ≢ place → slice_index self.new.words k ≡ slice_index self.old.words k }
+        ensures length { length self.new.words ≡ length self.old.words }
+        ensures starts { self.new.starts ≡ self.old.starts }
+    {
+        let mut word = self.read(place).to_le_bytes();
+        word[first..first + bytes.len()].copy_from_slice(bytes);
+        self.write(place, u64::from_le_bytes(word));
+    }
+
+    /// Reads bytes of one word, from byte `first` of it on.
+    #[inline]
+    fn read_piece(&mut self, place: usize, first: usize, out: &mut [u8])
+        requires inside { place < length self.old.words }
+        requires within { first + length out.old ≤ 8 }
+        ensures bytes { (k : ℕ) → k < length out.old → slice_index out.new k ≡ byte_in self.old.words (8 * place + first + k) }
+        ensures words { self.new.words ≡ self.old.words }
+        ensures starts { self.new.starts ≡ self.old.starts }
+    {
+        let word = self.read(place).to_le_bytes();
+        out.copy_from_slice(&word[first..first + out.len()]);
     }
 
     /// Each read of a stored word is here.

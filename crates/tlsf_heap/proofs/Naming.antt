@@ -1,0 +1,57 @@
+-- What a call on a name comes to, by the index of the block that it names.
+use Rattle.std.proofs.Common.{◌≡◌, ℕ, ◌<◌, Bool, true, false, cond, eqb, List, length, Option, Some, None, refl, sym, ap, ◌∙◌, subst, arith, eq-eqb}
+use Rattle.std.proofs.lemmas.Bool.{eqb-true, false≢true}
+use Rattle.tlsf_heap.specs.Blocks.{Block, Live, Free, HeapState, is_free}
+use Rattle.tlsf_heap.specs.GoodFit.{Site, sites, block_at, site_at}
+use Rattle.tlsf_heap.specs.Calls.{is_named, has_serial, named}
+use Rattle.tlsf_heap.specs.Regions.{StandsAt}
+use Rattle.tlsf_heap.specs.Named.{NoneNamed, IsFirst, IsNamed, RefusesName}
+use Rattle.tlsf_heap.specs.declared.name.Name.{Name}
+use Rattle.tlsf_heap.specs.declared.refusal.Refusal.{Refusal}
+use Rattle.tlsf_heap.specs.declared.refusal.Refusal.TheVariants.{NoFit, Worn, Foreign, Stale, Range}
+use Rattle.tlsf_heap.proofs.Finding.{and_left, and_right, not_true, find_at, find_none}
+use Rattle.tlsf_heap.proofs.Sites.{nowhere, length-sites, get_or-sites}
+
+named_none : (name : Name) (bs : List Block) → NoneNamed name.at name.serial bs → named name bs ≡ None
+named_none name bs none =
+    find_none (is_named name.at name.serial) nowhere (sites bs) (λ j l.
+    let within : j < length bs = omega (arith, length-sites bs, l) in
+    ap (is_named name.at name.serial) (get_or-sites nowhere bs j within) ∙ none j within)
+
+named_is : (name : Name) (bs : List Block) (i : ℕ) → IsFirst name.at name.serial bs i → named name bs ≡ Some (site_at bs i)
+named_is name bs i first =
+    find_at (is_named name.at name.serial) nowhere (sites bs) i (omega (arith, length-sites bs, first.within))
+    (ap (is_named name.at name.serial) (get_or-sites nowhere bs i first.within) ∙ first.here)
+    (λ j l. ap (is_named name.at name.serial) (get_or-sites nowhere bs j (omega (arith, l, first.within))) ∙ first.before j l)
+    ∙ ap Some (get_or-sites nowhere bs i first.within)
+
+-- a call that does this with the block that a name of heap h names
+module _ {X : Type 0} (h : HeapState) (name : Name) (does : Option Site → X) (refuse : Refusal → X) where
+  of_own : name.heap ≡ h.id → cond (eqb name.heap h.id) (does (named name h.blocks)) (refuse Foreign) ≡ does (named name h.blocks)
+  of_own own = ap (λ (b : Bool). cond b (does (named name h.blocks)) (refuse Foreign)) (eq-eqb name.heap h.id own)
+
+  pub refused_name : does None ≡ refuse Stale → (why : Refusal) → RefusesName h name why → cond (eqb name.heap h.id) (does (named name h.blocks)) (refuse Foreign) ≡ refuse why
+  refused_name stale Foreign r = ap (λ (b : Bool). cond b (does (named name h.blocks)) (refuse Foreign)) (not_true _ (λ e. r (eqb-true name.heap h.id e)))
+  refused_name stale Stale r = of_own r.0 ∙ ap does (named_none name h.blocks r.1) ∙ stale
+  refused_name stale NoFit r = absurd r
+  refused_name stale Worn r = absurd r
+  refused_name stale Range r = absurd r
+
+  pub at_name : name.heap ≡ h.id → (i : ℕ) → IsFirst name.at name.serial h.blocks i → cond (eqb name.heap h.id) (does (named name h.blocks)) (refuse Foreign) ≡ does (Some (site_at h.blocks i))
+  at_name own i first = of_own own ∙ ap does (named_is name h.blocks i first)
+
+-- a named block begins at the place of its name
+pub named_stands : (at serial : ℕ) (bs : List Block) (i : ℕ) → IsFirst at serial bs i → StandsAt bs at i
+named_stands at serial bs i first = record { within = first.within; place = eqb-true _ _ (and_right (has_serial serial (block_at bs i)) _ first.here) }
+
+live_if_serial : (serial : ℕ) (b : Block) → has_serial serial b ≡ true → is_free b ≡ false
+live_if_serial serial (Live m s xs) e = refl
+live_if_serial serial (Free m s) e = absurd (false≢true e)
+
+-- and is live
+pub named_live : (at serial : ℕ) (bs : List Block) (i : ℕ) → IsFirst at serial bs i → is_free (block_at bs i) ≡ false
+named_live at serial bs i first = live_if_serial serial (block_at bs i) (and_left _ _ first.here)
+
+-- also in a heap that is the same
+pub named_same : (h k : HeapState) (name : Name) → h ≡ k → IsNamed k name → IsNamed h name
+named_same h k name same named = subst (λ (s : HeapState). IsNamed s name) (sym same) named

@@ -1,0 +1,36 @@
+use Rattle.std.proofs.Common.{◌+◌, ◌<◌, sym, ap, ◌∙◌, arith}
+use Rattle.std.proofs.lemmas.Result.{err_from_is_err_and}
+use Rattle.tlsf_heap.specs.Blocks.{Shown}
+use Rattle.tlsf_heap.specs.Calls.{read_answer}
+use Rattle.tlsf_heap.specs.Stored.{state_of}
+use Rattle.tlsf_heap.proofs.Naming.{named_same, named_stands, named_live}
+use Rattle.tlsf_heap.proofs.Writing.{Ranged, read_refused, range_past, range_within}
+use Rattle.tlsf_heap.proofs.heap.Heap.check_range.Goals as goal
+use Rattle.tlsf_heap.proofs.heap.Heap.check_range.Goals.{then-at-length-via-then-at-length, then-at-length-via-else-at-length+then-n-length}
+
+pub returns-in_err-check-clause-answer : goal.returns-in_err-check-clause-answer
+returns-in_err-check-clause-answer c =
+    let p = err_from_is_err_and c.from_residual.result c.from_residual.ensures.1 in
+    rw (p.1, p.2) (sym (ap read_answer (read_refused c.args.self.now.heap c.args.name c.args.at c.args.n _ c.in_err-check.ensures.answer)))
+
+pub length-length-requires : goal.length-length-requires
+length-length-requires c =
+    let named = (named_same (state_of c.self.inside) c.args.self.now.heap c.args.name (ap (λ (s : Shown). s.heap) c.self.view_is ∙ c.in_ok-check.ensures.heap) c.in_ok-check.ensures.answer).1 in
+    (named.0, named_stands _ _ _ _ named.1, named_live _ _ _ _ named.1)
+
+pub returns-then-at-length-clause-answer : goal.returns-then-at-length-clause-answer
+returns-then-at-length-clause-answer c =
+    let over : c.length-length.result < c.args.at + c.args.n = elim c.then-at-length.branch [ then-at-length-via-then-at-length w ↦ omega arith | then-at-length-via-else-at-length+then-n-length w ↦ omega arith ] in
+    range_past (state_of c.self.inside) c.args.self.now.heap c.args.name c.args.at c.args.n c.length-length.result (ap (λ (s : Shown). s.heap) c.self.view_is ∙ c.in_ok-check.ensures.heap) c.in_ok-check.ensures.answer
+    c.length-length.ensures.value over
+
+within : (c : goal.Else-n-length) → Ranged c.args.self.now.heap c.args.name c.args.at c.args.n
+within c =
+    range_within (state_of c.self.inside) c.args.self.now.heap c.args.name c.args.at c.args.n c.length-length.result (ap (λ (s : Shown). s.heap) c.self.view_is ∙ c.in_ok-check.ensures.heap) c.in_ok-check.ensures.answer
+    c.length-length.ensures.value (omega arith)
+
+pub returns-clause-answer : goal.returns-clause-answer
+returns-clause-answer c = (within c).is_answer
+
+pub returns-clause-place : goal.returns-clause-place
+returns-clause-place c = (within c).range

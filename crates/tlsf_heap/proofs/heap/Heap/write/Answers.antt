@@ -1,0 +1,43 @@
+use Rattle.std.proofs.Common.{◌≡◌, length, sym, ap, ◌∙◌, arith}
+use Rattle.tlsf_heap.specs.Blocks.{HeapState, Shown}
+use Rattle.tlsf_heap.specs.Calls.{Outcome}
+use Rattle.tlsf_heap.specs.FreePlaces.{free_places}
+use Rattle.tlsf_heap.specs.Stored.{state_of}
+use Rattle.tlsf_heap.proofs.Lawfulness.{with_region}
+use Rattle.tlsf_heap.proofs.Writing.{range_stands, unwritten, Writes, writes}
+use Rattle.tlsf_heap.proofs.heap.Heap.write.Goals as goal
+
+pub returns-in_err-check_range-clause-heap : goal.returns-in_err-check_range-clause-heap
+returns-in_err-check_range-clause-heap c =
+    c.in_err-check_range.ensures.heap
+    ∙ sym (ap (λ (o : Outcome (Unit {0})). o.heap) (unwritten c.args.self.now.heap c.args.name c.args.at c.args.bytes.now _ c.in_err-check_range.ensures.answer))
+
+pub write-requires : goal.write-requires
+write-requires c =
+    range_stands (state_of c.self.inside) c.args.self.now.heap c.args.name c.args.at (length c.args.bytes.now) (ap (λ (s : Shown). s.heap) c.self.view_is ∙ c.in_ok-check_range.ensures.heap)
+    c.in_ok-check_range.ensures.answer c.in_ok-check_range.ensures.place
+
+wrote : (c : goal.After-write) → Writes c.args.self.now.heap c.args.name c.args.at c.args.bytes.now (with_region (state_of c.self.inside) c.self.inside.tick c.write.new.self)
+wrote c =
+    writes (state_of c.self.inside) c.args.self.now.heap c.args.name c.args.at c.args.bytes.now (ap (λ (s : Shown). s.heap) c.self.view_is ∙ c.in_ok-check_range.ensures.heap)
+    c.in_ok-check_range.ensures.answer c.in_ok-check_range.ensures.place c.write.new.self c.self.invariant.lawful c.write.ensures.words c.write.ensures.blocks
+
+pub invariant_of-self : goal.invariant_of-self
+invariant_of-self c =
+    let same : state_of c.self.inside ≡ c.args.self.now.heap = ap (λ (s : Shown). s.heap) c.self.view_is ∙ c.in_ok-check_range.ensures.heap in
+    let places : free_places 0 c.write.new.self.blocks ≡ free_places 0 c.self.inside.region.blocks = (wrote c).places ∙ sym (ap (λ (h : HeapState). free_places 0 h.blocks) same) in
+    record {
+      lawful = (wrote c).lawful;
+      small = omega (arith, c.write.ensures.words, c.self.invariant.small);
+      listed = rw places c.self.invariant.listed;
+      room = omega (arith, c.write.ensures.words, c.self.invariant.room);
+    }
+
+pub returns-clause-answer : goal.returns-clause-answer
+returns-clause-answer c = (wrote c).is_answer
+
+pub returns-clause-heap : goal.returns-clause-heap
+returns-clause-heap c = (wrote c).is_heap
+
+pub returns-clause-lawful : goal.returns-clause-lawful
+returns-clause-lawful c = (wrote c).lawful
