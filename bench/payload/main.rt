@@ -10,9 +10,10 @@ use tlsf_heap::Heap;
 /// The bytes that are moved in all for each size.
 const MOVED: u64 = 1 << 26;
 
-fn rate(rt: &impl Clock, start: Instant) -> Result<u64, io::Error> {
-    let nanoseconds = start.elapsed(rt)?.as_nanos() as u64;
-    Ok(MOVED.saturating_mul(1000) / (nanoseconds / 1000 + 1) / 1000)
+/// Megabytes a second, since a start.
+fn rate(rt: &impl Clock, start: Instant) -> Result<u128, io::Error> {
+    let nanoseconds = start.elapsed(rt)?.as_nanos();
+    Ok(u128::from(MOVED) * 1000 / nanoseconds.saturating_add(1))
 }
 
 fn main(rt: HostRuntime) -> Result<(), Error> {
