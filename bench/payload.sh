@@ -11,7 +11,7 @@ for crate in tlsf_class tlsf_words tlsf_heap; do
     cp -a "$top/crates/$crate" "$work/crates"
 done
 mkdir -p "$work/crates/payload_bench/src"
-cp "$top/bench/payload/main.rt" "$work/crates/payload_bench/src"
+cp "$top/bench/payload/main.source" "$work/crates/payload_bench/src/main.rt"
 echo 'payload_bench: tlsf_heap anyhow' >> "$work/crates.txt"
 echo 'payload.sh: proving and building a copy, which takes some minutes' >&2
 (cd "$work/crates/payload_bench" && rt run)
