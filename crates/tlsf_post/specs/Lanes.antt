@@ -1,0 +1,43 @@
+-- What a contract sees of the two ends of a lane.
+use Rattle.std.specs.Prelude.{◌≡◌, ℕ, ◌+◌, List, length, take, drop}
+use Rattle.tlsf_post.specs.declared.post.Post.{Post}
+use Rattle.tlsf_post.specs.declared.post_end.PostEnd.{PostEnd}
+use Rattle.tlsf_post.specs.declared.take_end.TakeEnd.{TakeEnd}
+
+-- the posts sent since the last `beside`
+unfoldable pub posts_sent : PostEnd → List Post
+posts_sent p = p.kept.items
+
+-- how many slots it knows to be free
+unfoldable pub free_slots : PostEnd → ℕ
+free_slots p = p.free
+
+-- how many posts its lane holds at most
+unfoldable pub capacity_of : PostEnd → ℕ
+capacity_of p = p.capacity
+
+-- the posts that waited at the last `beside`
+unfoldable pub waited : TakeEnd → List Post
+waited t = t.waited.items
+
+-- those taken since
+unfoldable pub taken : TakeEnd → List Post
+taken t = take t.next t.waited.items
+
+-- those that it knows to be ready, which the next takes answer
+unfoldable pub ready : TakeEnd → List Post
+ready t = drop t.next t.waited.items
+
+-- the two are the ends of one lane: they agree on its capacity, and each slot has a post that waited, has one that was
+-- sent, or is free
+unfoldable pub IsLane : PostEnd → TakeEnd → Type 0
+IsLane p t =
+    (p.capacity ≡ t.capacity) × (length t.waited.items + length p.kept.items + p.free ≡ p.capacity)
+
+-- the new post end has the old one's capacity, and is an end of each lane that the old one was an end of
+abbrev pub KeepsPost : PostEnd → PostEnd → Type 0
+KeepsPost old new = (capacity_of new ≡ capacity_of old) × ((t : TakeEnd) → IsLane old t → IsLane new t)
+
+-- the new take end is an end of each lane that the old one was an end of
+abbrev pub KeepsTake : TakeEnd → TakeEnd → Type 0
+KeepsTake old new = (p : PostEnd) → IsLane p old → IsLane p new
