@@ -41,7 +41,7 @@ fits_size n (Free m s) h = le_from_serves n m h
 pub split_at : (bs : List Block) (i : ℕ) → i < length bs → bs ≡ take i bs ++ block_at bs i ∷ drop (suc i) bs
 split_at bs i h = sym (take-append-drop i bs) ∙ ap (λ (l : List Block). take i bs ++ l) (drop_more bs i (Free 0 0) h) ∙ ap (λ (n : ℕ). take i bs ++ block_at bs i ∷ drop n bs) (add-one i)
 
-lawful_carved : (h : HeapState) (front back : List Block) (b : Block) (len : ℕ) → is_fit (want len) b ≡ true → IsLawful (with_blocks h (front ++ b ∷ back)) → IsLawful (ticked h (front ++ carved (size_of b) (want len) h.tick len ++ back))
+pub lawful_carved : (h : HeapState) (front back : List Block) (b : Block) (len : ℕ) → is_fit (want len) b ≡ true → IsLawful (with_blocks h (front ++ b ∷ back)) → IsLawful (ticked h (front ++ carved (size_of b) (want len) h.tick len ++ back))
 lawful_carved h front back (Live m s xs) len f lawful = absurd (false≢true f)
 lawful_carved h front back (Free m s) len f lawful =
     let P : List Block → Type 0 = λ l. IsLawful (ticked h (front ++ l ++ back)) in

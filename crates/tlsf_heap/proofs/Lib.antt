@@ -26,3 +26,6 @@ pub mod Forgetting
 pub mod Payloads
 pub mod Naming
 pub mod Writing
+pub mod Outcomes
+pub mod Living
+pub mod Gone

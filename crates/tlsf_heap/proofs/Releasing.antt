@@ -18,7 +18,7 @@ use Rattle.tlsf_heap.proofs.Lawfulness.{with_region, region_is}
 use Rattle.tlsf_heap.proofs.Coalescing.{lawful_coalesced}
 
 -- a named block is live
-lawful_at : (h : HeapState) (front back : List Block) (b : Block) (serial : ℕ) → has_serial serial b ≡ true → IsLawful (with_blocks h (front ++ b ∷ back))
+pub lawful_at : (h : HeapState) (front back : List Block) (b : Block) (serial : ℕ) → has_serial serial b ≡ true → IsLawful (with_blocks h (front ++ b ∷ back))
     → IsLawful (ticked h (coalesced h.tick (record { before = front; block = b; after = back })))
 lawful_at h front back (Live m s xs) serial e lawful = lawful_coalesced h front back m s xs lawful
 lawful_at h front back (Free m s) serial e lawful = absurd (false≢true e)

@@ -21,7 +21,7 @@ use Rattle.tlsf_heap.proofs.Places.{free_places-append}
 
 -- ---- other bytes in a block
 
-length-overwritten : (bytes new : List ℕ) (at : ℕ) → at + length new ≤ length bytes → length (overwritten bytes at new) ≡ length bytes
+pub length-overwritten : (bytes new : List ℕ) (at : ℕ) → at + length new ≤ length bytes → length (overwritten bytes at new) ≡ length bytes
 length-overwritten bytes new at h =
     let front = length-take-le at bytes (omega arith) in
     length-append (take at bytes ++ new) (drop (at + length new) bytes)
@@ -35,7 +35,7 @@ apart_bytes m s old new (Free a c ∷ Live d e f ∷ front) back h = apart_bytes
 apart_bytes m s old new (Free a c ∷ Free d e ∷ front) back h = absurd h
 
 -- a lawful heap stays lawful where a block gets as many other bytes
-lawful_bytes : (h : HeapState) (front back : List Block) (b : Block) (new : List ℕ) → length new ≡ length (bytes_of b) → IsLawful (with_blocks h (front ++ b ∷ back)) → IsLawful (with_blocks h (front ++ with_bytes b new ∷ back))
+pub lawful_bytes : (h : HeapState) (front back : List Block) (b : Block) (new : List ℕ) → length new ≡ length (bytes_of b) → IsLawful (with_blocks h (front ++ b ∷ back)) → IsLawful (with_blocks h (front ++ with_bytes b new ∷ back))
 lawful_bytes h front back (Free m s) new e lawful = lawful
 lawful_bytes h front back (Live m s old) new e lawful =
     let here = all_right HasRoom front (Live m s old ∷ back) lawful.rooms in
@@ -75,7 +75,7 @@ module _ (h : HeapState) (name : Name) (at n : ℕ) where
 abbrev pub HasRange : HeapState → Name → ℕ → ℕ → Type 0
 HasRange h name at n = (i : ℕ) × IsFirst name.at name.serial h.blocks i × (has_bytes (block_at h.blocks i) at n ≡ true)
 
-range_fits : (b : Block) (at n : ℕ) → has_bytes b at n ≡ true → at + n ≤ length (bytes_of b)
+pub range_fits : (b : Block) (at n : ℕ) → has_bytes b at n ≡ true → at + n ≤ length (bytes_of b)
 range_fits b at n e = grind (arith, nat_tests)
 
 -- what a check of a range that is there ensures

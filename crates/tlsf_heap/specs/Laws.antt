@@ -1,7 +1,9 @@
--- Where the blocks of a heap lie.
-use Rattle.std.specs.Prelude.{ℕ, ◌+◌, ◌≤◌}
+-- Where the blocks of a heap lie, and how long a name is live.
+use Rattle.std.specs.Prelude.{◌≡◌, ℕ, ◌+◌, ◌≤◌, Ok, IsSome}
 use Rattle.tlsf_heap.specs.Blocks.{HeapState, size_of}
 use Rattle.tlsf_heap.specs.GoodFit.{place_of, site_at}
+use Rattle.tlsf_heap.specs.Calls.{Call, Release, allocated, named, released}
+use Rattle.tlsf_heap.specs.declared.name.Name.{Name}
 
 -- the place behind the last word of block i
 abbrev pub end_of : HeapState → ℕ → ℕ
@@ -14,3 +16,19 @@ LieApart h i j = end_of h i ≤ place_of (site_at h.blocks j)
 -- block i ends in the region
 abbrev pub LieInRegion : HeapState → ℕ → Type 0
 LieInRegion h i = end_of h i ≤ h.words
+
+-- the name is of this heap, and a live block of it has that place and serial
+abbrev pub IsLive : HeapState → Name → Type 0
+IsLive h name = (name.heap ≡ h.id) × IsSome (named name h.blocks)
+
+-- a request of `len` bytes gets this name
+abbrev pub IsGiven : HeapState → ℕ → Name → Type 0
+IsGiven h len name = (allocated h len).answer ≡ Ok name
+
+-- the release of this name is accepted
+abbrev pub IsTaken : HeapState → Name → Type 0
+IsTaken h name = (released h name).answer ≡ Ok tt
+
+-- the call is the release of this name, and is accepted
+abbrev pub TakesBack : HeapState → Name → Call → Type 0
+TakesBack h name call = (call ≡ Release name) × IsTaken h name

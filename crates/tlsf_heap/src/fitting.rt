@@ -1,6 +1,5 @@
 //! Good fit, splitting and coalescing over a region and the index of its free blocks. Sizes and places are in words.
-ghost use Rattle.std.specs.Prelude.{◌≡◌, ℕ, ◌+◌, ◌*◌, ◌<◌, ◌≤◌, ◌^◌, ◌++◌, ◌∷◌, true, false, length, take, drop, Contains, IsPermutation};
-ghost use Rattle.std.specs.List.{AllByRecursion};
+ghost use Rattle.std.specs.Prelude.{◌≡◌, ℕ, ◌+◌, ◌*◌, ◌<◌, ◌≤◌, ◌^◌, ◌++◌, ◌∷◌, true, false, take, drop, Contains, IsPermutation};
 ghost use Rattle.tlsf_heap.specs.Blocks.{Free, size_of, words_in, is_free, words_for};
 ghost use Rattle.tlsf_class.specs.Classes.{class_of};
 ghost use Rattle.tlsf_heap.specs.Lawful.{IsRegion, AreRegions};

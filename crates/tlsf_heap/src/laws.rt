@@ -1,10 +1,32 @@
-ghost use Rattle.std.specs.Prelude.{ℕ, ◌<◌, length};
+ghost use Rattle.std.specs.Prelude.{◌≡◌, ◌≢◌, ℕ, ◌<◌, List, Err, length};
 ghost use Rattle.tlsf_heap.specs.Blocks.{HeapState};
+ghost use Rattle.tlsf_heap.specs.Calls.{Call, allocated, answered, released, run};
 ghost use Rattle.tlsf_heap.specs.Lawful.{IsLawful};
-ghost use Rattle.tlsf_heap.specs.Laws.{LieApart, LieInRegion};
+ghost use Rattle.tlsf_heap.specs.Laws.{LieApart, LieInRegion, IsLive, IsGiven, IsTaken, TakesBack};
+ghost use Rattle.tlsf_heap.specs.declared.name.Name.{Name};
+ghost use Rattle.tlsf_heap.specs.declared.refusal.Refusal.TheVariants.{Foreign, Stale};
 
 /// No word of a lawful heap lies in two blocks, and each block lies in the region.
 pub fn blocks_never_overlap()
     ensures apart { (h : HeapState) → IsLawful h → (i j : ℕ) → i < j → j < length h.blocks → LieApart h i j }
     ensures within { (h : HeapState) → IsLawful h → (i : ℕ) → i < length h.blocks → LieInRegion h i }
+{}
+
+/// A name is live from the call that gives it to the release that takes it back, and never again.
+pub fn names_live_until_released()
+    // A heap keeps its number, and stays lawful through every list of calls.
+    ensures ids { (h : HeapState) (call : Call) → (answered h call).1.id ≡ h.id }
+    ensures lawful { (h : HeapState) (calls : List Call) → IsLawful h → IsLawful (run h calls).1 }
+
+    // The name that an allocate gives is live, and was not live before.
+    ensures given { (h : HeapState) (len : ℕ) (name : Name) → IsGiven h len name → IsLive (allocated h len).heap name }
+    ensures new { (h : HeapState) (len : ℕ) (name : Name) → IsLawful h → IsGiven h len name → ¬ (IsLive h name) }
+
+    // It stays live through each call but the release that takes it back, and no call makes it live after that.
+    ensures kept { (h : HeapState) (name : Name) (call : Call) → ¬ (TakesBack h name call) → IsLive h name → IsLive (answered h call).1 name }
+    ensures gone { (h : HeapState) (name : Name) (calls : List Call) → IsLawful h → IsTaken h name → ¬ (IsLive (run (released h name).heap calls).1 name) }
+
+    // The release of a name of the heap that is not live is refused as Stale, that of a live one neither so nor as Foreign.
+    ensures stale { (h : HeapState) (name : Name) → name.heap ≡ h.id → ¬ (IsLive h name) → (released h name).answer ≡ Err Stale }
+    ensures known { (h : HeapState) (name : Name) → IsLive h name → ((released h name).answer ≢ Err Stale) × ((released h name).answer ≢ Err Foreign) }
 {}

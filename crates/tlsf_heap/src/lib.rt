@@ -30,7 +30,7 @@ mod region;
 mod tests;
 
 pub use heap::Heap;
-pub use laws::blocks_never_overlap;
+pub use laws::{blocks_never_overlap, names_live_until_released};
 pub use name::Name;
 pub use open_fault::OpenFault;
 pub use refusal::Refusal;

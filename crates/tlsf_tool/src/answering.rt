@@ -1,5 +1,5 @@
 //! Running the lines of a trace on a heap.
-ghost use Rattle.std.specs.Prelude.{◌≡◌, ◌∷◌, [], ℕ, List, IfOk, map, string_bytes, vec_len, length};
+ghost use Rattle.std.specs.Prelude.{◌≡◌, ◌∷◌, [], List, IfOk, map, string_bytes};
 ghost use Rattle.tlsf_tool.specs.Entries;
 ghost use Rattle.tlsf_tool.specs.Recalling.{Recalls};
 ghost use Rattle.tlsf_tool.specs.Views.{view_line};

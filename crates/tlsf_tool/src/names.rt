@@ -1,4 +1,4 @@
-ghost use Rattle.std.specs.Prelude.{◌≡◌, ℕ, List, [], ◌∷◌, Ok, OnOk, option_copied};
+ghost use Rattle.std.specs.Prelude.{◌≡◌, ℕ, List, [], ◌∷◌, Ok, OnOk};
 ghost use Rattle.tlsf_tool.specs.Recalling.{Recalls};
 ghost use Rattle.tlsf_tool.specs.Entries.{name_of};
 ghost use Rattle.tlsf_tool.specs.declared.entry.Entry.{Entry as AnEntry};

@@ -1,4 +1,4 @@
-ghost use Rattle.std.specs.Prelude.{◌≡◌, ◌+◌, ◌==◌, ◌<◌, ◌≤◌, ◌^◌, length, IfErr, IfOk, OnOk, IfSome, count_by, vec_len};
+ghost use Rattle.std.specs.Prelude.{◌≡◌, ◌+◌, ◌==◌, ◌<◌, length, IfErr, IfOk, OnOk, IfSome, count_by};
 ghost use Rattle.std.specs.Io.KnownBytes.{Consumes, IsAtEnd};
 ghost use Rattle.tlsf_tool.specs.Limits.{IsWithinLimits, IsTooLong};
 ghost use Rattle.tlsf_tool.specs.Pieces.{open_count};

@@ -1,0 +1,123 @@
+-- What a call comes to: a refusal, or an edit at the site of one block.
+use Rattle.std.proofs.Common.{◌≡◌, ℕ, Bool, true, false, cond, eqb, List, [], ◌∷◌, ◌++◌, length, filter, find, Option, Some, None, Ok, refl, sym, subst, inl, inr, append_assoc}
+use Rattle.std.specs.Prelude.{IsSome, ◌⊎◌}
+use Rattle.std.specs.List.{AllByRecursion}
+use Rattle.std.proofs.lemmas.Bool.{eqb-true, false≢true}
+use Rattle.tlsf_heap.specs.Blocks.{Block, HeapState, size_of, bytes_of, want}
+use Rattle.tlsf_heap.specs.GoodFit.{Site, sites, sites_behind, place_of, is_fit, fits, choice}
+use Rattle.tlsf_heap.specs.Lawful.{IsLawful}
+use Rattle.tlsf_heap.specs.Calls.{Outcome, refused, is_worn, ticked, with_blocks, carved, allocated, allocated_at, is_named, named, coalesced, released, released_at, overwritten, with_bytes, has_bytes, written, written_at, Call, Allocate, Release, Write, Read, answered, run}
+use Rattle.tlsf_heap.specs.declared.name.Name.{Name}
+use Rattle.tlsf_heap.specs.declared.refusal.Refusal.{Refusal}
+use Rattle.tlsf_heap.specs.declared.refusal.Refusal.TheVariants.{NoFit, Worn, Foreign, Stale, Range}
+use Rattle.tlsf_heap.proofs.Finding.{and_left}
+use Rattle.tlsf_heap.proofs.Allocating.{lawful_carved}
+use Rattle.tlsf_heap.proofs.Releasing.{lawful_at}
+use Rattle.tlsf_heap.proofs.Writing.{lawful_bytes, length-overwritten, range_fits}
+
+-- ---- what a search finds
+
+pub by_test : {X : Type 0} (P : X → Type 0) (b : Bool) (x y : X) → (b ≡ true → P x) → P y → P (cond b x y)
+by_test P true x y f g = f refl
+by_test P false x y f g = g
+
+module _ {X : Type 0} where
+  found_or : (P : X → Type 0) (p : X → Bool) (b : Bool) (y : X) (rest : Option X) (x : X) → p y ≡ b → P y → (rest ≡ Some x → P x × (p x ≡ true)) → cond b (Some y) rest ≡ Some x → P x × (p x ≡ true)
+  found_or P p true y rest x t holds f e = let same : y ≡ x = cc in subst (λ (z : X). P z × (p z ≡ true)) same (holds, t)
+  found_or P p false y rest x t holds f e = f e
+
+  found_has : (P : X → Type 0) (p : X → Bool) (xs : List X) (x : X) → AllByRecursion P xs → find p xs ≡ Some x → P x × (p x ≡ true)
+  found_has P p [] x all e = cc
+  found_has P p (y ∷ xs) x all e = found_or P p (p y) y (find p xs) x refl all.0 (found_has P p xs x all.1) e
+
+  filtered : (P : X → Type 0) (q : X → Bool) (xs : List X) → AllByRecursion P xs → AllByRecursion (λ x. P x × (q x ≡ true)) (filter q xs)
+  filtered P q [] all = tt
+  filtered P q (x ∷ xs) all =
+      let rest = filtered P q xs all.1 in
+      by_test (AllByRecursion (λ x. P x × (q x ≡ true))) (q x) (x ∷ filter q xs) (filter q xs) (λ t. ((all.0, t), rest)) rest
+
+  pub first_or : {A B : Type 0} (b : Bool) (x : X) (rest : Option X) → (b ≡ true → A) → (IsSome rest → B) → IsSome (cond b (Some x) rest) → A ⊎ B
+  first_or true x rest f g h = inl (f refl)
+  first_or false x rest f g h = inr (g h)
+
+  pub or_first : (b : Bool) (x : X) (rest : Option X) → (b ≡ true) ⊎ IsSome rest → IsSome (cond b (Some x) rest)
+  or_first true x rest h = refl
+  or_first false x rest h = elim h [ inl t ↦ absurd (false≢true t) | inr r ↦ r ]
+
+-- a site of a list is all of it
+abbrev pub IsSiteOf : List Block → Site → Type 0
+IsSiteOf bs s = s.before ++ s.block ∷ s.after ≡ bs
+
+sites_whole : (p bs : List Block) → AllByRecursion (IsSiteOf (p ++ bs)) (sites_behind p bs)
+sites_whole p [] = tt
+sites_whole p (b ∷ bs) = (refl, subst (λ (l : List Block). AllByRecursion (IsSiteOf l) (sites_behind (p ++ b ∷ []) bs)) (append_assoc p (b ∷ []) bs) (sites_whole (p ++ b ∷ []) bs))
+
+chosen_site : (n : ℕ) (bs : List Block) (s : Site) → choice n bs ≡ Some s → IsSiteOf bs s × (is_fit n s.block ≡ true)
+chosen_site n bs s e = (found_has (λ s. IsSiteOf bs s × (is_fit n s.block ≡ true)) _ (fits n bs) s (filtered (IsSiteOf bs) (λ s. is_fit n s.block) (sites bs) (sites_whole [] bs)) e).0
+
+named_site : (name : Name) (bs : List Block) (s : Site) → named name bs ≡ Some s → IsSiteOf bs s × (is_named name.at name.serial s ≡ true)
+named_site name bs s e = found_has (IsSiteOf bs) (is_named name.at name.serial) (sites bs) s (sites_whole [] bs) e
+
+-- ---- what a call comes to: a refusal, or an edit at a site
+
+abbrev pub gives : HeapState → ℕ → Site → Outcome Name
+gives h len s = record {
+  answer = Ok (record { heap = h.id; at = place_of s; serial = h.tick });
+  heap = ticked h (s.before ++ carved (size_of s.block) (want len) h.tick len ++ s.after);
+}
+
+pub by_allocated : (P : Outcome Name → Type 0) (h : HeapState) (len : ℕ) → ((why : Refusal) → P (refused h why))
+    → ((s : Site) → IsSiteOf h.blocks s → is_fit (want len) s.block ≡ true → P (gives h len s)) → P (allocated h len)
+by_allocated P h len if_refused if_done = at (choice (want len) h.blocks) refl
+  where
+    at : (o : Option Site) → choice (want len) h.blocks ≡ o → P (allocated_at h len o)
+    at None e = if_refused NoFit
+    at (Some s) e = let site = chosen_site (want len) h.blocks s e in by_test P (is_worn h) (refused h Worn) (gives h len s) (λ _. if_refused Worn) (if_done s site.0 site.1)
+
+abbrev pub takes : HeapState → Site → Outcome (Unit {0})
+takes h s = record { answer = Ok tt; heap = ticked h (coalesced h.tick s) }
+
+pub by_released : (P : Outcome (Unit {0}) → Type 0) (h : HeapState) (name : Name) → ((why : Refusal) → P (refused h why))
+    → ((s : Site) → name.heap ≡ h.id → IsSiteOf h.blocks s → is_named name.at name.serial s ≡ true → P (takes h s)) → P (released h name)
+by_released P h name if_refused if_done =
+    by_test P (eqb name.heap h.id) (released_at h (named name h.blocks)) (refused h Foreign) (λ own. at (eqb-true name.heap h.id own) (named name h.blocks) refl) (if_refused Foreign)
+  where
+    at : name.heap ≡ h.id → (o : Option Site) → named name h.blocks ≡ o → P (released_at h o)
+    at own None e = if_refused Stale
+    at own (Some s) e = let site = named_site name h.blocks s e in by_test P (is_worn h) (refused h Worn) (takes h s) (λ _. if_refused Worn) (if_done s own site.0 site.1)
+
+abbrev pub writes : HeapState → ℕ → List ℕ → Site → Outcome (Unit {0})
+writes h at bytes s = record { answer = Ok tt; heap = with_blocks h (s.before ++ with_bytes s.block (overwritten (bytes_of s.block) at bytes) ∷ s.after) }
+
+pub by_written : (P : Outcome (Unit {0}) → Type 0) (h : HeapState) (name : Name) (at : ℕ) (bytes : List ℕ) → ((why : Refusal) → P (refused h why))
+    → ((s : Site) → IsSiteOf h.blocks s → has_bytes s.block at (length bytes) ≡ true → P (writes h at bytes s)) → P (written h name at bytes)
+by_written P h name at bytes if_refused if_done = by_test P (eqb name.heap h.id) (written_at h at bytes (named name h.blocks)) (refused h Foreign) (λ _. on (named name h.blocks) refl) (if_refused Foreign)
+  where
+    on : (o : Option Site) → named name h.blocks ≡ o → P (written_at h at bytes o)
+    on None e = if_refused Stale
+    on (Some s) e = by_test P (has_bytes s.block at (length bytes)) (writes h at bytes s) (refused h Range) (if_done s (named_site name h.blocks s e).0) (if_refused Range)
+
+-- ---- a heap keeps its number and its laws
+
+pub ids : (h : HeapState) (call : Call) → (answered h call).1.id ≡ h.id
+ids h (Allocate len) = by_allocated (λ o. o.heap.id ≡ h.id) h len (λ why. refl) (λ s site fit. refl)
+ids h (Release name) = by_released (λ o. o.heap.id ≡ h.id) h name (λ why. refl) (λ s own site is. refl)
+ids h (Write name at bytes) = by_written (λ o. o.heap.id ≡ h.id) h name at bytes (λ why. refl) (λ s site has. refl)
+ids h (Read name at n) = refl
+
+pub lawful_site : (h : HeapState) (s : Site) → IsSiteOf h.blocks s → IsLawful h → IsLawful (with_blocks h (s.before ++ s.block ∷ s.after))
+lawful_site h s site lawful = subst (λ (l : List Block). IsLawful (with_blocks h l)) (sym site) lawful
+
+lawful_call : (h : HeapState) (call : Call) → IsLawful h → IsLawful (answered h call).1
+lawful_call h (Allocate len) lawful =
+    by_allocated (λ o. IsLawful o.heap) h len (λ why. lawful) (λ s site fit. lawful_carved h s.before s.after s.block len fit (lawful_site h s site lawful))
+lawful_call h (Release name) lawful =
+    by_released (λ o. IsLawful o.heap) h name (λ why. lawful) (λ s own site is. lawful_at h s.before s.after s.block name.serial (and_left _ _ is) (lawful_site h s site lawful))
+lawful_call h (Write name at bytes) lawful =
+    by_written (λ o. IsLawful o.heap) h name at bytes (λ why. lawful) (λ s site has.
+    lawful_bytes h s.before s.after s.block _ (length-overwritten (bytes_of s.block) bytes at (range_fits s.block at (length bytes) has)) (lawful_site h s site lawful))
+lawful_call h (Read name at n) lawful = lawful
+
+pub lawful_run : (h : HeapState) (calls : List Call) → IsLawful h → IsLawful (run h calls).1
+lawful_run h [] lawful = lawful
+lawful_run h (call ∷ calls) lawful = lawful_run (answered h call).1 calls (lawful_call h call lawful)
