@@ -1,0 +1,92 @@
+-- A worker's own calls keep its yard whole.
+use Rattle.std.proofs.Common.{suc, zero, [], ◌∷◌, ◌≡◌, ◌≢◌, ℕ, ◌<◌, List, Option, Some, None, Result, length, get_or, set, sym, ◌∙◌, ap, arith, refl, inl, inr, subst}
+use Rattle.std.specs.List.{slice_get}
+use Rattle.std.proofs.lemmas.Option.{slice_get_within}
+use Rattle.std.proofs.lemmas.Bool.{cases_eq}
+use Rattle.std.proofs.lemmas.List.{length-set}
+use Rattle.tlsf_post.specs.declared.post.Post.{Post}
+use Rattle.tlsf_post.specs.declared.post_end.PostEnd.{PostEnd}
+use Rattle.tlsf_post.specs.declared.take_end.TakeEnd.{TakeEnd}
+use Rattle.tlsf_post.specs.Lanes.{capacity_of, IsLane}
+use Rattle.tlsf_crew.specs.declared.worker.Worker.{Worker}
+use Rattle.tlsf_crew.specs.Yard.{post_at, take_at, own_numbers, capacity_in, HasEnds, IsYard, SameButHeap, PutTo, TookFrom}
+use Rattle.tlsf_crew.specs.Calls.{KeepsYards}
+use Rattle.tlsf_crew.proofs.Slots.{map_same, get_set_same}
+use Rattle.tlsf_crew.proofs.Worlds.{some_same, heap_yard}
+use Rattle.tlsf_crew.proofs.Laying.{PostSet, posts_set, TakeSet, takes_set}
+
+pub heap_keeps : (a v : Worker) → SameButHeap a v → KeepsYards a v
+heap_keeps a v same ws i is yard = heap_yard ws i a v is same yard
+
+set_twice : (ws : List Worker) (i : ℕ) (b v : Worker) → set (set ws i b) i v ≡ set ws i v
+set_twice [] i b v = refl
+set_twice (w ∷ ws) zero b v = refl
+set_twice (w ∷ ws) (suc i) b v = ap (λ l. w ∷ l) (set_twice ws i b v)
+
+none_or_some : {X : Type 0} (o : Option X) (x : X) → o ≡ None → o ≡ Some x → ⊥
+none_or_some o x a b = let e = sym a ∙ b in cc
+
+put_ends : (ws : List Worker) (i j : ℕ) (a v : Worker) (post : Post) (answer : Result (Unit {0}) Post) → slice_get ws i ≡ Some a → (put : PutTo a v j post answer)
+    → post_at ws i j ≡ Some put.end → PostSet ws (set ws i v) i j put.new_end → IsYard ws → (x y : ℕ) → x < length ws → y < length ws → x ≢ y → HasEnds (set ws i v) x y
+put_ends ws i j a v post answer is put here there yard x y x_in y_in apart =
+    let h = yard.lanes x y x_in y_in apart in
+    let same : capacity_in (set ws i v) ≡ capacity_in ws = ap (λ (l : List (ℕ × ℕ)). (get_or l 0 (0, 0)).1) (map_same own_numbers ws i a v is put.same.1) in
+    elim (cases_eq x i) [
+      | inl xi ↦ elim (cases_eq y j) [
+        | inl yj ↦
+            let own : post_at ws x y ≡ Some put.end = rw (xi, yj) here in
+            let e : h.0 ≡ put.end = some_same h.0 put.end (sym h.2 ∙ own) in
+            let lane : IsLane put.end h.1 = subst (λ (z : PostEnd). IsLane z h.1) e h.4 in
+            (put.new_end, h.1, rw (xi, yj) there.here, there.takes x y ∙ h.3, put.lane.1 h.1 lane, put.lane.0 ∙ (sym (ap capacity_of e) ∙ (h.5 ∙ sym same)))
+        | inr yj ↦ (h.0, h.1, there.others x y (λ _ f. yj f) ∙ h.2, there.takes x y ∙ h.3, h.4, h.5 ∙ sym same)
+      ]
+      | inr xi ↦ (h.0, h.1, there.others x y (λ f _. xi f) ∙ h.2, there.takes x y ∙ h.3, h.4, h.5 ∙ sym same)
+    ]
+
+pub put_keeps : (a v : Worker) (j : ℕ) (post : Post) (answer : Result (Unit {0}) Post) → PutTo a v j post answer → KeepsYards a v
+put_keeps a v j post answer put ws i is yard =
+    let here : post_at ws i j ≡ Some put.end = rw (is, put.end_is) refl in
+    let ne : i ≢ j = λ e. none_or_some (post_at ws i i) put.end (yard.alone i) (subst (λ (z : ℕ). post_at ws i z ≡ Some put.end) (sym e) here) in
+    let there = posts_set ws i j a v put.new_end is (slice_get_within a.posts.items j (Some put.end) put.end_is) put.posts put.same.2 in
+    let len = length-set ws i v in
+    record {
+      few = omega (arith, len, yard.few);
+      ids = λ x x_in. ap (λ (l : List (ℕ × ℕ)). (get_or l x (0, 0)).0) (map_same own_numbers ws i a v is put.same.1) ∙ yard.ids x (omega (arith, len));
+      alone = λ x. there.others x x (λ e f. ne (sym e ∙ f)) ∙ yard.alone x;
+      lanes = λ x y x_in y_in apart. put_ends ws i j a v post answer is put here there yard x y (omega (arith, len)) (omega (arith, len)) apart;
+    }
+
+take_ends : (ws : List Worker) (i j : ℕ) (a v : Worker) (post : Option Post) → slice_get ws j ≡ Some a → (got : TookFrom a v i post)
+    → take_at ws i j ≡ Some got.end → TakeSet ws (set ws j v) i j got.new_end → IsYard ws → (x y : ℕ) → x < length ws → y < length ws → x ≢ y → HasEnds (set ws j v) x y
+take_ends ws i j a v post is got here there yard x y x_in y_in apart =
+    let h = yard.lanes x y x_in y_in apart in
+    let same : capacity_in (set ws j v) ≡ capacity_in ws = ap (λ (l : List (ℕ × ℕ)). (get_or l 0 (0, 0)).1) (map_same own_numbers ws j a v is got.same.1) in
+    elim (cases_eq x i) [
+      | inl xi ↦ elim (cases_eq y j) [
+        | inl yj ↦
+            let own : take_at ws x y ≡ Some got.end = rw (xi, yj) here in
+            let e : h.1 ≡ got.end = some_same h.1 got.end (sym h.3 ∙ own) in
+            let lane : IsLane h.0 got.end = subst (λ (z : TakeEnd). IsLane h.0 z) e h.4 in
+            (h.0, got.new_end, there.posts x y ∙ h.2, rw (xi, yj) there.here, got.lane h.0 lane, h.5 ∙ sym same)
+        | inr yj ↦ (h.0, h.1, there.posts x y ∙ h.2, there.others x y (λ _ f. yj f) ∙ h.3, h.4, h.5 ∙ sym same)
+      ]
+      | inr xi ↦ (h.0, h.1, there.posts x y ∙ h.2, there.others x y (λ f _. xi f) ∙ h.3, h.4, h.5 ∙ sym same)
+    ]
+
+pub take_keeps : (a v : Worker) (i : ℕ) (post : Option Post) → TookFrom a v i post → KeepsYards a v
+take_keeps a v i post got ws j is yard =
+    let here : take_at ws i j ≡ Some got.end = rw (is, got.end_is) refl in
+    let there = takes_set ws i j a v got.new_end is (slice_get_within a.takes.items i (Some got.end) got.end_is) got.takes got.same.2 in
+    let len = length-set ws j v in
+    record {
+      few = omega (arith, len, yard.few);
+      ids = λ x x_in. ap (λ (l : List (ℕ × ℕ)). (get_or l x (0, 0)).0) (map_same own_numbers ws j a v is got.same.1) ∙ yard.ids x (omega (arith, len));
+      alone = λ x. there.posts x x ∙ yard.alone x;
+      lanes = λ x y x_in y_in apart. take_ends ws i j a v post is got here there yard x y (omega (arith, len)) (omega (arith, len)) apart;
+    }
+
+-- one after the other
+pub keeps_then : (a b v : Worker) → KeepsYards a b → KeepsYards b v → KeepsYards a v
+keeps_then a b v x y ws i is yard =
+    let at : slice_get (set ws i b) i ≡ Some b = get_set_same ws i b (slice_get_within ws i a is) in
+    subst IsYard (set_twice ws i b v) (y (set ws i b) i at (x ws i is yard))

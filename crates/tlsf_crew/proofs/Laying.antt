@@ -1,0 +1,218 @@
+-- Workers get their lanes.
+use Rattle.std.proofs.Common.{suc, zero, [], ◌∷◌, ◌++◌, ◌≡◌, ◌≢◌, ℕ, ◌+◌, ◌<◌, List, Option, Some, None, length, get_or, set, replicate, sym, ◌∙◌, ap, map, arith, refl, inl, inr, subst}
+use Rattle.std.specs.List.{slice_get, range_with_len}
+use Rattle.std.proofs.lemmas.Option.{slice_get_within}
+use Rattle.std.proofs.lemmas.Bool.{cases_eq}
+use Rattle.std.proofs.lemmas.List.{map-append, length-replicate, length-set}
+use Rattle.std.proofs.lemmas.List.FromFn.{map-range_with_len_more, get_or-map-range_with_len}
+use Rattle.tlsf_post.specs.declared.post_end.PostEnd.{PostEnd}
+use Rattle.tlsf_post.specs.declared.take_end.TakeEnd.{TakeEnd}
+use Rattle.tlsf_post.specs.Lanes.{posts_sent, capacity_of, waited, taken, IsLane}
+use Rattle.tlsf_crew.specs.declared.worker.Worker.{Worker}
+use Rattle.tlsf_crew.specs.Yard.{post_at, take_at, slot_of, heap_shown, own_numbers, capacity_in, lane_waits, IsYard}
+use Rattle.tlsf_crew.specs.World.{world_of}
+use Rattle.tlsf_crew.specs.Opening.{AreSizes, IsBefore, IsLaid, opened_heaps, opened_numbers, opened_world}
+use Rattle.tlsf_crew.proofs.Slots.{get_set_same, get_set_other, map_same}
+use Rattle.tlsf_crew.proofs.Worlds.{same_world, some_same}
+
+-- worker i got an end that posts to j
+pub record PostSet (ws us : List Worker) (i j : ℕ) (p : PostEnd) : Type 0 where
+  pub here : post_at us i j ≡ Some p
+  pub others : (x y : ℕ) → (x ≡ i → y ≡ j → ⊥) → post_at us x y ≡ post_at ws x y
+  pub takes : (x y : ℕ) → take_at us x y ≡ take_at ws x y
+
+pub posts_set : (ws : List Worker) (i j : ℕ) (a v : Worker) (p : PostEnd) → slice_get ws i ≡ Some a → j < length a.posts.items
+    → v.posts.items ≡ set a.posts.items j (Some p) → v.takes ≡ a.takes → PostSet ws (set ws i v) i j p
+posts_set ws i j a v p is lt e same =
+    let at_i : slice_get (set ws i v) i ≡ Some v = get_set_same ws i v (slice_get_within ws i a is) in
+    record {
+      here = rw (at_i, e, get_set_same a.posts.items j (Some p) lt) refl;
+      others = λ x y away.
+          elim (cases_eq x i) [
+            | inl xi ↦ let yj : y ≢ j = λ q. away xi q in rw (xi, at_i, is, e, get_set_other a.posts.items j y (Some p) yj) refl
+            | inr xi ↦ rw (get_set_other ws i x v xi) refl
+          ];
+      takes = λ x y.
+          elim (cases_eq y i) [
+            | inl yi ↦ rw (yi, at_i, is) (ap (λ k. slot_of (slice_get k.items x)) same)
+            | inr yi ↦ rw (get_set_other ws i y v yi) refl
+          ];
+    }
+
+-- worker j got an end that takes from i
+pub record TakeSet (ws us : List Worker) (i j : ℕ) (t : TakeEnd) : Type 0 where
+  pub here : take_at us i j ≡ Some t
+  pub others : (x y : ℕ) → (x ≡ i → y ≡ j → ⊥) → take_at us x y ≡ take_at ws x y
+  pub posts : (x y : ℕ) → post_at us x y ≡ post_at ws x y
+
+pub takes_set : (ws : List Worker) (i j : ℕ) (b w : Worker) (t : TakeEnd) → slice_get ws j ≡ Some b → i < length b.takes.items
+    → w.takes.items ≡ set b.takes.items i (Some t) → w.posts ≡ b.posts → TakeSet ws (set ws j w) i j t
+takes_set ws i j b w t is lt e same =
+    let at_j : slice_get (set ws j w) j ≡ Some w = get_set_same ws j w (slice_get_within ws j b is) in
+    record {
+      here = rw (at_j, e, get_set_same b.takes.items i (Some t) lt) refl;
+      others = λ x y away.
+          elim (cases_eq y j) [
+            | inl yj ↦ let xi : x ≢ i = λ q. away q yj in rw (yj, at_j, is, e, get_set_other b.takes.items i x (Some t) xi) refl
+            | inr yj ↦ rw (get_set_other ws j y w yj) refl
+          ];
+      posts = λ x y.
+          elim (cases_eq x j) [
+            | inl xj ↦ rw (xj, at_j, is) (ap (λ k. slot_of (slice_get k.items y)) same)
+            | inr xj ↦ rw (get_set_other ws j x w xj) refl
+          ];
+    }
+
+-- each worker still has its slots
+slots_set : (ws : List Worker) (n i : ℕ) (v : Worker) → i < length ws → ((x : ℕ) (a : Worker) → slice_get ws x ≡ Some a → (length a.posts.items ≡ n) × (length a.takes.items ≡ n))
+    → (length v.posts.items ≡ n) × (length v.takes.items ≡ n) → (x : ℕ) (a : Worker) → slice_get (set ws i v) x ≡ Some a → (length a.posts.items ≡ n) × (length a.takes.items ≡ n)
+slots_set ws n i v i_in slots own x a is =
+    elim (cases_eq x i) [
+      | inl xi ↦
+          let e : v ≡ a = some_same v a (sym (get_set_same ws i v i_in) ∙ (sym (ap (slice_get (set ws i v)) xi) ∙ is)) in
+          subst (λ (z : Worker). (length z.posts.items ≡ n) × (length z.takes.items ≡ n)) e own
+      | inr xi ↦ slots x a (sym (get_set_other ws i x v xi) ∙ is)
+    ]
+
+before_more : (i j x y : ℕ) → IsBefore i (j + 1) x y → (x ≡ i → y ≡ j → ⊥) → IsBefore i j x y
+before_more i j x y b away =
+    elim b [
+      | inl lt ↦ inl lt
+      | inr e ↦ (let ne : y ≢ j = λ q. away e.0 q in let lt = e.1 in inr (e.0, omega arith))
+    ]
+
+-- one lane more
+pub lane_laid : (ws : List Worker) (n words capacity i j : ℕ) (a v b w : Worker) (p : PostEnd) (t : TakeEnd)
+    → IsLaid ws n words capacity i j → i < n → j < n → i ≢ j
+    → slice_get ws i ≡ Some a → v.posts.items ≡ set a.posts.items j (Some p) → (v.heap ≡ a.heap) × (own_numbers v ≡ own_numbers a) × (v.takes ≡ a.takes)
+    → slice_get (set ws i v) j ≡ Some b → w.takes.items ≡ set b.takes.items i (Some t) → (w.heap ≡ b.heap) × (own_numbers w ≡ own_numbers b) × (w.posts ≡ b.posts)
+    → IsLane p t → capacity_of p ≡ capacity → (posts_sent p ≡ []) × (waited t ≡ []) × (taken t ≡ [])
+    → IsLaid (set (set ws i v) j w) n words capacity i (j + 1)
+lane_laid ws n words capacity i j a v b w p t l i_in j_in ne a_is posts a_same b_is takes b_same lane same_capacity fresh =
+    let us = set ws i v in
+    let vs = set us j w in
+    let len_u = length-set ws i v in
+    let len_v = length-set us j w in
+    let l_len = l.len in
+    let a_slots = l.slots i a a_is in
+    let lt_j : j < length a.posts.items = omega (arith, a_slots.0) in
+    let first = posts_set ws i j a v p a_is lt_j posts a_same.2 in
+    let v_slots : (length v.posts.items ≡ n) × (length v.takes.items ≡ n) = (ap length posts ∙ (length-set a.posts.items j (Some p) ∙ a_slots.0), ap (λ k. length k.items) a_same.2 ∙ a_slots.1) in
+    let i_len : i < length ws = omega arith in
+    let slots_u = slots_set ws n i v i_len l.slots v_slots in
+    let b_slots = slots_u j b b_is in
+    let lt_i : i < length b.takes.items = omega (arith, b_slots.1) in
+    let second = takes_set us i j b w t b_is lt_i takes b_same.2 in
+    let w_slots : (length w.posts.items ≡ n) × (length w.takes.items ≡ n) = (ap (λ k. length k.items) b_same.2 ∙ b_slots.0, ap length takes ∙ (length-set b.takes.items i (Some t) ∙ b_slots.1)) in
+    let j_len : j < length us = omega arith in
+    let post_here : post_at vs i j ≡ Some p = second.posts i j ∙ first.here in
+    let post_other : (x y : ℕ) → (x ≡ i → y ≡ j → ⊥) → post_at vs x y ≡ post_at ws x y = λ x y away. second.posts x y ∙ first.others x y away in
+    let take_other : (x y : ℕ) → (x ≡ i → y ≡ j → ⊥) → take_at vs x y ≡ take_at ws x y = λ x y away. second.others x y away ∙ first.takes x y in
+    let nothing : lane_waits (Some p) (Some t) ≡ [] = rw (fresh.0, fresh.1, fresh.2) refl in
+    record {
+      len = len_v ∙ (len_u ∙ l.len);
+      heaps = map_same heap_shown us j b w b_is (ap (λ h. h.heap) b_same.0) ∙ (map_same heap_shown ws i a v a_is (ap (λ h. h.heap) a_same.0) ∙ l.heaps);
+      numbers = map_same own_numbers us j b w b_is b_same.1 ∙ (map_same own_numbers ws i a v a_is a_same.1 ∙ l.numbers);
+      slots = slots_set us n j w j_len slots_u w_slots;
+      empty = λ x y.
+          elim (cases_eq x i) [
+            | inl xi ↦ elim (cases_eq y j) [
+              | inl yj ↦ rw (xi, yj, post_here, second.here) nothing
+              | inr yj ↦ rw (post_other x y (λ _ f. yj f), take_other x y (λ _ f. yj f)) (l.empty x y)
+            ]
+            | inr xi ↦ rw (post_other x y (λ f _. xi f), take_other x y (λ f _. xi f)) (l.empty x y)
+          ];
+      alone = λ x. post_other x x (λ a b. ne (sym a ∙ b)) ∙ l.alone x;
+      laid = λ x y x_in y_in apart before.
+          elim (cases_eq x i) [
+            | inl xi ↦ elim (cases_eq y j) [
+              | inl yj ↦ rw (xi, yj) (p, t, post_here, second.here, lane, same_capacity)
+              | inr yj ↦ let h = l.laid x y x_in y_in apart (before_more i j x y before (λ _ f. yj f)) in
+                  (h.0, h.1, post_other x y (λ _ f. yj f) ∙ h.2, take_other x y (λ _ f. yj f) ∙ h.3, h.4, h.5)
+            ]
+            | inr xi ↦ let h = l.laid x y x_in y_in apart (before_more i j x y before (λ f _. xi f)) in
+                (h.0, h.1, post_other x y (λ f _. xi f) ∙ h.2, take_other x y (λ f _. xi f) ∙ h.3, h.4, h.5)
+          ];
+    }
+
+-- the same lanes, counted otherwise
+laid_along : (ws : List Worker) (n words capacity i j k m : ℕ) → IsLaid ws n words capacity i j
+    → ((x y : ℕ) → x < n → y < n → x ≢ y → IsBefore k m x y → IsBefore i j x y) → IsLaid ws n words capacity k m
+laid_along ws n words capacity i j k m l f =
+    record { len = l.len; heaps = l.heaps; numbers = l.numbers; slots = l.slots; empty = l.empty; alone = l.alone; laid = λ x y a b ne before. l.laid x y a b ne (f x y a b ne before) }
+
+pub lane_skipped : (ws : List Worker) (n words capacity i j : ℕ) → i ≡ j → IsLaid ws n words capacity i j → IsLaid ws n words capacity i (j + 1)
+lane_skipped ws n words capacity i j e l =
+    laid_along ws n words capacity i j i (j + 1) l (λ x y _ _ ne before. before_more i j x y before (λ xi yj. ne (xi ∙ (e ∙ sym yj))))
+
+pub row_laid : (ws : List Worker) (n words capacity i : ℕ) → IsLaid ws n words capacity i n → IsLaid ws n words capacity (i + 1) 0
+row_laid ws n words capacity i l =
+    laid_along ws n words capacity i n (i + 1) 0 l (λ x y _ y_in _ before. elim before [
+      | inl lt ↦ elim (cases_eq x i) [ inl e ↦ inr (e, y_in) | inr ne ↦ inl (omega arith) ]
+      | inr e ↦ absurd (let lt = e.1 in omega arith)
+    ])
+
+-- when all lanes are laid
+pub laid_yard : (ws : List Worker) (n words capacity : ℕ) → AreSizes n words capacity → IsLaid ws n words capacity n 0 → IsYard ws
+laid_yard ws n words capacity sizes l =
+    let l_len = l.len in
+    let n_in : 0 < n = let s = sizes.0.0 in omega arith in
+    let first : capacity_in ws ≡ capacity =
+    ap (λ (k : List (ℕ × ℕ)). (get_or k 0 (0, 0)).1) l.numbers ∙ ap (λ (k : ℕ × ℕ). k.1) (get_or-map-range_with_len (λ (j : ℕ). (j, capacity)) 0 n 0 0 (0, 0) n_in refl) in
+    record {
+      few = let s = sizes.0.1 in omega arith;
+      ids = λ i i_in.
+          ap (λ (k : List (ℕ × ℕ)). (get_or k i (0, 0)).0) l.numbers
+          ∙ ap (λ (k : ℕ × ℕ). k.0) (get_or-map-range_with_len (λ (j : ℕ). (j, capacity)) 0 n i i (0, 0) (omega arith) (omega arith));
+      alone = l.alone;
+      lanes = λ x y x_in y_in ne.
+          let x_n : x < n = omega arith in
+          let y_n : y < n = omega arith in
+          let h = l.laid x y x_n y_n ne (inl x_n) in
+          (h.0, h.1, h.2, h.3, h.4, h.5 ∙ sym first);
+    }
+
+pub laid_world : (ws : List Worker) (n words capacity : ℕ) → AreSizes n words capacity → IsLaid ws n words capacity n 0 → world_of ws ≡ opened_world n words capacity
+unfolding world_of
+laid_world ws n words capacity sizes l =
+    let n_in : 0 < n = let s = sizes.0.0 in omega arith in
+    same_world (world_of ws) (opened_world n words capacity) l.heaps l.empty
+    (ap (λ (k : List (ℕ × ℕ)). (get_or k 0 (0, 0)).1) l.numbers ∙ ap (λ (k : ℕ × ℕ). k.1) (get_or-map-range_with_len (λ (j : ℕ). (j, capacity)) 0 n 0 0 (0, 0) n_in refl))
+
+-- one worker more
+pub map_push : {X : Type 0} (f : Worker → X) (g : ℕ → X) (ws : List Worker) (w : Worker) (k : ℕ) → map f ws ≡ map g (range_with_len 0 k) → f w ≡ g k
+    → map f (ws ++ w ∷ []) ≡ map g (range_with_len 0 (k + 1))
+map_push f g ws w k e q = map-append f ws (w ∷ []) ∙ (ap (λ l. l ++ f w ∷ []) e ∙ (ap (λ z. map g (range_with_len 0 k) ++ z ∷ []) q ∙ sym (map-range_with_len_more g 0 k k (omega arith))))
+
+-- workers with no lanes
+abbrev pub AreAlone : List Worker → ℕ → Type 0
+AreAlone ws n = (x : ℕ) (a : Worker) → slice_get ws x ≡ Some a → (a.posts.items ≡ replicate n None) × (a.takes.items ≡ replicate n None)
+
+pub alone_push : (ws : List Worker) (w : Worker) (n : ℕ) → AreAlone ws n → w.posts.items ≡ replicate n None → w.takes.items ≡ replicate n None → AreAlone (ws ++ w ∷ []) n
+alone_push [] w n alone p t zero a is = let e : w ≡ a = some_same w a is in rw (← e) (p, t)
+alone_push [] w n alone p t (suc x) a is = cc
+alone_push (z ∷ ws) w n alone p t zero a is = alone zero a is
+alone_push (z ∷ ws) w n alone p t (suc x) a is = alone_push ws w n (λ y b q. alone (suc y) b q) p t x a is
+
+no_slot : {X : Type 0} (n y : ℕ) → slot_of (slice_get (replicate {A = Option X} n None) y) ≡ None
+no_slot zero y = refl
+no_slot (suc n) zero = refl
+no_slot (suc n) (suc y) = no_slot n y
+
+none_at : (ws : List Worker) (n x y : ℕ) → AreAlone ws n → post_at ws x y ≡ None
+none_at [] n x y alone = refl
+none_at (w ∷ ws) n zero y alone = rw ((alone 0 w refl).0) (no_slot n y)
+none_at (w ∷ ws) n (suc x) y alone = none_at ws n x y (λ z b q. alone (suc z) b q)
+
+pub alone_laid : (ws : List Worker) (n words capacity : ℕ) → length ws ≡ n → map heap_shown ws ≡ opened_heaps n words → map own_numbers ws ≡ opened_numbers n capacity → AreAlone ws n
+    → IsLaid ws n words capacity 0 0
+alone_laid ws n words capacity len heaps numbers alone =
+    record {
+      len = len;
+      heaps = heaps;
+      numbers = numbers;
+      slots = λ x a is. let h = alone x a is in (ap length h.0 ∙ length-replicate n None, ap length h.1 ∙ length-replicate n None);
+      empty = λ x y. rw (none_at ws n x y alone) refl;
+      alone = λ x. none_at ws n x x alone;
+      laid = λ x y _ _ _ before. elim before [ inl lt ↦ absurd (omega arith) | inr e ↦ absurd (let lt = e.1 in omega arith) ];
+    }

@@ -1,0 +1,14 @@
+pub mod Padding
+pub mod Ends
+pub mod Halves
+pub mod Slots
+pub mod Worlds
+pub mod Across
+pub mod OneEvent
+pub mod EventSteps
+pub mod Pending
+pub mod Reading
+pub mod Laying
+pub mod Settled
+pub mod Room
+pub mod Keeping

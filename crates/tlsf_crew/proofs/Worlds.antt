@@ -1,0 +1,171 @@
+-- What a change of one lane does to the world.
+use Rattle.std.proofs.Common.{suc, zero, [], ◌∷◌, ◌++◌, ◌≡◌, ◌≢◌, ℕ, ◌<◌, List, Some, length, get_or, set, drop, sym, ◌∙◌, ap, map, arith, refl, inl, inr, subst}
+use Rattle.std.specs.List.{slice_get}
+use Rattle.std.proofs.lemmas.Option.{slice_get_within}
+use Rattle.std.proofs.lemmas.Bool.{cases_eq}
+use Rattle.std.proofs.lemmas.Bool.Decides.{nat_tests}
+use Rattle.std.proofs.lemmas.List.{map-set}
+use Rattle.std.proofs.Math.ListN.{length-set}
+use Rattle.tlsf_post.specs.declared.post.Post.{Post}
+use Rattle.tlsf_post.specs.declared.post_end.PostEnd.{PostEnd}
+use Rattle.tlsf_post.specs.declared.take_end.TakeEnd.{TakeEnd}
+use Rattle.tlsf_post.specs.Lanes.{posts_sent, capacity_of, waited, taken}
+use Rattle.tlsf_crew.specs.declared.worker.Worker.{Worker}
+use Rattle.tlsf_crew.specs.Yard.{LaneChange, SameLane, post_at, take_at, slot_of, HasEnds, IsYard, heap_shown, own_numbers, capacity_in, lane_waits}
+use Rattle.tlsf_crew.specs.World.{World, world_of, edited, with_waiting, with_heap, no_heap, heap_in}
+use Rattle.tlsf_crew.proofs.Slots.{get_set_same, get_set_other, map_same, same_then}
+
+-- worlds are equal by heaps, by what waits in each pair, and by capacity
+pub same_world : (v w : World) → v.heaps ≡ w.heaps → ((i j : ℕ) → v.waiting i j ≡ w.waiting i j) → v.capacity ≡ w.capacity → v ≡ w
+same_world v w a b c = λ k. record { heaps = a k; waiting = λ i j. b i j k; capacity = c k }
+
+pub edited_same : (f : ℕ → ℕ → List Post) (i j : ℕ) (ps : List Post) → edited f i j ps i j ≡ ps
+edited_same f i j ps = grind (arith, nat_tests)
+
+pub edited_other : (f : ℕ → ℕ → List Post) (i j x y : ℕ) (ps : List Post) → (x ≡ i → y ≡ j → ⊥) → edited f i j ps x y ≡ f x y
+edited_other f i j x y ps away =
+    elim (cases_eq x i) [
+      | inl xi ↦ elim (cases_eq y j) [
+        | inl yj ↦ absurd (away xi yj)
+        | inr yj ↦ grind (arith, nat_tests)
+      ]
+      | inr xi ↦ grind (arith, nat_tests)
+    ]
+
+-- what is written back changes nothing
+pub with_same : (w : World) (i j : ℕ) (ps : List Post) → w.waiting i j ≡ ps → with_waiting w i j ps ≡ w
+with_same w i j ps e =
+    same_world (with_waiting w i j ps) w refl (λ x y.
+    elim (cases_eq x i) [
+      | inl xi ↦ elim (cases_eq y j) [
+        | inl yj ↦ rw (xi, yj) (edited_same w.waiting i j ps ∙ sym e)
+        | inr yj ↦ edited_other w.waiting i j x y ps (λ _ f. yj f)
+      ]
+      | inr xi ↦ edited_other w.waiting i j x y ps (λ f _. xi f)
+    ]) refl
+
+-- one lane changed
+pub changed_world : (ws vs : List Worker) (i j : ℕ) (p : PostEnd) (t : TakeEnd) (q : PostEnd) (u : TakeEnd) (ps : List Post)
+    → LaneChange ws vs i j p t q u → lane_waits (Some q) (Some u) ≡ ps → world_of vs ≡ with_waiting (world_of ws) i j ps
+unfolding world_of
+changed_world ws vs i j p t q u ps c e =
+    same_world (world_of vs) (with_waiting (world_of ws) i j ps) c.heaps (λ x y.
+    elim (cases_eq x i) [
+      | inl xi ↦ elim (cases_eq y j) [
+        | inl yj ↦ rw (xi, yj, c.new_post_is, c.new_take_is) (e ∙ sym (edited_same (world_of ws).waiting i j ps))
+        | inr yj ↦ let s = c.same x y (λ _ f. yj f) in rw (s.0, s.1) (sym (edited_other (world_of ws).waiting i j x y ps (λ _ f. yj f)))
+      ]
+      | inr xi ↦ let s = c.same x y (λ f _. xi f) in rw (s.0, s.1) (sym (edited_other (world_of ws).waiting i j x y ps (λ f _. xi f)))
+    ]) (ap (λ (l : List (ℕ × ℕ)). (get_or l 0 (0, 0)).1) c.numbers)
+
+pub waits_between : (ws : List Worker) (i j : ℕ) (p : PostEnd) (t : TakeEnd) → post_at ws i j ≡ Some p → take_at ws i j ≡ Some t
+    → (world_of ws).waiting i j ≡ drop (length (taken t)) (waited t ++ posts_sent p)
+unfolding world_of
+waits_between ws i j p t a b = rw (a, b) refl
+
+pub capacity_is : (ws : List Worker) → (world_of ws).capacity ≡ capacity_in ws
+unfolding world_of
+capacity_is ws = refl
+
+-- two changes of one lane
+pub change_then : (ws vs us : List Worker) (i j : ℕ) (p q r : PostEnd) (t u s : TakeEnd)
+    → LaneChange ws vs i j p t q u → LaneChange vs us i j q u r s → LaneChange ws us i j p t r s
+change_then ws vs us i j p q r t u s a b =
+    record {
+      post_is = a.post_is;
+      take_is = a.take_is;
+      new_post_is = b.new_post_is;
+      new_take_is = b.new_take_is;
+      same = λ x y away. same_then ws vs us x y (a.same x y away) (b.same x y away);
+      heaps = b.heaps ∙ a.heaps;
+      numbers = b.numbers ∙ a.numbers;
+      len = b.len ∙ a.len;
+      lane = b.lane;
+      capacity = b.capacity ∙ a.capacity;
+    }
+
+pub some_same : {X : Type 0} (x y : X) → Some x ≡ Some y → x ≡ y
+some_same x y e = cc
+
+changed_lanes : (ws vs : List Worker) (i j : ℕ) (p : PostEnd) (t : TakeEnd) (q : PostEnd) (u : TakeEnd)
+    → LaneChange ws vs i j p t q u → IsYard ws → (x y : ℕ) → x < length vs → y < length vs → x ≢ y → HasEnds vs x y
+changed_lanes ws vs i j p t q u c yard x y x_in y_in ne =
+    let same_capacity : capacity_in vs ≡ capacity_in ws = ap (λ (l : List (ℕ × ℕ)). (get_or l 0 (0, 0)).1) c.numbers in
+    let a : x < length ws = omega (arith, c.len) in
+    let b : y < length ws = omega (arith, c.len) in
+    let h = yard.lanes x y a b ne in
+    elim (cases_eq x i) [
+      | inl xi ↦ elim (cases_eq y j) [
+        | inl yj ↦
+            let here : post_at ws i j ≡ Some h.0 = subst (λ (z : ℕ). post_at ws z j ≡ Some h.0) xi (subst (λ (z : ℕ). post_at ws x z ≡ Some h.0) yj h.2) in
+            let e : h.0 ≡ p = some_same h.0 p (sym here ∙ c.post_is) in
+            let k : capacity_of q ≡ capacity_in vs = c.capacity ∙ (sym (ap capacity_of e) ∙ (h.5 ∙ sym same_capacity)) in
+            rw (xi, yj) (q, u, c.new_post_is, c.new_take_is, c.lane, k)
+        | inr yj ↦ let s = c.same x y (λ _ f. yj f) in (h.0, h.1, s.0 ∙ h.2, s.1 ∙ h.3, h.4, h.5 ∙ sym same_capacity)
+      ]
+      | inr xi ↦ let s = c.same x y (λ f _. xi f) in (h.0, h.1, s.0 ∙ h.2, s.1 ∙ h.3, h.4, h.5 ∙ sym same_capacity)
+    ]
+
+-- a yard stays whole
+pub changed_yard : (ws vs : List Worker) (i j : ℕ) (p : PostEnd) (t : TakeEnd) (q : PostEnd) (u : TakeEnd)
+    → i ≢ j → LaneChange ws vs i j p t q u → IsYard ws → IsYard vs
+changed_yard ws vs i j p t q u ne c yard = record {
+  few = omega (arith, c.len, yard.few);
+  ids = λ x x_in. ap (λ (l : List (ℕ × ℕ)). (get_or l x (0, 0)).0) c.numbers ∙ yard.ids x (omega (arith, c.len));
+  alone = λ x. (c.same x x (λ a b. ne (sym a ∙ b))).0 ∙ yard.alone x;
+  lanes = changed_lanes ws vs i j p t q u c yard;
+}
+
+pub heap_at : (ws : List Worker) (i : ℕ) (a : Worker) → slice_get ws i ≡ Some a → get_or (map heap_shown ws) i no_heap ≡ a.heap.heap
+heap_at [] i a e = cc
+heap_at (w ∷ ws) zero a e = ap (λ x. x.heap.heap) (some_same w a e)
+heap_at (w ∷ ws) (suc i) a e = heap_at ws i a e
+
+pub heap_lanes : (ws : List Worker) (i : ℕ) (a v : Worker) → slice_get ws i ≡ Some a
+    → (own_numbers v ≡ own_numbers a) × (v.posts ≡ a.posts) × (v.takes ≡ a.takes) → (x y : ℕ) → SameLane ws (set ws i v) x y
+heap_lanes ws i a v is same x y =
+    let i_in : i < length ws = slice_get_within ws i a is in
+    let at_i : slice_get (set ws i v) i ≡ Some v = get_set_same ws i v i_in in (
+      elim (cases_eq x i) [
+        | inl xi ↦ rw (xi, at_i, is) (ap (λ k. slot_of (slice_get k.items y)) same.1)
+        | inr xi ↦ rw (get_set_other ws i x v xi) refl
+      ],
+      elim (cases_eq y i) [
+        | inl yi ↦ rw (yi, at_i, is) (ap (λ k. slot_of (slice_get k.items x)) same.2)
+        | inr yi ↦ rw (get_set_other ws i y v yi) refl
+      ],
+    )
+
+-- one heap changed
+pub heap_world : (ws : List Worker) (i : ℕ) (a v : Worker) → slice_get ws i ≡ Some a
+    → (own_numbers v ≡ own_numbers a) × (v.posts ≡ a.posts) × (v.takes ≡ a.takes) → world_of (set ws i v) ≡ with_heap (world_of ws) i v.heap.heap
+unfolding world_of
+heap_world ws i a v is same =
+    let i_in : i < length ws = slice_get_within ws i a is in
+    let at_i : slice_get (set ws i v) i ≡ Some v = get_set_same ws i v i_in in
+    same_world (world_of (set ws i v)) (with_heap (world_of ws) i v.heap.heap) (map-set heap_shown ws i v)
+    (λ x y. let s = heap_lanes ws i a v is same x y in rw (s.0, s.1) refl)
+    (ap (λ (l : List (ℕ × ℕ)). (get_or l 0 (0, 0)).1) (map_same own_numbers ws i a v is same.0))
+
+heap_ends : (ws : List Worker) (i : ℕ) (a v : Worker) → slice_get ws i ≡ Some a
+    → (own_numbers v ≡ own_numbers a) × (v.posts ≡ a.posts) × (v.takes ≡ a.takes) → IsYard ws → (x y : ℕ) → x < length (set ws i v) → y < length (set ws i v) → x ≢ y → HasEnds (set ws i v) x y
+heap_ends ws i a v is same yard x y x_in y_in ne =
+    let n = length-set ws i v in
+    let xi : x < length ws = omega arith in
+    let yi : y < length ws = omega arith in
+    let h = yard.lanes x y xi yi ne in
+    let s = heap_lanes ws i a v is same x y in
+    (h.0, h.1, s.0 ∙ h.2, s.1 ∙ h.3, h.4, h.5 ∙ sym (ap (λ (l : List (ℕ × ℕ)). (get_or l 0 (0, 0)).1) (map_same own_numbers ws i a v is same.0)))
+
+pub heap_yard : (ws : List Worker) (i : ℕ) (a v : Worker) → slice_get ws i ≡ Some a
+    → (own_numbers v ≡ own_numbers a) × (v.posts ≡ a.posts) × (v.takes ≡ a.takes) → IsYard ws → IsYard (set ws i v)
+heap_yard ws i a v is same yard = record {
+  few = omega (arith, length-set ws i v, yard.few);
+  ids = λ x x_in. ap (λ (l : List (ℕ × ℕ)). (get_or l x (0, 0)).0) (map_same own_numbers ws i a v is same.0) ∙ yard.ids x (omega (arith, length-set ws i v));
+  alone = λ x. (heap_lanes ws i a v is same x x).0 ∙ yard.alone x;
+  lanes = heap_ends ws i a v is same yard;
+}
+
+pub heap_in_is : (ws : List Worker) (i : ℕ) (a : Worker) → slice_get ws i ≡ Some a → heap_in (world_of ws) i ≡ a.heap.heap
+unfolding world_of
+heap_in_is ws i a is = heap_at ws i a is

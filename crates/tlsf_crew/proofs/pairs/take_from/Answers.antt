@@ -1,0 +1,23 @@
+use Rattle.std.proofs.Common.{◌≡◌, ◌∙◌, refl, sym, ap, Some}
+use Rattle.std.specs.Option.{option_copied_mut}
+use Rattle.tlsf_crew.proofs.Ends.{same_end}
+use Rattle.tlsf_crew.proofs.pairs.take_from.Goals as goal
+
+pub returns : goal.returns
+returns c =
+    let e = c.take.ensures in
+    let p = c.requires.0 in
+    let a : Some c.in-Some.end.now ≡ c.index_mut.result.now = sym (ap option_copied_mut c.in-Some.is) ∙ c.as_mut.ensures.value in
+    let pe : c.in-Some.end.now ≡ p = same_end _ c.args.taker.now.takes.items c.args.i _ _ c.index_mut.ensures.value c.requires.1 a in
+    record {
+      end = p;
+      new_end = c.take.new.self;
+      end_is = c.requires.1;
+      takes = refl;
+      same = (refl, refl, refl);
+      lane = rw (← pe) e.lane;
+      still = rw (← pe) e.waited;
+      some = rw (← pe) e.some;
+      none = rw (← pe) e.none;
+      succeeds = rw (← pe) e.succeeds;
+    }

@@ -1,0 +1,9 @@
+use Rattle.std.proofs.Common.{refl}
+use Rattle.tlsf_crew.proofs.Keeping.{heap_keeps}
+use Rattle.tlsf_crew.proofs.worker.Worker.allocate.Goals as goal
+
+pub returns-in-Ok-clause-yard : goal.returns-in-Ok-clause-yard
+returns-in-Ok-clause-yard c = heap_keeps _ _ (refl, refl, refl)
+
+pub returns-in-Err-clause-yard : goal.returns-in-Err-clause-yard
+returns-in-Err-clause-yard c = heap_keeps _ _ (refl, refl, refl)

@@ -1,0 +1,21 @@
+use Rattle.std.proofs.Common.{refl}
+use Rattle.tlsf_crew.proofs.Keeping.{heap_keeps, put_keeps}
+use Rattle.tlsf_crew.proofs.worker.Worker.release.Goals as goal
+
+pub returns-in-Ok-clause-yard : goal.returns-in-Ok-clause-yard
+returns-in-Ok-clause-yard c = heap_keeps _ _ (refl, refl, refl)
+
+pub returns-in-Err-clause-yard : goal.returns-in-Err-clause-yard
+returns-in-Err-clause-yard c = heap_keeps _ _ (refl, refl, refl)
+
+pub returns-then-not-has_post-clause-yard : goal.returns-then-not-has_post-clause-yard
+returns-then-not-has_post-clause-yard c = heap_keeps _ _ (refl, refl, refl)
+
+pub put_to-requires : goal.put_to-requires
+put_to-requires c = c.has_post.ensures.yes c.if-not-has_post.false
+
+pub returns-in-Ok-put_to-clause-yard : goal.returns-in-Ok-put_to-clause-yard
+returns-in-Ok-put_to-clause-yard c = put_keeps _ _ _ _ _ c.in-Ok-put_to.ensures
+
+pub returns-in-Err-put_to-clause-yard : goal.returns-in-Err-put_to-clause-yard
+returns-in-Err-put_to-clause-yard c = put_keeps _ _ _ _ _ c.in-Err-put_to.ensures

@@ -1,0 +1,47 @@
+//! Workers, each the owner of one heap, and lanes between them on which names go back to their owner.
+//!
+//! [`open_yard`] opens a whole yard: one heap for each [`Worker`], and a lane from each worker to each other. A worker
+//! allocates, writes and reads on its own heap alone. A name of another's heap it posts into the lane to that owner, who
+//! takes it and releases the block.
+//!
+//! Contracts see a whole yard (`IsYard`) as a `World`: the heaps, what waits in each lane, and the lanes' capacity.
+//! [`replay_events`] runs a list of events on it, one after another, and answers what the definition `replies` says. It
+//! tells both ends of a lane all before and after each call that concerns it, so a lane is full exactly where its
+//! capacity of posts waits. [`settle`] does so for all lanes at once and leaves the world as it is.
+//!
+//! Each call of a `Worker` takes no memory and doesn't wait, and keeps its yard whole.
+#![tactic(auto)]
+
+mod call;
+mod chunk;
+mod crew_refusal;
+mod drains;
+mod entry;
+mod event;
+mod opening;
+mod own;
+mod pairs;
+mod released;
+mod replaying;
+mod reply;
+mod settling;
+mod steps;
+mod target;
+#[cfg(test)]
+mod tests;
+mod took;
+mod worker;
+
+pub use call::Call;
+pub use chunk::Chunk;
+pub use crew_refusal::CrewRefusal;
+pub use entry::Entry;
+pub use event::Event;
+pub use opening::open_yard;
+pub use released::Released;
+pub use replaying::replay_events;
+pub use reply::Reply;
+pub use settling::settle;
+pub use target::Target;
+pub use took::Took;
+pub use worker::Worker;

@@ -1,0 +1,58 @@
+// One lane, both ends in hand.
+ghost use Rattle.std.specs.Prelude.{◌≡◌, ◌≢◌, ℕ, ◌+◌, ◌<◌, ◌≤◌, [], ◌∷◌, ◌++◌, length, vec_len, Some, slice_get, slice_set};
+ghost use Rattle.tlsf_crew.specs.Yard.{HasLane, LaneMet, InYard, LaneStep, HasEnds, IsYard, HasPost, HasTake, PutTo, TookFrom};
+
+use crate::worker::Worker;
+use tlsf_post::{Post, beside};
+
+/// The lane from one worker to another.
+fn settle_pair(poster: &mut Worker, taker: &mut Worker, i: usize, j: usize)
+    requires { HasLane i j poster.old taker.old }
+    ensures { LaneMet i j poster.old taker.old poster.new taker.new }
+{
+    let Some(post) = poster.posts[j].as_mut() else {
+        unreachable!()
+    };
+    let Some(take) = taker.takes[i].as_mut() else {
+        unreachable!()
+    };
+    beside(post, take);
+}
+
+/// The lane from worker i to worker j.
+pub(crate) fn settle_lane(workers: &mut [Worker], i: usize, j: usize)
+    requires apart { i ≢ j }
+    requires inside { (i < length workers.old) × (j < length workers.old) }
+    requires lane { HasEnds workers.old i j }
+    ensures { LaneStep workers.old i j workers.new }
+{
+    if i < j {
+        let (low, high) = workers.split_at_mut(j);
+        settle_pair(&mut low[i], &mut high[0], i, j);
+    } else {
+        let (low, high) = workers.split_at_mut(i);
+        settle_pair(&mut high[0], &mut low[j], i, j);
+    }
+}
+
+/// Posts on the own end.
+pub(crate) fn put_to(poster: &mut Worker, j: usize, post: Post) -> Result<(), Post>
+    requires { HasPost poster.old j }
+    ensures { PutTo poster.old poster.new j post result }
+{
+    let Some(end) = poster.posts[j].as_mut() else {
+        unreachable!()
+    };
+    end.put(post)
+}
+
+/// Takes from the own end.
+pub(crate) fn take_from(taker: &mut Worker, i: usize) -> Option<Post>
+    requires { HasTake taker.old i }
+    ensures { TookFrom taker.old taker.new i result }
+{
+    let Some(end) = taker.takes[i].as_mut() else {
+        unreachable!()
+    };
+    end.take()
+}

@@ -1,0 +1,40 @@
+ghost use Rattle.std.specs.Prelude.{◌≡◌, ℕ, ◌<◌, length};
+ghost use Rattle.tlsf_crew.specs.Yard.{IsYard};
+ghost use Rattle.tlsf_crew.specs.World.{world_of};
+ghost use Rattle.tlsf_crew.specs.Settling.{HaveMet, RowMet};
+
+use crate::pairs::settle_lane;
+use crate::worker::Worker;
+
+/// Settles each lane of a whole yard: its two ends tell each other what they did since they last met. All that was
+/// posted then waits at the end that takes, and the end that posts knows each free slot.
+///
+/// - `met`: for each lane, the posts that were taken and then those that wait are those that had waited and then those
+///   that were sent. No post is lost, doubled or overtaken.
+/// - `world`: what the yard shows stays the same. No heap changes, and in each lane the same posts wait.
+pub fn settle(workers: &mut [Worker])
+    requires { IsYard workers.old }
+    ensures met { HaveMet workers.old workers.new }
+    ensures yard { IsYard workers.new }
+    ensures count { length workers.new ≡ length workers.old }
+    ensures world { world_of workers.new ≡ world_of workers.old }
+{
+    for i in 0..workers.len() {
+        settle_row(workers, i);
+    }
+}
+
+/// Settles the lanes from one worker.
+fn settle_row(workers: &mut [Worker], i: usize)
+    requires yard { IsYard workers.old }
+    requires inside { i < length workers.old }
+    ensures met { RowMet workers.old workers.new i (length workers.old) }
+    ensures yard { IsYard workers.new }
+    ensures world { world_of workers.new ≡ world_of workers.old }
+{
+    for j in 0..workers.len() {
+        if i != j {
+            settle_lane(workers, i, j);
+        }
+    }
+}
