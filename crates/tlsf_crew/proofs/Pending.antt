@@ -1,13 +1,16 @@
--- How many posts wait in a world.
-use Rattle.std.proofs.Common.{suc, zero, ◌≡◌, ◌≢◌, ℕ, ◌+◌, ◌*◌, ◌<◌, ◌≤◌, List, length, sym, ap, arith, refl, inl, inr}
+-- How many posts wait in a world, and how many of them are ready.
+use Rattle.std.proofs.Common.{suc, zero, ◌≡◌, ◌≢◌, ℕ, ◌+◌, ◌<◌, ◌≤◌, List, Some, length, slice_get, sym, ap, arith, refl, inl, inr, add-one}
 use Rattle.std.proofs.lemmas.Bool.{cases_eq}
 use Rattle.tlsf_post.specs.declared.post.Post.{Post}
-use Rattle.tlsf_crew.specs.World.{World, edited}
+use Rattle.tlsf_post.specs.Lanes.{waited}
+use Rattle.tlsf_crew.specs.declared.worker.Worker.{Worker}
+use Rattle.tlsf_crew.specs.Yard.{lane_waits, take_at, IsYard}
+use Rattle.tlsf_crew.specs.World.{world_of, edited}
+use Rattle.tlsf_crew.specs.Settling.{HaveMet}
+use Rattle.tlsf_crew.specs.Counts.{sum_below, lanes_sum, waiting_in, count_of, ready_from, ready_below, ready_in}
 use Rattle.tlsf_crew.proofs.Worlds.{edited_same, edited_other}
-
-abbrev pub sum_below : ℕ → (ℕ → ℕ) → ℕ
-sum_below zero f = 0
-sum_below (suc k) f = sum_below k f + f k
+use Rattle.tlsf_crew.proofs.Across.{waits_after}
+use Rattle.tlsf_crew.proofs.OneEvent.{heaps_count}
 
 pub same_sum : (n : ℕ) (f g : ℕ → ℕ) → ((x : ℕ) → x < n → g x ≡ f x) → sum_below n g ≡ sum_below n f
 same_sum zero f g e = refl
@@ -33,33 +36,46 @@ changed_sum (suc k) f g i lt e =
           omega arith
     ]
 
-pub lanes_sum : ℕ → (ℕ → ℕ → List Post) → ℕ
-lanes_sum n f = sum_below n (λ i. sum_below n (λ j. length (f i j)))
+-- none of the numbers is less
+least_sum : (n : ℕ) (f g : ℕ → ℕ) → ((x : ℕ) → x < n → f x ≤ g x) → sum_below n f ≤ sum_below n g
+least_sum zero f g le = omega arith
+least_sum (suc k) f g le =
+    let a = least_sum k f g (λ x lt. le x (omega arith)) in
+    let b = le k (omega arith) in
+    omega arith
 
-unfoldable pub pending : World → ℕ
-pending w = lanes_sum (length w.heaps) w.waiting
-
+-- other posts in one lane
 pub edited_sum : (n : ℕ) (f : ℕ → ℕ → List Post) (i j : ℕ) (ps : List Post) → i < n → j < n
-    → lanes_sum n (edited f i j ps) + length (f i j) ≡ lanes_sum n f + length ps
-unfolding lanes_sum
+    → lanes_sum n (λ x y. length (edited f i j ps x y)) + length (f i j) ≡ lanes_sum n (λ x y. length (f x y)) + length ps
 edited_sum n f i j ps i_in j_in =
-    let row = changed_sum n (λ y. length (f i y)) (λ y. length (edited f i j ps i y)) j j_in (λ y ne. ap length (edited_other f i j i y ps (λ _ b. ne b))) in
-    let all = changed_sum n (λ x. sum_below n (λ y. length (f x y))) (λ x. sum_below n (λ y. length (edited f i j ps x y))) i i_in
-    (λ x ne. same_sum n (λ y. length (f x y)) (λ y. length (edited f i j ps x y)) (λ y _. ap length (edited_other f i j x y ps (λ a _. ne a)))) in
+    let one = changed_sum n (λ x. length (f x j)) (λ x. length (edited f i j ps x j)) i i_in (λ x ne. ap length (edited_other f i j x j ps (λ a _. ne a))) in
+    let all = changed_sum n (λ y. sum_below n (λ x. length (f x y))) (λ y. sum_below n (λ x. length (edited f i j ps x y))) j j_in
+    (λ y ne. same_sum n (λ x. length (f x y)) (λ x. length (edited f i j ps x y)) (λ x _. ap length (edited_other f i j x y ps (λ _ b. ne b)))) in
     let same = ap length (edited_same f i j ps) in
     omega arith
 
--- each of the numbers is at most c
-pub sum_most : (n c : ℕ) (f : ℕ → ℕ) → ((x : ℕ) → x < n → f x ≤ c) → sum_below n f ≤ n * c
-sum_most zero c f most = omega arith
-sum_most (suc k) c f most =
-    let a = sum_most k c f (λ x lt. most x (omega arith)) in
-    let b = most k (omega arith) in
-    let e : suc k * c ≡ k * c + c = grind arith in
-    omega arith
+-- what is ready for one worker more
+pub worker_ready : (ws : List Worker) (j : ℕ) (w : Worker) → slice_get ws j ≡ Some w → ready_below ws (j + 1) ≡ ready_below ws j + sum_below (length ws) (ready_from w)
+worker_ready ws j w e = rw (add-one, e) refl
 
-pub pending_most : (w : World) (c : ℕ) → ((i j : ℕ) → i < length w.heaps → j < length w.heaps → length (w.waiting i j) ≤ c) → pending w ≤ length w.heaps * (length w.heaps * c)
-unfolding pending lanes_sum
-pending_most w c most =
-    let n = length w.heaps in
-    sum_most n (n * c) (λ i. sum_below n (λ j. length (w.waiting i j))) (λ i i_in. sum_most n c (λ j. length (w.waiting i j)) (λ j j_in. most i j i_in j_in))
+-- in a settled yard all that waits is ready
+lane_ready : (ws vs : List Worker) (i j : ℕ) → length vs ≡ length ws → HaveMet ws vs → IsYard vs → i < length vs → j < length vs
+    → length ((world_of vs).waiting i j) ≤ count_of (take_at vs i j)
+unfolding world_of
+lane_ready ws vs i j len met yard i_in j_in =
+    elim (cases_eq i j) [
+      | inl e ↦ rw (e, yard.alone j) (omega arith)
+      | inr ne ↦
+          let m = met i j (omega (arith, len)) (omega (arith, len)) ne in
+          let waits : lane_waits (Some m.new_post) (Some m.new_take) ≡ waited m.new_take = waits_after _ _ _ _ m.meets in
+          let n = ap length waits in
+          let r = ap length m.meets.fresh.2 in
+          rw (m.new_post_is, m.new_take_is) (omega arith)
+    ]
+
+pub all_ready : (ws vs : List Worker) → length vs ≡ length ws → HaveMet ws vs → IsYard vs → waiting_in (world_of vs) ≤ ready_in vs
+unfolding waiting_in ready_in
+all_ready ws vs len met yard =
+    let n = length vs in
+    rw (heaps_count vs) (least_sum n (λ j. sum_below n (λ i. length ((world_of vs).waiting i j))) (λ j. sum_below n (λ i. count_of (take_at vs i j)))
+    (λ j j_in. least_sum n (λ i. length ((world_of vs).waiting i j)) (λ i. count_of (take_at vs i j)) (λ i i_in. lane_ready ws vs i j len met yard i_in j_in)))

@@ -1,9 +1,10 @@
 -- How many entries a list of events makes at most.
-use Rattle.std.proofs.Common.{suc, zero, ◌==◌, true, false, [], ◌∷◌, ◌++◌, ◌≡◌, ℕ, ◌+◌, ◌-◌, ◌*◌, ◌<◌, ◌≤◌, List, Option, Some, None, length, take, drop, sym, ◌∙◌, ap, arith, refl, inl, inr}
+use Rattle.std.proofs.Common.{suc, zero, cond, ◌==◌, true, false, [], ◌∷◌, ◌++◌, ◌≡◌, ℕ, ◌+◌, ◌-◌, ◌<◌, ◌≤◌, List, Option, Some, None, length, take, drop, sym, ◌∙◌, ap, arith, refl, inl, inr}
 use Rattle.std.specs.List.{fold}
 use Rattle.std.proofs.lemmas.Bool.{cases_eq, cases_lt}
 use Rattle.std.proofs.lemmas.Bool.Decides.{nat_tests}
 use Rattle.std.proofs.lemmas.List.{length_push, length-set, take-append-drop}
+use Rattle.std.proofs.lemmas.List.Sums.{sum_by-cons}
 use Rattle.tlsf_heap.specs.Blocks.{HeapState}
 use Rattle.tlsf_heap.specs.declared.name.Name.{Name}
 use Rattle.tlsf_post.specs.declared.post.Post.{Post}
@@ -12,89 +13,91 @@ use Rattle.tlsf_crew.specs.declared.call.Call.{Call}
 use Rattle.tlsf_crew.specs.declared.call.Call.TheVariants.{Allocate, Release, Write, Read, Take, Drain}
 use Rattle.tlsf_crew.specs.declared.reply.Reply.TheVariants.{Drained, Refused}
 use Rattle.tlsf_crew.specs.declared.crew_refusal.CrewRefusal.TheVariants.{Stranger}
+use Rattle.tlsf_crew.specs.Bytes.{bytes_of}
 use Rattle.tlsf_crew.specs.Heaps.{allocated, released, written}
 use Rattle.tlsf_crew.specs.World.{World, Replied, Replayed, with_heap, with_waiting, heap_in, posting, releasing, releasing_named, writing_named, reading_named, taking, taking_next, took_first, took, took_more, Draining, drained_lane, drained_below, drained_all, draining, answered, called, after, begun, replies, name_of}
+use Rattle.tlsf_crew.specs.Counts.{waiting_in, is_release, releases_in}
 use Rattle.tlsf_crew.proofs.Worlds.{edited_same}
 use Rattle.tlsf_crew.proofs.OneEvent.{releasing_post, releasing_far, taking_lane, taking_own, taking_far, from_other, from_own}
 use Rattle.tlsf_crew.proofs.EventSteps.{after_far, after_near, replies_is}
-use Rattle.tlsf_crew.proofs.Pending.{pending, edited_sum}
+use Rattle.tlsf_crew.proofs.Pending.{edited_sum}
 
-heap_pending : (w : World) (at : ℕ) (h : HeapState) → pending (with_heap w at h) ≡ pending w
-unfolding pending
-heap_pending w at h = rw (length-set w.heaps at h) refl
+heap_waits : (w : World) (at : ℕ) (h : HeapState) → waiting_in (with_heap w at h) ≡ waiting_in w
+unfolding waiting_in
+heap_waits w at h = rw (length-set w.heaps at h) refl
 
-lane_pending : (w : World) (i j : ℕ) (ps : List Post) → i < length w.heaps → j < length w.heaps → pending (with_waiting w i j ps) + length (w.waiting i j) ≡ pending w + length ps
-unfolding pending
-lane_pending w i j ps i_in j_in = edited_sum (length w.heaps) w.waiting i j ps i_in j_in
+lane_waits : (w : World) (i j : ℕ) (ps : List Post) → i < length w.heaps → j < length w.heaps → waiting_in (with_waiting w i j ps) + length (w.waiting i j) ≡ waiting_in w + length ps
+unfolding waiting_in
+lane_waits w i j ps i_in j_in = edited_sum (length w.heaps) w.waiting i j ps i_in j_in
 
-post_pending : (w : World) (at : ℕ) (name : Name) → at < length w.heaps → name.heap < length w.heaps → pending (posting w at name).world ≤ pending w + 1
+post_waits : (w : World) (at : ℕ) (name : Name) → at < length w.heaps → name.heap < length w.heaps → waiting_in (posting w at name).world ≤ waiting_in w + 1
 unfolding posting
-post_pending w at name at_in to_in =
+post_waits w at name at_in to_in =
     elim (cases_eq (length (w.waiting at name.heap)) w.capacity) [
       | inl e ↦ let b : (length (w.waiting at name.heap) == w.capacity) ≡ true = grind (arith, nat_tests) in rw b (omega arith)
       | inr e ↦
           let b : (length (w.waiting at name.heap) == w.capacity) ≡ false = grind (arith, nat_tests) in
           let x : Post = record { from = at; name = name } in
-          let a = lane_pending w at name.heap (w.waiting at name.heap ++ x ∷ []) at_in to_in in
+          let a = lane_waits w at name.heap (w.waiting at name.heap ++ x ∷ []) at_in to_in in
           let n = length_push (w.waiting at name.heap) x in
           rw b (omega arith)
     ]
 
-release_pending : (w : World) (at : ℕ) (name : Name) → at < length w.heaps → pending (releasing w at name).world ≤ pending w + 1
-release_pending w at name at_in =
+release_waits : (w : World) (at : ℕ) (name : Name) → at < length w.heaps → waiting_in (releasing w at name).world ≤ waiting_in w + 1
+release_waits w at name at_in =
     elim (cases_eq name.heap at) [
       | inl e ↦
           let b : (name.heap == at) ≡ true = grind (arith, nat_tests) in
-          let h = heap_pending w at (released (heap_in w at) name).heap in
+          let h = heap_waits w at (released (heap_in w at) name).heap in
           rw b (omega arith)
       | inr e ↦ elim (cases_lt name.heap (length w.heaps)) [
-        | inl lt ↦ rw (releasing_post w at name e lt) (post_pending w at name at_in lt)
+        | inl lt ↦ rw (releasing_post w at name e lt) (post_waits w at name at_in lt)
         | inr ge ↦ rw (releasing_far w at name e ge) (omega arith)
       ]
     ]
 
-named_pending : (w : World) (at : ℕ) (name : Option Name) → at < length w.heaps → pending (releasing_named w at name).world ≤ pending w + 1
-named_pending w at None at_in = omega arith
-named_pending w at (Some name) at_in = release_pending w at name at_in
+named_waits : (w : World) (at : ℕ) (name : Option Name) → at < length w.heaps → waiting_in (releasing_named w at name).world ≤ waiting_in w + 1
+named_waits w at None at_in = omega arith
+named_waits w at (Some name) at_in = release_waits w at name at_in
 
-write_pending : (w : World) (at : ℕ) (name : Option Name) (from : ℕ) (bytes : List ℕ) → pending (writing_named w at name from bytes).world ≤ pending w + 1
-write_pending w at None from bytes = omega arith
-write_pending w at (Some name) from bytes = let h = heap_pending w at (written (heap_in w at) name from bytes).heap in omega arith
+write_waits : (w : World) (at : ℕ) (name : Option Name) (from : ℕ) (bytes : List ℕ) → waiting_in (writing_named w at name from bytes).world ≤ waiting_in w
+write_waits w at None from bytes = omega arith
+write_waits w at (Some name) from bytes = let h = heap_waits w at (written (heap_in w at) name from bytes).heap in omega arith
 
-read_pending : (w : World) (at : ℕ) (name : Option Name) (from n : ℕ) → pending (reading_named w at name from n).world ≤ pending w + 1
-read_pending w at None from n = omega arith
-read_pending w at (Some name) from n = omega arith
+read_waits : (w : World) (at : ℕ) (name : Option Name) (from n : ℕ) → waiting_in (reading_named w at name from n).world ≤ waiting_in w
+read_waits w at None from n = omega arith
+read_waits w at (Some name) from n = omega arith
 
 -- a take takes one post out
-took_pending : (w : World) (at from : ℕ) (p : Post) (rest : List Post) → at < length w.heaps → from < length w.heaps → w.waiting from at ≡ p ∷ rest
-    → pending (took w at from p rest).world + 1 ≡ pending w
-took_pending w at from p rest at_in from_in e =
-    let h = heap_pending (with_waiting w from at rest) at (released (heap_in w at) p.name).heap in
-    let a = lane_pending w from at rest from_in at_in in
+took_waits : (w : World) (at from : ℕ) (p : Post) (rest : List Post) → at < length w.heaps → from < length w.heaps → w.waiting from at ≡ p ∷ rest
+    → waiting_in (took w at from p rest).world + 1 ≡ waiting_in w
+took_waits w at from p rest at_in from_in e =
+    let h = heap_waits (with_waiting w from at rest) at (released (heap_in w at) p.name).heap in
+    let a = lane_waits w from at rest from_in at_in in
     let n : length (w.waiting from at) ≡ length rest + 1 = ap length e ∙ omega arith in
     omega arith
 
-first_pending : (w : World) (at from : ℕ) (ps : List Post) → at < length w.heaps → from < length w.heaps → w.waiting from at ≡ ps → pending (took_first w at from ps).world ≤ pending w
-first_pending w at from [] at_in from_in e = omega arith
-first_pending w at from (p ∷ rest) at_in from_in e = let a = took_pending w at from p rest at_in from_in e in omega arith
+first_waits : (w : World) (at from : ℕ) (ps : List Post) → at < length w.heaps → from < length w.heaps → w.waiting from at ≡ ps → waiting_in (took_first w at from ps).world ≤ waiting_in w
+first_waits w at from [] at_in from_in e = omega arith
+first_waits w at from (p ∷ rest) at_in from_in e = let a = took_waits w at from p rest at_in from_in e in omega arith
 
-next_pending : (w : World) (at from : ℕ) → at < length w.heaps → from < length w.heaps → pending (taking_next w at from).world ≤ pending w
+next_waits : (w : World) (at from : ℕ) → at < length w.heaps → from < length w.heaps → waiting_in (taking_next w at from).world ≤ waiting_in w
 unfolding taking_next
-next_pending w at from at_in from_in = first_pending w at from (w.waiting from at) at_in from_in refl
+next_waits w at from at_in from_in = first_waits w at from (w.waiting from at) at_in from_in refl
 
-take_pending : (w : World) (at from : ℕ) → at < length w.heaps → pending (taking w at from).world ≤ pending w + 1
-take_pending w at from at_in =
+take_waits : (w : World) (at from : ℕ) → at < length w.heaps → waiting_in (taking w at from).world ≤ waiting_in w
+take_waits w at from at_in =
     elim (cases_eq from at) [
       | inl e ↦ rw (taking_own w at from e) (omega arith)
       | inr e ↦ elim (cases_lt from (length w.heaps)) [
-        | inl lt ↦ let a = next_pending w at from at_in lt in rw (taking_lane w at from e lt) (omega arith)
+        | inl lt ↦ let a = next_waits w at from at_in lt in rw (taking_lane w at from e lt) (omega arith)
         | inr ge ↦ rw (taking_far w at from ge) (omega arith)
       ]
     ]
 
 -- each post that a drain takes makes one entry
 abbrev IsEven : Draining → Draining → Type 0
-IsEven d b = (length b.entries + pending b.world ≡ length d.entries + pending d.world) × (length b.world.heaps ≡ length d.world.heaps)
+IsEven d b = (length b.entries + waiting_in b.world ≡ length d.entries + waiting_in d.world) × (length b.world.heaps ≡ length d.world.heaps)
 
 even_then : (d b e : Draining) → IsEven d b → IsEven b e → IsEven d e
 even_then d b e x y = (y.0 ∙ x.0, y.1 ∙ x.1)
@@ -105,7 +108,7 @@ lane_even at from rest [] d at_in from_in e = (refl, refl)
 lane_even at from rest (p ∷ ps) d at_in from_in e =
     let next : drop 1 (d.world.waiting from at) ≡ ps ++ rest = ap (drop 1) e in
     let full : d.world.waiting from at ≡ p ∷ drop 1 (d.world.waiting from at) = e ∙ ap (λ l. p ∷ l) (sym next) in
-    let t = took_pending d.world at from p (drop 1 (d.world.waiting from at)) at_in from_in full in
+    let t = took_waits d.world at from p (drop 1 (d.world.waiting from at)) at_in from_in full in
     let n = length_push d.entries (record { worker = at; call = Take from; reply = (took d.world at from p (drop 1 (d.world.waiting from at))).reply }) in
     let len : length (took_more at from d p).world.heaps ≡ length d.world.heaps = length-set d.world.heaps at (released (heap_in d.world at) p.name).heap in
     let step : IsEven d (took_more at from d p) = (omega arith, len) in
@@ -133,7 +136,7 @@ all_even : (at most : ℕ) (d : Draining) → at < length d.world.heaps → IsEv
 unfolding drained_all
 all_even at most d at_in = below_even at most d (length d.world.heaps) at_in (omega arith)
 
-drain_even : (r : Replayed) (at most : ℕ) → at < length r.world.heaps → length (draining r at most).entries + pending (draining r at most).world ≡ length r.entries + pending r.world + 1
+drain_even : (r : Replayed) (at most : ℕ) → at < length r.world.heaps → length (draining r at most).entries + waiting_in (draining r at most).world ≡ length r.entries + waiting_in r.world + 1
 unfolding draining
 drain_even r at most at_in =
     let d : Draining = record { entries = r.entries; world = r.world; taken = 0 } in
@@ -141,35 +144,39 @@ drain_even r at most at_in =
     let n = length_push (drained_all at most d).entries (record { worker = at; call = Drain most; reply = Drained (drained_all at most d).taken }) in
     omega arith
 
--- an event makes one entry, and one later on where it posts
-answered_room : (r : Replayed) (at : ℕ) (call : Call) (a : Replied) → pending a.world ≤ pending r.world + 1
-    → length (answered r at call a).entries + pending (answered r at call a).world ≤ length r.entries + pending r.world + 2
+-- an event makes one entry, and a release one more later on where it posts
+abbrev later : Call → ℕ
+later call = cond (is_release call) 1 0
+
+answered_room : (r : Replayed) (at : ℕ) (call : Call) (a : Replied) → waiting_in a.world ≤ waiting_in r.world + later call
+    → length (answered r at call a).entries + waiting_in (answered r at call a).world ≤ length r.entries + waiting_in r.world + 1 + later call
 answered_room r at call a le = let n = length_push r.entries (record { worker = at; call = call; reply = a.reply }) in omega arith
 
 called_room : (r : Replayed) (at : ℕ) (call : Call) → at < length r.world.heaps
-    → length (called r at call).entries + pending (called r at call).world ≤ length r.entries + pending r.world + 2
-called_room r at (Allocate len) at_in = answered_room r at (Allocate len) _ (let h = heap_pending r.world at (allocated (heap_in r.world at) len).heap in omega arith)
-called_room r at (Release target) at_in = answered_room r at (Release target) _ (named_pending r.world at (name_of r.made target) at_in)
-called_room r at (Write target from bytes) at_in = answered_room r at (Write target from bytes) _ (write_pending r.world at (name_of r.made target) from _)
-called_room r at (Read target from n) at_in = answered_room r at (Read target from n) _ (read_pending r.world at (name_of r.made target) from n)
-called_room r at (Take from) at_in = answered_room r at (Take from) _ (take_pending r.world at from at_in)
+    → length (called r at call).entries + waiting_in (called r at call).world ≤ length r.entries + waiting_in r.world + 1 + later call
+called_room r at (Allocate len) at_in = answered_room r at (Allocate len) _ (let h = heap_waits r.world at (allocated (heap_in r.world at) len).heap in omega arith)
+called_room r at (Release target) at_in = answered_room r at (Release target) _ (named_waits r.world at (name_of r.made target) at_in)
+called_room r at (Write target from bytes) at_in = answered_room r at (Write target from bytes) _ (let h = write_waits r.world at (name_of r.made target) from (bytes_of bytes) in omega arith)
+called_room r at (Read target from n) at_in = answered_room r at (Read target from n) _ (let h = read_waits r.world at (name_of r.made target) from n in omega arith)
+called_room r at (Take from) at_in = answered_room r at (Take from) _ (let h = take_waits r.world at from at_in in omega arith)
 called_room r at (Drain most) at_in = let a = drain_even r at most at_in in omega arith
 
-after_room : (r : Replayed) (e : Event) → length (after r e).entries + pending (after r e).world ≤ length r.entries + pending r.world + 2
+after_room : (r : Replayed) (e : Event) → length (after r e).entries + waiting_in (after r e).world ≤ length r.entries + waiting_in r.world + 1 + later e.call
 after_room r e =
     elim (cases_lt e.worker (length r.world.heaps)) [
       | inl lt ↦ rw (after_near r e e.call lt refl) (called_room r e.worker e.call lt)
       | inr ge ↦ rw (after_far r e ge) (answered_room r e.worker e.call (record { reply = Refused Stranger; world = r.world }) (omega arith))
     ]
 
-all_room : (es : List Event) (r : Replayed) → length (fold after r es).entries ≤ length r.entries + pending r.world + 2 * length es
+all_room : (es : List Event) (r : Replayed) → length (fold after r es).entries ≤ length r.entries + waiting_in r.world + length es + releases_in es
 all_room [] r = omega arith
 all_room (e ∷ es) r =
     let a = after_room r e in
     let b = all_room es (after r e) in
+    let c : releases_in (e ∷ es) ≡ later e.call + releases_in es = sum_by-cons (λ x. later x.call) e es in
     omega arith
 
-pub replies_room : (w : World) (es : List Event) → length (replies w es).entries ≤ pending w + 2 * length es
+pub replies_room : (w : World) (es : List Event) → length (replies w es).entries ≤ length es + releases_in es + waiting_in w
 replies_room w es =
     let a = all_room es (begun w) in
     let e = ap (λ r. length r.entries) (replies_is w es) in

@@ -1,14 +1,10 @@
 -- Lane after lane is settled.
-use Rattle.std.proofs.Common.{◌≡◌, ◌≢◌, ℕ, ◌+◌, ◌<◌, ◌≤◌, List, Some, length, sym, ◌∙◌, ap, arith, refl, inl, inr}
+use Rattle.std.proofs.Common.{◌≡◌, ◌≢◌, ℕ, ◌+◌, ◌<◌, ◌≤◌, List, length, sym, ◌∙◌, arith, refl, inl, inr}
 use Rattle.std.proofs.lemmas.Bool.{cases_eq}
-use Rattle.tlsf_post.specs.Lanes.{capacity_of, waited}
 use Rattle.tlsf_crew.specs.declared.worker.Worker.{Worker}
-use Rattle.tlsf_crew.specs.Yard.{lane_waits, LaneStep, SameLane, IsYard, capacity_in}
-use Rattle.tlsf_crew.specs.World.{world_of}
-use Rattle.tlsf_crew.specs.Settling.{MetIn, HaveMet, RowMet, RowsMet}
+use Rattle.tlsf_crew.specs.Yard.{LaneStep, SameLane}
+use Rattle.tlsf_crew.specs.Settling.{MetIn, RowMet, RowsMet}
 use Rattle.tlsf_crew.proofs.Slots.{settled, step_same, same_then}
-use Rattle.tlsf_crew.proofs.Worlds.{some_same}
-use Rattle.tlsf_crew.proofs.Across.{waits_after}
 
 step_meets : (ws vs : List Worker) (i j : ℕ) → i ≢ j → LaneStep ws i j vs → MetIn ws vs i j
 step_meets ws vs i j ne s =
@@ -93,20 +89,3 @@ rows_step ws vs us i a r =
           ];
       same = λ x y low. same_then ws vs us x y (a.same x y (omega arith)) (r.same x y (λ e. absurd (omega arith)));
     }
-
--- in a settled yard no more posts wait in a lane than its capacity
-pub waits_fit : (ws vs : List Worker) (i j : ℕ) → length vs ≡ length ws → HaveMet ws vs → IsYard vs → i < length vs → j < length vs
-    → length ((world_of vs).waiting i j) ≤ capacity_in vs
-unfolding world_of
-waits_fit ws vs i j len met yard i_in j_in =
-    elim (cases_eq i j) [
-      | inl e ↦ rw (e, yard.alone j) (omega arith)
-      | inr ne ↦
-          let m = met i j (omega (arith, len)) (omega (arith, len)) ne in
-          let h = yard.lanes i j i_in j_in ne in
-          let he : h.0 ≡ m.new_post = some_same h.0 m.new_post (sym h.2 ∙ m.new_post_is) in
-          let k : capacity_of m.new_post ≡ capacity_in vs = sym (ap capacity_of he) ∙ h.5 in
-          let waits : lane_waits (Some m.new_post) (Some m.new_take) ≡ waited m.new_take = waits_after _ _ _ _ m.meets in
-          let count = ap length waits in
-          rw (m.new_post_is, m.new_take_is) (omega (arith, m.meets.room))
-    ]

@@ -6,3 +6,4 @@ pub mod Yard
 pub mod Opening
 pub mod Settling
 pub mod Calls
+pub mod Counts

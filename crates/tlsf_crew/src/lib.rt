@@ -14,6 +14,7 @@
 
 mod call;
 mod chunk;
+mod counting;
 mod crew_refusal;
 mod drains;
 mod entry;

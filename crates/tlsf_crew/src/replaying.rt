@@ -1,9 +1,10 @@
 //! Events, one after another.
-ghost use Rattle.std.specs.Prelude.{◌≡◌, ℕ, ◌+◌, ◌*◌, ◌<◌, ◌≤◌, [], ◌∷◌, ◌++◌, length, vec_len, vec_capacity, IfOk, OnOk, OnErr, IfSome};
-ghost use Rattle.tlsf_crew.specs.Yard.{IsYard, capacity_in};
+ghost use Rattle.std.specs.Prelude.{◌≡◌, ℕ, ◌+◌, ◌<◌, ◌≤◌, [], ◌∷◌, ◌++◌, length, vec_len, vec_capacity, IfOk, OnOk, OnErr};
+ghost use Rattle.tlsf_crew.specs.Yard.{IsYard};
 ghost use Rattle.tlsf_crew.specs.World.{world_of, made_by, name_of, replay_of, after, replies};
 
 use crate::call::Call;
+use crate::counting::room_for;
 use crate::crew_refusal::CrewRefusal;
 use crate::drains::drain;
 use crate::entry::Entry;
@@ -137,23 +138,8 @@ pub fn replay_events(
     ensures no_memory { OnErr result (world_of workers.new ≡ world_of workers.old) }
 {
     settle(workers);
-    let Some(room) = room_for(workers, events.len()) else {
-        return Err(NoMemory);
-    };
+    let room = room_for(workers, events);
     replay_within(alloc, workers, events, room)
-}
-
-/// Room for the entries of so many events: one for each, and one for each post that waits or is posted.
-fn room_for(workers: &[Worker], events: usize) -> Option<usize>
-    requires { length workers.now ≤ 8 }
-    ensures { IfSome result (λ room. room ≡ 2 * events + length workers.now * (length workers.now * capacity_in workers.now)) }
-{
-    let capacity = match workers.first() {
-        Some(worker) => worker.capacity as usize,
-        None => 0,
-    };
-    let waiting = workers.len() * (workers.len() * capacity);
-    events.checked_mul(2)?.checked_add(waiting)
 }
 
 /// Runs every event in order, with room for all entries.

@@ -11,6 +11,8 @@ pub struct TakeEnd {
     pub(crate) capacity: usize,
     ghost inside: { next ≤ vec_len waited },
     ghost room: { capacity ≤ vec_capacity waited },
+    ghost fits: { vec_len waited ≤ capacity },
+    ghost few: { capacity ≤ 1024 },
 }
 
 #[tactic(auto, unfolding(crate::specs::Lanes::waited, crate::specs::Lanes::taken, crate::specs::Lanes::ready, crate::specs::Lanes::IsLane))]
@@ -38,5 +40,12 @@ impl TakeEnd {
         let post = self.waited.get(self.next).copied()?;
         self.next += 1;
         Some(post)
+    }
+
+    /// How many posts are known to be ready. So many takes in a row each answer one.
+    pub fn count_ready(&self) -> u32
+        ensures { result ≡ length (ready self.now) }
+    {
+        (self.waited.len() - self.next) as u32
     }
 }

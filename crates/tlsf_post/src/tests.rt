@@ -51,8 +51,11 @@ fn first_sent_first_taken(rt: HostRuntime) -> Result<(), Fail> {
     assert_eq!(rt; post_end.put(post(2)), Ok(()));
     beside(&mut post_end, &mut take_end);
     assert_eq!(rt; take_end.take(), Some(post(1)));
+    assert_eq!(rt; take_end.count_ready(), 1);
     assert_eq!(rt; post_end.put(post(3)), Ok(()));
+    assert_eq!(rt; take_end.count_ready(), 1);
     beside(&mut post_end, &mut take_end);
+    assert_eq!(rt; take_end.count_ready(), 2);
     assert_eq!(rt; post_end.put(post(4)), Ok(()));
     assert_eq!(rt; take_end.take(), Some(post(2)));
     beside(&mut post_end, &mut take_end);

@@ -1,20 +1,13 @@
-use Rattle.std.proofs.Common.{◌≤◌, ◌*◌, length, arith}
+use Rattle.std.proofs.Common.{arith}
 use Rattle.tlsf_crew.specs.World.{world_of}
-use Rattle.tlsf_crew.specs.Yard.{capacity_in}
-use Rattle.tlsf_crew.proofs.OneEvent.{heaps_count}
-use Rattle.tlsf_crew.proofs.Pending.{pending, pending_most}
+use Rattle.tlsf_crew.proofs.Pending.{all_ready}
 use Rattle.tlsf_crew.proofs.Room.{replies_room}
-use Rattle.tlsf_crew.proofs.Settled.{waits_fit}
 use Rattle.tlsf_crew.proofs.replaying.replay_events.Goals as goal
 
 pub replay_within-requires-clause-room : goal.replay_within-requires-clause-room
 replay_within-requires-clause-room c =
     let vs = c.settle.new.workers in
     let s = c.settle.ensures in
-    let w = world_of vs in
-    let n = heaps_count vs in
-    let most : pending w ≤ length w.heaps * (length w.heaps * capacity_in vs) =
-    pending_most w (capacity_in vs) (λ i j i_in j_in. waits_fit c.args.workers.now vs i j s.count s.met s.yard (omega arith) (omega arith)) in
-    let same : pending w ≤ length vs * (length vs * capacity_in vs) = rw n at most in
-    let a = replies_room w c.args.events.now in
-    omega (arith, c.in-Some.ensures)
+    let a = replies_room (world_of vs) c.args.events.now in
+    let b = all_ready c.args.workers.now vs s.count s.met s.yard in
+    omega (arith, c.room_for-room.ensures)
