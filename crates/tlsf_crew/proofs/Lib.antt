@@ -12,3 +12,9 @@ pub mod Laying
 pub mod Settled
 pub mod Room
 pub mod Keeping
+pub mod HeapNames
+pub mod NamesKept
+pub mod PostsKept
+pub mod FairEvents
+pub mod FairLists
+pub mod FairExample

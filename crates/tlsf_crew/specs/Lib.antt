@@ -7,3 +7,4 @@ pub mod Opening
 pub mod Settling
 pub mod Calls
 pub mod Counts
+pub mod FairRuns

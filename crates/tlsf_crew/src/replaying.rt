@@ -2,6 +2,7 @@
 ghost use Rattle.std.specs.Prelude.{◌≡◌, ℕ, ◌+◌, ◌<◌, ◌≤◌, [], ◌∷◌, ◌++◌, length, vec_len, vec_capacity, IfOk, OnOk, OnErr};
 ghost use Rattle.tlsf_crew.specs.Yard.{IsYard};
 ghost use Rattle.tlsf_crew.specs.World.{world_of, made_by, name_of, replay_of, after, replies};
+ghost use Rattle.tlsf_crew.specs.FairRuns.{HasIds, IsFairRun, NoneStale, WaitLive};
 
 use crate::call::Call;
 use crate::counting::room_for;
@@ -125,6 +126,10 @@ fn run_event(
 /// Before and after each release of another's name and each take the lane concerned is settled. So a lane is full
 /// exactly where its capacity of posts waits, and empty exactly where none does.
 ///
+/// Where nothing waits at the start, and each target was made by an earlier event and not yet released or posted, no
+/// answer is `Stale` and each post that waits in the end names a live block. So no block is given again while a post
+/// of it waits.
+///
 /// The room for all entries is made first: where it answers `NoMemory`, no event has run.
 pub fn replay_events(
     alloc: Global,
@@ -136,6 +141,7 @@ pub fn replay_events(
     ensures entries { IfOk result (λ entries. entries.items ≡ (replies (world_of workers.old) events.now).entries) }
     ensures world { OnOk result (world_of workers.new ≡ (replies (world_of workers.old) events.now).world) }
     ensures no_memory { OnErr result (world_of workers.new ≡ world_of workers.old) }
+    ensures no_stale { HasIds (world_of workers.old) → IsFairRun (world_of workers.old) events.now → IfOk result (λ entries. NoneStale entries.items × WaitLive (world_of workers.new)) }
 {
     settle(workers);
     let room = room_for(workers, events);
