@@ -18,3 +18,4 @@ pub mod PostsKept
 pub mod FairEvents
 pub mod FairLists
 pub mod FairExample
+pub mod Turns

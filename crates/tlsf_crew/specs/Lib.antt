@@ -8,3 +8,4 @@ pub mod Settling
 pub mod Calls
 pub mod Counts
 pub mod FairRuns
+pub mod Drains

@@ -16,6 +16,10 @@ mod call;
 mod chunk;
 mod counting;
 mod crew_refusal;
+#[cfg(test)]
+mod drain_tests;
+mod drained;
+mod draining;
 mod drains;
 mod entry;
 mod event;
@@ -36,6 +40,7 @@ mod worker;
 pub use call::Call;
 pub use chunk::Chunk;
 pub use crew_refusal::CrewRefusal;
+pub use drained::Drained;
 pub use entry::Entry;
 pub use event::Event;
 pub use opening::open_yard;

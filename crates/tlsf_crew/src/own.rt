@@ -1,4 +1,4 @@
-ghost use Rattle.std.specs.Prelude.{◌≡◌, ◌≢◌, length, true, false, Err};
+ghost use Rattle.std.specs.Prelude.{◌≡◌, ◌≢◌, length, true, false, Ok, Err};
 ghost use Rattle.std.specs.Result.{result_unwrap_or};
 ghost use Rattle.tlsf_heap.specs.Calls.{allocated, written, read_of, read_answer};
 ghost use Rattle.tlsf_crew.specs.Yard.{SameButHeap, HasPost, HasTake};
@@ -13,7 +13,7 @@ use tlsf_heap::Name;
 use tlsf_post::Post;
 
 /// Whether the worker has a lane from worker i.
-fn has_take(worker: &Worker, i: usize) -> bool
+pub(crate) fn has_take(worker: &Worker, i: usize) -> bool
     ensures yes { result ≡ true → HasTake worker.now i }
     ensures no { result ≡ false → ¬ (HasTake worker.now i) }
 {
@@ -34,6 +34,21 @@ fn has_post(worker: &Worker, j: usize) -> bool
         Some(None) => false,
         None => false,
     }
+}
+
+/// Takes from a lane that is there, and releases the block that the post names.
+pub(crate) fn take_next(worker: &mut Worker, from: usize) -> Option<Took>
+    requires { HasTake worker.old from }
+    ensures taken { TakenFrom worker.old worker.new from (Ok result) }
+    ensures yard { KeepsYards worker.old worker.new }
+{
+    let post = take_from(worker, from)?;
+    let answer = worker.heap.release(post.name);
+    Some(Took {
+        from: post.from,
+        name: post.name,
+        answer,
+    })
 }
 
 impl Worker {
@@ -118,14 +133,6 @@ impl Worker {
         if !has_take(self, from as usize) {
             return Err(CrewRefusal::Stranger);
         }
-        let Some(post) = take_from(self, from as usize) else {
-            return Ok(None);
-        };
-        let answer = self.heap.release(post.name);
-        Ok(Some(Took {
-            from: post.from,
-            name: post.name,
-            answer,
-        }))
+        Ok(take_next(self, from as usize))
     }
 }

@@ -8,18 +8,18 @@ use std::alloc::Global;
 use std::test::Fail;
 use tlsf_heap::{Name, OpenFault, Refusal};
 
-fn name(heap: u32, at: u32, serial: u64) -> Name {
+pub(crate) fn name(heap: u32, at: u32, serial: u64) -> Name {
     Name { heap, at, serial }
 }
 
-fn allocate(worker: u32, len: u32) -> Event {
+pub(crate) fn allocate(worker: u32, len: u32) -> Event {
     Event {
         worker,
         call: Call::Allocate { len },
     }
 }
 
-fn release(worker: u32, target: Target) -> Event {
+pub(crate) fn release(worker: u32, target: Target) -> Event {
     Event {
         worker,
         call: Call::Release { target },

@@ -1,0 +1,18 @@
+use Rattle.std.proofs.Common.{refl, ap, Some, Ok}
+use Rattle.tlsf_crew.proofs.Keeping.{heap_keeps, take_keeps, keeps_then}
+use Rattle.tlsf_crew.proofs.own.take_next.Goals as goal
+
+pub returns-in_err-post-clause-yard : goal.returns-in_err-post-clause-yard
+returns-in_err-post-clause-yard c = take_keeps _ _ _ _ c.take_from.ensures
+
+pub returns-clause-yard : goal.returns-clause-yard
+returns-clause-yard c = keeps_then _ c.take_from.new.taker _ (take_keeps _ _ _ _ c.take_from.ensures) (heap_keeps _ _ (refl, refl, refl))
+
+pub returns-clause-taken : goal.returns-clause-taken
+returns-clause-taken c =
+    record {
+      between = c.take_from.new.taker;
+      post = Some c.in_ok-post.post;
+      lane = c.in_ok-post.ensures;
+      then = (ap (λ x. Ok (Some (record { from = c.in_ok-post.post.from; name = c.in_ok-post.post.name; answer = x }))) c.release-answer.ensures.answer, c.release-answer.ensures.heap, (refl, refl, refl));
+    }
