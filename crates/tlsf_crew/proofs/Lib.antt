@@ -19,3 +19,9 @@ pub mod FairEvents
 pub mod FairLists
 pub mod FairExample
 pub mod Turns
+pub mod Telling
+pub mod OwnCalls
+pub mod LaneCalls
+pub mod DrainTold
+pub mod NamesMeant
+pub mod Histories

@@ -11,7 +11,7 @@ use Rattle.tlsf_crew.specs.Bytes.{chunk_of}
 use Rattle.tlsf_crew.specs.declared.chunk.Chunk.{Chunk}
 use Rattle.tlsf_crew.specs.Heaps.{chunk_read, as_chunk, too_many}
 
-read_few : (h : HeapState) (name : Name) (from n : ℕ) → n ≤ 64 → chunk_read h name from n ≡ as_chunk (read_of h name from n)
+pub read_few : (h : HeapState) (name : Name) (from n : ℕ) → n ≤ 64 → chunk_read h name from n ≡ as_chunk (read_of h name from n)
 unfolding chunk_read
 read_few h name from n le = let b : nat_le n 64 ≡ true = grind (arith, nat_tests) in rw b refl
 

@@ -9,3 +9,4 @@ pub mod Calls
 pub mod Counts
 pub mod FairRuns
 pub mod Drains
+pub mod History

@@ -7,7 +7,8 @@
 //! Contracts see a whole yard (`IsYard`) as a `World`: the heaps, what waits in each lane, and the lanes' capacity.
 //! [`replay_events`] runs a list of events on it, one after another, and answers what the definition `replies` says. It
 //! tells both ends of a lane all before and after each call that concerns it, so a lane is full exactly where its
-//! capacity of posts waits. [`settle`] does so for all lanes at once and leaves the world as it is.
+//! capacity of posts waits. [`settle`] does so for all lanes at once and leaves the world as it is. [`one_history`] says
+//! what holds of every list of replies: each heap has one history.
 //!
 //! Each call of a `Worker` takes no memory and doesn't wait, and keeps its yard whole.
 #![tactic(auto)]
@@ -23,6 +24,7 @@ mod draining;
 mod drains;
 mod entry;
 mod event;
+mod history;
 mod opening;
 mod own;
 mod pairs;
@@ -43,6 +45,7 @@ pub use crew_refusal::CrewRefusal;
 pub use drained::Drained;
 pub use entry::Entry;
 pub use event::Event;
+pub use history::one_history;
 pub use opening::open_yard;
 pub use released::Released;
 pub use replaying::replay_events;
