@@ -17,10 +17,15 @@ use Rattle.tlsf_post.specs.Lanes.{posts_sent, free_slots, capacity_of, waited, t
 use Rattle.tlsf_crew.specs.declared.worker.Worker.{Worker}
 use Rattle.tlsf_crew.specs.declared.reply.Reply.TheVariants.{Posted, Refused, Took as Taken, Empty}
 use Rattle.tlsf_crew.specs.declared.crew_refusal.CrewRefusal.TheVariants.{Full}
-use Rattle.tlsf_crew.specs.Yard.{own_numbers, LaneStep, LaneChange, Meets, HasEnds, IsYard, PutTo, TookFrom, capacity_in, lane_waits}
-use Rattle.tlsf_crew.specs.World.{World, world_of, with_waiting, with_heap, posting, taking_next, heap_in, Leaves}
-use Rattle.tlsf_crew.proofs.Slots.{settled, first_is, second_is, first_has, second_has, poster_change, taker_change}
-use Rattle.tlsf_crew.proofs.Worlds.{with_same, changed_world, waits_between, capacity_is, change_then, changed_yard, some_same, heap_world, heap_yard, heap_in_is}
+use Rattle.tlsf_crew.specs.Yard.{Meets, HasEnds, IsYard, capacity_in, lane_waits}
+use Rattle.tlsf_crew.specs.World.{World, world_of, with_waiting, with_heap, posting, taking_next, heap_in}
+use Rattle.tlsf_crew.specs.Workers.{own_numbers, PutTo, TookFrom, heap_of, slot_of, SameButHeap, end_to, end_from}
+use Rattle.tlsf_crew.specs.LaneSteps.{LaneStep, LaneChange}
+use Rattle.tlsf_crew.specs.Leaving.{Leaves}
+use Rattle.tlsf_crew.proofs.Slots.{settled, first_is, second_is, first_has, second_has, some_same}
+use Rattle.tlsf_crew.proofs.Worlds.{with_same, changed_world, waits_between, capacity_is, change_then, changed_yard, heap_world, heap_yard, heap_in_is}
+use Rattle.tlsf_crew.proofs.OneEnd.{poster_change, taker_change}
+use Rattle.tlsf_crew.proofs.OwnHeaps.{call_keeps}
 
 -- what waits in a lane that was just settled
 pub waits_after : (p : PostEnd) (t : TakeEnd) (q : PostEnd) (u : TakeEnd) → Meets p t q u → lane_waits (Some q) (Some u) ≡ waited u
@@ -41,14 +46,14 @@ settled_world ws vs i j ne s =
 pub put_end : (ws vs : List Worker) (i j : ℕ) (b v : Worker) (post : Post) (ans : Result (Unit {0}) Post)
     → (s : LaneStep ws i j vs) → b ≡ s.v → (put : PutTo b v j post ans) → put.end ≡ s.met.new_post
 put_end ws vs i j b v post ans s same put =
-    let has : slice_get b.posts.items j ≡ Some (Some s.met.new_post) = rw same (first_has ws vs i j s) in
-    some_same put.end s.met.new_post (some_same (Some put.end) (Some s.met.new_post) (sym put.end_is ∙ has))
+    let has : end_to b j ≡ Some s.met.new_post = rw same (ap slot_of (first_has ws vs i j s)) in
+    some_same put.end s.met.new_post (sym put.end_is ∙ has)
 
 pub take_end : (ws vs : List Worker) (i j : ℕ) (b w : Worker) (ans : Option Post)
     → (s : LaneStep ws i j vs) → b ≡ s.w → (got : TookFrom b w i ans) → got.end ≡ s.met.new_take
 take_end ws vs i j b w ans s same got =
-    let has : slice_get b.takes.items i ≡ Some (Some s.met.new_take) = rw same (second_has ws vs i j s) in
-    some_same got.end s.met.new_take (some_same (Some got.end) (Some s.met.new_take) (sym got.end_is ∙ has))
+    let has : end_from b i ≡ Some s.met.new_take = rw same (ap slot_of (second_has ws vs i j s)) in
+    some_same got.end s.met.new_take (sym got.end_is ∙ has)
 
 pub put_change : (ws vs : List Worker) (i j : ℕ) (b v : Worker) (post : Post) (ans : Result (Unit {0}) Post)
     → i ≢ j → (s : LaneStep ws i j vs) → b ≡ s.v → (put : PutTo b v j post ans)
@@ -56,11 +61,9 @@ pub put_change : (ws vs : List Worker) (i j : ℕ) (b v : Worker) (post : Post) 
 put_change ws vs i j b v post ans ne s same put =
     let c = settled ws vs i j ne s in
     let at : slice_get vs i ≡ Some b = first_is ws vs i j ne s ∙ ap Some (sym same) in
-    let has : slice_get b.posts.items j ≡ Some (Some s.met.new_post) = rw same (first_has ws vs i j s) in
-    let two : Some put.end ≡ Some s.met.new_post = some_same (Some put.end) (Some s.met.new_post) (sym put.end_is ∙ has) in
-    let e : put.end ≡ s.met.new_post = some_same put.end s.met.new_post two in
+    let e : put.end ≡ s.met.new_post = put_end ws vs i j b v post ans s same put in
     let l : IsLane put.end s.met.new_take = rw e c.lane in
-    poster_change vs i j b v s.met.new_post put.new_end s.met.new_take at has (rw put.posts refl) put.same ne c.new_take_is
+    poster_change vs i j b v s.met.new_post put.new_end s.met.new_take at (put.end_is ∙ ap Some e) put.new_end_is put.others put.same c.new_take_is
     (put.lane.1 s.met.new_take l) (put.lane.0 ∙ ap capacity_of e)
 
 pub take_change : (ws vs : List Worker) (i j : ℕ) (b w : Worker) (ans : Option Post)
@@ -69,11 +72,9 @@ pub take_change : (ws vs : List Worker) (i j : ℕ) (b w : Worker) (ans : Option
 take_change ws vs i j b w ans ne s same got =
     let c = settled ws vs i j ne s in
     let at : slice_get vs j ≡ Some b = second_is ws vs i j s ∙ ap Some (sym same) in
-    let has : slice_get b.takes.items i ≡ Some (Some s.met.new_take) = rw same (second_has ws vs i j s) in
-    let two : Some got.end ≡ Some s.met.new_take = some_same (Some got.end) (Some s.met.new_take) (sym got.end_is ∙ has) in
-    let e : got.end ≡ s.met.new_take = some_same got.end s.met.new_take two in
+    let e : got.end ≡ s.met.new_take = take_end ws vs i j b w ans s same got in
     let l : IsLane s.met.new_post got.end = rw e c.lane in
-    taker_change vs i j b w s.met.new_post s.met.new_take got.new_end at has (rw got.takes refl) got.same ne c.new_post_is
+    taker_change vs i j b w s.met.new_post s.met.new_take got.new_end at (got.end_is ∙ ap Some e) got.new_end_is got.others got.same c.new_post_is
     (got.lane s.met.new_post l)
 
 pub ends_of : (ws vs : List Worker) (i j : ℕ) (p : PostEnd) (t : TakeEnd) (q : PostEnd) (u : TakeEnd) → LaneChange ws vs i j p t q u
@@ -187,17 +188,16 @@ capacity_settled ws vs i j yard i_in j_in ne s =
     c1.capacity ∙ (sym (ap capacity_of he) ∙ (h.5 ∙ sym (ap (λ (l : List (ℕ × ℕ)). (get_or l 0 (0, 0)).1) c1.numbers)))
 
 pub took_done : (ws zs : List Worker) (at from : ℕ) (p : Post) (rest : List Post) → (world_of ws).waiting from at ≡ p ∷ rest
-    → world_of zs ≡ with_waiting (world_of ws) from at rest → IsYard zs → (a v : Worker) → slice_get zs at ≡ Some a
-    → (own_numbers v ≡ own_numbers a) × (v.posts ≡ a.posts) × (v.takes ≡ a.takes)
-    → (ans : Result (Unit {0}) Refusal) → ans ≡ (heap.released a.heap.heap p.name).answer → v.heap.heap ≡ (heap.released a.heap.heap p.name).heap
+    → world_of zs ≡ with_waiting (world_of ws) from at rest → IsYard zs → (a v : Worker) → slice_get zs at ≡ Some a → SameButHeap a v
+    → (ans : Result (Unit {0}) Refusal) → ans ≡ (heap.released (heap_of a) p.name).answer → heap_of v ≡ (heap.released (heap_of a) p.name).heap
     → Leaves ws (set zs at v) (Taken (record { from = p.from; name = p.name; answer = ans })) (taking_next (world_of ws) at from)
 unfolding taking_next released
 took_done ws zs at from p rest waits world yard a v is same ans e h =
-    let k : heap_in (world_of ws) at ≡ a.heap.heap = sym (ap (λ w. heap_in w at) world) ∙ heap_in_is zs at a is in
+    let k : heap_in (world_of ws) at ≡ heap_of a = sym (ap (λ w. heap_in w at) world) ∙ heap_in_is zs at a is in
     rw waits (record {
-      yard = heap_yard zs at a v is same yard;
+      yard = heap_yard zs at a v is same (call_keeps (heap_of a) (heap_of v) (heap.Release p.name) h) yard;
       answer = rw k (ap (λ x. Taken (record { from = p.from; name = p.name; answer = x })) e);
-      world = rw k (heap_world zs at a v is same ∙ (ap (λ w. with_heap w at v.heap.heap) world ∙ ap (with_heap (with_waiting (world_of ws) from at rest) at) h));
+      world = rw k (heap_world zs at a v is same ∙ (ap (λ w. with_heap w at (heap_of v)) world ∙ ap (with_heap (with_waiting (world_of ws) from at rest) at) h));
     })
 
 nothing : (t u : TakeEnd) → t ≡ u → ready u ≡ waited u → (0 < length (ready t) → IsSome {T = Post} None) → waited u ≡ []

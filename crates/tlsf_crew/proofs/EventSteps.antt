@@ -14,7 +14,8 @@ use Rattle.tlsf_crew.specs.declared.call.Call.{Call}
 use Rattle.tlsf_crew.specs.declared.call.Call.TheVariants.{Allocate, Release, Write, Read, Take, Drain}
 use Rattle.tlsf_crew.specs.declared.reply.Reply.TheVariants.{Drained, Refused}
 use Rattle.tlsf_crew.specs.declared.crew_refusal.CrewRefusal.TheVariants.{Stranger}
-use Rattle.tlsf_crew.specs.World.{World, Leaves, Replied, Replayed, replay_of, answered, called, draining, after, made_by, name_of, allocating, releasing_named, writing_named, reading_named, taking, drain_of, drained_all, replies, begun}
+use Rattle.tlsf_crew.specs.World.{World, Replied, Replayed, answered, called, draining, after, made_by, name_of, allocating, releasing_named, writing_named, reading_named, taking, drained_all, replies, begun}
+use Rattle.tlsf_crew.specs.Leaving.{Leaves, replay_of, drain_of}
 use Rattle.tlsf_crew.proofs.OneEvent.{all_grows}
 
 pub after_far : (r : Replayed) (e : Event) → length r.world.heaps ≤ e.worker → after r e ≡ answered r e.worker e.call (record { reply = Refused Stranger; world = r.world })

@@ -16,7 +16,7 @@ use Rattle.tlsf_crew.specs.declared.crew_refusal.CrewRefusal.{CrewRefusal}
 use Rattle.tlsf_crew.specs.declared.crew_refusal.CrewRefusal.TheVariants.{Heap, Full}
 use Rattle.tlsf_crew.specs.World.{World, Replied, Replayed, with_heap, with_waiting, heap_in, made_by, reply_made, reply_freed, releasing, freeing, posting}
 use Rattle.tlsf_crew.specs.FairRuns.{IsNotStale}
-use Rattle.tlsf_crew.proofs.Worlds.{some_same}
+use Rattle.tlsf_crew.proofs.Slots.{some_same}
 use Rattle.tlsf_crew.proofs.OneEvent.{releasing_post}
 use Rattle.tlsf_crew.proofs.HeapNames.{allocated_known, allocated_id, allocated_stays, allocated_new, released_known, released_id, released_stays, refused_stays}
 use Rattle.tlsf_crew.proofs.NamesKept.{IsKept, kept_by, heap_kept, more_kept, live_here, posted_kept}

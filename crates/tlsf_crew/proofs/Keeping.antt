@@ -9,22 +9,25 @@ use Rattle.tlsf_post.specs.declared.post_end.PostEnd.{PostEnd}
 use Rattle.tlsf_post.specs.declared.take_end.TakeEnd.{TakeEnd}
 use Rattle.tlsf_post.specs.Lanes.{capacity_of, IsLane}
 use Rattle.tlsf_crew.specs.declared.worker.Worker.{Worker}
-use Rattle.tlsf_crew.specs.Yard.{post_at, take_at, own_numbers, capacity_in, HasEnds, IsYard, SameButHeap, PutTo, TookFrom}
+use Rattle.tlsf_crew.specs.Yard.{post_at, take_at, capacity_in, HasEnds, IsYard}
+use Rattle.tlsf_crew.specs.Workers.{own_numbers, SameButHeap, PutTo, TookFrom, heap_of}
 use Rattle.tlsf_crew.specs.Calls.{KeepsYards}
-use Rattle.tlsf_crew.proofs.Slots.{map_same, get_set_same}
-use Rattle.tlsf_crew.proofs.Worlds.{some_same, heap_yard}
-use Rattle.tlsf_crew.proofs.Laying.{PostSet, posts_set, TakeSet, takes_set}
+use Rattle.tlsf_crew.proofs.Slots.{map_same, get_set_same, some_same, none_or_some}
+use Rattle.tlsf_crew.proofs.Worlds.{heap_yard}
+use Rattle.tlsf_crew.proofs.OneEnd.{PostSet, posts_set, TakeSet, takes_set}
+use Rattle.tlsf_crew.proofs.OwnHeaps.{KeepsHeap, heaps_set, same_heap_keeps}
 
-pub heap_keeps : (a v : Worker) → SameButHeap a v → KeepsYards a v
-heap_keeps a v same ws i is yard = heap_yard ws i a v is same yard
+pub heap_keeps : (a v : Worker) → SameButHeap a v → KeepsHeap (heap_of a) (heap_of v) → KeepsYards a v
+heap_keeps a v same kept ws i is yard = heap_yard ws i a v is same kept yard
+
+-- nothing changes
+pub same_keeps : (a : Worker) → KeepsYards a a
+same_keeps a = heap_keeps a a (refl, refl, refl) (same_heap_keeps (heap_of a) (heap_of a) refl)
 
 set_twice : (ws : List Worker) (i : ℕ) (b v : Worker) → set (set ws i b) i v ≡ set ws i v
 set_twice [] i b v = refl
 set_twice (w ∷ ws) zero b v = refl
 set_twice (w ∷ ws) (suc i) b v = ap (λ l. w ∷ l) (set_twice ws i b v)
-
-none_or_some : {X : Type 0} (o : Option X) (x : X) → o ≡ None → o ≡ Some x → ⊥
-none_or_some o x a b = let e = sym a ∙ b in cc
 
 put_ends : (ws : List Worker) (i j : ℕ) (a v : Worker) (post : Post) (answer : Result (Unit {0}) Post) → slice_get ws i ≡ Some a → (put : PutTo a v j post answer)
     → post_at ws i j ≡ Some put.end → PostSet ws (set ws i v) i j put.new_end → IsYard ws → (x y : ℕ) → x < length ws → y < length ws → x ≢ y → HasEnds (set ws i v) x y
@@ -46,13 +49,16 @@ put_ends ws i j a v post answer is put here there yard x y x_in y_in apart =
 pub put_keeps : (a v : Worker) (j : ℕ) (post : Post) (answer : Result (Unit {0}) Post) → PutTo a v j post answer → KeepsYards a v
 put_keeps a v j post answer put ws i is yard =
     let here : post_at ws i j ≡ Some put.end = rw (is, put.end_is) refl in
-    let ne : i ≢ j = λ e. none_or_some (post_at ws i i) put.end (yard.alone i) (subst (λ (z : ℕ). post_at ws i z ≡ Some put.end) (sym e) here) in
-    let there = posts_set ws i j a v put.new_end is (slice_get_within a.posts.items j (Some put.end) put.end_is) put.posts put.same.2 in
+    let there = posts_set ws i j a v put.new_end is put.new_end_is put.others put.same.2 in
     let len = length-set ws i v in
     record {
       few = omega (arith, len, yard.few);
       ids = λ x x_in. ap (λ (l : List (ℕ × ℕ)). (get_or l x (0, 0)).0) (map_same own_numbers ws i a v is put.same.1) ∙ yard.ids x (omega (arith, len));
-      alone = λ x. there.others x x (λ e f. ne (sym e ∙ f)) ∙ yard.alone x;
+      heaps = heaps_set ws i a v is (same_heap_keeps (heap_of a) (heap_of v) put.same.0) yard.heaps;
+      alone = λ x. let none = yard.alone x in (there.others x x (λ e f. none_or_some (post_at ws x x) put.end none.0 (ap (λ k. post_at ws k x) e ∙ (ap (post_at ws i) f ∙ here))) ∙ none.0, there.takes x x ∙ none.1);
+      outside = λ x y far.
+          let none = yard.outside x y (omega (arith, len)) in
+          (there.others x y (λ e f. none_or_some (post_at ws x y) put.end none.0 (rw (e, f) here)) ∙ none.0, there.takes y x ∙ none.1);
       lanes = λ x y x_in y_in apart. put_ends ws i j a v post answer is put here there yard x y (omega (arith, len)) (omega (arith, len)) apart;
     }
 
@@ -76,12 +82,16 @@ take_ends ws i j a v post is got here there yard x y x_in y_in apart =
 pub take_keeps : (a v : Worker) (i : ℕ) (post : Option Post) → TookFrom a v i post → KeepsYards a v
 take_keeps a v i post got ws j is yard =
     let here : take_at ws i j ≡ Some got.end = rw (is, got.end_is) refl in
-    let there = takes_set ws i j a v got.new_end is (slice_get_within a.takes.items i (Some got.end) got.end_is) got.takes got.same.2 in
+    let there = takes_set ws i j a v got.new_end is got.new_end_is got.others got.same.2 in
     let len = length-set ws j v in
     record {
       few = omega (arith, len, yard.few);
       ids = λ x x_in. ap (λ (l : List (ℕ × ℕ)). (get_or l x (0, 0)).0) (map_same own_numbers ws j a v is got.same.1) ∙ yard.ids x (omega (arith, len));
-      alone = λ x. there.posts x x ∙ yard.alone x;
+      heaps = heaps_set ws j a v is (same_heap_keeps (heap_of a) (heap_of v) got.same.0) yard.heaps;
+      alone = λ x. let none = yard.alone x in (there.posts x x ∙ none.0, there.others x x (λ e f. none_or_some (take_at ws x x) got.end none.1 (ap (λ k. take_at ws k x) e ∙ (ap (take_at ws i) f ∙ here))) ∙ none.1);
+      outside = λ x y far.
+          let none = yard.outside x y (omega (arith, len)) in
+          (there.posts x y ∙ none.0, there.others y x (λ e f. none_or_some (take_at ws y x) got.end none.1 (rw (e, f) here)) ∙ none.1);
       lanes = λ x y x_in y_in apart. take_ends ws i j a v post is got here there yard x y (omega (arith, len)) (omega (arith, len)) apart;
     }
 

@@ -1,7 +1,7 @@
 -- Workers get their lanes.
-use Rattle.std.proofs.Common.{suc, zero, [], ◌∷◌, ◌++◌, ◌≡◌, ◌≢◌, ℕ, ◌+◌, ◌<◌, List, Option, Some, None, length, get_or, set, replicate, sym, ◌∙◌, ap, map, arith, refl, inl, inr, subst}
+use Rattle.std.proofs.Common.{suc, zero, [], ◌∷◌, ◌++◌, ◌≡◌, ◌≢◌, ℕ, ◌+◌, ◌<◌, List, Option, Some, None, length, get_or, set, replicate, sym, ◌∙◌, ap, map, arith, refl, inl, inr, subst, ◌≤◌}
 use Rattle.std.specs.List.{slice_get, range_with_len}
-use Rattle.std.proofs.lemmas.Option.{slice_get_within}
+use Rattle.std.proofs.lemmas.Option.{slice_get_within, slice_get_past}
 use Rattle.std.proofs.lemmas.Bool.{cases_eq}
 use Rattle.std.proofs.lemmas.List.{map-append, length-replicate, length-set}
 use Rattle.std.proofs.lemmas.List.FromFn.{map-range_with_len_more, get_or-map-range_with_len}
@@ -9,59 +9,17 @@ use Rattle.tlsf_post.specs.declared.post_end.PostEnd.{PostEnd}
 use Rattle.tlsf_post.specs.declared.take_end.TakeEnd.{TakeEnd}
 use Rattle.tlsf_post.specs.Lanes.{posts_sent, capacity_of, waited, taken, IsLane}
 use Rattle.tlsf_crew.specs.declared.worker.Worker.{Worker}
-use Rattle.tlsf_crew.specs.Yard.{post_at, take_at, slot_of, heap_shown, own_numbers, capacity_in, lane_waits, IsYard}
+use Rattle.tlsf_crew.specs.Yard.{post_at, take_at, capacity_in, lane_waits, IsYard, yard_heap, no_heap}
 use Rattle.tlsf_crew.specs.World.{world_of}
-use Rattle.tlsf_crew.specs.Opening.{AreSizes, IsBefore, IsLaid, opened_heaps, opened_numbers, opened_world}
-use Rattle.tlsf_crew.proofs.Slots.{get_set_same, get_set_other, map_same}
-use Rattle.tlsf_crew.proofs.Worlds.{same_world, some_same}
-
--- worker i got an end that posts to j
-pub record PostSet (ws us : List Worker) (i j : ℕ) (p : PostEnd) : Type 0 where
-  pub here : post_at us i j ≡ Some p
-  pub others : (x y : ℕ) → (x ≡ i → y ≡ j → ⊥) → post_at us x y ≡ post_at ws x y
-  pub takes : (x y : ℕ) → take_at us x y ≡ take_at ws x y
-
-pub posts_set : (ws : List Worker) (i j : ℕ) (a v : Worker) (p : PostEnd) → slice_get ws i ≡ Some a → j < length a.posts.items
-    → v.posts.items ≡ set a.posts.items j (Some p) → v.takes ≡ a.takes → PostSet ws (set ws i v) i j p
-posts_set ws i j a v p is lt e same =
-    let at_i : slice_get (set ws i v) i ≡ Some v = get_set_same ws i v (slice_get_within ws i a is) in
-    record {
-      here = rw (at_i, e, get_set_same a.posts.items j (Some p) lt) refl;
-      others = λ x y away.
-          elim (cases_eq x i) [
-            | inl xi ↦ let yj : y ≢ j = λ q. away xi q in rw (xi, at_i, is, e, get_set_other a.posts.items j y (Some p) yj) refl
-            | inr xi ↦ rw (get_set_other ws i x v xi) refl
-          ];
-      takes = λ x y.
-          elim (cases_eq y i) [
-            | inl yi ↦ rw (yi, at_i, is) (ap (λ k. slot_of (slice_get k.items x)) same)
-            | inr yi ↦ rw (get_set_other ws i y v yi) refl
-          ];
-    }
-
--- worker j got an end that takes from i
-pub record TakeSet (ws us : List Worker) (i j : ℕ) (t : TakeEnd) : Type 0 where
-  pub here : take_at us i j ≡ Some t
-  pub others : (x y : ℕ) → (x ≡ i → y ≡ j → ⊥) → take_at us x y ≡ take_at ws x y
-  pub posts : (x y : ℕ) → post_at us x y ≡ post_at ws x y
-
-pub takes_set : (ws : List Worker) (i j : ℕ) (b w : Worker) (t : TakeEnd) → slice_get ws j ≡ Some b → i < length b.takes.items
-    → w.takes.items ≡ set b.takes.items i (Some t) → w.posts ≡ b.posts → TakeSet ws (set ws j w) i j t
-takes_set ws i j b w t is lt e same =
-    let at_j : slice_get (set ws j w) j ≡ Some w = get_set_same ws j w (slice_get_within ws j b is) in
-    record {
-      here = rw (at_j, e, get_set_same b.takes.items i (Some t) lt) refl;
-      others = λ x y away.
-          elim (cases_eq y j) [
-            | inl yj ↦ let xi : x ≢ i = λ q. away q yj in rw (yj, at_j, is, e, get_set_other b.takes.items i x (Some t) xi) refl
-            | inr yj ↦ rw (get_set_other ws j y w yj) refl
-          ];
-      posts = λ x y.
-          elim (cases_eq x j) [
-            | inl xj ↦ rw (xj, at_j, is) (ap (λ k. slot_of (slice_get k.items y)) same)
-            | inr xj ↦ rw (get_set_other ws j x w xj) refl
-          ];
-    }
+use Rattle.tlsf_crew.specs.Opening.{AreSizes, opened_heaps, opened_world}
+use Rattle.tlsf_crew.specs.Workers.{slot_of, heap_of, own_numbers}
+use Rattle.tlsf_crew.specs.Laying.{IsBefore, IsLaid, opened_numbers}
+use Rattle.tlsf_crew.proofs.Slots.{get_set_same, get_set_other, map_same, some_same, slot_new, slot_other}
+use Rattle.tlsf_crew.proofs.Worlds.{same_world}
+use Rattle.tlsf_crew.proofs.OneEnd.{posts_set, takes_set}
+use Rattle.tlsf_crew.proofs.OwnHeaps.{opened_lawful}
+use Rattle.tlsf_heap.specs.Blocks.{HeapState}
+use Rattle.tlsf_heap.specs.Calls.{opened}
 
 -- each worker still has its slots
 slots_set : (ws : List Worker) (n i : ℕ) (v : Worker) → i < length ws → ((x : ℕ) (a : Worker) → slice_get ws x ≡ Some a → (length a.posts.items ≡ n) × (length a.takes.items ≡ n))
@@ -96,13 +54,13 @@ lane_laid ws n words capacity i j a v b w p t l i_in j_in ne a_is posts a_same b
     let l_len = l.len in
     let a_slots = l.slots i a a_is in
     let lt_j : j < length a.posts.items = omega (arith, a_slots.0) in
-    let first = posts_set ws i j a v p a_is lt_j posts a_same.2 in
+    let first = posts_set ws i j a v p a_is (slot_new _ _ j p lt_j posts) (slot_other _ _ j p posts) (ap (λ k y. slot_of (slice_get k.items y)) a_same.2) in
     let v_slots : (length v.posts.items ≡ n) × (length v.takes.items ≡ n) = (ap length posts ∙ (length-set a.posts.items j (Some p) ∙ a_slots.0), ap (λ k. length k.items) a_same.2 ∙ a_slots.1) in
     let i_len : i < length ws = omega arith in
     let slots_u = slots_set ws n i v i_len l.slots v_slots in
     let b_slots = slots_u j b b_is in
     let lt_i : i < length b.takes.items = omega (arith, b_slots.1) in
-    let second = takes_set us i j b w t b_is lt_i takes b_same.2 in
+    let second = takes_set us i j b w t b_is (slot_new _ _ i t lt_i takes) (slot_other _ _ i t takes) (ap (λ k y. slot_of (slice_get k.items y)) b_same.2) in
     let w_slots : (length w.posts.items ≡ n) × (length w.takes.items ≡ n) = (ap (λ k. length k.items) b_same.2 ∙ b_slots.0, ap length takes ∙ (length-set b.takes.items i (Some t) ∙ b_slots.1)) in
     let j_len : j < length us = omega arith in
     let post_here : post_at vs i j ≡ Some p = second.posts i j ∙ first.here in
@@ -111,7 +69,7 @@ lane_laid ws n words capacity i j a v b w p t l i_in j_in ne a_is posts a_same b
     let nothing : lane_waits (Some p) (Some t) ≡ [] = rw (fresh.0, fresh.1, fresh.2) refl in
     record {
       len = len_v ∙ (len_u ∙ l.len);
-      heaps = map_same heap_shown us j b w b_is (ap (λ h. h.heap) b_same.0) ∙ (map_same heap_shown ws i a v a_is (ap (λ h. h.heap) a_same.0) ∙ l.heaps);
+      heaps = map_same heap_of us j b w b_is (ap (λ h. h.heap) b_same.0) ∙ (map_same heap_of ws i a v a_is (ap (λ h. h.heap) a_same.0) ∙ l.heaps);
       numbers = map_same own_numbers us j b w b_is b_same.1 ∙ (map_same own_numbers ws i a v a_is a_same.1 ∙ l.numbers);
       slots = slots_set us n j w j_len slots_u w_slots;
       empty = λ x y.
@@ -122,7 +80,7 @@ lane_laid ws n words capacity i j a v b w p t l i_in j_in ne a_is posts a_same b
             ]
             | inr xi ↦ rw (post_other x y (λ f _. xi f), take_other x y (λ f _. xi f)) (l.empty x y)
           ];
-      alone = λ x. post_other x x (λ a b. ne (sym a ∙ b)) ∙ l.alone x;
+      alone = λ x. let away : x ≡ i → x ≡ j → ⊥ = λ a b. ne (sym a ∙ b) in (post_other x x away ∙ (l.alone x).0, take_other x x away ∙ (l.alone x).1);
       laid = λ x y x_in y_in apart before.
           elim (cases_eq x i) [
             | inl xi ↦ elim (cases_eq y j) [
@@ -152,6 +110,20 @@ row_laid ws n words capacity i l =
       | inr e ↦ absurd (let lt = e.1 in omega arith)
     ])
 
+-- no end leads out of the yard
+abbrev pub HaveSlots : List Worker → ℕ → Type 0
+HaveSlots ws n = (x : ℕ) (a : Worker) → slice_get ws x ≡ Some a → (length a.posts.items ≡ n) × (length a.takes.items ≡ n)
+
+no_end_to : (ws : List Worker) (n i j : ℕ) → HaveSlots ws n → n ≤ j → post_at ws i j ≡ None
+no_end_to [] n i j slots le = refl
+no_end_to (w ∷ ws) n zero j slots le = let past : length w.posts.items ≤ j = omega (arith, (slots 0 w refl).0) in rw (slice_get_past w.posts.items j past) refl
+no_end_to (w ∷ ws) n (suc i) j slots le = no_end_to ws n i j (λ x a is. slots (suc x) a is) le
+
+no_end_from : (ws : List Worker) (n i j : ℕ) → HaveSlots ws n → n ≤ j → take_at ws j i ≡ None
+no_end_from [] n i j slots le = refl
+no_end_from (w ∷ ws) n zero j slots le = let past : length w.takes.items ≤ j = omega (arith, (slots 0 w refl).1) in rw (slice_get_past w.takes.items j past) refl
+no_end_from (w ∷ ws) n (suc i) j slots le = no_end_from ws n i j (λ x a is. slots (suc x) a is) le
+
 -- when all lanes are laid
 pub laid_yard : (ws : List Worker) (n words capacity : ℕ) → AreSizes n words capacity → IsLaid ws n words capacity n 0 → IsYard ws
 laid_yard ws n words capacity sizes l =
@@ -164,7 +136,13 @@ laid_yard ws n words capacity sizes l =
       ids = λ i i_in.
           ap (λ (k : List (ℕ × ℕ)). (get_or k i (0, 0)).0) l.numbers
           ∙ ap (λ (k : ℕ × ℕ). k.0) (get_or-map-range_with_len (λ (j : ℕ). (j, capacity)) 0 n i i (0, 0) (omega arith) (omega arith));
+      heaps = λ i i_in.
+          let i_n : i < n = omega arith in
+          let e : yard_heap ws i ≡ opened i words 0 =
+          ap (λ (k : List HeapState). get_or k i no_heap) l.heaps ∙ get_or-map-range_with_len (λ (j : ℕ). opened j words 0) 0 n i i no_heap i_n (omega arith) in
+          rw e (opened_lawful i words sizes.1);
       alone = l.alone;
+      outside = λ i j far. let n_le : n ≤ j = omega arith in (no_end_to ws n i j l.slots n_le, no_end_from ws n i j l.slots n_le);
       lanes = λ x y x_in y_in ne.
           let x_n : x < n = omega arith in
           let y_n : y < n = omega arith in
@@ -204,7 +182,12 @@ none_at [] n x y alone = refl
 none_at (w ∷ ws) n zero y alone = rw ((alone 0 w refl).0) (no_slot n y)
 none_at (w ∷ ws) n (suc x) y alone = none_at ws n x y (λ z b q. alone (suc z) b q)
 
-pub alone_laid : (ws : List Worker) (n words capacity : ℕ) → length ws ≡ n → map heap_shown ws ≡ opened_heaps n words → map own_numbers ws ≡ opened_numbers n capacity → AreAlone ws n
+none_from : (ws : List Worker) (n x y : ℕ) → AreAlone ws n → take_at ws y x ≡ None
+none_from [] n x y alone = refl
+none_from (w ∷ ws) n zero y alone = rw ((alone 0 w refl).1) (no_slot n y)
+none_from (w ∷ ws) n (suc x) y alone = none_from ws n x y (λ z b q. alone (suc z) b q)
+
+pub alone_laid : (ws : List Worker) (n words capacity : ℕ) → length ws ≡ n → map heap_of ws ≡ opened_heaps n words → map own_numbers ws ≡ opened_numbers n capacity → AreAlone ws n
     → IsLaid ws n words capacity 0 0
 alone_laid ws n words capacity len heaps numbers alone =
     record {
@@ -213,6 +196,6 @@ alone_laid ws n words capacity len heaps numbers alone =
       numbers = numbers;
       slots = λ x a is. let h = alone x a is in (ap length h.0 ∙ length-replicate n None, ap length h.1 ∙ length-replicate n None);
       empty = λ x y. rw (none_at ws n x y alone) refl;
-      alone = λ x. none_at ws n x x alone;
+      alone = λ x. (none_at ws n x x alone, none_from ws n x x alone);
       laid = λ x y _ _ _ before. elim before [ inl lt ↦ absurd (omega arith) | inr e ↦ absurd (let lt = e.1 in omega arith) ];
     }

@@ -2,6 +2,8 @@ pub mod Padding
 pub mod Ends
 pub mod Halves
 pub mod Slots
+pub mod OneEnd
+pub mod OwnHeaps
 pub mod Worlds
 pub mod Across
 pub mod OneEvent
@@ -25,3 +27,4 @@ pub mod LaneCalls
 pub mod DrainTold
 pub mod NamesMeant
 pub mod Histories
+pub mod Joined

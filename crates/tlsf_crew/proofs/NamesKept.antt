@@ -7,9 +7,11 @@ use Rattle.tlsf_post.specs.declared.post.Post.{Post}
 use Rattle.tlsf_heap.specs.declared.name.Name.{Name}
 use Rattle.tlsf_heap.specs.Blocks.{HeapState}
 use Rattle.tlsf_heap.specs.Laws.{IsLive}
-use Rattle.tlsf_crew.specs.World.{World, with_waiting, with_heap, heap_in, no_heap}
+use Rattle.tlsf_crew.specs.World.{World, with_waiting, with_heap, heap_in}
+use Rattle.tlsf_crew.specs.Yard.{no_heap}
 use Rattle.tlsf_crew.specs.FairRuns.{HasIds, IsLiveIn}
-use Rattle.tlsf_crew.proofs.Worlds.{edited_same, edited_other, some_same}
+use Rattle.tlsf_crew.proofs.Slots.{some_same}
+use Rattle.tlsf_crew.proofs.Worlds.{edited_same, edited_other}
 
 -- of the names made so far all are live but those that are gone; a name that waits is gone, but live still, and waits once
 pub record IsKept (made gone : Name → Type 0) (w : World) : Type 0 where

@@ -20,52 +20,56 @@ use Rattle.tlsf_crew.specs.declared.entry.Entry.{Entry}
 use Rattle.tlsf_crew.specs.declared.call.Call.TheVariants.{Take}
 use Rattle.tlsf_crew.specs.declared.reply.Reply.TheVariants.{Refused, Took as Taken, Empty}
 use Rattle.tlsf_crew.specs.declared.crew_refusal.CrewRefusal.TheVariants.{Stranger}
-use Rattle.tlsf_crew.specs.Yard.{own_numbers, IsYard, heap_shown}
-use Rattle.tlsf_crew.specs.World.{World, world_of, with_heap, posting, taking_next, taking, took_first, took, releasing, allocating, freeing, heap_in, no_heap, reply_made, reply_freed, reply_wrote, reply_got, writing, reading, Leaves, Replied, Draining, drain_of, drained_lane, took_more, drained_from, drained_below, drained_all}
+use Rattle.tlsf_crew.specs.Yard.{IsYard}
+use Rattle.tlsf_crew.specs.World.{World, world_of, with_heap, posting, taking_next, taking, took_first, took, releasing, allocating, freeing, heap_in, reply_made, reply_freed, reply_wrote, reply_got, writing, reading, Replied, Draining, drained_lane, took_more, drained_from, drained_below, drained_all}
+use Rattle.tlsf_crew.specs.Workers.{own_numbers, heap_of, SameButHeap}
+use Rattle.tlsf_crew.specs.Yard.{no_heap}
+use Rattle.tlsf_crew.specs.Leaving.{Leaves, drain_of}
 use Rattle.tlsf_crew.proofs.Worlds.{edited_same, heap_in_is, heap_world, heap_yard}
+use Rattle.tlsf_crew.proofs.OwnHeaps.{same_heap_keeps, call_keeps}
 
 pub heaps_count : (ws : List Worker) → length (world_of ws).heaps ≡ length ws
 unfolding world_of
-heaps_count ws = length-map ws heap_shown
+heaps_count ws = length-map ws heap_of
 
 pub allocated_done : (ws : List Worker) (at len : ℕ) (d v : Worker) → at < length ws → IsYard ws
-    → (own_numbers v ≡ own_numbers (get_or ws at d)) × (v.posts ≡ (get_or ws at d).posts) × (v.takes ≡ (get_or ws at d).takes)
-    → (ans : Result Name Refusal) → ans ≡ (heap.allocated (get_or ws at d).heap.heap len).answer → v.heap.heap ≡ (heap.allocated (get_or ws at d).heap.heap len).heap
+    → SameButHeap (get_or ws at d) v
+    → (ans : Result Name Refusal) → ans ≡ (heap.allocated (heap_of (get_or ws at d)) len).answer → heap_of v ≡ (heap.allocated (heap_of (get_or ws at d)) len).heap
     → Leaves ws (set ws at v) (reply_made ans) (allocating (world_of ws) at len)
 unfolding allocated
 allocated_done ws at len d v lt yard same ans e h =
     let is : slice_get ws at ≡ Some (get_or ws at d) = slice_get-get_or ws at d lt in
-    let k : heap_in (world_of ws) at ≡ (get_or ws at d).heap.heap = heap_in_is ws at (get_or ws at d) is in
+    let k : heap_in (world_of ws) at ≡ (heap_of (get_or ws at d)) = heap_in_is ws at (get_or ws at d) is in
     record {
-      yard = heap_yard ws at (get_or ws at d) v is same yard;
+      yard = heap_yard ws at (get_or ws at d) v is same (call_keeps _ (heap_of v) (heap.Allocate len) h) yard;
       answer = rw k (ap reply_made e);
       world = rw k (heap_world ws at (get_or ws at d) v is same ∙ ap (with_heap (world_of ws) at) h);
     }
 
 pub freed_done : (ws : List Worker) (at : ℕ) (name : Name) (d v : Worker) → at < length ws → IsYard ws
-    → (own_numbers v ≡ own_numbers (get_or ws at d)) × (v.posts ≡ (get_or ws at d).posts) × (v.takes ≡ (get_or ws at d).takes)
-    → (ans : Result (Unit {0}) Refusal) → ans ≡ (heap.released (get_or ws at d).heap.heap name).answer → v.heap.heap ≡ (heap.released (get_or ws at d).heap.heap name).heap
+    → SameButHeap (get_or ws at d) v
+    → (ans : Result (Unit {0}) Refusal) → ans ≡ (heap.released (heap_of (get_or ws at d)) name).answer → heap_of v ≡ (heap.released (heap_of (get_or ws at d)) name).heap
     → Leaves ws (set ws at v) (reply_freed ans) (freeing (world_of ws) at name)
 unfolding released
 freed_done ws at name d v lt yard same ans e h =
     let is : slice_get ws at ≡ Some (get_or ws at d) = slice_get-get_or ws at d lt in
-    let k : heap_in (world_of ws) at ≡ (get_or ws at d).heap.heap = heap_in_is ws at (get_or ws at d) is in
+    let k : heap_in (world_of ws) at ≡ (heap_of (get_or ws at d)) = heap_in_is ws at (get_or ws at d) is in
     record {
-      yard = heap_yard ws at (get_or ws at d) v is same yard;
+      yard = heap_yard ws at (get_or ws at d) v is same (call_keeps _ (heap_of v) (heap.Release name) h) yard;
       answer = rw k (ap reply_freed e);
       world = rw k (heap_world ws at (get_or ws at d) v is same ∙ ap (with_heap (world_of ws) at) h);
     }
 
 pub written_done : (ws : List Worker) (at from : ℕ) (name : Name) (bytes : List ℕ) (d v : Worker) → at < length ws → IsYard ws
-    → (own_numbers v ≡ own_numbers (get_or ws at d)) × (v.posts ≡ (get_or ws at d).posts) × (v.takes ≡ (get_or ws at d).takes)
-    → (ans : Result (Unit {0}) Refusal) → ans ≡ (heap.written (get_or ws at d).heap.heap name from bytes).answer → v.heap.heap ≡ (heap.written (get_or ws at d).heap.heap name from bytes).heap
+    → SameButHeap (get_or ws at d) v
+    → (ans : Result (Unit {0}) Refusal) → ans ≡ (heap.written (heap_of (get_or ws at d)) name from bytes).answer → heap_of v ≡ (heap.written (heap_of (get_or ws at d)) name from bytes).heap
     → Leaves ws (set ws at v) (reply_wrote (length bytes) ans) (writing (world_of ws) at name from bytes)
 unfolding written
 written_done ws at from name bytes d v lt yard same ans e h =
     let is : slice_get ws at ≡ Some (get_or ws at d) = slice_get-get_or ws at d lt in
-    let k : heap_in (world_of ws) at ≡ (get_or ws at d).heap.heap = heap_in_is ws at (get_or ws at d) is in
+    let k : heap_in (world_of ws) at ≡ (heap_of (get_or ws at d)) = heap_in_is ws at (get_or ws at d) is in
     record {
-      yard = heap_yard ws at (get_or ws at d) v is same yard;
+      yard = heap_yard ws at (get_or ws at d) v is same (call_keeps _ (heap_of v) (heap.Write name from bytes) h) yard;
       answer = rw k (ap (reply_wrote (length bytes)) e);
       world = rw k (heap_world ws at (get_or ws at d) v is same ∙ ap (with_heap (world_of ws) at) h);
     }
@@ -74,16 +78,16 @@ pub same_heap : (w : World) (at : ℕ) (h : HeapState) → h ≡ heap_in w at �
 same_heap w at h e = rw e (ap (λ l. record { heaps = l; waiting = w.waiting; capacity = w.capacity }) (set-get_or w.heaps at no_heap))
 
 pub read_done : (ws : List Worker) (at from n : ℕ) (name : Name) (d v : Worker) → at < length ws → IsYard ws
-    → (own_numbers v ≡ own_numbers (get_or ws at d)) × (v.posts ≡ (get_or ws at d).posts) × (v.takes ≡ (get_or ws at d).takes)
-    → (ans : Result Chunk Refusal) → ans ≡ chunk_read (get_or ws at d).heap.heap name from n → v.heap.heap ≡ (get_or ws at d).heap.heap
+    → SameButHeap (get_or ws at d) v
+    → (ans : Result Chunk Refusal) → ans ≡ chunk_read (heap_of (get_or ws at d)) name from n → heap_of v ≡ (heap_of (get_or ws at d))
     → Leaves ws (set ws at v) (reply_got ans) (reading (world_of ws) at name from n)
 read_done ws at from n name d v lt yard same ans e h =
     let is : slice_get ws at ≡ Some (get_or ws at d) = slice_get-get_or ws at d lt in
-    let k : heap_in (world_of ws) at ≡ (get_or ws at d).heap.heap = heap_in_is ws at (get_or ws at d) is in
+    let k : heap_in (world_of ws) at ≡ (heap_of (get_or ws at d)) = heap_in_is ws at (get_or ws at d) is in
     record {
-      yard = heap_yard ws at (get_or ws at d) v is same yard;
+      yard = heap_yard ws at (get_or ws at d) v is same (same_heap_keeps _ (heap_of v) h) yard;
       answer = ap reply_got (e ∙ ap (λ x. chunk_read x name from n) (sym k));
-      world = heap_world ws at (get_or ws at d) v is same ∙ same_heap (world_of ws) at v.heap.heap (h ∙ sym k);
+      world = heap_world ws at (get_or ws at d) v is same ∙ same_heap (world_of ws) at (heap_of v) (h ∙ sym k);
     }
 
 pub releasing_post : (w : World) (at : ℕ) (name : Name) → name.heap ≢ at → name.heap < length w.heaps → releasing w at name ≡ posting w at name

@@ -20,7 +20,8 @@ use Rattle.tlsf_crew.specs.declared.target.Target.{Target}
 use Rattle.tlsf_crew.specs.declared.reply.Reply.{Reply}
 use Rattle.tlsf_crew.specs.Heaps.{allocated, written, chunk_read, as_chunk, too_many}
 use Rattle.tlsf_crew.specs.History.{RunsTo, answer_told, call_on_own, handed_on, meant}
-use Rattle.tlsf_crew.specs.World.{World, Replied, heap_in, with_heap, no_heap, allocating, writing, writing_named, reading, reading_named, reply_made, reply_wrote, reply_got, name_of}
+use Rattle.tlsf_crew.specs.World.{World, Replied, heap_in, with_heap, allocating, writing, writing_named, reading, reading_named, reply_made, reply_wrote, reply_got, name_of}
+use Rattle.tlsf_crew.specs.Yard.{no_heap}
 use Rattle.tlsf_crew.proofs.OneEvent.{same_heap}
 use Rattle.tlsf_crew.proofs.Padding.{bytes_back}
 use Rattle.tlsf_crew.proofs.Reading.{read_few, read_many}

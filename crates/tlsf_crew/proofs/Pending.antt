@@ -64,7 +64,7 @@ lane_ready : (ws vs : List Worker) (i j : ℕ) → length vs ≡ length ws → H
 unfolding world_of
 lane_ready ws vs i j len met yard i_in j_in =
     elim (cases_eq i j) [
-      | inl e ↦ rw (e, yard.alone j) (omega arith)
+      | inl e ↦ rw (e, (yard.alone j).0) (omega arith)
       | inr ne ↦
           let m = met i j (omega (arith, len)) (omega (arith, len)) ne in
           let waits : lane_waits (Some m.new_post) (Some m.new_take) ≡ waited m.new_take = waits_after _ _ _ _ m.meets in

@@ -2,8 +2,8 @@
 use Rattle.std.proofs.Common.{◌≡◌, ◌≢◌, ℕ, ◌+◌, ◌<◌, ◌≤◌, List, length, sym, ◌∙◌, arith, refl, inl, inr}
 use Rattle.std.proofs.lemmas.Bool.{cases_eq}
 use Rattle.tlsf_crew.specs.declared.worker.Worker.{Worker}
-use Rattle.tlsf_crew.specs.Yard.{LaneStep, SameLane}
-use Rattle.tlsf_crew.specs.Settling.{MetIn, RowMet, RowsMet}
+use Rattle.tlsf_crew.specs.Settling.{MetIn}
+use Rattle.tlsf_crew.specs.LaneSteps.{LaneStep, SameLane, RowMet, RowsMet}
 use Rattle.tlsf_crew.proofs.Slots.{settled, step_same, same_then}
 
 step_meets : (ws vs : List Worker) (i j : ℕ) → i ≢ j → LaneStep ws i j vs → MetIn ws vs i j

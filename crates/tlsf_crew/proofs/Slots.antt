@@ -1,5 +1,5 @@
 -- What stands in a slot after a write.
-use Rattle.std.proofs.Common.{◌≡◌, ◌≢◌, ℕ, ◌<◌, ◌≤◌, List, Option, Some, None, length, set, sym, ◌∙◌, ap, map, arith, refl, inl, inr, get_or-set_same, get_or-set_other}
+use Rattle.std.proofs.Common.{suc, zero, [], ◌∷◌, ◌≡◌, ◌≢◌, ℕ, ◌<◌, ◌≤◌, List, Option, Some, None, length, set, sym, ◌∙◌, ap, map, arith, refl, inl, inr, get_or-set_same, get_or-set_other}
 use Rattle.std.specs.List.{slice_get}
 use Rattle.std.proofs.lemmas.Option.{get_or_from_slice_get, slice_get_within, slice_get-get_or, slice_get_past}
 use Rattle.std.proofs.lemmas.Bool.{cases_lt, cases_eq}
@@ -9,7 +9,9 @@ use Rattle.tlsf_post.specs.declared.post_end.PostEnd.{PostEnd}
 use Rattle.tlsf_post.specs.declared.take_end.TakeEnd.{TakeEnd}
 use Rattle.tlsf_post.specs.Lanes.{IsLane, capacity_of}
 use Rattle.tlsf_crew.specs.declared.worker.Worker.{Worker}
-use Rattle.tlsf_crew.specs.Yard.{LaneStep, LaneChange, SameLane, post_at, take_at, posts_of, takes_of, slot_of, HasEnds, InYard, heap_shown, own_numbers}
+use Rattle.tlsf_crew.specs.Workers.{heap_of, own_numbers, slot_of}
+use Rattle.tlsf_crew.specs.Yard.{post_at, take_at, end_to_in, end_from_in, yard_heap, HasEnds}
+use Rattle.tlsf_crew.specs.LaneSteps.{LaneStep, LaneChange, SameLane, InYard}
 
 pub get_set_same : {X : Type 0} (xs : List X) (i : ℕ) (v : X) → i < length xs → slice_get (set xs i v) i ≡ Some v
 get_set_same xs i v lt =
@@ -26,6 +28,13 @@ get_set_other xs i k v ne =
           let m : length (set xs i v) ≤ k = omega (arith, length-set xs i v) in
           slice_get_past (set xs i v) k m ∙ sym (slice_get_past xs k ge)
     ]
+
+-- the ends of a worker after one is written
+pub slot_new : {X : Type 0} (xs ys : List (Option X)) (j : ℕ) (p : X) → j < length xs → ys ≡ set xs j (Some p) → slot_of (slice_get ys j) ≡ Some p
+slot_new xs ys j p lt e = rw (e, get_set_same xs j (Some p) lt) refl
+
+pub slot_other : {X : Type 0} (xs ys : List (Option X)) (j : ℕ) (p : X) → ys ≡ set xs j (Some p) → (k : ℕ) → k ≢ j → slot_of (slice_get ys k) ≡ slot_of (slice_get xs k)
+slot_other xs ys j p e k ne = rw (e, get_set_other xs j k (Some p) ne) refl
 
 -- worker x after two are written
 pub got : {X : Type 0} (ws : List X) (i j x : ℕ) (v w : X) → x ≢ i → x ≢ j → slice_get (set (set ws i v) j w) x ≡ slice_get ws x
@@ -68,16 +77,16 @@ step_same ws vs i j x y ne s away =
       ],
     )
 
-from_slot : {X : Type 0} (s : Option (Option X)) (p : X) → slot_of s ≡ Some p → s ≡ Some (Some p)
+pub from_slot : {X : Type 0} (s : Option (Option X)) (p : X) → slot_of s ≡ Some p → s ≡ Some (Some p)
 from_slot None p h = cc
 from_slot (Some o) p h = ap Some h
 
-from_post : (o : Option Worker) (j : ℕ) (p : PostEnd) → slot_of (slice_get (posts_of o) j) ≡ Some p
+from_post : (o : Option Worker) (j : ℕ) (p : PostEnd) → end_to_in o j ≡ Some p
     → (a : Worker) × (o ≡ Some a) × (slice_get a.posts.items j ≡ Some (Some p))
 from_post None j p h = cc
 from_post (Some w) j p h = (w, refl, from_slot (slice_get w.posts.items j) p h)
 
-from_take : (o : Option Worker) (i : ℕ) (t : TakeEnd) → slot_of (slice_get (takes_of o) i) ≡ Some t
+from_take : (o : Option Worker) (i : ℕ) (t : TakeEnd) → end_from_in o i ≡ Some t
     → (a : Worker) × (o ≡ Some a) × (slice_get a.takes.items i ≡ Some (Some t))
 from_take None i t h = cc
 from_take (Some w) i t h = (w, refl, from_slot (slice_get w.takes.items i) t h)
@@ -106,7 +115,7 @@ settled ws vs i j ne s =
       new_post_is = rw (at_i, m.posts, get_set_same s.a.posts.items j (Some m.new_post) j_post) refl;
       new_take_is = rw (at_j, m.takes, get_set_same s.b.takes.items i (Some m.new_take) i_take) refl;
       same = λ x y away. step_same ws vs i j x y ne s away;
-      heaps = rw s.after (map_same heap_shown (set ws i s.v) j s.b s.w b_still (ap (λ h. h.heap) m.same_taker.0) ∙ map_same heap_shown ws i s.a s.v s.a_is (ap (λ h. h.heap) m.same_poster.0));
+      heaps = rw s.after (map_same heap_of (set ws i s.v) j s.b s.w b_still (ap (λ h. h.heap) m.same_taker.0) ∙ map_same heap_of ws i s.a s.v s.a_is (ap (λ h. h.heap) m.same_poster.0));
       numbers = rw s.after (map_same own_numbers (set ws i s.v) j s.b s.w b_still m.same_taker.1 ∙ map_same own_numbers ws i s.a s.v s.a_is m.same_poster.1);
       len = ap length s.after ∙ (length-set _ j s.w ∙ length-set ws i s.v);
       lane = m.meets.lane;
@@ -132,63 +141,13 @@ second_has ws vs i j s =
     let i_take : i < length s.b.takes.items = slice_get_within s.b.takes.items i (Some m.take) m.take_is in
     rw m.takes (get_set_same s.b.takes.items i (Some m.new_take) i_take)
 
--- one worker is written, who changes one end
-pub poster_change : (vs : List Worker) (i j : ℕ) (a v : Worker) (p q : PostEnd) (t : TakeEnd)
-    → slice_get vs i ≡ Some a → slice_get a.posts.items j ≡ Some (Some p) → v.posts.items ≡ set a.posts.items j (Some q)
-    → (v.heap ≡ a.heap) × (own_numbers v ≡ own_numbers a) × (v.takes ≡ a.takes) → i ≢ j
-    → take_at vs i j ≡ Some t → IsLane q t → capacity_of q ≡ capacity_of p → LaneChange vs (set vs i v) i j p t q t
-poster_change vs i j a v p q t a_is p_is posts same ne t_is lane same_capacity =
-    let i_in : i < length vs = slice_get_within vs i a a_is in
-    let at_i : slice_get (set vs i v) i ≡ Some v = get_set_same vs i v i_in in
-    let j_post : j < length a.posts.items = slice_get_within a.posts.items j (Some p) p_is in
-    record {
-      post_is = rw (a_is, p_is) refl;
-      take_is = t_is;
-      new_post_is = rw (at_i, posts, get_set_same a.posts.items j (Some q) j_post) refl;
-      new_take_is = rw (get_set_other vs i j v (λ e. ne (sym e))) t_is;
-      same = λ x y away. (
-        elim (cases_eq x i) [
-          | inl xi ↦ let yj : y ≢ j = λ e. away xi e in rw (xi, at_i, a_is, posts, get_set_other a.posts.items j y (Some q) yj) refl
-          | inr xi ↦ rw (get_set_other vs i x v xi) refl
-        ],
-        elim (cases_eq y i) [
-          | inl yi ↦ rw (yi, at_i, a_is) (ap (λ k. slot_of (slice_get k.items x)) same.2)
-          | inr yi ↦ rw (get_set_other vs i y v yi) refl
-        ],
-      );
-      heaps = map_same heap_shown vs i a v a_is (ap (λ h. h.heap) same.0);
-      numbers = map_same own_numbers vs i a v a_is same.1;
-      len = length-set vs i v;
-      lane = lane;
-      capacity = same_capacity;
-    }
+pub some_same : {X : Type 0} (x y : X) → Some x ≡ Some y → x ≡ y
+some_same x y e = cc
 
-pub taker_change : (vs : List Worker) (i j : ℕ) (b w : Worker) (p : PostEnd) (t u : TakeEnd)
-    → slice_get vs j ≡ Some b → slice_get b.takes.items i ≡ Some (Some t) → w.takes.items ≡ set b.takes.items i (Some u)
-    → (w.heap ≡ b.heap) × (own_numbers w ≡ own_numbers b) × (w.posts ≡ b.posts) → i ≢ j
-    → post_at vs i j ≡ Some p → IsLane p u → LaneChange vs (set vs j w) i j p t p u
-taker_change vs i j b w p t u b_is t_is takes same ne p_is lane =
-    let j_in : j < length vs = slice_get_within vs j b b_is in
-    let at_j : slice_get (set vs j w) j ≡ Some w = get_set_same vs j w j_in in
-    let i_take : i < length b.takes.items = slice_get_within b.takes.items i (Some t) t_is in
-    record {
-      post_is = p_is;
-      take_is = rw (b_is, t_is) refl;
-      new_post_is = rw (get_set_other vs j i w ne) p_is;
-      new_take_is = rw (at_j, takes, get_set_same b.takes.items i (Some u) i_take) refl;
-      same = λ x y away. (
-        elim (cases_eq x j) [
-          | inl xj ↦ rw (xj, at_j, b_is) (ap (λ k. slot_of (slice_get k.items y)) same.2)
-          | inr xj ↦ rw (get_set_other vs j x w xj) refl
-        ],
-        elim (cases_eq y j) [
-          | inl yj ↦ let xi : x ≢ i = λ e. away e yj in rw (yj, at_j, b_is, takes, get_set_other b.takes.items i x (Some u) xi) refl
-          | inr yj ↦ rw (get_set_other vs j y w yj) refl
-        ],
-      );
-      heaps = map_same heap_shown vs j b w b_is (ap (λ h. h.heap) same.0);
-      numbers = map_same own_numbers vs j b w b_is same.1;
-      len = length-set vs j w;
-      lane = lane;
-      capacity = refl;
-    }
+pub none_or_some : {X : Type 0} (o : Option X) (x : X) → o ≡ None → o ≡ Some x → ⊥
+none_or_some o x a b = let e = sym a ∙ b in cc
+
+pub heap_at : (ws : List Worker) (i : ℕ) (a : Worker) → slice_get ws i ≡ Some a → yard_heap ws i ≡ heap_of a
+heap_at [] i a e = cc
+heap_at (w ∷ ws) zero a e = ap heap_of (some_same w a e)
+heap_at (w ∷ ws) (suc i) a e = heap_at ws i a e

@@ -1,5 +1,5 @@
 -- What a change of one lane does to the world.
-use Rattle.std.proofs.Common.{suc, zero, [], ◌∷◌, ◌++◌, ◌≡◌, ◌≢◌, ℕ, ◌<◌, List, Some, length, get_or, set, drop, sym, ◌∙◌, ap, map, arith, refl, inl, inr, subst}
+use Rattle.std.proofs.Common.{suc, zero, [], ◌∷◌, ◌++◌, ◌≡◌, ◌≢◌, ℕ, ◌<◌, List, Some, length, get_or, set, drop, sym, ◌∙◌, ap, map, arith, refl, inl, inr, subst, None, ◌≤◌}
 use Rattle.std.specs.List.{slice_get}
 use Rattle.std.proofs.lemmas.Option.{slice_get_within}
 use Rattle.std.proofs.lemmas.Bool.{cases_eq}
@@ -11,9 +11,12 @@ use Rattle.tlsf_post.specs.declared.post_end.PostEnd.{PostEnd}
 use Rattle.tlsf_post.specs.declared.take_end.TakeEnd.{TakeEnd}
 use Rattle.tlsf_post.specs.Lanes.{posts_sent, capacity_of, waited, taken}
 use Rattle.tlsf_crew.specs.declared.worker.Worker.{Worker}
-use Rattle.tlsf_crew.specs.Yard.{LaneChange, SameLane, post_at, take_at, slot_of, HasEnds, IsYard, heap_shown, own_numbers, capacity_in, lane_waits}
-use Rattle.tlsf_crew.specs.World.{World, world_of, edited, with_waiting, with_heap, no_heap, heap_in}
-use Rattle.tlsf_crew.proofs.Slots.{get_set_same, get_set_other, map_same, same_then}
+use Rattle.tlsf_crew.specs.Workers.{heap_of, own_numbers, SameButHeap}
+use Rattle.tlsf_crew.specs.Yard.{post_at, take_at, HasEnds, IsYard, capacity_in, lane_waits}
+use Rattle.tlsf_crew.specs.LaneSteps.{LaneChange, SameLane}
+use Rattle.tlsf_crew.specs.World.{World, world_of, edited, with_waiting, with_heap, heap_in}
+use Rattle.tlsf_crew.proofs.Slots.{get_set_same, get_set_other, map_same, same_then, some_same, heap_at, none_or_some}
+use Rattle.tlsf_crew.proofs.OwnHeaps.{KeepsHeap, heaps_along, heaps_set}
 
 -- worlds are equal by heaps, by what waits in each pair, and by capacity
 pub same_world : (v w : World) → v.heaps ≡ w.heaps → ((i j : ℕ) → v.waiting i j ≡ w.waiting i j) → v.capacity ≡ w.capacity → v ≡ w
@@ -84,9 +87,6 @@ change_then ws vs us i j p q r t u s a b =
       capacity = b.capacity ∙ a.capacity;
     }
 
-pub some_same : {X : Type 0} (x y : X) → Some x ≡ Some y → x ≡ y
-some_same x y e = cc
-
 changed_lanes : (ws vs : List Worker) (i j : ℕ) (p : PostEnd) (t : TakeEnd) (q : PostEnd) (u : TakeEnd)
     → LaneChange ws vs i j p t q u → IsYard ws → (x y : ℕ) → x < length vs → y < length vs → x ≢ y → HasEnds vs x y
 changed_lanes ws vs i j p t q u c yard x y x_in y_in ne =
@@ -106,49 +106,51 @@ changed_lanes ws vs i j p t q u c yard x y x_in y_in ne =
       | inr xi ↦ let s = c.same x y (λ f _. xi f) in (h.0, h.1, s.0 ∙ h.2, s.1 ∙ h.3, h.4, h.5 ∙ sym same_capacity)
     ]
 
+changed_outside : (ws vs : List Worker) (i j : ℕ) (p : PostEnd) (t : TakeEnd) (q : PostEnd) (u : TakeEnd)
+    → LaneChange ws vs i j p t q u → IsYard ws → (x y : ℕ) → length vs ≤ y → (post_at vs x y ≡ None) × (take_at vs y x ≡ None)
+changed_outside ws vs i j p t q u c yard x y far =
+    let none = yard.outside x y (omega (arith, c.len)) in
+    let a = c.same x y (λ e f. none_or_some (post_at ws x y) p none.0 (rw (e, f) c.post_is)) in
+    let b = c.same y x (λ e f. none_or_some (take_at ws y x) t none.1 (rw (e, f) c.take_is)) in
+    (a.0 ∙ none.0, b.1 ∙ none.1)
+
 -- a yard stays whole
 pub changed_yard : (ws vs : List Worker) (i j : ℕ) (p : PostEnd) (t : TakeEnd) (q : PostEnd) (u : TakeEnd)
     → i ≢ j → LaneChange ws vs i j p t q u → IsYard ws → IsYard vs
 changed_yard ws vs i j p t q u ne c yard = record {
   few = omega (arith, c.len, yard.few);
   ids = λ x x_in. ap (λ (l : List (ℕ × ℕ)). (get_or l x (0, 0)).0) c.numbers ∙ yard.ids x (omega (arith, c.len));
-  alone = λ x. (c.same x x (λ a b. ne (sym a ∙ b))).0 ∙ yard.alone x;
+  heaps = heaps_along ws vs c.heaps c.len yard.heaps;
+  alone = λ x. let s = c.same x x (λ a b. ne (sym a ∙ b)) in (s.0 ∙ (yard.alone x).0, s.1 ∙ (yard.alone x).1);
+  outside = changed_outside ws vs i j p t q u c yard;
   lanes = changed_lanes ws vs i j p t q u c yard;
 }
 
-pub heap_at : (ws : List Worker) (i : ℕ) (a : Worker) → slice_get ws i ≡ Some a → get_or (map heap_shown ws) i no_heap ≡ a.heap.heap
-heap_at [] i a e = cc
-heap_at (w ∷ ws) zero a e = ap (λ x. x.heap.heap) (some_same w a e)
-heap_at (w ∷ ws) (suc i) a e = heap_at ws i a e
-
-pub heap_lanes : (ws : List Worker) (i : ℕ) (a v : Worker) → slice_get ws i ≡ Some a
-    → (own_numbers v ≡ own_numbers a) × (v.posts ≡ a.posts) × (v.takes ≡ a.takes) → (x y : ℕ) → SameLane ws (set ws i v) x y
+pub heap_lanes : (ws : List Worker) (i : ℕ) (a v : Worker) → slice_get ws i ≡ Some a → SameButHeap a v → (x y : ℕ) → SameLane ws (set ws i v) x y
 heap_lanes ws i a v is same x y =
     let i_in : i < length ws = slice_get_within ws i a is in
     let at_i : slice_get (set ws i v) i ≡ Some v = get_set_same ws i v i_in in (
       elim (cases_eq x i) [
-        | inl xi ↦ rw (xi, at_i, is) (ap (λ k. slot_of (slice_get k.items y)) same.1)
+        | inl xi ↦ rw (xi, at_i, is) (ap (λ f. f y) same.1)
         | inr xi ↦ rw (get_set_other ws i x v xi) refl
       ],
       elim (cases_eq y i) [
-        | inl yi ↦ rw (yi, at_i, is) (ap (λ k. slot_of (slice_get k.items x)) same.2)
+        | inl yi ↦ rw (yi, at_i, is) (ap (λ f. f x) same.2)
         | inr yi ↦ rw (get_set_other ws i y v yi) refl
       ],
     )
 
 -- one heap changed
-pub heap_world : (ws : List Worker) (i : ℕ) (a v : Worker) → slice_get ws i ≡ Some a
-    → (own_numbers v ≡ own_numbers a) × (v.posts ≡ a.posts) × (v.takes ≡ a.takes) → world_of (set ws i v) ≡ with_heap (world_of ws) i v.heap.heap
+pub heap_world : (ws : List Worker) (i : ℕ) (a v : Worker) → slice_get ws i ≡ Some a → SameButHeap a v → world_of (set ws i v) ≡ with_heap (world_of ws) i (heap_of v)
 unfolding world_of
 heap_world ws i a v is same =
     let i_in : i < length ws = slice_get_within ws i a is in
     let at_i : slice_get (set ws i v) i ≡ Some v = get_set_same ws i v i_in in
-    same_world (world_of (set ws i v)) (with_heap (world_of ws) i v.heap.heap) (map-set heap_shown ws i v)
+    same_world (world_of (set ws i v)) (with_heap (world_of ws) i (heap_of v)) (map-set heap_of ws i v)
     (λ x y. let s = heap_lanes ws i a v is same x y in rw (s.0, s.1) refl)
     (ap (λ (l : List (ℕ × ℕ)). (get_or l 0 (0, 0)).1) (map_same own_numbers ws i a v is same.0))
 
-heap_ends : (ws : List Worker) (i : ℕ) (a v : Worker) → slice_get ws i ≡ Some a
-    → (own_numbers v ≡ own_numbers a) × (v.posts ≡ a.posts) × (v.takes ≡ a.takes) → IsYard ws → (x y : ℕ) → x < length (set ws i v) → y < length (set ws i v) → x ≢ y → HasEnds (set ws i v) x y
+heap_ends : (ws : List Worker) (i : ℕ) (a v : Worker) → slice_get ws i ≡ Some a → SameButHeap a v → IsYard ws → (x y : ℕ) → x < length (set ws i v) → y < length (set ws i v) → x ≢ y → HasEnds (set ws i v) x y
 heap_ends ws i a v is same yard x y x_in y_in ne =
     let n = length-set ws i v in
     let xi : x < length ws = omega arith in
@@ -157,15 +159,18 @@ heap_ends ws i a v is same yard x y x_in y_in ne =
     let s = heap_lanes ws i a v is same x y in
     (h.0, h.1, s.0 ∙ h.2, s.1 ∙ h.3, h.4, h.5 ∙ sym (ap (λ (l : List (ℕ × ℕ)). (get_or l 0 (0, 0)).1) (map_same own_numbers ws i a v is same.0)))
 
-pub heap_yard : (ws : List Worker) (i : ℕ) (a v : Worker) → slice_get ws i ≡ Some a
-    → (own_numbers v ≡ own_numbers a) × (v.posts ≡ a.posts) × (v.takes ≡ a.takes) → IsYard ws → IsYard (set ws i v)
-heap_yard ws i a v is same yard = record {
+pub heap_yard : (ws : List Worker) (i : ℕ) (a v : Worker) → slice_get ws i ≡ Some a → SameButHeap a v → KeepsHeap (heap_of a) (heap_of v) → IsYard ws → IsYard (set ws i v)
+heap_yard ws i a v is same kept yard = record {
   few = omega (arith, length-set ws i v, yard.few);
   ids = λ x x_in. ap (λ (l : List (ℕ × ℕ)). (get_or l x (0, 0)).0) (map_same own_numbers ws i a v is same.0) ∙ yard.ids x (omega (arith, length-set ws i v));
-  alone = λ x. (heap_lanes ws i a v is same x x).0 ∙ yard.alone x;
+  heaps = heaps_set ws i a v is kept yard.heaps;
+  alone = λ x. let s = heap_lanes ws i a v is same x x in (s.0 ∙ (yard.alone x).0, s.1 ∙ (yard.alone x).1);
+  outside = λ x y far.
+      let none = yard.outside x y (omega (arith, length-set ws i v)) in
+      ((heap_lanes ws i a v is same x y).0 ∙ none.0, (heap_lanes ws i a v is same y x).1 ∙ none.1);
   lanes = heap_ends ws i a v is same yard;
 }
 
-pub heap_in_is : (ws : List Worker) (i : ℕ) (a : Worker) → slice_get ws i ≡ Some a → heap_in (world_of ws) i ≡ a.heap.heap
+pub heap_in_is : (ws : List Worker) (i : ℕ) (a : Worker) → slice_get ws i ≡ Some a → heap_in (world_of ws) i ≡ heap_of a
 unfolding world_of
 heap_in_is ws i a is = heap_at ws i a is

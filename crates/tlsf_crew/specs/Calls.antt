@@ -10,7 +10,8 @@ use Rattle.tlsf_crew.specs.declared.released.Released.{Released}
 use Rattle.tlsf_crew.specs.declared.released.Released.TheVariants.{Freed, Posted}
 use Rattle.tlsf_crew.specs.declared.took.Took.{Took}
 use Rattle.tlsf_crew.specs.declared.worker.Worker.{Worker}
-use Rattle.tlsf_crew.specs.Yard.{SameButHeap, PutTo, TookFrom, IsYard}
+use Rattle.tlsf_crew.specs.Workers.{heap_of, id_of, SameButHeap, PutTo, TookFrom}
+use Rattle.tlsf_crew.specs.Yard.{IsYard}
 
 -- a yard stays whole where the one worker takes the other's place
 abbrev pub KeepsYards : Worker → Worker → Type 0
@@ -31,22 +32,22 @@ posted_by name (Err back) = Err (Full name)
 
 -- the own block of that name was released
 pub record ReleasedHere (a v : Worker) (name : Name) (answer : Result Released CrewRefusal) : Type 0 where
-  pub answer_is : answer ≡ freed_by (released a.heap.heap name).answer
-  pub heap : v.heap.heap ≡ (released a.heap.heap name).heap
+  pub answer_is : answer ≡ freed_by (released (heap_of a) name).answer
+  pub heap : heap_of v ≡ (released (heap_of a) name).heap
   pub same : SameButHeap a v
 
 -- the name was put into the lane to the worker of its heap
 pub record ReleasedThere (a v : Worker) (name : Name) (answer : Result Released CrewRefusal) : Type 0 where
   pub put : Result (Unit {0}) Post
-  pub lane : PutTo a v name.heap (record { from = a.id; name = name }) put
+  pub lane : PutTo a v name.heap (record { from = id_of a; name = name }) put
   pub answer_is : answer ≡ posted_by name put
 
 -- after a take the post's block is released on the own heap
 abbrev pub AfterTake : Worker → Worker → Option Post → Result (Option Took) CrewRefusal → Type 0
 AfterTake a v None answer = (answer ≡ Ok None) × (v ≡ a)
 AfterTake a v (Some post) answer =
-    (answer ≡ Ok (Some (record { from = post.from; name = post.name; answer = (released a.heap.heap post.name).answer })))
-    × (v.heap.heap ≡ (released a.heap.heap post.name).heap) × SameButHeap a v
+    (answer ≡ Ok (Some (record { from = post.from; name = post.name; answer = (released (heap_of a) post.name).answer })))
+    × (heap_of v ≡ (released (heap_of a) post.name).heap) × SameButHeap a v
 
 -- the lane from a worker was asked for its next post
 pub record TakenFrom (a v : Worker) (from : ℕ) (answer : Result (Option Took) CrewRefusal) : Type 0 where

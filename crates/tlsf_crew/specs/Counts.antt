@@ -1,5 +1,5 @@
 -- How many entries events can make.
-use Rattle.std.specs.Prelude.{zero, suc, ℕ, ◌+◌, List, length, Option, Some, None, Bool, true, false, slice_get}
+use Rattle.std.specs.Prelude.{zero, suc, ℕ, ◌+◌, List, length, Option, Some, None, Bool, true, false}
 use Rattle.std.specs.List.{count_by}
 use Rattle.tlsf_post.specs.declared.take_end.TakeEnd.{TakeEnd}
 use Rattle.tlsf_post.specs.Lanes.{ready}
@@ -7,7 +7,8 @@ use Rattle.tlsf_crew.specs.declared.worker.Worker.{Worker}
 use Rattle.tlsf_crew.specs.declared.call.Call.{Call}
 use Rattle.tlsf_crew.specs.declared.call.Call.TheVariants.{Allocate, Release, Write, Read, Take, Drain}
 use Rattle.tlsf_crew.specs.declared.event.Event.{Event}
-use Rattle.tlsf_crew.specs.Yard.{slot_of, take_at}
+use Rattle.tlsf_crew.specs.Workers.{end_from}
+use Rattle.tlsf_crew.specs.Yard.{take_at}
 use Rattle.tlsf_crew.specs.World.{World}
 
 -- a sum over the numbers below n
@@ -30,7 +31,7 @@ count_of (Some t) = length (ready t)
 
 -- how many are ready for a worker from worker i
 abbrev pub ready_from : Worker → ℕ → ℕ
-ready_from w i = count_of (slot_of (slice_get w.takes.items i))
+ready_from w i = count_of (end_from w i)
 
 -- how many are ready for the workers below k, and in a whole yard
 abbrev pub ready_below : List Worker → ℕ → ℕ

@@ -6,7 +6,7 @@ use Rattle.tlsf_heap.specs.Calls.{released}
 use Rattle.tlsf_crew.specs.declared.drained.Drained.{Drained}
 use Rattle.tlsf_crew.specs.declared.took.Took.{Took}
 use Rattle.tlsf_crew.specs.declared.worker.Worker.{Worker}
-use Rattle.tlsf_crew.specs.Yard.{HasTake, heap_shown, takes_of}
+use Rattle.tlsf_crew.specs.Workers.{heap_of, HasTake, lane_places}
 use Rattle.tlsf_crew.specs.Calls.{TakenFrom}
 
 -- worker a becomes worker v by takes from one lane, which answered these one after another
@@ -32,10 +32,6 @@ LanesDrained a v most (suc k) tooks =
     (b : Worker) × (before : List Took) × (here : List Took)
     × (tooks ≡ before ++ here) × LanesDrained a b most k before × TurnDrained b v k (most - length before) here
 
--- how many workers a worker may have lanes from: it has none from this number on
-abbrev pub lane_places : Worker → ℕ
-lane_places a = length (takes_of (Some a))
-
 abbrev pub is_freed : Took → Bool
 is_freed took = is_ok took.answer
 
@@ -50,5 +46,5 @@ IsCountOf answer tooks = (answer.taken ≡ length tooks) × (answer.freed ≡ co
 pub record DrainedAll (a v : Worker) (most : ℕ) (answer : Drained) : Type 0 where
   pub tooks : List Took
   pub lanes : LanesDrained a v most (lane_places a) tooks
-  pub heap : heap_shown v ≡ heap_after (heap_shown a) tooks
+  pub heap : heap_of v ≡ heap_after (heap_of a) tooks
   pub count : IsCountOf answer tooks

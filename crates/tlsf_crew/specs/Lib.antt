@@ -1,8 +1,9 @@
 pub mod Bytes
 pub mod Heaps
 pub mod Numbers
-pub mod World
+pub mod Workers
 pub mod Yard
+pub mod World
 pub mod Opening
 pub mod Settling
 pub mod Calls
@@ -10,3 +11,6 @@ pub mod Counts
 pub mod FairRuns
 pub mod Drains
 pub mod History
+pub mod LaneSteps
+pub mod Laying
+pub mod Leaving

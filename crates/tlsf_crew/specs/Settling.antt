@@ -1,9 +1,9 @@
 -- What `settle` tells of the lanes of a yard.
-use Rattle.std.specs.Prelude.{◌≡◌, ◌≢◌, ℕ, ◌<◌, ◌≤◌, List, length, Some}
+use Rattle.std.specs.Prelude.{◌≡◌, ◌≢◌, ℕ, ◌<◌, List, length, Some}
 use Rattle.tlsf_post.specs.declared.post_end.PostEnd.{PostEnd}
 use Rattle.tlsf_post.specs.declared.take_end.TakeEnd.{TakeEnd}
 use Rattle.tlsf_crew.specs.declared.worker.Worker.{Worker}
-use Rattle.tlsf_crew.specs.Yard.{post_at, take_at, Meets, SameLane}
+use Rattle.tlsf_crew.specs.Yard.{post_at, take_at, Meets}
 
 -- the two ends of the lane from i to j were side by side between the two yards
 pub record MetIn (ws vs : List Worker) (i j : ℕ) : Type 0 where
@@ -20,15 +20,3 @@ pub record MetIn (ws vs : List Worker) (i j : ℕ) : Type 0 where
 -- so were those of each lane
 abbrev pub HaveMet : List Worker → List Worker → Type 0
 HaveMet ws vs = (i j : ℕ) → i < length ws → j < length ws → i ≢ j → MetIn ws vs i j
-
--- those of the lanes from i to the workers below j, and all others are the same
-pub record RowMet (ws vs : List Worker) (i j : ℕ) : Type 0 where
-  pub len : length vs ≡ length ws
-  pub done : (y : ℕ) → y < j → i ≢ y → MetIn ws vs i y
-  pub same : (x y : ℕ) → (x ≡ i → j ≤ y) → SameLane ws vs x y
-
--- those of the lanes from the workers below i, and all others are the same
-pub record RowsMet (ws vs : List Worker) (i : ℕ) : Type 0 where
-  pub len : length vs ≡ length ws
-  pub done : (x y : ℕ) → x < i → y < length ws → x ≢ y → MetIn ws vs x y
-  pub same : (x y : ℕ) → i ≤ x → SameLane ws vs x y

@@ -19,7 +19,8 @@ use Rattle.tlsf_crew.specs.declared.reply.Reply.{Reply}
 use Rattle.tlsf_crew.specs.declared.took.Took.{Took}
 use Rattle.tlsf_crew.specs.declared.reply.Reply.TheVariants.{Made, Freed, Posted, Wrote, Got, Took as Taken, Empty, Drained, Refused}
 use Rattle.tlsf_crew.specs.declared.crew_refusal.CrewRefusal.TheVariants.{Heap, Full, Stranger, Unmade}
-use Rattle.tlsf_crew.specs.Yard.{post_at, take_at, lane_waits, heap_shown, capacity_in, IsYard}
+use Rattle.tlsf_crew.specs.Workers.{heap_of}
+use Rattle.tlsf_crew.specs.Yard.{post_at, take_at, lane_waits, capacity_in, no_heap}
 
 pub record World : Type 0 where
   pub heaps : List HeapState
@@ -28,7 +29,7 @@ pub record World : Type 0 where
 
 -- what a yard shows
 unfoldable pub world_of : List Worker → World
-world_of ws = record { heaps = map heap_shown ws; waiting = λ i j. lane_waits (post_at ws i j) (take_at ws i j); capacity = capacity_in ws }
+world_of ws = record { heaps = map heap_of ws; waiting = λ i j. lane_waits (post_at ws i j) (take_at ws i j); capacity = capacity_in ws }
 
 -- the same but for the posts from i to j
 abbrev pub edited : (ℕ → ℕ → List Post) → ℕ → ℕ → List Post → ℕ → ℕ → List Post
@@ -40,9 +41,6 @@ with_waiting w i j posts = record { heaps = w.heaps; waiting = edited w.waiting 
 -- the same but for the heap of worker i
 abbrev pub with_heap : World → ℕ → HeapState → World
 with_heap w i h = record { heaps = set w.heaps i h; waiting = w.waiting; capacity = w.capacity }
-
-abbrev pub no_heap : HeapState
-no_heap = record { id = 0; words = 0; tick = 0; blocks = [] }
 
 abbrev pub heap_in : World → ℕ → HeapState
 heap_in w i = get_or w.heaps i no_heap
@@ -218,19 +216,3 @@ begun w = record { made = []; entries = []; world = w }
 -- every event in order
 unfoldable pub replies : World → List Event → Replayed
 replies w es = fold after (begun w) es
-
--- what a call on a yard answers and leaves
-pub record Leaves (ws vs : List Worker) (reply : Reply) (r : Replied) : Type 0 where
-  pub yard : IsYard vs
-  pub answer : reply ≡ r.reply
-  pub world : world_of vs ≡ r.world
-
-abbrev pub reply_took : Option Took → Reply
-reply_took None = Empty
-reply_took (Some t) = Taken t
-
-abbrev pub drain_of : List Entry → List Worker → ℕ → Draining
-drain_of entries ws taken = record { entries = entries; world = world_of ws; taken = taken }
-
-abbrev pub replay_of : List (Option Name) → List Entry → List Worker → Replayed
-replay_of made entries ws = record { made = made; entries = entries; world = world_of ws }

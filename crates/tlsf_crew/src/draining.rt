@@ -1,7 +1,7 @@
 //! A drain by a worker's own call.
 ghost use Rattle.std.specs.Prelude.{◌≡◌, ℕ, ◌≤◌, List};
 ghost use Rattle.tlsf_crew.specs.declared.took.Took.{Took};
-ghost use Rattle.tlsf_crew.specs.Yard.{HasTake};
+ghost use Rattle.tlsf_crew.specs.Workers.{HasTake};
 ghost use Rattle.tlsf_crew.specs.Calls.{KeepsYards};
 ghost use Rattle.tlsf_crew.specs.Drains.{LaneDrained, IsCountOf, DrainedAll};
 

@@ -1,7 +1,8 @@
 //! A drain, with every end of every lane in hand.
 ghost use Rattle.std.specs.Prelude.{◌≡◌, ◌≢◌, ℕ, ◌<◌, ◌≤◌, length, vec_capacity};
 ghost use Rattle.tlsf_crew.specs.Yard.{IsYard};
-ghost use Rattle.tlsf_crew.specs.World.{drained_lane, drained_all, drain_of};
+ghost use Rattle.tlsf_crew.specs.World.{drained_lane, drained_all};
+ghost use Rattle.tlsf_crew.specs.Leaving.{drain_of};
 
 use crate::call::Call;
 use crate::entry::Entry;

@@ -1,14 +1,25 @@
 ghost use Rattle.std.specs.Prelude.{◌≡◌, ◌≢◌, ◌↔◌, ℕ, ◌+◌, ◌<◌, ◌≤◌, Some, None, length, vec_len, slice_set, replicate, IfOk, OnOk, IsErrOf};
 ghost use Rattle.tlsf_heap.specs.Calls.{opened};
 ghost use Rattle.tlsf_heap.specs.Lawful.{IsRegion};
-ghost use Rattle.tlsf_crew.specs.Opening.{AreSizes, IsLaid, opened_world};
+ghost use Rattle.tlsf_crew.specs.Opening.{AreSizes, opened_world};
 ghost use Rattle.tlsf_crew.specs.World.{world_of};
-ghost use Rattle.tlsf_crew.specs.Yard.{IsYard, own_numbers};
+ghost use Rattle.tlsf_crew.specs.Yard.{IsYard};
+ghost use Rattle.tlsf_crew.specs.Laying.{IsLaid};
+ghost use Rattle.tlsf_crew.specs.Workers.{heap_of, own_numbers};
 
 use crate::worker::Worker;
 use std::alloc::Global;
 use tlsf_heap::{Heap, OpenFault};
 use tlsf_post::{NoMemory, PostEnd, TakeEnd, lane};
+
+// The most workers of a yard.
+const MOST_WORKERS: u32 = 8;
+
+// The most words of a heap.
+const MOST_WORDS: u32 = 1 << 20;
+
+// The most posts that a lane holds.
+const MOST_CAPACITY: u32 = 1024;
 
 /// Opens a yard of `n` workers, 1 to 8, numbered from 0: each owns a heap of its number over `words` words, 4 to 2^20,
 /// and from each to each other goes a lane that holds up to `capacity` posts, 1 to 1,024.
@@ -22,7 +33,13 @@ pub fn open_yard(alloc: Global, n: u32, words: u32, capacity: u32) -> Result<Vec
     ensures bad_size { IsErrOf result OpenFault.BadSize ↔ ¬ (AreSizes n words capacity) }
     ensures never_worn { ¬ (IsErrOf result OpenFault.Worn) }
 {
-    if n < 1 || n > 8 || words < 4 || words > 1 << 20 || capacity < 1 || capacity > 1024 {
+    if n < 1
+        || n > MOST_WORKERS
+        || words < 4
+        || words > MOST_WORDS
+        || capacity < 1
+        || capacity > MOST_CAPACITY
+    {
         return Err(OpenFault::BadSize);
     }
     match open_workers(alloc, n, words, capacity) {
@@ -62,7 +79,7 @@ fn open_worker(
     capacity: u32,
 ) -> Result<Worker, NoMemory>
     requires { IsRegion words }
-    ensures heap { IfOk result (λ worker. worker.heap.heap ≡ opened id words 0) }
+    ensures heap { IfOk result (λ worker. heap_of worker ≡ opened id words 0) }
     ensures numbers { IfOk result (λ worker. own_numbers worker ≡ (id, capacity)) }
     ensures posts { IfOk result (λ worker. worker.posts.items ≡ replicate n None) }
     ensures takes { IfOk result (λ worker. worker.takes.items ≡ replicate n None) }

@@ -1,7 +1,7 @@
 ghost use Rattle.std.specs.Prelude.{◌≡◌, ◌≢◌, length, true, false, Ok, Err};
 ghost use Rattle.std.specs.Result.{result_unwrap_or};
 ghost use Rattle.tlsf_heap.specs.Calls.{allocated, written, read_of, read_answer};
-ghost use Rattle.tlsf_crew.specs.Yard.{SameButHeap, HasPost, HasTake};
+ghost use Rattle.tlsf_crew.specs.Workers.{heap_of, id_of, SameButHeap, HasPost, HasTake};
 ghost use Rattle.tlsf_crew.specs.Calls.{KeepsYards, by_heap, ReleasedHere, ReleasedThere, TakenFrom};
 
 use crate::crew_refusal::CrewRefusal;
@@ -54,8 +54,8 @@ pub(crate) fn take_next(worker: &mut Worker, from: usize) -> Option<Took>
 impl Worker {
     /// Gives a block of the own heap that holds `len` bytes of payload, all zero.
     pub fn allocate(&mut self, len: u32) -> Result<Name, CrewRefusal>
-        ensures answer { result ≡ by_heap (allocated self.old.heap.heap len).answer }
-        ensures heap { self.new.heap.heap ≡ (allocated self.old.heap.heap len).heap }
+        ensures answer { result ≡ by_heap (allocated (heap_of self.old) len).answer }
+        ensures heap { heap_of self.new ≡ (allocated (heap_of self.old) len).heap }
         ensures same { SameButHeap self.old self.new }
         ensures yard { KeepsYards self.old self.new }
     {
@@ -67,8 +67,8 @@ impl Worker {
 
     /// Writes bytes into a block of the own heap, from byte `at` of it on.
     pub fn write(&mut self, name: Name, at: u32, bytes: &[u8]) -> Result<(), CrewRefusal>
-        ensures answer { result ≡ by_heap (written self.old.heap.heap name at bytes.now).answer }
-        ensures heap { self.new.heap.heap ≡ (written self.old.heap.heap name at bytes.now).heap }
+        ensures answer { result ≡ by_heap (written (heap_of self.old) name at bytes.now).answer }
+        ensures heap { heap_of self.new ≡ (written (heap_of self.old) name at bytes.now).heap }
         ensures same { SameButHeap self.old self.new }
         ensures yard { KeepsYards self.old self.new }
     {
@@ -80,9 +80,9 @@ impl Worker {
 
     /// Reads bytes of a block of the own heap, from byte `at` of it on, and fills `out` with them.
     pub fn read(&mut self, name: Name, at: u32, out: &mut [u8]) -> Result<(), CrewRefusal>
-        ensures answer { result ≡ by_heap (read_answer (read_of self.old.heap.heap name at (length out.old))) }
-        ensures bytes { out.new ≡ result_unwrap_or (read_of self.old.heap.heap name at (length out.old)) out.old }
-        ensures heap { self.new.heap.heap ≡ self.old.heap.heap }
+        ensures answer { result ≡ by_heap (read_answer (read_of (heap_of self.old) name at (length out.old))) }
+        ensures bytes { out.new ≡ result_unwrap_or (read_of (heap_of self.old) name at (length out.old)) out.old }
+        ensures heap { heap_of self.new ≡ heap_of self.old }
         ensures same { SameButHeap self.old self.new }
         ensures yard { KeepsYards self.old self.new }
     {
@@ -99,9 +99,9 @@ impl Worker {
     ///   knows no free slot.
     /// - `nowhere`: a name of no other worker is a `Stranger`, and nothing changes.
     pub fn release(&mut self, name: Name) -> Result<Released, CrewRefusal>
-        ensures here { name.heap ≡ self.old.id → ReleasedHere self.old self.new name result }
-        ensures there { name.heap ≢ self.old.id → HasPost self.old name.heap → ReleasedThere self.old self.new name result }
-        ensures nowhere { name.heap ≢ self.old.id → ¬ (HasPost self.old name.heap) → (result ≡ Err CrewRefusal.Stranger) × (self.new ≡ self.old) }
+        ensures here { name.heap ≡ id_of self.old → ReleasedHere self.old self.new name result }
+        ensures there { name.heap ≢ id_of self.old → HasPost self.old name.heap → ReleasedThere self.old self.new name result }
+        ensures nowhere { name.heap ≢ id_of self.old → ¬ (HasPost self.old name.heap) → (result ≡ Err CrewRefusal.Stranger) × (self.new ≡ self.old) }
         ensures yard { KeepsYards self.old self.new }
     {
         if name.heap == self.id {

@@ -1,6 +1,8 @@
 // One lane, both ends in hand.
 ghost use Rattle.std.specs.Prelude.{◌≡◌, ◌≢◌, ℕ, ◌+◌, ◌<◌, ◌≤◌, [], ◌∷◌, ◌++◌, length, vec_len, Some, slice_get, slice_set};
-ghost use Rattle.tlsf_crew.specs.Yard.{HasLane, LaneMet, InYard, LaneStep, HasEnds, IsYard, HasPost, HasTake, PutTo, TookFrom};
+ghost use Rattle.tlsf_crew.specs.Yard.{HasEnds, IsYard};
+ghost use Rattle.tlsf_crew.specs.LaneSteps.{HasLane, LaneMet, InYard, LaneStep};
+ghost use Rattle.tlsf_crew.specs.Workers.{HasPost, HasTake, PutTo, TookFrom};
 
 use crate::worker::Worker;
 use tlsf_post::{Post, beside};

@@ -1,8 +1,9 @@
 //! Events, one after another.
 ghost use Rattle.std.specs.Prelude.{◌≡◌, ℕ, ◌+◌, ◌<◌, ◌≤◌, [], ◌∷◌, ◌++◌, length, vec_len, vec_capacity, IfOk, OnOk, OnErr};
 ghost use Rattle.tlsf_crew.specs.Yard.{IsYard};
-ghost use Rattle.tlsf_crew.specs.World.{world_of, made_by, name_of, replay_of, after, replies};
-ghost use Rattle.tlsf_crew.specs.FairRuns.{HasIds, IsFairRun, NoneStale, WaitLive};
+ghost use Rattle.tlsf_crew.specs.World.{world_of, made_by, name_of, after, replies};
+ghost use Rattle.tlsf_crew.specs.FairRuns.{IsFairRun, NoneStale, WaitLive};
+ghost use Rattle.tlsf_crew.specs.Leaving.{replay_of};
 
 use crate::call::Call;
 use crate::counting::room_for;
@@ -141,7 +142,7 @@ pub fn replay_events(
     ensures entries { IfOk result (λ entries. entries.items ≡ (replies (world_of workers.old) events.now).entries) }
     ensures world { OnOk result (world_of workers.new ≡ (replies (world_of workers.old) events.now).world) }
     ensures no_memory { OnErr result (world_of workers.new ≡ world_of workers.old) }
-    ensures no_stale { HasIds (world_of workers.old) → IsFairRun (world_of workers.old) events.now → IfOk result (λ entries. NoneStale entries.items × WaitLive (world_of workers.new)) }
+    ensures no_stale { IsFairRun (world_of workers.old) events.now → IfOk result (λ entries. NoneStale entries.items × WaitLive (world_of workers.new)) }
 {
     settle(workers);
     let room = room_for(workers, events);

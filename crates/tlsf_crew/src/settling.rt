@@ -1,7 +1,8 @@
 ghost use Rattle.std.specs.Prelude.{◌≡◌, ℕ, ◌<◌, length};
 ghost use Rattle.tlsf_crew.specs.Yard.{IsYard};
 ghost use Rattle.tlsf_crew.specs.World.{world_of};
-ghost use Rattle.tlsf_crew.specs.Settling.{HaveMet, RowMet};
+ghost use Rattle.tlsf_crew.specs.Settling.{HaveMet};
+ghost use Rattle.tlsf_crew.specs.LaneSteps.{RowMet};
 
 use crate::pairs::settle_lane;
 use crate::worker::Worker;

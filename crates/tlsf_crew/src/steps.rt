@@ -1,10 +1,12 @@
 //! The calls of one event, with every end of every lane in hand.
 ghost use Rattle.std.specs.Prelude.{◌≡◌, ◌≢◌, ℕ, ◌<◌, ◌≤◌, length};
 ghost use Rattle.tlsf_heap.specs.Calls.{read_of};
-ghost use Rattle.tlsf_crew.specs.Yard.{IsYard, SameButHeap};
+ghost use Rattle.tlsf_crew.specs.Yard.{IsYard};
 ghost use Rattle.tlsf_crew.specs.Bytes.{bytes_of};
 ghost use Rattle.tlsf_crew.specs.Heaps.{as_chunk, chunk_read};
-ghost use Rattle.tlsf_crew.specs.World.{world_of, posting, taking_next, taking, allocating, freeing, releasing, releasing_named, writing, writing_named, reading, reading_named, reply_took, Leaves};
+ghost use Rattle.tlsf_crew.specs.World.{world_of, posting, taking_next, taking, allocating, freeing, releasing, releasing_named, writing, writing_named, reading, reading_named};
+ghost use Rattle.tlsf_crew.specs.Workers.{heap_of, SameButHeap};
+ghost use Rattle.tlsf_crew.specs.Leaving.{reply_took, Leaves};
 
 use crate::chunk::Chunk;
 use crate::crew_refusal::CrewRefusal;
@@ -160,9 +162,9 @@ pub(crate) fn write_named(
 /// Fills up to 64 bytes from a block of the own heap.
 fn read_into(worker: &mut Worker, name: Name, from: u32, out: &mut [u8]) -> Result<Chunk, Refusal>
     requires { length out.old ≤ 64 }
-    ensures answer { result ≡ as_chunk (read_of worker.old.heap.heap name from (length out.old)) }
+    ensures answer { result ≡ as_chunk (read_of (heap_of worker.old) name from (length out.old)) }
     ensures same { SameButHeap worker.old worker.new }
-    ensures heap { worker.new.heap.heap ≡ worker.old.heap.heap }
+    ensures heap { heap_of worker.new ≡ heap_of worker.old }
 {
     match worker.heap.read(name, from, out) {
         Ok(()) => match Chunk::new(out) {
@@ -175,9 +177,9 @@ fn read_into(worker: &mut Worker, name: Name, from: u32, out: &mut [u8]) -> Resu
 
 /// Reads up to 64 bytes of a block of the own heap. More are refused.
 fn read_chunk(worker: &mut Worker, name: Name, from: u32, n: u32) -> Result<Chunk, Refusal>
-    ensures answer { result ≡ chunk_read worker.old.heap.heap name from n }
+    ensures answer { result ≡ chunk_read (heap_of worker.old) name from n }
     ensures same { SameButHeap worker.old worker.new }
-    ensures heap { worker.new.heap.heap ≡ worker.old.heap.heap }
+    ensures heap { heap_of worker.new ≡ heap_of worker.old }
 {
     let mut bytes = [0u8; 64];
     if n > 64 {

@@ -1,5 +1,5 @@
 use Rattle.std.proofs.Common.{refl, [], ◌∷◌, ◌++◌, inl, inr, arith, Some, sym}
-use Rattle.tlsf_crew.proofs.Keeping.{heap_keeps, keeps_then}
+use Rattle.tlsf_crew.proofs.Keeping.{same_keeps, keeps_then}
 use Rattle.tlsf_crew.proofs.Turns.{taken_has, takes_more, counts_then, one_freed, one_kept}
 use Rattle.tlsf_crew.proofs.draining.drain_own.Goals as goal
 
@@ -9,7 +9,7 @@ loop-drained-init c =
       lane = c.requires;
       takes = ([], refl, (refl, refl));
       few = omega arith;
-      yard = heap_keeps _ _ (refl, refl, refl);
+      yard = same_keeps _;
     }
 
 pub loop-drained-preserved-then-is_ok : goal.loop-drained-preserved-then-is_ok

@@ -1,6 +1,6 @@
 use Rattle.std.proofs.Common.{◌-◌, ◌≤◌, List}
 use Rattle.tlsf_crew.specs.declared.took.Took.{Took}
-use Rattle.tlsf_crew.specs.Yard.{HasTake}
+use Rattle.tlsf_crew.specs.Workers.{HasTake}
 use Rattle.tlsf_crew.specs.Calls.{KeepsYards}
 use Rattle.tlsf_crew.specs.Drains.{TakesInTurn, IsCountOf}
 use Rattle.tlsf_crew.proofs.draining.drain_own.Given as goal

@@ -1,5 +1,6 @@
 use Rattle.std.proofs.Common.{◌≡◌, ◌∙◌, ap, sym, length, arith, suc}
-use Rattle.tlsf_crew.specs.World.{drain_of, drained_from, drained_below}
+use Rattle.tlsf_crew.specs.World.{drained_from, drained_below}
+use Rattle.tlsf_crew.specs.Leaving.{drain_of}
 use Rattle.tlsf_crew.proofs.OneEvent.{below_count, from_other, from_own, all_is, below_next}
 use Rattle.tlsf_crew.proofs.drains.drain.Goals as goal
 use Rattle.tlsf_crew.proofs.drains.drain.Goals.{then-from-at, else-from-at}

@@ -1,6 +1,7 @@
 use Rattle.std.proofs.Common.{◌≡◌, ◌≤◌, length, vec_capacity}
 use Rattle.tlsf_crew.specs.Yard.{IsYard}
-use Rattle.tlsf_crew.specs.World.{drained_below, drain_of}
+use Rattle.tlsf_crew.specs.World.{drained_below}
+use Rattle.tlsf_crew.specs.Leaving.{drain_of}
 use Rattle.tlsf_crew.proofs.drains.drain.Given as goal
 
 abbrev pub invariant-loop-from : goal.invariant-loop-from

@@ -1,5 +1,6 @@
 use Rattle.std.proofs.Common.{◌∙◌, ap, sym, length, arith, rules}
-use Rattle.tlsf_crew.specs.World.{world_of, drain_of}
+use Rattle.tlsf_crew.specs.World.{world_of}
+use Rattle.tlsf_crew.specs.Leaving.{drain_of}
 use Rattle.tlsf_crew.proofs.OneEvent.{drain_step, drain_room, lane_most, lane_empty, empty_case}
 use Rattle.tlsf_crew.proofs.drains.drain_lane.Goals as goal
 

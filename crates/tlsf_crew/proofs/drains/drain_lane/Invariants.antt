@@ -1,6 +1,7 @@
 use Rattle.std.proofs.Common.{◌≡◌, ◌≤◌, ◌-◌, length, vec_capacity}
 use Rattle.tlsf_crew.specs.Yard.{IsYard}
-use Rattle.tlsf_crew.specs.World.{drained_lane, drain_of}
+use Rattle.tlsf_crew.specs.World.{drained_lane}
+use Rattle.tlsf_crew.specs.Leaving.{drain_of}
 use Rattle.tlsf_crew.proofs.drains.drain_lane.Given as goal
 
 abbrev pub invariant-loop-taken : goal.invariant-loop-taken

@@ -1,5 +1,5 @@
 use Rattle.std.proofs.Common.{◌≡◌, length, subst, ℕ, arith}
-use Rattle.tlsf_crew.specs.Opening.{IsLaid}
+use Rattle.tlsf_crew.specs.Laying.{IsLaid}
 use Rattle.tlsf_crew.proofs.opening.lay_lanes.Goals as goal
 
 pub loop-i-preserved : goal.loop-i-preserved

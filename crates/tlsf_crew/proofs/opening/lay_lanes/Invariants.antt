@@ -1,5 +1,5 @@
 use Rattle.std.proofs.Common.{length}
-use Rattle.tlsf_crew.specs.Opening.{IsLaid}
+use Rattle.tlsf_crew.specs.Laying.{IsLaid}
 use Rattle.tlsf_crew.proofs.opening.lay_lanes.Given as goal
 
 abbrev pub invariant-loop-i : goal.invariant-loop-i

@@ -1,6 +1,6 @@
 use Rattle.tlsf_crew.proofs.Laying.{lane_skipped, row_laid}
 use Rattle.std.proofs.Common.{◌≡◌, length, subst, ℕ, arith}
-use Rattle.tlsf_crew.specs.Opening.{IsLaid}
+use Rattle.tlsf_crew.specs.Laying.{IsLaid}
 use Rattle.tlsf_crew.proofs.opening.lay_row.Goals as goal
 use Rattle.tlsf_crew.proofs.opening.lay_row.Goals.{then-i-j+in_ok-lay_lane, else-i-j}
 

@@ -1,5 +1,5 @@
 use Rattle.std.proofs.Common.{length}
-use Rattle.tlsf_crew.specs.Opening.{IsLaid}
+use Rattle.tlsf_crew.specs.Laying.{IsLaid}
 use Rattle.tlsf_crew.proofs.opening.lay_row.Given as goal
 
 abbrev pub invariant-loop-j : goal.invariant-loop-j

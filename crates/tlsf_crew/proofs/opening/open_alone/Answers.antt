@@ -1,7 +1,8 @@
 use Rattle.std.proofs.Common.{◌≡◌, length, ap, ◌∙◌, arith, rules}
 use Rattle.tlsf_heap.specs.Calls.{opened}
-use Rattle.tlsf_crew.specs.Yard.{heap_shown, own_numbers}
-use Rattle.tlsf_crew.specs.Opening.{opened_heaps, opened_numbers}
+use Rattle.tlsf_crew.specs.Opening.{opened_heaps}
+use Rattle.tlsf_crew.specs.Workers.{heap_of, own_numbers}
+use Rattle.tlsf_crew.specs.Laying.{opened_numbers}
 use Rattle.tlsf_crew.proofs.Laying.{map_push, alone_push, alone_laid}
 use Rattle.tlsf_crew.proofs.opening.open_alone.Goals as goal
 
@@ -13,7 +14,7 @@ loop-id-preserved c =
     record {
       count = search rules;
       room = search rules;
-      heaps = rw e (map_push heap_shown (λ j. opened j c.args.words 0) _ _ _ i.heaps own.heap);
+      heaps = rw e (map_push heap_of (λ j. opened j c.args.words 0) _ _ _ i.heaps own.heap);
       numbers = rw e (map_push own_numbers (λ j. (j, c.args.capacity)) _ _ _ i.numbers own.numbers);
       alone = rw e (alone_push _ _ _ i.alone own.posts own.takes);
     }

@@ -1,6 +1,7 @@
 use Rattle.std.proofs.Common.{◌≡◌, ◌≤◌, map, vec_len, vec_capacity}
-use Rattle.tlsf_crew.specs.Yard.{heap_shown, own_numbers}
-use Rattle.tlsf_crew.specs.Opening.{opened_heaps, opened_numbers}
+use Rattle.tlsf_crew.specs.Opening.{opened_heaps}
+use Rattle.tlsf_crew.specs.Workers.{heap_of, own_numbers}
+use Rattle.tlsf_crew.specs.Laying.{opened_numbers}
 use Rattle.tlsf_crew.proofs.Laying.{AreAlone}
 use Rattle.tlsf_crew.proofs.opening.open_alone.Given as goal
 
@@ -8,7 +9,7 @@ abbrev pub invariant-loop-id : goal.invariant-loop-id
 invariant-loop-id l = record {
   count : vec_len l.workers ≡ l.id;
   room : l.n ≤ vec_capacity l.workers;
-  heaps : map heap_shown l.workers.items ≡ opened_heaps l.id l.words;
+  heaps : map heap_of l.workers.items ≡ opened_heaps l.id l.words;
   numbers : map own_numbers l.workers.items ≡ opened_numbers l.id l.capacity;
   alone : AreAlone l.workers.items l.n;
 }

@@ -1,6 +1,10 @@
-use Rattle.std.proofs.Common.{arith}
+use Rattle.std.proofs.Common.{List, arith}
 use Rattle.std.proofs.lemmas.Result.{IfOk-weaker}
 use Rattle.tlsf_crew.specs.World.{world_of}
+use Rattle.tlsf_crew.specs.declared.worker.Worker.{Worker}
+use Rattle.tlsf_crew.specs.Yard.{IsYard}
+use Rattle.tlsf_crew.specs.FairRuns.{HasIds}
+use Rattle.tlsf_crew.proofs.OneEvent.{heaps_count}
 use Rattle.tlsf_crew.proofs.Pending.{all_ready}
 use Rattle.tlsf_crew.proofs.Room.{replies_room}
 use Rattle.tlsf_crew.proofs.FairLists.{no_stale}
@@ -14,9 +18,16 @@ replay_within-requires-clause-room c =
     let b = all_ready c.args.workers.now vs s.count s.met s.yard in
     omega (arith, c.room_for-room.ensures)
 
+-- in a whole yard each heap has the number of its worker
+yard_ids : (ws : List Worker) → IsYard ws → HasIds (world_of ws)
+unfolding world_of
+yard_ids ws yard =
+    let n = heaps_count ws in
+    λ j lt. (yard.heaps j (omega (arith, n))).0
+
 pub returns-clause-no_stale : goal.returns-clause-no_stale
 returns-clause-no_stale c =
-    λ ids run.
-    let a = no_stale (world_of c.args.workers.now) c.args.events.now ids run in
+    λ run.
+    let a = no_stale (world_of c.args.workers.now) c.args.events.now (yard_ids c.args.workers.now c.requires) run in
     let replies_are = rw c.settle.ensures.world at c.replay_within.ensures.replies in
     IfOk-weaker c.replay_within.result _ _ (λ entries e. rw (e.0, e.1) a) replies_are

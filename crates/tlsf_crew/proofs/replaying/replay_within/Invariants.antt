@@ -1,7 +1,8 @@
 use Rattle.std.proofs.Common.{◌≡◌, ◌≤◌, length, take, vec_len, vec_capacity}
 use Rattle.std.specs.List.{fold}
 use Rattle.tlsf_crew.specs.Yard.{IsYard}
-use Rattle.tlsf_crew.specs.World.{replay_of, after, begun, world_of}
+use Rattle.tlsf_crew.specs.World.{after, begun, world_of}
+use Rattle.tlsf_crew.specs.Leaving.{replay_of}
 use Rattle.tlsf_crew.proofs.replaying.replay_within.Given as goal
 
 abbrev pub invariant-loop-event : goal.invariant-loop-event

@@ -1,7 +1,8 @@
 use Rattle.std.proofs.Common.{◌<◌, ◌≤◌, ◌∙◌, ap, sym, length, arith}
 use Rattle.tlsf_crew.specs.declared.call.Call.TheVariants.{Allocate, Release, Write, Read, Take, Drain}
 use Rattle.tlsf_crew.specs.Bytes.{bytes_of}
-use Rattle.tlsf_crew.specs.World.{replay_of, allocating, releasing_named, writing_named, reading_named, taking, name_of}
+use Rattle.tlsf_crew.specs.World.{allocating, releasing_named, writing_named, reading_named, taking, name_of}
+use Rattle.tlsf_crew.specs.Leaving.{replay_of}
 use Rattle.tlsf_crew.proofs.OneEvent.{heaps_count}
 use Rattle.tlsf_crew.proofs.EventSteps.{after_far, after_near, single_done, single_room, drain_done, drain_length}
 use Rattle.tlsf_crew.proofs.replaying.run_event.Goals as goal

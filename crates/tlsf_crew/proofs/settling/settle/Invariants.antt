@@ -1,7 +1,7 @@
 use Rattle.std.proofs.Common.{◌≡◌}
 use Rattle.tlsf_crew.specs.Yard.{IsYard}
 use Rattle.tlsf_crew.specs.World.{world_of}
-use Rattle.tlsf_crew.specs.Settling.{RowsMet}
+use Rattle.tlsf_crew.specs.LaneSteps.{RowsMet}
 use Rattle.tlsf_crew.proofs.settling.settle.Given as goal
 
 abbrev pub invariant-loop-i : goal.invariant-loop-i

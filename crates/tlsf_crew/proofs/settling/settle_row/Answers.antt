@@ -1,5 +1,5 @@
 use Rattle.std.proofs.Common.{◌≡◌, ◌∙◌, length, ℕ, subst, refl, arith}
-use Rattle.tlsf_crew.specs.Settling.{RowMet}
+use Rattle.tlsf_crew.specs.LaneSteps.{RowMet}
 use Rattle.tlsf_crew.proofs.Across.{settled_world, settled_yard}
 use Rattle.tlsf_crew.proofs.Settled.{row_first, row_step, row_skip}
 use Rattle.tlsf_crew.proofs.settling.settle_row.Goals as goal

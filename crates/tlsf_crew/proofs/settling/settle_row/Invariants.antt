@@ -1,7 +1,7 @@
 use Rattle.std.proofs.Common.{◌≡◌}
 use Rattle.tlsf_crew.specs.Yard.{IsYard}
 use Rattle.tlsf_crew.specs.World.{world_of}
-use Rattle.tlsf_crew.specs.Settling.{RowMet}
+use Rattle.tlsf_crew.specs.LaneSteps.{RowMet}
 use Rattle.tlsf_crew.proofs.settling.settle_row.Given as goal
 
 abbrev pub invariant-loop-j : goal.invariant-loop-j

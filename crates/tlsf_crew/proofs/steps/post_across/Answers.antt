@@ -1,7 +1,8 @@
-use Rattle.std.proofs.Common.{◌≡◌, slice_index_or}
+use Rattle.std.proofs.Common.{◌≡◌, slice_index_or, ap}
 use Rattle.std.proofs.lemmas.Option.{get_or_from_slice_get}
 use Rattle.tlsf_crew.proofs.Slots.{first_is, first_has}
 use Rattle.tlsf_crew.proofs.Across.{put_change, ends_of, capacity_settled, posted, post_refused}
+use Rattle.tlsf_crew.specs.Workers.{slot_of}
 use Rattle.tlsf_crew.proofs.steps.post_across.Goals as goal
 
 pub settle_lane-requires-clause-lane : goal.settle_lane-requires-clause-lane
@@ -12,7 +13,7 @@ put_to-answer-requires c =
     let s = c.settle_lane.ensures in
     let e : slice_index_or c.settle_lane.new.workers c.args.from c.index-workers-i.result ≡ s.v =
     get_or_from_slice_get c.settle_lane.new.workers c.args.from s.v c.index-workers-i.result (first_is _ _ _ _ c.requires.apart s) in
-    rw e (s.met.new_post, first_has _ _ _ _ s)
+    rw e (s.met.new_post, ap slot_of (first_has _ _ _ _ s))
 
 pub settle_lane-requires-2-clause-lane : goal.settle_lane-requires-2-clause-lane
 settle_lane-requires-2-clause-lane c =

@@ -3,6 +3,7 @@ use Rattle.std.specs.List.{slice_get}
 use Rattle.std.proofs.lemmas.Option.{get_or_from_slice_get}
 use Rattle.tlsf_crew.proofs.Slots.{second_is, second_has}
 use Rattle.tlsf_crew.proofs.Across.{take_change, ends_of, capacity_settled, took_some, took_none, took_done}
+use Rattle.tlsf_crew.specs.Workers.{slot_of}
 use Rattle.tlsf_crew.proofs.steps.take_across.Goals as goal
 
 pub settle_lane-requires-clause-lane : goal.settle_lane-requires-clause-lane
@@ -13,7 +14,7 @@ take_from-post-requires c =
     let s = c.settle_lane.ensures in
     let e : slice_index_or c.settle_lane.new.workers c.args.at c.index-workers-j.result ≡ s.w =
     get_or_from_slice_get c.settle_lane.new.workers c.args.at s.w c.index-workers-j.result (second_is _ _ _ _ s) in
-    rw e (s.met.new_take, second_has _ _ _ _ s)
+    rw e (s.met.new_take, ap slot_of (second_has _ _ _ _ s))
 
 pub settle_lane-requires-2-clause-lane : goal.settle_lane-requires-2-clause-lane
 settle_lane-requires-2-clause-lane c =

@@ -1,9 +1,10 @@
 use Rattle.std.proofs.Common.{refl}
 use Rattle.tlsf_crew.proofs.Keeping.{heap_keeps}
+use Rattle.tlsf_crew.proofs.OwnHeaps.{same_heap_keeps}
 use Rattle.tlsf_crew.proofs.worker.Worker.read.Goals as goal
 
 pub returns-in-Ok-clause-yard : goal.returns-in-Ok-clause-yard
-returns-in-Ok-clause-yard c = heap_keeps _ _ (refl, refl, refl)
+returns-in-Ok-clause-yard c = heap_keeps _ _ (refl, refl, refl) (same_heap_keeps _ _ c.in-Ok.ensures.heap)
 
 pub returns-in-Err-clause-yard : goal.returns-in-Err-clause-yard
-returns-in-Err-clause-yard c = heap_keeps _ _ (refl, refl, refl)
+returns-in-Err-clause-yard c = heap_keeps _ _ (refl, refl, refl) (same_heap_keeps _ _ c.in-Err.ensures.heap)

@@ -1,15 +1,17 @@
 use Rattle.std.proofs.Common.{refl}
+use Rattle.tlsf_heap.specs.Calls.{Release}
 use Rattle.tlsf_crew.proofs.Keeping.{heap_keeps, put_keeps}
+use Rattle.tlsf_crew.proofs.OwnHeaps.{call_keeps, same_heap_keeps}
 use Rattle.tlsf_crew.proofs.worker.Worker.release.Goals as goal
 
 pub returns-in-Ok-clause-yard : goal.returns-in-Ok-clause-yard
-returns-in-Ok-clause-yard c = heap_keeps _ _ (refl, refl, refl)
+returns-in-Ok-clause-yard c = heap_keeps _ _ (refl, refl, refl) (call_keeps _ _ (Release c.args.name) c.in-Ok.ensures.heap)
 
 pub returns-in-Err-clause-yard : goal.returns-in-Err-clause-yard
-returns-in-Err-clause-yard c = heap_keeps _ _ (refl, refl, refl)
+returns-in-Err-clause-yard c = heap_keeps _ _ (refl, refl, refl) (call_keeps _ _ (Release c.args.name) c.in-Err.ensures.heap)
 
 pub returns-then-not-has_post-clause-yard : goal.returns-then-not-has_post-clause-yard
-returns-then-not-has_post-clause-yard c = heap_keeps _ _ (refl, refl, refl)
+returns-then-not-has_post-clause-yard c = same_keeps _
 
 pub put_to-requires : goal.put_to-requires
 put_to-requires c = c.has_post.ensures.yes c.if-not-has_post.false
