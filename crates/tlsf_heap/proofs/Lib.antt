@@ -26,6 +26,10 @@ pub mod Forgetting
 pub mod Payloads
 pub mod Naming
 pub mod Writing
+pub mod Summing
+pub mod Tallying
+pub mod Granting
+pub mod Reporting
 pub mod Outcomes
 pub mod Living
 pub mod Gone

@@ -10,4 +10,6 @@ pub mod FreePlaces
 pub mod Stored
 pub mod Numbers
 pub mod Named
+pub mod Reports
+pub mod Tallies
 pub mod Laws

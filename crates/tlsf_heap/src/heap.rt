@@ -4,6 +4,7 @@ ghost use Rattle.tlsf_heap.specs.Blocks;
 ghost use Rattle.tlsf_heap.specs.Lawful.{IsLawful, IsRegion};
 ghost use Rattle.tlsf_heap.specs.GoodFit.{fits, block_at};
 ghost use Rattle.tlsf_heap.specs.Named.{IsFirst, IsNameCheck};
+ghost use Rattle.tlsf_heap.specs.Reports.{report_of, IsGrant};
 ghost use Rattle.tlsf_heap.specs.Calls.{opened, allocated, released, written, read_of, read_answer, has_bytes, last_tick};
 
 use crate::fitting::{MOST_WORDS, carve, choose, coalesce};
@@ -12,6 +13,8 @@ use crate::name::Name;
 use crate::open_fault::OpenFault;
 use crate::refusal::Refusal;
 use crate::region::Region;
+use crate::report::Report;
+use crate::tally::Tally;
 use std::alloc::Global;
 use std::marker::Model;
 use tlsf_class::class_of;
@@ -168,6 +171,19 @@ impl Heap {
         self.check_range(name, at, out.len())?;
         self.region.read(name.at, at, out);
         Ok(())
+    }
+
+    /// What the heap holds, and how well it serves. Takes no memory.
+    pub fn report(&mut self) -> Report
+        ensures report { result ≡ report_of self.old.heap }
+
+        // What the grant comes to: no request for more is served, and one for so much is, unless nothing is free.
+        ensures grant { IsGrant self.old.heap.blocks result.grant }
+        ensures heap { self.new.heap ≡ self.old.heap }
+        ensures was_lawful { IsLawful self.old.heap }
+    {
+        let tick = self.tick;
+        Tally::of(&mut self.region, tick).report(tick)
     }
 
     /// Whether a live block of this heap has that name: if not, `Foreign` or else `Stale`.

@@ -1,8 +1,10 @@
-ghost use Rattle.std.specs.Prelude.{◌≡◌, ◌≢◌, ℕ, ◌<◌, List, Err, length};
-ghost use Rattle.tlsf_heap.specs.Blocks.{HeapState};
+ghost use Rattle.std.specs.Prelude.{◌≡◌, ◌≢◌, ℕ, ◌*◌, ◌-◌, ◌<◌, List, Err, length};
+ghost use Rattle.tlsf_class.specs.Classes.{low, class_of};
+ghost use Rattle.tlsf_heap.specs.Blocks.{Block, HeapState};
 ghost use Rattle.tlsf_heap.specs.Calls.{Call, allocated, answered, released, run};
 ghost use Rattle.tlsf_heap.specs.Lawful.{IsLawful};
 ghost use Rattle.tlsf_heap.specs.Laws.{LieApart, LieInRegion, IsLive, IsGiven, IsTaken, TakesBack};
+ghost use Rattle.tlsf_heap.specs.Reports.{report_of, IsGrant};
 ghost use Rattle.tlsf_heap.specs.declared.name.Name.{Name};
 ghost use Rattle.tlsf_heap.specs.declared.refusal.Refusal.TheVariants.{Foreign, Stale};
 
@@ -29,4 +31,12 @@ pub fn names_live_until_released()
     // The release of a name of the heap that is not live is refused as Stale, that of a live one neither so nor as Foreign.
     ensures stale { (h : HeapState) (name : Name) → name.heap ≡ h.id → ¬ (IsLive h name) → (released h name).answer ≡ Err Stale }
     ensures known { (h : HeapState) (name : Name) → IsLive h name → ((released h name).answer ≢ Err Stale) × ((released h name).answer ≢ Err Foreign) }
+{}
+
+/// The grant of a report is the greatest length of which a request is not refused as `NoFit`: the payload of the least
+/// block of the class that the greatest free block lies in.
+pub fn grant_is_greatest()
+    ensures greatest { (h : HeapState) → IsLawful h → IsGrant h.blocks (report_of h).grant }
+    ensures unique { (blocks : List Block) (g k : ℕ) → IsGrant blocks g → IsGrant blocks k → g ≡ k }
+    ensures formula { (h : HeapState) → IsLawful h → 0 < (report_of h).largest → (report_of h).grant ≡ 8 * (low (class_of (report_of h).largest) - 3) }
 {}

@@ -26,11 +26,16 @@ mod open_fault;
 mod payload_tests;
 mod refusal;
 mod region;
+mod report;
+#[cfg(test)]
+mod report_tests;
+mod tally;
 #[cfg(test)]
 mod tests;
 
 pub use heap::Heap;
-pub use laws::{blocks_never_overlap, names_live_until_released};
+pub use laws::{blocks_never_overlap, grant_is_greatest, names_live_until_released};
 pub use name::Name;
 pub use open_fault::OpenFault;
 pub use refusal::Refusal;
+pub use report::Report;

@@ -45,6 +45,13 @@ impl Region {
         Ok(Region { words: region })
     }
 
+    /// The number of words, 4 to 2^20.
+    pub fn len(&self) -> u32
+        ensures value { result ≡ self.now.words }
+    {
+        self.words.len()
+    }
+
     /// The size of the block at a place.
     pub fn size(&mut self, at: u32) -> u32
         requires { IsPlace self.old.blocks at }
@@ -53,6 +60,16 @@ impl Region {
         ensures blocks { self.new.blocks ≡ self.old.blocks }
     {
         self.words.tag(at).size
+    }
+
+    /// Whether the block at a place is free.
+    pub fn is_free(&mut self, at: u32) -> bool
+        requires { IsPlace self.old.blocks at }
+        ensures value { (i : ℕ) → StandsAt self.old.blocks at i → result ≡ is_free (block_at self.old.blocks i) }
+        ensures words { self.new.words ≡ self.old.words }
+        ensures blocks { self.new.blocks ≡ self.old.blocks }
+    {
+        self.words.tag(at).free
     }
 
     /// The serial of the live block at a place, or the stamp of the free one.

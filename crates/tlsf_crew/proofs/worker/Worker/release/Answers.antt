@@ -1,7 +1,7 @@
 use Rattle.std.proofs.Common.{refl}
 use Rattle.tlsf_heap.specs.Calls.{Release}
-use Rattle.tlsf_crew.proofs.Keeping.{heap_keeps, put_keeps}
-use Rattle.tlsf_crew.proofs.OwnHeaps.{call_keeps, same_heap_keeps}
+use Rattle.tlsf_crew.proofs.Keeping.{heap_keeps, put_keeps, same_keeps}
+use Rattle.tlsf_crew.proofs.OwnHeaps.{call_keeps}
 use Rattle.tlsf_crew.proofs.worker.Worker.release.Goals as goal
 
 pub returns-in-Ok-clause-yard : goal.returns-in-Ok-clause-yard

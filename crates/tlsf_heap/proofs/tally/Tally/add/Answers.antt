@@ -1,0 +1,53 @@
+use Rattle.std.proofs.Common.{arith, sym, ◌∙◌}
+use Rattle.tlsf_heap.proofs.Tallying.{stands, ends, small, next_live, next_free}
+use Rattle.tlsf_heap.proofs.tally.Tally.add.Goals as goal
+use Rattle.tlsf_heap.proofs.tally.Tally.add.Goals.{then-is_free, else-is_free}
+
+pub add_free-requires-clause-blocks : goal.add_free-requires-clause-blocks
+add_free-requires-clause-blocks c =
+    let here = stands c.requires.rooms c.requires.sums.1 c.requires.within in
+    omega (arith, c.requires.small, (small c.requires.rooms c.requires.sums.1 here).free_blocks)
+
+pub add_free-requires-clause-words : goal.add_free-requires-clause-words
+add_free-requires-clause-words c =
+    let here = stands c.requires.rooms c.requires.sums.1 c.requires.within in
+    omega (arith, c.requires.small, c.size-size.ensures.value c.requires.sums.1.index here, (small c.requires.rooms c.requires.sums.1 here).free_words)
+
+pub add_live-requires-clause-blocks : goal.add_live-requires-clause-blocks
+add_live-requires-clause-blocks c =
+    let here = stands c.requires.rooms c.requires.sums.1 c.requires.within in
+    omega (arith, c.requires.small, (small c.requires.rooms c.requires.sums.1 here).live_blocks)
+
+pub add_live-requires-clause-words : goal.add_live-requires-clause-words
+add_live-requires-clause-words c =
+    let here = stands c.requires.rooms c.requires.sums.1 c.requires.within in
+    omega (arith, c.requires.small, c.size-size.ensures.value c.requires.sums.1.index here, (small c.requires.rooms c.requires.sums.1 here).live_words)
+
+pub add_live-requires-clause-bytes : goal.add_live-requires-clause-bytes
+add_live-requires-clause-bytes c =
+    let here = stands c.requires.rooms c.requires.sums.1 c.requires.within in
+    let unread = c.is_free.ensures.blocks ∙ c.size-size.ensures.blocks in
+    omega (arith, c.requires.small, rw unread at c.length.ensures.value c.requires.sums.1.index here, (small c.requires.rooms c.requires.sums.1 here).live_bytes)
+
+pub overflow_add-result : goal.overflow_add-result
+overflow_add-result c =
+    let here = stands c.requires.rooms c.requires.sums.1 c.requires.within in
+    omega (arith, c.requires.small, c.size-size.ensures.value c.requires.sums.1.index here, (ends c.requires.rooms c.requires.sums.1 here).1)
+
+pub returns-clause-sums : goal.returns-clause-sums
+returns-clause-sums c tick so_far =
+    let here = stands c.requires.rooms so_far c.requires.within in
+    let i = so_far.index in
+    let sized = c.size-size.ensures.value i here in
+    let is_free = rw c.size-size.ensures.blocks at c.is_free.ensures.value in
+    let unread = c.is_free.ensures.blocks ∙ c.size-size.ensures.blocks in
+    elim c.if-is_free.branch [
+      | then-is_free w ↦
+          let stamp = (rw unread at w.mark.ensures.value) i here in
+          let free = sym (is_free i here) ∙ w.if-is_free.true in
+          rw (w.self-is, w.add_free.ensures, sized, stamp) (next_free c.requires.rooms so_far here free)
+      | else-is_free w ↦
+          let held = (rw unread at w.length.ensures.value) i here in
+          let live = sym (is_free i here) ∙ w.if-is_free.false in
+          rw (w.self-is, w.add_live.ensures, sized, held) (next_live c.requires.rooms so_far here live)
+    ]
