@@ -19,7 +19,7 @@ use Rattle.tlsf_crew.specs.declared.reply.Reply.TheVariants.{Posted, Refused, To
 use Rattle.tlsf_crew.specs.declared.crew_refusal.CrewRefusal.TheVariants.{Full}
 use Rattle.tlsf_crew.specs.Yard.{Meets, HasEnds, IsYard, capacity_in, lane_waits}
 use Rattle.tlsf_crew.specs.World.{World, world_of, with_waiting, with_heap, posting, taking_next, heap_in}
-use Rattle.tlsf_crew.specs.Workers.{own_numbers, PutTo, TookFrom, heap_of, slot_of, SameButHeap, end_to, end_from}
+use Rattle.tlsf_crew.specs.Workers.{PutTo, TookFrom, heap_of, slot_of, SameButHeap, end_to, end_from}
 use Rattle.tlsf_crew.specs.LaneSteps.{LaneStep, LaneChange}
 use Rattle.tlsf_crew.specs.Leaving.{Leaves}
 use Rattle.tlsf_crew.proofs.Slots.{settled, first_is, second_is, first_has, second_has, some_same}

@@ -1,9 +1,9 @@
 -- What a worker of a whole yard has.
-use Rattle.std.proofs.Common.{suc, zero, ◌∷◌, [], ◌≡◌, ◌≢◌, ℕ, ◌<◌, ◌≤◌, List, Some, None, length, get_or, map, sym, ◌∙◌, ap, refl, subst, arith, inl, inr}
+use Rattle.std.proofs.Common.{suc, zero, ◌∷◌, [], ◌≡◌, ℕ, ◌≤◌, List, Some, length, sym, ◌∙◌, ap, refl, subst, inl, inr}
 use Rattle.std.specs.Prelude.{◌↔◌}
 use Rattle.std.specs.List.{slice_get}
 use Rattle.std.proofs.lemmas.Option.{slice_get_within}
-use Rattle.std.proofs.lemmas.Bool.{cases_eq, cases_lt}
+use Rattle.std.proofs.lemmas.Bool.{cases_lt}
 use Rattle.tlsf_crew.specs.declared.worker.Worker.{Worker}
 use Rattle.tlsf_crew.specs.Workers.{heap_of, id_of, end_to, end_from, HasPost, HasTake}
 use Rattle.tlsf_crew.specs.Yard.{post_at, take_at, id_in, IsYard, IsHeapOf, IsOther}

@@ -1,5 +1,5 @@
 -- A worker's own calls keep its yard whole.
-use Rattle.std.proofs.Common.{suc, zero, [], ◌∷◌, ◌≡◌, ◌≢◌, ℕ, ◌<◌, List, Option, Some, None, Result, length, get_or, set, sym, ◌∙◌, ap, arith, refl, inl, inr, subst}
+use Rattle.std.proofs.Common.{suc, zero, [], ◌∷◌, ◌≡◌, ◌≢◌, ℕ, ◌<◌, List, Option, Some, Result, length, get_or, set, sym, ◌∙◌, ap, arith, refl, inl, inr, subst}
 use Rattle.std.specs.List.{slice_get}
 use Rattle.std.proofs.lemmas.Option.{slice_get_within}
 use Rattle.std.proofs.lemmas.Bool.{cases_eq}

@@ -1,5 +1,5 @@
 -- One worker of a yard is written, who changes one end.
-use Rattle.std.proofs.Common.{◌≡◌, ◌≢◌, ℕ, List, Some, set, sym, ◌∙◌, ap, refl, inl, inr, length}
+use Rattle.std.proofs.Common.{◌≡◌, ◌≢◌, ℕ, List, Some, set, ◌∙◌, ap, refl, inl, inr}
 use Rattle.std.specs.List.{slice_get}
 use Rattle.std.proofs.lemmas.Option.{slice_get_within}
 use Rattle.std.proofs.lemmas.Bool.{cases_eq}

@@ -22,7 +22,7 @@ use Rattle.tlsf_crew.specs.declared.reply.Reply.TheVariants.{Refused, Took as Ta
 use Rattle.tlsf_crew.specs.declared.crew_refusal.CrewRefusal.TheVariants.{Stranger}
 use Rattle.tlsf_crew.specs.Yard.{IsYard}
 use Rattle.tlsf_crew.specs.World.{World, world_of, with_heap, posting, taking_next, taking, took_first, took, releasing, allocating, freeing, heap_in, reply_made, reply_freed, reply_wrote, reply_got, writing, reading, Replied, Draining, drained_lane, took_more, drained_from, drained_below, drained_all}
-use Rattle.tlsf_crew.specs.Workers.{own_numbers, heap_of, SameButHeap}
+use Rattle.tlsf_crew.specs.Workers.{heap_of, SameButHeap}
 use Rattle.tlsf_crew.specs.Yard.{no_heap}
 use Rattle.tlsf_crew.specs.Leaving.{Leaves, drain_of}
 use Rattle.tlsf_crew.proofs.Worlds.{edited_same, heap_in_is, heap_world, heap_yard}

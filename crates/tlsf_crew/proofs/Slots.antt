@@ -7,10 +7,9 @@ use Rattle.std.proofs.Math.ListN.{length-set}
 use Rattle.std.proofs.Math.Seq.{map-set_same}
 use Rattle.tlsf_post.specs.declared.post_end.PostEnd.{PostEnd}
 use Rattle.tlsf_post.specs.declared.take_end.TakeEnd.{TakeEnd}
-use Rattle.tlsf_post.specs.Lanes.{IsLane, capacity_of}
 use Rattle.tlsf_crew.specs.declared.worker.Worker.{Worker}
 use Rattle.tlsf_crew.specs.Workers.{heap_of, own_numbers, slot_of}
-use Rattle.tlsf_crew.specs.Yard.{post_at, take_at, end_to_in, end_from_in, yard_heap, HasEnds}
+use Rattle.tlsf_crew.specs.Yard.{end_to_in, end_from_in, yard_heap, HasEnds}
 use Rattle.tlsf_crew.specs.LaneSteps.{LaneStep, LaneChange, SameLane, InYard}
 
 pub get_set_same : {X : Type 0} (xs : List X) (i : ℕ) (v : X) → i < length xs → slice_get (set xs i v) i ≡ Some v

@@ -82,12 +82,12 @@ one_kept took n = (refl, rw n refl)
 pub lane_more : (a b v : Worker) (most k : ℕ) (xs ys : List Took) → LanesDrained a b most k xs → HasTake b k → LaneDrained b v k (most - length xs) ys → LanesDrained a v most (k + 1) (xs ++ ys)
 lane_more a b v most k xs ys lanes has lane =
     subst (λ (n : ℕ). LanesDrained a v most n (xs ++ ys)) (sym (add-one k))
-      (b, xs, ys, refl, lanes, record { lane = λ _. lane; nowhere = λ f. absurd (f has) })
+    (b, xs, ys, refl, lanes, record { lane = λ _. lane; nowhere = λ f. absurd (f has) })
 
 pub none_more : (a b : Worker) (most k : ℕ) (xs : List Took) → LanesDrained a b most k xs → ¬ (HasTake b k) → LanesDrained a b most (k + 1) xs
 none_more a b most k xs lanes none =
     subst (λ (n : ℕ). LanesDrained a b most n xs) (sym (add-one k))
-      (b, xs, [], sym (append-nil xs), lanes, record { lane = λ has. absurd (none has); nowhere = λ _. (refl, refl) })
+    (b, xs, [], sym (append-nil xs), lanes, record { lane = λ has. absurd (none has); nowhere = λ _. (refl, refl) })
 
 pub heap_more : (h : HeapState) (a v : Worker) (xs ys : List Took) → heap_of a ≡ heap_after h xs → heap_of v ≡ heap_after (heap_of a) ys → heap_of v ≡ heap_after h (xs ++ ys)
 heap_more h a v xs ys x y =

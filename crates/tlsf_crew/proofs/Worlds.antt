@@ -1,5 +1,5 @@
 -- What a change of one lane does to the world.
-use Rattle.std.proofs.Common.{suc, zero, [], ◌∷◌, ◌++◌, ◌≡◌, ◌≢◌, ℕ, ◌<◌, List, Some, length, get_or, set, drop, sym, ◌∙◌, ap, map, arith, refl, inl, inr, subst, None, ◌≤◌}
+use Rattle.std.proofs.Common.{◌++◌, ◌≡◌, ◌≢◌, ℕ, ◌<◌, List, Some, length, get_or, set, drop, sym, ◌∙◌, ap, arith, refl, inl, inr, subst, None, ◌≤◌}
 use Rattle.std.specs.List.{slice_get}
 use Rattle.std.proofs.lemmas.Option.{slice_get_within}
 use Rattle.std.proofs.lemmas.Bool.{cases_eq}

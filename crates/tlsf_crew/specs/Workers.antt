@@ -1,5 +1,5 @@
 -- What a worker shows: its heap, its number, and its end of each lane.
-use Rattle.std.specs.Prelude.{◌≡◌, ◌≢◌, ℕ, ◌+◌, ◌-◌, ◌<◌, List, [], ◌∷◌, ◌++◌, length, Option, Some, None, Result, slice_get, OnOk, IfErr, IsOk, IfSome, IfNone, IsSome}
+use Rattle.std.specs.Prelude.{◌≡◌, ◌≢◌, ℕ, ◌-◌, ◌<◌, [], ◌∷◌, ◌++◌, length, Option, Some, None, Result, slice_get, OnOk, IfErr, IsOk, IfSome, IfNone, IsSome}
 use mathlib.Core.List.{IsPrefix}
 use Rattle.tlsf_post.specs.declared.post.Post.{Post}
 use Rattle.tlsf_post.specs.declared.post_end.PostEnd.{PostEnd}

@@ -1,5 +1,5 @@
 -- The world that a yard shows, and one step of it.
-use Rattle.std.specs.Prelude.{◌≡◌, zero, suc, ℕ, ◌+◌, ◌-◌, List, [], ◌∷◌, ◌++◌, length, map, take, drop, get_or, set, Option, Some, None, Result, Ok, Err, ◌&&◌, ◌==◌, nat_lt, if◌then◌else◌}
+use Rattle.std.specs.Prelude.{zero, suc, ℕ, ◌+◌, ◌-◌, List, [], ◌∷◌, ◌++◌, length, map, take, drop, get_or, set, Option, Some, None, Result, Ok, Err, ◌&&◌, ◌==◌, nat_lt, if◌then◌else◌}
 use Rattle.std.specs.List.{fold}
 use Rattle.tlsf_post.specs.declared.post.Post.{Post}
 use Rattle.tlsf_heap.specs.declared.name.Name.{Name}
@@ -16,7 +16,6 @@ use Rattle.tlsf_crew.specs.declared.call.Call.TheVariants.{Allocate, Release, Wr
 use Rattle.tlsf_crew.specs.declared.target.Target.{Target}
 use Rattle.tlsf_crew.specs.declared.target.Target.TheVariants.{Named, Made as MadeBy, Absent}
 use Rattle.tlsf_crew.specs.declared.reply.Reply.{Reply}
-use Rattle.tlsf_crew.specs.declared.took.Took.{Took}
 use Rattle.tlsf_crew.specs.declared.reply.Reply.TheVariants.{Made, Freed, Posted, Wrote, Got, Took as Taken, Empty, Drained, Refused}
 use Rattle.tlsf_crew.specs.declared.crew_refusal.CrewRefusal.TheVariants.{Heap, Full, Stranger, Unmade}
 use Rattle.tlsf_crew.specs.Workers.{heap_of}

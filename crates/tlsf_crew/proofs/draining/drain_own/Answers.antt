@@ -18,8 +18,11 @@ loop-drained-preserved-then-is_ok c =
     let took = c.in-Some.took in
     record {
       lane = taken_has c.loop-drained.worker c.take_next.new.worker c.args.from (Some took) c.in-Some.ensures.taken;
-      takes = (i.takes.0 ++ took ∷ [], takes_more c.args.worker.now c.loop-drained.worker c.take_next.new.worker c.args.from i.takes.0 took i.takes.1 c.in-Some.ensures.taken,
-          counts_then c.loop-drained.drained (record { taken = 1; freed = 1 }) i.takes.0 (took ∷ []) i.takes.2 (one_freed took (sym c.if-is_ok.ensures.value)));
+      takes = (
+        i.takes.0 ++ took ∷ [],
+        takes_more c.args.worker.now c.loop-drained.worker c.take_next.new.worker c.args.from i.takes.0 took i.takes.1 c.in-Some.ensures.taken,
+        counts_then c.loop-drained.drained (record { taken = 1; freed = 1 }) i.takes.0 (took ∷ []) i.takes.2 (one_freed took (sym c.if-is_ok.ensures.value)),
+      );
       few = omega arith;
       yard = keeps_then _ c.loop-drained.worker _ i.yard c.take_next.ensures.yard;
     }
@@ -31,8 +34,11 @@ loop-drained-preserved c =
     let n = counts_then c.loop-drained.drained (record { taken = 1; freed = 0 }) i.takes.0 (took ∷ []) i.takes.2 (one_kept took (sym c.if-is_ok.ensures.value)) in
     record {
       lane = taken_has c.loop-drained.worker c.take_next.new.worker c.args.from (Some took) c.in-Some.ensures.taken;
-      takes = (i.takes.0 ++ took ∷ [], takes_more c.args.worker.now c.loop-drained.worker c.take_next.new.worker c.args.from i.takes.0 took i.takes.1 c.in-Some.ensures.taken,
-          (n.0, omega (arith, n.1)));
+      takes = (
+        i.takes.0 ++ took ∷ [],
+        takes_more c.args.worker.now c.loop-drained.worker c.take_next.new.worker c.args.from i.takes.0 took i.takes.1 c.in-Some.ensures.taken,
+        (n.0, omega (arith, n.1)),
+      );
       few = omega arith;
       yard = keeps_then _ c.loop-drained.worker _ i.yard c.take_next.ensures.yard;
     }

@@ -28,9 +28,12 @@ loop-from-preserved c =
           let t = w.drain_own-here.ensures.drained in
           let lane = subst (λ n. LaneDrained b v c.loop-from.from (c.args.most - n) t.0) l.3.0 t.1 in
           record {
-            lanes = rw (w.self-is, w.drained-is) (l.0 ++ t.0, lane_more a b v c.args.most c.loop-from.from l.0 t.0 l.1 (c.has_take.ensures.yes w.if-has_take.true) lane,
-                heap_more (heap_of a) b v l.0 t.0 l.2 (lane_heap b v c.loop-from.from (c.args.most - c.loop-from.drained.taken) t.0 t.1),
-                counts_then c.loop-from.drained w.drain_own-here.result l.0 t.0 l.3 t.2);
+            lanes = rw (w.self-is, w.drained-is) (
+              l.0 ++ t.0,
+              lane_more a b v c.args.most c.loop-from.from l.0 t.0 l.1 (c.has_take.ensures.yes w.if-has_take.true) lane,
+              heap_more (heap_of a) b v l.0 t.0 l.2 (lane_heap b v c.loop-from.from (c.args.most - c.loop-from.drained.taken) t.0 t.1),
+              counts_then c.loop-from.drained w.drain_own-here.result l.0 t.0 l.3 t.2,
+            );
             few = rw w.drained-is (omega (arith, w.drain_own-here.ensures.most, c.loop-from.invariant.few));
             yard = rw w.self-is (keeps_then a b v c.loop-from.invariant.yard w.drain_own-here.ensures.yard);
           }
