@@ -32,6 +32,7 @@ mod pairs;
 mod released;
 mod replaying;
 mod reply;
+mod reporting;
 mod settling;
 mod steps;
 mod target;
