@@ -1,5 +1,5 @@
 -- What the words ask for, by what `clap` answers of them.
-use Rattle.std.proofs.Common.{◌≡◌, ◌∙◌, ◌^◌, ℕ, false, List, [], ◌∷◌, Option, Some, None, Result, Ok, codes, length, option_map, inl, inr, sym, ap, subst, arith}
+use Rattle.std.proofs.Common.{◌≡◌, ◌∙◌, ◌^◌, ℕ, false, List, [], ◌∷◌, Option, Some, Result, Ok, codes, length, option_map, inl, inr, sym, ap, subst, arith}
 use Rattle.std.specs.Option.{option_map_or, unwrap_or}
 use Rattle.std.specs.Prelude.{option_and_then, pos}
 use Rattle.std.specs.Str.Parse.{ParsesUnsigned}
@@ -14,7 +14,7 @@ use Rattle.clap.proofs.ValueTestLemmas.{accepts-Accepts}
 use Rattle.clap.proofs.WalkLemmas.{one_text-rows}
 use Rattle.tlsf_tool.specs.CommandLine.{Asks, command_in, faults_of, number_in, tlsf_app}
 use Rattle.tlsf_tool.specs.declared.command_line.Choice.TheVariants.{Replay, Classes}
-use Rattle.tlsf_tool.proofs.NamedCommands.{IsNamed, faultless_named, replay_named, subcommand_name-rows}
+use Rattle.tlsf_tool.proofs.NamedCommands.{faultless_named, replay_named, subcommand_name-rows}
 use Rattle.tlsf_tool.proofs.SizeWords.{IsSized}
 
 -- what the matches say of words that come to no fault

@@ -1,12 +1,12 @@
 -- A command line that comes to no fault names a command of the program.
-use Rattle.std.proofs.Common.{◌≡◌, ◌⊎◌, ℕ, suc, Bool, true, false, cond, List, [], ◌∷◌, ◌&&◌, Option, Some, None, codes, fold, length, Result, Ok, Err, inl, inr, option_map, refl, sym, ◌∙◌, ap, subst, arith}
+use Rattle.std.proofs.Common.{◌≡◌, ◌⊎◌, ℕ, Bool, true, false, cond, List, [], ◌∷◌, Option, Some, None, codes, fold, length, Result, Ok, Err, inl, inr, option_map, refl, sym, ◌∙◌, ap, subst, arith}
 use Rattle.std.specs.Prelude.{is_some, IfErr, IfOk}
 use Rattle.std.specs.Str.{bytes_eq}
 use Rattle.clap.specs.Faults.{check_fault, defaults_fault, entered_fault, other_fault, settle_fault, turn_fault, walk_fault, word_fault}
 use Rattle.clap.specs.Kinds.{Kinds, or_else}
 use Rattle.clap.specs.Lexer.{long_of, short_of}
-use Rattle.clap.specs.Simple.{App, Shape, argument_words, built, entered, names_of}
-use Rattle.clap.specs.Walk.{Held, Names, Outcome, Row, Rule, Step, Text, Waiting, Walk, done, waits, plain, refused, idle, option, positional, next, trailing, subcommand, value}
+use Rattle.clap.specs.Simple.{App, argument_words, built, entered, names_of}
+use Rattle.clap.specs.Walk.{Held, Outcome, Row, Rule, Step, Text, Waiting, Walk, done, waits, plain, refused, idle, option, positional, next, trailing, subcommand, value}
 use Rattle.clap.specs.Walk.{after_flag, after_step, answers_to, arg_by_index, finished, long_or_other, nothing_held, plain_word, settled, short_or_plain, subcommand_met, subcommand_or_other, to_positional, walk, walk_from, walked, walked_from, word_met}
 use Rattle.std.specs.Box.{box_value}
 use Rattle.clap.specs.Matches.{subcommand_name_of}

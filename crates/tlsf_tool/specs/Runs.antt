@@ -1,17 +1,18 @@
 -- What a run of the program does.
-use Rattle.std.specs.Prelude.{◌≡◌, ◌⊎◌, ℕ, List, [], ◌∷◌, Option, Result, Ok, Err}
+use Rattle.std.specs.Prelude.{◌≡◌, ◌⊎◌, ℕ, List, Option, Result, Ok, Err}
 use Rattle.std.specs.Io.KnownBytes.{Appends, Keeps}
 use Rattle.clap.specs.Words.{IsAmong, Text}
 use Rattle.clap.specs.declared.error.kind.ErrorKind.{ErrorKind}
 use Rattle.clap.specs.declared.error.kind.ErrorKind.TheVariants.{DisplayHelp, DisplayVersion, OutOfMemory}
 use Rattle.tlsf_tool.specs.ClassLines.{class_line}
 use Rattle.tlsf_tool.specs.CommandLine.{Asks, faults_of}
-use Rattle.tlsf_tool.specs.Fronts.{AppendsFront}
-use Rattle.tlsf_tool.specs.Replay.{IsReplay}
-use Rattle.tlsf_tool.specs.TraceFaults.{fault_line, no_memory_fault, status_of_fault, write_fault}
+use Rattle.tlsf_tool.specs.FaultLines.{fault_line, status_of_fault}
 use Rattle.tlsf_tool.specs.declared.command_line.Choice.TheVariants.{Classes, Replay}
-use Rattle.tlsf_tool.specs.declared.summary.Summary.{Summary}
-use Rattle.tlsf_tool.specs.declared.trace_fault.TraceFault.{TraceFault}
+use Rattle.tlsf_trace.specs.Fronts.{AppendsFront}
+use Rattle.tlsf_trace.specs.Replay.{IsReplay}
+use Rattle.tlsf_trace.specs.TraceFaults.{no_memory_fault, write_fault}
+use Rattle.tlsf_trace.specs.declared.summary.Summary.{Summary}
+use Rattle.tlsf_trace.specs.declared.trace_fault.TraceFault.{TraceFault}
 
 -- what the reader has left, and what the writer and the writer of errors hold
 pub record Streams : Type 0 where

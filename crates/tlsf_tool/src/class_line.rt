@@ -1,14 +1,14 @@
 ghost use Rattle.std.specs.Prelude.{◌≡◌, ◌≤◌, ◌^◌, IfOk, OnOk};
 ghost use Rattle.std.specs.Io.KnownBytes.{Appends};
 ghost use Rattle.tlsf_tool.specs.ClassLines.{class_line};
-ghost use Rattle.tlsf_tool.specs.Fronts.{AppendsFront};
+ghost use Rattle.tlsf_trace.specs.Fronts.{AppendsFront};
 
-use crate::writing::{WriteError, write_out};
 use arrayvec::ArrayString;
 use std::fmt;
 use std::fmt::Write as _;
 use std::io::Write;
 use tlsf_class::{class_of, low, search_of};
+use tlsf_trace::{WriteError, write_out};
 
 // The line on a size of `words`, as `class 92 low 448 search 93 low 464`. It has at most 46 bytes.
 fn line_of(words: u32) -> Result<ArrayString<64>, fmt::Error>

@@ -70,8 +70,6 @@ impl Read for EndlessReader {
 pub struct FakeWriter {
     /// What was written.
     pub held: Vec<u8>,
-    /// How many bytes a write takes at most.
-    pub most: usize,
     /// How many bytes there is room for.
     pub room: usize,
     /// Whether a write without room answers an error, or takes no byte.
@@ -84,7 +82,6 @@ impl FakeWriter {
     pub fn new(alloc: Global) -> FakeWriter {
         FakeWriter {
             held: Vec::new(alloc),
-            most: usize::MAX,
             room: usize::MAX,
             fails_when_full: true,
             flush_fails: false,
@@ -94,7 +91,7 @@ impl FakeWriter {
 
 impl Write for FakeWriter {
     fn write(&mut self, buf: &[u8]) -> io::Result<usize> {
-        let count = self.most.min(buf.len()).min(self.room);
+        let count = buf.len().min(self.room);
         if count == 0 && self.fails_when_full {
             return Err(io::Error::from(io::ErrorKind::Other));
         }

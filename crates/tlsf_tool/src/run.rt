@@ -1,36 +1,22 @@
-ghost use Rattle.std.specs.Prelude.{◌≡◌, ◌≤◌, ◌^◌, ℕ, List, [], ◌∷◌, Option, codes, map, IfOk};
+ghost use Rattle.std.specs.Prelude.{◌≡◌, ◌≤◌, ◌^◌, ℕ, List, [], ◌∷◌, Option, codes, map};
 ghost use Rattle.clap.specs.Words.{kind_of};
-ghost use Rattle.tlsf_tool.specs.Fronts.{AppendsFront};
+ghost use Rattle.tlsf_tool.specs.FaultLines.{fault_line, status_of_fault};
 ghost use Rattle.tlsf_tool.specs.Runs.{streams, Ends, ReplaysOrLacksMemory, RunsReplay, ShowsAnswer, ShowsClasses};
-ghost use Rattle.tlsf_tool.specs.TraceFaults.{fault_line, status_of_fault};
+ghost use Rattle.tlsf_trace.specs.Fronts.{AppendsFront};
 
 use crate::class_line::write_class_line;
 use crate::command_line::{Choice, choose};
-use crate::replay::replay;
-use crate::trace_fault::TraceFault;
-use crate::writing::{WriteError, write_out};
-use arrayvec::ArrayString;
+use crate::fault_report::FaultReport;
 use clap::error::ErrorKind;
 use std::alloc::Global;
 use std::convert::AsStr;
-use std::fmt;
-use std::fmt::Write as _;
 use std::io::{Read, Write};
-
-// The line that reports the fault, as `tlsf: line 2: bad line (12)`. It is made in place, since
-// memory may be what lacks.
-fn line_of(fault: TraceFault) -> Result<ArrayString<64>, fmt::Error>
-    ensures { IfOk result (λ line. line.bytes ≡ fault_line fault) }
-{
-    let mut line = ArrayString::new();
-    writeln!(line, "tlsf: {fault}")?;
-    Ok(line)
-}
+use tlsf_trace::{TraceFault, WriteError, replay, write_out};
 
 fn write_line<E: Write>(fault: TraceFault, errors: &mut E) -> Result<(), WriteError>
     ensures { AppendsFront (E.contents errors.old) (E.contents errors.new) (fault_line fault) }
 {
-    match line_of(fault) {
+    match (FaultReport { fault }).line() {
         Ok(line) => write_out(errors, line.as_bytes()),
         Err(_) => Err(WriteError),
     }
@@ -42,7 +28,7 @@ fn report<E: Write>(fault: TraceFault, errors: &mut E) -> u8
     ensures line { AppendsFront (E.contents errors.old) (E.contents errors.new) (fault_line fault) }
 {
     let _ = write_line(fault, errors);
-    fault.status()
+    FaultReport { fault }.status()
 }
 
 // Replays, and reports the fault that ended it.

@@ -45,6 +45,44 @@ fn replays(rt: HostRuntime) -> Result<(), Fail> {
     Ok(())
 }
 
+// The fault line and the status of a faulty trace. Nothing is written.
+#[test]
+fn reports_a_fault_of_the_trace(rt: HostRuntime) -> Result<(), Fail> {
+    let rows: [(&[u8], &str); 8] = [
+        (b"", "tlsf: line 1: bad header (11)\n"),
+        (b"tlsf 2 1 64 1\n", "tlsf: line 1: bad header (11)\n"),
+        (b"tlsf 1 2 64 4\na 0 1", "tlsf: line 2: bad line (12)\n"),
+        (
+            b"tlsf 1 1 64 4\na 0 1 8\nf 0 1 \n",
+            "tlsf: line 3: bad line (12)\n",
+        ),
+        (
+            b"tlsf 1 2 64 4\na 0 01 8\n",
+            "tlsf: line 2: bad number (13)\n",
+        ),
+        (
+            b"tlsf 1 1 64 4\na 0 1 8\nf 1 1\n",
+            "tlsf: line 3: bad number (13)\n",
+        ),
+        (
+            b"tlsf 1 1 64 4\nf 0 1\n",
+            "tlsf: line 2: label out of order (14)\n",
+        ),
+        (
+            b"tlsf 1 2 64 4\na 0 1 8\nf 1 1\nx\n",
+            "tlsf: line 3: label out of order (14)\n",
+        ),
+    ];
+    for (text, line) in rows {
+        let mut reader = FakeReader::new(text);
+        let ending = run_on(rt.alloc(), &["tlsf", "replay"], &mut reader);
+        assert_eq!(rt; ending.status, 1);
+        assert_eq!(rt; ending.errors()?, line);
+        assert_eq!(rt; ending.written()?, "");
+    }
+    Ok(())
+}
+
 #[test]
 fn reports_a_fault_of_the_reader(rt: HostRuntime) -> Result<(), Fail> {
     let words = ["tlsf", "replay"];
@@ -141,8 +179,12 @@ fn shows_help_and_version(rt: HostRuntime) -> Result<(), Fail> {
         ),
         (["", "--help"].as_slice(), "Usage: tlsf <COMMAND>"),
         (
+            ["tlsf", "--help"].as_slice(),
+            "  tlsf 1 1 64 1\n  a 0 1 8\n  a 0 2 100\n  f 0 1\n",
+        ),
+        (
             ["tlsf", "replay", "--help"].as_slice(),
-            "  a 0 2 100\n  f 0 1\n\n  0 a 1 at 0 serial 1\n  0 a 2 at 4 serial 2\n  0 f 1 freed\n",
+            "  tlsf 1 2 64 4\n  a 0 1 8\n  phase\n  f 1 1\n\n  0 a 1 at 0 serial 1\n",
         ),
         (
             ["tlsf", "classes", "--help"].as_slice(),

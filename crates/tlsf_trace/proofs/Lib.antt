@@ -1,0 +1,19 @@
+pub mod AskedFaults
+pub mod DoneReplays
+pub mod Digits
+pub mod Shapes
+pub mod Cutting
+pub mod Judging
+pub mod Remembering
+pub mod Empty
+pub mod Faults
+pub mod Rows
+pub mod LineRows
+pub mod Joining
+pub mod GrowingFronts
+pub mod LongInputs
+pub mod PieceCounts
+pub mod Reporting
+pub mod Scripting
+pub mod Assembling
+mod OutputRows

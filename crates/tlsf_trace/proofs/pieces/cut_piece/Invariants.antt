@@ -1,0 +1,5 @@
+use Rattle.tlsf_trace.proofs.Cutting.{NoFeeds}
+use Rattle.tlsf_trace.proofs.pieces.cut_piece.Given as goal
+
+abbrev pub invariant-loop-i : goal.invariant-loop-i
+invariant-loop-i l = NoFeeds l.text l.i

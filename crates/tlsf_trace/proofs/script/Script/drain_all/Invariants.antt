@@ -1,0 +1,10 @@
+use Rattle.std.proofs.Common.{◌≡◌, ◌++◌, replicate}
+use Rattle.tlsf_trace.specs.Events.{last_drains}
+use Rattle.tlsf_trace.proofs.script.Script.drain_all.Given as goal
+
+-- the drains so far, and a label for each
+abbrev pub invariant-loop-worker : goal.invariant-loop-worker
+invariant-loop-worker l = record {
+  events : l.self.events.items ≡ l.fn.self.events.items ++ last_drains l.worker;
+  labels : l.self.labels.items ≡ l.fn.self.labels.items ++ replicate l.worker 0;
+}

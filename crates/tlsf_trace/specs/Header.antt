@@ -1,0 +1,31 @@
+-- The header: the first line of a trace.
+use Rattle.std.specs.Prelude.{ℕ, ◌≤◌, ◌&&◌, ◌==◌, if◌then◌else◌, List, codes, length, Option, Some, None}
+use Rattle.std.specs.Str.{bytes_eq}
+use Rattle.tlsf_trace.specs.declared.header.Header.{Header}
+use Rattle.tlsf_trace.specs.Fields.{field, fields_in, number_of}
+use Rattle.tlsf_trace.specs.Lines.{◌>>=◌}
+
+-- the workers, the words of a heap and the capacity of a lane
+unfoldable pub header_from : List ℕ → List ℕ → List ℕ → Option Header
+header_from workers words capacity = do
+  workers ← number_of (1, 8) workers
+  words ← number_of (4, 1048576) words
+  capacity ← number_of (1, 1024) capacity
+  Some (record { workers = workers; words = words; capacity = capacity })
+
+-- five fields: tlsf, the version 1, and three numbers
+abbrev pub header_of : List (List ℕ) → Option Header
+header_of fields =
+    if length fields == 5 && bytes_eq (field fields 0) (codes "tlsf") && bytes_eq (field fields 1) (codes "1")
+    then header_from (field fields 2) (field fields 3) (field fields 4)
+    else None
+
+-- the header that a piece says
+unfoldable pub header_in : List ℕ → Option Header
+header_in piece = fields_in piece >>= header_of
+
+-- each number of a header is in its range
+pub record IsHeaderInRange (header : Header) : Type 0 where
+  pub workers : (1 ≤ header.workers) × (header.workers ≤ 8)
+  pub words : (4 ≤ header.words) × (header.words ≤ 1048576)
+  pub capacity : (1 ≤ header.capacity) × (header.capacity ≤ 1024)

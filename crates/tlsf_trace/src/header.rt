@@ -1,0 +1,60 @@
+ghost use Rattle.std.specs.Prelude.{◌≡◌, IfOk, IfSome};
+ghost use Rattle.tlsf_trace.specs.Header as spelled;
+ghost use Rattle.tlsf_trace.specs.Header.{IsHeaderInRange};
+
+use crate::fields::fields_in;
+use crate::numbers::number;
+use std::alloc::{AllocError, Global};
+
+/// The most workers that a header may name.
+const MOST_WORKERS: u32 = 8;
+
+/// The fewest words of a heap.
+const LEAST_WORDS: u32 = 4;
+
+/// The most words of a heap.
+const MOST_WORDS: u32 = 1_048_576;
+
+/// The most posts that a lane may hold.
+const MOST_CAPACITY: u32 = 1024;
+
+/// What the first line of a trace says.
+#[derive(Clone, Copy, Debug, PartialEq, Eq)]
+pub struct Header {
+    /// How many workers there are, each with a heap of its own, from 1 to 8.
+    pub workers: u32,
+    /// The words of each heap, from 4 to 1048576.
+    pub words: u32,
+    /// How many posts a lane holds, from 1 to 1024.
+    pub capacity: u32,
+}
+
+#[tactic(auto, unfolding(crate::specs::Header::header_from))]
+fn header_from(workers: &[u8], words: &[u8], capacity: &[u8]) -> Option<Header>
+    ensures header { result ≡ spelled.header_from workers.now words.now capacity.now }
+    ensures ranges { IfSome result IsHeaderInRange }
+{
+    let workers = number(workers, 1, MOST_WORKERS)?;
+    let words = number(words, LEAST_WORDS, MOST_WORDS)?;
+    let capacity = number(capacity, 1, MOST_CAPACITY)?;
+    Some(Header {
+        workers,
+        words,
+        capacity,
+    })
+}
+
+/// The header that a piece says, or `None` where it says none.
+#[tactic(auto, unfolding(crate::specs::Header::header_in))]
+pub fn header_in(alloc: Global, piece: &[u8]) -> Result<Option<Header>, AllocError>
+    ensures header { IfOk result (λ found. found ≡ spelled.header_in piece.now) }
+    ensures ranges { IfOk result (λ found. IfSome found IsHeaderInRange) }
+{
+    let Some(fields) = fields_in(alloc, piece)? else {
+        return Ok(None);
+    };
+    if fields.len() != 5 || fields[0] != b"tlsf".as_slice() || fields[1] != b"1".as_slice() {
+        return Ok(None);
+    }
+    Ok(header_from(fields[2], fields[3], fields[4]))
+}

@@ -1,0 +1,62 @@
+//! Traces: the text of a run on a yard of workers, checked whole before a line runs.
+//!
+//! A trace is a header, `tlsf 1 N W C`, and then lines, each with its line feed:
+//!
+//! | Line | Says |
+//! |---|---|
+//! | `a w L len` | worker w allocates len bytes and makes label L |
+//! | `f w L` | worker w releases the block of label L |
+//! | `p w L at HEX` | worker w writes the bytes at byte `at` of the block |
+//! | `g w L at n` | worker w reads n bytes at byte `at` of the block |
+//! | `d w n` | worker w drains at most n posts |
+//! | `phase` | a phase ends |
+//!
+//! [`replay`] reads a trace, runs it and writes what it was answered. Contracts see the trace that a text spells, or its
+//! first fault, as `trace_of`, and what it asks for as `asked_of`. [`write_out`] writes a text by its known bytes.
+#![tactic(auto)]
+
+#[cfg(test)]
+mod fakes;
+mod fields;
+mod header;
+mod kind;
+mod labels;
+mod laws;
+mod line;
+mod line_error;
+mod line_fault;
+mod makers;
+mod numbers;
+mod output;
+#[cfg(test)]
+mod output_tests;
+mod parse_error;
+#[cfg(test)]
+mod parse_tests;
+mod payload;
+mod pieces;
+mod read_error;
+mod reading;
+#[cfg(test)]
+mod reading_tests;
+#[cfg(test)]
+mod replay_tests;
+mod replaying;
+mod reply_lines;
+mod report_lines;
+mod script;
+mod summary;
+mod trace;
+mod trace_fault;
+#[cfg(test)]
+mod trace_fault_tests;
+mod word;
+mod writing;
+#[cfg(test)]
+mod writing_tests;
+
+pub use laws::{first_fault, pieces_join};
+pub use replaying::replay;
+pub use summary::Summary;
+pub use trace_fault::TraceFault;
+pub use writing::{WriteError, write_out};

@@ -1,0 +1,55 @@
+ghost use Rattle.std.specs.Prelude.{◌≡◌, ℕ, List, [], ◌∷◌, OnOk};
+ghost use Rattle.tlsf_trace.specs.Events.{target_of, width_in};
+ghost use Rattle.tlsf_trace.specs.Making.{Recalls};
+ghost use Rattle.tlsf_trace.specs.declared.line.Line.{Line as ALine};
+ghost use Rattle.tlsf_trace.specs.declared.line.Line.TheVariants.{Allocate};
+
+use std::alloc::{AllocError, Global};
+use std::collections::HashMap;
+use std::marker::Model;
+use tlsf_crew::Target;
+
+/// The number of the event that makes each label. A contract sees the pairs of label and number, in any order.
+#[derive(Drop)]
+pub struct Makers {
+    made: HashMap<u32, u32>,
+}
+
+impl Model for Makers {
+    ghost use Rattle.std.specs.Prelude.{ℕ, List};
+
+    ghost Value = { List (ℕ × ℕ) };
+
+    ghost view = { λ makers. makers.made.entries };
+}
+
+impl Makers {
+    /// No labels yet.
+    pub fn new(alloc: Global) -> Makers
+        ensures { (workers : ℕ) → Recalls workers result [] }
+    {
+        Makers {
+            made: HashMap::new(alloc),
+        }
+    }
+
+    /// What a label stands for: what its event makes, or `Absent` where no line made it.
+    pub fn target(&self, label: u32) -> Target
+        ensures { (workers : ℕ) (before : List ALine) → Recalls workers self.now before
+            → result ≡ target_of workers label before }
+    {
+        match self.made.get(&label).copied() {
+            Some(event) => Target::Made(event),
+            None => Target::Absent,
+        }
+    }
+
+    /// Lets the event of this number make a label.
+    pub fn insert(&mut self, label: u32, event: u32) -> Result<(), AllocError>
+        ensures { OnOk result ((workers worker len : ℕ) (before : List ALine) → Recalls workers self.old before
+            → event ≡ width_in workers before → Recalls workers self.new (Allocate worker label len ∷ before)) }
+    {
+        self.made.insert(label, event)?;
+        Ok(())
+    }
+}

@@ -1,0 +1,30 @@
+ghost use Rattle.std.specs.Prelude.{◌≡◌, ◌≤◌, IfOk, string_bytes, vec_len};
+ghost use Rattle.tlsf_trace.specs.Header.{IsHeaderInRange};
+ghost use Rattle.tlsf_trace.specs.Output.{output_of};
+ghost use Rattle.tlsf_trace.specs.Views.{view_trace};
+
+use crate::reply_lines::text_of;
+use crate::report_lines::write_reports;
+use crate::script::Script;
+use crate::trace::Trace;
+use std::alloc::{AllocError, Global};
+use tlsf_crew::{open_yard, replay_events};
+
+/// The reply lines of a trace, run on a new yard, and a report line for each heap that it leaves.
+pub(crate) fn output(alloc: Global, trace: &Trace) -> Result<String, AllocError>
+    requires header { IsHeaderInRange trace.now.header }
+    requires lines { vec_len trace.now.lines ≤ 32768 }
+    ensures { IfOk result (λ text. string_bytes text ≡ output_of (view_trace trace.now)) }
+{
+    let header = trace.header;
+    let Ok(mut workers) = open_yard(alloc, header.workers, header.words, header.capacity) else {
+        return Err(AllocError);
+    };
+    let script = Script::of(alloc, trace)?;
+    let Ok(entries) = replay_events(alloc, &mut workers, &script.events) else {
+        return Err(AllocError);
+    };
+    let mut text = text_of(alloc, &entries, &script.labels)?;
+    write_reports(&mut text, &mut workers)?;
+    Ok(text)
+}

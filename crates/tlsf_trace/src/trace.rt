@@ -1,0 +1,82 @@
+ghost use Rattle.std.specs.Prelude.{All, ◌≡◌, ◌+◌, ◌<◌, ◌≤◌, ◌^◌, [], length, vec_len, IfOk};
+ghost use Rattle.tlsf_trace.specs.Lines.{IsLineInRange};
+ghost use Rattle.tlsf_trace.specs.Pieces.{pieces_of};
+ghost use Rattle.tlsf_trace.specs.Trace as spelled;
+ghost use Rattle.tlsf_trace.specs.Trace.{IsTraceInRange};
+ghost use Rattle.tlsf_trace.specs.Views.{GivesAt, view_trace};
+
+use crate::header::{Header, header_in};
+use crate::labels::Labels;
+use crate::line::{Line, line_in};
+use crate::line_fault::LineFault;
+use crate::parse_error::ParseError;
+use crate::pieces::cut_piece;
+use std::alloc::Global;
+
+/// A trace: what a text asks of a yard of workers, line by line.
+#[derive(Debug, Drop)]
+pub struct Trace {
+    /// What the first line says.
+    pub header: Header,
+    /// What the other lines say, in their order.
+    pub lines: Vec<Line>,
+}
+
+impl Trace {
+    ghost use Rattle.std.specs.Prelude.{◌≡◌};
+    ghost use Rattle.tlsf_trace.specs.Output.{calls_of};
+    ghost use Rattle.tlsf_trace.specs.Views.{view_trace};
+
+    /// How many lines are calls of a worker.
+    pub fn count_calls(&self) -> usize
+        ensures { result ≡ calls_of (view_trace self.now) }
+    {
+        self.lines.iter().filter(|line| line.is_call()).count()
+    }
+}
+
+/// The lines of the text behind the header, or the first that is none.
+fn lines_in(alloc: Global, workers: u32, text: &[u8]) -> Result<Vec<Line>, ParseError>
+    requires workers { 0 < workers }
+    requires short { length text.now ≤ 2 ^ 20 }
+    ensures lines { GivesAt (λ lines. lines.items) result
+        (spelled.lines_in workers [] 2 (pieces_of text.now)) }
+    ensures ranges { IfOk result (λ lines. All (IsLineInRange workers) lines.items) }
+    ensures count { IfOk result (λ lines. vec_len lines ≡ length (pieces_of text.now)) }
+{
+    let mut lines = Vec::new(alloc);
+    let mut labels = Labels::new(alloc);
+    let mut rest = text;
+    let mut number = 2;
+    while !rest.is_empty() {
+        let (piece, after) = cut_piece(rest);
+        let line = match line_in(alloc, workers, &labels, piece) {
+            Ok(line) => line,
+            Err(error) => return Err(error.at(number)),
+        };
+        labels.remember(line)?;
+        lines.push(line)?;
+        number += 1;
+        rest = after;
+    }
+    Ok(lines)
+}
+
+/// The trace that a text spells, or its first fault with the number of the line.
+#[tactic(auto, unfolding(crate::specs::Trace::trace_of))]
+pub fn parse(alloc: Global, text: &[u8]) -> Result<Trace, ParseError>
+    requires { length text.now ≤ 2 ^ 20 }
+    ensures trace { GivesAt view_trace result (spelled.trace_of text.now) }
+    ensures ranges { IfOk result (λ trace. IsTraceInRange (view_trace trace)) }
+    ensures lines { IfOk result (λ trace. vec_len trace.lines + 1 ≡ length (pieces_of text.now)) }
+{
+    if text.is_empty() {
+        return Err(ParseError::At(LineFault::BadHeader, 1));
+    }
+    let (first, rest) = cut_piece(text);
+    let Some(header) = header_in(alloc, first)? else {
+        return Err(ParseError::At(LineFault::BadHeader, 1));
+    };
+    let lines = lines_in(alloc, header.workers, rest)?;
+    Ok(Trace { header, lines })
+}
