@@ -7,14 +7,14 @@ use Rattle.std.proofs.lemmas.List.{map-append, length-replicate, length-set}
 use Rattle.std.proofs.lemmas.List.FromFn.{map-range_with_len_more, get_or-map-range_with_len}
 use Rattle.tlsf_post.specs.declared.post_end.PostEnd.{PostEnd}
 use Rattle.tlsf_post.specs.declared.take_end.TakeEnd.{TakeEnd}
-use Rattle.tlsf_post.specs.Lanes.{posts_sent, capacity_of, waited, taken, IsLane}
+use Rattle.tlsf_post.specs.Lanes.{posts_sent, free_slots, capacity_of, waited, taken, IsLane}
 use Rattle.tlsf_crew.specs.declared.worker.Worker.{Worker}
 use Rattle.tlsf_crew.specs.Yard.{post_at, take_at, capacity_in, lane_waits, IsYard, yard_heap, no_heap}
 use Rattle.tlsf_crew.specs.World.{world_of}
 use Rattle.tlsf_crew.specs.Opening.{AreSizes, opened_heaps, opened_world}
 use Rattle.tlsf_crew.specs.Workers.{slot_of, heap_of, own_numbers}
 use Rattle.tlsf_crew.specs.Laying.{IsBefore, IsLaid, opened_numbers}
-use Rattle.tlsf_crew.proofs.Slots.{get_set_same, get_set_other, map_same, some_same, slot_new, slot_other}
+use Rattle.tlsf_crew.proofs.Slots.{get_set_same, get_set_other, map_same, some_same, none_or_some, slot_new, slot_other}
 use Rattle.tlsf_crew.proofs.Worlds.{same_world}
 use Rattle.tlsf_crew.proofs.OneEnd.{posts_set, takes_set}
 use Rattle.tlsf_crew.proofs.OwnHeaps.{opened_lawful}
@@ -44,9 +44,9 @@ pub lane_laid : (ws : List Worker) (n words capacity i j : ℕ) (a v b w : Worke
     → IsLaid ws n words capacity i j → i < n → j < n → i ≢ j
     → slice_get ws i ≡ Some a → v.posts.items ≡ set a.posts.items j (Some p) → (v.heap ≡ a.heap) × (own_numbers v ≡ own_numbers a) × (v.takes ≡ a.takes)
     → slice_get (set ws i v) j ≡ Some b → w.takes.items ≡ set b.takes.items i (Some t) → (w.heap ≡ b.heap) × (own_numbers w ≡ own_numbers b) × (w.posts ≡ b.posts)
-    → IsLane p t → capacity_of p ≡ capacity → (posts_sent p ≡ []) × (waited t ≡ []) × (taken t ≡ [])
+    → IsLane p t → capacity_of p ≡ capacity → free_slots p ≡ capacity → (posts_sent p ≡ []) × (waited t ≡ []) × (taken t ≡ [])
     → IsLaid (set (set ws i v) j w) n words capacity i (j + 1)
-lane_laid ws n words capacity i j a v b w p t l i_in j_in ne a_is posts a_same b_is takes b_same lane same_capacity fresh =
+lane_laid ws n words capacity i j a v b w p t l i_in j_in ne a_is posts a_same b_is takes b_same lane same_capacity all_free fresh =
     let us = set ws i v in
     let vs = set us j w in
     let len_u = length-set ws i v in
@@ -80,6 +80,14 @@ lane_laid ws n words capacity i j a v b w p t l i_in j_in ne a_is posts a_same b
             ]
             | inr xi ↦ rw (post_other x y (λ f _. xi f), take_other x y (λ f _. xi f)) (l.empty x y)
           ];
+      free = λ x y q is.
+          elim (cases_eq x i) [
+            | inl xi ↦ elim (cases_eq y j) [
+              | inl yj ↦ let e : p ≡ q = some_same p q (rw (xi, yj, post_here) at is) in rw (← e) all_free
+              | inr yj ↦ l.free x y q (sym (post_other x y (λ _ f. yj f)) ∙ is)
+            ]
+            | inr xi ↦ l.free x y q (sym (post_other x y (λ f _. xi f)) ∙ is)
+          ];
       alone = λ x. let away : x ≡ i → x ≡ j → ⊥ = λ a b. ne (sym a ∙ b) in (post_other x x away ∙ (l.alone x).0, take_other x x away ∙ (l.alone x).1);
       laid = λ x y x_in y_in apart before.
           elim (cases_eq x i) [
@@ -97,7 +105,7 @@ lane_laid ws n words capacity i j a v b w p t l i_in j_in ne a_is posts a_same b
 laid_along : (ws : List Worker) (n words capacity i j k m : ℕ) → IsLaid ws n words capacity i j
     → ((x y : ℕ) → x < n → y < n → x ≢ y → IsBefore k m x y → IsBefore i j x y) → IsLaid ws n words capacity k m
 laid_along ws n words capacity i j k m l f =
-    record { len = l.len; heaps = l.heaps; numbers = l.numbers; slots = l.slots; empty = l.empty; alone = l.alone; laid = λ x y a b ne before. l.laid x y a b ne (f x y a b ne before) }
+    record { len = l.len; heaps = l.heaps; numbers = l.numbers; slots = l.slots; empty = l.empty; free = l.free; alone = l.alone; laid = λ x y a b ne before. l.laid x y a b ne (f x y a b ne before) }
 
 pub lane_skipped : (ws : List Worker) (n words capacity i j : ℕ) → i ≡ j → IsLaid ws n words capacity i j → IsLaid ws n words capacity i (j + 1)
 lane_skipped ws n words capacity i j e l =
@@ -196,6 +204,7 @@ alone_laid ws n words capacity len heaps numbers alone =
       numbers = numbers;
       slots = λ x a is. let h = alone x a is in (ap length h.0 ∙ length-replicate n None, ap length h.1 ∙ length-replicate n None);
       empty = λ x y. rw (none_at ws n x y alone) refl;
+      free = λ x y p is. absurd (none_or_some (post_at ws x y) p (none_at ws n x y alone) is);
       alone = λ x. (none_at ws n x x alone, none_from ws n x x alone);
       laid = λ x y _ _ _ before. elim before [ inl lt ↦ absurd (omega arith) | inr e ↦ absurd (let lt = e.1 in omega arith) ];
     }

@@ -1,9 +1,13 @@
 -- How a yard is opened.
-use Rattle.std.specs.Prelude.{ℕ, ◌≤◌, List, [], map}
+use Rattle.std.specs.Prelude.{◌≡◌, ℕ, ◌≤◌, List, [], map, Some}
 use Rattle.std.specs.List.{range_with_len}
 use Rattle.tlsf_heap.specs.Blocks.{HeapState}
 use Rattle.tlsf_heap.specs.Calls.{opened}
 use Rattle.tlsf_heap.specs.Lawful.{IsRegion}
+use Rattle.tlsf_post.specs.declared.post_end.PostEnd.{PostEnd}
+use Rattle.tlsf_post.specs.Lanes.{free_slots}
+use Rattle.tlsf_crew.specs.declared.worker.Worker.{Worker}
+use Rattle.tlsf_crew.specs.Yard.{post_at}
 use Rattle.tlsf_crew.specs.World.{World}
 
 -- the numbers of workers, of words of each heap and of posts in a lane that a yard may have
@@ -16,3 +20,7 @@ opened_heaps n words = map (λ j. opened j words 0) (range_with_len 0 n)
 -- heap j has id j, and nothing waits
 abbrev pub opened_world : ℕ → ℕ → ℕ → World
 opened_world n words capacity = record { heaps = opened_heaps n words; waiting = λ i j. []; capacity = capacity }
+
+-- each end that posts knows so many free slots
+abbrev pub KnowFree : List Worker → ℕ → Type 0
+KnowFree ws capacity = (i j : ℕ) (p : PostEnd) → post_at ws i j ≡ Some p → free_slots p ≡ capacity

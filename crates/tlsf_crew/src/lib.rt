@@ -29,6 +29,8 @@ mod laws;
 mod opening;
 mod own;
 mod pairs;
+#[cfg(test)]
+mod refusal_tests;
 mod released;
 mod replaying;
 mod reply;
@@ -40,6 +42,8 @@ mod target;
 mod tests;
 mod took;
 mod worker;
+#[cfg(test)]
+mod yard_tests;
 
 pub use call::Call;
 pub use chunk::Chunk;

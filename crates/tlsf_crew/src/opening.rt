@@ -1,7 +1,7 @@
 ghost use Rattle.std.specs.Prelude.{◌≡◌, ◌≢◌, ◌↔◌, ℕ, ◌+◌, ◌<◌, ◌≤◌, Some, None, length, vec_len, slice_set, replicate, IfOk, OnOk, IsErrOf};
 ghost use Rattle.tlsf_heap.specs.Calls.{opened};
 ghost use Rattle.tlsf_heap.specs.Lawful.{IsRegion};
-ghost use Rattle.tlsf_crew.specs.Opening.{AreSizes, opened_world};
+ghost use Rattle.tlsf_crew.specs.Opening.{AreSizes, opened_world, KnowFree};
 ghost use Rattle.tlsf_crew.specs.World.{world_of};
 ghost use Rattle.tlsf_crew.specs.Yard.{IsYard};
 ghost use Rattle.tlsf_crew.specs.Laying.{IsLaid};
@@ -22,12 +22,14 @@ const MOST_WORDS: u32 = 1 << 20;
 const MOST_CAPACITY: u32 = 1024;
 
 /// Opens a yard of `n` workers, 1 to 8, numbered from 0: each owns a heap of its number over `words` words, 4 to 2^20,
-/// and from each to each other goes a lane that holds up to `capacity` posts, 1 to 1,024.
+/// and from each to each other goes a lane that holds up to `capacity` posts, 1 to 1,024. Each end that posts knows all
+/// its slots to be free, so the first `capacity` posts into a lane are never refused as `Full`.
 ///
 /// Refused as `BadSize` where a number is out of range, else as `NoMemory` where memory was not granted.
 pub fn open_yard(alloc: Global, n: u32, words: u32, capacity: u32) -> Result<Vec<Worker>, OpenFault>
     ensures yard { IfOk result (λ workers. IsYard workers.items) }
     ensures world { IfOk result (λ workers. world_of workers.items ≡ opened_world n words capacity) }
+    ensures free { IfOk result (λ workers. KnowFree workers.items capacity) }
 
     // The refusals.
     ensures bad_size { IsErrOf result OpenFault.BadSize ↔ ¬ (AreSizes n words capacity) }
@@ -52,6 +54,7 @@ fn open_workers(alloc: Global, n: u32, words: u32, capacity: u32) -> Result<Vec<
     requires { AreSizes n words capacity }
     ensures yard { IfOk result (λ workers. IsYard workers.items) }
     ensures world { IfOk result (λ workers. world_of workers.items ≡ opened_world n words capacity) }
+    ensures free { IfOk result (λ workers. KnowFree workers.items capacity) }
 {
     let mut workers = open_alone(alloc, n, words, capacity)?;
     lay_lanes(alloc, &mut workers, words, capacity)?;

@@ -26,21 +26,21 @@ pub(crate) fn release(worker: u32, target: Target) -> Event {
     }
 }
 
-fn take(worker: u32, from: u32) -> Event {
+pub(crate) fn take(worker: u32, from: u32) -> Event {
     Event {
         worker,
         call: Call::Take { from },
     }
 }
 
-fn drain(worker: u32, most: u32) -> Event {
+pub(crate) fn drain(worker: u32, most: u32) -> Event {
     Event {
         worker,
         call: Call::Drain { most },
     }
 }
 
-fn took(from: u32, name: Name, answer: Result<(), Refusal>) -> Reply {
+pub(crate) fn took(from: u32, name: Name, answer: Result<(), Refusal>) -> Reply {
     Reply::Took(Took { from, name, answer })
 }
 
@@ -58,7 +58,7 @@ fn replies(alloc: Global, workers: &mut [Worker], events: &[Event]) -> Result<Ve
 }
 
 /// The replies of a new yard whose heaps have 64 words.
-fn first_replies(
+pub(crate) fn first_replies(
     alloc: Global,
     n: u32,
     capacity: u32,
@@ -127,33 +127,6 @@ fn drain_goes_by_rising_number(rt: HostRuntime) -> Result<(), Fail> {
         Reply::Drained(1),
         took(2, name(0, 0, 1), Ok(())),
         Reply::Drained(1),
-    ];
-    assert_eq!(rt; answered.as_slice(), &wanted[..]);
-    Ok(())
-}
-
-#[test]
-fn strangers_and_unmade_names(rt: HostRuntime) -> Result<(), Fail> {
-    let events = [
-        take(0, 0),
-        take(0, 3),
-        take(0, 1),
-        drain(3, 1),
-        release(0, Target::Made(0)),
-        release(0, Target::Named(name(5, 0, 1))),
-        release(0, Target::Absent),
-    ];
-    let answered = first_replies(rt.alloc(), 3, 4, &events)?;
-    let stranger = Reply::Refused(CrewRefusal::Stranger);
-    let unmade = Reply::Refused(CrewRefusal::Unmade);
-    let wanted = [
-        stranger,
-        stranger,
-        Reply::Empty,
-        stranger,
-        unmade,
-        stranger,
-        unmade,
     ];
     assert_eq!(rt; answered.as_slice(), &wanted[..]);
     Ok(())

@@ -16,3 +16,10 @@ returns-clause-world c =
     let l = rw k at c.in_ok-lay_lanes.ensures in
     let m : length c.lay_lanes.new.workers ≡ c.in_ok-workers.workers.len = search rules in
     rw (take_at c.lay_lanes.new.workers (drop (length c.lay_lanes.new.workers) c.in_ok-workers.workers.items) c.in_ok-workers.workers.len m) (laid_world _ _ _ _ c.requires l)
+
+pub returns-clause-free : goal.returns-clause-free
+returns-clause-free c =
+    let k : length c.deref_mut.result.now ≡ c.args.n = ap length c.deref_mut.ensures.value ∙ c.in_ok-workers.ensures.len in
+    let l = rw k at c.in_ok-lay_lanes.ensures in
+    let m : length c.lay_lanes.new.workers ≡ c.in_ok-workers.workers.len = search rules in
+    rw (take_at c.lay_lanes.new.workers (drop (length c.lay_lanes.new.workers) c.in_ok-workers.workers.items) c.in_ok-workers.workers.len m) l.free
