@@ -28,3 +28,4 @@ pub mod DrainTold
 pub mod NamesMeant
 pub mod Histories
 pub mod Joined
+pub mod LiveBlocks

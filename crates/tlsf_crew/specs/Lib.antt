@@ -5,6 +5,7 @@ pub mod Workers
 pub mod Yard
 pub mod World
 pub mod Opening
+pub mod Grants
 pub mod Settling
 pub mod Calls
 pub mod Counts

@@ -49,9 +49,6 @@ pub record Replied : Type 0 where
   pub reply : Reply
   pub world : World
 
-abbrev pub refused_by_crew : World → Reply → Replied
-refused_by_crew w reply = record { reply = reply; world = w }
-
 abbrev pub reply_made : Result Name Refusal → Reply
 reply_made (Ok name) = Made name
 reply_made (Err why) = Refused (Heap why)

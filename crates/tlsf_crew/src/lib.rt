@@ -11,10 +11,14 @@
 //! what holds of every list of replies: each heap has one history.
 //!
 //! Each call of a `Worker` takes no memory and doesn't wait, and keeps its yard whole.
+//!
+//! A [`LockedHeap`] is a heap without an owner, outside any yard. Whoever locks it has its heap, as a [`Counted`], until
+//! the guard is dropped, and knows then that the live blocks are the accepted allocates less the accepted releases.
 #![tactic(auto)]
 
 mod call;
 mod chunk;
+mod counted;
 mod counting;
 mod crew_refusal;
 #[cfg(test)]
@@ -26,6 +30,9 @@ mod entry;
 mod event;
 mod history;
 mod laws;
+mod locked_heap;
+#[cfg(test)]
+mod locked_tests;
 mod opening;
 mod own;
 mod pairs;
@@ -47,12 +54,14 @@ mod yard_tests;
 
 pub use call::Call;
 pub use chunk::Chunk;
+pub use counted::Counted;
 pub use crew_refusal::CrewRefusal;
 pub use drained::Drained;
 pub use entry::Entry;
 pub use event::Event;
 pub use history::one_history;
 pub use laws::lanes_join_the_yard;
+pub use locked_heap::LockedHeap;
 pub use opening::open_yard;
 pub use released::Released;
 pub use replaying::replay_events;
