@@ -28,8 +28,8 @@ taken t = take t.next t.waited.items
 unfoldable pub ready : TakeEnd → List Post
 ready t = drop t.next t.waited.items
 
--- the two are the ends of one lane: they agree on its capacity, and each slot has a post that waited, has one that was
--- sent, or is free
+-- the two fit each other as the ends of one lane do: they agree on its capacity, and each slot has a post that waited, has
+-- one that was sent, or is free
 unfoldable pub IsLane : PostEnd → TakeEnd → Type 0
 IsLane p t =
     (p.capacity ≡ t.capacity) × (length t.waited.items + length p.kept.items + p.free ≡ p.capacity)

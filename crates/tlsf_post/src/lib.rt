@@ -7,7 +7,7 @@
 //! Contracts see a `PostEnd` as the posts that it sent since the last `beside` (`posts_sent`), the free slots that it
 //! knows of (`free_slots`) and the capacity of its lane (`capacity_of`). They see a `TakeEnd` as the posts that waited
 //! at the last `beside` (`waited`), those taken since (`taken`) and those that it knows to be ready (`ready`). That two
-//! ends are those of one lane is `IsLane`.
+//! ends fit each other as those of one lane do, so that `beside` may join them, is `IsLane`.
 //!
 //! Nothing but `lane` takes memory, and nothing waits.
 #![tactic(auto)]

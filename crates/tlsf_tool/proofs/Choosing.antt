@@ -24,9 +24,6 @@ Answers words matches = (faults_of words ≡ []) × (subcommand_rows_of matches 
 abbrev label : Option (Text × List Row) → Option Text
 label = option_map (λ (named : Text × List Row). named.0)
 
-abbrev rows_in : Option (Text × List Row) → List Row
-rows_in named = option_map_or (λ (entered : Text × List Row). entered.1) named []
-
 -- how the words name a command
 label_of_words : (words : List Text) (matches : ArgMatches) → Answers words matches
     → subcommand_name_of matches ≡ label (subcommand_of tlsf_app words)

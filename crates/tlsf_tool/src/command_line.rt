@@ -21,8 +21,9 @@ pub enum Choice {
 
 const PROGRAM_HELP: &str = "\
 'tlsf replay' reads a trace from standard input and writes to standard output
-what each of its lines was answered. This is a trace of one worker, whose heap
-has 64 words; it asks for 8 bytes and for 100 bytes and frees the first block:
+what each of its lines was answered, and a report on each heap. This is a trace
+of one worker, whose heap has 64 words; it asks for 8 bytes and for 100 bytes
+and frees the first block:
 
   tlsf 1 1 64 1
   a 0 1 8
