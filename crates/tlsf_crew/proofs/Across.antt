@@ -1,5 +1,5 @@
 -- A post and a take, with the lane settled before and after.
-use Rattle.std.proofs.Common.{◌==◌, true, false, [], ◌∷◌, ◌++◌, ◌≡◌, ◌≢◌, ℕ, ◌+◌, ◌<◌, List, Option, Some, None, Result, Ok, Err, length, get_or, set, sym, ◌∙◌, ap, arith, refl, inl, inr}
+use Rattle.std.proofs.Common.{◌==◌, true, false, [], ◌∷◌, ◌++◌, ◌≡◌, ◌≢◌, ℕ, ◌+◌, ◌<◌, List, Option, Some, None, Result, Ok, Err, length, get_or, set, sym, ◌∙◌, ap, arith, refl, inl, inr, subst}
 use Rattle.std.specs.List.{slice_get}
 use Rattle.std.proofs.lemmas.Bool.{cases_eq}
 use Rattle.std.specs.Result.{IsOk}
@@ -9,6 +9,7 @@ use Rattle.tlsf_heap.specs.Calls as heap
 use Rattle.tlsf_crew.specs.Heaps.{released}
 use Rattle.std.proofs.lemmas.Bool.Decides.{nat_tests}
 use Rattle.std.proofs.lemmas.List.{drop_at, append-nil, length_push, nil_from_length}
+use Rattle.std.proofs.lemmas.List.Elements.{All-push, All-drop}
 use Rattle.tlsf_post.specs.declared.post.Post.{Post}
 use Rattle.tlsf_heap.specs.declared.name.Name.{Name}
 use Rattle.tlsf_post.specs.declared.post_end.PostEnd.{PostEnd}
@@ -17,7 +18,7 @@ use Rattle.tlsf_post.specs.Lanes.{posts_sent, free_slots, capacity_of, waited, t
 use Rattle.tlsf_crew.specs.declared.worker.Worker.{Worker}
 use Rattle.tlsf_crew.specs.declared.reply.Reply.TheVariants.{Posted, Refused, Took as Taken, Empty}
 use Rattle.tlsf_crew.specs.declared.crew_refusal.CrewRefusal.TheVariants.{Full}
-use Rattle.tlsf_crew.specs.Yard.{Meets, HasEnds, IsYard, capacity_in, lane_waits}
+use Rattle.tlsf_crew.specs.Yard.{post_at, take_at, Meets, HasEnds, IsYard, capacity_in, lane_waits}
 use Rattle.tlsf_crew.specs.World.{World, world_of, with_waiting, with_heap, posting, taking_next, heap_in}
 use Rattle.tlsf_crew.specs.Workers.{PutTo, TookFrom, heap_of, slot_of, SameButHeap, end_to, end_from}
 use Rattle.tlsf_crew.specs.LaneSteps.{LaneStep, LaneChange}
@@ -26,6 +27,7 @@ use Rattle.tlsf_crew.proofs.Slots.{settled, first_is, second_is, first_has, seco
 use Rattle.tlsf_crew.proofs.Worlds.{with_same, changed_world, waits_between, capacity_is, change_then, changed_yard, heap_world, heap_yard, heap_in_is}
 use Rattle.tlsf_crew.proofs.OneEnd.{poster_change, taker_change}
 use Rattle.tlsf_crew.proofs.OwnHeaps.{call_keeps}
+use Rattle.tlsf_crew.proofs.Signed.{AreFrom}
 
 -- what waits in a lane that was just settled
 pub waits_after : (p : PostEnd) (t : TakeEnd) (q : PostEnd) (u : TakeEnd) → Meets p t q u → lane_waits (Some q) (Some u) ≡ waited u
@@ -34,6 +36,11 @@ waits_after p t q u m = rw (m.fresh.0, m.fresh.1) (append-nil (waited u))
 -- what waited in it before is the same
 pub waits_before : (p : PostEnd) (t : TakeEnd) (q : PostEnd) (u : TakeEnd) → Meets p t q u → lane_waits (Some p) (Some t) ≡ waited u
 waits_before p t q u m = rw (← m.order) (drop_at (taken t) (waited u) (length (taken t)) refl)
+
+-- and each post of it was posted by the worker at the lane's other end
+signed_before : (ws : List Worker) (i j : ℕ) (p : PostEnd) (t : TakeEnd) (q : PostEnd) (u : TakeEnd) → post_at ws i j ≡ Some p → take_at ws i j ≡ Some t
+    → Meets p t q u → IsYard ws → AreFrom i (waited u)
+signed_before ws i j p t q u a b m yard = subst (AreFrom i) (waits_before p t q u m) (rw (a, b) at (yard.signed i j))
 
 pub settled_world : (ws vs : List Worker) (i j : ℕ) → i ≢ j → LaneStep ws i j vs → world_of vs ≡ world_of ws
 settled_world ws vs i j ne s =
@@ -157,7 +164,9 @@ posted ws vs zs i name b v yard i_in j_in ne s same put last =
     let len : length (waited t.last_take) ≡ length (waited s.met.new_take) + 1 = ap length then ∙ length_push (waited s.met.new_take) post in
     let n : length (waited s.met.new_take) ≢ (world_of ws).capacity = λ e. absurd (omega (arith, t.last.room, t.capacity_last, capacity_is ws)) in
     let done = posting_ok (world_of ws) (world_of zs) i name (waited s.met.new_take) had n world in
-    record { yard = changed_yard ws zs i j _ _ _ _ ne t.whole yard; answer = done.0; world = done.1 }
+    let old = signed_before ws i j _ _ _ _ t.whole.post_is t.whole.take_is t.first yard in
+    let new = subst (AreFrom i) (sym (has ∙ then)) (All-push (λ (q : Post). q.from ≡ i) (waited s.met.new_take) post old refl) in
+    record { yard = changed_yard ws zs i j _ _ _ _ ne t.whole new yard; answer = done.0; world = done.1 }
 
 pub post_refused : (ws vs zs : List Worker) (i : ℕ) (name : Name) (back : Post) (b v : Worker)
     → IsYard ws → i < length ws → name.heap < length ws → (ne : i ≢ name.heap)
@@ -177,7 +186,8 @@ post_refused ws vs zs i name back b v yard i_in j_in ne s same put last =
     let n : length (waited s.met.new_take) ≡ (world_of ws).capacity = omega (arith, t.first.room, t.capacity, none, capacity_is ws) in
     let world = changed_world ws zs i j _ _ _ _ (waited s.met.new_take) t.whole (has ∙ then) in
     let done = posting_full (world_of ws) (world_of zs) i name (waited s.met.new_take) had n (world ∙ with_same (world_of ws) i j (waited s.met.new_take) had) in
-    record { yard = changed_yard ws zs i j _ _ _ _ ne t.whole yard; answer = done.0; world = done.1 }
+    let new = subst (AreFrom i) (sym (has ∙ then)) (signed_before ws i j _ _ _ _ t.whole.post_is t.whole.take_is t.first yard) in
+    record { yard = changed_yard ws zs i j _ _ _ _ ne t.whole new yard; answer = done.0; world = done.1 }
 
 pub capacity_settled : (ws vs : List Worker) (i j : ℕ) → IsYard ws → i < length ws → j < length ws → (ne : i ≢ j)
     → (s : LaneStep ws i j vs) → capacity_of s.met.new_post ≡ capacity_in vs
@@ -218,7 +228,9 @@ took_some ws vs zs i j b v p yard i_in j_in ne s same got last =
     let took : taken got.new_end ≡ p ∷ [] = got.some.0 ∙ ap (λ l. l ++ p ∷ []) (ap taken e ∙ t.first.fresh.1) in
     let still : waited got.new_end ≡ waited s.met.new_take = got.still ∙ ap waited e in
     let order : p ∷ waited t.last_take ≡ waited s.met.new_take = (rw (took, still, t.first.fresh.0) at t.last.order) ∙ append-nil (waited s.met.new_take) in
-    (waited t.last_take, had ∙ sym order, changed_world ws zs i j _ _ _ _ (waited t.last_take) t.whole has, changed_yard ws zs i j _ _ _ _ ne t.whole yard)
+    let old = subst (AreFrom i) (sym order) (signed_before ws i j _ _ _ _ t.whole.post_is t.whole.take_is t.first yard) in
+    let new = subst (AreFrom i) (sym has) (All-drop (λ (q : Post). q.from ≡ i) 1 (p ∷ waited t.last_take) old) in
+    (waited t.last_take, had ∙ sym order, changed_world ws zs i j _ _ _ _ (waited t.last_take) t.whole has, changed_yard ws zs i j _ _ _ _ ne t.whole new yard)
 
 pub took_none : (ws vs zs : List Worker) (i j : ℕ) (b v : Worker)
     → IsYard ws → i < length ws → j < length ws → (ne : i ≢ j)
@@ -236,7 +248,12 @@ took_none ws vs zs i j b v yard i_in j_in ne s same got last =
     let order : waited t.last_take ≡ waited s.met.new_take = (rw (took, still, t.first.fresh.0) at t.last.order) ∙ append-nil (waited s.met.new_take) in
     let none : waited s.met.new_take ≡ [] = nothing got.end s.met.new_take e t.first.fresh.2 got.succeeds in
     let world = changed_world ws zs i j _ _ _ _ (waited s.met.new_take) t.whole (has ∙ order) in
-    rw (had ∙ none) (record { yard = changed_yard ws zs i j _ _ _ _ ne t.whole yard; answer = refl; world = world ∙ with_same (world_of ws) i j (waited s.met.new_take) had })
+    let new = subst (AreFrom i) (sym (has ∙ order)) (signed_before ws i j _ _ _ _ t.whole.post_is t.whole.take_is t.first yard) in
+    rw (had ∙ none) (record { yard = changed_yard ws zs i j _ _ _ _ ne t.whole new yard; answer = refl; world = world ∙ with_same (world_of ws) i j (waited s.met.new_take) had })
 
 pub settled_yard : (ws vs : List Worker) (i j : ℕ) → i ≢ j → LaneStep ws i j vs → IsYard ws → IsYard vs
-settled_yard ws vs i j ne s yard = changed_yard ws vs i j _ _ _ _ ne (settled ws vs i j ne s) yard
+settled_yard ws vs i j ne s yard =
+    let m = s.met.meets in
+    let c = settled ws vs i j ne s in
+    let new = subst (AreFrom i) (sym (waits_after _ _ _ _ m)) (signed_before ws i j _ _ _ _ c.post_is c.take_is m yard) in
+    changed_yard ws vs i j _ _ _ _ ne c new yard

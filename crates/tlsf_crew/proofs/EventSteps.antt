@@ -1,10 +1,9 @@
 -- An event of the replay.
-use Rattle.std.proofs.Common.{suc, zero, nat_lt, true, false, [], ◌∷◌, ◌++◌, ◌≡◌, ℕ, ◌+◌, ◌<◌, ◌≤◌, List, Option, None, length, take, ap, arith, refl, inl, inr}
+use Rattle.std.proofs.Common.{suc, zero, nat_lt, true, false, [], ◌∷◌, ◌≡◌, ℕ, ◌+◌, ◌<◌, ◌≤◌, List, length, take, ◌∙◌, ap, arith, refl, inl, inr}
 use Rattle.std.specs.List.{fold}
 use Rattle.std.proofs.lemmas.Bool.{cases_lt}
 use Rattle.std.proofs.lemmas.Bool.Decides.{nat_tests}
 use Rattle.std.proofs.lemmas.List.{length_push}
-use Rattle.tlsf_heap.specs.declared.name.Name.{Name}
 use Rattle.tlsf_crew.specs.Bytes.{bytes_of}
 use Rattle.tlsf_crew.specs.declared.worker.Worker.{Worker}
 use Rattle.tlsf_crew.specs.declared.reply.Reply.{Reply}
@@ -14,8 +13,9 @@ use Rattle.tlsf_crew.specs.declared.call.Call.{Call}
 use Rattle.tlsf_crew.specs.declared.call.Call.TheVariants.{Allocate, Release, Write, Read, Take, Drain}
 use Rattle.tlsf_crew.specs.declared.reply.Reply.TheVariants.{Drained, Refused}
 use Rattle.tlsf_crew.specs.declared.crew_refusal.CrewRefusal.TheVariants.{Stranger}
-use Rattle.tlsf_crew.specs.World.{World, Replied, Replayed, answered, called, draining, after, made_by, name_of, allocating, releasing_named, writing_named, reading_named, taking, drained_all, replies, begun}
-use Rattle.tlsf_crew.specs.Leaving.{Leaves, replay_of, drain_of}
+use Rattle.tlsf_crew.specs.World.{World, Replied, Replayed, answered, called, draining, after, name_of, allocating, releasing_named, writing_named, reading_named, taking, drained_all, replies, begun}
+use Rattle.tlsf_crew.specs.Leaving.{Leaves, drain_of, IsReplied}
+use Rattle.tlsf_crew.specs.Yard.{IsYard}
 use Rattle.tlsf_crew.proofs.OneEvent.{all_grows}
 
 pub after_far : (r : Replayed) (e : Event) → length r.world.heaps ≤ e.worker → after r e ≡ answered r e.worker e.call (record { reply = Refused Stranger; world = r.world })
@@ -26,24 +26,36 @@ pub after_near : (r : Replayed) (e : Event) (call : Call) → e.worker < length 
 unfolding after
 after_near r e call lt is = let b : nat_lt e.worker (length r.world.heaps) ≡ true = grind (arith, nat_tests) in rw b (ap (called r e.worker) is)
 
-pub single_done : (made made2 : List (Option Name)) (es es2 : List Entry) (ws vs : List Worker) (at : ℕ) (call own : Call) (reply : Reply) (rp : Replied)
-    → Leaves ws vs reply rp → own ≡ call → made2 ≡ made ++ made_by reply ∷ [] → es2 ≡ es ++ record { worker = at; call = own; reply = reply } ∷ []
-    → replay_of made2 es2 vs ≡ answered (replay_of made es ws) at call rp
-single_done made made2 es es2 ws vs at call own reply rp l is m e = rw (m, e, is, l.answer, l.world) refl
-
 pub single_room : (r s : Replayed) (at n : ℕ) (call : Call) (rp : Replied) → s ≡ answered r at call rp → length s.entries ≤ n → length r.entries + 1 ≤ n
 single_room r s at n call rp e le =
     let a = ap (λ x. length x.entries) e in
     let b = length_push r.entries (record { worker = at; call = call; reply = rp.reply }) in
     omega arith
 
-pub drain_done : (made made2 : List (Option Name)) (es es2 es3 : List Entry) (ws vs : List Worker) (at most taken : ℕ) (own : Call)
-    → drain_of es2 vs taken ≡ drained_all at most (drain_of es ws 0) → own ≡ Drain most → made2 ≡ made ++ None ∷ []
-    → es3 ≡ es2 ++ record { worker = at; call = own; reply = Drained taken } ∷ []
-    → replay_of made2 es3 vs ≡ draining (replay_of made es ws) at most
+pub single_replied : (r : Replayed) (event : Event) (ws vs : List Worker) (call : Call) (reply : Reply) (rp : Replied)
+    → event.worker < length r.world.heaps → event.call ≡ call → called r event.worker call ≡ answered r event.worker call rp
+    → Leaves ws vs reply rp → IsReplied r event r.entries vs reply
+single_replied r event ws vs call reply rp lt is one l =
+    record { yard = l.yard; after = after_near r event call lt is ∙ (one ∙ rw (is, l.answer, l.world) refl) }
+
+pub drain_replied : (r : Replayed) (event : Event) (es : List Entry) (vs : List Worker) (most taken : ℕ)
+    → event.worker < length r.world.heaps → event.call ≡ Drain most
+    → drain_of es vs taken ≡ drained_all event.worker most (record { entries = r.entries; world = r.world; taken = 0 }) → IsYard vs
+    → IsReplied r event es vs (Drained taken)
 unfolding draining
-drain_done made made2 es es2 es3 ws vs at most taken own q is m e =
-    rw (m, e, is, ap (λ x. x.entries) q, ap (λ x. x.world) q, ap (λ x. x.taken) q) refl
+drain_replied r event es vs most taken lt is q yard =
+    record {
+      yard = yard;
+      after = after_near r event (Drain most) lt is ∙ rw (is, ← ap (λ x. x.entries) q, ← ap (λ x. x.world) q, ← ap (λ x. x.taken) q) refl;
+    }
+
+-- there is room for the entry
+pub replied_room : (r : Replayed) (event : Event) (es : List Entry) (vs : List Worker) (reply : Reply) (n : ℕ)
+    → IsReplied r event es vs reply → length (after r event).entries ≤ n → length es + 1 ≤ n
+replied_room r event es vs reply n told le =
+    let a = ap (λ x. length x.entries) told.after in
+    let b = length_push es (record { worker = event.worker; call = event.call; reply = reply }) in
+    omega arith
 
 pub drain_length : (r : Replayed) (at most : ℕ) → length (draining r at most).entries ≡ length (drained_all at most (record { entries = r.entries; world = r.world; taken = 0 })).entries + 1
 unfolding draining

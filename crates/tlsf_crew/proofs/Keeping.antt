@@ -10,12 +10,14 @@ use Rattle.tlsf_post.specs.declared.take_end.TakeEnd.{TakeEnd}
 use Rattle.tlsf_post.specs.Lanes.{capacity_of, IsLane}
 use Rattle.tlsf_crew.specs.declared.worker.Worker.{Worker}
 use Rattle.tlsf_crew.specs.Yard.{post_at, take_at, capacity_in, HasEnds, IsYard}
-use Rattle.tlsf_crew.specs.Workers.{own_numbers, SameButHeap, PutTo, TookFrom, heap_of}
+use Rattle.tlsf_crew.specs.Workers.{own_numbers, SameButHeap, PutTo, TookFrom, heap_of, id_of}
 use Rattle.tlsf_crew.specs.Calls.{KeepsYards}
 use Rattle.tlsf_crew.proofs.Slots.{map_same, get_set_same, some_same, none_or_some}
 use Rattle.tlsf_crew.proofs.Worlds.{heap_yard}
 use Rattle.tlsf_crew.proofs.OneEnd.{PostSet, posts_set, TakeSet, takes_set}
 use Rattle.tlsf_crew.proofs.OwnHeaps.{KeepsHeap, heaps_set, same_heap_keeps}
+use Rattle.tlsf_crew.proofs.Signed.{AreSigned, put_signed, take_signed}
+use Rattle.tlsf_crew.proofs.Joined.{own_number}
 
 pub heap_keeps : (a v : Worker) → SameButHeap a v → KeepsHeap (heap_of a) (heap_of v) → KeepsYards a v
 heap_keeps a v same kept ws i is yard = heap_yard ws i a v is same kept yard
@@ -46,8 +48,20 @@ put_ends ws i j a v post answer is put here there yard x y x_in y_in apart =
       | inr xi ↦ (h.0, h.1, there.others x y (λ f _. xi f) ∙ h.2, there.takes x y ∙ h.3, h.4, h.5 ∙ sym same)
     ]
 
-pub put_keeps : (a v : Worker) (j : ℕ) (post : Post) (answer : Result (Unit {0}) Post) → PutTo a v j post answer → KeepsYards a v
-put_keeps a v j post answer put ws i is yard =
+put_signed_in : (ws : List Worker) (i j : ℕ) (a v : Worker) (post : Post) (answer : Result (Unit {0}) Post) → post.from ≡ i → (put : PutTo a v j post answer)
+    → post_at ws i j ≡ Some put.end → PostSet ws (set ws i v) i j put.new_end → AreSigned ws → AreSigned (set ws i v)
+put_signed_in ws i j a v post answer own put here there signed x y =
+    elim (cases_eq x i) [
+      | inl xi ↦ elim (cases_eq y j) [
+        | inl yj ↦ rw (xi, yj, there.here, there.takes i j) (put_signed i j a v post answer own put (take_at ws i j) (rw here at (signed i j)))
+        | inr yj ↦ rw (there.others x y (λ _ f. yj f), there.takes x y) (signed x y)
+      ]
+      | inr xi ↦ rw (there.others x y (λ f _. xi f), there.takes x y) (signed x y)
+    ]
+
+-- a worker who posts in its own name
+pub put_keeps : (a v : Worker) (j : ℕ) (post : Post) (answer : Result (Unit {0}) Post) → post.from ≡ id_of a → PutTo a v j post answer → KeepsYards a v
+put_keeps a v j post answer own put ws i is yard =
     let here : post_at ws i j ≡ Some put.end = rw (is, put.end_is) refl in
     let there = posts_set ws i j a v put.new_end is put.new_end_is put.others put.same.2 in
     let len = length-set ws i v in
@@ -60,6 +74,7 @@ put_keeps a v j post answer put ws i is yard =
           let none = yard.outside x y (omega (arith, len)) in
           (there.others x y (λ e f. none_or_some (post_at ws x y) put.end none.0 (rw (e, f) here)) ∙ none.0, there.takes y x ∙ none.1);
       lanes = λ x y x_in y_in apart. put_ends ws i j a v post answer is put here there yard x y (omega (arith, len)) (omega (arith, len)) apart;
+      signed = put_signed_in ws i j a v post answer (own ∙ own_number ws i a yard is) put here there yard.signed;
     }
 
 take_ends : (ws : List Worker) (i j : ℕ) (a v : Worker) (post : Option Post) → slice_get ws j ≡ Some a → (got : TookFrom a v i post)
@@ -79,6 +94,17 @@ take_ends ws i j a v post is got here there yard x y x_in y_in apart =
       | inr xi ↦ (h.0, h.1, there.posts x y ∙ h.2, there.others x y (λ f _. xi f) ∙ h.3, h.4, h.5 ∙ sym same)
     ]
 
+take_signed_in : (ws : List Worker) (i j : ℕ) (a v : Worker) (post : Option Post) → (got : TookFrom a v i post)
+    → take_at ws i j ≡ Some got.end → TakeSet ws (set ws j v) i j got.new_end → AreSigned ws → AreSigned (set ws j v)
+take_signed_in ws i j a v post got here there signed x y =
+    elim (cases_eq x i) [
+      | inl xi ↦ elim (cases_eq y j) [
+        | inl yj ↦ rw (xi, yj, there.here, there.posts i j) (take_signed i i a v post got (post_at ws i j) (rw here at (signed i j)))
+        | inr yj ↦ rw (there.others x y (λ _ f. yj f), there.posts x y) (signed x y)
+      ]
+      | inr xi ↦ rw (there.others x y (λ f _. xi f), there.posts x y) (signed x y)
+    ]
+
 pub take_keeps : (a v : Worker) (i : ℕ) (post : Option Post) → TookFrom a v i post → KeepsYards a v
 take_keeps a v i post got ws j is yard =
     let here : take_at ws i j ≡ Some got.end = rw (is, got.end_is) refl in
@@ -93,6 +119,7 @@ take_keeps a v i post got ws j is yard =
           let none = yard.outside x y (omega (arith, len)) in
           (there.posts x y ∙ none.0, there.others y x (λ e f. none_or_some (take_at ws y x) got.end none.1 (rw (e, f) here)) ∙ none.1);
       lanes = λ x y x_in y_in apart. take_ends ws i j a v post is got here there yard x y (omega (arith, len)) (omega (arith, len)) apart;
+      signed = take_signed_in ws i j a v post got here there yard.signed;
     }
 
 -- one after the other

@@ -4,7 +4,9 @@ use Rattle.std.specs.List.{slice_get, range_with_len}
 use Rattle.std.proofs.lemmas.Option.{slice_get_past}
 use Rattle.std.proofs.lemmas.Bool.{cases_eq}
 use Rattle.std.proofs.lemmas.List.{map-append, length-replicate, length-set}
+use Rattle.std.proofs.lemmas.List.Elements.{All-nil}
 use Rattle.std.proofs.lemmas.List.FromFn.{map-range_with_len_more, get_or-map-range_with_len}
+use Rattle.tlsf_post.specs.declared.post.Post.{Post}
 use Rattle.tlsf_post.specs.declared.post_end.PostEnd.{PostEnd}
 use Rattle.tlsf_post.specs.declared.take_end.TakeEnd.{TakeEnd}
 use Rattle.tlsf_post.specs.Lanes.{posts_sent, free_slots, capacity_of, waited, taken, IsLane}
@@ -156,6 +158,7 @@ laid_yard ws n words capacity sizes l =
           let y_n : y < n = omega arith in
           let h = l.laid x y x_n y_n ne (inl x_n) in
           (h.0, h.1, h.2, h.3, h.4, h.5 ∙ sym first);
+      signed = λ x y. rw (l.empty x y) (All-nil (λ (post : Post). post.from ≡ x));
     }
 
 pub laid_world : (ws : List Worker) (n words capacity : ℕ) → AreSizes n words capacity → IsLaid ws n words capacity n 0 → world_of ws ≡ opened_world n words capacity

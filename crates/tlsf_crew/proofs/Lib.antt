@@ -4,6 +4,7 @@ pub mod Halves
 pub mod Slots
 pub mod OneEnd
 pub mod OwnHeaps
+pub mod Signed
 pub mod Worlds
 pub mod Across
 pub mod OneEvent

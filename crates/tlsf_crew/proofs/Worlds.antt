@@ -17,6 +17,7 @@ use Rattle.tlsf_crew.specs.LaneSteps.{LaneChange, SameLane}
 use Rattle.tlsf_crew.specs.World.{World, world_of, edited, with_waiting, with_heap, heap_in}
 use Rattle.tlsf_crew.proofs.Slots.{get_set_same, get_set_other, map_same, same_then, some_same, heap_at, none_or_some}
 use Rattle.tlsf_crew.proofs.OwnHeaps.{KeepsHeap, heaps_along, heaps_set}
+use Rattle.tlsf_crew.proofs.Signed.{AreFrom, same_signed, changed_signed}
 
 -- worlds are equal by heaps, by what waits in each pair, and by capacity
 pub same_world : (v w : World) → v.heaps ≡ w.heaps → ((i j : ℕ) → v.waiting i j ≡ w.waiting i j) → v.capacity ≡ w.capacity → v ≡ w
@@ -116,14 +117,15 @@ changed_outside ws vs i j p t q u c yard x y far =
 
 -- a yard stays whole
 pub changed_yard : (ws vs : List Worker) (i j : ℕ) (p : PostEnd) (t : TakeEnd) (q : PostEnd) (u : TakeEnd)
-    → i ≢ j → LaneChange ws vs i j p t q u → IsYard ws → IsYard vs
-changed_yard ws vs i j p t q u ne c yard = record {
+    → i ≢ j → LaneChange ws vs i j p t q u → AreFrom i (lane_waits (Some q) (Some u)) → IsYard ws → IsYard vs
+changed_yard ws vs i j p t q u ne c new yard = record {
   few = omega (arith, c.len, yard.few);
   ids = λ x x_in. ap (λ (l : List (ℕ × ℕ)). (get_or l x (0, 0)).0) c.numbers ∙ yard.ids x (omega (arith, c.len));
   heaps = heaps_along ws vs c.heaps c.len yard.heaps;
   alone = λ x. let s = c.same x x (λ a b. ne (sym a ∙ b)) in (s.0 ∙ (yard.alone x).0, s.1 ∙ (yard.alone x).1);
   outside = changed_outside ws vs i j p t q u c yard;
   lanes = changed_lanes ws vs i j p t q u c yard;
+  signed = changed_signed ws vs i j p t q u c new yard.signed;
 }
 
 pub heap_lanes : (ws : List Worker) (i : ℕ) (a v : Worker) → slice_get ws i ≡ Some a → SameButHeap a v → (x y : ℕ) → SameLane ws (set ws i v) x y
@@ -169,6 +171,7 @@ heap_yard ws i a v is same kept yard = record {
       let none = yard.outside x y (omega (arith, length-set ws i v)) in
       ((heap_lanes ws i a v is same x y).0 ∙ none.0, (heap_lanes ws i a v is same y x).1 ∙ none.1);
   lanes = heap_ends ws i a v is same yard;
+  signed = same_signed ws (set ws i v) (heap_lanes ws i a v is same) yard.signed;
 }
 
 pub heap_in_is : (ws : List Worker) (i : ℕ) (a : Worker) → slice_get ws i ≡ Some a → heap_in (world_of ws) i ≡ heap_of a

@@ -3,7 +3,7 @@ ghost use Rattle.std.specs.Prelude.{◌≡◌, ℕ, ◌+◌, ◌<◌, ◌≤◌,
 ghost use Rattle.tlsf_crew.specs.Yard.{IsYard};
 ghost use Rattle.tlsf_crew.specs.World.{world_of, made_by, name_of, after, replies};
 ghost use Rattle.tlsf_crew.specs.FairRuns.{IsFairRun, NoneStale, WaitLive};
-ghost use Rattle.tlsf_crew.specs.Leaving.{replay_of};
+ghost use Rattle.tlsf_crew.specs.Leaving.{replay_of, IsReplied};
 
 use crate::call::Call;
 use crate::counting::room_for;
@@ -62,6 +62,38 @@ fn named(target: Target, made: &[Option<Name>]) -> Option<Name>
     }
 }
 
+/// Makes the call of an event by a worker of the yard. A drain writes its takes; the event's own entry is still to come.
+fn reply_to(
+    workers: &mut [Worker],
+    event: Event,
+    made: &[Option<Name>],
+    entries: &mut Vec<Entry>,
+) -> Reply
+    requires yard { IsYard workers.old }
+    requires inside { event.worker < length workers.old }
+    requires room { length (after (replay_of made.now entries.old.items workers.old) event).entries ≤ vec_capacity entries.old }
+    ensures replied { IsReplied (replay_of made.now entries.old.items workers.old) event entries.new.items workers.new result }
+    ensures capacity { vec_capacity entries.new ≡ vec_capacity entries.old }
+{
+    let at = event.worker;
+    match event.call {
+        Call::Allocate { len } => allocate(workers, at, len),
+        Call::Release { target } => release_named(workers, at, named(target, made)),
+        Call::Write {
+            target,
+            at: from,
+            bytes,
+        } => write_named(workers, at, named(target, made), from, bytes),
+        Call::Read {
+            target,
+            at: from,
+            n,
+        } => read_named(workers, at, named(target, made), from, n),
+        Call::Take { from } => take(workers, at, from),
+        Call::Drain { most } => Reply::Drained(drain(workers, at, most, entries)),
+    }
+}
+
 /// Runs one event.
 fn run_event(
     workers: &mut [Worker],
@@ -77,48 +109,12 @@ fn run_event(
     ensures made { vec_len made.new ≡ vec_len made.old + 1 }
     ensures after { replay_of made.new.items entries.new.items workers.new ≡ after (replay_of made.old.items entries.old.items workers.old) event }
 {
-    let at = event.worker;
-    if (at as usize) >= workers.len() {
+    if (event.worker as usize) >= workers.len() {
         answer(event, Reply::Refused(CrewRefusal::Stranger), made, entries);
         return;
     }
-    match event.call {
-        Call::Allocate { len } => {
-            let reply = allocate(workers, at, len);
-            answer(event, reply, made, entries);
-        }
-        Call::Release { target } => {
-            let name = named(target, made);
-            let reply = release_named(workers, at, name);
-            answer(event, reply, made, entries);
-        }
-        Call::Write {
-            target,
-            at: from,
-            bytes,
-        } => {
-            let name = named(target, made);
-            let reply = write_named(workers, at, name, from, bytes);
-            answer(event, reply, made, entries);
-        }
-        Call::Read {
-            target,
-            at: from,
-            n,
-        } => {
-            let name = named(target, made);
-            let reply = read_named(workers, at, name, from, n);
-            answer(event, reply, made, entries);
-        }
-        Call::Take { from } => {
-            let reply = take(workers, at, from);
-            answer(event, reply, made, entries);
-        }
-        Call::Drain { most } => {
-            let taken = drain(workers, at, most, entries);
-            answer(event, Reply::Drained(taken), made, entries);
-        }
-    }
+    let reply = reply_to(workers, event, made, entries);
+    answer(event, reply, made, entries);
 }
 
 /// Runs events in order on a whole yard, with every end in hand, and answers an entry for each. A drain gives before
