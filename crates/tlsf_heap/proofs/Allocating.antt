@@ -1,5 +1,5 @@
 -- What allocating answers and leaves, by the place of the block that is chosen.
-use Rattle.std.proofs.Common.{find, None, ◌≡◌, ℕ, zero, suc, ◌+◌, ◌-◌, ◌*◌, ◌^◌, ◌<◌, ◌≤◌, Bool, true, false, cond, eqb, List, [], ◌∷◌, ◌++◌, length, take, drop, Some, Result, Ok, Err, IsOk, refl, sym, ap, ◌∙◌, subst, inl, inr, arith, add-one, eq-eqb}
+use Rattle.std.proofs.Common.{find, None, ◌≡◌, ℕ, suc, ◌+◌, ◌-◌, ◌^◌, ◌<◌, ◌≤◌, Bool, true, false, cond, eqb, List, [], ◌∷◌, ◌++◌, length, take, drop, Some, Result, Ok, Err, IsOk, refl, sym, ap, ◌∙◌, subst, inl, inr, arith, add-one, eq-eqb}
 use Rattle.std.specs.Prelude.{◌↔◌}
 use Rattle.std.specs.List.{AllByRecursion, list_all}
 use Rattle.std.proofs.lemmas.List.{drop_more, take-append-drop}
@@ -18,20 +18,6 @@ use Rattle.tlsf_class.proofs.ClassOfSize.{le_from_serves}
 use Rattle.tlsf_heap.proofs.Sites.{choice_none, choice_is, fits_nothing}
 use Rattle.tlsf_heap.proofs.Edits.{carved_small, carved_large}
 use Rattle.tlsf_heap.proofs.Lawfulness.{lawful_split, lawful_whole, with_region, region_is}
-
--- each block has four words
-blocks_many : (bs : List Block) → AllByRecursion HasRoom bs → 4 * length bs ≤ words_in bs
-blocks_many [] h = omega arith
-blocks_many (Live m s b ∷ bs) h = let e = blocks_many bs h.1 in omega (arith, h.0.0)
-blocks_many (Free m s ∷ bs) h = let e = blocks_many bs h.1 in omega (arith, h.0)
-
--- where one has four more than it needs, there is room for a block more
-pub room_for_more : (bs : List Block) (i : ℕ) → i < length bs → 8 ≤ size_of (block_at bs i) → AllByRecursion HasRoom bs → 4 * length bs + 4 ≤ words_in bs
-room_for_more [] i l g h = absurd (omega (arith, l))
-room_for_more (Live m s b ∷ bs) zero l g h = let e = blocks_many bs h.1 in omega (arith, g)
-room_for_more (Free m s ∷ bs) zero l g h = let e = blocks_many bs h.1 in omega (arith, g)
-room_for_more (Live m s b ∷ bs) (suc i) l g h = let e = room_for_more bs i (omega arith) g h.1 in omega (arith, h.0.0)
-room_for_more (Free m s ∷ bs) (suc i) l g h = let e = room_for_more bs i (omega arith) g h.1 in omega (arith, h.0)
 
 -- what a fit block is
 pub fits_size : (n : ℕ) (b : Block) → is_fit n b ≡ true → n ≤ size_of b

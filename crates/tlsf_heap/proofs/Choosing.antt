@@ -1,6 +1,6 @@
 -- The choice by classes: the free block of the least class that serves a request, which became free last.
 use Rattle.std.proofs.Common.{◌≡◌, ℕ, zero, suc, ◌^◌, ◌<◌, ◌≤◌, nat_le, eqb, ◌||◌, Bool, true, false, List, [], ◌∷◌, length, filter, Option, Some, None, refl, sym, ap, ◌∙◌, inl, inr, arith}
-use Rattle.std.specs.Prelude.{IsPermutation}
+use Rattle.std.specs.Prelude.{slice_get}
 use Rattle.std.specs.List.{list_any}
 use Rattle.std.proofs.lemmas.List.Folds.{list_any_at}
 use Rattle.std.proofs.lemmas.Bool.{cases_lt, false≢true, and_from, leb-true, le-leb, eq-eqb}
@@ -13,11 +13,10 @@ use Rattle.tlsf_class.proofs.Members.{filter-classes_same, next_member-filter_is
 use Rattle.tlsf_heap.specs.Blocks.{Block, Live, Free, size_of, is_free, stamp_of}
 use Rattle.tlsf_heap.specs.Lawful.{IsRegion, AreRegions}
 use Rattle.tlsf_heap.specs.GoodFit.{is_fit, is_as_good, NoneFits, IsChoice, IsBestAt, block_at}
-use Rattle.tlsf_heap.specs.FreePlaces.{free_places, has_class, classes_in, is_free_of, NoneOf, IsLastFreed, IsLastFreedAt}
-use Rattle.tlsf_heap.specs.declared.free_place.FreePlace.{FreePlace}
+use Rattle.tlsf_words.specs.Lists.{listed_classes}
+use Rattle.tlsf_heap.specs.FreePlaces.{AreFreeLists}
 use Rattle.tlsf_heap.proofs.Finding.{not_true}
-use Rattle.tlsf_heap.proofs.LastFreed.{free_and_of}
-use Rattle.tlsf_heap.proofs.Places.{has_class-listed}
+use Rattle.tlsf_heap.proofs.LastFreed.{is_free_of, NoneOf, IsLastFreed, IsLastFreedAt, free_and_of, is_some_list, some_listed, head_is_last}
 
 -- each block has a number of words that a region may have
 pub region_at : (bs : List Block) → AreRegions bs → (i : ℕ) → i < length bs → IsRegion (size_of (block_at bs i))
@@ -44,7 +43,7 @@ none_has (b ∷ bs) class h = ap (λ x. x || has_free_of bs class) (h 0 (omega a
 
 -- ---- the least class that serves
 
-module _ (n from : ℕ) (places : List FreePlace) (bs : List Block) (search : search_of n ≡ Some from) (sized : AreRegions bs) (listed : IsPermutation places (free_places 0 bs)) where
+module _ (n from : ℕ) (lists : ℕ → List ℕ) (bs : List Block) (search : search_of n ≡ Some from) (sized : AreRegions bs) (listed : AreFreeLists bs lists) where
   fit_class : (b : Block) → is_fit n b ≡ true → (is_free b ≡ true) × (from ≤ class_of (size_of b))
   fit_class (Live m s xs) h = absurd (false≢true h)
   fit_class (Free m s) h = (refl, leb-true from (class_of m) (sym (serves-from n from (class_of m) search) ∙ h))
@@ -57,18 +56,18 @@ module _ (n from : ℕ) (places : List FreePlace) (bs : List Block) (search : se
       let class = class_of (size_of (block_at bs i)) in
       list_any_at (is_free_of class) bs i (Free 0 0) h (and_from (is_free (block_at bs i)) (eqb class class) free (eq-eqb class class refl))
 
-  -- the classes of the places are those of the free blocks
-  next_listed : next_member (classes_in places) from ≡ next_member (filter (has_free_of bs) classes) from
-  next_listed = ap (λ members. next_member members from) (filter-classes_same (has_class places) (has_free_of bs) (λ d l h. has_class-listed places bs listed d))
+  -- the classes whose lists aren't empty are those of the free blocks
+  next_listed : next_member (listed_classes lists) from ≡ next_member (filter (has_free_of bs) classes) from
+  next_listed = ap (λ members. next_member members from) (filter-classes_same (λ d. is_some_list (lists d)) (has_free_of bs) (λ d l h. some_listed d bs (lists d) (listed d)))
 
   -- no class has a free block, and none fits
-  pub none_listed : next_member (classes_in places) from ≡ None → NoneFits n bs
+  pub none_listed : next_member (listed_classes lists) from ≡ None → NoneFits n bs
   none_listed none = λ i h. not_true _ (λ fit.
       let free = fit_class (block_at bs i) fit in
       let class = class_at i h in
       false≢true (sym (next_member-filter_is_none (has_free_of bs) from (sym next_listed ∙ none) _ class.least free.1 class.most) ∙ has_at i h free.0))
 
-  module _ (class : ℕ) (next : next_member (classes_in places) from ≡ Some class) where
+  module _ (class : ℕ) (next : next_member (listed_classes lists) from ≡ Some class) where
     is_next : IsNextMember (has_free_of bs) from class
     is_next = next_member-filter_is (has_free_of bs) from class (sym next_listed ∙ next)
 
@@ -103,7 +102,10 @@ module _ (n from : ℕ) (places : List FreePlace) (bs : List Block) (search : se
               l.last j h (and_from (is_free (block_at bs j)) (eqb (class_of (size_of (block_at bs j))) class) (fit_class (block_at bs j) fit).0 (eq-eqb _ class same)));
         }
 
-    -- so what a search for its place answers is what good fit asks
-    pub best_listed : (found : Option ℕ) → IsLastFreedAt class bs found → IsBestAt n bs found
-    best_listed None none = absurd (has_listed none)
-    best_listed (Some at) last = (last.0, last.1, choice_listed last.0 last.2)
+    -- so the head of the list of that class is what good fit asks
+    pub best_listed : IsBestAt n bs (slice_get (lists class) 0)
+    best_listed = as_best (slice_get (lists class) 0) (head_is_last class bs (lists class) (listed class))
+      where
+        as_best : (found : Option ℕ) → IsLastFreedAt class bs found → IsBestAt n bs found
+        as_best None none = absurd (has_listed none)
+        as_best (Some at) last = (last.0, last.1, choice_listed last.0 last.2)

@@ -1,6 +1,6 @@
 -- Edits of the list of blocks.
-use Rattle.std.proofs.Common.{◌≡◌, ℕ, ◌+◌, ◌-◌, Bool, true, false, cond, nat_le, replicate, ◌<◌, ◌≤◌, List, [], ◌∷◌, ◌++◌, length, get_or, take, drop, sym, ap, ◌∙◌, arith, length-take-le}
-use Rattle.std.proofs.lemmas.List.{drop_more, drop_all, take-append-le, take-take, take_more, take-append-drop}
+use Rattle.std.proofs.Common.{◌≡◌, ℕ, ◌+◌, ◌-◌, Bool, true, false, cond, nat_le, replicate, ◌<◌, ◌≤◌, List, [], ◌∷◌, ◌++◌, length, get_or, take, drop, sym, ap, ◌∙◌, arith}
+use Rattle.std.proofs.lemmas.List.{drop_more, take_more, take-append-drop}
 use Rattle.tlsf_heap.specs.Calls.{carved, first_free, last_free}
 use Rattle.std.proofs.lemmas.Bool.Decides.{nat_tests}
 use Rattle.tlsf_heap.specs.Blocks.{Block, Live, Free, words_in}
@@ -20,9 +20,6 @@ carved_large size n tick len h =
     let t : nat_le (n + 4) size ≡ true = grind (arith, nat_tests) in
     ap (λ (b : Bool). cond b (Live n tick (replicate len 0) ∷ Free (size - n) tick ∷ []) (Live size tick (replicate len 0) ∷ [])) t
 
-pub none_past : (bs : List Block) (i : ℕ) → length bs ≤ i → 0 ≡ first_free (drop i bs)
-none_past bs i past = ap first_free (sym (drop_all i bs past))
-
 -- the free block at a place is the one that the blocks up to it end with
 pub first_is_last : (bs : List Block) (j i : ℕ) → j + 1 ≡ i → j < length bs → first_free (drop j bs) ≡ last_free (take i bs)
 first_is_last bs j i e within =
@@ -38,8 +35,3 @@ pub first_free-words : (bs : List Block) → first_free bs ≤ words_in bs
 first_free-words [] = omega arith
 first_free-words (Live m s xs ∷ bs) = omega arith
 first_free-words (Free m s ∷ bs) = omega arith
-
--- what stands before block i stays where only what stands behind it changes
-pub front_kept : (bs back : List Block) (i : ℕ) → i < length bs → take i (take (i + 1) bs ++ back) ≡ take i bs
-front_kept bs back i within =
-    take-append-le i (take (i + 1) bs) back (omega (arith, length-take-le (i + 1) bs (omega arith))) ∙ take-take i (i + 1) bs (omega arith)

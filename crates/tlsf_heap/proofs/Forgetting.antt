@@ -1,65 +1,70 @@
--- The places of the free blocks when a live block becomes one with its free neighbours.
-use Rattle.std.proofs.Common.{◌≡◌, ℕ, zero, suc, ◌+◌, ◌-◌, ◌*◌, ◌<◌, ◌≤◌, false, List, [], ◌∷◌, ◌++◌, length, take, drop, refl, sym, ap, ◌∙◌, subst, arith, add-one, append_assoc, length-append}
-use Rattle.std.specs.Prelude.{IsPermutation, Contains}
+-- The lists of the free blocks when a live block becomes one with its free neighbours.
+use Rattle.std.proofs.Common.{◌≡◌, ◌≢◌, ℕ, zero, suc, ◌+◌, ◌-◌, ◌<◌, ◌≤◌, true, false, List, [], ◌∷◌, ◌++◌, length, take, drop, refl, sym, ap, ◌∙◌, subst, arith, add-one, append_assoc}
+use Rattle.std.specs.Prelude.{Contains}
 use Rattle.std.proofs.lemmas.Bool.{false≢true}
-use Rattle.std.proofs.lemmas.List.Sorted.{length_permutation}
 use Rattle.tlsf_class.specs.Classes.{class_of}
 use Rattle.tlsf_heap.specs.Blocks.{Block, Live, Free, size_of, words_in, is_free}
 use Rattle.tlsf_heap.specs.Lawful.{IsRegion, AreRegions}
 use Rattle.tlsf_heap.specs.GoodFit.{block_at, site_at}
-use Rattle.tlsf_heap.specs.Regions.{StandsAt}
+use Rattle.tlsf_words.specs.Lists.{IsUnlisted, without_place}
+use Rattle.tlsf_heap.specs.Regions.{StandsAt, SameLists, list_in}
 use Rattle.tlsf_heap.specs.Calls.{coalesced, first_free, past_free, last_free, before_free}
-use Rattle.tlsf_heap.specs.FreePlaces.{free_places}
-use Rattle.tlsf_heap.specs.declared.free_place.FreePlace.{FreePlace}
+use Rattle.tlsf_heap.specs.FreePlaces.{FreePlace, free_places, AreFreeLists}
 use Rattle.tlsf_heap.proofs.Edits.{first_free-words}
-use Rattle.tlsf_heap.proofs.Permuting.{taken, given}
-use Rattle.tlsf_heap.proofs.Carving.{contains_middle}
-use Rattle.tlsf_heap.proofs.Sizes.{Around, around, words_around, length_around, region_around, regions_front, regions_back, regions_many, next_is, next_none, first_region, last_is, last_none, last_region, last_words, place, places_behind, length-free_places}
+use Rattle.tlsf_heap.proofs.Listing.{AreListed, IsFresh, fresh_both, contains_own, not_listed, same_lists, taken, given}
+use Rattle.tlsf_heap.proofs.Sizes.{Around, around, block_around, stands_around, words_around, region_around, regions_front, regions_back, one_index, next_is, next_none, first_region, last_is, last_none, last_region, last_words, past_regions, before_regions, place, places_behind, fresh_front, fresh_back, ArePast, past_around, newest, past_past, before_past}
 
--- ---- a place that is taken out where there is one
+-- ---- a free block that is taken out of the list of its class where there is one
 
--- what taking out a place ensures, where there is one: not where the size is 0
-module _ (e : FreePlace) (size : ℕ) (places left : List FreePlace) (out : 0 < size → IsPermutation places (e ∷ left)) (none : size ≡ 0 → left ≡ places) where
-  forgotten : (front back : List FreePlace) → (0 < size → IsPermutation places (front ++ e ∷ back)) → (size ≡ 0 → IsPermutation places (front ++ back)) → IsPermutation left (front ++ back)
-  forgotten front back some kept = at size (λ h. taken e places left front back (some h) (out h)) (λ h. subst (λ (l : List FreePlace). IsPermutation l (front ++ back)) (sym (none h)) (kept h))
-    where
-      at : (n : ℕ) → (0 < n → IsPermutation left (front ++ back)) → (n ≡ 0 → IsPermutation left (front ++ back)) → IsPermutation left (front ++ back)
-      at zero more zeroth = zeroth refl
-      at (suc n) more zeroth = more (omega arith)
+-- what taking out a block ensures, where there is one: not where the size is 0
+pub record Forgets (size at : ℕ) (old new : ℕ → List ℕ) : Type 0 where
+  pub out : 0 < size → new (class_of size) ≡ without_place at (old (class_of size))
+  pub others : (other : ℕ) → other ≢ class_of size → new other ≡ old other
+  pub none : size ≡ 0 → SameLists new old
 
-  length-forgotten : length left ≤ length places
-  length-forgotten = at size (λ h. omega (arith, length_permutation places (e ∷ left) (out h))) (λ h. omega (arith, ap length (none h)))
-    where
-      at : (n : ℕ) → (0 < n → length left ≤ length places) → (n ≡ 0 → length left ≤ length places) → length left ≤ length places
-      at zero more zeroth = zeroth refl
-      at (suc n) more zeroth = more (omega arith)
+pub forgets : {size at : ℕ} {old new : List (List ℕ)} → (0 < size → list_in new (class_of size) ≡ without_place at (list_in old (class_of size)))
+    → ((other : ℕ) → other ≢ class_of size → list_in new other ≡ list_in old other) → (size ≡ 0 → new ≡ old) → Forgets size at (list_in old) (list_in new)
+forgets out others none = record { out = out; others = others; none = λ e class. ap (λ (l : List (List ℕ)). list_in l class) (none e) }
+
+forgotten : {size at : ℕ} {old new : ℕ → List ℕ} → Forgets size at old new → (front back : List FreePlace) → (0 < size → IsFresh at (front ++ back))
+    → (0 < size → (stamp : ℕ) × AreListed (front ++ place size at stamp ∷ back) old) → (size ≡ 0 → AreListed (front ++ back) old) → AreListed (front ++ back) new
+forgotten {size = size} {at = at} {old = old} {new = new} f front back fresh some kept =
+    by_size size
+    (λ h. let listed = some h in taken (place size at listed.0) front back old new f.others (fresh h) (f.out h) listed.1)
+    (λ e. same_lists (front ++ back) old new (f.none e) (kept e))
+  where
+    by_size : (n : ℕ) → (0 < n → AreListed (front ++ back) new) → (n ≡ 0 → AreListed (front ++ back) new) → AreListed (front ++ back) new
+    by_size zero more none = none refl
+    by_size (suc n) more none = more (omega arith)
 
 -- ---- a live block between its neighbours
 
--- a live block of this size begins at a place, its free neighbours have these sizes, and the places are those of the free blocks
-pub record IsBetween (bs : List Block) (at i before size after : ℕ) (places : List FreePlace) : Type 0 where
+-- a live block of this size begins at a place, its free neighbours have these sizes, and these are the lists of the free blocks, all past
+pub record IsBetween (bs : List Block) (at i before size after tick : ℕ) (lists : ℕ → List ℕ) : Type 0 where
   pub stands : StandsAt bs at i
   pub live : is_free (block_at bs i) ≡ false
   pub sized : AreRegions bs
   pub is_size : size ≡ size_of (block_at bs i)
   pub is_before : before ≡ last_free (take i bs)
   pub is_after : after ≡ first_free (drop (i + 1) bs)
-  pub listed : IsPermutation places (free_places 0 bs)
+  pub past : ArePast tick bs
+  pub listed : AreFreeLists bs lists
 
--- the reads leave the blocks as they are
-pub is_between : {bs one two : List Block} {at before size after : ℕ} {places : List FreePlace} → (live : (i : ℕ) × StandsAt bs at i × (is_free (block_at bs i) ≡ false)) → AreRegions bs
-    → IsPermutation places (free_places 0 bs)
+-- the reads leave the blocks and the lists as they are
+pub is_between : {bs one two : List Block} {at before size after tick : ℕ} {old new : List (List ℕ)} → (live : (i : ℕ) × StandsAt bs at i × (is_free (block_at bs i) ≡ false)) → AreRegions bs
+    → ArePast tick bs → AreFreeLists bs (list_in old) → new ≡ old
     → ((i : ℕ) → StandsAt bs at i → size ≡ size_of (block_at bs i)) → one ≡ bs
     → ((i : ℕ) → StandsAt one at i → before ≡ last_free (take i one)) → two ≡ one
-    → ((i : ℕ) → StandsAt two at i → after ≡ first_free (drop (i + 1) two)) → IsBetween bs at live.0 before size after places
-is_between {at = at} {before = before} {after = after} live sized listed is_size same is_before same_too is_after = record {
+    → ((i : ℕ) → StandsAt two at i → after ≡ first_free (drop (i + 1) two)) → IsBetween bs at live.0 before size after tick (list_in new)
+is_between {at = at} {before = before} {after = after} live sized past listed kept is_size same is_before same_too is_after = record {
   stands = live.1;
   live = live.2;
   sized = sized;
   is_size = is_size live.0 live.1;
   is_before = subst (λ (l : List Block). (i : ℕ) → StandsAt l at i → before ≡ last_free (take i l)) same is_before live.0 live.1;
   is_after = subst (λ (l : List Block). (i : ℕ) → StandsAt l at i → after ≡ first_free (drop (i + 1) l)) (same_too ∙ same) is_after live.0 live.1;
-  listed = listed;
+  past = past;
+  listed = rw kept listed;
 }
 
 live_places : (at : ℕ) (b : Block) (back : List Block) → is_free b ≡ false → free_places at (b ∷ back) ≡ free_places (at + size_of b) back
@@ -67,7 +72,7 @@ live_places at (Live m s xs) back e = refl
 live_places at (Free m s) back e = absurd (false≢true (sym e))
 
 -- the blocks behind one, whose first may be free
-next_places : (back : List Block) (at : ℕ) → 0 < first_free back → free_places at back ≡ place (first_free back) at ∷ free_places (at + first_free back) (past_free back)
+next_places : (back : List Block) (at : ℕ) → (h : 0 < first_free back) → free_places at back ≡ place (first_free back) at (next_is back h).0 ∷ free_places (at + first_free back) (past_free back)
 next_places back at h = ap (free_places at) (next_is back h).1
 
 next_no_places : (back : List Block) (at : ℕ) → AreRegions back → first_free back ≡ 0 → free_places at back ≡ free_places (at + first_free back) (past_free back)
@@ -76,12 +81,13 @@ next_no_places back at sized e =
     ap (λ (n : ℕ). free_places n back) same ∙ ap (free_places (at + first_free back)) (sym (next_none back sized e))
 
 -- the blocks before one, whose last may be free
-last_places : (front : List Block) (at : ℕ) → words_in front ≡ at → 0 < last_free front → free_places 0 front ≡ free_places 0 (before_free front) ++ place (last_free front) (at - last_free front) ∷ []
+last_places : (front : List Block) (at : ℕ) → words_in front ≡ at → (h : 0 < last_free front)
+    → free_places 0 front ≡ free_places 0 (before_free front) ++ place (last_free front) (at - last_free front) (last_is front h).0 ∷ []
 last_places front at e h =
     let begins : words_in (before_free front) ≡ at - last_free front = omega (arith, last_words front, e) in
     ap (free_places 0) (last_is front h).1 ∙ places_behind (before_free front) (Free (last_free front) (last_is front h).0 ∷ []) (at - last_free front) begins
 
-module _ {bs : List Block} {at i before size after : ℕ} {places : List FreePlace} (f : IsBetween bs at i before size after places) where
+module _ {bs : List Block} {at i before size after tick : ℕ} {lists : ℕ → List ℕ} (f : IsBetween bs at i before size after tick lists) where
   abbrev front : List Block
   front = take i bs
 
@@ -106,80 +112,119 @@ module _ {bs : List Block} {at i before size after : ℕ} {places : List FreePla
   pub before_within : before ≤ at
   before_within = omega (arith, f.is_before, last_words front, f.stands.place)
 
-  listed_between : IsPermutation places (free_places 0 front ++ free_places (at + size) back)
-  listed_between =
-      subst (IsPermutation places)
-      (ap (free_places 0) between.is ∙ places_behind front (block_at bs i ∷ back) at between.place
-      ∙ ap (λ (l : List FreePlace). free_places 0 front ++ l) (live_places at (block_at bs i) back f.live)
-      ∙ ap (λ (n : ℕ). free_places 0 front ++ free_places (at + n) back) (sym f.is_size)) f.listed
+  begins : words_in (before_free front) ≡ at - before
+  begins = omega (arith, f.is_before, last_words front, f.stands.place)
 
-  -- the places behind the block and the free one behind it
+  -- the free blocks before the block, and before the free one before it
+  abbrev ahead : List FreePlace
+  ahead = free_places 0 front
+
+  abbrev first : List FreePlace
+  first = free_places 0 (before_free front)
+
+  -- those behind the block and the free one behind it
   abbrev behind : List FreePlace
   behind = free_places (at + size + after) (past_free back)
 
-  listed_next : 0 < after → IsPermutation places (free_places 0 front ++ place after (at + size) ∷ behind)
+  fresh_behind : (k : ℕ) → k < at + size + after → IsFresh k behind
+  fresh_behind k h = fresh_back (past_free back) (at + size + after) k (past_regions back (regions_back between f.sized)) h
+
+  fresh_next : 0 < after → IsFresh (at + size) (ahead ++ behind)
+  fresh_next h =
+      fresh_both (at + size) ahead behind (fresh_front front (at + size) (regions_front between f.sized) (omega (arith, f.stands.place))) (fresh_behind (at + size) (omega (arith, h)))
+
+  -- none begins in their words
+  fresh_merged : (k : ℕ) → at - before ≤ k → k < at + size + after → IsFresh k (first ++ behind)
+  fresh_merged k low high =
+      fresh_both k first behind (fresh_front (before_free front) k (before_regions front (regions_front between f.sized)) (omega (arith, begins, low))) (fresh_behind k high)
+
+  listed_between : AreListed (ahead ++ free_places (at + size) back) lists
+  listed_between =
+      subst (λ (l : List FreePlace). AreListed l lists)
+      (ap (free_places 0) between.is ∙ places_behind front (block_at bs i ∷ back) at between.place
+      ∙ ap (λ (l : List FreePlace). ahead ++ l) (live_places at (block_at bs i) back f.live)
+      ∙ ap (λ (n : ℕ). ahead ++ free_places (at + n) back) (sym f.is_size)) f.listed
+
+  listed_next : 0 < after → (stamp : ℕ) × AreListed (ahead ++ place after (at + size) stamp ∷ behind) lists
   listed_next h =
-      subst (λ (n : ℕ). IsPermutation places (free_places 0 front ++ place n (at + size) ∷ free_places (at + size + n) (past_free back))) (sym f.is_after)
-      (subst (λ (l : List FreePlace). IsPermutation places (free_places 0 front ++ l)) (next_places back (at + size) (omega (arith, h, f.is_after))) listed_between)
+      let some : 0 < first_free back = omega (arith, h, f.is_after) in (
+        (next_is back some).0,
+        subst (λ (n : ℕ). AreListed (ahead ++ place n (at + size) (next_is back some).0 ∷ free_places (at + size + n) (past_free back)) lists) (sym f.is_after)
+            (subst (λ (l : List FreePlace). AreListed (ahead ++ l) lists) (next_places back (at + size) some) listed_between),
+      )
 
-  kept_next : after ≡ 0 → IsPermutation places (free_places 0 front ++ behind)
+  kept_next : after ≡ 0 → AreListed (ahead ++ behind) lists
   kept_next e =
-      subst (λ (n : ℕ). IsPermutation places (free_places 0 front ++ free_places (at + size + n) (past_free back))) (sym f.is_after)
-      (subst (λ (l : List FreePlace). IsPermutation places (free_places 0 front ++ l)) (next_no_places back (at + size) (regions_back between f.sized) (omega (arith, e, f.is_after))) listed_between)
+      subst (λ (n : ℕ). AreListed (ahead ++ free_places (at + size + n) (past_free back)) lists) (sym f.is_after)
+      (subst (λ (l : List FreePlace). AreListed (ahead ++ l) lists) (next_no_places back (at + size) (regions_back between f.sized) (omega (arith, e, f.is_after))) listed_between)
 
-  pub contains_next : 0 < after → Contains places (place after (at + size))
-  contains_next h = contains_middle (place after (at + size)) places (free_places 0 front) behind (listed_next h)
+  pub contains_next : 0 < after → Contains (lists (class_of after)) (at + size)
+  contains_next h = let listed = listed_next h in contains_own (place after (at + size) listed.0) ahead behind (lists (class_of after)) (listed.1 (class_of after))
 
-  -- once the place of the block behind is out
-  module _ (left : List FreePlace) (out : 0 < after → IsPermutation places (place after (at + size) ∷ left)) (none : after ≡ 0 → left ≡ places) where
-    left_next : IsPermutation left (free_places 0 front ++ behind)
-    left_next = forgotten (place after (at + size)) after places left out none (free_places 0 front) behind listed_next kept_next
+  -- once the block behind is out
+  module _ {left : ℕ → List ℕ} (out : Forgets after (at + size) lists left) where
+    left_next : AreListed (ahead ++ behind) left
+    left_next = forgotten out ahead behind fresh_next listed_next kept_next
 
-    listed_previous : 0 < before → IsPermutation left (free_places 0 (before_free front) ++ place before (at - before) ∷ behind)
+    listed_previous : 0 < before → (stamp : ℕ) × AreListed (first ++ place before (at - before) stamp ∷ behind) left
     listed_previous h =
-        subst (λ (n : ℕ). IsPermutation left (free_places 0 (before_free front) ++ place n (at - n) ∷ behind)) (sym f.is_before)
-        (subst (IsPermutation left)
-        (ap (λ (l : List FreePlace). l ++ behind) (last_places front at f.stands.place (omega (arith, h, f.is_before)))
-        ∙ append_assoc (free_places 0 (before_free front)) (place (last_free front) (at - last_free front) ∷ []) behind) left_next)
+        let some : 0 < last_free front = omega (arith, h, f.is_before) in
+        let stamp = (last_is front some).0 in (
+          stamp,
+          subst (λ (n : ℕ). AreListed (first ++ place n (at - n) stamp ∷ behind) left) (sym f.is_before)
+              (subst (λ (l : List FreePlace). AreListed l left)
+              (ap (λ (l : List FreePlace). l ++ behind) (last_places front at f.stands.place some)
+              ∙ append_assoc first (place (last_free front) (at - last_free front) stamp ∷ []) behind) left_next),
+        )
 
-    kept_previous : before ≡ 0 → IsPermutation left (free_places 0 (before_free front) ++ behind)
+    kept_previous : before ≡ 0 → AreListed (first ++ behind) left
     kept_previous e =
-        subst (λ (l : List Block). IsPermutation left (free_places 0 l ++ behind)) (sym (last_none front (regions_front between f.sized) (omega (arith, e, f.is_before)))) left_next
+        subst (λ (l : List Block). AreListed (free_places 0 l ++ behind) left) (sym (last_none front (regions_front between f.sized) (omega (arith, e, f.is_before)))) left_next
 
-    pub contains_previous : 0 < before → Contains left (place before (at - before))
-    contains_previous h = contains_middle (place before (at - before)) left (free_places 0 (before_free front)) behind (listed_previous h)
+    pub contains_previous : 0 < before → Contains (left (class_of before)) (at - before)
+    contains_previous h =
+        let listed = listed_previous h in contains_own (place before (at - before) listed.0) first behind (left (class_of before)) (listed.1 (class_of before))
 
-    -- once that of the block before is out too
-    module _ (rest : List FreePlace) (out_too : 0 < before → IsPermutation left (place before (at - before) ∷ rest)) (none_too : before ≡ 0 → rest ≡ left) where
-      pub room_rest : (old new : ℕ) → words_in bs < 4 * old + 4 → old ≤ new → length rest < new
-      room_rest old new room more =
-          omega (
-            arith,
-            length-forgotten (place before (at - before)) before left rest out_too none_too,
-            length-forgotten (place after (at + size)) after places left out none,
-            length_permutation places (free_places 0 front ++ free_places (at + size) back) listed_between,
-            length-append (free_places 0 front) (free_places (at + size) back),
-            length-free_places 0 front,
-            length-free_places (at + size) back,
-            length_around between,
-            regions_many bs f.sized,
-          )
+    -- once that before it is out too
+    module _ {rest : ℕ → List ℕ} (out_too : Forgets before (at - before) left rest) where
+      rest_listed : AreListed (first ++ behind) rest
+      rest_listed = forgotten out_too first behind (λ h. fresh_merged (at - before) (omega arith) (omega (arith, size_region.0))) listed_previous kept_previous
 
-      rest_listed : IsPermutation rest (free_places 0 (before_free front) ++ behind)
-      rest_listed = forgotten (place before (at - before)) before left rest out_too none_too (free_places 0 (before_free front)) behind listed_previous kept_previous
+      -- no place in their words is listed
+      pub rest_unlisted : (k : ℕ) → at - before ≤ k → k < at + size + after → IsUnlisted rest k
+      rest_unlisted k low high = not_listed (first ++ behind) rest k rest_listed (fresh_merged k low high)
 
-      -- and that of the merged block is in
-      pub merged_listed : (class tick : ℕ) (new : List Block) (all : List FreePlace) → class ≡ class_of (before + size + after)
-          → IsPermutation (record { class = class; at = at - before } ∷ rest) all → new ≡ coalesced tick (site_at bs i) → IsPermutation all (free_places 0 new)
-      merged_listed class tick new all is_class came is_new =
-          let total = before + size + after in
-          let begins : words_in (before_free front) ≡ at - before = omega (arith, f.is_before, last_words front, f.stands.place) in
-          let ends : at + size + after ≡ at - before + total = omega (arith, before_within) in
-          let sum : last_free front + size_of (block_at bs i) + first_free back ≡ total = omega (arith, f.is_before, f.is_size, f.is_after) in
-          let is : new ≡ before_free front ++ Free total tick ∷ past_free back =
-          is_new ∙ ap (λ (n : ℕ). before_free front ++ Free (last_free front + size_of (block_at bs i) + first_free (drop n bs)) tick ∷ past_free (drop n bs)) (sym (add-one i))
-          ∙ ap (λ (n : ℕ). before_free front ++ Free n tick ∷ past_free back) sum in
-          subst (IsPermutation all) (sym (ap (free_places 0) is ∙ places_behind (before_free front) (Free total tick ∷ past_free back) (at - before) begins))
-          (subst (λ (n : ℕ). IsPermutation all (free_places 0 (before_free front) ++ place total (at - before) ∷ free_places n (past_free back))) ends
-          (given (place total (at - before)) rest all (free_places 0 (before_free front)) behind rest_listed
-          (subst (λ (n : ℕ). IsPermutation (record { class = n; at = at - before } ∷ rest) all) is_class came)))
+      -- nor where the block ends and a free one begins
+      pub next_unlisted : 0 < after → (j : ℕ) → StandsAt bs at j → IsUnlisted rest (at + size_of (block_at bs j))
+      next_unlisted h j other =
+          let ends = f.is_size ∙ ap (λ (k : ℕ). size_of (block_at bs k)) (one_index bs at i j f.sized f.stands other) in
+          subst (λ (n : ℕ). IsUnlisted rest (at + n)) ends (rest_unlisted (at + size) (omega (arith, before_within)) (omega (arith, h)))
+
+      module _ (new : List Block) (is_new : new ≡ coalesced tick (site_at bs i)) where
+        abbrev total : ℕ
+        total = before + size + after
+
+        is_merged : new ≡ before_free front ++ Free total tick ∷ past_free back
+        is_merged =
+            let sum : last_free front + size_of (block_at bs i) + first_free back ≡ total = omega (arith, f.is_before, f.is_size, f.is_after) in
+            is_new ∙ ap (λ (n : ℕ). before_free front ++ Free (last_free front + size_of (block_at bs i) + first_free (drop n bs)) tick ∷ past_free (drop n bs)) (sym (add-one i))
+            ∙ ap (λ (n : ℕ). before_free front ++ Free n tick ∷ past_free back) sum
+
+        -- the merged block is a free one
+        pub merged_free : (j : ℕ) × StandsAt new (at - before) j × (is_free (block_at new j) ≡ true)
+        merged_free =
+            let a : Around new (at - before) (length (before_free front)) (before_free front) (Free total tick) (past_free back) = record { is = is_merged; before = refl; place = begins } in
+            (length (before_free front), stands_around a, ap is_free (block_around a))
+
+        -- and once it is in the list of its class
+        pub merged_listed : (class : ℕ) (kept all : ℕ → List ℕ) → class ≡ class_of total → SameLists kept rest → all class ≡ (at - before) ∷ kept class → ((other : ℕ) → other ≢ class → all other ≡ kept other) → AreFreeLists new all
+        merged_listed class kept all is_class stay came others =
+            let ends : at + size + after ≡ at - before + total = omega (arith, before_within) in
+            let e : FreePlace = record { class = class; at = at - before; stamp = tick } in
+            let past = past_around between tick f.past in
+            let listed : AreListed (first ++ e ∷ behind) all =
+            given e first behind kept all others (newest tick (at + size + after) (before_free front) (past_free back) (before_past tick front past.0) (past_past tick back past.1)) came
+            (same_lists (first ++ behind) rest kept stay rest_listed) in
+            subst (λ (l : List FreePlace). AreListed l all) (sym (ap (free_places 0) is_merged ∙ places_behind (before_free front) (Free total tick ∷ past_free back) (at - before) begins))
+            (subst (λ (n : ℕ). AreListed (first ++ place total (at - before) tick ∷ free_places n (past_free back)) all) ends
+            (subst (λ (n : ℕ). AreListed (first ++ record { class = n; at = at - before; stamp = tick } ∷ behind) all) is_class listed))

@@ -1,20 +1,12 @@
 -- A block that becomes one with its free neighbours.
-use Rattle.std.proofs.Common.{◌≡◌, ℕ, ◌+◌, ◌-◌, ◌<◌, ◌≤◌, List, [], ◌∷◌, ◌++◌, length, take, drop, refl, sym, ap, ◌∙◌, arith, add-one, append_assoc, length-append}
+use Rattle.std.proofs.Common.{subst, ◌≡◌, ℕ, ◌+◌, ◌-◌, ◌<◌, ◌≤◌, List, [], ◌∷◌, ◌++◌, length, take, drop, refl, sym, ap, ◌∙◌, arith, add-one, append_assoc}
 use Rattle.tlsf_heap.specs.Blocks.{Block, Free, size_of}
 use Rattle.tlsf_heap.specs.Lawful.{AreRegions}
 use Rattle.tlsf_heap.specs.GoodFit.{block_at, site_at}
+use Rattle.tlsf_words.specs.Lists.{IsUnlisted}
 use Rattle.tlsf_heap.specs.Regions.{StandsAt}
 use Rattle.tlsf_heap.specs.Calls.{coalesced, first_free, past_free, last_free, before_free}
-use Rattle.tlsf_heap.proofs.Lawfulness.{words_in-append}
-use Rattle.tlsf_heap.proofs.Sizes.{Around, around, take_around, block_around, drop_around, stands_around, edited, regions_front, regions_back, next_is, next_none, last_is, last_none, last_words}
-
--- the block behind
-around_next : {bs : List Block} {at i : ℕ} {front : List Block} {b c : Block} {back : List Block} → Around bs at i front b (c ∷ back) → Around bs (at + size_of b) (i + 1) (front ++ b ∷ []) c back
-around_next {front = front} {b = b} {c = c} {back = back} a = record {
-  is = a.is ∙ sym (append_assoc front (b ∷ []) (c ∷ back));
-  before = omega (arith, length-append front (b ∷ []), a.before);
-  place = omega (arith, words_in-append front (b ∷ []), a.place);
-}
+use Rattle.tlsf_heap.proofs.Sizes.{Around, around, around_next, block_here, region_around, before_regions, take_around, block_around, drop_around, stands_around, edited, regions_front, regions_back, next_is, next_none, last_is, last_none, last_words}
 
 -- what a merge asks for
 pub merge_room : {bs : List Block} {at i : ℕ} {front : List Block} {b c : Block} {back : List Block} → Around bs at i front b (c ∷ back) → (j : ℕ) × StandsAt bs at j × (j + 1 < length bs)
@@ -58,6 +50,14 @@ module _ (bs mid : List Block) (at i after tick : ℕ) (stands : StandsAt bs at 
   pub next_room : 0 < after → (j : ℕ) × StandsAt mid at j × (j + 1 < length mid)
   next_room h = merge_room (around_first (around_freed bs mid at i tick stands freed) (omega (arith, h, is_after)))
 
+  -- the free block ends where the block did
+  pub next_ends : AreRegions bs → (lists : ℕ → List ℕ) → IsUnlisted lists (at + size_of (block_at bs i)) → (j : ℕ) → StandsAt mid at j → IsUnlisted lists (at + size_of (block_at mid j))
+  next_ends sized lists none j other =
+      let a = around bs at i stands in
+      let some = (region_around a sized).0 in
+      let same = block_here (around_freed bs mid at i tick stands freed) (regions_front a sized) (omega (arith, some)) j other in
+      subst (λ (b : Block). IsUnlisted lists (at + size_of b)) (sym same) none
+
   pub next_merged : 0 < after → (new : List Block) → Merges mid at tick new → new ≡ take i bs ++ Free (size_of (block_at bs i) + first_free (drop (i + 1) bs)) tick ∷ past_free (drop (i + 1) bs)
   next_merged h new is = merged (around_first (around_freed bs mid at i tick stands freed) (omega (arith, h, is_after))) tick new is
 
@@ -94,6 +94,14 @@ module _ (bs mid : List Block) (at i before tick : ℕ) (stands : StandsAt bs at
 
   pub previous_room : 0 < before → (j : ℕ) × StandsAt mid (at - before) j × (j + 1 < length mid)
   previous_room h = merge_room (around_last (omega (arith, h, is_before)))
+
+  -- the free block before it ends where it begins
+  pub previous_ends : AreRegions bs → 0 < before → (lists : ℕ → List ℕ) → IsUnlisted lists at → (j : ℕ) → StandsAt mid (at - before) j → IsUnlisted lists (at - before + size_of (block_at mid j))
+  previous_ends sized h lists none j other =
+      let some : 0 < last_free front = omega (arith, h, is_before) in
+      let same = block_here (around_last some) (before_regions front (regions_front (around bs at i stands) sized)) some j other in
+      let ends : at ≡ at - before + last_free front = omega (arith, before_within, is_before) in
+      subst (λ (b : Block). IsUnlisted lists (at - before + size_of b)) (sym same) (subst (IsUnlisted lists) ends none)
 
   as_coalesced : (size_now : ℕ) (new : List Block) → size_now ≡ last_free front + size → new ≡ before_free front ++ Free size_now tick ∷ back → new ≡ coalesced tick (site_at bs i)
   as_coalesced size_now new e is =

@@ -1,91 +1,104 @@
--- Of the places of a class, that of the block which became free last.
-use Rattle.std.proofs.Common.{◌≡◌, ℕ, ◌+◌, ◌<◌, ◌≤◌, eqb, true, List, length, get_or, Option, Some, None, refl, sym, ap, ◌∙◌, subst, arith, below_more}
-use Rattle.std.specs.Prelude.{IsPermutation}
-use Rattle.std.proofs.lemmas.List.{get_or_default}
-use Rattle.std.proofs.lemmas.Bool.{and_parts, eqb-true, false≢true}
+-- The head of the list of a class: the free block that became free last.
+use Rattle.std.proofs.Common.{◌≡◌, ℕ, suc, ◌+◌, ◌<◌, ◌≤◌, inl, inr, Bool, true, false, cond, eqb, not, ◌||◌, List, [], ◌∷◌, length, map, Option, refl, sym, ap, ◌∙◌, subst, arith}
+use Rattle.std.specs.Prelude.{◌==◌, ◌&&◌, slice_get, Contains, IsPermutation, MatchOption}
+use Rattle.std.specs.List.{list_any}
+use Rattle.std.proofs.lemmas.Bool.{and_parts, and_from, eqb-true, eq-eqb}
+use Rattle.std.proofs.lemmas.Bool.Decides.{nat_tests}
+use Rattle.std.proofs.lemmas.List.Sorted.{IsPermutation-sym, Contains-permutation, length_permutation}
 use Rattle.tlsf_class.specs.Classes.{class_of}
 use Rattle.tlsf_heap.specs.Blocks.{Block, Live, Free, size_of, is_free, stamp_of}
-use Rattle.tlsf_heap.specs.Image.{mark_of}
 use Rattle.tlsf_heap.specs.Regions.{StandsAt}
 use Rattle.tlsf_heap.specs.GoodFit.{block_at}
-use Rattle.tlsf_heap.specs.FreePlaces.{free_places, is_free_of, IsLastFreedAt}
-use Rattle.tlsf_heap.specs.declared.free_place.FreePlace.{FreePlace}
+use Rattle.tlsf_heap.specs.FreePlaces.{FreePlace, free_places, of_class, AreFalling, IsFreeList}
 use Rattle.tlsf_heap.proofs.Finding.{not_true}
-use Rattle.tlsf_heap.proofs.Places.{place_at, block_listed, listed_block}
+use Rattle.tlsf_heap.proofs.Places.{place_at, place_listed, listed_place}
+use Rattle.tlsf_heap.proofs.Listing.{is_of, first_of, first_or_later, at_all, from_filter, to_filter, contains_map}
 
--- the place among the first `count` places, and the stamp of its block
-pub record IsLatest (class : ℕ) (blocks : List Block) (places : List FreePlace) (count : ℕ) (last : Option ℕ) (latest : ℕ) : Type 0 where
-  pub seen : (k : ℕ) → k < count → (d : FreePlace) → (get_or places k d).class ≡ class → (i : ℕ) → StandsAt blocks (get_or places k d).at i → mark_of (block_at blocks i) ≤ latest
-  pub none : last ≡ None → (k : ℕ) → k < count → (d : FreePlace) → (get_or places k d).class ≡ class → ⊥
-  pub zero_at : last ≡ None → latest ≡ 0
-  pub some : (at : ℕ) → last ≡ Some at → (i : ℕ) × StandsAt blocks at i × (is_free_of class (block_at blocks i) ≡ true) × (mark_of (block_at blocks i) ≡ latest)
+-- whether it is a free block of this class
+abbrev pub is_free_of : ℕ → Block → Bool
+is_free_of class block = is_free block && class_of (size_of block) == class
 
-module _ {class : ℕ} {blocks : List Block} {places : List FreePlace} {count : ℕ} {last : Option ℕ} {latest : ℕ} (so_far : IsLatest class blocks places count last latest)
-    {place : FreePlace} (within : count < length places) (is : place ≡ get_or places count place) where
-  here : (d : FreePlace) → get_or places count d ≡ place
-  here d = get_or_default places count d place within ∙ sym is
+-- no block is free and of this class
+abbrev pub NoneOf : ℕ → List Block → Type 0
+NoneOf class blocks = (i : ℕ) → i < length blocks → is_free_of class (block_at blocks i) ≡ false
 
-  stands_here : (d : FreePlace) (i : ℕ) → StandsAt blocks (get_or places count d).at i → StandsAt blocks place.at i
-  stands_here d i s = subst (λ (p : FreePlace). StandsAt blocks p.at i) (here d) s
+-- the block at i is free and of this class, and no other such block became free later
+pub record IsLastFreed (class : ℕ) (blocks : List Block) (i : ℕ) : Type 0 where
+  pub within : i < length blocks
+  pub here : is_free_of class (block_at blocks i) ≡ true
+  pub last : (j : ℕ) → j < length blocks → is_free_of class (block_at blocks j) ≡ true → stamp_of (block_at blocks j) ≤ stamp_of (block_at blocks i)
 
-  -- the next place is of a later block
-  pub later_place : IsPermutation places (free_places 0 blocks) → place.class ≡ class → (stamp : ℕ) → ((i : ℕ) → StandsAt blocks place.at i → stamp ≡ mark_of (block_at blocks i))
-      → latest ≤ stamp → IsLatest class blocks places (count + 1) (Some place.at) stamp
-  later_place listed same_class stamp marks above = let block = block_listed places blocks listed place (count, within, sym is) in record {
-    seen = below_more _ _ (λ k l d e j s. let old = so_far.seen k l d e j s in omega (arith, old, above)) (λ d e j s. let mark = marks j (stands_here d j s) in omega (arith, mark));
-    none = λ e. cc;
-    zero_at = λ e. cc;
-    some = λ at e. let same : place.at ≡ at = cc in
-        let P : ℕ → Type 0 = λ at. (i : ℕ) × StandsAt blocks at i × (is_free_of class (block_at blocks i) ≡ true) × (mark_of (block_at blocks i) ≡ stamp) in
-        subst P same (block.0, block.1, ap (λ class. is_free_of class (block_at blocks block.0)) (sym same_class) ∙ block.2, sym (marks block.0 block.1));
-  }
-
-  -- the next place is of another class
-  pub other_place : (place.class ≡ class → ⊥) → IsLatest class blocks places (count + 1) last latest
-  other_place other = record {
-    seen = below_more _ _ so_far.seen (λ d e j s. absurd (other (ap (λ (p : FreePlace). p.class) (sym (here d)) ∙ e)));
-    none = λ e. below_more _ _ (so_far.none e) (λ d f. other (ap (λ (p : FreePlace). p.class) (sym (here d)) ∙ f));
-    zero_at = so_far.zero_at;
-    some = so_far.some;
-  }
-
-  -- the next place is of an earlier block
-  pub earlier_place : (stamp : ℕ) → ((i : ℕ) → StandsAt blocks place.at i → stamp ≡ mark_of (block_at blocks i)) → stamp < latest → IsLatest class blocks places (count + 1) last latest
-  earlier_place stamp marks below = record {
-    seen = below_more _ _ so_far.seen (λ d e j s. let mark = marks j (stands_here d j s) in omega (arith, mark));
-    none = λ e. absurd (omega (arith, so_far.zero_at e));
-    zero_at = so_far.zero_at;
-    some = so_far.some;
-  }
+-- the place of the free block of a class that became free last, if there is one
+abbrev pub IsLastFreedAt : ℕ → List Block → Option ℕ → Type 0
+IsLastFreedAt class blocks found = MatchOption found (NoneOf class blocks) (λ at. (i : ℕ) × StandsAt blocks at i × IsLastFreed class blocks i)
 
 pub free_and_of : (class : ℕ) (b : Block) → is_free_of class b ≡ true → (is_free b ≡ true) × (class_of (size_of b) ≡ class)
 free_and_of class b h = let both = and_parts (is_free b) (eqb (class_of (size_of b)) class) h in (both.0, eqb-true (class_of (size_of b)) class both.1)
 
-mark_free : (b : Block) → is_free b ≡ true → mark_of b ≡ stamp_of b
-mark_free (Live size serial bytes) h = absurd (false≢true h)
-mark_free (Free size stamp) h = refl
+-- whether a list has an element
+abbrev pub is_some_list : {X : Type 0} → List X → Bool
+is_some_list xs = not (length xs == 0)
 
--- over all places it is the answer
-module _ {class : ℕ} {blocks : List Block} {places : List FreePlace} {latest : ℕ} (listed : IsPermutation places (free_places 0 blocks)) where
-  pub latest_is : (last : Option ℕ) → IsLatest class blocks places (length places) last latest → IsLastFreedAt class blocks last
-  latest_is None all = λ i h. not_true _ (λ free.
-      let own = free_and_of class (block_at blocks i) free in
-      let at = listed_block places blocks listed i h own.0 in
-      all.none refl at.0 at.1 (place_at 0 blocks i) (ap (λ (p : FreePlace). p.class) at.2 ∙ own.1))
-  latest_is (Some at) all =
-      let found = all.some at refl in (
-        found.0,
-        found.1,
-        record {
-          within = found.1.within;
-          here = found.2;
-          last = λ j h free.
-              let own = free_and_of class (block_at blocks j) free in
-              let at = listed_block places blocks listed j h own.0 in
-              let stands : StandsAt blocks (get_or places at.0 (place_at 0 blocks j)).at j = record { within = h; place = let same = ap (λ (p : FreePlace). p.at) at.2 in omega (arith, same) } in
-              let below = all.seen at.0 at.1 (place_at 0 blocks j) (ap (λ (p : FreePlace). p.class) at.2 ∙ own.1) j stands in
-              let mine = mark_free (block_at blocks j) own.0 in
-              let theirs = mark_free (block_at blocks found.0) (free_and_of class (block_at blocks found.0) found.2).0 in
-              omega (arith, below, mine, theirs, found.3);
-        },
-      )
+some_more : (n : ℕ) → not (suc n == 0) ≡ true
+some_more n = let some : (suc n == 0) ≡ false = grind (arith, nat_tests) in ap not some
+
+-- a class has a free block exactly where one of the blocks is
+any_free : (class at : ℕ) (blocks : List Block) → is_some_list (of_class class (free_places at blocks)) ≡ list_any (is_free_of class) blocks
+any_free class at [] = refl
+any_free class at (Live size serial bytes ∷ blocks) = any_free class (at + size) blocks
+any_free class at (Free size stamp ∷ blocks) = by_class (eqb (class_of size) class) (any_free class (at + size) blocks)
+  where
+    e : FreePlace
+    e = record { class = class_of size; at = at; stamp = stamp }
+
+    rest : List FreePlace
+    rest = of_class class (free_places (at + size) blocks)
+
+    by_class : (b : Bool) → is_some_list rest ≡ list_any (is_free_of class) blocks → is_some_list (cond b (e ∷ rest) rest) ≡ (b || list_any (is_free_of class) blocks)
+    by_class true h = some_more (length rest)
+    by_class false h = h
+
+module _ (class : ℕ) (blocks : List Block) where
+  -- the list of a class isn't empty exactly where one of the blocks is free and of it
+  pub some_listed : (places : List ℕ) → IsFreeList class (free_places 0 blocks) places → is_some_list places ≡ list_any (is_free_of class) blocks
+  some_listed places list =
+      let long : length places ≡ length (of_class class (free_places 0 blocks)) =
+      ap length list.are ∙ length_places list.order ∙ sym (length_permutation list.order (of_class class (free_places 0 blocks)) list.same) in
+      ap (λ (n : ℕ). not (n == 0)) long ∙ any_free class 0 blocks
+    where
+      length_places : (xs : List FreePlace) → length (map (λ (p : FreePlace). p.at) xs) ≡ length xs
+      length_places [] = refl
+      length_places (x ∷ xs) = ap suc (length_places xs)
+
+  -- each free block of the class is in its list
+  listed_at : (order : List FreePlace) → IsPermutation order (of_class class (free_places 0 blocks)) → (j : ℕ) → j < length blocks → is_free_of class (block_at blocks j) ≡ true
+      → Contains order (place_at 0 blocks j)
+  listed_at order same j h free =
+      let own = free_and_of class (block_at blocks j) free in
+      Contains-permutation (of_class class (free_places 0 blocks)) order (place_at 0 blocks j) (IsPermutation-sym order (of_class class (free_places 0 blocks)) same)
+      (to_filter (is_of class) (free_places 0 blocks) (place_at 0 blocks j) (place_listed 0 blocks j h own.0) (eq-eqb (class_of (size_of (block_at blocks j))) class own.1))
+
+  -- the head of the list is the block that became free last
+  pub head_is_last : (places : List ℕ) → IsFreeList class (free_places 0 blocks) places → IsLastFreedAt class blocks (slice_get places 0)
+  head_is_last places list = subst (λ (l : List ℕ). IsLastFreedAt class blocks (slice_get l 0)) (sym list.are) (head list.order list.same list.falling)
+    where
+      head : (order : List FreePlace) → IsPermutation order (of_class class (free_places 0 blocks)) → AreFalling (map (λ (p : FreePlace). p.stamp) order)
+          → IsLastFreedAt class blocks (slice_get (map (λ (p : FreePlace). p.at) order) 0)
+      head [] same falling = λ i h. not_true _ (λ free. let none = listed_at [] same i h free in absurd (omega (arith, none.1)))
+      head (e ∷ order) same falling =
+          let there = from_filter (is_of class) (free_places 0 blocks) e (Contains-permutation (e ∷ order) (of_class class (free_places 0 blocks)) e same (first_of e order)) in
+          let found = listed_place 0 blocks e there.0 in
+          let l = found.1 in (
+            found.0,
+            record { within = l.within; place = omega (arith, l.place_is) },
+            record {
+              within = l.within;
+              here = and_from (is_free (block_at blocks found.0)) _ l.free (eq-eqb _ class (l.classed ∙ eqb-true e.class class there.1));
+              last = λ j h free.
+                  let stamp : FreePlace → ℕ = λ p. p.stamp in
+                  elim (first_or_later e order (place_at 0 blocks j) (listed_at (e ∷ order) same j h free)) [
+                    | inl own ↦ let equal = ap stamp own in omega (arith, equal, l.stamped)
+                    | inr rest ↦ let below = at_all (λ s. s < e.stamp) (map stamp order) falling.0 (stamp_of (block_at blocks j)) (contains_map stamp order (place_at 0 blocks j) rest) in omega (arith, below, l.stamped)
+                  ];
+            },
+          )

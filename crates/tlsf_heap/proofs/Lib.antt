@@ -1,7 +1,8 @@
 pub mod Finding
 pub mod Sites
 pub mod Places
-pub mod FreeClasses
+pub mod Permuting
+pub mod Listing
 pub mod LastFreed
 pub mod Choosing
 pub mod Lawfulness
@@ -15,10 +16,11 @@ pub mod Showing
 pub mod Standing
 pub mod Reading
 pub mod Written
+pub mod Linking
+pub mod Relisting
 pub mod Edited
 pub mod Splitting
 pub mod Merging
-pub mod Permuting
 pub mod Sizes
 pub mod Carving
 pub mod Joining

@@ -11,7 +11,8 @@ ends_within [] i h = absurd (omega (arith, h))
 ends_within (b ∷ bs) zero h = omega arith
 ends_within (b ∷ bs) (suc i) h = let e = ends_within bs i (omega arith) in omega arith
 
-ends_before : (bs : List Block) (i j : ℕ) → i < j → j < length bs → words_in (take i bs) + size_of (block_at bs i) ≤ words_in (take j bs)
+-- and before each later one begins
+pub ends_before : (bs : List Block) (i j : ℕ) → i < j → j < length bs → words_in (take i bs) + size_of (block_at bs i) ≤ words_in (take j bs)
 ends_before [] i j l h = absurd (omega (arith, h))
 ends_before (b ∷ bs) i zero l h = absurd (omega (arith, l))
 ends_before (b ∷ bs) zero (suc j) l h = omega arith

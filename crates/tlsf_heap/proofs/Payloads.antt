@@ -91,7 +91,7 @@ held_length words at (Live size serial bytes) room small live h = ap low_half h.
 held_length words at (Free size stamp) room small live h = absurd (false≢true (sym live))
 
 -- they are within the block
-held_within : (b : Block) → HasRoom b → 24 + length (bytes_of b) ≤ 8 * size_of b
+pub held_within : (b : Block) → HasRoom b → 24 + length (bytes_of b) ≤ 8 * size_of b
 held_within (Live size serial bytes) room = omega (arith, room.1)
 held_within (Free size stamp) room = omega arith
 
@@ -113,11 +113,11 @@ module _ {m : Memory} {bs : List Block} (shows : Shows m bs) {at i : ℕ} (stand
 
 -- ---- other payload bytes
 
-size_of-with_bytes : (b : Block) (bytes : List ℕ) → size_of (with_bytes b bytes) ≡ size_of b
+pub size_of-with_bytes : (b : Block) (bytes : List ℕ) → size_of (with_bytes b bytes) ≡ size_of b
 size_of-with_bytes (Live size serial old) bytes = refl
 size_of-with_bytes (Free size stamp) bytes = refl
 
-is_free-with_bytes : (b : Block) (bytes : List ℕ) → is_free (with_bytes b bytes) ≡ is_free b
+pub is_free-with_bytes : (b : Block) (bytes : List ℕ) → is_free (with_bytes b bytes) ≡ is_free b
 is_free-with_bytes (Live size serial old) bytes = refl
 is_free-with_bytes (Free size stamp) bytes = refl
 

@@ -5,11 +5,11 @@ use Rattle.std.proofs.lemmas.Bool.{eqb-true}
 use Rattle.std.proofs.lemmas.Bool.Decides.{nat_tests}
 use Rattle.std.proofs.lemmas.List.Recursion.{is_sum_by}
 use Rattle.std.proofs.lemmas.List.Sorted.{IsPermutation-refl, IsPermutation-sym, IsPermutation-cons, IsPermutation-trans, IsPermutation-middle, sum_by-IsPermutation}
-use Rattle.tlsf_heap.specs.declared.free_place.FreePlace.{FreePlace}
+use Rattle.tlsf_heap.specs.FreePlaces.{FreePlace}
 use Rattle.tlsf_heap.proofs.Finding.{and_left, and_right}
 
 abbrev same : FreePlace → FreePlace → Bool
-same a b = eqb a.class b.class && eqb a.at b.at
+same a b = eqb a.class b.class && (eqb a.at b.at && eqb a.stamp b.stamp)
 
 -- how often a place stands in a list
 abbrev count : FreePlace → List FreePlace → ℕ
@@ -18,8 +18,10 @@ count e (x ∷ xs) = cond (same e x) 1 0 + count e xs
 
 same_true : (a b : FreePlace) → same a b ≡ true → a ≡ b
 same_true a b h =
-    ap (λ (n : ℕ). record { class = n; at = a.at }) (eqb-true a.class b.class (and_left _ _ h))
-    ∙ ap (λ (n : ℕ). record { class = b.class; at = n }) (eqb-true a.at b.at (and_right (eqb a.class b.class) _ h))
+    let rest = and_right (eqb a.class b.class) _ h in
+    ap (λ (n : ℕ). record { class = n; at = a.at; stamp = a.stamp }) (eqb-true a.class b.class (and_left _ _ h))
+    ∙ ap (λ (n : ℕ). record { class = b.class; at = n; stamp = a.stamp }) (eqb-true a.at b.at (and_left _ _ rest))
+    ∙ ap (λ (n : ℕ). record { class = b.class; at = b.at; stamp = n }) (eqb-true a.stamp b.stamp (and_right (eqb a.at b.at) _ rest))
 
 same_refl : (e : FreePlace) → same e e ≡ true
 same_refl e = grind (arith, nat_tests)
@@ -38,16 +40,16 @@ count-first : (e : FreePlace) (xs : List FreePlace) → count e (e ∷ xs) ≡ 1
 count-first e xs = ap (λ (b : Bool). cond b 1 0 + count e xs) (same_refl e)
 
 -- a place in a list, and what stands before and behind it
-record Found (e : FreePlace) (xs : List FreePlace) : Type 0 where
-  front : List FreePlace
-  back : List FreePlace
-  is : xs ≡ front ++ e ∷ back
+pub record Parted (e : FreePlace) (xs : List FreePlace) : Type 0 where
+  pub front : List FreePlace
+  pub back : List FreePlace
+  pub is : xs ≡ front ++ e ∷ back
 
-found : (e : FreePlace) (xs : List FreePlace) → 0 < count e xs → Found e xs
+found : (e : FreePlace) (xs : List FreePlace) → 0 < count e xs → Parted e xs
 found e [] h = absurd (omega (arith, h))
 found e (x ∷ xs) h = at (same e x) refl (found e xs) h
   where
-    at : (b : Bool) → same e x ≡ b → (0 < count e xs → Found e xs) → 0 < cond b 1 0 + count e xs → Found e (x ∷ xs)
+    at : (b : Bool) → same e x ≡ b → (0 < count e xs → Parted e xs) → 0 < cond b 1 0 + count e xs → Parted e (x ∷ xs)
     at true is behind some = record { front = []; back = xs; is = ap (λ (y : FreePlace). y ∷ xs) (sym (same_true e x is)) }
     at false is behind some =
         let rest = behind (omega (arith, some)) in
@@ -64,12 +66,12 @@ permuted (x ∷ xs) ys h =
     IsPermutation-trans (x ∷ xs) (x ∷ (at.front ++ at.back)) ys (IsPermutation-cons x xs (at.front ++ at.back) rest)
     (subst (IsPermutation (x ∷ (at.front ++ at.back))) (sym at.is) (IsPermutation-sym (at.front ++ x ∷ at.back) (x ∷ (at.front ++ at.back)) (IsPermutation-middle at.front x at.back)))
 
--- a place is taken out
-pub taken : (e : FreePlace) (places left front back : List FreePlace) → IsPermutation places (front ++ e ∷ back) → IsPermutation places (e ∷ left) → IsPermutation left (front ++ back)
-taken e places left front back listed is =
-    permuted left (front ++ back) (λ x. omega (arith, count-permuted x _ _ listed, count-permuted x _ _ is, count-append x front (e ∷ back), count-append x front back))
+-- a place that stands in a list stands in the list in another order
+pub parted : (e : FreePlace) (xs front back : List FreePlace) → IsPermutation xs (front ++ e ∷ back) → Parted e xs
+parted e xs front back p = found e xs (omega (arith, count-permuted e _ _ p, count-append e front (e ∷ back), count-first e back))
 
--- a place comes in
-pub given : (e : FreePlace) (places more front back : List FreePlace) → IsPermutation places (front ++ back) → IsPermutation (e ∷ places) more → IsPermutation more (front ++ e ∷ back)
-given e places more front back listed is =
-    permuted more (front ++ e ∷ back) (λ x. omega (arith, count-permuted x _ _ listed, count-permuted x _ _ is, count-append x front (e ∷ back), count-append x front back))
+-- and is taken out of both
+pub taken_out : (e : FreePlace) (xs ys front back : List FreePlace) → IsPermutation (xs ++ e ∷ ys) (front ++ e ∷ back) → IsPermutation (xs ++ ys) (front ++ back)
+taken_out e xs ys front back p =
+    permuted (xs ++ ys) (front ++ back) (λ x.
+    omega (arith, count-permuted x _ _ p, count-append x xs (e ∷ ys), count-append x xs ys, count-append x front (e ∷ back), count-append x front back))

@@ -1,15 +1,13 @@
--- The places of the free blocks of a list, and their classes.
-use Rattle.std.proofs.Common.{◌≡◌, ℕ, zero, suc, ◌+◌, ◌<◌, eqb, ◌||◌, Bool, true, List, [], ◌∷◌, ◌++◌, length, get_or, take, refl, ap, ◌∙◌, subst, arith}
-use Rattle.std.specs.Prelude.{Contains, IsPermutation}
-use Rattle.std.specs.List.{list_any}
-use Rattle.std.proofs.lemmas.Bool.{false≢true, eq-eqb}
-use Rattle.std.proofs.lemmas.List.Sorted.{IsPermutation-sym, Contains-permutation, list_any-IsPermutation}
+-- The free blocks of a list by their places: where they lie, and their classes and stamps.
+use Rattle.std.proofs.Common.{◌≡◌, ℕ, zero, suc, ◌+◌, ◌<◌, ◌≤◌, true, List, [], ◌∷◌, ◌++◌, length, get_or, take, refl, ap, ◌∙◌, subst, arith}
+use Rattle.std.specs.Prelude.{Contains}
+use Rattle.std.specs.List.{AllByRecursion}
+use Rattle.std.proofs.lemmas.Bool.{false≢true}
 use Rattle.tlsf_class.specs.Classes.{class_of}
-use Rattle.tlsf_heap.specs.Blocks.{Block, Live, Free, size_of, words_in, is_free}
-use Rattle.tlsf_heap.specs.Regions.{StandsAt}
+use Rattle.tlsf_heap.specs.Blocks.{Block, Live, Free, size_of, words_in, is_free, stamp_of, stamps}
+use Rattle.tlsf_heap.specs.Lawful.{AreRegions}
 use Rattle.tlsf_heap.specs.GoodFit.{block_at}
-use Rattle.tlsf_heap.specs.FreePlaces.{free_places, has_class, is_free_of}
-use Rattle.tlsf_heap.specs.declared.free_place.FreePlace.{FreePlace}
+use Rattle.tlsf_heap.specs.FreePlaces.{FreePlace, free_places}
 
 -- the same places, counted from another place
 from_place : (a b : ℕ) (blocks : List Block) → a ≡ b → free_places a blocks ≡ free_places b blocks
@@ -20,74 +18,92 @@ free_places-append at [] ys = from_place at (at + 0) ys (omega arith)
 free_places-append at (Live size serial bytes ∷ xs) ys =
     free_places-append (at + size) xs ys ∙ ap (λ rest. free_places (at + size) xs ++ rest) (from_place (at + size + words_in xs) (at + (size + words_in xs)) ys (omega arith))
 free_places-append at (Free size stamp ∷ xs) ys =
-    ap (λ rest. record { class = class_of size; at = at } ∷ rest)
+    ap (λ rest. record { class = class_of size; at = at; stamp = stamp } ∷ rest)
     (free_places-append (at + size) xs ys ∙ ap (λ rest. free_places (at + size) xs ++ rest) (from_place (at + size + words_in xs) (at + (size + words_in xs)) ys (omega arith)))
 
--- where a block begins, and its class
+-- the free block at an index
 abbrev pub place_at : ℕ → List Block → ℕ → FreePlace
-place_at at blocks i = record { class = class_of (size_of (block_at blocks i)); at = at + words_in (take i blocks) }
+place_at at blocks i = record { class = class_of (size_of (block_at blocks i)); at = at + words_in (take i blocks); stamp = stamp_of (block_at blocks i) }
 
-later : {X : Type 0} (y : X) (xs : List X) (x : X) → Contains xs x → Contains (y ∷ xs) x
+-- an element of a list stands in a longer one
+pub later : {X : Type 0} (y : X) (xs : List X) (x : X) → Contains xs x → Contains (y ∷ xs) x
 later y xs x c = (suc c.0, omega (arith, c.1), c.2)
 
 moved : (p q : FreePlace) (xs : List FreePlace) → p ≡ q → Contains xs p → Contains xs q
 moved p q xs e c = subst (λ place. Contains xs place) e c
 
-same_place : (class a b : ℕ) → a ≡ b → (let p : FreePlace = record { class = class; at = a } in p) ≡ record { class = class; at = b }
-same_place class a b e = ap (λ at. record { class = class; at = at }) e
+same_place : (class a b stamp : ℕ) → a ≡ b → (let p : FreePlace = record { class = class; at = a; stamp = stamp } in p) ≡ record { class = class; at = b; stamp = stamp }
+same_place class a b stamp e = ap (λ at. record { class = class; at = at; stamp = stamp }) e
 
--- each free block's place is listed
+-- each free block is listed
 pub place_listed : (at : ℕ) (blocks : List Block) (i : ℕ) → i < length blocks → is_free (block_at blocks i) ≡ true → Contains (free_places at blocks) (place_at at blocks i)
 place_listed at [] i h free = absurd (omega (arith, h))
 place_listed at (Live size serial bytes ∷ blocks) zero h free = absurd (false≢true free)
-place_listed at (Free size stamp ∷ blocks) zero h free = (0, omega arith, same_place (class_of size) at (at + 0) (omega arith))
+place_listed at (Free size stamp ∷ blocks) zero h free = (0, omega arith, same_place (class_of size) at (at + 0) stamp (omega arith))
 place_listed at (Live size serial bytes ∷ blocks) (suc i) h free =
     moved (place_at (at + size) blocks i) (place_at at (Live size serial bytes ∷ blocks) (suc i)) (free_places (at + size) blocks)
-    (same_place (class_of (size_of (block_at blocks i))) (at + size + words_in (take i blocks)) (at + (size + words_in (take i blocks))) (omega arith))
+    (same_place (class_of (size_of (block_at blocks i))) (at + size + words_in (take i blocks)) (at + (size + words_in (take i blocks))) (stamp_of (block_at blocks i)) (omega arith))
     (place_listed (at + size) blocks i (omega arith) free)
 place_listed at (Free size stamp ∷ blocks) (suc i) h free =
-    later (record { class = class_of size; at = at }) (free_places (at + size) blocks) (place_at at (Free size stamp ∷ blocks) (suc i))
+    later (record { class = class_of size; at = at; stamp = stamp }) (free_places (at + size) blocks) (place_at at (Free size stamp ∷ blocks) (suc i))
     (moved (place_at (at + size) blocks i) (place_at at (Free size stamp ∷ blocks) (suc i)) (free_places (at + size) blocks)
-    (same_place (class_of (size_of (block_at blocks i))) (at + size + words_in (take i blocks)) (at + (size + words_in (take i blocks))) (omega arith))
+    (same_place (class_of (size_of (block_at blocks i))) (at + size + words_in (take i blocks)) (at + (size + words_in (take i blocks))) (stamp_of (block_at blocks i)) (omega arith))
     (place_listed (at + size) blocks i (omega arith) free))
 
--- the block i is free and of this place's class, and begins there
+-- the block i is the free one that begins at a place, of this class and stamp
 pub record IsListed (at : ℕ) (blocks : List Block) (place : FreePlace) (i : ℕ) : Type 0 where
   pub within : i < length blocks
   pub place_is : at + words_in (take i blocks) ≡ place.at
-  pub here : is_free_of place.class (block_at blocks i) ≡ true
+  pub free : is_free (block_at blocks i) ≡ true
+  pub classed : class_of (size_of (block_at blocks i)) ≡ place.class
+  pub stamped : stamp_of (block_at blocks i) ≡ place.stamp
 
 one_later : (at : ℕ) (block : Block) (blocks : List Block) (place : FreePlace) → (i : ℕ) × IsListed (at + size_of block) blocks place i → (i : ℕ) × IsListed at (block ∷ blocks) place i
-one_later at block blocks place l = let r = l.1 in (suc l.0, record { within = omega (arith, r.within); place_is = omega (arith, r.place_is); here = r.here })
+one_later at block blocks place l =
+    let r = l.1 in
+    (suc l.0, record { within = omega (arith, r.within); place_is = omega (arith, r.place_is); free = r.free; classed = r.classed; stamped = r.stamped })
 
--- each listed place is that of a free block of its class
-pub listed_place : (at : ℕ) (blocks : List Block) (place : FreePlace) (k : ℕ) → k < length (free_places at blocks) → get_or (free_places at blocks) k place ≡ place → (i : ℕ) × IsListed at blocks place i
-listed_place at [] place k h e = absurd (omega (arith, h))
-listed_place at (Live size serial bytes ∷ blocks) place k h e = one_later at (Live size serial bytes) blocks place (listed_place (at + size) blocks place k h e)
-listed_place at (Free size stamp ∷ blocks) place zero h e =
-    (0, record { within = omega arith; place_is = let same = ap (λ (p : FreePlace). p.at) e in omega (arith, same); here = eq-eqb (class_of size) place.class (ap (λ (p : FreePlace). p.class) e) })
-listed_place at (Free size stamp ∷ blocks) place (suc k) h e = one_later at (Free size stamp) blocks place (listed_place (at + size) blocks place k (omega arith) e)
+-- what is listed is a free block
+pub listed_place : (at : ℕ) (blocks : List Block) (place : FreePlace) → Contains (free_places at blocks) place → (i : ℕ) × IsListed at blocks place i
+listed_place at blocks place c = found at blocks c.0 c.1 c.2
+  where
+    found : (at : ℕ) (blocks : List Block) (k : ℕ) → k < length (free_places at blocks) → get_or (free_places at blocks) k place ≡ place → (i : ℕ) × IsListed at blocks place i
+    found at [] k h e = absurd (omega (arith, h))
+    found at (Live size serial bytes ∷ blocks) k h e = one_later at (Live size serial bytes) blocks place (found (at + size) blocks k h e)
+    found at (Free size stamp ∷ blocks) zero h e = (
+      0,
+      record {
+        within = omega arith;
+        place_is = let same = ap (λ (p : FreePlace). p.at) e in omega (arith, same);
+        free = refl;
+        classed = ap (λ (p : FreePlace). p.class) e;
+        stamped = ap (λ (p : FreePlace). p.stamp) e;
+      },
+    )
+    found at (Free size stamp ∷ blocks) (suc k) h e = one_later at (Free size stamp) blocks place (found (at + size) blocks k (omega arith) e)
 
--- the classes of the places are those of the free blocks
-pub has_class-free_places : (class at : ℕ) (blocks : List Block) → has_class (free_places at blocks) class ≡ list_any (is_free_of class) blocks
-has_class-free_places class at [] = refl
-has_class-free_places class at (Live size serial bytes ∷ blocks) = has_class-free_places class (at + size) blocks
-has_class-free_places class at (Free size stamp ∷ blocks) = ap (λ (b : Bool). eqb (class_of size) class || b) (has_class-free_places class (at + size) blocks)
+-- a free block of these lies in their words
+pub places_within : (at : ℕ) (blocks : List Block) (place : FreePlace) → AreRegions blocks → Contains (free_places at blocks) place → (at ≤ place.at) × (place.at < at + words_in blocks)
+places_within at blocks place sized c =
+    let l = (listed_place at blocks place c).1 in
+    let inside = index_within blocks (listed_place at blocks place c).0 sized l.within in
+    (omega (arith, l.place_is), omega (arith, l.place_is, inside))
+  where
+    index_within : (blocks : List Block) (i : ℕ) → AreRegions blocks → i < length blocks → words_in (take i blocks) < words_in blocks
+    index_within [] i sized h = absurd (omega (arith, h))
+    index_within (b ∷ blocks) zero sized h = omega (arith, sized.0.0)
+    index_within (b ∷ blocks) (suc i) sized h = let e = index_within blocks i sized.1 (omega arith) in omega (arith, e)
 
--- ---- places in any order
-
-module _ (places : List FreePlace) (blocks : List Block) (listed : IsPermutation places (free_places 0 blocks)) where
-  pub has_class-listed : (class : ℕ) → has_class places class ≡ list_any (is_free_of class) blocks
-  has_class-listed class = list_any-IsPermutation (λ (place : FreePlace). eqb place.class class) places (free_places 0 blocks) listed ∙ has_class-free_places class 0 blocks
-
-  -- a place in the list is that of a free block of its class
-  pub block_listed : (place : FreePlace) → Contains places place → (i : ℕ) × StandsAt blocks place.at i × (is_free_of place.class (block_at blocks i) ≡ true)
-  block_listed place c =
-      let d = Contains-permutation places (free_places 0 blocks) place listed c in
-      let found = listed_place 0 blocks place d.0 d.1 d.2 in
-      let r = found.1 in
-      (found.0, record { within = r.within; place = omega (arith, r.place_is) }, r.here)
-
-  -- and each free block has its place in the list
-  pub listed_block : (i : ℕ) → i < length blocks → is_free (block_at blocks i) ≡ true → Contains places (place_at 0 blocks i)
-  listed_block i h free = Contains-permutation (free_places 0 blocks) places (place_at 0 blocks i) (IsPermutation-sym places (free_places 0 blocks) listed) (place_listed 0 blocks i h free)
+-- and its stamp is one of theirs
+pub stamps_below : (tick at : ℕ) (blocks : List Block) (place : FreePlace) → AllByRecursion (λ s. s < tick) (stamps blocks) → Contains (free_places at blocks) place → place.stamp < tick
+stamps_below tick at blocks place past c =
+    let l = (listed_place at blocks place c).1 in
+    let below = stamp_below blocks (listed_place at blocks place c).0 past l.within l.free in
+    omega (arith, l.stamped, below)
+  where
+    stamp_below : (blocks : List Block) (i : ℕ) → AllByRecursion (λ s. s < tick) (stamps blocks) → i < length blocks → is_free (block_at blocks i) ≡ true → stamp_of (block_at blocks i) < tick
+    stamp_below [] i past h free = absurd (omega (arith, h))
+    stamp_below (Live m s xs ∷ blocks) zero past h free = absurd (false≢true free)
+    stamp_below (Free m s ∷ blocks) zero past h free = past.0
+    stamp_below (Live m s xs ∷ blocks) (suc i) past h free = stamp_below blocks i past (omega arith) free
+    stamp_below (Free m s ∷ blocks) (suc i) past h free = stamp_below blocks i past.1 (omega arith) free

@@ -10,6 +10,8 @@ use Rattle.tlsf_heap.specs.Blocks.{Block, Live, Free, size_of, words_in, is_free
 use Rattle.tlsf_heap.specs.GoodFit.{block_at, site_at}
 use Rattle.tlsf_heap.specs.Calls.{first_free, last_free, has_serial, is_named}
 use Rattle.tlsf_heap.specs.Image.{no_place, mark_of, StartsOnce, Shows, blocks_of}
+use Rattle.tlsf_words.specs.Lists.{ListHeads}
+use Rattle.tlsf_heap.specs.Listed.{lists_of, HoldsLists}
 use Rattle.tlsf_heap.specs.Named.{NoneNamed, IsNameTest}
 use Rattle.tlsf_heap.specs.Regions.{RegionState, StandsAt, IsPlace}
 use Rattle.tlsf_heap.proofs.Edits.{first_is_last}
@@ -18,14 +20,15 @@ use Rattle.tlsf_heap.proofs.Showing.{word_at, start_at, back_behind, shown_here,
 use Rattle.tlsf_heap.proofs.Standing.{words_up_to, stands_next, back_next}
 
 -- the words of a region show its blocks
-pub shows_state : {m : Memory} {r : RegionState} → Shows m (blocks_of m.words) → record { words = length m.words; blocks = blocks_of m.words } ≡ r → Shows m r.blocks
-shows_state {m = m} shows same = subst (Shows m) (ap (λ (s : RegionState). s.blocks) same) shows
+pub shows_state : {m : Memory} {l : ListHeads} {r : RegionState} → HoldsLists m l
+    → record { words = length m.words; blocks = blocks_of m.words; lists = lists_of l.heads m.words } ≡ r → Shows m r.blocks
+shows_state {m = m} holds same = subst (Shows m) (ap (λ (s : RegionState). s.blocks) same) holds.shows
 
--- words that were only read show what they showed
-pub shows_read : {m v : Memory} → v.words ≡ m.words → v.starts ≡ m.starts → Shows m (blocks_of m.words) → Shows v (blocks_of v.words)
-shows_read {m = m} {v = v} words starts h =
-    subst (λ (w : List ℕ). Shows (record { words = w; starts = v.starts }) (blocks_of w)) (sym words)
-    (subst (λ (s : List Bool). Shows (record { words = m.words; starts = s }) (blocks_of m.words)) (sym starts) h)
+-- words that were only read hold what they held
+pub holds_read : {m v : Memory} {l : ListHeads} → v.words ≡ m.words → v.starts ≡ m.starts → HoldsLists m l → HoldsLists v l
+holds_read {m = m} {v = v} {l = l} words starts h =
+    subst (λ (w : List ℕ). HoldsLists (record { words = w; starts = v.starts }) l) (sym words)
+    (subst (λ (s : List Bool). HoldsLists (record { words = m.words; starts = s }) l) (sym starts) h)
 
 -- what the words say of a block at a place
 pub record Says (m : Memory) (at back : ℕ) (b : Block) : Type 0 where

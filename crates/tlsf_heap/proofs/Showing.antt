@@ -31,7 +31,7 @@ back_behind at back [] = back
 back_behind at back (b ∷ bs) = back_behind (at + size_of b) at bs
 
 -- a block has four words
-least : (b : Block) → HasRoom b → 4 ≤ size_of b
+pub least : (b : Block) → HasRoom b → 4 ≤ size_of b
 least (Live size serial bytes) room = room.0
 least (Free size stamp) room = room
 
@@ -157,7 +157,8 @@ same_bytes xs ys from (suc len) same =
     ap (λ (word : ℕ). word / 256 ^ (from % 8) % 256 ∷ map (byte_in ys) (range_with_len (from + 1) len)) (same from (omega arith) (omega arith))
     ∙ ap (λ (l : List ℕ). byte_in xs from ∷ l) (same_bytes xs ys (from + 1) len (λ k l g. same k (omega arith) (omega arith)))
 
-same_payload : (xs ys : List ℕ) (at : ℕ) (b : Block) → HasRoom b → ((k : ℕ) → at < k → k < at + size_of b → get_or ys k 0 ≡ get_or xs k 0) → HoldsPayload xs at b → HoldsPayload ys at b
+-- and the same payload
+pub same_payload : (xs ys : List ℕ) (at : ℕ) (b : Block) → HasRoom b → ((k : ℕ) → at < k → k < at + size_of b → get_or ys k 0 ≡ get_or xs k 0) → HoldsPayload xs at b → HoldsPayload ys at b
 unfolding bytes_in
 same_payload xs ys at (Live size serial bytes) room same h = (
   same (at + 2) (omega arith) (omega (arith, room.0)) ∙ h.0,

@@ -1,19 +1,22 @@
 -- A block where it stands, and the words, free neighbours and places around it.
-use Rattle.std.proofs.Common.{◌≡◌, ℕ, zero, suc, ◌+◌, ◌*◌, ◌<◌, ◌≤◌, true, List, [], ◌∷◌, ◌++◌, length, get_or, take, drop, refl, sym, ap, ◌∙◌, subst, arith, add-one, append_assoc, length-take-le, length-append}
+use Rattle.std.proofs.Common.{inl, inr, ◌≡◌, ℕ, zero, suc, ◌+◌, ◌<◌, ◌≤◌, true, List, [], ◌∷◌, ◌++◌, length, get_or, take, drop, refl, sym, ap, ◌∙◌, subst, arith, add-one, append_assoc, length-take-le, length-append}
+use Rattle.std.specs.Prelude.{Contains}
+use Rattle.std.specs.List.{AllByRecursion}
+use Rattle.std.proofs.lemmas.List.Elements.{Contains-append_cases}
 use Rattle.std.proofs.lemmas.List.{take_at, drop_at, get_or_at}
 use Rattle.std.proofs.lemmas.Bool.{false≢true}
 use Rattle.tlsf_class.specs.Classes.{class_of}
-use Rattle.tlsf_heap.specs.Blocks.{Block, Live, Free, size_of, words_in, is_free, stamp_of}
+use Rattle.tlsf_heap.specs.Blocks.{Block, Live, Free, size_of, words_in, is_free, stamp_of, stamps}
 use Rattle.tlsf_heap.specs.Lawful.{IsRegion, AreRegions}
 use Rattle.tlsf_heap.specs.GoodFit.{block_at}
 use Rattle.tlsf_heap.specs.Regions.{StandsAt}
-use Rattle.tlsf_heap.specs.FreePlaces.{free_places}
-use Rattle.tlsf_heap.specs.declared.free_place.FreePlace.{FreePlace}
+use Rattle.tlsf_heap.specs.FreePlaces.{FreePlace, free_places}
 use Rattle.tlsf_heap.specs.Calls.{first_free, past_free, last_free, before_free}
-use Rattle.tlsf_heap.proofs.Lawfulness.{all_left, all_right, words_in-append}
+use Rattle.tlsf_heap.proofs.Lawfulness.{all_left, all_right, words_in-append, stamps-append}
 use Rattle.tlsf_heap.proofs.Allocating.{split_at}
 use Rattle.tlsf_heap.proofs.Coalescing.{by_last}
-use Rattle.tlsf_heap.proofs.Places.{free_places-append}
+use Rattle.tlsf_heap.proofs.Places.{free_places-append, places_within, stamps_below}
+use Rattle.tlsf_heap.proofs.Listing.{IsFresh}
 
 -- block i of a list begins at a place, behind the blocks `front` and before the blocks `back`
 pub record Around (blocks : List Block) (at i : ℕ) (front : List Block) (block : Block) (back : List Block) : Type 0 where
@@ -64,9 +67,6 @@ module _ {bs : List Block} {at i : ℕ} {front : List Block} {b : Block} {back :
   pub words_around : words_in bs ≡ at + size_of b + words_in back
   words_around = ap words_in a.is ∙ omega (arith, words_in-append front (b ∷ back), a.place)
 
-  pub length_around : length bs ≡ length front + length back + 1
-  length_around = ap length a.is ∙ omega (arith, length-append front (b ∷ back))
-
   pub region_around : AreRegions bs → IsRegion (size_of b)
   region_around sized = (all_right (λ x. IsRegion (size_of x)) front (b ∷ back) (subst AreRegions a.is sized)).0
 
@@ -76,10 +76,24 @@ module _ {bs : List Block} {at i : ℕ} {front : List Block} {b : Block} {back :
   pub regions_back : AreRegions bs → AreRegions back
   regions_back sized = (all_right (λ x. IsRegion (size_of x)) front (b ∷ back) (subst AreRegions a.is sized)).1
 
--- each block has four words
-pub regions_many : (bs : List Block) → AreRegions bs → 4 * length bs ≤ words_in bs
-regions_many [] sized = omega arith
-regions_many (b ∷ bs) sized = let e = regions_many bs sized.1 in omega (arith, sized.0.0)
+-- the block that begins where the blocks `front` end is the one behind them
+pub block_here : {bs : List Block} {at i : ℕ} {front : List Block} {b : Block} {back : List Block} → Around bs at i front b back → AreRegions front → 0 < size_of b → (j : ℕ) → StandsAt bs at j → block_at bs j ≡ b
+block_here {front = front} {b = b} {back = back} a sized some j stands =
+    ap (λ (l : List Block). block_at l j) a.is ∙ one front j sized (sym (ap (λ (l : List Block). words_in (take j l)) a.is) ∙ stands.place ∙ sym a.place)
+  where
+    one : (front : List Block) (j : ℕ) → AreRegions front → words_in (take j (front ++ b ∷ back)) ≡ words_in front → block_at (front ++ b ∷ back) j ≡ b
+    one [] zero sized e = refl
+    one [] (suc j) sized e = absurd (omega (arith, e, some))
+    one (x ∷ front) zero sized e = absurd (omega (arith, e, sized.0.0))
+    one (x ∷ front) (suc j) sized e = one front j sized.1 (omega (arith, e))
+
+-- the block behind
+pub around_next : {bs : List Block} {at i : ℕ} {front : List Block} {b c : Block} {back : List Block} → Around bs at i front b (c ∷ back) → Around bs (at + size_of b) (i + 1) (front ++ b ∷ []) c back
+around_next {front = front} {b = b} {c = c} {back = back} a = record {
+  is = a.is ∙ sym (append_assoc front (b ∷ []) (c ∷ back));
+  before = omega (arith, length-append front (b ∷ []), a.before);
+  place = omega (arith, words_in-append front (b ∷ []), a.place);
+}
 
 pub free_as : (b : Block) → is_free b ≡ true → b ≡ Free (size_of b) (stamp_of b)
 free_as (Live m s xs) e = absurd (false≢true e)
@@ -128,17 +142,63 @@ last_words bs = by_last (λ all size rest. words_in rest + size ≡ words_in all
     (λ front m s xs. omega arith)
     (λ front m s. omega (arith, words_in-append front (Free m s ∷ [])))
 
+pub past_regions : (bs : List Block) → AreRegions bs → AreRegions (past_free bs)
+past_regions [] sized = sized
+past_regions (Live m s xs ∷ bs) sized = sized
+past_regions (Free m s ∷ bs) sized = sized.1
+
+pub before_regions : (bs : List Block) → AreRegions bs → AreRegions (before_free bs)
+before_regions bs = by_last (λ all size rest. AreRegions all → AreRegions rest) bs
+    (λ a. a)
+    (λ front m s xs a. a)
+    (λ front m s a. all_left (λ b. IsRegion (size_of b)) front (Free m s ∷ []) a)
+
 -- ---- places of free blocks
 
-pub length-free_places : (at : ℕ) (bs : List Block) → length (free_places at bs) ≤ length bs
-length-free_places at [] = omega arith
-length-free_places at (Live m s b ∷ bs) = let e = length-free_places (at + m) bs in omega arith
-length-free_places at (Free m s ∷ bs) = let e = length-free_places (at + m) bs in omega arith
-
--- the place of a free block of `size` words
-abbrev pub place : ℕ → ℕ → FreePlace
-place size at = record { class = class_of size; at = at }
+-- a free block of `size` words
+abbrev pub place : ℕ → ℕ → ℕ → FreePlace
+place size at stamp = record { class = class_of size; at = at; stamp = stamp }
 
 -- the places behind the blocks `front`, which end at a place
 pub places_behind : (front back : List Block) (at : ℕ) → words_in front ≡ at → free_places 0 (front ++ back) ≡ free_places 0 front ++ free_places at back
 places_behind front back at e = free_places-append 0 front back ∙ ap (λ (n : ℕ). free_places 0 front ++ free_places n back) (omega (arith, e))
+
+-- a place behind these blocks, or before them, is that of no free one
+pub fresh_front : (front : List Block) (at : ℕ) → AreRegions front → words_in front ≤ at → IsFresh at (free_places 0 front)
+fresh_front front at sized h place c e = let lies = places_within 0 front place sized c in omega (arith, lies.1, e)
+
+pub fresh_back : (back : List Block) (from at : ℕ) → AreRegions back → at < from → IsFresh at (free_places from back)
+fresh_back back from at sized h place c e = let lies = places_within from back place sized c in omega (arith, lies.0, e)
+
+-- no stamp is above the tick
+abbrev pub ArePast : ℕ → List Block → Type 0
+ArePast tick blocks = AllByRecursion (λ s. s < tick) (stamps blocks)
+
+-- what stands before a block and behind it is past where all is
+pub past_around : {bs : List Block} {at i : ℕ} {front : List Block} {b : Block} {back : List Block} → Around bs at i front b back → (tick : ℕ) → ArePast tick bs → ArePast tick front × ArePast tick back
+past_around {front = front} {b = b} {back = back} a tick past =
+    let P : ℕ → Type 0 = λ s. s < tick in
+    let both = subst (AllByRecursion P) (stamps-append front (b ∷ back)) (subst (ArePast tick) a.is past) in
+    (all_left P (stamps front) (stamps (b ∷ back)) both, rest b (all_right P (stamps front) (stamps (b ∷ back)) both))
+  where
+    rest : (b : Block) → ArePast tick (b ∷ back) → ArePast tick back
+    rest (Live m s xs) h = h
+    rest (Free m s) h = h.1
+
+-- a free block that gets the tick is newer than all that are past
+pub newest : (tick from : ℕ) (front back : List Block) → ArePast tick front → ArePast tick back → (place : FreePlace) → Contains (free_places 0 front ++ free_places from back) place → place.stamp < tick
+newest tick from front back f g place c = elim (Contains-append_cases (free_places 0 front) (free_places from back) place c) [
+  | inl in_front ↦ stamps_below tick 0 front place f in_front
+  | inr in_back ↦ stamps_below tick from back place g in_back
+]
+
+pub past_past : (tick : ℕ) (bs : List Block) → ArePast tick bs → ArePast tick (past_free bs)
+past_past tick [] past = past
+past_past tick (Live m s xs ∷ bs) past = past
+past_past tick (Free m s ∷ bs) past = past.1
+
+pub before_past : (tick : ℕ) (bs : List Block) → ArePast tick bs → ArePast tick (before_free bs)
+before_past tick bs = by_last (λ all size rest. ArePast tick all → ArePast tick rest) bs
+    (λ p. p)
+    (λ front m s xs p. p)
+    (λ front m s p. all_left (λ x. x < tick) (stamps front) (s ∷ []) (subst (AllByRecursion (λ x. x < tick)) (stamps-append front (Free m s ∷ [])) p))

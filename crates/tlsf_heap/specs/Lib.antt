@@ -6,6 +6,7 @@ pub mod Calls
 pub mod Headers
 pub mod Image
 pub mod Regions
+pub mod Listed
 pub mod FreePlaces
 pub mod Stored
 pub mod Numbers

@@ -1,14 +1,15 @@
-//! Good fit, splitting and coalescing over a region and the index of its free blocks. Sizes and places are in words.
-ghost use Rattle.std.specs.Prelude.{◌≡◌, ℕ, ◌+◌, ◌*◌, ◌<◌, ◌≤◌, ◌^◌, ◌++◌, ◌∷◌, true, false, take, drop, Contains, IsPermutation};
-ghost use Rattle.tlsf_heap.specs.Blocks.{Free, size_of, words_in, is_free, words_for};
+//! Good fit, splitting and coalescing over a region and the lists of its free blocks. Sizes and places are in words.
+ghost use Rattle.std.specs.Prelude.{◌≡◌, ◌≢◌, ℕ, ◌+◌, ◌-◌, ◌<◌, ◌≤◌, ◌^◌, ◌++◌, ◌∷◌, true, false, take, drop, Contains};
+ghost use Rattle.std.specs.List.{AllByRecursion};
+ghost use Rattle.tlsf_heap.specs.Blocks.{Free, size_of, words_in, is_free, stamps, words_for};
 ghost use Rattle.tlsf_class.specs.Classes.{class_of};
 ghost use Rattle.tlsf_heap.specs.Lawful.{IsRegion, AreRegions};
 ghost use Rattle.tlsf_heap.specs.GoodFit.{IsBestAt, block_at, site_at};
 ghost use Rattle.tlsf_heap.specs.Calls.{carved, coalesced, first_free, past_free, last_free};
-ghost use Rattle.tlsf_heap.specs.FreePlaces.{free_places};
-ghost use Rattle.tlsf_heap.specs.Regions.{StandsAt, IsPlace};
+ghost use Rattle.tlsf_heap.specs.FreePlaces.{AreFreeLists};
+ghost use Rattle.tlsf_words.specs.Lists.{IsUnlisted, without_place};
+ghost use Rattle.tlsf_heap.specs.Regions.{StandsAt, IsPlace, SameLists, list_in};
 
-use crate::free_index::FreeIndex;
 use crate::region::Region;
 use tlsf_class::{class_of, search_of};
 
@@ -16,90 +17,94 @@ use tlsf_class::{class_of, search_of};
 pub const MOST_WORDS: u32 = 1 << 20;
 
 /// The place of the block that serves a request of `words` words.
-pub fn choose(free: &mut FreeIndex, region: &mut Region, words: u32) -> Option<u32>
+pub fn choose(region: &mut Region, words: u32) -> Option<u32>
     requires wanted { 4 ≤ words }
     requires sized { AreRegions region.old.blocks }
-    requires listed { IsPermutation free.old.places (free_places 0 region.old.blocks) }
+    requires listed { AreFreeLists region.old.blocks (list_in region.old.lists) }
     ensures best { IsBestAt words region.old.blocks result }
     ensures blocks { region.new.blocks ≡ region.old.blocks }
     ensures words { region.new.words ≡ region.old.words }
-    ensures places { free.new.places ≡ free.old.places }
-    ensures room { free.new.room ≡ free.old.room }
+    ensures lists { region.new.lists ≡ region.old.lists }
 {
     if words > MOST_WORDS {
         return None;
     }
-    let class = free.next_from(search_of(words))?;
-    free.first(region, class)
+    let class = region.next_from(search_of(words))?;
+    region.first(class)
 }
 
 /// Makes the free block at a place a live one of `words` words with `len` bytes of payload and a free rest, or all of it where the
 /// rest would have fewer than four words.
-pub fn carve(free: &mut FreeIndex, region: &mut Region, at: u32, words: u32, tick: u64, len: u32)
+pub fn carve(region: &mut Region, at: u32, words: u32, tick: u64, len: u32)
     requires least { 4 ≤ words }
     requires payload { words_for len ≤ words }
     requires fits { (i : ℕ) × StandsAt region.old.blocks at i × (is_free (block_at region.old.blocks i) ≡ true) × (words ≤ size_of (block_at region.old.blocks i)) }
     requires sized { AreRegions region.old.blocks }
     requires small { words_in region.old.blocks ≤ 2 ^ 20 }
-    requires listed { IsPermutation free.old.places (free_places 0 region.old.blocks) }
-    requires room { words_in region.old.blocks < 4 * free.old.room + 4 }
+    requires listed { AreFreeLists region.old.blocks (list_in region.old.lists) }
+    requires stamped { AllByRecursion (λ s. s < tick) (stamps region.old.blocks) }
     ensures blocks { (i : ℕ) → StandsAt region.old.blocks at i → region.new.blocks ≡ take i region.old.blocks
         ++ carved (size_of (block_at region.old.blocks i)) words tick len ++ drop (i + 1) region.old.blocks }
     ensures words { region.new.words ≡ region.old.words }
-    ensures listed { IsPermutation free.new.places (free_places 0 region.new.blocks) }
-    ensures room { free.old.room ≤ free.new.room }
+    ensures listed { AreFreeLists region.new.blocks (list_in region.new.lists) }
 {
     let size = region.size(at);
-    free.remove(class_of(size), at);
+    region.remove(class_of(size), at);
     if size >= words + 4 {
         region.split(at, words, tick);
-        free.insert(class_of(size - words), at + words);
+        region.push(class_of(size - words), at + words);
     }
     region.make_live(at, tick, len);
 }
 
 /// Makes the live block at a place and its free neighbours one free block.
-pub fn coalesce(free: &mut FreeIndex, region: &mut Region, at: u32, tick: u64)
+pub fn coalesce(region: &mut Region, at: u32, tick: u64)
     requires live { (i : ℕ) × StandsAt region.old.blocks at i × (is_free (block_at region.old.blocks i) ≡ false) }
     requires sized { AreRegions region.old.blocks }
     requires small { words_in region.old.blocks ≤ 2 ^ 20 }
-    requires listed { IsPermutation free.old.places (free_places 0 region.old.blocks) }
-    requires room { words_in region.old.blocks < 4 * free.old.room + 4 }
+    requires listed { AreFreeLists region.old.blocks (list_in region.old.lists) }
+    requires stamped { AllByRecursion (λ s. s < tick) (stamps region.old.blocks) }
     ensures blocks { (i : ℕ) → StandsAt region.old.blocks at i → region.new.blocks ≡ coalesced tick (site_at region.old.blocks i) }
     ensures words { region.new.words ≡ region.old.words }
-    ensures listed { IsPermutation free.new.places (free_places 0 region.new.blocks) }
-    ensures room { free.old.room ≤ free.new.room }
+    ensures listed { AreFreeLists region.new.blocks (list_in region.new.lists) }
 {
     let size = region.size(at);
     let before = region.free_before(at);
     let after = region.free_after(at);
-    forget(free, after, at + size);
-    forget(free, before, at - before);
+    forget(region, after, at + size);
+    forget(region, before, at - before);
     join(region, at, before, after, tick);
-    free.insert(class_of(before + size + after), at - before);
+    region.push(class_of(before + size + after), at - before);
 }
 
-/// Takes the place of a free block out of the index. Where the size is 0 there is none.
-fn forget(free: &mut FreeIndex, size: u32, at: u32)
-    requires sized { 0 < size → IsRegion size }
-    requires listed { 0 < size → Contains free.old.places (record { class = class_of size; at = at }) }
-    ensures places { 0 < size → IsPermutation free.old.places (record { class = class_of size; at = at } ∷ free.new.places) }
-    ensures none { size ≡ 0 → free.new.places ≡ free.old.places }
-    ensures room { free.old.room ≤ free.new.room }
+/// Takes the free block of so many words at a place out of the list of its class. Where `words` is 0 there is none.
+fn forget(region: &mut Region, words: u32, at: u32)
+    requires sized { 0 < words → IsRegion words }
+    requires listed { 0 < words → Contains (list_in region.old.lists (class_of words)) at }
+    ensures list { 0 < words → list_in region.new.lists (class_of words) ≡ without_place at (list_in region.old.lists (class_of words)) }
+    ensures others { (other : ℕ) → other ≢ class_of words → list_in region.new.lists other ≡ list_in region.old.lists other }
+    ensures none { words ≡ 0 → region.new.lists ≡ region.old.lists }
+    ensures blocks { region.new.blocks ≡ region.old.blocks }
+    ensures words { region.new.words ≡ region.old.words }
 {
-    if size > 0 {
-        free.remove(class_of(size), at);
+    if words > 0 {
+        region.remove(class_of(words), at);
     }
 }
 
-/// Makes the block at a place and its free neighbours, of so many words before it and behind it, one free block.
+/// Makes the block at a place and its free neighbours, of so many words before it and behind it, one free block. None of them is in
+/// a list.
 fn join(region: &mut Region, at: u32, before: u32, after: u32, tick: u64)
     requires place { IsPlace region.old.blocks at }
     requires sized { AreRegions region.old.blocks }
     requires before { (i : ℕ) → StandsAt region.old.blocks at i → before ≡ last_free (take i region.old.blocks) }
     requires after { (i : ℕ) → StandsAt region.old.blocks at i → after ≡ first_free (drop (i + 1) region.old.blocks) }
+    requires unlisted { IsUnlisted (list_in region.old.lists) at }
+    requires previous_unlisted { IsUnlisted (list_in region.old.lists) (at - before) }
+    requires next_unlisted { 0 < after → (i : ℕ) → StandsAt region.old.blocks at i → IsUnlisted (list_in region.old.lists) (at + size_of (block_at region.old.blocks i)) }
     ensures blocks { (i : ℕ) → StandsAt region.old.blocks at i → region.new.blocks ≡ coalesced tick (site_at region.old.blocks i) }
     ensures words { region.new.words ≡ region.old.words }
+    ensures lists { SameLists (list_in region.new.lists) (list_in region.old.lists) }
 {
     join_next(region, at, after, tick);
     if before > 0 {
@@ -107,14 +112,17 @@ fn join(region: &mut Region, at: u32, before: u32, after: u32, tick: u64)
     }
 }
 
-/// Makes the block at a place and the free block behind it, of so many words, one free block.
+/// Makes the block at a place and the free block behind it, of so many words, one free block. Neither is in a list.
 fn join_next(region: &mut Region, at: u32, after: u32, tick: u64)
     requires place { IsPlace region.old.blocks at }
     requires sized { AreRegions region.old.blocks }
     requires after { (i : ℕ) → StandsAt region.old.blocks at i → after ≡ first_free (drop (i + 1) region.old.blocks) }
+    requires unlisted { IsUnlisted (list_in region.old.lists) at }
+    requires next_unlisted { 0 < after → (i : ℕ) → StandsAt region.old.blocks at i → IsUnlisted (list_in region.old.lists) (at + size_of (block_at region.old.blocks i)) }
     ensures blocks { (i : ℕ) → StandsAt region.old.blocks at i → region.new.blocks ≡ take i region.old.blocks
         ++ (Free (size_of (block_at region.old.blocks i) + first_free (drop (i + 1) region.old.blocks)) tick ∷ past_free (drop (i + 1) region.old.blocks)) }
     ensures words { region.new.words ≡ region.old.words }
+    ensures lists { SameLists (list_in region.new.lists) (list_in region.old.lists) }
 {
     region.make_free(at, tick);
     if after > 0 {

@@ -8,7 +8,6 @@ ghost use Rattle.tlsf_heap.specs.Reports.{report_of, IsGrant};
 ghost use Rattle.tlsf_heap.specs.Calls.{opened, allocated, released, written, read_of, read_answer, has_bytes, last_tick};
 
 use crate::fitting::{MOST_WORDS, carve, choose, coalesce};
-use crate::free_index::FreeIndex;
 use crate::name::Name;
 use crate::open_fault::OpenFault;
 use crate::refusal::Refusal;
@@ -28,7 +27,6 @@ pub struct Heap {
     id: u32,
     tick: u64,
     region: Region,
-    free: FreeIndex,
 }
 
 impl Model for Heap {
@@ -69,18 +67,14 @@ impl Heap {
         if first == u64::MAX {
             return Err(OpenFault::Worn);
         }
-        let Ok(mut free) = FreeIndex::open(alloc, words) else {
+        let Ok(mut region) = Region::open(alloc, words, first) else {
             return Err(OpenFault::NoMemory);
         };
-        let Ok(region) = Region::open(alloc, words, first) else {
-            return Err(OpenFault::NoMemory);
-        };
-        free.insert(class_of(words), 0);
+        region.push(class_of(words), 0);
         Ok(Heap {
             id,
             tick: first + 1,
             region,
-            free,
         })
     }
 
@@ -100,14 +94,14 @@ impl Heap {
         ensures lawful { IsLawful self.new.heap }
     {
         let words = want(len);
-        let Some(at) = choose(&mut self.free, &mut self.region, words) else {
+        let Some(at) = choose(&mut self.region, words) else {
             return Err(Refusal::NoFit);
         };
         if self.tick == u64::MAX {
             return Err(Refusal::Worn);
         }
         let serial = self.tick;
-        carve(&mut self.free, &mut self.region, at, words, serial, len);
+        carve(&mut self.region, at, words, serial, len);
         self.tick += 1;
         Ok(Name {
             heap: self.id,
@@ -134,7 +128,7 @@ impl Heap {
         if self.tick == u64::MAX {
             return Err(Refusal::Worn);
         }
-        coalesce(&mut self.free, &mut self.region, name.at, self.tick);
+        coalesce(&mut self.region, name.at, self.tick);
         self.tick += 1;
         Ok(())
     }

@@ -26,8 +26,17 @@ fn image_of_a_small_region(rt: HostRuntime) -> Result<(), Fail> {
     assert_eq!(rt; heap.word(1), Some(0));
     check_starts(&rt, &mut heap, 16, &[0]);
     assert_eq!(rt; heap.allocate(8), Ok(name(0, 1)));
-    let image = [0xffff_ffff_0000_0010, 1, 8, 0, 0x0000_0000_0000_0033, 1];
-    for at in 0..6 {
+    heap.write(name(0, 1), 0, &[0x48, 0x69])?;
+    let image = [
+        0xffff_ffff_0000_0010,
+        1,
+        8,
+        0x6948,
+        0x0000_0000_0000_0033,
+        1,
+        0xffff_ffff_ffff_ffff,
+    ];
+    for at in 0..7 {
         assert_eq!(rt; heap.word(at), Some(image[at as usize]), "word {at}");
     }
     check_starts(&rt, &mut heap, 16, &[0, 4]);
@@ -54,6 +63,43 @@ fn tags_name_the_block_before(rt: HostRuntime) -> Result<(), Fail> {
     heap.release(name(12, 4))?;
     assert_eq!(rt; heap.word(12), Some(0x0000_0008_0000_0033));
     check_starts(&rt, &mut heap, 24, &[0, 8, 12]);
+    Ok(())
+}
+
+#[test]
+fn links_name_the_neighbours_in_a_list(rt: HostRuntime) -> Result<(), Fail> {
+    let mut heap = Heap::open(rt.alloc(), 0, 64, 0)?;
+    for _ in 0..4 {
+        heap.allocate(8)?;
+    }
+    heap.release(name(0, 1))?;
+    heap.release(name(8, 3))?;
+    // The block at 8 became free last: it is the head, and the one at 0 is behind it.
+    assert_eq!(rt; heap.word(2), Some(0x0000_0008_ffff_ffff));
+    assert_eq!(rt; heap.word(10), Some(0xffff_ffff_0000_0000));
+    heap.release(name(4, 2))?;
+    // All three are one free block now, alone in the list of its class.
+    assert_eq!(rt; heap.word(0), Some(0xffff_ffff_0000_0031));
+    assert_eq!(rt; heap.word(1), Some(7));
+    assert_eq!(rt; heap.word(2), Some(0xffff_ffff_ffff_ffff));
+    assert_eq!(rt; heap.word(12), Some(0x0000_0000_0000_0010));
+    check_starts(&rt, &mut heap, 64, &[0, 12, 16]);
+    Ok(())
+}
+
+#[test]
+fn neighbours_leave_the_list_when_they_merge(rt: HostRuntime) -> Result<(), Fail> {
+    let mut heap = Heap::open(rt.alloc(), 0, 64, 0)?;
+    for _ in 0..6 {
+        heap.allocate(8)?;
+    }
+    for at in [0, 8, 16, 4] {
+        heap.release(name(at, u64::from(at) / 4 + 1))?;
+    }
+    // The block at 16 is alone in its list: those at 0 and 8 went into the block that was merged.
+    assert_eq!(rt; heap.word(18), Some(0xffff_ffff_ffff_ffff));
+    assert_eq!(rt; heap.allocate(8), Ok(name(16, 11)));
+    assert_eq!(rt; heap.allocate(8), Ok(name(0, 12)));
     Ok(())
 }
 

@@ -13,8 +13,6 @@
 #![tactic(auto)]
 
 mod fitting;
-mod free_index;
-mod free_place;
 mod headers;
 mod heap;
 mod laws;

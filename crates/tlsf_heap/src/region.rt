@@ -1,35 +1,40 @@
-ghost use Rattle.std.specs.Prelude.{◌≡◌, ℕ, ◌+◌, ◌-◌, ◌<◌, ◌≤◌, ◌^◌, [], ◌∷◌, ◌++◌, false, length, take, drop, replicate, IfOk};
+ghost use Rattle.std.specs.Prelude.{◌≡◌, ◌≢◌, ℕ, ◌+◌, ◌-◌, ◌<◌, ◌≤◌, ◌^◌, [], ◌∷◌, ◌++◌, false, true, length, take, drop, replicate, slice_get, Contains, IfOk};
+ghost use Rattle.tlsf_class.specs.Members.{next_member};
+ghost use Rattle.tlsf_words.specs.Lists.{without_place, listed_classes, IsUnlisted};
 ghost use Rattle.tlsf_heap.specs.Blocks.{Live, Free, size_of, is_free, bytes_of, words_for};
 ghost use Rattle.tlsf_heap.specs.GoodFit.{block_at};
 ghost use Rattle.tlsf_heap.specs.Calls;
 ghost use Rattle.tlsf_heap.specs.Image.{mark_of};
 ghost use Rattle.tlsf_heap.specs.Named.{IsNameTest};
-ghost use Rattle.tlsf_heap.specs.Regions.{StandsAt, IsPlace};
+ghost use Rattle.tlsf_heap.specs.Regions.{StandsAt, IsPlace, SameLists, list_in};
 
 use crate::headers::{
     first_header, free_header, free_size, live_header, merge_headers, split_header,
 };
 use std::alloc::Global;
 use std::marker::Model;
-use tlsf_words::{NoMemory, Words};
+use tlsf_class::Class;
+use tlsf_words::{FreeLists, NoMemory, Words};
 
-/// The words of a region, seen as the blocks that they show, one behind the other. A block is known by its place. Sizes and
-/// places are in words. Nothing but `open` allocates.
+/// The words of a region, seen as the blocks that they show, one behind the other, and the lists of free blocks, one for each
+/// class, that their links thread. A block is known by its place. Sizes and places are in words. Nothing but `open` allocates.
 #[derive(Drop)]
 pub struct Region {
     words: Words,
+    lists: FreeLists,
 }
 
 impl Model for Region {
     ghost use Rattle.std.specs.Prelude.{length};
     ghost use Rattle.tlsf_heap.specs.Regions.{RegionState};
-    ghost use Rattle.tlsf_heap.specs.Image.{Shows, blocks_of};
+    ghost use Rattle.tlsf_heap.specs.Image.{blocks_of};
+    ghost use Rattle.tlsf_heap.specs.Listed.{lists_of, HoldsLists};
 
     ghost Value = { RegionState };
 
-    ghost view = { λ r. record { words = length r.words.words; blocks = blocks_of r.words.words } };
+    ghost view = { λ r. record { words = length r.words.words; blocks = blocks_of r.words.words; lists = lists_of r.lists.heads r.words.words } };
 
-    ghost invariant = { λ r. Shows r.words (blocks_of r.words.words) };
+    ghost invariant = { λ r. HoldsLists r.words r.lists };
 }
 
 impl Region {
@@ -39,10 +44,14 @@ impl Region {
         requires most { words ≤ 2 ^ 20 }
         ensures words { IfOk result (λ region. region.words ≡ words) }
         ensures blocks { IfOk result (λ region. region.blocks ≡ Free words stamp ∷ []) }
+        ensures lists { IfOk result (λ region. (class : ℕ) → list_in region.lists class ≡ []) }
     {
         let mut region = Words::open(alloc, words)?;
         first_header(&mut region, stamp);
-        Ok(Region { words: region })
+        Ok(Region {
+            words: region,
+            lists: FreeLists::new(),
+        })
     }
 
     /// The number of words, 4 to 2^20.
@@ -58,6 +67,7 @@ impl Region {
         ensures value { (i : ℕ) → StandsAt self.old.blocks at i → result ≡ size_of (block_at self.old.blocks i) }
         ensures words { self.new.words ≡ self.old.words }
         ensures blocks { self.new.blocks ≡ self.old.blocks }
+        ensures lists { self.new.lists ≡ self.old.lists }
     {
         self.words.tag(at).size
     }
@@ -68,6 +78,7 @@ impl Region {
         ensures value { (i : ℕ) → StandsAt self.old.blocks at i → result ≡ is_free (block_at self.old.blocks i) }
         ensures words { self.new.words ≡ self.old.words }
         ensures blocks { self.new.blocks ≡ self.old.blocks }
+        ensures lists { self.new.lists ≡ self.old.lists }
     {
         self.words.tag(at).free
     }
@@ -78,6 +89,7 @@ impl Region {
         ensures value { (i : ℕ) → StandsAt self.old.blocks at i → result ≡ mark_of (block_at self.old.blocks i) }
         ensures words { self.new.words ≡ self.old.words }
         ensures blocks { self.new.blocks ≡ self.old.blocks }
+        ensures lists { self.new.lists ≡ self.old.lists }
     {
         self.words.mark(at)
     }
@@ -87,6 +99,7 @@ impl Region {
         ensures answer { IsNameTest at serial self.old.blocks result }
         ensures words { self.new.words ≡ self.old.words }
         ensures blocks { self.new.blocks ≡ self.old.blocks }
+        ensures lists { self.new.lists ≡ self.old.lists }
     {
         if at >= self.words.len() || !self.words.starts(at) {
             return false;
@@ -100,6 +113,7 @@ impl Region {
         ensures value { (i : ℕ) → StandsAt self.old.blocks at i → result ≡ Calls.first_free (drop (i + 1) self.old.blocks) }
         ensures words { self.new.words ≡ self.old.words }
         ensures blocks { self.new.blocks ≡ self.old.blocks }
+        ensures lists { self.new.lists ≡ self.old.lists }
     {
         let size = self.words.tag(at).size;
         free_size(&mut self.words, at + size)
@@ -111,6 +125,7 @@ impl Region {
         ensures value { (i : ℕ) → StandsAt self.old.blocks at i → result ≡ Calls.last_free (take i self.old.blocks) }
         ensures words { self.new.words ≡ self.old.words }
         ensures blocks { self.new.blocks ≡ self.old.blocks }
+        ensures lists { self.new.lists ≡ self.old.lists }
     {
         let back = self.words.tag(at).back;
         free_size(&mut self.words, back)
@@ -122,6 +137,7 @@ impl Region {
         ensures value { (i : ℕ) → StandsAt self.old.blocks at i → result ≡ length (bytes_of (block_at self.old.blocks i)) }
         ensures words { self.new.words ≡ self.old.words }
         ensures blocks { self.new.blocks ≡ self.old.blocks }
+        ensures lists { self.new.lists ≡ self.old.lists }
     {
         self.words.length(at)
     }
@@ -132,6 +148,7 @@ impl Region {
         ensures bytes { (i : ℕ) → StandsAt self.old.blocks at i → out.new ≡ take (length out.old) (drop offset (bytes_of (block_at self.old.blocks i))) }
         ensures words { self.new.words ≡ self.old.words }
         ensures blocks { self.new.blocks ≡ self.old.blocks }
+        ensures lists { self.new.lists ≡ self.old.lists }
     {
         self.words.copy_out(at, offset, out);
     }
@@ -143,6 +160,7 @@ impl Region {
         ensures blocks { (i : ℕ) → StandsAt self.old.blocks at i → self.new.blocks ≡ take i self.old.blocks
             ++ (Calls.with_bytes (block_at self.old.blocks i) (Calls.overwritten (bytes_of (block_at self.old.blocks i)) offset bytes.now) ∷ [])
             ++ drop (i + 1) self.old.blocks }
+        ensures lists { SameLists (list_in self.new.lists) (list_in self.old.lists) }
     {
         self.words.copy_in(at, offset, bytes);
     }
@@ -150,21 +168,25 @@ impl Region {
     /// Makes the block at a place two free ones, of `size` words and of the rest, which has this stamp.
     pub fn split(&mut self, at: u32, size: u32, stamp: u64)
         requires least { 4 ≤ size }
+        requires unlisted { IsUnlisted (list_in self.old.lists) at }
         requires rest { (i : ℕ) × StandsAt self.old.blocks at i × (size + 4 ≤ size_of (block_at self.old.blocks i)) }
         ensures words { self.new.words ≡ self.old.words }
         ensures blocks { (i : ℕ) → StandsAt self.old.blocks at i → self.new.blocks ≡ take i self.old.blocks
             ++ (Free size (mark_of (block_at self.old.blocks i)) ∷ Free (size_of (block_at self.old.blocks i) - size) stamp ∷ [])
             ++ drop (i + 1) self.old.blocks }
+        ensures lists { SameLists (list_in self.new.lists) (list_in self.old.lists) }
     {
         split_header(&mut self.words, at, size, stamp);
     }
 
     /// Makes the block at a place a live one with `len` bytes of payload, all zero.
     pub fn make_live(&mut self, at: u32, serial: u64, len: u32)
+        requires unlisted { IsUnlisted (list_in self.old.lists) at }
         requires room { (i : ℕ) × StandsAt self.old.blocks at i × (words_for len ≤ size_of (block_at self.old.blocks i)) }
         ensures words { self.new.words ≡ self.old.words }
         ensures blocks { (i : ℕ) → StandsAt self.old.blocks at i → self.new.blocks ≡ take i self.old.blocks
             ++ (Live (size_of (block_at self.old.blocks i)) serial (replicate len 0) ∷ []) ++ drop (i + 1) self.old.blocks }
+        ensures lists { SameLists (list_in self.new.lists) (list_in self.old.lists) }
     {
         live_header(&mut self.words, at, serial, len);
     }
@@ -175,18 +197,66 @@ impl Region {
         ensures words { self.new.words ≡ self.old.words }
         ensures blocks { (i : ℕ) → StandsAt self.old.blocks at i → self.new.blocks ≡ take i self.old.blocks
             ++ (Free (size_of (block_at self.old.blocks i)) stamp ∷ []) ++ drop (i + 1) self.old.blocks }
+        ensures lists { SameLists (list_in self.new.lists) (list_in self.old.lists) }
     {
         free_header(&mut self.words, at, stamp);
     }
 
     /// Makes the block at a place and the one behind it one free block.
     pub fn merge(&mut self, at: u32, stamp: u64)
-        requires { (i : ℕ) × StandsAt self.old.blocks at i × (i + 1 < length self.old.blocks) }
+        requires next { (i : ℕ) × StandsAt self.old.blocks at i × (i + 1 < length self.old.blocks) }
+        requires unlisted { IsUnlisted (list_in self.old.lists) at }
+        requires next_unlisted { (i : ℕ) → StandsAt self.old.blocks at i → IsUnlisted (list_in self.old.lists) (at + size_of (block_at self.old.blocks i)) }
         ensures words { self.new.words ≡ self.old.words }
         ensures blocks { (i : ℕ) → StandsAt self.old.blocks at i → self.new.blocks ≡ take i self.old.blocks
             ++ (Free (size_of (block_at self.old.blocks i) + size_of (block_at self.old.blocks (i + 1))) stamp ∷ []) ++ drop (i + 2) self.old.blocks }
+        ensures lists { SameLists (list_in self.new.lists) (list_in self.old.lists) }
     {
         merge_headers(&mut self.words, at, stamp);
+    }
+
+    /// Puts a free block that is in no list in front of the list of a class.
+    pub fn push(&mut self, class: Class, at: u32)
+        requires free { (i : ℕ) × StandsAt self.old.blocks at i × (is_free (block_at self.old.blocks i) ≡ true) }
+        requires unlisted { IsUnlisted (list_in self.old.lists) at }
+        ensures words { self.new.words ≡ self.old.words }
+        ensures blocks { self.new.blocks ≡ self.old.blocks }
+        ensures list { list_in self.new.lists class ≡ at ∷ list_in self.old.lists class }
+        ensures others { (other : ℕ) → other ≢ class → list_in self.new.lists other ≡ list_in self.old.lists other }
+    {
+        self.lists.push(&mut self.words, class, at);
+    }
+
+    /// Takes a block out of the list of its class.
+    pub fn remove(&mut self, class: Class, at: u32)
+        requires listed { Contains (list_in self.old.lists class) at }
+        ensures words { self.new.words ≡ self.old.words }
+        ensures blocks { self.new.blocks ≡ self.old.blocks }
+        ensures list { list_in self.new.lists class ≡ without_place at (list_in self.old.lists class) }
+        ensures others { (other : ℕ) → other ≢ class → list_in self.new.lists other ≡ list_in self.old.lists other }
+        ensures unlisted { IsUnlisted (list_in self.new.lists) at }
+    {
+        self.lists.remove(&mut self.words, class, at);
+    }
+
+    /// The place at the head of the list of a class, `None` where the list is empty.
+    pub fn first(&mut self, class: Class) -> Option<u32>
+        ensures place { result ≡ slice_get (list_in self.old.lists class) 0 }
+        ensures words { self.new.words ≡ self.old.words }
+        ensures blocks { self.new.blocks ≡ self.old.blocks }
+        ensures lists { self.new.lists ≡ self.old.lists }
+    {
+        self.lists.first(class)
+    }
+
+    /// The least class at or above a class whose list isn't empty, `None` where there is none.
+    pub fn next_from(&mut self, class: Class) -> Option<Class>
+        ensures least { result ≡ next_member (listed_classes (list_in self.old.lists)) class }
+        ensures words { self.new.words ≡ self.old.words }
+        ensures blocks { self.new.blocks ≡ self.old.blocks }
+        ensures lists { self.new.lists ≡ self.old.lists }
+    {
+        self.lists.next_from(class)
     }
 }
 
@@ -194,10 +264,11 @@ impl Region {
 #[cfg(test)]
 impl Region {
     /// The word at a place, `None` outside the region.
-    #[tactic(auto, using(crate::proofs::Reading::shows_read))]
+    #[tactic(auto, using(crate::proofs::Reading::holds_read))]
     pub fn word(&mut self, at: u32) -> Option<u64>
         ensures words { self.new.words ≡ self.old.words }
         ensures blocks { self.new.blocks ≡ self.old.blocks }
+        ensures lists { self.new.lists ≡ self.old.lists }
     {
         if at < self.words.len() {
             Some(self.words.word(at))
@@ -207,10 +278,11 @@ impl Region {
     }
 
     /// Whether a block starts at a place.
-    #[tactic(auto, using(crate::proofs::Reading::shows_read))]
+    #[tactic(auto, using(crate::proofs::Reading::holds_read))]
     pub fn starts(&mut self, at: u32) -> bool
         ensures words { self.new.words ≡ self.old.words }
         ensures blocks { self.new.blocks ≡ self.old.blocks }
+        ensures lists { self.new.lists ≡ self.old.lists }
     {
         at < self.words.len() && self.words.starts(at)
     }

@@ -33,6 +33,7 @@ impl Tally {
         ensures sums { result ≡ tally_of tick region.old.blocks }
         ensures words { region.new.words ≡ region.old.words }
         ensures blocks { region.new.blocks ≡ region.old.blocks }
+        ensures lists { region.new.lists ≡ region.old.lists }
     {
         let words = region.len();
         let mut tally = Tally::new(tick);
@@ -68,6 +69,7 @@ impl Tally {
         ensures behind { at < result }
         ensures words { region.new.words ≡ region.old.words }
         ensures blocks { region.new.blocks ≡ region.old.blocks }
+        ensures lists { region.new.lists ≡ region.old.lists }
     {
         let size = region.size(at);
         if region.is_free(at) {

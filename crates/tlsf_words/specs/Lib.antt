@@ -1,4 +1,5 @@
 pub mod Bytes
 pub mod Fields
+pub mod Lists
 pub mod Memory
 pub mod Starts

@@ -139,6 +139,7 @@ impl Words {
         requires { at + 2 < length self.old.words }
         ensures next { result.next ≡ low_half (slice_index self.old.words (at + 2)) }
         ensures previous { result.previous ≡ high_half (slice_index self.old.words (at + 2)) }
+        ensures small { length self.old.words ≤ 2 ^ 20 }
         ensures words { self.new.words ≡ self.old.words }
         ensures starts { self.new.starts ≡ self.old.starts }
     {
@@ -149,6 +150,7 @@ impl Words {
     #[inline]
     pub fn set_links(&mut self, at: u32, links: Links)
         requires { at + 2 < length self.old.words }
+        ensures small { length self.old.words ≤ 2 ^ 20 }
         ensures words { self.new.words ≡ slice_set self.old.words (at + 2) (links_word links.next links.previous) }
         ensures starts { self.new.starts ≡ self.old.starts }
     {
@@ -276,6 +278,7 @@ impl Words {
     #[inline]
     fn write(&mut self, at: usize, word: u64)
         requires { at < length self.old.words }
+        ensures small { length self.old.words ≤ 2 ^ 20 }
         ensures words { self.new.words ≡ slice_set self.old.words at word }
         ensures starts { self.new.starts ≡ self.old.starts }
     {

@@ -1,65 +1,72 @@
-use Rattle.std.proofs.Common.{◌≤◌, arith}
-use Rattle.tlsf_heap.proofs.Carving.{IsListed, IsReady, contains_free, end_within, room_left, ready_as, ready_whole, ready_split, ready_room, ready_listed, ready_blocks}
+use Rattle.std.proofs.Common.{◌+◌, ◌≤◌, ◌∙◌, arith}
+use Rattle.tlsf_heap.specs.Regions.{list_in}
+use Rattle.tlsf_heap.proofs.Listing.{unlisted_same}
+use Rattle.tlsf_heap.proofs.Carving.{IsListed, IsReady, is_listed, contains_free, end_within, left_unlisted, rest_free, ready_as, ready_whole, ready_split, ready_room, ready_listed, ready_blocks}
 use Rattle.tlsf_heap.proofs.fitting.carve.Goals.{then-size-words, else-size-words}
 use Rattle.tlsf_heap.proofs.fitting.carve.Goals as goal
 
 pub remove-requires : goal.remove-requires
 remove-requires c =
-    let f = c.requires.fits in
-    contains_free c.args.region.now.blocks c.args.at f.0 c.size-size.result c.class_of.result c.args.free.now.places
-    (record { stands = f.1; free = f.2; sized = c.size-size.ensures.value f.0 f.1; classed = c.class_of.ensures; listed = c.requires.listed })
+    record { listed = contains_free (is_listed c.requires.fits c.size-size.ensures.value c.class_of.ensures c.requires.sized c.requires.stamped c.requires.listed c.size-size.ensures.lists) }
 
-listed : (c : goal.After-class_of-then-size-words) → IsListed c.args.region.now.blocks c.args.at c.requires.fits.0 c.size-size.result c.class_of.result c.args.free.now.places
-listed c = let f = c.requires.fits in record { stands = f.1; free = f.2; sized = c.size-size.ensures.value f.0 f.1; classed = c.class_of.ensures; listed = c.requires.listed }
+listed : (c : goal.After-class_of-then-size-words) → IsListed c.args.region.now.blocks c.args.at c.requires.fits.0 c.size-size.result c.class_of.result c.args.tick (list_in c.size-size.new.self.lists)
+listed c = is_listed c.requires.fits c.size-size.ensures.value c.class_of.ensures c.requires.sized c.requires.stamped c.requires.listed c.size-size.ensures.lists
 
 pub overflow_add-at : goal.overflow_add-at
-overflow_add-at c = omega (arith, c.requires.small, end_within _ _ _ _ _ _ (listed c))
+overflow_add-at c = omega (arith, c.requires.small, c.if-size-words.true, end_within (listed c))
 
-pub insert-requires : goal.insert-requires
-insert-requires c =
-    room_left _ _ _ _ _ _ (listed c) c.remove.new.self.places c.remove.ensures.places c.args.free.now.room c.remove.new.self.room c.requires.sized c.requires.room c.remove.ensures.room
+pub push-requires-clause-free : goal.push-requires-clause-free
+push-requires-clause-free c =
+    rest_free (listed c) (list_in c.remove.new.self.lists) c.remove.ensures.list c.remove.ensures.others c.args.words c.remove.new.self.blocks c.split.new.self.blocks c.if-size-words.true c.requires.least
+    (c.remove.ensures.blocks ∙ c.size-size.ensures.blocks) c.split.ensures.blocks
 
-ready : (c : goal.After-make_live-arg-1) → IsReady c.args.region.now.blocks c.args.at c.requires.fits.0 c.size-size.result c.args.words c.args.tick c.if-size-words.region.blocks c.if-size-words.free.places
+pub push-requires-clause-unlisted : goal.push-requires-clause-unlisted
+push-requires-clause-unlisted c =
+    unlisted_same (list_in c.remove.new.self.lists) (list_in c.split.new.self.lists) (c.args.at + c.args.words) c.split.ensures.lists
+    (left_unlisted (listed c) (list_in c.remove.new.self.lists) c.remove.ensures.list c.remove.ensures.others (c.args.at + c.args.words) (omega arith) (omega (arith, c.if-size-words.true)))
+
+ready : (c : goal.After-make_live-arg-1) → IsReady c.args.region.now.blocks c.args.at c.requires.fits.0 c.size-size.result c.args.words c.args.tick c.if-size-words.region.blocks (list_in c.if-size-words.region.lists)
 ready c =
     let f = c.requires.fits in
-    let bs = c.args.region.now.blocks in
     let fits : c.args.words ≤ c.size-size.result = omega (arith, f.3, c.size-size.ensures.value f.0 f.1) in
-    let is : IsListed bs c.args.at f.0 c.size-size.result c.class_of.result c.args.free.now.places =
-    record { stands = f.1; free = f.2; sized = c.size-size.ensures.value f.0 f.1; classed = c.class_of.ensures; listed = c.requires.listed } in
+    let is : IsListed c.args.region.now.blocks c.args.at c.requires.fits.0 c.size-size.result c.class_of.result c.args.tick (list_in c.size-size.new.self.lists) =
+    is_listed c.requires.fits c.size-size.ensures.value c.class_of.ensures c.requires.sized c.requires.stamped c.requires.listed c.size-size.ensures.lists in
+    let same = c.remove.ensures.blocks ∙ c.size-size.ensures.blocks in
     elim c.if-size-words.branch [
-      | then-size-words w ↦ ready_as bs c.args.at f.0 c.size-size.result c.args.words c.args.tick _ _ _ _ w.region-is w.free-is
-          (ready_split bs c.args.at f.0 c.size-size.result c.class_of.result c.args.free.now.places is c.remove.new.self.places c.remove.ensures.places c.args.words c.args.tick
-          w.class_of-then-size-words.result c.size-size.new.self.blocks w.split.new.self.blocks w.insert.new.self.places w.if-size-words.true c.size-size.ensures.blocks
-          w.class_of-then-size-words.ensures w.split.ensures.blocks w.insert.ensures.places)
-      | else-size-words w ↦ ready_as bs c.args.at f.0 c.size-size.result c.args.words c.args.tick _ _ _ _ w.region-is w.free-is
-          (ready_whole bs c.args.at f.0 c.size-size.result c.class_of.result c.args.free.now.places is c.remove.new.self.places c.remove.ensures.places c.args.words c.args.tick
-          c.size-size.new.self.blocks fits (omega (arith, w.if-size-words.false)) c.size-size.ensures.blocks)
+      | then-size-words w ↦ ready_as c.if-size-words.region w.push.new.self w.region-is
+          (ready_split is (list_in c.remove.new.self.lists) c.remove.ensures.list c.remove.ensures.others c.args.words c.remove.new.self.blocks w.split.new.self.blocks w.if-size-words.true c.requires.least
+          same w.split.ensures.blocks w.push.new.self.blocks w.push.ensures.blocks w.class_of-then-size-words.result (list_in w.split.new.self.lists) (list_in w.push.new.self.lists)
+          w.class_of-then-size-words.ensures w.split.ensures.lists w.push.ensures.list w.push.ensures.others)
+      | else-size-words w ↦ ready_as c.if-size-words.region c.remove.new.self w.region-is
+          (ready_whole is (list_in c.remove.new.self.lists) c.remove.ensures.list c.remove.ensures.others c.args.words c.remove.new.self.blocks fits (omega (arith, w.if-size-words.false)) same)
     ]
 
-pub make_live-requires : goal.make_live-requires
-make_live-requires c = record { room = ready_room _ _ _ _ _ _ _ _ (ready c) c.args.len c.requires.payload }
+pub make_live-requires-clause-unlisted : goal.make_live-requires-clause-unlisted
+make_live-requires-clause-unlisted c = (ready c).unlisted
 
-left : (c : goal.After-make_live) → IsReady c.args.region.now.blocks c.args.at c.requires.fits.0 c.size-size.result c.args.words c.args.tick c.if-size-words.region.blocks c.if-size-words.free.places
+pub make_live-requires-clause-room : goal.make_live-requires-clause-room
+make_live-requires-clause-room c = ready_room (ready c) c.args.len c.requires.payload
+
+left : (c : goal.After-make_live) → IsReady c.args.region.now.blocks c.args.at c.requires.fits.0 c.size-size.result c.args.words c.args.tick c.if-size-words.region.blocks (list_in c.if-size-words.region.lists)
 left c =
     let f = c.requires.fits in
-    let bs = c.args.region.now.blocks in
     let fits : c.args.words ≤ c.size-size.result = omega (arith, f.3, c.size-size.ensures.value f.0 f.1) in
-    let is : IsListed bs c.args.at f.0 c.size-size.result c.class_of.result c.args.free.now.places =
-    record { stands = f.1; free = f.2; sized = c.size-size.ensures.value f.0 f.1; classed = c.class_of.ensures; listed = c.requires.listed } in
+    let is : IsListed c.args.region.now.blocks c.args.at c.requires.fits.0 c.size-size.result c.class_of.result c.args.tick (list_in c.size-size.new.self.lists) =
+    is_listed c.requires.fits c.size-size.ensures.value c.class_of.ensures c.requires.sized c.requires.stamped c.requires.listed c.size-size.ensures.lists in
+    let same = c.remove.ensures.blocks ∙ c.size-size.ensures.blocks in
     elim c.if-size-words.branch [
-      | then-size-words w ↦ ready_as bs c.args.at f.0 c.size-size.result c.args.words c.args.tick _ _ _ _ w.region-is w.free-is
-          (ready_split bs c.args.at f.0 c.size-size.result c.class_of.result c.args.free.now.places is c.remove.new.self.places c.remove.ensures.places c.args.words c.args.tick
-          w.class_of-then-size-words.result c.size-size.new.self.blocks w.split.new.self.blocks w.insert.new.self.places w.if-size-words.true c.size-size.ensures.blocks
-          w.class_of-then-size-words.ensures w.split.ensures.blocks w.insert.ensures.places)
-      | else-size-words w ↦ ready_as bs c.args.at f.0 c.size-size.result c.args.words c.args.tick _ _ _ _ w.region-is w.free-is
-          (ready_whole bs c.args.at f.0 c.size-size.result c.class_of.result c.args.free.now.places is c.remove.new.self.places c.remove.ensures.places c.args.words c.args.tick
-          c.size-size.new.self.blocks fits (omega (arith, w.if-size-words.false)) c.size-size.ensures.blocks)
+      | then-size-words w ↦ ready_as c.if-size-words.region w.push.new.self w.region-is
+          (ready_split is (list_in c.remove.new.self.lists) c.remove.ensures.list c.remove.ensures.others c.args.words c.remove.new.self.blocks w.split.new.self.blocks w.if-size-words.true c.requires.least
+          same w.split.ensures.blocks w.push.new.self.blocks w.push.ensures.blocks w.class_of-then-size-words.result (list_in w.split.new.self.lists) (list_in w.push.new.self.lists)
+          w.class_of-then-size-words.ensures w.split.ensures.lists w.push.ensures.list w.push.ensures.others)
+      | else-size-words w ↦ ready_as c.if-size-words.region c.remove.new.self w.region-is
+          (ready_whole is (list_in c.remove.new.self.lists) c.remove.ensures.list c.remove.ensures.others c.args.words c.remove.new.self.blocks fits (omega (arith, w.if-size-words.false)) same)
     ]
 
 pub returns-clause-blocks : goal.returns-clause-blocks
 returns-clause-blocks c =
     let f = c.requires.fits in
-    ready_blocks _ _ _ _ _ _ _ _ (left c) c.args.len c.make_live.new.self.blocks c.make_live.ensures.blocks c.requires.sized f.1 (c.size-size.ensures.value f.0 f.1)
+    ready_blocks (left c) c.args.len c.make_live.new.self.blocks c.make_live.ensures.blocks c.requires.sized f.1 (c.size-size.ensures.value f.0 f.1)
 
 pub returns-clause-listed : goal.returns-clause-listed
-returns-clause-listed c = ready_listed _ _ _ _ _ _ _ _ (left c) c.args.len c.make_live.new.self.blocks c.make_live.ensures.blocks
+returns-clause-listed c = ready_listed (left c) c.args.len c.make_live.new.self.blocks c.make_live.ensures.blocks (list_in c.make_live.new.self.lists) c.make_live.ensures.lists

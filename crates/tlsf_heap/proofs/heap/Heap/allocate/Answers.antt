@@ -55,6 +55,12 @@ carve-requires-clause-fits c =
 pub carve-requires-clause-sized : goal.carve-requires-clause-sized
 carve-requires-clause-sized c = rw c.choose.ensures.blocks (lawful_regions (state_of c.self.inside) c.self.invariant.lawful c.self.invariant.small)
 
+pub carve-requires-clause-listed : goal.carve-requires-clause-listed
+carve-requires-clause-listed c = rw (c.choose.ensures.blocks, c.choose.ensures.lists) c.self.invariant.listed
+
+pub carve-requires-clause-stamped : goal.carve-requires-clause-stamped
+carve-requires-clause-stamped c = rw c.choose.ensures.blocks c.self.invariant.lawful.stamps_past
+
 given : (c : goal.After-self-1) → Allocates c.args.self.now.heap c.args.len (Ok (record { heap = c.self.inside.id; at = c.in-Some.at; serial = c.self.inside.tick }))
     (with_region (state_of c.self.inside) (c.self.inside.tick + 1) c.carve.new.region)
 given c =
@@ -82,5 +88,4 @@ invariant_of-self-2 c = record {
   lawful = (given c).lawful;
   small = omega (arith, c.carve.ensures.words, c.choose.ensures.words, c.self.invariant.small);
   listed = c.carve.ensures.listed;
-  room = omega (arith, c.carve.ensures.words, c.choose.ensures.words, c.carve.ensures.room, c.choose.ensures.room, c.self.invariant.room);
 }

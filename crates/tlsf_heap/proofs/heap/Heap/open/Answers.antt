@@ -1,9 +1,8 @@
-use Rattle.std.proofs.Common.{◌≡◌, ℕ, ◌≤◌, List, [], ◌∷◌, IsPermutation, arith}
-use Rattle.std.proofs.lemmas.List.Sorted.{IsPermutation-sym}
-use Rattle.tlsf_class.specs.Classes.{class_of}
+use Rattle.std.proofs.Common.{ℕ, ◌≤◌, length, refl, ap, arith}
 use Rattle.tlsf_heap.specs.Lawful.{IsLawful}
 use Rattle.tlsf_heap.specs.Calls.{opened}
-use Rattle.tlsf_heap.specs.declared.free_place.FreePlace.{FreePlace}
+use Rattle.tlsf_heap.specs.Regions.{list_in}
+use Rattle.tlsf_heap.proofs.Listing.{listed_first}
 use Rattle.tlsf_heap.proofs.heap.Heap.open.Goals as goal
 
 opened_lawful : (id words first : ℕ) → 4 ≤ words → IsLawful (opened id words first)
@@ -17,15 +16,17 @@ opened_lawful id words first h = record {
   stamps_past = (omega arith, tt);
 }
 
-opened_place : (class words : ℕ) (old new : List FreePlace) → class ≡ class_of words → old ≡ [] → IsPermutation (record { class = class; at = 0 } ∷ old) new → IsPermutation new (record { class = class_of words; at = 0 } ∷ [])
-opened_place class words old new is_class none placed = rw (← is_class, ← none) (IsPermutation-sym _ _ placed)
+pub push-requires-clause-free : goal.push-requires-clause-free
+push-requires-clause-free c = rw c.in-Ok.ensures.blocks (0, record { within = omega arith; place = refl }, refl)
+
+pub push-requires-clause-unlisted : goal.push-requires-clause-unlisted
+push-requires-clause-unlisted c class listed = let none = listed.1 in absurd (omega (arith, ap length (c.in-Ok.ensures.lists class), none))
 
 pub invariant_of-result : goal.invariant_of-result
 invariant_of-result c =
-    let made = c.in-Ok-open.ensures in
+    let made = c.in-Ok.ensures in
     record {
-      lawful = rw (made.words, made.blocks) (opened_lawful c.args.id c.args.words c.args.first (omega arith));
-      small = omega arith;
-      listed = rw made.blocks (opened_place c.class_of.result c.args.words c.in-Ok.free.places c.insert.new.self.places c.class_of.ensures c.in-Ok.ensures.places c.insert.ensures.places);
-      room = omega (arith, made.words, c.in-Ok.ensures.room, c.insert.ensures.room);
+      lawful = rw (c.push.ensures.words, c.push.ensures.blocks, made.words, made.blocks) (opened_lawful c.args.id c.args.words c.args.first (omega arith));
+      small = omega (arith, c.push.ensures.words, made.words);
+      listed = rw (c.push.ensures.blocks, made.blocks) (listed_first c.args.words c.args.first c.class_of.result (list_in c.in-Ok.region.lists) (list_in c.push.new.self.lists) made.lists c.class_of.ensures c.push.ensures.list c.push.ensures.others);
     }

@@ -67,5 +67,4 @@ invariant_of-self c = record {
   lawful = (freed c).lawful;
   small = omega (arith, c.coalesce.ensures.words, c.self.invariant.small);
   listed = c.coalesce.ensures.listed;
-  room = omega (arith, c.coalesce.ensures.words, c.coalesce.ensures.room, c.self.invariant.room);
 }

@@ -2,7 +2,9 @@ use Rattle.std.proofs.Common.{◌≡◌, length, sym, ap, ◌∙◌, arith}
 use Rattle.tlsf_heap.specs.Blocks.{HeapState, Shown}
 use Rattle.tlsf_heap.specs.Calls.{Outcome}
 use Rattle.tlsf_heap.specs.FreePlaces.{free_places}
+use Rattle.tlsf_heap.specs.Regions.{list_in}
 use Rattle.tlsf_heap.specs.Stored.{state_of}
+use Rattle.tlsf_heap.proofs.Listing.{same_lists}
 use Rattle.tlsf_heap.proofs.Lawfulness.{with_region}
 use Rattle.tlsf_heap.proofs.Writing.{range_stands, unwritten, Writes, writes}
 use Rattle.tlsf_heap.proofs.heap.Heap.write.Goals as goal
@@ -29,8 +31,7 @@ invariant_of-self c =
     record {
       lawful = (wrote c).lawful;
       small = omega (arith, c.write.ensures.words, c.self.invariant.small);
-      listed = rw places c.self.invariant.listed;
-      room = omega (arith, c.write.ensures.words, c.self.invariant.room);
+      listed = rw places (same_lists (free_places 0 c.self.inside.region.blocks) (list_in c.self.inside.region.lists) (list_in c.write.new.self.lists) c.write.ensures.lists c.self.invariant.listed);
     }
 
 pub returns-clause-answer : goal.returns-clause-answer

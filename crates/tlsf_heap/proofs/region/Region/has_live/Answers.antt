@@ -2,12 +2,12 @@ use Rattle.std.proofs.Common.{ℕ, ◌+◌, not, List, length, get_or, sym, ap, 
 use Rattle.std.specs.Prelude.{◌==◌}
 use Rattle.std.proofs.lemmas.Bool.{false≢true, not-true, not-false}
 use Rattle.tlsf_words.specs.Fields.{free_in}
-use Rattle.tlsf_heap.proofs.Reading.{shows_state, shows_read, in_region, says_here, none_named, named_here, starts_here, has_serial-live, has_serial-free}
+use Rattle.tlsf_heap.proofs.Reading.{shows_state, holds_read, in_region, says_here, none_named, named_here, starts_here, has_serial-live, has_serial-free}
 use Rattle.tlsf_heap.proofs.region.Region.has_live.Goals as goal
 use Rattle.tlsf_heap.proofs.region.Region.has_live.Goals.{then-at-len-via-then-at-len, then-at-len-via-else-at-len+then-not-starts}
 
 pub invariant_of-self : goal.invariant_of-self
-invariant_of-self c = shows_read c.starts.ensures.words c.starts.ensures.starts c.self.invariant
+invariant_of-self c = holds_read c.starts.ensures.words c.starts.ensures.starts c.self.invariant
 
 pub returns-then-at-len-clause-answer : goal.returns-then-at-len-clause-answer
 returns-then-at-len-clause-answer c =
@@ -27,10 +27,10 @@ mark-requires c =
 
 pub invariant_of-self-then-not-tag : goal.invariant_of-self-then-not-tag
 invariant_of-self-then-not-tag c =
-    shows_read (c.mark.ensures.words ∙ c.tag.ensures.words ∙ c.starts.ensures.words) (c.mark.ensures.starts ∙ c.tag.ensures.starts ∙ c.starts.ensures.starts) c.self.invariant
+    holds_read (c.mark.ensures.words ∙ c.tag.ensures.words ∙ c.starts.ensures.words) (c.mark.ensures.starts ∙ c.tag.ensures.starts ∙ c.starts.ensures.starts) c.self.invariant
 
 pub invariant_of-self-else-not-tag : goal.invariant_of-self-else-not-tag
-invariant_of-self-else-not-tag c = shows_read (c.tag.ensures.words ∙ c.starts.ensures.words) (c.tag.ensures.starts ∙ c.starts.ensures.starts) c.self.invariant
+invariant_of-self-else-not-tag c = holds_read (c.tag.ensures.words ∙ c.starts.ensures.words) (c.tag.ensures.starts ∙ c.starts.ensures.starts) c.self.invariant
 
 pub returns-then-not-tag-clause-answer : goal.returns-then-not-tag-clause-answer
 returns-then-not-tag-clause-answer c =

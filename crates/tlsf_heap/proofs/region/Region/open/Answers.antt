@@ -7,6 +7,7 @@ use Rattle.tlsf_words.specs.Fields.{tag_word}
 use Rattle.tlsf_heap.specs.Blocks.{Free}
 use Rattle.tlsf_heap.specs.Image.{no_place, Shows, StartsOnce}
 use Rattle.tlsf_heap.proofs.Showing.{word_at, blocks_of-shown}
+use Rattle.tlsf_heap.proofs.Linking.{list_in-lists_of}
 use Rattle.tlsf_heap.proofs.region.Region.open.Goals as goal
 
 -- a new start map with its first bit set
@@ -28,7 +29,7 @@ one_block m n stamp some most long tag mark starts =
       small = omega arith;
     }
 
-made : (c : goal.After-first_header) → Shows c.first_header.new.words (Free c.args.words c.args.stamp ∷ [])
+made : (c : goal.After-new) → Shows c.first_header.new.words (Free c.args.words c.args.stamp ∷ [])
 made c =
     let opened = c.in_ok-region.ensures in
     let header = c.first_header.ensures in
@@ -37,7 +38,15 @@ made c =
     (header.tag ∙ ap (λ (n : ℕ). tag_word n true true no_place) long) header.mark (header.starts ∙ ap (λ (l : List Bool). set l 0 true) opened.starts)
 
 pub invariant_of-result : goal.invariant_of-result
-invariant_of-result c = subst (Shows c.first_header.new.words) (sym (blocks_of-shown c.first_header.new.words (Free c.args.words c.args.stamp ∷ []) (made c))) (made c)
+invariant_of-result c = record {
+  shows = subst (Shows c.first_header.new.words) (sym (blocks_of-shown c.first_header.new.words (Free c.args.words c.args.stamp ∷ []) (made c))) (made c);
+  threaded = c.new.ensures.threaded c.first_header.new.words.words;
+  free = λ class at listed. absurd (omega (arith, listed.1, ap (length {A = ℕ}) (c.new.ensures.empty c.first_header.new.words.words class)));
+}
 
 pub returns-clause-blocks : goal.returns-clause-blocks
 returns-clause-blocks c = blocks_of-shown c.first_header.new.words (Free c.args.words c.args.stamp ∷ []) (made c)
+
+pub returns-clause-lists : goal.returns-clause-lists
+returns-clause-lists c class =
+    list_in-lists_of c.new.result.heads c.first_header.new.words.words class ∙ c.new.ensures.empty c.first_header.new.words.words class

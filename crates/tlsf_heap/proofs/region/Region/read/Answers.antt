@@ -1,5 +1,5 @@
 use Rattle.std.proofs.Common.{◌∙◌, arith}
-use Rattle.tlsf_heap.proofs.Reading.{shows_state, shows_read}
+use Rattle.tlsf_heap.proofs.Reading.{shows_state, holds_read}
 use Rattle.tlsf_heap.proofs.Payloads.{payload_inside, bytes_read}
 use Rattle.tlsf_heap.proofs.region.Region.read.Goals as goal
 
@@ -7,7 +7,7 @@ pub copy_out-requires : goal.copy_out-requires
 copy_out-requires c = omega (arith, payload_inside (shows_state c.self.invariant c.self.view_is) c.requires.1, c.requires.2)
 
 pub invariant_of-self : goal.invariant_of-self
-invariant_of-self c = shows_read c.copy_out.ensures.words c.copy_out.ensures.starts c.self.invariant
+invariant_of-self c = holds_read c.copy_out.ensures.words c.copy_out.ensures.starts c.self.invariant
 
 pub returns-clause-bytes : goal.returns-clause-bytes
 returns-clause-bytes c i stands = c.copy_out.ensures.bytes ∙ bytes_read (shows_state c.self.invariant c.self.view_is) stands c.args.offset _ c.requires

@@ -1,7 +1,9 @@
--- The clauses of `split_header` are a split of the words, and so one of the blocks.
+-- The clauses of `split_header` are a split of the words, and so one of the blocks, and leave the lists.
 use Rattle.std.proofs.Common.{arith}
 use Rattle.tlsf_heap.proofs.Reading.{shows_state, says_here}
 use Rattle.tlsf_heap.proofs.Splitting.{Splits, splits_blocks}
+use Rattle.tlsf_heap.proofs.Linking.{Relists, holds_state}
+use Rattle.tlsf_heap.proofs.Relisting.{relisted_split}
 use Rattle.tlsf_heap.proofs.region.Region.split.Goals as goal
 
 pub split_header-requires : goal.split_header-requires
@@ -20,8 +22,16 @@ splits c =
       keeps = record { before = e.before; behind = e.behind; next = e.next; length = e.length; starts = e.starts };
     }
 
+relists : (c : goal.After-split_header) → Relists c.split_header.new.words c.self.inside.lists c.args.self.now.lists
+relists c =
+    let state = holds_state c.self.invariant c.self.view_is in
+    relisted_split state c.requires.unlisted (splits c) c.requires.rest (splits_blocks state.shows c.requires.least (splits c) c.requires.rest)
+
 pub invariant_of-self : goal.invariant_of-self
-invariant_of-self c = (splits_blocks (shows_state c.self.invariant c.self.view_is) c.requires.least (splits c) c.requires.rest).shows
+invariant_of-self c = (relists c).holds
 
 pub returns-clause-blocks : goal.returns-clause-blocks
 returns-clause-blocks c = (splits_blocks (shows_state c.self.invariant c.self.view_is) c.requires.least (splits c) c.requires.rest).blocks
+
+pub returns-clause-lists : goal.returns-clause-lists
+returns-clause-lists c = (relists c).same

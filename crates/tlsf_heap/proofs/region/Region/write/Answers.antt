@@ -1,17 +1,31 @@
-use Rattle.std.proofs.Common.{arith}
+use Rattle.std.proofs.Common.{length, arith}
+use Rattle.tlsf_heap.specs.Blocks.{bytes_of}
+use Rattle.tlsf_heap.specs.Calls.{overwritten}
+use Rattle.tlsf_heap.specs.GoodFit.{block_at}
 use Rattle.tlsf_heap.proofs.Reading.{shows_state}
 use Rattle.tlsf_heap.proofs.Payloads.{payload_inside, rewritten}
+use Rattle.tlsf_heap.proofs.Linking.{Relists, holds_state}
+use Rattle.tlsf_heap.proofs.Relisting.{relisted_bytes}
 use Rattle.tlsf_heap.proofs.region.Region.write.Goals as goal
 
 pub copy_in-requires : goal.copy_in-requires
 copy_in-requires c = omega (arith, payload_inside (shows_state c.self.invariant c.self.view_is) c.requires.1, c.requires.2)
 
-pub invariant_of-self : goal.invariant_of-self
-invariant_of-self c =
+relists : (c : goal.After-copy_in) → Relists c.copy_in.new.self c.self.inside.lists c.args.self.now.lists
+relists c =
     let new = c.copy_in.ensures in
-    (rewritten c.args.offset (shows_state c.self.invariant c.self.view_is) c.requires new.bytes new.before new.behind new.words_before new.words_behind new.length new.starts).shows
+    let state = holds_state c.self.invariant c.self.view_is in
+    relisted_bytes state c.args.offset (length c.args.bytes.now) (λ i. overwritten (bytes_of (block_at c.args.self.now.blocks i)) c.args.offset c.args.bytes.now) c.requires
+    new.words_before new.words_behind new.length
+    (rewritten c.args.offset state.shows c.requires new.bytes new.before new.behind new.words_before new.words_behind new.length new.starts)
+
+pub invariant_of-self : goal.invariant_of-self
+invariant_of-self c = (relists c).holds
 
 pub returns-clause-blocks : goal.returns-clause-blocks
 returns-clause-blocks c =
     let new = c.copy_in.ensures in
     (rewritten c.args.offset (shows_state c.self.invariant c.self.view_is) c.requires new.bytes new.before new.behind new.words_before new.words_behind new.length new.starts).blocks
+
+pub returns-clause-lists : goal.returns-clause-lists
+returns-clause-lists c = (relists c).same

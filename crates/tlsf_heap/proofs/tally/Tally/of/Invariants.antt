@@ -7,6 +7,7 @@ abbrev pub invariant-loop-at : goal.invariant-loop-at
 invariant-loop-at l = record {
   words : l.region.words ≡ l.fn.region.words;
   blocks : l.region.blocks ≡ l.fn.region.blocks;
+  lists : l.region.lists ≡ l.fn.region.lists;
   all : l.words ≡ l.fn.region.words;
   sums : IsTallyUpTo l.tick l.fn.region.blocks l.at l.tally;
 }

@@ -1,0 +1,18 @@
+use Rattle.std.proofs.Common.{ℕ, List, not, eqb, length, sym, ap, ◌∙◌}
+use Rattle.std.proofs.lemmas.List.Elements.{filter_agree}
+use Rattle.tlsf_class.specs.Classes.{classes}
+use Rattle.tlsf_class.specs.Members.{next_member}
+use Rattle.tlsf_words.specs.Lists.{list_of}
+use Rattle.tlsf_heap.specs.Regions.{list_in}
+use Rattle.tlsf_heap.proofs.Linking.{holds_state}
+use Rattle.tlsf_heap.proofs.region.Region.next_from.Goals as goal
+
+-- the classes whose bits are set are those whose lists aren't empty
+pub returns-clause-least : goal.returns-clause-least
+returns-clause-least c =
+    let state = holds_state c.self.invariant c.self.view_is in
+    c.next_from.ensures.least
+    ∙ ap (λ (members : List ℕ). next_member members c.args.class)
+    (state.threaded.marked
+    ∙ filter_agree (λ class. not (eqb (length (list_of c.self.inside.lists.heads c.self.inside.words.words class)) 0)) (λ class. not (eqb (length (list_in c.args.self.now.lists class)) 0))
+    (λ class. ap (λ (places : List ℕ). not (eqb (length places) 0)) (sym (state.lists class))) classes)

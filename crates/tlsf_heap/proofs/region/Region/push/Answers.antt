@@ -1,0 +1,34 @@
+-- The free lists with one more place: only links have changed, and the place is that of a free block.
+use Rattle.std.proofs.Common.{ℕ, List, ◌∷◌, sym, ap, ◌∙◌, subst, arith}
+use Rattle.std.specs.Prelude.{Contains}
+use Rattle.tlsf_heap.proofs.Reading.{shows_state, in_region}
+use Rattle.tlsf_heap.proofs.Linking.{Relinks, holds_state, list_in-lists_of, relinked, free_pushed}
+use Rattle.tlsf_heap.proofs.region.Region.push.Goals as goal
+
+pub push-requires-clause-inside : goal.push-requires-clause-inside
+push-requires-clause-inside c = omega (arith, in_region (shows_state c.self.invariant c.self.view_is) (c.requires.free.0, c.requires.free.1))
+
+pub push-requires-clause-unlisted : goal.push-requires-clause-unlisted
+push-requires-clause-unlisted c class listed =
+    c.requires.unlisted class (subst (λ (places : List ℕ). Contains places c.args.at) (sym ((holds_state c.self.invariant c.self.view_is).lists class)) listed)
+
+relinks : (c : goal.After-push) → Relinks c.push.new.words c.push.new.self c.args.self.now.blocks
+relinks c =
+    let new = c.push.ensures in
+    let state = holds_state c.self.invariant c.self.view_is in
+    relinked state new.threaded (free_pushed state c.push.new.words c.push.new.self c.args.class c.args.at new.others c.requires.free new.list) new.words new.length new.starts
+
+pub invariant_of-self : goal.invariant_of-self
+invariant_of-self c = (relinks c).holds
+
+pub returns-clause-blocks : goal.returns-clause-blocks
+returns-clause-blocks c = (relinks c).same
+
+pub returns-clause-list : goal.returns-clause-list
+returns-clause-list c =
+    list_in-lists_of c.push.new.self.heads c.push.new.words.words c.args.class ∙ c.push.ensures.list
+    ∙ ap (λ (places : List ℕ). c.args.at ∷ places) (sym ((holds_state c.self.invariant c.self.view_is).lists c.args.class))
+
+pub returns-clause-others : goal.returns-clause-others
+returns-clause-others c other differs =
+    list_in-lists_of c.push.new.self.heads c.push.new.words.words other ∙ c.push.ensures.others other differs ∙ sym ((holds_state c.self.invariant c.self.view_is).lists other)

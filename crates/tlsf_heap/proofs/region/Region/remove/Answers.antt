@@ -1,0 +1,40 @@
+-- The free lists with one place less: only links have changed.
+use Rattle.std.proofs.Common.{ℕ, List, sym, ap, ◌∙◌, subst}
+use Rattle.std.specs.Prelude.{Contains}
+use Rattle.tlsf_words.specs.Lists.{list_of, without_place}
+use Rattle.tlsf_words.proofs.Threads.{removed_unlisted}
+use Rattle.tlsf_heap.proofs.Linking.{Relinks, holds_state, list_in-lists_of, relinked, free_removed}
+use Rattle.tlsf_heap.proofs.region.Region.remove.Goals as goal
+
+pub remove-requires-clause-listed : goal.remove-requires-clause-listed
+remove-requires-clause-listed c =
+    subst (λ (places : List ℕ). Contains places c.args.at) ((holds_state c.self.invariant c.self.view_is).lists c.args.class) c.requires.listed
+
+relinks : (c : goal.After-remove) → Relinks c.remove.new.words c.remove.new.self c.args.self.now.blocks
+relinks c =
+    let new = c.remove.ensures in
+    let state = holds_state c.self.invariant c.self.view_is in
+    relinked state new.threaded (free_removed state c.remove.new.words c.remove.new.self c.args.class c.args.at new.others new.list) new.words new.length new.starts
+
+pub invariant_of-self : goal.invariant_of-self
+invariant_of-self c = (relinks c).holds
+
+pub returns-clause-blocks : goal.returns-clause-blocks
+returns-clause-blocks c = (relinks c).same
+
+pub returns-clause-list : goal.returns-clause-list
+returns-clause-list c =
+    list_in-lists_of c.remove.new.self.heads c.remove.new.words.words c.args.class ∙ c.remove.ensures.list
+    ∙ ap (without_place c.args.at) (sym ((holds_state c.self.invariant c.self.view_is).lists c.args.class))
+
+pub returns-clause-others : goal.returns-clause-others
+returns-clause-others c other differs =
+    list_in-lists_of c.remove.new.self.heads c.remove.new.words.words other ∙ c.remove.ensures.others other differs ∙ sym ((holds_state c.self.invariant c.self.view_is).lists other)
+
+pub returns-clause-unlisted : goal.returns-clause-unlisted
+returns-clause-unlisted c class listed =
+    let new = c.remove.ensures in
+    let state = holds_state c.self.invariant c.self.view_is in
+    removed_unlisted c.self.inside.lists.heads c.self.inside.lists.members c.self.inside.words.words c.args.class c.args.at (list_of c.remove.new.self.heads c.remove.new.words.words)
+    state.threaded (subst (λ (places : List ℕ). Contains places c.args.at) (state.lists c.args.class) c.requires.listed) new.list new.others class
+    (subst (λ (places : List ℕ). Contains places c.args.at) (list_in-lists_of c.remove.new.self.heads c.remove.new.words.words class) listed)

@@ -1,0 +1,143 @@
+-- A place is put in front of a list.
+use Rattle.std.proofs.Common.{◌≡◌, ◌≢◌, ℕ, ◌+◌, ◌-◌, ◌^◌, ◌<◌, ◌≤◌, List, [], ◌∷◌, length, get_or, set, sym, ap, ◌∙◌, subst, inl, inr, arith, get_or-set_same, get_or-set_other}
+use Rattle.std.specs.List.{Contains}
+use Rattle.std.proofs.lemmas.Bool.{cases_eq}
+use Rattle.std.proofs.lemmas.List.{length-set}
+use Rattle.std.proofs.lemmas.List.FromFn.{length-range_with_len, get_or-range_with_len}
+use Rattle.tlsf_class.specs.Classes.{classes}
+use Rattle.tlsf_class.specs.Members.{with_member}
+use Rattle.tlsf_words.specs.Fields.{low_half, links_word}
+use Rattle.tlsf_words.specs.Lists.{nowhere, list_of, first_of, LinkedFrom, AreDistinct, listed_classes, IsUnlisted, OnlyLinksChange, AreThreaded}
+use Rattle.tlsf_words.proofs.FieldLaws.{low_half-links_word}
+use Rattle.tlsf_words.proofs.ListedClasses.{some-cons, some-first, listed-with, listed-same}
+use Rattle.tlsf_words.proofs.PlaceLists.{member_here, member_behind, member_cases, first_member, all_member, all_from_members}
+use Rattle.tlsf_words.proofs.Threads.{begins, head_listed, listed_within, first_small, linked-kept, with_list, Relists, relisted-list, relisted-others, relisted}
+
+-- the links of a place in front of `next`
+pub record IsInFront (w v : List ℕ) (at next : ℕ) : Type 0 where
+  pub here : get_or v (at + 2) 0 ≡ links_word next nowhere
+  pub behind : next ≢ nowhere → get_or v (next + 2) 0 ≡ links_word (low_half (get_or w (next + 2) 0)) at
+  pub others : (k : ℕ) → k ≢ at + 2 → (next ≢ nowhere → k ≢ next + 2) → get_or v k 0 ≡ get_or w k 0
+
+-- so are those of the first place of a list
+pub in_front-first : (w v : List ℕ) (at next : ℕ) → at + 2 < length w → v ≡ set w (at + 2) (links_word next nowhere) → next ≡ nowhere → IsInFront w v at next
+in_front-first w v at next inside is none = record {
+  here = ap (λ (u : List ℕ). get_or u (at + 2) 0) is ∙ get_or-set_same w (at + 2) (links_word next nowhere) 0 inside;
+  behind = λ some. absurd (some none);
+  others = λ k n _. ap (λ (u : List ℕ). get_or u k 0) is ∙ get_or-set_other w (at + 2) k (links_word next nowhere) 0 n;
+}
+
+-- and those of a place before another, whose links name it then
+pub in_front-more : (w u v : List ℕ) (at next : ℕ) → at + 2 < length w → next + 2 < length w → at ≢ next → next ≢ nowhere
+    → u ≡ set w (at + 2) (links_word next nowhere) → v ≡ set u (next + 2) (links_word (low_half (get_or u (next + 2) 0)) at) → IsInFront w v at next
+in_front-more w u v at next inside next_inside apart some is then =
+    let within : next + 2 < length u = omega (arith, ap length is, length-set w (at + 2) (links_word next nowhere)) in
+    let written = links_word (low_half (get_or u (next + 2) 0)) at in
+    record {
+      here =
+          ap (λ (t : List ℕ). get_or t (at + 2) 0) then ∙ get_or-set_other u (next + 2) (at + 2) written 0 (λ e. apart (omega (arith, e)))
+          ∙ ap (λ (t : List ℕ). get_or t (at + 2) 0) is ∙ get_or-set_same w (at + 2) (links_word next nowhere) 0 inside;
+      behind = λ _.
+          ap (λ (t : List ℕ). get_or t (next + 2) 0) then ∙ get_or-set_same u (next + 2) written 0 within
+          ∙ ap (λ (t : List ℕ). links_word (low_half (get_or t (next + 2) 0)) at) is
+          ∙ ap (λ (k : ℕ). links_word (low_half k) at) (get_or-set_other w (at + 2) (next + 2) (links_word next nowhere) 0 (λ e. apart (omega (arith, e))));
+      others = λ k n f.
+          ap (λ (t : List ℕ). get_or t k 0) then ∙ get_or-set_other u (next + 2) k written 0 (f some)
+          ∙ ap (λ (t : List ℕ). get_or t k 0) is ∙ get_or-set_other w (at + 2) k (links_word next nowhere) 0 n;
+    }
+
+-- then the places are linked
+linked-in_front : (w v : List ℕ) (at : ℕ) (places : List ℕ) → length w ≤ 2 ^ 20 → length v ≡ length w → at + 2 < length w → IsInFront w v at (first_of places) → AreDistinct (at ∷ places) → LinkedFrom w nowhere places → LinkedFrom v nowhere (at ∷ places)
+linked-in_front w v at [] small long inside front distinct linked = (front.here, omega (arith, inside, long), tt)
+linked-in_front w v at (p ∷ places) small long inside front distinct linked = (
+  front.here,
+  omega (arith, inside, long),
+  (
+    front.behind (λ e. omega (arith, linked.1, e)) ∙ ap (λ (k : ℕ). links_word k at) (ap low_half linked.0 ∙ low_half-links_word (first_of places) nowhere (first_small w p places small linked.2)),
+    omega (arith, linked.1, long),
+    linked-kept w v p places long (λ q m. front.others (q + 2) (λ e. all_member (λ y. at ≢ y) places q distinct.0.1 m (omega (arith, e))) (λ _ e. all_member (λ y. p ≢ y) places q distinct.1.0 m (omega (arith, e)))) linked.2,
+  ),
+)
+
+-- the classes in use
+pub class_in_use : (class : ℕ) → 4 ≤ class → class ≤ 272 → Contains classes class
+unfolding classes
+class_in_use class least most = (class - 4, omega (arith, length-range_with_len 4 269), get_or-range_with_len 4 269 (class - 4) class (omega arith) ∙ omega arith)
+
+-- a place where a list begins is inside
+pub next_within : (heads members w : List ℕ) (class next : ℕ) → AreThreaded heads members w → next ≡ get_or heads class nowhere → next ≢ nowhere → next + 2 < length w
+next_within heads members w class next t e some =
+    let within = listed_within heads members w t class (get_or heads class nowhere) (head_listed heads w class (λ f. some (e ∙ f))) in
+    omega (arith, e, within)
+
+-- and differs from one that is in no list
+pub next_apart : (heads w : List ℕ) (class at next : ℕ) → IsUnlisted (list_of heads w) at → next ≡ get_or heads class nowhere → next ≢ nowhere → at ≢ next
+next_apart heads w class at next unlisted e some same =
+    unlisted class (subst (Contains (list_of heads w class)) (sym (same ∙ e)) (head_listed heads w class (λ f. some (e ∙ f))))
+
+-- what a push writes
+pub record Pushes (heads members w : List ℕ) (class at : ℕ) (new_heads new_members v : List ℕ) : Type 0 where
+  pub small : length w ≤ 2 ^ 20
+  pub inside : at + 2 < length w
+  pub unlisted : IsUnlisted (list_of heads w) at
+  pub in_use : Contains classes class
+  pub long : length v ≡ length w
+  pub in_front : IsInFront w v at (get_or heads class nowhere)
+  pub head : get_or new_heads class nowhere ≡ at
+  pub heads_kept : (c : ℕ) → c ≢ class → get_or new_heads c nowhere ≡ get_or heads c nowhere
+  pub begun : get_or heads class nowhere ≡ nowhere → new_members ≡ with_member members class
+  pub grown : get_or heads class nowhere ≢ nowhere → new_members ≡ members
+
+module _ (heads members w : List ℕ) (class at : ℕ) (new_heads new_members v : List ℕ) (t : AreThreaded heads members w) (p : Pushes heads members w class at new_heads new_members v) where
+  abbrev old : List ℕ
+  old = list_of heads w class
+
+  front : IsInFront w v at (first_of old)
+  front = subst (IsInFront w v at) (begins heads w class) p.in_front
+
+  distinct : AreDistinct (at ∷ old)
+  distinct = (all_from_members (λ y. at ≢ y) old (λ y m e. p.unlisted class (subst (Contains old) (sym e) m)), t.distinct class)
+
+  marked : new_members ≡ listed_classes (with_list (list_of heads w) class (at ∷ old))
+  marked = elim (cases_eq (get_or heads class nowhere) nowhere) [
+    | inl none ↦ p.begun none ∙ ap (λ (ms : List ℕ). with_member ms class) t.marked ∙ listed-with (list_of heads w) class (at ∷ old) (some-cons at old)
+    | inr some ↦ p.grown some ∙ t.marked ∙ listed-same (list_of heads w) class (at ∷ old) (some-first old (λ e. some (begins heads w class ∙ e))) (some-cons at old)
+  ]
+
+  -- no place of another list is the one in front or the one behind it
+  words_kept : (c : ℕ) → c ≢ class → (q : ℕ) → Contains (list_of heads w c) q → get_or v (q + 2) 0 ≡ get_or w (q + 2) 0
+  words_kept c n q m = front.others (q + 2)
+      (λ e. let same : q ≡ at = omega (arith, e) in p.unlisted c (subst (Contains (list_of heads w c)) same m))
+      (λ some e. let same : first_of old ≡ q = omega (arith, e) in n (t.apart c class q m (subst (Contains old) same (first_member old some))))
+
+  pub relists : Relists heads members w class (at ∷ old) new_heads new_members v
+  relists = record {
+    small = p.small;
+    long = p.long;
+    head = p.head;
+    heads_kept = p.heads_kept;
+    linked = linked-in_front w v at old p.small p.long p.inside front distinct (t.linked class);
+    distinct = distinct;
+    words_kept = words_kept;
+    apart = λ c q m n. elim (member_cases at old q m) [
+      | inl same ↦ absurd (p.unlisted c (subst (Contains (list_of heads w c)) (sym same) n))
+      | inr behind ↦ t.apart c class q n behind
+    ];
+    marked = marked;
+    in_use = p.in_use;
+  }
+
+  pub pushed-threaded : AreThreaded new_heads new_members v
+  pushed-threaded = relisted heads members w class (at ∷ old) new_heads new_members v t relists
+
+  pub pushed-list : list_of new_heads v class ≡ at ∷ old
+  pushed-list = relisted-list heads members w class (at ∷ old) new_heads new_members v t relists
+
+  pub pushed-others : (c : ℕ) → c ≢ class → list_of new_heads v c ≡ list_of heads w c
+  pushed-others = relisted-others heads members w class (at ∷ old) new_heads new_members v t relists
+
+  listed : (q : ℕ) → Contains (at ∷ old) q → Contains (list_of new_heads v class) q
+  listed q m = subst (λ (ps : List ℕ). Contains ps q) (sym pushed-list) m
+
+  pub pushed-words : OnlyLinksChange (list_of new_heads v) w v
+  pushed-words k apart = front.others k (apart class at (listed at (member_here at old))) (λ some. apart class (first_of old) (listed (first_of old) (member_behind at old (first_of old) (first_member old some))))

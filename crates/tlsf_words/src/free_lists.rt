@@ -1,0 +1,154 @@
+ghost use Rattle.std.specs.Prelude.{◌≡◌, ◌≢◌, ℕ, ◌+◌, ◌<◌, [], ◌∷◌, List, length, Contains, slice_get, slice_index, slice_index_or, slice_set};
+ghost use Rattle.tlsf_class.specs.Members.{next_member, without_member};
+ghost use Rattle.tlsf_words.specs.Fields.{links_word, low_half, high_half};
+ghost use Rattle.tlsf_words.specs.Lists.{nowhere, list_of, without_place, AreThreaded, IsUnlisted, OnlyLinksChange, AreTied};
+
+use crate::heads::{Heads, NO_PLACE};
+use crate::links::Links;
+use crate::words::Words;
+use std::marker::Model;
+use tlsf_class::{Bitmaps, Class};
+
+/// Lists of places, one for each class, threaded through the third words of their headers, and bitmaps of the classes whose
+/// lists aren't empty. A list is last in, first out. Nothing allocates, and no list is walked.
+#[derive(Drop)]
+pub struct FreeLists {
+    heads: Heads,
+    bitmaps: Bitmaps,
+}
+
+impl Model for FreeLists {
+    ghost use Rattle.tlsf_words.specs.Lists.{ListHeads};
+
+    ghost Value = { ListHeads };
+
+    ghost view = { λ f. record { heads = f.heads.places; members = f.bitmaps.members } };
+}
+
+impl FreeLists {
+    /// Every list is empty.
+    pub fn new() -> FreeLists
+        ensures empty { (words : List ℕ) (class : ℕ) → list_of result.heads words class ≡ [] }
+        ensures threaded { (words : List ℕ) → AreThreaded result.heads result.members words }
+    {
+        FreeLists {
+            heads: Heads::new(),
+            bitmaps: Bitmaps::new(),
+        }
+    }
+
+    /// Puts a place that is in no list in front of the list of a class.
+    pub fn push(&mut self, words: &mut Words, class: Class, at: u32)
+        requires threaded { AreThreaded self.old.heads self.old.members words.old.words }
+        requires inside { at + 2 < length words.old.words }
+        requires unlisted { IsUnlisted (list_of self.old.heads words.old.words) at }
+        ensures threaded { AreThreaded self.new.heads self.new.members words.new.words }
+        ensures list { list_of self.new.heads words.new.words class ≡ at ∷ list_of self.old.heads words.old.words class }
+        ensures others { (other : ℕ) → other ≢ class → list_of self.new.heads words.new.words other ≡ list_of self.old.heads words.old.words other }
+        ensures words { OnlyLinksChange (list_of self.new.heads words.new.words) words.old.words words.new.words }
+        ensures length { length words.new.words ≡ length words.old.words }
+        ensures starts { words.new.starts ≡ words.old.starts }
+    {
+        let next = self.heads.place(class);
+        words.set_links(
+            at,
+            Links {
+                next,
+                previous: NO_PLACE,
+            },
+        );
+        self.heads.set_place(class, at);
+        if next == NO_PLACE {
+            self.bitmaps.set(class);
+        } else {
+            set_previous(words, next, at);
+        }
+    }
+
+    /// Takes a place out of the list of its class, by its own links.
+    pub fn remove(&mut self, words: &mut Words, class: Class, at: u32)
+        requires threaded { AreThreaded self.old.heads self.old.members words.old.words }
+        requires listed { Contains (list_of self.old.heads words.old.words class) at }
+        ensures threaded { AreThreaded self.new.heads self.new.members words.new.words }
+        ensures list { list_of self.new.heads words.new.words class ≡ without_place at (list_of self.old.heads words.old.words class) }
+        ensures others { (other : ℕ) → other ≢ class → list_of self.new.heads words.new.words other ≡ list_of self.old.heads words.old.words other }
+        ensures words { OnlyLinksChange (list_of self.new.heads words.new.words) words.old.words words.new.words }
+        ensures length { length words.new.words ≡ length words.old.words }
+        ensures starts { words.new.starts ≡ words.old.starts }
+    {
+        let links = words.links(at);
+        tie(words, links);
+        if links.previous == NO_PLACE {
+            self.begin_at(class, links.next);
+        }
+    }
+
+    /// The place at the head of the list of a class, `None` where the list is empty.
+    pub fn first(&mut self, class: Class) -> Option<u32>
+        ensures place { (words : List ℕ) → AreThreaded self.old.heads self.old.members words → result ≡ slice_get (list_of self.old.heads words class) 0 }
+        ensures heads { self.new.heads ≡ self.old.heads }
+        ensures members { self.new.members ≡ self.old.members }
+    {
+        let at = self.heads.place(class);
+        if at == NO_PLACE { None } else { Some(at) }
+    }
+
+    /// The least class at or above a class whose list isn't empty, `None` where there is none.
+    pub fn next_from(&mut self, class: Class) -> Option<Class>
+        ensures least { result ≡ next_member self.old.members class }
+        ensures heads { self.new.heads ≡ self.old.heads }
+        ensures members { self.new.members ≡ self.old.members }
+    {
+        self.bitmaps.next_from(class)
+    }
+
+    /// Makes the list of a class begin at a place. The class is no member where that is `NO_PLACE`.
+    fn begin_at(&mut self, class: Class, first: u32)
+        ensures head { slice_index_or self.new.heads class nowhere ≡ first }
+        ensures heads { (other : ℕ) → other ≢ class → slice_index_or self.new.heads other nowhere ≡ slice_index_or self.old.heads other nowhere }
+        ensures emptied { first ≡ nowhere → self.new.members ≡ without_member self.old.members class }
+        ensures members { first ≢ nowhere → self.new.members ≡ self.old.members }
+    {
+        self.heads.set_place(class, first);
+        if first == NO_PLACE {
+            self.bitmaps.clear(class);
+        }
+    }
+}
+
+/// Ties two places, each of which may be `NO_PLACE`, to each other.
+fn tie(words: &mut Words, links: Links)
+    requires next { links.next ≢ nowhere → links.next + 2 < length words.old.words }
+    requires previous { links.previous ≢ nowhere → links.previous + 2 < length words.old.words }
+    requires apart { links.next ≢ nowhere → links.next ≢ links.previous }
+    ensures tied { AreTied words.old.words words.new.words links.next links.previous }
+    ensures length { length words.new.words ≡ length words.old.words }
+    ensures starts { words.new.starts ≡ words.old.starts }
+{
+    if links.previous != NO_PLACE {
+        set_next(words, links.previous, links.next);
+    }
+    if links.next != NO_PLACE {
+        set_previous(words, links.next, links.previous);
+    }
+}
+
+/// Writes the next place of the place `at`.
+fn set_next(words: &mut Words, at: u32, next: u32)
+    requires { at + 2 < length words.old.words }
+    ensures words { words.new.words ≡ slice_set words.old.words (at + 2) (links_word next (high_half (slice_index words.old.words (at + 2)))) }
+    ensures starts { words.new.starts ≡ words.old.starts }
+{
+    let links = words.links(at);
+    words.set_links(at, Links { next, ..links });
+}
+
+/// Writes the previous place of the place `at`.
+fn set_previous(words: &mut Words, at: u32, previous: u32)
+    requires { at + 2 < length words.old.words }
+    ensures words { words.new.words ≡ slice_set words.old.words (at + 2) (links_word (low_half (slice_index words.old.words (at + 2))) previous) }
+    ensures starts { words.new.starts ≡ words.old.starts }
+{
+    let links = words.links(at);
+    words.set_links(at, Links { previous, ..links });
+}
