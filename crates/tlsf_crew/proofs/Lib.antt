@@ -30,3 +30,4 @@ pub mod NamesMeant
 pub mod Histories
 pub mod Joined
 pub mod LiveBlocks
+pub mod Sends

@@ -16,6 +16,8 @@
 //! the guard is dropped, and knows then that the live blocks are the accepted allocates less the accepted releases.
 #![tactic(auto)]
 
+#[cfg(test)]
+mod away_tests;
 mod call;
 mod chunk;
 mod counted;

@@ -95,8 +95,8 @@ impl Worker {
     /// Releases a block of the own heap, or posts the name of another worker's block to its owner, unread.
     ///
     /// - `here`: a name of the own heap is answered as the heap answers it.
-    /// - `there`: a name of another worker's heap is put into the lane to it, or given back as `Full` where that lane
-    ///   knows no free slot.
+    /// - `there`: a name of another worker's heap is put into the lane to it, or given back as `Full`, which comes only
+    ///   where that lane knows no free slot.
     /// - `nowhere`: a name of no other worker is a `Stranger`, and nothing changes.
     pub fn release(&mut self, name: Name) -> Result<Released, CrewRefusal>
         ensures here { name.heap ≡ id_of self.old → ReleasedHere self.old self.new name result }

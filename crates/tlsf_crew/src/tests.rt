@@ -238,6 +238,12 @@ fn calls_of_a_worker(rt: HostRuntime) -> Result<(), Fail> {
     );
     assert_eq!(rt; second.release(name(2, 0, 1)), Err(CrewRefusal::Stranger));
     assert_eq!(rt; first.release(name(0, 0, 1)), Ok(Released::Freed));
+    let stale = Took {
+        from: 1,
+        name: name(0, 0, 1),
+        answer: Err(Refusal::Stale),
+    };
+    assert_eq!(rt; first.take(1), Ok(Some(stale)));
     assert_eq!(rt; first.take(1), Ok(None));
     assert_eq!(rt; first.take(0), Err(CrewRefusal::Stranger));
     Ok(())

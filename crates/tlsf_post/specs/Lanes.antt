@@ -1,12 +1,13 @@
 -- What a contract sees of the two ends of a lane.
-use Rattle.std.specs.Prelude.{◌≡◌, ℕ, ◌+◌, List, length, take, drop}
+use Rattle.std.specs.Prelude.{◌≡◌, ℕ, List, ◌++◌, length, take, drop}
+use Rattle.rtrb.specs.Ring.{sent, received, producer_capacity, IsPair}
 use Rattle.tlsf_post.specs.declared.post.Post.{Post}
 use Rattle.tlsf_post.specs.declared.post_end.PostEnd.{PostEnd}
 use Rattle.tlsf_post.specs.declared.take_end.TakeEnd.{TakeEnd}
 
--- the posts sent since the last `beside`
+-- the posts sent since the last `beside`: into the ring, and behind it
 unfoldable pub posts_sent : PostEnd → List Post
-posts_sent p = p.kept.items
+posts_sent p = drop (length (sent p.mark.value)) (sent p.ring) ++ p.kept.items
 
 -- how many slots it knows to be free
 unfoldable pub free_slots : PostEnd → ℕ
@@ -14,25 +15,27 @@ free_slots p = p.free
 
 -- how many posts its lane holds at most
 unfoldable pub capacity_of : PostEnd → ℕ
-capacity_of p = p.capacity
+capacity_of p = producer_capacity p.ring
 
 -- the posts that waited at the last `beside`
 unfoldable pub waited : TakeEnd → List Post
-waited t = t.waited.items
+waited t = t.ready.items
 
--- those taken since
+-- those taken since: of those that waited, and out of the ring
 unfoldable pub taken : TakeEnd → List Post
-taken t = take t.next t.waited.items
+taken t = take t.next t.ready.items ++ drop (length (received t.mark.value)) (received t.ring)
 
 -- those that it knows to be ready, which the next takes answer
 unfoldable pub ready : TakeEnd → List Post
-ready t = drop t.next t.waited.items
+ready t = drop t.next t.ready.items
 
--- the two fit each other as the ends of one lane do: they agree on its capacity, and each slot has a post that waited, has
--- one that was sent, or is free
+-- the two fit each other as the ends of one lane do: they are the ends of one ring, which held nothing at the last
+-- `beside`, and they agree on how many posts waited then
 unfoldable pub IsLane : PostEnd → TakeEnd → Type 0
 IsLane p t =
-    (p.capacity ≡ t.capacity) × (length t.waited.items + length p.kept.items + p.free ≡ p.capacity)
+    IsPair p.ring t.ring
+    × (length (sent p.mark.value) ≡ length (received t.mark.value))
+    × (p.waiting ≡ length t.ready.items)
 
 -- the new post end has the old one's capacity, and is an end of each lane that the old one was an end of
 abbrev pub KeepsPost : PostEnd → PostEnd → Type 0

@@ -1,18 +1,26 @@
-ghost use Rattle.std.specs.Prelude.{◌≤◌, vec_len, vec_capacity};
+ghost use Rattle.std.specs.Prelude.{◌≡◌, ◌<◌, ◌≤◌, length, vec_len, vec_capacity};
+ghost use Rattle.rtrb.specs.Ring.{received, consumer_capacity};
 
 use crate::post::Post;
+use rtrb::Consumer;
+use std::snapshot::Snapshot;
 
 /// The end of a lane that takes posts, in the order in which they were sent.
 #[derive(Drop)]
 pub struct TakeEnd {
+    // What was sent since the last `beside` comes from here.
+    pub(crate) ring: Consumer<Post>,
     // What waited at the last `beside`. The first `next` of it were taken.
-    pub(crate) waited: Vec<Post>,
+    pub(crate) ready: Vec<Post>,
     pub(crate) next: usize,
-    pub(crate) capacity: usize,
-    ghost inside: { next ≤ vec_len waited },
-    ghost room: { capacity ≤ vec_capacity waited },
-    ghost fits: { vec_len waited ≤ capacity },
-    ghost few: { capacity ≤ 1024 },
+    // The ring as the last `beside` left it. It has no bytes.
+    pub(crate) mark: Snapshot<Consumer<Post>>,
+    ghost inside: { next ≤ vec_len ready },
+    ghost marked: { length (received mark.value) ≤ length (received ring) },
+    ghost in_turn: { length (received mark.value) < length (received ring) → next ≡ vec_len ready },
+    ghost room: { consumer_capacity ring ≤ vec_capacity ready },
+    ghost fits: { vec_len ready ≤ consumer_capacity ring },
+    ghost few: { consumer_capacity ring ≤ 1024 },
 }
 
 #[tactic(auto, unfolding(crate::specs::Lanes::waited, crate::specs::Lanes::taken, crate::specs::Lanes::ready, crate::specs::Lanes::IsLane))]
@@ -21,7 +29,8 @@ impl TakeEnd {
     ghost use mathlib.Core.List.{IsPrefix};
     ghost use Rattle.tlsf_post.specs.Lanes.{waited, taken, ready, KeepsTake};
 
-    /// Takes the next post, `None` where this end knows of none.
+    /// Takes the next post of those that waited at the last `beside`, and then of those in the ring. `None` where
+    /// neither has one.
     ///
     /// - `lane`: it stays an end of its lane.
     /// - `waited`: what counts as having waited at the last `beside` stays the same.
@@ -37,15 +46,20 @@ impl TakeEnd {
         ensures none { IfNone result (taken self.new ≡ taken self.old) }
         ensures succeeds { 0 < length (ready self.old) → IsSome result }
     {
-        let post = self.waited.get(self.next).copied()?;
-        self.next += 1;
-        Some(post)
+        if let Some(post) = self.ready.get(self.next).copied() {
+            self.next += 1;
+            return Some(post);
+        }
+        match self.ring.pop() {
+            Ok(post) => Some(post),
+            Err(_) => None,
+        }
     }
 
     /// How many posts are known to be ready. So many takes in a row each answer one.
     pub fn count_ready(&self) -> u32
         ensures { result ≡ length (ready self.now) }
     {
-        (self.waited.len() - self.next) as u32
+        (self.ready.len() - self.next) as u32
     }
 }

@@ -3,7 +3,7 @@ use std::test::Fail;
 use tlsf_heap::Name;
 
 /// A post of worker 1 that names the block with a serial.
-fn post(serial: u64) -> Post {
+pub(crate) fn post(serial: u64) -> Post {
     Post {
         from: 1,
         name: Name {
@@ -63,5 +63,20 @@ fn first_sent_first_taken(rt: HostRuntime) -> Result<(), Fail> {
     assert_eq!(rt; take_end.take(), Some(post(4)));
     beside(&mut post_end, &mut take_end);
     assert_eq!(rt; take_end.take(), None);
+    Ok(())
+}
+
+#[test]
+fn new_lane_holds_its_capacity(rt: HostRuntime) -> Result<(), Fail> {
+    for capacity in 1..=5 {
+        let (mut post_end, mut take_end) = lane(rt.alloc(), capacity)?;
+        for serial in 0..u64::from(capacity) {
+            assert_eq!(rt; post_end.put(post(serial)), Ok(()));
+        }
+        assert_eq!(rt; post_end.put(post(5)), Err(post(5)));
+        assert_eq!(rt; take_end.take(), Some(post(0)));
+        assert_eq!(rt; post_end.put(post(5)), Ok(()));
+        assert_eq!(rt; post_end.put(post(6)), Err(post(6)));
+    }
     Ok(())
 }
