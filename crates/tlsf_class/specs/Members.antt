@@ -3,9 +3,10 @@ use Rattle.std.specs.Prelude.{ℕ, List, Option, Bool, not, ◌==◌, ◌||◌, 
 use Rattle.std.specs.List.{list_any}
 use Rattle.tlsf_class.specs.Classes.{classes}
 
--- what a set of classes shows: its members, rising
+-- what a set of classes shows: its members, rising, and how often a word of it was read or written
 pub record ClassSet : Type 0 where
   pub members : List ℕ
+  pub touches : ℕ
 
 -- whether a class is a member
 abbrev pub has : List ℕ → ℕ → Bool

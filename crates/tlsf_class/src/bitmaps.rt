@@ -1,4 +1,4 @@
-ghost use Rattle.std.specs.Prelude.{◌≡◌, ◌↔◌, [], Contains, IsTrue};
+ghost use Rattle.std.specs.Prelude.{◌≡◌, ◌↔◌, ◌+◌, ◌≤◌, [], Contains, IsTrue};
 ghost use Rattle.tlsf_class.specs.Members.{with_member, without_member, next_member};
 
 use crate::bits::{is_bit_set, lowest_bit, lowest_bit_from, with_bit, without_bit};
@@ -6,7 +6,8 @@ use crate::class::Class;
 use crate::levels::Levels;
 use std::marker::Model;
 
-/// A set of classes, kept in place in two levels of bitmaps. A call reads and writes four words at most.
+/// A set of classes, kept in place in two levels of bitmaps. A call reads and writes four words at most, and counts each
+/// read and write as a touch.
 #[derive(Drop)]
 pub struct Bitmaps {
     levels: Levels,
@@ -18,7 +19,7 @@ impl Model for Bitmaps {
 
     ghost Value = { ClassSet };
 
-    ghost view = { λ b. record { members = members_of b.levels.second } };
+    ghost view = { λ b. record { members = members_of b.levels.second; touches = b.levels.touches } };
 
     ghost invariant = { λ b. AreLevels b.levels.first b.levels.second };
 }
@@ -26,7 +27,8 @@ impl Model for Bitmaps {
 impl Bitmaps {
     /// No class is a member.
     pub fn new() -> Bitmaps
-        ensures { result.members ≡ [] }
+        ensures members { result.members ≡ [] }
+        ensures touches { result.touches ≡ 0 }
     {
         Bitmaps {
             levels: Levels::new(),
@@ -35,7 +37,9 @@ impl Bitmaps {
 
     /// Makes a class a member, if it isn't one.
     pub fn set(&mut self, class: Class)
-        ensures { self.new.members ≡ with_member self.old.members class }
+        ensures members { self.new.members ≡ with_member self.old.members class }
+        ensures touches { self.new.touches ≤ self.old.touches + 4 }
+        ensures rise { self.old.touches ≤ self.new.touches }
     {
         let row = class.row();
         let word = with_bit(self.levels.second_word(row), class.place());
@@ -46,7 +50,9 @@ impl Bitmaps {
 
     /// Takes a class out, if it is a member.
     pub fn clear(&mut self, class: Class)
-        ensures { self.new.members ≡ without_member self.old.members class }
+        ensures members { self.new.members ≡ without_member self.old.members class }
+        ensures touches { self.new.touches ≤ self.old.touches + 4 }
+        ensures rise { self.old.touches ≤ self.new.touches }
     {
         let row = class.row();
         let word = without_bit(self.levels.second_word(row), class.place());
@@ -61,6 +67,7 @@ impl Bitmaps {
     pub fn holds(&mut self, class: Class) -> bool
         ensures answer { IsTrue result ↔ Contains self.old.members class }
         ensures same { self.new.members ≡ self.old.members }
+        ensures touches { self.new.touches ≡ self.old.touches + 1 }
     {
         let word = self.levels.second_word(class.row());
         is_bit_set(word, class.place())
@@ -70,6 +77,8 @@ impl Bitmaps {
     pub fn next_from(&mut self, class: Class) -> Option<Class>
         ensures least { result ≡ next_member self.old.members class }
         ensures same { self.new.members ≡ self.old.members }
+        ensures touches { self.new.touches ≤ self.old.touches + 3 }
+        ensures rise { self.old.touches ≤ self.new.touches }
     {
         let row = class.row();
         let word = self.levels.second_word(row);

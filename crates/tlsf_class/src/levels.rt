@@ -1,11 +1,21 @@
-//! The words of the bitmaps, each read and written in one place.
-ghost use Rattle.std.specs.Prelude.{◌≡◌, ◌<◌, slice_index, slice_set, replicate};
+ghost use Rattle.std.specs.Prelude.{◌≡◌, ◌+◌, ◌<◌, slice_index, slice_set, replicate};
 
-/// The first-level word, one bit a row, and the second-level words, one for each row with one bit a class.
+use crate::cells::Cells;
+use std::marker::Model;
+
+/// The first-level word, one bit a row, and behind it the second-level words, one for each row with one bit a class.
 #[derive(Drop)]
 pub(crate) struct Levels {
-    pub(crate) first: u32,
-    pub(crate) second: [u32; 18],
+    cells: Cells,
+}
+
+impl Model for Levels {
+    ghost use Rattle.std.specs.Prelude.{slice_index, drop};
+    ghost use Rattle.tlsf_class.specs.Touched.{CountedLevels};
+
+    ghost Value = { CountedLevels };
+
+    ghost view = { λ l. record { first = slice_index l.cells.words 0; second = drop 1 l.cells.words; touches = l.cells.touches } };
 }
 
 impl Levels {
@@ -13,10 +23,10 @@ impl Levels {
     pub(crate) fn new() -> Levels
         ensures first { result.first ≡ 0 }
         ensures second { result.second ≡ replicate 18 0 }
+        ensures touches { result.touches ≡ 0 }
     {
         Levels {
-            first: 0,
-            second: [0; 18],
+            cells: Cells::new(),
         }
     }
 
@@ -25,16 +35,18 @@ impl Levels {
         ensures value { result ≡ self.old.first }
         ensures first { self.new.first ≡ self.old.first }
         ensures second { self.new.second ≡ self.old.second }
+        ensures touches { self.new.touches ≡ self.old.touches + 1 }
     {
-        self.first
+        self.cells.read(0)
     }
 
     /// Writes the first-level word.
     pub(crate) fn set_first_word(&mut self, word: u32)
         ensures first { self.new.first ≡ word }
         ensures second { self.new.second ≡ self.old.second }
+        ensures touches { self.new.touches ≡ self.old.touches + 1 }
     {
-        self.first = word;
+        self.cells.write(0, word);
     }
 
     /// Reads the word of a row, 0 to 17.
@@ -43,8 +55,9 @@ impl Levels {
         ensures value { result ≡ slice_index self.old.second row }
         ensures first { self.new.first ≡ self.old.first }
         ensures second { self.new.second ≡ self.old.second }
+        ensures touches { self.new.touches ≡ self.old.touches + 1 }
     {
-        self.second[row as usize]
+        self.cells.read(row + 1)
     }
 
     /// Writes the word of a row, 0 to 17.
@@ -52,7 +65,8 @@ impl Levels {
         requires { row < 18 }
         ensures first { self.new.first ≡ self.old.first }
         ensures second { self.new.second ≡ slice_set self.old.second row word }
+        ensures touches { self.new.touches ≡ self.old.touches + 1 }
     {
-        self.second[row as usize] = word;
+        self.cells.write(row + 1, word);
     }
 }

@@ -165,6 +165,12 @@ module _ {bs : List Block} {at i size words tick : ℕ} {mid : List Block} {list
         edited r.around (Live (size_of (block_at mid i)) tick (replicate len 0) ∷ []) new (live i (stands_around r.around))
         ∙ ap (λ (b : Block). take i bs ++ Live (size_of b) tick (replicate len 0) ∷ r.rest) (block_around r.around)
 
+    -- the block that is made live keeps its size
+    pub ready_given : AreRegions bs → StandsAt bs at i → (j : ℕ) → StandsAt bs at j → size_of (block_at mid i) ≡ size_of (block_at new j)
+    ready_given regions stands j other =
+        let a : Around new at i (take i bs) (Live (size_of r.block) tick (replicate len 0)) r.rest = record { is = new_blocks; before = r.around.before; place = r.around.place } in
+        ap size_of (block_around r.around) ∙ sym (ap size_of (block_around a)) ∙ ap (λ (k : ℕ). size_of (block_at new k)) (one_index bs at i j regions stands other)
+
     pub ready_listed : (left : ℕ → List ℕ) → SameLists left lists → AreFreeLists new left
     ready_listed left same =
         subst (λ (l : List FreePlace). AreListed l left) (sym (ap (free_places 0) new_blocks ∙ places_behind (take i bs) (Live (size_of r.block) tick (replicate len 0) ∷ r.rest) at r.around.place)) (same_lists _ lists left same r.listed)

@@ -35,3 +35,4 @@ pub mod Reporting
 pub mod Outcomes
 pub mod Living
 pub mod Gone
+pub mod Giving

@@ -32,8 +32,8 @@ pub record HoldsState (m : Memory) (l : ListHeads) (r : RegionState) : Type 0 wh
   pub free : AreFreeBlocks (list_of l.heads m.words) r.blocks
   pub lists : (class : ℕ) → list_in r.lists class ≡ list_of l.heads m.words class
 
-pub holds_state : {m : Memory} {l : ListHeads} {r : RegionState} → HoldsLists m l
-    → record { words = length m.words; blocks = blocks_of m.words; lists = lists_of l.heads m.words } ≡ r → HoldsState m l r
+pub holds_state : {m : Memory} {l : ListHeads} {r : RegionState} {touches : ℕ} → HoldsLists m l
+    → record { words = length m.words; blocks = blocks_of m.words; lists = lists_of l.heads m.words; touches = touches } ≡ r → HoldsState m l r
 holds_state {m = m} {l = l} holds same =
     subst (HoldsState m l) same (record { shows = holds.shows; threaded = holds.threaded; free = holds.free; lists = list_in-lists_of l.heads m.words })
 
@@ -197,7 +197,7 @@ module _ (m v : Memory) (as_long : length v.words ≡ length m.words) (same_star
       )
 
   -- the links of free blocks may change
-  shows_linked : (bs : List Block) → Shows m bs → ((k : ℕ) → ((at : ℕ) → IsFreeAt bs at → k ≢ at + 2) → word_at v k ≡ word_at m k) → Shows v bs
+  pub shows_linked : (bs : List Block) → Shows m bs → ((k : ℕ) → ((at : ℕ) → IsFreeAt bs at → k ≢ at + 2) → word_at v k ≡ word_at m k) → Shows v bs
   shows_linked bs shows same = record {
     shown = from_linked 0 no_place bs shows.rooms (λ k low high apart. same k (λ at free e. apart at (omega (arith, e)) free)) shows.shown;
     whole = shows.whole ∙ sym as_long;

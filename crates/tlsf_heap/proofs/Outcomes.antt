@@ -55,7 +55,7 @@ sites_whole p (b ∷ bs) = (refl, subst (λ (l : List Block). AllByRecursion (Is
 chosen_site : (n : ℕ) (bs : List Block) (s : Site) → choice n bs ≡ Some s → IsSiteOf bs s × (is_fit n s.block ≡ true)
 chosen_site n bs s e = (found_has (λ s. IsSiteOf bs s × (is_fit n s.block ≡ true)) _ (fits n bs) s (filtered (IsSiteOf bs) (λ s. is_fit n s.block) (sites bs) (sites_whole [] bs)) e).0
 
-named_site : (name : Name) (bs : List Block) (s : Site) → named name bs ≡ Some s → IsSiteOf bs s × (is_named name.at name.serial s ≡ true)
+pub named_site : (name : Name) (bs : List Block) (s : Site) → named name bs ≡ Some s → IsSiteOf bs s × (is_named name.at name.serial s ≡ true)
 named_site name bs s e = found_has (IsSiteOf bs) (is_named name.at name.serial) (sites bs) s (sites_whole [] bs) e
 
 -- ---- what a call comes to: a refusal, or an edit at a site

@@ -10,25 +10,37 @@ use Rattle.tlsf_heap.specs.Blocks.{Block, Live, Free, size_of, words_in, is_free
 use Rattle.tlsf_heap.specs.GoodFit.{block_at, site_at}
 use Rattle.tlsf_heap.specs.Calls.{first_free, last_free, has_serial, is_named}
 use Rattle.tlsf_heap.specs.Image.{no_place, mark_of, StartsOnce, Shows, blocks_of}
-use Rattle.tlsf_words.specs.Lists.{ListHeads}
-use Rattle.tlsf_heap.specs.Listed.{lists_of, HoldsLists}
+use Rattle.tlsf_words.specs.Lists.{ListHeads, list_of, AreThreaded}
+use Rattle.tlsf_heap.specs.Listed.{AreFreeBlocks, lists_of, HoldsLists}
 use Rattle.tlsf_heap.specs.Named.{NoneNamed, IsNameTest}
 use Rattle.tlsf_heap.specs.Regions.{RegionState, StandsAt, IsPlace}
 use Rattle.tlsf_heap.proofs.Edits.{first_is_last}
 use Rattle.tlsf_heap.proofs.Finding.{not_true, and_left, and_right}
 use Rattle.tlsf_heap.proofs.Showing.{word_at, start_at, back_behind, shown_here, four_here, ends_here, stands_once, place_of_start}
+use Rattle.tlsf_heap.proofs.Linking.{shows_linked}
 use Rattle.tlsf_heap.proofs.Standing.{words_up_to, stands_next, back_next}
 
 -- the words of a region show its blocks
-pub shows_state : {m : Memory} {l : ListHeads} {r : RegionState} → HoldsLists m l
-    → record { words = length m.words; blocks = blocks_of m.words; lists = lists_of l.heads m.words } ≡ r → Shows m r.blocks
+pub shows_state : {m : Memory} {l : ListHeads} {r : RegionState} {touches : ℕ} → HoldsLists m l
+    → record { words = length m.words; blocks = blocks_of m.words; lists = lists_of l.heads m.words; touches = touches } ≡ r → Shows m r.blocks
 shows_state {m = m} holds same = subst (Shows m) (ap (λ (s : RegionState). s.blocks) same) holds.shows
 
--- words that were only read hold what they held
+-- words that were only read hold what they held, at any number of touches
 pub holds_read : {m v : Memory} {l : ListHeads} → v.words ≡ m.words → v.starts ≡ m.starts → HoldsLists m l → HoldsLists v l
-holds_read {m = m} {v = v} {l = l} words starts h =
-    subst (λ (w : List ℕ). HoldsLists (record { words = w; starts = v.starts }) l) (sym words)
-    (subst (λ (s : List Bool). HoldsLists (record { words = m.words; starts = s }) l) (sym starts) h)
+holds_read {m = m} {v = v} {l = l} words starts h = record {
+  shows = subst (λ (w : List ℕ). Shows v (blocks_of w)) (sym words)
+      (shows_linked m v (ap length words) starts (blocks_of m.words) h.shows (λ k apart. ap (λ (w : List ℕ). get_or w k 0) words));
+  threaded = subst (λ (w : List ℕ). AreThreaded l.heads l.members w) (sym words) h.threaded;
+  free = subst (λ (w : List ℕ). AreFreeBlocks (list_of l.heads w) (blocks_of w)) (sym words) h.free;
+}
+
+-- lists that were only read hold what they held, at any number of touches
+pub lists_read : {m : Memory} {l k : ListHeads} → k.heads ≡ l.heads → k.members ≡ l.members → HoldsLists m l → HoldsLists m k
+lists_read {m = m} {l = l} {k = k} heads members h = record {
+  shows = h.shows;
+  threaded = subst (λ (xs : List ℕ). AreThreaded k.heads xs m.words) (sym members) (subst (λ (xs : List ℕ). AreThreaded xs l.members m.words) (sym heads) h.threaded);
+  free = subst (λ (xs : List ℕ). AreFreeBlocks (list_of xs m.words) (blocks_of m.words)) (sym heads) h.free;
+}
 
 -- what the words say of a block at a place
 pub record Says (m : Memory) (at back : ℕ) (b : Block) : Type 0 where

@@ -1,5 +1,5 @@
 -- A heap as its blocks, in the order of their places. Sizes are in words of 64 bits.
-use Rattle.std.specs.Prelude.{ℕ, ◌+◌, ◌/◌, List, [], ◌∷◌, Bool, true, false, max}
+use Rattle.std.specs.Prelude.{ℕ, ◌+◌, ◌-◌, ◌/◌, List, [], ◌∷◌, Bool, true, false, max}
 
 -- a block: its size, then the serial and the payload bytes of a live one, or the stamp of a free one
 pub data Block : Type 0 where
@@ -13,13 +13,18 @@ pub record HeapState : Type 0 where
   pub tick : ℕ
   pub blocks : List Block
 
--- what a heap shows
+-- what a heap shows: the sequential heap, and its touches: reads and writes of a stored word, a start bit, a head of a list or a word of the bitmaps
 pub record Shown : Type 0 where
   pub heap : HeapState
+  pub touches : ℕ
 
 abbrev pub size_of : Block → ℕ
 size_of (Live size serial bytes) = size
 size_of (Free size stamp) = size
+
+-- the words of a block behind the three of its header
+abbrev pub payload_words : Block → ℕ
+payload_words block = size_of block - 3
 
 -- the words of all the blocks
 abbrev pub words_in : List Block → ℕ

@@ -3,6 +3,7 @@ pub mod Blocks
 pub mod Lawful
 pub mod GoodFit
 pub mod Calls
+pub mod Given
 pub mod Headers
 pub mod Image
 pub mod Regions

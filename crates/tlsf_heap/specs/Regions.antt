@@ -2,11 +2,12 @@
 use Rattle.std.specs.Prelude.{◌≡◌, ℕ, ◌<◌, List, [], length, slice_index_or, take}
 use Rattle.tlsf_heap.specs.Blocks.{Block, words_in}
 
--- what a region shows: how many words it has, its blocks, and for each class the places in its free list, from the head
+-- what a region shows: how many words it has, its blocks, for each class the places in its free list, from the head, and its touches
 pub record RegionState : Type 0 where
   pub words : ℕ
   pub blocks : List Block
   pub lists : List (List ℕ)
+  pub touches : ℕ
 
 -- block i begins at this place
 pub record StandsAt (blocks : List Block) (at i : ℕ) : Type 0 where

@@ -1,7 +1,7 @@
 //! Good fit, splitting and coalescing over a region and the lists of its free blocks. Sizes and places are in words.
 ghost use Rattle.std.specs.Prelude.{◌≡◌, ◌≢◌, ℕ, ◌+◌, ◌-◌, ◌<◌, ◌≤◌, ◌^◌, ◌++◌, ◌∷◌, true, false, take, drop, Contains};
 ghost use Rattle.std.specs.List.{AllByRecursion};
-ghost use Rattle.tlsf_heap.specs.Blocks.{Free, size_of, words_in, is_free, stamps, words_for};
+ghost use Rattle.tlsf_heap.specs.Blocks.{Free, size_of, words_in, payload_words, is_free, stamps, words_for};
 ghost use Rattle.tlsf_class.specs.Classes.{class_of};
 ghost use Rattle.tlsf_heap.specs.Lawful.{IsRegion, AreRegions};
 ghost use Rattle.tlsf_heap.specs.GoodFit.{IsBestAt, block_at, site_at};
@@ -25,6 +25,8 @@ pub fn choose(region: &mut Region, words: u32) -> Option<u32>
     ensures blocks { region.new.blocks ≡ region.old.blocks }
     ensures words { region.new.words ≡ region.old.words }
     ensures lists { region.new.lists ≡ region.old.lists }
+    ensures touches { region.new.touches ≤ region.old.touches + 4 }
+    ensures touches_rise { region.old.touches ≤ region.new.touches }
 {
     if words > MOST_WORDS {
         return None;
@@ -47,6 +49,8 @@ pub fn carve(region: &mut Region, at: u32, words: u32, tick: u64, len: u32)
         ++ carved (size_of (block_at region.old.blocks i)) words tick len ++ drop (i + 1) region.old.blocks }
     ensures words { region.new.words ≡ region.old.words }
     ensures listed { AreFreeLists region.new.blocks (list_in region.new.lists) }
+    ensures touches { (i : ℕ) → StandsAt region.old.blocks at i → region.new.touches ≤ region.old.touches + 25 + payload_words (block_at region.new.blocks i) }
+    ensures touches_rise { region.old.touches ≤ region.new.touches }
 {
     let size = region.size(at);
     region.remove(class_of(size), at);
@@ -67,6 +71,8 @@ pub fn coalesce(region: &mut Region, at: u32, tick: u64)
     ensures blocks { (i : ℕ) → StandsAt region.old.blocks at i → region.new.blocks ≡ coalesced tick (site_at region.old.blocks i) }
     ensures words { region.new.words ≡ region.old.words }
     ensures listed { AreFreeLists region.new.blocks (list_in region.new.lists) }
+    ensures touches { region.new.touches ≤ region.old.touches + 41 }
+    ensures touches_rise { region.old.touches ≤ region.new.touches }
 {
     let size = region.size(at);
     let before = region.free_before(at);
@@ -86,6 +92,8 @@ fn forget(region: &mut Region, words: u32, at: u32)
     ensures none { words ≡ 0 → region.new.lists ≡ region.old.lists }
     ensures blocks { region.new.blocks ≡ region.old.blocks }
     ensures words { region.new.words ≡ region.old.words }
+    ensures touches { region.new.touches ≤ region.old.touches + 6 }
+    ensures touches_rise { region.old.touches ≤ region.new.touches }
 {
     if words > 0 {
         region.remove(class_of(words), at);
@@ -105,6 +113,8 @@ fn join(region: &mut Region, at: u32, before: u32, after: u32, tick: u64)
     ensures blocks { (i : ℕ) → StandsAt region.old.blocks at i → region.new.blocks ≡ coalesced tick (site_at region.old.blocks i) }
     ensures words { region.new.words ≡ region.old.words }
     ensures lists { SameLists (list_in region.new.lists) (list_in region.old.lists) }
+    ensures touches { region.new.touches ≤ region.old.touches + 17 }
+    ensures touches_rise { region.old.touches ≤ region.new.touches }
 {
     join_next(region, at, after, tick);
     if before > 0 {
@@ -123,6 +133,8 @@ fn join_next(region: &mut Region, at: u32, after: u32, tick: u64)
         ++ (Free (size_of (block_at region.old.blocks i) + first_free (drop (i + 1) region.old.blocks)) tick ∷ past_free (drop (i + 1) region.old.blocks)) }
     ensures words { region.new.words ≡ region.old.words }
     ensures lists { SameLists (list_in region.new.lists) (list_in region.old.lists) }
+    ensures touches { region.new.touches ≤ region.old.touches + 10 }
+    ensures touches_rise { region.old.touches ≤ region.new.touches }
 {
     region.make_free(at, tick);
     if after > 0 {

@@ -16,6 +16,8 @@ pub fn free_size(words: &mut Words, at: u32) -> u32
     ensures outside { length words.old.words ≤ at → result ≡ 0 }
     ensures words { words.new.words ≡ words.old.words }
     ensures starts { words.new.starts ≡ words.old.starts }
+    ensures touches { words.new.touches ≤ words.old.touches + 1 }
+    ensures touches_rise { words.old.touches ≤ words.new.touches }
 {
     if at >= words.len() {
         return 0;
@@ -31,6 +33,8 @@ fn set_back(words: &mut Words, at: u32, back: u32)
     ensures others { (k : ℕ) → k ≢ at → slice_index words.new.words k ≡ slice_index words.old.words k }
     ensures length { length words.new.words ≡ length words.old.words }
     ensures starts { words.new.starts ≡ words.old.starts }
+    ensures touches { words.new.touches ≤ words.old.touches + 2 }
+    ensures touches_rise { words.old.touches ≤ words.new.touches }
 {
     if at < words.len() {
         let tag = words.tag(at);
@@ -47,6 +51,7 @@ fn write_free(words: &mut Words, at: u32, tag: Tag, stamp: u64)
     ensures others { (k : ℕ) → k ≢ at → k ≢ at + 1 → slice_index words.new.words k ≡ slice_index words.old.words k }
     ensures length { length words.new.words ≡ length words.old.words }
     ensures starts { words.new.starts ≡ words.old.starts }
+    ensures touches { words.new.touches ≡ words.old.touches + 2 }
 {
     words.set_tag(at, Tag { free: true, ..tag });
     words.set_mark(at, stamp);
@@ -78,6 +83,7 @@ pub fn free_header(words: &mut Words, at: u32, stamp: u64)
     ensures others { (k : ℕ) → k ≢ at → k ≢ at + 1 → slice_index words.new.words k ≡ slice_index words.old.words k }
     ensures length { length words.new.words ≡ length words.old.words }
     ensures starts { words.new.starts ≡ words.old.starts }
+    ensures touches { words.new.touches ≡ words.old.touches + 3 }
 {
     let tag = words.tag(at);
     write_free(words, at, tag, stamp);
@@ -96,6 +102,7 @@ pub fn live_header(words: &mut Words, at: u32, serial: u64, len: u32)
     ensures behind { (k : ℕ) → end_in words.old.words at ≤ k → slice_index words.new.words k ≡ slice_index words.old.words k }
     ensures length { length words.new.words ≡ length words.old.words }
     ensures starts { words.new.starts ≡ words.old.starts }
+    ensures touches { words.new.touches ≡ words.old.touches + 4 + (size_in (slice_index words.old.words at) - 3) }
 {
     let tag = words.tag(at);
     words.set_tag(at, Tag { free: false, ..tag });
@@ -120,6 +127,8 @@ pub fn split_header(words: &mut Words, at: u32, size: u32, stamp: u64)
     ensures behind { (k : ℕ) → end_in words.old.words at < k → slice_index words.new.words k ≡ slice_index words.old.words k }
     ensures length { length words.new.words ≡ length words.old.words }
     ensures starts { words.new.starts ≡ slice_set words.old.starts (at + size) true }
+    ensures touches { words.new.touches ≤ words.old.touches + 7 }
+    ensures touches_rise { words.old.touches ≤ words.new.touches }
 {
     let tag = words.tag(at);
     words.set_tag(
@@ -158,6 +167,8 @@ pub fn merge_headers(words: &mut Words, at: u32, stamp: u64)
     ensures behind { (k : ℕ) → end_in words.old.words (end_in words.old.words at) < k → slice_index words.new.words k ≡ slice_index words.old.words k }
     ensures length { length words.new.words ≡ length words.old.words }
     ensures starts { words.new.starts ≡ slice_set words.old.starts (end_in words.old.words at) false }
+    ensures touches { words.new.touches ≤ words.old.touches + 7 }
+    ensures touches_rise { words.old.touches ≤ words.new.touches }
 {
     let tag = words.tag(at);
     let next = at + tag.size;

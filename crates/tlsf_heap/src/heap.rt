@@ -1,10 +1,11 @@
-ghost use Rattle.std.specs.Prelude.{◌≡◌, ℕ, ◌+◌, ◌-◌, ◌^◌, ◌↔◌, [], true, length, IfOk, OnOk, OnErr, IsOk, IsErrOf};
+ghost use Rattle.std.specs.Prelude.{◌≡◌, ℕ, ◌+◌, ◌*◌, ◌/◌, ◌-◌, ◌≤◌, ◌^◌, ◌↔◌, [], true, length, IfOk, OnOk, OnErr, IsOk, IsErrOf};
 ghost use Rattle.std.specs.Result.{result_unwrap_or};
 ghost use Rattle.tlsf_heap.specs.Blocks;
 ghost use Rattle.tlsf_heap.specs.Lawful.{IsLawful, IsRegion};
 ghost use Rattle.tlsf_heap.specs.GoodFit.{fits, block_at};
 ghost use Rattle.tlsf_heap.specs.Named.{IsFirst, IsNameCheck};
 ghost use Rattle.tlsf_heap.specs.Reports.{report_of, IsGrant};
+ghost use Rattle.tlsf_heap.specs.Given.{payload_words_given};
 ghost use Rattle.tlsf_heap.specs.Calls.{opened, allocated, released, written, read_of, read_answer, has_bytes, last_tick};
 
 use crate::fitting::{MOST_WORDS, carve, choose, coalesce};
@@ -13,6 +14,8 @@ use crate::open_fault::OpenFault;
 use crate::refusal::Refusal;
 use crate::region::Region;
 use crate::report::Report;
+#[cfg(test)]
+use crate::seen_words::{starts, word};
 use crate::tally::Tally;
 use std::alloc::Global;
 use std::marker::Model;
@@ -21,7 +24,9 @@ use tlsf_class::class_of;
 /// A heap over a region of 4 to 2^20 words, kept by two-level segregated fit (ECRTS 2004, section 3).
 ///
 /// Contracts see it as its number, its words, its tick and its blocks in the order of their places. The tick begins
-/// one above the first, rises by one with each accepted allocate or release, and stamps what they change.
+/// one above the first, rises by one with each accepted allocate or release, and stamps what they change. Beside them
+/// they see its touches: how many times a stored word, a start bit, the head of a list or a word of the bitmaps was read
+/// or written.
 #[derive(Drop)]
 pub struct Heap {
     id: u32,
@@ -36,7 +41,7 @@ impl Model for Heap {
 
     ghost use Rattle.tlsf_heap.specs.Stored.{IsStored, state_of};
 
-    ghost view = { λ h. record { heap = state_of h } };
+    ghost view = { λ h. record { heap = state_of h; touches = h.region.touches } };
 
     ghost invariant = { IsStored };
 }
@@ -92,6 +97,10 @@ impl Heap {
         ensures err { OnErr result (self.new.heap ≡ self.old.heap) }
         ensures was_lawful { IsLawful self.old.heap }
         ensures lawful { IsLawful self.new.heap }
+
+        // Accepted or refused, and whatever the region holds: at most 64 touches, and one for each payload word of the block given.
+        ensures touches { self.new.touches ≤ self.old.touches + 64 + payload_words_given result self.new.heap }
+        ensures touches_rise { self.old.touches ≤ self.new.touches }
     {
         let words = want(len);
         let Some(at) = choose(&mut self.region, words) else {
@@ -123,6 +132,10 @@ impl Heap {
         ensures err { OnErr result (self.new.heap ≡ self.old.heap) }
         ensures was_lawful { IsLawful self.old.heap }
         ensures lawful { IsLawful self.new.heap }
+
+        // Accepted or refused, and whatever the region holds: at most 64 touches.
+        ensures touches { self.new.touches ≤ self.old.touches + 64 }
+        ensures touches_rise { self.old.touches ≤ self.new.touches }
     {
         self.check(name)?;
         if self.tick == u64::MAX {
@@ -145,6 +158,8 @@ impl Heap {
         ensures err { OnErr result (self.new.heap ≡ self.old.heap) }
         ensures was_lawful { IsLawful self.old.heap }
         ensures lawful { IsLawful self.new.heap }
+        ensures touches { self.new.touches ≤ self.old.touches + 4 + 2 * (length bytes.now / 8 + 2) }
+        ensures touches_rise { self.old.touches ≤ self.new.touches }
     {
         self.check_range(name, at, bytes.len())?;
         self.region.write(name.at, at, bytes);
@@ -161,6 +176,8 @@ impl Heap {
         ensures bytes { out.new ≡ result_unwrap_or (read_of self.old.heap name at (length out.old)) out.old }
         ensures heap { self.new.heap ≡ self.old.heap }
         ensures was_lawful { IsLawful self.old.heap }
+        ensures touches { self.new.touches ≤ self.old.touches + 4 + (length out.old / 8 + 2) }
+        ensures touches_rise { self.old.touches ≤ self.new.touches }
     {
         self.check_range(name, at, out.len())?;
         self.region.read(name.at, at, out);
@@ -175,6 +192,7 @@ impl Heap {
         ensures grant { IsGrant self.old.heap.blocks result.grant }
         ensures heap { self.new.heap ≡ self.old.heap }
         ensures was_lawful { IsLawful self.old.heap }
+        ensures touches_rise { self.old.touches ≤ self.new.touches }
     {
         let tick = self.tick;
         Tally::of(&mut self.region, tick).report(tick)
@@ -185,6 +203,8 @@ impl Heap {
         ensures answer { IsNameCheck self.old.heap name result }
         ensures heap { self.new.heap ≡ self.old.heap }
         ensures lawful { IsLawful self.old.heap }
+        ensures touches { self.new.touches ≤ self.old.touches + 3 }
+        ensures touches_rise { self.old.touches ≤ self.new.touches }
     {
         if name.heap != self.id {
             return Err(Refusal::Foreign);
@@ -201,6 +221,8 @@ impl Heap {
         ensures place { OnOk result ((i : ℕ) × IsFirst name.at name.serial self.old.heap.blocks i × (has_bytes (block_at self.old.heap.blocks i) at n ≡ true)) }
         ensures heap { self.new.heap ≡ self.old.heap }
         ensures lawful { IsLawful self.old.heap }
+        ensures touches { self.new.touches ≤ self.old.touches + 4 }
+        ensures touches_rise { self.old.touches ≤ self.new.touches }
     {
         self.check(name)?;
         let length = self.region.length(name.at) as usize;
@@ -216,11 +238,11 @@ impl Heap {
 impl Heap {
     /// The word at a place, `None` outside the region.
     pub fn word(&mut self, at: u32) -> Option<u64> {
-        self.region.word(at)
+        word(&mut self.region, at)
     }
 
     /// Whether a block starts at a place.
     pub fn starts(&mut self, at: u32) -> bool {
-        self.region.starts(at)
+        starts(&mut self.region, at)
     }
 }

@@ -9,7 +9,13 @@
 //! A block is known by its [`Name`]: the heap, the place where it begins, and the serial that it got when it became
 //! live. A name that was forged, or that outlived its block, is refused.
 //!
-//! Contracts see a [`Heap`] as a list of blocks in the order of their places. Each call is one step of that list.
+//! Contracts see a [`Heap`] as a list of blocks in the order of their places. Each call is one step of that list. It is read
+//! off the words of the region, which also thread the free blocks of each class into a list: the one that became free last
+//! is its head.
+//!
+//! They also count its touches, each read or write of a stored word, a start bit, the head of a list or a word of the
+//! bitmaps. A release makes at most 64, an allocate at most 64 and one for each payload word of the block that it gives,
+//! however many blocks the region has. The count has no bytes at run time.
 #![tactic(auto)]
 
 mod fitting;
@@ -27,6 +33,8 @@ mod region;
 mod report;
 #[cfg(test)]
 mod report_tests;
+#[cfg(test)]
+mod seen_words;
 mod tally;
 #[cfg(test)]
 mod tests;

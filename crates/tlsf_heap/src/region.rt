@@ -1,4 +1,4 @@
-ghost use Rattle.std.specs.Prelude.{◌≡◌, ◌≢◌, ℕ, ◌+◌, ◌-◌, ◌<◌, ◌≤◌, ◌^◌, [], ◌∷◌, ◌++◌, false, true, length, take, drop, replicate, slice_get, Contains, IfOk};
+ghost use Rattle.std.specs.Prelude.{◌≡◌, ◌≢◌, ℕ, ◌+◌, ◌*◌, ◌/◌, ◌-◌, ◌<◌, ◌≤◌, ◌^◌, [], ◌∷◌, ◌++◌, false, true, length, take, drop, replicate, slice_get, Contains, IfOk};
 ghost use Rattle.tlsf_class.specs.Members.{next_member};
 ghost use Rattle.tlsf_words.specs.Lists.{without_place, listed_classes, IsUnlisted};
 ghost use Rattle.tlsf_heap.specs.Blocks.{Live, Free, size_of, is_free, bytes_of, words_for};
@@ -18,21 +18,22 @@ use tlsf_words::{FreeLists, NoMemory, Words};
 
 /// The words of a region, seen as the blocks that they show, one behind the other, and the lists of free blocks, one for each
 /// class, that their links thread. A block is known by its place. Sizes and places are in words. Nothing but `open` allocates.
+/// Its touches are those of the words and of the lists together.
 #[derive(Drop)]
 pub struct Region {
-    words: Words,
+    pub(crate) words: Words,
     lists: FreeLists,
 }
 
 impl Model for Region {
-    ghost use Rattle.std.specs.Prelude.{length};
+    ghost use Rattle.std.specs.Prelude.{◌+◌, length};
     ghost use Rattle.tlsf_heap.specs.Regions.{RegionState};
     ghost use Rattle.tlsf_heap.specs.Image.{blocks_of};
     ghost use Rattle.tlsf_heap.specs.Listed.{lists_of, HoldsLists};
 
     ghost Value = { RegionState };
 
-    ghost view = { λ r. record { words = length r.words.words; blocks = blocks_of r.words.words; lists = lists_of r.lists.heads r.words.words } };
+    ghost view = { λ r. record { words = length r.words.words; blocks = blocks_of r.words.words; lists = lists_of r.lists.heads r.words.words; touches = r.words.touches + r.lists.touches } };
 
     ghost invariant = { λ r. HoldsLists r.words r.lists };
 }
@@ -68,6 +69,7 @@ impl Region {
         ensures words { self.new.words ≡ self.old.words }
         ensures blocks { self.new.blocks ≡ self.old.blocks }
         ensures lists { self.new.lists ≡ self.old.lists }
+        ensures touches { self.new.touches ≡ self.old.touches + 1 }
     {
         self.words.tag(at).size
     }
@@ -79,6 +81,7 @@ impl Region {
         ensures words { self.new.words ≡ self.old.words }
         ensures blocks { self.new.blocks ≡ self.old.blocks }
         ensures lists { self.new.lists ≡ self.old.lists }
+        ensures touches { self.new.touches ≡ self.old.touches + 1 }
     {
         self.words.tag(at).free
     }
@@ -90,6 +93,7 @@ impl Region {
         ensures words { self.new.words ≡ self.old.words }
         ensures blocks { self.new.blocks ≡ self.old.blocks }
         ensures lists { self.new.lists ≡ self.old.lists }
+        ensures touches { self.new.touches ≡ self.old.touches + 1 }
     {
         self.words.mark(at)
     }
@@ -100,6 +104,8 @@ impl Region {
         ensures words { self.new.words ≡ self.old.words }
         ensures blocks { self.new.blocks ≡ self.old.blocks }
         ensures lists { self.new.lists ≡ self.old.lists }
+        ensures touches { self.new.touches ≤ self.old.touches + 3 }
+        ensures touches_rise { self.old.touches ≤ self.new.touches }
     {
         if at >= self.words.len() || !self.words.starts(at) {
             return false;
@@ -114,6 +120,8 @@ impl Region {
         ensures words { self.new.words ≡ self.old.words }
         ensures blocks { self.new.blocks ≡ self.old.blocks }
         ensures lists { self.new.lists ≡ self.old.lists }
+        ensures touches { self.new.touches ≤ self.old.touches + 2 }
+        ensures touches_rise { self.old.touches ≤ self.new.touches }
     {
         let size = self.words.tag(at).size;
         free_size(&mut self.words, at + size)
@@ -126,6 +134,8 @@ impl Region {
         ensures words { self.new.words ≡ self.old.words }
         ensures blocks { self.new.blocks ≡ self.old.blocks }
         ensures lists { self.new.lists ≡ self.old.lists }
+        ensures touches { self.new.touches ≤ self.old.touches + 2 }
+        ensures touches_rise { self.old.touches ≤ self.new.touches }
     {
         let back = self.words.tag(at).back;
         free_size(&mut self.words, back)
@@ -138,6 +148,7 @@ impl Region {
         ensures words { self.new.words ≡ self.old.words }
         ensures blocks { self.new.blocks ≡ self.old.blocks }
         ensures lists { self.new.lists ≡ self.old.lists }
+        ensures touches { self.new.touches ≡ self.old.touches + 1 }
     {
         self.words.length(at)
     }
@@ -149,6 +160,8 @@ impl Region {
         ensures words { self.new.words ≡ self.old.words }
         ensures blocks { self.new.blocks ≡ self.old.blocks }
         ensures lists { self.new.lists ≡ self.old.lists }
+        ensures touches { self.new.touches ≤ self.old.touches + (length out.old / 8 + 2) }
+        ensures touches_rise { self.old.touches ≤ self.new.touches }
     {
         self.words.copy_out(at, offset, out);
     }
@@ -161,6 +174,8 @@ impl Region {
             ++ (Calls.with_bytes (block_at self.old.blocks i) (Calls.overwritten (bytes_of (block_at self.old.blocks i)) offset bytes.now) ∷ [])
             ++ drop (i + 1) self.old.blocks }
         ensures lists { SameLists (list_in self.new.lists) (list_in self.old.lists) }
+        ensures touches { self.new.touches ≤ self.old.touches + 2 * (length bytes.now / 8 + 2) }
+        ensures touches_rise { self.old.touches ≤ self.new.touches }
     {
         self.words.copy_in(at, offset, bytes);
     }
@@ -175,6 +190,8 @@ impl Region {
             ++ (Free size (mark_of (block_at self.old.blocks i)) ∷ Free (size_of (block_at self.old.blocks i) - size) stamp ∷ [])
             ++ drop (i + 1) self.old.blocks }
         ensures lists { SameLists (list_in self.new.lists) (list_in self.old.lists) }
+        ensures touches { self.new.touches ≤ self.old.touches + 7 }
+        ensures touches_rise { self.old.touches ≤ self.new.touches }
     {
         split_header(&mut self.words, at, size, stamp);
     }
@@ -187,6 +204,7 @@ impl Region {
         ensures blocks { (i : ℕ) → StandsAt self.old.blocks at i → self.new.blocks ≡ take i self.old.blocks
             ++ (Live (size_of (block_at self.old.blocks i)) serial (replicate len 0) ∷ []) ++ drop (i + 1) self.old.blocks }
         ensures lists { SameLists (list_in self.new.lists) (list_in self.old.lists) }
+        ensures touches { (i : ℕ) → StandsAt self.old.blocks at i → self.new.touches ≡ self.old.touches + 4 + (size_of (block_at self.old.blocks i) - 3) }
     {
         live_header(&mut self.words, at, serial, len);
     }
@@ -198,6 +216,7 @@ impl Region {
         ensures blocks { (i : ℕ) → StandsAt self.old.blocks at i → self.new.blocks ≡ take i self.old.blocks
             ++ (Free (size_of (block_at self.old.blocks i)) stamp ∷ []) ++ drop (i + 1) self.old.blocks }
         ensures lists { SameLists (list_in self.new.lists) (list_in self.old.lists) }
+        ensures touches { self.new.touches ≡ self.old.touches + 3 }
     {
         free_header(&mut self.words, at, stamp);
     }
@@ -211,6 +230,8 @@ impl Region {
         ensures blocks { (i : ℕ) → StandsAt self.old.blocks at i → self.new.blocks ≡ take i self.old.blocks
             ++ (Free (size_of (block_at self.old.blocks i) + size_of (block_at self.old.blocks (i + 1))) stamp ∷ []) ++ drop (i + 2) self.old.blocks }
         ensures lists { SameLists (list_in self.new.lists) (list_in self.old.lists) }
+        ensures touches { self.new.touches ≤ self.old.touches + 7 }
+        ensures touches_rise { self.old.touches ≤ self.new.touches }
     {
         merge_headers(&mut self.words, at, stamp);
     }
@@ -223,6 +244,8 @@ impl Region {
         ensures blocks { self.new.blocks ≡ self.old.blocks }
         ensures list { list_in self.new.lists class ≡ at ∷ list_in self.old.lists class }
         ensures others { (other : ℕ) → other ≢ class → list_in self.new.lists other ≡ list_in self.old.lists other }
+        ensures touches { self.new.touches ≤ self.old.touches + 7 }
+        ensures touches_rise { self.old.touches ≤ self.new.touches }
     {
         self.lists.push(&mut self.words, class, at);
     }
@@ -235,6 +258,8 @@ impl Region {
         ensures list { list_in self.new.lists class ≡ without_place at (list_in self.old.lists class) }
         ensures others { (other : ℕ) → other ≢ class → list_in self.new.lists other ≡ list_in self.old.lists other }
         ensures unlisted { IsUnlisted (list_in self.new.lists) at }
+        ensures touches { self.new.touches ≤ self.old.touches + 6 }
+        ensures touches_rise { self.old.touches ≤ self.new.touches }
     {
         self.lists.remove(&mut self.words, class, at);
     }
@@ -245,6 +270,7 @@ impl Region {
         ensures words { self.new.words ≡ self.old.words }
         ensures blocks { self.new.blocks ≡ self.old.blocks }
         ensures lists { self.new.lists ≡ self.old.lists }
+        ensures touches { self.new.touches ≡ self.old.touches + 1 }
     {
         self.lists.first(class)
     }
@@ -255,35 +281,9 @@ impl Region {
         ensures words { self.new.words ≡ self.old.words }
         ensures blocks { self.new.blocks ≡ self.old.blocks }
         ensures lists { self.new.lists ≡ self.old.lists }
+        ensures touches { self.new.touches ≤ self.old.touches + 3 }
+        ensures touches_rise { self.old.touches ≤ self.new.touches }
     {
         self.lists.next_from(class)
-    }
-}
-
-/// What tests see of the words.
-#[cfg(test)]
-impl Region {
-    /// The word at a place, `None` outside the region.
-    #[tactic(auto, using(crate::proofs::Reading::holds_read))]
-    pub fn word(&mut self, at: u32) -> Option<u64>
-        ensures words { self.new.words ≡ self.old.words }
-        ensures blocks { self.new.blocks ≡ self.old.blocks }
-        ensures lists { self.new.lists ≡ self.old.lists }
-    {
-        if at < self.words.len() {
-            Some(self.words.word(at))
-        } else {
-            None
-        }
-    }
-
-    /// Whether a block starts at a place.
-    #[tactic(auto, using(crate::proofs::Reading::holds_read))]
-    pub fn starts(&mut self, at: u32) -> bool
-        ensures words { self.new.words ≡ self.old.words }
-        ensures blocks { self.new.blocks ≡ self.old.blocks }
-        ensures lists { self.new.lists ≡ self.old.lists }
-    {
-        at < self.words.len() && self.words.starts(at)
     }
 }

@@ -34,6 +34,7 @@ impl Tally {
         ensures words { region.new.words ≡ region.old.words }
         ensures blocks { region.new.blocks ≡ region.old.blocks }
         ensures lists { region.new.lists ≡ region.old.lists }
+        ensures touches_rise { region.old.touches ≤ region.new.touches }
     {
         let words = region.len();
         let mut tally = Tally::new(tick);
@@ -70,6 +71,7 @@ impl Tally {
         ensures words { region.new.words ≡ region.old.words }
         ensures blocks { region.new.blocks ≡ region.old.blocks }
         ensures lists { region.new.lists ≡ region.old.lists }
+        ensures touches_rise { region.old.touches ≤ region.new.touches }
     {
         let size = region.size(at);
         if region.is_free(at) {

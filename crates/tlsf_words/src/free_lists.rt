@@ -1,4 +1,4 @@
-ghost use Rattle.std.specs.Prelude.{◌≡◌, ◌≢◌, ℕ, ◌+◌, ◌<◌, [], ◌∷◌, List, length, Contains, slice_get, slice_index, slice_index_or, slice_set};
+ghost use Rattle.std.specs.Prelude.{◌≡◌, ◌≢◌, ℕ, ◌+◌, ◌<◌, ◌≤◌, [], ◌∷◌, List, length, Contains, slice_get, slice_index, slice_index_or, slice_set};
 ghost use Rattle.tlsf_class.specs.Members.{next_member, without_member};
 ghost use Rattle.tlsf_words.specs.Fields.{links_word, low_half, high_half};
 ghost use Rattle.tlsf_words.specs.Lists.{nowhere, list_of, without_place, AreThreaded, IsUnlisted, OnlyLinksChange, AreTied};
@@ -10,7 +10,8 @@ use std::marker::Model;
 use tlsf_class::{Bitmaps, Class};
 
 /// Lists of places, one for each class, threaded through the third words of their headers, and bitmaps of the classes whose
-/// lists aren't empty. A list is last in, first out. Nothing allocates, and no list is walked.
+/// lists aren't empty. A list is last in, first out. Nothing allocates, and no list is walked: to put a place in makes seven
+/// touches at most and to take one out six, however long the lists are.
 #[derive(Drop)]
 pub struct FreeLists {
     heads: Heads,
@@ -18,11 +19,12 @@ pub struct FreeLists {
 }
 
 impl Model for FreeLists {
+    ghost use Rattle.std.specs.Prelude.{◌+◌};
     ghost use Rattle.tlsf_words.specs.Lists.{ListHeads};
 
     ghost Value = { ListHeads };
 
-    ghost view = { λ f. record { heads = f.heads.places; members = f.bitmaps.members } };
+    ghost view = { λ f. record { heads = f.heads.places; members = f.bitmaps.members; touches = f.heads.touches + f.bitmaps.touches } };
 }
 
 impl FreeLists {
@@ -30,6 +32,7 @@ impl FreeLists {
     pub fn new() -> FreeLists
         ensures empty { (words : List ℕ) (class : ℕ) → list_of result.heads words class ≡ [] }
         ensures threaded { (words : List ℕ) → AreThreaded result.heads result.members words }
+        ensures touches { result.touches ≡ 0 }
     {
         FreeLists {
             heads: Heads::new(),
@@ -48,6 +51,9 @@ impl FreeLists {
         ensures words { OnlyLinksChange (list_of self.new.heads words.new.words) words.old.words words.new.words }
         ensures length { length words.new.words ≡ length words.old.words }
         ensures starts { words.new.starts ≡ words.old.starts }
+        ensures touches { self.new.touches + words.new.touches ≤ self.old.touches + words.old.touches + 7 }
+        ensures rise { self.old.touches ≤ self.new.touches }
+        ensures words_rise { words.old.touches ≤ words.new.touches }
     {
         let next = self.heads.place(class);
         words.set_links(
@@ -75,6 +81,9 @@ impl FreeLists {
         ensures words { OnlyLinksChange (list_of self.new.heads words.new.words) words.old.words words.new.words }
         ensures length { length words.new.words ≡ length words.old.words }
         ensures starts { words.new.starts ≡ words.old.starts }
+        ensures touches { self.new.touches + words.new.touches ≤ self.old.touches + words.old.touches + 6 }
+        ensures rise { self.old.touches ≤ self.new.touches }
+        ensures words_rise { words.old.touches ≤ words.new.touches }
     {
         let links = words.links(at);
         tie(words, links);
@@ -88,6 +97,7 @@ impl FreeLists {
         ensures place { (words : List ℕ) → AreThreaded self.old.heads self.old.members words → result ≡ slice_get (list_of self.old.heads words class) 0 }
         ensures heads { self.new.heads ≡ self.old.heads }
         ensures members { self.new.members ≡ self.old.members }
+        ensures touches { self.new.touches ≡ self.old.touches + 1 }
     {
         let at = self.heads.place(class);
         if at == NO_PLACE { None } else { Some(at) }
@@ -98,6 +108,8 @@ impl FreeLists {
         ensures least { result ≡ next_member self.old.members class }
         ensures heads { self.new.heads ≡ self.old.heads }
         ensures members { self.new.members ≡ self.old.members }
+        ensures touches { self.new.touches ≤ self.old.touches + 3 }
+        ensures rise { self.old.touches ≤ self.new.touches }
     {
         self.bitmaps.next_from(class)
     }
@@ -108,6 +120,9 @@ impl FreeLists {
         ensures heads { (other : ℕ) → other ≢ class → slice_index_or self.new.heads other nowhere ≡ slice_index_or self.old.heads other nowhere }
         ensures emptied { first ≡ nowhere → self.new.members ≡ without_member self.old.members class }
         ensures members { first ≢ nowhere → self.new.members ≡ self.old.members }
+        ensures touches { self.new.touches ≤ self.old.touches + 5 }
+        ensures kept { first ≢ nowhere → self.new.touches ≡ self.old.touches + 1 }
+        ensures rise { self.old.touches ≤ self.new.touches }
     {
         self.heads.set_place(class, first);
         if first == NO_PLACE {
@@ -124,6 +139,10 @@ fn tie(words: &mut Words, links: Links)
     ensures tied { AreTied words.old.words words.new.words links.next links.previous }
     ensures length { length words.new.words ≡ length words.old.words }
     ensures starts { words.new.starts ≡ words.old.starts }
+    ensures touches { words.new.touches ≤ words.old.touches + 4 }
+    ensures one { links.previous ≡ nowhere → words.new.touches ≤ words.old.touches + 2 }
+    ensures none { links.previous ≡ nowhere → links.next ≡ nowhere → words.new.touches ≡ words.old.touches }
+    ensures rise { words.old.touches ≤ words.new.touches }
 {
     if links.previous != NO_PLACE {
         set_next(words, links.previous, links.next);
@@ -138,6 +157,7 @@ fn set_next(words: &mut Words, at: u32, next: u32)
     requires { at + 2 < length words.old.words }
     ensures words { words.new.words ≡ slice_set words.old.words (at + 2) (links_word next (high_half (slice_index words.old.words (at + 2)))) }
     ensures starts { words.new.starts ≡ words.old.starts }
+    ensures touches { words.new.touches ≡ words.old.touches + 2 }
 {
     let links = words.links(at);
     words.set_links(at, Links { next, ..links });
@@ -148,6 +168,7 @@ fn set_previous(words: &mut Words, at: u32, previous: u32)
     requires { at + 2 < length words.old.words }
     ensures words { words.new.words ≡ slice_set words.old.words (at + 2) (links_word (low_half (slice_index words.old.words (at + 2))) previous) }
     ensures starts { words.new.starts ≡ words.old.starts }
+    ensures touches { words.new.touches ≡ words.old.touches + 2 }
 {
     let links = words.links(at);
     words.set_links(at, Links { previous, ..links });

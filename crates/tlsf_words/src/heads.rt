@@ -1,25 +1,40 @@
-//! The places where free lists begin, each read and written in one place.
-ghost use Rattle.std.specs.Prelude.{◌≡◌, ◌≢◌, ℕ, ◌≤◌, slice_index_or};
+ghost use Rattle.std.specs.Prelude.{◌≡◌, ◌≢◌, ℕ, ◌+◌, ◌≤◌, slice_index_or};
 ghost use Rattle.tlsf_words.specs.Lists.{nowhere};
 
-use tlsf_class::Class;
+use std::marker::Model;
+use tlsf_class::{Class, Touches};
 
 /// No place: where a list ends.
 pub(crate) const NO_PLACE: u32 = u32::MAX;
 
-/// For each class, by its number, the place where its list begins, `NO_PLACE` for none.
+/// For each class, by its number, the place where its list begins, `NO_PLACE` for none, and how often one of them was read or
+/// written.
 #[derive(Drop)]
 pub(crate) struct Heads {
-    pub(crate) places: [u32; 273],
+    places: [u32; 273],
+    touches: Touches,
+}
+
+impl Model for Heads {
+    ghost use Rattle.std.specs.Prelude.{◌≡◌, length};
+    ghost use Rattle.tlsf_words.specs.Touched.{CountedHeads};
+
+    ghost Value = { CountedHeads };
+
+    ghost view = { λ h. record { places = h.places; touches = h.touches.count } };
+
+    ghost invariant = { λ h. length h.places ≡ 273 };
 }
 
 impl Heads {
     /// No list has a place.
     pub(crate) fn new() -> Heads
-        ensures { (class : ℕ) → slice_index_or result.places class nowhere ≡ nowhere }
+        ensures places { (class : ℕ) → slice_index_or result.places class nowhere ≡ nowhere }
+        ensures touches { result.touches ≡ 0 }
     {
         Heads {
             places: [NO_PLACE; 273],
+            touches: Touches::new(),
         }
     }
 
@@ -28,7 +43,9 @@ impl Heads {
     pub(crate) fn place(&mut self, class: Class) -> u32
         ensures value { result ≡ slice_index_or self.old.places class nowhere }
         ensures places { self.new.places ≡ self.old.places }
+        ensures touches { self.new.touches ≡ self.old.touches + 1 }
     {
+        self.touches.add_one();
         self.places[class.number() as usize]
     }
 
@@ -39,7 +56,9 @@ impl Heads {
         ensures others { (other : ℕ) → other ≢ class → slice_index_or self.new.places other nowhere ≡ slice_index_or self.old.places other nowhere }
         ensures least { 4 ≤ class }
         ensures most { class ≤ 272 }
+        ensures touches { self.new.touches ≡ self.old.touches + 1 }
     {
+        self.touches.add_one();
         self.places[class.number() as usize] = at;
     }
 }

@@ -1,7 +1,8 @@
-ghost use Rattle.std.specs.Prelude.{◌≡◌, ℕ, ◌+◌, ◌*◌, ◌<◌, ◌≤◌, ◌≢◌, ◌^◌, ◌++◌, false, length, take, drop, replicate, slice_index, slice_index_or, slice_set, IfOk};
+ghost use Rattle.std.specs.Prelude.{◌≡◌, ℕ, ◌+◌, ◌*◌, ◌/◌, ◌<◌, ◌≤◌, ◌≢◌, ◌^◌, ◌++◌, false, length, take, drop, replicate, slice_index, slice_index_or, slice_set, IfOk};
 ghost use Rattle.tlsf_words.specs.Bytes.{byte_in, bytes_in, payload_byte};
 ghost use Rattle.tlsf_words.specs.Fields.{tag_word, size_in, last_in, free_in, back_in, length_word, links_word, low_half, high_half};
 
+use crate::cells::Cells;
 use crate::halves::low_half;
 use crate::links::Links;
 use crate::no_memory::NoMemory;
@@ -12,32 +13,35 @@ use std::alloc::Global;
 use std::marker::Model;
 
 /// The 64-bit words of a region, 4 to 2^20, and a map that says at which of them a block starts. A place is the number of a word,
-/// from 0 on. Nothing but `open` allocates.
+/// from 0 on. Nothing but `open` allocates. A call that reads or writes one field or one start bit makes one touch.
 #[derive(Drop)]
 pub struct Words {
-    words: Vec<u64>,
+    words: Cells,
     starts: StartMap,
 }
 
 impl Model for Words {
+    ghost use Rattle.std.specs.Prelude.{◌+◌};
     ghost use Rattle.tlsf_words.specs.Memory.{Memory, IsRegion};
 
     ghost Value = { Memory };
 
-    ghost view = { λ w. record { words = w.words.items; starts = w.starts } };
+    ghost view = { λ w. record { words = w.words.words; starts = w.starts.starts; touches = w.words.touches + w.starts.touches } };
 
-    ghost invariant = { λ w. IsRegion w.words.items w.starts };
+    ghost invariant = { λ w. IsRegion w.words.words w.starts.starts };
 }
 
 impl Words {
-    /// A region of `n` words, 4 to 2^20: each word is zero, and no block starts anywhere. It fails only for want of memory.
+    /// A region of `n` words, 4 to 2^20: each word is zero, and no block starts anywhere. The first zeros and the
+    /// empty map aren't counted. It fails only for want of memory.
     pub fn open(alloc: Global, n: u32) -> Result<Words, NoMemory>
         requires least { 4 ≤ n }
         requires most { n ≤ 2 ^ 20 }
         ensures words { IfOk result (λ region. region.words ≡ replicate n 0) }
         ensures starts { IfOk result (λ region. region.starts ≡ replicate n false) }
+        ensures touches { IfOk result (λ region. region.touches ≡ 0) }
     {
-        let words = Vec::from_elem(alloc, 0u64, n as usize)?;
+        let words = Cells::open(alloc, n)?;
         let starts = StartMap::open(alloc, n)?;
         Ok(Words { words, starts })
     }
@@ -60,6 +64,7 @@ impl Words {
         ensures value { result ≡ slice_index self.old.words at }
         ensures words { self.new.words ≡ self.old.words }
         ensures starts { self.new.starts ≡ self.old.starts }
+        ensures touches { self.new.touches ≡ self.old.touches + 1 }
     {
         self.read(at as usize)
     }
@@ -75,6 +80,7 @@ impl Words {
         ensures small { length self.old.words ≤ 2 ^ 20 }
         ensures words { self.new.words ≡ self.old.words }
         ensures starts { self.new.starts ≡ self.old.starts }
+        ensures touches { self.new.touches ≡ self.old.touches + 1 }
     {
         Tag::of_word(self.read(at as usize))
     }
@@ -86,6 +92,7 @@ impl Words {
         requires size { tag.size < 2 ^ 30 }
         ensures words { self.new.words ≡ slice_set self.old.words at (tag_word tag.size tag.last tag.free tag.back) }
         ensures starts { self.new.starts ≡ self.old.starts }
+        ensures touches { self.new.touches ≡ self.old.touches + 1 }
     {
         self.write(at as usize, tag.to_word());
     }
@@ -97,6 +104,7 @@ impl Words {
         ensures value { result ≡ slice_index self.old.words (at + 1) }
         ensures words { self.new.words ≡ self.old.words }
         ensures starts { self.new.starts ≡ self.old.starts }
+        ensures touches { self.new.touches ≡ self.old.touches + 1 }
     {
         self.read(at as usize + 1)
     }
@@ -107,6 +115,7 @@ impl Words {
         requires { at + 1 < length self.old.words }
         ensures words { self.new.words ≡ slice_set self.old.words (at + 1) mark }
         ensures starts { self.new.starts ≡ self.old.starts }
+        ensures touches { self.new.touches ≡ self.old.touches + 1 }
     {
         self.write(at as usize + 1, mark);
     }
@@ -118,6 +127,7 @@ impl Words {
         ensures value { result ≡ low_half (slice_index self.old.words (at + 2)) }
         ensures words { self.new.words ≡ self.old.words }
         ensures starts { self.new.starts ≡ self.old.starts }
+        ensures touches { self.new.touches ≡ self.old.touches + 1 }
     {
         low_half(self.read(at as usize + 2))
     }
@@ -129,6 +139,7 @@ impl Words {
         requires { at + 2 < length self.old.words }
         ensures words { self.new.words ≡ slice_set self.old.words (at + 2) (length_word bytes) }
         ensures starts { self.new.starts ≡ self.old.starts }
+        ensures touches { self.new.touches ≡ self.old.touches + 1 }
     {
         self.write(at as usize + 2, u64::from(bytes));
     }
@@ -142,6 +153,7 @@ impl Words {
         ensures small { length self.old.words ≤ 2 ^ 20 }
         ensures words { self.new.words ≡ self.old.words }
         ensures starts { self.new.starts ≡ self.old.starts }
+        ensures touches { self.new.touches ≡ self.old.touches + 1 }
     {
         Links::of_word(self.read(at as usize + 2))
     }
@@ -153,6 +165,7 @@ impl Words {
         ensures small { length self.old.words ≤ 2 ^ 20 }
         ensures words { self.new.words ≡ slice_set self.old.words (at + 2) (links_word links.next links.previous) }
         ensures starts { self.new.starts ≡ self.old.starts }
+        ensures touches { self.new.touches ≡ self.old.touches + 1 }
     {
         self.write(at as usize + 2, links.to_word());
     }
@@ -164,8 +177,9 @@ impl Words {
         ensures value { result ≡ slice_index_or self.old.starts at false }
         ensures words { self.new.words ≡ self.old.words }
         ensures starts { self.new.starts ≡ self.old.starts }
+        ensures touches { self.new.touches ≡ self.old.touches + 1 }
     {
-        self.read_start(at)
+        self.starts.has(at)
     }
 
     /// Says whether a block starts at a place.
@@ -174,8 +188,9 @@ impl Words {
         requires { at < length self.old.words }
         ensures words { self.new.words ≡ self.old.words }
         ensures starts { self.new.starts ≡ slice_set self.old.starts at starts }
+        ensures touches { self.new.touches ≡ self.old.touches + 1 }
     {
-        self.write_start(at, starts);
+        self.starts.set(at, starts);
     }
 
     /// Makes `n` words zero, from a place on.
@@ -184,6 +199,7 @@ impl Words {
         requires { at + n ≤ length self.old.words }
         ensures words { self.new.words ≡ take at self.old.words ++ replicate n 0 ++ drop (at + n) self.old.words }
         ensures starts { self.new.starts ≡ self.old.starts }
+        ensures touches { self.new.touches ≡ self.old.touches + n }
     {
         for i in 0..n as usize {
             self.write(at as usize + i, 0);
@@ -200,6 +216,8 @@ impl Words {
         ensures words_behind { (k : ℕ) → payload_byte at offset + length bytes.now ≤ 8 * k → slice_index self.new.words k ≡ slice_index self.old.words k }
         ensures length { length self.new.words ≡ length self.old.words }
         ensures starts { self.new.starts ≡ self.old.starts }
+        ensures touches { self.new.touches ≤ self.old.touches + 2 * (length bytes.now / 8 + 2) }
+        ensures rise { self.old.touches ≤ self.new.touches }
     {
         let start = 8 * (at as usize + 3) + offset as usize;
         let skip = start % 8;
@@ -219,6 +237,8 @@ impl Words {
         ensures bytes { out.new ≡ bytes_in self.old.words (payload_byte at offset) (length out.old) }
         ensures words { self.new.words ≡ self.old.words }
         ensures starts { self.new.starts ≡ self.old.starts }
+        ensures touches { self.new.touches ≤ self.old.touches + (length out.old / 8 + 2) }
+        ensures rise { self.old.touches ≤ self.new.touches }
     {
         let start = 8 * (at as usize + 3) + offset as usize;
         let skip = start % 8;
@@ -243,6 +263,7 @@ impl Words {
         ensures words { (k : ℕ) → k ≢ place → slice_index self.new.words k ≡ slice_index self.old.words k }
         ensures length { length self.new.words ≡ length self.old.words }
         ensures starts { self.new.starts ≡ self.old.starts }
+        ensures touches { self.new.touches ≡ self.old.touches + 2 }
     {
         let mut word = self.read(place).to_le_bytes();
         word[first..first + bytes.len()].copy_from_slice(bytes);
@@ -257,12 +278,13 @@ impl Words {
         ensures bytes { (k : ℕ) → k < length out.old → slice_index out.new k ≡ byte_in self.old.words (8 * place + first + k) }
         ensures words { self.new.words ≡ self.old.words }
         ensures starts { self.new.starts ≡ self.old.starts }
+        ensures touches { self.new.touches ≡ self.old.touches + 1 }
     {
         let word = self.read(place).to_le_bytes();
         out.copy_from_slice(&word[first..first + out.len()]);
     }
 
-    /// Each read of a stored word is here.
+    /// Reads a word.
     #[inline]
     fn read(&mut self, at: usize) -> u64
         requires { at < length self.old.words }
@@ -270,39 +292,20 @@ impl Words {
         ensures small { length self.old.words ≤ 2 ^ 20 }
         ensures words { self.new.words ≡ self.old.words }
         ensures starts { self.new.starts ≡ self.old.starts }
+        ensures touches { self.new.touches ≡ self.old.touches + 1 }
     {
-        self.words[at]
+        self.words.read(at)
     }
 
-    /// Each write of a stored word is here.
+    /// Writes a word.
     #[inline]
     fn write(&mut self, at: usize, word: u64)
         requires { at < length self.old.words }
         ensures small { length self.old.words ≤ 2 ^ 20 }
         ensures words { self.new.words ≡ slice_set self.old.words at word }
         ensures starts { self.new.starts ≡ self.old.starts }
+        ensures touches { self.new.touches ≡ self.old.touches + 1 }
     {
-        self.words[at] = word;
-    }
-
-    /// Each read of a start bit is here.
-    #[inline]
-    fn read_start(&mut self, at: u32) -> bool
-        requires { at < length self.old.words }
-        ensures value { result ≡ slice_index_or self.old.starts at false }
-        ensures words { self.new.words ≡ self.old.words }
-        ensures starts { self.new.starts ≡ self.old.starts }
-    {
-        self.starts.has(at)
-    }
-
-    /// Each write of a start bit is here.
-    #[inline]
-    fn write_start(&mut self, at: u32, starts: bool)
-        requires { at < length self.old.words }
-        ensures words { self.new.words ≡ self.old.words }
-        ensures starts { self.new.starts ≡ slice_set self.old.starts at starts }
-    {
-        self.starts.set(at, starts);
+        self.words.write(at, word);
     }
 }

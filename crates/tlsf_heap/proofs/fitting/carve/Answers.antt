@@ -1,7 +1,8 @@
-use Rattle.std.proofs.Common.{◌+◌, ◌≤◌, ◌∙◌, arith}
-use Rattle.tlsf_heap.specs.Regions.{list_in}
+use Rattle.std.proofs.Common.{◌+◌, ◌≤◌, ap, ◌∙◌, arith}
+use Rattle.tlsf_heap.specs.Regions.{RegionState, list_in}
 use Rattle.tlsf_heap.proofs.Listing.{unlisted_same}
-use Rattle.tlsf_heap.proofs.Carving.{IsListed, IsReady, is_listed, contains_free, end_within, left_unlisted, rest_free, ready_as, ready_whole, ready_split, ready_room, ready_listed, ready_blocks}
+use Rattle.tlsf_heap.proofs.Sizes.{stands_around}
+use Rattle.tlsf_heap.proofs.Carving.{IsListed, IsReady, is_listed, contains_free, end_within, left_unlisted, rest_free, ready_as, ready_whole, ready_split, ready_room, ready_given, ready_listed, ready_blocks}
 use Rattle.tlsf_heap.proofs.fitting.carve.Goals.{then-size-words, else-size-words}
 use Rattle.tlsf_heap.proofs.fitting.carve.Goals as goal
 
@@ -70,3 +71,27 @@ returns-clause-blocks c =
 
 pub returns-clause-listed : goal.returns-clause-listed
 returns-clause-listed c = ready_listed (left c) c.args.len c.make_live.new.self.blocks c.make_live.ensures.blocks (list_in c.make_live.new.self.lists) c.make_live.ensures.lists
+
+-- ---- touches: at most 14 where the rest is split off, and those of the block given
+
+rest_touches : (c : goal.After-make_live) → (c.remove.new.self.touches ≤ c.if-size-words.region.touches) × (c.if-size-words.region.touches ≤ c.remove.new.self.touches + 14)
+rest_touches c = elim c.if-size-words.branch [
+  | then-size-words w ↦
+      let same = ap (λ (r : RegionState). r.touches) w.region-is in
+      let split = w.split.ensures in
+      let push = w.push.ensures in
+      (omega (arith, same, split.touches_rise, push.touches_rise), omega (arith, same, split.touches, push.touches))
+  | else-size-words w ↦ let same = ap (λ (r : RegionState). r.touches) w.region-is in (omega (arith, same), omega (arith, same))
+]
+
+pub returns-clause-touches : goal.returns-clause-touches
+returns-clause-touches c i stands =
+    let ready = left c in
+    let given = ready_given ready c.args.len c.make_live.new.self.blocks c.make_live.ensures.blocks c.requires.sized c.requires.fits.1 i stands in
+    let live = c.make_live.ensures.touches c.requires.fits.0 (stands_around ready.around) in
+    omega (arith, live, given, (rest_touches c).1, c.remove.ensures.touches, c.size-size.ensures.touches)
+
+pub returns-clause-touches_rise : goal.returns-clause-touches_rise
+returns-clause-touches_rise c =
+    let live = c.make_live.ensures.touches c.requires.fits.0 (stands_around (left c).around) in
+    omega (arith, live, (rest_touches c).0, c.remove.ensures.touches_rise, c.size-size.ensures.touches)

@@ -29,12 +29,12 @@ invariant_of-self-else-word-eq0 c =
     (AreLevels-clear c.self.inside.levels.first _ _ _ _ _ _ c.self.invariant clears
     (row_bit-kept _ _ _ _ c.self.invariant clears.below (omega arith)) (λ k other. refl))
 
-pub returns-then-word-eq0 : goal.returns-then-word-eq0
-returns-then-word-eq0 c =
+pub returns-then-word-eq0-clause-members : goal.returns-then-word-eq0-clause-members
+returns-then-word-eq0-clause-members c =
     rw (c.set_first_word.ensures.second, c.first_word-rows.ensures.second, c.set_second_word.ensures.second, c.second_word.ensures.second, ← c.self.view_is)
     (members_of-clear _ _ _ _ _ (clears_then c))
 
-pub returns-else-word-eq0 : goal.returns-else-word-eq0
-returns-else-word-eq0 c =
+pub returns-else-word-eq0-clause-members : goal.returns-else-word-eq0-clause-members
+returns-else-word-eq0-clause-members c =
     rw (c.set_second_word.ensures.second, c.second_word.ensures.second, ← c.self.view_is)
     (members_of-clear _ _ _ _ _ (clears_else c))

@@ -17,7 +17,7 @@ invariant_of-self c =
     (AreLevels-set _ _ _ _ _ _ _ c.self.invariant (sets c) c.with_bit.ensures.same
     (λ k other. c.with_bit.ensures.others k other ∙ ap (λ w. bit_at w k) read))
 
-pub returns : goal.returns
-returns c =
+pub returns-clause-members : goal.returns-clause-members
+returns-clause-members c =
     rw (c.set_first_word.ensures.second, c.first_word-rows.ensures.second, c.set_second_word.ensures.second, c.second_word.ensures.second, ← c.self.view_is)
     (members_of-set _ _ _ _ _ (sets c))

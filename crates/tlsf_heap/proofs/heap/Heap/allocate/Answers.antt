@@ -1,10 +1,15 @@
-use Rattle.std.proofs.Common.{◌+◌, ap, ◌∙◌, Ok, Err, arith}
-use Rattle.tlsf_heap.specs.Blocks.{Shown}
+use Rattle.std.proofs.Common.{◌+◌, sym, ap, ◌∙◌, subst, Ok, Err, arith}
+use Rattle.tlsf_heap.specs.Blocks.{HeapState, Shown, size_of}
+use Rattle.tlsf_heap.specs.GoodFit.{block_at}
+use Rattle.tlsf_heap.specs.Laws.{IsLive}
+use Rattle.tlsf_heap.specs.declared.name.Name.{Name}
 use Rattle.tlsf_heap.specs.Stored.{state_of}
 use Rattle.tlsf_heap.specs.declared.refusal.Refusal.TheVariants.{NoFit, Worn}
 use Rattle.tlsf_heap.proofs.Allocating.{Allocates, allocates_none, allocates_worn, allocates_some, lawful_regions, fits_size}
 use Rattle.tlsf_heap.proofs.Lawfulness.{with_region}
 use Rattle.tlsf_heap.proofs.Finding.{and_left}
+use Rattle.tlsf_heap.proofs.Giving.{carved_stands, named_payload}
+use Rattle.tlsf_heap.proofs.Living as living
 use Rattle.tlsf_heap.proofs.heap.Heap.allocate.Goals as goal
 
 pub choose-requires-clause-sized : goal.choose-requires-clause-sized
@@ -89,3 +94,22 @@ invariant_of-self-2 c = record {
   small = omega (arith, c.carve.ensures.words, c.choose.ensures.words, c.self.invariant.small);
   listed = c.carve.ensures.listed;
 }
+
+-- the name that is given names the block at its place, whose payload was made zero
+pub returns-clause-touches : goal.returns-clause-touches
+returns-clause-touches c =
+    let best = c.in-Some.ensures.best in
+    let old = c.self.inside.region.blocks in
+    let heap : HeapState = with_region (state_of c.self.inside) (c.self.inside.tick + 1) c.carve.new.region in
+    let name : Name = record { heap = c.self.inside.id; at = c.in-Some.at; serial = c.self.inside.tick } in
+    let live : IsLive heap name = subst (λ (h : HeapState). IsLive h name) (sym (given c).is_heap) (living.given c.args.self.now.heap c.args.len name (sym (given c).is_answer)) in
+    let stands = carved_stands old heap.blocks name.at best.0 (size_of (block_at old best.0)) c.want-words.result c.self.inside.tick c.args.len best.1
+    ((rw c.choose.ensures.blocks at c.carve.ensures.blocks) best.0 best.1) in
+    let regions = lawful_regions heap (given c).lawful (omega (arith, c.carve.ensures.words, c.choose.ensures.words, c.self.invariant.small)) in
+    omega (
+      arith,
+      (rw c.choose.ensures.blocks at c.carve.ensures.touches) best.0 best.1,
+      named_payload heap name best.0 regions stands live,
+      c.choose.ensures.touches,
+      ap (λ (s : Shown). s.touches) c.self.view_is,
+    )

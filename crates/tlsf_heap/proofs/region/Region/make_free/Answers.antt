@@ -19,7 +19,7 @@ invariant_of-self c = (relists c).holds
 
 pub returns-clause-blocks : goal.returns-clause-blocks
 returns-clause-blocks c =
-    let new = c.free_header.ensures in (freed (shows_state c.self.invariant c.self.view_is) c.requires new.tag new.mark new.others new.length new.starts).blocks
+    let new = c.free_header.ensures in (freed {v = c.free_header.new.words} (shows_state c.self.invariant c.self.view_is) c.requires new.tag new.mark new.others new.length new.starts).blocks
 
 pub returns-clause-lists : goal.returns-clause-lists
 returns-clause-lists c = (relists c).same

@@ -1,6 +1,7 @@
-use Rattle.std.proofs.Common.{refl, replicate, arith}
+use Rattle.std.proofs.Common.{refl, replicate, ap, arith}
 use Rattle.tlsf_heap.specs.Blocks.{Live, size_of}
 use Rattle.tlsf_heap.specs.GoodFit.{block_at}
+use Rattle.tlsf_heap.specs.Regions.{RegionState}
 use Rattle.tlsf_heap.proofs.Reading.{shows_state, says_here}
 use Rattle.tlsf_heap.proofs.Edited.{enlivened}
 use Rattle.tlsf_heap.proofs.Linking.{Relists, holds_state}
@@ -23,7 +24,12 @@ invariant_of-self c = (relists c).holds
 pub returns-clause-blocks : goal.returns-clause-blocks
 returns-clause-blocks c =
     let new = c.live_header.ensures in
-    (enlivened c.args.len (shows_state c.self.invariant c.self.view_is) c.requires.room new.tag new.mark new.bytes new.payload new.before new.behind new.length new.starts).blocks
+    (enlivened {v = c.live_header.new.words} c.args.len (shows_state c.self.invariant c.self.view_is) c.requires.room new.tag new.mark new.bytes new.payload new.before new.behind new.length new.starts).blocks
 
 pub returns-clause-lists : goal.returns-clause-lists
 returns-clause-lists c = (relists c).same
+
+pub returns-clause-touches : goal.returns-clause-touches
+returns-clause-touches c i stands =
+    let says = says_here (shows_state c.self.invariant c.self.view_is) stands in
+    omega (arith, c.live_header.ensures.touches, says.size, ap (λ (r : RegionState). r.touches) c.self.view_is)

@@ -4,6 +4,7 @@ use Rattle.tlsf_class.specs.Classes.{classes}
 use Rattle.tlsf_class.specs.Members.{next_member}
 use Rattle.tlsf_words.specs.Lists.{list_of}
 use Rattle.tlsf_heap.specs.Regions.{list_in}
+use Rattle.tlsf_heap.proofs.Reading.{lists_read}
 use Rattle.tlsf_heap.proofs.Linking.{holds_state}
 use Rattle.tlsf_heap.proofs.region.Region.next_from.Goals as goal
 
@@ -16,3 +17,6 @@ returns-clause-least c =
     (state.threaded.marked
     ∙ filter_agree (λ class. not (eqb (length (list_of c.self.inside.lists.heads c.self.inside.words.words class)) 0)) (λ class. not (eqb (length (list_in c.args.self.now.lists class)) 0))
     (λ class. ap (λ (places : List ℕ). not (eqb (length places) 0)) (sym (state.lists class))) classes)
+
+pub invariant_of-self : goal.invariant_of-self
+invariant_of-self c = lists_read c.next_from.ensures.heads c.next_from.ensures.members c.self.invariant

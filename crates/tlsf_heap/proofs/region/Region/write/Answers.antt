@@ -25,7 +25,7 @@ invariant_of-self c = (relists c).holds
 pub returns-clause-blocks : goal.returns-clause-blocks
 returns-clause-blocks c =
     let new = c.copy_in.ensures in
-    (rewritten c.args.offset (shows_state c.self.invariant c.self.view_is) c.requires new.bytes new.before new.behind new.words_before new.words_behind new.length new.starts).blocks
+    (rewritten {v = c.copy_in.new.self} c.args.offset (shows_state c.self.invariant c.self.view_is) c.requires new.bytes new.before new.behind new.words_before new.words_behind new.length new.starts).blocks
 
 pub returns-clause-lists : goal.returns-clause-lists
 returns-clause-lists c = (relists c).same

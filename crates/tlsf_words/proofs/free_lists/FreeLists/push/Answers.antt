@@ -35,7 +35,7 @@ pushes_first c =
           (in_front-first c.args.words.now.words c.set_links.new.self.words c.args.at c.place-next.result c.requires.inside c.set_links.ensures.words c.if-next.true);
       head = c.set_place.ensures.value;
       heads_kept = λ k n. c.set_place.ensures.others k n ∙ ap (λ (ps : List ℕ). get_or ps k nowhere) c.place-next.ensures.places ∙ ap (head_of k) c.self.view_is;
-      begun = λ _. c.set.ensures ∙ ap (λ (f : ListHeads). with_member f.members c.args.class) c.self.view_is;
+      begun = λ _. c.set.ensures.members ∙ ap (λ (f : ListHeads). with_member f.members c.args.class) c.self.view_is;
       grown = λ some. absurd (some (sym head ∙ c.if-next.true));
     }
 

@@ -11,5 +11,5 @@ nowhere_each n class = elim (cases_lt class n) [
   | inr past ↦ get_or_past (replicate n nowhere) class nowhere (omega (arith, length-replicate n nowhere))
 ]
 
-pub returns : goal.returns
-returns c = λ class. nowhere_each 273 class
+pub returns-clause-places : goal.returns-clause-places
+returns-clause-places c = λ class. nowhere_each 273 class

@@ -1,0 +1,58 @@
+ghost use Rattle.std.specs.Prelude.{◌≡◌, ◌+◌, ◌<◌, length, replicate, slice_index, slice_set};
+
+use crate::touches::Touches;
+use std::marker::Model;
+
+/// The words of the bitmaps, 19 of them, and how often one was read or written.
+#[derive(Drop)]
+pub(crate) struct Cells {
+    words: [u32; 19],
+    touches: Touches,
+}
+
+impl Model for Cells {
+    ghost use Rattle.std.specs.Prelude.{◌≡◌, length};
+    ghost use Rattle.tlsf_class.specs.Touched.{CountedWords};
+
+    ghost Value = { CountedWords };
+
+    ghost view = { λ c. record { words = c.words; touches = c.touches.count } };
+
+    ghost invariant = { λ c. length c.words ≡ 19 };
+}
+
+impl Cells {
+    /// Every word is zero.
+    pub(crate) fn new() -> Cells
+        ensures words { result.words ≡ replicate 19 0 }
+        ensures touches { result.touches ≡ 0 }
+    {
+        Cells {
+            words: [0; 19],
+            touches: Touches::new(),
+        }
+    }
+
+    /// Reads word `at`, 0 to 18. Each read is here.
+    pub(crate) fn read(&mut self, at: u32) -> u32
+        requires { at < 19 }
+        ensures value { result ≡ slice_index self.old.words at }
+        ensures words { self.new.words ≡ self.old.words }
+        ensures touches { self.new.touches ≡ self.old.touches + 1 }
+    {
+        let word = self.words[at as usize];
+        self.touches.add_one();
+        word
+    }
+
+    /// Writes word `at`, 0 to 18. Each write is here.
+    pub(crate) fn write(&mut self, at: u32, word: u32)
+        requires { at < 19 }
+        ensures length { length self.old.words ≡ 19 }
+        ensures words { self.new.words ≡ slice_set self.old.words at word }
+        ensures touches { self.new.touches ≡ self.old.touches + 1 }
+    {
+        self.words[at as usize] = word;
+        self.touches.add_one();
+    }
+}
