@@ -1,8 +1,8 @@
 //! Readers and writers for tests.
 
 use std::alloc::Global;
-use std::io;
 use std::io::{Read, Write};
+use std::{io, str};
 
 /// A reader of a text, which counts its reads.
 #[derive(Drop)]
@@ -47,24 +47,6 @@ impl Read for FakeReader<'_> {
     }
 }
 
-/// A reader that gives the letter `a` for ever, and counts its reads.
-#[derive(Drop)]
-pub struct EndlessReader {
-    /// How many bytes a read gives at most.
-    pub most: usize,
-    /// How many reads there were.
-    pub reads: u64,
-}
-
-impl Read for EndlessReader {
-    fn read(&mut self, buf: &mut [u8]) -> io::Result<usize> {
-        self.reads = self.reads.saturating_add(1);
-        let count = self.most.min(buf.len());
-        buf[..count].fill(b'a');
-        Ok(count)
-    }
-}
-
 /// A writer of little room.
 #[derive(Drop)]
 pub struct FakeWriter {
@@ -86,6 +68,20 @@ impl FakeWriter {
             fails_when_full: true,
             flush_fails: false,
         }
+    }
+
+    pub fn of_room(alloc: Global, room: usize) -> FakeWriter {
+        FakeWriter {
+            held: Vec::new(alloc),
+            room,
+            fails_when_full: true,
+            flush_fails: false,
+        }
+    }
+
+    /// What was written, as text.
+    pub fn text(&self) -> &str {
+        str::from_utf8(&self.held).unwrap_or("no text")
     }
 }
 

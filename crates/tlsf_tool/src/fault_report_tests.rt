@@ -18,8 +18,8 @@ fn faults_with_their_lines(rt: HostRuntime) -> Result<(), Fail> {
         let report = FaultReport {
             fault: TraceFault { no, line },
         };
-        assert_eq!(rt; format!(in rt.alloc(); "{report}")?.as_str(), text);
-        assert_eq!(rt; report.status(), status);
+        let line = format!(in rt.alloc(); "{report}")?;
+        assert_eq!(rt; (line.as_str(), report.status()), (text, status));
     }
     Ok(())
 }

@@ -1,8 +1,7 @@
-use crate::fakes::{EndlessReader, FakeReader, FakeWriter};
+use crate::fakes::{FakeReader, FakeWriter};
 use crate::run::run;
 use std::alloc::Global;
-use std::io::Read;
-use std::str;
+use std::process::Abort;
 use std::test::Fail;
 
 // What a run wrote, and how it ended.
@@ -13,20 +12,11 @@ struct Ending {
     errors: FakeWriter,
 }
 
-impl Ending {
-    fn written(&self) -> Result<&str, Fail> {
-        Ok(str::from_utf8(&self.written.held)?)
-    }
-
-    fn errors(&self) -> Result<&str, Fail> {
-        Ok(str::from_utf8(&self.errors.held)?)
-    }
-}
-
-fn run_on<R: Read>(alloc: Global, words: &[&str], reader: &mut R) -> Ending {
+// Runs the program on words that are parted by commas.
+fn run_on(rt: &impl Abort, alloc: Global, words: &str, reader: &mut FakeReader) -> Ending {
     let mut written = FakeWriter::new(alloc);
     let mut errors = FakeWriter::new(alloc);
-    let status = run(alloc, words, reader, &mut written, &mut errors);
+    let status = run_to(rt, alloc, words, reader, &mut written, &mut errors);
     Ending {
         status,
         written,
@@ -34,256 +24,240 @@ fn run_on<R: Read>(alloc: Global, words: &[&str], reader: &mut R) -> Ending {
     }
 }
 
+fn run_to(
+    rt: &impl Abort,
+    alloc: Global,
+    words: &str,
+    reader: &mut FakeReader,
+    writer: &mut FakeWriter,
+    errors: &mut FakeWriter,
+) -> u8 {
+    let words = words
+        .split(',')
+        .collect::<Vec<&str>>(alloc)
+        .expect(rt, "memory");
+    run(alloc, &words, reader, writer, errors)
+}
+
+// A run on these words, the last of them behind the others, reads nothing, writes a line and is done.
+fn check_line(rt: &impl Abort, alloc: Global, front: &str, last: &str, line: &str) {
+    let words = format!(in alloc; "{front},{last}").expect(rt, "memory");
+    let mut reader = FakeReader::new(b"tlsf 1 1 64 1\n");
+    let ending = run_on(rt, alloc, &words, &mut reader);
+    let found = (
+        ending.status,
+        ending.written.text(),
+        ending.errors.text(),
+        reader.reads,
+    );
+    assert_eq!(rt; found, (0, line, "", 0), "{words}");
+}
+
+// A run on these words reads nothing, and the text stands in what it writes.
+fn check_shown(rt: &impl Abort, alloc: Global, words: &str, text: &str) {
+    let mut reader = FakeReader::new(b"tlsf 1 1 64 1\n");
+    let ending = run_on(rt, alloc, words, &mut reader);
+    let is_shown = ending.written.text().contains(text);
+    let found = (ending.status, is_shown, ending.errors.text(), reader.reads);
+    assert_eq!(rt; found, (0, true, "", 0), "{words}");
+}
+
+// What a run on refused words did: it read nothing, and the text stands in what went to the writer of errors.
+fn check_refused(rt: &impl Abort, ending: &Ending, reads: u64, text: &str) {
+    let is_told = ending.errors.text().contains(text);
+    let found = (ending.status, is_told, ending.written.text(), reads);
+    assert_eq!(rt; found, (2, true, "", 0), "{text}");
+}
+
+// A replay reports a fault by this line, and writes nothing.
+fn check_fault(rt: &impl Abort, alloc: Global, reader: &mut FakeReader, line: &str) {
+    let ending = run_on(rt, alloc, "tlsf,replay", reader);
+    let found = (ending.status, ending.written.text(), ending.errors.text());
+    assert_eq!(rt; found, (1, "", line));
+}
+
 #[test]
-fn replays(rt: HostRuntime) -> Result<(), Fail> {
-    for words in [["tlsf", "replay"], ["", "replay"]] {
+fn replays(rt: HostRuntime) {
+    for words in ["tlsf,replay", ",replay"] {
         let mut reader = FakeReader::new(b"tlsf 1 1 64 1\n");
-        let ending = run_on(rt.alloc(), &words, &mut reader);
-        assert_eq!(rt; ending.status, 0);
-        assert_eq!(rt; ending.errors()?, "");
+        let ending = run_on(&rt, rt.alloc(), words, &mut reader);
+        assert_eq!(rt; (ending.status, ending.errors.text()), (0, ""));
     }
-    Ok(())
 }
 
 // The fault line and the status of a faulty trace. Nothing is written.
 #[test]
-fn reports_a_fault_of_the_trace(rt: HostRuntime) -> Result<(), Fail> {
-    let rows: [(&[u8], &str); 8] = [
-        (b"", "tlsf: line 1: bad header (11)\n"),
-        (b"tlsf 2 1 64 1\n", "tlsf: line 1: bad header (11)\n"),
-        (b"tlsf 1 2 64 4\na 0 1", "tlsf: line 2: bad line (12)\n"),
+fn reports_a_fault_of_the_trace(rt: HostRuntime) {
+    let rows = [
+        ("", "tlsf: line 1: bad header (11)\n"),
+        ("tlsf 2 1 64 1\n", "tlsf: line 1: bad header (11)\n"),
+        ("tlsf 1 2 64 4\na 0 1", "tlsf: line 2: bad line (12)\n"),
         (
-            b"tlsf 1 1 64 4\na 0 1 8\nf 0 1 \n",
+            "tlsf 1 1 64 4\na 0 1 8\nf 0 1 \n",
             "tlsf: line 3: bad line (12)\n",
         ),
         (
-            b"tlsf 1 2 64 4\na 0 01 8\n",
+            "tlsf 1 2 64 4\na 0 01 8\n",
             "tlsf: line 2: bad number (13)\n",
         ),
         (
-            b"tlsf 1 1 64 4\na 0 1 8\nf 1 1\n",
+            "tlsf 1 1 64 4\na 0 1 8\nf 1 1\n",
             "tlsf: line 3: bad number (13)\n",
         ),
         (
-            b"tlsf 1 1 64 4\nf 0 1\n",
+            "tlsf 1 1 64 4\nf 0 1\n",
             "tlsf: line 2: label out of order (14)\n",
         ),
         (
-            b"tlsf 1 2 64 4\na 0 1 8\nf 1 1\nx\n",
+            "tlsf 1 2 64 4\na 0 1 8\nf 1 1\nx\n",
             "tlsf: line 3: label out of order (14)\n",
         ),
     ];
     for (text, line) in rows {
-        let mut reader = FakeReader::new(text);
-        let ending = run_on(rt.alloc(), &["tlsf", "replay"], &mut reader);
-        assert_eq!(rt; ending.status, 1);
-        assert_eq!(rt; ending.errors()?, line);
-        assert_eq!(rt; ending.written()?, "");
+        check_fault(&rt, rt.alloc(), &mut FakeReader::new(text.as_bytes()), line);
     }
-    Ok(())
 }
 
 #[test]
-fn reports_a_fault_of_the_reader(rt: HostRuntime) -> Result<(), Fail> {
-    let words = ["tlsf", "replay"];
+fn reports_a_read_that_fails(rt: HostRuntime) {
     let mut reader = FakeReader::new(b"tlsf 1 1 64 1\n");
     reader.most = 3;
     reader.fails_at = 2;
-    let ending = run_on(rt.alloc(), &words, &mut reader);
-    assert_eq!(rt; ending.status, 1);
-    assert_eq!(rt; ending.errors()?, "tlsf: read failed (16)\n");
-    assert_eq!(rt; ending.written()?, "");
+    check_fault(&rt, rt.alloc(), &mut reader, "tlsf: read failed (16)\n");
+}
 
-    let mut reader = EndlessReader {
-        most: 4096,
-        reads: 0,
-    };
-    let ending = run_on(rt.alloc(), &words, &mut reader);
-    assert_eq!(rt; ending.status, 1);
-    assert_eq!(rt; ending.errors()?, "tlsf: trace too long (15)\n");
-    assert_eq!(rt; ending.written()?, "");
+#[test]
+fn reports_a_long_trace(rt: HostRuntime) -> Result<(), Fail> {
+    let text = vec![in rt.alloc(); b'a'; 1_048_577]?;
+    let mut reader = FakeReader::new(&text);
+    check_fault(&rt, rt.alloc(), &mut reader, "tlsf: trace too long (15)\n");
     Ok(())
+}
+
+// A run on these words reports that the writer failed.
+fn check_write_fault(rt: &impl Abort, alloc: Global, words: &str, writer: &mut FakeWriter) {
+    let mut errors = FakeWriter::new(alloc);
+    let mut reader = FakeReader::new(b"tlsf 1 1 64 1\na 0 1 8\n");
+    let status = run_to(rt, alloc, words, &mut reader, writer, &mut errors);
+    let line = "tlsf: write failed (17)\n";
+    assert_eq!(rt; (status, errors.text()), (1, line), "{words}");
 }
 
 // The writer's fault is reported, be it in a write or in the flush, and so for the help text.
 #[test]
-fn reports_a_fault_of_the_writer(rt: HostRuntime) -> Result<(), Fail> {
-    let alloc = rt.alloc();
-    for word in ["replay", "--help", "--version"] {
-        for (room, fails_when_full, flush_fails) in [
-            (5, true, false),
-            (5, false, false),
-            (usize::MAX, true, true),
-        ] {
-            let mut writer = FakeWriter::new(alloc);
-            writer.room = room;
-            writer.fails_when_full = fails_when_full;
-            writer.flush_fails = flush_fails;
-            let mut errors = FakeWriter::new(alloc);
-            let mut reader = FakeReader::new(b"tlsf 1 1 64 1\na 0 1 8\n");
-            let status = run(
-                alloc,
-                &["tlsf", word],
-                &mut reader,
-                &mut writer,
-                &mut errors,
-            );
-            assert_eq!(rt; status, 1, "{word}");
-            assert_eq!(rt;
-                str::from_utf8(&errors.held)?,
-                "tlsf: write failed (17)\n",
-                "{word}"
-            );
-        }
+fn reports_a_fault_of_the_writer(rt: HostRuntime) {
+    for words in ["tlsf,replay", "tlsf,--help", "tlsf,--version"] {
+        let mut failing = FakeWriter::of_room(rt.alloc(), 5);
+        check_write_fault(&rt, rt.alloc(), words, &mut failing);
+        let mut idle = FakeWriter::of_room(rt.alloc(), 5);
+        idle.fails_when_full = false;
+        check_write_fault(&rt, rt.alloc(), words, &mut idle);
+        let mut unflushed = FakeWriter::new(rt.alloc());
+        unflushed.flush_fails = true;
+        check_write_fault(&rt, rt.alloc(), words, &mut unflushed);
     }
-    Ok(())
+}
+
+// A run keeps its status where so much of its errors can be written.
+fn check_status(rt: &impl Abort, alloc: Global, words: &str, room: usize, want: u8) {
+    let mut reader = FakeReader::new(b"tlsf 1 1 64 1\n");
+    reader.fails_at = 0;
+    let mut writer = FakeWriter::new(alloc);
+    let mut errors = FakeWriter::of_room(alloc, room);
+    errors.flush_fails = true;
+    let status = run_to(rt, alloc, words, &mut reader, &mut writer, &mut errors);
+    assert_eq!(rt; (status, errors.held.len()), (want, room));
 }
 
 #[test]
 fn keeps_its_status_where_errors_cannot_be_written(rt: HostRuntime) {
-    let alloc = rt.alloc();
-    for (words, want) in [(["tlsf", "replay"], 1), (["tlsf", "nothing"], 2)] {
-        for room in [0, 4] {
-            let mut reader = FakeReader::new(b"tlsf 1 1 64 1\n");
-            reader.fails_at = 0;
-            let mut writer = FakeWriter::new(alloc);
-            let mut errors = FakeWriter::new(alloc);
-            errors.room = room;
-            errors.flush_fails = true;
-            let status = run(alloc, &words, &mut reader, &mut writer, &mut errors);
-            assert_eq!(rt; status, want);
-            assert_eq!(rt; errors.held.len(), room);
-        }
+    for room in [0, 4] {
+        check_status(&rt, rt.alloc(), "tlsf,replay", room, 1);
+        check_status(&rt, rt.alloc(), "tlsf,nothing", room, 2);
     }
 }
 
 // The text goes to the writer, and nothing is read.
 #[test]
-fn shows_help_and_version(rt: HostRuntime) -> Result<(), Fail> {
+fn shows_help_and_version(rt: HostRuntime) {
     let rows = [
-        (["tlsf", "--help"].as_slice(), "Usage: tlsf <COMMAND>"),
-        (["tlsf", "-h"].as_slice(), "Usage: tlsf <COMMAND>"),
-        (["tlsf", "help"].as_slice(), "Usage: tlsf <COMMAND>"),
+        ("tlsf,--help", "Usage: tlsf <COMMAND>"),
+        ("tlsf,-h", "Usage: tlsf <COMMAND>"),
+        ("tlsf,help", "Usage: tlsf <COMMAND>"),
+        ("tlsf,replay,--help", "Usage: tlsf replay"),
+        ("tlsf,help,replay", "Usage: tlsf replay"),
+        ("tlsf,replay,-h", "trace from standard input"),
+        ("other,replay,--help", "Usage: tlsf replay"),
+        (",--help", "Usage: tlsf <COMMAND>"),
         (
-            ["tlsf", "replay", "--help"].as_slice(),
-            "Usage: tlsf replay",
-        ),
-        (["tlsf", "help", "replay"].as_slice(), "Usage: tlsf replay"),
-        (
-            ["tlsf", "replay", "-h"].as_slice(),
-            "trace from standard input",
-        ),
-        (
-            ["other", "replay", "--help"].as_slice(),
-            "Usage: tlsf replay",
-        ),
-        (["", "--help"].as_slice(), "Usage: tlsf <COMMAND>"),
-        (
-            ["tlsf", "--help"].as_slice(),
+            "tlsf,--help",
             "  tlsf 1 1 64 1\n  a 0 1 8\n  a 0 2 100\n  f 0 1\n",
         ),
         (
-            ["tlsf", "replay", "--help"].as_slice(),
+            "tlsf,replay,--help",
             "  tlsf 1 2 64 4\n  a 0 1 8\n  phase\n  f 1 1\n\n  0 a 1 at 0 serial 1\n",
         ),
-        (
-            ["tlsf", "classes", "--help"].as_slice(),
-            "Usage: tlsf classes <N>",
-        ),
-        (["tlsf", "classes", "-h"].as_slice(), "A size in words"),
-        (
-            ["tlsf", "help", "classes"].as_slice(),
-            "Usage: tlsf classes <N>",
-        ),
-        (["tlsf", "--version"].as_slice(), "tlsf 0.1.0\n"),
-        (["tlsf", "-V"].as_slice(), "tlsf 0.1.0\n"),
+        ("tlsf,classes,--help", "Usage: tlsf classes <N>"),
+        ("tlsf,classes,-h", "A size in words"),
+        ("tlsf,help,classes", "Usage: tlsf classes <N>"),
+        ("tlsf,--version", "tlsf 0.1.0\n"),
+        ("tlsf,-V", "tlsf 0.1.0\n"),
     ];
     for (words, text) in rows {
-        let mut reader = FakeReader::new(b"tlsf 1 1 64 1\n");
-        let ending = run_on(rt.alloc(), words, &mut reader);
-        assert_eq!(rt; ending.status, 0, "{text}");
-        assert!(rt; ending.written()?.contains(text), "{text}");
-        assert_eq!(rt; ending.errors()?, "");
-        assert_eq!(rt; reader.reads, 0);
+        check_shown(&rt, rt.alloc(), words, text);
     }
-    Ok(())
 }
 
 // The text goes to the writer of errors, and nothing is read.
 #[test]
-fn refuses_other_words(rt: HostRuntime) -> Result<(), Fail> {
+fn refuses_other_words(rt: HostRuntime) {
     let rows = [
-        ([].as_slice(), "requires a subcommand"),
-        (["tlsf"].as_slice(), "requires a subcommand"),
+        ("tlsf", "requires a subcommand"),
+        ("tlsf,nothing", "unrecognized subcommand 'nothing'"),
+        ("tlsf,Replay", "unrecognized subcommand 'Replay'"),
+        ("tlsf,replay,now", "unexpected argument 'now' found"),
+        ("tlsf,replay,--fast", "unexpected argument '--fast' found"),
+        ("tlsf,--fast,replay", "unexpected argument '--fast' found"),
+        ("tlsf,help,nothing", "unrecognized subcommand 'nothing'"),
+        ("tlsf,classes", "Usage: tlsf classes <N>"),
+        ("tlsf,classes,4,5", "unexpected argument '5' found"),
+        ("tlsf,classes,-5", "unexpected argument '-5' found"),
         (
-            ["tlsf", "nothing"].as_slice(),
-            "unrecognized subcommand 'nothing'",
-        ),
-        (
-            ["tlsf", "Replay"].as_slice(),
-            "unrecognized subcommand 'Replay'",
-        ),
-        (
-            ["tlsf", "replay", "now"].as_slice(),
-            "unexpected argument 'now' found",
-        ),
-        (
-            ["tlsf", "replay", "--fast"].as_slice(),
-            "unexpected argument '--fast' found",
-        ),
-        (
-            ["tlsf", "--fast", "replay"].as_slice(),
-            "unexpected argument '--fast' found",
-        ),
-        (
-            ["tlsf", "help", "nothing"].as_slice(),
-            "unrecognized subcommand 'nothing'",
-        ),
-        (["tlsf", "classes"].as_slice(), "Usage: tlsf classes <N>"),
-        (
-            ["tlsf", "classes", "4", "5"].as_slice(),
-            "unexpected argument '5' found",
-        ),
-        (
-            ["tlsf", "classes", "-5"].as_slice(),
-            "unexpected argument '-5' found",
-        ),
-        (
-            ["tlsf", "classes", "3"].as_slice(),
+            "tlsf,classes,3",
             "invalid value '3' for '<N>': 3 is not in 4..=1048576",
         ),
-        (
-            ["tlsf", "classes", "1048577"].as_slice(),
-            "1048577 is not in 4..=1048576",
-        ),
-        (
-            ["tlsf", "classes", "x"].as_slice(),
-            "invalid value 'x' for '<N>'",
-        ),
-        (
-            ["tlsf", "classes", " 5"].as_slice(),
-            "invalid value ' 5' for '<N>'",
-        ),
-        (["tlsf", "classes", ""].as_slice(), "for '<N>'"),
-        (
-            ["tlsf", "460", "classes"].as_slice(),
-            "unrecognized subcommand '460'",
-        ),
+        ("tlsf,classes,1048577", "1048577 is not in 4..=1048576"),
+        ("tlsf,classes,x", "invalid value 'x' for '<N>'"),
+        ("tlsf,classes, 5", "invalid value ' 5' for '<N>'"),
+        ("tlsf,classes,", "for '<N>'"),
+        ("tlsf,460,classes", "unrecognized subcommand '460'"),
     ];
     for (words, text) in rows {
         let mut reader = FakeReader::new(b"tlsf 1 1 64 1\n");
-        let ending = run_on(rt.alloc(), words, &mut reader);
-        assert_eq!(rt; ending.status, 2, "{text}");
-        assert!(rt; ending.errors()?.contains(text), "{text}");
-        assert_eq!(rt; ending.written()?, "");
-        assert_eq!(rt; reader.reads, 0);
+        let ending = run_on(&rt, rt.alloc(), words, &mut reader);
+        check_refused(&rt, &ending, reader.reads, text);
     }
-    Ok(())
+}
+
+// Not even the program's name is there.
+#[test]
+fn refuses_no_words(rt: HostRuntime) {
+    let none: [&str; 0] = [];
+    let mut reader = FakeReader::new(b"tlsf 1 1 64 1\n");
+    let mut written = FakeWriter::new(rt.alloc());
+    let mut errors = FakeWriter::new(rt.alloc());
+    let status = run(rt.alloc(), &none, &mut reader, &mut written, &mut errors);
+    let ending = Ending {
+        status,
+        written,
+        errors,
+    };
+    check_refused(&rt, &ending, reader.reads, "requires a subcommand");
 }
 
 // The line goes to the writer, and nothing is read. A plus sign and zeros may stand first.
 #[test]
-fn writes_classes(rt: HostRuntime) -> Result<(), Fail> {
+fn writes_classes(rt: HostRuntime) {
     let rows = [
         ("4", "class 4 low 4 search 4 low 4\n"),
         ("15", "class 15 low 15 search 15 low 15\n"),
@@ -295,44 +269,57 @@ fn writes_classes(rt: HostRuntime) -> Result<(), Fail> {
         ("0033", "class 32 low 32 search 33 low 34\n"),
     ];
     for (size, line) in rows {
-        let mut reader = FakeReader::new(b"tlsf 1 1 64 1\n");
-        for words in [
-            ["tlsf", "classes", size].as_slice(),
-            ["", "classes", "--", size].as_slice(),
-        ] {
-            let ending = run_on(rt.alloc(), words, &mut reader);
-            assert_eq!(rt; ending.status, 0, "{size}");
-            assert_eq!(rt; ending.written()?, line);
-            assert_eq!(rt; ending.errors()?, "");
-            assert_eq!(rt; reader.reads, 0);
-        }
+        check_line(&rt, rt.alloc(), "tlsf,classes", size, line);
+        check_line(&rt, rt.alloc(), ",classes,--", size, line);
     }
-    Ok(())
+}
+
+// The class line of 460 words cannot be written, and a front of the fault's line is reported.
+fn check_class_fault(
+    rt: &impl Abort,
+    alloc: Global,
+    writer: &mut FakeWriter,
+    room: usize,
+    line: &str,
+) {
+    let mut errors = FakeWriter::of_room(alloc, room);
+    let mut reader = FakeReader::new(b"");
+    let status = run_to(
+        rt,
+        alloc,
+        "tlsf,classes,460",
+        &mut reader,
+        writer,
+        &mut errors,
+    );
+    assert_eq!(rt; (status, errors.text()), (1, line));
 }
 
 // A front of the line is written, and the fault is reported, if it can be.
 #[test]
-fn reports_a_fault_of_the_writer_of_classes(rt: HostRuntime) -> Result<(), Fail> {
-    let alloc = rt.alloc();
-    let line = "class 92 low 448 search 93 low 464\n";
+fn reports_a_fault_of_the_writer_of_classes(rt: HostRuntime) {
     let fault = "tlsf: write failed (17)\n";
-    for (room, flush_fails, errors_room, written, reported) in [
-        (0, false, 64, "", fault),
-        (9, false, 64, "class 92 ", fault),
-        (9, false, 4, "class 92 ", "tlsf"),
-        (64, true, 64, line, fault),
+    for (room, errors_room, written, reported) in [
+        (0, 64, "", fault),
+        (9, 64, "class 92 ", fault),
+        (9, 4, "class 92 ", "tlsf"),
     ] {
-        let mut reader = FakeReader::new(b"");
-        let mut writer = FakeWriter::new(alloc);
-        writer.room = room;
-        writer.flush_fails = flush_fails;
-        let mut errors = FakeWriter::new(alloc);
-        errors.room = errors_room;
-        let words = ["tlsf", "classes", "460"];
-        let status = run(alloc, &words, &mut reader, &mut writer, &mut errors);
-        assert_eq!(rt; status, 1);
-        assert_eq!(rt; str::from_utf8(&writer.held)?, written);
-        assert_eq!(rt; str::from_utf8(&errors.held)?, reported);
+        let mut writer = FakeWriter::of_room(rt.alloc(), room);
+        check_class_fault(&rt, rt.alloc(), &mut writer, errors_room, reported);
+        assert_eq!(rt; writer.text(), written);
     }
-    Ok(())
+}
+
+#[test]
+fn reports_a_flush_that_fails(rt: HostRuntime) {
+    let mut writer = FakeWriter::new(rt.alloc());
+    writer.flush_fails = true;
+    check_class_fault(
+        &rt,
+        rt.alloc(),
+        &mut writer,
+        64,
+        "tlsf: write failed (17)\n",
+    );
+    assert_eq!(rt; writer.text(), "class 92 low 448 search 93 low 464\n");
 }

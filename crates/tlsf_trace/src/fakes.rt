@@ -1,8 +1,8 @@
 //! Readers and writers for tests.
 
 use std::alloc::Global;
-use std::io;
 use std::io::{Read, Write};
+use std::{io, str};
 
 /// A reader of a text, which counts its reads.
 #[derive(Drop)]
@@ -89,6 +89,11 @@ impl FakeWriter {
             fails_when_full: true,
             flush_fails: false,
         }
+    }
+
+    /// What was written, as text.
+    pub fn text(&self) -> &str {
+        str::from_utf8(&self.held).unwrap_or("no text")
     }
 }
 

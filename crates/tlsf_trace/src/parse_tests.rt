@@ -32,6 +32,16 @@ fn fault_of_second(rt: &impl Abort, alloc: Global, line: &[u8]) -> Result<u32, F
     Ok(number)
 }
 
+/// A text, a count of copies of some digits behind it.
+fn with_digits(alloc: Global, front: &[u8], digits: &[u8], count: u32) -> Result<Vec<u8>, Fail> {
+    let mut text = Vec::new(alloc);
+    text.extend_from_slice(front)?;
+    for _ in 0..count {
+        text.extend_from_slice(digits)?;
+    }
+    Ok(text)
+}
+
 #[test]
 fn each_line(rt: HostRuntime) -> Result<(), Fail> {
     let text = b"tlsf 1 2 64 4\na 0 1 8\np 0 1 4 48690a\ng 0 1 0 8\nd 1 7\nphase\nf 1 1\n";
@@ -66,9 +76,8 @@ fn each_line(rt: HostRuntime) -> Result<(), Fail> {
             label: 1,
         },
     ];
-    assert_eq!(rt; trace.header, header);
-    assert_eq!(rt; trace.lines.as_slice(), lines.as_slice());
-    assert_eq!(rt; trace.count_calls(), 5);
+    let found = (trace.header, trace.lines.as_slice(), trace.count_calls());
+    assert_eq!(rt; found, (header, lines.as_slice(), 5));
     Ok(())
 }
 
@@ -97,56 +106,57 @@ fn ends_of_the_ranges(rt: HostRuntime) -> Result<(), Fail> {
             most: 8192,
         },
     ];
-    assert_eq!(rt; trace.header, header);
-    assert_eq!(rt; trace.lines.as_slice(), lines.as_slice());
+    let found = (trace.header, trace.lines.as_slice());
+    assert_eq!(rt; found, (header, lines.as_slice()));
     Ok(())
+}
+
+/// The last line of a trace.
+fn last_line(rt: &impl Abort, alloc: Global, text: &[u8]) -> Option<Line> {
+    assert!(rt; text.len() <= 4096);
+    parse(alloc, text).ok()?.lines.last().copied()
 }
 
 // The digits of 64 bytes are taken, in either case.
 #[test]
 fn as_many_digits_as_a_line_may_have(rt: HostRuntime) -> Result<(), Fail> {
     for (digits, byte) in [(b"fF", 255), (b"0a", 10), (b"A0", 160)] {
-        let mut text = Vec::new(rt.alloc());
-        text.extend_from_slice(b"tlsf 1 1 64 1\na 0 1 64\np 0 1 0 ")?;
-        for _ in 0..64 {
-            text.extend_from_slice(digits)?;
-        }
-        text.extend_from_slice(b"\n")?;
-        assert!(rt; text.len() <= 4096);
-        let trace = parse(rt.alloc(), &text)?;
+        let front = b"tlsf 1 1 64 1\na 0 1 64\np 0 1 0 ";
+        let mut text = with_digits(rt.alloc(), front, digits, 64)?;
+        text.push(b'\n')?;
         let line = Line::Write {
             worker: 0,
             label: 1,
             at: 0,
-            bytes: Chunk::new(&[byte; 64]).ok_or("no chunk")?,
+            bytes: Chunk::new(&[byte; 64]).expect(&rt, "64 bytes"),
         };
-        assert_eq!(rt; trace.lines.last(), Some(&line));
+        assert_eq!(rt; last_line(&rt, rt.alloc(), &text), Some(line));
     }
     Ok(())
 }
 
 #[test]
 fn bad_headers(rt: HostRuntime) {
-    let texts = [
-        b"".as_slice(),
-        b"\n".as_slice(),
-        b"tlsf 1 1 64 1".as_slice(),
-        b"tlsf 1 1 64 1\r\n".as_slice(),
-        b"tlsf 1 0 64 1\n".as_slice(),
-        b"tlsf 1 9 64 1\n".as_slice(),
-        b"tlsf 1 1 3 1\n".as_slice(),
-        b"tlsf 1 1 1048577 1\n".as_slice(),
-        b"tlsf 1 1 64 0\n".as_slice(),
-        b"tlsf 1 1 64 1025\n".as_slice(),
-        b"tlsf 2 1 64 1\n".as_slice(),
-        b"tlsf 1 01 64 1\n".as_slice(),
-        b"tlsf 1 1 64\n".as_slice(),
-        b"tlsf 1 1 64 1 1\n".as_slice(),
-        b"tlsf  1 1 64 1\n".as_slice(),
-        b" tlsf 1 1 64 1\n".as_slice(),
-        b"TLSF 1 1 64 1\n".as_slice(),
-        b"a 0 1 8\n".as_slice(),
-        b"\ntlsf 1 1 64 1\n".as_slice(),
+    let texts: [&[u8]; 19] = [
+        b"",
+        b"\n",
+        b"tlsf 1 1 64 1",
+        b"tlsf 1 1 64 1\r\n",
+        b"tlsf 1 0 64 1\n",
+        b"tlsf 1 9 64 1\n",
+        b"tlsf 1 1 3 1\n",
+        b"tlsf 1 1 1048577 1\n",
+        b"tlsf 1 1 64 0\n",
+        b"tlsf 1 1 64 1025\n",
+        b"tlsf 2 1 64 1\n",
+        b"tlsf 1 01 64 1\n",
+        b"tlsf 1 1 64\n",
+        b"tlsf 1 1 64 1 1\n",
+        b"tlsf  1 1 64 1\n",
+        b" tlsf 1 1 64 1\n",
+        b"TLSF 1 1 64 1\n",
+        b"a 0 1 8\n",
+        b"\ntlsf 1 1 64 1\n",
     ];
     for (i, text) in texts.iter().enumerate() {
         assert_eq!(rt; fault_of(&rt, rt.alloc(), text), (11, 1), "text {i}");
@@ -155,38 +165,38 @@ fn bad_headers(rt: HostRuntime) {
 
 #[test]
 fn hostile_second_lines(rt: HostRuntime) -> Result<(), Fail> {
-    let cases = [
-        (b"a 0 1 8\r".as_slice(), 12),
-        (b"a  0 1 8".as_slice(), 12),
-        (b"a 9 1 x".as_slice(), 12),
-        (b"p 0 1 0 4".as_slice(), 12),
-        (b"p 0 1 0 484".as_slice(), 12),
-        (b"p 0 1 0 4g".as_slice(), 12),
-        (b"p 0 1 0 ".as_slice(), 12),
-        (b"phase ".as_slice(), 12),
-        (b"phase 1".as_slice(), 12),
-        (b"Phase".as_slice(), 12),
-        (b"A 0 1 8".as_slice(), 12),
-        (b"".as_slice(), 12),
-        (b" a 0 1 8".as_slice(), 12),
-        (b"a 0 1 8 ".as_slice(), 12),
-        (b"a 0\t1 8".as_slice(), 12),
-        (b"a 0 1".as_slice(), 12),
-        (b"a 0 1 -8".as_slice(), 12),
-        (b"f 2 1".as_slice(), 13),
-        (b"a 0 65536 8".as_slice(), 13),
-        (b"a 0 1 4294967296".as_slice(), 13),
-        (b"a 0 01 8".as_slice(), 13),
-        (b"p 0 1 4294967296 48".as_slice(), 13),
-        (b"g 0 1 0 0".as_slice(), 13),
-        (b"g 0 1 0 65".as_slice(), 13),
-        (b"d 0 0".as_slice(), 13),
-        (b"d 0 8193".as_slice(), 13),
-        (b"g 0 1 0 1".as_slice(), 14),
-        (b"p 0 1 0 48".as_slice(), 14),
-        (b"f 0 1".as_slice(), 14),
-        (b"a 0 65535 4294967295".as_slice(), 0),
-        (b"phase".as_slice(), 0),
+    let cases: [(&[u8], u32); 31] = [
+        (b"a 0 1 8\r", 12),
+        (b"a  0 1 8", 12),
+        (b"a 9 1 x", 12),
+        (b"p 0 1 0 4", 12),
+        (b"p 0 1 0 484", 12),
+        (b"p 0 1 0 4g", 12),
+        (b"p 0 1 0 ", 12),
+        (b"phase ", 12),
+        (b"phase 1", 12),
+        (b"Phase", 12),
+        (b"A 0 1 8", 12),
+        (b"", 12),
+        (b" a 0 1 8", 12),
+        (b"a 0 1 8 ", 12),
+        (b"a 0\t1 8", 12),
+        (b"a 0 1", 12),
+        (b"a 0 1 -8", 12),
+        (b"f 2 1", 13),
+        (b"a 0 65536 8", 13),
+        (b"a 0 1 4294967296", 13),
+        (b"a 0 01 8", 13),
+        (b"p 0 1 4294967296 48", 13),
+        (b"g 0 1 0 0", 13),
+        (b"g 0 1 0 65", 13),
+        (b"d 0 0", 13),
+        (b"d 0 8193", 13),
+        (b"g 0 1 0 1", 14),
+        (b"p 0 1 0 48", 14),
+        (b"f 0 1", 14),
+        (b"a 0 65535 4294967295", 0),
+        (b"phase", 0),
     ];
     for (i, (line, fault)) in cases.iter().enumerate() {
         let found = fault_of_second(&rt, rt.alloc(), line)?;
@@ -198,18 +208,15 @@ fn hostile_second_lines(rt: HostRuntime) -> Result<(), Fail> {
 // So many digits of the same value behind these fields.
 #[test]
 fn long_fields(rt: HostRuntime) -> Result<(), Fail> {
-    for (front, digit, count, fault) in [
-        (b"a 0 1 ".as_slice(), b'9', 100, 13),
-        (b"a 0 1 ".as_slice(), b'0', 100, 13),
-        (b"p 0 1 0 ".as_slice(), b'0', 130, 12),
-        (b"p 0 1 0 ".as_slice(), b'0', 127, 12),
-        (b"p 0 1 0 ".as_slice(), b'0', 128, 14),
-    ] {
-        let mut line = Vec::new(rt.alloc());
-        line.extend_from_slice(front)?;
-        for _ in 0..count {
-            line.push(digit)?;
-        }
+    let rows: [(&[u8], &[u8], u32, u32); 5] = [
+        (b"a 0 1 ", b"9", 100, 13),
+        (b"a 0 1 ", b"0", 100, 13),
+        (b"p 0 1 0 ", b"0", 130, 12),
+        (b"p 0 1 0 ", b"0", 127, 12),
+        (b"p 0 1 0 ", b"0", 128, 14),
+    ];
+    for (front, digit, count, fault) in rows {
+        let line = with_digits(rt.alloc(), front, digit, count)?;
         let found = fault_of_second(&rt, rt.alloc(), &line)?;
         assert_eq!(rt; found, fault, "{count} digits");
     }
@@ -218,17 +225,17 @@ fn long_fields(rt: HostRuntime) -> Result<(), Fail> {
 
 #[test]
 fn faults_with_their_lines(rt: HostRuntime) {
-    let cases = [
-        (b"tlsf 1 2 64 4\na 0 1".as_slice(), (12, 2)),
-        (b"tlsf 1 1 64 1\na 0 1 8".as_slice(), (12, 2)),
-        (b"tlsf 1 1 64 1\nphase".as_slice(), (12, 2)),
-        (b"tlsf 1 1 64 1\na 0 1 8\nf 0 1 8\n".as_slice(), (12, 3)),
-        (b"tlsf 1 1 64 1\na 0 1 8\nf 0 1".as_slice(), (12, 3)),
-        (b"tlsf 1 2 64 4\na 0 01 8\n".as_slice(), (13, 2)),
-        (b"tlsf 1 1 64 1\na 0 1 8\nf 00 1\n".as_slice(), (13, 3)),
-        (b"tlsf 1 1 64 1\nphase\nd 1 1\n".as_slice(), (13, 3)),
-        (b"tlsf 1 1 64 1\na 0 1 8\nf 0 2\n".as_slice(), (14, 3)),
-        (b"tlsf 1 1 64 1\na 0 1 8\na 0 1 8\n".as_slice(), (14, 3)),
+    let cases: [(&[u8], (u32, u32)); 10] = [
+        (b"tlsf 1 2 64 4\na 0 1", (12, 2)),
+        (b"tlsf 1 1 64 1\na 0 1 8", (12, 2)),
+        (b"tlsf 1 1 64 1\nphase", (12, 2)),
+        (b"tlsf 1 1 64 1\na 0 1 8\nf 0 1 8\n", (12, 3)),
+        (b"tlsf 1 1 64 1\na 0 1 8\nf 0 1", (12, 3)),
+        (b"tlsf 1 2 64 4\na 0 01 8\n", (13, 2)),
+        (b"tlsf 1 1 64 1\na 0 1 8\nf 00 1\n", (13, 3)),
+        (b"tlsf 1 1 64 1\nphase\nd 1 1\n", (13, 3)),
+        (b"tlsf 1 1 64 1\na 0 1 8\nf 0 2\n", (14, 3)),
+        (b"tlsf 1 1 64 1\na 0 1 8\na 0 1 8\n", (14, 3)),
     ];
     for (i, (text, fault)) in cases.iter().enumerate() {
         assert_eq!(rt; fault_of(&rt, rt.alloc(), text), *fault, "case {i}");
@@ -238,27 +245,21 @@ fn faults_with_their_lines(rt: HostRuntime) {
 // A label goes to another worker where a phase has ended since it was made.
 #[test]
 fn labels_and_phases(rt: HostRuntime) {
-    let cases = [
-        (b"tlsf 1 2 64 4\na 0 1 8\nf 1 1\n".as_slice(), (14, 3)),
-        (b"tlsf 1 2 64 4\na 0 1 8\nphase\nf 1 1\n".as_slice(), (0, 0)),
+    let cases: [(&[u8], (u32, u32)); 7] = [
+        (b"tlsf 1 2 64 4\na 0 1 8\nf 1 1\n", (14, 3)),
+        (b"tlsf 1 2 64 4\na 0 1 8\nphase\nf 1 1\n", (0, 0)),
         (
-            b"tlsf 1 2 64 4\na 0 65535 8\nphase\ng 1 65535 0 1\n".as_slice(),
+            b"tlsf 1 2 64 4\na 0 65535 8\nphase\ng 1 65535 0 1\n",
             (0, 0),
         ),
+        (b"tlsf 1 2 64 4\nphase\na 0 1 8\np 1 1 0 00\n", (14, 4)),
         (
-            b"tlsf 1 2 64 4\nphase\na 0 1 8\np 1 1 0 00\n".as_slice(),
-            (14, 4),
-        ),
-        (
-            b"tlsf 1 2 64 4\na 0 1 8\nphase\na 1 2 8\ng 1 1 0 1\ng 0 2 0 1\n".as_slice(),
+            b"tlsf 1 2 64 4\na 0 1 8\nphase\na 1 2 8\ng 1 1 0 1\ng 0 2 0 1\n",
             (14, 6),
         ),
+        (b"tlsf 1 2 64 4\na 0 1 8\nphase\na 1 1 8\n", (14, 4)),
         (
-            b"tlsf 1 2 64 4\na 0 1 8\nphase\na 1 1 8\n".as_slice(),
-            (14, 4),
-        ),
-        (
-            b"tlsf 1 1 64 1\na 0 1 8\nf 0 1\nf 0 1\nphase\nphase\nf 0 1\n".as_slice(),
+            b"tlsf 1 1 64 1\na 0 1 8\nf 0 1\nf 0 1\nphase\nphase\nf 0 1\n",
             (0, 0),
         ),
     ];
@@ -269,15 +270,15 @@ fn labels_and_phases(rt: HostRuntime) {
 
 #[test]
 fn first_fault_of_several(rt: HostRuntime) {
-    let cases = [
+    let cases: [(&[u8], (u32, u32)); 6] = [
         // In one line: the shape, then the numbers, then the labels.
-        (b"tlsf 1 1 64 1\nf 01 x\n".as_slice(), (12, 2)),
-        (b"tlsf 1 1 64 1\nf 01 1\n".as_slice(), (13, 2)),
-        (b"tlsf 1 1 64 1\nf 0 1\n".as_slice(), (14, 2)),
+        (b"tlsf 1 1 64 1\nf 01 x\n", (12, 2)),
+        (b"tlsf 1 1 64 1\nf 01 1\n", (13, 2)),
+        (b"tlsf 1 1 64 1\nf 0 1\n", (14, 2)),
         // In several lines: the first of them.
-        (b"tlsf 1 1 64 1\na 0 1 8\nf 0 2\nx\n".as_slice(), (14, 3)),
-        (b"tlsf 1 9 64 1\nx\n".as_slice(), (11, 1)),
-        (b"tlsf 1 1 64 1\na 0 01 8\n\n".as_slice(), (13, 2)),
+        (b"tlsf 1 1 64 1\na 0 1 8\nf 0 2\nx\n", (14, 3)),
+        (b"tlsf 1 9 64 1\nx\n", (11, 1)),
+        (b"tlsf 1 1 64 1\na 0 01 8\n\n", (13, 2)),
     ];
     for (i, (text, fault)) in cases.iter().enumerate() {
         assert_eq!(rt; fault_of(&rt, rt.alloc(), text), *fault, "case {i}");
@@ -286,8 +287,13 @@ fn first_fault_of_several(rt: HostRuntime) {
 
 #[test]
 fn numbers_of_faults(rt: HostRuntime) {
-    assert_eq!(rt; LineFault::BadHeader.number(), 11);
-    assert_eq!(rt; LineFault::BadLine.number(), 12);
-    assert_eq!(rt; LineFault::BadNumber.number(), 13);
-    assert_eq!(rt; LineFault::LabelOrder.number(), 14);
+    let faults = [
+        (LineFault::BadHeader, 11),
+        (LineFault::BadLine, 12),
+        (LineFault::BadNumber, 13),
+        (LineFault::LabelOrder, 14),
+    ];
+    for (fault, number) in faults {
+        assert_eq!(rt; fault.number(), number);
+    }
 }

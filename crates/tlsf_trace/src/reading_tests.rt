@@ -34,9 +34,8 @@ fn read_same(alloc: Global, byte: u8, count: usize, most: usize) -> Result<usize
 fn takes_so_many_bytes(rt: HostRuntime) {
     for most in [4095, 4096] {
         let read = read_same(rt.alloc(), b'a', MOST_BYTES, most);
-        assert_eq!(rt; read, Ok(MOST_BYTES));
         let refused = read_same(rt.alloc(), b'a', MOST_BYTES + 1, most);
-        assert_eq!(rt; refused, Err(ReadError::TooLong));
+        assert_eq!(rt; (read, refused), (Ok(MOST_BYTES), Err(ReadError::TooLong)));
     }
 }
 
@@ -44,9 +43,8 @@ fn takes_so_many_bytes(rt: HostRuntime) {
 fn takes_so_many_lines(rt: HostRuntime) {
     for most in [1, 4095, 4096] {
         let read = read_same(rt.alloc(), b'\n', MOST_LINES, most);
-        assert_eq!(rt; read, Ok(MOST_LINES));
         let refused = read_same(rt.alloc(), b'\n', MOST_LINES + 1, most);
-        assert_eq!(rt; refused, Err(ReadError::TooLong));
+        assert_eq!(rt; (read, refused), (Ok(MOST_LINES), Err(ReadError::TooLong)));
     }
 }
 
@@ -73,8 +71,9 @@ fn takes_both_at_once(rt: HostRuntime) -> Result<(), Fail> {
             *byte = b'\n';
         }
     }
-    assert_eq!(rt; read_in(rt.alloc(), &text, 4095), Ok(MOST_BYTES));
-    assert_eq!(rt; read_in(rt.alloc(), &text, 17), Ok(MOST_BYTES));
+    for most in [4095, 17] {
+        assert_eq!(rt; read_in(rt.alloc(), &text, most), Ok(MOST_BYTES));
+    }
     Ok(())
 }
 
@@ -82,9 +81,9 @@ fn takes_both_at_once(rt: HostRuntime) -> Result<(), Fail> {
 #[test]
 fn makes_so_many_reads(rt: HostRuntime) {
     let most = MOST_READS as usize;
-    assert_eq!(rt; read_same(rt.alloc(), b'a', most - 1, 1), Ok(most - 1));
+    let read = read_same(rt.alloc(), b'a', most - 1, 1);
     let refused = read_same(rt.alloc(), b'a', most, 1);
-    assert_eq!(rt; refused, Err(ReadError::TooLong));
+    assert_eq!(rt; (read, refused), (Ok(most - 1), Err(ReadError::TooLong)));
 }
 
 #[test]
@@ -92,8 +91,8 @@ fn gives_up_on_an_endless_reader(rt: HostRuntime) {
     for (most, reads) in [(1, 65_536), (4096, 257)] {
         let mut reader = EndlessReader { most, reads: 0 };
         let refused = read_all(rt.alloc(), &mut reader).err();
-        assert_eq!(rt; refused, Some(ReadError::TooLong));
-        assert_eq!(rt; reader.reads, reads);
+        let found = (refused, reader.reads);
+        assert_eq!(rt; found, (Some(ReadError::TooLong), reads));
     }
 }
 
@@ -104,7 +103,7 @@ fn stops_at_a_read_that_fails(rt: HostRuntime) {
         reader.most = 1;
         reader.fails_at = fails_at;
         let refused = read_all(rt.alloc(), &mut reader).err();
-        assert_eq!(rt; refused, Some(ReadError::Read), "at {fails_at}");
-        assert_eq!(rt; reader.reads, fails_at + 1);
+        let found = (refused, reader.reads);
+        assert_eq!(rt; found, (Some(ReadError::Read), fails_at + 1));
     }
 }

@@ -9,8 +9,8 @@ fn writes_the_whole_text(rt: HostRuntime) {
     for most in [1, 7, 20, 4096] {
         let mut writer = FakeWriter::new(rt.alloc());
         writer.most = most;
-        assert_eq!(rt; write_out(&mut writer, TEXT), Ok(()));
-        assert_eq!(rt; writer.held.as_slice(), TEXT);
+        let written = write_out(&mut writer, TEXT);
+        assert_eq!(rt; (written, writer.held.as_slice()), (Ok(()), TEXT));
     }
 }
 
@@ -21,8 +21,11 @@ fn stops_where_no_byte_is_taken(rt: HostRuntime) {
         writer.most = 5;
         writer.room = room;
         writer.fails_when_full = fails_when_full;
-        assert_eq!(rt; write_out(&mut writer, TEXT), Err(WriteError));
-        assert_eq!(rt; writer.held.as_slice(), &TEXT[..room]);
+        let written = write_out(&mut writer, TEXT);
+        assert_eq!(rt;
+            (written, writer.held.as_slice()),
+            (Err(WriteError), &TEXT[..room])
+        );
     }
 }
 
@@ -31,7 +34,7 @@ fn reports_a_flush_that_fails(rt: HostRuntime) {
     for text in [TEXT, b"".as_slice()] {
         let mut writer = FakeWriter::new(rt.alloc());
         writer.flush_fails = true;
-        assert_eq!(rt; write_out(&mut writer, text), Err(WriteError));
-        assert_eq!(rt; writer.held.as_slice(), text);
+        let written = write_out(&mut writer, text);
+        assert_eq!(rt; (written, writer.held.as_slice()), (Err(WriteError), text));
     }
 }
