@@ -1,5 +1,5 @@
 -- An event of the replay.
-use Rattle.std.proofs.Common.{suc, zero, nat_lt, true, false, [], ◌∷◌, ◌≡◌, ℕ, ◌+◌, ◌<◌, ◌≤◌, List, length, take, ◌∙◌, ap, arith, refl, inl, inr}
+use Rattle.std.proofs.Common.{None, ◌++◌, suc, zero, nat_lt, true, false, [], ◌∷◌, ◌≡◌, ℕ, ◌+◌, ◌<◌, ◌≤◌, List, length, take, ◌∙◌, ap, arith, refl, inl, inr}
 use Rattle.std.specs.List.{fold}
 use Rattle.std.proofs.lemmas.Bool.{cases_lt}
 use Rattle.std.proofs.lemmas.Bool.Decides.{nat_tests}
@@ -14,7 +14,7 @@ use Rattle.tlsf_crew.specs.declared.call.Call.TheVariants.{Allocate, Release, Wr
 use Rattle.tlsf_crew.specs.declared.reply.Reply.TheVariants.{Drained, Refused}
 use Rattle.tlsf_crew.specs.declared.crew_refusal.CrewRefusal.TheVariants.{Stranger}
 use Rattle.tlsf_crew.specs.World.{World, Replied, Replayed, answered, called, draining, after, name_of, allocating, releasing_named, writing_named, reading_named, taking, drained_all, replies, begun}
-use Rattle.tlsf_crew.specs.Leaving.{Leaves, drain_of, IsReplied}
+use Rattle.tlsf_crew.specs.Leaving.{Leaves, drain_of, replay_of, IsReplied}
 use Rattle.tlsf_crew.specs.Yard.{IsYard}
 use Rattle.tlsf_crew.proofs.OneEvent.{all_grows}
 
@@ -38,16 +38,19 @@ pub single_replied : (r : Replayed) (event : Event) (ws vs : List Worker) (call 
 single_replied r event ws vs call reply rp lt is one l =
     record { yard = l.yard; after = after_near r event call lt is ∙ (one ∙ rw (is, l.answer, l.world) refl) }
 
+-- a drain's own entry, behind those of its takes
+pub drain_done : (r : Replayed) (es : List Entry) (vs : List Worker) (at most taken : ℕ)
+    → drain_of es vs taken ≡ drained_all at most (record { entries = r.entries; world = r.world; taken = 0 })
+    → draining r at most ≡ replay_of (r.made ++ None ∷ []) (es ++ record { worker = at; call = Drain most; reply = Drained taken } ∷ []) vs
+unfolding draining
+drain_done r es vs at most taken q = rw (← ap (λ x. x.entries) q, ← ap (λ x. x.world) q, ← ap (λ x. x.taken) q) refl
+
 pub drain_replied : (r : Replayed) (event : Event) (es : List Entry) (vs : List Worker) (most taken : ℕ)
     → event.worker < length r.world.heaps → event.call ≡ Drain most
     → drain_of es vs taken ≡ drained_all event.worker most (record { entries = r.entries; world = r.world; taken = 0 }) → IsYard vs
     → IsReplied r event es vs (Drained taken)
-unfolding draining
 drain_replied r event es vs most taken lt is q yard =
-    record {
-      yard = yard;
-      after = after_near r event (Drain most) lt is ∙ rw (is, ← ap (λ x. x.entries) q, ← ap (λ x. x.world) q, ← ap (λ x. x.taken) q) refl;
-    }
+    record { yard = yard; after = after_near r event (Drain most) lt is ∙ (drain_done r es vs event.worker most taken q ∙ rw is refl) }
 
 -- there is room for the entry
 pub replied_room : (r : Replayed) (event : Event) (es : List Entry) (vs : List Worker) (reply : Reply) (n : ℕ)

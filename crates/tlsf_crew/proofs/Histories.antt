@@ -29,7 +29,7 @@ name_stays [] ys k name e = cc
 name_stays (x ∷ xs) ys zero name e = e
 name_stays (x ∷ xs) ys (suc k) name e = name_stays xs ys k name e
 
-more_knows : (xs ys : List (Option Name)) → Knows (xs ++ ys) xs
+pub more_knows : (xs ys : List (Option Name)) → Knows (xs ++ ys) xs
 more_knows xs ys (Named name) n e = e
 more_knows xs ys (MadeBy k) n e = name_stays xs ys k n e
 more_knows xs ys Absent n e = e

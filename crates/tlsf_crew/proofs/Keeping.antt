@@ -74,6 +74,9 @@ put_keeps a v j post answer own put ws i is yard =
           let none = yard.outside x y (omega (arith, len)) in
           (there.others x y (λ e f. none_or_some (post_at ws x y) put.end none.0 (rw (e, f) here)) ∙ none.0, there.takes y x ∙ none.1);
       lanes = λ x y x_in y_in apart. put_ends ws i j a v post answer is put here there yard x y (omega (arith, len)) (omega (arith, len)) apart;
+      small =
+          let e : capacity_in (set ws i v) ≡ capacity_in ws = ap (λ (l : List (ℕ × ℕ)). (get_or l 0 (0, 0)).1) (map_same own_numbers ws i a v is put.same.1) in
+          omega (arith, yard.small);
       signed = put_signed_in ws i j a v post answer (own ∙ own_number ws i a yard is) put here there yard.signed;
     }
 
@@ -119,6 +122,9 @@ take_keeps a v i post got ws j is yard =
           let none = yard.outside x y (omega (arith, len)) in
           (there.posts x y ∙ none.0, there.others y x (λ e f. none_or_some (take_at ws y x) got.end none.1 (rw (e, f) here)) ∙ none.1);
       lanes = λ x y x_in y_in apart. take_ends ws i j a v post is got here there yard x y (omega (arith, len)) (omega (arith, len)) apart;
+      small =
+          let e : capacity_in (set ws j v) ≡ capacity_in ws = ap (λ (l : List (ℕ × ℕ)). (get_or l 0 (0, 0)).1) (map_same own_numbers ws j a v is got.same.1) in
+          omega (arith, yard.small);
       signed = take_signed_in ws i j a v post got here there yard.signed;
     }
 

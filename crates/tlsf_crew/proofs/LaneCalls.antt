@@ -22,10 +22,10 @@ use Rattle.tlsf_crew.proofs.Worlds.{edited_same, edited_other}
 use Rattle.tlsf_crew.proofs.OwnCalls.{Tells1, done_here, none_done}
 use Rattle.tlsf_crew.proofs.Telling.{history_quiet, own_heaps, told_nothing, told_other, told_own}
 
-of_same : (j : ℕ) (name : Name) → name.heap ≡ j → of_heap j (Some name) ≡ Some name
+pub of_same : (j : ℕ) (name : Name) → name.heap ≡ j → of_heap j (Some name) ≡ Some name
 of_same j name e = let b : (name.heap == j) ≡ true = grind (arith, nat_tests) in rw b refl
 
-of_other : (j : ℕ) (name : Name) → name.heap ≢ j → of_heap j (Some name) ≡ None
+pub of_other : (j : ℕ) (name : Name) → name.heap ≢ j → of_heap j (Some name) ≡ None
 of_other j name ne = let b : (name.heap == j) ≡ false = grind (arith, nat_tests) in rw b refl
 
 -- ---- release of an own name

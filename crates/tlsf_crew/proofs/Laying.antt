@@ -158,6 +158,7 @@ laid_yard ws n words capacity sizes l =
           let y_n : y < n = omega arith in
           let h = l.laid x y x_n y_n ne (inl x_n) in
           (h.0, h.1, h.2, h.3, h.4, h.5 ∙ sym first);
+      small = let s = sizes.2.1 in omega (arith, first);
       signed = λ x y. rw (l.empty x y) (All-nil (λ (post : Post). post.from ≡ x));
     }
 

@@ -37,7 +37,7 @@ changed_sum (suc k) f g i lt e =
     ]
 
 -- none of the numbers is less
-least_sum : (n : ℕ) (f g : ℕ → ℕ) → ((x : ℕ) → x < n → f x ≤ g x) → sum_below n f ≤ sum_below n g
+pub least_sum : (n : ℕ) (f g : ℕ → ℕ) → ((x : ℕ) → x < n → f x ≤ g x) → sum_below n f ≤ sum_below n g
 least_sum zero f g le = omega arith
 least_sum (suc k) f g le =
     let a = least_sum k f g (λ x lt. le x (omega arith)) in

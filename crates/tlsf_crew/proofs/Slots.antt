@@ -80,12 +80,12 @@ pub from_slot : {X : Type 0} (s : Option (Option X)) (p : X) → slot_of s ≡ S
 from_slot None p h = cc
 from_slot (Some o) p h = ap Some h
 
-from_post : (o : Option Worker) (j : ℕ) (p : PostEnd) → end_to_in o j ≡ Some p
+pub from_post : (o : Option Worker) (j : ℕ) (p : PostEnd) → end_to_in o j ≡ Some p
     → (a : Worker) × (o ≡ Some a) × (slice_get a.posts.items j ≡ Some (Some p))
 from_post None j p h = cc
 from_post (Some w) j p h = (w, refl, from_slot (slice_get w.posts.items j) p h)
 
-from_take : (o : Option Worker) (i : ℕ) (t : TakeEnd) → end_from_in o i ≡ Some t
+pub from_take : (o : Option Worker) (i : ℕ) (t : TakeEnd) → end_from_in o i ≡ Some t
     → (a : Worker) × (o ≡ Some a) × (slice_get a.takes.items i ≡ Some (Some t))
 from_take None i t h = cc
 from_take (Some w) i t h = (w, refl, from_slot (slice_get w.takes.items i) t h)

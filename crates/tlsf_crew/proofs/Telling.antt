@@ -30,7 +30,7 @@ runs_then h g k cs ds xs ys a b =
 
 -- ---- what is told by some entries and then by others, and by one
 
-told_then : {B : Type 0} (f : Entry → Option B) (j : ℕ) (xs ys : List Entry) → filter_map f (entries_of j (xs ++ ys)) ≡ filter_map f (entries_of j xs) ++ filter_map f (entries_of j ys)
+pub told_then : {B : Type 0} (f : Entry → Option B) (j : ℕ) (xs ys : List Entry) → filter_map f (entries_of j (xs ++ ys)) ≡ filter_map f (entries_of j xs) ++ filter_map f (entries_of j ys)
 told_then f j xs ys = ap (filter_map f) (filter-append (λ e. e.worker == j) xs ys) ∙ filter_map-append f (entries_of j xs) (entries_of j ys)
 
 pub told_own : {B : Type 0} (f : Entry → Option B) (j : ℕ) (e : Entry) → e.worker ≡ j → filter_map f (entries_of j (e ∷ [])) ≡ cons_option (f e) []

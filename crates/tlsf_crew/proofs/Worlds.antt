@@ -125,6 +125,7 @@ changed_yard ws vs i j p t q u ne c new yard = record {
   alone = λ x. let s = c.same x x (λ a b. ne (sym a ∙ b)) in (s.0 ∙ (yard.alone x).0, s.1 ∙ (yard.alone x).1);
   outside = changed_outside ws vs i j p t q u c yard;
   lanes = changed_lanes ws vs i j p t q u c yard;
+  small = let e : capacity_in vs ≡ capacity_in ws = ap (λ (l : List (ℕ × ℕ)). (get_or l 0 (0, 0)).1) c.numbers in omega (arith, yard.small);
   signed = changed_signed ws vs i j p t q u c new yard.signed;
 }
 
@@ -171,6 +172,9 @@ heap_yard ws i a v is same kept yard = record {
       let none = yard.outside x y (omega (arith, length-set ws i v)) in
       ((heap_lanes ws i a v is same x y).0 ∙ none.0, (heap_lanes ws i a v is same y x).1 ∙ none.1);
   lanes = heap_ends ws i a v is same yard;
+  small =
+      let e : capacity_in (set ws i v) ≡ capacity_in ws = ap (λ (l : List (ℕ × ℕ)). (get_or l 0 (0, 0)).1) (map_same own_numbers ws i a v is same.0) in
+      omega (arith, yard.small);
   signed = same_signed ws (set ws i v) (heap_lanes ws i a v is same) yard.signed;
 }
 

@@ -12,6 +12,10 @@ pub mod Counts
 pub mod FairRuns
 pub mod Drains
 pub mod History
+pub mod Races
+pub mod Running
+pub mod Moves
+pub mod Racing
 pub mod LaneSteps
 pub mod Laying
 pub mod Leaving

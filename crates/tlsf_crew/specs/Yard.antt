@@ -70,8 +70,8 @@ abbrev pub IsHeapOf : ℕ → HeapState → Type 0
 IsHeapOf i h = (h.id ≡ i) × IsLawful h
 
 -- a whole yard: at most eight workers, numbered from 0 in their order, each with a lawful heap of its number. From each to
--- each other goes a lane that has both ends, of the yard's capacity; none has an end to or from itself, or to or from a
--- worker that isn't there. Each post that waits was posted by the worker at its lane's other end
+-- each other goes a lane that has both ends, of the yard's capacity, at most 1,024 posts; none has an end to or from itself, or
+-- to or from a worker that isn't there. Each post that waits was posted by the worker at its lane's other end
 pub record IsYard (ws : List Worker) : Type 0 where
   pub few : length ws ≤ 8
   pub ids : (i : ℕ) → i < length ws → id_in ws i ≡ i
@@ -79,4 +79,5 @@ pub record IsYard (ws : List Worker) : Type 0 where
   pub alone : (i : ℕ) → (post_at ws i i ≡ None) × (take_at ws i i ≡ None)
   pub outside : (i j : ℕ) → length ws ≤ j → (post_at ws i j ≡ None) × (take_at ws j i ≡ None)
   pub lanes : (i j : ℕ) → i < length ws → j < length ws → i ≢ j → HasEnds ws i j
+  pub small : capacity_in ws ≤ 1024
   pub signed : (i j : ℕ) → All (λ post. post.from ≡ i) (lane_waits (post_at ws i j) (take_at ws i j))

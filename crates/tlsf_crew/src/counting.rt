@@ -52,7 +52,7 @@ fn count_for(worker: &Worker, n: usize) -> usize
 }
 
 /// How many posts are ready for a worker from worker i.
-fn count_from(worker: &Worker, i: usize) -> u32
+pub(crate) fn count_from(worker: &Worker, i: usize) -> u32
     ensures { result ≡ ready_from worker.now i }
 {
     match worker.takes.get(i) {

@@ -10,6 +10,11 @@
 //! capacity of posts waits. [`settle`] does so for all lanes at once and leaves the world as it is. [`one_history`] says
 //! what holds of every list of replies: each heap has one history.
 //!
+//! [`race`] runs a script for each worker, in a thread of its own, and then drains each worker. What each was answered is
+//! its record, in the [`Outcome`]. Whatever the schedule of the threads, each record is legal (what the worker's own heap
+//! answers to its calls, one after another), each two agree on what was posted and taken, and nothing waits in the end
+//! (`IsRace`). A [`Gate`] is passed before each call, where a test can have the threads meet.
+//!
 //! Each call of a `Worker` takes no memory and doesn't wait, and keeps its yard whole.
 //!
 //! A [`LockedHeap`] is a heap without an owner, outside any yard. Whoever locks it has its heap, as a [`Counted`], until
@@ -23,6 +28,7 @@ mod chunk;
 mod counted;
 mod counting;
 mod crew_refusal;
+mod done;
 #[cfg(test)]
 mod drain_tests;
 mod drained;
@@ -30,20 +36,30 @@ mod draining;
 mod drains;
 mod entry;
 mod event;
+mod fanning;
+mod gate;
 mod history;
+mod job;
 mod laws;
 mod locked_heap;
 #[cfg(test)]
 mod locked_tests;
 mod opening;
+mod outcome;
 mod own;
 mod pairs;
+mod preparing;
+mod promised;
+#[cfg(test)]
+mod race_tests;
+mod racing;
 #[cfg(test)]
 mod refusal_tests;
 mod released;
 mod replaying;
 mod reply;
 mod reporting;
+mod running;
 mod settling;
 mod steps;
 mod target;
@@ -61,10 +77,13 @@ pub use crew_refusal::CrewRefusal;
 pub use drained::Drained;
 pub use entry::Entry;
 pub use event::Event;
+pub use gate::{Gate, OpenGate};
 pub use history::one_history;
 pub use laws::lanes_join_the_yard;
 pub use locked_heap::LockedHeap;
 pub use opening::open_yard;
+pub use outcome::Outcome;
+pub use racing::race;
 pub use released::Released;
 pub use replaying::replay_events;
 pub use reply::Reply;

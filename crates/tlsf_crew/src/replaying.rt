@@ -31,7 +31,12 @@ fn made_name(reply: Reply) -> Option<Name>
 }
 
 /// One answer more.
-fn answer(event: Event, reply: Reply, made: &mut Vec<Option<Name>>, entries: &mut Vec<Entry>)
+pub(crate) fn answer(
+    event: Event,
+    reply: Reply,
+    made: &mut Vec<Option<Name>>,
+    entries: &mut Vec<Entry>,
+)
     requires made { vec_len made.old < vec_capacity made.old }
     requires room { vec_len entries.old < vec_capacity entries.old }
     ensures made { made.new.items ≡ made.old.items ++ made_by reply ∷ [] }
@@ -47,7 +52,7 @@ fn answer(event: Event, reply: Reply, made: &mut Vec<Option<Name>>, entries: &mu
 }
 
 /// The name that a target means.
-fn named(target: Target, made: &[Option<Name>]) -> Option<Name>
+pub(crate) fn named(target: Target, made: &[Option<Name>]) -> Option<Name>
     ensures { result ≡ name_of made.now target }
 {
     match target {

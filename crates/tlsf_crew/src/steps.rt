@@ -176,7 +176,12 @@ fn read_into(worker: &mut Worker, name: Name, from: u32, out: &mut [u8]) -> Resu
 }
 
 /// Reads up to 64 bytes of a block of the own heap. More are refused.
-fn read_chunk(worker: &mut Worker, name: Name, from: u32, n: u32) -> Result<Chunk, Refusal>
+pub(crate) fn read_chunk(
+    worker: &mut Worker,
+    name: Name,
+    from: u32,
+    n: u32,
+) -> Result<Chunk, Refusal>
     ensures answer { result ≡ chunk_read (heap_of worker.old) name from n }
     ensures same { SameButHeap worker.old worker.new }
     ensures heap { heap_of worker.new ≡ heap_of worker.old }

@@ -1,0 +1,97 @@
+-- What the workers of a race are answered: each record by itself, and how the records fit together.
+use Rattle.std.specs.Prelude.{◌≡◌, ◌≢◌, ℕ, ◌+◌, ◌<◌, ◌≤◌, List, [], ◌∷◌, ◌++◌, length, drop, get_or, Option, All}
+use mathlib.Core.List.{IsPrefix}
+use Rattle.tlsf_post.specs.declared.post.Post.{Post}
+use Rattle.tlsf_heap.specs.declared.name.Name.{Name}
+use Rattle.tlsf_heap.specs.Blocks.{HeapState}
+use Rattle.tlsf_crew.specs.declared.entry.Entry.{Entry}
+use Rattle.tlsf_crew.specs.declared.call.Call.{Call}
+use Rattle.tlsf_crew.specs.declared.call.Call.TheVariants.{Take, Drain}
+use Rattle.tlsf_crew.specs.declared.reply.Reply.TheVariants.{Empty, Drained, Refused}
+use Rattle.tlsf_crew.specs.declared.crew_refusal.CrewRefusal.TheVariants.{Full}
+use Rattle.tlsf_crew.specs.World.{World, Replayed, heap_in, called}
+use Rattle.tlsf_crew.specs.History.{posts_made, posts_taken}
+
+-- ---- one record
+
+-- what a worker was told so far: the names that its calls made, its entries, and its heap
+pub record Told : Type 0 where
+  pub made : List (Option Name)
+  pub entries : List Entry
+  pub heap : HeapState
+
+-- a worker that was told nothing
+abbrev pub untold : HeapState → Told
+untold h = record { made = []; entries = []; heap = h }
+
+-- what worker `at` was told by the model
+abbrev pub told_by : ℕ → Replayed → Told
+told_by at r = record { made = r.made; entries = r.entries; heap = heap_in r.world at }
+
+-- a world of n workers in which worker `at` has this heap
+abbrev pub HasHeap : World → ℕ → ℕ → HeapState → Type 0
+HasHeap w n at h = (length w.heaps ≡ n) × (heap_in w at ≡ h)
+
+-- one call more, answered as in some world in which the worker has its heap: what waits in the lanes is free to choose
+abbrev pub MayTell : ℕ → ℕ → Told → Call → Told → Type 0
+MayTell n at s call t =
+    (w : World) × HasHeap w n at s.heap × (told_by at (called (record { made = s.made; entries = s.entries; world = w }) at call) ≡ t)
+
+-- the calls of a script, one after another
+abbrev pub MayTellAll : ℕ → ℕ → Told → List Call → Told → Type 0
+MayTellAll n at s [] t = t ≡ s
+MayTellAll n at s (call ∷ calls) t = (u : Told) × MayTell n at s call u × MayTellAll n at u calls t
+
+-- the last call of each worker takes what still waits for it: no yard holds more
+abbrev pub last_call : Call
+last_call = Drain 8192
+
+-- the worker made the calls of its script and then the last one, and was told so; `scripted` are the entries of its script
+pub record IsLegal (n at : ℕ) (start : HeapState) (calls : List Call) (scripted : List Entry) (end : Told) : Type 0 where
+  pub between : Told
+  pub entries : between.entries ≡ scripted
+  pub script : MayTellAll n at (untold start) calls between
+  pub last : MayTell n at between last_call end
+
+-- ---- two records
+
+-- an entry of a record, and the entries before it
+abbrev pub StandsBehind : List Entry → List Entry → Entry → Type 0
+StandsBehind entries before e = (after : List Entry) × (entries ≡ before ++ e ∷ after)
+
+-- the record of worker i and that of worker j fit together, where these posts waited in the lane from i to j
+pub record Agree (capacity i j : ℕ) (waited : List Post) (made : List (Option Name)) (sender scripted taker : List Entry) : Type 0 where
+  -- what waited, and then what i was answered to have posted, is what j took, in order and each once
+  pub posts : waited ++ posts_made i j made sender ≡ posts_taken i j taker
+  pub signed : All (λ post. post.from ≡ i) (posts_taken i j taker)
+  -- after the script no more is left than the lane holds
+  pub last : length (posts_taken i j (drop (length scripted) taker)) ≤ capacity
+  -- the lane was full only where as many posts had waited or were made before
+  pub full : (before : List Entry) (e : Entry) (name : Name) → StandsBehind sender before e → e.reply ≡ Refused (Full name) → name.heap ≡ j
+      → capacity ≤ length waited + length (posts_made i j made before)
+  -- it was empty, and a drain ended early, only where all that had waited was taken before
+  pub empty : (before : List Entry) (e : Entry) → StandsBehind taker before e → e.call ≡ Take i → e.reply ≡ Empty → IsPrefix waited (posts_taken i j before)
+  pub drained : (before : List Entry) (e : Entry) (most k : ℕ) → StandsBehind taker before e → e.call ≡ Drain most → e.reply ≡ Drained k → k < most
+      → IsPrefix waited (posts_taken i j before)
+
+-- ---- all records
+
+abbrev pub script_of : List (List Call) → ℕ → List Call
+script_of scripts j = get_or scripts j []
+
+abbrev pub record_of : List (List Entry) → ℕ → List Entry
+record_of records j = get_or records j []
+
+-- from a world the workers ran these scripts at once, were told these records, and left the other world
+pub record IsRace (w : World) (scripts : List (List Call)) (told : List (List Entry)) (v : World) : Type 0 where
+  -- the names that the calls of each worker made, and the entries of its script
+  pub made : ℕ → List (Option Name)
+  pub scripted : ℕ → List Entry
+  pub heaps : length v.heaps ≡ length w.heaps
+  pub records : length told ≡ length w.heaps
+  pub capacity : v.capacity ≡ w.capacity
+  pub legal : (j : ℕ) → j < length w.heaps → IsLegal (length w.heaps) j (heap_in w j) (script_of scripts j) (scripted j)
+      (record { made = made j; entries = record_of told j; heap = heap_in v j })
+  pub agree : (i j : ℕ) → i < length w.heaps → j < length w.heaps → i ≢ j
+      → Agree w.capacity i j (w.waiting i j) (made i) (record_of told i) (scripted j) (record_of told j)
+  pub taken : (i j : ℕ) → v.waiting i j ≡ []
