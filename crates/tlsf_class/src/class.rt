@@ -3,6 +3,15 @@ ghost use Rattle.tlsf_class.specs.Classes.{low, class_of, search_of};
 
 use std::marker::Model;
 
+/// The most words that a region may have, 2^20: 8 MiB of words of 64 bits. The last class, 272, begins here, so that each size of a
+/// block has a class and a search class.
+///
+/// ```
+/// let class = class_of(MOST_WORDS);       // 272, the last class
+/// let least = low(class);                 // MOST_WORDS again
+/// ```
+pub const MOST_WORDS: u32 = 1 << 20;
+
 /// A size class, of sizes in words. Classes are ordered as their sizes are.
 #[derive(Clone, Copy, Debug, PartialEq, Eq, PartialOrd, Ord)]
 pub struct Class {

@@ -9,14 +9,11 @@ ghost use Rattle.tlsf_crew.specs.Workers.{heap_of, own_numbers};
 
 use crate::worker::Worker;
 use std::alloc::Global;
-use tlsf_heap::{Heap, OpenFault};
+use tlsf_heap::{Heap, MOST_WORDS, OpenFault};
 use tlsf_post::{NoMemory, PostEnd, TakeEnd, lane};
 
 // The most workers of a yard.
 const MOST_WORKERS: u32 = 8;
-
-// The most words of a heap.
-const MOST_WORDS: u32 = 1 << 20;
 
 // The most posts that a lane holds.
 const MOST_CAPACITY: u32 = 1024;

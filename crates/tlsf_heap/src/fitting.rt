@@ -11,10 +11,7 @@ ghost use Rattle.tlsf_words.specs.Lists.{IsUnlisted, without_place};
 ghost use Rattle.tlsf_heap.specs.Regions.{StandsAt, IsPlace, SameLists, list_in};
 
 use crate::region::Region;
-use tlsf_class::{class_of, search_of};
-
-/// The most words that a region may have. No request for more is served.
-pub const MOST_WORDS: u32 = 1 << 20;
+use tlsf_class::{MOST_WORDS, class_of, search_of};
 
 /// The place of the block that serves a request of `words` words.
 pub fn choose(region: &mut Region, words: u32) -> Option<u32>

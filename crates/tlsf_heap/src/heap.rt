@@ -8,7 +8,7 @@ ghost use Rattle.tlsf_heap.specs.Reports.{report_of, IsGrant};
 ghost use Rattle.tlsf_heap.specs.Given.{payload_words_given};
 ghost use Rattle.tlsf_heap.specs.Calls.{opened, allocated, released, written, read_of, read_answer, has_bytes, last_tick};
 
-use crate::fitting::{MOST_WORDS, carve, choose, coalesce};
+use crate::fitting::{carve, choose, coalesce};
 use crate::name::Name;
 use crate::open_fault::OpenFault;
 use crate::refusal::Refusal;
@@ -19,7 +19,7 @@ use crate::seen_words::{starts, word};
 use crate::tally::Tally;
 use std::alloc::Global;
 use std::marker::Model;
-use tlsf_class::class_of;
+use tlsf_class::{MOST_WORDS, class_of};
 
 /// A heap over a region of 4 to 2^20 words, kept by two-level segregated fit (ECRTS 2004, section 3).
 ///

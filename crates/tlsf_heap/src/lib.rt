@@ -45,3 +45,4 @@ pub use name::Name;
 pub use open_fault::OpenFault;
 pub use refusal::Refusal;
 pub use report::Report;
+pub use tlsf_class::MOST_WORDS;

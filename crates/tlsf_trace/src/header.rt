@@ -5,15 +5,13 @@ ghost use Rattle.tlsf_trace.specs.Header.{IsHeaderInRange};
 use crate::fields::fields_in;
 use crate::numbers::number;
 use std::alloc::{AllocError, Global};
+use tlsf_heap::MOST_WORDS;
 
 /// The most workers that a header may name.
 const MOST_WORKERS: u32 = 8;
 
 /// The fewest words of a heap.
 const LEAST_WORDS: u32 = 4;
-
-/// The most words of a heap.
-const MOST_WORDS: u32 = 1_048_576;
 
 /// The most posts that a lane may hold.
 const MOST_CAPACITY: u32 = 1024;

@@ -4,8 +4,13 @@ ghost use Rattle.tlsf_words.specs.Lists.{nowhere};
 use std::marker::Model;
 use tlsf_class::{Class, Touches};
 
-/// No place: where a list ends.
-pub(crate) const NO_PLACE: u32 = u32::MAX;
+/// No place, 2^32 - 1: where a list of places ends, and what stands before the first block of a region. A place is below 2^20, so
+/// no block begins there.
+///
+/// ```
+/// let links = Links { next: 8, previous: NO_PLACE };   // the head of a list: 8 comes next, and nothing before
+/// ```
+pub const NO_PLACE: u32 = u32::MAX;
 
 /// For each class, by its number, the place where its list begins, `NO_PLACE` for none, and how often one of them was read or
 /// written.
