@@ -1,4 +1,4 @@
--- The class of a size by the place of its highest bit and the bits below.
+-- The class of a size by its highest bit and the bits below.
 use Rattle.std.proofs.Common.{◌≡◌, ℕ, ◌+◌, ◌-◌, ◌*◌, ◌/◌, ◌%◌, ◌^◌, ◌<◌, ◌≤◌, nat_lt, refl, sym, ap, ◌∙◌, inl, inr, arith}
 use Rattle.std.proofs.lemmas.Bool.{cases_lt, cond-false, cond_below, le-ltb}
 use Rattle.std.proofs.lemmas.Nat.{pow-add, pow_pos, div_below, shr_split, mod_below, pow_below, one_shl, shl_whole}
@@ -13,22 +13,22 @@ unfolding low
 low-small c h = sym (cond_below c 16 c _ h)
 
 -- and the class of each size below 16 has the size's number
-pub class_of-row_0 : (n : ℕ) → 4 ≤ n → n < 16 → class_of n ≡ n
-class_of-row_0 n h l =
+pub class_of-first_level_0 : (n : ℕ) → 4 ≤ n → n < 16 → class_of n ≡ n
+class_of-first_level_0 n h l =
     let here = low-small n l in
     class_of-between n n h (omega arith) (omega arith) (λ _. omega (arith, low-next n (omega arith)))
 
--- a class from 16 on is at a place in a row above row 0
+-- the least size of a class from 16 on, above first level 0
 low-large : (c : ℕ) → 16 ≤ c → low c ≡ 2 ^ (c / 16 + 3) + c % 16 * 2 ^ (c / 16 - 1)
 unfolding low
 low-large c h = cond-false (nat_lt c 16) c (2 ^ (c / 16 + 3) + c % 16 * 2 ^ (c / 16 - 1)) (le-ltb c 16 h)
 
--- the same by the row and the place
-low-place : (row place : ℕ) → 0 < row → place < 16 → low (16 * row + place) ≡ 2 ^ (row + 3) + place * 2 ^ (row - 1)
-low-place row place h l =
-    let q : (16 * row + place) / 16 ≡ row = omega arith in
-    let r : (16 * row + place) % 16 ≡ place = omega arith in
-    low-large (16 * row + place) (omega arith) ∙ rw (q, r) refl
+-- the same by its two levels
+low-levels : (first_level second_level : ℕ) → 0 < first_level → second_level < 16 → low (16 * first_level + second_level) ≡ 2 ^ (first_level + 3) + second_level * 2 ^ (first_level - 1)
+low-levels first_level second_level h l =
+    let q : (16 * first_level + second_level) / 16 ≡ first_level = omega arith in
+    let r : (16 * first_level + second_level) % 16 ≡ second_level = omega arith in
+    low-large (16 * first_level + second_level) (omega arith) ∙ rw (q, r) refl
 
 -- the same as shifts give it
 pub low-shifts : (c : ℕ) → 16 ≤ c → c / 16 < 18 → 1 * 2 ^ (c / 16 + 3) % 2 ^ 32 + c % 16 * 2 ^ (c / 16 - 1) % 2 ^ 32 ≡ low c
@@ -37,7 +37,7 @@ low-shifts c least most =
     let second = shl_whole (c % 16) 4 (c / 16 - 1) 32 (omega arith) (omega arith) in
     rw (first, second) (sym (low-large c least))
 
--- the place of the highest bit of a size from 16 words on
+-- the number of the highest bit of a size from 16 words on
 pub record IsTop (n top : ℕ) : Type 0 where
   pub least : 4 ≤ top
   pub most : top ≤ 20
@@ -65,14 +65,14 @@ sixteen_times : (top : ℕ) → 4 ≤ top → 2 ^ top ≡ 16 * 2 ^ (top - 4)
 sixteen_times top h = let e : top ≡ 4 + (top - 4) = omega arith in ap (λ k. 2 ^ k) e ∙ pow-add 2 4 (top - 4)
 
 -- the part of a size below its highest bit, in steps of 2^step: the highest bit is that of 16 steps
-record IsParted (n step place : ℕ) : Type 0 where
-  below : place < 16
-  reached : 16 * 2 ^ step + place * 2 ^ step ≤ n
-  passed : n < 16 * 2 ^ step + (place + 1) * 2 ^ step
+record IsParted (n step second_level : ℕ) : Type 0 where
+  below : second_level < 16
+  reached : 16 * 2 ^ step + second_level * 2 ^ step ≤ n
+  passed : n < 16 * 2 ^ step + (second_level + 1) * 2 ^ step
 
 -- by the quotient of that part
-parted : (n step : ℕ) → 16 * 2 ^ step ≤ n → n < 2 * (16 * 2 ^ step) → IsParted n step ((n - 16 * 2 ^ step) / 2 ^ step)
-parted n step reached passed =
+IsParted-quotient : (n step : ℕ) → 16 * 2 ^ step ≤ n → n < 2 * (16 * 2 ^ step) → IsParted n step ((n - 16 * 2 ^ step) / 2 ^ step)
+IsParted-quotient n step reached passed =
     let some = pow_pos step in
     let split = shr_split (n - 16 * 2 ^ step) step in
     let rest = mod_below (n - 16 * 2 ^ step) (2 ^ step) some in
@@ -82,55 +82,55 @@ parted n step reached passed =
       passed = omega arith;
     }
 
--- the class of a size, by its row and its place
-pub record IsPlaced (n row place : ℕ) : Type 0 where
-  pub least : 1 ≤ row
-  pub below : place < 16
-  pub most : 16 * row + place ≤ 272
-  pub number : class_of n ≡ 16 * row + place
+-- the two levels of the class of a size
+pub record HasLevels (n first_level second_level : ℕ) : Type 0 where
+  pub least : 1 ≤ first_level
+  pub below : second_level < 16
+  pub most : 16 * first_level + second_level ≤ 272
+  pub number : class_of n ≡ 16 * first_level + second_level
 
--- the least size of the class after a place, also where that begins the next row
-low_after : (row place : ℕ) → 0 < row → place < 16 → low (16 * row + place + 1) ≡ 2 ^ (row + 3) + (place + 1) * 2 ^ (row - 1)
-low_after row place h l = elim (cases_lt (place + 1) 16) [
-  | inl inside ↦ let e : 16 * row + place + 1 ≡ 16 * row + (place + 1) = omega arith in ap low e ∙ low-place row (place + 1) h inside
+-- the least size of the class after one, also where that begins the next first level
+low_after : (first_level second_level : ℕ) → 0 < first_level → second_level < 16 → low (16 * first_level + second_level + 1) ≡ 2 ^ (first_level + 3) + (second_level + 1) * 2 ^ (first_level - 1)
+low_after first_level second_level h l = elim (cases_lt (second_level + 1) 16) [
+  | inl inside ↦ let e : 16 * first_level + second_level + 1 ≡ 16 * first_level + (second_level + 1) = omega arith in ap low e ∙ low-levels first_level (second_level + 1) h inside
   | inr last ↦
-      let e : 16 * row + place + 1 ≡ 16 * (row + 1) + 0 = omega arith in
-      let double = pow-add 2 (row + 3) 1 in
-      let g : row + 3 - 4 ≡ row - 1 = omega arith in
-      let sixteen = rw g at (sixteen_times (row + 3) (omega arith)) in
-      let f : row + 1 + 3 ≡ row + 3 + 1 = omega arith in
-      let place_is : place ≡ 15 = omega arith in
-      ap low e ∙ low-place (row + 1) 0 (omega arith) (omega arith) ∙ rw (f, double, sixteen, place_is) (omega arith)
+      let e : 16 * first_level + second_level + 1 ≡ 16 * (first_level + 1) + 0 = omega arith in
+      let double = pow-add 2 (first_level + 3) 1 in
+      let g : first_level + 3 - 4 ≡ first_level - 1 = omega arith in
+      let sixteen = rw g at (sixteen_times (first_level + 3) (omega arith)) in
+      let f : first_level + 1 + 3 ≡ first_level + 3 + 1 = omega arith in
+      let second_is : second_level ≡ 15 = omega arith in
+      ap low e ∙ low-levels (first_level + 1) 0 (omega arith) (omega arith) ∙ rw (f, double, sixteen, second_is) (omega arith)
 ]
 
--- the class of a size is in the row of its highest bit, at the place that its parts give
-at_row : (n row place : ℕ) → 1 ≤ row → row ≤ 17 → n ≤ 2 ^ 20 → IsParted n (row - 1) place → IsPlaced n row place
-at_row n row place least most size is =
-    let g : row + 3 - 4 ≡ row - 1 = omega arith in
-    let sixteen = rw g at (sixteen_times (row + 3) (omega arith)) in
-    let within : 16 * row + place ≤ 272 = elim (cases_lt row 17) [
+-- the first level is that of the highest bit, and the second is the one that the parts give
+HasLevels-parts : (n first_level second_level : ℕ) → 1 ≤ first_level → first_level ≤ 17 → n ≤ 2 ^ 20 → IsParted n (first_level - 1) second_level → HasLevels n first_level second_level
+HasLevels-parts n first_level second_level least most size is =
+    let g : first_level + 3 - 4 ≡ first_level - 1 = omega arith in
+    let sixteen = rw g at (sixteen_times (first_level + 3) (omega arith)) in
+    let within : 16 * first_level + second_level ≤ 272 = elim (cases_lt first_level 17) [
       | inl under ↦ omega (arith, is.below)
-      | inr last ↦ let e : row - 1 ≡ 16 = omega arith in omega (arith, rw e at is.reached)
+      | inr last ↦ let e : first_level - 1 ≡ 16 = omega arith in omega (arith, rw e at is.reached)
     ] in
     record {
       least = least;
       below = is.below;
       most = within;
-      number = class_of-between n (16 * row + place) (omega arith) within
-          (omega (arith, low-place row place least is.below, sixteen, is.reached))
-          (λ _. omega (arith, low_after row place least is.below, sixteen, is.passed));
+      number = class_of-between n (16 * first_level + second_level) (omega arith) within
+          (omega (arith, low-levels first_level second_level least is.below, sixteen, is.reached))
+          (λ _. omega (arith, low_after first_level second_level least is.below, sixteen, is.passed));
     }
 
--- the class of a size from its highest bit and the four bits below
-pub placed : (n top : ℕ) → n ≤ 2 ^ 20 → IsTop n top → IsPlaced n (top - 3) ((n - 2 ^ top) / 2 ^ (top - 4))
-placed n top size is =
+-- from its highest bit and the four bits below
+pub HasLevels-top : (n top : ℕ) → n ≤ 2 ^ 20 → IsTop n top → HasLevels n (top - 3) ((n - 2 ^ top) / 2 ^ (top - 4))
+HasLevels-top n top size is =
     let e : top - 3 - 1 ≡ top - 4 = omega (arith, is.least) in
     let sixteen = sixteen_times top is.least in
-    at_row n (top - 3) ((n - 2 ^ top) / 2 ^ (top - 4)) (omega (arith, is.least)) (omega (arith, is.most)) size
-    (rw (e, sixteen) (parted n (top - 4) (omega (arith, is.reached)) (omega (arith, is.passed))))
+    HasLevels-parts n (top - 3) ((n - 2 ^ top) / 2 ^ (top - 4)) (omega (arith, is.least)) (omega (arith, is.most)) size
+    (rw (e, sixteen) (IsParted-quotient n (top - 4) (omega (arith, is.reached)) (omega (arith, is.passed))))
 
 -- the same as shifts give it
-pub placed-shifts : (n top : ℕ) → 16 ≤ n → n ≤ 2 ^ 20 → 2 ^ top ≤ n → n < 2 * 2 ^ top → IsPlaced n (top - 3) ((n - 1 * 2 ^ top % 2 ^ 32) / 2 ^ (top - 4))
-placed-shifts n top least most reached passed =
+pub HasLevels-shifts : (n top : ℕ) → 16 ≤ n → n ≤ 2 ^ 20 → 2 ^ top ≤ n → n < 2 * 2 ^ top → HasLevels n (top - 3) ((n - 1 * 2 ^ top % 2 ^ 32) / 2 ^ (top - 4))
+HasLevels-shifts n top least most reached passed =
     let is = top_of n top least most reached passed in
-    rw (one_shl top 32 (omega (arith, is.most))) (placed n top most is)
+    rw (one_shl top 32 (omega (arith, is.most))) (HasLevels-top n top most is)

@@ -100,14 +100,14 @@ pub record IsSearchOf (n c : ℕ) : Type 0 where
   pub found : search_of n ≡ Some c
 
 -- a class between those bounds is the search class
-searched : (n c : ℕ) → 4 ≤ c → c ≤ 272 → n ≤ low c → (4 < c → low (c - 1) < n) → IsSearchOf n c
-searched n c a b h g = record { least = a; most = b; enough = h; tight = g; found = search_of-between n c a b h g }
+IsSearchOf-between : (n c : ℕ) → 4 ≤ c → c ≤ 272 → n ≤ low c → (4 < c → low (c - 1) < n) → IsSearchOf n c
+IsSearchOf-between n c a b h g = record { least = a; most = b; enough = h; tight = g; found = search_of-between n c a b h g }
 
 -- where the class of n begins at n, it is the search class too
 pub search_of-same : (n : ℕ) → 4 ≤ n → low (class_of n) ≡ n → IsSearchOf n (class_of n)
 search_of-same n h e =
     let is = class_of-is n h in
-    searched n (class_of n) is.least is.most (omega arith)
+    IsSearchOf-between n (class_of n) is.least is.most (omega arith)
     (λ g. omega (arith, low-rises (class_of n - 1) (class_of n) (omega arith) (omega (arith, is.most))))
 
 -- else the search class is the next one
@@ -119,12 +119,12 @@ search_of-next n h g above =
       | inr last ↦ let e : class_of n ≡ 272 = omega (arith, is.most) in absurd (omega (arith, low-last, ap low e))
     ] in
     let e : class_of n + 1 - 1 ≡ class_of n = omega arith in
-    (below, searched n (class_of n + 1) (omega (arith, is.least)) (omega arith) (omega (arith, is.passed)) (λ _. rw e above))
+    (below, IsSearchOf-between n (class_of n + 1) (omega (arith, is.least)) (omega arith) (omega (arith, is.passed)) (λ _. rw e above))
 
 -- each size up to 2^20 words has a search class
 pub search_of-is : (n : ℕ) → n ≤ 2 ^ 20 → (c : ℕ) × IsSearchOf n c
 search_of-is n g = elim (cases_lt n 5) [
-  | inl small ↦ (4, searched n 4 (omega arith) (omega arith) (omega (arith, low-first)) (λ l. absurd (omega arith)))
+  | inl small ↦ (4, IsSearchOf-between n 4 (omega arith) (omega arith) (omega (arith, low-first)) (λ l. absurd (omega arith)))
   | inr large ↦ elim (cases_lt (low (class_of n)) n) [
     | inl above ↦ (class_of n + 1, (search_of-next n (omega arith) g above).1)
     | inr fine ↦ (class_of n, search_of-same n (omega arith) (omega (arith, (class_of-is n (omega arith)).reached)))

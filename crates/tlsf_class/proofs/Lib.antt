@@ -1,3 +1,12 @@
+-- The lemmas of this crate, a line a file.
+--   BitmapWords: what the operations on the words of the bitmaps make of the members
+--   ClassByBits: the class of a size by its highest bit and the bits below
+--   ClassOfSize: the class and the search class of a size, by the least sizes below and above it
+--   Lows: the least sizes rise strictly from class to class
+--   Members: sets of classes that a test picks, and what they become with a member more or less
+--   OneBit: the bits of a word of 32 bits under a mask, and with one bit cleared
+--   RangeSearch: what searches among numbers in rising order find
+--   Tables: the definitions of classes against known values
 pub mod BitmapWords
 pub mod ClassByBits
 pub mod ClassOfSize

@@ -1,6 +1,6 @@
 -- The least sizes rise strictly from class to class.
 use Rattle.std.proofs.Common.{◌≡◌, ℕ, zero, suc, ◌+◌, ◌-◌, ◌^◌, ◌<◌, ◌≤◌, true, nat_lt, refl, inl, inr, arith, add-zero}
-use Rattle.std.proofs.lemmas.Bool.{ltb-true, agree_below, agree_below_at, cases_eq, cases_lt}
+use Rattle.std.proofs.lemmas.Bool.{ltb-true, agree_below, agree_below_at, cases_eq}
 use Rattle.tlsf_class.specs.Classes.{low}
 
 -- by the table, up to one class above the last
@@ -34,15 +34,12 @@ low-rises c d h g =
 pub low-rises_or_same : (c d : ℕ) → c ≤ d → d ≤ 273 → low c ≤ low d
 low-rises_or_same c d h g = elim (cases_eq c d) [ inl e ↦ rw e (omega arith) | inr n ↦ omega (arith, low-rises c d (omega arith) g) ]
 
--- classes are told apart by their least sizes
-pub from_low : (c d : ℕ) → low c < low d → c ≤ 273 → c < d
-from_low c d h g = elim (cases_lt c d) [ inl l ↦ l | inr l ↦ absurd (omega (arith, low-rises_or_same d c l g)) ]
-
--- the least size of the first class and of the last
+-- the first class begins at 4 words
 pub low-first : low 4 ≡ 4
 unfolding low
 low-first = refl
 
+-- and the last at 2^20
 pub low-last : low 272 ≡ 2 ^ 20
 unfolding low
 low-last = refl

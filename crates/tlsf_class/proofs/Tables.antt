@@ -2,12 +2,12 @@
 use Rattle.std.proofs.Common.{◌≡◌, ℕ, Some, refl, List, [], ◌∷◌, map}
 use Rattle.tlsf_class.specs.Classes.{low, classes, class_of, search_of}
 
--- the least sizes of the first and the last class of rows 0, 1, 2, 3 and 16, and of the last class
-lows_of_rows : map low (4 ∷ 15 ∷ 16 ∷ 31 ∷ 32 ∷ 47 ∷ 48 ∷ 63 ∷ 256 ∷ 271 ∷ 272 ∷ []) ≡ 4 ∷ 15 ∷ 16 ∷ 31 ∷ 32 ∷ 62 ∷ 64 ∷ 124 ∷ 524288 ∷ 1015808 ∷ 1048576 ∷ []
+-- the least sizes of the first and the last class of first levels 0, 1, 2, 3 and 16, and of the last class
+lows_of_first_levels : map low (4 ∷ 15 ∷ 16 ∷ 31 ∷ 32 ∷ 47 ∷ 48 ∷ 63 ∷ 256 ∷ 271 ∷ 272 ∷ []) ≡ 4 ∷ 15 ∷ 16 ∷ 31 ∷ 32 ∷ 62 ∷ 64 ∷ 124 ∷ 524288 ∷ 1015808 ∷ 1048576 ∷ []
 unfolding low
-lows_of_rows = refl
+lows_of_first_levels = refl
 
--- sizes at and about the edges of rows and classes
+-- sizes at and about the edges of first levels and classes
 abbrev sizes : List ℕ
 sizes = 4 ∷ 15 ∷ 16 ∷ 31 ∷ 32 ∷ 33 ∷ 44 ∷ 60 ∷ 63 ∷ 460 ∷ 1048575 ∷ 1048576 ∷ []
 

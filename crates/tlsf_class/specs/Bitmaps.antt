@@ -1,9 +1,10 @@
--- The words of two levels of bitmaps: one bit a row in the first, one bit a class in the word of its row in the second.
+-- The words of two levels of bitmaps: one word with a bit for each first level, and for each first level a word with a bit for
+-- each of its classes, at the class's second level.
 use Rattle.std.specs.Prelude.{◌≡◌, ℕ, ◌+◌, ◌*◌, ◌/◌, ◌%◌, ◌<◌, ◌≤◌, List, Bool, ◌==◌, length, slice_index, min, filter}
 use Rattle.std.specs.Int.{bit_at}
 use Rattle.tlsf_class.specs.Classes.{classes}
 
--- whether the bit of a class is set in the word of its row
+-- whether the bit of a class is set in the word of its first level
 abbrev pub is_set : List ℕ → ℕ → Bool
 is_set second class = bit_at (slice_index second (class / 16)) (class % 16) == 1
 
@@ -11,8 +12,8 @@ is_set second class = bit_at (slice_index second (class / 16)) (class % 16) == 1
 unfoldable pub members_of : List ℕ → List ℕ
 members_of second = filter (is_set second) classes
 
--- a first-level bit is set exactly where the word of its row isn't zero, and only classes in use have bits
+-- the bit of a first level is set exactly where its word isn't zero, and only classes in use have bits
 pub record AreLevels (first : ℕ) (second : List ℕ) : Type 0 where
-  pub rows : length second ≡ 18
-  pub row_bits : (row : ℕ) → bit_at first row ≡ min 1 (slice_index second row)
-  pub in_use : (row place : ℕ) → bit_at (slice_index second row) place ≡ 1 → (place < 16) × (4 ≤ 16 * row + place) × (16 * row + place ≤ 272)
+  pub first_levels : length second ≡ 18
+  pub first_bits : (first_level : ℕ) → bit_at first first_level ≡ min 1 (slice_index second first_level)
+  pub in_use : (first_level second_level : ℕ) → bit_at (slice_index second first_level) second_level ≡ 1 → (second_level < 16) × (4 ≤ 16 * first_level + second_level) × (16 * first_level + second_level ≤ 272)

@@ -1,9 +1,11 @@
--- Size classes of two levels. A class is named by its number, 4 to 272, and `low` is its least size in words.
+-- Size classes of two levels. A class is named by its number, 4 to 272: its first level is the number by 16, its second level
+-- what is left. `low` is its least size in words.
 use Rattle.std.specs.Prelude.{ℕ, ◌+◌, ◌*◌, ◌/◌, ◌-◌, ◌%◌, ◌^◌, List, Option, Bool, false, max, nat_lt, nat_le, if◌then◌else◌, fold, filter, find}
 use Rattle.std.specs.List.{range_with_len}
 use Rattle.std.specs.Option.{option_map_or}
 
--- the least size of a class: row 0 has one class for each size, row r has 16 classes over the sizes from 2^(r+3) on
+-- the least size of a class: first level 0 has one class for each size, first level f has 16 classes over the sizes from
+-- 2^(f+3) on
 unfoldable pub low : ℕ → ℕ
 low class = if nat_lt class 16 then class else 2 ^ (class / 16 + 3) + class % 16 * 2 ^ (class / 16 - 1)
 

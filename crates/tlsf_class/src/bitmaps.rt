@@ -6,8 +6,15 @@ use crate::class::Class;
 use crate::levels::Levels;
 use std::marker::Model;
 
-/// A set of classes, kept in place in two levels of bitmaps. A call reads and writes four words at most, and counts each
-/// read and write as a touch.
+/// A set of classes, as of those that have a free block, in two levels of bitmaps (ECRTS 2004, section 3). It holds 19
+/// words of 32 bits and takes no other memory. A call reads and writes four words at most, and counts each read and
+/// write as a touch.
+///
+/// ```
+/// let mut bitmaps = Bitmaps::new();
+/// bitmaps.set(class_of(64));
+/// let next = bitmaps.next_from(search_of(33));     // Some: class 48, of 64 to 67 words
+/// ```
 #[derive(Drop)]
 pub struct Bitmaps {
     levels: Levels,
@@ -25,7 +32,11 @@ impl Model for Bitmaps {
 }
 
 impl Bitmaps {
-    /// No class is a member.
+    /// The empty set. It makes no touch: the first zeros aren't counted.
+    ///
+    /// ```
+    /// let none = Bitmaps::new().next_from(class_of(4));     // None
+    /// ```
     pub fn new() -> Bitmaps
         ensures members { result.members ≡ [] }
         ensures touches { result.touches ≡ 0 }
@@ -35,67 +46,94 @@ impl Bitmaps {
         }
     }
 
-    /// Makes a class a member, if it isn't one.
+    /// Makes a class a member, if it isn't one. Four touches.
+    ///
+    /// ```
+    /// bitmaps.set(class_of(20));
+    /// let is_member = bitmaps.holds(class_of(20));     // true
+    /// ```
     pub fn set(&mut self, class: Class)
         ensures members { self.new.members ≡ with_member self.old.members class }
         ensures touches { self.new.touches ≤ self.old.touches + 4 }
         ensures rise { self.old.touches ≤ self.new.touches }
     {
-        let row = class.row();
-        let word = with_bit(self.levels.second_word(row), class.place());
-        self.levels.set_second_word(row, word);
-        let rows = self.levels.first_word();
-        self.levels.set_first_word(with_bit(rows, row));
+        let first_level = class.first_level();
+        let word = with_bit(self.levels.second_word(first_level), class.second_level());
+        self.levels.set_second_word(first_level, word);
+        let first_word = self.levels.first_word();
+        self.levels
+            .set_first_word(with_bit(first_word, first_level));
     }
 
-    /// Takes a class out, if it is a member.
+    /// Takes a class out, if it is a member. Two touches where its first level keeps another member, else four.
+    ///
+    /// ```
+    /// bitmaps.clear(class_of(20));
+    /// let is_member = bitmaps.holds(class_of(20));     // false
+    /// ```
     pub fn clear(&mut self, class: Class)
         ensures members { self.new.members ≡ without_member self.old.members class }
         ensures touches { self.new.touches ≤ self.old.touches + 4 }
         ensures rise { self.old.touches ≤ self.new.touches }
     {
-        let row = class.row();
-        let word = without_bit(self.levels.second_word(row), class.place());
-        self.levels.set_second_word(row, word);
+        let first_level = class.first_level();
+        let word = without_bit(self.levels.second_word(first_level), class.second_level());
+        self.levels.set_second_word(first_level, word);
         if word == 0 {
-            let rows = self.levels.first_word();
-            self.levels.set_first_word(without_bit(rows, row));
+            let first_word = self.levels.first_word();
+            self.levels
+                .set_first_word(without_bit(first_word, first_level));
         }
     }
 
-    /// Whether a class is a member.
+    /// Whether a class is a member. One touch. No heap asks it, since [`Bitmaps::next_from`] tells more: it is for those
+    /// who use the set by itself, and for tests.
+    ///
+    /// ```
+    /// let has_blocks = bitmaps.holds(class_of(32));
+    /// ```
     pub fn holds(&mut self, class: Class) -> bool
         ensures answer { IsTrue result ↔ Contains self.old.members class }
         ensures same { self.new.members ≡ self.old.members }
         ensures touches { self.new.touches ≡ self.old.touches + 1 }
     {
-        let word = self.levels.second_word(class.row());
-        is_bit_set(word, class.place())
+        let word = self.levels.second_word(class.first_level());
+        is_bit_set(word, class.second_level())
     }
 
-    /// The least member at or above a class, `None` where there is none.
+    /// The least member at or above a class, `None` where there is none. One touch where the class's first level has it,
+    /// else two or three, however many classes lie between (ECRTS 2004, section 3).
+    ///
+    /// ```
+    /// let class = bitmaps.next_from(search_of(33))?;     // of blocks of 34 words or more
+    /// ```
     pub fn next_from(&mut self, class: Class) -> Option<Class>
         ensures least { result ≡ next_member self.old.members class }
         ensures same { self.new.members ≡ self.old.members }
         ensures touches { self.new.touches ≤ self.old.touches + 3 }
         ensures rise { self.old.touches ≤ self.new.touches }
     {
-        let row = class.row();
-        let word = self.levels.second_word(row);
-        if let Some(place) = lowest_bit_from(word, class.place()) {
-            return Some(Class::at(row, place));
+        let first_level = class.first_level();
+        let word = self.levels.second_word(first_level);
+        if let Some(second_level) = lowest_bit_from(word, class.second_level()) {
+            return Some(Class::at(first_level, second_level));
         }
-        let rows = self.levels.first_word();
-        let row = lowest_bit_from(rows, row + 1)?;
-        let word = self.levels.second_word(row);
-        Some(Class::at(row, lowest_bit(word)))
+        let first_word = self.levels.first_word();
+        let first_level = lowest_bit_from(first_word, first_level + 1)?;
+        let word = self.levels.second_word(first_level);
+        Some(Class::at(first_level, lowest_bit(word)))
     }
 }
 
 impl Default for Bitmaps {
-    ghost is_default = { λ bitmaps. bitmaps.members ≡ [] };
+    ghost is_default = { λ bitmaps. (bitmaps.members ≡ []) × (bitmaps.touches ≡ 0) };
 
-    /// No class is a member.
+    /// The empty set, as `new` gives it. Types that hold a set of classes can so derive their own `Default`; only tests
+    /// here call it.
+    ///
+    /// ```
+    /// let bitmaps = Bitmaps::default();
+    /// ```
     fn default() -> Bitmaps {
         Bitmaps::new()
     }

@@ -3,7 +3,8 @@ ghost use Rattle.std.specs.Prelude.{◌≡◌, ◌+◌, ◌<◌, length, replica
 use crate::touches::Touches;
 use std::marker::Model;
 
-/// The words of the bitmaps, 19 of them, and how often one was read or written.
+/// The words of the bitmaps, 19 of 32 bits, and how often one was read or written. All reads and writes of them go
+/// through here, so that each is counted.
 #[derive(Drop)]
 pub(crate) struct Cells {
     words: [u32; 19],
@@ -12,7 +13,7 @@ pub(crate) struct Cells {
 
 impl Model for Cells {
     ghost use Rattle.std.specs.Prelude.{◌≡◌, length};
-    ghost use Rattle.tlsf_class.specs.Touched.{CountedWords};
+    ghost use Rattle.tlsf_class.specs.Counted.{CountedWords};
 
     ghost Value = { CountedWords };
 

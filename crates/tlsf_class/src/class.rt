@@ -3,16 +3,22 @@ ghost use Rattle.tlsf_class.specs.Classes.{low, class_of, search_of};
 
 use std::marker::Model;
 
-/// The most words that a region may have, 2^20: 8 MiB of words of 64 bits. The last class, 272, begins here, so that each size of a
-/// block has a class and a search class.
+/// The most words that a region may have, 2^20: 8 MiB in words of 64 bits. The last class begins here, so that each size
+/// of a block has a class and a search class.
 ///
 /// ```
-/// let class = class_of(MOST_WORDS);       // 272, the last class
-/// let least = low(class);                 // MOST_WORDS again
+/// let class = class_of(MOST_WORDS);     // class 272, the last
+/// let least = low(class);               // MOST_WORDS again
 /// ```
 pub const MOST_WORDS: u32 = 1 << 20;
 
-/// A size class, of sizes in words. Classes are ordered as their sizes are.
+/// A size class: a range of sizes in words, by its number, 4 to 272. Classes are ordered as their sizes are
+/// (ECRTS 2004, section 3).
+///
+/// ```
+/// let class = class_of(33);             // class 32, the sizes 32 and 33
+/// let above = class < class_of(34);     // true: 34 begins class 33
+/// ```
 #[derive(Clone, Copy, Debug, PartialEq, Eq, PartialOrd, Ord)]
 pub struct Class {
     number: u32,
@@ -31,19 +37,23 @@ impl Model for Class {
 }
 
 impl Class {
-    /// The class at a place in a row.
-    pub(crate) fn at(row: u32, place: u32) -> Class
-        requires below { place < 16 }
-        requires least { 4 ≤ 16 * row + place }
-        requires most { 16 * row + place ≤ 272 }
-        ensures { result ≡ 16 * row + place }
+    /// The class of these two indexes: a first level, 0 to 17, and a second level, 0 to 15.
+    pub(crate) fn at(first_level: u32, second_level: u32) -> Class
+        requires below { second_level < 16 }
+        requires least { 4 ≤ 16 * first_level + second_level }
+        requires most { 16 * first_level + second_level ≤ 272 }
+        ensures { result ≡ 16 * first_level + second_level }
     {
         Class {
-            number: 16 * row + place,
+            number: 16 * first_level + second_level,
         }
     }
 
-    /// The number of the class, 4 to 272.
+    /// The number of the class, 4 to 272: 16 times its first level and its second level.
+    ///
+    /// ```
+    /// let number = class_of(460).number();     // 92: first level 5, second level 12
+    /// ```
     pub fn number(self) -> u32
         ensures value { result ≡ self }
         ensures least { 4 ≤ self }
@@ -53,8 +63,9 @@ impl Class {
         number
     }
 
-    /// The row, 0 to 17.
-    pub(crate) fn row(self) -> u32
+    /// The first level of the class, 0 to 17: which two powers of two its sizes lie between. Its clauses say the
+    /// range of the number besides, which a proof can't read off the private field.
+    pub(crate) fn first_level(self) -> u32
         ensures value { result ≡ self / 16 }
         ensures bound { result < 18 }
         ensures least { 4 ≤ self }
@@ -63,15 +74,15 @@ impl Class {
         self.number / 16
     }
 
-    /// The place in the row, 0 to 15.
-    pub(crate) fn place(self) -> u32
+    /// The second level of the class, 0 to 15: which sixteenth of its first level.
+    pub(crate) fn second_level(self) -> u32
         ensures value { result ≡ self % 16 }
         ensures bound { result < 16 }
     {
         self.number % 16
     }
 
-    /// The class above.
+    /// The class above, of the next greater sizes.
     fn next(self) -> Class
         requires { self < 272 }
         ensures { result ≡ self + 1 }
@@ -82,7 +93,14 @@ impl Class {
     }
 }
 
-/// The class of a size of `words`, 4 to 2^20.
+/// The class of a size of `words`, 4 to 2^20: the greatest one that begins at or below it. A free block of this size is
+/// kept there (the mapping of ECRTS 2004, section 3). The size's highest bit gives the first level, and the four bits
+/// below it the second level.
+///
+/// ```
+/// let class = class_of(460);         // class 92
+/// let least = low(class);            // 448 words
+/// ```
 pub fn class_of(words: u32) -> Class
     requires least { 4 ≤ words }
     requires most { words ≤ 2 ^ 20 }
@@ -95,7 +113,13 @@ pub fn class_of(words: u32) -> Class
     Class::at(top - 3, (words - (1 << top)) >> (top - 4))
 }
 
-/// The search class of a size of `words`, 4 to 2^20: the least class of whose sizes none is below `words`.
+/// The search class of a size of `words`, 4 to 2^20: the least class of whose sizes none is below `words`. Each block of
+/// this class or a greater one is large enough, so that no block has to be measured (good fit: ECRTS 2004, section 3).
+///
+/// ```
+/// let search = search_of(460);       // class 93, which begins at 464 words
+/// let exact = search_of(464);        // class 93 too
+/// ```
 pub fn search_of(words: u32) -> Class
     requires least { 4 ≤ words }
     requires most { words ≤ 2 ^ 20 }
@@ -110,13 +134,17 @@ pub fn search_of(words: u32) -> Class
 }
 
 /// The least size of a class in words, 4 to 2^20.
+///
+/// ```
+/// let least = low(class_of(33));     // 32 words
+/// ```
 pub fn low(class: Class) -> u32
     ensures { result ≡ low class }
 {
-    let row = class.row();
-    if row == 0 {
-        class.place()
+    let first_level = class.first_level();
+    if first_level == 0 {
+        class.second_level()
     } else {
-        (1 << (row + 3)) + (class.place() << (row - 1))
+        (1 << (first_level + 3)) + (class.second_level() << (first_level - 1))
     }
 }

@@ -3,7 +3,8 @@ ghost use Rattle.std.specs.Prelude.{◌≡◌, ◌+◌, ◌<◌, slice_index, sl
 use crate::cells::Cells;
 use std::marker::Model;
 
-/// The first-level word, one bit a row, and behind it the second-level words, one for each row with one bit a class.
+/// The words of the two levels: one of the first, with a bit for each first level, and behind it 18 of the second, one
+/// for each first level with a bit for each of its classes.
 #[derive(Drop)]
 pub(crate) struct Levels {
     cells: Cells,
@@ -11,7 +12,7 @@ pub(crate) struct Levels {
 
 impl Model for Levels {
     ghost use Rattle.std.specs.Prelude.{slice_index, drop};
-    ghost use Rattle.tlsf_class.specs.Touched.{CountedLevels};
+    ghost use Rattle.tlsf_class.specs.Counted.{CountedLevels};
 
     ghost Value = { CountedLevels };
 
@@ -30,7 +31,7 @@ impl Levels {
         }
     }
 
-    /// Reads the first-level word.
+    /// Reads the word of the first level.
     pub(crate) fn first_word(&mut self) -> u32
         ensures value { result ≡ self.old.first }
         ensures first { self.new.first ≡ self.old.first }
@@ -40,7 +41,7 @@ impl Levels {
         self.cells.read(0)
     }
 
-    /// Writes the first-level word.
+    /// Writes the word of the first level.
     pub(crate) fn set_first_word(&mut self, word: u32)
         ensures first { self.new.first ≡ word }
         ensures second { self.new.second ≡ self.old.second }
@@ -49,24 +50,24 @@ impl Levels {
         self.cells.write(0, word);
     }
 
-    /// Reads the word of a row, 0 to 17.
-    pub(crate) fn second_word(&mut self, row: u32) -> u32
-        requires { row < 18 }
-        ensures value { result ≡ slice_index self.old.second row }
+    /// Reads the second-level word of a first level, 0 to 17.
+    pub(crate) fn second_word(&mut self, first_level: u32) -> u32
+        requires { first_level < 18 }
+        ensures value { result ≡ slice_index self.old.second first_level }
         ensures first { self.new.first ≡ self.old.first }
         ensures second { self.new.second ≡ self.old.second }
         ensures touches { self.new.touches ≡ self.old.touches + 1 }
     {
-        self.cells.read(row + 1)
+        self.cells.read(first_level + 1)
     }
 
-    /// Writes the word of a row, 0 to 17.
-    pub(crate) fn set_second_word(&mut self, row: u32, word: u32)
-        requires { row < 18 }
+    /// Writes the second-level word of a first level, 0 to 17.
+    pub(crate) fn set_second_word(&mut self, first_level: u32, word: u32)
+        requires { first_level < 18 }
         ensures first { self.new.first ≡ self.old.first }
-        ensures second { self.new.second ≡ slice_set self.old.second row word }
+        ensures second { self.new.second ≡ slice_set self.old.second first_level word }
         ensures touches { self.new.touches ≡ self.old.touches + 1 }
     {
-        self.cells.write(row + 1, word);
+        self.cells.write(first_level + 1, word);
     }
 }

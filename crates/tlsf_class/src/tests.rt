@@ -115,7 +115,7 @@ fn number_of(next: Option<Class>) -> u32 {
 }
 
 #[test]
-fn next_members_across_rows(rt: HostRuntime) {
+fn next_members_across_first_levels(rt: HostRuntime) {
     let mut none = Bitmaps::default();
     assert!(rt; none.next_from(class_of(4)).is_none());
     let mut bitmaps = Bitmaps::new();

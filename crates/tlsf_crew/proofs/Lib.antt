@@ -38,7 +38,6 @@ pub mod WithinTakes
 pub mod LaneTakes
 pub mod DrainWorlds
 pub mod ScriptCalls
-pub mod LiveBlocks
 pub mod Sends
 pub mod Reckoning
 pub mod Emptied

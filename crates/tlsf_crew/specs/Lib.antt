@@ -1,3 +1,4 @@
+pub use Rattle.tlsf_lock.specs.Grants
 pub mod Bytes
 pub mod Heaps
 pub mod Numbers
@@ -5,7 +6,6 @@ pub mod Workers
 pub mod Yard
 pub mod World
 pub mod Opening
-pub mod Grants
 pub mod Settling
 pub mod Calls
 pub mod Counts

@@ -17,15 +17,13 @@
 //!
 //! Each call of a `Worker` takes no memory and doesn't wait, and keeps its yard whole.
 //!
-//! A [`LockedHeap`] is a heap without an owner, outside any yard. Whoever locks it has its heap, as a [`Counted`], until
-//! the guard is dropped, and knows then that the live blocks are the accepted allocates less the accepted releases.
+//! A [`LockedHeap`] is a heap without an owner, outside any yard; it is `tlsf_lock`'s.
 #![tactic(auto)]
 
 #[cfg(test)]
 mod away_tests;
 mod call;
 mod chunk;
-mod counted;
 mod counting;
 mod crew_refusal;
 mod done;
@@ -41,9 +39,6 @@ mod gate;
 mod history;
 mod job;
 mod laws;
-mod locked_heap;
-#[cfg(test)]
-mod locked_tests;
 mod opening;
 mod outcome;
 mod own;
@@ -72,7 +67,6 @@ mod yard_tests;
 
 pub use call::Call;
 pub use chunk::Chunk;
-pub use counted::Counted;
 pub use crew_refusal::CrewRefusal;
 pub use drained::Drained;
 pub use entry::Entry;
@@ -80,7 +74,6 @@ pub use event::Event;
 pub use gate::{Gate, OpenGate};
 pub use history::one_history;
 pub use laws::lanes_join_the_yard;
-pub use locked_heap::LockedHeap;
 pub use opening::open_yard;
 pub use outcome::Outcome;
 pub use racing::race;
@@ -89,5 +82,6 @@ pub use replaying::replay_events;
 pub use reply::Reply;
 pub use settling::settle;
 pub use target::Target;
+pub use tlsf_lock::{Counted, LockedHeap};
 pub use took::Took;
 pub use worker::Worker;

@@ -4,42 +4,42 @@ use Rattle.std.proofs.Math.Nat.{zero-div}
 use Rattle.std.specs.List.{AllByRecursion, range_with_len}
 use Rattle.std.proofs.lemmas.List.{length-replicate, length-set, get_or-set_other, set-get_or}
 use Rattle.std.proofs.lemmas.Bool.{cases_lt}
-use Rattle.tlsf_words.specs.Memory.{Memory}
+use Rattle.tlsf_heap.specs.Image.{Image, mark_of, HoldsPayload, BlockAt, ShowsFrom, Shows}
 use Rattle.tlsf_words.specs.Fields.{tag_word, size_in, last_in, free_in, back_in, length_word}
 use Rattle.tlsf_words.proofs.FieldLaws.{tag_word-fields}
-use Rattle.tlsf_heap.specs.Blocks.{Block, Live, Free, size_of, words_in, is_free, words_for}
+use Rattle.tlsf_heap.specs.Blocks.{Block, Live, Free, size_of, words_in, is_free, words_for, StandsAt, IsPlace}
 use Rattle.tlsf_heap.specs.GoodFit.{block_at}
 use Rattle.tlsf_heap.specs.Headers.{with_back, end_in}
-use Rattle.tlsf_heap.specs.Image.{no_place, mark_of, HoldsPayload, BlockAt, ShowsFrom, Shows, blocks_of}
+use Rattle.tlsf_words.specs.Lists.{nowhere}
+use Rattle.tlsf_heap.specs.Read.{blocks_of}
 use Rattle.tlsf_words.specs.Bytes.{byte_in, bytes_in}
 use Rattle.tlsf_heap.specs.Lawful.{HasRoom}
-use Rattle.tlsf_heap.specs.Regions.{StandsAt, IsPlace}
 use Rattle.tlsf_heap.proofs.Showing.{word_at, start_at, back_behind, blocks_replaced}
 use Rattle.tlsf_heap.proofs.Standing.{around, stands_next, back_next}
 use Rattle.tlsf_heap.proofs.Reading.{at_index, says_here, ends_last}
 
 -- words show these blocks, and read as them
-abbrev pub ReadsAs : Memory → List Block → Type 0
+abbrev pub ReadsAs : Image → List Block → Type 0
 ReadsAs v bs = (blocks_of v.words ≡ bs) × Shows v (blocks_of v.words)
 
 -- words show what an edit at a place leaves, which is said by the index of the block there
-pub record Leaves (v : Memory) (bs : List Block) (at : ℕ) (new : ℕ → List Block) : Type 0 where
+pub record Leaves (v : Image) (bs : List Block) (at : ℕ) (new : ℕ → List Block) : Type 0 where
   pub blocks : (i : ℕ) → StandsAt bs at i → blocks_of v.words ≡ new i
   pub shows : Shows v (blocks_of v.words)
 
 -- only the words from a place to an end change, the place before in the header behind them, and one start bit
-pub record Keeps (m v : Memory) (at end back bit : ℕ) (starts_there : Bool) : Type 0 where
+pub record Keeps (m v : Image) (at end back bit : ℕ) (starts_there : Bool) : Type 0 where
   pub before : (k : ℕ) → k < at → word_at v k ≡ word_at m k
   pub behind : (k : ℕ) → end < k → word_at v k ≡ word_at m k
   pub next : end < length m.words → word_at v end ≡ with_back (word_at m end) back
   pub length : length v.words ≡ length m.words
   pub starts : v.starts ≡ set m.starts bit starts_there
 
-pub other_start : {m v : Memory} {at end back bit : ℕ} {starts_there : Bool} → Keeps m v at end back bit starts_there → (k : ℕ) → k ≢ bit → start_at v k ≡ start_at m k
+pub other_start : {m v : Image} {at end back bit : ℕ} {starts_there : Bool} → Keeps m v at end back bit starts_there → (k : ℕ) → k ≢ bit → start_at v k ≡ start_at m k
 other_start {m = m} {bit = bit} {starts_there = starts_there} keeps k ne = ap (λ (s : List Bool). get_or s k false) keeps.starts ∙ get_or-set_other m.starts bit k starts_there false ne
 
 -- from a place to an end, the words of some blocks become those of others
-pub record Edit (v : Memory) (at back end bit : ℕ) (old new : List Block) : Type 0 where
+pub record Edit (v : Image) (at back end bit : ℕ) (old new : List Block) : Type 0 where
   pub some : 0 < length old
   pub as_many : words_in new ≡ words_in old
   pub rooms : AllByRecursion HasRoom new
@@ -48,13 +48,13 @@ pub record Edit (v : Memory) (at back end bit : ℕ) (old new : List Block) : Ty
   pub below : bit < end
   pub shown : ShowsFrom v at back new
 
-module _ {m v : Memory} {bs : List Block} (shows : Shows m bs) {at : ℕ} where
+module _ {m v : Image} {bs : List Block} (shows : Shows m bs) {at : ℕ} where
   -- an edit of the words at a place is one of the blocks
   pub edited : {i : ℕ} → StandsAt bs at i → (old new after : List Block) → take i bs ++ old ++ after ≡ bs → {end bit : ℕ} {starts_there : Bool}
-      → Keeps m v at end (back_behind at (back_behind 0 no_place (take i bs)) new) bit starts_there → Edit v at (back_behind 0 no_place (take i bs)) end bit old new
+      → Keeps m v at end (back_behind at (back_behind 0 nowhere (take i bs)) new) bit starts_there → Edit v at (back_behind 0 nowhere (take i bs)) end bit old new
       → ReadsAs v (take i bs ++ new ++ after)
   edited {i = i} stands old new after whole {bit = bit} {starts_there = starts_there} keeps edit =
-      let back = back_behind 0 no_place (take i bs) in
+      let back = back_behind 0 nowhere (take i bs) in
       let ended = subst (λ (e : ℕ). Keeps m v at e (back_behind at back new) bit starts_there) edit.ends keeps in
       let kept = subst (λ (p : ℕ). Keeps m v p (p + words_in old) (back_behind p back new) bit starts_there) (sym stands.place) ended in
       blocks_replaced m v (take i bs) old new after
@@ -82,7 +82,7 @@ module _ {m v : Memory} {bs : List Block} (shows : Shows m bs) {at : ℕ} where
   }
 
 -- the header behind a block says where it begins
-next_same : {m : Memory} {bs : List Block} (shows : Shows m bs) {at i : ℕ} (stands : StandsAt bs at i) → at + size_of (block_at bs i) < length m.words
+next_same : {m : Image} {bs : List Block} (shows : Shows m bs) {at i : ℕ} (stands : StandsAt bs at i) → at + size_of (block_at bs i) < length m.words
     → word_at m (at + size_of (block_at bs i)) ≡ with_back (word_at m (at + size_of (block_at bs i))) at
 unfolding with_back
 next_same {m = m} {bs = bs} shows {at = at} {i = i} stands inside = elim (cases_lt (i + 1) (length bs)) [
@@ -93,7 +93,7 @@ next_same {m = m} {bs = bs} shows {at = at} {i = i} stands inside = elim (cases_
 ]
 
 -- the words of one block become those of another of its size
-pub record Changes (m v : Memory) (at : ℕ) (old new : Block) : Type 0 where
+pub record Changes (m v : Image) (at : ℕ) (old new : Block) : Type 0 where
   pub size : size_of new ≡ size_of old
   pub room : HasRoom new
   pub tag : word_at v at ≡ tag_word (size_in (word_at m at)) (last_in (word_at m at)) (is_free new) (back_in (word_at m at))
@@ -104,9 +104,9 @@ pub record Changes (m v : Memory) (at : ℕ) (old new : Block) : Type 0 where
   pub length : length v.words ≡ length m.words
   pub starts : v.starts ≡ m.starts
 
-module _ {m v : Memory} {bs : List Block} (shows : Shows m bs) {at i : ℕ} (stands : StandsAt bs at i) (new : Block) (changes : Changes m v at (block_at bs i) new) where
+module _ {m v : Image} {bs : List Block} (shows : Shows m bs) {at i : ℕ} (stands : StandsAt bs at i) (new : Block) (changes : Changes m v at (block_at bs i) new) where
   -- the block that its words show
-  shown_changed : BlockAt v at (back_behind 0 no_place (take i bs)) new
+  shown_changed : BlockAt v at (back_behind 0 nowhere (take i bs)) new
   shown_changed =
       let says = says_here shows stands in
       record {
@@ -137,7 +137,7 @@ module _ {m v : Memory} {bs : List Block} (shows : Shows m bs) {at i : ℕ} (sta
       })
 
 -- the header of a block becomes one of a free block
-pub freed : {m v : Memory} {bs : List Block} {at stamp : ℕ} → Shows m bs → IsPlace bs at
+pub freed : {m v : Image} {bs : List Block} {at stamp : ℕ} → Shows m bs → IsPlace bs at
     → word_at v at ≡ tag_word (size_in (word_at m at)) (last_in (word_at m at)) true (back_in (word_at m at))
     → word_at v (at + 1) ≡ stamp
     → ((k : ℕ) → k ≢ at → k ≢ at + 1 → word_at v k ≡ word_at m k)
@@ -170,7 +170,7 @@ zero_bytes words at len zeros =
     zero_map words (8 * at) len (λ k a b. ap (λ (w : ℕ). w / 256 ^ (k % 8) % 256) (zeros (k / 8) (omega arith) (omega arith)) ∙ ap (λ (w : ℕ). w % 256) (zero-div (256 ^ (k % 8))))
 
 -- the header of a block becomes one of a live block, and all words behind its header are zero
-pub enlivened : {m v : Memory} {bs : List Block} {at serial : ℕ} (len : ℕ) → Shows m bs
+pub enlivened : {m v : Image} {bs : List Block} {at serial : ℕ} (len : ℕ) → Shows m bs
     → (i : ℕ) × StandsAt bs at i × (words_for len ≤ size_of (block_at bs i))
     → word_at v at ≡ tag_word (size_in (word_at m at)) (last_in (word_at m at)) false (back_in (word_at m at))
     → word_at v (at + 1) ≡ serial

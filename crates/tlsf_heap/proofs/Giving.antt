@@ -2,13 +2,12 @@
 use Rattle.std.proofs.Common.{◌≡◌, ℕ, ◌+◌, ◌-◌, List, [], ◌∷◌, ◌++◌, length, take, drop, replicate, Option, Some, None, refl, sym, ap, ◌∙◌, inl, inr, append_assoc}
 use Rattle.std.specs.Prelude.{IsSome}
 use Rattle.std.proofs.lemmas.Bool.{eqb-true, false≢true, cases_lt}
-use Rattle.tlsf_heap.specs.Blocks.{Block, Live, Free, HeapState, payload_words}
+use Rattle.tlsf_heap.specs.Blocks.{Block, Live, Free, HeapState, payload_words, StandsAt}
 use Rattle.tlsf_heap.specs.GoodFit.{Site, block_at}
 use Rattle.tlsf_heap.specs.Lawful.{AreRegions}
 use Rattle.tlsf_heap.specs.Calls.{carved, has_serial, named}
 use Rattle.tlsf_heap.specs.Given.{payload_words_at}
 use Rattle.tlsf_heap.specs.Laws.{IsLive}
-use Rattle.tlsf_heap.specs.Regions.{StandsAt}
 use Rattle.tlsf_heap.specs.declared.name.Name.{Name}
 use Rattle.tlsf_heap.proofs.Finding.{and_right}
 use Rattle.tlsf_heap.proofs.Edits.{carved_small, carved_large}

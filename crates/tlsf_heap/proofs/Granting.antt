@@ -10,7 +10,8 @@ use Rattle.tlsf_class.proofs.ClassOfSize.{class_of-is, class_of-rises, search_of
 use Rattle.tlsf_class.proofs.RangeSearch.{greatest-range, greatest-range_none}
 use Rattle.tlsf_heap.specs.Blocks.{Block, Live, Free, size_of, words_in, is_free, want}
 use Rattle.tlsf_heap.specs.Lawful.{HasRoom}
-use Rattle.tlsf_heap.specs.GoodFit.{Site, sites, fits, is_fit, NoneFits, block_at}
+use Rattle.tlsf_heap.specs.GoodFit.{Site, sites, fits, is_fit, block_at}
+use Rattle.tlsf_heap.specs.Chosen.{NoneFits}
 use Rattle.tlsf_heap.specs.Reports.{free_among, largest_of, is_served, grant_of, IsGrant}
 use Rattle.tlsf_heap.specs.Tallies.{granted}
 use Rattle.tlsf_heap.proofs.Finding.{not_true, and_left, and_right, filter_none, in_all}

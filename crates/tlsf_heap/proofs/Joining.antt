@@ -1,10 +1,9 @@
 -- A block that becomes one with its free neighbours.
 use Rattle.std.proofs.Common.{subst, ◌≡◌, ℕ, ◌+◌, ◌-◌, ◌<◌, ◌≤◌, List, [], ◌∷◌, ◌++◌, length, take, drop, refl, sym, ap, ◌∙◌, arith, add-one, append_assoc}
-use Rattle.tlsf_heap.specs.Blocks.{Block, Free, size_of}
+use Rattle.tlsf_heap.specs.Blocks.{Block, Free, size_of, StandsAt}
 use Rattle.tlsf_heap.specs.Lawful.{AreRegions}
 use Rattle.tlsf_heap.specs.GoodFit.{block_at, site_at}
 use Rattle.tlsf_words.specs.Lists.{IsUnlisted}
-use Rattle.tlsf_heap.specs.Regions.{StandsAt}
 use Rattle.tlsf_heap.specs.Calls.{coalesced, first_free, past_free, last_free, before_free}
 use Rattle.tlsf_heap.proofs.Sizes.{Around, around, around_next, block_here, region_around, before_regions, take_around, block_around, drop_around, stands_around, edited, regions_front, regions_back, next_is, next_none, last_is, last_none, last_words}
 

@@ -6,8 +6,7 @@ use Rattle.std.proofs.lemmas.Bool.{and_parts, and_from, eqb-true, eq-eqb}
 use Rattle.std.proofs.lemmas.Bool.Decides.{nat_tests}
 use Rattle.std.proofs.lemmas.List.Sorted.{IsPermutation-sym, Contains-permutation, length_permutation}
 use Rattle.tlsf_class.specs.Classes.{class_of}
-use Rattle.tlsf_heap.specs.Blocks.{Block, Live, Free, size_of, is_free, stamp_of}
-use Rattle.tlsf_heap.specs.Regions.{StandsAt}
+use Rattle.tlsf_heap.specs.Blocks.{Block, Live, Free, size_of, is_free, stamp_of, StandsAt}
 use Rattle.tlsf_heap.specs.GoodFit.{block_at}
 use Rattle.tlsf_heap.specs.FreePlaces.{FreePlace, free_places, of_class, AreFalling, IsFreeList}
 use Rattle.tlsf_heap.proofs.Finding.{not_true}

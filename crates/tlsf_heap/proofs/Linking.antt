@@ -5,16 +5,16 @@ use Rattle.std.specs.List.{AllByRecursion}
 use Rattle.std.proofs.Math.ListN.{get_or-map}
 use Rattle.std.proofs.lemmas.Bool.{false≢true, cases_eq, cases_order}
 use Rattle.tlsf_words.specs.Fields.{tag_word}
-use Rattle.tlsf_words.specs.Memory.{Memory}
+use Rattle.tlsf_heap.specs.Image.{Image, HoldsPayload, StartsOnce, BlockAt, ShowsFrom, Shows}
 use Rattle.tlsf_words.specs.Lists.{ListHeads, nowhere, places_from, list_of, without_place, AreThreaded, IsUnlisted, OnlyLinksChange}
 use Rattle.tlsf_words.proofs.PlaceLists.{member_cases, without_within}
 use Rattle.tlsf_words.proofs.Threads.{kept}
-use Rattle.tlsf_heap.specs.Blocks.{Block, Live, Free, size_of, words_in, is_free}
+use Rattle.tlsf_heap.specs.Blocks.{Block, Live, Free, size_of, words_in, is_free, StandsAt}
 use Rattle.tlsf_heap.specs.GoodFit.{block_at}
-use Rattle.tlsf_heap.specs.Image.{no_place, HoldsPayload, StartsOnce, BlockAt, ShowsFrom, Shows, blocks_of}
+use Rattle.tlsf_heap.specs.Read.{blocks_of}
 use Rattle.tlsf_heap.specs.Lawful.{HasRoom}
 use Rattle.tlsf_heap.specs.Listed.{AreFreeBlocks, lists_of, HoldsLists}
-use Rattle.tlsf_heap.specs.Regions.{RegionState, StandsAt, SameLists, list_in}
+use Rattle.tlsf_heap.specs.Regions.{RegionState, SameLists, list_in}
 use Rattle.tlsf_heap.proofs.Lying.{ends_before}
 use Rattle.tlsf_heap.proofs.Showing.{word_at, least, same_payload, four_here, blocks_of-shown}
 
@@ -26,14 +26,14 @@ unfolding lists_of list_of places_from
 list_in-lists_of heads words class = get_or-map (places_from (suc (length words)) words) heads class nowhere
 
 -- the words of a region hold the blocks and the lists that it shows
-pub record HoldsState (m : Memory) (l : ListHeads) (r : RegionState) : Type 0 where
+pub record HoldsState (m : Image) (l : ListHeads) (r : RegionState) : Type 0 where
   pub shows : Shows m r.blocks
   pub threaded : AreThreaded l.heads l.members m.words
   pub free : AreFreeBlocks (list_of l.heads m.words) r.blocks
   pub lists : (class : ℕ) → list_in r.lists class ≡ list_of l.heads m.words class
 
-pub holds_state : {m : Memory} {l : ListHeads} {r : RegionState} {touches : ℕ} → HoldsLists m l
-    → record { words = length m.words; blocks = blocks_of m.words; lists = lists_of l.heads m.words; touches = touches } ≡ r → HoldsState m l r
+pub holds_state : {m : Image} {l : ListHeads} {r : RegionState} {touches : ℕ} → HoldsLists m l
+    → record { words = length m.words; blocks = blocks_of m.words; lists = lists_of l.heads m.words; stored = m; touches = touches } ≡ r → HoldsState m l r
 holds_state {m = m} {l = l} holds same =
     subst (HoldsState m l) same (record { shows = holds.shows; threaded = holds.threaded; free = holds.free; lists = list_in-lists_of l.heads m.words })
 
@@ -112,7 +112,7 @@ free_only b q e free = subst (IsFreeAt (b ∷ [])) (sym e) (free_first b [] free
 -- ---- blocks in their order
 
 -- of two blocks one ends where the other begins or before, and each has four words
-pub in_order : {m : Memory} {bs : List Block} → Shows m bs → {at i other j : ℕ} → StandsAt bs at i → StandsAt bs other j
+pub in_order : {m : Image} {bs : List Block} → Shows m bs → {at i other j : ℕ} → StandsAt bs at i → StandsAt bs other j
     → (other ≡ at) ⊎ ((other + 4 ≤ at) ⊎ (at + size_of (block_at bs i) ≤ other))
 in_order {m = m} {bs = bs} shows {at = at} {i = i} {other = other} {j = j} here there = elim (cases_order j i) [
   | inl e ↦ inl (sym there.place ∙ ap (λ (k : ℕ). words_in (take k bs)) e ∙ here.place)
@@ -131,11 +131,11 @@ pub differ : (lists : ℕ → List ℕ) {at other : ℕ} → IsUnlisted lists at
 differ lists unlisted listed e = unlisted listed.0 (subst (Contains (lists listed.0)) e listed.1)
 
 -- the words hold the lists, and each class has the list that it had
-pub record Relists (v : Memory) (l : ListHeads) (lists : List (List ℕ)) : Type 0 where
+pub record Relists (v : Image) (l : ListHeads) (lists : List (List ℕ)) : Type 0 where
   pub holds : HoldsLists v l
   pub same : SameLists (list_in (lists_of l.heads v.words)) (list_in lists)
 
-module _ {m : Memory} {l : ListHeads} {r : RegionState} (state : HoldsState m l r) (v : Memory) where
+module _ {m : Image} {l : ListHeads} {r : RegionState} (state : HoldsState m l r) (v : Image) where
   -- lists stay where an edit keeps the links of listed places, and the blocks there free
   pub relisted : Shows v (blocks_of v.words) → length v.words ≡ length m.words
       → ((at : ℕ) → IsListed (list_in r.lists) at → IsFreeAt r.blocks at → (word_at v (at + 2) ≡ word_at m (at + 2)) × IsFreeAt (blocks_of v.words) at)
@@ -169,7 +169,7 @@ payload_linked xs ys at (Live size serial bytes) room same h =
     same_payload xs ys at (Live size serial bytes) room (λ k l g. same k (omega arith) g (λ free. absurd (false≢true free))) h
 payload_linked xs ys at (Free size stamp) room same h = tt
 
-module _ (m v : Memory) (as_long : length v.words ≡ length m.words) (same_starts : v.starts ≡ m.starts) where
+module _ (m v : Image) (as_long : length v.words ≡ length m.words) (same_starts : v.starts ≡ m.starts) where
   block_linked : (at back : ℕ) (b : Block) → HasRoom b → ((k : ℕ) → at ≤ k → k < at + size_of b → (is_free b ≡ true → k ≢ at + 2) → word_at v k ≡ word_at m k)
       → BlockAt m at back b → BlockAt v at back b
   block_linked at back b room same h =
@@ -199,7 +199,7 @@ module _ (m v : Memory) (as_long : length v.words ≡ length m.words) (same_star
   -- the links of free blocks may change
   pub shows_linked : (bs : List Block) → Shows m bs → ((k : ℕ) → ((at : ℕ) → IsFreeAt bs at → k ≢ at + 2) → word_at v k ≡ word_at m k) → Shows v bs
   shows_linked bs shows same = record {
-    shown = from_linked 0 no_place bs shows.rooms (λ k low high apart. same k (λ at free e. apart at (omega (arith, e)) free)) shows.shown;
+    shown = from_linked 0 nowhere bs shows.rooms (λ k low high apart. same k (λ at free e. apart at (omega (arith, e)) free)) shows.shown;
     whole = shows.whole ∙ sym as_long;
     mapped = ap length same_starts ∙ shows.mapped ∙ sym as_long;
     rooms = shows.rooms;
@@ -207,11 +207,11 @@ module _ (m v : Memory) (as_long : length v.words ≡ length m.words) (same_star
   }
 
 -- where only links of listed places change, the blocks stay
-pub record Relinks (v : Memory) (l : ListHeads) (blocks : List Block) : Type 0 where
+pub record Relinks (v : Image) (l : ListHeads) (blocks : List Block) : Type 0 where
   pub holds : HoldsLists v l
   pub same : blocks_of v.words ≡ blocks
 
-pub relinked : {m v : Memory} {l new : ListHeads} {r : RegionState} → HoldsState m l r → AreThreaded new.heads new.members v.words → AreFreeBlocks (list_of new.heads v.words) r.blocks
+pub relinked : {m v : Image} {l new : ListHeads} {r : RegionState} → HoldsState m l r → AreThreaded new.heads new.members v.words → AreFreeBlocks (list_of new.heads v.words) r.blocks
     → OnlyLinksChange (list_of new.heads v.words) m.words v.words → length v.words ≡ length m.words → v.starts ≡ m.starts → Relinks v new r.blocks
 relinked {m = m} {v = v} {l = l} {new = new} {r = r} state threaded free links as_long starts =
     let shown = shows_linked m v as_long starts r.blocks state.shows (λ k apart. links k (λ class at c. apart at (free class at c))) in
@@ -227,7 +227,7 @@ relinked {m = m} {v = v} {l = l} {new = new} {r = r} state threaded free links a
 
 -- ---- one more place, and one less
 
-module _ {m : Memory} {l : ListHeads} {r : RegionState} (state : HoldsState m l r) (v : Memory) (new : ListHeads) (class at : ℕ)
+module _ {m : Image} {l : ListHeads} {r : RegionState} (state : HoldsState m l r) (v : Image) (new : ListHeads) (class at : ℕ)
     (others : (other : ℕ) → other ≢ class → list_of new.heads v.words other ≡ list_of l.heads m.words other) where
   -- what is in the list of a class, where that of another class is what it was
   free_there : (other place : ℕ) → ((Contains (list_of new.heads v.words class) place) → IsFreeAt r.blocks place) → Contains (list_of new.heads v.words other) place → IsFreeAt r.blocks place

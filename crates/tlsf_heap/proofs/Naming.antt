@@ -1,15 +1,18 @@
 -- What a call on a name comes to, by the index of the block that it names.
-use Rattle.std.proofs.Common.{◌≡◌, ℕ, ◌<◌, Bool, true, false, cond, eqb, List, length, Option, Some, None, refl, sym, ap, ◌∙◌, subst, arith, eq-eqb}
+use Rattle.std.proofs.Common.{◌≡◌, ℕ, ◌+◌, ◌<◌, Bool, true, false, cond, eqb, List, length, Option, Some, None, refl, sym, ap, ◌∙◌, subst, arith, eq-eqb}
 use Rattle.std.proofs.lemmas.Bool.{eqb-true, false≢true}
-use Rattle.tlsf_heap.specs.Blocks.{Block, Live, Free, HeapState, is_free}
+use Rattle.tlsf_heap.specs.Blocks.{Block, Live, Free, HeapState, is_free, StandsAt}
+use Rattle.tlsf_heap.specs.Lawful.{IsLawful}
 use Rattle.tlsf_heap.specs.GoodFit.{Site, sites, block_at, site_at}
 use Rattle.tlsf_heap.specs.Calls.{is_named, has_serial, named}
-use Rattle.tlsf_heap.specs.Regions.{StandsAt}
 use Rattle.tlsf_heap.specs.Named.{NoneNamed, IsFirst, IsNamed, RefusesName}
 use Rattle.tlsf_heap.specs.declared.name.Name.{Name}
 use Rattle.tlsf_heap.specs.declared.refusal.Refusal.{Refusal}
 use Rattle.tlsf_heap.specs.declared.refusal.Refusal.TheVariants.{NoFit, Worn, Foreign, Stale, Range}
 use Rattle.tlsf_heap.proofs.Finding.{and_left, and_right, not_true, find_at, find_none}
+use Rattle.tlsf_heap.proofs.Edits.{words_in-take}
+use Rattle.tlsf_heap.proofs.Granting.{four_words}
+use Rattle.tlsf_heap.proofs.Standing.{words_up_to}
 use Rattle.tlsf_heap.proofs.Sites.{nowhere, length-sites, get_or-sites}
 
 named_none : (name : Name) (bs : List Block) → NoneNamed name.at name.serial bs → named name bs ≡ None
@@ -55,3 +58,9 @@ named_live at serial bs i first = live_if_serial serial (block_at bs i) (and_lef
 -- also in a heap that is the same
 pub named_same : (h k : HeapState) (name : Name) → h ≡ k → IsNamed k name → IsNamed h name
 named_same h k name same named = subst (λ (s : HeapState). IsNamed s name) (sym same) named
+
+-- its place is one of the region
+pub named_inside : (h : HeapState) (name : Name) → IsLawful h → (i : ℕ) → IsFirst name.at name.serial h.blocks i → name.at < h.words
+named_inside h name lawful i first =
+    let stands = named_stands name.at name.serial h.blocks i first in
+    omega (arith, words_up_to stands, words_in-take h.blocks (i + 1), four_words h.blocks lawful.rooms i stands.within, lawful.whole)

@@ -4,15 +4,13 @@ use Rattle.std.proofs.lemmas.Bool.{false≢true, cases_lt}
 use Rattle.std.proofs.lemmas.List.{places}
 use Rattle.std.proofs.lemmas.List.FromFn.{length-map-range_with_len, get_or-map-range_with_len}
 use Rattle.tlsf_words.specs.Bytes.{byte_in, bytes_in, payload_byte}
-use Rattle.tlsf_words.specs.Memory.{Memory}
+use Rattle.tlsf_heap.specs.Image.{Image, mark_of, HoldsPayload, Shows}
 use Rattle.tlsf_words.specs.Fields.{tag_word, size_in, last_in, back_in, length_word, low_half}
 use Rattle.tlsf_words.proofs.FieldLaws.{tag_word-fields, low_half-length_word}
-use Rattle.tlsf_heap.specs.Blocks.{Block, Live, Free, size_of, is_free, bytes_of}
+use Rattle.tlsf_heap.specs.Blocks.{Block, Live, Free, size_of, is_free, bytes_of, StandsAt}
 use Rattle.tlsf_heap.specs.Calls.{overwritten, with_bytes}
 use Rattle.tlsf_heap.specs.GoodFit.{block_at}
-use Rattle.tlsf_heap.specs.Image.{mark_of, HoldsPayload, Shows}
 use Rattle.tlsf_heap.specs.Lawful.{HasRoom}
-use Rattle.tlsf_heap.specs.Regions.{StandsAt}
 use Rattle.tlsf_heap.proofs.Showing.{word_at, shown_here, room_here}
 use Rattle.tlsf_heap.proofs.Reading.{at_index, says_here}
 use Rattle.tlsf_heap.proofs.Edited.{Leaves, leaves, one_changed}
@@ -95,7 +93,7 @@ pub held_within : (b : Block) → HasRoom b → 24 + length (bytes_of b) ≤ 8 *
 held_within (Live size serial bytes) room = omega (arith, room.1)
 held_within (Free size stamp) room = omega arith
 
-module _ {m : Memory} {bs : List Block} (shows : Shows m bs) {at i : ℕ} (stands : StandsAt bs at i) where
+module _ {m : Image} {bs : List Block} (shows : Shows m bs) {at i : ℕ} (stands : StandsAt bs at i) where
   pub payload_inside : 8 * (at + 3) + length (bytes_of (block_at bs i)) ≤ 8 * length m.words
   payload_inside = omega (arith, held_within (block_at bs i) (room_here m bs shows at i stands), (says_here shows stands).ends)
 
@@ -137,7 +135,7 @@ holds-with_bytes xs ys at (Live size serial old) bytes same word held h = (word 
 holds-with_bytes xs ys at (Free size stamp) bytes same word held h = tt
 
 -- some payload bytes of a block become others
-pub rewritten : {m v : Memory} {bs : List Block} {at : ℕ} (offset : ℕ) {new : List ℕ} → Shows m bs
+pub rewritten : {m v : Image} {bs : List Block} {at : ℕ} (offset : ℕ) {new : List ℕ} → Shows m bs
     → (i : ℕ) × StandsAt bs at i × (offset + length new ≤ length (bytes_of (block_at bs i)))
     → bytes_in v.words (payload_byte at offset) (length new) ≡ new
     → ((k : ℕ) → k < payload_byte at offset → byte_in v.words k ≡ byte_in m.words k)

@@ -3,17 +3,17 @@ use Rattle.std.proofs.Common.{◌≡◌, ℕ, zero, suc, ◌+◌, ◌^◌, ◌<�
 use Rattle.std.specs.Prelude.{◌==◌}
 use Rattle.std.proofs.lemmas.List.{drop_more, drop_all, take_all}
 use Rattle.std.proofs.lemmas.Bool.{false≢true, cases_lt, eq-eqb, eqb-true}
-use Rattle.tlsf_words.specs.Memory.{Memory}
+use Rattle.tlsf_heap.specs.Image.{Image, mark_of, StartsOnce, Shows}
 use Rattle.tlsf_words.specs.Fields.{size_in, last_in, free_in, back_in}
 use Rattle.tlsf_words.proofs.FieldLaws.{size_in-tag_word, last_in-tag_word, free_in-tag_word, back_in-tag_word}
-use Rattle.tlsf_heap.specs.Blocks.{Block, Live, Free, size_of, words_in, is_free}
+use Rattle.tlsf_heap.specs.Blocks.{Block, Live, Free, size_of, words_in, is_free, StandsAt, IsPlace}
 use Rattle.tlsf_heap.specs.GoodFit.{block_at, site_at}
 use Rattle.tlsf_heap.specs.Calls.{first_free, last_free, has_serial, is_named}
-use Rattle.tlsf_heap.specs.Image.{no_place, mark_of, StartsOnce, Shows, blocks_of}
-use Rattle.tlsf_words.specs.Lists.{ListHeads, list_of, AreThreaded}
+use Rattle.tlsf_words.specs.Lists.{nowhere, ListHeads, list_of, AreThreaded}
+use Rattle.tlsf_heap.specs.Read.{blocks_of}
 use Rattle.tlsf_heap.specs.Listed.{AreFreeBlocks, lists_of, HoldsLists}
 use Rattle.tlsf_heap.specs.Named.{NoneNamed, IsNameTest}
-use Rattle.tlsf_heap.specs.Regions.{RegionState, StandsAt, IsPlace}
+use Rattle.tlsf_heap.specs.Regions.{RegionState}
 use Rattle.tlsf_heap.proofs.Edits.{first_is_last}
 use Rattle.tlsf_heap.proofs.Finding.{not_true, and_left, and_right}
 use Rattle.tlsf_heap.proofs.Showing.{word_at, start_at, back_behind, shown_here, four_here, ends_here, stands_once, place_of_start}
@@ -21,12 +21,12 @@ use Rattle.tlsf_heap.proofs.Linking.{shows_linked}
 use Rattle.tlsf_heap.proofs.Standing.{words_up_to, stands_next, back_next}
 
 -- the words of a region show its blocks
-pub shows_state : {m : Memory} {l : ListHeads} {r : RegionState} {touches : ℕ} → HoldsLists m l
-    → record { words = length m.words; blocks = blocks_of m.words; lists = lists_of l.heads m.words; touches = touches } ≡ r → Shows m r.blocks
+pub shows_state : {m : Image} {l : ListHeads} {r : RegionState} {touches : ℕ} → HoldsLists m l
+    → record { words = length m.words; blocks = blocks_of m.words; lists = lists_of l.heads m.words; stored = m; touches = touches } ≡ r → Shows m r.blocks
 shows_state {m = m} holds same = subst (Shows m) (ap (λ (s : RegionState). s.blocks) same) holds.shows
 
 -- words that were only read hold what they held, at any number of touches
-pub holds_read : {m v : Memory} {l : ListHeads} → v.words ≡ m.words → v.starts ≡ m.starts → HoldsLists m l → HoldsLists v l
+pub holds_read : {m v : Image} {l : ListHeads} → v.words ≡ m.words → v.starts ≡ m.starts → HoldsLists m l → HoldsLists v l
 holds_read {m = m} {v = v} {l = l} words starts h = record {
   shows = subst (λ (w : List ℕ). Shows v (blocks_of w)) (sym words)
       (shows_linked m v (ap length words) starts (blocks_of m.words) h.shows (λ k apart. ap (λ (w : List ℕ). get_or w k 0) words));
@@ -35,7 +35,7 @@ holds_read {m = m} {v = v} {l = l} words starts h = record {
 }
 
 -- lists that were only read hold what they held, at any number of touches
-pub lists_read : {m : Memory} {l k : ListHeads} → k.heads ≡ l.heads → k.members ≡ l.members → HoldsLists m l → HoldsLists m k
+pub lists_read : {m : Image} {l k : ListHeads} → k.heads ≡ l.heads → k.members ≡ l.members → HoldsLists m l → HoldsLists m k
 lists_read {m = m} {l = l} {k = k} heads members h = record {
   shows = h.shows;
   threaded = subst (λ (xs : List ℕ). AreThreaded k.heads xs m.words) (sym members) (subst (λ (xs : List ℕ). AreThreaded xs l.members m.words) (sym heads) h.threaded);
@@ -43,7 +43,7 @@ lists_read {m = m} {l = l} {k = k} heads members h = record {
 }
 
 -- what the words say of a block at a place
-pub record Says (m : Memory) (at back : ℕ) (b : Block) : Type 0 where
+pub record Says (m : Image) (at back : ℕ) (b : Block) : Type 0 where
   pub least : 4 ≤ size_of b
   pub ends : at + size_of b ≤ length m.words
   pub size : size_in (word_at m at) ≡ size_of b
@@ -72,9 +72,9 @@ pub record FreeSize (words : List ℕ) (at n : ℕ) : Type 0 where
   pub live : at < length words → free_in (get_or words at 0) ≡ false → n ≡ 0
   pub outside : length words ≤ at → n ≡ 0
 
-module _ {m : Memory} {bs : List Block} (shows : Shows m bs) where
+module _ {m : Image} {bs : List Block} (shows : Shows m bs) where
   module _ {at i : ℕ} (stands : StandsAt bs at i) where
-    pub says_here : Says m at (back_behind 0 no_place (take i bs)) (block_at bs i)
+    pub says_here : Says m at (back_behind 0 nowhere (take i bs)) (block_at bs i)
     says_here =
         let shown = shown_here m bs shows at i stands in
         let ends = ends_here m bs shows at i stands in
@@ -121,13 +121,13 @@ module _ {m : Memory} {bs : List Block} (shows : Shows m bs) where
   ]
 
   -- the free size at the place before a block is what the list before it ends with
-  pub free_before_it : {at i n : ℕ} → StandsAt bs at i → FreeSize m.words (back_behind 0 no_place (take i bs)) n → n ≡ last_free (take i bs)
+  pub free_before_it : {at i n : ℕ} → StandsAt bs at i → FreeSize m.words (back_behind 0 nowhere (take i bs)) n → n ≡ last_free (take i bs)
   free_before_it {i = zero} stands answer = answer.outside (omega (arith, shows.small))
   free_before_it {i = suc j} {n = n} stands answer =
       let more : j + 1 ≡ suc j = omega arith in
       let within : j < length bs = omega (arith, stands.within) in
       let before : StandsAt bs (words_in (take j bs)) j = record { within = within; place = refl } in
-      let place : back_behind 0 no_place (take (suc j) bs) ≡ words_in (take j bs) = ap (λ (k : ℕ). back_behind 0 no_place (take k bs)) (sym more) ∙ back_next before in
+      let place : back_behind 0 nowhere (take (suc j) bs) ≡ words_in (take j bs) = ap (λ (k : ℕ). back_behind 0 nowhere (take k bs)) (sym more) ∙ back_next before in
       free_here before (subst (λ (k : ℕ). FreeSize m.words k n) place answer) ∙ first_is_last bs j (suc j) more within
 
   -- no block is named where none that begins there has the serial

@@ -1,14 +1,13 @@
 -- What each edit of a block leaves of the free lists of a region.
 use Rattle.std.proofs.Common.{◌≡◌, ◌≢◌, ℕ, ◌+◌, ◌-◌, ◌*◌, ◌<◌, ◌≤◌, ◌⊎◌, inl, inr, true, List, [], ◌∷◌, ◌++◌, length, take, drop, refl, ◌∙◌, arith}
-use Rattle.tlsf_words.specs.Memory.{Memory}
+use Rattle.tlsf_heap.specs.Image.{Image, mark_of}
 use Rattle.tlsf_words.specs.Bytes.{payload_byte}
 use Rattle.tlsf_words.specs.Lists.{ListHeads, IsUnlisted}
-use Rattle.tlsf_heap.specs.Blocks.{Block, Free, size_of, is_free, bytes_of}
+use Rattle.tlsf_heap.specs.Blocks.{Block, Free, size_of, is_free, bytes_of, StandsAt, IsPlace}
 use Rattle.tlsf_heap.specs.GoodFit.{block_at}
 use Rattle.tlsf_heap.specs.Calls.{with_bytes}
 use Rattle.tlsf_heap.specs.Headers.{end_in}
-use Rattle.tlsf_heap.specs.Image.{mark_of}
-use Rattle.tlsf_heap.specs.Regions.{RegionState, StandsAt, IsPlace, list_in}
+use Rattle.tlsf_heap.specs.Regions.{RegionState, list_in}
 use Rattle.tlsf_heap.proofs.Showing.{word_at, room_here}
 use Rattle.tlsf_heap.proofs.Standing.{around, around_two, stands_next}
 use Rattle.tlsf_heap.proofs.Reading.{says_here}
@@ -18,7 +17,7 @@ use Rattle.tlsf_heap.proofs.Splitting.{Splits}
 use Rattle.tlsf_heap.proofs.Merging.{Merges, say_two}
 use Rattle.tlsf_heap.proofs.Linking.{HoldsState, IsListed, Relists, relisted, free_edited, only_first, first_or_second, free_only, in_order, differ}
 
-module _ {m v : Memory} {l : ListHeads} {r : RegionState} (state : HoldsState m l r) {at : ℕ} where
+module _ {m v : Image} {l : ListHeads} {r : RegionState} (state : HoldsState m l r) {at : ℕ} where
   -- one block becomes another of its size, which is free where that was and is listed
   one_relisted : {i : ℕ} → StandsAt r.blocks at i → (new : ℕ → Block) → Leaves v r.blocks at (λ i. take i r.blocks ++ (new i ∷ []) ++ drop (i + 1) r.blocks)
       → length v.words ≡ length m.words → size_of (new i) ≡ size_of (block_at r.blocks i)

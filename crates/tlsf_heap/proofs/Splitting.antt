@@ -2,29 +2,28 @@
 use Rattle.std.proofs.Common.{◌≡◌, ℕ, ◌+◌, ◌-◌, ◌≤◌, Bool, true, false, eqb, List, [], ◌∷◌, ◌++◌, length, take, drop, get_or, ap, ◌∙◌, arith}
 use Rattle.std.proofs.lemmas.Bool.{ne_eqb}
 use Rattle.std.proofs.lemmas.List.{get_or-set_same}
-use Rattle.tlsf_words.specs.Memory.{Memory}
+use Rattle.tlsf_heap.specs.Image.{Image, mark_of, BlockAt, Shows}
 use Rattle.tlsf_words.specs.Fields.{tag_word, size_in, last_in, back_in}
-use Rattle.tlsf_heap.specs.Blocks.{Block, Free, size_of}
+use Rattle.tlsf_heap.specs.Blocks.{Block, Free, size_of, StandsAt}
 use Rattle.tlsf_heap.specs.GoodFit.{block_at}
 use Rattle.tlsf_heap.specs.Headers.{end_in}
-use Rattle.tlsf_heap.specs.Image.{no_place, mark_of, BlockAt, Shows}
-use Rattle.tlsf_heap.specs.Regions.{StandsAt}
+use Rattle.tlsf_words.specs.Lists.{nowhere}
 use Rattle.tlsf_heap.proofs.Showing.{word_at, back_behind}
 use Rattle.tlsf_heap.proofs.Standing.{around}
 use Rattle.tlsf_heap.proofs.Reading.{says_here}
 use Rattle.tlsf_heap.proofs.Edited.{Keeps, ReadsAs, Leaves, other_start, edited, leaves}
 
 -- what a split of the block at a place leaves
-pub record Splits (m v : Memory) (at size stamp : ℕ) : Type 0 where
+pub record Splits (m v : Image) (at size stamp : ℕ) : Type 0 where
   pub front : word_at v at ≡ tag_word size false true (back_in (word_at m at))
   pub front_mark : word_at v (at + 1) ≡ word_at m (at + 1)
   pub rest : word_at v (at + size) ≡ tag_word (size_in (word_at m at) - size) (last_in (word_at m at)) true at
   pub rest_mark : word_at v (at + size + 1) ≡ stamp
   pub keeps : Keeps m v at (end_in m.words at) (at + size) (at + size) true
 
-module _ {m v : Memory} {bs : List Block} (shows : Shows m bs) {at size stamp : ℕ} (least : 4 ≤ size) (splits : Splits m v at size stamp) where
+module _ {m v : Image} {bs : List Block} (shows : Shows m bs) {at size stamp : ℕ} (least : 4 ≤ size) (splits : Splits m v at size stamp) where
   module _ {i : ℕ} (stands : StandsAt bs at i) (rest : size + 4 ≤ size_of (block_at bs i)) where
-    front_shown : BlockAt v at (back_behind 0 no_place (take i bs)) (Free size (mark_of (block_at bs i)))
+    front_shown : BlockAt v at (back_behind 0 nowhere (take i bs)) (Free size (mark_of (block_at bs i)))
     front_shown =
         let says = says_here shows stands in
         let inner : eqb (at + size) (length v.words) ≡ false = ne_eqb (at + size) (length v.words) (λ h. omega (arith, splits.keeps.length)) in

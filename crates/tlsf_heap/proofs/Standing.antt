@@ -1,10 +1,9 @@
 -- Blocks where they stand in a list: the one behind, where it begins, and the list around them.
 use Rattle.std.proofs.Common.{◌≡◌, ℕ, ◌+◌, ◌<◌, List, [], ◌∷◌, ◌++◌, length, take, drop, sym, ap, ◌∙◌, arith, append_assoc, add_assoc, add-zero, zero-add}
 use Rattle.std.proofs.lemmas.List.{take_more, drop_more}
-use Rattle.tlsf_heap.specs.Blocks.{Block, Free, size_of, words_in}
+use Rattle.tlsf_heap.specs.Blocks.{Block, Free, size_of, words_in, StandsAt}
 use Rattle.tlsf_heap.specs.GoodFit.{block_at}
-use Rattle.tlsf_heap.specs.Image.{no_place}
-use Rattle.tlsf_heap.specs.Regions.{StandsAt}
+use Rattle.tlsf_words.specs.Lists.{nowhere}
 use Rattle.tlsf_heap.proofs.Lawfulness.{words_in-append}
 use Rattle.tlsf_heap.proofs.Showing.{back_behind, parted}
 
@@ -36,6 +35,6 @@ module _ {bs : List Block} {at i : ℕ} (stands : StandsAt bs at i) where
   stands_next more = record { within = more; place = words_up_to }
 
   -- and has it before
-  pub back_next : back_behind 0 no_place (take (i + 1) bs) ≡ at
+  pub back_next : back_behind 0 nowhere (take (i + 1) bs) ≡ at
   back_next =
-      ap (back_behind 0 no_place) (take_more bs i (Free 0 0) stands.within) ∙ back_behind-last 0 no_place (take i bs) (block_at bs i) ∙ zero-add (words_in (take i bs)) ∙ stands.place
+      ap (back_behind 0 nowhere) (take_more bs i (Free 0 0) stands.within) ∙ back_behind-last 0 nowhere (take i bs) (block_at bs i) ∙ zero-add (words_in (take i bs)) ∙ stands.place

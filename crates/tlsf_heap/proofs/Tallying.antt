@@ -3,11 +3,10 @@ use Rattle.std.proofs.Common.{◌≡◌, ℕ, ◌+◌, ◌*◌, ◌<◌, ◌≤�
 use Rattle.std.specs.List.{AllByRecursion}
 use Rattle.std.proofs.lemmas.List.{take_more, take_all}
 use Rattle.std.proofs.lemmas.Bool.{false≢true, cases_lt}
-use Rattle.tlsf_heap.specs.Blocks.{Block, Live, Free, size_of, words_in, is_free, bytes_of}
+use Rattle.tlsf_heap.specs.Blocks.{Block, Live, Free, size_of, words_in, is_free, bytes_of, StandsAt}
 use Rattle.tlsf_heap.specs.Lawful.{HasRoom}
 use Rattle.tlsf_heap.specs.GoodFit.{block_at}
 use Rattle.tlsf_heap.specs.Image.{mark_of}
-use Rattle.tlsf_heap.specs.Regions.{StandsAt}
 use Rattle.tlsf_heap.specs.Reports.{live_among, free_among, payload_in}
 use Rattle.tlsf_heap.specs.Tallies.{tally_of, IsTallyUpTo}
 use Rattle.tlsf_heap.specs.declared.tally.Tally.{Tally}

@@ -3,13 +3,13 @@ use Rattle.std.proofs.Common.{◌≡◌, ℕ, suc, ◌+◌, ◌<◌, ◌≤◌, 
 use Rattle.std.specs.Result.{result_unwrap_or}
 use Rattle.std.proofs.lemmas.Bool.{eqb-true}
 use Rattle.std.proofs.lemmas.Bool.Decides.{nat_tests}
-use Rattle.tlsf_heap.specs.Blocks.{Block, Live, Free, HeapState, bytes_of, words_in, serials, stamps}
+use Rattle.tlsf_heap.specs.Blocks.{Block, Live, Free, HeapState, bytes_of, words_in, serials, stamps, StandsAt}
 use Rattle.tlsf_heap.specs.Lawful.{IsLawful, HasRoom, AreApart, AreDistinct}
 use Rattle.std.specs.List.{AllByRecursion}
 use Rattle.tlsf_heap.specs.GoodFit.{Site, block_at}
 use Rattle.tlsf_heap.specs.Calls.{Outcome, refused, named, has_bytes, overwritten, with_bytes, with_blocks, written, written_at, read_of, read_at, read_answer}
 use Rattle.tlsf_heap.specs.FreePlaces.{free_places}
-use Rattle.tlsf_heap.specs.Regions.{RegionState, StandsAt}
+use Rattle.tlsf_heap.specs.Regions.{RegionState}
 use Rattle.tlsf_heap.specs.Named.{IsFirst, IsNamed, RefusesName}
 use Rattle.tlsf_heap.specs.declared.name.Name.{Name}
 use Rattle.tlsf_heap.specs.declared.refusal.Refusal.{Refusal}

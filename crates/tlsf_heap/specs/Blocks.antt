@@ -1,5 +1,5 @@
 -- A heap as its blocks, in the order of their places. Sizes are in words of 64 bits.
-use Rattle.std.specs.Prelude.{ℕ, ◌+◌, ◌-◌, ◌/◌, List, [], ◌∷◌, Bool, true, false, max}
+use Rattle.std.specs.Prelude.{◌≡◌, ℕ, ◌+◌, ◌-◌, ◌/◌, ◌<◌, List, [], ◌∷◌, Bool, true, false, length, max, take}
 
 -- a block: its size, then the serial and the payload bytes of a live one, or the stamp of a free one
 pub data Block : Type 0 where
@@ -12,11 +12,6 @@ pub record HeapState : Type 0 where
   pub words : ℕ
   pub tick : ℕ
   pub blocks : List Block
-
--- what a heap shows: the sequential heap, and its touches: reads and writes of a stored word, a start bit, a head of a list or a word of the bitmaps
-pub record Shown : Type 0 where
-  pub heap : HeapState
-  pub touches : ℕ
 
 abbrev pub size_of : Block → ℕ
 size_of (Live size serial bytes) = size
@@ -34,6 +29,15 @@ words_in (block ∷ blocks) = size_of block + words_in blocks
 abbrev pub is_free : Block → Bool
 is_free (Live size serial bytes) = false
 is_free (Free size stamp) = true
+
+-- block i begins at this place
+pub record StandsAt (blocks : List Block) (at i : ℕ) : Type 0 where
+  pub within : i < length blocks
+  pub place : words_in (take i blocks) ≡ at
+
+-- a block begins at this place
+abbrev pub IsPlace : List Block → ℕ → Type 0
+IsPlace blocks at = (i : ℕ) × StandsAt blocks at i
 
 -- the tick at which a free block became free
 abbrev pub stamp_of : Block → ℕ

@@ -2,8 +2,7 @@
 use Rattle.std.specs.Prelude.{◌≡◌, ℕ, suc, ◌<◌, List, [], ◌∷◌, ◌++◌, Option, Bool, true, false, ◌&&◌, ◌||◌, ◌==◌, nat_lt, nat_le, length, filter, find, MatchOption, slice_index_or, take, drop}
 use Rattle.std.specs.List.{list_all}
 use Rattle.tlsf_class.specs.Classes.{class_of, serves}
-use Rattle.tlsf_heap.specs.Blocks.{Block, Free, size_of, words_in, is_free, stamp_of}
-use Rattle.tlsf_heap.specs.Regions.{StandsAt}
+use Rattle.tlsf_heap.specs.Blocks.{Block, Free, size_of, words_in, is_free, stamp_of, StandsAt}
 
 -- a block where it stands: the blocks before it, the block, and those after it
 pub record Site : Type 0 where
@@ -47,17 +46,3 @@ block_at blocks i = slice_index_or blocks i (Free 0 0)
 -- the block at index i where it stands
 abbrev pub site_at : List Block → ℕ → Site
 site_at blocks i = record { before = take i blocks; block = block_at blocks i; after = drop (suc i) blocks }
-
--- no block may serve a request of n words
-abbrev pub NoneFits : ℕ → List Block → Type 0
-NoneFits n blocks = (i : ℕ) → i < length blocks → is_fit n (block_at blocks i) ≡ false
-
--- the block at i may serve the request, and no other that may is better
-pub record IsChoice (n : ℕ) (blocks : List Block) (i : ℕ) : Type 0 where
-  pub within : i < length blocks
-  pub fit : is_fit n (block_at blocks i) ≡ true
-  pub best : (j : ℕ) → j < length blocks → is_fit n (block_at blocks j) ≡ true → is_as_good (block_at blocks i) (block_at blocks j) ≡ true
-
--- what a search for the place of the block that serves the request answers
-abbrev pub IsBestAt : ℕ → List Block → Option ℕ → Type 0
-IsBestAt n blocks found = MatchOption found (NoneFits n blocks) (λ at. (i : ℕ) × StandsAt blocks at i × IsChoice n blocks i)

@@ -2,10 +2,13 @@ pub use Rattle.tlsf_class.specs.Classes
 pub mod Blocks
 pub mod Lawful
 pub mod GoodFit
+pub mod Chosen
 pub mod Calls
 pub mod Given
 pub mod Headers
 pub mod Image
+pub mod Shown
+pub mod Read
 pub mod Regions
 pub mod Listed
 pub mod FreePlaces

@@ -1,22 +1,16 @@
--- A region as its blocks, a block of it by its place, and the lists of its free blocks.
-use Rattle.std.specs.Prelude.{◌≡◌, ℕ, ◌<◌, List, [], length, slice_index_or, take}
-use Rattle.tlsf_heap.specs.Blocks.{Block, words_in}
+-- A region as its blocks and the lists of its free blocks.
+use Rattle.std.specs.Prelude.{◌≡◌, ℕ, ◌+◌, ◌≤◌, List, [], slice_index_or}
+use Rattle.tlsf_words.specs.Memory.{Memory}
+use Rattle.tlsf_heap.specs.Blocks.{Block}
+use Rattle.tlsf_heap.specs.Image.{Image, Shows}
 
--- what a region shows: how many words it has, its blocks, for each class the places in its free list, from the head, and its touches
+-- what a region shows: how many words it has, its blocks, for each class the places in its free list, from the head, what is stored in it, and its touches
 pub record RegionState : Type 0 where
   pub words : ℕ
   pub blocks : List Block
   pub lists : List (List ℕ)
+  pub stored : Image
   pub touches : ℕ
-
--- block i begins at this place
-pub record StandsAt (blocks : List Block) (at i : ℕ) : Type 0 where
-  pub within : i < length blocks
-  pub place : words_in (take i blocks) ≡ at
-
--- a block begins at this place
-abbrev pub IsPlace : List Block → ℕ → Type 0
-IsPlace blocks at = (i : ℕ) × StandsAt blocks at i
 
 -- of the lists of all classes, that of one
 abbrev pub list_in : List (List ℕ) → ℕ → List ℕ
@@ -25,3 +19,23 @@ list_in lists class = slice_index_or lists class []
 -- each class has the same list
 abbrev pub SameLists : (ℕ → List ℕ) → (ℕ → List ℕ) → Type 0
 SameLists new old = (class : ℕ) → new class ≡ old class
+
+-- what is stored in the words of a region, without their touches
+abbrev pub image_of : Memory → Image
+image_of m = record { words = m.words; starts = m.starts }
+
+-- nothing changes but the touches, which rise by `most` at most
+pub record OnlyReads (old new : RegionState) (most : ℕ) : Type 0 where
+  pub words : new.words ≡ old.words
+  pub blocks : new.blocks ≡ old.blocks
+  pub lists : new.lists ≡ old.lists
+  pub stored : new.stored ≡ old.stored
+  pub touches : new.touches ≤ old.touches + most
+  pub rise : old.touches ≤ new.touches
+
+-- the words show the blocks, are as many as they were, and the touches rise by `most` at most
+pub record Edits (old new : RegionState) (most : ℕ) : Type 0 where
+  pub words : new.words ≡ old.words
+  pub shows : Shows new.stored new.blocks
+  pub touches : new.touches ≤ old.touches + most
+  pub rise : old.touches ≤ new.touches

@@ -1,14 +1,15 @@
 //! Good fit, splitting and coalescing over a region and the lists of its free blocks. Sizes and places are in words.
 ghost use Rattle.std.specs.Prelude.{◌≡◌, ◌≢◌, ℕ, ◌+◌, ◌-◌, ◌<◌, ◌≤◌, ◌^◌, ◌++◌, ◌∷◌, true, false, take, drop, Contains};
 ghost use Rattle.std.specs.List.{AllByRecursion};
-ghost use Rattle.tlsf_heap.specs.Blocks.{Free, size_of, words_in, payload_words, is_free, stamps, words_for};
+ghost use Rattle.tlsf_heap.specs.Blocks.{Free, size_of, words_in, payload_words, is_free, stamps, words_for, StandsAt, IsPlace};
 ghost use Rattle.tlsf_class.specs.Classes.{class_of};
 ghost use Rattle.tlsf_heap.specs.Lawful.{IsRegion, AreRegions};
-ghost use Rattle.tlsf_heap.specs.GoodFit.{IsBestAt, block_at, site_at};
+ghost use Rattle.tlsf_heap.specs.GoodFit.{block_at, site_at};
+ghost use Rattle.tlsf_heap.specs.Chosen.{IsBestAt};
 ghost use Rattle.tlsf_heap.specs.Calls.{carved, coalesced, first_free, past_free, last_free};
 ghost use Rattle.tlsf_heap.specs.FreePlaces.{AreFreeLists};
 ghost use Rattle.tlsf_words.specs.Lists.{IsUnlisted, without_place};
-ghost use Rattle.tlsf_heap.specs.Regions.{StandsAt, IsPlace, SameLists, list_in};
+ghost use Rattle.tlsf_heap.specs.Regions.{SameLists, list_in, OnlyReads, Edits};
 
 use crate::region::Region;
 use tlsf_class::{MOST_WORDS, class_of, search_of};
@@ -19,11 +20,7 @@ pub fn choose(region: &mut Region, words: u32) -> Option<u32>
     requires sized { AreRegions region.old.blocks }
     requires listed { AreFreeLists region.old.blocks (list_in region.old.lists) }
     ensures best { IsBestAt words region.old.blocks result }
-    ensures blocks { region.new.blocks ≡ region.old.blocks }
-    ensures words { region.new.words ≡ region.old.words }
-    ensures lists { region.new.lists ≡ region.old.lists }
-    ensures touches { region.new.touches ≤ region.old.touches + 4 }
-    ensures touches_rise { region.old.touches ≤ region.new.touches }
+    ensures reads { OnlyReads region.old region.new 4 }
 {
     if words > MOST_WORDS {
         return None;
@@ -44,10 +41,8 @@ pub fn carve(region: &mut Region, at: u32, words: u32, tick: u64, len: u32)
     requires stamped { AllByRecursion (λ s. s < tick) (stamps region.old.blocks) }
     ensures blocks { (i : ℕ) → StandsAt region.old.blocks at i → region.new.blocks ≡ take i region.old.blocks
         ++ carved (size_of (block_at region.old.blocks i)) words tick len ++ drop (i + 1) region.old.blocks }
-    ensures words { region.new.words ≡ region.old.words }
     ensures listed { AreFreeLists region.new.blocks (list_in region.new.lists) }
-    ensures touches { (i : ℕ) → StandsAt region.old.blocks at i → region.new.touches ≤ region.old.touches + 25 + payload_words (block_at region.new.blocks i) }
-    ensures touches_rise { region.old.touches ≤ region.new.touches }
+    ensures edits { (i : ℕ) → StandsAt region.old.blocks at i → Edits region.old region.new (25 + payload_words (block_at region.new.blocks i)) }
 {
     let size = region.size(at);
     region.remove(class_of(size), at);
@@ -66,10 +61,8 @@ pub fn coalesce(region: &mut Region, at: u32, tick: u64)
     requires listed { AreFreeLists region.old.blocks (list_in region.old.lists) }
     requires stamped { AllByRecursion (λ s. s < tick) (stamps region.old.blocks) }
     ensures blocks { (i : ℕ) → StandsAt region.old.blocks at i → region.new.blocks ≡ coalesced tick (site_at region.old.blocks i) }
-    ensures words { region.new.words ≡ region.old.words }
     ensures listed { AreFreeLists region.new.blocks (list_in region.new.lists) }
-    ensures touches { region.new.touches ≤ region.old.touches + 41 }
-    ensures touches_rise { region.old.touches ≤ region.new.touches }
+    ensures edits { Edits region.old region.new 41 }
 {
     let size = region.size(at);
     let before = region.free_before(at);
@@ -90,7 +83,7 @@ fn forget(region: &mut Region, words: u32, at: u32)
     ensures blocks { region.new.blocks ≡ region.old.blocks }
     ensures words { region.new.words ≡ region.old.words }
     ensures touches { region.new.touches ≤ region.old.touches + 6 }
-    ensures touches_rise { region.old.touches ≤ region.new.touches }
+    ensures rise { region.old.touches ≤ region.new.touches }
 {
     if words > 0 {
         region.remove(class_of(words), at);
@@ -108,10 +101,8 @@ fn join(region: &mut Region, at: u32, before: u32, after: u32, tick: u64)
     requires previous_unlisted { IsUnlisted (list_in region.old.lists) (at - before) }
     requires next_unlisted { 0 < after → (i : ℕ) → StandsAt region.old.blocks at i → IsUnlisted (list_in region.old.lists) (at + size_of (block_at region.old.blocks i)) }
     ensures blocks { (i : ℕ) → StandsAt region.old.blocks at i → region.new.blocks ≡ coalesced tick (site_at region.old.blocks i) }
-    ensures words { region.new.words ≡ region.old.words }
     ensures lists { SameLists (list_in region.new.lists) (list_in region.old.lists) }
-    ensures touches { region.new.touches ≤ region.old.touches + 17 }
-    ensures touches_rise { region.old.touches ≤ region.new.touches }
+    ensures edits { Edits region.old region.new 17 }
 {
     join_next(region, at, after, tick);
     if before > 0 {
@@ -128,10 +119,8 @@ fn join_next(region: &mut Region, at: u32, after: u32, tick: u64)
     requires next_unlisted { 0 < after → (i : ℕ) → StandsAt region.old.blocks at i → IsUnlisted (list_in region.old.lists) (at + size_of (block_at region.old.blocks i)) }
     ensures blocks { (i : ℕ) → StandsAt region.old.blocks at i → region.new.blocks ≡ take i region.old.blocks
         ++ (Free (size_of (block_at region.old.blocks i) + first_free (drop (i + 1) region.old.blocks)) tick ∷ past_free (drop (i + 1) region.old.blocks)) }
-    ensures words { region.new.words ≡ region.old.words }
     ensures lists { SameLists (list_in region.new.lists) (list_in region.old.lists) }
-    ensures touches { region.new.touches ≤ region.old.touches + 10 }
-    ensures touches_rise { region.old.touches ≤ region.new.touches }
+    ensures edits { Edits region.old region.new 10 }
 {
     region.make_free(at, tick);
     if after > 0 {

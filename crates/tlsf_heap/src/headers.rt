@@ -2,12 +2,9 @@
 ghost use Rattle.std.specs.Prelude.{◌≡◌, ◌≢◌, ℕ, ◌+◌, ◌-◌, ◌<◌, ◌≤◌, ◌^◌, true, false, length, slice_index, slice_set};
 ghost use Rattle.tlsf_words.specs.Fields.{tag_word, size_in, last_in, free_in, back_in, length_word};
 ghost use Rattle.tlsf_heap.specs.Headers.{end_in, with_back};
-ghost use Rattle.tlsf_heap.specs.Image.{no_place};
+ghost use Rattle.tlsf_words.specs.Lists.{nowhere};
 
-use tlsf_words::{Tag, Words};
-
-/// What stands for the place of the block before the first.
-const NO_PLACE: u32 = u32::MAX;
+use tlsf_words::{NO_PLACE, Tag, Words};
 
 /// The size of the free block whose header is at a place, or 0 where the region has no such place or the block there is live.
 pub fn free_size(words: &mut Words, at: u32) -> u32
@@ -17,7 +14,7 @@ pub fn free_size(words: &mut Words, at: u32) -> u32
     ensures words { words.new.words ≡ words.old.words }
     ensures starts { words.new.starts ≡ words.old.starts }
     ensures touches { words.new.touches ≤ words.old.touches + 1 }
-    ensures touches_rise { words.old.touches ≤ words.new.touches }
+    ensures rise { words.old.touches ≤ words.new.touches }
 {
     if at >= words.len() {
         return 0;
@@ -34,7 +31,7 @@ fn set_back(words: &mut Words, at: u32, back: u32)
     ensures length { length words.new.words ≡ length words.old.words }
     ensures starts { words.new.starts ≡ words.old.starts }
     ensures touches { words.new.touches ≤ words.old.touches + 2 }
-    ensures touches_rise { words.old.touches ≤ words.new.touches }
+    ensures rise { words.old.touches ≤ words.new.touches }
 {
     if at < words.len() {
         let tag = words.tag(at);
@@ -59,10 +56,11 @@ fn write_free(words: &mut Words, at: u32, tag: Tag, stamp: u64)
 
 /// Writes the header of the one free block of a region.
 pub fn first_header(words: &mut Words, stamp: u64)
-    ensures tag { slice_index words.new.words 0 ≡ tag_word (length words.old.words) true true no_place }
+    ensures tag { slice_index words.new.words 0 ≡ tag_word (length words.old.words) true true nowhere }
     ensures mark { slice_index words.new.words 1 ≡ stamp }
     ensures length { length words.new.words ≡ length words.old.words }
     ensures starts { words.new.starts ≡ slice_set words.old.starts 0 true }
+    ensures touches { words.new.touches ≡ words.old.touches + 3 }
 {
     let tag = Tag {
         size: words.len(),
@@ -128,7 +126,7 @@ pub fn split_header(words: &mut Words, at: u32, size: u32, stamp: u64)
     ensures length { length words.new.words ≡ length words.old.words }
     ensures starts { words.new.starts ≡ slice_set words.old.starts (at + size) true }
     ensures touches { words.new.touches ≤ words.old.touches + 7 }
-    ensures touches_rise { words.old.touches ≤ words.new.touches }
+    ensures rise { words.old.touches ≤ words.new.touches }
 {
     let tag = words.tag(at);
     words.set_tag(
@@ -168,7 +166,7 @@ pub fn merge_headers(words: &mut Words, at: u32, stamp: u64)
     ensures length { length words.new.words ≡ length words.old.words }
     ensures starts { words.new.starts ≡ slice_set words.old.starts (end_in words.old.words at) false }
     ensures touches { words.new.touches ≤ words.old.touches + 7 }
-    ensures touches_rise { words.old.touches ≤ words.new.touches }
+    ensures rise { words.old.touches ≤ words.new.touches }
 {
     let tag = words.tag(at);
     let next = at + tag.size;

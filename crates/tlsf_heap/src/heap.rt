@@ -1,6 +1,8 @@
-ghost use Rattle.std.specs.Prelude.{◌≡◌, ℕ, ◌+◌, ◌*◌, ◌/◌, ◌-◌, ◌≤◌, ◌^◌, ◌↔◌, [], true, length, IfOk, OnOk, OnErr, IsOk, IsErrOf};
+ghost use Rattle.std.specs.Prelude.{◌≡◌, ◌≢◌, ℕ, ◌+◌, ◌*◌, ◌/◌, ◌-◌, ◌<◌, ◌≤◌, ◌^◌, ◌↔◌, [], true, length, IfOk, OnOk, OnErr, IsOk, IsErrOf};
 ghost use Rattle.std.specs.Result.{result_unwrap_or};
 ghost use Rattle.tlsf_heap.specs.Blocks;
+ghost use Rattle.tlsf_heap.specs.Blocks.{IsPlace};
+ghost use Rattle.tlsf_heap.specs.Image.{Shows};
 ghost use Rattle.tlsf_heap.specs.Lawful.{IsLawful, IsRegion};
 ghost use Rattle.tlsf_heap.specs.GoodFit.{fits, block_at};
 ghost use Rattle.tlsf_heap.specs.Named.{IsFirst, IsNameCheck};
@@ -35,13 +37,13 @@ pub struct Heap {
 }
 
 impl Model for Heap {
-    ghost use Rattle.tlsf_heap.specs.Blocks.{Shown};
+    ghost use Rattle.tlsf_heap.specs.Shown.{Shown};
 
     ghost Value = { Shown };
 
     ghost use Rattle.tlsf_heap.specs.Stored.{IsStored, state_of};
 
-    ghost view = { λ h. record { heap = state_of h; touches = h.region.touches } };
+    ghost view = { λ h. record { heap = state_of h; stored = h.region.stored; touches = h.region.touches } };
 
     ghost invariant = { IsStored };
 }
@@ -61,10 +63,14 @@ impl Heap {
     pub fn open(alloc: Global, id: u32, words: u32, first: u64) -> Result<Heap, OpenFault>
         ensures heap { IfOk result (λ heap. heap.heap ≡ opened id words first) }
         ensures lawful { IfOk result (λ heap. IsLawful heap.heap) }
+        ensures shows { IfOk result (λ heap. Shows heap.stored heap.heap.blocks) }
 
         // The refusals, in their order. Memory is refused only where no other refusal comes.
         ensures bad_size { IsErrOf result OpenFault.BadSize ↔ ¬ (IsRegion words) }
         ensures worn { IsRegion words → (IsErrOf result OpenFault.Worn ↔ (first ≡ last_tick)) }
+
+        // Three for the header of the free block and its start bit, and seven at most to list it. The first zeros aren't counted.
+        ensures touches { IfOk result (λ heap. heap.touches ≤ 10) }
     {
         if words < 4 || words > MOST_WORDS {
             return Err(OpenFault::BadSize);
@@ -95,8 +101,10 @@ impl Heap {
         ensures no_fit { IsErrOf result Refusal.NoFit ↔ (fits (Blocks.want len) self.old.heap.blocks ≡ []) }
         ensures ok { IsOk result ↔ (¬ (fits (Blocks.want len) self.old.heap.blocks ≡ []) × ¬ (self.old.heap.tick ≡ last_tick)) }
         ensures err { OnErr result (self.new.heap ≡ self.old.heap) }
+        ensures stored { OnErr result (self.new.stored ≡ self.old.stored) }
         ensures was_lawful { IsLawful self.old.heap }
         ensures lawful { IsLawful self.new.heap }
+        ensures shows { Shows self.new.stored self.new.heap.blocks }
 
         // Accepted or refused, and whatever the region holds: at most 64 touches, and one for each payload word of the block given.
         ensures touches { self.new.touches ≤ self.old.touches + 64 + payload_words_given result self.new.heap }
@@ -130,12 +138,19 @@ impl Heap {
 
         // A refusal changes nothing.
         ensures err { OnErr result (self.new.heap ≡ self.old.heap) }
+        ensures stored { OnErr result (self.new.stored ≡ self.old.stored) }
         ensures was_lawful { IsLawful self.old.heap }
         ensures lawful { IsLawful self.new.heap }
+        ensures shows { Shows self.new.stored self.new.heap.blocks }
 
         // Accepted or refused, and whatever the region holds: at most 64 touches.
         ensures touches { self.new.touches ≤ self.old.touches + 64 }
         ensures touches_rise { self.old.touches ≤ self.new.touches }
+
+        // A forged name is not followed: not even a start bit is read unless the place lies in the region, and no word unless a block begins there.
+        ensures foreign { name.heap ≢ self.old.heap.id → self.new.touches ≡ self.old.touches }
+        ensures outside { self.old.heap.words ≤ name.at → self.new.touches ≡ self.old.touches }
+        ensures nowhere { name.heap ≡ self.old.heap.id → name.at < self.old.heap.words → ¬ (IsPlace self.old.heap.blocks name.at) → self.new.touches ≡ self.old.touches + 1 }
     {
         self.check(name)?;
         if self.tick == u64::MAX {
@@ -156,10 +171,17 @@ impl Heap {
 
         // A refusal changes nothing.
         ensures err { OnErr result (self.new.heap ≡ self.old.heap) }
+        ensures stored { OnErr result (self.new.stored ≡ self.old.stored) }
         ensures was_lawful { IsLawful self.old.heap }
         ensures lawful { IsLawful self.new.heap }
+        ensures shows { Shows self.new.stored self.new.heap.blocks }
         ensures touches { self.new.touches ≤ self.old.touches + 4 + 2 * (length bytes.now / 8 + 2) }
         ensures touches_rise { self.old.touches ≤ self.new.touches }
+
+        // A forged name is not followed: not even a start bit is read unless the place lies in the region, and no word unless a block begins there.
+        ensures foreign { name.heap ≢ self.old.heap.id → self.new.touches ≡ self.old.touches }
+        ensures outside { self.old.heap.words ≤ name.at → self.new.touches ≡ self.old.touches }
+        ensures nowhere { name.heap ≡ self.old.heap.id → name.at < self.old.heap.words → ¬ (IsPlace self.old.heap.blocks name.at) → self.new.touches ≡ self.old.touches + 1 }
     {
         self.check_range(name, at, bytes.len())?;
         self.region.write(name.at, at, bytes);
@@ -175,9 +197,15 @@ impl Heap {
         ensures answer { result ≡ read_answer (read_of self.old.heap name at (length out.old)) }
         ensures bytes { out.new ≡ result_unwrap_or (read_of self.old.heap name at (length out.old)) out.old }
         ensures heap { self.new.heap ≡ self.old.heap }
+        ensures stored { self.new.stored ≡ self.old.stored }
         ensures was_lawful { IsLawful self.old.heap }
         ensures touches { self.new.touches ≤ self.old.touches + 4 + (length out.old / 8 + 2) }
         ensures touches_rise { self.old.touches ≤ self.new.touches }
+
+        // A forged name is not followed: not even a start bit is read unless the place lies in the region, and no word unless a block begins there.
+        ensures foreign { name.heap ≢ self.old.heap.id → self.new.touches ≡ self.old.touches }
+        ensures outside { self.old.heap.words ≤ name.at → self.new.touches ≡ self.old.touches }
+        ensures nowhere { name.heap ≡ self.old.heap.id → name.at < self.old.heap.words → ¬ (IsPlace self.old.heap.blocks name.at) → self.new.touches ≡ self.old.touches + 1 }
     {
         self.check_range(name, at, out.len())?;
         self.region.read(name.at, at, out);
@@ -191,7 +219,9 @@ impl Heap {
         // What the grant comes to: no request for more is served, and one for so much is, unless nothing is free.
         ensures grant { IsGrant self.old.heap.blocks result.grant }
         ensures heap { self.new.heap ≡ self.old.heap }
+        ensures stored { self.new.stored ≡ self.old.stored }
         ensures was_lawful { IsLawful self.old.heap }
+        ensures touches { self.new.touches ≤ self.old.touches + 3 * self.old.heap.words }
         ensures touches_rise { self.old.touches ≤ self.new.touches }
     {
         let tick = self.tick;
@@ -202,9 +232,14 @@ impl Heap {
     fn check(&mut self, name: Name) -> Result<(), Refusal>
         ensures answer { IsNameCheck self.old.heap name result }
         ensures heap { self.new.heap ≡ self.old.heap }
+        ensures stored { self.new.stored ≡ self.old.stored }
+        ensures shows { Shows self.new.stored self.new.heap.blocks }
         ensures lawful { IsLawful self.old.heap }
         ensures touches { self.new.touches ≤ self.old.touches + 3 }
-        ensures touches_rise { self.old.touches ≤ self.new.touches }
+        ensures rise { self.old.touches ≤ self.new.touches }
+        ensures foreign { name.heap ≢ self.old.heap.id → self.new.touches ≡ self.old.touches }
+        ensures outside { self.old.heap.words ≤ name.at → self.new.touches ≡ self.old.touches }
+        ensures nowhere { name.heap ≡ self.old.heap.id → name.at < self.old.heap.words → ¬ (IsPlace self.old.heap.blocks name.at) → self.new.touches ≡ self.old.touches + 1 }
     {
         if name.heap != self.id {
             return Err(Refusal::Foreign);
@@ -220,9 +255,14 @@ impl Heap {
         ensures answer { result ≡ read_answer (read_of self.old.heap name at n) }
         ensures place { OnOk result ((i : ℕ) × IsFirst name.at name.serial self.old.heap.blocks i × (has_bytes (block_at self.old.heap.blocks i) at n ≡ true)) }
         ensures heap { self.new.heap ≡ self.old.heap }
+        ensures stored { self.new.stored ≡ self.old.stored }
+        ensures shows { Shows self.new.stored self.new.heap.blocks }
         ensures lawful { IsLawful self.old.heap }
         ensures touches { self.new.touches ≤ self.old.touches + 4 }
-        ensures touches_rise { self.old.touches ≤ self.new.touches }
+        ensures rise { self.old.touches ≤ self.new.touches }
+        ensures foreign { name.heap ≢ self.old.heap.id → self.new.touches ≡ self.old.touches }
+        ensures outside { self.old.heap.words ≤ name.at → self.new.touches ≡ self.old.touches }
+        ensures nowhere { name.heap ≡ self.old.heap.id → name.at < self.old.heap.words → ¬ (IsPlace self.old.heap.blocks name.at) → self.new.touches ≡ self.old.touches + 1 }
     {
         self.check(name)?;
         let length = self.region.length(name.at) as usize;

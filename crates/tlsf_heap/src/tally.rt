@@ -3,6 +3,7 @@ ghost use Rattle.std.specs.Prelude.{◌≡◌, ℕ, ◌*◌, ◌+◌, ◌<◌, �
 ghost use Rattle.std.specs.List.{AllByRecursion};
 ghost use Rattle.tlsf_heap.specs.Blocks.{words_in};
 ghost use Rattle.tlsf_heap.specs.Lawful.{HasRoom, IsRegion};
+ghost use Rattle.tlsf_heap.specs.Regions.{OnlyReads};
 ghost use Rattle.tlsf_heap.specs.Reports.{fragmentation_of};
 ghost use Rattle.tlsf_heap.specs.Tallies.{tally_of, IsTallyUpTo, granted, told};
 
@@ -31,10 +32,7 @@ impl Tally {
         requires small { words_in region.old.blocks ≤ 2 ^ 20 }
         requires whole { words_in region.old.blocks ≡ region.old.words }
         ensures sums { result ≡ tally_of tick region.old.blocks }
-        ensures words { region.new.words ≡ region.old.words }
-        ensures blocks { region.new.blocks ≡ region.old.blocks }
-        ensures lists { region.new.lists ≡ region.old.lists }
-        ensures touches_rise { region.old.touches ≤ region.new.touches }
+        ensures reads { OnlyReads region.old region.new (3 * region.old.words) }
     {
         let words = region.len();
         let mut tally = Tally::new(tick);
@@ -68,10 +66,7 @@ impl Tally {
         requires sums { (tick : ℕ) × IsTallyUpTo tick region.old.blocks at self.old }
         ensures sums { (tick : ℕ) → IsTallyUpTo tick region.old.blocks at self.old → IsTallyUpTo tick region.old.blocks result self.new }
         ensures behind { at < result }
-        ensures words { region.new.words ≡ region.old.words }
-        ensures blocks { region.new.blocks ≡ region.old.blocks }
-        ensures lists { region.new.lists ≡ region.old.lists }
-        ensures touches_rise { region.old.touches ≤ region.new.touches }
+        ensures reads { OnlyReads region.old region.new 3 }
     {
         let size = region.size(at);
         if region.is_free(at) {

@@ -1,7 +1,7 @@
 pub mod AskedFaults
 pub mod DoneReplays
-pub mod Digits
-pub mod Shapes
+pub mod Values
+pub mod LineRanges
 pub mod Cutting
 pub mod Judging
 pub mod Remembering

@@ -1,11 +1,13 @@
--- The fields of a line, and what a field spells.
-use Rattle.std.specs.Prelude.{ℕ, ◌-◌, Bool, true, false, ◌&&◌, ◌||◌, not, nat_le, nat_lt, ◌==◌, if◌then◌else◌, List, [], ◌∷◌, length, take, slice_index, slice_index_or, Option, Some, None, is_some}
+-- The fields of a line, and what a field says.
+use Rattle.std.specs.Prelude.{ℕ, ◌-◌, Bool, true, false, ◌&&◌, ◌||◌, not, nat_le, nat_lt, ◌==◌, if◌then◌else◌, List, [], ◌∷◌, length, take, slice_index, slice_index_or, Option, Some, None, option_and_then, option_map}
 use Rattle.std.specs.List.{slice_split}
 use Rattle.std.specs.Str.{all_ascii_digits}
 use Rattle.std.specs.Str.Parse.{digits_value}
 use Rattle.tlsf_trace.specs.declared.kind.Kind.{Kind}
 use Rattle.tlsf_trace.specs.declared.kind.Kind.TheVariants.{Worker, Label, Length, Offset, Hex, Count, Most}
-use Rattle.tlsf_trace.specs.Payloads.{bytes_in}
+use Rattle.tlsf_trace.specs.declared.value.Value.{Value}
+use Rattle.tlsf_trace.specs.declared.value.Value.TheVariants.{Number, BadNumber, Bytes}
+use Rattle.tlsf_trace.specs.Payloads.{chunk_in}
 
 -- the fields of a piece that has its line feed: what stands between spaces
 abbrev pub fields_in : List ℕ → Option (List (List ℕ))
@@ -26,11 +28,15 @@ is_digits field = nat_lt 0 (length field) && all_ascii_digits field
 abbrev pub is_plain : List ℕ → Bool
 is_plain field = length field == 1 || not (slice_index field 0 == 48)
 
--- the number that a field spells, if it does and the number is in the range
-abbrev pub number_of : ℕ × ℕ → List ℕ → Option ℕ
-number_of range field =
-    let value = digits_value 10 field in
-    if is_digits field && is_plain field && nat_le range.0 value && nat_le value range.1 then Some value else None
+-- the number of digits that are plain, if it is in the range
+abbrev pub number_within : ℕ × ℕ → List ℕ → Value
+number_within range digits =
+    let number = digits_value 10 digits in
+    if is_plain digits && nat_le range.0 number && nat_le number range.1 then Number number else BadNumber
+
+-- what a field of digits says
+abbrev pub digits_in : ℕ × ℕ → List ℕ → Option Value
+digits_in range field = if is_digits field then Some (number_within range field) else None
 
 -- the least and the greatest number of a kind, where there are so many workers
 abbrev pub range_of : ℕ → Kind → ℕ × ℕ
@@ -42,13 +48,21 @@ range_of workers Hex = (0, 0)  -- no number
 range_of workers Count = (1, 64)
 range_of workers Most = (1, 8192)
 
--- whether a field has the shape of its kind
-abbrev pub has_shape : Kind → List ℕ → Bool
-has_shape Hex field = is_some (bytes_in field)
-has_shape _ field = is_digits field
+-- what a field says, if it has the shape of its kind
+abbrev pub value_in : ℕ → Kind → List ℕ → Option Value
+value_in workers Hex field = option_map (λ chunk. Bytes chunk) (chunk_in field)
+value_in workers kind field = digits_in (range_of workers kind) field
 
--- whether a test holds of each field at its kind, and there are as many of both
-abbrev pub each_field : (Kind → List ℕ → Bool) → List Kind → List (List ℕ) → Bool
-each_field test [] [] = true
-each_field test (kind ∷ kinds) (field ∷ fields) = test kind field && each_field test kinds fields
-each_field test _ _ = false
+-- go on with what was found
+infixl 10 ◌>>=◌
+abbrev pub ◌>>=◌ : {A B : Type 0} → Option A → (A → Option B) → Option B
+found >>= next = option_and_then next found
+
+-- what the fields say, if there is one for each kind, in its shape
+abbrev pub values_in : ℕ → List Kind → List (List ℕ) → Option (List Value)
+values_in workers [] [] = Some []
+values_in workers (kind ∷ kinds) (field ∷ fields) = do
+  value ← value_in workers kind field
+  values ← values_in workers kinds fields
+  Some (value ∷ values)
+values_in workers _ _ = None

@@ -2,15 +2,26 @@
 use Rattle.std.specs.Prelude.{ℕ, ◌≤◌, ◌&&◌, ◌==◌, if◌then◌else◌, List, codes, length, Option, Some, None}
 use Rattle.std.specs.Str.{bytes_eq}
 use Rattle.tlsf_trace.specs.declared.header.Header.{Header}
-use Rattle.tlsf_trace.specs.Fields.{field, fields_in, number_of}
-use Rattle.tlsf_trace.specs.Lines.{◌>>=◌}
+use Rattle.tlsf_trace.specs.declared.value.Value.{Value}
+use Rattle.tlsf_trace.specs.declared.value.Value.TheVariants.{Number, BadNumber, Bytes}
+use Rattle.tlsf_trace.specs.Fields.{◌>>=◌, digits_in, field, fields_in}
+
+-- the number that a value is, if it is one
+abbrev pub number_of_value : Value → Option ℕ
+number_of_value (Number number) = Some number
+number_of_value BadNumber = None
+number_of_value (Bytes bytes) = None
+
+-- the number that a field spells, if it is in the range
+abbrev pub number_in : ℕ × ℕ → List ℕ → Option ℕ
+number_in range field = digits_in range field >>= number_of_value
 
 -- the workers, the words of a heap and the capacity of a lane
 unfoldable pub header_from : List ℕ → List ℕ → List ℕ → Option Header
 header_from workers words capacity = do
-  workers ← number_of (1, 8) workers
-  words ← number_of (4, 1048576) words
-  capacity ← number_of (1, 1024) capacity
+  workers ← number_in (1, 8) workers
+  words ← number_in (4, 1048576) words
+  capacity ← number_in (1, 1024) capacity
   Some (record { workers = workers; words = words; capacity = capacity })
 
 -- five fields: tlsf, the version 1, and three numbers

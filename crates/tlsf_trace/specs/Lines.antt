@@ -1,5 +1,5 @@
 -- The lines of a trace behind its header: the table of words, and what the fields of a line say.
-use Rattle.std.specs.Prelude.{⊤, ℕ, ◌<◌, ◌≤◌, Bool, true, false, if◌then◌else◌, List, [], ◌∷◌, codes, Option, Some, None, option_and_then}
+use Rattle.std.specs.Prelude.{⊤, ℕ, ◌<◌, ◌≤◌, Bool, true, false, if◌then◌else◌, List, [], ◌∷◌, codes, Option, Some, None}
 use Rattle.std.specs.Str.{bytes_eq}
 use Rattle.tlsf_trace.specs.declared.kind.Kind.{Kind}
 use Rattle.tlsf_trace.specs.declared.kind.Kind.TheVariants.{Worker, Label, Length, Offset, Hex, Count, Most}
@@ -7,8 +7,9 @@ use Rattle.tlsf_trace.specs.declared.line.Line.{Line}
 use Rattle.tlsf_trace.specs.declared.line.Line.TheVariants.{Allocate, Release, Write, Read, Drain, Phase}
 use Rattle.tlsf_trace.specs.declared.word.Word.{Word}
 use Rattle.tlsf_trace.specs.declared.word.Word.TheVariants as word
-use Rattle.tlsf_trace.specs.Fields.{field, number_of, range_of}
-use Rattle.tlsf_trace.specs.Payloads.{IsPayload, chunk_in}
+use Rattle.tlsf_trace.specs.declared.value.Value.{Value}
+use Rattle.tlsf_trace.specs.declared.value.Value.TheVariants.{Number, Bytes}
+use Rattle.tlsf_trace.specs.Payloads.{IsPayload}
 
 -- each word, behind the first field that spells it
 abbrev pub words : List (List ℕ × Word)
@@ -30,59 +31,15 @@ kinds_of word.Read = Worker ∷ Label ∷ Offset ∷ Count ∷ []
 kinds_of word.Drain = Worker ∷ Most ∷ []
 kinds_of word.Phase = []
 
--- go on with what was found
-infixl 10 ◌>>=◌
-abbrev pub ◌>>=◌ : {A B : Type 0} → Option A → (A → Option B) → Option B
-found >>= next = option_and_then next found
-
--- a worker, a label and a length
-abbrev pub allocate_from : ℕ → List ℕ → List ℕ → List ℕ → Option Line
-allocate_from workers worker label length = do
-  worker ← number_of (range_of workers Worker) worker
-  label ← number_of (range_of workers Label) label
-  length ← number_of (range_of workers Length) length
-  Some (Allocate worker label length)
-
--- a worker and a label
-abbrev pub release_from : ℕ → List ℕ → List ℕ → Option Line
-release_from workers worker label = do
-  worker ← number_of (range_of workers Worker) worker
-  label ← number_of (range_of workers Label) label
-  Some (Release worker label)
-
--- a worker, a label, an offset and bytes
-abbrev pub write_from : ℕ → List ℕ → List ℕ → List ℕ → List ℕ → Option Line
-write_from workers worker label at bytes = do
-  worker ← number_of (range_of workers Worker) worker
-  label ← number_of (range_of workers Label) label
-  at ← number_of (range_of workers Offset) at
-  bytes ← chunk_in bytes
-  Some (Write worker label at bytes)
-
--- a worker, a label, an offset and how many bytes
-abbrev pub read_from : ℕ → List ℕ → List ℕ → List ℕ → List ℕ → Option Line
-read_from workers worker label at n = do
-  worker ← number_of (range_of workers Worker) worker
-  label ← number_of (range_of workers Label) label
-  at ← number_of (range_of workers Offset) at
-  n ← number_of (range_of workers Count) n
-  Some (Read worker label at n)
-
--- a worker and how many posts at most
-abbrev pub drain_from : ℕ → List ℕ → List ℕ → Option Line
-drain_from workers worker most = do
-  worker ← number_of (range_of workers Worker) worker
-  most ← number_of (range_of workers Most) most
-  Some (Drain worker most)
-
--- the line that a word and the fields behind it say, if each number is plain and in its range
-unfoldable pub line_from : ℕ → Word → List (List ℕ) → Option Line
-line_from workers word.Allocate fields = allocate_from workers (field fields 0) (field fields 1) (field fields 2)
-line_from workers word.Release fields = release_from workers (field fields 0) (field fields 1)
-line_from workers word.Write fields = write_from workers (field fields 0) (field fields 1) (field fields 2) (field fields 3)
-line_from workers word.Read fields = read_from workers (field fields 0) (field fields 1) (field fields 2) (field fields 3)
-line_from workers word.Drain fields = drain_from workers (field fields 0) (field fields 1)
-line_from workers word.Phase fields = Some Phase
+-- the line that a word and the values behind it say, unless a number is bad
+unfoldable pub line_from : Word → List Value → Option Line
+line_from word.Allocate (Number worker ∷ Number label ∷ Number length ∷ []) = Some (Allocate worker label length)
+line_from word.Release (Number worker ∷ Number label ∷ []) = Some (Release worker label)
+line_from word.Write (Number worker ∷ Number label ∷ Number at ∷ Bytes bytes ∷ []) = Some (Write worker label at bytes)
+line_from word.Read (Number worker ∷ Number label ∷ Number at ∷ Number n ∷ []) = Some (Read worker label at n)
+line_from word.Drain (Number worker ∷ Number most ∷ []) = Some (Drain worker most)
+line_from word.Phase [] = Some Phase
+line_from _ _ = None
 
 -- whether a line is a call of a worker
 abbrev pub is_call : Line → Bool

@@ -3,7 +3,7 @@ use Rattle.std.specs.Prelude.{All, ℕ, ◌+◌, Bool, true, false, List, [], �
 use Rattle.tlsf_trace.specs.declared.line_fault.LineFault.{LineFault}
 use Rattle.tlsf_trace.specs.declared.line_fault.LineFault.TheVariants.{BadHeader, BadLine, BadNumber, LabelOrder}
 use Rattle.tlsf_trace.specs.Pieces.{pieces_of}
-use Rattle.tlsf_trace.specs.Fields.{each_field, field, fields_in, has_shape}
+use Rattle.tlsf_trace.specs.Fields.{field, fields_in, values_in}
 use Rattle.tlsf_trace.specs.Lines.{IsLineInRange, kinds_of, line_from, word_of, words}
 use Rattle.tlsf_trace.specs.Labels.{is_in_order}
 use Rattle.tlsf_trace.specs.Header.{IsHeaderInRange, header_in}
@@ -31,9 +31,8 @@ unfoldable pub line_in : ℕ → List Line → List ℕ → Result Line LineFaul
 line_in workers before piece = do
   fields ← some_or (fields_in piece) BadLine
   word ← some_or (word_of words (field fields 0)) BadLine
-  let others = drop 1 fields
-  _ ← unless (each_field has_shape (kinds_of word) others) BadLine
-  line ← some_or (line_from workers word others) BadNumber
+  values ← some_or (values_in workers (kinds_of word) (drop 1 fields)) BadLine
+  line ← some_or (line_from word values) BadNumber
   _ ← unless (is_in_order before line) LabelOrder
   Ok line
 

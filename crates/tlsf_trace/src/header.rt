@@ -1,9 +1,10 @@
-ghost use Rattle.std.specs.Prelude.{◌≡◌, IfOk, IfSome};
+ghost use Rattle.std.specs.Prelude.{◌≡◌, ◌≤◌, IfOk, IfSome};
 ghost use Rattle.tlsf_trace.specs.Header as spelled;
 ghost use Rattle.tlsf_trace.specs.Header.{IsHeaderInRange};
 
 use crate::fields::fields_in;
-use crate::numbers::number;
+use crate::numbers::digits_in;
+use crate::value::Value;
 use std::alloc::{AllocError, Global};
 use tlsf_heap::MOST_WORDS;
 
@@ -27,14 +28,25 @@ pub struct Header {
     pub capacity: u32,
 }
 
+/// The number from `least` to `most` that a field spells; `None` where it spells none of them.
+fn number_in(field: &[u8], least: u32, most: u32) -> Option<u32>
+    ensures number { result ≡ spelled.number_in (least, most) field.now }
+    ensures range { IfSome result (λ n. (least ≤ n) × (n ≤ most)) }
+{
+    match digits_in(field, least, most)? {
+        Value::Number(number) => Some(number),
+        Value::BadNumber | Value::Bytes(_) => None,
+    }
+}
+
 #[tactic(auto, unfolding(crate::specs::Header::header_from))]
 fn header_from(workers: &[u8], words: &[u8], capacity: &[u8]) -> Option<Header>
     ensures header { result ≡ spelled.header_from workers.now words.now capacity.now }
     ensures ranges { IfSome result IsHeaderInRange }
 {
-    let workers = number(workers, 1, MOST_WORKERS)?;
-    let words = number(words, LEAST_WORDS, MOST_WORDS)?;
-    let capacity = number(capacity, 1, MOST_CAPACITY)?;
+    let workers = number_in(workers, 1, MOST_WORKERS)?;
+    let words = number_in(words, LEAST_WORDS, MOST_WORDS)?;
+    let capacity = number_in(capacity, 1, MOST_CAPACITY)?;
     Some(Header {
         workers,
         words,

@@ -50,6 +50,7 @@ mod trace;
 mod trace_fault;
 #[cfg(test)]
 mod trace_fault_tests;
+mod value;
 mod word;
 mod writing;
 #[cfg(test)]

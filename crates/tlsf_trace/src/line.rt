@@ -6,24 +6,14 @@ ghost use Rattle.tlsf_trace.specs.Trace as spelled;
 ghost use Rattle.tlsf_trace.specs.Views.{Gives};
 ghost use Rattle.tlsf_trace.specs.declared.line.Line.{Line as ALine};
 
-use crate::fields::{fields_in, is_shaped};
+use crate::fields::fields_in;
 use crate::labels::Labels;
 use crate::line_error::LineError;
 use crate::line_fault::LineFault;
-use crate::numbers::number;
-use crate::payload::chunk_in;
+use crate::value::{Value, values_in};
 use crate::word::{Word, kinds_of, word_of};
 use std::alloc::Global;
 use tlsf_crew::Chunk;
-
-/// The greatest label.
-const MOST_LABEL: u32 = 65_535;
-
-/// The most bytes that one line may read.
-const MOST_COUNT: u32 = 64;
-
-/// The most posts that one line may drain.
-const MOST_DRAINED: u32 = 8192;
 
 /// A line of a trace behind its header: one call that a worker makes, or the end of a phase.
 #[derive(Clone, Copy, Debug, PartialEq, Eq)]
@@ -81,87 +71,63 @@ impl Line {
     }
 }
 
-fn allocate_from(workers: u32, worker: &[u8], label: &[u8], len: &[u8]) -> Option<Line>
-    requires { 0 < workers }
-    ensures line { result ≡ Lines.allocate_from workers worker.now label.now len.now }
-    ensures range { IfSome result (IsLineInRange workers) }
-{
-    let worker = number(worker, 0, workers - 1)?;
-    let label = number(label, 0, MOST_LABEL)?;
-    let len = number(len, 0, u32::MAX)?;
-    Some(Line::Allocate { worker, label, len })
-}
-
-fn release_from(workers: u32, worker: &[u8], label: &[u8]) -> Option<Line>
-    requires { 0 < workers }
-    ensures line { result ≡ Lines.release_from workers worker.now label.now }
-    ensures range { IfSome result (IsLineInRange workers) }
-{
-    let worker = number(worker, 0, workers - 1)?;
-    let label = number(label, 0, MOST_LABEL)?;
-    Some(Line::Release { worker, label })
-}
-
-fn write_from(workers: u32, worker: &[u8], label: &[u8], at: &[u8], bytes: &[u8]) -> Option<Line>
-    requires { 0 < workers }
-    ensures line { result ≡ Lines.write_from workers worker.now label.now at.now bytes.now }
-    ensures range { IfSome result (IsLineInRange workers) }
-{
-    let worker = number(worker, 0, workers - 1)?;
-    let label = number(label, 0, MOST_LABEL)?;
-    let at = number(at, 0, u32::MAX)?;
-    let bytes = chunk_in(bytes)?;
-    Some(Line::Write {
-        worker,
-        label,
-        at,
-        bytes,
-    })
-}
-
-fn read_from(workers: u32, worker: &[u8], label: &[u8], at: &[u8], n: &[u8]) -> Option<Line>
-    requires { 0 < workers }
-    ensures line { result ≡ Lines.read_from workers worker.now label.now at.now n.now }
-    ensures range { IfSome result (IsLineInRange workers) }
-{
-    let worker = number(worker, 0, workers - 1)?;
-    let label = number(label, 0, MOST_LABEL)?;
-    let at = number(at, 0, u32::MAX)?;
-    let n = number(n, 1, MOST_COUNT)?;
-    Some(Line::Read {
-        worker,
-        label,
-        at,
-        n,
-    })
-}
-
-fn drain_from(workers: u32, worker: &[u8], most: &[u8]) -> Option<Line>
-    requires { 0 < workers }
-    ensures line { result ≡ Lines.drain_from workers worker.now most.now }
-    ensures range { IfSome result (IsLineInRange workers) }
-{
-    let worker = number(worker, 0, workers - 1)?;
-    let most = number(most, 1, MOST_DRAINED)?;
-    Some(Line::Drain { worker, most })
-}
-
-/// The line that a word and the fields behind it say; `None` where a number has a leading zero or
-/// is out of its range.
+/// The line that a word and the values behind it say; `None` where a number is bad, and where the
+/// values are not of the word's kinds.
 #[tactic(auto, unfolding(crate::specs::Lines::line_from))]
-fn line_from(workers: u32, word: Word, fields: &[&[u8]]) -> Option<Line>
-    requires workers { 0 < workers }
-    requires fields { length fields.now ≡ length (Lines.kinds_of word) }
-    ensures line { result ≡ Lines.line_from workers word (map (λ f. f.now) fields.now) }
-    ensures range { IfSome result (IsLineInRange workers) }
+fn line_from(word: Word, values: &[Value]) -> Option<Line>
+    ensures { result ≡ Lines.line_from word values.now }
 {
-    match word {
-        Word::Allocate => allocate_from(workers, fields[0], fields[1], fields[2]),
-        Word::Release => release_from(workers, fields[0], fields[1]),
-        Word::Write => write_from(workers, fields[0], fields[1], fields[2], fields[3]),
-        Word::Read => read_from(workers, fields[0], fields[1], fields[2], fields[3]),
-        Word::Drain => drain_from(workers, fields[0], fields[1]),
-        Word::Phase => Some(Line::Phase),
+    match (word, values) {
+        (
+            Word::Allocate,
+            [
+                Value::Number(worker),
+                Value::Number(label),
+                Value::Number(len),
+            ],
+        ) => Some(Line::Allocate {
+            worker: *worker,
+            label: *label,
+            len: *len,
+        }),
+        (Word::Release, [Value::Number(worker), Value::Number(label)]) => Some(Line::Release {
+            worker: *worker,
+            label: *label,
+        }),
+        (
+            Word::Write,
+            [
+                Value::Number(worker),
+                Value::Number(label),
+                Value::Number(at),
+                Value::Bytes(bytes),
+            ],
+        ) => Some(Line::Write {
+            worker: *worker,
+            label: *label,
+            at: *at,
+            bytes: *bytes,
+        }),
+        (
+            Word::Read,
+            [
+                Value::Number(worker),
+                Value::Number(label),
+                Value::Number(at),
+                Value::Number(n),
+            ],
+        ) => Some(Line::Read {
+            worker: *worker,
+            label: *label,
+            at: *at,
+            n: *n,
+        }),
+        (Word::Drain, [Value::Number(worker), Value::Number(most)]) => Some(Line::Drain {
+            worker: *worker,
+            most: *most,
+        }),
+        (Word::Phase, []) => Some(Line::Phase),
+        _ => None,
     }
 }
 
@@ -187,10 +153,10 @@ pub fn line_in(
     let Some(word) = word_of(first) else {
         return Err(LineError::Fault(LineFault::BadLine));
     };
-    if !is_shaped(kinds_of(word), others) {
+    let Some(values) = values_in(alloc, workers, kinds_of(word), others)? else {
         return Err(LineError::Fault(LineFault::BadLine));
-    }
-    let Some(line) = line_from(workers, word, others) else {
+    };
+    let Some(line) = line_from(word, &values) else {
         return Err(LineError::Fault(LineFault::BadNumber));
     };
     if !labels.is_in_order(line) {

@@ -1,40 +1,31 @@
-ghost use Rattle.std.specs.Prelude.{◌≡◌, ◌≤◌, IfSome};
-ghost use Rattle.tlsf_trace.specs.Fields;
-ghost use Rattle.tlsf_trace.specs.Fields.{number_of};
+ghost use Rattle.std.specs.Prelude.{◌≡◌};
+ghost use Rattle.tlsf_trace.specs.Fields as spelled;
 
-/// Whether a field is digits, and at least one.
-pub fn is_digits(field: &[u8]) -> bool
-    ensures { result ≡ Fields.is_digits field.now }
+use crate::value::Value;
+
+/// More than each number that a field may spell: a greater one counts as this.
+const TOO_GREAT: u64 = 4_294_967_296;
+
+/// What a field of digits says, where a number from `least` to `most` is wanted; `None` where it is
+/// empty or has another byte than a digit.
+pub fn digits_in(field: &[u8], least: u32, most: u32) -> Option<Value>
+    ensures { result ≡ spelled.digits_in (least, most) field.now }
 {
-    for byte in field {
-        if !byte.is_ascii_digit() {
-            return false;
+    let mut number = 0u64;
+    for digit in field {
+        if !digit.is_ascii_digit() {
+            return None;
         }
+        number = (number * 10 + u64::from(*digit - b'0')).min(TOO_GREAT);
     }
-    !field.is_empty()
-}
-
-/// The number from `least` to `most` that a field spells; `None` where it is no number, has a
-/// leading zero or is out of that range.
-pub fn number(field: &[u8], least: u32, most: u32) -> Option<u32>
-    ensures number { result ≡ number_of (least, most) field.now }
-    ensures range { IfSome result (λ n. (least ≤ n) × (n ≤ most)) }
-{
-    if !is_digits(field) {
+    if field.is_empty() {
         return None;
     }
     if field.len() > 1 && field[0] == b'0' {
-        return None;
+        return Some(Value::BadNumber);
     }
-    let mut value = 0u64;
-    for digit in field {
-        value = value * 10 + u64::from(*digit - b'0');
-        if value > u64::from(most) {
-            return None;
-        }
+    if number < u64::from(least) || number > u64::from(most) {
+        return Some(Value::BadNumber);
     }
-    if value < u64::from(least) {
-        return None;
-    }
-    Some(value as u32)
+    Some(Value::Number(number as u32))
 }

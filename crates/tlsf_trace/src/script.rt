@@ -7,11 +7,9 @@ ghost use Rattle.tlsf_trace.specs.declared.line.Line.{Line as ALine};
 use crate::line::Line;
 use crate::makers::Makers;
 use crate::trace::Trace;
+use crate::value::MOST_DRAINED;
 use std::alloc::{AllocError, Global};
 use tlsf_crew::{Call, Event};
-
-/// The most posts that a drain at the end of a phase takes: more than can wait for one worker.
-const LAST_MOST: u32 = 8192;
 
 /// The events that a trace stands for, and a label for each, 0 where it has none.
 #[derive(Drop)]
@@ -86,7 +84,7 @@ impl Script {
         ensures labels { OnOk result (self.new.labels.items ≡ self.old.labels.items ++ replicate workers 0) }
     {
         for worker in 0..workers {
-            self.push(worker, Call::Drain { most: LAST_MOST }, 0)?;
+            self.push(worker, Call::Drain { most: MOST_DRAINED }, 0)?;
         }
         Ok(())
     }

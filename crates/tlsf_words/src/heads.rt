@@ -22,7 +22,7 @@ pub(crate) struct Heads {
 
 impl Model for Heads {
     ghost use Rattle.std.specs.Prelude.{◌≡◌, length};
-    ghost use Rattle.tlsf_words.specs.Touched.{CountedHeads};
+    ghost use Rattle.tlsf_words.specs.Counted.{CountedHeads};
 
     ghost Value = { CountedHeads };
 

@@ -1,4 +1,4 @@
-use Rattle.std.proofs.Common.{◌+◌, ◌≤◌, ap, ◌∙◌, arith}
+use Rattle.std.proofs.Common.{◌≡◌, ◌+◌, ◌≤◌, ap, ◌∙◌, arith}
 use Rattle.tlsf_heap.specs.Regions.{RegionState, list_in}
 use Rattle.tlsf_heap.proofs.Listing.{unlisted_same}
 use Rattle.tlsf_heap.proofs.Sizes.{stands_around}
@@ -8,10 +8,10 @@ use Rattle.tlsf_heap.proofs.fitting.carve.Goals as goal
 
 pub remove-requires : goal.remove-requires
 remove-requires c =
-    record { listed = contains_free (is_listed c.requires.fits c.size-size.ensures.value c.class_of.ensures c.requires.sized c.requires.stamped c.requires.listed c.size-size.ensures.lists) }
+    record { listed = contains_free (is_listed c.requires.fits c.size-size.ensures.value c.class_of.ensures c.requires.sized c.requires.stamped c.requires.listed c.size-size.ensures.reads.lists) }
 
 listed : (c : goal.After-class_of-then-size-words) → IsListed c.args.region.now.blocks c.args.at c.requires.fits.0 c.size-size.result c.class_of.result c.args.tick (list_in c.size-size.new.self.lists)
-listed c = is_listed c.requires.fits c.size-size.ensures.value c.class_of.ensures c.requires.sized c.requires.stamped c.requires.listed c.size-size.ensures.lists
+listed c = is_listed c.requires.fits c.size-size.ensures.value c.class_of.ensures c.requires.sized c.requires.stamped c.requires.listed c.size-size.ensures.reads.lists
 
 pub overflow_add-at : goal.overflow_add-at
 overflow_add-at c = omega (arith, c.requires.small, c.if-size-words.true, end_within (listed c))
@@ -19,7 +19,7 @@ overflow_add-at c = omega (arith, c.requires.small, c.if-size-words.true, end_wi
 pub push-requires-clause-free : goal.push-requires-clause-free
 push-requires-clause-free c =
     rest_free (listed c) (list_in c.remove.new.self.lists) c.remove.ensures.list c.remove.ensures.others c.args.words c.remove.new.self.blocks c.split.new.self.blocks c.if-size-words.true c.requires.least
-    (c.remove.ensures.blocks ∙ c.size-size.ensures.blocks) c.split.ensures.blocks
+    (c.remove.ensures.blocks ∙ c.size-size.ensures.reads.blocks) c.split.ensures.blocks
 
 pub push-requires-clause-unlisted : goal.push-requires-clause-unlisted
 push-requires-clause-unlisted c =
@@ -31,8 +31,8 @@ ready c =
     let f = c.requires.fits in
     let fits : c.args.words ≤ c.size-size.result = omega (arith, f.3, c.size-size.ensures.value f.0 f.1) in
     let is : IsListed c.args.region.now.blocks c.args.at c.requires.fits.0 c.size-size.result c.class_of.result c.args.tick (list_in c.size-size.new.self.lists) =
-    is_listed c.requires.fits c.size-size.ensures.value c.class_of.ensures c.requires.sized c.requires.stamped c.requires.listed c.size-size.ensures.lists in
-    let same = c.remove.ensures.blocks ∙ c.size-size.ensures.blocks in
+    is_listed c.requires.fits c.size-size.ensures.value c.class_of.ensures c.requires.sized c.requires.stamped c.requires.listed c.size-size.ensures.reads.lists in
+    let same = c.remove.ensures.blocks ∙ c.size-size.ensures.reads.blocks in
     elim c.if-size-words.branch [
       | then-size-words w ↦ ready_as c.if-size-words.region w.push.new.self w.region-is
           (ready_split is (list_in c.remove.new.self.lists) c.remove.ensures.list c.remove.ensures.others c.args.words c.remove.new.self.blocks w.split.new.self.blocks w.if-size-words.true c.requires.least
@@ -53,8 +53,8 @@ left c =
     let f = c.requires.fits in
     let fits : c.args.words ≤ c.size-size.result = omega (arith, f.3, c.size-size.ensures.value f.0 f.1) in
     let is : IsListed c.args.region.now.blocks c.args.at c.requires.fits.0 c.size-size.result c.class_of.result c.args.tick (list_in c.size-size.new.self.lists) =
-    is_listed c.requires.fits c.size-size.ensures.value c.class_of.ensures c.requires.sized c.requires.stamped c.requires.listed c.size-size.ensures.lists in
-    let same = c.remove.ensures.blocks ∙ c.size-size.ensures.blocks in
+    is_listed c.requires.fits c.size-size.ensures.value c.class_of.ensures c.requires.sized c.requires.stamped c.requires.listed c.size-size.ensures.reads.lists in
+    let same = c.remove.ensures.blocks ∙ c.size-size.ensures.reads.blocks in
     elim c.if-size-words.branch [
       | then-size-words w ↦ ready_as c.if-size-words.region w.push.new.self w.region-is
           (ready_split is (list_in c.remove.new.self.lists) c.remove.ensures.list c.remove.ensures.others c.args.words c.remove.new.self.blocks w.split.new.self.blocks w.if-size-words.true c.requires.least
@@ -72,26 +72,38 @@ returns-clause-blocks c =
 pub returns-clause-listed : goal.returns-clause-listed
 returns-clause-listed c = ready_listed (left c) c.args.len c.make_live.new.self.blocks c.make_live.ensures.blocks (list_in c.make_live.new.self.lists) c.make_live.ensures.lists
 
--- ---- touches: at most 14 where the rest is split off, and those of the block given
+-- ---- the touches: at most 14 where the rest is split off, and those of the block given
 
-rest_touches : (c : goal.After-make_live) → (c.remove.new.self.touches ≤ c.if-size-words.region.touches) × (c.if-size-words.region.touches ≤ c.remove.new.self.touches + 14)
+record Splits (old new : RegionState) : Type 0 where
+  pub words : new.words ≡ old.words
+  pub touches : new.touches ≤ old.touches + 14
+  pub rise : old.touches ≤ new.touches
+
+rest_touches : (c : goal.After-make_live) → Splits c.remove.new.self c.if-size-words.region
 rest_touches c = elim c.if-size-words.branch [
   | then-size-words w ↦
       let same = ap (λ (r : RegionState). r.touches) w.region-is in
-      let split = w.split.ensures in
-      let push = w.push.ensures in
-      (omega (arith, same, split.touches_rise, push.touches_rise), omega (arith, same, split.touches, push.touches))
-  | else-size-words w ↦ let same = ap (λ (r : RegionState). r.touches) w.region-is in (omega (arith, same), omega (arith, same))
+      let split = w.split.ensures.edits in
+      let push = w.push.ensures.edits in
+      record {
+        words = ap (λ (r : RegionState). r.words) w.region-is ∙ push.words ∙ split.words;
+        touches = omega (arith, same, split.touches, push.touches);
+        rise = omega (arith, same, split.rise, push.rise);
+      }
+  | else-size-words w ↦
+      let same = ap (λ (r : RegionState). r.touches) w.region-is in
+      record { words = ap (λ (r : RegionState). r.words) w.region-is; touches = omega (arith, same); rise = omega (arith, same) }
 ]
 
-pub returns-clause-touches : goal.returns-clause-touches
-returns-clause-touches c i stands =
+pub returns-clause-edits : goal.returns-clause-edits
+returns-clause-edits c i stands =
     let ready = left c in
     let given = ready_given ready c.args.len c.make_live.new.self.blocks c.make_live.ensures.blocks c.requires.sized c.requires.fits.1 i stands in
-    let live = c.make_live.ensures.touches c.requires.fits.0 (stands_around ready.around) in
-    omega (arith, live, given, (rest_touches c).1, c.remove.ensures.touches, c.size-size.ensures.touches)
-
-pub returns-clause-touches_rise : goal.returns-clause-touches_rise
-returns-clause-touches_rise c =
-    let live = c.make_live.ensures.touches c.requires.fits.0 (stands_around (left c).around) in
-    omega (arith, live, (rest_touches c).0, c.remove.ensures.touches_rise, c.size-size.ensures.touches)
+    let live = c.make_live.ensures.edits c.requires.fits.0 (stands_around ready.around) in
+    let rest = rest_touches c in
+    record {
+      words = live.words ∙ rest.words ∙ c.remove.ensures.edits.words ∙ c.size-size.ensures.reads.words;
+      shows = live.shows;
+      touches = omega (arith, live.touches, given, rest.touches, c.remove.ensures.edits.touches, c.size-size.ensures.reads.touches);
+      rise = omega (arith, live.rise, rest.rise, c.remove.ensures.edits.rise, c.size-size.ensures.reads.rise);
+    }

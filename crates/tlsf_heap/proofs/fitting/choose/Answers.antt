@@ -15,4 +15,4 @@ pub returns-clause-best : goal.returns-clause-best
 returns-clause-best c =
     let best = best_listed c.args.words c.search_of.result (list_in c.args.region.now.lists) c.args.region.now.blocks c.search_of.ensures c.requires.sized c.requires.listed
     c.in_ok-class.class (sym c.in_ok-class.ensures.least) in
-    rw (c.first.ensures.place, c.in_ok-class.ensures.lists) best
+    rw (c.first.ensures.place, c.in_ok-class.ensures.reads.lists) best

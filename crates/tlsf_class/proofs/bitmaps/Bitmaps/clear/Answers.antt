@@ -1,24 +1,24 @@
 use Rattle.std.proofs.Common.{◌≡◌, ap, refl, ◌∙◌, arith}
 use Rattle.std.specs.Int.{bit_at}
-use Rattle.tlsf_class.proofs.BitmapWords.{ClearsBit, clears_bit, members_of-clear, AreLevels-clear, row_bit-kept}
+use Rattle.tlsf_class.proofs.BitmapWords.{ClearsBit, ClearsBit-read, members_of-clear, AreLevels-clear, first_bit-kept}
 use Rattle.tlsf_class.proofs.bitmaps.Bitmaps.clear.Goals as goal
 
-clears_else : (c : goal.Else-word-eq0) → ClearsBit c.self.inside.levels.second c.args.class c.row-row.result c.place.result c.without_bit-word.result
+clears_else : (c : goal.Else-word-eq0) → ClearsBit c.self.inside.levels.second c.args.class c.first_level-first_level.result c.second_level.result c.without_bit-word.result
 clears_else c =
-    clears_bit _ _ _ _ c.second_word.result _ c.self.invariant.rows c.row-row.ensures.most c.row-row.ensures.value
-    c.place.ensures.value c.second_word.ensures.value c.without_bit-word.ensures.same c.without_bit-word.ensures.others c.without_bit-word.ensures.below
+    ClearsBit-read _ _ _ _ c.second_word.result _ c.self.invariant.first_levels c.first_level-first_level.ensures.most c.first_level-first_level.ensures.value
+    c.second_level.ensures.value c.second_word.ensures.value c.without_bit-word.ensures.same c.without_bit-word.ensures.others c.without_bit-word.ensures.below
 
-clears_then : (c : goal.After-set_first_word) → ClearsBit c.self.inside.levels.second c.args.class c.row-row.result c.place.result c.without_bit-word.result
+clears_then : (c : goal.After-set_first_word) → ClearsBit c.self.inside.levels.second c.args.class c.first_level-first_level.result c.second_level.result c.without_bit-word.result
 clears_then c =
-    clears_bit _ _ _ _ c.second_word.result _ c.self.invariant.rows c.row-row.ensures.most c.row-row.ensures.value
-    c.place.ensures.value c.second_word.ensures.value c.without_bit-word.ensures.same c.without_bit-word.ensures.others c.without_bit-word.ensures.below
+    ClearsBit-read _ _ _ _ c.second_word.result _ c.self.invariant.first_levels c.first_level-first_level.ensures.most c.first_level-first_level.ensures.value
+    c.second_level.ensures.value c.second_word.ensures.value c.without_bit-word.ensures.same c.without_bit-word.ensures.others c.without_bit-word.ensures.below
 
 pub invariant_of-self : goal.invariant_of-self
 invariant_of-self c =
-    let read : c.first_word-rows.result ≡ c.self.inside.levels.first =
-    c.first_word-rows.ensures.value ∙ rw (c.set_second_word.ensures.first, c.second_word.ensures.first) refl
+    let read : c.first_word-first_word.result ≡ c.self.inside.levels.first =
+    c.first_word-first_word.ensures.value ∙ rw (c.set_second_word.ensures.first, c.second_word.ensures.first) refl
     in
-    rw (c.set_first_word.ensures.first, c.set_first_word.ensures.second, c.first_word-rows.ensures.second, c.set_second_word.ensures.second, c.second_word.ensures.second)
+    rw (c.set_first_word.ensures.first, c.set_first_word.ensures.second, c.first_word-first_word.ensures.second, c.set_second_word.ensures.second, c.second_word.ensures.second)
     (AreLevels-clear _ _ _ _ _ _ _ c.self.invariant (clears_then c) (omega (arith, c.without_bit.ensures.same))
     (λ k other. c.without_bit.ensures.others k other ∙ ap (λ w. bit_at w k) read))
 
@@ -27,11 +27,11 @@ invariant_of-self-else-word-eq0 c =
     let clears = clears_else c in
     rw (c.set_second_word.ensures.first, c.second_word.ensures.first, c.set_second_word.ensures.second, c.second_word.ensures.second)
     (AreLevels-clear c.self.inside.levels.first _ _ _ _ _ _ c.self.invariant clears
-    (row_bit-kept _ _ _ _ c.self.invariant clears.below (omega arith)) (λ k other. refl))
+    (first_bit-kept _ _ _ _ c.self.invariant clears.below (omega arith)) (λ k other. refl))
 
 pub returns-then-word-eq0-clause-members : goal.returns-then-word-eq0-clause-members
 returns-then-word-eq0-clause-members c =
-    rw (c.set_first_word.ensures.second, c.first_word-rows.ensures.second, c.set_second_word.ensures.second, c.second_word.ensures.second, ← c.self.view_is)
+    rw (c.set_first_word.ensures.second, c.first_word-first_word.ensures.second, c.set_second_word.ensures.second, c.second_word.ensures.second, ← c.self.view_is)
     (members_of-clear _ _ _ _ _ (clears_then c))
 
 pub returns-else-word-eq0-clause-members : goal.returns-else-word-eq0-clause-members

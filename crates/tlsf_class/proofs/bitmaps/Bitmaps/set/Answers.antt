@@ -1,23 +1,23 @@
 use Rattle.std.proofs.Common.{◌≡◌, ap, refl, ◌∙◌}
 use Rattle.std.specs.Int.{bit_at}
-use Rattle.tlsf_class.proofs.BitmapWords.{SetsBit, sets_bit, members_of-set, AreLevels-set}
+use Rattle.tlsf_class.proofs.BitmapWords.{SetsBit, SetsBit-read, members_of-set, AreLevels-set}
 use Rattle.tlsf_class.proofs.bitmaps.Bitmaps.set.Goals as goal
 
-sets : (c : goal.After-set_first_word) → SetsBit c.self.inside.levels.second c.args.class c.row-row.result c.place.result c.with_bit-word.result
+sets : (c : goal.After-set_first_word) → SetsBit c.self.inside.levels.second c.args.class c.first_level-first_level.result c.second_level.result c.with_bit-word.result
 sets c =
-    sets_bit _ _ _ _ c.second_word.result _ c.self.invariant.rows c.row-row.ensures.least c.row-row.ensures.most c.row-row.ensures.value
-    c.place.ensures.value c.second_word.ensures.value c.with_bit-word.ensures.same c.with_bit-word.ensures.others
+    SetsBit-read _ _ _ _ c.second_word.result _ c.self.invariant.first_levels c.first_level-first_level.ensures.least c.first_level-first_level.ensures.most c.first_level-first_level.ensures.value
+    c.second_level.ensures.value c.second_word.ensures.value c.with_bit-word.ensures.same c.with_bit-word.ensures.others
 
 pub invariant_of-self : goal.invariant_of-self
 invariant_of-self c =
-    let read : c.first_word-rows.result ≡ c.self.inside.levels.first =
-    c.first_word-rows.ensures.value ∙ rw (c.set_second_word.ensures.first, c.second_word.ensures.first) refl
+    let read : c.first_word-first_word.result ≡ c.self.inside.levels.first =
+    c.first_word-first_word.ensures.value ∙ rw (c.set_second_word.ensures.first, c.second_word.ensures.first) refl
     in
-    rw (c.set_first_word.ensures.first, c.set_first_word.ensures.second, c.first_word-rows.ensures.second, c.set_second_word.ensures.second, c.second_word.ensures.second)
+    rw (c.set_first_word.ensures.first, c.set_first_word.ensures.second, c.first_word-first_word.ensures.second, c.set_second_word.ensures.second, c.second_word.ensures.second)
     (AreLevels-set _ _ _ _ _ _ _ c.self.invariant (sets c) c.with_bit.ensures.same
     (λ k other. c.with_bit.ensures.others k other ∙ ap (λ w. bit_at w k) read))
 
 pub returns-clause-members : goal.returns-clause-members
 returns-clause-members c =
-    rw (c.set_first_word.ensures.second, c.first_word-rows.ensures.second, c.set_second_word.ensures.second, c.second_word.ensures.second, ← c.self.view_is)
+    rw (c.set_first_word.ensures.second, c.first_word-first_word.ensures.second, c.set_second_word.ensures.second, c.second_word.ensures.second, ← c.self.view_is)
     (members_of-set _ _ _ _ _ (sets c))

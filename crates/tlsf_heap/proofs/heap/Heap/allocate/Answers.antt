@@ -1,5 +1,7 @@
 use Rattle.std.proofs.Common.{◌+◌, sym, ap, ◌∙◌, subst, Ok, Err, arith}
-use Rattle.tlsf_heap.specs.Blocks.{HeapState, Shown, size_of}
+use Rattle.tlsf_heap.specs.Blocks.{HeapState, size_of, payload_words}
+use Rattle.tlsf_heap.specs.Regions.{Edits}
+use Rattle.tlsf_heap.specs.Shown.{Shown}
 use Rattle.tlsf_heap.specs.GoodFit.{block_at}
 use Rattle.tlsf_heap.specs.Laws.{IsLive}
 use Rattle.tlsf_heap.specs.declared.name.Name.{Name}
@@ -20,7 +22,7 @@ choose-requires-clause-sized c = lawful_regions (state_of c.self.inside) c.self.
 nothing : (c : goal.In_default) → Allocates c.args.self.now.heap c.args.len (Err NoFit) (with_region (state_of c.self.inside) c.self.inside.tick c.choose.new.region)
 nothing c =
     allocates_none (state_of c.self.inside) c.args.self.now.heap c.args.len c.want-words.result c.self.invariant.lawful (ap (λ (s : Shown). s.heap) c.self.view_is) c.want-words.ensures
-    c.choose.new.region c.choose.ensures.words c.choose.ensures.blocks c.in_default.ensures.best
+    c.choose.new.region c.choose.ensures.reads.words c.choose.ensures.reads.blocks c.in_default.ensures.best
 
 pub returns-in_default-clause-answer : goal.returns-in_default-clause-answer
 returns-in_default-clause-answer c = (nothing c).is_answer
@@ -39,7 +41,7 @@ returns-in_default-clause-ok c = (nothing c).ok
 worn : (c : goal.Then-self) → Allocates c.args.self.now.heap c.args.len (Err Worn) (with_region (state_of c.self.inside) c.self.inside.tick c.choose.new.region)
 worn c =
     allocates_worn (state_of c.self.inside) c.args.self.now.heap c.args.len c.want-words.result c.self.invariant.lawful (ap (λ (s : Shown). s.heap) c.self.view_is) c.want-words.ensures
-    c.choose.new.region c.choose.ensures.words c.in-Some.ensures.best.0 c.in-Some.ensures.best.2 c.choose.ensures.blocks c.if-self.true
+    c.choose.new.region c.choose.ensures.reads.words c.in-Some.ensures.best.0 c.in-Some.ensures.best.2 c.choose.ensures.reads.blocks c.if-self.true
 
 pub returns-then-self-clause-answer : goal.returns-then-self-clause-answer
 returns-then-self-clause-answer c = (worn c).is_answer
@@ -55,23 +57,26 @@ returns-then-self-clause-no_fit c = (worn c).no_fit
 pub carve-requires-clause-fits : goal.carve-requires-clause-fits
 carve-requires-clause-fits c =
     let best = c.in-Some.ensures.best in
-    rw c.choose.ensures.blocks (best.0, best.1, and_left _ _ best.2.fit, fits_size _ _ best.2.fit)
+    rw c.choose.ensures.reads.blocks (best.0, best.1, and_left _ _ best.2.fit, fits_size _ _ best.2.fit)
 
 pub carve-requires-clause-sized : goal.carve-requires-clause-sized
-carve-requires-clause-sized c = rw c.choose.ensures.blocks (lawful_regions (state_of c.self.inside) c.self.invariant.lawful c.self.invariant.small)
+carve-requires-clause-sized c = rw c.choose.ensures.reads.blocks (lawful_regions (state_of c.self.inside) c.self.invariant.lawful c.self.invariant.small)
 
 pub carve-requires-clause-listed : goal.carve-requires-clause-listed
-carve-requires-clause-listed c = rw (c.choose.ensures.blocks, c.choose.ensures.lists) c.self.invariant.listed
+carve-requires-clause-listed c = rw (c.choose.ensures.reads.blocks, c.choose.ensures.reads.lists) c.self.invariant.listed
 
 pub carve-requires-clause-stamped : goal.carve-requires-clause-stamped
-carve-requires-clause-stamped c = rw c.choose.ensures.blocks c.self.invariant.lawful.stamps_past
+carve-requires-clause-stamped c = rw c.choose.ensures.reads.blocks c.self.invariant.lawful.stamps_past
+
+carved : (c : goal.After-self-1) → Edits c.choose.new.region c.carve.new.region (25 + payload_words (block_at c.carve.new.region.blocks c.in-Some.ensures.best.0))
+carved c = let best = c.in-Some.ensures.best in c.carve.ensures.edits best.0 (rw c.choose.ensures.reads.blocks best.1)
 
 given : (c : goal.After-self-1) → Allocates c.args.self.now.heap c.args.len (Ok (record { heap = c.self.inside.id; at = c.in-Some.at; serial = c.self.inside.tick }))
     (with_region (state_of c.self.inside) (c.self.inside.tick + 1) c.carve.new.region)
 given c =
     let best = c.in-Some.ensures.best in
     allocates_some (state_of c.self.inside) c.args.self.now.heap c.args.len c.want-words.result c.self.invariant.lawful (ap (λ (s : Shown). s.heap) c.self.view_is) c.want-words.ensures
-    c.carve.new.region (c.carve.ensures.words ∙ c.choose.ensures.words) best.0 best.2 c.in-Some.at best.1.place ((rw c.choose.ensures.blocks at c.carve.ensures.blocks) best.0 best.1) c.if-self.false
+    c.carve.new.region ((carved c).words ∙ c.choose.ensures.reads.words) best.0 best.2 c.in-Some.at best.1.place ((rw c.choose.ensures.reads.blocks at c.carve.ensures.blocks) best.0 best.1) c.if-self.false
 
 pub returns-clause-answer : goal.returns-clause-answer
 returns-clause-answer c = (given c).is_answer
@@ -91,7 +96,8 @@ returns-clause-lawful c = (given c).lawful
 pub invariant_of-self-2 : goal.invariant_of-self-2
 invariant_of-self-2 c = record {
   lawful = (given c).lawful;
-  small = omega (arith, c.carve.ensures.words, c.choose.ensures.words, c.self.invariant.small);
+  shows = (carved c).shows;
+  small = omega (arith, (carved c).words, c.choose.ensures.reads.words, c.self.invariant.small);
   listed = c.carve.ensures.listed;
 }
 
@@ -104,12 +110,12 @@ returns-clause-touches c =
     let name : Name = record { heap = c.self.inside.id; at = c.in-Some.at; serial = c.self.inside.tick } in
     let live : IsLive heap name = subst (λ (h : HeapState). IsLive h name) (sym (given c).is_heap) (living.given c.args.self.now.heap c.args.len name (sym (given c).is_answer)) in
     let stands = carved_stands old heap.blocks name.at best.0 (size_of (block_at old best.0)) c.want-words.result c.self.inside.tick c.args.len best.1
-    ((rw c.choose.ensures.blocks at c.carve.ensures.blocks) best.0 best.1) in
-    let regions = lawful_regions heap (given c).lawful (omega (arith, c.carve.ensures.words, c.choose.ensures.words, c.self.invariant.small)) in
+    ((rw c.choose.ensures.reads.blocks at c.carve.ensures.blocks) best.0 best.1) in
+    let regions = lawful_regions heap (given c).lawful (omega (arith, (carved c).words, c.choose.ensures.reads.words, c.self.invariant.small)) in
     omega (
       arith,
-      (rw c.choose.ensures.blocks at c.carve.ensures.touches) best.0 best.1,
+      (carved c).touches,
       named_payload heap name best.0 regions stands live,
-      c.choose.ensures.touches,
+      c.choose.ensures.reads.touches,
       ap (λ (s : Shown). s.touches) c.self.view_is,
     )

@@ -1,9 +1,9 @@
 use Rattle.std.proofs.Common.{◌+◌, ◌<◌, sym, ap, ◌∙◌, arith}
 use Rattle.std.proofs.lemmas.Result.{err_from_is_err_and}
-use Rattle.tlsf_heap.specs.Blocks.{Shown}
+use Rattle.tlsf_heap.specs.Shown.{Shown}
 use Rattle.tlsf_heap.specs.Calls.{read_answer}
 use Rattle.tlsf_heap.specs.Stored.{state_of}
-use Rattle.tlsf_heap.proofs.Naming.{named_same, named_stands, named_live}
+use Rattle.tlsf_heap.proofs.Naming.{named_same, named_stands, named_live, named_inside}
 use Rattle.tlsf_heap.proofs.Writing.{Ranged, read_refused, range_past, range_within}
 use Rattle.tlsf_heap.proofs.heap.Heap.check_range.Goals as goal
 use Rattle.tlsf_heap.proofs.heap.Heap.check_range.Goals.{then-at-length-via-then-at-length, then-at-length-via-else-at-length+then-n-length}
@@ -34,3 +34,17 @@ returns-clause-answer c = (within c).is_answer
 
 pub returns-clause-place : goal.returns-clause-place
 returns-clause-place c = (within c).range
+
+-- ---- the name was not forged
+
+pub returns-then-at-length-clause-outside : goal.returns-then-at-length-clause-outside
+returns-then-at-length-clause-outside c past = absurd (omega (arith, past, named_inside c.args.self.now.heap c.args.name c.in_ok-check.ensures.lawful c.in_ok-check.ensures.answer.1.0 c.in_ok-check.ensures.answer.1.1))
+
+pub returns-then-at-length-clause-nowhere : goal.returns-then-at-length-clause-nowhere
+returns-then-at-length-clause-nowhere c own inside none = absurd (none (c.in_ok-check.ensures.answer.1.0, named_stands c.args.name.at c.args.name.serial c.args.self.now.heap.blocks c.in_ok-check.ensures.answer.1.0 c.in_ok-check.ensures.answer.1.1))
+
+pub returns-clause-outside : goal.returns-clause-outside
+returns-clause-outside c past = absurd (omega (arith, past, named_inside c.args.self.now.heap c.args.name c.in_ok-check.ensures.lawful c.in_ok-check.ensures.answer.1.0 c.in_ok-check.ensures.answer.1.1))
+
+pub returns-clause-nowhere : goal.returns-clause-nowhere
+returns-clause-nowhere c own inside none = absurd (none (c.in_ok-check.ensures.answer.1.0, named_stands c.args.name.at c.args.name.serial c.args.self.now.heap.blocks c.in_ok-check.ensures.answer.1.0 c.in_ok-check.ensures.answer.1.1))

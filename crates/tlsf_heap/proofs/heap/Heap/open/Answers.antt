@@ -26,7 +26,8 @@ pub invariant_of-result : goal.invariant_of-result
 invariant_of-result c =
     let made = c.in-Ok.ensures in
     record {
-      lawful = rw (c.push.ensures.words, c.push.ensures.blocks, made.words, made.blocks) (opened_lawful c.args.id c.args.words c.args.first (omega arith));
-      small = omega (arith, c.push.ensures.words, made.words);
+      lawful = rw (c.push.ensures.edits.words, c.push.ensures.blocks, made.words, made.blocks) (opened_lawful c.args.id c.args.words c.args.first (omega arith));
+      shows = c.push.ensures.edits.shows;
+      small = omega (arith, c.push.ensures.edits.words, made.words);
       listed = rw (c.push.ensures.blocks, made.blocks) (listed_first c.args.words c.args.first c.class_of.result (list_in c.in-Ok.region.lists) (list_in c.push.new.self.lists) made.lists c.class_of.ensures c.push.ensures.list c.push.ensures.others);
     }

@@ -1,7 +1,8 @@
-use Rattle.std.proofs.Common.{length, ap, ◌∙◌}
-use Rattle.tlsf_heap.specs.Blocks.{Shown}
+use Rattle.std.proofs.Common.{length, ap, ◌∙◌, arith}
+use Rattle.tlsf_heap.specs.Shown.{Shown}
 use Rattle.tlsf_heap.specs.Calls.{read_of}
 use Rattle.tlsf_heap.specs.Stored.{state_of}
+use Rattle.tlsf_heap.proofs.Naming.{named_stands, named_inside}
 use Rattle.tlsf_heap.proofs.Writing.{range_stands, reads, unread}
 use Rattle.tlsf_heap.proofs.heap.Heap.read.Goals as goal
 
@@ -17,3 +18,11 @@ pub returns-clause-bytes : goal.returns-clause-bytes
 returns-clause-bytes c =
     reads (state_of c.self.inside) c.args.self.now.heap c.args.name c.args.at (length c.args.out.now) (ap (λ (s : Shown). s.heap) c.self.view_is ∙ c.in_ok-check_range.ensures.heap)
     c.in_ok-check_range.ensures.answer c.in_ok-check_range.ensures.place c.args.out.now c.read.new.out c.read.ensures.bytes
+
+-- ---- the name was not forged
+
+pub returns-clause-outside : goal.returns-clause-outside
+returns-clause-outside c past = absurd (omega (arith, past, named_inside c.args.self.now.heap c.args.name c.in_ok-check_range.ensures.lawful c.in_ok-check_range.ensures.place.0 c.in_ok-check_range.ensures.place.1))
+
+pub returns-clause-nowhere : goal.returns-clause-nowhere
+returns-clause-nowhere c own inside none = absurd (none (c.in_ok-check_range.ensures.place.0, named_stands c.args.name.at c.args.name.serial c.args.self.now.heap.blocks c.in_ok-check_range.ensures.place.0 c.in_ok-check_range.ensures.place.1))

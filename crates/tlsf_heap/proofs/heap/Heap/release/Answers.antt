@@ -1,11 +1,12 @@
 use Rattle.std.proofs.Common.{◌≡◌, ◌+◌, sym, ap, ◌∙◌, subst, Ok, Err, arith}
 use Rattle.std.proofs.lemmas.Result.{err_from_is_err_and}
-use Rattle.tlsf_heap.specs.Blocks.{Shown, HeapState}
+use Rattle.tlsf_heap.specs.Blocks.{HeapState}
+use Rattle.tlsf_heap.specs.Shown.{Shown}
 use Rattle.tlsf_heap.specs.Stored.{state_of}
 use Rattle.tlsf_heap.specs.declared.refusal.Refusal.TheVariants.{Worn}
 use Rattle.tlsf_heap.proofs.Allocating.{lawful_regions}
 use Rattle.tlsf_heap.proofs.Lawfulness.{with_region}
-use Rattle.tlsf_heap.proofs.Naming.{named_same, named_stands, named_live}
+use Rattle.tlsf_heap.proofs.Naming.{named_same, named_stands, named_live, named_inside}
 use Rattle.tlsf_heap.proofs.Releasing.{Releases, releases_refused, releases_worn, releases_block}
 use Rattle.tlsf_heap.proofs.heap.Heap.release.Goals as goal
 
@@ -50,7 +51,7 @@ freed c =
     let same : state_of c.self.inside ≡ c.args.self.now.heap = ap (λ (s : Shown). s.heap) c.self.view_is ∙ c.in_ok-check.ensures.heap in
     let named = named_same (state_of c.self.inside) c.args.self.now.heap c.args.name same c.in_ok-check.ensures.answer in
     subst (λ (s : HeapState). Releases s c.args.name (Ok tt) (with_region (state_of c.self.inside) (c.self.inside.tick + 1) c.coalesce.new.region)) same
-    (releases_block (state_of c.self.inside) c.args.name c.coalesce.new.region named c.self.invariant.lawful c.coalesce.ensures.words
+    (releases_block (state_of c.self.inside) c.args.name c.coalesce.new.region named c.self.invariant.lawful c.coalesce.ensures.edits.words
     (c.coalesce.ensures.blocks named.1.0 (named_stands _ _ _ _ named.1.1)) c.if-self.false)
 
 pub returns-clause-answer : goal.returns-clause-answer
@@ -65,6 +66,15 @@ returns-clause-lawful c = (freed c).lawful
 pub invariant_of-self : goal.invariant_of-self
 invariant_of-self c = record {
   lawful = (freed c).lawful;
-  small = omega (arith, c.coalesce.ensures.words, c.self.invariant.small);
+  shows = c.coalesce.ensures.edits.shows;
+  small = omega (arith, c.coalesce.ensures.edits.words, c.self.invariant.small);
   listed = c.coalesce.ensures.listed;
 }
+
+-- ---- the name was not forged
+
+pub returns-clause-outside : goal.returns-clause-outside
+returns-clause-outside c past = absurd (omega (arith, past, named_inside c.args.self.now.heap c.args.name c.in_ok-check.ensures.lawful c.in_ok-check.ensures.answer.1.0 c.in_ok-check.ensures.answer.1.1))
+
+pub returns-clause-nowhere : goal.returns-clause-nowhere
+returns-clause-nowhere c own inside none = absurd (none (c.in_ok-check.ensures.answer.1.0, named_stands c.args.name.at c.args.name.serial c.args.self.now.heap.blocks c.in_ok-check.ensures.answer.1.0 c.in_ok-check.ensures.answer.1.1))

@@ -1,11 +1,13 @@
 use Rattle.std.proofs.Common.{◌≡◌, length, sym, ap, ◌∙◌, arith}
-use Rattle.tlsf_heap.specs.Blocks.{HeapState, Shown}
+use Rattle.tlsf_heap.specs.Blocks.{HeapState}
+use Rattle.tlsf_heap.specs.Shown.{Shown}
 use Rattle.tlsf_heap.specs.Calls.{Outcome}
 use Rattle.tlsf_heap.specs.FreePlaces.{free_places}
 use Rattle.tlsf_heap.specs.Regions.{list_in}
 use Rattle.tlsf_heap.specs.Stored.{state_of}
 use Rattle.tlsf_heap.proofs.Listing.{same_lists}
 use Rattle.tlsf_heap.proofs.Lawfulness.{with_region}
+use Rattle.tlsf_heap.proofs.Naming.{named_stands, named_inside}
 use Rattle.tlsf_heap.proofs.Writing.{range_stands, unwritten, Writes, writes}
 use Rattle.tlsf_heap.proofs.heap.Heap.write.Goals as goal
 
@@ -22,7 +24,7 @@ write-requires c =
 wrote : (c : goal.After-write) → Writes c.args.self.now.heap c.args.name c.args.at c.args.bytes.now (with_region (state_of c.self.inside) c.self.inside.tick c.write.new.self)
 wrote c =
     writes (state_of c.self.inside) c.args.self.now.heap c.args.name c.args.at c.args.bytes.now (ap (λ (s : Shown). s.heap) c.self.view_is ∙ c.in_ok-check_range.ensures.heap)
-    c.in_ok-check_range.ensures.answer c.in_ok-check_range.ensures.place c.write.new.self c.self.invariant.lawful c.write.ensures.words c.write.ensures.blocks
+    c.in_ok-check_range.ensures.answer c.in_ok-check_range.ensures.place c.write.new.self c.self.invariant.lawful c.write.ensures.edits.words c.write.ensures.blocks
 
 pub invariant_of-self : goal.invariant_of-self
 invariant_of-self c =
@@ -30,7 +32,8 @@ invariant_of-self c =
     let places : free_places 0 c.write.new.self.blocks ≡ free_places 0 c.self.inside.region.blocks = (wrote c).places ∙ sym (ap (λ (h : HeapState). free_places 0 h.blocks) same) in
     record {
       lawful = (wrote c).lawful;
-      small = omega (arith, c.write.ensures.words, c.self.invariant.small);
+      shows = c.write.ensures.edits.shows;
+      small = omega (arith, c.write.ensures.edits.words, c.self.invariant.small);
       listed = rw places (same_lists (free_places 0 c.self.inside.region.blocks) (list_in c.self.inside.region.lists) (list_in c.write.new.self.lists) c.write.ensures.lists c.self.invariant.listed);
     }
 
@@ -42,3 +45,11 @@ returns-clause-heap c = (wrote c).is_heap
 
 pub returns-clause-lawful : goal.returns-clause-lawful
 returns-clause-lawful c = (wrote c).lawful
+
+-- ---- the name was not forged
+
+pub returns-clause-outside : goal.returns-clause-outside
+returns-clause-outside c past = absurd (omega (arith, past, named_inside c.args.self.now.heap c.args.name c.in_ok-check_range.ensures.lawful c.in_ok-check_range.ensures.place.0 c.in_ok-check_range.ensures.place.1))
+
+pub returns-clause-nowhere : goal.returns-clause-nowhere
+returns-clause-nowhere c own inside none = absurd (none (c.in_ok-check_range.ensures.place.0, named_stands c.args.name.at c.args.name.serial c.args.self.now.heap.blocks c.in_ok-check_range.ensures.place.0 c.in_ok-check_range.ensures.place.1))

@@ -48,3 +48,11 @@ returns-else-not-tag-clause-answer c =
     let place = starts_here shows c.len.ensures.words c.if-at-len.false c.starts.ensures.value c.if-not-starts.false in
     let free = sym (says_here shows place.1).free ∙ sym (c.tag.ensures.free ∙ ap (λ (w : List ℕ). free_in (get_or w c.args.at 0)) c.starts.ensures.words) ∙ not-false c.tag.result.free c.if-not-tag.false in
     named_here shows c.args.serial place.1 (not c.tag.result.free) (has_serial-free _ c.args.serial free ∙ sym c.if-not-tag.false)
+
+pub returns-then-not-tag-clause-nowhere : goal.returns-then-not-tag-clause-nowhere
+returns-then-not-tag-clause-nowhere c inside none =
+    absurd (none (starts_here (shows_state c.self.invariant c.self.view_is) c.len.ensures.words c.if-at-len.false c.starts.ensures.value c.if-not-starts.false))
+
+pub returns-else-not-tag-clause-nowhere : goal.returns-else-not-tag-clause-nowhere
+returns-else-not-tag-clause-nowhere c inside none =
+    absurd (none (starts_here (shows_state c.self.invariant c.self.view_is) c.len.ensures.words c.if-at-len.false c.starts.ensures.value c.if-not-starts.false))

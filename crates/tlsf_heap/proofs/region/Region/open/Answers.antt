@@ -2,10 +2,11 @@ use Rattle.std.proofs.Common.{◌≡◌, ℕ, ◌+◌, ◌≤◌, ◌^◌, ◌<�
 use Rattle.std.specs.Prelude.{◌==◌}
 use Rattle.std.proofs.lemmas.Bool.Decides.{nat_tests}
 use Rattle.std.proofs.lemmas.List.{length-replicate, get_or-replicate, length-set}
-use Rattle.tlsf_words.specs.Memory.{Memory}
+use Rattle.tlsf_heap.specs.Image.{Image, Shows, StartsOnce}
 use Rattle.tlsf_words.specs.Fields.{tag_word}
 use Rattle.tlsf_heap.specs.Blocks.{Free}
-use Rattle.tlsf_heap.specs.Image.{no_place, Shows, StartsOnce}
+use Rattle.tlsf_words.specs.Lists.{nowhere}
+use Rattle.tlsf_heap.specs.Regions.{image_of}
 use Rattle.tlsf_heap.proofs.Showing.{word_at, blocks_of-shown}
 use Rattle.tlsf_heap.proofs.Linking.{list_in-lists_of}
 use Rattle.tlsf_heap.proofs.region.Region.open.Goals as goal
@@ -17,7 +18,7 @@ one_start n starts some e = record {
   others = λ k l g. let other : k ≢ 0 = omega arith in rw e (rw get_or-set_other (get_or-replicate n k false false (omega arith)));
 }
 
-one_block : (m : Memory) (n stamp : ℕ) → 4 ≤ n → n ≤ 2 ^ 20 → length m.words ≡ n → word_at m 0 ≡ tag_word n true true no_place → word_at m 1 ≡ stamp
+one_block : (m : Image) (n stamp : ℕ) → 4 ≤ n → n ≤ 2 ^ 20 → length m.words ≡ n → word_at m 0 ≡ tag_word n true true nowhere → word_at m 1 ≡ stamp
     → m.starts ≡ set (replicate n false) 0 true → Shows m (Free n stamp ∷ [])
 one_block m n stamp some most long tag mark starts =
     let last : (0 + n == length m.words) ≡ true = grind (arith, nat_tests) in
@@ -29,23 +30,23 @@ one_block m n stamp some most long tag mark starts =
       small = omega arith;
     }
 
-made : (c : goal.After-new) → Shows c.first_header.new.words (Free c.args.words c.args.stamp ∷ [])
+made : (c : goal.After-new) → Shows (image_of c.first_header.new.words) (Free c.args.words c.args.stamp ∷ [])
 made c =
     let opened = c.in_ok-region.ensures in
     let header = c.first_header.ensures in
     let long : length c.in_ok-region.region.words ≡ c.args.words = ap length opened.words ∙ length-replicate c.args.words 0 in
-    one_block c.first_header.new.words c.args.words c.args.stamp c.requires.least c.requires.most (header.length ∙ long)
-    (header.tag ∙ ap (λ (n : ℕ). tag_word n true true no_place) long) header.mark (header.starts ∙ ap (λ (l : List Bool). set l 0 true) opened.starts)
+    one_block (image_of c.first_header.new.words) c.args.words c.args.stamp c.requires.least c.requires.most (header.length ∙ long)
+    (header.tag ∙ ap (λ (n : ℕ). tag_word n true true nowhere) long) header.mark (header.starts ∙ ap (λ (l : List Bool). set l 0 true) opened.starts)
 
 pub invariant_of-result : goal.invariant_of-result
 invariant_of-result c = record {
-  shows = subst (Shows c.first_header.new.words) (sym (blocks_of-shown c.first_header.new.words (Free c.args.words c.args.stamp ∷ []) (made c))) (made c);
+  shows = subst (Shows (image_of c.first_header.new.words)) (sym (blocks_of-shown (image_of c.first_header.new.words) (Free c.args.words c.args.stamp ∷ []) (made c))) (made c);
   threaded = c.new.ensures.threaded c.first_header.new.words.words;
   free = λ class at listed. absurd (omega (arith, listed.1, ap (length {A = ℕ}) (c.new.ensures.empty c.first_header.new.words.words class)));
 }
 
 pub returns-clause-blocks : goal.returns-clause-blocks
-returns-clause-blocks c = blocks_of-shown c.first_header.new.words (Free c.args.words c.args.stamp ∷ []) (made c)
+returns-clause-blocks c = blocks_of-shown (image_of c.first_header.new.words) (Free c.args.words c.args.stamp ∷ []) (made c)
 
 pub returns-clause-lists : goal.returns-clause-lists
 returns-clause-lists c class =

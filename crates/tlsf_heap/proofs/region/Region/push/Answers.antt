@@ -3,6 +3,7 @@ use Rattle.std.proofs.Common.{ℕ, List, ◌∷◌, sym, ap, ◌∙◌, subst, a
 use Rattle.std.specs.Prelude.{Contains}
 use Rattle.tlsf_heap.proofs.Reading.{shows_state, in_region}
 use Rattle.tlsf_heap.proofs.Linking.{Relinks, holds_state, list_in-lists_of, relinked, free_pushed}
+use Rattle.tlsf_heap.specs.Regions.{RegionState, image_of}
 use Rattle.tlsf_heap.proofs.region.Region.push.Goals as goal
 
 pub push-requires-clause-inside : goal.push-requires-clause-inside
@@ -12,11 +13,11 @@ pub push-requires-clause-unlisted : goal.push-requires-clause-unlisted
 push-requires-clause-unlisted c class listed =
     c.requires.unlisted class (subst (λ (places : List ℕ). Contains places c.args.at) (sym ((holds_state c.self.invariant c.self.view_is).lists class)) listed)
 
-relinks : (c : goal.After-push) → Relinks c.push.new.words c.push.new.self c.args.self.now.blocks
+relinks : (c : goal.After-push) → Relinks (image_of c.push.new.words) c.push.new.self c.args.self.now.blocks
 relinks c =
     let new = c.push.ensures in
     let state = holds_state c.self.invariant c.self.view_is in
-    relinked state new.threaded (free_pushed state c.push.new.words c.push.new.self c.args.class c.args.at new.others c.requires.free new.list) new.words new.length new.starts
+    relinked state new.threaded (free_pushed state (image_of c.push.new.words) c.push.new.self c.args.class c.args.at new.others c.requires.free new.list) new.words new.length new.starts
 
 pub invariant_of-self : goal.invariant_of-self
 invariant_of-self c = (relinks c).holds
@@ -32,3 +33,9 @@ returns-clause-list c =
 pub returns-clause-others : goal.returns-clause-others
 returns-clause-others c other differs =
     list_in-lists_of c.push.new.self.heads c.push.new.words.words other ∙ c.push.ensures.others other differs ∙ sym ((holds_state c.self.invariant c.self.view_is).lists other)
+
+pub returns-clause-edits : goal.returns-clause-edits
+returns-clause-edits c =
+    let touches = ap (λ (r : RegionState). r.touches) c.self.view_is in
+    let words = ap (λ (r : RegionState). r.words) c.self.view_is in
+    record { words = c.push.ensures.length ∙ words; shows = (relinks c).holds.shows; touches = omega (arith, c.push.ensures.touches, touches); rise = omega (arith, c.push.ensures.rise, c.push.ensures.words_rise, touches) }

@@ -1,20 +1,21 @@
 -- The free lists with one place less: only links have changed.
-use Rattle.std.proofs.Common.{ℕ, List, sym, ap, ◌∙◌, subst}
+use Rattle.std.proofs.Common.{ℕ, List, sym, ap, ◌∙◌, subst, arith}
 use Rattle.std.specs.Prelude.{Contains}
 use Rattle.tlsf_words.specs.Lists.{list_of, without_place}
 use Rattle.tlsf_words.proofs.Threads.{removed_unlisted}
 use Rattle.tlsf_heap.proofs.Linking.{Relinks, holds_state, list_in-lists_of, relinked, free_removed}
+use Rattle.tlsf_heap.specs.Regions.{RegionState, image_of}
 use Rattle.tlsf_heap.proofs.region.Region.remove.Goals as goal
 
 pub remove-requires-clause-listed : goal.remove-requires-clause-listed
 remove-requires-clause-listed c =
     subst (λ (places : List ℕ). Contains places c.args.at) ((holds_state c.self.invariant c.self.view_is).lists c.args.class) c.requires.listed
 
-relinks : (c : goal.After-remove) → Relinks c.remove.new.words c.remove.new.self c.args.self.now.blocks
+relinks : (c : goal.After-remove) → Relinks (image_of c.remove.new.words) c.remove.new.self c.args.self.now.blocks
 relinks c =
     let new = c.remove.ensures in
     let state = holds_state c.self.invariant c.self.view_is in
-    relinked state new.threaded (free_removed state c.remove.new.words c.remove.new.self c.args.class c.args.at new.others new.list) new.words new.length new.starts
+    relinked state new.threaded (free_removed state (image_of c.remove.new.words) c.remove.new.self c.args.class c.args.at new.others new.list) new.words new.length new.starts
 
 pub invariant_of-self : goal.invariant_of-self
 invariant_of-self c = (relinks c).holds
@@ -38,3 +39,9 @@ returns-clause-unlisted c class listed =
     removed_unlisted c.self.inside.lists.heads c.self.inside.lists.members c.self.inside.words.words c.args.class c.args.at (list_of c.remove.new.self.heads c.remove.new.words.words)
     state.threaded (subst (λ (places : List ℕ). Contains places c.args.at) (state.lists c.args.class) c.requires.listed) new.list new.others class
     (subst (λ (places : List ℕ). Contains places c.args.at) (list_in-lists_of c.remove.new.self.heads c.remove.new.words.words class) listed)
+
+pub returns-clause-edits : goal.returns-clause-edits
+returns-clause-edits c =
+    let touches = ap (λ (r : RegionState). r.touches) c.self.view_is in
+    let words = ap (λ (r : RegionState). r.words) c.self.view_is in
+    record { words = c.remove.ensures.length ∙ words; shows = (relinks c).holds.shows; touches = omega (arith, c.remove.ensures.touches, touches); rise = omega (arith, c.remove.ensures.rise, c.remove.ensures.words_rise, touches) }

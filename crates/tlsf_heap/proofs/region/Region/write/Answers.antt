@@ -1,4 +1,4 @@
-use Rattle.std.proofs.Common.{length, arith}
+use Rattle.std.proofs.Common.{length, arith, ap, ◌∙◌}
 use Rattle.tlsf_heap.specs.Blocks.{bytes_of}
 use Rattle.tlsf_heap.specs.Calls.{overwritten}
 use Rattle.tlsf_heap.specs.GoodFit.{block_at}
@@ -6,12 +6,13 @@ use Rattle.tlsf_heap.proofs.Reading.{shows_state}
 use Rattle.tlsf_heap.proofs.Payloads.{payload_inside, rewritten}
 use Rattle.tlsf_heap.proofs.Linking.{Relists, holds_state}
 use Rattle.tlsf_heap.proofs.Relisting.{relisted_bytes}
+use Rattle.tlsf_heap.specs.Regions.{RegionState, image_of}
 use Rattle.tlsf_heap.proofs.region.Region.write.Goals as goal
 
 pub copy_in-requires : goal.copy_in-requires
 copy_in-requires c = omega (arith, payload_inside (shows_state c.self.invariant c.self.view_is) c.requires.1, c.requires.2)
 
-relists : (c : goal.After-copy_in) → Relists c.copy_in.new.self c.self.inside.lists c.args.self.now.lists
+relists : (c : goal.After-copy_in) → Relists (image_of c.copy_in.new.self) c.self.inside.lists c.args.self.now.lists
 relists c =
     let new = c.copy_in.ensures in
     let state = holds_state c.self.invariant c.self.view_is in
@@ -25,7 +26,13 @@ invariant_of-self c = (relists c).holds
 pub returns-clause-blocks : goal.returns-clause-blocks
 returns-clause-blocks c =
     let new = c.copy_in.ensures in
-    (rewritten {v = c.copy_in.new.self} c.args.offset (shows_state c.self.invariant c.self.view_is) c.requires new.bytes new.before new.behind new.words_before new.words_behind new.length new.starts).blocks
+    (rewritten {v = image_of c.copy_in.new.self} c.args.offset (shows_state c.self.invariant c.self.view_is) c.requires new.bytes new.before new.behind new.words_before new.words_behind new.length new.starts).blocks
 
 pub returns-clause-lists : goal.returns-clause-lists
 returns-clause-lists c = (relists c).same
+
+pub returns-clause-edits : goal.returns-clause-edits
+returns-clause-edits c =
+    let touches = ap (λ (r : RegionState). r.touches) c.self.view_is in
+    let words = ap (λ (r : RegionState). r.words) c.self.view_is in
+    record { words = c.copy_in.ensures.length ∙ words; shows = (relists c).holds.shows; touches = omega (arith, c.copy_in.ensures.touches, touches); rise = omega (arith, c.copy_in.ensures.rise, touches) }

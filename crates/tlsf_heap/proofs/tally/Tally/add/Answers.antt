@@ -26,7 +26,7 @@ add_live-requires-clause-words c =
 pub add_live-requires-clause-bytes : goal.add_live-requires-clause-bytes
 add_live-requires-clause-bytes c =
     let here = stands c.requires.rooms c.requires.sums.1 c.requires.within in
-    let unread = c.is_free.ensures.blocks ∙ c.size-size.ensures.blocks in
+    let unread = c.is_free.ensures.reads.blocks ∙ c.size-size.ensures.reads.blocks in
     omega (arith, c.requires.small, rw unread at c.length.ensures.value c.requires.sums.1.index here, (small c.requires.rooms c.requires.sums.1 here).live_bytes)
 
 pub overflow_add-result : goal.overflow_add-result
@@ -39,8 +39,8 @@ returns-clause-sums c tick so_far =
     let here = stands c.requires.rooms so_far c.requires.within in
     let i = so_far.index in
     let sized = c.size-size.ensures.value i here in
-    let is_free = rw c.size-size.ensures.blocks at c.is_free.ensures.value in
-    let unread = c.is_free.ensures.blocks ∙ c.size-size.ensures.blocks in
+    let is_free = rw c.size-size.ensures.reads.blocks at c.is_free.ensures.value in
+    let unread = c.is_free.ensures.reads.blocks ∙ c.size-size.ensures.reads.blocks in
     elim c.if-is_free.branch [
       | then-is_free w ↦
           let stamp = (rw unread at w.mark.ensures.value) i here in

@@ -1,0 +1,2 @@
+-- How many blocks are live after each call, and that a counted heap stays counted.
+pub mod LiveBlocks

@@ -1,0 +1,113 @@
+-- How many blocks of a heap are live after each call on it.
+use Rattle.std.proofs.Common.{◌≡◌, ℕ, ◌+◌, true, nat_le, List, [], ◌∷◌, ◌++◌, Ok, length, refl, sym, ap, ◌∙◌, arith, length-append, add-zero}
+use Rattle.std.proofs.lemmas.List.Elements.{filter-append}
+use Rattle.std.proofs.lemmas.Bool.{false≢true}
+use Rattle.tlsf_heap.specs.Blocks.{Block, Live, Free, HeapState, size_of, bytes_of, want}
+use Rattle.tlsf_heap.specs.GoodFit.{Site, is_fit}
+use Rattle.tlsf_heap.specs.Lawful.{IsLawful}
+use Rattle.tlsf_heap.specs.Reports.{live_among}
+use Rattle.tlsf_heap.specs.Calls.{Outcome, carved, allocated, has_serial, past_free, before_free, first_free, last_free, released, overwritten, with_bytes, written}
+use Rattle.tlsf_heap.specs.declared.name.Name.{Name}
+use Rattle.tlsf_heap.proofs.Finding.{and_left}
+use Rattle.tlsf_heap.proofs.Coalescing.{by_last}
+use Rattle.tlsf_heap.proofs.Outcomes.{IsSiteOf, by_test, by_allocated, by_released, by_written}
+use Rattle.tlsf_lock.specs.Grants.{HeapCount, IsCounted, live_count, accepted}
+
+abbrev live_in : List Block → ℕ
+live_in bs = length (live_among bs)
+
+live_append : (xs ys : List Block) → live_in (xs ++ ys) ≡ live_in xs + live_in ys
+live_append xs ys = ap length (filter-append _ xs ys) ∙ length-append (live_among xs) (live_among ys)
+
+live_past : (bs : List Block) → live_in (past_free bs) ≡ live_in bs
+live_past [] = refl
+live_past (Live m s xs ∷ bs) = refl
+live_past (Free m s ∷ bs) = refl
+
+live_before : (bs : List Block) → live_in (before_free bs) ≡ live_in bs
+live_before bs = by_last (λ all k left. live_in left ≡ live_in all) bs refl (λ all m s xs. refl) (λ all m s. sym (live_append all (Free m s ∷ []) ∙ add-zero (live_in all)))
+
+live_fit : (n : ℕ) (b : Block) (bs : List Block) → is_fit n b ≡ true → live_in (b ∷ bs) ≡ live_in bs
+live_fit n (Live m s xs) bs f = absurd (false≢true f)
+live_fit n (Free m s) bs f = refl
+
+live_named : (serial : ℕ) (b : Block) (bs : List Block) → has_serial serial b ≡ true → live_in (b ∷ bs) ≡ live_in bs + 1
+live_named serial (Live m s xs) bs f = omega arith
+live_named serial (Free m s) bs f = absurd (false≢true f)
+
+live_with : (b : Block) (new : List ℕ) (bs : List Block) → live_in (with_bytes b new ∷ bs) ≡ live_in (b ∷ bs)
+live_with (Live m s xs) new bs = refl
+live_with (Free m s) new bs = refl
+
+live_carved : (size n tick len : ℕ) → live_in (carved size n tick len) ≡ 1
+live_carved size n tick len = by_test (λ bs. live_in bs ≡ 1) (nat_le (n + 4) size) _ _ (λ _. refl) refl
+
+-- the live blocks of a heap, by a block where it stands
+live_site : (bs : List Block) (s : Site) → IsSiteOf bs s → live_in bs ≡ live_in s.before + live_in (s.block ∷ s.after)
+live_site bs s site = ap live_in (sym site) ∙ live_append s.before (s.block ∷ s.after)
+
+-- so many live blocks more, and so many ticks later
+abbrev pub Grows : {A : Type 0} → HeapState → Outcome A → Type 0
+Grows h o = (live_count o.heap ≡ live_count h + accepted o.answer) × (o.heap.tick ≡ h.tick + accepted o.answer)
+
+-- so many live blocks less, and so many ticks later
+abbrev pub Shrinks : {A : Type 0} → HeapState → Outcome A → Type 0
+Shrinks h o = (live_count o.heap + accepted o.answer ≡ live_count h) × (o.heap.tick ≡ h.tick + accepted o.answer)
+
+pub allocated_grows : (h : HeapState) (len : ℕ) → Grows h (allocated h len)
+allocated_grows h len = by_allocated (Grows h) h len (λ why. (sym (add-zero (live_count h)), sym (add-zero h.tick))) (λ s site fit.
+    let new : List Block = carved (size_of s.block) (want len) h.tick len in
+    let more : live_in (s.before ++ new ++ s.after) ≡ live_in h.blocks + 1 =
+    omega (arith, live_site h.blocks s site, live_fit (want len) s.block s.after fit, live_append (s.before ++ new) s.after, live_append s.before new, live_carved (size_of s.block) (want len) h.tick len) in
+    (more, refl))
+
+pub released_shrinks : (h : HeapState) (name : Name) → Shrinks h (released h name)
+released_shrinks h name = by_released (Shrinks h) h name (λ why. (add-zero (live_count h), sym (add-zero h.tick))) (λ s own site is.
+    let free : Block = Free (last_free s.before + size_of s.block + first_free s.after) h.tick in
+    (omega (arith, live_site h.blocks s site, live_named name.serial s.block s.after (and_left _ _ is), live_append (before_free s.before) (free ∷ past_free s.after), live_before s.before, live_past s.after), refl))
+
+-- a write leaves how many are live, and the tick
+abbrev pub Stays : {A : Type 0} → HeapState → Outcome A → Type 0
+Stays h o = (live_count o.heap ≡ live_count h) × (o.heap.tick ≡ h.tick)
+
+pub written_stays : (h : HeapState) (name : Name) (at : ℕ) (bytes : List ℕ) → Stays h (written h name at bytes)
+written_stays h name at bytes = by_written (Stays h) h name at bytes (λ why. (refl, refl)) (λ s site has.
+    let new : List ℕ = overwritten (bytes_of s.block) at bytes in
+    (omega (arith, live_site h.blocks s site, live_with s.block new s.after, live_append s.before (with_bytes s.block new ∷ s.after)), refl))
+
+-- ---- a counted heap
+
+-- after an allocate that gave a name
+pub granted_counted : (c : HeapCount) (len : ℕ) (name : Name) (left : HeapState) (touches : ℕ) → IsCounted c → Ok name ≡ (allocated c.heap len).answer → left ≡ (allocated c.heap len).heap → IsLawful left
+    → IsCounted (record { heap = left; grants = c.grants + 1; returns = c.returns; touches = touches })
+granted_counted c len name left touches is answer heap lawful =
+    let one : accepted (allocated c.heap len).answer ≡ 1 = ap accepted (sym answer) in
+    let grows = allocated_grows c.heap len in
+    record {
+      lawful = lawful;
+      live = omega (arith, ap live_count heap, one, grows.0, is.live);
+      below = omega (arith, ap (λ (h : HeapState). h.tick) heap, one, grows.1, is.below);
+    }
+
+-- after a release that was done
+pub returned_counted : (c : HeapCount) (name : Name) (left : HeapState) (touches : ℕ) → IsCounted c → Ok tt ≡ (released c.heap name).answer → left ≡ (released c.heap name).heap → IsLawful left
+    → IsCounted (record { heap = left; grants = c.grants; returns = c.returns + 1; touches = touches })
+returned_counted c name left touches is answer heap lawful =
+    let one : accepted (released c.heap name).answer ≡ 1 = ap accepted (sym answer) in
+    let shrinks = released_shrinks c.heap name in
+    record {
+      lawful = lawful;
+      live = omega (arith, ap live_count heap, one, shrinks.0, is.live);
+      below = omega (arith, ap (λ (h : HeapState). h.tick) heap, one, shrinks.1, is.below);
+    }
+
+-- after a write, done or refused
+pub written_counted : (c : HeapCount) (name : Name) (at : ℕ) (bytes : List ℕ) (left : HeapState) (touches : ℕ) → IsCounted c → left ≡ (written c.heap name at bytes).heap → IsLawful left
+    → IsCounted (record { heap = left; grants = c.grants; returns = c.returns; touches = touches })
+written_counted c name at bytes left touches is heap lawful =
+    let stays = written_stays c.heap name at bytes in
+    record {
+      lawful = lawful;
+      live = omega (arith, ap live_count heap, stays.0, is.live);
+      below = omega (arith, ap (λ (h : HeapState). h.tick) heap, stays.1, is.below);
+    }
