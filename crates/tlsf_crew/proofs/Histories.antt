@@ -2,6 +2,7 @@
 use Rattle.std.proofs.Common.{zero, suc, [], ◌∷◌, ◌++◌, ◌≡◌, ◌≢◌, ℕ, ◌<◌, ◌≤◌, List, Option, Some, None, length, get_or, sym, ◌∙◌, ap, arith, refl, inl, inr, subst, append_assoc, append-nil}
 use Rattle.std.specs.List.{fold}
 use Rattle.std.proofs.lemmas.Bool.{cases_lt}
+use Rattle.std.proofs.lemmas.List.Elements.{All-nil, All-cons}
 use Rattle.tlsf_heap.specs.Lawful.{IsLawful}
 use Rattle.tlsf_heap.proofs.Outcomes.{lawful_run}
 use Rattle.tlsf_heap.specs.declared.name.Name.{Name}
@@ -20,7 +21,7 @@ use Rattle.tlsf_crew.proofs.EventSteps.{after_far, after_near}
 use Rattle.tlsf_crew.proofs.LaneCalls.{release_told, take_told}
 use Rattle.tlsf_crew.proofs.OwnCalls.{Knows, allocate_told, read_told, write_told}
 use Rattle.tlsf_crew.proofs.NamesMeant.{allocate_unmade, read_unmade, release_unmade, take_unmade, write_unmade}
-use Rattle.tlsf_crew.proofs.Telling.{IsHistory, history_none, history_then, quiet_posts, told_other}
+use Rattle.tlsf_crew.proofs.Telling.{IsAnswered, IsHistory, history_none, history_then, quiet_posts, told_other}
 
 -- ---- names that were made stay known
 
@@ -100,6 +101,7 @@ far_told made w at call ge =
           rw (a, b) (record { told = refl; left = refl });
       posts = quiet_posts made w w e (record { made_none = λ j. no_post made j at call; taken_none = λ i. no_take i call }) refl;
       count = refl;
+      each = All-cons (IsAnswered made (length w.heaps)) e [] (λ lt. absurd (omega arith)) (All-nil (IsAnswered made (length w.heaps)));
     }
 
 after_told : (made : List (Option Name)) (r : Replayed) (e : Event) → Knows made r.made → ToldOnce made r (after r e) (TellsEvent (length r.world.heaps) r.made e)

@@ -20,7 +20,7 @@ use Rattle.tlsf_crew.specs.World.{World, heap_in, with_heap, with_waiting, freei
 use Rattle.tlsf_crew.proofs.OneEvent.{releasing_post, releasing_far, taking_lane, taking_own, taking_far}
 use Rattle.tlsf_crew.proofs.Worlds.{edited_same, edited_other}
 use Rattle.tlsf_crew.proofs.OwnCalls.{Tells1, done_here, none_done}
-use Rattle.tlsf_crew.proofs.Telling.{history_quiet, own_heaps, told_nothing, told_other, told_own}
+use Rattle.tlsf_crew.proofs.Telling.{history_quiet, own_each, own_heaps, told_nothing, told_other, told_own}
 
 pub of_same : (j : ℕ) (name : Name) → name.heap ≡ j → of_heap j (Some name) ≡ Some name
 of_same j name e = let b : (name.heap == j) ≡ true = grind (arith, nat_tests) in rw b refl
@@ -114,7 +114,7 @@ post_told made w at target name ne known =
           let v = with_waiting w at name.heap (w.waiting at name.heap ++ x ∷ []) in
           let entry : Entry = record { worker = at; call = Release target; reply = Posted } in
           let own = none_done made w v at (Release target) Posted (rw (known, away) refl) refl refl in
-          rw b (record { heaps = λ j j_in. own_heaps made w v entry own j; posts = posted_lanes made w at target name known; count = refl })
+          rw b (record { heaps = λ j j_in. own_heaps made w v entry own j; posts = posted_lanes made w at target name known; count = refl; each = own_each made w v entry (length w.heaps) own })
     ]
 
 pub release_told : (made : List (Option Name)) (w : World) (at : ℕ) (target : Target) (o : Option Name) → at < length w.heaps
@@ -180,6 +180,7 @@ took_told made w at from p rest at_in waits =
       heaps = λ j j_in. own_heaps made w (with_heap w at g) (record { worker = at; call = Take from; reply = a.reply }) own j;
       posts = took_lanes made w at from p rest waits;
       count = length-set w.heaps at g;
+      each = own_each made w (with_heap w at g) (record { worker = at; call = Take from; reply = a.reply }) (length w.heaps) own;
     }
 
 untaken_told : (made : List (Option Name)) (w : World) (at from : ℕ) (reply : Reply) → call_on_own made at (Take from) reply ≡ None → answer_told (Take from) reply ≡ None

@@ -9,7 +9,7 @@ use Rattle.std.proofs.lemmas.List.FromFn.{map-range_with_len_more, get_or-map-ra
 use Rattle.tlsf_post.specs.declared.post.Post.{Post}
 use Rattle.tlsf_post.specs.declared.post_end.PostEnd.{PostEnd}
 use Rattle.tlsf_post.specs.declared.take_end.TakeEnd.{TakeEnd}
-use Rattle.tlsf_post.specs.Lanes.{posts_sent, free_slots, capacity_of, waited, taken, IsLane}
+use Rattle.tlsf_post.specs.Lanes.{posts_sent, free_slots, capacity_of, waited, taken, ready, IsLane}
 use Rattle.tlsf_crew.specs.declared.worker.Worker.{Worker}
 use Rattle.tlsf_crew.specs.Yard.{post_at, take_at, capacity_in, lane_waits, IsYard, yard_heap, no_heap}
 use Rattle.tlsf_crew.specs.World.{world_of}
@@ -41,14 +41,27 @@ before_more i j x y b away =
       | inr e ↦ (let ne : y ≢ j = λ q. away e.0 q in let lt = e.1 in inr (e.0, omega arith))
     ]
 
+-- what holds of each end, where one more was laid
+end_laid : {E : Type 0} (P : E → Type 0) (old new : ℕ → ℕ → Option E) (i j : ℕ) (e : E) → new i j ≡ Some e → ((x y : ℕ) → (x ≡ i → y ≡ j → ⊥) → new x y ≡ old x y) → P e
+    → ((x y : ℕ) (q : E) → old x y ≡ Some q → P q) → (x y : ℕ) (q : E) → new x y ≡ Some q → P q
+end_laid P old new i j e here others own before x y q is =
+    let other : (x ≡ i → y ≡ j → ⊥) → P q = λ away. before x y q (sym (others x y away) ∙ is) in
+    elim (cases_eq x i) [
+      | inl xi ↦ elim (cases_eq y j) [
+        | inl yj ↦ subst P (some_same e q (rw (xi, yj, here) at is)) own
+        | inr yj ↦ other (λ _ f. yj f)
+      ]
+      | inr xi ↦ other (λ f _. xi f)
+    ]
+
 -- one lane more
 pub lane_laid : (ws : List Worker) (n words capacity i j : ℕ) (a v b w : Worker) (p : PostEnd) (t : TakeEnd)
     → IsLaid ws n words capacity i j → i < n → j < n → i ≢ j
     → slice_get ws i ≡ Some a → v.posts.items ≡ set a.posts.items j (Some p) → (v.heap ≡ a.heap) × (own_numbers v ≡ own_numbers a) × (v.takes ≡ a.takes)
     → slice_get (set ws i v) j ≡ Some b → w.takes.items ≡ set b.takes.items i (Some t) → (w.heap ≡ b.heap) × (own_numbers w ≡ own_numbers b) × (w.posts ≡ b.posts)
-    → IsLane p t → capacity_of p ≡ capacity → free_slots p ≡ capacity → (posts_sent p ≡ []) × (waited t ≡ []) × (taken t ≡ [])
+    → IsLane p t → capacity_of p ≡ capacity → free_slots p ≡ capacity → posts_sent p ≡ [] → (waited t ≡ []) × (taken t ≡ []) × (ready t ≡ [])
     → IsLaid (set (set ws i v) j w) n words capacity i (j + 1)
-lane_laid ws n words capacity i j a v b w p t l i_in j_in ne a_is posts a_same b_is takes b_same lane same_capacity all_free fresh =
+lane_laid ws n words capacity i j a v b w p t l i_in j_in ne a_is posts a_same b_is takes b_same lane same_capacity all_free unsent untaken =
     let us = set ws i v in
     let vs = set us j w in
     let len_u = length-set ws i v in
@@ -68,7 +81,7 @@ lane_laid ws n words capacity i j a v b w p t l i_in j_in ne a_is posts a_same b
     let post_here : post_at vs i j ≡ Some p = second.posts i j ∙ first.here in
     let post_other : (x y : ℕ) → (x ≡ i → y ≡ j → ⊥) → post_at vs x y ≡ post_at ws x y = λ x y away. second.posts x y ∙ first.others x y away in
     let take_other : (x y : ℕ) → (x ≡ i → y ≡ j → ⊥) → take_at vs x y ≡ take_at ws x y = λ x y away. second.others x y away ∙ first.takes x y in
-    let nothing : lane_waits (Some p) (Some t) ≡ [] = rw (fresh.0, fresh.1, fresh.2) refl in
+    let nothing : lane_waits (Some p) (Some t) ≡ [] = rw (unsent, untaken.0, untaken.1) refl in
     record {
       len = len_v ∙ (len_u ∙ l.len);
       heaps = map_same heap_of us j b w b_is (ap (λ h. h.heap) b_same.0) ∙ (map_same heap_of ws i a v a_is (ap (λ h. h.heap) a_same.0) ∙ l.heaps);
@@ -82,14 +95,11 @@ lane_laid ws n words capacity i j a v b w p t l i_in j_in ne a_is posts a_same b
             ]
             | inr xi ↦ rw (post_other x y (λ f _. xi f), take_other x y (λ f _. xi f)) (l.empty x y)
           ];
-      free = λ x y q is.
-          elim (cases_eq x i) [
-            | inl xi ↦ elim (cases_eq y j) [
-              | inl yj ↦ let e : p ≡ q = some_same p q (rw (xi, yj, post_here) at is) in rw (← e) all_free
-              | inr yj ↦ l.free x y q (sym (post_other x y (λ _ f. yj f)) ∙ is)
-            ]
-            | inr xi ↦ l.free x y q (sym (post_other x y (λ f _. xi f)) ∙ is)
-          ];
+      free = end_laid (λ q. free_slots q ≡ capacity) (post_at ws) (post_at vs) i j p post_here post_other all_free l.free;
+      fresh = record {
+        sent = end_laid (λ q. posts_sent q ≡ []) (post_at ws) (post_at vs) i j p post_here post_other unsent l.fresh.sent;
+        taken = end_laid (λ u. (waited u ≡ []) × (taken u ≡ []) × (ready u ≡ [])) (take_at ws) (take_at vs) i j t second.here take_other untaken l.fresh.taken;
+      };
       alone = λ x. let away : x ≡ i → x ≡ j → ⊥ = λ a b. ne (sym a ∙ b) in (post_other x x away ∙ (l.alone x).0, take_other x x away ∙ (l.alone x).1);
       laid = λ x y x_in y_in apart before.
           elim (cases_eq x i) [
@@ -107,7 +117,7 @@ lane_laid ws n words capacity i j a v b w p t l i_in j_in ne a_is posts a_same b
 laid_along : (ws : List Worker) (n words capacity i j k m : ℕ) → IsLaid ws n words capacity i j
     → ((x y : ℕ) → x < n → y < n → x ≢ y → IsBefore k m x y → IsBefore i j x y) → IsLaid ws n words capacity k m
 laid_along ws n words capacity i j k m l f =
-    record { len = l.len; heaps = l.heaps; numbers = l.numbers; slots = l.slots; empty = l.empty; free = l.free; alone = l.alone; laid = λ x y a b ne before. l.laid x y a b ne (f x y a b ne before) }
+    record { len = l.len; heaps = l.heaps; numbers = l.numbers; slots = l.slots; empty = l.empty; free = l.free; fresh = l.fresh; alone = l.alone; laid = λ x y a b ne before. l.laid x y a b ne (f x y a b ne before) }
 
 pub lane_skipped : (ws : List Worker) (n words capacity i j : ℕ) → i ≡ j → IsLaid ws n words capacity i j → IsLaid ws n words capacity i (j + 1)
 lane_skipped ws n words capacity i j e l =
@@ -209,6 +219,10 @@ alone_laid ws n words capacity len heaps numbers alone =
       slots = λ x a is. let h = alone x a is in (ap length h.0 ∙ length-replicate n None, ap length h.1 ∙ length-replicate n None);
       empty = λ x y. rw (none_at ws n x y alone) refl;
       free = λ x y p is. absurd (none_or_some (post_at ws x y) p (none_at ws n x y alone) is);
+      fresh = record {
+        sent = λ x y p is. absurd (none_or_some (post_at ws x y) p (none_at ws n x y alone) is);
+        taken = λ x y t is. absurd (none_or_some (take_at ws x y) t (none_from ws n y x alone) is);
+      };
       alone = λ x. (none_at ws n x x alone, none_from ws n x x alone);
       laid = λ x y _ _ _ before. elim before [ inl lt ↦ absurd (omega arith) | inr e ↦ absurd (let lt = e.1 in omega arith) ];
     }

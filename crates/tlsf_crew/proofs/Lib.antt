@@ -28,6 +28,7 @@ pub mod LaneCalls
 pub mod DrainTold
 pub mod NamesMeant
 pub mod Histories
+pub mod Fronts
 pub mod Joined
 pub mod Moves
 pub mod OneMove

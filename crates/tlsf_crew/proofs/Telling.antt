@@ -1,10 +1,10 @@
 -- What entries tell of the heaps and of the lanes: of none, of one, and of some followed by others.
-use Rattle.std.proofs.Common.{◌==◌, true, false, [], ◌∷◌, ◌++◌, ◌≡◌, ◌≢◌, ℕ, ◌<◌, List, Option, None, length, map, sym, ◌∙◌, ap, arith, refl, inl, inr, append_assoc, append-nil}
+use Rattle.std.proofs.Common.{◌==◌, true, false, [], ◌∷◌, ◌++◌, ◌≡◌, ◌≢◌, ℕ, suc, ◌<◌, List, Option, None, All, length, map, sym, ◌∙◌, ap, arith, refl, inl, inr, subst, append_assoc, append-nil}
 use Rattle.std.specs.List.{filter_map, cons_option}
 use Rattle.std.proofs.lemmas.Bool.{cases_eq}
 use Rattle.std.proofs.lemmas.Bool.Decides.{nat_tests}
-use Rattle.std.proofs.lemmas.List.{map-append}
-use Rattle.std.proofs.lemmas.List.Elements.{filter_map-append, filter-append}
+use Rattle.std.proofs.lemmas.List.{length-map, map-append}
+use Rattle.std.proofs.lemmas.List.Elements.{All-nil, All-cons, All-append, filter_map-append, filter-append}
 use Rattle.tlsf_heap.specs.Blocks.{HeapState}
 use Rattle.tlsf_heap.specs.Calls as heap
 use Rattle.tlsf_heap.specs.declared.name.Name.{Name}
@@ -14,7 +14,7 @@ use Rattle.tlsf_crew.specs.World.{World, heap_in}
 
 -- ---- runs in turn
 
-run_more : (h : HeapState) (cs ds : List heap.Call) → heap.run h (cs ++ ds) ≡ ((heap.run h cs).0 ++ (heap.run (heap.run h cs).1 ds).0, (heap.run (heap.run h cs).1 ds).1)
+pub run_more : (h : HeapState) (cs ds : List heap.Call) → heap.run h (cs ++ ds) ≡ ((heap.run h cs).0 ++ (heap.run (heap.run h cs).1 ds).0, (heap.run (heap.run h cs).1 ds).1)
 run_more h [] ds = refl
 run_more h (c ∷ cs) ds = let step = heap.answered h c in let a = run_more step.1 cs ds in ap (λ x. (step.0 ∷ x.0, x.1)) a
 
@@ -27,6 +27,14 @@ runs_then h g k cs ds xs ys a b =
           ∙ (ap (λ l. l ++ map handed_on (heap.run (heap.run h cs).1 ds).0) a.told ∙ ap (λ l. xs ++ l) (ap (λ x. map handed_on x.0) at ∙ b.told)));
       left = ap (λ x. x.1) e ∙ (ap (λ x. x.1) at ∙ b.left);
     }
+
+pub length_run : (h : HeapState) (cs : List heap.Call) → length (heap.run h cs).0 ≡ length cs
+length_run h [] = refl
+length_run h (c ∷ cs) = ap suc (length_run (heap.answered h c).1 cs)
+
+-- so many answers as calls
+length_told : (h g : HeapState) (cs : List heap.Call) (xs : List heap.Answer) → RunsTo h cs xs g → length cs ≡ length xs
+length_told h g cs xs r = sym (length_run h cs) ∙ (sym (length-map (heap.run h cs).0 handed_on) ∙ ap length r.told)
 
 -- ---- what is told by some entries and then by others, and by one
 
@@ -45,14 +53,19 @@ told_nothing f j e is = elim (cases_eq e.worker j) [
   | inr ne ↦ told_other f j e ne
 ]
 
+-- an entry of one of so many workers tells an answer where it tells a call on its worker's own heap
+abbrev pub IsAnswered : List (Option Name) → ℕ → Entry → Type 0
+IsAnswered made workers e = e.worker < workers → length (cons_option (call_on_own made e.worker e.call e.reply) []) ≡ length (cons_option (answer_told e.call e.reply) [])
+
 -- the entries tell of the heaps and the lanes what leads from one world to the other
 pub record IsHistory (made : List (Option Name)) (w : World) (entries : List Entry) (v : World) : Type 0 where
   pub heaps : (j : ℕ) → j < length w.heaps → RunsTo (heap_in w j) (calls_on j made entries) (answers_on j entries) (heap_in v j)
   pub posts : (i j : ℕ) → w.waiting i j ++ posts_made i j made entries ≡ posts_taken i j entries ++ v.waiting i j
   pub count : length v.heaps ≡ length w.heaps
+  pub each : All (IsAnswered made (length w.heaps)) entries
 
 pub history_none : (made : List (Option Name)) (w : World) → IsHistory made w [] w
-history_none made w = record { heaps = λ j j_in. record { told = refl; left = refl }; posts = λ i j. append-nil (w.waiting i j); count = refl }
+history_none made w = record { heaps = λ j j_in. record { told = refl; left = refl }; posts = λ i j. append-nil (w.waiting i j); count = refl; each = All-nil (IsAnswered made (length w.heaps)) }
 
 posts_then : {X : Type 0} (a b c m n s t : List X) → a ++ m ≡ s ++ b → b ++ n ≡ t ++ c → a ++ (m ++ n) ≡ (s ++ t) ++ c
 posts_then a b c m n s t x y =
@@ -70,6 +83,7 @@ history_then made w v u xs ys a b = record {
       let d = told_then (λ e. post_taken i e.call e.reply) j xs ys in
       rw (c, d) (posts_then (w.waiting i j) (v.waiting i j) (u.waiting i j) (posts_made i j made xs) (posts_made i j made ys) (posts_taken i j xs) (posts_taken i j ys) (a.posts i j) (b.posts i j));
   count = b.count ∙ a.count;
+  each = All-append (IsAnswered made (length w.heaps)) xs ys a.each (subst (λ (n : ℕ). All (IsAnswered made n) ys) a.count b.each);
 }
 
 -- ---- one entry
@@ -89,6 +103,10 @@ own_heaps made w v e c j =
           (record { told = refl; left = sym (c.others j (λ q. ne (sym q))) })
     ]
 
+pub own_each : (made : List (Option Name)) (w v : World) (e : Entry) (workers : ℕ) → IsOwnCall made w e v → All (IsAnswered made workers) (e ∷ [])
+own_each made w v e workers c =
+    All-cons (IsAnswered made workers) e [] (λ _. length_told (heap_in w e.worker) (heap_in v e.worker) _ _ c.own) (All-nil (IsAnswered made workers))
+
 -- an entry that tells of no lane
 pub record IsNoPost (made : List (Option Name)) (e : Entry) : Type 0 where
   pub made_none : (j : ℕ) → post_made j made e.worker e.call e.reply ≡ None
@@ -106,4 +124,5 @@ history_quiet made w v e c silent same count = record {
   heaps = λ j j_in. own_heaps made w v e c j;
   posts = quiet_posts made w v e silent same;
   count = count;
+  each = own_each made w v e (length w.heaps) c;
 }

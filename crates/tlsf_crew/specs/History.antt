@@ -124,6 +124,14 @@ pub record RunsTo (h : HeapState) (calls : List heap.Call) (answers : List heap.
   pub told : map handed_on (heap.run h calls).0 ≡ answers
   pub left : (heap.run h calls).1 ≡ g
 
+-- the calls that some entries tell of heap j, run on it, give the answers that they tell and leave a lawful heap; those of
+-- the later entries lead from there to the last heap
+pub record RunsThrough (h : HeapState) (j : ℕ) (made : List (Option Name)) (before later : List Entry) (last : HeapState) : Type 0 where
+  pub between : HeapState
+  pub first : RunsTo h (calls_on j made before) (answers_on j before) between
+  pub lawful : IsLawful between
+  pub rest : RunsTo between (calls_on j made later) (answers_on j later) last
+
 -- ---- the posts of a lane
 
 -- the post for heap j that the call of worker i made

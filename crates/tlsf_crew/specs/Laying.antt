@@ -4,7 +4,7 @@ use Rattle.std.specs.List.{range_with_len}
 use Rattle.tlsf_crew.specs.declared.worker.Worker.{Worker}
 use Rattle.tlsf_crew.specs.Workers.{heap_of, own_numbers}
 use Rattle.tlsf_crew.specs.Yard.{post_at, take_at, lane_waits, HasPair}
-use Rattle.tlsf_crew.specs.Opening.{opened_heaps, KnowFree}
+use Rattle.tlsf_crew.specs.Opening.{opened_heaps, KnowFree, AreFresh}
 
 abbrev pub opened_numbers : ℕ → ℕ → List (ℕ × ℕ)
 opened_numbers n capacity = map (λ j. (j, capacity)) (range_with_len 0 n)
@@ -21,5 +21,6 @@ pub record IsLaid (ws : List Worker) (n words capacity i j : ℕ) : Type 0 where
   pub slots : (x : ℕ) (a : Worker) → slice_get ws x ≡ Some a → (length a.posts.items ≡ n) × (length a.takes.items ≡ n)
   pub empty : (x y : ℕ) → lane_waits (post_at ws x y) (take_at ws x y) ≡ []
   pub free : KnowFree ws capacity
+  pub fresh : AreFresh ws
   pub alone : (x : ℕ) → (post_at ws x x ≡ None) × (take_at ws x x ≡ None)
   pub laid : (x y : ℕ) → x < n → y < n → x ≢ y → IsBefore i j x y → HasPair ws x y capacity

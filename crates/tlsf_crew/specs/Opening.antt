@@ -5,9 +5,10 @@ use Rattle.tlsf_heap.specs.Blocks.{HeapState}
 use Rattle.tlsf_heap.specs.Calls.{opened}
 use Rattle.tlsf_heap.specs.Lawful.{IsRegion}
 use Rattle.tlsf_post.specs.declared.post_end.PostEnd.{PostEnd}
-use Rattle.tlsf_post.specs.Lanes.{free_slots}
+use Rattle.tlsf_post.specs.declared.take_end.TakeEnd.{TakeEnd}
+use Rattle.tlsf_post.specs.Lanes.{posts_sent, free_slots, waited, taken, ready}
 use Rattle.tlsf_crew.specs.declared.worker.Worker.{Worker}
-use Rattle.tlsf_crew.specs.Yard.{post_at}
+use Rattle.tlsf_crew.specs.Yard.{post_at, take_at}
 use Rattle.tlsf_crew.specs.World.{World}
 
 -- the numbers of workers, of words of each heap and of posts in a lane that a yard may have
@@ -24,3 +25,8 @@ opened_world n words capacity = record { heaps = opened_heaps n words; waiting =
 -- each end that posts knows so many free slots
 abbrev pub KnowFree : List Worker → ℕ → Type 0
 KnowFree ws capacity = (i j : ℕ) (p : PostEnd) → post_at ws i j ≡ Some p → free_slots p ≡ capacity
+
+-- no end has sent or taken a post, and none waited or is ready for it to take
+pub record AreFresh (ws : List Worker) : Type 0 where
+  pub sent : (i j : ℕ) (p : PostEnd) → post_at ws i j ≡ Some p → posts_sent p ≡ []
+  pub taken : (i j : ℕ) (t : TakeEnd) → take_at ws i j ≡ Some t → (waited t ≡ []) × (taken t ≡ []) × (ready t ≡ [])

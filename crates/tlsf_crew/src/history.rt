@@ -1,7 +1,8 @@
 ghost use Rattle.std.specs.Prelude.{◌≡◌, ℕ, ◌<◌, ◌++◌, List, [], length};
-ghost use Rattle.tlsf_crew.specs.History.{AreLawful, RunsTo, Tells, answers_on, calls_on, posts_made, posts_taken};
+ghost use Rattle.tlsf_crew.specs.History.{AreLawful, RunsThrough, RunsTo, Tells, answers_on, calls_on, posts_made, posts_taken};
 ghost use Rattle.tlsf_crew.specs.World.{World, heap_in, replies};
 ghost use Rattle.tlsf_crew.specs.declared.event.Event.{Event};
+ghost use Rattle.tlsf_crew.specs.declared.entry.Entry.{Entry};
 
 /// Each heap has one history, in which each call made on it and each post taken for it stands once, in its caller's
 /// order, and each answer is that of the sequential heap at that point.
@@ -22,4 +23,9 @@ pub fn one_history()
 
     // Live blocks never overlap and free blocks never touch.
     ensures lawful { (w : World) (es : List Event) → AreLawful w → AreLawful (replies w es).world }
+
+    // So it is after each entry, each take of a drain included: each heap is what the calls told so far leave, and lawful.
+    ensures always_lawful { (w : World) (es : List Event) (before later : List Entry) (j : ℕ) → AreLawful w → j < length w.heaps →
+        let r = replies w es in
+        r.entries ≡ before ++ later → RunsThrough (heap_in w j) j r.made before later (heap_in r.world j) }
 {}

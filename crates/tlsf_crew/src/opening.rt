@@ -1,7 +1,7 @@
 ghost use Rattle.std.specs.Prelude.{◌≡◌, ◌≢◌, ◌↔◌, ℕ, ◌+◌, ◌<◌, ◌≤◌, Some, None, length, vec_len, slice_set, replicate, IfOk, OnOk, IsErrOf};
 ghost use Rattle.tlsf_heap.specs.Calls.{opened};
 ghost use Rattle.tlsf_heap.specs.Lawful.{IsRegion};
-ghost use Rattle.tlsf_crew.specs.Opening.{AreSizes, opened_world, KnowFree};
+ghost use Rattle.tlsf_crew.specs.Opening.{AreSizes, opened_world, KnowFree, AreFresh};
 ghost use Rattle.tlsf_crew.specs.World.{world_of};
 ghost use Rattle.tlsf_crew.specs.Yard.{IsYard};
 ghost use Rattle.tlsf_crew.specs.Laying.{IsLaid};
@@ -27,6 +27,7 @@ pub fn open_yard(alloc: Global, n: u32, words: u32, capacity: u32) -> Result<Vec
     ensures yard { IfOk result (λ workers. IsYard workers.items) }
     ensures world { IfOk result (λ workers. world_of workers.items ≡ opened_world n words capacity) }
     ensures free { IfOk result (λ workers. KnowFree workers.items capacity) }
+    ensures fresh { IfOk result (λ workers. AreFresh workers.items) }
 
     // The refusals.
     ensures bad_size { IsErrOf result OpenFault.BadSize ↔ ¬ (AreSizes n words capacity) }
@@ -52,6 +53,7 @@ fn open_workers(alloc: Global, n: u32, words: u32, capacity: u32) -> Result<Vec<
     ensures yard { IfOk result (λ workers. IsYard workers.items) }
     ensures world { IfOk result (λ workers. world_of workers.items ≡ opened_world n words capacity) }
     ensures free { IfOk result (λ workers. KnowFree workers.items capacity) }
+    ensures fresh { IfOk result (λ workers. AreFresh workers.items) }
 {
     let mut workers = open_alone(alloc, n, words, capacity)?;
     lay_lanes(alloc, &mut workers, words, capacity)?;

@@ -36,3 +36,4 @@ pub mod Outcomes
 pub mod Living
 pub mod Gone
 pub mod Giving
+pub mod Served

@@ -16,12 +16,13 @@ use crate::open_fault::OpenFault;
 use crate::refusal::Refusal;
 use crate::region::Region;
 use crate::report::Report;
-#[cfg(test)]
-use crate::seen_words::{starts, word};
 use crate::tally::Tally;
 use std::alloc::Global;
 use std::marker::Model;
 use tlsf_class::{MOST_WORDS, class_of};
+
+#[cfg(test)]
+mod image_tests;
 
 /// A heap over a region of 4 to 2^20 words, kept by two-level segregated fit (ECRTS 2004, section 3).
 ///
@@ -270,19 +271,5 @@ impl Heap {
             return Err(Refusal::Range);
         }
         Ok(())
-    }
-}
-
-/// What tests see of the words.
-#[cfg(test)]
-impl Heap {
-    /// The word at a place, `None` outside the region.
-    pub fn word(&mut self, at: u32) -> Option<u64> {
-        word(&mut self.region, at)
-    }
-
-    /// Whether a block starts at a place.
-    pub fn starts(&mut self, at: u32) -> bool {
-        starts(&mut self.region, at)
     }
 }

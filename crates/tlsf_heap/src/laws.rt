@@ -1,12 +1,13 @@
-ghost use Rattle.std.specs.Prelude.{◌≡◌, ◌≢◌, ℕ, ◌*◌, ◌-◌, ◌<◌, List, Err, length};
+ghost use Rattle.std.specs.Prelude.{◌≡◌, ◌≢◌, ◌↔◌, ℕ, ◌*◌, ◌-◌, ◌<◌, List, [], Err, IsOk, length};
 ghost use Rattle.tlsf_class.specs.Classes.{low, class_of};
-ghost use Rattle.tlsf_heap.specs.Blocks.{Block, HeapState};
-ghost use Rattle.tlsf_heap.specs.Calls.{Call, allocated, answered, released, run};
+ghost use Rattle.tlsf_heap.specs.Blocks.{Block, HeapState, want};
+ghost use Rattle.tlsf_heap.specs.Calls.{Call, allocated, answered, last_tick, opened, released, run};
+ghost use Rattle.tlsf_heap.specs.GoodFit.{fits};
 ghost use Rattle.tlsf_heap.specs.Lawful.{IsLawful};
 ghost use Rattle.tlsf_heap.specs.Laws.{LieApart, LieInRegion, IsLive, IsGiven, IsTaken, TakesBack};
 ghost use Rattle.tlsf_heap.specs.Reports.{report_of, IsGrant};
 ghost use Rattle.tlsf_heap.specs.declared.name.Name.{Name};
-ghost use Rattle.tlsf_heap.specs.declared.refusal.Refusal.TheVariants.{Foreign, Stale};
+ghost use Rattle.tlsf_heap.specs.declared.refusal.Refusal.TheVariants.{Foreign, NoFit, Stale};
 
 /// No word of a lawful heap lies in two blocks, and each block lies in the region.
 pub fn blocks_never_overlap()
@@ -39,4 +40,17 @@ pub fn grant_is_greatest()
     ensures greatest { (h : HeapState) → IsLawful h → IsGrant h.blocks (report_of h).grant }
     ensures unique { (blocks : List Block) (g k : ℕ) → IsGrant blocks g → IsGrant blocks k → g ≡ k }
     ensures formula { (h : HeapState) → IsLawful h → 0 < (report_of h).largest → (report_of h).grant ≡ 8 * (low (class_of (report_of h).largest) - 3) }
+{}
+
+/// A request is refused as `NoFit` where no free block fits, and nowhere else: there is no other way to run out.
+///
+/// So of every heap that a history reaches: whatever calls came before, a request that some free block may serve gets a block, unless
+/// the tick is at its last value.
+pub fn refused_only_where_nothing_fits()
+    ensures no_fit { (h : HeapState) (len : ℕ) → ((allocated h len).answer ≡ Err NoFit) ↔ (fits (want len) h.blocks ≡ []) }
+    ensures ok { (h : HeapState) (len : ℕ) → IsOk (allocated h len).answer ↔ (¬ (fits (want len) h.blocks ≡ []) × ¬ (h.tick ≡ last_tick)) }
+
+    // The same, of the heap that a list of calls leaves of a new one.
+    ensures reached { (id words first len : ℕ) (calls : List Call) →
+        ((allocated (run (opened id words first) calls).1 len).answer ≡ Err NoFit) ↔ (fits (want len) (run (opened id words first) calls).1.blocks ≡ []) }
 {}

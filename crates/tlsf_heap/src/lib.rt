@@ -22,8 +22,6 @@ mod fitting;
 mod headers;
 mod heap;
 mod laws;
-#[cfg(test)]
-mod layout_tests;
 mod name;
 mod open_fault;
 #[cfg(test)]
@@ -33,14 +31,15 @@ mod region;
 mod report;
 #[cfg(test)]
 mod report_tests;
-#[cfg(test)]
-mod seen_words;
 mod tally;
 #[cfg(test)]
 mod tests;
 
 pub use heap::Heap;
-pub use laws::{blocks_never_overlap, grant_is_greatest, names_live_until_released};
+pub use laws::{
+    blocks_never_overlap, grant_is_greatest, names_live_until_released,
+    refused_only_where_nothing_fits,
+};
 pub use name::Name;
 pub use open_fault::OpenFault;
 pub use refusal::Refusal;

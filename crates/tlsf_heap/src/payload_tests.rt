@@ -2,7 +2,6 @@
 ghost use Rattle.std.specs.Prelude.{◌≤◌, length};
 
 use crate::{Heap, Name, Refusal};
-use byteorder::{ByteOrder, LittleEndian};
 use std::alloc::Global;
 use std::process::Abort;
 use std::test::Fail;
@@ -97,29 +96,6 @@ fn refusals_in_their_order(rt: HostRuntime) -> Result<(), Fail> {
     assert_eq!(rt; heap.read(name(0, 1), 0, &mut out), Err(Refusal::Range));
     assert!(rt; out == [7; 9]);
     assert_eq!(rt; Refusal::Range.number(), 7);
-    Ok(())
-}
-
-#[test]
-fn bytes_in_their_words(rt: HostRuntime) -> Result<(), Fail> {
-    let mut heap = Heap::open(rt.alloc(), 0, 16, 0)?;
-    heap.allocate(8)?;
-    heap.write(name(0, 1), 0, &[0x48, 0x69])?;
-    let image = [
-        0xffff_ffff_0000_0010,
-        1,
-        8,
-        0x6948,
-        0x0000_0000_0000_0033,
-        1,
-    ];
-    for at in 0..6 {
-        assert_eq!(rt; heap.word(at), Some(image[at as usize]), "word {at}");
-    }
-    heap.write(name(0, 1), 0, &[1, 2, 3, 4, 5, 6, 7, 8])?;
-    let mut out = [0; 8];
-    heap.read(name(0, 1), 0, &mut out)?;
-    assert_eq!(rt; heap.word(3), Some(LittleEndian::read_u64(&out)));
     Ok(())
 }
 

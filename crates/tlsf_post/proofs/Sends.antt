@@ -19,6 +19,7 @@ use Rattle.tlsf_post.specs.contracts.take_end.TakeEnd as take_end
 snapshot_send : (T : RattleType) → IsSend (snapshot.the_field T).row
 snapshot_send T = owning_send (snapshot.the_type T) (search sendable, tt) (λ d. tt) (λ k x w. tt)
 
+-- a post, and so each end of a lane of posts
 pub post_send : IsSend post.the_row
 post_send = search sendable depth 20
 
@@ -46,6 +47,7 @@ take_end_field_send =
       (Vec-send post.the_row post_send, (search sendable, (snapshot_send takes_ring, tt))),
     )
 
+-- the same of the ends as contracts see them
 pub post_end_send : IsSend post_end.the_row
 post_end_send = recorded_send post_end.the_field.row _ _ post_end.the_type.to_one post_end_field_send
 

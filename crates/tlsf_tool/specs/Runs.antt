@@ -8,7 +8,7 @@ use Rattle.tlsf_tool.specs.ClassLines.{class_line}
 use Rattle.tlsf_tool.specs.CommandLine.{Asks, faults_of}
 use Rattle.tlsf_tool.specs.FaultLines.{fault_line, status_of_fault}
 use Rattle.tlsf_tool.specs.declared.command_line.Choice.TheVariants.{Classes, Replay}
-use Rattle.tlsf_trace.specs.Fronts.{AppendsFront}
+use Rattle.tlsf_trace.specs.Prefixes.{AppendsFront}
 use Rattle.tlsf_trace.specs.Replay.{IsReplay}
 use Rattle.tlsf_trace.specs.TraceFaults.{no_memory_fault, write_fault}
 use Rattle.tlsf_trace.specs.declared.summary.Summary.{Summary}

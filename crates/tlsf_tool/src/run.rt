@@ -2,7 +2,7 @@ ghost use Rattle.std.specs.Prelude.{◌≡◌, ◌≤◌, ◌^◌, ℕ, List, []
 ghost use Rattle.clap.specs.Words.{kind_of};
 ghost use Rattle.tlsf_tool.specs.FaultLines.{fault_line, status_of_fault};
 ghost use Rattle.tlsf_tool.specs.Runs.{streams, Ends, ReplaysOrLacksMemory, RunsReplay, ShowsAnswer, ShowsClasses};
-ghost use Rattle.tlsf_trace.specs.Fronts.{AppendsFront};
+ghost use Rattle.tlsf_trace.specs.Prefixes.{AppendsFront};
 
 use crate::class_line::write_class_line;
 use crate::command_line::{Choice, choose};

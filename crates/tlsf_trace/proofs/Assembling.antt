@@ -1,13 +1,13 @@
 -- What is put out, from its parts.
-use Rattle.std.proofs.Common.{◌≡◌, ℕ, List, ◌++◌, map, refl, ap, ◌∙◌}
+use Rattle.std.proofs.Common.{◌≡◌, ℕ, List, ◌++◌, map, Option, refl, ap, ◌∙◌}
 use Rattle.tlsf_crew.specs.declared.entry.Entry.{Entry}
 use Rattle.tlsf_crew.specs.declared.event.Event.{Event}
 use Rattle.tlsf_crew.specs.declared.worker.Worker.{Worker}
 use Rattle.tlsf_crew.specs.World.{World, world_of, replies}
 use Rattle.tlsf_crew.specs.Workers.{heap_of}
 use Rattle.tlsf_trace.specs.Output.{yard_of, output_of}
-use Rattle.tlsf_trace.specs.ReplyLines as reply
-use Rattle.tlsf_trace.specs.ReportLines as report
+use Rattle.tlsf_trace.specs.ReplyLines.{reply_text}
+use Rattle.tlsf_trace.specs.ReportLines.{report_text}
 use Rattle.tlsf_trace.specs.Trace.{Trace}
 use Rattle.tlsf_trace.specs.Events.{events_of, labels_of}
 
@@ -17,9 +17,9 @@ unfolding world_of
 heaps_in ws w is = ap (λ (x : World). x.heaps) is
 
 -- the replies' lines and the reports' lines are the output
-pub assembled : (trace : Trace) (w : World) (vs : List Worker) (entries : List Entry) (events : List Event) (labels text out : List ℕ)
+pub assembled : (trace : Trace) (w : World) (vs : List Worker) (entries : List Entry) (events : List Event) (labels : List (Option ℕ)) (text out : List ℕ)
     → w ≡ yard_of trace.header → events ≡ events_of trace → labels ≡ labels_of trace
     → entries ≡ (replies w events).entries → world_of vs ≡ (replies w events).world
-    → text ≡ reply.text_of entries labels → out ≡ text ++ report.text_of (map heap_of vs) → out ≡ output_of trace
+    → text ≡ reply_text entries labels → out ≡ text ++ report_text (map heap_of vs) → out ≡ output_of trace
 assembled trace w vs entries events labels text out yard events_are labels_are entries_are world_is text_is out_is =
     out_is ∙ rw (text_is, heaps_in vs _ world_is, entries_are, yard, events_are, labels_are) refl

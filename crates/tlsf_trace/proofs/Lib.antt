@@ -10,7 +10,7 @@ pub mod Faults
 pub mod Rows
 pub mod LineRows
 pub mod Joining
-pub mod GrowingFronts
+pub mod GrowingPrefixes
 pub mod LongInputs
 pub mod PieceCounts
 pub mod Reporting

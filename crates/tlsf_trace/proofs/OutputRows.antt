@@ -1,5 +1,5 @@
 -- Worked rows: the events of a trace, and single lines.
-use Rattle.std.proofs.Common.{◌≡◌, [], ◌∷◌, codes, refl, Err}
+use Rattle.std.proofs.Common.{◌≡◌, [], ◌∷◌, codes, refl, Some, None, Err}
 use Rattle.std.specs.Fmt.{digits}
 use Rattle.tlsf_heap.specs.declared.refusal.Refusal.TheVariants.{Stale}
 use Rattle.tlsf_crew.specs.declared.call.Call.TheVariants as call
@@ -7,7 +7,7 @@ use Rattle.tlsf_crew.specs.declared.crew_refusal.CrewRefusal.TheVariants.{Unmade
 use Rattle.tlsf_crew.specs.declared.reply.Reply.TheVariants as reply
 use Rattle.tlsf_crew.specs.declared.target.Target.TheVariants.{Made, Absent}
 use Rattle.tlsf_trace.specs.Events.{events_of, labels_of}
-use Rattle.tlsf_trace.specs.ReplyLines.{line_of}
+use Rattle.tlsf_trace.specs.ReplyLines.{reply_line}
 use Rattle.tlsf_trace.specs.Trace.{Trace}
 use Rattle.tlsf_trace.specs.declared.line.Line.TheVariants.{Allocate, Release, Phase}
 
@@ -27,21 +27,21 @@ unfolding two_phases
 events_of_phases = refl
 
 -- drains have no label
-labels_of_phases : labels_of two_phases ≡ 7 ∷ 0 ∷ 0 ∷ 5 ∷ 7 ∷ 5 ∷ 0 ∷ 0 ∷ []
+labels_of_phases : labels_of two_phases ≡ Some 7 ∷ None ∷ None ∷ Some 5 ∷ Some 7 ∷ Some 5 ∷ None ∷ None ∷ []
 unfolding two_phases
 labels_of_phases = refl
 
 -- 0 a 1 at 4 serial 12
-allocate_line : line_of (record { worker = 0; call = call.Allocate 8; reply = reply.Made (record { heap = 0; at = 4; serial = 12 }) }) 1 ≡ codes "0 a 1 at 4 serial 12\n"
+allocate_line : reply_line (record { worker = 0; call = call.Allocate 8; reply = reply.Made (record { heap = 0; at = 4; serial = 12 }) }) (Some 1) ≡ codes "0 a 1 at 4 serial 12\n"
 unfolding digits
 allocate_line = refl
 
 -- a use of a label whose line was refused
-unmade_line : line_of (record { worker = 0; call = call.Release Absent; reply = reply.Refused Unmade }) 2 ≡ codes "0 f 2 refused 18\n"
+unmade_line : reply_line (record { worker = 0; call = call.Release Absent; reply = reply.Refused Unmade }) (Some 2) ≡ codes "0 f 2 refused 18\n"
 unfolding digits
 unmade_line = refl
 
 -- a post that comes too late
-stale_line : line_of (record { worker = 0; call = call.Take 1; reply = reply.Took (record { from = 1; name = record { heap = 0; at = 0; serial = 1 }; answer = Err Stale }) }) 0 ≡ codes "0 take 1 at 0 serial 1 refused 4\n"
+stale_line : reply_line (record { worker = 0; call = call.Take 1; reply = reply.Took (record { from = 1; name = record { heap = 0; at = 0; serial = 1 }; answer = Err Stale }) }) None ≡ codes "0 take 1 at 0 serial 1 refused 4\n"
 unfolding digits
 stale_line = refl

@@ -1,5 +1,5 @@
 -- Events and labels of lines, one line after another.
-use Rattle.std.proofs.Common.{◌≡◌, ℕ, ◌≤◌, List, ◌∷◌, ◌++◌, length, refl, arith, append_assoc}
+use Rattle.std.proofs.Common.{◌≡◌, ℕ, ◌≤◌, List, Option, ◌∷◌, ◌++◌, length, refl, arith, append_assoc}
 use Rattle.std.proofs.lemmas.List.FromFn.{length-map-range_with_len}
 use Rattle.tlsf_crew.specs.declared.event.Event.{Event}
 use Rattle.tlsf_trace.specs.declared.line.Line.{Line}
@@ -29,7 +29,7 @@ pub events_go_on : (workers : ℕ) (events whole : List Event) (before : List Li
     → (events ++ events_in workers before line) ++ events_from workers (line ∷ before) lines ≡ whole
 events_go_on workers events whole before line lines so_far = rw append_assoc so_far
 
-pub labels_go_on : (workers : ℕ) (labels whole : List ℕ) (line : Line) (lines : List Line)
+pub labels_go_on : (workers : ℕ) (labels whole : List (Option ℕ)) (line : Line) (lines : List Line)
     → labels ++ labels_from workers (line ∷ lines) ≡ whole
     → (labels ++ labels_in workers line) ++ labels_from workers lines ≡ whole
 labels_go_on workers labels whole line lines so_far = rw append_assoc so_far

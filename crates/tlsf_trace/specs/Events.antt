@@ -78,19 +78,19 @@ events_of trace = events_from trace.header.workers [] trace.lines
 
 -- ---- labels
 
--- a label for each event of a line: 0 where it has none
-abbrev pub labels_in : ℕ → Line → List ℕ
-labels_in workers (Allocate worker label len) = label ∷ []
-labels_in workers (Release worker label) = label ∷ []
-labels_in workers (Write worker label at bytes) = label ∷ []
-labels_in workers (Read worker label at n) = label ∷ []
-labels_in workers (Drain worker most) = 0 ∷ []
-labels_in workers Phase = replicate workers 0
+-- the label of each event of a line: a drain has none
+abbrev pub labels_in : ℕ → Line → List (Option ℕ)
+labels_in workers (Allocate worker label len) = Some label ∷ []
+labels_in workers (Release worker label) = Some label ∷ []
+labels_in workers (Write worker label at bytes) = Some label ∷ []
+labels_in workers (Read worker label at n) = Some label ∷ []
+labels_in workers (Drain worker most) = None ∷ []
+labels_in workers Phase = replicate workers None
 
--- a label for each event of the lines, and of the drains at the end
-abbrev pub labels_from : ℕ → List Line → List ℕ
-labels_from workers [] = replicate workers 0
+-- the label of each event of the lines, and of the drains at the end
+abbrev pub labels_from : ℕ → List Line → List (Option ℕ)
+labels_from workers [] = replicate workers None
 labels_from workers (line ∷ lines) = labels_in workers line ++ labels_from workers lines
 
-abbrev pub labels_of : Trace → List ℕ
+abbrev pub labels_of : Trace → List (Option ℕ)
 labels_of trace = labels_from trace.header.workers trace.lines

@@ -9,7 +9,7 @@ pub mod Faults
 pub mod Views
 pub mod Laws
 pub mod Limits
-pub mod Fronts
+pub mod Prefixes
 pub mod TraceFaults
 pub mod Output
 pub mod Replay

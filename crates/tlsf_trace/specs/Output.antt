@@ -1,12 +1,12 @@
 -- What a trace puts out.
-use Rattle.std.specs.Prelude.{ℕ, List, ◌++◌, count_by}
+use Rattle.std.specs.Prelude.{ℕ, List, ◌++◌, Option, count_by}
 use Rattle.tlsf_crew.specs.Opening.{opened_world}
 use Rattle.tlsf_crew.specs.World.{World, Replayed, replies}
 use Rattle.tlsf_trace.specs.declared.header.Header.{Header}
 use Rattle.tlsf_trace.specs.Lines.{is_call}
 use Rattle.tlsf_trace.specs.Events.{events_of, labels_of}
-use Rattle.tlsf_trace.specs.ReplyLines as reply
-use Rattle.tlsf_trace.specs.ReportLines as report
+use Rattle.tlsf_trace.specs.ReplyLines.{reply_text}
+use Rattle.tlsf_trace.specs.ReportLines.{report_text}
 use Rattle.tlsf_trace.specs.Trace.{Trace}
 
 -- the yard that a header names
@@ -18,11 +18,11 @@ abbrev pub run_of : Trace → Replayed
 run_of trace = replies (yard_of trace.header) (events_of trace)
 
 -- the lines of replies, and then those of the heaps that they leave
-abbrev pub text_of : Replayed → List ℕ → List ℕ
-text_of run labels = reply.text_of run.entries labels ++ report.text_of run.world.heaps
+abbrev pub output_text : Replayed → List (Option ℕ) → List ℕ
+output_text run labels = reply_text run.entries labels ++ report_text run.world.heaps
 
 abbrev pub output_of : Trace → List ℕ
-output_of trace = text_of (run_of trace) (labels_of trace)
+output_of trace = output_text (run_of trace) (labels_of trace)
 
 -- how many lines are calls
 abbrev pub calls_of : Trace → ℕ

@@ -2,7 +2,7 @@
 use Rattle.std.specs.Prelude.{◌≡◌, ◌⊎◌, ℕ, ◌≤◌, List, Option, Result, Ok, Err, IfOk, IfErr, IfSome, OnOk, length}
 use Rattle.std.specs.Io.KnownBytes.{Appends, IsAtEnd, Keeps}
 use Rattle.tlsf_trace.specs.Output.{calls_of, output_of}
-use Rattle.tlsf_trace.specs.Fronts.{AppendsFront}
+use Rattle.tlsf_trace.specs.Prefixes.{AppendsFront}
 use Rattle.tlsf_trace.specs.Limits.{IsWithinLimits, IsTooLong}
 use Rattle.tlsf_trace.specs.Trace.{Trace, trace_of}
 use Rattle.tlsf_trace.specs.TraceFaults.{fault_in, no_memory_fault, too_long_fault, read_fault, write_fault}

@@ -1,5 +1,5 @@
 -- The reply lines of entries.
-use Rattle.std.specs.Prelude.{ℕ, List, [], ◌∷◌, ◌++◌, codes, drop, slice_index, Result, Ok, Err}
+use Rattle.std.specs.Prelude.{ℕ, List, [], ◌∷◌, ◌++◌, Bool, true, false, if◌then◌else◌, codes, drop, slice_index_or, Option, Some, None, Result, Ok, Err}
 use Rattle.std.specs.Fmt.{decimal}
 use Rattle.hex.specs.Hex.{encode_lower}
 use Rattle.tlsf_heap.specs.Numbers as heap
@@ -13,14 +13,19 @@ use Rattle.tlsf_crew.specs.declared.reply.Reply.{Reply}
 use Rattle.tlsf_crew.specs.declared.reply.Reply.TheVariants.{Made, Freed, Posted, Wrote, Got, Took, Empty, Drained, Refused}
 use Rattle.tlsf_crew.specs.declared.entry.Entry.{Entry}
 
--- what a worker was asked: w a L, w f L, w p L, w g L, w take I, or w d
-abbrev pub head_of : ℕ → ℕ → Call → List ℕ
-head_of worker label (Allocate len) = decimal worker ++ codes " a " ++ decimal label
-head_of worker label (Release target) = decimal worker ++ codes " f " ++ decimal label
-head_of worker label (Write target at bytes) = decimal worker ++ codes " p " ++ decimal label
-head_of worker label (Read target at n) = decimal worker ++ codes " g " ++ decimal label
-head_of worker label (Take from) = decimal worker ++ codes " take " ++ decimal from
-head_of worker label (Drain most) = decimal worker ++ codes " d"
+-- the word of a call, as a line has it
+abbrev pub call_part : Call → List ℕ
+call_part (Allocate len) = codes " a"
+call_part (Release target) = codes " f"
+call_part (Write target at bytes) = codes " p"
+call_part (Read target at n) = codes " g"
+call_part (Take from) = codes " take " ++ decimal from
+call_part (Drain most) = codes " d"
+
+-- the label, where the call has one
+abbrev pub label_part : Option ℕ → List ℕ
+label_part None = []
+label_part (Some label) = codes " " ++ decimal label
 
 -- the place and the serial of a block
 abbrev pub place_part : Name → List ℕ
@@ -32,30 +37,30 @@ release_part (Ok done) = codes " freed"
 release_part (Err why) = codes " refused " ++ decimal (heap.number_of why)
 
 -- what the worker was answered
-abbrev pub answer_of : Reply → List ℕ
-answer_of (Made name) = place_part name
-answer_of Freed = codes " freed"
-answer_of Posted = codes " posted"
-answer_of (Wrote n) = codes " wrote " ++ decimal n
-answer_of (Got bytes) = codes " got " ++ encode_lower (bytes_of bytes)
-answer_of (Took t) = place_part t.name ++ release_part t.answer
-answer_of Empty = codes " empty"
-answer_of (Drained n) = codes " drained " ++ decimal n
-answer_of (Refused why) = codes " refused " ++ decimal (crew.number_of why)
+abbrev pub answer_part : Reply → List ℕ
+answer_part (Made name) = place_part name
+answer_part Freed = codes " freed"
+answer_part Posted = codes " posted"
+answer_part (Wrote n) = codes " wrote " ++ decimal n
+answer_part (Got bytes) = codes " got " ++ encode_lower (bytes_of bytes)
+answer_part (Took t) = place_part t.name ++ release_part t.answer
+answer_part Empty = codes " empty"
+answer_part (Drained n) = codes " drained " ++ decimal n
+answer_part (Refused why) = codes " refused " ++ decimal (crew.number_of why)
 
-abbrev pub line_of : Entry → ℕ → List ℕ
-line_of entry label = head_of entry.worker label entry.call ++ answer_of entry.reply ++ codes "\n"
+-- w a L, w f L, w p L, w g L, w take I or w d, and then the answer
+abbrev pub reply_line : Entry → Option ℕ → List ℕ
+reply_line entry label = decimal entry.worker ++ call_part entry.call ++ label_part label ++ answer_part entry.reply ++ codes "\n"
 
--- each entry has a label, but for the posts that a drain takes
-abbrev pub labels_used : Call → ℕ
-labels_used (Allocate len) = 1
-labels_used (Release target) = 1
-labels_used (Write target at bytes) = 1
-labels_used (Read target at n) = 1
-labels_used (Take from) = 0
-labels_used (Drain most) = 1
+-- a post that a drain takes has no event, and so no label
+abbrev pub is_taken : Call → Bool
+is_taken (Take from) = true
+is_taken _ = false
 
--- the lines of entries, with these labels
-abbrev pub text_of : List Entry → List ℕ → List ℕ
-text_of [] labels = []
-text_of (entry ∷ entries) labels = line_of entry (slice_index labels 0) ++ text_of entries (drop (labels_used entry.call) labels)
+-- the lines of entries, with the labels of the events
+abbrev pub reply_text : List Entry → List (Option ℕ) → List ℕ
+reply_text [] labels = []
+reply_text (entry ∷ entries) labels =
+    if is_taken entry.call
+    then reply_line entry None ++ reply_text entries labels
+    else reply_line entry (slice_index_or labels 0 None) ++ reply_text entries (drop 1 labels)

@@ -21,13 +21,13 @@ abbrev pub rest_part : Report → List ℕ
 rest_part report = codes " waste " ++ decimal report.waste ++ codes " age " ++ decimal report.age
 
 -- heap H live B W Y free B W largest M grant G fragmentation Q waste Z age T
-abbrev pub line_of : ℕ → Report → List ℕ
-line_of heap report = codes "heap " ++ decimal heap ++ live_part report ++ free_part report ++ room_part report ++ rest_part report ++ codes "\n"
+abbrev pub report_line : ℕ → Report → List ℕ
+report_line heap report = codes "heap " ++ decimal heap ++ live_part report ++ free_part report ++ room_part report ++ rest_part report ++ codes "\n"
 
 -- the lines of heaps, from this number on
-abbrev pub text_from : ℕ → List HeapState → List ℕ
-text_from number [] = []
-text_from number (heap ∷ heaps) = line_of number (report_of heap) ++ text_from (number + 1) heaps
+abbrev pub report_text_from : ℕ → List HeapState → List ℕ
+report_text_from number [] = []
+report_text_from number (heap ∷ heaps) = report_line number (report_of heap) ++ report_text_from (number + 1) heaps
 
-abbrev pub text_of : List HeapState → List ℕ
-text_of heaps = text_from 0 heaps
+abbrev pub report_text : List HeapState → List ℕ
+report_text heaps = report_text_from 0 heaps

@@ -10,6 +10,7 @@ use crate::fields::fields_in;
 use crate::labels::Labels;
 use crate::line_error::LineError;
 use crate::line_fault::LineFault;
+use crate::value::Value::{Bytes, Number};
 use crate::value::{Value, values_in};
 use crate::word::{Word, kinds_of, word_of};
 use std::alloc::Global;
@@ -78,54 +79,25 @@ fn line_from(word: Word, values: &[Value]) -> Option<Line>
     ensures { result ≡ Lines.line_from word values.now }
 {
     match (word, values) {
-        (
-            Word::Allocate,
-            [
-                Value::Number(worker),
-                Value::Number(label),
-                Value::Number(len),
-            ],
-        ) => Some(Line::Allocate {
-            worker: *worker,
-            label: *label,
-            len: *len,
+        (Word::Allocate, &[Number(worker), Number(label), Number(len)]) => {
+            Some(Line::Allocate { worker, label, len })
+        }
+        (Word::Release, &[Number(worker), Number(label)]) => Some(Line::Release { worker, label }),
+        (Word::Write, &[Number(worker), Number(label), Number(at), Bytes(bytes)]) => {
+            Some(Line::Write {
+                worker,
+                label,
+                at,
+                bytes,
+            })
+        }
+        (Word::Read, &[Number(worker), Number(label), Number(at), Number(n)]) => Some(Line::Read {
+            worker,
+            label,
+            at,
+            n,
         }),
-        (Word::Release, [Value::Number(worker), Value::Number(label)]) => Some(Line::Release {
-            worker: *worker,
-            label: *label,
-        }),
-        (
-            Word::Write,
-            [
-                Value::Number(worker),
-                Value::Number(label),
-                Value::Number(at),
-                Value::Bytes(bytes),
-            ],
-        ) => Some(Line::Write {
-            worker: *worker,
-            label: *label,
-            at: *at,
-            bytes: *bytes,
-        }),
-        (
-            Word::Read,
-            [
-                Value::Number(worker),
-                Value::Number(label),
-                Value::Number(at),
-                Value::Number(n),
-            ],
-        ) => Some(Line::Read {
-            worker: *worker,
-            label: *label,
-            at: *at,
-            n: *n,
-        }),
-        (Word::Drain, [Value::Number(worker), Value::Number(most)]) => Some(Line::Drain {
-            worker: *worker,
-            most: *most,
-        }),
+        (Word::Drain, &[Number(worker), Number(most)]) => Some(Line::Drain { worker, most }),
         (Word::Phase, []) => Some(Line::Phase),
         _ => None,
     }
@@ -153,7 +125,7 @@ pub fn line_in(
     let Some(word) = word_of(first) else {
         return Err(LineError::Fault(LineFault::BadLine));
     };
-    let Some(values) = values_in(alloc, workers, kinds_of(word), others)? else {
+    let Some(values) = values_in(workers, kinds_of(word), others) else {
         return Err(LineError::Fault(LineFault::BadLine));
     };
     let Some(line) = line_from(word, &values) else {

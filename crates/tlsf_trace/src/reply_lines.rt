@@ -1,29 +1,39 @@
 //! The reply lines of entries.
-ghost use Rattle.std.specs.Prelude.{◌≡◌, ◌++◌, codes, slice_index, IfOk, OnOk, string_bytes};
+ghost use Rattle.std.specs.Prelude.{◌≡◌, ◌++◌, codes, IfOk, OnOk, string_bytes};
 ghost use Rattle.hex.specs.Hex.{encode_lower};
 ghost use Rattle.tlsf_crew.specs.Bytes.{bytes_of};
 ghost use Rattle.tlsf_trace.specs.ReplyLines as spelled;
-ghost use Rattle.tlsf_trace.specs.ReplyLines.{head_of, answer_of, place_part, release_part, line_of, labels_used};
+ghost use Rattle.tlsf_trace.specs.ReplyLines.{answer_part, call_part, label_part, place_part, release_part, reply_line};
 
 use std::alloc::{AllocError, Global};
 use tlsf_crew::{Call, Chunk, Entry, Reply};
 use tlsf_heap::{Name, Refusal};
 
-/// Adds what a worker was asked.
-fn write_head(text: &mut String, worker: u32, label: u32, call: Call) -> Result<(), AllocError>
-    ensures { OnOk result (string_bytes text.new ≡ string_bytes text.old ++ head_of worker label call) }
+// Adds the word of a call.
+fn write_call(text: &mut String, call: Call) -> Result<(), AllocError>
+    ensures { OnOk result (string_bytes text.new ≡ string_bytes text.old ++ call_part call) }
 {
     match call {
-        Call::Allocate { .. } => write!(text, "{worker} a {label}"),
-        Call::Release { .. } => write!(text, "{worker} f {label}"),
-        Call::Write { .. } => write!(text, "{worker} p {label}"),
-        Call::Read { .. } => write!(text, "{worker} g {label}"),
-        Call::Take { from } => write!(text, "{worker} take {from}"),
-        Call::Drain { .. } => write!(text, "{worker} d"),
+        Call::Allocate { .. } => write!(text, " a"),
+        Call::Release { .. } => write!(text, " f"),
+        Call::Write { .. } => write!(text, " p"),
+        Call::Read { .. } => write!(text, " g"),
+        Call::Take { from } => write!(text, " take {from}"),
+        Call::Drain { .. } => write!(text, " d"),
     }
 }
 
-/// Adds the place and the serial of a block.
+// Adds the label of a call that has one.
+fn write_label(text: &mut String, label: Option<u32>) -> Result<(), AllocError>
+    ensures { OnOk result (string_bytes text.new ≡ string_bytes text.old ++ label_part label) }
+{
+    match label {
+        Some(label) => write!(text, " {label}"),
+        None => Ok(()),
+    }
+}
+
+// Adds the place and the serial of a block.
 fn write_place(text: &mut String, name: Name) -> Result<(), AllocError>
     ensures { OnOk result (string_bytes text.new ≡ string_bytes text.old ++ place_part name) }
 {
@@ -32,7 +42,7 @@ fn write_place(text: &mut String, name: Name) -> Result<(), AllocError>
     write!(text, " at {at} serial {serial}")
 }
 
-/// Adds what became of a block whose post was taken.
+// Adds what became of a block whose post was taken.
 fn write_release(text: &mut String, answer: Result<(), Refusal>) -> Result<(), AllocError>
     ensures { OnOk result (string_bytes text.new ≡ string_bytes text.old ++ release_part answer) }
 {
@@ -45,7 +55,7 @@ fn write_release(text: &mut String, answer: Result<(), Refusal>) -> Result<(), A
     }
 }
 
-/// Adds bytes as hexadecimal digits.
+// Adds bytes as hexadecimal digits.
 fn write_bytes(text: &mut String, bytes: &Chunk) -> Result<(), AllocError>
     ensures { OnOk result (string_bytes text.new ≡ string_bytes text.old ++ codes " got " ++ encode_lower (bytes_of bytes.now)) }
 {
@@ -61,9 +71,9 @@ fn write_bytes(text: &mut String, bytes: &Chunk) -> Result<(), AllocError>
     write!(text, " got {payload}")
 }
 
-/// Adds what a worker was answered.
+// Adds what a worker was answered.
 fn write_answer(text: &mut String, reply: Reply) -> Result<(), AllocError>
-    ensures { OnOk result (string_bytes text.new ≡ string_bytes text.old ++ answer_of reply) }
+    ensures { OnOk result (string_bytes text.new ≡ string_bytes text.old ++ answer_part reply) }
 {
     match reply {
         Reply::Made(name) => write_place(text, name),
@@ -84,35 +94,43 @@ fn write_answer(text: &mut String, reply: Reply) -> Result<(), AllocError>
     }
 }
 
-/// Adds the line of an entry, with its line feed.
-fn write_line(text: &mut String, entry: &Entry, label: u32) -> Result<(), AllocError>
-    ensures { OnOk result (string_bytes text.new ≡ string_bytes text.old ++ line_of entry.now label) }
+// Adds the line of an entry, with its line feed.
+fn write_line(text: &mut String, entry: &Entry, label: Option<u32>) -> Result<(), AllocError>
+    ensures { OnOk result (string_bytes text.new ≡ string_bytes text.old ++ reply_line entry.now label) }
 {
-    write_head(text, entry.worker, label, entry.call)?;
+    let worker = entry.worker;
+    write!(text, "{worker}")?;
+    write_call(text, entry.call)?;
+    write_label(text, label)?;
     write_answer(text, entry.reply)?;
     writeln!(text)
 }
 
-/// How many labels an entry of this call has: none for a post that a drain takes, else one.
-fn labels_of(call: Call) -> usize
-    ensures { result ≡ labels_used call }
+// Whether the call is that of a post which a drain took: it has no event, and so no label.
+fn is_taken(call: Call) -> bool
+    ensures { result ≡ spelled.is_taken call }
 {
-    match call {
-        Call::Take { .. } => 0,
-        _ => 1,
-    }
+    matches!(call, Call::Take { .. })
 }
 
-/// The lines of entries, where each takes the next label but those of posts that a drain takes.
-pub fn text_of(alloc: Global, entries: &[Entry], labels: &[u32]) -> Result<String, AllocError>
-    ensures { IfOk result (λ text. string_bytes text ≡ spelled.text_of entries.now labels.now) }
+/// The lines of entries, where each but those of posts that a drain took has the label of the next
+/// event. A drain's label is `None`.
+pub fn reply_text(
+    alloc: Global,
+    entries: &[Entry],
+    labels: &[Option<u32>],
+) -> Result<String, AllocError>
+    ensures { IfOk result (λ text. string_bytes text ≡ spelled.reply_text entries.now labels.now) }
 {
     let mut text = String::new(alloc);
     let mut next = 0;
     for entry in entries {
-        let label = labels.get(next).copied().unwrap_or(0);
-        write_line(&mut text, entry, label)?;
-        next += labels_of(entry.call);
+        if is_taken(entry.call) {
+            write_line(&mut text, entry, None)?;
+        } else {
+            write_line(&mut text, entry, labels.get(next).copied().flatten())?;
+            next += 1;
+        }
     }
     Ok(text)
 }

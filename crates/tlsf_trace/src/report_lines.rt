@@ -1,13 +1,13 @@
 //! The report lines of heaps.
 ghost use Rattle.std.specs.Prelude.{◌≡◌, ◌++◌, ◌≤◌, length, map, OnOk, string_bytes};
 ghost use Rattle.tlsf_crew.specs.Workers.{heap_of};
-ghost use Rattle.tlsf_trace.specs.ReportLines.{live_part, free_part, room_part, rest_part, line_of, text_of};
+ghost use Rattle.tlsf_trace.specs.ReportLines.{live_part, free_part, room_part, rest_part, report_line, report_text};
 
 use std::alloc::AllocError;
 use tlsf_crew::Worker;
 use tlsf_heap::Report;
 
-/// Adds the live blocks, words and bytes.
+// Adds the live blocks, words and bytes.
 fn write_live(text: &mut String, report: &Report) -> Result<(), AllocError>
     ensures { OnOk result (string_bytes text.new ≡ string_bytes text.old ++ live_part report.now) }
 {
@@ -17,7 +17,7 @@ fn write_live(text: &mut String, report: &Report) -> Result<(), AllocError>
     write!(text, " live {blocks} {words} {bytes}")
 }
 
-/// Adds the free blocks and words.
+// Adds the free blocks and words.
 fn write_free(text: &mut String, report: &Report) -> Result<(), AllocError>
     ensures { OnOk result (string_bytes text.new ≡ string_bytes text.old ++ free_part report.now) }
 {
@@ -26,7 +26,7 @@ fn write_free(text: &mut String, report: &Report) -> Result<(), AllocError>
     write!(text, " free {blocks} {words}")
 }
 
-/// Adds how well the free words serve.
+// Adds how well the free words serve.
 fn write_room(text: &mut String, report: &Report) -> Result<(), AllocError>
     ensures { OnOk result (string_bytes text.new ≡ string_bytes text.old ++ room_part report.now) }
 {
@@ -39,7 +39,7 @@ fn write_room(text: &mut String, report: &Report) -> Result<(), AllocError>
     )
 }
 
-/// Adds what no payload fills, and for how long words are free.
+// Adds what no payload fills, and for how long words are free.
 fn write_rest(text: &mut String, report: &Report) -> Result<(), AllocError>
     ensures { OnOk result (string_bytes text.new ≡ string_bytes text.old ++ rest_part report.now) }
 {
@@ -48,9 +48,9 @@ fn write_rest(text: &mut String, report: &Report) -> Result<(), AllocError>
     write!(text, " waste {waste} age {age}")
 }
 
-/// Adds the line of a heap, with its line feed.
+// Adds the line of a heap, with its line feed.
 fn write_line(text: &mut String, heap: u32, report: &Report) -> Result<(), AllocError>
-    ensures { OnOk result (string_bytes text.new ≡ string_bytes text.old ++ line_of heap report.now) }
+    ensures { OnOk result (string_bytes text.new ≡ string_bytes text.old ++ report_line heap report.now) }
 {
     write!(text, "heap {heap}")?;
     write_live(text, report)?;
@@ -63,7 +63,7 @@ fn write_line(text: &mut String, heap: u32, report: &Report) -> Result<(), Alloc
 /// Adds the lines of the workers' heaps.
 pub fn write_reports(text: &mut String, workers: &mut [Worker]) -> Result<(), AllocError>
     requires { length workers.old ≤ 8 }
-    ensures { OnOk result (string_bytes text.new ≡ string_bytes text.old ++ text_of (map heap_of workers.old)) }
+    ensures { OnOk result (string_bytes text.new ≡ string_bytes text.old ++ report_text (map heap_of workers.old)) }
 {
     for number in 0..workers.len() {
         let report = workers[number].report();

@@ -1,4 +1,4 @@
-ghost use Rattle.std.specs.Prelude.{◌≡◌, ℕ, ◌*◌, ◌+◌, ◌^◌, ◌<◌, ◌≤◌, List, [], ◌∷◌, ◌++◌, replicate, vec_len, IfOk, OnOk};
+ghost use Rattle.std.specs.Prelude.{◌≡◌, ℕ, ◌*◌, ◌+◌, ◌^◌, ◌<◌, ◌≤◌, List, [], ◌∷◌, ◌++◌, replicate, None, vec_len, IfOk, OnOk};
 ghost use Rattle.tlsf_trace.specs.Events.{width_in, last_drains, events_of, labels_of};
 ghost use Rattle.tlsf_trace.specs.Making.{Recalls, Adds};
 ghost use Rattle.tlsf_trace.specs.Views.{view_trace};
@@ -11,11 +11,11 @@ use crate::value::MOST_DRAINED;
 use std::alloc::{AllocError, Global};
 use tlsf_crew::{Call, Event};
 
-/// The events that a trace stands for, and a label for each, 0 where it has none.
+/// The events that a trace stands for, and the label of each, where it has one.
 #[derive(Drop)]
 pub struct Script {
     pub events: Vec<Event>,
-    pub labels: Vec<u32>,
+    pub labels: Vec<Option<u32>>,
 }
 
 impl Script {
@@ -39,7 +39,7 @@ impl Script {
         Ok(script)
     }
 
-    /// Adds the events of a line.
+    // Adds the events of a line.
     fn add(&mut self, makers: &mut Makers, workers: u32, line: Line) -> Result<(), AllocError>
         requires { vec_len self.old.events < 2 ^ 32 }
         ensures { (before : List ALine) → Recalls workers makers.old before
@@ -49,11 +49,11 @@ impl Script {
         match line {
             Line::Allocate { worker, label, len } => {
                 makers.insert(label, self.events.len() as u32)?;
-                self.push(worker, Call::Allocate { len }, label)
+                self.push(worker, Call::Allocate { len }, Some(label))
             }
             Line::Release { worker, label } => {
                 let target = makers.target(label);
-                self.push(worker, Call::Release { target }, label)
+                self.push(worker, Call::Release { target }, Some(label))
             }
             Line::Write {
                 worker,
@@ -62,7 +62,7 @@ impl Script {
                 bytes,
             } => {
                 let target = makers.target(label);
-                self.push(worker, Call::Write { target, at, bytes }, label)
+                self.push(worker, Call::Write { target, at, bytes }, Some(label))
             }
             Line::Read {
                 worker,
@@ -71,26 +71,26 @@ impl Script {
                 n,
             } => {
                 let target = makers.target(label);
-                self.push(worker, Call::Read { target, at, n }, label)
+                self.push(worker, Call::Read { target, at, n }, Some(label))
             }
-            Line::Drain { worker, most } => self.push(worker, Call::Drain { most }, 0),
+            Line::Drain { worker, most } => self.push(worker, Call::Drain { most }, None),
             Line::Phase => self.drain_all(workers),
         }
     }
 
-    /// Adds a drain of each worker.
+    // Adds a drain of each worker.
     fn drain_all(&mut self, workers: u32) -> Result<(), AllocError>
         ensures events { OnOk result (self.new.events.items ≡ self.old.events.items ++ last_drains workers) }
-        ensures labels { OnOk result (self.new.labels.items ≡ self.old.labels.items ++ replicate workers 0) }
+        ensures labels { OnOk result (self.new.labels.items ≡ self.old.labels.items ++ replicate workers None) }
     {
         for worker in 0..workers {
-            self.push(worker, Call::Drain { most: MOST_DRAINED }, 0)?;
+            self.push(worker, Call::Drain { most: MOST_DRAINED }, None)?;
         }
         Ok(())
     }
 
-    /// Adds an event and its label.
-    fn push(&mut self, worker: u32, call: Call, label: u32) -> Result<(), AllocError>
+    // Adds an event and its label.
+    fn push(&mut self, worker: u32, call: Call, label: Option<u32>) -> Result<(), AllocError>
         ensures events { OnOk result (self.new.events.items ≡ self.old.events.items ++ record { worker = worker; call = call } ∷ []) }
         ensures labels { OnOk result (self.new.labels.items ≡ self.old.labels.items ++ label ∷ []) }
     {

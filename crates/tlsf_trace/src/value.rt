@@ -1,10 +1,10 @@
-ghost use Rattle.std.specs.Prelude.{◌≡◌, ◌<◌, IfOk, option_map, map};
+ghost use Rattle.std.specs.Prelude.{◌≡◌, ◌<◌, ◌≤◌, length, option_map, map};
 ghost use Rattle.tlsf_trace.specs.Fields as spelled;
 
 use crate::kind::Kind;
 use crate::numbers::digits_in;
 use crate::payload::chunk_in;
-use std::alloc::{AllocError, Global};
+use arrayvec::ArrayVec;
 use tlsf_crew::Chunk;
 
 /// The greatest label.
@@ -13,15 +13,19 @@ const MOST_LABEL: u32 = 65_535;
 /// The most bytes that one line may read.
 const MOST_COUNT: u32 = 64;
 
+/// The most fields behind a word.
+pub const MOST_FIELDS: usize = 4;
+
 /// The most posts that one drain takes: more than can wait for one worker.
 pub const MOST_DRAINED: u32 = 8192;
 
 /// What a field says that has the shape of its kind.
-#[derive(Clone, Copy, Debug)]
+#[derive(Clone, Copy, Debug, Default)]
 pub enum Value {
     /// A number in its range, without a leading zero.
     Number(u32),
     /// Digits that are no such number.
+    #[default]
     BadNumber,
     /// Payload bytes, 1 to 64 of them.
     Bytes(Chunk),
@@ -43,27 +47,27 @@ fn value_in(workers: u32, kind: Kind, field: &[u8]) -> Option<Value>
     }
 }
 
-/// What fields say, one for each kind, where there are so many workers; `None` where a field has not
-/// the shape of its kind, is missing or is left over.
+/// What fields say, one for each of up to four kinds, where there are so many workers; `None` where
+/// a field has not the shape of its kind, is missing or is left over.
 pub fn values_in(
-    alloc: Global,
     workers: u32,
     kinds: &[Kind],
     fields: &[&[u8]],
-) -> Result<Option<Vec<Value>>, AllocError>
-    requires { 0 < workers }
-    ensures { IfOk result (λ found. option_map (λ values. values.items) found
-        ≡ spelled.values_in workers kinds.now (map (λ f. f.now) fields.now)) }
+) -> Option<ArrayVec<Value, MOST_FIELDS>>
+    requires workers { 0 < workers }
+    requires few { length kinds.now ≤ 4 }
+    ensures { option_map (λ values. values.items) result
+        ≡ spelled.values_in workers kinds.now (map (λ f. f.now) fields.now) }
 {
     if kinds.len() != fields.len() {
-        return Ok(None);
+        return None;
     }
-    let mut values = Vec::new(alloc);
+    let mut values = ArrayVec::new();
     for (i, kind) in kinds.iter().enumerate() {
         let Some(value) = value_in(workers, *kind, fields[i]) else {
-            return Ok(None);
+            return None;
         };
-        values.push(value)?;
+        values.push(value);
     }
-    Ok(Some(values))
+    Some(values)
 }

@@ -1,4 +1,4 @@
-ghost use Rattle.std.specs.Prelude.{◌≡◌};
+ghost use Rattle.std.specs.Prelude.{◌≡◌, ◌≤◌, length};
 ghost use Rattle.tlsf_trace.specs.Lines;
 
 use crate::kind::Kind;
@@ -43,7 +43,8 @@ pub fn word_of(field: &[u8]) -> Option<Word>
 
 /// The kinds of the fields that follow a word, in their order.
 pub fn kinds_of(word: Word) -> &'static [Kind]
-    ensures { result.now ≡ Lines.kinds_of word }
+    ensures kinds { result.now ≡ Lines.kinds_of word }
+    ensures few { length result.now ≤ 4 }
 {
     match word {
         Word::Allocate => &[Kind::Worker, Kind::Label, Kind::Length],

@@ -1,6 +1,6 @@
 ghost use Rattle.std.specs.Prelude.{OnOk};
 ghost use Rattle.std.specs.Io.KnownBytes.{Appends};
-ghost use Rattle.tlsf_trace.specs.Fronts.{AppendsFront};
+ghost use Rattle.tlsf_trace.specs.Prefixes.{AppendsFront};
 
 use std::io::Write;
 

@@ -128,9 +128,9 @@ pub listed_within : (heads members w : List ℕ) → AreThreaded heads members w
 listed_within heads members w t class at m = all_member (λ p. p + 2 < length w) (list_of heads w class) at (linked_within w nowhere (list_of heads w class) (t.linked class)) m
 
 -- a place that has been taken out of its list is in no list
-pub removed_unlisted : (heads members w : List ℕ) (class at : ℕ) (new : ℕ → List ℕ) → AreThreaded heads members w → Contains (list_of heads w class) at
+pub remove-unlisted : (heads members w : List ℕ) (class at : ℕ) (new : ℕ → List ℕ) → AreThreaded heads members w → Contains (list_of heads w class) at
     → new class ≡ without_place at (list_of heads w class) → ((other : ℕ) → other ≢ class → new other ≡ list_of heads w other) → IsUnlisted new at
-removed_unlisted heads members w class at new t listed list others c m = elim (cases_eq c class) [
+remove-unlisted heads members w class at new t listed list others c m = elim (cases_eq c class) [
   | inl e ↦ without_apart at (list_of heads w class) (subst (λ (ps : List ℕ). Contains ps at) (ap new e ∙ list) m)
   | inr n ↦ n (t.apart c class at (subst (λ (ps : List ℕ). Contains ps at) (others c n) m) listed)
 ]
@@ -147,7 +147,7 @@ with_list-each P lists class places here others c = elim (cases_eq c class) [
 ]
 
 -- the list of one class is threaded anew, and no other list is touched
-pub record Relists (heads members w : List ℕ) (class : ℕ) (places new_heads new_members v : List ℕ) : Type 0 where
+pub record NewList (heads members w : List ℕ) (class : ℕ) (places new_heads new_members v : List ℕ) : Type 0 where
   pub small : length w ≤ 2 ^ 20
   pub long : length v ≡ length w
   pub head : get_or new_heads class nowhere ≡ first_of places
@@ -160,12 +160,14 @@ pub record Relists (heads members w : List ℕ) (class : ℕ) (places new_heads 
   pub in_use : Contains classes class
 
 -- what is threaded then
-module _ (heads members w : List ℕ) (class : ℕ) (places new_heads new_members v : List ℕ) (t : AreThreaded heads members w) (r : Relists heads members w class places new_heads new_members v) where
-  pub relisted-list : list_of new_heads v class ≡ places
-  relisted-list = list_of-linked new_heads v class places (omega (arith, r.small, r.long)) r.head r.linked r.distinct
+module _ (heads members w : List ℕ) (class : ℕ) (places new_heads new_members v : List ℕ) (t : AreThreaded heads members w) (r : NewList heads members w class places new_heads new_members v) where
+  -- the class has the new list
+  pub NewList-list : list_of new_heads v class ≡ places
+  NewList-list = list_of-linked new_heads v class places (omega (arith, r.small, r.long)) r.head r.linked r.distinct
 
-  pub relisted-others : (c : ℕ) → c ≢ class → list_of new_heads v c ≡ list_of heads w c
-  relisted-others c n = list_of-kept heads new_heads w v c (r.heads_kept c n) r.long (r.words_kept c n)
+  -- each other class has the list that it had
+  pub NewList-others : (c : ℕ) → c ≢ class → list_of new_heads v c ≡ list_of heads w c
+  NewList-others c n = list_of-kept heads new_heads w v c (r.heads_kept c n) r.long (r.words_kept c n)
 
   abbrev lists : ℕ → List ℕ
   lists = with_list (list_of heads w) class places
@@ -176,9 +178,10 @@ module _ (heads members w : List ℕ) (class : ℕ) (places new_heads new_member
       (λ c n. with_list-each (λ b qs. (at : ℕ) → Contains (list_of heads w c) at → Contains qs at → c ≡ b) (list_of heads w) class places (λ at m k. r.apart c at k m) (λ d _ at m k. t.apart c d at m k) b)
       a
 
-  pub relisted : AreThreaded new_heads new_members v
-  relisted = are_threaded new_heads new_members v lists record {
-    is = with_list-each (λ c ps. list_of new_heads v c ≡ ps) (list_of heads w) class places relisted-list relisted-others;
+  -- and the lists are threaded
+  pub NewList-threaded : AreThreaded new_heads new_members v
+  NewList-threaded = are_threaded new_heads new_members v lists record {
+    is = with_list-each (λ c ps. list_of new_heads v c ≡ ps) (list_of heads w) class places NewList-list NewList-others;
     linked = with_list-each (λ c ps. LinkedFrom v nowhere ps) (list_of heads w) class places r.linked (λ c n. linked-kept w v nowhere (list_of heads w c) r.long (r.words_kept c n) (t.linked c));
     distinct = with_list-each (λ c ps. AreDistinct ps) (list_of heads w) class places r.distinct (λ c n. t.distinct c);
     apart = lists_apart;

@@ -2,7 +2,7 @@
 use Rattle.std.specs.Prelude.{◌≡◌, ◌≢◌, ℕ, zero, suc, ◌+◌, ◌-◌, ◌^◌, ◌<◌, List, [], ◌∷◌, not, ◌==◌, if◌then◌else◌, length, filter, slice_index, slice_index_or, Contains, ⊤}
 use Rattle.std.specs.List.{AllByRecursion}
 use Rattle.tlsf_class.specs.Classes.{classes}
-use Rattle.tlsf_words.specs.Fields.{links_word, low_half, high_half}
+use Rattle.tlsf_words.specs.Fields.{links_word, low_half}
 
 -- what free lists show: for each class the place where its list begins, the classes whose bits are set, and the number of
 -- touches: reads and writes of one such place or of one word of the bits
@@ -62,9 +62,3 @@ pub record AreThreaded (heads members words : List ℕ) : Type 0 where
 -- no word has changed but the links of places that are in the lists now
 abbrev pub OnlyLinksChange : (ℕ → List ℕ) → List ℕ → List ℕ → Type 0
 OnlyLinksChange lists old new = (k : ℕ) → ((class at : ℕ) → Contains (lists class) at → k ≢ at + 2) → slice_index new k ≡ slice_index old k
-
--- these two places name each other, where they are places, and no other word has changed
-pub record AreTied (old new : List ℕ) (next previous : ℕ) : Type 0 where
-  pub before : previous ≢ nowhere → slice_index new (previous + 2) ≡ links_word next (high_half (slice_index old (previous + 2)))
-  pub behind : next ≢ nowhere → slice_index new (next + 2) ≡ links_word (low_half (slice_index old (next + 2))) previous
-  pub others : (k : ℕ) → (previous ≢ nowhere → k ≢ previous + 2) → (next ≢ nowhere → k ≢ next + 2) → slice_index new k ≡ slice_index old k

@@ -1,7 +1,8 @@
 ghost use Rattle.std.specs.Prelude.{◌≡◌, ◌≢◌, ℕ, ◌+◌, ◌<◌, ◌≤◌, [], ◌∷◌, List, length, Contains, slice_get, slice_index, slice_index_or, slice_set};
 ghost use Rattle.tlsf_class.specs.Members.{next_member, without_member};
 ghost use Rattle.tlsf_words.specs.Fields.{links_word, low_half, high_half};
-ghost use Rattle.tlsf_words.specs.Lists.{nowhere, list_of, without_place, AreThreaded, IsUnlisted, OnlyLinksChange, AreTied};
+ghost use Rattle.tlsf_words.specs.Lists.{nowhere, list_of, without_place, AreThreaded, IsUnlisted, OnlyLinksChange};
+ghost use Rattle.tlsf_words.specs.Ties.{AreTied};
 
 use crate::heads::{Heads, NO_PLACE};
 use crate::links::Links;
@@ -10,8 +11,16 @@ use std::marker::Model;
 use tlsf_class::{Bitmaps, Class};
 
 /// Lists of places, one for each class, threaded through the third words of their headers, and bitmaps of the classes whose
-/// lists aren't empty. A list is last in, first out. Nothing allocates, and no list is walked: to put a place in makes seven
-/// touches at most and to take one out six, however long the lists are.
+/// lists aren't empty: the segregated lists of two-level segregated fit (ECRTS 2004, section 3). A list is last in, first out.
+/// Nothing allocates, and no list is walked: to put a place in makes seven touches at most and to take one out six, however
+/// long the lists are.
+///
+/// ```
+/// let mut lists = FreeLists::new();
+/// lists.push(&mut words, class_of(12), 0);                     // the block at place 0 has 12 words
+/// let at = lists.first(lists.next_from(search_of(9))?)?;       // 0
+/// lists.remove(&mut words, class_of(12), at);
+/// ```
 #[derive(Drop)]
 pub struct FreeLists {
     heads: Heads,
@@ -28,7 +37,11 @@ impl Model for FreeLists {
 }
 
 impl FreeLists {
-    /// Every list is empty.
+    /// Lists with no place in any. It makes no touch: the first heads aren't counted.
+    ///
+    /// ```
+    /// let none = FreeLists::new().next_from(class_of(4));     // None
+    /// ```
     pub fn new() -> FreeLists
         ensures empty { (words : List ℕ) (class : ℕ) → list_of result.heads words class ≡ [] }
         ensures threaded { (words : List ℕ) → AreThreaded result.heads result.members words }
@@ -40,7 +53,13 @@ impl FreeLists {
         }
     }
 
-    /// Puts a place that is in no list in front of the list of a class.
+    /// Puts a place that is in no list at the head of the list of a class, in seven touches at most. It writes the links of
+    /// the place and those of the head before.
+    ///
+    /// ```
+    /// lists.push(&mut words, class_of(12), 20);
+    /// let head = lists.first(class_of(12));     // Some(20)
+    /// ```
     pub fn push(&mut self, words: &mut Words, class: Class, at: u32)
         requires threaded { AreThreaded self.old.heads self.old.members words.old.words }
         requires inside { at + 2 < length words.old.words }
@@ -71,7 +90,12 @@ impl FreeLists {
         }
     }
 
-    /// Takes a place out of the list of its class, by its own links.
+    /// Takes a place out of the list of its class, in six touches at most. It reads the place's own links and writes those of
+    /// its two neighbours, so that the list isn't walked.
+    ///
+    /// ```
+    /// lists.remove(&mut words, class_of(12), 20);     // 20 was in the list of class 12, anywhere
+    /// ```
     pub fn remove(&mut self, words: &mut Words, class: Class, at: u32)
         requires threaded { AreThreaded self.old.heads self.old.members words.old.words }
         requires listed { Contains (list_of self.old.heads words.old.words class) at }
@@ -92,7 +116,11 @@ impl FreeLists {
         }
     }
 
-    /// The place at the head of the list of a class, `None` where the list is empty.
+    /// The place at the head of the list of a class, the one that was put in last, `None` where the list is empty. One touch.
+    ///
+    /// ```
+    /// let head = lists.first(class_of(12));
+    /// ```
     pub fn first(&mut self, class: Class) -> Option<u32>
         ensures place { (words : List ℕ) → AreThreaded self.old.heads self.old.members words → result ≡ slice_get (list_of self.old.heads words class) 0 }
         ensures heads { self.new.heads ≡ self.old.heads }
@@ -103,7 +131,12 @@ impl FreeLists {
         if at == NO_PLACE { None } else { Some(at) }
     }
 
-    /// The least class at or above a class whose list isn't empty, `None` where there is none.
+    /// The least class at or above a class whose list isn't empty, `None` where there is none. Three touches at most
+    /// (ECRTS 2004, section 3).
+    ///
+    /// ```
+    /// let class = lists.next_from(search_of(9))?;     // each of its blocks has 9 words or more
+    /// ```
     pub fn next_from(&mut self, class: Class) -> Option<Class>
         ensures least { result ≡ next_member self.old.members class }
         ensures heads { self.new.heads ≡ self.old.heads }
@@ -114,7 +147,8 @@ impl FreeLists {
         self.bitmaps.next_from(class)
     }
 
-    /// Makes the list of a class begin at a place. The class is no member where that is `NO_PLACE`.
+    /// Makes the list of a class begin at a place. The class is no member where that is `NO_PLACE`. It stands apart from
+    /// `remove`, and so does `tie`, since the proof of each has few cases then.
     fn begin_at(&mut self, class: Class, first: u32)
         ensures head { slice_index_or self.new.heads class nowhere ≡ first }
         ensures heads { (other : ℕ) → other ≢ class → slice_index_or self.new.heads other nowhere ≡ slice_index_or self.old.heads other nowhere }

@@ -8,7 +8,7 @@ use tlsf_class::{Class, Touches};
 /// no block begins there.
 ///
 /// ```
-/// let links = Links { next: 8, previous: NO_PLACE };   // the head of a list: 8 comes next, and nothing before
+/// let links = Links { next: 8, previous: NO_PLACE };     // the head of a list: 8 comes next, and nothing before
 /// ```
 pub const NO_PLACE: u32 = u32::MAX;
 
@@ -43,7 +43,7 @@ impl Heads {
         }
     }
 
-    /// Each read of a head is here.
+    /// The place where the list of a class begins. Each read of a head is here.
     #[inline]
     pub(crate) fn place(&mut self, class: Class) -> u32
         ensures value { result ≡ slice_index_or self.old.places class nowhere }
@@ -54,7 +54,8 @@ impl Heads {
         self.places[class.number() as usize]
     }
 
-    /// Each write of a head is here.
+    /// Makes the list of a class begin at a place. Each write of a head is here. The clauses say the range of the class's
+    /// number besides, which a proof can't read off the private field.
     #[inline]
     pub(crate) fn set_place(&mut self, class: Class, at: u32)
         ensures value { slice_index_or self.new.places class nowhere ≡ at }

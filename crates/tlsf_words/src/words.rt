@@ -14,6 +14,14 @@ use std::marker::Model;
 
 /// The 64-bit words of a region, 4 to 2^20, and a map that says at which of them a block starts. A place is the number of a word,
 /// from 0 on. Nothing but `open` allocates. A call that reads or writes one field or one start bit makes one touch.
+///
+/// A clause `small` says that there are at most 2^20 words, which a caller's proof can't read off the private fields.
+///
+/// ```
+/// let mut words = Words::open(alloc, 64)?;
+/// words.set_tag(0, Tag { size: 64, free: true, last: true, back: NO_PLACE });
+/// words.set_start(0, true);     // one free block of 64 words
+/// ```
 #[derive(Drop)]
 pub struct Words {
     words: Cells,
@@ -34,6 +42,10 @@ impl Model for Words {
 impl Words {
     /// A region of `n` words, 4 to 2^20: each word is zero, and no block starts anywhere. The first zeros and the
     /// empty map aren't counted. It fails only for want of memory.
+    ///
+    /// ```
+    /// let words = Words::open(alloc, 64)?;     // 512 bytes of words, and 8 of the map
+    /// ```
     pub fn open(alloc: Global, n: u32) -> Result<Words, NoMemory>
         requires least { 4 ≤ n }
         requires most { n ≤ 2 ^ 20 }
@@ -46,7 +58,11 @@ impl Words {
         Ok(Words { words, starts })
     }
 
-    /// How many words the region has.
+    /// How many words the region has, 4 to 2^20. No touch.
+    ///
+    /// ```
+    /// let is_inside = at < words.len();
+    /// ```
     #[inline]
     pub fn len(&self) -> u32
         ensures words { result ≡ length self.now.words }
@@ -57,7 +73,11 @@ impl Words {
         self.words.len() as u32
     }
 
-    /// The word at a place.
+    /// The word at a place of the region, whatever it holds.
+    ///
+    /// ```
+    /// let word = words.word(3);     // the first payload word of the block at place 0
+    /// ```
     #[inline]
     pub fn word(&mut self, at: u32) -> u64
         requires { at < length self.old.words }
@@ -70,6 +90,10 @@ impl Words {
     }
 
     /// The tag of the header at a place, its first word.
+    ///
+    /// ```
+    /// let size = words.tag(at).size;     // in words, with the header
+    /// ```
     #[inline]
     pub fn tag(&mut self, at: u32) -> Tag
         requires { at < length self.old.words }
@@ -85,7 +109,12 @@ impl Words {
         Tag::of_word(self.read(at as usize))
     }
 
-    /// Writes the tag of the header at a place.
+    /// Writes the tag of the header at a place. The size is below 2^30 words.
+    ///
+    /// ```
+    /// let tag = words.tag(at);
+    /// words.set_tag(at, Tag { free: true, ..tag });
+    /// ```
     #[inline]
     pub fn set_tag(&mut self, at: u32, tag: Tag)
         requires inside { at < length self.old.words }
@@ -98,6 +127,10 @@ impl Words {
     }
 
     /// The mark of the header at a place, its second word: the serial of a live block or the stamp of a free one.
+    ///
+    /// ```
+    /// let is_named = words.mark(at) == name.serial;
+    /// ```
     #[inline]
     pub fn mark(&mut self, at: u32) -> u64
         requires { at + 1 < length self.old.words }
@@ -110,6 +143,10 @@ impl Words {
     }
 
     /// Writes the mark of the header at a place.
+    ///
+    /// ```
+    /// words.set_mark(at, tick);
+    /// ```
     #[inline]
     pub fn set_mark(&mut self, at: u32, mark: u64)
         requires { at + 1 < length self.old.words }
@@ -120,7 +157,12 @@ impl Words {
         self.write(at as usize + 1, mark);
     }
 
-    /// The payload length in bytes of the live block at a place, from the third word of its header.
+    /// The payload length in bytes of the live block at a place, from the third word of its header. Of a free block it would
+    /// be a place.
+    ///
+    /// ```
+    /// let bytes = words.length(at);
+    /// ```
     #[inline]
     pub fn length(&mut self, at: u32) -> u32
         requires { at + 2 < length self.old.words }
@@ -133,6 +175,10 @@ impl Words {
     }
 
     /// Writes the payload length in bytes of the live block at a place. The upper half of its word becomes zero.
+    ///
+    /// ```
+    /// words.set_length(at, 100);     // of 13 payload words
+    /// ```
     #[inline]
     #[tactic(auto, unfolding(crate::specs::Fields::length_word))]
     pub fn set_length(&mut self, at: u32, bytes: u32)
@@ -145,6 +191,10 @@ impl Words {
     }
 
     /// The links of the free block at a place, the third word of its header.
+    ///
+    /// ```
+    /// let next = words.links(at).next;     // NO_PLACE where the list ends
+    /// ```
     #[inline]
     pub fn links(&mut self, at: u32) -> Links
         requires { at + 2 < length self.old.words }
@@ -159,6 +209,10 @@ impl Words {
     }
 
     /// Writes the links of the free block at a place.
+    ///
+    /// ```
+    /// words.set_links(at, Links { next, previous: NO_PLACE });
+    /// ```
     #[inline]
     pub fn set_links(&mut self, at: u32, links: Links)
         requires { at + 2 < length self.old.words }
@@ -170,7 +224,11 @@ impl Words {
         self.write(at as usize + 2, links.to_word());
     }
 
-    /// Whether a block starts at a place.
+    /// Whether a block starts at a place. A forged name is caught so, before a word of it is read.
+    ///
+    /// ```
+    /// let is_block = at < words.len() && words.starts(at);
+    /// ```
     #[inline]
     pub fn starts(&mut self, at: u32) -> bool
         requires { at < length self.old.words }
@@ -183,6 +241,10 @@ impl Words {
     }
 
     /// Says whether a block starts at a place.
+    ///
+    /// ```
+    /// words.set_start(at, false);     // where a block was merged with the one before
+    /// ```
     #[inline]
     pub fn set_start(&mut self, at: u32, starts: bool)
         requires { at < length self.old.words }
@@ -193,7 +255,11 @@ impl Words {
         self.starts.set(at, starts);
     }
 
-    /// Makes `n` words zero, from a place on.
+    /// Makes `n` words zero, from a place on. One touch a word.
+    ///
+    /// ```
+    /// words.zero(at + 3, payload_words);
+    /// ```
     #[tactic(auto, using(crate::proofs::Zeros::zero_more))]
     pub fn zero(&mut self, at: u32, n: u32)
         requires { at + n ≤ length self.old.words }
@@ -206,7 +272,12 @@ impl Words {
         }
     }
 
-    /// Writes bytes into the payload behind the header at a place, from a byte offset of it on. Whole words are written at once.
+    /// Writes bytes into the payload behind the header at a place, from a byte offset of it on. Each word that has one of them
+    /// is read and written once, and its other bytes stay.
+    ///
+    /// ```
+    /// words.copy_in(at, 6, b"abcd");     // bytes 6 to 9 of the payload: the last two of one word, the first two of the next
+    /// ```
     pub fn copy_in(&mut self, at: u32, offset: u32, bytes: &[u8])
         requires { payload_byte at offset + length bytes.now ≤ 8 * length self.old.words }
         ensures bytes { bytes_in self.new.words (payload_byte at offset) (length bytes.now) ≡ bytes.now }
@@ -231,7 +302,13 @@ impl Words {
         }
     }
 
-    /// Reads bytes of the payload behind the header at a place, from a byte offset of it on. Whole words are read at once.
+    /// Reads bytes of the payload behind the header at a place, from a byte offset of it on, until `out` is full. Each word that
+    /// has one of them is read once.
+    ///
+    /// ```
+    /// let mut bytes = [0; 4];
+    /// words.copy_out(at, 6, &mut bytes);
+    /// ```
     pub fn copy_out(&mut self, at: u32, offset: u32, out: &mut [u8])
         requires { payload_byte at offset + length out.old ≤ 8 * length self.old.words }
         ensures bytes { out.new ≡ bytes_in self.old.words (payload_byte at offset) (length out.old) }
@@ -284,7 +361,7 @@ impl Words {
         out.copy_from_slice(&word[first..first + out.len()]);
     }
 
-    /// Reads a word.
+    /// Reads a word. The calls above read through here, since `small` comes from the model's invariant, once.
     #[inline]
     fn read(&mut self, at: usize) -> u64
         requires { at < length self.old.words }

@@ -1,3 +1,4 @@
+use Rattle.tlsf_crew.proofs.Fronts.{replies_always}
 use Rattle.tlsf_crew.proofs.Histories.{replies_tell, replies_lawful}
 use Rattle.tlsf_crew.proofs.history.one_history.Goals as goal
 
@@ -7,4 +8,5 @@ returns c = record {
   heaps = λ w es j j_in. (replies_tell w es).history.heaps j j_in;
   posts = λ w es i j. (replies_tell w es).history.posts i j;
   lawful = replies_lawful;
+  always_lawful = replies_always;
 }

@@ -16,6 +16,7 @@ returns-in_default c =
 
 pub loop-i-preserved : goal.loop-i-preserved
 loop-i-preserved c = record {
-  so_far = rw c.in_ok-push.ensures.items (goes_on c.args.workers c.args.kinds.now c.args.fields.now c.loop-i.i _ _ c.loop-i.values.items _ c.loop-i-test.true (omega arith)
+  so_far = rw c.push.ensures.items (goes_on c.args.workers c.args.kinds.now c.args.fields.now c.loop-i.i _ _ c.loop-i.values.items _ c.loop-i-test.true (omega arith)
       c.loop-i.invariant.so_far c.in-Some.value c.in-Some.ensures);
+  room = omega arith;
 }

@@ -1,4 +1,5 @@
 use Rattle.std.proofs.Common.{◌≡◌, ◌++◌, drop, map, option_map, length}
+use Rattle.arrayvec.specs.ArrayVec.{array_vec_len}
 use Rattle.tlsf_trace.specs.Fields.{values_in}
 use Rattle.tlsf_trace.proofs.value.values_in.Given as goal
 
@@ -7,4 +8,5 @@ abbrev pub invariant-loop-i : goal.invariant-loop-i
 invariant-loop-i l = record {
   so_far : option_map (λ values. l.values.items ++ values) (values_in l.workers (drop l.i l.kinds) (drop l.i (map (λ f. f.now) l.fields)))
       ≡ values_in l.workers l.kinds (map (λ f. f.now) l.fields);
+  room : array_vec_len l.values ≡ l.i;
 }

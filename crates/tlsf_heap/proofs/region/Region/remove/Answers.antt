@@ -2,7 +2,7 @@
 use Rattle.std.proofs.Common.{ℕ, List, sym, ap, ◌∙◌, subst, arith}
 use Rattle.std.specs.Prelude.{Contains}
 use Rattle.tlsf_words.specs.Lists.{list_of, without_place}
-use Rattle.tlsf_words.proofs.Threads.{removed_unlisted}
+use Rattle.tlsf_words.proofs.Threads.{remove-unlisted}
 use Rattle.tlsf_heap.proofs.Linking.{Relinks, holds_state, list_in-lists_of, relinked, free_removed}
 use Rattle.tlsf_heap.specs.Regions.{RegionState, image_of}
 use Rattle.tlsf_heap.proofs.region.Region.remove.Goals as goal
@@ -36,7 +36,7 @@ pub returns-clause-unlisted : goal.returns-clause-unlisted
 returns-clause-unlisted c class listed =
     let new = c.remove.ensures in
     let state = holds_state c.self.invariant c.self.view_is in
-    removed_unlisted c.self.inside.lists.heads c.self.inside.lists.members c.self.inside.words.words c.args.class c.args.at (list_of c.remove.new.self.heads c.remove.new.words.words)
+    remove-unlisted c.self.inside.lists.heads c.self.inside.lists.members c.self.inside.words.words c.args.class c.args.at (list_of c.remove.new.self.heads c.remove.new.words.words)
     state.threaded (subst (λ (places : List ℕ). Contains places c.args.at) (state.lists c.args.class) c.requires.listed) new.list new.others class
     (subst (λ (places : List ℕ). Contains places c.args.at) (list_in-lists_of c.remove.new.self.heads c.remove.new.words.words class) listed)
 

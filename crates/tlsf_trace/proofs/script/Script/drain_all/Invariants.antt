@@ -1,4 +1,4 @@
-use Rattle.std.proofs.Common.{◌≡◌, ◌++◌, replicate}
+use Rattle.std.proofs.Common.{◌≡◌, ◌++◌, replicate, None}
 use Rattle.tlsf_trace.specs.Events.{last_drains}
 use Rattle.tlsf_trace.proofs.script.Script.drain_all.Given as goal
 
@@ -6,5 +6,5 @@ use Rattle.tlsf_trace.proofs.script.Script.drain_all.Given as goal
 abbrev pub invariant-loop-worker : goal.invariant-loop-worker
 invariant-loop-worker l = record {
   events : l.self.events.items ≡ l.fn.self.events.items ++ last_drains l.worker;
-  labels : l.self.labels.items ≡ l.fn.self.labels.items ++ replicate l.worker 0;
+  labels : l.self.labels.items ≡ l.fn.self.labels.items ++ replicate l.worker None;
 }

@@ -1,7 +1,7 @@
 use Rattle.std.proofs.Common.{◌<◌, ◌+◌, ℕ, List, length, refl, sym, ap, ◌∙◌, subst}
-use Rattle.tlsf_words.specs.Lists.{AreTied}
+use Rattle.tlsf_words.specs.Ties.{AreTied}
 use Rattle.tlsf_words.proofs.Threads.{listed_within}
-use Rattle.tlsf_words.proofs.Removing.{Removes, next_within, previous_within, neighbours_apart, removed-threaded, removed-list, removed-others, removed-words}
+use Rattle.tlsf_words.proofs.Remove.{RemoveWrites, next_within, previous_within, neighbours_apart, remove-threaded, remove-list, remove-others, remove-words}
 use Rattle.tlsf_words.proofs.free_lists.FreeLists.remove.Goals as goal
 
 pub links-links-requires : goal.links-links-requires
@@ -24,8 +24,8 @@ tie-requires-clause-apart c = neighbours_apart c.args.self.now.heads c.args.self
     c.links-links.result.next c.links-links.result.previous c.links-links.ensures.next c.links-links.ensures.previous
 
 -- what is written where the place was the first of its list
-removes_first : (c : goal.After-begin_at) → Removes c.args.self.now.heads c.args.self.now.members c.args.words.now.words c.args.class c.args.at c.links-links.result.next c.links-links.result.previous c.begin_at.new.self.heads c.begin_at.new.self.members c.tie.new.words.words
-removes_first c = record {
+writes_of_first : (c : goal.After-begin_at) → RemoveWrites c.args.self.now.heads c.args.self.now.members c.args.words.now.words c.args.class c.args.at c.links-links.result.next c.links-links.result.previous c.begin_at.new.self.heads c.begin_at.new.self.members c.tie.new.words.words
+writes_of_first c = record {
   next_is = c.links-links.ensures.next;
   previous_is = c.links-links.ensures.previous;
   long = c.tie.ensures.length ∙ ap length c.links-links.ensures.words;
@@ -38,8 +38,8 @@ removes_first c = record {
 }
 
 -- and where one stood before it
-removes_later : (c : goal.Else-links) → Removes c.args.self.now.heads c.args.self.now.members c.args.words.now.words c.args.class c.args.at c.links-links.result.next c.links-links.result.previous c.args.self.now.heads c.args.self.now.members c.tie.new.words.words
-removes_later c = record {
+writes_of_later : (c : goal.Else-links) → RemoveWrites c.args.self.now.heads c.args.self.now.members c.args.words.now.words c.args.class c.args.at c.links-links.result.next c.links-links.result.previous c.args.self.now.heads c.args.self.now.members c.tie.new.words.words
+writes_of_later c = record {
   next_is = c.links-links.ensures.next;
   previous_is = c.links-links.ensures.previous;
   long = c.tie.ensures.length ∙ ap length c.links-links.ensures.words;
@@ -52,33 +52,33 @@ removes_later c = record {
 }
 
 pub returns-then-links-clause-threaded : goal.returns-then-links-clause-threaded
-returns-then-links-clause-threaded c = removed-threaded c.args.self.now.heads c.args.self.now.members c.args.words.now.words c.args.class c.args.at c.requires.threaded c.links-links.ensures.small c.requires.listed
-    c.links-links.result.next c.links-links.result.previous c.begin_at.new.self.heads c.begin_at.new.self.members c.tie.new.words.words (removes_first c)
+returns-then-links-clause-threaded c = remove-threaded c.args.self.now.heads c.args.self.now.members c.args.words.now.words c.args.class c.args.at c.requires.threaded c.links-links.ensures.small c.requires.listed
+    c.links-links.result.next c.links-links.result.previous c.begin_at.new.self.heads c.begin_at.new.self.members c.tie.new.words.words (writes_of_first c)
 
 pub returns-then-links-clause-list : goal.returns-then-links-clause-list
-returns-then-links-clause-list c = removed-list c.args.self.now.heads c.args.self.now.members c.args.words.now.words c.args.class c.args.at c.requires.threaded c.links-links.ensures.small c.requires.listed
-    c.links-links.result.next c.links-links.result.previous c.begin_at.new.self.heads c.begin_at.new.self.members c.tie.new.words.words (removes_first c)
+returns-then-links-clause-list c = remove-list c.args.self.now.heads c.args.self.now.members c.args.words.now.words c.args.class c.args.at c.requires.threaded c.links-links.ensures.small c.requires.listed
+    c.links-links.result.next c.links-links.result.previous c.begin_at.new.self.heads c.begin_at.new.self.members c.tie.new.words.words (writes_of_first c)
 
 pub returns-then-links-clause-others : goal.returns-then-links-clause-others
-returns-then-links-clause-others c = removed-others c.args.self.now.heads c.args.self.now.members c.args.words.now.words c.args.class c.args.at c.requires.threaded c.links-links.ensures.small c.requires.listed
-    c.links-links.result.next c.links-links.result.previous c.begin_at.new.self.heads c.begin_at.new.self.members c.tie.new.words.words (removes_first c)
+returns-then-links-clause-others c = remove-others c.args.self.now.heads c.args.self.now.members c.args.words.now.words c.args.class c.args.at c.requires.threaded c.links-links.ensures.small c.requires.listed
+    c.links-links.result.next c.links-links.result.previous c.begin_at.new.self.heads c.begin_at.new.self.members c.tie.new.words.words (writes_of_first c)
 
 pub returns-then-links-clause-words : goal.returns-then-links-clause-words
-returns-then-links-clause-words c = removed-words c.args.self.now.heads c.args.self.now.members c.args.words.now.words c.args.class c.args.at c.requires.threaded c.links-links.ensures.small c.requires.listed
-    c.links-links.result.next c.links-links.result.previous c.begin_at.new.self.heads c.begin_at.new.self.members c.tie.new.words.words (removes_first c)
+returns-then-links-clause-words c = remove-words c.args.self.now.heads c.args.self.now.members c.args.words.now.words c.args.class c.args.at c.requires.threaded c.links-links.ensures.small c.requires.listed
+    c.links-links.result.next c.links-links.result.previous c.begin_at.new.self.heads c.begin_at.new.self.members c.tie.new.words.words (writes_of_first c)
 
 pub returns-else-links-clause-threaded : goal.returns-else-links-clause-threaded
-returns-else-links-clause-threaded c = removed-threaded c.args.self.now.heads c.args.self.now.members c.args.words.now.words c.args.class c.args.at c.requires.threaded c.links-links.ensures.small c.requires.listed
-    c.links-links.result.next c.links-links.result.previous c.args.self.now.heads c.args.self.now.members c.tie.new.words.words (removes_later c)
+returns-else-links-clause-threaded c = remove-threaded c.args.self.now.heads c.args.self.now.members c.args.words.now.words c.args.class c.args.at c.requires.threaded c.links-links.ensures.small c.requires.listed
+    c.links-links.result.next c.links-links.result.previous c.args.self.now.heads c.args.self.now.members c.tie.new.words.words (writes_of_later c)
 
 pub returns-else-links-clause-list : goal.returns-else-links-clause-list
-returns-else-links-clause-list c = removed-list c.args.self.now.heads c.args.self.now.members c.args.words.now.words c.args.class c.args.at c.requires.threaded c.links-links.ensures.small c.requires.listed
-    c.links-links.result.next c.links-links.result.previous c.args.self.now.heads c.args.self.now.members c.tie.new.words.words (removes_later c)
+returns-else-links-clause-list c = remove-list c.args.self.now.heads c.args.self.now.members c.args.words.now.words c.args.class c.args.at c.requires.threaded c.links-links.ensures.small c.requires.listed
+    c.links-links.result.next c.links-links.result.previous c.args.self.now.heads c.args.self.now.members c.tie.new.words.words (writes_of_later c)
 
 pub returns-else-links-clause-others : goal.returns-else-links-clause-others
-returns-else-links-clause-others c = removed-others c.args.self.now.heads c.args.self.now.members c.args.words.now.words c.args.class c.args.at c.requires.threaded c.links-links.ensures.small c.requires.listed
-    c.links-links.result.next c.links-links.result.previous c.args.self.now.heads c.args.self.now.members c.tie.new.words.words (removes_later c)
+returns-else-links-clause-others c = remove-others c.args.self.now.heads c.args.self.now.members c.args.words.now.words c.args.class c.args.at c.requires.threaded c.links-links.ensures.small c.requires.listed
+    c.links-links.result.next c.links-links.result.previous c.args.self.now.heads c.args.self.now.members c.tie.new.words.words (writes_of_later c)
 
 pub returns-else-links-clause-words : goal.returns-else-links-clause-words
-returns-else-links-clause-words c = removed-words c.args.self.now.heads c.args.self.now.members c.args.words.now.words c.args.class c.args.at c.requires.threaded c.links-links.ensures.small c.requires.listed
-    c.links-links.result.next c.links-links.result.previous c.args.self.now.heads c.args.self.now.members c.tie.new.words.words (removes_later c)
+returns-else-links-clause-words c = remove-words c.args.self.now.heads c.args.self.now.members c.args.words.now.words c.args.class c.args.at c.requires.threaded c.links-links.ensures.small c.requires.listed
+    c.links-links.result.next c.links-links.result.previous c.args.self.now.heads c.args.self.now.members c.tie.new.words.words (writes_of_later c)

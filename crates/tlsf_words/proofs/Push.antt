@@ -1,4 +1,4 @@
--- A place is put in front of a list.
+-- A place is put at the head of a list.
 use Rattle.std.proofs.Common.{◌≡◌, ◌≢◌, ℕ, ◌+◌, ◌-◌, ◌^◌, ◌<◌, ◌≤◌, List, [], ◌∷◌, length, get_or, set, sym, ap, ◌∙◌, subst, inl, inr, arith, get_or-set_same, get_or-set_other}
 use Rattle.std.specs.List.{Contains}
 use Rattle.std.proofs.lemmas.Bool.{cases_eq}
@@ -11,26 +11,26 @@ use Rattle.tlsf_words.specs.Lists.{nowhere, list_of, first_of, LinkedFrom, AreDi
 use Rattle.tlsf_words.proofs.FieldLaws.{low_half-links_word}
 use Rattle.tlsf_words.proofs.ListedClasses.{some-cons, some-first, listed-with, listed-same}
 use Rattle.tlsf_words.proofs.PlaceLists.{member_here, member_behind, member_cases, first_member, all_member, all_from_members}
-use Rattle.tlsf_words.proofs.Threads.{begins, head_listed, listed_within, first_small, linked-kept, with_list, Relists, relisted-list, relisted-others, relisted}
+use Rattle.tlsf_words.proofs.Threads.{begins, head_listed, listed_within, first_small, linked-kept, with_list, NewList, NewList-list, NewList-others, NewList-threaded}
 
--- the links of a place in front of `next`
-pub record IsInFront (w v : List ℕ) (at next : ℕ) : Type 0 where
+-- the links of a place at the head, which comes before `next`
+pub record IsAtHead (w v : List ℕ) (at next : ℕ) : Type 0 where
   pub here : get_or v (at + 2) 0 ≡ links_word next nowhere
   pub behind : next ≢ nowhere → get_or v (next + 2) 0 ≡ links_word (low_half (get_or w (next + 2) 0)) at
   pub others : (k : ℕ) → k ≢ at + 2 → (next ≢ nowhere → k ≢ next + 2) → get_or v k 0 ≡ get_or w k 0
 
 -- so are those of the first place of a list
-pub in_front-first : (w v : List ℕ) (at next : ℕ) → at + 2 < length w → v ≡ set w (at + 2) (links_word next nowhere) → next ≡ nowhere → IsInFront w v at next
-in_front-first w v at next inside is none = record {
+pub IsAtHead-alone : (w v : List ℕ) (at next : ℕ) → at + 2 < length w → v ≡ set w (at + 2) (links_word next nowhere) → next ≡ nowhere → IsAtHead w v at next
+IsAtHead-alone w v at next inside is none = record {
   here = ap (λ (u : List ℕ). get_or u (at + 2) 0) is ∙ get_or-set_same w (at + 2) (links_word next nowhere) 0 inside;
   behind = λ some. absurd (some none);
   others = λ k n _. ap (λ (u : List ℕ). get_or u k 0) is ∙ get_or-set_other w (at + 2) k (links_word next nowhere) 0 n;
 }
 
 -- and those of a place before another, whose links name it then
-pub in_front-more : (w u v : List ℕ) (at next : ℕ) → at + 2 < length w → next + 2 < length w → at ≢ next → next ≢ nowhere
-    → u ≡ set w (at + 2) (links_word next nowhere) → v ≡ set u (next + 2) (links_word (low_half (get_or u (next + 2) 0)) at) → IsInFront w v at next
-in_front-more w u v at next inside next_inside apart some is then =
+pub IsAtHead-more : (w u v : List ℕ) (at next : ℕ) → at + 2 < length w → next + 2 < length w → at ≢ next → next ≢ nowhere
+    → u ≡ set w (at + 2) (links_word next nowhere) → v ≡ set u (next + 2) (links_word (low_half (get_or u (next + 2) 0)) at) → IsAtHead w v at next
+IsAtHead-more w u v at next inside next_inside apart some is then =
     let within : next + 2 < length u = omega (arith, ap length is, length-set w (at + 2) (links_word next nowhere)) in
     let written = links_word (low_half (get_or u (next + 2) 0)) at in
     record {
@@ -47,15 +47,15 @@ in_front-more w u v at next inside next_inside apart some is then =
     }
 
 -- then the places are linked
-linked-in_front : (w v : List ℕ) (at : ℕ) (places : List ℕ) → length w ≤ 2 ^ 20 → length v ≡ length w → at + 2 < length w → IsInFront w v at (first_of places) → AreDistinct (at ∷ places) → LinkedFrom w nowhere places → LinkedFrom v nowhere (at ∷ places)
-linked-in_front w v at [] small long inside front distinct linked = (front.here, omega (arith, inside, long), tt)
-linked-in_front w v at (p ∷ places) small long inside front distinct linked = (
-  front.here,
+linked-at_head : (w v : List ℕ) (at : ℕ) (places : List ℕ) → length w ≤ 2 ^ 20 → length v ≡ length w → at + 2 < length w → IsAtHead w v at (first_of places) → AreDistinct (at ∷ places) → LinkedFrom w nowhere places → LinkedFrom v nowhere (at ∷ places)
+linked-at_head w v at [] small long inside is_head distinct linked = (is_head.here, omega (arith, inside, long), tt)
+linked-at_head w v at (p ∷ places) small long inside is_head distinct linked = (
+  is_head.here,
   omega (arith, inside, long),
   (
-    front.behind (λ e. omega (arith, linked.1, e)) ∙ ap (λ (k : ℕ). links_word k at) (ap low_half linked.0 ∙ low_half-links_word (first_of places) nowhere (first_small w p places small linked.2)),
+    is_head.behind (λ e. omega (arith, linked.1, e)) ∙ ap (λ (k : ℕ). links_word k at) (ap low_half linked.0 ∙ low_half-links_word (first_of places) nowhere (first_small w p places small linked.2)),
     omega (arith, linked.1, long),
-    linked-kept w v p places long (λ q m. front.others (q + 2) (λ e. all_member (λ y. at ≢ y) places q distinct.0.1 m (omega (arith, e))) (λ _ e. all_member (λ y. p ≢ y) places q distinct.1.0 m (omega (arith, e)))) linked.2,
+    linked-kept w v p places long (λ q m. is_head.others (q + 2) (λ e. all_member (λ y. at ≢ y) places q distinct.0.1 m (omega (arith, e))) (λ _ e. all_member (λ y. p ≢ y) places q distinct.1.0 m (omega (arith, e)))) linked.2,
   ),
 )
 
@@ -76,24 +76,24 @@ next_apart heads w class at next unlisted e some same =
     unlisted class (subst (Contains (list_of heads w class)) (sym (same ∙ e)) (head_listed heads w class (λ f. some (e ∙ f))))
 
 -- what a push writes
-pub record Pushes (heads members w : List ℕ) (class at : ℕ) (new_heads new_members v : List ℕ) : Type 0 where
+pub record PushWrites (heads members w : List ℕ) (class at : ℕ) (new_heads new_members v : List ℕ) : Type 0 where
   pub small : length w ≤ 2 ^ 20
   pub inside : at + 2 < length w
   pub unlisted : IsUnlisted (list_of heads w) at
   pub in_use : Contains classes class
   pub long : length v ≡ length w
-  pub in_front : IsInFront w v at (get_or heads class nowhere)
+  pub at_head : IsAtHead w v at (get_or heads class nowhere)
   pub head : get_or new_heads class nowhere ≡ at
   pub heads_kept : (c : ℕ) → c ≢ class → get_or new_heads c nowhere ≡ get_or heads c nowhere
   pub begun : get_or heads class nowhere ≡ nowhere → new_members ≡ with_member members class
   pub grown : get_or heads class nowhere ≢ nowhere → new_members ≡ members
 
-module _ (heads members w : List ℕ) (class at : ℕ) (new_heads new_members v : List ℕ) (t : AreThreaded heads members w) (p : Pushes heads members w class at new_heads new_members v) where
+module _ (heads members w : List ℕ) (class at : ℕ) (new_heads new_members v : List ℕ) (t : AreThreaded heads members w) (p : PushWrites heads members w class at new_heads new_members v) where
   abbrev old : List ℕ
   old = list_of heads w class
 
-  front : IsInFront w v at (first_of old)
-  front = subst (IsInFront w v at) (begins heads w class) p.in_front
+  is_head : IsAtHead w v at (first_of old)
+  is_head = subst (IsAtHead w v at) (begins heads w class) p.at_head
 
   distinct : AreDistinct (at ∷ old)
   distinct = (all_from_members (λ y. at ≢ y) old (λ y m e. p.unlisted class (subst (Contains old) (sym e) m)), t.distinct class)
@@ -104,19 +104,20 @@ module _ (heads members w : List ℕ) (class at : ℕ) (new_heads new_members v 
     | inr some ↦ p.grown some ∙ t.marked ∙ listed-same (list_of heads w) class (at ∷ old) (some-first old (λ e. some (begins heads w class ∙ e))) (some-cons at old)
   ]
 
-  -- no place of another list is the one in front or the one behind it
+  -- no place of another list is the head or the one behind it
   words_kept : (c : ℕ) → c ≢ class → (q : ℕ) → Contains (list_of heads w c) q → get_or v (q + 2) 0 ≡ get_or w (q + 2) 0
-  words_kept c n q m = front.others (q + 2)
+  words_kept c n q m = is_head.others (q + 2)
       (λ e. let same : q ≡ at = omega (arith, e) in p.unlisted c (subst (Contains (list_of heads w c)) same m))
       (λ some e. let same : first_of old ≡ q = omega (arith, e) in n (t.apart c class q m (subst (Contains old) same (first_member old some))))
 
-  pub relists : Relists heads members w class (at ∷ old) new_heads new_members v
-  relists = record {
+  -- the list of its class is a new one, and no other is
+  pub new_list : NewList heads members w class (at ∷ old) new_heads new_members v
+  new_list = record {
     small = p.small;
     long = p.long;
     head = p.head;
     heads_kept = p.heads_kept;
-    linked = linked-in_front w v at old p.small p.long p.inside front distinct (t.linked class);
+    linked = linked-at_head w v at old p.small p.long p.inside is_head distinct (t.linked class);
     distinct = distinct;
     words_kept = words_kept;
     apart = λ c q m n. elim (member_cases at old q m) [
@@ -127,17 +128,21 @@ module _ (heads members w : List ℕ) (class at : ℕ) (new_heads new_members v 
     in_use = p.in_use;
   }
 
-  pub pushed-threaded : AreThreaded new_heads new_members v
-  pushed-threaded = relisted heads members w class (at ∷ old) new_heads new_members v t relists
+  -- so the lists are threaded
+  pub push-threaded : AreThreaded new_heads new_members v
+  push-threaded = NewList-threaded heads members w class (at ∷ old) new_heads new_members v t new_list
 
-  pub pushed-list : list_of new_heads v class ≡ at ∷ old
-  pushed-list = relisted-list heads members w class (at ∷ old) new_heads new_members v t relists
+  -- that list has the place at its head
+  pub push-list : list_of new_heads v class ≡ at ∷ old
+  push-list = NewList-list heads members w class (at ∷ old) new_heads new_members v t new_list
 
-  pub pushed-others : (c : ℕ) → c ≢ class → list_of new_heads v c ≡ list_of heads w c
-  pushed-others = relisted-others heads members w class (at ∷ old) new_heads new_members v t relists
+  -- the other lists stay
+  pub push-others : (c : ℕ) → c ≢ class → list_of new_heads v c ≡ list_of heads w c
+  push-others = NewList-others heads members w class (at ∷ old) new_heads new_members v t new_list
 
   listed : (q : ℕ) → Contains (at ∷ old) q → Contains (list_of new_heads v class) q
-  listed q m = subst (λ (ps : List ℕ). Contains ps q) (sym pushed-list) m
+  listed q m = subst (λ (ps : List ℕ). Contains ps q) (sym push-list) m
 
-  pub pushed-words : OnlyLinksChange (list_of new_heads v) w v
-  pushed-words k apart = front.others k (apart class at (listed at (member_here at old))) (λ some. apart class (first_of old) (listed (first_of old) (member_behind at old (first_of old) (first_member old some))))
+  -- and no word changes but links
+  pub push-words : OnlyLinksChange (list_of new_heads v) w v
+  push-words k apart = is_head.others k (apart class at (listed at (member_here at old))) (λ some. apart class (first_of old) (listed (first_of old) (member_behind at old (first_of old) (first_member old some))))

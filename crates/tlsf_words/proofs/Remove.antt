@@ -5,11 +5,12 @@ use Rattle.std.proofs.lemmas.Bool.{cases_eq}
 use Rattle.std.proofs.lemmas.List.Elements.{Contains-append_left, Contains-append_right}
 use Rattle.tlsf_class.specs.Members.{without_member}
 use Rattle.tlsf_words.specs.Fields.{low_half, high_half, links_word}
-use Rattle.tlsf_words.specs.Lists.{nowhere, list_of, first_of, LinkedFrom, AreDistinct, AreTied, without_place, listed_classes, OnlyLinksChange, AreThreaded}
+use Rattle.tlsf_words.specs.Lists.{nowhere, list_of, first_of, LinkedFrom, AreDistinct, without_place, listed_classes, OnlyLinksChange, AreThreaded}
+use Rattle.tlsf_words.specs.Ties.{AreTied}
 use Rattle.tlsf_words.proofs.FieldLaws.{low_half-links_word, high_half-links_word}
 use Rattle.tlsf_words.proofs.ListedClasses.{are_some, some-member, none-first, listed-same, listed-without}
 use Rattle.tlsf_words.proofs.PlaceLists.{last_of, Split, split_member, first_member, last_member, all_member, all_weaker, all_right, all_last, distinct_without, without_split, without_within}
-use Rattle.tlsf_words.proofs.Threads.{begins, first_small, listed_within, with_list, Relists, relisted-list, relisted-others, relisted}
+use Rattle.tlsf_words.proofs.Threads.{begins, first_small, listed_within, with_list, NewList, NewList-list, NewList-others, NewList-threaded}
 
 module _ (w v : List ℕ) (small : length w ≤ 2 ^ 20) (long : length v ≡ length w) (at next previous : ℕ) (tied : AreTied w v next previous) where
   -- places that are neither neighbour keep their links
@@ -33,7 +34,7 @@ module _ (w v : List ℕ) (small : length w ≤ 2 ^ 20) (long : length v ≡ len
       )
 
   -- what is left is linked
-  linked-without : (before : ℕ) (front rest : List ℕ) → last_of before front ≡ previous → next ≡ first_of rest → AreDistinct (front ++ at ∷ rest) → AllByRecursion (λ y. y ≢ previous) rest → LinkedFrom w before (front ++ at ∷ rest) → LinkedFrom v before (front ++ rest)
+  linked-without : (before : ℕ) (prefix rest : List ℕ) → last_of before prefix ≡ previous → next ≡ first_of rest → AreDistinct (prefix ++ at ∷ rest) → AllByRecursion (λ y. y ≢ previous) rest → LinkedFrom w before (prefix ++ at ∷ rest) → LinkedFrom v before (prefix ++ rest)
   linked-without before [] rest b e distinct a linked = subst (λ (k : ℕ). LinkedFrom v k rest) (sym b) (linked-behind rest e a distinct.1 linked.2)
   linked-without before (x ∷ []) rest b e distinct a linked =
       let some : previous ≢ nowhere = λ f. omega (arith, b, f, linked.1) in
@@ -42,12 +43,12 @@ module _ (w v : List ℕ) (small : length w ≤ 2 ^ 20) (long : length v ≡ len
         omega (arith, linked.1, long),
         subst (λ (k : ℕ). LinkedFrom v k rest) (sym b) (linked-behind rest e a distinct.1.1 linked.2.2),
       )
-  linked-without before (x ∷ y ∷ front) rest b e distinct a linked =
-      let not_previous : x ≢ previous = λ f. all_last (λ z. x ≢ z) y front (at ∷ rest) distinct.0 (f ∙ sym b) in
-      let not_next : x ≢ next = λ f. not_first x rest (all_right (λ z. x ≢ z) (y ∷ front) (at ∷ rest) distinct.0).1 (omega (arith, linked.1)) (f ∙ e) in (
+  linked-without before (x ∷ y ∷ prefix) rest b e distinct a linked =
+      let not_previous : x ≢ previous = λ f. all_last (λ z. x ≢ z) y prefix (at ∷ rest) distinct.0 (f ∙ sym b) in
+      let not_next : x ≢ next = λ f. not_first x rest (all_right (λ z. x ≢ z) (y ∷ prefix) (at ∷ rest) distinct.0).1 (omega (arith, linked.1)) (f ∙ e) in (
         tied.others (x + 2) (λ _ f. not_previous (omega (arith, f))) (λ _ f. not_next (omega (arith, f))) ∙ linked.0,
         omega (arith, linked.1, long),
-        linked-without x (y ∷ front) rest b e distinct.1 a linked.2,
+        linked-without x (y ∷ prefix) rest b e distinct.1 a linked.2,
       )
     where
       not_first : (x : ℕ) (rest : List ℕ) → AllByRecursion (λ z. x ≢ z) rest → x < 2 ^ 20 → x ≢ first_of rest
@@ -55,25 +56,25 @@ module _ (w v : List ℕ) (small : length w ≤ 2 ^ 20) (long : length v ≡ len
       not_first x (r ∷ rest) d inside = d.0
 
 -- the links of a place are its neighbours
-links_at : (w : List ℕ) (before at : ℕ) (front rest : List ℕ) → LinkedFrom w before (front ++ at ∷ rest) → (get_or w (at + 2) 0 ≡ links_word (first_of rest) (last_of before front)) × (at + 2 < length w) × LinkedFrom w at rest
+links_at : (w : List ℕ) (before at : ℕ) (prefix rest : List ℕ) → LinkedFrom w before (prefix ++ at ∷ rest) → (get_or w (at + 2) 0 ≡ links_word (first_of rest) (last_of before prefix)) × (at + 2 < length w) × LinkedFrom w at rest
 links_at w before at [] rest linked = linked
-links_at w before at (x ∷ front) rest linked = links_at w x at front rest linked.2
+links_at w before at (x ∷ prefix) rest linked = links_at w x at prefix rest linked.2
 
 -- no place behind is the one before
-behind_apart : (before at : ℕ) (front rest : List ℕ) → AllByRecursion (λ y. y ≢ before) (front ++ at ∷ rest) → AreDistinct (front ++ at ∷ rest) → AllByRecursion (λ y. y ≢ last_of before front) rest
+behind_apart : (before at : ℕ) (prefix rest : List ℕ) → AllByRecursion (λ y. y ≢ before) (prefix ++ at ∷ rest) → AreDistinct (prefix ++ at ∷ rest) → AllByRecursion (λ y. y ≢ last_of before prefix) rest
 behind_apart before at [] rest a distinct = a.1
-behind_apart before at (x ∷ front) rest a distinct = behind_apart x at front rest (all_weaker (λ y. x ≢ y) (λ y. y ≢ x) (λ y n e. n (sym e)) (front ++ at ∷ rest) distinct.0) distinct.1
+behind_apart before at (x ∷ prefix) rest a distinct = behind_apart x at prefix rest (all_weaker (λ y. x ≢ y) (λ y. y ≢ x) (λ y n e. n (sym e)) (prefix ++ at ∷ rest) distinct.0) distinct.1
 
 none_nowhere : (w : List ℕ) (before : ℕ) (places : List ℕ) → length w ≤ 2 ^ 20 → LinkedFrom w before places → AllByRecursion (λ y. y ≢ nowhere) places
 none_nowhere w before [] small linked = tt
 none_nowhere w before (p ∷ places) small linked = ((λ e. omega (arith, linked.1, e)), none_nowhere w p places small linked.2)
 
-last_inside : (w : List ℕ) (x : ℕ) (front rest : List ℕ) → length w ≤ 2 ^ 20 → x + 2 < length w → LinkedFrom w x (front ++ rest) → last_of x front ≢ nowhere
+last_inside : (w : List ℕ) (x : ℕ) (prefix rest : List ℕ) → length w ≤ 2 ^ 20 → x + 2 < length w → LinkedFrom w x (prefix ++ rest) → last_of x prefix ≢ nowhere
 last_inside w x [] rest small inside linked = λ e. omega (arith, e)
-last_inside w x (y ∷ front) rest small inside linked = last_inside w y front rest small linked.1 linked.2
+last_inside w x (y ∷ prefix) rest small inside linked = last_inside w y prefix rest small linked.1 linked.2
 
 -- what a removal writes
-pub record Removes (heads members w : List ℕ) (class at next previous : ℕ) (new_heads new_members v : List ℕ) : Type 0 where
+pub record RemoveWrites (heads members w : List ℕ) (class at next previous : ℕ) (new_heads new_members v : List ℕ) : Type 0 where
   pub next_is : next ≡ low_half (get_or w (at + 2) 0)
   pub previous_is : previous ≡ high_half (get_or w (at + 2) 0)
   pub long : length v ≡ length w
@@ -92,47 +93,48 @@ module _ (heads members w : List ℕ) (class at : ℕ) (t : AreThreaded heads me
   parts : Split old at
   parts = split_member old at m
 
-  abbrev front : List ℕ
-  front = parts.0
+  abbrev prefix : List ℕ
+  prefix = parts.0
 
   abbrev rest : List ℕ
   rest = parts.1
 
-  linked : LinkedFrom w nowhere (front ++ at ∷ rest)
+  linked : LinkedFrom w nowhere (prefix ++ at ∷ rest)
   linked = subst (LinkedFrom w nowhere) parts.2 (t.linked class)
 
-  distinct : AreDistinct (front ++ at ∷ rest)
+  distinct : AreDistinct (prefix ++ at ∷ rest)
   distinct = subst AreDistinct parts.2 (t.distinct class)
 
-  links : (get_or w (at + 2) 0 ≡ links_word (first_of rest) (last_of nowhere front)) × (at + 2 < length w) × LinkedFrom w at rest
-  links = links_at w nowhere at front rest linked
+  links : (get_or w (at + 2) 0 ≡ links_word (first_of rest) (last_of nowhere prefix)) × (at + 2 < length w) × LinkedFrom w at rest
+  links = links_at w nowhere at prefix rest linked
 
   next_first : low_half (get_or w (at + 2) 0) ≡ first_of rest
-  next_first = ap low_half links.0 ∙ low_half-links_word (first_of rest) (last_of nowhere front) (first_small w at rest small links.2)
+  next_first = ap low_half links.0 ∙ low_half-links_word (first_of rest) (last_of nowhere prefix) (first_small w at rest small links.2)
 
-  previous_last : high_half (get_or w (at + 2) 0) ≡ last_of nowhere front
-  previous_last = ap high_half links.0 ∙ high_half-links_word (first_of rest) (last_of nowhere front) (first_small w at rest small links.2)
+  previous_last : high_half (get_or w (at + 2) 0) ≡ last_of nowhere prefix
+  previous_last = ap high_half links.0 ∙ high_half-links_word (first_of rest) (last_of nowhere prefix) (first_small w at rest small links.2)
 
-  left_is : without_place at old ≡ front ++ rest
-  left_is = ap (without_place at) parts.2 ∙ without_split at front rest distinct
+  left_is : without_place at old ≡ prefix ++ rest
+  left_is = ap (without_place at) parts.2 ∙ without_split at prefix rest distinct
 
-  left_listed : (q : ℕ) → Contains (front ++ rest) q → Contains old q
+  left_listed : (q : ℕ) → Contains (prefix ++ rest) q → Contains old q
   left_listed q n = without_within at old q (subst (λ (ps : List ℕ). Contains ps q) (sym left_is) n)
 
-  rest_apart : AllByRecursion (λ y. y ≢ last_of nowhere front) rest
-  rest_apart = behind_apart nowhere at front rest (none_nowhere w nowhere (front ++ at ∷ rest) small linked) distinct
+  rest_apart : AllByRecursion (λ y. y ≢ last_of nowhere prefix) rest
+  rest_apart = behind_apart nowhere at prefix rest (none_nowhere w nowhere (prefix ++ at ∷ rest) small linked) distinct
 
   module _ (next previous : ℕ) (next_is : next ≡ low_half (get_or w (at + 2) 0)) (previous_is : previous ≡ high_half (get_or w (at + 2) 0)) where
-    next_left : next ≢ nowhere → Contains (front ++ rest) next
+    next_left : next ≢ nowhere → Contains (prefix ++ rest) next
     next_left some =
         let e : next ≡ first_of rest = next_is ∙ next_first in
-        subst (Contains (front ++ rest)) (sym e) (Contains-append_right front rest (first_of rest) (first_member rest (λ f. some (e ∙ f))))
+        subst (Contains (prefix ++ rest)) (sym e) (Contains-append_right prefix rest (first_of rest) (first_member rest (λ f. some (e ∙ f))))
 
-    previous_left : previous ≢ nowhere → Contains (front ++ rest) previous
+    previous_left : previous ≢ nowhere → Contains (prefix ++ rest) previous
     previous_left some =
-        let e : previous ≡ last_of nowhere front = previous_is ∙ previous_last in
-        subst (Contains (front ++ rest)) (sym e) (Contains-append_left front rest (last_of nowhere front) (last_member front (λ f. some (e ∙ f))))
+        let e : previous ≡ last_of nowhere prefix = previous_is ∙ previous_last in
+        subst (Contains (prefix ++ rest)) (sym e) (Contains-append_left prefix rest (last_of nowhere prefix) (last_member prefix (λ f. some (e ∙ f))))
 
+    -- the neighbours, where there are any, have their links inside, and they differ
     pub next_within : next ≢ nowhere → next + 2 < length w
     next_within some = listed_within heads members w t class next (left_listed next (next_left some))
 
@@ -142,10 +144,10 @@ module _ (heads members w : List ℕ) (class at : ℕ) (t : AreThreaded heads me
     pub neighbours_apart : next ≢ nowhere → next ≢ previous
     neighbours_apart some e =
         let some_first : first_of rest ≢ nowhere = λ f. some (next_is ∙ next_first ∙ f) in
-        all_member (λ y. y ≢ last_of nowhere front) rest (first_of rest) rest_apart (first_member rest some_first)
+        all_member (λ y. y ≢ last_of nowhere prefix) rest (first_of rest) rest_apart (first_member rest some_first)
         (sym (next_is ∙ next_first) ∙ e ∙ previous_is ∙ previous_last)
 
-  module _ (next previous : ℕ) (new_heads new_members v : List ℕ) (r : Removes heads members w class at next previous new_heads new_members v) where
+  module _ (next previous : ℕ) (new_heads new_members v : List ℕ) (r : RemoveWrites heads members w class at next previous new_heads new_members v) where
     first_left : (xs : List ℕ) → LinkedFrom w nowhere (xs ++ at ∷ rest) → last_of nowhere xs ≡ nowhere → xs ≡ []
     first_left [] h e = refl
     first_left (x ∷ xs) h e = absurd (last_inside w x xs (at ∷ rest) small h.1 h.2 e)
@@ -155,27 +157,27 @@ module _ (heads members w : List ℕ) (class at : ℕ) (t : AreThreaded heads me
     first_kept (x ∷ xs) some = refl
 
     -- where no place stood before it, what stood behind it is left
-    only_rest : previous ≡ nowhere → front ++ rest ≡ rest
-    only_rest none = ap (λ (ps : List ℕ). ps ++ rest) (first_left front linked (sym (r.previous_is ∙ previous_last) ∙ none))
+    only_rest : previous ≡ nowhere → prefix ++ rest ≡ rest
+    only_rest none = ap (λ (ps : List ℕ). ps ++ rest) (first_left prefix linked (sym (r.previous_is ∙ previous_last) ∙ none))
 
-    head : get_or new_heads class nowhere ≡ first_of (front ++ rest)
+    head : get_or new_heads class nowhere ≡ first_of (prefix ++ rest)
     head = elim (cases_eq previous nowhere) [
       | inl none ↦ r.first none ∙ r.next_is ∙ next_first ∙ ap first_of (sym (only_rest none))
-      | inr some ↦ r.later some ∙ begins heads w class ∙ ap first_of parts.2 ∙ first_kept front (λ e. some (r.previous_is ∙ previous_last ∙ e))
+      | inr some ↦ r.later some ∙ begins heads w class ∙ ap first_of parts.2 ∙ first_kept prefix (λ e. some (r.previous_is ∙ previous_last ∙ e))
     ]
 
-    left_some : are_some (front ++ rest) ≡ true → (previous ≡ nowhere → next ≡ nowhere → ⊥) → new_members ≡ listed_classes (with_list (list_of heads w) class (front ++ rest))
-    left_some some neighbour = r.left neighbour ∙ t.marked ∙ listed-same (list_of heads w) class (front ++ rest) (some-member old at m) some
+    left_some : are_some (prefix ++ rest) ≡ true → (previous ≡ nowhere → next ≡ nowhere → ⊥) → new_members ≡ listed_classes (with_list (list_of heads w) class (prefix ++ rest))
+    left_some some neighbour = r.left neighbour ∙ t.marked ∙ listed-same (list_of heads w) class (prefix ++ rest) (some-member old at m) some
 
-    marked : new_members ≡ listed_classes (with_list (list_of heads w) class (front ++ rest))
+    marked : new_members ≡ listed_classes (with_list (list_of heads w) class (prefix ++ rest))
     marked = elim (cases_eq previous nowhere) [
       | inl none ↦ elim (cases_eq next nowhere) [
         | inl last ↦
             r.emptied none last ∙ ap (λ (ms : List ℕ). without_member ms class) t.marked
-            ∙ listed-without (list_of heads w) class (front ++ rest) (only_rest none ∙ none-first w at rest small links.2 (sym (r.next_is ∙ next_first) ∙ last))
-        | inr some ↦ left_some (some-member (front ++ rest) next (next_left next previous r.next_is r.previous_is some)) (λ _ e. some e)
+            ∙ listed-without (list_of heads w) class (prefix ++ rest) (only_rest none ∙ none-first w at rest small links.2 (sym (r.next_is ∙ next_first) ∙ last))
+        | inr some ↦ left_some (some-member (prefix ++ rest) next (next_left next previous r.next_is r.previous_is some)) (λ _ e. some e)
       ]
-      | inr some ↦ left_some (some-member (front ++ rest) previous (previous_left next previous r.next_is r.previous_is some)) (λ e _. some e)
+      | inr some ↦ left_some (some-member (prefix ++ rest) previous (previous_left next previous r.next_is r.previous_is some)) (λ e _. some e)
     ]
 
     words_kept : (c : ℕ) → c ≢ class → (q : ℕ) → Contains (list_of heads w c) q → get_or v (q + 2) 0 ≡ get_or w (q + 2) 0
@@ -183,18 +185,18 @@ module _ (heads members w : List ℕ) (class at : ℕ) (t : AreThreaded heads me
         (λ some e. other_place previous (previous_left next previous r.next_is r.previous_is some) (omega (arith, e)))
         (λ some e. other_place next (next_left next previous r.next_is r.previous_is some) (omega (arith, e)))
       where
-        other_place : (p : ℕ) → Contains (front ++ rest) p → p ≡ q → ⊥
+        other_place : (p : ℕ) → Contains (prefix ++ rest) p → p ≡ q → ⊥
         other_place p left same = n (t.apart c class q member (subst (Contains old) same (left_listed p left)))
 
-    relists : Relists heads members w class (front ++ rest) new_heads new_members v
-    relists = record {
+    new_list : NewList heads members w class (prefix ++ rest) new_heads new_members v
+    new_list = record {
       small = small;
       long = r.long;
       head = head;
       heads_kept = r.heads_kept;
-      linked = linked-without w v small r.long at next previous r.tied nowhere front rest (sym (r.previous_is ∙ previous_last)) (r.next_is ∙ next_first) distinct
+      linked = linked-without w v small r.long at next previous r.tied nowhere prefix rest (sym (r.previous_is ∙ previous_last)) (r.next_is ∙ next_first) distinct
           (subst (λ (k : ℕ). AllByRecursion (λ y. y ≢ k) rest) (sym (r.previous_is ∙ previous_last)) rest_apart) linked;
-      distinct = distinct_without at front rest distinct;
+      distinct = distinct_without at prefix rest distinct;
       words_kept = words_kept;
       apart = λ c q left member. t.apart c class q member (left_listed q left);
       marked = marked;
@@ -204,19 +206,23 @@ module _ (heads members w : List ℕ) (class at : ℕ) (t : AreThreaded heads me
         not_empty : (ps : List ℕ) → ps ≡ [] → Contains ps at → ⊥
         not_empty ps e member = let none : length ps ≡ 0 = ap length e in absurd (omega (arith, member.1, none))
 
-    pub removed-threaded : AreThreaded new_heads new_members v
-    removed-threaded = relisted heads members w class (front ++ rest) new_heads new_members v t relists
+    -- so the lists are threaded
+    pub remove-threaded : AreThreaded new_heads new_members v
+    remove-threaded = NewList-threaded heads members w class (prefix ++ rest) new_heads new_members v t new_list
 
-    pub removed-list : list_of new_heads v class ≡ without_place at old
-    removed-list = relisted-list heads members w class (front ++ rest) new_heads new_members v t relists ∙ sym left_is
+    -- that list is without the place
+    pub remove-list : list_of new_heads v class ≡ without_place at old
+    remove-list = NewList-list heads members w class (prefix ++ rest) new_heads new_members v t new_list ∙ sym left_is
 
-    pub removed-others : (c : ℕ) → c ≢ class → list_of new_heads v c ≡ list_of heads w c
-    removed-others = relisted-others heads members w class (front ++ rest) new_heads new_members v t relists
+    -- the other lists stay
+    pub remove-others : (c : ℕ) → c ≢ class → list_of new_heads v c ≡ list_of heads w c
+    remove-others = NewList-others heads members w class (prefix ++ rest) new_heads new_members v t new_list
 
-    listed : (q : ℕ) → Contains (front ++ rest) q → Contains (list_of new_heads v class) q
-    listed q left = subst (λ (ps : List ℕ). Contains ps q) (sym (removed-list ∙ left_is)) left
+    listed : (q : ℕ) → Contains (prefix ++ rest) q → Contains (list_of new_heads v class) q
+    listed q left = subst (λ (ps : List ℕ). Contains ps q) (sym (remove-list ∙ left_is)) left
 
-    pub removed-words : OnlyLinksChange (list_of new_heads v) w v
-    removed-words k apart = r.tied.others k
+    -- and no word changes but links
+    pub remove-words : OnlyLinksChange (list_of new_heads v) w v
+    remove-words k apart = r.tied.others k
         (λ some. apart class previous (listed previous (previous_left next previous r.next_is r.previous_is some)))
         (λ some. apart class next (listed next (next_left next previous r.next_is r.previous_is some)))
