@@ -59,6 +59,7 @@ impl Class {
         ensures least { 4 ≤ self }
         ensures most { self ≤ 272 }
     {
+        // Taken apart, so that the proof has the range of the field.
         let Class { number } = self;
         number
     }

@@ -24,13 +24,13 @@ use Rattle.tlsf_crew.proofs.Joined.{own_number, joined_to, joined_from}
 use Rattle.tlsf_crew.proofs.Pending.{same_sum, least_sum}
 
 -- one job more, behind the others
-pub done_last : (js : List Job) (ds : List Done) (j : Job) (d : Done) → AllDone js ds → IsDone j d → AllDone (js ++ j ∷ []) (ds ++ d ∷ [])
-done_last [] [] j d a b = (b, tt)
-done_last [] (y ∷ ds) j d a b = absurd a
-done_last (x ∷ js) [] j d a b = absurd a
-done_last (x ∷ js) (y ∷ ds) j d a b = (a.0, done_last js ds j d a.1 b)
+pub done_last : {J D : Type 0} (P : J → D → Type 0) (js : List J) (ds : List D) (j : J) (d : D) → AllDone P js ds → P j d → AllDone P (js ++ j ∷ []) (ds ++ d ∷ [])
+done_last P [] [] j d a b = (b, tt)
+done_last P [] (y ∷ ds) j d a b = absurd a
+done_last P (x ∷ js) [] j d a b = absurd a
+done_last P (x ∷ js) (y ∷ ds) j d a b = (a.0, done_last P js ds j d a.1 b)
 
-pub done_count : (js : List Job) (ds : List Done) → AllDone js ds → length ds ≡ length js
+pub done_count : (js : List Job) (ds : List Done) → AllDone IsDone js ds → length ds ≡ length js
 done_count [] [] a = refl
 done_count [] (y ∷ ds) a = absurd a
 done_count (x ∷ js) [] a = absurd a
@@ -42,7 +42,7 @@ at_seam : {X : Type 0} (pre xs : List X) (x : X) → slice_get (pre ++ x ∷ xs)
 at_seam [] xs x = refl
 at_seam (p ∷ pre) xs x = at_seam pre xs x
 
-done_yard : (pre : List Worker) (js : List Job) (ds : List Done) → AllDone js ds → IsYard (pre ++ map (λ j. j.worker) js) → IsYard (pre ++ map (λ d. d.worker) ds)
+done_yard : (pre : List Worker) (js : List Job) (ds : List Done) → AllDone IsDone js ds → IsYard (pre ++ map (λ j. j.worker) js) → IsYard (pre ++ map (λ d. d.worker) ds)
 done_yard pre [] [] a yard = yard
 done_yard pre [] (y ∷ ds) a yard = absurd a
 done_yard pre (x ∷ js) [] a yard = absurd a
@@ -73,7 +73,7 @@ record DoneAt (ds : List Done) (k : ℕ) (j : Job) : Type 0 where
 none_some : {X : Type 0} (x : X) → ◌≡◌ {A = Option X} None (Some x) → ⊥
 none_some x e = cc
 
-done_at : (js : List Job) (ds : List Done) → AllDone js ds → (k : ℕ) (j : Job) → slice_get js k ≡ Some j → DoneAt ds k j
+done_at : (js : List Job) (ds : List Done) → AllDone IsDone js ds → (k : ℕ) (j : Job) → slice_get js k ≡ Some j → DoneAt ds k j
 done_at [] ds a k j e = absurd (none_some j e)
 done_at (x ∷ js) [] a k j e = absurd a
 done_at (x ∷ js) (y ∷ ds) a zero j e = record { done = y; is = refl; ran = subst (λ (z : Job). IsDone z y) (some_same x j e) a.0 }
@@ -104,7 +104,7 @@ abbrev RanTo : ℕ → List Job → List Done → ℕ → Worker → Type 0
 RanTo n js ds k a =
     (v : Worker) × (slice_get (map (λ d. d.worker) ds) k ≡ Some v) × Ran n a (script_of (scripts_in js) k) (made_in ds k) (record_of (records_in ds) k) v
 
-job_ran : (n : ℕ) (releases : List ℕ) (js : List Job) (ds : List Done) → AllDone js ds → All (IsPrepared n releases) js → (k : ℕ) (j : Job) → slice_get js k ≡ Some j
+job_ran : (n : ℕ) (releases : List ℕ) (js : List Job) (ds : List Done) → AllDone IsDone js ds → All (IsPrepared n releases) js → (k : ℕ) (j : Job) → slice_get js k ≡ Some j
     → RanTo n js ds k j.worker
 job_ran n releases js ds done all k j e =
     let r = done_at js ds done k j e in
@@ -115,7 +115,7 @@ job_ran n releases js ds done all k j e =
       rw (script_at js k j e, record_at ds k d r.is, made_at ds k d r.is, sym p.count) r.ran.ran,
     )
 
-done_ran : (n : ℕ) (releases : List ℕ) (js : List Job) (ds : List Done) → AllDone js ds → All (IsPrepared n releases) js → (k : ℕ) (a : Worker) → slice_get (map (λ j. j.worker) js) k ≡ Some a
+done_ran : (n : ℕ) (releases : List ℕ) (js : List Job) (ds : List Done) → AllDone IsDone js ds → All (IsPrepared n releases) js → (k : ℕ) (a : Worker) → slice_get (map (λ j. j.worker) js) k ≡ Some a
     → RanTo n js ds k a
 done_ran n releases js ds done all k a e =
     let f = from_map (λ (x : Job). x.worker) js k a e in
@@ -126,7 +126,7 @@ done_ran n releases js ds done all k a e =
 abbrev HasRoom : List ℕ → List Job → ℕ → Vec Entry Global → Worker → Type 0
 HasRoom releases js k r a = length (script_of (scripts_in js) k) + sum_below 8 (most_from releases a) + 1 ≤ vec_capacity r
 
-job_room : (n : ℕ) (releases : List ℕ) (js : List Job) (ds : List Done) → AllDone js ds → All (IsPrepared n releases) js
+job_room : (n : ℕ) (releases : List ℕ) (js : List Job) (ds : List Done) → AllDone IsDone js ds → All (IsPrepared n releases) js
     → (k : ℕ) (j : Job) (r : Vec Entry Global) → slice_get js k ≡ Some j → slice_get (map (λ d. d.entries) ds) k ≡ Some r → HasRoom releases js k r j.worker
 job_room n releases js ds done all k j r e there =
     let q = done_at js ds done k j e in
@@ -139,7 +139,7 @@ job_room n releases js ds done all k j r e there =
     let l = j.script.ok in
     subst (λ (v : Vec Entry Global). HasRoom releases js k v j.worker) same (omega arith)
 
-done_room : (n : ℕ) (releases : List ℕ) (js : List Job) (ds : List Done) → AllDone js ds → All (IsPrepared n releases) js
+done_room : (n : ℕ) (releases : List ℕ) (js : List Job) (ds : List Done) → AllDone IsDone js ds → All (IsPrepared n releases) js
     → (k : ℕ) (a : Worker) (r : Vec Entry Global) → slice_get (map (λ j. j.worker) js) k ≡ Some a → slice_get (map (λ d. d.entries) ds) k ≡ Some r → HasRoom releases js k r a
 done_room n releases js ds done all k a r e there =
     let f = from_map (λ (x : Job). x.worker) js k a e in
@@ -162,7 +162,7 @@ each_knows n ws len yard k d lt =
 
 pub gathered : (n : ℕ) (releases : List ℕ) (js : List Job) (ds : List Done) (ws : List Worker) (scripts : List (Vec Call Global)) (records : List (Vec Entry Global)) (vs : List Worker)
     → map (λ j. j.worker) js ≡ ws → map (λ j. j.script) js ≡ scripts → vs ≡ map (λ d. d.worker) ds → records ≡ map (λ d. d.entries) ds → n ≡ length ws
-    → All (IsPrepared n releases) js → AllDone js ds → IsYard ws
+    → All (IsPrepared n releases) js → AllDone IsDone js ds → IsYard ws
     → HaveRun ws (map (λ s. s.items) scripts) (map (λ r. r.items) records) vs
 gathered n releases js ds ws scripts records vs a b c d len all done yard =
     let count : length (map (λ (e : Done). e.worker) ds) ≡ length (map (λ (j : Job). j.worker) js) = length-map ds (λ e. e.worker) ∙ (done_count js ds done ∙ sym (length-map js (λ j. j.worker))) in
@@ -181,7 +181,7 @@ gathered n releases js ds ws scripts records vs a b c d len all done yard =
 pub gathered_rooms : (n : ℕ) (releases : List ℕ) (js : List Job) (ds : List Done) (ws : List Worker) (scripts : List (Vec Call Global)) (records : List (Vec Entry Global))
     → map (λ j. j.worker) js ≡ ws → map (λ j. j.script) js ≡ scripts → records ≡ map (λ d. d.entries) ds
     → ((i : ℕ) → i < 8 → slice_index releases i ≡ releases_of (script_of (map (λ s. s.items) scripts) i))
-    → All (IsPrepared n releases) js → AllDone js ds → HaveRooms ws (map (λ s. s.items) scripts) records
+    → All (IsPrepared n releases) js → AllDone IsDone js ds → HaveRooms ws (map (λ s. s.items) scripts) records
 gathered_rooms n releases js ds ws scripts records a b d counts all done k w r is there =
     let room = done_room n releases js ds done all k w r (rw (sym a) at is) (rw d at there) in
     let script : script_of (scripts_in js) k ≡ script_of (map (λ s. s.items) scripts) k = ap (λ l. script_of (map (λ s. s.items) l) k) b in

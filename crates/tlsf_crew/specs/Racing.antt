@@ -8,12 +8,11 @@ use Rattle.tlsf_crew.specs.declared.worker.Worker.{Worker}
 use Rattle.tlsf_crew.specs.declared.entry.Entry.{Entry}
 use Rattle.tlsf_crew.specs.declared.call.Call.{Call}
 use Rattle.tlsf_crew.specs.declared.job.Job.{Job}
-use Rattle.tlsf_crew.specs.declared.done.Done.{Done}
 use Rattle.tlsf_crew.specs.Yard.{IsYard, yard_heap, post_at, take_at, lane_waits, capacity_in}
 use Rattle.tlsf_crew.specs.Counts.{sum_below, ready_from}
 use Rattle.tlsf_crew.specs.History.{IsDrain, posts_taken}
 use Rattle.tlsf_crew.specs.Races.{MayTell, last_call, script_of, record_of}
-use Rattle.tlsf_crew.specs.Running.{IsReady, IsDone, Ran, releases_of}
+use Rattle.tlsf_crew.specs.Running.{IsReady, Ran, releases_of}
 
 -- how many posts a worker may take from worker i: those that are ready, and one for each release of i's script
 abbrev pub most_from : List ℕ → Worker → ℕ → ℕ
@@ -26,11 +25,11 @@ pub record IsPrepared (n : ℕ) (releases : List ℕ) (job : Job) : Type 0 where
   pub room : vec_len job.script + sum_below 8 (most_from releases job.worker) + 1 ≤ vec_capacity job.entries
 
 -- each job was done, in order
-abbrev pub AllDone : List Job → List Done → Type 0
-AllDone [] [] = Unit {0}
-AllDone [] (d ∷ ds) = ⊥
-AllDone (j ∷ js) [] = ⊥
-AllDone (j ∷ js) (d ∷ ds) = IsDone j d × AllDone js ds
+abbrev pub AllDone : {J D : Type 0} → (J → D → Type 0) → List J → List D → Type 0
+AllDone P [] [] = Unit {0}
+AllDone P [] (d ∷ ds) = ⊥
+AllDone P (j ∷ js) [] = ⊥
+AllDone P (j ∷ js) (d ∷ ds) = P j d × AllDone P js ds
 
 -- the workers ws ran the scripts and became the workers vs
 pub record HaveRun (ws : List Worker) (scripts : List (List Call)) (records : List (List Entry)) (vs : List Worker) : Type 0 where

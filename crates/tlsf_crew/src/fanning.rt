@@ -1,32 +1,32 @@
-//! A thread for each worker of a race.
+//! The jobs of a race, each in a thread of its own.
 ghost use Rattle.std.specs.Prelude.{◌≡◌, ◌≤◌, [], map, vec_len, vec_capacity, IfOk, OnOk, All};
-ghost use Rattle.tlsf_crew.specs.Running.{IsReady, IsDone};
 ghost use Rattle.tlsf_crew.specs.Racing.{AllDone};
 
 use crate::done::Done;
 use crate::gate::Gate;
-use crate::job::Job;
 use crate::outcome::Outcome;
 use crate::promised::Promised;
-use crate::running::run_script;
+use crate::work::Work;
 use std::alloc::AllocError;
-use std::marker::Sync;
+use std::marker::{Send, Sync};
 use std::snapshot::Snapshot;
 use std::sync::Wait;
 use std::thread;
 use std::thread::{Scope, Threads};
 
-/// Runs each job in a thread of its own: the last one's starts first, and is joined last.
-fn fan_out<'s, E, R: Threads, G: Gate + Sync>(
+/// Does each job in a thread of its own: the last one's starts first, and is joined last.
+fn fan_out<'s, E, R: Threads, W: Work + Send + Drop + 's, G: Gate + Sync>(
     rt: &R,
     scope: &Scope<'s, E>,
-    mut jobs: Vec<Job>,
+    mut jobs: Vec<W>,
     gate: &'s G,
-    done: &mut Vec<Done>,
+    done: &mut Vec<W::Done>,
 ) -> Result<(), AllocError>
-    requires ready { All IsReady jobs.items }
+where
+    W::Done: Send + Drop,
+    requires ready { All W.is_ready jobs.items }
     requires room { (done.old.items ≡ []) × (vec_len jobs ≤ vec_capacity done.old) }
-    ensures done { OnOk result (AllDone jobs.items done.new.items) }
+    ensures done { OnOk result (AllDone W.is_done jobs.items done.new.items) }
     ensures len { OnOk result (vec_len done.new ≡ vec_len jobs) }
     ensures capacity { vec_capacity done.new ≡ vec_capacity done.old }
 {
@@ -34,38 +34,40 @@ fn fan_out<'s, E, R: Threads, G: Gate + Sync>(
         return Ok(());
     };
     let promise = Promised {
-        job: Snapshot::of(&job),
+        work: Snapshot::of(&job),
     };
     let child = scope.spawn_with(
         promise,
-        move || -> Done
-            requires { IsReady job }
-            ensures { IsDone job result }
-        { run_script(job, gate) },
+        move || -> W::Done
+            requires { W.is_ready job }
+            ensures { W.is_done job result }
+        { job.run(gate) },
     )?;
     fan_out(rt, scope, jobs, gate, done)?;
     done.push_reserved(child.join(rt));
     Ok(())
 }
 
-/// Runs each job in a thread of its own, and waits for all.
-pub(crate) fn run_all<R: Threads + Wait + Sync, G: Gate + Sync>(
+/// Does each job in a thread of its own, and waits for all.
+pub(crate) fn run_all<R: Threads + Wait + Sync, W: Work + Send + Drop, G: Gate + Sync>(
     rt: &R,
-    jobs: Vec<Job>,
+    jobs: Vec<W>,
     gate: &G,
-    done: Vec<Done>,
-) -> Result<Vec<Done>, AllocError>
-    requires ready { All IsReady jobs.items }
+    done: Vec<W::Done>,
+) -> Result<Vec<W::Done>, AllocError>
+where
+    W::Done: Send + Drop,
+    requires ready { All W.is_ready jobs.items }
     requires room { (done.items ≡ []) × (vec_len jobs ≤ vec_capacity done) }
-    ensures done { IfOk result (λ d. AllDone jobs.items d.items) }
+    ensures done { IfOk result (λ d. AllDone W.is_done jobs.items d.items) }
     ensures len { IfOk result (λ d. vec_len d ≡ vec_len jobs) }
 {
     thread::scope(
         thread::scope_env(),
         rt,
-        move |scope| -> Result<Vec<Done>, AllocError>
-            requires { All IsReady jobs.items × (done.items ≡ []) × (vec_len jobs ≤ vec_capacity done) }
-            ensures { IfOk result (λ d. AllDone jobs.items d.items × (vec_len d ≡ vec_len jobs)) }
+        move |scope| -> Result<Vec<W::Done>, AllocError>
+            requires { All W.is_ready jobs.items × (done.items ≡ []) × (vec_len jobs ≤ vec_capacity done) }
+            ensures { IfOk result (λ d. AllDone W.is_done jobs.items d.items × (vec_len d ≡ vec_len jobs)) }
         {
             let mut all = done;
             fan_out(rt, scope, jobs, gate, &mut all)?;

@@ -6,6 +6,14 @@ ghost use Rattle.tlsf_crew.specs.declared.entry.Entry.{Entry};
 
 /// Each heap has one history, in which each call made on it and each post taken for it stands once, in its caller's
 /// order, and each answer is that of the sequential heap at that point.
+///
+/// ```text
+/// event                     entries                       what they tell
+/// worker 0 allocates 8      0 Allocate(8): Made(x)        heap 0 was called Allocate(8), and answered x
+/// worker 1 releases x       1 Release(x): Posted          a post of x went into the lane from 1 to 0
+/// worker 0 drains           0 Take(1): Took(x, Ok)        heap 0 was called Release(x), and answered Ok; the post came out
+///                           0 Drain: Drained(1)           nothing of a heap or a lane
+/// ```
 pub fn one_history()
     // The entries tell the events, each once and in order, and the name that each made.
     ensures told { (w : World) (es : List Event) → let r = replies w es in Tells (length w.heaps) [] es r.made r.entries }

@@ -1,5 +1,11 @@
+ghost use Rattle.tlsf_crew.specs.Running.{IsReady, IsDone};
+
 use crate::call::Call;
+use crate::done::Done;
 use crate::entry::Entry;
+use crate::gate::Gate;
+use crate::running::run_call;
+use crate::work::Work;
 use crate::worker::Worker;
 use tlsf_heap::Name;
 
@@ -16,4 +22,43 @@ pub(crate) struct Job {
     pub(crate) made: Vec<Option<Name>>,
     // Its record, with the room for it.
     pub(crate) entries: Vec<Entry>,
+}
+
+impl Work for Job {
+    type Done = Done;
+
+    ghost is_ready = { λ job. IsReady job };
+
+    ghost is_done = { λ job done. IsDone job done };
+
+    /// Runs the script. The gate is passed before each call, and once after the last.
+    fn run<G: Gate>(self, gate: &G) -> Done {
+        let Job {
+            mut worker,
+            count,
+            script,
+            mut limits,
+            mut made,
+            mut entries,
+        } = self;
+        let mut index = 0;
+        for call in script.iter() {
+            gate.pass(worker.id, index);
+            run_call(
+                &mut worker,
+                count,
+                &mut limits,
+                *call,
+                &mut made,
+                &mut entries,
+            );
+            index += 1;
+        }
+        gate.pass(worker.id, index);
+        Done {
+            worker,
+            made,
+            entries,
+        }
+    }
 }

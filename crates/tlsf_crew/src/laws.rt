@@ -5,6 +5,12 @@ ghost use Rattle.tlsf_crew.specs.Yard.{IsYard, IsHeapOf, IsOther};
 
 /// In a whole yard each worker has a lane to and from each other worker and none else. So [`crate::Worker::release`] and
 /// [`crate::Worker::take`] answer `Stranger` exactly where a number is the worker's own or that of no worker.
+///
+/// ```
+/// let mut workers = open_yard(alloc, 3, 1024, 8)?;
+/// let from_other = workers[1].take(2); // Ok(None): that lane is empty
+/// let from_own = workers[1].take(1);   // Err(CrewRefusal::Stranger), as for 3 and above
+/// ```
 pub fn lanes_join_the_yard()
     // Worker i has the number i, and a lawful heap of that number.
     ensures ids { (ws : List Worker) (i : ℕ) (a : Worker) → IsYard ws → slice_get ws i ≡ Some a → id_of a ≡ i }

@@ -20,15 +20,11 @@
 //! A [`LockedHeap`] is a heap without an owner, outside any yard; it is `tlsf_lock`'s.
 #![tactic(auto)]
 
-#[cfg(test)]
-mod away_tests;
 mod call;
 mod chunk;
 mod counting;
 mod crew_refusal;
 mod done;
-#[cfg(test)]
-mod drain_tests;
 mod drained;
 mod draining;
 mod drains;
@@ -45,11 +41,7 @@ mod own;
 mod pairs;
 mod preparing;
 mod promised;
-#[cfg(test)]
-mod race_tests;
 mod racing;
-#[cfg(test)]
-mod refusal_tests;
 mod released;
 mod replaying;
 mod reply;
@@ -58,12 +50,9 @@ mod running;
 mod settling;
 mod steps;
 mod target;
-#[cfg(test)]
-mod tests;
 mod took;
+mod work;
 mod worker;
-#[cfg(test)]
-mod yard_tests;
 
 pub use call::Call;
 pub use chunk::Chunk;

@@ -20,9 +20,16 @@ const MOST_CAPACITY: u32 = 1024;
 
 /// Opens a yard of `n` workers, 1 to 8, numbered from 0: each owns a heap of its number over `words` words, 4 to 2^20,
 /// and from each to each other goes a lane that holds up to `capacity` posts, 1 to 1,024. Each end that posts knows all
-/// its slots to be free, so the first `capacity` posts into a lane are never refused as `Full`.
+/// its slots to be free, so the first `capacity` posts into a lane are never refused as `Full`. No end has sent or taken
+/// a post, so what it has sent or taken later is all since the yard was opened.
 ///
 /// Refused as `BadSize` where a number is out of range, else as `NoMemory` where memory was not granted.
+///
+/// ```
+/// let mut workers = open_yard(alloc, 2, 1024, 8)?; // two heaps of 8 KiB, and two lanes of up to 8 posts
+/// let name = workers[0].allocate(100)?;            // a block of worker 0
+/// let freed = workers[1].release(name);            // Ok(Released::Posted): its name waits for worker 0
+/// ```
 pub fn open_yard(alloc: Global, n: u32, words: u32, capacity: u32) -> Result<Vec<Worker>, OpenFault>
     ensures yard { IfOk result (λ workers. IsYard workers.items) }
     ensures world { IfOk result (λ workers. world_of workers.items ≡ opened_world n words capacity) }

@@ -1,16 +1,13 @@
-ghost use Rattle.tlsf_crew.specs.Running.{IsDone};
-
-use crate::done::Done;
-use crate::job::Job;
+use crate::work::Work;
 use std::snapshot::Snapshot;
 use std::thread::Promise;
 
 /// What a thread promises of what it hands back. It has no bytes.
 #[derive(Drop)]
-pub(crate) struct Promised {
-    pub(crate) job: Snapshot<Job>,
+pub(crate) struct Promised<W> {
+    pub(crate) work: Snapshot<W>,
 }
 
-impl Promise<Done> for Promised {
-    ghost kept_by = { λ p d. IsDone p.job.value d };
+impl<W: Work> Promise<W::Done> for Promised<W> {
+    ghost kept_by = { λ p d. W.is_done p.work.value d };
 }

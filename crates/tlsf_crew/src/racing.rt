@@ -39,6 +39,14 @@ const ALL_POSTS: u32 = 8192;
 ///
 /// All room is made before a thread starts. `NoMemory`, where a growth or the start of a thread was refused, gives no
 /// outcome, and the workers are spent.
+///
+/// ```
+/// // two workers, each to release a block of the other's: `theirs` of worker 1, `ours` of worker 0
+/// let first = vec![in alloc; Call::Release { target: Target::Named(theirs) }]?;
+/// let second = vec![in alloc; Call::Release { target: Target::Named(ours) }]?;
+/// let outcome = race(rt, alloc, workers, vec![in alloc; first, second]?, &OpenGate)?;
+/// let record = &outcome.records[0]; // the release: Posted; the take of `ours` from worker 1; the last drain: Drained(1)
+/// ```
 pub fn race<R: Threads + Wait + Sync, G: Gate>(
     rt: &R,
     alloc: Global,

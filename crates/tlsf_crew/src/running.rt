@@ -1,21 +1,18 @@
-//! The thread of one worker of a race.
+//! The calls of a script, in the thread of one worker of a race.
 ghost use Rattle.std.specs.Prelude.{◌≡◌, ℕ, ◌+◌, ◌<◌, ◌≤◌, List, Option, vec_len, vec_capacity};
 ghost use Rattle.tlsf_heap.specs.declared.name.Name.{Name};
 ghost use Rattle.tlsf_crew.specs.declared.call.Call.TheVariants.{Allocate, Release, Write, Read, Take};
 ghost use Rattle.tlsf_crew.specs.Bytes.{bytes_of};
 ghost use Rattle.tlsf_crew.specs.Workers.{id_of, HasTake};
 ghost use Rattle.tlsf_crew.specs.World.{allocating, releasing_named, writing_named, reading_named, taking, name_of};
-ghost use Rattle.tlsf_crew.specs.Running.{KnowsYard, sum_of, IsReady, IsDone};
+ghost use Rattle.tlsf_crew.specs.Running.{KnowsYard, sum_of};
 ghost use Rattle.tlsf_crew.specs.Moves.{Answered, TookWithin, LaneSpent, LanesSpent, Stepped, Called};
 
 use crate::call::Call;
 use crate::chunk::Chunk;
 use crate::crew_refusal::CrewRefusal;
-use crate::done::Done;
 use crate::entry::Entry;
 use crate::event::Event;
-use crate::gate::Gate;
-use crate::job::Job;
 use crate::own::take_next;
 use crate::released::Released;
 use crate::replaying::{answer, named};
@@ -193,7 +190,7 @@ fn reply_to(
 }
 
 /// Makes one call, with its entries and the name that it made.
-fn run_call(
+pub(crate) fn run_call(
     worker: &mut Worker,
     count: u32,
     limits: &mut [u32; 8],
@@ -213,38 +210,4 @@ fn run_call(
         call,
     };
     answer(event, reply, made, entries);
-}
-
-/// Runs the script of one worker in this thread. The gate is passed before each call, and once after the last.
-pub(crate) fn run_script<G: Gate>(job: Job, gate: &G) -> Done
-    requires { IsReady job }
-    ensures { IsDone job result }
-{
-    let Job {
-        mut worker,
-        count,
-        script,
-        mut limits,
-        mut made,
-        mut entries,
-    } = job;
-    let mut index = 0;
-    for call in script.iter() {
-        gate.pass(worker.id, index);
-        run_call(
-            &mut worker,
-            count,
-            &mut limits,
-            *call,
-            &mut made,
-            &mut entries,
-        );
-        index += 1;
-    }
-    gate.pass(worker.id, index);
-    Done {
-        worker,
-        made,
-        entries,
-    }
 }

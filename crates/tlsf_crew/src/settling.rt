@@ -13,6 +13,12 @@ use crate::worker::Worker;
 /// - `met`: for each lane, the posts that were taken and then those that wait are those that had waited and then those
 ///   that were sent. No post is lost, doubled or overtaken.
 /// - `world`: what the yard shows stays the same. No heap changes, and in each lane the same posts wait.
+///
+/// ```
+/// let freed = workers[1].release(name); // Ok(Released::Posted): the name of a block of worker 0
+/// settle(&mut workers);                 // that post is known to be ready for worker 0
+/// let took = workers[0].take(1);        // Ok(Some(..)): so the take answers it, and releases the block
+/// ```
 pub fn settle(workers: &mut [Worker])
     requires { IsYard workers.old }
     ensures met { HaveMet workers.old workers.new }

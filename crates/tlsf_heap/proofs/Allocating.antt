@@ -6,8 +6,8 @@ use Rattle.std.proofs.lemmas.List.{drop_more, take-append-drop}
 use Rattle.std.proofs.lemmas.Bool.{false≢true, cases_lt}
 use Rattle.std.proofs.lemmas.Bool.Decides.{nat_tests}
 use Rattle.tlsf_heap.specs.Blocks.{Block, Live, Free, HeapState, size_of, words_in, want}
-use Rattle.tlsf_heap.specs.Lawful.{IsLawful, HasRoom, AreRegions}
-use Rattle.tlsf_heap.specs.Regions.{RegionState}
+use Rattle.tlsf_heap.specs.Lawful.{IsLawful, HasRoom}
+use Rattle.tlsf_heap.specs.Regions.{AreRegions, RegionState}
 use Rattle.tlsf_heap.specs.GoodFit.{Site, is_fit, fits, is_as_good, choice, block_at, site_at}
 use Rattle.tlsf_heap.specs.Chosen.{NoneFits, IsChoice}
 use Rattle.tlsf_heap.specs.Calls.{with_blocks, carved, ticked, allocated, allocated_at, refused, Outcome, last_tick}

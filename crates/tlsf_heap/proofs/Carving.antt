@@ -4,12 +4,11 @@ use Rattle.std.specs.Prelude.{Contains}
 use Rattle.tlsf_class.specs.Classes.{class_of}
 use Rattle.tlsf_heap.specs.Blocks.{Block, Live, Free, size_of, words_in, is_free, stamp_of, words_for, StandsAt}
 use Rattle.tlsf_heap.specs.Image.{mark_of}
-use Rattle.tlsf_heap.specs.Lawful.{AreRegions}
+use Rattle.tlsf_heap.specs.Regions.{AreRegions, RegionState, SameLists, list_in}
 use Rattle.tlsf_heap.specs.GoodFit.{block_at}
 use Rattle.tlsf_heap.specs.Calls.{carved}
 use Rattle.tlsf_heap.specs.FreePlaces.{FreePlace, free_places, AreFreeLists}
 use Rattle.tlsf_words.specs.Lists.{IsUnlisted, without_place}
-use Rattle.tlsf_heap.specs.Regions.{RegionState, SameLists, list_in}
 use Rattle.tlsf_heap.proofs.Edits.{carved_small, carved_large}
 use Rattle.tlsf_heap.proofs.Listing.{AreListed, IsFresh, fresh_both, fresh_middle, contains_own, not_listed, same_lists, taken, given}
 use Rattle.tlsf_heap.proofs.Sizes.{Around, around, around_next, block_around, stands_around, edited, words_around, regions_front, regions_back, region_around, one_index, free_as, place, places_behind, fresh_front, fresh_back, ArePast, past_around, newest}

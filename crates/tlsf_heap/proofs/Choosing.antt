@@ -11,7 +11,8 @@ use Rattle.tlsf_class.specs.Members.{next_member}
 use Rattle.tlsf_class.proofs.ClassOfSize.{search_of-above, serves-from, class_of-bounds, HasClass}
 use Rattle.tlsf_class.proofs.Members.{filter-classes_same, next_member-filter_is, next_member-filter_is_none, IsNextMember}
 use Rattle.tlsf_heap.specs.Blocks.{Block, Live, Free, size_of, is_free, stamp_of}
-use Rattle.tlsf_heap.specs.Lawful.{IsRegion, AreRegions}
+use Rattle.tlsf_heap.specs.Lawful.{IsRegion}
+use Rattle.tlsf_heap.specs.Regions.{AreRegions}
 use Rattle.tlsf_heap.specs.GoodFit.{is_fit, is_as_good, block_at}
 use Rattle.tlsf_heap.specs.Chosen.{NoneFits, IsChoice, IsBestAt}
 use Rattle.tlsf_words.specs.Lists.{listed_classes}

@@ -2,7 +2,8 @@
 use Rattle.std.proofs.Common.{◌≡◌, ◌≢◌, ℕ, ◌+◌, ◌<◌, ◌⊎◌, inl, inr, List, [], ◌∷◌, ◌++◌, refl, sym, ap, ◌∙◌, subst, arith, append_assoc, add_assoc, add-zero, zero-add}
 use Rattle.std.specs.List.{AllByRecursion}
 use Rattle.tlsf_heap.specs.Blocks.{Block, Live, Free, HeapState, words_in, serials, stamps}
-use Rattle.tlsf_heap.specs.Lawful.{IsLawful, HasRoom, AreApart, AreDistinct}
+use Rattle.tlsf_heap.specs.Lawful.{IsLawful, HasRoom, AreApart}
+use Rattle.tlsf_words.specs.Lists.{AreDistinct}
 use Rattle.tlsf_heap.specs.Calls.{with_blocks, ticked, first_free, past_free, last_free, before_free}
 use Rattle.tlsf_heap.proofs.Ends.{ends_free, ends_live}
 use Rattle.tlsf_heap.proofs.Lawfulness.{all_append, all_left, all_right, all_weaker, all_without, all_insert, serials-append, stamps-append, words_in-append, distinct_insert, distinct_without}

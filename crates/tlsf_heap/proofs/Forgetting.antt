@@ -4,10 +4,10 @@ use Rattle.std.specs.Prelude.{Contains}
 use Rattle.std.proofs.lemmas.Bool.{false≢true}
 use Rattle.tlsf_class.specs.Classes.{class_of}
 use Rattle.tlsf_heap.specs.Blocks.{Block, Live, Free, size_of, words_in, is_free, StandsAt}
-use Rattle.tlsf_heap.specs.Lawful.{IsRegion, AreRegions}
+use Rattle.tlsf_heap.specs.Lawful.{IsRegion}
+use Rattle.tlsf_heap.specs.Regions.{AreRegions, SameLists, list_in}
 use Rattle.tlsf_heap.specs.GoodFit.{block_at, site_at}
 use Rattle.tlsf_words.specs.Lists.{IsUnlisted, without_place}
-use Rattle.tlsf_heap.specs.Regions.{SameLists, list_in}
 use Rattle.tlsf_heap.specs.Calls.{coalesced, first_free, past_free, last_free, before_free}
 use Rattle.tlsf_heap.specs.FreePlaces.{FreePlace, free_places, AreFreeLists}
 use Rattle.tlsf_heap.proofs.Edits.{first_free-words}

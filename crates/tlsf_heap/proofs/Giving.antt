@@ -4,7 +4,7 @@ use Rattle.std.specs.Prelude.{IsSome}
 use Rattle.std.proofs.lemmas.Bool.{eqb-true, false≢true, cases_lt}
 use Rattle.tlsf_heap.specs.Blocks.{Block, Live, Free, HeapState, payload_words, StandsAt}
 use Rattle.tlsf_heap.specs.GoodFit.{Site, block_at}
-use Rattle.tlsf_heap.specs.Lawful.{AreRegions}
+use Rattle.tlsf_heap.specs.Regions.{AreRegions}
 use Rattle.tlsf_heap.specs.Calls.{carved, has_serial, named}
 use Rattle.tlsf_heap.specs.Given.{payload_words_at}
 use Rattle.tlsf_heap.specs.Laws.{IsLive}

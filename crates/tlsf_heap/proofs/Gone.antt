@@ -3,7 +3,8 @@ use Rattle.std.proofs.Common.{◌≡◌, ◌≢◌, ℕ, ◌+◌, ◌<◌, true,
 use Rattle.std.specs.List.{AllByRecursion}
 use Rattle.std.proofs.lemmas.Bool.{eqb-true, false≢true}
 use Rattle.tlsf_heap.specs.Blocks.{Block, Live, Free, HeapState, size_of, serials, want}
-use Rattle.tlsf_heap.specs.Lawful.{IsLawful, AreDistinct}
+use Rattle.tlsf_heap.specs.Lawful.{IsLawful}
+use Rattle.tlsf_words.specs.Lists.{AreDistinct}
 use Rattle.tlsf_heap.specs.Calls.{ticked, with_blocks, carved, has_serial, past_free, before_free, coalesced, released, with_bytes, Call, Allocate, Release, Write, Read, answered, run}
 use Rattle.tlsf_heap.specs.Laws.{IsLive, IsTaken}
 use Rattle.tlsf_heap.specs.declared.name.Name.{Name}

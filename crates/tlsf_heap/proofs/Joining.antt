@@ -1,7 +1,7 @@
 -- A block that becomes one with its free neighbours.
 use Rattle.std.proofs.Common.{subst, ◌≡◌, ℕ, ◌+◌, ◌-◌, ◌<◌, ◌≤◌, List, [], ◌∷◌, ◌++◌, length, take, drop, refl, sym, ap, ◌∙◌, arith, add-one, append_assoc}
 use Rattle.tlsf_heap.specs.Blocks.{Block, Free, size_of, StandsAt}
-use Rattle.tlsf_heap.specs.Lawful.{AreRegions}
+use Rattle.tlsf_heap.specs.Regions.{AreRegions}
 use Rattle.tlsf_heap.specs.GoodFit.{block_at, site_at}
 use Rattle.tlsf_words.specs.Lists.{IsUnlisted}
 use Rattle.tlsf_heap.specs.Calls.{coalesced, first_free, past_free, last_free, before_free}

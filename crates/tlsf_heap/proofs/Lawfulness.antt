@@ -3,7 +3,8 @@ use Rattle.std.proofs.Common.{◌≡◌, ◌≢◌, ℕ, ◌+◌, ◌-◌, ◌<�
 use Rattle.std.specs.List.{AllByRecursion}
 use Rattle.std.proofs.lemmas.List.{length-replicate}
 use Rattle.tlsf_heap.specs.Blocks.{Block, Live, Free, HeapState, words_in, serials, stamps, want}
-use Rattle.tlsf_heap.specs.Lawful.{IsLawful, HasRoom, AreApart, AreDistinct}
+use Rattle.tlsf_heap.specs.Lawful.{IsLawful, HasRoom, AreApart}
+use Rattle.tlsf_words.specs.Lists.{AreDistinct}
 use Rattle.tlsf_heap.specs.Regions.{RegionState}
 use Rattle.tlsf_heap.specs.Calls.{with_blocks, ticked}
 

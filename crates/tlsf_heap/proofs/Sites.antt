@@ -5,7 +5,7 @@ use Rattle.std.proofs.lemmas.List.{append-nil}
 use Rattle.std.proofs.lemmas.Bool.{false≢true}
 use Rattle.std.proofs.lemmas.Bool.Decides.{nat_tests}
 use Rattle.tlsf_heap.specs.Blocks.{Block, Live, Free, is_free, stamp_of, stamps}
-use Rattle.tlsf_heap.specs.Lawful.{AreDistinct}
+use Rattle.tlsf_words.specs.Lists.{AreDistinct}
 use Rattle.tlsf_heap.specs.GoodFit.{Site, sites, sites_behind, is_fit, fits, is_as_good, choice, block_at, site_at}
 use Rattle.tlsf_heap.specs.Chosen.{NoneFits, IsChoice}
 use Rattle.tlsf_heap.proofs.Finding.{and_left, and_right, not_true, find-filter, find_at, filter_none, all_in, in_all}

@@ -7,7 +7,8 @@ use Rattle.std.proofs.lemmas.List.{take_at, drop_at, get_or_at}
 use Rattle.std.proofs.lemmas.Bool.{false≢true}
 use Rattle.tlsf_class.specs.Classes.{class_of}
 use Rattle.tlsf_heap.specs.Blocks.{Block, Live, Free, size_of, words_in, is_free, stamp_of, stamps, StandsAt}
-use Rattle.tlsf_heap.specs.Lawful.{IsRegion, AreRegions}
+use Rattle.tlsf_heap.specs.Lawful.{IsRegion}
+use Rattle.tlsf_heap.specs.Regions.{AreRegions}
 use Rattle.tlsf_heap.specs.GoodFit.{block_at}
 use Rattle.tlsf_heap.specs.FreePlaces.{FreePlace, free_places}
 use Rattle.tlsf_heap.specs.Calls.{first_free, past_free, last_free, before_free}

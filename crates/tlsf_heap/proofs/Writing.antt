@@ -4,7 +4,8 @@ use Rattle.std.specs.Result.{result_unwrap_or}
 use Rattle.std.proofs.lemmas.Bool.{eqb-true}
 use Rattle.std.proofs.lemmas.Bool.Decides.{nat_tests}
 use Rattle.tlsf_heap.specs.Blocks.{Block, Live, Free, HeapState, bytes_of, words_in, serials, stamps, StandsAt}
-use Rattle.tlsf_heap.specs.Lawful.{IsLawful, HasRoom, AreApart, AreDistinct}
+use Rattle.tlsf_heap.specs.Lawful.{IsLawful, HasRoom, AreApart}
+use Rattle.tlsf_words.specs.Lists.{AreDistinct}
 use Rattle.std.specs.List.{AllByRecursion}
 use Rattle.tlsf_heap.specs.GoodFit.{Site, block_at}
 use Rattle.tlsf_heap.specs.Calls.{Outcome, refused, named, has_bytes, overwritten, with_bytes, with_blocks, written, written_at, read_of, read_at, read_answer}

@@ -1,8 +1,8 @@
 -- Good fit: which free block serves a request.
-use Rattle.std.specs.Prelude.{◌≡◌, ℕ, suc, ◌<◌, List, [], ◌∷◌, ◌++◌, Option, Bool, true, false, ◌&&◌, ◌||◌, ◌==◌, nat_lt, nat_le, length, filter, find, MatchOption, slice_index_or, take, drop}
+use Rattle.std.specs.Prelude.{ℕ, suc, List, [], ◌∷◌, ◌++◌, Option, Bool, ◌&&◌, ◌||◌, ◌==◌, nat_lt, nat_le, filter, find, slice_index_or, take, drop}
 use Rattle.std.specs.List.{list_all}
 use Rattle.tlsf_class.specs.Classes.{class_of, serves}
-use Rattle.tlsf_heap.specs.Blocks.{Block, Free, size_of, words_in, is_free, stamp_of, StandsAt}
+use Rattle.tlsf_heap.specs.Blocks.{Block, Free, size_of, words_in, is_free, stamp_of}
 
 -- a block where it stands: the blocks before it, the block, and those after it
 pub record Site : Type 0 where

@@ -1,9 +1,9 @@
 -- The blocks that the words of a region and its start map show.
-use Rattle.std.specs.Prelude.{◌≡◌, ℕ, zero, suc, ◌+◌, ◌*◌, ◌-◌, ◌^◌, ◌<◌, ◌≤◌, List, [], ◌∷◌, Bool, true, false, ◌==◌, nat_lt, if◌then◌else◌, length, slice_index, slice_index_or, ⊤}
+use Rattle.std.specs.Prelude.{◌≡◌, ℕ, ◌+◌, ◌*◌, ◌^◌, ◌<◌, ◌≤◌, List, [], ◌∷◌, Bool, true, false, ◌==◌, length, slice_index, slice_index_or, ⊤}
 use Rattle.std.specs.List.{AllByRecursion}
 use Rattle.tlsf_words.specs.Lists.{nowhere}
 use Rattle.tlsf_words.specs.Bytes.{bytes_in}
-use Rattle.tlsf_words.specs.Fields.{tag_word, size_in, free_in, length_word, low_half}
+use Rattle.tlsf_words.specs.Fields.{tag_word, length_word}
 use Rattle.tlsf_heap.specs.Blocks.{Block, Live, Free, size_of, words_in, is_free}
 use Rattle.tlsf_heap.specs.Lawful.{HasRoom}
 

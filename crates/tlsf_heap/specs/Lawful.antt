@@ -1,15 +1,12 @@
 -- What holds of a heap before and after each call.
-use Rattle.std.specs.Prelude.{◌≡◌, ◌≢◌, ℕ, ◌≤◌, ◌<◌, ◌^◌, List, [], ◌∷◌, length, ⊤}
+use Rattle.std.specs.Prelude.{◌≡◌, ℕ, ◌≤◌, ◌<◌, ◌^◌, List, [], ◌∷◌, length, ⊤}
 use Rattle.std.specs.List.{AllByRecursion}
-use Rattle.tlsf_heap.specs.Blocks.{Block, Live, Free, HeapState, size_of, words_in, serials, stamps, words_for}
+use Rattle.tlsf_words.specs.Lists.{AreDistinct}
+use Rattle.tlsf_heap.specs.Blocks.{Block, Live, Free, HeapState, words_in, serials, stamps, words_for}
 
 -- a number of words that a region may have
 abbrev pub IsRegion : ℕ → Type 0
 IsRegion words = (4 ≤ words) × (words ≤ 2 ^ 20)
-
--- each block has a number of words that a region may have
-abbrev pub AreRegions : List Block → Type 0
-AreRegions blocks = AllByRecursion (λ block. IsRegion (size_of block)) blocks
 
 -- a block has four words, and a live one holds its payload
 abbrev pub HasRoom : Block → Type 0
@@ -23,11 +20,6 @@ AreApart (Live size serial bytes ∷ blocks) = AreApart blocks
 AreApart (Free size stamp ∷ []) = ⊤
 AreApart (Free size stamp ∷ Live m serial bytes ∷ blocks) = AreApart blocks
 AreApart (Free size stamp ∷ Free m s ∷ blocks) = ⊥
-
--- each number differs from all later ones
-abbrev pub AreDistinct : List ℕ → Type 0
-AreDistinct [] = ⊤
-AreDistinct (x ∷ xs) = AllByRecursion (λ y. x ≢ y) xs × AreDistinct xs
 
 -- the blocks fill the region, each with its room; free blocks don't touch; serials differ, stamps differ, and all are of past ticks
 pub record IsLawful (h : HeapState) : Type 0 where

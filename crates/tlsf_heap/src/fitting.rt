@@ -3,13 +3,13 @@ ghost use Rattle.std.specs.Prelude.{◌≡◌, ◌≢◌, ℕ, ◌+◌, ◌-◌,
 ghost use Rattle.std.specs.List.{AllByRecursion};
 ghost use Rattle.tlsf_heap.specs.Blocks.{Free, size_of, words_in, payload_words, is_free, stamps, words_for, StandsAt, IsPlace};
 ghost use Rattle.tlsf_class.specs.Classes.{class_of};
-ghost use Rattle.tlsf_heap.specs.Lawful.{IsRegion, AreRegions};
+ghost use Rattle.tlsf_heap.specs.Lawful.{IsRegion};
+ghost use Rattle.tlsf_heap.specs.Regions.{AreRegions, SameLists, list_in, with_at, freed_with_next, OnlyReads, Edits};
 ghost use Rattle.tlsf_heap.specs.GoodFit.{block_at, site_at};
 ghost use Rattle.tlsf_heap.specs.Chosen.{IsBestAt};
 ghost use Rattle.tlsf_heap.specs.Calls.{carved, coalesced, first_free, past_free, last_free};
 ghost use Rattle.tlsf_heap.specs.FreePlaces.{AreFreeLists};
 ghost use Rattle.tlsf_words.specs.Lists.{IsUnlisted, without_place};
-ghost use Rattle.tlsf_heap.specs.Regions.{SameLists, list_in, OnlyReads, Edits};
 
 use crate::region::Region;
 use tlsf_class::{MOST_WORDS, class_of, search_of};
@@ -39,8 +39,8 @@ pub fn carve(region: &mut Region, at: u32, words: u32, tick: u64, len: u32)
     requires small { words_in region.old.blocks ≤ 2 ^ 20 }
     requires listed { AreFreeLists region.old.blocks (list_in region.old.lists) }
     requires stamped { AllByRecursion (λ s. s < tick) (stamps region.old.blocks) }
-    ensures blocks { (i : ℕ) → StandsAt region.old.blocks at i → region.new.blocks ≡ take i region.old.blocks
-        ++ carved (size_of (block_at region.old.blocks i)) words tick len ++ drop (i + 1) region.old.blocks }
+    ensures blocks { (i : ℕ) → StandsAt region.old.blocks at i →
+        region.new.blocks ≡ with_at region.old.blocks i (carved (size_of (block_at region.old.blocks i)) words tick len) }
     ensures listed { AreFreeLists region.new.blocks (list_in region.new.lists) }
     ensures edits { (i : ℕ) → StandsAt region.old.blocks at i → Edits region.old region.new (25 + payload_words (block_at region.new.blocks i)) }
 {
@@ -104,21 +104,20 @@ fn join(region: &mut Region, at: u32, before: u32, after: u32, tick: u64)
     ensures lists { SameLists (list_in region.new.lists) (list_in region.old.lists) }
     ensures edits { Edits region.old region.new 17 }
 {
-    join_next(region, at, after, tick);
+    free_with_next(region, at, after, tick);
     if before > 0 {
         region.merge(at - before, tick);
     }
 }
 
 /// Makes the block at a place and the free block behind it, of so many words, one free block. Neither is in a list.
-fn join_next(region: &mut Region, at: u32, after: u32, tick: u64)
+fn free_with_next(region: &mut Region, at: u32, after: u32, tick: u64)
     requires place { IsPlace region.old.blocks at }
     requires sized { AreRegions region.old.blocks }
     requires after { (i : ℕ) → StandsAt region.old.blocks at i → after ≡ first_free (drop (i + 1) region.old.blocks) }
     requires unlisted { IsUnlisted (list_in region.old.lists) at }
     requires next_unlisted { 0 < after → (i : ℕ) → StandsAt region.old.blocks at i → IsUnlisted (list_in region.old.lists) (at + size_of (block_at region.old.blocks i)) }
-    ensures blocks { (i : ℕ) → StandsAt region.old.blocks at i → region.new.blocks ≡ take i region.old.blocks
-        ++ (Free (size_of (block_at region.old.blocks i) + first_free (drop (i + 1) region.old.blocks)) tick ∷ past_free (drop (i + 1) region.old.blocks)) }
+    ensures blocks { (i : ℕ) → StandsAt region.old.blocks at i → region.new.blocks ≡ freed_with_next tick region.old.blocks i }
     ensures lists { SameLists (list_in region.new.lists) (list_in region.old.lists) }
     ensures edits { Edits region.old region.new 10 }
 {

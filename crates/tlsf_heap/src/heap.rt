@@ -28,8 +28,10 @@ mod image_tests;
 ///
 /// Contracts see it as its number, its words, its tick and its blocks in the order of their places. The tick begins
 /// one above the first, rises by one with each accepted allocate or release, and stamps what they change. Beside them
-/// they see its touches: how many times a stored word, a start bit, the head of a list or a word of the bitmaps was read
-/// or written.
+/// they see what is stored in its region, each word and start bit, and its touches: how many times a stored word, a start
+/// bit, the head of a list or a word of the bitmaps was read or written.
+///
+/// Places and sizes are in words of 8 bytes, lengths in bytes.
 #[derive(Drop)]
 pub struct Heap {
     id: u32,
@@ -61,6 +63,11 @@ impl Heap {
     ///
     /// Refused as `BadSize` where `words` is below 4 or above 2^20, else as `Worn` where `first` is the last tick,
     /// 2^64 - 1, else as `NoMemory` where the memory was not granted. No later call takes memory.
+    ///
+    /// ```text
+    /// let heap = Heap::open(alloc, 0, 64, 0)?;                       // heap 0: 512 bytes, at tick 1
+    /// Heap::open(alloc, 0, 3, 0).err() == Some(OpenFault::BadSize)
+    /// ```
     pub fn open(alloc: Global, id: u32, words: u32, first: u64) -> Result<Heap, OpenFault>
         ensures heap { IfOk result (λ heap. heap.heap ≡ opened id words first) }
         ensures lawful { IfOk result (λ heap. IsLawful heap.heap) }
@@ -90,10 +97,17 @@ impl Heap {
         })
     }
 
-    /// Gives a block that holds `len` bytes of payload, all zero.
+    /// Gives a block that holds `len` bytes of payload, all zero: good fit, of the last that became free (ECRTS 2004,
+    /// sections 3.1 and 4). Three words of it are its header.
     ///
     /// Refused as `NoFit` where no free block lies in a class at or above the search class of the words wanted, else
     /// as `Worn` where the tick is at its last value. Takes no memory.
+    ///
+    /// ```text
+    /// let mut heap = Heap::open(alloc, 0, 64, 0)?;
+    /// let name = heap.allocate(100)?;         // 16 of the 64 words: Name { heap: 0, at: 0, serial: 1 }
+    /// heap.allocate(400) == Err(Refusal::NoFit)
+    /// ```
     pub fn allocate(&mut self, len: u32) -> Result<Name, Refusal>
         ensures answer { result ≡ (allocated self.old.heap len).answer }
         ensures heap { self.new.heap ≡ (allocated self.old.heap len).heap }
@@ -128,11 +142,17 @@ impl Heap {
         })
     }
 
-    /// Takes back the block of that name, and merges it with its free neighbours. The free block that it becomes is
-    /// stamped with the tick.
+    /// Takes back the block of that name, and merges it with its free neighbours (ECRTS 2004, section 4). The free block
+    /// that it becomes is stamped with the tick.
     ///
     /// Refused as `Foreign` where the name is of another heap, else as `Stale` where no live block has that place and
     /// serial, else as `Worn` where the tick is at its last value. Takes no memory.
+    ///
+    /// ```text
+    /// let name = heap.allocate(8)?;
+    /// heap.release(name) == Ok(())
+    /// heap.release(name) == Err(Refusal::Stale)
+    /// ```
     pub fn release(&mut self, name: Name) -> Result<(), Refusal>
         ensures answer { result ≡ (released self.old.heap name).answer }
         ensures heap { self.new.heap ≡ (released self.old.heap name).heap }
@@ -166,6 +186,12 @@ impl Heap {
     ///
     /// Refused as `Foreign` where the name is of another heap, else as `Stale` where no live block has that place and
     /// serial, else as `Range` where the bytes would go past the end of the payload. Takes no memory.
+    ///
+    /// ```text
+    /// let name = heap.allocate(8)?;
+    /// heap.write(name, 6, &[0x48, 0x69]) == Ok(())
+    /// heap.write(name, 7, &[0x48, 0x69]) == Err(Refusal::Range)
+    /// ```
     pub fn write(&mut self, name: Name, at: u32, bytes: &[u8]) -> Result<(), Refusal>
         ensures answer { result ≡ (written self.old.heap name at bytes.now).answer }
         ensures heap { self.new.heap ≡ (written self.old.heap name at bytes.now).heap }
@@ -194,6 +220,11 @@ impl Heap {
     /// Refused as `Foreign` where the name is of another heap, else as `Stale` where no live block has that place and
     /// serial, else as `Range` where the bytes would go past the end of the payload. `out` is then as before. Takes no
     /// memory.
+    ///
+    /// ```text
+    /// let mut out = [0; 2];
+    /// heap.read(name, 6, &mut out)?;          // after the write above: out == [0x48, 0x69]
+    /// ```
     pub fn read(&mut self, name: Name, at: u32, out: &mut [u8]) -> Result<(), Refusal>
         ensures answer { result ≡ read_answer (read_of self.old.heap name at (length out.old)) }
         ensures bytes { out.new ≡ result_unwrap_or (read_of self.old.heap name at (length out.old)) out.old }
@@ -213,7 +244,12 @@ impl Heap {
         Ok(())
     }
 
-    /// What the heap holds, and how well it serves. Takes no memory.
+    /// What the heap holds, and how well it serves: a walk over all its blocks. Takes no memory.
+    ///
+    /// ```text
+    /// let report = Heap::open(alloc, 0, 64, 0)?.report();
+    /// (report.free_words, report.grant) == (64, 488)
+    /// ```
     pub fn report(&mut self) -> Report
         ensures report { result ≡ report_of self.old.heap }
 
@@ -222,6 +258,8 @@ impl Heap {
         ensures heap { self.new.heap ≡ self.old.heap }
         ensures stored { self.new.stored ≡ self.old.stored }
         ensures was_lawful { IsLawful self.old.heap }
+
+        // Three for each block, and no block has less than a word.
         ensures touches { self.new.touches ≤ self.old.touches + 3 * self.old.heap.words }
         ensures touches_rise { self.old.touches ≤ self.new.touches }
     {

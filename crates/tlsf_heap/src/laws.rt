@@ -10,12 +10,22 @@ ghost use Rattle.tlsf_heap.specs.declared.name.Name.{Name};
 ghost use Rattle.tlsf_heap.specs.declared.refusal.Refusal.TheVariants.{Foreign, NoFit, Stale};
 
 /// No word of a lawful heap lies in two blocks, and each block lies in the region.
+///
+/// ```text
+/// blocks of 4, 16 and 44 words fill the places 0 to 3, 4 to 19 and 20 to 63
+/// ```
 pub fn blocks_never_overlap()
     ensures apart { (h : HeapState) → IsLawful h → (i j : ℕ) → i < j → j < length h.blocks → LieApart h i j }
     ensures within { (h : HeapState) → IsLawful h → (i : ℕ) → i < length h.blocks → LieInRegion h i }
 {}
 
 /// A name is live from the call that gives it to the release that takes it back, and never again.
+///
+/// ```text
+/// let name = heap.allocate(8)?;           // live, and at place 0
+/// heap.release(name)?;
+/// let again = heap.allocate(8)?;          // at place 0 too, under another serial: `name` stays stale
+/// ```
 pub fn names_live_until_released()
     // A heap keeps its number, and stays lawful through every list of calls.
     ensures ids { (h : HeapState) (call : Call) → (answered h call).1.id ≡ h.id }
@@ -36,6 +46,10 @@ pub fn names_live_until_released()
 
 /// The grant of a report is the greatest length of which a request is not refused as `NoFit`: the payload of the least
 /// block of the class that the greatest free block lies in.
+///
+/// ```text
+/// 63 words free: class 47 begins at 62 words, so 8 * (62 - 3) = 472 bytes are served, and 473 are not
+/// ```
 pub fn grant_is_greatest()
     ensures greatest { (h : HeapState) → IsLawful h → IsGrant h.blocks (report_of h).grant }
     ensures unique { (blocks : List Block) (g k : ℕ) → IsGrant blocks g → IsGrant blocks k → g ≡ k }
@@ -46,6 +60,10 @@ pub fn grant_is_greatest()
 ///
 /// So of every heap that a history reaches: whatever calls came before, a request that some free block may serve gets a block, unless
 /// the tick is at its last value.
+///
+/// ```text
+/// free blocks of 8 and 12 words: 72 bytes want 12 words and get them, 73 bytes want 13 and are refused
+/// ```
 pub fn refused_only_where_nothing_fits()
     ensures no_fit { (h : HeapState) (len : ℕ) → ((allocated h len).answer ≡ Err NoFit) ↔ (fits (want len) h.blocks ≡ []) }
     ensures ok { (h : HeapState) (len : ℕ) → IsOk (allocated h len).answer ↔ (¬ (fits (want len) h.blocks ≡ []) × ¬ (h.tick ≡ last_tick)) }

@@ -9,9 +9,9 @@
 //! A block is known by its [`Name`]: the heap, the place where it begins, and the serial that it got when it became
 //! live. A name that was forged, or that outlived its block, is refused.
 //!
-//! Contracts see a [`Heap`] as a list of blocks in the order of their places. Each call is one step of that list. It is read
-//! off the words of the region, which also thread the free blocks of each class into a list: the one that became free last
-//! is its head.
+//! Contracts see a [`Heap`] as a list of blocks in the order of their places. Each call is one step of that list. The stored
+//! words and start bits show the blocks before and after each call, and a refused call leaves every one of them. The words also
+//! thread the free blocks of each class into a list: the one that became free last is its head.
 //!
 //! They also count its touches, each read or write of a stored word, a start bit, the head of a list or a word of the
 //! bitmaps. A release makes at most 64, an allocate at most 64 and one for each payload word of the block that it gives,
@@ -24,16 +24,10 @@ mod heap;
 mod laws;
 mod name;
 mod open_fault;
-#[cfg(test)]
-mod payload_tests;
 mod refusal;
 mod region;
 mod report;
-#[cfg(test)]
-mod report_tests;
 mod tally;
-#[cfg(test)]
-mod tests;
 
 pub use heap::Heap;
 pub use laws::{

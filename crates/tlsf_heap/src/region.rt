@@ -6,7 +6,7 @@ ghost use Rattle.tlsf_heap.specs.GoodFit.{block_at};
 ghost use Rattle.tlsf_heap.specs.Calls;
 ghost use Rattle.tlsf_heap.specs.Image.{mark_of};
 ghost use Rattle.tlsf_heap.specs.Named.{IsNameTest};
-ghost use Rattle.tlsf_heap.specs.Regions.{SameLists, list_in, OnlyReads, Edits};
+ghost use Rattle.tlsf_heap.specs.Regions.{SameLists, list_in, with_at, OnlyReads, Edits};
 
 use crate::headers::{
     first_header, free_header, free_size, live_header, merge_headers, split_header,
@@ -21,6 +21,7 @@ use tlsf_words::{FreeLists, NoMemory, Words};
 /// Its touches are those of the words and of the lists together.
 #[derive(Drop)]
 pub struct Region {
+    // Open to the crate for the tests of what stands in the words.
     pub(crate) words: Words,
     lists: FreeLists,
 }
@@ -90,7 +91,8 @@ impl Region {
         self.words.mark(at)
     }
 
-    /// Whether a live block begins at a place, of all numbers, and has this serial. No word is read unless a block begins there.
+    /// Whether a live block begins at a place, of all numbers, and has this serial. No word is read unless a block begins there, and
+    /// no start bit unless the place lies in the region: a place from outside is not followed.
     pub fn has_live(&mut self, at: u32, serial: u64) -> bool
         ensures answer { IsNameTest at serial self.old.blocks result }
         ensures reads { OnlyReads self.old self.new 3 }
@@ -144,9 +146,8 @@ impl Region {
     /// Writes payload bytes of the live block at a place, from byte `offset` of it on.
     pub fn write(&mut self, at: u32, offset: u32, bytes: &[u8])
         requires { (i : ℕ) × StandsAt self.old.blocks at i × (offset + length bytes.now ≤ length (bytes_of (block_at self.old.blocks i))) }
-        ensures blocks { (i : ℕ) → StandsAt self.old.blocks at i → self.new.blocks ≡ take i self.old.blocks
-            ++ (Calls.with_bytes (block_at self.old.blocks i) (Calls.overwritten (bytes_of (block_at self.old.blocks i)) offset bytes.now) ∷ [])
-            ++ drop (i + 1) self.old.blocks }
+        ensures blocks { (i : ℕ) → StandsAt self.old.blocks at i →
+            self.new.blocks ≡ with_at self.old.blocks i (Calls.with_bytes (block_at self.old.blocks i) (Calls.overwritten (bytes_of (block_at self.old.blocks i)) offset bytes.now) ∷ []) }
         ensures lists { SameLists (list_in self.new.lists) (list_in self.old.lists) }
         ensures edits { Edits self.old self.new (2 * (length bytes.now / 8 + 2)) }
     {
@@ -158,9 +159,8 @@ impl Region {
         requires least { 4 ≤ size }
         requires unlisted { IsUnlisted (list_in self.old.lists) at }
         requires rest { (i : ℕ) × StandsAt self.old.blocks at i × (size + 4 ≤ size_of (block_at self.old.blocks i)) }
-        ensures blocks { (i : ℕ) → StandsAt self.old.blocks at i → self.new.blocks ≡ take i self.old.blocks
-            ++ (Free size (mark_of (block_at self.old.blocks i)) ∷ Free (size_of (block_at self.old.blocks i) - size) stamp ∷ [])
-            ++ drop (i + 1) self.old.blocks }
+        ensures blocks { (i : ℕ) → StandsAt self.old.blocks at i →
+            self.new.blocks ≡ with_at self.old.blocks i (Free size (mark_of (block_at self.old.blocks i)) ∷ Free (size_of (block_at self.old.blocks i) - size) stamp ∷ []) }
         ensures lists { SameLists (list_in self.new.lists) (list_in self.old.lists) }
         ensures edits { Edits self.old self.new 7 }
     {
@@ -171,8 +171,8 @@ impl Region {
     pub fn make_live(&mut self, at: u32, serial: u64, len: u32)
         requires unlisted { IsUnlisted (list_in self.old.lists) at }
         requires room { (i : ℕ) × StandsAt self.old.blocks at i × (words_for len ≤ size_of (block_at self.old.blocks i)) }
-        ensures blocks { (i : ℕ) → StandsAt self.old.blocks at i → self.new.blocks ≡ take i self.old.blocks
-            ++ (Live (size_of (block_at self.old.blocks i)) serial (replicate len 0) ∷ []) ++ drop (i + 1) self.old.blocks }
+        ensures blocks { (i : ℕ) → StandsAt self.old.blocks at i →
+            self.new.blocks ≡ with_at self.old.blocks i (Live (size_of (block_at self.old.blocks i)) serial (replicate len 0) ∷ []) }
         ensures lists { SameLists (list_in self.new.lists) (list_in self.old.lists) }
         ensures edits { (i : ℕ) → StandsAt self.old.blocks at i → Edits self.old self.new (4 + payload_words (block_at self.old.blocks i)) }
     {
@@ -182,8 +182,8 @@ impl Region {
     /// Makes the block at a place a free one.
     pub fn make_free(&mut self, at: u32, stamp: u64)
         requires { IsPlace self.old.blocks at }
-        ensures blocks { (i : ℕ) → StandsAt self.old.blocks at i → self.new.blocks ≡ take i self.old.blocks
-            ++ (Free (size_of (block_at self.old.blocks i)) stamp ∷ []) ++ drop (i + 1) self.old.blocks }
+        ensures blocks { (i : ℕ) → StandsAt self.old.blocks at i →
+            self.new.blocks ≡ with_at self.old.blocks i (Free (size_of (block_at self.old.blocks i)) stamp ∷ []) }
         ensures lists { SameLists (list_in self.new.lists) (list_in self.old.lists) }
         ensures edits { Edits self.old self.new 3 }
     {

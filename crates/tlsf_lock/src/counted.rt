@@ -174,6 +174,7 @@ impl Counted {
         ensures grant { IsGrant self.old.heap.blocks result.grant }
         ensures same { SameCount self.old self.new }
         ensures was_counted { IsCounted self.old }
+        ensures touches { self.new.touches ≤ self.old.touches + 3 * self.old.heap.words }
         ensures touches_rise { self.old.touches ≤ self.new.touches }
     {
         self.heap.report()

@@ -14,8 +14,6 @@
 
 mod counted;
 mod locked_heap;
-#[cfg(test)]
-mod tests;
 
 pub use counted::Counted;
 pub use locked_heap::LockedHeap;

@@ -10,14 +10,14 @@ joined : {A : Type 0} → (t d r k e w : List A) → t ++ d ≡ w → r ≡ []
 joined t d r k e w whole none = rw (none, ← whole) (simp append_assoc)
 
 -- an earlier take that went to the ring had emptied what was ready
-pub in_order : {A : Type 0} → (ready kept rec known sent : List A) (next b : ℕ)
+pub in_order : {A : Type 0} → (ready behind rec known sent : List A) (next b : ℕ)
     → next ≤ length ready → b ≤ length rec → (b < length rec → next ≡ length ready) → rec ++ known ≡ sent
-    → (take next ready ++ drop b rec) ++ ((drop next ready ++ known) ++ kept) ≡ ready ++ (drop b sent ++ kept)
-in_order ready kept rec known sent next b n m first e =
+    → (take next ready ++ drop b rec) ++ ((drop next ready ++ known) ++ behind) ≡ ready ++ (drop b sent ++ behind)
+in_order ready behind rec known sent next b n m first e =
     rw (← e, drop-append-le b rec known m)
     (elim (cases_lt b (length rec)) [
       | inl lt ↦ rw (first lt, take-length ready, drop-length ready) (simp append_assoc)
-      | inr ge ↦ joined (take next ready) (drop next ready) (drop b rec) known kept ready (take-append-drop next ready) (drop_all b rec ge)
+      | inr ge ↦ joined (take next ready) (drop next ready) (drop b rec) known behind ready (take-append-drop next ready) (drop_all b rec ge)
     ])
 
 -- a post that comes out of the ring, where nothing is ready

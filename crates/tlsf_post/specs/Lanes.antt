@@ -7,7 +7,7 @@ use Rattle.tlsf_post.specs.declared.take_end.TakeEnd.{TakeEnd}
 
 -- the posts sent since the last `beside`: into the ring, and behind it
 unfoldable pub posts_sent : PostEnd → List Post
-posts_sent p = drop (length (sent p.mark.value)) (sent p.ring) ++ p.kept.items
+posts_sent p = drop (length (sent p.mark.value)) (sent p.ring) ++ p.behind.items
 
 -- how many slots it knows to be free
 unfoldable pub free_slots : PostEnd → ℕ
@@ -35,7 +35,7 @@ unfoldable pub IsLane : PostEnd → TakeEnd → Type 0
 IsLane p t =
     IsPair p.ring t.ring
     × (length (sent p.mark.value) ≡ length (received t.mark.value))
-    × (p.waiting ≡ length t.ready.items)
+    × (p.full ≡ length t.ready.items)
 
 -- the new post end has the old one's capacity, and is an end of each lane that the old one was an end of
 abbrev pub KeepsPost : PostEnd → PostEnd → Type 0

@@ -13,7 +13,13 @@ use std::snapshot::Snapshot;
 use tlsf_words::NoMemory;
 
 /// Opens a lane that holds up to `capacity` posts, 1 to 1,024, and answers its two ends. It fails only for want of
-/// memory.
+/// memory, which no later call takes.
+///
+/// ```
+/// let (mut post_end, mut take_end) = lane(alloc, 4)?;
+/// let sent = post_end.put(post);      // Ok(())
+/// let came = take_end.take();         // Some(post)
+/// ```
 ///
 /// - `lane`: the two are the ends of one lane.
 /// - `post`: nothing was sent, and as many free slots are known as the capacity.
@@ -27,13 +33,14 @@ pub fn lane(alloc: Global, capacity: u32) -> Result<(PostEnd, TakeEnd), NoMemory
 {
     let capacity = capacity as usize;
     let (producer, consumer) = RingBuffer::new(alloc, capacity)?;
+    // The marks have no bytes. Contracts read off them what was sent and taken since.
     let post_mark = Snapshot::of(&producer);
     let take_mark = Snapshot::of(&consumer);
     let post = PostEnd {
         ring: producer,
-        kept: Vec::with_capacity(alloc, capacity)?,
+        behind: Vec::with_capacity(alloc, capacity)?,
         free: capacity,
-        waiting: 0,
+        full: 0,
         mark: post_mark,
     };
     let take = TakeEnd {
@@ -54,6 +61,11 @@ pub fn lane(alloc: Global, capacity: u32) -> Result<(PostEnd, TakeEnd), NoMemory
 ///   lost, none is doubled, and none overtakes another.
 /// - `fresh`: since now nothing was sent and nothing taken, and what waits is what is ready.
 /// - `room`: the free slots are the capacity less the posts that wait.
+///
+/// ```
+/// beside(&mut post_end, &mut take_end);
+/// let posts = take_end.count_ready();     // so many takes answer a post each
+/// ```
 pub fn beside(post: &mut PostEnd, take: &mut TakeEnd)
     requires { IsLane post.old take.old }
     ensures lane { IsLane post.new take.new }
@@ -66,14 +78,15 @@ pub fn beside(post: &mut PostEnd, take: &mut TakeEnd)
     drop_first(&mut take.ready, take.next);
     take.next = 0;
     pop_all(&mut take.ring, &mut take.ready, count);
-    move_behind(&mut post.kept, &mut take.ready);
+    move_behind(&mut post.behind, &mut take.ready);
     take.mark = Snapshot::of(&take.ring);
     post.mark = Snapshot::of(&post.ring);
-    post.waiting = take.ready.len();
-    post.free = post.ring.capacity() - post.waiting;
+    post.full = take.ready.len();
+    post.free = post.ring.capacity() - post.full;
 }
 
-/// How many posts the ring holds. Both of its ends know them then.
+/// How many posts the ring holds. Both of its ends know them then: the calls beside one another are exact, where each end
+/// alone may know of fewer.
 fn look(producer: &mut Producer<Post>, consumer: &mut Consumer<Post>) -> usize
     requires { IsPair producer.old consumer.old }
     ensures producer { SameProducer producer.old producer.new × (sent producer.new ≡ sent producer.old) }
@@ -100,7 +113,7 @@ fn pop_all(ring: &mut Consumer<Post>, to: &mut Vec<Post>, count: usize)
     }
 }
 
-/// Drops the first `count` posts.
+/// Drops the first `count` posts, and moves the others to the place of the first. It takes no memory.
 fn drop_first(posts: &mut Vec<Post>, count: usize)
     requires { count ≤ vec_len posts.old }
     ensures rest { posts.new.items ≡ drop count posts.old.items }

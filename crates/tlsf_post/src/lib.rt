@@ -17,10 +17,6 @@ mod lanes;
 mod post;
 mod post_end;
 mod take_end;
-#[cfg(test)]
-mod tests;
-#[cfg(test)]
-mod thread_tests;
 
 pub use lanes::{beside, lane};
 pub use post::Post;

@@ -5,7 +5,11 @@ use crate::post::Post;
 use rtrb::Consumer;
 use std::snapshot::Snapshot;
 
-/// The end of a lane that takes posts, in the order in which they were sent.
+/// The end of a lane that takes posts, in the order in which they were sent. It may go into a thread of its own.
+///
+/// ```
+/// let child = scope.spawn(move || take_end.take())?;
+/// ```
 #[derive(Drop)]
 pub struct TakeEnd {
     // What was sent since the last `beside` comes from here.
@@ -38,6 +42,12 @@ impl TakeEnd {
     ///   ready, the others stay ready in their order, and more may have come behind them.
     /// - `none`: with `None` nothing was taken.
     /// - `succeeds`: a post comes wherever one is known to be ready.
+    ///
+    /// ```
+    /// if let Some(post) = take_end.take() {
+    ///     let _ = heap.release(post.name);
+    /// }
+    /// ```
     pub fn take(&mut self) -> Option<Post>
         ensures lane { KeepsTake self.old self.new }
         ensures waited { waited self.new ≡ waited self.old }
@@ -56,7 +66,11 @@ impl TakeEnd {
         }
     }
 
-    /// How many posts are known to be ready. So many takes in a row each answer one.
+    /// How many posts are known to be ready, 0 to 1,024. So many takes in a row each answer one.
+    ///
+    /// ```
+    /// let posts = take_end.count_ready();     // 0 right after `lane`
+    /// ```
     pub fn count_ready(&self) -> u32
         ensures { result ≡ length (ready self.now) }
     {

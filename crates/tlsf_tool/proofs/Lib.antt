@@ -1,5 +1,6 @@
-pub mod Endings
-pub mod ClassLines
-pub mod NamedCommands
-pub mod SizeWords
-pub mod Choosing
+-- Lemmas, a line for each file.
+pub mod ClassLines  -- the line on a size, piece by piece
+pub mod NamedCommands  -- a command line that comes to no fault names a command of the program
+pub mod SizeWords  -- the words after `classes`: where they come to no fault, they are one size
+pub mod ChosenCommands  -- what the words ask for, by what `clap` answers of them
+pub mod RunEnds  -- how a run ends that `clap` ends by an error

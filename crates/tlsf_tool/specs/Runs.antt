@@ -28,7 +28,7 @@ abbrev pub status_of : Result Summary TraceFault → ℕ
 status_of (Ok summary) = 0
 status_of (Err fault) = status_of_fault fault
 
--- only a fault is reported, by its line or a front of it
+-- only a fault is reported, by its line or a prefix of it
 abbrev pub Reports : Result Summary TraceFault → Option (List ℕ) → Option (List ℕ) → Type 0
 Reports (Ok summary) old new = Keeps old new
 Reports (Err fault) old new = AppendsFront old new (fault_line fault)
@@ -47,7 +47,7 @@ pub record LacksMemory (status : ℕ) (old new : Streams) : Type 0 where
   pub written : new.written ≡ old.written
   pub reported : AppendsFront old.errors new.errors (fault_line no_memory_fault)
 
--- the line on a size of n words was written, or a front of it, where a write failed and was reported; nothing was read
+-- the line on a size of n words was written, or a prefix of it, where a write failed and was reported; nothing was read
 pub record ShowsClasses (n status : ℕ) (old new : Streams) : Type 0 where
   pub left : new.left ≡ old.left
   pub front : AppendsFront old.written new.written (class_line n)

@@ -31,7 +31,12 @@ fn line_of(words: u32) -> Result<ArrayString<64>, fmt::Error>
 }
 
 /// Writes the line on a size of `words`, 4 to 2^20, and flushes: the class of the size and its
-/// search class, each with its least size in words. After an `Err` a front of the line was written.
+/// search class, each with its least size in words. After an `Err` a prefix of the line was written.
+///
+/// ```
+/// write_class_line(460, &mut writer)?;
+/// // writer holds "class 92 low 448 search 93 low 464\n" more
+/// ```
 pub fn write_class_line<W: Write>(words: u32, writer: &mut W) -> Result<(), WriteError>
     requires least { 4 ≤ words }
     requires most { words ≤ 2 ^ 20 }
@@ -42,6 +47,7 @@ pub fn write_class_line<W: Write>(words: u32, writer: &mut W) -> Result<(), Writ
 {
     match line_of(words) {
         Ok(line) => write_out(writer, line.as_bytes()),
+        // The line has at most 46 bytes and 64 have room, but no clause of the line says so.
         Err(_) => Err(WriteError),
     }
 }

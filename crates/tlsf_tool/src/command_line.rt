@@ -130,6 +130,11 @@ fn parse<'a, S: AsStr>(alloc: Global, words: &'a [S]) -> Result<ArgMatches<'a>, 
 ///
 /// An `Err` is what `clap` has to say: a usage error, the help or version text that the words ask
 /// for, or that memory ran out.
+///
+/// ```
+/// let choice = choose(alloc, &["tlsf", "classes", "460"])?;
+/// // choice is Choice::Classes(460)
+/// ```
 pub fn choose<'a, S: AsStr>(alloc: Global, words: &'a [S]) -> Result<Choice, Error>
     ensures asked { IfOk result (Asks (map S.text words.entry.now)) }
     ensures kinds { FailsBy (faults_of (map S.text words.entry.now)) result }
@@ -143,6 +148,7 @@ pub fn choose<'a, S: AsStr>(alloc: Global, words: &'a [S]) -> Result<Choice, Err
     match matches.subcommand_matches("classes") {
         Some(given) => match given.get_one::<u32>("N") {
             Some(size) => Ok(Choice::Classes(size)),
+            // The size is required, so words without one came to an error before.
             None => unreachable!(),
         },
         None => Ok(Choice::Replay),

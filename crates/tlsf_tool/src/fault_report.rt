@@ -4,6 +4,11 @@ use std::fmt::Write as _;
 use tlsf_trace::TraceFault;
 
 /// A fault as the program shows it, as `line 2: bad line (12)`.
+///
+/// ```
+/// let report = FaultReport { fault: TraceFault { no: 12, line: 2 } };
+/// // report.status() is 1, and report.line()? is "tlsf: line 2: bad line (12)\n"
+/// ```
 #[derive(Clone, Copy, Debug, PartialEq, Eq)]
 pub struct FaultReport {
     /// The fault that is shown.
@@ -44,6 +49,7 @@ impl FaultReport {
             15 => "trace too long",
             16 => "read failed",
             17 => "write failed",
+            // A replay answers none of another number, but the type allows one.
             _ => "unknown fault",
         }
     }

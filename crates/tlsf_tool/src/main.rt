@@ -17,8 +17,6 @@
 
 mod class_line;
 mod command_line;
-#[cfg(test)]
-mod fakes;
 mod fault_report;
 #[cfg(test)]
 mod fault_report_tests;

@@ -1,19 +1,24 @@
-pub mod AskedFaults
-pub mod DoneReplays
-pub mod Values
-pub mod LineRanges
-pub mod Cutting
-pub mod Judging
-pub mod Remembering
-pub mod Empty
-pub mod Faults
-pub mod Rows
-pub mod LineRows
-pub mod Joining
-pub mod GrowingPrefixes
-pub mod LongInputs
-pub mod PieceCounts
-pub mod Reporting
-pub mod Scripting
-pub mod Assembling
-mod OutputRows
+-- Fields and lines.
+pub mod FieldValues  -- values of fields, one field after another
+pub mod LineRanges  -- each number of a line is in its range
+pub mod LineSteps  -- a step of the loop over lines
+pub mod LabelSteps  -- what is remembered of labels, behind a line and a phase
+pub mod EmptyText  -- a text without bytes has no header
+-- Texts and pieces.
+pub mod FirstPiece  -- a text begins with its first piece
+pub mod PiecesJoin  -- the pieces of a text, joined, are the text
+pub mod PieceCounts  -- how many pieces two joined texts have
+pub mod LongInputs  -- an input with a prefix of too many lines
+pub mod PrefixSteps  -- a prefix that grows by what the writer took
+-- Faults.
+pub mod FirstFault  -- a fault at a line is the first one
+pub mod TextFault  -- the fault that a text has instead of a trace
+-- The run and its text.
+pub mod ScriptSteps  -- events and labels of lines, one line after another
+pub mod ReportSteps  -- report lines of heaps, one heap after another
+pub mod WholeOutput  -- what is put out, from its parts
+pub mod WholeReplay  -- a replay that is done
+-- The definitions on worked rows.
+pub mod WorkedTraces  -- whole traces
+pub mod WorkedLines  -- single lines
+mod WorkedOutput  -- events of a trace, and reply lines

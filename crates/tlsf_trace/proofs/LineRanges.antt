@@ -18,8 +18,10 @@ use Rattle.tlsf_trace.specs.declared.value.Value.TheVariants.{Number, BadNumber,
 use Rattle.tlsf_trace.specs.declared.word.Word.{Word}
 use Rattle.tlsf_trace.specs.declared.word.Word.TheVariants as word
 use Rattle.tlsf_trace.specs.Fields.{◌>>=◌, is_digits, number_within, range_of, value_in, values_in}
-use Rattle.tlsf_trace.specs.Lines.{IsLineInRange, kinds_of, line_from}
-use Rattle.tlsf_trace.specs.Payloads.{IsPayload, bytes_in, chunk_in}
+use Rattle.tlsf_trace.specs.Lines.{kinds_of, line_from}
+use Rattle.tlsf_trace.specs.Ranges.{IsLineInRange}
+use Rattle.tlsf_trace.specs.Payloads.{bytes_in, chunk_in}
+use Rattle.tlsf_trace.specs.Ranges.{IsPayload}
 
 -- ---- numbers
 

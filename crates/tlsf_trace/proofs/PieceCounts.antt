@@ -3,23 +3,24 @@ use Rattle.std.proofs.Common.{◌≡◌, ℕ, suc, ◌+◌, ◌-◌, ◌<◌, �
 use Rattle.std.specs.List.{onto_first}
 use Rattle.std.proofs.lemmas.List.{get_or-append_right}
 use Rattle.std.proofs.lemmas.List.Sums.{sum_by-cons, sum_by-append}
-use Rattle.tlsf_trace.specs.Pieces.{pieces_of, open_count}
+use Rattle.tlsf_trace.specs.Pieces.{pieces_of}
+use Rattle.tlsf_trace.specs.OpenLines.{open_count}
 
 -- whether the byte is a line feed
 abbrev is_feed : ℕ → Bool
 is_feed b = eqb b 10
 
--- a byte in front of the first piece makes no piece more
+-- a byte in prefix of the first piece makes no piece more
 length-onto_first : (x : ℕ) (ps : List (List ℕ)) → 0 < length ps → length (onto_first x ps) ≡ length ps
 length-onto_first x [] h = absurd (omega arith)
 length-onto_first x (p ∷ ps) h = refl
 
--- a byte in front of a text that has pieces: a line feed makes one more
+-- a byte in prefix of a text that has pieces: a line feed makes one more
 first : (b : Bool) (x : ℕ) (ps : List (List ℕ)) → 0 < length ps → length (cond b ((x ∷ []) ∷ ps) (onto_first x ps)) ≡ cond b 1 0 + length ps
 first true x ps h = omega arith
 first false x ps h = omega (arith, length-onto_first x ps h)
 
--- the line feeds of a text with one byte more in front
+-- the line feeds of a text with one byte more in prefix
 count-cons : (x : ℕ) (xs : List ℕ) → count_by is_feed (x ∷ xs) ≡ cond (eqb x 10) 1 0 + count_by is_feed xs
 count-cons x xs = sum_by-cons (λ b. cond (eqb b 10) 1 0) x xs
 
@@ -91,15 +92,15 @@ length-pieces_of-append old new some =
 open_count-le : (bytes : List ℕ) → open_count bytes ≤ 1
 open_count-le bytes = one_at_most (eqb (get_or bytes (length bytes - 1) 10) 10)
 
--- a front of a text has no more pieces than the text
-pub length-pieces_of-front : (front rest : List ℕ) → length (pieces_of front) ≤ length (pieces_of (front ++ rest))
-length-pieces_of-front front [] = omega (arith, ap (λ text. length (pieces_of text)) (sym (append-nil front)))
-length-pieces_of-front front (x ∷ xs) =
+-- a prefix of a text has no more pieces than the text
+pub length-pieces_of-prefix : (prefix rest : List ℕ) → length (pieces_of prefix) ≤ length (pieces_of (prefix ++ rest))
+length-pieces_of-prefix prefix [] = omega (arith, ap (λ text. length (pieces_of text)) (sym (append-nil prefix)))
+length-pieces_of-prefix prefix (x ∷ xs) =
     omega (
       arith,
-      length-pieces_of front,
-      open_count-le front,
+      length-pieces_of prefix,
+      open_count-le prefix,
       length-pieces_of (x ∷ xs),
       pieces_nonempty x xs,
-      length-pieces_of-append front (x ∷ xs) (omega arith),
+      length-pieces_of-append prefix (x ∷ xs) (omega arith),
     )

@@ -1,5 +1,5 @@
 -- The header: the first line of a trace.
-use Rattle.std.specs.Prelude.{ℕ, ◌≤◌, ◌&&◌, ◌==◌, if◌then◌else◌, List, codes, length, Option, Some, None}
+use Rattle.std.specs.Prelude.{ℕ, ◌&&◌, ◌==◌, if◌then◌else◌, List, codes, length, Option, Some, None}
 use Rattle.std.specs.Str.{bytes_eq}
 use Rattle.tlsf_trace.specs.declared.header.Header.{Header}
 use Rattle.tlsf_trace.specs.declared.value.Value.{Value}
@@ -34,9 +34,3 @@ header_of fields =
 -- the header that a piece says
 unfoldable pub header_in : List ℕ → Option Header
 header_in piece = fields_in piece >>= header_of
-
--- each number of a header is in its range
-pub record IsHeaderInRange (header : Header) : Type 0 where
-  pub workers : (1 ≤ header.workers) × (header.workers ≤ 8)
-  pub words : (4 ≤ header.words) × (header.words ≤ 1048576)
-  pub capacity : (1 ≤ header.capacity) × (header.capacity ≤ 1024)

@@ -1,3 +1,4 @@
+-- What the clauses of public functions cite: a text, its lines, its trace, and what is asked and written.
 pub mod Payloads
 pub mod Fields
 pub mod Lines
@@ -5,15 +6,19 @@ pub mod Labels
 pub mod Header
 pub mod Pieces
 pub mod Trace
-pub mod Faults
-pub mod Views
-pub mod Laws
-pub mod Limits
-pub mod Prefixes
-pub mod TraceFaults
-pub mod Output
-pub mod Replay
 pub mod Events
 pub mod ReplyLines
 pub mod ReportLines
-pub mod Making
+pub mod Output
+pub mod LineFaults
+pub mod TraceFaults
+pub mod Limits
+pub mod Prefixes
+pub mod Replay
+pub mod Laws
+-- What the clauses of private functions cite besides.
+pub mod Ranges
+pub mod Views
+pub mod LabelMemory
+pub mod ScriptSoFar
+pub mod OpenLines

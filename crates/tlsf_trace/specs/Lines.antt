@@ -1,5 +1,5 @@
 -- The lines of a trace behind its header: the table of words, and what the fields of a line say.
-use Rattle.std.specs.Prelude.{⊤, ℕ, ◌<◌, ◌≤◌, Bool, true, false, if◌then◌else◌, List, [], ◌∷◌, codes, Option, Some, None}
+use Rattle.std.specs.Prelude.{ℕ, Bool, true, false, if◌then◌else◌, List, [], ◌∷◌, codes, Option, Some, None}
 use Rattle.std.specs.Str.{bytes_eq}
 use Rattle.tlsf_trace.specs.declared.kind.Kind.{Kind}
 use Rattle.tlsf_trace.specs.declared.kind.Kind.TheVariants.{Worker, Label, Length, Offset, Hex, Count, Most}
@@ -9,7 +9,6 @@ use Rattle.tlsf_trace.specs.declared.word.Word.{Word}
 use Rattle.tlsf_trace.specs.declared.word.Word.TheVariants as word
 use Rattle.tlsf_trace.specs.declared.value.Value.{Value}
 use Rattle.tlsf_trace.specs.declared.value.Value.TheVariants.{Number, Bytes}
-use Rattle.tlsf_trace.specs.Payloads.{IsPayload}
 
 -- each word, behind the first field that spells it
 abbrev pub words : List (List ℕ × Word)
@@ -45,12 +44,3 @@ line_from _ _ = None
 abbrev pub is_call : Line → Bool
 is_call Phase = false
 is_call _ = true
-
--- each number of a line is in its range, where there are so many workers
-abbrev pub IsLineInRange : ℕ → Line → Type 0
-IsLineInRange workers (Allocate worker label length) = (worker < workers) × (label ≤ 65535) × (length ≤ 4294967295)
-IsLineInRange workers (Release worker label) = (worker < workers) × (label ≤ 65535)
-IsLineInRange workers (Write worker label at bytes) = (worker < workers) × (label ≤ 65535) × (at ≤ 4294967295) × IsPayload bytes
-IsLineInRange workers (Read worker label at n) = (worker < workers) × (label ≤ 65535) × (at ≤ 4294967295) × (1 ≤ n) × (n ≤ 64)
-IsLineInRange workers (Drain worker most) = (worker < workers) × (1 ≤ most) × (most ≤ 8192)
-IsLineInRange workers Phase = ⊤

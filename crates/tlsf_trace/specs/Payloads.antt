@@ -1,8 +1,8 @@
 -- Payload bytes, as hexadecimal digits spell them.
-use Rattle.std.specs.Prelude.{ℕ, ◌≤◌, ◌&&◌, nat_le, if◌then◌else◌, List, length, Option, None, option_map}
+use Rattle.std.specs.Prelude.{ℕ, ◌&&◌, nat_le, if◌then◌else◌, List, length, Option, None, option_map}
 use Rattle.std.specs.Result.{result_ok}
 use Rattle.hex.specs.Hex.{decode_of}
-use Rattle.tlsf_crew.specs.Bytes.{bytes_of, chunk_of}
+use Rattle.tlsf_crew.specs.Bytes.{chunk_of}
 use Rattle.tlsf_crew.specs.declared.chunk.Chunk.{Chunk}
 
 -- the bytes that 2 to 128 hexadecimal digits of either case spell, an even number of them
@@ -12,7 +12,3 @@ bytes_in field = if nat_le 2 (length field) && nat_le (length field) 128 then re
 -- the same as a chunk
 abbrev pub chunk_in : List ℕ → Option Chunk
 chunk_in field = option_map chunk_of (bytes_in field)
-
--- a chunk of 1 to 64 bytes
-abbrev pub IsPayload : Chunk → Type 0
-IsPayload chunk = (1 ≤ length (bytes_of chunk)) × (length (bytes_of chunk) ≤ 64)

@@ -1,5 +1,5 @@
 -- A text as pieces, each up to a line feed.
-use Rattle.std.specs.Prelude.{⊤, ◌⊎◌, ℕ, ◌≡◌, ◌<◌, ◌-◌, ◌==◌, if◌then◌else◌, List, [], ◌∷◌, ◌++◌, count_by, length, slice_index_or}
+use Rattle.std.specs.Prelude.{⊤, ◌⊎◌, ℕ, ◌≡◌, ◌<◌, ◌-◌, ◌==◌, if◌then◌else◌, List, [], ◌∷◌, ◌++◌, count_by, length}
 use Rattle.std.specs.List.{concat, onto_first}
 
 -- the text, cut behind each line feed; a rest behind the last one is a piece too
@@ -10,10 +10,6 @@ pieces_of (byte ∷ bytes) = if byte == 10 then (byte ∷ []) ∷ pieces_of byte
 -- how many line feeds there are
 abbrev pub feeds_in : List ℕ → ℕ
 feeds_in bytes = count_by (λ byte. byte == 10) bytes
-
--- one where the last byte is no line feed
-abbrev pub open_count : List ℕ → ℕ
-open_count bytes = if slice_index_or bytes (length bytes - 1) 10 == 10 then 0 else 1
 
 -- one line feed, at the end
 abbrev pub IsWhole : List ℕ → Type 0

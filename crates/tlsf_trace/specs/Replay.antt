@@ -28,7 +28,7 @@ abbrev pub Writes : Summary → Result Asked TraceFault → Option (List ℕ) �
 Writes summary (Ok asked) old new = Appends old new asked.output × (summary.calls ≡ asked.calls) × (summary.bytes ≡ length asked.output)
 Writes summary (Err fault) old new = ⊥
 
--- a front of what was asked for was written, and nothing else
+-- a prefix of what was asked for was written, and nothing else
 abbrev pub WritesFront : Result Asked TraceFault → Option (List ℕ) → Option (List ℕ) → Type 0
 WritesFront (Ok asked) old new = AppendsFront old new asked.output
 WritesFront (Err fault) old new = ⊥
@@ -54,6 +54,6 @@ pub record IsReplay (answer : Result Summary TraceFault) (left left' written wri
   pub line : IfErr answer (λ fault. IsLineFault fault → IfSome left (λ text. (asked_of text ≡ Err fault) × IsWithinLimits text))
   -- a text is too long only where it has too many lines, or so many bytes that its end need not show
   pub too_long : IfErr answer (λ fault. fault ≡ too_long_fault → IfSome left IsTooLong)
-  -- after a fault in writing a front was written, after any other nothing
+  -- after a fault in writing a prefix was written, after any other nothing
   pub front : IfErr answer (λ fault. fault ≡ write_fault → IfSome left (λ text. WritesFront (asked_of text) written written' × IsWithinLimits text))
   pub kept : IfErr answer (λ fault. (fault ≡ write_fault → ⊥) → Keeps written written')

@@ -1,12 +1,12 @@
 -- A trace: its header and its lines, or the first faulty line.
-use Rattle.std.specs.Prelude.{All, ℕ, ◌+◌, Bool, true, false, List, [], ◌∷◌, drop, Option, Some, None, Result, Ok, Err}
+use Rattle.std.specs.Prelude.{ℕ, ◌+◌, Bool, true, false, List, [], ◌∷◌, drop, Option, Some, None, Result, Ok, Err}
 use Rattle.tlsf_trace.specs.declared.line_fault.LineFault.{LineFault}
 use Rattle.tlsf_trace.specs.declared.line_fault.LineFault.TheVariants.{BadHeader, BadLine, BadNumber, LabelOrder}
 use Rattle.tlsf_trace.specs.Pieces.{pieces_of}
 use Rattle.tlsf_trace.specs.Fields.{field, fields_in, values_in}
-use Rattle.tlsf_trace.specs.Lines.{IsLineInRange, kinds_of, line_from, word_of, words}
+use Rattle.tlsf_trace.specs.Lines.{kinds_of, line_from, word_of, words}
 use Rattle.tlsf_trace.specs.Labels.{is_in_order}
-use Rattle.tlsf_trace.specs.Header.{IsHeaderInRange, header_in}
+use Rattle.tlsf_trace.specs.Header.{header_in}
 use Rattle.tlsf_trace.specs.declared.header.Header.{Header}
 use Rattle.tlsf_trace.specs.declared.line.Line.{Line}
 
@@ -59,8 +59,3 @@ trace_of text = do
   header ← some_or (header_in (field (pieces_of text) 0)) (BadHeader, 1)
   lines ← lines_in header.workers [] 2 (drop 1 (pieces_of text))
   Ok (record { header = header; lines = lines })
-
--- each number of a trace is in its range
-pub record IsTraceInRange (trace : Trace) : Type 0 where
-  pub header : IsHeaderInRange trace.header
-  pub lines : All (IsLineInRange trace.header.workers) trace.lines

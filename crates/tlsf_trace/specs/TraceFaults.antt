@@ -1,6 +1,6 @@
 -- The faults that a replay answers, by their numbers and lines.
 use Rattle.std.specs.Prelude.{ℕ}
-use Rattle.tlsf_trace.specs.Faults.{number_of_fault}
+use Rattle.tlsf_trace.specs.LineFaults.{number_of_fault}
 use Rattle.tlsf_trace.specs.declared.line_fault.LineFault.{LineFault}
 use Rattle.tlsf_trace.specs.declared.parse_error.ParseError.{ParseError}
 use Rattle.tlsf_trace.specs.declared.parse_error.ParseError.TheVariants as parsing

@@ -1,6 +1,6 @@
 ghost use Rattle.std.specs.Prelude.{◌≡◌, ◌≤◌, IfOk, IfSome};
 ghost use Rattle.tlsf_trace.specs.Header as spelled;
-ghost use Rattle.tlsf_trace.specs.Header.{IsHeaderInRange};
+ghost use Rattle.tlsf_trace.specs.Ranges.{IsHeaderInRange};
 
 use crate::fields::fields_in;
 use crate::numbers::digits_in;

@@ -1,6 +1,7 @@
 ghost use Rattle.std.specs.Prelude.{◌≡◌, ◌+◌, ◌<◌, ◌≤◌, ◌^◌, ℕ, List, [], ◌∷◌, OnOk};
 ghost use Rattle.tlsf_trace.specs.Labels as spelled;
-ghost use Rattle.tlsf_trace.specs.Labels.{Remembers, can_make, made_of};
+ghost use Rattle.tlsf_trace.specs.Labels.{can_make, made_of};
+ghost use Rattle.tlsf_trace.specs.LabelMemory.{Remembers};
 ghost use Rattle.tlsf_trace.specs.declared.line.Line.{Line as ALine};
 ghost use Rattle.tlsf_trace.specs.declared.line.Line.TheVariants.{Allocate, Phase};
 
@@ -18,7 +19,7 @@ pub struct Labels {
 }
 
 impl Model for Labels {
-    ghost use Rattle.tlsf_trace.specs.Labels.{Memory};
+    ghost use Rattle.tlsf_trace.specs.LabelMemory.{Memory};
 
     ghost Value = { Memory };
 

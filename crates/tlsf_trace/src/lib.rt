@@ -15,10 +15,9 @@
 //! first fault, as `trace_of`, and what it asks for as `asked_of`. [`write_out`] writes a text by its known bytes.
 #![tactic(auto)]
 
-#[cfg(test)]
-mod fakes;
 mod fields;
 mod header;
+mod input;
 mod kind;
 mod labels;
 mod laws;
@@ -28,36 +27,23 @@ mod line_fault;
 mod makers;
 mod numbers;
 mod output;
-#[cfg(test)]
-mod output_tests;
 mod parse_error;
-#[cfg(test)]
-mod parse_tests;
 mod payload;
 mod pieces;
 mod read_error;
-mod reading;
-#[cfg(test)]
-mod reading_tests;
-#[cfg(test)]
-mod replay_tests;
-mod replaying;
 mod reply_lines;
 mod report_lines;
 mod script;
+mod sink;
+mod stages;
 mod summary;
 mod trace;
 mod trace_fault;
-#[cfg(test)]
-mod trace_fault_tests;
 mod value;
 mod word;
-mod writing;
-#[cfg(test)]
-mod writing_tests;
 
 pub use laws::{first_fault, pieces_join};
-pub use replaying::replay;
+pub use sink::{WriteError, write_out};
+pub use stages::replay;
 pub use summary::Summary;
 pub use trace_fault::TraceFault;
-pub use writing::{WriteError, write_out};

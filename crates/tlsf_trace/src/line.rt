@@ -1,7 +1,7 @@
 ghost use Rattle.std.specs.Prelude.{◌≡◌, ◌<◌, IfOk, IfSome, List, map, length};
-ghost use Rattle.tlsf_trace.specs.Labels.{Remembers};
+ghost use Rattle.tlsf_trace.specs.LabelMemory.{Remembers};
 ghost use Rattle.tlsf_trace.specs.Lines;
-ghost use Rattle.tlsf_trace.specs.Lines.{IsLineInRange};
+ghost use Rattle.tlsf_trace.specs.Ranges.{IsLineInRange};
 ghost use Rattle.tlsf_trace.specs.Trace as spelled;
 ghost use Rattle.tlsf_trace.specs.Views.{Gives};
 ghost use Rattle.tlsf_trace.specs.declared.line.Line.{Line as ALine};

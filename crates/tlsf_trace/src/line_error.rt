@@ -14,7 +14,7 @@ pub enum LineError {
 }
 
 impl LineError {
-    ghost use Rattle.tlsf_trace.specs.Faults.{error_at};
+    ghost use Rattle.tlsf_trace.specs.LineFaults.{error_at};
 
     /// The same error, at the line of a number counted from 1.
     pub fn at(self, line: u32) -> ParseError

@@ -16,7 +16,7 @@ pub enum LineFault {
 }
 
 impl LineFault {
-    ghost use Rattle.tlsf_trace.specs.Faults.{number_of_fault};
+    ghost use Rattle.tlsf_trace.specs.LineFaults.{number_of_fault};
 
     /// The fault's number, from 11 to 14.
     pub fn number(self) -> u32

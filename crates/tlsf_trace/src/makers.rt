@@ -1,6 +1,6 @@
 ghost use Rattle.std.specs.Prelude.{◌≡◌, ℕ, List, [], ◌∷◌, OnOk};
 ghost use Rattle.tlsf_trace.specs.Events.{target_of, width_in};
-ghost use Rattle.tlsf_trace.specs.Making.{Recalls};
+ghost use Rattle.tlsf_trace.specs.ScriptSoFar.{Recalls};
 ghost use Rattle.tlsf_trace.specs.declared.line.Line.{Line as ALine};
 ghost use Rattle.tlsf_trace.specs.declared.line.Line.TheVariants.{Allocate};
 
@@ -10,6 +10,9 @@ use std::marker::Model;
 use tlsf_crew::Target;
 
 /// The number of the event that makes each label. A contract sees the pairs of label and number, in any order.
+///
+/// The parser's [`Labels`](crate::labels::Labels) judge the order of lines, by worker and phase, and know of no events.
+/// Here the lines are good, and each counts for as many events as it stands for.
 #[derive(Drop)]
 pub struct Makers {
     made: HashMap<u32, u32>,

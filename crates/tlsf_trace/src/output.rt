@@ -1,5 +1,5 @@
 ghost use Rattle.std.specs.Prelude.{◌≡◌, ◌≤◌, IfOk, string_bytes, vec_len};
-ghost use Rattle.tlsf_trace.specs.Header.{IsHeaderInRange};
+ghost use Rattle.tlsf_trace.specs.Ranges.{IsHeaderInRange};
 ghost use Rattle.tlsf_trace.specs.Output.{output_of};
 ghost use Rattle.tlsf_trace.specs.Views.{view_trace};
 
@@ -17,10 +17,12 @@ pub(crate) fn output(alloc: Global, trace: &Trace) -> Result<String, AllocError>
     ensures { IfOk result (λ text. string_bytes text ≡ output_of (view_trace trace.now)) }
 {
     let header = trace.header;
+    // A header in its ranges is not of a bad size, so what is refused here is memory.
     let Ok(mut workers) = open_yard(alloc, header.workers, header.words, header.capacity) else {
         return Err(AllocError);
     };
     let script = Script::of(alloc, trace)?;
+    // Each target was made by an event before, and there are few events: here too memory alone is refused.
     let Ok(entries) = replay_events(alloc, &mut workers, &script.events) else {
         return Err(AllocError);
     };

@@ -1,6 +1,6 @@
 ghost use Rattle.std.specs.Prelude.{◌≡◌, IfSome};
 ghost use Rattle.tlsf_trace.specs.Payloads;
-ghost use Rattle.tlsf_trace.specs.Payloads.{IsPayload};
+ghost use Rattle.tlsf_trace.specs.Ranges.{IsPayload};
 
 use tlsf_crew::Chunk;
 

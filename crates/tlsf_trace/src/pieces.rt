@@ -3,7 +3,7 @@ ghost use Rattle.tlsf_trace.specs.Pieces.{pieces_of};
 
 /// The text up to its first line feed, that byte included, and what follows; a text without a
 /// line feed is one piece.
-#[tactic(auto, using(crate::proofs::Cutting::cut_at, crate::proofs::Cutting::not_cut))]
+#[tactic(auto, using(crate::proofs::FirstPiece::cut_at, crate::proofs::FirstPiece::not_cut))]
 pub fn cut_piece(text: &[u8]) -> (&[u8], &[u8])
     requires { 0 < length text.now }
     ensures pieces { pieces_of text.now ≡ result.0.now ∷ pieces_of result.1.now }

@@ -128,6 +128,8 @@ pub fn reply_text(
         if is_taken(entry.call) {
             write_line(&mut text, entry, None)?;
         } else {
+            // There is one such entry for each event, so a label is always left. No clause of the run says how many
+            // entries there are, and so none is asked for here.
             write_line(&mut text, entry, labels.get(next).copied().flatten())?;
             next += 1;
         }

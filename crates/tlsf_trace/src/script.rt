@@ -1,6 +1,6 @@
 ghost use Rattle.std.specs.Prelude.{◌≡◌, ℕ, ◌*◌, ◌+◌, ◌^◌, ◌<◌, ◌≤◌, List, [], ◌∷◌, ◌++◌, replicate, None, vec_len, IfOk, OnOk};
 ghost use Rattle.tlsf_trace.specs.Events.{width_in, last_drains, events_of, labels_of};
-ghost use Rattle.tlsf_trace.specs.Making.{Recalls, Adds};
+ghost use Rattle.tlsf_trace.specs.ScriptSoFar.{Recalls, Adds};
 ghost use Rattle.tlsf_trace.specs.Views.{view_trace};
 ghost use Rattle.tlsf_trace.specs.declared.line.Line.{Line as ALine};
 

@@ -1,8 +1,8 @@
 ghost use Rattle.std.specs.Prelude.{All, ◌≡◌, ◌+◌, ◌<◌, ◌≤◌, ◌^◌, [], length, vec_len, IfOk};
-ghost use Rattle.tlsf_trace.specs.Lines.{IsLineInRange};
+ghost use Rattle.tlsf_trace.specs.Ranges.{IsLineInRange};
 ghost use Rattle.tlsf_trace.specs.Pieces.{pieces_of};
 ghost use Rattle.tlsf_trace.specs.Trace as spelled;
-ghost use Rattle.tlsf_trace.specs.Trace.{IsTraceInRange};
+ghost use Rattle.tlsf_trace.specs.Ranges.{IsTraceInRange};
 ghost use Rattle.tlsf_trace.specs.Views.{GivesAt, view_trace};
 
 use crate::header::{Header, header_in};

@@ -1,6 +1,6 @@
 use crate::parse_error::ParseError;
 use crate::read_error::ReadError;
-use crate::writing::WriteError;
+use crate::sink::WriteError;
 use std::alloc::AllocError;
 
 /// Why a trace was not run to its end: the fault's number, and the line that it was found in.
@@ -15,6 +15,12 @@ use std::alloc::AllocError;
 /// | 15 | the trace has too many bytes or lines, or no end | 0 |
 /// | 16 | a read failed | 0 |
 /// | 17 | a write failed | 0 |
+///
+/// ```
+/// if let Err(fault) = replay(alloc, &mut reader, &mut writer) && fault == TraceFault::TOO_LONG {
+///     // nothing was written
+/// }
+/// ```
 #[derive(Clone, Copy, Debug, PartialEq, Eq)]
 pub struct TraceFault {
     /// The fault's number.

@@ -11,7 +11,7 @@ use Rattle.tlsf_words.specs.Lists.{nowhere, list_of, first_of, LinkedFrom, AreDi
 use Rattle.tlsf_words.proofs.FieldLaws.{low_half-links_word}
 use Rattle.tlsf_words.proofs.ListedClasses.{some-cons, some-first, listed-with, listed-same}
 use Rattle.tlsf_words.proofs.PlaceLists.{member_here, member_behind, member_cases, first_member, all_member, all_from_members}
-use Rattle.tlsf_words.proofs.Threads.{begins, head_listed, listed_within, first_small, linked-kept, with_list, NewList, NewList-list, NewList-others, NewList-threaded}
+use Rattle.tlsf_words.proofs.Threads.{head-list_of, head_listed, listed_within, first_small, linked-kept, with_list, NewList, NewList-list, NewList-others, NewList-threaded}
 
 -- the links of a place at the head, which comes before `next`
 pub record IsAtHead (w v : List ℕ) (at next : ℕ) : Type 0 where
@@ -85,23 +85,23 @@ pub record PushWrites (heads members w : List ℕ) (class at : ℕ) (new_heads n
   pub at_head : IsAtHead w v at (get_or heads class nowhere)
   pub head : get_or new_heads class nowhere ≡ at
   pub heads_kept : (c : ℕ) → c ≢ class → get_or new_heads c nowhere ≡ get_or heads c nowhere
-  pub begun : get_or heads class nowhere ≡ nowhere → new_members ≡ with_member members class
-  pub grown : get_or heads class nowhere ≢ nowhere → new_members ≡ members
+  pub was_empty : get_or heads class nowhere ≡ nowhere → new_members ≡ with_member members class
+  pub was_some : get_or heads class nowhere ≢ nowhere → new_members ≡ members
 
 module _ (heads members w : List ℕ) (class at : ℕ) (new_heads new_members v : List ℕ) (t : AreThreaded heads members w) (p : PushWrites heads members w class at new_heads new_members v) where
   abbrev old : List ℕ
   old = list_of heads w class
 
   is_head : IsAtHead w v at (first_of old)
-  is_head = subst (IsAtHead w v at) (begins heads w class) p.at_head
+  is_head = subst (IsAtHead w v at) (head-list_of heads w class) p.at_head
 
   distinct : AreDistinct (at ∷ old)
   distinct = (all_from_members (λ y. at ≢ y) old (λ y m e. p.unlisted class (subst (Contains old) (sym e) m)), t.distinct class)
 
   marked : new_members ≡ listed_classes (with_list (list_of heads w) class (at ∷ old))
   marked = elim (cases_eq (get_or heads class nowhere) nowhere) [
-    | inl none ↦ p.begun none ∙ ap (λ (ms : List ℕ). with_member ms class) t.marked ∙ listed-with (list_of heads w) class (at ∷ old) (some-cons at old)
-    | inr some ↦ p.grown some ∙ t.marked ∙ listed-same (list_of heads w) class (at ∷ old) (some-first old (λ e. some (begins heads w class ∙ e))) (some-cons at old)
+    | inl none ↦ p.was_empty none ∙ ap (λ (ms : List ℕ). with_member ms class) t.marked ∙ listed-with (list_of heads w) class (at ∷ old) (some-cons at old)
+    | inr some ↦ p.was_some some ∙ t.marked ∙ listed-same (list_of heads w) class (at ∷ old) (some-first old (λ e. some (head-list_of heads w class ∙ e))) (some-cons at old)
   ]
 
   -- no place of another list is the head or the one behind it

@@ -10,7 +10,7 @@ use Rattle.tlsf_words.specs.Ties.{AreTied}
 use Rattle.tlsf_words.proofs.FieldLaws.{low_half-links_word, high_half-links_word}
 use Rattle.tlsf_words.proofs.ListedClasses.{are_some, some-member, none-first, listed-same, listed-without}
 use Rattle.tlsf_words.proofs.PlaceLists.{last_of, Split, split_member, first_member, last_member, all_member, all_weaker, all_right, all_last, distinct_without, without_split, without_within}
-use Rattle.tlsf_words.proofs.Threads.{begins, first_small, listed_within, with_list, NewList, NewList-list, NewList-others, NewList-threaded}
+use Rattle.tlsf_words.proofs.Threads.{head-list_of, first_small, listed_within, with_list, NewList, NewList-list, NewList-others, NewList-threaded}
 
 module _ (w v : List ℕ) (small : length w ≤ 2 ^ 20) (long : length v ≡ length w) (at next previous : ℕ) (tied : AreTied w v next previous) where
   -- places that are neither neighbour keep their links
@@ -163,7 +163,7 @@ module _ (heads members w : List ℕ) (class at : ℕ) (t : AreThreaded heads me
     head : get_or new_heads class nowhere ≡ first_of (prefix ++ rest)
     head = elim (cases_eq previous nowhere) [
       | inl none ↦ r.first none ∙ r.next_is ∙ next_first ∙ ap first_of (sym (only_rest none))
-      | inr some ↦ r.later some ∙ begins heads w class ∙ ap first_of parts.2 ∙ first_kept prefix (λ e. some (r.previous_is ∙ previous_last ∙ e))
+      | inr some ↦ r.later some ∙ head-list_of heads w class ∙ ap first_of parts.2 ∙ first_kept prefix (λ e. some (r.previous_is ∙ previous_last ∙ e))
     ]
 
     left_some : are_some (prefix ++ rest) ≡ true → (previous ≡ nowhere → next ≡ nowhere → ⊥) → new_members ≡ listed_classes (with_list (list_of heads w) class (prefix ++ rest))

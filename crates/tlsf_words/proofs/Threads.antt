@@ -10,9 +10,9 @@ use Rattle.tlsf_words.proofs.FieldLaws.{low_half-links_word}
 use Rattle.tlsf_words.proofs.PlaceLists.{member_here, member_behind, first_member, all_member, all_weaker, distinct_few, without_apart}
 
 -- a list that a head begins begins there
-pub begins : (heads words : List ℕ) (class : ℕ) → get_or heads class nowhere ≡ first_of (list_of heads words class)
+pub head-list_of : (heads words : List ℕ) (class : ℕ) → get_or heads class nowhere ≡ first_of (list_of heads words class)
 unfolding list_of places_from
-begins heads words class = at_head (get_or heads class nowhere) (places_from (length words) words (low_half (get_or words (get_or heads class nowhere + 2) 0)))
+head-list_of heads words class = at_head (get_or heads class nowhere) (places_from (length words) words (low_half (get_or words (get_or heads class nowhere + 2) 0)))
   where
     at_head : (head : ℕ) (places : List ℕ) → head ≡ first_of (cond (eqb head nowhere) [] (head ∷ places))
     at_head head places = elim (eqb head nowhere) as (λ b. (eqb head nowhere ≡ b) → head ≡ first_of (cond b [] (head ∷ places))) [
@@ -50,7 +50,7 @@ linked-kept w v previous (p ∷ places) long same linked =
 -- where a list begins at a place, the list has it
 pub head_listed : (heads words : List ℕ) (class : ℕ) → get_or heads class nowhere ≢ nowhere → Contains (list_of heads words class) (get_or heads class nowhere)
 head_listed heads words class some =
-    let head = begins heads words class in
+    let head = head-list_of heads words class in
     subst (Contains (list_of heads words class)) (sym head) (first_member (list_of heads words class) (λ e. some (head ∙ e)))
 
 -- linked places have their links inside

@@ -13,7 +13,7 @@ use tlsf_class::{Class, Touches};
 pub const NO_PLACE: u32 = u32::MAX;
 
 /// For each class, by its number, the place where its list begins, `NO_PLACE` for none, and how often one of them was read or
-/// written.
+/// written. No class has a number below 4: those entries are never read, and stay so that a number needs no sum.
 #[derive(Drop)]
 pub(crate) struct Heads {
     places: [u32; 273],

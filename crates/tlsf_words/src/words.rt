@@ -329,7 +329,8 @@ impl Words {
         }
     }
 
-    /// Writes bytes into one word, from byte `first` of it on. Its other bytes stay.
+    /// Writes bytes into one word, from byte `first` of it on. Its other bytes stay. It says of each byte of the region what
+    /// becomes of it, for the invariant of the loop in `copy_in`.
     #[inline]
     fn write_piece(&mut self, place: usize, first: usize, bytes: &[u8])
         requires inside { place < length self.old.words }

@@ -1,9 +1,18 @@
+use denote.Param.Send.{sendable}
 use Rattle.std.proofs.Common.{arith}
+use Rattle.std.proofs.Crossing.{crosses}
 use Rattle.tlsf_crew.proofs.Gathering.{each_knows, gathered, gathered_rooms}
+use Rattle.tlsf_crew.proofs.Sends.{job_send, done_send}
 use Rattle.tlsf_crew.proofs.racing.run_scripts.Goals as goal
 
 pub add_jobs-requires-clause-yard : goal.add_jobs-requires-clause-yard
 add_jobs-requires-clause-yard g c = let l = c.args.workers.ok in each_knows c.len-count.result c.args.workers.items (omega (arith, c.len-count.ensures)) c.requires.yard
+
+pub run_all-requires-send-W : goal.run_all-requires-send-W
+run_all-requires-send-W g c κs within = search (sendable, crosses, job_send) depth 20
+
+pub run_all-requires-send-W-Done : goal.run_all-requires-send-W-Done
+run_all-requires-send-W-Done g c κs within = search (sendable, crosses, done_send) depth 20
 
 pub returns-clause-run : goal.returns-clause-run
 returns-clause-run g c =

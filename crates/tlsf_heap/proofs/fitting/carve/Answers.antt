@@ -49,20 +49,7 @@ pub make_live-requires-clause-room : goal.make_live-requires-clause-room
 make_live-requires-clause-room c = ready_room (ready c) c.args.len c.requires.payload
 
 left : (c : goal.After-make_live) → IsReady c.args.region.now.blocks c.args.at c.requires.fits.0 c.size-size.result c.args.words c.args.tick c.if-size-words.region.blocks (list_in c.if-size-words.region.lists)
-left c =
-    let f = c.requires.fits in
-    let fits : c.args.words ≤ c.size-size.result = omega (arith, f.3, c.size-size.ensures.value f.0 f.1) in
-    let is : IsListed c.args.region.now.blocks c.args.at c.requires.fits.0 c.size-size.result c.class_of.result c.args.tick (list_in c.size-size.new.self.lists) =
-    is_listed c.requires.fits c.size-size.ensures.value c.class_of.ensures c.requires.sized c.requires.stamped c.requires.listed c.size-size.ensures.reads.lists in
-    let same = c.remove.ensures.blocks ∙ c.size-size.ensures.reads.blocks in
-    elim c.if-size-words.branch [
-      | then-size-words w ↦ ready_as c.if-size-words.region w.push.new.self w.region-is
-          (ready_split is (list_in c.remove.new.self.lists) c.remove.ensures.list c.remove.ensures.others c.args.words c.remove.new.self.blocks w.split.new.self.blocks w.if-size-words.true c.requires.least
-          same w.split.ensures.blocks w.push.new.self.blocks w.push.ensures.blocks w.class_of-then-size-words.result (list_in w.split.new.self.lists) (list_in w.push.new.self.lists)
-          w.class_of-then-size-words.ensures w.split.ensures.lists w.push.ensures.list w.push.ensures.others)
-      | else-size-words w ↦ ready_as c.if-size-words.region c.remove.new.self w.region-is
-          (ready_whole is (list_in c.remove.new.self.lists) c.remove.ensures.list c.remove.ensures.others c.args.words c.remove.new.self.blocks fits (omega (arith, w.if-size-words.false)) same)
-    ]
+left c = ready c.before
 
 pub returns-clause-blocks : goal.returns-clause-blocks
 returns-clause-blocks c =

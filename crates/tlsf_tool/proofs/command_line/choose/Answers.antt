@@ -5,7 +5,7 @@ use Rattle.clap.specs.Words.{FailsBy}
 use Rattle.tlsf_tool.specs.CommandLine.{Asks, faults_of}
 use Rattle.tlsf_tool.specs.declared.command_line.Choice.TheVariants.{Classes}
 use Rattle.tlsf_tool.proofs.NamedCommands.{replay_fails}
-use Rattle.tlsf_tool.proofs.Choosing.{asks_classes, asks_replay}
+use Rattle.tlsf_tool.proofs.ChosenCommands.{asks_classes, asks_replay}
 use Rattle.tlsf_tool.proofs.command_line.choose.Goals as goal
 
 pub returns-in_err-matches-clause-replay : goal.returns-in_err-matches-clause-replay

@@ -1,6 +1,6 @@
 use Rattle.std.proofs.Common.{inl, inr}
-use Rattle.tlsf_tool.proofs.Choosing.{classes_differ}
-use Rattle.tlsf_tool.proofs.Endings.{answer_ends, answer_lacks}
+use Rattle.tlsf_tool.proofs.ChosenCommands.{classes_differ}
+use Rattle.tlsf_tool.proofs.RunEnds.{answer_ends, answer_lacks}
 use Rattle.tlsf_tool.proofs.run.run.Goals as goal
 
 pub returns-in-Err-clause-ends : goal.returns-in-Err-clause-ends

@@ -1,4 +1,4 @@
-use Rattle.tlsf_trace.proofs.Joining.{are_pieces}
+use Rattle.tlsf_trace.proofs.PiecesJoin.{are_pieces}
 use Rattle.tlsf_trace.proofs.laws.pieces_join.Goals as goal
 
 pub returns : goal.returns

@@ -1,4 +1,4 @@
-use Rattle.tlsf_trace.proofs.Cutting.{NoFeeds}
+use Rattle.tlsf_trace.proofs.FirstPiece.{NoFeeds}
 use Rattle.tlsf_trace.proofs.pieces.cut_piece.Given as goal
 
 abbrev pub invariant-loop-i : goal.invariant-loop-i

@@ -1,8 +1,8 @@
 use Rattle.std.proofs.Common.{◌≡◌, ◌+◌, ◌++◌, ◌∷◌, [], rules, arith, length}
 use Rattle.tlsf_trace.specs.Pieces.{pieces_of}
 use Rattle.std.proofs.lemmas.List.Elements.{All-push}
-use Rattle.tlsf_trace.specs.Lines.{IsLineInRange}
-use Rattle.tlsf_trace.proofs.Judging.{goes_on, ends, is_done}
+use Rattle.tlsf_trace.specs.Ranges.{IsLineInRange}
+use Rattle.tlsf_trace.proofs.LineSteps.{goes_on, ends, is_done}
 use Rattle.tlsf_trace.proofs.trace.lines_in.Goals as goal
 
 pub returns-in-Err-clause-lines : goal.returns-in-Err-clause-lines

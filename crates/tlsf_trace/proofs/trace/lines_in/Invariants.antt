@@ -1,17 +1,17 @@
 use Rattle.std.proofs.Common.{All, ◌≡◌, ◌+◌, ◌<◌, ◌≤◌, List, [], length, vec_len}
-use Rattle.tlsf_trace.specs.Lines.{IsLineInRange}
-use Rattle.tlsf_trace.specs.Labels.{Remembers}
+use Rattle.tlsf_trace.specs.Ranges.{IsLineInRange}
+use Rattle.tlsf_trace.specs.LabelMemory.{Remembers}
 use Rattle.tlsf_trace.specs.Pieces.{pieces_of}
 use Rattle.tlsf_trace.specs.Trace.{lines_in}
 use Rattle.tlsf_trace.specs.declared.line.Line.{Line}
-use Rattle.tlsf_trace.proofs.Judging.{with_front}
+use Rattle.tlsf_trace.proofs.LineSteps.{with_lines}
 use Rattle.tlsf_trace.proofs.trace.lines_in.Given as goal
 
 -- the lines so far, and those that the rest gives after them, are those of all
 abbrev pub invariant-loop-rest : goal.invariant-loop-rest
 invariant-loop-rest l = record {
   so_far : (before : List Line) × Remembers l.labels before
-      × (with_front l.lines.items (lines_in l.workers before l.number (pieces_of l.rest)) ≡ lines_in l.workers [] 2 (pieces_of l.text));
+      × (with_lines l.lines.items (lines_in l.workers before l.number (pieces_of l.rest)) ≡ lines_in l.workers [] 2 (pieces_of l.text));
   numbers : l.number + length l.rest ≤ 2 + length l.text;
   phases : l.labels.phase < l.number;
   ranges : All (IsLineInRange l.workers) l.lines.items;

@@ -1,5 +1,5 @@
 use Rattle.std.proofs.Common.{rules}
-use Rattle.tlsf_trace.proofs.Empty.{empty_text}
+use Rattle.tlsf_trace.proofs.EmptyText.{empty_text}
 use Rattle.tlsf_trace.proofs.trace.parse.Goals as goal
 
 pub returns-then-is_empty-clause-trace : goal.returns-then-is_empty-clause-trace

@@ -1,7 +1,6 @@
-use Rattle.std.proofs.Common.{sym, ◌∙◌, arith, map, Bor, []}
+use Rattle.std.proofs.Common.{sym, ◌∙◌, arith, map}
 use Rattle.std.proofs.lemmas.List.{length-map}
-use Rattle.tlsf_trace.specs.declared.kind.Kind.TheVariants.{Worker}
-use Rattle.tlsf_trace.proofs.Values.{other_length, goes_on, stops}
+use Rattle.tlsf_trace.proofs.FieldValues.{other_length, goes_on, stops}
 use Rattle.tlsf_trace.proofs.value.values_in.Goals as goal
 
 pub returns-then-kinds-fields : goal.returns-then-kinds-fields

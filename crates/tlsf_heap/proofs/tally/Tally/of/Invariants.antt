@@ -1,4 +1,4 @@
-use Rattle.std.proofs.Common.{◌≡◌, ◌≤◌, ◌*◌, ◌-◌}
+use Rattle.std.proofs.Common.{◌≡◌, ◌*◌, ◌-◌}
 use Rattle.tlsf_heap.specs.Regions.{OnlyReads}
 use Rattle.tlsf_heap.specs.Tallies.{IsTallyUpTo}
 use Rattle.tlsf_heap.proofs.tally.Tally.of.Given as goal

@@ -1,4 +1,4 @@
-use Rattle.tlsf_trace.proofs.Remembering.{phase_ends}
+use Rattle.tlsf_trace.proofs.LabelSteps.{phase_ends}
 use Rattle.tlsf_trace.proofs.labels.Labels.end_phase.Goals as goal
 
 pub returns-clause-remembers : goal.returns-clause-remembers

@@ -1,4 +1,4 @@
-use Rattle.tlsf_trace.proofs.Remembering.{label_made}
+use Rattle.tlsf_trace.proofs.LabelSteps.{label_made}
 use Rattle.tlsf_trace.proofs.labels.Labels.make.Goals as goal
 
 pub returns-clause-ok : goal.returns-clause-ok

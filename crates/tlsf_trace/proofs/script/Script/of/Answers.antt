@@ -3,7 +3,7 @@ use Rattle.std.proofs.lemmas.List.{at_drop_more, length-append}
 use Rattle.tlsf_trace.specs.Events.{events_from, labels_from, events_in}
 use Rattle.tlsf_trace.specs.declared.line.Line.{Line}
 use Rattle.tlsf_trace.specs.declared.line.Line.TheVariants.{Allocate}
-use Rattle.tlsf_trace.proofs.Scripting.{width_is, width_most, events_go_on, labels_go_on}
+use Rattle.tlsf_trace.proofs.ScriptSteps.{width_is, width_most, events_go_on, labels_go_on}
 use Rattle.tlsf_trace.proofs.script.Script.of.Goals as goal
 
 pub loop-line-init : goal.loop-line-init

@@ -1,6 +1,6 @@
 use Rattle.std.proofs.Common.{◌≡◌, ◌*◌, ◌≤◌, ◌++◌, [], List, drop, vec_len}
 use Rattle.tlsf_trace.specs.Events.{width_in, events_from, labels_from}
-use Rattle.tlsf_trace.specs.Making.{Recalls}
+use Rattle.tlsf_trace.specs.ScriptSoFar.{Recalls}
 use Rattle.tlsf_trace.specs.declared.line.Line.{Line}
 use Rattle.tlsf_trace.proofs.script.Script.of.Given as goal
 

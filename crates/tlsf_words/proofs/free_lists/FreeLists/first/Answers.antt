@@ -1,7 +1,7 @@
 use Rattle.std.proofs.Common.{◌≡◌, ◌≢◌, ℕ, List, [], ◌∷◌, Some, sym, ap, ◌∙◌, get_or}
 use Rattle.std.specs.List.{slice_get}
 use Rattle.tlsf_words.specs.Lists.{ListHeads, nowhere, list_of, first_of}
-use Rattle.tlsf_words.proofs.Threads.{begins, list_of-nowhere}
+use Rattle.tlsf_words.proofs.Threads.{head-list_of, list_of-nowhere}
 use Rattle.tlsf_words.proofs.free_lists.FreeLists.first.Goals as goal
 use Rattle.tlsf_words.proofs.free_lists.FreeLists.first.Goals.{then-at, else-at}
 
@@ -15,5 +15,5 @@ returns-clause-place c = λ words t.
     let head : c.place-at.result ≡ get_or c.args.self.now.heads c.args.class nowhere = c.place-at.ensures.value ∙ ap (λ (f : ListHeads). get_or f.heads c.args.class nowhere) c.self.view_is in
     elim c.if-at.branch [
       | then-at w ↦ w.result-is ∙ ap (λ (ps : List ℕ). slice_get ps 0) (sym (list_of-nowhere c.args.self.now.heads words c.args.class (sym head ∙ w.if-at.true)))
-      | else-at w ↦ w.result-is ∙ sym (first_got (list_of c.args.self.now.heads words c.args.class) c.place-at.result (head ∙ begins c.args.self.now.heads words c.args.class) w.if-at.false)
+      | else-at w ↦ w.result-is ∙ sym (first_got (list_of c.args.self.now.heads words c.args.class) c.place-at.result (head ∙ head-list_of c.args.self.now.heads words c.args.class) w.if-at.false)
     ]

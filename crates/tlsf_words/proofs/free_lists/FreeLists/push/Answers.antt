@@ -35,8 +35,8 @@ writes_to_empty c =
           (IsAtHead-alone c.args.words.now.words c.set_links.new.self.words c.args.at c.place-next.result c.requires.inside c.set_links.ensures.words c.if-next.true);
       head = c.set_place.ensures.value;
       heads_kept = λ k n. c.set_place.ensures.others k n ∙ ap (λ (ps : List ℕ). get_or ps k nowhere) c.place-next.ensures.places ∙ ap (head_of k) c.self.view_is;
-      begun = λ _. c.set.ensures.members ∙ ap (λ (f : ListHeads). with_member f.members c.args.class) c.self.view_is;
-      grown = λ some. absurd (some (sym head ∙ c.if-next.true));
+      was_empty = λ _. c.set.ensures.members ∙ ap (λ (f : ListHeads). with_member f.members c.args.class) c.self.view_is;
+      was_some = λ some. absurd (some (sym head ∙ c.if-next.true));
     }
 
 -- and where it had places
@@ -56,8 +56,8 @@ writes_to_more c =
           c.if-next.false c.set_links.ensures.words c.set_previous.ensures.words);
       head = c.set_place.ensures.value;
       heads_kept = λ k n. c.set_place.ensures.others k n ∙ ap (λ (ps : List ℕ). get_or ps k nowhere) c.place-next.ensures.places ∙ ap (head_of k) c.self.view_is;
-      begun = λ none. absurd (c.if-next.false (head ∙ none));
-      grown = λ _. ap (λ (f : ListHeads). f.members) c.self.view_is;
+      was_empty = λ none. absurd (c.if-next.false (head ∙ none));
+      was_some = λ _. ap (λ (f : ListHeads). f.members) c.self.view_is;
     }
 
 pub returns-then-next-clause-threaded : goal.returns-then-next-clause-threaded

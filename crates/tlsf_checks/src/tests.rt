@@ -1,0 +1,19 @@
+//! Tests of public calls: what no contract says, and no stored case shows.
+
+mod classes;
+mod fakes;
+mod heaps;
+mod lane_threads;
+mod lanes;
+mod lists;
+mod locked_heaps;
+mod payloads;
+mod races;
+mod replays;
+mod same;
+mod texts;
+mod trace_faults;
+mod words;
+mod workers;
+mod writing;
+mod yards;

@@ -1,0 +1,43 @@
+-- A step of the loop over lines.
+use Rattle.std.proofs.Common.{◌≡◌, ℕ, ◌+◌, List, [], ◌∷◌, ◌++◌, length, Result, Ok, Err, refl, sym, ap, ◌∙◌, append_assoc, append-nil}
+use Rattle.tlsf_trace.specs.declared.line_fault.LineFault.{LineFault}
+use Rattle.tlsf_trace.specs.declared.line_error.LineError.{LineError}
+use Rattle.tlsf_trace.specs.declared.line_error.LineError.TheVariants.{NoMemory, Fault}
+use Rattle.tlsf_trace.specs.Views.{Fails, FailsAt}
+use Rattle.tlsf_trace.specs.LineFaults.{error_at}
+use Rattle.tlsf_trace.specs.declared.line.Line.{Line}
+use Rattle.tlsf_trace.specs.Trace.{◌>>=◌, line_in, lines_in}
+use Rattle.tlsf_trace.specs.Pieces.{pieces_of}
+use Rattle.std.proofs.lemmas.List.{nil_from_length}
+
+abbrev pub with_lines : List Line → Result (List Line) (LineFault × ℕ) → Result (List Line) (LineFault × ℕ)
+with_lines prefix (Ok lines) = Ok (prefix ++ lines)
+with_lines prefix (Err fault) = Err fault
+
+regroup : (prefix : List Line) (line : Line) (rest : Result (List Line) (LineFault × ℕ)) → with_lines prefix (rest >>= λ lines. Ok (line ∷ lines)) ≡ with_lines (prefix ++ line ∷ []) rest
+regroup prefix line (Ok lines) = ap (λ (ls : List Line). Ok ls) (sym (append_assoc prefix (line ∷ []) lines))
+regroup prefix line (Err fault) = refl
+
+module _ (workers : ℕ) (before prefix : List Line) (n : ℕ) (rest : List ℕ) (total : Result (List Line) (LineFault × ℕ))
+    (so_far : with_lines prefix (lines_in workers before n (pieces_of rest)) ≡ total) where
+  pub goes_on : (piece after : List ℕ) (line : Line) → pieces_of rest ≡ piece ∷ pieces_of after → line_in workers before piece ≡ Ok line
+      → with_lines (prefix ++ line ∷ []) (lines_in workers (line ∷ before) (n + 1) (pieces_of after)) ≡ total
+  unfolding lines_in
+  goes_on piece after line cut judged =
+      let one : with_lines prefix (lines_in workers before n (pieces_of rest)) ≡ with_lines (prefix ++ line ∷ []) (lines_in workers (line ∷ before) (n + 1) (pieces_of after)) =
+      rw (cut, judged) (regroup prefix line (lines_in workers (line ∷ before) (n + 1) (pieces_of after))) in
+      sym one ∙ so_far
+
+  pub ends : (error : LineError) (piece after : List ℕ) → pieces_of rest ≡ piece ∷ pieces_of after → Fails error (line_in workers before piece) → FailsAt (error_at error n) total
+  unfolding lines_in
+  ends NoMemory piece after cut judged = tt
+  ends (Fault fault) piece after cut judged =
+      let one : with_lines prefix (lines_in workers before n (pieces_of rest)) ≡ Err (fault, n) = rw (cut, judged) refl in
+      sym so_far ∙ one
+
+  pub is_done : length rest ≡ 0 → total ≡ Ok prefix
+  unfolding lines_in
+  is_done none =
+      let one : with_lines prefix (lines_in workers before n (pieces_of rest)) ≡ Ok prefix =
+      rw (nil_from_length rest none) (ap (λ (ls : List Line). Ok ls) (append-nil prefix)) in
+      sym so_far ∙ one

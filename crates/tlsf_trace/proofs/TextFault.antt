@@ -1,0 +1,26 @@
+-- The fault that a text has instead of a trace.
+use Rattle.std.proofs.Common.{◌≡◌, ◌⊎◌, inl, inr, ℕ, ◌≤◌, List, Err, refl, ap, arith}
+use Rattle.tlsf_trace.specs.Replay.{IsLineFault, asked_by, asked_of}
+use Rattle.tlsf_trace.specs.Trace.{trace_of}
+use Rattle.tlsf_trace.specs.TraceFaults.{fault_of_parse, no_memory_fault}
+use Rattle.tlsf_trace.specs.Views.{FailsAt}
+use Rattle.tlsf_trace.specs.declared.line_fault.LineFault.{LineFault}
+use Rattle.tlsf_trace.specs.declared.parse_error.ParseError.{ParseError}
+use Rattle.tlsf_trace.specs.declared.parse_error.ParseError.TheVariants as parsing
+use Rattle.tlsf_trace.specs.declared.trace_fault.TraceFault.{TraceFault}
+use Rattle.tlsf_trace.proofs.FirstFault.{is_first}
+
+-- a fault of a line comes from line 1 on
+line_of_fault : (text : List ℕ) (fault : LineFault) (line : ℕ) → trace_of text ≡ Err (fault, line) → 1 ≤ line
+line_of_fault text fault line h = elim (is_first text fault line h) [
+  | inl header ↦ omega (arith, header.line_is)
+  | inr behind ↦ omega (arith, behind.line_is)
+]
+
+-- what is known of a fault that a text came to
+abbrev pub IsAskedFault : List ℕ → TraceFault → Type 0
+IsAskedFault text fault = (fault ≡ no_memory_fault) ⊎ (IsLineFault fault × (asked_of text ≡ Err fault))
+
+pub asked_fault : (error : ParseError) (text : List ℕ) → FailsAt error (trace_of text) → IsAskedFault text (fault_of_parse error)
+asked_fault parsing.NoMemory text h = inl refl
+asked_fault (parsing.At fault line) text h = inr ((fault, line, line_of_fault text fault line h, refl), ap asked_by h)
