@@ -128,8 +128,8 @@ impl Bitmaps {
 impl Default for Bitmaps {
     ghost is_default = { λ bitmaps. (bitmaps.members ≡ []) × (bitmaps.touches ≡ 0) };
 
-    /// The empty set, as `new` gives it. Types that hold a set of classes can so derive their own `Default`; only tests
-    /// here call it.
+    /// The empty set, as `new` gives it. Types that hold a set of classes can so derive their own `Default`; no crate of
+    /// this repository calls it but for tests.
     ///
     /// ```
     /// let bitmaps = Bitmaps::default();

@@ -60,7 +60,7 @@ rest_knows (x ∷ es) r target name e = rest_knows es (after r x) target name (a
 
 -- ---- one event
 
-called_told : (made : List (Option Name)) (r : Replayed) (at : ℕ) (call : Call) → at < length r.world.heaps → Knows made r.made → ToldOnce made r (called r at call) (TellsCall at r.made call)
+pub called_told : (made : List (Option Name)) (r : Replayed) (at : ℕ) (call : Call) → at < length r.world.heaps → Knows made r.made → ToldOnce made r (called r at call) (TellsCall at r.made call)
 called_told made r at (Allocate len) at_in known =
     record { own = _; name = _; entries = refl; names = refl; tells = record { reply = _; name_is = refl; unmade = allocate_unmade r.world at len; whole = refl }; history = allocate_told made r.world at len at_in }
 called_told made r at (Release target) at_in known =

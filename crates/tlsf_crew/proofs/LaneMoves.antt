@@ -19,6 +19,7 @@ use Rattle.tlsf_crew.specs.Workers.{id_of, end_to, end_from, PutTo, TookFrom}
 use Rattle.tlsf_crew.specs.Counts.{sum_below}
 use Rattle.tlsf_crew.specs.History.{posts_made, posts_taken, post_made, post_taken}
 use Rattle.tlsf_crew.specs.World.{name_of}
+use Rattle.tlsf_crew.specs.Notes.{OneFewer}
 use Rattle.tlsf_crew.specs.Moves.{one, Sends, Takes, Spent, Moved}
 use Rattle.tlsf_crew.proofs.Keeping.{put_keeps, take_keeps}
 use Rattle.tlsf_crew.proofs.LaneCalls.{of_same, of_other}
@@ -75,7 +76,7 @@ none_free a v j post back p put is =
       | inr le ↦ omega (arith, ap free_slots q)
     ]
 
-posted_same : (at : ℕ) (made : List (Option Name)) (target : Target) (name : Name) → name_of made target ≡ Some name
+pub posted_same : (at : ℕ) (made : List (Option Name)) (target : Target) (name : Name) → name_of made target ≡ Some name
     → posts_made at name.heap made (one at (Release target) Posted) ≡ record { from = at; name = name } ∷ []
 posted_same at made target name known =
     let e : Entry = record { worker = at; call = Release target; reply = Posted } in
@@ -202,13 +203,13 @@ still_empty at a v i took = record {
 }
 
 -- the take of a post, whatever its heap answers
-taken_same : (at i : ℕ) (t : Took) → posts_taken i at (one at (Take i) (Taken t)) ≡ record { from = t.from; name = t.name } ∷ []
+pub taken_same : (at i : ℕ) (t : Took) → posts_taken i at (one at (Take i) (Taken t)) ≡ record { from = t.from; name = t.name } ∷ []
 taken_same at i t =
     let e : Entry = record { worker = at; call = Take i; reply = Taken t } in
     let own : (i == i) ≡ true = grind (arith, nat_tests) in
     told_own (λ e. post_taken i e.call e.reply) at e refl ∙ rw own refl
 
-taken_other : (at i k : ℕ) (t : Took) → k ≢ i → posts_taken k at (one at (Take i) (Taken t)) ≡ []
+pub taken_other : (at i k : ℕ) (t : Took) → k ≢ i → posts_taken k at (one at (Take i) (Taken t)) ≡ []
 taken_other at i k t ne =
     let e : Entry = record { worker = at; call = Take i; reply = Taken t } in
     let other : (i == k) ≡ false = grind (arith, nat_tests) in
@@ -234,17 +235,13 @@ take_takes at a v i t took k end is = elim (cases_eq k i) [
       record { end = end; end_is = took.others k e ∙ is; waited = refl; taken = rw m (sym (append-nil (taken end))); ready = rw m ([], append-nil (ready end)) }
 ]
 
--- one fewer may be taken from i
-abbrev pub OneFewer : List ℕ → ℕ → List ℕ → Type 0
-OneFewer limits i left = (slice_index left i + 1 ≡ slice_index limits i) × ((k : ℕ) → k ≢ i → slice_index left k ≡ slice_index limits k)
-
 taken_left : (at : ℕ) (limits left : List ℕ) (i : ℕ) (t : Took) → OneFewer limits i left → (k : ℕ) → slice_index left k + length (posts_taken k at (one at (Take i) (Taken t))) ≡ slice_index limits k
 taken_left at limits left i t fewer k = elim (cases_eq k i) [
   | inl e ↦ let m = ap length (taken_same at i t) in let f = fewer.0 in rw e (omega arith)
   | inr e ↦ omega (arith, ap length (taken_other at i k t e), fewer.1 k e)
 ]
 
-sum_has : (n : ℕ) (f : ℕ → ℕ) (i : ℕ) → i < n → f i ≤ sum_below n f
+pub sum_has : (n : ℕ) (f : ℕ → ℕ) (i : ℕ) → i < n → f i ≤ sum_below n f
 sum_has zero f i lt = absurd (omega arith)
 sum_has (suc n) f i lt = elim (cases_eq i n) [
   | inl e ↦ let q = ap f e in omega arith

@@ -1,5 +1,5 @@
 -- The last drains of a race, worker after worker.
-use Rattle.std.proofs.Common.{[], ◌∷◌, ◌++◌, ◌≡◌, ◌≢◌, ℕ, ◌+◌, ◌*◌, ◌<◌, ◌≤◌, List, Option, Some, None, length, map, set, get_or, sym, ◌∙◌, ap, subst, arith, refl, inl, inr, append-nil, get_or-set_same, get_or-set_other}
+use Rattle.std.proofs.Common.{[], ◌∷◌, ◌++◌, ◌≡◌, ◌≢◌, ℕ, ◌+◌, ◌*◌, ◌<◌, ◌≤◌, List, Option, Some, None, length, map, set, get_or, sym, ◌∙◌, ap, subst, arith, refl, inl, inr, append-nil, length-append, get_or-set_same, get_or-set_other}
 use Rattle.std.proofs.lemmas.Bool.{cases_eq, cases_lt}
 use Rattle.std.proofs.lemmas.List.{length-map, length-set, map-set}
 use Rattle.std.proofs.lemmas.Option.{slice_get_within, slice_get-map, get_or_from_slice_get}
@@ -14,10 +14,14 @@ use Rattle.tlsf_post.specs.declared.post.Post.{Post}
 use Rattle.tlsf_crew.specs.declared.worker.Worker.{Worker}
 use Rattle.tlsf_crew.specs.declared.entry.Entry.{Entry}
 use Rattle.tlsf_crew.specs.Yard.{IsYard, yard_heap, post_at, take_at, lane_waits, capacity_in}
-use Rattle.tlsf_crew.specs.World.{World, Replayed, world_of, drained_all, draining}
+use Rattle.tlsf_crew.specs.World.{World, Replayed, world_of, made_by, called, drained_all, draining}
 use Rattle.tlsf_crew.specs.Counts.{sum_below}
 use Rattle.tlsf_crew.specs.History.{posts_made, posts_taken}
-use Rattle.tlsf_crew.specs.Leaving.{drain_of, replay_of}
+use Rattle.tlsf_crew.specs.Leaving.{drain_of, replay_of, IsReplied}
+use Rattle.tlsf_crew.specs.declared.event.Event.{Event}
+use Rattle.tlsf_crew.specs.declared.reply.Reply.{Reply}
+use Rattle.tlsf_crew.specs.declared.reply.Reply.TheVariants.{Drained}
+use Rattle.tlsf_crew.proofs.EventSteps.{after_near}
 use Rattle.tlsf_crew.specs.Races.{MayTell, last_call, record_of}
 use Rattle.tlsf_crew.specs.Racing.{waits_in, HasFew, HasLastRoom, LastTold, LastDrained}
 use Rattle.tlsf_crew.proofs.OneEvent.{heaps_count}
@@ -45,6 +49,39 @@ last_room ws es at yard few =
     let a = (last_out ws es at yard few).entries in
     let b = sum_longer (length ws) 8 (λ x. length (waits_in ws x at)) yard.few in
     omega arith
+
+-- the event of the last drain, and what it is told
+last_replied : (ws vs : List Worker) (made : List (Option Name)) (es fs : List Entry) (at : ℕ) (reply : Reply) → at < length ws
+    → IsReplied (replay_of made es ws) (record { worker = at; call = last_call }) fs vs reply
+    → draining (replay_of made es ws) at 8192 ≡ replay_of (made ++ made_by reply ∷ []) (fs ++ record { worker = at; call = last_call; reply = reply } ∷ []) vs
+last_replied ws vs made es fs at reply lt told =
+    let n = heaps_count ws in
+    let event : Event = record { worker = at; call = last_call } in
+    sym (after_near (replay_of made es ws) event last_call (omega arith) refl) ∙ told.after
+
+pub last_fits : (ws vs : List Worker) (made : List (Option Name)) (es fs : List Entry) (at : ℕ) (reply : Reply) → IsYard ws → HasFew ws at → at < length ws
+    → IsReplied (replay_of made es ws) (record { worker = at; call = last_call }) fs vs reply → length fs ≤ length es + sum_below 8 (λ i. length (waits_in ws i at))
+unfolding draining
+last_fits ws vs made es fs at reply yard few lt told =
+    let d = drained_all at 8192 (drain_of es ws 0) in
+    let last : Entry = record { worker = at; call = last_call; reply = Drained d.taken } in
+    let entry : Entry = record { worker = at; call = last_call; reply = reply } in
+    let e : d.entries ++ last ∷ [] ≡ fs ++ entry ∷ [] = ap (λ (x : Replayed). x.entries) (last_replied ws vs made es fs at reply lt told) in
+    let a = sym (length-append d.entries (last ∷ [])) ∙ (ap length e ∙ length-append fs (entry ∷ [])) in
+    let b = last_room ws es at yard few in
+    omega arith
+
+pub last_told : (ws vs : List Worker) (es fs : List Entry) (at : ℕ) (reply : Reply) → at < length ws → IsReplied (replay_of [] es ws) (record { worker = at; call = last_call }) fs vs reply
+    → (made : List (Option Name)) → replay_of (made ++ None ∷ []) (fs ++ record { worker = at; call = last_call; reply = reply } ∷ []) vs ≡ called (replay_of made es ws) at last_call
+unfolding draining
+last_told ws vs es fs at reply lt told made =
+    let d = drained_all at 8192 (drain_of es ws 0) in
+    let last : Entry = record { worker = at; call = last_call; reply = Drained d.taken } in
+    let entry : Entry = record { worker = at; call = last_call; reply = reply } in
+    let all = last_replied ws vs [] es fs at reply lt told in
+    let e : d.entries ++ last ∷ [] ≡ fs ++ entry ∷ [] = ap (λ (x : Replayed). x.entries) all in
+    let w : d.world ≡ world_of vs = ap (λ (x : Replayed). x.world) all in
+    sym (λ k. record { made = made ++ None ∷ []; entries = e k; world = w k })
 
 -- ---- one drain
 

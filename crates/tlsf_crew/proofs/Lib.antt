@@ -47,3 +47,4 @@ pub mod LastDrains
 pub mod Gathering
 pub mod Nowhere
 pub mod Raced
+pub mod Exact

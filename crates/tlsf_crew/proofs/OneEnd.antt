@@ -60,39 +60,3 @@ takes_set ws i j b w t is new others same =
             | inr xj ↦ rw (get_set_other ws j x w xj) refl
           ];
     }
-
-pub poster_change : (vs : List Worker) (i j : ℕ) (a v : Worker) (p q : PostEnd) (t : TakeEnd) → slice_get vs i ≡ Some a → end_to a j ≡ Some p
-    → end_to v j ≡ Some q → ((k : ℕ) → k ≢ j → end_to v k ≡ end_to a k) → (heap_of v ≡ heap_of a) × (own_numbers v ≡ own_numbers a) × (end_from v ≡ end_from a)
-    → take_at vs i j ≡ Some t → IsLane q t → capacity_of q ≡ capacity_of p → LaneChange vs (set vs i v) i j p t q t
-poster_change vs i j a v p q t is p_is new others same t_is lane same_capacity =
-    let there = posts_set vs i j a v q is new others same.2 in
-    record {
-      post_is = rw is p_is;
-      take_is = t_is;
-      new_post_is = there.here;
-      new_take_is = there.takes i j ∙ t_is;
-      same = λ x y away. (there.others x y away, there.takes x y);
-      heaps = map_same heap_of vs i a v is same.0;
-      numbers = map_same own_numbers vs i a v is same.1;
-      len = length-set vs i v;
-      lane = lane;
-      capacity = same_capacity;
-    }
-
-pub taker_change : (vs : List Worker) (i j : ℕ) (b w : Worker) (p : PostEnd) (t u : TakeEnd) → slice_get vs j ≡ Some b → end_from b i ≡ Some t
-    → end_from w i ≡ Some u → ((k : ℕ) → k ≢ i → end_from w k ≡ end_from b k) → (heap_of w ≡ heap_of b) × (own_numbers w ≡ own_numbers b) × (end_to w ≡ end_to b)
-    → post_at vs i j ≡ Some p → IsLane p u → LaneChange vs (set vs j w) i j p t p u
-taker_change vs i j b w p t u is t_is new others same p_is lane =
-    let there = takes_set vs i j b w u is new others same.2 in
-    record {
-      post_is = p_is;
-      take_is = rw is t_is;
-      new_post_is = there.posts i j ∙ p_is;
-      new_take_is = there.here;
-      same = λ x y away. (there.posts x y, there.others x y away);
-      heaps = map_same heap_of vs j b w is same.0;
-      numbers = map_same own_numbers vs j b w is same.1;
-      len = length-set vs j w;
-      lane = lane;
-      capacity = refl;
-    }

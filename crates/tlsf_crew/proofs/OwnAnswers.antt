@@ -24,26 +24,23 @@ use Rattle.tlsf_crew.specs.Workers.{heap_of, id_of, end_to, SameButHeap, HasPost
 use Rattle.tlsf_crew.specs.Calls.{KeepsYards, by_heap, freed_by, posted_by, ReleasedHere, ReleasedThere}
 use Rattle.tlsf_crew.specs.Running.{KnowsYard}
 use Rattle.tlsf_crew.specs.World.{World, Replied, heap_in, name_of, freeing, posting, releasing, releasing_named, writing, writing_named, reading, reading_named, reply_freed, reply_wrote, reply_got}
+use Rattle.tlsf_crew.specs.Races.{HasHeap}
 use Rattle.tlsf_crew.specs.Moves.{one, IsAnswer, Answered}
 use Rattle.tlsf_crew.proofs.Histories.{more_knows}
 use Rattle.tlsf_crew.proofs.Keeping.{same_keeps}
 use Rattle.tlsf_crew.proofs.LaneMoves.{moved_post, none_free, still_full}
 use Rattle.tlsf_crew.proofs.OneEvent.{releasing_post, releasing_far}
 use Rattle.tlsf_crew.proofs.OneMove.{IsIdle, moved_still, moved_idle}
-use Rattle.tlsf_crew.proofs.Witnesses.{a_world, empty_world, world_has, heap_left, answered_quiet}
+use Rattle.tlsf_crew.proofs.Witnesses.{heap_left, answered_quiet}
 
 -- ---- what refuses
 
 -- the worker itself refuses, and nothing changes
-itself_told : (n : ℕ) (a : Worker) (reply : Reply) (by : World → Replied) → KnowsYard n a
-    → ((w : World) → length w.heaps ≡ n → by w ≡ record { reply = reply; world = w }) → IsAnswer n a a reply by
-itself_told n a reply by k is =
-    let w = empty_world n (id_of a) (heap_of a) in
-    let has = world_has n (id_of a) (heap_of a) (λ i. []) 1 k.self in
-    let e = is w has.0 in
+itself_told : (n : ℕ) (a : Worker) (reply : Reply) (by : World → Replied) (w : World) → HasHeap w n (id_of a) (heap_of a)
+    → (length w.heaps ≡ n → by w ≡ record { reply = reply; world = w }) → IsAnswer (id_of a) a reply (by w)
+itself_told n a reply by w has is =
+    let e = is has.0 in
     record {
-      world = w;
-      heap = has;
       reply = ap (λ r. r.reply) (sym e);
       left = sym has.1 ∙ ap (λ r. heap_in r.world (id_of a)) (sym e);
     }
@@ -52,7 +49,7 @@ pub itself_answered : (made : List (Option Name)) (a : Worker) (limits : List �
     → ((later : List (Option Name)) → IsIdle (id_of a) later a limits [] (record { worker = id_of a; call = call; reply = reply }))
     → ((n : ℕ) → KnowsYard n a → (w : World) → length w.heaps ≡ n → by w ≡ record { reply = reply; world = w }) → Answered made a limits call a limits reply by
 itself_answered made a limits call reply by idle is =
-    answered_quiet made a a limits call reply by (refl, refl, refl) (same_keeps a) idle (λ n k. itself_told n a reply by k (is n k))
+    answered_quiet made a a limits call reply by (refl, refl, refl) (same_keeps a) idle (λ n k w has s. itself_told n a reply by w has (is n k w))
 
 refused_release : (at : ℕ) (later : List (Option Name)) (a : Worker) (limits : List ℕ) (target : Target) (why : CrewRefusal) → ((name : Name) → why ≢ Full name)
     → IsIdle at later a limits [] (record { worker = at; call = Release target; reply = Refused why })
@@ -85,55 +82,43 @@ freed_idle at later a limits target (Err why) = refused_release at later a limit
 own_name : (w : World) (at : ℕ) (name : Name) → name.heap ≡ at → releasing w at name ≡ freeing w at name
 own_name w at name e = let b : (name.heap == at) ≡ true = grind (arith, nat_tests) in rw b refl
 
-freed_here : (n : ℕ) (a v : Worker) (name : Name) → heap_of v ≡ (heap.released (heap_of a) name).heap → name.heap ≡ id_of a → KnowsYard n a
-    → IsAnswer n a v (reply_freed (heap.released (heap_of a) name).answer) (λ w. releasing w (id_of a) name)
+freed_here : (n : ℕ) (a v : Worker) (name : Name) → heap_of v ≡ (heap.released (heap_of a) name).heap → name.heap ≡ id_of a → KnowsYard n a → (w : World) → HasHeap w n (id_of a) (heap_of a)
+    → IsAnswer (id_of a) v (reply_freed (heap.released (heap_of a) name).answer) (releasing w (id_of a) name)
 unfolding released
-freed_here n a v name h own k =
+freed_here n a v name h own k w has =
     let at = id_of a in
-    let w = empty_world n at (heap_of a) in
-    let has = world_has n at (heap_of a) (λ i. []) 1 k.self in
     let e = own_name w at name own in
     record {
-      world = w;
-      heap = has;
       reply = ap (λ g. reply_freed (heap.released g name).answer) (sym has.1) ∙ ap (λ r. r.reply) (sym e);
       left = h ∙ (ap (λ g. (heap.released g name).heap) (sym has.1) ∙ (sym (heap_left n at w (heap_of a) (heap.released (heap_in w at) name).heap k.self has)
           ∙ ap (λ r. heap_in r.world at) (sym e)));
     }
 
-posted_world : (w : World) (at : ℕ) (name : Name) → w.waiting at name.heap ≡ [] → w.capacity ≡ 1 → ((posting w at name).reply ≡ Posted) × (heap_in (posting w at name).world at ≡ heap_in w at)
+posted_world : (w : World) (at : ℕ) (name : Name) → length (w.waiting at name.heap) ≢ w.capacity → ((posting w at name).reply ≡ Posted) × (heap_in (posting w at name).world at ≡ heap_in w at)
 unfolding posting
-posted_world w at name none one = let b : (length (w.waiting at name.heap) == w.capacity) ≡ false = rw (none, one) refl in (rw b refl, rw b refl)
+posted_world w at name ne = let b : (length (w.waiting at name.heap) == w.capacity) ≡ false = grind (arith, nat_tests) in (rw b refl, rw b refl)
 
-full_world : (w : World) (at : ℕ) (name : Name) → w.waiting at name.heap ≡ [] → w.capacity ≡ 0 → posting w at name ≡ record { reply = Refused (Full name); world = w }
+full_world : (w : World) (at : ℕ) (name : Name) → length (w.waiting at name.heap) ≡ w.capacity → posting w at name ≡ record { reply = Refused (Full name); world = w }
 unfolding posting
-full_world w at name none zero = let b : (length (w.waiting at name.heap) == w.capacity) ≡ true = rw (none, zero) refl in rw b refl
+full_world w at name e = let b : (length (w.waiting at name.heap) == w.capacity) ≡ true = grind (arith, nat_tests) in rw b refl
 
-posted_there : (n : ℕ) (a v : Worker) (name : Name) → heap_of v ≡ heap_of a → name.heap ≢ id_of a → name.heap < n → KnowsYard n a
-    → IsAnswer n a v Posted (λ w. releasing w (id_of a) name)
-posted_there n a v name h ne lt k =
+posted_there : (n : ℕ) (a v : Worker) (name : Name) → heap_of v ≡ heap_of a → name.heap ≢ id_of a → name.heap < n → (w : World) → HasHeap w n (id_of a) (heap_of a)
+    → length (w.waiting (id_of a) name.heap) ≢ w.capacity → IsAnswer (id_of a) v Posted (releasing w (id_of a) name)
+posted_there n a v name h ne lt w has room =
     let at = id_of a in
-    let w = empty_world n at (heap_of a) in
-    let has = world_has n at (heap_of a) (λ i. []) 1 k.self in
     let e = releasing_post w at name ne (omega (arith, has.0)) in
-    let p = posted_world w at name refl refl in
+    let p = posted_world w at name room in
     record {
-      world = w;
-      heap = has;
       reply = sym p.0 ∙ ap (λ r. r.reply) (sym e);
       left = h ∙ (sym has.1 ∙ (sym p.1 ∙ ap (λ r. heap_in r.world at) (sym e)));
     }
 
-full_there : (n : ℕ) (a v : Worker) (name : Name) → heap_of v ≡ heap_of a → name.heap ≢ id_of a → name.heap < n → KnowsYard n a
-    → IsAnswer n a v (Refused (Full name)) (λ w. releasing w (id_of a) name)
-full_there n a v name h ne lt k =
+full_there : (n : ℕ) (a v : Worker) (name : Name) → heap_of v ≡ heap_of a → name.heap ≢ id_of a → name.heap < n → (w : World) → HasHeap w n (id_of a) (heap_of a)
+    → length (w.waiting (id_of a) name.heap) ≡ w.capacity → IsAnswer (id_of a) v (Refused (Full name)) (releasing w (id_of a) name)
+full_there n a v name h ne lt w has full =
     let at = id_of a in
-    let w = a_world n at (heap_of a) (λ i. []) 0 in
-    let has = world_has n at (heap_of a) (λ i. []) 0 k.self in
-    let e = releasing_post w at name ne (omega (arith, has.0)) ∙ full_world w at name refl refl in
+    let e = releasing_post w at name ne (omega (arith, has.0)) ∙ full_world w at name full in
     record {
-      world = w;
-      heap = has;
       reply = ap (λ r. r.reply) (sym e);
       left = h ∙ (sym has.1 ∙ ap (λ r. heap_in r.world at) (sym e));
     }
@@ -154,7 +139,7 @@ here_answered made a v limits target name answer yard own here =
     let e : reply_released answer ≡ reply_freed o = ap reply_released here.answer_is ∙ freed_reply o in
     subst (λ r. Answered made a limits (Release target) v limits r (λ w. releasing w (id_of a) name)) (sym e)
     (answered_quiet made a v limits (Release target) (reply_freed o) (λ w. releasing w (id_of a) name) here.same yard (λ later. freed_idle (id_of a) later a limits target o)
-    (λ n k. freed_here n a v name here.heap own k))
+    (λ n k w has s. freed_here n a v name here.heap own k w has))
 
 full_idle : (at : ℕ) (later : List (Option Name)) (a v : Worker) (limits : List ℕ) (target : Target) (name : Name) (post back : Post) → PutTo a v name.heap post (Err back)
     → IsIdle at later a limits [] (record { worker = at; call = Release target; reply = Refused (Full name) })
@@ -169,11 +154,11 @@ put_answered : (made : List (Option Name)) (a v : Worker) (limits : List ℕ) (t
     → name.heap ≢ id_of a → PutTo a v name.heap (record { from = id_of a; name = name }) put
     → Answered made a limits (Release target) v limits (reply_released (posted_by name put)) (λ w. releasing w (id_of a) name)
 put_answered made a v limits target name (Ok done) known ne put = record {
-  told = λ n k. let x = (k.to name.heap).0 (put.end, put.end_is) in posted_there n a v name put.same.0 ne x.0 k;
+  told = λ n k w has s. let x = (k.to name.heap).0 (put.end, put.end_is) in posted_there n a v name put.same.0 ne x.0 w has (s.room target name refl known ne (omega (arith, x.0, has.0)) refl);
   moved = λ rest. moved_post (id_of a) (made ++ rest) a v limits target name done (more_knows made rest target name known) refl put;
 }
 put_answered made a v limits target name (Err back) known ne put = record {
-  told = λ n k. let x = (k.to name.heap).0 (put.end, put.end_is) in full_there n a v name put.same.0 ne x.0 k;
+  told = λ n k w has s. let x = (k.to name.heap).0 (put.end, put.end_is) in full_there n a v name put.same.0 ne x.0 w has (s.full target name refl known ne (omega (arith, x.0, has.0)) refl);
   moved = λ rest.
       let post : Post = record { from = id_of a; name = name } in
       moved_idle (id_of a) (made ++ rest) a v limits limits [] _ (Release target)
@@ -259,15 +244,12 @@ write_unmade made a limits target from bytes none =
     (λ later. refused_write (id_of a) from bytes later a limits target Unmade (λ name e. cc)) (λ n k w e. refl))
 
 written_here : (n : ℕ) (a v : Worker) (name : Name) (from : ℕ) (bytes : List ℕ) → heap_of v ≡ (heap.written (heap_of a) name from bytes).heap → KnowsYard n a
-    → IsAnswer n a v (reply_wrote (length bytes) (heap.written (heap_of a) name from bytes).answer) (λ w. writing w (id_of a) name from bytes)
+    → (w : World) → HasHeap w n (id_of a) (heap_of a)
+    → IsAnswer (id_of a) v (reply_wrote (length bytes) (heap.written (heap_of a) name from bytes).answer) (writing w (id_of a) name from bytes)
 unfolding written
-written_here n a v name from bytes h k =
+written_here n a v name from bytes h k w has =
     let at = id_of a in
-    let w = empty_world n at (heap_of a) in
-    let has = world_has n at (heap_of a) (λ i. []) 1 k.self in
     record {
-      world = w;
-      heap = has;
       reply = ap (λ g. reply_wrote (length bytes) (heap.written g name from bytes).answer) (sym has.1);
       left = h ∙ (ap (λ g. (heap.written g name from bytes).heap) (sym has.1) ∙ sym (heap_left n at w (heap_of a) (heap.written (heap_in w at) name from bytes).heap k.self has));
     }
@@ -282,7 +264,7 @@ write_answered made a v limits target name from bytes list reply known are same 
     (subst (λ l. Answered made a limits (Write target from bytes) v limits reply (λ w. writing w (id_of a) name from l)) are
     (subst (λ r. Answered made a limits (Write target from bytes) v limits r (λ w. writing w (id_of a) name from list)) (sym e)
     (answered_quiet made a v limits (Write target from bytes) (reply_wrote (length list) o) (λ w. writing w (id_of a) name from list) same yard
-    (λ later. wrote_idle (id_of a) from (length list) bytes later a limits target o) (λ n k. written_here n a v name from list h k))))
+    (λ later. wrote_idle (id_of a) from (length list) bytes later a limits target o) (λ n k w has s. written_here n a v name from list h k w has))))
 
 pub wrote_ok : (o : Result (Unit {0}) Refusal) (done : Unit {0}) (n : ℕ) → Ok done ≡ by_heap o → Wrote n ≡ reply_wrote n o
 wrote_ok (Ok x) done n e = refl
@@ -320,14 +302,10 @@ read_unmade made a limits target from n none =
     (itself_answered made a limits (Read target from n) (Refused Unmade) (λ w. reading_named w (id_of a) None from n)
     (λ later. refused_read (id_of a) from n later a limits target Unmade (λ name e. cc)) (λ m k w e. refl))
 
-read_here : (m : ℕ) (a v : Worker) (name : Name) (from n : ℕ) → heap_of v ≡ heap_of a → KnowsYard m a
-    → IsAnswer m a v (reply_got (chunk_read (heap_of a) name from n)) (λ w. reading w (id_of a) name from n)
-read_here m a v name from n h k =
-    let w = empty_world m (id_of a) (heap_of a) in
-    let has = world_has m (id_of a) (heap_of a) (λ i. []) 1 k.self in
+read_here : (m : ℕ) (a v : Worker) (name : Name) (from n : ℕ) → heap_of v ≡ heap_of a → (w : World) → HasHeap w m (id_of a) (heap_of a)
+    → IsAnswer (id_of a) v (reply_got (chunk_read (heap_of a) name from n)) (reading w (id_of a) name from n)
+read_here m a v name from n h w has =
     record {
-      world = w;
-      heap = has;
       reply = ap (λ g. reply_got (chunk_read g name from n)) (sym has.1);
       left = h ∙ sym has.1;
     }
@@ -340,10 +318,12 @@ read_answered made a v limits target name from n reply known same yard e h =
     subst (λ o. Answered made a limits (Read target from n) v limits reply (λ w. reading_named w (id_of a) o from n)) known
     (subst (λ r. Answered made a limits (Read target from n) v limits r (λ w. reading w (id_of a) name from n)) (sym e)
     (answered_quiet made a v limits (Read target from n) (reply_got o) (λ w. reading w (id_of a) name from n) same yard
-    (λ later. got_idle (id_of a) from n later a limits target o) (λ m k. read_here m a v name from n h k)))
+    (λ later. got_idle (id_of a) from n later a limits target o) (λ m k w has s. read_here m a v name from n h w has)))
 
-pub got_ok : (o : Result Chunk Refusal) (bytes : Chunk) → Ok bytes ≡ o → Got bytes ≡ reply_got o
-got_ok o bytes e = ap reply_got e
+pub got_ok : (o : Result Chunk Refusal) (bytes : Chunk) → Ok bytes ≡ by_heap o → Got bytes ≡ reply_got o
+got_ok (Ok x) bytes e = let q : bytes ≡ x = cc in ap Got q
+got_ok (Err why) bytes e = cc
 
-pub got_err : (o : Result Chunk Refusal) (why : Refusal) → Err why ≡ o → Refused (Heap why) ≡ reply_got o
-got_err o why e = ap reply_got e
+pub got_err : (o : Result Chunk Refusal) (why : CrewRefusal) → Err why ≡ by_heap o → Refused why ≡ reply_got o
+got_err (Ok x) why e = cc
+got_err (Err x) why e = let q : why ≡ Heap x = cc in ap Refused q

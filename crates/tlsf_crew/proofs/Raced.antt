@@ -37,11 +37,11 @@ use Rattle.tlsf_crew.proofs.Nowhere.{tells_none}
 
 -- ---- a settled lane
 
-met_waits : (ws vs : List Worker) (i j : ℕ) → (m : MetIn ws vs i j) → waits_in vs i j ≡ waited m.new_take
+pub met_waits : (ws vs : List Worker) (i j : ℕ) → (m : MetIn ws vs i j) → waits_in vs i j ≡ waited m.new_take
 met_waits ws vs i j m = rw (m.new_post_is, m.new_take_is) (waits_after m.post m.take m.new_post m.new_take m.meets)
 
 -- its free slots and what waits are its capacity
-met_room : (ws vs : List Worker) (i j : ℕ) → i < length vs → j < length vs → i ≢ j → IsYard vs → (m : MetIn ws vs i j)
+pub met_room : (ws vs : List Worker) (i j : ℕ) → i < length vs → j < length vs → i ≢ j → IsYard vs → (m : MetIn ws vs i j)
     → free_slots m.new_post + length (waits_in vs i j) ≡ capacity_in vs
 met_room ws vs i j i_in j_in ne yard m =
     let h = yard.lanes i j i_in j_in ne in
@@ -74,7 +74,7 @@ capacity_kept (a ∷ ws) (v ∷ vs) scripts rs run =
     let r = run.ran 0 a refl in
     ap (λ (x : ℕ × ℕ). x.1) (ap own_numbers (some_same v r.0 r.1) ∙ r.2.numbers)
 
-capacity_same : (ws vs : List Worker) → world_of vs ≡ world_of ws → capacity_in vs ≡ capacity_in ws
+pub capacity_same : (ws vs : List Worker) → world_of vs ≡ world_of ws → capacity_in vs ≡ capacity_in ws
 unfolding world_of
 capacity_same ws vs e = ap (λ (w : World). w.capacity) e
 
@@ -82,7 +82,7 @@ heap_same : (ws vs : List Worker) → world_of vs ≡ world_of ws → (j : ℕ) 
 unfolding world_of
 heap_same ws vs e j = ap (λ (w : World). get_or w.heaps j (yard_heap [] 0)) e
 
-waits_same : (ws vs : List Worker) → world_of vs ≡ world_of ws → (i j : ℕ) → waits_in vs i j ≡ waits_in ws i j
+pub waits_same : (ws vs : List Worker) → world_of vs ≡ world_of ws → (i j : ℕ) → waits_in vs i j ≡ waits_in ws i j
 unfolding world_of
 waits_same ws vs e i j = ap (λ (w : World). w.waiting i j) e
 

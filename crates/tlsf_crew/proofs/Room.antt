@@ -15,11 +15,16 @@ use Rattle.tlsf_crew.specs.declared.reply.Reply.TheVariants.{Drained, Refused}
 use Rattle.tlsf_crew.specs.declared.crew_refusal.CrewRefusal.TheVariants.{Stranger}
 use Rattle.tlsf_crew.specs.Bytes.{bytes_of}
 use Rattle.tlsf_crew.specs.Heaps.{allocated, released, written}
-use Rattle.tlsf_crew.specs.World.{World, Replied, Replayed, with_heap, with_waiting, heap_in, posting, releasing, releasing_named, writing_named, reading_named, taking, taking_next, took_first, took, took_more, Draining, drained_lane, drained_below, drained_all, draining, answered, called, after, begun, replies, name_of}
-use Rattle.tlsf_crew.specs.Counts.{waiting_in, is_release, releases_in}
+use Rattle.tlsf_crew.specs.World.{World, world_of, Replied, Replayed, with_heap, with_waiting, heap_in, posting, releasing, releasing_named, writing_named, reading_named, taking, taking_next, took_first, took, took_more, Draining, drained_lane, drained_below, drained_all, draining, answered, called, after, begun, replies, name_of}
+use Rattle.tlsf_crew.specs.Counts.{sum_below, waiting_in, is_release, releases_in}
 use Rattle.tlsf_crew.proofs.Worlds.{edited_same}
-use Rattle.tlsf_crew.proofs.OneEvent.{releasing_post, releasing_far, taking_lane, taking_own, taking_far, from_other, from_own}
+use Rattle.tlsf_crew.proofs.OneEvent.{heaps_count, releasing_post, releasing_far, taking_lane, taking_own, taking_far, from_other, from_own}
 use Rattle.tlsf_crew.proofs.EventSteps.{after_far, after_near, replies_is}
+use Rattle.tlsf_crew.specs.declared.worker.Worker.{Worker}
+use Rattle.tlsf_crew.specs.Yard.{IsYard}
+use Rattle.tlsf_crew.specs.Racing.{waits_in}
+use Rattle.tlsf_crew.proofs.LaneMoves.{sum_has}
+use Rattle.tlsf_crew.proofs.LastDrains.{none_wait, none_for}
 use Rattle.tlsf_crew.proofs.Pending.{edited_sum}
 
 heap_waits : (w : World) (at : ℕ) (h : HeapState) → waiting_in (with_heap w at h) ≡ waiting_in w
@@ -168,16 +173,37 @@ after_room r e =
       | inr ge ↦ rw (after_far r e ge) (answered_room r e.worker e.call (record { reply = Refused Stranger; world = r.world }) (omega arith))
     ]
 
-all_room : (es : List Event) (r : Replayed) → length (fold after r es).entries ≤ length r.entries + waiting_in r.world + length es + releases_in es
-all_room [] r = omega arith
-all_room (e ∷ es) r =
+all_room : (k : ℕ) (es : List Event) (r : Replayed) → k ≤ length es
+    → length (fold after r (take k es)).entries + waiting_in (fold after r (take k es)).world ≤ length r.entries + waiting_in r.world + k + releases_in es
+all_room zero es r le = omega arith
+all_room (suc k) [] r le = absurd (omega arith)
+all_room (suc k) (e ∷ es) r le =
     let a = after_room r e in
-    let b = all_room es (after r e) in
+    let b = all_room k es (after r e) (omega arith) in
     let c : releases_in (e ∷ es) ≡ later e.call + releases_in es = sum_by-cons (λ x. later x.call) e es in
     omega arith
 
-pub replies_room : (w : World) (es : List Event) → length (replies w es).entries ≤ length es + releases_in es + waiting_in w
-replies_room w es =
-    let a = all_room es (begun w) in
-    let e = ap (λ r. length r.entries) (replies_is w es) in
-    omega arith
+-- the entries of the first events, and what waits then
+pub so_far : (k : ℕ) (es : List Event) (w : World) → k ≤ length es
+    → length (fold after (begun w) (take k es)).entries + waiting_in (fold after (begun w) (take k es)).world ≤ k + releases_in es + waiting_in w
+so_far k es w le = let a = all_room k es (begun w) le in omega arith
+
+-- what waits for one worker is no more than what waits in the yard
+pub worker_waits : (ws : List Worker) (at : ℕ) → IsYard ws → sum_below 8 (λ i. length (waits_in ws i at)) ≤ waiting_in (world_of ws)
+unfolding world_of waiting_in
+worker_waits ws at yard =
+    let n = heaps_count ws in
+    elim (cases_lt at (length ws)) [
+      | inl lt ↦
+          let few = past_sum (length ws) (λ i. length (waits_in ws i at)) 8 yard.few (λ i ge. ap length (none_wait ws i at yard (λ _. ge))) in
+          let all = sum_has (length ws) (λ j. sum_below (length ws) (λ i. length (waits_in ws i j))) at lt in
+          rw n (omega arith)
+      | inr ge ↦ let none = past_sum 0 (λ i. length (waits_in ws i at)) 8 (omega arith) (λ i _. ap length (none_for ws i at yard ge)) in omega arith
+    ]
+  where
+    past_sum : (n : ℕ) (f : ℕ → ℕ) (k : ℕ) → n ≤ k → ((i : ℕ) → n ≤ i → f i ≡ 0) → sum_below k f ≡ sum_below n f
+    past_sum n f zero le none = let z : n ≡ 0 = omega arith in rw z refl
+    past_sum n f (suc k) le none = elim (cases_eq n (suc k)) [
+      | inl e ↦ rw e refl
+      | inr ne ↦ let a = past_sum n f k (omega arith) none in let b = none k (omega arith) in omega arith
+    ]

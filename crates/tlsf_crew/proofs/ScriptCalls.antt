@@ -13,10 +13,12 @@ use Rattle.tlsf_crew.specs.declared.call.Call.{Call}
 use Rattle.tlsf_crew.specs.declared.reply.Reply.{Reply}
 use Rattle.tlsf_crew.specs.Workers.{heap_of, id_of, end_from}
 use Rattle.tlsf_crew.specs.World.{World, Replied, answered, called, heap_in, made_by}
-use Rattle.tlsf_crew.specs.Races.{Told, MayTell, MayTellAll, told_by, untold}
+use Rattle.tlsf_crew.specs.Races.{Told, MayTell, MayTellAll, HasHeap, told_by, untold}
+use Rattle.tlsf_crew.specs.declared.call.Call.TheVariants.{Drain}
+use Rattle.tlsf_crew.proofs.Witnesses.{a_suit}
 use Rattle.tlsf_crew.specs.Running.{KnowsYard, sum_of, Ran}
 use Rattle.tlsf_crew.specs.History.{posts_taken}
-use Rattle.tlsf_crew.specs.Moves.{one, Moved, Spent, Answered, Stepped, Called}
+use Rattle.tlsf_crew.specs.Moves.{one, Moved, Spent, Suits, Answered, Stepped, Called}
 use Rattle.tlsf_crew.proofs.Moves.{moved_then, moved_room}
 use Rattle.tlsf_crew.proofs.LaneTakes.{moved_none}
 
@@ -26,14 +28,20 @@ answer_told : (at : ℕ) (made : List (Option Name)) (es : List Entry) (w : Worl
 answer_told at made es w call reply h x e g = rw (e, g) refl
 
 pub single_stepped : (n : ℕ) (a v : Worker) (limits left : List ℕ) (call : Call) (made : List (Option Name)) (es : List Entry) (reply : Reply) (by : World → Replied) → KnowsYard n a
-    → ((w : World) → called (record { made = made; entries = es; world = w }) (id_of a) call ≡ answered (record { made = made; entries = es; world = w }) (id_of a) call (by w))
+    → ((most : ℕ) → call ≡ Drain most → ⊥) → ((w : World) → called (record { made = made; entries = es; world = w }) (id_of a) call ≡ answered (record { made = made; entries = es; world = w }) (id_of a) call (by w))
     → Answered made a limits call v left reply by → Stepped n a limits call made es v left es reply
-single_stepped n a v limits left call made es reply by k is x =
-    let t = x.told n k in
+single_stepped n a v limits left call made es reply by k single is x =
+    let told_in : (w : World) → HasHeap w n (id_of a) (heap_of a) → Suits w (id_of a) made call reply
+    → told_by (id_of a) (called (record { made = made; entries = es; world = w }) (id_of a) call) ≡ record { made = made ++ made_by reply ∷ []; entries = es ++ one (id_of a) call reply; heap = heap_of v } =
+    λ w has s. let t = x.told n k w has s in ap (told_by (id_of a)) (is w) ∙ answer_told (id_of a) made es w call reply (heap_of v) (by w) t.reply t.left in
+    let some = a_suit n a made call reply k.self in
     record {
       own = [];
       entries_are = sym (append-nil es);
-      told = (t.world, t.heap, ap (told_by (id_of a)) (is t.world) ∙ answer_told (id_of a) made es t.world call reply (heap_of v) (by t.world) t.reply t.left);
+      told = (some.0, some.1, told_in some.0 some.1 some.2);
+      exact = λ w has s. told_in w has s.one;
+      single = λ _. refl;
+      each = λ most e. absurd (single most e);
       moved = x.moved;
     }
 

@@ -3,10 +3,10 @@ use Rattle.std.proofs.Common.{◌≡◌, ◌≢◌, ℕ, ◌+◌, ◌<◌, ◌�
 use Rattle.std.proofs.lemmas.Bool.{cases_eq}
 use Rattle.tlsf_crew.specs.declared.worker.Worker.{Worker}
 use Rattle.tlsf_crew.specs.Settling.{MetIn}
-use Rattle.tlsf_crew.specs.LaneSteps.{LaneStep, SameLane, RowMet, RowsMet}
+use Rattle.tlsf_crew.specs.LaneSteps.{LaneStep, SameLane, RowMet, RowsMet, ColumnMet}
 use Rattle.tlsf_crew.proofs.Slots.{settled, step_same, same_then}
 
-step_meets : (ws vs : List Worker) (i j : ℕ) → i ≢ j → LaneStep ws i j vs → MetIn ws vs i j
+pub step_meets : (ws vs : List Worker) (i j : ℕ) → i ≢ j → LaneStep ws i j vs → MetIn ws vs i j
 step_meets ws vs i j ne s =
     let c = settled ws vs i j ne s in
     record {
@@ -88,4 +88,32 @@ rows_step ws vs us i a r =
             | inr n ↦ met_then ws vs us x y (a.done x y (omega arith) inside ne) (r.same x y (λ e. absurd (n e)))
           ];
       same = λ x y low. same_then ws vs us x y (a.same x y (omega arith)) (r.same x y (λ e. absurd (omega arith)));
+    }
+
+-- ---- the lanes to one worker
+
+pub column_first : (ws : List Worker) (j : ℕ) → ColumnMet ws ws 0 j
+column_first ws j = record { len = refl; done = λ x lt ne. absurd (omega arith); same = λ x y low. (refl, refl) }
+
+-- one lane more
+pub column_step : (ws vs us : List Worker) (i j : ℕ) → ColumnMet ws vs i j → i ≢ j → LaneStep vs i j us → ColumnMet ws us (i + 1) j
+column_step ws vs us i j r ne s =
+    record {
+      len = (settled vs us i j ne s).len ∙ r.len;
+      done = λ x lt apart.
+          elim (cases_eq x i) [
+            | inl e ↦ rw e (then_met ws vs us i j (r.same i j (λ _. omega arith)) (step_meets vs us i j ne s))
+            | inr n ↦ met_then ws vs us x j (r.done x (omega arith) apart) (step_same vs us i j x j ne s (λ e _. n e))
+          ];
+      same = λ x y low.
+          same_then ws vs us x y (r.same x y (λ e. let h : i + 1 ≤ x = low e in omega arith))
+          (step_same vs us i j x y ne s (λ e f. let h : i + 1 ≤ x = low f in omega arith));
+    }
+
+pub column_skip : (ws vs : List Worker) (i j : ℕ) → ColumnMet ws vs i j → i ≡ j → ColumnMet ws vs (i + 1) j
+column_skip ws vs i j r e =
+    record {
+      len = r.len;
+      done = λ x lt apart. let n : x ≢ i = λ f. apart (f ∙ e) in r.done x (omega arith) apart;
+      same = λ x y low. r.same x y (λ f. let h : i + 1 ≤ x = low f in omega arith);
     }

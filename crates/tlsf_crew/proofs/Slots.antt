@@ -121,25 +121,6 @@ settled ws vs i j ne s =
       capacity = m.meets.capacity;
     }
 
--- the two workers after their lane was settled
-pub first_is : (ws vs : List Worker) (i j : ℕ) → i ≢ j → (s : LaneStep ws i j vs) → slice_get vs i ≡ Some s.v
-first_is ws vs i j ne s = rw s.after (got_first ws i j s.v s.w ne (slice_get_within ws i s.a s.a_is))
-
-pub second_is : (ws vs : List Worker) (i j : ℕ) → (s : LaneStep ws i j vs) → slice_get vs j ≡ Some s.w
-second_is ws vs i j s = rw s.after (got_second ws i j s.v s.w (slice_get_within ws j s.b s.b_is))
-
-pub first_has : (ws vs : List Worker) (i j : ℕ) → (s : LaneStep ws i j vs) → slice_get s.v.posts.items j ≡ Some (Some s.met.new_post)
-first_has ws vs i j s =
-    let m = s.met in
-    let j_post : j < length s.a.posts.items = slice_get_within s.a.posts.items j (Some m.post) m.post_is in
-    rw m.posts (get_set_same s.a.posts.items j (Some m.new_post) j_post)
-
-pub second_has : (ws vs : List Worker) (i j : ℕ) → (s : LaneStep ws i j vs) → slice_get s.w.takes.items i ≡ Some (Some s.met.new_take)
-second_has ws vs i j s =
-    let m = s.met in
-    let i_take : i < length s.b.takes.items = slice_get_within s.b.takes.items i (Some m.take) m.take_is in
-    rw m.takes (get_set_same s.b.takes.items i (Some m.new_take) i_take)
-
 pub some_same : {X : Type 0} (x y : X) → Some x ≡ Some y → x ≡ y
 some_same x y e = cc
 

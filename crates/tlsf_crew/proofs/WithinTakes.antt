@@ -20,17 +20,19 @@ use Rattle.tlsf_crew.specs.Heaps.{released}
 use Rattle.tlsf_crew.specs.Workers.{heap_of, id_of, TookFrom}
 use Rattle.tlsf_crew.specs.Calls.{AfterTake, TakenFrom}
 use Rattle.tlsf_crew.specs.Running.{KnowsYard}
+use Rattle.tlsf_crew.specs.Races.{HasHeap}
 use Rattle.tlsf_crew.specs.World.{World, Replied, heap_in, taking, taking_next, took, took_first}
 use Rattle.tlsf_crew.specs.Leaving.{reply_took}
 use Rattle.tlsf_crew.specs.Moves.{one, Spent, Moved, IsAnswer, Answered, TookWithin, took_by}
 use Rattle.tlsf_crew.proofs.Keeping.{heap_keeps, same_keeps}
-use Rattle.tlsf_crew.proofs.LaneMoves.{OneFewer, moved_take, spent_none, still_empty}
+use Rattle.tlsf_crew.proofs.LaneMoves.{moved_take, spent_none, still_empty}
+use Rattle.tlsf_crew.specs.Notes.{OneFewer}
 use Rattle.tlsf_crew.proofs.Moves.{moved_then}
 use Rattle.tlsf_crew.proofs.OneEvent.{taking_far, taking_lane, taking_own}
 use Rattle.tlsf_crew.proofs.OneMove.{Still, IsIdle, moved_still, moved_idle, still_heap}
 use Rattle.tlsf_crew.proofs.OwnAnswers.{itself_answered}
 use Rattle.tlsf_crew.proofs.OwnHeaps.{call_keeps}
-use Rattle.tlsf_crew.proofs.Witnesses.{a_world, world_has, heap_left}
+use Rattle.tlsf_crew.proofs.Witnesses.{heap_left}
 
 -- ---- under the limit
 
@@ -137,38 +139,36 @@ first_world : (w : World) (at from : ℕ) (posts : List Post) → w.waiting from
 unfolding taking_next
 first_world w at from posts e = ap (took_first w at from) e
 
--- as in the world in which these posts wait
-first_told : (n : ℕ) (a v : Worker) (from : ℕ) (posts : List Post) (reply : Reply) (by : World → Replied) → KnowsYard n a
-    → ((w : World) → length w.heaps ≡ n → heap_in w (id_of a) ≡ heap_of a → w.waiting from (id_of a) ≡ posts → (reply ≡ (by w).reply) × (heap_of v ≡ heap_in (by w).world (id_of a))) → IsAnswer n a v reply by
-first_told n a v from posts reply by k is =
-    let w = a_world n (id_of a) (heap_of a) (λ i. posts) 1 in
-    let has = world_has n (id_of a) (heap_of a) (λ i. posts) 1 k.self in
-    let e = is w has.0 has.1 refl in
-    record { world = w; heap = has; reply = e.0; left = e.1 }
-
 -- a lane that is there for one count of workers is there for the other
 is_near : (n m : ℕ) (a : Worker) (from : ℕ) → KnowsYard n a → KnowsYard m a → from ≢ id_of a → from < n → from < m
 is_near n m a from known k ne lt = let x = (k.from from).0 ((known.from from).1 (lt, ne)) in x.0
 
-took_world : (n : ℕ) (a v : Worker) (from : ℕ) (p : Post) (w : World) → heap_of v ≡ (released (heap_of a) p.name).heap → id_of a < n → length w.heaps ≡ n → heap_in w (id_of a) ≡ heap_of a
-    → (Taken (took_by (heap_of a) p) ≡ (took w (id_of a) from p []).reply) × (heap_of v ≡ heap_in (took w (id_of a) from p []).world (id_of a))
-took_world n a v from p w h lt len here = (
-  ap (λ g. Taken (took_by g p)) (sym here),
-  h ∙ (ap (λ g. (released g p.name).heap) (sym here) ∙ sym (heap_left n (id_of a) w (heap_of a) (released (heap_in w (id_of a)) p.name).heap lt (len, here))),
-)
+took_world : (n : ℕ) (a v : Worker) (from : ℕ) (p : Post) (rest : List Post) (w : World) → heap_of v ≡ (released (heap_of a) p.name).heap → id_of a < n → HasHeap w n (id_of a) (heap_of a)
+    → IsAnswer (id_of a) v (Taken (took_by (heap_of a) p)) (took w (id_of a) from p rest)
+took_world n a v from p rest w h lt has = record {
+  reply = ap (λ g. Taken (took_by g p)) (sym has.1);
+  left = h ∙ (ap (λ g. (released g p.name).heap) (sym has.1) ∙ sym (heap_left n (id_of a) w (heap_of a) (released (heap_in w (id_of a)) p.name).heap lt has));
+}
 
 pub take_answered : (made : List (Option Name)) (n : ℕ) (a v : Worker) (limits left : List ℕ) (from : ℕ) (answer : Option Took) → KnowsYard n a → from ≢ id_of a → from < n → TookWithin a limits from v left answer
     → Answered made a limits (Take from) v left (reply_took answer) (λ w. taking w (id_of a) from)
 take_answered made n a v limits left from None known ne lt t = record {
-  told = λ m k. first_told m a v from [] Empty (λ w. taking w (id_of a) from) k (λ w len here waits.
-      let e = taking_lane w (id_of a) from ne (let near = is_near n m a from known k ne lt in omega arith) ∙ first_world w (id_of a) from [] waits in
-      (ap (λ r. r.reply) (sym e), t.1 ∙ (sym here ∙ ap (λ r. heap_in r.world (id_of a)) (sym e))));
+  told = λ m k w has s.
+      let near = is_near n m a from known k ne lt in
+      let inside : from < length w.heaps = omega (arith, has.0) in
+      let e = taking_lane w (id_of a) from ne inside ∙ first_world w (id_of a) from [] (s.empty from refl ne inside refl) in
+      record { reply = ap (λ r. r.reply) (sym e); left = t.1 ∙ (sym has.1 ∙ ap (λ r. heap_in r.world (id_of a)) (sym e)) };
   moved = λ rest. moved_idle (id_of a) (made ++ rest) a v limits left [] _ (Take from) (t.0 (made ++ rest)) (empty_idle (id_of a) from (made ++ rest) a limits t.2);
 }
 take_answered made n a v limits left from (Some x) known ne lt t = record {
-  told = λ m k. first_told m a v from (t.1 ∷ []) (Taken x) (λ w. taking w (id_of a) from) k (λ w len here waits.
-      let e = taking_lane w (id_of a) from ne (let near = is_near n m a from known k ne lt in omega arith) ∙ first_world w (id_of a) from (t.1 ∷ []) waits in
-      let y = took_world m a v from t.1 w t.3 k.self len here in
-      (ap Taken t.2 ∙ (y.0 ∙ ap (λ r. r.reply) (sym e)), y.1 ∙ ap (λ r. heap_in r.world (id_of a)) (sym e)));
+  told = λ m k w has s.
+      let p = t.1 in
+      let near = is_near n m a from known k ne lt in
+      let inside : from < length w.heaps = omega (arith, has.0) in
+      let f = s.first from x refl ne inside refl in
+      let waits : w.waiting from (id_of a) ≡ p ∷ f.0 = f.1 ∙ ap (λ (y : Took). record { from = y.from; name = y.name } ∷ f.0) t.2 in
+      let e = taking_lane w (id_of a) from ne inside ∙ first_world w (id_of a) from (p ∷ f.0) waits in
+      let y = took_world m a v from p f.0 w t.3 k.self has in
+      record { reply = ap Taken t.2 ∙ (y.reply ∙ ap (λ r. r.reply) (sym e)); left = y.left ∙ ap (λ r. heap_in r.world (id_of a)) (sym e) };
   moved = λ rest. more_calls (id_of a) (made ++ rest) a v limits left (Take from) _ (t.0 (made ++ rest));
 }

@@ -67,27 +67,6 @@ pub waits_between : (ws : List Worker) (i j : ℕ) (p : PostEnd) (t : TakeEnd) �
 unfolding world_of
 waits_between ws i j p t a b = rw (a, b) refl
 
-pub capacity_is : (ws : List Worker) → (world_of ws).capacity ≡ capacity_in ws
-unfolding world_of
-capacity_is ws = refl
-
--- two changes of one lane
-pub change_then : (ws vs us : List Worker) (i j : ℕ) (p q r : PostEnd) (t u s : TakeEnd)
-    → LaneChange ws vs i j p t q u → LaneChange vs us i j q u r s → LaneChange ws us i j p t r s
-change_then ws vs us i j p q r t u s a b =
-    record {
-      post_is = a.post_is;
-      take_is = a.take_is;
-      new_post_is = b.new_post_is;
-      new_take_is = b.new_take_is;
-      same = λ x y away. same_then ws vs us x y (a.same x y away) (b.same x y away);
-      heaps = b.heaps ∙ a.heaps;
-      numbers = b.numbers ∙ a.numbers;
-      len = b.len ∙ a.len;
-      lane = b.lane;
-      capacity = b.capacity ∙ a.capacity;
-    }
-
 changed_lanes : (ws vs : List Worker) (i j : ℕ) (p : PostEnd) (t : TakeEnd) (q : PostEnd) (u : TakeEnd)
     → LaneChange ws vs i j p t q u → IsYard ws → (x y : ℕ) → x < length vs → y < length vs → x ≢ y → HasEnds vs x y
 changed_lanes ws vs i j p t q u c yard x y x_in y_in ne =
@@ -142,16 +121,6 @@ heap_lanes ws i a v is same x y =
         | inr yi ↦ rw (get_set_other ws i y v yi) refl
       ],
     )
-
--- one heap changed
-pub heap_world : (ws : List Worker) (i : ℕ) (a v : Worker) → slice_get ws i ≡ Some a → SameButHeap a v → world_of (set ws i v) ≡ with_heap (world_of ws) i (heap_of v)
-unfolding world_of
-heap_world ws i a v is same =
-    let i_in : i < length ws = slice_get_within ws i a is in
-    let at_i : slice_get (set ws i v) i ≡ Some v = get_set_same ws i v i_in in
-    same_world (world_of (set ws i v)) (with_heap (world_of ws) i (heap_of v)) (map-set heap_of ws i v)
-    (λ x y. let s = heap_lanes ws i a v is same x y in rw (s.0, s.1) refl)
-    (ap (λ (l : List (ℕ × ℕ)). (get_or l 0 (0, 0)).1) (map_same own_numbers ws i a v is same.0))
 
 heap_ends : (ws : List Worker) (i : ℕ) (a v : Worker) → slice_get ws i ≡ Some a → SameButHeap a v → IsYard ws → (x y : ℕ) → x < length (set ws i v) → y < length (set ws i v) → x ≢ y → HasEnds (set ws i v) x y
 heap_ends ws i a v is same yard x y x_in y_in ne =

@@ -1,4 +1,5 @@
--- The calls of one heap, by the definitions that the heap's own contracts have.
+-- The calls of one heap, by the definitions that the heap's own contracts have. They have names of their own since the heap's are
+-- `abbrev`: each proof on worlds would carry their bodies in its goals, and its searches would stop at a limit.
 use Rattle.std.specs.Prelude.{ℕ, List, Result, Ok, Err, nat_le, if◌then◌else◌}
 use Rattle.tlsf_heap.specs.Blocks.{HeapState}
 use Rattle.tlsf_heap.specs.Calls as heap

@@ -71,3 +71,9 @@ pub record RowsMet (ws vs : List Worker) (i : ℕ) : Type 0 where
   pub len : length vs ≡ length ws
   pub done : (x y : ℕ) → x < i → y < length ws → x ≢ y → MetIn ws vs x y
   pub same : (x y : ℕ) → i ≤ x → SameLane ws vs x y
+
+-- the ends of the lanes to j from the workers below i have met, and all others are the same
+pub record ColumnMet (ws vs : List Worker) (i j : ℕ) : Type 0 where
+  pub len : length vs ≡ length ws
+  pub done : (x : ℕ) → x < i → x ≢ j → MetIn ws vs x j
+  pub same : (x y : ℕ) → (y ≡ j → i ≤ x) → SameLane ws vs x y

@@ -1,20 +1,19 @@
 -- What the steps of a replay answer and leave. This serves the contracts and proofs of private functions alone.
-use Rattle.std.specs.Prelude.{◌≡◌, ℕ, List, [], ◌∷◌, ◌++◌, Option, Some, None}
+use Rattle.std.specs.Prelude.{◌≡◌, ℕ, ◌<◌, ◌≤◌, List, [], ◌∷◌, ◌++◌, length, slice_index, Option, Some, None, ⊤}
+use Rattle.tlsf_post.specs.declared.take_end.TakeEnd.{TakeEnd}
+use Rattle.tlsf_post.specs.Lanes.{ready}
 use Rattle.tlsf_heap.specs.declared.name.Name.{Name}
 use Rattle.tlsf_crew.specs.declared.worker.Worker.{Worker}
 use Rattle.tlsf_crew.specs.declared.entry.Entry.{Entry}
 use Rattle.tlsf_crew.specs.declared.event.Event.{Event}
+use Rattle.tlsf_crew.specs.declared.call.Call.{Call}
+use Rattle.tlsf_crew.specs.declared.call.Call.TheVariants.{Allocate, Release, Write, Read, Take, Drain}
 use Rattle.tlsf_crew.specs.declared.reply.Reply.{Reply}
 use Rattle.tlsf_crew.specs.declared.reply.Reply.TheVariants.{Took as Taken, Empty}
 use Rattle.tlsf_crew.specs.declared.took.Took.{Took}
-use Rattle.tlsf_crew.specs.Yard.{IsYard}
-use Rattle.tlsf_crew.specs.World.{world_of, made_by, after, Replied, Draining, Replayed}
-
--- what a call on a yard answers and leaves
-pub record Leaves (ws vs : List Worker) (reply : Reply) (r : Replied) : Type 0 where
-  pub yard : IsYard vs
-  pub answer : reply ≡ r.reply
-  pub world : world_of vs ≡ r.world
+use Rattle.tlsf_crew.specs.Yard.{IsYard, take_at}
+use Rattle.tlsf_crew.specs.Racing.{waits_in}
+use Rattle.tlsf_crew.specs.World.{world_of, name_of, made_by, after, Draining, Replayed}
 
 abbrev pub reply_took : Option Took → Reply
 reply_took None = Empty
@@ -30,3 +29,28 @@ replay_of made entries ws = record { made = made; entries = entries; world = wor
 pub record IsReplied (r : Replayed) (event : Event) (entries : List Entry) (vs : List Worker) (reply : Reply) : Type 0 where
   pub yard : IsYard vs
   pub after : after r event ≡ replay_of (r.made ++ made_by reply ∷ []) (entries ++ record { worker = event.worker; call = event.call; reply = reply } ∷ []) vs
+
+-- the lane from i to j is one that an event may post into or take from
+abbrev pub ConcernsCall : List (Option Name) → ℕ → Call → ℕ → ℕ → Type 0
+ConcernsCall made at (Allocate len) i j = ⊥
+ConcernsCall made at (Release target) i j = (i ≡ at) × (name : Name) × (name_of made target ≡ Some name) × (j ≡ name.heap)
+ConcernsCall made at (Write target from bytes) i j = ⊥
+ConcernsCall made at (Read target from n) i j = ⊥
+ConcernsCall made at (Take from) i j = j ≡ at
+ConcernsCall made at (Drain most) i j = j ≡ at
+
+abbrev pub Concerns : List (Option Name) → Event → ℕ → ℕ → Type 0
+Concerns made e i j = ConcernsCall made e.worker e.call i j
+
+abbrev pub MayTake : Call → Type 0
+MayTake (Allocate len) = ⊥
+MayTake (Release target) = ⊥
+MayTake (Write target from bytes) = ⊥
+MayTake (Read target from n) = ⊥
+MayTake (Take from) = ⊤
+MayTake (Drain most) = ⊤
+
+-- so many posts an event may take from each worker: no more than wait, and all that are ready, where it takes any
+pub record AreLimits (ws : List Worker) (e : Event) (limits : List ℕ) : Type 0 where
+  pub few : (i : ℕ) → i < 8 → slice_index limits i ≤ length (waits_in ws i e.worker)
+  pub all : MayTake e.call → (i : ℕ) (t : TakeEnd) → i < 8 → take_at ws i e.worker ≡ Some t → length (ready t) ≤ slice_index limits i

@@ -15,6 +15,7 @@ pub mod History
 pub mod Races
 pub mod Running
 pub mod Moves
+pub mod Notes
 pub mod Racing
 pub mod LaneSteps
 pub mod Laying

@@ -1,5 +1,5 @@
 -- What the calls of one worker of a race answer and leave. This serves the contracts and proofs of private functions alone.
-use Rattle.std.specs.Prelude.{◌≡◌, ℕ, zero, suc, ◌+◌, ◌<◌, ◌≤◌, List, [], ◌∷◌, ◌++◌, length, take, slice_index, Option, Some, None, ◌==◌, if◌then◌else◌}
+use Rattle.std.specs.Prelude.{◌≡◌, ◌≢◌, ◌⊎◌, ℕ, zero, suc, ◌+◌, ◌<◌, ◌≤◌, List, [], ◌∷◌, ◌++◌, length, take, slice_index, Option, Some, None, ◌==◌, if◌then◌else◌}
 use Rattle.std.specs.List.{fold}
 use mathlib.Core.List.{IsPrefix}
 use Rattle.tlsf_post.specs.declared.post.Post.{Post}
@@ -12,17 +12,18 @@ use Rattle.tlsf_crew.specs.declared.worker.Worker.{Worker}
 use Rattle.tlsf_crew.specs.declared.entry.Entry.{Entry}
 use Rattle.tlsf_crew.specs.declared.took.Took.{Took}
 use Rattle.tlsf_crew.specs.declared.call.Call.{Call}
-use Rattle.tlsf_crew.specs.declared.call.Call.TheVariants.{Take, Drain}
+use Rattle.tlsf_crew.specs.declared.call.Call.TheVariants.{Release, Take, Drain}
+use Rattle.tlsf_crew.specs.declared.target.Target.{Target}
 use Rattle.tlsf_crew.specs.declared.reply.Reply.{Reply}
-use Rattle.tlsf_crew.specs.declared.reply.Reply.TheVariants.{Took as Taken, Empty, Drained, Refused}
+use Rattle.tlsf_crew.specs.declared.reply.Reply.TheVariants.{Posted, Took as Taken, Empty, Drained, Refused}
 use Rattle.tlsf_crew.specs.declared.crew_refusal.CrewRefusal.TheVariants.{Full}
 use Rattle.tlsf_crew.specs.Heaps.{released}
-use Rattle.tlsf_crew.specs.Workers.{heap_of, id_of, own_numbers, end_to, end_from}
+use Rattle.tlsf_crew.specs.Workers.{heap_of, id_of, own_numbers, end_to, end_from, HasTake}
 use Rattle.tlsf_crew.specs.Calls.{KeepsYards}
 use Rattle.tlsf_crew.specs.Counts.{sum_below}
 use Rattle.tlsf_crew.specs.History.{posts_made, posts_taken}
-use Rattle.tlsf_crew.specs.World.{World, Replied, heap_in, made_by}
-use Rattle.tlsf_crew.specs.Races.{HasHeap, MayTell, StandsBehind}
+use Rattle.tlsf_crew.specs.World.{World, Replied, heap_in, made_by, name_of, called}
+use Rattle.tlsf_crew.specs.Races.{HasHeap, MayTell, StandsBehind, told_by}
 use Rattle.tlsf_crew.specs.Running.{KnowsYard, releases_of}
 
 abbrev pub one : ℕ → Call → Reply → List Entry
@@ -68,15 +69,28 @@ pub record Moved (at : ℕ) (made : List (Option Name)) (a : Worker) (limits : L
 
 -- ---- one call that is no drain
 
--- in some world the call is answered so, and leaves this heap
-pub record IsAnswer (n : ℕ) (a v : Worker) (answer : Reply) (call : World → Replied) : Type 0 where
-  pub world : World
-  pub heap : HasHeap world n (id_of a) (heap_of a)
-  pub reply : answer ≡ (call world).reply
-  pub left : heap_of v ≡ heap_in (call world).world (id_of a)
+-- the worlds in which a worker's call may be answered so. A lane has room for the post that was made, and none where it was full; the
+-- post that was taken waits first, and none where there was none
+pub record Suits (w : World) (at : ℕ) (made : List (Option Name)) (call : Call) (answer : Reply) : Type 0 where
+  pub room : (target : Target) (name : Name) → call ≡ Release target → name_of made target ≡ Some name → name.heap ≢ at → name.heap < length w.heaps → answer ≡ Posted
+      → length (w.waiting at name.heap) ≢ w.capacity
+  pub full : (target : Target) (name : Name) → call ≡ Release target → name_of made target ≡ Some name → name.heap ≢ at → name.heap < length w.heaps → answer ≡ Refused (Full name)
+      → length (w.waiting at name.heap) ≡ w.capacity
+  pub first : (from : ℕ) (t : Took) → call ≡ Take from → from ≢ at → from < length w.heaps → answer ≡ Taken t → (rest : List Post) × (w.waiting from at ≡ record { from = t.from; name = t.name } ∷ rest)
+  pub empty : (from : ℕ) → call ≡ Take from → from ≢ at → from < length w.heaps → answer ≡ Empty → w.waiting from at ≡ []
+
+-- the model answers so, and leaves this heap
+pub record IsAnswer (at : ℕ) (v : Worker) (answer : Reply) (r : Replied) : Type 0 where
+  pub reply : answer ≡ r.reply
+  pub left : heap_of v ≡ heap_in r.world at
+
+-- so it does in each world that suits
+abbrev pub IsAnswered : List (Option Name) → Worker → Call → Worker → Reply → (World → Replied) → Type 0
+IsAnswered made a call v reply by =
+    (n : ℕ) → KnowsYard n a → (w : World) → HasHeap w n (id_of a) (heap_of a) → Suits w (id_of a) made call reply → IsAnswer (id_of a) v reply (by w)
 
 pub record Answered (made : List (Option Name)) (a : Worker) (limits : List ℕ) (call : Call) (v : Worker) (left : List ℕ) (reply : Reply) (by : World → Replied) : Type 0 where
-  pub told : (n : ℕ) → KnowsYard n a → IsAnswer n a v reply by
+  pub told : IsAnswered made a call v reply by
   pub moved : (rest : List (Option Name)) → Moved (id_of a) (made ++ rest) a limits (call ∷ []) (one (id_of a) call reply) v left
 
 -- ---- takes
@@ -124,6 +138,9 @@ pub record LaneTaken (a : Worker) (limits : List ℕ) (from : ℕ) (entries : Li
   pub entries_are : longer ≡ entries ++ own
   pub posts : List Post
   pub told : (n : ℕ) → own_drain longer v (n + count) ≡ lane_own (id_of a) from (own_drain entries a n) posts
+  pub here : posts_taken from (id_of a) own ≡ posts
+  pub others : (k : ℕ) → k ≢ from → posts_taken k (id_of a) own ≡ []
+  pub count_is : count ≡ length posts
   pub moved : (made : List (Option Name)) → Moved (id_of a) made a limits [] own v left
 
 -- a drain of one lane
@@ -138,6 +155,8 @@ pub record LanesTaken (a : Worker) (limits : List ℕ) (below : ℕ) (entries : 
   pub entries_are : longer ≡ entries ++ own
   pub posts : ℕ → List Post
   pub told : own_drain longer v count ≡ lanes_own (id_of a) posts (own_drain entries a 0) below
+  pub posts_are : (k : ℕ) → posts_taken k (id_of a) own ≡ posts k
+  pub only : (k : ℕ) → (k < below → ¬ (HasTake a k)) → posts k ≡ []
   pub moved : (made : List (Option Name)) → Moved (id_of a) made a limits [] own v left
 
 -- a drain of those lanes
@@ -145,8 +164,20 @@ pub record LanesSpent (a : Worker) (limits : List ℕ) (below most : ℕ) (entri
   pub takes : LanesTaken a limits below entries v left longer count
   pub few : count ≤ most
   pub spent : count < most → (i : ℕ) → i < below → Spent a limits (id_of a) i takes.own
+  -- a lane was left for the next only where it was spent
+  pub each : (k : ℕ) → k < below → k ≢ id_of a → (sum_below (suc k) (λ i. length (takes.posts i)) ≡ most) ⊎ Spent a limits (id_of a) k takes.own
 
 -- ---- any call
+
+-- the worlds in which a drain may take what these entries tell: so much waits in each lane, and no more where the drain went on to the next
+abbrev pub SuitsDrain : World → ℕ → ℕ → ℕ → List Entry → Type 0
+SuitsDrain w n at most own = (k : ℕ) → k < n → k ≢ at
+    → (rest : List Post) × (w.waiting k at ≡ posts_taken k at own ++ rest) × ((sum_below (suc k) (λ i. length (posts_taken i at own)) ≡ most) ⊎ (rest ≡ []))
+
+-- those in which a call may be answered so
+pub record SuitsCall (w : World) (n at : ℕ) (made : List (Option Name)) (call : Call) (answer : Reply) (own : List Entry) : Type 0 where
+  pub one : Suits w at made call answer
+  pub drain : (most : ℕ) → call ≡ Drain most → SuitsDrain w n at most own
 
 -- the call was answered so; the entries got longer by those of a drain, and have not its own yet
 pub record Stepped (n : ℕ) (a : Worker) (limits : List ℕ) (call : Call) (made : List (Option Name)) (entries : List Entry) (v : Worker) (left : List ℕ) (longer : List Entry) (reply : Reply) : Type 0 where
@@ -154,6 +185,11 @@ pub record Stepped (n : ℕ) (a : Worker) (limits : List ℕ) (call : Call) (mad
   pub entries_are : longer ≡ entries ++ own
   pub told : MayTell n (id_of a) (record { made = made; entries = entries; heap = heap_of a }) call
       (record { made = made ++ made_by reply ∷ []; entries = longer ++ one (id_of a) call reply; heap = heap_of v })
+  pub exact : (w : World) → HasHeap w n (id_of a) (heap_of a) → SuitsCall w n (id_of a) made call reply own
+      → told_by (id_of a) (called (record { made = made; entries = entries; world = w }) (id_of a) call) ≡ record { made = made ++ made_by reply ∷ []; entries = longer ++ one (id_of a) call reply; heap = heap_of v }
+  pub single : ((most : ℕ) → call ≡ Drain most → ⊥) → own ≡ []
+  pub each : (most : ℕ) → call ≡ Drain most → (k : ℕ) → k < n → k ≢ id_of a
+      → (sum_below (suc k) (λ i. length (posts_taken i (id_of a) own)) ≡ most) ⊎ Spent a limits (id_of a) k own
   pub moved : (rest : List (Option Name)) → Moved (id_of a) (made ++ rest) a limits (call ∷ []) (own ++ one (id_of a) call reply) v left
 
 -- the call was made, and told in full

@@ -11,6 +11,10 @@ use Rattle.tlsf_crew.specs.declared.worker.Worker.{Worker}
 abbrev pub heap_of : Worker → HeapState
 heap_of a = a.heap.heap
 
+-- how many times a worker's calls touched its heap's memory
+abbrev pub touches_of : Worker → ℕ
+touches_of a = a.heap.touches
+
 abbrev pub id_of : Worker → ℕ
 id_of a = a.id
 

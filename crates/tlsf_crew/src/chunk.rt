@@ -40,6 +40,7 @@ impl Chunk {
         ensures bytes { result.now ≡ bytes_of self.now }
         ensures most { length result.now ≤ 64 }
     {
+        // `len` is at most 64, which no type says: `min` shows that the slice is within.
         &self.held[..self.len.min(64)]
     }
 }

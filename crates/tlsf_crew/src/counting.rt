@@ -1,5 +1,5 @@
 //! Room for the entries of a replay, counted before it.
-ghost use Rattle.std.specs.Prelude.{◌≡◌, ◌+◌, ◌*◌, ◌≤◌, length};
+ghost use Rattle.std.specs.Prelude.{◌≡◌, ℕ, ◌+◌, ◌*◌, ◌<◌, ◌≤◌, length, slice_index};
 ghost use Rattle.tlsf_crew.specs.Counts.{sum_below, releases_in, ready_from, ready_in};
 
 use crate::call::Call;
@@ -60,4 +60,15 @@ pub(crate) fn count_from(worker: &Worker, i: usize) -> u32
         Some(None) => 0,
         None => 0,
     }
+}
+
+/// How many posts are ready for a worker from each other one.
+pub(crate) fn count_each(worker: &Worker) -> [u32; 8]
+    ensures { (i : ℕ) → i < 8 → slice_index result i ≡ ready_from worker.now i }
+{
+    let mut counts = [0; 8];
+    for i in 0..8 {
+        counts[i] = count_from(worker, i);
+    }
+    counts
 }

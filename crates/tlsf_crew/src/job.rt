@@ -3,8 +3,9 @@ ghost use Rattle.tlsf_crew.specs.Running.{IsReady, IsDone};
 use crate::call::Call;
 use crate::done::Done;
 use crate::entry::Entry;
+use crate::executor::run_call;
 use crate::gate::Gate;
-use crate::running::run_call;
+use crate::journal::Journal;
 use crate::work::Work;
 use crate::worker::Worker;
 use tlsf_heap::Name;
@@ -37,28 +38,22 @@ impl Work for Job {
             mut worker,
             count,
             script,
-            mut limits,
+            limits,
             mut made,
-            mut entries,
+            entries,
         } = self;
+        let mut journal = Journal { limits, entries };
         let mut index = 0;
         for call in script.iter() {
             gate.pass(worker.id, index);
-            run_call(
-                &mut worker,
-                count,
-                &mut limits,
-                *call,
-                &mut made,
-                &mut entries,
-            );
+            run_call(&mut worker, count, &mut journal, *call, &mut made);
             index += 1;
         }
         gate.pass(worker.id, index);
         Done {
             worker,
             made,
-            entries,
+            entries: journal.entries,
         }
     }
 }

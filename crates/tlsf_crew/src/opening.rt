@@ -93,6 +93,7 @@ fn open_worker(
     ensures posts { IfOk result (λ worker. worker.posts.items ≡ replicate n None) }
     ensures takes { IfOk result (λ worker. worker.takes.items ≡ replicate n None) }
 {
+    // The words are in range and the tick is 0, so a refusal is a want of memory.
     let Ok(heap) = Heap::open(alloc, id, words, 0) else {
         return Err(NoMemory);
     };

@@ -36,25 +36,3 @@ pub(crate) fn settle_lane(workers: &mut [Worker], i: usize, j: usize)
         settle_pair(&mut high[0], &mut low[j], i, j);
     }
 }
-
-/// Posts on the own end.
-pub(crate) fn put_to(poster: &mut Worker, j: usize, post: Post) -> Result<(), Post>
-    requires { HasPost poster.old j }
-    ensures { PutTo poster.old poster.new j post result }
-{
-    let Some(end) = poster.posts[j].as_mut() else {
-        unreachable!()
-    };
-    end.put(post)
-}
-
-/// Takes from the own end.
-pub(crate) fn take_from(taker: &mut Worker, i: usize) -> Option<Post>
-    requires { HasTake taker.old i }
-    ensures { TookFrom taker.old taker.new i result }
-{
-    let Some(end) = taker.takes[i].as_mut() else {
-        unreachable!()
-    };
-    end.take()
-}

@@ -9,23 +9,23 @@ ghost use Rattle.tlsf_crew.specs.Races.{last_call, IsRace};
 ghost use Rattle.tlsf_crew.specs.Racing.{HaveRun, HaveRooms, HasFew, HasLastRoom, HaveLastRooms, LastDrained};
 
 use crate::call::Call;
-use crate::drains::drain;
+use crate::drained::MOST_DRAINED;
 use crate::entry::Entry;
+use crate::event::Event;
 use crate::fanning::{run_all, take_apart};
 use crate::gate::Gate;
+use crate::journal::Journal;
 use crate::outcome::Outcome;
 use crate::preparing::{add_jobs, count_all};
-use crate::reply::Reply;
+use crate::replaying::reply_in_yard;
 use crate::settling::settle;
 use crate::worker::Worker;
 use std::alloc::Global;
 use std::marker::Sync;
+use std::mem;
 use std::sync::Wait;
 use std::thread::Threads;
 use tlsf_post::NoMemory;
-
-/// No fewer posts than may wait for one worker: from at most seven others, and at most 1,024 from each.
-const ALL_POSTS: u32 = 8192;
 
 /// Runs each worker's script in a thread of its own, waits for all, and then drains each worker, in rising number. The
 /// workers are a whole yard, and there is a script for each, of fewer than 2^32 calls. A script's `Made(k)` is the name
@@ -65,7 +65,7 @@ pub fn race<R: Threads + Wait + Sync, G: Gate>(
     settle(&mut workers);
     let mut outcome = run_scripts(rt, alloc, workers, scripts, gate)?;
     settle(&mut outcome.workers);
-    drain_last(&mut outcome.workers, &mut outcome.records);
+    drain_last(alloc, &mut outcome.workers, &mut outcome.records);
     Ok(outcome)
 }
 
@@ -98,7 +98,7 @@ fn run_scripts<R: Threads + Wait + Sync, G: Gate>(
 }
 
 /// Drains each worker, in rising number.
-fn drain_last(workers: &mut [Worker], records: &mut [Vec<Entry>])
+fn drain_last(alloc: Global, workers: &mut [Worker], records: &mut [Vec<Entry>])
     requires yard { IsYard workers.old }
     requires count { length records.old ≡ length workers.old }
     requires few { (j : ℕ) → HasFew workers.old j }
@@ -106,12 +106,12 @@ fn drain_last(workers: &mut [Worker], records: &mut [Vec<Entry>])
     ensures { LastDrained workers.old (map (λ r. r.items) records.old) (map (λ r. r.items) records.new) workers.new (length workers.old) }
 {
     for j in 0..workers.len() {
-        drain_one(workers, j as u32, &mut records[j]);
+        drain_one(alloc, workers, j as u32, &mut records[j]);
     }
 }
 
 /// Takes all that waits for a worker.
-fn drain_one(workers: &mut [Worker], at: u32, entries: &mut Vec<Entry>)
+fn drain_one(alloc: Global, workers: &mut [Worker], at: u32, entries: &mut Vec<Entry>)
     requires yard { IsYard workers.old }
     requires inside { at < length workers.old }
     requires few { HasFew workers.old at }
@@ -120,10 +120,19 @@ fn drain_one(workers: &mut [Worker], at: u32, entries: &mut Vec<Entry>)
     ensures told { (made : List (Option Name)) → replay_of (made ++ None ∷ []) entries.new.items workers.new
         ≡ called (replay_of made entries.old.items workers.old) at last_call }
 {
-    let taken = drain(workers, at, ALL_POSTS, entries);
-    entries.push_reserved(Entry {
+    let event = Event {
         worker: at,
-        call: Call::Drain { most: ALL_POSTS },
-        reply: Reply::Drained(taken),
+        call: Call::Drain { most: MOST_DRAINED },
+    };
+    let mut journal = Journal {
+        limits: [0; 8],
+        entries: mem::replace(entries, Vec::new(alloc)),
+    };
+    let reply = reply_in_yard(workers, event, &[], &mut journal);
+    journal.entries.push_reserved(Entry {
+        worker: at,
+        call: event.call,
+        reply,
     });
+    *entries = journal.entries;
 }

@@ -1,102 +1,103 @@
 //! Events, one after another.
-ghost use Rattle.std.specs.Prelude.{◌≡◌, ℕ, ◌+◌, ◌<◌, ◌≤◌, [], ◌∷◌, ◌++◌, length, vec_len, vec_capacity, IfOk, OnOk, OnErr};
+ghost use Rattle.std.specs.Prelude.{◌≡◌, ◌≢◌, ℕ, ◌+◌, ◌<◌, ◌≤◌, length, Some, vec_len, vec_capacity, IfOk, OnOk, OnErr};
+ghost use Rattle.tlsf_heap.specs.declared.name.Name.{Name};
+ghost use Rattle.tlsf_crew.specs.Counts.{sum_below, waiting_in, releases_in};
 ghost use Rattle.tlsf_crew.specs.Yard.{IsYard};
-ghost use Rattle.tlsf_crew.specs.World.{world_of, made_by, name_of, after, replies};
+ghost use Rattle.tlsf_crew.specs.World.{world_of, after, replies};
 ghost use Rattle.tlsf_crew.specs.FairRuns.{IsFairRun, NoneStale, WaitLive};
-ghost use Rattle.tlsf_crew.specs.Leaving.{replay_of, IsReplied};
+ghost use Rattle.tlsf_crew.specs.Settling.{MetIn};
+ghost use Rattle.tlsf_crew.specs.Racing.{waits_in};
+ghost use Rattle.tlsf_crew.specs.Leaving.{replay_of, Concerns, AreLimits, IsReplied};
 
 use crate::call::Call;
-use crate::counting::room_for;
+use crate::counting::{count_each, room_for};
 use crate::crew_refusal::CrewRefusal;
-use crate::drains::drain;
 use crate::entry::Entry;
 use crate::event::Event;
+use crate::executor::{answer, named, reply_to};
+use crate::journal::Journal;
+use crate::pairs::settle_lane;
 use crate::reply::Reply;
-use crate::settling::settle;
-use crate::steps::{allocate, read_named, release_named, take, write_named};
-use crate::target::Target;
+use crate::settling::{settle, settle_column};
 use crate::worker::Worker;
 use std::alloc::Global;
 use tlsf_heap::Name;
 use tlsf_post::NoMemory;
 
-/// The name that a reply made.
-fn made_name(reply: Reply) -> Option<Name>
-    ensures { result ≡ made_by reply }
+/// Settles the lane between two workers, where there is one.
+fn settle_between(workers: &mut [Worker], i: usize, j: usize)
+    requires yard { IsYard workers.old }
+    ensures met { i < length workers.old → j < length workers.old → i ≢ j → MetIn workers.old workers.new i j }
+    ensures yard { IsYard workers.new }
+    ensures count { length workers.new ≡ length workers.old }
+    ensures world { world_of workers.new ≡ world_of workers.old }
 {
-    match reply {
-        Reply::Made(name) => Some(name),
-        _ => None,
+    if i != j && i < workers.len() && j < workers.len() {
+        settle_lane(workers, i, j);
     }
 }
 
-/// One answer more.
-pub(crate) fn answer(
-    event: Event,
-    reply: Reply,
-    made: &mut Vec<Option<Name>>,
-    entries: &mut Vec<Entry>,
-)
-    requires made { vec_len made.old < vec_capacity made.old }
-    requires room { vec_len entries.old < vec_capacity entries.old }
-    ensures made { made.new.items ≡ made.old.items ++ made_by reply ∷ [] }
-    ensures entries { entries.new.items ≡ entries.old.items ++ record { worker = event.worker; call = event.call; reply = reply } ∷ [] }
-    ensures capacity { (vec_capacity made.new ≡ vec_capacity made.old) × (vec_capacity entries.new ≡ vec_capacity entries.old) }
+/// Settles the lane from a worker to that of a name's heap, where there is one.
+fn settle_named(workers: &mut [Worker], at: usize, name: Option<Name>)
+    requires yard { IsYard workers.old }
+    ensures met { (k : Name) → name ≡ Some k → at < length workers.old → k.heap < length workers.old → at ≢ k.heap → MetIn workers.old workers.new at k.heap }
+    ensures yard { IsYard workers.new }
+    ensures count { length workers.new ≡ length workers.old }
+    ensures world { world_of workers.new ≡ world_of workers.old }
 {
-    made.push_reserved(made_name(reply));
-    entries.push_reserved(Entry {
-        worker: event.worker,
-        call: event.call,
-        reply,
-    });
+    match name {
+        Some(name) => settle_between(workers, at, name.heap as usize),
+        None => {}
+    }
 }
 
-/// The name that a target means.
-pub(crate) fn named(target: Target, made: &[Option<Name>]) -> Option<Name>
-    ensures { result ≡ name_of made.now target }
+/// Settles the lanes that an event concerns. Answers how many posts the worker may take then from each other one: all
+/// that wait, where it takes any.
+fn settle_for(workers: &mut [Worker], event: Event, made: &[Option<Name>]) -> [u32; 8]
+    requires yard { IsYard workers.old }
+    requires inside { event.worker < length workers.old }
+    ensures met { (i j : ℕ) → i < length workers.old → j < length workers.old → i ≢ j → Concerns made.now event i j → MetIn workers.old workers.new i j }
+    ensures yard { IsYard workers.new }
+    ensures count { length workers.new ≡ length workers.old }
+    ensures world { world_of workers.new ≡ world_of workers.old }
+    ensures limits { AreLimits workers.new event result }
 {
-    match target {
-        Target::Named(name) => Some(name),
-        Target::Made(k) => {
-            if (k as usize) < made.len() {
-                return made[k as usize];
-            }
-            None
+    let at = event.worker as usize;
+    match event.call {
+        Call::Release { target } => {
+            settle_named(workers, at, named(target, made));
+            [0; 8]
         }
-        Target::Absent => None,
+        Call::Take { .. } | Call::Drain { .. } => {
+            settle_column(workers, at);
+            count_each(&workers[at])
+        }
+        Call::Allocate { .. } => [0; 8],
+        Call::Write { .. } => [0; 8],
+        Call::Read { .. } => [0; 8],
     }
 }
 
-/// Makes the call of an event by a worker of the yard. A drain writes its takes; the event's own entry is still to come.
-fn reply_to(
+/// Makes the call of an event by a worker of the yard, with the lanes settled before and after. A drain writes its
+/// takes; the event's own entry is still to come.
+pub(crate) fn reply_in_yard(
     workers: &mut [Worker],
     event: Event,
     made: &[Option<Name>],
-    entries: &mut Vec<Entry>,
+    journal: &mut Journal,
 ) -> Reply
     requires yard { IsYard workers.old }
     requires inside { event.worker < length workers.old }
-    requires room { length (after (replay_of made.now entries.old.items workers.old) event).entries ≤ vec_capacity entries.old }
-    ensures replied { IsReplied (replay_of made.now entries.old.items workers.old) event entries.new.items workers.new result }
-    ensures capacity { vec_capacity entries.new ≡ vec_capacity entries.old }
+    requires room { vec_len journal.old.entries + sum_below 8 (λ i. length (waits_in workers.old i event.worker)) ≤ vec_capacity journal.old.entries }
+    ensures replied { IsReplied (replay_of made.now journal.old.entries.items workers.old) event journal.new.entries.items workers.new result }
+    ensures capacity { vec_capacity journal.new.entries ≡ vec_capacity journal.old.entries }
 {
-    let at = event.worker;
-    match event.call {
-        Call::Allocate { len } => allocate(workers, at, len),
-        Call::Release { target } => release_named(workers, at, named(target, made)),
-        Call::Write {
-            target,
-            at: from,
-            bytes,
-        } => write_named(workers, at, named(target, made), from, bytes),
-        Call::Read {
-            target,
-            at: from,
-            n,
-        } => read_named(workers, at, named(target, made), from, n),
-        Call::Take { from } => take(workers, at, from),
-        Call::Drain { most } => Reply::Drained(drain(workers, at, most, entries)),
-    }
+    journal.limits = settle_for(workers, event, made);
+    let count = workers.len() as u32;
+    let worker = &mut workers[event.worker as usize];
+    let reply = reply_to(worker, count, journal, event.call, made);
+    settle_for(workers, event, made);
+    reply
 }
 
 /// Runs one event.
@@ -104,22 +105,24 @@ fn run_event(
     workers: &mut [Worker],
     event: Event,
     made: &mut Vec<Option<Name>>,
-    entries: &mut Vec<Entry>,
+    journal: &mut Journal,
 )
     requires yard { IsYard workers.old }
     requires made { vec_len made.old < vec_capacity made.old }
-    requires room { length (after (replay_of made.old.items entries.old.items workers.old) event).entries ≤ vec_capacity entries.old }
+    requires takes { vec_len journal.old.entries + sum_below 8 (λ i. length (waits_in workers.old i event.worker)) ≤ vec_capacity journal.old.entries }
+    requires room { length (after (replay_of made.old.items journal.old.entries.items workers.old) event).entries ≤ vec_capacity journal.old.entries }
     ensures yard { IsYard workers.new }
-    ensures capacity { (vec_capacity made.new ≡ vec_capacity made.old) × (vec_capacity entries.new ≡ vec_capacity entries.old) }
+    ensures capacity { (vec_capacity made.new ≡ vec_capacity made.old) × (vec_capacity journal.new.entries ≡ vec_capacity journal.old.entries) }
     ensures made { vec_len made.new ≡ vec_len made.old + 1 }
-    ensures after { replay_of made.new.items entries.new.items workers.new ≡ after (replay_of made.old.items entries.old.items workers.old) event }
+    ensures after { replay_of made.new.items journal.new.entries.items workers.new ≡ after (replay_of made.old.items journal.old.entries.items workers.old) event }
 {
     if (event.worker as usize) >= workers.len() {
-        answer(event, Reply::Refused(CrewRefusal::Stranger), made, entries);
+        let stranger = Reply::Refused(CrewRefusal::Stranger);
+        answer(event, stranger, made, &mut journal.entries);
         return;
     }
-    let reply = reply_to(workers, event, made, entries);
-    answer(event, reply, made, entries);
+    let reply = reply_in_yard(workers, event, made, journal);
+    answer(event, reply, made, &mut journal.entries);
 }
 
 /// Runs events in order on a whole yard, with every end in hand, and answers an entry for each. A drain gives before
@@ -158,15 +161,18 @@ fn replay_within(
     room: usize,
 ) -> Result<Vec<Entry>, NoMemory>
     requires yard { IsYard workers.old }
-    requires room { length (replies (world_of workers.old) events.now).entries ≤ room }
+    requires room { length events.now + releases_in events.now + waiting_in (world_of workers.old) ≤ room }
     ensures yard { IsYard workers.new }
     ensures replies { IfOk result (λ es. (es.items ≡ (replies (world_of workers.old) events.now).entries) × (world_of workers.new ≡ (replies (world_of workers.old) events.now).world)) }
     ensures refused { OnErr result (world_of workers.new ≡ world_of workers.old) }
 {
     let mut made = Vec::with_capacity(alloc, events.len())?;
-    let mut entries = Vec::with_capacity(alloc, room)?;
+    let mut journal = Journal {
+        limits: [0; 8],
+        entries: Vec::with_capacity(alloc, room)?,
+    };
     for event in events.iter() {
-        run_event(workers, *event, &mut made, &mut entries);
+        run_event(workers, *event, &mut made, &mut journal);
     }
-    Ok(entries)
+    Ok(journal.entries)
 }

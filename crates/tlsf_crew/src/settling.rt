@@ -1,7 +1,7 @@
-ghost use Rattle.std.specs.Prelude.{◌≡◌, ℕ, ◌<◌, length};
+ghost use Rattle.std.specs.Prelude.{◌≡◌, ◌≢◌, ℕ, ◌<◌, length};
 ghost use Rattle.tlsf_crew.specs.Yard.{IsYard};
 ghost use Rattle.tlsf_crew.specs.World.{world_of};
-ghost use Rattle.tlsf_crew.specs.Settling.{HaveMet};
+ghost use Rattle.tlsf_crew.specs.Settling.{HaveMet, MetIn};
 ghost use Rattle.tlsf_crew.specs.LaneSteps.{RowMet};
 
 use crate::pairs::settle_lane;
@@ -40,6 +40,22 @@ fn settle_row(workers: &mut [Worker], i: usize)
     ensures world { world_of workers.new ≡ world_of workers.old }
 {
     for j in 0..workers.len() {
+        if i != j {
+            settle_lane(workers, i, j);
+        }
+    }
+}
+
+/// Settles the lanes to one worker.
+pub(crate) fn settle_column(workers: &mut [Worker], j: usize)
+    requires yard { IsYard workers.old }
+    requires inside { j < length workers.old }
+    ensures met { (i : ℕ) → i < length workers.old → i ≢ j → MetIn workers.old workers.new i j }
+    ensures yard { IsYard workers.new }
+    ensures count { length workers.new ≡ length workers.old }
+    ensures world { world_of workers.new ≡ world_of workers.old }
+{
+    for i in 0..workers.len() {
         if i != j {
             settle_lane(workers, i, j);
         }

@@ -1,21 +1,24 @@
-use Rattle.std.proofs.Common.{ap, arith, length, sym}
-use Rattle.tlsf_crew.proofs.EventSteps.{drain_done}
-use Rattle.tlsf_crew.proofs.LastDrains.{last_room}
-use Rattle.tlsf_crew.specs.Leaving.{replay_of}
+use Rattle.std.proofs.Common.{[], ap, arith, vec_capacity}
+use Rattle.std.specs.declared.vec.Vec.{Vec}
+use Rattle.std.specs.declared.alloc.Global.{Global}
+use Rattle.tlsf_crew.specs.declared.entry.Entry.{Entry}
+use Rattle.tlsf_crew.proofs.LastDrains.{last_fits, last_told}
 use Rattle.tlsf_crew.proofs.racing.drain_one.Goals as goal
-
-pub drain-taken-requires-clause-room : goal.drain-taken-requires-clause-room
-drain-taken-requires-clause-room c =
-    let a = last_room c.args.workers.now c.args.entries.now.items c.args.at c.requires.yard c.requires.few in
-    omega (arith, c.requires.room)
 
 pub push_reserved-requires : goal.push_reserved-requires
 push_reserved-requires c =
-    let a = last_room c.args.workers.now c.args.entries.now.items c.args.at c.requires.yard c.requires.few in
-    let q = ap (λ x. length x.entries) c.drain-taken.ensures.drained in
-    omega (arith, c.requires.room, c.drain-taken.ensures.room)
+    let told = rw c.replace.ensures.value at c.reply_in_yard-reply.ensures.replied in
+    let few = last_fits c.args.workers.now c.reply_in_yard-reply.new.workers [] c.args.entries.now.items c.reply_in_yard-reply.new.journal.entries.items c.args.at c.reply_in_yard-reply.result
+    c.requires.yard c.requires.few c.requires.inside told in
+    let room = c.requires.room in
+    let same = ap (λ (v : Vec Entry Global). vec_capacity v) c.replace.ensures.value in
+    let capacity = c.reply_in_yard-reply.ensures.capacity in
+    let k = c.args.entries.now.ok in
+    let l = c.reply_in_yard-reply.new.journal.entries.ok in
+    omega arith
 
 pub returns-clause-told : goal.returns-clause-told
 returns-clause-told c = λ made.
-    rw c.push_reserved.ensures.items (sym (drain_done (replay_of made c.args.entries.now.items c.args.workers.now) c.drain-taken.new.entries.items c.drain-taken.new.workers c.args.at 8192
-    c.drain-taken.result c.drain-taken.ensures.drained))
+    let told = rw c.replace.ensures.value at c.reply_in_yard-reply.ensures.replied in
+    rw c.push_reserved.ensures.items (last_told c.args.workers.now c.reply_in_yard-reply.new.workers c.args.entries.now.items c.reply_in_yard-reply.new.journal.entries.items c.args.at c.reply_in_yard-reply.result
+    c.requires.inside told made)

@@ -6,7 +6,6 @@ use Rattle.tlsf_crew.specs.Yard.{IsYard}
 use Rattle.tlsf_crew.specs.FairRuns.{HasIds}
 use Rattle.tlsf_crew.proofs.OneEvent.{heaps_count}
 use Rattle.tlsf_crew.proofs.Pending.{all_ready}
-use Rattle.tlsf_crew.proofs.Room.{replies_room}
 use Rattle.tlsf_crew.proofs.FairLists.{no_stale}
 use Rattle.tlsf_crew.proofs.replaying.replay_events.Goals as goal
 
@@ -14,7 +13,6 @@ pub replay_within-requires-clause-room : goal.replay_within-requires-clause-room
 replay_within-requires-clause-room c =
     let vs = c.settle.new.workers in
     let s = c.settle.ensures in
-    let a = replies_room (world_of vs) c.args.events.now in
     let b = all_ready c.args.workers.now vs s.count s.met s.yard in
     omega (arith, c.room_for-room.ensures)
 

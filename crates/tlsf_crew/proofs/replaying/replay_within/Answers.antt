@@ -1,11 +1,13 @@
-use Rattle.std.proofs.Common.{◌+◌, ◌∙◌, ap, sym, length, arith}
+use Rattle.std.proofs.Common.{◌+◌, ◌∙◌, ap, sym, length, arith, take, get_or}
 use Rattle.std.specs.List.{fold}
 use Rattle.std.proofs.lemmas.List.{take_all}
 use Rattle.std.proofs.lemmas.List.Sums.{fold_more}
 use Rattle.tlsf_crew.specs.declared.event.Event.{Event}
 use Rattle.tlsf_crew.specs.declared.call.Call.TheVariants.{Allocate}
 use Rattle.tlsf_crew.specs.World.{world_of, after, begun}
-use Rattle.tlsf_crew.proofs.EventSteps.{first_grow, replies_is}
+use Rattle.tlsf_crew.specs.Counts.{waiting_in}
+use Rattle.tlsf_crew.proofs.EventSteps.{replies_is}
+use Rattle.tlsf_crew.proofs.Room.{so_far, worker_waits}
 use Rattle.tlsf_crew.proofs.replaying.replay_within.Goals as goal
 
 pub run_event-requires-clause-room : goal.run_event-requires-clause-room
@@ -14,9 +16,21 @@ run_event-requires-clause-room c =
     let i = c.loop-event.event-index in
     let d0 : Event = record { worker = 0; call = Allocate 0 } in
     let a = fold_more after (begun w) c.args.events.now i d0 (omega arith) in
-    let b = first_grow (i + 1) c.args.events.now (begun w) in
-    let d = replies_is w c.args.events.now in
-    rw (c.loop-event.invariant.replayed, ← a) (omega (arith, b, ap (λ r. length r.entries) d, c.requires.room, c.loop-event.invariant.room))
+    let b = so_far (i + 1) c.args.events.now w (omega arith) in
+    rw (c.loop-event.invariant.replayed, ← a) (omega (arith, b, c.requires.room, c.loop-event.invariant.room))
+
+pub run_event-requires-clause-takes : goal.run_event-requires-clause-takes
+run_event-requires-clause-takes c =
+    let w = world_of c.args.workers.now in
+    let i = c.loop-event.event-index in
+    let replayed = c.loop-event.invariant.replayed in
+    let b = so_far i c.args.events.now w (omega arith) in
+    let entries = ap (λ r. length r.entries) replayed in
+    let waits = ap (λ r. waiting_in r.world) replayed in
+    let d0 : Event = record { worker = 0; call = Allocate 0 } in
+    let e : Event = get_or c.args.events.now i d0 in
+    let most = worker_waits c.loop-event.workers e.worker c.loop-event.invariant.yard in
+    omega (arith, c.requires.room, c.loop-event.invariant.room)
 
 pub returns-clause-replies : goal.returns-clause-replies
 returns-clause-replies c =

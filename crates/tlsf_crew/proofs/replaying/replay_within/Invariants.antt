@@ -11,6 +11,6 @@ invariant-loop-event l = record {
   count : length l.workers ≡ length l.fn.workers;
   made : vec_len l.made ≡ l.event-index;
   made_room : length l.events ≤ vec_capacity l.made;
-  room : l.room ≤ vec_capacity l.entries;
-  replayed : replay_of l.made.items l.entries.items l.workers ≡ fold after (begun (world_of l.fn.workers)) (take l.event-index l.events);
+  room : l.room ≤ vec_capacity l.journal.entries;
+  replayed : replay_of l.made.items l.journal.entries.items l.workers ≡ fold after (begun (world_of l.fn.workers)) (take l.event-index l.events);
 }

@@ -34,7 +34,7 @@ loop-call-preserved g c =
     let i = c.loop-call.invariant in
     record {
       index = omega arith;
-      run = script_next c.args.self.count c.args.self.worker c.loop-call.worker c.run_call.new.worker c.args.self.limits c.loop-call.limits c.run_call.new.limits c.deref-call-items.result.now c.loop-call.call-index _
+      run = script_next c.args.self.count c.args.self.worker c.loop-call.worker c.run_call.new.worker c.args.self.limits c.loop-call.journal.limits c.run_call.new.journal.limits c.deref-call-items.result.now c.loop-call.call-index _
           _ _ _ _ c.loop-call-test.true i.run c.run_call.ensures.called;
       names = c.run_call.ensures.capacity.0 ∙ i.names;
       room = c.run_call.ensures.capacity.1 ∙ i.room;
@@ -46,8 +46,8 @@ returns g c =
     let i = c.loop-call.invariant in
     let all = take_all c.loop-call.call-index xs (omega arith) ∙ c.deref-call-items.ensures.value in
     let job = c.args.self in
-    let run = subst (λ calls. ScriptRun job.count job.worker job.limits calls c.loop-call.made.items c.loop-call.entries.items c.loop-call.worker c.loop-call.limits) all i.run in
+    let run = subst (λ calls. ScriptRun job.count job.worker job.limits calls c.loop-call.made.items c.loop-call.journal.entries.items c.loop-call.worker c.loop-call.journal.limits) all i.run in
     record {
-      ran = script_ran job.count job.worker c.loop-call.worker job.limits c.loop-call.limits job.script.items c.loop-call.made.items c.loop-call.entries.items c.requires.limits run;
+      ran = script_ran job.count job.worker c.loop-call.worker job.limits c.loop-call.journal.limits job.script.items c.loop-call.made.items c.loop-call.journal.entries.items c.requires.limits run;
       room = i.room;
     }

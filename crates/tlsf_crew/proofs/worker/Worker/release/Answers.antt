@@ -17,7 +17,7 @@ pub put_to-requires : goal.put_to-requires
 put_to-requires c = c.has_post.ensures.yes c.if-not-has_post.false
 
 pub returns-in-Ok-put_to-clause-yard : goal.returns-in-Ok-put_to-clause-yard
-returns-in-Ok-put_to-clause-yard c = put_keeps _ _ _ _ _ refl c.in-Ok-put_to.ensures
+returns-in-Ok-put_to-clause-yard c = put_keeps _ _ _ _ _ refl c.in-Ok-put_to.ensures.put
 
 pub returns-in-Err-put_to-clause-yard : goal.returns-in-Err-put_to-clause-yard
-returns-in-Err-put_to-clause-yard c = put_keeps _ _ _ _ _ refl c.in-Err-put_to.ensures
+returns-in-Err-put_to-clause-yard c = put_keeps _ _ _ _ _ refl c.in-Err-put_to.ensures.put
