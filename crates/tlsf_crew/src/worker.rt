@@ -146,6 +146,13 @@ pub(crate) fn drain_noting<N: Notes>(worker: &mut Worker, most: u32, notes: &mut
 
 impl Worker {
     /// Gives a block of the own heap that holds `len` bytes of payload, all zero.
+    ///
+    /// - `touches`: at most 64 touches of the heap's memory, and one more for each payload word of the block given.
+    ///
+    /// ```
+    /// let name = worker.allocate(100)?; // a block of at least 100 bytes, all zero
+    /// worker.write(name, 0, b"abc")?;
+    /// ```
     pub fn allocate(&mut self, len: u32) -> Result<Name, CrewRefusal>
         ensures answer { result ≡ by_heap (allocated (heap_of self.old) len).answer }
         ensures heap { heap_of self.new ≡ (allocated (heap_of self.old) len).heap }
@@ -161,6 +168,10 @@ impl Worker {
     }
 
     /// Writes bytes into a block of the own heap, from byte `at` of it on.
+    ///
+    /// ```
+    /// worker.write(name, 96, b"abcd")?; // the bytes 96 to 99 of the block
+    /// ```
     pub fn write(&mut self, name: Name, at: u32, bytes: &[u8]) -> Result<(), CrewRefusal>
         ensures answer { result ≡ by_heap (written (heap_of self.old) name at bytes.now).answer }
         ensures heap { heap_of self.new ≡ (written (heap_of self.old) name at bytes.now).heap }
@@ -176,6 +187,11 @@ impl Worker {
     }
 
     /// Reads bytes of a block of the own heap, from byte `at` of it on, and fills `out` with them.
+    ///
+    /// ```
+    /// let mut out = [0; 4];
+    /// worker.read(name, 96, &mut out)?; // the bytes 96 to 99 of the block
+    /// ```
     pub fn read(&mut self, name: Name, at: u32, out: &mut [u8]) -> Result<(), CrewRefusal>
         ensures answer { result ≡ by_heap (read_answer (read_of (heap_of self.old) name at (length out.old))) }
         ensures bytes { out.new ≡ result_unwrap_or (read_of (heap_of self.old) name at (length out.old)) out.old }
@@ -197,6 +213,12 @@ impl Worker {
     /// - `there`: a name of another worker's heap is put into the lane to it, or given back as `Full`, which comes only
     ///   where that lane knows no free slot.
     /// - `nowhere`: a name of no other worker is a `Stranger`, and nothing changes.
+    /// - `touches`: at most 64 touches of the own heap's memory.
+    ///
+    /// ```
+    /// let here = workers[0].release(name);  // Ok(Released::Freed), where worker 0 allocated it
+    /// let there = workers[1].release(name); // Ok(Released::Posted): worker 0 will take and release it
+    /// ```
     pub fn release(&mut self, name: Name) -> Result<Released, CrewRefusal>
         ensures here { name.heap ≡ id_of self.old → ReleasedHere self.old self.new name result }
         ensures there { name.heap ≢ id_of self.old → HasPost self.old name.heap → ReleasedThere self.old self.new name result }
@@ -226,6 +248,13 @@ impl Worker {
     ///
     /// - `lane`: where there is a lane from that worker, its end is asked for one post.
     /// - `nowhere`: where there is none, that worker is a `Stranger`, and nothing changes.
+    /// - `touches`: at most 64 touches of the own heap's memory.
+    ///
+    /// ```
+    /// if let Some(took) = worker.take(1)? {
+    ///     let freed = took.answer.is_ok(); // whether the block that worker 1 posted was released
+    /// }
+    /// ```
     pub fn take(&mut self, from: u32) -> Result<Option<Took>, CrewRefusal>
         ensures lane { HasTake self.old from → TakenFrom self.old self.new from result }
         ensures nowhere { ¬ (HasTake self.old from) → (result ≡ Err CrewRefusal.Stranger) × (self.new ≡ self.old) }
@@ -245,6 +274,12 @@ impl Worker {
     /// - `drained`: the takes, each as [`Worker::take`] answers it, the heap that their releases leave, and their
     ///   count. A post is gone and counted as taken whatever the heap's answer; `freed` counts those answered by `Ok`.
     /// - `most`: no more than `most` are taken.
+    /// - `touches`: at most 64 touches of the own heap's memory for each post that is taken.
+    ///
+    /// ```
+    /// let drained = worker.drain(64); // no more than 64 posts: a bound on the time that it takes
+    /// let refused = drained.taken - drained.freed;
+    /// ```
     pub fn drain(&mut self, most: u32) -> Drained
         ensures drained { DrainedAll self.old self.new most result }
         ensures most { result.taken ≤ most }
@@ -257,6 +292,10 @@ impl Worker {
     }
 
     /// What the own heap holds, and how well it serves.
+    ///
+    /// ```
+    /// let live = worker.report().live_bytes;
+    /// ```
     pub fn report(&mut self) -> Report
         ensures report { result ≡ report_of (heap_of self.old) }
         ensures heap { heap_of self.new ≡ heap_of self.old }

@@ -98,7 +98,7 @@ impl Heap {
     }
 
     /// Gives a block that holds `len` bytes of payload, all zero: good fit, of the last that became free (ECRTS 2004,
-    /// sections 3.1 and 4). Three words of it are its header.
+    /// sections 3 and 4). Three words of it are its header.
     ///
     /// Refused as `NoFit` where no free block lies in a class at or above the search class of the words wanted, else
     /// as `Worn` where the tick is at its last value. Takes no memory.
@@ -171,7 +171,8 @@ impl Heap {
         // A forged name is not followed: not even a start bit is read unless the place lies in the region, and no word unless a block begins there.
         ensures foreign { name.heap ≢ self.old.heap.id → self.new.touches ≡ self.old.touches }
         ensures outside { self.old.heap.words ≤ name.at → self.new.touches ≡ self.old.touches }
-        ensures nowhere { name.heap ≡ self.old.heap.id → name.at < self.old.heap.words → ¬ (IsPlace self.old.heap.blocks name.at) → self.new.touches ≡ self.old.touches + 1 }
+        ensures nowhere { name.heap ≡ self.old.heap.id → name.at < self.old.heap.words → ¬ (IsPlace self.old.heap.blocks name.at)
+            → self.new.touches ≡ self.old.touches + 1 }
     {
         self.check(name)?;
         if self.tick == u64::MAX {
@@ -208,7 +209,8 @@ impl Heap {
         // A forged name is not followed: not even a start bit is read unless the place lies in the region, and no word unless a block begins there.
         ensures foreign { name.heap ≢ self.old.heap.id → self.new.touches ≡ self.old.touches }
         ensures outside { self.old.heap.words ≤ name.at → self.new.touches ≡ self.old.touches }
-        ensures nowhere { name.heap ≡ self.old.heap.id → name.at < self.old.heap.words → ¬ (IsPlace self.old.heap.blocks name.at) → self.new.touches ≡ self.old.touches + 1 }
+        ensures nowhere { name.heap ≡ self.old.heap.id → name.at < self.old.heap.words → ¬ (IsPlace self.old.heap.blocks name.at)
+            → self.new.touches ≡ self.old.touches + 1 }
     {
         self.check_range(name, at, bytes.len())?;
         self.region.write(name.at, at, bytes);
@@ -237,7 +239,8 @@ impl Heap {
         // A forged name is not followed: not even a start bit is read unless the place lies in the region, and no word unless a block begins there.
         ensures foreign { name.heap ≢ self.old.heap.id → self.new.touches ≡ self.old.touches }
         ensures outside { self.old.heap.words ≤ name.at → self.new.touches ≡ self.old.touches }
-        ensures nowhere { name.heap ≡ self.old.heap.id → name.at < self.old.heap.words → ¬ (IsPlace self.old.heap.blocks name.at) → self.new.touches ≡ self.old.touches + 1 }
+        ensures nowhere { name.heap ≡ self.old.heap.id → name.at < self.old.heap.words → ¬ (IsPlace self.old.heap.blocks name.at)
+            → self.new.touches ≡ self.old.touches + 1 }
     {
         self.check_range(name, at, out.len())?;
         self.region.read(name.at, at, out);
@@ -278,7 +281,8 @@ impl Heap {
         ensures rise { self.old.touches ≤ self.new.touches }
         ensures foreign { name.heap ≢ self.old.heap.id → self.new.touches ≡ self.old.touches }
         ensures outside { self.old.heap.words ≤ name.at → self.new.touches ≡ self.old.touches }
-        ensures nowhere { name.heap ≡ self.old.heap.id → name.at < self.old.heap.words → ¬ (IsPlace self.old.heap.blocks name.at) → self.new.touches ≡ self.old.touches + 1 }
+        ensures nowhere { name.heap ≡ self.old.heap.id → name.at < self.old.heap.words → ¬ (IsPlace self.old.heap.blocks name.at)
+            → self.new.touches ≡ self.old.touches + 1 }
     {
         if name.heap != self.id {
             return Err(Refusal::Foreign);
@@ -301,7 +305,8 @@ impl Heap {
         ensures rise { self.old.touches ≤ self.new.touches }
         ensures foreign { name.heap ≢ self.old.heap.id → self.new.touches ≡ self.old.touches }
         ensures outside { self.old.heap.words ≤ name.at → self.new.touches ≡ self.old.touches }
-        ensures nowhere { name.heap ≡ self.old.heap.id → name.at < self.old.heap.words → ¬ (IsPlace self.old.heap.blocks name.at) → self.new.touches ≡ self.old.touches + 1 }
+        ensures nowhere { name.heap ≡ self.old.heap.id → name.at < self.old.heap.words → ¬ (IsPlace self.old.heap.blocks name.at)
+            → self.new.touches ≡ self.old.touches + 1 }
     {
         self.check(name)?;
         let length = self.region.length(name.at) as usize;

@@ -7,9 +7,8 @@ ghost use Rattle.tlsf_trace.specs.declared.line.Line.{Line as ALine};
 use crate::line::Line;
 use crate::makers::Makers;
 use crate::trace::Trace;
-use crate::value::MOST_DRAINED;
 use std::alloc::{AllocError, Global};
-use tlsf_crew::{Call, Event};
+use tlsf_crew::{Call, Event, MOST_DRAINED};
 
 /// The events that a trace stands for, and the label of each, where it has one.
 #[derive(Drop)]

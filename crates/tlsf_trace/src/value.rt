@@ -5,7 +5,7 @@ use crate::kind::Kind;
 use crate::numbers::digits_in;
 use crate::payload::chunk_in;
 use arrayvec::ArrayVec;
-use tlsf_crew::Chunk;
+use tlsf_crew::{Chunk, MOST_DRAINED};
 
 /// The greatest label.
 const MOST_LABEL: u32 = 65_535;
@@ -15,9 +15,6 @@ const MOST_COUNT: u32 = 64;
 
 /// The most fields behind a word.
 pub const MOST_FIELDS: usize = 4;
-
-/// The most posts that one drain takes: more than can wait for one worker.
-pub const MOST_DRAINED: u32 = 8192;
 
 /// What a field says that has the shape of its kind.
 #[derive(Clone, Copy, Debug, Default)]
