@@ -1,22 +1,5 @@
 pub use Rattle.tlsf_lock.specs.Grants
-pub mod Bytes
-pub mod Heaps
-pub mod Numbers
-pub mod Workers
-pub mod Yard
-pub mod World
-pub mod Opening
-pub mod Settling
-pub mod Calls
-pub mod Counts
-pub mod FairRuns
-pub mod Drains
-pub mod History
-pub mod Races
-pub mod Running
-pub mod Moves
-pub mod Notes
-pub mod Racing
-pub mod LaneSteps
-pub mod Laying
-pub mod Leaving
+-- What a yard shows, what the calls of its workers answer, and what a list of events comes to.
+pub mod yard
+-- What a race comes to: the records of its workers, and what its threads promise.
+pub mod threads

@@ -7,8 +7,8 @@ use Rattle.std.proofs.lemmas.Bool.{leb-true}
 use Rattle.hex.specs.Hex.{decode_of}
 use Rattle.hex.specs.declared.error.FromHexError.{FromHexError}
 use Rattle.hex.proofs.HexLemmas.{decode_of-ok}
-use Rattle.tlsf_crew.specs.declared.chunk.Chunk.{Chunk}
-use Rattle.tlsf_crew.specs.Bytes.{bytes_of, chunk_of}
+use Rattle.tlsf_crew.specs.declared.yard.chunk.Chunk.{Chunk}
+use Rattle.tlsf_crew.specs.yard.Bytes.{bytes_of, chunk_of}
 use Rattle.tlsf_trace.specs.declared.kind.Kind.{Kind}
 use Rattle.tlsf_trace.specs.declared.kind.Kind.TheVariants.{Worker, Label, Length, Offset, Hex, Count, Most}
 use Rattle.tlsf_trace.specs.declared.line.Line.{Line}

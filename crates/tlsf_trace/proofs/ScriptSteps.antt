@@ -1,7 +1,7 @@
 -- Events and labels of lines, one line after another.
 use Rattle.std.proofs.Common.{◌≡◌, ℕ, ◌≤◌, List, Option, ◌∷◌, ◌++◌, length, refl, arith, append_assoc}
 use Rattle.std.proofs.lemmas.List.FromFn.{length-map-range_with_len}
-use Rattle.tlsf_crew.specs.declared.event.Event.{Event}
+use Rattle.tlsf_crew.specs.declared.yard.event.Event.{Event}
 use Rattle.tlsf_trace.specs.declared.line.Line.{Line}
 use Rattle.tlsf_trace.specs.declared.line.Line.TheVariants.{Allocate, Release, Write, Read, Drain, Phase}
 use Rattle.tlsf_trace.specs.Events.{last_drain, width_of, events_in, events_from, labels_in, labels_from}

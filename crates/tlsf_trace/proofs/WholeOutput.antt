@@ -1,10 +1,10 @@
 -- What is put out, from its parts.
 use Rattle.std.proofs.Common.{◌≡◌, ℕ, List, ◌++◌, map, Option, refl, ap, ◌∙◌}
-use Rattle.tlsf_crew.specs.declared.entry.Entry.{Entry}
-use Rattle.tlsf_crew.specs.declared.event.Event.{Event}
-use Rattle.tlsf_crew.specs.declared.worker.Worker.{Worker}
-use Rattle.tlsf_crew.specs.World.{World, world_of, replies}
-use Rattle.tlsf_crew.specs.Workers.{heap_of}
+use Rattle.tlsf_crew.specs.declared.yard.entry.Entry.{Entry}
+use Rattle.tlsf_crew.specs.declared.yard.event.Event.{Event}
+use Rattle.tlsf_crew.specs.declared.yard.worker.Worker.{Worker}
+use Rattle.tlsf_crew.specs.yard.World.{World, world_of, replies}
+use Rattle.tlsf_crew.specs.yard.Workers.{heap_of}
 use Rattle.tlsf_trace.specs.Output.{yard_of, output_of}
 use Rattle.tlsf_trace.specs.ReplyLines.{reply_text}
 use Rattle.tlsf_trace.specs.ReportLines.{report_text}

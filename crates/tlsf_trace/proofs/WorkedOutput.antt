@@ -2,10 +2,10 @@
 use Rattle.std.proofs.Common.{◌≡◌, [], ◌∷◌, codes, refl, Some, None, Err}
 use Rattle.std.specs.Fmt.{digits}
 use Rattle.tlsf_heap.specs.declared.refusal.Refusal.TheVariants.{Stale}
-use Rattle.tlsf_crew.specs.declared.call.Call.TheVariants as call
-use Rattle.tlsf_crew.specs.declared.crew_refusal.CrewRefusal.TheVariants.{Unmade}
-use Rattle.tlsf_crew.specs.declared.reply.Reply.TheVariants as reply
-use Rattle.tlsf_crew.specs.declared.target.Target.TheVariants.{Made, Absent}
+use Rattle.tlsf_crew.specs.declared.yard.call.Call.TheVariants as call
+use Rattle.tlsf_crew.specs.declared.yard.crew_refusal.CrewRefusal.TheVariants.{Unmade}
+use Rattle.tlsf_crew.specs.declared.yard.reply.Reply.TheVariants as reply
+use Rattle.tlsf_crew.specs.declared.yard.target.Target.TheVariants.{Made, Absent}
 use Rattle.tlsf_trace.specs.Events.{events_of, labels_of}
 use Rattle.tlsf_trace.specs.ReplyLines.{reply_line}
 use Rattle.tlsf_trace.specs.Trace.{Trace}

@@ -2,7 +2,7 @@
 use Rattle.std.proofs.Common.{◌≡◌, ℕ, List, [], ◌∷◌, ◌++◌, Result, Ok, Err, refl}
 use Rattle.std.specs.Prelude.{codes}
 use Rattle.hex.proofs.OnLiterals.{hex_on_literals}
-use Rattle.tlsf_crew.specs.Bytes.{chunk_of}
+use Rattle.tlsf_crew.specs.yard.Bytes.{chunk_of}
 use Rattle.tlsf_trace.specs.declared.header.Header.{Header}
 use Rattle.tlsf_trace.specs.declared.line.Line.TheVariants.{Allocate, Release, Write, Read, Drain, Phase}
 use Rattle.tlsf_trace.specs.declared.line_fault.LineFault.{LineFault}

@@ -1,11 +1,11 @@
 -- The events that a trace stands for, and the label of each.
 use Rattle.std.specs.Prelude.{ℕ, ◌+◌, ◌==◌, if◌then◌else◌, List, [], ◌∷◌, ◌++◌, map, replicate, Option, Some, None}
 use Rattle.std.specs.List.{range_with_len}
-use Rattle.tlsf_crew.specs.declared.event.Event.{Event}
-use Rattle.tlsf_crew.specs.declared.call.Call.{Call}
-use Rattle.tlsf_crew.specs.declared.call.Call.TheVariants as call
-use Rattle.tlsf_crew.specs.declared.target.Target.{Target}
-use Rattle.tlsf_crew.specs.declared.target.Target.TheVariants.{Made, Absent}
+use Rattle.tlsf_crew.specs.declared.yard.event.Event.{Event}
+use Rattle.tlsf_crew.specs.declared.yard.call.Call.{Call}
+use Rattle.tlsf_crew.specs.declared.yard.call.Call.TheVariants as call
+use Rattle.tlsf_crew.specs.declared.yard.target.Target.{Target}
+use Rattle.tlsf_crew.specs.declared.yard.target.Target.TheVariants.{Made, Absent}
 use Rattle.tlsf_trace.specs.declared.line.Line.{Line}
 use Rattle.tlsf_trace.specs.declared.line.Line.TheVariants.{Allocate, Release, Write, Read, Drain, Phase}
 use Rattle.tlsf_trace.specs.Trace.{Trace}

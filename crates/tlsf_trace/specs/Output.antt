@@ -1,7 +1,7 @@
 -- What a trace puts out.
 use Rattle.std.specs.Prelude.{ℕ, List, ◌++◌, Option, count_by}
-use Rattle.tlsf_crew.specs.Opening.{opened_world}
-use Rattle.tlsf_crew.specs.World.{World, Replayed, replies}
+use Rattle.tlsf_crew.specs.yard.Opening.{opened_world}
+use Rattle.tlsf_crew.specs.yard.World.{World, Replayed, replies}
 use Rattle.tlsf_trace.specs.declared.header.Header.{Header}
 use Rattle.tlsf_trace.specs.Lines.{is_call}
 use Rattle.tlsf_trace.specs.Events.{events_of, labels_of}

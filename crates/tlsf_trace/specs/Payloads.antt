@@ -2,8 +2,8 @@
 use Rattle.std.specs.Prelude.{ℕ, ◌&&◌, nat_le, if◌then◌else◌, List, length, Option, None, option_map}
 use Rattle.std.specs.Result.{result_ok}
 use Rattle.hex.specs.Hex.{decode_of}
-use Rattle.tlsf_crew.specs.Bytes.{chunk_of}
-use Rattle.tlsf_crew.specs.declared.chunk.Chunk.{Chunk}
+use Rattle.tlsf_crew.specs.yard.Bytes.{chunk_of}
+use Rattle.tlsf_crew.specs.declared.yard.chunk.Chunk.{Chunk}
 
 -- the bytes that 2 to 128 hexadecimal digits of either case spell, an even number of them
 abbrev pub bytes_in : List ℕ → Option (List ℕ)

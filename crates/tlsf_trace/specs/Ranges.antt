@@ -1,7 +1,7 @@
 -- What is in its range in a trace that was read: for the functions that run it.
 use Rattle.std.specs.Prelude.{All, ⊤, ℕ, ◌<◌, ◌≤◌, length}
-use Rattle.tlsf_crew.specs.Bytes.{bytes_of}
-use Rattle.tlsf_crew.specs.declared.chunk.Chunk.{Chunk}
+use Rattle.tlsf_crew.specs.yard.Bytes.{bytes_of}
+use Rattle.tlsf_crew.specs.declared.yard.chunk.Chunk.{Chunk}
 use Rattle.tlsf_trace.specs.declared.header.Header.{Header}
 use Rattle.tlsf_trace.specs.declared.line.Line.{Line}
 use Rattle.tlsf_trace.specs.declared.line.Line.TheVariants.{Allocate, Release, Write, Read, Drain, Phase}

@@ -5,13 +5,13 @@ use Rattle.hex.specs.Hex.{encode_lower}
 use Rattle.tlsf_heap.specs.Numbers as heap
 use Rattle.tlsf_heap.specs.declared.name.Name.{Name}
 use Rattle.tlsf_heap.specs.declared.refusal.Refusal.{Refusal}
-use Rattle.tlsf_crew.specs.Bytes.{bytes_of}
-use Rattle.tlsf_crew.specs.Numbers as crew
-use Rattle.tlsf_crew.specs.declared.call.Call.{Call}
-use Rattle.tlsf_crew.specs.declared.call.Call.TheVariants.{Allocate, Release, Write, Read, Take, Drain}
-use Rattle.tlsf_crew.specs.declared.reply.Reply.{Reply}
-use Rattle.tlsf_crew.specs.declared.reply.Reply.TheVariants.{Made, Freed, Posted, Wrote, Got, Took, Empty, Drained, Refused}
-use Rattle.tlsf_crew.specs.declared.entry.Entry.{Entry}
+use Rattle.tlsf_crew.specs.yard.Bytes.{bytes_of}
+use Rattle.tlsf_crew.specs.yard.Numbers as crew
+use Rattle.tlsf_crew.specs.declared.yard.call.Call.{Call}
+use Rattle.tlsf_crew.specs.declared.yard.call.Call.TheVariants.{Allocate, Release, Write, Read, Take, Drain}
+use Rattle.tlsf_crew.specs.declared.yard.reply.Reply.{Reply}
+use Rattle.tlsf_crew.specs.declared.yard.reply.Reply.TheVariants.{Made, Freed, Posted, Wrote, Got, Took, Empty, Drained, Refused}
+use Rattle.tlsf_crew.specs.declared.yard.entry.Entry.{Entry}
 
 -- the word of a call, as a line has it
 abbrev pub call_part : Call → List ℕ

@@ -1,7 +1,7 @@
 //! The reply lines of entries.
 ghost use Rattle.std.specs.Prelude.{◌≡◌, ◌++◌, codes, IfOk, OnOk, string_bytes};
 ghost use Rattle.hex.specs.Hex.{encode_lower};
-ghost use Rattle.tlsf_crew.specs.Bytes.{bytes_of};
+ghost use Rattle.tlsf_crew.specs.yard.Bytes.{bytes_of};
 ghost use Rattle.tlsf_trace.specs.ReplyLines as spelled;
 ghost use Rattle.tlsf_trace.specs.ReplyLines.{answer_part, call_part, label_part, place_part, release_part, reply_line};
 

@@ -1,5 +1,5 @@
 ghost use Rattle.std.specs.Prelude.{◌≡◌, ◌<◌, ◌^◌, length, vec_len, All, IfOk};
-ghost use Rattle.tlsf_crew.specs.Yard.{IsYard};
+ghost use Rattle.tlsf_crew.specs.yard.Yard.{IsYard};
 
 use crate::name;
 use crate::tests::same::same;

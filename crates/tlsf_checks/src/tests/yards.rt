@@ -1,5 +1,5 @@
 //! Events on a whole yard, one after another.
-ghost use Rattle.tlsf_crew.specs.Yard.{IsYard};
+ghost use Rattle.tlsf_crew.specs.yard.Yard.{IsYard};
 
 use crate::name;
 use crate::tests::same::same;

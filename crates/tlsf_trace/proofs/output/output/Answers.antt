@@ -1,6 +1,6 @@
 use Rattle.std.proofs.Common.{◌≡◌, length, drop, arith}
 use Rattle.std.proofs.lemmas.List.{take_at}
-use Rattle.tlsf_crew.specs.World.{world_of}
+use Rattle.tlsf_crew.specs.yard.World.{world_of}
 use Rattle.tlsf_trace.specs.Views.{view_trace}
 use Rattle.tlsf_trace.proofs.WholeOutput.{assembled}
 use Rattle.tlsf_trace.proofs.output.output.Goals as goal

@@ -3,12 +3,12 @@ use Rattle.std.proofs.Crossing.{crosses}
 use Rattle.std.proofs.Common.{◌≡◌, ◌≢◌, ◌∙◌, ◌<◌, ◌≤◌, ℕ, Some, get_or, set, arith, rules, subst}
 use Rattle.std.specs.List.{slice_get}
 use Rattle.std.proofs.lemmas.Option.{slice_get-get_or}
-use Rattle.tlsf_crew.specs.declared.worker.Worker.{Worker}
-use Rattle.tlsf_crew.specs.Calls.{KeepsYards}
-use Rattle.tlsf_crew.specs.Yard.{IsYard}
-use Rattle.tlsf_crew.proofs.Halves.{low_is, high_is, low_first}
-use Rattle.tlsf_crew.proofs.Slots.{get_set_other}
-use Rattle.tlsf_crew.proofs.Sends.{worker_field_send}
+use Rattle.tlsf_crew.specs.declared.yard.worker.Worker.{Worker}
+use Rattle.tlsf_crew.specs.yard.Calls.{KeepsYards}
+use Rattle.tlsf_crew.specs.yard.Yard.{IsYard}
+use Rattle.tlsf_crew.proofs.lemmas.yard.Halves.{low_is, high_is, low_first}
+use Rattle.tlsf_crew.proofs.lemmas.yard.Slots.{get_set_other}
+use Rattle.tlsf_crew.proofs.lemmas.threads.Sends.{worker_field_send}
 use Rattle.tlsf_checks.proofs.tests.races.release_at_once.Goals as goal
 
 first_in : (n : ℕ) → n ≡ 2 → 0 < n

@@ -1,6 +1,6 @@
 use denote.Param.Send.{sendable}
 use Rattle.std.proofs.Crossing.{crosses}
-use Rattle.tlsf_crew.proofs.Sends.{worker_send}
+use Rattle.tlsf_crew.proofs.lemmas.threads.Sends.{worker_send}
 use Rattle.tlsf_checks.proofs.tests.workers.fn.release_away.scope.Goals as goal
 
 pub spawn-requires-send-F : goal.spawn-requires-send-F

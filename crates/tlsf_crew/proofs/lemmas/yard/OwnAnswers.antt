@@ -1,0 +1,328 @@
+-- A release, a write or a read of a worker in a race is answered as in some world.
+use Rattle.std.proofs.Common.{◌==◌, true, false, [], ◌++◌, ◌≡◌, ◌≢◌, ℕ, ◌<◌, List, Option, Some, None, Result, Ok, Err, length, sym, ◌∙◌, ap, arith, refl, inl, inr, ◌⊎◌, subst}
+use Rattle.std.proofs.lemmas.Bool.{cases_eq, cases_lt}
+use Rattle.std.proofs.lemmas.Bool.Decides.{nat_tests}
+use Rattle.tlsf_heap.specs.Calls as heap
+use Rattle.tlsf_heap.specs.declared.name.Name.{Name}
+use Rattle.tlsf_heap.specs.declared.refusal.Refusal.{Refusal}
+use Rattle.tlsf_post.specs.declared.post.Post.{Post}
+use Rattle.tlsf_post.specs.declared.post_end.PostEnd.{PostEnd}
+use Rattle.tlsf_crew.specs.declared.yard.worker.Worker.{Worker}
+use Rattle.tlsf_crew.specs.declared.yard.chunk.Chunk.{Chunk}
+use Rattle.tlsf_crew.specs.declared.yard.target.Target.{Target}
+use Rattle.tlsf_crew.specs.declared.yard.call.Call.{Call}
+use Rattle.tlsf_crew.specs.declared.yard.call.Call.TheVariants.{Release, Write, Read}
+use Rattle.tlsf_crew.specs.declared.yard.released.Released.{Released}
+use Rattle.tlsf_crew.specs.declared.yard.released.Released.TheVariants.{Freed as WasFreed, Posted as WasPosted}
+use Rattle.tlsf_crew.specs.declared.yard.reply.Reply.{Reply}
+use Rattle.tlsf_crew.specs.declared.yard.reply.Reply.TheVariants.{Freed, Posted, Wrote, Got, Refused}
+use Rattle.tlsf_crew.specs.declared.yard.crew_refusal.CrewRefusal.{CrewRefusal}
+use Rattle.tlsf_crew.specs.declared.yard.crew_refusal.CrewRefusal.TheVariants.{Heap, Full, Stranger, Unmade}
+use Rattle.tlsf_crew.specs.yard.Bytes.{bytes_of}
+use Rattle.tlsf_crew.specs.yard.Heaps.{released, written, chunk_read}
+use Rattle.tlsf_crew.specs.yard.Workers.{heap_of, id_of, end_to, SameButHeap, HasPost, PutTo, KnowsYard}
+use Rattle.tlsf_crew.specs.yard.Calls.{KeepsYards, by_heap, freed_by, posted_by, ReleasedHere, ReleasedThere}
+use Rattle.tlsf_crew.specs.yard.World.{World, Replied, heap_in, name_of, freeing, posting, releasing, releasing_named, writing, writing_named, reading, reading_named, reply_freed, reply_wrote, reply_got}
+use Rattle.tlsf_crew.specs.yard.Told.{HasHeap}
+use Rattle.tlsf_crew.specs.yard.Moves.{IsAnswer, Answered}
+use Rattle.tlsf_crew.proofs.lemmas.yard.AllEntries.{more_knows}
+use Rattle.tlsf_crew.proofs.lemmas.yard.YardKept.{same_keeps}
+use Rattle.tlsf_crew.proofs.lemmas.yard.LaneMoves.{moved_post, none_free, still_full}
+use Rattle.tlsf_crew.proofs.lemmas.yard.OneEvent.{releasing_post, releasing_far}
+use Rattle.tlsf_crew.proofs.lemmas.yard.OneEntry.{IsIdle, moved_still, moved_idle}
+use Rattle.tlsf_crew.proofs.lemmas.yard.Witnesses.{heap_left, answered_quiet}
+
+-- ---- what refuses
+
+-- the worker itself refuses, and nothing changes
+itself_told : (n : ℕ) (a : Worker) (reply : Reply) (by : World → Replied) (w : World) → HasHeap w n (id_of a) (heap_of a)
+    → (length w.heaps ≡ n → by w ≡ record { reply = reply; world = w }) → IsAnswer (id_of a) a reply (by w)
+itself_told n a reply by w has is =
+    let e = is has.0 in
+    record {
+      reply = ap (λ r. r.reply) (sym e);
+      left = sym has.1 ∙ ap (λ r. heap_in r.world (id_of a)) (sym e);
+    }
+
+pub itself_answered : (made : List (Option Name)) (a : Worker) (limits : List ℕ) (call : Call) (reply : Reply) (by : World → Replied)
+    → ((later : List (Option Name)) → IsIdle (id_of a) later a limits [] (record { worker = id_of a; call = call; reply = reply }))
+    → ((n : ℕ) → KnowsYard n a → (w : World) → length w.heaps ≡ n → by w ≡ record { reply = reply; world = w }) → Answered made a limits call a limits reply by
+itself_answered made a limits call reply by idle is =
+    answered_quiet made a a limits call reply by (refl, refl, refl) (same_keeps a) idle (λ n k w has s. itself_told n a reply by w has (is n k w))
+
+refused_release : (at : ℕ) (later : List (Option Name)) (a : Worker) (limits : List ℕ) (target : Target) (why : CrewRefusal) → ((name : Name) → why ≢ Full name)
+    → IsIdle at later a limits [] (record { worker = at; call = Release target; reply = Refused why })
+refused_release at later a limits target why other = record {
+  posts = record { made_none = λ j. refl; taken_none = λ i. refl };
+  full = λ name p e. let q : why ≡ Full name = cc in absurd (other name q);
+  empty = λ i e. cc;
+  drained = λ most k i e. cc;
+}
+
+pub release_unmade : (made : List (Option Name)) (a : Worker) (limits : List ℕ) (target : Target) → None ≡ name_of made target
+    → Answered made a limits (Release target) a limits (Refused Unmade) (λ w. releasing_named w (id_of a) (name_of made target))
+release_unmade made a limits target none =
+    subst (λ o. Answered made a limits (Release target) a limits (Refused Unmade) (λ w. releasing_named w (id_of a) o)) none
+    (itself_answered made a limits (Release target) (Refused Unmade) (λ w. releasing_named w (id_of a) None)
+    (λ later. refused_release (id_of a) later a limits target Unmade (λ name e. cc)) (λ n k w e. refl))
+
+-- ---- release
+
+freed_idle : (at : ℕ) (later : List (Option Name)) (a : Worker) (limits : List ℕ) (target : Target) (r : Result (Unit {0}) Refusal)
+    → IsIdle at later a limits [] (record { worker = at; call = Release target; reply = reply_freed r })
+freed_idle at later a limits target (Ok done) = record {
+  posts = record { made_none = λ j. refl; taken_none = λ i. refl };
+  full = λ name p e. cc;
+  empty = λ i e. cc;
+  drained = λ most k i e. cc;
+}
+freed_idle at later a limits target (Err why) = refused_release at later a limits target (Heap why) (λ name e. cc)
+
+own_name : (w : World) (at : ℕ) (name : Name) → name.heap ≡ at → releasing w at name ≡ freeing w at name
+own_name w at name e = let b : (name.heap == at) ≡ true = grind (arith, nat_tests) in rw b refl
+
+freed_here : (n : ℕ) (a v : Worker) (name : Name) → heap_of v ≡ (heap.released (heap_of a) name).heap → name.heap ≡ id_of a → KnowsYard n a → (w : World) → HasHeap w n (id_of a) (heap_of a)
+    → IsAnswer (id_of a) v (reply_freed (heap.released (heap_of a) name).answer) (releasing w (id_of a) name)
+unfolding released
+freed_here n a v name h own k w has =
+    let at = id_of a in
+    let e = own_name w at name own in
+    record {
+      reply = ap (λ g. reply_freed (heap.released g name).answer) (sym has.1) ∙ ap (λ r. r.reply) (sym e);
+      left = h ∙ (ap (λ g. (heap.released g name).heap) (sym has.1) ∙ (sym (heap_left n at w (heap_of a) (heap.released (heap_in w at) name).heap k.self has)
+          ∙ ap (λ r. heap_in r.world at) (sym e)));
+    }
+
+posted_world : (w : World) (at : ℕ) (name : Name) → length (w.waiting at name.heap) ≢ w.capacity → ((posting w at name).reply ≡ Posted) × (heap_in (posting w at name).world at ≡ heap_in w at)
+unfolding posting
+posted_world w at name ne = let b : (length (w.waiting at name.heap) == w.capacity) ≡ false = grind (arith, nat_tests) in (rw b refl, rw b refl)
+
+full_world : (w : World) (at : ℕ) (name : Name) → length (w.waiting at name.heap) ≡ w.capacity → posting w at name ≡ record { reply = Refused (Full name); world = w }
+unfolding posting
+full_world w at name e = let b : (length (w.waiting at name.heap) == w.capacity) ≡ true = grind (arith, nat_tests) in rw b refl
+
+posted_there : (n : ℕ) (a v : Worker) (name : Name) → heap_of v ≡ heap_of a → name.heap ≢ id_of a → name.heap < n → (w : World) → HasHeap w n (id_of a) (heap_of a)
+    → length (w.waiting (id_of a) name.heap) ≢ w.capacity → IsAnswer (id_of a) v Posted (releasing w (id_of a) name)
+posted_there n a v name h ne lt w has room =
+    let at = id_of a in
+    let e = releasing_post w at name ne (omega (arith, has.0)) in
+    let p = posted_world w at name room in
+    record {
+      reply = sym p.0 ∙ ap (λ r. r.reply) (sym e);
+      left = h ∙ (sym has.1 ∙ (sym p.1 ∙ ap (λ r. heap_in r.world at) (sym e)));
+    }
+
+full_there : (n : ℕ) (a v : Worker) (name : Name) → heap_of v ≡ heap_of a → name.heap ≢ id_of a → name.heap < n → (w : World) → HasHeap w n (id_of a) (heap_of a)
+    → length (w.waiting (id_of a) name.heap) ≡ w.capacity → IsAnswer (id_of a) v (Refused (Full name)) (releasing w (id_of a) name)
+full_there n a v name h ne lt w has full =
+    let at = id_of a in
+    let e = releasing_post w at name ne (omega (arith, has.0)) ∙ full_world w at name full in
+    record {
+      reply = ap (λ r. r.reply) (sym e);
+      left = h ∙ (sym has.1 ∙ ap (λ r. heap_in r.world at) (sym e));
+    }
+
+abbrev pub reply_released : Result Released CrewRefusal → Reply
+reply_released (Ok WasFreed) = Freed
+reply_released (Ok WasPosted) = Posted
+reply_released (Err why) = Refused why
+
+freed_reply : (r : Result (Unit {0}) Refusal) → reply_released (freed_by r) ≡ reply_freed r
+freed_reply (Ok done) = refl
+freed_reply (Err why) = refl
+
+here_answered : (made : List (Option Name)) (a v : Worker) (limits : List ℕ) (target : Target) (name : Name) (answer : Result Released CrewRefusal) → KeepsYards a v
+    → name.heap ≡ id_of a → ReleasedHere a v name answer → Answered made a limits (Release target) v limits (reply_released answer) (λ w. releasing w (id_of a) name)
+here_answered made a v limits target name answer yard own here =
+    let o = (heap.released (heap_of a) name).answer in
+    let e : reply_released answer ≡ reply_freed o = ap reply_released here.answer_is ∙ freed_reply o in
+    subst (λ r. Answered made a limits (Release target) v limits r (λ w. releasing w (id_of a) name)) (sym e)
+    (answered_quiet made a v limits (Release target) (reply_freed o) (λ w. releasing w (id_of a) name) here.same yard (λ later. freed_idle (id_of a) later a limits target o)
+    (λ n k w has s. freed_here n a v name here.heap own k w has))
+
+full_idle : (at : ℕ) (later : List (Option Name)) (a v : Worker) (limits : List ℕ) (target : Target) (name : Name) (post back : Post) → PutTo a v name.heap post (Err back)
+    → IsIdle at later a limits [] (record { worker = at; call = Release target; reply = Refused (Full name) })
+full_idle at later a v limits target name post back put = record {
+  posts = record { made_none = λ j. refl; taken_none = λ i. refl };
+  full = λ other p e is. let q : name ≡ other = cc in none_free a v name.heap post back p put (ap (λ x. end_to a x.heap) q ∙ is);
+  empty = λ i e. cc;
+  drained = λ most k i e. cc;
+}
+
+put_answered : (made : List (Option Name)) (a v : Worker) (limits : List ℕ) (target : Target) (name : Name) (put : Result (Unit {0}) Post) → name_of made target ≡ Some name
+    → name.heap ≢ id_of a → PutTo a v name.heap (record { from = id_of a; name = name }) put
+    → Answered made a limits (Release target) v limits (reply_released (posted_by name put)) (λ w. releasing w (id_of a) name)
+put_answered made a v limits target name (Ok done) known ne put = record {
+  told = λ n k w has s. let x = (k.to name.heap).0 (put.end, put.end_is) in posted_there n a v name put.same.0 ne x.0 w has (s.room target name refl known ne (omega (arith, x.0, has.0)) refl);
+  moved = λ rest. moved_post (id_of a) (made ++ rest) a v limits target name done (more_knows made rest target name known) refl put;
+}
+put_answered made a v limits target name (Err back) known ne put = record {
+  told = λ n k w has s. let x = (k.to name.heap).0 (put.end, put.end_is) in full_there n a v name put.same.0 ne x.0 w has (s.full target name refl known ne (omega (arith, x.0, has.0)) refl);
+  moved = λ rest.
+      let post : Post = record { from = id_of a; name = name } in
+      moved_idle (id_of a) (made ++ rest) a v limits limits [] _ (Release target)
+      (moved_still (id_of a) (made ++ rest) a v limits (still_full (id_of a) a v name.heap post back refl put))
+      (full_idle (id_of a) (made ++ rest) a v limits target name post back put);
+}
+
+there_answered : (made : List (Option Name)) (a v : Worker) (limits : List ℕ) (target : Target) (name : Name) (answer : Result Released CrewRefusal) → name_of made target ≡ Some name
+    → name.heap ≢ id_of a → ReleasedThere a v name answer → Answered made a limits (Release target) v limits (reply_released answer) (λ w. releasing w (id_of a) name)
+there_answered made a v limits target name answer known ne there =
+    subst (λ r. Answered made a limits (Release target) v limits (reply_released r) (λ w. releasing w (id_of a) name)) (sym there.answer_is)
+    (put_answered made a v limits target name there.put known ne there.lane)
+
+nowhere_answered : (made : List (Option Name)) (a : Worker) (limits : List ℕ) (target : Target) (name : Name) → name.heap ≢ id_of a → ¬ (HasPost a name.heap)
+    → Answered made a limits (Release target) a limits (Refused Stranger) (λ w. releasing w (id_of a) name)
+nowhere_answered made a limits target name ne none =
+    itself_answered made a limits (Release target) (Refused Stranger) (λ w. releasing w (id_of a) name)
+    (λ later. refused_release (id_of a) later a limits target Stranger (λ other e. cc))
+    (λ n k w e. elim (cases_lt name.heap n) [
+      | inl lt ↦ absurd (none ((k.to name.heap).1 (lt, ne)))
+      | inr ge ↦ releasing_far w (id_of a) name ne (omega arith)
+    ])
+
+has_post_or : (o : Option PostEnd) → ((p : PostEnd) × (o ≡ Some p)) ⊎ ¬ ((p : PostEnd) × (o ≡ Some p))
+has_post_or None = inr (λ h. let e = h.1 in cc)
+has_post_or (Some p) = inl (p, refl)
+
+-- what a release promises
+pub record IsRelease (a v : Worker) (name : Name) (answer : Result Released CrewRefusal) : Type 0 where
+  pub here : name.heap ≡ id_of a → ReleasedHere a v name answer
+  pub there : name.heap ≢ id_of a → HasPost a name.heap → ReleasedThere a v name answer
+  pub nowhere : name.heap ≢ id_of a → ¬ (HasPost a name.heap) → (answer ≡ Err Stranger) × (v ≡ a)
+  pub yard : KeepsYards a v
+
+release_known : (made : List (Option Name)) (a v : Worker) (limits : List ℕ) (target : Target) (name : Name) (answer : Result Released CrewRefusal) → name_of made target ≡ Some name
+    → IsRelease a v name answer → Answered made a limits (Release target) v limits (reply_released answer) (λ w. releasing w (id_of a) name)
+release_known made a v limits target name answer known r =
+    elim (cases_eq name.heap (id_of a)) [
+      | inl own ↦ here_answered made a v limits target name answer r.yard own (r.here own)
+      | inr ne ↦ elim (has_post_or (end_to a name.heap)) [
+        | inl has ↦ there_answered made a v limits target name answer known ne (r.there ne has)
+        | inr none ↦
+            let e = r.nowhere ne none in
+            let x = nowhere_answered made a limits target name ne none in
+            subst (λ y. Answered made a limits (Release target) y limits (reply_released answer) (λ w. releasing w (id_of a) name)) (sym e.1)
+            (subst (λ y. Answered made a limits (Release target) a limits (reply_released y) (λ w. releasing w (id_of a) name)) (sym e.0) x)
+      ]
+    ]
+
+pub release_answered : (made : List (Option Name)) (a v : Worker) (limits : List ℕ) (target : Target) (name : Name) (answer : Result Released CrewRefusal) (reply : Reply) → Some name ≡ name_of made target
+    → IsRelease a v name answer → reply_released answer ≡ reply → Answered made a limits (Release target) v limits reply (λ w. releasing_named w (id_of a) (name_of made target))
+release_answered made a v limits target name answer reply known r e =
+    subst (λ o. Answered made a limits (Release target) v limits reply (λ w. releasing_named w (id_of a) o)) known
+    (subst (λ y. Answered made a limits (Release target) v limits y (λ w. releasing w (id_of a) name)) e
+    (release_known made a v limits target name answer (sym known) r))
+
+-- ---- write
+
+refused_write : (at from : ℕ) (bytes : Chunk) (later : List (Option Name)) (a : Worker) (limits : List ℕ) (target : Target) (why : CrewRefusal) → ((name : Name) → why ≢ Full name)
+    → IsIdle at later a limits [] (record { worker = at; call = Write target from bytes; reply = Refused why })
+refused_write at from bytes later a limits target why other = record {
+  posts = record { made_none = λ j. refl; taken_none = λ i. refl };
+  full = λ name p e. let q : why ≡ Full name = cc in absurd (other name q);
+  empty = λ i e. cc;
+  drained = λ most k i e. cc;
+}
+
+wrote_idle : (at from count : ℕ) (bytes : Chunk) (later : List (Option Name)) (a : Worker) (limits : List ℕ) (target : Target) (r : Result (Unit {0}) Refusal)
+    → IsIdle at later a limits [] (record { worker = at; call = Write target from bytes; reply = reply_wrote count r })
+wrote_idle at from count bytes later a limits target (Ok done) = record {
+  posts = record { made_none = λ j. refl; taken_none = λ i. refl };
+  full = λ name p e. cc;
+  empty = λ i e. cc;
+  drained = λ most k i e. cc;
+}
+wrote_idle at from count bytes later a limits target (Err why) = refused_write at from bytes later a limits target (Heap why) (λ name e. cc)
+
+pub write_unmade : (made : List (Option Name)) (a : Worker) (limits : List ℕ) (target : Target) (from : ℕ) (bytes : Chunk) → None ≡ name_of made target
+    → Answered made a limits (Write target from bytes) a limits (Refused Unmade) (λ w. writing_named w (id_of a) (name_of made target) from (bytes_of bytes))
+write_unmade made a limits target from bytes none =
+    subst (λ o. Answered made a limits (Write target from bytes) a limits (Refused Unmade) (λ w. writing_named w (id_of a) o from (bytes_of bytes))) none
+    (itself_answered made a limits (Write target from bytes) (Refused Unmade) (λ w. writing_named w (id_of a) None from (bytes_of bytes))
+    (λ later. refused_write (id_of a) from bytes later a limits target Unmade (λ name e. cc)) (λ n k w e. refl))
+
+written_here : (n : ℕ) (a v : Worker) (name : Name) (from : ℕ) (bytes : List ℕ) → heap_of v ≡ (heap.written (heap_of a) name from bytes).heap → KnowsYard n a
+    → (w : World) → HasHeap w n (id_of a) (heap_of a)
+    → IsAnswer (id_of a) v (reply_wrote (length bytes) (heap.written (heap_of a) name from bytes).answer) (writing w (id_of a) name from bytes)
+unfolding written
+written_here n a v name from bytes h k w has =
+    let at = id_of a in
+    record {
+      reply = ap (λ g. reply_wrote (length bytes) (heap.written g name from bytes).answer) (sym has.1);
+      left = h ∙ (ap (λ g. (heap.written g name from bytes).heap) (sym has.1) ∙ sym (heap_left n at w (heap_of a) (heap.written (heap_in w at) name from bytes).heap k.self has));
+    }
+
+pub write_answered : (made : List (Option Name)) (a v : Worker) (limits : List ℕ) (target : Target) (name : Name) (from : ℕ) (bytes : Chunk) (list : List ℕ) (reply : Reply)
+    → Some name ≡ name_of made target → list ≡ bytes_of bytes → SameButHeap a v → KeepsYards a v
+    → reply ≡ reply_wrote (length list) (heap.written (heap_of a) name from list).answer → heap_of v ≡ (heap.written (heap_of a) name from list).heap
+    → Answered made a limits (Write target from bytes) v limits reply (λ w. writing_named w (id_of a) (name_of made target) from (bytes_of bytes))
+write_answered made a v limits target name from bytes list reply known are same yard e h =
+    let o = (heap.written (heap_of a) name from list).answer in
+    subst (λ o. Answered made a limits (Write target from bytes) v limits reply (λ w. writing_named w (id_of a) o from (bytes_of bytes))) known
+    (subst (λ l. Answered made a limits (Write target from bytes) v limits reply (λ w. writing w (id_of a) name from l)) are
+    (subst (λ r. Answered made a limits (Write target from bytes) v limits r (λ w. writing w (id_of a) name from list)) (sym e)
+    (answered_quiet made a v limits (Write target from bytes) (reply_wrote (length list) o) (λ w. writing w (id_of a) name from list) same yard
+    (λ later. wrote_idle (id_of a) from (length list) bytes later a limits target o) (λ n k w has s. written_here n a v name from list h k w has))))
+
+pub wrote_ok : (o : Result (Unit {0}) Refusal) (done : Unit {0}) (n : ℕ) → Ok done ≡ by_heap o → Wrote n ≡ reply_wrote n o
+wrote_ok (Ok x) done n e = refl
+wrote_ok (Err why) done n e = cc
+
+pub wrote_err : (o : Result (Unit {0}) Refusal) (why : CrewRefusal) (n : ℕ) → Err why ≡ by_heap o → Refused why ≡ reply_wrote n o
+wrote_err (Ok x) why n e = cc
+wrote_err (Err x) why n e = let q : why ≡ Heap x = cc in ap Refused q
+
+-- ---- read
+
+refused_read : (at from n : ℕ) (later : List (Option Name)) (a : Worker) (limits : List ℕ) (target : Target) (why : CrewRefusal) → ((name : Name) → why ≢ Full name)
+    → IsIdle at later a limits [] (record { worker = at; call = Read target from n; reply = Refused why })
+refused_read at from n later a limits target why other = record {
+  posts = record { made_none = λ j. refl; taken_none = λ i. refl };
+  full = λ name p e. let q : why ≡ Full name = cc in absurd (other name q);
+  empty = λ i e. cc;
+  drained = λ most k i e. cc;
+}
+
+got_idle : (at from n : ℕ) (later : List (Option Name)) (a : Worker) (limits : List ℕ) (target : Target) (r : Result Chunk Refusal)
+    → IsIdle at later a limits [] (record { worker = at; call = Read target from n; reply = reply_got r })
+got_idle at from n later a limits target (Ok bytes) = record {
+  posts = record { made_none = λ j. refl; taken_none = λ i. refl };
+  full = λ name p e. cc;
+  empty = λ i e. cc;
+  drained = λ most k i e. cc;
+}
+got_idle at from n later a limits target (Err why) = refused_read at from n later a limits target (Heap why) (λ name e. cc)
+
+pub read_unmade : (made : List (Option Name)) (a : Worker) (limits : List ℕ) (target : Target) (from n : ℕ) → None ≡ name_of made target
+    → Answered made a limits (Read target from n) a limits (Refused Unmade) (λ w. reading_named w (id_of a) (name_of made target) from n)
+read_unmade made a limits target from n none =
+    subst (λ o. Answered made a limits (Read target from n) a limits (Refused Unmade) (λ w. reading_named w (id_of a) o from n)) none
+    (itself_answered made a limits (Read target from n) (Refused Unmade) (λ w. reading_named w (id_of a) None from n)
+    (λ later. refused_read (id_of a) from n later a limits target Unmade (λ name e. cc)) (λ m k w e. refl))
+
+read_here : (m : ℕ) (a v : Worker) (name : Name) (from n : ℕ) → heap_of v ≡ heap_of a → (w : World) → HasHeap w m (id_of a) (heap_of a)
+    → IsAnswer (id_of a) v (reply_got (chunk_read (heap_of a) name from n)) (reading w (id_of a) name from n)
+read_here m a v name from n h w has =
+    record {
+      reply = ap (λ g. reply_got (chunk_read g name from n)) (sym has.1);
+      left = h ∙ sym has.1;
+    }
+
+pub read_answered : (made : List (Option Name)) (a v : Worker) (limits : List ℕ) (target : Target) (name : Name) (from n : ℕ) (reply : Reply) → Some name ≡ name_of made target
+    → SameButHeap a v → KeepsYards a v → reply ≡ reply_got (chunk_read (heap_of a) name from n) → heap_of v ≡ heap_of a
+    → Answered made a limits (Read target from n) v limits reply (λ w. reading_named w (id_of a) (name_of made target) from n)
+read_answered made a v limits target name from n reply known same yard e h =
+    let o = chunk_read (heap_of a) name from n in
+    subst (λ o. Answered made a limits (Read target from n) v limits reply (λ w. reading_named w (id_of a) o from n)) known
+    (subst (λ r. Answered made a limits (Read target from n) v limits r (λ w. reading w (id_of a) name from n)) (sym e)
+    (answered_quiet made a v limits (Read target from n) (reply_got o) (λ w. reading w (id_of a) name from n) same yard
+    (λ later. got_idle (id_of a) from n later a limits target o) (λ m k w has s. read_here m a v name from n h w has)))
+
+pub got_ok : (o : Result Chunk Refusal) (bytes : Chunk) → Ok bytes ≡ by_heap o → Got bytes ≡ reply_got o
+got_ok (Ok x) bytes e = let q : bytes ≡ x = cc in ap Got q
+got_ok (Err why) bytes e = cc
+
+pub got_err : (o : Result Chunk Refusal) (why : CrewRefusal) → Err why ≡ by_heap o → Refused why ≡ reply_got o
+got_err (Ok x) why e = cc
+got_err (Err x) why e = let q : why ≡ Heap x = cc in ap Refused q

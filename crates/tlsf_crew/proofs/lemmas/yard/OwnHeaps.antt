@@ -1,0 +1,60 @@
+-- A call leaves a heap its number, and leaves it lawful.
+use Rattle.std.proofs.Common.{◌≡◌, ℕ, ◌<◌, List, [], ◌∷◌, Some, length, get_or, set, sym, ◌∙◌, ap, map, subst, refl, inl, inr, arith}
+use Rattle.std.specs.List.{slice_get}
+use Rattle.std.proofs.lemmas.Option.{slice_get_within, slice_get-get_or}
+use Rattle.std.proofs.lemmas.Bool.{cases_eq}
+use Rattle.std.proofs.Math.ListN.{length-set}
+use Rattle.tlsf_heap.specs.Blocks.{HeapState}
+use Rattle.tlsf_heap.specs.Lawful.{IsLawful, IsRegion}
+use Rattle.tlsf_heap.specs.Calls.{Call, answered, opened}
+use Rattle.tlsf_heap.proofs.Outcomes.{ids, lawful_run}
+use Rattle.tlsf_crew.specs.declared.yard.worker.Worker.{Worker}
+use Rattle.tlsf_crew.specs.yard.Workers.{heap_of}
+use Rattle.tlsf_crew.specs.yard.Yard.{yard_heap, no_heap, IsHeapOf}
+use Rattle.tlsf_crew.proofs.lemmas.yard.Slots.{get_set_same, get_set_other, heap_at}
+
+-- the heap k has the number of h, and is lawful where h is
+abbrev pub KeepsHeap : HeapState → HeapState → Type 0
+KeepsHeap h k = (k.id ≡ h.id) × (IsLawful h → IsLawful k)
+
+pub same_heap_keeps : (h k : HeapState) → k ≡ h → KeepsHeap h k
+same_heap_keeps h k e = (ap (λ x. x.id) e, λ lawful. subst IsLawful (sym e) lawful)
+
+pub call_keeps : (h k : HeapState) (call : Call) → k ≡ (answered h call).1 → KeepsHeap h k
+call_keeps h k call e = (ap (λ x. x.id) e ∙ ids h call, λ lawful. subst IsLawful (sym e) (lawful_run h (call ∷ []) lawful))
+
+-- each worker has a lawful heap of its number
+abbrev pub OwnHeaps : List Worker → Type 0
+OwnHeaps ws = (i : ℕ) → i < length ws → IsHeapOf i (yard_heap ws i)
+
+pub heaps_along : (ws vs : List Worker) → map heap_of vs ≡ map heap_of ws → length vs ≡ length ws → OwnHeaps ws → OwnHeaps vs
+heaps_along ws vs e len heaps i i_in = subst (λ (l : List HeapState). IsHeapOf i (get_or l i no_heap)) (sym e) (heaps i (omega (arith, len)))
+
+pub heaps_set : (ws : List Worker) (i : ℕ) (a v : Worker) → slice_get ws i ≡ Some a → KeepsHeap (heap_of a) (heap_of v) → OwnHeaps ws → OwnHeaps (set ws i v)
+heaps_set ws i a v is kept heaps x x_in =
+    let x_old : x < length ws = omega (arith, length-set ws i v) in
+    let h = heaps x x_old in
+    elim (cases_eq x i) [
+      | inl xi ↦
+          let old : yard_heap ws x ≡ heap_of a = ap (yard_heap ws) xi ∙ heap_at ws i a is in
+          let new : yard_heap (set ws i v) x ≡ heap_of v = ap (yard_heap (set ws i v)) xi ∙ heap_at (set ws i v) i v (get_set_same ws i v (slice_get_within ws i a is)) in
+          rw new (kept.0 ∙ (sym (ap (λ k. k.id) old) ∙ h.0), kept.1 (subst IsLawful old h.1))
+      | inr xi ↦
+          let there = slice_get-get_or ws x a x_old in
+          let e : yard_heap (set ws i v) x ≡ yard_heap ws x = heap_at (set ws i v) x (get_or ws x a) (get_set_other ws i x v xi ∙ there) ∙ sym (heap_at ws x (get_or ws x a) there) in
+          subst (IsHeapOf x) (sym e) h
+    ]
+
+pub opened_lawful : (id words : ℕ) → IsRegion words → IsHeapOf id (opened id words 0)
+opened_lawful id words region = (
+  refl,
+  record {
+    rooms = (region.0, tt);
+    whole = omega arith;
+    apart = tt;
+    serials_differ = tt;
+    stamps_differ = (tt, tt);
+    serials_past = tt;
+    stamps_past = (omega arith, tt);
+  },
+)

@@ -1,0 +1,25 @@
+use Rattle.std.proofs.Common.{◌≡◌, ◌∙◌, ap, sym, arith, Some, slice_get}
+use Rattle.std.proofs.lemmas.Option.{slice_get-get_or}
+use Rattle.tlsf_crew.proofs.lemmas.threads.LastDrains.{drain_next, room_next}
+use Rattle.tlsf_crew.proofs.lemmas.yard.Slots.{get_set_other}
+use Rattle.tlsf_crew.proofs.threads.race.drain_last.Goals as goal
+
+pub drain_one-requires-clause-room : goal.drain_one-requires-clause-room
+drain_one-requires-clause-room c =
+    let r = c.index-records-j.result in
+    let j = c.loop-j.j in
+    let here : slice_get c.loop-j.records j ≡ Some r = slice_get-get_or c.loop-j.records j r (omega arith) ∙ ap Some (sym c.index-records-j.is) in
+    let there : slice_get c.args.records.now j ≡ Some r = sym (c.loop-j.invariant.later j (omega arith)) ∙ here in
+    rw (sym c.index-records-j.is) (room_next _ _ _ _ j r c.loop-j.invariant.last (c.requires.room j r there))
+
+pub loop-j-preserved : goal.loop-j-preserved
+loop-j-preserved c =
+    let r = c.index-records-j.result in
+    let j = c.loop-j.j in
+    let here : slice_get c.loop-j.records j ≡ Some r = slice_get-get_or c.loop-j.records j r (omega arith) ∙ ap Some (sym c.index-records-j.is) in
+    let there : slice_get c.args.records.now j ≡ Some r = sym (c.loop-j.invariant.later j (omega arith)) ∙ here in
+    record {
+      last = drain_next _ _ _ _ _ j r c.drain_one.new.entries c.loop-j.invariant.last (c.requires.few j) (omega arith) here there c.drain_one.ensures.yard
+          (rw (sym c.index-records-j.is) at c.drain_one.ensures.told);
+      later = λ k le. get_set_other c.loop-j.records j k c.drain_one.new.entries (λ e. omega arith) ∙ c.loop-j.invariant.later k (omega arith);
+    }

@@ -1,0 +1,10 @@
+use Rattle.std.proofs.Common.{refl}
+use Rattle.tlsf_crew.proofs.lemmas.yard.YardKept.{heap_keeps}
+use Rattle.tlsf_crew.proofs.lemmas.yard.OwnHeaps.{same_heap_keeps}
+use Rattle.tlsf_crew.proofs.yard.worker.Worker.read.Goals as goal
+
+pub returns-in-Ok-clause-yard : goal.returns-in-Ok-clause-yard
+returns-in-Ok-clause-yard c = heap_keeps _ _ (refl, refl, refl) (same_heap_keeps _ _ c.in-Ok.ensures.heap)
+
+pub returns-in-Err-clause-yard : goal.returns-in-Err-clause-yard
+returns-in-Err-clause-yard c = heap_keeps _ _ (refl, refl, refl) (same_heap_keeps _ _ c.in-Err.ensures.heap)

@@ -1,0 +1,63 @@
+use Rattle.std.proofs.Common.{◌≡◌, ◌++◌, ◌-◌, [], refl, arith, subst}
+use Rattle.tlsf_crew.specs.yard.Workers.{lane_places}
+use Rattle.tlsf_crew.specs.yard.Notes.{LaneNoted, LanesNoted}
+use Rattle.tlsf_crew.proofs.lemmas.yard.LaneTurns.{counts_then, turn_more, turn_none}
+use Rattle.tlsf_crew.proofs.yard.worker.drain_noting.Goals as goal
+use Rattle.tlsf_crew.proofs.yard.worker.drain_noting.Goals.{then-has_take, else-has_take}
+
+pub loop-from-init : goal.loop-from-init
+loop-from-init g c = record {
+  room = c.requires.room;
+  lanes = ([], (refl, refl, refl), (refl, refl));
+  few = omega arith;
+  touches = omega arith;
+  rise = omega arith;
+}
+
+pub drain_lane-here-requires-clause-lane : goal.drain_lane-here-requires-clause-lane
+drain_lane-here-requires-clause-lane g c = c.has_take.ensures.yes c.if-has_take.true
+
+pub loop-from-preserved : goal.loop-from-preserved
+loop-from-preserved g c =
+    let a = c.args.worker.now in
+    let b = c.loop-from.worker in
+    let noted = g.N.Notes.noted in
+    let admitted = g.N.Notes.admitted in
+    let i = c.loop-from.invariant in
+    let l = i.lanes in
+    elim c.if-has_take.branch [
+      | then-has_take w ↦
+          let e = w.drain_lane-here.ensures in
+          let v = w.drain_lane-here.new.worker in
+          let z = w.drain_lane-here.new.notes in
+          let t = e.drained in
+          let lane = subst (λ n. LaneNoted noted admitted b v c.loop-from.notes z c.loop-from.from (c.args.most - n) t.0) l.2.0 t.1 in
+          record {
+            room = rw w.notes-is e.room;
+            lanes = rw (w.worker-is, w.notes-is, w.drained-is) (
+              l.0 ++ t.0,
+              turn_more noted admitted a b v c.args.notes.now c.loop-from.notes z c.args.most c.loop-from.from l.0 t.0 l.1 (c.has_take.ensures.yes w.if-has_take.true) lane,
+              counts_then c.loop-from.drained w.drain_lane-here.result l.0 t.0 l.2 t.2,
+            );
+            few = rw w.drained-is (omega (arith, e.most, i.few));
+            touches = rw (w.worker-is, w.drained-is) (omega (arith, e.touches, i.touches));
+            rise = rw w.worker-is (omega (arith, e.touches_rise, i.rise));
+          }
+      | else-has_take w ↦ record {
+        room = rw w.notes-is i.room;
+        lanes = rw (w.worker-is, w.notes-is, w.drained-is) (l.0, turn_none noted admitted a b c.args.notes.now c.loop-from.notes c.args.most c.loop-from.from l.0 l.1 (c.has_take.ensures.no w.if-has_take.false), l.2);
+        few = rw w.drained-is i.few;
+        touches = rw (w.worker-is, w.drained-is) i.touches;
+        rise = rw w.worker-is i.rise;
+      }
+    ]
+
+pub returns-clause-drained : goal.returns-clause-drained
+returns-clause-drained g c =
+    let l = c.loop-from.invariant.lanes in
+    let e : c.loop-from.from ≡ lane_places c.args.worker.now = omega (arith, c.len-from-end.ensures) in
+    record {
+      tooks = l.0;
+      lanes = subst (λ n. LanesNoted g.N.Notes.noted g.N.Notes.admitted c.args.worker.now c.loop-from.worker c.args.notes.now c.loop-from.notes c.args.most n l.0) e l.1;
+      count = l.2;
+    }

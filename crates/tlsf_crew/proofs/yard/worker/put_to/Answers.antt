@@ -1,0 +1,27 @@
+use Rattle.std.proofs.Common.{◌≡◌, ◌∙◌, refl, sym, ap, Some}
+use Rattle.std.specs.Option.{option_copied_mut}
+use Rattle.std.proofs.lemmas.Option.{slice_get_within}
+use Rattle.tlsf_crew.proofs.lemmas.yard.StandingEnd.{same_end}
+use Rattle.tlsf_crew.proofs.lemmas.yard.Slots.{from_slot, slot_new, slot_other}
+use Rattle.tlsf_crew.proofs.yard.worker.put_to.Goals as goal
+
+pub returns-clause-put : goal.returns-clause-put
+returns-clause-put c =
+    let e = c.put.ensures in
+    let p = c.requires.0 in
+    let xs = c.args.poster.now.posts.items in
+    let is = from_slot _ p c.requires.1 in
+    let a : Some c.in-Some.end.now ≡ c.index_mut.result.now = sym (ap option_copied_mut c.in-Some.is) ∙ c.as_mut.ensures.value in
+    let pe : c.in-Some.end.now ≡ p = same_end _ xs c.args.j _ _ c.index_mut.ensures.value is a in
+    record {
+      end = p;
+      new_end = c.put.new.self;
+      end_is = c.requires.1;
+      new_end_is = slot_new xs _ c.args.j c.put.new.self (slice_get_within xs c.args.j (Some p) is) refl;
+      others = slot_other xs _ c.args.j c.put.new.self refl;
+      same = (refl, refl, refl);
+      lane = rw (← pe) e.lane;
+      ok = rw (← pe) e.ok;
+      full = rw (← pe) e.full;
+      succeeds = rw (← pe) e.succeeds;
+    }

@@ -1,0 +1,77 @@
+-- What the parts of a race give one another. This serves the contracts and proofs of private functions alone.
+use Rattle.std.specs.Prelude.{◌≡◌, ℕ, ◌+◌, ◌<◌, ◌≤◌, List, [], ◌∷◌, ◌++◌, length, slice_index, slice_get, Option, Some, None, vec_len, vec_capacity}
+use Rattle.std.specs.declared.vec.Vec.{Vec}
+use Rattle.std.specs.declared.alloc.Global.{Global}
+use Rattle.tlsf_heap.specs.declared.name.Name.{Name}
+use Rattle.tlsf_crew.specs.declared.yard.worker.Worker.{Worker}
+use Rattle.tlsf_crew.specs.declared.yard.entry.Entry.{Entry}
+use Rattle.tlsf_crew.specs.declared.yard.call.Call.{Call}
+use Rattle.tlsf_crew.specs.declared.threads.job.Job.{Job}
+use Rattle.tlsf_crew.specs.yard.Yard.{IsYard, yard_heap, capacity_in, waits_in}
+use Rattle.tlsf_crew.specs.yard.Counts.{sum_below, ready_from, releases_of}
+use Rattle.tlsf_crew.specs.yard.History.{IsDrain, posts_taken}
+use Rattle.tlsf_crew.specs.threads.Race.{last_call, script_of, record_of}
+use Rattle.tlsf_crew.specs.yard.Told.{MayTell}
+use Rattle.tlsf_crew.specs.threads.Job.{IsReady, Ran}
+
+-- how many posts a worker may take from worker i: those that are ready, and one for each release of i's script
+abbrev pub most_from : List ℕ → Worker → ℕ → ℕ
+most_from releases a i = ready_from a i + slice_index releases i
+
+-- a job of one of n workers that is ready to run, with the room for all entries of its record
+pub record IsPrepared (n : ℕ) (releases : List ℕ) (job : Job) : Type 0 where
+  pub ready : IsReady job
+  pub count : job.count ≡ n
+  pub room : vec_len job.script + sum_below 8 (most_from releases job.worker) + 1 ≤ vec_capacity job.entries
+
+-- each job was done, in order
+abbrev pub AllDone : {J D : Type 0} → (J → D → Type 0) → List J → List D → Type 0
+AllDone P [] [] = Unit {0}
+AllDone P [] (d ∷ ds) = ⊥
+AllDone P (j ∷ js) [] = ⊥
+AllDone P (j ∷ js) (d ∷ ds) = P j d × AllDone P js ds
+
+-- the workers ws ran the scripts and became the workers vs
+pub record HaveRun (ws : List Worker) (scripts : List (List Call)) (records : List (List Entry)) (vs : List Worker) : Type 0 where
+  pub made : ℕ → List (Option Name)
+  pub worker_count : length vs ≡ length ws
+  pub record_count : length records ≡ length ws
+  pub yard : IsYard vs
+  pub ran : (j : ℕ) (a : Worker) → slice_get ws j ≡ Some a
+      → (v : Worker) × (slice_get vs j ≡ Some v) × Ran (length ws) a (script_of scripts j) (made j) (record_of records j) v
+
+-- each record has room for the calls of the script, for each post that may be taken, and for the last drain
+abbrev pub HaveRooms : List Worker → List (List Call) → List (Vec Entry Global) → Type 0
+HaveRooms ws scripts records = (j : ℕ) (a : Worker) (r : Vec Entry Global) → slice_get ws j ≡ Some a → slice_get records j ≡ Some r
+    → length (script_of scripts j) + sum_below 8 (λ i. ready_from a i + releases_of (script_of scripts i)) + 1 ≤ vec_capacity r
+
+-- a record has room for all that waits for worker j, and for one entry more
+abbrev pub HasLastRoom : List Worker → ℕ → Vec Entry Global → Type 0
+HasLastRoom ws j r = vec_len r + sum_below 8 (λ i. length (waits_in ws i j)) + 1 ≤ vec_capacity r
+
+abbrev pub HaveLastRooms : List Worker → List (Vec Entry Global) → Type 0
+HaveLastRooms ws records = (j : ℕ) (r : Vec Entry Global) → slice_get records j ≡ Some r → HasLastRoom ws j r
+
+-- no more posts wait for worker j in a lane than any lane holds
+abbrev pub HasFew : List Worker → ℕ → Type 0
+HasFew ws j = (i : ℕ) → length (waits_in ws i j) ≤ 1024
+
+-- worker j took all that waited for it, and was told so behind the earlier entries
+pub record LastTold (ws vs : List Worker) (j : ℕ) (before after : List Entry) : Type 0 where
+  pub own : List Entry
+  pub entries : after ≡ before ++ own
+  pub is_drain : IsDrain j 8192 own
+  pub posts : (i : ℕ) → posts_taken i j own ≡ waits_in ws i j
+  pub told : (made : List (Option Name)) → MayTell (length ws) j (record { made = made; entries = before; heap = yard_heap ws j }) last_call
+      (record { made = made ++ None ∷ []; entries = after; heap = yard_heap vs j })
+
+-- so did each worker below k; the others are as they were
+pub record LastDrained (ws : List Worker) (rs ss : List (List Entry)) (vs : List Worker) (k : ℕ) : Type 0 where
+  pub yard : IsYard vs
+  pub worker_count : length vs ≡ length ws
+  pub record_count : length ss ≡ length rs
+  pub capacity : capacity_in vs ≡ capacity_in ws
+  pub told : (j : ℕ) → j < k → LastTold ws vs j (record_of rs j) (record_of ss j)
+  pub empty : (i j : ℕ) → j < k → waits_in vs i j ≡ []
+  pub later_waits : (i j : ℕ) → k ≤ j → waits_in vs i j ≡ waits_in ws i j
+  pub later_heaps : (j : ℕ) → k ≤ j → yard_heap vs j ≡ yard_heap ws j

@@ -1,0 +1,35 @@
+-- The calls of one heap: the heap's own definitions, behind names that don't unfold by themselves.
+-- The heap's are `abbrev`: each proof on worlds would carry their bodies in its goals, and its searches would stop at a limit.
+use Rattle.std.specs.Prelude.{ℕ, List, Result, Ok, Err, nat_le, if◌then◌else◌}
+use Rattle.tlsf_heap.specs.Blocks.{HeapState}
+use Rattle.tlsf_heap.specs.Calls as heap
+use Rattle.tlsf_heap.specs.Calls.{Outcome}
+use Rattle.tlsf_crew.specs.yard.Bytes.{chunk_of}
+use Rattle.tlsf_crew.specs.declared.yard.chunk.Chunk.{Chunk}
+use Rattle.tlsf_heap.specs.declared.name.Name.{Name}
+use Rattle.tlsf_heap.specs.declared.refusal.Refusal.{Refusal}
+use Rattle.tlsf_heap.specs.declared.refusal.Refusal.TheVariants.{Range}
+
+unfoldable pub allocated : HeapState → ℕ → Outcome Name
+allocated h len = heap.allocated h len
+
+unfoldable pub released : HeapState → Name → Outcome (Unit {0})
+released h name = heap.released h name
+
+unfoldable pub written : HeapState → Name → ℕ → List ℕ → Outcome (Unit {0})
+written h name from bytes = heap.written h name from bytes
+
+abbrev pub bytes_read : HeapState → Name → ℕ → ℕ → Result (List ℕ) Refusal
+bytes_read h name from n = heap.read_of h name from n
+
+abbrev pub too_many : Result (List ℕ) Refusal → Result (List ℕ) Refusal
+too_many (Ok bytes) = Err Range
+too_many (Err why) = Err why
+
+abbrev pub as_chunk : Result (List ℕ) Refusal → Result Chunk Refusal
+as_chunk (Ok bytes) = Ok (chunk_of bytes)
+as_chunk (Err why) = Err why
+
+-- a read of at most 64 bytes. More are refused as Range where the name is neither of another heap nor stale
+unfoldable pub chunk_read : HeapState → Name → ℕ → ℕ → Result Chunk Refusal
+chunk_read h name from n = if nat_le n 64 then as_chunk (bytes_read h name from n) else as_chunk (too_many (bytes_read h name from 0))

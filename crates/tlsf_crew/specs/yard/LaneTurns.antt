@@ -1,0 +1,50 @@
+-- What a worker's drain takes and leaves.
+use Rattle.std.specs.Prelude.{◌≡◌, ℕ, zero, suc, ◌-◌, ◌<◌, List, [], ◌∷◌, ◌++◌, length, Bool, is_ok, Some, None, Ok, ◌⊎◌}
+use Rattle.std.specs.List.{fold, count_by}
+use Rattle.tlsf_heap.specs.Blocks.{HeapState}
+use Rattle.tlsf_heap.specs.Calls.{released}
+use Rattle.tlsf_crew.specs.declared.yard.drained.Drained.{Drained}
+use Rattle.tlsf_crew.specs.declared.yard.took.Took.{Took}
+use Rattle.tlsf_crew.specs.declared.yard.worker.Worker.{Worker}
+use Rattle.tlsf_crew.specs.yard.Workers.{heap_of, HasTake, lane_places}
+use Rattle.tlsf_crew.specs.yard.Calls.{TakenFrom}
+
+-- worker a becomes worker v by takes from one lane, which answered these one after another
+abbrev pub TakesInTurn : Worker → Worker → ℕ → List Took → Type 0
+TakesInTurn a v from [] = v ≡ a
+TakesInTurn a v from (took ∷ tooks) = (b : Worker) × TakenFrom a b from (Ok (Some took)) × TakesInTurn b v from tooks
+
+-- a drain of one lane: it ends where `most` posts were taken, or with a take that shows no post
+pub record LaneDrained (a v : Worker) (from most : ℕ) (tooks : List Took) : Type 0 where
+  pub last : Worker
+  pub takes : TakesInTurn a last from tooks
+  pub end : ((length tooks ≡ most) × (v ≡ last)) ⊎ ((length tooks < most) × TakenFrom last v from (Ok None))
+
+-- the turn of one worker: the lane from it is drained; where there is none, nothing happens
+pub record TurnDrained (a v : Worker) (from most : ℕ) (tooks : List Took) : Type 0 where
+  pub lane : HasTake a from → LaneDrained a v from most tooks
+  pub nowhere : ¬ (HasTake a from) → (tooks ≡ []) × (v ≡ a)
+
+-- the turns of the workers below k, in rising order; each may take what `most` leaves
+abbrev pub LanesDrained : Worker → Worker → ℕ → ℕ → List Took → Type 0
+LanesDrained a v most zero tooks = (tooks ≡ []) × (v ≡ a)
+LanesDrained a v most (suc k) tooks =
+    (b : Worker) × (before : List Took) × (here : List Took)
+    × (tooks ≡ before ++ here) × LanesDrained a b most k before × TurnDrained b v k (most - length before) here
+
+abbrev pub is_freed : Took → Bool
+is_freed took = is_ok took.answer
+
+-- the heap after the releases of the names that were taken, one after another
+abbrev pub heap_after : HeapState → List Took → HeapState
+heap_after h tooks = fold (λ g took. (released g took.name).heap) h tooks
+
+abbrev pub IsCountOf : Drained → List Took → Type 0
+IsCountOf answer tooks = (answer.taken ≡ length tooks) × (answer.freed ≡ count_by is_freed tooks)
+
+-- a drain of all lanes
+pub record DrainedAll (a v : Worker) (most : ℕ) (answer : Drained) : Type 0 where
+  pub tooks : List Took
+  pub lanes : LanesDrained a v most (lane_places a) tooks
+  pub heap : heap_of v ≡ heap_after (heap_of a) tooks
+  pub count : IsCountOf answer tooks

@@ -1,0 +1,55 @@
+-- What the steps of a replay answer and leave. This serves the contracts and proofs of private functions alone.
+use Rattle.std.specs.Prelude.{◌≡◌, ℕ, ◌<◌, ◌≤◌, List, [], ◌∷◌, ◌++◌, length, slice_index, Option, Some, None, ⊤}
+use Rattle.tlsf_post.specs.declared.take_end.TakeEnd.{TakeEnd}
+use Rattle.tlsf_post.specs.Lanes.{ready}
+use Rattle.tlsf_heap.specs.declared.name.Name.{Name}
+use Rattle.tlsf_crew.specs.declared.yard.worker.Worker.{Worker}
+use Rattle.tlsf_crew.specs.declared.yard.entry.Entry.{Entry}
+use Rattle.tlsf_crew.specs.declared.yard.event.Event.{Event}
+use Rattle.tlsf_crew.specs.declared.yard.call.Call.{Call}
+use Rattle.tlsf_crew.specs.declared.yard.call.Call.TheVariants.{Allocate, Release, Write, Read, Take, Drain}
+use Rattle.tlsf_crew.specs.declared.yard.reply.Reply.{Reply}
+use Rattle.tlsf_crew.specs.declared.yard.reply.Reply.TheVariants.{Took as Taken, Empty}
+use Rattle.tlsf_crew.specs.declared.yard.took.Took.{Took}
+use Rattle.tlsf_crew.specs.yard.Yard.{IsYard, take_at, waits_in}
+use Rattle.tlsf_crew.specs.yard.World.{world_of, name_of, made_by, after, Draining, Replayed}
+
+abbrev pub reply_took : Option Took → Reply
+reply_took None = Empty
+reply_took (Some t) = Taken t
+
+abbrev pub drain_of : List Entry → List Worker → ℕ → Draining
+drain_of entries ws taken = record { entries = entries; world = world_of ws; taken = taken }
+
+abbrev pub replay_of : List (Option Name) → List Entry → List Worker → Replayed
+replay_of made entries ws = record { made = made; entries = entries; world = world_of ws }
+
+-- the call of an event was answered, and only the event's own entry is still to come
+pub record IsReplied (r : Replayed) (event : Event) (entries : List Entry) (vs : List Worker) (reply : Reply) : Type 0 where
+  pub yard : IsYard vs
+  pub after : after r event ≡ replay_of (r.made ++ made_by reply ∷ []) (entries ++ record { worker = event.worker; call = event.call; reply = reply } ∷ []) vs
+
+-- the lane from i to j is one that an event may post into or take from
+abbrev pub ConcernsCall : List (Option Name) → ℕ → Call → ℕ → ℕ → Type 0
+ConcernsCall made at (Allocate len) i j = ⊥
+ConcernsCall made at (Release target) i j = (i ≡ at) × (name : Name) × (name_of made target ≡ Some name) × (j ≡ name.heap)
+ConcernsCall made at (Write target from bytes) i j = ⊥
+ConcernsCall made at (Read target from n) i j = ⊥
+ConcernsCall made at (Take from) i j = j ≡ at
+ConcernsCall made at (Drain most) i j = j ≡ at
+
+abbrev pub Concerns : List (Option Name) → Event → ℕ → ℕ → Type 0
+Concerns made e i j = ConcernsCall made e.worker e.call i j
+
+abbrev pub MayTake : Call → Type 0
+MayTake (Allocate len) = ⊥
+MayTake (Release target) = ⊥
+MayTake (Write target from bytes) = ⊥
+MayTake (Read target from n) = ⊥
+MayTake (Take from) = ⊤
+MayTake (Drain most) = ⊤
+
+-- so many posts an event may take from each worker: no more than wait, and all that are ready, where it takes any
+pub record AreLimits (ws : List Worker) (e : Event) (limits : List ℕ) : Type 0 where
+  pub few : (i : ℕ) → i < 8 → slice_index limits i ≤ length (waits_in ws i e.worker)
+  pub all : MayTake e.call → (i : ℕ) (t : TakeEnd) → i < 8 → take_at ws i e.worker ≡ Some t → length (ready t) ≤ slice_index limits i

@@ -1,0 +1,35 @@
+-- What a worker is told by its calls, one after another.
+use Rattle.std.specs.Prelude.{◌≡◌, ℕ, List, [], ◌∷◌, length, Option}
+use Rattle.tlsf_heap.specs.declared.name.Name.{Name}
+use Rattle.tlsf_heap.specs.Blocks.{HeapState}
+use Rattle.tlsf_crew.specs.declared.yard.entry.Entry.{Entry}
+use Rattle.tlsf_crew.specs.declared.yard.call.Call.{Call}
+use Rattle.tlsf_crew.specs.yard.World.{World, Replayed, heap_in, called}
+
+-- what a worker was told so far: the names that its calls made, its entries, and its heap
+pub record Told : Type 0 where
+  pub made : List (Option Name)
+  pub entries : List Entry
+  pub heap : HeapState
+
+-- a worker that was told nothing
+abbrev pub untold : HeapState → Told
+untold h = record { made = []; entries = []; heap = h }
+
+-- what worker `at` was told by the model
+abbrev pub told_by : ℕ → Replayed → Told
+told_by at r = record { made = r.made; entries = r.entries; heap = heap_in r.world at }
+
+-- a world of n workers in which worker `at` has this heap
+abbrev pub HasHeap : World → ℕ → ℕ → HeapState → Type 0
+HasHeap w n at h = (length w.heaps ≡ n) × (heap_in w at ≡ h)
+
+-- one call more, answered as in some world in which the worker has its heap: what waits in the lanes is free to choose
+abbrev pub MayTell : ℕ → ℕ → Told → Call → Told → Type 0
+MayTell n at s call t =
+    (w : World) × HasHeap w n at s.heap × (told_by at (called (record { made = s.made; entries = s.entries; world = w }) at call) ≡ t)
+
+-- the calls of a script, one after another
+abbrev pub MayTellAll : ℕ → ℕ → Told → List Call → Told → Type 0
+MayTellAll n at s [] t = t ≡ s
+MayTellAll n at s (call ∷ calls) t = (u : Told) × MayTell n at s call u × MayTellAll n at u calls t

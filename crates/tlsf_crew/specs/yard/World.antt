@@ -1,0 +1,214 @@
+-- The world that a yard shows, and one step of it.
+use Rattle.std.specs.Prelude.{zero, suc, ℕ, ◌+◌, ◌-◌, List, [], ◌∷◌, ◌++◌, length, map, take, drop, get_or, set, Option, Some, None, Result, Ok, Err, ◌&&◌, ◌==◌, nat_lt, if◌then◌else◌}
+use Rattle.std.specs.List.{fold}
+use Rattle.tlsf_post.specs.declared.post.Post.{Post}
+use Rattle.tlsf_heap.specs.declared.name.Name.{Name}
+use Rattle.tlsf_heap.specs.Blocks.{HeapState}
+use Rattle.tlsf_crew.specs.yard.Bytes.{bytes_of}
+use Rattle.tlsf_crew.specs.declared.yard.chunk.Chunk.{Chunk}
+use Rattle.tlsf_crew.specs.yard.Heaps.{allocated, released, written, chunk_read}
+use Rattle.tlsf_heap.specs.declared.refusal.Refusal.{Refusal}
+use Rattle.tlsf_crew.specs.declared.yard.worker.Worker.{Worker}
+use Rattle.tlsf_crew.specs.declared.yard.event.Event.{Event}
+use Rattle.tlsf_crew.specs.declared.yard.entry.Entry.{Entry}
+use Rattle.tlsf_crew.specs.declared.yard.call.Call.{Call}
+use Rattle.tlsf_crew.specs.declared.yard.call.Call.TheVariants.{Allocate, Release, Write, Read, Take, Drain}
+use Rattle.tlsf_crew.specs.declared.yard.target.Target.{Target}
+use Rattle.tlsf_crew.specs.declared.yard.target.Target.TheVariants.{Named, Made as MadeBy, Absent}
+use Rattle.tlsf_crew.specs.declared.yard.reply.Reply.{Reply}
+use Rattle.tlsf_crew.specs.declared.yard.reply.Reply.TheVariants.{Made, Freed, Posted, Wrote, Got, Took as Taken, Empty, Drained, Refused}
+use Rattle.tlsf_crew.specs.declared.yard.crew_refusal.CrewRefusal.TheVariants.{Heap, Full, Stranger, Unmade}
+use Rattle.tlsf_crew.specs.yard.Workers.{heap_of}
+use Rattle.tlsf_crew.specs.yard.Yard.{post_at, take_at, lane_waits, capacity_in, no_heap}
+
+pub record World : Type 0 where
+  pub heaps : List HeapState
+  pub waiting : ℕ → ℕ → List Post
+  pub capacity : ℕ
+
+-- what a yard shows
+unfoldable pub world_of : List Worker → World
+world_of ws = record { heaps = map heap_of ws; waiting = λ i j. lane_waits (post_at ws i j) (take_at ws i j); capacity = capacity_in ws }
+
+-- the same but for the posts from i to j
+abbrev pub edited : (ℕ → ℕ → List Post) → ℕ → ℕ → List Post → ℕ → ℕ → List Post
+edited f i j posts x y = if x == i && y == j then posts else f x y
+
+abbrev pub with_waiting : World → ℕ → ℕ → List Post → World
+with_waiting w i j posts = record { heaps = w.heaps; waiting = edited w.waiting i j posts; capacity = w.capacity }
+
+-- the same but for the heap of worker i
+abbrev pub with_heap : World → ℕ → HeapState → World
+with_heap w i h = record { heaps = set w.heaps i h; waiting = w.waiting; capacity = w.capacity }
+
+abbrev pub heap_in : World → ℕ → HeapState
+heap_in w i = get_or w.heaps i no_heap
+
+-- a reply and the world that it leaves
+pub record Replied : Type 0 where
+  pub reply : Reply
+  pub world : World
+
+abbrev pub reply_made : Result Name Refusal → Reply
+reply_made (Ok name) = Made name
+reply_made (Err why) = Refused (Heap why)
+
+abbrev pub reply_freed : Result (Unit {0}) Refusal → Reply
+reply_freed (Ok done) = Freed
+reply_freed (Err why) = Refused (Heap why)
+
+abbrev pub allocating : World → ℕ → ℕ → Replied
+allocating w at len = record { reply = reply_made (allocated (heap_in w at) len).answer; world = with_heap w at (allocated (heap_in w at) len).heap }
+
+abbrev pub freeing : World → ℕ → Name → Replied
+freeing w at name = record { reply = reply_freed (released (heap_in w at) name).answer; world = with_heap w at (released (heap_in w at) name).heap }
+
+abbrev pub reply_wrote : ℕ → Result (Unit {0}) Refusal → Reply
+reply_wrote n (Ok done) = Wrote n
+reply_wrote n (Err why) = Refused (Heap why)
+
+abbrev pub reply_got : Result Chunk Refusal → Reply
+reply_got (Ok bytes) = Got bytes
+reply_got (Err why) = Refused (Heap why)
+
+abbrev pub writing : World → ℕ → Name → ℕ → List ℕ → Replied
+writing w at name from bytes = record {
+  reply = reply_wrote (length bytes) (written (heap_in w at) name from bytes).answer;
+  world = with_heap w at (written (heap_in w at) name from bytes).heap;
+}
+
+abbrev pub reading : World → ℕ → Name → ℕ → ℕ → Replied
+reading w at name from n = record { reply = reply_got (chunk_read (heap_in w at) name from n); world = w }
+
+-- a post into the lane from `at` to another worker
+unfoldable pub posting : World → ℕ → Name → Replied
+posting w at name =
+    if length (w.waiting at name.heap) == w.capacity
+    then record { reply = Refused (Full name); world = w }
+    else record { reply = Posted; world = with_waiting w at name.heap (w.waiting at name.heap ++ record { from = at; name = name } ∷ []) }
+
+abbrev pub releasing : World → ℕ → Name → Replied
+releasing w at name =
+    if name.heap == at then freeing w at name
+    else (if nat_lt name.heap (length w.heaps) then posting w at name else record { reply = Refused Stranger; world = w })
+
+-- the first post from another worker is taken and released
+abbrev pub took : World → ℕ → ℕ → Post → List Post → Replied
+took w at from p rest = record {
+  reply = Taken (record { from = p.from; name = p.name; answer = (released (heap_in w at) p.name).answer });
+  world = with_heap (with_waiting w from at rest) at (released (heap_in w at) p.name).heap;
+}
+
+abbrev pub took_first : World → ℕ → ℕ → List Post → Replied
+took_first w at from [] = record { reply = Empty; world = w }
+took_first w at from (p ∷ rest) = took w at from p rest
+
+unfoldable pub taking_next : World → ℕ → ℕ → Replied
+taking_next w at from = took_first w at from (w.waiting from at)
+
+abbrev pub taking : World → ℕ → ℕ → Replied
+taking w at from =
+    if from == at then record { reply = Refused Stranger; world = w }
+    else (if nat_lt from (length w.heaps) then taking_next w at from else record { reply = Refused Stranger; world = w })
+
+-- a drain under way
+pub record Draining : Type 0 where
+  pub entries : List Entry
+  pub world : World
+  pub taken : ℕ
+
+-- one post more
+abbrev pub took_more : ℕ → ℕ → Draining → Post → Draining
+took_more at from d p =
+    let r = took d.world at from p (drop 1 (d.world.waiting from at)) in
+    record { entries = d.entries ++ record { worker = at; call = Take from; reply = r.reply } ∷ []; world = r.world; taken = d.taken + 1 }
+
+-- all that waits from one worker, while fewer than `most` were taken
+unfoldable pub drained_lane : ℕ → ℕ → ℕ → Draining → Draining
+drained_lane at most from d = fold (took_more at from) d (take (most - d.taken) (d.world.waiting from at))
+
+abbrev pub drained_from : ℕ → ℕ → Draining → ℕ → Draining
+drained_from at most d from = if from == at then d else drained_lane at most from d
+
+-- the lanes from the workers below a number, in rising order
+abbrev pub drained_below : ℕ → ℕ → Draining → ℕ → Draining
+drained_below at most d zero = d
+drained_below at most d (suc from) = drained_from at most (drained_below at most d from) from
+
+unfoldable pub drained_all : ℕ → ℕ → Draining → Draining
+drained_all at most d = drained_below at most d (length d.world.heaps)
+
+-- the name that an event made, where it made one
+abbrev pub made_by : Reply → Option Name
+made_by (Made name) = Some name
+made_by Freed = None
+made_by Posted = None
+made_by (Wrote n) = None
+made_by (Got bytes) = None
+made_by (Taken t) = None
+made_by Empty = None
+made_by (Drained n) = None
+made_by (Refused why) = None
+
+-- the name that a target means, by what the events so far made
+abbrev pub name_of : List (Option Name) → Target → Option Name
+name_of made (Named name) = Some name
+name_of made (MadeBy k) = get_or made k None
+name_of made Absent = None
+
+abbrev pub releasing_named : World → ℕ → Option Name → Replied
+releasing_named w at None = record { reply = Refused Unmade; world = w }
+releasing_named w at (Some name) = releasing w at name
+
+abbrev pub writing_named : World → ℕ → Option Name → ℕ → List ℕ → Replied
+writing_named w at None from bytes = record { reply = Refused Unmade; world = w }
+writing_named w at (Some name) from bytes = writing w at name from bytes
+
+abbrev pub reading_named : World → ℕ → Option Name → ℕ → ℕ → Replied
+reading_named w at None from n = record { reply = Refused Unmade; world = w }
+reading_named w at (Some name) from n = reading w at name from n
+
+-- the events so far: what each made, what was answered, and the world
+pub record Replayed : Type 0 where
+  pub made : List (Option Name)
+  pub entries : List Entry
+  pub world : World
+
+-- one answer more
+abbrev pub answered : Replayed → ℕ → Call → Replied → Replayed
+answered r at call a = record {
+  made = r.made ++ made_by a.reply ∷ [];
+  entries = r.entries ++ record { worker = at; call = call; reply = a.reply } ∷ [];
+  world = a.world;
+}
+
+-- the drain's entries, and then its own
+unfoldable pub draining : Replayed → ℕ → ℕ → Replayed
+draining r at most =
+    let d = drained_all at most (record { entries = r.entries; world = r.world; taken = 0 }) in
+    record {
+      made = r.made ++ None ∷ [];
+      entries = d.entries ++ record { worker = at; call = Drain most; reply = Drained d.taken } ∷ [];
+      world = d.world;
+    }
+
+abbrev pub called : Replayed → ℕ → Call → Replayed
+called r at (Allocate len) = answered r at (Allocate len) (allocating r.world at len)
+called r at (Release target) = answered r at (Release target) (releasing_named r.world at (name_of r.made target))
+called r at (Write target from bytes) = answered r at (Write target from bytes) (writing_named r.world at (name_of r.made target) from (bytes_of bytes))
+called r at (Read target from n) = answered r at (Read target from n) (reading_named r.world at (name_of r.made target) from n)
+called r at (Take from) = answered r at (Take from) (taking r.world at from)
+called r at (Drain most) = draining r at most
+
+-- one event
+unfoldable pub after : Replayed → Event → Replayed
+after r e =
+    if nat_lt e.worker (length r.world.heaps) then called r e.worker e.call
+    else answered r e.worker e.call (record { reply = Refused Stranger; world = r.world })
+
+abbrev pub begun : World → Replayed
+begun w = record { made = []; entries = []; world = w }
+
+-- every event in order
+unfoldable pub replies : World → List Event → Replayed
+replies w es = fold after (begun w) es

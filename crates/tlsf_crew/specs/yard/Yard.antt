@@ -1,0 +1,87 @@
+-- A yard of workers, its lanes, and when it is whole.
+use Rattle.std.specs.Prelude.{◌≡◌, ◌≢◌, ℕ, ◌+◌, ◌<◌, ◌≤◌, List, [], ◌++◌, length, map, drop, get_or, Option, Some, None, slice_get, All}
+use Rattle.tlsf_post.specs.declared.post.Post.{Post}
+use Rattle.tlsf_post.specs.declared.post_end.PostEnd.{PostEnd}
+use Rattle.tlsf_post.specs.declared.take_end.TakeEnd.{TakeEnd}
+use Rattle.tlsf_post.specs.Lanes.{posts_sent, free_slots, capacity_of, waited, taken, ready, IsLane}
+use Rattle.tlsf_heap.specs.Blocks.{HeapState}
+use Rattle.tlsf_heap.specs.Lawful.{IsLawful}
+use Rattle.tlsf_crew.specs.declared.yard.worker.Worker.{Worker}
+use Rattle.tlsf_crew.specs.yard.Workers.{heap_of, own_numbers, end_to, end_from}
+
+abbrev pub end_to_in : Option Worker → ℕ → Option PostEnd
+end_to_in None j = None
+end_to_in (Some a) j = end_to a j
+
+abbrev pub end_from_in : Option Worker → ℕ → Option TakeEnd
+end_from_in None i = None
+end_from_in (Some a) i = end_from a i
+
+-- the end of worker i that posts to worker j, and the end of worker j that takes from worker i
+abbrev pub post_at : List Worker → ℕ → ℕ → Option PostEnd
+post_at ws i j = end_to_in (slice_get ws i) j
+
+abbrev pub take_at : List Worker → ℕ → ℕ → Option TakeEnd
+take_at ws i j = end_from_in (slice_get ws j) i
+
+-- what stands for the heap of a worker that isn't there
+abbrev pub no_heap : HeapState
+no_heap = record { id = 0; words = 0; tick = 0; blocks = [] }
+
+-- the heap of worker i
+abbrev pub yard_heap : List Worker → ℕ → HeapState
+yard_heap ws i = get_or (map heap_of ws) i no_heap
+
+-- the number of worker i
+abbrev pub id_in : List Worker → ℕ → ℕ
+id_in ws i = (get_or (map own_numbers ws) i (0, 0)).0
+
+-- the capacity of every lane, as the first worker knows it
+abbrev pub capacity_in : List Worker → ℕ
+capacity_in ws = (get_or (map own_numbers ws) 0 (0, 0)).1
+
+-- what waits between two ends: what had waited less what was taken, then what was sent
+abbrev pub lane_waits : Option PostEnd → Option TakeEnd → List Post
+lane_waits None t = []
+lane_waits (Some p) None = []
+lane_waits (Some p) (Some t) = drop (length (taken t)) (waited t ++ posts_sent p)
+
+-- one `beside`
+pub record Meets (p : PostEnd) (t : TakeEnd) (q : PostEnd) (u : TakeEnd) : Type 0 where
+  pub lane : IsLane q u
+  pub order : taken t ++ waited u ≡ waited t ++ posts_sent p
+  pub fresh : (posts_sent q ≡ []) × (taken u ≡ []) × (ready u ≡ waited u)
+  pub capacity : capacity_of q ≡ capacity_of p
+  pub room : free_slots q + length (waited u) ≡ capacity_of q
+
+-- both ends of the lane from i to j are there, and it has this capacity
+abbrev pub HasPair : List Worker → ℕ → ℕ → ℕ → Type 0
+HasPair ws i j capacity = (p : PostEnd) × (t : TakeEnd) × (post_at ws i j ≡ Some p) × (take_at ws i j ≡ Some t) × IsLane p t × (capacity_of p ≡ capacity)
+
+abbrev pub HasEnds : List Worker → ℕ → ℕ → Type 0
+HasEnds ws i j = HasPair ws i j (capacity_in ws)
+
+-- j is a worker of the yard other than i
+abbrev pub IsOther : List Worker → ℕ → ℕ → Type 0
+IsOther ws i j = (j < length ws) × (j ≢ i)
+
+-- a lawful heap of that number
+abbrev pub IsHeapOf : ℕ → HeapState → Type 0
+IsHeapOf i h = (h.id ≡ i) × IsLawful h
+
+-- a whole yard: at most eight workers, numbered from 0 in their order, each with a lawful heap of its number. From each to
+-- each other goes a lane that has both ends, of the yard's capacity, at most 1,024 posts; none has an end to or from itself, or
+-- to or from a worker that isn't there. Each post that waits was posted by the worker at its lane's other end
+pub record IsYard (ws : List Worker) : Type 0 where
+  pub few : length ws ≤ 8
+  pub ids : (i : ℕ) → i < length ws → id_in ws i ≡ i
+  pub heaps : (i : ℕ) → i < length ws → IsHeapOf i (yard_heap ws i)
+  pub alone : (i : ℕ) → (post_at ws i i ≡ None) × (take_at ws i i ≡ None)
+  pub outside : (i j : ℕ) → length ws ≤ j → (post_at ws i j ≡ None) × (take_at ws j i ≡ None)
+  pub lanes : (i j : ℕ) → i < length ws → j < length ws → i ≢ j → HasEnds ws i j
+  pub small : capacity_in ws ≤ 1024
+  pub signed : (i j : ℕ) → All (λ post. post.from ≡ i) (lane_waits (post_at ws i j) (take_at ws i j))
+
+-- what waits in the lane from i to j
+abbrev pub waits_in : List Worker → ℕ → ℕ → List Post
+waits_in ws i j = lane_waits (post_at ws i j) (take_at ws i j)

@@ -1,0 +1,11 @@
+//! A race: a thread for each worker of a yard, with its job, its record and what it hands back.
+
+pub(crate) mod done;
+pub(crate) mod fanning;
+pub(crate) mod gate;
+pub(crate) mod job;
+pub(crate) mod outcome;
+pub(crate) mod preparing;
+pub(crate) mod promised;
+pub(crate) mod race;
+pub(crate) mod work;

@@ -1,0 +1,11 @@
+use crate::yard::entry::Entry;
+use crate::yard::worker::Worker;
+use tlsf_heap::Name;
+
+/// What the thread of one worker of a race hands back.
+#[derive(Drop)]
+pub(crate) struct Done {
+    pub(crate) worker: Worker,
+    pub(crate) made: Vec<Option<Name>>,
+    pub(crate) entries: Vec<Entry>,
+}

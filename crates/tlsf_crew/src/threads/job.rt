@@ -1,0 +1,59 @@
+ghost use Rattle.tlsf_crew.specs.threads.Job.{IsReady, IsDone};
+
+use crate::threads::done::Done;
+use crate::threads::gate::Gate;
+use crate::threads::work::Work;
+use crate::yard::call::Call;
+use crate::yard::entry::Entry;
+use crate::yard::executor::run_call;
+use crate::yard::journal::Journal;
+use crate::yard::worker::Worker;
+use tlsf_heap::Name;
+
+/// What the thread of one worker of a race is given.
+#[derive(Drop)]
+pub(crate) struct Job {
+    pub(crate) worker: Worker,
+    // How many workers race, 1 to 8.
+    pub(crate) count: u32,
+    pub(crate) script: Vec<Call>,
+    // How many posts it may take from each other worker.
+    pub(crate) limits: [u32; 8],
+    // The names that its calls make, with the room for them.
+    pub(crate) made: Vec<Option<Name>>,
+    // Its record, with the room for it.
+    pub(crate) entries: Vec<Entry>,
+}
+
+impl Work for Job {
+    type Done = Done;
+
+    ghost is_ready = { λ job. IsReady job };
+
+    ghost is_done = { λ job done. IsDone job done };
+
+    /// Runs the script. The gate is passed before each call, and once after the last.
+    fn run<G: Gate>(self, gate: &G) -> Done {
+        let Job {
+            mut worker,
+            count,
+            script,
+            limits,
+            mut made,
+            entries,
+        } = self;
+        let mut journal = Journal { limits, entries };
+        let mut index = 0;
+        for call in script.iter() {
+            gate.pass(worker.id, index);
+            run_call(&mut worker, count, &mut journal, *call, &mut made);
+            index += 1;
+        }
+        gate.pass(worker.id, index);
+        Done {
+            worker,
+            made,
+            entries: journal.entries,
+        }
+    }
+}

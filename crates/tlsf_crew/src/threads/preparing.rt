@@ -1,0 +1,115 @@
+//! The jobs of a race. All room is made here, before a thread starts.
+ghost use Rattle.std.specs.Prelude.{◌≡◌, ℕ, ◌+◌, ◌^◌, ◌<◌, ◌≤◌, [], length, map, slice_index, vec_len, vec_capacity, IfOk, OnOk, All};
+ghost use Rattle.tlsf_crew.specs.yard.Counts.{sum_below, ready_from, releases_of};
+ghost use Rattle.tlsf_crew.specs.threads.Race.{script_of};
+ghost use Rattle.tlsf_crew.specs.yard.Workers.{KnowsYard};
+ghost use Rattle.tlsf_crew.specs.threads.Parts.{most_from, IsPrepared};
+
+use crate::threads::job::Job;
+use crate::yard::call::Call;
+use crate::yard::room::count_from;
+use crate::yard::worker::Worker;
+use std::alloc::Global;
+use tlsf_post::NoMemory;
+
+/// How many calls of a script are releases.
+fn count_releases(script: &[Call]) -> u32
+    requires { length script.now < 2 ^ 32 }
+    ensures { result ≡ releases_of script.now }
+{
+    script
+        .iter()
+        .filter(|call| matches!(call, Call::Release { .. }))
+        .count() as u32
+}
+
+/// How many calls of each script are releases.
+pub(crate) fn count_all(scripts: &[Vec<Call>]) -> [u32; 8]
+    requires few { length scripts.now ≤ 8 }
+    requires short { All (λ s. vec_len s < 2 ^ 32) scripts.now }
+    ensures { (i : ℕ) → i < 8 → slice_index result i ≡ releases_of (script_of (map (λ s. s.items) scripts.now) i) }
+{
+    let mut counts = [0; 8];
+    for i in 0..scripts.len() {
+        counts[i] = count_releases(&scripts[i]);
+    }
+    counts
+}
+
+/// How many posts a worker may take from each other one: those that are ready, and one for each release of the other's
+/// script.
+fn limits_for(worker: &Worker, releases: &[u32; 8]) -> [u32; 8]
+    ensures least { (i : ℕ) → i < 8 → ready_from worker.now i ≤ slice_index result i }
+    ensures most { (i : ℕ) → i < 8 → slice_index result i ≤ most_from releases.now worker.now i }
+{
+    let mut limits = [0; 8];
+    for i in 0..8 {
+        limits[i] = count_from(worker, i).saturating_add(releases[i]);
+    }
+    limits
+}
+
+/// Room for the entries of a worker: one for each call, one for each post that it may take, and one for the last drain.
+fn room_for_record(worker: &Worker, releases: &[u32; 8], calls: usize) -> usize
+    requires { calls < 2 ^ 32 }
+    ensures { result ≡ calls + sum_below 8 (most_from releases.now worker.now) + 1 }
+{
+    let mut room = calls + 1;
+    for i in 0..8 {
+        room += count_from(worker, i) as usize + releases[i] as usize;
+    }
+    room
+}
+
+/// A worker with its script, and the room for its record.
+fn make_job(
+    alloc: Global,
+    worker: Worker,
+    script: Vec<Call>,
+    count: u32,
+    releases: &[u32; 8],
+) -> Result<Job, NoMemory>
+    requires yard { KnowsYard count worker }
+    requires short { vec_len script < 2 ^ 32 }
+    ensures { IfOk result (λ job. (job.worker ≡ worker) × (job.script ≡ script) × IsPrepared count releases.now job) }
+{
+    let limits = limits_for(&worker, releases);
+    let made = Vec::with_capacity(alloc, script.len())?;
+    let entries = Vec::with_capacity(alloc, room_for_record(&worker, releases, script.len()))?;
+    Ok(Job {
+        worker,
+        count,
+        script,
+        limits,
+        made,
+        entries,
+    })
+}
+
+/// Pairs each worker with its script, in order, and makes the room for its record.
+pub(crate) fn add_jobs(
+    alloc: Global,
+    mut workers: Vec<Worker>,
+    mut scripts: Vec<Vec<Call>>,
+    count: u32,
+    releases: &[u32; 8],
+    jobs: &mut Vec<Job>,
+) -> Result<(), NoMemory>
+    requires same { vec_len scripts ≡ vec_len workers }
+    requires yard { All (KnowsYard count) workers.items }
+    requires short { All (λ s. vec_len s < 2 ^ 32) scripts.items }
+    requires room { (jobs.old.items ≡ []) × (vec_len workers ≤ vec_capacity jobs.old) }
+    ensures workers { OnOk result (map (λ j. j.worker) jobs.new.items ≡ workers.items) }
+    ensures scripts { OnOk result (map (λ j. j.script) jobs.new.items ≡ scripts.items) }
+    ensures ready { OnOk result (All (IsPrepared count releases.now) jobs.new.items) }
+    ensures len { OnOk result (vec_len jobs.new ≡ vec_len workers) }
+    ensures capacity { vec_capacity jobs.new ≡ vec_capacity jobs.old }
+{
+    let (Some(worker), Some(script)) = (workers.pop(), scripts.pop()) else {
+        return Ok(());
+    };
+    let job = make_job(alloc, worker, script, count, releases)?;
+    add_jobs(alloc, workers, scripts, count, releases, jobs)?;
+    jobs.push_reserved(job);
+    Ok(())
+}

@@ -1,0 +1,138 @@
+//! Workers that run their scripts at once.
+ghost use Rattle.std.specs.Prelude.{◌≡◌, ℕ, ◌+◌, ◌^◌, ◌<◌, ◌≤◌, List, [], ◌∷◌, ◌++◌, length, map, Option, Some, None, slice_get, vec_len, vec_capacity, IfOk, All};
+ghost use Rattle.tlsf_heap.specs.declared.name.Name.{Name};
+ghost use Rattle.tlsf_crew.specs.yard.Yard.{IsYard};
+ghost use Rattle.tlsf_crew.specs.yard.World.{world_of, called};
+ghost use Rattle.tlsf_crew.specs.yard.Counts.{sum_below};
+ghost use Rattle.tlsf_crew.specs.yard.ReplaySteps.{replay_of};
+ghost use Rattle.tlsf_crew.specs.threads.Race.{last_call, IsRace};
+ghost use Rattle.tlsf_crew.specs.threads.Parts.{HaveRun, HaveRooms, HasFew, HasLastRoom, HaveLastRooms, LastDrained};
+
+use crate::threads::fanning::{run_all, take_apart};
+use crate::threads::gate::Gate;
+use crate::threads::outcome::Outcome;
+use crate::threads::preparing::{add_jobs, count_all};
+use crate::yard::call::Call;
+use crate::yard::drained::MOST_DRAINED;
+use crate::yard::entry::Entry;
+use crate::yard::event::Event;
+use crate::yard::journal::Journal;
+use crate::yard::replaying::reply_in_yard;
+use crate::yard::settling::settle;
+use crate::yard::worker::Worker;
+use std::alloc::Global;
+use std::marker::Sync;
+use std::mem;
+use std::sync::Wait;
+use std::thread::Threads;
+use tlsf_post::NoMemory;
+
+/// Runs each worker's script in a thread of its own, waits for all, and then drains each worker, in rising number. The
+/// workers are a whole yard, and there is a script for each, of fewer than 2^32 calls. A script's `Made(k)` is the name
+/// that its own call number k made.
+///
+/// `gate` is passed in the thread of worker j before its call of number i, by (j, i), and once after its last call.
+///
+/// - `race`: whatever the schedule of the threads, each record is what its worker's own heap answers to the calls of
+///   its script, one after another, and to the last drain. What worker j took from worker i is what had waited for it,
+///   and then what i was answered to have posted to it, in order and each once. Nothing waits in the end.
+///
+/// All room is made before a thread starts. `NoMemory`, where a growth or the start of a thread was refused, gives no
+/// outcome, and the workers are spent.
+///
+/// ```
+/// // two workers, each to release a block of the other's: `theirs` of worker 1, `ours` of worker 0
+/// let first = vec![in alloc; Call::Release { target: Target::Named(theirs) }]?;
+/// let second = vec![in alloc; Call::Release { target: Target::Named(ours) }]?;
+/// let outcome = race(rt, alloc, workers, vec![in alloc; first, second]?, &OpenGate)?;
+/// let record = &outcome.records[0]; // the release: Posted; the take of `ours` from worker 1; the last drain: Drained(1)
+/// ```
+pub fn race<R: Threads + Wait + Sync, G: Gate>(
+    rt: &R,
+    alloc: Global,
+    workers: Vec<Worker>,
+    scripts: Vec<Vec<Call>>,
+    gate: &G,
+) -> Result<Outcome, NoMemory>
+    requires yard { IsYard workers.items }
+    requires count { vec_len scripts ≡ vec_len workers }
+    requires short { All (λ s. vec_len s < 2 ^ 32) scripts.items }
+    ensures race { IfOk result (λ o. IsRace (world_of workers.items) (map (λ s. s.items) scripts.items)
+        (map (λ r. r.items) o.records.items) (world_of o.workers.items)) }
+    ensures yard { IfOk result (λ o. IsYard o.workers.items) }
+{
+    let mut workers = workers;
+    settle(&mut workers);
+    let mut outcome = run_scripts(rt, alloc, workers, scripts, gate)?;
+    settle(&mut outcome.workers);
+    drain_last(alloc, &mut outcome.workers, &mut outcome.records);
+    Ok(outcome)
+}
+
+/// Makes all room, and runs each script in a thread of its own.
+fn run_scripts<R: Threads + Wait + Sync, G: Gate>(
+    rt: &R,
+    alloc: Global,
+    workers: Vec<Worker>,
+    scripts: Vec<Vec<Call>>,
+    gate: &G,
+) -> Result<Outcome, NoMemory>
+    requires yard { IsYard workers.items }
+    requires count { vec_len scripts ≡ vec_len workers }
+    requires short { All (λ s. vec_len s < 2 ^ 32) scripts.items }
+    ensures run { IfOk result (λ o. HaveRun workers.items (map (λ s. s.items) scripts.items) (map (λ r. r.items) o.records.items) o.workers.items) }
+    ensures rooms { IfOk result (λ o. HaveRooms workers.items (map (λ s. s.items) scripts.items) o.records.items) }
+{
+    let count = workers.len();
+    let mut jobs = Vec::with_capacity(alloc, count)?;
+    let done = Vec::with_capacity(alloc, count)?;
+    let mut outcome = Outcome {
+        workers: Vec::with_capacity(alloc, count)?,
+        records: Vec::with_capacity(alloc, count)?,
+    };
+    let releases = count_all(&scripts);
+    add_jobs(alloc, workers, scripts, count as u32, &releases, &mut jobs)?;
+    let done = run_all(rt, jobs, gate, done)?;
+    take_apart(done, &mut outcome);
+    Ok(outcome)
+}
+
+/// Drains each worker, in rising number.
+fn drain_last(alloc: Global, workers: &mut [Worker], records: &mut [Vec<Entry>])
+    requires yard { IsYard workers.old }
+    requires count { length records.old ≡ length workers.old }
+    requires few { (j : ℕ) → HasFew workers.old j }
+    requires room { HaveLastRooms workers.old records.old }
+    ensures { LastDrained workers.old (map (λ r. r.items) records.old) (map (λ r. r.items) records.new) workers.new (length workers.old) }
+{
+    for j in 0..workers.len() {
+        drain_one(alloc, workers, j as u32, &mut records[j]);
+    }
+}
+
+/// Takes all that waits for a worker.
+fn drain_one(alloc: Global, workers: &mut [Worker], at: u32, entries: &mut Vec<Entry>)
+    requires yard { IsYard workers.old }
+    requires inside { at < length workers.old }
+    requires few { HasFew workers.old at }
+    requires room { HasLastRoom workers.old at entries.old }
+    ensures yard { IsYard workers.new }
+    ensures told { (made : List (Option Name)) → replay_of (made ++ None ∷ []) entries.new.items workers.new
+        ≡ called (replay_of made entries.old.items workers.old) at last_call }
+{
+    let event = Event {
+        worker: at,
+        call: Call::Drain { most: MOST_DRAINED },
+    };
+    let mut journal = Journal {
+        limits: [0; 8],
+        entries: mem::replace(entries, Vec::new(alloc)),
+    };
+    let reply = reply_in_yard(workers, event, &[], &mut journal);
+    journal.entries.push_reserved(Entry {
+        worker: at,
+        call: event.call,
+        reply,
+    });
+    *entries = journal.entries;
+}

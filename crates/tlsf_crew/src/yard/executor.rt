@@ -1,0 +1,261 @@
+//! The executor: one call of a script on one worker, with its entries and the name that it made.
+ghost use Rattle.std.specs.Prelude.{◌≡◌, ℕ, ◌+◌, ◌<◌, ◌≤◌, [], ◌∷◌, ◌++◌, List, Option, length, vec_len, vec_capacity};
+ghost use Rattle.tlsf_heap.specs.declared.name.Name.{Name};
+ghost use Rattle.tlsf_crew.specs.declared.yard.call.Call.TheVariants.{Allocate, Release, Write, Read, Take};
+ghost use Rattle.tlsf_heap.specs.Calls.{read_of};
+ghost use Rattle.tlsf_crew.specs.yard.Calls.{by_heap};
+ghost use Rattle.tlsf_crew.specs.yard.Bytes.{bytes_of};
+ghost use Rattle.tlsf_crew.specs.yard.Heaps.{as_chunk, chunk_read};
+ghost use Rattle.tlsf_crew.specs.yard.Workers.{heap_of, id_of, SameButHeap, HasTake, KnowsYard};
+ghost use Rattle.tlsf_crew.specs.yard.World.{allocating, releasing_named, writing_named, reading_named, taking, name_of, made_by};
+ghost use Rattle.tlsf_crew.specs.yard.Counts.{sum_of};
+ghost use Rattle.tlsf_crew.specs.yard.Moves.{Answered, TookWithin, LanesSpent, Stepped, Called};
+ghost use Rattle.tlsf_crew.specs.yard.Notes.{HasRoom};
+
+use crate::yard::call::Call;
+use crate::yard::chunk::Chunk;
+use crate::yard::crew_refusal::CrewRefusal;
+use crate::yard::entry::Entry;
+use crate::yard::event::Event;
+use crate::yard::journal::Journal;
+use crate::yard::released::Released;
+use crate::yard::reply::Reply;
+use crate::yard::target::Target;
+use crate::yard::took::Took;
+use crate::yard::worker::{Worker, drain_noting, take_next};
+use tlsf_heap::{Name, Refusal};
+
+/// The name that a reply made.
+fn made_name(reply: Reply) -> Option<Name>
+    ensures { result ≡ made_by reply }
+{
+    match reply {
+        Reply::Made(name) => Some(name),
+        _ => None,
+    }
+}
+
+/// One answer more.
+pub(crate) fn answer(
+    event: Event,
+    reply: Reply,
+    made: &mut Vec<Option<Name>>,
+    entries: &mut Vec<Entry>,
+)
+    requires made { vec_len made.old < vec_capacity made.old }
+    requires room { vec_len entries.old < vec_capacity entries.old }
+    ensures made { made.new.items ≡ made.old.items ++ made_by reply ∷ [] }
+    ensures entries { entries.new.items ≡ entries.old.items ++ record { worker = event.worker; call = event.call; reply = reply } ∷ [] }
+    ensures capacity { (vec_capacity made.new ≡ vec_capacity made.old) × (vec_capacity entries.new ≡ vec_capacity entries.old) }
+{
+    made.push_reserved(made_name(reply));
+    entries.push_reserved(Entry {
+        worker: event.worker,
+        call: event.call,
+        reply,
+    });
+}
+
+/// The name that a target means.
+pub(crate) fn named(target: Target, made: &[Option<Name>]) -> Option<Name>
+    ensures { result ≡ name_of made.now target }
+{
+    match target {
+        Target::Named(name) => Some(name),
+        Target::Made(k) => {
+            if (k as usize) < made.len() {
+                return made[k as usize];
+            }
+            None
+        }
+        Target::Absent => None,
+    }
+}
+
+/// Allocates `len` bytes on the own heap.
+fn reply_to_allocate(worker: &mut Worker, len: u32) -> Reply
+    ensures { (made : List (Option Name)) (limits : List ℕ) → Answered made worker.old limits (Allocate len) worker.new limits result (λ w. allocating w (id_of worker.old) len) }
+{
+    match worker.allocate(len) {
+        Ok(name) => Reply::Made(name),
+        Err(why) => Reply::Refused(why),
+    }
+}
+
+/// Releases what a target means: a block of the own heap, or by a post another's.
+fn reply_to_release(worker: &mut Worker, target: Target, made: &[Option<Name>]) -> Reply
+    ensures { (limits : List ℕ) → Answered made.now worker.old limits (Release target) worker.new limits result (λ w. releasing_named w (id_of worker.old) (name_of made.now target)) }
+{
+    let Some(name) = named(target, made) else {
+        return Reply::Refused(CrewRefusal::Unmade);
+    };
+    match worker.release(name) {
+        Ok(Released::Freed) => Reply::Freed,
+        Ok(Released::Posted) => Reply::Posted,
+        Err(why) => Reply::Refused(why),
+    }
+}
+
+/// Writes into the own block that a target means, from byte `from` of it on.
+fn reply_to_write(
+    worker: &mut Worker,
+    target: Target,
+    from: u32,
+    bytes: Chunk,
+    made: &[Option<Name>],
+) -> Reply
+    ensures { (limits : List ℕ) → Answered made.now worker.old limits (Write target from bytes) worker.new limits result (λ w. writing_named w (id_of worker.old) (name_of made.now target) from (bytes_of bytes)) }
+{
+    let Some(name) = named(target, made) else {
+        return Reply::Refused(CrewRefusal::Unmade);
+    };
+    let list = bytes.as_slice();
+    match worker.write(name, from, list) {
+        Ok(()) => Reply::Wrote(list.len() as u32),
+        Err(why) => Reply::Refused(why),
+    }
+}
+
+/// Fills up to 64 bytes from a block of the own heap.
+fn read_into(
+    worker: &mut Worker,
+    name: Name,
+    from: u32,
+    out: &mut [u8],
+) -> Result<Chunk, CrewRefusal>
+    requires { length out.old ≤ 64 }
+    ensures answer { result ≡ by_heap (as_chunk (read_of (heap_of worker.old) name from (length out.old))) }
+    ensures same { SameButHeap worker.old worker.new }
+    ensures heap { heap_of worker.new ≡ heap_of worker.old }
+{
+    match worker.read(name, from, out) {
+        Ok(()) => match Chunk::new(out) {
+            Some(chunk) => Ok(chunk),
+            // It can't come: `out` has no more bytes than a chunk holds.
+            None => Err(CrewRefusal::Heap(Refusal::Range)),
+        },
+        Err(why) => Err(why),
+    }
+}
+
+/// Reads up to 64 bytes of a block of the own heap. More are refused as `Range`, where the heap doesn't refuse the name.
+fn read_chunk(worker: &mut Worker, name: Name, from: u32, n: u32) -> Result<Chunk, CrewRefusal>
+    ensures answer { result ≡ by_heap (chunk_read (heap_of worker.old) name from n) }
+    ensures same { SameButHeap worker.old worker.new }
+    ensures heap { heap_of worker.new ≡ heap_of worker.old }
+{
+    let mut bytes = [0u8; 64];
+    if n > 64 {
+        // A read of no bytes: what the heap says of the name alone.
+        return match worker.read(name, from, &mut bytes[..0]) {
+            Ok(()) => Err(CrewRefusal::Heap(Refusal::Range)),
+            Err(why) => Err(why),
+        };
+    }
+    read_into(worker, name, from, &mut bytes[..n as usize])
+}
+
+/// Reads `n` bytes of the own block that a target means, from byte `from` of it on. More than 64 are refused.
+fn reply_to_read(
+    worker: &mut Worker,
+    target: Target,
+    from: u32,
+    n: u32,
+    made: &[Option<Name>],
+) -> Reply
+    ensures { (limits : List ℕ) → Answered made.now worker.old limits (Read target from n) worker.new limits result (λ w. reading_named w (id_of worker.old) (name_of made.now target) from n) }
+{
+    let Some(name) = named(target, made) else {
+        return Reply::Refused(CrewRefusal::Unmade);
+    };
+    match read_chunk(worker, name, from, n) {
+        Ok(bytes) => Reply::Got(bytes),
+        Err(why) => Reply::Refused(why),
+    }
+}
+
+/// Takes the next post from another worker, and counts its limit down. At a limit of 0 the lane isn't asked.
+fn take_within(worker: &mut Worker, limits: &mut [u32; 8], from: u32) -> Option<Took>
+    requires near { from < 8 }
+    requires lane { HasTake worker.old from }
+    ensures { TookWithin worker.old limits.old from worker.new limits.new result }
+{
+    let i = from as usize;
+    if limits[i] == 0 {
+        return None;
+    }
+    let Some(took) = take_next(worker, i) else {
+        return None;
+    };
+    limits[i] -= 1;
+    Some(took)
+}
+
+/// Takes the next post from a worker. It is `Stranger` where that is itself or none of `count`.
+fn reply_to_take(worker: &mut Worker, count: u32, limits: &mut [u32; 8], from: u32) -> Reply
+    requires { KnowsYard count worker.old }
+    ensures { (made : List (Option Name)) → Answered made worker.old limits.old (Take from) worker.new limits.new result (λ w. taking w (id_of worker.old) from) }
+{
+    if from == worker.id || from >= count {
+        return Reply::Refused(CrewRefusal::Stranger);
+    }
+    match take_within(worker, limits, from) {
+        Some(took) => Reply::Took(took),
+        None => Reply::Empty,
+    }
+}
+
+/// Takes from the other workers, in rising number, until `most` posts were taken, each with an entry. Answers how many.
+fn drain_into_journal(worker: &mut Worker, count: u32, journal: &mut Journal, most: u32) -> u32
+    requires knows { KnowsYard count worker.old }
+    requires room { HasRoom journal.old }
+    ensures spent { LanesSpent worker.old journal.old.limits count most journal.old.entries.items worker.new journal.new.limits journal.new.entries.items result }
+    ensures capacity { vec_capacity journal.new.entries ≡ vec_capacity journal.old.entries }
+{
+    drain_noting(worker, most, journal).taken
+}
+
+/// Makes one call, and answers the reply. A drain's takes get their entries here, the call gets its own later.
+pub(crate) fn reply_to(
+    worker: &mut Worker,
+    count: u32,
+    journal: &mut Journal,
+    call: Call,
+    made: &[Option<Name>],
+) -> Reply
+    requires knows { KnowsYard count worker.old }
+    requires room { HasRoom journal.old }
+    ensures stepped { Stepped count worker.old journal.old.limits call made.now journal.old.entries.items worker.new journal.new.limits journal.new.entries.items result }
+    ensures capacity { vec_capacity journal.new.entries ≡ vec_capacity journal.old.entries }
+{
+    match call {
+        Call::Allocate { len } => reply_to_allocate(worker, len),
+        Call::Release { target } => reply_to_release(worker, target, made),
+        Call::Write { target, at, bytes } => reply_to_write(worker, target, at, bytes, made),
+        Call::Read { target, at, n } => reply_to_read(worker, target, at, n, made),
+        Call::Take { from } => reply_to_take(worker, count, &mut journal.limits, from),
+        Call::Drain { most } => Reply::Drained(drain_into_journal(worker, count, journal, most)),
+    }
+}
+
+/// Makes one call, with its entries and the name that it made.
+pub(crate) fn run_call(
+    worker: &mut Worker,
+    count: u32,
+    journal: &mut Journal,
+    call: Call,
+    made: &mut Vec<Option<Name>>,
+)
+    requires knows { KnowsYard count worker.old }
+    requires names { vec_len made.old < vec_capacity made.old }
+    requires room { vec_len journal.old.entries + sum_of journal.old.limits < vec_capacity journal.old.entries }
+    ensures called { Called count worker.old journal.old.limits call made.old.items journal.old.entries.items worker.new journal.new.limits made.new.items journal.new.entries.items }
+    ensures capacity { (vec_capacity made.new ≡ vec_capacity made.old) × (vec_capacity journal.new.entries ≡ vec_capacity journal.old.entries) }
+{
+    let reply = reply_to(worker, count, journal, call, made);
+    let event = Event {
+        worker: worker.id,
+        call,
+    };
+    answer(event, reply, made, &mut journal.entries);
+}

@@ -1,0 +1,42 @@
+//! The record of a worker, while it is written.
+ghost use Rattle.std.specs.Prelude.{◌+◌, ◌≤◌, ◌<◌, vec_len, vec_capacity};
+ghost use Rattle.tlsf_crew.specs.yard.Notes.{IsAdmitted, HasRoom, IsNoted};
+
+use crate::yard::call::Call;
+use crate::yard::entry::Entry;
+use crate::yard::notes::Notes;
+use crate::yard::reply::Reply;
+use crate::yard::took::Took;
+
+/// The entries of a worker's calls, and how many posts these may still take from each other worker: so many that the
+/// entries have room for.
+#[derive(Drop)]
+pub(crate) struct Journal {
+    pub(crate) limits: [u32; 8],
+    pub(crate) entries: Vec<Entry>,
+}
+
+impl Notes for Journal {
+    ghost admitted = { λ journal from. IsAdmitted journal from };
+
+    ghost has_room = { λ journal. HasRoom journal };
+
+    ghost noted = { λ old at from took new. IsNoted old at from took new };
+
+    fn admits(&self, from: usize) -> bool {
+        match self.limits.get(from) {
+            Some(limit) => *limit > 0,
+            None => false,
+        }
+    }
+
+    /// Adds the entry of the take, and counts the limit down.
+    fn note(&mut self, at: u32, from: usize, took: Took) {
+        self.limits[from] -= 1;
+        self.entries.push_reserved(Entry {
+            worker: at,
+            call: Call::Take { from: from as u32 },
+            reply: Reply::Took(took),
+        });
+    }
+}

@@ -1,0 +1,47 @@
+//! Where a drain notes what it takes.
+ghost use Rattle.std.specs.Prelude.{◌≡◌, ℕ, ⊤, true, false};
+ghost use Rattle.tlsf_crew.specs.declared.yard.took.Took.{Took};
+
+use crate::yard::took::Took;
+
+/// Notes of the posts that a drain takes. A drain takes no post that they don't admit.
+pub(crate) trait Notes {
+    // One more post may be taken from that worker.
+    ghost admitted: { Self → ℕ → Type 0 };
+
+    // There is room for a note of each post that may be taken.
+    ghost has_room: { Self → Type 0 };
+
+    // The notes after the worker of a number took a post from another.
+    ghost noted: { Self → ℕ → ℕ → Took → Self → Type 0 };
+
+    /// Whether one more post may be taken from worker `from`.
+    fn admits(&self, from: usize) -> bool
+        ensures yes { result ≡ true → admitted self.now from }
+        ensures no { result ≡ false → ¬ (admitted self.now from) };
+
+    /// Notes what worker `at` took from worker `from`.
+    fn note(&mut self, at: u32, from: usize, took: Took)
+        requires admitted { admitted self.old from }
+        requires room { has_room self.old }
+        ensures noted { noted self.old at from took self.new }
+        ensures room { has_room self.new };
+}
+
+/// No notes: each post is admitted, and none is noted.
+#[derive(Drop)]
+pub(crate) struct NoNotes;
+
+impl Notes for NoNotes {
+    ghost admitted = { λ notes from. ⊤ };
+
+    ghost has_room = { λ notes. ⊤ };
+
+    ghost noted = { λ old at from took new. ⊤ };
+
+    fn admits(&self, _from: usize) -> bool {
+        true
+    }
+
+    fn note(&mut self, _at: u32, _from: usize, _took: Took) {}
+}

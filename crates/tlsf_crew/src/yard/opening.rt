@@ -1,0 +1,195 @@
+ghost use Rattle.std.specs.Prelude.{◌≡◌, ◌≢◌, ◌↔◌, ℕ, ◌+◌, ◌<◌, ◌≤◌, Some, None, length, vec_len, slice_set, replicate, IfOk, OnOk, IsErrOf};
+ghost use Rattle.tlsf_heap.specs.Calls.{opened};
+ghost use Rattle.tlsf_heap.specs.Lawful.{IsRegion};
+ghost use Rattle.tlsf_crew.specs.yard.Opening.{AreSizes, opened_world, KnowFree, AreFresh};
+ghost use Rattle.tlsf_crew.specs.yard.World.{world_of};
+ghost use Rattle.tlsf_crew.specs.yard.Yard.{IsYard};
+ghost use Rattle.tlsf_crew.specs.yard.NewLanes.{IsLaid};
+ghost use Rattle.tlsf_crew.specs.yard.Workers.{heap_of, own_numbers};
+
+use crate::yard::worker::Worker;
+use std::alloc::Global;
+use tlsf_heap::{Heap, MOST_WORDS, OpenFault};
+use tlsf_post::{NoMemory, PostEnd, TakeEnd, lane};
+
+// The most workers of a yard.
+const MOST_WORKERS: u32 = 8;
+
+// The most posts that a lane holds.
+const MOST_CAPACITY: u32 = 1024;
+
+/// Opens a yard of `n` workers, 1 to 8, numbered from 0: each owns a heap of its number over `words` words, 4 to 2^20,
+/// and from each to each other goes a lane that holds up to `capacity` posts, 1 to 1,024. Each end that posts knows all
+/// its slots to be free, so the first `capacity` posts into a lane are never refused as `Full`. No end has sent or taken
+/// a post, so what it has sent or taken later is all since the yard was opened.
+///
+/// Refused as `BadSize` where a number is out of range, else as `NoMemory` where memory was not granted.
+///
+/// ```
+/// let mut workers = open_yard(alloc, 2, 1024, 8)?; // two heaps of 8 KiB, and two lanes of up to 8 posts
+/// let name = workers[0].allocate(100)?;            // a block of worker 0
+/// let freed = workers[1].release(name);            // Ok(Released::Posted): its name waits for worker 0
+/// ```
+pub fn open_yard(alloc: Global, n: u32, words: u32, capacity: u32) -> Result<Vec<Worker>, OpenFault>
+    ensures yard { IfOk result (λ workers. IsYard workers.items) }
+    ensures world { IfOk result (λ workers. world_of workers.items ≡ opened_world n words capacity) }
+    ensures free { IfOk result (λ workers. KnowFree workers.items capacity) }
+    ensures fresh { IfOk result (λ workers. AreFresh workers.items) }
+
+    // The refusals.
+    ensures bad_size { IsErrOf result OpenFault.BadSize ↔ ¬ (AreSizes n words capacity) }
+    ensures never_worn { ¬ (IsErrOf result OpenFault.Worn) }
+{
+    if n < 1
+        || n > MOST_WORKERS
+        || words < 4
+        || words > MOST_WORDS
+        || capacity < 1
+        || capacity > MOST_CAPACITY
+    {
+        return Err(OpenFault::BadSize);
+    }
+    match open_workers(alloc, n, words, capacity) {
+        Ok(workers) => Ok(workers),
+        Err(_) => Err(OpenFault::NoMemory),
+    }
+}
+
+fn open_workers(alloc: Global, n: u32, words: u32, capacity: u32) -> Result<Vec<Worker>, NoMemory>
+    requires { AreSizes n words capacity }
+    ensures yard { IfOk result (λ workers. IsYard workers.items) }
+    ensures world { IfOk result (λ workers. world_of workers.items ≡ opened_world n words capacity) }
+    ensures free { IfOk result (λ workers. KnowFree workers.items capacity) }
+    ensures fresh { IfOk result (λ workers. AreFresh workers.items) }
+{
+    let mut workers = open_alone(alloc, n, words, capacity)?;
+    lay_lanes(alloc, &mut workers, words, capacity)?;
+    Ok(workers)
+}
+
+/// Opens workers with no lanes.
+fn open_alone(alloc: Global, n: u32, words: u32, capacity: u32) -> Result<Vec<Worker>, NoMemory>
+    requires { AreSizes n words capacity }
+    ensures { IfOk result (λ workers. IsLaid workers.items n words capacity 0 0) }
+{
+    let mut workers = Vec::with_capacity(alloc, n as usize)?;
+    for id in 0..n {
+        workers.push_reserved(open_worker(alloc, id, n, words, capacity)?);
+    }
+    Ok(workers)
+}
+
+/// Opens a worker with room for lanes to `n` workers.
+fn open_worker(
+    alloc: Global,
+    id: u32,
+    n: u32,
+    words: u32,
+    capacity: u32,
+) -> Result<Worker, NoMemory>
+    requires { IsRegion words }
+    ensures heap { IfOk result (λ worker. heap_of worker ≡ opened id words 0) }
+    ensures numbers { IfOk result (λ worker. own_numbers worker ≡ (id, capacity)) }
+    ensures posts { IfOk result (λ worker. worker.posts.items ≡ replicate n None) }
+    ensures takes { IfOk result (λ worker. worker.takes.items ≡ replicate n None) }
+{
+    // The words are in range and the tick is 0, so a refusal is a want of memory.
+    let Ok(heap) = Heap::open(alloc, id, words, 0) else {
+        return Err(NoMemory);
+    };
+    let posts = no_ends(alloc, n)?;
+    let takes = no_ends(alloc, n)?;
+    Ok(Worker {
+        heap,
+        id,
+        capacity,
+        posts,
+        takes,
+    })
+}
+
+/// Slots for the ends of `n` lanes.
+fn no_ends<E: Drop>(alloc: Global, n: u32) -> Result<Vec<Option<E>>, NoMemory>
+    ensures { IfOk result (λ ends. ends.items ≡ replicate n None) }
+{
+    let mut ends = Vec::with_capacity(alloc, n as usize)?;
+    while ends.len() < n as usize {
+        ends.push_reserved(None);
+    }
+    Ok(ends)
+}
+
+/// Lays all lanes.
+fn lay_lanes(
+    alloc: Global,
+    workers: &mut [Worker],
+    words: u32,
+    capacity: u32,
+) -> Result<(), NoMemory>
+    requires sizes { AreSizes (length workers.old) words capacity }
+    requires laid { IsLaid workers.old (length workers.old) words capacity 0 0 }
+    ensures { OnOk result (IsLaid workers.new (length workers.old) words capacity (length workers.old) 0) }
+{
+    for i in 0..workers.len() {
+        lay_row(alloc, workers, i, words, capacity)?;
+    }
+    Ok(())
+}
+
+/// Lays the lanes from worker i.
+fn lay_row(
+    alloc: Global,
+    workers: &mut [Worker],
+    i: usize,
+    words: u32,
+    capacity: u32,
+) -> Result<(), NoMemory>
+    requires sizes { AreSizes (length workers.old) words capacity }
+    requires inside { i < length workers.old }
+    requires laid { IsLaid workers.old (length workers.old) words capacity i 0 }
+    ensures { OnOk result (IsLaid workers.new (length workers.old) words capacity (i + 1) 0) }
+{
+    for j in 0..workers.len() {
+        if i != j {
+            lay_lane(alloc, workers, i, j, words, capacity)?;
+        }
+    }
+    Ok(())
+}
+
+/// Lays the lane from worker i to worker j.
+fn lay_lane(
+    alloc: Global,
+    workers: &mut [Worker],
+    i: usize,
+    j: usize,
+    words: u32,
+    capacity: u32,
+) -> Result<(), NoMemory>
+    requires sizes { AreSizes (length workers.old) words capacity }
+    requires inside { (i < length workers.old) × (j < length workers.old) }
+    requires apart { i ≢ j }
+    requires laid { IsLaid workers.old (length workers.old) words capacity i j }
+    ensures { OnOk result (IsLaid workers.new (length workers.old) words capacity i (j + 1)) }
+{
+    let (post, take) = lane(alloc, capacity)?;
+    put_post_end(&mut workers[i], j, post);
+    put_take_end(&mut workers[j], i, take);
+    Ok(())
+}
+
+fn put_post_end(worker: &mut Worker, j: usize, end: PostEnd)
+    requires { j < vec_len worker.old.posts }
+    ensures posts { worker.new.posts.items ≡ slice_set worker.old.posts.items j (Some end) }
+    ensures same { (worker.new.heap ≡ worker.old.heap) × (own_numbers worker.new ≡ own_numbers worker.old) × (worker.new.takes ≡ worker.old.takes) }
+{
+    worker.posts[j] = Some(end);
+}
+
+fn put_take_end(worker: &mut Worker, i: usize, end: TakeEnd)
+    requires { i < vec_len worker.old.takes }
+    ensures takes { worker.new.takes.items ≡ slice_set worker.old.takes.items i (Some end) }
+    ensures same { (worker.new.heap ≡ worker.old.heap) × (own_numbers worker.new ≡ own_numbers worker.old) × (worker.new.posts ≡ worker.old.posts) }
+{
+    worker.takes[i] = Some(end);
+}

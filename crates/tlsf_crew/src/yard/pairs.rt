@@ -1,0 +1,38 @@
+// One lane, both ends in hand.
+ghost use Rattle.std.specs.Prelude.{◌≡◌, ◌≢◌, ℕ, ◌+◌, ◌<◌, ◌≤◌, [], ◌∷◌, ◌++◌, length, vec_len, Some, slice_get, slice_set};
+ghost use Rattle.tlsf_crew.specs.yard.Yard.{HasEnds, IsYard};
+ghost use Rattle.tlsf_crew.specs.yard.LaneSteps.{HasLane, LaneMet, InYard, LaneStep};
+ghost use Rattle.tlsf_crew.specs.yard.Workers.{HasPost, HasTake, PutTo, TookFrom};
+
+use crate::yard::worker::Worker;
+use tlsf_post::{Post, beside};
+
+/// The lane from one worker to another.
+fn settle_pair(poster: &mut Worker, taker: &mut Worker, i: usize, j: usize)
+    requires { HasLane i j poster.old taker.old }
+    ensures { LaneMet i j poster.old taker.old poster.new taker.new }
+{
+    let Some(post) = poster.posts[j].as_mut() else {
+        unreachable!()
+    };
+    let Some(take) = taker.takes[i].as_mut() else {
+        unreachable!()
+    };
+    beside(post, take);
+}
+
+/// The lane from worker i to worker j.
+pub(crate) fn settle_lane(workers: &mut [Worker], i: usize, j: usize)
+    requires apart { i ≢ j }
+    requires inside { (i < length workers.old) × (j < length workers.old) }
+    requires lane { HasEnds workers.old i j }
+    ensures { LaneStep workers.old i j workers.new }
+{
+    if i < j {
+        let (low, high) = workers.split_at_mut(j);
+        settle_pair(&mut low[i], &mut high[0], i, j);
+    } else {
+        let (low, high) = workers.split_at_mut(i);
+        settle_pair(&mut high[0], &mut low[j], i, j);
+    }
+}
