@@ -105,7 +105,10 @@ pub(crate) fn add_jobs(
     ensures len { OnOk result (vec_len jobs.new ≡ vec_len workers) }
     ensures capacity { vec_capacity jobs.new ≡ vec_capacity jobs.old }
 {
-    let (Some(worker), Some(script)) = (workers.pop(), scripts.pop()) else {
+    let Some(worker) = workers.pop() else {
+        return Ok(());
+    };
+    let Some(script) = scripts.pop() else {
         return Ok(());
     };
     let job = make_job(alloc, worker, script, count, releases)?;

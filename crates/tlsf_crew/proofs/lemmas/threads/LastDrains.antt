@@ -189,18 +189,6 @@ told_first ws vs us j es fs len heap waits t = record {
   told = λ made. rw (sym len, sym heap) (t.told made);
 }
 
-pub last_first : (ws : List Worker) (rs : List (List Entry)) → IsYard ws → LastDrained ws rs rs ws 0
-last_first ws rs yard = record {
-  yard = yard;
-  worker_count = refl;
-  record_count = refl;
-  capacity = refl;
-  told = λ j lt. absurd (omega arith);
-  empty = λ i j lt. absurd (omega arith);
-  later_waits = λ i j le. refl;
-  later_heaps = λ j le. refl;
-}
-
 pub last_step : (ws vs us : List Worker) (rs ss : List (List Entry)) (j : ℕ) (fs : List Entry) → LastDrained ws rs ss vs j → j < length ss
     → record_of ss j ≡ record_of rs j → OneDrained vs us j (record_of ss j) fs → LastDrained ws rs (set ss j fs) us (j + 1)
 last_step ws vs us rs ss j fs a j_in same one = record {

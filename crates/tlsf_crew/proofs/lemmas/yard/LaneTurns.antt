@@ -1,6 +1,7 @@
 -- Takes one after another from a lane, and from lane after lane, make up a drain.
-use Rattle.std.proofs.Common.{[], ◌∷◌, ◌++◌, ◌≡◌, ◌+◌, ◌-◌, ◌⊎◌, ℕ, zero, suc, List, Option, Some, None, Ok, length, refl, sym, ◌∙◌, ap, arith, subst, inl, inr, true, false, cond, add-one}
+use Rattle.std.proofs.Common.{[], ◌∷◌, ◌++◌, ◌≡◌, ◌+◌, ◌-◌, ◌≤◌, ◌⊎◌, ℕ, zero, suc, List, Option, Some, None, Ok, length, refl, sym, ◌∙◌, ap, arith, subst, inl, inr, true, false, cond, add-one}
 use Rattle.std.specs.List.{count_by}
+use Rattle.std.proofs.lemmas.List.Sums.{count_by-le-length}
 use Rattle.std.proofs.lemmas.List.{length-append, append-nil}
 use Rattle.std.proofs.lemmas.List.Sums.{sum_by-append, fold-append}
 use Rattle.tlsf_heap.specs.Blocks.{HeapState}
@@ -70,6 +71,9 @@ lane_heap a v from most tooks d =
     ]
 
 -- counts of one list after the other
+pub counted_few : (d : Drained) (xs : List Took) → IsCountOf d xs → d.freed ≤ d.taken
+counted_few d xs n = let few = count_by-le-length is_freed xs in omega (arith, n.0, n.1, few)
+
 pub counts_then : (d e : Drained) (xs ys : List Took) → IsCountOf d xs → IsCountOf e ys → (d.taken + e.taken ≡ length (xs ++ ys)) × (d.freed + e.freed ≡ count_by is_freed (xs ++ ys))
 counts_then d e xs ys x y =
     let n = length-append xs ys in

@@ -68,14 +68,19 @@ release_unmade made a limits target none =
 
 -- ---- release
 
-freed_idle : (at : ℕ) (later : List (Option Name)) (a : Worker) (limits : List ℕ) (target : Target) (r : Result (Unit {0}) Refusal)
-    → IsIdle at later a limits [] (record { worker = at; call = Release target; reply = reply_freed r })
-freed_idle at later a limits target (Ok done) = record {
+-- The reply stands here as a constructor: where it has to be computed from a result, `cc` takes seconds.
+freed_quiet : (at : ℕ) (later : List (Option Name)) (a : Worker) (limits : List ℕ) (target : Target)
+    → IsIdle at later a limits [] (record { worker = at; call = Release target; reply = Freed })
+freed_quiet at later a limits target = record {
   posts = record { made_none = λ j. refl; taken_none = λ i. refl };
   full = λ name p e. cc;
   empty = λ i e. cc;
   drained = λ most k i e. cc;
 }
+
+freed_idle : (at : ℕ) (later : List (Option Name)) (a : Worker) (limits : List ℕ) (target : Target) (r : Result (Unit {0}) Refusal)
+    → IsIdle at later a limits [] (record { worker = at; call = Release target; reply = reply_freed r })
+freed_idle at later a limits target (Ok done) = freed_quiet at later a limits target
 freed_idle at later a limits target (Err why) = refused_release at later a limits target (Heap why) (λ name e. cc)
 
 own_name : (w : World) (at : ℕ) (name : Name) → name.heap ≡ at → releasing w at name ≡ freeing w at name
@@ -225,14 +230,18 @@ refused_write at from bytes later a limits target why other = record {
   drained = λ most k i e. cc;
 }
 
-wrote_idle : (at from count : ℕ) (bytes : Chunk) (later : List (Option Name)) (a : Worker) (limits : List ℕ) (target : Target) (r : Result (Unit {0}) Refusal)
-    → IsIdle at later a limits [] (record { worker = at; call = Write target from bytes; reply = reply_wrote count r })
-wrote_idle at from count bytes later a limits target (Ok done) = record {
+wrote_quiet : (at from count : ℕ) (bytes : Chunk) (later : List (Option Name)) (a : Worker) (limits : List ℕ) (target : Target)
+    → IsIdle at later a limits [] (record { worker = at; call = Write target from bytes; reply = Wrote count })
+wrote_quiet at from count bytes later a limits target = record {
   posts = record { made_none = λ j. refl; taken_none = λ i. refl };
   full = λ name p e. cc;
   empty = λ i e. cc;
   drained = λ most k i e. cc;
 }
+
+wrote_idle : (at from count : ℕ) (bytes : Chunk) (later : List (Option Name)) (a : Worker) (limits : List ℕ) (target : Target) (r : Result (Unit {0}) Refusal)
+    → IsIdle at later a limits [] (record { worker = at; call = Write target from bytes; reply = reply_wrote count r })
+wrote_idle at from count bytes later a limits target (Ok done) = wrote_quiet at from count bytes later a limits target
 wrote_idle at from count bytes later a limits target (Err why) = refused_write at from bytes later a limits target (Heap why) (λ name e. cc)
 
 pub write_unmade : (made : List (Option Name)) (a : Worker) (limits : List ℕ) (target : Target) (from : ℕ) (bytes : Chunk) → None ≡ name_of made target
@@ -284,14 +293,18 @@ refused_read at from n later a limits target why other = record {
   drained = λ most k i e. cc;
 }
 
-got_idle : (at from n : ℕ) (later : List (Option Name)) (a : Worker) (limits : List ℕ) (target : Target) (r : Result Chunk Refusal)
-    → IsIdle at later a limits [] (record { worker = at; call = Read target from n; reply = reply_got r })
-got_idle at from n later a limits target (Ok bytes) = record {
+got_quiet : (at from n : ℕ) (later : List (Option Name)) (a : Worker) (limits : List ℕ) (target : Target) (bytes : Chunk)
+    → IsIdle at later a limits [] (record { worker = at; call = Read target from n; reply = Got bytes })
+got_quiet at from n later a limits target bytes = record {
   posts = record { made_none = λ j. refl; taken_none = λ i. refl };
   full = λ name p e. cc;
   empty = λ i e. cc;
   drained = λ most k i e. cc;
 }
+
+got_idle : (at from n : ℕ) (later : List (Option Name)) (a : Worker) (limits : List ℕ) (target : Target) (r : Result Chunk Refusal)
+    → IsIdle at later a limits [] (record { worker = at; call = Read target from n; reply = reply_got r })
+got_idle at from n later a limits target (Ok bytes) = got_quiet at from n later a limits target bytes
 got_idle at from n later a limits target (Err why) = refused_read at from n later a limits target (Heap why) (λ name e. cc)
 
 pub read_unmade : (made : List (Option Name)) (a : Worker) (limits : List ℕ) (target : Target) (from n : ℕ) → None ≡ name_of made target

@@ -75,20 +75,29 @@ answered_quiet made a v limits call reply by same yard idle told = record {
 
 -- ---- allocate
 
+-- The replies stand here as constructors: where one has to be computed from a result, `cc` takes seconds.
+made_quiet : (at len : ℕ) (later : List (Option Name)) (a : Worker) (limits : List ℕ) (name : Name)
+    → IsIdle at later a limits [] (record { worker = at; call = Allocate len; reply = Made name })
+made_quiet at len later a limits name = record {
+  posts = record { made_none = λ j. refl; taken_none = λ i. refl };
+  full = λ name p e. cc;
+  empty = λ i e. cc;
+  drained = λ most k i e. cc;
+}
+
+refused_quiet : (at len : ℕ) (later : List (Option Name)) (a : Worker) (limits : List ℕ) (why : Refusal)
+    → IsIdle at later a limits [] (record { worker = at; call = Allocate len; reply = Refused (Heap why) })
+refused_quiet at len later a limits why = record {
+  posts = record { made_none = λ j. refl; taken_none = λ i. refl };
+  full = λ name p e. cc;
+  empty = λ i e. cc;
+  drained = λ most k i e. cc;
+}
+
 made_idle : (at len : ℕ) (later : List (Option Name)) (a : Worker) (limits : List ℕ) (r : Result Name Refusal)
     → IsIdle at later a limits [] (record { worker = at; call = Allocate len; reply = reply_made r })
-made_idle at len later a limits (Ok name) = record {
-  posts = record { made_none = λ j. refl; taken_none = λ i. refl };
-  full = λ name p e. cc;
-  empty = λ i e. cc;
-  drained = λ most k i e. cc;
-}
-made_idle at len later a limits (Err why) = record {
-  posts = record { made_none = λ j. refl; taken_none = λ i. refl };
-  full = λ name p e. cc;
-  empty = λ i e. cc;
-  drained = λ most k i e. cc;
-}
+made_idle at len later a limits (Ok name) = made_quiet at len later a limits name
+made_idle at len later a limits (Err why) = refused_quiet at len later a limits why
 
 allocated_here : (n len : ℕ) (a v : Worker) → heap_of v ≡ (heap.allocated (heap_of a) len).heap → KnowsYard n a → (w : World) → HasHeap w n (id_of a) (heap_of a)
     → IsAnswer (id_of a) v (reply_made (heap.allocated (heap_of a) len).answer) (allocating w (id_of a) len)

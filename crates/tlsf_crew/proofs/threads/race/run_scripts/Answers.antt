@@ -26,3 +26,27 @@ returns-clause-rooms g c =
     gathered_rooms c.len-count.result c.count_all-releases.result c.add_jobs.new.jobs.items c.in_ok-done-2.done.items c.args.workers.items c.args.scripts.items
     c.take_apart.new.out.records.items c.in_ok-add_jobs.ensures.workers c.in_ok-add_jobs.ensures.scripts
     c.take_apart.ensures.parts.1 (rw c.deref.ensures.value at c.count_all-releases.ensures) c.in_ok-add_jobs.ensures.ready c.in_ok-done-2.ensures.done
+
+pub add_jobs-requires-clause-same : goal.add_jobs-requires-clause-same
+add_jobs-requires-clause-same g c = c.requires.count
+
+pub add_jobs-requires-clause-short : goal.add_jobs-requires-clause-short
+add_jobs-requires-clause-short g c = c.requires.short
+
+pub count_all-releases-requires-clause-short : goal.count_all-releases-requires-clause-short
+count_all-releases-requires-clause-short g c = rw c.deref.ensures.value c.requires.short
+
+pub take_apart-requires-clause-empty : goal.take_apart-requires-clause-empty
+take_apart-requires-clause-empty g c = (c.in_ok-with_capacity.ensures.items, c.in_ok-with_capacity-2.ensures.items)
+
+pub take_apart-requires-clause-room : goal.take_apart-requires-clause-room
+take_apart-requires-clause-room g c = (
+  omega (arith, c.in_ok-done-2.ensures.len, c.in_ok-add_jobs.ensures.len, c.len-count.ensures, c.in_ok-with_capacity.ensures.capacity),
+  omega (arith, c.in_ok-done-2.ensures.len, c.in_ok-add_jobs.ensures.len, c.len-count.ensures, c.in_ok-with_capacity-2.ensures.capacity),
+)
+
+pub count_all-releases-requires-clause-few : goal.count_all-releases-requires-clause-few
+count_all-releases-requires-clause-few g c =
+    let l = c.args.workers.ok in
+    let m = c.args.scripts.ok in
+    rw c.deref.ensures.value (omega (arith, c.requires.yard.few, c.requires.count))

@@ -1,6 +1,7 @@
-use Rattle.std.proofs.Common.{◌≡◌, ◌∙◌, refl, sym, ap, Some}
+use Rattle.std.proofs.Common.{◌≡◌, ◌∙◌, arith, refl, sym, ap, Some, None}
 use Rattle.std.specs.Option.{option_copied_mut}
-use Rattle.tlsf_crew.proofs.lemmas.yard.StandingEnd.{same_end}
+use Rattle.std.proofs.lemmas.Option.{slice_get_within}
+use Rattle.tlsf_crew.proofs.lemmas.yard.StandingEnd.{same_end, end_stands}
 use Rattle.tlsf_crew.proofs.yard.pairs.settle_pair.Goals as goal
 
 pub returns : goal.returns
@@ -25,3 +26,23 @@ returns c =
       same_poster = (refl, refl, refl);
       same_taker = (refl, refl, refl);
     }
+
+pub index_mut-requires : goal.index_mut-requires
+index_mut-requires c =
+    let l = c.args.poster.now.posts.ok in
+    omega (arith, slice_get_within c.args.poster.now.posts.items c.args.j (Some c.requires.0) c.requires.2)
+
+pub index_mut-requires-2 : goal.index_mut-requires-2
+index_mut-requires-2 c =
+    let l = c.args.taker.now.takes.ok in
+    omega (arith, slice_get_within c.args.taker.now.takes.items c.args.i (Some c.requires.1) c.requires.3)
+
+pub unreachable-requires : goal.unreachable-requires
+unreachable-requires c =
+    let none : None ≡ c.index_mut.result.now = sym (ap option_copied_mut c.in_default.is) ∙ c.as_mut.ensures.value in
+    absurd (end_stands _ c.args.poster.now.posts.items c.args.j _ c.index_mut.ensures.value c.requires.2 none)
+
+pub unreachable-requires-in_default-as_mut : goal.unreachable-requires-in_default-as_mut
+unreachable-requires-in_default-as_mut c =
+    let none : None ≡ c.index_mut-2.result.now = sym (ap option_copied_mut c.in_default-as_mut.is) ∙ c.as_mut-2.ensures.value in
+    absurd (end_stands _ c.args.taker.now.takes.items c.args.i _ c.index_mut-2.ensures.value c.requires.3 none)

@@ -1,5 +1,5 @@
 use Rattle.std.proofs.Common.{refl, [], ◌∷◌, ◌++◌, inl, inr, arith, Some, sym}
-use Rattle.tlsf_crew.proofs.lemmas.yard.LaneTurns.{taken_has, noted_more, counts_then, one_freed, one_kept}
+use Rattle.tlsf_crew.proofs.lemmas.yard.LaneTurns.{counted_few, taken_has, noted_more, counts_then, one_freed, one_kept}
 use Rattle.tlsf_crew.proofs.yard.worker.drain_lane.Goals as goal
 
 pub loop-drained-init : goal.loop-drained-init
@@ -69,3 +69,57 @@ pub returns-in_default-clause-drained : goal.returns-in_default-clause-drained
 returns-in_default-clause-drained g c =
     let i = c.loop-drained.invariant in
     (i.takes.0, record { last = c.loop-drained.worker; takes = i.takes.1; end = inr (omega (arith, i.takes.2.0), inr c.in_default.ensures.taken) }, i.takes.2)
+
+pub take_next-requires : goal.take_next-requires
+take_next-requires g c = c.loop-drained.invariant.lane
+
+pub note-requires-clause-admitted : goal.note-requires-clause-admitted
+note-requires-clause-admitted g c = c.admits.ensures.yes c.if-not-admits.false
+
+pub note-requires-clause-room : goal.note-requires-clause-room
+note-requires-clause-room g c = c.loop-drained.invariant.room
+
+pub returns-after-loop-drained-clause-most : goal.returns-after-loop-drained-clause-most
+returns-after-loop-drained-clause-most g c = c.loop-drained.invariant.few
+
+pub returns-after-loop-drained-clause-freed : goal.returns-after-loop-drained-clause-freed
+returns-after-loop-drained-clause-freed g c = counted_few c.loop-drained.drained c.loop-drained.invariant.takes.0 c.loop-drained.invariant.takes.2
+
+pub returns-after-loop-drained-clause-room : goal.returns-after-loop-drained-clause-room
+returns-after-loop-drained-clause-room g c = c.loop-drained.invariant.room
+
+pub returns-after-loop-drained-clause-touches : goal.returns-after-loop-drained-clause-touches
+returns-after-loop-drained-clause-touches g c = c.loop-drained.invariant.touches
+
+pub returns-after-loop-drained-clause-touches_rise : goal.returns-after-loop-drained-clause-touches_rise
+returns-after-loop-drained-clause-touches_rise g c = c.loop-drained.invariant.rise
+
+pub returns-then-not-admits-clause-most : goal.returns-then-not-admits-clause-most
+returns-then-not-admits-clause-most g c = c.loop-drained.invariant.few
+
+pub returns-then-not-admits-clause-freed : goal.returns-then-not-admits-clause-freed
+returns-then-not-admits-clause-freed g c = counted_few c.loop-drained.drained c.loop-drained.invariant.takes.0 c.loop-drained.invariant.takes.2
+
+pub returns-then-not-admits-clause-room : goal.returns-then-not-admits-clause-room
+returns-then-not-admits-clause-room g c = c.loop-drained.invariant.room
+
+pub returns-then-not-admits-clause-touches : goal.returns-then-not-admits-clause-touches
+returns-then-not-admits-clause-touches g c = c.loop-drained.invariant.touches
+
+pub returns-then-not-admits-clause-touches_rise : goal.returns-then-not-admits-clause-touches_rise
+returns-then-not-admits-clause-touches_rise g c = c.loop-drained.invariant.rise
+
+pub returns-in_default-clause-most : goal.returns-in_default-clause-most
+returns-in_default-clause-most g c = c.loop-drained.invariant.few
+
+pub returns-in_default-clause-freed : goal.returns-in_default-clause-freed
+returns-in_default-clause-freed g c = counted_few c.loop-drained.drained c.loop-drained.invariant.takes.0 c.loop-drained.invariant.takes.2
+
+pub returns-in_default-clause-room : goal.returns-in_default-clause-room
+returns-in_default-clause-room g c = c.loop-drained.invariant.room
+
+pub returns-in_default-clause-touches : goal.returns-in_default-clause-touches
+returns-in_default-clause-touches g c = omega (arith, c.loop-drained.invariant.touches, c.in_default.ensures.untouched)
+
+pub returns-in_default-clause-touches_rise : goal.returns-in_default-clause-touches_rise
+returns-in_default-clause-touches_rise g c = omega (arith, c.loop-drained.invariant.rise, c.in_default.ensures.touches_rise)

@@ -1,7 +1,7 @@
 use Rattle.std.proofs.Common.{◌≡◌, ◌++◌, ◌-◌, [], refl, arith, subst}
 use Rattle.tlsf_crew.specs.yard.Workers.{lane_places}
 use Rattle.tlsf_crew.specs.yard.Notes.{LaneNoted, LanesNoted}
-use Rattle.tlsf_crew.proofs.lemmas.yard.LaneTurns.{counts_then, turn_more, turn_none}
+use Rattle.tlsf_crew.proofs.lemmas.yard.LaneTurns.{counted_few, counts_then, turn_more, turn_none}
 use Rattle.tlsf_crew.proofs.yard.worker.drain_noting.Goals as goal
 use Rattle.tlsf_crew.proofs.yard.worker.drain_noting.Goals.{then-has_take, else-has_take}
 
@@ -61,3 +61,15 @@ returns-clause-drained g c =
       lanes = subst (λ n. LanesNoted g.N.Notes.noted g.N.Notes.admitted c.args.worker.now c.loop-from.worker c.args.notes.now c.loop-from.notes c.args.most n l.0) e l.1;
       count = l.2;
     }
+
+pub returns-clause-most : goal.returns-clause-most
+returns-clause-most g c = c.loop-from.invariant.few
+
+pub returns-clause-freed : goal.returns-clause-freed
+returns-clause-freed g c = counted_few c.loop-from.drained c.loop-from.invariant.lanes.0 c.loop-from.invariant.lanes.2
+
+pub returns-clause-touches : goal.returns-clause-touches
+returns-clause-touches g c = c.loop-from.invariant.touches
+
+pub returns-clause-touches_rise : goal.returns-clause-touches_rise
+returns-clause-touches_rise g c = c.loop-from.invariant.rise

@@ -1,5 +1,6 @@
-use Rattle.std.proofs.Common.{refl}
+use Rattle.std.proofs.Common.{Ok, Err, ap, arith, refl}
 use Rattle.tlsf_heap.specs.Calls.{Release}
+use Rattle.tlsf_crew.specs.yard.Calls.{freed_by}
 use Rattle.tlsf_crew.proofs.lemmas.yard.YardKept.{heap_keeps, put_keeps, same_keeps}
 use Rattle.tlsf_crew.proofs.lemmas.yard.OwnHeaps.{call_keeps}
 use Rattle.tlsf_crew.proofs.yard.worker.Worker.release.Goals as goal
@@ -21,3 +22,72 @@ returns-in-Ok-put_to-clause-yard c = put_keeps _ _ _ _ _ refl c.in-Ok-put_to.ens
 
 pub returns-in-Err-put_to-clause-yard : goal.returns-in-Err-put_to-clause-yard
 returns-in-Err-put_to-clause-yard c = put_keeps _ _ _ _ _ refl c.in-Err-put_to.ensures.put
+
+pub returns-in-Ok-clause-here : goal.returns-in-Ok-clause-here
+returns-in-Ok-clause-here c = λ own. record { answer_is = ap freed_by c.in-Ok.ensures.answer; heap = c.in-Ok.ensures.heap; same = (refl, refl, refl) }
+
+pub returns-in-Ok-clause-there : goal.returns-in-Ok-clause-there
+returns-in-Ok-clause-there c = λ ne has. absurd (ne c.if-name-self.true)
+
+pub returns-in-Ok-clause-nowhere : goal.returns-in-Ok-clause-nowhere
+returns-in-Ok-clause-nowhere c = λ ne none. absurd (ne c.if-name-self.true)
+
+pub returns-in-Ok-clause-touches : goal.returns-in-Ok-clause-touches
+returns-in-Ok-clause-touches c = c.in-Ok.ensures.touches
+
+pub returns-in-Ok-clause-touches_rise : goal.returns-in-Ok-clause-touches_rise
+returns-in-Ok-clause-touches_rise c = c.in-Ok.ensures.touches_rise
+
+pub returns-in-Err-clause-here : goal.returns-in-Err-clause-here
+returns-in-Err-clause-here c = λ own. record { answer_is = ap freed_by c.in-Err.ensures.answer; heap = c.in-Err.ensures.heap; same = (refl, refl, refl) }
+
+pub returns-in-Err-clause-there : goal.returns-in-Err-clause-there
+returns-in-Err-clause-there c = λ ne has. absurd (ne c.if-name-self.true)
+
+pub returns-in-Err-clause-nowhere : goal.returns-in-Err-clause-nowhere
+returns-in-Err-clause-nowhere c = λ ne none. absurd (ne c.if-name-self.true)
+
+pub returns-in-Err-clause-touches : goal.returns-in-Err-clause-touches
+returns-in-Err-clause-touches c = c.in-Err.ensures.touches
+
+pub returns-in-Err-clause-touches_rise : goal.returns-in-Err-clause-touches_rise
+returns-in-Err-clause-touches_rise c = c.in-Err.ensures.touches_rise
+
+pub returns-then-not-has_post-clause-here : goal.returns-then-not-has_post-clause-here
+returns-then-not-has_post-clause-here c = λ own. absurd (c.if-name-self.false own)
+
+pub returns-then-not-has_post-clause-there : goal.returns-then-not-has_post-clause-there
+returns-then-not-has_post-clause-there c = λ ne has. absurd (c.has_post.ensures.no c.if-not-has_post.true has)
+
+pub returns-then-not-has_post-clause-nowhere : goal.returns-then-not-has_post-clause-nowhere
+returns-then-not-has_post-clause-nowhere c = λ ne none. (refl, refl)
+
+pub returns-in-Ok-put_to-clause-here : goal.returns-in-Ok-put_to-clause-here
+returns-in-Ok-put_to-clause-here c = λ own. absurd (c.if-name-self.false own)
+
+pub returns-in-Ok-put_to-clause-there : goal.returns-in-Ok-put_to-clause-there
+returns-in-Ok-put_to-clause-there c = λ ne has. record { put = Ok c.in-Ok-put_to.field-0; lane = c.in-Ok-put_to.ensures.put; answer_is = refl }
+
+pub returns-in-Ok-put_to-clause-nowhere : goal.returns-in-Ok-put_to-clause-nowhere
+returns-in-Ok-put_to-clause-nowhere c = λ ne none. absurd (none (c.has_post.ensures.yes c.if-not-has_post.false))
+
+pub returns-in-Ok-put_to-clause-touches : goal.returns-in-Ok-put_to-clause-touches
+returns-in-Ok-put_to-clause-touches c = rw c.in-Ok-put_to.ensures.heap (omega arith)
+
+pub returns-in-Ok-put_to-clause-touches_rise : goal.returns-in-Ok-put_to-clause-touches_rise
+returns-in-Ok-put_to-clause-touches_rise c = rw c.in-Ok-put_to.ensures.heap (omega arith)
+
+pub returns-in-Err-put_to-clause-here : goal.returns-in-Err-put_to-clause-here
+returns-in-Err-put_to-clause-here c = λ own. absurd (c.if-name-self.false own)
+
+pub returns-in-Err-put_to-clause-there : goal.returns-in-Err-put_to-clause-there
+returns-in-Err-put_to-clause-there c = λ ne has. record { put = Err c.in-Err-put_to.field-0; lane = c.in-Err-put_to.ensures.put; answer_is = refl }
+
+pub returns-in-Err-put_to-clause-nowhere : goal.returns-in-Err-put_to-clause-nowhere
+returns-in-Err-put_to-clause-nowhere c = λ ne none. absurd (none (c.has_post.ensures.yes c.if-not-has_post.false))
+
+pub returns-in-Err-put_to-clause-touches : goal.returns-in-Err-put_to-clause-touches
+returns-in-Err-put_to-clause-touches c = rw c.in-Err-put_to.ensures.heap (omega arith)
+
+pub returns-in-Err-put_to-clause-touches_rise : goal.returns-in-Err-put_to-clause-touches_rise
+returns-in-Err-put_to-clause-touches_rise c = rw c.in-Err-put_to.ensures.heap (omega arith)
