@@ -1,6 +1,7 @@
 //! Tests of public calls: what no contract says, and no stored case shows.
 
 mod classes;
+mod commands;
 mod fakes;
 mod heaps;
 mod lane_threads;

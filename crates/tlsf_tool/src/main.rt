@@ -3,7 +3,7 @@
 //! `tlsf replay` reads a trace from standard input, runs it, and writes the reply lines and a report on each heap to
 //! standard output. The whole trace is read and checked before a line runs, and the whole text is made before a byte is
 //! written. `tlsf classes N` writes the size class and the search class of N words. `tlsf --help` and `tlsf --version`
-//! say the rest.
+//! say the rest. What it does with words and streams is [`tlsf_command::run`]; `main` gives it those of the process.
 //!
 //! | Exit status | When |
 //! |---|---|
@@ -15,19 +15,9 @@
 //! A write to standard error that fails changes nothing.
 #![tactic(auto)]
 
-mod class_line;
-mod command_line;
-mod fault_report;
-#[cfg(test)]
-mod fault_report_tests;
-mod run;
-#[cfg(test)]
-mod run_tests;
-
-use crate::fault_report::FaultReport;
-use crate::run::run;
 use std::process::ExitCode;
 use std::{env, io};
+use tlsf_command::{FaultReport, run};
 use tlsf_trace::TraceFault;
 
 // Reports that the words of the command line can't be had: memory ran out, or one is no text.

@@ -18,7 +18,7 @@ const LEAST_WORDS: u32 = 4;
 const MOST_CAPACITY: u32 = 1024;
 
 /// What the first line of a trace says.
-#[derive(Clone, Copy, Debug, PartialEq, Eq)]
+#[derive(Clone, Copy)]
 pub struct Header {
     /// How many workers there are, each with a heap of its own, from 1 to 8.
     pub workers: u32,

@@ -1,5 +1,5 @@
 /// What a field behind the first says: bytes in hexadecimal digits, or a number.
-#[derive(Clone, Copy, Debug, PartialEq, Eq)]
+#[derive(Clone, Copy)]
 pub enum Kind {
     /// A worker, from 0 to one less than the header's number of workers.
     Worker,

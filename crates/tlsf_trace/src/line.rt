@@ -17,7 +17,7 @@ use std::alloc::Global;
 use tlsf_crew::Chunk;
 
 /// A line of a trace behind its header: one call that a worker makes, or the end of a phase.
-#[derive(Clone, Copy, Debug, PartialEq, Eq)]
+#[derive(Clone, Copy)]
 pub enum Line {
     /// `a w L len`: the worker allocates `len` bytes and makes the label.
     Allocate {

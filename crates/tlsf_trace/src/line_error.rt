@@ -5,7 +5,7 @@ use crate::parse_error::ParseError;
 use std::alloc::AllocError;
 
 /// Why a piece gave no line.
-#[derive(Clone, Copy, Debug, PartialEq, Eq)]
+#[derive(Clone, Copy)]
 pub enum LineError {
     /// There was no memory for the line's fields.
     NoMemory,

@@ -5,7 +5,7 @@ use crate::line_fault::LineFault;
 use std::alloc::{AllocError, AllocFailed};
 
 /// Why a text gave no trace.
-#[derive(Clone, Copy, Debug, PartialEq, Eq)]
+#[derive(Clone, Copy)]
 pub enum ParseError {
     /// There was no memory for the trace.
     NoMemory,

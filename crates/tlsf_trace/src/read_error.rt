@@ -1,5 +1,5 @@
 /// Why an input was not read whole.
-#[derive(Clone, Copy, Debug, PartialEq, Eq)]
+#[derive(Clone, Copy)]
 pub enum ReadError {
     /// The memory for the text was refused.
     NoMemory,

@@ -14,7 +14,7 @@ use crate::pieces::cut_piece;
 use std::alloc::Global;
 
 /// A trace: what a text asks of a yard of workers, line by line.
-#[derive(Debug, Drop)]
+#[derive(Drop)]
 pub struct Trace {
     /// What the first line says.
     pub header: Header,

@@ -17,7 +17,7 @@ const MOST_COUNT: u32 = 64;
 pub const MOST_FIELDS: usize = 4;
 
 /// What a field says that has the shape of its kind.
-#[derive(Clone, Copy, Debug, Default)]
+#[derive(Clone, Copy, Default)]
 pub enum Value {
     /// A number in its range, without a leading zero.
     Number(u32),

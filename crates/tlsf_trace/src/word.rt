@@ -4,7 +4,7 @@ ghost use Rattle.tlsf_trace.specs.Lines;
 use crate::kind::Kind;
 
 /// What a line does, as its first field says.
-#[derive(Clone, Copy, Debug, PartialEq, Eq)]
+#[derive(Clone, Copy)]
 pub enum Word {
     /// `a`: a worker allocates a block and makes a label for it.
     Allocate,

@@ -1,0 +1,85 @@
+-- What the words ask for, by what `clap` answers of them.
+use Rattle.std.proofs.Common.{◌≡◌, ◌∙◌, ◌^◌, ℕ, false, List, [], ◌∷◌, Option, Some, Result, Ok, codes, length, option_map, inl, inr, sym, ap, subst, arith}
+use Rattle.std.specs.Option.{option_map_or, unwrap_or}
+use Rattle.std.specs.Prelude.{option_and_then, pos}
+use Rattle.std.specs.Str.Parse.{ParsesUnsigned}
+use Rattle.clap.specs.Lexer.{without_minus}
+use Rattle.clap.specs.Matches.{ReadsOne, found_of, one_text, subcommand_name_of}
+use Rattle.clap.specs.Walk.{Row, Text, one_of, rows_of}
+use Rattle.clap.specs.Words.{subcommand_of, subcommand_rows_of}
+use Rattle.clap.specs.declared.builder.value_parser.ValueParser.TheVariants.{Signed}
+use Rattle.clap.specs.declared.parser.matches.ArgMatches.{ArgMatches}
+use Rattle.clap.proofs.CallerReads.{signed_reads}
+use Rattle.clap.proofs.ValueTestLemmas.{accepts-Accepts}
+use Rattle.clap.proofs.WalkLemmas.{one_text-rows}
+use Rattle.tlsf_command.specs.CommandLine.{Asks, command_in, faults_of, number_in, tlsf_app}
+use Rattle.tlsf_command.specs.declared.command_line.Choice.TheVariants.{Replay, Classes}
+use Rattle.tlsf_command.proofs.NamedCommands.{faultless_named, replay_named, subcommand_name-rows}
+use Rattle.tlsf_command.proofs.SizeWords.{IsSized}
+
+-- what the matches say of words that come to no fault
+abbrev pub Answers : List Text → ArgMatches → Type 0
+Answers words matches = (faults_of words ≡ []) × (subcommand_rows_of matches ≡ subcommand_of tlsf_app words)
+
+abbrev label : Option (Text × List Row) → Option Text
+label = option_map (λ (named : Text × List Row). named.0)
+
+-- how the words name a command
+label_of_words : (words : List Text) (matches : ArgMatches) → Answers words matches
+    → subcommand_name_of matches ≡ label (subcommand_of tlsf_app words)
+label_of_words words matches answers = subcommand_name-rows matches ∙ ap label answers.1
+
+other_names : Some (codes "replay") ≡ Some (codes "classes") → ⊥
+other_names same = let counted : 6 ≡ 7 = ap (λ (name : Option Text). option_map_or length name 0) same in omega (arith, counted)
+
+-- words that ask for classes are not the program's name and `replay`
+pub classes_differ : (words : List Text) (called : Text) (n : ℕ) → Asks words (Classes n) → words ≡ called ∷ codes "replay" ∷ [] → ⊥
+classes_differ words called n asks is = other_names (sym (replay_named called) ∙ (sym (ap command_in is) ∙ asks.named))
+
+-- where the command is not `classes` it is `replay`
+pub asks_replay : (words : List Text) (matches : ArgMatches) → Answers words matches
+    → (subcommand_name_of matches ≡ Some (codes "classes") → ⊥) → Asks words Replay
+asks_replay words matches answers other = elim (faultless_named words answers.0) [
+  | inl is ↦ record { faultless = answers.0; named = ap label is.1; sized = tt }
+  | inr is ↦ absurd (other (label_of_words words matches answers ∙ ap label is.1))
+]
+
+-- where it is `classes` its one row is that of a size
+sized_rows : (words : List Text) (matches : ArgMatches) → Answers words matches → subcommand_name_of matches ≡ Some (codes "classes")
+    → (rows : List Row) × (subcommand_of tlsf_app words ≡ Some (codes "classes", rows)) × IsSized rows
+sized_rows words matches answers called = elim (faultless_named words answers.0) [
+  | inl is ↦ absurd (other_names (sym (ap label is.1) ∙ (sym (label_of_words words matches answers) ∙ called)))
+  | inr is ↦ is
+]
+
+-- the number that is read of the text of the size
+module _ (E : Type 0) (G : List ℕ → Result ℕ E → Type 0) (only : (text : List ℕ) (r : Result ℕ E) → G text r → ParsesUnsigned 32 10 text r) where
+  number_read : (text : Text) (n : ℕ) (r : Option ℕ) → r ≡ Some n → ReadsOne G text r → n ≡ number_in text
+  number_read text n r is reads = (only text (Ok n) (subst (λ (o : Option ℕ). ReadsOne G text o) is reads)).1
+
+  -- the size is read, and the words ask for its classes
+  pub asks_classes : (words : List Text) (matches given : ArgMatches) (r : Option ℕ) → Answers words matches
+      → subcommand_name_of matches ≡ Some (codes "classes")
+      → option_map (λ (entered : Text × List Row). entered.1) (subcommand_rows_of matches) ≡ Some (rows_of (found_of given))
+      → ((text : List ℕ) → one_text (found_of given) (codes "N") ≡ Some text → ReadsOne G text r)
+      → (n : ℕ) × (r ≡ Some n) × Asks words (Classes n)
+  asks_classes words matches given r answers called entered reads =
+      let found = sized_rows words matches answers called in
+      let text = found.2.0 in
+      let row : one_of (codes "N") found.0 ≡ Some (without_minus text) = ap (one_of (codes "N")) found.2.1 in
+      let same : found.0 ≡ rows_of (found_of given) =
+      ap (λ (rows : Option (List Row)). unwrap_or rows [])
+      (sym (ap (option_map (λ (e : Text × List Row). e.1)) (answers.1 ∙ found.1)) ∙ entered) in
+      let read = reads (without_minus text) (one_text-rows (found_of given) (codes "N") ∙ (sym (ap (one_of (codes "N")) same) ∙ row)) in
+      let number = signed_reads E G 32 4 (2 ^ 20) text r read only (omega arith)
+      (accepts-Accepts false (Signed (pos 4) (pos (2 ^ 20))) text found.2.2) in
+      let spelled = number_read (without_minus text) number.0 r number.1 read in
+      let given_text = ap (option_and_then (λ (e : Text × List Row). one_of (codes "N") e.1)) found.1 ∙ row in (
+        number.0,
+        number.1,
+        record {
+          faultless = answers.0;
+          named = ap label found.1;
+          sized = (ap (option_map number_in) given_text ∙ sym (ap (λ (n : ℕ). Some n) spelled), number.2, number.3);
+        },
+      )

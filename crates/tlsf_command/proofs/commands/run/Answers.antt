@@ -1,0 +1,26 @@
+use Rattle.std.proofs.Common.{inl, inr}
+use Rattle.tlsf_command.specs.Runs.{ReplaysOrLacksMemory, streams}
+use Rattle.tlsf_command.proofs.ChosenCommands.{classes_differ}
+use Rattle.tlsf_command.proofs.RunEnds.{answer_ends, answer_lacks}
+use Rattle.tlsf_command.proofs.commands.run.Goals as goal
+
+pub returns-in-Err-clause-ends : goal.returns-in-Err-clause-ends
+returns-in-Err-clause-ends g c =
+    answer_ends _ _ _ _ _ (c.answer.ensures (g.R.Read.remaining c.args.reader.now)) c.in-Err.ensures.kinds
+
+pub returns-in-Err-clause-replay : goal.returns-in-Err-clause-replay
+returns-in-Err-clause-replay g c = λ called is.
+    inr (answer_lacks _ _ _ _ (c.answer.ensures (g.R.Read.remaining c.args.reader.now)) (c.in-Err.ensures.replay called is))
+
+pub returns-in-Ok-Classes-clause-ends : goal.returns-in-Ok-Classes-clause-ends
+returns-in-Ok-Classes-clause-ends g c =
+    let asks = rw c.in-Ok-Classes.field-0-is at c.in-Ok-Classes.ensures.asked in
+    inr (inr (inl (c.in-Ok-Classes.words, asks, c.run_classes.ensures (g.R.Read.remaining c.args.reader.now))))
+
+pub returns-in-Ok-Classes-clause-replay : goal.returns-in-Ok-Classes-clause-replay
+returns-in-Ok-Classes-clause-replay g c =
+    let asks = rw c.in-Ok-Classes.field-0-is at c.in-Ok-Classes.ensures.asked in
+    λ called is. absurd {A = ReplaysOrLacksMemory c.run_classes.result
+    (streams (g.R.Read.remaining c.args.reader.now) (g.W.Write.contents c.args.writer.now) (g.E.Write.contents c.args.errors.now))
+    (streams (g.R.Read.remaining c.args.reader.now) (g.W.Write.contents c.run_classes.new.writer) (g.E.Write.contents c.run_classes.new.errors))}
+    (classes_differ _ called c.in-Ok-Classes.words asks is)

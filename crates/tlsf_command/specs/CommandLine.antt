@@ -1,0 +1,63 @@
+-- The command line, by the definitions of `clap`.
+use Rattle.std.specs.Prelude.{◌≡◌, ◌≤◌, ◌^◌, ⊤, ℕ, true, pos, List, [], Option, Some, codes, option_and_then, option_map}
+use Rattle.std.specs.Str.Parse.{digits_value, without_leading_plus}
+use Rattle.clap.specs.Words.{App, Kinds, Rule, Text, fault_of, new_app, new_rule, one_of, subcommand_of, with_rule, with_subcommand}
+use Rattle.clap.specs.declared.builder.action.ArgAction.TheVariants.{Set}
+use Rattle.clap.specs.declared.builder.value_parser.ValueParser.TheVariants.{Signed}
+use Rattle.tlsf_command.specs.declared.command_line.Choice.{Choice}
+use Rattle.tlsf_command.specs.declared.command_line.Choice.TheVariants.{Replay, Classes}
+
+-- the size that `classes` asks for, a number from 4 to 2^20
+abbrev pub size_rule : Rule
+size_rule = record (new_rule (codes "N")) {
+  required = true;
+  action = Some Set;
+  parser = Some (Signed (pos 4) (pos (2 ^ 20)));
+}
+
+-- the command `classes`
+abbrev pub classes_app : App
+classes_app = with_rule (new_app (codes "classes")) size_rule
+
+-- the program with its version, of which a command must be named
+abbrev pub tlsf_app : App
+tlsf_app =
+    let bare = new_app (codes "tlsf") in
+    let named = record bare {
+      top = record bare.top { has_version = true; subcommand_required = true };
+    } in
+    with_subcommand (with_subcommand named (new_app (codes "replay")).top) classes_app.top
+
+-- the kinds of error that the words may come to, none where they name a command
+abbrev pub faults_of : List Text → Kinds
+faults_of words = fault_of tlsf_app words
+
+-- the name of the command that the words name
+abbrev pub command_in : List Text → Option Text
+command_in words = option_map (λ named. named.0) (subcommand_of tlsf_app words)
+
+-- the text that the words give for the size of `classes`
+abbrev pub size_text : List Text → Option Text
+size_text words =
+    option_and_then (λ named. one_of (codes "N") named.1) (subcommand_of tlsf_app words)
+
+-- the number that a text of digits spells, behind a plus sign if there is one
+abbrev pub number_in : Text → ℕ
+number_in text = digits_value 10 (without_leading_plus text)
+
+-- how a command line names the choice
+abbrev pub name_of : Choice → Text
+name_of Replay = codes "replay"
+name_of (Classes n) = codes "classes"
+
+-- the size of the choice, where it has one, is the number that the words give, from 4 to 2^20
+abbrev pub HasSize : List Text → Choice → Type 0
+HasSize words Replay = ⊤
+HasSize words (Classes n) =
+    (option_map number_in (size_text words) ≡ Some n) × (4 ≤ n) × (n ≤ 2 ^ 20)
+
+-- the words ask for this and nothing else
+pub record Asks (words : List Text) (choice : Choice) : Type 0 where
+  pub faultless : faults_of words ≡ []
+  pub named : command_in words ≡ Some (name_of choice)
+  pub sized : HasSize words choice

@@ -1,0 +1,85 @@
+-- What a run of the program does.
+use Rattle.std.specs.Prelude.{◌≡◌, ◌⊎◌, ℕ, List, Option, Result, Ok, Err}
+use Rattle.std.specs.Io.KnownBytes.{Appends, Keeps}
+use Rattle.clap.specs.Words.{IsAmong, Text}
+use Rattle.clap.specs.declared.error.kind.ErrorKind.{ErrorKind}
+use Rattle.clap.specs.declared.error.kind.ErrorKind.TheVariants.{DisplayHelp, DisplayVersion, OutOfMemory}
+use Rattle.tlsf_command.specs.ClassLines.{class_line}
+use Rattle.tlsf_command.specs.CommandLine.{Asks, faults_of}
+use Rattle.tlsf_command.specs.FaultLines.{fault_line, status_of_fault}
+use Rattle.tlsf_command.specs.declared.command_line.Choice.TheVariants.{Classes, Replay}
+use Rattle.tlsf_trace.specs.Prefixes.{AppendsFront}
+use Rattle.tlsf_trace.specs.Replay.{IsReplay}
+use Rattle.tlsf_trace.specs.TraceFaults.{no_memory_fault, write_fault}
+use Rattle.tlsf_trace.specs.declared.summary.Summary.{Summary}
+use Rattle.tlsf_trace.specs.declared.trace_fault.TraceFault.{TraceFault}
+
+-- what the reader has left, and what the writer and the writer of errors hold
+pub record Streams : Type 0 where
+  pub left : Option (List ℕ)
+  pub written : Option (List ℕ)
+  pub errors : Option (List ℕ)
+
+abbrev pub streams : Option (List ℕ) → Option (List ℕ) → Option (List ℕ) → Streams
+streams left written errors = record { left = left; written = written; errors = errors }
+
+-- the exit status that the answer of a replay comes to
+abbrev pub status_of : Result Summary TraceFault → ℕ
+status_of (Ok summary) = 0
+status_of (Err fault) = status_of_fault fault
+
+-- only a fault is reported, by its line or a prefix of it
+abbrev pub Reports : Result Summary TraceFault → Option (List ℕ) → Option (List ℕ) → Type 0
+Reports (Ok summary) old new = Keeps old new
+Reports (Err fault) old new = AppendsFront old new (fault_line fault)
+
+-- the run is a replay, whose answer gives the status and the report
+pub record RunsReplay (status : ℕ) (old new : Streams) : Type 0 where
+  pub answer : Result Summary TraceFault
+  pub replayed : IsReplay answer old.left new.left old.written new.written
+  pub status_is : status ≡ status_of answer
+  pub reported : Reports answer old.errors new.errors
+
+-- memory ran out before anything was read or written
+pub record LacksMemory (status : ℕ) (old new : Streams) : Type 0 where
+  pub status_is : status ≡ 3
+  pub left : new.left ≡ old.left
+  pub written : new.written ≡ old.written
+  pub reported : AppendsFront old.errors new.errors (fault_line no_memory_fault)
+
+-- the line on a size of n words was written, or a prefix of it, where a write failed and was reported; nothing was read
+pub record ShowsClasses (n status : ℕ) (old new : Streams) : Type 0 where
+  pub left : new.left ≡ old.left
+  pub front : AppendsFront old.written new.written (class_line n)
+  pub ended : ((status ≡ 0) × Appends old.written new.written (class_line n) × (new.errors ≡ old.errors))
+      ⊎ ((status ≡ 1) × AppendsFront old.errors new.errors (fault_line write_fault))
+
+-- a text was shown, or a write failed and was reported
+pub record ShowsText (status : ℕ) (old new : Streams) : Type 0 where
+  pub left : new.left ≡ old.left
+  pub ended : ((status ≡ 0) × (new.errors ≡ old.errors))
+      ⊎ ((status ≡ 1) × AppendsFront old.errors new.errors (fault_line write_fault))
+
+-- the words were refused: nothing was read, and the answer went to the writer of errors alone
+pub record ShowsUsage (status : ℕ) (old new : Streams) : Type 0 where
+  pub left : new.left ≡ old.left
+  pub written : new.written ≡ old.written
+  pub status_is : status ≡ 2
+
+-- what a run does that ends by an error of `clap` of this kind
+abbrev pub ShowsAnswer : ErrorKind → ℕ → Streams → Streams → Type 0
+ShowsAnswer DisplayHelp status old new = ShowsText status old new
+ShowsAnswer DisplayVersion status old new = ShowsText status old new
+ShowsAnswer OutOfMemory status old new = LacksMemory status old new
+ShowsAnswer _ status old new = ShowsUsage status old new
+
+-- how a run ends, by its words: it replays, it shows the classes of a size, it answers by one of the faults of the words, or it lacks memory
+abbrev pub Ends : List Text → ℕ → Streams → Streams → Type 0
+Ends words status old new = LacksMemory status old new
+    ⊎ ((Asks words Replay × RunsReplay status old new)
+    ⊎ (((n : ℕ) × Asks words (Classes n) × ShowsClasses n status old new)
+    ⊎ ((kind : ErrorKind) × IsAmong kind (faults_of words) × ShowsAnswer kind status old new)))
+
+-- the run is a replay, unless memory ran out before
+abbrev pub ReplaysOrLacksMemory : ℕ → Streams → Streams → Type 0
+ReplaysOrLacksMemory status old new = RunsReplay status old new ⊎ LacksMemory status old new

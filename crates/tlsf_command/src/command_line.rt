@@ -1,0 +1,156 @@
+ghost use Rattle.std.specs.Prelude.{◌≡◌, ℕ, List, [], ◌∷◌, codes, false, map, IfErr, IfOk};
+ghost use Rattle.clap.specs.Words.{app_of, kind_of, subcommand_of, subcommand_rows_of, FailsBy};
+ghost use Rattle.clap.specs.declared.builder.command.Command.TheViews.{out-Command};
+ghost use Rattle.tlsf_command.specs.CommandLine.{classes_app, tlsf_app, faults_of, Asks};
+
+use clap::error::ErrorKind;
+use clap::{Arg, ArgAction, ArgMatches, Command, Error};
+use std::alloc::{AllocError, Global};
+use std::convert::AsStr;
+
+/// What a command line asks for.
+#[derive(Clone, Copy, Debug, PartialEq, Eq)]
+pub enum Choice {
+    /// `tlsf replay`: read a trace from standard input, and write its replies and reports to
+    /// standard output.
+    Replay,
+    /// `tlsf classes N`: write the class and the search class of a size of N words, 4 to 2^20, to
+    /// standard output.
+    Classes(u32),
+}
+
+const PROGRAM_HELP: &str = "\
+'tlsf replay' reads a trace from standard input and writes to standard output
+what each of its lines was answered, and a report on each heap. This is a trace
+of one worker, whose heap has 64 words; it asks for 8 bytes and for 100 bytes
+and frees the first block:
+
+  tlsf 1 1 64 1
+  a 0 1 8
+  a 0 2 100
+  f 0 1
+
+'tlsf classes N' reads nothing and writes one line.
+
+The exit status is 0 where the run is done, 1 where a fault of the trace, of a
+read or of a write ends it, 2 where the command line is refused, and 3 where
+memory runs out. Faults go to standard error.";
+
+const REPLAY_HELP: &str = "\
+Standard input is a trace. Its first line is 'tlsf 1 N W C': N workers, 1 to 8,
+each with a heap of W words, 4 to 1048576, and lanes between them for C posts
+each, 1 to 1024. Each line after it is one of these:
+
+  a w L len    worker w allocates len bytes and makes the label L
+  f w L        worker w frees the block of L, or posts its name to its owner
+  p w L at HEX worker w writes 1 to 64 bytes at byte 'at' of the block of L
+  g w L at n   worker w reads n bytes, 1 to 64, at byte 'at' of the block of L
+  d w n        worker w takes at most n posts, 1 to 8192, and frees their blocks
+  phase        each worker takes its posts, and labels may go to other workers
+
+A label is a number from 0 to 65535, and is made once. Only its maker uses it
+before the next 'phase'. Workers are counted from 0. Fields are parted by one
+space, and each line ends with a line feed.
+
+Standard output is one reply line for each call and each post taken, once all
+have run, and then a report on each heap. At the end each worker takes its
+posts. This is a trace, and this is what it comes to:
+
+  tlsf 1 2 64 4
+  a 0 1 8
+  phase
+  f 1 1
+
+  0 a 1 at 0 serial 1
+  0 d drained 0
+  1 d drained 0
+  1 f 1 posted
+  0 take 1 at 0 serial 1 freed
+  0 d drained 1
+  1 d drained 0
+  heap 0 live 0 0 0 free 1 64 largest 64 grant 488 fragmentation 0 waste 0 age 1
+  heap 1 live 0 0 0 free 1 64 largest 64 grant 488 fragmentation 0 waste 0 age 1
+
+The exit status is 0 where the replies are written, 1 where a fault of the
+trace, of a read or of a write ends the run, and 3 where memory runs out. A
+fault is one line on standard error, as 'tlsf: line 2: bad number (13)'.";
+
+const CLASSES_HELP: &str = "\
+Nothing is read. Standard output is one line. For 460 words it is
+
+  class 92 low 448 search 93 low 464
+
+Free blocks of 460 words are kept in class 92, whose least size is 448 words.
+A request for 460 words is served from class 93 on, the least class in which
+no block is too small, as it begins at 464 words.";
+
+// The command `classes`.
+fn classes_command<'a>(alloc: Global) -> Result<Command<'a>, AllocError>
+    ensures app { IfOk result (λ command. app_of command ≡ classes_app) }
+    ensures local { IfOk result (λ command. (out-Command command).has_globals ≡ false) }
+{
+    let size = Arg::new(alloc, "N")
+        .help("A size in words")
+        .required(true)
+        .action(ArgAction::Set)
+        .value_parser(clap::value_parser!(u32).range(4..=1_048_576));
+    Command::new(alloc, "classes")
+        .about("Write the class and the search class of a size, each with its least size in words")
+        .after_help(CLASSES_HELP)
+        .arg(size)
+}
+
+// The program's commands and texts.
+fn tlsf_command<'a>(alloc: Global) -> Result<Command<'a>, AllocError>
+    ensures { IfOk result (λ command. app_of command ≡ tlsf_app) }
+{
+    let replay = Command::new(alloc, "replay")
+        .about("Read a trace from standard input and write its replies to standard output")
+        .after_help(REPLAY_HELP);
+    Command::new(alloc, "tlsf")
+        .bin_name("tlsf")?
+        .version("0.1.0")
+        .about("Proved real-time heaps with posts between their owners: two-level segregated fit")
+        .after_help(PROGRAM_HELP)
+        .subcommand_required(true)
+        .subcommand(replay)?
+        .subcommand(classes_command(alloc)?)
+}
+
+// What `clap` makes of the words.
+fn parse<'a, S: AsStr>(alloc: Global, words: &'a [S]) -> Result<ArgMatches<'a>, Error>
+    ensures named { IfOk result (λ matches. subcommand_rows_of matches
+        ≡ subcommand_of tlsf_app (map S.text words.entry.now)) }
+    ensures kinds { FailsBy (faults_of (map S.text words.entry.now)) result }
+{
+    tlsf_command(alloc)?.try_get_matches_from(words)
+}
+
+/// Reads the words of a command line, the program's name first.
+///
+/// An `Err` is what `clap` has to say: a usage error, the help or version text that the words ask
+/// for, or that memory ran out.
+///
+/// ```
+/// let choice = choose(alloc, &["tlsf", "classes", "460"])?;
+/// // choice is Choice::Classes(460)
+/// ```
+pub fn choose<'a, S: AsStr>(alloc: Global, words: &'a [S]) -> Result<Choice, Error>
+    ensures asked { IfOk result (Asks (map S.text words.entry.now)) }
+    ensures kinds { FailsBy (faults_of (map S.text words.entry.now)) result }
+
+    // Where the words are the program's name, whatever that is, and `replay`.
+    ensures replay { (program : List ℕ)
+        → map S.text words.entry.now ≡ program ∷ codes "replay" ∷ []
+        → IfErr result (λ error. kind_of error ≡ ErrorKind.OutOfMemory) }
+{
+    let matches = parse(alloc, words)?;
+    match matches.subcommand_matches("classes") {
+        Some(given) => match given.get_one::<u32>("N") {
+            Some(size) => Ok(Choice::Classes(size)),
+            // The size is required, so words without one came to an error before.
+            None => unreachable!(),
+        },
+        None => Ok(Choice::Replay),
+    }
+}

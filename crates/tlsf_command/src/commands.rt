@@ -1,0 +1,124 @@
+ghost use Rattle.std.specs.Prelude.{◌≡◌, ◌≤◌, ◌^◌, ℕ, List, [], ◌∷◌, Option, codes, map};
+ghost use Rattle.clap.specs.Words.{kind_of};
+ghost use Rattle.tlsf_command.specs.FaultLines.{fault_line, status_of_fault};
+ghost use Rattle.tlsf_command.specs.Runs.{streams, Ends, ReplaysOrLacksMemory, RunsReplay, ShowsAnswer, ShowsClasses};
+ghost use Rattle.tlsf_trace.specs.Prefixes.{AppendsFront};
+
+use crate::class_line::write_class_line;
+use crate::command_line::{Choice, choose};
+use crate::fault_report::FaultReport;
+use clap::error::ErrorKind;
+use std::alloc::Global;
+use std::convert::AsStr;
+use std::io::{Read, Write};
+use tlsf_trace::{TraceFault, WriteError, replay, write_out};
+
+fn write_line<E: Write>(fault: TraceFault, errors: &mut E) -> Result<(), WriteError>
+    ensures { AppendsFront (E.contents errors.old) (E.contents errors.new) (fault_line fault) }
+{
+    match (FaultReport { fault }).line() {
+        Ok(line) => write_out(errors, line.as_bytes()),
+        // No fault's line is longer than the 64 bytes it has room in, but no clause of the line says so.
+        Err(_) => Err(WriteError),
+    }
+}
+
+// Reports the fault, and gives its exit status, which a fault in writing does not change.
+fn report<E: Write>(fault: TraceFault, errors: &mut E) -> u8
+    ensures status { result ≡ status_of_fault fault }
+    ensures line { AppendsFront (E.contents errors.old) (E.contents errors.new) (fault_line fault) }
+{
+    let _ = write_line(fault, errors);
+    FaultReport { fault }.status()
+}
+
+// Replays, and reports the fault that ended it.
+fn run_replay<R: Read, W: Write, E: Write>(
+    alloc: Global,
+    reader: &mut R,
+    writer: &mut W,
+    errors: &mut E,
+) -> u8
+    ensures { RunsReplay result
+        (streams (R.remaining reader.old) (W.contents writer.old) (E.contents errors.old))
+        (streams (R.remaining reader.new) (W.contents writer.new) (E.contents errors.new)) }
+{
+    match replay(alloc, reader, writer) {
+        Ok(_) => 0,
+        Err(fault) => report(fault, errors),
+    }
+}
+
+// Writes the line on a size of `words`, and reports a write that fails.
+fn run_classes<W: Write, E: Write>(words: u32, writer: &mut W, errors: &mut E) -> u8
+    requires least { 4 ≤ words }
+    requires most { words ≤ 2 ^ 20 }
+    ensures { (left : Option (List ℕ)) → ShowsClasses words result
+        (streams left (W.contents writer.old) (E.contents errors.old))
+        (streams left (W.contents writer.new) (E.contents errors.new)) }
+{
+    match write_class_line(words, writer) {
+        Ok(()) => 0,
+        Err(fault) => report(TraceFault::from(fault), errors),
+    }
+}
+
+// Writes the text of `clap`, and flushes.
+fn show<W: Write>(error: &clap::Error, writer: &mut W) -> Result<(), WriteError> {
+    let written = write!(writer, "{error}").and_then(|()| writer.flush());
+    written.map_err(|_| WriteError)
+}
+
+// Shows what `clap` has to say, and gives the exit status.
+fn answer<W: Write, E: Write>(error: &clap::Error, writer: &mut W, errors: &mut E) -> u8
+    ensures { (left : Option (List ℕ)) → ShowsAnswer (kind_of error.now) result
+        (streams left (W.contents writer.old) (E.contents errors.old))
+        (streams left (W.contents writer.new) (E.contents errors.new)) }
+{
+    match error.kind() {
+        ErrorKind::OutOfMemory => report(TraceFault::NO_MEMORY, errors),
+        ErrorKind::DisplayHelp | ErrorKind::DisplayVersion => match show(error, writer) {
+            Ok(()) => 0,
+            Err(fault) => report(TraceFault::from(fault), errors),
+        },
+        _ => {
+            let _ = show(error, errors);
+            2
+        }
+    }
+}
+
+/// Runs the program on the words of its command line, its name first, and gives the exit status.
+///
+/// The status is 0 where the run is done, 1 where a fault ended it, 2 where the words are refused,
+/// and 3 where memory ran out. A fault's line and the text on refused words go to `errors`, where
+/// a write that fails changes nothing. Help and version texts go to `writer`.
+///
+/// ```
+/// // words are "tlsf", "classes" and "460"
+/// let status = run(alloc, &words, &mut reader, &mut writer, &mut errors);
+/// // status is 0, and writer holds "class 92 low 448 search 93 low 464\n"
+/// ```
+pub fn run<S: AsStr, R: Read, W: Write, E: Write>(
+    alloc: Global,
+    words: &[S],
+    reader: &mut R,
+    writer: &mut W,
+    errors: &mut E,
+) -> u8
+    ensures ends { Ends (map S.text words.now) result
+        (streams (R.remaining reader.old) (W.contents writer.old) (E.contents errors.old))
+        (streams (R.remaining reader.new) (W.contents writer.new) (E.contents errors.new)) }
+
+    // Where the words are the program's name, whatever that is, and `replay`.
+    ensures replay { (program : List ℕ) → map S.text words.now ≡ program ∷ codes "replay" ∷ []
+        → ReplaysOrLacksMemory result
+        (streams (R.remaining reader.old) (W.contents writer.old) (E.contents errors.old))
+        (streams (R.remaining reader.new) (W.contents writer.new) (E.contents errors.new)) }
+{
+    match choose(alloc, words) {
+        Ok(Choice::Replay) => run_replay(alloc, reader, writer, errors),
+        Ok(Choice::Classes(words)) => run_classes(words, writer, errors),
+        Err(error) => answer(&error, writer, errors),
+    }
+}
