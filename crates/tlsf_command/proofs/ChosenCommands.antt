@@ -12,9 +12,10 @@ use Rattle.clap.specs.declared.parser.matches.ArgMatches.{ArgMatches}
 use Rattle.clap.proofs.CallerReads.{signed_reads}
 use Rattle.clap.proofs.ValueTestLemmas.{accepts-Accepts}
 use Rattle.clap.proofs.WalkLemmas.{one_text-rows}
-use Rattle.tlsf_command.specs.CommandLine.{Asks, command_in, faults_of, number_in, tlsf_app}
-use Rattle.tlsf_command.specs.declared.command_line.Choice.TheVariants.{Replay, Classes}
-use Rattle.tlsf_command.proofs.NamedCommands.{faultless_named, replay_named, subcommand_name-rows}
+use Rattle.tlsf_command.specs.CommandLine.{Asks, command_in, faults_of, name_of, number_in, tlsf_app}
+use Rattle.tlsf_command.specs.declared.command_line.Choice.{Choice}
+use Rattle.tlsf_command.specs.declared.command_line.Choice.TheVariants.{Replay, Race, Classes}
+use Rattle.tlsf_command.proofs.NamedCommands.{faultless_named, race_named, replay_named, subcommand_name-rows}
 use Rattle.tlsf_command.proofs.SizeWords.{IsSized}
 
 -- what the matches say of words that come to no fault
@@ -29,27 +30,68 @@ label_of_words : (words : List Text) (matches : ArgMatches) → Answers words ma
     → subcommand_name_of matches ≡ label (subcommand_of tlsf_app words)
 label_of_words words matches answers = subcommand_name-rows matches ∙ ap label answers.1
 
-other_names : Some (codes "replay") ≡ Some (codes "classes") → ⊥
-other_names same = let counted : 6 ≡ 7 = ap (λ (name : Option Text). option_map_or length name 0) same in omega (arith, counted)
+-- names of other lengths are no name of `classes`
+abbrev size_of_name : Option Text → ℕ
+size_of_name name = option_map_or length name 0
 
--- words that ask for classes are not the program's name and `replay`
-pub classes_differ : (words : List Text) (called : Text) (n : ℕ) → Asks words (Classes n) → words ≡ called ∷ codes "replay" ∷ [] → ⊥
-classes_differ words called n asks is = other_names (sym (replay_named called) ∙ (sym (ap command_in is) ∙ asks.named))
+replay_other : Some (codes "replay") ≡ Some (codes "classes") → ⊥
+replay_other same = let counted : 6 ≡ 7 = ap size_of_name same in omega (arith, counted)
 
--- where the command is not `classes` it is `replay`
+race_other : Some (codes "race") ≡ Some (codes "classes") → ⊥
+race_other same = let counted : 4 ≡ 7 = ap size_of_name same in omega (arith, counted)
+
+race_differs : Some (codes "race") ≡ Some (codes "replay") → ⊥
+race_differs same = let counted : 4 ≡ 6 = ap size_of_name same in omega (arith, counted)
+
+-- what is asked for has the name that the words name
+asked_name : (words : List Text) (name : Text) (choice : Choice) → Asks words choice → command_in words ≡ Some name
+    → Some (name_of choice) ≡ Some name
+asked_name words name choice asks is = sym asks.named ∙ is
+
+-- words that ask for a race are not the program's name and `replay`
+pub race_not_replay : (words : List Text) (called : Text) → Asks words Race → words ≡ called ∷ codes "replay" ∷ [] → ⊥
+race_not_replay words called asks is = race_differs (asked_name words _ Race asks (ap command_in is ∙ replay_named called))
+
+-- and those that ask for a replay not its name and `race`
+pub replay_not_race : (words : List Text) (called : Text) → Asks words Replay → words ≡ called ∷ codes "race" ∷ [] → ⊥
+replay_not_race words called asks is = race_differs (sym (asked_name words _ Replay asks (ap command_in is ∙ race_named called)))
+
+-- words that ask for classes are not the program's name and `race`
+pub classes_not_race : (words : List Text) (called : Text) (n : ℕ) → Asks words (Classes n) → words ≡ called ∷ codes "race" ∷ [] → ⊥
+classes_not_race words called n asks is =
+    race_other (sym (asked_name words _ (Classes n) asks (ap command_in is ∙ race_named called)))
+
+-- nor its name and `replay`
+pub classes_not_replay : (words : List Text) (called : Text) (n : ℕ) → Asks words (Classes n) → words ≡ called ∷ codes "replay" ∷ [] → ⊥
+classes_not_replay words called n asks is =
+    replay_other (sym (asked_name words _ (Classes n) asks (ap command_in is ∙ replay_named called)))
+
+-- where the command is neither `classes` nor `race` it is `replay`
 pub asks_replay : (words : List Text) (matches : ArgMatches) → Answers words matches
-    → (subcommand_name_of matches ≡ Some (codes "classes") → ⊥) → Asks words Replay
-asks_replay words matches answers other = elim (faultless_named words answers.0) [
+    → (subcommand_name_of matches ≡ Some (codes "classes") → ⊥) → (subcommand_name_of matches ≡ Some (codes "race") → ⊥)
+    → Asks words Replay
+asks_replay words matches answers no_classes no_race = elim (faultless_named words answers.0) [
   | inl is ↦ record { faultless = answers.0; named = ap label is.1; sized = tt }
-  | inr is ↦ absurd (other (label_of_words words matches answers ∙ ap label is.1))
+  | inr (inl is) ↦ absurd (no_race (label_of_words words matches answers ∙ ap label is.1))
+  | inr (inr is) ↦ absurd (no_classes (label_of_words words matches answers ∙ ap label is.1))
 ]
+
+-- where it is `race` the words ask for a race
+pub asks_race : (words : List Text) (matches : ArgMatches) → Answers words matches
+    → subcommand_name_of matches ≡ Some (codes "race") → Asks words Race
+asks_race words matches answers called = record {
+  faultless = answers.0;
+  named = sym (label_of_words words matches answers) ∙ called;
+  sized = tt;
+}
 
 -- where it is `classes` its one row is that of a size
 sized_rows : (words : List Text) (matches : ArgMatches) → Answers words matches → subcommand_name_of matches ≡ Some (codes "classes")
     → (rows : List Row) × (subcommand_of tlsf_app words ≡ Some (codes "classes", rows)) × IsSized rows
 sized_rows words matches answers called = elim (faultless_named words answers.0) [
-  | inl is ↦ absurd (other_names (sym (ap label is.1) ∙ (sym (label_of_words words matches answers) ∙ called)))
-  | inr is ↦ is
+  | inl is ↦ absurd (replay_other (sym (ap label is.1) ∙ (sym (label_of_words words matches answers) ∙ called)))
+  | inr (inl is) ↦ absurd (race_other (sym (ap label is.1) ∙ (sym (label_of_words words matches answers) ∙ called)))
+  | inr (inr is) ↦ is
 ]
 
 -- the number that is read of the text of the size

@@ -27,12 +27,15 @@ program = built tlsf_app
 abbrev replay_name : Text
 replay_name = codes "replay"
 
+abbrev race_name : Text
+race_name = codes "race"
+
 abbrev classes_name : Text
 classes_name = codes "classes"
 
 -- the name of a command of the program
 abbrev IsOwn : Text → Type 0
-IsOwn name = (name ≡ replay_name) ⊎ (name ≡ classes_name)
+IsOwn name = (name ≡ replay_name) ⊎ ((name ≡ race_name) ⊎ (name ≡ classes_name))
 
 -- a step that is no subcommand but these
 abbrev IsAllowed : Step → Type 0
@@ -72,25 +75,26 @@ other_allowed : (b : Bool) (rules : List Rule) (waiting : Waiting) (position : �
 other_allowed true rules waiting position word h = tt
 other_allowed false rules waiting position word h = long_allowed rules waiting word (long_of word) h
 
--- the name of the subcommand that is found, of `replay`, `classes` and `help`
-abbrev name_found : Bool → Bool → Bool → Option Text
-name_found a b c = option_map (λ (s : Text × List Text). s.0)
-    (cond a (Some (replay_name, [])) (cond b (Some (classes_name, [])) (cond c (Some (codes "help", [])) None)))
+-- the name of the subcommand that is found, of `replay`, `race`, `classes` and `help`
+abbrev name_found : Bool → Bool → Bool → Bool → Option Text
+name_found a b c d = option_map (λ (s : Text × List Text). s.0)
+    (cond a (Some (replay_name, [])) (cond b (Some (race_name, [])) (cond c (Some (classes_name, [])) (cond d (Some (codes "help", [])) None))))
 
--- by whether the word is `replay`, whether it is `classes`, and whether it is `help`
-named_allowed : (a b c : Bool) (waiting : Waiting) (position : ℕ) (word : Text) (h : Held)
-    → other_fault program.top (name_found a b c) word h ≡ []
-    → IsAllowed (subcommand_or_other program.top.rules (name_found a b c) waiting position word h).1
-named_allowed true b c waiting position word h none = inl refl
-named_allowed false true c waiting position word h none = inr refl
-named_allowed false false true waiting position word h none = let counted : 2 ≡ 0 = ap length none in absurd (omega (arith, counted))
-named_allowed false false false waiting position word h none = other_allowed (bytes_eq word (45 ∷ 45 ∷ [])) program.top.rules waiting position word h
+-- by whether the word is `replay`, `race`, `classes`, and `help`
+named_allowed : (a b c d : Bool) (waiting : Waiting) (position : ℕ) (word : Text) (h : Held)
+    → other_fault program.top (name_found a b c d) word h ≡ []
+    → IsAllowed (subcommand_or_other program.top.rules (name_found a b c d) waiting position word h).1
+named_allowed true b c d waiting position word h none = inl refl
+named_allowed false true c d waiting position word h none = inr (inl refl)
+named_allowed false false true d waiting position word h none = inr (inr refl)
+named_allowed false false false true waiting position word h none = let counted : 2 ≡ 0 = ap length none in absurd (omega (arith, counted))
+named_allowed false false false false waiting position word h none = other_allowed (bytes_eq word (45 ∷ 45 ∷ [])) program.top.rules waiting position word h
 
 met_allowed : (waiting : Waiting) (position : ℕ) (word : Text) (h : Held)
     → other_fault program.top (subcommand_met (names_of program) waiting word) word h ≡ []
     → IsAllowed (subcommand_or_other program.top.rules (subcommand_met (names_of program) waiting word) waiting position word h).1
 met_allowed idle position word h none =
-    named_allowed (answers_to word (replay_name, [])) (answers_to word (classes_name, [])) (answers_to word (codes "help", [])) idle position word h none
+    named_allowed (answers_to word (replay_name, [])) (answers_to word (race_name, [])) (answers_to word (classes_name, [])) (answers_to word (codes "help", [])) idle position word h none
 met_allowed (option id) position word h none = other_allowed (bytes_eq word (45 ∷ 45 ∷ [])) program.top.rules (option id) position word h
 met_allowed positional position word h none = other_allowed (bytes_eq word (45 ∷ 45 ∷ [])) program.top.rules positional position word h
 
@@ -134,16 +138,18 @@ walk_allowed w (word ∷ words) allowed none =
 
 -- ---- the command that was entered
 
--- the command that was entered is `replay`, or `classes` with one size
+-- the command that was entered is `replay`, `race`, or `classes` with one size
 abbrev pub IsNamed : Option (Text × List Row) → Type 0
 IsNamed named = ((rows : List Row) × (named ≡ Some (replay_name, rows)))
-    ⊎ ((rows : List Row) × (named ≡ Some (classes_name, rows)) × IsSized rows)
+    ⊎ (((rows : List Row) × (named ≡ Some (race_name, rows)))
+    ⊎ ((rows : List Row) × (named ≡ Some (classes_name, rows)) × IsSized rows))
 
 own_entered : (stop : Text × List Text) → IsOwn stop.0 → entered_fault program (Some stop) ≡ [] → IsNamed (entered program (Some stop))
 own_entered stop (inl is) none = inl (_, ap (λ (name : Text). entered program (Some (name, stop.1))) is)
-own_entered stop (inr is) none =
+own_entered stop (inr (inl is)) none = inr (inl (_, ap (λ (name : Text). entered program (Some (name, stop.1))) is))
+own_entered stop (inr (inr is)) none =
     let level = subst (λ (name : Text). entered_fault program (Some (name, stop.1)) ≡ []) is none in
-    inr (_, ap (λ (name : Text). entered program (Some (name, stop.1))) is, size_found stop.1 level)
+    inr (inr (_, ap (λ (name : Text). entered program (Some (name, stop.1))) is, size_found stop.1 level))
 
 stop_named : (stop : Option (Text × List Text)) (rows : List Row) → StopsAllowed stop → entered_fault program stop ≡ []
     → check_fault program.top rows (is_some (entered program stop)) ≡ [] → IsNamed (entered program stop)
@@ -172,6 +178,16 @@ pub replay_named : (called : Text) → command_in (called ∷ replay_name ∷ []
 unfolding clap_on_literals
 replay_named called = refl
 
+-- the program's name and `race` come to no fault
+pub race_faultless : (called : Text) → faults_of (called ∷ race_name ∷ []) ≡ []
+unfolding clap_on_literals
+race_faultless called = refl
+
+-- and name `race`
+pub race_named : (called : Text) → command_in (called ∷ race_name ∷ []) ≡ Some race_name
+unfolding clap_on_literals
+race_named called = refl
+
 -- the name that matches give is that of the subcommand's rows
 pub subcommand_name-rows : (m : ArgMatches) → subcommand_name_of m ≡ option_map (λ (named : Text × List Row). named.0) (subcommand_rows_of m)
 subcommand_name-rows m = elim ((out-ArgMatches m).subcommand) as (λ v. option_map (λ b. (out-SubCommand (box_value b)).name.now) v ≡ option_map (λ (named : Text × List Row). named.0) (subcommand_rows v)) [
@@ -179,16 +195,26 @@ subcommand_name-rows m = elim ((out-ArgMatches m).subcommand) as (λ v. option_m
   | Some b ↦ refl
 ]
 
--- the program's name and `replay` fail only for want of memory
-pub replay_fails : {T : Type 0} (r : Result T Error) (words : List Text) (called : Text) → FailsBy (faults_of words) r
-    → words ≡ called ∷ replay_name ∷ [] → IfErr r (λ e. kind_of e ≡ OutOfMemory)
-replay_fails (Ok t) words called fails is = tt
-replay_fails (Err e) words called fails is =
+-- words that come to no fault fail only for want of memory
+named_fails : {T : Type 0} (r : Result T Error) (words named : List Text) → FailsBy (faults_of words) r → faults_of named ≡ []
+    → words ≡ named → IfErr r (λ e. kind_of e ≡ OutOfMemory)
+named_fails (Ok t) words named fails faultless is = tt
+named_fails (Err e) words named fails faultless is =
     let kinds = subst (λ given. HasKind (faults_of given) e) is fails in
-    elim (subst (λ none. HasKind none e) (replay_faultless called) kinds) [
+    elim (subst (λ none. HasKind none e) faultless kinds) [
       | inl memory ↦ memory
       | inr other ↦ absurd other
     ]
+
+-- such are the program's name and `replay`
+pub replay_fails : {T : Type 0} (r : Result T Error) (words : List Text) (called : Text) → FailsBy (faults_of words) r
+    → words ≡ called ∷ replay_name ∷ [] → IfErr r (λ e. kind_of e ≡ OutOfMemory)
+replay_fails r words called fails is = named_fails r words (called ∷ replay_name ∷ []) fails (replay_faultless called) is
+
+-- and the program's name and `race`
+pub race_fails : {T : Type 0} (r : Result T Error) (words : List Text) (called : Text) → FailsBy (faults_of words) r
+    → words ≡ called ∷ race_name ∷ [] → IfErr r (λ e. kind_of e ≡ OutOfMemory)
+race_fails r words called fails is = named_fails r words (called ∷ race_name ∷ []) fails (race_faultless called) is
 
 -- a parse of the program's words that succeeds has met the command that they name
 pub parsed_named : (r : Result ArgMatches Error) (a : App) (words : List Text) → a ≡ tlsf_app → IfOk r (HasMatchesOf a words)

@@ -5,7 +5,7 @@ use Rattle.clap.specs.Words.{App, Kinds, Rule, Text, fault_of, new_app, new_rule
 use Rattle.clap.specs.declared.builder.action.ArgAction.TheVariants.{Set}
 use Rattle.clap.specs.declared.builder.value_parser.ValueParser.TheVariants.{Signed}
 use Rattle.tlsf_command.specs.declared.command_line.Choice.{Choice}
-use Rattle.tlsf_command.specs.declared.command_line.Choice.TheVariants.{Replay, Classes}
+use Rattle.tlsf_command.specs.declared.command_line.Choice.TheVariants.{Replay, Race, Classes}
 
 -- the size that `classes` asks for, a number from 4 to 2^20
 abbrev pub size_rule : Rule
@@ -26,7 +26,8 @@ tlsf_app =
     let named = record bare {
       top = record bare.top { has_version = true; subcommand_required = true };
     } in
-    with_subcommand (with_subcommand named (new_app (codes "replay")).top) classes_app.top
+    let replaying = with_subcommand named (new_app (codes "replay")).top in
+    with_subcommand (with_subcommand replaying (new_app (codes "race")).top) classes_app.top
 
 -- the kinds of error that the words may come to, none where they name a command
 abbrev pub faults_of : List Text → Kinds
@@ -48,11 +49,13 @@ number_in text = digits_value 10 (without_leading_plus text)
 -- how a command line names the choice
 abbrev pub name_of : Choice → Text
 name_of Replay = codes "replay"
+name_of Race = codes "race"
 name_of (Classes n) = codes "classes"
 
 -- the size of the choice, where it has one, is the number that the words give, from 4 to 2^20
 abbrev pub HasSize : List Text → Choice → Type 0
 HasSize words Replay = ⊤
+HasSize words Race = ⊤
 HasSize words (Classes n) =
     (option_map number_in (size_text words) ≡ Some n) × (4 ≤ n) × (n ≤ 2 ^ 20)
 

@@ -7,9 +7,9 @@ use Rattle.clap.specs.declared.error.kind.ErrorKind.TheVariants.{DisplayHelp, Di
 use Rattle.tlsf_command.specs.ClassLines.{class_line}
 use Rattle.tlsf_command.specs.CommandLine.{Asks, faults_of}
 use Rattle.tlsf_command.specs.FaultLines.{fault_line, status_of_fault}
-use Rattle.tlsf_command.specs.declared.command_line.Choice.TheVariants.{Classes, Replay}
+use Rattle.tlsf_command.specs.declared.command_line.Choice.TheVariants.{Classes, Race, Replay}
 use Rattle.tlsf_trace.specs.Prefixes.{AppendsFront}
-use Rattle.tlsf_trace.specs.Replay.{IsReplay}
+use Rattle.tlsf_trace.specs.Replay.{IsRun, Outputs, Races, Replays}
 use Rattle.tlsf_trace.specs.TraceFaults.{no_memory_fault, write_fault}
 use Rattle.tlsf_trace.specs.declared.summary.Summary.{Summary}
 use Rattle.tlsf_trace.specs.declared.trace_fault.TraceFault.{TraceFault}
@@ -23,7 +23,7 @@ pub record Streams : Type 0 where
 abbrev pub streams : Option (List ℕ) → Option (List ℕ) → Option (List ℕ) → Streams
 streams left written errors = record { left = left; written = written; errors = errors }
 
--- the exit status that the answer of a replay comes to
+-- the exit status that the answer of a run of a trace comes to
 abbrev pub status_of : Result Summary TraceFault → ℕ
 status_of (Ok summary) = 0
 status_of (Err fault) = status_of_fault fault
@@ -33,12 +33,20 @@ abbrev pub Reports : Result Summary TraceFault → Option (List ℕ) → Option 
 Reports (Ok summary) old new = Keeps old new
 Reports (Err fault) old new = AppendsFront old new (fault_line fault)
 
--- the run is a replay, whose answer gives the status and the report
-pub record RunsReplay (status : ℕ) (old new : Streams) : Type 0 where
+-- the run is that of a trace that may put out these texts, and its answer gives the status and the report
+pub record RunsTrace (Puts : Outputs) (status : ℕ) (old new : Streams) : Type 0 where
   pub answer : Result Summary TraceFault
-  pub replayed : IsReplay answer old.left new.left old.written new.written
+  pub run : IsRun Puts answer old.left new.left old.written new.written
   pub status_is : status ≡ status_of answer
   pub reported : Reports answer old.errors new.errors
+
+-- the run is a replay
+abbrev pub RunsReplay : ℕ → Streams → Streams → Type 0
+RunsReplay = RunsTrace Replays
+
+-- the run is a race, each phase in threads
+abbrev pub RunsRace : ℕ → Streams → Streams → Type 0
+RunsRace = RunsTrace Races
 
 -- memory ran out before anything was read or written
 pub record LacksMemory (status : ℕ) (old new : Streams) : Type 0 where
@@ -73,13 +81,18 @@ ShowsAnswer DisplayVersion status old new = ShowsText status old new
 ShowsAnswer OutOfMemory status old new = LacksMemory status old new
 ShowsAnswer _ status old new = ShowsUsage status old new
 
--- how a run ends, by its words: it replays, it shows the classes of a size, it answers by one of the faults of the words, or it lacks memory
+-- how a run ends, by its words: it replays, it races, it shows the classes of a size, it answers by one of the faults of the words, or it lacks memory
 abbrev pub Ends : List Text → ℕ → Streams → Streams → Type 0
 Ends words status old new = LacksMemory status old new
     ⊎ ((Asks words Replay × RunsReplay status old new)
+    ⊎ ((Asks words Race × RunsRace status old new)
     ⊎ (((n : ℕ) × Asks words (Classes n) × ShowsClasses n status old new)
-    ⊎ ((kind : ErrorKind) × IsAmong kind (faults_of words) × ShowsAnswer kind status old new)))
+    ⊎ ((kind : ErrorKind) × IsAmong kind (faults_of words) × ShowsAnswer kind status old new))))
 
 -- the run is a replay, unless memory ran out before
 abbrev pub ReplaysOrLacksMemory : ℕ → Streams → Streams → Type 0
 ReplaysOrLacksMemory status old new = RunsReplay status old new ⊎ LacksMemory status old new
+
+-- the run is a race, unless memory ran out before
+abbrev pub RacesOrLacksMemory : ℕ → Streams → Streams → Type 0
+RacesOrLacksMemory status old new = RunsRace status old new ⊎ LacksMemory status old new

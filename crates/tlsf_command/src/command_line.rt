@@ -1,5 +1,5 @@
 ghost use Rattle.std.specs.Prelude.{◌≡◌, ℕ, List, [], ◌∷◌, codes, false, map, IfErr, IfOk};
-ghost use Rattle.clap.specs.Words.{app_of, kind_of, subcommand_of, subcommand_rows_of, FailsBy};
+ghost use Rattle.clap.specs.Words.{app_of, kind_of, new_app, subcommand_of, subcommand_rows_of, FailsBy};
 ghost use Rattle.clap.specs.declared.builder.command.Command.TheViews.{out-Command};
 ghost use Rattle.tlsf_command.specs.CommandLine.{classes_app, tlsf_app, faults_of, Asks};
 
@@ -14,6 +14,9 @@ pub enum Choice {
     /// `tlsf replay`: read a trace from standard input, and write its replies and reports to
     /// standard output.
     Replay,
+    /// `tlsf race`: read a trace from standard input, run each phase in threads, one for each worker,
+    /// and write its replies and reports to standard output.
+    Race,
     /// `tlsf classes N`: write the class and the search class of a size of N words, 4 to 2^20, to
     /// standard output.
     Classes(u32),
@@ -30,6 +33,7 @@ and frees the first block:
   a 0 2 100
   f 0 1
 
+'tlsf race' does so with the workers of each phase in threads of their own.
 'tlsf classes N' reads nothing and writes one line.
 
 The exit status is 0 where the run is done, 1 where a fault of the trace, of a
@@ -75,6 +79,35 @@ The exit status is 0 where the replies are written, 1 where a fault of the
 trace, of a read or of a write ends the run, and 3 where memory runs out. A
 fault is one line on standard error, as 'tlsf: line 2: bad number (13)'.";
 
+const RACE_HELP: &str = "\
+Standard input is a trace, as 'tlsf replay --help' tells. Each phase is run by
+threads, one for each worker, which run its lines in their order. Once all have
+ended, each worker makes a last drain, which takes all posts that wait.
+
+Standard output is the reply lines of each phase, worker by worker, and then a
+report on each heap. A trace without 'd' lines gives the same bytes on every
+run. With them it depends on the schedule how many posts a drain takes. This is
+a trace, and this is what it comes to:
+
+  tlsf 1 2 64 4
+  a 0 1 8
+  phase
+  f 1 1
+
+  0 a 1 at 0 serial 1
+  0 d drained 0
+  1 d drained 0
+  0 take 1 at 0 serial 1 freed
+  0 d drained 1
+  1 f 1 posted
+  1 d drained 0
+  heap 0 live 0 0 0 free 1 64 largest 64 grant 488 fragmentation 0 waste 0 age 1
+  heap 1 live 0 0 0 free 1 64 largest 64 grant 488 fragmentation 0 waste 0 age 1
+
+The exit status is 0 where the replies are written, 1 where a fault of the
+trace, of a read or of a write ends the run, and 3 where memory runs out, or no
+thread can be started. Faults are those of 'tlsf replay'.";
+
 const CLASSES_HELP: &str = "\
 Nothing is read. Standard output is one line. For 460 words it is
 
@@ -83,6 +116,28 @@ Nothing is read. Standard output is one line. For 460 words it is
 Free blocks of 460 words are kept in class 92, whose least size is 448 words.
 A request for 460 words is served from class 93 on, the least class in which
 no block is too small, as it begins at 464 words.";
+
+// The command `replay`.
+fn replay_command<'a>(alloc: Global) -> Command<'a>
+    ensures app { app_of result ≡ new_app (codes "replay") }
+    ensures local { (out-Command result).has_globals ≡ false }
+{
+    Command::new(alloc, "replay")
+        .about("Read a trace from standard input and write its replies to standard output")
+        .after_help(REPLAY_HELP)
+}
+
+// The command `race`.
+fn race_command<'a>(alloc: Global) -> Command<'a>
+    ensures app { app_of result ≡ new_app (codes "race") }
+    ensures local { (out-Command result).has_globals ≡ false }
+{
+    Command::new(alloc, "race")
+        .about(
+            "Read a trace from standard input and run each phase in threads, one for each worker",
+        )
+        .after_help(RACE_HELP)
+}
 
 // The command `classes`.
 fn classes_command<'a>(alloc: Global) -> Result<Command<'a>, AllocError>
@@ -104,16 +159,14 @@ fn classes_command<'a>(alloc: Global) -> Result<Command<'a>, AllocError>
 fn tlsf_command<'a>(alloc: Global) -> Result<Command<'a>, AllocError>
     ensures { IfOk result (λ command. app_of command ≡ tlsf_app) }
 {
-    let replay = Command::new(alloc, "replay")
-        .about("Read a trace from standard input and write its replies to standard output")
-        .after_help(REPLAY_HELP);
     Command::new(alloc, "tlsf")
         .bin_name("tlsf")?
         .version("0.1.0")
         .about("Proved real-time heaps with posts between their owners: two-level segregated fit")
         .after_help(PROGRAM_HELP)
         .subcommand_required(true)
-        .subcommand(replay)?
+        .subcommand(replay_command(alloc))?
+        .subcommand(race_command(alloc))?
         .subcommand(classes_command(alloc)?)
 }
 
@@ -143,6 +196,11 @@ pub fn choose<'a, S: AsStr>(alloc: Global, words: &'a [S]) -> Result<Choice, Err
     ensures replay { (program : List ℕ)
         → map S.text words.entry.now ≡ program ∷ codes "replay" ∷ []
         → IfErr result (λ error. kind_of error ≡ ErrorKind.OutOfMemory) }
+
+    // Where they are the program's name and `race`.
+    ensures race { (program : List ℕ)
+        → map S.text words.entry.now ≡ program ∷ codes "race" ∷ []
+        → IfErr result (λ error. kind_of error ≡ ErrorKind.OutOfMemory) }
 {
     let matches = parse(alloc, words)?;
     match matches.subcommand_matches("classes") {
@@ -151,6 +209,9 @@ pub fn choose<'a, S: AsStr>(alloc: Global, words: &'a [S]) -> Result<Choice, Err
             // The size is required, so words without one came to an error before.
             None => unreachable!(),
         },
-        None => Ok(Choice::Replay),
+        None => match matches.subcommand_matches("race") {
+            Some(_) => Ok(Choice::Race),
+            None => Ok(Choice::Replay),
+        },
     }
 }

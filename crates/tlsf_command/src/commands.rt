@@ -1,7 +1,7 @@
 ghost use Rattle.std.specs.Prelude.{◌≡◌, ◌≤◌, ◌^◌, ℕ, List, [], ◌∷◌, Option, codes, map};
 ghost use Rattle.clap.specs.Words.{kind_of};
 ghost use Rattle.tlsf_command.specs.FaultLines.{fault_line, status_of_fault};
-ghost use Rattle.tlsf_command.specs.Runs.{streams, Ends, ReplaysOrLacksMemory, RunsReplay, ShowsAnswer, ShowsClasses};
+ghost use Rattle.tlsf_command.specs.Runs.{streams, status_of, Ends, RacesOrLacksMemory, ReplaysOrLacksMemory, Reports, RunsRace, RunsReplay, ShowsAnswer, ShowsClasses};
 ghost use Rattle.tlsf_trace.specs.Prefixes.{AppendsFront};
 
 use crate::class_line::write_class_line;
@@ -11,7 +11,11 @@ use clap::error::ErrorKind;
 use std::alloc::Global;
 use std::convert::AsStr;
 use std::io::{Read, Write};
-use tlsf_trace::{TraceFault, WriteError, replay, write_out};
+use std::marker::Sync;
+use std::sync::Wait;
+use std::thread::Threads;
+use tlsf_crew::OpenGate;
+use tlsf_trace::{Summary, TraceFault, WriteError, race_trace, replay, write_out};
 
 fn write_line<E: Write>(fault: TraceFault, errors: &mut E) -> Result<(), WriteError>
     ensures { AppendsFront (E.contents errors.old) (E.contents errors.new) (fault_line fault) }
@@ -32,6 +36,17 @@ fn report<E: Write>(fault: TraceFault, errors: &mut E) -> u8
     FaultReport { fault }.status()
 }
 
+// The exit status of a run of a trace by its answer. Reports the fault that ended it, if one did.
+fn ended<E: Write>(answer: Result<Summary, TraceFault>, errors: &mut E) -> u8
+    ensures status { result ≡ status_of answer }
+    ensures reported { Reports answer (E.contents errors.old) (E.contents errors.new) }
+{
+    match answer {
+        Ok(_) => 0,
+        Err(fault) => report(fault, errors),
+    }
+}
+
 // Replays, and reports the fault that ended it.
 fn run_replay<R: Read, W: Write, E: Write>(
     alloc: Global,
@@ -43,10 +58,22 @@ fn run_replay<R: Read, W: Write, E: Write>(
         (streams (R.remaining reader.old) (W.contents writer.old) (E.contents errors.old))
         (streams (R.remaining reader.new) (W.contents writer.new) (E.contents errors.new)) }
 {
-    match replay(alloc, reader, writer) {
-        Ok(_) => 0,
-        Err(fault) => report(fault, errors),
-    }
+    ended(replay(alloc, reader, writer), errors)
+}
+
+// Runs each phase in threads, and reports the fault that ended it.
+fn run_race<T: Threads + Wait + Sync, R: Read, W: Write, E: Write>(
+    rt: &T,
+    alloc: Global,
+    reader: &mut R,
+    writer: &mut W,
+    errors: &mut E,
+) -> u8
+    ensures { RunsRace result
+        (streams (R.remaining reader.old) (W.contents writer.old) (E.contents errors.old))
+        (streams (R.remaining reader.new) (W.contents writer.new) (E.contents errors.new)) }
+{
+    ended(race_trace(rt, alloc, reader, writer, &OpenGate), errors)
 }
 
 // Writes the line on a size of `words`, and reports a write that fails.
@@ -89,6 +116,7 @@ fn answer<W: Write, E: Write>(error: &clap::Error, writer: &mut W, errors: &mut 
 }
 
 /// Runs the program on the words of its command line, its name first, and gives the exit status.
+/// Only `tlsf race` starts threads, by `rt`.
 ///
 /// The status is 0 where the run is done, 1 where a fault ended it, 2 where the words are refused,
 /// and 3 where memory ran out. A fault's line and the text on refused words go to `errors`, where
@@ -96,10 +124,11 @@ fn answer<W: Write, E: Write>(error: &clap::Error, writer: &mut W, errors: &mut 
 ///
 /// ```
 /// // words are "tlsf", "classes" and "460"
-/// let status = run(alloc, &words, &mut reader, &mut writer, &mut errors);
+/// let status = run(rt, alloc, &words, &mut reader, &mut writer, &mut errors);
 /// // status is 0, and writer holds "class 92 low 448 search 93 low 464\n"
 /// ```
-pub fn run<S: AsStr, R: Read, W: Write, E: Write>(
+pub fn run<T: Threads + Wait + Sync, S: AsStr, R: Read, W: Write, E: Write>(
+    rt: &T,
     alloc: Global,
     words: &[S],
     reader: &mut R,
@@ -115,9 +144,16 @@ pub fn run<S: AsStr, R: Read, W: Write, E: Write>(
         → ReplaysOrLacksMemory result
         (streams (R.remaining reader.old) (W.contents writer.old) (E.contents errors.old))
         (streams (R.remaining reader.new) (W.contents writer.new) (E.contents errors.new)) }
+
+    // Where they are the program's name and `race`.
+    ensures race { (program : List ℕ) → map S.text words.now ≡ program ∷ codes "race" ∷ []
+        → RacesOrLacksMemory result
+        (streams (R.remaining reader.old) (W.contents writer.old) (E.contents errors.old))
+        (streams (R.remaining reader.new) (W.contents writer.new) (E.contents errors.new)) }
 {
     match choose(alloc, words) {
         Ok(Choice::Replay) => run_replay(alloc, reader, writer, errors),
+        Ok(Choice::Race) => run_race(rt, alloc, reader, writer, errors),
         Ok(Choice::Classes(words)) => run_classes(words, writer, errors),
         Err(error) => answer(&error, writer, errors),
     }

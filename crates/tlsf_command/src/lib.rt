@@ -2,7 +2,7 @@
 //! status.
 //!
 //! [`run`] does what the words ask for. `replay` reads a trace, runs it, and writes the reply lines and a report on each
-//! heap. `classes N` writes the size class and the search class of N words. Help and version texts are written, and words
+//! heap. `race` does so with each phase run in threads, one for each worker. `classes N` writes the size class and the search class of N words. Help and version texts are written, and words
 //! that are refused are answered on the error stream.
 //!
 //! | Exit status | When |

@@ -24,6 +24,7 @@ mod threads;
 mod yard;
 
 pub use threads::gate::{Gate, OpenGate};
+pub use threads::laws::one_history_of_a_race;
 pub use threads::outcome::Outcome;
 pub use threads::race::race;
 pub use tlsf_lock::{Counted, LockedHeap};

@@ -4,6 +4,7 @@ pub(crate) mod done;
 pub(crate) mod fanning;
 pub(crate) mod gate;
 pub(crate) mod job;
+pub(crate) mod laws;
 pub(crate) mod outcome;
 pub(crate) mod preparing;
 pub(crate) mod promised;

@@ -2,7 +2,7 @@
 //!
 //! `tlsf replay` reads a trace from standard input, runs it, and writes the reply lines and a report on each heap to
 //! standard output. The whole trace is read and checked before a line runs, and the whole text is made before a byte is
-//! written. `tlsf classes N` writes the size class and the search class of N words. `tlsf --help` and `tlsf --version`
+//! written. `tlsf race` does so with each phase run in threads, one for each worker. `tlsf classes N` writes the size class and the search class of N words. `tlsf --help` and `tlsf --version`
 //! say the rest. What it does with words and streams is [`tlsf_command::run`]; `main` gives it those of the process.
 //!
 //! | Exit status | When |
@@ -41,7 +41,14 @@ fn main(rt: HostRuntime) -> ExitCode {
             let mut reader = rt.reader();
             let mut writer = io::writer(&rt);
             let mut errors = rt.stderr();
-            run(rt.alloc(), &words, &mut reader, &mut writer, &mut errors)
+            run(
+                &rt,
+                rt.alloc(),
+                &words,
+                &mut reader,
+                &mut writer,
+                &mut errors,
+            )
         }
         Err(error) => refuse(&rt, &error),
     };

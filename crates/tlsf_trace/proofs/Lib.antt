@@ -1,6 +1,5 @@
 -- Fields and lines.
 pub mod FieldValues  -- values of fields, one field after another
-pub mod LineRanges  -- each number of a line is in its range
 pub mod LineSteps  -- a step of the loop over lines
 pub mod LabelSteps  -- what is remembered of labels, behind a line and a phase
 pub mod EmptyText  -- a text without bytes has no header
@@ -15,9 +14,16 @@ pub mod FirstFault  -- a fault at a line is the first one
 pub mod TextFault  -- the fault that a text has instead of a trace
 -- The run and its text.
 pub mod ScriptSteps  -- events and labels of lines, one line after another
+pub mod ReplySteps  -- reply lines of entries, one entry after another
 pub mod ReportSteps  -- report lines of heaps, one heap after another
 pub mod WholeOutput  -- what is put out, from its parts
 pub mod WholeReplay  -- a replay that is done
+-- Races.
+pub mod WorkerByWorker  -- what is made for one worker after another
+pub mod NamesLearned  -- what labels stand for behind one line more
+pub mod RaceTold  -- what the text of a raced trace tells of each heap
+pub mod RacedPhases  -- phases that are raced one after another
+pub mod PhaseCuts  -- a trace begins with its first phase
 -- The definitions on worked rows.
 pub mod WorkedTraces  -- whole traces
 pub mod WorkedLines  -- single lines

@@ -1,6 +1,6 @@
 -- The fault that a text has instead of a trace.
-use Rattle.std.proofs.Common.{◌≡◌, ◌⊎◌, inl, inr, ℕ, ◌≤◌, List, Err, refl, ap, arith}
-use Rattle.tlsf_trace.specs.Replay.{IsLineFault, asked_by, asked_of}
+use Rattle.std.proofs.Common.{◌≡◌, ◌⊎◌, inl, inr, ℕ, ◌≤◌, List, Some, Err, refl, ap, arith}
+use Rattle.tlsf_trace.specs.Replay.{IsLineFault, fault_by, fault_of}
 use Rattle.tlsf_trace.specs.Trace.{trace_of}
 use Rattle.tlsf_trace.specs.TraceFaults.{fault_of_parse, no_memory_fault}
 use Rattle.tlsf_trace.specs.Views.{FailsAt}
@@ -18,9 +18,9 @@ line_of_fault text fault line h = elim (is_first text fault line h) [
 ]
 
 -- what is known of a fault that a text came to
-abbrev pub IsAskedFault : List ℕ → TraceFault → Type 0
-IsAskedFault text fault = (fault ≡ no_memory_fault) ⊎ (IsLineFault fault × (asked_of text ≡ Err fault))
+abbrev pub IsTextFault : List ℕ → TraceFault → Type 0
+IsTextFault text fault = (fault ≡ no_memory_fault) ⊎ (IsLineFault fault × (fault_of text ≡ Some fault))
 
-pub asked_fault : (error : ParseError) (text : List ℕ) → FailsAt error (trace_of text) → IsAskedFault text (fault_of_parse error)
-asked_fault parsing.NoMemory text h = inl refl
-asked_fault (parsing.At fault line) text h = inr ((fault, line, line_of_fault text fault line h, refl), ap asked_by h)
+pub text_fault : (error : ParseError) (text : List ℕ) → FailsAt error (trace_of text) → IsTextFault text (fault_of_parse error)
+text_fault parsing.NoMemory text h = inl refl
+text_fault (parsing.At fault line) text h = inr ((fault, line, line_of_fault text fault line h, refl), ap fault_by h)

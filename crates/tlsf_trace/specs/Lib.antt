@@ -10,6 +10,9 @@ pub mod Events
 pub mod ReplyLines
 pub mod ReportLines
 pub mod Output
+pub mod Phases
+pub mod RaceOutput
+pub mod RaceHistory
 pub mod LineFaults
 pub mod TraceFaults
 pub mod Limits
@@ -21,4 +24,7 @@ pub mod Ranges
 pub mod Views
 pub mod LabelMemory
 pub mod ScriptSoFar
+pub mod OwnMakers
+pub mod Raced
+pub mod Finish
 pub mod OpenLines

@@ -1,5 +1,5 @@
 -- A text as pieces, each up to a line feed.
-use Rattle.std.specs.Prelude.{⊤, ◌⊎◌, ℕ, ◌≡◌, ◌<◌, ◌-◌, ◌==◌, if◌then◌else◌, List, [], ◌∷◌, ◌++◌, count_by, length}
+use Rattle.std.specs.Prelude.{⊤, ◌⊎◌, ℕ, ◌≡◌, ◌<◌, ◌==◌, if◌then◌else◌, List, [], ◌∷◌, ◌++◌, count_by, length}
 use Rattle.std.specs.List.{concat, onto_first}
 
 -- the text, cut behind each line feed; a rest behind the last one is a piece too

@@ -1,7 +1,8 @@
--- What a replay is asked for by the text that it reads, and what it answers and writes.
-use Rattle.std.specs.Prelude.{◌≡◌, ◌⊎◌, ℕ, ◌≤◌, List, Option, Result, Ok, Err, IfOk, IfErr, IfSome, OnOk, length}
+-- What a run of a trace answers and writes, by the text that it reads: a replay, and a race.
+use Rattle.std.specs.Prelude.{◌≡◌, ◌⊎◌, ℕ, ◌≤◌, List, Option, Some, None, Result, Ok, Err, IfOk, IfErr, IfSome, OnOk, length}
 use Rattle.std.specs.Io.KnownBytes.{Appends, IsAtEnd, Keeps}
 use Rattle.tlsf_trace.specs.Output.{calls_of, output_of}
+use Rattle.tlsf_trace.specs.RaceOutput.{IsRaceOutput}
 use Rattle.tlsf_trace.specs.Prefixes.{AppendsFront}
 use Rattle.tlsf_trace.specs.Limits.{IsWithinLimits, IsTooLong}
 use Rattle.tlsf_trace.specs.Trace.{Trace, trace_of}
@@ -10,28 +11,50 @@ use Rattle.tlsf_trace.specs.declared.line_fault.LineFault.{LineFault}
 use Rattle.tlsf_trace.specs.declared.summary.Summary.{Summary}
 use Rattle.tlsf_trace.specs.declared.trace_fault.TraceFault.{TraceFault}
 
--- the reply lines that a text asks for, and how many calls it makes
-pub record Asked : Type 0 where
-  pub output : List ℕ
-  pub calls : ℕ
+-- ---- what a text asks for, by the texts that its trace may put out
 
-abbrev pub asked_by : Result Trace (LineFault × ℕ) → Result Asked TraceFault
-asked_by (Ok trace) = Ok (record { output = output_of trace; calls = calls_of trace })
-asked_by (Err fault) = Err (fault_in fault.0 fault.1)
+abbrev pub Outputs : Type 1
+Outputs = Trace → List ℕ → Type 0
 
--- what a text asks for, or its first fault
-abbrev pub asked_of : List ℕ → Result Asked TraceFault
-asked_of text = asked_by (trace_of text)
+-- a replay puts out one text, a race one of those that its schedules come to
+abbrev pub Replays : Outputs
+Replays trace output = output ≡ output_of trace
+
+abbrev pub Races : Outputs
+Races trace output = IsRaceOutput trace output
+
+-- the text spells a trace that may put out this, and makes so many calls
+pub record AsksFor (Puts : Outputs) (text output : List ℕ) (calls : ℕ) : Type 0 where
+  pub trace : Trace
+  pub spelled : trace_of text ≡ Ok trace
+  pub puts : Puts trace output
+  pub calls_are : calls ≡ calls_of trace
+
+-- the first fault of a text that spells no trace
+abbrev pub fault_by : Result Trace (LineFault × ℕ) → Option TraceFault
+fault_by (Ok trace) = None
+fault_by (Err fault) = Some (fault_in fault.0 fault.1)
+
+abbrev pub fault_of : List ℕ → Option TraceFault
+fault_of text = fault_by (trace_of text)
+
+-- ---- what is written
 
 -- all that was asked for was written, and nothing else
-abbrev pub Writes : Summary → Result Asked TraceFault → Option (List ℕ) → Option (List ℕ) → Type 0
-Writes summary (Ok asked) old new = Appends old new asked.output × (summary.calls ≡ asked.calls) × (summary.bytes ≡ length asked.output)
-Writes summary (Err fault) old new = ⊥
+pub record Writes (Puts : Outputs) (summary : Summary) (text : List ℕ) (old new : Option (List ℕ)) : Type 0 where
+  pub output : List ℕ
+  pub asked : AsksFor Puts text output summary.calls
+  pub all : Appends old new output
+  pub bytes : summary.bytes ≡ length output
 
 -- a prefix of what was asked for was written, and nothing else
-abbrev pub WritesFront : Result Asked TraceFault → Option (List ℕ) → Option (List ℕ) → Type 0
-WritesFront (Ok asked) old new = AppendsFront old new asked.output
-WritesFront (Err fault) old new = ⊥
+pub record WritesPrefix (Puts : Outputs) (text : List ℕ) (old new : Option (List ℕ)) : Type 0 where
+  pub output : List ℕ
+  pub calls : ℕ
+  pub asked : AsksFor Puts text output calls
+  pub front : AppendsFront old new output
+
+-- ---- faults
 
 -- a fault of a line has its number and its line, counted from 1
 abbrev pub IsLineFault : TraceFault → Type 0
@@ -42,18 +65,26 @@ abbrev pub IsFault : TraceFault → Type 0
 IsFault fault = IsLineFault fault
     ⊎ ((fault ≡ no_memory_fault) ⊎ ((fault ≡ too_long_fault) ⊎ ((fault ≡ read_fault) ⊎ (fault ≡ write_fault))))
 
--- a replay, by what the reader has left and what the writer holds, before and after
-pub record IsReplay (answer : Result Summary TraceFault) (left left' written written' : Option (List ℕ)) : Type 0 where
+-- ---- a run
+
+-- a run of a trace, by what the reader has left and what the writer holds, before and after
+pub record IsRun (Puts : Outputs) (answer : Result Summary TraceFault) (left left' written written' : Option (List ℕ)) : Type 0 where
   -- it is done: the text was read to its end, within the limits, and what it asks for was written
-  pub ok : IfOk answer (λ summary. IfSome left (λ text. Writes summary (asked_of text) written written'))
+  pub ok : IfOk answer (λ summary. IfSome left (λ text. Writes Puts summary text written written'))
   pub end : OnOk answer (IsAtEnd left')
   pub limits : OnOk answer (IfSome left IsWithinLimits)
   -- it ended by a fault, which is one of these
   pub fault : IfErr answer IsFault
   -- a fault of a line is the first one of the text that was read
-  pub line : IfErr answer (λ fault. IsLineFault fault → IfSome left (λ text. (asked_of text ≡ Err fault) × IsWithinLimits text))
+  pub line : IfErr answer (λ fault. IsLineFault fault → IfSome left (λ text. (fault_of text ≡ Some fault) × IsWithinLimits text))
   -- a text is too long only where it has too many lines, or so many bytes that its end need not show
   pub too_long : IfErr answer (λ fault. fault ≡ too_long_fault → IfSome left IsTooLong)
   -- after a fault in writing a prefix was written, after any other nothing
-  pub front : IfErr answer (λ fault. fault ≡ write_fault → IfSome left (λ text. WritesFront (asked_of text) written written' × IsWithinLimits text))
+  pub front : IfErr answer (λ fault. fault ≡ write_fault → IfSome left (λ text. WritesPrefix Puts text written written' × IsWithinLimits text))
   pub kept : IfErr answer (λ fault. (fault ≡ write_fault → ⊥) → Keeps written written')
+
+abbrev pub IsReplay : Result Summary TraceFault → Option (List ℕ) → Option (List ℕ) → Option (List ℕ) → Option (List ℕ) → Type 0
+IsReplay = IsRun Replays
+
+abbrev pub IsRaceOfTrace : Result Summary TraceFault → Option (List ℕ) → Option (List ℕ) → Option (List ℕ) → Option (List ℕ) → Type 0
+IsRaceOfTrace = IsRun Races

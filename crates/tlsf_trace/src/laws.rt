@@ -1,4 +1,7 @@
 ghost use Rattle.std.specs.Prelude.{ℕ, List};
+ghost use Rattle.tlsf_trace.specs.RaceHistory.{HasHistory};
+ghost use Rattle.tlsf_trace.specs.RaceOutput.{IsRaceOutput};
+ghost use Rattle.tlsf_trace.specs.Trace.{Trace};
 ghost use Rattle.tlsf_trace.specs.Laws.{IsFirstFault};
 ghost use Rattle.tlsf_trace.specs.Pieces.{ArePieces, pieces_of};
 ghost use Rattle.tlsf_trace.specs.declared.line_fault.LineFault.{LineFault};
@@ -17,4 +20,14 @@ pub fn first_fault()
 /// `"ab\nc"`, for one, has the pieces `"ab\n"` and `"c"`.
 pub fn pieces_join()
     ensures { (text : List ℕ) → ArePieces text (pieces_of text) }
+{}
+
+/// What [`race_trace`](crate::race_trace) may write tells one history of each heap, over all phases: the calls that its
+/// records tell of the heap, run in turn on the new heap, give the answers that they tell, and the heap that is reported at
+/// the end.
+///
+/// The text of `tlsf 1 2 64 4`, `a 0 1 8`, `phase`, `f 1 1`, for one, tells of heap 0 an allocate of 8 bytes in the first
+/// phase and, by the line `0 take 1 at 0 serial 1 freed`, a release of that block in the second.
+pub fn one_history_of_a_raced_trace()
+    ensures { (trace : Trace) (text : List ℕ) → IsRaceOutput trace text → HasHistory trace text }
 {}

@@ -11,8 +11,9 @@
 //! | `d w n` | worker w drains at most n posts |
 //! | `phase` | a phase ends |
 //!
-//! [`replay`] reads a trace, runs it and writes what it was answered. Contracts see the trace that a text spells, or its
-//! first fault, as `trace_of`, and what it asks for as `asked_of`. [`write_out`] writes a text by its known bytes.
+//! [`replay`] reads a trace, runs it line by line and writes what it was answered; [`race_trace`] runs each phase in threads,
+//! one for each worker. Contracts see the trace that a text spells, or its first fault, as `trace_of`, and what it asks for
+//! as `AsksFor`. [`write_out`] writes a text by its known bytes.
 #![tactic(auto)]
 
 mod fields;
@@ -21,15 +22,19 @@ mod input;
 mod kind;
 mod labels;
 mod laws;
+mod learning;
 mod line;
 mod line_error;
 mod line_fault;
 mod makers;
+mod names;
 mod numbers;
 mod output;
 mod parse_error;
 mod payload;
+mod phases;
 mod pieces;
+mod race_output;
 mod read_error;
 mod reply_lines;
 mod report_lines;
@@ -42,8 +47,8 @@ mod trace_fault;
 mod value;
 mod word;
 
-pub use laws::{first_fault, pieces_join};
+pub use laws::{first_fault, one_history_of_a_raced_trace, pieces_join};
 pub use sink::{WriteError, write_out};
-pub use stages::replay;
+pub use stages::{race_trace, replay};
 pub use summary::Summary;
 pub use trace_fault::TraceFault;

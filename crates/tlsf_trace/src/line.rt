@@ -1,7 +1,6 @@
 ghost use Rattle.std.specs.Prelude.{◌≡◌, ◌<◌, IfOk, IfSome, List, map, length};
 ghost use Rattle.tlsf_trace.specs.LabelMemory.{Remembers};
 ghost use Rattle.tlsf_trace.specs.Lines;
-ghost use Rattle.tlsf_trace.specs.Ranges.{IsLineInRange};
 ghost use Rattle.tlsf_trace.specs.Trace as spelled;
 ghost use Rattle.tlsf_trace.specs.Views.{Gives};
 ghost use Rattle.tlsf_trace.specs.declared.line.Line.{Line as ALine};
@@ -56,6 +55,8 @@ pub enum Line {
 impl Line {
     ghost use Rattle.std.specs.Prelude.{◌≡◌};
     ghost use Rattle.tlsf_trace.specs.Lines;
+    ghost use Rattle.tlsf_trace.specs.Phases;
+    ghost use Rattle.tlsf_trace.specs.RaceOutput;
 
     /// Whether the line is a call of a worker, and not the end of a phase.
     pub fn is_call(&self) -> bool
@@ -68,6 +69,33 @@ impl Line {
             | Line::Write { .. }
             | Line::Read { .. }
             | Line::Drain { .. } => true,
+        }
+    }
+
+    /// Whether the line is a call of this worker.
+    pub fn is_of(&self, caller: u32) -> bool
+        ensures { result ≡ Phases.is_line_of caller self.now }
+    {
+        match self {
+            Line::Phase => false,
+            Line::Allocate { worker, .. }
+            | Line::Release { worker, .. }
+            | Line::Write { worker, .. }
+            | Line::Read { worker, .. }
+            | Line::Drain { worker, .. } => *worker == caller,
+        }
+    }
+
+    /// The label that the line makes or uses; a drain and the end of a phase have none.
+    pub fn label(&self) -> Option<u32>
+        ensures { result ≡ RaceOutput.label_in self.now }
+    {
+        match self {
+            Line::Allocate { label, .. }
+            | Line::Release { label, .. }
+            | Line::Write { label, .. }
+            | Line::Read { label, .. } => Some(*label),
+            Line::Drain { .. } | Line::Phase => None,
         }
     }
 }
@@ -112,9 +140,8 @@ pub fn line_in(
     piece: &[u8],
 ) -> Result<Line, LineError>
     requires { 0 < workers }
-    ensures line { (before : List ALine) → Remembers labels.now before
+    ensures { (before : List ALine) → Remembers labels.now before
         → Gives result (spelled.line_in workers before piece.now) }
-    ensures range { IfOk result (IsLineInRange workers) }
 {
     let Some(fields) = fields_in(alloc, piece)? else {
         return Err(LineError::Fault(LineFault::BadLine));

@@ -3,7 +3,7 @@ ghost use Rattle.tlsf_trace.specs.Ranges.{IsHeaderInRange};
 ghost use Rattle.tlsf_trace.specs.Output.{output_of};
 ghost use Rattle.tlsf_trace.specs.Views.{view_trace};
 
-use crate::reply_lines::reply_text;
+use crate::reply_lines::write_replies;
 use crate::report_lines::write_reports;
 use crate::script::Script;
 use crate::trace::Trace;
@@ -26,7 +26,8 @@ pub(crate) fn output(alloc: Global, trace: &Trace) -> Result<String, AllocError>
     let Ok(entries) = replay_events(alloc, &mut workers, &script.events) else {
         return Err(AllocError);
     };
-    let mut text = reply_text(alloc, &entries, &script.labels)?;
+    let mut text = String::new(alloc);
+    write_replies(&mut text, &entries, &script.labels)?;
     write_reports(&mut text, &mut workers)?;
     Ok(text)
 }

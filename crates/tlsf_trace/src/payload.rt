@@ -1,6 +1,5 @@
-ghost use Rattle.std.specs.Prelude.{◌≡◌, IfSome};
+ghost use Rattle.std.specs.Prelude.{◌≡◌};
 ghost use Rattle.tlsf_trace.specs.Payloads;
-ghost use Rattle.tlsf_trace.specs.Ranges.{IsPayload};
 
 use tlsf_crew::Chunk;
 
@@ -10,8 +9,7 @@ const MOST_DIGITS: usize = 128;
 /// The bytes that a field spells in 2 to 128 hexadecimal digits of either case; `None` where it
 /// spells none.
 pub fn chunk_in(field: &[u8]) -> Option<Chunk>
-    ensures chunk { result ≡ Payloads.chunk_in field.now }
-    ensures range { IfSome result IsPayload }
+    ensures { result ≡ Payloads.chunk_in field.now }
 {
     if field.len() < 2 || field.len() > MOST_DIGITS {
         return None;

@@ -1,11 +1,11 @@
 //! The reply lines of entries.
-ghost use Rattle.std.specs.Prelude.{◌≡◌, ◌++◌, codes, IfOk, OnOk, string_bytes};
+ghost use Rattle.std.specs.Prelude.{◌≡◌, ◌++◌, codes, OnOk, string_bytes};
 ghost use Rattle.hex.specs.Hex.{encode_lower};
 ghost use Rattle.tlsf_crew.specs.yard.Bytes.{bytes_of};
 ghost use Rattle.tlsf_trace.specs.ReplyLines as spelled;
-ghost use Rattle.tlsf_trace.specs.ReplyLines.{answer_part, call_part, label_part, place_part, release_part, reply_line};
+ghost use Rattle.tlsf_trace.specs.ReplyLines.{answer_part, call_part, label_part, place_part, release_part, reply_line, reply_text};
 
-use std::alloc::{AllocError, Global};
+use std::alloc::AllocError;
 use tlsf_crew::{Call, Chunk, Entry, Reply};
 use tlsf_heap::{Name, Refusal};
 
@@ -106,33 +106,32 @@ fn write_line(text: &mut String, entry: &Entry, label: Option<u32>) -> Result<()
     writeln!(text)
 }
 
-// Whether the call is that of a post which a drain took: it has no event, and so no label.
-fn is_taken(call: Call) -> bool
+/// Whether the call is that of a post which a drain took: it has no event, and so no label.
+pub fn is_taken(call: Call) -> bool
     ensures { result ≡ spelled.is_taken call }
 {
     matches!(call, Call::Take { .. })
 }
 
-/// The lines of entries, where each but those of posts that a drain took has the label of the next
-/// event. A drain's label is `None`.
-pub fn reply_text(
-    alloc: Global,
+/// Adds the lines of entries, where each but those of posts that a drain took has the label of the next event. A drain's
+/// label is `None`, as is that of an event behind the last label.
+pub fn write_replies(
+    text: &mut String,
     entries: &[Entry],
     labels: &[Option<u32>],
-) -> Result<String, AllocError>
-    ensures { IfOk result (λ text. string_bytes text ≡ spelled.reply_text entries.now labels.now) }
+) -> Result<(), AllocError>
+    ensures { OnOk result (string_bytes text.new ≡ string_bytes text.old ++ reply_text entries.now labels.now) }
 {
-    let mut text = String::new(alloc);
     let mut next = 0;
     for entry in entries {
         if is_taken(entry.call) {
-            write_line(&mut text, entry, None)?;
+            write_line(text, entry, None)?;
         } else {
             // There is one such entry for each event, so a label is always left. No clause of the run says how many
             // entries there are, and so none is asked for here.
-            write_line(&mut text, entry, labels.get(next).copied().flatten())?;
+            write_line(text, entry, labels.get(next).copied().flatten())?;
             next += 1;
         }
     }
-    Ok(text)
+    Ok(())
 }

@@ -1,27 +1,47 @@
-ghost use Rattle.std.specs.Prelude.{◌≡◌, ◌⊎◌, Ok, Err, IfOk, IfErr, string_bytes};
+ghost use Rattle.std.specs.Prelude.{◌≡◌, ◌⊎◌, ◌≤◌, Some, Ok, IfOk, IfErr, vec_len};
 ghost use Rattle.tlsf_trace.specs.Limits.{IsWithinLimits};
-ghost use Rattle.tlsf_trace.specs.Replay.{IsReplay, IsLineFault, asked_of};
+ghost use Rattle.tlsf_trace.specs.Ranges.{IsHeaderInRange};
+ghost use Rattle.tlsf_trace.specs.Replay.{IsReplay, IsRaceOfTrace, IsLineFault, fault_of};
+ghost use Rattle.tlsf_trace.specs.Finish.{Finishes};
+ghost use Rattle.tlsf_trace.specs.Trace.{trace_of};
 ghost use Rattle.tlsf_trace.specs.TraceFaults.{no_memory_fault};
+ghost use Rattle.tlsf_trace.specs.Views.{view_trace};
 
 use crate::input::read_all;
 use crate::output::output;
+use crate::race_output::race_output;
 use crate::sink::write_out;
 use crate::summary::Summary;
-use crate::trace::parse;
+use crate::trace::{Trace, parse};
 use crate::trace_fault::TraceFault;
 use std::alloc::Global;
 use std::io::{Read, Write};
+use std::marker::Sync;
+use std::sync::Wait;
+use std::thread::Threads;
+use tlsf_crew::Gate;
 
-// The text that a trace's text asks for, and how many calls it makes. It is whole before a byte is written, so a fault
-// of a line writes nothing.
-fn asked(alloc: Global, text: &[u8]) -> Result<(String, u32), TraceFault>
+// The trace that a text spells, or its first fault.
+fn trace_in(alloc: Global, text: &[u8]) -> Result<Trace, TraceFault>
     requires { IsWithinLimits text.now }
-    ensures ok { IfOk result (λ given. asked_of text.now ≡ Ok (record { output = string_bytes given.0; calls = given.1 })) }
-    ensures err { IfErr result (λ fault. (fault ≡ no_memory_fault) ⊎ (IsLineFault fault × (asked_of text.now ≡ Err fault))) }
+    ensures ok { IfOk result (λ trace. trace_of text.now ≡ Ok (view_trace trace)) }
+    ensures header { IfOk result (λ trace. IsHeaderInRange trace.header) }
+    ensures lines { IfOk result (λ trace. vec_len trace.lines ≤ 32768) }
+    ensures err { IfErr result (λ fault. (fault ≡ no_memory_fault) ⊎ (IsLineFault fault × (fault_of text.now ≡ Some fault))) }
 {
-    let trace = parse(alloc, text)?;
-    let output = output(alloc, &trace)?;
-    Ok((output, trace.count_calls() as u32))
+    Ok(parse(alloc, text)?)
+}
+
+// Writes what a trace puts out. The text is whole before its first byte is written.
+fn finish<W: Write>(writer: &mut W, trace: &Trace, output: &str) -> Result<Summary, TraceFault>
+    requires { vec_len trace.now.lines ≤ 32768 }
+    ensures { Finishes result (view_trace trace.now) output.now (W.contents writer.old) (W.contents writer.new) }
+{
+    write_out(writer, output.as_bytes())?;
+    Ok(Summary {
+        calls: trace.count_calls() as u32,
+        bytes: output.len() as u64,
+    })
 }
 
 /// Reads a whole trace, runs it on a new yard of workers, and writes the reply lines and the report lines.
@@ -49,10 +69,42 @@ pub fn replay<R: Read, W: Write>(
         (W.contents writer.old) (W.contents writer.new) }
 {
     let text = read_all(alloc, reader)?;
-    let (output, calls) = asked(alloc, &text)?;
-    write_out(writer, output.as_bytes())?;
-    Ok(Summary {
-        calls,
-        bytes: output.len() as u64,
-    })
+    let trace = trace_in(alloc, &text)?;
+    let output = output(alloc, &trace)?;
+    finish(writer, &trace, &output)
+}
+
+/// Reads a whole trace, races it on a new yard of workers, and writes the reply lines and the report lines.
+///
+/// Each phase is one [`race`](tlsf_crew::race): a worker's lines are its script, run in a thread of its own, and a last
+/// drain of each worker ends the phase. The reply lines of a phase stand worker by worker. A trace without `d` lines gives
+/// the same text on every run; else it depends on the schedule how many posts a drain takes. `gate` is passed as `race`
+/// passes it, once more for each phase.
+///
+/// The trace is read to its end and checked before a line runs, and the whole text is made before a byte is written. The
+/// limits are those of [`replay`].
+///
+/// ```
+/// // reader gives "tlsf 1 2 64 1\na 0 1 8\nphase\nf 1 1\n"
+/// let summary = race_trace(rt, alloc, &mut reader, &mut writer, &OpenGate)?;
+/// // summary.calls is 2; writer holds, behind the first phase, "0 take 1 at 0 serial 1 freed\n0 d drained 1\n1 f 1 posted\n"
+/// ```
+///
+/// # Errors
+///
+/// Those of [`replay`]. A thread that can't be started counts as memory (6).
+pub fn race_trace<T: Threads + Wait + Sync, R: Read, W: Write, G: Gate>(
+    rt: &T,
+    alloc: Global,
+    reader: &mut R,
+    writer: &mut W,
+    gate: &G,
+) -> Result<Summary, TraceFault>
+    ensures { IsRaceOfTrace result (R.remaining reader.old) (R.remaining reader.new)
+        (W.contents writer.old) (W.contents writer.new) }
+{
+    let bytes = read_all(alloc, reader)?;
+    let trace = trace_in(alloc, &bytes)?;
+    let output = race_output(rt, alloc, &trace, gate)?;
+    finish(writer, &trace, &output)
 }

@@ -1,8 +1,7 @@
-ghost use Rattle.std.specs.Prelude.{All, ◌≡◌, ◌+◌, ◌<◌, ◌≤◌, ◌^◌, [], length, vec_len, IfOk};
-ghost use Rattle.tlsf_trace.specs.Ranges.{IsLineInRange};
+ghost use Rattle.std.specs.Prelude.{◌≡◌, ◌+◌, ◌<◌, ◌≤◌, ◌^◌, [], length, vec_len, IfOk};
 ghost use Rattle.tlsf_trace.specs.Pieces.{pieces_of};
 ghost use Rattle.tlsf_trace.specs.Trace as spelled;
-ghost use Rattle.tlsf_trace.specs.Ranges.{IsTraceInRange};
+ghost use Rattle.tlsf_trace.specs.Ranges.{IsHeaderInRange};
 ghost use Rattle.tlsf_trace.specs.Views.{GivesAt, view_trace};
 
 use crate::header::{Header, header_in};
@@ -41,7 +40,6 @@ fn lines_in(alloc: Global, workers: u32, text: &[u8]) -> Result<Vec<Line>, Parse
     requires short { length text.now ≤ 2 ^ 20 }
     ensures lines { GivesAt (λ lines. lines.items) result
         (spelled.lines_in workers [] 2 (pieces_of text.now)) }
-    ensures ranges { IfOk result (λ lines. All (IsLineInRange workers) lines.items) }
     ensures count { IfOk result (λ lines. vec_len lines ≡ length (pieces_of text.now)) }
 {
     let mut lines = Vec::new(alloc);
@@ -67,7 +65,7 @@ fn lines_in(alloc: Global, workers: u32, text: &[u8]) -> Result<Vec<Line>, Parse
 pub fn parse(alloc: Global, text: &[u8]) -> Result<Trace, ParseError>
     requires { length text.now ≤ 2 ^ 20 }
     ensures trace { GivesAt view_trace result (spelled.trace_of text.now) }
-    ensures ranges { IfOk result (λ trace. IsTraceInRange (view_trace trace)) }
+    ensures header { IfOk result (λ trace. IsHeaderInRange trace.header) }
     ensures lines { IfOk result (λ trace. vec_len trace.lines + 1 ≡ length (pieces_of text.now)) }
 {
     if text.is_empty() {

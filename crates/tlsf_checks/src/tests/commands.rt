@@ -2,8 +2,11 @@
 use crate::tests::fakes::{FakeReader, FakeWriter};
 use crate::tests::same::same;
 use std::alloc::Global;
+use std::marker::Sync;
 use std::process::Abort;
+use std::sync::Wait;
 use std::test::Fail;
+use std::thread::Threads;
 use tlsf_command::{FaultReport, run};
 use tlsf_trace::TraceFault;
 
@@ -27,17 +30,18 @@ impl<'a> Streams<'a> {
     }
 
     /// The status of a run on words that are parted by commas.
-    fn run(&mut self, rt: &impl Abort, alloc: Global, words: &str) -> u8 {
+    fn run<R: Threads + Wait + Abort + Sync>(&mut self, rt: &R, alloc: Global, words: &str) -> u8 {
         let words = words
             .split(',')
             .collect::<Vec<&str>>(alloc)
             .expect(rt, "memory");
-        self.run_on(alloc, &words)
+        self.run_on(rt, alloc, &words)
     }
 
     /// The status of a run on these words.
-    fn run_on(&mut self, alloc: Global, words: &[&str]) -> u8 {
+    fn run_on<R: Threads + Wait + Sync>(&mut self, rt: &R, alloc: Global, words: &[&str]) -> u8 {
         run(
+            rt,
             alloc,
             words,
             &mut self.reader,
@@ -48,7 +52,13 @@ impl<'a> Streams<'a> {
 }
 
 /// A run on this text ends with this status, and with these texts written and reported.
-fn check_run(rt: &impl Abort, alloc: Global, words: &str, text: &[u8], ending: (u8, &str, &str)) {
+fn check_run<R: Threads + Wait + Abort + Sync>(
+    rt: &R,
+    alloc: Global,
+    words: &str,
+    text: &[u8],
+    ending: (u8, &str, &str),
+) {
     let mut streams = Streams::new(alloc, text);
     let status = streams.run(rt, alloc, words);
     let found = (status, streams.writer.text(), streams.errors.text());
@@ -64,6 +74,37 @@ fn writes_classes(rt: HostRuntime) {
     ] {
         check_run(&rt, rt.alloc(), words, b"", (0, line, ""));
     }
+}
+
+// Each worker posts a block to its maker. A phase is told worker by worker, and its last drains take all posts.
+#[test]
+fn races_two_workers(rt: HostRuntime) {
+    let text = b"tlsf 1 2 64 4
+a 0 1 8
+a 1 2 100
+p 0 1 0 48692121
+phase
+f 1 1
+f 0 2
+g 0 1 0 4
+";
+    let lines = "\
+0 a 1 at 0 serial 1
+0 p 1 wrote 4
+0 d drained 0
+1 a 2 at 0 serial 1
+1 d drained 0
+0 f 2 posted
+0 g 1 got 48692121
+0 take 1 at 0 serial 1 freed
+0 d drained 1
+1 f 1 posted
+1 take 0 at 0 serial 1 freed
+1 d drained 1
+heap 0 live 0 0 0 free 1 64 largest 64 grant 488 fragmentation 0 waste 0 age 1
+heap 1 live 0 0 0 free 1 64 largest 64 grant 488 fragmentation 0 waste 0 age 1
+";
+    check_run(&rt, rt.alloc(), "tlsf,race", text, (0, lines, ""));
 }
 
 // The fault line and the status of a faulty trace. Nothing is written.
@@ -85,6 +126,7 @@ fn reports_a_fault_of_the_trace(rt: HostRuntime) -> Result<(), Fail> {
     ];
     for (text, line) in rows {
         check_run(&rt, rt.alloc(), ",replay", text, (1, "", line));
+        check_run(&rt, rt.alloc(), ",race", text, (1, "", line));
     }
     Ok(())
 }
@@ -96,6 +138,7 @@ fn reports_a_read_that_fails(rt: HostRuntime) {
         ("tlsf,replay", usize::MAX, 1, "tlsf: read failed (16)\n"),
         ("tlsf,replay", 0, 1, ""),
         ("tlsf,replay", 4, 1, "tlsf"),
+        ("tlsf,race", usize::MAX, 1, "tlsf: read failed (16)\n"),
         ("tlsf,nothing", 0, 2, ""),
         ("tlsf,nothing", 4, 2, "erro"),
     ];
@@ -115,6 +158,7 @@ fn reports_a_read_that_fails(rt: HostRuntime) {
 fn reports_a_fault_of_the_writer(rt: HostRuntime) {
     for (words, front) in [
         ("tlsf,replay", "0 d d"),
+        ("tlsf,race", "0 d d"),
         ("tlsf,--help", "Prove"),
         ("tlsf,--version", "tlsf "),
         ("tlsf,classes,460", "class"),
@@ -153,7 +197,13 @@ fn check_told(rt: &impl Abort, words: &str, ending: (u8, &str), streams: &Stream
     );
 }
 
-fn check_words(rt: &impl Abort, alloc: Global, words: &str, status: u8, text: &str) {
+fn check_words<R: Threads + Wait + Abort + Sync>(
+    rt: &R,
+    alloc: Global,
+    words: &str,
+    status: u8,
+    text: &str,
+) {
     let mut streams = Streams::new(alloc, TRACE);
     let found = streams.run(rt, alloc, words);
     check_told(rt, words, (status, text), &streams, found);
@@ -178,6 +228,13 @@ fn shows_help_and_version(rt: HostRuntime) {
             "tlsf,replay,--help",
             "  tlsf 1 2 64 4\n  a 0 1 8\n  phase\n  f 1 1\n\n  0 a 1 at 0 serial 1\n",
         ),
+        ("tlsf,race,--help", "Usage: tlsf race"),
+        ("tlsf,help,race", "Usage: tlsf race"),
+        ("tlsf,race,-h", "each phase in threads"),
+        (
+            "tlsf,race,--help",
+            "  tlsf 1 2 64 4\n  a 0 1 8\n  phase\n  f 1 1\n\n  0 a 1 at 0 serial 1\n",
+        ),
         ("tlsf,classes,--help", "Usage: tlsf classes <N>"),
         ("tlsf,classes,-h", "A size in words"),
         ("tlsf,help,classes", "Usage: tlsf classes <N>"),
@@ -195,6 +252,8 @@ fn refuses_other_words(rt: HostRuntime) {
         ("tlsf", "requires a subcommand"),
         ("tlsf,nothing", "unrecognized subcommand 'nothing'"),
         ("tlsf,Replay", "unrecognized subcommand 'Replay'"),
+        ("tlsf,Race", "unrecognized subcommand 'Race'"),
+        ("tlsf,race,now", "unexpected argument 'now' found"),
         ("tlsf,replay,now", "unexpected argument 'now' found"),
         ("tlsf,replay,--fast", "unexpected argument '--fast' found"),
         ("tlsf,--fast,replay", "unexpected argument '--fast' found"),
@@ -221,7 +280,7 @@ fn refuses_other_words(rt: HostRuntime) {
 #[test]
 fn refuses_no_words(rt: HostRuntime) {
     let mut streams = Streams::new(rt.alloc(), TRACE);
-    let found = streams.run_on(rt.alloc(), &[]);
+    let found = streams.run_on(&rt, rt.alloc(), &[]);
     check_told(&rt, "", (2, "requires a subcommand"), &streams, found);
 }
 

@@ -2,6 +2,8 @@
 
 -- The last drains, worker after worker, take all that waits, are told, and have their room.
 pub mod LastDrains
+-- A record tells the calls of its script and the history of its worker's heap.
+pub mod RecordHistory
 -- The calls of a script, one after another.
 pub mod ScriptRuns
 -- A worker may go to another thread, with its job and with what it hands back.

@@ -1,5 +1,5 @@
 -- What the parts of a race give one another. This serves the contracts and proofs of private functions alone.
-use Rattle.std.specs.Prelude.{◌≡◌, ℕ, ◌+◌, ◌<◌, ◌≤◌, List, [], ◌∷◌, ◌++◌, length, slice_index, slice_get, Option, Some, None, vec_len, vec_capacity}
+use Rattle.std.specs.Prelude.{◌≡◌, ℕ, ◌+◌, ◌-◌, ◌^◌, ◌<◌, ◌≤◌, min, List, [], ◌∷◌, ◌++◌, length, slice_index, slice_get, Option, Some, None, vec_len, vec_capacity}
 use Rattle.std.specs.declared.vec.Vec.{Vec}
 use Rattle.std.specs.declared.alloc.Global.{Global}
 use Rattle.tlsf_heap.specs.declared.name.Name.{Name}
@@ -18,10 +18,12 @@ use Rattle.tlsf_crew.specs.threads.Job.{IsReady, Ran}
 abbrev pub most_from : List ℕ → Worker → ℕ → ℕ
 most_from releases a i = ready_from a i + slice_index releases i
 
--- a job of one of n workers that is ready to run, with the room for all entries of its record
+-- a job of one of n workers that is ready to run, with the room for all entries of its record. It may take what is ready, and
+-- what may be posted while the race runs, up to the greatest number that a limit can be
 pub record IsPrepared (n : ℕ) (releases : List ℕ) (job : Job) : Type 0 where
   pub ready : IsReady job
   pub count : job.count ≡ n
+  pub reach : (i : ℕ) → i < 8 → min (most_from releases job.worker i) (2 ^ 32 - 1) ≤ slice_index job.limits i
   pub room : vec_len job.script + sum_below 8 (most_from releases job.worker) + 1 ≤ vec_capacity job.entries
 
 -- each job was done, in order

@@ -1,10 +1,11 @@
 -- What the workers of a race are answered: each record by itself, and how the records fit together.
-use Rattle.std.specs.Prelude.{◌≡◌, ◌≢◌, ℕ, ◌+◌, ◌<◌, ◌≤◌, List, [], ◌++◌, length, drop, get_or, Option, All}
+use Rattle.std.specs.Prelude.{◌≡◌, ◌≢◌, ℕ, ◌+◌, ◌<◌, ◌≤◌, List, [], ◌∷◌, ◌++◌, length, map, drop, get_or, Option, All}
 use mathlib.Core.List.{IsPrefix}
 use Rattle.tlsf_post.specs.declared.post.Post.{Post}
 use Rattle.tlsf_heap.specs.declared.name.Name.{Name}
 use Rattle.tlsf_heap.specs.Blocks.{HeapState}
 use Rattle.tlsf_crew.specs.declared.yard.entry.Entry.{Entry}
+use Rattle.tlsf_crew.specs.declared.yard.event.Event.{Event}
 use Rattle.tlsf_crew.specs.declared.yard.call.Call.{Call}
 use Rattle.tlsf_crew.specs.declared.yard.call.Call.TheVariants.{Take, Drain}
 use Rattle.tlsf_crew.specs.declared.yard.reply.Reply.TheVariants.{Empty, Drained, Refused}
@@ -50,6 +51,13 @@ script_of scripts j = get_or scripts j []
 
 abbrev pub record_of : List (List Entry) → ℕ → List Entry
 record_of records j = get_or records j []
+
+-- the calls of a worker's script and then the last drain, as events of that worker
+abbrev pub events_by : ℕ → List Call → List Event
+events_by at calls = map (λ call. record { worker = at; call = call }) calls
+
+abbrev pub events_of_race : List (List Call) → ℕ → List Event
+events_of_race scripts j = events_by j (script_of scripts j ++ last_call ∷ [])
 
 -- from a world the workers ran these scripts at once, were told these records, and left the other world
 pub record IsRace (w : World) (scripts : List (List Call)) (told : List (List Entry)) (v : World) : Type 0 where

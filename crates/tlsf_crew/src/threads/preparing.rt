@@ -1,5 +1,5 @@
 //! The jobs of a race. All room is made here, before a thread starts.
-ghost use Rattle.std.specs.Prelude.{◌≡◌, ℕ, ◌+◌, ◌^◌, ◌<◌, ◌≤◌, [], length, map, slice_index, vec_len, vec_capacity, IfOk, OnOk, All};
+ghost use Rattle.std.specs.Prelude.{◌≡◌, ℕ, ◌+◌, ◌-◌, ◌^◌, ◌<◌, ◌≤◌, min, [], length, map, slice_index, vec_len, vec_capacity, IfOk, OnOk, All};
 ghost use Rattle.tlsf_crew.specs.yard.Counts.{sum_below, ready_from, releases_of};
 ghost use Rattle.tlsf_crew.specs.threads.Race.{script_of};
 ghost use Rattle.tlsf_crew.specs.yard.Workers.{KnowsYard};
@@ -41,6 +41,7 @@ pub(crate) fn count_all(scripts: &[Vec<Call>]) -> [u32; 8]
 fn limits_for(worker: &Worker, releases: &[u32; 8]) -> [u32; 8]
     ensures least { (i : ℕ) → i < 8 → ready_from worker.now i ≤ slice_index result i }
     ensures most { (i : ℕ) → i < 8 → slice_index result i ≤ most_from releases.now worker.now i }
+    ensures reach { (i : ℕ) → i < 8 → min (most_from releases.now worker.now i) (2 ^ 32 - 1) ≤ slice_index result i }
 {
     let mut limits = [0; 8];
     for i in 0..8 {

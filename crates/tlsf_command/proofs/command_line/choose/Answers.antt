@@ -4,7 +4,7 @@ use Rattle.std.specs.Str.Parse.{ParsesUnsigned, ExplainsUnsignedError, HasUnsign
 use Rattle.clap.specs.Words.{FailsBy}
 use Rattle.tlsf_command.specs.CommandLine.{Asks, faults_of}
 use Rattle.tlsf_command.specs.declared.command_line.Choice.TheVariants.{Classes}
-use Rattle.tlsf_command.proofs.NamedCommands.{replay_fails}
+use Rattle.tlsf_command.proofs.NamedCommands.{race_fails, replay_fails}
 use Rattle.tlsf_command.proofs.ChosenCommands.{asks_classes, asks_replay}
 use Rattle.tlsf_command.proofs.command_line.choose.Goals as goal
 
@@ -13,6 +13,12 @@ returns-in_err-matches-clause-replay g c =
     let words = map g.S.AsStr.text c.args.words.now in
     let fails : FailsBy (faults_of words) c.from_residual.result = search rules in
     λ called. replay_fails c.from_residual.result words called fails
+
+pub returns-in_err-matches-clause-race : goal.returns-in_err-matches-clause-race
+returns-in_err-matches-clause-race g c =
+    let words = map g.S.AsStr.text c.args.words.now in
+    let fails : FailsBy (faults_of words) c.from_residual.result = search rules in
+    λ called. race_fails c.from_residual.result words called fails
 
 pub returns-in-Some-get_one-clause-asked : goal.returns-in-Some-get_one-clause-asked
 returns-in-Some-get_one-clause-asked g c =
@@ -36,3 +42,4 @@ pub returns-clause-asked : goal.returns-clause-asked
 returns-clause-asked g c =
     asks_replay _ c.in_ok-matches.matches (c.in_ok-matches.ensures.kinds, c.in_ok-matches.ensures.named)
     (λ called. true≢false (sym (rw c.in-None.is at (c.subcommand_matches.ensures.found.1 called))))
+    (λ called. true≢false (sym (rw c.in-None-subcommand_matches.is at (c.subcommand_matches-in-None.ensures.found.1 called))))

@@ -1,6 +1,6 @@
 use Rattle.std.proofs.Common.{inl, inr}
-use Rattle.tlsf_command.specs.Runs.{ReplaysOrLacksMemory, streams}
-use Rattle.tlsf_command.proofs.ChosenCommands.{classes_differ}
+use Rattle.tlsf_command.specs.Runs.{RacesOrLacksMemory, ReplaysOrLacksMemory, streams}
+use Rattle.tlsf_command.proofs.ChosenCommands.{classes_not_race, classes_not_replay, race_not_replay, replay_not_race}
 use Rattle.tlsf_command.proofs.RunEnds.{answer_ends, answer_lacks}
 use Rattle.tlsf_command.proofs.commands.run.Goals as goal
 
@@ -12,10 +12,14 @@ pub returns-in-Err-clause-replay : goal.returns-in-Err-clause-replay
 returns-in-Err-clause-replay g c = λ called is.
     inr (answer_lacks _ _ _ _ (c.answer.ensures (g.R.Read.remaining c.args.reader.now)) (c.in-Err.ensures.replay called is))
 
+pub returns-in-Err-clause-race : goal.returns-in-Err-clause-race
+returns-in-Err-clause-race g c = λ called is.
+    inr (answer_lacks _ _ _ _ (c.answer.ensures (g.R.Read.remaining c.args.reader.now)) (c.in-Err.ensures.race called is))
+
 pub returns-in-Ok-Classes-clause-ends : goal.returns-in-Ok-Classes-clause-ends
 returns-in-Ok-Classes-clause-ends g c =
     let asks = rw c.in-Ok-Classes.field-0-is at c.in-Ok-Classes.ensures.asked in
-    inr (inr (inl (c.in-Ok-Classes.words, asks, c.run_classes.ensures (g.R.Read.remaining c.args.reader.now))))
+    inr (inr (inr (inl (c.in-Ok-Classes.words, asks, c.run_classes.ensures (g.R.Read.remaining c.args.reader.now)))))
 
 pub returns-in-Ok-Classes-clause-replay : goal.returns-in-Ok-Classes-clause-replay
 returns-in-Ok-Classes-clause-replay g c =
@@ -23,4 +27,28 @@ returns-in-Ok-Classes-clause-replay g c =
     λ called is. absurd {A = ReplaysOrLacksMemory c.run_classes.result
     (streams (g.R.Read.remaining c.args.reader.now) (g.W.Write.contents c.args.writer.now) (g.E.Write.contents c.args.errors.now))
     (streams (g.R.Read.remaining c.args.reader.now) (g.W.Write.contents c.run_classes.new.writer) (g.E.Write.contents c.run_classes.new.errors))}
-    (classes_differ _ called c.in-Ok-Classes.words asks is)
+    (classes_not_replay _ called c.in-Ok-Classes.words asks is)
+
+pub returns-in-Ok-Classes-clause-race : goal.returns-in-Ok-Classes-clause-race
+returns-in-Ok-Classes-clause-race g c =
+    let asks = rw c.in-Ok-Classes.field-0-is at c.in-Ok-Classes.ensures.asked in
+    λ called is. absurd {A = RacesOrLacksMemory c.run_classes.result
+    (streams (g.R.Read.remaining c.args.reader.now) (g.W.Write.contents c.args.writer.now) (g.E.Write.contents c.args.errors.now))
+    (streams (g.R.Read.remaining c.args.reader.now) (g.W.Write.contents c.run_classes.new.writer) (g.E.Write.contents c.run_classes.new.errors))}
+    (classes_not_race _ called c.in-Ok-Classes.words asks is)
+
+pub returns-in-Ok-Race-clause-replay : goal.returns-in-Ok-Race-clause-replay
+returns-in-Ok-Race-clause-replay g c =
+    let asks = rw c.in-Ok-Race.field-0-is at c.in-Ok-Race.ensures.asked in
+    λ called is. absurd {A = ReplaysOrLacksMemory c.run_race.result
+    (streams (g.R.Read.remaining c.args.reader.now) (g.W.Write.contents c.args.writer.now) (g.E.Write.contents c.args.errors.now))
+    (streams (g.R.Read.remaining c.run_race.new.reader) (g.W.Write.contents c.run_race.new.writer) (g.E.Write.contents c.run_race.new.errors))}
+    (race_not_replay _ called asks is)
+
+pub returns-in-Ok-Replay-clause-race : goal.returns-in-Ok-Replay-clause-race
+returns-in-Ok-Replay-clause-race g c =
+    let asks = rw c.in-Ok-Replay.field-0-is at c.in-Ok-Replay.ensures.asked in
+    λ called is. absurd {A = RacesOrLacksMemory c.run_replay.result
+    (streams (g.R.Read.remaining c.args.reader.now) (g.W.Write.contents c.args.writer.now) (g.E.Write.contents c.args.errors.now))
+    (streams (g.R.Read.remaining c.run_replay.new.reader) (g.W.Write.contents c.run_replay.new.writer) (g.E.Write.contents c.run_replay.new.errors))}
+    (replay_not_race _ called asks is)

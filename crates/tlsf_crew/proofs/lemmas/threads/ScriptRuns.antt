@@ -18,7 +18,7 @@ use Rattle.tlsf_crew.specs.yard.Moves.{Moved, Spent, Called}
 use Rattle.tlsf_crew.proofs.lemmas.yard.ManyEntries.{moved_then, moved_room}
 use Rattle.tlsf_crew.proofs.lemmas.yard.LaneTakes.{moved_none}
 
-tell_more : (n at : ℕ) (s u t : Told) (calls : List Call) (call : Call) → MayTellAll n at s calls u → MayTell n at u call t → MayTellAll n at s (calls ++ call ∷ []) t
+pub tell_more : (n at : ℕ) (s u t : Told) (calls : List Call) (call : Call) → MayTellAll n at s calls u → MayTell n at u call t → MayTellAll n at s (calls ++ call ∷ []) t
 tell_more n at s u t [] call all more = (t, subst (λ x. MayTell n at x call t) all more, refl)
 tell_more n at s u t (first ∷ calls) call all more = (all.0, all.1, tell_more n at all.0 u t calls call all.2 more)
 

@@ -39,7 +39,7 @@ drain_knows : (r : Replayed) (at most : ℕ) → Knows (draining r at most).made
 unfolding draining
 drain_knows r at most = more_knows r.made (None ∷ [])
 
-called_knows : (r : Replayed) (at : ℕ) (call : Call) → Knows (called r at call).made r.made
+pub called_knows : (r : Replayed) (at : ℕ) (call : Call) → Knows (called r at call).made r.made
 called_knows r at (Allocate len) = more_knows r.made _
 called_knows r at (Release target) = more_knows r.made _
 called_knows r at (Write target from bytes) = more_knows r.made _

@@ -6,6 +6,7 @@ use Rattle.std.proofs.lemmas.List.{length-map, map-append}
 use Rattle.std.proofs.lemmas.List.Elements.{All-head, All-tail, All-take}
 use Rattle.tlsf_heap.specs.Blocks.{HeapState}
 use Rattle.tlsf_heap.specs.Calls as heap
+use Rattle.tlsf_heap.specs.Lawful.{IsLawful}
 use Rattle.tlsf_heap.specs.declared.name.Name.{Name}
 use Rattle.tlsf_heap.proofs.Outcomes.{lawful_run}
 use Rattle.tlsf_crew.specs.declared.yard.entry.Entry.{Entry}
@@ -50,19 +51,24 @@ run_split h last cs ds xs ys even run =
       },
     )
 
+-- where all entries are told by a run, some of them leave a lawful heap, behind which the others are told
+pub runs_through : (made : List (Option Name)) (workers j : ℕ) (h last : HeapState) (before later : List Entry) → j < workers → IsLawful h → All (IsAnswered made workers) (before ++ later)
+    → RunsTo h (calls_on j made (before ++ later)) (answers_on j (before ++ later)) last → RunsThrough h j made before later last
+runs_through made workers j h last before later j_in lawful each run =
+    let front : All (IsAnswered made workers) before
+    = subst (All (IsAnswered made workers)) (take-append_seam before later) (All-take (IsAnswered made workers) (length before) (before ++ later) each) in
+    let calls = told_then (λ e. call_on_own made e.worker e.call e.reply) j before later in
+    let answers = told_then (λ e. answer_told e.call e.reply) j before later in
+    let both = run_split h last (calls_on j made before) (calls_on j made later) (answers_on j before) (answers_on j later)
+    (as_many made workers j before j_in front) (rw (calls, answers) at run) in
+    record { between = (heap.run h (calls_on j made before)).1; first = both.0; lawful = lawful_run h (calls_on j made before) lawful; rest = both.1 }
+
 pub replies_always : (w : World) (es : List Event) (before later : List Entry) (j : ℕ) → AreLawful w → j < length w.heaps → (replies w es).entries ≡ before ++ later
     → RunsThrough (heap_in w j) j (replies w es).made before later (heap_in (replies w es).world j)
 replies_always w es before later j lawful j_in whole =
-    let h = heap_in w j in
     let made = (replies w es).made in
     let last = heap_in (replies w es).world j in
     let history = (replies_tell w es).history in
-    let each = subst (All (IsAnswered made (length w.heaps))) whole history.each in
-    let front : All (IsAnswered made (length w.heaps)) before
-    = subst (All (IsAnswered made (length w.heaps))) (take-append_seam before later) (All-take (IsAnswered made (length w.heaps)) (length before) (before ++ later) each) in
-    let calls = told_then (λ e. call_on_own made e.worker e.call e.reply) j before later in
-    let answers = told_then (λ e. answer_told e.call e.reply) j before later in
-    let run = subst (λ l. RunsTo h (calls_on j made l) (answers_on j l) last) whole (history.heaps j j_in) in
-    let both = run_split h last (calls_on j made before) (calls_on j made later) (answers_on j before) (answers_on j later)
-    (as_many made (length w.heaps) j before j_in front) (rw (calls, answers) at run) in
-    record { between = (heap.run h (calls_on j made before)).1; first = both.0; lawful = lawful_run h (calls_on j made before) (lawful j j_in); rest = both.1 }
+    runs_through made (length w.heaps) j (heap_in w j) last before later j_in (lawful j j_in)
+    (subst (All (IsAnswered made (length w.heaps))) whole history.each)
+    (subst (λ l. RunsTo (heap_in w j) (calls_on j made l) (answers_on j l) last) whole (history.heaps j j_in))

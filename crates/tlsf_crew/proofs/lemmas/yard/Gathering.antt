@@ -1,5 +1,5 @@
 -- Where each job was prepared for a whole yard and done, the workers ran their scripts, and each record has its room.
-use Rattle.std.proofs.Common.{suc, zero, [], ◌∷◌, ◌++◌, ◌≡◌, ℕ, ◌+◌, ◌<◌, ◌≤◌, List, Option, Some, None, length, map, set, get_or, slice_index, vec_len, vec_capacity, sym, ◌∙◌, ap, subst, arith, refl, append_assoc}
+use Rattle.std.proofs.Common.{min, suc, zero, [], ◌∷◌, ◌++◌, ◌≡◌, ℕ, ◌+◌, ◌<◌, ◌≤◌, List, Option, Some, None, length, map, set, get_or, slice_index, vec_len, vec_capacity, sym, ◌∙◌, ap, subst, arith, refl, append_assoc}
 use Rattle.std.proofs.lemmas.List.{length-map}
 use Rattle.std.specs.Option.{option_map}
 use Rattle.std.specs.List.{slice_get, All}
@@ -194,9 +194,10 @@ gathered_rooms n releases js ds ws scripts records a b d counts all done k w r i
 pub prepared : (n : ℕ) (releases limits : List ℕ) (w : Worker) (script : Vec Call Global) (made : Vec (Option Name) Global) (entries : Vec Entry Global)
     → KnowsYard n w → vec_len script < 4294967296 → (made.items ≡ []) × (entries.items ≡ []) → vec_len script ≤ vec_capacity made
     → ((i : ℕ) → i < 8 → ready_from w i ≤ slice_index limits i) → ((i : ℕ) → i < 8 → slice_index limits i ≤ most_from releases w i)
+    → ((i : ℕ) → i < 8 → min (most_from releases w i) 4294967295 ≤ slice_index limits i)
     → vec_len script + sum_below 8 (most_from releases w) + 1 ≤ vec_capacity entries
     → IsPrepared n releases (record { worker = w; count = n; script = script; limits = limits; made = made; entries = entries })
-prepared n releases limits w script made entries yard short fresh names least most room = record {
+prepared n releases limits w script made entries yard short fresh names least most reach room = record {
   ready = record {
     yard = yard;
     fresh = fresh;
@@ -210,5 +211,6 @@ prepared n releases limits w script made entries yard short fresh names least mo
     room = let s = least_sum 8 (slice_index limits) (most_from releases w) most in omega arith;
   };
   count = refl;
+  reach = reach;
   room = room;
 }

@@ -18,7 +18,7 @@ pub run_more : (h : HeapState) (cs ds : List heap.Call) → heap.run h (cs ++ ds
 run_more h [] ds = refl
 run_more h (c ∷ cs) ds = let step = heap.answered h c in let a = run_more step.1 cs ds in ap (λ x. (step.0 ∷ x.0, x.1)) a
 
-runs_then : (h g k : HeapState) (cs ds : List heap.Call) (xs ys : List heap.Answer) → RunsTo h cs xs g → RunsTo g ds ys k → RunsTo h (cs ++ ds) (xs ++ ys) k
+pub runs_then : (h g k : HeapState) (cs ds : List heap.Call) (xs ys : List heap.Answer) → RunsTo h cs xs g → RunsTo g ds ys k → RunsTo h (cs ++ ds) (xs ++ ys) k
 runs_then h g k cs ds xs ys a b =
     let e = run_more h cs ds in
     let at : (heap.run (heap.run h cs).1 ds) ≡ heap.run g ds = ap (λ x. heap.run x ds) a.left in

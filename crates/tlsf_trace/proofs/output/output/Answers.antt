@@ -15,5 +15,5 @@ returns c =
     c.in-Ok.ensures.world c.in_ok-script.ensures.events c.in_ok-script.ensures.labels
     (rw (c.deref_mut.ensures.value, c.deref.ensures.value) at c.in-Ok-replay_events.ensures.entries)
     (rw (c.deref_mut.ensures.value, c.deref.ensures.value) at c.in-Ok-replay_events.ensures.world)
-    (rw (c.deref-2.ensures.value, c.deref-3.ensures.value) at c.in_ok-text.ensures)
+    (rw (c.deref-2.ensures.value, c.deref-3.ensures.value, c.new-text.ensures.bytes) at c.in_ok-write_replies.ensures)
     (rw (c.deref_mut-2.ensures.value, back) at c.in_ok-write_reports.ensures)

@@ -1,7 +1,5 @@
 use Rattle.std.proofs.Common.{◌≡◌, ◌+◌, ◌++◌, ◌∷◌, [], rules, arith, length}
 use Rattle.tlsf_trace.specs.Pieces.{pieces_of}
-use Rattle.std.proofs.lemmas.List.Elements.{All-push}
-use Rattle.tlsf_trace.specs.Ranges.{IsLineInRange}
 use Rattle.tlsf_trace.proofs.LineSteps.{goes_on, ends, is_done}
 use Rattle.tlsf_trace.proofs.trace.lines_in.Goals as goal
 
@@ -9,7 +7,7 @@ pub returns-in-Err-clause-lines : goal.returns-in-Err-clause-lines
 returns-in-Err-clause-lines c =
     let inv = c.loop-rest.invariant.so_far in
     rw c.at.ensures (ends c.args.workers inv.0 c.loop-rest.lines.items c.loop-rest.number c.loop-rest.rest.now _ inv.2
-    c.in-Err.error c.cut_piece.result.0.now c.cut_piece.result.1.now c.cut_piece.ensures.pieces (c.in-Err.ensures.line inv.0 inv.1))
+    c.in-Err.error c.cut_piece.result.0.now c.cut_piece.result.1.now c.cut_piece.ensures.pieces (c.in-Err.ensures inv.0 inv.1))
 
 pub loop-rest-preserved : goal.loop-rest-preserved
 loop-rest-preserved c =
@@ -22,11 +20,10 @@ loop-rest-preserved c =
         line ∷ inv.0,
         c.in_ok-remember.ensures.ok inv.0 inv.1,
         rw pushed (goes_on c.args.workers inv.0 c.loop-rest.lines.items c.loop-rest.number c.loop-rest.rest.now _ inv.2
-            c.cut_piece.result.0.now c.cut_piece.result.1.now line c.cut_piece.ensures.pieces (c.in-Ok.ensures.line inv.0 inv.1)),
+            c.cut_piece.result.0.now c.cut_piece.result.1.now line c.cut_piece.ensures.pieces (c.in-Ok.ensures inv.0 inv.1)),
       );
       numbers = omega (arith, c.cut_piece.ensures.shorter, c.loop-rest.invariant.numbers);
       phases = omega (arith, c.loop-rest.invariant.phases, c.in_ok-remember.ensures.phase);
-      ranges = rw pushed (All-push (IsLineInRange c.args.workers) c.loop-rest.lines.items line c.loop-rest.invariant.ranges c.in-Ok.ensures.range);
       count = omega (arith, cut, c.in_ok-push.ensures.len, c.loop-rest.invariant.count);
     }
 

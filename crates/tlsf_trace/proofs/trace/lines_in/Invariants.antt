@@ -1,5 +1,4 @@
-use Rattle.std.proofs.Common.{All, ◌≡◌, ◌+◌, ◌<◌, ◌≤◌, List, [], length, vec_len}
-use Rattle.tlsf_trace.specs.Ranges.{IsLineInRange}
+use Rattle.std.proofs.Common.{◌≡◌, ◌+◌, ◌<◌, ◌≤◌, List, [], length, vec_len}
 use Rattle.tlsf_trace.specs.LabelMemory.{Remembers}
 use Rattle.tlsf_trace.specs.Pieces.{pieces_of}
 use Rattle.tlsf_trace.specs.Trace.{lines_in}
@@ -14,7 +13,6 @@ invariant-loop-rest l = record {
       × (with_lines l.lines.items (lines_in l.workers before l.number (pieces_of l.rest)) ≡ lines_in l.workers [] 2 (pieces_of l.text));
   numbers : l.number + length l.rest ≤ 2 + length l.text;
   phases : l.labels.phase < l.number;
-  ranges : All (IsLineInRange l.workers) l.lines.items;
   count : vec_len l.lines + length (pieces_of l.rest) ≡ length (pieces_of l.text);
 }
 

@@ -9,7 +9,7 @@ use Rattle.tlsf_trace.proofs.script.Script.of.Goals as goal
 pub loop-line-init : goal.loop-line-init
 loop-line-init c = record {
   before = [];
-  recalls = c.new-makers.ensures c.args.trace.now.header.workers;
+  recalls = c.new-makers.ensures.events c.args.trace.now.header.workers;
   number = c.new.ensures.len;
   few = omega (arith, c.new.ensures.len);
   events = rw c.new.ensures.items refl;

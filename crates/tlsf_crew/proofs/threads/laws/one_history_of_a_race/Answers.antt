@@ -1,0 +1,5 @@
+use Rattle.tlsf_crew.proofs.lemmas.threads.RecordHistory.{race_tells, race_runs, race_posts, race_lawful, race_always}
+use Rattle.tlsf_crew.proofs.threads.laws.one_history_of_a_race.Goals as goal
+
+pub returns : goal.returns
+returns c = record { told = race_tells; heaps = race_runs; posts = race_posts; lawful = race_lawful; always_lawful = race_always }
