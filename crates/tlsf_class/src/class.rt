@@ -1,5 +1,6 @@
 ghost use Rattle.std.specs.Prelude.{◌≡◌, ◌+◌, ◌*◌, ◌/◌, ◌%◌, ◌^◌, ◌<◌, ◌≤◌, Some};
 ghost use Rattle.tlsf_class.specs.Classes.{low, class_of, search_of};
+ghost use Rattle.tlsf_class.specs.Steps.{IsStep};
 
 use std::marker::Model;
 
@@ -82,16 +83,6 @@ impl Class {
     {
         self.number % 16
     }
-
-    /// The class above, of the next greater sizes.
-    fn next(self) -> Class
-        requires { self < 272 }
-        ensures { result ≡ self + 1 }
-    {
-        Class {
-            number: self.number + 1,
-        }
-    }
 }
 
 /// The class of a size of `words`, 4 to 2^20: the greatest one that begins at or below it. A free block of this size is
@@ -107,11 +98,10 @@ pub fn class_of(words: u32) -> Class
     requires most { words ≤ 2 ^ 20 }
     ensures { result ≡ class_of words }
 {
-    if words < 16 {
-        return Class::at(0, words);
+    let step = step_of(words);
+    Class {
+        number: (words >> step) + 16 * step,
     }
-    let top = words.ilog2();
-    Class::at(top - 3, (words - (1 << top)) >> (top - 4))
 }
 
 /// The search class of a size of `words`, 4 to 2^20: the least class of whose sizes none is below `words`. Each block of
@@ -126,12 +116,21 @@ pub fn search_of(words: u32) -> Class
     requires most { words ≤ 2 ^ 20 }
     ensures { search_of words ≡ Some result }
 {
-    let class = class_of(words);
-    if low(class) == words {
-        class
-    } else {
-        class.next()
+    let step = step_of(words);
+    // The steps are rounded up: one more than a size of one word less has.
+    Class {
+        number: ((words - 1) >> step) + 1 + 16 * step,
     }
+}
+
+/// The step from class to class at a size, 2^0 to 2^16 words, by its exponent: the number of bits below the five highest. A
+/// size has 16 to 31 steps, and below 16 words as many as words, for which bit 4 stands in as the highest. 32 steps would be
+/// 16 of twice the step, so a class is the number of steps and 16 for each doubling, and no size is a case of its own.
+fn step_of(words: u32) -> u32
+    requires { words ≤ 2 ^ 20 }
+    ensures { IsStep words result }
+{
+    (words | 16).ilog2() - 4
 }
 
 /// The least size of a class in words, 4 to 2^20.

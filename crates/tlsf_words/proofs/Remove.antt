@@ -9,7 +9,7 @@ use Rattle.tlsf_words.specs.Lists.{nowhere, list_of, first_of, LinkedFrom, AreDi
 use Rattle.tlsf_words.specs.Ties.{AreTied}
 use Rattle.tlsf_words.proofs.FieldLaws.{low_half-links_word, high_half-links_word}
 use Rattle.tlsf_words.proofs.ListedClasses.{are_some, some-member, none-first, listed-same, listed-without}
-use Rattle.tlsf_words.proofs.PlaceLists.{last_of, Split, split_member, first_member, last_member, all_member, all_weaker, all_right, all_last, distinct_without, without_split, without_within}
+use Rattle.tlsf_words.proofs.PlaceLists.{last_of, Split, split_member, member_here, first_member, last_member, all_member, all_weaker, all_right, all_last, distinct_without, without_split, without_within}
 use Rattle.tlsf_words.proofs.Threads.{head-list_of, first_small, listed_within, with_list, NewList, NewList-list, NewList-others, NewList-threaded}
 
 module _ (w v : List ℕ) (small : length w ≤ 2 ^ 20) (long : length v ≡ length w) (at next previous : ℕ) (tied : AreTied w v next previous) where
@@ -226,3 +226,35 @@ module _ (heads members w : List ℕ) (class at : ℕ) (t : AreThreaded heads me
     remove-words k apart = r.tied.others k
         (λ some. apart class previous (listed previous (previous_left next previous r.next_is r.previous_is some)))
         (λ some. apart class next (listed next (next_left next previous r.next_is r.previous_is some)))
+
+-- where places that differ begin, the others are left without it
+first_then_left : (places : List ℕ) (at : ℕ) → AreDistinct places → (places ≡ [] → ⊥) → at ≡ first_of places → places ≡ at ∷ without_place at places
+first_then_left [] at _ some is = absurd (some refl)
+first_then_left (p ∷ places) at differ some is =
+    subst (λ (k : ℕ). p ∷ places ≡ k ∷ without_place k (p ∷ places)) (sym is) (ap (λ (ps : List ℕ). p ∷ ps) (sym (without_split p [] places differ)))
+
+-- the place at the head of a list that isn't empty
+module _ (heads members w : List ℕ) (class at : ℕ) (t : AreThreaded heads members w) (some : list_of heads w class ≡ [] → ⊥) (is : at ≡ get_or heads class nowhere) where
+  is_first : at ≡ first_of (list_of heads w class)
+  is_first = is ∙ head-list_of heads w class
+
+  -- the list has it
+  pub head_member : Contains (list_of heads w class) at
+  head_member = at_head (list_of heads w class) some is_first
+    where
+      at_head : (places : List ℕ) → (places ≡ [] → ⊥) → at ≡ first_of places → Contains places at
+      at_head [] some is = absurd (some refl)
+      at_head (p ∷ places) some is = subst (Contains (p ∷ places)) (sym is) (member_here p places)
+
+  -- no place stands before it
+  pub head_previous : length w ≤ 2 ^ 20 → nowhere ≡ high_half (get_or w (at + 2) 0)
+  head_previous small = at_head (list_of heads w class) some is_first (t.linked class)
+    where
+      at_head : (places : List ℕ) → (places ≡ [] → ⊥) → at ≡ first_of places → LinkedFrom w nowhere places → nowhere ≡ high_half (get_or w (at + 2) 0)
+      at_head [] some is _ = absurd (some refl)
+      at_head (p ∷ places) some is link =
+          sym (ap (λ (k : ℕ). high_half (get_or w (k + 2) 0)) is ∙ ap high_half link.0 ∙ high_half-links_word (first_of places) nowhere (first_small w p places small link.2))
+
+  -- and the others are left without it
+  pub head_then_left : list_of heads w class ≡ at ∷ without_place at (list_of heads w class)
+  head_then_left = first_then_left (list_of heads w class) at (t.distinct class) some is_first

@@ -12,8 +12,8 @@ use tlsf_class::{Bitmaps, Class};
 
 /// Lists of places, one for each class, threaded through the third words of their headers, and bitmaps of the classes whose
 /// lists aren't empty: the segregated lists of two-level segregated fit (ECRTS 2004, section 3). A list is last in, first out.
-/// Nothing allocates, and no list is walked: to put a place in makes seven touches at most and to take one out six, however
-/// long the lists are.
+/// Nothing allocates, and no list is walked: to put a place in makes seven touches at most, to take one out six, and to take
+/// out the first, which isn't known yet, seven, however long the lists are.
 ///
 /// ```
 /// let mut lists = FreeLists::new();
@@ -110,10 +110,45 @@ impl FreeLists {
         ensures words_rise { words.old.touches ≤ words.new.touches }
     {
         let links = words.links(at);
-        tie(words, links);
         if links.previous == NO_PLACE {
             self.begin_at(class, links.next);
         }
+        tie(words, links);
+    }
+
+    /// Takes out the place at the head of the list of a class, the one that was put in last, and answers it, in seven touches at
+    /// most. The list isn't empty: that of a class which [`FreeLists::next_from`] answered never is. No place stands before the
+    /// head, so one neighbour is written at most.
+    ///
+    /// ```
+    /// let class = lists.next_from(search_of(9))?;
+    /// let at = lists.pop_first(&mut words, class);     // the one that `first` answers, and it is in no list any more
+    /// ```
+    pub fn pop_first(&mut self, words: &mut Words, class: Class) -> u32
+        requires threaded { AreThreaded self.old.heads self.old.members words.old.words }
+        requires some { ¬ (list_of self.old.heads words.old.words class ≡ []) }
+        ensures threaded { AreThreaded self.new.heads self.new.members words.new.words }
+        ensures first { list_of self.old.heads words.old.words class ≡ result ∷ list_of self.new.heads words.new.words class }
+        ensures list { list_of self.new.heads words.new.words class ≡ without_place result (list_of self.old.heads words.old.words class) }
+        ensures others { (other : ℕ) → other ≢ class → list_of self.new.heads words.new.words other ≡ list_of self.old.heads words.old.words other }
+        ensures words { OnlyLinksChange (list_of self.new.heads words.new.words) words.old.words words.new.words }
+        ensures length { length words.new.words ≡ length words.old.words }
+        ensures starts { words.new.starts ≡ words.old.starts }
+        ensures touches { self.new.touches + words.new.touches ≤ self.old.touches + words.old.touches + 7 }
+        ensures rise { self.old.touches ≤ self.new.touches }
+        ensures words_rise { words.old.touches ≤ words.new.touches }
+    {
+        let head = self.heads.place(class);
+        let next = words.links(head).next;
+        tie(
+            words,
+            Links {
+                next,
+                previous: NO_PLACE,
+            },
+        );
+        self.begin_at(class, next);
+        head
     }
 
     /// The place at the head of the list of a class, the one that was put in last, `None` where the list is empty. One touch.

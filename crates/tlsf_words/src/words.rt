@@ -255,21 +255,19 @@ impl Words {
         self.starts.set(at, starts);
     }
 
-    /// Makes `n` words zero, from a place on. One touch a word.
+    /// Makes `n` words zero, from a place on, as one slice. One touch a word.
     ///
     /// ```
     /// words.zero(at + 3, payload_words);
     /// ```
-    #[tactic(auto, using(crate::proofs::Zeros::zero_more))]
+    #[inline]
     pub fn zero(&mut self, at: u32, n: u32)
         requires { at + n ≤ length self.old.words }
         ensures words { self.new.words ≡ take at self.old.words ++ replicate n 0 ++ drop (at + n) self.old.words }
         ensures starts { self.new.starts ≡ self.old.starts }
         ensures touches { self.new.touches ≡ self.old.touches + n }
     {
-        for i in 0..n as usize {
-            self.write(at as usize + i, 0);
-        }
+        self.words.zero(at as usize, n as usize);
     }
 
     /// Writes bytes into the payload behind the header at a place, from a byte offset of it on. Each word that has one of them
