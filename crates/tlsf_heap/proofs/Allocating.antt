@@ -58,16 +58,15 @@ module _ (h : HeapState) (len : ℕ) (lawful : IsLawful h) where
     allocated_worn : h.tick ≡ 2 ^ 64 - 1 → allocated h len ≡ refused h Worn
     allocated_worn e = ap (allocated_at h len) chosen ∙ ap (λ (b : Bool). cond b (refused h Worn) (answered (suc i))) (eq-eqb h.tick (2 ^ 64 - 1) e)
 
-    allocated_is : (h.tick ≡ 2 ^ 64 - 1 → ⊥) → allocated h len ≡ answered (i + 1)
+    allocated_is : (h.tick ≡ 2 ^ 64 - 1 → ⊥) → allocated h len ≡ answered (suc i)
     allocated_is n =
         let t : eqb h.tick (2 ^ 64 - 1) ≡ false = not_true _ (λ e. n (grind (arith, nat_tests))) in
-        ap (allocated_at h len) chosen ∙ ap (λ (b : Bool). cond b (refused h Worn) (answered (suc i))) t ∙ ap answered (sym (add-one i))
+        ap (allocated_at h len) chosen ∙ ap (λ (b : Bool). cond b (refused h Worn) (answered (suc i))) t
 
-    allocated_lawful : IsLawful (ticked h (left (i + 1)))
+    allocated_lawful : IsLawful (ticked h (left (suc i)))
     allocated_lawful =
         let P : List Block → Type 0 = λ l. IsLawful (with_blocks h l) in
-        subst (λ (k : ℕ). IsLawful (ticked h (left k))) (sym (add-one i))
-        (lawful_carved h (take i h.blocks) (drop (suc i) h.blocks) (block_at h.blocks i) len c.fit (subst P (split_at h.blocks i c.within) lawful))
+        lawful_carved h (take i h.blocks) (drop (suc i) h.blocks) (block_at h.blocks i) len c.fit (subst P (split_at h.blocks i c.within) lawful)
 
 -- where there is a choice there is a fit
 fits_some : (h : HeapState) (len i : ℕ) → IsLawful h → IsChoice (want len) h.blocks i → fits (want len) h.blocks ≡ [] → ⊥
@@ -113,10 +112,10 @@ module _ (h k : HeapState) (len n : ℕ) (lawful : IsLawful h) (same : h ≡ k) 
           lawful = subst IsLawful (sym kept) lawful;
         })
 
-    pub allocates_some : (at : ℕ) → words_in (take i h.blocks) ≡ at → region.blocks ≡ take i h.blocks ++ carved (size_of (block_at h.blocks i)) n h.tick len ++ drop (i + 1) h.blocks
+    pub allocates_some : (at : ℕ) → words_in (take i h.blocks) ≡ at → region.blocks ≡ take i h.blocks ++ carved (size_of (block_at h.blocks i)) n h.tick len ++ drop (suc i) h.blocks
         → ¬ (h.tick ≡ last_tick) → Allocates k len (Ok (record { heap = h.id; at = at; serial = h.tick })) (with_region h (h.tick + 1) region)
     allocates_some at is_at blocks fresh =
-        let wanted_blocks = blocks ∙ ap (λ (m : ℕ). take i h.blocks ++ carved (size_of (block_at h.blocks i)) m h.tick len ++ drop (i + 1) h.blocks) wanted in
+        let wanted_blocks = blocks ∙ ap (λ (m : ℕ). take i h.blocks ++ carved (size_of (block_at h.blocks i)) m h.tick len ++ drop (suc i) h.blocks) wanted in
         let is_left = region_is h (h.tick + 1) region _ words wanted_blocks in
         let made = allocated_is h len lawful i is_chosen fresh in
         subst (λ (s : HeapState). Allocates s len (Ok (record { heap = h.id; at = at; serial = h.tick })) (with_region h (h.tick + 1) region)) same (record {

@@ -14,7 +14,7 @@ use Rattle.tlsf_heap.specs.Blocks.{Block, Live, Free, size_of, is_free, stamp_of
 use Rattle.tlsf_heap.specs.Lawful.{IsRegion}
 use Rattle.tlsf_heap.specs.Regions.{AreRegions}
 use Rattle.tlsf_heap.specs.GoodFit.{is_fit, is_as_good, block_at}
-use Rattle.tlsf_heap.specs.Chosen.{NoneFits, IsChoice, IsBestAt}
+use Rattle.tlsf_heap.specs.Chosen.{NoneFits, IsChoice, IsHead, IsBestClass}
 use Rattle.tlsf_words.specs.Lists.{listed_classes}
 use Rattle.tlsf_heap.specs.FreePlaces.{AreFreeLists}
 use Rattle.tlsf_heap.proofs.Finding.{not_true}
@@ -63,7 +63,7 @@ module _ (n from : ℕ) (lists : ℕ → List ℕ) (bs : List Block) (search : s
   next_listed = ap (λ members. next_member members from) (filter-classes_same (λ d. is_some_list (lists d)) (has_free_of bs) (λ d l h. some_listed d bs (lists d) (listed d)))
 
   -- no class has a free block, and none fits
-  pub none_listed : next_member (listed_classes lists) from ≡ None → NoneFits n bs
+  none_listed : next_member (listed_classes lists) from ≡ None → NoneFits n bs
   none_listed none = λ i h. not_true _ (λ fit.
       let free = fit_class (block_at bs i) fit in
       let class = class_at i h in
@@ -105,9 +105,16 @@ module _ (n from : ℕ) (lists : ℕ → List ℕ) (bs : List Block) (search : s
         }
 
     -- so the head of the list of that class is what good fit asks
-    pub best_listed : IsBestAt n bs (slice_get (lists class) 0)
-    best_listed = as_best (slice_get (lists class) 0) (head_is_last class bs (lists class) (listed class))
+    best_listed : (at : ℕ) × (i : ℕ) × IsHead bs lists class at i × IsChoice n bs i
+    best_listed = as_best (slice_get (lists class) 0) refl (head_is_last class bs (lists class) (listed class))
       where
-        as_best : (found : Option ℕ) → IsLastFreedAt class bs found → IsBestAt n bs found
-        as_best None none = absurd (has_listed none)
-        as_best (Some at) last = (last.0, last.1, choice_listed last.0 last.2)
+        as_best : (found : Option ℕ) → slice_get (lists class) 0 ≡ found → IsLastFreedAt class bs found → (at : ℕ) × (i : ℕ) × IsHead bs lists class at i × IsChoice n bs i
+        as_best None e none = absurd (has_listed none)
+        as_best (Some at) e last =
+            (at, last.0, record { first = e; stands = last.1; classed = sym (free_and_of class (block_at bs last.0) last.2.here).1 }, choice_listed last.0 last.2)
+
+-- what a search for the least class that serves answers
+pub best_class : (n from : ℕ) (lists : ℕ → List ℕ) (bs : List Block) → search_of n ≡ Some from → AreRegions bs → AreFreeLists bs lists
+    → (found : Option ℕ) → found ≡ next_member (listed_classes lists) from → IsBestClass n bs lists found
+best_class n from lists bs search sized listed None e = none_listed n from lists bs search sized listed (sym e)
+best_class n from lists bs search sized listed (Some class) e = best_listed n from lists bs search sized listed class (sym e)

@@ -1,22 +1,21 @@
 -- What an edit of the words of a region leaves.
-use Rattle.std.proofs.Common.{◌≡◌, ◌≢◌, ℕ, zero, suc, ◌+◌, ◌*◌, ◌/◌, ◌%◌, ◌<◌, ◌≤◌, ◌^◌, Bool, inl, inr, true, false, List, [], ◌∷◌, ◌++◌, length, get_or, set, take, drop, map, replicate, refl, sym, ap, ◌∙◌, subst, arith}
-use Rattle.std.proofs.Math.Nat.{zero-div}
-use Rattle.std.specs.List.{AllByRecursion, range_with_len}
-use Rattle.std.proofs.lemmas.List.{length-replicate, length-set, get_or-set_other, set-get_or}
+use Rattle.std.proofs.Common.{◌≡◌, ◌≢◌, ℕ, ◌+◌, ◌<◌, ◌≤◌, Bool, inl, inr, false, List, [], ◌∷◌, ◌++◌, length, get_or, set, take, drop, refl, sym, ap, ◌∙◌, subst, arith}
+use Rattle.std.specs.List.{AllByRecursion}
+use Rattle.std.proofs.lemmas.List.{length-set, get_or-set_other, set-get_or}
 use Rattle.std.proofs.lemmas.Bool.{cases_lt}
-use Rattle.tlsf_heap.specs.Image.{Image, mark_of, HoldsPayload, BlockAt, ShowsFrom, Shows}
-use Rattle.tlsf_words.specs.Fields.{tag_word, size_in, last_in, free_in, back_in, length_word}
+use Rattle.tlsf_heap.specs.Image.{Image, mark_of, HoldsPayload, BlockAt, ShowsFrom, back_behind, Shows}
+use Rattle.tlsf_words.specs.Fields.{tag_word, size_in, last_in, free_in, back_in}
 use Rattle.tlsf_words.proofs.FieldLaws.{tag_word-fields}
-use Rattle.tlsf_heap.specs.Blocks.{Block, Live, Free, size_of, words_in, is_free, words_for, StandsAt, IsPlace}
+use Rattle.tlsf_heap.specs.Blocks.{Block, size_of, words_in, is_free, StandsAt}
 use Rattle.tlsf_heap.specs.GoodFit.{block_at}
-use Rattle.tlsf_heap.specs.Headers.{with_back, end_in}
+use Rattle.tlsf_heap.specs.Headers.{with_back}
 use Rattle.tlsf_words.specs.Lists.{nowhere}
 use Rattle.tlsf_heap.specs.Read.{blocks_of}
-use Rattle.tlsf_words.specs.Bytes.{byte_in, bytes_in}
 use Rattle.tlsf_heap.specs.Lawful.{HasRoom}
-use Rattle.tlsf_heap.proofs.Showing.{word_at, start_at, back_behind, blocks_replaced}
+use Rattle.tlsf_heap.proofs.Showing.{word_at, start_at, blocks_replaced}
 use Rattle.tlsf_heap.proofs.Standing.{around, stands_next, back_next}
-use Rattle.tlsf_heap.proofs.Reading.{at_index, says_here, ends_last}
+use Rattle.tlsf_heap.proofs.Beside.{ends_last}
+use Rattle.tlsf_heap.proofs.Reading.{at_index, says_here}
 
 -- words show these blocks, and read as them
 abbrev pub ReadsAs : Image → List Block → Type 0
@@ -82,14 +81,14 @@ module _ {m v : Image} {bs : List Block} (shows : Shows m bs) {at : ℕ} where
   }
 
 -- the header behind a block says where it begins
-next_same : {m : Image} {bs : List Block} (shows : Shows m bs) {at i : ℕ} (stands : StandsAt bs at i) → at + size_of (block_at bs i) < length m.words
+pub next_same : {m : Image} {bs : List Block} (shows : Shows m bs) {at i : ℕ} (stands : StandsAt bs at i) → at + size_of (block_at bs i) < length m.words
     → word_at m (at + size_of (block_at bs i)) ≡ with_back (word_at m (at + size_of (block_at bs i))) at
 unfolding with_back
 next_same {m = m} {bs = bs} shows {at = at} {i = i} stands inside = elim (cases_lt (i + 1) (length bs)) [
   | inl more ↦
       let word = word_at m (at + size_of (block_at bs i)) in
       sym (tag_word-fields word) ∙ ap (tag_word (size_in word) (last_in word) (free_in word)) ((says_here shows (stands_next stands more)).before ∙ back_next stands)
-  | inr none ↦ absurd (omega (arith, ends_last shows stands none))
+  | inr none ↦ absurd (omega (arith, ends_last shows.whole stands none))
 ]
 
 -- the words of one block become those of another of its size
@@ -135,64 +134,3 @@ module _ {m v : Image} {bs : List Block} (shows : Shows m bs) {at i : ℕ} (stan
         below = omega arith;
         shown = (shown_changed, tt);
       })
-
--- the header of a block becomes one of a free block
-pub freed : {m v : Image} {bs : List Block} {at stamp : ℕ} → Shows m bs → IsPlace bs at
-    → word_at v at ≡ tag_word (size_in (word_at m at)) (last_in (word_at m at)) true (back_in (word_at m at))
-    → word_at v (at + 1) ≡ stamp
-    → ((k : ℕ) → k ≢ at → k ≢ at + 1 → word_at v k ≡ word_at m k)
-    → length v.words ≡ length m.words → v.starts ≡ m.starts
-    → Leaves v bs at (λ i. take i bs ++ (Free (size_of (block_at bs i)) stamp ∷ []) ++ drop (i + 1) bs)
-freed {bs = bs} {stamp = stamp} shows place tag mark others same starts =
-    leaves shows (λ i. 4 ≤ size_of (block_at bs i)) (place.0, place.1, (says_here shows place.1).least)
-    (λ i stands four. one_changed shows stands (Free (size_of (block_at bs i)) stamp) (record {
-      size = refl;
-      room = four;
-      tag = tag;
-      mark = mark;
-      payload = tt;
-      before = λ k h. others k (omega arith) (omega arith);
-      behind = λ k h. others k (omega arith) (omega arith);
-      length = same;
-      starts = starts;
-    }))
-
-zero_map : (words : List ℕ) (from len : ℕ) → ((k : ℕ) → from ≤ k → k < from + len → byte_in words k ≡ 0) → map (byte_in words) (range_with_len from len) ≡ replicate len 0
-zero_map words from zero zeros = refl
-zero_map words from (suc len) zeros =
-    ap (λ (b : ℕ). b ∷ map (byte_in words) (range_with_len (from + 1) len)) (zeros from (omega arith) (omega arith))
-    ∙ ap (λ (xs : List ℕ). 0 ∷ xs) (zero_map words (from + 1) len (λ k a b. zeros k (omega arith) (omega arith)))
-
--- the bytes of zero words are zero
-pub zero_bytes : (words : List ℕ) (at len : ℕ) → ((k : ℕ) → at ≤ k → k < at + (len + 7) / 8 → get_or words k 0 ≡ 0) → bytes_in words (8 * at) len ≡ replicate len 0
-unfolding bytes_in byte_in
-zero_bytes words at len zeros =
-    zero_map words (8 * at) len (λ k a b. ap (λ (w : ℕ). w / 256 ^ (k % 8) % 256) (zeros (k / 8) (omega arith) (omega arith)) ∙ ap (λ (w : ℕ). w % 256) (zero-div (256 ^ (k % 8))))
-
--- the header of a block becomes one of a live block, and all words behind its header are zero
-pub enlivened : {m v : Image} {bs : List Block} {at serial : ℕ} (len : ℕ) → Shows m bs
-    → (i : ℕ) × StandsAt bs at i × (words_for len ≤ size_of (block_at bs i))
-    → word_at v at ≡ tag_word (size_in (word_at m at)) (last_in (word_at m at)) false (back_in (word_at m at))
-    → word_at v (at + 1) ≡ serial
-    → word_at v (at + 2) ≡ length_word len
-    → ((k : ℕ) → at + 3 ≤ k → k < end_in m.words at → word_at v k ≡ 0)
-    → ((k : ℕ) → k < at → word_at v k ≡ word_at m k)
-    → ((k : ℕ) → end_in m.words at ≤ k → word_at v k ≡ word_at m k)
-    → length v.words ≡ length m.words → v.starts ≡ m.starts
-    → Leaves v bs at (λ i. take i bs ++ (Live (size_of (block_at bs i)) serial (replicate len 0) ∷ []) ++ drop (i + 1) bs)
-enlivened {v = v} {bs = bs} {at = at} {serial = serial} len shows room tag mark bytes payload before behind same starts =
-    leaves shows (λ i. words_for len ≤ size_of (block_at bs i)) room
-    (λ i stands holds.
-    let says = says_here shows stands in
-    let many : length (replicate {A = ℕ} len 0) ≡ len = length-replicate len 0 in
-    one_changed shows stands (Live (size_of (block_at bs i)) serial (replicate len 0)) (record {
-      size = refl;
-      room = (says.least, omega arith);
-      tag = tag;
-      mark = mark;
-      payload = (bytes ∙ ap length_word (sym many), rw many (zero_bytes v.words (at + 3) len (λ k a b. payload k a (omega arith))));
-      before = before;
-      behind = λ k h. behind k (omega arith);
-      length = same;
-      starts = starts;
-    }))

@@ -1,18 +1,20 @@
 -- The lists of the free blocks when a live block becomes one with its free neighbours.
-use Rattle.std.proofs.Common.{◌≡◌, ◌≢◌, ℕ, zero, suc, ◌+◌, ◌-◌, ◌<◌, ◌≤◌, true, false, List, [], ◌∷◌, ◌++◌, length, take, drop, refl, sym, ap, ◌∙◌, subst, arith, add-one, append_assoc}
+use Rattle.std.proofs.Common.{◌≡◌, ◌≢◌, ℕ, zero, suc, ◌+◌, ◌-◌, ◌^◌, ◌<◌, ◌≤◌, true, false, List, [], ◌∷◌, ◌++◌, length, take, drop, refl, sym, ap, ◌∙◌, subst, arith, append_assoc}
 use Rattle.std.specs.Prelude.{Contains}
 use Rattle.std.proofs.lemmas.Bool.{false≢true}
 use Rattle.tlsf_class.specs.Classes.{class_of}
 use Rattle.tlsf_heap.specs.Blocks.{Block, Live, Free, size_of, words_in, is_free, StandsAt}
 use Rattle.tlsf_heap.specs.Lawful.{IsRegion}
-use Rattle.tlsf_heap.specs.Regions.{AreRegions, SameLists, list_in}
+use Rattle.tlsf_heap.specs.Regions.{AreRegions, AreUnlisted, SameLists, list_in}
 use Rattle.tlsf_heap.specs.GoodFit.{block_at, site_at}
-use Rattle.tlsf_words.specs.Lists.{IsUnlisted, without_place}
+use Rattle.tlsf_words.specs.Lists.{nowhere, without_place}
 use Rattle.tlsf_heap.specs.Calls.{coalesced, first_free, past_free, last_free, before_free}
 use Rattle.tlsf_heap.specs.FreePlaces.{FreePlace, free_places, AreFreeLists}
+use Rattle.tlsf_heap.specs.Image.{back_behind}
+use Rattle.tlsf_heap.proofs.Beside.{back_free, free_behind, free_before}
 use Rattle.tlsf_heap.proofs.Edits.{first_free-words}
 use Rattle.tlsf_heap.proofs.Listing.{AreListed, IsFresh, fresh_both, contains_own, not_listed, same_lists, taken, given}
-use Rattle.tlsf_heap.proofs.Sizes.{Around, around, block_around, stands_around, words_around, region_around, regions_front, regions_back, one_index, next_is, next_none, first_region, last_is, last_none, last_region, last_words, past_regions, before_regions, place, places_behind, fresh_front, fresh_back, ArePast, past_around, newest, past_past, before_past}
+use Rattle.tlsf_heap.proofs.Sizes.{Around, around, block_around, stands_around, words_around, region_around, regions_front, regions_back, next_is, next_none, last_is, last_none, last_words, past_regions, before_regions, place, places_behind, fresh_front, fresh_back, ArePast, past_around, newest, past_past, before_past}
 
 -- ---- a free block that is taken out of the list of its class where there is one
 
@@ -22,9 +24,16 @@ pub record Forgets (size at : ℕ) (old new : ℕ → List ℕ) : Type 0 where
   pub others : (other : ℕ) → other ≢ class_of size → new other ≡ old other
   pub none : size ≡ 0 → SameLists new old
 
-pub forgets : {size at : ℕ} {old new : List (List ℕ)} → (0 < size → list_in new (class_of size) ≡ without_place at (list_in old (class_of size)))
-    → ((other : ℕ) → other ≢ class_of size → list_in new other ≡ list_in old other) → (size ≡ 0 → new ≡ old) → Forgets size at (list_in old) (list_in new)
-forgets out others none = record { out = out; others = others; none = λ e class. ap (λ (l : List (List ℕ)). list_in l class) (none e) }
+-- what was taken out, by the size of the block there and its place
+pub forgets : {size read to at : ℕ} {old new : List (List ℕ)} → read ≡ size → (0 < size → to ≡ at) → (0 < read → list_in new (class_of read) ≡ without_place to (list_in old (class_of read)))
+    → ((other : ℕ) → other ≢ class_of read → list_in new other ≡ list_in old other) → (read ≡ 0 → new ≡ old) → Forgets size at (list_in old) (list_in new)
+forgets {size = size} {read = read} {at = at} {old = old} {new = new} is_size same out others none =
+    subst (λ (n : ℕ). Forgets n at (list_in old) (list_in new)) is_size
+    (record {
+      out = λ h. out h ∙ ap (λ (k : ℕ). without_place k (list_in old (class_of read))) (same (omega (arith, h, is_size)));
+      others = others;
+      none = λ e class. ap (λ (l : List (List ℕ)). list_in l class) (none e);
+    })
 
 forgotten : {size at : ℕ} {old new : ℕ → List ℕ} → Forgets size at old new → (front back : List FreePlace) → (0 < size → IsFresh at (front ++ back))
     → (0 < size → (stamp : ℕ) × AreListed (front ++ place size at stamp ∷ back) old) → (size ≡ 0 → AreListed (front ++ back) old) → AreListed (front ++ back) new
@@ -39,30 +48,27 @@ forgotten {size = size} {at = at} {old = old} {new = new} f front back fresh som
 
 -- ---- a live block between its neighbours
 
--- a live block of this size begins at a place, its free neighbours have these sizes, and these are the lists of the free blocks, all past
+-- a live block begins at a place, its free neighbours have these sizes, and these are the lists of the free blocks, all past
 pub record IsBetween (bs : List Block) (at i before size after tick : ℕ) (lists : ℕ → List ℕ) : Type 0 where
   pub stands : StandsAt bs at i
   pub live : is_free (block_at bs i) ≡ false
   pub sized : AreRegions bs
   pub is_size : size ≡ size_of (block_at bs i)
   pub is_before : before ≡ last_free (take i bs)
-  pub is_after : after ≡ first_free (drop (i + 1) bs)
+  pub is_after : after ≡ first_free (drop (suc i) bs)
   pub past : ArePast tick bs
   pub listed : AreFreeLists bs lists
 
--- the reads leave the blocks and the lists as they are
-pub is_between : {bs one two : List Block} {at before size after tick : ℕ} {old new : List (List ℕ)} → (live : (i : ℕ) × StandsAt bs at i × (is_free (block_at bs i) ≡ false)) → AreRegions bs
+pub is_between : {bs : List Block} {at tick : ℕ} {old new : List (List ℕ)} → (live : (i : ℕ) × StandsAt bs at i × (is_free (block_at bs i) ≡ false)) → AreRegions bs
     → ArePast tick bs → AreFreeLists bs (list_in old) → new ≡ old
-    → ((i : ℕ) → StandsAt bs at i → size ≡ size_of (block_at bs i)) → one ≡ bs
-    → ((i : ℕ) → StandsAt one at i → before ≡ last_free (take i one)) → two ≡ one
-    → ((i : ℕ) → StandsAt two at i → after ≡ first_free (drop (i + 1) two)) → IsBetween bs at live.0 before size after tick (list_in new)
-is_between {at = at} {before = before} {after = after} live sized past listed kept is_size same is_before same_too is_after = record {
+    → IsBetween bs at live.0 (last_free (take live.0 bs)) (size_of (block_at bs live.0)) (first_free (drop (suc live.0) bs)) tick (list_in new)
+is_between live sized past listed kept = record {
   stands = live.1;
   live = live.2;
   sized = sized;
-  is_size = is_size live.0 live.1;
-  is_before = subst (λ (l : List Block). (i : ℕ) → StandsAt l at i → before ≡ last_free (take i l)) same is_before live.0 live.1;
-  is_after = subst (λ (l : List Block). (i : ℕ) → StandsAt l at i → after ≡ first_free (drop (i + 1) l)) (same_too ∙ same) is_after live.0 live.1;
+  is_size = refl;
+  is_before = refl;
+  is_after = refl;
   past = past;
   listed = rw kept listed;
 }
@@ -92,19 +98,13 @@ module _ {bs : List Block} {at i before size after tick : ℕ} {lists : ℕ → 
   front = take i bs
 
   abbrev back : List Block
-  back = drop (i + 1) bs
+  back = drop (suc i) bs
 
   between : Around bs at i front (block_at bs i) back
   between = around bs at i f.stands
 
   pub size_region : IsRegion size
   size_region = subst IsRegion (sym f.is_size) (region_around between f.sized)
-
-  pub after_region : 0 < after → IsRegion after
-  after_region h = subst IsRegion (sym f.is_after) (first_region back (regions_back between f.sized) (omega (arith, h, f.is_after)))
-
-  pub before_region : 0 < before → IsRegion before
-  before_region h = subst IsRegion (sym f.is_before) (last_region front (regions_front between f.sized) (omega (arith, h, f.is_before)))
 
   pub end_within : at + size + after ≤ words_in bs
   end_within = omega (arith, words_around between, f.is_size, f.is_after, first_free-words back)
@@ -161,6 +161,12 @@ module _ {bs : List Block} {at i before size after tick : ℕ} {lists : ℕ → 
   pub contains_next : 0 < after → Contains (lists (class_of after)) (at + size)
   contains_next h = let listed = listed_next h in contains_own (place after (at + size) listed.0) ahead behind (lists (class_of after)) (listed.1 (class_of after))
 
+  -- a free block that begins where the block ends is listed
+  pub contains_behind : {words : ℕ} → words_in bs ≡ words → (j : ℕ) → StandsAt bs (at + size) j → is_free (block_at bs j) ≡ true → Contains (lists (class_of (size_of (block_at bs j)))) (at + size)
+  contains_behind whole j there free =
+      let same = f.is_after ∙ free_behind whole f.stands f.sized j (subst (λ (n : ℕ). StandsAt bs (at + n) j) f.is_size there) free in
+      subst (λ (n : ℕ). Contains (lists (class_of n)) (at + size)) same (contains_next (omega (arith, same, (region_around (around bs (at + size) j there) f.sized).0)))
+
   -- once the block behind is out
   module _ {left : ℕ → List ℕ} (out : Forgets after (at + size) lists left) where
     left_next : AreListed (ahead ++ behind) left
@@ -185,20 +191,23 @@ module _ {bs : List Block} {at i before size after tick : ℕ} {lists : ℕ → 
     contains_previous h =
         let listed = listed_previous h in contains_own (place before (at - before) listed.0) first behind (left (class_of before)) (listed.1 (class_of before))
 
+    -- and so is one where the block before begins
+    pub contains_before : {words : ℕ} → words_in bs ≡ words → words_in bs ≤ 2 ^ 20 → (j : ℕ) → StandsAt bs (back_behind 0 nowhere front) j → is_free (block_at bs j) ≡ true
+        → Contains (left (class_of (size_of (block_at bs j)))) (back_behind 0 nowhere front)
+    contains_before whole small j there free =
+        let same = f.is_before ∙ free_before whole small f.sized f.stands j there free in
+        let some : 0 < before = omega (arith, same, (region_around (around bs (back_behind 0 nowhere front) j there) f.sized).0) in
+        let place : at - before ≡ back_behind 0 nowhere front = ap (λ (n : ℕ). at - n) f.is_before ∙ sym (back_free f.stands (omega (arith, some, f.is_before))) in
+        subst (λ (k : ℕ). Contains (left (class_of (size_of (block_at bs j)))) k) place (subst (λ (n : ℕ). Contains (left (class_of n)) (at - before)) same (contains_previous some))
+
     -- once that before it is out too
     module _ {rest : ℕ → List ℕ} (out_too : Forgets before (at - before) left rest) where
       rest_listed : AreListed (first ++ behind) rest
       rest_listed = forgotten out_too first behind (λ h. fresh_merged (at - before) (omega arith) (omega (arith, size_region.0))) listed_previous kept_previous
 
       -- no place in their words is listed
-      pub rest_unlisted : (k : ℕ) → at - before ≤ k → k < at + size + after → IsUnlisted rest k
+      pub rest_unlisted : AreUnlisted rest (at - before) (at + size + after)
       rest_unlisted k low high = not_listed (first ++ behind) rest k rest_listed (fresh_merged k low high)
-
-      -- nor where the block ends and a free one begins
-      pub next_unlisted : 0 < after → (j : ℕ) → StandsAt bs at j → IsUnlisted rest (at + size_of (block_at bs j))
-      next_unlisted h j other =
-          let ends = f.is_size ∙ ap (λ (k : ℕ). size_of (block_at bs k)) (one_index bs at i j f.sized f.stands other) in
-          subst (λ (n : ℕ). IsUnlisted rest (at + n)) ends (rest_unlisted (at + size) (omega (arith, before_within)) (omega (arith, h)))
 
       module _ (new : List Block) (is_new : new ≡ coalesced tick (site_at bs i)) where
         abbrev total : ℕ
@@ -207,8 +216,7 @@ module _ {bs : List Block} {at i before size after tick : ℕ} {lists : ℕ → 
         is_merged : new ≡ before_free front ++ Free total tick ∷ past_free back
         is_merged =
             let sum : last_free front + size_of (block_at bs i) + first_free back ≡ total = omega (arith, f.is_before, f.is_size, f.is_after) in
-            is_new ∙ ap (λ (n : ℕ). before_free front ++ Free (last_free front + size_of (block_at bs i) + first_free (drop n bs)) tick ∷ past_free (drop n bs)) (sym (add-one i))
-            ∙ ap (λ (n : ℕ). before_free front ++ Free n tick ∷ past_free back) sum
+            is_new ∙ ap (λ (n : ℕ). before_free front ++ Free n tick ∷ past_free back) sum
 
         -- the merged block is a free one
         pub merged_free : (j : ℕ) × StandsAt new (at - before) j × (is_free (block_at new j) ≡ true)

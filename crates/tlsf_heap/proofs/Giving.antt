@@ -1,5 +1,5 @@
 -- The block that an allocate gave, and its payload words.
-use Rattle.std.proofs.Common.{◌≡◌, ℕ, ◌+◌, ◌-◌, List, [], ◌∷◌, ◌++◌, length, take, drop, replicate, Option, Some, None, refl, sym, ap, ◌∙◌, inl, inr, append_assoc}
+use Rattle.std.proofs.Common.{◌≡◌, ℕ, suc, ◌+◌, ◌-◌, List, [], ◌∷◌, ◌++◌, length, take, drop, replicate, Option, Some, None, refl, sym, ap, ◌∙◌, inl, inr, append_assoc}
 use Rattle.std.specs.Prelude.{IsSome}
 use Rattle.std.proofs.lemmas.Bool.{eqb-true, false≢true, cases_lt}
 use Rattle.tlsf_heap.specs.Blocks.{Block, Live, Free, HeapState, payload_words, StandsAt}
@@ -15,11 +15,11 @@ use Rattle.tlsf_heap.proofs.Sizes.{Around, around, block_around, stands_around, 
 use Rattle.tlsf_heap.proofs.Outcomes.{named_site}
 
 -- a block that is carved begins where the free one began
-pub carved_stands : (bs new : List Block) (at i size words tick len : ℕ) → StandsAt bs at i → new ≡ take i bs ++ carved size words tick len ++ drop (i + 1) bs → StandsAt new at i
+pub carved_stands : (bs new : List Block) (at i size words tick len : ℕ) → StandsAt bs at i → new ≡ take i bs ++ carved size words tick len ++ drop (suc i) bs → StandsAt new at i
 carved_stands bs new at i size words tick len stands is =
     let a = around bs at i stands in
     let begins : (b : Block) (more : List Block) → carved size words tick len ≡ b ∷ more → StandsAt new at i = λ b more e.
-    let now : Around new at i (take i bs) b (more ++ drop (i + 1) bs) = record { is = is ∙ ap (λ (l : List Block). take i bs ++ l ++ drop (i + 1) bs) e ∙ append_assoc (take i bs) (b ∷ more) (drop (i + 1) bs); before = a.before; place = a.place } in stands_around now in
+    let now : Around new at i (take i bs) b (more ++ drop (suc i) bs) = record { is = is ∙ ap (λ (l : List Block). take i bs ++ l ++ drop (suc i) bs) e ∙ append_assoc (take i bs) (b ∷ more) (drop (suc i) bs); before = a.before; place = a.place } in stands_around now in
     elim (cases_lt size (words + 4)) [
       | inl small ↦ begins (Live size tick (replicate len 0)) [] (carved_small size words tick len small)
       | inr large ↦ begins (Live words tick (replicate len 0)) (Free (size - words) tick ∷ []) (carved_large size words tick len large)

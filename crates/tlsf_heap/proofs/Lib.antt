@@ -23,7 +23,7 @@ pub mod Splitting
 pub mod Merging
 pub mod Sizes
 pub mod Carving
-pub mod Joining
+pub mod Beside
 pub mod Forgetting
 pub mod Payloads
 pub mod Naming

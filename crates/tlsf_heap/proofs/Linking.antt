@@ -6,7 +6,7 @@ use Rattle.std.proofs.Math.ListN.{get_or-map}
 use Rattle.std.proofs.lemmas.Bool.{false≢true, cases_eq, cases_order}
 use Rattle.tlsf_words.specs.Fields.{tag_word}
 use Rattle.tlsf_heap.specs.Image.{Image, HoldsPayload, StartsOnce, BlockAt, ShowsFrom, Shows}
-use Rattle.tlsf_words.specs.Lists.{ListHeads, nowhere, places_from, list_of, without_place, AreThreaded, IsUnlisted, OnlyLinksChange}
+use Rattle.tlsf_words.specs.Lists.{ListHeads, nowhere, places_from, list_of, without_place, AreThreaded, OnlyLinksChange}
 use Rattle.tlsf_words.proofs.PlaceLists.{member_cases, without_within}
 use Rattle.tlsf_words.proofs.Threads.{kept}
 use Rattle.tlsf_heap.specs.Blocks.{Block, Live, Free, size_of, words_in, is_free, StandsAt}
@@ -14,9 +14,10 @@ use Rattle.tlsf_heap.specs.GoodFit.{block_at}
 use Rattle.tlsf_heap.specs.Read.{blocks_of}
 use Rattle.tlsf_heap.specs.Lawful.{HasRoom}
 use Rattle.tlsf_heap.specs.Listed.{AreFreeBlocks, lists_of, HoldsLists}
-use Rattle.tlsf_heap.specs.Regions.{RegionState, SameLists, list_in}
+use Rattle.tlsf_heap.specs.Regions.{RegionState, SameLists, AreUnlisted, list_in}
 use Rattle.tlsf_heap.proofs.Lying.{ends_before}
-use Rattle.tlsf_heap.proofs.Showing.{word_at, least, same_payload, four_here, blocks_of-shown}
+use Rattle.tlsf_heap.proofs.Showing.{Replaces, word_at, least, same_payload, four_here, blocks_of-shown, blocks_replaced}
+use Rattle.tlsf_heap.proofs.Lawfulness.{all_left, all_right}
 
 -- ---- the lists of all classes
 
@@ -91,18 +92,19 @@ free_replaced front old new after at as_many stays h = elim (free_parts front (o
   ])
 ]
 
+-- a free block among others has four of their words
+four_within : (bs : List Block) → AllByRecursion HasRoom bs → (at : ℕ) → IsFreeAt bs at → at + 4 ≤ words_in bs
+four_within [] rooms at h = absurd (omega (arith, h.1.within))
+four_within (b ∷ bs) rooms at h = elim (free_cases b bs at h) [
+  | inl here ↦ omega (arith, here.0, least b rooms.0)
+  | inr more ↦ omega (arith, more.1, four_within bs rooms.1 more.0 more.2)
+]
+
 -- of one block, its place alone
 pub only_first : (b : Block) (q : ℕ) → IsFreeAt (b ∷ []) q → (q ≡ 0) × (is_free b ≡ true)
 only_first b q h = elim (free_cases b [] q h) [
   | inl here ↦ here
   | inr more ↦ absurd (omega (arith, more.2.1.within))
-]
-
--- of two blocks, the place of the first or of the second
-pub first_or_second : (a b : Block) (q : ℕ) → IsFreeAt (a ∷ b ∷ []) q → (q ≡ 0) ⊎ (q ≡ size_of a)
-first_or_second a b q h = elim (free_cases a (b ∷ []) q h) [
-  | inl here ↦ inl here.0
-  | inr more ↦ inr (omega (arith, more.1, (only_first b more.0 more.2).0))
 ]
 
 -- a free block alone has its place
@@ -125,10 +127,6 @@ in_order {m = m} {bs = bs} shows {at = at} {i = i} {other = other} {j = j} here 
 -- a place in a list
 abbrev pub IsListed : (ℕ → List ℕ) → ℕ → Type 0
 IsListed lists at = (class : ℕ) × Contains (lists class) at
-
--- a listed place is no unlisted one
-pub differ : (lists : ℕ → List ℕ) {at other : ℕ} → IsUnlisted lists at → IsListed lists other → other ≢ at
-differ lists unlisted listed e = unlisted listed.0 (subst (Contains (lists listed.0)) e listed.1)
 
 -- the words hold the lists, and each class has the list that it had
 pub record Relists (v : Image) (l : ListHeads) (lists : List (List ℕ)) : Type 0 where
@@ -159,6 +157,35 @@ module _ {m : Image} {l : ListHeads} {r : RegionState} (state : HoldsState m l r
       subst (λ (bs : List Block). IsFreeAt bs other) (sym (blocks ∙ append_assoc (take i r.blocks) new after))
       (free_replaced (take i r.blocks) old new after other as_many (λ q e inside. stays q (omega (arith, e, stands.place)) inside)
       (subst (λ (bs : List Block). IsFreeAt bs other) (sym whole ∙ append_assoc (take i r.blocks) old after) h))
+
+-- words show these blocks, and each class has the list that it had
+pub record Reshapes (v : Image) (l : ListHeads) (left : List Block) (lists : List (List ℕ)) : Type 0 where
+  pub blocks : blocks_of v.words ≡ left
+  pub holds : HoldsLists v l
+  pub same : SameLists (list_in (lists_of l.heads v.words)) (list_in lists)
+
+-- lists stay where blocks in whose words no listed place is become others
+pub reshaped : {m : Image} {l : ListHeads} {r : RegionState} → HoldsState m l r → (v : Image) → (front old new after : List Block) → front ++ old ++ after ≡ r.blocks → Replaces m v front old new
+    → AreUnlisted (list_in r.lists) (words_in front) (words_in front + words_in old) → Reshapes v l (front ++ new ++ after) r.lists
+reshaped {m = m} {l = l} {r = r} state v front old new after whole replaces unlisted =
+    let parts : front ++ (old ++ after) ≡ r.blocks = sym (append_assoc front old after) ∙ whole in
+    let shown = blocks_replaced m v front old new after replaces (subst (Shows m) (sym whole) state.shows) in
+    let rooms = subst (AllByRecursion HasRoom) (sym parts) state.shows.rooms in
+    let front_rooms = all_left HasRoom front (old ++ after) rooms in
+    let old_rooms = all_left HasRoom old after (all_right HasRoom front (old ++ after) rooms) in
+    let left : (at : ℕ) → IsFreeAt (front ++ (new ++ after)) at → IsFreeAt (blocks_of v.words) at = λ at h. subst (λ (bs : List Block). IsFreeAt bs at) (sym (shown.0 ∙ append_assoc front new after)) h in
+    let relists : Relists v l r.lists = relisted state v shown.1 replaces.as_long (λ at listed h.
+    elim (free_parts front (old ++ after) at (subst (λ (bs : List Block). IsFreeAt bs at) (sym parts) h)) [
+      | inl ahead ↦ let four = four_within front front_rooms at ahead in (replaces.before (at + 2) (omega arith), left at (free_left front (new ++ after) at ahead))
+      | inr here ↦ elim (free_parts old after here.0 here.2) [
+        | inl inside ↦ absurd (unlisted at (omega (arith, here.1)) (omega (arith, here.1, four_within old old_rooms here.0 inside)) listed.0 listed.1)
+        | inr behind ↦ (
+          replaces.behind (at + 2) (omega (arith, here.1, behind.1)),
+          left at (free_right front (new ++ after) at here.0 here.1 (free_right new after here.0 behind.0 (omega (arith, behind.1, replaces.as_many)) behind.2)),
+        )
+      ]
+    ]) in
+    record { blocks = shown.0; holds = relists.holds; same = relists.same }
 
 -- ---- other links
 

@@ -102,15 +102,6 @@ fresh_both at front back f g place c = elim (Contains-append_cases front back pl
   | inr in_back ↦ g place in_back
 ]
 
-pub fresh_middle : (at : ℕ) (e : FreePlace) (front back : List FreePlace) → at ≢ e.at → IsFresh at (front ++ back) → IsFresh at (front ++ e ∷ back)
-fresh_middle at e front back other fresh place c = elim (Contains-append_cases front (e ∷ back) place c) [
-  | inl in_front ↦ fresh place (Contains-append_left front back place in_front)
-  | inr behind ↦ elim (first_or_later e back place behind) [
-    | inl own ↦ λ same. other (same ∙ ap (λ (p : FreePlace). p.at) (sym own))
-    | inr in_back ↦ fresh place (Contains-append_right front back place in_back)
-  ]
-]
-
 -- falling numbers fall without one of them
 falling_without : (s : ℕ) (xs ys : List ℕ) → AreFalling (xs ++ s ∷ ys) → AreFalling (xs ++ ys)
 falling_without s [] ys h = h.1

@@ -1,86 +1,215 @@
--- The words of a region whose block was merged with the next show the one block.
-use Rattle.std.proofs.Common.{◌≡◌, ℕ, ◌+◌, ◌<◌, ◌≤◌, inl, inr, Bool, true, false, eqb, List, [], ◌∷◌, ◌++◌, length, take, drop, get_or, sym, ap, ◌∙◌, arith}
-use Rattle.std.proofs.lemmas.Bool.{cases_order}
-use Rattle.std.proofs.lemmas.List.{get_or-set_same}
-use Rattle.tlsf_heap.specs.Image.{Image, BlockAt, Shows}
-use Rattle.tlsf_words.specs.Fields.{tag_word, size_in, last_in, back_in}
-use Rattle.tlsf_heap.specs.Blocks.{Block, Free, size_of, StandsAt}
-use Rattle.tlsf_heap.specs.GoodFit.{block_at}
-use Rattle.tlsf_heap.specs.Headers.{end_in}
+-- The words of a region whose block was merged with its free neighbours show the one block.
+use Rattle.std.proofs.Common.{◌≡◌, ℕ, zero, suc, ◌+◌, ◌-◌, ◌<◌, ◌≤◌, inl, inr, Bool, true, false, cond, eqb, List, [], ◌∷◌, ◌++◌, length, take, drop, get_or, set, refl, sym, ap, ◌∙◌, subst, arith, append_assoc, length-append}
+use Rattle.std.proofs.lemmas.Bool.{cases_lt, cases_order, ne_eqb}
+use Rattle.std.proofs.lemmas.List.{length-set, get_or-set_same, get_or-set_other}
+use Rattle.tlsf_heap.specs.Image.{Image, BlockAt, StartsOnce, back_behind, Shows}
+use Rattle.tlsf_words.specs.Fields.{tag_word}
 use Rattle.tlsf_words.specs.Lists.{nowhere}
-use Rattle.tlsf_heap.proofs.Showing.{word_at, start_at, back_behind}
-use Rattle.tlsf_heap.proofs.Standing.{around_two, stands_next}
+use Rattle.tlsf_heap.specs.Blocks.{Block, Free, size_of, words_in, StandsAt}
+use Rattle.tlsf_heap.specs.Calls.{first_free, past_free, last_free, before_free, coalesced}
+use Rattle.tlsf_heap.specs.GoodFit.{block_at, site_at}
+use Rattle.tlsf_heap.specs.Headers.{with_back, without_start}
+use Rattle.tlsf_heap.specs.Regions.{AreNeighbours}
+use Rattle.tlsf_heap.specs.declared.neighbours.Neighbours.{Neighbours}
+use Rattle.tlsf_heap.proofs.Lawfulness.{words_in-append}
+use Rattle.tlsf_heap.proofs.Showing.{Replaces, word_at, start_at}
 use Rattle.tlsf_heap.proofs.Reading.{says_here}
-use Rattle.tlsf_heap.proofs.Edited.{Keeps, ReadsAs, Leaves, other_start, edited, leaves}
+use Rattle.tlsf_heap.proofs.Sizes.{Around, around, around_first, around_last, block_around, stands_around, last_words, last_part, first_part}
 
--- what a merge of the block at a place with the next leaves
-pub record Merges (m v : Image) (at stamp : ℕ) : Type 0 where
-  pub tag : word_at v at ≡ tag_word (size_in (word_at m at) + size_in (word_at m (end_in m.words at))) (last_in (word_at m (end_in m.words at))) true (back_in (word_at m at))
-  pub mark : word_at v (at + 1) ≡ stamp
-  pub keeps : Keeps m v at (end_in m.words (end_in m.words at)) at (end_in m.words at) false
+-- what a merge of the block at a place with its neighbours leaves
+pub record Merges (m v : Image) (at : ℕ) (around : Neighbours) (stamp : ℕ) : Type 0 where
+  pub tag : word_at v (at - around.before) ≡ tag_word around.tag.size around.tag.last true around.tag.back
+  pub mark : word_at v (at - around.before + 1) ≡ stamp
+  pub next : at - around.before + around.tag.size < length m.words
+      → word_at v (at - around.before + around.tag.size) ≡ with_back (word_at m (at - around.before + around.tag.size)) (at - around.before)
+  pub before : (k : ℕ) → k < at - around.before → word_at v k ≡ word_at m k
+  pub behind : (k : ℕ) → at - around.before + around.tag.size < k → word_at v k ≡ word_at m k
+  pub length : length v.words ≡ length m.words
+  pub starts : v.starts ≡ without_start (without_start m.starts at around.before) (at - around.before + around.tag.size - around.after) around.after
 
--- what the headers of two neighbours say
-pub record SayTwo (m : Image) (at : ℕ) (a b : ℕ) : Type 0 where
-  pub end : end_in m.words at ≡ at + a
-  pub end_next : end_in m.words (end_in m.words at) ≡ at + (a + (b + 0))
-  pub least : 4 ≤ size_in (word_at m at)
-  pub next_least : 4 ≤ size_in (word_at m (end_in m.words at))
-  pub within : end_in m.words (end_in m.words at) ≤ length m.words
+-- ---- a start bit that is taken away
 
-module _ {m : Image} {bs : List Block} (shows : Shows m bs) {at : ℕ} where
-  pub say_two : {i : ℕ} → StandsAt bs at i → i + 1 < length bs → SayTwo m at (size_of (block_at bs i)) (size_of (block_at bs (i + 1)))
-  say_two {i = i} stands more =
-      let first = says_here shows stands in
-      let second = says_here shows (stands_next stands more) in
-      let end : end_in m.words at ≡ at + size_of (block_at bs i) = omega arith in
-      record { end = end; end_next = rw end (omega arith); least = omega arith; next_least = rw end (omega arith); within = rw end (omega arith) }
+-- the start map without a start, or as it was
+record Cleared (old new : List Bool) (at size : ℕ) : Type 0 where
+  others : (k : ℕ) → (k ≡ at → size ≡ 0) → get_or new k false ≡ get_or old k false
+  gone : 0 < size → at < length old → get_or new at false ≡ false
+  as_long : length new ≡ length old
 
-  module _ {v : Image} {stamp : ℕ} (merges : Merges m v at stamp) where
-    module _ {i : ℕ} (stands : StandsAt bs at i) (more : i + 1 < length bs) where
-      no_start : (k : ℕ) → at < k → k < at + (size_of (block_at bs i) + size_of (block_at bs (i + 1))) → start_at v k ≡ false
-      no_start k l g =
-          let first = says_here shows stands in
-          let second = says_here shows (stands_next stands more) in
-          let end = (say_two stands more).end in
-          elim (cases_order k (end_in m.words at)) [
-            | inl e ↦ rw e (ap (λ (s : List Bool). get_or s (end_in m.words at) false) merges.keeps.starts ∙ get_or-set_same m.starts (end_in m.words at) false false (omega (arith, shows.mapped)))
-            | inr (inl below) ↦ other_start merges.keeps k (λ h. omega arith) ∙ first.starts.others k l (omega arith)
-            | inr (inr above) ↦ other_start merges.keeps k (λ h. omega arith) ∙ second.starts.others k (omega arith) (omega arith)
-          ]
+without_some : (starts : List Bool) (at size : ℕ) → without_start starts at (suc size) ≡ set starts at false
+unfolding without_start
+without_some starts at size = ap (λ (b : Bool). cond b starts (set starts at false)) (ne_eqb (suc size) 0 (λ e. omega (arith, e)))
 
-      merged_shown : BlockAt v at (back_behind 0 nowhere (take i bs)) (Free (size_of (block_at bs i) + size_of (block_at bs (i + 1))) stamp)
+without_none : (starts : List Bool) (at : ℕ) → without_start starts at 0 ≡ starts
+unfolding without_start
+without_none starts at = refl
+
+cleared : (starts : List Bool) (at size : ℕ) → Cleared starts (without_start starts at size) at size
+cleared starts at zero = subst (λ (s : List Bool). Cleared starts s at 0) (sym (without_none starts at)) (record { others = λ k h. refl; gone = λ h. absurd (omega (arith, h)); as_long = refl })
+cleared starts at (suc size) = subst (λ (s : List Bool). Cleared starts s at (suc size)) (sym (without_some starts at size)) (record {
+  others = λ k h. get_or-set_other starts at k false false (λ e. omega (arith, h e));
+  gone = λ h inside. get_or-set_same starts at false false inside;
+  as_long = length-set starts at false;
+})
+
+-- ---- a block and its neighbours
+
+-- where a block and its neighbours lie, and that no block starts in their words but at their places
+record Lies (m : Image) (at size before after : ℕ) : Type 0 where
+  first : start_at m (at - before) ≡ true
+  ahead : (k : ℕ) → at - before < k → k < at → start_at m k ≡ false
+  own : (k : ℕ) → at < k → k < at + size → start_at m k ≡ false
+  next : (k : ℕ) → at + size < k → k < at + size + after → start_at m k ≡ false
+  least : 4 ≤ size
+  within : before ≤ at
+  ends : at + size + after ≤ length m.words
+
+module _ {m : Image} {bs : List Block} (shows : Shows m bs) {at i : ℕ} (stands : StandsAt bs at i) where
+  abbrev front : List Block
+  front = take i bs
+
+  abbrev block : Block
+  block = block_at bs i
+
+  abbrev back : List Block
+  back = drop (suc i) bs
+
+  here : Around bs at i front block back
+  here = around bs at i stands
+
+  -- the free block behind ends in the region, and no block starts within
+  next_starts : 0 < first_free back → (at + size_of block + first_free back ≤ length m.words) × StartsOnce m.starts (at + size_of block) (first_free back)
+  next_starts h =
+      let a = around_first here h in
+      let says = says_here shows (stands_around a) in
+      let size = ap size_of (block_around a) in
+      (omega (arith, says.ends, size), subst (StartsOnce m.starts (at + size_of block)) size says.starts)
+
+  -- nor within the one before
+  previous_starts : 0 < last_free front → StartsOnce m.starts (at - last_free front) (last_free front)
+  previous_starts h = let a = around_last here h in subst (StartsOnce m.starts (at - last_free front)) (ap size_of (block_around a)) (says_here shows (stands_around a)).starts
+
+  lies : Lies m at (size_of block) (last_free front) (first_free back)
+  lies =
+      let says = says_here shows stands in
+      let inside : last_free front ≤ at = omega (arith, last_words front, stands.place) in
+      record {
+        first = elim (cases_lt 0 (last_free front)) [
+          | inl some ↦ (previous_starts some).first
+          | inr none ↦ subst (λ (k : ℕ). start_at m k ≡ true) (let same : at ≡ at - last_free front = omega (arith, none) in same) says.starts.first
+        ];
+        ahead = λ k l g. (previous_starts (omega (arith, l, g))).others k l (omega (arith, g, inside));
+        own = says.starts.others;
+        next = λ k l g. (next_starts (omega (arith, l, g))).1.others k l g;
+        least = says.least;
+        within = inside;
+        ends = elim (cases_lt 0 (first_free back)) [ inl some ↦ (next_starts some).0 | inr none ↦ omega (arith, none, says.ends) ];
+      }
+
+  module _ {around : Neighbours} (is : AreNeighbours (length m.words) (site_at bs i) around) where
+    -- all of them lie in the region
+    pub merge_size : around.tag.size ≤ length m.words
+    merge_size = omega (arith, lies.ends, lies.within, is.size)
+
+    -- what the writes of a merge ask for
+    pub merge_within : at - around.before + around.tag.size ≤ length m.words
+    merge_within = omega (arith, lies.ends, lies.within, is.before, is.size)
+
+    pub merge_before : around.before ≤ at
+    merge_before = omega (arith, lies.within, is.before)
+
+    pub merge_after : around.before + around.after + 4 ≤ around.tag.size
+    merge_after = omega (arith, lies.least, is.before, is.after, is.size)
+
+    module _ {v : Image} {stamp : ℕ} (merges : Merges m v at around stamp) where
+      abbrev place : ℕ
+      place = at - around.before
+
+      abbrev end : ℕ
+      end = place + around.tag.size
+
+      one : Cleared m.starts (without_start m.starts at around.before) at around.before
+      one = cleared m.starts at around.before
+
+      two : Cleared (without_start m.starts at around.before) v.starts (end - around.after) around.after
+      two = subst (λ (s : List Bool). Cleared (without_start m.starts at around.before) s (end - around.after) around.after) (sym merges.starts)
+          (cleared (without_start m.starts at around.before) (end - around.after) around.after)
+
+      start_kept : (k : ℕ) → (k ≡ at → around.before ≡ 0) → (k ≡ end - around.after → around.after ≡ 0) → start_at v k ≡ start_at m k
+      start_kept k f g = two.others k g ∙ one.others k f
+
+      -- the place behind the block
+      middle : end - around.after ≡ at + size_of block
+      middle = omega (arith, lies.within, is.before, is.after, is.size)
+
+      no_start : (k : ℕ) → place < k → k < end → start_at v k ≡ false
+      no_start k l g = elim (cases_order k at) [
+        | inl e ↦ subst (λ (j : ℕ). start_at v j ≡ false) (sym e)
+            (two.others at (λ f. omega (arith, f, middle, lies.least)) ∙ one.gone (omega (arith, e, l)) (omega (arith, shows.mapped, lies.ends, lies.least)))
+        | inr (inl below) ↦ start_kept k (λ f. omega (arith, f, below)) (λ f. omega (arith, f, below, middle)) ∙ lies.ahead k (omega (arith, l, is.before)) below
+        | inr (inr above) ↦ elim (cases_order k (at + size_of block)) [
+          | inl e ↦ subst (λ (j : ℕ). start_at v j ≡ false) (sym (e ∙ sym middle))
+              (two.gone (omega (arith, e, g, middle)) (omega (arith, one.as_long, shows.mapped, lies.ends, middle, e, g, is.after)))
+          | inr (inl below) ↦ start_kept k (λ f. omega (arith, f, above)) (λ f. omega (arith, f, below, middle)) ∙ lies.own k above below
+          | inr (inr past) ↦ start_kept k (λ f. omega (arith, f, above)) (λ f. omega (arith, f, past, middle)) ∙ lies.next k past (omega (arith, g, middle, is.after, merge_after))
+        ]
+      ]
+
+      merged_shown : BlockAt v place (back_behind 0 nowhere (before_free front)) (Free around.tag.size stamp)
       merged_shown =
-          let first = says_here shows stands in
-          let second = says_here shows (stands_next stands more) in
-          let end = (say_two stands more).end in
-          let joined : at + (size_of (block_at bs i) + size_of (block_at bs (i + 1))) ≡ at + size_of (block_at bs i) + size_of (block_at bs (i + 1)) = omega arith in
-          let last : eqb (at + (size_of (block_at bs i) + size_of (block_at bs (i + 1)))) (length v.words) ≡ last_in (word_at m (at + size_of (block_at bs i))) =
-          rw (joined, merges.keeps.length) (sym second.last) in
-          let written = merges.tag in
+          let joined : words_in front + size_of block + first_free back ≡ end = omega (arith, stands.place, lies.within, is.before, is.size) in
+          let last : around.tag.last ≡ eqb end (length v.words) = is.last ∙ rw (joined, merges.length) refl in
           record {
-            tag = cc;
+            tag = merges.tag ∙ rw (last, is.back) refl;
             mark = merges.mark;
             payload = tt;
-            starts = record { first = other_start merges.keeps at (λ h. omega arith) ∙ first.starts.first; others = no_start };
+            starts = record {
+              first = start_kept place (λ e. omega (arith, e, lies.within, is.before)) (λ e. omega (arith, e, middle, lies.least))
+                  ∙ subst (λ (k : ℕ). start_at m (at - k) ≡ true) (sym is.before) lies.first;
+              others = no_start;
+            };
           }
 
-      one_shown : ReadsAs v (take i bs ++ (Free (size_of (block_at bs i) + size_of (block_at bs (i + 1))) stamp ∷ []) ++ drop (i + 2) bs)
-      one_shown =
-          let first = says_here shows stands in
-          let second = says_here shows (stands_next stands more) in
-          let two = say_two stands more in
-          edited shows stands (block_at bs i ∷ block_at bs (i + 1) ∷ []) (Free (size_of (block_at bs i) + size_of (block_at bs (i + 1))) stamp ∷ [])
-          (drop (i + 2) bs) (around_two bs i more) merges.keeps (record {
-            some = omega arith;
-            as_many = omega arith;
-            rooms = (omega arith, tt);
-            ends = two.end_next;
-            from = omega arith;
-            below = omega arith;
-            shown = (merged_shown, tt);
-          })
+      -- the blocks that become one
+      abbrev old : List Block
+      old = (last_part front).0 ++ block ∷ (first_part back).0
 
-    -- a merge of the words is a merge of the blocks
-    pub merges_blocks : (i : ℕ) × StandsAt bs at i × (i + 1 < length bs)
-        → Leaves v bs at (λ i. take i bs ++ (Free (size_of (block_at bs i) + size_of (block_at bs (i + 1))) stamp ∷ []) ++ drop (i + 2) bs)
-    merges_blocks two = leaves shows (λ i. i + 1 < length bs) two (λ i stands more. one_shown stands more)
+      words_old : words_in old ≡ around.tag.size
+      words_old = omega (arith, words_in-append (last_part front).0 (block ∷ (first_part back).0), (last_part front).2, (first_part back).2, is.size)
+
+      begins : words_in (before_free front) ≡ place
+      begins = omega (arith, last_words front, stands.place, is.before)
+
+      pub merge_parts : before_free front ++ old ++ past_free back ≡ bs
+      merge_parts =
+          let xs = (last_part front).0 in
+          let ys = (first_part back).0 in
+          append_assoc (before_free front) (xs ++ block ∷ ys) (past_free back)
+          ∙ ap (λ (l : List Block). before_free front ++ l) (append_assoc xs (block ∷ ys) (past_free back))
+          ∙ sym (append_assoc (before_free front) xs (block ∷ (ys ++ past_free back)))
+          ∙ ap (λ (l : List Block). l ++ block ∷ (ys ++ past_free back)) (sym (last_part front).1)
+          ∙ ap (λ (l : List Block). front ++ block ∷ l) (sym (first_part back).1)
+          ∙ sym here.is
+
+      pub merge_replaces : Replaces m v (before_free front) old (Free around.tag.size stamp ∷ [])
+      merge_replaces = record {
+        as_many = omega (arith, words_old);
+        as_long = merges.length;
+        mapped = two.as_long ∙ one.as_long;
+        rooms = (omega (arith, merge_after), tt);
+        some = omega (arith, length-append (last_part front).0 (block ∷ (first_part back).0));
+        before = λ k h. merges.before k (omega (arith, h, begins));
+        behind = λ k h. merges.behind k (omega (arith, h, begins, words_old));
+        next = rw (begins, words_old) merges.next;
+        starts_before = λ k h. start_kept k (λ e. omega (arith, e, h, begins)) (λ e. omega (arith, e, h, begins, middle));
+        starts_behind = λ k h. start_kept k (λ e. omega (arith, e, h, begins, words_old, merge_after)) (λ e. omega (arith, e, h, begins, words_old, merge_after));
+        shown = rw begins (merged_shown, tt);
+      }
+
+      pub merge_range : words_in (before_free front) + words_in old ≡ end
+      merge_range = omega (arith, begins, words_old)
+
+      pub merge_begins : words_in (before_free front) ≡ place
+      merge_begins = begins
+
+      pub merge_is : before_free front ++ (Free around.tag.size stamp ∷ []) ++ past_free back ≡ coalesced stamp (site_at bs i)
+      merge_is = append_assoc (before_free front) (Free around.tag.size stamp ∷ []) (past_free back) ∙ ap (λ (n : ℕ). before_free front ++ Free n stamp ∷ past_free back) is.size

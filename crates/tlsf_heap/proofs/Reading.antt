@@ -1,24 +1,21 @@
--- What the words say of the block at a place and of its neighbours.
-use Rattle.std.proofs.Common.{◌≡◌, ℕ, zero, suc, ◌+◌, ◌^◌, ◌<◌, ◌≤◌, inl, inr, Bool, true, false, ◌&&◌, eqb, List, ◌∷◌, length, take, drop, get_or, refl, sym, ap, ◌∙◌, subst, arith}
+-- What the words say of the block at a place.
+use Rattle.std.proofs.Common.{◌≡◌, ℕ, ◌+◌, ◌^◌, ◌<◌, ◌≤◌, Bool, true, false, ◌&&◌, eqb, List, length, take, get_or, refl, sym, ap, ◌∙◌, subst, arith}
 use Rattle.std.specs.Prelude.{◌==◌}
-use Rattle.std.proofs.lemmas.List.{drop_more, drop_all, take_all}
-use Rattle.std.proofs.lemmas.Bool.{false≢true, cases_lt, eq-eqb, eqb-true}
-use Rattle.tlsf_heap.specs.Image.{Image, mark_of, StartsOnce, Shows}
+use Rattle.std.proofs.lemmas.Bool.{false≢true, eq-eqb, eqb-true}
+use Rattle.tlsf_heap.specs.Image.{Image, mark_of, StartsOnce, back_behind, Shows}
 use Rattle.tlsf_words.specs.Fields.{size_in, last_in, free_in, back_in}
 use Rattle.tlsf_words.proofs.FieldLaws.{size_in-tag_word, last_in-tag_word, free_in-tag_word, back_in-tag_word}
 use Rattle.tlsf_heap.specs.Blocks.{Block, Live, Free, size_of, words_in, is_free, StandsAt, IsPlace}
 use Rattle.tlsf_heap.specs.GoodFit.{block_at, site_at}
-use Rattle.tlsf_heap.specs.Calls.{first_free, last_free, has_serial, is_named}
+use Rattle.tlsf_heap.specs.Calls.{has_serial, is_named}
 use Rattle.tlsf_words.specs.Lists.{nowhere, ListHeads, list_of, AreThreaded}
 use Rattle.tlsf_heap.specs.Read.{blocks_of}
 use Rattle.tlsf_heap.specs.Listed.{AreFreeBlocks, lists_of, HoldsLists}
 use Rattle.tlsf_heap.specs.Named.{NoneNamed, IsNameTest}
 use Rattle.tlsf_heap.specs.Regions.{RegionState}
-use Rattle.tlsf_heap.proofs.Edits.{first_is_last}
 use Rattle.tlsf_heap.proofs.Finding.{not_true, and_left, and_right}
-use Rattle.tlsf_heap.proofs.Showing.{word_at, start_at, back_behind, shown_here, four_here, ends_here, stands_once, place_of_start}
+use Rattle.tlsf_heap.proofs.Showing.{word_at, start_at, shown_here, four_here, ends_here, stands_once, place_of_start}
 use Rattle.tlsf_heap.proofs.Linking.{shows_linked}
-use Rattle.tlsf_heap.proofs.Standing.{words_up_to, stands_next, back_next}
 
 -- the words of a region show its blocks
 pub shows_state : {m : Image} {l : ListHeads} {r : RegionState} {touches : ℕ} → HoldsLists m l
@@ -53,11 +50,6 @@ pub record Says (m : Image) (at back : ℕ) (b : Block) : Type 0 where
   pub mark : word_at m (at + 1) ≡ mark_of b
   pub starts : StartsOnce m.starts at (size_of b)
 
--- a number that is the size of a free block, and 0 of a live one
-free_alone : (b : Block) (bs : List Block) (n : ℕ) → (is_free b ≡ true → n ≡ size_of b) → (is_free b ≡ false → n ≡ 0) → n ≡ first_free (b ∷ bs)
-free_alone (Live size serial bytes) bs n free live = live refl
-free_alone (Free size stamp) bs n free live = free refl
-
 pub has_serial-live : (b : Block) (serial : ℕ) → is_free b ≡ false → has_serial serial b ≡ (mark_of b == serial)
 has_serial-live (Live size own bytes) serial live = refl
 has_serial-live (Free size stamp) serial live = absurd (false≢true (sym live))
@@ -65,12 +57,6 @@ has_serial-live (Free size stamp) serial live = absurd (false≢true (sym live))
 pub has_serial-free : (b : Block) (serial : ℕ) → is_free b ≡ true → has_serial serial b ≡ false
 has_serial-free (Live size own bytes) serial free = absurd (false≢true free)
 has_serial-free (Free size stamp) serial free = refl
-
--- what an answer of `free_size` says
-pub record FreeSize (words : List ℕ) (at n : ℕ) : Type 0 where
-  pub free : at < length words → free_in (get_or words at 0) ≡ true → n ≡ size_in (get_or words at 0)
-  pub live : at < length words → free_in (get_or words at 0) ≡ false → n ≡ 0
-  pub outside : length words ≤ at → n ≡ 0
 
 module _ {m : Image} {bs : List Block} (shows : Shows m bs) where
   module _ {at i : ℕ} (stands : StandsAt bs at i) where
@@ -90,17 +76,6 @@ module _ {m : Image} {bs : List Block} (shows : Shows m bs) where
           starts = shown.starts;
         }
 
-    -- the region ends with the last block
-    pub ends_last : length bs ≤ i + 1 → at + size_of (block_at bs i) ≡ length m.words
-    ends_last none = let all = ap words_in (take_all (i + 1) bs none) in omega (arith, words_up_to stands, shows.whole)
-
-    free_here : {n : ℕ} → FreeSize m.words at n → n ≡ first_free (drop i bs)
-    free_here {n = n} answer =
-        let says = says_here in
-        let inside : at < length m.words = omega arith in
-        free_alone (block_at bs i) (drop (i + 1) bs) n (λ free. answer.free inside (says.free ∙ free) ∙ says.size) (λ live. answer.live inside (says.free ∙ live))
-        ∙ ap first_free (sym (drop_more bs i (Free 0 0) stands.within))
-
   -- a place has one index
   pub at_index : {at i : ℕ} (P : ℕ → Type 0) → (j : ℕ) × StandsAt bs at j × P j → StandsAt bs at i → P i
   at_index {at = at} {i = i} P found stands = subst P (stands_once bs at found.0 i shows.rooms found.1 stands) found.2
@@ -112,23 +87,6 @@ module _ {m : Image} {bs : List Block} (shows : Shows m bs) where
   -- a block begins where a start bit says so
   pub starts_here : {at n : ℕ} {starts : Bool} → n ≡ length m.words → at < n → starts ≡ start_at m at → starts ≡ true → IsPlace bs at
   starts_here {at = at} long inside read set = place_of_start m bs at shows (omega arith) (sym read ∙ set)
-
-  -- the free size behind a block is what the list behind it begins with
-  pub free_behind : {at i n : ℕ} → StandsAt bs at i → FreeSize m.words (at + size_of (block_at bs i)) n → n ≡ first_free (drop (i + 1) bs)
-  free_behind {i = i} stands answer = elim (cases_lt (i + 1) (length bs)) [
-    | inl more ↦ free_here (stands_next stands more) answer
-    | inr none ↦ answer.outside (omega (arith, ends_last stands none)) ∙ ap first_free (sym (drop_all (i + 1) bs none))
-  ]
-
-  -- the free size at the place before a block is what the list before it ends with
-  pub free_before_it : {at i n : ℕ} → StandsAt bs at i → FreeSize m.words (back_behind 0 nowhere (take i bs)) n → n ≡ last_free (take i bs)
-  free_before_it {i = zero} stands answer = answer.outside (omega (arith, shows.small))
-  free_before_it {i = suc j} {n = n} stands answer =
-      let more : j + 1 ≡ suc j = omega arith in
-      let within : j < length bs = omega (arith, stands.within) in
-      let before : StandsAt bs (words_in (take j bs)) j = record { within = within; place = refl } in
-      let place : back_behind 0 nowhere (take (suc j) bs) ≡ words_in (take j bs) = ap (λ (k : ℕ). back_behind 0 nowhere (take k bs)) (sym more) ∙ back_next before in
-      free_here before (subst (λ (k : ℕ). FreeSize m.words k n) place answer) ∙ first_is_last bs j (suc j) more within
 
   -- no block is named where none that begins there has the serial
   pub none_named : (at serial : ℕ) → ((i : ℕ) → StandsAt bs at i → has_serial serial (block_at bs i) ≡ false) → NoneNamed at serial bs

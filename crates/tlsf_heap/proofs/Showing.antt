@@ -5,7 +5,7 @@ use Rattle.std.specs.List.{AllByRecursion, range_with_len}
 use Rattle.std.proofs.lemmas.List.{take-append-drop, drop_more}
 use Rattle.std.proofs.lemmas.Bool.{false≢true, cases_lt}
 use Rattle.std.proofs.lemmas.Bool.Decides.{nat_tests}
-use Rattle.tlsf_heap.specs.Image.{Image, HoldsPayload, BlockAt, ShowsFrom, Shows}
+use Rattle.tlsf_heap.specs.Image.{Image, HoldsPayload, BlockAt, ShowsFrom, back_behind, Shows}
 use Rattle.tlsf_words.specs.Fields.{tag_word, size_in, free_in, low_half}
 use Rattle.tlsf_words.proofs.FieldLaws.{size_in-tag_word, last_in-tag_word, free_in-tag_word, low_half-length_word}
 use Rattle.tlsf_heap.specs.Blocks.{Block, Live, Free, size_of, words_in, is_free, StandsAt, IsPlace}
@@ -24,11 +24,6 @@ word_at m k = get_or m.words k 0
 -- the start bit of a place
 abbrev pub start_at : Image → ℕ → Bool
 start_at m k = get_or m.starts k false
-
--- where the last of some blocks begins, of which the first begins at `at`; `back` where there are none
-abbrev pub back_behind : ℕ → ℕ → List Block → ℕ
-back_behind at back [] = back
-back_behind at back (b ∷ bs) = back_behind (at + size_of b) at bs
 
 -- a block has four words
 pub least : (b : Block) → HasRoom b → 4 ≤ size_of b

@@ -1,9 +1,9 @@
 -- A block where it stands, and the words, free neighbours and places around it.
-use Rattle.std.proofs.Common.{inl, inr, ◌≡◌, ℕ, zero, suc, ◌+◌, ◌<◌, ◌≤◌, true, List, [], ◌∷◌, ◌++◌, length, get_or, take, drop, refl, sym, ap, ◌∙◌, subst, arith, add-one, append_assoc, length-take-le, length-append}
+use Rattle.std.proofs.Common.{inl, inr, ◌≡◌, ℕ, zero, suc, ◌+◌, ◌-◌, ◌<◌, ◌≤◌, true, List, [], ◌∷◌, ◌++◌, length, get_or, take, drop, refl, sym, ap, ◌∙◌, subst, arith, append_assoc, length-take-le, length-append}
 use Rattle.std.specs.Prelude.{Contains}
 use Rattle.std.specs.List.{AllByRecursion}
 use Rattle.std.proofs.lemmas.List.Elements.{Contains-append_cases}
-use Rattle.std.proofs.lemmas.List.{take_at, drop_at, get_or_at}
+use Rattle.std.proofs.lemmas.List.{take_at, get_or_at, append-nil}
 use Rattle.std.proofs.lemmas.Bool.{false≢true}
 use Rattle.tlsf_class.specs.Classes.{class_of}
 use Rattle.tlsf_heap.specs.Blocks.{Block, Live, Free, size_of, words_in, is_free, stamp_of, stamps, StandsAt}
@@ -24,9 +24,9 @@ pub record Around (blocks : List Block) (at i : ℕ) (front : List Block) (block
   pub before : length front ≡ i
   pub place : words_in front ≡ at
 
-pub around : (blocks : List Block) (at i : ℕ) → StandsAt blocks at i → Around blocks at i (take i blocks) (block_at blocks i) (drop (i + 1) blocks)
+pub around : (blocks : List Block) (at i : ℕ) → StandsAt blocks at i → Around blocks at i (take i blocks) (block_at blocks i) (drop (suc i) blocks)
 around blocks at i stands = record {
-  is = split_at blocks i stands.within ∙ ap (λ (n : ℕ). take i blocks ++ block_at blocks i ∷ drop n blocks) (sym (add-one i));
+  is = split_at blocks i stands.within;
   before = let within = stands.within in length-take-le i blocks (omega arith);
   place = stands.place;
 }
@@ -49,20 +49,11 @@ module _ {bs : List Block} {at i : ℕ} {front : List Block} {b : Block} {back :
   pub block_around : block_at bs i ≡ b
   block_around = ap (λ (l : List Block). get_or l i (Free 0 0)) a.is ∙ get_or_at front b back (Free 0 0) i a.before
 
-  pub drop_around : drop (i + 1) bs ≡ back
-  drop_around =
-      let e : length (front ++ b ∷ []) ≡ i + 1 = omega (arith, length-append front (b ∷ []), a.before) in
-      ap (drop (i + 1)) (a.is ∙ sym (append_assoc front (b ∷ []) back)) ∙ drop_at (front ++ b ∷ []) back (i + 1) e
-
   pub stands_around : StandsAt bs at i
   stands_around = record {
     within = omega (arith, ap length a.is, length-append front (b ∷ back), a.before);
     place = ap words_in take_around ∙ a.place;
   }
-
-  -- a block is replaced
-  pub edited : (xs new : List Block) → new ≡ take i bs ++ xs ++ drop (i + 1) bs → new ≡ front ++ (xs ++ back)
-  edited xs new e = e ∙ append_assoc (take i bs) xs (drop (i + 1) bs) ∙ ap (λ (l : List Block). l ++ (xs ++ drop (i + 1) bs)) take_around ∙ ap (λ (l : List Block). front ++ (xs ++ l)) drop_around
 
   pub words_around : words_in bs ≡ at + size_of b + words_in back
   words_around = ap words_in a.is ∙ omega (arith, words_in-append front (b ∷ back), a.place)
@@ -75,17 +66,6 @@ module _ {bs : List Block} {at i : ℕ} {front : List Block} {b : Block} {back :
 
   pub regions_back : AreRegions bs → AreRegions back
   regions_back sized = (all_right (λ x. IsRegion (size_of x)) front (b ∷ back) (subst AreRegions a.is sized)).1
-
--- the block that begins where the blocks `front` end is the one behind them
-pub block_here : {bs : List Block} {at i : ℕ} {front : List Block} {b : Block} {back : List Block} → Around bs at i front b back → AreRegions front → 0 < size_of b → (j : ℕ) → StandsAt bs at j → block_at bs j ≡ b
-block_here {front = front} {b = b} {back = back} a sized some j stands =
-    ap (λ (l : List Block). block_at l j) a.is ∙ one front j sized (sym (ap (λ (l : List Block). words_in (take j l)) a.is) ∙ stands.place ∙ sym a.place)
-  where
-    one : (front : List Block) (j : ℕ) → AreRegions front → words_in (take j (front ++ b ∷ back)) ≡ words_in front → block_at (front ++ b ∷ back) j ≡ b
-    one [] zero sized e = refl
-    one [] (suc j) sized e = absurd (omega (arith, e, some))
-    one (x ∷ front) zero sized e = absurd (omega (arith, e, sized.0.0))
-    one (x ∷ front) (suc j) sized e = one front j sized.1 (omega (arith, e))
 
 -- the block behind
 pub around_next : {bs : List Block} {at i : ℕ} {front : List Block} {b c : Block} {back : List Block} → Around bs at i front b (c ∷ back) → Around bs (at + size_of b) (i + 1) (front ++ b ∷ []) c back
@@ -112,11 +92,6 @@ next_none [] sized e = refl
 next_none (Live m s xs ∷ bs) sized e = refl
 next_none (Free m s ∷ bs) sized e = absurd (omega (arith, sized.0.0, e))
 
-pub first_region : (bs : List Block) → AreRegions bs → 0 < first_free bs → IsRegion (first_free bs)
-first_region [] a h = absurd (omega (arith, h))
-first_region (Live m s xs ∷ bs) a h = absurd (omega (arith, h))
-first_region (Free m s ∷ bs) a h = a.0
-
 -- the free block that a list ends with, and those before it
 pub last_is : (bs : List Block) → 0 < last_free bs → (s : ℕ) × (bs ≡ before_free bs ++ Free (last_free bs) s ∷ [])
 last_is bs = by_last (λ all size rest. 0 < size → (s : ℕ) × (all ≡ rest ++ Free size s ∷ [])) bs
@@ -129,12 +104,6 @@ last_none bs = by_last (λ all size rest. AreRegions all → size ≡ 0 → rest
     (λ a e. refl)
     (λ front m s xs a e. refl)
     (λ front m s a e. absurd (omega (arith, e, (all_right (λ b. IsRegion (size_of b)) front (Free m s ∷ []) a).0.0)))
-
-pub last_region : (bs : List Block) → AreRegions bs → 0 < last_free bs → IsRegion (last_free bs)
-last_region bs = by_last (λ all size rest. AreRegions all → 0 < size → IsRegion size) bs
-    (λ a h. absurd (omega (arith, h)))
-    (λ front m s xs a h. absurd (omega (arith, h)))
-    (λ front m s a h. (all_right (λ b. IsRegion (size_of b)) front (Free m s ∷ []) a).0)
 
 pub last_words : (bs : List Block) → words_in (before_free bs) + last_free bs ≡ words_in bs
 last_words bs = by_last (λ all size rest. words_in rest + size ≡ words_in all) bs
@@ -152,6 +121,33 @@ before_regions bs = by_last (λ all size rest. AreRegions all → AreRegions res
     (λ a. a)
     (λ front m s xs a. a)
     (λ front m s a. all_left (λ b. IsRegion (size_of b)) front (Free m s ∷ []) a)
+
+-- the free block behind a block
+pub around_first : {bs : List Block} {at i : ℕ} {front : List Block} {b : Block} {back : List Block} → Around bs at i front b back → (h : 0 < first_free back)
+    → Around bs (at + size_of b) (i + 1) (front ++ b ∷ []) (Free (first_free back) (next_is back h).0) (past_free back)
+around_first {front = front} {b = b} {back = back} a h =
+    around_next (record { is = a.is ∙ ap (λ (l : List Block). front ++ b ∷ l) (next_is back h).1; before = a.before; place = a.place })
+
+-- the free block before it
+pub around_last : {bs : List Block} {at i : ℕ} {front : List Block} {b : Block} {back : List Block} → Around bs at i front b back → (h : 0 < last_free front)
+    → Around bs (at - last_free front) (length (before_free front)) (before_free front) (Free (last_free front) (last_is front h).0) (b ∷ back)
+around_last {front = front} {b = b} {back = back} a h = record {
+  is = a.is ∙ ap (λ (l : List Block). l ++ b ∷ back) (last_is front h).1 ∙ append_assoc (before_free front) (Free (last_free front) (last_is front h).0 ∷ []) (b ∷ back);
+  before = refl;
+  place = omega (arith, last_words front, a.place);
+}
+
+-- what a list has before or behind the free block that it may end or begin with
+pub last_part : (front : List Block) → (xs : List Block) × (front ≡ before_free front ++ xs) × (words_in xs ≡ last_free front)
+last_part front = by_last (λ all size rest. (xs : List Block) × (all ≡ rest ++ xs) × (words_in xs ≡ size)) front
+    ([], refl, refl)
+    (λ bs m s xs. ([], sym (append-nil (bs ++ Live m s xs ∷ [])), refl))
+    (λ bs m s. (Free m s ∷ [], refl, omega arith))
+
+pub first_part : (back : List Block) → (xs : List Block) × (back ≡ xs ++ past_free back) × (words_in xs ≡ first_free back)
+first_part [] = ([], refl, refl)
+first_part (Live m s xs ∷ back) = ([], refl, refl)
+first_part (Free m s ∷ back) = (Free m s ∷ [], refl, omega arith)
 
 -- ---- places of free blocks
 

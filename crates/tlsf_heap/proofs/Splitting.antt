@@ -1,74 +1,179 @@
--- The words of a region whose block was split show the two blocks.
-use Rattle.std.proofs.Common.{◌≡◌, ℕ, ◌+◌, ◌-◌, ◌≤◌, Bool, true, false, eqb, List, [], ◌∷◌, ◌++◌, length, take, drop, get_or, ap, ◌∙◌, arith}
+-- The words of a region whose block was made a live one, whole or with a free rest, show the blocks.
+use Rattle.std.proofs.Common.{◌≡◌, ◌≢◌, ℕ, zero, suc, ◌+◌, ◌-◌, ◌*◌, ◌/◌, ◌%◌, ◌<◌, ◌≤◌, ◌^◌, Bool, true, false, eqb, List, [], ◌∷◌, ◌++◌, length, take, drop, get_or, set, map, replicate, refl, sym, ap, ◌∙◌, subst, arith, append_assoc}
+use Rattle.std.specs.List.{range_with_len}
+use Rattle.std.proofs.Math.Nat.{zero-div}
 use Rattle.std.proofs.lemmas.Bool.{ne_eqb}
-use Rattle.std.proofs.lemmas.List.{get_or-set_same}
-use Rattle.tlsf_heap.specs.Image.{Image, mark_of, BlockAt, Shows}
-use Rattle.tlsf_words.specs.Fields.{tag_word, size_in, last_in, back_in}
-use Rattle.tlsf_heap.specs.Blocks.{Block, Free, size_of, StandsAt}
-use Rattle.tlsf_heap.specs.GoodFit.{block_at}
-use Rattle.tlsf_heap.specs.Headers.{end_in}
+use Rattle.std.proofs.lemmas.List.{length-replicate, length-set, get_or-set_same, get_or-set_other}
+use Rattle.tlsf_heap.specs.Image.{Image, HoldsPayload, BlockAt, back_behind, Shows}
+use Rattle.tlsf_words.specs.Fields.{tag_word, length_word}
+use Rattle.tlsf_words.specs.Bytes.{byte_in, bytes_in}
+use Rattle.tlsf_words.specs.declared.tag.Tag.{Tag}
 use Rattle.tlsf_words.specs.Lists.{nowhere}
-use Rattle.tlsf_heap.proofs.Showing.{word_at, back_behind}
-use Rattle.tlsf_heap.proofs.Standing.{around}
+use Rattle.tlsf_heap.specs.Blocks.{Block, Live, Free, size_of, words_for, StandsAt}
+use Rattle.tlsf_heap.specs.GoodFit.{block_at}
+use Rattle.tlsf_heap.specs.Headers.{IsTagIn, with_back}
+use Rattle.tlsf_heap.proofs.Showing.{Replaces, word_at, start_at}
 use Rattle.tlsf_heap.proofs.Reading.{says_here}
-use Rattle.tlsf_heap.proofs.Edited.{Keeps, ReadsAs, Leaves, other_start, edited, leaves}
+use Rattle.tlsf_heap.proofs.Edited.{next_same}
+use Rattle.tlsf_words.specs.Lists.{ListHeads}
+use Rattle.tlsf_heap.specs.Calls.{carved}
+use Rattle.tlsf_heap.specs.Regions.{RegionState, AreUnlisted, list_in}
+use Rattle.tlsf_heap.proofs.Allocating.{split_at}
+use Rattle.tlsf_heap.proofs.Edits.{carved_small, carved_large}
+use Rattle.tlsf_heap.proofs.Linking.{HoldsState, Reshapes, reshaped}
 
--- what a split of the block at a place leaves
-pub record Splits (m v : Image) (at size stamp : ℕ) : Type 0 where
-  pub front : word_at v at ≡ tag_word size false true (back_in (word_at m at))
-  pub front_mark : word_at v (at + 1) ≡ word_at m (at + 1)
-  pub rest : word_at v (at + size) ≡ tag_word (size_in (word_at m at) - size) (last_in (word_at m at)) true at
-  pub rest_mark : word_at v (at + size + 1) ≡ stamp
-  pub keeps : Keeps m v at (end_in m.words at) (at + size) (at + size) true
+zero_map : (words : List ℕ) (from len : ℕ) → ((k : ℕ) → from ≤ k → k < from + len → byte_in words k ≡ 0) → map (byte_in words) (range_with_len from len) ≡ replicate len 0
+zero_map words from zero zeros = refl
+zero_map words from (suc len) zeros =
+    ap (λ (b : ℕ). b ∷ map (byte_in words) (range_with_len (from + 1) len)) (zeros from (omega arith) (omega arith))
+    ∙ ap (λ (xs : List ℕ). 0 ∷ xs) (zero_map words (from + 1) len (λ k a b. zeros k (omega arith) (omega arith)))
 
-module _ {m v : Image} {bs : List Block} (shows : Shows m bs) {at size stamp : ℕ} (least : 4 ≤ size) (splits : Splits m v at size stamp) where
-  module _ {i : ℕ} (stands : StandsAt bs at i) (rest : size + 4 ≤ size_of (block_at bs i)) where
-    front_shown : BlockAt v at (back_behind 0 nowhere (take i bs)) (Free size (mark_of (block_at bs i)))
+-- the bytes of zero words are zero
+zero_bytes : (words : List ℕ) (at len : ℕ) → ((k : ℕ) → at ≤ k → k < at + (len + 7) / 8 → get_or words k 0 ≡ 0) → bytes_in words (8 * at) len ≡ replicate len 0
+unfolding bytes_in byte_in
+zero_bytes words at len zeros =
+    zero_map words (8 * at) len (λ k a b. ap (λ (w : ℕ). w / 256 ^ (k % 8) % 256) (zeros (k / 8) (omega arith) (omega arith)) ∙ ap (λ (w : ℕ). w % 256) (zero-div (256 ^ (k % 8))))
+
+-- the words of a live block of `size` words with `len` bytes of payload, all zero, but for its first
+pub record Lives (v : Image) (at size serial len : ℕ) : Type 0 where
+  pub mark : word_at v (at + 1) ≡ serial
+  pub bytes : word_at v (at + 2) ≡ length_word len
+  pub payload : (k : ℕ) → at + 3 ≤ k → k < at + size → word_at v k ≡ 0
+
+holds_zeros : {v : Image} {at size serial : ℕ} (len : ℕ) → words_for len ≤ size → Lives v at size serial len → HoldsPayload v.words at (Live size serial (replicate len 0))
+holds_zeros {v = v} {at = at} len room lives =
+    let many : length (replicate {A = ℕ} len 0) ≡ len = length-replicate len 0 in
+    (lives.bytes ∙ ap length_word (sym many), rw many (zero_bytes v.words (at + 3) len (λ k a b. lives.payload k a (omega arith))))
+
+-- the block at a place is made live, whole
+pub record Wholes (m v : Image) (at : ℕ) (tag : Tag) (serial len : ℕ) : Type 0 where
+  pub first : word_at v at ≡ tag_word tag.size tag.last false tag.back
+  pub lives : Lives v at tag.size serial len
+  pub before : (k : ℕ) → k < at → word_at v k ≡ word_at m k
+  pub behind : (k : ℕ) → at + tag.size ≤ k → word_at v k ≡ word_at m k
+  pub length : length v.words ≡ length m.words
+  pub starts : v.starts ≡ m.starts
+
+-- or with a free rest behind `size` words
+pub record Splits (m v : Image) (at : ℕ) (tag : Tag) (size serial len : ℕ) : Type 0 where
+  pub first : word_at v at ≡ tag_word size false false tag.back
+  pub lives : Lives v at size serial len
+  pub rest : word_at v (at + size) ≡ tag_word (tag.size - size) tag.last true at
+  pub rest_mark : word_at v (at + size + 1) ≡ serial
+  pub next : at + tag.size < length m.words → word_at v (at + tag.size) ≡ with_back (word_at m (at + tag.size)) (at + size)
+  pub before : (k : ℕ) → k < at → word_at v k ≡ word_at m k
+  pub behind : (k : ℕ) → at + tag.size < k → word_at v k ≡ word_at m k
+  pub length : length v.words ≡ length m.words
+  pub starts : v.starts ≡ set m.starts (at + size) true
+
+-- the tag has the size of the block
+pub tag_size : {m : Image} {bs : List Block} (shows : Shows m bs) {at i : ℕ} (stands : StandsAt bs at i) {tag : Tag} → IsTagIn (word_at m at) tag → tag.size ≡ size_of (block_at bs i)
+tag_size shows stands is_tag = is_tag.size ∙ (says_here shows stands).size
+
+module _ {m v : Image} {bs : List Block} (shows : Shows m bs) {at i : ℕ} (stands : StandsAt bs at i) {tag : Tag} (is_tag : IsTagIn (word_at m at) tag) {serial len : ℕ} where
+  module _ (wholes : Wholes m v at tag serial len) (room : words_for len ≤ tag.size) where
+    whole_shown : BlockAt v at (back_behind 0 nowhere (take i bs)) (Live tag.size serial (replicate len 0))
+    whole_shown =
+        let says = says_here shows stands in
+        record {
+          tag = wholes.first ∙ ap (λ (b : Bool). tag_word tag.size b false tag.back) (is_tag.last ∙ says.last ∙ rw (wholes.length, tag_size shows stands is_tag) refl) ∙ ap (tag_word tag.size (eqb (at + tag.size) (length v.words)) false) (is_tag.back ∙ says.before);
+          mark = wholes.lives.mark;
+          payload = holds_zeros len room wholes.lives;
+          starts = rw (wholes.starts, tag_size shows stands is_tag) says.starts;
+        }
+
+    pub whole_replaces : Replaces m v (take i bs) (block_at bs i ∷ []) (Live tag.size serial (replicate len 0) ∷ [])
+    whole_replaces =
+        let says = says_here shows stands in
+        let place = stands.place in
+        let end : at + (size_of (block_at bs i) + 0) ≡ at + size_of (block_at bs i) = omega arith in
+        record {
+          as_many = omega (arith, tag_size shows stands is_tag);
+          as_long = wholes.length;
+          mapped = ap length wholes.starts;
+          rooms = ((omega (arith, tag_size shows stands is_tag, says.least), rw (length-replicate {A = ℕ} len 0) room), tt);
+          some = omega arith;
+          before = λ k h. wholes.before k (omega arith);
+          behind = λ k h. wholes.behind k (omega (arith, tag_size shows stands is_tag));
+          next = λ inside. rw (place, end) (wholes.behind (at + size_of (block_at bs i)) (omega (arith, tag_size shows stands is_tag)) ∙ next_same shows stands (omega (arith, inside, place)));
+          starts_before = λ k h. ap (λ (s : List Bool). get_or s k false) wholes.starts;
+          starts_behind = λ k h. ap (λ (s : List Bool). get_or s k false) wholes.starts;
+          shown = rw place (whole_shown, tt);
+        }
+
+  module _ (size : ℕ) (splits : Splits m v at tag size serial len) (least : 4 ≤ size) (large : size + 4 ≤ tag.size) (room : words_for len ≤ size) where
+    split_start : (k : ℕ) → k ≢ at + size → start_at v k ≡ start_at m k
+    split_start k ne = ap (λ (s : List Bool). get_or s k false) splits.starts ∙ get_or-set_other m.starts (at + size) k true false ne
+
+    front_shown : BlockAt v at (back_behind 0 nowhere (take i bs)) (Live size serial (replicate len 0))
     front_shown =
         let says = says_here shows stands in
-        let inner : eqb (at + size) (length v.words) ≡ false = ne_eqb (at + size) (length v.words) (λ h. omega (arith, splits.keeps.length)) in
-        let before = says.before in
-        let written = splits.front in
+        let inner : eqb (at + size) (length v.words) ≡ false = ne_eqb (at + size) (length v.words) (λ h. omega (arith, tag_size shows stands is_tag, says.ends, splits.length)) in
         record {
-          tag = cc;
-          mark = splits.front_mark ∙ says.mark;
-          payload = tt;
+          tag = splits.first ∙ ap (λ (b : Bool). tag_word size b false tag.back) (sym inner) ∙ ap (tag_word size (eqb (at + size) (length v.words)) false) (is_tag.back ∙ says.before);
+          mark = splits.lives.mark;
+          payload = holds_zeros len room splits.lives;
           starts = record {
-            first = other_start splits.keeps at (λ h. omega arith) ∙ says.starts.first;
-            others = λ k l g. other_start splits.keeps k (λ h. omega arith) ∙ says.starts.others k l (omega arith);
+            first = split_start at (λ h. omega (arith, h, least)) ∙ says.starts.first;
+            others = λ k l g. split_start k (λ h. omega (arith, h, g)) ∙ says.starts.others k l (omega (arith, tag_size shows stands is_tag));
           };
         }
 
-    rest_shown : BlockAt v (at + size) at (Free (size_of (block_at bs i) - size) stamp)
+    rest_shown : BlockAt v (at + size) at (Free (tag.size - size) serial)
     rest_shown =
         let says = says_here shows stands in
-        let end : at + size + (size_of (block_at bs i) - size) ≡ at + size_of (block_at bs i) = omega arith in
-        let written = splits.rest in
+        let end : at + size + (tag.size - size) ≡ at + size_of (block_at bs i) = omega (arith, tag_size shows stands is_tag) in
         record {
-          tag = rw (splits.keeps.length, end, ← says.last, ← says.size) written;
+          tag = splits.rest ∙ ap (λ (b : Bool). tag_word (tag.size - size) b true at) (is_tag.last ∙ says.last ∙ rw (splits.length, end) refl);
           mark = splits.rest_mark;
           payload = tt;
           starts = record {
-            first = ap (λ (s : List Bool). get_or s (at + size) false) splits.keeps.starts ∙ get_or-set_same m.starts (at + size) true false (omega (arith, shows.mapped));
-            others = λ k l g. other_start splits.keeps k (λ h. omega arith) ∙ says.starts.others k (omega arith) (omega arith);
+            first = ap (λ (s : List Bool). get_or s (at + size) false) splits.starts ∙ get_or-set_same m.starts (at + size) true false (omega (arith, shows.mapped, tag_size shows stands is_tag, says.ends));
+            others = λ k l g. split_start k (λ h. omega (arith, h, l)) ∙ says.starts.others k (omega (arith, l, least)) (omega (arith, g, end));
           };
         }
 
-    two_shown : ReadsAs v (take i bs ++ (Free size (mark_of (block_at bs i)) ∷ Free (size_of (block_at bs i) - size) stamp ∷ []) ++ drop (i + 1) bs)
-    two_shown =
+    pub split_replaces : Replaces m v (take i bs) (block_at bs i ∷ []) (Live size serial (replicate len 0) ∷ Free (tag.size - size) serial ∷ [])
+    split_replaces =
         let says = says_here shows stands in
-        edited shows stands (block_at bs i ∷ []) (Free size (mark_of (block_at bs i)) ∷ Free (size_of (block_at bs i) - size) stamp ∷ []) (drop (i + 1) bs)
-        (around bs i stands.within) splits.keeps (record {
+        let place = stands.place in
+        let end : at + (size_of (block_at bs i) + 0) ≡ at + tag.size = omega (arith, tag_size shows stands is_tag) in
+        record {
+          as_many = omega (arith, tag_size shows stands is_tag);
+          as_long = splits.length;
+          mapped = ap length splits.starts ∙ length-set m.starts (at + size) true;
+          rooms = ((least, rw (length-replicate {A = ℕ} len 0) room), (omega arith, tt));
           some = omega arith;
-          as_many = omega arith;
-          rooms = (least, (omega arith, tt));
-          ends = omega arith;
-          from = omega arith;
-          below = omega arith;
-          shown = (front_shown, (rest_shown, tt));
-        })
+          before = λ k h. splits.before k (omega arith);
+          behind = λ k h. splits.behind k (omega (arith, tag_size shows stands is_tag));
+          next = λ inside. rw (place, end) (splits.next (omega (arith, place, end, inside)));
+          starts_before = λ k h. split_start k (λ e. omega (arith, e, place));
+          starts_behind = λ k h. split_start k (λ e. omega (arith, e, place, tag_size shows stands is_tag));
+          shown = rw place (front_shown, (rest_shown, tt));
+        }
 
-  -- a split of the words is a split of the blocks
-  pub splits_blocks : (i : ℕ) × StandsAt bs at i × (size + 4 ≤ size_of (block_at bs i))
-      → Leaves v bs at (λ i. take i bs ++ (Free size (mark_of (block_at bs i)) ∷ Free (size_of (block_at bs i) - size) stamp ∷ []) ++ drop (i + 1) bs)
-  splits_blocks room = leaves shows (λ i. size + 4 ≤ size_of (block_at bs i)) room (λ i stands rest. two_shown stands rest)
+-- ---- the blocks and the lists that are left
+
+module _ {m v : Image} {l : ListHeads} {r : RegionState} (state : HoldsState m l r) {at i : ℕ} (stands : StandsAt r.blocks at i) {tag : Tag} (is_tag : IsTagIn (word_at m at) tag) (size serial len : ℕ)
+    (unlisted : AreUnlisted (list_in r.lists) at (at + size_of (block_at r.blocks i))) where
+  left_by : (new : List Block) → Replaces m v (take i r.blocks) (block_at r.blocks i ∷ []) new → new ≡ carved (size_of (block_at r.blocks i)) size serial len
+      → Reshapes v l (take i r.blocks ++ carved (size_of (block_at r.blocks i)) size serial len ++ drop (suc i) r.blocks) r.lists
+  left_by new replaces is =
+      let whole : take i r.blocks ++ (block_at r.blocks i ∷ []) ++ drop (suc i) r.blocks ≡ r.blocks =
+      append_assoc (take i r.blocks) (block_at r.blocks i ∷ []) (drop (suc i) r.blocks) ∙ sym (split_at r.blocks i stands.within) in
+      let place = stands.place in
+      subst (λ (bs : List Block). Reshapes v l (take i r.blocks ++ bs ++ drop (suc i) r.blocks) r.lists) is
+      (reshaped state v (take i r.blocks) (block_at r.blocks i ∷ []) new (drop (suc i) r.blocks) whole replaces
+      (λ k low high. unlisted k (omega (arith, low, place)) (omega (arith, high, place))))
+
+  pub left_whole : Wholes m v at tag serial len → words_for len ≤ tag.size → tag.size < size + 4
+      → Reshapes v l (take i r.blocks ++ carved (size_of (block_at r.blocks i)) size serial len ++ drop (suc i) r.blocks) r.lists
+  left_whole wholes room small =
+      let same = tag_size state.shows stands is_tag in
+      left_by _ (whole_replaces state.shows stands is_tag wholes room) (sym (carved_small tag.size size serial len small) ∙ ap (λ (n : ℕ). carved n size serial len) same)
+
+  pub left_split : Splits m v at tag size serial len → 4 ≤ size → size + 4 ≤ tag.size → words_for len ≤ size
+      → Reshapes v l (take i r.blocks ++ carved (size_of (block_at r.blocks i)) size serial len ++ drop (suc i) r.blocks) r.lists
+  left_split splits least large room =
+      let same = tag_size state.shows stands is_tag in
+      left_by _ (split_replaces state.shows stands is_tag size splits least large room) (sym (carved_large tag.size size serial len large) ∙ ap (λ (n : ℕ). carved n size serial len) same)

@@ -1,26 +1,19 @@
 -- Blocks where they stand in a list: the one behind, where it begins, and the list around them.
 use Rattle.std.proofs.Common.{◌≡◌, ℕ, ◌+◌, ◌<◌, List, [], ◌∷◌, ◌++◌, length, take, drop, sym, ap, ◌∙◌, arith, append_assoc, add_assoc, add-zero, zero-add}
-use Rattle.std.proofs.lemmas.List.{take_more, drop_more}
+use Rattle.std.proofs.lemmas.List.{take_more}
 use Rattle.tlsf_heap.specs.Blocks.{Block, Free, size_of, words_in, StandsAt}
 use Rattle.tlsf_heap.specs.GoodFit.{block_at}
 use Rattle.tlsf_words.specs.Lists.{nowhere}
 use Rattle.tlsf_heap.proofs.Lawfulness.{words_in-append}
-use Rattle.tlsf_heap.proofs.Showing.{back_behind, parted}
+use Rattle.tlsf_heap.specs.Image.{back_behind}
+use Rattle.tlsf_heap.proofs.Showing.{parted}
 
 -- a block between those before it and those behind it
 pub around : (bs : List Block) (i : ℕ) → i < length bs → take i bs ++ (block_at bs i ∷ []) ++ drop (i + 1) bs ≡ bs
 around bs i within = append_assoc (take i bs) (block_at bs i ∷ []) (drop (i + 1) bs) ∙ parted bs i within
 
--- two neighbours between those before them and those behind them
-pub around_two : (bs : List Block) (i : ℕ) → i + 1 < length bs → take i bs ++ (block_at bs i ∷ block_at bs (i + 1) ∷ []) ++ drop (i + 2) bs ≡ bs
-around_two bs i more =
-    let two : i + 2 ≡ i + 1 + 1 = omega arith in
-    append_assoc (take i bs) (block_at bs i ∷ block_at bs (i + 1) ∷ []) (drop (i + 2) bs)
-    ∙ ap (λ (n : ℕ). take i bs ++ block_at bs i ∷ block_at bs (i + 1) ∷ drop n bs) two
-    ∙ ap (λ (l : List Block). take i bs ++ block_at bs i ∷ l) (sym (drop_more bs (i + 1) (Free 0 0) more)) ∙ parted bs i (omega arith)
-
 -- the last of some blocks begins behind the others
-back_behind-last : (at back : ℕ) (xs : List Block) (b : Block) → back_behind at back (xs ++ b ∷ []) ≡ at + words_in xs
+pub back_behind-last : (at back : ℕ) (xs : List Block) (b : Block) → back_behind at back (xs ++ b ∷ []) ≡ at + words_in xs
 back_behind-last at back [] b = sym (add-zero at)
 back_behind-last at back (x ∷ xs) b = back_behind-last (at + size_of x) at xs b ∙ add_assoc at (size_of x) (words_in xs)
 

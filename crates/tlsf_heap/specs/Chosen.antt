@@ -1,6 +1,7 @@
 -- What a search for the block that serves a request answers.
-use Rattle.std.specs.Prelude.{◌≡◌, ℕ, ◌<◌, List, Option, true, false, length, MatchOption}
-use Rattle.tlsf_heap.specs.Blocks.{Block, StandsAt}
+use Rattle.std.specs.Prelude.{◌≡◌, ℕ, ◌<◌, List, Option, Some, true, false, length, slice_get, MatchOption}
+use Rattle.tlsf_class.specs.Classes.{class_of}
+use Rattle.tlsf_heap.specs.Blocks.{Block, size_of, StandsAt}
 use Rattle.tlsf_heap.specs.GoodFit.{is_fit, is_as_good, block_at}
 
 -- no block may serve a request of n words
@@ -13,6 +14,13 @@ pub record IsChoice (n : ℕ) (blocks : List Block) (i : ℕ) : Type 0 where
   pub fit : is_fit n (block_at blocks i) ≡ true
   pub best : (j : ℕ) → j < length blocks → is_fit n (block_at blocks j) ≡ true → is_as_good (block_at blocks i) (block_at blocks j) ≡ true
 
--- what a search for the place of the block that serves the request answers
-abbrev pub IsBestAt : ℕ → List Block → Option ℕ → Type 0
-IsBestAt n blocks found = MatchOption found (NoneFits n blocks) (λ at. (i : ℕ) × StandsAt blocks at i × IsChoice n blocks i)
+-- the block at i begins at the place that is the head of the list of a class, and is of that class
+pub record IsHead (blocks : List Block) (lists : ℕ → List ℕ) (class at i : ℕ) : Type 0 where
+  pub first : slice_get (lists class) 0 ≡ Some at
+  pub stands : StandsAt blocks at i
+  pub classed : class ≡ class_of (size_of (block_at blocks i))
+
+-- what a search for the class of the block that serves the request answers: the block is the head of the list of the class
+abbrev pub IsBestClass : ℕ → List Block → (ℕ → List ℕ) → Option ℕ → Type 0
+IsBestClass n blocks lists found =
+    MatchOption found (NoneFits n blocks) (λ class. (at : ℕ) × (i : ℕ) × IsHead blocks lists class at i × IsChoice n blocks i)

@@ -39,6 +39,11 @@ abbrev pub ShowsFrom : Image → ℕ → ℕ → List Block → Type 0
 ShowsFrom m at back [] = ⊤
 ShowsFrom m at back (block ∷ blocks) = BlockAt m at back block × ShowsFrom m (at + size_of block) at blocks
 
+-- where the last of some blocks begins, of which the first begins at `at`; `back` where there are none
+abbrev pub back_behind : ℕ → ℕ → List Block → ℕ
+back_behind at back [] = back
+back_behind at back (block ∷ blocks) = back_behind (at + size_of block) at blocks
+
 -- the words and the start map of a region show these blocks, which fill it
 pub record Shows (m : Image) (blocks : List Block) : Type 0 where
   pub shown : ShowsFrom m 0 nowhere blocks

@@ -1,11 +1,14 @@
 -- A region as its blocks and the lists of its free blocks.
-use Rattle.std.specs.Prelude.{◌≡◌, ℕ, ◌+◌, ◌≤◌, List, [], ◌∷◌, ◌++◌, take, drop, slice_index_or}
+use Rattle.std.specs.Prelude.{◌≡◌, ◌≢◌, ℕ, ◌+◌, ◌-◌, ◌<◌, ◌≤◌, ◌==◌, List, [], ◌∷◌, ◌++◌, take, drop, nat_le, if◌then◌else◌, slice_index_or, true, false}
 use Rattle.std.specs.List.{AllByRecursion}
 use Rattle.tlsf_words.specs.Memory.{Memory}
-use Rattle.tlsf_heap.specs.Blocks.{Block, Free, size_of}
-use Rattle.tlsf_heap.specs.Calls.{first_free, past_free}
-use Rattle.tlsf_heap.specs.GoodFit.{block_at}
-use Rattle.tlsf_heap.specs.Image.{Image, Shows}
+use Rattle.tlsf_words.specs.Lists.{nowhere, without_place, IsUnlisted}
+use Rattle.tlsf_words.specs.declared.tag.Tag.{Tag}
+use Rattle.tlsf_heap.specs.Blocks.{Block, size_of, is_free, StandsAt}
+use Rattle.tlsf_heap.specs.Calls.{first_free, last_free, before_free}
+use Rattle.tlsf_heap.specs.GoodFit.{Site, site_at, place_of}
+use Rattle.tlsf_heap.specs.Image.{Image, back_behind, Shows}
+use Rattle.tlsf_heap.specs.declared.neighbours.Neighbours.{Neighbours}
 use Rattle.tlsf_heap.specs.Lawful.{IsRegion}
 
 -- what a region shows: how many words it has, its blocks, for each class the places in its free list, from the head, what is stored in it, and its touches
@@ -24,10 +27,38 @@ AreRegions blocks = AllByRecursion (λ block. IsRegion (size_of block)) blocks
 abbrev pub with_at : List Block → ℕ → List Block → List Block
 with_at blocks i new = take i blocks ++ new ++ drop (i + 1) blocks
 
--- the blocks where block i and the free one behind it, if there is one, become one free block
-abbrev pub freed_with_next : ℕ → List Block → ℕ → List Block
-freed_with_next stamp blocks i =
-    take i blocks ++ (Free (size_of (block_at blocks i) + first_free (drop (i + 1) blocks)) stamp ∷ past_free (drop (i + 1) blocks))
+-- of the block that begins at a place, where it stands, this holds
+abbrev pub EachAt : List Block → ℕ → (Site → Type 0) → Type 0
+EachAt blocks at P = (i : ℕ) → StandsAt blocks at i → P (site_at blocks i)
+
+-- a block begins at a place, and of it, where it stands, this holds
+abbrev pub HasAt : List Block → ℕ → (Site → Type 0) → Type 0
+HasAt blocks at P = (i : ℕ) × StandsAt blocks at i × P (site_at blocks i)
+
+-- what is split off a free block of so many words where `n` are wanted: four words or more, or none
+abbrev pub rest_of : ℕ → ℕ → ℕ
+rest_of size n = if nat_le (n + 4) size then size - n else 0
+
+-- the tag of a block in a region of so many words
+pub record IsTagOf (words : ℕ) (s : Site) (tag : Tag) : Type 0 where
+  pub size : tag.size ≡ size_of s.block
+  pub free : tag.free ≡ is_free s.block
+  pub last : tag.last ≡ (place_of s + size_of s.block == words)
+  pub back : tag.back ≡ back_behind 0 nowhere s.before
+
+-- the tag of the free block at a place in a region of so many words; `none` where the block there is live or the region ends
+pub record IsTakenTag (blocks : List Block) (words at : ℕ) (none tag : Tag) : Type 0 where
+  pub free : EachAt blocks at (λ s. is_free s.block ≡ true → IsTagOf words s tag)
+  pub live : EachAt blocks at (λ s. is_free s.block ≡ false → tag ≡ none)
+  pub outside : words ≤ at → tag ≡ none
+
+-- a block and its free neighbours in a region of so many words: how many words are before and behind, and the tag of them all as one block
+pub record AreNeighbours (words : ℕ) (s : Site) (around : Neighbours) : Type 0 where
+  pub before : around.before ≡ last_free s.before
+  pub after : around.after ≡ first_free s.after
+  pub size : around.tag.size ≡ last_free s.before + size_of s.block + first_free s.after
+  pub last : around.tag.last ≡ (place_of s + size_of s.block + first_free s.after == words)
+  pub back : around.tag.back ≡ back_behind 0 nowhere (before_free s.before)
 
 -- of the lists of all classes, that of one
 abbrev pub list_in : List (List ℕ) → ℕ → List ℕ
@@ -36,6 +67,10 @@ list_in lists class = slice_index_or lists class []
 -- each class has the same list
 abbrev pub SameLists : (ℕ → List ℕ) → (ℕ → List ℕ) → Type 0
 SameLists new old = (class : ℕ) → new class ≡ old class
+
+-- no place from one to an end is in a list
+abbrev pub AreUnlisted : (ℕ → List ℕ) → ℕ → ℕ → Type 0
+AreUnlisted lists from end = (k : ℕ) → from ≤ k → k < end → IsUnlisted lists k
 
 -- what is stored in the words of a region, without their touches
 abbrev pub image_of : Memory → Image
@@ -56,3 +91,23 @@ pub record Edits (old new : RegionState) (most : ℕ) : Type 0 where
   pub shows : Shows new.stored new.blocks
   pub touches : new.touches ≤ old.touches + most
   pub rise : old.touches ≤ new.touches
+
+-- the words show these blocks in place of the old, and each class has the list that it had
+pub record Rewrites (old new : RegionState) (left : List Block) (most : ℕ) : Type 0 where
+  pub blocks : new.blocks ≡ left
+  pub lists : SameLists (list_in new.lists) (list_in old.lists)
+  pub edits : Edits old new most
+
+-- a place is put in front of the list of a class
+pub record PutInFront (old new : RegionState) (class at most : ℕ) : Type 0 where
+  pub blocks : new.blocks ≡ old.blocks
+  pub list : list_in new.lists class ≡ at ∷ list_in old.lists class
+  pub others : (other : ℕ) → other ≢ class → list_in new.lists other ≡ list_in old.lists other
+  pub edits : Edits old new most
+
+-- a place is taken out of the list of a class
+pub record TakenOut (old new : RegionState) (class at most : ℕ) : Type 0 where
+  pub blocks : new.blocks ≡ old.blocks
+  pub list : list_in new.lists class ≡ without_place at (list_in old.lists class)
+  pub others : (other : ℕ) → other ≢ class → list_in new.lists other ≡ list_in old.lists other
+  pub edits : Edits old new most

@@ -55,7 +55,7 @@ impl Model for Heap {
 fn want(len: u32) -> u32
     ensures { result ≡ Blocks.want len }
 {
-    (3 + len / 8 + u32::from(len % 8 != 0)).max(4)
+    ((u64::from(len) + 31) / 8).max(4) as u32
 }
 
 impl Heap {
@@ -123,17 +123,20 @@ impl Heap {
 
         // Accepted or refused, and whatever the region holds: at most 64 touches, and one for each payload word of the block given.
         ensures touches { self.new.touches ≤ self.old.touches + 64 + payload_words_given result self.new.heap }
+
+        // The count of this code: 3 to find the class, 7 to take its head out, 9 for the headers, and 7 to list the rest.
+        ensures most_touches { self.new.touches ≤ self.old.touches + 26 + payload_words_given result self.new.heap }
         ensures touches_rise { self.old.touches ≤ self.new.touches }
     {
         let words = want(len);
-        let Some(at) = choose(&mut self.region, words) else {
+        let Some(class) = choose(&mut self.region, words) else {
             return Err(Refusal::NoFit);
         };
         if self.tick == u64::MAX {
             return Err(Refusal::Worn);
         }
         let serial = self.tick;
-        carve(&mut self.region, at, words, serial, len);
+        let at = carve(&mut self.region, class, words, serial, len);
         self.tick += 1;
         Ok(Name {
             heap: self.id,
@@ -166,6 +169,10 @@ impl Heap {
 
         // Accepted or refused, and whatever the region holds: at most 64 touches.
         ensures touches { self.new.touches ≤ self.old.touches + 64 }
+
+        // The count of this code: 3 to check the name, 3 for the block and its neighbours, 12 to take these out of their lists, 6 for
+        // the headers, and 7 to list what is left.
+        ensures most_touches { self.new.touches ≤ self.old.touches + 31 }
         ensures touches_rise { self.old.touches ≤ self.new.touches }
 
         // A forged name is not followed: not even a start bit is read unless the place lies in the region, and no word unless a block begins there.

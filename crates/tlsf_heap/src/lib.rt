@@ -23,6 +23,7 @@ mod headers;
 mod heap;
 mod laws;
 mod name;
+mod neighbours;
 mod open_fault;
 mod refusal;
 mod region;

@@ -1,20 +1,19 @@
-ghost use Rattle.std.specs.Prelude.{◌≡◌, ◌≢◌, ℕ, ◌+◌, ◌*◌, ◌/◌, ◌-◌, ◌<◌, ◌≤◌, ◌^◌, [], ◌∷◌, ◌++◌, false, true, length, take, drop, replicate, slice_get, Contains, IfOk};
+ghost use Rattle.std.specs.Prelude.{◌≡◌, ◌≢◌, ℕ, ◌+◌, ◌*◌, ◌/◌, ◌-◌, ◌<◌, ◌≤◌, ◌^◌, [], ◌∷◌, ◌++◌, false, true, length, take, drop, Some, slice_get, Contains, IfOk};
 ghost use Rattle.tlsf_class.specs.Members.{next_member};
 ghost use Rattle.tlsf_words.specs.Lists.{without_place, listed_classes, IsUnlisted};
-ghost use Rattle.tlsf_heap.specs.Blocks.{Live, Free, size_of, payload_words, is_free, bytes_of, words_for, StandsAt, IsPlace};
+ghost use Rattle.tlsf_heap.specs.Blocks.{Free, size_of, words_in, is_free, bytes_of, words_for, StandsAt, IsPlace};
 ghost use Rattle.tlsf_heap.specs.GoodFit.{block_at};
 ghost use Rattle.tlsf_heap.specs.Calls;
 ghost use Rattle.tlsf_heap.specs.Image.{mark_of};
 ghost use Rattle.tlsf_heap.specs.Named.{IsNameTest};
-ghost use Rattle.tlsf_heap.specs.Regions.{SameLists, list_in, with_at, OnlyReads, Edits};
+ghost use Rattle.tlsf_heap.specs.Regions.{SameLists, list_in, with_at, AreUnlisted, EachAt, HasAt, IsTagOf, AreNeighbours, rest_of, OnlyReads, Edits, Rewrites, PutInFront, TakenOut};
 
-use crate::headers::{
-    first_header, free_header, free_size, live_header, merge_headers, split_header,
-};
+use crate::headers::{first_header, live_header, merge_headers, split_header};
+use crate::neighbours::Neighbours;
 use std::alloc::Global;
 use std::marker::Model;
 use tlsf_class::Class;
-use tlsf_words::{FreeLists, NoMemory, Words};
+use tlsf_words::{FreeLists, NoMemory, Tag, Words};
 
 /// The words of a region, seen as the blocks that they show, one behind the other, and the lists of free blocks, one for each
 /// class, that their links thread. A block is known by its place. Sizes and places are in words. Nothing but `open` allocates.
@@ -67,7 +66,7 @@ impl Region {
     /// The size of the block at a place.
     pub fn size(&mut self, at: u32) -> u32
         requires { IsPlace self.old.blocks at }
-        ensures value { (i : ℕ) → StandsAt self.old.blocks at i → result ≡ size_of (block_at self.old.blocks i) }
+        ensures value { EachAt self.old.blocks at (λ s. result ≡ size_of s.block) }
         ensures reads { OnlyReads self.old self.new 1 }
     {
         self.words.tag(at).size
@@ -76,7 +75,7 @@ impl Region {
     /// Whether the block at a place is free.
     pub fn is_free(&mut self, at: u32) -> bool
         requires { IsPlace self.old.blocks at }
-        ensures value { (i : ℕ) → StandsAt self.old.blocks at i → result ≡ is_free (block_at self.old.blocks i) }
+        ensures value { EachAt self.old.blocks at (λ s. result ≡ is_free s.block) }
         ensures reads { OnlyReads self.old self.new 1 }
     {
         self.words.tag(at).free
@@ -85,7 +84,7 @@ impl Region {
     /// The serial of the live block at a place, or the stamp of the free one.
     pub fn mark(&mut self, at: u32) -> u64
         requires { IsPlace self.old.blocks at }
-        ensures value { (i : ℕ) → StandsAt self.old.blocks at i → result ≡ mark_of (block_at self.old.blocks i) }
+        ensures value { EachAt self.old.blocks at (λ s. result ≡ mark_of s.block) }
         ensures reads { OnlyReads self.old self.new 1 }
     {
         self.words.mark(at)
@@ -105,30 +104,20 @@ impl Region {
         !self.words.tag(at).free && self.words.mark(at) == serial
     }
 
-    /// The size of the block behind the one at a place where that is free, or 0.
-    pub fn free_after(&mut self, at: u32) -> u32
+    /// The tag of the block at a place.
+    pub fn tag(&mut self, at: u32) -> Tag
         requires { IsPlace self.old.blocks at }
-        ensures value { (i : ℕ) → StandsAt self.old.blocks at i → result ≡ Calls.first_free (drop (i + 1) self.old.blocks) }
-        ensures reads { OnlyReads self.old self.new 2 }
+        ensures value { EachAt self.old.blocks at (λ s. IsTagOf self.old.words s result) }
+        ensures whole { words_in self.old.blocks ≡ self.old.words }
+        ensures reads { OnlyReads self.old self.new 1 }
     {
-        let size = self.words.tag(at).size;
-        free_size(&mut self.words, at + size)
-    }
-
-    /// The size of the block before the one at a place where that is free, or 0.
-    pub fn free_before(&mut self, at: u32) -> u32
-        requires { IsPlace self.old.blocks at }
-        ensures value { (i : ℕ) → StandsAt self.old.blocks at i → result ≡ Calls.last_free (take i self.old.blocks) }
-        ensures reads { OnlyReads self.old self.new 2 }
-    {
-        let back = self.words.tag(at).back;
-        free_size(&mut self.words, back)
+        self.words.tag(at)
     }
 
     /// The payload length in bytes of the live block at a place.
     pub fn length(&mut self, at: u32) -> u32
         requires { (i : ℕ) × StandsAt self.old.blocks at i × (is_free (block_at self.old.blocks i) ≡ false) }
-        ensures value { (i : ℕ) → StandsAt self.old.blocks at i → result ≡ length (bytes_of (block_at self.old.blocks i)) }
+        ensures value { EachAt self.old.blocks at (λ s. result ≡ length (bytes_of s.block)) }
         ensures reads { OnlyReads self.old self.new 1 }
     {
         self.words.length(at)
@@ -137,7 +126,7 @@ impl Region {
     /// Reads payload bytes of the live block at a place, from byte `offset` of it on.
     pub fn read(&mut self, at: u32, offset: u32, out: &mut [u8])
         requires { (i : ℕ) × StandsAt self.old.blocks at i × (offset + length out.old ≤ length (bytes_of (block_at self.old.blocks i))) }
-        ensures bytes { (i : ℕ) → StandsAt self.old.blocks at i → out.new ≡ take (length out.old) (drop offset (bytes_of (block_at self.old.blocks i))) }
+        ensures bytes { EachAt self.old.blocks at (λ s. out.new ≡ take (length out.old) (drop offset (bytes_of s.block))) }
         ensures reads { OnlyReads self.old self.new (length out.old / 8 + 2) }
     {
         self.words.copy_out(at, offset, out);
@@ -154,63 +143,41 @@ impl Region {
         self.words.copy_in(at, offset, bytes);
     }
 
-    /// Makes the block at a place two free ones, of `size` words and of the rest, which has this stamp.
-    pub fn split(&mut self, at: u32, size: u32, stamp: u64)
+    /// Makes the block at a place, which is in no list, a live one of `size` words with `len` bytes of payload, all zero, and a free
+    /// rest; all of it where the rest would have fewer than four words. Answers the size of the rest, or 0.
+    pub fn carve(&mut self, at: u32, size: u32, serial: u64, len: u32) -> u32
         requires least { 4 ≤ size }
-        requires unlisted { IsUnlisted (list_in self.old.lists) at }
-        requires rest { (i : ℕ) × StandsAt self.old.blocks at i × (size + 4 ≤ size_of (block_at self.old.blocks i)) }
-        ensures blocks { (i : ℕ) → StandsAt self.old.blocks at i →
-            self.new.blocks ≡ with_at self.old.blocks i (Free size (mark_of (block_at self.old.blocks i)) ∷ Free (size_of (block_at self.old.blocks i) - size) stamp ∷ []) }
-        ensures lists { SameLists (list_in self.new.lists) (list_in self.old.lists) }
-        ensures edits { Edits self.old self.new 7 }
+        requires payload { words_for len ≤ size }
+        requires room { HasAt self.old.blocks at (λ s. size ≤ size_of s.block) }
+        requires unlisted { EachAt self.old.blocks at (λ s. AreUnlisted (list_in self.old.lists) at (at + size_of s.block)) }
+        ensures rest { EachAt self.old.blocks at (λ s. result ≡ rest_of (size_of s.block) size) }
+        ensures change { EachAt self.old.blocks at (λ s. Rewrites self.old self.new
+            (s.before ++ Calls.carved (size_of s.block) size serial len ++ s.after) (9 + (size_of s.block - result - 3))) }
     {
-        split_header(&mut self.words, at, size, stamp);
+        let tag = self.words.tag(at);
+        if tag.size < size + 4 {
+            live_header(&mut self.words, at, tag, serial, len);
+            return 0;
+        }
+        let rest = tag.size - size;
+        split_header(&mut self.words, at, tag, size, serial, len);
+        rest
     }
 
-    /// Makes the block at a place a live one with `len` bytes of payload, all zero.
-    pub fn make_live(&mut self, at: u32, serial: u64, len: u32)
-        requires unlisted { IsUnlisted (list_in self.old.lists) at }
-        requires room { (i : ℕ) × StandsAt self.old.blocks at i × (words_for len ≤ size_of (block_at self.old.blocks i)) }
-        ensures blocks { (i : ℕ) → StandsAt self.old.blocks at i →
-            self.new.blocks ≡ with_at self.old.blocks i (Live (size_of (block_at self.old.blocks i)) serial (replicate len 0) ∷ []) }
-        ensures lists { SameLists (list_in self.new.lists) (list_in self.old.lists) }
-        ensures edits { (i : ℕ) → StandsAt self.old.blocks at i → Edits self.old self.new (4 + payload_words (block_at self.old.blocks i)) }
+    /// Makes the block at a place and its free neighbours, none of which is in a list, one free block.
+    pub fn merge(&mut self, at: u32, around: Neighbours, stamp: u64)
+        requires around { HasAt self.old.blocks at (λ s. AreNeighbours self.old.words s around) }
+        requires unlisted { AreUnlisted (list_in self.old.lists) (at - around.before) (at - around.before + around.tag.size) }
+        ensures { EachAt self.old.blocks at (λ s. Rewrites self.old self.new (Calls.coalesced stamp s) 6) }
     {
-        live_header(&mut self.words, at, serial, len);
-    }
-
-    /// Makes the block at a place a free one.
-    pub fn make_free(&mut self, at: u32, stamp: u64)
-        requires { IsPlace self.old.blocks at }
-        ensures blocks { (i : ℕ) → StandsAt self.old.blocks at i →
-            self.new.blocks ≡ with_at self.old.blocks i (Free (size_of (block_at self.old.blocks i)) stamp ∷ []) }
-        ensures lists { SameLists (list_in self.new.lists) (list_in self.old.lists) }
-        ensures edits { Edits self.old self.new 3 }
-    {
-        free_header(&mut self.words, at, stamp);
-    }
-
-    /// Makes the block at a place and the one behind it one free block.
-    pub fn merge(&mut self, at: u32, stamp: u64)
-        requires next { (i : ℕ) × StandsAt self.old.blocks at i × (i + 1 < length self.old.blocks) }
-        requires unlisted { IsUnlisted (list_in self.old.lists) at }
-        requires next_unlisted { (i : ℕ) → StandsAt self.old.blocks at i → IsUnlisted (list_in self.old.lists) (at + size_of (block_at self.old.blocks i)) }
-        ensures blocks { (i : ℕ) → StandsAt self.old.blocks at i → self.new.blocks ≡ take i self.old.blocks
-            ++ (Free (size_of (block_at self.old.blocks i) + size_of (block_at self.old.blocks (i + 1))) stamp ∷ []) ++ drop (i + 2) self.old.blocks }
-        ensures lists { SameLists (list_in self.new.lists) (list_in self.old.lists) }
-        ensures edits { Edits self.old self.new 7 }
-    {
-        merge_headers(&mut self.words, at, stamp);
+        merge_headers(&mut self.words, at, around, stamp);
     }
 
     /// Puts a free block that is in no list in front of the list of a class.
     pub fn push(&mut self, class: Class, at: u32)
         requires free { (i : ℕ) × StandsAt self.old.blocks at i × (is_free (block_at self.old.blocks i) ≡ true) }
         requires unlisted { IsUnlisted (list_in self.old.lists) at }
-        ensures blocks { self.new.blocks ≡ self.old.blocks }
-        ensures list { list_in self.new.lists class ≡ at ∷ list_in self.old.lists class }
-        ensures others { (other : ℕ) → other ≢ class → list_in self.new.lists other ≡ list_in self.old.lists other }
-        ensures edits { Edits self.old self.new 7 }
+        ensures { PutInFront self.old self.new class at 7 }
     {
         self.lists.push(&mut self.words, class, at);
     }
@@ -218,21 +185,18 @@ impl Region {
     /// Takes a block out of the list of its class.
     pub fn remove(&mut self, class: Class, at: u32)
         requires listed { Contains (list_in self.old.lists class) at }
-        ensures blocks { self.new.blocks ≡ self.old.blocks }
-        ensures list { list_in self.new.lists class ≡ without_place at (list_in self.old.lists class) }
-        ensures others { (other : ℕ) → other ≢ class → list_in self.new.lists other ≡ list_in self.old.lists other }
-        ensures unlisted { IsUnlisted (list_in self.new.lists) at }
-        ensures edits { Edits self.old self.new 6 }
+        ensures { TakenOut self.old self.new class at 6 }
     {
         self.lists.remove(&mut self.words, class, at);
     }
 
-    /// The place at the head of the list of a class, `None` where the list is empty.
-    pub fn first(&mut self, class: Class) -> Option<u32>
-        ensures place { result ≡ slice_get (list_in self.old.lists class) 0 }
-        ensures reads { OnlyReads self.old self.new 1 }
+    /// Takes the head of the list of a class, which isn't empty, out of it.
+    pub fn pop_first(&mut self, class: Class) -> u32
+        requires some { ¬ (list_in self.old.lists class ≡ []) }
+        ensures place { slice_get (list_in self.old.lists class) 0 ≡ Some result }
+        ensures change { TakenOut self.old self.new class result 7 }
     {
-        self.lists.first(class)
+        self.lists.pop_first(&mut self.words, class)
     }
 
     /// The least class at or above a class whose list isn't empty, `None` where there is none.

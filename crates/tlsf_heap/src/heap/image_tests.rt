@@ -148,10 +148,11 @@ fn links_name_the_neighbours_in_a_list(rt: HostRuntime) -> Result<(), Fail> {
     ];
     let heap = after_releases(alloc, 24, 4, &[0, 8])?;
     check_image(&rt, alloc, heap, &two, &[0, 4, 8, 12, 16])?;
-    // All three are one free block now, alone in the list of its class.
+    // All three are one free block now, alone in the list of its class. The words of the second and third header are no block's now,
+    // and stay.
     let merged = [
         [0xffff_ffff_0000_0031, 7, ALONE, 0],
-        [0x0000_0000_0000_0021, 7, 8, 0],
+        [0x0000_0000_0000_0010, 2, 8, 0],
         [0x0000_0004_0000_0011, 6, 0xffff_ffff_0000_0000, 0],
         [0x0000_0000_0000_0010, 4, 8, 0],
         [0x0000_000c_0000_0023, 4, ALONE, 0],
@@ -167,7 +168,7 @@ fn middle_of_a_list_is_taken_out(rt: HostRuntime) -> Result<(), Fail> {
     // The list was 16, 8, 0. The blocks at 8 and at 0 went into the one that was merged, and the one at 16 is alone.
     let merged = [
         [0xffff_ffff_0000_0031, 10, ALONE, 0],
-        [0x0000_0000_0000_0021, 10, 8, 0],
+        [0x0000_0000_0000_0010, 2, 8, 0],
         [0x0000_0004_0000_0011, 8, 0x0000_0010_0000_0000, 0],
         [0x0000_0000_0000_0010, 4, 8, 0],
         [0x0000_000c_0000_0011, 9, ALONE, 0],

@@ -1,96 +1,95 @@
-use Rattle.std.proofs.Common.{◌≡◌, ◌+◌, ◌≤◌, ap, ◌∙◌, arith}
-use Rattle.tlsf_heap.specs.Regions.{RegionState, list_in}
-use Rattle.tlsf_heap.proofs.Listing.{unlisted_same}
-use Rattle.tlsf_heap.proofs.Sizes.{stands_around}
-use Rattle.tlsf_heap.proofs.Carving.{IsListed, IsReady, is_listed, contains_free, end_within, left_unlisted, rest_free, ready_as, ready_whole, ready_split, ready_room, ready_given, ready_listed, ready_blocks}
-use Rattle.tlsf_heap.proofs.fitting.carve.Goals.{then-size-words, else-size-words}
+use Rattle.std.proofs.Common.{ap, ◌∙◌, arith}
+use Rattle.tlsf_class.specs.Classes.{class_of}
+use Rattle.tlsf_heap.specs.Blocks.{size_of}
+use Rattle.tlsf_heap.specs.GoodFit.{block_at}
+use Rattle.tlsf_heap.specs.Regions.{list_in}
+use Rattle.tlsf_heap.proofs.Carving.{is_listed, head_some, rest_some, rest_none, end_within, given_size, left_unlisted_each, whole_listed, rest_free, rest_unlisted, rest_listed}
 use Rattle.tlsf_heap.proofs.fitting.carve.Goals as goal
 
-pub remove-requires : goal.remove-requires
-remove-requires c =
-    record { listed = contains_free (is_listed c.requires.fits c.size-size.ensures.value c.class_of.ensures c.requires.sized c.requires.stamped c.requires.listed c.size-size.ensures.reads.lists) }
+pub pop_first-at-requires : goal.pop_first-at-requires
+pop_first-at-requires c = record { some = head_some c.requires.fits.2 }
 
-listed : (c : goal.After-class_of-then-size-words) → IsListed c.args.region.now.blocks c.args.at c.requires.fits.0 c.size-size.result c.class_of.result c.args.tick (list_in c.size-size.new.self.lists)
-listed c = is_listed c.requires.fits c.size-size.ensures.value c.class_of.ensures c.requires.sized c.requires.stamped c.requires.listed c.size-size.ensures.reads.lists
+pub carve-rest-requires-clause-unlisted : goal.carve-rest-requires-clause-unlisted
+carve-rest-requires-clause-unlisted c =
+    let f = is_listed c.requires.fits c.pop_first-at.ensures.place c.requires.sized c.requires.stamped c.requires.listed in
+    let pop = c.pop_first-at.ensures.change in
+    rw pop.blocks (left_unlisted_each f (list_in c.pop_first-at.new.self.lists) pop.list pop.others)
 
 pub overflow_add-at : goal.overflow_add-at
-overflow_add-at c = omega (arith, c.requires.small, c.if-size-words.true, end_within (listed c))
+overflow_add-at c =
+    let f = is_listed c.requires.fits c.pop_first-at.ensures.place c.requires.sized c.requires.stamped c.requires.listed in
+    let pop = c.pop_first-at.ensures.change in
+    let is_rest = (rw pop.blocks at c.carve-rest.ensures.rest) c.requires.fits.1 f.stands in
+    let change = (rw pop.blocks at c.carve-rest.ensures.change) c.requires.fits.1 f.stands in
+    let some = rest_some (size_of (block_at c.args.region.now.blocks c.requires.fits.1)) c.args.words (omega (arith, c.if-rest-gt0.true, is_rest)) in
+    omega (arith, c.requires.small, end_within f, some.0)
 
 pub push-requires-clause-free : goal.push-requires-clause-free
 push-requires-clause-free c =
-    rest_free (listed c) (list_in c.remove.new.self.lists) c.remove.ensures.list c.remove.ensures.others c.args.words c.remove.new.self.blocks c.split.new.self.blocks c.if-size-words.true c.requires.least
-    (c.remove.ensures.blocks ∙ c.size-size.ensures.reads.blocks) c.split.ensures.blocks
+    let f = is_listed c.requires.fits c.pop_first-at.ensures.place c.requires.sized c.requires.stamped c.requires.listed in
+    let pop = c.pop_first-at.ensures.change in
+    let is_rest = (rw pop.blocks at c.carve-rest.ensures.rest) c.requires.fits.1 f.stands in
+    let change = (rw pop.blocks at c.carve-rest.ensures.change) c.requires.fits.1 f.stands in
+    let some = rest_some (size_of (block_at c.args.region.now.blocks c.requires.fits.1)) c.args.words (omega (arith, c.if-rest-gt0.true, is_rest)) in
+    rest_free f (list_in c.pop_first-at.new.self.lists) pop.list pop.others c.args.words c.args.len c.carve-rest.new.self.blocks change.blocks (list_in c.carve-rest.new.self.lists) change.lists some.0
 
 pub push-requires-clause-unlisted : goal.push-requires-clause-unlisted
 push-requires-clause-unlisted c =
-    unlisted_same (list_in c.remove.new.self.lists) (list_in c.split.new.self.lists) (c.args.at + c.args.words) c.split.ensures.lists
-    (left_unlisted (listed c) (list_in c.remove.new.self.lists) c.remove.ensures.list c.remove.ensures.others (c.args.at + c.args.words) (omega arith) (omega (arith, c.if-size-words.true)))
+    let f = is_listed c.requires.fits c.pop_first-at.ensures.place c.requires.sized c.requires.stamped c.requires.listed in
+    let pop = c.pop_first-at.ensures.change in
+    let is_rest = (rw pop.blocks at c.carve-rest.ensures.rest) c.requires.fits.1 f.stands in
+    let change = (rw pop.blocks at c.carve-rest.ensures.change) c.requires.fits.1 f.stands in
+    let some = rest_some (size_of (block_at c.args.region.now.blocks c.requires.fits.1)) c.args.words (omega (arith, c.if-rest-gt0.true, is_rest)) in
+    rest_unlisted f (list_in c.pop_first-at.new.self.lists) pop.list pop.others c.args.words c.args.len c.carve-rest.new.self.blocks change.blocks (list_in c.carve-rest.new.self.lists) change.lists some.0
 
-ready : (c : goal.After-make_live-arg-1) → IsReady c.args.region.now.blocks c.args.at c.requires.fits.0 c.size-size.result c.args.words c.args.tick c.if-size-words.region.blocks (list_in c.if-size-words.region.lists)
-ready c =
-    let f = c.requires.fits in
-    let fits : c.args.words ≤ c.size-size.result = omega (arith, f.3, c.size-size.ensures.value f.0 f.1) in
-    let is : IsListed c.args.region.now.blocks c.args.at c.requires.fits.0 c.size-size.result c.class_of.result c.args.tick (list_in c.size-size.new.self.lists) =
-    is_listed c.requires.fits c.size-size.ensures.value c.class_of.ensures c.requires.sized c.requires.stamped c.requires.listed c.size-size.ensures.reads.lists in
-    let same = c.remove.ensures.blocks ∙ c.size-size.ensures.reads.blocks in
-    elim c.if-size-words.branch [
-      | then-size-words w ↦ ready_as c.if-size-words.region w.push.new.self w.region-is
-          (ready_split is (list_in c.remove.new.self.lists) c.remove.ensures.list c.remove.ensures.others c.args.words c.remove.new.self.blocks w.split.new.self.blocks w.if-size-words.true c.requires.least
-          same w.split.ensures.blocks w.push.new.self.blocks w.push.ensures.blocks w.class_of-then-size-words.result (list_in w.split.new.self.lists) (list_in w.push.new.self.lists)
-          w.class_of-then-size-words.ensures w.split.ensures.lists w.push.ensures.list w.push.ensures.others)
-      | else-size-words w ↦ ready_as c.if-size-words.region c.remove.new.self w.region-is
-          (ready_whole is (list_in c.remove.new.self.lists) c.remove.ensures.list c.remove.ensures.others c.args.words c.remove.new.self.blocks fits (omega (arith, w.if-size-words.false)) same)
-    ]
+pub returns-then-rest-gt0-clause-listed : goal.returns-then-rest-gt0-clause-listed
+returns-then-rest-gt0-clause-listed c =
+    let f = is_listed c.requires.fits c.pop_first-at.ensures.place c.requires.sized c.requires.stamped c.requires.listed in
+    let pop = c.pop_first-at.ensures.change in
+    let is_rest = (rw pop.blocks at c.carve-rest.ensures.rest) c.requires.fits.1 f.stands in
+    let change = (rw pop.blocks at c.carve-rest.ensures.change) c.requires.fits.1 f.stands in
+    let some = rest_some (size_of (block_at c.args.region.now.blocks c.requires.fits.1)) c.args.words (omega (arith, c.if-rest-gt0.true, is_rest)) in
+    rest_listed f (list_in c.pop_first-at.new.self.lists) pop.list pop.others c.args.words c.args.len c.carve-rest.new.self.blocks change.blocks (list_in c.carve-rest.new.self.lists) change.lists some.0
+    c.push.new.self.blocks c.push.ensures.blocks c.class_of.result (list_in c.push.new.self.lists) (c.class_of.ensures ∙ ap class_of (is_rest ∙ some.1)) c.push.ensures.list c.push.ensures.others
 
-pub make_live-requires-clause-unlisted : goal.make_live-requires-clause-unlisted
-make_live-requires-clause-unlisted c = (ready c).unlisted
+pub returns-else-rest-gt0-clause-listed : goal.returns-else-rest-gt0-clause-listed
+returns-else-rest-gt0-clause-listed c =
+    let f = is_listed c.requires.fits c.pop_first-at.ensures.place c.requires.sized c.requires.stamped c.requires.listed in
+    let pop = c.pop_first-at.ensures.change in
+    let is_rest = (rw pop.blocks at c.carve-rest.ensures.rest) c.requires.fits.1 f.stands in
+    let change = (rw pop.blocks at c.carve-rest.ensures.change) c.requires.fits.1 f.stands in
+    whole_listed f (list_in c.pop_first-at.new.self.lists) pop.list pop.others c.args.words c.args.len c.carve-rest.new.self.blocks change.blocks (list_in c.carve-rest.new.self.lists) change.lists
+    (rest_none (size_of (block_at c.args.region.now.blocks c.requires.fits.1)) c.args.words (omega (arith, c.if-rest-gt0.false, is_rest)))
 
-pub make_live-requires-clause-room : goal.make_live-requires-clause-room
-make_live-requires-clause-room c = ready_room (ready c) c.args.len c.requires.payload
-
-left : (c : goal.After-make_live) → IsReady c.args.region.now.blocks c.args.at c.requires.fits.0 c.size-size.result c.args.words c.args.tick c.if-size-words.region.blocks (list_in c.if-size-words.region.lists)
-left c = ready c.before
-
-pub returns-clause-blocks : goal.returns-clause-blocks
-returns-clause-blocks c =
-    let f = c.requires.fits in
-    ready_blocks (left c) c.args.len c.make_live.new.self.blocks c.make_live.ensures.blocks c.requires.sized f.1 (c.size-size.ensures.value f.0 f.1)
-
-pub returns-clause-listed : goal.returns-clause-listed
-returns-clause-listed c = ready_listed (left c) c.args.len c.make_live.new.self.blocks c.make_live.ensures.blocks (list_in c.make_live.new.self.lists) c.make_live.ensures.lists
-
--- ---- the touches: at most 14 where the rest is split off, and those of the block given
-
-record Splits (old new : RegionState) : Type 0 where
-  pub words : new.words ≡ old.words
-  pub touches : new.touches ≤ old.touches + 14
-  pub rise : old.touches ≤ new.touches
-
-rest_touches : (c : goal.After-make_live) → Splits c.remove.new.self c.if-size-words.region
-rest_touches c = elim c.if-size-words.branch [
-  | then-size-words w ↦
-      let same = ap (λ (r : RegionState). r.touches) w.region-is in
-      let split = w.split.ensures.edits in
-      let push = w.push.ensures.edits in
-      record {
-        words = ap (λ (r : RegionState). r.words) w.region-is ∙ push.words ∙ split.words;
-        touches = omega (arith, same, split.touches, push.touches);
-        rise = omega (arith, same, split.rise, push.rise);
-      }
-  | else-size-words w ↦
-      let same = ap (λ (r : RegionState). r.touches) w.region-is in
-      record { words = ap (λ (r : RegionState). r.words) w.region-is; touches = omega (arith, same); rise = omega (arith, same) }
-]
-
-pub returns-clause-edits : goal.returns-clause-edits
-returns-clause-edits c i stands =
-    let ready = left c in
-    let given = ready_given ready c.args.len c.make_live.new.self.blocks c.make_live.ensures.blocks c.requires.sized c.requires.fits.1 i stands in
-    let live = c.make_live.ensures.edits c.requires.fits.0 (stands_around ready.around) in
-    let rest = rest_touches c in
+-- the touches: seven to take the head out, those of the block, and seven to list its rest
+pub returns-then-rest-gt0-clause-edits : goal.returns-then-rest-gt0-clause-edits
+returns-then-rest-gt0-clause-edits c i stands =
+    let f = is_listed c.requires.fits c.pop_first-at.ensures.place c.requires.sized c.requires.stamped c.requires.listed in
+    let pop = c.pop_first-at.ensures.change in
+    let is_rest = (rw pop.blocks at c.carve-rest.ensures.rest) c.requires.fits.1 f.stands in
+    let change = (rw pop.blocks at c.carve-rest.ensures.change) c.requires.fits.1 f.stands in
+    let here = (rw pop.blocks at c.carve-rest.ensures.change) i stands in
+    let push = c.push.ensures in
+    let given = given_size f c.args.words c.args.len c.carve-rest.result c.carve-rest.new.self.blocks is_rest change.blocks i stands in
+    let same = ap (λ bs. size_of (block_at bs i)) push.blocks in
     record {
-      words = live.words ∙ rest.words ∙ c.remove.ensures.edits.words ∙ c.size-size.ensures.reads.words;
-      shows = live.shows;
-      touches = omega (arith, live.touches, given, rest.touches, c.remove.ensures.edits.touches, c.size-size.ensures.reads.touches);
-      rise = omega (arith, live.rise, rest.rise, c.remove.ensures.edits.rise, c.size-size.ensures.reads.rise);
+      words = push.edits.words ∙ here.edits.words ∙ pop.edits.words;
+      shows = push.edits.shows;
+      touches = omega (arith, push.edits.touches, here.edits.touches, pop.edits.touches, given, same);
+      rise = omega (arith, push.edits.rise, here.edits.rise, pop.edits.rise);
+    }
+
+pub returns-else-rest-gt0-clause-edits : goal.returns-else-rest-gt0-clause-edits
+returns-else-rest-gt0-clause-edits c i stands =
+    let f = is_listed c.requires.fits c.pop_first-at.ensures.place c.requires.sized c.requires.stamped c.requires.listed in
+    let pop = c.pop_first-at.ensures.change in
+    let is_rest = (rw pop.blocks at c.carve-rest.ensures.rest) c.requires.fits.1 f.stands in
+    let change = (rw pop.blocks at c.carve-rest.ensures.change) c.requires.fits.1 f.stands in
+    let here = (rw pop.blocks at c.carve-rest.ensures.change) i stands in
+    let given = given_size f c.args.words c.args.len c.carve-rest.result c.carve-rest.new.self.blocks is_rest change.blocks i stands in
+    record {
+      words = here.edits.words ∙ pop.edits.words;
+      shows = here.edits.shows;
+      touches = omega (arith, here.edits.touches, pop.edits.touches, given);
+      rise = omega (arith, here.edits.rise, pop.edits.rise);
     }

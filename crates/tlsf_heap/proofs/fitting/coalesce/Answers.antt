@@ -1,112 +1,189 @@
-use Rattle.std.proofs.Common.{◌≡◌, ℕ, ◌-◌, ◌∙◌, arith}
-use Rattle.tlsf_heap.specs.GoodFit.{site_at}
+use Rattle.std.proofs.Common.{◌+◌, ◌-◌, sym, ap, ◌∙◌, arith}
+use Rattle.tlsf_class.specs.Classes.{class_of}
 use Rattle.tlsf_heap.specs.Regions.{list_in}
-use Rattle.tlsf_heap.specs.Blocks.{StandsAt}
-use Rattle.tlsf_heap.specs.Calls.{coalesced}
 use Rattle.tlsf_heap.proofs.Listing.{unlisted_same}
-use Rattle.tlsf_heap.proofs.Forgetting.{IsBetween, is_between, forgets, size_region, after_region, before_region, end_within, before_within, contains_next, contains_previous, rest_unlisted, next_unlisted, merged_free, merged_listed}
+use Rattle.tlsf_heap.proofs.Beside.{back_free, neighbours_are, place_before, place_behind, same_tag, size_behind}
+use Rattle.tlsf_heap.proofs.Forgetting.{is_between, forgets, size_region, end_within, before_within, contains_behind, contains_before, rest_unlisted, merged_free, merged_listed}
 use Rattle.tlsf_heap.proofs.fitting.coalesce.Goals as goal
 
-next : (c : goal.After-forget-arg-1) → IsBetween c.args.region.now.blocks c.args.at c.requires.live.0 c.free_before-before.result c.size-size.result c.free_after-after.result c.args.tick (list_in c.free_after-after.new.self.lists)
-next c =
-    is_between c.requires.live c.requires.sized c.requires.stamped c.requires.listed (c.free_after-after.ensures.reads.lists ∙ c.free_before-before.ensures.reads.lists ∙ c.size-size.ensures.reads.lists)
-    c.size-size.ensures.value c.size-size.ensures.reads.blocks
-    c.free_before-before.ensures.value c.free_before-before.ensures.reads.blocks c.free_after-after.ensures.value
-
 pub overflow_add-at : goal.overflow_add-at
-overflow_add-at c = omega (arith, end_within (next c), c.requires.small)
+overflow_add-at c =
+    let live = c.requires.live in
+    let own = c.tag-own.ensures in
+    let is = own.value live.0 live.1 in
+    let f = is_between live c.requires.sized c.requires.stamped c.requires.listed own.reads.lists in
+    omega (arith, is.size, end_within f, c.requires.small)
 
-pub forget-requires-clause-sized : goal.forget-requires-clause-sized
-forget-requires-clause-sized c = after_region (next c)
+pub take_free-next-requires-clause-within : goal.take_free-next-requires-clause-within
+take_free-next-requires-clause-within c short =
+    let live = c.requires.live in
+    let own = c.tag-own.ensures in
+    let is = own.value live.0 live.1 in
+    rw (own.reads.blocks, is.size) (place_behind own.whole live.1 (omega (arith, short, own.reads.words, is.size)))
 
-pub forget-requires-clause-listed : goal.forget-requires-clause-listed
-forget-requires-clause-listed c = contains_next (next c)
+pub take_free-next-requires-clause-listed : goal.take_free-next-requires-clause-listed
+take_free-next-requires-clause-listed c =
+    let live = c.requires.live in
+    let own = c.tag-own.ensures in
+    let is = own.value live.0 live.1 in
+    let f = is_between live c.requires.sized c.requires.stamped c.requires.listed own.reads.lists in
+    rw (own.reads.blocks, is.size) (contains_behind f own.whole)
 
-previous : (c : goal.After-forget-arg-2-1) → IsBetween c.args.region.now.blocks c.args.at c.requires.live.0 c.free_before-before.result c.size-size.result c.free_after-after.result c.args.tick (list_in c.free_after-after.new.self.lists)
-previous c =
-    is_between c.requires.live c.requires.sized c.requires.stamped c.requires.listed (c.free_after-after.ensures.reads.lists ∙ c.free_before-before.ensures.reads.lists ∙ c.size-size.ensures.reads.lists)
-    c.size-size.ensures.value c.size-size.ensures.reads.blocks
-    c.free_before-before.ensures.value c.free_before-before.ensures.reads.blocks c.free_after-after.ensures.value
+pub take_free-previous-requires-clause-within : goal.take_free-previous-requires-clause-within
+take_free-previous-requires-clause-within c short =
+    let live = c.requires.live in
+    let own = c.tag-own.ensures in
+    let is = own.value live.0 live.1 in
+    let n = c.take_free-next.ensures in
+    rw (n.blocks ∙ own.reads.blocks, is.back) (place_before own.whole c.requires.small live.1 (omega (arith, short, n.words, own.reads.words, is.back)))
 
-pub overflow_sub-at : goal.overflow_sub-at
-overflow_sub-at c = before_within (previous c)
+pub take_free-previous-requires-clause-listed : goal.take_free-previous-requires-clause-listed
+take_free-previous-requires-clause-listed c =
+    let live = c.requires.live in
+    let own = c.tag-own.ensures in
+    let is = own.value live.0 live.1 in
+    let f = is_between live c.requires.sized c.requires.stamped c.requires.listed own.reads.lists in
+    let n = c.take_free-next.ensures in
+    let next_size = size_behind own.whole live.1 is (same_tag own.reads.blocks own.reads.words n.tag) in
+    let next = forgets next_size (λ some. ap (λ n. c.args.at + n) is.size) n.list n.others n.none in
+    rw (n.blocks ∙ own.reads.blocks, is.back) (contains_before f next own.whole c.requires.small)
 
-pub forget-requires-2-clause-sized : goal.forget-requires-2-clause-sized
-forget-requires-2-clause-sized c = before_region (previous c)
+pub overflow_add-around : goal.overflow_add-around
+overflow_add-around c =
+    let live = c.requires.live in
+    let own = c.tag-own.ensures in
+    let is = own.value live.0 live.1 in
+    let f = is_between live c.requires.sized c.requires.stamped c.requires.listed own.reads.lists in
+    let n = c.take_free-next.ensures in
+    let p = c.take_free-previous.ensures in
+    let are = neighbours_are own.whole c.requires.small live.1 is (same_tag own.reads.blocks own.reads.words n.tag) (same_tag (n.blocks ∙ own.reads.blocks) (n.words ∙ own.reads.words) p.tag) in
+    omega (arith, are.size, are.before, are.after, end_within f, before_within f, c.requires.small)
 
-pub forget-requires-2-clause-listed : goal.forget-requires-2-clause-listed
-forget-requires-2-clause-listed c = contains_previous (previous c) (forgets c.forget.ensures.list c.forget.ensures.others c.forget.ensures.none)
+pub overflow_add-around-2 : goal.overflow_add-around-2
+overflow_add-around-2 c =
+    let live = c.requires.live in
+    let own = c.tag-own.ensures in
+    let is = own.value live.0 live.1 in
+    let f = is_between live c.requires.sized c.requires.stamped c.requires.listed own.reads.lists in
+    let n = c.take_free-next.ensures in
+    let p = c.take_free-previous.ensures in
+    let are = neighbours_are own.whole c.requires.small live.1 is (same_tag own.reads.blocks own.reads.words n.tag) (same_tag (n.blocks ∙ own.reads.blocks) (n.words ∙ own.reads.words) p.tag) in
+    omega (arith, are.size, are.before, are.after, end_within f, before_within f, c.requires.small)
 
-unlisted : (c : goal.After-join-arg-1) → IsBetween c.args.region.now.blocks c.args.at c.requires.live.0 c.free_before-before.result c.size-size.result c.free_after-after.result c.args.tick (list_in c.free_after-after.new.self.lists)
-unlisted c =
-    is_between c.requires.live c.requires.sized c.requires.stamped c.requires.listed (c.free_after-after.ensures.reads.lists ∙ c.free_before-before.ensures.reads.lists ∙ c.size-size.ensures.reads.lists)
-    c.size-size.ensures.value c.size-size.ensures.reads.blocks
-    c.free_before-before.ensures.value c.free_before-before.ensures.reads.blocks c.free_after-after.ensures.value
+pub overflow_sub-place : goal.overflow_sub-place
+overflow_sub-place c =
+    let live = c.requires.live in
+    let own = c.tag-own.ensures in
+    let is = own.value live.0 live.1 in
+    let f = is_between live c.requires.sized c.requires.stamped c.requires.listed own.reads.lists in
+    let n = c.take_free-next.ensures in
+    let p = c.take_free-previous.ensures in
+    let are = neighbours_are own.whole c.requires.small live.1 is (same_tag own.reads.blocks own.reads.words n.tag) (same_tag (n.blocks ∙ own.reads.blocks) (n.words ∙ own.reads.words) p.tag) in
+    omega (arith, are.before, before_within f)
 
-pub join-requires-clause-unlisted : goal.join-requires-clause-unlisted
-join-requires-clause-unlisted c =
-    let f = unlisted c in
-    rest_unlisted f (forgets c.forget.ensures.list c.forget.ensures.others c.forget.ensures.none) (forgets c.forget-2.ensures.list c.forget-2.ensures.others c.forget-2.ensures.none) c.args.at (omega arith) (omega (arith, (size_region f).0))
+pub merge-requires-clause-around : goal.merge-requires-clause-around
+merge-requires-clause-around c =
+    let live = c.requires.live in
+    let own = c.tag-own.ensures in
+    let is = own.value live.0 live.1 in
+    let n = c.take_free-next.ensures in
+    let p = c.take_free-previous.ensures in
+    let are = neighbours_are own.whole c.requires.small live.1 is (same_tag own.reads.blocks own.reads.words n.tag) (same_tag (n.blocks ∙ own.reads.blocks) (n.words ∙ own.reads.words) p.tag) in
+    let same = p.blocks ∙ n.blocks ∙ own.reads.blocks in
+    let words = p.words ∙ n.words ∙ own.reads.words in
+    rw (same, words) (live.0, live.1, are)
 
-pub join-requires-clause-previous_unlisted : goal.join-requires-clause-previous_unlisted
-join-requires-clause-previous_unlisted c =
-    let f = unlisted c in
-    rest_unlisted f (forgets c.forget.ensures.list c.forget.ensures.others c.forget.ensures.none) (forgets c.forget-2.ensures.list c.forget-2.ensures.others c.forget-2.ensures.none) (c.args.at - c.free_before-before.result) (omega arith) (omega (arith, (size_region f).0))
-
-pub join-requires-clause-next_unlisted : goal.join-requires-clause-next_unlisted
-join-requires-clause-next_unlisted c =
-    let same = c.forget-2.ensures.blocks ∙ c.forget.ensures.blocks ∙ c.free_after-after.ensures.reads.blocks ∙ c.free_before-before.ensures.reads.blocks ∙ c.size-size.ensures.reads.blocks in
-    rw same (next_unlisted (unlisted c) (forgets c.forget.ensures.list c.forget.ensures.others c.forget.ensures.none) (forgets c.forget-2.ensures.list c.forget-2.ensures.others c.forget-2.ensures.none))
-
-joined : (c : goal.After-push-arg-1) → IsBetween c.args.region.now.blocks c.args.at c.requires.live.0 c.free_before-before.result c.size-size.result c.free_after-after.result c.args.tick (list_in c.free_after-after.new.self.lists)
-joined c =
-    is_between c.requires.live c.requires.sized c.requires.stamped c.requires.listed (c.free_after-after.ensures.reads.lists ∙ c.free_before-before.ensures.reads.lists ∙ c.size-size.ensures.reads.lists)
-    c.size-size.ensures.value c.size-size.ensures.reads.blocks
-    c.free_before-before.ensures.value c.free_before-before.ensures.reads.blocks c.free_after-after.ensures.value
-
-pub overflow_add-before : goal.overflow_add-before
-overflow_add-before c = omega (arith, before_within (joined c), end_within (joined c), c.requires.small)
-
-pub overflow_add-before-2 : goal.overflow_add-before-2
-overflow_add-before-2 c = omega (arith, before_within (joined c), end_within (joined c), c.requires.small)
+pub merge-requires-clause-unlisted : goal.merge-requires-clause-unlisted
+merge-requires-clause-unlisted c k low high =
+    let live = c.requires.live in
+    let own = c.tag-own.ensures in
+    let is = own.value live.0 live.1 in
+    let f = is_between live c.requires.sized c.requires.stamped c.requires.listed own.reads.lists in
+    let n = c.take_free-next.ensures in
+    let p = c.take_free-previous.ensures in
+    let are = neighbours_are own.whole c.requires.small live.1 is (same_tag own.reads.blocks own.reads.words n.tag) (same_tag (n.blocks ∙ own.reads.blocks) (n.words ∙ own.reads.words) p.tag) in
+    let next = forgets are.after (λ some. ap (λ n. c.args.at + n) is.size) n.list n.others n.none in
+    let previous = forgets are.before (λ some. is.back ∙ back_free live.1 some) p.list p.others p.none in
+    rest_unlisted f next previous k (omega (arith, low, are.before)) (omega (arith, high, are.size, are.before, before_within f))
 
 pub class_of-requires-clause-most : goal.class_of-requires-clause-most
-class_of-requires-clause-most c = omega (arith, before_within (joined c), end_within (joined c), c.requires.small)
-
-classed : (c : goal.After-class_of) → IsBetween c.args.region.now.blocks c.args.at c.requires.live.0 c.free_before-before.result c.size-size.result c.free_after-after.result c.args.tick (list_in c.free_after-after.new.self.lists)
-classed c =
-    is_between c.requires.live c.requires.sized c.requires.stamped c.requires.listed (c.free_after-after.ensures.reads.lists ∙ c.free_before-before.ensures.reads.lists ∙ c.size-size.ensures.reads.lists)
-    c.size-size.ensures.value c.size-size.ensures.reads.blocks
-    c.free_before-before.ensures.value c.free_before-before.ensures.reads.blocks c.free_after-after.ensures.value
-
-pub overflow_sub-at-2 : goal.overflow_sub-at-2
-overflow_sub-at-2 c = before_within (classed c)
-
--- the blocks that the join leaves
-join_blocks : (c : goal.After-class_of) → (i : ℕ) → StandsAt c.args.region.now.blocks c.args.at i → c.join.new.region.blocks ≡ coalesced c.args.tick (site_at c.args.region.now.blocks i)
-join_blocks c =
-    let same = c.forget-2.ensures.blocks ∙ c.forget.ensures.blocks ∙ c.free_after-after.ensures.reads.blocks ∙ c.free_before-before.ensures.reads.blocks ∙ c.size-size.ensures.reads.blocks in
-    rw same at c.join.ensures.blocks
+class_of-requires-clause-most c =
+    let live = c.requires.live in
+    let own = c.tag-own.ensures in
+    let is = own.value live.0 live.1 in
+    let f = is_between live c.requires.sized c.requires.stamped c.requires.listed own.reads.lists in
+    let n = c.take_free-next.ensures in
+    let p = c.take_free-previous.ensures in
+    let are = neighbours_are own.whole c.requires.small live.1 is (same_tag own.reads.blocks own.reads.words n.tag) (same_tag (n.blocks ∙ own.reads.blocks) (n.words ∙ own.reads.words) p.tag) in
+    omega (arith, are.size, end_within f, before_within f, c.requires.small)
 
 pub push-requires-clause-free : goal.push-requires-clause-free
 push-requires-clause-free c =
-    merged_free (classed c) (forgets c.forget.ensures.list c.forget.ensures.others c.forget.ensures.none) (forgets c.forget-2.ensures.list c.forget-2.ensures.others c.forget-2.ensures.none) c.join.new.region.blocks (join_blocks c c.requires.live.0 c.requires.live.1)
+    let live = c.requires.live in
+    let own = c.tag-own.ensures in
+    let is = own.value live.0 live.1 in
+    let f = is_between live c.requires.sized c.requires.stamped c.requires.listed own.reads.lists in
+    let n = c.take_free-next.ensures in
+    let p = c.take_free-previous.ensures in
+    let are = neighbours_are own.whole c.requires.small live.1 is (same_tag own.reads.blocks own.reads.words n.tag) (same_tag (n.blocks ∙ own.reads.blocks) (n.words ∙ own.reads.words) p.tag) in
+    let next = forgets are.after (λ some. ap (λ n. c.args.at + n) is.size) n.list n.others n.none in
+    let previous = forgets are.before (λ some. is.back ∙ back_free live.1 some) p.list p.others p.none in
+    let same = p.blocks ∙ n.blocks ∙ own.reads.blocks in
+    let change = (rw same at c.merge.ensures) live.0 live.1 in
+    rw are.before (merged_free f next previous c.merge.new.self.blocks change.blocks)
 
 pub push-requires-clause-unlisted : goal.push-requires-clause-unlisted
 push-requires-clause-unlisted c =
-    let f = classed c in
-    unlisted_same (list_in c.forget-2.new.region.lists) (list_in c.join.new.region.lists) (c.args.at - c.free_before-before.result) c.join.ensures.lists
-    (rest_unlisted f (forgets c.forget.ensures.list c.forget.ensures.others c.forget.ensures.none) (forgets c.forget-2.ensures.list c.forget-2.ensures.others c.forget-2.ensures.none) (c.args.at - c.free_before-before.result) (omega arith) (omega (arith, (size_region f).0)))
+    let live = c.requires.live in
+    let own = c.tag-own.ensures in
+    let is = own.value live.0 live.1 in
+    let f = is_between live c.requires.sized c.requires.stamped c.requires.listed own.reads.lists in
+    let n = c.take_free-next.ensures in
+    let p = c.take_free-previous.ensures in
+    let are = neighbours_are own.whole c.requires.small live.1 is (same_tag own.reads.blocks own.reads.words n.tag) (same_tag (n.blocks ∙ own.reads.blocks) (n.words ∙ own.reads.words) p.tag) in
+    let next = forgets are.after (λ some. ap (λ n. c.args.at + n) is.size) n.list n.others n.none in
+    let previous = forgets are.before (λ some. is.back ∙ back_free live.1 some) p.list p.others p.none in
+    let same = p.blocks ∙ n.blocks ∙ own.reads.blocks in
+    let change = (rw same at c.merge.ensures) live.0 live.1 in
+    unlisted_same (list_in c.take_free-previous.new.region.lists) (list_in c.merge.new.self.lists) (c.args.at - c.take_free-previous.result.size) change.lists
+    (rest_unlisted f next previous (c.args.at - c.take_free-previous.result.size) (omega (arith, are.before)) (omega (arith, are.before, (size_region f).0)))
 
-left : (c : goal.After-push) → IsBetween c.args.region.now.blocks c.args.at c.requires.live.0 c.free_before-before.result c.size-size.result c.free_after-after.result c.args.tick (list_in c.free_after-after.new.self.lists)
-left c =
-    is_between c.requires.live c.requires.sized c.requires.stamped c.requires.listed (c.free_after-after.ensures.reads.lists ∙ c.free_before-before.ensures.reads.lists ∙ c.size-size.ensures.reads.lists)
-    c.size-size.ensures.value c.size-size.ensures.reads.blocks
-    c.free_before-before.ensures.value c.free_before-before.ensures.reads.blocks c.free_after-after.ensures.value
+pub returns-clause-blocks : goal.returns-clause-blocks
+returns-clause-blocks c i stands =
+    let own = c.tag-own.ensures in
+    let n = c.take_free-next.ensures in
+    let p = c.take_free-previous.ensures in
+    let same = p.blocks ∙ n.blocks ∙ own.reads.blocks in
+    c.push.ensures.blocks ∙ ((rw same at c.merge.ensures) i stands).blocks
 
 pub returns-clause-listed : goal.returns-clause-listed
 returns-clause-listed c =
-    let same = c.forget-2.ensures.blocks ∙ c.forget.ensures.blocks ∙ c.free_after-after.ensures.reads.blocks ∙ c.free_before-before.ensures.reads.blocks ∙ c.size-size.ensures.reads.blocks in
-    let joined = (rw same at c.join.ensures.blocks) c.requires.live.0 c.requires.live.1 in
-    merged_listed (left c) (forgets c.forget.ensures.list c.forget.ensures.others c.forget.ensures.none) (forgets c.forget-2.ensures.list c.forget-2.ensures.others c.forget-2.ensures.none) c.push.new.self.blocks (c.push.ensures.blocks ∙ joined) c.class_of.result
-    (list_in c.join.new.region.lists) (list_in c.push.new.self.lists) c.class_of.ensures c.join.ensures.lists c.push.ensures.list c.push.ensures.others
+    let live = c.requires.live in
+    let own = c.tag-own.ensures in
+    let is = own.value live.0 live.1 in
+    let f = is_between live c.requires.sized c.requires.stamped c.requires.listed own.reads.lists in
+    let n = c.take_free-next.ensures in
+    let p = c.take_free-previous.ensures in
+    let are = neighbours_are own.whole c.requires.small live.1 is (same_tag own.reads.blocks own.reads.words n.tag) (same_tag (n.blocks ∙ own.reads.blocks) (n.words ∙ own.reads.words) p.tag) in
+    let next = forgets are.after (λ some. ap (λ n. c.args.at + n) is.size) n.list n.others n.none in
+    let previous = forgets are.before (λ some. is.back ∙ back_free live.1 some) p.list p.others p.none in
+    let same = p.blocks ∙ n.blocks ∙ own.reads.blocks in
+    let change = (rw same at c.merge.ensures) live.0 live.1 in
+    merged_listed f next previous c.push.new.self.blocks (c.push.ensures.blocks ∙ change.blocks) c.class_of.result (list_in c.merge.new.self.lists) (list_in c.push.new.self.lists) (c.class_of.ensures ∙ ap class_of are.size)
+    change.lists (rw (sym are.before) c.push.ensures.list) c.push.ensures.others
+
+pub returns-clause-edits : goal.returns-clause-edits
+returns-clause-edits c =
+    let live = c.requires.live in
+    let own = c.tag-own.ensures in
+    let n = c.take_free-next.ensures in
+    let p = c.take_free-previous.ensures in
+    let same = p.blocks ∙ n.blocks ∙ own.reads.blocks in
+    let change = (rw same at c.merge.ensures) live.0 live.1 in
+    let push = c.push.ensures.edits in
+    record {
+      words = push.words ∙ change.edits.words ∙ p.words ∙ n.words ∙ own.reads.words;
+      shows = push.shows;
+      touches = omega (arith, push.touches, change.edits.touches, p.touches, n.touches, own.reads.touches);
+      rise = omega (arith, push.rise, change.edits.rise, p.rise, n.rise, own.reads.rise);
+    }

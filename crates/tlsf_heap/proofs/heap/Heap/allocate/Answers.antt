@@ -1,5 +1,7 @@
-use Rattle.std.proofs.Common.{◌+◌, sym, ap, ◌∙◌, subst, Ok, Err, arith}
-use Rattle.tlsf_heap.specs.Blocks.{HeapState, size_of, payload_words}
+use Rattle.std.proofs.Common.{◌+◌, ◌≤◌, sym, ap, ◌∙◌, subst, Ok, Err, arith}
+use Rattle.tlsf_heap.specs.Blocks.{HeapState, size_of, payload_words, StandsAt}
+use Rattle.tlsf_heap.specs.Given.{payload_words_given}
+use Rattle.tlsf_heap.proofs.Carving.{head_stands}
 use Rattle.tlsf_heap.specs.Regions.{Edits}
 use Rattle.tlsf_heap.specs.Shown.{Shown}
 use Rattle.tlsf_heap.specs.GoodFit.{block_at}
@@ -41,7 +43,7 @@ returns-in_default-clause-ok c = (nothing c).ok
 worn : (c : goal.Then-self) → Allocates c.args.self.now.heap c.args.len (Err Worn) (with_region (state_of c.self.inside) c.self.inside.tick c.choose.new.region)
 worn c =
     allocates_worn (state_of c.self.inside) c.args.self.now.heap c.args.len c.want-words.result c.self.invariant.lawful (ap (λ (s : Shown). s.heap) c.self.view_is) c.want-words.ensures
-    c.choose.new.region c.choose.ensures.reads.words c.in-Some.ensures.best.0 c.in-Some.ensures.best.2 c.choose.ensures.reads.blocks c.if-self.true
+    c.choose.new.region c.choose.ensures.reads.words c.in-Some.ensures.best.1 c.in-Some.ensures.best.3 c.choose.ensures.reads.blocks c.if-self.true
 
 pub returns-then-self-clause-answer : goal.returns-then-self-clause-answer
 returns-then-self-clause-answer c = (worn c).is_answer
@@ -54,29 +56,33 @@ returns-then-self-clause-no_fit c = (worn c).no_fit
 
 -- ---- a block is given
 
-pub carve-requires-clause-fits : goal.carve-requires-clause-fits
-carve-requires-clause-fits c =
+pub carve-at-requires-clause-fits : goal.carve-at-requires-clause-fits
+carve-at-requires-clause-fits c =
     let best = c.in-Some.ensures.best in
-    rw c.choose.ensures.reads.blocks (best.0, best.1, and_left _ _ best.2.fit, fits_size _ _ best.2.fit)
+    rw (c.choose.ensures.reads.blocks, c.choose.ensures.reads.lists) (best.0, best.1, best.2, and_left _ _ best.3.fit, fits_size _ _ best.3.fit)
 
-pub carve-requires-clause-sized : goal.carve-requires-clause-sized
-carve-requires-clause-sized c = rw c.choose.ensures.reads.blocks (lawful_regions (state_of c.self.inside) c.self.invariant.lawful c.self.invariant.small)
+pub carve-at-requires-clause-sized : goal.carve-at-requires-clause-sized
+carve-at-requires-clause-sized c = rw c.choose.ensures.reads.blocks (lawful_regions (state_of c.self.inside) c.self.invariant.lawful c.self.invariant.small)
 
-pub carve-requires-clause-listed : goal.carve-requires-clause-listed
-carve-requires-clause-listed c = rw (c.choose.ensures.reads.blocks, c.choose.ensures.reads.lists) c.self.invariant.listed
+pub carve-at-requires-clause-listed : goal.carve-at-requires-clause-listed
+carve-at-requires-clause-listed c = rw (c.choose.ensures.reads.blocks, c.choose.ensures.reads.lists) c.self.invariant.listed
 
-pub carve-requires-clause-stamped : goal.carve-requires-clause-stamped
-carve-requires-clause-stamped c = rw c.choose.ensures.reads.blocks c.self.invariant.lawful.stamps_past
+pub carve-at-requires-clause-stamped : goal.carve-at-requires-clause-stamped
+carve-at-requires-clause-stamped c = rw c.choose.ensures.reads.blocks c.self.invariant.lawful.stamps_past
 
-carved : (c : goal.After-self-1) → Edits c.choose.new.region c.carve.new.region (25 + payload_words (block_at c.carve.new.region.blocks c.in-Some.ensures.best.0))
-carved c = let best = c.in-Some.ensures.best in c.carve.ensures.edits best.0 (rw c.choose.ensures.reads.blocks best.1)
+-- the block that is carved is the one that was chosen
+stands : (c : goal.After-self-1) → StandsAt c.self.inside.region.blocks c.carve-at.result c.in-Some.ensures.best.1
+stands c = head_stands c.in-Some.ensures.best.2 ((rw c.choose.ensures.reads.lists at c.carve-at.ensures.place))
 
-given : (c : goal.After-self-1) → Allocates c.args.self.now.heap c.args.len (Ok (record { heap = c.self.inside.id; at = c.in-Some.at; serial = c.self.inside.tick }))
-    (with_region (state_of c.self.inside) (c.self.inside.tick + 1) c.carve.new.region)
+carved : (c : goal.After-self-1) → Edits c.choose.new.region c.carve-at.new.region (23 + payload_words (block_at c.carve-at.new.region.blocks c.in-Some.ensures.best.1))
+carved c = c.carve-at.ensures.edits c.in-Some.ensures.best.1 (rw c.choose.ensures.reads.blocks (stands c))
+
+given : (c : goal.After-self-1) → Allocates c.args.self.now.heap c.args.len (Ok (record { heap = c.self.inside.id; at = c.carve-at.result; serial = c.self.inside.tick }))
+    (with_region (state_of c.self.inside) (c.self.inside.tick + 1) c.carve-at.new.region)
 given c =
     let best = c.in-Some.ensures.best in
     allocates_some (state_of c.self.inside) c.args.self.now.heap c.args.len c.want-words.result c.self.invariant.lawful (ap (λ (s : Shown). s.heap) c.self.view_is) c.want-words.ensures
-    c.carve.new.region ((carved c).words ∙ c.choose.ensures.reads.words) best.0 best.2 c.in-Some.at best.1.place ((rw c.choose.ensures.reads.blocks at c.carve.ensures.blocks) best.0 best.1) c.if-self.false
+    c.carve-at.new.region ((carved c).words ∙ c.choose.ensures.reads.words) best.1 best.3 c.carve-at.result (stands c).place ((rw c.choose.ensures.reads.blocks at c.carve-at.ensures.blocks) best.1 (stands c)) c.if-self.false
 
 pub returns-clause-answer : goal.returns-clause-answer
 returns-clause-answer c = (given c).is_answer
@@ -98,24 +104,25 @@ invariant_of-self-2 c = record {
   lawful = (given c).lawful;
   shows = (carved c).shows;
   small = omega (arith, (carved c).words, c.choose.ensures.reads.words, c.self.invariant.small);
-  listed = c.carve.ensures.listed;
+  listed = c.carve-at.ensures.listed;
 }
 
 -- the name that is given names the block at its place, whose payload was made zero
-pub returns-clause-touches : goal.returns-clause-touches
-returns-clause-touches c =
+touched : (c : goal.After-self-1) → c.carve-at.new.region.touches ≤ c.self.inside.region.touches + 26 + payload_words_given (Ok (record { heap = c.self.inside.id; at = c.carve-at.result; serial = c.self.inside.tick }))
+    (with_region (state_of c.self.inside) (c.self.inside.tick + 1) c.carve-at.new.region)
+touched c =
     let best = c.in-Some.ensures.best in
     let old = c.self.inside.region.blocks in
-    let heap : HeapState = with_region (state_of c.self.inside) (c.self.inside.tick + 1) c.carve.new.region in
-    let name : Name = record { heap = c.self.inside.id; at = c.in-Some.at; serial = c.self.inside.tick } in
+    let heap : HeapState = with_region (state_of c.self.inside) (c.self.inside.tick + 1) c.carve-at.new.region in
+    let name : Name = record { heap = c.self.inside.id; at = c.carve-at.result; serial = c.self.inside.tick } in
     let live : IsLive heap name = subst (λ (h : HeapState). IsLive h name) (sym (given c).is_heap) (living.given c.args.self.now.heap c.args.len name (sym (given c).is_answer)) in
-    let stands = carved_stands old heap.blocks name.at best.0 (size_of (block_at old best.0)) c.want-words.result c.self.inside.tick c.args.len best.1
-    ((rw c.choose.ensures.reads.blocks at c.carve.ensures.blocks) best.0 best.1) in
+    let now = carved_stands old heap.blocks name.at best.1 (size_of (block_at old best.1)) c.want-words.result c.self.inside.tick c.args.len (stands c)
+    ((rw c.choose.ensures.reads.blocks at c.carve-at.ensures.blocks) best.1 (stands c)) in
     let regions = lawful_regions heap (given c).lawful (omega (arith, (carved c).words, c.choose.ensures.reads.words, c.self.invariant.small)) in
-    omega (
-      arith,
-      (carved c).touches,
-      named_payload heap name best.0 regions stands live,
-      c.choose.ensures.reads.touches,
-      ap (λ (s : Shown). s.touches) c.self.view_is,
-    )
+    omega (arith, (carved c).touches, named_payload heap name best.1 regions now live, c.choose.ensures.reads.touches)
+
+pub returns-clause-touches : goal.returns-clause-touches
+returns-clause-touches c = omega (arith, touched c, ap (λ (s : Shown). s.touches) c.self.view_is)
+
+pub returns-clause-most_touches : goal.returns-clause-most_touches
+returns-clause-most_touches c = omega (arith, touched c, ap (λ (s : Shown). s.touches) c.self.view_is)

@@ -1,38 +1,57 @@
 -- The clauses of `merge_headers` are a merge of the words, and so one of the blocks, and leave the lists.
-use Rattle.std.proofs.Common.{ap, ◌∙◌, arith}
-use Rattle.tlsf_heap.proofs.Reading.{shows_state}
-use Rattle.tlsf_heap.proofs.Merging.{Merges, say_two, merges_blocks}
-use Rattle.tlsf_heap.proofs.Linking.{Relists, holds_state}
-use Rattle.tlsf_heap.proofs.Relisting.{relisted_merge}
-use Rattle.tlsf_heap.specs.Regions.{RegionState, image_of}
+use Rattle.std.proofs.Common.{ℕ, ◌+◌, ◌-◌, List, length, sym, ap, ◌∙◌, subst, arith}
+use Rattle.tlsf_heap.specs.Calls.{coalesced}
+use Rattle.tlsf_heap.specs.Blocks.{Block, StandsAt}
+use Rattle.tlsf_heap.specs.GoodFit.{site_at}
+use Rattle.tlsf_heap.proofs.Reading.{shows_state, at_index}
+use Rattle.tlsf_heap.proofs.Merging.{Merges, merge_within, merge_before, merge_after, merge_parts, merge_replaces, merge_begins, merge_range, merge_is}
+use Rattle.tlsf_heap.proofs.Linking.{Reshapes, HoldsState, holds_state, reshaped}
+use Rattle.tlsf_heap.specs.declared.neighbours.Neighbours.{Neighbours}
+use Rattle.tlsf_heap.specs.Regions.{RegionState, AreNeighbours, AreUnlisted, list_in, image_of}
+use Rattle.tlsf_heap.specs.Image.{Image}
+use Rattle.tlsf_words.specs.Lists.{ListHeads}
 use Rattle.tlsf_heap.proofs.region.Region.merge.Goals as goal
+
+neighbours : (c : goal.After-merge_headers-arg-1) → (i : ℕ) → StandsAt c.args.self.now.blocks c.args.at i → AreNeighbours (length c.self.inside.words.words) (site_at c.args.self.now.blocks i) c.args.around
+neighbours c i stands =
+    subst (λ (n : ℕ). AreNeighbours n (site_at c.args.self.now.blocks i) c.args.around) (sym (ap (λ (r : RegionState). r.words) c.self.view_is))
+    (at_index (shows_state c.self.invariant c.self.view_is) (λ i. AreNeighbours c.args.self.now.words (site_at c.args.self.now.blocks i) c.args.around) c.requires.around stands)
 
 pub merge_headers-requires : goal.merge_headers-requires
 merge_headers-requires c =
-    let two = say_two (shows_state c.self.invariant c.self.view_is) c.requires.next.1 c.requires.next.2 in
-    record { least = two.least; next_least = two.next_least; within = two.within }
+    let shows = shows_state c.self.invariant c.self.view_is in
+    let stands = c.requires.around.1 in
+    let is = neighbours c c.requires.around.0 stands in
+    record { before = merge_before shows stands is; after = merge_after shows stands is; within = merge_within shows stands is; small = shows.small }
 
-merges : (c : goal.After-merge_headers) → Merges (image_of c.self.inside.words) (image_of c.merge_headers.new.words) c.args.at c.args.stamp
+merges : (c : goal.After-merge_headers) → Merges (image_of c.self.inside.words) (image_of c.merge_headers.new.words) c.args.at c.args.around c.args.stamp
 merges c =
     let e = c.merge_headers.ensures in
-    record { tag = e.tag; mark = e.mark; keeps = record { before = e.before; behind = e.behind; next = e.next; length = e.length; starts = e.starts } }
+    record { tag = e.tag; mark = e.mark; next = e.next; before = e.before; behind = e.behind; length = e.length; starts = e.starts }
 
-relists : (c : goal.After-merge_headers) → Relists (image_of c.merge_headers.new.words) c.self.inside.lists c.args.self.now.lists
-relists c =
-    let state = holds_state c.self.invariant c.self.view_is in
-    relisted_merge state c.requires.unlisted c.requires.next_unlisted (merges c) c.requires.next (merges_blocks state.shows (merges c) c.requires.next)
+-- the blocks and the lists that a merge leaves
+merged : {m v : Image} {l : ListHeads} {r : RegionState} → HoldsState m l r → {at i stamp : ℕ} {around : Neighbours} → StandsAt r.blocks at i → AreNeighbours (length m.words) (site_at r.blocks i) around
+    → Merges m v at around stamp → AreUnlisted (list_in r.lists) (at - around.before) (at - around.before + around.tag.size) → Reshapes v l (coalesced stamp (site_at r.blocks i)) r.lists
+merged {v = v} {l = l} {r = r} state {i = i} {stamp = stamp} stands is merges unlisted =
+    let shows = state.shows in
+    subst (λ (bs : List Block). Reshapes v l bs r.lists) (merge_is shows stands is merges)
+    (reshaped state v _ _ _ _ (merge_parts shows stands is merges) (merge_replaces shows stands is merges)
+    (λ k low high. unlisted k (omega (arith, low, merge_begins shows stands is merges)) (omega (arith, high, merge_range shows stands is merges))))
+
+reshapes : (c : goal.After-merge_headers) → (i : ℕ) → StandsAt c.args.self.now.blocks c.args.at i
+    → Reshapes (image_of c.merge_headers.new.words) c.self.inside.lists (coalesced c.args.stamp (site_at c.args.self.now.blocks i)) c.args.self.now.lists
+reshapes c i stands = merged (holds_state c.self.invariant c.self.view_is) stands (neighbours c.before i stands) (merges c) c.requires.unlisted
 
 pub invariant_of-self : goal.invariant_of-self
-invariant_of-self c = (relists c).holds
+invariant_of-self c = (reshapes c c.requires.around.0 c.requires.around.1).holds
 
-pub returns-clause-blocks : goal.returns-clause-blocks
-returns-clause-blocks c = (merges_blocks (shows_state c.self.invariant c.self.view_is) (merges c) c.requires.next).blocks
-
-pub returns-clause-lists : goal.returns-clause-lists
-returns-clause-lists c = (relists c).same
-
-pub returns-clause-edits : goal.returns-clause-edits
-returns-clause-edits c =
+pub returns : goal.returns
+returns c i stands =
+    let left = reshapes c i stands in
     let touches = ap (λ (r : RegionState). r.touches) c.self.view_is in
     let words = ap (λ (r : RegionState). r.words) c.self.view_is in
-    record { words = c.merge_headers.ensures.length ∙ words; shows = (relists c).holds.shows; touches = omega (arith, c.merge_headers.ensures.touches, touches); rise = omega (arith, c.merge_headers.ensures.rise, touches) }
+    record {
+      blocks = left.blocks;
+      lists = left.same;
+      edits = record { words = c.merge_headers.ensures.length ∙ words; shows = left.holds.shows; touches = omega (arith, c.merge_headers.ensures.touches, touches); rise = omega (arith, c.merge_headers.ensures.rise, touches) };
+    }

@@ -22,20 +22,14 @@ relinks c =
 pub invariant_of-self : goal.invariant_of-self
 invariant_of-self c = (relinks c).holds
 
-pub returns-clause-blocks : goal.returns-clause-blocks
-returns-clause-blocks c = (relinks c).same
-
-pub returns-clause-list : goal.returns-clause-list
-returns-clause-list c =
-    list_in-lists_of c.push.new.self.heads c.push.new.words.words c.args.class ∙ c.push.ensures.list
-    ∙ ap (λ (places : List ℕ). c.args.at ∷ places) (sym ((holds_state c.self.invariant c.self.view_is).lists c.args.class))
-
-pub returns-clause-others : goal.returns-clause-others
-returns-clause-others c other differs =
-    list_in-lists_of c.push.new.self.heads c.push.new.words.words other ∙ c.push.ensures.others other differs ∙ sym ((holds_state c.self.invariant c.self.view_is).lists other)
-
-pub returns-clause-edits : goal.returns-clause-edits
-returns-clause-edits c =
+pub returns : goal.returns
+returns c =
     let touches = ap (λ (r : RegionState). r.touches) c.self.view_is in
     let words = ap (λ (r : RegionState). r.words) c.self.view_is in
-    record { words = c.push.ensures.length ∙ words; shows = (relinks c).holds.shows; touches = omega (arith, c.push.ensures.touches, touches); rise = omega (arith, c.push.ensures.rise, c.push.ensures.words_rise, touches) }
+    record {
+      blocks = (relinks c).same;
+      list = list_in-lists_of c.push.new.self.heads c.push.new.words.words c.args.class ∙ c.push.ensures.list
+          ∙ ap (λ (places : List ℕ). c.args.at ∷ places) (sym ((holds_state c.self.invariant c.self.view_is).lists c.args.class));
+      others = λ other differs. list_in-lists_of c.push.new.self.heads c.push.new.words.words other ∙ c.push.ensures.others other differs ∙ sym ((holds_state c.self.invariant c.self.view_is).lists other);
+      edits = record { words = c.push.ensures.length ∙ words; shows = (relinks c).holds.shows; touches = omega (arith, c.push.ensures.touches, touches); rise = omega (arith, c.push.ensures.rise, c.push.ensures.words_rise, touches) };
+    }

@@ -1,8 +1,7 @@
 -- The free lists with one place less: only links have changed.
 use Rattle.std.proofs.Common.{ℕ, List, sym, ap, ◌∙◌, subst, arith}
 use Rattle.std.specs.Prelude.{Contains}
-use Rattle.tlsf_words.specs.Lists.{list_of, without_place}
-use Rattle.tlsf_words.proofs.Threads.{remove-unlisted}
+use Rattle.tlsf_words.specs.Lists.{without_place}
 use Rattle.tlsf_heap.proofs.Linking.{Relinks, holds_state, list_in-lists_of, relinked, free_removed}
 use Rattle.tlsf_heap.specs.Regions.{RegionState, image_of}
 use Rattle.tlsf_heap.proofs.region.Region.remove.Goals as goal
@@ -20,28 +19,14 @@ relinks c =
 pub invariant_of-self : goal.invariant_of-self
 invariant_of-self c = (relinks c).holds
 
-pub returns-clause-blocks : goal.returns-clause-blocks
-returns-clause-blocks c = (relinks c).same
-
-pub returns-clause-list : goal.returns-clause-list
-returns-clause-list c =
-    list_in-lists_of c.remove.new.self.heads c.remove.new.words.words c.args.class ∙ c.remove.ensures.list
-    ∙ ap (without_place c.args.at) (sym ((holds_state c.self.invariant c.self.view_is).lists c.args.class))
-
-pub returns-clause-others : goal.returns-clause-others
-returns-clause-others c other differs =
-    list_in-lists_of c.remove.new.self.heads c.remove.new.words.words other ∙ c.remove.ensures.others other differs ∙ sym ((holds_state c.self.invariant c.self.view_is).lists other)
-
-pub returns-clause-unlisted : goal.returns-clause-unlisted
-returns-clause-unlisted c class listed =
-    let new = c.remove.ensures in
-    let state = holds_state c.self.invariant c.self.view_is in
-    remove-unlisted c.self.inside.lists.heads c.self.inside.lists.members c.self.inside.words.words c.args.class c.args.at (list_of c.remove.new.self.heads c.remove.new.words.words)
-    state.threaded (subst (λ (places : List ℕ). Contains places c.args.at) (state.lists c.args.class) c.requires.listed) new.list new.others class
-    (subst (λ (places : List ℕ). Contains places c.args.at) (list_in-lists_of c.remove.new.self.heads c.remove.new.words.words class) listed)
-
-pub returns-clause-edits : goal.returns-clause-edits
-returns-clause-edits c =
+pub returns : goal.returns
+returns c =
     let touches = ap (λ (r : RegionState). r.touches) c.self.view_is in
     let words = ap (λ (r : RegionState). r.words) c.self.view_is in
-    record { words = c.remove.ensures.length ∙ words; shows = (relinks c).holds.shows; touches = omega (arith, c.remove.ensures.touches, touches); rise = omega (arith, c.remove.ensures.rise, c.remove.ensures.words_rise, touches) }
+    record {
+      blocks = (relinks c).same;
+      list = list_in-lists_of c.remove.new.self.heads c.remove.new.words.words c.args.class ∙ c.remove.ensures.list
+          ∙ ap (without_place c.args.at) (sym ((holds_state c.self.invariant c.self.view_is).lists c.args.class));
+      others = λ other differs. list_in-lists_of c.remove.new.self.heads c.remove.new.words.words other ∙ c.remove.ensures.others other differs ∙ sym ((holds_state c.self.invariant c.self.view_is).lists other);
+      edits = record { words = c.remove.ensures.length ∙ words; shows = (relinks c).holds.shows; touches = omega (arith, c.remove.ensures.touches, touches); rise = omega (arith, c.remove.ensures.rise, c.remove.ensures.words_rise, touches) };
+    }

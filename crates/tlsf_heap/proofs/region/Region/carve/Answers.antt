@@ -1,0 +1,132 @@
+-- A block that is carved, whole or with a rest: the words show the blocks, and leave the lists.
+use Rattle.std.proofs.Common.{ℕ, suc, ◌-◌, ◌≤◌, ◌++◌, take, drop, List, length, get_or, sym, ap, ◌∙◌, arith}
+use Rattle.tlsf_heap.specs.Blocks.{StandsAt, size_of}
+use Rattle.tlsf_heap.specs.Calls.{carved}
+use Rattle.tlsf_heap.specs.GoodFit.{block_at}
+use Rattle.tlsf_heap.specs.Headers.{IsTagIn}
+use Rattle.tlsf_heap.specs.Regions.{RegionState, image_of}
+use Rattle.tlsf_heap.proofs.Reading.{shows_state, says_here, at_index}
+use Rattle.tlsf_heap.proofs.Edits.{rest_small, rest_large}
+use Rattle.tlsf_heap.proofs.Linking.{Reshapes, holds_state}
+use Rattle.tlsf_heap.proofs.Splitting.{Wholes, Splits, tag_size, left_whole, left_split}
+use Rattle.tlsf_heap.proofs.region.Region.carve.Goals.{After-split_header}
+use Rattle.tlsf_heap.proofs.region.Region.carve.Goals as goal
+
+pub tag-tag-requires : goal.tag-tag-requires
+tag-tag-requires c = let says = says_here (shows_state c.self.invariant c.self.view_is) c.requires.room.1 in omega (arith, says.ends, says.least)
+
+pub overflow_add-size : goal.overflow_add-size
+overflow_add-size c =
+    let says = says_here (shows_state c.self.invariant c.self.view_is) c.requires.room.1 in omega (arith, says.ends, c.requires.room.2, c.self.invariant.shows.small)
+
+pub live_header-requires : goal.live_header-requires
+live_header-requires c =
+    let shows = shows_state c.self.invariant c.self.view_is in
+    let says = says_here shows c.requires.room.1 in
+    let size = c.tag-tag.ensures.size ∙ says.size in
+    let long = ap length c.tag-tag.ensures.words in
+    record { least = omega (arith, size, says.least); within = omega (arith, size, says.ends, long); small = omega (arith, shows.small, long) }
+
+wholes : (c : goal.After-live_header) → Wholes (image_of c.self.inside.words) (image_of c.live_header.new.words) c.args.at c.tag-tag.result c.args.serial c.args.len
+wholes c =
+    let e = c.live_header.ensures in
+    let words = c.tag-tag.ensures.words in
+    let word = λ (k : ℕ). ap (λ (w : List ℕ). get_or w k 0) words in
+    record {
+      first = e.tag;
+      lives = record { mark = e.mark; bytes = e.bytes; payload = e.payload };
+      before = λ k h. e.before k h ∙ word k;
+      behind = λ k h. e.behind k h ∙ word k;
+      length = e.length ∙ ap length words;
+      starts = e.starts ∙ c.tag-tag.ensures.starts;
+    }
+
+whole : (c : goal.After-live_header) → (i : ℕ) → StandsAt c.args.self.now.blocks c.args.at i
+    → Reshapes (image_of c.live_header.new.words) c.self.inside.lists (take i c.args.self.now.blocks ++ carved (size_of (block_at c.args.self.now.blocks i)) c.args.size c.args.serial c.args.len ++ drop (suc i) c.args.self.now.blocks) c.args.self.now.lists
+whole c i stands =
+    let state = holds_state c.self.invariant c.self.view_is in
+    let e = c.tag-tag.ensures in
+    let is : IsTagIn (get_or c.self.inside.words.words c.args.at 0) c.tag-tag.result = record { size = e.size; last = e.last; back = e.back } in
+    let room = at_index state.shows (λ i. c.args.size ≤ size_of (block_at c.args.self.now.blocks i)) c.requires.room stands in
+    left_whole state stands is c.args.size c.args.serial c.args.len (c.requires.unlisted i stands) (wholes c) (omega (arith, room, c.requires.payload, tag_size state.shows stands is)) c.if-tag-size.true
+
+pub invariant_of-self : goal.invariant_of-self
+invariant_of-self c = (whole c c.requires.room.0 c.requires.room.1).holds
+
+pub returns-then-tag-size-clause-rest : goal.returns-then-tag-size-clause-rest
+returns-then-tag-size-clause-rest c i stands =
+    let says = says_here (shows_state c.self.invariant c.self.view_is) stands in sym (rest_small _ _ (omega (arith, c.if-tag-size.true, c.tag-tag.ensures.size, says.size)))
+
+pub returns-then-tag-size-clause-change : goal.returns-then-tag-size-clause-change
+returns-then-tag-size-clause-change c i stands =
+    let left = whole c i stands in
+    let touches = ap (λ (r : RegionState). r.touches) c.self.view_is in
+    let words = ap (λ (r : RegionState). r.words) c.self.view_is in
+    let says = says_here (shows_state c.self.invariant c.self.view_is) stands in
+    let size = c.tag-tag.ensures.size ∙ says.size in
+    record {
+      blocks = left.blocks;
+      lists = left.same;
+      edits = record {
+        words = c.live_header.ensures.length ∙ ap length c.tag-tag.ensures.words ∙ words;
+        shows = left.holds.shows;
+        touches = omega (arith, c.live_header.ensures.touches, c.tag-tag.ensures.touches, touches, size);
+        rise = omega (arith, c.live_header.ensures.touches, c.tag-tag.ensures.touches, touches);
+      };
+    }
+
+pub split_header-requires-clause-within : goal.split_header-requires-clause-within
+split_header-requires-clause-within c =
+    let says = says_here (shows_state c.self.invariant c.self.view_is) c.requires.room.1 in omega (arith, c.tag-tag.ensures.size ∙ says.size, says.ends, ap length c.tag-tag.ensures.words)
+
+splits : (c : After-split_header) → Splits (image_of c.self.inside.words) (image_of c.split_header.new.words) c.args.at c.tag-tag.result c.args.size c.args.serial c.args.len
+splits c =
+    let e = c.split_header.ensures in
+    let words = c.tag-tag.ensures.words in
+    let word = λ (k : ℕ). ap (λ (w : List ℕ). get_or w k 0) words in
+    record {
+      first = e.tag;
+      lives = record { mark = e.mark; bytes = e.bytes; payload = e.payload };
+      rest = e.rest;
+      rest_mark = e.rest_mark;
+      next = rw words at e.next;
+      before = λ k h. e.before k h ∙ word k;
+      behind = λ k h. e.behind k h ∙ word k;
+      length = e.length ∙ ap length words;
+      starts = rw c.tag-tag.ensures.starts at e.starts;
+    }
+
+split : (c : After-split_header) → (i : ℕ) → StandsAt c.args.self.now.blocks c.args.at i
+    → Reshapes (image_of c.split_header.new.words) c.self.inside.lists (take i c.args.self.now.blocks ++ carved (size_of (block_at c.args.self.now.blocks i)) c.args.size c.args.serial c.args.len ++ drop (suc i) c.args.self.now.blocks) c.args.self.now.lists
+split c i stands =
+    let state = holds_state c.self.invariant c.self.view_is in
+    let e = c.tag-tag.ensures in
+    let is : IsTagIn (get_or c.self.inside.words.words c.args.at 0) c.tag-tag.result = record { size = e.size; last = e.last; back = e.back } in
+    left_split state stands is c.args.size c.args.serial c.args.len (c.requires.unlisted i stands) (splits c) c.requires.least c.if-tag-size.false c.requires.payload
+
+pub invariant_of-self-2 : goal.invariant_of-self-2
+invariant_of-self-2 c = (split c c.requires.room.0 c.requires.room.1).holds
+
+pub returns-clause-rest : goal.returns-clause-rest
+returns-clause-rest c i stands =
+    let says = says_here (shows_state c.self.invariant c.self.view_is) stands in
+    let size = c.tag-tag.ensures.size ∙ says.size in
+    ap (λ (n : ℕ). n - c.args.size) size ∙ sym (rest_large _ _ (omega (arith, c.if-tag-size.false, size)))
+
+pub returns-clause-change : goal.returns-clause-change
+returns-clause-change c i stands =
+    let left = split c i stands in
+    let touches = ap (λ (r : RegionState). r.touches) c.self.view_is in
+    let words = ap (λ (r : RegionState). r.words) c.self.view_is in
+    let says = says_here (shows_state c.self.invariant c.self.view_is) stands in
+    let size = c.tag-tag.ensures.size ∙ says.size in
+    record {
+      blocks = left.blocks;
+      lists = left.same;
+      edits = record {
+        words = c.split_header.ensures.length ∙ ap length c.tag-tag.ensures.words ∙ words;
+        shows = left.holds.shows;
+        touches = omega (arith, c.split_header.ensures.touches, c.tag-tag.ensures.touches, touches, size, c.if-tag-size.false, c.requires.least);
+        rise = omega (arith, c.split_header.ensures.rise, c.tag-tag.ensures.touches, touches);
+      };
+    }
