@@ -8,7 +8,7 @@ use Rattle.rtrb.specs.contracts.AnyItems as any
 use Rattle.rtrb.specs.contracts.AnyItemsProtocol.TheImpl as items
 use Rattle.rtrb.specs.contracts.consumer.Consumer as consumer
 use Rattle.rtrb.specs.contracts.producer.Producer as producer
-use Rattle.std.proofs.Crossing.{frees, send, Vec-send}
+use Rattle.std.proofs.Crossing.{frees, send}
 use Rattle.std.specs.contracts.alloc.Global as global
 use Rattle.std.specs.contracts.impls.GlobalAllocator.TheImpl as allocator
 use Rattle.std.specs.contracts.snapshot.Snapshot as snapshot
@@ -29,22 +29,22 @@ posts_ring = producer.the_row post.the_row global.the_row any.the_row allocator.
 takes_ring : RattleType
 takes_ring = consumer.the_row post.the_row global.the_row any.the_row allocator.ghosts (items.ghosts post.the_row)
 
--- one entry a field: ring, kept, free, waiting, mark
+-- one entry a field: ring, mark
 pub post_end_field_send : IsSend post_end.the_field.row
 unfolding posts_ring
 post_end_field_send =
     struct_send (shape post_end.the_type) (
       producer_sends.the_field_send post.the_row global.the_row any.the_row allocator.ghosts (items.ghosts post.the_row) post_send send frees,
-      (Vec-send post.the_row post_send, (search sendable, (search sendable, (snapshot_send posts_ring, tt)))),
+      (snapshot_send posts_ring, tt),
     )
 
--- one entry a field: ring, ready, next, mark
+-- one entry a field: ring, mark
 pub take_end_field_send : IsSend take_end.the_field.row
 unfolding takes_ring
 take_end_field_send =
     struct_send (shape take_end.the_type) (
       consumer_sends.the_field_send post.the_row global.the_row any.the_row allocator.ghosts (items.ghosts post.the_row) post_send send frees,
-      (Vec-send post.the_row post_send, (search sendable, (snapshot_send takes_ring, tt))),
+      (snapshot_send takes_ring, tt),
     )
 
 -- the same of the ends as contracts see them

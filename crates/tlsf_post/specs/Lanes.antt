@@ -1,17 +1,17 @@
 -- What a contract sees of the two ends of a lane.
-use Rattle.std.specs.Prelude.{◌≡◌, ℕ, List, ◌++◌, length, take, drop}
-use Rattle.rtrb.specs.Ring.{sent, received, producer_capacity, IsPair}
+use Rattle.std.specs.Prelude.{◌≡◌, ℕ, ◌-◌, List, ◌++◌, length, drop}
+use Rattle.rtrb.specs.Ring.{sent, received, known_free, known_items, producer_capacity, IsPair}
 use Rattle.tlsf_post.specs.declared.post.Post.{Post}
 use Rattle.tlsf_post.specs.declared.post_end.PostEnd.{PostEnd}
 use Rattle.tlsf_post.specs.declared.take_end.TakeEnd.{TakeEnd}
 
--- the posts sent since the last `beside`: into the ring, and behind it
+-- the posts sent since the last `beside`
 unfoldable pub posts_sent : PostEnd → List Post
-posts_sent p = drop (length (sent p.mark.value)) (sent p.ring) ++ p.behind.items
+posts_sent p = drop (length (sent p.mark.value)) (sent p.ring)
 
--- how many slots it knows to be free
+-- how many slots it knows to be free: those of the last `beside`, less one for each post sent since
 unfoldable pub free_slots : PostEnd → ℕ
-free_slots p = p.free
+free_slots p = known_free p.mark.value - length (posts_sent p)
 
 -- how many posts its lane holds at most
 unfoldable pub capacity_of : PostEnd → ℕ
@@ -19,23 +19,20 @@ capacity_of p = producer_capacity p.ring
 
 -- the posts that waited at the last `beside`
 unfoldable pub waited : TakeEnd → List Post
-waited t = t.ready.items
+waited t = known_items t.mark.value
 
--- those taken since: of those that waited, and out of the ring
+-- those taken since
 unfoldable pub taken : TakeEnd → List Post
-taken t = take t.next t.ready.items ++ drop (length (received t.mark.value)) (received t.ring)
+taken t = drop (length (received t.mark.value)) (received t.ring)
 
 -- those that it knows to be ready, which the next takes answer
 unfoldable pub ready : TakeEnd → List Post
-ready t = drop t.next t.ready.items
+ready t = known_items t.ring
 
--- the two fit each other as the ends of one lane do: they are the ends of one ring, which held nothing at the last
--- `beside`, and they agree on how many posts waited then
+-- the two fit each other as the ends of one lane do: they are the ends of one ring, and at the last `beside` all that was
+-- sent was taken or waited
 unfoldable pub IsLane : PostEnd → TakeEnd → Type 0
-IsLane p t =
-    IsPair p.ring t.ring
-    × (length (sent p.mark.value) ≡ length (received t.mark.value))
-    × (p.full ≡ length t.ready.items)
+IsLane p t = IsPair p.ring t.ring × (received t.mark.value ++ waited t ≡ sent p.mark.value)
 
 -- the new post end has the old one's capacity, and is an end of each lane that the old one was an end of
 abbrev pub KeepsPost : PostEnd → PostEnd → Type 0

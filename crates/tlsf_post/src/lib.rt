@@ -3,7 +3,7 @@
 //! A lane goes from one worker to another. A [`PostEnd`] sends posts into it, a [`TakeEnd`] takes them out in the order
 //! in which they were sent. The two ends come from one call of [`lane`], and each may then go into a thread of its own:
 //! `put` and `take` know their own end alone, and posts pass between them through a ring. Where both are at hand,
-//! [`beside`] tells each end what the other did, and passes what the ring had no place for.
+//! [`beside`] tells each end what the other did.
 //!
 //! Contracts see a `PostEnd` as the posts that it sent since the last `beside` (`posts_sent`), the free slots that it
 //! knows of (`free_slots`) and the capacity of its lane (`capacity_of`). They see a `TakeEnd` as the posts that waited

@@ -1,8 +1,8 @@
-ghost use Rattle.std.specs.Prelude.{◌≡◌, ◌+◌, ◌<◌, ◌≤◌, length, vec_len, vec_capacity};
-ghost use Rattle.rtrb.specs.Ring.{sent, producer_capacity};
+ghost use Rattle.std.specs.Prelude.{◌≡◌, ◌+◌, ◌≤◌, length, take};
+ghost use Rattle.rtrb.specs.Ring.{sent, known_free};
 
 use crate::post::Post;
-use rtrb::{Producer, PushError};
+use rtrb::Producer;
 use std::snapshot::Snapshot;
 
 /// The end of a lane that sends posts. It may go into a thread of its own.
@@ -14,18 +14,11 @@ use std::snapshot::Snapshot;
 pub struct PostEnd {
     // A post that goes in here may be taken at once.
     pub(crate) ring: Producer<Post>,
-    // What was sent where the ring had no place, which passes in the next `beside`.
-    pub(crate) behind: Vec<Post>,
-    // How many slots it knows to be free.
-    pub(crate) free: usize,
-    // How many slots were full at the last `beside`: the posts that waited then.
-    pub(crate) full: usize,
     // The ring as the last `beside` left it. It has no bytes.
     pub(crate) mark: Snapshot<Producer<Post>>,
     ghost marked: { length (sent mark.value) ≤ length (sent ring) },
-    ghost room: { producer_capacity ring ≤ vec_capacity behind },
-    ghost counted: { 0 < free + vec_len behind + full → length (sent ring) + vec_len behind + free + full
-        ≡ producer_capacity ring + length (sent mark.value) },
+    ghost before: { take (length (sent mark.value)) (sent ring) ≡ sent mark.value },
+    ghost free: { known_free mark.value + length (sent mark.value) ≤ known_free ring + length (sent ring) },
 }
 
 #[tactic(auto, unfolding(crate::specs::Lanes::posts_sent, crate::specs::Lanes::free_slots, crate::specs::Lanes::capacity_of, crate::specs::Lanes::IsLane))]
@@ -33,8 +26,7 @@ impl PostEnd {
     ghost use Rattle.std.specs.Prelude.{◌≡◌, ◌-◌, ◌<◌, [], ◌∷◌, ◌++◌, IsOk, OnOk, IfErr};
     ghost use Rattle.tlsf_post.specs.Lanes.{posts_sent, free_slots, KeepsPost};
 
-    /// Sends a post, or gives it back where the lane is full as far as this end knows. A post goes into the ring, where
-    /// the other end may take it at once, or behind those that wait for the next `beside`.
+    /// Sends a post, or gives it back where the lane is full as far as this end knows. The other end may take it at once.
     ///
     /// - `lane`: it stays an end of its lane.
     /// - `ok`: on Ok the post stands behind those sent before, and one free slot less is known.
@@ -55,23 +47,10 @@ impl PostEnd {
             × (free_slots self.new ≡ free_slots self.old)) }
         ensures succeeds { 0 < free_slots self.old → IsOk result }
     {
-        if self.free == 0 {
-            if !self.behind.is_empty() || self.full > 0 {
-                return Err(post);
-            }
-            // No slot is known to be free, but the other end may have emptied one since, and the ring tells. It can't where
-            // posts stand behind it, which this one would overtake, or where posts waited outside of it.
-            return match self.ring.push(post) {
-                Ok(()) => Ok(()),
-                Err(PushError::Full(back)) => Err(back),
-            };
+        if self.ring.is_full() {
+            return Err(post);
         }
-        if !self.behind.is_empty() {
-            self.behind.push_reserved(post);
-        } else if let Err(PushError::Full(back)) = self.ring.push(post) {
-            self.behind.push_reserved(back);
-        }
-        self.free -= 1;
+        self.ring.push_reserved(post);
         Ok(())
     }
 }

@@ -1,4 +1,4 @@
-ghost use Rattle.std.specs.Prelude.{◌≡◌, ◌<◌, ◌≤◌, length, vec_len, vec_capacity};
+ghost use Rattle.std.specs.Prelude.{◌≤◌, length};
 ghost use Rattle.rtrb.specs.Ring.{received, consumer_capacity};
 
 use crate::post::Post;
@@ -12,18 +12,10 @@ use std::snapshot::Snapshot;
 /// ```
 #[derive(Drop)]
 pub struct TakeEnd {
-    // What was sent since the last `beside` comes from here.
     pub(crate) ring: Consumer<Post>,
-    // What waited at the last `beside`. The first `next` of it were taken.
-    pub(crate) ready: Vec<Post>,
-    pub(crate) next: usize,
     // The ring as the last `beside` left it. It has no bytes.
     pub(crate) mark: Snapshot<Consumer<Post>>,
-    ghost inside: { next ≤ vec_len ready },
     ghost marked: { length (received mark.value) ≤ length (received ring) },
-    ghost in_turn: { length (received mark.value) < length (received ring) → next ≡ vec_len ready },
-    ghost room: { consumer_capacity ring ≤ vec_capacity ready },
-    ghost fits: { vec_len ready ≤ consumer_capacity ring },
     ghost few: { consumer_capacity ring ≤ 1024 },
 }
 
@@ -33,8 +25,7 @@ impl TakeEnd {
     ghost use mathlib.Core.List.{IsPrefix};
     ghost use Rattle.tlsf_post.specs.Lanes.{waited, taken, ready, KeepsTake};
 
-    /// Takes the next post of those that waited at the last `beside`, and then of those in the ring. `None` where
-    /// neither has one.
+    /// Takes the next post of those that were sent, or answers `None` where this end sees none.
     ///
     /// - `lane`: it stays an end of its lane.
     /// - `waited`: what counts as having waited at the last `beside` stays the same.
@@ -56,14 +47,10 @@ impl TakeEnd {
         ensures none { IfNone result (taken self.new ≡ taken self.old) }
         ensures succeeds { 0 < length (ready self.old) → IsSome result }
     {
-        if let Some(post) = self.ready.get(self.next).copied() {
-            self.next += 1;
-            return Some(post);
+        if self.ring.is_empty() {
+            return None;
         }
-        match self.ring.pop() {
-            Ok(post) => Some(post),
-            Err(_) => None,
-        }
+        Some(self.ring.pop_known())
     }
 
     /// How many posts are known to be ready, 0 to 1,024. So many takes in a row each answer one.
@@ -74,6 +61,6 @@ impl TakeEnd {
     pub fn count_ready(&self) -> u32
         ensures { result ≡ length (ready self.now) }
     {
-        (self.ready.len() - self.next) as u32
+        self.ring.cached_slots() as u32
     }
 }

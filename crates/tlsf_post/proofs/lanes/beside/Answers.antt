@@ -1,9 +1,10 @@
-use Rattle.std.proofs.Common.{arith}
-use Rattle.std.proofs.lemmas.Grind.{common_steps}
-use Rattle.tlsf_post.specs.Lanes.{taken, waited, posts_sent, IsLane}
+use Rattle.std.proofs.Common.{rules}
+use Rattle.rtrb.specs.Ring.{sent, received}
+use Rattle.tlsf_post.specs.Lanes.{posts_sent, waited, taken, IsLane}
 use Rattle.tlsf_post.proofs.Order.{in_order}
 use Rattle.tlsf_post.proofs.lanes.beside.Goals as goal
 
 pub returns-clause-order : goal.returns-clause-order
-unfolding taken waited posts_sent IsLane
-returns-clause-order c = grind (arith, common_steps, in_order)
+unfolding posts_sent waited taken IsLane
+returns-clause-order c = let p = c.args.post.now in let t = c.args.take.now in
+    in_order (received t.mark.value) _ (sent p.mark.value) (received t.ring) _ (sent p.ring) c.requires.1 p.before t.marked (search rules)
