@@ -9,6 +9,7 @@ mod lanes;
 mod lists;
 mod locked_heaps;
 mod payloads;
+mod race_notices;
 mod race_traces;
 mod races;
 mod replays;

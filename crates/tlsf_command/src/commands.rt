@@ -14,7 +14,7 @@ use std::io::{Read, Write};
 use std::marker::Sync;
 use std::sync::Wait;
 use std::thread::Threads;
-use tlsf_crew::OpenGate;
+use tlsf_crew::Gate;
 use tlsf_trace::{Summary, TraceFault, WriteError, race_trace, replay, write_out};
 
 fn write_line<E: Write>(fault: TraceFault, errors: &mut E) -> Result<(), WriteError>
@@ -62,18 +62,19 @@ fn run_replay<R: Read, W: Write, E: Write>(
 }
 
 // Runs each phase in threads, and reports the fault that ended it.
-fn run_race<T: Threads + Wait + Sync, R: Read, W: Write, E: Write>(
+fn run_race<T: Threads + Wait + Sync, R: Read, W: Write, E: Write, G: Gate>(
     rt: &T,
     alloc: Global,
     reader: &mut R,
     writer: &mut W,
     errors: &mut E,
+    gate: &G,
 ) -> u8
     ensures { RunsRace result
         (streams (R.remaining reader.old) (W.contents writer.old) (E.contents errors.old))
         (streams (R.remaining reader.new) (W.contents writer.new) (E.contents errors.new)) }
 {
-    ended(race_trace(rt, alloc, reader, writer, &OpenGate), errors)
+    ended(race_trace(rt, alloc, reader, writer, gate), errors)
 }
 
 // Writes the line on a size of `words`, and reports a write that fails.
@@ -116,7 +117,8 @@ fn answer<W: Write, E: Write>(error: &clap::Error, writer: &mut W, errors: &mut 
 }
 
 /// Runs the program on the words of its command line, its name first, and gives the exit status.
-/// Only `tlsf race` starts threads, by `rt`.
+/// Only `tlsf race` starts threads, by `rt`; they pass `gate` before each call and once after the
+/// last one of a phase, where a [`RaceNotice`](crate::RaceNotice) shows that the race is alive.
 ///
 /// The status is 0 where the run is done, 1 where a fault ended it, 2 where the words are refused,
 /// and 3 where memory ran out. A fault's line and the text on refused words go to `errors`, where
@@ -124,16 +126,17 @@ fn answer<W: Write, E: Write>(error: &clap::Error, writer: &mut W, errors: &mut 
 ///
 /// ```
 /// // words are "tlsf", "classes" and "460"
-/// let status = run(rt, alloc, &words, &mut reader, &mut writer, &mut errors);
+/// let status = run(rt, alloc, &words, &mut reader, &mut writer, &mut errors, &OpenGate);
 /// // status is 0, and writer holds "class 92 low 448 search 93 low 464\n"
 /// ```
-pub fn run<T: Threads + Wait + Sync, S: AsStr, R: Read, W: Write, E: Write>(
+pub fn run<T: Threads + Wait + Sync, S: AsStr, R: Read, W: Write, E: Write, G: Gate>(
     rt: &T,
     alloc: Global,
     words: &[S],
     reader: &mut R,
     writer: &mut W,
     errors: &mut E,
+    gate: &G,
 ) -> u8
     ensures ends { Ends (map S.text words.now) result
         (streams (R.remaining reader.old) (W.contents writer.old) (E.contents errors.old))
@@ -153,7 +156,7 @@ pub fn run<T: Threads + Wait + Sync, S: AsStr, R: Read, W: Write, E: Write>(
 {
     match choose(alloc, words) {
         Ok(Choice::Replay) => run_replay(alloc, reader, writer, errors),
-        Ok(Choice::Race) => run_race(rt, alloc, reader, writer, errors),
+        Ok(Choice::Race) => run_race(rt, alloc, reader, writer, errors, gate),
         Ok(Choice::Classes(words)) => run_classes(words, writer, errors),
         Err(error) => answer(&error, writer, errors),
     }

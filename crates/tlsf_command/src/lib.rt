@@ -2,8 +2,9 @@
 //! status.
 //!
 //! [`run`] does what the words ask for. `replay` reads a trace, runs it, and writes the reply lines and a report on each
-//! heap. `race` does so with each phase run in threads, one for each worker. `classes N` writes the size class and the search class of N words. Help and version texts are written, and words
-//! that are refused are answered on the error stream.
+//! heap. `race` does so with each phase run in threads, one for each worker. `classes N` writes the size class and the
+//! search class of N words. Help and version texts are written, and words that are refused are answered on the error
+//! stream. A [`RaceNotice`] shows that a long race is alive.
 //!
 //! | Exit status | When |
 //! |---|---|
@@ -19,6 +20,8 @@ mod class_line;
 mod command_line;
 mod commands;
 mod fault_report;
+mod race_notice;
 
 pub use commands::run;
 pub use fault_report::FaultReport;
+pub use race_notice::RaceNotice;

@@ -29,7 +29,7 @@ pub mod Opening
 -- What the steps of a replay answer and leave. For private functions alone.
 pub mod ReplaySteps
 -- What `settle` tells of the lanes of a yard.
-pub mod Settling
+pub mod Settle
 -- What a worker is told by its calls, one after another.
 pub mod Told
 -- What a worker shows: its heap, its number, and its end of each lane.

@@ -2,8 +2,10 @@
 //!
 //! `tlsf replay` reads a trace from standard input, runs it, and writes the reply lines and a report on each heap to
 //! standard output. The whole trace is read and checked before a line runs, and the whole text is made before a byte is
-//! written. `tlsf race` does so with each phase run in threads, one for each worker. `tlsf classes N` writes the size class and the search class of N words. `tlsf --help` and `tlsf --version`
-//! say the rest. What it does with words and streams is [`tlsf_command::run`]; `main` gives it those of the process.
+//! written. `tlsf race` does so with each phase run in threads, one for each worker; where it is long, it says on standard
+//! error about every ten seconds that it still runs. `tlsf classes N` writes the size class and the search class of N
+//! words. `tlsf --help` and `tlsf --version` say the rest. What it does with words and streams is [`tlsf_command::run`];
+//! `main` gives it those of the process.
 //!
 //! | Exit status | When |
 //! |---|---|
@@ -17,7 +19,7 @@
 
 use std::process::ExitCode;
 use std::{env, io};
-use tlsf_command::{FaultReport, run};
+use tlsf_command::{FaultReport, RaceNotice, run};
 use tlsf_trace::TraceFault;
 
 // Reports that the words of the command line can't be had: memory ran out, or one is no text.
@@ -48,6 +50,7 @@ fn main(rt: HostRuntime) -> ExitCode {
                 &mut reader,
                 &mut writer,
                 &mut errors,
+                &RaceNotice::new(&rt),
             )
         }
         Err(error) => refuse(&rt, &error),

@@ -8,6 +8,7 @@ use std::sync::Wait;
 use std::test::Fail;
 use std::thread::Threads;
 use tlsf_command::{FaultReport, run};
+use tlsf_crew::OpenGate;
 use tlsf_trace::TraceFault;
 
 const TRACE: &[u8] = b"tlsf 1 1 64 1\n";
@@ -47,6 +48,7 @@ impl<'a> Streams<'a> {
             &mut self.reader,
             &mut self.writer,
             &mut self.errors,
+            &OpenGate,
         )
     }
 }

@@ -6,7 +6,7 @@ use Rattle.tlsf_post.specs.Lanes.{capacity_of, IsLane}
 use Rattle.tlsf_crew.specs.declared.yard.worker.Worker.{Worker}
 use Rattle.tlsf_crew.specs.yard.Workers.{heap_of, own_numbers}
 use Rattle.tlsf_crew.specs.yard.Yard.{post_at, take_at, Meets}
-use Rattle.tlsf_crew.specs.yard.Settling.{MetIn}
+use Rattle.tlsf_crew.specs.yard.Settle.{MetIn}
 
 -- the lane from worker i, which is a, to worker j, which is b
 abbrev pub HasLane : ℕ → ℕ → Worker → Worker → Type 0

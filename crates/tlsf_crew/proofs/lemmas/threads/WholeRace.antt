@@ -20,7 +20,7 @@ use Rattle.tlsf_crew.specs.declared.yard.call.Call.{Call}
 use Rattle.tlsf_crew.specs.yard.Workers.{heap_of, id_of, own_numbers, end_to, end_from}
 use Rattle.tlsf_crew.specs.yard.Yard.{IsYard, yard_heap, post_at, take_at, end_to_in, end_from_in, capacity_in, waits_in}
 use Rattle.tlsf_crew.specs.yard.World.{World, world_of}
-use Rattle.tlsf_crew.specs.yard.Settling.{MetIn, HaveMet}
+use Rattle.tlsf_crew.specs.yard.Settle.{MetIn, HaveMet}
 use Rattle.tlsf_crew.specs.yard.Counts.{sum_below, count_of, ready_from, releases_of}
 use Rattle.tlsf_crew.specs.yard.History.{posts_made, posts_taken}
 use Rattle.tlsf_crew.specs.threads.Race.{last_call, IsLegal, Agree, IsRace, script_of, record_of}

@@ -30,7 +30,7 @@ use Rattle.tlsf_crew.specs.yard.Yard.{IsYard, post_at, take_at, end_to_in, end_f
 use Rattle.tlsf_crew.specs.yard.World.{World, Replayed, Draining, world_of, heap_in, made_by, name_of, called, draining, posting, releasing_named, writing_named, reading_named, taking, taking_next, took_first, took_more, drained_lane, drained_below, drained_all}
 use Rattle.tlsf_crew.specs.yard.Bytes.{bytes_of}
 use Rattle.tlsf_crew.specs.yard.Counts.{sum_below, count_of, ready_from, sum_of}
-use Rattle.tlsf_crew.specs.yard.Settling.{MetIn}
+use Rattle.tlsf_crew.specs.yard.Settle.{MetIn}
 use Rattle.tlsf_crew.specs.yard.History.{AreTakes, TellsCall, RunsTo, calls_on, answers_on, call_on_own, post_made, post_taken, posts_made, posts_taken, entries_of}
 use Rattle.tlsf_crew.specs.yard.Moves.{one, Moved, Spent, SuitsCall, Stepped}
 use Rattle.tlsf_crew.specs.yard.ReplaySteps.{replay_of, ConcernsCall, MayTake, AreLimits, IsReplied}

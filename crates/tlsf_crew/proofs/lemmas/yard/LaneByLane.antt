@@ -2,7 +2,7 @@
 use Rattle.std.proofs.Common.{◌≡◌, ◌≢◌, ℕ, ◌+◌, ◌<◌, ◌≤◌, List, length, sym, ◌∙◌, arith, refl, inl, inr}
 use Rattle.std.proofs.lemmas.Bool.{cases_eq}
 use Rattle.tlsf_crew.specs.declared.yard.worker.Worker.{Worker}
-use Rattle.tlsf_crew.specs.yard.Settling.{MetIn}
+use Rattle.tlsf_crew.specs.yard.Settle.{MetIn}
 use Rattle.tlsf_crew.specs.yard.LaneSteps.{LaneStep, SameLane, RowMet, RowsMet, ColumnMet}
 use Rattle.tlsf_crew.proofs.lemmas.yard.Slots.{settled, step_same, same_then}
 

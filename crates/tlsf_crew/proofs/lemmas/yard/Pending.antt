@@ -6,7 +6,7 @@ use Rattle.tlsf_post.specs.Lanes.{waited}
 use Rattle.tlsf_crew.specs.declared.yard.worker.Worker.{Worker}
 use Rattle.tlsf_crew.specs.yard.Yard.{lane_waits, take_at, IsYard}
 use Rattle.tlsf_crew.specs.yard.World.{world_of, edited}
-use Rattle.tlsf_crew.specs.yard.Settling.{HaveMet}
+use Rattle.tlsf_crew.specs.yard.Settle.{HaveMet}
 use Rattle.tlsf_crew.specs.yard.Counts.{sum_below, lanes_sum, waiting_in, count_of, ready_from, ready_below, ready_in}
 use Rattle.tlsf_crew.proofs.lemmas.yard.LaneChanges.{edited_same, edited_other}
 use Rattle.tlsf_crew.proofs.lemmas.yard.Across.{waits_after}

@@ -1,0 +1,74 @@
+use Rattle.std.proofs.Common.{◌+◌, ◌∙◌, refl, ap, sym, length, arith, get_or}
+use Rattle.std.specs.List.{fold}
+use Rattle.std.proofs.lemmas.List.{take_all}
+use Rattle.std.proofs.lemmas.List.Sums.{fold_more}
+use Rattle.tlsf_crew.specs.declared.yard.event.Event.{Event}
+use Rattle.tlsf_crew.specs.declared.yard.call.Call.TheVariants.{Allocate}
+use Rattle.tlsf_crew.specs.yard.World.{world_of, after, begun}
+use Rattle.tlsf_crew.specs.yard.Counts.{waiting_in}
+use Rattle.tlsf_crew.proofs.lemmas.yard.EventSteps.{replies_is}
+use Rattle.tlsf_crew.proofs.lemmas.yard.Room.{so_far, worker_waits}
+use Rattle.tlsf_crew.proofs.yard.replay.replay_within.Goals as goal
+
+pub run_event-requires-clause-room : goal.run_event-requires-clause-room
+run_event-requires-clause-room c =
+    let w = world_of c.args.workers.now in
+    let i = c.loop-event.event-index in
+    let d0 : Event = record { worker = 0; call = Allocate 0 } in
+    let a = fold_more after (begun w) c.args.events.now i d0 (omega arith) in
+    let b = so_far (i + 1) c.args.events.now w (omega arith) in
+    rw (c.loop-event.invariant.replayed, ← a) (omega (arith, b, c.requires.room, c.loop-event.invariant.room))
+
+pub run_event-requires-clause-takes : goal.run_event-requires-clause-takes
+run_event-requires-clause-takes c =
+    let w = world_of c.args.workers.now in
+    let i = c.loop-event.event-index in
+    let replayed = c.loop-event.invariant.replayed in
+    let b = so_far i c.args.events.now w (omega arith) in
+    let entries = ap (λ r. length r.entries) replayed in
+    let waits = ap (λ r. waiting_in r.world) replayed in
+    let d0 : Event = record { worker = 0; call = Allocate 0 } in
+    let e : Event = get_or c.args.events.now i d0 in
+    let most = worker_waits c.loop-event.workers e.worker c.loop-event.invariant.yard in
+    omega (arith, c.requires.room, c.loop-event.invariant.room)
+
+pub returns-clause-replies : goal.returns-clause-replies
+returns-clause-replies c =
+    let w = world_of c.args.workers.now in
+    let t = take_all c.loop-event.event-index c.args.events.now (omega arith) in
+    let e = c.loop-event.invariant.replayed ∙ (ap (fold after (begun w)) t ∙ sym (replies_is w c.args.events.now)) in
+    (ap (λ r. r.entries) e, ap (λ r. r.world) e)
+
+pub run_event-requires-clause-yard : goal.run_event-requires-clause-yard
+run_event-requires-clause-yard c = c.loop-event.invariant.yard
+
+pub loop-event-preserved : goal.loop-event-preserved
+loop-event-preserved c =
+    let w = world_of c.args.workers.now in
+    let n = c.loop-event.event-index in
+    let i = c.loop-event.invariant in
+    let e = c.run_event.ensures in
+    let d0 : Event = record { worker = 0; call = Allocate 0 } in
+    let event : Event = get_or c.args.events.now n d0 in
+    let a = fold_more after (begun w) c.args.events.now n d0 (omega arith) in
+    record {
+      yard = e.yard;
+      count = omega (arith, i.count);
+      made = omega (arith, e.made, i.made);
+      made_room = omega (arith, e.capacity.0, i.made_room);
+      room = omega (arith, e.capacity.1, i.room);
+      replayed = e.after ∙ (ap (λ r. after r event) i.replayed ∙ sym a);
+    }
+
+pub loop-event-init : goal.loop-event-init
+loop-event-init c = record {
+  yard = c.requires.yard;
+  count = refl;
+  made = c.in_ok-made.ensures.len;
+  made_room = omega (arith, c.in_ok-made.ensures.capacity);
+  room = c.in_ok-with_capacity.ensures.capacity;
+  replayed = rw (c.in_ok-made.ensures.items, c.in_ok-with_capacity.ensures.items) refl;
+}
+
+pub returns-clause-yard : goal.returns-clause-yard
+returns-clause-yard c = c.loop-event.invariant.yard

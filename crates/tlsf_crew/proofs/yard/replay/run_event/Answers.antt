@@ -1,0 +1,34 @@
+use Rattle.std.proofs.Common.{◌≤◌, sym, length, arith}
+use Rattle.tlsf_crew.specs.yard.ReplaySteps.{replay_of}
+use Rattle.tlsf_crew.proofs.lemmas.yard.OneEvent.{heaps_count}
+use Rattle.tlsf_crew.proofs.lemmas.yard.EventSteps.{after_far, single_room, replied_room}
+use Rattle.tlsf_crew.proofs.yard.replay.run_event.Goals as goal
+
+pub answer-requires-clause-room : goal.answer-requires-clause-room
+answer-requires-clause-room c =
+    let n = heaps_count c.args.workers.now in
+    let r = replay_of c.args.made.now.items c.args.journal.now.entries.items c.args.workers.now in
+    let le : length r.world.heaps ≤ c.args.event.worker = omega arith in
+    let k = single_room r _ _ _ _ _ (after_far r c.args.event le) c.requires.room in
+    omega arith
+
+pub returns-then-event-workers-clause-after : goal.returns-then-event-workers-clause-after
+returns-then-event-workers-clause-after c =
+    let n = heaps_count c.args.workers.now in
+    let r = replay_of c.args.made.now.items c.args.journal.now.entries.items c.args.workers.now in
+    let le : length r.world.heaps ≤ c.args.event.worker = omega arith in
+    rw (c.answer.ensures.made, c.answer.ensures.entries) (sym (after_far r c.args.event le))
+
+pub answer-requires-2-clause-room : goal.answer-requires-2-clause-room
+answer-requires-2-clause-room c =
+    let told = rw c.deref.ensures.value at c.reply_in_yard-reply.ensures.replied in
+    let k = replied_room _ _ _ _ _ _ told c.requires.room in
+    omega (arith, c.reply_in_yard-reply.ensures.capacity)
+
+pub returns-clause-yard : goal.returns-clause-yard
+returns-clause-yard c = c.reply_in_yard-reply.ensures.replied.yard
+
+pub returns-clause-after : goal.returns-clause-after
+returns-clause-after c =
+    let told = rw c.deref.ensures.value at c.reply_in_yard-reply.ensures.replied in
+    rw (c.answer-2.ensures.made, c.answer-2.ensures.entries) (sym told.after)

@@ -1,0 +1,12 @@
+use Rattle.std.proofs.Common.{◌≡◌}
+use Rattle.tlsf_crew.specs.yard.Yard.{IsYard}
+use Rattle.tlsf_crew.specs.yard.World.{world_of}
+use Rattle.tlsf_crew.specs.yard.LaneSteps.{RowMet}
+use Rattle.tlsf_crew.proofs.yard.settle.settle_row.Given as goal
+
+abbrev pub invariant-loop-j : goal.invariant-loop-j
+invariant-loop-j l = record {
+  met : RowMet l.fn.workers l.workers l.i l.j;
+  yard : IsYard l.workers;
+  world : world_of l.workers ≡ world_of l.fn.workers;
+}

@@ -1,0 +1,100 @@
+//! The jobs of a race, each in a thread of its own.
+ghost use Rattle.std.specs.Prelude.{◌≡◌, ◌≤◌, [], map, vec_len, vec_capacity, IfOk, OnOk, All};
+ghost use Rattle.tlsf_crew.specs.threads.Parts.{AllDone};
+
+use crate::threads::done::Done;
+use crate::threads::gate::Gate;
+use crate::threads::outcome::Outcome;
+use crate::threads::work::Work;
+use crate::threads::work_promise::WorkPromise;
+use std::alloc::AllocError;
+use std::marker::{Send, Sync};
+use std::snapshot::Snapshot;
+use std::sync::Wait;
+use std::thread;
+use std::thread::{Scope, Threads};
+
+/// Does each job in a thread of its own: the last one's starts first, and is joined last.
+fn fan_out<'s, E, R: Threads, W: Work + Send + Drop + 's, G: Gate + Sync>(
+    rt: &R,
+    scope: &Scope<'s, E>,
+    mut jobs: Vec<W>,
+    gate: &'s G,
+    done: &mut Vec<W::Done>,
+) -> Result<(), AllocError>
+where
+    W::Done: Send + Drop,
+    requires ready { All W.is_ready jobs.items }
+    requires room { (done.old.items ≡ []) × (vec_len jobs ≤ vec_capacity done.old) }
+    ensures done { OnOk result (AllDone W.is_done jobs.items done.new.items) }
+    ensures len { OnOk result (vec_len done.new ≡ vec_len jobs) }
+    ensures capacity { vec_capacity done.new ≡ vec_capacity done.old }
+{
+    let Some(job) = jobs.pop() else {
+        return Ok(());
+    };
+    let promise = WorkPromise {
+        work: Snapshot::of(&job),
+    };
+    let child = scope.spawn_with(
+        promise,
+        move || -> W::Done
+            requires { W.is_ready job }
+            ensures { W.is_done job result }
+        { job.run(gate) },
+    )?;
+    fan_out(rt, scope, jobs, gate, done)?;
+    done.push_reserved(child.join(rt));
+    Ok(())
+}
+
+/// Does each job in a thread of its own, and waits for all.
+pub(crate) fn run_all<R: Threads + Wait + Sync, W: Work + Send + Drop, G: Gate + Sync>(
+    rt: &R,
+    jobs: Vec<W>,
+    gate: &G,
+    done: Vec<W::Done>,
+) -> Result<Vec<W::Done>, AllocError>
+where
+    W::Done: Send + Drop,
+    requires ready { All W.is_ready jobs.items }
+    requires room { (done.items ≡ []) × (vec_len jobs ≤ vec_capacity done) }
+    ensures done { IfOk result (λ d. AllDone W.is_done jobs.items d.items) }
+    ensures len { IfOk result (λ d. vec_len d ≡ vec_len jobs) }
+{
+    thread::scope(
+        thread::scope_env(),
+        rt,
+        move |scope| -> Result<Vec<W::Done>, AllocError>
+            requires { All W.is_ready jobs.items × (done.items ≡ []) × (vec_len jobs ≤ vec_capacity done) }
+            ensures { IfOk result (λ d. AllDone W.is_done jobs.items d.items × (vec_len d ≡ vec_len jobs)) }
+        {
+            let mut all = done;
+            fan_out(rt, scope, jobs, gate, &mut all)?;
+            Ok(all)
+        },
+    )
+}
+
+/// Takes apart what was done.
+pub(crate) fn take_apart(mut done: Vec<Done>, out: &mut Outcome)
+    requires empty { (out.old.workers.items ≡ []) × (out.old.records.items ≡ []) }
+    requires room { (vec_len done ≤ vec_capacity out.old.workers) × (vec_len done ≤ vec_capacity out.old.records) }
+    ensures parts { (out.new.workers.items ≡ map (λ d. d.worker) done.items) × (out.new.records.items ≡ map (λ d. d.entries) done.items) }
+    ensures len { (vec_len out.new.workers ≡ vec_len done) × (vec_len out.new.records ≡ vec_len done) }
+    ensures capacity { (vec_capacity out.new.workers ≡ vec_capacity out.old.workers) × (vec_capacity out.new.records ≡ vec_capacity out.old.records) }
+{
+    let Some(
+        Done {
+            worker,
+            made: _,
+            entries,
+        },
+    ) = done.pop()
+    else {
+        return;
+    };
+    take_apart(done, out);
+    out.workers.push_reserved(worker);
+    out.records.push_reserved(entries);
+}
