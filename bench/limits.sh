@@ -1,8 +1,10 @@
 #!/bin/sh
-# Times `tlsf replay` on a trace at the limits of the format: 2^20 bytes and 32,768 lines, eight workers. Run by hand: the
-# gate doesn't. Each figure is a ratio in one run, of the best of nine:
+# Measures `tlsf replay` on a trace at the limits of the format: 2^20 bytes and 32,768 lines, eight workers. Run by hand: the
+# gate doesn't. Each figure is a ratio in one run; instructions are counted by valgrind's callgrind or, where that isn't
+# there, by `perf stat`, and times are the best of nine:
 #
-# - to `sha256sum` on the same file;
+# - instructions, page faults and peak memory, to `sha256sum` on the same file;
+# - time to `sha256sum` on the same file;
 # - to the trace's first half, which shows growth;
 # - and, for regions of 2^20 words, what opening the yard alone costs.
 set -eu
@@ -66,6 +68,39 @@ least() {
     echo "$least"
 }
 
+# The instructions of one run of a command, in user mode; its input is the file. Nothing where nothing can count them.
+instructions() {
+    file=$1
+    shift
+    case $counter in
+    valgrind)
+        valgrind --tool=callgrind --callgrind-out-file=/dev/null "$@" < "$file" 2>&1 > "$work/out" |
+            awk '/Collected/ { print $4 }'
+        ;;
+    perf)
+        perf stat -x ' ' -e instructions:u -o "$work/count" "$@" < "$file" > "$work/out"
+        awk '/instructions/ { print $1 }' "$work/count"
+        ;;
+    esac
+}
+
+# The page faults of one run of a command that need no disk, and its peak memory in KiB; its input is the file. Python counts
+# its own child's start too, so it serves only where GNU time isn't there.
+memory() {
+    file=$1
+    shift
+    if [ -x /usr/bin/time ]; then
+        /usr/bin/time -o "$work/count" -f '%R %M' "$@" < "$file" > "$work/out"
+        cat "$work/count"
+    else
+        python3 -c '
+import resource, subprocess, sys
+subprocess.run(sys.argv[1:], stdout=subprocess.DEVNULL, check=True)
+usage = resource.getrusage(resource.RUSAGE_CHILDREN)
+print(usage.ru_minflt, usage.ru_maxrss)' "$@" < "$file"
+    fi
+}
+
 ratio() {
     awk -v a="$1" -v b="$2" 'BEGIN { printf "%.2f", a / b }'
 }
@@ -75,6 +110,29 @@ program=$top/crates/tlsf_tool/out/tlsf_tool
 generate 65536 > "$work/trace"
 head -n 16384 "$work/trace" > "$work/half"
 echo "the trace has $(wc -c < "$work/trace") bytes and $(wc -l < "$work/trace") lines"
+
+if command -v valgrind > /dev/null; then
+    counter=valgrind
+elif perf stat -e instructions:u true > /dev/null 2>&1; then
+    counter=perf
+else
+    counter=none
+fi
+if [ "$counter" = none ]; then
+    echo "instructions: neither valgrind nor perf counts them here"
+else
+    replayed=$(instructions "$work/trace" "$program" replay)
+    digested=$(instructions "$work/trace" sha256sum)
+    echo "instructions, by $counter: replay $replayed, sha256sum $digested: $(ratio "$replayed" "$digested") (the aim is 1.0)"
+fi
+read -r faults peak <<EOF
+$(memory "$work/trace" "$program" replay)
+EOF
+read -r digest_faults digest_peak <<EOF
+$(memory "$work/trace" sha256sum)
+EOF
+echo "page faults: replay $faults, sha256sum $digest_faults: $(ratio "$faults" "$digest_faults")"
+echo "peak memory: replay $peak KiB, sha256sum $digest_peak KiB: $(ratio "$peak" "$digest_peak")"
 
 whole=$(least "$work/trace" "$program" replay)
 half=$(least "$work/half" "$program" replay)

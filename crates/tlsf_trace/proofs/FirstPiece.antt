@@ -1,5 +1,7 @@
 -- A text begins with its first piece.
 use Rattle.std.proofs.Common.{◌≡◌, ℕ, zero, suc, ◌+◌, ◌<◌, false, eqb, List, [], ◌∷◌, length, get_or, take, drop, refl, arith, add-one}
+use Rattle.std.proofs.lemmas.Bool.{false_from_ne_true}
+use Rattle.memchr.specs.Find.{Nowhere, Passes, is_byte}
 use Rattle.tlsf_trace.specs.Pieces.{pieces_of}
 
 -- no line feed among the first n
@@ -31,3 +33,7 @@ cut_at text n free lt at = rw add-one (first_piece text n free lt at)
 pub not_cut : (text : List ℕ) → 0 < length text → NoFeeds text (length text) → pieces_of text ≡ text ∷ []
 not_cut [] some free = absurd (omega arith)
 not_cut (x ∷ xs) some free = only_piece x xs free
+
+-- no line feed was found below place n
+pub free_before : (text : List ℕ) (n : ℕ) → Nowhere (Passes (is_byte 10) text) 0 n → NoFeeds text n
+free_before text n none k below = false_from_ne_true (eqb (get_or text k 0) 10) (none k (omega arith) below)

@@ -1,10 +1,6 @@
 -- A step of the loop over lines.
 use Rattle.std.proofs.Common.{◌≡◌, ℕ, ◌+◌, List, [], ◌∷◌, ◌++◌, length, Result, Ok, Err, refl, sym, ap, ◌∙◌, append_assoc, append-nil}
 use Rattle.tlsf_trace.specs.declared.line_fault.LineFault.{LineFault}
-use Rattle.tlsf_trace.specs.declared.line_error.LineError.{LineError}
-use Rattle.tlsf_trace.specs.declared.line_error.LineError.TheVariants.{NoMemory, Fault}
-use Rattle.tlsf_trace.specs.Views.{Fails, FailsAt}
-use Rattle.tlsf_trace.specs.LineFaults.{error_at}
 use Rattle.tlsf_trace.specs.declared.line.Line.{Line}
 use Rattle.tlsf_trace.specs.Trace.{◌>>=◌, line_in, lines_in}
 use Rattle.tlsf_trace.specs.Pieces.{pieces_of}
@@ -28,10 +24,9 @@ module _ (workers : ℕ) (before prefix : List Line) (n : ℕ) (rest : List ℕ)
       rw (cut, judged) (regroup prefix line (lines_in workers (line ∷ before) (n + 1) (pieces_of after))) in
       sym one ∙ so_far
 
-  pub ends : (error : LineError) (piece after : List ℕ) → pieces_of rest ≡ piece ∷ pieces_of after → Fails error (line_in workers before piece) → FailsAt (error_at error n) total
+  pub ends : (fault : LineFault) (piece after : List ℕ) → pieces_of rest ≡ piece ∷ pieces_of after → line_in workers before piece ≡ Err fault → total ≡ Err (fault, n)
   unfolding lines_in
-  ends NoMemory piece after cut judged = tt
-  ends (Fault fault) piece after cut judged =
+  ends fault piece after cut judged =
       let one : with_lines prefix (lines_in workers before n (pieces_of rest)) ≡ Err (fault, n) = rw (cut, judged) refl in
       sym so_far ∙ one
 
@@ -41,3 +36,8 @@ module _ (workers : ℕ) (before prefix : List Line) (n : ℕ) (rest : List ℕ)
       let one : with_lines prefix (lines_in workers before n (pieces_of rest)) ≡ Ok prefix =
       rw (nil_from_length rest none) (ap (λ (ls : List Line). Ok ls) (append-nil prefix)) in
       sym so_far ∙ one
+
+-- no line yet
+pub with_none : (said : Result (List Line) (LineFault × ℕ)) → with_lines [] said ≡ said
+with_none (Ok lines) = refl
+with_none (Err fault) = refl

@@ -62,9 +62,9 @@ cut_short Puts left left' held holds text whole limits trace spelled output puts
 
 -- the text was read and its trace's output was written, or a write failed
 pub finished : (Puts : Outputs) (left left' held holds : Option (List ℕ)) (text : List ℕ) → IfSome left (λ l. text ≡ l) → IsAtEnd left' → IsWithinLimits text
-    → (trace : Trace) → trace_of text ≡ Ok trace → (output : List ℕ) → Puts trace output
-    → (answer : Result Summary TraceFault) → Finishes answer trace output held holds → IsRun Puts answer left left' held holds
-finished Puts left left' held holds text whole end limits trace spelled output puts (Ok summary) done =
-    written Puts left left' held holds text whole end limits trace spelled output puts summary done.all done.calls done.bytes
-finished Puts left left' held holds text whole end limits trace spelled output puts (Err fault) failed =
+    → (trace : Trace) → trace_of text ≡ Ok trace → (calls : ℕ) → calls ≡ calls_of trace → (output : List ℕ) → Puts trace output
+    → (answer : Result Summary TraceFault) → Finishes answer calls output held holds → IsRun Puts answer left left' held holds
+finished Puts left left' held holds text whole end limits trace spelled calls are output puts (Ok summary) done =
+    written Puts left left' held holds text whole end limits trace spelled output puts summary done.all (done.calls_are ∙ are) done.bytes
+finished Puts left left' held holds text whole end limits trace spelled calls are output puts (Err fault) failed =
     cut_short Puts left left' held holds text whole limits trace spelled output puts failed.front fault failed.fault_is

@@ -3,10 +3,8 @@ use Rattle.std.specs.Prelude.{ℕ, ◌-◌, Bool, ◌&&◌, ◌||◌, not, nat_l
 use Rattle.std.specs.List.{slice_split}
 use Rattle.std.specs.Str.{all_ascii_digits}
 use Rattle.std.specs.Str.Parse.{digits_value}
-use Rattle.tlsf_trace.specs.declared.kind.Kind.{Kind}
-use Rattle.tlsf_trace.specs.declared.kind.Kind.TheVariants.{Worker, Label, Length, Offset, Hex, Count, Most}
-use Rattle.tlsf_trace.specs.declared.value.Value.{Value}
-use Rattle.tlsf_trace.specs.declared.value.Value.TheVariants.{Number, BadNumber, Bytes}
+use Rattle.tlsf_trace.specs.Values.{Kind, Worker, Label, Length, Offset, Hex, Count, Most}
+use Rattle.tlsf_trace.specs.Values.{Value, Number, BadNumber, Bytes}
 use Rattle.tlsf_trace.specs.Payloads.{chunk_in}
 
 -- the fields of a piece that has its line feed: what stands between spaces

@@ -2,8 +2,7 @@
 use Rattle.std.specs.Prelude.{ℕ, ◌&&◌, ◌==◌, if◌then◌else◌, List, codes, length, Option, Some, None}
 use Rattle.std.specs.Str.{bytes_eq}
 use Rattle.tlsf_trace.specs.declared.header.Header.{Header}
-use Rattle.tlsf_trace.specs.declared.value.Value.{Value}
-use Rattle.tlsf_trace.specs.declared.value.Value.TheVariants.{Number, BadNumber, Bytes}
+use Rattle.tlsf_trace.specs.Values.{Value, Number, BadNumber, Bytes}
 use Rattle.tlsf_trace.specs.Fields.{◌>>=◌, digits_in, field, fields_in}
 
 -- the number that a value is, if it is one

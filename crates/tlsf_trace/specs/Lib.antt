@@ -1,5 +1,6 @@
 -- What the clauses of public functions cite: a text, its lines, its trace, and what is asked and written.
 pub mod Payloads
+pub mod Values
 pub mod Fields
 pub mod Lines
 pub mod Labels
@@ -22,6 +23,7 @@ pub mod Laws
 -- What the clauses of private functions cite besides.
 pub mod Ranges
 pub mod Views
+pub mod CutFields
 pub mod LabelMemory
 pub mod ScriptSoFar
 pub mod OwnMakers

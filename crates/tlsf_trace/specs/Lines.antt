@@ -1,14 +1,12 @@
 -- The lines of a trace behind its header: the table of words, and what the fields of a line say.
 use Rattle.std.specs.Prelude.{ℕ, Bool, true, false, if◌then◌else◌, List, [], ◌∷◌, codes, Option, Some, None}
 use Rattle.std.specs.Str.{bytes_eq}
-use Rattle.tlsf_trace.specs.declared.kind.Kind.{Kind}
-use Rattle.tlsf_trace.specs.declared.kind.Kind.TheVariants.{Worker, Label, Length, Offset, Hex, Count, Most}
+use Rattle.tlsf_trace.specs.Values.{Kind, Worker, Label, Length, Offset, Hex, Count, Most}
 use Rattle.tlsf_trace.specs.declared.line.Line.{Line}
 use Rattle.tlsf_trace.specs.declared.line.Line.TheVariants.{Allocate, Release, Write, Read, Drain, Phase}
 use Rattle.tlsf_trace.specs.declared.word.Word.{Word}
 use Rattle.tlsf_trace.specs.declared.word.Word.TheVariants as word
-use Rattle.tlsf_trace.specs.declared.value.Value.{Value}
-use Rattle.tlsf_trace.specs.declared.value.Value.TheVariants.{Number, Bytes}
+use Rattle.tlsf_trace.specs.Values.{Value, Number, Bytes}
 
 -- each word, behind the first field that spells it
 abbrev pub words : List (List ℕ × Word)

@@ -1,27 +1,18 @@
 -- A trace as the definitions see it, and what a function gives beside what a definition says.
-use Rattle.std.specs.Prelude.{ℕ, ◌≡◌, Result, Ok, Err}
+use Rattle.std.specs.Prelude.{ℕ, ◌≡◌, ◌+◌, ◌<◌, List, [], length, Result, Ok, Err}
 use Rattle.tlsf_trace.specs.declared.trace.Trace.{Trace as Held}
 use Rattle.tlsf_trace.specs.declared.line_fault.LineFault.{LineFault}
-use Rattle.tlsf_trace.specs.declared.line_error.LineError.{LineError}
-use Rattle.tlsf_trace.specs.declared.line_error.LineError.TheVariants.{NoMemory, Fault}
 use Rattle.tlsf_trace.specs.declared.parse_error.ParseError.{ParseError}
 use Rattle.tlsf_trace.specs.declared.parse_error.ParseError.TheVariants as whole
-use Rattle.tlsf_trace.specs.Trace.{Trace}
+use Rattle.tlsf_trace.specs.Ranges.{IsHeaderInRange}
+use Rattle.tlsf_trace.specs.Pieces.{pieces_of}
+use Rattle.tlsf_trace.specs.Trace.{◌>>=◌, Trace, lines_in, trace_of}
+use Rattle.tlsf_trace.specs.declared.header.Header.{Header}
 
 abbrev pub view_trace : Held → Trace
 view_trace trace = record { header = trace.header; lines = trace.lines.items }
 
--- the definition says this fault too; of a want of memory it says nothing
-abbrev pub Fails : {X : Type 0} → LineError → Result X LineFault → Type 0
-Fails NoMemory said = Unit {0}
-Fails (Fault fault) said = said ≡ Err fault
-
--- what a function gave is what the definition says, unless memory ran out
-abbrev pub Gives : {X : Type 0} → Result X LineError → Result X LineFault → Type 0
-Gives (Ok given) said = said ≡ Ok given
-Gives (Err error) said = Fails error said
-
--- the same of a fault at a line
+-- the definition says this fault at this line too; of a want of memory it says nothing
 abbrev pub FailsAt : {Y : Type 0} → ParseError → Result Y (LineFault × ℕ) → Type 0
 FailsAt whole.NoMemory said = Unit {0}
 FailsAt (whole.At fault n) said = said ≡ Err (fault, n)
@@ -30,3 +21,10 @@ FailsAt (whole.At fault n) said = said ≡ Err (fault, n)
 abbrev pub GivesAt : {X Y : Type 0} → (X → Y) → Result X ParseError → Result Y (LineFault × ℕ) → Type 0
 GivesAt view (Ok given) said = said ≡ Ok (view given)
 GivesAt view (Err error) said = FailsAt error said
+
+-- a text begins with this header, and this is what stands behind that line
+pub record Heads (text : List ℕ) (header : Header) (rest : List ℕ) : Type 0 where
+  pub trace : trace_of text ≡ (lines_in header.workers [] 2 (pieces_of rest) >>= λ lines. Ok (record { header = header; lines = lines }))
+  pub range : IsHeaderInRange header
+  pub count : length (pieces_of text) ≡ length (pieces_of rest) + 1
+  pub shorter : length rest < length text

@@ -1,11 +1,10 @@
-ghost use Rattle.std.specs.Prelude.{◌≡◌, ◌≤◌, IfOk, IfSome};
+ghost use Rattle.std.specs.Prelude.{◌≡◌, ◌≢◌, ◌≤◌, ◌∷◌, [], IfSome, MatchOption, length};
+ghost use Rattle.tlsf_trace.specs.CutFields.{fields_of};
 ghost use Rattle.tlsf_trace.specs.Header as spelled;
 ghost use Rattle.tlsf_trace.specs.Ranges.{IsHeaderInRange};
 
-use crate::fields::fields_in;
+use crate::fields::{cut_field, line_of};
 use crate::numbers::digits_in;
-use crate::value::Value;
-use std::alloc::{AllocError, Global};
 use tlsf_heap::MOST_WORDS;
 
 /// The most workers that a header may name.
@@ -33,10 +32,7 @@ fn number_in(field: &[u8], least: u32, most: u32) -> Option<u32>
     ensures number { result ≡ spelled.number_in (least, most) field.now }
     ensures range { IfSome result (λ n. (least ≤ n) × (n ≤ most)) }
 {
-    match digits_in(field, least, most)? {
-        Value::Number(number) => Some(number),
-        Value::BadNumber | Value::Bytes(_) => None,
-    }
+    digits_in(field, least, most)?
 }
 
 #[tactic(auto, unfolding(crate::specs::Header::header_from))]
@@ -54,17 +50,32 @@ fn header_from(workers: &[u8], words: &[u8], capacity: &[u8]) -> Option<Header>
     })
 }
 
+/// The fields of a line that has five.
+#[tactic(auto, using(crate::proofs::CutSteps::fields_count))]
+fn five_fields(line: &[u8]) -> Option<(&[u8], &[u8], &[u8], &[u8], &[u8])>
+    ensures { MatchOption result (length (fields_of line.now) ≢ 5)
+        (λ five. fields_of line.now ≡ five.0.now ∷ five.1.now ∷ five.2.now ∷ five.3.now ∷ five.4.now ∷ []) }
+{
+    let (first, rest) = cut_field(line);
+    let (second, rest) = cut_field(rest?);
+    let (third, rest) = cut_field(rest?);
+    let (fourth, rest) = cut_field(rest?);
+    let (fifth, rest) = cut_field(rest?);
+    match rest {
+        None => Some((first, second, third, fourth, fifth)),
+        Some(_) => None,
+    }
+}
+
 /// The header that a piece says, or `None` where it says none.
 #[tactic(auto, unfolding(crate::specs::Header::header_in))]
-pub fn header_in(alloc: Global, piece: &[u8]) -> Result<Option<Header>, AllocError>
-    ensures header { IfOk result (λ found. found ≡ spelled.header_in piece.now) }
-    ensures ranges { IfOk result (λ found. IfSome found IsHeaderInRange) }
+pub fn header_in(piece: &[u8]) -> Option<Header>
+    ensures header { result ≡ spelled.header_in piece.now }
+    ensures ranges { IfSome result IsHeaderInRange }
 {
-    let Some(fields) = fields_in(alloc, piece)? else {
-        return Ok(None);
-    };
-    if fields.len() != 5 || fields[0] != b"tlsf".as_slice() || fields[1] != b"1".as_slice() {
-        return Ok(None);
+    let (name, version, workers, words, capacity) = five_fields(line_of(piece)?)?;
+    if name != b"tlsf".as_slice() || version != b"1".as_slice() {
+        return None;
     }
-    Ok(header_from(fields[2], fields[3], fields[4]))
+    header_from(workers, words, capacity)
 }

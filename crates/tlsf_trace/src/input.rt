@@ -1,4 +1,4 @@
-ghost use Rattle.std.specs.Prelude.{◌≡◌, ◌+◌, ◌==◌, ◌<◌, length, IfErr, IfOk, OnOk, IfSome, count_by};
+ghost use Rattle.std.specs.Prelude.{◌≡◌, ◌+◌, ◌==◌, ◌<◌, ◌≤◌, length, IfErr, IfOk, OnOk, IfSome, count_by};
 ghost use Rattle.std.specs.Io.KnownBytes.{Consumes, IsAtEnd};
 ghost use Rattle.tlsf_trace.specs.Limits.{IsWithinLimits, IsTooLong};
 ghost use Rattle.tlsf_trace.specs.OpenLines.{open_count};
@@ -16,10 +16,16 @@ pub const MOST_BYTES: usize = 1_048_576;
 /// How many lines an input may have. What stands behind the last line feed counts as a line.
 pub const MOST_LINES: usize = 32_768;
 
+// Counts line feeds. Sums of 16 bits let the compiler test eight bytes at once.
 fn count_line_feeds(bytes: &[u8]) -> usize
+    requires { length bytes.now ≤ 4096 }
     ensures { result ≡ count_by (λ b. b == 10) bytes.now }
 {
-    bytes.iter().filter(|b| **b == b'\n').count()
+    let mut count = 0u16;
+    for byte in bytes {
+        count += u16::from(*byte == b'\n');
+    }
+    usize::from(count)
 }
 
 // How many lines are open behind the last line feed: one where the last byte is no line feed.

@@ -1,18 +1,14 @@
-ghost use Rattle.std.specs.Prelude.{◌≡◌, ◌<◌, IfOk, IfSome, List, map, length};
+ghost use Rattle.std.specs.Prelude.{◌≡◌, ◌<◌, List};
 ghost use Rattle.tlsf_trace.specs.LabelMemory.{Remembers};
 ghost use Rattle.tlsf_trace.specs.Lines;
 ghost use Rattle.tlsf_trace.specs.Trace as spelled;
-ghost use Rattle.tlsf_trace.specs.Views.{Gives};
 ghost use Rattle.tlsf_trace.specs.declared.line.Line.{Line as ALine};
 
-use crate::fields::fields_in;
+use crate::fields::{cut_field, line_of};
 use crate::labels::Labels;
-use crate::line_error::LineError;
 use crate::line_fault::LineFault;
-use crate::value::Value::{Bytes, Number};
-use crate::value::{Value, values_in};
-use crate::word::{Word, kinds_of, word_of};
-use std::alloc::Global;
+use crate::reading::line_of_word;
+use crate::word::word_of;
 use tlsf_crew::Chunk;
 
 /// A line of a trace behind its header: one call that a worker makes, or the end of a phase.
@@ -100,66 +96,28 @@ impl Line {
     }
 }
 
-/// The line that a word and the values behind it say; `None` where a number is bad, and where the
-/// values are not of the word's kinds.
-#[tactic(auto, unfolding(crate::specs::Lines::line_from))]
-fn line_from(word: Word, values: &[Value]) -> Option<Line>
-    ensures { result ≡ Lines.line_from word values.now }
-{
-    match (word, values) {
-        (Word::Allocate, &[Number(worker), Number(label), Number(len)]) => {
-            Some(Line::Allocate { worker, label, len })
-        }
-        (Word::Release, &[Number(worker), Number(label)]) => Some(Line::Release { worker, label }),
-        (Word::Write, &[Number(worker), Number(label), Number(at), Bytes(bytes)]) => {
-            Some(Line::Write {
-                worker,
-                label,
-                at,
-                bytes,
-            })
-        }
-        (Word::Read, &[Number(worker), Number(label), Number(at), Number(n)]) => Some(Line::Read {
-            worker,
-            label,
-            at,
-            n,
-        }),
-        (Word::Drain, &[Number(worker), Number(most)]) => Some(Line::Drain { worker, most }),
-        (Word::Phase, []) => Some(Line::Phase),
-        _ => None,
-    }
-}
-
 /// The line that a piece says, after the lines that the labels remember.
 #[tactic(auto, unfolding(crate::specs::Trace::line_in))]
-pub fn line_in(
-    alloc: Global,
-    workers: u32,
-    labels: &Labels,
-    piece: &[u8],
-) -> Result<Line, LineError>
+pub fn line_in(workers: u32, labels: &Labels, piece: &[u8]) -> Result<Line, LineFault>
     requires { 0 < workers }
     ensures { (before : List ALine) → Remembers labels.now before
-        → Gives result (spelled.line_in workers before piece.now) }
+        → spelled.line_in workers before piece.now ≡ result }
 {
-    let Some(fields) = fields_in(alloc, piece)? else {
-        return Err(LineError::Fault(LineFault::BadLine));
+    let Some(line) = line_of(piece) else {
+        return Err(LineFault::BadLine);
     };
-    let [first, others @ ..] = fields.as_slice() else {
-        return Err(LineError::Fault(LineFault::BadLine));
-    };
+    let (first, fields) = cut_field(line);
     let Some(word) = word_of(first) else {
-        return Err(LineError::Fault(LineFault::BadLine));
+        return Err(LineFault::BadLine);
     };
-    let Some(values) = values_in(workers, kinds_of(word), others) else {
-        return Err(LineError::Fault(LineFault::BadLine));
+    let Some(said) = line_of_word(workers, word, fields) else {
+        return Err(LineFault::BadLine);
     };
-    let Some(line) = line_from(word, &values) else {
-        return Err(LineError::Fault(LineFault::BadNumber));
+    let Some(line) = said else {
+        return Err(LineFault::BadNumber);
     };
-    if !labels.is_in_order(line) {
-        return Err(LineError::Fault(LineFault::LabelOrder));
+    if !labels.is_in_order(&line) {
+        return Err(LineFault::LabelOrder);
     }
     Ok(line)
 }

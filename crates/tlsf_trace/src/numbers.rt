@@ -1,15 +1,14 @@
-ghost use Rattle.std.specs.Prelude.{◌≡◌};
+ghost use Rattle.std.specs.Prelude.{◌≡◌, option_map};
+ghost use Rattle.tlsf_trace.specs.CutFields.{value_of};
 ghost use Rattle.tlsf_trace.specs.Fields as spelled;
-
-use crate::value::Value;
 
 /// More than each number that a field may spell: a greater one counts as this.
 const TOO_GREAT: u64 = 4_294_967_296;
 
-/// What a field of digits says, where a number from `least` to `most` is wanted; `None` where it is
-/// empty or has another byte than a digit.
-pub fn digits_in(field: &[u8], least: u32, most: u32) -> Option<Value>
-    ensures { result ≡ spelled.digits_in (least, most) field.now }
+/// The number from `least` to `most` that a field of digits spells, or `None` inside where it has a leading zero or is out
+/// of that range; `None` where the field is empty or has another byte than a digit.
+pub fn digits_in(field: &[u8], least: u32, most: u32) -> Option<Option<u32>>
+    ensures { option_map value_of result ≡ spelled.digits_in (least, most) field.now }
 {
     let mut number = 0u64;
     for digit in field {
@@ -22,10 +21,10 @@ pub fn digits_in(field: &[u8], least: u32, most: u32) -> Option<Value>
         return None;
     }
     if field.len() > 1 && field[0] == b'0' {
-        return Some(Value::BadNumber);
+        return Some(None);
     }
     if number < u64::from(least) || number > u64::from(most) {
-        return Some(Value::BadNumber);
+        return Some(None);
     }
-    Some(Value::Number(number as u32))
+    Some(Some(number as u32))
 }

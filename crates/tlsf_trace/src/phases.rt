@@ -13,8 +13,8 @@ use crate::names::Names;
 use std::alloc::{AllocError, Global};
 use tlsf_crew::{Call, Target};
 
-#[tactic(auto, using(crate::proofs::PhaseCuts::only_phase))]
 /// The lines of the first phase, and those behind the `phase` line that ends it, where there is one.
+#[tactic(auto, using(crate::proofs::PhaseCuts::only_phase))]
 pub fn cut_phase(lines: &[Line]) -> (&[Line], Option<&[Line]>)
     ensures phases { MatchOption result.1 (phases_of lines.now ≡ result.0.now ∷ [])
         (λ rest. phases_of lines.now ≡ result.0.now ∷ phases_of rest.now) }

@@ -1,25 +1,42 @@
 //! The reply lines of entries.
 ghost use Rattle.std.specs.Prelude.{◌≡◌, ◌++◌, codes, OnOk, string_bytes};
+ghost use Rattle.std.specs.Fmt.{decimal};
 ghost use Rattle.hex.specs.Hex.{encode_lower};
 ghost use Rattle.tlsf_crew.specs.yard.Bytes.{bytes_of};
 ghost use Rattle.tlsf_trace.specs.ReplyLines as spelled;
 ghost use Rattle.tlsf_trace.specs.ReplyLines.{answer_part, call_part, label_part, place_part, release_part, reply_line, reply_text};
 
+use itoa::Buffer;
 use std::alloc::AllocError;
 use tlsf_crew::{Call, Chunk, Entry, Reply};
 use tlsf_heap::{Name, Refusal};
+
+// Adds a number in decimal digits. A line has up to five, so each is written without the formatter's machinery.
+#[tactic(auto, using(std::proofs::lemmas::Fmt::decimal_digit))]
+fn write_number(text: &mut String, number: u64) -> Result<(), AllocError>
+    ensures { OnOk result (string_bytes text.new ≡ string_bytes text.old ++ decimal number) }
+{
+    // A worker has one digit, and so have most counts.
+    if number < 10 {
+        return text.push(char::from(b'0' + number as u8));
+    }
+    text.push_str(Buffer::new().format(number))
+}
 
 // Adds the word of a call.
 fn write_call(text: &mut String, call: Call) -> Result<(), AllocError>
     ensures { OnOk result (string_bytes text.new ≡ string_bytes text.old ++ call_part call) }
 {
     match call {
-        Call::Allocate { .. } => write!(text, " a"),
-        Call::Release { .. } => write!(text, " f"),
-        Call::Write { .. } => write!(text, " p"),
-        Call::Read { .. } => write!(text, " g"),
-        Call::Take { from } => write!(text, " take {from}"),
-        Call::Drain { .. } => write!(text, " d"),
+        Call::Allocate { .. } => text.push_str(" a"),
+        Call::Release { .. } => text.push_str(" f"),
+        Call::Write { .. } => text.push_str(" p"),
+        Call::Read { .. } => text.push_str(" g"),
+        Call::Take { from } => {
+            text.push_str(" take ")?;
+            write_number(text, u64::from(from))
+        }
+        Call::Drain { .. } => text.push_str(" d"),
     }
 }
 
@@ -28,7 +45,10 @@ fn write_label(text: &mut String, label: Option<u32>) -> Result<(), AllocError>
     ensures { OnOk result (string_bytes text.new ≡ string_bytes text.old ++ label_part label) }
 {
     match label {
-        Some(label) => write!(text, " {label}"),
+        Some(label) => {
+            text.push_str(" ")?;
+            write_number(text, u64::from(label))
+        }
         None => Ok(()),
     }
 }
@@ -37,9 +57,10 @@ fn write_label(text: &mut String, label: Option<u32>) -> Result<(), AllocError>
 fn write_place(text: &mut String, name: Name) -> Result<(), AllocError>
     ensures { OnOk result (string_bytes text.new ≡ string_bytes text.old ++ place_part name) }
 {
-    let at = name.at;
-    let serial = name.serial;
-    write!(text, " at {at} serial {serial}")
+    text.push_str(" at ")?;
+    write_number(text, u64::from(name.at))?;
+    text.push_str(" serial ")?;
+    write_number(text, name.serial)
 }
 
 // Adds what became of a block whose post was taken.
@@ -47,10 +68,10 @@ fn write_release(text: &mut String, answer: Result<(), Refusal>) -> Result<(), A
     ensures { OnOk result (string_bytes text.new ≡ string_bytes text.old ++ release_part answer) }
 {
     match answer {
-        Ok(()) => write!(text, " freed"),
+        Ok(()) => text.push_str(" freed"),
         Err(refusal) => {
-            let number = refusal.number();
-            write!(text, " refused {number}")
+            text.push_str(" refused ")?;
+            write_number(text, u64::from(refusal.number()))
         }
     }
 }
@@ -68,7 +89,8 @@ fn write_bytes(text: &mut String, bytes: &Chunk) -> Result<(), AllocError>
     let Ok(payload) = str::from_utf8(digits) else {
         unreachable!();
     };
-    write!(text, " got {payload}")
+    text.push_str(" got ")?;
+    text.push_str(payload)
 }
 
 // Adds what a worker was answered.
@@ -77,19 +99,25 @@ fn write_answer(text: &mut String, reply: Reply) -> Result<(), AllocError>
 {
     match reply {
         Reply::Made(name) => write_place(text, name),
-        Reply::Freed => write!(text, " freed"),
-        Reply::Posted => write!(text, " posted"),
-        Reply::Wrote(n) => write!(text, " wrote {n}"),
+        Reply::Freed => text.push_str(" freed"),
+        Reply::Posted => text.push_str(" posted"),
+        Reply::Wrote(n) => {
+            text.push_str(" wrote ")?;
+            write_number(text, u64::from(n))
+        }
         Reply::Got(bytes) => write_bytes(text, &bytes),
         Reply::Took(took) => {
             write_place(text, took.name)?;
             write_release(text, took.answer)
         }
-        Reply::Empty => write!(text, " empty"),
-        Reply::Drained(taken) => write!(text, " drained {taken}"),
+        Reply::Empty => text.push_str(" empty"),
+        Reply::Drained(taken) => {
+            text.push_str(" drained ")?;
+            write_number(text, u64::from(taken))
+        }
         Reply::Refused(refusal) => {
-            let number = refusal.number();
-            write!(text, " refused {number}")
+            text.push_str(" refused ")?;
+            write_number(text, u64::from(refusal.number()))
         }
     }
 }
@@ -98,12 +126,11 @@ fn write_answer(text: &mut String, reply: Reply) -> Result<(), AllocError>
 fn write_line(text: &mut String, entry: &Entry, label: Option<u32>) -> Result<(), AllocError>
     ensures { OnOk result (string_bytes text.new ≡ string_bytes text.old ++ reply_line entry.now label) }
 {
-    let worker = entry.worker;
-    write!(text, "{worker}")?;
+    write_number(text, u64::from(entry.worker))?;
     write_call(text, entry.call)?;
     write_label(text, label)?;
     write_answer(text, entry.reply)?;
-    writeln!(text)
+    text.push('\n')
 }
 
 /// Whether the call is that of a post which a drain took: it has no event, and so no label.

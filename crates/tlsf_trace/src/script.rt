@@ -1,57 +1,96 @@
-ghost use Rattle.std.specs.Prelude.{◌≡◌, ℕ, ◌*◌, ◌+◌, ◌^◌, ◌<◌, ◌≤◌, List, [], ◌∷◌, ◌++◌, replicate, None, vec_len, IfOk, OnOk};
-ghost use Rattle.tlsf_trace.specs.Events.{width_in, last_drains, events_of, labels_of};
-ghost use Rattle.tlsf_trace.specs.ScriptSoFar.{Recalls, Adds};
-ghost use Rattle.tlsf_trace.specs.Views.{view_trace};
+ghost use Rattle.std.specs.Prelude.{◌≡◌, ◌*◌, ◌+◌, ◌^◌, ◌<◌, ◌≤◌, List, [], ◌∷◌, ◌++◌, replicate, None, vec_len, length, IfErr, IfOk, OnOk};
+ghost use Rattle.tlsf_trace.specs.Events.{last_drains};
+ghost use Rattle.tlsf_trace.specs.LabelMemory.{Recalls};
+ghost use Rattle.tlsf_trace.specs.Pieces.{pieces_of};
+ghost use Rattle.tlsf_trace.specs.Ranges.{IsHeaderInRange};
+ghost use Rattle.tlsf_trace.specs.ScriptSoFar.{Adds, HasLines, IsScriptOfText};
+ghost use Rattle.tlsf_trace.specs.Trace as spelled;
+ghost use Rattle.tlsf_trace.specs.Views.{FailsAt};
 ghost use Rattle.tlsf_trace.specs.declared.line.Line.{Line as ALine};
 
-use crate::line::Line;
-use crate::makers::Makers;
-use crate::trace::Trace;
+use crate::header::Header;
+use crate::labels::Labels;
+use crate::line::{Line, line_in};
+use crate::parse_error::ParseError;
+use crate::pieces::cut_piece;
+use crate::trace::cut_header;
 use std::alloc::{AllocError, Global};
 use tlsf_crew::{Call, Event, MOST_DRAINED};
 
-/// The events that a trace stands for, and the label of each, where it has one.
+/// What a trace asks for: its header, the events that its lines stand for, and the label of each, where it has one.
 #[derive(Drop)]
 pub struct Script {
+    pub header: Header,
     pub events: Vec<Event>,
     pub labels: Vec<Option<u32>>,
+    /// How many lines are calls of a worker.
+    pub calls: u32,
 }
 
 impl Script {
-    /// The events of a trace.
-    pub fn of(alloc: Global, trace: &Trace) -> Result<Script, AllocError>
-        requires workers { trace.now.header.workers ≤ 8 }
-        requires lines { vec_len trace.now.lines ≤ 32768 }
-        ensures events { IfOk result (λ script. script.events.items ≡ events_of (view_trace trace.now)) }
-        ensures labels { IfOk result (λ script. script.labels.items ≡ labels_of (view_trace trace.now)) }
+    /// The script of the trace that a text spells, or the text's first fault. Each line becomes its events as soon as it
+    /// is judged, so no list of lines is held.
+    pub fn of(alloc: Global, text: &[u8]) -> Result<Script, ParseError>
+        requires { length text.now ≤ 2 ^ 20 }
+        ensures ok { IfOk result (λ script. IsScriptOfText text.now script) }
+        ensures header { IfOk result (λ script. IsHeaderInRange script.header) }
+        ensures err { IfErr result (λ error. FailsAt error (spelled.trace_of text.now)) }
     {
-        let workers = trace.header.workers;
+        let (header, rest) = cut_header(text)?;
         let mut script = Script {
+            header,
             events: Vec::new(alloc),
             labels: Vec::new(alloc),
+            calls: 0,
         };
-        let mut makers = Makers::new(alloc);
-        for line in &trace.lines {
-            script.add(&mut makers, workers, *line)?;
-        }
-        script.drain_all(workers)?;
+        script.add_lines(alloc, rest)?;
+        script.drain_all(header.workers)?;
         Ok(script)
     }
 
-    // Adds the events of a line.
-    fn add(&mut self, makers: &mut Makers, workers: u32, line: Line) -> Result<(), AllocError>
-        requires { vec_len self.old.events < 2 ^ 32 }
-        ensures { (before : List ALine) → Recalls workers makers.old before
-            → vec_len self.old.events ≡ width_in workers before
-            → OnOk result (Adds workers before line self.old self.new × Recalls workers makers.new (line ∷ before)) }
+    // Adds the events of the lines behind the header, or answers the first that is none.
+    fn add_lines(&mut self, alloc: Global, text: &[u8]) -> Result<(), ParseError>
+        requires workers { (1 ≤ self.old.header.workers) × (self.old.header.workers ≤ 8) }
+        requires short { length text.now ≤ 2 ^ 20 }
+        requires new { (self.old.events.items ≡ []) × (self.old.labels.items ≡ []) × (self.old.calls ≡ 0) }
+        ensures ok { OnOk result (HasLines self.old.header.workers text.now self.new) }
+        ensures header { OnOk result (self.new.header ≡ self.old.header) }
+        ensures err { IfErr result (λ error. FailsAt error (spelled.lines_in self.old.header.workers [] 2 (pieces_of text.now))) }
     {
-        match line {
+        let workers = self.header.workers;
+        let mut labels = Labels::new(alloc);
+        let mut rest = text;
+        let mut number = 2;
+        while !rest.is_empty() {
+            let (piece, after) = cut_piece(rest);
+            let line = match line_in(workers, &labels, piece) {
+                Ok(line) => line,
+                Err(fault) => return Err(ParseError::At(fault, number)),
+            };
+            let events = self.events.len() as u32;
+            self.add(workers, &labels, &line)?;
+            labels.remember(&line, events)?;
+            number += 1;
+            rest = after;
+        }
+        Ok(())
+    }
+
+    // Adds the events of a line, behind the lines that the labels remember.
+    fn add(&mut self, workers: u32, labels: &Labels, line: &Line) -> Result<(), AllocError>
+        requires { self.old.calls + 1 < 2 ^ 32 }
+        ensures { (before : List ALine) → Recalls workers labels.now before
+            → OnOk result (Adds workers before line.now self.old self.new) }
+    {
+        if line.is_call() {
+            self.calls += 1;
+        }
+        match *line {
             Line::Allocate { worker, label, len } => {
-                makers.insert(label, self.events.len() as u32)?;
                 self.push(worker, Call::Allocate { len }, Some(label))
             }
             Line::Release { worker, label } => {
-                let target = makers.target(label);
+                let target = labels.target(label);
                 self.push(worker, Call::Release { target }, Some(label))
             }
             Line::Write {
@@ -60,7 +99,7 @@ impl Script {
                 at,
                 bytes,
             } => {
-                let target = makers.target(label);
+                let target = labels.target(label);
                 self.push(worker, Call::Write { target, at, bytes }, Some(label))
             }
             Line::Read {
@@ -69,7 +108,7 @@ impl Script {
                 at,
                 n,
             } => {
-                let target = makers.target(label);
+                let target = labels.target(label);
                 self.push(worker, Call::Read { target, at, n }, Some(label))
             }
             Line::Drain { worker, most } => self.push(worker, Call::Drain { most }, None),
@@ -81,6 +120,7 @@ impl Script {
     fn drain_all(&mut self, workers: u32) -> Result<(), AllocError>
         ensures events { OnOk result (self.new.events.items ≡ self.old.events.items ++ last_drains workers) }
         ensures labels { OnOk result (self.new.labels.items ≡ self.old.labels.items ++ replicate workers None) }
+        ensures same { (self.new.header ≡ self.old.header) × (self.new.calls ≡ self.old.calls) }
     {
         for worker in 0..workers {
             self.push(worker, Call::Drain { most: MOST_DRAINED }, None)?;
@@ -92,6 +132,7 @@ impl Script {
     fn push(&mut self, worker: u32, call: Call, label: Option<u32>) -> Result<(), AllocError>
         ensures events { OnOk result (self.new.events.items ≡ self.old.events.items ++ record { worker = worker; call = call } ∷ []) }
         ensures labels { OnOk result (self.new.labels.items ≡ self.old.labels.items ++ label ∷ []) }
+        ensures same { (self.new.header ≡ self.old.header) × (self.new.calls ≡ self.old.calls) }
     {
         self.events.push(Event { worker, call })?;
         self.labels.push(label)?;

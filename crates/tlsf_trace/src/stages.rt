@@ -3,6 +3,7 @@ ghost use Rattle.tlsf_trace.specs.Limits.{IsWithinLimits};
 ghost use Rattle.tlsf_trace.specs.Ranges.{IsHeaderInRange};
 ghost use Rattle.tlsf_trace.specs.Replay.{IsReplay, IsRaceOfTrace, IsLineFault, fault_of};
 ghost use Rattle.tlsf_trace.specs.Finish.{Finishes};
+ghost use Rattle.tlsf_trace.specs.ScriptSoFar.{IsScriptOfText};
 ghost use Rattle.tlsf_trace.specs.Trace.{trace_of};
 ghost use Rattle.tlsf_trace.specs.TraceFaults.{no_memory_fault};
 ghost use Rattle.tlsf_trace.specs.Views.{view_trace};
@@ -10,6 +11,7 @@ ghost use Rattle.tlsf_trace.specs.Views.{view_trace};
 use crate::input::read_all;
 use crate::output::output;
 use crate::race_output::race_output;
+use crate::script::Script;
 use crate::sink::write_out;
 use crate::summary::Summary;
 use crate::trace::{Trace, parse};
@@ -32,14 +34,23 @@ fn trace_in(alloc: Global, text: &[u8]) -> Result<Trace, TraceFault>
     Ok(parse(alloc, text)?)
 }
 
-// Writes what a trace puts out. The text is whole before its first byte is written.
-fn finish<W: Write>(writer: &mut W, trace: &Trace, output: &str) -> Result<Summary, TraceFault>
-    requires { vec_len trace.now.lines ≤ 32768 }
-    ensures { Finishes result (view_trace trace.now) output.now (W.contents writer.old) (W.contents writer.new) }
+// The script of the trace that a text spells, or its first fault.
+fn script_in(alloc: Global, text: &[u8]) -> Result<Script, TraceFault>
+    requires { IsWithinLimits text.now }
+    ensures ok { IfOk result (λ script. IsScriptOfText text.now script) }
+    ensures header { IfOk result (λ script. IsHeaderInRange script.header) }
+    ensures err { IfErr result (λ fault. (fault ≡ no_memory_fault) ⊎ (IsLineFault fault × (fault_of text.now ≡ Some fault))) }
+{
+    Ok(Script::of(alloc, text)?)
+}
+
+// Writes what so many calls put out. The text is whole before its first byte is written.
+fn finish<W: Write>(writer: &mut W, calls: u32, output: &str) -> Result<Summary, TraceFault>
+    ensures { Finishes result calls output.now (W.contents writer.old) (W.contents writer.new) }
 {
     write_out(writer, output.as_bytes())?;
     Ok(Summary {
-        calls: trace.count_calls() as u32,
+        calls,
         bytes: output.len() as u64,
     })
 }
@@ -69,9 +80,10 @@ pub fn replay<R: Read, W: Write>(
         (W.contents writer.old) (W.contents writer.new) }
 {
     let text = read_all(alloc, reader)?;
-    let trace = trace_in(alloc, &text)?;
-    let output = output(alloc, &trace)?;
-    finish(writer, &trace, &output)
+    let script = script_in(alloc, &text)?;
+    drop(text);
+    let output = output(alloc, &script)?;
+    finish(writer, script.calls, &output)
 }
 
 /// Reads a whole trace, races it on a new yard of workers, and writes the reply lines and the report lines.
@@ -106,5 +118,5 @@ pub fn race_trace<T: Threads + Wait + Sync, R: Read, W: Write, G: Gate>(
     let bytes = read_all(alloc, reader)?;
     let trace = trace_in(alloc, &bytes)?;
     let output = race_output(rt, alloc, &trace, gate)?;
-    finish(writer, &trace, &output)
+    finish(writer, trace.count_calls() as u32, &output)
 }

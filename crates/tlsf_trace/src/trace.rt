@@ -1,8 +1,8 @@
-ghost use Rattle.std.specs.Prelude.{◌≡◌, ◌+◌, ◌<◌, ◌≤◌, ◌^◌, [], length, vec_len, IfOk};
+ghost use Rattle.std.specs.Prelude.{◌≡◌, ◌+◌, ◌<◌, ◌≤◌, ◌^◌, [], length, vec_len, IfErr, IfOk};
 ghost use Rattle.tlsf_trace.specs.Pieces.{pieces_of};
 ghost use Rattle.tlsf_trace.specs.Trace as spelled;
 ghost use Rattle.tlsf_trace.specs.Ranges.{IsHeaderInRange};
-ghost use Rattle.tlsf_trace.specs.Views.{GivesAt, view_trace};
+ghost use Rattle.tlsf_trace.specs.Views.{FailsAt, GivesAt, Heads, view_trace};
 
 use crate::header::{Header, header_in};
 use crate::labels::Labels;
@@ -12,7 +12,7 @@ use crate::parse_error::ParseError;
 use crate::pieces::cut_piece;
 use std::alloc::Global;
 
-/// A trace: what a text asks of a yard of workers, line by line.
+/// A trace that is raced: what a text asks of a yard of workers, line by line.
 #[derive(Drop)]
 pub struct Trace {
     /// What the first line says.
@@ -48,11 +48,12 @@ fn lines_in(alloc: Global, workers: u32, text: &[u8]) -> Result<Vec<Line>, Parse
     let mut number = 2;
     while !rest.is_empty() {
         let (piece, after) = cut_piece(rest);
-        let line = match line_in(alloc, workers, &labels, piece) {
+        let line = match line_in(workers, &labels, piece) {
             Ok(line) => line,
-            Err(error) => return Err(error.at(number)),
+            Err(fault) => return Err(ParseError::At(fault, number)),
         };
-        labels.remember(line)?;
+        // A race numbers the calls of each worker by itself.
+        labels.remember(&line, 0)?;
         lines.push(line)?;
         number += 1;
         rest = after;
@@ -60,21 +61,30 @@ fn lines_in(alloc: Global, workers: u32, text: &[u8]) -> Result<Vec<Line>, Parse
     Ok(lines)
 }
 
-/// The trace that a text spells, or its first fault with the number of the line.
+/// The header that a text begins with, and the text behind its line.
 #[tactic(auto, unfolding(crate::specs::Trace::trace_of))]
+pub fn cut_header(text: &[u8]) -> Result<(Header, &[u8]), ParseError>
+    ensures ok { IfOk result (λ cut. Heads text.now cut.0 cut.1.now) }
+    ensures err { IfErr result (λ error. FailsAt error (spelled.trace_of text.now)) }
+{
+    if text.is_empty() {
+        return Err(ParseError::At(LineFault::BadHeader, 1));
+    }
+    let (first, rest) = cut_piece(text);
+    match header_in(first) {
+        Some(header) => Ok((header, rest)),
+        None => Err(ParseError::At(LineFault::BadHeader, 1)),
+    }
+}
+
+/// The trace that a text spells, or its first fault with the number of the line.
 pub fn parse(alloc: Global, text: &[u8]) -> Result<Trace, ParseError>
     requires { length text.now ≤ 2 ^ 20 }
     ensures trace { GivesAt view_trace result (spelled.trace_of text.now) }
     ensures header { IfOk result (λ trace. IsHeaderInRange trace.header) }
     ensures lines { IfOk result (λ trace. vec_len trace.lines + 1 ≡ length (pieces_of text.now)) }
 {
-    if text.is_empty() {
-        return Err(ParseError::At(LineFault::BadHeader, 1));
-    }
-    let (first, rest) = cut_piece(text);
-    let Some(header) = header_in(alloc, first)? else {
-        return Err(ParseError::At(LineFault::BadHeader, 1));
-    };
+    let (header, rest) = cut_header(text)?;
     let lines = lines_in(alloc, header.workers, rest)?;
     Ok(Trace { header, lines })
 }

@@ -1,7 +1,5 @@
-ghost use Rattle.std.specs.Prelude.{◌≡◌, ◌≤◌, length};
+ghost use Rattle.std.specs.Prelude.{◌≡◌};
 ghost use Rattle.tlsf_trace.specs.Lines;
-
-use crate::kind::Kind;
 
 /// What a line does, as its first field says.
 #[derive(Clone, Copy)]
@@ -38,20 +36,5 @@ pub fn word_of(field: &[u8]) -> Option<Word>
         Some(Word::Phase)
     } else {
         None
-    }
-}
-
-/// The kinds of the fields that follow a word, in their order.
-pub fn kinds_of(word: Word) -> &'static [Kind]
-    ensures kinds { result.now ≡ Lines.kinds_of word }
-    ensures few { length result.now ≤ 4 }
-{
-    match word {
-        Word::Allocate => &[Kind::Worker, Kind::Label, Kind::Length],
-        Word::Release => &[Kind::Worker, Kind::Label],
-        Word::Write => &[Kind::Worker, Kind::Label, Kind::Offset, Kind::Hex],
-        Word::Read => &[Kind::Worker, Kind::Label, Kind::Offset, Kind::Count],
-        Word::Drain => &[Kind::Worker, Kind::Most],
-        Word::Phase => &[],
     }
 }

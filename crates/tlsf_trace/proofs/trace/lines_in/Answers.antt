@@ -6,8 +6,8 @@ use Rattle.tlsf_trace.proofs.trace.lines_in.Goals as goal
 pub returns-in-Err-clause-lines : goal.returns-in-Err-clause-lines
 returns-in-Err-clause-lines c =
     let inv = c.loop-rest.invariant.so_far in
-    rw c.at.ensures (ends c.args.workers inv.0 c.loop-rest.lines.items c.loop-rest.number c.loop-rest.rest.now _ inv.2
-    c.in-Err.error c.cut_piece.result.0.now c.cut_piece.result.1.now c.cut_piece.ensures.pieces (c.in-Err.ensures inv.0 inv.1))
+    ends c.args.workers inv.0 c.loop-rest.lines.items c.loop-rest.number c.loop-rest.rest.now _ inv.2
+    c.in-Err.fault c.cut_piece.result.0.now c.cut_piece.result.1.now c.cut_piece.ensures.pieces (c.in-Err.ensures inv.0 inv.1)
 
 pub loop-rest-preserved : goal.loop-rest-preserved
 loop-rest-preserved c =
