@@ -1,0 +1,35 @@
+-- As many blocks are live as are held.
+use Rattle.std.proofs.Common.{◌≡◌, ℕ, List, [], ◌∷◌, length, refl, ap, ◌∙◌, arith}
+use Rattle.tlsf_heap.specs.Blocks.{Block, Live, Free, HeapState}
+use Rattle.tlsf_heap.specs.Calls.{Call, Allocate, Release, Write, Read, Allocated, Released, Written, answered, opened, run}
+use Rattle.tlsf_heap.specs.Reports.{live_among}
+use Rattle.tlsf_heap.proofs.Outcomes.{by_allocated, by_released, by_written, gives, takes, writes}
+use Rattle.tlsf_laws.specs.Room.{live_count}
+use Rattle.tlsf_laws.specs.Held.{held_after, held_after_all, HoldsWhatIsLive}
+use Rattle.tlsf_laws.proofs.Loads.{load, load_given, load_taken, load_written}
+
+-- one for each live block
+abbrev pub one : ℕ → ℕ
+one n = 1
+
+pub counted : (bs : List Block) → length (live_among bs) ≡ load one bs
+counted [] = refl
+counted (Live m s xs ∷ bs) = let e = counted bs in omega arith
+counted (Free m s ∷ bs) = counted bs
+
+pub held_is : (h : HeapState) (call : Call) → live_count (answered h call).1 ≡ held_after (live_count h) call (answered h call).0
+held_is h (Allocate n) = by_allocated (λ o. live_count o.heap ≡ held_after (live_count h) (Allocate n) (Allocated o.answer)) h n (λ why. refl) (λ s site fit.
+    omega (arith, load_given one h s n site fit, counted h.blocks, counted (gives h n s).heap.blocks))
+held_is h (Release name) = by_released (λ o. live_count o.heap ≡ held_after (live_count h) (Release name) (Released o.answer)) h name (λ why. refl) (λ s own site is.
+    omega (arith, load_taken one h s name.at name.serial site is, counted h.blocks, counted (takes h s).heap.blocks))
+held_is h (Write name at bytes) = by_written (λ o. live_count o.heap ≡ held_after (live_count h) (Write name at bytes) (Written o.answer)) h name at bytes (λ why. refl) (λ s site has.
+    omega (arith, load_written one h s at bytes site has, counted h.blocks, counted (writes h at bytes s).heap.blocks))
+held_is h (Read name at n) = refl
+
+held_through : (h : HeapState) (calls : List Call) → live_count (run h calls).1 ≡ held_after_all (live_count h) calls (run h calls).0
+held_through h [] = refl
+held_through h (call ∷ calls) =
+    held_through (answered h call).1 calls ∙ ap (λ (held : ℕ). held_after_all held calls (run (answered h call).1 calls).0) (held_is h call)
+
+pub holds : HoldsWhatIsLive
+holds id words first calls four = held_through (opened id words first) calls

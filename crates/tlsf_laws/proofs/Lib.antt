@@ -1,0 +1,29 @@
+-- The lemmas of this crate, a line a file.
+--   Around: what a call leaves of a fact about each block, and of the words of a region
+--   Comb: heaps that have one word less, and refuse
+--   FreeRoom: room by counting free blocks, and those too small
+--   Held: as many blocks are live as are held
+--   Hundred: the words of one pool, by computing
+--   Ledgers: a ledger has the length of each live block, under its name
+--   Loads: sums over live blocks, and what the calls make of them
+--   Looks: the bytes under a name, by a look through the blocks
+--   ModestCalls: what each call leaves of the bounds of a pool
+--   Names: whether two names are the same
+--   PlannedCalls: what each call leaves of the bounds of a table of kinds
+--   Snug: no live block has four words that it doesn't want
+--   Spans: names by the sites of their blocks
+--   Tables: how many blocks fit a table of kinds, and the words they take
+pub mod Around
+pub mod Comb
+pub mod FreeRoom
+pub mod Held
+pub mod Hundred
+pub mod Ledgers
+pub mod Loads
+pub mod Looks
+pub mod ModestCalls
+pub mod Names
+pub mod PlannedCalls
+pub mod Snug
+pub mod Spans
+pub mod Tables

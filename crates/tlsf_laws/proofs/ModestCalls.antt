@@ -1,0 +1,133 @@
+-- A pool that never refuses: what each call leaves of its bounds.
+use Rattle.std.proofs.Common.{◌≡◌, ◌≢◌, ℕ, ◌+◌, ◌-◌, ◌*◌, ◌^◌, ◌<◌, ◌≤◌, List, [], ◌∷◌, ◌++◌, length, Option, Some, None, Err, refl, sym, ◌∙◌, subst, inl, inr, arith}
+use Rattle.std.specs.List.{AllByRecursion}
+use Rattle.std.proofs.Math.Nat.{mul-le-mul, mul-le-mul_right}
+use Rattle.std.proofs.lemmas.Bool.{false≢true, cases_lt, ne_eqb}
+use Rattle.tlsf_heap.specs.Blocks.{Block, Live, Free, HeapState, size_of, words_in, want}
+use Rattle.tlsf_heap.specs.GoodFit.{Site, choice}
+use Rattle.tlsf_heap.specs.Lawful.{IsLawful, IsRegion}
+use Rattle.tlsf_heap.specs.Calls.{Outcome, Call, Allocate, Release, Write, Read, Allocated, allocated, allocated_at, refused, carved, before_free, with_bytes, answered, opened, run, is_worn, last_tick}
+use Rattle.tlsf_heap.specs.Reports.{live_among}
+use Rattle.tlsf_heap.specs.declared.name.Name.{Name}
+use Rattle.tlsf_heap.specs.declared.refusal.Refusal.TheVariants.{NoFit, Worn}
+use Rattle.tlsf_heap.proofs.Lawfulness.{all_append}
+use Rattle.tlsf_heap.proofs.Edits.{carved_small, carved_large}
+use Rattle.tlsf_heap.proofs.Summing.{words_apart}
+use Rattle.tlsf_heap.proofs.Outcomes.{by_test, gives, by_allocated, by_released, by_written, lawful_run}
+use Rattle.tlsf_heap.proofs.Served.{no_fit}
+use Rattle.tlsf_laws.specs.Room.{live_count, sure}
+use Rattle.tlsf_laws.specs.Held.{held_after}
+use Rattle.tlsf_laws.specs.Pools.{pool_words, IsSmall, IsModest, AreModest, HasRoomFor, IsServed, PoolSuffices, PoolServes}
+use Rattle.tlsf_laws.proofs.FreeRoom.{finds_room, sure_rises}
+use Rattle.tlsf_laws.proofs.Around.{past_all, before_all, around_site, words_kept, new_lawful}
+use Rattle.tlsf_laws.proofs.Held.{held_is}
+
+-- ---- live blocks of at most k words
+
+abbrev pub AreSmall : ℕ → List Block → Type 0
+AreSmall k bs = AllByRecursion (IsSmall k) bs
+
+live_small : (k : ℕ) (bs : List Block) → AreSmall k bs → words_in (live_among bs) ≤ length (live_among bs) * k
+live_small k [] all = omega arith
+live_small k (Live m s xs ∷ bs) all = let e = live_small k bs all.1 in let f = all.0 refl in omega arith
+live_small k (Free m s ∷ bs) all = live_small k bs all.1
+
+small_carved : (k size n tick len : ℕ) → n + 3 ≤ k → AreSmall k (carved size n tick len)
+small_carved k size n tick len h = elim (cases_lt size (n + 4)) [
+  | inl small ↦ subst (AreSmall k) (sym (carved_small size n tick len small)) ((λ _. omega arith), tt)
+  | inr large ↦ subst (AreSmall k) (sym (carved_large size n tick len large)) ((λ _. omega arith), ((λ f. absurd (false≢true (sym f))), tt))
+]
+
+small_with : (k : ℕ) (b : Block) (xs : List ℕ) → IsSmall k b → IsSmall k (with_bytes b xs)
+small_with k (Live m s ys) xs h = h
+small_with k (Free m s) xs h = h
+
+-- ---- what holds of the heap of a pool
+
+pub record InPool (words k : ℕ) (h : HeapState) : Type 0 where
+  pub lawful : IsLawful h
+  pub words_are : h.words ≡ words
+  pub small : AreSmall k h.blocks
+
+module _ (words most len : ℕ) (region : want len ≤ 2 ^ 20) (enough : pool_words most len ≤ words) where
+  abbrev k : ℕ
+  k = want len + 3
+
+  small_kept : (h : HeapState) (call : Call) → AreSmall k h.blocks → IsModest most len (live_count h) call → AreSmall k (answered h call).1.blocks
+  small_kept h (Allocate n) small modest = by_allocated (λ o. AreSmall k o.heap.blocks) h n (λ why. small) (λ s site fit.
+      let a = around_site (IsSmall k) h s site small in
+      all_append (IsSmall k) (s.before ++ carved (size_of s.block) (want n) h.tick n) s.after
+      (all_append (IsSmall k) s.before (carved (size_of s.block) (want n) h.tick n) a.0 (small_carved k (size_of s.block) (want n) h.tick n (omega (arith, modest.0)))) a.2)
+  small_kept h (Release name) small modest = by_released (λ o. AreSmall k o.heap.blocks) h name (λ why. small) (λ s own site is.
+      let a = around_site (IsSmall k) h s site small in
+      all_append (IsSmall k) (before_free s.before) _ (before_all (IsSmall k) s.before a.0) ((λ f. absurd (false≢true (sym f))), past_all (IsSmall k) s.after a.2))
+  small_kept h (Write name at bytes) small modest = by_written (λ o. AreSmall k o.heap.blocks) h name at bytes (λ why. small) (λ s site has.
+      let a = around_site (IsSmall k) h s site small in
+      all_append (IsSmall k) s.before _ a.0 (small_with k s.block _ a.1, a.2))
+  small_kept h (Read name at n) small modest = small
+
+  pub kept : (h : HeapState) (call : Call) → InPool words k h → IsModest most len (live_count h) call → InPool words k (answered h call).1
+  kept h call pool modest = record {
+    lawful = lawful_run h (call ∷ []) pool.lawful;
+    words_are = words_kept h call ∙ pool.words_are;
+    small = small_kept h call pool.small modest;
+  }
+
+  -- a modest request finds room
+  pub has_room : (h : HeapState) (n : ℕ) → InPool words k h → n ≤ len → live_count h < most → (allocated h n).answer ≢ Err NoFit
+  has_room h n pool short few e =
+      let rises = sure_rises (want n) (want len) (omega arith) region in
+      let live = live_small k h.blocks pool.small in
+      let most_live : live_count h * k ≤ (most - 1) * k = mul-le-mul_right k (omega arith) in
+      let most_lost : (live_count h + 1) * (sure (want n) - 1) ≤ most * (sure (want len) - 1) = mul-le-mul (omega arith) (omega arith) in
+      finds_room h n pool.lawful (omega arith) (omega (arith, words_apart h.blocks, pool.lawful.whole, pool.words_are, live, most_live, most_lost, enough)) ((no_fit h n).0 e)
+
+  not_refused : (h : HeapState) (call : Call) → InPool words k h → IsModest most len (live_count h) call → (answered h call).0 ≢ Allocated (Err NoFit)
+  not_refused h (Allocate n) pool modest = λ e. let same : (allocated h n).answer ≡ Err NoFit = cc in has_room h n pool modest.0 modest.1 same
+  not_refused h (Release name) pool modest = λ e. cc
+  not_refused h (Write name at bytes) pool modest = λ e. cc
+  not_refused h (Read name at n) pool modest = λ e. cc
+
+  next : (h : HeapState) (call : Call) (calls : List Call) → AreModest most len (held_after (live_count h) call (answered h call).0) calls (run (answered h call).1 calls).0
+      → AreModest most len (live_count (answered h call).1) calls (run (answered h call).1 calls).0
+  next h call calls modest = subst (λ (held : ℕ). AreModest most len held calls (run (answered h call).1 calls).0) (sym (held_is h call)) modest
+
+  none_refused : (h : HeapState) (calls : List Call) → InPool words k h → AreModest most len (live_count h) calls (run h calls).0 → AllByRecursion HasRoomFor (run h calls).0
+  none_refused h [] pool modest = tt
+  none_refused h (call ∷ calls) pool modest = (not_refused h call pool modest.0, none_refused (answered h call).1 calls (kept h call pool modest.0) (next h call calls modest.1))
+
+  -- ---- while the ticks last
+
+  tick_kept : (h : HeapState) (call : Call) → (answered h call).1.tick ≤ h.tick + 1
+  tick_kept h (Allocate n) = by_allocated (λ o. o.heap.tick ≤ h.tick + 1) h n (λ why. omega arith) (λ s site fit. omega arith)
+  tick_kept h (Release name) = by_released (λ o. o.heap.tick ≤ h.tick + 1) h name (λ why. omega arith) (λ s own site is. omega arith)
+  tick_kept h (Write name at bytes) = by_written (λ o. o.heap.tick ≤ h.tick + 1) h name at bytes (λ why. omega arith) (λ s site has. omega arith)
+  tick_kept h (Read name at n) = omega arith
+
+  is_served : (h : HeapState) (call : Call) → InPool words k h → IsModest most len (live_count h) call → h.tick < last_tick → IsServed (answered h call).0
+  is_served h (Allocate n) pool modest fresh = at (choice (want n) h.blocks) (has_room h n pool modest.0 modest.1)
+    where
+      at : (o : Option Site) → (allocated_at h n o).answer ≢ Err NoFit → IsServed (Allocated (allocated_at h n o).answer)
+      at None room = absurd (room refl)
+      at (Some s) room = by_test (λ (o : Outcome Name). IsServed (Allocated o.answer)) (is_worn h) (refused h Worn) (gives h n s) (λ worn. absurd (false≢true (sym (ne_eqb h.tick last_tick (λ e. omega (arith, e, fresh))) ∙ worn))) tt
+  is_served h (Release name) pool modest fresh = tt
+  is_served h (Write name at bytes) pool modest fresh = tt
+  is_served h (Read name at n) pool modest fresh = tt
+
+  all_served : (h : HeapState) (calls : List Call) → InPool words k h → AreModest most len (live_count h) calls (run h calls).0 → h.tick + length calls ≤ last_tick → AllByRecursion IsServed (run h calls).0
+  all_served h [] pool modest fresh = tt
+  all_served h (call ∷ calls) pool modest fresh =
+      let tick = tick_kept h call in (
+        is_served h call pool modest.0 (omega arith),
+        all_served (answered h call).1 calls (kept h call pool modest.0) (next h call calls modest.1) (omega (arith, tick, fresh)),
+      )
+
+-- a new heap is a pool
+opens : (id words first k : ℕ) → IsRegion words → InPool words k (opened id words first)
+opens id words first k region = record { lawful = new_lawful id words first region.0; words_are = refl; small = ((λ f. absurd (false≢true (sym f))), tt) }
+
+pub suffices : PoolSuffices
+suffices id words first most len calls region upto enough modest = none_refused words most len upto enough (opened id words first) calls (opens id words first (want len + 3) region) modest
+
+pub serves : PoolServes
+serves id words first most len calls region upto enough modest fresh = all_served words most len upto enough (opened id words first) calls (opens id words first (want len + 3) region) modest (omega arith)

@@ -1,0 +1,153 @@
+-- Blocks that fit a table of kinds: how many they are, and how many words they take.
+use Rattle.std.proofs.Common.{◌≡◌, ℕ, ◌+◌, ◌*◌, ◌<◌, ◌≤◌, ◌⊎◌, suc, Bool, true, false, cond, List, [], ◌∷◌, length, map, filter, fold, max, nat_le, nat_lt, refl, sym, ap, ◌∙◌, subst, inl, inr, arith}
+use Rattle.std.specs.List.{AllByRecursion}
+use Rattle.std.proofs.Math.Nat.{mul-le-mul_right}
+use Rattle.std.proofs.lemmas.Bool.{cases_lt, lt-ltb, le-ltb, le-leb, lt-leb}
+use Rattle.tlsf_heap.specs.Blocks.{want}
+use Rattle.tlsf_laws.specs.Kinds.{AreOfKinds, count_in, table_words, words_with, HasClass}
+use Rattle.tlsf_laws.specs.declared.kind.Kind.{Kind}
+use Rattle.tlsf_laws.proofs.Ledgers.{sum_of}
+use Rattle.tlsf_laws.proofs.Held.{one}
+
+-- the words that a block takes at most
+abbrev pub spend : ℕ → ℕ
+spend n = want n + 3
+
+abbrev short : ℕ → List ℕ → List ℕ
+short k lens = filter (λ n. nat_le n k) lens
+
+abbrev long : ℕ → List ℕ → List ℕ
+long k lens = filter (λ n. nat_lt k n) lens
+
+abbrev Add : Bool → ℕ → List ℕ → List ℕ
+Add c n lens = cond c (n ∷ lens) lens
+
+-- a length is short or long
+parted : (k n : ℕ) → ((n ≤ k) × (nat_le n k ≡ true) × (nat_lt k n ≡ false)) ⊎ ((k < n) × (nat_le n k ≡ false) × (nat_lt k n ≡ true))
+parted k n = elim (cases_lt k n) [ inl l ↦ inr (l, lt-leb n k l, lt-ltb k n l) | inr g ↦ inl (g, le-leb n k g, le-ltb k n g) ]
+
+into : (a b c d : ℕ) → b ≡ c + d → a + b ≡ a + c + d
+into a b c d e = omega (arith, e)
+
+beside : (a b c d : ℕ) → b ≡ c + d → a + b ≡ c + (a + d)
+beside a b c d e = omega (arith, e)
+
+module _ (f : ℕ → ℕ) where
+  split : (k : ℕ) (lens : List ℕ) → sum_of f lens ≡ sum_of f (short k lens) + sum_of f (long k lens)
+  split k [] = refl
+  split k (n ∷ lens) = elim (parted k n) [
+    | inl s ↦
+        into (f n) (sum_of f lens) (sum_of f (short k lens)) (sum_of f (long k lens)) (split k lens)
+        ∙ ap (λ (c : Bool). sum_of f (Add c n (short k lens)) + sum_of f (long k lens)) (sym s.1)
+        ∙ ap (λ (c : Bool). sum_of f (short k (n ∷ lens)) + sum_of f (Add c n (long k lens))) (sym s.2)
+    | inr s ↦
+        beside (f n) (sum_of f lens) (sum_of f (short k lens)) (sum_of f (long k lens)) (split k lens)
+        ∙ ap (λ (c : Bool). sum_of f (Add c n (short k lens)) + (f n + sum_of f (long k lens))) (sym s.1)
+        ∙ ap (λ (c : Bool). sum_of f (short k (n ∷ lens)) + sum_of f (Add c n (long k lens))) (sym s.2)
+  ]
+
+pub spend_rises : (n k : ℕ) → n ≤ k → spend n ≤ spend k
+spend_rises n k h = omega (arith, h)
+
+one_more : (a s c w : ℕ) → a ≤ w → s ≤ c * w → a + s ≤ suc c * w
+one_more a s c w h e = omega (arith, h, e)
+
+-- short blocks take no more than so many of the kind's own
+short_spent : (k : ℕ) (lens : List ℕ) → sum_of spend (short k lens) ≤ length (short k lens) * spend k
+short_spent k [] = omega arith
+short_spent k (n ∷ lens) = elim (parted k n) [
+  | inl s ↦
+      subst (λ (c : Bool). sum_of spend (Add c n (short k lens)) ≤ length (Add c n (short k lens)) * spend k) (sym s.1)
+      (one_more (spend n) (sum_of spend (short k lens)) (length (short k lens)) (spend k) (spend_rises n k s.0) (short_spent k lens))
+  | inr s ↦ subst (λ (c : Bool). sum_of spend (Add c n (short k lens)) ≤ length (Add c n (short k lens)) * spend k) (sym s.1) (short_spent k lens)
+]
+
+within : (a b c d e : ℕ) → a ≡ b + c → b ≤ d → c ≤ e → a ≤ d + e
+within a b c d e f g h = omega (arith, f, g, h)
+
+through : (a b c : ℕ) → a ≤ b → b ≤ c → a ≤ c
+through a b c f g = omega (arith, f, g)
+
+-- blocks that fit the table take at most its words
+pub spent : (kinds : List Kind) (lens : List ℕ) → AreOfKinds kinds lens → sum_of spend lens ≤ table_words kinds
+spent [] lens none = subst (λ (l : List ℕ). sum_of spend l ≤ 0) (sym none) (omega arith)
+spent (kind ∷ kinds) lens fit =
+    within (sum_of spend lens) (sum_of spend (short kind.len lens)) (sum_of spend (long kind.len lens)) (kind.most * spend kind.len) (table_words kinds) (split spend kind.len lens)
+    (through _ _ _ (short_spent kind.len lens) (mul-le-mul_right (spend kind.len) fit.0)) (spent kinds (long kind.len lens) fit.1)
+
+sum_one : (lens : List ℕ) → sum_of one lens ≡ length lens
+sum_one [] = refl
+sum_one (n ∷ lens) = let e = sum_one lens in omega arith
+
+-- and are at most as many
+pub counted_in : (kinds : List Kind) (lens : List ℕ) → AreOfKinds kinds lens → length lens ≤ count_in kinds
+counted_in [] lens none = subst (λ (l : List ℕ). length l ≤ 0) (sym none) (omega arith)
+counted_in (kind ∷ kinds) lens fit =
+    let both : length lens ≡ length (short kind.len lens) + length (long kind.len lens) =
+    sym (sum_one lens) ∙ split one kind.len lens ∙ ap (λ (n : ℕ). n + sum_of one (long kind.len lens)) (sum_one (short kind.len lens))
+    ∙ ap (λ (n : ℕ). length (short kind.len lens) + n) (sum_one (long kind.len lens)) in
+    within (length lens) (length (short kind.len lens)) (length (long kind.len lens)) kind.most (count_in kinds) both fit.0 (counted_in kinds (long kind.len lens) fit.1)
+
+-- ---- one block more
+
+abbrev IsOf : Kind → List Kind → Type 0
+IsOf kind [] = ⊥
+IsOf kind (k ∷ kinds) = (k ≡ kind) ⊎ IsOf kind kinds
+
+-- a length has a kind of the table, and the other blocks leave the words of one of it
+pub record HasKind (kinds : List Kind) (n : ℕ) (lens : List ℕ) : Type 0 where
+  pub kind : Kind
+  pub of : IsOf kind kinds
+  pub short : n ≤ kind.len
+  pub left : sum_of spend lens + spend kind.len ≤ table_words kinds
+
+room_for : (t s l c w m rest : ℕ) → t ≡ s + l → s ≤ c * w → suc c * w ≤ m → l ≤ rest → t + w ≤ m + rest
+room_for t s l c w m rest e f g h = omega (arith, e, f, g, h)
+
+behind : (t s l w m rest : ℕ) → t ≡ s + l → s ≤ m → l + w ≤ rest → t + w ≤ m + rest
+behind t s l w m rest e f g = omega (arith, e, f, g)
+
+pub has_kind : (kinds : List Kind) (n : ℕ) (lens : List ℕ) → AreOfKinds kinds (n ∷ lens) → HasKind kinds n lens
+has_kind [] n lens fit = absurd cc
+has_kind (kind ∷ kinds) n lens fit = elim (parted kind.len n) [
+  | inl s ↦
+      let most : suc (length (short kind.len lens)) ≤ kind.most = subst (λ (c : Bool). length (Add c n (short kind.len lens)) ≤ kind.most) s.1 fit.0 in
+      let rest : AreOfKinds kinds (long kind.len lens) = subst (λ (c : Bool). AreOfKinds kinds (Add c n (long kind.len lens))) s.2 fit.1 in record {
+        kind = kind;
+        of = inl refl;
+        short = s.0;
+        left = room_for (sum_of spend lens) (sum_of spend (short kind.len lens)) (sum_of spend (long kind.len lens)) (length (short kind.len lens)) (spend kind.len) (kind.most * spend kind.len) (table_words kinds)
+            (split spend kind.len lens) (short_spent kind.len lens) (mul-le-mul_right (spend kind.len) most) (spent kinds (long kind.len lens) rest);
+      }
+  | inr s ↦
+      let most : length (short kind.len lens) ≤ kind.most = subst (λ (c : Bool). length (Add c n (short kind.len lens)) ≤ kind.most) s.1 fit.0 in
+      let has : HasKind kinds n (long kind.len lens) = has_kind kinds n (long kind.len lens) (subst (λ (c : Bool). AreOfKinds kinds (Add c n (long kind.len lens))) s.2 fit.1) in record {
+        kind = has.kind;
+        of = inr has.of;
+        short = has.short;
+        left = behind (sum_of spend lens) (sum_of spend (short kind.len lens)) (sum_of spend (long kind.len lens)) (spend has.kind.len) (kind.most * spend kind.len) (table_words kinds)
+            (split spend kind.len lens) (through _ _ _ (short_spent kind.len lens) (mul-le-mul_right (spend kind.len) most)) has.left;
+      }
+]
+
+-- ---- the greatest of the table
+
+best_least : (best : ℕ) (xs : List ℕ) → best ≤ fold max best xs
+best_least best [] = omega arith
+best_least best (x ∷ xs) = let e = best_least (max best x) xs in omega arith
+
+pub least_words : (all kinds : List Kind) (best : ℕ) (kind : Kind) → IsOf kind kinds → words_with all kind ≤ fold max best (map (words_with all) kinds)
+least_words all [] best kind of = absurd of
+least_words all (k ∷ kinds) best kind of = elim of [
+  | inl same ↦
+      let e = best_least (max best (words_with all k)) (map (words_with all) kinds) in
+      through (words_with all kind) (max best (words_with all k)) _ (subst (λ (x : Kind). words_with all x ≤ max best (words_with all k)) same (top best (words_with all k))) e
+  | inr rest ↦ least_words all kinds (max best (words_with all k)) kind rest
+]
+  where
+    top : (a b : ℕ) → b ≤ max a b
+    top a b = omega arith
+
+pub class_of_kind : (kinds : List Kind) (kind : Kind) → IsOf kind kinds → AllByRecursion HasClass kinds → HasClass kind
+class_of_kind [] kind of all = absurd of
+class_of_kind (k ∷ kinds) kind of all = elim of [ inl same ↦ subst HasClass same all.0 | inr rest ↦ class_of_kind kinds kind rest all.1 ]

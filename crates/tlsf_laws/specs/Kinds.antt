@@ -1,0 +1,85 @@
+-- How large a region must be for several kinds of request.
+use Rattle.std.specs.Prelude.{◌≡◌, ℕ, ◌+◌, ◌*◌, ◌-◌, ◌≤◌, ◌^◌, List, [], ◌∷◌, Ok, length, map, filter, fold, max, nat_le, nat_lt, not, ⊤}
+use Rattle.std.specs.List.{AllByRecursion}
+use Rattle.tlsf_heap.specs.Blocks.{want}
+use Rattle.tlsf_heap.specs.Lawful.{IsRegion}
+use Rattle.tlsf_heap.specs.Calls.{Call, Allocate, Release, Write, Read, Answer, Allocated, Released, opened, run}
+use Rattle.tlsf_heap.specs.declared.name.Name.{Name}
+use Rattle.tlsf_laws.specs.Room.{live_count, sure}
+use Rattle.tlsf_laws.specs.Pools.{pool_words, HasRoomFor}
+use Rattle.tlsf_laws.specs.Contents.{is_same}
+use Rattle.tlsf_laws.specs.declared.kind.Kind.{Kind}
+
+-- what a program holds: the names that it was given and has not released, each with the bytes that it asked for
+abbrev pub Ledger : Type 0
+Ledger = List (Name × ℕ)
+
+-- the bytes that were asked for
+abbrev pub lengths : Ledger → List ℕ
+lengths ledger = map (λ entry. entry.1) ledger
+
+-- the ledger after a call, told by its answer
+abbrev pub ledger_after : Ledger → Call → Answer → Ledger
+ledger_after ledger (Allocate len) (Allocated (Ok name)) = (name, len) ∷ ledger
+ledger_after ledger (Release name) (Released (Ok done)) = filter (λ entry. not (is_same name entry.0)) ledger
+ledger_after ledger call answer = ledger
+
+-- and after calls in turn
+abbrev pub ledger_after_all : Ledger → List Call → List Answer → Ledger
+ledger_after_all ledger [] answers = ledger
+ledger_after_all ledger (call ∷ calls) [] = ledger
+ledger_after_all ledger (call ∷ calls) (answer ∷ answers) = ledger_after_all (ledger_after ledger call answer) calls answers
+
+-- blocks of these lengths fit the table: each counts for the first kind that is long enough for it
+abbrev pub AreOfKinds : List Kind → List ℕ → Type 0
+AreOfKinds [] lens = lens ≡ []
+AreOfKinds (kind ∷ kinds) lens = (length (filter (λ n. nat_le n kind.len) lens) ≤ kind.most) × AreOfKinds kinds (filter (λ n. nat_lt kind.len n) lens)
+
+-- a request fits the table with all that is held
+abbrev pub IsPlanned : List Kind → Ledger → Call → Type 0
+IsPlanned kinds ledger (Allocate n) = AreOfKinds kinds (n ∷ lengths ledger)
+IsPlanned kinds ledger (Release name) = ⊤
+IsPlanned kinds ledger (Write name at bytes) = ⊤
+IsPlanned kinds ledger (Read name at n) = ⊤
+
+-- so does each request among these calls, which get these answers
+abbrev pub ArePlanned : List Kind → Ledger → List Call → List Answer → Type 0
+ArePlanned kinds ledger [] answers = ⊤
+ArePlanned kinds ledger (call ∷ calls) [] = ⊤
+ArePlanned kinds ledger (call ∷ calls) (answer ∷ answers) = IsPlanned kinds ledger call × ArePlanned kinds (ledger_after ledger call answer) calls answers
+
+-- how many blocks are held at once, at most
+abbrev pub count_in : List Kind → ℕ
+count_in [] = 0
+count_in (kind ∷ kinds) = kind.most + count_in kinds
+
+-- the words that they take, at most
+abbrev pub table_words : List Kind → ℕ
+table_words [] = 0
+table_words (kind ∷ kinds) = kind.most * (want kind.len + 3) + table_words kinds
+
+-- the words with which a request of this kind finds room, where all others are held
+abbrev pub words_with : List Kind → Kind → ℕ
+words_with kinds kind = table_words kinds - (want kind.len + 3) + count_in kinds * (sure (want kind.len) - 1) + 1
+
+-- the words of a region in which a request of each kind does
+abbrev pub kinds_words : List Kind → ℕ
+kinds_words kinds = fold max 0 (map (words_with kinds) kinds)
+
+-- a request of this kind finds a class
+abbrev pub HasClass : Kind → Type 0
+HasClass kind = want kind.len ≤ 2 ^ 20
+
+-- a program whose requests fit the table is never answered NoFit in a region of kinds_words
+abbrev pub KindsSuffice : Type 0
+KindsSuffice = (id words first : ℕ) (kinds : List Kind) (calls : List Call) → IsRegion words → AllByRecursion HasClass kinds → kinds_words kinds ≤ words
+    → let answers = (run (opened id words first) calls).0 in ArePlanned kinds [] calls answers → AllByRecursion HasRoomFor answers
+
+-- a table of one kind asks for the words of a pool
+abbrev pub OneKindIsAPool : Type 0
+OneKindIsAPool = (kind : Kind) → kinds_words (kind ∷ []) ≡ pool_words kind.most kind.len
+
+-- as many blocks are live as the ledger has entries
+abbrev pub LedgerHoldsWhatIsLive : Type 0
+LedgerHoldsWhatIsLive = (id words first : ℕ) (calls : List Call) → 4 ≤ words
+    → let end = run (opened id words first) calls in live_count end.1 ≡ length (ledger_after_all [] calls end.0)

@@ -1,0 +1,6 @@
+pub mod Room
+pub mod Held
+pub mod Pools
+pub mod Kinds
+pub mod Contents
+pub mod Places

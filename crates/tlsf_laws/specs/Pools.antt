@@ -1,0 +1,61 @@
+-- How large a region must be, so that a program is never refused for want of room.
+use Rattle.std.specs.Prelude.{◌≡◌, ◌≢◌, ℕ, ◌+◌, ◌*◌, ◌-◌, ◌<◌, ◌≤◌, ◌^◌, List, [], ◌∷◌, Ok, Err, false, length, ⊤}
+use Rattle.std.specs.List.{AllByRecursion}
+use Rattle.tlsf_heap.specs.Blocks.{Block, is_free, size_of, want}
+use Rattle.tlsf_heap.specs.Lawful.{IsRegion}
+use Rattle.tlsf_heap.specs.Calls.{Call, Allocate, Release, Write, Read, Answer, Allocated, Released, Written, Got, allocated, opened, run, last_tick}
+use Rattle.tlsf_heap.specs.declared.refusal.Refusal.TheVariants.{NoFit}
+use Rattle.tlsf_laws.specs.Room.{sure}
+use Rattle.tlsf_laws.specs.Held.{held_after}
+
+-- the words of a region that has room for `most` live blocks of at most `len` bytes each, in whatever order they come and go
+abbrev pub pool_words : ℕ → ℕ → ℕ
+pool_words most len = (most - 1) * (want len + 3) + most * (sure (want len) - 1) + 1
+
+-- a request is for at most `len` bytes, by a program that holds fewer than `most` blocks
+abbrev pub IsModest : ℕ → ℕ → ℕ → Call → Type 0
+IsModest most len held (Allocate n) = (n ≤ len) × (held < most)
+IsModest most len held (Release name) = ⊤
+IsModest most len held (Write name at bytes) = ⊤
+IsModest most len held (Read name at n) = ⊤
+
+-- so is each request among these calls, which get these answers
+abbrev pub AreModest : ℕ → ℕ → ℕ → List Call → List Answer → Type 0
+AreModest most len held [] answers = ⊤
+AreModest most len held (call ∷ calls) [] = ⊤
+AreModest most len held (call ∷ calls) (answer ∷ answers) = IsModest most len held call × AreModest most len (held_after held call answer) calls answers
+
+-- a live block has at most k words
+abbrev pub IsSmall : ℕ → Block → Type 0
+IsSmall k block = is_free block ≡ false → size_of block ≤ k
+
+-- an answer isn't NoFit
+abbrev pub HasRoomFor : Answer → Type 0
+HasRoomFor answer = answer ≢ Allocated (Err NoFit)
+
+-- a program that never holds more than `most` blocks, of at most `len` bytes each, is never answered NoFit in a region of pool_words
+abbrev pub PoolSuffices : Type 0
+PoolSuffices = (id words first most len : ℕ) (calls : List Call) → IsRegion words → want len ≤ 2 ^ 20 → pool_words most len ≤ words
+    → let answers = (run (opened id words first) calls).0 in AreModest most len 0 calls answers → AllByRecursion HasRoomFor answers
+
+-- no request is refused
+abbrev pub IsServed : Answer → Type 0
+IsServed (Allocated (Ok name)) = ⊤
+IsServed (Allocated (Err why)) = ⊥
+IsServed (Released result) = ⊤
+IsServed (Written result) = ⊤
+IsServed (Got result) = ⊤
+
+-- and each of its requests is served, while the ticks last
+abbrev pub PoolServes : Type 0
+PoolServes = (id words first most len : ℕ) (calls : List Call) → IsRegion words → want len ≤ 2 ^ 20 → pool_words most len ≤ words
+    → let answers = (run (opened id words first) calls).0 in AreModest most len 0 calls answers → first + length calls < last_tick
+    → AllByRecursion IsServed answers
+
+-- for one block no smaller region would do
+abbrev pub OneBlockIsTight : Type 0
+OneBlockIsTight = (id words first len : ℕ) → want len ≤ 2 ^ 20 → words < pool_words 1 len → (allocated (opened id words first) len).answer ≡ Err NoFit
+
+-- 13,631 words are room for 100 blocks of up to 512 bytes
+abbrev pub HundredBlocks : Type 0
+HundredBlocks = pool_words 100 512 ≡ 13631

@@ -1,0 +1,20 @@
+ghost use Rattle.tlsf_laws.specs.Kinds.{KindsSuffice, LedgerHoldsWhatIsLive, OneKindIsAPool};
+
+/// How large a region must be for several kinds of request, by a table of sizes with how many blocks of each may be held.
+///
+/// A block counts for the first kind of the table that is long enough for it. A program that keeps a ledger of the names that
+/// it was given, with the bytes that it asked for, and makes no request that would put more blocks on a kind than the table
+/// has, is never answered `NoFit` in a region of `kinds_words` of the table, 2^20 words at most.
+///
+/// For a table of one kind these are the words of [`pool_never_refuses`](crate::pool_never_refuses).
+///
+/// ```text
+/// 100 blocks of up to 64 bytes and 4 of up to 4096: 59,427 words, where 104 of up to 4096 would need 109,827
+/// ```
+pub fn kinds_suffice()
+    ensures room { KindsSuffice }
+    ensures one { OneKindIsAPool }
+
+    // The ledger has as many entries as blocks are live.
+    ensures held { LedgerHoldsWhatIsLive }
+{}

@@ -1,0 +1,94 @@
+-- How far the greatest region goes.
+use Rattle.std.proofs.Common.{◌≡◌, ℕ, zero, suc, ◌+◌, ◌-◌, ◌*◌, ◌/◌, ◌^◌, ◌<◌, ◌≤◌, arith, inl, inr}
+use Rattle.std.proofs.Math.Nat.{mul-le-mul}
+use Rattle.std.proofs.lemmas.Bool.{cases_lt}
+use Rattle.tlsf_heap.specs.Blocks.{want}
+use Rattle.tlsf_laws.specs.Room.{sure}
+use Rattle.tlsf_laws.specs.Pools.{pool_words}
+use Rattle.tlsf_laws.proofs.FreeRoom.{sure_enough, sure_rises}
+
+products : (a b c d : ℕ) → a ≤ b → c ≤ d → a * c ≤ b * d
+products a b c d f g = mul-le-mul f g
+
+wants : (a b : ℕ) → a ≤ b → want a ≤ want b
+wants a b f = omega (arith, f)
+
+less : (a b : ℕ) → a ≤ b → a - 1 ≤ b - 1
+less a b f = omega (arith, f)
+
+sums : (a b c d : ℕ) → a ≤ b → c ≤ d → a + c + 1 ≤ b + d + 1
+sums a b c d f g = omega (arith, f, g)
+
+three : (a b : ℕ) → a ≤ b → a + 3 ≤ b + 3
+three a b f = omega (arith, f)
+
+same : (a : ℕ) → a ≤ a
+same a = omega arith
+
+-- longer requests ask for no fewer words
+pub words_rise : (most a b : ℕ) → a ≤ b → want b ≤ 2 ^ 20 → pool_words most a ≤ pool_words most b
+words_rise most a b f class =
+    let w : want a ≤ want b = wants a b f in
+    sums ((most - 1) * (want a + 3)) ((most - 1) * (want b + 3)) (most * (sure (want a) - 1)) (most * (sure (want b) - 1))
+    (products (most - 1) (most - 1) (want a + 3) (want b + 3) (same (most - 1)) (three (want a) (want b) w))
+    (products most most (sure (want a) - 1) (sure (want b) - 1) (same most) (less (sure (want a)) (sure (want b)) (sure_rises (want a) (want b) w class)))
+
+trans : (a b c : ℕ) → a ≤ b → b ≤ c → a ≤ c
+trans a b c f g = omega (arith, f, g)
+
+-- a length above the first that doesn't fit doesn't fit
+pub none_longer : (most longest above len : ℕ) → above ≤ longest + 1 → (above < 8388585 → ¬ (pool_words most above ≤ 2 ^ 20)) → want len ≤ 2 ^ 20 → pool_words most len ≤ 2 ^ 20 → len ≤ longest
+none_longer most longest above len next passed class fits = elim (cases_lt longest len) [
+  | inl l ↦
+      let under : above ≤ len = omega (arith, next, l) in
+      let short : above < 8388585 = omega (arith, under, class) in
+      absurd (passed short (trans (pool_words most above) (pool_words most len) (2 ^ 20) (words_rise most above len under class) fits))
+  | inr g ↦ g
+]
+
+-- ---- by one product
+
+-- the words of one block or more, and those that the block that is asked for would have
+one_product : (m w t : ℕ) → m * (w + 3) + suc m * t + 1 + (w + 3) ≡ suc m * (w + 3 + t) + 1
+one_product m w t = omega arith
+
+reached_by : (q w t x : ℕ) → q * (w + 3 + t) ≤ x + w + 2 → 1 ≤ x → (q - 1) * (w + 3) + q * t + 1 ≤ x
+reached_by zero w t x h some = omega (arith, some)
+reached_by (suc m) w t x h some =
+    let less : suc m - 1 ≡ m = omega arith in
+    rw less (omega (arith, one_product m w t, h))
+
+passed_by : (q w t x : ℕ) → (q - 1) * (w + 3) + q * t + 1 ≤ x → q * (w + 3 + t) ≤ x + w + 2
+passed_by zero w t x h = omega arith
+passed_by (suc m) w t x h =
+    let less : suc m - 1 ≡ m = omega arith in
+    let same_words = rw less at h in
+    omega (arith, one_product m w t, same_words)
+
+divided : (x d : ℕ) → 0 < d → (x / d) * d ≤ x
+divided x d some = omega arith
+
+undivided : (x d m : ℕ) → 0 < d → m * d ≤ x → m ≤ x / d
+undivided x d m some h = elim (cases_lt (x / d) m) [
+  | inl l ↦ let more : (x / d + 1) * d ≤ m * d = products (x / d + 1) m d d (omega (arith, l)) (same d) in absurd (omega (arith, more, h))
+  | inr g ↦ g
+]
+
+-- the least size of the search class but one, and the header's three words and the rest's, by the divisor
+divisor : (w s : ℕ) → 1 ≤ s → w + 2 + s ≡ w + 3 + (s - 1)
+divisor w s some = omega (arith, some)
+
+module _ (len : ℕ) (class : want len ≤ 2 ^ 20) where
+  some_words : 1 ≤ sure (want len)
+  some_words = omega (arith, sure_enough (want len) class)
+
+  pub most_reached : pool_words ((1048576 + want len + 2) / (want len + 2 + sure (want len))) len ≤ 2 ^ 20
+  most_reached =
+      rw (divisor (want len) (sure (want len)) some_words)
+      (reached_by ((1048576 + want len + 2) / (want len + 3 + (sure (want len) - 1))) (want len) (sure (want len) - 1) (2 ^ 20)
+      (divided (1048576 + want len + 2) (want len + 3 + (sure (want len) - 1)) (omega arith)) (omega arith))
+
+  pub most_passed : (most : ℕ) → pool_words most len ≤ 2 ^ 20 → most ≤ (1048576 + want len + 2) / (want len + 2 + sure (want len))
+  most_passed most fits =
+      rw (divisor (want len) (sure (want len)) some_words)
+      (undivided (1048576 + want len + 2) (want len + 3 + (sure (want len) - 1)) most (omega arith) (passed_by most (want len) (sure (want len) - 1) (2 ^ 20) fits))

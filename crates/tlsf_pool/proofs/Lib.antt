@@ -1,0 +1,7 @@
+-- The lemmas of this crate, a line a file.
+--   Bounds: how far the greatest region goes
+--   Kept: a pool stays one through its calls
+--   Sizes: sizes of regions by sums, and how large they get
+pub mod Bounds
+pub mod Kept
+pub mod Sizes

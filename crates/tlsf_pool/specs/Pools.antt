@@ -1,0 +1,42 @@
+-- A pool: a heap of which a program holds at most so many blocks, of at most so many bytes each.
+use Rattle.std.specs.Prelude.{◌≡◌, ℕ, ◌+◌, ◌≤◌, ◌^◌}
+use Rattle.std.specs.List.{AllByRecursion}
+use Rattle.tlsf_heap.specs.Blocks.{HeapState, want}
+use Rattle.tlsf_heap.specs.Lawful.{IsLawful, IsRegion}
+use Rattle.tlsf_laws.specs.Room.{live_count}
+use Rattle.tlsf_laws.specs.Pools.{pool_words, IsSmall}
+
+-- what a pool shows: its heap, how many blocks may be held at once and the bytes of the longest request, how many are held, and
+-- the heap's touches
+pub record PoolState : Type 0 where
+  pub heap : HeapState
+  pub most : ℕ
+  pub longest : ℕ
+  pub held : ℕ
+  pub touches : ℕ
+
+-- some class has blocks for a request of the longest length, and a region may have the words of the pool
+abbrev pub HasRegion : ℕ → ℕ → Type 0
+HasRegion most longest = (want longest ≤ 2 ^ 20) × IsRegion (pool_words most longest)
+
+-- the heap is lawful and has the words of the pool; as many blocks are live as are held, no more than may be, and none is longer
+-- than the longest request wants and three words more
+pub record IsPool (p : PoolState) : Type 0 where
+  pub lawful : IsLawful p.heap
+  pub words : p.heap.words ≡ pool_words p.most p.longest
+  pub class : want p.longest ≤ 2 ^ 20
+  pub live : live_count p.heap ≡ p.held
+  pub few : p.held ≤ p.most
+  pub small : AllByRecursion (IsSmall (want p.longest + 3)) p.heap.blocks
+
+-- the same bounds: how many blocks may be held, and how long a request may be
+pub record SameBounds (old new : PoolState) : Type 0 where
+  pub most : new.most ≡ old.most
+  pub longest : new.longest ≡ old.longest
+
+-- the same heap, and as many blocks held, under the same bounds. Only the touches may differ
+pub record SamePool (old new : PoolState) : Type 0 where
+  pub heap : new.heap ≡ old.heap
+  pub most : new.most ≡ old.most
+  pub longest : new.longest ≡ old.longest
+  pub held : new.held ≡ old.held

@@ -1,0 +1,219 @@
+ghost use Rattle.std.specs.Prelude.{◌≡◌, ◌≢◌, ◌+◌, ◌-◌, ◌*◌, ◌/◌, ◌<◌, ◌≤◌, ◌↔◌, Err, length, IfOk, OnOk, OnErr, IsOk, IsErrOf};
+ghost use Rattle.std.specs.Result.{result_unwrap_or};
+ghost use Rattle.tlsf_heap.specs.Blocks.{want};
+ghost use Rattle.tlsf_heap.specs.Calls.{opened, allocated, released, written, read_of, read_answer, last_tick};
+ghost use Rattle.tlsf_laws.specs.Pools.{pool_words};
+ghost use Rattle.tlsf_pool.specs.Pools.{HasRegion, IsPool, SameBounds, SamePool};
+
+use crate::pool_refusal::PoolRefusal;
+use crate::sizing::{LONGEST, kinds_words};
+use std::alloc::Global;
+use std::marker::Model;
+use tlsf_heap::{Heap, MOST_WORDS, Name, OpenFault, Refusal};
+use tlsf_laws::Kind;
+
+/// A heap that never refuses for want of room: it is opened by the most blocks that are held at once and the longest request.
+///
+/// Contracts see it as its heap, the two bounds, how many blocks are held, and the heap's touches. Places and sizes are in
+/// words of 8 bytes, lengths in bytes.
+#[derive(Drop)]
+pub struct Pool {
+    heap: Heap,
+    most: u32,
+    longest: u32,
+    held: u32,
+}
+
+impl Model for Pool {
+    ghost use Rattle.tlsf_pool.specs.Pools.{IsPool, PoolState};
+
+    ghost Value = { PoolState };
+
+    ghost view = { λ p. record { heap = p.heap.heap; most = p.most; longest = p.longest; held = p.held; touches = p.heap.touches } };
+
+    ghost invariant = { λ p. IsPool (record { heap = p.heap.heap; most = p.most; longest = p.longest; held = p.held; touches = p.heap.touches }) };
+}
+
+impl Pool {
+    /// Opens a pool of number `id` for at most `most` blocks at once, of at most `longest` bytes each. Its region has
+    /// `pool_words most longest` words, and it is one free block, stamped with the tick `first`.
+    ///
+    /// Refused as `BadSize` where no region has so many words (4 to 2^20), else as `Worn` where `first` is the last tick,
+    /// 2^64 - 1, else as `NoMemory` where the memory was not granted. No later call takes memory.
+    ///
+    /// ```text
+    /// let pool = Pool::open(alloc, 0, 100, 512, 0)?;                  // 13,631 words
+    /// Pool::open(alloc, 0, 100_000, 512, 0).err() == Some(OpenFault::BadSize)
+    /// ```
+    pub fn open(
+        alloc: Global,
+        id: u32,
+        most: u32,
+        longest: u32,
+        first: u64,
+    ) -> Result<Pool, OpenFault>
+        ensures heap { IfOk result (λ pool. pool.heap ≡ opened id (pool_words most longest) first) }
+        ensures most { IfOk result (λ pool. pool.most ≡ most) }
+        ensures longest { IfOk result (λ pool. pool.longest ≡ longest) }
+        ensures none { IfOk result (λ pool. pool.held ≡ 0) }
+
+        // The refusals, in their order. Memory is refused only where no other refusal comes.
+        ensures bad_size { IsErrOf result OpenFault.BadSize ↔ ¬ (HasRegion most longest) }
+        ensures worn { HasRegion most longest → (IsErrOf result OpenFault.Worn ↔ (first ≡ last_tick)) }
+        ensures touches { IfOk result (λ pool. pool.touches ≤ 10) }
+    {
+        if longest > LONGEST {
+            return Err(OpenFault::BadSize);
+        }
+        let words = kinds_words(&[Kind { most, len: longest }]);
+        if words > u64::from(MOST_WORDS) {
+            return Err(OpenFault::BadSize);
+        }
+        let heap = Heap::open(alloc, id, words as u32, first)?;
+        Ok(Pool {
+            heap,
+            most,
+            longest,
+            held: 0,
+        })
+    }
+
+    /// Gives a block that holds `len` bytes of payload, all zero, by good fit (ECRTS 2004, sections 3 and 4).
+    ///
+    /// It is given whenever `len` is at most the longest request, fewer blocks are held than may be, and the tick isn't at
+    /// its last value. Else it is refused as `TooLong`, `Full` or `Worn`, in this order. Takes no memory.
+    ///
+    /// ```text
+    /// let mut pool = Pool::open(alloc, 0, 1, 8, 0)?;          // one block of up to 8 bytes
+    /// let name = pool.allocate(8)?;
+    /// pool.allocate(8) == Err(PoolRefusal::Full)
+    /// pool.allocate(9) == Err(PoolRefusal::TooLong)
+    /// ```
+    pub fn allocate(&mut self, len: u32) -> Result<Name, PoolRefusal>
+        ensures ok { IsOk result ↔ ((len ≤ self.old.longest) × (self.old.held < self.old.most) × ¬ (self.old.heap.tick ≡ last_tick)) }
+
+        // The refusals, in their order: there is none for want of room, since the heap has none.
+        ensures too_long { IsErrOf result PoolRefusal.TooLong ↔ (self.old.longest < len) }
+        ensures full { IsErrOf result PoolRefusal.Full ↔ ((len ≤ self.old.longest) × (self.old.held ≡ self.old.most)) }
+        ensures room { len ≤ self.old.longest → self.old.held < self.old.most → (allocated self.old.heap len).answer ≢ Err Refusal.NoFit }
+
+        // An accepted request is the heap's, and one block more is held. A refusal changes nothing.
+        ensures answer { IfOk result (λ name. (allocated self.old.heap len).answer ≡ Ok name) }
+        ensures heap { OnOk result (self.new.heap ≡ (allocated self.old.heap len).heap) }
+        ensures held { OnOk result (self.new.held ≡ self.old.held + 1) }
+        ensures err { OnErr result (SamePool self.old self.new) }
+        ensures bounds { SameBounds self.old self.new }
+        ensures was_pool { IsPool self.old }
+        ensures pool { IsPool self.new }
+
+        // At most 64 touches, and one for each payload word of the block given: no more than the longest request wants.
+        ensures touches { self.new.touches ≤ self.old.touches + 64 + want self.old.longest }
+        ensures touches_rise { self.old.touches ≤ self.new.touches }
+    {
+        if len > self.longest {
+            return Err(PoolRefusal::TooLong);
+        }
+        if self.held >= self.most {
+            return Err(PoolRefusal::Full);
+        }
+        match self.heap.allocate(len) {
+            Ok(name) => {
+                self.held += 1;
+                Ok(name)
+            }
+            // Room there is, so the tick is at its last value.
+            Err(_) => Err(PoolRefusal::Worn),
+        }
+    }
+
+    /// Takes back the block of that name, and merges it with its free neighbours (ECRTS 2004, section 4).
+    ///
+    /// Refused as `Heap::release` refuses: `Foreign` where the name is of another heap, else `Stale` where no live block
+    /// has that place and serial, else `Worn` where the tick is at its last value. As many blocks are then held as before.
+    /// Takes no memory.
+    ///
+    /// ```text
+    /// let name = pool.allocate(8)?;
+    /// pool.release(name) == Ok(())
+    /// pool.release(name) == Err(Refusal::Stale)
+    /// ```
+    pub fn release(&mut self, name: Name) -> Result<(), Refusal>
+        ensures answer { result ≡ (released self.old.heap name).answer }
+        ensures heap { self.new.heap ≡ (released self.old.heap name).heap }
+
+        // One block fewer is held. A refusal changes nothing.
+        ensures held { OnOk result (self.new.held + 1 ≡ self.old.held) }
+        ensures err { OnErr result (SamePool self.old self.new) }
+        ensures bounds { SameBounds self.old self.new }
+        ensures was_pool { IsPool self.old }
+        ensures pool { IsPool self.new }
+        ensures touches { self.new.touches ≤ self.old.touches + 64 }
+        ensures touches_rise { self.old.touches ≤ self.new.touches }
+    {
+        self.heap.release(name)?;
+        self.held -= 1;
+        Ok(())
+    }
+
+    /// Writes bytes into the payload of the block of that name, from byte `at` of it on.
+    ///
+    /// Refused as `Heap::write` refuses: `Foreign`, else `Stale`, else `Range` where the bytes would go past the end of the
+    /// payload. No byte changes then. Takes no memory.
+    ///
+    /// ```text
+    /// let name = pool.allocate(8)?;
+    /// pool.write(name, 6, &[0x48, 0x69]) == Ok(())
+    /// pool.write(name, 7, &[0x48, 0x69]) == Err(Refusal::Range)
+    /// ```
+    pub fn write(&mut self, name: Name, at: u32, bytes: &[u8]) -> Result<(), Refusal>
+        ensures answer { result ≡ (written self.old.heap name at bytes.now).answer }
+        ensures heap { self.new.heap ≡ (written self.old.heap name at bytes.now).heap }
+        ensures held { self.new.held ≡ self.old.held }
+
+        // A refusal changes nothing.
+        ensures err { OnErr result (SamePool self.old self.new) }
+        ensures bounds { SameBounds self.old self.new }
+        ensures was_pool { IsPool self.old }
+        ensures pool { IsPool self.new }
+        ensures touches { self.new.touches ≤ self.old.touches + 4 + 2 * (length bytes.now / 8 + 2) }
+        ensures touches_rise { self.old.touches ≤ self.new.touches }
+    {
+        self.heap.write(name, at, bytes)
+    }
+
+    /// Reads bytes of the payload of the block of that name, from byte `at` of it on, and fills `out` with them.
+    ///
+    /// Refused as `Heap::read` refuses: `Foreign`, else `Stale`, else `Range` where the bytes would go past the end of the
+    /// payload. `out` is then as before. Takes no memory.
+    ///
+    /// ```text
+    /// let mut out = [0; 2];
+    /// pool.read(name, 6, &mut out)?;          // after the write above: out == [0x48, 0x69]
+    /// ```
+    pub fn read(&mut self, name: Name, at: u32, out: &mut [u8]) -> Result<(), Refusal>
+        ensures answer { result ≡ read_answer (read_of self.old.heap name at (length out.old)) }
+        ensures bytes { out.new ≡ result_unwrap_or (read_of self.old.heap name at (length out.old)) out.old }
+        ensures same { SamePool self.old self.new }
+        ensures was_pool { IsPool self.old }
+        ensures touches { self.new.touches ≤ self.old.touches + 4 + (length out.old / 8 + 2) }
+        ensures touches_rise { self.old.touches ≤ self.new.touches }
+    {
+        self.heap.read(name, at, out)
+    }
+
+    /// How many blocks are held: the accepted allocates less the accepted releases.
+    ///
+    /// ```text
+    /// pool.allocate(8)?;
+    /// pool.held() == 1                        // of a new pool
+    /// ```
+    pub fn held(&self) -> u32
+        ensures held { result ≡ self.now.held }
+
+        // No more than may be.
+        ensures few { result ≤ self.now.most }
+        ensures pool { IsPool self.now }
+    {
+        self.held
+    }
+}
