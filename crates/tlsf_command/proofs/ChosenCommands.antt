@@ -1,7 +1,7 @@
 -- What the words ask for, by what `clap` answers of them.
-use Rattle.std.proofs.Common.{◌≡◌, ◌∙◌, ◌^◌, ℕ, false, List, [], ◌∷◌, Option, Some, Result, Ok, codes, length, option_map, inl, inr, sym, ap, subst, arith}
+use Rattle.std.proofs.Common.{◌≡◌, ◌∙◌, ◌^◌, ℕ, false, List, [], ◌∷◌, Option, Some, None, Result, Ok, codes, length, option_map, inl, inr, refl, sym, ap, subst, arith}
 use Rattle.std.specs.Option.{option_map_or, unwrap_or}
-use Rattle.std.specs.Prelude.{option_and_then, pos}
+use Rattle.std.specs.Prelude.{option_and_then, pos, slice_get}
 use Rattle.std.specs.Str.Parse.{ParsesUnsigned}
 use Rattle.clap.specs.Lexer.{without_minus}
 use Rattle.clap.specs.Matches.{ReadsOne, found_of, one_text, subcommand_name_of}
@@ -12,9 +12,10 @@ use Rattle.clap.specs.declared.parser.matches.ArgMatches.{ArgMatches}
 use Rattle.clap.proofs.CallerReads.{signed_reads}
 use Rattle.clap.proofs.ValueTestLemmas.{accepts-Accepts}
 use Rattle.clap.proofs.WalkLemmas.{one_text-rows}
-use Rattle.tlsf_command.specs.CommandLine.{Asks, command_in, faults_of, name_of, number_in, tlsf_app}
+use Rattle.tlsf_command.specs.CommandLine.{Asks, command_in, faults_of, name_of, number_in, text_given, tlsf_app, IsNumberOf}
 use Rattle.tlsf_command.specs.declared.command_line.Choice.{Choice}
-use Rattle.tlsf_command.specs.declared.command_line.Choice.TheVariants.{Replay, Race, Classes}
+use Rattle.tlsf_command.specs.declared.command_line.Choice.TheVariants.{Replay, Race, Classes, Size}
+use Rattle.tlsf_laws.specs.declared.kind.Kind.{Kind}
 use Rattle.tlsf_command.proofs.NamedCommands.{faultless_named, race_named, replay_named, subcommand_name-rows}
 use Rattle.tlsf_command.proofs.SizeWords.{IsSized}
 
@@ -39,6 +40,19 @@ replay_other same = let counted : 6 ≡ 7 = ap size_of_name same in omega (arith
 
 race_other : Some (codes "race") ≡ Some (codes "classes") → ⊥
 race_other same = let counted : 4 ≡ 7 = ap size_of_name same in omega (arith, counted)
+
+size_other : Some (codes "size") ≡ Some (codes "classes") → ⊥
+size_other same = let counted : 4 ≡ 7 = ap size_of_name same in omega (arith, counted)
+
+size_differs : Some (codes "size") ≡ Some (codes "replay") → ⊥
+size_differs same = let counted : 4 ≡ 6 = ap size_of_name same in omega (arith, counted)
+
+-- `size` and `race` have another first letter
+abbrev letter_of_name : Option Text → ℕ
+letter_of_name name = option_map_or (λ text. unwrap_or (slice_get text 0) 0) name 0
+
+size_no_race : Some (codes "size") ≡ Some (codes "race") → ⊥
+size_no_race same = let letters : 115 ≡ 114 = ap letter_of_name same in omega (arith, letters)
 
 race_differs : Some (codes "race") ≡ Some (codes "replay") → ⊥
 race_differs same = let counted : 4 ≡ 6 = ap size_of_name same in omega (arith, counted)
@@ -66,14 +80,25 @@ pub classes_not_replay : (words : List Text) (called : Text) (n : ℕ) → Asks 
 classes_not_replay words called n asks is =
     replay_other (sym (asked_name words _ (Classes n) asks (ap command_in is ∙ replay_named called)))
 
--- where the command is neither `classes` nor `race` it is `replay`
+-- words that ask for a size are not the program's name and `race`
+pub size_not_race : (words : List Text) (called : Text) (kind : Kind) → Asks words (Size kind) → words ≡ called ∷ codes "race" ∷ [] → ⊥
+size_not_race words called kind asks is =
+    size_no_race (asked_name words _ (Size kind) asks (ap command_in is ∙ race_named called))
+
+-- nor its name and `replay`
+pub size_not_replay : (words : List Text) (called : Text) (kind : Kind) → Asks words (Size kind) → words ≡ called ∷ codes "replay" ∷ [] → ⊥
+size_not_replay words called kind asks is =
+    size_differs (asked_name words _ (Size kind) asks (ap command_in is ∙ replay_named called))
+
+-- where the command is none of the others it is `replay`
 pub asks_replay : (words : List Text) (matches : ArgMatches) → Answers words matches
     → (subcommand_name_of matches ≡ Some (codes "classes") → ⊥) → (subcommand_name_of matches ≡ Some (codes "race") → ⊥)
-    → Asks words Replay
-asks_replay words matches answers no_classes no_race = elim (faultless_named words answers.0) [
+    → (subcommand_name_of matches ≡ Some (codes "size") → ⊥) → Asks words Replay
+asks_replay words matches answers no_classes no_race no_size = elim (faultless_named words answers.0) [
   | inl is ↦ record { faultless = answers.0; named = ap label is.1; sized = tt }
   | inr (inl is) ↦ absurd (no_race (label_of_words words matches answers ∙ ap label is.1))
-  | inr (inr is) ↦ absurd (no_classes (label_of_words words matches answers ∙ ap label is.1))
+  | inr (inr (inl is)) ↦ absurd (no_classes (label_of_words words matches answers ∙ ap label is.1))
+  | inr (inr (inr is)) ↦ absurd (no_size (label_of_words words matches answers ∙ ap label is.1))
 ]
 
 -- where it is `race` the words ask for a race
@@ -91,8 +116,39 @@ sized_rows : (words : List Text) (matches : ArgMatches) → Answers words matche
 sized_rows words matches answers called = elim (faultless_named words answers.0) [
   | inl is ↦ absurd (replay_other (sym (ap label is.1) ∙ (sym (label_of_words words matches answers) ∙ called)))
   | inr (inl is) ↦ absurd (race_other (sym (ap label is.1) ∙ (sym (label_of_words words matches answers) ∙ called)))
-  | inr (inr is) ↦ is
+  | inr (inr (inl is)) ↦ is
+  | inr (inr (inr is)) ↦ absurd (size_other (sym (ap label is.1) ∙ (sym (label_of_words words matches answers) ∙ called)))
 ]
+
+-- the text that the words give under an id, by the matches of the command that was entered
+text_entered : (words : List Text) (matches given : ArgMatches) (id name : Text) → Answers words matches
+    → subcommand_name_of matches ≡ Some name
+    → option_map (λ (entered : Text × List Row). entered.1) (subcommand_rows_of matches) ≡ Some (rows_of (found_of given))
+    → one_text (found_of given) id ≡ text_given id words
+text_entered words matches given id name answers called entered =
+    one_text-rows (found_of given) id ∙ (sym (ap (option_and_then (one_of id)) entered)
+    ∙ (through (subcommand_rows_of matches) ∙ ap (option_and_then (λ (e : Text × List Row). one_of id e.1)) answers.1))
+  where
+    through : (o : Option (Text × List Row)) → option_and_then (one_of id) (option_map (λ (e : Text × List Row). e.1) o)
+        ≡ option_and_then (λ (e : Text × List Row). one_of id e.1) o
+    through None = refl
+    through (Some e) = refl
+
+-- where the command is `size` the words ask for the numbers that are read of the matches
+pub asks_size : (words : List Text) (matches given : ArgMatches) (kind : Kind) → Answers words matches
+    → subcommand_name_of matches ≡ Some (codes "size")
+    → option_map (λ (entered : Text × List Row). entered.1) (subcommand_rows_of matches) ≡ Some (rows_of (found_of given))
+    → IsNumberOf (one_text (found_of given) (codes "B")) kind.most
+    → IsNumberOf (one_text (found_of given) (codes "N")) kind.len
+    → Asks words (Size kind)
+asks_size words matches given kind answers called entered most len = record {
+  faultless = answers.0;
+  named = sym (label_of_words words matches answers) ∙ called;
+  sized = (
+    subst (λ (text : Option Text). IsNumberOf text kind.most) (text_entered words matches given (codes "B") (codes "size") answers called entered) most,
+    subst (λ (text : Option Text). IsNumberOf text kind.len) (text_entered words matches given (codes "N") (codes "size") answers called entered) len,
+  );
+}
 
 -- the number that is read of the text of the size
 module _ (E : Type 0) (G : List ℕ → Result ℕ E → Type 0) (only : (text : List ℕ) (r : Result ℕ E) → G text r → ParsesUnsigned 32 10 text r) where

@@ -4,3 +4,4 @@ pub mod NamedCommands  -- a command line that comes to no fault names a command 
 pub mod SizeWords  -- the words after `classes`: where they come to no fault, they are one size
 pub mod ChosenCommands  -- what the words ask for, by what `clap` answers of them
 pub mod RunEnds  -- how a run ends that `clap` ends by an error
+pub mod Greatest  -- the most bytes for so many blocks

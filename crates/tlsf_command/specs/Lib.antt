@@ -1,4 +1,5 @@
 pub mod FaultLines
 pub mod ClassLines
+pub mod SizeLines
 pub mod CommandLine
 pub mod Runs

@@ -7,7 +7,9 @@ use Rattle.clap.specs.declared.error.kind.ErrorKind.TheVariants.{DisplayHelp, Di
 use Rattle.tlsf_command.specs.ClassLines.{class_line}
 use Rattle.tlsf_command.specs.CommandLine.{Asks, faults_of}
 use Rattle.tlsf_command.specs.FaultLines.{fault_line, status_of_fault}
-use Rattle.tlsf_command.specs.declared.command_line.Choice.TheVariants.{Classes, Race, Replay}
+use Rattle.tlsf_command.specs.SizeLines.{size_line, unreached_line, IsGreatest, IsReached}
+use Rattle.tlsf_laws.specs.declared.kind.Kind.{Kind}
+use Rattle.tlsf_command.specs.declared.command_line.Choice.TheVariants.{Classes, Race, Replay, Size}
 use Rattle.tlsf_trace.specs.Prefixes.{AppendsFront}
 use Rattle.tlsf_trace.specs.Replay.{IsRun, Outputs, Races, Replays}
 use Rattle.tlsf_trace.specs.TraceFaults.{no_memory_fault, write_fault}
@@ -62,6 +64,29 @@ pub record ShowsClasses (n status : ℕ) (old new : Streams) : Type 0 where
   pub ended : ((status ≡ 0) × Appends old.written new.written (class_line n) × (new.errors ≡ old.errors))
       ⊎ ((status ≡ 1) × AppendsFront old.errors new.errors (fault_line write_fault))
 
+-- the line on so many blocks of so many bytes was written, or a prefix of it, where a write failed and was reported
+pub record ShowsWords (kind : Kind) (status : ℕ) (old new : Streams) : Type 0 where
+  pub reached : IsReached kind.most kind.len
+  pub front : AppendsFront old.written new.written (size_line kind.most kind.len)
+  pub ended : ((status ≡ 0) × Appends old.written new.written (size_line kind.most kind.len) × (new.errors ≡ old.errors))
+      ⊎ ((status ≡ 1) × AppendsFront old.errors new.errors (fault_line write_fault))
+
+-- no region reaches so far: nothing was written, and the line that says how far one does was reported
+pub record ShowsUnreached (kind : Kind) (status : ℕ) (old new : Streams) : Type 0 where
+  pub unreached : ¬ (IsReached kind.most kind.len)
+  pub written : new.written ≡ old.written
+  pub status_is : status ≡ 2
+  pub blocks : ℕ
+  pub most_blocks : IsGreatest (λ most. IsReached most kind.len) blocks
+  pub bytes : ℕ
+  pub longest : IsGreatest (λ len. IsReached kind.most len) bytes
+  pub reported : AppendsFront old.errors new.errors (unreached_line kind.most kind.len blocks bytes)
+
+-- the words of a region for so many blocks of so many bytes were shown, or it was refused; nothing was read
+pub record ShowsSize (kind : Kind) (status : ℕ) (old new : Streams) : Type 0 where
+  pub left : new.left ≡ old.left
+  pub shown : ShowsWords kind status old new ⊎ ShowsUnreached kind status old new
+
 -- a text was shown, or a write failed and was reported
 pub record ShowsText (status : ℕ) (old new : Streams) : Type 0 where
   pub left : new.left ≡ old.left
@@ -81,13 +106,14 @@ ShowsAnswer DisplayVersion status old new = ShowsText status old new
 ShowsAnswer OutOfMemory status old new = LacksMemory status old new
 ShowsAnswer _ status old new = ShowsUsage status old new
 
--- how a run ends, by its words: it replays, it races, it shows the classes of a size, it answers by one of the faults of the words, or it lacks memory
+-- how a run ends, by its words: it replays, it races, it shows the classes of a size or the words of a region, it answers by one of the faults of the words, or it lacks memory
 abbrev pub Ends : List Text → ℕ → Streams → Streams → Type 0
 Ends words status old new = LacksMemory status old new
     ⊎ ((Asks words Replay × RunsReplay status old new)
     ⊎ ((Asks words Race × RunsRace status old new)
     ⊎ (((n : ℕ) × Asks words (Classes n) × ShowsClasses n status old new)
-    ⊎ ((kind : ErrorKind) × IsAmong kind (faults_of words) × ShowsAnswer kind status old new))))
+    ⊎ (((kind : Kind) × Asks words (Size kind) × ShowsSize kind status old new)
+    ⊎ ((kind : ErrorKind) × IsAmong kind (faults_of words) × ShowsAnswer kind status old new)))))
 
 -- the run is a replay, unless memory ran out before
 abbrev pub ReplaysOrLacksMemory : ℕ → Streams → Streams → Type 0

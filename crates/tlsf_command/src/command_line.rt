@@ -1,12 +1,13 @@
 ghost use Rattle.std.specs.Prelude.{◌≡◌, ℕ, List, [], ◌∷◌, codes, false, map, IfErr, IfOk};
-ghost use Rattle.clap.specs.Words.{app_of, kind_of, new_app, subcommand_of, subcommand_rows_of, FailsBy};
+ghost use Rattle.clap.specs.Words.{app_of, found_of, kind_of, new_app, one_text, rule_of, subcommand_of, subcommand_rows_of, FailsBy};
 ghost use Rattle.clap.specs.declared.builder.command.Command.TheViews.{out-Command};
-ghost use Rattle.tlsf_command.specs.CommandLine.{classes_app, tlsf_app, faults_of, Asks};
+ghost use Rattle.tlsf_command.specs.CommandLine.{classes_app, count_rule, size_app, tlsf_app, faults_of, Asks, IsNumberOf};
 
 use clap::error::ErrorKind;
 use clap::{Arg, ArgAction, ArgMatches, Command, Error};
 use std::alloc::{AllocError, Global};
 use std::convert::AsStr;
+use tlsf_pool::Kind;
 
 /// What a command line asks for.
 #[derive(Clone, Copy, Debug, PartialEq, Eq)]
@@ -20,6 +21,9 @@ pub enum Choice {
     /// `tlsf classes N`: write the class and the search class of a size of N words, 4 to 2^20, to
     /// standard output.
     Classes(u32),
+    /// `tlsf size --blocks B --bytes N`: write the words of the least region that never refuses a
+    /// program of at most B blocks at once, of at most N bytes each, to standard output.
+    Size(Kind),
 }
 
 const PROGRAM_HELP: &str = "\
@@ -34,7 +38,7 @@ and frees the first block:
   f 0 1
 
 'tlsf race' does so with the workers of each phase in threads of their own.
-'tlsf classes N' reads nothing and writes one line.
+'tlsf classes N' and 'tlsf size' read nothing and write one line.
 
 The exit status is 0 where the run is done, 1 where a fault of the trace, of a
 read or of a write ends it, 2 where the command line is refused, and 3 where
@@ -117,6 +121,27 @@ Free blocks of 460 words are kept in class 92, whose least size is 448 words.
 A request for 460 words is served from class 93 on, the least class in which
 no block is too small, as it begins at 464 words.";
 
+const SIZE_HELP: &str = "\
+Nothing is read. Standard output is one line. For '--blocks 100 --bytes 512'
+it is
+
+  words 13631 bytes 109048 ratio 2.13
+
+A heap of 13631 words takes 109048 bytes, 2.13 times the 100 times 512 bytes
+that are asked for. A program that never holds more than 100 blocks, of at most
+512 bytes each, is then never answered NoFit (1), in whatever order it
+allocates and frees. The block that is being asked for counts as held, and so
+does one whose name waits in a lane until its owner takes it.
+
+Not promised: an allocate or a free is refused as Worn (2) once the ticks of the
+heap have ended, and a request above these bounds may find room or not. Each
+heap has words of its own.
+
+The exit status is 0 where the line is written, 1 where a write fails, and 2
+where no region, of 1048576 words at most, is large enough. Standard error then
+has the most blocks of N bytes, and the most bytes for each of B blocks; 0 says
+that there is none.";
+
 // The command `replay`.
 fn replay_command<'a>(alloc: Global) -> Command<'a>
     ensures app { app_of result ≡ new_app (codes "replay") }
@@ -155,6 +180,38 @@ fn classes_command<'a>(alloc: Global) -> Result<Command<'a>, AllocError>
         .arg(size)
 }
 
+// An option of `size`, which takes a number.
+fn count_option<'a>(alloc: Global, id: &'a str, name: &'a str, help: &'static str) -> Arg<'a>
+    ensures rule { rule_of result ≡ count_rule id.entry.now name.entry.now }
+    ensures local { result.global ≡ false }
+{
+    Arg::new(alloc, id)
+        .long(name)
+        .help(help)
+        .required(true)
+        .action(ArgAction::Set)
+        .value_parser(clap::value_parser!(u32).range(1..=4_294_967_295))
+}
+
+// The command `size`.
+fn size_command<'a>(alloc: Global) -> Result<Command<'a>, AllocError>
+    ensures app { IfOk result (λ command. app_of command ≡ size_app) }
+    ensures local { IfOk result (λ command. (out-Command command).has_globals ≡ false) }
+{
+    let blocks = count_option(
+        alloc,
+        "B",
+        "blocks",
+        "The most blocks that are held at once",
+    );
+    let bytes = count_option(alloc, "N", "bytes", "The most bytes of a request");
+    Command::new(alloc, "size")
+        .about("Write how many words a heap needs so that no request is refused for want of room")
+        .after_help(SIZE_HELP)
+        .arg(blocks)?
+        .arg(bytes)
+}
+
 // The program's commands and texts.
 fn tlsf_command<'a>(alloc: Global) -> Result<Command<'a>, AllocError>
     ensures { IfOk result (λ command. app_of command ≡ tlsf_app) }
@@ -167,7 +224,8 @@ fn tlsf_command<'a>(alloc: Global) -> Result<Command<'a>, AllocError>
         .subcommand_required(true)
         .subcommand(replay_command(alloc))?
         .subcommand(race_command(alloc))?
-        .subcommand(classes_command(alloc)?)
+        .subcommand(classes_command(alloc)?)?
+        .subcommand(size_command(alloc)?)
 }
 
 // What `clap` makes of the words.
@@ -177,6 +235,13 @@ fn parse<'a, S: AsStr>(alloc: Global, words: &'a [S]) -> Result<ArgMatches<'a>, 
     ensures kinds { FailsBy (faults_of (map S.text words.entry.now)) result }
 {
     tlsf_command(alloc)?.try_get_matches_from(words)
+}
+
+// The number that the matches give under this id, 0 where they give none.
+fn number_given(given: &ArgMatches<'_>, id: &str) -> u32
+    ensures { IsNumberOf (one_text (found_of given.now) id.now) result }
+{
+    given.get_one::<u32>(id).unwrap_or(0)
 }
 
 /// Reads the words of a command line, the program's name first.
@@ -211,7 +276,13 @@ pub fn choose<'a, S: AsStr>(alloc: Global, words: &'a [S]) -> Result<Choice, Err
         },
         None => match matches.subcommand_matches("race") {
             Some(_) => Ok(Choice::Race),
-            None => Ok(Choice::Replay),
+            None => match matches.subcommand_matches("size") {
+                Some(given) => Ok(Choice::Size(Kind {
+                    most: number_given(given, "B"),
+                    len: number_given(given, "N"),
+                })),
+                None => Ok(Choice::Replay),
+            },
         },
     }
 }

@@ -1,12 +1,13 @@
 ghost use Rattle.std.specs.Prelude.{◌≡◌, ◌≤◌, ◌^◌, ℕ, List, [], ◌∷◌, Option, codes, map};
 ghost use Rattle.clap.specs.Words.{kind_of};
 ghost use Rattle.tlsf_command.specs.FaultLines.{fault_line, status_of_fault};
-ghost use Rattle.tlsf_command.specs.Runs.{streams, status_of, Ends, RacesOrLacksMemory, ReplaysOrLacksMemory, Reports, RunsRace, RunsReplay, ShowsAnswer, ShowsClasses};
+ghost use Rattle.tlsf_command.specs.Runs.{streams, status_of, Ends, RacesOrLacksMemory, ReplaysOrLacksMemory, Reports, RunsRace, RunsReplay, ShowsAnswer, ShowsClasses, ShowsSize};
 ghost use Rattle.tlsf_trace.specs.Prefixes.{AppendsFront};
 
 use crate::class_line::write_class_line;
 use crate::command_line::{Choice, choose};
 use crate::fault_report::FaultReport;
+use crate::size_line::{words_for, write_size_line, write_unreached_line};
 use clap::error::ErrorKind;
 use std::alloc::Global;
 use std::convert::AsStr;
@@ -15,6 +16,7 @@ use std::marker::Sync;
 use std::sync::Wait;
 use std::thread::Threads;
 use tlsf_crew::Gate;
+use tlsf_pool::Kind;
 use tlsf_trace::{Summary, TraceFault, WriteError, race_trace, replay, write_out};
 
 fn write_line<E: Write>(fault: TraceFault, errors: &mut E) -> Result<(), WriteError>
@@ -91,6 +93,24 @@ fn run_classes<W: Write, E: Write>(words: u32, writer: &mut W, errors: &mut E) -
     }
 }
 
+// Writes the line on a region for blocks of this kind, and reports a write that fails, or that no region is large enough.
+fn run_size<W: Write, E: Write>(kind: Kind, writer: &mut W, errors: &mut E) -> u8
+    ensures { (left : Option (List ℕ)) → ShowsSize kind result
+        (streams left (W.contents writer.old) (E.contents errors.old))
+        (streams left (W.contents writer.new) (E.contents errors.new)) }
+{
+    match words_for(kind) {
+        Some(words) => match write_size_line(kind, words, writer) {
+            Ok(()) => 0,
+            Err(fault) => report(TraceFault::from(fault), errors),
+        },
+        None => {
+            let _ = write_unreached_line(kind, errors);
+            2
+        }
+    }
+}
+
 // Writes the text of `clap`, and flushes.
 fn show<W: Write>(error: &clap::Error, writer: &mut W) -> Result<(), WriteError> {
     let written = write!(writer, "{error}").and_then(|()| writer.flush());
@@ -158,6 +178,7 @@ pub fn run<T: Threads + Wait + Sync, S: AsStr, R: Read, W: Write, E: Write, G: G
         Ok(Choice::Replay) => run_replay(alloc, reader, writer, errors),
         Ok(Choice::Race) => run_race(rt, alloc, reader, writer, errors, gate),
         Ok(Choice::Classes(words)) => run_classes(words, writer, errors),
+        Ok(Choice::Size(kind)) => run_size(kind, writer, errors),
         Err(error) => answer(&error, writer, errors),
     }
 }

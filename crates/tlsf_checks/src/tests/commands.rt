@@ -54,7 +54,7 @@ impl<'a> Streams<'a> {
 }
 
 /// A run on this text ends with this status, and with these texts written and reported.
-fn check_run<R: Threads + Wait + Abort + Sync>(
+pub fn check_run<R: Threads + Wait + Abort + Sync>(
     rt: &R,
     alloc: Global,
     words: &str,
@@ -164,6 +164,7 @@ fn reports_a_fault_of_the_writer(rt: HostRuntime) {
         ("tlsf,--help", "Prove"),
         ("tlsf,--version", "tlsf "),
         ("tlsf,classes,460", "class"),
+        ("tlsf,size,--blocks,1,--bytes,8", "words"),
     ] {
         for (room, fails_when_full) in [(5, true), (5, false), (usize::MAX, true)] {
             let mut streams = Streams::new(rt.alloc(), TRACE);
@@ -199,7 +200,8 @@ fn check_told(rt: &impl Abort, words: &str, ending: (u8, &str), streams: &Stream
     );
 }
 
-fn check_words<R: Threads + Wait + Abort + Sync>(
+/// A run on these words ends with this status, and the text stands in what it writes or reports.
+pub fn check_words<R: Threads + Wait + Abort + Sync>(
     rt: &R,
     alloc: Global,
     words: &str,

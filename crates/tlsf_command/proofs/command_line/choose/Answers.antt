@@ -5,7 +5,7 @@ use Rattle.clap.specs.Words.{FailsBy}
 use Rattle.tlsf_command.specs.CommandLine.{Asks, faults_of}
 use Rattle.tlsf_command.specs.declared.command_line.Choice.TheVariants.{Classes}
 use Rattle.tlsf_command.proofs.NamedCommands.{race_fails, replay_fails}
-use Rattle.tlsf_command.proofs.ChosenCommands.{asks_classes, asks_replay}
+use Rattle.tlsf_command.proofs.ChosenCommands.{asks_classes, asks_replay, asks_size}
 use Rattle.tlsf_command.proofs.command_line.choose.Goals as goal
 
 pub returns-in_err-matches-clause-replay : goal.returns-in_err-matches-clause-replay
@@ -43,3 +43,11 @@ returns-clause-asked g c =
     asks_replay _ c.in_ok-matches.matches (c.in_ok-matches.ensures.kinds, c.in_ok-matches.ensures.named)
     (λ called. true≢false (sym (rw c.in-None.is at (c.subcommand_matches.ensures.found.1 called))))
     (λ called. true≢false (sym (rw c.in-None-subcommand_matches.is at (c.subcommand_matches-in-None.ensures.found.1 called))))
+    (λ called. true≢false (sym (rw c.in-None-subcommand_matches-2.is at (c.subcommand_matches-in-None-subcommand_matches.ensures.found.1 called))))
+
+pub returns-in-Some-subcommand_matches-2-clause-asked : goal.returns-in-Some-subcommand_matches-2-clause-asked
+returns-in-Some-subcommand_matches-2-clause-asked g c =
+    let words = map g.S.AsStr.text c.args.words.now in
+    asks_size words c.in_ok-matches.matches c.in-Some-subcommand_matches-2.given.now _
+    (c.in_ok-matches.ensures.kinds, c.in_ok-matches.ensures.named) (c.in-Some-subcommand_matches-2.ensures.found.0 refl)
+    c.in-Some-subcommand_matches-2.ensures.rows c.number_given.ensures c.number_given-in-Some-subcommand_matches-2.ensures

@@ -26,6 +26,8 @@ returns c =
     ∙ ap₂ with_subcommand named_is (ap (λ (a : App). a.top) c.replay_command.ensures.app) in
     let second = c.in_ok-subcommand-2.ensures.shape c.race_command.ensures.local
     ∙ ap₂ with_subcommand first (ap (λ (a : App). a.top) c.race_command.ensures.app) in
-    IfOk-weaker c.subcommand-3.result _ _ (λ command added.
-    added.shape c.in_ok-classes_command.ensures.local
-    ∙ ap₂ with_subcommand second (ap (λ (a : App). a.top) c.in_ok-classes_command.ensures.app)) c.subcommand-3.ensures
+    let third = c.in_ok-subcommand-3.ensures.shape c.in_ok-classes_command.ensures.local
+    ∙ ap₂ with_subcommand second (ap (λ (a : App). a.top) c.in_ok-classes_command.ensures.app) in
+    IfOk-weaker c.subcommand-4.result _ _ (λ command added.
+    added.shape c.in_ok-size_command.ensures.local
+    ∙ ap₂ with_subcommand third (ap (λ (a : App). a.top) c.in_ok-size_command.ensures.app)) c.subcommand-4.ensures

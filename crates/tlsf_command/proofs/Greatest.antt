@@ -1,0 +1,30 @@
+-- The most bytes for so many blocks.
+use Rattle.std.proofs.Common.{◌≡◌, ◌≤◌, ◌^◌, ℕ, zero, suc, Option, Some, None, inl, inr, refl, arith}
+use Rattle.std.specs.Prelude.{IfSome}
+use Rattle.std.specs.Option.{unwrap_or}
+use Rattle.tlsf_heap.specs.Blocks.{want}
+use Rattle.tlsf_laws.specs.Pools.{pool_words}
+use Rattle.tlsf_pool.proofs.Bounds.{words_rise}
+use Rattle.tlsf_command.specs.SizeLines.{IsGreatest, IsReached}
+
+within : (a b c : ℕ) → a ≤ b → b ≤ c → a ≤ c
+within a b c f g = omega (arith, f, g)
+
+least : (k : ℕ) → 0 ≤ k
+least k = omega arith
+
+some_byte : (n : ℕ) → 1 ≤ suc n
+some_byte n = omega arith
+
+-- what is found is the greatest, and 0 stands for none
+pub longest_is : (most : ℕ) (found : Option ℕ) → 1 ≤ most
+    → IfSome found (λ len. (want len ≤ 2 ^ 20) × (pool_words most len ≤ 2 ^ 20))
+    → IfSome found (λ longest. (len : ℕ) → want len ≤ 2 ^ 20 → pool_words most len ≤ 2 ^ 20 → len ≤ longest)
+    → (found ≡ None → ¬ (pool_words most 0 ≤ 2 ^ 20))
+    → IsGreatest (λ len. IsReached most len) (unwrap_or found 0)
+longest_is most None some reached greatest none = (
+  inr refl,
+  λ k is. absurd (none refl (within (pool_words most 0) (pool_words most k) (2 ^ 20) (words_rise most 0 k (least k) is.2) is.3)),
+)
+longest_is most (Some zero) some reached greatest none = (inr refl, λ k is. greatest k is.2 is.3)
+longest_is most (Some (suc n)) some reached greatest none = (inl (some, some_byte n, reached.0, reached.1), λ k is. greatest k is.2 is.3)

@@ -1,0 +1,10 @@
+use Rattle.std.proofs.Common.{◌≤◌, arith, subst, sym}
+use Rattle.tlsf_command.specs.SizeLines.{IsGreatest, IsReached}
+use Rattle.tlsf_command.proofs.Greatest.{longest_is}
+use Rattle.tlsf_command.proofs.size_line.bytes_for.Goals as goal
+
+pub returns : goal.returns
+returns c =
+    let some : 1 ≤ c.args.most = omega (arith, c.if-most-eq0.false) in
+    subst (IsGreatest (λ len. IsReached c.args.most len)) (sym c.unwrap_or.ensures)
+    (longest_is c.args.most c.longest_request.result some c.longest_request.ensures.reached c.longest_request.ensures.greatest c.longest_request.ensures.none)

@@ -1,0 +1,137 @@
+ghost use Rattle.std.specs.Prelude.{◌≡◌, ◌≤◌, ◌*◌, ◌^◌, ℕ, IfOk, IfSome, None, OnOk};
+ghost use Rattle.std.specs.Io.KnownBytes.{Appends};
+ghost use Rattle.tlsf_command.specs.SizeLines.{hundredths, size_line, unreached_line, IsGreatest, IsReached};
+ghost use Rattle.tlsf_laws.specs.Pools.{pool_words};
+ghost use Rattle.tlsf_trace.specs.Prefixes.{AppendsFront};
+
+use arrayvec::ArrayString;
+use std::fmt;
+use std::fmt::Write as _;
+use std::io::Write;
+use tlsf_class::MOST_WORDS;
+use tlsf_pool::{Kind, LONGEST, kinds_words, longest_request, most_blocks};
+use tlsf_trace::{WriteError, write_out};
+
+/// The words of the least region that the law admits for blocks of this kind, None where no region has so many, or
+/// where the kind has no block or no byte.
+///
+/// ```
+/// let words = words_for(Kind { most: 100, len: 512 });        // Some(13631)
+/// ```
+pub fn words_for(kind: Kind) -> Option<u32>
+    ensures some { IfSome result (λ words. IsReached kind.most kind.len × (words ≡ pool_words kind.most kind.len)) }
+    ensures none { result ≡ None → ¬ (IsReached kind.most kind.len) }
+{
+    if kind.most == 0 || kind.len == 0 || kind.len > LONGEST {
+        return None;
+    }
+    let words = kinds_words(&[kind]);
+    if words > u64::from(MOST_WORDS) {
+        return None;
+    }
+    Some(words as u32)
+}
+
+// How many hundredths of the bytes asked for there are in `words` words, to the nearest.
+fn ratio_of(kind: Kind, words: u32) -> u64
+    requires reached { IsReached kind.most kind.len }
+    requires most { words ≤ 2 ^ 20 }
+    ensures { result ≡ hundredths (8 * words) (kind.most * kind.len) }
+{
+    let asked = u64::from(kind.most) * u64::from(kind.len);
+    (100 * (8 * u64::from(words)) + asked / 2) / asked
+}
+
+// The line on a region of `words` for this kind, as `words 13631 bytes 109048 ratio 2.13`.
+fn line_of(kind: Kind, words: u32) -> Result<ArrayString<96>, fmt::Error>
+    requires reached { IsReached kind.most kind.len }
+    requires law { words ≡ pool_words kind.most kind.len }
+    ensures { IfOk result (λ line. line.bytes ≡ size_line kind.most kind.len) }
+{
+    let bytes = 8 * words;
+    let ratio = ratio_of(kind, words);
+    let whole = ratio / 100;
+    let tenth = ratio / 10 % 10;
+    let hundredth = ratio % 10;
+    let mut line = ArrayString::new();
+    writeln!(
+        line,
+        "words {words} bytes {bytes} ratio {whole}.{tenth}{hundredth}"
+    )?;
+    Ok(line)
+}
+
+/// Writes the line on a region of `words` for blocks of this kind, and flushes: its words, its bytes, and how many times the
+/// bytes asked for these are. After an `Err` a prefix of the line was written.
+///
+/// ```
+/// write_size_line(Kind { most: 100, len: 512 }, 13631, &mut writer)?;
+/// // writer holds "words 13631 bytes 109048 ratio 2.13\n" more
+/// ```
+pub fn write_size_line<W: Write>(kind: Kind, words: u32, writer: &mut W) -> Result<(), WriteError>
+    requires reached { IsReached kind.most kind.len }
+    requires law { words ≡ pool_words kind.most kind.len }
+    ensures front { AppendsFront (W.contents writer.old) (W.contents writer.new)
+        (size_line kind.most kind.len) }
+    ensures ok { OnOk result (Appends (W.contents writer.old) (W.contents writer.new)
+        (size_line kind.most kind.len)) }
+{
+    match line_of(kind, words) {
+        Ok(line) => write_out(writer, line.as_bytes()),
+        // The line has at most 60 bytes and 96 have room, but no clause of the line says so.
+        Err(_) => Err(WriteError),
+    }
+}
+
+// The most blocks of so many bytes for which some region has room, 0 where there are none.
+fn blocks_of(len: u32) -> u32
+    ensures { IsGreatest (λ most. IsReached most len) result }
+{
+    if len == 0 || len > LONGEST {
+        return 0;
+    }
+    most_blocks(len)
+}
+
+// The most bytes that each of so many blocks may have, 0 where no region has room for so many.
+fn bytes_for(most: u32) -> u32
+    ensures { IsGreatest (λ len. IsReached most len) result }
+{
+    if most == 0 {
+        return 0;
+    }
+    longest_request(most).unwrap_or(0)
+}
+
+// The line that says how far the greatest region goes.
+fn unreached_line_of(kind: Kind, blocks: u32, bytes: u32) -> Result<ArrayString<160>, fmt::Error>
+    ensures { IfOk result (λ line. line.bytes ≡ unreached_line kind.most kind.len blocks bytes) }
+{
+    let most = kind.most;
+    let len = kind.len;
+    let mut line = ArrayString::new();
+    writeln!(
+        line,
+        "tlsf: no region has so many words: at most {blocks} blocks of {len} bytes, or {most} blocks of at most {bytes} bytes"
+    )?;
+    Ok(line)
+}
+
+/// Writes the line that refuses blocks of this kind, and flushes: the most blocks of this length, and the most bytes for
+/// so many blocks, each 0 where there is none. After an `Err` a prefix of the line was written.
+///
+/// ```
+/// let _ = write_unreached_line(Kind { most: 7655, len: 512 }, &mut errors);
+/// ```
+pub fn write_unreached_line<E: Write>(kind: Kind, errors: &mut E) -> Result<(), WriteError>
+    ensures { (blocks : ℕ) × IsGreatest (λ most. IsReached most kind.len) blocks
+        × ((bytes : ℕ) × IsGreatest (λ len. IsReached kind.most len) bytes
+        × AppendsFront (E.contents errors.old) (E.contents errors.new)
+        (unreached_line kind.most kind.len blocks bytes)) }
+{
+    match unreached_line_of(kind, blocks_of(kind.len), bytes_for(kind.most)) {
+        Ok(line) => write_out(errors, line.as_bytes()),
+        // The line has at most 130 bytes and 160 have room, but no clause of the line says so.
+        Err(_) => Err(WriteError),
+    }
+}
