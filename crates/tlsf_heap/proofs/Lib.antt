@@ -1,6 +1,7 @@
 pub mod Finding
 pub mod Sites
 pub mod Places
+pub mod Placing
 pub mod Permuting
 pub mod Listing
 pub mod LastFreed

@@ -11,7 +11,7 @@ use Rattle.tlsf_heap.specs.Calls.{has_serial, is_named}
 use Rattle.tlsf_words.specs.Lists.{nowhere, ListHeads, list_of, AreThreaded}
 use Rattle.tlsf_heap.specs.Read.{blocks_of}
 use Rattle.tlsf_heap.specs.Listed.{AreFreeBlocks, lists_of, HoldsLists}
-use Rattle.tlsf_heap.specs.Named.{NoneNamed, IsNameTest}
+use Rattle.tlsf_heap.specs.Named.{NoneNamed, IsFirst}
 use Rattle.tlsf_heap.specs.Regions.{RegionState}
 use Rattle.tlsf_heap.proofs.Finding.{not_true, and_left, and_right}
 use Rattle.tlsf_heap.proofs.Showing.{word_at, start_at, shown_here, four_here, ends_here, stands_once, place_of_start}
@@ -96,17 +96,16 @@ module _ {m : Image} {bs : List Block} (shows : Shows m bs) where
       false≢true (sym (other i (record { within = within; place = place })) ∙ and_left (has_serial serial (block_at bs i)) _ e))
 
   -- where a block begins at the place, its serial decides
-  pub named_here : {at i : ℕ} (serial : ℕ) → StandsAt bs at i → (answer : Bool) → has_serial serial (block_at bs i) ≡ answer → IsNameTest at serial bs answer
-  named_here {at = at} {i = i} serial stands true e = (
-    i,
-    record {
-      within = stands.within;
-      here = ap (λ (b : Bool). b && words_in (take i bs) == at) e ∙ eq-eqb _ _ stands.place;
-      before = λ j l. not_true (is_named at serial (site_at bs j)) (λ f.
-          let place : words_in (take j bs) ≡ at = eqb-true _ _ (and_right (has_serial serial (block_at bs j)) _ f) in
-          let same = stands_once bs at j i shows.rooms (record { within = omega (arith, l, stands.within); place = place }) stands in
-          omega (arith, l, same));
-    },
-  )
-  named_here {at = at} {i = i} serial stands false e =
+  pub named_here : {at i : ℕ} (serial : ℕ) → StandsAt bs at i → has_serial serial (block_at bs i) ≡ true → IsFirst at serial bs i
+  named_here {at = at} {i = i} serial stands e = record {
+    within = stands.within;
+    here = ap (λ (b : Bool). b && words_in (take i bs) == at) e ∙ eq-eqb _ _ stands.place;
+    before = λ j l. not_true (is_named at serial (site_at bs j)) (λ f.
+        let place : words_in (take j bs) ≡ at = eqb-true _ _ (and_right (has_serial serial (block_at bs j)) _ f) in
+        let same = stands_once bs at j i shows.rooms (record { within = omega (arith, l, stands.within); place = place }) stands in
+        omega (arith, l, same));
+  }
+
+  pub other_here : {at i : ℕ} (serial : ℕ) → StandsAt bs at i → has_serial serial (block_at bs i) ≡ false → NoneNamed at serial bs
+  other_here {at = at} {i = i} serial stands e =
       none_named at serial (λ j other. ap (λ (k : ℕ). has_serial serial (block_at bs k)) (stands_once bs at j i shows.rooms other stands) ∙ e)

@@ -1,5 +1,5 @@
 -- Blocks where they stand in a list: the one behind, where it begins, and the list around them.
-use Rattle.std.proofs.Common.{◌≡◌, ℕ, ◌+◌, ◌<◌, List, [], ◌∷◌, ◌++◌, length, take, drop, sym, ap, ◌∙◌, arith, append_assoc, add_assoc, add-zero, zero-add}
+use Rattle.std.proofs.Common.{◌≡◌, ℕ, suc, ◌+◌, ◌<◌, List, [], ◌∷◌, ◌++◌, length, take, drop, sym, ap, ◌∙◌, arith, append_assoc, add_assoc, add-zero, zero-add}
 use Rattle.std.proofs.lemmas.List.{take_more}
 use Rattle.tlsf_heap.specs.Blocks.{Block, Free, size_of, words_in, StandsAt}
 use Rattle.tlsf_heap.specs.GoodFit.{block_at}
@@ -31,3 +31,7 @@ module _ {bs : List Block} {at i : ℕ} (stands : StandsAt bs at i) where
   pub back_next : back_behind 0 nowhere (take (i + 1) bs) ≡ at
   back_next =
       ap (back_behind 0 nowhere) (take_more bs i (Free 0 0) stands.within) ∙ back_behind-last 0 nowhere (take i bs) (block_at bs i) ∙ zero-add (words_in (take i bs)) ∙ stands.place
+
+-- the blocks behind one, by the number of those up to it
+pub behind_one : (i : ℕ) (ahead bs : List Block) → ahead ++ drop (i + 1) bs ≡ ahead ++ drop (suc i) bs
+behind_one i ahead bs = let same : i + 1 ≡ suc i = omega arith in ap (λ (k : ℕ). ahead ++ drop k bs) same

@@ -15,6 +15,7 @@ pub mod FreePlaces
 pub mod Stored
 pub mod Numbers
 pub mod Named
+pub mod Placed
 pub mod Reports
 pub mod Tallies
 pub mod Laws

@@ -1,8 +1,10 @@
 -- Which block a name names, for a search by index.
-use Rattle.std.specs.Prelude.{◌≡◌, ◌≢◌, ℕ, ◌<◌, List, Bool, true, false, Result, length, MatchBool, MatchResult}
+use Rattle.std.specs.Prelude.{◌≡◌, ◌≢◌, ℕ, ◌<◌, List, true, false, Option, Result, length, MatchOption, MatchResult}
 use Rattle.tlsf_heap.specs.Blocks.{Block, HeapState}
 use Rattle.tlsf_heap.specs.GoodFit.{site_at}
 use Rattle.tlsf_heap.specs.Calls.{is_named}
+use Rattle.tlsf_heap.specs.Regions.{IsTagOf}
+use Rattle.tlsf_words.specs.declared.tag.Tag.{Tag}
 use Rattle.tlsf_heap.specs.declared.name.Name.{Name}
 use Rattle.tlsf_heap.specs.declared.refusal.Refusal.{Refusal}
 use Rattle.tlsf_heap.specs.declared.refusal.Refusal.TheVariants.{NoFit, Worn, Foreign, Stale, Range}
@@ -17,9 +19,10 @@ pub record IsFirst (at serial : ℕ) (blocks : List Block) (i : ℕ) : Type 0 wh
   pub here : is_named at serial (site_at blocks i) ≡ true
   pub before : (j : ℕ) → j < i → is_named at serial (site_at blocks j) ≡ false
 
--- what the test of a name answers
-abbrev pub IsNameTest : ℕ → ℕ → List Block → Bool → Type 0
-IsNameTest at serial blocks answer = MatchBool answer ((i : ℕ) × IsFirst at serial blocks i) (NoneNamed at serial blocks)
+-- what a search in a region of so many words answers: the tag of the live block that begins at this place with this serial
+abbrev pub IsNameTest : ℕ → ℕ → ℕ → List Block → Option Tag → Type 0
+IsNameTest at serial words blocks found =
+    MatchOption found (NoneNamed at serial blocks) (λ tag. (first : (i : ℕ) × IsFirst at serial blocks i) × IsTagOf words (site_at blocks first.0) tag)
 
 -- a heap has a live block of this name
 abbrev pub IsNamed : HeapState → Name → Type 0
@@ -33,6 +36,6 @@ RefusesName h name NoFit = ⊥
 RefusesName h name Worn = ⊥
 RefusesName h name Range = ⊥
 
--- what the check of a name answers
-abbrev pub IsNameCheck : HeapState → Name → Result (Unit {0}) Refusal → Type 0
-IsNameCheck h name answer = MatchResult answer (λ done. IsNamed h name) (RefusesName h name)
+-- what the check of a name answers: the tag of its block
+abbrev pub IsNameCheck : HeapState → Name → Result Tag Refusal → Type 0
+IsNameCheck h name answer = MatchResult answer (λ tag. (is_named : IsNamed h name) × IsTagOf h.words (site_at h.blocks is_named.1.0) tag) (RefusesName h name)

@@ -1,10 +1,10 @@
 -- A region as its blocks and the lists of its free blocks.
-use Rattle.std.specs.Prelude.{◌≡◌, ◌≢◌, ℕ, ◌+◌, ◌-◌, ◌<◌, ◌≤◌, ◌==◌, List, [], ◌∷◌, ◌++◌, take, drop, nat_le, if◌then◌else◌, slice_index_or, true, false}
+use Rattle.std.specs.Prelude.{◌≡◌, ◌≢◌, ℕ, ◌+◌, ◌-◌, ◌<◌, ◌≤◌, ◌==◌, List, [], ◌∷◌, nat_le, if◌then◌else◌, slice_index_or, true, false}
 use Rattle.std.specs.List.{AllByRecursion}
 use Rattle.tlsf_words.specs.Memory.{Memory}
 use Rattle.tlsf_words.specs.Lists.{nowhere, without_place, IsUnlisted}
 use Rattle.tlsf_words.specs.declared.tag.Tag.{Tag}
-use Rattle.tlsf_heap.specs.Blocks.{Block, size_of, is_free, StandsAt}
+use Rattle.tlsf_heap.specs.Blocks.{Block, Free, size_of, is_free, StandsAt}
 use Rattle.tlsf_heap.specs.Calls.{first_free, last_free, before_free}
 use Rattle.tlsf_heap.specs.GoodFit.{Site, site_at, place_of}
 use Rattle.tlsf_heap.specs.Image.{Image, back_behind, Shows}
@@ -22,10 +22,6 @@ pub record RegionState : Type 0 where
 -- each block has a number of words that a region may have
 abbrev pub AreRegions : List Block → Type 0
 AreRegions blocks = AllByRecursion (λ block. IsRegion (size_of block)) blocks
-
--- the blocks with these in the place of block i
-abbrev pub with_at : List Block → ℕ → List Block → List Block
-with_at blocks i new = take i blocks ++ new ++ drop (i + 1) blocks
 
 -- of the block that begins at a place, where it stands, this holds
 abbrev pub EachAt : List Block → ℕ → (Site → Type 0) → Type 0
@@ -75,6 +71,13 @@ AreUnlisted lists from end = (k : ℕ) → from ≤ k → k < end → IsUnlisted
 -- what is stored in the words of a region, without their touches
 abbrev pub image_of : Memory → Image
 image_of m = record { words = m.words; starts = m.starts }
+
+-- one free block of so many words fills the region, and is in no list yet
+pub record IsOpened (size stamp : ℕ) (r : RegionState) : Type 0 where
+  pub words : r.words ≡ size
+  pub blocks : r.blocks ≡ Free size stamp ∷ []
+  pub lists : (class : ℕ) → list_in r.lists class ≡ []
+  pub touches : r.touches ≡ 3
 
 -- nothing changes but the touches, which rise by `most` at most
 pub record OnlyReads (old new : RegionState) (most : ℕ) : Type 0 where

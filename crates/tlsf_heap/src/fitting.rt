@@ -3,7 +3,7 @@ ghost use Rattle.std.specs.Prelude.{◌≡◌, ◌≢◌, ℕ, ◌+◌, ◌<◌,
 ghost use Rattle.std.specs.List.{AllByRecursion};
 ghost use Rattle.tlsf_heap.specs.Blocks.{size_of, words_in, payload_words, is_free, stamps, words_for, StandsAt, IsPlace};
 ghost use Rattle.tlsf_class.specs.Classes.{class_of};
-ghost use Rattle.tlsf_heap.specs.Regions.{AreRegions, EachAt, HasAt, IsTakenTag, list_in, OnlyReads, Edits};
+ghost use Rattle.tlsf_heap.specs.Regions.{AreRegions, EachAt, HasAt, IsTagOf, IsTakenTag, list_in, OnlyReads, Edits};
 ghost use Rattle.tlsf_heap.specs.GoodFit.{block_at};
 ghost use Rattle.tlsf_heap.specs.Chosen.{IsHead, IsBestClass};
 ghost use Rattle.tlsf_heap.specs.Calls.{carved, coalesced};
@@ -52,18 +52,21 @@ pub fn carve(region: &mut Region, class: Class, words: u32, tick: u64, len: u32)
     at
 }
 
-/// Makes the live block at a place and its free neighbours one free block.
-pub fn coalesce(region: &mut Region, at: u32, tick: u64)
+/// Makes the live block at a place, of this tag, and its free neighbours one free block.
+// Always inline: behind a call the tag is taken apart for all releases, and not where a merge needs a part of it.
+#[inline(always)]
+pub fn coalesce(region: &mut Region, at: u32, own: Tag, tick: u64)
     requires live { HasAt region.old.blocks at (λ s. is_free s.block ≡ false) }
+    requires own { EachAt region.old.blocks at (λ s. IsTagOf region.old.words s own) }
+    requires whole { words_in region.old.blocks ≡ region.old.words }
     requires sized { AreRegions region.old.blocks }
     requires small { words_in region.old.blocks ≤ 2 ^ 20 }
     requires listed { AreFreeLists region.old.blocks (list_in region.old.lists) }
     requires stamped { AllByRecursion (λ s. s < tick) (stamps region.old.blocks) }
     ensures blocks { EachAt region.old.blocks at (λ s. region.new.blocks ≡ coalesced tick s) }
     ensures listed { AreFreeLists region.new.blocks (list_in region.new.lists) }
-    ensures edits { Edits region.old region.new 28 }
+    ensures edits { Edits region.old region.new 27 }
 {
-    let own = region.tag(at);
     let none = Tag { size: 0, ..own };
     let next = take_free(region, at + own.size, none);
     let previous = take_free(region, own.back, none);

@@ -6,6 +6,7 @@ ghost use Rattle.tlsf_heap.specs.Image.{Shows};
 ghost use Rattle.tlsf_heap.specs.Lawful.{IsLawful, IsRegion};
 ghost use Rattle.tlsf_heap.specs.GoodFit.{fits, block_at};
 ghost use Rattle.tlsf_heap.specs.Named.{IsFirst, IsNameCheck};
+ghost use Rattle.tlsf_heap.specs.Placed.{placed_at};
 ghost use Rattle.tlsf_heap.specs.Reports.{report_of, IsGrant};
 ghost use Rattle.tlsf_heap.specs.Given.{payload_words_given};
 ghost use Rattle.tlsf_heap.specs.Calls.{opened, allocated, released, written, read_of, read_answer, has_bytes, last_tick};
@@ -13,6 +14,7 @@ ghost use Rattle.tlsf_heap.specs.Calls.{opened, allocated, released, written, re
 use crate::fitting::{carve, choose, coalesce};
 use crate::name::Name;
 use crate::open_fault::OpenFault;
+use crate::placed_block::PlacedBlock;
 use crate::refusal::Refusal;
 use crate::region::Region;
 use crate::report::Report;
@@ -20,6 +22,7 @@ use crate::tally::Tally;
 use std::alloc::Global;
 use std::marker::Model;
 use tlsf_class::{MOST_WORDS, class_of};
+use tlsf_words::Tag;
 
 #[cfg(test)]
 mod image_tests;
@@ -170,9 +173,9 @@ impl Heap {
         // Accepted or refused, and whatever the region holds: at most 64 touches.
         ensures touches { self.new.touches ≤ self.old.touches + 64 }
 
-        // The count of this code: 3 to check the name, 3 for the block and its neighbours, 12 to take these out of their lists, 6 for
-        // the headers, and 7 to list what is left.
-        ensures most_touches { self.new.touches ≤ self.old.touches + 31 }
+        // The count of this code: 3 to check the name, 2 for the tags of the neighbours, 12 to take these out of their lists, 6 for the
+        // headers, and 7 to list what is left. Some heap needs them all.
+        ensures most_touches { self.new.touches ≤ self.old.touches + 30 }
         ensures touches_rise { self.old.touches ≤ self.new.touches }
 
         // A forged name is not followed: not even a start bit is read unless the place lies in the region, and no word unless a block begins there.
@@ -181,11 +184,11 @@ impl Heap {
         ensures nowhere { name.heap ≡ self.old.heap.id → name.at < self.old.heap.words → ¬ (IsPlace self.old.heap.blocks name.at)
             → self.new.touches ≡ self.old.touches + 1 }
     {
-        self.check(name)?;
+        let own = self.check(name)?;
         if self.tick == u64::MAX {
             return Err(Refusal::Worn);
         }
-        coalesce(&mut self.region, name.at, self.tick);
+        coalesce(&mut self.region, name.at, own, self.tick);
         self.tick += 1;
         Ok(())
     }
@@ -277,8 +280,31 @@ impl Heap {
         Tally::of(&mut self.region, tick).report(tick)
     }
 
-    /// Whether a live block of this heap has that name: if not, `Foreign` or else `Stale`.
-    fn check(&mut self, name: Name) -> Result<(), Refusal>
+    /// The block that begins at a place, None where none does: a number from outside is not followed. Where there is one, the next
+    /// begins at its end, `at + size`, so that a walk from place 0 meets all blocks. Takes no memory.
+    ///
+    /// ```text
+    /// let name = heap.allocate(8)?;                    // of a new heap of 64 words: 4 of them
+    /// heap.block_at(4)                                 // Some(PlacedBlock { at: 4, size: 60, content: Content::Free { stamp: 1 } })
+    /// heap.block_at(5) == None
+    /// ```
+    pub fn block_at(&mut self, at: u32) -> Option<PlacedBlock>
+        ensures block { result ≡ placed_at self.old.heap.blocks at }
+        ensures heap { self.new.heap ≡ self.old.heap }
+        ensures stored { self.new.stored ≡ self.old.stored }
+        ensures was_lawful { IsLawful self.old.heap }
+        ensures touches { self.new.touches ≤ self.old.touches + 4 }
+        ensures touches_rise { self.old.touches ≤ self.new.touches }
+
+        // Not even a start bit is read unless the place lies in the region, and no word unless a block begins there.
+        ensures outside { self.old.heap.words ≤ at → self.new.touches ≡ self.old.touches }
+        ensures nowhere { ¬ (IsPlace self.old.heap.blocks at) → self.new.touches ≤ self.old.touches + 1 }
+    {
+        self.region.block_at(at)
+    }
+
+    /// The tag of the live block of this heap that has that name. Where none has, `Foreign` or else `Stale`.
+    fn check(&mut self, name: Name) -> Result<Tag, Refusal>
         ensures answer { IsNameCheck self.old.heap name result }
         ensures heap { self.new.heap ≡ self.old.heap }
         ensures stored { self.new.stored ≡ self.old.stored }
@@ -294,10 +320,10 @@ impl Heap {
         if name.heap != self.id {
             return Err(Refusal::Foreign);
         }
-        if !self.region.has_live(name.at, name.serial) {
+        let Some(tag) = self.region.find_live(name.at, name.serial) else {
             return Err(Refusal::Stale);
-        }
-        Ok(())
+        };
+        Ok(tag)
     }
 
     /// Whether `n` bytes from number `at` on are payload bytes of the block of that name.

@@ -25,6 +25,7 @@ mod laws;
 mod name;
 mod neighbours;
 mod open_fault;
+mod placed_block;
 mod refusal;
 mod region;
 mod report;
@@ -37,6 +38,7 @@ pub use laws::{
 };
 pub use name::Name;
 pub use open_fault::OpenFault;
+pub use placed_block::{Content, PlacedBlock};
 pub use refusal::Refusal;
 pub use report::Report;
 pub use tlsf_class::MOST_WORDS;

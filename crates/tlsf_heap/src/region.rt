@@ -1,15 +1,19 @@
-ghost use Rattle.std.specs.Prelude.{◌≡◌, ◌≢◌, ℕ, ◌+◌, ◌*◌, ◌/◌, ◌-◌, ◌<◌, ◌≤◌, ◌^◌, [], ◌∷◌, ◌++◌, false, true, length, take, drop, Some, slice_get, Contains, IfOk};
+ghost use Rattle.std.specs.Prelude.{◌≡◌, ℕ, ◌+◌, ◌*◌, ◌/◌, ◌-◌, ◌<◌, ◌≤◌, ◌^◌, [], ◌∷◌, ◌++◌, false, true, length, take, drop, Some, slice_get, Contains, IfOk};
+ghost use Rattle.std.specs.List.{AllByRecursion};
 ghost use Rattle.tlsf_class.specs.Members.{next_member};
-ghost use Rattle.tlsf_words.specs.Lists.{without_place, listed_classes, IsUnlisted};
-ghost use Rattle.tlsf_heap.specs.Blocks.{Free, size_of, words_in, is_free, bytes_of, words_for, StandsAt, IsPlace};
+ghost use Rattle.tlsf_words.specs.Lists.{listed_classes, IsUnlisted};
+ghost use Rattle.tlsf_heap.specs.Blocks.{size_of, is_free, bytes_of, words_for, StandsAt, IsPlace};
 ghost use Rattle.tlsf_heap.specs.GoodFit.{block_at};
 ghost use Rattle.tlsf_heap.specs.Calls;
 ghost use Rattle.tlsf_heap.specs.Image.{mark_of};
+ghost use Rattle.tlsf_heap.specs.Lawful.{HasRoom};
 ghost use Rattle.tlsf_heap.specs.Named.{IsNameTest};
-ghost use Rattle.tlsf_heap.specs.Regions.{SameLists, list_in, with_at, AreUnlisted, EachAt, HasAt, IsTagOf, AreNeighbours, rest_of, OnlyReads, Edits, Rewrites, PutInFront, TakenOut};
+ghost use Rattle.tlsf_heap.specs.Placed.{placed_at};
+ghost use Rattle.tlsf_heap.specs.Regions.{list_in, AreUnlisted, EachAt, HasAt, IsTagOf, AreNeighbours, rest_of, OnlyReads, Rewrites, PutInFront, TakenOut, IsOpened};
 
 use crate::headers::{first_header, live_header, merge_headers, split_header};
 use crate::neighbours::Neighbours;
+use crate::placed_block::{Content, PlacedBlock};
 use std::alloc::Global;
 use std::marker::Model;
 use tlsf_class::Class;
@@ -43,10 +47,7 @@ impl Region {
     pub fn open(alloc: Global, words: u32, stamp: u64) -> Result<Region, NoMemory>
         requires least { 4 ≤ words }
         requires most { words ≤ 2 ^ 20 }
-        ensures words { IfOk result (λ region. region.words ≡ words) }
-        ensures blocks { IfOk result (λ region. region.blocks ≡ Free words stamp ∷ []) }
-        ensures lists { IfOk result (λ region. (class : ℕ) → list_in region.lists class ≡ []) }
-        ensures touches { IfOk result (λ region. region.touches ≡ 3) }
+        ensures { IfOk result (IsOpened words stamp) }
     {
         let mut region = Words::open(alloc, words)?;
         first_header(&mut region, stamp);
@@ -63,24 +64,6 @@ impl Region {
         self.words.len()
     }
 
-    /// The size of the block at a place.
-    pub fn size(&mut self, at: u32) -> u32
-        requires { IsPlace self.old.blocks at }
-        ensures value { EachAt self.old.blocks at (λ s. result ≡ size_of s.block) }
-        ensures reads { OnlyReads self.old self.new 1 }
-    {
-        self.words.tag(at).size
-    }
-
-    /// Whether the block at a place is free.
-    pub fn is_free(&mut self, at: u32) -> bool
-        requires { IsPlace self.old.blocks at }
-        ensures value { EachAt self.old.blocks at (λ s. result ≡ is_free s.block) }
-        ensures reads { OnlyReads self.old self.new 1 }
-    {
-        self.words.tag(at).free
-    }
-
     /// The serial of the live block at a place, or the stamp of the free one.
     pub fn mark(&mut self, at: u32) -> u64
         requires { IsPlace self.old.blocks at }
@@ -90,25 +73,68 @@ impl Region {
         self.words.mark(at)
     }
 
-    /// Whether a live block begins at a place, of all numbers, and has this serial. No word is read unless a block begins there, and
-    /// no start bit unless the place lies in the region: a place from outside is not followed.
-    pub fn has_live(&mut self, at: u32, serial: u64) -> bool
-        ensures answer { IsNameTest at serial self.old.blocks result }
+    /// The tag of the live block that begins at a place, of all numbers, and has this serial; `None` where there is none. No word is
+    /// read unless a block begins there, and no start bit unless the place lies in the region: a place from outside is not followed.
+    pub fn find_live(&mut self, at: u32, serial: u64) -> Option<Tag>
+        ensures answer { IsNameTest at serial self.old.words self.old.blocks result }
         ensures reads { OnlyReads self.old self.new 3 }
         ensures outside { self.old.words ≤ at → self.new.touches ≡ self.old.touches }
         ensures nowhere { at < self.old.words → ¬ (IsPlace self.old.blocks at) → self.new.touches ≡ self.old.touches + 1 }
     {
         if at >= self.words.len() || !self.words.starts(at) {
-            return false;
+            return None;
         }
-        !self.words.tag(at).free && self.words.mark(at) == serial
+        let tag = self.words.tag(at);
+        if tag.free || self.words.mark(at) != serial {
+            return None;
+        }
+        Some(tag)
+    }
+
+    /// Whether a block begins at a place, of all numbers. No start bit is read unless the place lies in the region.
+    fn begins(&mut self, at: u32) -> bool
+        ensures yes { result ≡ true → IsPlace self.old.blocks at }
+        ensures no { result ≡ false → ¬ (IsPlace self.old.blocks at) }
+        ensures inside { result ≡ true → at < self.old.words }
+        ensures rooms { AllByRecursion HasRoom self.old.blocks }
+        ensures reads { OnlyReads self.old self.new 1 }
+        ensures outside { self.old.words ≤ at → self.new.touches ≡ self.old.touches }
+    {
+        at < self.words.len() && self.words.starts(at)
+    }
+
+    /// The block that begins at a place, of all numbers. No word is read unless a block begins there, and no start bit unless the
+    /// place lies in the region.
+    pub fn block_at(&mut self, at: u32) -> Option<PlacedBlock>
+        ensures answer { result ≡ placed_at self.old.blocks at }
+        ensures reads { OnlyReads self.old self.new 4 }
+        ensures outside { self.old.words ≤ at → self.new.touches ≡ self.old.touches }
+        ensures nowhere { ¬ (IsPlace self.old.blocks at) → self.new.touches ≤ self.old.touches + 1 }
+    {
+        if !self.begins(at) {
+            return None;
+        }
+        let tag = self.tag(at);
+        let mark = self.mark(at);
+        let content = if tag.free {
+            Content::Free { stamp: mark }
+        } else {
+            Content::Live {
+                serial: mark,
+                length: self.length(at),
+            }
+        };
+        Some(PlacedBlock {
+            at,
+            size: tag.size,
+            content,
+        })
     }
 
     /// The tag of the block at a place.
     pub fn tag(&mut self, at: u32) -> Tag
         requires { IsPlace self.old.blocks at }
         ensures value { EachAt self.old.blocks at (λ s. IsTagOf self.old.words s result) }
-        ensures whole { words_in self.old.blocks ≡ self.old.words }
         ensures reads { OnlyReads self.old self.new 1 }
     {
         self.words.tag(at)
@@ -135,10 +161,8 @@ impl Region {
     /// Writes payload bytes of the live block at a place, from byte `offset` of it on.
     pub fn write(&mut self, at: u32, offset: u32, bytes: &[u8])
         requires { (i : ℕ) × StandsAt self.old.blocks at i × (offset + length bytes.now ≤ length (bytes_of (block_at self.old.blocks i))) }
-        ensures blocks { (i : ℕ) → StandsAt self.old.blocks at i →
-            self.new.blocks ≡ with_at self.old.blocks i (Calls.with_bytes (block_at self.old.blocks i) (Calls.overwritten (bytes_of (block_at self.old.blocks i)) offset bytes.now) ∷ []) }
-        ensures lists { SameLists (list_in self.new.lists) (list_in self.old.lists) }
-        ensures edits { Edits self.old self.new (2 * (length bytes.now / 8 + 2)) }
+        ensures { EachAt self.old.blocks at (λ s. Rewrites self.old self.new
+            (s.before ++ (Calls.with_bytes s.block (Calls.overwritten (bytes_of s.block) offset bytes.now) ∷ []) ++ s.after) (2 * (length bytes.now / 8 + 2))) }
     {
         self.words.copy_in(at, offset, bytes);
     }

@@ -68,13 +68,13 @@ impl Tally {
         ensures behind { at < result }
         ensures reads { OnlyReads region.old region.new 3 }
     {
-        let size = region.size(at);
-        if region.is_free(at) {
-            self.add_free(size, region.mark(at));
+        let tag = region.tag(at);
+        if tag.free {
+            self.add_free(tag.size, region.mark(at));
         } else {
-            self.add_live(size, region.length(at));
+            self.add_live(tag.size, region.length(at));
         }
-        at + size
+        at + tag.size
     }
 
     /// Adds a live block.

@@ -3,6 +3,7 @@ ghost use Rattle.std.specs.Result.{result_unwrap_or};
 ghost use Rattle.tlsf_heap.specs.Blocks;
 ghost use Rattle.tlsf_heap.specs.Lawful.{IsRegion};
 ghost use Rattle.tlsf_heap.specs.GoodFit.{fits};
+ghost use Rattle.tlsf_heap.specs.Placed.{placed_at};
 ghost use Rattle.tlsf_heap.specs.Reports.{report_of, IsGrant};
 ghost use Rattle.tlsf_heap.specs.Given.{payload_words_given};
 ghost use Rattle.tlsf_heap.specs.Calls.{opened, allocated, released, written, read_of, read_answer, last_tick};
@@ -10,7 +11,7 @@ ghost use Rattle.tlsf_lock.specs.Grants.{IsCounted, AreCounts, SameCount, accept
 
 use std::alloc::Global;
 use std::marker::Model;
-use tlsf_heap::{Heap, Name, OpenFault, Refusal, Report};
+use tlsf_heap::{Heap, Name, OpenFault, PlacedBlock, Refusal, Report};
 
 /// A heap that counts the allocates and the releases that it accepts: what the lock of a `LockedHeap` keeps.
 ///
@@ -178,6 +179,22 @@ impl Counted {
         ensures touches_rise { self.old.touches ≤ self.new.touches }
     {
         self.heap.report()
+    }
+
+    /// The block that begins at a place, None where none does. The next begins at its end, `at + size`. Takes no memory.
+    ///
+    /// ```
+    /// let block = heap.lock(&rt).block_at(0); // of a new heap of 1024 words
+    /// assert_eq!(block.map(|block| block.size), Some(1024));
+    /// ```
+    pub fn block_at(&mut self, at: u32) -> Option<PlacedBlock>
+        ensures block { result ≡ placed_at self.old.heap.blocks at }
+        ensures same { SameCount self.old self.new }
+        ensures was_counted { IsCounted self.old }
+        ensures touches { self.new.touches ≤ self.old.touches + 4 }
+        ensures touches_rise { self.old.touches ≤ self.new.touches }
+    {
+        self.heap.block_at(at)
     }
 
     /// How many allocates were accepted, by whichever thread.

@@ -15,18 +15,18 @@ returns-in_err-check-clause-answer c =
 
 pub length-length-requires : goal.length-length-requires
 length-length-requires c =
-    let named = (named_same (state_of c.self.inside) c.args.self.now.heap c.args.name (ap (λ (s : Shown). s.heap) c.self.view_is ∙ c.in_ok-check.ensures.heap) c.in_ok-check.ensures.answer).1 in
+    let named = (named_same (state_of c.self.inside) c.args.self.now.heap c.args.name (ap (λ (s : Shown). s.heap) c.self.view_is ∙ c.in_ok-check.ensures.heap) c.in_ok-check.ensures.answer.0).1 in
     (named.0, named_stands _ _ _ _ named.1, named_live _ _ _ _ named.1)
 
 pub returns-then-at-length-clause-answer : goal.returns-then-at-length-clause-answer
 returns-then-at-length-clause-answer c =
     let over : c.length-length.result < c.args.at + c.args.n = elim c.then-at-length.branch [ then-at-length-via-then-at-length w ↦ omega arith | then-at-length-via-else-at-length+then-n-length w ↦ omega arith ] in
-    range_past (state_of c.self.inside) c.args.self.now.heap c.args.name c.args.at c.args.n c.length-length.result (ap (λ (s : Shown). s.heap) c.self.view_is ∙ c.in_ok-check.ensures.heap) c.in_ok-check.ensures.answer
+    range_past (state_of c.self.inside) c.args.self.now.heap c.args.name c.args.at c.args.n c.length-length.result (ap (λ (s : Shown). s.heap) c.self.view_is ∙ c.in_ok-check.ensures.heap) c.in_ok-check.ensures.answer.0
     c.length-length.ensures.value over
 
 within : (c : goal.Else-n-length) → Ranged c.args.self.now.heap c.args.name c.args.at c.args.n
 within c =
-    range_within (state_of c.self.inside) c.args.self.now.heap c.args.name c.args.at c.args.n c.length-length.result (ap (λ (s : Shown). s.heap) c.self.view_is ∙ c.in_ok-check.ensures.heap) c.in_ok-check.ensures.answer
+    range_within (state_of c.self.inside) c.args.self.now.heap c.args.name c.args.at c.args.n c.length-length.result (ap (λ (s : Shown). s.heap) c.self.view_is ∙ c.in_ok-check.ensures.heap) c.in_ok-check.ensures.answer.0
     c.length-length.ensures.value (omega arith)
 
 pub returns-clause-answer : goal.returns-clause-answer
@@ -38,13 +38,13 @@ returns-clause-place c = (within c).range
 -- ---- the name was not forged
 
 pub returns-then-at-length-clause-outside : goal.returns-then-at-length-clause-outside
-returns-then-at-length-clause-outside c past = absurd (omega (arith, past, named_inside c.args.self.now.heap c.args.name c.in_ok-check.ensures.lawful c.in_ok-check.ensures.answer.1.0 c.in_ok-check.ensures.answer.1.1))
+returns-then-at-length-clause-outside c past = absurd (omega (arith, past, named_inside c.args.self.now.heap c.args.name c.in_ok-check.ensures.lawful c.in_ok-check.ensures.answer.0.1.0 c.in_ok-check.ensures.answer.0.1.1))
 
 pub returns-then-at-length-clause-nowhere : goal.returns-then-at-length-clause-nowhere
-returns-then-at-length-clause-nowhere c own inside none = absurd (none (c.in_ok-check.ensures.answer.1.0, named_stands c.args.name.at c.args.name.serial c.args.self.now.heap.blocks c.in_ok-check.ensures.answer.1.0 c.in_ok-check.ensures.answer.1.1))
+returns-then-at-length-clause-nowhere c own inside none = absurd (none (c.in_ok-check.ensures.answer.0.1.0, named_stands c.args.name.at c.args.name.serial c.args.self.now.heap.blocks c.in_ok-check.ensures.answer.0.1.0 c.in_ok-check.ensures.answer.0.1.1))
 
 pub returns-clause-outside : goal.returns-clause-outside
-returns-clause-outside c past = absurd (omega (arith, past, named_inside c.args.self.now.heap c.args.name c.in_ok-check.ensures.lawful c.in_ok-check.ensures.answer.1.0 c.in_ok-check.ensures.answer.1.1))
+returns-clause-outside c past = absurd (omega (arith, past, named_inside c.args.self.now.heap c.args.name c.in_ok-check.ensures.lawful c.in_ok-check.ensures.answer.0.1.0 c.in_ok-check.ensures.answer.0.1.1))
 
 pub returns-clause-nowhere : goal.returns-clause-nowhere
-returns-clause-nowhere c own inside none = absurd (none (c.in_ok-check.ensures.answer.1.0, named_stands c.args.name.at c.args.name.serial c.args.self.now.heap.blocks c.in_ok-check.ensures.answer.1.0 c.in_ok-check.ensures.answer.1.1))
+returns-clause-nowhere c own inside none = absurd (none (c.in_ok-check.ensures.answer.0.1.0, named_stands c.args.name.at c.args.name.serial c.args.self.now.heap.blocks c.in_ok-check.ensures.answer.0.1.0 c.in_ok-check.ensures.answer.0.1.1))

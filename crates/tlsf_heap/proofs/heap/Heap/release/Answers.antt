@@ -1,32 +1,36 @@
-use Rattle.std.proofs.Common.{◌≡◌, ◌+◌, sym, ap, ◌∙◌, subst, Ok, Err, arith}
+use Rattle.std.proofs.Common.{◌≡◌, ℕ, ◌+◌, sym, ap, ◌∙◌, subst, Ok, Err, arith}
 use Rattle.std.proofs.lemmas.Result.{err_from_is_err_and}
 use Rattle.tlsf_heap.specs.Blocks.{HeapState}
+use Rattle.tlsf_heap.specs.GoodFit.{site_at}
+use Rattle.tlsf_heap.specs.Named.{IsNameCheck}
+use Rattle.tlsf_heap.specs.Regions.{IsTagOf}
 use Rattle.tlsf_heap.specs.Shown.{Shown}
 use Rattle.tlsf_heap.specs.Stored.{state_of}
 use Rattle.tlsf_heap.specs.declared.refusal.Refusal.TheVariants.{Worn}
 use Rattle.tlsf_heap.proofs.Allocating.{lawful_regions}
 use Rattle.tlsf_heap.proofs.Lawfulness.{with_region}
 use Rattle.tlsf_heap.proofs.Naming.{named_same, named_stands, named_live, named_inside}
+use Rattle.tlsf_heap.proofs.Reading.{at_index}
 use Rattle.tlsf_heap.proofs.Releasing.{Releases, releases_refused, releases_worn, releases_block}
 use Rattle.tlsf_heap.proofs.heap.Heap.release.Goals as goal
 
 -- ---- the name is refused
 
-unnamed : (c : goal.After-from_residual) → Releases c.args.self.now.heap c.args.name (Err c.in_err-check.field-0.0) c.check.new.self.heap
-unnamed c = releases_refused c.args.self.now.heap c.check.new.self.heap c.args.name c.in_err-check.ensures.lawful c.in_err-check.ensures.heap _ c.in_err-check.ensures.answer
+pub returns-in_err-own-clause-answer : goal.returns-in_err-own-clause-answer
+returns-in_err-own-clause-answer c =
+    let p = err_from_is_err_and c.from_residual.result c.from_residual.ensures.1 in
+    rw (p.1, p.2) (releases_refused c.args.self.now.heap c.check.new.self.heap c.args.name c.in_err-own.ensures.lawful c.in_err-own.ensures.heap _ c.in_err-own.ensures.answer).is_answer
 
-pub returns-in_err-check-clause-answer : goal.returns-in_err-check-clause-answer
-returns-in_err-check-clause-answer c = let p = err_from_is_err_and c.from_residual.result c.from_residual.ensures.1 in rw (p.1, p.2) (unnamed c).is_answer
-
-pub returns-in_err-check-clause-heap : goal.returns-in_err-check-clause-heap
-returns-in_err-check-clause-heap c = (unnamed c).is_heap
+pub returns-in_err-own-clause-heap : goal.returns-in_err-own-clause-heap
+returns-in_err-own-clause-heap c =
+    (releases_refused c.args.self.now.heap c.check.new.self.heap c.args.name c.in_err-own.ensures.lawful c.in_err-own.ensures.heap _ c.in_err-own.ensures.answer).is_heap
 
 -- ---- the tick is at its last value
 
 worn : (c : goal.Then-self) → Releases c.args.self.now.heap c.args.name (Err Worn) c.check.new.self.heap
 worn c =
-    let same : state_of c.self.inside ≡ c.args.self.now.heap = ap (λ (s : Shown). s.heap) c.self.view_is ∙ c.in_ok-check.ensures.heap in
-    releases_worn c.args.self.now.heap c.check.new.self.heap c.args.name c.in_ok-check.ensures.lawful c.in_ok-check.ensures.heap c.in_ok-check.ensures.answer
+    let same : state_of c.self.inside ≡ c.args.self.now.heap = ap (λ (s : Shown). s.heap) c.self.view_is ∙ c.in_ok-own.ensures.heap in
+    releases_worn c.args.self.now.heap c.check.new.self.heap c.args.name c.in_ok-own.ensures.lawful c.in_ok-own.ensures.heap c.in_ok-own.ensures.answer.0
     (sym (ap (λ (s : HeapState). s.tick) same) ∙ c.if-self.true)
 
 pub returns-then-self-clause-answer : goal.returns-then-self-clause-answer
@@ -39,17 +43,24 @@ returns-then-self-clause-heap c = (worn c).is_heap
 
 pub coalesce-requires-clause-live : goal.coalesce-requires-clause-live
 coalesce-requires-clause-live c =
-    let same : state_of c.self.inside ≡ c.args.self.now.heap = ap (λ (s : Shown). s.heap) c.self.view_is ∙ c.in_ok-check.ensures.heap in
-    let named = named_same (state_of c.self.inside) c.args.self.now.heap c.args.name same c.in_ok-check.ensures.answer in
+    let same : state_of c.self.inside ≡ c.args.self.now.heap = ap (λ (s : Shown). s.heap) c.self.view_is ∙ c.in_ok-own.ensures.heap in
+    let named = named_same (state_of c.self.inside) c.args.self.now.heap c.args.name same c.in_ok-own.ensures.answer.0 in
     (named.1.0, named_stands _ _ _ _ named.1.1, named_live _ _ _ _ named.1.1)
+
+pub coalesce-requires-clause-own : goal.coalesce-requires-clause-own
+coalesce-requires-clause-own c i stands =
+    let same : state_of c.self.inside ≡ c.args.self.now.heap = ap (λ (s : Shown). s.heap) c.self.view_is ∙ c.in_ok-own.ensures.heap in
+    let checked = subst (λ (h : HeapState). IsNameCheck h c.args.name (Ok c.in_ok-own.own)) (sym same) c.in_ok-own.ensures.answer in
+    at_index c.self.invariant.shows (λ (i : ℕ). IsTagOf c.self.inside.region.words (site_at c.self.inside.region.blocks i) c.in_ok-own.own)
+    (checked.0.1.0, named_stands _ _ _ _ checked.0.1.1, checked.1) stands
 
 pub coalesce-requires-clause-sized : goal.coalesce-requires-clause-sized
 coalesce-requires-clause-sized c = lawful_regions (state_of c.self.inside) c.self.invariant.lawful c.self.invariant.small
 
 freed : (c : goal.After-self-1) → Releases c.args.self.now.heap c.args.name (Ok tt) (with_region (state_of c.self.inside) (c.self.inside.tick + 1) c.coalesce.new.region)
 freed c =
-    let same : state_of c.self.inside ≡ c.args.self.now.heap = ap (λ (s : Shown). s.heap) c.self.view_is ∙ c.in_ok-check.ensures.heap in
-    let named = named_same (state_of c.self.inside) c.args.self.now.heap c.args.name same c.in_ok-check.ensures.answer in
+    let same : state_of c.self.inside ≡ c.args.self.now.heap = ap (λ (s : Shown). s.heap) c.self.view_is ∙ c.in_ok-own.ensures.heap in
+    let named = named_same (state_of c.self.inside) c.args.self.now.heap c.args.name same c.in_ok-own.ensures.answer.0 in
     subst (λ (s : HeapState). Releases s c.args.name (Ok tt) (with_region (state_of c.self.inside) (c.self.inside.tick + 1) c.coalesce.new.region)) same
     (releases_block (state_of c.self.inside) c.args.name c.coalesce.new.region named c.self.invariant.lawful c.coalesce.ensures.edits.words
     (c.coalesce.ensures.blocks named.1.0 (named_stands _ _ _ _ named.1.1)) c.if-self.false)
@@ -74,7 +85,7 @@ invariant_of-self c = record {
 -- ---- the name was not forged
 
 pub returns-clause-outside : goal.returns-clause-outside
-returns-clause-outside c past = absurd (omega (arith, past, named_inside c.args.self.now.heap c.args.name c.in_ok-check.ensures.lawful c.in_ok-check.ensures.answer.1.0 c.in_ok-check.ensures.answer.1.1))
+returns-clause-outside c past = absurd (omega (arith, past, named_inside c.args.self.now.heap c.args.name c.in_ok-own.ensures.lawful c.in_ok-own.ensures.answer.0.1.0 c.in_ok-own.ensures.answer.0.1.1))
 
 pub returns-clause-nowhere : goal.returns-clause-nowhere
-returns-clause-nowhere c own inside none = absurd (none (c.in_ok-check.ensures.answer.1.0, named_stands c.args.name.at c.args.name.serial c.args.self.now.heap.blocks c.in_ok-check.ensures.answer.1.0 c.in_ok-check.ensures.answer.1.1))
+returns-clause-nowhere c own inside none = absurd (none (c.in_ok-own.ensures.answer.0.1.0, named_stands c.args.name.at c.args.name.serial c.args.self.now.heap.blocks c.in_ok-own.ensures.answer.0.1.0 c.in_ok-own.ensures.answer.0.1.1))

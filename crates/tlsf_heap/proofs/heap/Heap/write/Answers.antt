@@ -1,5 +1,5 @@
-use Rattle.std.proofs.Common.{◌≡◌, length, sym, ap, ◌∙◌, arith}
-use Rattle.tlsf_heap.specs.Blocks.{HeapState}
+use Rattle.std.proofs.Common.{◌≡◌, ℕ, length, sym, ap, ◌∙◌, arith}
+use Rattle.tlsf_heap.specs.Blocks.{HeapState, StandsAt}
 use Rattle.tlsf_heap.specs.Shown.{Shown}
 use Rattle.tlsf_heap.specs.Calls.{Outcome}
 use Rattle.tlsf_heap.specs.FreePlaces.{free_places}
@@ -9,6 +9,7 @@ use Rattle.tlsf_heap.proofs.Listing.{same_lists}
 use Rattle.tlsf_heap.proofs.Lawfulness.{with_region}
 use Rattle.tlsf_heap.proofs.Naming.{named_stands, named_inside}
 use Rattle.tlsf_heap.proofs.Writing.{range_stands, unwritten, Writes, writes}
+use Rattle.tlsf_heap.proofs.Standing.{behind_one}
 use Rattle.tlsf_heap.proofs.heap.Heap.write.Goals as goal
 
 pub returns-in_err-check_range-clause-heap : goal.returns-in_err-check_range-clause-heap
@@ -21,20 +22,28 @@ write-requires c =
     range_stands (state_of c.self.inside) c.args.self.now.heap c.args.name c.args.at (length c.args.bytes.now) (ap (λ (s : Shown). s.heap) c.self.view_is ∙ c.in_ok-check_range.ensures.heap)
     c.in_ok-check_range.ensures.answer c.in_ok-check_range.ensures.place
 
+-- the block stands there
+stood : (c : goal.After-write) → (i : ℕ) × StandsAt c.self.inside.region.blocks c.args.name.at i
+stood c =
+    let stands = range_stands (state_of c.self.inside) c.args.self.now.heap c.args.name c.args.at (length c.args.bytes.now) (ap (λ (s : Shown). s.heap) c.self.view_is ∙ c.in_ok-check_range.ensures.heap)
+    c.in_ok-check_range.ensures.answer c.in_ok-check_range.ensures.place in
+    (stands.0, stands.1)
+
 wrote : (c : goal.After-write) → Writes c.args.self.now.heap c.args.name c.args.at c.args.bytes.now (with_region (state_of c.self.inside) c.self.inside.tick c.write.new.self)
 wrote c =
     writes (state_of c.self.inside) c.args.self.now.heap c.args.name c.args.at c.args.bytes.now (ap (λ (s : Shown). s.heap) c.self.view_is ∙ c.in_ok-check_range.ensures.heap)
-    c.in_ok-check_range.ensures.answer c.in_ok-check_range.ensures.place c.write.new.self c.self.invariant.lawful c.write.ensures.edits.words c.write.ensures.blocks
+    c.in_ok-check_range.ensures.answer c.in_ok-check_range.ensures.place c.write.new.self c.self.invariant.lawful (c.write.ensures (stood c).0 (stood c).1).edits.words (λ i stands. (c.write.ensures i stands).blocks ∙ sym (behind_one i _ c.self.inside.region.blocks))
 
 pub invariant_of-self : goal.invariant_of-self
 invariant_of-self c =
     let same : state_of c.self.inside ≡ c.args.self.now.heap = ap (λ (s : Shown). s.heap) c.self.view_is ∙ c.in_ok-check_range.ensures.heap in
     let places : free_places 0 c.write.new.self.blocks ≡ free_places 0 c.self.inside.region.blocks = (wrote c).places ∙ sym (ap (λ (h : HeapState). free_places 0 h.blocks) same) in
+    let change = c.write.ensures (stood c).0 (stood c).1 in
     record {
       lawful = (wrote c).lawful;
-      shows = c.write.ensures.edits.shows;
-      small = omega (arith, c.write.ensures.edits.words, c.self.invariant.small);
-      listed = rw places (same_lists (free_places 0 c.self.inside.region.blocks) (list_in c.self.inside.region.lists) (list_in c.write.new.self.lists) c.write.ensures.lists c.self.invariant.listed);
+      shows = change.edits.shows;
+      small = omega (arith, change.edits.words, c.self.invariant.small);
+      listed = rw places (same_lists (free_places 0 c.self.inside.region.blocks) (list_in c.self.inside.region.lists) (list_in c.write.new.self.lists) change.lists c.self.invariant.listed);
     }
 
 pub returns-clause-answer : goal.returns-clause-answer
@@ -45,6 +54,17 @@ returns-clause-heap c = (wrote c).is_heap
 
 pub returns-clause-lawful : goal.returns-clause-lawful
 returns-clause-lawful c = (wrote c).lawful
+
+pub returns-clause-shows : goal.returns-clause-shows
+returns-clause-shows c = (c.write.ensures (stood c).0 (stood c).1).edits.shows
+
+pub returns-clause-touches : goal.returns-clause-touches
+returns-clause-touches c =
+    omega (arith, (c.write.ensures (stood c).0 (stood c).1).edits.touches, c.in_ok-check_range.ensures.touches, ap (λ (s : Shown). s.touches) c.self.view_is)
+
+pub returns-clause-touches_rise : goal.returns-clause-touches_rise
+returns-clause-touches_rise c =
+    omega (arith, (c.write.ensures (stood c).0 (stood c).1).edits.rise, c.in_ok-check_range.ensures.rise, ap (λ (s : Shown). s.touches) c.self.view_is)
 
 -- ---- the name was not forged
 

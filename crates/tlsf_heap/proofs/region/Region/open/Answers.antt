@@ -45,9 +45,10 @@ invariant_of-result c = record {
   free = λ class at listed. absurd (omega (arith, listed.1, ap (length {A = ℕ}) (c.new.ensures.empty c.first_header.new.words.words class)));
 }
 
-pub returns-clause-blocks : goal.returns-clause-blocks
-returns-clause-blocks c = blocks_of-shown (image_of c.first_header.new.words) (Free c.args.words c.args.stamp ∷ []) (made c)
-
-pub returns-clause-lists : goal.returns-clause-lists
-returns-clause-lists c class =
-    list_in-lists_of c.new.result.heads c.first_header.new.words.words class ∙ c.new.ensures.empty c.first_header.new.words.words class
+pub returns : goal.returns
+returns c = record {
+  words = c.first_header.ensures.length ∙ ap length c.in_ok-region.ensures.words ∙ length-replicate c.args.words 0;
+  blocks = blocks_of-shown (image_of c.first_header.new.words) (Free c.args.words c.args.stamp ∷ []) (made c);
+  lists = λ class. list_in-lists_of c.new.result.heads c.first_header.new.words.words class ∙ c.new.ensures.empty c.first_header.new.words.words class;
+  touches = omega (arith, c.first_header.ensures.touches, c.new.ensures.touches, c.in_ok-region.ensures.touches);
+}

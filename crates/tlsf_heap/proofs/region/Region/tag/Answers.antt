@@ -19,6 +19,3 @@ returns-clause-value c i stands =
       last = tag.last ∙ says.last ∙ rw (stands.place, ap (λ (r : RegionState). r.words) c.self.view_is) refl;
       back = tag.back ∙ says.before;
     }
-
-pub returns-clause-whole : goal.returns-clause-whole
-returns-clause-whole c = (shows_state c.self.invariant c.self.view_is).whole ∙ ap (λ (r : RegionState). r.words) c.self.view_is

@@ -6,6 +6,7 @@ use Rattle.tlsf_heap.proofs.Reading.{shows_state}
 use Rattle.tlsf_heap.proofs.Payloads.{payload_inside, rewritten}
 use Rattle.tlsf_heap.proofs.Linking.{Relists, holds_state}
 use Rattle.tlsf_heap.proofs.Relisting.{relisted_bytes}
+use Rattle.tlsf_heap.proofs.Standing.{behind_one}
 use Rattle.tlsf_heap.specs.Regions.{RegionState, image_of}
 use Rattle.tlsf_heap.proofs.region.Region.write.Goals as goal
 
@@ -23,16 +24,14 @@ relists c =
 pub invariant_of-self : goal.invariant_of-self
 invariant_of-self c = (relists c).holds
 
-pub returns-clause-blocks : goal.returns-clause-blocks
-returns-clause-blocks c =
+pub returns : goal.returns
+returns c i stands =
     let new = c.copy_in.ensures in
-    (rewritten {v = image_of c.copy_in.new.self} c.args.offset (shows_state c.self.invariant c.self.view_is) c.requires new.bytes new.before new.behind new.words_before new.words_behind new.length new.starts).blocks
-
-pub returns-clause-lists : goal.returns-clause-lists
-returns-clause-lists c = (relists c).same
-
-pub returns-clause-edits : goal.returns-clause-edits
-returns-clause-edits c =
+    let left = rewritten {v = image_of c.copy_in.new.self} c.args.offset (shows_state c.self.invariant c.self.view_is) c.requires new.bytes new.before new.behind new.words_before new.words_behind new.length new.starts in
     let touches = ap (λ (r : RegionState). r.touches) c.self.view_is in
     let words = ap (λ (r : RegionState). r.words) c.self.view_is in
-    record { words = c.copy_in.ensures.length ∙ words; shows = (relists c).holds.shows; touches = omega (arith, c.copy_in.ensures.touches, touches); rise = omega (arith, c.copy_in.ensures.rise, touches) }
+    record {
+      blocks = left.blocks i stands ∙ behind_one i _ c.args.self.now.blocks;
+      lists = (relists c).same;
+      edits = record { words = new.length ∙ words; shows = (relists c).holds.shows; touches = omega (arith, new.touches, touches); rise = omega (arith, new.rise, touches) };
+    }
