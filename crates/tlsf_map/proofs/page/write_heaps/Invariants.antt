@@ -1,0 +1,8 @@
+use Rattle.std.proofs.Common.{◌≡◌, ◌++◌, drop, string_bytes}
+use Rattle.tlsf_map.specs.Page.{heaps_text}
+use Rattle.tlsf_map.proofs.page.write_heaps.Given as goal
+
+-- what is written and the heaps that are left are the text of all
+abbrev pub invariant-loop-number : goal.invariant-loop-number
+invariant-loop-number l =
+    string_bytes l.text ++ heaps_text l.grid l.words l.number (drop l.number l.heaps) ≡ string_bytes l.fn.text ++ heaps_text l.grid l.words 0 l.heaps

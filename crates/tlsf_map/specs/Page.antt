@@ -1,0 +1,57 @@
+-- The picture as a whole, as the text of an SVG file. Lengths are in sixteenths of a pixel.
+use Rattle.std.specs.Prelude.{ℕ, ◌+◌, ◌*◌, ◌/◌, List, [], ◌∷◌, ◌++◌, length, codes}
+use Rattle.std.specs.Fmt.{decimal}
+use Rattle.tlsf_heap.specs.declared.report.Report.{Report}
+use Rattle.tlsf_map.specs.Grids.{grid_of, heap_height}
+use Rattle.tlsf_map.specs.Svg.{blocks_text}
+use Rattle.tlsf_map.specs.declared.page.TheConstants.{STYLE, KEY}
+use Rattle.tlsf_map.specs.declared.grid.Grid.{Grid}
+use Rattle.tlsf_map.specs.declared.mapped_heap.MappedHeap.{MappedHeap}
+
+-- the begin of the group of a heap, at this height, with its name
+unfoldable pub begin_text : ℕ → ℕ → MappedHeap → List ℕ
+begin_text y words heap =
+    codes "<g transform='translate(256 " ++ (decimal y ++ (codes ")'><text class='name' y='320'>heap " ++ (decimal heap.id
+    ++ (codes ": " ++ (decimal words ++ (codes " words at tick " ++ (decimal heap.tick ++ codes "</text>\n")))))))
+
+-- the numbers of its report
+unfoldable pub live_numbers : Report → List ℕ
+live_numbers report =
+    codes "<text class='numbers' y='608'>live " ++ (decimal report.live_blocks ++ (codes " blocks, " ++ (decimal report.live_words
+    ++ (codes " words, " ++ (decimal report.live_bytes ++ (codes " bytes; waste " ++ (decimal report.waste ++ codes " bytes; ")))))))
+
+unfoldable pub free_numbers : Report → List ℕ
+free_numbers report =
+    codes "free " ++ (decimal report.free_blocks ++ (codes " blocks, " ++ (decimal report.free_words ++ (codes " words; largest " ++ (decimal report.largest ++ codes " words")))))
+
+unfoldable pub room_numbers : Report → List ℕ
+room_numbers report =
+    codes ", grant " ++ (decimal report.grant ++ (codes " bytes; fragmentation " ++ (decimal report.fragmentation
+    ++ (codes "/1000; age " ++ (decimal report.age ++ codes " ticks</text>\n")))))
+
+unfoldable pub heap_head : ℕ → ℕ → MappedHeap → List ℕ
+heap_head y words heap = begin_text y words heap ++ live_numbers heap.report ++ free_numbers heap.report ++ room_numbers heap.report
+
+-- a heap: its name, its numbers, and its blocks in their order
+unfoldable pub heap_text : Grid → ℕ → ℕ → MappedHeap → List ℕ
+heap_text grid y words heap = heap_head y words heap ++ blocks_text grid heap heap.blocks.items ++ codes "</g>\n"
+
+-- heaps, one below the other, from this number on
+abbrev pub heaps_text : Grid → ℕ → ℕ → List MappedHeap → List ℕ
+heaps_text grid words number [] = []
+heaps_text grid words number (heap ∷ heaps) =
+    heap_text grid (768 + number * heap_height grid words) words heap ++ heaps_text grid words (number + 1) heaps
+
+unfoldable pub page_begin : ℕ → List ℕ
+page_begin height =
+    codes "<svg xmlns='http://www.w3.org/2000/svg' width='1056' height='" ++ (decimal (height / 16)
+    ++ (codes "' viewBox='0 0 16896 " ++ (decimal height ++ codes "'>\n")))
+
+-- the style, and the key to the colours
+unfoldable pub key_text : List ℕ
+key_text = STYLE.now ++ KEY.now
+
+-- the picture of heaps with so many words each
+unfoldable pub svg_text : ℕ → List MappedHeap → List ℕ
+svg_text words heaps =
+    page_begin (768 + length heaps * heap_height (grid_of words) words) ++ key_text ++ heaps_text (grid_of words) words 0 heaps ++ codes "</svg>\n"

@@ -1,0 +1,210 @@
+//! The parts of a picture that show a block.
+ghost use Rattle.std.specs.Prelude.{◌≡◌, ◌++◌, ◌≤◌, ◌^◌, OnOk, string_bytes};
+ghost use Rattle.tlsf_map.specs.Grids.{IsGrid};
+ghost use Rattle.tlsf_map.specs.Svg.{shade_of, free_title, class_of_free, end_text, free_text, live_title, live_begin, part_text, fill_text, live_text, block_text};
+
+use crate::grid::Grid;
+use crate::mapped_heap::{LabelledBlock, MappedHeap};
+use crate::rectangles::{Caption, write_caption, write_label, write_spread};
+use std::alloc::AllocError;
+use tlsf_heap::{Content, PlacedBlock};
+
+// How dark a free block is, in hundredths: 15 to 85, by its age and that of the oldest.
+fn shade(age: u64, oldest: u64) -> u64
+    ensures { result ≡ shade_of age oldest }
+{
+    15 + (age / (oldest / 70 + 1)).min(70)
+}
+
+fn write_free_title(
+    text: &mut String,
+    block: PlacedBlock,
+    stamp: u64,
+    class: &str,
+    shade: u64,
+) -> Result<(), AllocError>
+    ensures { OnOk result (string_bytes text.new ≡ string_bytes text.old ++ free_title block stamp class.now shade) }
+{
+    let at = block.at;
+    let size = block.size;
+    write!(
+        text,
+        "<g class='{class}' fill-opacity='.{shade}'><title>free since tick {stamp}, place {at}, {size} words</title>"
+    )
+}
+
+// Adds the caption of a block, and ends its group.
+#[tactic(auto, unfolding(crate::specs::Svg::end_text))]
+fn write_end(
+    text: &mut String,
+    grid: Grid,
+    block: PlacedBlock,
+    caption: &Caption,
+) -> Result<(), AllocError>
+    requires { IsGrid grid }
+    ensures { OnOk result (string_bytes text.new ≡ string_bytes text.old ++ end_text grid block caption.now.label caption.now.name.now caption.now.amount caption.now.unit.now) }
+{
+    write_caption(
+        text,
+        grid,
+        u64::from(block.at),
+        u64::from(block.size),
+        caption,
+    )?;
+    text.push_str("</g>\n")
+}
+
+// How a free block of this size is drawn where the greatest has `largest` words.
+fn free_class(size: u32, largest: u32) -> &'static str
+    ensures { result.now ≡ class_of_free size largest }
+{
+    if size == largest {
+        "free largest"
+    } else {
+        "free"
+    }
+}
+
+// Adds a free block of a heap.
+#[tactic(auto, unfolding(crate::specs::Svg::free_text))]
+fn write_free(
+    text: &mut String,
+    grid: Grid,
+    heap: &MappedHeap,
+    block: PlacedBlock,
+    stamp: u64,
+) -> Result<(), AllocError>
+    requires { IsGrid grid }
+    ensures { OnOk result (string_bytes text.new ≡ string_bytes text.old ++ free_text grid heap.now block stamp) }
+{
+    let class = free_class(block.size, heap.report.largest);
+    let shade = shade(heap.tick.saturating_sub(stamp), heap.report.age);
+    let caption = Caption {
+        label: None,
+        name: "free",
+        amount: block.size,
+        unit: "words",
+    };
+    write_free_title(text, block, stamp, class, shade)?;
+    write_spread(text, grid, u64::from(block.at), u64::from(block.size))?;
+    write_end(text, grid, block, &caption)
+}
+
+fn write_live_title(
+    text: &mut String,
+    block: PlacedBlock,
+    serial: u64,
+    length: u32,
+) -> Result<(), AllocError>
+    ensures { OnOk result (string_bytes text.new ≡ string_bytes text.old ++ live_title block serial length) }
+{
+    let at = block.at;
+    let size = block.size;
+    write!(
+        text,
+        ", place {at}, {size} words, {length} bytes, serial {serial}</title>"
+    )
+}
+
+// Adds the rectangles of some words of a live block that hold no payload.
+#[tactic(auto, unfolding(crate::specs::Svg::part_text))]
+fn write_part(
+    text: &mut String,
+    class: &str,
+    grid: Grid,
+    at: u64,
+    words: u64,
+) -> Result<(), AllocError>
+    requires grid { IsGrid grid }
+    requires place { at ≤ 2 ^ 33 }
+    requires few { words ≤ 2 ^ 33 }
+    ensures { OnOk result (string_bytes text.new ≡ string_bytes text.old ++ part_text class.now grid at words) }
+{
+    write!(text, "<g class='{class}'>")?;
+    write_spread(text, grid, at, words)?;
+    text.push_str("</g>")
+}
+
+// Adds the rectangles of a live block: all its words, and over them its header and those that its payload leaves empty.
+#[tactic(auto, unfolding(crate::specs::Svg::fill_text))]
+fn write_fill(
+    text: &mut String,
+    grid: Grid,
+    at: u64,
+    size: u64,
+    length: u32,
+) -> Result<(), AllocError>
+    requires grid { IsGrid grid }
+    requires place { at ≤ 2 ^ 32 }
+    requires few { size ≤ 2 ^ 32 }
+    ensures { OnOk result (string_bytes text.new ≡ string_bytes text.old ++ fill_text grid at size length) }
+{
+    let used = 3 + (u64::from(length) + 7) / 8;
+    write_spread(text, grid, at, size)?;
+    write_part(text, "head", grid, at, 3)?;
+    write_part(text, "slack", grid, at + used, size.saturating_sub(used))
+}
+
+// Begins the group of a live block, with what is told of it.
+#[tactic(auto, unfolding(crate::specs::Svg::live_begin))]
+fn write_live_begin(
+    text: &mut String,
+    block: PlacedBlock,
+    label: Option<u32>,
+    serial: u64,
+    length: u32,
+) -> Result<(), AllocError>
+    ensures { OnOk result (string_bytes text.new ≡ string_bytes text.old ++ live_begin block label serial length) }
+{
+    text.push_str("<g class='live'><title>")?;
+    write_label(text, label, "live")?;
+    write_live_title(text, block, serial, length)
+}
+
+// Adds a live block.
+#[tactic(auto, unfolding(crate::specs::Svg::live_text))]
+fn write_live(
+    text: &mut String,
+    grid: Grid,
+    block: PlacedBlock,
+    label: Option<u32>,
+    serial: u64,
+    length: u32,
+) -> Result<(), AllocError>
+    requires { IsGrid grid }
+    ensures { OnOk result (string_bytes text.new ≡ string_bytes text.old ++ live_text grid block label serial length) }
+{
+    let caption = Caption {
+        label,
+        name: "live",
+        amount: length,
+        unit: "bytes",
+    };
+    write_live_begin(text, block, label, serial, length)?;
+    write_fill(
+        text,
+        grid,
+        u64::from(block.at),
+        u64::from(block.size),
+        length,
+    )?;
+    write_end(text, grid, block, &caption)
+}
+
+/// Adds a block of a heap.
+pub fn write_block(
+    text: &mut String,
+    grid: Grid,
+    heap: &MappedHeap,
+    drawn: LabelledBlock,
+) -> Result<(), AllocError>
+    requires { IsGrid grid }
+    ensures { OnOk result (string_bytes text.new ≡ string_bytes text.old ++ block_text grid heap.now drawn) }
+{
+    match drawn.block.content {
+        Content::Free { stamp } => write_free(text, grid, heap, drawn.block, stamp),
+        Content::Live { serial, length } => {
+            write_live(text, grid, drawn.block, drawn.label, serial, length)
+        }
+    }
+}
