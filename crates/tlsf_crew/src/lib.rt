@@ -38,7 +38,7 @@ pub use yard::history::one_history;
 pub use yard::laws::lanes_join_the_yard;
 pub use yard::opening::open_yard;
 pub use yard::released::Released;
-pub use yard::replay::replay_events;
+pub use yard::replay::{replay_behind, replay_events};
 pub use yard::reply::Reply;
 pub use yard::settle::settle;
 pub use yard::target::Target;

@@ -30,6 +30,8 @@ pub mod Gathering
 pub mod Halves
 -- A call on a heap by a live name isn't answered Stale, and each other live name stays live.
 pub mod HeapNames
+-- What a list of events is answered doesn't depend on the entries before it: they stay in front. So a list can be run in parts.
+pub mod InParts
 -- Entries that follow others tell of each heap and each lane what these tell, and then what they tell themselves.
 pub mod JoinedEntries
 -- Where the lanes of a row, and then the rows, were settled one after another, all lanes were.

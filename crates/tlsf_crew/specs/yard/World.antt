@@ -212,3 +212,11 @@ begun w = record { made = []; entries = []; world = w }
 -- every event in order
 unfoldable pub replies : World → List Event → Replayed
 replies w es = fold after (begun w) es
+
+-- a world in which earlier events made these names; what they were answered is told elsewhere
+abbrev pub resumed : World → List (Option Name) → Replayed
+resumed w made = record { made = made; entries = []; world = w }
+
+-- every event in order, behind events that made these names
+unfoldable pub replies_behind : World → List (Option Name) → List Event → Replayed
+replies_behind w made es = fold after (resumed w made) es

@@ -1,9 +1,9 @@
 //! Events, one after another.
-ghost use Rattle.std.specs.Prelude.{◌≡◌, ◌≢◌, ℕ, ◌+◌, ◌<◌, ◌≤◌, length, Some, vec_len, vec_capacity, IfOk, OnOk, OnErr};
+ghost use Rattle.std.specs.Prelude.{◌≡◌, ◌≢◌, ℕ, ◌+◌, ◌*◌, ◌<◌, ◌≤◌, length, Some, vec_len, vec_capacity, IfOk, OnOk, OnErr};
 ghost use Rattle.tlsf_heap.specs.declared.name.Name.{Name};
 ghost use Rattle.tlsf_crew.specs.yard.Counts.{sum_below, waiting_in, releases_in};
 ghost use Rattle.tlsf_crew.specs.yard.Yard.{IsYard, waits_in};
-ghost use Rattle.tlsf_crew.specs.yard.World.{world_of, after, replies};
+ghost use Rattle.tlsf_crew.specs.yard.World.{world_of, after, replies, replies_behind};
 ghost use Rattle.tlsf_crew.specs.yard.FairRuns.{IsFairRun, NoneStale, WaitLive};
 ghost use Rattle.tlsf_crew.specs.yard.Settle.{MetIn};
 ghost use Rattle.tlsf_crew.specs.yard.ReplaySteps.{replay_of, Concerns, AreLimits, IsReplied};
@@ -147,31 +147,60 @@ pub fn replay_events(
     ensures no_memory { OnErr result (world_of workers.new ≡ world_of workers.old) }
     ensures no_stale { IsFairRun (world_of workers.old) events.now → IfOk result (λ entries. NoneStale entries.items × WaitLive (world_of workers.new)) }
 {
-    settle(workers);
-    let room = room_for(workers, events);
-    replay_within(alloc, workers, events, room)
+    let mut made = Vec::new(alloc);
+    replay_behind(alloc, workers, &mut made, events)
 }
 
-/// Runs every event in order, with room for all entries.
+/// Runs events in order behind others, whose names stand in `made`, by their numbers. Answers the entries of these events
+/// alone, and adds the names that they made. So a long list of events can be run part by part, with few entries held.
+///
+/// Lanes are settled as [`replay_events`] settles them. After `NoMemory` no event has run, and `made` has the names that it had.
+///
+/// ```
+/// let mut made = Vec::new(alloc);
+/// let first = replay_behind(alloc, &mut workers, &mut made, &events[..100])?;
+/// let rest = replay_behind(alloc, &mut workers, &mut made, &events[100..])?;
+/// // the entries of both are those that `replay_events` gives for all events
+/// ```
+pub fn replay_behind(
+    alloc: Global,
+    workers: &mut [Worker],
+    made: &mut Vec<Option<Name>>,
+    events: &[Event],
+) -> Result<Vec<Entry>, NoMemory>
+    requires { IsYard workers.old }
+    ensures yard { IsYard workers.new }
+    ensures entries { IfOk result (λ entries. entries.items ≡ (replies_behind (world_of workers.old) made.old.items events.now).entries) }
+    ensures made { OnOk result (made.new.items ≡ (replies_behind (world_of workers.old) made.old.items events.now).made) }
+    ensures world { OnOk result (world_of workers.new ≡ (replies_behind (world_of workers.old) made.old.items events.now).world) }
+    ensures no_memory { OnErr result ((world_of workers.new ≡ world_of workers.old) × (made.new.items ≡ made.old.items)) }
+{
+    settle(workers);
+    let room = room_for(workers, events);
+    replay_within(alloc, workers, made, events, room)
+}
+
+/// Runs every event in order, behind those that made the names, with room for all entries.
 fn replay_within(
     alloc: Global,
     workers: &mut [Worker],
+    made: &mut Vec<Option<Name>>,
     events: &[Event],
     room: usize,
 ) -> Result<Vec<Entry>, NoMemory>
     requires yard { IsYard workers.old }
     requires room { length events.now + releases_in events.now + waiting_in (world_of workers.old) ≤ room }
     ensures yard { IsYard workers.new }
-    ensures replies { IfOk result (λ es. (es.items ≡ (replies (world_of workers.old) events.now).entries) × (world_of workers.new ≡ (replies (world_of workers.old) events.now).world)) }
-    ensures refused { OnErr result (world_of workers.new ≡ world_of workers.old) }
+    ensures replies { IfOk result (λ es. replay_of made.new.items es.items workers.new ≡ replies_behind (world_of workers.old) made.old.items events.now) }
+    ensures refused { OnErr result ((world_of workers.new ≡ world_of workers.old) × (made.new.items ≡ made.old.items)) }
 {
-    let mut made = Vec::with_capacity(alloc, events.len())?;
+    made.reserve(events.len())?;
     let mut journal = Journal {
         limits: [0; 8],
         entries: Vec::with_capacity(alloc, room)?,
     };
     for event in events.iter() {
-        run_event(workers, *event, &mut made, &mut journal);
+        run_event(workers, *event, made, &mut journal);
     }
     Ok(journal.entries)
 }

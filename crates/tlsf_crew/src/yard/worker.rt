@@ -2,6 +2,7 @@ ghost use Rattle.std.specs.Prelude.{◌≡◌, ◌≢◌, ◌+◌, ◌*◌, ◌/
 ghost use Rattle.std.specs.Result.{result_unwrap_or};
 ghost use Rattle.tlsf_heap.specs.Calls.{allocated, written, read_of, read_answer};
 ghost use Rattle.tlsf_heap.specs.Given.{payload_words_given};
+ghost use Rattle.tlsf_heap.specs.Placed.{placed_at};
 ghost use Rattle.tlsf_heap.specs.Reports.{report_of};
 ghost use Rattle.tlsf_crew.specs.declared.yard.took.Took.{Took};
 ghost use Rattle.tlsf_crew.specs.yard.Workers.{heap_of, touches_of, id_of, SameButHeap, HasPost, HasTake, PutTo, TookFrom};
@@ -14,7 +15,7 @@ use crate::yard::drained::Drained;
 use crate::yard::notes::{NoNotes, Notes};
 use crate::yard::released::Released;
 use crate::yard::took::Took;
-use tlsf_heap::{Heap, Name, Report};
+use tlsf_heap::{Heap, Name, PlacedBlock, Report};
 use tlsf_post::{Post, PostEnd, TakeEnd};
 
 /// A worker: the owner of one heap, with a lane to each other worker of its yard and a lane from each.
@@ -303,5 +304,20 @@ impl Worker {
         ensures yard { KeepsYards self.old self.new }
     {
         self.heap.report()
+    }
+
+    /// The block of the own heap that begins at a place, None where none does. The next begins at its end, `at + size`.
+    ///
+    /// ```
+    /// let first = worker.block_at(0);         // each heap has a block at place 0
+    /// ```
+    pub fn block_at(&mut self, at: u32) -> Option<PlacedBlock>
+        ensures block { result ≡ placed_at (heap_of self.old).blocks at }
+        ensures heap { heap_of self.new ≡ heap_of self.old }
+        ensures same { SameButHeap self.old self.new }
+        ensures yard { KeepsYards self.old self.new }
+        ensures touches { touches_of self.new ≤ touches_of self.old + 4 }
+    {
+        self.heap.block_at(at)
     }
 }

@@ -43,10 +43,10 @@ last_out ws es at yard few =
     let le : waits_below at d (length ws) ≤ 8192 = omega (arith, yard.few) in
     subst (λ (m : ℕ). LanesOut at m d (drained_all at 8192 d)) n (all_out at 8192 d (rw n (omega arith)))
 
-pub last_room : (ws : List Worker) (es : List Entry) (at : ℕ) → IsYard ws → HasFew ws at
+pub last_drain_fits : (ws : List Worker) (es : List Entry) (at : ℕ) → IsYard ws → HasFew ws at
     → length (drained_all at 8192 (drain_of es ws 0)).entries ≤ length es + sum_below 8 (λ i. length (waits_in ws i at))
 unfolding world_of
-last_room ws es at yard few =
+last_drain_fits ws es at yard few =
     let a = (last_out ws es at yard few).entries in
     let b = sum_longer (length ws) 8 (λ x. length (waits_in ws x at)) yard.few in
     omega arith
@@ -69,7 +69,7 @@ last_fits ws vs made es fs at reply yard few lt told =
     let entry : Entry = record { worker = at; call = last_call; reply = reply } in
     let e : d.entries ++ last ∷ [] ≡ fs ++ entry ∷ [] = ap (λ (x : Replayed). x.entries) (last_replied ws vs made es fs at reply lt told) in
     let a = sym (length-append d.entries (last ∷ [])) ∙ (ap length e ∙ length-append fs (entry ∷ [])) in
-    let b = last_room ws es at yard few in
+    let b = last_drain_fits ws es at yard few in
     omega arith
 
 pub last_told : (ws vs : List Worker) (es fs : List Entry) (at : ℕ) (reply : Reply) → at < length ws → IsReplied (replay_of [] es ws) (record { worker = at; call = last_call }) fs vs reply
@@ -117,9 +117,9 @@ unfolding world_of
 may_tell_last ws vs j es fs made e =
     (world_of ws, (heaps_count ws, refl), ap (λ (r : Replayed). record { made = r.made; entries = r.entries; heap = get_or r.world.heaps j (yard_heap [] 0) }) (sym e))
 
-no_taker : (o : Option PostEnd) (t : Option TakeEnd) → t ≡ None → lane_waits o t ≡ []
-no_taker None t e = refl
-no_taker (Some p) t e = rw e refl
+nobody_takes : (o : Option PostEnd) (t : Option TakeEnd) → t ≡ None → lane_waits o t ≡ []
+nobody_takes None t e = refl
+nobody_takes (Some p) t e = rw e refl
 
 nothing_left : (ps qs ms : List Post) (waits : List Post) → waits ++ ms ≡ ps ++ qs → ms ≡ [] → qs ≡ [] → ps ≡ waits
 nothing_left ps qs ms waits e m q = sym (append-nil ps) ∙ (ap (λ l. ps ++ l) (sym q) ∙ (sym e ∙ (ap (λ l. waits ++ l) m ∙ append-nil waits)))
@@ -129,7 +129,7 @@ pub none_wait : (ws : List Worker) (i j : ℕ) → IsYard ws → (i ≢ j → le
 none_wait ws i j yard far =
     elim (cases_eq i j) [
       | inl e ↦ rw (e, (yard.alone j).0) refl
-      | inr ne ↦ no_taker (post_at ws i j) (take_at ws i j) (yard.outside j i (far ne)).1
+      | inr ne ↦ nobody_takes (post_at ws i j) (take_at ws i j) (yard.outside j i (far ne)).1
     ]
 
 pub none_for : (ws : List Worker) (i j : ℕ) → IsYard ws → length ws ≤ j → waits_in ws i j ≡ []

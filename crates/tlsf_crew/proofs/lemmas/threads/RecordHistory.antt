@@ -38,7 +38,7 @@ knows_all n at s t [] m = rw m (λ target name e. e)
 knows_all n at s t (call ∷ calls) m = λ target name e. knows_all n at m.0 t calls m.2 target name (knows_one n at s m.0 call m.1 target name e)
 
 -- the entries of one call
-record ToldCall (made : List (Option Name)) (n at : ℕ) (s : Told) (call : Call) (t : Told) : Type 0 where
+record OneTold (made : List (Option Name)) (n at : ℕ) (s : Told) (call : Call) (t : Told) : Type 0 where
   own : List Entry
   name : Option Name
   entries : t.entries ≡ s.entries ++ own
@@ -47,7 +47,7 @@ record ToldCall (made : List (Option Name)) (n at : ℕ) (s : Told) (call : Call
   run : RunsTo s.heap (calls_on at made own) (answers_on at own) t.heap
   each : All (IsAnswered made n) own
 
-one_told : (made : List (Option Name)) (n at : ℕ) (s t : Told) (call : Call) → at < n → Knows made s.made → MayTell n at s call t → ToldCall made n at s call t
+one_told : (made : List (Option Name)) (n at : ℕ) (s t : Told) (call : Call) → at < n → Knows made s.made → MayTell n at s call t → OneTold made n at s call t
 one_told made n at s t call at_in known m =
     let w = m.0 in
     let r : Replayed = record { made = s.made; entries = s.entries; world = w } in

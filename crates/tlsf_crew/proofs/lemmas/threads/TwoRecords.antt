@@ -21,7 +21,8 @@ use Rattle.tlsf_crew.specs.yard.World.{name_of}
 use Rattle.tlsf_crew.specs.yard.History.{AreTakes, IsDrain, of_heap, post_made, post_taken, posts_made, posts_taken, entries_of, StandsBehind}
 use Rattle.tlsf_crew.specs.threads.Race.{Agree}
 use Rattle.tlsf_crew.proofs.lemmas.yard.Signed.{AreFrom}
-use Rattle.tlsf_crew.proofs.lemmas.yard.JoinedEntries.{told_then, told_own, told_other, told_nothing}
+use Rattle.tlsf_crew.proofs.lemmas.yard.JoinedEntries.{told_own, told_other, told_nothing}
+use Rattle.tlsf_crew.proofs.lemmas.yard.ManyEntries.{made_then, taken_then}
 
 -- what stands at a place of a list with `None` behind it
 same_at : (made : List (Option Name)) (k : ℕ) → get_or (made ++ None ∷ []) k None ≡ get_or made k None
@@ -31,12 +32,6 @@ same_at (x ∷ made) zero = refl
 same_at (x ∷ made) (suc k) = same_at made k
 
 -- ---- posts, record after record
-
-pub made_then : (i j : ℕ) (made : List (Option Name)) (xs ys : List Entry) → posts_made i j made (xs ++ ys) ≡ posts_made i j made xs ++ posts_made i j made ys
-made_then i j made xs ys = told_then (λ e. post_made j made e.worker e.call e.reply) i xs ys
-
-pub taken_then : (i j : ℕ) (xs ys : List Entry) → posts_taken i j (xs ++ ys) ≡ posts_taken i j xs ++ posts_taken i j ys
-taken_then i j xs ys = told_then (λ e. post_taken i e.call e.reply) j xs ys
 
 -- a name that was made stays made when one call more made none
 same_name : (made : List (Option Name)) (target : Target) → name_of (made ++ None ∷ []) target ≡ name_of made target

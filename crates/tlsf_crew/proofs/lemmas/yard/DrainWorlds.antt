@@ -18,7 +18,7 @@ use Rattle.tlsf_crew.specs.yard.Told.{MayTell, HasHeap, told_by}
 use Rattle.tlsf_crew.specs.yard.Counts.{sum_below}
 use Rattle.tlsf_crew.specs.yard.History.{posts_taken}
 use Rattle.tlsf_crew.specs.yard.Moves.{one, Spent, OwnDrain, lane_own, lanes_own, own_drain, LanesTaken, LanesSpent, SuitsDrain, Stepped}
-use Rattle.tlsf_crew.proofs.lemmas.yard.LaneTakes.{lanes_other_turn, lanes_own_turn, lanes_count, lanes_taken_count}
+use Rattle.tlsf_crew.proofs.lemmas.yard.LaneTakes.{lanes_other_turn, lanes_own_turn, count_below, lanes_taken_count}
 use Rattle.tlsf_crew.proofs.lemmas.yard.Pending.{same_sum}
 use Rattle.tlsf_crew.proofs.lemmas.yard.Sums.{sum_longer}
 use Rattle.tlsf_crew.proofs.lemmas.yard.OneEvent.{from_other, from_own}
@@ -58,25 +58,25 @@ lane_world at from (p ∷ posts) d lt =
     }
 
 -- the lanes below a number
-record LanesWorld (at : ℕ) (posts : ℕ → List Post) (k : ℕ) (d c : Draining) : Type 0 where
+record WorldBelow (at : ℕ) (posts : ℕ → List Post) (k : ℕ) (d c : Draining) : Type 0 where
   own : own_of at c ≡ lanes_own at posts (own_of at d) k
   count : length c.world.heaps ≡ length d.world.heaps
   waits : (x : ℕ) → k ≤ x → c.world.waiting x at ≡ d.world.waiting x at
 
 -- one lane more, of which these posts are taken
-next_lane : (at most k : ℕ) (posts : ℕ → List Post) (d c : Draining) → at < length d.world.heaps → LanesWorld at posts k d c → take (most - c.taken) (c.world.waiting k at) ≡ posts k → k ≢ at
-    → LanesWorld at posts (k + 1) d (drained_lane at most k c)
+next_lane : (at most k : ℕ) (posts : ℕ → List Post) (d c : Draining) → at < length d.world.heaps → WorldBelow at posts k d c → take (most - c.taken) (c.world.waiting k at) ≡ posts k → k ≢ at
+    → WorldBelow at posts (k + 1) d (drained_lane at most k c)
 unfolding drained_lane
 next_lane at most k posts d c lt w all ne =
     let x = lane_world at k (posts k) c (omega (arith, w.count)) in
-    let y : LanesWorld at posts (k + 1) d (fold (took_more at k) c (posts k)) = record {
+    let y : WorldBelow at posts (k + 1) d (fold (took_more at k) c (posts k)) = record {
       own = x.own ∙ (ap (λ o. lane_own at k o (posts k)) w.own ∙ sym (lanes_other_turn at posts (own_of at d) k ne));
       count = x.count ∙ w.count;
       waits = λ i le. x.waits i (λ e. absurd (omega arith)) ∙ w.waits i (omega arith);
     } in
-    subst (λ l. LanesWorld at posts (k + 1) d (fold (took_more at k) c l)) (sym all) y
+    subst (λ l. WorldBelow at posts (k + 1) d (fold (took_more at k) c l)) (sym all) y
 
-own_lane : (at k : ℕ) (posts : ℕ → List Post) (d c : Draining) → LanesWorld at posts k d c → k ≡ at → LanesWorld at posts (k + 1) d c
+own_lane : (at k : ℕ) (posts : ℕ → List Post) (d c : Draining) → WorldBelow at posts k d c → k ≡ at → WorldBelow at posts (k + 1) d c
 own_lane at k posts d c w e = record {
   own = w.own ∙ sym (lanes_own_turn at posts (own_of at d) k e);
   count = w.count;
@@ -98,29 +98,29 @@ take_first posts most k taken waits e le w =
       | inr none ↦ ap (λ r. take m (posts k ++ r)) none ∙ (ap (take m) (append-nil (posts k)) ∙ take_all m (posts k) (omega arith))
     ]
 
-lanes_world : (at most n : ℕ) (posts : ℕ → List Post) (d : Draining) (k : ℕ) → k ≤ n → at < length d.world.heaps → d.taken ≡ 0 → ((i : ℕ) → i ≡ at → posts i ≡ [])
-    → ((x : ℕ) → x < n → x ≢ at → WaitsFirst posts most x (d.world.waiting x at)) → sum_below n (λ i. length (posts i)) ≤ most → LanesWorld at posts k d (drained_below at most d k)
-lanes_world at most n posts d zero le lt start none waits few = record { own = refl; count = refl; waits = λ x le. refl }
-lanes_world at most n posts d (suc k) le lt start none waits few =
+world_below : (at most n : ℕ) (posts : ℕ → List Post) (d : Draining) (k : ℕ) → k ≤ n → at < length d.world.heaps → d.taken ≡ 0 → ((i : ℕ) → i ≡ at → posts i ≡ [])
+    → ((x : ℕ) → x < n → x ≢ at → WaitsFirst posts most x (d.world.waiting x at)) → sum_below n (λ i. length (posts i)) ≤ most → WorldBelow at posts k d (drained_below at most d k)
+world_below at most n posts d zero le lt start none waits few = record { own = refl; count = refl; waits = λ x le. refl }
+world_below at most n posts d (suc k) le lt start none waits few =
     let c = drained_below at most d k in
     let next : k + 1 ≡ suc k = omega arith in
-    let w = lanes_world at most n posts d k (omega arith) lt start none waits few in
+    let w = world_below at most n posts d k (omega arith) lt start none waits few in
     elim (cases_eq k at) [
-      | inl e ↦ rw (from_own at most c k e) (subst (λ n. LanesWorld at posts n d c) next (own_lane at k posts d c w e))
+      | inl e ↦ rw (from_own at most c k e) (subst (λ n. WorldBelow at posts n d c) next (own_lane at k posts d c w e))
       | inr ne ↦
           let taken = ap (λ o. o.taken) w.own in
-          let count = lanes_count at posts (own_of at d) k none in
+          let count = count_below at posts (own_of at d) k none in
           let longer = sum_longer (suc k) n (λ i. length (posts i)) le in
           let here = subst (WaitsFirst posts most k) (sym (w.waits k (omega arith))) (waits k (omega arith) ne) in
           let all = take_first posts most k c.taken (c.world.waiting k at) (omega arith) (omega arith) here in
-          rw (from_other at most c k ne) (subst (λ n. LanesWorld at posts n d (drained_lane at most k c)) next (next_lane at most k posts d c lt w all ne))
+          rw (from_other at most c k ne) (subst (λ n. WorldBelow at posts n d (drained_lane at most k c)) next (next_lane at most k posts d c lt w all ne))
     ]
 
 all_world : (at most n : ℕ) (posts : ℕ → List Post) (d : Draining) → length d.world.heaps ≡ n → at < n → d.taken ≡ 0 → ((i : ℕ) → i ≡ at → posts i ≡ [])
     → ((x : ℕ) → x < n → x ≢ at → WaitsFirst posts most x (d.world.waiting x at)) → sum_below n (λ i. length (posts i)) ≤ most → own_of at (drained_all at most d) ≡ lanes_own at posts (own_of at d) n
 unfolding drained_all
 all_world at most n posts d len lt start none waits few =
-    let w = lanes_world at most n posts d n (omega arith) (omega arith) start none waits few in
+    let w = world_below at most n posts d n (omega arith) (omega arith) start none waits few in
     ap (λ k. own_of at (drained_below at most d k)) len ∙ w.own
 
 -- what a drain tells, as its worker sees it

@@ -66,10 +66,10 @@ some_out at from rest (p ∷ ps) d e =
       entries = let x = one.entries in let y = more.entries in omega arith;
     }
 
-lane_out : (at most from : ℕ) (d : Draining) → d.taken + length (d.world.waiting from at) ≤ most
+one_emptied : (at most from : ℕ) (d : Draining) → d.taken + length (d.world.waiting from at) ≤ most
     → TookOut at from [] (length (d.world.waiting from at)) d (drained_lane at most from d)
 unfolding drained_lane
-lane_out at most from d le =
+one_emptied at most from d le =
     let waits = d.world.waiting from at in
     let all : take (most - d.taken) waits ≡ waits = take_all (most - d.taken) waits (omega arith) in
     rw all (some_out at from [] waits d (sym (append-nil waits)))
@@ -137,7 +137,7 @@ below_out at most d (suc k) le =
       | inr e ↦
           let here = ap length (first.later k (omega arith)) in
           let n = first.taken in
-          rw (from_other at most b k e) (more_out at k d b (drained_lane at most k b) e first (lane_out at most k b (omega arith)))
+          rw (from_other at most b k e) (more_out at k d b (drained_lane at most k b) e first (one_emptied at most k b (omega arith)))
     ]
 
 -- all of them were

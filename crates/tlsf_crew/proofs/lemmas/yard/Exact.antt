@@ -110,8 +110,8 @@ take_other r i j ne = ap (λ o. end_from_in o i) (get_set_other r.vs (at_of r) j
 post_own : (r : Run) (j : ℕ) → post_at (us_of r) (at_of r) j ≡ end_to r.v j
 post_own r j = ap (λ o. end_to_in o j) (at_us r)
 
-take_own : (r : Run) (i : ℕ) → take_at (us_of r) i (at_of r) ≡ end_from r.v i
-take_own r i = ap (λ o. end_from_in o i) (at_us r)
+own_end : (r : Run) (i : ℕ) → take_at (us_of r) i (at_of r) ≡ end_from r.v i
+own_end r i = ap (λ o. end_from_in o i) (at_us r)
 
 post_was : (r : Run) (j : ℕ) → end_to r.a j ≡ post_at r.vs (at_of r) j
 post_was r j = sym (ap (λ o. end_to_in o j) r.is)
@@ -128,7 +128,7 @@ lane_took r ws zs i ne m n =
     let mv = moved_of r in
     let t = mv.taken i m.new_take (take_was r i ∙ m.new_take_is) in
     let took = posts_taken i at (own_of r) in
-    let take_is : n.take ≡ t.end = some_same n.take t.end (sym n.take_is ∙ (take_own r i ∙ t.end_is)) in
+    let take_is : n.take ≡ t.end = some_same n.take t.end (sym n.take_is ∙ (own_end r i ∙ t.end_is)) in
     let post_is : n.post ≡ m.new_post = some_same n.post m.new_post (sym n.post_is ∙ (post_other r i at ne ∙ m.new_post_is)) in
     let gone : taken n.take ≡ took = ap taken take_is ∙ (t.taken ∙ ap (λ l. l ++ took) m.meets.fresh.1) in
     let had : waited n.take ≡ waited m.new_take = ap waited take_is ∙ t.waited in
@@ -299,13 +299,13 @@ call_away at made (Take from) name own j t ne = ap (entries_of j) t.whole ∙ on
 abbrev Posts : ℕ → List (Option Name) → Call → Type 0
 Posts j later call = (target : Target) × (name : Name) × (call ≡ Release target) × (name_of later target ≡ Some name) × (name.heap ≡ j)
 
-posted_or : (at j : ℕ) (later : List (Option Name)) (target : Target) (o : Option Name) → name_of later target ≡ o → (posts_made at j later (one at (Release target) Posted) ≡ []) ⊎ Posts j later (Release target)
-posted_or at j later target None e =
+named_or : (at j : ℕ) (later : List (Option Name)) (target : Target) (o : Option Name) → name_of later target ≡ o → (posts_made at j later (one at (Release target) Posted) ≡ []) ⊎ Posts j later (Release target)
+named_or at j later target None e =
     let entry : Entry = record { worker = at; call = Release target; reply = Posted } in
     let f : Entry → Option Post = λ x. post_made j later x.worker x.call x.reply in
     let none : f entry ≡ None = rw e refl in
     inl (told_nothing f at entry none)
-posted_or at j later target (Some name) e = elim (cases_eq name.heap j) [
+named_or at j later target (Some name) e = elim (cases_eq name.heap j) [
   | inl here ↦ inr (target, name, refl, e, here)
   | inr away ↦
       let entry : Entry = record { worker = at; call = Release target; reply = Posted } in
@@ -315,7 +315,7 @@ posted_or at j later target (Some name) e = elim (cases_eq name.heap j) [
 ]
 
 release_or : (at j : ℕ) (later : List (Option Name)) (target : Target) (reply : Reply) → (posts_made at j later (one at (Release target) reply) ≡ []) ⊎ Posts j later (Release target)
-release_or at j later target Posted = posted_or at j later target (name_of later target) refl
+release_or at j later target Posted = named_or at j later target (name_of later target) refl
 release_or at j later target reply = inl (told_nothing (λ x. post_made j later x.worker x.call x.reply) at (record { worker = at; call = Release target; reply = reply }) refl)
 
 posts_or : (at j : ℕ) (made later : List (Option Name)) (call : Call) (name : Option Name) (own : List Entry) → TellsCall at made call name own → (posts_made at j later own ≡ []) ⊎ Posts j later call
@@ -338,9 +338,9 @@ posting_far w at name j ne = elim (cases_eq (length (w.waiting at name.heap)) w.
       rw b (edited_other w.waiting at name.heap at j (w.waiting at name.heap ++ record { from = at; name = name } ∷ []) (λ _ q. ne (sym q)))
 ]
 
-release_far : (w : World) (at j : ℕ) (o : Option Name) → (j ≡ at) ⊎ (length w.heaps ≤ j) → (releasing_named w at o).world.waiting at j ≡ w.waiting at j
-release_far w at j None far = refl
-release_far w at j (Some name) far = elim (cases_eq name.heap at) [
+far_lane_waits : (w : World) (at j : ℕ) (o : Option Name) → (j ≡ at) ⊎ (length w.heaps ≤ j) → (releasing_named w at o).world.waiting at j ≡ w.waiting at j
+far_lane_waits w at j None far = refl
+far_lane_waits w at j (Some name) far = elim (cases_eq name.heap at) [
   | inl own ↦ let b : (name.heap == at) ≡ true = grind (arith, nat_tests) in rw b refl
   | inr ne ↦ elim (cases_lt name.heap (length w.heaps)) [
     | inl lt ↦
@@ -485,9 +485,9 @@ model r ws zs s =
 nothing_run : (made : List (Option Name)) (own : List Entry) (j : ℕ) (h g : HeapState) → entries_of j own ≡ [] → RunsTo h (calls_on j made own) (answers_on j own) g → h ≡ g
 nothing_run made own j h g none run = sym (ap (λ (es : List Entry). (heap.run h (filter_map (λ e. call_on_own made e.worker e.call e.reply) es)).1) none) ∙ run.left
 
-heaps_same : (r : Run) (s : Replayed) → Model r s → s.world.heaps ≡ (world_of (us_of r)).heaps
+heaps_stay : (r : Run) (s : Replayed) → Model r s → s.world.heaps ≡ (world_of (us_of r)).heaps
 unfolding world_of
-heaps_same r s m =
+heaps_stay r s m =
     let at = at_of r in
     let n = heaps_count r.vs in
     let inside = at_in r in
@@ -527,7 +527,7 @@ nowhere_same r m j far before now =
       | inr p ↦
           let n = heaps_count r.vs in
           let away : (j ≡ at) ⊎ (length (world_of r.vs).heaps ≤ j) = elim far [ inl e ↦ inl e | inr ge ↦ inr (omega arith) ] in
-          ap (λ (c : Call). (called (begun_of r) at c).world.waiting at j) p.2 ∙ (release_far (world_of r.vs) at j (name_of r.made p.0) away ∙ (before ∙ sym now))
+          ap (λ (c : Call). (called (begun_of r) at c).world.waiting at j) p.2 ∙ (far_lane_waits (world_of r.vs) at j (name_of r.made p.0) away ∙ (before ∙ sym now))
     ]
 
 sent_same : (r : Run) (ws zs : List Worker) → Settles r ws zs → Model r (after_of r) → (j : ℕ) → j < length r.vs → j ≢ at_of r → (after_of r).world.waiting (at_of r) j ≡ waits_in (us_of r) (at_of r) j
@@ -574,7 +574,7 @@ taken_same_lane r m i lt ne =
     let e = mv.taken i t (take_was r i ∙ h.3) in
     let was : waits_in r.vs i at ≡ drop (length (taken t)) (waited t ++ posts_sent h.0) = rw (h.2, h.3) refl in
     let post_is : post_at (us_of r) i at ≡ Some h.0 = post_other r i at ne ∙ h.2 in
-    let take_is : take_at (us_of r) i at ≡ Some e.end = take_own r i ∙ e.end_is in
+    let take_is : take_at (us_of r) i at ≡ Some e.end = own_end r i ∙ e.end_is in
     let count : length (taken e.end) ≡ length (taken t) + length took = ap length e.taken ∙ length-append (taken t) took in
     let now : waits_in (us_of r) i at ≡ drop (length (taken t) + length took) (waited t ++ posts_sent h.0) =
     lane_of (post_at (us_of r) i at) (take_at (us_of r) i at) h.0 e.end post_is take_is ∙ (ap (λ n. drop n (waited e.end ++ posts_sent h.0)) count ∙ ap (λ l. drop (length (taken t) + length took) (l ++ posts_sent h.0)) e.waited) in
@@ -618,7 +618,7 @@ lanes_same r ws zs s m i j =
 world_same : (r : Run) (ws zs : List Worker) → Settles r ws zs → Model r (after_of r) → (after_of r).world ≡ world_of (us_of r)
 unfolding world_of
 world_same r ws zs s m =
-    same_world (after_of r).world (world_of (us_of r)) (heaps_same r (after_of r) m) (lanes_same r ws zs s m) (called_capacity (begun_of r) (at_of r) r.call ∙ sym (us_capacity r))
+    same_world (after_of r).world (world_of (us_of r)) (heaps_stay r (after_of r) m) (lanes_same r ws zs s m) (called_capacity (begun_of r) (at_of r) r.call ∙ sym (us_capacity r))
 
 -- the call leaves what the model says
 ran : (r : Run) (ws zs : List Worker) → Settles r ws zs → after_of r ≡ replay_of (r.made ++ made_by r.reply ∷ []) (r.longer ++ one (at_of r) r.call r.reply) zs

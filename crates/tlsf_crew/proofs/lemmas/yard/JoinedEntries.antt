@@ -93,9 +93,9 @@ pub record IsOwnCall (made : List (Option Name)) (w : World) (e : Entry) (v : Wo
   pub own : RunsTo (heap_in w e.worker) (cons_option (call_on_own made e.worker e.call e.reply) []) (cons_option (answer_told e.call e.reply) []) (heap_in v e.worker)
   pub others : (j : ℕ) → j ≢ e.worker → heap_in v j ≡ heap_in w j
 
-pub own_heaps : (made : List (Option Name)) (w v : World) (e : Entry) → IsOwnCall made w e v → (j : ℕ)
+pub heap_of_own_call : (made : List (Option Name)) (w v : World) (e : Entry) → IsOwnCall made w e v → (j : ℕ)
     → RunsTo (heap_in w j) (calls_on j made (e ∷ [])) (answers_on j (e ∷ [])) (heap_in v j)
-own_heaps made w v e c j =
+heap_of_own_call made w v e c j =
     elim (cases_eq e.worker j) [
       | inl is ↦ rw (told_own (λ e. call_on_own made e.worker e.call e.reply) j e is, told_own (λ e. answer_told e.call e.reply) j e is, sym is) c.own
       | inr ne ↦
@@ -121,7 +121,7 @@ quiet_posts made w v e silent same i j =
 
 pub history_quiet : (made : List (Option Name)) (w v : World) (e : Entry) → IsOwnCall made w e v → IsNoPost made e → v.waiting ≡ w.waiting → length v.heaps ≡ length w.heaps → IsHistory made w (e ∷ []) v
 history_quiet made w v e c silent same count = record {
-  heaps = λ j j_in. own_heaps made w v e c j;
+  heaps = λ j j_in. heap_of_own_call made w v e c j;
   posts = quiet_posts made w v e silent same;
   count = count;
   each = own_each made w v e (length w.heaps) c;

@@ -73,12 +73,12 @@ row_skip ws vs i j r e =
       same = λ x y low. r.same x y (λ f. let h : j + 1 ≤ y = low f in omega arith);
     }
 
-pub rows_first : (ws : List Worker) → RowsMet ws ws 0
-rows_first ws = record { len = refl; done = λ x y lt _ _. absurd (omega arith); same = λ x y low. (refl, refl) }
+pub yard_first : (ws : List Worker) → RowsMet ws ws 0
+yard_first ws = record { len = refl; done = λ x y lt _ _. absurd (omega arith); same = λ x y low. (refl, refl) }
 
 -- one row more
-pub rows_step : (ws vs us : List Worker) (i : ℕ) → RowsMet ws vs i → RowMet vs us i (length vs) → RowsMet ws us (i + 1)
-rows_step ws vs us i a r =
+pub yard_step : (ws vs us : List Worker) (i : ℕ) → RowsMet ws vs i → RowMet vs us i (length vs) → RowsMet ws us (i + 1)
+yard_step ws vs us i a r =
     record {
       len = r.len ∙ a.len;
       done = λ x y lt inside ne.

@@ -20,7 +20,7 @@ use Rattle.tlsf_crew.specs.yard.World.{World, heap_in, with_heap, with_waiting, 
 use Rattle.tlsf_crew.proofs.lemmas.yard.OneEvent.{releasing_post, releasing_far, taking_lane, taking_own, taking_far}
 use Rattle.tlsf_crew.proofs.lemmas.yard.LaneChanges.{edited_same, edited_other}
 use Rattle.tlsf_crew.proofs.lemmas.yard.OwnCalls.{Tells1, done_here, none_done}
-use Rattle.tlsf_crew.proofs.lemmas.yard.JoinedEntries.{history_quiet, own_each, own_heaps, told_nothing, told_other, told_own}
+use Rattle.tlsf_crew.proofs.lemmas.yard.JoinedEntries.{history_quiet, own_each, heap_of_own_call, told_nothing, told_other, told_own}
 
 pub of_same : (j : ℕ) (name : Name) → name.heap ≡ j → of_heap j (Some name) ≡ Some name
 of_same j name e = let b : (name.heap == j) ≡ true = grind (arith, nat_tests) in rw b refl
@@ -30,9 +30,9 @@ of_other j name ne = let b : (name.heap == j) ≡ false = grind (arith, nat_test
 
 -- ---- release of an own name
 
-freed_told : (target : Target) (r : Result (Unit {0}) Refusal) → answer_told (Release target) (reply_freed r) ≡ Some (heap.Released r)
-freed_told target (Ok done) = refl
-freed_told target (Err why) = refl
+answer_of_freed : (target : Target) (r : Result (Unit {0}) Refusal) → answer_told (Release target) (reply_freed r) ≡ Some (heap.Released r)
+answer_of_freed target (Ok done) = refl
+answer_of_freed target (Err why) = refl
 
 freed_meant : (made : List (Option Name)) (target : Target) (r : Result (Unit {0}) Refusal) → meant made target (reply_freed r) ≡ name_of made target
 freed_meant made target (Ok done) = refl
@@ -42,15 +42,15 @@ freed_made : (made : List (Option Name)) (j at : ℕ) (target : Target) (r : Res
 freed_made made j at target (Ok done) = refl
 freed_made made j at target (Err why) = refl
 
-free_told : (made : List (Option Name)) (w : World) (at : ℕ) (target : Target) (name : Name) → at < length w.heaps → name.heap ≡ at → name_of made target ≡ Some name
+own_release_told : (made : List (Option Name)) (w : World) (at : ℕ) (target : Target) (name : Name) → at < length w.heaps → name.heap ≡ at → name_of made target ≡ Some name
     → Tells1 made w at (Release target) (freeing w at name)
 unfolding released
-free_told made w at target name at_in own known =
+own_release_told made w at target name at_in own known =
     let a = freeing w at name in
     let r = (heap.released (heap_in w at) name).answer in
     let on_own : call_on_own made at (Release target) a.reply ≡ Some (heap.Release name) = rw (freed_meant made target r, known, of_same at name own) refl in
     history_quiet made w a.world (record { worker = at; call = Release target; reply = a.reply })
-    (done_here made w at (Release target) a.reply (heap.Release name) at_in on_own (freed_told target r))
+    (done_here made w at (Release target) a.reply (heap.Release name) at_in on_own (answer_of_freed target r))
     (record { made_none = λ j. freed_made made j at target r; taken_none = λ i. refl }) refl (length-set w.heaps at (heap.released (heap_in w at) name).heap)
 
 -- ---- release of another's name
@@ -114,7 +114,7 @@ post_told made w at target name ne known =
           let v = with_waiting w at name.heap (w.waiting at name.heap ++ x ∷ []) in
           let entry : Entry = record { worker = at; call = Release target; reply = Posted } in
           let own = none_done made w v at (Release target) Posted (rw (known, away) refl) refl refl in
-          rw b (record { heaps = λ j j_in. own_heaps made w v entry own j; posts = posted_lanes made w at target name known; count = refl; each = own_each made w v entry (length w.heaps) own })
+          rw b (record { heaps = λ j j_in. heap_of_own_call made w v entry own j; posts = posted_lanes made w at target name known; count = refl; each = own_each made w v entry (length w.heaps) own })
     ]
 
 pub release_told : (made : List (Option Name)) (w : World) (at : ℕ) (target : Target) (o : Option Name) → at < length w.heaps
@@ -123,7 +123,7 @@ release_told made w at target None at_in known = refused_told made w at target (
 release_told made w at target (Some name) at_in known =
     let k = known name refl in
     elim (cases_eq name.heap at) [
-      | inl own ↦ let b : (name.heap == at) ≡ true = grind (arith, nat_tests) in rw b (free_told made w at target name at_in own k)
+      | inl own ↦ let b : (name.heap == at) ≡ true = grind (arith, nat_tests) in rw b (own_release_told made w at target name at_in own k)
       | inr ne ↦ elim (cases_lt name.heap (length w.heaps)) [
         | inl lt ↦ rw (releasing_post w at name ne lt) (post_told made w at target name ne k)
         | inr ge ↦ rw (releasing_far w at name ne ge) (refused_told made w at target (Refused Stranger) (rw (k, of_other at name ne) refl) refl (λ j. refl))
@@ -177,7 +177,7 @@ took_told made w at from p rest at_in waits =
     let own = done_here made w at (Take from) a.reply (heap.Release p.name) at_in refl refl in
     let g = (heap.released (heap_in w at) p.name).heap in
     record {
-      heaps = λ j j_in. own_heaps made w (with_heap w at g) (record { worker = at; call = Take from; reply = a.reply }) own j;
+      heaps = λ j j_in. heap_of_own_call made w (with_heap w at g) (record { worker = at; call = Take from; reply = a.reply }) own j;
       posts = took_lanes made w at from p rest waits;
       count = length-set w.heaps at g;
       each = own_each made w (with_heap w at g) (record { worker = at; call = Take from; reply = a.reply }) (length w.heaps) own;

@@ -142,8 +142,8 @@ moved_post at made a v limits target name done known own put =
 
 -- ---- a take
 
-take_lanes : (a v : Worker) (i : ℕ) (answer : Option Post) → TookFrom a v i answer → SameLanes a v
-take_lanes a v i answer took = record {
+same_after_take : (a v : Worker) (i : ℕ) (answer : Option Post) → TookFrom a v i answer → SameLanes a v
+same_after_take a v i answer took = record {
   numbers = took.same.1;
   to = λ j. ((λ h. (h.0, ap (λ f. f j) (sym took.same.2) ∙ h.1)), (λ h. (h.0, ap (λ f. f j) took.same.2 ∙ h.1)));
   from = λ k. elim (cases_eq k i) [
@@ -185,7 +185,7 @@ spent_none at a v limits i took t is =
 
 pub still_empty : (at : ℕ) (a v : Worker) (i : ℕ) → TookFrom a v i None → Still at a v
 still_empty at a v i took = record {
-  lanes = take_lanes a v i None took;
+  lanes = same_after_take a v i None took;
   yard = take_keeps a v i None took;
   to = λ made j p is. same_sends at made a v j p [] took.same.2 refl is;
   from = λ k t is. elim (cases_eq k i) [
@@ -209,8 +209,8 @@ taken_same at i t =
     let own : (i == i) ≡ true = grind (arith, nat_tests) in
     told_own (λ e. post_taken i e.call e.reply) at e refl ∙ rw own refl
 
-pub taken_other : (at i k : ℕ) (t : Took) → k ≢ i → posts_taken k at (one at (Take i) (Taken t)) ≡ []
-taken_other at i k t ne =
+pub taken_elsewhere : (at i k : ℕ) (t : Took) → k ≢ i → posts_taken k at (one at (Take i) (Taken t)) ≡ []
+taken_elsewhere at i k t ne =
     let e : Entry = record { worker = at; call = Take i; reply = Taken t } in
     let other : (i == k) ≡ false = grind (arith, nat_tests) in
     let f : Entry → Option Post = λ e. post_taken k e.call e.reply in
@@ -231,14 +231,14 @@ take_takes at a v i t took k end is = elim (cases_eq k i) [
         ready = rw (q, e, m) took.some.1;
       }
   | inr e ↦
-      let m = taken_other at i k t e in
+      let m = taken_elsewhere at i k t e in
       record { end = end; end_is = took.others k e ∙ is; waited = refl; taken = rw m (sym (append-nil (taken end))); ready = rw m ([], append-nil (ready end)) }
 ]
 
 taken_left : (at : ℕ) (limits left : List ℕ) (i : ℕ) (t : Took) → OneFewer limits i left → (k : ℕ) → slice_index left k + length (posts_taken k at (one at (Take i) (Taken t))) ≡ slice_index limits k
 taken_left at limits left i t fewer k = elim (cases_eq k i) [
   | inl e ↦ let m = ap length (taken_same at i t) in let f = fewer.0 in rw e (omega arith)
-  | inr e ↦ omega (arith, ap length (taken_other at i k t e), fewer.1 k e)
+  | inr e ↦ omega (arith, ap length (taken_elsewhere at i k t e), fewer.1 k e)
 ]
 
 pub sum_has : (n : ℕ) (f : ℕ → ℕ) (i : ℕ) → i < n → f i ≤ sum_below n f
@@ -257,7 +257,7 @@ moved_take at made a v limits left i t near fewer took =
     record {
       yard = take_keeps a v i (Some p) took;
       numbers = took.same.1;
-      knows = λ n. knows_same n a v (take_lanes a v i (Some p) took);
+      knows = λ n. knows_same n a v (same_after_take a v i (Some p) took);
       sent = λ j x is. same_sends at made a v j x (e ∷ []) took.same.2 (none j) is;
       taken = take_takes at a v i t took;
       left_is = taken_left at limits left i t fewer;

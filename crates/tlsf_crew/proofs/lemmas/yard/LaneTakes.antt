@@ -22,7 +22,7 @@ use Rattle.tlsf_crew.specs.yard.Notes.{NotedInTurn, LaneNoted, LanesNoted, AllNo
 use Rattle.tlsf_crew.specs.yard.Moves.{one, Spent, Moved, TookWithin, took_by, OwnDrain, took_own, lane_own, lanes_own, own_drain, LaneTaken, LaneSpent, LanesTaken, LanesSpent}
 use Rattle.tlsf_crew.proofs.lemmas.yard.YardKept.{same_keeps}
 use Rattle.tlsf_crew.proofs.lemmas.yard.ManyEntries.{moved_then, moved_room, spent_then, spent_more, taken_then}
-use Rattle.tlsf_crew.proofs.lemmas.yard.LaneMoves.{taken_same, taken_other}
+use Rattle.tlsf_crew.proofs.lemmas.yard.LaneMoves.{taken_same, taken_elsewhere}
 use Rattle.tlsf_crew.proofs.lemmas.yard.Pending.{same_sum}
 use Rattle.tlsf_crew.proofs.lemmas.yard.Slots.{from_slot}
 use Rattle.tlsf_crew.proofs.lemmas.yard.LaneTurns.{has_or}
@@ -76,7 +76,7 @@ lane_more a b v limits mid left from entries longer count took x t =
       entries_are = all ∙ (ap (λ l. l ++ last) x.entries_are ∙ append_assoc entries x.own last);
       posts = x.posts ++ p ∷ [];
       here = taken_then from at x.own last ∙ (ap (λ l. l ++ posts_taken from at last) x.here ∙ ap (λ l. x.posts ++ l) (taken_same at from took ∙ ap (λ k. record { from = k.from; name = k.name } ∷ []) t.2));
-      others = λ k ne. taken_then k at x.own last ∙ (ap (λ l. l ++ posts_taken k at last) (x.others k ne) ∙ taken_other at from k took ne);
+      others = λ k ne. taken_then k at x.own last ∙ (ap (λ l. l ++ posts_taken k at last) (x.others k ne) ∙ taken_elsewhere at from k took ne);
       count_is = omega (arith, x.count_is, length-append x.posts (p ∷ []));
       told = λ n.
           let e : n + (count + 1) ≡ n + count + 1 = omega arith in
@@ -118,8 +118,8 @@ lane_most a v limits left from most entries longer count x few all = record { ta
 
 -- ---- one lane after another
 
-pub lanes_none : (a : Worker) (limits : List ℕ) (entries : List Entry) → LanesTaken a limits 0 entries a limits entries 0
-lanes_none a limits entries = record {
+pub nothing_below : (a : Worker) (limits : List ℕ) (entries : List Entry) → LanesTaken a limits 0 entries a limits entries 0
+nothing_below a limits entries = record {
   own = [];
   entries_are = sym (append-nil entries);
   posts = λ i. [];
@@ -129,8 +129,8 @@ lanes_none a limits entries = record {
   moved = λ made. moved_none made a limits;
 }
 
-pub lanes_id : (a v : Worker) (limits left : List ℕ) (below : ℕ) (entries longer : List Entry) (count : ℕ) → LanesTaken a limits below entries v left longer count → id_of v ≡ id_of a
-lanes_id a v limits left below entries longer count x = let m = x.moved [] in ap (λ n. n.0) m.numbers
+pub id_below : (a v : Worker) (limits left : List ℕ) (below : ℕ) (entries longer : List Entry) (count : ℕ) → LanesTaken a limits below entries v left longer count → id_of v ≡ id_of a
+id_below a v limits left below entries longer count x = let m = x.moved [] in ap (λ n. n.0) m.numbers
 
 pub lanes_knows : (n : ℕ) (a v : Worker) (limits left : List ℕ) (below : ℕ) (entries longer : List Entry) (count : ℕ) → LanesTaken a limits below entries v left longer count → KnowsYard n a → KnowsYard n v
 lanes_knows n a v limits left below entries longer count x k = let m = x.moved [] in m.knows n k
@@ -165,11 +165,11 @@ with_lane_below : (f : ℕ → List Post) (k : ℕ) (posts : List Post) (i : ℕ
 with_lane_below f k posts i lt = let b : (i == k) ≡ false = grind (arith, nat_tests) in rw b refl
 
 -- the turn of another worker
-other_taken : (a b v : Worker) (limits mid left : List ℕ) (from : ℕ) (entries between longer : List Entry) (n count : ℕ) → from ≢ id_of a → HasTake a from → LanesTaken a limits from entries b mid between n
+after_other_lane : (a b v : Worker) (limits mid left : List ℕ) (from : ℕ) (entries between longer : List Entry) (n count : ℕ) → from ≢ id_of a → HasTake a from → LanesTaken a limits from entries b mid between n
     → LaneTaken b mid from between v left longer count → LanesTaken a limits (from + 1) entries v left longer (n + count)
-other_taken a b v limits mid left from entries between longer n count ne has x y =
+after_other_lane a b v limits mid left from entries between longer n count ne has x y =
     let at = id_of a in
-    let q : id_of b ≡ at = lanes_id a b limits mid from entries between n x in
+    let q : id_of b ≡ at = id_below a b limits mid from entries between n x in
     let f = with_lane x.posts from y.posts in
     let d = own_drain entries a 0 in
     let below : lanes_own at f d from ≡ lanes_own at x.posts d from = lanes_same at f x.posts d from (with_lane_below x.posts from y.posts) in
@@ -201,11 +201,11 @@ lane_count at from [] d = omega arith
 lane_count at from (p ∷ posts) d = omega (arith, lane_count at from posts (took_own at from d p))
 
 -- how many were taken from the lanes below a number
-pub lanes_count : (at : ℕ) (posts : ℕ → List Post) (d : OwnDrain) (k : ℕ) → ((i : ℕ) → i ≡ at → posts i ≡ []) → (lanes_own at posts d k).taken ≡ d.taken + sum_below k (λ i. length (posts i))
-lanes_count at posts d zero none = omega arith
-lanes_count at posts d (suc k) none =
+pub count_below : (at : ℕ) (posts : ℕ → List Post) (d : OwnDrain) (k : ℕ) → ((i : ℕ) → i ≡ at → posts i ≡ []) → (lanes_own at posts d k).taken ≡ d.taken + sum_below k (λ i. length (posts i))
+count_below at posts d zero none = omega arith
+count_below at posts d (suc k) none =
     let e : k + 1 ≡ suc k = omega arith in
-    let before = lanes_count at posts d k none in
+    let before = count_below at posts d k none in
     elim (cases_eq k at) [
       | inl own ↦
           let a = ap (λ o. o.taken) (subst (λ m. lanes_own at posts d m ≡ lanes_own at posts d k) e (lanes_own_turn at posts d k own)) in
@@ -220,21 +220,21 @@ lanes_count at posts d (suc k) none =
 pub lanes_taken_count : (n : ℕ) (a v : Worker) (limits left : List ℕ) (below : ℕ) (entries longer : List Entry) (count : ℕ) → KnowsYard n a → (x : LanesTaken a limits below entries v left longer count)
     → count ≡ sum_below below (λ i. length (x.posts i))
 lanes_taken_count n a v limits left below entries longer count k x =
-    let c = lanes_count (id_of a) x.posts (own_drain entries a 0) below (λ i own. x.only i (λ _ has. let y = (k.from i).0 has in y.1 own)) in
+    let c = count_below (id_of a) x.posts (own_drain entries a 0) below (λ i own. x.only i (λ _ has. let y = (k.from i).0 has in y.1 own)) in
     let t = ap (λ o. o.taken) x.told in
     omega arith
 
 pub other_turn : (m : ℕ) (a b v : Worker) (limits mid left : List ℕ) (from most : ℕ) (entries between longer : List Entry) (n count : ℕ) → KnowsYard m a → HasTake a from → LanesSpent a limits from most entries b mid between n
     → LaneSpent b mid from (most - n) between v left longer count → LanesSpent a limits (from + 1) most entries v left longer (n + count)
-unfolding other_taken
+unfolding after_other_lane
 other_turn m a b v limits mid left from most entries between longer n count known has x y =
     let at = id_of a in
     let near = (known.from from).0 has in
-    let q : id_of b ≡ at = lanes_id a b limits mid from entries between n x.takes in
+    let q : id_of b ≡ at = id_below a b limits mid from entries between n x.takes in
     let f = with_lane x.takes.posts from y.takes.posts in
     let below = lanes_taken_count m a b limits mid from entries between n known x.takes in
     record {
-      takes = other_taken a b v limits mid left from entries between longer n count near.1 has x.takes y.takes;
+      takes = after_other_lane a b v limits mid left from entries between longer n count near.1 has x.takes y.takes;
       few = omega (arith, x.few, y.few);
       spent = λ lt i below. elim (cases_lt i from) [
         | inl before ↦ spent_more at a limits x.takes.own y.takes.own i (x.spent (omega arith) i before)
@@ -344,7 +344,7 @@ lanes_drains : (n : ℕ) (a v : Worker) (x y : Journal) (most k : ℕ) (tooks : 
 lanes_drains n a v x y most zero tooks known l =
     let e : length tooks ≡ 0 = ap length l.0 in
     rw (l.1, l.2, e) (record {
-      spent = record { takes = lanes_none a x.limits x.entries.items; few = omega arith; spent = λ lt i below. absurd (omega arith); each = λ i below. absurd (omega arith) };
+      spent = record { takes = nothing_below a x.limits x.entries.items; few = omega arith; spent = λ lt i below. absurd (omega arith); each = λ i below. absurd (omega arith) };
       capacity = refl;
     })
 lanes_drains n a v x y most (suc k) tooks known l =
@@ -354,7 +354,7 @@ lanes_drains n a v x y most (suc k) tooks known l =
     let next : k + 1 ≡ suc k = omega arith in
     let count : length l.2 + length l.3 ≡ length tooks = sym (ap length l.4 ∙ length-append l.2 l.3) in
     let later : KnowsYard n b = lanes_knows n a b x.limits z.limits k x.entries.items z.entries.items (length l.2) before.spent.takes known in
-    let q : id_of b ≡ id_of a = lanes_id a b x.limits z.limits k x.entries.items z.entries.items (length l.2) before.spent.takes in
+    let q : id_of b ≡ id_of a = id_below a b x.limits z.limits k x.entries.items z.entries.items (length l.2) before.spent.takes in
     elim (has_or (end_from b k)) [
       | inl has ↦
           let near = (later.from k).0 has in

@@ -128,11 +128,11 @@ turn_of noted admitted a v x y from most tooks all t = record {
   nowhere = λ none. let n = t.nowhere none in (n.0, n.1);
 }
 
-lanes_of : {N : Type 0} (noted : N → ℕ → ℕ → Took → N → Type 0) (admitted : N → ℕ → Type 0) (a v : Worker) (x y : N) (most k : ℕ) (tooks : List Took) → ((z : N) (i : ℕ) → admitted z i)
+turns_below : {N : Type 0} (noted : N → ℕ → ℕ → Took → N → Type 0) (admitted : N → ℕ → Type 0) (a v : Worker) (x y : N) (most k : ℕ) (tooks : List Took) → ((z : N) (i : ℕ) → admitted z i)
     → LanesNoted noted admitted a v x y most k tooks → LanesDrained a v most k tooks
-lanes_of noted admitted a v x y most zero tooks all l = (l.0, l.1)
-lanes_of noted admitted a v x y most (suc k) tooks all l =
-    (l.0, l.2, l.3, l.4, lanes_of noted admitted a l.0 x l.1 most k l.2 all l.5, turn_of noted admitted l.0 v l.1 y k (most - length l.2) l.3 all l.6)
+turns_below noted admitted a v x y most zero tooks all l = (l.0, l.1)
+turns_below noted admitted a v x y most (suc k) tooks all l =
+    (l.0, l.2, l.3, l.4, turns_below noted admitted a l.0 x l.1 most k l.2 all l.5, turn_of noted admitted l.0 v l.1 y k (most - length l.2) l.3 all l.6)
 
 pub has_or : {X : Type 0} (o : Option X) → ((p : X) × (o ≡ Some p)) ⊎ ¬ ((p : X) × (o ≡ Some p))
 has_or None = inr (λ h. let e = h.1 in cc)
@@ -144,31 +144,31 @@ turn_heap a v from most tooks t = elim (has_or (end_from a from)) [
   | inr none ↦ let n = t.nowhere none in rw (n.0) (ap heap_of n.1)
 ]
 
-lanes_heap : (a v : Worker) (most k : ℕ) (tooks : List Took) → LanesDrained a v most k tooks → heap_of v ≡ heap_after (heap_of a) tooks
-lanes_heap a v most zero tooks l = rw (l.0) (ap heap_of l.1)
-lanes_heap a v most (suc k) tooks l =
-    rw (l.3) (heap_more (heap_of a) l.0 v l.1 l.2 (lanes_heap a l.0 most k l.1 l.4) (turn_heap l.0 v k (most - length l.1) l.2 l.5))
+heap_below : (a v : Worker) (most k : ℕ) (tooks : List Took) → LanesDrained a v most k tooks → heap_of v ≡ heap_after (heap_of a) tooks
+heap_below a v most zero tooks l = rw (l.0) (ap heap_of l.1)
+heap_below a v most (suc k) tooks l =
+    rw (l.3) (heap_more (heap_of a) l.0 v l.1 l.2 (heap_below a l.0 most k l.1 l.4) (turn_heap l.0 v k (most - length l.1) l.2 l.5))
 
 -- the yard stays whole
 after_keeps : (b v : Worker) (post : Option Post) (answer : Option Took) → AfterTake b v post (Ok answer) → KeepsYards b v
 after_keeps b v None answer then = subst (KeepsYards b) (sym then.1) (same_keeps b)
 after_keeps b v (Some p) answer then = heap_keeps b v then.2 (call_keeps (heap_of b) (heap_of v) (heap.Release p.name) then.1)
 
-pub taken_keeps : (a v : Worker) (from : ℕ) (answer : Option Took) → TakenFrom a v from (Ok answer) → KeepsYards a v
-taken_keeps a v from answer t = keeps_then a t.between v (take_keeps a t.between from t.post t.lane) (after_keeps t.between v t.post answer t.then)
+pub one_turn_keeps : (a v : Worker) (from : ℕ) (answer : Option Took) → TakenFrom a v from (Ok answer) → KeepsYards a v
+one_turn_keeps a v from answer t = keeps_then a t.between v (take_keeps a t.between from t.post t.lane) (after_keeps t.between v t.post answer t.then)
 
-takes_keep : (a v : Worker) (from : ℕ) (tooks : List Took) → TakesInTurn a v from tooks → KeepsYards a v
-takes_keep a v from [] t = subst (KeepsYards a) (sym t) (same_keeps a)
-takes_keep a v from (took ∷ tooks) t = keeps_then a t.0 v (taken_keeps a t.0 from (Some took) t.1) (takes_keep t.0 v from tooks t.2)
+all_turns_keep : (a v : Worker) (from : ℕ) (tooks : List Took) → TakesInTurn a v from tooks → KeepsYards a v
+all_turns_keep a v from [] t = subst (KeepsYards a) (sym t) (same_keeps a)
+all_turns_keep a v from (took ∷ tooks) t = keeps_then a t.0 v (one_turn_keeps a t.0 from (Some took) t.1) (all_turns_keep t.0 v from tooks t.2)
 
 turn_keeps : (a v : Worker) (from most : ℕ) (tooks : List Took) → TurnDrained a v from most tooks → KeepsYards a v
 turn_keeps a v from most tooks t = elim (has_or (end_from a from)) [
   | inl has ↦
       let l = t.lane has in
-      let k = takes_keep a l.last from tooks l.takes in
+      let k = all_turns_keep a l.last from tooks l.takes in
       elim l.end [
         | inl done ↦ subst (KeepsYards a) (sym done.1) k
-        | inr empty ↦ keeps_then a l.last v k (taken_keeps l.last v from None empty.1)
+        | inr empty ↦ keeps_then a l.last v k (one_turn_keeps l.last v from None empty.1)
       ]
   | inr none ↦ let n = t.nowhere none in subst (KeepsYards a) (sym n.1) (same_keeps a)
 ]
@@ -180,7 +180,7 @@ lanes_keep a v most (suc k) tooks l = keeps_then a l.0 v (lanes_keep a l.0 most 
 pub all_drained : {N : Type 0} (noted : N → ℕ → ℕ → Took → N → Type 0) (admitted : N → ℕ → Type 0) (a v : Worker) (x y : N) (most : ℕ) (answer : Drained) → ((z : N) (i : ℕ) → admitted z i)
     → AllNoted noted admitted a v x y most answer → DrainedAll a v most answer × KeepsYards a v
 all_drained noted admitted a v x y most answer all d =
-    let lanes = lanes_of noted admitted a v x y most (lane_places a) d.tooks all d.lanes in (
-      record { tooks = d.tooks; lanes = lanes; heap = lanes_heap a v most (lane_places a) d.tooks lanes; count = d.count },
+    let lanes = turns_below noted admitted a v x y most (lane_places a) d.tooks all d.lanes in (
+      record { tooks = d.tooks; lanes = lanes; heap = heap_below a v most (lane_places a) d.tooks lanes; count = d.count },
       lanes_keep a v most (lane_places a) d.tooks lanes,
     )

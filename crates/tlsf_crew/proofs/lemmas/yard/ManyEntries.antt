@@ -86,8 +86,8 @@ sends_then at made b v j xs ys p s t = record {
   free = omega (arith, s.free, t.free, count_made at j made xs ys);
 }
 
-takes_then : (at : ℕ) (b v : Worker) (i : ℕ) (xs ys : List Entry) (t : TakeEnd) (s : Takes at b i xs t) → Takes at v i ys s.end → Takes at v i (xs ++ ys) t
-takes_then at b v i xs ys t s u =
+takes_joined : (at : ℕ) (b v : Worker) (i : ℕ) (xs ys : List Entry) (t : TakeEnd) (s : Takes at b i xs t) → Takes at v i ys s.end → Takes at v i (xs ++ ys) t
+takes_joined at b v i xs ys t s u =
     let x = posts_taken i at xs in
     let y = posts_taken i at ys in
     let e = taken_then i at xs ys in
@@ -126,7 +126,7 @@ moved_then at made a b v limits mid left cs ds xs ys x y = record {
   numbers = y.numbers ∙ x.numbers;
   knows = λ n h. y.knows n (x.knows n h);
   sent = λ j p is. let s = x.sent j p is in sends_then at made b v j xs ys p s (y.sent j s.end s.end_is);
-  taken = λ i t is. let s = x.taken i t is in takes_then at b v i xs ys t s (y.taken i s.end s.end_is);
+  taken = λ i t is. let s = x.taken i t is in takes_joined at b v i xs ys t s (y.taken i s.end s.end_is);
   left_is = λ i. omega (arith, x.left_is i, y.left_is i, count_taken i at xs ys);
   full = λ before e name p s r is. elim (stands_split xs ys before e s) [
     | inl u ↦ x.full before e name p u r is

@@ -38,8 +38,8 @@ post_known w at name =
       | inr e ↦ let b : (length (w.waiting at name.heap) == w.capacity) ≡ false = grind (arith, nat_tests) in rw b (λ q. cc)
     ]
 
-release_known : (w : World) (at : ℕ) (name : Name) → (releasing w at name).reply ≢ Refused Unmade
-release_known w at name =
+release_meant : (w : World) (at : ℕ) (name : Name) → (releasing w at name).reply ≢ Refused Unmade
+release_meant w at name =
     elim (cases_eq name.heap at) [
       | inl own ↦ let b : (name.heap == at) ≡ true = grind (arith, nat_tests) in rw b (freed_known (released (heap_in w at) name).answer)
       | inr ne ↦ elim (cases_lt name.heap (length w.heaps)) [
@@ -77,7 +77,7 @@ take_unmade w at from = (take_known w at from, (λ e. absurd e))
 
 pub release_unmade : (w : World) (at : ℕ) (o : Option Name) → ((releasing_named w at o).reply ≡ Refused Unmade) ↔ (o ≡ None)
 release_unmade w at None = ((λ e. refl), (λ e. refl))
-release_unmade w at (Some name) = some_named name (releasing w at name).reply (release_known w at name)
+release_unmade w at (Some name) = some_named name (releasing w at name).reply (release_meant w at name)
 
 pub write_unmade : (w : World) (at from : ℕ) (bytes : List ℕ) (o : Option Name) → ((writing_named w at o from bytes).reply ≡ Refused Unmade) ↔ (o ≡ None)
 write_unmade w at from bytes None = ((λ e. refl), (λ e. refl))

@@ -14,7 +14,7 @@ use Rattle.tlsf_crew.specs.yard.World.{World, Draining, Replayed, took, took_mor
 use Rattle.tlsf_crew.specs.yard.Told.{Told, MayTell, MayTellAll}
 use Rattle.tlsf_crew.proofs.lemmas.yard.OneEvent.{from_other, from_own, taking_own, taking_far}
 use Rattle.tlsf_crew.proofs.lemmas.yard.JoinedEntries.{told_nothing}
-use Rattle.tlsf_crew.proofs.lemmas.threads.TwoRecords.{taken_then}
+use Rattle.tlsf_crew.proofs.lemmas.yard.ManyEntries.{taken_then}
 
 other_take : (i from : ℕ) (reply : Reply) → from ≢ i → post_taken i (Take from) reply ≡ None
 other_take i from (Made name) ne = refl
@@ -81,8 +81,8 @@ call_none i at r (Read target from n) far none = none_more i at r.entries _ none
 call_none i at r (Take from) far none = none_more i at r.entries _ none (take_none i at from r.world far)
 call_none i at r (Drain most) far none = drain_none i at most r far none
 
-tell_none : (n i at : ℕ) (s t : Told) (call : Call) → (i ≢ at → n ≤ i) → MayTell n at s call t → posts_taken i at s.entries ≡ [] → posts_taken i at t.entries ≡ []
-tell_none n i at s t call far may none =
+none_after_one : (n i at : ℕ) (s t : Told) (call : Call) → (i ≢ at → n ≤ i) → MayTell n at s call t → posts_taken i at s.entries ≡ [] → posts_taken i at t.entries ≡ []
+none_after_one n i at s t call far may none =
     let r : Replayed = record { made = s.made; entries = s.entries; world = may.0 } in
     let same : (called r at call).entries ≡ t.entries = ap (λ (x : Told). x.entries) may.2 in
     let here : i ≢ at → length may.0.heaps ≤ i = λ ne. let h : n ≤ i = far ne in omega (arith, may.1.0) in
@@ -90,4 +90,4 @@ tell_none n i at s t call far may none =
 
 pub tells_none : (n i at : ℕ) (s t : Told) (calls : List Call) → (i ≢ at → n ≤ i) → MayTellAll n at s calls t → posts_taken i at s.entries ≡ [] → posts_taken i at t.entries ≡ []
 tells_none n i at s t [] far may none = rw may none
-tells_none n i at s t (call ∷ calls) far may none = tells_none n i at may.0 t calls far may.2 (tell_none n i at s may.0 call far may.1 none)
+tells_none n i at s t (call ∷ calls) far may none = tells_none n i at may.0 t calls far may.2 (none_after_one n i at s may.0 call far may.1 none)

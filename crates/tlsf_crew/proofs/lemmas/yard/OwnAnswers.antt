@@ -197,9 +197,9 @@ pub record IsRelease (a v : Worker) (name : Name) (answer : Result Released Crew
   pub nowhere : name.heap ≢ id_of a → ¬ (HasPost a name.heap) → (answer ≡ Err Stranger) × (v ≡ a)
   pub yard : KeepsYards a v
 
-release_known : (made : List (Option Name)) (a v : Worker) (limits : List ℕ) (target : Target) (name : Name) (answer : Result Released CrewRefusal) → name_of made target ≡ Some name
+release_by_name : (made : List (Option Name)) (a v : Worker) (limits : List ℕ) (target : Target) (name : Name) (answer : Result Released CrewRefusal) → name_of made target ≡ Some name
     → IsRelease a v name answer → Answered made a limits (Release target) v limits (reply_released answer) (λ w. releasing w (id_of a) name)
-release_known made a v limits target name answer known r =
+release_by_name made a v limits target name answer known r =
     elim (cases_eq name.heap (id_of a)) [
       | inl own ↦ here_answered made a v limits target name answer r.yard own (r.here own)
       | inr ne ↦ elim (has_post_or (end_to a name.heap)) [
@@ -217,7 +217,7 @@ pub release_answered : (made : List (Option Name)) (a v : Worker) (limits : List
 release_answered made a v limits target name answer reply known r e =
     subst (λ o. Answered made a limits (Release target) v limits reply (λ w. releasing_named w (id_of a) o)) known
     (subst (λ y. Answered made a limits (Release target) v limits y (λ w. releasing w (id_of a) name)) e
-    (release_known made a v limits target name answer (sym known) r))
+    (release_by_name made a v limits target name answer (sym known) r))
 
 -- ---- write
 

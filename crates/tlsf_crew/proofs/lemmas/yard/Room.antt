@@ -15,7 +15,7 @@ use Rattle.tlsf_crew.specs.declared.yard.reply.Reply.TheVariants.{Drained, Refus
 use Rattle.tlsf_crew.specs.declared.yard.crew_refusal.CrewRefusal.TheVariants.{Stranger}
 use Rattle.tlsf_crew.specs.yard.Bytes.{bytes_of}
 use Rattle.tlsf_crew.specs.yard.Heaps.{allocated, released, written}
-use Rattle.tlsf_crew.specs.yard.World.{World, world_of, Replied, Replayed, with_heap, with_waiting, heap_in, posting, releasing, releasing_named, writing_named, reading_named, taking, taking_next, took_first, took, took_more, Draining, drained_lane, drained_below, drained_all, draining, answered, called, after, begun, name_of}
+use Rattle.tlsf_crew.specs.yard.World.{World, world_of, Replied, Replayed, with_heap, with_waiting, heap_in, posting, releasing, releasing_named, writing_named, reading_named, taking, taking_next, took_first, took, took_more, Draining, drained_lane, drained_below, drained_all, draining, answered, called, after, resumed, name_of}
 use Rattle.tlsf_crew.specs.yard.Counts.{sum_below, waiting_in, is_release, releases_in}
 use Rattle.tlsf_crew.proofs.lemmas.yard.LaneChanges.{edited_same}
 use Rattle.tlsf_crew.proofs.lemmas.yard.OneEvent.{heaps_count, releasing_post, releasing_far, taking_lane, taking_own, taking_far, from_other, from_own}
@@ -183,9 +183,9 @@ all_room (suc k) (e ∷ es) r le =
     omega arith
 
 -- the entries of the first events, and what waits then
-pub so_far : (k : ℕ) (es : List Event) (w : World) → k ≤ length es
-    → length (fold after (begun w) (take k es)).entries + waiting_in (fold after (begun w) (take k es)).world ≤ k + releases_in es + waiting_in w
-so_far k es w le = let a = all_room k es (begun w) le in omega arith
+pub so_far : (k : ℕ) (es : List Event) (w : World) (made : List (Option Name)) → k ≤ length es
+    → length (fold after (resumed w made) (take k es)).entries + waiting_in (fold after (resumed w made) (take k es)).world ≤ k + releases_in es + waiting_in w
+so_far k es w made le = let a = all_room k es (resumed w made) le in omega arith
 
 -- what waits for one worker is no more than what waits in the yard
 pub worker_waits : (ws : List Worker) (at : ℕ) → IsYard ws → sum_below 8 (λ i. length (waits_in ws i at)) ≤ waiting_in (world_of ws)

@@ -1,20 +1,12 @@
-use Rattle.std.proofs.Common.{List, arith}
-use Rattle.std.proofs.lemmas.Result.{IfOk-weaker}
-use Rattle.tlsf_crew.specs.yard.World.{world_of}
+use Rattle.std.proofs.Common.{◌≡◌, List, arith, Result, Ok, Err, IfOk, OnOk}
+use Rattle.tlsf_crew.specs.yard.World.{world_of, replies}
 use Rattle.tlsf_crew.specs.declared.yard.worker.Worker.{Worker}
 use Rattle.tlsf_crew.specs.yard.Yard.{IsYard}
 use Rattle.tlsf_crew.specs.yard.FairRuns.{HasIds}
 use Rattle.tlsf_crew.proofs.lemmas.yard.OneEvent.{heaps_count}
-use Rattle.tlsf_crew.proofs.lemmas.yard.Pending.{all_ready}
+use Rattle.tlsf_crew.proofs.lemmas.yard.InParts.{replies_alone}
 use Rattle.tlsf_crew.proofs.lemmas.yard.FairLists.{no_stale}
 use Rattle.tlsf_crew.proofs.yard.replay.replay_events.Goals as goal
-
-pub replay_within-requires-clause-room : goal.replay_within-requires-clause-room
-replay_within-requires-clause-room c =
-    let vs = c.settle.new.workers in
-    let s = c.settle.ensures in
-    let b = all_ready c.args.workers.now vs s.count s.met s.yard in
-    omega (arith, c.room_for-room.ensures)
 
 -- in a whole yard each heap has the number of its worker
 yard_ids : (ws : List Worker) → IsYard ws → HasIds (world_of ws)
@@ -23,9 +15,23 @@ yard_ids ws yard =
     let n = heaps_count ws in
     λ j lt. (yard.heaps j (omega (arith, n))).0
 
+both_of : {T E : Type 0} (r : Result T E) (P : T → Type 0) (Q : Type 0) (R : T → Type 0) → ((x : T) → P x → Q → R x) → IfOk r P → OnOk r Q → IfOk r R
+both_of (Ok x) P Q R f p q = f x p q
+both_of (Err y) P Q R f p q = tt
+
 pub returns-clause-no_stale : goal.returns-clause-no_stale
 returns-clause-no_stale c =
     λ run.
     let a = no_stale (world_of c.args.workers.now) c.args.events.now (yard_ids c.args.workers.now c.requires) run in
-    let replies_are = rw c.settle.ensures.world at c.replay_within.ensures.replies in
-    IfOk-weaker c.replay_within.result _ _ (λ entries e. rw (e.0, e.1) a) replies_are
+    let w = world_of c.args.workers.now in
+    let alone = replies_alone w c.args.events.now in
+    let entries = rw (c.new-made.ensures.items, alone) at c.replay_behind.ensures.entries in
+    let world = rw (c.new-made.ensures.items, alone) at c.replay_behind.ensures.world in
+    both_of c.replay_behind.result (λ es. es.items ≡ (replies w c.args.events.now).entries) (world_of c.replay_behind.new.workers ≡ (replies w c.args.events.now).world) _
+    (λ es e left. rw (e, left) a) entries world
+
+pub returns-clause-entries : goal.returns-clause-entries
+returns-clause-entries c = rw (c.new-made.ensures.items, replies_alone (world_of c.args.workers.now) c.args.events.now) at c.replay_behind.ensures.entries
+
+pub returns-clause-world : goal.returns-clause-world
+returns-clause-world c = rw (c.new-made.ensures.items, replies_alone (world_of c.args.workers.now) c.args.events.now) at c.replay_behind.ensures.world

@@ -4,27 +4,29 @@ use Rattle.std.proofs.lemmas.List.{take_all}
 use Rattle.std.proofs.lemmas.List.Sums.{fold_more}
 use Rattle.tlsf_crew.specs.declared.yard.event.Event.{Event}
 use Rattle.tlsf_crew.specs.declared.yard.call.Call.TheVariants.{Allocate}
-use Rattle.tlsf_crew.specs.yard.World.{world_of, after, begun}
+use Rattle.tlsf_crew.specs.yard.World.{world_of, after, resumed}
 use Rattle.tlsf_crew.specs.yard.Counts.{waiting_in}
-use Rattle.tlsf_crew.proofs.lemmas.yard.EventSteps.{replies_is}
+use Rattle.tlsf_crew.proofs.lemmas.yard.InParts.{replies_behind_is}
 use Rattle.tlsf_crew.proofs.lemmas.yard.Room.{so_far, worker_waits}
 use Rattle.tlsf_crew.proofs.yard.replay.replay_within.Goals as goal
 
 pub run_event-requires-clause-room : goal.run_event-requires-clause-room
 run_event-requires-clause-room c =
     let w = world_of c.args.workers.now in
+    let made = c.args.made.now.items in
     let i = c.loop-event.event-index in
     let d0 : Event = record { worker = 0; call = Allocate 0 } in
-    let a = fold_more after (begun w) c.args.events.now i d0 (omega arith) in
-    let b = so_far (i + 1) c.args.events.now w (omega arith) in
+    let a = fold_more after (resumed w made) c.args.events.now i d0 (omega arith) in
+    let b = so_far (i + 1) c.args.events.now w made (omega arith) in
     rw (c.loop-event.invariant.replayed, ← a) (omega (arith, b, c.requires.room, c.loop-event.invariant.room))
 
 pub run_event-requires-clause-takes : goal.run_event-requires-clause-takes
 run_event-requires-clause-takes c =
     let w = world_of c.args.workers.now in
+    let made = c.args.made.now.items in
     let i = c.loop-event.event-index in
     let replayed = c.loop-event.invariant.replayed in
-    let b = so_far i c.args.events.now w (omega arith) in
+    let b = so_far i c.args.events.now w made (omega arith) in
     let entries = ap (λ r. length r.entries) replayed in
     let waits = ap (λ r. waiting_in r.world) replayed in
     let d0 : Event = record { worker = 0; call = Allocate 0 } in
@@ -35,9 +37,10 @@ run_event-requires-clause-takes c =
 pub returns-clause-replies : goal.returns-clause-replies
 returns-clause-replies c =
     let w = world_of c.args.workers.now in
+    let made = c.args.made.now.items in
     let t = take_all c.loop-event.event-index c.args.events.now (omega arith) in
-    let e = c.loop-event.invariant.replayed ∙ (ap (fold after (begun w)) t ∙ sym (replies_is w c.args.events.now)) in
-    (ap (λ r. r.entries) e, ap (λ r. r.world) e)
+    let e = c.loop-event.invariant.replayed ∙ (ap (fold after (resumed w made)) t ∙ sym (replies_behind_is w made c.args.events.now)) in
+    e
 
 pub run_event-requires-clause-yard : goal.run_event-requires-clause-yard
 run_event-requires-clause-yard c = c.loop-event.invariant.yard
@@ -45,12 +48,13 @@ run_event-requires-clause-yard c = c.loop-event.invariant.yard
 pub loop-event-preserved : goal.loop-event-preserved
 loop-event-preserved c =
     let w = world_of c.args.workers.now in
+    let made = c.args.made.now.items in
     let n = c.loop-event.event-index in
     let i = c.loop-event.invariant in
     let e = c.run_event.ensures in
     let d0 : Event = record { worker = 0; call = Allocate 0 } in
     let event : Event = get_or c.args.events.now n d0 in
-    let a = fold_more after (begun w) c.args.events.now n d0 (omega arith) in
+    let a = fold_more after (resumed w made) c.args.events.now n d0 (omega arith) in
     record {
       yard = e.yard;
       count = omega (arith, i.count);
@@ -64,10 +68,10 @@ pub loop-event-init : goal.loop-event-init
 loop-event-init c = record {
   yard = c.requires.yard;
   count = refl;
-  made = c.in_ok-made.ensures.len;
-  made_room = omega (arith, c.in_ok-made.ensures.capacity);
+  made = omega (arith, c.reserve.ensures.len);
+  made_room = omega (arith, c.reserve.ensures.len, c.in_ok-reserve.ensures.ok);
   room = c.in_ok-with_capacity.ensures.capacity;
-  replayed = rw (c.in_ok-made.ensures.items, c.in_ok-with_capacity.ensures.items) refl;
+  replayed = rw (c.reserve.ensures.items, c.in_ok-with_capacity.ensures.items) refl;
 }
 
 pub returns-clause-yard : goal.returns-clause-yard

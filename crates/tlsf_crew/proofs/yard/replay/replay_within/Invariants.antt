@@ -1,7 +1,7 @@
-use Rattle.std.proofs.Common.{◌≡◌, ◌≤◌, length, take, vec_len, vec_capacity}
+use Rattle.std.proofs.Common.{◌≡◌, ◌+◌, ◌≤◌, length, take, vec_len, vec_capacity}
 use Rattle.std.specs.List.{fold}
 use Rattle.tlsf_crew.specs.yard.Yard.{IsYard}
-use Rattle.tlsf_crew.specs.yard.World.{after, begun, world_of}
+use Rattle.tlsf_crew.specs.yard.World.{after, resumed, world_of}
 use Rattle.tlsf_crew.specs.yard.ReplaySteps.{replay_of}
 use Rattle.tlsf_crew.proofs.yard.replay.replay_within.Given as goal
 
@@ -9,8 +9,8 @@ abbrev pub invariant-loop-event : goal.invariant-loop-event
 invariant-loop-event l = record {
   yard : IsYard l.workers;
   count : length l.workers ≡ length l.fn.workers;
-  made : vec_len l.made ≡ l.event-index;
-  made_room : length l.events ≤ vec_capacity l.made;
+  made : vec_len l.made ≡ vec_len l.fn.made + l.event-index;
+  made_room : vec_len l.fn.made + length l.events ≤ vec_capacity l.made;
   room : l.room ≤ vec_capacity l.journal.entries;
-  replayed : replay_of l.made.items l.journal.entries.items l.workers ≡ fold after (begun (world_of l.fn.workers)) (take l.event-index l.events);
+  replayed : replay_of l.made.items l.journal.entries.items l.workers ≡ fold after (resumed (world_of l.fn.workers) l.fn.made.items) (take l.event-index l.events);
 }

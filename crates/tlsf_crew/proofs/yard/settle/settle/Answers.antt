@@ -1,15 +1,15 @@
 use Rattle.std.proofs.Common.{◌∙◌, refl, arith}
-use Rattle.tlsf_crew.proofs.lemmas.yard.LaneByLane.{rows_first, rows_step}
+use Rattle.tlsf_crew.proofs.lemmas.yard.LaneByLane.{yard_first, yard_step}
 use Rattle.tlsf_crew.proofs.yard.settle.settle.Goals as goal
 
 pub loop-i-init : goal.loop-i-init
-loop-i-init c = record { met = rows_first _; yard = c.requires; world = refl }
+loop-i-init c = record { met = yard_first _; yard = c.requires; world = refl }
 
 pub loop-i-preserved : goal.loop-i-preserved
 loop-i-preserved c =
     let i = c.loop-i.invariant in
     record {
-      met = rows_step _ _ _ _ i.met c.settle_row.ensures.met;
+      met = yard_step _ _ _ _ i.met c.settle_row.ensures.met;
       yard = c.settle_row.ensures.yard;
       world = c.settle_row.ensures.world ∙ i.world;
     }
