@@ -12,6 +12,7 @@ use Rattle.tlsf_heap.specs.declared.name.Name.{Name}
 use Rattle.tlsf_heap.specs.declared.refusal.Refusal.TheVariants.{Worn, Foreign, Range}
 use Rattle.tlsf_heap.proofs.Writing.{length-overwritten, range_fits}
 use Rattle.tlsf_heap.proofs.Outcomes.{by_test, IsSiteOf, named_site, gives, by_allocated, takes, writes, lawful_run}
+use Rattle.tlsf_laws.specs.Room.{live_count}
 use Rattle.tlsf_laws.specs.Contents.{contents, bytes_there, is_same}
 use Rattle.tlsf_laws.specs.Kinds.{Ledger, lengths, ledger_after, ledger_after_all, LedgerHoldsWhatIsLive}
 use Rattle.tlsf_laws.proofs.Names.{same_is, same_flip}
@@ -26,12 +27,12 @@ sum_of f [] = 0
 sum_of f (n ∷ lens) = f n + sum_of f lens
 
 -- the length under a name
-abbrev lookup : Name → Ledger → Option ℕ
+abbrev pub lookup : Name → Ledger → Option ℕ
 lookup name [] = None
 lookup name (e ∷ l) = cond (is_same e.0 name) (Some e.1) (lookup name l)
 
 -- no name stands twice
-abbrev AreNamesApart : Ledger → Type 0
+abbrev pub AreNamesApart : Ledger → Type 0
 AreNamesApart [] = ⊤
 AreNamesApart (e ∷ l) = (lookup e.0 l ≡ None) × AreNamesApart l
 
@@ -42,14 +43,14 @@ pub record Agrees (h : HeapState) (l : Ledger) : Type 0 where
 
 -- ---- the ledger without a name
 
-abbrev without : Name → Ledger → Ledger
+abbrev pub without : Name → Ledger → Ledger
 without name l = filter (λ entry. not (is_same name entry.0)) l
 
 none_both : (c : Bool) → cond {A = Option ℕ} c None None ≡ None
 none_both true = refl
 none_both false = refl
 
-lookup_without : (name other : Name) (l : Ledger) → lookup other (without name l) ≡ cond (is_same name other) None (lookup other l)
+pub lookup_without : (name other : Name) (l : Ledger) → lookup other (without name l) ≡ cond (is_same name other) None (lookup other l)
 lookup_without name other [] = sym (none_both (is_same name other))
 lookup_without name other (e ∷ l) = step (lookup_without name other l) (is_same name e.0) refl
   where
@@ -207,10 +208,11 @@ lengths_count : (l : Ledger) → length (lengths l) ≡ length l
 lengths_count [] = refl
 lengths_count (e ∷ l) = let same = lengths_count l in omega arith
 
+-- as many blocks are live as a ledger has entries that agrees with the heap
+pub live_agrees : (h : HeapState) (l : Ledger) → Agrees h l → live_count h ≡ length l
+live_agrees h l agrees = counted h.blocks ∙ agrees.totals one ∙ sum_one (lengths l) ∙ lengths_count l
+
 pub ledger_holds : LedgerHoldsWhatIsLive
 ledger_holds id words first calls four =
     let start : HeapState = opened id words first in
-    let end = run start calls in
-    let agrees = agrees_run start calls [] (new_agrees id words first) (new_lawful id words first four) in
-    let l : Ledger = ledger_after_all [] calls end.0 in
-    counted end.1.blocks ∙ agrees.totals one ∙ sum_one (lengths l) ∙ lengths_count l
+    live_agrees (run start calls).1 (ledger_after_all [] calls (run start calls).0) (agrees_run start calls [] (new_agrees id words first) (new_lawful id words first four))

@@ -98,13 +98,13 @@ module _ (words most len : ℕ) (region : want len ≤ 2 ^ 20) (enough : pool_wo
 
   -- ---- while the ticks last
 
-  tick_kept : (h : HeapState) (call : Call) → (answered h call).1.tick ≤ h.tick + 1
+  pub tick_kept : (h : HeapState) (call : Call) → (answered h call).1.tick ≤ h.tick + 1
   tick_kept h (Allocate n) = by_allocated (λ o. o.heap.tick ≤ h.tick + 1) h n (λ why. omega arith) (λ s site fit. omega arith)
   tick_kept h (Release name) = by_released (λ o. o.heap.tick ≤ h.tick + 1) h name (λ why. omega arith) (λ s own site is. omega arith)
   tick_kept h (Write name at bytes) = by_written (λ o. o.heap.tick ≤ h.tick + 1) h name at bytes (λ why. omega arith) (λ s site has. omega arith)
   tick_kept h (Read name at n) = omega arith
 
-  is_served : (h : HeapState) (call : Call) → InPool words k h → IsModest most len (live_count h) call → h.tick < last_tick → IsServed (answered h call).0
+  pub is_served : (h : HeapState) (call : Call) → InPool words k h → IsModest most len (live_count h) call → h.tick < last_tick → IsServed (answered h call).0
   is_served h (Allocate n) pool modest fresh = at (choice (want n) h.blocks) (has_room h n pool modest.0 modest.1)
     where
       at : (o : Option Site) → (allocated_at h n o).answer ≢ Err NoFit → IsServed (Allocated (allocated_at h n o).answer)
@@ -123,7 +123,7 @@ module _ (words most len : ℕ) (region : want len ≤ 2 ^ 20) (enough : pool_wo
       )
 
 -- a new heap is a pool
-opens : (id words first k : ℕ) → IsRegion words → InPool words k (opened id words first)
+pub opens : (id words first k : ℕ) → IsRegion words → InPool words k (opened id words first)
 opens id words first k region = record { lawful = new_lawful id words first region.0; words_are = refl; small = ((λ f. absurd (false≢true (sym f))), tt) }
 
 pub suffices : PoolSuffices

@@ -1,20 +1,26 @@
 -- Answers as they are handed on tell the same of what is held and of bytes.
-use Rattle.std.proofs.Common.{◌≡◌, ℕ, List, [], ◌∷◌, map, None, Ok, Err, refl, sym, ap, ◌∙◌, subst}
+use Rattle.std.proofs.Common.{◌≡◌, ℕ, ◌+◌, ◌<◌, ◌≤◌, ◌^◌, List, [], ◌∷◌, length, map, None, Ok, Err, refl, sym, ap, ◌∙◌, subst, arith}
 use Rattle.std.specs.List.{AllByRecursion}
-use Rattle.tlsf_heap.specs.Blocks.{HeapState}
-use Rattle.tlsf_heap.specs.Calls.{Call, Allocate, Release, Write, Read, Answer, Allocated, Released, Written, Got, opened, run}
+use Rattle.tlsf_heap.specs.Blocks.{HeapState, want}
+use Rattle.tlsf_heap.specs.Lawful.{IsRegion}
+use Rattle.tlsf_heap.specs.Calls.{Call, Allocate, Release, Write, Read, Answer, Allocated, Released, Written, Got, last_tick, opened, run}
 use Rattle.tlsf_laws.specs.Room.{live_count}
 use Rattle.tlsf_laws.specs.Held.{held_after, held_after_all}
-use Rattle.tlsf_laws.specs.Pools.{AreModest, HasRoomFor}
+use Rattle.tlsf_heap.specs.declared.name.Name.{Name}
+use Rattle.tlsf_laws.specs.Pools.{pool_words, AreModest, HasRoomFor, IsServed}
+use Rattle.tlsf_laws.specs.Kinds.{Ledger, ledger_after}
 use Rattle.tlsf_laws.specs.Contents.{Contents, contents, after, after_all}
 use Rattle.tlsf_laws.proofs.Held.{holds}
-use Rattle.tlsf_laws.proofs.ModestCalls.{suffices}
+use Rattle.tlsf_laws.proofs.ModestCalls.{serves, suffices}
 use Rattle.tlsf_laws.proofs.Looks.{told_new}
 use Rattle.tlsf_crew.specs.yard.World.{World, heap_in, replies}
 use Rattle.tlsf_crew.specs.yard.History.{RunsTo, calls_on, answers_on, handed_on}
 use Rattle.tlsf_crew.specs.declared.yard.event.Event.{Event}
 use Rattle.tlsf_crew.proofs.lemmas.yard.AllEntries.{replies_tell}
-use Rattle.tlsf_yard_laws.specs.Yards.{IsNew, YardHoldsWhatIsLive, YardKeepsBytes, YardPoolSuffices}
+use Rattle.tlsf_crew.proofs.lemmas.yard.JoinedEntries.{runs_then}
+use Rattle.tlsf_crew.proofs.lemmas.threads.RecordHistory.{race_runs}
+use Rattle.tlsf_yard_laws.specs.Races.{NewHasNoPast, RaceAddsToPast, RaceHoldsWhatIsLive, RaceKeepsBytes, RacePoolServes, RacePoolSuffices, ReplayAddsToPast}
+use Rattle.tlsf_yard_laws.specs.Yards.{IsNew, YardHoldsWhatIsLive, YardKeepsBytes, YardPoolServes, YardPoolSuffices}
 
 held_same : (held : ℕ) (call : Call) (answer : Answer) → held_after held call (handed_on answer) ≡ held_after held call answer
 held_same held call (Allocated r) = refl
@@ -65,6 +71,61 @@ all_after bytes (call ∷ calls) [] = refl
 all_after bytes (call ∷ calls) (answer ∷ answers) =
     ap (λ (b : Contents). after_all b calls (map handed_on answers)) (after_same bytes call answer) ∙ all_after (after bytes call answer) calls answers
 
+-- an answer as it is handed on serves, and is noted in a ledger, as the heap's own
+pub served_on : (answer : Answer) → IsServed answer → IsServed (handed_on answer)
+served_on (Allocated r) s = s
+served_on (Released r) s = s
+served_on (Written r) s = s
+served_on (Got (Ok bytes)) s = tt
+served_on (Got (Err why)) s = s
+
+pub noted_same : (l : Ledger) (call : Call) (answer : Answer) → ledger_after l call (handed_on answer) ≡ ledger_after l call answer
+noted_same l call (Allocated r) = refl
+noted_same l call (Released r) = refl
+noted_same l call (Written r) = refl
+noted_same l (Allocate len) (Got (Ok bytes)) = refl
+noted_same l (Release name) (Got (Ok bytes)) = refl
+noted_same l (Write name at xs) (Got (Ok bytes)) = refl
+noted_same l (Read name at n) (Got (Ok bytes)) = refl
+noted_same l call (Got (Err why)) = refl
+
+all_served_on : (answers : List Answer) → AllByRecursion IsServed answers → AllByRecursion IsServed (map handed_on answers)
+all_served_on [] all = tt
+all_served_on (answer ∷ answers) all = (served_on answer all.0, all_served_on answers all.1)
+
+-- ---- what a heap that was new once was asked, and what it answered
+
+pub past_suffices : (j words first most len : ℕ) (calls : List Call) (answers : List Answer) (g : HeapState) → RunsTo (opened j words first) calls answers g
+    → IsRegion words → want len ≤ 2 ^ 20 → pool_words most len ≤ words → AreModest most len 0 calls answers → AllByRecursion HasRoomFor answers
+past_suffices j words first most len calls answers g runs region class enough within =
+    let own : List Answer = (run (opened j words first) calls).0 in
+    subst (AllByRecursion HasRoomFor) runs.told
+    (all_room own (suffices j words first most len calls region class enough (modest most len 0 calls own (subst (AreModest most len 0 calls) (sym runs.told) within))))
+
+pub past_serves : (j words first most len : ℕ) (calls : List Call) (answers : List Answer) (g : HeapState) → RunsTo (opened j words first) calls answers g
+    → IsRegion words → want len ≤ 2 ^ 20 → pool_words most len ≤ words → AreModest most len 0 calls answers → first + length calls < last_tick → AllByRecursion IsServed answers
+past_serves j words first most len calls answers g runs region class enough within fresh =
+    let own : List Answer = (run (opened j words first) calls).0 in
+    subst (AllByRecursion IsServed) runs.told
+    (all_served_on own (serves j words first most len calls region class enough (modest most len 0 calls own (subst (AreModest most len 0 calls) (sym runs.told) within)) fresh))
+
+pub past_holds : (j words first : ℕ) (calls : List Call) (answers : List Answer) (g : HeapState) → RunsTo (opened j words first) calls answers g → 4 ≤ words
+    → live_count g ≡ held_after_all 0 calls answers
+past_holds j words first calls answers g runs four =
+    let own : List Answer = (run (opened j words first) calls).0 in
+    ap live_count (sym runs.left) ∙ (holds j words first calls four
+    ∙ (sym (all_held 0 calls own) ∙ ap (λ (answers : List Answer). held_after_all 0 calls answers) runs.told))
+
+pub past_bytes : (j words first : ℕ) (calls : List Call) (answers : List Answer) (g : HeapState) (name : Name) → RunsTo (opened j words first) calls answers g → 4 ≤ words
+    → contents g name ≡ after_all (λ other. None) calls answers name
+past_bytes j words first calls answers g name runs four =
+    let own : List Answer = (run (opened j words first) calls).0 in
+    ap (λ (h : HeapState). contents h name) (sym runs.left) ∙ (told_new j words first calls name four
+    ∙ (ap (λ (bytes : Contents). bytes name) (sym (all_after (λ other. None) calls own))
+    ∙ ap (λ (answers : List Answer). after_all (λ other. None) calls answers name) runs.told))
+
+-- ---- lists of events
+
 -- the history of a new heap of a yard
 history : (w : World) (es : List Event) (j words first : ℕ) → IsNew w j words first
     → let r = replies w es in RunsTo (opened j words first) (calls_on j r.made r.entries) (answers_on j r.entries) (heap_in r.world j)
@@ -74,28 +135,45 @@ history w es j words first is =
 
 pub never_refuses : YardPoolSuffices
 never_refuses w es j words first most len is region class enough within =
-    let r = replies w es in
-    let runs = history w es j words first is in
-    let calls : List Call = calls_on j r.made r.entries in
-    let own : List Answer = (run (opened j words first) calls).0 in
-    subst (AllByRecursion HasRoomFor) runs.told
-    (all_room own (suffices j words first most len calls region class enough (modest most len 0 calls own (subst (AreModest most len 0 calls) (sym runs.told) within))))
+    past_suffices j words first most len _ _ _ (history w es j words first is) region class enough within
+
+pub yard_serves : YardPoolServes
+yard_serves w es j words first most len is region class enough within fresh =
+    past_serves j words first most len _ _ _ (history w es j words first is) region class enough within fresh
 
 pub holds_live : YardHoldsWhatIsLive
-holds_live w es j words first is four =
-    let r = replies w es in
-    let runs = history w es j words first is in
-    let calls : List Call = calls_on j r.made r.entries in
-    let own : List Answer = (run (opened j words first) calls).0 in
-    ap live_count (sym runs.left) ∙ (holds j words first calls four
-    ∙ (sym (all_held 0 calls own) ∙ ap (λ (answers : List Answer). held_after_all 0 calls answers) runs.told))
+holds_live w es j words first is four = past_holds j words first _ _ _ (history w es j words first is) four
 
 pub keeps_bytes : YardKeepsBytes
-keeps_bytes w es j words first name is four =
+keeps_bytes w es j words first name is four = past_bytes j words first _ _ _ name (history w es j words first is) four
+
+-- ---- races
+
+pub new_past : NewHasNoPast
+new_past w j words first is = record { within = is.within; since = record { told = refl; left = sym is.new } }
+
+pub replay_past : ReplayAddsToPast
+replay_past w es j words first calls answers past =
     let r = replies w es in
-    let runs = history w es j words first is in
-    let calls : List Call = calls_on j r.made r.entries in
-    let own : List Answer = (run (opened j words first) calls).0 in
-    ap (λ (h : HeapState). contents h name) (sym runs.left) ∙ (told_new j words first calls name four
-    ∙ (ap (λ (bytes : Contents). bytes name) (sym (all_after (λ other. None) calls own))
-    ∙ ap (λ (answers : List Answer). after_all (λ other. None) calls answers name) runs.told))
+    let history = (replies_tell w es).history in
+    record { within = omega (arith, past.within, history.count); since = runs_then _ _ _ calls _ answers _ past.since (history.heaps j past.within) }
+
+pub race_past : RaceAddsToPast
+race_past w v scripts records race j words first calls answers past =
+    record { within = omega (arith, past.within, race.heaps); since = runs_then _ _ _ calls _ answers _ past.since (race_runs w v scripts records race j past.within) }
+
+pub race_suffices : RacePoolSuffices
+race_suffices w v scripts records race j words first most len calls answers past region class enough within =
+    past_suffices j words first most len _ _ _ (race_past w v scripts records race j words first calls answers past).since region class enough within
+
+pub race_serves : RacePoolServes
+race_serves w v scripts records race j words first most len calls answers past region class enough within fresh =
+    past_serves j words first most len _ _ _ (race_past w v scripts records race j words first calls answers past).since region class enough within fresh
+
+pub race_holds : RaceHoldsWhatIsLive
+race_holds w v scripts records race j words first calls answers past four =
+    past_holds j words first _ _ _ (race_past w v scripts records race j words first calls answers past).since four
+
+pub race_bytes : RaceKeepsBytes
+race_bytes w v scripts records race j words first calls answers name past four =
+    past_bytes j words first _ _ _ name (race_past w v scripts records race j words first calls answers past).since four

@@ -1,1 +1,3 @@
 pub mod Yards
+pub mod Races
+pub mod Sharing

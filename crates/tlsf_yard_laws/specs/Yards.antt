@@ -1,13 +1,13 @@
 -- What the worker of a heap may rely on, whatever the other workers do.
-use Rattle.std.specs.Prelude.{◌≡◌, ℕ, ◌<◌, ◌≤◌, ◌^◌, List, None, length}
+use Rattle.std.specs.Prelude.{◌≡◌, ℕ, ◌+◌, ◌<◌, ◌≤◌, ◌^◌, List, None, length}
 use Rattle.std.specs.List.{AllByRecursion}
 use Rattle.tlsf_heap.specs.Blocks.{want}
 use Rattle.tlsf_heap.specs.Lawful.{IsRegion}
-use Rattle.tlsf_heap.specs.Calls.{opened}
+use Rattle.tlsf_heap.specs.Calls.{last_tick, opened}
 use Rattle.tlsf_heap.specs.declared.name.Name.{Name}
 use Rattle.tlsf_laws.specs.Room.{live_count}
 use Rattle.tlsf_laws.specs.Held.{held_after_all}
-use Rattle.tlsf_laws.specs.Pools.{pool_words, AreModest, HasRoomFor}
+use Rattle.tlsf_laws.specs.Pools.{pool_words, AreModest, HasRoomFor, IsServed}
 use Rattle.tlsf_laws.specs.Contents.{contents, after_all}
 use Rattle.tlsf_crew.specs.yard.World.{World, heap_in, replies}
 use Rattle.tlsf_crew.specs.yard.History.{calls_on, answers_on}
@@ -23,6 +23,12 @@ pub record IsNew (w : World) (j words first : ℕ) : Type 0 where
 abbrev pub YardPoolSuffices : Type 0
 YardPoolSuffices = (w : World) (es : List Event) (j words first most len : ℕ) → IsNew w j words first → IsRegion words → want len ≤ 2 ^ 20 → pool_words most len ≤ words
     → let r = replies w es in AreModest most len 0 (calls_on j r.made r.entries) (answers_on j r.entries) → AllByRecursion HasRoomFor (answers_on j r.entries)
+
+-- and each of its worker's requests is served, while the ticks last
+abbrev pub YardPoolServes : Type 0
+YardPoolServes = (w : World) (es : List Event) (j words first most len : ℕ) → IsNew w j words first → IsRegion words → want len ≤ 2 ^ 20 → pool_words most len ≤ words
+    → let r = replies w es in AreModest most len 0 (calls_on j r.made r.entries) (answers_on j r.entries) → first + length (calls_on j r.made r.entries) < last_tick
+    → AllByRecursion IsServed (answers_on j r.entries)
 
 -- as many blocks of a heap are live as its worker's entries tell to be held
 abbrev pub YardHoldsWhatIsLive : Type 0

@@ -1,10 +1,22 @@
 //! What the worker of a heap may rely on, whatever the other workers do: the laws of `tlsf_laws` for each heap of a yard.
 //!
-//! Each is the contract of a function that does nothing, over every list of events on every yard. They follow from
-//! `tlsf_crew::one_history`: a heap is called by its own worker alone, and a block that another worker gives back stays live
-//! until a drain of the owner releases it.
+//! Each is the contract of a function that does nothing, over every list of events on every yard, or over every race, whatever
+//! its schedule. They follow from `tlsf_crew::one_history` and `tlsf_crew::one_history_of_a_race`: a heap is called by its own
+//! worker alone, and a block that another worker gives back stays live until its owner takes that post.
+//!
+//! | A user knows | So | Law |
+//! |---|---|---|
+//! | how many blocks its own worker was told to be held, those under way included | how many words are enough | [`yard_never_refuses`], [`race_never_refuses`] |
+//! | how many blocks nobody has released yet, and how many posts the lanes hold | the same | [`lanes_add_their_capacity`] |
+//! | what its own worker was told | the bytes under each name | [`yard_keeps_bytes`], [`race_keeps_bytes`] |
+//!
+//! A law on a race holds after any earlier replays and races ([`past_goes_on`]).
 #![tactic(auto)]
 
-mod laws;
+mod races;
+mod sharing;
+mod yards;
 
-pub use laws::{yard_keeps_bytes, yard_never_refuses};
+pub use races::{past_goes_on, race_keeps_bytes, race_never_refuses};
+pub use sharing::lanes_add_their_capacity;
+pub use yards::{yard_keeps_bytes, yard_never_refuses};

@@ -1,5 +1,5 @@
 use Rattle.tlsf_yard_laws.proofs.Told.{keeps_bytes}
-use Rattle.tlsf_yard_laws.proofs.laws.yard_keeps_bytes.Goals as goal
+use Rattle.tlsf_yard_laws.proofs.yards.yard_keeps_bytes.Goals as goal
 
 pub returns : goal.returns
 returns c = keeps_bytes

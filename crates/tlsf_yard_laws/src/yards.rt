@@ -1,4 +1,4 @@
-ghost use Rattle.tlsf_yard_laws.specs.Yards.{YardHoldsWhatIsLive, YardKeepsBytes, YardPoolSuffices};
+ghost use Rattle.tlsf_yard_laws.specs.Yards.{YardHoldsWhatIsLive, YardKeepsBytes, YardPoolServes, YardPoolSuffices};
 
 /// How large the heap of a worker must be, so that none of its requests is ever refused for want of room.
 ///
@@ -13,6 +13,7 @@ ghost use Rattle.tlsf_yard_laws.specs.Yards.{YardHoldsWhatIsLive, YardKeepsBytes
 /// ```
 pub fn yard_never_refuses()
     ensures room { YardPoolSuffices }
+    ensures served { YardPoolServes }
     ensures held { YardHoldsWhatIsLive }
 {}
 

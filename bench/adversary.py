@@ -1,0 +1,114 @@
+#!/usr/bin/env python3
+"""How many words a region needs at least: forces `NoFit` in `tlsf replay`, by programs that keep within the bounds of a pool.
+
+For each B and N this makes two traces of one worker that never holds more than B blocks and never asks for more than N bytes,
+replays them in smaller and smaller regions, from the words of `tlsf size --blocks B --bytes N` on, and prints the greatest region
+in which a request of theirs is answered NoFit. So what is needed lies above that, and no higher than the law's words. The calls
+are the same in each region: they follow no answer. Run by hand: the gate doesn't. Arguments: pairs B N; with none, four pairs.
+The variable TLSF names another program than the launcher.
+"""
+import os
+import pathlib
+import subprocess
+import sys
+
+PROGRAM = os.environ.get("TLSF", str(pathlib.Path(__file__).resolve().parent.parent / "tlsf"))
+NO_FIT = "refused 1"
+LEAST_TO_WIDEN = 5      # a round of wide blocks needs as many places
+
+
+def tlsf(*words, text=""):
+    """What the program writes, given these words and this text."""
+    done = subprocess.run([PROGRAM, *words], input=text, capture_output=True, text=True, check=True)
+    return done.stdout
+
+
+def want(length):
+    """The words that a request of so many bytes wants."""
+    return max(4, 3 + (length + 7) // 8)
+
+
+def payload(words):
+    """The most bytes of a request that wants so many words."""
+    return (words - 3) * 8
+
+
+class Program:
+    """A program that holds at most `most` blocks of at most `length` bytes, and the lines of its calls."""
+
+    def __init__(self, most, length):
+        self.most, self.length, self.held, self.labels, self.lines = most, length, 0, 0, []
+
+    def room(self):
+        return self.most - self.held
+
+    def allocate(self, length):
+        assert length <= self.length and self.held < self.most
+        self.lines.append(f"a 0 {self.labels} {length}")
+        self.labels, self.held = self.labels + 1, self.held + 1
+        return self.labels - 1
+
+    def release(self, label):
+        self.lines.append(f"f 0 {label}")
+        self.held -= 1
+
+    def every_second_hole(self):
+        """Fills all that it may hold, and gives back every second block."""
+        blocks = [self.allocate(self.length) for _ in range(self.room())]
+        if len(blocks) % 2:
+            self.release(blocks.pop())
+        for block in blocks[0::2]:
+            self.release(block)
+
+    def wide_blocks(self):
+        """Makes blocks of three words more than are wanted, each in the place of two, and leaves holes beside them."""
+        words = want(self.length) + 3
+        first = words // 2
+        between = [self.allocate(self.length)]
+        while self.room() >= 3:
+            pair = self.allocate(payload(first)), self.allocate(payload(words - first))
+            between.append(self.allocate(self.length))
+            for block in pair:
+                self.release(block)
+            self.allocate(self.length)
+        for block in between:
+            self.release(block)
+
+
+def attack(most, length, widen):
+    """The lines of a program that cuts the region up, round by round, and then asks for all that it may hold."""
+    program = Program(most, length)
+    while program.room() >= 2:
+        left = program.room()
+        if widen and left >= LEAST_TO_WIDEN and want(length) >= 5:
+            program.wide_blocks()
+        else:
+            program.every_second_hole()
+            if left == 2:
+                break
+    while program.held < most:
+        program.allocate(length)
+    return program.lines
+
+
+def refuses(lines, words):
+    """Whether a region of so many words refuses a request of these lines for want of room."""
+    text = "\n".join([f"tlsf 1 1 {words} 1", *lines, ""])
+    return any(line.endswith(NO_FIT) for line in tlsf("replay", text=text).splitlines())
+
+
+def report(most, length):
+    law = int(tlsf("size", "--blocks", str(most), "--bytes", str(length)).split()[1])
+    traces = [attack(most, length, widen) for widen in (False, True)]
+    forced = law
+    while forced > 3 and not any(refuses(lines, forced) for lines in traces):
+        forced -= 1
+    assert forced < law, "a region of the law's words refused a request"
+    apart = 100 * (law - forced - 1) / (forced + 1)
+    print(f"blocks {most} bytes {length}: NoFit is forced up to {forced} words, the least region is {forced + 1} to {law}, {apart:.1f} % apart", flush=True)
+
+
+if __name__ == "__main__":
+    numbers = [int(word) for word in sys.argv[1:]] or [1, 512, 2, 512, 10, 512, 100, 512]
+    for most, length in zip(numbers[0::2], numbers[1::2]):
+        report(most, length)

@@ -1,0 +1,370 @@
+-- Entry by entry: what is live in a heap is held by the programs, or its name waits in a lane. So each request finds room.
+use Rattle.std.proofs.Common.{◌==◌, ◌≡◌, ◌≢◌, ℕ, suc, ◌+◌, ◌*◌, ◌^◌, ◌<◌, ◌≤◌, ◌⊎◌, Bool, true, false, cond, eqb, List, [], ◌∷◌, ◌++◌, length, Option, Some, None, Result, Ok, Err, refl, sym, ap, ◌∙◌, subst, inl, inr, arith, length-append, eq-eqb, append-nil}
+use Rattle.std.specs.Prelude.{⊤}
+use Rattle.std.specs.List.{AllByRecursion, cons_option}
+use Rattle.std.specs.Option.{option_map}
+use Rattle.std.proofs.lemmas.Bool.{cases_eq, false≢true, ne_eqb}
+use Rattle.std.proofs.lemmas.List.{length-map}
+use Rattle.tlsf_heap.specs.Blocks.{HeapState, want}
+use Rattle.tlsf_heap.specs.GoodFit.{Site}
+use Rattle.tlsf_heap.specs.Calls as heap
+use Rattle.tlsf_heap.specs.declared.name.Name.{Name}
+use Rattle.tlsf_heap.specs.declared.refusal.Refusal.{Refusal}
+use Rattle.tlsf_heap.specs.declared.refusal.Refusal.TheVariants.{Foreign, Worn}
+use Rattle.tlsf_heap.proofs.Lawfulness.{all_append}
+use Rattle.tlsf_heap.proofs.Outcomes.{takes}
+use Rattle.tlsf_post.specs.declared.post.Post.{Post}
+use Rattle.tlsf_laws.specs.Room.{live_count}
+use Rattle.tlsf_laws.specs.Pools.{pool_words, IsModest, IsServed}
+use Rattle.tlsf_laws.specs.Contents.{bytes_there, is_same}
+use Rattle.tlsf_laws.specs.Kinds.{Ledger, ledger_after}
+use Rattle.tlsf_laws.proofs.Names.{same_is, same_self}
+use Rattle.tlsf_laws.proofs.Ledgers.{Agrees, agrees_call, live_agrees, lookup, lookup_without}
+use Rattle.tlsf_laws.proofs.ModestCalls.{InPool, is_served, kept, tick_kept}
+use Rattle.tlsf_crew.specs.yard.Bytes.{bytes_of}
+use Rattle.tlsf_crew.specs.yard.History.{RunsTo, answer_told, answers_on, call_on_own, calls_on, handed_on, post_made, post_taken, posts_made, posts_taken}
+use Rattle.tlsf_crew.specs.declared.yard.entry.Entry.{Entry}
+use Rattle.tlsf_crew.specs.declared.yard.call.Call.{Call}
+use Rattle.tlsf_crew.specs.declared.yard.call.Call.TheVariants.{Allocate, Release, Write, Read, Take, Drain}
+use Rattle.tlsf_crew.specs.declared.yard.reply.Reply.{Reply}
+use Rattle.tlsf_crew.specs.declared.yard.reply.Reply.TheVariants.{Made, Freed, Posted, Wrote, Got, Took as Taken, Empty, Drained, Refused}
+use Rattle.tlsf_crew.proofs.lemmas.yard.JoinedEntries.{told_other, told_own, told_then}
+use Rattle.tlsf_yard_laws.specs.Sharing.{AreSparing, IsSparing, unreleased_after, with_call, without_post}
+use Rattle.tlsf_yard_laws.proofs.Told.{noted_same, served_on}
+use Rattle.tlsf_yard_laws.proofs.Few.{IsAmong, among_left, among_right, few, in_lanes, lane_names, lanes_few, names_of, posted, still_among}
+
+-- ---- what covers a name
+
+-- it waits in a lane to worker j, from one of n workers
+abbrev pub WaitsFor : (j n : ℕ) → (ℕ → List Post) → Name → Type 0
+WaitsFor j n lanes name = (i : ℕ) × (i < n) × (i ≢ j) × IsAmong name (posted (lanes i))
+
+abbrev pub IsCovered : (j n : ℕ) → Ledger → (ℕ → List Post) → Name → Type 0
+IsCovered j n ledger lanes name = IsAmong name (names_of ledger) ⊎ WaitsFor j n lanes name
+
+-- so it stays, where the name stays on either side
+stay_covered : (j n : ℕ) (u v : Ledger) (lanes later : ℕ → List Post) (name : Name) → (IsAmong name (names_of u) → IsAmong name (names_of v))
+    → ((i : ℕ) → i ≢ j → IsAmong name (posted (lanes i)) → IsAmong name (posted (later i))) → IsCovered j n u lanes name → IsCovered j n v later name
+stay_covered j n u v lanes later name held waits c = elim c [
+  | inl here ↦ inl (held here)
+  | inr away ↦ inr (away.0, away.1, away.2, waits away.0 away.2 away.3)
+]
+
+-- ---- a call of the heap's own worker
+
+-- a name whose release is refused while the ticks last is not live
+refused_gone : (h : HeapState) (name : Name) (l : Ledger) (why : Refusal) → Agrees h l → h.tick < heap.last_tick → (heap.released h name).answer ≡ Err why → lookup name l ≡ None
+refused_gone h name l why agrees fresh e = agrees.found name ∙ ap (option_map length) (gone (eqb name.heap h.id) (heap.named name h.blocks) e)
+  where
+    done_refused : ◌≡◌ {A = Result (Unit {0}) Refusal} (Ok tt) (Err why) → ⊥
+    done_refused e = cc
+
+    gone : (c : Bool) (o : Option Site) → (cond c (heap.released_at h o) (heap.refused h Foreign)).answer ≡ Err why → cond c (bytes_there o) None ≡ None
+    gone false o e = refl
+    gone true None e = refl
+    gone true (Some s) e = absurd (done_refused (sym (ap (λ (c : Bool). (cond c (heap.refused h Worn) (takes h s)).answer) (ne_eqb h.tick heap.last_tick (λ q. omega (arith, q, fresh)))) ∙ e))
+
+-- after the release of a name, what is live is another, and was live before
+other_name : (h : HeapState) (m name : Name) (l : Ledger) (len : ℕ) (r : Result (Unit {0}) Refusal) → Agrees h l → h.tick < heap.last_tick → (heap.released h m).answer ≡ r
+    → lookup name (ledger_after l (heap.Release m) (heap.Released r)) ≡ Some len → (m ≢ name) × (lookup name l ≡ Some len)
+other_name h m name l len (Ok done) agrees fresh is found = at (is_same m name) refl (sym (lookup_without m name l) ∙ found)
+  where
+    nothing : ◌≡◌ {A = Option ℕ} None (Some len) → ⊥
+    nothing e = cc
+
+    at : (c : Bool) → is_same m name ≡ c → cond c None (lookup name l) ≡ Some len → (m ≢ name) × (lookup name l ≡ Some len)
+    at true same e = absurd (nothing e)
+    at false same e = ((λ q. false≢true (sym same ∙ subst (λ (x : Name). is_same m x ≡ true) q (same_self m))), e)
+other_name h m name l len (Err why) agrees fresh is found =
+    ((λ q. nothing (sym (refused_gone h m l why agrees fresh is) ∙ (ap (λ (x : Name). lookup x l) q ∙ found))), found)
+  where
+    nothing : ◌≡◌ {A = Option ℕ} None (Some len) → ⊥
+    nothing e = cc
+
+-- a ledger keeps the other names
+still_held : (m name : Name) (u : Ledger) (r : Result (Unit {0}) Refusal) → m ≢ name → IsAmong name (names_of u) → IsAmong name (names_of (ledger_after u (heap.Release m) (heap.Released r)))
+still_held m name u (Ok done) ne a = still_among m name u ne a
+still_held m name u (Err why) ne a = a
+
+-- each name that waited waits still, but for that which the call releases
+abbrev Leaves : ℕ → (ℕ → List Post) → (ℕ → List Post) → Option heap.Call → Type 0
+Leaves j lanes later o = (i : ℕ) → i ≢ j → (name : Name) → IsAmong name (posted (lanes i)) → IsAmong name (posted (later i)) ⊎ (o ≡ Some (heap.Release name))
+
+abbrev Covers : (j n : ℕ) → Ledger → Ledger → (ℕ → List Post) → Type 0
+Covers j n l u lanes = (name : Name) (len : ℕ) → lookup name l ≡ Some len → IsCovered j n u lanes name
+
+still_waits : (j : ℕ) (lanes later : ℕ → List Post) (c : heap.Call) (name : Name) → (◌≡◌ {A = Option heap.Call} (Some c) (Some (heap.Release name)) → ⊥) → Leaves j lanes later (Some c)
+    → (i : ℕ) → i ≢ j → IsAmong name (posted (lanes i)) → IsAmong name (posted (later i))
+still_waits j lanes later c name other leaves i ne a = elim (leaves i ne name a) [ inl x ↦ x | inr e ↦ absurd (other e) ]
+
+call_covers : (j n : ℕ) (h : HeapState) (l u : Ledger) (lanes later : ℕ → List Post) (c : heap.Call) → Agrees h l → h.tick < heap.last_tick → Covers j n l u lanes → Leaves j lanes later (Some c)
+    → Covers j n (ledger_after l c (heap.answered h c).0) (ledger_after u c (heap.answered h c).0) later
+call_covers j n h l u lanes later (heap.Allocate m) agrees fresh covers leaves name len found = at (heap.allocated h m).answer found
+  where
+    differs : ◌≡◌ {A = Option heap.Call} (Some (heap.Allocate m)) (Some (heap.Release name)) → ⊥
+    differs e = cc
+
+    new : (made : Name) (c : Bool) → is_same made name ≡ c → cond c (Some m) (lookup name l) ≡ Some len → IsCovered j n ((made, m) ∷ u) later name
+    new made true same e = inl (inl (same_is made name same))
+    new made false same e = stay_covered j n u ((made, m) ∷ u) lanes later name (λ a. inr a) (still_waits j lanes later (heap.Allocate m) name differs leaves) (covers name len e)
+
+    at : (r : Result Name Refusal) → lookup name (ledger_after l (heap.Allocate m) (heap.Allocated r)) ≡ Some len → IsCovered j n (ledger_after u (heap.Allocate m) (heap.Allocated r)) later name
+    at (Ok made) e = new made (is_same made name) refl e
+    at (Err why) e = stay_covered j n u u lanes later name (λ a. a) (still_waits j lanes later (heap.Allocate m) name differs leaves) (covers name len e)
+call_covers j n h l u lanes later (heap.Release m) agrees fresh covers leaves name len found =
+    let r = (heap.released h m).answer in
+    let other = other_name h m name l len r agrees fresh refl found in
+    stay_covered j n u (ledger_after u (heap.Release m) (heap.Released r)) lanes later name (still_held m name u r other.0)
+    (still_waits j lanes later (heap.Release m) name (λ e. let same : m ≡ name = cc in other.0 same) leaves) (covers name len other.1)
+call_covers j n h l u lanes later (heap.Write m at bytes) agrees fresh covers leaves name len found =
+    stay_covered j n u u lanes later name (λ a. a) (still_waits j lanes later (heap.Write m at bytes) name differs leaves) (covers name len found)
+  where
+    differs : ◌≡◌ {A = Option heap.Call} (Some (heap.Write m at bytes)) (Some (heap.Release name)) → ⊥
+    differs e = cc
+call_covers j n h l u lanes later (heap.Read m at k) agrees fresh covers leaves name len found =
+    stay_covered j n u u lanes later name (λ a. a) (still_waits j lanes later (heap.Read m at k) name differs leaves) (covers name len found)
+  where
+    differs : ◌≡◌ {A = Option heap.Call} (Some (heap.Read m at k)) (Some (heap.Release name)) → ⊥
+    differs e = cc
+
+-- ---- what an entry of the heap's own worker tells
+
+no_post : (p : Post) → ◌≡◌ {A = Option Post} None (Some p) → ⊥
+no_post p e = cc
+
+-- an entry that takes a post tells the release of its name
+take_asks : (made : List (Option Name)) (i at : ℕ) (call : Call) (reply : Reply) (p : Post) → post_taken i call reply ≡ Some p → call_on_own made at call reply ≡ Some (heap.Release p.name)
+take_asks made i at (Allocate len) reply p e = absurd (no_post p e)
+take_asks made i at (Release target) reply p e = absurd (no_post p e)
+take_asks made i at (Write target from bytes) reply p e = absurd (no_post p e)
+take_asks made i at (Read target from n) reply p e = absurd (no_post p e)
+take_asks made i at (Take from) (Made name) p e = absurd (no_post p e)
+take_asks made i at (Take from) Freed p e = absurd (no_post p e)
+take_asks made i at (Take from) Posted p e = absurd (no_post p e)
+take_asks made i at (Take from) (Wrote n) p e = absurd (no_post p e)
+take_asks made i at (Take from) (Got chunk) p e = absurd (no_post p e)
+take_asks made i at (Take from) (Taken t) p e = on (from == i) e
+  where
+    on : (c : Bool) → cond c (Some (record { from = t.from; name = t.name })) None ≡ Some p → ◌≡◌ {A = Option heap.Call} (Some (heap.Release t.name)) (Some (heap.Release p.name))
+    on true e = let same : ◌≡◌ {A = Post} (record { from = t.from; name = t.name }) p = cc in ap (λ (post : Post). Some (heap.Release post.name)) same
+    on false e = absurd (no_post p e)
+take_asks made i at (Take from) Empty p e = absurd (no_post p e)
+take_asks made i at (Take from) (Drained n) p e = absurd (no_post p e)
+take_asks made i at (Take from) (Refused why) p e = absurd (no_post p e)
+take_asks made i at (Drain most) reply p e = absurd (no_post p e)
+
+-- an entry that tells an allocate is one
+allocate_asks : (made : List (Option Name)) (at : ℕ) (call : Call) (reply : Reply) (m : ℕ) → call_on_own made at call reply ≡ Some (heap.Allocate m) → call ≡ Allocate m
+allocate_asks made at (Allocate len) reply m e = let same : len ≡ m = cc in ap Allocate same
+allocate_asks made at (Release target) reply m e = absurd (on _ e)
+  where
+    on : (o : Option Name) → option_map heap.Release o ≡ Some (heap.Allocate m) → ⊥
+    on None e = cc
+    on (Some name) e = cc
+allocate_asks made at (Write target from bytes) reply m e = absurd (on (bytes_of bytes) _ e)
+  where
+    on : (xs : List ℕ) (o : Option Name) → option_map (λ name. heap.Write name from xs) o ≡ Some (heap.Allocate m) → ⊥
+    on xs None e = cc
+    on xs (Some name) e = cc
+allocate_asks made at (Read target from n) reply m e = absurd (on _ e)
+  where
+    on : (o : Option Name) → option_map (λ name. heap.Read name from n) o ≡ Some (heap.Allocate m) → ⊥
+    on None e = cc
+    on (Some name) e = cc
+allocate_asks made at (Take from) reply m e = absurd (on _ e)
+  where
+    on : (o : Option Name) → option_map heap.Release o ≡ Some (heap.Allocate m) → ⊥
+    on None e = cc
+    on (Some name) e = cc
+allocate_asks made at (Drain most) reply m e = absurd cc
+
+-- ---- one entry after another
+
+-- an entry leads from a heap, and what waits for its worker, to another
+pub record Leads (j n capacity : ℕ) (made : List (Option Name)) (h : HeapState) (lanes : ℕ → List Post) (e : Entry) (g : HeapState) (later : ℕ → List Post) : Type 0 where
+  pub run : RunsTo h (calls_on j made (e ∷ [])) (answers_on j (e ∷ [])) g
+  pub posts : (i : ℕ) → lanes i ++ posts_made i j made (e ∷ []) ≡ posts_taken i j (e ∷ []) ++ later i
+  pub short : (i : ℕ) → length (later i) ≤ capacity
+  pub near : (p : Post) → post_made j made e.worker e.call e.reply ≡ Some p → e.worker < n
+
+-- and so does each of some entries
+abbrev pub AllLead : (j n capacity : ℕ) → List (Option Name) → HeapState → (ℕ → List Post) → List Entry → Type 0
+AllLead j n capacity made h lanes [] = ⊤
+AllLead j n capacity made h lanes (e ∷ es) = (g : HeapState) × (later : ℕ → List Post) × Leads j n capacity made h lanes e g later × AllLead j n capacity made g later es
+
+-- what holds of the heap on the way. The first ledger is of what is live, the second of what the programs hold
+pub record IsShared (j n words k : ℕ) (h : HeapState) (l u : Ledger) (lanes : ℕ → List Post) : Type 0 where
+  pub pool : InPool words k h
+  pub agrees : Agrees h l
+  pub covers : Covers j n l u lanes
+
+-- what one entry leaves
+record Next (j n words k : ℕ) (h : HeapState) (u : Ledger) (g : HeapState) (later : ℕ → List Post) (answers : List heap.Answer) : Type 0 where
+  live : Ledger
+  shared : IsShared j n words k g live u later
+  tick : g.tick ≤ h.tick + 1
+  served : AllByRecursion IsServed answers
+
+-- no more is live than the programs hold and the lanes have
+live_few : (j m capacity words k : ℕ) (h : HeapState) (l u : Ledger) (lanes : ℕ → List Post) → j < m + 1 → ((i : ℕ) → length (lanes i) ≤ capacity) → IsShared j (suc m) words k h l u lanes
+    → live_count h ≤ length u + m * capacity
+live_few j m capacity words k h l u lanes j_in short shared =
+    let all : List Name = names_of u ++ lane_names j lanes (suc m) in
+    let count : length l ≤ length all = few l all shared.agrees.apart (λ name len found. elim (shared.covers name len found) [
+      | inl here ↦ among_left name (names_of u) _ here
+      | inr away ↦ among_right name (names_of u) _ (in_lanes j lanes (suc m) away.0 name away.1 away.2 away.3)
+    ]) in
+    let both = length-append (names_of u) (lane_names j lanes (suc m)) in
+    let held : length (names_of u) ≡ length u = length-map u (λ entry. entry.0) in
+    let away = lanes_few j capacity lanes m short j_in in
+    let live = live_agrees h l shared.agrees in
+    omega arith
+
+module _ (words most len : ℕ) (region : want len ≤ 2 ^ 20) (enough : pool_words most len ≤ words) (j n : ℕ) where
+  -- a request that the entry tells is modest
+  abbrev Allows : HeapState → Option heap.Call → Type 0
+  Allows h o = (m : ℕ) → o ≡ Some (heap.Allocate m) → (m ≤ len) × (live_count h < most)
+
+  is_modest : (h : HeapState) (c : heap.Call) → Allows h (Some c) → IsModest most len (live_count h) c
+  is_modest h (heap.Allocate m) allows = allows m refl
+  is_modest h (heap.Release name) allows = tt
+  is_modest h (heap.Write name at bytes) allows = tt
+  is_modest h (heap.Read name at m) allows = tt
+
+  own_next : (h g : HeapState) (l u : Ledger) (lanes later : ℕ → List Post) (o : Option heap.Call) (a : Option heap.Answer) → RunsTo h (cons_option o []) (cons_option a []) g
+      → IsShared j n words (want len + 3) h l u lanes → Leaves j lanes later o → Allows h o → h.tick < heap.last_tick → Next j n words (want len + 3) h (with_call u o a) g later (cons_option a [])
+  own_next h g l u lanes later None None run shared leaves allows fresh = record {
+    live = l;
+    shared = subst (λ (x : HeapState). IsShared j n words (want len + 3) x l u later) run.left (record {
+      pool = shared.pool;
+      agrees = shared.agrees;
+      covers = λ name size found. stay_covered j n u u lanes later name (λ x. x) (λ i ne x. elim (leaves i ne name x) [ inl y ↦ y | inr e ↦ absurd cc ]) (shared.covers name size found);
+    });
+    tick = subst (λ (x : HeapState). x.tick ≤ h.tick + 1) run.left (omega arith);
+    served = tt;
+  }
+  own_next h g l u lanes later None (Some b) run shared leaves allows fresh = let e = run.told in absurd cc
+  own_next h g l u lanes later (Some c) None run shared leaves allows fresh = let e = run.told in absurd cc
+  own_next h g l u lanes later (Some c) (Some b) run shared leaves allows fresh =
+      let answer = (heap.answered h c).0 in
+      let modest = is_modest h c allows in
+      let same : handed_on answer ≡ b = let e = run.told in cc in
+      let noted : ledger_after u c answer ≡ ledger_after u c b = sym (noted_same u c answer) ∙ ap (ledger_after u c) same in
+      record {
+        live = ledger_after l c answer;
+        shared = subst (λ (x : HeapState). IsShared j n words (want len + 3) x (ledger_after l c answer) (ledger_after u c b) later) run.left (record {
+          pool = kept words most len region enough h c shared.pool modest;
+          agrees = agrees_call h c l shared.agrees shared.pool.lawful;
+          covers = subst (λ (v : Ledger). Covers j n (ledger_after l c answer) v later) noted (call_covers j n h l u lanes later c shared.agrees fresh shared.covers leaves);
+        });
+        tick = subst (λ (x : HeapState). x.tick ≤ h.tick + 1) run.left (tick_kept words most len region enough h c);
+        served = (subst IsServed same (served_on answer (is_served words most len region enough h c shared.pool modest fresh)), tt);
+      }
+
+-- ---- what waits, after an entry
+
+posted_left : (name : Name) (ps qs : List Post) → IsAmong name (posted ps) → IsAmong name (posted (ps ++ qs))
+posted_left name [] qs a = absurd a
+posted_left name (p ∷ ps) qs a = elim a [ inl same ↦ inl same | inr rest ↦ inr (posted_left name ps qs rest) ]
+
+posted_right : (name : Name) (ps qs : List Post) → IsAmong name (posted qs) → IsAmong name (posted (ps ++ qs))
+posted_right name [] qs a = a
+posted_right name (p ∷ ps) qs a = inr (posted_right name ps qs a)
+
+-- an entry of the heap's own worker takes no name out of a lane but that which it releases
+own_leaves : (j n capacity : ℕ) (made : List (Option Name)) (h g : HeapState) (lanes later : ℕ → List Post) (e : Entry) → e.worker ≡ j → Leads j n capacity made h lanes e g later
+    → Leaves j lanes later (call_on_own made e.worker e.call e.reply)
+own_leaves j n capacity made h g lanes later e own leads i ne name among =
+    let none : posts_made i j made (e ∷ []) ≡ [] = told_other (λ e. post_made j made e.worker e.call e.reply) i e (λ q. ne (sym q ∙ own)) in
+    let one : posts_taken i j (e ∷ []) ≡ cons_option (post_taken i e.call e.reply) [] = told_own (λ e. post_taken i e.call e.reply) j e own in
+    let waits : lanes i ≡ cons_option (post_taken i e.call e.reply) [] ++ later i
+    = sym (append-nil (lanes i)) ∙ (sym (ap (λ l. lanes i ++ l) none) ∙ (leads.posts i ∙ ap (λ l. l ++ later i) one)) in
+    on (post_taken i e.call e.reply) refl (subst (λ (l : List Post). IsAmong name (posted l)) waits among)
+  where
+    on : (o : Option Post) → post_taken i e.call e.reply ≡ o → IsAmong name (posted (cons_option o [] ++ later i))
+        → IsAmong name (posted (later i)) ⊎ (call_on_own made e.worker e.call e.reply ≡ Some (heap.Release name))
+    on None is a = inl a
+    on (Some p) is a = elim a [
+      | inl same ↦ inr (take_asks made i e.worker e.call e.reply p is ∙ ap (λ (m : Name). Some (heap.Release m)) same)
+      | inr rest ↦ inl rest
+    ]
+
+-- an entry of another worker takes no name out of a lane
+other_waits : (j n capacity : ℕ) (made : List (Option Name)) (h g : HeapState) (lanes later : ℕ → List Post) (e : Entry) → e.worker ≢ j → Leads j n capacity made h lanes e g later
+    → (i : ℕ) → later i ≡ lanes i ++ posts_made i j made (e ∷ [])
+other_waits j n capacity made h g lanes later e other leads i =
+    sym (leads.posts i ∙ ap (λ l. l ++ later i) (told_other (λ e. post_taken i e.call e.reply) j e other))
+
+-- and what it posts waits
+other_covers : (j n capacity : ℕ) (made : List (Option Name)) (h g : HeapState) (l u : Ledger) (lanes later : ℕ → List Post) (e : Entry) → e.worker ≢ j → Leads j n capacity made h lanes e g later
+    → Covers j n l u lanes → Covers j n l (without_post u (post_made j made e.worker e.call e.reply)) later
+other_covers j n capacity made h g l u lanes later e other leads covers name len found = at (post_made j made e.worker e.call e.reply) refl (covers name len found)
+  where
+    waits : (i : ℕ) → i ≢ j → IsAmong name (posted (lanes i)) → IsAmong name (posted (later i))
+    waits i ne a = subst (λ (l : List Post). IsAmong name (posted l)) (sym (other_waits j n capacity made h g lanes later e other leads i)) (posted_left name (lanes i) _ a)
+
+    new : (p : Post) → post_made j made e.worker e.call e.reply ≡ Some p → p.name ≡ name → WaitsFor j n later name
+    new p is same =
+        let one : posts_made e.worker j made (e ∷ []) ≡ p ∷ []
+        = told_own (λ e. post_made j made e.worker e.call e.reply) e.worker e refl ∙ ap (λ (o : Option Post). cons_option o []) is in
+        let here : later e.worker ≡ lanes e.worker ++ p ∷ [] = other_waits j n capacity made h g lanes later e other leads e.worker ∙ ap (λ l. lanes e.worker ++ l) one in
+        (e.worker, leads.near p is, other, subst (λ (l : List Post). IsAmong name (posted l)) (sym here) (posted_right name (lanes e.worker) (p ∷ []) (inl same)))
+
+    split : (p : Post) → post_made j made e.worker e.call e.reply ≡ Some p → (c : Bool) → is_same p.name name ≡ c → IsCovered j n u lanes name → IsCovered j n (without_post u (Some p)) later name
+    split p is true same c = inr (new p is (same_is p.name name same))
+    split p is false same c = stay_covered j n u (without_post u (Some p)) lanes later name
+        (still_among p.name name u (λ q. false≢true (sym same ∙ subst (λ (x : Name). is_same p.name x ≡ true) q (same_self p.name)))) waits c
+
+    at : (o : Option Post) → post_made j made e.worker e.call e.reply ≡ o → IsCovered j n u lanes name → IsCovered j n (without_post u o) later name
+    at None is c = stay_covered j n u u lanes later name (λ a. a) waits c
+    at (Some p) is c = split p is (is_same p.name name) refl c
+
+-- ---- all entries
+
+module _ (words most len : ℕ) (region : want len ≤ 2 ^ 20) (capacity j m : ℕ) (j_in : j < m + 1) (enough : pool_words (most + m * capacity) len ≤ words) (made : List (Option Name)) where
+  abbrev n : ℕ
+  n = suc m
+
+  next : (h g : HeapState) (l u : Ledger) (lanes later : ℕ → List Post) (e : Entry) → IsShared j n words (want len + 3) h l u lanes → ((i : ℕ) → length (lanes i) ≤ capacity)
+      → Leads j n capacity made h lanes e g later → IsSparing j most len u e → h.tick < heap.last_tick → Next j n words (want len + 3) h (unreleased_after j made u e) g later (answers_on j (e ∷ []))
+  next h g l u lanes later e shared short leads sparing fresh = elim (cases_eq e.worker j) [
+    | inl own ↦
+        let o = call_on_own made e.worker e.call e.reply in
+        let a = answer_told e.call e.reply in
+        let calls : calls_on j made (e ∷ []) ≡ cons_option o [] = told_own (λ e. call_on_own made e.worker e.call e.reply) j e own in
+        let answers : answers_on j (e ∷ []) ≡ cons_option a [] = told_own (λ e. answer_told e.call e.reply) j e own in
+        let run : RunsTo h (cons_option o []) (cons_option a []) g = subst (λ c. RunsTo h c (cons_option a []) g) calls (subst (λ x. RunsTo h (calls_on j made (e ∷ [])) x g) answers leads.run) in
+        let few = live_few j m capacity words (want len + 3) h l u lanes j_in short shared in
+        let allows : (x : ℕ) → o ≡ Some (heap.Allocate x) → (x ≤ len) × (live_count h < most + m * capacity)
+        = λ x is. let s = sparing own x (allocate_asks made e.worker e.call e.reply x is) in (s.0, omega (arith, s.1, few)) in
+        let test : unreleased_after j made u e ≡ with_call u o a = ap (λ (c : Bool). cond c (with_call u o a) (without_post u (post_made j made e.worker e.call e.reply))) (eq-eqb e.worker j own) in
+        subst (λ (v : Ledger). Next j n words (want len + 3) h v g later (answers_on j (e ∷ []))) (sym test)
+        (subst (λ x. Next j n words (want len + 3) h (with_call u o a) g later x) (sym answers)
+        (own_next words (most + m * capacity) len region enough j n h g l u lanes later o a run shared (own_leaves j n capacity made h g lanes later e own leads) allows fresh))
+    | inr other ↦
+        let calls : calls_on j made (e ∷ []) ≡ [] = told_other (λ e. call_on_own made e.worker e.call e.reply) j e other in
+        let answers : answers_on j (e ∷ []) ≡ [] = told_other (λ e. answer_told e.call e.reply) j e other in
+        let same : h ≡ g = (subst (λ c. RunsTo h c (answers_on j (e ∷ [])) g) calls leads.run).left in
+        let p = post_made j made e.worker e.call e.reply in
+        let test : unreleased_after j made u e ≡ without_post u p = ap (λ (c : Bool). cond c (with_call u (call_on_own made e.worker e.call e.reply) (answer_told e.call e.reply)) (without_post u p)) (ne_eqb e.worker j other) in
+        record {
+          live = l;
+          shared = subst (λ (v : Ledger). IsShared j n words (want len + 3) g l v later) (sym test) (subst (λ (x : HeapState). IsShared j n words (want len + 3) x l (without_post u p) later) same (record {
+            pool = shared.pool;
+            agrees = shared.agrees;
+            covers = other_covers j n capacity made h g l u lanes later e other leads shared.covers;
+          }));
+          tick = subst (λ (x : HeapState). x.tick ≤ h.tick + 1) same (omega arith);
+          served = subst (AllByRecursion IsServed) (sym answers) tt;
+        }
+  ]
+
+  pub all_served : (es : List Entry) (h : HeapState) (l u : Ledger) (lanes : ℕ → List Post) → IsShared j n words (want len + 3) h l u lanes → ((i : ℕ) → length (lanes i) ≤ capacity)
+      → AllLead j n capacity made h lanes es → AreSparing j most len made u es → h.tick + length es ≤ heap.last_tick → AllByRecursion IsServed (answers_on j es)
+  all_served [] h l u lanes shared short lead sparing fresh = tt
+  all_served (e ∷ es) h l u lanes shared short lead sparing fresh =
+      let x = next h lead.0 l u lanes lead.1 e shared short lead.2 sparing.0 (omega arith) in
+      let tick = x.tick in
+      subst (AllByRecursion IsServed) (sym (told_then (λ e. answer_told e.call e.reply) j (e ∷ []) es))
+      (all_append IsServed (answers_on j (e ∷ [])) (answers_on j es) x.served
+      (all_served es lead.0 x.live (unreleased_after j made u e) lead.1 x.shared lead.2.short lead.3 sparing.1 (omega arith)))

@@ -1,0 +1,54 @@
+-- How large the heap of a worker must be, by what the programs hold and by how much its lanes hold.
+use Rattle.std.specs.Prelude.{◌≡◌, ℕ, ◌+◌, ◌*◌, ◌-◌, ◌<◌, ◌≤◌, ◌^◌, List, [], ◌∷◌, Option, Some, None, length, filter, not, ◌==◌, if◌then◌else◌, ⊤}
+use Rattle.std.specs.List.{AllByRecursion}
+use Rattle.tlsf_heap.specs.Blocks.{want}
+use Rattle.tlsf_heap.specs.Lawful.{IsRegion}
+use Rattle.tlsf_heap.specs.Calls as heap
+use Rattle.tlsf_heap.specs.declared.name.Name.{Name}
+use Rattle.tlsf_post.specs.declared.post.Post.{Post}
+use Rattle.tlsf_laws.specs.Pools.{pool_words, IsServed}
+use Rattle.tlsf_laws.specs.Contents.{is_same}
+use Rattle.tlsf_laws.specs.Kinds.{Ledger, ledger_after}
+use Rattle.tlsf_crew.specs.yard.World.{World, replies}
+use Rattle.tlsf_crew.specs.yard.History.{answer_told, answers_on, call_on_own, post_made}
+use Rattle.tlsf_crew.specs.declared.yard.entry.Entry.{Entry}
+use Rattle.tlsf_crew.specs.declared.yard.event.Event.{Event}
+use Rattle.tlsf_crew.specs.declared.yard.call.Call.TheVariants.{Allocate}
+use Rattle.tlsf_yard_laws.specs.Yards.{IsNew}
+
+-- the ledger after a call on the heap itself, where there is one
+abbrev pub with_call : Ledger → Option heap.Call → Option heap.Answer → Ledger
+with_call ledger (Some call) (Some answer) = ledger_after ledger call answer
+with_call ledger (Some call) None = ledger
+with_call ledger None answer = ledger
+
+-- the ledger without the name of a post
+abbrev pub without_post : Ledger → Option Post → Ledger
+without_post ledger None = ledger
+without_post ledger (Some post) = filter (λ entry. not (is_same post.name entry.0)) ledger
+
+-- what the programs hold of heap j, after an entry: a block is held from the allocate that gave it until a release of its name is
+-- accepted by anybody. The heap's own worker releases at once; where another does, it is the post that counts, not the drain
+abbrev pub unreleased_after : ℕ → List (Option Name) → Ledger → Entry → Ledger
+unreleased_after j made ledger e =
+    if e.worker == j
+    then with_call ledger (call_on_own made e.worker e.call e.reply) (answer_told e.call e.reply)
+    else without_post ledger (post_made j made e.worker e.call e.reply)
+
+-- each request of worker j is for at most `len` bytes, and is made while the programs hold fewer than `most` blocks of its heap
+abbrev pub IsSparing : ℕ → ℕ → ℕ → Ledger → Entry → Type 0
+IsSparing j most len ledger e = e.worker ≡ j → (n : ℕ) → e.call ≡ Allocate n → (n ≤ len) × (length ledger < most)
+
+abbrev pub AreSparing : ℕ → ℕ → ℕ → List (Option Name) → Ledger → List Entry → Type 0
+AreSparing j most len made ledger [] = ⊤
+AreSparing j most len made ledger (e ∷ es) = IsSparing j most len ledger e × AreSparing j most len made (unreleased_after j made ledger e) es
+
+-- the posts that may be under way to one worker: all that the lanes from each other worker hold
+abbrev pub most_under_way : World → ℕ
+most_under_way w = (length w.heaps - 1) * w.capacity
+
+-- a heap with room for what the programs hold and for what may be under way serves each request of its worker, while the ticks last
+abbrev pub SharedPoolServes : Type 0
+SharedPoolServes = (w : World) (es : List Event) (j words first most len : ℕ) → IsNew w j words first → ((i : ℕ) → length (w.waiting i j) ≤ w.capacity)
+    → IsRegion words → want len ≤ 2 ^ 20 → pool_words (most + most_under_way w) len ≤ words
+    → let r = replies w es in first + length r.entries < heap.last_tick → AreSparing j most len r.made [] r.entries → AllByRecursion IsServed (answers_on j r.entries)
