@@ -9,8 +9,8 @@ use Rattle.hex.proofs.Pairs.{decode_done, decode_err, decode_start, decode_step,
 use Rattle.hex.proofs.HexLemmas.{decode_of-even}
 
 -- what a digit's byte says: its value, or 16 where it is none
-abbrev pub reads : ℕ → Option ℕ
-reads v = if nat_lt v 16 then Some v else None
+abbrev pub digit_or_none : ℕ → Option ℕ
+digit_or_none v = if nat_lt v 16 then Some v else None
 
 -- what the pairs so far say, by the greatest value among their digits
 abbrev pub IsReadSoFar : (s out : List ℕ) (i worst : ℕ) → Type 0
@@ -25,31 +25,31 @@ chosen v x y lt = grind (arith)
 passed_over : {A : Type 0} (v : ℕ) (x y : A) → 16 ≤ v → (if nat_lt v 16 then x else y) ≡ y
 passed_over v x y le = grind (arith)
 
-reads_good : (v : ℕ) → v < 16 → reads v ≡ Some v
-reads_good v lt = chosen v (Some v) None lt
+good_digit : (v : ℕ) → v < 16 → digit_or_none v ≡ Some v
+good_digit v lt = chosen v (Some v) None lt
 
-reads_bad : (v : ℕ) → 16 ≤ v → reads v ≡ None
-reads_bad v le = passed_over v (Some v) None le
+bad_digit : (v : ℕ) → 16 ≤ v → digit_or_none v ≡ None
+bad_digit v le = passed_over v (Some v) None le
 
 -- two digits
-good_pair : (a b h l i : ℕ) → hex_digit_value a ≡ reads h → hex_digit_value b ≡ reads l → h < 16 → l < 16
+good_pair : (a b h l i : ℕ) → hex_digit_value a ≡ digit_or_none h → hex_digit_value b ≡ digit_or_none l → h < 16 → l < 16
     → pair_value a b i ≡ Ok (h * 16 + l)
 good_pair a b h l i ha hb hh hl =
-    let ea : value_at a i ≡ Ok h = ap (digit_or_error a i) (ha ∙ reads_good h hh) in
-    let eb : value_at b (i + 1) ≡ Ok l = ap (digit_or_error b (i + 1)) (hb ∙ reads_good l hl) in
+    let ea : value_at a i ≡ Ok h = ap (digit_or_error a i) (ha ∙ good_digit h hh) in
+    let eb : value_at b (i + 1) ≡ Ok l = ap (digit_or_error b (i + 1)) (hb ∙ good_digit l hl) in
     rw (ea, eb) refl
 
 -- a pair with a byte that is no digit
-bad_low : (b l i : ℕ) → hex_digit_value b ≡ reads l → 16 ≤ l → (e : FromHexError) × (value_at b i ≡ Err e)
-bad_low b l i hb le = (InvalidHexCharacter b i, ap (digit_or_error b i) (hb ∙ reads_bad l le))
+bad_low : (b l i : ℕ) → hex_digit_value b ≡ digit_or_none l → 16 ≤ l → (e : FromHexError) × (value_at b i ≡ Err e)
+bad_low b l i hb le = (InvalidHexCharacter b i, ap (digit_or_error b i) (hb ∙ bad_digit l le))
 
-bad_pair : (a b h l i : ℕ) → hex_digit_value a ≡ reads h → hex_digit_value b ≡ reads l → (16 ≤ h) ⊎ (16 ≤ l)
+bad_pair : (a b h l i : ℕ) → hex_digit_value a ≡ digit_or_none h → hex_digit_value b ≡ digit_or_none l → (16 ≤ h) ⊎ (16 ≤ l)
     → (e : FromHexError) × (pair_value a b i ≡ Err e)
 bad_pair a b h l i ha hb bad =
     elim (cases_lt h 16) [
       | inl hh ↦
           let low : 16 ≤ l = elim bad [ inl high ↦ absurd (omega (arith, hh, high)) | inr le ↦ le ] in
-          let ea : value_at a i ≡ Ok h = ap (digit_or_error a i) (ha ∙ reads_good h hh) in
+          let ea : value_at a i ≡ Ok h = ap (digit_or_error a i) (ha ∙ good_digit h hh) in
           let eb = bad_low b l (i + 1) hb low in
           (eb.0, rw (ea, eb.1) refl)
       | inr hh ↦
@@ -58,11 +58,11 @@ bad_pair a b h l i ha hb bad =
     ]
 
 -- one pair more is read
-pub read_pair : (s out : List ℕ) (i worst h l v w : ℕ) → 2 * i + 1 < length s → i < length out
-    → hex_digit_value (slice_index s (2 * i)) ≡ reads h → hex_digit_value (slice_index s (2 * i + 1)) ≡ reads l
+pub one_pair_more : (s out : List ℕ) (i worst h l v w : ℕ) → 2 * i + 1 < length s → i < length out
+    → hex_digit_value (slice_index s (2 * i)) ≡ digit_or_none h → hex_digit_value (slice_index s (2 * i + 1)) ≡ digit_or_none l
     → v ≡ h % 16 * 16 + l % 16 → w ≡ max (max worst h) l
     → IsReadSoFar s out i worst → IsReadSoFar s (slice_set out i v) (i + 1) w
-read_pair s out i worst h l v w fits room ha hb ev ew inv = (
+one_pair_more s out i worst h l v w fits room ha hb ev ew inv = (
   λ good.
       let hw : worst < 16 = omega (arith, ew, good) in
       let hh : h < 16 = omega (arith, ew, good) in

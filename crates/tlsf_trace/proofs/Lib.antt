@@ -1,5 +1,7 @@
 -- Fields and lines.
 pub mod CutSteps  -- fields that are cut off a line, one after another
+pub mod FieldSteps  -- what the fields of a line say, up to one that has not its shape
+pub mod LineJudged  -- a line, judged by its first field and what stands behind it
 pub mod LineSteps  -- a step of the loop over lines
 pub mod LabelSteps  -- what is remembered of labels, behind a line and a phase
 pub mod EmptyText  -- a text without bytes has no header
@@ -16,6 +18,7 @@ pub mod TextFault  -- the fault that a text has instead of a trace
 -- The run and its text.
 pub mod ScriptSteps  -- events and labels of lines, one line after another
 pub mod ReplySteps  -- reply lines of entries, one entry after another
+pub mod PartByPart  -- a replay whose lines are written part by part
 pub mod ReportSteps  -- report lines of heaps, one heap after another
 pub mod WholeOutput  -- what is put out, from its parts
 pub mod WholeReplay  -- a replay that is done

@@ -1,5 +1,5 @@
--- An input with a prefix of too many lines.
-use Rattle.std.proofs.Common.{ℕ, ◌<◌, List, length, Option, Some, None, inl, arith}
+-- An input with a prefix of too many lines, or of too many bytes.
+use Rattle.std.proofs.Common.{ℕ, ◌^◌, ◌<◌, ◌≤◌, List, length, Option, Some, None, inl, inr, arith, length-append}
 use Rattle.std.specs.Prelude.{IfSome}
 use Rattle.std.specs.Io.KnownBytes.{Consumes}
 use Rattle.tlsf_trace.specs.Limits.{IsTooLong}
@@ -13,3 +13,11 @@ too_many_lines None new prefix taken many = tt
 too_many_lines (Some xs) None prefix taken many = absurd taken
 too_many_lines (Some xs) (Some ys) prefix taken many =
     rw taken (inl (omega (arith, length-pieces_of-prefix prefix ys, many)))
+
+-- the same of bytes
+pub too_many_bytes : (old new : Option (List ℕ)) (prefix : List ℕ) → Consumes old new prefix
+    → 2 ^ 16 ≤ length prefix → IfSome old IsTooLong
+too_many_bytes None new prefix taken many = tt
+too_many_bytes (Some xs) None prefix taken many = absurd taken
+too_many_bytes (Some xs) (Some ys) prefix taken many =
+    rw taken (inr (omega (arith, length-append prefix ys, many)))

@@ -74,8 +74,8 @@ length-pieces_of (x ∷ y ∷ ys) =
     omega (arith, two x y ys (pieces_nonempty y ys), length-pieces_of (y ∷ ys), count-cons x (y ∷ ys), open_count-cons x y ys)
 
 -- the line feeds of two texts
-pub counted : (old new : List ℕ) → count_by is_feed (old ++ new) ≡ count_by is_feed old + count_by is_feed new
-counted old new = sum_by-append (λ b. cond (eqb b 10) 1 0) old new
+pub feeds_of_both : (old new : List ℕ) → count_by is_feed (old ++ new) ≡ count_by is_feed old + count_by is_feed new
+feeds_of_both old new = sum_by-append (λ b. cond (eqb b 10) 1 0) old new
 
 -- the number of pieces once more bytes have come
 pub length-pieces_of-append : (old new : List ℕ) → 0 < length new
@@ -86,7 +86,7 @@ length-pieces_of-append old new some =
     let last : get_or (old ++ new) (length (old ++ new) - 1) 10 ≡ get_or new (length new - 1) 10 =
     get_or-append_right old new (length old) (length (old ++ new) - 1) 10 refl (omega (arith, len)) ∙ ap (λ k. get_or new k 10) place in
     let same : open_count (old ++ new) ≡ open_count new = ap (λ (k : ℕ). cond (eqb k 10) 0 1) last in
-    omega (arith, length-pieces_of (old ++ new), counted old new, same)
+    omega (arith, length-pieces_of (old ++ new), feeds_of_both old new, same)
 
 -- at most one line is open
 open_count-le : (bytes : List ℕ) → open_count bytes ≤ 1

@@ -14,7 +14,7 @@ use Rattle.tlsf_crew.specs.yard.Yard.{IsYard}
 use Rattle.tlsf_trace.specs.Phases.{known_below, none_known, phases_of, scripts_in}
 use Rattle.tlsf_trace.specs.RaceOutput.{IsPhase, IsRaceOutput, IsRaceText, records_text}
 use Rattle.tlsf_trace.specs.Output.{yard_of}
-use Rattle.tlsf_trace.specs.Raced.{HasRaced, HaveRaced}
+use Rattle.tlsf_trace.specs.RaceSoFar.{IsPhaseRaced, IsRaceSoFar}
 use Rattle.tlsf_trace.specs.ReportLines.{report_text}
 use Rattle.tlsf_trace.specs.declared.header.Header.{Header}
 use Rattle.tlsf_trace.specs.declared.line.Line.{Line}
@@ -36,7 +36,7 @@ heap_count ws = length-map ws heap_of
 
 pub phase_raced : (ws vs : List Worker) (n : ℕ) (known learnt : ℕ → Option Name) (phase : List Line) (records : List (List Entry)) (old new : List ℕ) → n ≡ length ws → IsYard vs
     → IsRace (world_of ws) (scripts_in n known phase) records (world_of vs) → learnt ≡ known_below known phase records n → new ≡ old ++ records_text phase records n
-    → HasRaced ws known phase old vs learnt new
+    → IsPhaseRaced ws known phase old vs learnt new
 phase_raced ws vs n known learnt phase records old new is yard race learnt_is new_is = record {
   yard = yard;
   count = sym (heap_count vs) ∙ (race.heaps ∙ heap_count ws);
@@ -47,11 +47,11 @@ phase_raced ws vs n known learnt phase records old new is yard race learnt_is ne
 }
 
 pub none_raced : (ws : List Worker) (known : ℕ → Option Name) (phases : List (List Line)) (old : List ℕ) → IsYard ws
-    → HaveRaced (length ws) (world_of ws) known phases old ws known phases old
+    → IsRaceSoFar (length ws) (world_of ws) known phases old ws known phases old
 none_raced ws known phases old yard = record { yard = yard; count = refl; told = []; text_is = sym (append-nil old); rest = λ tail t. t }
 
 pub one_raced : (n : ℕ) (w : World) (known learnt more : ℕ → Option Name) (phases left : List (List Line)) (phase : List Line) (old new newer : List ℕ) (vs us : List Worker)
-    → HaveRaced n w known phases old vs learnt (phase ∷ left) new → HasRaced vs learnt phase new us more newer → HaveRaced n w known phases old us more left newer
+    → IsRaceSoFar n w known phases old vs learnt (phase ∷ left) new → IsPhaseRaced vs learnt phase new us more newer → IsRaceSoFar n w known phases old us more left newer
 one_raced n w known learnt more phases left phase old new newer vs us before one =
     let records = one.records in
     let lines = records_text phase records n in
@@ -81,14 +81,14 @@ few_behind (Some rest) n shorter few = omega (arith, shorter, few)
 
 pub more_raced : (n : ℕ) (w : World) (known learnt more : ℕ → Option Name) (phases : List (List Line)) (rest behind : Option (Bor (List Line))) (lines : Bor (List Line)) (phase : List Line) (old new newer : List ℕ) (vs us : List Worker)
     → rest ≡ Some lines → phases_of lines.now ≡ phase ∷ phases_left behind
-    → HaveRaced n w known phases old vs learnt (phases_left rest) new → HasRaced vs learnt phase new us more newer → HaveRaced n w known phases old us more (phases_left behind) newer
+    → IsRaceSoFar n w known phases old vs learnt (phases_left rest) new → IsPhaseRaced vs learnt phase new us more newer → IsRaceSoFar n w known phases old us more (phases_left behind) newer
 more_raced n w known learnt more phases rest behind lines phase old new newer vs us is first before one =
     one_raced n w known learnt more phases (phases_left behind) phase old new newer vs us
-    (subst (λ left. HaveRaced n w known phases old vs learnt left new) (ap phases_left is ∙ first) before) one
+    (subst (λ left. IsRaceSoFar n w known phases old vs learnt left new) (ap phases_left is ∙ first) before) one
 
 -- the lines of the heaps behind those of all phases
 pub all_raced : (header : Header) (lines : List Line) (ws vs : List Worker) (n : ℕ) (learnt : ℕ → Option Name) (old new out : List ℕ) → n ≡ header.workers → world_of ws ≡ yard_of header → old ≡ []
-    → HaveRaced n (world_of ws) none_known (phases_of lines) old vs learnt [] new → out ≡ new ++ report_text (map heap_of vs) → IsRaceOutput (record { header = header; lines = lines }) out
+    → IsRaceSoFar n (world_of ws) none_known (phases_of lines) old vs learnt [] new → out ≡ new ++ report_text (map heap_of vs) → IsRaceOutput (record { header = header; lines = lines }) out
 unfolding world_of
 all_raced header lines ws vs n learnt old new out count yard empty raced out_is =
     let reports = report_text (map heap_of vs) in

@@ -1,29 +1,35 @@
 -- Reply lines of entries, one entry after another.
-use Rattle.std.proofs.Common.{◌≡◌, ◌+◌, ◌<◌, ◌++◌, ℕ, Bool, true, false, List, Option, None, length, get_or, drop, refl, ap, ◌∙◌, arith, cond}
-use Rattle.std.proofs.lemmas.List.{at_drop_more, drop-drop, get_or-drop}
+use Rattle.std.proofs.Common.{[], ◌∷◌, ◌≡◌, ◌+◌, ◌<◌, ◌++◌, ℕ, Bool, true, false, List, Option, None, length, get_or, drop, refl, sym, ap, ◌∙◌, arith, cond, append_assoc}
+use Rattle.std.proofs.lemmas.List.{at_drop_more}
 use Rattle.tlsf_crew.specs.declared.yard.entry.Entry.{Entry}
-use Rattle.tlsf_trace.specs.ReplyLines.{is_taken, reply_line, reply_text}
+use Rattle.tlsf_trace.specs.ReplyLines.{is_taken, labels_left, reply_line, reply_text}
 
--- one label more is left out
-drop-drop_more : (n : ℕ) (labels : List (Option ℕ)) → drop 1 (drop n labels) ≡ drop (n + 1) labels
-drop-drop_more n labels = drop-drop 1 n labels
-
--- the lines of what is left begin with that of a post that a drain took, which has no label
+-- the lines of what is left begin with that of a post that a drain took, which has no label and leaves all labels
 pub next_taken : (entries : List Entry) (labels : List (Option ℕ)) (i : ℕ) (d : Entry) → i < length entries → is_taken (get_or entries i d).call ≡ true
-    → reply_text (drop i entries) labels ≡ reply_line (get_or entries i d) None ++ reply_text (drop (i + 1) entries) labels
-next_taken entries labels i d lt taken = at_drop_more (λ es. reply_text es labels) entries i d lt ∙ rw taken refl
+    → (reply_text (drop i entries) labels ≡ reply_line (get_or entries i d) None ++ reply_text (drop (i + 1) entries) labels)
+    × (labels_left (drop i entries) labels ≡ labels_left (drop (i + 1) entries) labels)
+next_taken entries labels i d lt taken =
+    (at_drop_more (λ es. reply_text es labels) entries i d lt ∙ rw taken refl, at_drop_more (λ es. labels_left es labels) entries i d lt ∙ rw taken refl)
 
--- or with that of an entry that has the next label
-pub next_called : (entries : List Entry) (labels : List (Option ℕ)) (i next : ℕ) (d : Entry) → i < length entries → is_taken (get_or entries i d).call ≡ false
-    → reply_text (drop i entries) (drop next labels) ≡ reply_line (get_or entries i d) (get_or labels next None) ++ reply_text (drop (i + 1) entries) (drop (next + 1) labels)
-next_called entries labels i next d lt called =
-    let e = get_or entries i d in
-    let es = drop (i + 1) entries in
-    let left = drop next labels in
-    let here : next + 0 ≡ next = omega arith in
-    let first : get_or left 0 None ≡ get_or labels next None = get_or-drop next labels 0 None ∙ ap (λ n. get_or labels n None) here in
-    let rest : drop 1 left ≡ drop (next + 1) labels = drop-drop_more next labels in
-    at_drop_more (λ es. reply_text es left) entries i d lt
-    ∙ (ap (λ (b : Bool). cond b (reply_line e None ++ reply_text es left) (reply_line e (get_or left 0 None) ++ reply_text es (drop 1 left))) called
-    ∙ (ap (λ (o : Option ℕ). reply_line e o ++ reply_text es (drop 1 left)) first
-    ∙ ap (λ (ls : List (Option ℕ)). reply_line e (get_or labels next None) ++ reply_text es ls) rest))
+-- or with that of an entry that has the next label, and leaves the others
+pub next_called : (entries : List Entry) (labels : List (Option ℕ)) (i : ℕ) (d : Entry) → i < length entries → is_taken (get_or entries i d).call ≡ false
+    → (reply_text (drop i entries) labels ≡ reply_line (get_or entries i d) (get_or labels 0 None) ++ reply_text (drop (i + 1) entries) (drop 1 labels))
+    × (labels_left (drop i entries) labels ≡ labels_left (drop (i + 1) entries) (drop 1 labels))
+next_called entries labels i d lt called =
+    (at_drop_more (λ es. reply_text es labels) entries i d lt ∙ rw called refl, at_drop_more (λ es. labels_left es labels) entries i d lt ∙ rw called refl)
+
+-- an entry before those of two parts, and those behind it in two parts
+one_more : (x : Entry) (xs ys : List Entry) (labels : List (Option ℕ)) (taken : Bool)
+    → reply_text (xs ++ ys) labels ≡ reply_text xs labels ++ reply_text ys (labels_left xs labels)
+    → reply_text (xs ++ ys) (drop 1 labels) ≡ reply_text xs (drop 1 labels) ++ reply_text ys (labels_left xs (drop 1 labels))
+    → cond taken (reply_line x None ++ reply_text (xs ++ ys) labels) (reply_line x (get_or labels 0 None) ++ reply_text (xs ++ ys) (drop 1 labels))
+    ≡ cond taken (reply_line x None ++ reply_text xs labels) (reply_line x (get_or labels 0 None) ++ reply_text xs (drop 1 labels))
+    ++ reply_text ys (cond taken (labels_left xs labels) (labels_left xs (drop 1 labels)))
+one_more x xs ys labels true all fewer = ap (λ (l : List ℕ). reply_line x None ++ l) all ∙ sym (append_assoc (reply_line x None) _ _)
+one_more x xs ys labels false all fewer =
+    ap (λ (l : List ℕ). reply_line x (get_or labels 0 None) ++ l) fewer ∙ sym (append_assoc (reply_line x (get_or labels 0 None)) _ _)
+
+-- the lines of entries in two parts
+pub reply_text-append : (xs ys : List Entry) (labels : List (Option ℕ)) → reply_text (xs ++ ys) labels ≡ reply_text xs labels ++ reply_text ys (labels_left xs labels)
+reply_text-append [] ys labels = refl
+reply_text-append (x ∷ xs) ys labels = one_more x xs ys labels (is_taken x.call) (reply_text-append xs ys labels) (reply_text-append xs ys (drop 1 labels))

@@ -18,11 +18,11 @@ of_read P None text same h = tt
 of_read P (Some l) text same h = subst P same h
 
 -- the text was read to its end and within the limits, and all that it asks for was written
-written : (Puts : Outputs) (left left' held holds : Option (List ℕ)) (text : List ℕ) → IfSome left (λ l. text ≡ l) → IsAtEnd left' → IsWithinLimits text
+all_written : (Puts : Outputs) (left left' held holds : Option (List ℕ)) (text : List ℕ) → IfSome left (λ l. text ≡ l) → IsAtEnd left' → IsWithinLimits text
     → (trace : Trace) → trace_of text ≡ Ok trace → (output : List ℕ) → Puts trace output
     → (summary : Summary) → Appends held holds output → summary.calls ≡ calls_of trace → summary.bytes ≡ length output
     → IsRun Puts (Ok summary) left left' held holds
-written Puts left left' held holds text whole end limits trace spelled output puts summary all calls bytes = record {
+all_written Puts left left' held holds text whole end limits trace spelled output puts summary all calls bytes = record {
   ok = of_read (λ t. Writes Puts summary t held holds) left text whole
       (record { output = output; asked = record { trace = trace; spelled = spelled; puts = puts; calls_are = calls }; all = all; bytes = bytes });
   end = end;
@@ -61,10 +61,10 @@ cut_short Puts left left' held holds text whole limits trace spelled output puts
 }
 
 -- the text was read and its trace's output was written, or a write failed
-pub finished : (Puts : Outputs) (left left' held holds : Option (List ℕ)) (text : List ℕ) → IfSome left (λ l. text ≡ l) → IsAtEnd left' → IsWithinLimits text
+pub run_is_done : (Puts : Outputs) (left left' held holds : Option (List ℕ)) (text : List ℕ) → IfSome left (λ l. text ≡ l) → IsAtEnd left' → IsWithinLimits text
     → (trace : Trace) → trace_of text ≡ Ok trace → (calls : ℕ) → calls ≡ calls_of trace → (output : List ℕ) → Puts trace output
     → (answer : Result Summary TraceFault) → Finishes answer calls output held holds → IsRun Puts answer left left' held holds
-finished Puts left left' held holds text whole end limits trace spelled calls are output puts (Ok summary) done =
-    written Puts left left' held holds text whole end limits trace spelled output puts summary done.all (done.calls_are ∙ are) done.bytes
-finished Puts left left' held holds text whole end limits trace spelled calls are output puts (Err fault) failed =
+run_is_done Puts left left' held holds text whole end limits trace spelled calls are output puts (Ok summary) done =
+    all_written Puts left left' held holds text whole end limits trace spelled output puts summary done.all (done.calls_are ∙ are) done.bytes
+run_is_done Puts left left' held holds text whole end limits trace spelled calls are output puts (Err fault) failed =
     cut_short Puts left left' held holds text whole limits trace spelled output puts failed.front fault failed.fault_is

@@ -27,6 +27,6 @@ pub mod CutFields
 pub mod LabelMemory
 pub mod ScriptSoFar
 pub mod OwnMakers
-pub mod Raced
+pub mod RaceSoFar
 pub mod Finish
 pub mod OpenLines

@@ -1,6 +1,9 @@
-ghost use Rattle.std.specs.Prelude.{◌≡◌, IfOk, string_bytes};
+ghost use Rattle.std.specs.Prelude.{◌≡◌, ◌++◌, IfOk, OnOk, string_bytes};
+ghost use Rattle.tlsf_crew.specs.yard.World.{world_of, replies};
+ghost use Rattle.tlsf_crew.specs.yard.Yard.{IsYard};
 ghost use Rattle.tlsf_trace.specs.Ranges.{IsHeaderInRange};
 ghost use Rattle.tlsf_trace.specs.Output.{output_of};
+ghost use Rattle.tlsf_trace.specs.ReplyLines.{reply_text};
 ghost use Rattle.tlsf_trace.specs.ScriptSoFar.{IsScript};
 ghost use Rattle.tlsf_trace.specs.Trace.{Trace};
 
@@ -8,7 +11,37 @@ use crate::reply_lines::write_replies;
 use crate::report_lines::write_reports;
 use crate::script::Script;
 use std::alloc::{AllocError, Global};
-use tlsf_crew::{open_yard, replay_events};
+use tlsf_crew::{Event, Worker, open_yard, replay_behind};
+
+/// How many events run before their lines are written. An entry has 200 bytes, so few are held at a time.
+const PART: usize = 1024;
+
+// Runs the events of a script, part by part, and adds the lines of what they are answered.
+fn write_run(
+    alloc: Global,
+    text: &mut String,
+    workers: &mut [Worker],
+    script: &Script,
+) -> Result<(), AllocError>
+    requires { IsYard workers.old }
+    ensures text { OnOk result (string_bytes text.new ≡ string_bytes text.old
+        ++ reply_text (replies (world_of workers.old) script.now.events.items).entries script.now.labels.items) }
+    ensures world { OnOk result (world_of workers.new ≡ (replies (world_of workers.old) script.now.events.items).world) }
+{
+    let mut made = Vec::new(alloc);
+    let mut events: &[Event] = &script.events;
+    let mut labels: &[Option<u32>] = &script.labels;
+    while !events.is_empty() {
+        let (part, rest) = events.split_at(events.len().min(PART));
+        // Each target was made by an event before, and there are few events: what is refused here is memory.
+        let Ok(entries) = replay_behind(alloc, workers, &mut made, part) else {
+            return Err(AllocError);
+        };
+        labels = write_replies(text, &entries, labels)?;
+        events = rest;
+    }
+    Ok(())
+}
 
 /// The reply lines of a script, run on a new yard, and a report line for each heap that it leaves.
 pub(crate) fn output(alloc: Global, script: &Script) -> Result<String, AllocError>
@@ -20,12 +53,8 @@ pub(crate) fn output(alloc: Global, script: &Script) -> Result<String, AllocErro
     let Ok(mut workers) = open_yard(alloc, header.workers, header.words, header.capacity) else {
         return Err(AllocError);
     };
-    // Each target was made by an event before, and there are few events: here too memory alone is refused.
-    let Ok(entries) = replay_events(alloc, &mut workers, &script.events) else {
-        return Err(AllocError);
-    };
     let mut text = String::new(alloc);
-    write_replies(&mut text, &entries, &script.labels)?;
+    write_run(alloc, &mut text, &mut workers, script)?;
     write_reports(&mut text, &mut workers)?;
     Ok(text)
 }

@@ -102,7 +102,7 @@ fn remember(makers: &mut Makers, line: Line, call: u32) -> Result<(), AllocError
 }
 
 // The calls that a worker's lines in a phase stand for.
-fn calls_of(alloc: Global, names: &Names, lines: &[Line]) -> Result<Vec<Call>, AllocError>
+fn own_calls(alloc: Global, names: &Names, lines: &[Line]) -> Result<Vec<Call>, AllocError>
     requires { length lines.now ≤ 32768 }
     ensures calls { IfOk result (λ calls. calls.items ≡ calls_from (known_in names.now) [] lines.now) }
     ensures len { IfOk result (λ calls. vec_len calls ≡ length lines.now) }
@@ -130,21 +130,21 @@ pub fn labels_of(alloc: Global, lines: &[Line]) -> Result<Vec<Option<u32>>, Allo
 
 /// What each worker does in a phase.
 #[derive(Drop)]
-pub struct Scripts {
+pub struct PhaseScripts {
     /// Its lines.
     pub lines: Vec<Vec<Line>>,
     /// The calls that they stand for.
     pub calls: Vec<Vec<Call>>,
 }
 
-impl Scripts {
+impl PhaseScripts {
     /// The scripts of so many workers in a phase, where earlier phases gave labels these names.
     pub fn of(
         alloc: Global,
         workers: u32,
         names: &Names,
         phase: &[Line],
-    ) -> Result<Scripts, AllocError>
+    ) -> Result<PhaseScripts, AllocError>
         requires { length phase.now ≤ 32768 }
         ensures lines { IfOk result (λ scripts. map (λ l. l.items) scripts.lines.items
             ≡ map (λ w. spelled.own_lines w phase.now) (range_with_len 0 workers)) }
@@ -153,13 +153,13 @@ impl Scripts {
         ensures counts { IfOk result (λ scripts. (vec_len scripts.lines ≡ workers) × (vec_len scripts.calls ≡ workers)) }
         ensures short { IfOk result (λ scripts. All (λ c. vec_len c < 2 ^ 32) scripts.calls.items) }
     {
-        let mut scripts = Scripts {
+        let mut scripts = PhaseScripts {
             lines: Vec::new(alloc),
             calls: Vec::new(alloc),
         };
         for worker in 0..workers {
             let lines = own_lines(alloc, worker, phase)?;
-            scripts.calls.push(calls_of(alloc, names, &lines)?)?;
+            scripts.calls.push(own_calls(alloc, names, &lines)?)?;
             scripts.lines.push(lines)?;
         }
         Ok(scripts)

@@ -8,7 +8,7 @@ ghost use Rattle.tlsf_crew.specs.yard.World.{world_of};
 ghost use Rattle.tlsf_crew.specs.yard.Yard.{IsYard};
 ghost use Rattle.tlsf_trace.specs.Phases.{known_behind, known_below, known_in, names_in as names_told, none_known, phases_of, own_lines};
 ghost use Rattle.tlsf_trace.specs.RaceOutput.{IsRaceOutput, label_in, records_text};
-ghost use Rattle.tlsf_trace.specs.Raced.{HasRaced, HaveRaced};
+ghost use Rattle.tlsf_trace.specs.RaceSoFar.{IsPhaseRaced, IsRaceSoFar};
 ghost use Rattle.tlsf_trace.specs.Ranges.{IsHeaderInRange};
 ghost use Rattle.tlsf_trace.specs.ReplyLines.{reply_text};
 ghost use Rattle.tlsf_trace.specs.Views.{view_trace};
@@ -16,7 +16,7 @@ ghost use Rattle.tlsf_trace.specs.Views.{view_trace};
 use crate::learning::{learn, names_in};
 use crate::line::Line;
 use crate::names::Names;
-use crate::phases::{Scripts, cut_phase, labels_of};
+use crate::phases::{PhaseScripts, cut_phase, labels_of};
 use crate::reply_lines::write_replies;
 use crate::report_lines::write_reports;
 use crate::trace::Trace;
@@ -27,7 +27,7 @@ use std::thread::Threads;
 use tlsf_crew::{Entry, Gate, Worker, open_yard, race};
 
 // Adds the lines of a worker's record, and gives the labels of its lines their names.
-fn tell_one(
+fn write_record(
     alloc: Global,
     text: &mut String,
     names: &mut Names,
@@ -44,7 +44,7 @@ fn tell_one(
 }
 
 // Adds the lines of a phase's records, worker after worker, and gives the phase's labels their names.
-fn tell(
+fn write_phase(
     alloc: Global,
     text: &mut String,
     names: &mut Names,
@@ -58,7 +58,7 @@ fn tell(
         → OnOk result (known_in names.new ≡ known_below (known_in names.old) phase (map (λ r. r.items) records.now) (length lines.now)) }
 {
     for worker in 0..lines.len() {
-        tell_one(alloc, text, names, &lines[worker], &records[worker])?;
+        write_record(alloc, text, names, &lines[worker], &records[worker])?;
     }
     Ok(())
 }
@@ -75,20 +75,20 @@ fn race_phase<R: Threads + Wait + Sync, G: Gate>(
 ) -> Result<Vec<Worker>, AllocError>
     requires yard { IsYard workers.items }
     requires few { length phase.now ≤ 32768 }
-    ensures { IfOk result (λ vs. HasRaced workers.items (known_in names.old) phase.now (string_bytes text.old) vs.items (known_in names.new) (string_bytes text.new)) }
+    ensures { IfOk result (λ vs. IsPhaseRaced workers.items (known_in names.old) phase.now (string_bytes text.old) vs.items (known_in names.new) (string_bytes text.new)) }
 {
     let count = workers.len() as u32;
-    let scripts = Scripts::of(alloc, count, names, phase)?;
+    let scripts = PhaseScripts::of(alloc, count, names, phase)?;
     // A race refuses memory alone, or a thread, which counts as memory.
     let Ok(outcome) = race(rt, alloc, workers, scripts.calls, gate) else {
         return Err(AllocError);
     };
-    tell(alloc, text, names, &scripts.lines, &outcome.records)?;
+    write_phase(alloc, text, names, &scripts.lines, &outcome.records)?;
     Ok(outcome.workers)
 }
 
 // Races the phases of these lines, one after another.
-fn race_phases<R: Threads + Wait + Sync, G: Gate>(
+fn race_lines<R: Threads + Wait + Sync, G: Gate>(
     rt: &R,
     alloc: Global,
     workers: Vec<Worker>,
@@ -98,7 +98,7 @@ fn race_phases<R: Threads + Wait + Sync, G: Gate>(
 ) -> Result<Vec<Worker>, AllocError>
     requires yard { IsYard workers.items }
     requires few { length lines.now ≤ 32768 }
-    ensures { IfOk result (λ vs. (learnt : ℕ → Option Name) × HaveRaced (vec_len workers) (world_of workers.items) none_known (phases_of lines.now) (string_bytes text.old) vs.items learnt [] (string_bytes text.new)) }
+    ensures { IfOk result (λ vs. (learnt : ℕ → Option Name) × IsRaceSoFar (vec_len workers) (world_of workers.items) none_known (phases_of lines.now) (string_bytes text.old) vs.items learnt [] (string_bytes text.new)) }
 {
     let mut workers = workers;
     let mut names = Names::new(alloc);
@@ -128,7 +128,7 @@ pub(crate) fn race_output<R: Threads + Wait + Sync, G: Gate>(
         return Err(AllocError);
     };
     let mut text = String::new(alloc);
-    let mut workers = race_phases(rt, alloc, workers, &trace.lines, &mut text, gate)?;
+    let mut workers = race_lines(rt, alloc, workers, &trace.lines, &mut text, gate)?;
     write_reports(&mut text, &mut workers)?;
     Ok(text)
 }

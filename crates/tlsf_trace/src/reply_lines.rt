@@ -1,10 +1,10 @@
 //! The reply lines of entries.
-ghost use Rattle.std.specs.Prelude.{◌≡◌, ◌++◌, codes, OnOk, string_bytes};
+ghost use Rattle.std.specs.Prelude.{◌≡◌, ◌++◌, None, codes, drop, slice_index_or, IfOk, OnOk, string_bytes};
 ghost use Rattle.std.specs.Fmt.{decimal};
 ghost use Rattle.hex.specs.Hex.{encode_lower};
 ghost use Rattle.tlsf_crew.specs.yard.Bytes.{bytes_of};
 ghost use Rattle.tlsf_trace.specs.ReplyLines as spelled;
-ghost use Rattle.tlsf_trace.specs.ReplyLines.{answer_part, call_part, label_part, place_part, release_part, reply_line, reply_text};
+ghost use Rattle.tlsf_trace.specs.ReplyLines.{answer_part, call_part, label_part, labels_left, place_part, release_part, reply_line, reply_text};
 
 use itoa::Buffer;
 use std::alloc::AllocError;
@@ -46,7 +46,7 @@ fn write_label(text: &mut String, label: Option<u32>) -> Result<(), AllocError>
 {
     match label {
         Some(label) => {
-            text.push_str(" ")?;
+            text.push(' ')?;
             write_number(text, u64::from(label))
         }
         None => Ok(()),
@@ -140,25 +140,38 @@ pub fn is_taken(call: Call) -> bool
     matches!(call, Call::Take { .. })
 }
 
+// The first label, and those behind it. Where none is left, it is `None`.
+fn first_label(labels: &[Option<u32>]) -> (Option<u32>, &[Option<u32>])
+    ensures first { result.0 ≡ slice_index_or labels.now 0 None }
+    ensures rest { result.1.now ≡ drop 1 labels.now }
+{
+    match labels {
+        [label, rest @ ..] => (*label, rest),
+        [] => (None, &[]),
+    }
+}
+
 /// Adds the lines of entries, where each but those of posts that a drain took has the label of the next event. A drain's
-/// label is `None`, as is that of an event behind the last label.
-pub fn write_replies(
+/// label is `None`, as is that of an event behind the last label. Answers the labels that are left.
+pub fn write_replies<'a>(
     text: &mut String,
     entries: &[Entry],
-    labels: &[Option<u32>],
-) -> Result<(), AllocError>
-    ensures { OnOk result (string_bytes text.new ≡ string_bytes text.old ++ reply_text entries.now labels.now) }
+    labels: &'a [Option<u32>],
+) -> Result<&'a [Option<u32>], AllocError>
+    ensures text { OnOk result (string_bytes text.new ≡ string_bytes text.old ++ reply_text entries.now labels.now) }
+    ensures left { IfOk result (λ left. left.now ≡ labels_left entries.now labels.now) }
 {
-    let mut next = 0;
+    let mut left = labels;
     for entry in entries {
         if is_taken(entry.call) {
             write_line(text, entry, None)?;
         } else {
             // There is one such entry for each event, so a label is always left. No clause of the run says how many
             // entries there are, and so none is asked for here.
-            write_line(text, entry, labels.get(next).copied().flatten())?;
-            next += 1;
+            let (label, rest) = first_label(left);
+            write_line(text, entry, label)?;
+            left = rest;
         }
     }
-    Ok(())
+    Ok(left)
 }

@@ -1,7 +1,7 @@
 use Rattle.std.proofs.Common.{◌≡◌, ◌+◌, ◌*◌, ◌%◌, max, refl, arith}
 use Rattle.std.proofs.lemmas.Grind.{common_steps}
 use Rattle.std.proofs.lemmas.List.{length-set}
-use Rattle.tlsf_trace.proofs.HexSteps.{all_read, read_pair}
+use Rattle.tlsf_trace.proofs.HexSteps.{all_read, one_pair_more}
 use Rattle.tlsf_trace.proofs.payload.read_pairs.Goals as goal
 
 pub loop-i-preserved : goal.loop-i-preserved
@@ -15,7 +15,7 @@ loop-i-preserved c =
     let len = length-set out i (high % 16 * 16 + low % 16) in
     let greatest : c.max-worst.result ≡ max (max c.loop-i.worst high) low = grind (arith, common_steps) in
     record {
-      read = read_pair s out i c.loop-i.worst high low (high % 16 * 16 + low % 16) c.max-worst.result (omega (arith, c.requires, same, c.loop-i-test.true)) (omega (arith, same, c.loop-i-test.true))
+      read = one_pair_more s out i c.loop-i.worst high low (high % 16 * 16 + low % 16) c.max-worst.result (omega (arith, c.requires, same, c.loop-i-test.true)) (omega (arith, same, c.loop-i-test.true))
           c.digit_value-high.ensures c.digit_value-low.ensures refl greatest c.loop-i.invariant.read;
       len = omega (arith, len, same);
     }

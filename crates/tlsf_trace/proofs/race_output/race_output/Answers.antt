@@ -10,6 +10,6 @@ returns g c =
     let raced = c.in_ok-workers.ensures in
     let heaps : c.deref_mut.result.now ≡ vs = c.deref_mut.ensures.value in
     let out = rw heaps at c.in_ok-write_reports.ensures in
-    all_raced header c.args.trace.now.lines.items ws vs (vec_len c.in-Ok.workers) raced.0 (string_bytes c.new-text.result) (string_bytes c.race_phases.new.text) (string_bytes c.write_reports.new.text)
+    all_raced header c.args.trace.now.lines.items ws vs (vec_len c.in-Ok.workers) raced.0 (string_bytes c.new-text.result) (string_bytes c.race_lines.new.text) (string_bytes c.write_reports.new.text)
     (omega (arith, opened_count ws header c.in-Ok.ensures.world)) c.in-Ok.ensures.world c.new-text.ensures.bytes
     (rw c.deref.ensures.value at raced.1) out

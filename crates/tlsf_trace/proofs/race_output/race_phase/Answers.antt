@@ -16,8 +16,8 @@ use Rattle.tlsf_trace.proofs.race_output.race_phase.Goals as goal
 pub race-requires-clause-count : goal.race-requires-clause-count
 race-requires-clause-count g c κs within = omega (arith, c.in_ok-scripts.ensures.counts.1, c.len-count.ensures)
 
-pub tell-requires : goal.tell-requires
-tell-requires g c =
+pub write_phase-requires : goal.write_phase-requires
+write_phase-requires g c =
     let records = c.in-Ok.outcome.records.items in
     let many : length c.deref-2.result.now ≡ length (map (λ (r : Vec Entry Global). r.items) records) = ap length c.deref-2.ensures.value ∙ sym (length-map records (λ (r : Vec Entry Global). r.items)) in
     let all = c.in-Ok.ensures.race.records in
@@ -33,15 +33,15 @@ returns g c =
     let n = c.len-count.result in
     let records = map (λ (r : Vec Entry Global). r.items) c.in-Ok.outcome.records.items in
     let old = string_bytes c.args.text.now in
-    let new = string_bytes c.tell.new.text in
-    let learnt = known_in c.tell.new.names in
+    let new = string_bytes c.write_phase.new.text in
+    let learnt = known_in c.write_phase.new.names in
     let many : length c.deref.result.now ≡ n = omega (arith, c.deref.ensures.len, c.in_ok-scripts.ensures.counts.0) in
     let lines : map (λ (l : Vec Line Global). l.items) c.deref.result.now ≡ map (λ w. own_lines w phase) (range_with_len 0 (length c.deref.result.now))
     = ap (map (λ (l : Vec Line Global). l.items)) c.deref.ensures.value ∙ (c.in_ok-scripts.ensures.lines ∙ ap (λ (k : ℕ). map (λ w. own_lines w phase) (range_with_len 0 k)) (sym many)) in
     let told = map (λ (r : Vec Entry Global). r.items) c.deref-2.result.now in
     let told_is : told ≡ records = ap (map (λ (r : Vec Entry Global). r.items)) c.deref-2.ensures.value in
-    let text : new ≡ old ++ records_text phase told (length c.deref.result.now) = c.in_ok-tell.ensures.text phase lines in
-    let names : learnt ≡ known_below known phase told (length c.deref.result.now) = c.in_ok-tell.ensures.known phase lines in
+    let text : new ≡ old ++ records_text phase told (length c.deref.result.now) = c.in_ok-write_phase.ensures.text phase lines in
+    let names : learnt ≡ known_below known phase told (length c.deref.result.now) = c.in_ok-write_phase.ensures.known phase lines in
     phase_raced ws vs n known learnt phase records old new (omega (arith, c.len-count.ensures)) c.in-Ok.ensures.yard
     (subst (λ (s : List (List Call)). IsRace (world_of ws) s records (world_of vs)) c.in_ok-scripts.ensures.calls c.in-Ok.ensures.race)
     (names ∙ (ap (λ t. known_below known phase t (length c.deref.result.now)) told_is ∙ ap (λ (k : ℕ). known_below known phase records k) many))

@@ -1,8 +1,23 @@
-use Rattle.std.proofs.Common.{rules, Some, None, refl, sym}
+use Rattle.std.proofs.Common.{rules, [], ◌∷◌, Some, None, refl, sym}
 use Rattle.tlsf_trace.specs.CutFields.{fields_left, value_of}
 use Rattle.tlsf_trace.specs.Values.{Worker, Label, Offset, Hex, Bytes}
-use Rattle.tlsf_trace.proofs.CutSteps.{four}
+use Rattle.tlsf_trace.proofs.CutSteps.{four, no_more}
+use Rattle.tlsf_trace.proofs.FieldSteps.{second_missing, third_missing}
 use Rattle.tlsf_trace.proofs.reading.write_in.Goals as goal
+
+pub returns-in_err-worker : goal.returns-in_err-worker
+returns-in_err-worker c =
+    rw (no_more c.args.workers Worker (Label ∷ Offset ∷ Hex ∷ []) (fields_left c.args.fields) c.in_err-worker.ensures) (search rules)
+
+pub returns-in_err-label : goal.returns-in_err-label
+returns-in_err-label c =
+    rw (second_missing c.args.workers Worker Label (Offset ∷ Hex ∷ []) (fields_left c.args.fields) (fields_left c.in_ok-worker.fields)
+    (value_of c.in_ok-worker.worker) c.in_ok-worker.ensures c.in_err-label.ensures) (search rules)
+
+pub returns-in_err-at : goal.returns-in_err-at
+returns-in_err-at c =
+    rw (third_missing c.args.workers Worker Label Offset (Hex ∷ []) (fields_left c.args.fields) (fields_left c.in_ok-worker.fields) (fields_left c.in_ok-label.fields)
+    (value_of c.in_ok-worker.worker) (value_of c.in_ok-label.label) c.in_ok-worker.ensures c.in_ok-label.ensures c.in_err-at.ensures) (search rules)
 
 pub returns-in_err-bytes : goal.returns-in_err-bytes
 returns-in_err-bytes c =

@@ -1,4 +1,4 @@
-use Rattle.std.proofs.Common.{rules, ◌≡◌, ◌++◌, None, get_or, drop, string_bytes, sym, ap, ◌∙◌, arith, append_assoc}
+use Rattle.std.proofs.Common.{rules, ◌≡◌, ◌++◌, None, get_or, string_bytes, sym, ap, ◌∙◌, append_assoc}
 use Rattle.tlsf_trace.proofs.ReplySteps.{next_called, next_taken}
 use Rattle.tlsf_trace.proofs.reply_lines.write_replies.Goals.{then-is_taken+in_ok-write_line, else-is_taken+in_ok-write_line-2}
 use Rattle.tlsf_trace.proofs.reply_lines.write_replies.Goals as goal
@@ -7,20 +7,20 @@ pub loop-entry-preserved : goal.loop-entry-preserved
 loop-entry-preserved c =
     let inv = c.loop-entry.invariant in
     let i = c.loop-entry.entry-index in
-    let next = c.loop-entry.next in
+    let left = c.loop-entry.left.now in
     let old = string_bytes c.loop-entry.text in
     elim c.if-is_taken.branch [
       | then-is_taken+in_ok-write_line w ↦
-          let step = next_taken c.args.entries.now (drop next c.args.labels.now) i _ c.loop-entry-test.true (search rules) in
+          let step = next_taken c.args.entries.now left i _ c.loop-entry-test.true (search rules) in
           record {
-            so_far = rw (w.text-is, w.next-is, w.in_ok-write_line.ensures) (append_assoc old _ _ ∙ (ap (λ l. old ++ l) (sym step) ∙ inv.so_far));
-            few = omega (arith, inv.few, w.next-is);
+            so_far = rw (w.text-is, w.left-is, w.in_ok-write_line.ensures) (append_assoc old _ _ ∙ (ap (λ l. old ++ l) (sym step.0) ∙ inv.so_far));
+            left = rw w.left-is (sym step.1 ∙ inv.left);
           }
       | else-is_taken+in_ok-write_line-2 w ↦
-          let step = next_called c.args.entries.now c.args.labels.now i next _ c.loop-entry-test.true (search rules) in
-          let label : w.flatten.result ≡ get_or c.args.labels.now next None = search rules in
+          let step = next_called c.args.entries.now left i _ c.loop-entry-test.true (search rules) in
+          let line = rw w.first_label-label.ensures.first at w.in_ok-write_line-2.ensures in
           record {
-            so_far = rw (w.text-is, w.next-is, w.in_ok-write_line-2.ensures, label) (append_assoc old _ _ ∙ (ap (λ l. old ++ l) (sym step) ∙ inv.so_far));
-            few = omega (arith, inv.few, w.next-is);
+            so_far = rw (w.text-is, w.left-is, w.first_label-label.ensures.rest, line) (append_assoc old _ _ ∙ (ap (λ l. old ++ l) (sym step.0) ∙ inv.so_far));
+            left = rw (w.left-is, w.first_label-label.ensures.rest) (sym step.1 ∙ inv.left);
           }
     ]

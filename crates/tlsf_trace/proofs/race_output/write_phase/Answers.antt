@@ -7,7 +7,7 @@ use Rattle.tlsf_trace.specs.Phases.{own_lines}
 use Rattle.tlsf_trace.specs.RaceOutput.{record_text, records_text}
 use Rattle.tlsf_trace.specs.declared.line.Line.{Line}
 use Rattle.tlsf_trace.proofs.WorkerByWorker.{items_at, items_of}
-use Rattle.tlsf_trace.proofs.race_output.tell.Goals as goal
+use Rattle.tlsf_trace.proofs.race_output.write_phase.Goals as goal
 
 pub loop-worker-preserved : goal.loop-worker-preserved
 loop-worker-preserved c =
@@ -23,11 +23,11 @@ loop-worker-preserved c =
           let at_lines : c.index-lines-worker.result.items ≡ own_lines w phase
           = ap (λ (l : Vec Line Global). l.items) c.index-lines-worker.is ∙ items_at (λ w. own_lines w phase) lines (length lines) w c.index-lines-worker.result all c.loop-worker-test.true c.loop-worker-test.true in
           rw add-one
-          (rw (c.deref.ensures.value, c.deref-in-loop-worker.ensures.value, at_record, at_lines, inv.text phase all) at c.in_ok-tell_one.ensures.text
+          (rw (c.deref.ensures.value, c.deref-in-loop-worker.ensures.value, at_record, at_lines, inv.text phase all) at c.in_ok-write_record.ensures.text
           ∙ append_assoc (string_bytes c.args.text.now) (records_text phase told w) (record_text phase told w));
       known = λ phase all.
           let at_lines : c.index-lines-worker.result.items ≡ own_lines w phase
           = ap (λ (l : Vec Line Global). l.items) c.index-lines-worker.is ∙ items_at (λ w. own_lines w phase) lines (length lines) w c.index-lines-worker.result all c.loop-worker-test.true c.loop-worker-test.true in
           rw add-one
-          (rw (c.deref.ensures.value, c.deref-in-loop-worker.ensures.value, at_record, at_lines, inv.known phase all) at c.in_ok-tell_one.ensures.known);
+          (rw (c.deref.ensures.value, c.deref-in-loop-worker.ensures.value, at_record, at_lines, inv.known phase all) at c.in_ok-write_record.ensures.known);
     }

@@ -10,7 +10,7 @@ use Rattle.tlsf_trace.specs.RaceOutput.{IsPhase, IsRaceText, records_text}
 use Rattle.tlsf_trace.specs.declared.line.Line.{Line}
 
 -- a phase was raced: the workers became others, labels learnt their names, and the lines of the records were told
-pub record HasRaced (ws : List Worker) (known : ℕ → Option Name) (phase : List Line) (old : List ℕ) (vs : List Worker) (learnt : ℕ → Option Name) (new : List ℕ) : Type 0 where
+pub record IsPhaseRaced (ws : List Worker) (known : ℕ → Option Name) (phase : List Line) (old : List ℕ) (vs : List Worker) (learnt : ℕ → Option Name) (new : List ℕ) : Type 0 where
   pub yard : IsYard vs
   pub count : length vs ≡ length ws
   pub records : List (List Entry)
@@ -19,7 +19,7 @@ pub record HasRaced (ws : List Worker) (known : ℕ → Option Name) (phase : Li
   pub text_is : new ≡ old ++ records_text phase records (length ws)
 
 -- some phases were raced: with any text of the phases behind them, what was told is one of all
-pub record HaveRaced (n : ℕ) (w : World) (known : ℕ → Option Name) (phases : List (List Line)) (old : List ℕ) (vs : List Worker) (learnt : ℕ → Option Name) (left : List (List Line)) (new : List ℕ) : Type 0 where
+pub record IsRaceSoFar (n : ℕ) (w : World) (known : ℕ → Option Name) (phases : List (List Line)) (old : List ℕ) (vs : List Worker) (learnt : ℕ → Option Name) (left : List (List Line)) (new : List ℕ) : Type 0 where
   pub yard : IsYard vs
   pub count : length vs ≡ n
   pub told : List ℕ

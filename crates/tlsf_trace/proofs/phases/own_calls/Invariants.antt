@@ -2,7 +2,7 @@ use Rattle.std.proofs.Common.{◌≡◌, ◌++◌, [], List, length, drop, vec_l
 use Rattle.tlsf_trace.specs.Phases.{calls_from, known_in}
 use Rattle.tlsf_trace.specs.OwnMakers.{RecallsOwn}
 use Rattle.tlsf_trace.specs.declared.line.Line.{Line}
-use Rattle.tlsf_trace.proofs.phases.calls_of.Given as goal
+use Rattle.tlsf_trace.proofs.phases.own_calls.Given as goal
 
 -- the calls so far and those of the lines that are left are all; the lines so far are remembered
 abbrev pub invariant-loop-line : goal.invariant-loop-line

@@ -1,7 +1,7 @@
 use Rattle.std.proofs.Common.{◌≡◌, ◌<◌, ◌^◌, All, map, vec_len}
 use Rattle.std.specs.List.{range_with_len}
 use Rattle.tlsf_trace.specs.Phases.{known_in, own_lines, scripts_in}
-use Rattle.tlsf_trace.proofs.phases.Scripts.of.Given as goal
+use Rattle.tlsf_trace.proofs.phases.PhaseScripts.of.Given as goal
 
 -- what the workers so far do
 abbrev pub invariant-loop-worker : goal.invariant-loop-worker

@@ -3,7 +3,7 @@ use Rattle.std.specs.List.{range_with_len}
 use Rattle.tlsf_trace.specs.Phases.{known_below, known_in, own_lines}
 use Rattle.tlsf_trace.specs.RaceOutput.{records_text}
 use Rattle.tlsf_trace.specs.declared.line.Line.{Line}
-use Rattle.tlsf_trace.proofs.race_output.tell.Given as goal
+use Rattle.tlsf_trace.proofs.race_output.write_phase.Given as goal
 
 -- the records of the workers so far were told, and their labels are known
 abbrev pub invariant-loop-worker : goal.invariant-loop-worker

@@ -1,14 +1,14 @@
 use Rattle.std.proofs.Common.{◌≤◌, IfSome, length, vec_len, string_bytes}
 use Rattle.tlsf_crew.specs.yard.World.{world_of}
 use Rattle.tlsf_trace.specs.Phases.{known_in, none_known, phases_of}
-use Rattle.tlsf_trace.specs.Raced.{HaveRaced}
+use Rattle.tlsf_trace.specs.RaceSoFar.{IsRaceSoFar}
 use Rattle.tlsf_trace.proofs.RacedPhases.{lines_left, phases_left}
-use Rattle.tlsf_trace.proofs.race_output.race_phases.Given as goal
+use Rattle.tlsf_trace.proofs.race_output.race_lines.Given as goal
 
 -- the phases so far were raced
 abbrev pub invariant-loop-rest : goal.invariant-loop-rest
 invariant-loop-rest g l = record {
-  raced : HaveRaced (vec_len l.fn.workers) (world_of l.fn.workers.items) none_known (phases_of l.fn.lines) (string_bytes l.fn.text) l.workers.items (known_in l.names) (phases_left l.rest) (string_bytes l.text);
+  raced : IsRaceSoFar (vec_len l.fn.workers) (world_of l.fn.workers.items) none_known (phases_of l.fn.lines) (string_bytes l.fn.text) l.workers.items (known_in l.names) (phases_left l.rest) (string_bytes l.text);
   few : IfSome l.rest (λ lines. length lines.now ≤ 32768);
 }
 

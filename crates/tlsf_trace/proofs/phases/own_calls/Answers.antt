@@ -3,7 +3,7 @@ use Rattle.std.proofs.lemmas.List.{at_drop_more}
 use Rattle.tlsf_trace.specs.Phases.{call_in, calls_from, known_in}
 use Rattle.tlsf_trace.specs.declared.line.Line.{Line}
 use Rattle.tlsf_trace.specs.declared.line.Line.TheVariants.{Allocate}
-use Rattle.tlsf_trace.proofs.phases.calls_of.Goals as goal
+use Rattle.tlsf_trace.proofs.phases.own_calls.Goals as goal
 
 pub loop-line-preserved : goal.loop-line-preserved
 loop-line-preserved c =

@@ -1,0 +1,45 @@
+use Rattle.std.proofs.Common.{◌≡◌, ◌++◌, [], rules, refl, string_bytes, ◌∙◌}
+use Rattle.std.proofs.lemmas.List.{nil_from_length}
+use Rattle.tlsf_crew.specs.yard.World.{world_of}
+use Rattle.tlsf_crew.proofs.lemmas.yard.InParts.{replies_alone}
+use Rattle.tlsf_trace.proofs.PartByPart.{all_left, all_told, part_left, part_told}
+use Rattle.tlsf_trace.proofs.output.write_run.Goals as goal
+
+pub loop-events-init : goal.loop-events-init
+loop-events-init c =
+    let alone = replies_alone (world_of c.args.workers.now) c.args.script.now.events.items in
+    record {
+      yard = c.requires;
+      so_far = rw (c.deref-events.ensures.value, c.deref-labels.ensures.value, c.new-made.ensures.items, alone) refl;
+      world = rw (c.deref-events.ensures.value, c.new-made.ensures.items, alone) refl;
+    }
+
+pub loop-events-preserved : goal.loop-events-preserved
+loop-events-preserved c =
+    let inv = c.loop-events.invariant in
+    let w = world_of c.loop-events.workers in
+    let u = world_of c.replay_behind.new.workers in
+    let made = c.loop-events.made.items in
+    let names = c.replay_behind.new.made.items in
+    let part = c.split_at.result.0.now in
+    let rest = c.split_at.result.1.now in
+    let whole : c.loop-events.events.now ≡ part ++ rest = c.split_at.ensures.by_index.0 in
+    let told = c.in-Ok.ensures in
+    let text = rw c.deref.ensures.value at c.in_ok-labels.ensures.text in
+    let left = rw c.deref.ensures.value at c.in_ok-labels.ensures.left in
+    record {
+      yard = c.replay_behind.ensures.yard;
+      so_far = part_told w u made names part rest c.in-Ok.entries.items c.loop-events.labels.now c.in_ok-labels.labels.now (string_bytes c.loop-events.text) (string_bytes c.write_replies.new.text) _
+          (rw whole at inv.so_far) told.entries told.made told.world text left;
+      world = part_left w u _ made names part rest (rw whole at inv.world) told.made told.world;
+    }
+
+pub returns-clause-text : goal.returns-clause-text
+returns-clause-text c =
+    let none : c.loop-events.events.now ≡ [] = nil_from_length _ (search rules) in
+    all_told (world_of c.loop-events.workers) c.loop-events.made.items c.loop-events.labels.now (string_bytes c.loop-events.text) ∙ (rw none at c.loop-events.invariant.so_far)
+
+pub returns-clause-world : goal.returns-clause-world
+returns-clause-world c =
+    let none : c.loop-events.events.now ≡ [] = nil_from_length _ (search rules) in
+    all_left (world_of c.loop-events.workers) c.loop-events.made.items ∙ (rw none at c.loop-events.invariant.world)
