@@ -4,18 +4,19 @@ use Rattle.std.specs.Option.{option_map_or, unwrap_or}
 use Rattle.std.specs.Prelude.{option_and_then, pos, slice_get}
 use Rattle.std.specs.Str.Parse.{ParsesUnsigned}
 use Rattle.clap.specs.Lexer.{without_minus}
-use Rattle.clap.specs.Matches.{ReadsOne, found_of, one_text, subcommand_name_of}
-use Rattle.clap.specs.Walk.{Row, Text, one_of, rows_of}
+use Rattle.clap.specs.Matches.{ReadsOne, found_of, matched_of, one_text, raw_values, subcommand_name_of}
+use Rattle.clap.specs.Walk.{Row, Text, all_of, one_of, rows_of}
 use Rattle.clap.specs.Words.{subcommand_of, subcommand_rows_of}
 use Rattle.clap.specs.declared.builder.value_parser.ValueParser.TheVariants.{Signed}
 use Rattle.clap.specs.declared.parser.matches.ArgMatches.{ArgMatches}
 use Rattle.clap.proofs.CallerReads.{signed_reads}
 use Rattle.clap.proofs.ValueTestLemmas.{accepts-Accepts}
-use Rattle.clap.proofs.WalkLemmas.{one_text-rows}
-use Rattle.tlsf_command.specs.CommandLine.{Asks, command_in, faults_of, name_of, number_in, text_given, tlsf_app, IsNumberOf}
+use Rattle.clap.proofs.WalkLemmas.{one_text-rows, raw_values-rows}
+use Rattle.tlsf_command.specs.CommandLine.{Asks, command_in, faults_of, name_of, number_in, texts_given, tlsf_app}
+use Rattle.tlsf_command.specs.SizeQuestions.{IsQuestion}
+use Rattle.tlsf_command.specs.declared.size_question.SizeQuestion.{SizeQuestion}
 use Rattle.tlsf_command.specs.declared.command_line.Choice.{Choice}
 use Rattle.tlsf_command.specs.declared.command_line.Choice.TheVariants.{Replay, Race, Classes, Size}
-use Rattle.tlsf_laws.specs.declared.kind.Kind.{Kind}
 use Rattle.tlsf_command.proofs.NamedCommands.{faultless_named, race_named, replay_named, subcommand_name-rows}
 use Rattle.tlsf_command.proofs.SizeWords.{IsSized}
 
@@ -81,14 +82,14 @@ classes_not_replay words called n asks is =
     replay_other (sym (asked_name words _ (Classes n) asks (ap command_in is ∙ replay_named called)))
 
 -- words that ask for a size are not the program's name and `race`
-pub size_not_race : (words : List Text) (called : Text) (kind : Kind) → Asks words (Size kind) → words ≡ called ∷ codes "race" ∷ [] → ⊥
-size_not_race words called kind asks is =
-    size_no_race (asked_name words _ (Size kind) asks (ap command_in is ∙ race_named called))
+pub size_not_race : (words : List Text) (called : Text) (question : SizeQuestion) → Asks words (Size question) → words ≡ called ∷ codes "race" ∷ [] → ⊥
+size_not_race words called question asks is =
+    size_no_race (asked_name words _ (Size question) asks (ap command_in is ∙ race_named called))
 
 -- nor its name and `replay`
-pub size_not_replay : (words : List Text) (called : Text) (kind : Kind) → Asks words (Size kind) → words ≡ called ∷ codes "replay" ∷ [] → ⊥
-size_not_replay words called kind asks is =
-    size_differs (asked_name words _ (Size kind) asks (ap command_in is ∙ replay_named called))
+pub size_not_replay : (words : List Text) (called : Text) (question : SizeQuestion) → Asks words (Size question) → words ≡ called ∷ codes "replay" ∷ [] → ⊥
+size_not_replay words called question asks is =
+    size_differs (asked_name words _ (Size question) asks (ap command_in is ∙ replay_named called))
 
 -- where the command is none of the others it is `replay`
 pub asks_replay : (words : List Text) (matches : ArgMatches) → Answers words matches
@@ -120,34 +121,33 @@ sized_rows words matches answers called = elim (faultless_named words answers.0)
   | inr (inr (inr is)) ↦ absurd (size_other (sym (ap label is.1) ∙ (sym (label_of_words words matches answers) ∙ called)))
 ]
 
--- the text that the words give under an id, by the matches of the command that was entered
-text_entered : (words : List Text) (matches given : ArgMatches) (id name : Text) → Answers words matches
-    → subcommand_name_of matches ≡ Some name
+-- the texts that the words give under an id, by the matches of the command that was entered
+texts_entered : (words : List Text) (matches given : ArgMatches) (id : Text) → Answers words matches
     → option_map (λ (entered : Text × List Row). entered.1) (subcommand_rows_of matches) ≡ Some (rows_of (found_of given))
-    → one_text (found_of given) id ≡ text_given id words
-text_entered words matches given id name answers called entered =
-    one_text-rows (found_of given) id ∙ (sym (ap (option_and_then (one_of id)) entered)
-    ∙ (through (subcommand_rows_of matches) ∙ ap (option_and_then (λ (e : Text × List Row). one_of id e.1)) answers.1))
+    → unwrap_or (option_map raw_values (matched_of (found_of given) id)) [] ≡ texts_given id words
+texts_entered words matches given id answers entered =
+    ap (λ (o : Option (List Text)). unwrap_or o []) (raw_values-rows (found_of given) id ∙ (sym (ap (option_and_then (all_of id)) entered)
+    ∙ (through (subcommand_rows_of matches) ∙ ap (option_and_then (λ (e : Text × List Row). all_of id e.1)) answers.1)))
   where
-    through : (o : Option (Text × List Row)) → option_and_then (one_of id) (option_map (λ (e : Text × List Row). e.1) o)
-        ≡ option_and_then (λ (e : Text × List Row). one_of id e.1) o
+    through : (o : Option (Text × List Row)) → option_and_then (all_of id) (option_map (λ (e : Text × List Row). e.1) o)
+        ≡ option_and_then (λ (e : Text × List Row). all_of id e.1) o
     through None = refl
     through (Some e) = refl
 
--- where the command is `size` the words ask for the numbers that are read of the matches
-pub asks_size : (words : List Text) (matches given : ArgMatches) (kind : Kind) → Answers words matches
+-- where the command is `size` the words ask the question that is made of the matches
+pub asks_size : (words : List Text) (matches given : ArgMatches) (question : SizeQuestion) → Answers words matches
     → subcommand_name_of matches ≡ Some (codes "size")
     → option_map (λ (entered : Text × List Row). entered.1) (subcommand_rows_of matches) ≡ Some (rows_of (found_of given))
-    → IsNumberOf (one_text (found_of given) (codes "B")) kind.most
-    → IsNumberOf (one_text (found_of given) (codes "N")) kind.len
-    → Asks words (Size kind)
-asks_size words matches given kind answers called entered most len = record {
+    → IsQuestion (unwrap_or (option_map raw_values (matched_of (found_of given) (codes "B"))) [])
+    (unwrap_or (option_map raw_values (matched_of (found_of given) (codes "N"))) []) question
+    → Asks words (Size question)
+asks_size words matches given question answers called entered made = record {
   faultless = answers.0;
   named = sym (label_of_words words matches answers) ∙ called;
-  sized = (
-    subst (λ (text : Option Text). IsNumberOf text kind.most) (text_entered words matches given (codes "B") (codes "size") answers called entered) most,
-    subst (λ (text : Option Text). IsNumberOf text kind.len) (text_entered words matches given (codes "N") (codes "size") answers called entered) len,
-  );
+  sized = subst (λ (texts : List Text). IsQuestion (texts_given (codes "B") words) texts question)
+      (texts_entered words matches given (codes "N") answers entered)
+      (subst (λ (texts : List Text). IsQuestion texts (unwrap_or (option_map raw_values (matched_of (found_of given) (codes "N"))) []) question)
+      (texts_entered words matches given (codes "B") answers entered) made);
 }
 
 -- the number that is read of the text of the size

@@ -5,3 +5,4 @@ pub mod SizeWords  -- the words after `classes`: where they come to no fault, th
 pub mod ChosenCommands  -- what the words ask for, by what `clap` answers of them
 pub mod RunEnds  -- how a run ends that `clap` ends by an error
 pub mod Greatest  -- the most bytes for so many blocks
+pub mod SizeTables  -- tables of kinds, and the numbers of texts

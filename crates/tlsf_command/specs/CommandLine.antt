@@ -1,9 +1,10 @@
 -- The command line, by the definitions of `clap`.
-use Rattle.std.specs.Prelude.{◌≡◌, ◌⊎◌, ◌<◌, ◌≤◌, ◌^◌, ⊤, ℕ, true, pos, List, [], Option, Some, None, codes, option_and_then, option_map}
-use Rattle.std.specs.Str.Parse.{IsNumeral, digits_value, without_leading_plus}
-use Rattle.clap.specs.Words.{App, Kinds, Rule, Text, fault_of, new_app, new_rule, one_of, subcommand_of, with_rule, with_subcommand}
-use Rattle.clap.specs.declared.builder.action.ArgAction.TheVariants.{Set}
+use Rattle.std.specs.Prelude.{◌≡◌, ◌≤◌, ◌^◌, ⊤, ℕ, true, pos, List, [], Option, Some, codes, option_and_then, option_map, unwrap_or}
+use Rattle.std.specs.Str.Parse.{digits_value, without_leading_plus}
+use Rattle.clap.specs.Words.{App, Kinds, Rule, Text, all_of, fault_of, new_app, new_rule, one_of, subcommand_of, with_rule, with_subcommand}
+use Rattle.clap.specs.declared.builder.action.ArgAction.TheVariants.{Append, Set}
 use Rattle.clap.specs.declared.builder.value_parser.ValueParser.TheVariants.{Signed}
+use Rattle.tlsf_command.specs.SizeQuestions.{IsQuestion}
 use Rattle.tlsf_command.specs.declared.command_line.Choice.{Choice}
 use Rattle.tlsf_command.specs.declared.command_line.Choice.TheVariants.{Replay, Race, Classes, Size}
 
@@ -19,12 +20,12 @@ size_rule = record (new_rule (codes "N")) {
 abbrev pub classes_app : App
 classes_app = with_rule (new_app (codes "classes")) size_rule
 
--- an option of `size` that is given once, a number from 1 to 2^32 - 1
+-- an option of `size` that is given once or more, each time with a number from 1 to 2^32 - 1
 abbrev pub count_rule : Text → Text → Rule
 count_rule id name = record (new_rule id) {
   long = Some name;
   required = true;
-  action = Some Set;
+  action = Some Append;
   parser = Some (Signed (pos 1) (pos 4294967295));
 }
 
@@ -61,36 +62,25 @@ size_text words =
 abbrev pub number_in : Text → ℕ
 number_in text = digits_value 10 (without_leading_plus text)
 
--- the text that the words give under this id to the command that they name
-abbrev pub text_given : Text → List Text → Option Text
-text_given id words =
-    option_and_then (λ named. one_of id named.1) (subcommand_of tlsf_app words)
-
--- the text is that of a number of 32 bits
-abbrev pub IsNumber : Text → Type 0
-IsNumber text = IsNumeral 10 (without_leading_plus text) × (number_in text < 2 ^ 32)
-
--- n is the number that the text spells, 0 where it spells none of 32 bits or there is no text
-abbrev pub IsNumberOf : Option Text → ℕ → Type 0
-IsNumberOf None n = n ≡ 0
-IsNumberOf (Some text) n = ((n ≡ number_in text) × IsNumber text) ⊎ ((n ≡ 0) × ¬ (IsNumber text))
+-- the texts that the words give under this id to the command that they name, in their order
+abbrev pub texts_given : Text → List Text → List Text
+texts_given id words =
+    unwrap_or (option_and_then (λ named. all_of id named.1) (subcommand_of tlsf_app words)) []
 
 -- how a command line names the choice
 abbrev pub name_of : Choice → Text
 name_of Replay = codes "replay"
 name_of Race = codes "race"
 name_of (Classes n) = codes "classes"
-name_of (Size kind) = codes "size"
+name_of (Size question) = codes "size"
 
--- the size of the choice, where it has one, is the number that the words give, from 4 to 2^20
+-- the size of the choice, where it has one, is the number that the words give, from 4 to 2^20, and its question that of the texts that they give
 abbrev pub HasSize : List Text → Choice → Type 0
 HasSize words Replay = ⊤
 HasSize words Race = ⊤
 HasSize words (Classes n) =
     (option_map number_in (size_text words) ≡ Some n) × (4 ≤ n) × (n ≤ 2 ^ 20)
-HasSize words (Size kind) =
-    IsNumberOf (text_given (codes "B") words) kind.most
-    × IsNumberOf (text_given (codes "N") words) kind.len
+HasSize words (Size question) = IsQuestion (texts_given (codes "B") words) (texts_given (codes "N") words) question
 
 -- the words ask for this and nothing else
 pub record Asks (words : List Text) (choice : Choice) : Type 0 where

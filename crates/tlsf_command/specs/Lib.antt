@@ -1,5 +1,6 @@
 pub mod FaultLines
 pub mod ClassLines
 pub mod SizeLines
+pub mod SizeQuestions
 pub mod CommandLine
 pub mod Runs

@@ -1,5 +1,5 @@
 -- What a run of the program does.
-use Rattle.std.specs.Prelude.{◌≡◌, ◌⊎◌, ℕ, List, Option, Result, Ok, Err}
+use Rattle.std.specs.Prelude.{◌≡◌, ◌⊎◌, ℕ, List, [], ◌∷◌, Option, Result, Ok, Err}
 use Rattle.std.specs.Io.KnownBytes.{Appends, Keeps}
 use Rattle.clap.specs.Words.{IsAmong, Text}
 use Rattle.clap.specs.declared.error.kind.ErrorKind.{ErrorKind}
@@ -7,7 +7,9 @@ use Rattle.clap.specs.declared.error.kind.ErrorKind.TheVariants.{DisplayHelp, Di
 use Rattle.tlsf_command.specs.ClassLines.{class_line}
 use Rattle.tlsf_command.specs.CommandLine.{Asks, faults_of}
 use Rattle.tlsf_command.specs.FaultLines.{fault_line, status_of_fault}
-use Rattle.tlsf_command.specs.SizeLines.{size_line, unreached_line, IsGreatest, IsReached}
+use Rattle.tlsf_command.specs.SizeLines.{size_line, unpaired_line, unreached_line, unreached_table_line, AreReached, IsFirstUnreached, IsGreatest, IsReached}
+use Rattle.tlsf_command.specs.declared.size_question.SizeQuestion.{SizeQuestion}
+use Rattle.tlsf_command.specs.declared.size_question.SizeQuestion.TheVariants.{Table, Unpaired}
 use Rattle.tlsf_laws.specs.declared.kind.Kind.{Kind}
 use Rattle.tlsf_command.specs.declared.command_line.Choice.TheVariants.{Classes, Race, Replay, Size}
 use Rattle.tlsf_trace.specs.Prefixes.{AppendsFront}
@@ -64,28 +66,45 @@ pub record ShowsClasses (n status : ℕ) (old new : Streams) : Type 0 where
   pub ended : ((status ≡ 0) × Appends old.written new.written (class_line n) × (new.errors ≡ old.errors))
       ⊎ ((status ≡ 1) × AppendsFront old.errors new.errors (fault_line write_fault))
 
--- the line on so many blocks of so many bytes was written, or a prefix of it, where a write failed and was reported
-pub record ShowsWords (kind : Kind) (status : ℕ) (old new : Streams) : Type 0 where
-  pub reached : IsReached kind.most kind.len
-  pub front : AppendsFront old.written new.written (size_line kind.most kind.len)
-  pub ended : ((status ≡ 0) × Appends old.written new.written (size_line kind.most kind.len) × (new.errors ≡ old.errors))
+-- the line on the kinds of a table was written, or a prefix of it, where a write failed and was reported
+pub record ShowsWords (kinds : List Kind) (status : ℕ) (old new : Streams) : Type 0 where
+  pub reached : AreReached kinds
+  pub front : AppendsFront old.written new.written (size_line kinds)
+  pub ended : ((status ≡ 0) × Appends old.written new.written (size_line kinds) × (new.errors ≡ old.errors))
       ⊎ ((status ≡ 1) × AppendsFront old.errors new.errors (fault_line write_fault))
 
--- no region reaches so far: nothing was written, and the line that says how far one does was reported
-pub record ShowsUnreached (kind : Kind) (status : ℕ) (old new : Streams) : Type 0 where
-  pub unreached : ¬ (IsReached kind.most kind.len)
+-- the line that says how far a region does reach was reported: of one kind, the most blocks and the most bytes; of several, how
+-- many of the table a region has room for, and the next one
+abbrev pub ReportsUnreached : List Kind → Option (List ℕ) → Option (List ℕ) → Type 0
+ReportsUnreached (kind ∷ []) old new = (blocks : ℕ) × IsGreatest (λ most. IsReached most kind.len) blocks
+    × ((bytes : ℕ) × IsGreatest (λ len. IsReached kind.most len) bytes
+    × AppendsFront old new (unreached_line kind.most kind.len blocks bytes))
+ReportsUnreached kinds old new =
+    (n : ℕ) × (next : Kind) × IsFirstUnreached kinds n next × AppendsFront old new (unreached_table_line n next)
+
+-- no region reaches so far: nothing was written, and the status is 2
+pub record ShowsUnreached (kinds : List Kind) (status : ℕ) (old new : Streams) : Type 0 where
+  pub unreached : ¬ (AreReached kinds)
   pub written : new.written ≡ old.written
   pub status_is : status ≡ 2
-  pub blocks : ℕ
-  pub most_blocks : IsGreatest (λ most. IsReached most kind.len) blocks
-  pub bytes : ℕ
-  pub longest : IsGreatest (λ len. IsReached kind.most len) bytes
-  pub reported : AppendsFront old.errors new.errors (unreached_line kind.most kind.len blocks bytes)
+  pub reported : ReportsUnreached kinds old.errors new.errors
 
--- the words of a region for so many blocks of so many bytes were shown, or it was refused; nothing was read
-pub record ShowsSize (kind : Kind) (status : ℕ) (old new : Streams) : Type 0 where
+-- the words of a region for a table of kinds were shown, or it was refused; nothing was read
+pub record ShowsKinds (kinds : List Kind) (status : ℕ) (old new : Streams) : Type 0 where
   pub left : new.left ≡ old.left
-  pub shown : ShowsWords kind status old new ⊎ ShowsUnreached kind status old new
+  pub shown : ShowsWords kinds status old new ⊎ ShowsUnreached kinds status old new
+
+-- options that are no pairs were refused: nothing was read or written
+pub record ShowsUnpaired (blocks bytes status : ℕ) (old new : Streams) : Type 0 where
+  pub left : new.left ≡ old.left
+  pub written : new.written ≡ old.written
+  pub status_is : status ≡ 2
+  pub reported : AppendsFront old.errors new.errors (unpaired_line blocks bytes)
+
+-- the question was answered
+abbrev pub ShowsSize : SizeQuestion → ℕ → Streams → Streams → Type 0
+ShowsSize (Table kinds) = ShowsKinds kinds.items
+ShowsSize (Unpaired blocks bytes) = ShowsUnpaired blocks bytes
 
 -- a text was shown, or a write failed and was reported
 pub record ShowsText (status : ℕ) (old new : Streams) : Type 0 where
@@ -112,7 +131,7 @@ Ends words status old new = LacksMemory status old new
     ⊎ ((Asks words Replay × RunsReplay status old new)
     ⊎ ((Asks words Race × RunsRace status old new)
     ⊎ (((n : ℕ) × Asks words (Classes n) × ShowsClasses n status old new)
-    ⊎ (((kind : Kind) × Asks words (Size kind) × ShowsSize kind status old new)
+    ⊎ (((question : SizeQuestion) × Asks words (Size question) × ShowsSize question status old new)
     ⊎ ((kind : ErrorKind) × IsAmong kind (faults_of words) × ShowsAnswer kind status old new)))))
 
 -- the run is a replay, unless memory ran out before

@@ -1,16 +1,38 @@
 -- The lines that `tlsf size` writes and reports.
-use Rattle.std.specs.Prelude.{◌≡◌, ◌⊎◌, ◌≤◌, ◌+◌, ◌*◌, ◌/◌, ◌%◌, ◌^◌, ℕ, List, ◌++◌, codes}
+use Rattle.std.specs.Prelude.{◌≡◌, ◌⊎◌, ◌≤◌, ◌+◌, ◌*◌, ◌/◌, ◌%◌, ◌^◌, ℕ, List, [], ◌∷◌, ◌++◌, Some, codes, slice_get, take}
+use Rattle.std.specs.List.{AllByRecursion}
 use Rattle.std.specs.Fmt.{decimal}
 use Rattle.tlsf_heap.specs.Blocks.{want}
+use Rattle.tlsf_laws.specs.Kinds.{kinds_words, HasClass}
 use Rattle.tlsf_laws.specs.Pools.{pool_words}
+use Rattle.tlsf_laws.specs.declared.kind.Kind.{Kind}
 
 -- some region has the words that the law asks for, for so many blocks of so many bytes
 abbrev pub IsReached : ℕ → ℕ → Type 0
 IsReached most len = (1 ≤ most) × (1 ≤ len) × (want len ≤ 2 ^ 20) × (pool_words most len ≤ 2 ^ 20)
 
+-- a kind has a block and a byte, and a class for its requests
+abbrev pub IsServable : Kind → Type 0
+IsServable kind = (1 ≤ kind.most) × (1 ≤ kind.len) × HasClass kind
+
+-- some region has the words that the law asks for, for a table of such kinds
+abbrev pub AreReached : List Kind → Type 0
+AreReached kinds = AllByRecursion IsServable kinds × (kinds_words kinds ≤ 2 ^ 20)
+
 -- the greatest number of which this holds, 0 where it holds of none
 abbrev pub IsGreatest : (ℕ → Type 0) → ℕ → Type 0
 IsGreatest Holds n = (Holds n ⊎ (n ≡ 0)) × ((k : ℕ) → Holds k → k ≤ n)
+
+-- the first n kinds of the table are reached, and with the next one, which this is, they are not
+pub record IsFirstUnreached (kinds : List Kind) (n : ℕ) (next : Kind) : Type 0 where
+  pub reached : AreReached (take n kinds)
+  pub found : slice_get kinds n ≡ Some next
+  pub unreached : ¬ (AreReached (take (n + 1) kinds))
+
+-- the bytes of all blocks of a table
+abbrev pub asked_bytes : List Kind → ℕ
+asked_bytes [] = 0
+asked_bytes (kind ∷ kinds) = kind.most * kind.len + asked_bytes kinds
 
 -- how many hundredths of b there are in a, to the nearest
 abbrev pub hundredths : ℕ → ℕ → ℕ
@@ -21,11 +43,11 @@ abbrev pub ratio_end : ℕ → List ℕ
 ratio_end n = decimal (n / 100) ++ (codes "." ++ (decimal (n / 10 % 10) ++ (decimal (n % 10) ++ codes "\n")))
 
 -- the words of the region, its bytes, and their ratio to the bytes asked for, as `words 13631 bytes 109048 ratio 2.13`
-abbrev pub size_line : ℕ → ℕ → List ℕ
-size_line most len =
-    codes "words " ++ (decimal (pool_words most len)
-    ++ (codes " bytes " ++ (decimal (8 * pool_words most len)
-    ++ (codes " ratio " ++ ratio_end (hundredths (8 * pool_words most len) (most * len))))))
+abbrev pub size_line : List Kind → List ℕ
+size_line kinds =
+    codes "words " ++ (decimal (kinds_words kinds)
+    ++ (codes " bytes " ++ (decimal (8 * kinds_words kinds)
+    ++ (codes " ratio " ++ ratio_end (hundredths (8 * kinds_words kinds) (asked_bytes kinds))))))
 
 -- the refusal, with the most blocks of this length and the most bytes for this many blocks
 abbrev pub unreached_line : (most len blocks bytes : ℕ) → List ℕ
@@ -34,3 +56,16 @@ unreached_line most len blocks bytes =
     ++ (codes " blocks of " ++ (decimal len
     ++ (codes " bytes, or " ++ (decimal most
     ++ (codes " blocks of at most " ++ (decimal bytes ++ codes " bytes\n")))))))
+
+-- the refusal of a table, with the number of pairs for which a region has room, and the kind of the next one
+abbrev pub unreached_table_line : ℕ → Kind → List ℕ
+unreached_table_line n kind =
+    codes "tlsf: no region has so many words: one has room for the first " ++ (decimal n
+    ++ (codes " pairs, but not for " ++ (decimal kind.most
+    ++ (codes " blocks of " ++ (decimal kind.len ++ codes " bytes beside them\n")))))
+
+-- the refusal of options that are no pairs
+abbrev pub unpaired_line : (blocks bytes : ℕ) → List ℕ
+unpaired_line blocks bytes =
+    codes "tlsf: --blocks is given " ++ (decimal blocks
+    ++ (codes " times and --bytes " ++ (decimal bytes ++ codes " times: give 1 to 64 pairs of both\n")))

@@ -1,16 +1,16 @@
 ghost use Rattle.std.specs.Prelude.{◌≡◌, ℕ, List, [], ◌∷◌, codes, false, map, IfErr, IfOk};
-ghost use Rattle.clap.specs.Words.{app_of, found_of, kind_of, new_app, one_text, rule_of, subcommand_of, subcommand_rows_of, FailsBy};
+ghost use Rattle.clap.specs.Words.{app_of, kind_of, new_app, rule_of, subcommand_of, subcommand_rows_of, FailsBy};
 ghost use Rattle.clap.specs.declared.builder.command.Command.TheViews.{out-Command};
-ghost use Rattle.tlsf_command.specs.CommandLine.{classes_app, count_rule, size_app, tlsf_app, faults_of, Asks, IsNumberOf};
+ghost use Rattle.tlsf_command.specs.CommandLine.{classes_app, count_rule, size_app, tlsf_app, faults_of, Asks};
 
+use crate::size_question::SizeQuestion;
 use clap::error::ErrorKind;
 use clap::{Arg, ArgAction, ArgMatches, Command, Error};
 use std::alloc::{AllocError, Global};
 use std::convert::AsStr;
-use tlsf_pool::Kind;
 
 /// What a command line asks for.
-#[derive(Clone, Copy, Debug, PartialEq, Eq)]
+#[derive(Drop)]
 pub enum Choice {
     /// `tlsf replay`: read a trace from standard input, and write its replies and reports to
     /// standard output.
@@ -21,9 +21,9 @@ pub enum Choice {
     /// `tlsf classes N`: write the class and the search class of a size of N words, 4 to 2^20, to
     /// standard output.
     Classes(u32),
-    /// `tlsf size --blocks B --bytes N`: write the words of the least region that never refuses a
-    /// program of at most B blocks at once, of at most N bytes each, to standard output.
-    Size(Kind),
+    /// `tlsf size --blocks B --bytes N ..`: write the words of the least region that never refuses a
+    /// program of at most B blocks of at most N bytes each at once, for each pair, to standard output.
+    Size(SizeQuestion),
 }
 
 const PROGRAM_HELP: &str = "\
@@ -133,6 +133,15 @@ that are asked for. A program that never holds more than 100 blocks, of at most
 allocates and frees. The block that is being asked for counts as held, and so
 does one whose name waits in a lane until its owner takes it.
 
+Several kinds of request are given as pairs, 64 at most: the first --blocks
+belongs to the first --bytes, and so on. For '--blocks 100 --bytes 64 --blocks
+4 --bytes 4096' the line is
+
+  words 59427 bytes 475416 ratio 20.87
+
+A block counts for the first pair that is long enough for it, so short ones
+come first.
+
 Not promised: an allocate or a free is refused as Worn (2) once the ticks of the
 heap have ended, and a request above these bounds may find room or not. Each
 heap has words of its own.
@@ -140,7 +149,9 @@ heap has words of its own.
 The exit status is 0 where the line is written, 1 where a write fails, and 2
 where no region, of 1048576 words at most, is large enough. Standard error then
 has the most blocks of N bytes, and the most bytes for each of B blocks; 0 says
-that there is none.";
+that there is none. Of several pairs it has how many a region has room for, and
+the next one. Where --blocks and --bytes are not given as often as each other,
+the status is 2, and standard error has how often each is given.";
 
 // The command `replay`.
 fn replay_command<'a>(alloc: Global) -> Command<'a>
@@ -180,7 +191,7 @@ fn classes_command<'a>(alloc: Global) -> Result<Command<'a>, AllocError>
         .arg(size)
 }
 
-// An option of `size`, which takes a number.
+// An option of `size`, which takes a number each time it is given.
 fn count_option<'a>(alloc: Global, id: &'a str, name: &'a str, help: &'static str) -> Arg<'a>
     ensures rule { rule_of result ≡ count_rule id.entry.now name.entry.now }
     ensures local { result.global ≡ false }
@@ -189,7 +200,7 @@ fn count_option<'a>(alloc: Global, id: &'a str, name: &'a str, help: &'static st
         .long(name)
         .help(help)
         .required(true)
-        .action(ArgAction::Set)
+        .action(ArgAction::Append)
         .value_parser(clap::value_parser!(u32).range(1..=4_294_967_295))
 }
 
@@ -237,13 +248,6 @@ fn parse<'a, S: AsStr>(alloc: Global, words: &'a [S]) -> Result<ArgMatches<'a>, 
     tlsf_command(alloc)?.try_get_matches_from(words)
 }
 
-// The number that the matches give under this id, 0 where they give none.
-fn number_given(given: &ArgMatches<'_>, id: &str) -> u32
-    ensures { IsNumberOf (one_text (found_of given.now) id.now) result }
-{
-    given.get_one::<u32>(id).unwrap_or(0)
-}
-
 /// Reads the words of a command line, the program's name first.
 ///
 /// An `Err` is what `clap` has to say: a usage error, the help or version text that the words ask
@@ -277,10 +281,7 @@ pub fn choose<'a, S: AsStr>(alloc: Global, words: &'a [S]) -> Result<Choice, Err
         None => match matches.subcommand_matches("race") {
             Some(_) => Ok(Choice::Race),
             None => match matches.subcommand_matches("size") {
-                Some(given) => Ok(Choice::Size(Kind {
-                    most: number_given(given, "B"),
-                    len: number_given(given, "N"),
-                })),
+                Some(given) => Ok(Choice::Size(SizeQuestion::given(alloc, given)?)),
                 None => Ok(Choice::Replay),
             },
         },

@@ -1,13 +1,13 @@
 ghost use Rattle.std.specs.Prelude.{◌≡◌, ◌≤◌, ◌^◌, ℕ, List, [], ◌∷◌, Option, codes, map};
 ghost use Rattle.clap.specs.Words.{kind_of};
 ghost use Rattle.tlsf_command.specs.FaultLines.{fault_line, status_of_fault};
-ghost use Rattle.tlsf_command.specs.Runs.{streams, status_of, Ends, RacesOrLacksMemory, ReplaysOrLacksMemory, Reports, RunsRace, RunsReplay, ShowsAnswer, ShowsClasses, ShowsSize};
+ghost use Rattle.tlsf_command.specs.Runs.{streams, status_of, Ends, RacesOrLacksMemory, ReplaysOrLacksMemory, Reports, RunsRace, RunsReplay, ShowsAnswer, ShowsClasses};
 ghost use Rattle.tlsf_trace.specs.Prefixes.{AppendsFront};
 
 use crate::class_line::write_class_line;
 use crate::command_line::{Choice, choose};
 use crate::fault_report::FaultReport;
-use crate::size_line::{words_for, write_size_line, write_unreached_line};
+use crate::size_run::run_size;
 use clap::error::ErrorKind;
 use std::alloc::Global;
 use std::convert::AsStr;
@@ -16,7 +16,6 @@ use std::marker::Sync;
 use std::sync::Wait;
 use std::thread::Threads;
 use tlsf_crew::Gate;
-use tlsf_pool::Kind;
 use tlsf_trace::{Summary, TraceFault, WriteError, race_trace, replay, write_out};
 
 fn write_line<E: Write>(fault: TraceFault, errors: &mut E) -> Result<(), WriteError>
@@ -30,7 +29,7 @@ fn write_line<E: Write>(fault: TraceFault, errors: &mut E) -> Result<(), WriteEr
 }
 
 // Reports the fault, and gives its exit status, which a fault in writing does not change.
-fn report<E: Write>(fault: TraceFault, errors: &mut E) -> u8
+pub(crate) fn report<E: Write>(fault: TraceFault, errors: &mut E) -> u8
     ensures status { result ≡ status_of_fault fault }
     ensures line { AppendsFront (E.contents errors.old) (E.contents errors.new) (fault_line fault) }
 {
@@ -90,24 +89,6 @@ fn run_classes<W: Write, E: Write>(words: u32, writer: &mut W, errors: &mut E) -
     match write_class_line(words, writer) {
         Ok(()) => 0,
         Err(fault) => report(TraceFault::from(fault), errors),
-    }
-}
-
-// Writes the line on a region for blocks of this kind, and reports a write that fails, or that no region is large enough.
-fn run_size<W: Write, E: Write>(kind: Kind, writer: &mut W, errors: &mut E) -> u8
-    ensures { (left : Option (List ℕ)) → ShowsSize kind result
-        (streams left (W.contents writer.old) (E.contents errors.old))
-        (streams left (W.contents writer.new) (E.contents errors.new)) }
-{
-    match words_for(kind) {
-        Some(words) => match write_size_line(kind, words, writer) {
-            Ok(()) => 0,
-            Err(fault) => report(TraceFault::from(fault), errors),
-        },
-        None => {
-            let _ = write_unreached_line(kind, errors);
-            2
-        }
     }
 }
 
@@ -178,7 +159,7 @@ pub fn run<T: Threads + Wait + Sync, S: AsStr, R: Read, W: Write, E: Write, G: G
         Ok(Choice::Replay) => run_replay(alloc, reader, writer, errors),
         Ok(Choice::Race) => run_race(rt, alloc, reader, writer, errors, gate),
         Ok(Choice::Classes(words)) => run_classes(words, writer, errors),
-        Ok(Choice::Size(kind)) => run_size(kind, writer, errors),
+        Ok(Choice::Size(question)) => run_size(question, writer, errors),
         Err(error) => answer(&error, writer, errors),
     }
 }

@@ -3,14 +3,15 @@
 //!
 //! [`run`] does what the words ask for. `replay` reads a trace, runs it, and writes the reply lines and a report on each
 //! heap. `race` does so with each phase run in threads, one for each worker. `classes N` writes the size class and the
-//! search class of N words. `size --blocks B --bytes N` writes the words of a region that never refuses B blocks of N bytes. Help and version texts are written, and words that are refused are answered on the error
-//! stream. A [`RaceNotice`] shows that a long race is alive.
+//! search class of N words. `size --blocks B --bytes N ..` writes the words of a region that never refuses B blocks of N
+//! bytes, for each pair. Help and version texts are written, and words that are refused are answered on the error stream. A
+//! [`RaceNotice`] shows that a long race is alive.
 //!
 //! | Exit status | When |
 //! |---|---|
 //! | 0 | the run is done, or the class line, the size line, the help or the version text is written |
 //! | 1 | a fault of the trace, a read or a write ended the run; its line is on the error stream |
-//! | 2 | the words of the command line are refused, and the usage is on the error stream; or no region is large enough, and its line is there |
+//! | 2 | the words of the command line are refused, and the usage is on the error stream; or no region is large enough or the options are no pairs, and that line is there |
 //! | 3 | memory ran out; the line `tlsf: out of memory (6)` is on the error stream |
 //!
 //! A write to the error stream that fails changes nothing. [`FaultReport`] is the line of a fault, and its status.
@@ -22,6 +23,9 @@ mod commands;
 mod fault_report;
 mod race_notice;
 mod size_line;
+mod size_question;
+mod size_run;
+mod unreached_table;
 
 pub use commands::run;
 pub use fault_report::FaultReport;

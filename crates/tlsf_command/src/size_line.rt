@@ -1,7 +1,9 @@
-ghost use Rattle.std.specs.Prelude.{◌≡◌, ◌≤◌, ◌*◌, ◌^◌, ℕ, IfOk, IfSome, None, OnOk};
+ghost use Rattle.std.specs.Prelude.{◌≡◌, ◌≤◌, ◌<◌, ◌*◌, ◌^◌, ◌↔◌, ℕ, length, IfOk, IfSome, IsTrue, None, OnOk};
+ghost use Rattle.std.specs.List.{AllByRecursion};
 ghost use Rattle.std.specs.Io.KnownBytes.{Appends};
-ghost use Rattle.tlsf_command.specs.SizeLines.{hundredths, size_line, unreached_line, IsGreatest, IsReached};
-ghost use Rattle.tlsf_laws.specs.Pools.{pool_words};
+ghost use Rattle.tlsf_command.specs.SizeLines.{hundredths, size_line, unreached_line, AreReached, IsGreatest, IsReached, IsServable};
+ghost use Rattle.tlsf_command.specs.SizeLines as spelled;
+ghost use Rattle.tlsf_laws.specs.Kinds as table;
 ghost use Rattle.tlsf_trace.specs.Prefixes.{AppendsFront};
 
 use arrayvec::ArrayString;
@@ -12,44 +14,82 @@ use tlsf_class::MOST_WORDS;
 use tlsf_pool::{Kind, LONGEST, kinds_words, longest_request, most_blocks};
 use tlsf_trace::{WriteError, write_out};
 
-/// The words of the least region that the law admits for blocks of this kind, None where no region has so many, or
-/// where the kind has no block or no byte.
+// Whether the kind has a block and a byte, and a class for its requests.
+fn is_servable(kind: Kind) -> bool
+    ensures { IsTrue result ↔ IsServable kind }
+{
+    kind.most != 0 && kind.len != 0 && kind.len <= LONGEST
+}
+
+// Whether each kind of the table is such.
+fn are_servable(kinds: &[Kind]) -> bool
+    ensures { IsTrue result ↔ AllByRecursion IsServable kinds.now }
+{
+    for kind in kinds {
+        if !is_servable(*kind) {
+            return false;
+        }
+    }
+    true
+}
+
+/// The words of the least region that the law admits for a table of kinds, 1,024 at most; None where no region has so
+/// many, or where a kind has no block or no byte.
 ///
 /// ```
-/// let words = words_for(Kind { most: 100, len: 512 });        // Some(13631)
+/// let words = words_for(&[Kind { most: 100, len: 512 }]);        // Some(13631)
 /// ```
-pub fn words_for(kind: Kind) -> Option<u32>
-    ensures some { IfSome result (λ words. IsReached kind.most kind.len × (words ≡ pool_words kind.most kind.len)) }
-    ensures none { result ≡ None → ¬ (IsReached kind.most kind.len) }
+pub fn words_for(kinds: &[Kind]) -> Option<u32>
+    requires { length kinds.now ≤ 1024 }
+    ensures some { IfSome result (λ words. AreReached kinds.now × (words ≡ table.kinds_words kinds.now)) }
+    ensures none { result ≡ None → ¬ (AreReached kinds.now) }
 {
-    if kind.most == 0 || kind.len == 0 || kind.len > LONGEST {
+    if !are_servable(kinds) {
         return None;
     }
-    let words = kinds_words(&[kind]);
+    let words = kinds_words(kinds);
     if words > u64::from(MOST_WORDS) {
         return None;
     }
     Some(words as u32)
 }
 
-// How many hundredths of the bytes asked for there are in `words` words, to the nearest.
-fn ratio_of(kind: Kind, words: u32) -> u64
-    requires reached { IsReached kind.most kind.len }
-    requires most { words ≤ 2 ^ 20 }
-    ensures { result ≡ hundredths (8 * words) (kind.most * kind.len) }
+// The bytes of all blocks of a table.
+fn asked_bytes(kinds: &[Kind]) -> u64
+    requires few { length kinds.now ≤ 64 }
+    requires reached { AllByRecursion IsServable kinds.now }
+    ensures value { result ≡ spelled.asked_bytes kinds.now }
+    ensures small { result ≤ 2 ^ 62 }
 {
-    let asked = u64::from(kind.most) * u64::from(kind.len);
+    let mut bytes = 0;
+    for kind in kinds {
+        bytes += u64::from(kind.most) * u64::from(kind.len);
+    }
+    bytes
+}
+
+// How many hundredths of the bytes asked for there are in `words` words, to the nearest.
+fn ratio_of(kinds: &[Kind], words: u32) -> u64
+    requires some { 0 < length kinds.now }
+    requires few { length kinds.now ≤ 64 }
+    requires reached { AllByRecursion IsServable kinds.now }
+    requires most { words ≤ 2 ^ 20 }
+    ensures { result ≡ hundredths (8 * words) (spelled.asked_bytes kinds.now) }
+{
+    let asked = asked_bytes(kinds);
     (100 * (8 * u64::from(words)) + asked / 2) / asked
 }
 
-// The line on a region of `words` for this kind, as `words 13631 bytes 109048 ratio 2.13`.
-fn line_of(kind: Kind, words: u32) -> Result<ArrayString<96>, fmt::Error>
-    requires reached { IsReached kind.most kind.len }
-    requires law { words ≡ pool_words kind.most kind.len }
-    ensures { IfOk result (λ line. line.bytes ≡ size_line kind.most kind.len) }
+// The line on a region of `words` for these kinds, as `words 13631 bytes 109048 ratio 2.13`.
+fn line_of(kinds: &[Kind], words: u32) -> Result<ArrayString<96>, fmt::Error>
+    requires some { 0 < length kinds.now }
+    requires few { length kinds.now ≤ 64 }
+    requires reached { AreReached kinds.now }
+    requires law { words ≡ table.kinds_words kinds.now }
+    ensures { IfOk result (λ line. line.bytes ≡ size_line kinds.now) }
 {
     let bytes = 8 * words;
-    let ratio = ratio_of(kind, words);
+    let ratio = ratio_of(kinds, words);
     let whole = ratio / 100;
     let tenth = ratio / 10 % 10;
     let hundredth = ratio % 10;
@@ -61,22 +101,28 @@ fn line_of(kind: Kind, words: u32) -> Result<ArrayString<96>, fmt::Error>
     Ok(line)
 }
 
-/// Writes the line on a region of `words` for blocks of this kind, and flushes: its words, its bytes, and how many times the
-/// bytes asked for these are. After an `Err` a prefix of the line was written.
+/// Writes the line on a region of `words` for a table of 1 to 64 kinds, and flushes: its words, its bytes, and how many
+/// times the bytes asked for these are. After an `Err` a prefix of the line was written.
 ///
 /// ```
-/// write_size_line(Kind { most: 100, len: 512 }, 13631, &mut writer)?;
+/// write_size_line(&[Kind { most: 100, len: 512 }], 13631, &mut writer)?;
 /// // writer holds "words 13631 bytes 109048 ratio 2.13\n" more
 /// ```
-pub fn write_size_line<W: Write>(kind: Kind, words: u32, writer: &mut W) -> Result<(), WriteError>
-    requires reached { IsReached kind.most kind.len }
-    requires law { words ≡ pool_words kind.most kind.len }
+pub fn write_size_line<W: Write>(
+    kinds: &[Kind],
+    words: u32,
+    writer: &mut W,
+) -> Result<(), WriteError>
+    requires some { 0 < length kinds.now }
+    requires few { length kinds.now ≤ 64 }
+    requires reached { AreReached kinds.now }
+    requires law { words ≡ table.kinds_words kinds.now }
     ensures front { AppendsFront (W.contents writer.old) (W.contents writer.new)
-        (size_line kind.most kind.len) }
+        (size_line kinds.now) }
     ensures ok { OnOk result (Appends (W.contents writer.old) (W.contents writer.new)
-        (size_line kind.most kind.len)) }
+        (size_line kinds.now)) }
 {
-    match line_of(kind, words) {
+    match line_of(kinds, words) {
         Ok(line) => write_out(writer, line.as_bytes()),
         // The line has at most 60 bytes and 96 have room, but no clause of the line says so.
         Err(_) => Err(WriteError),

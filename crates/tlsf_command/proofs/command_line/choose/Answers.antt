@@ -50,4 +50,4 @@ returns-in-Some-subcommand_matches-2-clause-asked g c =
     let words = map g.S.AsStr.text c.args.words.now in
     asks_size words c.in_ok-matches.matches c.in-Some-subcommand_matches-2.given.now _
     (c.in_ok-matches.ensures.kinds, c.in_ok-matches.ensures.named) (c.in-Some-subcommand_matches-2.ensures.found.0 refl)
-    c.in-Some-subcommand_matches-2.ensures.rows c.number_given.ensures c.number_given-in-Some-subcommand_matches-2.ensures
+    c.in-Some-subcommand_matches-2.ensures.rows c.in_ok-given-in-Some-subcommand_matches-2.ensures

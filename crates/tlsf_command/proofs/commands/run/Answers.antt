@@ -1,6 +1,7 @@
 use Rattle.std.proofs.Common.{inl, inr}
 use Rattle.tlsf_command.specs.Runs.{RacesOrLacksMemory, ReplaysOrLacksMemory, streams}
 use Rattle.tlsf_command.proofs.ChosenCommands.{classes_not_race, classes_not_replay, race_not_replay, replay_not_race, size_not_race, size_not_replay}
+use Rattle.tlsf_command.proofs.SizeTables.{has_table}
 use Rattle.tlsf_command.proofs.RunEnds.{answer_ends, answer_lacks}
 use Rattle.tlsf_command.proofs.commands.run.Goals as goal
 
@@ -40,7 +41,7 @@ returns-in-Ok-Classes-clause-race g c =
 pub returns-in-Ok-Size-clause-ends : goal.returns-in-Ok-Size-clause-ends
 returns-in-Ok-Size-clause-ends g c =
     let asks = rw c.in-Ok-Size.field-0-is at c.in-Ok-Size.ensures.asked in
-    inr (inr (inr (inr (inl (c.in-Ok-Size.kind, asks, c.run_size.ensures (g.R.Read.remaining c.args.reader.now))))))
+    inr (inr (inr (inr (inl (c.in-Ok-Size.question, asks, c.run_size.ensures (g.R.Read.remaining c.args.reader.now))))))
 
 pub returns-in-Ok-Size-clause-replay : goal.returns-in-Ok-Size-clause-replay
 returns-in-Ok-Size-clause-replay g c =
@@ -48,7 +49,7 @@ returns-in-Ok-Size-clause-replay g c =
     λ called is. absurd {A = ReplaysOrLacksMemory c.run_size.result
     (streams (g.R.Read.remaining c.args.reader.now) (g.W.Write.contents c.args.writer.now) (g.E.Write.contents c.args.errors.now))
     (streams (g.R.Read.remaining c.args.reader.now) (g.W.Write.contents c.run_size.new.writer) (g.E.Write.contents c.run_size.new.errors))}
-    (size_not_replay _ called c.in-Ok-Size.kind asks is)
+    (size_not_replay _ called c.in-Ok-Size.question asks is)
 
 pub returns-in-Ok-Size-clause-race : goal.returns-in-Ok-Size-clause-race
 returns-in-Ok-Size-clause-race g c =
@@ -56,7 +57,7 @@ returns-in-Ok-Size-clause-race g c =
     λ called is. absurd {A = RacesOrLacksMemory c.run_size.result
     (streams (g.R.Read.remaining c.args.reader.now) (g.W.Write.contents c.args.writer.now) (g.E.Write.contents c.args.errors.now))
     (streams (g.R.Read.remaining c.args.reader.now) (g.W.Write.contents c.run_size.new.writer) (g.E.Write.contents c.run_size.new.errors))}
-    (size_not_race _ called c.in-Ok-Size.kind asks is)
+    (size_not_race _ called c.in-Ok-Size.question asks is)
 
 pub returns-in-Ok-Race-clause-replay : goal.returns-in-Ok-Race-clause-replay
 returns-in-Ok-Race-clause-replay g c =
@@ -73,3 +74,8 @@ returns-in-Ok-Replay-clause-race g c =
     (streams (g.R.Read.remaining c.args.reader.now) (g.W.Write.contents c.args.writer.now) (g.E.Write.contents c.args.errors.now))
     (streams (g.R.Read.remaining c.run_replay.new.reader) (g.W.Write.contents c.run_replay.new.writer) (g.E.Write.contents c.run_replay.new.errors))}
     (replay_not_race _ called asks is)
+
+pub run_size-requires : goal.run_size-requires
+run_size-requires g c =
+    let asks = rw c.in-Ok-Size.field-0-is at c.in-Ok-Size.ensures.asked in
+    has_table _ _ c.in-Ok-Size.question asks.sized

@@ -1,0 +1,112 @@
+-- Tables of kinds, and the numbers of texts.
+use Rattle.std.proofs.Common.{◌≡◌, ◌≤◌, ◌<◌, ◌+◌, ◌*◌, ◌^◌, ℕ, zero, suc, Bool, true, false, cond, List, [], ◌∷◌, Some, Result, Ok, Err, get_or, ◌∙◌, length, drop, refl, sym, ap, subst, arith}
+use Rattle.std.proofs.Math.Nat.{mul-le-mul}
+use Rattle.std.specs.Prelude.{slice_get}
+use Rattle.std.specs.List.{AllByRecursion}
+use Rattle.std.specs.Result.{result_unwrap_or}
+use Rattle.std.specs.Str.Parse.{ParsesUnsigned, digits_value, without_leading_plus}
+use Rattle.clap.specs.ValueTests.{accepts}
+use Rattle.clap.specs.declared.builder.value_parser.ValueParser.TheVariants.{Unsigned}
+use Rattle.clap.proofs.ValueTestLemmas.{accepts-Accepts, Accepts-accepts}
+use Rattle.tlsf_command.specs.SizeLines.{asked_bytes, AreReached, IsReached, IsServable}
+use Rattle.clap.specs.Words.{Text}
+use Rattle.tlsf_command.specs.SizeQuestions.{kinds_in, number_of, HasTable, IsQuestion}
+use Rattle.tlsf_command.specs.declared.size_question.SizeQuestion.{SizeQuestion}
+use Rattle.tlsf_command.specs.declared.size_question.SizeQuestion.TheVariants.{Table, Unpaired}
+use Rattle.tlsf_laws.specs.Kinds.{HasClass}
+use Rattle.tlsf_laws.specs.declared.kind.Kind.{Kind}
+use Rattle.tlsf_laws.proofs.PlannedCalls.{one_kind}
+
+-- ---- numbers
+
+by_test : (b : Bool) (v : ℕ) → (b ≡ true → ⊥) → 0 ≡ cond b v 0
+by_test true v h = absurd (h refl)
+by_test false v h = refl
+
+within : (n : ℕ) → n < 2 ^ 32 → n ≤ 4294967295
+within n few = omega (arith, few)
+
+below : (n : ℕ) → n ≤ 4294967295 → n < 2 ^ 32
+below n few = omega (arith, few)
+
+wide : (n : ℕ) → n < 2 ^ 32 → n < 2 ^ 64
+wide n few = omega (arith, few)
+
+least : (n : ℕ) → 0 ≤ n
+least n = omega arith
+
+-- what is read of a text is its number
+pub number_read : {E : Type 0} (text : List ℕ) (r : Result ℕ E) → ParsesUnsigned 32 10 text r → result_unwrap_or r 0 ≡ number_of text
+number_read text (Ok n) is =
+    let v = digits_value 10 (without_leading_plus text) in
+    rw (Accepts-accepts false (Unsigned 0 4294967295) text (is.0.0, wide v is.0.1, least v, within v is.0.1)) is.1
+number_read text (Err e) is =
+    let v = digits_value 10 (without_leading_plus text) in
+    by_test (accepts false (Unsigned 0 4294967295) text) v (λ taken.
+    let told = accepts-Accepts false (Unsigned 0 4294967295) text taken in is (told.0, below v told.3))
+
+-- ---- kinds of a table
+
+pub servable_at : (kinds : List Kind) (i : ℕ) (d : Kind) → AllByRecursion IsServable kinds → i < length kinds → IsServable (get_or kinds i d)
+servable_at [] i d all within = absurd (omega (arith, within))
+servable_at (k ∷ kinds) zero d all within = all.0
+servable_at (k ∷ kinds) (suc i) d all within = servable_at kinds i d all.1 (omega arith)
+
+-- each has a class
+pub classes : (kinds : List Kind) → AllByRecursion IsServable kinds → AllByRecursion HasClass kinds
+classes [] all = tt
+classes (k ∷ kinds) all = (all.0.2, classes kinds all.1)
+
+-- all that are left, by the next one and those behind it
+pub all_split : (kinds : List Kind) (i : ℕ) (d : Kind) → i < length kinds → AllByRecursion IsServable (drop i kinds)
+    → IsServable (get_or kinds i d) × AllByRecursion IsServable (drop (suc i) kinds)
+all_split [] i d within all = absurd (omega (arith, within))
+all_split (k ∷ kinds) zero d within all = all
+all_split (k ∷ kinds) (suc i) d within all = all_split kinds i d (omega arith) all
+
+pub all_join : (kinds : List Kind) (i : ℕ) (d : Kind) → i < length kinds → IsServable (get_or kinds i d)
+    → AllByRecursion IsServable (drop (suc i) kinds) → AllByRecursion IsServable (drop i kinds)
+all_join [] i d within one all = absurd (omega (arith, within))
+all_join (k ∷ kinds) zero d within one all = (one, all)
+all_join (k ∷ kinds) (suc i) d within one all = all_join kinds i d (omega arith) one all
+
+products : (a b c d : ℕ) → a ≤ b → c ≤ d → a * c ≤ b * d
+products a b c d f g = mul-le-mul f g
+
+short : (k : Kind) → HasClass k → k.len ≤ 2 ^ 23
+short k class = omega (arith, class)
+
+-- the bytes of one kind
+pub bytes_small : (k : Kind) → k.most < 2 ^ 32 → HasClass k → k.most * k.len ≤ 2 ^ 55
+bytes_small k few class = omega (arith, products k.most (2 ^ 32) k.len (2 ^ 23) (omega (arith, few)) (short k class))
+
+one_byte : (a b c : ℕ) → 1 ≤ a → 1 ≤ b → 1 ≤ a * b + c
+one_byte a b c f g = omega (arith, products 1 a 1 b f g)
+
+-- a table of such kinds asks for a byte
+pub some_byte : (kinds : List Kind) → 0 < length kinds → AllByRecursion IsServable kinds → 1 ≤ asked_bytes kinds
+some_byte [] some all = absurd (omega (arith, some))
+some_byte (k ∷ kinds) some all = one_byte k.most k.len (asked_bytes kinds) all.0.0 all.0.1
+
+-- no kind at all is reached
+pub none_reached : AreReached []
+none_reached = (tt, least (2 ^ 20))
+
+-- the kind at a place within the table
+pub found_at : (kinds : List Kind) (i : ℕ) → i < length kinds → (k : Kind) × (slice_get kinds i ≡ Some k)
+found_at [] i within = absurd (omega (arith, within))
+found_at (k ∷ kinds) zero within = (k, refl)
+found_at (k ∷ kinds) (suc i) within = found_at kinds i (omega arith)
+
+-- as many kinds as pairs
+kinds_count : (blocks bytes : List Text) → length blocks ≡ length bytes → length (kinds_in blocks bytes) ≡ length blocks
+kinds_count [] bytes same = refl
+kinds_count (most ∷ blocks) [] same = sym same
+kinds_count (most ∷ blocks) (len ∷ bytes) same = let fewer : length blocks ≡ length bytes = omega (arith, same) in ap (λ n. suc n) (kinds_count blocks bytes fewer)
+
+-- the table of a question has 1 to 64 kinds
+pub has_table : (blocks bytes : List Text) (question : SizeQuestion) → IsQuestion blocks bytes question → HasTable question
+has_table blocks bytes (Table kinds) is =
+    let count : length kinds.items ≡ length blocks = ap (λ (ks : List Kind). length ks) is.1 ∙ kinds_count blocks bytes is.0.0 in
+    (omega (arith, count, is.0.1), omega (arith, count, is.0.2))
+has_table blocks bytes (Unpaired m n) is = tt

@@ -1,0 +1,8 @@
+use Rattle.std.proofs.Common.{◌↔◌, drop}
+use Rattle.std.specs.List.{AllByRecursion}
+use Rattle.tlsf_command.specs.SizeLines.{IsServable}
+use Rattle.tlsf_command.proofs.size_line.are_servable.Given as goal
+
+-- all are such where those that are left are
+abbrev pub invariant-loop-kind : goal.invariant-loop-kind
+invariant-loop-kind l = AllByRecursion IsServable (drop l.kind-index l.kinds) ↔ AllByRecursion IsServable l.kinds

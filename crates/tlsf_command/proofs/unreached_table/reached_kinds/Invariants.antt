@@ -1,0 +1,12 @@
+use Rattle.std.proofs.Common.{◌<◌, ◌-◌, length, take}
+use Rattle.tlsf_command.specs.SizeLines.{AreReached}
+use Rattle.tlsf_command.proofs.unreached_table.reached_kinds.Given as goal
+
+abbrev pub invariant-loop-reached : goal.invariant-loop-reached
+invariant-loop-reached l = record {
+  below : l.reached < length l.kinds;
+  front : AreReached (take l.reached l.kinds);
+}
+
+abbrev pub decreases-loop-reached : goal.decreases-loop-reached
+decreases-loop-reached l = length l.kinds - l.reached

@@ -1,0 +1,32 @@
+-- What `tlsf size` is asked for: a table of kinds of request, of the texts behind `--blocks` and `--bytes`.
+use Rattle.std.specs.Prelude.{◌≡◌, ◌≤◌, ◌<◌, ⊤, ℕ, List, [], ◌∷◌, length, if◌then◌else◌}
+use Rattle.std.specs.Str.Parse.{digits_value, without_leading_plus}
+use Rattle.clap.specs.ValueTests.{is_unsigned_in}
+use Rattle.clap.specs.Words.{Text}
+use Rattle.tlsf_laws.specs.declared.kind.Kind.{Kind}
+use Rattle.tlsf_command.specs.declared.size_question.SizeQuestion.{SizeQuestion}
+use Rattle.tlsf_command.specs.declared.size_question.SizeQuestion.TheVariants.{Table, Unpaired}
+
+-- the number of 32 bits that the text spells, behind a plus sign if there is one; 0 where it spells none
+abbrev pub number_of : Text → ℕ
+number_of text = if is_unsigned_in 0 4294967295 text then digits_value 10 (without_leading_plus text) else 0
+
+-- a kind for each pair: the first number of blocks with the first number of bytes, and so on
+abbrev pub kinds_in : (blocks bytes : List Text) → List Kind
+kinds_in [] bytes = []
+kinds_in (most ∷ blocks) [] = []
+kinds_in (most ∷ blocks) (len ∷ bytes) = record { most = number_of most; len = number_of len } ∷ kinds_in blocks bytes
+
+-- so many numbers of blocks and of bytes make a table: as many of each, 1 to 64
+abbrev pub MakesTable : (blocks bytes : ℕ) → Type 0
+MakesTable blocks bytes = (blocks ≡ bytes) × (1 ≤ blocks) × (blocks ≤ 64)
+
+-- the question that these texts make: about the table of their pairs, or about none
+abbrev pub IsQuestion : (blocks bytes : List Text) → SizeQuestion → Type 0
+IsQuestion blocks bytes (Table kinds) = MakesTable (length blocks) (length bytes) × (kinds.items ≡ kinds_in blocks bytes)
+IsQuestion blocks bytes (Unpaired m n) = ¬ (MakesTable (length blocks) (length bytes)) × (m ≡ length blocks) × (n ≡ length bytes)
+
+-- its table, if it has one, has 1 to 64 kinds
+abbrev pub HasTable : SizeQuestion → Type 0
+HasTable (Table kinds) = (0 < length kinds.items) × (length kinds.items ≤ 64)
+HasTable (Unpaired m n) = ⊤

@@ -1,0 +1,83 @@
+ghost use Rattle.std.specs.Prelude.{◌≡◌, [], codes, length, map, option_map, IfOk};
+ghost use Rattle.std.specs.Option.{option_map_or, unwrap_or};
+ghost use Rattle.clap.specs.Words.{found_of, matched_of, raw_values};
+ghost use Rattle.tlsf_command.specs.SizeQuestions;
+ghost use Rattle.tlsf_command.specs.SizeQuestions.{kinds_in, IsQuestion};
+
+use clap::ArgMatches;
+use std::alloc::{AllocError, Global};
+use tlsf_pool::Kind;
+
+/// The most kinds of request that a command line may give.
+pub const MOST_KINDS: usize = 64;
+
+/// What `tlsf size` is asked for.
+#[derive(Drop)]
+pub enum SizeQuestion {
+    /// The words for these kinds of request, 1 to [`MOST_KINDS`]: one for each pair of `--blocks` and `--bytes`, in their order.
+    Table(Vec<Kind>),
+    /// No table: so many times `--blocks`, and so many times `--bytes`.
+    Unpaired(usize, usize),
+}
+
+// The number that the text spells, 0 where it spells none of 32 bits.
+fn number_of(text: &str) -> u32
+    ensures { result ≡ SizeQuestions.number_of text.now }
+{
+    text.parse().unwrap_or(0)
+}
+
+// The kinds of as many numbers of blocks as of bytes, the i-th of these with the i-th of those.
+fn kinds_of(alloc: Global, blocks: &[&str], bytes: &[&str]) -> Result<Vec<Kind>, AllocError>
+    requires { length blocks.now ≡ length bytes.now }
+    ensures { IfOk result (λ kinds. kinds.items ≡ kinds_in (map (λ text. text.now) blocks.now) (map (λ text. text.now) bytes.now)) }
+{
+    let mut kinds = Vec::new(alloc);
+    for index in 0..blocks.len() {
+        kinds.push(Kind {
+            most: number_of(blocks[index]),
+            len: number_of(bytes[index]),
+        })?;
+    }
+    Ok(kinds)
+}
+
+// How many texts were given.
+fn count_of(texts: Option<&[&str]>) -> usize
+    ensures { result ≡ option_map_or (λ given. length given.now) texts.entry 0 }
+{
+    match texts {
+        Some(texts) => texts.len(),
+        None => 0,
+    }
+}
+
+impl SizeQuestion {
+    // The question of so many texts behind `--blocks` and behind `--bytes`.
+    fn of_texts(alloc: Global, blocks: &[&str], bytes: &[&str]) -> Result<SizeQuestion, AllocError>
+        ensures { IfOk result (IsQuestion (map (λ text. text.now) blocks.now) (map (λ text. text.now) bytes.now)) }
+    {
+        if blocks.len() == bytes.len() && !blocks.is_empty() && blocks.len() <= MOST_KINDS {
+            return Ok(SizeQuestion::Table(kinds_of(alloc, blocks, bytes)?));
+        }
+        Ok(SizeQuestion::Unpaired(blocks.len(), bytes.len()))
+    }
+
+    /// The question of what the matches of `size` give. An `Err` says that memory ran out.
+    ///
+    /// ```
+    /// // of "--blocks 100 --bytes 64 --blocks 4 --bytes 4096"
+    /// let question = SizeQuestion::given(alloc, &matches)?;
+    /// // question is about the table of 100 blocks of 64 bytes and 4 of 4096
+    /// ```
+    pub fn given(alloc: Global, given: &ArgMatches<'_>) -> Result<SizeQuestion, AllocError>
+        ensures { IfOk result (IsQuestion
+            (unwrap_or (option_map raw_values (matched_of (found_of given.now) (codes "B"))) [])
+            (unwrap_or (option_map raw_values (matched_of (found_of given.now) (codes "N"))) [])) }
+    {
+        match (given.get_raw("B"), given.get_raw("N")) {
+            (Some(blocks), Some(bytes)) => SizeQuestion::of_texts(alloc, blocks, bytes),
+            (blocks, bytes) => Ok(SizeQuestion::Unpaired(count_of(blocks), count_of(bytes))),
+        }
+    }
+}

@@ -1,0 +1,66 @@
+ghost use Rattle.std.specs.Prelude.{◌≤◌, ◌<◌, ℕ, List, Option, length};
+ghost use Rattle.tlsf_command.specs.Runs.{streams, ReportsUnreached, ShowsKinds, ShowsSize};
+ghost use Rattle.tlsf_command.specs.SizeLines.{AreReached};
+ghost use Rattle.tlsf_command.specs.SizeQuestions.{HasTable};
+
+use crate::commands::report;
+use crate::size_line::{words_for, write_size_line, write_unreached_line};
+use crate::size_question::SizeQuestion;
+use crate::unreached_table::{write_unpaired_line, write_unreached_table_line};
+use std::io::Write;
+use tlsf_pool::Kind;
+use tlsf_trace::TraceFault;
+
+// Reports that no region reaches so far. A write that fails changes nothing.
+fn report_unreached<E: Write>(kinds: &[Kind], errors: &mut E)
+    requires few { length kinds.now ≤ 64 }
+    requires unreached { ¬ (AreReached kinds.now) }
+    ensures { ReportsUnreached kinds.now (E.contents errors.old) (E.contents errors.new) }
+{
+    if kinds.len() == 1 {
+        let _ = write_unreached_line(kinds[0], errors);
+    } else {
+        let _ = write_unreached_table_line(kinds, errors);
+    }
+}
+
+// Writes the line on a region for these kinds, and reports a write that fails, or that no region is large enough.
+fn show_kinds<W: Write, E: Write>(kinds: &[Kind], writer: &mut W, errors: &mut E) -> u8
+    requires some { 0 < length kinds.now }
+    requires few { length kinds.now ≤ 64 }
+    ensures { (left : Option (List ℕ)) → ShowsKinds kinds.now result
+        (streams left (W.contents writer.old) (E.contents errors.old))
+        (streams left (W.contents writer.new) (E.contents errors.new)) }
+{
+    match words_for(kinds) {
+        Some(words) => match write_size_line(kinds, words, writer) {
+            Ok(()) => 0,
+            Err(fault) => report(TraceFault::from(fault), errors),
+        },
+        None => {
+            report_unreached(kinds, errors);
+            2
+        }
+    }
+}
+
+/// Answers the question, and gives the exit status: 0 where the line is written, 1 where a write failed, and 2 where no
+/// region is large enough, or where the options are no pairs.
+///
+/// ```
+/// let status = run_size(question, &mut writer, &mut errors);
+/// ```
+pub fn run_size<W: Write, E: Write>(question: SizeQuestion, writer: &mut W, errors: &mut E) -> u8
+    requires { HasTable question }
+    ensures { (left : Option (List ℕ)) → ShowsSize question result
+        (streams left (W.contents writer.old) (E.contents errors.old))
+        (streams left (W.contents writer.new) (E.contents errors.new)) }
+{
+    match question {
+        SizeQuestion::Table(kinds) => show_kinds(&kinds, writer, errors),
+        SizeQuestion::Unpaired(blocks, bytes) => {
+            let _ = write_unpaired_line(blocks, bytes, errors);
+            2
+        }
+    }
+}
