@@ -1,0 +1,120 @@
+use std::alloc::Global;
+use std::process::Abort;
+use std::test::Fail;
+use tlsf_fixtures::{name, same};
+use tlsf_heap::{Heap, Name, OpenFault, Refusal};
+
+/// What a heap is asked for.
+#[derive(Clone, Copy)]
+pub enum Ask {
+    Allocate(u32),
+    Release(Name),
+}
+
+/// The name that was given, if any.
+pub type Answer = Result<Option<Name>, Refusal>;
+
+/// Asks a new heap, and holds each answer to the one that is wanted.
+fn check_asks(
+    rt: &impl Abort,
+    alloc: Global,
+    first: u64,
+    rows: &[(Ask, Answer)],
+) -> Result<(), OpenFault> {
+    let mut heap = Heap::open(alloc, 0, 64, first)?;
+    for (i, (ask, wanted)) in rows.iter().enumerate() {
+        let answer = match *ask {
+            Ask::Allocate(len) => heap.allocate(len).map(Some),
+            Ask::Release(name) => heap.release(name).map(|()| None),
+        };
+        same((i, answer), (i, *wanted)).expect(rt, "differ");
+    }
+    Ok(())
+}
+
+#[test]
+fn forged_names_are_stale(rt: HostRuntime) -> Result<(), Fail> {
+    let rows = [
+        (Ask::Allocate(8), Ok(Some(name(0, 0, 1)))),
+        (Ask::Allocate(100), Ok(Some(name(0, 4, 2)))),
+        (Ask::Release(name(0, 5, 2)), Err(Refusal::Stale)),
+        (Ask::Release(name(0, 64, 1)), Err(Refusal::Stale)),
+        (Ask::Release(name(0, 20, 2)), Err(Refusal::Stale)),
+        (Ask::Release(name(0, 4, 1)), Err(Refusal::Stale)),
+        (Ask::Release(name(0, u32::MAX, 0)), Err(Refusal::Stale)),
+        (Ask::Release(name(1, 4, 2)), Err(Refusal::Foreign)),
+        (Ask::Release(name(0, 4, 2)), Ok(None)),
+        (Ask::Release(name(0, 4, 2)), Err(Refusal::Stale)),
+    ];
+    check_asks(&rt, rt.alloc(), 0, &rows)?;
+    Ok(())
+}
+
+#[test]
+fn worn_at_the_last_tick(rt: HostRuntime) -> Result<(), Fail> {
+    let last = name(0, 0, u64::MAX - 1);
+    let worn = [
+        (Ask::Allocate(8), Err(Refusal::Worn)),
+        (Ask::Allocate(4000), Err(Refusal::NoFit)),
+    ];
+    let wears = [
+        (Ask::Allocate(8), Ok(Some(last))),
+        (Ask::Release(last), Err(Refusal::Worn)),
+        (Ask::Allocate(8), Err(Refusal::Worn)),
+    ];
+    check_asks(&rt, rt.alloc(), u64::MAX - 1, &worn)?;
+    check_asks(&rt, rt.alloc(), u64::MAX - 2, &wears)?;
+    Ok(())
+}
+
+#[test]
+fn open_refuses_in_order(rt: HostRuntime) {
+    for (words, first, fault) in [
+        (3, 0, Some(OpenFault::BadSize)),
+        ((1 << 20) + 1, 0, Some(OpenFault::BadSize)),
+        (3, u64::MAX, Some(OpenFault::BadSize)),
+        (64, u64::MAX, Some(OpenFault::Worn)),
+        (4, 0, None),
+        (1 << 20, 0, None),
+    ] {
+        let refused = Heap::open(rt.alloc(), 0, words, first).err();
+        same((words, first, refused), (words, first, fault)).expect(&rt, "differ");
+    }
+}
+
+#[test]
+fn refusals_have_their_numbers(rt: HostRuntime) -> Result<(), Fail> {
+    let refusals = [
+        Refusal::NoFit,
+        Refusal::Worn,
+        Refusal::Foreign,
+        Refusal::Stale,
+        Refusal::Range,
+    ];
+    let faults = [OpenFault::BadSize, OpenFault::Worn, OpenFault::NoMemory];
+    let found = (
+        refusals.map(|refusal| refusal.number()),
+        faults.map(|fault| fault.number()),
+    );
+    same(found, ([1, 2, 3, 4, 7], [5, 2, 6])).expect(&rt, "differ");
+    let text = Refusal::NoFit.to_string(rt.alloc())?;
+    same(text.as_str(), "no free block fits").expect(&rt, "differ");
+    Ok(())
+}
+
+/// The example of the README.
+fn first_block(alloc: Global) -> Result<u64, OpenFault> {
+    let mut heap = Heap::open(alloc, 0, 64, 0)?;
+    match heap.allocate(100) {
+        Ok(name) => {
+            let _ = heap.release(name);
+            Ok(name.serial)
+        }
+        Err(_) => Ok(0),
+    }
+}
+
+#[test]
+fn example_of_the_readme(rt: HostRuntime) {
+    same(first_block(rt.alloc()), Ok(1)).expect(&rt, "differ");
+}

@@ -1,0 +1,88 @@
+use crate::tests::lanes::post;
+use std::alloc::AllocError;
+use std::sync::Wait;
+use std::sync::atomic::{AtomicU64, Ordering};
+use std::test::Fail;
+use std::thread;
+use std::thread::{Threads, yield_now};
+use tlsf_fixtures::same;
+use tlsf_post::{Post, PostEnd, TakeEnd, lane};
+
+/// How often a thread looks for the other at most.
+const TURNS: u64 = 100_000_000;
+
+/// What two threads tell each other beside the lane.
+#[derive(Drop)]
+struct Flags {
+    posted: AtomicU64,
+    taken: AtomicU64,
+}
+
+fn set(flag: &AtomicU64) {
+    flag.store(1, Ordering::SeqCst);
+}
+
+/// Turns until the flag is set. Tells whether it was.
+fn seen(flag: &AtomicU64) -> bool {
+    for _ in 0..TURNS {
+        if flag.load(Ordering::SeqCst) == 1 {
+            return true;
+        }
+        yield_now();
+    }
+    false
+}
+
+/// Sends one post, and a second one once the first was taken. Tells whether both were sent.
+fn send_two(mut end: PostEnd, flags: &Flags) -> bool {
+    let first = end.put(post(1)).is_ok();
+    set(&flags.posted);
+    seen(&flags.taken) && end.put(post(2)).is_ok() && first
+}
+
+/// Takes one post once it was sent, tells so, and turns until there is a second one.
+fn take_two(mut end: TakeEnd, flags: &Flags) -> (Option<Post>, Option<Post>) {
+    let in_time = seen(&flags.posted);
+    let first = end.take();
+    set(&flags.taken);
+    if !in_time || first.is_none() {
+        return (first, None);
+    }
+    for _ in 0..TURNS {
+        let second = end.take();
+        if second.is_some() {
+            return (first, second);
+        }
+        yield_now();
+    }
+    (first, None)
+}
+
+/// Whether both posts were sent, and the two that were taken.
+type Passed = (bool, (Option<Post>, Option<Post>));
+
+/// Sends in another thread what this one takes, and never brings the ends beside each other.
+fn pass_two<R: Threads + Wait + Sync>(
+    rt: &R,
+    post_end: PostEnd,
+    take_end: TakeEnd,
+) -> Result<Passed, AllocError> {
+    let flags = Flags {
+        posted: AtomicU64::new(0),
+        taken: AtomicU64::new(0),
+    };
+    let shared = &flags;
+    thread::scope(thread::scope_env(), rt, move |scope| {
+        let child = scope.spawn(move || send_two(post_end, shared))?;
+        let taken = take_two(take_end, shared);
+        Ok((child.join(rt), taken))
+    })
+}
+
+#[test]
+fn posts_pass_and_slots_come_back_between_threads(rt: HostRuntime) -> Result<(), Fail> {
+    let (post_end, take_end) = lane(rt.alloc(), 1)?;
+    let passed = pass_two(&rt, post_end, take_end)?;
+    same(passed, (true, (Some(post(1)), Some(post(2))))).expect(&rt, "differ");
+    Ok(())
+}

@@ -1,0 +1,129 @@
+use crate::tests::heaps::{Answer, Ask};
+use std::alloc::Global;
+use std::process::Abort;
+use std::sync::Wait;
+use std::test::Fail;
+use std::thread::{Threads, join};
+use tlsf_fixtures::{name, same};
+use tlsf_heap::{OpenFault, Refusal};
+use tlsf_lock::LockedHeap;
+
+/// Locks a heap for each call, and holds each answer to the one that is wanted. Then its grants, its returns and its
+/// live blocks.
+fn check_asks<R: Wait + Abort>(
+    rt: &R,
+    heap: &LockedHeap,
+    rows: &[(Ask, Answer)],
+    counts: (u64, u64, u32),
+) {
+    for (i, (ask, wanted)) in rows.iter().enumerate() {
+        let answer = match *ask {
+            Ask::Allocate(len) => heap.lock(rt).allocate(len).map(Some),
+            Ask::Release(name) => heap.lock(rt).release(name).map(|()| None),
+        };
+        same((i, answer), (i, *wanted)).expect(rt, "differ");
+    }
+    let mut guard = heap.lock(rt);
+    let found = (guard.grants(), guard.returns(), guard.report().live_blocks);
+    same(found, counts).expect(rt, "differ");
+}
+
+#[test]
+fn refused_allocate_is_no_grant(rt: HostRuntime) -> Result<(), Fail> {
+    let heap = LockedHeap::new(rt.alloc(), 0, 4, 0)?;
+    let rows = [
+        (Ask::Allocate(0), Ok(Some(name(0, 0, 1)))),
+        (Ask::Allocate(0), Err(Refusal::NoFit)),
+    ];
+    check_asks(&rt, &heap, &rows, (1, 0, 1));
+    Ok(())
+}
+
+#[test]
+fn counts_agree_at_the_last_tick(rt: HostRuntime) -> Result<(), Fail> {
+    let heap = LockedHeap::new(rt.alloc(), 7, 64, u64::MAX - 2)?;
+    let last = name(7, 0, u64::MAX - 1);
+    let rows = [
+        (Ask::Allocate(8), Ok(Some(last))),
+        (Ask::Allocate(8), Err(Refusal::Worn)),
+        (Ask::Release(last), Err(Refusal::Worn)),
+    ];
+    check_asks(&rt, &heap, &rows, (1, 0, 1));
+    Ok(())
+}
+
+#[test]
+fn calls_behind_a_lock(rt: HostRuntime) -> Result<(), Fail> {
+    let heap = LockedHeap::new(rt.alloc(), 3, 64, 0)?;
+    let block = name(3, 0, 1);
+    check_asks(
+        &rt,
+        &heap,
+        &[(Ask::Allocate(4), Ok(Some(block)))],
+        (1, 0, 1),
+    );
+    let written = heap.lock(&rt).write(block, 1, &[5, 6]);
+    let refused = heap.lock(&rt).write(block, 3, &[5, 6]);
+    let mut out = [0xee; 2];
+    let read = heap.lock(&rt).read(block, 2, &mut out);
+    let found = (written, refused, read, out);
+    same(found, (Ok(()), Err(Refusal::Range), Ok(()), [6, 0])).expect(&rt, "differ");
+    let rows = [
+        (Ask::Release(block), Ok(None)),
+        (Ask::Release(block), Err(Refusal::Stale)),
+    ];
+    check_asks(&rt, &heap, &rows, (1, 1, 0));
+    Ok(())
+}
+
+#[test]
+fn refused_locked_heaps(rt: HostRuntime) {
+    let found = [
+        LockedHeap::new(rt.alloc(), 0, 3, u64::MAX).err(),
+        LockedHeap::new(rt.alloc(), 0, 4, u64::MAX).err(),
+    ];
+    same(found, [Some(OpenFault::BadSize), Some(OpenFault::Worn)]).expect(&rt, "differ");
+}
+
+/// Allocates 8 bytes 100 times, and releases each of the first 60 blocks. Tells whether all of it was accepted.
+fn hundred_grants(rt: &impl Wait, heap: &LockedHeap) -> bool {
+    for i in 0..100 {
+        let Ok(name) = heap.lock(rt).allocate(8) else {
+            return false;
+        };
+        if i < 60 && heap.lock(rt).release(name).is_err() {
+            return false;
+        }
+    }
+    true
+}
+
+#[test]
+fn two_threads_share_a_heap(rt: HostRuntime) -> Result<(), Fail> {
+    let heap = LockedHeap::new(rt.alloc(), 0, 1024, 0)?;
+    let accepted = join(
+        &rt,
+        || hundred_grants(&rt, &heap),
+        || hundred_grants(&rt, &heap),
+    );
+    same(accepted, (true, true)).expect(&rt, "differ");
+    check_asks(&rt, &heap, &[], (200, 120, 80));
+    Ok(())
+}
+
+/// Two threads, each of which allocates.
+fn two_threads<R: Threads + Wait + Sync>(rt: &R, alloc: Global) -> Result<u64, OpenFault> {
+    let heap = LockedHeap::new(alloc, 0, 1024, 0)?;
+    join(
+        rt,
+        || heap.lock(rt).allocate(8).is_ok(),
+        || heap.lock(rt).allocate(100).is_ok(),
+    );
+    let grants = heap.lock(rt).grants();
+    Ok(grants)
+}
+
+#[test]
+fn use_from_two_threads(rt: HostRuntime) {
+    same(two_threads(&rt, rt.alloc()), Ok(2)).expect(&rt, "differ");
+}

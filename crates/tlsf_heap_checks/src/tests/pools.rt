@@ -1,0 +1,84 @@
+//! Pools, and the words of tables of kinds.
+
+use std::test::Fail;
+use tlsf_fixtures::{name, same};
+use tlsf_heap::{OpenFault, Refusal};
+use tlsf_pool::{Kind, LONGEST, Pool, PoolRefusal, kinds_words, longest_request, most_blocks};
+
+#[test]
+fn pool_is_filled_and_emptied(rt: HostRuntime) -> Result<(), Fail> {
+    let mut pool = Pool::open(rt.alloc(), 3, 2, 8, 0)?;
+    let first = name(3, 0, 1);
+    let given = [
+        pool.allocate(8),
+        pool.allocate(0),
+        pool.allocate(8),
+        pool.allocate(9),
+    ];
+    let wanted = [
+        Ok(first),
+        Ok(name(3, 4, 2)),
+        Err(PoolRefusal::Full),
+        Err(PoolRefusal::TooLong),
+    ];
+    same((given, pool.held()), (wanted, 2)).expect(&rt, "differ");
+    let mut out = [0; 2];
+    let written = pool.write(first, 6, &[0x48, 0x69]);
+    let read = pool.read(first, 6, &mut out);
+    let released = [pool.release(first), pool.release(first)];
+    let found = (written, read, out, released, pool.held());
+    let wanted = (
+        Ok(()),
+        Ok(()),
+        [0x48, 0x69],
+        [Ok(()), Err(Refusal::Stale)],
+        1,
+    );
+    same(found, wanted).expect(&rt, "differ");
+    same(pool.allocate(8), Ok(name(3, 0, 4))).expect(&rt, "differ");
+    Ok(())
+}
+
+#[test]
+fn pools_open_by_their_words(rt: HostRuntime) -> Result<(), Fail> {
+    for (most, longest, wanted) in [
+        (0, 8, Some(OpenFault::BadSize)),
+        (1, LONGEST + 1, Some(OpenFault::BadSize)),
+        (1, LONGEST, None),
+        (7655, 512, Some(OpenFault::BadSize)),
+        (7654, 512, None),
+    ] {
+        let found = Pool::open(rt.alloc(), 0, most, longest, 0).err();
+        same((most, longest, found), (most, longest, wanted)).expect(&rt, "differ");
+    }
+    Ok(())
+}
+
+#[test]
+fn words_of_tables(rt: HostRuntime) {
+    let hundred = Kind {
+        most: 100,
+        len: 512,
+    };
+    let small = Kind { most: 100, len: 64 };
+    let large = Kind { most: 4, len: 4096 };
+    let found = [
+        kinds_words(&[]),
+        kinds_words(&[hundred]),
+        kinds_words(&[small, large]),
+        kinds_words(&[large, small]),
+    ];
+    same(found, [0, 13_631, 59_427, 59_427]).expect(&rt, "differ");
+}
+
+#[test]
+fn how_far_the_greatest_region_goes(rt: HostRuntime) {
+    let blocks = [most_blocks(512), most_blocks(LONGEST)];
+    same(blocks, [7654, 1]).expect(&rt, "differ");
+    let lengths = [
+        longest_request(1),
+        longest_request(100),
+        longest_request(u32::MAX),
+    ];
+    same(lengths, [Some(LONGEST), Some(41_248), None]).expect(&rt, "differ");
+}

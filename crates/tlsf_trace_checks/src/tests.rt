@@ -1,0 +1,11 @@
+//! Tests of public calls: what no contract says, and no stored case shows.
+
+mod commands;
+mod fakes;
+mod race_notices;
+mod race_traces;
+mod replays;
+mod sizes;
+mod texts;
+mod trace_faults;
+mod writing;

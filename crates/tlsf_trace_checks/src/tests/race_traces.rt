@@ -1,0 +1,78 @@
+//! Traces that are raced.
+use crate::tests::fakes::{FakeReader, FakeWriter};
+use std::alloc::Global;
+use std::marker::Sync;
+use std::process::Abort;
+use std::sync::Wait;
+use std::thread::Threads;
+use tlsf_crew::OpenGate;
+use tlsf_fixtures::same;
+use tlsf_trace::{Summary, TraceFault, race_trace};
+
+/// Two workers, each with a block of the other's to release.
+const TWO_WORKERS: &[u8] =
+    b"tlsf 1 2 64 4\na 0 1 8\na 1 2 100\np 0 1 0 48692121\nphase\nf 1 1\nf 0 2\ng 0 1 0 4\n";
+
+const TWO_WORKERS_TEXT: &str =
+    "0 a 1 at 0 serial 1\n0 p 1 wrote 4\n0 d drained 0\n1 a 2 at 0 serial 1\n1 d drained 0\n0 f 2 posted\n0 g 1 got 48692121\n0 take 1 at 0 serial 1 freed\n0 d drained 1\n1 f 1 posted\n1 take 0 at 0 serial 1 freed\n1 d drained 1\nheap 0 live 0 0 0 free 1 64 largest 64 grant 488 fragmentation 0 waste 0 age 1\nheap 1 live 0 0 0 free 1 64 largest 64 grant 488 fragmentation 0 waste 0 age 1\n";
+
+/// Label 2 is refused, so it names no block: neither in its phase nor in the next.
+const REFUSED_LABEL: &[u8] =
+    b"tlsf 1 2 16 4\na 0 1 8\na 0 2 4294967295\nf 0 2\nphase\nf 1 2\nf 1 1\n";
+
+const REFUSED_LABEL_TEXT: &str =
+    "0 a 1 at 0 serial 1\n0 a 2 refused 1\n0 f 2 refused 18\n0 d drained 0\n1 d drained 0\n0 take 1 at 0 serial 1 freed\n0 d drained 1\n1 f 2 refused 18\n1 f 1 posted\n1 d drained 0\nheap 0 live 0 0 0 free 1 16 largest 16 grant 104 fragmentation 0 waste 0 age 1\nheap 1 live 0 0 0 free 1 16 largest 16 grant 104 fragmentation 0 waste 0 age 1\n";
+
+/// What a race of the text answers and writes, where the writer takes so many bytes.
+fn check_raced<T: Threads + Wait + Abort + Sync>(
+    rt: &T,
+    alloc: Global,
+    text: &[u8],
+    room: usize,
+    wanted: (Result<Summary, TraceFault>, &str),
+) {
+    let mut writer = FakeWriter::new(alloc);
+    writer.room = room;
+    let answer = race_trace(
+        rt,
+        alloc,
+        &mut FakeReader::new(text),
+        &mut writer,
+        &OpenGate,
+    );
+    same((answer, writer.text()), wanted).expect(rt, "differ");
+}
+
+#[test]
+fn traces_are_raced(rt: HostRuntime) {
+    let two_workers = Summary {
+        calls: 6,
+        bytes: TWO_WORKERS_TEXT.len() as u64,
+    };
+    let refused_label = Summary {
+        calls: 5,
+        bytes: REFUSED_LABEL_TEXT.len() as u64,
+    };
+    let rows: [(&[u8], usize, (Result<Summary, TraceFault>, &str)); 5] = [
+        (TWO_WORKERS, 1000, (Ok(two_workers), TWO_WORKERS_TEXT)),
+        (REFUSED_LABEL, 1000, (Ok(refused_label), REFUSED_LABEL_TEXT)),
+        (
+            TWO_WORKERS,
+            40,
+            (Err(TraceFault::WRITE), &TWO_WORKERS_TEXT[..40]),
+        ),
+        (
+            b"tlsf 2 2 64 4\n",
+            0,
+            (Err(TraceFault { no: 11, line: 1 }), ""),
+        ),
+        (
+            b"tlsf 1 2 64 4\na 0 1 8\nf 1 1\n",
+            0,
+            (Err(TraceFault { no: 14, line: 3 }), ""),
+        ),
+    ];
+    for (text, room, wanted) in rows {
+        check_raced(&rt, rt.alloc(), text, room, wanted);
+    }
+}

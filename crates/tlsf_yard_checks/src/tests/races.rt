@@ -1,0 +1,305 @@
+ghost use Rattle.std.specs.Prelude.{◌≡◌, ◌<◌, ◌^◌, length, vec_len, All, IfOk};
+ghost use Rattle.tlsf_crew.specs.yard.Yard.{IsYard};
+
+use crate::tests::yards::{allocate, drain, took};
+use std::alloc::Global;
+use std::marker::Sync;
+use std::process::Abort;
+use std::sync::Wait;
+use std::sync::atomic::{AtomicU64, Ordering};
+use std::test::Fail;
+use std::thread::{Threads, join_mut};
+use tlsf_crew::{
+    Call, CrewRefusal, Entry, Event, Gate, OpenGate, Released, Reply, Target, Worker, open_yard,
+    race, replay_events, settle,
+};
+use tlsf_fixtures::{name, same};
+use tlsf_heap::Name;
+
+/// The most turns that a gate makes.
+const TURNS: u64 = 100_000_000;
+
+fn release(name: Name) -> Call {
+    Call::Release {
+        target: Target::Named(name),
+    }
+}
+
+fn entry(worker: u32, call: Call, reply: Reply) -> Entry {
+    Entry {
+        worker,
+        call,
+        reply,
+    }
+}
+
+fn posted(worker: u32, name: Name) -> Entry {
+    entry(worker, release(name), Reply::Posted)
+}
+
+fn taken(worker: u32, from: u32, name: Name) -> Entry {
+    entry(worker, Call::Take { from }, took(from, name, Ok(())))
+}
+
+fn last(worker: u32, taken: u32) -> Entry {
+    entry(worker, Call::Drain { most: 8192 }, Reply::Drained(taken))
+}
+
+/// A yard of two workers whose heaps have 64 words, after some events.
+fn two_workers(alloc: Global, capacity: u32, events: &[Event]) -> Result<Vec<Worker>, Fail>
+    ensures { IfOk result (λ workers. IsYard workers.items) }
+{
+    let mut workers = open_yard(alloc, 2, 64, capacity)?;
+    let _ = replay_events(alloc, &mut workers, events)?;
+    Ok(workers)
+}
+
+/// Two workers run a script each, and their records are those that are wanted.
+fn check_race<R: Threads + Wait + Abort + Sync, G: Gate>(
+    rt: &R,
+    alloc: Global,
+    workers: Vec<Worker>,
+    first: &[Call],
+    second: &[Call],
+    gate: &G,
+    wanted: [&[Entry]; 2],
+) -> Result<(), Fail>
+    requires yard { IsYard workers.items }
+    requires first_short { length first.now < 2 ^ 32 }
+    requires second_short { length second.now < 2 ^ 32 }
+{
+    assert!(rt; workers.len() == 2);
+    let first = first.to_vec(alloc)?;
+    let second = second.to_vec(alloc)?;
+    let scripts = vec![in alloc; first, second]?;
+    let outcome = race(rt, alloc, workers, scripts, gate)?;
+    assert!(rt; outcome.records.len() == 2);
+    same(outcome.records[0].as_slice(), wanted[0]).expect(rt, "differ");
+    same(outcome.records[1].as_slice(), wanted[1]).expect(rt, "differ");
+    Ok(())
+}
+
+#[test]
+fn each_posts_to_the_other(rt: HostRuntime) -> Result<(), Fail> {
+    let own = [name(0, 0, 1), name(1, 0, 1)];
+    let workers = two_workers(rt.alloc(), 4, &[allocate(0, 8), allocate(1, 8)])?;
+    check_race(
+        &rt,
+        rt.alloc(),
+        workers,
+        &[release(own[1])],
+        &[release(own[0])],
+        &OpenGate,
+        [
+            &[posted(0, own[1]), taken(0, 1, own[0]), last(0, 1)],
+            &[posted(1, own[0]), taken(1, 0, own[1]), last(1, 1)],
+        ],
+    )
+}
+
+#[test]
+fn lane_of_one_is_full(rt: HostRuntime) -> Result<(), Fail> {
+    let blocks = [name(0, 0, 1), name(0, 4, 2)];
+    let workers = two_workers(rt.alloc(), 1, &[allocate(0, 8), allocate(0, 8)])?;
+    let full = Reply::Refused(CrewRefusal::Full(blocks[1]));
+    check_race(
+        &rt,
+        rt.alloc(),
+        workers,
+        &[],
+        &[release(blocks[0]), release(blocks[1])],
+        &OpenGate,
+        [
+            &[taken(0, 1, blocks[0]), last(0, 1)],
+            &[
+                posted(1, blocks[0]),
+                entry(1, release(blocks[1]), full),
+                last(1, 0),
+            ],
+        ],
+    )
+}
+
+/// A gate at which all wait for all before their first call.
+#[derive(Drop)]
+struct AllHere {
+    flags: [AtomicU64; 8],
+    count: usize,
+    missed: AtomicU64,
+}
+
+fn flags() -> [AtomicU64; 8] {
+    [
+        AtomicU64::new(0),
+        AtomicU64::new(0),
+        AtomicU64::new(0),
+        AtomicU64::new(0),
+        AtomicU64::new(0),
+        AtomicU64::new(0),
+        AtomicU64::new(0),
+        AtomicU64::new(0),
+    ]
+}
+
+impl AllHere {
+    fn new(count: usize) -> AllHere {
+        AllHere {
+            flags: flags(),
+            count,
+            missed: AtomicU64::new(0),
+        }
+    }
+
+    fn all_set(&self) -> bool {
+        for flag in self.flags.iter().take(self.count) {
+            if flag.load(Ordering::SeqCst) == 0 {
+                return false;
+            }
+        }
+        true
+    }
+}
+
+impl Gate for AllHere {
+    fn pass(&self, worker: u32, index: u32) {
+        if index > 0 {
+            return;
+        }
+        if let Some(flag) = self.flags.get(worker as usize) {
+            flag.store(1, Ordering::SeqCst);
+        }
+        for _ in 0..TURNS {
+            if self.all_set() {
+                return;
+            }
+        }
+        self.missed.store(1, Ordering::SeqCst);
+    }
+}
+
+/// Whether all of so many workers met at the gate, and each has a record of its one call and its last drain.
+fn all_meet<R: Threads + Wait + Sync>(rt: &R, alloc: Global, count: u32) -> Result<bool, Fail> {
+    let workers = open_yard(alloc, count, 64, 1)?;
+    let mut scripts = Vec::new(alloc);
+    for _ in 0..workers.len() {
+        scripts.push(vec![in alloc; Call::Allocate { len: 8 }]?)?;
+    }
+    let gate = AllHere::new(workers.len());
+    let outcome = race(rt, alloc, workers, scripts, &gate)?;
+    let told = outcome.records.iter().all(|record| record.len() == 2);
+    Ok(told && gate.all_set() && gate.missed.load(Ordering::SeqCst) == 0)
+}
+
+// A race on one thread gives the same records. There the first worker would wait at the gate for the others.
+#[test]
+fn threads_run_at_once(rt: HostRuntime) -> Result<(), Fail> {
+    let met = [all_meet(&rt, rt.alloc(), 2)?, all_meet(&rt, rt.alloc(), 8)?];
+    same(met, [true; 2]).expect(&rt, "differ");
+    Ok(())
+}
+
+/// A gate at which the worker that takes waits for the first post, and the one that posts waits for its slot.
+#[derive(Drop)]
+struct InTurn {
+    posted: AtomicU64,
+    taken: AtomicU64,
+    missed: AtomicU64,
+}
+
+impl InTurn {
+    fn new() -> InTurn {
+        InTurn {
+            posted: AtomicU64::new(0),
+            taken: AtomicU64::new(0),
+            missed: AtomicU64::new(0),
+        }
+    }
+
+    /// Turns until a flag is set.
+    fn wait_for(&self, flag: &AtomicU64) {
+        for _ in 0..TURNS {
+            if flag.load(Ordering::SeqCst) == 1 {
+                return;
+            }
+        }
+        self.missed.store(1, Ordering::SeqCst);
+    }
+}
+
+impl Gate for InTurn {
+    fn pass(&self, worker: u32, index: u32) {
+        match (worker, index) {
+            (0, 0) => self.wait_for(&self.posted),
+            (1, 1) => {
+                self.posted.store(1, Ordering::SeqCst);
+                self.wait_for(&self.taken);
+            }
+            (0, 1) => self.taken.store(1, Ordering::SeqCst),
+            _ => {}
+        }
+    }
+}
+
+// The lane has one slot. A lane whose posts pass, or whose slots come back, only once both ends are in one thread again
+// would answer Empty to the take, and Full to the second release.
+#[test]
+fn slot_comes_back_while_workers_run(rt: HostRuntime) -> Result<(), Fail> {
+    let blocks = [name(0, 0, 1), name(0, 4, 2)];
+    let workers = two_workers(rt.alloc(), 1, &[allocate(0, 8), allocate(0, 8)])?;
+    let gate = InTurn::new();
+    check_race(
+        &rt,
+        rt.alloc(),
+        workers,
+        &[Call::Take { from: 1 }],
+        &[release(blocks[0]), release(blocks[1])],
+        &gate,
+        [
+            &[taken(0, 1, blocks[0]), taken(0, 1, blocks[1]), last(0, 1)],
+            &[posted(1, blocks[0]), posted(1, blocks[1]), last(1, 0)],
+        ],
+    )?;
+    same(gate.missed.load(Ordering::SeqCst), 0).expect(&rt, "differ");
+    Ok(())
+}
+
+/// Has each of the first two workers release a name, in threads of their own. Tells what they were answered.
+fn release_at_once<R: Threads>(
+    rt: &R,
+    workers: &mut [Worker],
+    names: [Name; 2],
+) -> (Result<Released, CrewRefusal>, Result<Released, CrewRefusal>)
+    requires two { length workers.old ≡ 2 }
+    requires yard { IsYard workers.old }
+    ensures { IsYard workers.new }
+{
+    let (low, high) = workers.split_at_mut(1);
+    let first = &mut low[0];
+    let second = &mut high[0];
+    join_mut(
+        rt,
+        &mut || first.release(names[0]),
+        &mut || second.release(names[1]),
+    )
+}
+
+// The caller's own threads, and then a drain of each worker.
+#[test]
+fn settled_after_own_threads(rt: HostRuntime) -> Result<(), Fail> {
+    let own = [name(0, 0, 1), name(1, 0, 1)];
+    let mut workers = two_workers(rt.alloc(), 4, &[allocate(0, 8), allocate(1, 8)])?;
+    assert!(rt; workers.len() == 2);
+    let answers = release_at_once(&rt, &mut workers, [own[1], own[0]]);
+    same(answers, (Ok(Released::Posted), Ok(Released::Posted))).expect(&rt, "differ");
+    settle(&mut workers);
+    let events = [drain(0, 8), drain(1, 8)];
+    let entries = replay_events(rt.alloc(), &mut workers, &events)?;
+    let wanted = [
+        taken(0, 1, own[0]),
+        entry(0, Call::Drain { most: 8 }, Reply::Drained(1)),
+        taken(1, 0, own[1]),
+        entry(1, Call::Drain { most: 8 }, Reply::Drained(1)),
+    ];
+    same(entries.as_slice(), wanted.as_slice()).expect(&rt, "differ");
+    Ok(())
+}

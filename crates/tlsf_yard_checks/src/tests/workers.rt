@@ -1,0 +1,260 @@
+//! A worker's own calls.
+use crate::tests::yards::{allocate, drain, release, take, took};
+use std::alloc::{AllocError, Global};
+use std::process::Abort;
+use std::sync::Wait;
+use std::test::Fail;
+use std::thread;
+use std::thread::Threads;
+use tlsf_crew::{
+    Call, Chunk, CrewRefusal, Drained, Event, Released, Reply, Target, Worker, open_yard,
+    replay_events, settle,
+};
+use tlsf_fixtures::{name, same};
+use tlsf_heap::{Name, Refusal};
+
+/// The answer to a read of up to 64 bytes.
+fn read(worker: &mut Worker, name: Name, at: u32, n: u32) -> Result<Reply, CrewRefusal> {
+    let mut out = [0; 64];
+    let Some(part) = out.get_mut(..n as usize) else {
+        return Err(CrewRefusal::Unmade);
+    };
+    worker.read(name, at, part)?;
+    Ok(Chunk::new(part).map_or(Reply::Empty, Reply::Got))
+}
+
+/// What a worker answers to one of its calls, as a reply of an event would say it.
+fn reply(worker: &mut Worker, call: &Call) -> Result<Reply, CrewRefusal> {
+    match *call {
+        Call::Allocate { len } => Ok(Reply::Made(worker.allocate(len)?)),
+        Call::Release {
+            target: Target::Named(name),
+        } => match worker.release(name)? {
+            Released::Freed => Ok(Reply::Freed),
+            Released::Posted => Ok(Reply::Posted),
+        },
+        Call::Write {
+            target: Target::Named(name),
+            at,
+            bytes,
+        } => {
+            worker.write(name, at, bytes.as_slice())?;
+            Ok(Reply::Wrote(bytes.as_slice().len() as u32))
+        }
+        Call::Read {
+            target: Target::Named(name),
+            at,
+            n,
+        } => read(worker, name, at, n),
+        Call::Take { from } => match worker.take(from)? {
+            Some(took) => Ok(Reply::Took(took)),
+            None => Ok(Reply::Empty),
+        },
+        Call::Drain { most } => Ok(Reply::Drained(worker.drain(most).taken)),
+        _ => Err(CrewRefusal::Unmade),
+    }
+}
+
+/// Has workers make calls, and holds each answer to the one that is wanted.
+fn check_calls(rt: &impl Abort, workers: &mut [Worker], rows: &[(Event, Reply)]) {
+    for (i, (event, wanted)) in rows.iter().enumerate() {
+        if let Some(worker) = workers.get_mut(event.worker as usize) {
+            let found = reply(worker, &event.call).unwrap_or_else(Reply::Refused);
+            same((i, found), (i, *wanted)).expect(rt, "differ");
+        }
+    }
+}
+
+fn release_of(worker: u32, name: Name) -> Event {
+    release(worker, Target::Named(name))
+}
+
+fn write(worker: u32, name: Name, at: u32, bytes: Chunk) -> Event {
+    Event {
+        worker,
+        call: Call::Write {
+            target: Target::Named(name),
+            at,
+            bytes,
+        },
+    }
+}
+
+fn read_of(worker: u32, name: Name, at: u32, n: u32) -> Event {
+    Event {
+        worker,
+        call: Call::Read {
+            target: Target::Named(name),
+            at,
+            n,
+        },
+    }
+}
+
+fn heap_refuses(why: Refusal) -> Reply {
+    Reply::Refused(CrewRefusal::Heap(why))
+}
+
+const STRANGER: Reply = Reply::Refused(CrewRefusal::Stranger);
+
+#[test]
+fn calls_of_a_worker(rt: HostRuntime) -> Result<(), Fail> {
+    let mut workers = open_yard(rt.alloc(), 2, 64, 1)?;
+    let block = name(0, 0, 1);
+    let bytes = Chunk::new(b"ab").ok_or("up to 64 bytes")?;
+    let read = Chunk::new(b"\0ab").ok_or("up to 64 bytes")?;
+    let rows = [
+        (allocate(0, 8), Reply::Made(block)),
+        (write(0, block, 1, bytes), Reply::Wrote(2)),
+        (read_of(0, block, 0, 3), Reply::Got(read)),
+        (write(1, block, 1, bytes), heap_refuses(Refusal::Foreign)),
+        (release_of(1, block), Reply::Posted),
+        (
+            release_of(1, block),
+            Reply::Refused(CrewRefusal::Full(block)),
+        ),
+        (release_of(1, name(2, 0, 1)), STRANGER),
+        (release_of(0, block), Reply::Freed),
+        (take(0, 1), took(1, block, Err(Refusal::Stale))),
+        (take(0, 1), Reply::Empty),
+        (take(0, 0), STRANGER),
+    ];
+    check_calls(&rt, &mut workers, &rows);
+    Ok(())
+}
+
+#[test]
+fn refused_calls_of_a_worker_change_nothing(rt: HostRuntime) -> Result<(), Fail> {
+    let mut workers = open_yard(rt.alloc(), 2, 64, 1)?;
+    let block = name(0, 0, 1);
+    let (foreign, stale) = (name(1, 0, 1), name(0, 0, 2));
+    let bytes = Chunk::new(b"payload.").ok_or("up to 64 bytes")?;
+    let spoils = Chunk::new(b"spoils").ok_or("up to 64 bytes")?;
+    let given_back = name(1, 0, 8);
+    let rows = [
+        (allocate(0, 600), heap_refuses(Refusal::NoFit)),
+        (allocate(0, 8), Reply::Made(block)),
+        (write(0, block, 0, bytes), Reply::Wrote(8)),
+        (write(0, foreign, 0, spoils), heap_refuses(Refusal::Foreign)),
+        (read_of(0, foreign, 0, 6), heap_refuses(Refusal::Foreign)),
+        (write(0, stale, 0, spoils), heap_refuses(Refusal::Stale)),
+        (read_of(0, stale, 0, 6), heap_refuses(Refusal::Stale)),
+        (write(0, block, 3, spoils), heap_refuses(Refusal::Range)),
+        (read_of(0, block, 3, 6), heap_refuses(Refusal::Range)),
+        (release_of(0, stale), heap_refuses(Refusal::Stale)),
+        (release_of(0, name(2, 0, 1)), STRANGER),
+        (release_of(0, name(1, 0, 7)), Reply::Posted),
+        (
+            release_of(0, given_back),
+            Reply::Refused(CrewRefusal::Full(given_back)),
+        ),
+        (take(0, 0), STRANGER),
+        (take(0, 2), STRANGER),
+        (read_of(0, block, 0, 8), Reply::Got(bytes)),
+        (allocate(0, 8), Reply::Made(name(0, 4, 2))),
+    ];
+    check_calls(&rt, &mut workers, &rows);
+    Ok(())
+}
+
+#[test]
+fn lone_worker_has_no_lanes(rt: HostRuntime) -> Result<(), Fail> {
+    let mut workers = open_yard(rt.alloc(), 1, 64, 4)?;
+    let rows = [
+        (allocate(0, 8), Reply::Made(name(0, 0, 1))),
+        (release_of(0, name(1, 0, 1)), STRANGER),
+        (take(0, 0), STRANGER),
+        (take(0, 1), STRANGER),
+        (drain(0, 8), Reply::Drained(0)),
+        (release_of(0, name(0, 0, 1)), Reply::Freed),
+    ];
+    check_calls(&rt, &mut workers, &rows);
+    Ok(())
+}
+
+/// Worker 0 of a new yard, after a list of events.
+fn first_after(alloc: Global, n: u32, events: &[Event]) -> Result<Option<Worker>, Fail> {
+    let mut workers = open_yard(alloc, n, 64, 4)?;
+    let _ = replay_events(alloc, &mut workers, events)?;
+    settle(&mut workers);
+    workers.truncate(1);
+    Ok(workers.pop())
+}
+
+/// Which of the three first blocks of the own heap can be read.
+fn live(worker: &mut Worker) -> [bool; 3] {
+    [name(0, 0, 1), name(0, 4, 2), name(0, 8, 3)].map(|block| worker
+        .read(block, 0, &mut [])
+        .is_ok())
+}
+
+#[test]
+fn drain_goes_over_workers_in_rising_order(rt: HostRuntime) -> Result<(), Fail> {
+    let events = [
+        allocate(0, 8),
+        allocate(0, 8),
+        allocate(0, 8),
+        release(2, Target::Made(0)),
+        release(1, Target::Made(1)),
+        release(1, Target::Made(2)),
+    ];
+    let mut first = first_after(rt.alloc(), 3, &events)?.ok_or("three workers")?;
+    same(live(&mut first), [true; 3]).expect(&rt, "differ");
+    let one = Drained { taken: 1, freed: 1 };
+    let none = Drained { taken: 0, freed: 0 };
+    for (most, drained, left) in [
+        (1, one, [true, false, true]),
+        (1, one, [true, false, false]),
+        (8, one, [false; 3]),
+        (8, none, [false; 3]),
+    ] {
+        let found = (first.drain(most), live(&mut first));
+        same(found, (drained, left)).expect(&rt, "differ");
+    }
+    Ok(())
+}
+
+#[test]
+fn drain_counts_a_forged_name_as_taken(rt: HostRuntime) -> Result<(), Fail> {
+    let events = [release(1, Target::Named(name(0, 5, 2)))];
+    let mut first = first_after(rt.alloc(), 2, &events)?.ok_or("two workers")?;
+    let found = [first.drain(0), first.drain(8)];
+    let none = Drained { taken: 0, freed: 0 };
+    same(found, [none, Drained { taken: 1, freed: 0 }]).expect(&rt, "differ");
+    Ok(())
+}
+
+/// Moves the worker into a thread, where it releases a block, and takes it back.
+fn release_away<R: Threads + Wait + Sync>(
+    rt: &R,
+    worker: Worker,
+    block: Name,
+) -> Result<Worker, AllocError> {
+    thread::scope(thread::scope_env(), rt, move |scope| {
+        let child = scope.spawn(move || {
+            let mut worker = worker;
+            let _ = worker.release(block);
+            worker
+        })?;
+        Ok(child.join(rt))
+    })
+}
+
+#[test]
+fn worker_comes_back_from_a_thread(rt: HostRuntime) -> Result<(), Fail> {
+    let mut workers = open_yard(rt.alloc(), 2, 64, 1)?;
+    let block = name(0, 0, 1);
+    check_calls(&rt, &mut workers, &[(allocate(0, 8), Reply::Made(block))]);
+    let second = workers.pop().ok_or("the second of two workers")?;
+    workers.push(release_away(&rt, second, block)?)?;
+    let rows = [
+        (
+            release_of(1, block),
+            Reply::Refused(CrewRefusal::Full(block)),
+        ),
+        (take(0, 1), took(1, block, Ok(()))),
+        (release_of(1, block), Reply::Posted),
+    ];
+    check_calls(&rt, &mut workers, &rows);
+    Ok(())
+}
