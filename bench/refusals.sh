@@ -1,0 +1,20 @@
+#!/bin/sh
+# Refuses memory, reads, writes and threads to the built program, one after another, and judges each answer: status, standard
+# output and standard error. Run by hand: the gate doesn't. Needs cc and python3.
+#
+# Each growth of memory and each start of a thread is refused in turn, in each command, and each read; standard output takes
+# k bytes and then fails or takes none, for each k; and the limits on reads and lines are tried from both sides. Then the
+# program's standard input is closed, its output is a full disk, and the reader of its output is gone. The last line is
+# 'N refused, M answered wrongly'; the exit status is 0 where M is 0.
+set -eu
+export PYTHONDONTWRITEBYTECODE=1
+top=$(cd "$(dirname "$0")/.." && pwd)
+work=$(mktemp -d)
+trap 'rm -rf "$work"' EXIT
+for tool in cc python3; do
+    command -v "$tool" > /dev/null || { echo "refusals: $tool is wanted, and isn't there" >&2; exit 2; }
+done
+
+"$top/tlsf" --version > "$work/version"
+cc -shared -fPIC -O1 -o "$work/refuse.so" "$top/bench/refusals/refuse.c" -ldl
+python3 "$top/bench/refusals/judge.py" "$top/crates/tlsf_tool/out/tlsf_tool" "$work/refuse.so" "$work"
