@@ -13,7 +13,6 @@ case ${1:-} in
     exit 0
     ;;
 esac
-top=$(cd "$(dirname "$0")/.." && pwd)
 for tool in rt valgrind cc awk; do
     command -v "$tool" > /dev/null || {
         echo "calls.sh: $tool is missing" >&2
@@ -24,8 +23,7 @@ if [ $# -gt 1 ] || { [ $# = 1 ] && [ ! -f "$1" ]; }; then
     echo 'calls.sh: at most one argument, the path of a C file (see calls.sh --help)' >&2
     exit 1
 fi
-work=$(mktemp -d)
-trap 'rm -rf "$work"' EXIT
+. "$(dirname "$0")/own_program.sh"
 cc -O2 -fno-builtin -o "$work/library" "$top/bench/calls/library.c"
 others=library
 if [ $# = 1 ]; then
@@ -34,16 +32,7 @@ if [ $# = 1 ]; then
     others='library authors'
 fi
 
-cp "$top/HANDLES" "$work"
-grep -E '^(tlsf_class|tlsf_words|tlsf_heap):' "$top/crates.txt" > "$work/crates.txt"
-mkdir "$work/crates"
-for crate in tlsf_class tlsf_words tlsf_heap; do
-    cp -a "$top/crates/$crate" "$work/crates"
-done
-mkdir -p "$work/crates/calls_bench/src"
-cp "$top/bench/calls/main.source" "$work/crates/calls_bench/src/main.rt"
-echo 'calls_bench: tlsf_heap anyhow' >> "$work/crates.txt"
-echo 'calls.sh: proving and building a copy, which takes some minutes' >&2
+own_program calls ': tlsf_heap anyhow' tlsf_class tlsf_words tlsf_heap
 (cd "$work/crates/calls_bench" && rt run > "$work/log" 2>&1) || {
     tail -n 20 "$work/log" >&2
     exit 1

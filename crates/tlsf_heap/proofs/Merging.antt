@@ -3,29 +3,17 @@ use Rattle.std.proofs.Common.{◌≡◌, ℕ, zero, suc, ◌+◌, ◌-◌, ◌<�
 use Rattle.std.proofs.lemmas.Bool.{cases_lt, cases_order, ne_eqb}
 use Rattle.std.proofs.lemmas.List.{length-set, get_or-set_same, get_or-set_other}
 use Rattle.tlsf_heap.specs.Image.{Image, BlockAt, StartsOnce, back_behind, Shows}
-use Rattle.tlsf_words.specs.Fields.{tag_word}
 use Rattle.tlsf_words.specs.Lists.{nowhere}
 use Rattle.tlsf_heap.specs.Blocks.{Block, Free, size_of, words_in, StandsAt}
 use Rattle.tlsf_heap.specs.Calls.{first_free, past_free, last_free, before_free, coalesced}
 use Rattle.tlsf_heap.specs.GoodFit.{block_at, site_at}
-use Rattle.tlsf_heap.specs.Headers.{with_back, without_start}
+use Rattle.tlsf_heap.specs.Headers.{Merges, without_start}
 use Rattle.tlsf_heap.specs.Regions.{AreNeighbours}
 use Rattle.tlsf_heap.specs.declared.neighbours.Neighbours.{Neighbours}
 use Rattle.tlsf_heap.proofs.Lawfulness.{words_in-append}
-use Rattle.tlsf_heap.proofs.Showing.{Replaces, word_at, start_at}
+use Rattle.tlsf_heap.proofs.Showing.{Replaces, start_at}
 use Rattle.tlsf_heap.proofs.Reading.{says_here}
 use Rattle.tlsf_heap.proofs.Sizes.{Around, around, around_first, around_last, block_around, stands_around, last_words, last_part, first_part}
-
--- what a merge of the block at a place with its neighbours leaves
-pub record Merges (m v : Image) (at : ℕ) (around : Neighbours) (stamp : ℕ) : Type 0 where
-  pub tag : word_at v (at - around.before) ≡ tag_word around.tag.size around.tag.last true around.tag.back
-  pub mark : word_at v (at - around.before + 1) ≡ stamp
-  pub next : at - around.before + around.tag.size < length m.words
-      → word_at v (at - around.before + around.tag.size) ≡ with_back (word_at m (at - around.before + around.tag.size)) (at - around.before)
-  pub before : (k : ℕ) → k < at - around.before → word_at v k ≡ word_at m k
-  pub behind : (k : ℕ) → at - around.before + around.tag.size < k → word_at v k ≡ word_at m k
-  pub length : length v.words ≡ length m.words
-  pub starts : v.starts ≡ without_start (without_start m.starts at around.before) (at - around.before + around.tag.size - around.after) around.after
 
 -- ---- a start bit that is taken away
 
@@ -157,10 +145,10 @@ module _ {m : Image} {bs : List Block} (shows : Shows m bs) {at i : ℕ} (stands
       merged_shown : BlockAt v place (back_behind 0 nowhere (before_free front)) (Free around.tag.size stamp)
       merged_shown =
           let joined : words_in front + size_of block + first_free back ≡ end = omega (arith, stands.place, lies.within, is.before, is.size) in
-          let last : around.tag.last ≡ eqb end (length v.words) = is.last ∙ rw (joined, merges.length) refl in
+          let last : around.tag.last ≡ eqb end (length v.words) = is.last ∙ rw (joined, merges.only.length) refl in
           record {
-            tag = merges.tag ∙ rw (last, is.back) refl;
-            mark = merges.mark;
+            tag = merges.free.tag ∙ rw (last, is.back) refl;
+            mark = merges.free.mark;
             payload = tt;
             starts = record {
               first = start_kept place (λ e. omega (arith, e, lies.within, is.before)) (λ e. omega (arith, e, middle, lies.least))
@@ -193,12 +181,12 @@ module _ {m : Image} {bs : List Block} (shows : Shows m bs) {at i : ℕ} (stands
       pub merge_replaces : Replaces m v (before_free front) old (Free around.tag.size stamp ∷ [])
       merge_replaces = record {
         as_many = omega (arith, words_old);
-        as_long = merges.length;
+        as_long = merges.only.length;
         mapped = two.as_long ∙ one.as_long;
         rooms = (omega (arith, merge_after), tt);
         some = omega (arith, length-append (last_part front).0 (block ∷ (first_part back).0));
-        before = λ k h. merges.before k (omega (arith, h, begins));
-        behind = λ k h. merges.behind k (omega (arith, h, begins, words_old));
+        before = λ k h. merges.only.before k (omega (arith, h, begins));
+        behind = λ k h. merges.only.behind k (omega (arith, h, begins, words_old));
         next = rw (begins, words_old) merges.next;
         starts_before = λ k h. start_kept k (λ e. omega (arith, e, h, begins)) (λ e. omega (arith, e, h, begins, middle));
         starts_behind = λ k h. start_kept k (λ e. omega (arith, e, h, begins, words_old, merge_after)) (λ e. omega (arith, e, h, begins, words_old, merge_after));

@@ -1,12 +1,14 @@
 -- What the words say of the block at a place.
 use Rattle.std.proofs.Common.{◌≡◌, ℕ, ◌+◌, ◌^◌, ◌<◌, ◌≤◌, Bool, true, false, ◌&&◌, eqb, List, length, take, get_or, refl, sym, ap, ◌∙◌, subst, arith}
 use Rattle.std.specs.Prelude.{◌==◌}
+use Rattle.std.specs.List.{AllByRecursion}
 use Rattle.std.proofs.lemmas.Bool.{false≢true, eq-eqb, eqb-true}
 use Rattle.tlsf_heap.specs.Image.{Image, mark_of, StartsOnce, back_behind, Shows}
 use Rattle.tlsf_words.specs.Fields.{size_in, last_in, free_in, back_in}
 use Rattle.tlsf_words.proofs.FieldLaws.{size_in-tag_word, last_in-tag_word, free_in-tag_word, back_in-tag_word}
 use Rattle.tlsf_heap.specs.Blocks.{Block, Live, Free, size_of, words_in, is_free, StandsAt, IsPlace}
 use Rattle.tlsf_heap.specs.GoodFit.{block_at, site_at}
+use Rattle.tlsf_heap.specs.Lawful.{HasRoom}
 use Rattle.tlsf_heap.specs.Calls.{has_serial, is_named}
 use Rattle.tlsf_words.specs.Lists.{nowhere, ListHeads, list_of, AreThreaded}
 use Rattle.tlsf_heap.specs.Read.{blocks_of}
@@ -88,13 +90,14 @@ module _ {m : Image} {bs : List Block} (shows : Shows m bs) where
   pub starts_here : {at n : ℕ} {starts : Bool} → n ≡ length m.words → at < n → starts ≡ start_at m at → starts ≡ true → IsPlace bs at
   starts_here {at = at} long inside read set = place_of_start m bs at shows (omega arith) (sym read ∙ set)
 
-  -- no block is named where none that begins there has the serial
-  pub none_named : (at serial : ℕ) → ((i : ℕ) → StandsAt bs at i → has_serial serial (block_at bs i) ≡ false) → NoneNamed at serial bs
-  none_named at serial other i within =
-      not_true (is_named at serial (site_at bs i)) (λ e.
-      let place : words_in (take i bs) ≡ at = eqb-true _ _ (and_right (has_serial serial (block_at bs i)) _ e) in
-      false≢true (sym (other i (record { within = within; place = place })) ∙ and_left (has_serial serial (block_at bs i)) _ e))
+-- no block is named where none that begins there has the serial
+pub none_named : {bs : List Block} (at serial : ℕ) → ((i : ℕ) → StandsAt bs at i → has_serial serial (block_at bs i) ≡ false) → NoneNamed at serial bs
+none_named {bs = bs} at serial other i within =
+    not_true (is_named at serial (site_at bs i)) (λ e.
+    let place : words_in (take i bs) ≡ at = eqb-true _ _ (and_right (has_serial serial (block_at bs i)) _ e) in
+    false≢true (sym (other i (record { within = within; place = place })) ∙ and_left (has_serial serial (block_at bs i)) _ e))
 
+module _ {bs : List Block} (rooms : AllByRecursion HasRoom bs) where
   -- where a block begins at the place, its serial decides
   pub named_here : {at i : ℕ} (serial : ℕ) → StandsAt bs at i → has_serial serial (block_at bs i) ≡ true → IsFirst at serial bs i
   named_here {at = at} {i = i} serial stands e = record {
@@ -102,10 +105,10 @@ module _ {m : Image} {bs : List Block} (shows : Shows m bs) where
     here = ap (λ (b : Bool). b && words_in (take i bs) == at) e ∙ eq-eqb _ _ stands.place;
     before = λ j l. not_true (is_named at serial (site_at bs j)) (λ f.
         let place : words_in (take j bs) ≡ at = eqb-true _ _ (and_right (has_serial serial (block_at bs j)) _ f) in
-        let same = stands_once bs at j i shows.rooms (record { within = omega (arith, l, stands.within); place = place }) stands in
+        let same = stands_once bs at j i rooms (record { within = omega (arith, l, stands.within); place = place }) stands in
         omega (arith, l, same));
   }
 
   pub other_here : {at i : ℕ} (serial : ℕ) → StandsAt bs at i → has_serial serial (block_at bs i) ≡ false → NoneNamed at serial bs
   other_here {at = at} {i = i} serial stands e =
-      none_named at serial (λ j other. ap (λ (k : ℕ). has_serial serial (block_at bs k)) (stands_once bs at j i shows.rooms other stands) ∙ e)
+      none_named at serial (λ j other. ap (λ (k : ℕ). has_serial serial (block_at bs k)) (stands_once bs at j i rooms other stands) ∙ e)

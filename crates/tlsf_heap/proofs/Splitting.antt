@@ -1,5 +1,5 @@
 -- The words of a region whose block was made a live one, whole or with a free rest, show the blocks.
-use Rattle.std.proofs.Common.{◌≡◌, ◌≢◌, ℕ, zero, suc, ◌+◌, ◌-◌, ◌*◌, ◌/◌, ◌%◌, ◌<◌, ◌≤◌, ◌^◌, Bool, true, false, eqb, List, [], ◌∷◌, ◌++◌, length, take, drop, get_or, set, map, replicate, refl, sym, ap, ◌∙◌, subst, arith, append_assoc}
+use Rattle.std.proofs.Common.{◌≡◌, ◌≢◌, ℕ, zero, suc, ◌+◌, ◌-◌, ◌*◌, ◌/◌, ◌%◌, ◌<◌, ◌≤◌, ◌^◌, Bool, true, false, eqb, List, [], ◌∷◌, ◌++◌, length, take, drop, get_or, map, replicate, refl, sym, ap, ◌∙◌, subst, arith, append_assoc}
 use Rattle.std.specs.List.{range_with_len}
 use Rattle.std.proofs.Math.Nat.{zero-div}
 use Rattle.std.proofs.lemmas.Bool.{ne_eqb}
@@ -11,7 +11,7 @@ use Rattle.tlsf_words.specs.declared.tag.Tag.{Tag}
 use Rattle.tlsf_words.specs.Lists.{nowhere}
 use Rattle.tlsf_heap.specs.Blocks.{Block, Live, Free, size_of, words_for, StandsAt}
 use Rattle.tlsf_heap.specs.GoodFit.{block_at}
-use Rattle.tlsf_heap.specs.Headers.{IsTagIn, with_back}
+use Rattle.tlsf_heap.specs.Headers.{HasLive, IsTagIn, Splits, Wholes}
 use Rattle.tlsf_heap.proofs.Showing.{Replaces, word_at, start_at}
 use Rattle.tlsf_heap.proofs.Reading.{says_here}
 use Rattle.tlsf_heap.proofs.Edited.{next_same}
@@ -34,37 +34,10 @@ unfolding bytes_in byte_in
 zero_bytes words at len zeros =
     zero_map words (8 * at) len (λ k a b. ap (λ (w : ℕ). w / 256 ^ (k % 8) % 256) (zeros (k / 8) (omega arith) (omega arith)) ∙ ap (λ (w : ℕ). w % 256) (zero-div (256 ^ (k % 8))))
 
--- the words of a live block of `size` words with `len` bytes of payload, all zero, but for its first
-pub record Lives (v : Image) (at size serial len : ℕ) : Type 0 where
-  pub mark : word_at v (at + 1) ≡ serial
-  pub bytes : word_at v (at + 2) ≡ length_word len
-  pub payload : (k : ℕ) → at + 3 ≤ k → k < at + size → word_at v k ≡ 0
-
-holds_zeros : {v : Image} {at size serial : ℕ} (len : ℕ) → words_for len ≤ size → Lives v at size serial len → HoldsPayload v.words at (Live size serial (replicate len 0))
-holds_zeros {v = v} {at = at} len room lives =
+holds_zeros : {words : List ℕ} {at size back serial len : ℕ} {last : Bool} → HasLive words at size last back serial len → words_for len ≤ size → HoldsPayload words at (Live size serial (replicate len 0))
+holds_zeros {words = words} {at = at} {len = len} live room =
     let many : length (replicate {A = ℕ} len 0) ≡ len = length-replicate len 0 in
-    (lives.bytes ∙ ap length_word (sym many), rw many (zero_bytes v.words (at + 3) len (λ k a b. lives.payload k a (omega arith))))
-
--- the block at a place is made live, whole
-pub record Wholes (m v : Image) (at : ℕ) (tag : Tag) (serial len : ℕ) : Type 0 where
-  pub first : word_at v at ≡ tag_word tag.size tag.last false tag.back
-  pub lives : Lives v at tag.size serial len
-  pub before : (k : ℕ) → k < at → word_at v k ≡ word_at m k
-  pub behind : (k : ℕ) → at + tag.size ≤ k → word_at v k ≡ word_at m k
-  pub length : length v.words ≡ length m.words
-  pub starts : v.starts ≡ m.starts
-
--- or with a free rest behind `size` words
-pub record Splits (m v : Image) (at : ℕ) (tag : Tag) (size serial len : ℕ) : Type 0 where
-  pub first : word_at v at ≡ tag_word size false false tag.back
-  pub lives : Lives v at size serial len
-  pub rest : word_at v (at + size) ≡ tag_word (tag.size - size) tag.last true at
-  pub rest_mark : word_at v (at + size + 1) ≡ serial
-  pub next : at + tag.size < length m.words → word_at v (at + tag.size) ≡ with_back (word_at m (at + tag.size)) (at + size)
-  pub before : (k : ℕ) → k < at → word_at v k ≡ word_at m k
-  pub behind : (k : ℕ) → at + tag.size < k → word_at v k ≡ word_at m k
-  pub length : length v.words ≡ length m.words
-  pub starts : v.starts ≡ set m.starts (at + size) true
+    (live.bytes ∙ ap length_word (sym many), rw many (zero_bytes words (at + 3) len (λ k a b. live.payload k a (omega arith))))
 
 -- the tag has the size of the block
 pub tag_size : {m : Image} {bs : List Block} (shows : Shows m bs) {at i : ℕ} (stands : StandsAt bs at i) {tag : Tag} → IsTagIn (word_at m at) tag → tag.size ≡ size_of (block_at bs i)
@@ -76,9 +49,9 @@ module _ {m v : Image} {bs : List Block} (shows : Shows m bs) {at i : ℕ} (stan
     whole_shown =
         let says = says_here shows stands in
         record {
-          tag = wholes.first ∙ ap (λ (b : Bool). tag_word tag.size b false tag.back) (is_tag.last ∙ says.last ∙ rw (wholes.length, tag_size shows stands is_tag) refl) ∙ ap (tag_word tag.size (eqb (at + tag.size) (length v.words)) false) (is_tag.back ∙ says.before);
-          mark = wholes.lives.mark;
-          payload = holds_zeros len room wholes.lives;
+          tag = wholes.live.tag ∙ ap (λ (b : Bool). tag_word tag.size b false tag.back) (is_tag.last ∙ says.last ∙ rw (wholes.only.length, tag_size shows stands is_tag) refl) ∙ ap (tag_word tag.size (eqb (at + tag.size) (length v.words)) false) (is_tag.back ∙ says.before);
+          mark = wholes.live.mark;
+          payload = holds_zeros wholes.live room;
           starts = rw (wholes.starts, tag_size shows stands is_tag) says.starts;
         }
 
@@ -89,13 +62,13 @@ module _ {m v : Image} {bs : List Block} (shows : Shows m bs) {at i : ℕ} (stan
         let end : at + (size_of (block_at bs i) + 0) ≡ at + size_of (block_at bs i) = omega arith in
         record {
           as_many = omega (arith, tag_size shows stands is_tag);
-          as_long = wholes.length;
+          as_long = wholes.only.length;
           mapped = ap length wholes.starts;
           rooms = ((omega (arith, tag_size shows stands is_tag, says.least), rw (length-replicate {A = ℕ} len 0) room), tt);
           some = omega arith;
-          before = λ k h. wholes.before k (omega arith);
-          behind = λ k h. wholes.behind k (omega (arith, tag_size shows stands is_tag));
-          next = λ inside. rw (place, end) (wholes.behind (at + size_of (block_at bs i)) (omega (arith, tag_size shows stands is_tag)) ∙ next_same shows stands (omega (arith, inside, place)));
+          before = λ k h. wholes.only.before k (omega arith);
+          behind = λ k h. wholes.only.behind k (omega (arith, tag_size shows stands is_tag));
+          next = λ inside. rw (place, end) (wholes.only.behind (at + size_of (block_at bs i)) (omega (arith, tag_size shows stands is_tag)) ∙ next_same shows stands (omega (arith, inside, place)));
           starts_before = λ k h. ap (λ (s : List Bool). get_or s k false) wholes.starts;
           starts_behind = λ k h. ap (λ (s : List Bool). get_or s k false) wholes.starts;
           shown = rw place (whole_shown, tt);
@@ -108,11 +81,11 @@ module _ {m v : Image} {bs : List Block} (shows : Shows m bs) {at i : ℕ} (stan
     front_shown : BlockAt v at (back_behind 0 nowhere (take i bs)) (Live size serial (replicate len 0))
     front_shown =
         let says = says_here shows stands in
-        let inner : eqb (at + size) (length v.words) ≡ false = ne_eqb (at + size) (length v.words) (λ h. omega (arith, tag_size shows stands is_tag, says.ends, splits.length)) in
+        let inner : eqb (at + size) (length v.words) ≡ false = ne_eqb (at + size) (length v.words) (λ h. omega (arith, tag_size shows stands is_tag, says.ends, splits.only.length)) in
         record {
-          tag = splits.first ∙ ap (λ (b : Bool). tag_word size b false tag.back) (sym inner) ∙ ap (tag_word size (eqb (at + size) (length v.words)) false) (is_tag.back ∙ says.before);
-          mark = splits.lives.mark;
-          payload = holds_zeros len room splits.lives;
+          tag = splits.live.tag ∙ ap (λ (b : Bool). tag_word size b false tag.back) (sym inner) ∙ ap (tag_word size (eqb (at + size) (length v.words)) false) (is_tag.back ∙ says.before);
+          mark = splits.live.mark;
+          payload = holds_zeros splits.live room;
           starts = record {
             first = split_start at (λ h. omega (arith, h, least)) ∙ says.starts.first;
             others = λ k l g. split_start k (λ h. omega (arith, h, g)) ∙ says.starts.others k l (omega (arith, tag_size shows stands is_tag));
@@ -124,8 +97,8 @@ module _ {m v : Image} {bs : List Block} (shows : Shows m bs) {at i : ℕ} (stan
         let says = says_here shows stands in
         let end : at + size + (tag.size - size) ≡ at + size_of (block_at bs i) = omega (arith, tag_size shows stands is_tag) in
         record {
-          tag = splits.rest ∙ ap (λ (b : Bool). tag_word (tag.size - size) b true at) (is_tag.last ∙ says.last ∙ rw (splits.length, end) refl);
-          mark = splits.rest_mark;
+          tag = splits.rest.tag ∙ ap (λ (b : Bool). tag_word (tag.size - size) b true at) (is_tag.last ∙ says.last ∙ rw (splits.only.length, end) refl);
+          mark = splits.rest.mark;
           payload = tt;
           starts = record {
             first = ap (λ (s : List Bool). get_or s (at + size) false) splits.starts ∙ get_or-set_same m.starts (at + size) true false (omega (arith, shows.mapped, tag_size shows stands is_tag, says.ends));
@@ -140,12 +113,12 @@ module _ {m v : Image} {bs : List Block} (shows : Shows m bs) {at i : ℕ} (stan
         let end : at + (size_of (block_at bs i) + 0) ≡ at + tag.size = omega (arith, tag_size shows stands is_tag) in
         record {
           as_many = omega (arith, tag_size shows stands is_tag);
-          as_long = splits.length;
+          as_long = splits.only.length;
           mapped = ap length splits.starts ∙ length-set m.starts (at + size) true;
           rooms = ((least, rw (length-replicate {A = ℕ} len 0) room), (omega arith, tt));
           some = omega arith;
-          before = λ k h. splits.before k (omega arith);
-          behind = λ k h. splits.behind k (omega (arith, tag_size shows stands is_tag));
+          before = λ k h. splits.only.before k (omega arith);
+          behind = λ k h. splits.only.behind k (omega (arith, tag_size shows stands is_tag));
           next = λ inside. rw (place, end) (splits.next (omega (arith, place, end, inside)));
           starts_before = λ k h. split_start k (λ e. omega (arith, e, place));
           starts_behind = λ k h. split_start k (λ e. omega (arith, e, place, tag_size shows stands is_tag));

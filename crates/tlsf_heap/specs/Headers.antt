@@ -1,7 +1,9 @@
--- Headers, as the words of a region have them.
-use Rattle.std.specs.Prelude.{◌≡◌, ℕ, ◌==◌, List, Bool, false, if◌then◌else◌, slice_set}
-use Rattle.tlsf_words.specs.Fields.{tag_word, size_in, last_in, free_in, back_in}
+-- Headers, as the words of a region have them, and what the writes of one leave.
+use Rattle.std.specs.Prelude.{◌≡◌, ℕ, ◌+◌, ◌-◌, ◌<◌, ◌≤◌, ◌==◌, List, Bool, true, false, if◌then◌else◌, length, slice_index, slice_set}
+use Rattle.tlsf_words.specs.Fields.{tag_word, length_word, size_in, last_in, free_in, back_in}
 use Rattle.tlsf_words.specs.declared.tag.Tag.{Tag}
+use Rattle.tlsf_heap.specs.Image.{Image}
+use Rattle.tlsf_heap.specs.declared.neighbours.Neighbours.{Neighbours}
 
 -- the first word of a header with another place before
 unfoldable pub with_back : ℕ → ℕ → ℕ
@@ -16,3 +18,55 @@ pub record IsTagIn (word : ℕ) (tag : Tag) : Type 0 where
 -- the start map once a block of so many words and the one that begins at this place are one; where there is none, as it was
 unfoldable pub without_start : List Bool → ℕ → ℕ → List Bool
 without_start starts at size = if size == 0 then starts else slice_set starts at false
+
+-- ---- a header at a place
+
+-- that of a free block
+pub record HasFree (words : List ℕ) (at size : ℕ) (last : Bool) (back stamp : ℕ) : Type 0 where
+  pub tag : slice_index words at ≡ tag_word size last true back
+  pub mark : slice_index words (at + 1) ≡ stamp
+
+-- that of a live block with `len` bytes of payload, and behind it zeros to the end of the block
+pub record HasLive (words : List ℕ) (at size : ℕ) (last : Bool) (back serial len : ℕ) : Type 0 where
+  pub tag : slice_index words at ≡ tag_word size last false back
+  pub mark : slice_index words (at + 1) ≡ serial
+  pub bytes : slice_index words (at + 2) ≡ length_word len
+  pub payload : (k : ℕ) → at + 3 ≤ k → k < at + size → slice_index words k ≡ 0
+
+-- the header at a place names this one before it, unless the region ends there
+abbrev pub NamesBefore : List ℕ → List ℕ → ℕ → ℕ → Type 0
+NamesBefore old new at back = at < length old → slice_index new at ≡ with_back (slice_index old at) back
+
+-- ---- what a write leaves
+
+-- no word has changed but those from a place up to an end
+pub record OnlyFrom (old new : List ℕ) (from end : ℕ) : Type 0 where
+  pub before : (k : ℕ) → k < from → slice_index new k ≡ slice_index old k
+  pub behind : (k : ℕ) → end ≤ k → slice_index new k ≡ slice_index old k
+  pub length : length new ≡ length old
+
+-- touches rise by `most` at most
+pub record RisesBy (old new most : ℕ) : Type 0 where
+  pub within : new ≤ old + most
+  pub rise : old ≤ new
+
+-- the block of this tag at a place becomes a live one, whole
+pub record Wholes (old new : Image) (at : ℕ) (tag : Tag) (serial len : ℕ) : Type 0 where
+  pub live : HasLive new.words at tag.size tag.last tag.back serial len
+  pub only : OnlyFrom old.words new.words at (at + tag.size)
+  pub starts : new.starts ≡ old.starts
+
+-- it becomes a live one of `size` words and a free rest
+pub record Splits (old new : Image) (at : ℕ) (tag : Tag) (size serial len : ℕ) : Type 0 where
+  pub live : HasLive new.words at size false tag.back serial len
+  pub rest : HasFree new.words (at + size) (tag.size - size) tag.last at serial
+  pub next : NamesBefore old.words new.words (at + tag.size) (at + size)
+  pub only : OnlyFrom old.words new.words at (at + tag.size + 1)
+  pub starts : new.starts ≡ slice_set old.starts (at + size) true
+
+-- the block at a place and its free neighbours become one free block
+pub record Merges (old new : Image) (at : ℕ) (around : Neighbours) (stamp : ℕ) : Type 0 where
+  pub free : HasFree new.words (at - around.before) around.tag.size around.tag.last around.tag.back stamp
+  pub next : NamesBefore old.words new.words (at - around.before + around.tag.size) (at - around.before)
+  pub only : OnlyFrom old.words new.words (at - around.before) (at - around.before + around.tag.size + 1)
+  pub starts : new.starts ≡ without_start (without_start old.starts at around.before) (at - around.before + around.tag.size - around.after) around.after

@@ -174,7 +174,7 @@ impl Heap {
         ensures touches { self.new.touches ≤ self.old.touches + 64 }
 
         // The count of this code: 3 to check the name, 2 for the tags of the neighbours, 12 to take these out of their lists, 6 for the
-        // headers, and 7 to list what is left. Some heap needs them all.
+        // headers, and 7 to list what is left.
         ensures most_touches { self.new.touches ≤ self.old.touches + 30 }
         ensures touches_rise { self.old.touches ≤ self.new.touches }
 

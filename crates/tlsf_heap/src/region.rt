@@ -81,11 +81,11 @@ impl Region {
         ensures outside { self.old.words ≤ at → self.new.touches ≡ self.old.touches }
         ensures nowhere { at < self.old.words → ¬ (IsPlace self.old.blocks at) → self.new.touches ≡ self.old.touches + 1 }
     {
-        if at >= self.words.len() || !self.words.starts(at) {
+        if !self.begins(at) {
             return None;
         }
-        let tag = self.words.tag(at);
-        if tag.free || self.words.mark(at) != serial {
+        let tag = self.tag(at);
+        if tag.free || self.mark(at) != serial {
             return None;
         }
         Some(tag)
@@ -99,6 +99,7 @@ impl Region {
         ensures rooms { AllByRecursion HasRoom self.old.blocks }
         ensures reads { OnlyReads self.old self.new 1 }
         ensures outside { self.old.words ≤ at → self.new.touches ≡ self.old.touches }
+        ensures one { at < self.old.words → self.new.touches ≡ self.old.touches + 1 }
     {
         at < self.words.len() && self.words.starts(at)
     }

@@ -1,14 +1,14 @@
 -- A block that is carved, whole or with a rest: the words show the blocks, and leave the lists.
-use Rattle.std.proofs.Common.{ℕ, suc, ◌-◌, ◌≤◌, ◌++◌, take, drop, List, length, get_or, sym, ap, ◌∙◌, arith}
+use Rattle.std.proofs.Common.{ℕ, suc, ◌-◌, ◌≤◌, ◌++◌, take, drop, length, sym, ap, ◌∙◌, arith, get_or}
 use Rattle.tlsf_heap.specs.Blocks.{StandsAt, size_of}
 use Rattle.tlsf_heap.specs.Calls.{carved}
 use Rattle.tlsf_heap.specs.GoodFit.{block_at}
-use Rattle.tlsf_heap.specs.Headers.{IsTagIn}
+use Rattle.tlsf_heap.specs.Headers.{IsTagIn, Splits, Wholes}
 use Rattle.tlsf_heap.specs.Regions.{RegionState, image_of}
 use Rattle.tlsf_heap.proofs.Reading.{shows_state, says_here, at_index}
 use Rattle.tlsf_heap.proofs.Edits.{rest_small, rest_large}
 use Rattle.tlsf_heap.proofs.Linking.{Reshapes, holds_state}
-use Rattle.tlsf_heap.proofs.Splitting.{Wholes, Splits, tag_size, left_whole, left_split}
+use Rattle.tlsf_heap.proofs.Splitting.{tag_size, left_whole, left_split}
 use Rattle.tlsf_heap.proofs.region.Region.carve.Goals.{After-split_header}
 use Rattle.tlsf_heap.proofs.region.Region.carve.Goals as goal
 
@@ -28,18 +28,7 @@ live_header-requires c =
     record { least = omega (arith, size, says.least); within = omega (arith, size, says.ends, long); small = omega (arith, shows.small, long) }
 
 wholes : (c : goal.After-live_header) → Wholes (image_of c.self.inside.words) (image_of c.live_header.new.words) c.args.at c.tag-tag.result c.args.serial c.args.len
-wholes c =
-    let e = c.live_header.ensures in
-    let words = c.tag-tag.ensures.words in
-    let word = λ (k : ℕ). ap (λ (w : List ℕ). get_or w k 0) words in
-    record {
-      first = e.tag;
-      lives = record { mark = e.mark; bytes = e.bytes; payload = e.payload };
-      before = λ k h. e.before k h ∙ word k;
-      behind = λ k h. e.behind k h ∙ word k;
-      length = e.length ∙ ap length words;
-      starts = e.starts ∙ c.tag-tag.ensures.starts;
-    }
+wholes c = rw (c.tag-tag.ensures.words, c.tag-tag.ensures.starts) at c.live_header.ensures.change
 
 whole : (c : goal.After-live_header) → (i : ℕ) → StandsAt c.args.self.now.blocks c.args.at i
     → Reshapes (image_of c.live_header.new.words) c.self.inside.lists (take i c.args.self.now.blocks ++ carved (size_of (block_at c.args.self.now.blocks i)) c.args.size c.args.serial c.args.len ++ drop (suc i) c.args.self.now.blocks) c.args.self.now.lists
@@ -68,7 +57,7 @@ returns-then-tag-size-clause-change c i stands =
       blocks = left.blocks;
       lists = left.same;
       edits = record {
-        words = c.live_header.ensures.length ∙ ap length c.tag-tag.ensures.words ∙ words;
+        words = c.live_header.ensures.change.only.length ∙ ap length c.tag-tag.ensures.words ∙ words;
         shows = left.holds.shows;
         touches = omega (arith, c.live_header.ensures.touches, c.tag-tag.ensures.touches, touches, size);
         rise = omega (arith, c.live_header.ensures.touches, c.tag-tag.ensures.touches, touches);
@@ -80,21 +69,7 @@ split_header-requires-clause-within c =
     let says = says_here (shows_state c.self.invariant c.self.view_is) c.requires.room.1 in omega (arith, c.tag-tag.ensures.size ∙ says.size, says.ends, ap length c.tag-tag.ensures.words)
 
 splits : (c : After-split_header) → Splits (image_of c.self.inside.words) (image_of c.split_header.new.words) c.args.at c.tag-tag.result c.args.size c.args.serial c.args.len
-splits c =
-    let e = c.split_header.ensures in
-    let words = c.tag-tag.ensures.words in
-    let word = λ (k : ℕ). ap (λ (w : List ℕ). get_or w k 0) words in
-    record {
-      first = e.tag;
-      lives = record { mark = e.mark; bytes = e.bytes; payload = e.payload };
-      rest = e.rest;
-      rest_mark = e.rest_mark;
-      next = rw words at e.next;
-      before = λ k h. e.before k h ∙ word k;
-      behind = λ k h. e.behind k h ∙ word k;
-      length = e.length ∙ ap length words;
-      starts = rw c.tag-tag.ensures.starts at e.starts;
-    }
+splits c = rw (c.tag-tag.ensures.words, c.tag-tag.ensures.starts) at c.split_header.ensures.change
 
 split : (c : After-split_header) → (i : ℕ) → StandsAt c.args.self.now.blocks c.args.at i
     → Reshapes (image_of c.split_header.new.words) c.self.inside.lists (take i c.args.self.now.blocks ++ carved (size_of (block_at c.args.self.now.blocks i)) c.args.size c.args.serial c.args.len ++ drop (suc i) c.args.self.now.blocks) c.args.self.now.lists
@@ -124,9 +99,9 @@ returns-clause-change c i stands =
       blocks = left.blocks;
       lists = left.same;
       edits = record {
-        words = c.split_header.ensures.length ∙ ap length c.tag-tag.ensures.words ∙ words;
+        words = c.split_header.ensures.change.only.length ∙ ap length c.tag-tag.ensures.words ∙ words;
         shows = left.holds.shows;
-        touches = omega (arith, c.split_header.ensures.touches, c.tag-tag.ensures.touches, touches, size, c.if-tag-size.false, c.requires.least);
-        rise = omega (arith, c.split_header.ensures.rise, c.tag-tag.ensures.touches, touches);
+        touches = omega (arith, c.split_header.ensures.touches.within, c.tag-tag.ensures.touches, touches, size, c.if-tag-size.false, c.requires.least);
+        rise = omega (arith, c.split_header.ensures.touches.rise, c.tag-tag.ensures.touches, touches);
       };
     }

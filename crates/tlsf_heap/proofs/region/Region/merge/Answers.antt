@@ -1,13 +1,14 @@
--- The clauses of `merge_headers` are a merge of the words, and so one of the blocks, and leave the lists.
+-- A merge of the words is one of the blocks, and leaves the lists.
 use Rattle.std.proofs.Common.{ℕ, ◌+◌, ◌-◌, List, length, sym, ap, ◌∙◌, subst, arith}
 use Rattle.tlsf_heap.specs.Calls.{coalesced}
 use Rattle.tlsf_heap.specs.Blocks.{Block, StandsAt}
 use Rattle.tlsf_heap.specs.GoodFit.{site_at}
 use Rattle.tlsf_heap.proofs.Reading.{shows_state, at_index}
-use Rattle.tlsf_heap.proofs.Merging.{Merges, merge_within, merge_before, merge_after, merge_parts, merge_replaces, merge_begins, merge_range, merge_is}
+use Rattle.tlsf_heap.proofs.Merging.{merge_within, merge_before, merge_after, merge_parts, merge_replaces, merge_begins, merge_range, merge_is}
 use Rattle.tlsf_heap.proofs.Linking.{Reshapes, HoldsState, holds_state, reshaped}
 use Rattle.tlsf_heap.specs.declared.neighbours.Neighbours.{Neighbours}
 use Rattle.tlsf_heap.specs.Regions.{RegionState, AreNeighbours, AreUnlisted, list_in, image_of}
+use Rattle.tlsf_heap.specs.Headers.{Merges}
 use Rattle.tlsf_heap.specs.Image.{Image}
 use Rattle.tlsf_words.specs.Lists.{ListHeads}
 use Rattle.tlsf_heap.proofs.region.Region.merge.Goals as goal
@@ -24,11 +25,6 @@ merge_headers-requires c =
     let is = neighbours c c.requires.around.0 stands in
     record { before = merge_before shows stands is; after = merge_after shows stands is; within = merge_within shows stands is; small = shows.small }
 
-merges : (c : goal.After-merge_headers) → Merges (image_of c.self.inside.words) (image_of c.merge_headers.new.words) c.args.at c.args.around c.args.stamp
-merges c =
-    let e = c.merge_headers.ensures in
-    record { tag = e.tag; mark = e.mark; next = e.next; before = e.before; behind = e.behind; length = e.length; starts = e.starts }
-
 -- the blocks and the lists that a merge leaves
 merged : {m v : Image} {l : ListHeads} {r : RegionState} → HoldsState m l r → {at i stamp : ℕ} {around : Neighbours} → StandsAt r.blocks at i → AreNeighbours (length m.words) (site_at r.blocks i) around
     → Merges m v at around stamp → AreUnlisted (list_in r.lists) (at - around.before) (at - around.before + around.tag.size) → Reshapes v l (coalesced stamp (site_at r.blocks i)) r.lists
@@ -40,7 +36,7 @@ merged {v = v} {l = l} {r = r} state {i = i} {stamp = stamp} stands is merges un
 
 reshapes : (c : goal.After-merge_headers) → (i : ℕ) → StandsAt c.args.self.now.blocks c.args.at i
     → Reshapes (image_of c.merge_headers.new.words) c.self.inside.lists (coalesced c.args.stamp (site_at c.args.self.now.blocks i)) c.args.self.now.lists
-reshapes c i stands = merged (holds_state c.self.invariant c.self.view_is) stands (neighbours c.before i stands) (merges c) c.requires.unlisted
+reshapes c i stands = merged (holds_state c.self.invariant c.self.view_is) stands (neighbours c.before i stands) c.merge_headers.ensures.change c.requires.unlisted
 
 pub invariant_of-self : goal.invariant_of-self
 invariant_of-self c = (reshapes c c.requires.around.0 c.requires.around.1).holds
@@ -53,5 +49,5 @@ returns c i stands =
     record {
       blocks = left.blocks;
       lists = left.same;
-      edits = record { words = c.merge_headers.ensures.length ∙ words; shows = left.holds.shows; touches = omega (arith, c.merge_headers.ensures.touches, touches); rise = omega (arith, c.merge_headers.ensures.rise, touches) };
+      edits = record { words = c.merge_headers.ensures.change.only.length ∙ words; shows = left.holds.shows; touches = omega (arith, c.merge_headers.ensures.touches.within, touches); rise = omega (arith, c.merge_headers.ensures.touches.rise, touches) };
     }

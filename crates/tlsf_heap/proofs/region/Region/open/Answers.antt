@@ -35,8 +35,8 @@ made c =
     let opened = c.in_ok-region.ensures in
     let header = c.first_header.ensures in
     let long : length c.in_ok-region.region.words ≡ c.args.words = ap length opened.words ∙ length-replicate c.args.words 0 in
-    one_block (image_of c.first_header.new.words) c.args.words c.args.stamp c.requires.least c.requires.most (header.length ∙ long)
-    (header.tag ∙ ap (λ (n : ℕ). tag_word n true true nowhere) long) header.mark (header.starts ∙ ap (λ (l : List Bool). set l 0 true) opened.starts)
+    one_block (image_of c.first_header.new.words) c.args.words c.args.stamp c.requires.least c.requires.most (header.only.length ∙ long)
+    (header.header.tag ∙ ap (λ (n : ℕ). tag_word n true true nowhere) long) header.header.mark (header.starts ∙ ap (λ (l : List Bool). set l 0 true) opened.starts)
 
 pub invariant_of-result : goal.invariant_of-result
 invariant_of-result c = record {
@@ -47,7 +47,7 @@ invariant_of-result c = record {
 
 pub returns : goal.returns
 returns c = record {
-  words = c.first_header.ensures.length ∙ ap length c.in_ok-region.ensures.words ∙ length-replicate c.args.words 0;
+  words = c.first_header.ensures.only.length ∙ ap length c.in_ok-region.ensures.words ∙ length-replicate c.args.words 0;
   blocks = blocks_of-shown (image_of c.first_header.new.words) (Free c.args.words c.args.stamp ∷ []) (made c);
   lists = λ class. list_in-lists_of c.new.result.heads c.first_header.new.words.words class ∙ c.new.ensures.empty c.first_header.new.words.words class;
   touches = omega (arith, c.first_header.ensures.touches, c.new.ensures.touches, c.in_ok-region.ensures.touches);
