@@ -1,3 +1,6 @@
+pub use Rattle.tlsf_calls.specs.Bytes
+pub use Rattle.tlsf_calls.specs.Entries
+pub use Rattle.tlsf_calls.specs.Numbers
 pub use Rattle.tlsf_lock.specs.Grants
 -- What a yard shows, what the calls of its workers answer, and what a list of events comes to.
 pub mod yard

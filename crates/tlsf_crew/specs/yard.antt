@@ -1,7 +1,5 @@
 -- What a yard shows, what the calls of its workers answer, and what a list of events comes to.
 
--- The bytes that a chunk holds.
-pub mod Bytes
 -- What a worker's own calls answer and leave.
 pub mod Calls
 -- How many entries events can make.
@@ -22,8 +20,6 @@ pub mod Moves
 pub mod NewLanes
 -- What a drain notes of the posts that it takes. For private functions alone.
 pub mod Notes
--- The numbers that stand for the refusals of a worker.
-pub mod Numbers
 -- How a yard is opened.
 pub mod Opening
 -- What the steps of a replay answer and leave. For private functions alone.

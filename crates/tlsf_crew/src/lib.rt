@@ -27,20 +27,13 @@ pub use threads::gate::{Gate, OpenGate};
 pub use threads::laws::one_history_of_a_race;
 pub use threads::outcome::Outcome;
 pub use threads::race::race;
+pub use tlsf_calls::{
+    Call, Chunk, CrewRefusal, Drained, Entry, Event, MOST_DRAINED, Released, Reply, Target, Took,
+};
 pub use tlsf_lock::{Counted, LockedHeap};
-pub use yard::call::Call;
-pub use yard::chunk::Chunk;
-pub use yard::crew_refusal::CrewRefusal;
-pub use yard::drained::{Drained, MOST_DRAINED};
-pub use yard::entry::Entry;
-pub use yard::event::Event;
 pub use yard::history::one_history;
 pub use yard::laws::lanes_join_the_yard;
 pub use yard::opening::open_yard;
-pub use yard::released::Released;
 pub use yard::replay::{replay_behind, replay_events};
-pub use yard::reply::Reply;
 pub use yard::settle::settle;
-pub use yard::target::Target;
-pub use yard::took::Took;
 pub use yard::worker::Worker;

@@ -1,34 +1,8 @@
--- Fields and lines.
-pub mod CutSteps  -- fields that are cut off a line, one after another
-pub mod FieldSteps  -- what the fields of a line say, up to one that has not its shape
-pub mod LineJudged  -- a line, judged by its first field and what stands behind it
-pub mod LineSteps  -- a step of the loop over lines
-pub mod LabelSteps  -- what is remembered of labels, behind a line and a phase
-pub mod EmptyText  -- a text without bytes has no header
-pub mod HexSteps  -- pairs of hexadecimal digits, all read before they are judged
--- Texts and pieces.
-pub mod FirstPiece  -- a text begins with its first piece
-pub mod PiecesJoin  -- the pieces of a text, joined, are the text
-pub mod PieceCounts  -- how many pieces two joined texts have
-pub mod LongInputs  -- an input with a prefix of too many lines
-pub mod PrefixSteps  -- a prefix that grows by what the writer took
--- Faults.
-pub mod FirstFault  -- a fault at a line is the first one
-pub mod TextFault  -- the fault that a text has instead of a trace
 -- The run and its text.
-pub mod ScriptSteps  -- events and labels of lines, one line after another
-pub mod ReplySteps  -- reply lines of entries, one entry after another
 pub mod PartByPart  -- a replay whose lines are written part by part
 pub mod ReportSteps  -- report lines of heaps, one heap after another
 pub mod WholeOutput  -- what is put out, from its parts
 pub mod WholeReplay  -- a replay that is done
 -- Races.
-pub mod WorkerByWorker  -- what is made for one worker after another
-pub mod NamesLearned  -- what labels stand for behind one line more
 pub mod RaceTold  -- what the text of a raced trace tells of each heap
 pub mod RacedPhases  -- phases that are raced one after another
-pub mod PhaseCuts  -- a trace begins with its first phase
--- The definitions on worked rows.
-pub mod WorkedTraces  -- whole traces
-pub mod WorkedLines  -- single lines
-mod WorkedOutput  -- events of a trace, and reply lines

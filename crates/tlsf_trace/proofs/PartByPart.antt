@@ -1,12 +1,12 @@
 -- A replay whose lines are written part by part.
 use Rattle.std.proofs.Common.{◌≡◌, ◌++◌, ℕ, List, [], Option, ap, sym, refl, ◌∙◌, append_assoc, append-nil}
 use Rattle.tlsf_heap.specs.declared.name.Name.{Name}
-use Rattle.tlsf_crew.specs.declared.yard.entry.Entry.{Entry}
-use Rattle.tlsf_crew.specs.declared.yard.event.Event.{Event}
+use Rattle.tlsf_calls.specs.declared.entry.Entry.{Entry}
+use Rattle.tlsf_calls.specs.declared.event.Event.{Event}
 use Rattle.tlsf_crew.specs.yard.World.{World, replies_behind}
 use Rattle.tlsf_crew.proofs.lemmas.yard.InParts.{replies_in_parts, replies_none}
-use Rattle.tlsf_trace.specs.ReplyLines.{labels_left, reply_text}
-use Rattle.tlsf_trace.proofs.ReplySteps.{reply_text-append}
+use Rattle.tlsf_lines.specs.ReplyLines.{labels_left, reply_text}
+use Rattle.tlsf_lines.proofs.ReplySteps.{reply_text-append}
 
 -- the lines of a part and those of the events behind it are the lines of both
 pub part_told : (w u : World) (made names : List (Option Name)) (part rest : List Event) (es : List Entry) (labels left : List (Option ℕ)) (old new total : List ℕ)

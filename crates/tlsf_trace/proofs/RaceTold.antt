@@ -1,18 +1,19 @@
 -- What the text of a raced trace tells of each heap.
 use Rattle.std.proofs.Common.{◌∷◌, ◌++◌, [], ℕ, List, Option, refl, sym, ap, ◌∙◌, arith, append_assoc}
 use Rattle.tlsf_heap.specs.declared.name.Name.{Name}
-use Rattle.tlsf_crew.specs.threads.Race.{record_of}
+use Rattle.tlsf_calls.specs.Entries.{record_of}
 use Rattle.tlsf_crew.specs.yard.History.{answers_on, calls_on}
 use Rattle.tlsf_crew.specs.yard.World.{World, heap_in}
 use Rattle.tlsf_crew.proofs.lemmas.threads.RecordHistory.{race_runs}
 use Rattle.tlsf_crew.proofs.lemmas.yard.JoinedEntries.{runs_then}
 use Rattle.tlsf_trace.specs.Output.{yard_of}
-use Rattle.tlsf_trace.specs.Phases.{known_below, none_known, phases_of, scripts_in}
+use Rattle.tlsf_lines.specs.Phases.{known_below, none_known, phases_of, scripts_in}
 use Rattle.tlsf_trace.specs.RaceHistory.{HasHistory, TellsHistory, answers_told, calls_told, phases_text}
-use Rattle.tlsf_trace.specs.RaceOutput.{IsRaceOutput, IsRaceText, records_text}
+use Rattle.tlsf_trace.specs.RaceOutput.{IsRaceOutput, IsRaceText}
+use Rattle.tlsf_lines.specs.Records.{records_text}
 use Rattle.tlsf_trace.specs.ReportLines.{report_text}
-use Rattle.tlsf_trace.specs.Trace.{Trace}
-use Rattle.tlsf_trace.specs.declared.line.Line.{Line}
+use Rattle.tlsf_lines.specs.Trace.{Trace}
+use Rattle.tlsf_lines.specs.declared.line.Line.{Line}
 
 phases_told : (n : ℕ) (phases : List (List Line)) (w : World) (known : ℕ → Option Name) (text : List ℕ) → IsRaceText n w known phases text → TellsHistory n w phases text
 phases_told n [] w known text is = record { told = []; world = w; phases_are = refl; text_is = is; heaps = λ j j_in. record { told = refl; left = refl } }

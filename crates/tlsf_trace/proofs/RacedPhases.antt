@@ -5,19 +5,20 @@ use Rattle.std.proofs.lemmas.List.{length-map}
 use Rattle.std.proofs.lemmas.List.FromFn.{length-map-range_with_len}
 use Rattle.tlsf_heap.specs.Calls.{opened}
 use Rattle.tlsf_heap.specs.declared.name.Name.{Name}
-use Rattle.tlsf_crew.specs.declared.yard.entry.Entry.{Entry}
+use Rattle.tlsf_calls.specs.declared.entry.Entry.{Entry}
 use Rattle.tlsf_crew.specs.declared.yard.worker.Worker.{Worker}
 use Rattle.tlsf_crew.specs.threads.Race.{IsRace}
 use Rattle.tlsf_crew.specs.yard.Workers.{heap_of}
 use Rattle.tlsf_crew.specs.yard.World.{World, world_of}
 use Rattle.tlsf_crew.specs.yard.Yard.{IsYard}
-use Rattle.tlsf_trace.specs.Phases.{known_below, none_known, phases_of, scripts_in}
-use Rattle.tlsf_trace.specs.RaceOutput.{IsPhase, IsRaceOutput, IsRaceText, records_text}
+use Rattle.tlsf_lines.specs.Phases.{known_below, none_known, phases_of, scripts_in}
+use Rattle.tlsf_trace.specs.RaceOutput.{IsPhase, IsRaceOutput, IsRaceText}
+use Rattle.tlsf_lines.specs.Records.{records_text}
 use Rattle.tlsf_trace.specs.Output.{yard_of}
 use Rattle.tlsf_trace.specs.RaceSoFar.{IsPhaseRaced, IsRaceSoFar}
 use Rattle.tlsf_trace.specs.ReportLines.{report_text}
-use Rattle.tlsf_trace.specs.declared.header.Header.{Header}
-use Rattle.tlsf_trace.specs.declared.line.Line.{Line}
+use Rattle.tlsf_lines.specs.declared.header.Header.{Header}
+use Rattle.tlsf_lines.specs.declared.line.Line.{Line}
 
 -- the phases of the lines that are left
 abbrev pub phases_left : Option (Bor (List Line)) → List (List Line)

@@ -1,15 +1,15 @@
 -- What is put out, from its parts.
 use Rattle.std.proofs.Common.{◌≡◌, ℕ, List, ◌++◌, map, Option, refl, ap, ◌∙◌}
-use Rattle.tlsf_crew.specs.declared.yard.entry.Entry.{Entry}
-use Rattle.tlsf_crew.specs.declared.yard.event.Event.{Event}
+use Rattle.tlsf_calls.specs.declared.entry.Entry.{Entry}
+use Rattle.tlsf_calls.specs.declared.event.Event.{Event}
 use Rattle.tlsf_crew.specs.declared.yard.worker.Worker.{Worker}
 use Rattle.tlsf_crew.specs.yard.World.{World, world_of, replies}
 use Rattle.tlsf_crew.specs.yard.Workers.{heap_of}
 use Rattle.tlsf_trace.specs.Output.{yard_of, output_of}
-use Rattle.tlsf_trace.specs.ReplyLines.{reply_text}
+use Rattle.tlsf_lines.specs.ReplyLines.{reply_text}
 use Rattle.tlsf_trace.specs.ReportLines.{report_text}
-use Rattle.tlsf_trace.specs.Trace.{Trace}
-use Rattle.tlsf_trace.specs.Events.{events_of, labels_of}
+use Rattle.tlsf_lines.specs.Trace.{Trace}
+use Rattle.tlsf_lines.specs.Events.{events_of, labels_of}
 
 -- the heaps of the world that a yard shows
 heaps_in : (ws : List Worker) (w : World) → world_of ws ≡ w → map heap_of ws ≡ w.heaps

@@ -2,15 +2,15 @@
 use Rattle.std.proofs.Common.{◌≡◌, ℕ, List, Option, Some, None, Result, Ok, Err, IfSome, length, sym, ap, ◌∙◌, subst, refl, inr, arith}
 use Rattle.std.specs.Io.KnownBytes.{Appends, IsAtEnd}
 use Rattle.tlsf_trace.specs.Finish.{Finishes}
-use Rattle.tlsf_trace.specs.Limits.{IsWithinLimits}
-use Rattle.tlsf_trace.specs.Output.{calls_of}
-use Rattle.tlsf_trace.specs.Prefixes.{AppendsFront}
-use Rattle.tlsf_trace.specs.Replay.{IsLineFault, IsRun, Outputs, Writes, WritesPrefix}
-use Rattle.tlsf_trace.specs.Trace.{Trace, trace_of}
-use Rattle.tlsf_trace.specs.TraceFaults.{too_long_fault, write_fault}
-use Rattle.tlsf_trace.specs.declared.line_fault.LineFault.TheVariants.{BadHeader, BadLine, BadNumber, LabelOrder}
+use Rattle.tlsf_lines.specs.Limits.{IsWithinLimits}
+use Rattle.tlsf_lines.specs.Trace.{calls_of}
+use Rattle.tlsf_lines.specs.Prefixes.{AppendsFront}
+use Rattle.tlsf_trace.specs.Replay.{IsRun, Outputs, Writes, WritesPrefix}
+use Rattle.tlsf_lines.specs.Trace.{Trace, trace_of}
+use Rattle.tlsf_lines.specs.TraceFaults.{too_long_fault, write_fault, IsLineFault}
+use Rattle.tlsf_lines.specs.declared.line_fault.LineFault.TheVariants.{BadHeader, BadLine, BadNumber, LabelOrder}
 use Rattle.tlsf_trace.specs.declared.summary.Summary.{Summary}
-use Rattle.tlsf_trace.specs.declared.trace_fault.TraceFault.{TraceFault}
+use Rattle.tlsf_lines.specs.declared.trace_fault.TraceFault.{TraceFault}
 
 -- a fact of the text that was read, where it is known what the reader had left
 of_read : (P : List ℕ → Type 0) (left : Option (List ℕ)) (text : List ℕ) → IfSome left (λ l. text ≡ l) → P text → IfSome left P

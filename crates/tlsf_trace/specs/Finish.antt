@@ -1,10 +1,10 @@
 -- The end of a run: what a trace puts out is written. This serves the contracts of private functions alone.
 use Rattle.std.specs.Prelude.{◌≡◌, ℕ, List, Option, Result, Ok, Err, length}
 use Rattle.std.specs.Io.KnownBytes.{Appends}
-use Rattle.tlsf_trace.specs.Prefixes.{AppendsFront}
-use Rattle.tlsf_trace.specs.TraceFaults.{write_fault}
+use Rattle.tlsf_lines.specs.Prefixes.{AppendsFront}
+use Rattle.tlsf_lines.specs.TraceFaults.{write_fault}
 use Rattle.tlsf_trace.specs.declared.summary.Summary.{Summary}
-use Rattle.tlsf_trace.specs.declared.trace_fault.TraceFault.{TraceFault}
+use Rattle.tlsf_lines.specs.declared.trace_fault.TraceFault.{TraceFault}
 
 -- all was written and counted, and so many calls are told
 pub record IsFinished (summary : Summary) (calls : ℕ) (output : List ℕ) (old new : Option (List ℕ)) : Type 0 where

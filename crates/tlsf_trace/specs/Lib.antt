@@ -1,32 +1,18 @@
--- What the clauses of public functions cite: a text, its lines, its trace, and what is asked and written.
-pub mod Payloads
-pub mod Values
-pub mod Fields
-pub mod Lines
-pub mod Labels
-pub mod Header
-pub mod Pieces
-pub mod Trace
-pub mod Events
-pub mod ReplyLines
+-- What the clauses of public functions cite: what a trace asks for, and what is written.
 pub mod ReportLines
 pub mod Output
-pub mod Phases
 pub mod RaceOutput
 pub mod RaceHistory
-pub mod LineFaults
-pub mod TraceFaults
-pub mod Limits
-pub mod Prefixes
 pub mod Replay
-pub mod Laws
+pub use Rattle.tlsf_lines.specs.Pieces
+pub use Rattle.tlsf_lines.specs.Trace
+pub use Rattle.tlsf_lines.specs.Events
+pub use Rattle.tlsf_lines.specs.ReplyLines
+pub use Rattle.tlsf_lines.specs.Phases
+pub use Rattle.tlsf_lines.specs.Records
+pub use Rattle.tlsf_lines.specs.TraceFaults
+pub use Rattle.tlsf_lines.specs.Limits
+pub use Rattle.tlsf_lines.specs.Prefixes
 -- What the clauses of private functions cite besides.
-pub mod Ranges
-pub mod Views
-pub mod CutFields
-pub mod LabelMemory
-pub mod ScriptSoFar
-pub mod OwnMakers
 pub mod RaceSoFar
 pub mod Finish
-pub mod OpenLines

@@ -1,13 +1,12 @@
 -- What a trace puts out.
-use Rattle.std.specs.Prelude.{ℕ, List, ◌++◌, Option, count_by}
+use Rattle.std.specs.Prelude.{ℕ, List, ◌++◌, Option}
 use Rattle.tlsf_crew.specs.yard.Opening.{opened_world}
 use Rattle.tlsf_crew.specs.yard.World.{World, Replayed, replies}
-use Rattle.tlsf_trace.specs.declared.header.Header.{Header}
-use Rattle.tlsf_trace.specs.Lines.{is_call}
-use Rattle.tlsf_trace.specs.Events.{events_of, labels_of}
-use Rattle.tlsf_trace.specs.ReplyLines.{reply_text}
+use Rattle.tlsf_lines.specs.declared.header.Header.{Header}
+use Rattle.tlsf_lines.specs.Events.{events_of, labels_of}
+use Rattle.tlsf_lines.specs.ReplyLines.{reply_text}
 use Rattle.tlsf_trace.specs.ReportLines.{report_text}
-use Rattle.tlsf_trace.specs.Trace.{Trace}
+use Rattle.tlsf_lines.specs.Trace.{Trace}
 
 -- the yard that a header names
 abbrev pub yard_of : Header → World
@@ -23,7 +22,3 @@ output_text run labels = reply_text run.entries labels ++ report_text run.world.
 
 abbrev pub output_of : Trace → List ℕ
 output_of trace = output_text (run_of trace) (labels_of trace)
-
--- how many lines are calls
-abbrev pub calls_of : Trace → ℕ
-calls_of trace = count_by is_call trace.lines

@@ -2,16 +2,16 @@
 use Rattle.std.specs.Prelude.{◌≡◌, ℕ, ◌<◌, List, [], ◌∷◌, ◌++◌, length, map, Option}
 use Rattle.tlsf_heap.specs.Calls as heap
 use Rattle.tlsf_heap.specs.declared.name.Name.{Name}
-use Rattle.tlsf_crew.specs.declared.yard.entry.Entry.{Entry}
-use Rattle.tlsf_crew.specs.threads.Race.{record_of}
+use Rattle.tlsf_calls.specs.declared.entry.Entry.{Entry}
+use Rattle.tlsf_calls.specs.Entries.{record_of}
 use Rattle.tlsf_crew.specs.yard.History.{RunsTo, answers_on, calls_on}
 use Rattle.tlsf_crew.specs.yard.World.{World, heap_in}
 use Rattle.tlsf_trace.specs.Output.{yard_of}
-use Rattle.tlsf_trace.specs.Phases.{phases_of}
-use Rattle.tlsf_trace.specs.RaceOutput.{records_text}
+use Rattle.tlsf_lines.specs.Phases.{phases_of}
+use Rattle.tlsf_lines.specs.Records.{records_text}
 use Rattle.tlsf_trace.specs.ReportLines.{report_text}
-use Rattle.tlsf_trace.specs.Trace.{Trace}
-use Rattle.tlsf_trace.specs.declared.line.Line.{Line}
+use Rattle.tlsf_lines.specs.Trace.{Trace}
+use Rattle.tlsf_lines.specs.declared.line.Line.{Line}
 
 -- a phase that was raced: its lines, the names that each worker's calls made, and the records
 pub record PhaseTold : Type 0 where

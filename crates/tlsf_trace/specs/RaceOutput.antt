@@ -1,34 +1,15 @@
 -- What a trace puts out that is raced: no function of it, since a schedule decides what a drain takes.
-use Rattle.std.specs.Prelude.{◌≡◌, zero, suc, ℕ, List, [], ◌∷◌, ◌++◌, map, Option, Some, None}
+use Rattle.std.specs.Prelude.{◌≡◌, ℕ, List, [], ◌∷◌, ◌++◌, Option}
 use Rattle.tlsf_heap.specs.declared.name.Name.{Name}
-use Rattle.tlsf_crew.specs.declared.yard.entry.Entry.{Entry}
-use Rattle.tlsf_crew.specs.threads.Race.{IsRace, record_of}
+use Rattle.tlsf_calls.specs.declared.entry.Entry.{Entry}
+use Rattle.tlsf_crew.specs.threads.Race.{IsRace}
 use Rattle.tlsf_crew.specs.yard.World.{World}
-use Rattle.tlsf_trace.specs.declared.line.Line.{Line}
-use Rattle.tlsf_trace.specs.declared.line.Line.TheVariants.{Allocate, Release, Write, Read, Drain, Phase}
+use Rattle.tlsf_lines.specs.declared.line.Line.{Line}
 use Rattle.tlsf_trace.specs.Output.{yard_of}
-use Rattle.tlsf_trace.specs.Phases.{known_below, own_lines, none_known, phases_of, scripts_in}
-use Rattle.tlsf_trace.specs.ReplyLines.{reply_text}
+use Rattle.tlsf_lines.specs.Records.{records_text}
+use Rattle.tlsf_lines.specs.Phases.{known_below, none_known, phases_of, scripts_in}
 use Rattle.tlsf_trace.specs.ReportLines.{report_text}
-use Rattle.tlsf_trace.specs.Trace.{Trace}
-
--- the label of a line, which a drain has not
-abbrev pub label_in : Line → Option ℕ
-label_in (Allocate worker label len) = Some label
-label_in (Release worker label) = Some label
-label_in (Write worker label at bytes) = Some label
-label_in (Read worker label at n) = Some label
-label_in (Drain worker most) = None
-label_in Phase = None
-
--- the lines of worker w's record of a phase
-abbrev pub record_text : List Line → List (List Entry) → ℕ → List ℕ
-record_text phase records w = reply_text (record_of records w) (map label_in (own_lines w phase))
-
--- the lines of the records of the workers below a number, worker after worker
-abbrev pub records_text : List Line → List (List Entry) → ℕ → List ℕ
-records_text phase records zero = []
-records_text phase records (suc w) = records_text phase records w ++ record_text phase records w
+use Rattle.tlsf_lines.specs.Trace.{Trace}
 
 -- a race of one phase leads from one world to the other, with these records
 abbrev pub IsPhase : ℕ → World → (ℕ → Option Name) → List Line → List (List Entry) → World → Type 0

@@ -1,13 +1,14 @@
 -- What the phases of a race give one another. This serves the contracts and proofs of private functions alone.
 use Rattle.std.specs.Prelude.{◌≡◌, ℕ, List, ◌++◌, length, Option}
 use Rattle.tlsf_heap.specs.declared.name.Name.{Name}
-use Rattle.tlsf_crew.specs.declared.yard.entry.Entry.{Entry}
+use Rattle.tlsf_calls.specs.declared.entry.Entry.{Entry}
 use Rattle.tlsf_crew.specs.declared.yard.worker.Worker.{Worker}
 use Rattle.tlsf_crew.specs.yard.World.{World, world_of}
 use Rattle.tlsf_crew.specs.yard.Yard.{IsYard}
-use Rattle.tlsf_trace.specs.Phases.{known_below}
-use Rattle.tlsf_trace.specs.RaceOutput.{IsPhase, IsRaceText, records_text}
-use Rattle.tlsf_trace.specs.declared.line.Line.{Line}
+use Rattle.tlsf_lines.specs.Phases.{known_below}
+use Rattle.tlsf_trace.specs.RaceOutput.{IsPhase, IsRaceText}
+use Rattle.tlsf_lines.specs.Records.{records_text}
+use Rattle.tlsf_lines.specs.declared.line.Line.{Line}
 
 -- a phase was raced: the workers became others, labels learnt their names, and the lines of the records were told
 pub record IsPhaseRaced (ws : List Worker) (known : ℕ → Option Name) (phase : List Line) (old : List ℕ) (vs : List Worker) (learnt : ℕ → Option Name) (new : List ℕ) : Type 0 where

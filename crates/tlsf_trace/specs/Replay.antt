@@ -1,15 +1,14 @@
 -- What a run of a trace answers and writes, by the text that it reads: a replay, and a race.
-use Rattle.std.specs.Prelude.{◌≡◌, ◌⊎◌, ℕ, ◌≤◌, List, Option, Some, None, Result, Ok, Err, IfOk, IfErr, IfSome, OnOk, length}
+use Rattle.std.specs.Prelude.{◌≡◌, ◌⊎◌, ℕ, List, Option, Some, Result, Ok, IfOk, IfErr, IfSome, OnOk, length}
 use Rattle.std.specs.Io.KnownBytes.{Appends, IsAtEnd, Keeps}
-use Rattle.tlsf_trace.specs.Output.{calls_of, output_of}
+use Rattle.tlsf_trace.specs.Output.{output_of}
 use Rattle.tlsf_trace.specs.RaceOutput.{IsRaceOutput}
-use Rattle.tlsf_trace.specs.Prefixes.{AppendsFront}
-use Rattle.tlsf_trace.specs.Limits.{IsWithinLimits, IsTooLong}
-use Rattle.tlsf_trace.specs.Trace.{Trace, trace_of}
-use Rattle.tlsf_trace.specs.TraceFaults.{fault_in, no_memory_fault, too_long_fault, read_fault, write_fault}
-use Rattle.tlsf_trace.specs.declared.line_fault.LineFault.{LineFault}
+use Rattle.tlsf_lines.specs.Prefixes.{AppendsFront}
+use Rattle.tlsf_lines.specs.Limits.{IsWithinLimits, IsTooLong}
+use Rattle.tlsf_lines.specs.Trace.{Trace, trace_of, calls_of}
+use Rattle.tlsf_lines.specs.TraceFaults.{IsLineFault, fault_of, no_memory_fault, too_long_fault, read_fault, write_fault}
 use Rattle.tlsf_trace.specs.declared.summary.Summary.{Summary}
-use Rattle.tlsf_trace.specs.declared.trace_fault.TraceFault.{TraceFault}
+use Rattle.tlsf_lines.specs.declared.trace_fault.TraceFault.{TraceFault}
 
 -- ---- what a text asks for, by the texts that its trace may put out
 
@@ -30,14 +29,6 @@ pub record AsksFor (Puts : Outputs) (text output : List ℕ) (calls : ℕ) : Typ
   pub puts : Puts trace output
   pub calls_are : calls ≡ calls_of trace
 
--- the first fault of a text that spells no trace
-abbrev pub fault_by : Result Trace (LineFault × ℕ) → Option TraceFault
-fault_by (Ok trace) = None
-fault_by (Err fault) = Some (fault_in fault.0 fault.1)
-
-abbrev pub fault_of : List ℕ → Option TraceFault
-fault_of text = fault_by (trace_of text)
-
 -- ---- what is written
 
 -- all that was asked for was written, and nothing else
@@ -55,10 +46,6 @@ pub record WritesPrefix (Puts : Outputs) (text : List ℕ) (old new : Option (Li
   pub front : AppendsFront old new output
 
 -- ---- faults
-
--- a fault of a line has its number and its line, counted from 1
-abbrev pub IsLineFault : TraceFault → Type 0
-IsLineFault fault = (line_fault : LineFault) × (line : ℕ) × (1 ≤ line) × (fault ≡ fault_in line_fault line)
 
 -- a fault is that of a line, or one of memory, of the length, of a read or of a write
 abbrev pub IsFault : TraceFault → Type 0

@@ -1,26 +1,7 @@
 ghost use Rattle.std.specs.Prelude.{ℕ, List};
 ghost use Rattle.tlsf_trace.specs.RaceHistory.{HasHistory};
 ghost use Rattle.tlsf_trace.specs.RaceOutput.{IsRaceOutput};
-ghost use Rattle.tlsf_trace.specs.Trace.{Trace};
-ghost use Rattle.tlsf_trace.specs.Laws.{IsFirstFault};
-ghost use Rattle.tlsf_trace.specs.Pieces.{ArePieces, pieces_of};
-ghost use Rattle.tlsf_trace.specs.declared.line_fault.LineFault.{LineFault};
-
-/// The fault that a text is refused with is its first: the header and the lines before it are
-/// good, and that line alone fails.
-///
-/// Fault 13 in line 4 says, for one: the header is good, lines 2 and 3 are good behind it, and line 4 behind those has a
-/// bad number.
-pub fn first_fault()
-    ensures { (text : List ℕ) (fault : LineFault) (line : ℕ) → IsFirstFault text fault line }
-{}
-
-/// The pieces of a text, joined, are the text, and they are cut behind its line feeds alone.
-///
-/// `"ab\nc"`, for one, has the pieces `"ab\n"` and `"c"`.
-pub fn pieces_join()
-    ensures { (text : List ℕ) → ArePieces text (pieces_of text) }
-{}
+ghost use Rattle.tlsf_lines.specs.Trace.{Trace};
 
 /// What [`race_trace`](crate::race_trace) may write tells one history of each heap, over all phases: the calls that its
 /// records tell of the heap, run in turn on the new heap, give the answers that they tell, and the heap that is reported at

@@ -1,20 +1,22 @@
 ghost use Rattle.std.specs.Prelude.{◌≡◌, ◌++◌, IfOk, OnOk, string_bytes};
 ghost use Rattle.tlsf_crew.specs.yard.World.{world_of, replies};
 ghost use Rattle.tlsf_crew.specs.yard.Yard.{IsYard};
-ghost use Rattle.tlsf_trace.specs.Ranges.{IsHeaderInRange};
+ghost use Rattle.tlsf_lines.specs.Ranges.{IsHeaderInRange};
 ghost use Rattle.tlsf_trace.specs.Output.{output_of};
-ghost use Rattle.tlsf_trace.specs.ReplyLines.{reply_text};
-ghost use Rattle.tlsf_trace.specs.ScriptSoFar.{IsScript};
-ghost use Rattle.tlsf_trace.specs.Trace.{Trace};
+ghost use Rattle.tlsf_lines.specs.ReplyLines.{reply_text};
+ghost use Rattle.tlsf_lines.specs.ScriptSoFar.{IsScript};
+ghost use Rattle.tlsf_lines.specs.Trace.{Trace};
 
-use crate::reply_lines::write_replies;
 use crate::report_lines::write_reports;
-use crate::script::Script;
 use std::alloc::{AllocError, Global};
 use tlsf_crew::{Event, Worker, open_yard, replay_behind};
+use tlsf_lines::{Script, write_replies};
 
 /// How many events run before their lines are written. An entry has 200 bytes, so few are held at a time.
 const PART: usize = 1024;
+
+/// How many bytes of text are made ready for each event: most reply lines have fewer.
+const REPLY_BYTES: usize = 32;
 
 // Runs the events of a script, part by part, and adds the lines of what they are answered.
 fn write_run(
@@ -28,7 +30,7 @@ fn write_run(
         ++ reply_text (replies (world_of workers.old) script.now.events.items).entries script.now.labels.items) }
     ensures world { OnOk result (world_of workers.new ≡ (replies (world_of workers.old) script.now.events.items).world) }
 {
-    let mut made = Vec::new(alloc);
+    let mut made = Vec::with_capacity(alloc, script.events.len())?;
     let mut events: &[Event] = &script.events;
     let mut labels: &[Option<u32>] = &script.labels;
     while !events.is_empty() {
@@ -53,7 +55,7 @@ pub(crate) fn output(alloc: Global, script: &Script) -> Result<String, AllocErro
     let Ok(mut workers) = open_yard(alloc, header.workers, header.words, header.capacity) else {
         return Err(AllocError);
     };
-    let mut text = String::new(alloc);
+    let mut text = String::with_capacity(alloc, script.events.len().saturating_mul(REPLY_BYTES))?;
     write_run(alloc, &mut text, &mut workers, script)?;
     write_reports(&mut text, &mut workers)?;
     Ok(text)

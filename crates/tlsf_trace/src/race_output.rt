@@ -1,67 +1,21 @@
 //! The text of a trace that is raced.
-ghost use Rattle.std.specs.Prelude.{◌≡◌, ℕ, List, [], Option, ◌++◌, ◌<◌, ◌≤◌, length, map, vec_len, string_bytes, IfOk, OnOk};
+ghost use Rattle.std.specs.Prelude.{ℕ, [], Option, ◌≤◌, length, vec_len, string_bytes, IfOk};
 ghost use Rattle.tlsf_heap.specs.declared.name.Name.{Name};
-ghost use Rattle.tlsf_trace.specs.declared.line.Line.{Line as ALine};
-ghost use Rattle.std.specs.List.{range_with_len};
-ghost use Rattle.tlsf_crew.specs.threads.Race.{record_of};
 ghost use Rattle.tlsf_crew.specs.yard.World.{world_of};
 ghost use Rattle.tlsf_crew.specs.yard.Yard.{IsYard};
-ghost use Rattle.tlsf_trace.specs.Phases.{known_behind, known_below, known_in, names_in as names_told, none_known, phases_of, own_lines};
-ghost use Rattle.tlsf_trace.specs.RaceOutput.{IsRaceOutput, label_in, records_text};
+ghost use Rattle.tlsf_lines.specs.Phases.{known_in, none_known, phases_of};
+ghost use Rattle.tlsf_trace.specs.RaceOutput.{IsRaceOutput};
 ghost use Rattle.tlsf_trace.specs.RaceSoFar.{IsPhaseRaced, IsRaceSoFar};
-ghost use Rattle.tlsf_trace.specs.Ranges.{IsHeaderInRange};
-ghost use Rattle.tlsf_trace.specs.ReplyLines.{reply_text};
-ghost use Rattle.tlsf_trace.specs.Views.{view_trace};
+ghost use Rattle.tlsf_lines.specs.Ranges.{IsHeaderInRange};
+ghost use Rattle.tlsf_lines.specs.Views.{view_trace};
 
-use crate::learning::{learn, names_in};
-use crate::line::Line;
-use crate::names::Names;
-use crate::phases::{PhaseScripts, cut_phase, labels_of};
-use crate::reply_lines::write_replies;
 use crate::report_lines::write_reports;
-use crate::trace::Trace;
 use std::alloc::{AllocError, Global};
 use std::marker::Sync;
 use std::sync::Wait;
 use std::thread::Threads;
-use tlsf_crew::{Entry, Gate, Worker, open_yard, race};
-
-// Adds the lines of a worker's record, and gives the labels of its lines their names.
-fn write_record(
-    alloc: Global,
-    text: &mut String,
-    names: &mut Names,
-    lines: &[Line],
-    entries: &[Entry],
-) -> Result<(), AllocError>
-    ensures text { OnOk result (string_bytes text.new ≡ string_bytes text.old ++ reply_text entries.now (map label_in lines.now)) }
-    ensures known { OnOk result (known_in names.new ≡ known_behind (known_in names.old) lines.now (names_told entries.now)) }
-{
-    let labels = labels_of(alloc, lines)?;
-    write_replies(text, entries, &labels)?;
-    let made = names_in(alloc, entries)?;
-    learn(names, lines, &made)
-}
-
-// Adds the lines of a phase's records, worker after worker, and gives the phase's labels their names.
-fn write_phase(
-    alloc: Global,
-    text: &mut String,
-    names: &mut Names,
-    lines: &[Vec<Line>],
-    records: &[Vec<Entry>],
-) -> Result<(), AllocError>
-    requires { length records.now ≡ length lines.now }
-    ensures text { (phase : List ALine) → map (λ l. l.items) lines.now ≡ map (λ w. own_lines w phase) (range_with_len 0 (length lines.now))
-        → OnOk result (string_bytes text.new ≡ string_bytes text.old ++ records_text phase (map (λ r. r.items) records.now) (length lines.now)) }
-    ensures known { (phase : List ALine) → map (λ l. l.items) lines.now ≡ map (λ w. own_lines w phase) (range_with_len 0 (length lines.now))
-        → OnOk result (known_in names.new ≡ known_below (known_in names.old) phase (map (λ r. r.items) records.now) (length lines.now)) }
-{
-    for worker in 0..lines.len() {
-        write_record(alloc, text, names, &lines[worker], &records[worker])?;
-    }
-    Ok(())
-}
+use tlsf_crew::{Gate, Worker, open_yard, race};
+use tlsf_lines::{Line, Names, PhaseScripts, Trace, cut_phase, write_phase};
 
 // Races one phase.
 fn race_phase<R: Threads + Wait + Sync, G: Gate>(

@@ -1,48 +1,16 @@
-ghost use Rattle.std.specs.Prelude.{◌≡◌, ◌⊎◌, ◌≤◌, Some, Ok, IfOk, IfErr, vec_len};
-ghost use Rattle.tlsf_trace.specs.Limits.{IsWithinLimits};
-ghost use Rattle.tlsf_trace.specs.Ranges.{IsHeaderInRange};
-ghost use Rattle.tlsf_trace.specs.Replay.{IsReplay, IsRaceOfTrace, IsLineFault, fault_of};
+ghost use Rattle.tlsf_trace.specs.Replay.{IsReplay, IsRaceOfTrace};
 ghost use Rattle.tlsf_trace.specs.Finish.{Finishes};
-ghost use Rattle.tlsf_trace.specs.ScriptSoFar.{IsScriptOfText};
-ghost use Rattle.tlsf_trace.specs.Trace.{trace_of};
-ghost use Rattle.tlsf_trace.specs.TraceFaults.{no_memory_fault};
-ghost use Rattle.tlsf_trace.specs.Views.{view_trace};
 
-use crate::input::read_all;
 use crate::output::output;
 use crate::race_output::race_output;
-use crate::script::Script;
-use crate::sink::write_out;
 use crate::summary::Summary;
-use crate::trace::{Trace, parse};
-use crate::trace_fault::TraceFault;
 use std::alloc::Global;
 use std::io::{Read, Write};
 use std::marker::Sync;
 use std::sync::Wait;
 use std::thread::Threads;
 use tlsf_crew::Gate;
-
-// The trace that a text spells, or its first fault.
-fn trace_in(alloc: Global, text: &[u8]) -> Result<Trace, TraceFault>
-    requires { IsWithinLimits text.now }
-    ensures ok { IfOk result (λ trace. trace_of text.now ≡ Ok (view_trace trace)) }
-    ensures header { IfOk result (λ trace. IsHeaderInRange trace.header) }
-    ensures lines { IfOk result (λ trace. vec_len trace.lines ≤ 32768) }
-    ensures err { IfErr result (λ fault. (fault ≡ no_memory_fault) ⊎ (IsLineFault fault × (fault_of text.now ≡ Some fault))) }
-{
-    Ok(parse(alloc, text)?)
-}
-
-// The script of the trace that a text spells, or its first fault.
-fn script_in(alloc: Global, text: &[u8]) -> Result<Script, TraceFault>
-    requires { IsWithinLimits text.now }
-    ensures ok { IfOk result (λ script. IsScriptOfText text.now script) }
-    ensures header { IfOk result (λ script. IsHeaderInRange script.header) }
-    ensures err { IfErr result (λ fault. (fault ≡ no_memory_fault) ⊎ (IsLineFault fault × (fault_of text.now ≡ Some fault))) }
-{
-    Ok(Script::of(alloc, text)?)
-}
+use tlsf_lines::{TraceFault, read_all, script_in, trace_in, write_out};
 
 // Writes what so many calls put out. The text is whole before its first byte is written.
 fn finish<W: Write>(writer: &mut W, calls: u32, output: &str) -> Result<Summary, TraceFault>

@@ -70,8 +70,6 @@ pub mod OwnAnswers
 pub mod OwnCalls
 -- A call leaves a heap its number, and leaves it lawful.
 pub mod OwnHeaps
--- The bytes of a chunk are those that it was made of, whatever zeros stand behind them.
-pub mod Padding
 -- Where all lanes of a yard were settled, all posts that wait are ready; a change of one lane changes their sum by that lane.
 pub mod Pending
 -- A take or a drain keeps the names.

@@ -4,8 +4,8 @@ use Rattle.std.specs.declared.vec.Vec.{Vec}
 use Rattle.std.specs.declared.alloc.Global.{Global}
 use Rattle.tlsf_heap.specs.declared.name.Name.{Name}
 use Rattle.tlsf_crew.specs.declared.yard.worker.Worker.{Worker}
-use Rattle.tlsf_crew.specs.declared.yard.entry.Entry.{Entry}
-use Rattle.tlsf_crew.specs.declared.yard.call.Call.{Call}
+use Rattle.tlsf_calls.specs.declared.entry.Entry.{Entry}
+use Rattle.tlsf_calls.specs.declared.call.Call.{Call}
 use Rattle.tlsf_crew.specs.declared.threads.job.Job.{Job}
 use Rattle.tlsf_crew.specs.yard.Yard.{IsYard, yard_heap, capacity_in, waits_in}
 use Rattle.tlsf_crew.specs.yard.Counts.{sum_below, ready_from, releases_of}

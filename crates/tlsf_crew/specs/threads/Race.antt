@@ -4,12 +4,13 @@ use mathlib.Core.List.{IsPrefix}
 use Rattle.tlsf_post.specs.declared.post.Post.{Post}
 use Rattle.tlsf_heap.specs.declared.name.Name.{Name}
 use Rattle.tlsf_heap.specs.Blocks.{HeapState}
-use Rattle.tlsf_crew.specs.declared.yard.entry.Entry.{Entry}
-use Rattle.tlsf_crew.specs.declared.yard.event.Event.{Event}
-use Rattle.tlsf_crew.specs.declared.yard.call.Call.{Call}
-use Rattle.tlsf_crew.specs.declared.yard.call.Call.TheVariants.{Take, Drain}
-use Rattle.tlsf_crew.specs.declared.yard.reply.Reply.TheVariants.{Empty, Drained, Refused}
-use Rattle.tlsf_crew.specs.declared.yard.crew_refusal.CrewRefusal.TheVariants.{Full}
+use Rattle.tlsf_calls.specs.declared.entry.Entry.{Entry}
+use Rattle.tlsf_calls.specs.declared.event.Event.{Event}
+use Rattle.tlsf_calls.specs.declared.call.Call.{Call}
+use Rattle.tlsf_calls.specs.declared.call.Call.TheVariants.{Take, Drain}
+use Rattle.tlsf_calls.specs.declared.reply.Reply.TheVariants.{Empty, Drained, Refused}
+use Rattle.tlsf_calls.specs.declared.crew_refusal.CrewRefusal.TheVariants.{Full}
+pub use Rattle.tlsf_calls.specs.Entries.{record_of}
 use Rattle.tlsf_crew.specs.yard.World.{World, heap_in}
 use Rattle.tlsf_crew.specs.yard.History.{posts_made, posts_taken, StandsBehind}
 use Rattle.tlsf_crew.specs.yard.Told.{Told, untold, MayTell, MayTellAll}
@@ -48,9 +49,6 @@ pub record Agree (capacity i j : ℕ) (waited : List Post) (made : List (Option 
 
 abbrev pub script_of : List (List Call) → ℕ → List Call
 script_of scripts j = get_or scripts j []
-
-abbrev pub record_of : List (List Entry) → ℕ → List Entry
-record_of records j = get_or records j []
 
 -- the calls of a worker's script and then the last drain, as events of that worker
 abbrev pub events_by : ℕ → List Call → List Event

@@ -4,11 +4,11 @@ use Rattle.tlsf_heap.specs.Calls.{released}
 use Rattle.tlsf_heap.specs.declared.name.Name.{Name}
 use Rattle.tlsf_heap.specs.declared.refusal.Refusal.{Refusal}
 use Rattle.tlsf_post.specs.declared.post.Post.{Post}
-use Rattle.tlsf_crew.specs.declared.yard.crew_refusal.CrewRefusal.{CrewRefusal}
-use Rattle.tlsf_crew.specs.declared.yard.crew_refusal.CrewRefusal.TheVariants.{Heap, Full}
-use Rattle.tlsf_crew.specs.declared.yard.released.Released.{Released}
-use Rattle.tlsf_crew.specs.declared.yard.released.Released.TheVariants.{Freed, Posted}
-use Rattle.tlsf_crew.specs.declared.yard.took.Took.{Took}
+use Rattle.tlsf_calls.specs.declared.crew_refusal.CrewRefusal.{CrewRefusal}
+use Rattle.tlsf_calls.specs.declared.crew_refusal.CrewRefusal.TheVariants.{Heap, Full}
+use Rattle.tlsf_calls.specs.declared.released.Released.{Released}
+use Rattle.tlsf_calls.specs.declared.released.Released.TheVariants.{Freed, Posted}
+use Rattle.tlsf_calls.specs.declared.took.Took.{Took}
 use Rattle.tlsf_crew.specs.declared.yard.worker.Worker.{Worker}
 use Rattle.tlsf_crew.specs.yard.Workers.{heap_of, id_of, SameButHeap, PutTo, TookFrom}
 use Rattle.tlsf_crew.specs.yard.Yard.{IsYard}

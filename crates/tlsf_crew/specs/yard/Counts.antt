@@ -4,9 +4,9 @@ use Rattle.std.specs.List.{count_by}
 use Rattle.tlsf_post.specs.declared.take_end.TakeEnd.{TakeEnd}
 use Rattle.tlsf_post.specs.Lanes.{ready}
 use Rattle.tlsf_crew.specs.declared.yard.worker.Worker.{Worker}
-use Rattle.tlsf_crew.specs.declared.yard.call.Call.{Call}
-use Rattle.tlsf_crew.specs.declared.yard.call.Call.TheVariants.{Allocate, Release, Write, Read, Take, Drain}
-use Rattle.tlsf_crew.specs.declared.yard.event.Event.{Event}
+use Rattle.tlsf_calls.specs.declared.call.Call.{Call}
+use Rattle.tlsf_calls.specs.declared.call.Call.TheVariants.{Allocate, Release, Write, Read, Take, Drain}
+use Rattle.tlsf_calls.specs.declared.event.Event.{Event}
 use Rattle.tlsf_crew.specs.yard.Workers.{end_from}
 use Rattle.tlsf_crew.specs.yard.Yard.{take_at}
 use Rattle.tlsf_crew.specs.yard.World.{World}

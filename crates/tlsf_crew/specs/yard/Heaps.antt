@@ -4,8 +4,8 @@ use Rattle.std.specs.Prelude.{ℕ, List, Result, Ok, Err, nat_le, if◌then◌el
 use Rattle.tlsf_heap.specs.Blocks.{HeapState}
 use Rattle.tlsf_heap.specs.Calls as heap
 use Rattle.tlsf_heap.specs.Calls.{Outcome}
-use Rattle.tlsf_crew.specs.yard.Bytes.{chunk_of}
-use Rattle.tlsf_crew.specs.declared.yard.chunk.Chunk.{Chunk}
+use Rattle.tlsf_calls.specs.Bytes.{chunk_of}
+use Rattle.tlsf_calls.specs.declared.chunk.Chunk.{Chunk}
 use Rattle.tlsf_heap.specs.declared.name.Name.{Name}
 use Rattle.tlsf_heap.specs.declared.refusal.Refusal.{Refusal}
 use Rattle.tlsf_heap.specs.declared.refusal.Refusal.TheVariants.{Range}

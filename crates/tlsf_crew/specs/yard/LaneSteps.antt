@@ -67,7 +67,7 @@ pub record RowMet (ws vs : List Worker) (i j : ℕ) : Type 0 where
   pub same : (x y : ℕ) → (x ≡ i → j ≤ y) → SameLane ws vs x y
 
 -- the ends of the lanes from the workers below i have met, and all others are the same
-pub record RowsMet (ws vs : List Worker) (i : ℕ) : Type 0 where
+pub record EachRowMet (ws vs : List Worker) (i : ℕ) : Type 0 where
   pub len : length vs ≡ length ws
   pub done : (x y : ℕ) → x < i → y < length ws → x ≢ y → MetIn ws vs x y
   pub same : (x y : ℕ) → i ≤ x → SameLane ws vs x y

@@ -3,8 +3,8 @@ use Rattle.std.specs.Prelude.{◌≡◌, ℕ, zero, suc, ◌-◌, ◌<◌, List,
 use Rattle.std.specs.List.{fold, count_by}
 use Rattle.tlsf_heap.specs.Blocks.{HeapState}
 use Rattle.tlsf_heap.specs.Calls.{released}
-use Rattle.tlsf_crew.specs.declared.yard.drained.Drained.{Drained}
-use Rattle.tlsf_crew.specs.declared.yard.took.Took.{Took}
+use Rattle.tlsf_calls.specs.declared.drained.Drained.{Drained}
+use Rattle.tlsf_calls.specs.declared.took.Took.{Took}
 use Rattle.tlsf_crew.specs.declared.yard.worker.Worker.{Worker}
 use Rattle.tlsf_crew.specs.yard.Workers.{heap_of, HasTake, lane_places}
 use Rattle.tlsf_crew.specs.yard.Calls.{TakenFrom}
@@ -26,11 +26,11 @@ pub record TurnDrained (a v : Worker) (from most : ℕ) (tooks : List Took) : Ty
   pub nowhere : ¬ (HasTake a from) → (tooks ≡ []) × (v ≡ a)
 
 -- the turns of the workers below k, in rising order; each may take what `most` leaves
-abbrev pub LanesDrained : Worker → Worker → ℕ → ℕ → List Took → Type 0
-LanesDrained a v most zero tooks = (tooks ≡ []) × (v ≡ a)
-LanesDrained a v most (suc k) tooks =
+abbrev pub EachLaneDrained : Worker → Worker → ℕ → ℕ → List Took → Type 0
+EachLaneDrained a v most zero tooks = (tooks ≡ []) × (v ≡ a)
+EachLaneDrained a v most (suc k) tooks =
     (b : Worker) × (before : List Took) × (here : List Took)
-    × (tooks ≡ before ++ here) × LanesDrained a b most k before × TurnDrained b v k (most - length before) here
+    × (tooks ≡ before ++ here) × EachLaneDrained a b most k before × TurnDrained b v k (most - length before) here
 
 abbrev pub is_freed : Took → Bool
 is_freed took = is_ok took.answer
@@ -45,6 +45,6 @@ IsCountOf answer tooks = (answer.taken ≡ length tooks) × (answer.freed ≡ co
 -- a drain of all lanes
 pub record DrainedAll (a v : Worker) (most : ℕ) (answer : Drained) : Type 0 where
   pub tooks : List Took
-  pub lanes : LanesDrained a v most (lane_places a) tooks
+  pub lanes : EachLaneDrained a v most (lane_places a) tooks
   pub heap : heap_of v ≡ heap_after (heap_of a) tooks
   pub count : IsCountOf answer tooks

@@ -9,14 +9,14 @@ use Rattle.tlsf_post.specs.Lanes.{posts_sent, free_slots, waited, taken, ready}
 use Rattle.tlsf_heap.specs.Blocks.{HeapState}
 use Rattle.tlsf_heap.specs.declared.name.Name.{Name}
 use Rattle.tlsf_crew.specs.declared.yard.worker.Worker.{Worker}
-use Rattle.tlsf_crew.specs.declared.yard.entry.Entry.{Entry}
-use Rattle.tlsf_crew.specs.declared.yard.took.Took.{Took}
-use Rattle.tlsf_crew.specs.declared.yard.call.Call.{Call}
-use Rattle.tlsf_crew.specs.declared.yard.call.Call.TheVariants.{Release, Take, Drain}
-use Rattle.tlsf_crew.specs.declared.yard.target.Target.{Target}
-use Rattle.tlsf_crew.specs.declared.yard.reply.Reply.{Reply}
-use Rattle.tlsf_crew.specs.declared.yard.reply.Reply.TheVariants.{Posted, Took as Taken, Empty, Drained, Refused}
-use Rattle.tlsf_crew.specs.declared.yard.crew_refusal.CrewRefusal.TheVariants.{Full}
+use Rattle.tlsf_calls.specs.declared.entry.Entry.{Entry}
+use Rattle.tlsf_calls.specs.declared.took.Took.{Took}
+use Rattle.tlsf_calls.specs.declared.call.Call.{Call}
+use Rattle.tlsf_calls.specs.declared.call.Call.TheVariants.{Release, Take, Drain}
+use Rattle.tlsf_calls.specs.declared.target.Target.{Target}
+use Rattle.tlsf_calls.specs.declared.reply.Reply.{Reply}
+use Rattle.tlsf_calls.specs.declared.reply.Reply.TheVariants.{Posted, Took as Taken, Empty, Drained, Refused}
+use Rattle.tlsf_calls.specs.declared.crew_refusal.CrewRefusal.TheVariants.{Full}
 use Rattle.tlsf_crew.specs.yard.Heaps.{released}
 use Rattle.tlsf_crew.specs.yard.Workers.{heap_of, id_of, own_numbers, end_to, end_from, HasTake, KnowsYard}
 use Rattle.tlsf_crew.specs.yard.Calls.{KeepsYards}
@@ -124,9 +124,9 @@ abbrev pub lane_own : ℕ → ℕ → OwnDrain → List Post → OwnDrain
 lane_own at from d posts = fold (took_own at from) d posts
 
 -- the posts from each other worker below a number
-abbrev pub lanes_own : ℕ → (ℕ → List Post) → OwnDrain → ℕ → OwnDrain
-lanes_own at posts d zero = d
-lanes_own at posts d (suc from) = if from == at then lanes_own at posts d from else lane_own at from (lanes_own at posts d from) (posts from)
+abbrev pub each_lane_own : ℕ → (ℕ → List Post) → OwnDrain → ℕ → OwnDrain
+each_lane_own at posts d zero = d
+each_lane_own at posts d (suc from) = if from == at then each_lane_own at posts d from else lane_own at from (each_lane_own at posts d from) (posts from)
 
 abbrev pub own_drain : List Entry → Worker → ℕ → OwnDrain
 own_drain entries a taken = record { entries = entries; heap = heap_of a; taken = taken }
@@ -149,18 +149,18 @@ pub record LaneSpent (a : Worker) (limits : List ℕ) (from most : ℕ) (entries
   pub spent : count < most → Spent a limits (id_of a) from takes.own
 
 -- takes from the lanes from the workers below a number
-pub record LanesTaken (a : Worker) (limits : List ℕ) (below : ℕ) (entries : List Entry) (v : Worker) (left : List ℕ) (longer : List Entry) (count : ℕ) : Type 0 where
+pub record EachLaneTaken (a : Worker) (limits : List ℕ) (below : ℕ) (entries : List Entry) (v : Worker) (left : List ℕ) (longer : List Entry) (count : ℕ) : Type 0 where
   pub own : List Entry
   pub entries_are : longer ≡ entries ++ own
   pub posts : ℕ → List Post
-  pub told : own_drain longer v count ≡ lanes_own (id_of a) posts (own_drain entries a 0) below
+  pub told : own_drain longer v count ≡ each_lane_own (id_of a) posts (own_drain entries a 0) below
   pub posts_are : (k : ℕ) → posts_taken k (id_of a) own ≡ posts k
   pub only : (k : ℕ) → (k < below → ¬ (HasTake a k)) → posts k ≡ []
   pub moved : (made : List (Option Name)) → Moved (id_of a) made a limits [] own v left
 
 -- a drain of those lanes
-pub record LanesSpent (a : Worker) (limits : List ℕ) (below most : ℕ) (entries : List Entry) (v : Worker) (left : List ℕ) (longer : List Entry) (count : ℕ) : Type 0 where
-  pub takes : LanesTaken a limits below entries v left longer count
+pub record EachLaneSpent (a : Worker) (limits : List ℕ) (below most : ℕ) (entries : List Entry) (v : Worker) (left : List ℕ) (longer : List Entry) (count : ℕ) : Type 0 where
+  pub takes : EachLaneTaken a limits below entries v left longer count
   pub few : count ≤ most
   pub spent : count < most → (i : ℕ) → i < below → Spent a limits (id_of a) i takes.own
   -- a lane was left for the next only where it was spent

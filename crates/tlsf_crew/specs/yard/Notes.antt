@@ -1,11 +1,11 @@
 -- What a drain notes of the posts that it takes. This serves the contracts and proofs of private functions alone.
 use Rattle.std.specs.Prelude.{◌≡◌, ◌≢◌, ℕ, zero, suc, ◌+◌, ◌-◌, ◌<◌, ◌≤◌, ◌⊎◌, List, [], ◌∷◌, ◌++◌, length, slice_index, Some, None, Ok, vec_len, vec_capacity}
-use Rattle.tlsf_crew.specs.declared.yard.drained.Drained.{Drained}
+use Rattle.tlsf_calls.specs.declared.drained.Drained.{Drained}
 use Rattle.tlsf_crew.specs.declared.yard.journal.Journal.{Journal}
-use Rattle.tlsf_crew.specs.declared.yard.took.Took.{Took}
+use Rattle.tlsf_calls.specs.declared.took.Took.{Took}
 use Rattle.tlsf_crew.specs.declared.yard.worker.Worker.{Worker}
-use Rattle.tlsf_crew.specs.declared.yard.call.Call.TheVariants.{Take}
-use Rattle.tlsf_crew.specs.declared.yard.reply.Reply.TheVariants.{Took as Taken}
+use Rattle.tlsf_calls.specs.declared.call.Call.TheVariants.{Take}
+use Rattle.tlsf_calls.specs.declared.reply.Reply.TheVariants.{Took as Taken}
 use Rattle.tlsf_crew.specs.yard.Workers.{id_of, HasTake, lane_places}
 use Rattle.tlsf_crew.specs.yard.Calls.{TakenFrom}
 use Rattle.tlsf_crew.specs.yard.LaneTurns.{IsCountOf}
@@ -33,16 +33,16 @@ pub record TurnNoted {N : Type 0} (noted : N → ℕ → ℕ → Took → N → 
   pub nowhere : ¬ (HasTake a from) → (tooks ≡ []) × (v ≡ a) × (y ≡ x)
 
 -- the turns of the workers below k, in rising order; each may take what `most` leaves
-abbrev pub LanesNoted : {N : Type 0} → (N → ℕ → ℕ → Took → N → Type 0) → (N → ℕ → Type 0) → Worker → Worker → N → N → ℕ → ℕ → List Took → Type 0
-LanesNoted noted admitted a v x y most zero tooks = (tooks ≡ []) × (v ≡ a) × (y ≡ x)
-LanesNoted {N} noted admitted a v x y most (suc k) tooks =
+abbrev pub EachLaneNoted : {N : Type 0} → (N → ℕ → ℕ → Took → N → Type 0) → (N → ℕ → Type 0) → Worker → Worker → N → N → ℕ → ℕ → List Took → Type 0
+EachLaneNoted noted admitted a v x y most zero tooks = (tooks ≡ []) × (v ≡ a) × (y ≡ x)
+EachLaneNoted {N} noted admitted a v x y most (suc k) tooks =
     (b : Worker) × (z : N) × (before : List Took) × (here : List Took)
-    × (tooks ≡ before ++ here) × LanesNoted noted admitted a b x z most k before × TurnNoted noted admitted b v z y k (most - length before) here
+    × (tooks ≡ before ++ here) × EachLaneNoted noted admitted a b x z most k before × TurnNoted noted admitted b v z y k (most - length before) here
 
 -- a drain of all lanes
 pub record AllNoted {N : Type 0} (noted : N → ℕ → ℕ → Took → N → Type 0) (admitted : N → ℕ → Type 0) (a v : Worker) (x y : N) (most : ℕ) (answer : Drained) : Type 0 where
   pub tooks : List Took
-  pub lanes : LanesNoted noted admitted a v x y most (lane_places a) tooks
+  pub lanes : EachLaneNoted noted admitted a v x y most (lane_places a) tooks
   pub count : IsCountOf answer tooks
 
 -- ---- the notes of a journal

@@ -4,13 +4,13 @@ use Rattle.tlsf_post.specs.declared.take_end.TakeEnd.{TakeEnd}
 use Rattle.tlsf_post.specs.Lanes.{ready}
 use Rattle.tlsf_heap.specs.declared.name.Name.{Name}
 use Rattle.tlsf_crew.specs.declared.yard.worker.Worker.{Worker}
-use Rattle.tlsf_crew.specs.declared.yard.entry.Entry.{Entry}
-use Rattle.tlsf_crew.specs.declared.yard.event.Event.{Event}
-use Rattle.tlsf_crew.specs.declared.yard.call.Call.{Call}
-use Rattle.tlsf_crew.specs.declared.yard.call.Call.TheVariants.{Allocate, Release, Write, Read, Take, Drain}
-use Rattle.tlsf_crew.specs.declared.yard.reply.Reply.{Reply}
-use Rattle.tlsf_crew.specs.declared.yard.reply.Reply.TheVariants.{Took as Taken, Empty}
-use Rattle.tlsf_crew.specs.declared.yard.took.Took.{Took}
+use Rattle.tlsf_calls.specs.declared.entry.Entry.{Entry}
+use Rattle.tlsf_calls.specs.declared.event.Event.{Event}
+use Rattle.tlsf_calls.specs.declared.call.Call.{Call}
+use Rattle.tlsf_calls.specs.declared.call.Call.TheVariants.{Allocate, Release, Write, Read, Take, Drain}
+use Rattle.tlsf_calls.specs.declared.reply.Reply.{Reply}
+use Rattle.tlsf_calls.specs.declared.reply.Reply.TheVariants.{Took as Taken, Empty}
+use Rattle.tlsf_calls.specs.declared.took.Took.{Took}
 use Rattle.tlsf_crew.specs.yard.Yard.{IsYard, take_at, waits_in}
 use Rattle.tlsf_crew.specs.yard.World.{world_of, name_of, made_by, after, Draining, Replayed}
 

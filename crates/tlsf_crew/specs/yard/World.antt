@@ -4,20 +4,21 @@ use Rattle.std.specs.List.{fold}
 use Rattle.tlsf_post.specs.declared.post.Post.{Post}
 use Rattle.tlsf_heap.specs.declared.name.Name.{Name}
 use Rattle.tlsf_heap.specs.Blocks.{HeapState}
-use Rattle.tlsf_crew.specs.yard.Bytes.{bytes_of}
-use Rattle.tlsf_crew.specs.declared.yard.chunk.Chunk.{Chunk}
+use Rattle.tlsf_calls.specs.Bytes.{bytes_of}
+use Rattle.tlsf_calls.specs.declared.chunk.Chunk.{Chunk}
 use Rattle.tlsf_crew.specs.yard.Heaps.{allocated, released, written, chunk_read}
 use Rattle.tlsf_heap.specs.declared.refusal.Refusal.{Refusal}
 use Rattle.tlsf_crew.specs.declared.yard.worker.Worker.{Worker}
-use Rattle.tlsf_crew.specs.declared.yard.event.Event.{Event}
-use Rattle.tlsf_crew.specs.declared.yard.entry.Entry.{Entry}
-use Rattle.tlsf_crew.specs.declared.yard.call.Call.{Call}
-use Rattle.tlsf_crew.specs.declared.yard.call.Call.TheVariants.{Allocate, Release, Write, Read, Take, Drain}
-use Rattle.tlsf_crew.specs.declared.yard.target.Target.{Target}
-use Rattle.tlsf_crew.specs.declared.yard.target.Target.TheVariants.{Named, Made as MadeBy, Absent}
-use Rattle.tlsf_crew.specs.declared.yard.reply.Reply.{Reply}
-use Rattle.tlsf_crew.specs.declared.yard.reply.Reply.TheVariants.{Made, Freed, Posted, Wrote, Got, Took as Taken, Empty, Drained, Refused}
-use Rattle.tlsf_crew.specs.declared.yard.crew_refusal.CrewRefusal.TheVariants.{Heap, Full, Stranger, Unmade}
+use Rattle.tlsf_calls.specs.declared.event.Event.{Event}
+use Rattle.tlsf_calls.specs.declared.entry.Entry.{Entry}
+use Rattle.tlsf_calls.specs.declared.call.Call.{Call}
+use Rattle.tlsf_calls.specs.declared.call.Call.TheVariants.{Allocate, Release, Write, Read, Take, Drain}
+use Rattle.tlsf_calls.specs.declared.target.Target.{Target}
+use Rattle.tlsf_calls.specs.declared.target.Target.TheVariants.{Named, Made as MadeBy, Absent}
+use Rattle.tlsf_calls.specs.declared.reply.Reply.{Reply}
+use Rattle.tlsf_calls.specs.declared.reply.Reply.TheVariants.{Made, Freed, Posted, Wrote, Got, Took as Taken, Empty, Drained, Refused}
+use Rattle.tlsf_calls.specs.declared.crew_refusal.CrewRefusal.TheVariants.{Heap, Full, Stranger, Unmade}
+pub use Rattle.tlsf_calls.specs.Entries.{made_by}
 use Rattle.tlsf_crew.specs.yard.Workers.{heap_of}
 use Rattle.tlsf_crew.specs.yard.Yard.{post_at, take_at, lane_waits, capacity_in, no_heap}
 
@@ -137,18 +138,6 @@ drained_below at most d (suc from) = drained_from at most (drained_below at most
 
 unfoldable pub drained_all : ℕ → ℕ → Draining → Draining
 drained_all at most d = drained_below at most d (length d.world.heaps)
-
--- the name that an event made, where it made one
-abbrev pub made_by : Reply → Option Name
-made_by (Made name) = Some name
-made_by Freed = None
-made_by Posted = None
-made_by (Wrote n) = None
-made_by (Got bytes) = None
-made_by (Taken t) = None
-made_by Empty = None
-made_by (Drained n) = None
-made_by (Refused why) = None
 
 -- the name that a target means, by what the events so far made
 abbrev pub name_of : List (Option Name) → Target → Option Name

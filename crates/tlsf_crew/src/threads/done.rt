@@ -1,5 +1,5 @@
-use crate::yard::entry::Entry;
 use crate::yard::worker::Worker;
+use tlsf_calls::Entry;
 use tlsf_heap::Name;
 
 /// What the thread of one worker of a race hands back.

@@ -7,7 +7,7 @@ use crate::threads::gate::Gate;
 use crate::threads::outcome::Outcome;
 use crate::threads::work::Work;
 use crate::threads::work_promise::WorkPromise;
-use std::alloc::AllocError;
+use std::alloc::{AllocError, Global};
 use std::marker::{Send, Sync};
 use std::snapshot::Snapshot;
 use std::sync::Wait;
@@ -18,16 +18,16 @@ use std::thread::{Scope, Threads};
 fn fan_out<'s, E, R: Threads, W: Work + Send + Drop + 's, G: Gate + Sync>(
     rt: &R,
     scope: &Scope<'s, E>,
-    mut jobs: Vec<W>,
+    jobs: &mut Vec<W>,
     gate: &'s G,
     done: &mut Vec<W::Done>,
 ) -> Result<(), AllocError>
 where
     W::Done: Send + Drop,
-    requires ready { All W.is_ready jobs.items }
-    requires room { (done.old.items ≡ []) × (vec_len jobs ≤ vec_capacity done.old) }
-    ensures done { OnOk result (AllDone W.is_done jobs.items done.new.items) }
-    ensures len { OnOk result (vec_len done.new ≡ vec_len jobs) }
+    requires ready { All W.is_ready jobs.old.items }
+    requires room { (done.old.items ≡ []) × (vec_len jobs.old ≤ vec_capacity done.old) }
+    ensures done { OnOk result (AllDone W.is_done jobs.old.items done.new.items) }
+    ensures len { OnOk result (vec_len done.new ≡ vec_len jobs.old) }
     ensures capacity { vec_capacity done.new ≡ vec_capacity done.old }
 {
     let Some(job) = jobs.pop() else {
@@ -48,20 +48,21 @@ where
     Ok(())
 }
 
-/// Does each job in a thread of its own, and waits for all.
+/// Does each job in a thread of its own, and waits for all. The room for what they hand back is made before a thread
+/// starts.
 pub(crate) fn run_all<R: Threads + Wait + Sync, W: Work + Send + Drop, G: Gate + Sync>(
     rt: &R,
+    alloc: Global,
     jobs: Vec<W>,
     gate: &G,
-    done: Vec<W::Done>,
 ) -> Result<Vec<W::Done>, AllocError>
 where
     W::Done: Send + Drop,
     requires ready { All W.is_ready jobs.items }
-    requires room { (done.items ≡ []) × (vec_len jobs ≤ vec_capacity done) }
     ensures done { IfOk result (λ d. AllDone W.is_done jobs.items d.items) }
     ensures len { IfOk result (λ d. vec_len d ≡ vec_len jobs) }
 {
+    let done = Vec::with_capacity(alloc, jobs.len())?;
     thread::scope(
         thread::scope_env(),
         rt,
@@ -69,19 +70,20 @@ where
             requires { All W.is_ready jobs.items × (done.items ≡ []) × (vec_len jobs ≤ vec_capacity done) }
             ensures { IfOk result (λ d. AllDone W.is_done jobs.items d.items × (vec_len d ≡ vec_len jobs)) }
         {
+            let mut left = jobs;
             let mut all = done;
-            fan_out(rt, scope, jobs, gate, &mut all)?;
+            fan_out(rt, scope, &mut left, gate, &mut all)?;
             Ok(all)
         },
     )
 }
 
 /// Takes apart what was done.
-pub(crate) fn take_apart(mut done: Vec<Done>, out: &mut Outcome)
+pub(crate) fn take_apart(done: &mut Vec<Done>, out: &mut Outcome)
     requires empty { (out.old.workers.items ≡ []) × (out.old.records.items ≡ []) }
-    requires room { (vec_len done ≤ vec_capacity out.old.workers) × (vec_len done ≤ vec_capacity out.old.records) }
-    ensures parts { (out.new.workers.items ≡ map (λ d. d.worker) done.items) × (out.new.records.items ≡ map (λ d. d.entries) done.items) }
-    ensures len { (vec_len out.new.workers ≡ vec_len done) × (vec_len out.new.records ≡ vec_len done) }
+    requires room { (vec_len done.old ≤ vec_capacity out.old.workers) × (vec_len done.old ≤ vec_capacity out.old.records) }
+    ensures parts { (out.new.workers.items ≡ map (λ d. d.worker) done.old.items) × (out.new.records.items ≡ map (λ d. d.entries) done.old.items) }
+    ensures len { (vec_len out.new.workers ≡ vec_len done.old) × (vec_len out.new.records ≡ vec_len done.old) }
     ensures capacity { (vec_capacity out.new.workers ≡ vec_capacity out.old.workers) × (vec_capacity out.new.records ≡ vec_capacity out.old.records) }
 {
     let Some(

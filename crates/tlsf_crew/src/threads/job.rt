@@ -3,11 +3,10 @@ ghost use Rattle.tlsf_crew.specs.threads.Job.{IsReady, IsDone};
 use crate::threads::done::Done;
 use crate::threads::gate::Gate;
 use crate::threads::work::Work;
-use crate::yard::call::Call;
-use crate::yard::entry::Entry;
 use crate::yard::executor::run_call;
 use crate::yard::journal::Journal;
 use crate::yard::worker::Worker;
+use tlsf_calls::{Call, Entry};
 use tlsf_heap::Name;
 
 /// What the thread of one worker of a race is given.

@@ -2,8 +2,8 @@ ghost use Rattle.std.specs.Prelude.{◌≡◌, ◌≢◌, ℕ, ◌<◌, ◌++◌
 ghost use Rattle.tlsf_crew.specs.yard.History.{AreLawful, RunsThrough, RunsTo, Tells, answers_on, calls_on, posts_made, posts_taken};
 ghost use Rattle.tlsf_crew.specs.yard.World.{World, heap_in};
 ghost use Rattle.tlsf_crew.specs.threads.Race.{IsRace, record_of, events_of_race};
-ghost use Rattle.tlsf_crew.specs.declared.yard.call.Call.{Call};
-ghost use Rattle.tlsf_crew.specs.declared.yard.entry.Entry.{Entry};
+ghost use Rattle.tlsf_calls.specs.declared.call.Call.{Call};
+ghost use Rattle.tlsf_calls.specs.declared.entry.Entry.{Entry};
 
 /// In a race each heap has one history too, in the words of [`crate::one_history`]: each call made on it and each post
 /// taken for it stands once, in its caller's order, and each answer is that of the sequential heap at that point. The

@@ -1,5 +1,5 @@
-use crate::yard::entry::Entry;
 use crate::yard::worker::Worker;
+use tlsf_calls::Entry;
 
 /// What comes back of a race.
 #[derive(Drop)]

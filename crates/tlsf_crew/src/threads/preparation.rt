@@ -3,13 +3,15 @@ ghost use Rattle.std.specs.Prelude.{◌≡◌, ℕ, ◌+◌, ◌-◌, ◌^◌, �
 ghost use Rattle.tlsf_crew.specs.yard.Counts.{sum_below, ready_from, releases_of};
 ghost use Rattle.tlsf_crew.specs.threads.Race.{script_of};
 ghost use Rattle.tlsf_crew.specs.yard.Workers.{KnowsYard};
+ghost use Rattle.tlsf_crew.specs.yard.Yard.{IsYard};
 ghost use Rattle.tlsf_crew.specs.threads.Parts.{most_from, IsPrepared};
 
 use crate::threads::job::Job;
-use crate::yard::call::Call;
 use crate::yard::room::count_from;
 use crate::yard::worker::Worker;
 use std::alloc::Global;
+use tlsf_calls::{Call, Entry};
+use tlsf_heap::Name;
 use tlsf_post::NoMemory;
 
 /// How many calls of a script are releases.
@@ -62,6 +64,23 @@ fn room_for_record(worker: &Worker, releases: &[u32; 8], calls: usize) -> usize
     room
 }
 
+/// Room for the names that so many calls make, and for the record of the worker that makes them.
+fn room_for_job(
+    alloc: Global,
+    worker: &Worker,
+    releases: &[u32; 8],
+    calls: usize,
+) -> Result<(Vec<Option<Name>>, Vec<Entry>), NoMemory>
+    requires { calls < 2 ^ 32 }
+    ensures fresh { IfOk result (λ room. (room.0.items ≡ []) × (room.1.items ≡ [])) }
+    ensures names { IfOk result (λ room. calls ≤ vec_capacity room.0) }
+    ensures record { IfOk result (λ room. calls + sum_below 8 (most_from releases.now worker.now) + 1 ≤ vec_capacity room.1) }
+{
+    let made = Vec::with_capacity(alloc, calls)?;
+    let entries = Vec::with_capacity(alloc, room_for_record(worker, releases, calls))?;
+    Ok((made, entries))
+}
+
 /// A worker with its script, and the room for its record.
 fn make_job(
     alloc: Global,
@@ -75,8 +94,7 @@ fn make_job(
     ensures { IfOk result (λ job. (job.worker ≡ worker) × (job.script ≡ script) × IsPrepared count releases.now job) }
 {
     let limits = limits_for(&worker, releases);
-    let made = Vec::with_capacity(alloc, script.len())?;
-    let entries = Vec::with_capacity(alloc, room_for_record(&worker, releases, script.len()))?;
+    let (made, entries) = room_for_job(alloc, &worker, releases, script.len())?;
     Ok(Job {
         worker,
         count,
@@ -88,32 +106,62 @@ fn make_job(
 }
 
 /// Pairs each worker with its script, in order, and makes the room for its record.
-pub(crate) fn add_jobs(
+fn add_jobs(
     alloc: Global,
-    mut workers: Vec<Worker>,
-    mut scripts: Vec<Vec<Call>>,
+    workers: &mut Vec<Worker>,
+    scripts: &mut Vec<Vec<Call>>,
     count: u32,
     releases: &[u32; 8],
     jobs: &mut Vec<Job>,
 ) -> Result<(), NoMemory>
-    requires same { vec_len scripts ≡ vec_len workers }
-    requires yard { All (KnowsYard count) workers.items }
-    requires short { All (λ s. vec_len s < 2 ^ 32) scripts.items }
-    requires room { (jobs.old.items ≡ []) × (vec_len workers ≤ vec_capacity jobs.old) }
-    ensures workers { OnOk result (map (λ j. j.worker) jobs.new.items ≡ workers.items) }
-    ensures scripts { OnOk result (map (λ j. j.script) jobs.new.items ≡ scripts.items) }
+    requires same { vec_len scripts.old ≡ vec_len workers.old }
+    requires yard { All (KnowsYard count) workers.old.items }
+    requires short { All (λ s. vec_len s < 2 ^ 32) scripts.old.items }
+    requires room { (jobs.old.items ≡ []) × (vec_len workers.old ≤ vec_capacity jobs.old) }
+    ensures workers { OnOk result (map (λ j. j.worker) jobs.new.items ≡ workers.old.items) }
+    ensures scripts { OnOk result (map (λ j. j.script) jobs.new.items ≡ scripts.old.items) }
     ensures ready { OnOk result (All (IsPrepared count releases.now) jobs.new.items) }
-    ensures len { OnOk result (vec_len jobs.new ≡ vec_len workers) }
+    ensures len { OnOk result (vec_len jobs.new ≡ vec_len workers.old) }
     ensures capacity { vec_capacity jobs.new ≡ vec_capacity jobs.old }
 {
-    let Some(worker) = workers.pop() else {
+    let Some(script) = scripts.pop() else {
         return Ok(());
     };
-    let Some(script) = scripts.pop() else {
+    let Some(worker) = workers.pop() else {
         return Ok(());
     };
     let job = make_job(alloc, worker, script, count, releases)?;
     add_jobs(alloc, workers, scripts, count, releases, jobs)?;
     jobs.push_reserved(job);
     Ok(())
+}
+
+/// A job for each worker of a whole yard, in order.
+pub(crate) fn prepare(
+    alloc: Global,
+    workers: Vec<Worker>,
+    scripts: Vec<Vec<Call>>,
+    releases: &[u32; 8],
+) -> Result<Vec<Job>, NoMemory>
+    requires yard { IsYard workers.items }
+    requires count { vec_len scripts ≡ vec_len workers }
+    requires short { All (λ s. vec_len s < 2 ^ 32) scripts.items }
+    ensures workers { IfOk result (λ jobs. map (λ j. j.worker) jobs.items ≡ workers.items) }
+    ensures scripts { IfOk result (λ jobs. map (λ j. j.script) jobs.items ≡ scripts.items) }
+    ensures ready { IfOk result (λ jobs. All (IsPrepared (vec_len workers) releases.now) jobs.items) }
+    ensures len { IfOk result (λ jobs. vec_len jobs ≡ vec_len workers) }
+{
+    let mut workers = workers;
+    let mut scripts = scripts;
+    let count = workers.len();
+    let mut jobs = Vec::with_capacity(alloc, count)?;
+    add_jobs(
+        alloc,
+        &mut workers,
+        &mut scripts,
+        count as u32,
+        releases,
+        &mut jobs,
+    )?;
+    Ok(jobs)
 }

@@ -11,11 +11,7 @@ ghost use Rattle.tlsf_crew.specs.threads.Parts.{HaveRun, HaveRooms, HasFew, HasL
 use crate::threads::fan_out::{run_all, take_apart};
 use crate::threads::gate::Gate;
 use crate::threads::outcome::Outcome;
-use crate::threads::preparation::{add_jobs, count_all};
-use crate::yard::call::Call;
-use crate::yard::drained::MOST_DRAINED;
-use crate::yard::entry::Entry;
-use crate::yard::event::Event;
+use crate::threads::preparation::{count_all, prepare};
 use crate::yard::journal::Journal;
 use crate::yard::replay::reply_in_yard;
 use crate::yard::settle::settle;
@@ -25,6 +21,7 @@ use std::marker::Sync;
 use std::mem;
 use std::sync::Wait;
 use std::thread::Threads;
+use tlsf_calls::{Call, Entry, Event, MOST_DRAINED};
 use tlsf_post::NoMemory;
 
 /// Runs each worker's script in a thread of its own, waits for all, and then drains each worker, in rising number. The
@@ -69,6 +66,16 @@ pub fn race<R: Threads + Wait + Sync, G: Gate>(
     Ok(outcome)
 }
 
+/// Room for what so many workers hand back.
+fn room_for_outcome(alloc: Global, count: usize) -> Result<Outcome, NoMemory>
+    ensures empty { IfOk result (λ out. (out.workers.items ≡ []) × (out.records.items ≡ [])) }
+    ensures room { IfOk result (λ out. (count ≤ vec_capacity out.workers) × (count ≤ vec_capacity out.records)) }
+{
+    let workers = Vec::with_capacity(alloc, count)?;
+    let records = Vec::with_capacity(alloc, count)?;
+    Ok(Outcome { workers, records })
+}
+
 /// Makes all room, and runs each script in a thread of its own.
 fn run_scripts<R: Threads + Wait + Sync, G: Gate>(
     rt: &R,
@@ -83,17 +90,11 @@ fn run_scripts<R: Threads + Wait + Sync, G: Gate>(
     ensures run { IfOk result (λ o. HaveRun workers.items (map (λ s. s.items) scripts.items) (map (λ r. r.items) o.records.items) o.workers.items) }
     ensures rooms { IfOk result (λ o. HaveRooms workers.items (map (λ s. s.items) scripts.items) o.records.items) }
 {
-    let count = workers.len();
-    let mut jobs = Vec::with_capacity(alloc, count)?;
-    let done = Vec::with_capacity(alloc, count)?;
-    let mut outcome = Outcome {
-        workers: Vec::with_capacity(alloc, count)?,
-        records: Vec::with_capacity(alloc, count)?,
-    };
     let releases = count_all(&scripts);
-    add_jobs(alloc, workers, scripts, count as u32, &releases, &mut jobs)?;
-    let done = run_all(rt, jobs, gate, done)?;
-    take_apart(done, &mut outcome);
+    let jobs = prepare(alloc, workers, scripts, &releases)?;
+    let mut outcome = room_for_outcome(alloc, jobs.len())?;
+    let mut done = run_all(rt, alloc, jobs, gate)?;
+    take_apart(&mut done, &mut outcome);
     Ok(outcome)
 }
 

@@ -1,28 +1,20 @@
 //! The executor: one call of a script on one worker, with its entries and the name that it made.
 ghost use Rattle.std.specs.Prelude.{◌≡◌, ℕ, ◌+◌, ◌<◌, ◌≤◌, [], ◌∷◌, ◌++◌, List, Option, length, vec_len, vec_capacity};
 ghost use Rattle.tlsf_heap.specs.declared.name.Name.{Name};
-ghost use Rattle.tlsf_crew.specs.declared.yard.call.Call.TheVariants.{Allocate, Release, Write, Read, Take};
+ghost use Rattle.tlsf_calls.specs.declared.call.Call.TheVariants.{Allocate, Release, Write, Read, Take};
 ghost use Rattle.tlsf_heap.specs.Calls.{read_of};
 ghost use Rattle.tlsf_crew.specs.yard.Calls.{by_heap};
-ghost use Rattle.tlsf_crew.specs.yard.Bytes.{bytes_of};
+ghost use Rattle.tlsf_calls.specs.Bytes.{bytes_of};
 ghost use Rattle.tlsf_crew.specs.yard.Heaps.{as_chunk, chunk_read};
 ghost use Rattle.tlsf_crew.specs.yard.Workers.{heap_of, id_of, SameButHeap, HasTake, KnowsYard};
 ghost use Rattle.tlsf_crew.specs.yard.World.{allocating, releasing_named, writing_named, reading_named, taking, name_of, made_by};
 ghost use Rattle.tlsf_crew.specs.yard.Counts.{sum_of};
-ghost use Rattle.tlsf_crew.specs.yard.Moves.{Answered, TookWithin, LanesSpent, Stepped, Called};
+ghost use Rattle.tlsf_crew.specs.yard.Moves.{Answered, TookWithin, EachLaneSpent, Stepped, Called};
 ghost use Rattle.tlsf_crew.specs.yard.Notes.{HasRoom};
 
-use crate::yard::call::Call;
-use crate::yard::chunk::Chunk;
-use crate::yard::crew_refusal::CrewRefusal;
-use crate::yard::entry::Entry;
-use crate::yard::event::Event;
 use crate::yard::journal::Journal;
-use crate::yard::released::Released;
-use crate::yard::reply::Reply;
-use crate::yard::target::Target;
-use crate::yard::took::Took;
 use crate::yard::worker::{Worker, drain_noting, take_next};
+use tlsf_calls::{Call, Chunk, CrewRefusal, Entry, Event, Released, Reply, Target, Took};
 use tlsf_heap::{Name, Refusal};
 
 /// The name that a reply made.
@@ -209,13 +201,14 @@ fn reply_to_take(worker: &mut Worker, count: u32, limits: &mut [u32; 8], from: u
 fn drain_into_journal(worker: &mut Worker, count: u32, journal: &mut Journal, most: u32) -> u32
     requires knows { KnowsYard count worker.old }
     requires room { HasRoom journal.old }
-    ensures spent { LanesSpent worker.old journal.old.limits count most journal.old.entries.items worker.new journal.new.limits journal.new.entries.items result }
+    ensures spent { EachLaneSpent worker.old journal.old.limits count most journal.old.entries.items worker.new journal.new.limits journal.new.entries.items result }
     ensures capacity { vec_capacity journal.new.entries ≡ vec_capacity journal.old.entries }
 {
     drain_noting(worker, most, journal).taken
 }
 
 /// Makes one call, and answers the reply. A drain's takes get their entries here, the call gets its own later.
+#[inline(always)]
 pub(crate) fn reply_to(
     worker: &mut Worker,
     count: u32,

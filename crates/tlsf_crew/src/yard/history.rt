@@ -1,8 +1,8 @@
 ghost use Rattle.std.specs.Prelude.{◌≡◌, ℕ, ◌<◌, ◌++◌, List, [], length};
 ghost use Rattle.tlsf_crew.specs.yard.History.{AreLawful, RunsThrough, RunsTo, Tells, answers_on, calls_on, posts_made, posts_taken};
 ghost use Rattle.tlsf_crew.specs.yard.World.{World, heap_in, replies};
-ghost use Rattle.tlsf_crew.specs.declared.yard.event.Event.{Event};
-ghost use Rattle.tlsf_crew.specs.declared.yard.entry.Entry.{Entry};
+ghost use Rattle.tlsf_calls.specs.declared.event.Event.{Event};
+ghost use Rattle.tlsf_calls.specs.declared.entry.Entry.{Entry};
 
 /// Each heap has one history, in which each call made on it and each post taken for it stands once, in its caller's
 /// order, and each answer is that of the sequential heap at that point.

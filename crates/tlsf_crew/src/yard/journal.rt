@@ -1,12 +1,11 @@
 //! The record of a worker, while it is written.
-ghost use Rattle.std.specs.Prelude.{◌+◌, ◌≤◌, ◌<◌, vec_len, vec_capacity};
+ghost use Rattle.std.specs.Prelude.{◌≡◌, ◌+◌, ◌≤◌, ◌<◌, [], vec_len, vec_capacity, IfOk};
 ghost use Rattle.tlsf_crew.specs.yard.Notes.{IsAdmitted, HasRoom, IsNoted};
 
-use crate::yard::call::Call;
-use crate::yard::entry::Entry;
 use crate::yard::notes::Notes;
-use crate::yard::reply::Reply;
-use crate::yard::took::Took;
+use std::alloc::Global;
+use tlsf_calls::{Call, Entry, Reply, Took};
+use tlsf_post::NoMemory;
 
 /// The entries of a worker's calls, and how many posts these may still take from each other worker: so many that the
 /// entries have room for.
@@ -14,6 +13,20 @@ use crate::yard::took::Took;
 pub(crate) struct Journal {
     pub(crate) limits: [u32; 8],
     pub(crate) entries: Vec<Entry>,
+}
+
+impl Journal {
+    /// Room for so many entries, and limits of 0.
+    pub(crate) fn with_room(alloc: Global, room: usize) -> Result<Journal, NoMemory>
+        ensures empty { IfOk result (λ journal. journal.entries.items ≡ []) }
+        ensures room { IfOk result (λ journal. room ≤ vec_capacity journal.entries) }
+    {
+        let entries = Vec::with_capacity(alloc, room)?;
+        Ok(Journal {
+            limits: [0; 8],
+            entries,
+        })
+    }
 }
 
 impl Notes for Journal {

@@ -1,8 +1,8 @@
 //! Where a drain notes what it takes.
 ghost use Rattle.std.specs.Prelude.{◌≡◌, ℕ, ⊤, true, false};
-ghost use Rattle.tlsf_crew.specs.declared.yard.took.Took.{Took};
+ghost use Rattle.tlsf_calls.specs.declared.took.Took.{Took};
 
-use crate::yard::took::Took;
+use tlsf_calls::Took;
 
 /// Notes of the posts that a drain takes. A drain takes no post that they don't admit.
 pub(crate) trait Notes {

@@ -93,12 +93,9 @@ fn open_worker(
     ensures posts { IfOk result (λ worker. worker.posts.items ≡ replicate n None) }
     ensures takes { IfOk result (λ worker. worker.takes.items ≡ replicate n None) }
 {
-    // The words are in range and the tick is 0, so a refusal is a want of memory.
-    let Ok(heap) = Heap::open(alloc, id, words, 0) else {
-        return Err(NoMemory);
-    };
     let posts = no_ends(alloc, n)?;
     let takes = no_ends(alloc, n)?;
+    let heap = open_heap(alloc, id, words)?;
     Ok(Worker {
         heap,
         id,
@@ -106,6 +103,18 @@ fn open_worker(
         posts,
         takes,
     })
+}
+
+/// Opens the heap of a worker.
+fn open_heap(alloc: Global, id: u32, words: u32) -> Result<Heap, NoMemory>
+    requires { IsRegion words }
+    ensures { IfOk result (λ heap. heap.heap ≡ opened id words 0) }
+{
+    match Heap::open(alloc, id, words, 0) {
+        Ok(heap) => Ok(heap),
+        // The words are in range and the tick is 0, so a refusal is a want of memory.
+        Err(_) => Err(NoMemory),
+    }
 }
 
 /// Slots for the ends of `n` lanes.

@@ -8,18 +8,14 @@ ghost use Rattle.tlsf_crew.specs.yard.FairRuns.{IsFairRun, NoneStale, WaitLive};
 ghost use Rattle.tlsf_crew.specs.yard.Settle.{MetIn};
 ghost use Rattle.tlsf_crew.specs.yard.ReplaySteps.{replay_of, Concerns, AreLimits, IsReplied};
 
-use crate::yard::call::Call;
-use crate::yard::crew_refusal::CrewRefusal;
-use crate::yard::entry::Entry;
-use crate::yard::event::Event;
 use crate::yard::executor::{answer, named, reply_to};
 use crate::yard::journal::Journal;
 use crate::yard::pairs::settle_lane;
-use crate::yard::reply::Reply;
 use crate::yard::room::{count_each, room_for};
 use crate::yard::settle::{settle, settle_column};
 use crate::yard::worker::Worker;
 use std::alloc::Global;
+use tlsf_calls::{Call, CrewRefusal, Entry, Event, Reply};
 use tlsf_heap::Name;
 use tlsf_post::NoMemory;
 
@@ -52,6 +48,7 @@ fn settle_named(workers: &mut [Worker], at: usize, name: Option<Name>)
 
 /// Settles the lanes that an event concerns. Answers how many posts the worker may take then from each other one: all
 /// that wait, where it takes any.
+#[inline(always)]
 fn settle_for(workers: &mut [Worker], event: Event, made: &[Option<Name>]) -> [u32; 8]
     requires yard { IsYard workers.old }
     requires inside { event.worker < length workers.old }
@@ -195,10 +192,7 @@ fn replay_within(
     ensures refused { OnErr result ((world_of workers.new ≡ world_of workers.old) × (made.new.items ≡ made.old.items)) }
 {
     made.reserve(events.len())?;
-    let mut journal = Journal {
-        limits: [0; 8],
-        entries: Vec::with_capacity(alloc, room)?,
-    };
+    let mut journal = Journal::with_room(alloc, room)?;
     for event in events.iter() {
         run_event(workers, *event, made, &mut journal);
     }

@@ -2,9 +2,8 @@
 ghost use Rattle.std.specs.Prelude.{◌≡◌, ℕ, ◌+◌, ◌*◌, ◌<◌, ◌≤◌, length, slice_index};
 ghost use Rattle.tlsf_crew.specs.yard.Counts.{sum_below, releases_in, ready_from, ready_in};
 
-use crate::yard::call::Call;
-use crate::yard::event::Event;
 use crate::yard::worker::Worker;
+use tlsf_calls::{Call, Event};
 
 /// Room for all entries that events can make: one for each event, one for each post that a release makes, and one for
 /// each post that is ready.

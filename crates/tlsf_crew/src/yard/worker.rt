@@ -4,17 +4,14 @@ ghost use Rattle.tlsf_heap.specs.Calls.{allocated, written, read_of, read_answer
 ghost use Rattle.tlsf_heap.specs.Given.{payload_words_given};
 ghost use Rattle.tlsf_heap.specs.Placed.{placed_at};
 ghost use Rattle.tlsf_heap.specs.Reports.{report_of};
-ghost use Rattle.tlsf_crew.specs.declared.yard.took.Took.{Took};
+ghost use Rattle.tlsf_calls.specs.declared.took.Took.{Took};
 ghost use Rattle.tlsf_crew.specs.yard.Workers.{heap_of, touches_of, id_of, SameButHeap, HasPost, HasTake, PutTo, TookFrom};
 ghost use Rattle.tlsf_crew.specs.yard.Calls.{KeepsYards, by_heap, ReleasedHere, ReleasedThere, TakenFrom};
 ghost use Rattle.tlsf_crew.specs.yard.LaneTurns.{IsCountOf, DrainedAll};
 ghost use Rattle.tlsf_crew.specs.yard.Notes.{LaneNoted, AllNoted};
 
-use crate::yard::crew_refusal::CrewRefusal;
-use crate::yard::drained::Drained;
 use crate::yard::notes::{NoNotes, Notes};
-use crate::yard::released::Released;
-use crate::yard::took::Took;
+use tlsf_calls::{CrewRefusal, Drained, Released, Took};
 use tlsf_heap::{Heap, Name, PlacedBlock, Report};
 use tlsf_post::{Post, PostEnd, TakeEnd};
 

@@ -5,8 +5,8 @@ use Rattle.tlsf_heap.specs.Blocks.{HeapState}
 use Rattle.tlsf_heap.specs.Lawful.{IsLawful}
 use Rattle.tlsf_heap.specs.declared.name.Name.{Name}
 use Rattle.tlsf_heap.proofs.Outcomes.{lawful_run}
-use Rattle.tlsf_crew.specs.declared.yard.call.Call.{Call}
-use Rattle.tlsf_crew.specs.declared.yard.entry.Entry.{Entry}
+use Rattle.tlsf_calls.specs.declared.call.Call.{Call}
+use Rattle.tlsf_calls.specs.declared.entry.Entry.{Entry}
 use Rattle.tlsf_crew.specs.yard.History.{AreLawful, RunsThrough, RunsTo, Tells, TellsEvent, answer_told, answers_on, call_on_own, calls_on, posts_made, posts_taken}
 use Rattle.tlsf_crew.specs.yard.Told.{Told, MayTell, MayTellAll, untold}
 use Rattle.tlsf_crew.specs.yard.World.{World, Replayed, called, heap_in}
@@ -135,10 +135,10 @@ race_lawful w v scripts records race lawful j j_in =
     let k : j < length w.heaps = omega (arith, race.heaps) in
     subst IsLawful (race_runs w v scripts records race j k).left (lawful_run (heap_in w j) (calls_on j (race.made j) (record_of records j)) (lawful j k))
 
-pub race_always : (w v : World) (scripts : List (List Call)) (records : List (List Entry)) (race : IsRace w scripts records v) (before later : List Entry) (j : ℕ) → AreLawful w → j < length w.heaps
+pub race_always : (w v : World) (scripts : List (List Call)) (records : List (List Entry)) (race : IsRace w scripts records v) (before later : List Entry) (j : ℕ) → IsLawful (heap_in w j) → j < length w.heaps
     → record_of records j ≡ before ++ later → RunsThrough (heap_in w j) j (race.made j) before later (heap_in v j)
 race_always w v scripts records race before later j lawful j_in whole =
     let t = race_told w v scripts records race j j_in in
-    runs_through (race.made j) (length w.heaps) j (heap_in w j) (heap_in v j) before later j_in (lawful j j_in)
+    runs_through (race.made j) (length w.heaps) j (heap_in w j) (heap_in v j) before later j_in lawful
     (subst (All (IsAnswered (race.made j) (length w.heaps))) whole t.each)
     (subst (λ l. RunsTo (heap_in w j) (calls_on j (race.made j) l) (answers_on j l) (heap_in v j)) whole t.run)

@@ -10,8 +10,8 @@ use Rattle.tlsf_post.specs.contracts.take_end.TakeEnd as take_end
 use Rattle.tlsf_crew.specs.contracts.yard.worker.Worker as worker
 use Rattle.tlsf_crew.specs.contracts.threads.job.Job as job
 use Rattle.tlsf_crew.specs.contracts.threads.done.Done as done
-use Rattle.tlsf_crew.specs.contracts.yard.entry.Entry as entry
-use Rattle.tlsf_crew.proofs.yard.entry.Entry.TheSendSync as entry_sends
+use Rattle.tlsf_calls.specs.contracts.entry.Entry as entry
+use Rattle.tlsf_calls.proofs.entry.Entry.TheSendSync as entry_sends
 
 post_slot_send : IsSend (option.the_row post_end.the_row)
 post_slot_send = search (sendable, crosses, post_end_send) depth 20

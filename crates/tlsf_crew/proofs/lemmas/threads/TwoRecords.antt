@@ -8,15 +8,15 @@ use Rattle.std.proofs.lemmas.Bool.{cases_eq}
 use Rattle.std.proofs.lemmas.List.Elements.{All-nil, All-append, All-push}
 use Rattle.tlsf_heap.specs.declared.name.Name.{Name}
 use Rattle.tlsf_post.specs.declared.post.Post.{Post}
-use Rattle.tlsf_crew.specs.declared.yard.entry.Entry.{Entry}
-use Rattle.tlsf_crew.specs.declared.yard.call.Call.{Call}
-use Rattle.tlsf_crew.specs.declared.yard.call.Call.TheVariants.{Allocate, Release, Write, Read, Take, Drain}
-use Rattle.tlsf_crew.specs.declared.yard.target.Target.{Target}
-use Rattle.tlsf_crew.specs.declared.yard.target.Target.TheVariants.{Named, Made as MadeBy, Absent}
-use Rattle.tlsf_crew.specs.declared.yard.took.Took.{Took}
-use Rattle.tlsf_crew.specs.declared.yard.reply.Reply.{Reply}
-use Rattle.tlsf_crew.specs.declared.yard.reply.Reply.TheVariants.{Made, Freed, Posted, Wrote, Got, Took as Taken, Empty, Drained, Refused}
-use Rattle.tlsf_crew.specs.declared.yard.crew_refusal.CrewRefusal.TheVariants.{Full}
+use Rattle.tlsf_calls.specs.declared.entry.Entry.{Entry}
+use Rattle.tlsf_calls.specs.declared.call.Call.{Call}
+use Rattle.tlsf_calls.specs.declared.call.Call.TheVariants.{Allocate, Release, Write, Read, Take, Drain}
+use Rattle.tlsf_calls.specs.declared.target.Target.{Target}
+use Rattle.tlsf_calls.specs.declared.target.Target.TheVariants.{Named, Made as MadeBy, Absent}
+use Rattle.tlsf_calls.specs.declared.took.Took.{Took}
+use Rattle.tlsf_calls.specs.declared.reply.Reply.{Reply}
+use Rattle.tlsf_calls.specs.declared.reply.Reply.TheVariants.{Made, Freed, Posted, Wrote, Got, Took as Taken, Empty, Drained, Refused}
+use Rattle.tlsf_calls.specs.declared.crew_refusal.CrewRefusal.TheVariants.{Full}
 use Rattle.tlsf_crew.specs.yard.World.{name_of}
 use Rattle.tlsf_crew.specs.yard.History.{AreTakes, IsDrain, of_heap, post_made, post_taken, posts_made, posts_taken, entries_of, StandsBehind}
 use Rattle.tlsf_crew.specs.threads.Race.{Agree}
@@ -55,8 +55,8 @@ same_post j made i (Read target from n) reply = refl
 same_post j made i (Take from) reply = refl
 same_post j made i (Drain most) reply = refl
 
-pub same_posts : (i j : ℕ) (made : List (Option Name)) (es : List Entry) → posts_made i j (made ++ None ∷ []) es ≡ posts_made i j made es
-same_posts i j made es = ap (λ (f : Entry → Option Post). filter_map f (entries_of i es)) (λ k e. same_post j made e.worker e.call e.reply k)
+pub each_post_same : (i j : ℕ) (made : List (Option Name)) (es : List Entry) → posts_made i j (made ++ None ∷ []) es ≡ posts_made i j made es
+each_post_same i j made es = ap (λ (f : Entry → Option Post). filter_map f (entries_of i es)) (λ k e. same_post j made e.worker e.call e.reply k)
 
 -- ---- who signed them
 
@@ -180,7 +180,7 @@ agree_full : (capacity i j : ℕ) (W waits : List Post) (made : List (Option Nam
     → capacity ≤ length W + length (posts_made i j (made ++ None ∷ []) before)
 agree_full capacity i j W waits made s t own a d before e name stands reply here =
     elim (stands_split s own before stands.0 e stands.1) [
-      | inl f ↦ rw (same_posts i j made before) (a.full before e name f reply here)
+      | inl f ↦ rw (each_post_same i j made before) (a.full before e name f reply here)
       | inr f ↦ elim (of_drain i 8192 own f.0 stands.0 e d f.2) [
         | inl g ↦ let q = sym reply ∙ ap (λ (x : Entry). x.reply) g.2 in cc
         | inr g ↦ let q = sym reply ∙ ap (λ (x : Entry). x.reply) g.1 in cc
@@ -221,7 +221,7 @@ pub records_agree : (capacity i j : ℕ) (W waits : List Post) (made : List (Opt
 records_agree capacity i j W waits made s t own_s own_t a ds dt took =
     let longer = made ++ None ∷ [] in
     let makes : posts_made i j longer (s ++ own_s) ≡ posts_made i j made s =
-    made_then i j longer s own_s ∙ (ap (λ l. posts_made i j longer s ++ l) (drain_makes i j i 8192 longer own_s ds) ∙ (append-nil (posts_made i j longer s) ∙ same_posts i j made s)) in
+    made_then i j longer s own_s ∙ (ap (λ l. posts_made i j longer s ++ l) (drain_makes i j i 8192 longer own_s ds) ∙ (append-nil (posts_made i j longer s) ∙ each_post_same i j made s)) in
     let takes : posts_taken i j (t ++ own_t) ≡ posts_taken i j t ++ waits = taken_then i j t own_t ∙ ap (λ l. posts_taken i j t ++ l) took in
     let all : posts_taken i j (t ++ own_t) ≡ W ++ posts_made i j made s = takes ∙ a.posts in
     record {

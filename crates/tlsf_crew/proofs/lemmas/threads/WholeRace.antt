@@ -15,8 +15,8 @@ use Rattle.tlsf_post.specs.declared.post_end.PostEnd.{PostEnd}
 use Rattle.tlsf_post.specs.declared.take_end.TakeEnd.{TakeEnd}
 use Rattle.tlsf_post.specs.Lanes.{posts_sent, free_slots, capacity_of, waited, taken, ready}
 use Rattle.tlsf_crew.specs.declared.yard.worker.Worker.{Worker}
-use Rattle.tlsf_crew.specs.declared.yard.entry.Entry.{Entry}
-use Rattle.tlsf_crew.specs.declared.yard.call.Call.{Call}
+use Rattle.tlsf_calls.specs.declared.entry.Entry.{Entry}
+use Rattle.tlsf_calls.specs.declared.call.Call.{Call}
 use Rattle.tlsf_crew.specs.yard.Workers.{heap_of, id_of, own_numbers, end_to, end_from}
 use Rattle.tlsf_crew.specs.yard.Yard.{IsYard, yard_heap, post_at, take_at, end_to_in, end_from_in, capacity_in, waits_in}
 use Rattle.tlsf_crew.specs.yard.World.{World, world_of}
@@ -117,9 +117,9 @@ record TakenIn (t u : TakeEnd) (i j : ℕ) (es : List Entry) : Type 0 where
   waited : waited u ≡ waited t
   taken : taken u ≡ posts_taken i j es
 
-taken_in : (ws vs : List Worker) (scripts : List (List Call)) (rs : List (List Entry)) (made : List (Option Name)) (i j : ℕ) → (a : WorkerRan ws vs scripts rs made j) → (t u : TakeEnd)
+takes_told : (ws vs : List Worker) (scripts : List (List Call)) (rs : List (List Entry)) (made : List (Option Name)) (i j : ℕ) → (a : WorkerRan ws vs scripts rs made j) → (t u : TakeEnd)
     → take_at ws i j ≡ Some t → taken t ≡ [] → take_at vs i j ≡ Some u → TakenIn t u i j (record_of rs j)
-taken_in ws vs scripts rs made i j a t u t_is none u_is =
+takes_told ws vs scripts rs made i j a t u t_is none u_is =
     let s = a.ran.taken i t (sym (ap (λ o. end_from_in o i) a.old_is) ∙ t_is) in
     let same : u ≡ s.end = some_same u s.end (sym u_is ∙ (ap (λ o. end_from_in o i) a.new_is ∙ s.end_is)) in
     record {
@@ -151,7 +151,7 @@ lane_ran zs ws vs us scripts rs len met yard run later_len later_met later capac
     let to : end_to a.old j ≡ Some m.new_post = sym (ap (λ o. end_to_in o j) a.old_is) ∙ m.new_post_is in
     let from : end_from b.old i ≡ Some m.new_take = sym (ap (λ o. end_from_in o i) b.old_is) ∙ m.new_take_is in
     let sent = sent_in ws vs scripts rs (run.made i) i j a m.new_post n.post m.new_post_is m.meets.fresh.0 n.post_is in
-    let took = taken_in ws vs scripts rs (run.made j) i j b m.new_take n.take m.new_take_is m.meets.fresh.1 n.take_is in
+    let took = takes_told ws vs scripts rs (run.made j) i j b m.new_take n.take m.new_take_is m.meets.fresh.1 n.take_is in
     let waits = met_waits zs ws i j m in
     let known : ready m.new_take ≡ waits_in ws i j = m.meets.fresh.2 ∙ sym waits in
     let room = met_room zs ws i j i_in j_in ne yard m in

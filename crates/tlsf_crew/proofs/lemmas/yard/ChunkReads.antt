@@ -7,10 +7,10 @@ use Rattle.tlsf_heap.specs.declared.name.Name.{Name}
 use Rattle.tlsf_heap.specs.declared.refusal.Refusal.{Refusal}
 use Rattle.tlsf_heap.specs.declared.refusal.Refusal.TheVariants.{Range}
 use Rattle.std.specs.Result.{result_unwrap_or}
-use Rattle.tlsf_crew.specs.yard.Bytes.{chunk_of}
-use Rattle.tlsf_crew.specs.declared.yard.chunk.Chunk.{Chunk}
-use Rattle.tlsf_crew.specs.declared.yard.crew_refusal.CrewRefusal.{CrewRefusal}
-use Rattle.tlsf_crew.specs.declared.yard.crew_refusal.CrewRefusal.TheVariants.{Heap}
+use Rattle.tlsf_calls.specs.Bytes.{chunk_of}
+use Rattle.tlsf_calls.specs.declared.chunk.Chunk.{Chunk}
+use Rattle.tlsf_calls.specs.declared.crew_refusal.CrewRefusal.{CrewRefusal}
+use Rattle.tlsf_calls.specs.declared.crew_refusal.CrewRefusal.TheVariants.{Heap}
 use Rattle.tlsf_crew.specs.yard.Calls.{by_heap}
 use Rattle.tlsf_crew.specs.yard.Heaps.{chunk_read, as_chunk, too_many}
 

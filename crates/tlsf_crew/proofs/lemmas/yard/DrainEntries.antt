@@ -5,10 +5,10 @@ use Rattle.std.proofs.lemmas.Bool.{cases_eq}
 use Rattle.std.proofs.lemmas.List.{take-append-drop}
 use Rattle.tlsf_heap.specs.declared.name.Name.{Name}
 use Rattle.tlsf_post.specs.declared.post.Post.{Post}
-use Rattle.tlsf_crew.specs.declared.yard.entry.Entry.{Entry}
-use Rattle.tlsf_crew.specs.declared.yard.call.Call.TheVariants.{Take, Drain}
-use Rattle.tlsf_crew.specs.declared.yard.took.Took.{Took}
-use Rattle.tlsf_crew.specs.declared.yard.reply.Reply.TheVariants.{Took as Taken, Drained}
+use Rattle.tlsf_calls.specs.declared.entry.Entry.{Entry}
+use Rattle.tlsf_calls.specs.declared.call.Call.TheVariants.{Take, Drain}
+use Rattle.tlsf_calls.specs.declared.took.Took.{Took}
+use Rattle.tlsf_calls.specs.declared.reply.Reply.TheVariants.{Took as Taken, Drained}
 use Rattle.tlsf_crew.specs.yard.History.{AreTakes, TellsCall}
 use Rattle.tlsf_crew.specs.yard.World.{Replayed, Draining, took, took_more, drained_lane, drained_below, drained_all, draining}
 use Rattle.tlsf_crew.proofs.lemmas.yard.LaneCalls.{took_told}

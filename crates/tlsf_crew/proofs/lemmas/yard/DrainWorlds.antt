@@ -7,9 +7,9 @@ use Rattle.std.proofs.lemmas.List.{length-set, get_or-set_same, take_all}
 use Rattle.tlsf_heap.specs.declared.name.Name.{Name}
 use Rattle.tlsf_post.specs.declared.post.Post.{Post}
 use Rattle.tlsf_crew.specs.declared.yard.worker.Worker.{Worker}
-use Rattle.tlsf_crew.specs.declared.yard.entry.Entry.{Entry}
-use Rattle.tlsf_crew.specs.declared.yard.call.Call.TheVariants.{Drain}
-use Rattle.tlsf_crew.specs.declared.yard.reply.Reply.TheVariants.{Drained}
+use Rattle.tlsf_calls.specs.declared.entry.Entry.{Entry}
+use Rattle.tlsf_calls.specs.declared.call.Call.TheVariants.{Drain}
+use Rattle.tlsf_calls.specs.declared.reply.Reply.TheVariants.{Drained}
 use Rattle.tlsf_crew.specs.yard.Heaps.{released}
 use Rattle.tlsf_crew.specs.yard.Workers.{heap_of, id_of, KnowsYard}
 use Rattle.tlsf_crew.specs.yard.Yard.{no_heap}
@@ -17,8 +17,8 @@ use Rattle.tlsf_crew.specs.yard.World.{World, Draining, heap_in, called, drainin
 use Rattle.tlsf_crew.specs.yard.Told.{MayTell, HasHeap, told_by}
 use Rattle.tlsf_crew.specs.yard.Counts.{sum_below}
 use Rattle.tlsf_crew.specs.yard.History.{posts_taken}
-use Rattle.tlsf_crew.specs.yard.Moves.{one, Spent, OwnDrain, lane_own, lanes_own, own_drain, LanesTaken, LanesSpent, SuitsDrain, Stepped}
-use Rattle.tlsf_crew.proofs.lemmas.yard.LaneTakes.{lanes_other_turn, lanes_own_turn, count_below, lanes_taken_count}
+use Rattle.tlsf_crew.specs.yard.Moves.{one, Spent, OwnDrain, lane_own, each_lane_own, own_drain, EachLaneTaken, EachLaneSpent, SuitsDrain, Stepped}
+use Rattle.tlsf_crew.proofs.lemmas.yard.LaneTakes.{lanes_other_turn, each_lane_own_turn, count_below, lanes_taken_count}
 use Rattle.tlsf_crew.proofs.lemmas.yard.Pending.{same_sum}
 use Rattle.tlsf_crew.proofs.lemmas.yard.Sums.{sum_longer}
 use Rattle.tlsf_crew.proofs.lemmas.yard.OneEvent.{from_other, from_own}
@@ -59,7 +59,7 @@ lane_world at from (p ∷ posts) d lt =
 
 -- the lanes below a number
 record WorldBelow (at : ℕ) (posts : ℕ → List Post) (k : ℕ) (d c : Draining) : Type 0 where
-  own : own_of at c ≡ lanes_own at posts (own_of at d) k
+  own : own_of at c ≡ each_lane_own at posts (own_of at d) k
   count : length c.world.heaps ≡ length d.world.heaps
   waits : (x : ℕ) → k ≤ x → c.world.waiting x at ≡ d.world.waiting x at
 
@@ -78,7 +78,7 @@ next_lane at most k posts d c lt w all ne =
 
 own_lane : (at k : ℕ) (posts : ℕ → List Post) (d c : Draining) → WorldBelow at posts k d c → k ≡ at → WorldBelow at posts (k + 1) d c
 own_lane at k posts d c w e = record {
-  own = w.own ∙ sym (lanes_own_turn at posts (own_of at d) k e);
+  own = w.own ∙ sym (each_lane_own_turn at posts (own_of at d) k e);
   count = w.count;
   waits = λ i le. w.waits i (omega arith);
 }
@@ -117,7 +117,7 @@ world_below at most n posts d (suc k) le lt start none waits few =
     ]
 
 all_world : (at most n : ℕ) (posts : ℕ → List Post) (d : Draining) → length d.world.heaps ≡ n → at < n → d.taken ≡ 0 → ((i : ℕ) → i ≡ at → posts i ≡ [])
-    → ((x : ℕ) → x < n → x ≢ at → WaitsFirst posts most x (d.world.waiting x at)) → sum_below n (λ i. length (posts i)) ≤ most → own_of at (drained_all at most d) ≡ lanes_own at posts (own_of at d) n
+    → ((x : ℕ) → x < n → x ≢ at → WaitsFirst posts most x (d.world.waiting x at)) → sum_below n (λ i. length (posts i)) ≤ most → own_of at (drained_all at most d) ≡ each_lane_own at posts (own_of at d) n
 unfolding drained_all
 all_world at most n posts d len lt start none waits few =
     let w = world_below at most n posts d n (omega arith) (omega arith) start none waits few in
@@ -131,14 +131,14 @@ unfolding draining
 drain_tells made at most es w o e = ap (λ x. record { made = made ++ None ∷ []; entries = x.entries ++ one at (Drain most) (Drained x.taken); heap = x.heap }) e
 
 drain_exact : (n : ℕ) (a v : Worker) (limits left : List ℕ) (most : ℕ) (made : List (Option Name)) (es longer : List Entry) (count : ℕ) → KnowsYard n a → count ≤ most
-    → (x : LanesTaken a limits n es v left longer count) → (w : World) → HasHeap w n (id_of a) (heap_of a) → SuitsDrain w n (id_of a) most x.own
+    → (x : EachLaneTaken a limits n es v left longer count) → (w : World) → HasHeap w n (id_of a) (heap_of a) → SuitsDrain w n (id_of a) most x.own
     → told_by (id_of a) (called (record { made = made; entries = es; world = w }) (id_of a) (Drain most))
     ≡ record { made = made ++ None ∷ []; entries = longer ++ one (id_of a) (Drain most) (Drained count); heap = heap_of v }
 drain_exact n a v limits left most made es longer count k few x w has suits =
     let at = id_of a in
     let d : Draining = record { entries = es; world = w; taken = 0 } in
     let start : own_of at d ≡ own_drain es a 0 = ap (λ h. record { entries = es; heap = h; taken = 0 }) has.1 in
-    let told : lanes_own at x.posts (own_of at d) n ≡ own_drain longer v count = ap (λ o. lanes_own at x.posts o n) start ∙ sym x.told in
+    let told : each_lane_own at x.posts (own_of at d) n ≡ own_drain longer v count = ap (λ o. each_lane_own at x.posts o n) start ∙ sym x.told in
     let none : (i : ℕ) → i ≡ at → x.posts i ≡ [] = λ i own. x.only i (λ _ h. let y = (k.from i).0 h in y.1 own) in
     let m = lanes_taken_count n a v limits left n es longer count k x in
     let waits : (i : ℕ) → i < n → i ≢ at → WaitsFirst x.posts most i (w.waiting i at) = λ i lt ne.
@@ -149,7 +149,7 @@ drain_exact n a v limits left most made es longer count k few x w has suits =
     drain_tells made at most es w (own_drain longer v count) (all ∙ told)
 
 -- there is a world that suits
-drain_told : (n : ℕ) (a v : Worker) (limits left : List ℕ) (most : ℕ) (made : List (Option Name)) (es longer : List Entry) (count : ℕ) → KnowsYard n a → count ≤ most → LanesTaken a limits n es v left longer count
+drain_told : (n : ℕ) (a v : Worker) (limits left : List ℕ) (most : ℕ) (made : List (Option Name)) (es longer : List Entry) (count : ℕ) → KnowsYard n a → count ≤ most → EachLaneTaken a limits n es v left longer count
     → MayTell n (id_of a) (record { made = made; entries = es; heap = heap_of a }) (Drain most)
     (record { made = made ++ None ∷ []; entries = longer ++ one (id_of a) (Drain most) (Drained count); heap = heap_of v })
 drain_told n a v limits left most made es longer count k few x =
@@ -170,7 +170,7 @@ drain_idle n a limits most count later own k spent = record {
       λ t is. let x = (k.from i).0 (t, is) in spent (omega arith) i x.0 t is;
 }
 
-pub drain_stepped : (n : ℕ) (a v : Worker) (limits left : List ℕ) (most : ℕ) (made : List (Option Name)) (es longer : List Entry) (count : ℕ) → KnowsYard n a → LanesSpent a limits n most es v left longer count
+pub drain_stepped : (n : ℕ) (a v : Worker) (limits left : List ℕ) (most : ℕ) (made : List (Option Name)) (es longer : List Entry) (count : ℕ) → KnowsYard n a → EachLaneSpent a limits n most es v left longer count
     → Stepped n a limits (Drain most) made es v left longer (Drained count)
 drain_stepped n a v limits left most made es longer count k x =
     let t = x.takes in

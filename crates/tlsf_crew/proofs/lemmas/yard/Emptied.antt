@@ -4,7 +4,7 @@ use Rattle.std.specs.List.{fold}
 use Rattle.std.proofs.lemmas.Bool.{cases_eq}
 use Rattle.std.proofs.lemmas.List.{length_push, take_all}
 use Rattle.tlsf_post.specs.declared.post.Post.{Post}
-use Rattle.tlsf_crew.specs.declared.yard.call.Call.TheVariants.{Take}
+use Rattle.tlsf_calls.specs.declared.call.Call.TheVariants.{Take}
 use Rattle.tlsf_crew.specs.yard.Heaps.{released}
 use Rattle.tlsf_crew.specs.yard.Yard.{no_heap}
 use Rattle.tlsf_crew.specs.yard.World.{Draining, heap_in, took, took_more, drained_lane, drained_below, drained_all}

@@ -4,12 +4,12 @@ use Rattle.std.specs.List.{fold}
 use Rattle.std.proofs.lemmas.Bool.Decides.{nat_tests}
 use Rattle.std.proofs.lemmas.List.{length_push}
 use Rattle.tlsf_crew.specs.declared.yard.worker.Worker.{Worker}
-use Rattle.tlsf_crew.specs.declared.yard.reply.Reply.{Reply}
-use Rattle.tlsf_crew.specs.declared.yard.entry.Entry.{Entry}
-use Rattle.tlsf_crew.specs.declared.yard.event.Event.{Event}
-use Rattle.tlsf_crew.specs.declared.yard.call.Call.{Call}
-use Rattle.tlsf_crew.specs.declared.yard.reply.Reply.TheVariants.{Refused}
-use Rattle.tlsf_crew.specs.declared.yard.crew_refusal.CrewRefusal.TheVariants.{Stranger}
+use Rattle.tlsf_calls.specs.declared.reply.Reply.{Reply}
+use Rattle.tlsf_calls.specs.declared.entry.Entry.{Entry}
+use Rattle.tlsf_calls.specs.declared.event.Event.{Event}
+use Rattle.tlsf_calls.specs.declared.call.Call.{Call}
+use Rattle.tlsf_calls.specs.declared.reply.Reply.TheVariants.{Refused}
+use Rattle.tlsf_calls.specs.declared.crew_refusal.CrewRefusal.TheVariants.{Stranger}
 use Rattle.tlsf_crew.specs.yard.World.{World, Replied, Replayed, answered, called, after, replies, begun}
 use Rattle.tlsf_crew.specs.yard.ReplaySteps.{IsReplied}
 

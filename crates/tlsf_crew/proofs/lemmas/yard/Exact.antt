@@ -1,11 +1,11 @@
 -- A call in a yard whose lanes it concerns are settled before and after: it is answered, and leaves the yard, as the model says.
-use Rattle.std.proofs.Common.{◌==◌, true, false, suc, zero, [], ◌∷◌, ◌++◌, ◌≡◌, ◌≢◌, ◌⊎◌, ℕ, ◌+◌, ◌-◌, ◌<◌, ◌≤◌, List, Option, Some, None, length, map, take, drop, get_or, set, slice_get, sym, ◌∙◌, ap, subst, arith, refl, inl, inr, append_assoc, append-nil, length-append}
+use Rattle.std.proofs.Common.{◌==◌, true, false, suc, zero, [], ◌∷◌, ◌++◌, ◌≡◌, ◌≢◌, ◌⊎◌, ℕ, ◌+◌, ◌-◌, ◌<◌, ◌≤◌, List, Option, Some, None, length, map, take, drop, get_or, set, slice_get, replicate, sym, ◌∙◌, ap, subst, arith, refl, inl, inr, append_assoc, append-nil, length-append}
 use mathlib.Core.List.{IsPrefix}
 use Rattle.std.specs.Prelude.{slice_index}
 use Rattle.std.specs.List.{fold, filter_map}
 use Rattle.std.proofs.lemmas.Bool.{cases_eq, cases_lt}
 use Rattle.std.proofs.lemmas.Bool.Decides.{nat_tests}
-use Rattle.std.proofs.lemmas.List.{length-set, map-set, drop_at, drop-drop, nil_from_length, take_all}
+use Rattle.std.proofs.lemmas.List.{get_or-replicate, length-set, map-set, drop_at, drop-drop, nil_from_length, take_all}
 use Rattle.std.proofs.lemmas.List.Elements.{filter-append}
 use Rattle.std.proofs.lemmas.Option.{slice_get_within}
 use Rattle.tlsf_heap.specs.Blocks.{HeapState}
@@ -16,19 +16,19 @@ use Rattle.tlsf_post.specs.declared.post_end.PostEnd.{PostEnd}
 use Rattle.tlsf_post.specs.declared.take_end.TakeEnd.{TakeEnd}
 use Rattle.tlsf_post.specs.Lanes.{posts_sent, waited, taken, ready}
 use Rattle.tlsf_crew.specs.declared.yard.worker.Worker.{Worker}
-use Rattle.tlsf_crew.specs.declared.yard.entry.Entry.{Entry}
-use Rattle.tlsf_crew.specs.declared.yard.event.Event.{Event}
-use Rattle.tlsf_crew.specs.declared.yard.took.Took.{Took}
-use Rattle.tlsf_crew.specs.declared.yard.target.Target.{Target}
-use Rattle.tlsf_crew.specs.declared.yard.call.Call.{Call}
-use Rattle.tlsf_crew.specs.declared.yard.call.Call.TheVariants.{Allocate, Release, Write, Read, Take, Drain}
-use Rattle.tlsf_crew.specs.declared.yard.reply.Reply.{Reply}
-use Rattle.tlsf_crew.specs.declared.yard.reply.Reply.TheVariants.{Posted, Took as Taken, Empty, Drained, Refused}
-use Rattle.tlsf_crew.specs.declared.yard.crew_refusal.CrewRefusal.TheVariants.{Full}
+use Rattle.tlsf_calls.specs.declared.entry.Entry.{Entry}
+use Rattle.tlsf_calls.specs.declared.event.Event.{Event}
+use Rattle.tlsf_calls.specs.declared.took.Took.{Took}
+use Rattle.tlsf_calls.specs.declared.target.Target.{Target}
+use Rattle.tlsf_calls.specs.declared.call.Call.{Call}
+use Rattle.tlsf_calls.specs.declared.call.Call.TheVariants.{Allocate, Release, Write, Read, Take, Drain}
+use Rattle.tlsf_calls.specs.declared.reply.Reply.{Reply}
+use Rattle.tlsf_calls.specs.declared.reply.Reply.TheVariants.{Posted, Took as Taken, Empty, Drained, Refused}
+use Rattle.tlsf_calls.specs.declared.crew_refusal.CrewRefusal.TheVariants.{Full}
 use Rattle.tlsf_crew.specs.yard.Workers.{heap_of, id_of, own_numbers, end_to, end_from, KnowsYard}
 use Rattle.tlsf_crew.specs.yard.Yard.{IsYard, post_at, take_at, end_to_in, end_from_in, lane_waits, capacity_in, no_heap, waits_in}
 use Rattle.tlsf_crew.specs.yard.World.{World, Replayed, Draining, world_of, heap_in, made_by, name_of, called, draining, posting, releasing_named, writing_named, reading_named, taking, taking_next, took_first, took_more, drained_lane, drained_below, drained_all}
-use Rattle.tlsf_crew.specs.yard.Bytes.{bytes_of}
+use Rattle.tlsf_calls.specs.Bytes.{bytes_of}
 use Rattle.tlsf_crew.specs.yard.Counts.{sum_below, count_of, ready_from, sum_of}
 use Rattle.tlsf_crew.specs.yard.Settle.{MetIn}
 use Rattle.tlsf_crew.specs.yard.History.{AreTakes, TellsCall, RunsTo, calls_on, answers_on, call_on_own, post_made, post_taken, posts_made, posts_taken, entries_of}
@@ -688,6 +688,10 @@ limits_are ws vs e counts a yard len is met counted =
           ];
       all = λ may i t lt q. let n = counted i lt in let r = ap count_of (was i ∙ q) in omega arith;
     }
+
+-- where nothing may be taken, no limits are enough
+pub zero_limits : (ws : List Worker) (e : Event) → (MayTake e.call → ⊥) → AreLimits ws e (replicate 8 0)
+zero_limits ws e none = record { few = λ i lt. let z : slice_index (replicate 8 0) i ≡ 0 = get_or-replicate 8 i 0 0 lt in omega (arith, z); all = λ may. absurd (none may) }
 
 pub limit_room : (ws vs : List Worker) (e : Event) (limits : List ℕ) → AreLimits vs e limits → world_of vs ≡ world_of ws → sum_of limits ≤ sum_below 8 (λ i. length (waits_in ws i e.worker))
 limit_room ws vs e limits l same =

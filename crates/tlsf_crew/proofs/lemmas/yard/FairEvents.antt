@@ -11,9 +11,9 @@ use Rattle.tlsf_heap.specs.declared.name.Name.{Name}
 use Rattle.tlsf_heap.specs.declared.refusal.Refusal.{Refusal}
 use Rattle.tlsf_heap.specs.declared.refusal.Refusal.TheVariants.{Stale}
 use Rattle.tlsf_crew.specs.yard.Heaps.{allocated, released}
-use Rattle.tlsf_crew.specs.declared.yard.reply.Reply.TheVariants.{Freed, Posted, Refused}
-use Rattle.tlsf_crew.specs.declared.yard.crew_refusal.CrewRefusal.{CrewRefusal}
-use Rattle.tlsf_crew.specs.declared.yard.crew_refusal.CrewRefusal.TheVariants.{Heap, Full}
+use Rattle.tlsf_calls.specs.declared.reply.Reply.TheVariants.{Freed, Posted, Refused}
+use Rattle.tlsf_calls.specs.declared.crew_refusal.CrewRefusal.{CrewRefusal}
+use Rattle.tlsf_calls.specs.declared.crew_refusal.CrewRefusal.TheVariants.{Heap, Full}
 use Rattle.tlsf_crew.specs.yard.World.{World, Replied, Replayed, with_heap, with_waiting, heap_in, made_by, reply_made, reply_freed, releasing, freeing, posting}
 use Rattle.tlsf_crew.specs.yard.FairRuns.{IsNotStale}
 use Rattle.tlsf_crew.proofs.lemmas.yard.Slots.{some_same}

@@ -2,9 +2,9 @@
 use Rattle.std.proofs.Common.{◌≡◌, [], ◌∷◌, List, Some, refl, arith, inl, inr}
 use Rattle.tlsf_heap.specs.Classes.{search_of, classes, low, class_of}
 use Rattle.tlsf_heap.specs.declared.name.Name.{Name}
-use Rattle.tlsf_crew.specs.declared.yard.event.Event.{Event}
-use Rattle.tlsf_crew.specs.declared.yard.call.Call.TheVariants.{Allocate, Release, Drain}
-use Rattle.tlsf_crew.specs.declared.yard.target.Target.TheVariants.{Made as MadeBy}
+use Rattle.tlsf_calls.specs.declared.event.Event.{Event}
+use Rattle.tlsf_calls.specs.declared.call.Call.TheVariants.{Allocate, Release, Drain}
+use Rattle.tlsf_calls.specs.declared.target.Target.TheVariants.{Made as MadeBy}
 use Rattle.tlsf_crew.specs.yard.Heaps.{allocated}
 use Rattle.tlsf_crew.specs.yard.Opening.{opened_world}
 use Rattle.tlsf_crew.specs.yard.World.{after, begun}

@@ -8,16 +8,16 @@ use Rattle.tlsf_heap.specs.Laws.{IsLive}
 use Rattle.tlsf_heap.specs.declared.name.Name.{Name}
 use Rattle.tlsf_heap.specs.declared.refusal.Refusal.{Refusal}
 use Rattle.tlsf_heap.specs.declared.refusal.Refusal.TheVariants.{Stale}
-use Rattle.tlsf_crew.specs.yard.Bytes.{bytes_of}
+use Rattle.tlsf_calls.specs.Bytes.{bytes_of}
 use Rattle.tlsf_crew.specs.yard.Heaps.{allocated, written, chunk_read}
-use Rattle.tlsf_crew.specs.declared.yard.chunk.Chunk.{Chunk}
-use Rattle.tlsf_crew.specs.declared.yard.event.Event.{Event}
-use Rattle.tlsf_crew.specs.declared.yard.call.Call.{Call}
-use Rattle.tlsf_crew.specs.declared.yard.call.Call.TheVariants.{Allocate, Release, Write, Read, Take, Drain}
-use Rattle.tlsf_crew.specs.declared.yard.target.Target.{Target}
-use Rattle.tlsf_crew.specs.declared.yard.reply.Reply.{Reply}
-use Rattle.tlsf_crew.specs.declared.yard.reply.Reply.TheVariants.{Freed, Posted, Refused}
-use Rattle.tlsf_crew.specs.declared.yard.crew_refusal.CrewRefusal.TheVariants.{Stranger}
+use Rattle.tlsf_calls.specs.declared.chunk.Chunk.{Chunk}
+use Rattle.tlsf_calls.specs.declared.event.Event.{Event}
+use Rattle.tlsf_calls.specs.declared.call.Call.{Call}
+use Rattle.tlsf_calls.specs.declared.call.Call.TheVariants.{Allocate, Release, Write, Read, Take, Drain}
+use Rattle.tlsf_calls.specs.declared.target.Target.{Target}
+use Rattle.tlsf_calls.specs.declared.reply.Reply.{Reply}
+use Rattle.tlsf_calls.specs.declared.reply.Reply.TheVariants.{Freed, Posted, Refused}
+use Rattle.tlsf_calls.specs.declared.crew_refusal.CrewRefusal.TheVariants.{Stranger}
 use Rattle.tlsf_crew.specs.yard.World.{World, Replied, Replayed, with_heap, heap_in, reply_wrote, reply_got, releasing, releasing_named, writing_named, reading_named, taking, taking_next, took_first, took, name_of, called, after, draining, begun, replies}
 use Rattle.tlsf_crew.specs.yard.FairRuns.{NoneStale, IsUsable, IsFairCall, IsAnswered, Releases, IsFair, HasIds, IsFairRun, WaitLive}
 use Rattle.tlsf_crew.proofs.lemmas.yard.OneEvent.{taking_lane, taking_own, taking_far}

@@ -3,7 +3,7 @@ use Rattle.std.proofs.Common.{◌≡◌, ◌≢◌, ℕ, ◌+◌, ◌<◌, ◌�
 use Rattle.std.proofs.lemmas.Bool.{cases_eq}
 use Rattle.tlsf_crew.specs.declared.yard.worker.Worker.{Worker}
 use Rattle.tlsf_crew.specs.yard.Settle.{MetIn}
-use Rattle.tlsf_crew.specs.yard.LaneSteps.{LaneStep, SameLane, RowMet, RowsMet, ColumnMet}
+use Rattle.tlsf_crew.specs.yard.LaneSteps.{LaneStep, SameLane, RowMet, EachRowMet, ColumnMet}
 use Rattle.tlsf_crew.proofs.lemmas.yard.Slots.{settled, step_same, same_then}
 
 pub step_meets : (ws vs : List Worker) (i j : ℕ) → i ≢ j → LaneStep ws i j vs → MetIn ws vs i j
@@ -73,11 +73,11 @@ row_skip ws vs i j r e =
       same = λ x y low. r.same x y (λ f. let h : j + 1 ≤ y = low f in omega arith);
     }
 
-pub yard_first : (ws : List Worker) → RowsMet ws ws 0
+pub yard_first : (ws : List Worker) → EachRowMet ws ws 0
 yard_first ws = record { len = refl; done = λ x y lt _ _. absurd (omega arith); same = λ x y low. (refl, refl) }
 
 -- one row more
-pub yard_step : (ws vs us : List Worker) (i : ℕ) → RowsMet ws vs i → RowMet vs us i (length vs) → RowsMet ws us (i + 1)
+pub yard_step : (ws vs us : List Worker) (i : ℕ) → EachRowMet ws vs i → RowMet vs us i (length vs) → EachRowMet ws us (i + 1)
 yard_step ws vs us i a r =
     record {
       len = r.len ∙ a.len;

@@ -10,11 +10,11 @@ use Rattle.tlsf_post.specs.declared.take_end.TakeEnd.{TakeEnd}
 use Rattle.tlsf_post.specs.Lanes.{posts_sent, free_slots, taken, ready}
 use Rattle.tlsf_heap.specs.declared.name.Name.{Name}
 use Rattle.tlsf_crew.specs.declared.yard.worker.Worker.{Worker}
-use Rattle.tlsf_crew.specs.declared.yard.entry.Entry.{Entry}
-use Rattle.tlsf_crew.specs.declared.yard.call.Call.TheVariants.{Release, Take}
-use Rattle.tlsf_crew.specs.declared.yard.target.Target.{Target}
-use Rattle.tlsf_crew.specs.declared.yard.took.Took.{Took}
-use Rattle.tlsf_crew.specs.declared.yard.reply.Reply.TheVariants.{Posted, Took as Taken}
+use Rattle.tlsf_calls.specs.declared.entry.Entry.{Entry}
+use Rattle.tlsf_calls.specs.declared.call.Call.TheVariants.{Release, Take}
+use Rattle.tlsf_calls.specs.declared.target.Target.{Target}
+use Rattle.tlsf_calls.specs.declared.took.Took.{Took}
+use Rattle.tlsf_calls.specs.declared.reply.Reply.TheVariants.{Posted, Took as Taken}
 use Rattle.tlsf_crew.specs.yard.Workers.{id_of, end_to, end_from, PutTo, TookFrom}
 use Rattle.tlsf_crew.specs.yard.Counts.{sum_below}
 use Rattle.tlsf_crew.specs.yard.History.{posts_made, posts_taken, post_made, post_taken}
@@ -23,13 +23,13 @@ use Rattle.tlsf_crew.specs.yard.Notes.{OneFewer}
 use Rattle.tlsf_crew.specs.yard.Moves.{one, Sends, Takes, Spent, Moved}
 use Rattle.tlsf_crew.proofs.lemmas.yard.YardKept.{put_keeps, take_keeps}
 use Rattle.tlsf_crew.proofs.lemmas.yard.LaneCalls.{of_same, of_other}
-use Rattle.tlsf_crew.proofs.lemmas.yard.OneEntry.{SameLanes, Still, knows_same, the_one}
+use Rattle.tlsf_crew.proofs.lemmas.yard.OneEntry.{EachLaneSame, Still, knows_same, the_one}
 use Rattle.tlsf_crew.proofs.lemmas.yard.Slots.{some_same}
 use Rattle.tlsf_crew.proofs.lemmas.yard.JoinedEntries.{told_nothing, told_own}
 
 -- ---- a put
 
-put_lanes : (a v : Worker) (j : ℕ) (post : Post) (answer : Result (Unit {0}) Post) → PutTo a v j post answer → SameLanes a v
+put_lanes : (a v : Worker) (j : ℕ) (post : Post) (answer : Result (Unit {0}) Post) → PutTo a v j post answer → EachLaneSame a v
 put_lanes a v j post answer put = record {
   numbers = put.same.1;
   to = λ k. elim (cases_eq k j) [
@@ -142,7 +142,7 @@ moved_post at made a v limits target name done known own put =
 
 -- ---- a take
 
-same_after_take : (a v : Worker) (i : ℕ) (answer : Option Post) → TookFrom a v i answer → SameLanes a v
+same_after_take : (a v : Worker) (i : ℕ) (answer : Option Post) → TookFrom a v i answer → EachLaneSame a v
 same_after_take a v i answer took = record {
   numbers = took.same.1;
   to = λ j. ((λ h. (h.0, ap (λ f. f j) (sym took.same.2) ∙ h.1)), (λ h. (h.0, ap (λ f. f j) took.same.2 ∙ h.1)));

@@ -8,18 +8,18 @@ use Rattle.std.proofs.lemmas.List.Sums.{fold-append}
 use Rattle.tlsf_heap.specs.declared.name.Name.{Name}
 use Rattle.tlsf_post.specs.declared.post.Post.{Post}
 use Rattle.tlsf_crew.specs.declared.yard.worker.Worker.{Worker}
-use Rattle.tlsf_crew.specs.declared.yard.entry.Entry.{Entry}
-use Rattle.tlsf_crew.specs.declared.yard.call.Call.TheVariants.{Take}
-use Rattle.tlsf_crew.specs.declared.yard.took.Took.{Took}
-use Rattle.tlsf_crew.specs.declared.yard.drained.Drained.{Drained}
+use Rattle.tlsf_calls.specs.declared.entry.Entry.{Entry}
+use Rattle.tlsf_calls.specs.declared.call.Call.TheVariants.{Take}
+use Rattle.tlsf_calls.specs.declared.took.Took.{Took}
+use Rattle.tlsf_calls.specs.declared.drained.Drained.{Drained}
 use Rattle.tlsf_crew.specs.declared.yard.journal.Journal.{Journal}
-use Rattle.tlsf_crew.specs.declared.yard.reply.Reply.TheVariants.{Took as Taken}
+use Rattle.tlsf_calls.specs.declared.reply.Reply.TheVariants.{Took as Taken}
 use Rattle.tlsf_crew.specs.yard.Heaps.{released}
 use Rattle.tlsf_crew.specs.yard.Workers.{heap_of, id_of, end_from, HasTake, lane_places, KnowsYard}
 use Rattle.tlsf_crew.specs.yard.Counts.{sum_below, sum_of}
 use Rattle.tlsf_crew.specs.yard.History.{posts_taken}
-use Rattle.tlsf_crew.specs.yard.Notes.{NotedInTurn, LaneNoted, LanesNoted, AllNoted, IsNoted, IsAdmitted}
-use Rattle.tlsf_crew.specs.yard.Moves.{one, Spent, Moved, TookWithin, took_by, OwnDrain, took_own, lane_own, lanes_own, own_drain, LaneTaken, LaneSpent, LanesTaken, LanesSpent}
+use Rattle.tlsf_crew.specs.yard.Notes.{NotedInTurn, LaneNoted, EachLaneNoted, AllNoted, IsNoted, IsAdmitted}
+use Rattle.tlsf_crew.specs.yard.Moves.{one, Spent, Moved, TookWithin, took_by, OwnDrain, took_own, lane_own, each_lane_own, own_drain, LaneTaken, LaneSpent, EachLaneTaken, EachLaneSpent}
 use Rattle.tlsf_crew.proofs.lemmas.yard.YardKept.{same_keeps}
 use Rattle.tlsf_crew.proofs.lemmas.yard.ManyEntries.{moved_then, moved_room, spent_then, spent_more, taken_then}
 use Rattle.tlsf_crew.proofs.lemmas.yard.LaneMoves.{taken_same, taken_elsewhere}
@@ -118,7 +118,7 @@ lane_most a v limits left from most entries longer count x few all = record { ta
 
 -- ---- one lane after another
 
-pub nothing_below : (a : Worker) (limits : List ℕ) (entries : List Entry) → LanesTaken a limits 0 entries a limits entries 0
+pub nothing_below : (a : Worker) (limits : List ℕ) (entries : List Entry) → EachLaneTaken a limits 0 entries a limits entries 0
 nothing_below a limits entries = record {
   own = [];
   entries_are = sym (append-nil entries);
@@ -129,26 +129,26 @@ nothing_below a limits entries = record {
   moved = λ made. moved_none made a limits;
 }
 
-pub id_below : (a v : Worker) (limits left : List ℕ) (below : ℕ) (entries longer : List Entry) (count : ℕ) → LanesTaken a limits below entries v left longer count → id_of v ≡ id_of a
+pub id_below : (a v : Worker) (limits left : List ℕ) (below : ℕ) (entries longer : List Entry) (count : ℕ) → EachLaneTaken a limits below entries v left longer count → id_of v ≡ id_of a
 id_below a v limits left below entries longer count x = let m = x.moved [] in ap (λ n. n.0) m.numbers
 
-pub lanes_knows : (n : ℕ) (a v : Worker) (limits left : List ℕ) (below : ℕ) (entries longer : List Entry) (count : ℕ) → LanesTaken a limits below entries v left longer count → KnowsYard n a → KnowsYard n v
+pub lanes_knows : (n : ℕ) (a v : Worker) (limits left : List ℕ) (below : ℕ) (entries longer : List Entry) (count : ℕ) → EachLaneTaken a limits below entries v left longer count → KnowsYard n a → KnowsYard n v
 lanes_knows n a v limits left below entries longer count x k = let m = x.moved [] in m.knows n k
 
 -- what the lanes below a number tell rests on their posts alone
-lanes_same : (at : ℕ) (f g : ℕ → List Post) (d : OwnDrain) (k : ℕ) → ((i : ℕ) → i < k → f i ≡ g i) → lanes_own at f d k ≡ lanes_own at g d k
+lanes_same : (at : ℕ) (f g : ℕ → List Post) (d : OwnDrain) (k : ℕ) → ((i : ℕ) → i < k → f i ≡ g i) → each_lane_own at f d k ≡ each_lane_own at g d k
 lanes_same at f g d zero e = refl
 lanes_same at f g d (suc k) e = two (k == at) (lanes_same at f g d k (λ i lt. e i (omega arith)))
   where
-    two : (b : Bool) → lanes_own at f d k ≡ lanes_own at g d k
-        → (if b then lanes_own at f d k else lane_own at k (lanes_own at f d k) (f k)) ≡ (if b then lanes_own at g d k else lane_own at k (lanes_own at g d k) (g k))
+    two : (b : Bool) → each_lane_own at f d k ≡ each_lane_own at g d k
+        → (if b then each_lane_own at f d k else lane_own at k (each_lane_own at f d k) (f k)) ≡ (if b then each_lane_own at g d k else lane_own at k (each_lane_own at g d k) (g k))
     two true before = before
-    two false before = ap (λ x. lane_own at k x (f k)) before ∙ ap (λ ps. lane_own at k (lanes_own at g d k) ps) (e k (omega arith))
+    two false before = ap (λ x. lane_own at k x (f k)) before ∙ ap (λ ps. lane_own at k (each_lane_own at g d k) ps) (e k (omega arith))
 
-pub lanes_own_turn : (at : ℕ) (f : ℕ → List Post) (d : OwnDrain) (k : ℕ) → k ≡ at → lanes_own at f d (k + 1) ≡ lanes_own at f d k
-lanes_own_turn at f d k e = let b : (k == at) ≡ true = grind (arith, nat_tests) in rw (add-one k, b) refl
+pub each_lane_own_turn : (at : ℕ) (f : ℕ → List Post) (d : OwnDrain) (k : ℕ) → k ≡ at → each_lane_own at f d (k + 1) ≡ each_lane_own at f d k
+each_lane_own_turn at f d k e = let b : (k == at) ≡ true = grind (arith, nat_tests) in rw (add-one k, b) refl
 
-pub lanes_other_turn : (at : ℕ) (f : ℕ → List Post) (d : OwnDrain) (k : ℕ) → k ≢ at → lanes_own at f d (k + 1) ≡ lane_own at k (lanes_own at f d k) (f k)
+pub lanes_other_turn : (at : ℕ) (f : ℕ → List Post) (d : OwnDrain) (k : ℕ) → k ≢ at → each_lane_own at f d (k + 1) ≡ lane_own at k (each_lane_own at f d k) (f k)
 lanes_other_turn at f d k ne = let b : (k == at) ≡ false = grind (arith, nat_tests) in rw (add-one k, b) refl
 
 -- with these posts from one more
@@ -165,20 +165,20 @@ with_lane_below : (f : ℕ → List Post) (k : ℕ) (posts : List Post) (i : ℕ
 with_lane_below f k posts i lt = let b : (i == k) ≡ false = grind (arith, nat_tests) in rw b refl
 
 -- the turn of another worker
-after_other_lane : (a b v : Worker) (limits mid left : List ℕ) (from : ℕ) (entries between longer : List Entry) (n count : ℕ) → from ≢ id_of a → HasTake a from → LanesTaken a limits from entries b mid between n
-    → LaneTaken b mid from between v left longer count → LanesTaken a limits (from + 1) entries v left longer (n + count)
+after_other_lane : (a b v : Worker) (limits mid left : List ℕ) (from : ℕ) (entries between longer : List Entry) (n count : ℕ) → from ≢ id_of a → HasTake a from → EachLaneTaken a limits from entries b mid between n
+    → LaneTaken b mid from between v left longer count → EachLaneTaken a limits (from + 1) entries v left longer (n + count)
 after_other_lane a b v limits mid left from entries between longer n count ne has x y =
     let at = id_of a in
     let q : id_of b ≡ at = id_below a b limits mid from entries between n x in
     let f = with_lane x.posts from y.posts in
     let d = own_drain entries a 0 in
-    let below : lanes_own at f d from ≡ lanes_own at x.posts d from = lanes_same at f x.posts d from (with_lane_below x.posts from y.posts) in
+    let below : each_lane_own at f d from ≡ each_lane_own at x.posts d from = lanes_same at f x.posts d from (with_lane_below x.posts from y.posts) in
     record {
       own = x.own ++ y.own;
       entries_are = y.entries_are ∙ (ap (λ l. l ++ y.own) x.entries_are ∙ append_assoc entries x.own y.own);
       posts = f;
       told = y.told n ∙ (ap (λ i. lane_own i from (own_drain between b n) y.posts) q
-          ∙ (ap (λ z. lane_own at from z y.posts) (x.told ∙ sym below) ∙ (ap (lane_own at from (lanes_own at f d from)) (sym (with_lane_same x.posts from y.posts))
+          ∙ (ap (λ z. lane_own at from z y.posts) (x.told ∙ sym below) ∙ (ap (lane_own at from (each_lane_own at f d from)) (sym (with_lane_same x.posts from y.posts))
           ∙ sym (lanes_other_turn at f d from ne))));
       posts_are = λ k. taken_then k at x.own y.own ∙ elim (cases_eq k from) [
         | inl e ↦
@@ -201,31 +201,31 @@ lane_count at from [] d = omega arith
 lane_count at from (p ∷ posts) d = omega (arith, lane_count at from posts (took_own at from d p))
 
 -- how many were taken from the lanes below a number
-pub count_below : (at : ℕ) (posts : ℕ → List Post) (d : OwnDrain) (k : ℕ) → ((i : ℕ) → i ≡ at → posts i ≡ []) → (lanes_own at posts d k).taken ≡ d.taken + sum_below k (λ i. length (posts i))
+pub count_below : (at : ℕ) (posts : ℕ → List Post) (d : OwnDrain) (k : ℕ) → ((i : ℕ) → i ≡ at → posts i ≡ []) → (each_lane_own at posts d k).taken ≡ d.taken + sum_below k (λ i. length (posts i))
 count_below at posts d zero none = omega arith
 count_below at posts d (suc k) none =
     let e : k + 1 ≡ suc k = omega arith in
     let before = count_below at posts d k none in
     elim (cases_eq k at) [
       | inl own ↦
-          let a = ap (λ o. o.taken) (subst (λ m. lanes_own at posts d m ≡ lanes_own at posts d k) e (lanes_own_turn at posts d k own)) in
+          let a = ap (λ o. o.taken) (subst (λ m. each_lane_own at posts d m ≡ each_lane_own at posts d k) e (each_lane_own_turn at posts d k own)) in
           let b = ap length (none k own) in
           omega arith
       | inr ne ↦
-          let a = ap (λ o. o.taken) (subst (λ m. lanes_own at posts d m ≡ lane_own at k (lanes_own at posts d k) (posts k)) e (lanes_other_turn at posts d k ne)) in
-          let b = lane_count at k (posts k) (lanes_own at posts d k) in
+          let a = ap (λ o. o.taken) (subst (λ m. each_lane_own at posts d m ≡ lane_own at k (each_lane_own at posts d k) (posts k)) e (lanes_other_turn at posts d k ne)) in
+          let b = lane_count at k (posts k) (each_lane_own at posts d k) in
           omega arith
     ]
 
-pub lanes_taken_count : (n : ℕ) (a v : Worker) (limits left : List ℕ) (below : ℕ) (entries longer : List Entry) (count : ℕ) → KnowsYard n a → (x : LanesTaken a limits below entries v left longer count)
+pub lanes_taken_count : (n : ℕ) (a v : Worker) (limits left : List ℕ) (below : ℕ) (entries longer : List Entry) (count : ℕ) → KnowsYard n a → (x : EachLaneTaken a limits below entries v left longer count)
     → count ≡ sum_below below (λ i. length (x.posts i))
 lanes_taken_count n a v limits left below entries longer count k x =
     let c = count_below (id_of a) x.posts (own_drain entries a 0) below (λ i own. x.only i (λ _ has. let y = (k.from i).0 has in y.1 own)) in
     let t = ap (λ o. o.taken) x.told in
     omega arith
 
-pub other_turn : (m : ℕ) (a b v : Worker) (limits mid left : List ℕ) (from most : ℕ) (entries between longer : List Entry) (n count : ℕ) → KnowsYard m a → HasTake a from → LanesSpent a limits from most entries b mid between n
-    → LaneSpent b mid from (most - n) between v left longer count → LanesSpent a limits (from + 1) most entries v left longer (n + count)
+pub other_turn : (m : ℕ) (a b v : Worker) (limits mid left : List ℕ) (from most : ℕ) (entries between longer : List Entry) (n count : ℕ) → KnowsYard m a → HasTake a from → EachLaneSpent a limits from most entries b mid between n
+    → LaneSpent b mid from (most - n) between v left longer count → EachLaneSpent a limits (from + 1) most entries v left longer (n + count)
 unfolding after_other_lane
 other_turn m a b v limits mid left from most entries between longer n count known has x y =
     let at = id_of a in
@@ -263,15 +263,15 @@ other_turn m a b v limits mid left from most entries between longer n count know
 
 -- no turn: there is no lane
 pub no_turn : (a v : Worker) (limits left : List ℕ) (from most : ℕ) (entries longer : List Entry) (count : ℕ) → ¬ (HasTake a from)
-    → LanesSpent a limits from most entries v left longer count → LanesSpent a limits (from + 1) most entries v left longer count
+    → EachLaneSpent a limits from most entries v left longer count → EachLaneSpent a limits (from + 1) most entries v left longer count
 no_turn a v limits left from most entries longer count none x =
     let t = x.takes in
     let at = id_of a in
     let d = own_drain entries a 0 in
     let nothing = t.only from (λ _. none) in
-    let same : lanes_own at t.posts d (from + 1) ≡ lanes_own at t.posts d from = elim (cases_eq from at) [
-      | inl own ↦ lanes_own_turn at t.posts d from own
-      | inr ne ↦ lanes_other_turn at t.posts d from ne ∙ ap (lane_own at from (lanes_own at t.posts d from)) nothing
+    let same : each_lane_own at t.posts d (from + 1) ≡ each_lane_own at t.posts d from = elim (cases_eq from at) [
+      | inl own ↦ each_lane_own_turn at t.posts d from own
+      | inr ne ↦ lanes_other_turn at t.posts d from ne ∙ ap (lane_own at from (each_lane_own at t.posts d from)) nothing
     ] in
     record {
       takes = record {
@@ -299,26 +299,26 @@ no_turn a v limits left from most entries longer count none x =
 
 -- ---- a drain, by its notes
 
-lane_takes : (a b v : Worker) (limits : List ℕ) (x y : Journal) (from : ℕ) (entries : List Entry) (count : ℕ) (tooks : List Took) → LaneTaken a limits from entries b x.limits x.entries.items count
+takes_in_lane : (a b v : Worker) (limits : List ℕ) (x y : Journal) (from : ℕ) (entries : List Entry) (count : ℕ) (tooks : List Took) → LaneTaken a limits from entries b x.limits x.entries.items count
     → NotedInTurn IsNoted b v x y from tooks → LaneTaken a limits from entries v y.limits y.entries.items (count + length tooks)
-lane_takes a b v limits x y from entries count [] acc t =
+takes_in_lane a b v limits x y from entries count [] acc t =
     let e : count ≡ count + 0 = omega arith in
     rw (t.0, t.1, sym e) acc
-lane_takes a b v limits x y from entries count (took ∷ tooks) acc t =
+takes_in_lane a b v limits x y from entries count (took ∷ tooks) acc t =
     let b' = t.0 in
     let z = t.1 in
     let n = t.3 in
     let step = lane_more a b b' limits x.limits z.limits from entries x.entries.items count took acc (within_some b b' x.limits z.limits from took n.near n.fewer t.2) in
     let one_more = subst (λ l. LaneTaken a limits from entries b' z.limits l (count + 1)) (sym n.entries) step in
     let e : count + 1 + length tooks ≡ count + length (took ∷ tooks) = omega arith in
-    subst (LaneTaken a limits from entries v y.limits y.entries.items) e (lane_takes a b' v limits z y from entries (count + 1) tooks one_more t.4)
+    subst (LaneTaken a limits from entries v y.limits y.entries.items) e (takes_in_lane a b' v limits z y from entries (count + 1) tooks one_more t.4)
 
-lane_spent : (a v : Worker) (x y : Journal) (from most : ℕ) (tooks : List Took) → from < 8 → LaneNoted IsNoted IsAdmitted a v x y from most tooks
+spent_in_lane : (a v : Worker) (x y : Journal) (from most : ℕ) (tooks : List Took) → from < 8 → LaneNoted IsNoted IsAdmitted a v x y from most tooks
     → LaneSpent a x.limits from most x.entries.items v y.limits y.entries.items (length tooks)
-lane_spent a v x y from most tooks near l =
+spent_in_lane a v x y from most tooks near l =
     let start = lane_none a x.limits from x.entries.items in
     let e : 0 + length tooks ≡ length tooks = omega arith in
-    let t = subst (LaneTaken a x.limits from x.entries.items l.last y.limits y.entries.items) e (lane_takes a a l.last x.limits x y from x.entries.items 0 tooks start l.takes) in
+    let t = subst (LaneTaken a x.limits from x.entries.items l.last y.limits y.entries.items) e (takes_in_lane a a l.last x.limits x y from x.entries.items 0 tooks start l.takes) in
     elim l.end [
       | inl done ↦ rw (done.1) (lane_most a l.last x.limits y.limits from most x.entries.items y.entries.items (length tooks) t (omega (arith, done.0)) (omega (arith, done.0)))
       | inr early ↦
@@ -337,20 +337,20 @@ noted_capacity a v x y from (took ∷ tooks) t = noted_capacity t.0 v t.1 y from
 
 -- the journal of a drain tells it
 pub record Drains (n : ℕ) (a v : Worker) (x y : Journal) (below most count : ℕ) : Type 0 where
-  pub spent : LanesSpent a x.limits below most x.entries.items v y.limits y.entries.items count
+  pub spent : EachLaneSpent a x.limits below most x.entries.items v y.limits y.entries.items count
   pub capacity : vec_capacity y.entries ≡ vec_capacity x.entries
 
-lanes_drains : (n : ℕ) (a v : Worker) (x y : Journal) (most k : ℕ) (tooks : List Took) → KnowsYard n a → LanesNoted IsNoted IsAdmitted a v x y most k tooks → Drains n a v x y k most (length tooks)
-lanes_drains n a v x y most zero tooks known l =
+each_lane_drains : (n : ℕ) (a v : Worker) (x y : Journal) (most k : ℕ) (tooks : List Took) → KnowsYard n a → EachLaneNoted IsNoted IsAdmitted a v x y most k tooks → Drains n a v x y k most (length tooks)
+each_lane_drains n a v x y most zero tooks known l =
     let e : length tooks ≡ 0 = ap length l.0 in
     rw (l.1, l.2, e) (record {
       spent = record { takes = nothing_below a x.limits x.entries.items; few = omega arith; spent = λ lt i below. absurd (omega arith); each = λ i below. absurd (omega arith) };
       capacity = refl;
     })
-lanes_drains n a v x y most (suc k) tooks known l =
+each_lane_drains n a v x y most (suc k) tooks known l =
     let b = l.0 in
     let z = l.1 in
-    let before = lanes_drains n a b x z most k l.2 known l.5 in
+    let before = each_lane_drains n a b x z most k l.2 known l.5 in
     let next : k + 1 ≡ suc k = omega arith in
     let count : length l.2 + length l.3 ≡ length tooks = sym (ap length l.4 ∙ length-append l.2 l.3) in
     let later : KnowsYard n b = lanes_knows n a b x.limits z.limits k x.entries.items z.entries.items (length l.2) before.spent.takes known in
@@ -361,10 +361,10 @@ lanes_drains n a v x y most (suc k) tooks known l =
           let first : HasTake a k = (known.from k).1 (near.0, λ e. near.1 (e ∙ sym q)) in
           let lane = l.6.lane has in
           let spent = other_turn n a b v x.limits z.limits y.limits k most x.entries.items z.entries.items y.entries.items (length l.2) (length l.3) known first before.spent
-          (lane_spent b v z y k (most - length l.2) l.3 (omega (arith, near.0, known.few)) lane) in
+          (spent_in_lane b v z y k (most - length l.2) l.3 (omega (arith, near.0, known.few)) lane) in
           record {
-            spent = subst (λ m. LanesSpent a x.limits m most x.entries.items v y.limits y.entries.items (length tooks)) next
-                (subst (LanesSpent a x.limits (k + 1) most x.entries.items v y.limits y.entries.items) count spent);
+            spent = subst (λ m. EachLaneSpent a x.limits m most x.entries.items v y.limits y.entries.items (length tooks)) next
+                (subst (EachLaneSpent a x.limits (k + 1) most x.entries.items v y.limits y.entries.items) count spent);
             capacity = lane_capacity b v z y k (most - length l.2) l.3 lane ∙ before.capacity;
           }
       | inr none ↦
@@ -373,8 +373,8 @@ lanes_drains n a v x y most (suc k) tooks known l =
           let same : length l.2 ≡ length tooks = let f = ap length still.0 in omega arith in
           let spent = no_turn a b x.limits z.limits k most x.entries.items z.entries.items (length l.2) away before.spent in
           rw (still.1, still.2) (record {
-            spent = subst (λ m. LanesSpent a x.limits m most x.entries.items b z.limits z.entries.items (length tooks)) next
-                (subst (LanesSpent a x.limits (k + 1) most x.entries.items b z.limits z.entries.items) same spent);
+            spent = subst (λ m. EachLaneSpent a x.limits m most x.entries.items b z.limits z.entries.items (length tooks)) next
+                (subst (EachLaneSpent a x.limits (k + 1) most x.entries.items b z.limits z.entries.items) same spent);
             capacity = before.capacity;
           })
     ]
@@ -383,15 +383,15 @@ lanes_drains n a v x y most (suc k) tooks known l =
     lane_capacity b v z y k m ts l = noted_capacity b l.last z y k ts l.takes
 
 -- the lanes above the last one tell nothing
-lanes_past : (at : ℕ) (posts : ℕ → List Post) (d : OwnDrain) (m e : ℕ) → ((k : ℕ) → m ≤ k → posts k ≡ []) → lanes_own at posts d (m + e) ≡ lanes_own at posts d m
-lanes_past at posts d m zero none = let q : m + 0 ≡ m = omega arith in ap (lanes_own at posts d) q
+lanes_past : (at : ℕ) (posts : ℕ → List Post) (d : OwnDrain) (m e : ℕ) → ((k : ℕ) → m ≤ k → posts k ≡ []) → each_lane_own at posts d (m + e) ≡ each_lane_own at posts d m
+lanes_past at posts d m zero none = let q : m + 0 ≡ m = omega arith in ap (each_lane_own at posts d) q
 lanes_past at posts d m (suc e) none =
     let q : m + suc e ≡ m + e + 1 = omega arith in
-    let step : lanes_own at posts d (m + e + 1) ≡ lanes_own at posts d (m + e) = elim (cases_eq (m + e) at) [
-      | inl own ↦ lanes_own_turn at posts d (m + e) own
-      | inr ne ↦ lanes_other_turn at posts d (m + e) ne ∙ ap (lane_own at (m + e) (lanes_own at posts d (m + e))) (none (m + e) (omega arith))
+    let step : each_lane_own at posts d (m + e + 1) ≡ each_lane_own at posts d (m + e) = elim (cases_eq (m + e) at) [
+      | inl own ↦ each_lane_own_turn at posts d (m + e) own
+      | inr ne ↦ lanes_other_turn at posts d (m + e) ne ∙ ap (lane_own at (m + e) (each_lane_own at posts d (m + e))) (none (m + e) (omega arith))
     ] in
-    ap (lanes_own at posts d) q ∙ (step ∙ lanes_past at posts d m e none)
+    ap (each_lane_own at posts d) q ∙ (step ∙ lanes_past at posts d m e none)
 
 has_place : (a : Worker) (k : ℕ) → HasTake a k → k < lane_places a
 has_place a k h = slice_get_within a.takes.items k (Some h.0) (from_slot (slice_get a.takes.items k) h.0 h.1)
@@ -401,7 +401,7 @@ pub all_spent : (n : ℕ) (a v : Worker) (x y : Journal) (most : ℕ) (answer : 
 all_spent n a v x y most answer known d =
     let places = lane_places a in
     let c = d.count.0 in
-    let r = subst (λ k. Drains n a v x y places most k) (sym c) (lanes_drains n a v x y most places d.tooks known d.lanes) in
+    let r = subst (λ k. Drains n a v x y places most k) (sym c) (each_lane_drains n a v x y most places d.tooks known d.lanes) in
     let s = r.spent in
     let t = s.takes in
     let at = id_of a in
@@ -409,7 +409,7 @@ all_spent n a v x y most answer known d =
     let beyond : (k : ℕ) → places ≤ k → t.posts k ≡ [] = λ k le. t.only k (λ lt. absurd (omega arith)) in
     let away : (k : ℕ) → n ≤ k → t.posts k ≡ [] = λ k le. t.only k (λ lt h. let near = (known.from k).0 h in absurd (omega (arith, near.0))) in
     let swap : places + n ≡ n + places = omega arith in
-    let same : lanes_own at t.posts o places ≡ lanes_own at t.posts o n = sym (lanes_past at t.posts o places n beyond) ∙ (ap (lanes_own at t.posts o) swap ∙ lanes_past at t.posts o n places away) in
+    let same : each_lane_own at t.posts o places ≡ each_lane_own at t.posts o n = sym (lanes_past at t.posts o places n beyond) ∙ (ap (each_lane_own at t.posts o) swap ∙ lanes_past at t.posts o n places away) in
     record {
       spent = record {
         takes = record {

@@ -8,13 +8,13 @@ use Rattle.tlsf_heap.specs.Blocks.{HeapState}
 use Rattle.tlsf_heap.specs.Calls.{released}
 use Rattle.tlsf_post.specs.declared.post.Post.{Post}
 use Rattle.tlsf_post.specs.declared.take_end.TakeEnd.{TakeEnd}
-use Rattle.tlsf_crew.specs.declared.yard.drained.Drained.{Drained}
-use Rattle.tlsf_crew.specs.declared.yard.took.Took.{Took}
+use Rattle.tlsf_calls.specs.declared.drained.Drained.{Drained}
+use Rattle.tlsf_calls.specs.declared.took.Took.{Took}
 use Rattle.tlsf_crew.specs.declared.yard.worker.Worker.{Worker}
 use Rattle.tlsf_crew.specs.yard.Workers.{HasTake, heap_of, id_of, end_from, TookFrom, lane_places}
 use Rattle.tlsf_crew.specs.yard.Calls.{AfterTake, TakenFrom, KeepsYards}
-use Rattle.tlsf_crew.specs.yard.LaneTurns.{TakesInTurn, LaneDrained, TurnDrained, LanesDrained, DrainedAll, heap_after, is_freed, IsCountOf}
-use Rattle.tlsf_crew.specs.yard.Notes.{NotedInTurn, LaneNoted, TurnNoted, LanesNoted, AllNoted}
+use Rattle.tlsf_crew.specs.yard.LaneTurns.{TakesInTurn, LaneDrained, TurnDrained, EachLaneDrained, DrainedAll, heap_after, is_freed, IsCountOf}
+use Rattle.tlsf_crew.specs.yard.Notes.{NotedInTurn, LaneNoted, TurnNoted, EachLaneNoted, AllNoted}
 use Rattle.tlsf_crew.proofs.lemmas.yard.YardKept.{same_keeps, take_keeps, heap_keeps, keeps_then}
 use Rattle.tlsf_crew.proofs.lemmas.yard.OwnHeaps.{call_keeps}
 use Rattle.tlsf_heap.specs.Calls as heap
@@ -89,15 +89,15 @@ one_kept took n = (refl, rw n refl)
 
 -- the turn of one more worker: one whose lane was drained, and one with no lane
 pub turn_more : {N : Type 0} (noted : N → ℕ → ℕ → Took → N → Type 0) (admitted : N → ℕ → Type 0) (a b v : Worker) (x y z : N) (most k : ℕ) (xs ys : List Took)
-    → LanesNoted noted admitted a b x y most k xs → HasTake b k → LaneNoted noted admitted b v y z k (most - length xs) ys → LanesNoted noted admitted a v x z most (k + 1) (xs ++ ys)
+    → EachLaneNoted noted admitted a b x y most k xs → HasTake b k → LaneNoted noted admitted b v y z k (most - length xs) ys → EachLaneNoted noted admitted a v x z most (k + 1) (xs ++ ys)
 turn_more noted admitted a b v x y z most k xs ys lanes has lane =
-    subst (λ (n : ℕ). LanesNoted noted admitted a v x z most n (xs ++ ys)) (sym (add-one k))
+    subst (λ (n : ℕ). EachLaneNoted noted admitted a v x z most n (xs ++ ys)) (sym (add-one k))
     (b, y, xs, ys, refl, lanes, record { lane = λ _. lane; nowhere = λ f. absurd (f has) })
 
 pub turn_none : {N : Type 0} (noted : N → ℕ → ℕ → Took → N → Type 0) (admitted : N → ℕ → Type 0) (a b : Worker) (x y : N) (most k : ℕ) (xs : List Took)
-    → LanesNoted noted admitted a b x y most k xs → ¬ (HasTake b k) → LanesNoted noted admitted a b x y most (k + 1) xs
+    → EachLaneNoted noted admitted a b x y most k xs → ¬ (HasTake b k) → EachLaneNoted noted admitted a b x y most (k + 1) xs
 turn_none noted admitted a b x y most k xs lanes none =
-    subst (λ (n : ℕ). LanesNoted noted admitted a b x y most n xs) (sym (add-one k))
+    subst (λ (n : ℕ). EachLaneNoted noted admitted a b x y most n xs) (sym (add-one k))
     (b, y, xs, [], sym (append-nil xs), lanes, record { lane = λ has. absurd (none has); nowhere = λ _. (refl, refl, refl) })
 
 heap_more : (h : HeapState) (a v : Worker) (xs ys : List Took) → heap_of a ≡ heap_after h xs → heap_of v ≡ heap_after (heap_of a) ys → heap_of v ≡ heap_after h (xs ++ ys)
@@ -129,7 +129,7 @@ turn_of noted admitted a v x y from most tooks all t = record {
 }
 
 turns_below : {N : Type 0} (noted : N → ℕ → ℕ → Took → N → Type 0) (admitted : N → ℕ → Type 0) (a v : Worker) (x y : N) (most k : ℕ) (tooks : List Took) → ((z : N) (i : ℕ) → admitted z i)
-    → LanesNoted noted admitted a v x y most k tooks → LanesDrained a v most k tooks
+    → EachLaneNoted noted admitted a v x y most k tooks → EachLaneDrained a v most k tooks
 turns_below noted admitted a v x y most zero tooks all l = (l.0, l.1)
 turns_below noted admitted a v x y most (suc k) tooks all l =
     (l.0, l.2, l.3, l.4, turns_below noted admitted a l.0 x l.1 most k l.2 all l.5, turn_of noted admitted l.0 v l.1 y k (most - length l.2) l.3 all l.6)
@@ -144,7 +144,7 @@ turn_heap a v from most tooks t = elim (has_or (end_from a from)) [
   | inr none ↦ let n = t.nowhere none in rw (n.0) (ap heap_of n.1)
 ]
 
-heap_below : (a v : Worker) (most k : ℕ) (tooks : List Took) → LanesDrained a v most k tooks → heap_of v ≡ heap_after (heap_of a) tooks
+heap_below : (a v : Worker) (most k : ℕ) (tooks : List Took) → EachLaneDrained a v most k tooks → heap_of v ≡ heap_after (heap_of a) tooks
 heap_below a v most zero tooks l = rw (l.0) (ap heap_of l.1)
 heap_below a v most (suc k) tooks l =
     rw (l.3) (heap_more (heap_of a) l.0 v l.1 l.2 (heap_below a l.0 most k l.1 l.4) (turn_heap l.0 v k (most - length l.1) l.2 l.5))
@@ -173,7 +173,7 @@ turn_keeps a v from most tooks t = elim (has_or (end_from a from)) [
   | inr none ↦ let n = t.nowhere none in subst (KeepsYards a) (sym n.1) (same_keeps a)
 ]
 
-lanes_keep : (a v : Worker) (most k : ℕ) (tooks : List Took) → LanesDrained a v most k tooks → KeepsYards a v
+lanes_keep : (a v : Worker) (most k : ℕ) (tooks : List Took) → EachLaneDrained a v most k tooks → KeepsYards a v
 lanes_keep a v most zero tooks l = subst (KeepsYards a) (sym l.1) (same_keeps a)
 lanes_keep a v most (suc k) tooks l = keeps_then a l.0 v (lanes_keep a l.0 most k l.1 l.4) (turn_keeps l.0 v k (most - length l.1) l.2 l.5)
 

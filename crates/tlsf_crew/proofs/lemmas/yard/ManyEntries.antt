@@ -8,8 +8,8 @@ use Rattle.tlsf_post.specs.declared.take_end.TakeEnd.{TakeEnd}
 use Rattle.tlsf_post.specs.Lanes.{posts_sent, taken, ready}
 use Rattle.tlsf_heap.specs.declared.name.Name.{Name}
 use Rattle.tlsf_crew.specs.declared.yard.worker.Worker.{Worker}
-use Rattle.tlsf_crew.specs.declared.yard.entry.Entry.{Entry}
-use Rattle.tlsf_crew.specs.declared.yard.call.Call.{Call}
+use Rattle.tlsf_calls.specs.declared.entry.Entry.{Entry}
+use Rattle.tlsf_calls.specs.declared.call.Call.{Call}
 use Rattle.tlsf_crew.specs.yard.Counts.{sum_below, is_release, sum_of}
 use Rattle.tlsf_crew.specs.yard.History.{posts_made, posts_taken, post_made, post_taken, StandsBehind}
 use Rattle.tlsf_crew.specs.yard.Moves.{Sends, Takes, Spent, Moved}

@@ -6,10 +6,10 @@ use Rattle.std.proofs.lemmas.Bool.Decides.{nat_tests}
 use Rattle.tlsf_heap.specs.declared.name.Name.{Name}
 use Rattle.tlsf_heap.specs.declared.refusal.Refusal.{Refusal}
 use Rattle.tlsf_post.specs.declared.post.Post.{Post}
-use Rattle.tlsf_crew.specs.declared.yard.chunk.Chunk.{Chunk}
-use Rattle.tlsf_crew.specs.declared.yard.reply.Reply.{Reply}
-use Rattle.tlsf_crew.specs.declared.yard.reply.Reply.TheVariants.{Refused}
-use Rattle.tlsf_crew.specs.declared.yard.crew_refusal.CrewRefusal.TheVariants.{Unmade}
+use Rattle.tlsf_calls.specs.declared.chunk.Chunk.{Chunk}
+use Rattle.tlsf_calls.specs.declared.reply.Reply.{Reply}
+use Rattle.tlsf_calls.specs.declared.reply.Reply.TheVariants.{Refused}
+use Rattle.tlsf_calls.specs.declared.crew_refusal.CrewRefusal.TheVariants.{Unmade}
 use Rattle.tlsf_crew.specs.yard.Heaps.{allocated, chunk_read, released, written}
 use Rattle.tlsf_crew.specs.yard.World.{World, allocating, heap_in, posting, reading_named, releasing, releasing_named, reply_freed, reply_got, reply_made, reply_wrote, taking, taking_next, took_first, writing_named}
 use Rattle.tlsf_crew.proofs.lemmas.yard.OneEvent.{releasing_post, releasing_far, taking_lane, taking_own, taking_far}

@@ -4,11 +4,11 @@ use Rattle.std.specs.List.{fold}
 use Rattle.std.proofs.lemmas.Bool.{cases_eq}
 use Rattle.std.proofs.lemmas.Bool.Decides.{nat_tests}
 use Rattle.tlsf_post.specs.declared.post.Post.{Post}
-use Rattle.tlsf_crew.specs.declared.yard.entry.Entry.{Entry}
-use Rattle.tlsf_crew.specs.declared.yard.call.Call.{Call}
-use Rattle.tlsf_crew.specs.declared.yard.call.Call.TheVariants.{Allocate, Release, Write, Read, Take, Drain}
-use Rattle.tlsf_crew.specs.declared.yard.reply.Reply.{Reply}
-use Rattle.tlsf_crew.specs.declared.yard.reply.Reply.TheVariants.{Made, Freed, Posted, Wrote, Got, Took as Taken, Empty, Drained, Refused}
+use Rattle.tlsf_calls.specs.declared.entry.Entry.{Entry}
+use Rattle.tlsf_calls.specs.declared.call.Call.{Call}
+use Rattle.tlsf_calls.specs.declared.call.Call.TheVariants.{Allocate, Release, Write, Read, Take, Drain}
+use Rattle.tlsf_calls.specs.declared.reply.Reply.{Reply}
+use Rattle.tlsf_calls.specs.declared.reply.Reply.TheVariants.{Made, Freed, Posted, Wrote, Got, Took as Taken, Empty, Drained, Refused}
 use Rattle.tlsf_crew.specs.yard.History.{post_taken, posts_taken}
 use Rattle.tlsf_crew.specs.yard.World.{World, Draining, Replayed, took, took_more, taking, drained_lane, drained_below, drained_all, draining, called}
 use Rattle.tlsf_crew.specs.yard.Told.{Told, MayTell, MayTellAll}

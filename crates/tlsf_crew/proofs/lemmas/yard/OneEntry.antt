@@ -7,11 +7,11 @@ use Rattle.tlsf_post.specs.declared.take_end.TakeEnd.{TakeEnd}
 use Rattle.tlsf_post.specs.Lanes.{posts_sent, free_slots, taken, ready}
 use Rattle.tlsf_heap.specs.declared.name.Name.{Name}
 use Rattle.tlsf_crew.specs.declared.yard.worker.Worker.{Worker}
-use Rattle.tlsf_crew.specs.declared.yard.entry.Entry.{Entry}
-use Rattle.tlsf_crew.specs.declared.yard.call.Call.{Call}
-use Rattle.tlsf_crew.specs.declared.yard.call.Call.TheVariants.{Take, Drain}
-use Rattle.tlsf_crew.specs.declared.yard.reply.Reply.TheVariants.{Empty, Drained, Refused}
-use Rattle.tlsf_crew.specs.declared.yard.crew_refusal.CrewRefusal.TheVariants.{Full}
+use Rattle.tlsf_calls.specs.declared.entry.Entry.{Entry}
+use Rattle.tlsf_calls.specs.declared.call.Call.{Call}
+use Rattle.tlsf_calls.specs.declared.call.Call.TheVariants.{Take, Drain}
+use Rattle.tlsf_calls.specs.declared.reply.Reply.TheVariants.{Empty, Drained, Refused}
+use Rattle.tlsf_calls.specs.declared.crew_refusal.CrewRefusal.TheVariants.{Full}
 use Rattle.tlsf_crew.specs.yard.Workers.{id_of, own_numbers, end_to, end_from, HasPost, HasTake, SameButHeap, KnowsYard}
 use Rattle.tlsf_crew.specs.yard.Calls.{KeepsYards}
 use Rattle.tlsf_crew.specs.yard.Counts.{sum_below}
@@ -23,12 +23,12 @@ use Rattle.tlsf_crew.proofs.lemmas.yard.JoinedEntries.{IsNoPost, told_nothing}
 -- ---- the ends that a worker knows
 
 -- the same ends are there
-pub record SameLanes (a v : Worker) : Type 0 where
+pub record EachLaneSame (a v : Worker) : Type 0 where
   pub numbers : own_numbers v ≡ own_numbers a
   pub to : (j : ℕ) → HasPost v j ↔ HasPost a j
   pub from : (i : ℕ) → HasTake v i ↔ HasTake a i
 
-pub knows_same : (n : ℕ) (a v : Worker) → SameLanes a v → KnowsYard n a → KnowsYard n v
+pub knows_same : (n : ℕ) (a v : Worker) → EachLaneSame a v → KnowsYard n a → KnowsYard n v
 knows_same n a v s k =
     let id : id_of v ≡ id_of a = ap (λ x. x.0) s.numbers in
     record {
@@ -38,7 +38,7 @@ knows_same n a v s k =
       from = λ i. ((λ h. let x = (k.from i).0 ((s.from i).0 h) in (x.0, λ q. x.1 (q ∙ id))), (λ h. (s.from i).1 ((k.from i).1 (h.0, λ q. h.1 (q ∙ sym id)))));
     }
 
-pub heap_lanes : (a v : Worker) → SameButHeap a v → SameLanes a v
+pub heap_lanes : (a v : Worker) → SameButHeap a v → EachLaneSame a v
 heap_lanes a v same = record {
   numbers = same.0;
   to = λ j. ((λ h. (h.0, ap (λ f. f j) (sym same.1) ∙ h.1)), (λ h. (h.0, ap (λ f. f j) same.1 ∙ h.1)));
@@ -53,7 +53,7 @@ no_entry (b ∷ before) e s = let h = s.1 in cc
 
 -- an end to j that sent nothing, and one from i that took nothing
 pub record Still (at : ℕ) (a v : Worker) : Type 0 where
-  pub lanes : SameLanes a v
+  pub lanes : EachLaneSame a v
   pub yard : KeepsYards a v
   pub to : (made : List (Option Name)) (j : ℕ) (p : PostEnd) → end_to a j ≡ Some p → Sends at made v j [] p
   pub from : (i : ℕ) (t : TakeEnd) → end_from a i ≡ Some t → Takes at v i [] t

@@ -11,19 +11,19 @@ use Rattle.tlsf_heap.specs.Calls as heap
 use Rattle.tlsf_heap.specs.declared.name.Name.{Name}
 use Rattle.tlsf_heap.specs.declared.refusal.Refusal.{Refusal}
 use Rattle.tlsf_heap.specs.declared.refusal.Refusal.TheVariants.{Foreign, Range}
-use Rattle.tlsf_crew.specs.yard.Bytes.{bytes_of}
-use Rattle.tlsf_crew.specs.declared.yard.chunk.Chunk.{Chunk}
-use Rattle.tlsf_crew.specs.declared.yard.entry.Entry.{Entry}
-use Rattle.tlsf_crew.specs.declared.yard.call.Call.{Call}
-use Rattle.tlsf_crew.specs.declared.yard.call.Call.TheVariants.{Allocate, Write, Read}
-use Rattle.tlsf_crew.specs.declared.yard.target.Target.{Target}
-use Rattle.tlsf_crew.specs.declared.yard.reply.Reply.{Reply}
+use Rattle.tlsf_calls.specs.Bytes.{bytes_of}
+use Rattle.tlsf_calls.specs.declared.chunk.Chunk.{Chunk}
+use Rattle.tlsf_calls.specs.declared.entry.Entry.{Entry}
+use Rattle.tlsf_calls.specs.declared.call.Call.{Call}
+use Rattle.tlsf_calls.specs.declared.call.Call.TheVariants.{Allocate, Write, Read}
+use Rattle.tlsf_calls.specs.declared.target.Target.{Target}
+use Rattle.tlsf_calls.specs.declared.reply.Reply.{Reply}
 use Rattle.tlsf_crew.specs.yard.Heaps.{allocated, written, chunk_read, as_chunk, too_many}
 use Rattle.tlsf_crew.specs.yard.History.{RunsTo, answer_told, call_on_own, handed_on, meant}
 use Rattle.tlsf_crew.specs.yard.World.{World, Replied, heap_in, with_heap, allocating, writing, writing_named, reading, reading_named, reply_made, reply_wrote, reply_got, name_of}
 use Rattle.tlsf_crew.specs.yard.Yard.{no_heap}
 use Rattle.tlsf_crew.proofs.lemmas.yard.OneEvent.{same_heap}
-use Rattle.tlsf_crew.proofs.lemmas.yard.Padding.{bytes_back}
+use Rattle.tlsf_calls.proofs.Padding.{bytes_back}
 use Rattle.tlsf_crew.proofs.lemmas.yard.ChunkReads.{read_few, read_many}
 use Rattle.tlsf_crew.proofs.lemmas.yard.JoinedEntries.{IsHistory, IsOwnCall, history_quiet}
 

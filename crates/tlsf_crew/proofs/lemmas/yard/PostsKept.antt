@@ -8,8 +8,8 @@ use Rattle.tlsf_post.specs.declared.post.Post.{Post}
 use Rattle.tlsf_heap.specs.declared.name.Name.{Name}
 use Rattle.tlsf_heap.specs.Laws.{IsLive}
 use Rattle.tlsf_crew.specs.yard.Heaps.{released}
-use Rattle.tlsf_crew.specs.declared.yard.took.Took.{Took}
-use Rattle.tlsf_crew.specs.declared.yard.entry.Entry.{Entry}
+use Rattle.tlsf_calls.specs.declared.took.Took.{Took}
+use Rattle.tlsf_calls.specs.declared.entry.Entry.{Entry}
 use Rattle.tlsf_crew.specs.yard.World.{World, with_waiting, heap_in, took, took_more, Draining, drained_lane, drained_below, drained_all}
 use Rattle.tlsf_crew.specs.yard.FairRuns.{IsNotStale, NoneStale}
 use Rattle.tlsf_crew.proofs.lemmas.yard.LaneChanges.{edited_same, edited_other}

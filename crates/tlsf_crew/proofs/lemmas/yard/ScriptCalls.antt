@@ -3,13 +3,13 @@ use Rattle.std.proofs.Common.{[], ◌∷◌, ◌++◌, ◌≡◌, ℕ, ◌+◌, 
 use Rattle.tlsf_heap.specs.Blocks.{HeapState}
 use Rattle.tlsf_heap.specs.declared.name.Name.{Name}
 use Rattle.tlsf_crew.specs.declared.yard.worker.Worker.{Worker}
-use Rattle.tlsf_crew.specs.declared.yard.entry.Entry.{Entry}
-use Rattle.tlsf_crew.specs.declared.yard.call.Call.{Call}
-use Rattle.tlsf_crew.specs.declared.yard.reply.Reply.{Reply}
+use Rattle.tlsf_calls.specs.declared.entry.Entry.{Entry}
+use Rattle.tlsf_calls.specs.declared.call.Call.{Call}
+use Rattle.tlsf_calls.specs.declared.reply.Reply.{Reply}
 use Rattle.tlsf_crew.specs.yard.Workers.{heap_of, id_of, KnowsYard}
 use Rattle.tlsf_crew.specs.yard.World.{World, Replied, answered, called, heap_in, made_by}
 use Rattle.tlsf_crew.specs.yard.Told.{HasHeap, told_by}
-use Rattle.tlsf_crew.specs.declared.yard.call.Call.TheVariants.{Drain}
+use Rattle.tlsf_calls.specs.declared.call.Call.TheVariants.{Drain}
 use Rattle.tlsf_crew.proofs.lemmas.yard.Witnesses.{a_suit}
 use Rattle.tlsf_crew.specs.yard.Counts.{sum_of}
 use Rattle.tlsf_crew.specs.yard.Moves.{one, Suits, Answered, Stepped, Called}

@@ -9,12 +9,12 @@ use Rattle.tlsf_heap.specs.declared.name.Name.{Name}
 use Rattle.tlsf_post.specs.declared.post.Post.{Post}
 use Rattle.tlsf_post.specs.Lanes.{ready}
 use Rattle.tlsf_crew.specs.declared.yard.worker.Worker.{Worker}
-use Rattle.tlsf_crew.specs.declared.yard.entry.Entry.{Entry}
-use Rattle.tlsf_crew.specs.declared.yard.call.Call.{Call}
-use Rattle.tlsf_crew.specs.declared.yard.call.Call.TheVariants.{Take}
-use Rattle.tlsf_crew.specs.declared.yard.took.Took.{Took}
-use Rattle.tlsf_crew.specs.declared.yard.reply.Reply.TheVariants.{Took as Taken, Empty, Refused}
-use Rattle.tlsf_crew.specs.declared.yard.crew_refusal.CrewRefusal.TheVariants.{Stranger}
+use Rattle.tlsf_calls.specs.declared.entry.Entry.{Entry}
+use Rattle.tlsf_calls.specs.declared.call.Call.{Call}
+use Rattle.tlsf_calls.specs.declared.call.Call.TheVariants.{Take}
+use Rattle.tlsf_calls.specs.declared.took.Took.{Took}
+use Rattle.tlsf_calls.specs.declared.reply.Reply.TheVariants.{Took as Taken, Empty, Refused}
+use Rattle.tlsf_calls.specs.declared.crew_refusal.CrewRefusal.TheVariants.{Stranger}
 use Rattle.tlsf_crew.specs.yard.Heaps.{released}
 use Rattle.tlsf_crew.specs.yard.Workers.{heap_of, id_of, TookFrom, KnowsYard}
 use Rattle.tlsf_crew.specs.yard.Calls.{AfterTake, TakenFrom}

@@ -16,5 +16,5 @@ returns c =
     (c.in-Ok.ensures.world ∙ ap yard_of is.header) is.events is.labels
     refl
     (rw c.deref_mut.ensures.value at c.in_ok-write_run.ensures.world)
-    (rw (c.deref_mut.ensures.value, c.new-text.ensures.bytes) at c.in_ok-write_run.ensures.text)
+    (rw (c.deref_mut.ensures.value, c.in_ok-text.ensures.bytes) at c.in_ok-write_run.ensures.text)
     (rw (c.deref_mut-2.ensures.value, back) at c.in_ok-write_reports.ensures)

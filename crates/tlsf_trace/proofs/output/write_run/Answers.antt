@@ -10,8 +10,8 @@ loop-events-init c =
     let alone = replies_alone (world_of c.args.workers.now) c.args.script.now.events.items in
     record {
       yard = c.requires;
-      so_far = rw (c.deref-events.ensures.value, c.deref-labels.ensures.value, c.new-made.ensures.items, alone) refl;
-      world = rw (c.deref-events.ensures.value, c.new-made.ensures.items, alone) refl;
+      so_far = rw (c.deref-events.ensures.value, c.deref-labels.ensures.value, c.in_ok-made.ensures.items, alone) refl;
+      world = rw (c.deref-events.ensures.value, c.in_ok-made.ensures.items, alone) refl;
     }
 
 pub loop-events-preserved : goal.loop-events-preserved

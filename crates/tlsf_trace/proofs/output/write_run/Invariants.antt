@@ -1,7 +1,7 @@
 use Rattle.std.proofs.Common.{◌≡◌, ◌++◌, length, string_bytes}
 use Rattle.tlsf_crew.specs.yard.Yard.{IsYard}
 use Rattle.tlsf_crew.specs.yard.World.{world_of, replies, replies_behind}
-use Rattle.tlsf_trace.specs.ReplyLines.{reply_text}
+use Rattle.tlsf_lines.specs.ReplyLines.{reply_text}
 use Rattle.tlsf_trace.proofs.output.write_run.Given as goal
 
 -- the lines so far and those of the events that are left are the lines of all, and these leave the world that all leave

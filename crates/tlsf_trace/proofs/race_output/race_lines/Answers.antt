@@ -1,6 +1,6 @@
 use Rattle.std.proofs.Common.{vec_len, string_bytes, length, IfSome, ◌≤◌, subst}
 use Rattle.tlsf_crew.specs.yard.World.{world_of}
-use Rattle.tlsf_trace.specs.Phases.{known_in, none_known, phases_of}
+use Rattle.tlsf_lines.specs.Phases.{known_in, none_known, phases_of}
 use Rattle.tlsf_trace.proofs.RacedPhases.{few_behind, left_behind, more_raced}
 use Rattle.tlsf_trace.proofs.race_output.race_lines.Goals as goal
 

@@ -1,6 +1,6 @@
 use Rattle.std.proofs.Common.{◌≤◌, IfSome, length, vec_len, string_bytes}
 use Rattle.tlsf_crew.specs.yard.World.{world_of}
-use Rattle.tlsf_trace.specs.Phases.{known_in, none_known, phases_of}
+use Rattle.tlsf_lines.specs.Phases.{known_in, none_known, phases_of}
 use Rattle.tlsf_trace.specs.RaceSoFar.{IsRaceSoFar}
 use Rattle.tlsf_trace.proofs.RacedPhases.{lines_left, phases_left}
 use Rattle.tlsf_trace.proofs.race_output.race_lines.Given as goal

@@ -3,13 +3,13 @@ use Rattle.std.specs.List.{range_with_len}
 use Rattle.std.proofs.lemmas.List.{length-map}
 use Rattle.std.specs.declared.vec.Vec.{Vec}
 use Rattle.std.specs.declared.alloc.Global.{Global}
-use Rattle.tlsf_crew.specs.declared.yard.call.Call.{Call}
-use Rattle.tlsf_crew.specs.declared.yard.entry.Entry.{Entry}
+use Rattle.tlsf_calls.specs.declared.call.Call.{Call}
+use Rattle.tlsf_calls.specs.declared.entry.Entry.{Entry}
 use Rattle.tlsf_crew.specs.threads.Race.{IsRace}
 use Rattle.tlsf_crew.specs.yard.World.{world_of}
-use Rattle.tlsf_trace.specs.Phases.{known_below, known_in, own_lines}
-use Rattle.tlsf_trace.specs.RaceOutput.{records_text}
-use Rattle.tlsf_trace.specs.declared.line.Line.{Line}
+use Rattle.tlsf_lines.specs.Phases.{known_below, known_in, own_lines}
+use Rattle.tlsf_lines.specs.Records.{records_text}
+use Rattle.tlsf_lines.specs.declared.line.Line.{Line}
 use Rattle.tlsf_trace.proofs.RacedPhases.{heap_count, phase_raced}
 use Rattle.tlsf_trace.proofs.race_output.race_phase.Goals as goal
 

@@ -1,8 +1,8 @@
 use Rattle.std.proofs.Common.{arith, string_bytes}
 use Rattle.std.proofs.lemmas.List.Sums.{count_by-le-length}
-use Rattle.tlsf_trace.specs.Lines.{is_call}
+use Rattle.tlsf_lines.specs.Lines.{is_call}
 use Rattle.tlsf_trace.specs.Replay.{Races}
-use Rattle.tlsf_trace.specs.Views.{view_trace}
+use Rattle.tlsf_lines.specs.Views.{view_trace}
 use Rattle.tlsf_trace.proofs.WholeReplay.{run_is_done}
 use Rattle.tlsf_trace.proofs.stages.race_trace.Goals as goal
 

@@ -6,8 +6,8 @@ pub returns : goal.returns
 returns c = (
   refl,
   refl,
-  prepared c.args.count c.args.releases.now c.limits_for-limits.result c.args.worker c.args.script c.in_ok-made.made c.in_ok-entries.entries
-      c.requires.yard c.requires.short (c.in_ok-made.ensures.items, c.in_ok-entries.ensures.items)
-      (omega (arith, c.in_ok-made.ensures.capacity, c.len.ensures)) c.limits_for-limits.ensures.least c.limits_for-limits.ensures.most c.limits_for-limits.ensures.reach
-      (omega (arith, c.in_ok-entries.ensures.capacity, c.room_for_record.ensures, c.len-2.ensures)),
+  prepared c.args.count c.args.releases.now c.limits_for-limits.result c.args.worker c.args.script c.in_ok-made.made c.in_ok-made.entries
+      c.requires.yard c.requires.short c.in_ok-made.ensures.fresh
+      (omega (arith, c.in_ok-made.ensures.names, c.len.ensures)) c.limits_for-limits.ensures.least c.limits_for-limits.ensures.most c.limits_for-limits.ensures.reach
+      (omega (arith, c.in_ok-made.ensures.record, c.len.ensures)),
 )

@@ -23,3 +23,12 @@ loop-j-preserved c =
           (rw (sym c.index-records-j.is) at c.drain_one.ensures.told);
       later = λ k le. get_set_other c.loop-j.records j k c.drain_one.new.entries (λ e. omega arith) ∙ c.loop-j.invariant.later k (omega arith);
     }
+
+pub drain_one-requires-clause-yard : goal.drain_one-requires-clause-yard
+drain_one-requires-clause-yard c = c.loop-j.invariant.last.yard
+
+pub drain_one-requires-clause-inside : goal.drain_one-requires-clause-inside
+drain_one-requires-clause-inside c = omega (arith, c.loop-j.invariant.last.worker_count)
+
+pub drain_one-requires-clause-few : goal.drain_one-requires-clause-few
+drain_one-requires-clause-few c = λ i. rw (c.loop-j.invariant.last.later_waits i c.loop-j.j (omega arith)) (c.requires.few c.loop-j.j i)

@@ -1,7 +1,7 @@
 use Rattle.std.proofs.Common.{[], ap, arith, vec_capacity}
 use Rattle.std.specs.declared.vec.Vec.{Vec}
 use Rattle.std.specs.declared.alloc.Global.{Global}
-use Rattle.tlsf_crew.specs.declared.yard.entry.Entry.{Entry}
+use Rattle.tlsf_calls.specs.declared.entry.Entry.{Entry}
 use Rattle.tlsf_crew.proofs.lemmas.threads.LastDrains.{last_fits, last_told}
 use Rattle.tlsf_crew.proofs.threads.race.drain_one.Goals as goal
 
@@ -22,3 +22,12 @@ returns-clause-told c = λ made.
     let told = rw c.replace.ensures.value at c.reply_in_yard-reply.ensures.replied in
     rw c.push_reserved.ensures.items (last_told c.args.workers.now c.reply_in_yard-reply.new.workers c.args.entries.now.items c.reply_in_yard-reply.new.journal.entries.items c.args.at c.reply_in_yard-reply.result
     c.requires.inside told made)
+
+pub reply_in_yard-reply-requires-clause-yard : goal.reply_in_yard-reply-requires-clause-yard
+reply_in_yard-reply-requires-clause-yard c = c.requires.yard
+
+pub reply_in_yard-reply-requires-clause-inside : goal.reply_in_yard-reply-requires-clause-inside
+reply_in_yard-reply-requires-clause-inside c = c.requires.inside
+
+pub returns-clause-yard : goal.returns-clause-yard
+returns-clause-yard c = c.reply_in_yard-reply.ensures.replied.yard

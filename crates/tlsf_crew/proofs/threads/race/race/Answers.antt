@@ -1,8 +1,8 @@
-use Rattle.std.proofs.Common.{◌++◌, length, map, take, drop, sym, arith}
+use Rattle.std.proofs.Common.{◌++◌, ap, length, map, take, drop, sym, arith}
 use Rattle.std.specs.declared.vec.Vec.{Vec}
 use Rattle.std.specs.declared.alloc.Global.{Global}
 use Rattle.std.proofs.lemmas.List.{length-map}
-use Rattle.tlsf_crew.specs.declared.yard.entry.Entry.{Entry}
+use Rattle.tlsf_calls.specs.declared.entry.Entry.{Entry}
 use Rattle.tlsf_crew.proofs.lemmas.threads.WholeRace.{met_few, last_rooms, race_is, written_back}
 use Rattle.tlsf_crew.proofs.threads.race.race.Goals as goal
 
@@ -45,3 +45,35 @@ returns g c =
           (map (λ r. r.items) out.records.items) (map (λ r. r.items) c.drain_last.new.records)
           c.settle.ensures.count c.settle.ensures.met c.settle.ensures.world c.settle.ensures.yard run c.settle-2.ensures.count c.settle-2.ensures.met c.settle-2.ensures.world c.settle-2.ensures.yard last);
     }
+
+pub settle-requires : goal.settle-requires
+settle-requires g c = rw c.deref_mut.ensures.value c.requires.yard
+
+pub run_scripts-requires-clause-yard : goal.run_scripts-requires-clause-yard
+run_scripts-requires-clause-yard g c κs within =
+    rw (written_back c.args.workers.len c.settle.new.workers c.args.workers.items (omega (arith, c.settle.ensures.count, c.deref_mut.ensures.len))) c.settle.ensures.yard
+
+pub run_scripts-requires-clause-count : goal.run_scripts-requires-clause-count
+run_scripts-requires-clause-count g c κs within = c.requires.count
+
+pub run_scripts-requires-clause-short : goal.run_scripts-requires-clause-short
+run_scripts-requires-clause-short g c κs within = c.requires.short
+
+pub settle-requires-2 : goal.settle-requires-2
+settle-requires-2 g c = rw c.deref_mut-2.ensures.value c.in_ok-outcome.ensures.run.yard
+
+pub drain_last-requires-clause-yard : goal.drain_last-requires-clause-yard
+drain_last-requires-clause-yard g c =
+    let us = c.settle-2.new.workers in
+    let back = written_back c.in_ok-outcome.outcome.workers.len us c.in_ok-outcome.outcome.workers.items (omega (arith, c.settle-2.ensures.count, c.deref_mut-2.ensures.len)) in
+    rw (c.deref_mut-3.ensures.value, back) c.settle-2.ensures.yard
+
+pub drain_last-requires-clause-count : goal.drain_last-requires-clause-count
+drain_last-requires-clause-count g c =
+    let us = c.settle-2.new.workers in
+    let out = c.in_ok-outcome.outcome in
+    let run = c.in_ok-outcome.ensures.run in
+    let records = length-map out.records.items (λ (r : Vec Entry Global). r.items) in
+    let workers = ap length c.deref_mut-2.ensures.value in
+    let back = written_back out.workers.len us out.workers.items (omega (arith, c.settle-2.ensures.count, c.deref_mut-2.ensures.len)) in
+    rw (c.deref_mut-3.ensures.value, back, c.deref_mut-4.ensures.value) (omega (arith, run.worker_count, run.record_count, records, workers, c.settle-2.ensures.count))

@@ -1,5 +1,5 @@
 use Rattle.std.proofs.Common.{refl}
-use Rattle.tlsf_crew.specs.declared.yard.call.Call.TheVariants.{Allocate, Release, Write, Read, Take}
+use Rattle.tlsf_calls.specs.declared.call.Call.TheVariants.{Allocate, Release, Write, Read, Take}
 use Rattle.tlsf_crew.proofs.lemmas.yard.DrainWorlds.{drain_stepped}
 use Rattle.tlsf_crew.proofs.lemmas.yard.ScriptCalls.{single_stepped}
 use Rattle.tlsf_crew.proofs.yard.executor.reply_to.Goals as goal

@@ -11,3 +11,13 @@ returns c =
     let m : length laid ≡ c.in_ok-workers.workers.len = search rules in
     let all = take_at laid (drop (length laid) c.in_ok-workers.workers.items) c.in_ok-workers.workers.len m in
     record { yard = rw all (laid_yard _ _ _ _ c.requires l); world = rw all (laid_world _ _ _ _ c.requires l); free = rw all l.free; fresh = rw all l.fresh }
+
+pub lay_lanes-requires-clause-sizes : goal.lay_lanes-requires-clause-sizes
+lay_lanes-requires-clause-sizes c =
+    let k : length c.deref_mut.result.now ≡ c.args.n = ap length c.deref_mut.ensures.value ∙ c.in_ok-workers.ensures.len in
+    rw k c.requires
+
+pub lay_lanes-requires-clause-laid : goal.lay_lanes-requires-clause-laid
+lay_lanes-requires-clause-laid c =
+    let k : length c.deref_mut.result.now ≡ c.args.n = ap length c.deref_mut.ensures.value ∙ c.in_ok-workers.ensures.len in
+    rw (k, c.deref_mut.ensures.value) c.in_ok-workers.ensures

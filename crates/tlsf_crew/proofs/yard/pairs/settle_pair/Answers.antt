@@ -46,3 +46,11 @@ pub unreachable-requires-in_default-as_mut : goal.unreachable-requires-in_defaul
 unreachable-requires-in_default-as_mut c =
     let none : None ≡ c.index_mut-2.result.now = sym (ap option_copied_mut c.in_default-as_mut.is) ∙ c.as_mut-2.ensures.value in
     absurd (end_stands _ c.args.taker.now.takes.items c.args.i _ c.index_mut-2.ensures.value c.requires.3 none)
+
+pub beside-requires : goal.beside-requires
+beside-requires c =
+    let a : Some c.in-Some.post.now ≡ c.index_mut.result.now = sym (ap option_copied_mut c.in-Some.is) ∙ c.as_mut.ensures.value in
+    let b : Some c.in-Some-as_mut.take.now ≡ c.index_mut-2.result.now = sym (ap option_copied_mut c.in-Some-as_mut.is) ∙ c.as_mut-2.ensures.value in
+    let pe : c.in-Some.post.now ≡ c.requires.0 = same_end _ c.args.poster.now.posts.items c.args.j _ _ c.index_mut.ensures.value c.requires.2 a in
+    let te : c.in-Some-as_mut.take.now ≡ c.requires.1 = same_end _ c.args.taker.now.takes.items c.args.i _ _ c.index_mut-2.ensures.value c.requires.3 b in
+    rw (pe, te) c.requires.4

@@ -2,8 +2,8 @@ use Rattle.std.proofs.Common.{◌+◌, ◌∙◌, refl, ap, sym, length, arith, 
 use Rattle.std.specs.List.{fold}
 use Rattle.std.proofs.lemmas.List.{take_all}
 use Rattle.std.proofs.lemmas.List.Sums.{fold_more}
-use Rattle.tlsf_crew.specs.declared.yard.event.Event.{Event}
-use Rattle.tlsf_crew.specs.declared.yard.call.Call.TheVariants.{Allocate}
+use Rattle.tlsf_calls.specs.declared.event.Event.{Event}
+use Rattle.tlsf_calls.specs.declared.call.Call.TheVariants.{Allocate}
 use Rattle.tlsf_crew.specs.yard.World.{world_of, after, resumed}
 use Rattle.tlsf_crew.specs.yard.Counts.{waiting_in}
 use Rattle.tlsf_crew.proofs.lemmas.yard.InParts.{replies_behind_is}
@@ -70,8 +70,8 @@ loop-event-init c = record {
   count = refl;
   made = omega (arith, c.reserve.ensures.len);
   made_room = omega (arith, c.reserve.ensures.len, c.in_ok-reserve.ensures.ok);
-  room = c.in_ok-with_capacity.ensures.capacity;
-  replayed = rw (c.reserve.ensures.items, c.in_ok-with_capacity.ensures.items) refl;
+  room = c.in_ok-journal.ensures.room;
+  replayed = rw (c.reserve.ensures.items, c.in_ok-journal.ensures.empty) refl;
 }
 
 pub returns-clause-yard : goal.returns-clause-yard

@@ -74,3 +74,15 @@ returns-clause-replied c =
     let own : id_of a ≡ c.args.event.worker = own_number vs c.args.event.worker a e.yard is in
     let s = settles (run_of c) c.args.workers.now c.settle_for.new.workers c.args.event.worker own e.count e.met f.met (λ may i t near q. e.limits.all may i t near q) f.yard f.count f.world in
     replied (run_of c) c.args.workers.now c.settle_for.new.workers c.args.event s e.world (sym own) refl
+
+pub settle_for-journal-requires-clause-yard : goal.settle_for-journal-requires-clause-yard
+settle_for-journal-requires-clause-yard c = c.requires.yard
+
+pub settle_for-journal-requires-clause-inside : goal.settle_for-journal-requires-clause-inside
+settle_for-journal-requires-clause-inside c = c.requires.inside
+
+pub overflow_cast-count : goal.overflow_cast-count
+overflow_cast-count c = omega (arith, c.settle_for-journal.ensures.yard.few)
+
+pub returns-clause-capacity : goal.returns-clause-capacity
+returns-clause-capacity c = c.reply_to-reply.ensures.capacity

@@ -1,4 +1,6 @@
-use Rattle.std.proofs.Common.{◌≤◌, sym, length, arith}
+use Rattle.std.proofs.Common.{◌≤◌, ◌∙◌, sym, ap, length, Option, arith}
+use Rattle.std.proofs.lemmas.List.{length-append}
+use Rattle.tlsf_heap.specs.declared.name.Name.{Name}
 use Rattle.tlsf_crew.specs.yard.ReplaySteps.{replay_of}
 use Rattle.tlsf_crew.proofs.lemmas.yard.OneEvent.{heaps_count}
 use Rattle.tlsf_crew.proofs.lemmas.yard.EventSteps.{after_far, single_room, replied_room}
@@ -32,3 +34,39 @@ pub returns-clause-after : goal.returns-clause-after
 returns-clause-after c =
     let told = rw c.deref.ensures.value at c.reply_in_yard-reply.ensures.replied in
     rw (c.answer-2.ensures.made, c.answer-2.ensures.entries) (sym told.after)
+
+pub reply_in_yard-reply-requires-clause-yard : goal.reply_in_yard-reply-requires-clause-yard
+reply_in_yard-reply-requires-clause-yard c = c.requires.yard
+
+pub reply_in_yard-reply-requires-clause-room : goal.reply_in_yard-reply-requires-clause-room
+reply_in_yard-reply-requires-clause-room c = c.requires.takes
+
+pub answer-requires-clause-made : goal.answer-requires-clause-made
+answer-requires-clause-made c = c.requires.made
+
+pub answer-requires-2-clause-made : goal.answer-requires-2-clause-made
+answer-requires-2-clause-made c = c.requires.made
+
+pub returns-clause-capacity : goal.returns-clause-capacity
+returns-clause-capacity c = (c.answer-2.ensures.capacity.0, c.answer-2.ensures.capacity.1 ∙ c.reply_in_yard-reply.ensures.capacity)
+
+pub returns-then-event-workers-clause-yard : goal.returns-then-event-workers-clause-yard
+returns-then-event-workers-clause-yard c = c.requires.yard
+
+pub returns-then-event-workers-clause-capacity : goal.returns-then-event-workers-clause-capacity
+returns-then-event-workers-clause-capacity c = c.answer.ensures.capacity
+
+pub reply_in_yard-reply-requires-clause-inside : goal.reply_in_yard-reply-requires-clause-inside
+reply_in_yard-reply-requires-clause-inside c = omega arith
+
+pub returns-clause-made : goal.returns-clause-made
+returns-clause-made c =
+    let l = c.args.made.now.ok in
+    let m = c.answer-2.new.made.ok in
+    omega (arith, ap length c.answer-2.ensures.made, length-append {A = Option Name})
+
+pub returns-then-event-workers-clause-made : goal.returns-then-event-workers-clause-made
+returns-then-event-workers-clause-made c =
+    let l = c.args.made.now.ok in
+    let m = c.answer.new.made.ok in
+    omega (arith, ap length c.answer.ensures.made, length-append {A = Option Name})

@@ -1,7 +1,7 @@
-use Rattle.std.proofs.Common.{◌≡◌, ◌∙◌, ap, sym, subst, arith, Some, slice_get}
+use Rattle.std.proofs.Common.{◌≡◌, ◌∙◌, ap, sym, refl, subst, arith, Some, slice_get}
 use Rattle.std.proofs.lemmas.Option.{slice_get-get_or}
-use Rattle.tlsf_crew.specs.yard.ReplaySteps.{ConcernsCall}
-use Rattle.tlsf_crew.proofs.lemmas.yard.Exact.{limits_are}
+use Rattle.tlsf_crew.specs.yard.ReplaySteps.{ConcernsCall, MayTake}
+use Rattle.tlsf_crew.proofs.lemmas.yard.Exact.{limits_are, zero_limits}
 use Rattle.tlsf_crew.proofs.yard.replay.settle_for.Goals as goal
 
 pub returns-in-Release-clause-met : goal.returns-in-Release-clause-met
@@ -21,3 +21,69 @@ returns-in-Take-clause-limits c =
     let p = c.requires.inside in
     let is : slice_get vs at ≡ Some a = slice_get-get_or vs at a (omega arith) ∙ ap Some (sym c.index-workers-at.is) in
     limits_are c.args.workers.now vs c.args.event c.count_each.result a c.settle_column.ensures.yard c.settle_column.ensures.count is c.settle_column.ensures.met (rw (sym c.index-workers-at.is) at c.count_each.ensures)
+
+pub returns-in-Release-clause-limits : goal.returns-in-Release-clause-limits
+returns-in-Release-clause-limits c = zero_limits _ c.args.event (λ m. subst MayTake c.in-Release.is m)
+
+pub returns-in-Release-clause-yard : goal.returns-in-Release-clause-yard
+returns-in-Release-clause-yard c = c.settle_named.ensures.yard
+
+pub returns-in-Release-clause-count : goal.returns-in-Release-clause-count
+returns-in-Release-clause-count c = c.settle_named.ensures.count
+
+pub returns-in-Release-clause-world : goal.returns-in-Release-clause-world
+returns-in-Release-clause-world c = c.settle_named.ensures.world
+
+pub returns-in-Take-clause-yard : goal.returns-in-Take-clause-yard
+returns-in-Take-clause-yard c = c.settle_column.ensures.yard
+
+pub returns-in-Take-clause-count : goal.returns-in-Take-clause-count
+returns-in-Take-clause-count c = c.settle_column.ensures.count
+
+pub returns-in-Take-clause-world : goal.returns-in-Take-clause-world
+returns-in-Take-clause-world c = c.settle_column.ensures.world
+
+pub returns-in-Allocate-clause-met : goal.returns-in-Allocate-clause-met
+returns-in-Allocate-clause-met c = λ i j a b ne k. absurd (subst (λ x. ConcernsCall c.args.made.now c.args.event.worker x i j) c.in-Allocate.is k)
+
+pub returns-in-Allocate-clause-limits : goal.returns-in-Allocate-clause-limits
+returns-in-Allocate-clause-limits c = zero_limits _ c.args.event (λ m. subst MayTake c.in-Allocate.is m)
+
+pub returns-in-Allocate-clause-yard : goal.returns-in-Allocate-clause-yard
+returns-in-Allocate-clause-yard c = c.requires.yard
+
+pub returns-in-Allocate-clause-count : goal.returns-in-Allocate-clause-count
+returns-in-Allocate-clause-count c = refl
+
+pub returns-in-Allocate-clause-world : goal.returns-in-Allocate-clause-world
+returns-in-Allocate-clause-world c = refl
+
+pub returns-in-Write-clause-met : goal.returns-in-Write-clause-met
+returns-in-Write-clause-met c = λ i j a b ne k. absurd (subst (λ x. ConcernsCall c.args.made.now c.args.event.worker x i j) c.in-Write.is k)
+
+pub returns-in-Write-clause-limits : goal.returns-in-Write-clause-limits
+returns-in-Write-clause-limits c = zero_limits _ c.args.event (λ m. subst MayTake c.in-Write.is m)
+
+pub returns-in-Write-clause-yard : goal.returns-in-Write-clause-yard
+returns-in-Write-clause-yard c = c.requires.yard
+
+pub returns-in-Write-clause-count : goal.returns-in-Write-clause-count
+returns-in-Write-clause-count c = refl
+
+pub returns-in-Write-clause-world : goal.returns-in-Write-clause-world
+returns-in-Write-clause-world c = refl
+
+pub returns-in-Read-clause-met : goal.returns-in-Read-clause-met
+returns-in-Read-clause-met c = λ i j a b ne k. absurd (subst (λ x. ConcernsCall c.args.made.now c.args.event.worker x i j) c.in-Read.is k)
+
+pub returns-in-Read-clause-limits : goal.returns-in-Read-clause-limits
+returns-in-Read-clause-limits c = zero_limits _ c.args.event (λ m. subst MayTake c.in-Read.is m)
+
+pub returns-in-Read-clause-yard : goal.returns-in-Read-clause-yard
+returns-in-Read-clause-yard c = c.requires.yard
+
+pub returns-in-Read-clause-count : goal.returns-in-Read-clause-count
+returns-in-Read-clause-count c = refl
+
+pub returns-in-Read-clause-world : goal.returns-in-Read-clause-world
+returns-in-Read-clause-world c = refl

@@ -123,3 +123,15 @@ returns-in_default-clause-touches g c = omega (arith, c.loop-drained.invariant.t
 
 pub returns-in_default-clause-touches_rise : goal.returns-in_default-clause-touches_rise
 returns-in_default-clause-touches_rise g c = omega (arith, c.loop-drained.invariant.rise, c.in_default.ensures.touches_rise)
+
+pub overflow_add-drained : goal.overflow_add-drained
+overflow_add-drained g c = omega arith
+
+pub overflow_add-drained-then-is_ok : goal.overflow_add-drained-then-is_ok
+overflow_add-drained-then-is_ok g c = let few = counted_few c.loop-drained.drained c.loop-drained.invariant.takes.0 c.loop-drained.invariant.takes.2 in omega (arith, few)
+
+pub loop-drained-smaller : goal.loop-drained-smaller
+loop-drained-smaller g c = omega arith
+
+pub loop-drained-smaller-then-is_ok : goal.loop-drained-smaller-then-is_ok
+loop-drained-smaller-then-is_ok g c = omega arith

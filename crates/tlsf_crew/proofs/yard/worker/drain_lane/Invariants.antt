@@ -1,5 +1,5 @@
 use Rattle.std.proofs.Common.{◌-◌, ◌+◌, ◌*◌, ◌≤◌, List}
-use Rattle.tlsf_crew.specs.declared.yard.took.Took.{Took}
+use Rattle.tlsf_calls.specs.declared.took.Took.{Took}
 use Rattle.tlsf_crew.specs.yard.Workers.{HasTake, touches_of}
 use Rattle.tlsf_crew.specs.yard.LaneTurns.{IsCountOf}
 use Rattle.tlsf_crew.specs.yard.Notes.{NotedInTurn}

@@ -1,6 +1,6 @@
 use Rattle.std.proofs.Common.{◌≡◌, ◌++◌, ◌-◌, [], refl, arith, subst}
 use Rattle.tlsf_crew.specs.yard.Workers.{lane_places}
-use Rattle.tlsf_crew.specs.yard.Notes.{LaneNoted, LanesNoted}
+use Rattle.tlsf_crew.specs.yard.Notes.{LaneNoted, EachLaneNoted}
 use Rattle.tlsf_crew.proofs.lemmas.yard.LaneTurns.{counted_few, counts_then, turn_more, turn_none}
 use Rattle.tlsf_crew.proofs.yard.worker.drain_noting.Goals as goal
 use Rattle.tlsf_crew.proofs.yard.worker.drain_noting.Goals.{then-has_take, else-has_take}
@@ -58,7 +58,7 @@ returns-clause-drained g c =
     let e : c.loop-from.from ≡ lane_places c.args.worker.now = omega (arith, c.len-from-end.ensures) in
     record {
       tooks = l.0;
-      lanes = subst (λ n. LanesNoted g.N.Notes.noted g.N.Notes.admitted c.args.worker.now c.loop-from.worker c.args.notes.now c.loop-from.notes c.args.most n l.0) e l.1;
+      lanes = subst (λ n. EachLaneNoted g.N.Notes.noted g.N.Notes.admitted c.args.worker.now c.loop-from.worker c.args.notes.now c.loop-from.notes c.args.most n l.0) e l.1;
       count = l.2;
     }
 
@@ -73,3 +73,17 @@ returns-clause-touches g c = c.loop-from.invariant.touches
 
 pub returns-clause-touches_rise : goal.returns-clause-touches_rise
 returns-clause-touches_rise g c = c.loop-from.invariant.rise
+
+pub overflow_sub-most : goal.overflow_sub-most
+overflow_sub-most g c = c.loop-from.invariant.few
+
+pub drain_lane-here-requires-clause-room : goal.drain_lane-here-requires-clause-room
+drain_lane-here-requires-clause-room g c = c.loop-from.invariant.room
+
+pub overflow_add-drained : goal.overflow_add-drained
+overflow_add-drained g c = omega (arith, c.drain_lane-here.ensures.most, c.loop-from.invariant.few)
+
+pub overflow_add-drained-then-has_take : goal.overflow_add-drained-then-has_take
+overflow_add-drained-then-has_take g c =
+    let few = counted_few c.loop-from.drained c.loop-from.invariant.lanes.0 c.loop-from.invariant.lanes.2 in
+    omega (arith, few, c.drain_lane-here.ensures.most, c.drain_lane-here.ensures.freed, c.loop-from.invariant.few)

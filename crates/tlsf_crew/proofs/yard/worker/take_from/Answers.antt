@@ -1,7 +1,7 @@
-use Rattle.std.proofs.Common.{◌≡◌, ◌∙◌, refl, sym, ap, Some}
+use Rattle.std.proofs.Common.{◌≡◌, ◌∙◌, arith, refl, sym, ap, Some, None}
 use Rattle.std.specs.Option.{option_copied_mut}
 use Rattle.std.proofs.lemmas.Option.{slice_get_within}
-use Rattle.tlsf_crew.proofs.lemmas.yard.StandingEnd.{same_end}
+use Rattle.tlsf_crew.proofs.lemmas.yard.StandingEnd.{same_end, end_stands}
 use Rattle.tlsf_crew.proofs.lemmas.yard.Slots.{from_slot, slot_new, slot_other}
 use Rattle.tlsf_crew.proofs.yard.worker.take_from.Goals as goal
 
@@ -26,3 +26,17 @@ returns-clause-took c =
       none = rw (← pe) e.none;
       succeeds = rw (← pe) e.succeeds;
     }
+
+pub index_mut-requires : goal.index_mut-requires
+index_mut-requires c =
+    let xs = c.args.taker.now.takes in
+    let l = xs.ok in
+    omega (arith, slice_get_within xs.items c.args.i (Some c.requires.0) (from_slot _ c.requires.0 c.requires.1))
+
+pub unreachable-requires : goal.unreachable-requires
+unreachable-requires c =
+    let none : None ≡ c.index_mut.result.now = sym (ap option_copied_mut c.in_default.is) ∙ c.as_mut.ensures.value in
+    absurd (end_stands _ c.args.taker.now.takes.items c.args.i _ c.index_mut.ensures.value (from_slot _ c.requires.0 c.requires.1) none)
+
+pub returns-clause-heap : goal.returns-clause-heap
+returns-clause-heap c = refl

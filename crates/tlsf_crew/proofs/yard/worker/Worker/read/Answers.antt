@@ -8,3 +8,33 @@ returns-in-Ok-clause-yard c = heap_keeps _ _ (refl, refl, refl) (same_heap_keeps
 
 pub returns-in-Err-clause-yard : goal.returns-in-Err-clause-yard
 returns-in-Err-clause-yard c = heap_keeps _ _ (refl, refl, refl) (same_heap_keeps _ _ c.in-Err.ensures.heap)
+
+pub returns-in-Ok-clause-touches : goal.returns-in-Ok-clause-touches
+returns-in-Ok-clause-touches c = c.in-Ok.ensures.touches
+
+pub returns-in-Ok-clause-touches_rise : goal.returns-in-Ok-clause-touches_rise
+returns-in-Ok-clause-touches_rise c = c.in-Ok.ensures.touches_rise
+
+pub returns-in-Ok-clause-heap : goal.returns-in-Ok-clause-heap
+returns-in-Ok-clause-heap c = c.in-Ok.ensures.heap
+
+pub returns-in-Ok-clause-bytes : goal.returns-in-Ok-clause-bytes
+returns-in-Ok-clause-bytes c = c.in-Ok.ensures.bytes
+
+pub returns-in-Ok-clause-same : goal.returns-in-Ok-clause-same
+returns-in-Ok-clause-same c = (refl, refl, refl)
+
+pub returns-in-Err-clause-touches : goal.returns-in-Err-clause-touches
+returns-in-Err-clause-touches c = c.in-Err.ensures.touches
+
+pub returns-in-Err-clause-touches_rise : goal.returns-in-Err-clause-touches_rise
+returns-in-Err-clause-touches_rise c = c.in-Err.ensures.touches_rise
+
+pub returns-in-Err-clause-heap : goal.returns-in-Err-clause-heap
+returns-in-Err-clause-heap c = c.in-Err.ensures.heap
+
+pub returns-in-Err-clause-bytes : goal.returns-in-Err-clause-bytes
+returns-in-Err-clause-bytes c = c.in-Err.ensures.bytes
+
+pub returns-in-Err-clause-same : goal.returns-in-Err-clause-same
+returns-in-Err-clause-same c = (refl, refl, refl)

@@ -1,0 +1,27 @@
+use crate::chunk::Chunk;
+use crate::crew_refusal::CrewRefusal;
+use crate::took::Took;
+use tlsf_heap::Name;
+
+/// What a call is answered.
+#[derive(Clone, Copy, Debug, PartialEq, Eq)]
+pub enum Reply {
+    /// The name of the block that was given.
+    Made(Name),
+    /// The block was released.
+    Freed,
+    /// The name was posted to the owner of its heap.
+    Posted,
+    /// So many bytes were written.
+    Wrote(u32),
+    /// The bytes that were read.
+    Got(Chunk),
+    /// A post was taken.
+    Took(Took),
+    /// No post waited.
+    Empty,
+    /// A drain took so many posts.
+    Drained(u32),
+    /// Nothing was done, and why.
+    Refused(CrewRefusal),
+}

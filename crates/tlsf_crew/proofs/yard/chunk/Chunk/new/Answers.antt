@@ -1,6 +1,0 @@
-use Rattle.std.proofs.Common.{arith}
-use Rattle.tlsf_crew.proofs.lemmas.yard.Padding.{bytes_back}
-use Rattle.tlsf_crew.proofs.yard.chunk.Chunk.new.Goals as goal
-
-pub returns-clause-bytes : goal.returns-clause-bytes
-returns-clause-bytes c = rw c.with_zeros.ensures (bytes_back c.args.bytes.now (omega arith))

@@ -1,0 +1,43 @@
+-- A step of the loop over lines.
+use Rattle.std.proofs.Common.{◌≡◌, ℕ, ◌+◌, List, [], ◌∷◌, ◌++◌, length, Result, Ok, Err, refl, sym, ap, ◌∙◌, append_assoc, append-nil}
+use Rattle.tlsf_lines.specs.declared.line_fault.LineFault.{LineFault}
+use Rattle.tlsf_lines.specs.declared.line.Line.{Line}
+use Rattle.tlsf_lines.specs.Trace.{◌>>=◌, line_in, lines_in}
+use Rattle.tlsf_lines.specs.Pieces.{pieces_of}
+use Rattle.std.proofs.lemmas.List.{nil_from_length}
+
+abbrev pub put_behind : List Line → Result (List Line) (LineFault × ℕ) → Result (List Line) (LineFault × ℕ)
+put_behind prefix (Ok lines) = Ok (prefix ++ lines)
+put_behind prefix (Err fault) = Err fault
+
+regroup : (prefix : List Line) (line : Line) (rest : Result (List Line) (LineFault × ℕ)) → put_behind prefix (rest >>= λ lines. Ok (line ∷ lines)) ≡ put_behind (prefix ++ line ∷ []) rest
+regroup prefix line (Ok lines) = ap (λ (ls : List Line). Ok ls) (sym (append_assoc prefix (line ∷ []) lines))
+regroup prefix line (Err fault) = refl
+
+module _ (workers : ℕ) (before prefix : List Line) (n : ℕ) (rest : List ℕ) (total : Result (List Line) (LineFault × ℕ))
+    (so_far : put_behind prefix (lines_in workers before n (pieces_of rest)) ≡ total) where
+  pub goes_on : (piece after : List ℕ) (line : Line) → pieces_of rest ≡ piece ∷ pieces_of after → line_in workers before piece ≡ Ok line
+      → put_behind (prefix ++ line ∷ []) (lines_in workers (line ∷ before) (n + 1) (pieces_of after)) ≡ total
+  unfolding lines_in
+  goes_on piece after line cut judged =
+      let one : put_behind prefix (lines_in workers before n (pieces_of rest)) ≡ put_behind (prefix ++ line ∷ []) (lines_in workers (line ∷ before) (n + 1) (pieces_of after)) =
+      rw (cut, judged) (regroup prefix line (lines_in workers (line ∷ before) (n + 1) (pieces_of after))) in
+      sym one ∙ so_far
+
+  pub ends : (fault : LineFault) (piece after : List ℕ) → pieces_of rest ≡ piece ∷ pieces_of after → line_in workers before piece ≡ Err fault → total ≡ Err (fault, n)
+  unfolding lines_in
+  ends fault piece after cut judged =
+      let one : put_behind prefix (lines_in workers before n (pieces_of rest)) ≡ Err (fault, n) = rw (cut, judged) refl in
+      sym so_far ∙ one
+
+  pub is_done : length rest ≡ 0 → total ≡ Ok prefix
+  unfolding lines_in
+  is_done none =
+      let one : put_behind prefix (lines_in workers before n (pieces_of rest)) ≡ Ok prefix =
+      rw (nil_from_length rest none) (ap (λ (ls : List Line). Ok ls) (append-nil prefix)) in
+      sym so_far ∙ one
+
+-- no line yet
+pub with_none : (said : Result (List Line) (LineFault × ℕ)) → put_behind [] said ≡ said
+with_none (Ok lines) = refl
+with_none (Err fault) = refl

@@ -1,0 +1,41 @@
+-- The fields of a line as they are cut off, one after another. This serves the contracts of private functions alone.
+use Rattle.std.specs.Prelude.{ℕ, ◌==◌, List, [], ◌∷◌, Option, Some, None, option_map}
+use Rattle.std.specs.Borrow.{Bor}
+use Rattle.std.specs.List.{slice_split}
+use Rattle.tlsf_lines.specs.Fields.{values_in}
+use Rattle.tlsf_lines.specs.Lines.{kinds_of, line_from}
+use Rattle.tlsf_lines.specs.Values.{Value, Number, BadNumber}
+use Rattle.tlsf_lines.specs.declared.line.Line.{Line}
+use Rattle.tlsf_lines.specs.declared.word.Word.{Word}
+
+-- a number, or none where it is a bad one
+abbrev pub value_of : Option ℕ → Value
+value_of None = BadNumber
+value_of (Some number) = Number number
+
+-- what stands between the spaces of a line
+abbrev pub fields_of : List ℕ → List (List ℕ)
+fields_of line = slice_split (λ byte. byte == 32) line
+
+-- the fields that are left: those behind a space, or none where there was none
+abbrev pub fields_left : Option (Bor (List ℕ)) → List (List ℕ)
+fields_left None = []
+fields_left (Some rest) = fields_of rest.now
+
+abbrev pub with_rest : Value → List (List ℕ) → Value × List (List ℕ)
+with_rest value fields = (value, fields)
+
+-- what the first field says, and the fields behind it
+abbrev pub first_by : (List ℕ → Option Value) → List (List ℕ) → Option (Value × List (List ℕ))
+first_by say [] = None
+first_by say (field ∷ fields) = option_map (λ value. with_rest value fields) (say field)
+
+-- what the one field says; nothing where there is another
+abbrev pub only_by : (List ℕ → Option Value) → List (List ℕ) → Option Value
+only_by say [] = None
+only_by say (field ∷ []) = say field
+only_by say (field ∷ next ∷ fields) = None
+
+-- what the fields behind a word say: nothing where they have not its shape, and no line where a number is bad
+abbrev pub line_behind : ℕ → Word → List (List ℕ) → Option (Option Line)
+line_behind workers word fields = option_map (λ values. line_from word values) (values_in workers (kinds_of word) fields)

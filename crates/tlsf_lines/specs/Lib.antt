@@ -1,0 +1,29 @@
+-- What the clauses of public functions cite: a text, its lines, its trace, its events, and reply lines.
+pub mod Payloads
+pub mod Values
+pub mod Fields
+pub mod Lines
+pub mod Labels
+pub mod Header
+pub mod Pieces
+pub mod Trace
+pub mod Events
+pub mod ReplyLines
+pub mod Phases
+pub mod Records
+pub mod LineFaults
+pub mod TraceFaults
+pub mod Limits
+pub mod Prefixes
+pub mod Ranges
+pub mod Views
+pub mod ScriptSoFar
+pub mod Laws
+pub use Rattle.tlsf_calls.specs.Bytes
+pub use Rattle.tlsf_calls.specs.Entries
+pub use Rattle.tlsf_calls.specs.Numbers
+-- What the clauses of private functions cite besides.
+pub mod CutFields
+pub mod LabelMemory
+pub mod OwnMakers
+pub mod OpenLines

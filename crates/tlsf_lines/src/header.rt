@@ -1,0 +1,85 @@
+ghost use Rattle.std.specs.Prelude.{◌≡◌, ◌≢◌, ◌≤◌, ◌∷◌, [], IfSome, MatchOption, length};
+ghost use Rattle.tlsf_lines.specs.CutFields.{fields_of};
+ghost use Rattle.tlsf_lines.specs.Header as spelled;
+ghost use Rattle.tlsf_lines.specs.Ranges.{IsHeaderInRange};
+
+use crate::fields::{cut_field, line_of};
+use crate::numbers::digits_in;
+use tlsf_heap::MOST_WORDS;
+
+/// The most workers that a header may name.
+const MOST_WORKERS: u32 = 8;
+
+/// The fewest words of a heap.
+const LEAST_WORDS: u32 = 4;
+
+/// The most posts that a lane may hold.
+const MOST_CAPACITY: u32 = 1024;
+
+/// What the first line of a trace says.
+///
+/// ```
+/// // "tlsf 1 2 64 4\n" is Header { workers: 2, words: 64, capacity: 4 }
+/// ```
+#[derive(Clone, Copy)]
+pub struct Header {
+    /// How many workers there are, each with a heap of its own, from 1 to 8.
+    pub workers: u32,
+    /// The words of each heap, from 4 to 1048576.
+    pub words: u32,
+    /// How many posts a lane holds, from 1 to 1024.
+    pub capacity: u32,
+}
+
+/// The number from `least` to `most` that a field spells; `None` where it spells none of them.
+fn number_in(field: &[u8], least: u32, most: u32) -> Option<u32>
+    ensures number { result ≡ spelled.number_in (least, most) field.now }
+    ensures range { IfSome result (λ n. (least ≤ n) × (n ≤ most)) }
+{
+    digits_in(field, least, most)?
+}
+
+#[tactic(auto, unfolding(crate::specs::Header::header_from))]
+fn header_from(workers: &[u8], words: &[u8], capacity: &[u8]) -> Option<Header>
+    ensures header { result ≡ spelled.header_from workers.now words.now capacity.now }
+    ensures ranges { IfSome result IsHeaderInRange }
+{
+    let workers = number_in(workers, 1, MOST_WORKERS)?;
+    let words = number_in(words, LEAST_WORDS, MOST_WORDS)?;
+    let capacity = number_in(capacity, 1, MOST_CAPACITY)?;
+    Some(Header {
+        workers,
+        words,
+        capacity,
+    })
+}
+
+/// The fields of a line that has five.
+#[tactic(auto, using(crate::proofs::CutSteps::fields_count))]
+fn five_fields(line: &[u8]) -> Option<(&[u8], &[u8], &[u8], &[u8], &[u8])>
+    ensures { MatchOption result (length (fields_of line.now) ≢ 5)
+        (λ five. fields_of line.now ≡ five.0.now ∷ five.1.now ∷ five.2.now ∷ five.3.now ∷ five.4.now ∷ []) }
+{
+    let (first, rest) = cut_field(line);
+    let (second, rest) = cut_field(rest?);
+    let (third, rest) = cut_field(rest?);
+    let (fourth, rest) = cut_field(rest?);
+    let (fifth, rest) = cut_field(rest?);
+    match rest {
+        None => Some((first, second, third, fourth, fifth)),
+        Some(_) => None,
+    }
+}
+
+/// The header that a piece says, or `None` where it says none.
+#[tactic(auto, unfolding(crate::specs::Header::header_in))]
+pub fn header_in(piece: &[u8]) -> Option<Header>
+    ensures header { result ≡ spelled.header_in piece.now }
+    ensures ranges { IfSome result IsHeaderInRange }
+{
+    let (name, version, workers, words, capacity) = five_fields(line_of(piece)?)?;
+    if name != b"tlsf".as_slice() || version != b"1".as_slice() {
+        return None;
+    }
+    header_from(workers, words, capacity)
+}

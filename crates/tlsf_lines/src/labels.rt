@@ -1,0 +1,154 @@
+ghost use Rattle.std.specs.Prelude.{◌≡◌, ℕ, ◌+◌, ◌<◌, ◌≤◌, ◌^◌, List, [], ◌∷◌, length, OnOk};
+ghost use Rattle.tlsf_lines.specs.Events.{target_of, width_in};
+ghost use Rattle.tlsf_lines.specs.Labels as spelled;
+ghost use Rattle.tlsf_lines.specs.Labels.{can_make, made_of};
+ghost use Rattle.tlsf_lines.specs.LabelMemory.{Recalls, Remembers, maker_at};
+ghost use Rattle.tlsf_lines.specs.declared.line.Line.{Line as ALine};
+ghost use Rattle.tlsf_lines.specs.declared.line.Line.TheVariants.{Allocate, Phase};
+
+use crate::line::Line;
+use crate::maker::Maker;
+use std::alloc::{AllocError, Global};
+use std::marker::Model;
+use tlsf_calls::Target;
+
+/// The labels that the lines so far have made. A contract sees the phase and, at the place of each label, who made it, in
+/// which phase and by which event.
+#[derive(Drop)]
+pub struct Labels {
+    // A label is at most 65535, so a table that reaches as far as the greatest made so far is small.
+    makers: Vec<Option<Maker>>,
+    phase: u32,
+}
+
+impl Model for Labels {
+    ghost use Rattle.tlsf_lines.specs.LabelMemory.{Memory};
+
+    ghost Value = { Memory };
+
+    ghost view = { λ labels. record { phase = labels.phase; made = labels.makers.items } };
+}
+
+impl Labels {
+    /// No label, in phase 0, as before the first line.
+    pub fn new(alloc: Global) -> Labels
+        ensures remembers { Remembers result [] }
+        ensures recalls { (workers : ℕ) → Recalls workers result [] }
+        ensures phase { result.phase ≡ 0 }
+    {
+        Labels {
+            makers: Vec::new(alloc),
+            phase: 0,
+        }
+    }
+
+    // Who made the label, where a line did.
+    fn maker(&self, label: u32) -> Option<Maker>
+        ensures { result ≡ maker_at self.now.made label }
+    {
+        self.makers.get(label as usize).copied().flatten()
+    }
+
+    // Whether no line before made the label.
+    fn is_new(&self, label: u32) -> bool
+        ensures { (before : List ALine) → Remembers self.now before
+            → result ≡ can_make (made_of label before) }
+    {
+        self.maker(label).is_none()
+    }
+
+    // Whether the worker made the label, or anybody did in an earlier phase.
+    fn can_use(&self, label: u32, worker: u32) -> bool
+        ensures { (before : List ALine) → Remembers self.now before
+            → result ≡ spelled.can_use worker (made_of label before) }
+    {
+        match self.maker(label) {
+            None => false,
+            Some(maker) => maker.phase != self.phase || maker.worker == worker,
+        }
+    }
+
+    /// Whether a line may stand here: it makes a label that no line before it made, or uses one
+    /// that its own worker made, or that was made in an earlier phase.
+    pub fn is_in_order(&self, line: &Line) -> bool
+        ensures { (before : List ALine) → Remembers self.now before
+            → result ≡ spelled.is_in_order before line.now }
+    {
+        match line {
+            Line::Allocate { label, .. } => self.is_new(*label),
+            Line::Release { worker, label } => self.can_use(*label, *worker),
+            Line::Write { worker, label, .. } => self.can_use(*label, *worker),
+            Line::Read { worker, label, .. } => self.can_use(*label, *worker),
+            Line::Drain { .. } => true,
+            Line::Phase => true,
+        }
+    }
+
+    /// What a label stands for: what its event makes, or `Absent` where no line made it.
+    pub fn target(&self, label: u32) -> Target
+        ensures { (workers : ℕ) (before : List ALine) → Recalls workers self.now before
+            → result ≡ target_of workers label before }
+    {
+        match self.maker(label) {
+            Some(maker) => Target::Made(maker.event),
+            None => Target::Absent,
+        }
+    }
+
+    // Lets the table reach the label.
+    fn reach(&mut self, label: u32) -> Result<(), AllocError>
+        ensures same { OnOk result ((q : ℕ) → maker_at self.new.made q ≡ maker_at self.old.made q) }
+        ensures len { OnOk result (label < length self.new.made) }
+        ensures phase { self.new.phase ≡ self.old.phase }
+    {
+        let place = label as usize;
+        if self.makers.len() <= place {
+            self.makers.resize(place + 1, None)?;
+        }
+        Ok(())
+    }
+
+    // The worker makes the label, by the event of this number.
+    fn make(&mut self, label: u32, worker: u32, event: u32) -> Result<(), AllocError>
+        ensures ok { OnOk result ((before : List ALine) (len : ℕ) → Remembers self.old before
+            → Remembers self.new (Allocate worker label len ∷ before)) }
+        ensures recalls { OnOk result ((workers len : ℕ) (before : List ALine) → Recalls workers self.old before
+            → event ≡ width_in workers before → Recalls workers self.new (Allocate worker label len ∷ before)) }
+        ensures phase { self.new.phase ≡ self.old.phase }
+    {
+        self.reach(label)?;
+        self.makers[label as usize] = Some(Maker {
+            worker,
+            phase: self.phase,
+            event,
+        });
+        Ok(())
+    }
+
+    fn end_phase(&mut self)
+        requires { self.old.phase + 1 < 2 ^ 32 }
+        ensures remembers { (before : List ALine) → Remembers self.old before
+            → Remembers self.new (Phase ∷ before) }
+        ensures made { self.new.made ≡ self.old.made }
+        ensures phase { self.new.phase ≡ self.old.phase + 1 }
+    {
+        self.phase += 1;
+    }
+
+    /// Takes a line as one of those before, where so many events are before it.
+    pub fn remember(&mut self, line: &Line, events: u32) -> Result<(), AllocError>
+        requires { self.old.phase + 1 < 2 ^ 32 }
+        ensures ok { OnOk result ((before : List ALine) → Remembers self.old before
+            → Remembers self.new (line.now ∷ before)) }
+        ensures recalls { OnOk result ((workers : ℕ) (before : List ALine) → Recalls workers self.old before
+            → events ≡ width_in workers before → Recalls workers self.new (line.now ∷ before)) }
+        ensures phase { self.new.phase ≤ self.old.phase + 1 }
+    {
+        match line {
+            Line::Allocate { worker, label, .. } => self.make(*label, *worker, events)?,
+            Line::Phase => self.end_phase(),
+            Line::Release { .. } | Line::Write { .. } | Line::Read { .. } | Line::Drain { .. } => {}
+        }
+        Ok(())
+    }
+}

@@ -1,0 +1,56 @@
+//! What labels stand for behind a phase, by what the records show.
+ghost use Rattle.std.specs.Prelude.{◌≡◌, IfOk, OnOk};
+ghost use Rattle.tlsf_calls.specs.Entries.{made_by as made};
+ghost use Rattle.tlsf_lines.specs.OwnMakers.{with_line};
+ghost use Rattle.tlsf_lines.specs.Phases.{known_behind, known_in};
+ghost use Rattle.tlsf_lines.specs.Phases as spelled;
+
+use crate::line::Line;
+use crate::names::Names;
+use crate::reply_lines::is_taken;
+use std::alloc::{AllocError, Global};
+use tlsf_calls::{Entry, Reply};
+use tlsf_heap::Name;
+
+// The name that a reply gives, where it gives one.
+fn made_by(reply: Reply) -> Option<Name>
+    ensures { result ≡ made reply }
+{
+    match reply {
+        Reply::Made(name) => Some(name),
+        _ => None,
+    }
+}
+
+/// The names that the calls of a record made, call by call. What a drain took is no call of the script.
+pub fn names_in(alloc: Global, entries: &[Entry]) -> Result<Vec<Option<Name>>, AllocError>
+    ensures { IfOk result (λ names. names.items ≡ spelled.names_in entries.now) }
+{
+    let mut names = Vec::new(alloc);
+    for entry in entries {
+        if !is_taken(entry.call) {
+            names.push(made_by(entry.reply))?;
+        }
+    }
+    Ok(names)
+}
+
+// Gives the label that a line makes the name that its call made.
+fn learn_line(names: &mut Names, line: Line, name: Option<Name>) -> Result<(), AllocError>
+    ensures { OnOk result (known_in names.new ≡ with_line (known_in names.old) line name) }
+{
+    if let Line::Allocate { label, .. } = line {
+        names.insert(label, name)?;
+    }
+    Ok(())
+}
+
+/// Gives the labels of a worker's lines the names that its calls made.
+pub fn learn(names: &mut Names, lines: &[Line], made: &[Option<Name>]) -> Result<(), AllocError>
+    ensures { OnOk result (known_in names.new ≡ known_behind (known_in names.old) lines.now made.now) }
+{
+    for k in 0..lines.len() {
+        learn_line(names, lines[k], made.get(k).copied().flatten())?;
+    }
+    Ok(())
+}

@@ -1,0 +1,62 @@
+//! The lines of a trace: what is read, checked whole, and the reply lines that tell what a run answered.
+//!
+//! A trace is a header, `tlsf 1 N W C`, and then lines, each with its line feed:
+//!
+//! | Line | Says |
+//! |---|---|
+//! | `a w L len` | worker w allocates len bytes and makes label L |
+//! | `f w L` | worker w releases the block of label L |
+//! | `p w L at HEX` | worker w writes the bytes at byte `at` of the block |
+//! | `g w L at n` | worker w reads n bytes at byte `at` of the block |
+//! | `d w n` | worker w drains at most n posts |
+//! | `phase` | a phase ends |
+//!
+//! [`read_all`] reads a text. [`script_in`] turns it into the events of a replay, [`trace_in`] into the lines of a race, each
+//! with the first fault of a text that spells no trace. [`write_replies`] writes what the events were answered, and
+//! [`write_out`] hands a text on. No worker stands here: who runs the events is `tlsf_trace`.
+//!
+//! Contracts see the trace that a text spells, or its first fault, as `trace_of`, its events as `events_of`, and reply lines
+//! as `reply_text`.
+#![tactic(auto)]
+
+mod fields;
+mod header;
+mod input;
+mod labels;
+mod laws;
+mod learning;
+mod line;
+mod line_fault;
+mod maker;
+mod makers;
+mod names;
+mod numbers;
+mod parse_error;
+mod payload;
+mod phases;
+mod pieces;
+mod read_error;
+mod reading;
+mod records;
+mod reply_lines;
+mod script;
+mod sink;
+mod texts;
+mod trace;
+mod trace_fault;
+mod word;
+
+pub use header::Header;
+pub use input::read_all;
+pub use laws::{first_fault, pieces_join};
+pub use line::Line;
+pub use names::Names;
+pub use phases::{PhaseScripts, cut_phase};
+pub use read_error::ReadError;
+pub use records::write_phase;
+pub use reply_lines::write_replies;
+pub use script::Script;
+pub use sink::{WriteError, write_out};
+pub use texts::{script_in, trace_in};
+pub use trace::Trace;
+pub use trace_fault::TraceFault;

@@ -1,0 +1,128 @@
+ghost use Rattle.std.specs.Prelude.{◌≡◌, ◌<◌, List};
+ghost use Rattle.tlsf_lines.specs.LabelMemory.{Remembers};
+ghost use Rattle.tlsf_lines.specs.Lines;
+ghost use Rattle.tlsf_lines.specs.Trace as spelled;
+ghost use Rattle.tlsf_lines.specs.declared.line.Line.{Line as ALine};
+
+use crate::fields::{cut_field, line_of};
+use crate::labels::Labels;
+use crate::line_fault::LineFault;
+use crate::reading::line_of_word;
+use crate::word::word_of;
+use tlsf_calls::Chunk;
+
+/// A line of a trace behind its header: one call that a worker makes, or the end of a phase. A worker is less than the
+/// header's number of workers, a label at most 65535, and `len` and `at` are bytes of a payload, at most 4294967295.
+///
+/// ```
+/// // "a 0 1 8\n" is Line::Allocate { worker: 0, label: 1, len: 8 }
+/// ```
+#[derive(Clone, Copy)]
+pub enum Line {
+    /// `a w L len`: the worker allocates `len` bytes and makes the label.
+    Allocate {
+        worker: u32,
+        label: u32,
+        len: u32,
+    },
+    /// `f w L`: the worker releases the block of the label.
+    Release {
+        worker: u32,
+        label: u32,
+    },
+    /// `p w L at HEX`: the worker writes 1 to 64 bytes at byte `at` of the block.
+    Write {
+        worker: u32,
+        label: u32,
+        at: u32,
+        bytes: Chunk,
+    },
+    /// `g w L at n`: the worker reads `n` bytes, 1 to 64, at byte `at` of the block.
+    Read {
+        worker: u32,
+        label: u32,
+        at: u32,
+        n: u32,
+    },
+    /// `d w n`: the worker drains at most so many posts, 1 to 8192.
+    Drain {
+        worker: u32,
+        most: u32,
+    },
+    /// `phase`: a phase ends.
+    Phase,
+}
+
+impl Line {
+    ghost use Rattle.std.specs.Prelude.{◌≡◌};
+    ghost use Rattle.tlsf_lines.specs.Lines;
+    ghost use Rattle.tlsf_lines.specs.Phases;
+    ghost use Rattle.tlsf_lines.specs.Records;
+
+    /// Whether the line is a call of a worker, and not the end of a phase.
+    pub(crate) fn is_call(&self) -> bool
+        ensures { result ≡ Lines.is_call self.now }
+    {
+        match self {
+            Line::Phase => false,
+            Line::Allocate { .. }
+            | Line::Release { .. }
+            | Line::Write { .. }
+            | Line::Read { .. }
+            | Line::Drain { .. } => true,
+        }
+    }
+
+    /// Whether the line is a call of this worker.
+    pub(crate) fn is_of(&self, caller: u32) -> bool
+        ensures { result ≡ Phases.is_line_of caller self.now }
+    {
+        match self {
+            Line::Phase => false,
+            Line::Allocate { worker, .. }
+            | Line::Release { worker, .. }
+            | Line::Write { worker, .. }
+            | Line::Read { worker, .. }
+            | Line::Drain { worker, .. } => *worker == caller,
+        }
+    }
+
+    /// The label that the line makes or uses; a drain and the end of a phase have none.
+    pub(crate) fn label(&self) -> Option<u32>
+        ensures { result ≡ Records.label_in self.now }
+    {
+        match self {
+            Line::Allocate { label, .. }
+            | Line::Release { label, .. }
+            | Line::Write { label, .. }
+            | Line::Read { label, .. } => Some(*label),
+            Line::Drain { .. } | Line::Phase => None,
+        }
+    }
+}
+
+/// The line that a piece says, after the lines that the labels remember.
+#[tactic(auto, unfolding(crate::specs::Trace::line_in))]
+pub fn line_in(workers: u32, labels: &Labels, piece: &[u8]) -> Result<Line, LineFault>
+    requires { 0 < workers }
+    ensures { (before : List ALine) → Remembers labels.now before
+        → spelled.line_in workers before piece.now ≡ result }
+{
+    let Some(line) = line_of(piece) else {
+        return Err(LineFault::BadLine);
+    };
+    let (first, fields) = cut_field(line);
+    let Some(word) = word_of(first) else {
+        return Err(LineFault::BadLine);
+    };
+    let Some(said) = line_of_word(workers, word, fields) else {
+        return Err(LineFault::BadLine);
+    };
+    let Some(line) = said else {
+        return Err(LineFault::BadNumber);
+    };
+    if !labels.is_in_order(&line) {
+        return Err(LineFault::LabelOrder);
+    }
+    Ok(line)
+}

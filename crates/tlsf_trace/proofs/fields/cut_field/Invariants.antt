@@ -1,5 +1,0 @@
-use Rattle.tlsf_trace.proofs.CutSteps.{NoSpaces}
-use Rattle.tlsf_trace.proofs.fields.cut_field.Given as goal
-
-abbrev pub invariant-loop-i : goal.invariant-loop-i
-invariant-loop-i l = NoSpaces l.line l.i

@@ -1,5 +1,0 @@
-use Rattle.tlsf_trace.proofs.LabelSteps.{phase_ends}
-use Rattle.tlsf_trace.proofs.labels.Labels.end_phase.Goals as goal
-
-pub returns-clause-remembers : goal.returns-clause-remembers
-returns-clause-remembers c = λ before known. phase_ends _ before (rw (← c.self.view_is) at known)

@@ -1,7 +1,0 @@
-use Rattle.std.proofs.Common.{◌≡◌, take}
-use Rattle.tlsf_trace.specs.Phases.{known_behind, known_in}
-use Rattle.tlsf_trace.proofs.learning.learn.Given as goal
-
--- the labels of the lines so far have their names
-abbrev pub invariant-loop-k : goal.invariant-loop-k
-invariant-loop-k l = known_in l.names ≡ known_behind (known_in l.fn.names) (take l.k l.lines) l.made
