@@ -1,10 +1,12 @@
 -- The lemmas of this crate, a line a file.
 --   Few: a ledger is no longer than a list that has all its names
+--   Moments: what is live in a race is held by the programs, or under way at some moment
 --   Shares: what is live is held by the programs, or its name waits in a lane
 --   ShortLanes: no event makes a lane hold more posts than its capacity
 --   Told: answers as they are handed on tell the same of what is held and of bytes
 --   Turns: the entries of a list of events lead from the first world to the last
 pub mod Few
+pub mod Moments
 pub mod Shares
 pub mod ShortLanes
 pub mod Told

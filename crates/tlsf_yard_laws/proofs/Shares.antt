@@ -21,13 +21,13 @@ use Rattle.tlsf_laws.specs.Kinds.{Ledger, ledger_after}
 use Rattle.tlsf_laws.proofs.Names.{same_is, same_self}
 use Rattle.tlsf_laws.proofs.Ledgers.{Agrees, agrees_call, live_agrees, lookup, lookup_without}
 use Rattle.tlsf_laws.proofs.ModestCalls.{InPool, is_served, kept, tick_kept}
-use Rattle.tlsf_crew.specs.yard.Bytes.{bytes_of}
+use Rattle.tlsf_calls.specs.Bytes.{bytes_of}
 use Rattle.tlsf_crew.specs.yard.History.{RunsTo, answer_told, answers_on, call_on_own, calls_on, handed_on, post_made, post_taken, posts_made, posts_taken}
-use Rattle.tlsf_crew.specs.declared.yard.entry.Entry.{Entry}
-use Rattle.tlsf_crew.specs.declared.yard.call.Call.{Call}
-use Rattle.tlsf_crew.specs.declared.yard.call.Call.TheVariants.{Allocate, Release, Write, Read, Take, Drain}
-use Rattle.tlsf_crew.specs.declared.yard.reply.Reply.{Reply}
-use Rattle.tlsf_crew.specs.declared.yard.reply.Reply.TheVariants.{Made, Freed, Posted, Wrote, Got, Took as Taken, Empty, Drained, Refused}
+use Rattle.tlsf_calls.specs.declared.entry.Entry.{Entry}
+use Rattle.tlsf_calls.specs.declared.call.Call.{Call}
+use Rattle.tlsf_calls.specs.declared.call.Call.TheVariants.{Allocate, Release, Write, Read, Take, Drain}
+use Rattle.tlsf_calls.specs.declared.reply.Reply.{Reply}
+use Rattle.tlsf_calls.specs.declared.reply.Reply.TheVariants.{Made, Freed, Posted, Wrote, Got, Took as Taken, Empty, Drained, Refused}
 use Rattle.tlsf_crew.proofs.lemmas.yard.JoinedEntries.{told_other, told_own, told_then}
 use Rattle.tlsf_yard_laws.specs.Sharing.{AreSparing, IsSparing, unreleased_after, with_call, without_post}
 use Rattle.tlsf_yard_laws.proofs.Told.{noted_same, served_on}
@@ -154,7 +154,7 @@ take_asks made i at (Take from) (Refused why) p e = absurd (no_post p e)
 take_asks made i at (Drain most) reply p e = absurd (no_post p e)
 
 -- an entry that tells an allocate is one
-allocate_asks : (made : List (Option Name)) (at : ℕ) (call : Call) (reply : Reply) (m : ℕ) → call_on_own made at call reply ≡ Some (heap.Allocate m) → call ≡ Allocate m
+pub allocate_asks : (made : List (Option Name)) (at : ℕ) (call : Call) (reply : Reply) (m : ℕ) → call_on_own made at call reply ≡ Some (heap.Allocate m) → call ≡ Allocate m
 allocate_asks made at (Allocate len) reply m e = let same : len ≡ m = cc in ap Allocate same
 allocate_asks made at (Release target) reply m e = absurd (on _ e)
   where

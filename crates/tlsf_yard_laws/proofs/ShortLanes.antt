@@ -6,9 +6,9 @@ use Rattle.std.proofs.lemmas.Bool.Decides.{nat_tests}
 use Rattle.std.proofs.lemmas.List.{length-drop, length_push}
 use Rattle.tlsf_heap.specs.declared.name.Name.{Name}
 use Rattle.tlsf_post.specs.declared.post.Post.{Post}
-use Rattle.tlsf_crew.specs.yard.Bytes.{bytes_of}
-use Rattle.tlsf_crew.specs.declared.yard.call.Call.{Call}
-use Rattle.tlsf_crew.specs.declared.yard.call.Call.TheVariants.{Allocate, Release, Write, Read, Take, Drain}
+use Rattle.tlsf_calls.specs.Bytes.{bytes_of}
+use Rattle.tlsf_calls.specs.declared.call.Call.{Call}
+use Rattle.tlsf_calls.specs.declared.call.Call.TheVariants.{Allocate, Release, Write, Read, Take, Drain}
 use Rattle.tlsf_crew.specs.yard.World.{World, Replayed, Draining, called, draining, drained_all, drained_below, drained_lane, name_of, posting, reading_named, releasing_named, taking, taking_next, took_first, took_more, with_waiting, writing_named}
 use Rattle.tlsf_crew.proofs.lemmas.yard.LaneChanges.{edited_other, edited_same}
 use Rattle.tlsf_crew.proofs.lemmas.yard.OneEvent.{from_other, from_own, releasing_far, releasing_post, taking_far, taking_lane, taking_own}

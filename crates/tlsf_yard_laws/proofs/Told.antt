@@ -15,7 +15,7 @@ use Rattle.tlsf_laws.proofs.ModestCalls.{serves, suffices}
 use Rattle.tlsf_laws.proofs.Looks.{told_new}
 use Rattle.tlsf_crew.specs.yard.World.{World, heap_in, replies}
 use Rattle.tlsf_crew.specs.yard.History.{RunsTo, calls_on, answers_on, handed_on}
-use Rattle.tlsf_crew.specs.declared.yard.event.Event.{Event}
+use Rattle.tlsf_calls.specs.declared.event.Event.{Event}
 use Rattle.tlsf_crew.proofs.lemmas.yard.AllEntries.{replies_tell}
 use Rattle.tlsf_crew.proofs.lemmas.yard.JoinedEntries.{runs_then}
 use Rattle.tlsf_crew.proofs.lemmas.threads.RecordHistory.{race_runs}

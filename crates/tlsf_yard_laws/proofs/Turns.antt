@@ -13,13 +13,13 @@ use Rattle.tlsf_laws.proofs.Ledgers.{Agrees, new_agrees}
 use Rattle.tlsf_laws.proofs.ModestCalls.{InPool, opens}
 use Rattle.tlsf_crew.specs.yard.World.{World, Replayed, after, answered, begun, called, heap_in, replies}
 use Rattle.tlsf_crew.specs.yard.History.{AreTakes, RunsTo, TellsCall, answer_told, answers_on, call_on_own, calls_on, post_made, post_taken, posts_made, posts_taken}
-use Rattle.tlsf_crew.specs.declared.yard.entry.Entry.{Entry}
-use Rattle.tlsf_crew.specs.declared.yard.event.Event.{Event}
-use Rattle.tlsf_crew.specs.declared.yard.call.Call.{Call}
-use Rattle.tlsf_crew.specs.declared.yard.call.Call.TheVariants.{Allocate, Release, Write, Read, Take, Drain}
-use Rattle.tlsf_crew.specs.declared.yard.target.Target.{Target}
-use Rattle.tlsf_crew.specs.declared.yard.reply.Reply.TheVariants.{Drained, Refused}
-use Rattle.tlsf_crew.specs.declared.yard.crew_refusal.CrewRefusal.TheVariants.{Stranger}
+use Rattle.tlsf_calls.specs.declared.entry.Entry.{Entry}
+use Rattle.tlsf_calls.specs.declared.event.Event.{Event}
+use Rattle.tlsf_calls.specs.declared.call.Call.{Call}
+use Rattle.tlsf_calls.specs.declared.call.Call.TheVariants.{Allocate, Release, Write, Read, Take, Drain}
+use Rattle.tlsf_calls.specs.declared.target.Target.{Target}
+use Rattle.tlsf_calls.specs.declared.reply.Reply.TheVariants.{Drained, Refused}
+use Rattle.tlsf_calls.specs.declared.crew_refusal.CrewRefusal.TheVariants.{Stranger}
 use Rattle.tlsf_crew.proofs.lemmas.yard.AllEntries.{called_knows, called_told, more_knows}
 use Rattle.tlsf_crew.proofs.lemmas.yard.DrainEntries.{ToldOnce}
 use Rattle.tlsf_crew.proofs.lemmas.yard.EventSteps.{after_far, after_near}

@@ -1,3 +1,4 @@
 pub mod Yards
 pub mod Races
 pub mod Sharing
+pub mod Moments

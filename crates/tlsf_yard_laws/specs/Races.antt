@@ -12,9 +12,9 @@ use Rattle.tlsf_laws.specs.Contents.{contents, after_all}
 use Rattle.tlsf_crew.specs.yard.World.{World, heap_in, replies}
 use Rattle.tlsf_crew.specs.yard.History.{RunsTo, calls_on, answers_on}
 use Rattle.tlsf_crew.specs.threads.Race.{IsRace, record_of}
-use Rattle.tlsf_crew.specs.declared.yard.event.Event.{Event}
-use Rattle.tlsf_crew.specs.declared.yard.entry.Entry.{Entry}
-use Rattle.tlsf_crew.specs.declared.yard.call.Call.{Call}
+use Rattle.tlsf_calls.specs.declared.event.Event.{Event}
+use Rattle.tlsf_calls.specs.declared.entry.Entry.{Entry}
+use Rattle.tlsf_calls.specs.declared.call.Call.{Call}
 use Rattle.tlsf_yard_laws.specs.Yards.{IsNew}
 
 -- heap j of a world was new once, and has had these calls since, which got these answers

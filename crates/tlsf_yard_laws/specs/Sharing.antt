@@ -11,9 +11,9 @@ use Rattle.tlsf_laws.specs.Contents.{is_same}
 use Rattle.tlsf_laws.specs.Kinds.{Ledger, ledger_after}
 use Rattle.tlsf_crew.specs.yard.World.{World, replies}
 use Rattle.tlsf_crew.specs.yard.History.{answer_told, answers_on, call_on_own, post_made}
-use Rattle.tlsf_crew.specs.declared.yard.entry.Entry.{Entry}
-use Rattle.tlsf_crew.specs.declared.yard.event.Event.{Event}
-use Rattle.tlsf_crew.specs.declared.yard.call.Call.TheVariants.{Allocate}
+use Rattle.tlsf_calls.specs.declared.entry.Entry.{Entry}
+use Rattle.tlsf_calls.specs.declared.event.Event.{Event}
+use Rattle.tlsf_calls.specs.declared.call.Call.TheVariants.{Allocate}
 use Rattle.tlsf_yard_laws.specs.Yards.{IsNew}
 
 -- the ledger after a call on the heap itself, where there is one

@@ -11,7 +11,7 @@ use Rattle.tlsf_laws.specs.Pools.{pool_words, AreModest, HasRoomFor, IsServed}
 use Rattle.tlsf_laws.specs.Contents.{contents, after_all}
 use Rattle.tlsf_crew.specs.yard.World.{World, heap_in, replies}
 use Rattle.tlsf_crew.specs.yard.History.{calls_on, answers_on}
-use Rattle.tlsf_crew.specs.declared.yard.event.Event.{Event}
+use Rattle.tlsf_calls.specs.declared.event.Event.{Event}
 
 -- heap j of a world is new
 pub record IsNew (w : World) (j words first : ℕ) : Type 0 where

@@ -1,3 +1,4 @@
+ghost use Rattle.tlsf_yard_laws.specs.Moments.{OrdersHaveMoments, RaceSharedPoolServes};
 ghost use Rattle.tlsf_yard_laws.specs.Sharing.{SharedPoolServes};
 
 /// How large the heap of a worker must be, by what the programs hold and by what the lanes hold.
@@ -15,4 +16,27 @@ ghost use Rattle.tlsf_yard_laws.specs.Sharing.{SharedPoolServes};
 /// ```
 pub fn lanes_add_their_capacity()
     ensures { SharedPoolServes }
+{}
+
+/// The same in a race, at the moments of its owner's requests.
+///
+/// A moment of the owner's record is how far it has come, and with it how far each other worker has: any part of that worker's
+/// record of which all is posted that the owner took from it, and at most C posts more, those under way. The blocks that the owner's
+/// answers leave live are held by the programs, but for those whose names are under way. A heap with the words of
+/// `tlsf_laws::pool_never_refuses` for `most` + (n - 1) * C blocks of `len` bytes serves each request of its worker that is for at
+/// most `len` bytes and is made at some such moment at which fewer than `most` are held, as long as the ticks last.
+///
+/// So it is enough that one moment which the records admit is sparing, for each request by itself. That the calls of a race have
+/// an order in which no lane is overfull no clause says: a record orders no post against another worker's take.
+///
+/// ```text
+/// worker 0: Allocate(8): Made(x), Allocate(8): Made(y), Take(1): Took(x, Ok)      worker 1: Release(x): Posted
+/// at worker 0's second request x is held where worker 1 has told nothing yet, and under way where it has told its release
+/// ```
+pub fn race_adds_its_lanes()
+    ensures served { RaceSharedPoolServes }
+
+    // In any one order of all calls in which each post is taken after it was made and no lane is ever overfull, there is a moment
+    // before each request: what waits is under way.
+    ensures moments { OrdersHaveMoments }
 {}

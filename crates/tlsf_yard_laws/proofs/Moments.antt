@@ -1,0 +1,268 @@
+-- Request by request: what is live is held by the programs or under way at some moment, so each request of a race finds room.
+use Rattle.std.proofs.Common.{◌==◌, ◌≡◌, ◌≢◌, ℕ, zero, suc, ◌+◌, ◌-◌, ◌*◌, ◌<◌, ◌≤◌, ◌⊎◌, Bool, true, false, cond, eqb, List, [], ◌∷◌, ◌++◌, length, map, Option, Some, None, refl, sym, ap, ◌∙◌, subst, inl, inr, arith, length-append, append_assoc, append-nil, eq-eqb}
+use Rattle.std.specs.List.{cons_option, filter_map}
+use mathlib.Core.List.{IsPrefix}
+use Rattle.std.proofs.lemmas.Bool.{cases_eq, false≢true}
+use Rattle.std.proofs.lemmas.List.{length-map}
+use Rattle.std.proofs.lemmas.List.Elements.{filter-append}
+use Rattle.tlsf_heap.specs.Blocks.{HeapState}
+use Rattle.tlsf_heap.specs.Calls as heap
+use Rattle.tlsf_heap.specs.Lawful.{IsLawful}
+use Rattle.tlsf_heap.specs.declared.name.Name.{Name}
+use Rattle.tlsf_heap.proofs.Outcomes.{lawful_run}
+use Rattle.tlsf_post.specs.declared.post.Post.{Post}
+use Rattle.tlsf_laws.specs.Held.{held_after, held_after_all}
+use Rattle.tlsf_laws.specs.Pools.{AreModest, IsModest}
+use Rattle.tlsf_laws.specs.Contents.{is_same}
+use Rattle.tlsf_laws.specs.Kinds.{Ledger, ledger_after, ledger_after_all}
+use Rattle.tlsf_laws.proofs.Names.{same_is, same_self}
+use Rattle.tlsf_laws.proofs.Around.{new_lawful}
+use Rattle.tlsf_laws.proofs.Ledgers.{Agrees, agrees_run, live_agrees, lookup, new_agrees}
+use Rattle.tlsf_crew.specs.yard.World.{World, heap_in}
+use Rattle.tlsf_crew.specs.yard.History.{RunsTo, answer_told, answers_on, call_on_own, calls_on, entries_of, handed_on, post_made, post_taken}
+use Rattle.tlsf_crew.specs.threads.Race.{IsRace, record_of}
+use Rattle.tlsf_calls.specs.declared.call.Call.{Call}
+use Rattle.tlsf_calls.specs.declared.entry.Entry.{Entry}
+use Rattle.tlsf_crew.proofs.lemmas.threads.RecordHistory.{race_always}
+use Rattle.tlsf_crew.proofs.lemmas.yard.JoinedEntries.{length_run, runs_then, told_other, told_own, told_then}
+use Rattle.tlsf_yard_laws.specs.Races.{HasPast}
+use Rattle.tlsf_yard_laws.specs.Sharing.{most_under_way, without_post}
+use Rattle.tlsf_yard_laws.specs.Moments.{OrdersHaveMoments, RaceSharedPoolServes, all_under_way, unreleased, AreSparingInRace}
+use Rattle.tlsf_yard_laws.proofs.Few.{IsAmong, among_left, among_right, few, names_of, posted, still_among}
+use Rattle.tlsf_yard_laws.proofs.Shares.{allocate_asks}
+use Rattle.tlsf_yard_laws.proofs.Told.{noted_same, past_holds, race_serves}
+
+-- ---- what is live is held, or its name is under way
+
+found_among : (name : Name) (n : ℕ) (l : Ledger) → lookup name l ≡ Some n → IsAmong name (names_of l)
+found_among name n [] e = absurd (none_some e)
+  where
+    none_some : ◌≡◌ {A = Option ℕ} None (Some n) → ⊥
+    none_some e = cc
+found_among name n (x ∷ l) e = at (found_among name n l) (is_same x.0 name) refl e
+  where
+    at : (lookup name l ≡ Some n → IsAmong name (names_of l)) → (c : Bool) → is_same x.0 name ≡ c → cond c (Some x.1) (lookup name l) ≡ Some n → IsAmong name (names_of (x ∷ l))
+    at more true same e = inl (same_is x.0 name same)
+    at more false same e = inr (more e)
+
+held_or_posted : (name : Name) (l : Ledger) (ps : List Post) → IsAmong name (names_of l) → IsAmong name (names_of (unreleased l ps)) ⊎ IsAmong name (posted ps)
+held_or_posted name l [] a = inl a
+held_or_posted name l (p ∷ ps) a = at (held_or_posted name (without_post l (Some p)) ps) (is_same p.name name) refl
+  where
+    at : (IsAmong name (names_of (without_post l (Some p))) → IsAmong name (names_of (unreleased l (p ∷ ps))) ⊎ IsAmong name (posted ps))
+        → (c : Bool) → is_same p.name name ≡ c → IsAmong name (names_of (unreleased l (p ∷ ps))) ⊎ IsAmong name (posted (p ∷ ps))
+    at more true same = inr (inl (same_is p.name name same))
+    at more false same =
+        let ne : p.name ≡ name → ⊥ = λ q. false≢true (sym same ∙ subst (λ (x : Name). is_same p.name x ≡ true) q (same_self p.name)) in
+        elim (more (still_among p.name name l ne a)) [ inl here ↦ inl here | inr away ↦ inr (inr away) ]
+
+-- a ledger that agrees with a heap has no more entries than are held and under way
+unreleased_few : (h : HeapState) (l : Ledger) (ps : List Post) → Agrees h l → length l ≤ length (unreleased l ps) + length ps
+unreleased_few h l ps agrees =
+    let u = unreleased l ps in
+    let count : length l ≤ length (names_of u ++ posted ps) = few l (names_of u ++ posted ps) agrees.apart (λ name n found. elim (held_or_posted name l ps (found_among name n l found)) [
+      | inl here ↦ among_left name (names_of u) (posted ps) here
+      | inr away ↦ among_right name (names_of u) (posted ps) away
+    ]) in
+    omega (arith, count, length-append (names_of u) (posted ps), length-map u (λ entry. entry.0), length-map ps (λ post. post.name))
+
+-- ---- no more is under way than the lanes hold
+
+one_more : (k capacity x y : ℕ) → x ≤ k * capacity → y ≤ capacity → x + y ≤ (k + 1) * capacity
+one_more k capacity x y a b = omega arith
+
+lane_part : (c : Bool) (capacity : ℕ) (ps : List Post) → (c ≡ false → length ps ≤ capacity) → length (cond {A = List Post} c [] ps) ≤ capacity
+lane_part true capacity ps le = omega arith
+lane_part false capacity ps le = le refl
+
+module _ (j capacity : ℕ) (lanes : ℕ → List Post) where
+  -- from all workers below k, and from all but j itself
+  way_below : (k : ℕ) → ((i : ℕ) → i < k → i ≢ j → length (lanes i) ≤ capacity) → length (all_under_way j lanes k) ≤ k * capacity
+  way_below zero short = omega arith
+  way_below (suc k) short =
+      let rest = way_below k (λ i lt ne. short i (omega (arith, lt)) ne) in
+      let both = length-append (all_under_way j lanes k) (cond (eqb k j) [] (lanes k)) in
+      let one = lane_part (eqb k j) capacity (lanes k) (λ e. short k (omega arith) (λ q. false≢true (sym e ∙ eq-eqb k j q))) in
+      omega (arith, both, one_more k capacity _ _ rest one)
+
+  way_few : (k : ℕ) → j < k + 1 → ((i : ℕ) → i < k + 1 → i ≢ j → length (lanes i) ≤ capacity) → length (all_under_way j lanes (suc k)) ≤ k * capacity
+  way_few zero lt short =
+      let same : eqb 0 j ≡ true = eq-eqb 0 j (omega arith) in
+      let none : length (all_under_way j lanes (suc zero)) ≡ 0 = ap (λ (c : Bool). length (cond {A = List Post} c [] (lanes 0))) same in
+      omega arith
+  way_few (suc k) lt short =
+      let both = length-append (all_under_way j lanes (suc k)) (cond (eqb (suc k) j) [] (lanes (suc k))) in
+      elim (cases_eq (suc k) j) [
+        | inl same ↦
+            let rest = way_below (suc k) (λ i lt ne. short i (omega (arith, lt)) ne) in
+            let none : length (cond {A = List Post} (eqb (suc k) j) [] (lanes (suc k))) ≡ 0 = ap (λ (c : Bool). length (cond {A = List Post} c [] (lanes (suc k)))) (eq-eqb (suc k) j same) in
+            omega arith
+        | inr differ ↦
+            let rest = way_few k (omega arith) (λ i lt ne. short i (omega (arith, lt)) ne) in
+            let one = lane_part (eqb (suc k) j) capacity (lanes (suc k)) (λ e. short (suc k) (omega arith) differ) in
+            omega (arith, both, one_more k capacity _ _ rest one)
+      ]
+
+-- ---- the ledger of a heap, as it is told
+
+all_noted : (l : Ledger) (calls : List heap.Call) (answers : List heap.Answer) → ledger_after_all l calls (map handed_on answers) ≡ ledger_after_all l calls answers
+all_noted l [] answers = refl
+all_noted l (call ∷ calls) [] = refl
+all_noted l (call ∷ calls) (answer ∷ answers) = ap (λ (l : Ledger). ledger_after_all l calls (map handed_on answers)) (noted_same l call answer) ∙ all_noted (ledger_after l call answer) calls answers
+
+past_agrees : (j words first : ℕ) (calls : List heap.Call) (answers : List heap.Answer) (g : HeapState) → RunsTo (heap.opened j words first) calls answers g → 4 ≤ words
+    → Agrees g (ledger_after_all [] calls answers)
+past_agrees j words first calls answers g runs four =
+    let own : List heap.Answer = (heap.run (heap.opened j words first) calls).0 in
+    let noted : ledger_after_all [] calls own ≡ ledger_after_all [] calls answers = sym (all_noted [] calls own) ∙ ap (ledger_after_all [] calls) runs.told in
+    subst (λ (h : HeapState). Agrees h (ledger_after_all [] calls answers)) runs.left
+    (subst (Agrees (heap.run (heap.opened j words first) calls).1) noted (agrees_run (heap.opened j words first) calls [] (new_agrees j words first) (new_lawful j words first four)))
+
+as_many : (h g : HeapState) (calls : List heap.Call) (answers : List heap.Answer) → RunsTo h calls answers g → length calls ≡ length answers
+as_many h g calls answers r = sym (length_run h calls) ∙ (sym (length-map (heap.run h calls).0 handed_on) ∙ ap length r.told)
+
+-- ---- calls in turn
+
+held_more : (held : ℕ) (xs ys : List heap.Call) (zs bs : List heap.Answer) → length xs ≡ length zs → held_after_all held (xs ++ ys) (zs ++ bs) ≡ held_after_all (held_after_all held xs zs) ys bs
+held_more held [] ys [] bs e = refl
+held_more held [] ys (a ∷ zs) bs e = absurd (omega arith)
+held_more held (x ∷ xs) ys [] bs e = absurd (omega arith)
+held_more held (x ∷ xs) ys (a ∷ zs) bs e = held_more (held_after held x a) xs ys zs bs (omega arith)
+
+modest_more : (most len held : ℕ) (xs ys : List heap.Call) (zs bs : List heap.Answer) → length xs ≡ length zs → AreModest most len held xs zs → AreModest most len (held_after_all held xs zs) ys bs
+    → AreModest most len held (xs ++ ys) (zs ++ bs)
+modest_more most len held [] ys [] bs e m n = n
+modest_more most len held [] ys (a ∷ zs) bs e m n = absurd (omega arith)
+modest_more most len held (x ∷ xs) ys [] bs e m n = absurd (omega arith)
+modest_more most len held (x ∷ xs) ys (a ∷ zs) bs e m n = (m.0, modest_more most len (held_after held x a) xs ys zs bs (omega arith) m.1 n)
+
+-- ---- a race
+
+module _ (w v : World) (scripts : List (List Call)) (records : List (List Entry)) (race : IsRace w scripts records v) (j words first most len : ℕ) (calls : List heap.Call) (answers : List heap.Answer)
+    (past : HasPast w j words first calls answers) (four : 4 ≤ words) (sparing : AreSparingInRace w race.made records j most len calls answers) where
+  abbrev all_calls : List Entry → List heap.Call
+  all_calls es = calls ++ calls_on j (race.made j) es
+
+  abbrev all_answers : List Entry → List heap.Answer
+  all_answers es = answers ++ answers_on j es
+
+  lawful : IsLawful (heap_in w j)
+  lawful = subst IsLawful past.since.left (lawful_run (heap.opened j words first) calls (new_lawful j words first four))
+
+  history : (before later : List Entry) → record_of records j ≡ before ++ later → (g : HeapState) × RunsTo (heap.opened j words first) (all_calls before) (all_answers before) g
+  history before later whole =
+      let t = race_always w v scripts records race before later j lawful past.within whole in
+      (t.between, runs_then (heap.opened j words first) (heap_in w j) t.between calls (calls_on j (race.made j) before) answers (answers_on j before) past.since t.first)
+
+  -- a request is made where less is held than the programs hold and the lanes have
+  modest_call : (before later : List Entry) (e : Entry) (c : heap.Call) → record_of records j ≡ before ++ e ∷ later → call_on_own (race.made j) e.worker e.call e.reply ≡ Some c
+      → IsModest (most + most_under_way w) len (held_after_all 0 (all_calls before) (all_answers before)) c
+  modest_call before later e (heap.Allocate n) whole is =
+      let s = sparing before e n (later, whole) (allocate_asks (race.made j) e.worker e.call e.reply n is) in
+      let now = history before (e ∷ later) whole in
+      let live = ledger_after_all [] (all_calls before) (all_answers before) in
+      let agrees : Agrees now.0 live = past_agrees j words first (all_calls before) (all_answers before) now.0 now.1 four in
+      let held = sym (past_holds j words first (all_calls before) (all_answers before) now.0 now.1 four) ∙ live_agrees now.0 live agrees in
+      let ps = all_under_way j s.moment.under_way (length w.heaps) in
+      let count : length live ≤ length (unreleased live ps) + length ps = unreleased_few now.0 live ps agrees in
+      let away : length ps ≤ most_under_way w = under_way s.moment.under_way s.moment.short in
+      (s.short, omega (arith, held, count, away, s.few))
+    where
+      under_way : (lanes : ℕ → List Post) → ((i : ℕ) → i < length w.heaps → i ≢ j → length (lanes i) ≤ w.capacity) → length (all_under_way j lanes (length w.heaps)) ≤ most_under_way w
+      under_way lanes short = at (length w.heaps) past.within short
+        where
+          at : (n : ℕ) → j < n → ((i : ℕ) → i < n → i ≢ j → length (lanes i) ≤ w.capacity) → length (all_under_way j lanes n) ≤ (n - 1) * w.capacity
+          at zero lt short = absurd (omega arith)
+          at (suc k) lt short =
+              let less : k ≡ suc k - 1 = omega arith in
+              subst (λ (m : ℕ). length (all_under_way j lanes (suc k)) ≤ m * w.capacity) less (way_few j w.capacity lanes k (omega arith) (λ i l ne. short i (omega (arith, l)) ne))
+  modest_call before later e (heap.Release name) whole is = tt
+  modest_call before later e (heap.Write name at bytes) whole is = tt
+  modest_call before later e (heap.Read name at n) whole is = tt
+
+  abbrev Modest : List Entry → List Entry → Type 0
+  Modest before later = AreModest (most + most_under_way w) len (held_after_all 0 (all_calls before) (all_answers before)) (calls_on j (race.made j) later) (answers_on j later)
+
+  -- one entry more
+  next_modest : (before later : List Entry) (e : Entry) → record_of records j ≡ before ++ e ∷ later → Modest (before ++ e ∷ []) later → Modest before (e ∷ later)
+  next_modest before later e whole rest =
+      let now = history before (e ∷ later) whole in
+      let then = history (before ++ e ∷ []) later (whole ∙ sym (append_assoc before (e ∷ []) later)) in
+      let xs = calls_on j (race.made j) (e ∷ []) in
+      let zs = answers_on j (e ∷ []) in
+      let calls_are : all_calls (before ++ e ∷ []) ≡ all_calls before ++ xs =
+      ap (λ l. calls ++ l) (told_then (λ e. call_on_own (race.made j) e.worker e.call e.reply) j before (e ∷ [])) ∙ sym (append_assoc calls (calls_on j (race.made j) before) xs) in
+      let answers_are : all_answers (before ++ e ∷ []) ≡ all_answers before ++ zs =
+      ap (λ l. answers ++ l) (told_then (λ e. answer_told e.call e.reply) j before (e ∷ [])) ∙ sym (append_assoc answers (answers_on j before) zs) in
+      let even = as_many (heap.opened j words first) now.0 (all_calls before) (all_answers before) now.1 in
+      let even_then = as_many (heap.opened j words first) then.0 (all_calls (before ++ e ∷ [])) (all_answers (before ++ e ∷ [])) then.1 in
+      let one : length xs ≡ length zs =
+      omega (arith, even, even_then, ap length calls_are, ap length answers_are, length-append (all_calls before) xs, length-append (all_answers before) zs) in
+      let held : held_after_all 0 (all_calls (before ++ e ∷ [])) (all_answers (before ++ e ∷ [])) ≡ held_after_all (held_after_all 0 (all_calls before) (all_answers before)) xs zs =
+      ap (λ cs. held_after_all 0 cs (all_answers (before ++ e ∷ []))) calls_are ∙ ap (λ l. held_after_all 0 (all_calls before ++ xs) l) answers_are ∙ held_more 0 (all_calls before) xs (all_answers before) zs even in
+      let on = subst (λ (k : ℕ). AreModest (most + most_under_way w) len k (calls_on j (race.made j) later) (answers_on j later)) held rest in
+      subst (λ cs. AreModest (most + most_under_way w) len (held_after_all 0 (all_calls before) (all_answers before)) cs (answers_on j (e ∷ later)))
+      (sym (told_then (λ e. call_on_own (race.made j) e.worker e.call e.reply) j (e ∷ []) later))
+      (subst (λ l. AreModest (most + most_under_way w) len (held_after_all 0 (all_calls before) (all_answers before)) (xs ++ calls_on j (race.made j) later) l)
+      (sym (told_then (λ e. answer_told e.call e.reply) j (e ∷ []) later))
+      (modest_more (most + most_under_way w) len (held_after_all 0 (all_calls before) (all_answers before)) xs (calls_on j (race.made j) later) zs (answers_on j later) one (first_modest (cases_eq e.worker j)) on))
+    where
+      held_now : ℕ
+      held_now = held_after_all 0 (all_calls before) (all_answers before)
+
+      by_call : (o : Option heap.Call) → call_on_own (race.made j) e.worker e.call e.reply ≡ o → (zs : List heap.Answer) → AreModest (most + most_under_way w) len held_now (cons_option o []) zs
+      by_call None is zs = tt
+      by_call (Some c) is [] = tt
+      by_call (Some c) is (a ∷ zs) = (modest_call before later e c whole is, tt)
+
+      first_modest : (e.worker ≡ j) ⊎ (e.worker ≢ j) → AreModest (most + most_under_way w) len held_now (calls_on j (race.made j) (e ∷ [])) (answers_on j (e ∷ []))
+      first_modest (inl own) =
+          subst (λ cs. AreModest (most + most_under_way w) len held_now cs (answers_on j (e ∷ []))) (sym (told_own (λ e. call_on_own (race.made j) e.worker e.call e.reply) j e own))
+          (by_call (call_on_own (race.made j) e.worker e.call e.reply) refl (answers_on j (e ∷ [])))
+      first_modest (inr other) =
+          subst (λ cs. AreModest (most + most_under_way w) len held_now cs (answers_on j (e ∷ []))) (sym (told_other (λ e. call_on_own (race.made j) e.worker e.call e.reply) j e other)) tt
+
+  record_modest : (before later : List Entry) → record_of records j ≡ before ++ later → Modest before later
+  record_modest before [] whole = tt
+  record_modest before (e ∷ later) whole = next_modest before later e whole (record_modest (before ++ e ∷ []) later (whole ∙ sym (append_assoc before (e ∷ []) later)))
+
+  pub all_modest : AreModest (most + most_under_way w) len 0 calls answers → AreModest (most + most_under_way w) len 0 (all_calls (record_of records j)) (all_answers (record_of records j))
+  all_modest within =
+      let before : held_after_all 0 (all_calls []) (all_answers []) ≡ held_after_all 0 calls answers = rw (append-nil calls, append-nil answers) refl in
+      modest_more (most + most_under_way w) len 0 calls (calls_on j (race.made j) (record_of records j)) answers (answers_on j (record_of records j))
+      (as_many (heap.opened j words first) (heap_in w j) calls answers past.since) within
+      (subst (λ (k : ℕ). AreModest (most + most_under_way w) len k (calls_on j (race.made j) (record_of records j)) (answers_on j (record_of records j))) before (record_modest [] (record_of records j) refl))
+
+pub race_shares : RaceSharedPoolServes
+race_shares w v scripts records race j words first most len calls answers past region class enough within sparing fresh =
+    race_serves w v scripts records race j words first (most + most_under_way w) len calls answers past region class enough
+    (all_modest w v scripts records race j words first most len calls answers past region.0 sparing within) fresh
+
+-- ---- an order of all entries
+
+once_more : (i : ℕ) (e : Entry) (c : Bool) (es : List Entry) → (e.worker == i) ≡ c → entries_of i es ≡ es → entries_of i (cond c (e ∷ es) es) ≡ cond c (e ∷ es) es
+once_more i e true es is same = ap (λ (c : Bool). cond c (e ∷ entries_of i es) (entries_of i es)) is ∙ ap (λ (l : List Entry). e ∷ l) same
+once_more i e false es is same = same
+
+entries_twice : (i : ℕ) (es : List Entry) → entries_of i (entries_of i es) ≡ entries_of i es
+entries_twice i [] = refl
+entries_twice i (e ∷ es) = once_more i e (e.worker == i) (entries_of i es) refl (entries_twice i es)
+
+pub order_moments : OrdersHaveMoments
+order_moments w made records order is before prefix j j_in = (
+  record {
+    told = λ i. entries_of i before;
+    under_way = λ i. is.waits before i j;
+    part = λ i i_in ne. subst (IsPrefix (entries_of i before)) (is.each i i_in) (part i);
+    posts = λ i i_in ne.
+        ap (λ (l : List Entry). w.waiting i j ++ filter_map (λ e. post_made j (made i) e.worker e.call e.reply) l) (entries_twice i before)
+        ∙ (is.posts before i j prefix i_in j_in ne
+        ∙ ap (λ (l : List Entry). filter_map (λ e. post_taken i e.call e.reply) l ++ is.waits before i j) (sym (entries_twice j before)));
+    short = λ i i_in ne. is.short before i j prefix i_in j_in ne;
+  },
+  (λ i. refl),
+  (λ i. refl),
+)
+  where
+    part : (i : ℕ) → IsPrefix (entries_of i before) (entries_of i order)
+    part i = (entries_of i prefix.0, sym (filter-append (λ e. e.worker == i) before prefix.0) ∙ ap (entries_of i) prefix.1)
