@@ -12,17 +12,14 @@ use Rattle.clap.specs.declared.parser.matches.ArgMatches.{ArgMatches}
 use Rattle.clap.proofs.CallerReads.{signed_reads}
 use Rattle.clap.proofs.ValueTestLemmas.{accepts-Accepts}
 use Rattle.clap.proofs.WalkLemmas.{one_text-rows, raw_values-rows}
-use Rattle.tlsf_command.specs.CommandLine.{Asks, command_in, faults_of, name_of, number_in, texts_given, tlsf_app}
-use Rattle.tlsf_command.specs.SizeQuestions.{IsQuestion}
+use Rattle.tlsf_command.specs.CommandLine.{Answers, Asks, command_in, name_of, number_in, texts_given, tlsf_app}
+use Rattle.tlsf_command.specs.SizeQuestions.{pair_words, ArePairs, IsQuestion, Pair}
 use Rattle.tlsf_command.specs.declared.size_question.SizeQuestion.{SizeQuestion}
 use Rattle.tlsf_command.specs.declared.command_line.Choice.{Choice}
 use Rattle.tlsf_command.specs.declared.command_line.Choice.TheVariants.{Replay, Race, Classes, Size}
 use Rattle.tlsf_command.proofs.NamedCommands.{faultless_named, race_named, replay_named, subcommand_name-rows}
+use Rattle.tlsf_command.proofs.SizePairs.{pairs_named}
 use Rattle.tlsf_command.proofs.SizeWords.{IsSized}
-
--- what the matches say of words that come to no fault
-abbrev pub Answers : List Text → ArgMatches → Type 0
-Answers words matches = (faults_of words ≡ []) × (subcommand_rows_of matches ≡ subcommand_of tlsf_app words)
 
 abbrev label : Option (Text × List Row) → Option Text
 label = option_map (λ (named : Text × List Row). named.0)
@@ -90,6 +87,23 @@ size_not_race words called question asks is =
 pub size_not_replay : (words : List Text) (called : Text) (question : SizeQuestion) → Asks words (Size question) → words ≡ called ∷ codes "replay" ∷ [] → ⊥
 size_not_replay words called question asks is =
     size_differs (asked_name words _ (Size question) asks (ap command_in is ∙ replay_named called))
+
+-- words that are the program's name, `size` and pairs ask for what `size` names
+pairs_name : (words : List Text) (called : Text) (pairs : List Pair) (choice : Choice) → Asks words choice → ArePairs pairs
+    → words ≡ called ∷ codes "size" ∷ pair_words pairs → Some (codes "size") ≡ Some (name_of choice)
+pairs_name words called pairs choice asks are is = sym (asked_name words _ choice asks (ap command_in is ∙ pairs_named called pairs are))
+
+pub replay_no_pairs : (words : List Text) (called : Text) (pairs : List Pair) → Asks words Replay → ArePairs pairs
+    → words ≡ called ∷ codes "size" ∷ pair_words pairs → ⊥
+replay_no_pairs words called pairs asks are is = size_differs (pairs_name words called pairs Replay asks are is)
+
+pub race_no_pairs : (words : List Text) (called : Text) (pairs : List Pair) → Asks words Race → ArePairs pairs
+    → words ≡ called ∷ codes "size" ∷ pair_words pairs → ⊥
+race_no_pairs words called pairs asks are is = size_no_race (pairs_name words called pairs Race asks are is)
+
+pub classes_no_pairs : (words : List Text) (called : Text) (pairs : List Pair) (n : ℕ) → Asks words (Classes n) → ArePairs pairs
+    → words ≡ called ∷ codes "size" ∷ pair_words pairs → ⊥
+classes_no_pairs words called pairs n asks are is = size_other (pairs_name words called pairs (Classes n) asks are is)
 
 -- where the command is none of the others it is `replay`
 pub asks_replay : (words : List Text) (matches : ArgMatches) → Answers words matches

@@ -6,3 +6,4 @@ pub mod ChosenCommands  -- what the words ask for, by what `clap` answers of the
 pub mod RunEnds  -- how a run ends that `clap` ends by an error
 pub mod Greatest  -- the most bytes for so many blocks
 pub mod SizeTables  -- tables of kinds, and the numbers of texts
+pub mod SizePairs  -- the words after `size`: pairs of options come to no fault, and give their texts

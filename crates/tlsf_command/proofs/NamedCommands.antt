@@ -19,6 +19,8 @@ use Rattle.clap.specs.declared.error.Error.{Error}
 use Rattle.clap.specs.declared.error.kind.ErrorKind.TheVariants.{OutOfMemory}
 use Rattle.clap.proofs.OnLiterals.{clap_on_literals}
 use Rattle.tlsf_command.specs.CommandLine.{command_in, faults_of, tlsf_app}
+use Rattle.tlsf_command.specs.SizeQuestions.{pair_words, ArePairs, Pair}
+use Rattle.tlsf_command.proofs.SizePairs.{pairs_faultless}
 use Rattle.tlsf_command.proofs.SizeWords.{IsSized, nothing_first, nothing_second, size_found, steps_pass}
 
 abbrev program : App
@@ -224,6 +226,11 @@ replay_fails r words called fails is = named_fails r words (called ∷ replay_na
 pub race_fails : {T : Type 0} (r : Result T Error) (words : List Text) (called : Text) → FailsBy (faults_of words) r
     → words ≡ called ∷ race_name ∷ [] → IfErr r (λ e. kind_of e ≡ OutOfMemory)
 race_fails r words called fails is = named_fails r words (called ∷ race_name ∷ []) fails (race_faultless called) is
+
+-- and the program's name, `size` and pairs
+pub pairs_fails : {T : Type 0} (r : Result T Error) (words : List Text) (called : Text) (pairs : List Pair) → ArePairs pairs → FailsBy (faults_of words) r
+    → words ≡ called ∷ size_name ∷ pair_words pairs → IfErr r (λ e. kind_of e ≡ OutOfMemory)
+pairs_fails r words called pairs are fails is = named_fails r words (called ∷ size_name ∷ pair_words pairs) fails (pairs_faultless called pairs are) is
 
 -- a parse of the program's words that succeeds has met the command that they name
 pub parsed_named : (r : Result ArgMatches Error) (a : App) (words : List Text) → a ≡ tlsf_app → IfOk r (HasMatchesOf a words)

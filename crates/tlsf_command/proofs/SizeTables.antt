@@ -1,5 +1,5 @@
 -- Tables of kinds, and the numbers of texts.
-use Rattle.std.proofs.Common.{◌≡◌, ◌≤◌, ◌<◌, ◌+◌, ◌*◌, ◌^◌, ℕ, zero, suc, Bool, true, false, cond, List, [], ◌∷◌, Some, Result, Ok, Err, get_or, ◌∙◌, length, drop, refl, sym, ap, subst, arith}
+use Rattle.std.proofs.Common.{◌≡◌, ◌≤◌, ◌<◌, ◌+◌, ◌*◌, ◌^◌, ℕ, zero, suc, Bool, true, false, cond, List, [], ◌∷◌, Some, Result, Ok, Err, get_or, ◌∙◌, length, drop, refl, sym, ap, arith}
 use Rattle.std.proofs.Math.Nat.{mul-le-mul}
 use Rattle.std.specs.Prelude.{slice_get}
 use Rattle.std.specs.List.{AllByRecursion}
@@ -8,14 +8,13 @@ use Rattle.std.specs.Str.Parse.{ParsesUnsigned, digits_value, without_leading_pl
 use Rattle.clap.specs.ValueTests.{accepts}
 use Rattle.clap.specs.declared.builder.value_parser.ValueParser.TheVariants.{Unsigned}
 use Rattle.clap.proofs.ValueTestLemmas.{accepts-Accepts, Accepts-accepts}
-use Rattle.tlsf_command.specs.SizeLines.{asked_bytes, AreReached, IsReached, IsServable}
+use Rattle.tlsf_command.specs.SizeLines.{asked_bytes, AreReached, IsServable}
 use Rattle.clap.specs.Words.{Text}
 use Rattle.tlsf_command.specs.SizeQuestions.{kinds_in, number_of, HasTable, IsQuestion}
 use Rattle.tlsf_command.specs.declared.size_question.SizeQuestion.{SizeQuestion}
 use Rattle.tlsf_command.specs.declared.size_question.SizeQuestion.TheVariants.{Table, Unpaired}
 use Rattle.tlsf_laws.specs.Kinds.{HasClass}
 use Rattle.tlsf_laws.specs.declared.kind.Kind.{Kind}
-use Rattle.tlsf_laws.proofs.PlannedCalls.{one_kind}
 
 -- ---- numbers
 

@@ -1,9 +1,10 @@
 -- The command line, by the definitions of `clap`.
 use Rattle.std.specs.Prelude.{◌≡◌, ◌≤◌, ◌^◌, ⊤, ℕ, true, pos, List, [], Option, Some, codes, option_and_then, option_map, unwrap_or}
 use Rattle.std.specs.Str.Parse.{digits_value, without_leading_plus}
-use Rattle.clap.specs.Words.{App, Kinds, Rule, Text, all_of, fault_of, new_app, new_rule, one_of, subcommand_of, with_rule, with_subcommand}
+use Rattle.clap.specs.Words.{App, Kinds, Rule, Text, all_of, fault_of, new_app, new_rule, one_of, subcommand_of, subcommand_rows_of, with_rule, with_subcommand}
 use Rattle.clap.specs.declared.builder.action.ArgAction.TheVariants.{Append, Set}
 use Rattle.clap.specs.declared.builder.value_parser.ValueParser.TheVariants.{Signed}
+use Rattle.clap.specs.declared.parser.matches.ArgMatches.{ArgMatches}
 use Rattle.tlsf_command.specs.SizeQuestions.{IsQuestion}
 use Rattle.tlsf_command.specs.declared.command_line.Choice.{Choice}
 use Rattle.tlsf_command.specs.declared.command_line.Choice.TheVariants.{Replay, Race, Classes, Size}
@@ -34,14 +35,16 @@ abbrev pub size_app : App
 size_app = with_rule (with_rule (new_app (codes "size")) (count_rule (codes "B") (codes "blocks")))
     (count_rule (codes "N") (codes "bytes"))
 
--- the program with its version, of which a command must be named
+-- the program with its version and no command yet, of which a command must be named
+abbrev pub bare_app : App
+bare_app =
+    let bare = new_app (codes "tlsf") in
+    record bare { top = record bare.top { has_version = true; subcommand_required = true } }
+
+-- the program with its commands
 abbrev pub tlsf_app : App
 tlsf_app =
-    let bare = new_app (codes "tlsf") in
-    let named = record bare {
-      top = record bare.top { has_version = true; subcommand_required = true };
-    } in
-    let replaying = with_subcommand named (new_app (codes "replay")).top in
+    let replaying = with_subcommand bare_app (new_app (codes "replay")).top in
     let racing = with_subcommand replaying (new_app (codes "race")).top in
     with_subcommand (with_subcommand racing classes_app.top) size_app.top
 
@@ -52,6 +55,10 @@ faults_of words = fault_of tlsf_app words
 -- the name of the command that the words name
 abbrev pub command_in : List Text → Option Text
 command_in words = option_map (λ named. named.0) (subcommand_of tlsf_app words)
+
+-- the words come to no fault, and the matches give the command that they name
+abbrev pub Answers : List Text → ArgMatches → Type 0
+Answers words matches = (faults_of words ≡ []) × (subcommand_rows_of matches ≡ subcommand_of tlsf_app words)
 
 -- the text that the words give for the size of `classes`
 abbrev pub size_text : List Text → Option Text

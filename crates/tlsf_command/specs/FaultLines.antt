@@ -1,7 +1,7 @@
 -- The line that the program reports a fault by, and its exit status.
 use Rattle.std.specs.Prelude.{ℕ, List, [], ◌++◌, ◌==◌, codes, if◌then◌else◌}
 use Rattle.std.specs.Fmt.{decimal}
-use Rattle.tlsf_trace.specs.declared.trace_fault.TraceFault.{TraceFault}
+use Rattle.tlsf_lines.specs.declared.trace_fault.TraceFault.{TraceFault}
 
 -- what a fault's number stands for
 abbrev pub reason_of : ℕ → List ℕ

@@ -8,15 +8,16 @@ use Rattle.tlsf_command.specs.ClassLines.{class_line}
 use Rattle.tlsf_command.specs.CommandLine.{Asks, faults_of}
 use Rattle.tlsf_command.specs.FaultLines.{fault_line, status_of_fault}
 use Rattle.tlsf_command.specs.SizeLines.{size_line, unpaired_line, unreached_line, unreached_table_line, AreReached, IsFirstUnreached, IsGreatest, IsReached}
+use Rattle.tlsf_command.specs.SizeQuestions.{blocks_of, bytes_of, IsQuestion, Pair}
 use Rattle.tlsf_command.specs.declared.size_question.SizeQuestion.{SizeQuestion}
 use Rattle.tlsf_command.specs.declared.size_question.SizeQuestion.TheVariants.{Table, Unpaired}
 use Rattle.tlsf_laws.specs.declared.kind.Kind.{Kind}
 use Rattle.tlsf_command.specs.declared.command_line.Choice.TheVariants.{Classes, Race, Replay, Size}
-use Rattle.tlsf_trace.specs.Prefixes.{AppendsFront}
+use Rattle.tlsf_lines.specs.Prefixes.{AppendsFront}
 use Rattle.tlsf_trace.specs.Replay.{IsRun, Outputs, Races, Replays}
-use Rattle.tlsf_trace.specs.TraceFaults.{no_memory_fault, write_fault}
+use Rattle.tlsf_lines.specs.TraceFaults.{no_memory_fault, write_fault}
 use Rattle.tlsf_trace.specs.declared.summary.Summary.{Summary}
-use Rattle.tlsf_trace.specs.declared.trace_fault.TraceFault.{TraceFault}
+use Rattle.tlsf_lines.specs.declared.trace_fault.TraceFault.{TraceFault}
 
 -- what the reader has left, and what the writer and the writer of errors hold
 pub record Streams : Type 0 where
@@ -141,3 +142,9 @@ ReplaysOrLacksMemory status old new = RunsReplay status old new ⊎ LacksMemory 
 -- the run is a race, unless memory ran out before
 abbrev pub RacesOrLacksMemory : ℕ → Streams → Streams → Type 0
 RacesOrLacksMemory status old new = RunsRace status old new ⊎ LacksMemory status old new
+
+-- the question that the pairs make was answered, unless memory ran out before
+abbrev pub ShowsPairsOrLacksMemory : List Pair → ℕ → Streams → Streams → Type 0
+ShowsPairsOrLacksMemory pairs status old new =
+    ((question : SizeQuestion) × IsQuestion (blocks_of pairs) (bytes_of pairs) question × ShowsSize question status old new)
+    ⊎ LacksMemory status old new

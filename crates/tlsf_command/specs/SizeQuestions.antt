@@ -1,6 +1,7 @@
 -- What `tlsf size` is asked for: a table of kinds of request, of the texts behind `--blocks` and `--bytes`.
-use Rattle.std.specs.Prelude.{◌≡◌, ◌≤◌, ◌<◌, ⊤, ℕ, List, [], ◌∷◌, length, if◌then◌else◌}
-use Rattle.std.specs.Str.Parse.{digits_value, without_leading_plus}
+use Rattle.std.specs.Prelude.{◌≡◌, ◌≤◌, ◌<◌, ⊤, ℕ, List, [], ◌∷◌, codes, length, map, if◌then◌else◌}
+use Rattle.std.specs.List.{AllByRecursion}
+use Rattle.std.specs.Str.Parse.{digits_value, without_leading_plus, IsNumeral}
 use Rattle.clap.specs.ValueTests.{is_unsigned_in}
 use Rattle.clap.specs.Words.{Text}
 use Rattle.tlsf_laws.specs.declared.kind.Kind.{Kind}
@@ -30,3 +31,30 @@ IsQuestion blocks bytes (Unpaired m n) = ¬ (MakesTable (length blocks) (length 
 abbrev pub HasTable : SizeQuestion → Type 0
 HasTable (Table kinds) = (0 < length kinds.items) × (length kinds.items ≤ 64)
 HasTable (Unpaired m n) = ⊤
+
+-- digits that spell a number from 1 to 2^32 - 1
+abbrev pub IsCount : Text → Type 0
+IsCount text = IsNumeral 10 text × (1 ≤ digits_value 10 text) × (digits_value 10 text ≤ 4294967295)
+
+-- a pair of options: the text behind `--blocks`, and that behind `--bytes`
+abbrev pub Pair : Type 0
+Pair = Text × Text
+
+abbrev pub IsPair : Pair → Type 0
+IsPair pair = IsCount pair.0 × IsCount pair.1
+
+-- the words of pairs, each as `--blocks B --bytes N`
+abbrev pub pair_words : List Pair → List Text
+pair_words [] = []
+pair_words (pair ∷ pairs) = codes "--blocks" ∷ pair.0 ∷ codes "--bytes" ∷ pair.1 ∷ pair_words pairs
+
+-- the texts behind `--blocks`, and those behind `--bytes`
+abbrev pub blocks_of : List Pair → List Text
+blocks_of = map (λ pair. pair.0)
+
+abbrev pub bytes_of : List Pair → List Text
+bytes_of = map (λ pair. pair.1)
+
+-- one pair or more, of such numbers
+abbrev pub ArePairs : List Pair → Type 0
+ArePairs pairs = (1 ≤ length pairs) × AllByRecursion IsPair pairs

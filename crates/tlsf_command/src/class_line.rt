@@ -1,7 +1,7 @@
 ghost use Rattle.std.specs.Prelude.{◌≡◌, ◌≤◌, ◌^◌, IfOk, OnOk};
 ghost use Rattle.std.specs.Io.KnownBytes.{Appends};
 ghost use Rattle.tlsf_command.specs.ClassLines.{class_line};
-ghost use Rattle.tlsf_trace.specs.Prefixes.{AppendsFront};
+ghost use Rattle.tlsf_lines.specs.Prefixes.{AppendsFront};
 
 use arrayvec::ArrayString;
 use std::fmt;

@@ -1,7 +1,9 @@
 ghost use Rattle.std.specs.Prelude.{◌≡◌, ℕ, List, [], ◌∷◌, codes, false, map, IfErr, IfOk};
-ghost use Rattle.clap.specs.Words.{app_of, kind_of, new_app, rule_of, subcommand_of, subcommand_rows_of, FailsBy};
+ghost use Rattle.clap.specs.declared.builder.command.Command.{Command};
+ghost use Rattle.clap.specs.Words.{app_of, kind_of, new_app, rule_of, subcommand_of, subcommand_rows_of, with_subcommand, FailsBy, Text};
 ghost use Rattle.clap.specs.declared.builder.command.Command.TheViews.{out-Command};
-ghost use Rattle.tlsf_command.specs.CommandLine.{classes_app, count_rule, size_app, tlsf_app, faults_of, Asks};
+ghost use Rattle.tlsf_command.specs.SizeQuestions.{pair_words, ArePairs, Pair};
+ghost use Rattle.tlsf_command.specs.CommandLine.{bare_app, classes_app, count_rule, size_app, size_rule, tlsf_app, faults_of, Answers, Asks};
 
 use crate::size_question::SizeQuestion;
 use clap::error::ErrorKind;
@@ -153,26 +155,24 @@ that there is none. Of several pairs it has how many a region has room for, and
 the next one. Where --blocks and --bytes are not given as often as each other,
 the status is 2, and standard error has how often each is given.";
 
-// The command `replay`.
-fn replay_command<'a>(alloc: Global) -> Command<'a>
-    ensures app { app_of result ≡ new_app (codes "replay") }
+// A command of this name with its texts: one line, and the whole help.
+fn described<'a>(alloc: Global, name: &'a str, about: &'a str, help: &'a str) -> Command<'a>
+    ensures app { app_of result ≡ new_app name.entry.now }
     ensures local { (out-Command result).has_globals ≡ false }
 {
-    Command::new(alloc, "replay")
-        .about("Read a trace from standard input and write its replies to standard output")
-        .after_help(REPLAY_HELP)
+    Command::new(alloc, name).about(about).after_help(help)
 }
 
-// The command `race`.
-fn race_command<'a>(alloc: Global) -> Command<'a>
-    ensures app { app_of result ≡ new_app (codes "race") }
-    ensures local { (out-Command result).has_globals ≡ false }
+// The size that `classes` asks for.
+fn size_argument<'a>(alloc: Global) -> Arg<'a>
+    ensures rule { rule_of result ≡ size_rule }
+    ensures local { result.global ≡ false }
 {
-    Command::new(alloc, "race")
-        .about(
-            "Read a trace from standard input and run each phase in threads, one for each worker",
-        )
-        .after_help(RACE_HELP)
+    Arg::new(alloc, "N")
+        .help("A size in words")
+        .required(true)
+        .action(ArgAction::Set)
+        .value_parser(clap::value_parser!(u32).range(4..=1_048_576))
 }
 
 // The command `classes`.
@@ -180,15 +180,8 @@ fn classes_command<'a>(alloc: Global) -> Result<Command<'a>, AllocError>
     ensures app { IfOk result (λ command. app_of command ≡ classes_app) }
     ensures local { IfOk result (λ command. (out-Command command).has_globals ≡ false) }
 {
-    let size = Arg::new(alloc, "N")
-        .help("A size in words")
-        .required(true)
-        .action(ArgAction::Set)
-        .value_parser(clap::value_parser!(u32).range(4..=1_048_576));
-    Command::new(alloc, "classes")
-        .about("Write the class and the search class of a size, each with its least size in words")
-        .after_help(CLASSES_HELP)
-        .arg(size)
+    let about = "Write the class and the search class of a size, each with its least size in words";
+    described(alloc, "classes", about, CLASSES_HELP).arg(size_argument(alloc))
 }
 
 // An option of `size`, which takes a number each time it is given.
@@ -209,34 +202,52 @@ fn size_command<'a>(alloc: Global) -> Result<Command<'a>, AllocError>
     ensures app { IfOk result (λ command. app_of command ≡ size_app) }
     ensures local { IfOk result (λ command. (out-Command command).has_globals ≡ false) }
 {
-    let blocks = count_option(
+    let about = "Write how many words a heap needs so that no request is refused for want of room";
+    let blocks_help = "The most blocks that are held at once";
+    let bytes_help = "The most bytes of a request";
+    let command = described(alloc, "size", about, SIZE_HELP).arg(count_option(
         alloc,
         "B",
         "blocks",
-        "The most blocks that are held at once",
-    );
-    let bytes = count_option(alloc, "N", "bytes", "The most bytes of a request");
-    Command::new(alloc, "size")
-        .about("Write how many words a heap needs so that no request is refused for want of room")
-        .after_help(SIZE_HELP)
-        .arg(blocks)?
-        .arg(bytes)
+        blocks_help,
+    ))?;
+    command.arg(count_option(alloc, "N", "bytes", bytes_help))
+}
+
+// The program's version and texts, with no command yet.
+fn bare_command<'a>(alloc: Global) -> Command<'a>
+    ensures { app_of result ≡ bare_app }
+{
+    let about = "Proved real-time heaps with posts between their owners: two-level segregated fit";
+    described(alloc, "tlsf", about, PROGRAM_HELP)
+        .version("0.1.0")
+        .subcommand_required(true)
+}
+
+// The program with one more command, where that could be made.
+fn with_command<'a>(
+    program: Command<'a>,
+    added: Result<Command<'a>, AllocError>,
+) -> Result<Command<'a>, AllocError>
+    ensures { IfOk result (λ command. (sub : Command) × (added.entry ≡ Ok sub)
+        × ((out-Command sub).has_globals ≡ false
+        → app_of command ≡ with_subcommand (app_of program.entry) (app_of sub).top)) }
+{
+    program.subcommand(added?)
 }
 
 // The program's commands and texts.
 fn tlsf_command<'a>(alloc: Global) -> Result<Command<'a>, AllocError>
     ensures { IfOk result (λ command. app_of command ≡ tlsf_app) }
 {
-    Command::new(alloc, "tlsf")
-        .bin_name("tlsf")?
-        .version("0.1.0")
-        .about("Proved real-time heaps with posts between their owners: two-level segregated fit")
-        .after_help(PROGRAM_HELP)
-        .subcommand_required(true)
-        .subcommand(replay_command(alloc))?
-        .subcommand(race_command(alloc))?
-        .subcommand(classes_command(alloc)?)?
-        .subcommand(size_command(alloc)?)
+    let replay = "Read a trace from standard input and write its replies to standard output";
+    let race =
+        "Read a trace from standard input and run each phase in threads, one for each worker";
+    let bare = bare_command(alloc);
+    let replaying = bare.subcommand(described(alloc, "replay", replay, REPLAY_HELP))?;
+    let racing = replaying.subcommand(described(alloc, "race", race, RACE_HELP))?;
+    let counting = with_command(racing, classes_command(alloc))?;
+    with_command(counting, size_command(alloc))?.bin_name("tlsf")
 }
 
 // What `clap` makes of the words.
@@ -246,6 +257,27 @@ fn parse<'a, S: AsStr>(alloc: Global, words: &'a [S]) -> Result<ArgMatches<'a>, 
     ensures kinds { FailsBy (faults_of (map S.text words.entry.now)) result }
 {
     tlsf_command(alloc)?.try_get_matches_from(words)
+}
+
+// What matches of the words ask for.
+fn chosen(alloc: Global, matches: &ArgMatches<'_>) -> Result<Choice, AllocError>
+    requires { (words : List Text) × Answers words matches.now }
+    ensures { (words : List Text) → Answers words matches.now → IfOk result (Asks words) }
+{
+    match matches.subcommand_matches("classes") {
+        Some(given) => match given.get_one::<u32>("N") {
+            Some(size) => Ok(Choice::Classes(size)),
+            // The size is required, so words without one came to an error before.
+            None => unreachable!(),
+        },
+        None => match matches.subcommand_matches("race") {
+            Some(_) => Ok(Choice::Race),
+            None => match matches.subcommand_matches("size") {
+                Some(given) => Ok(Choice::Size(SizeQuestion::given(alloc, given)?)),
+                None => Ok(Choice::Replay),
+            },
+        },
+    }
 }
 
 /// Reads the words of a command line, the program's name first.
@@ -270,20 +302,12 @@ pub fn choose<'a, S: AsStr>(alloc: Global, words: &'a [S]) -> Result<Choice, Err
     ensures race { (program : List ℕ)
         → map S.text words.entry.now ≡ program ∷ codes "race" ∷ []
         → IfErr result (λ error. kind_of error ≡ ErrorKind.OutOfMemory) }
+
+    // Where they are the program's name, `size`, and one pair of options or more.
+    ensures size { (program : List ℕ) (pairs : List Pair) → ArePairs pairs
+        → map S.text words.entry.now ≡ program ∷ codes "size" ∷ pair_words pairs
+        → IfErr result (λ error. kind_of error ≡ ErrorKind.OutOfMemory) }
 {
     let matches = parse(alloc, words)?;
-    match matches.subcommand_matches("classes") {
-        Some(given) => match given.get_one::<u32>("N") {
-            Some(size) => Ok(Choice::Classes(size)),
-            // The size is required, so words without one came to an error before.
-            None => unreachable!(),
-        },
-        None => match matches.subcommand_matches("race") {
-            Some(_) => Ok(Choice::Race),
-            None => match matches.subcommand_matches("size") {
-                Some(given) => Ok(Choice::Size(SizeQuestion::given(alloc, given)?)),
-                None => Ok(Choice::Replay),
-            },
-        },
-    }
+    Ok(chosen(alloc, &matches)?)
 }

@@ -1,8 +1,9 @@
 ghost use Rattle.std.specs.Prelude.{◌≡◌, ◌≤◌, ◌^◌, ℕ, List, [], ◌∷◌, Option, codes, map};
 ghost use Rattle.clap.specs.Words.{kind_of};
 ghost use Rattle.tlsf_command.specs.FaultLines.{fault_line, status_of_fault};
-ghost use Rattle.tlsf_command.specs.Runs.{streams, status_of, Ends, RacesOrLacksMemory, ReplaysOrLacksMemory, Reports, RunsRace, RunsReplay, ShowsAnswer, ShowsClasses};
-ghost use Rattle.tlsf_trace.specs.Prefixes.{AppendsFront};
+ghost use Rattle.tlsf_command.specs.Runs.{streams, status_of, Ends, RacesOrLacksMemory, ReplaysOrLacksMemory, Reports, RunsRace, RunsReplay, ShowsAnswer, ShowsClasses, ShowsPairsOrLacksMemory};
+ghost use Rattle.tlsf_command.specs.SizeQuestions.{pair_words, ArePairs, Pair};
+ghost use Rattle.tlsf_lines.specs.Prefixes.{AppendsFront};
 
 use crate::class_line::write_class_line;
 use crate::command_line::{Choice, choose};
@@ -152,6 +153,13 @@ pub fn run<T: Threads + Wait + Sync, S: AsStr, R: Read, W: Write, E: Write, G: G
     // Where they are the program's name and `race`.
     ensures race { (program : List ℕ) → map S.text words.now ≡ program ∷ codes "race" ∷ []
         → RacesOrLacksMemory result
+        (streams (R.remaining reader.old) (W.contents writer.old) (E.contents errors.old))
+        (streams (R.remaining reader.new) (W.contents writer.new) (E.contents errors.new)) }
+
+    // Where they are the program's name, `size`, and one pair `--blocks B --bytes N` or more.
+    ensures size { (program : List ℕ) (pairs : List Pair) → ArePairs pairs
+        → map S.text words.now ≡ program ∷ codes "size" ∷ pair_words pairs
+        → ShowsPairsOrLacksMemory pairs result
         (streams (R.remaining reader.old) (W.contents writer.old) (E.contents errors.old))
         (streams (R.remaining reader.new) (W.contents writer.new) (E.contents errors.new)) }
 {

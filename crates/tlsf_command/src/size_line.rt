@@ -4,7 +4,7 @@ ghost use Rattle.std.specs.Io.KnownBytes.{Appends};
 ghost use Rattle.tlsf_command.specs.SizeLines.{hundredths, size_line, unreached_line, AreReached, IsGreatest, IsReached, IsServable};
 ghost use Rattle.tlsf_command.specs.SizeLines as spelled;
 ghost use Rattle.tlsf_laws.specs.Kinds as table;
-ghost use Rattle.tlsf_trace.specs.Prefixes.{AppendsFront};
+ghost use Rattle.tlsf_lines.specs.Prefixes.{AppendsFront};
 
 use arrayvec::ArrayString;
 use std::fmt;

@@ -1,7 +1,7 @@
 ghost use Rattle.std.specs.Prelude.{◌≡◌, ◌≤◌, ◌<◌, ℕ, Some, length, slice_get, IfOk};
 ghost use Rattle.tlsf_command.specs.SizeLines.{unpaired_line, unreached_table_line, AreReached, IsFirstUnreached};
 ghost use Rattle.tlsf_laws.specs.declared.kind.Kind.{Kind};
-ghost use Rattle.tlsf_trace.specs.Prefixes.{AppendsFront};
+ghost use Rattle.tlsf_lines.specs.Prefixes.{AppendsFront};
 
 use crate::size_line::words_for;
 use arrayvec::ArrayString;

@@ -1,33 +1,31 @@
-use Rattle.std.proofs.Common.{◌≡◌, ◌∙◌, true, codes, ap, ap₂}
+use Rattle.std.proofs.Common.{◌≡◌, ◌∙◌, false, Result, Ok, ap, ap₂}
 use Rattle.std.proofs.lemmas.Result.{IfOk-weaker}
+use Rattle.std.specs.Prelude.{IfOk}
 use Rattle.clap.specs.Simple.{app_of_fields}
-use Rattle.clap.specs.Words.{App, app_of, new_app, with_subcommand}
+use Rattle.clap.specs.Words.{App, app_of, with_subcommand}
+use Rattle.clap.specs.declared.builder.command.Command.{Command}
+use Rattle.clap.specs.declared.builder.command.Command.TheViews.{out-Command}
+use Rattle.tlsf_command.specs.CommandLine.{classes_app, size_app}
 use Rattle.tlsf_command.proofs.command_line.tlsf_command.Goals as goal
 
--- the program with its version
-abbrev versioned : App → App
-versioned app = record app { top = record app.top { has_version = true } }
-
--- of which a command must be named
-abbrev commanded : App → App
-commanded app = record app { top = record app.top { subcommand_required = true } }
-
-abbrev named : App
-named = commanded (versioned (new_app (codes "tlsf")))
+-- the program with a command that could be made
+joined : {E : Type 0} (added : Result Command E) (sub command : Command) (program wanted : App)
+    → IfOk added (λ s. app_of s ≡ wanted) → IfOk added (λ s. (out-Command s).has_globals ≡ false) → added ≡ Ok sub
+    → ((out-Command sub).has_globals ≡ false → app_of command ≡ with_subcommand program (app_of sub).top)
+    → app_of command ≡ with_subcommand program wanted.top
+joined added sub command program wanted app local is shape =
+    shape (rw is at local) ∙ ap (λ (a : App). with_subcommand program a.top) (rw is at app)
 
 pub returns : goal.returns
 returns c =
-    let bare_is : app_of c.in_ok-bin_name.field-0 ≡ new_app (codes "tlsf") = ap app_of_fields c.in_ok-bin_name.ensures.0 ∙ c.new.ensures.app in
-    let versioned_is : app_of c.after_help.result ≡ versioned (new_app (codes "tlsf")) =
-    ap app_of_fields c.after_help.ensures ∙ (ap app_of_fields c.about.ensures
-    ∙ (ap app_of_fields c.version.ensures ∙ ap versioned bare_is)) in
-    let named_is : app_of c.subcommand_required.result ≡ named = ap app_of_fields c.subcommand_required.ensures ∙ ap commanded versioned_is in
-    let first = c.in_ok-subcommand.ensures.shape c.replay_command.ensures.local
-    ∙ ap₂ with_subcommand named_is (ap (λ (a : App). a.top) c.replay_command.ensures.app) in
-    let second = c.in_ok-subcommand-2.ensures.shape c.race_command.ensures.local
-    ∙ ap₂ with_subcommand first (ap (λ (a : App). a.top) c.race_command.ensures.app) in
-    let third = c.in_ok-subcommand-3.ensures.shape c.in_ok-classes_command.ensures.local
-    ∙ ap₂ with_subcommand second (ap (λ (a : App). a.top) c.in_ok-classes_command.ensures.app) in
-    IfOk-weaker c.subcommand-4.result _ _ (λ command added.
-    added.shape c.in_ok-size_command.ensures.local
-    ∙ ap₂ with_subcommand third (ap (λ (a : App). a.top) c.in_ok-size_command.ensures.app)) c.subcommand-4.ensures
+    let first = c.in_ok-replaying.ensures.shape c.described.ensures.local
+    ∙ ap₂ with_subcommand c.bare_command-bare.ensures (ap (λ (a : App). a.top) c.described.ensures.app) in
+    let second = c.in_ok-racing.ensures.shape c.described-2.ensures.local
+    ∙ ap₂ with_subcommand first (ap (λ (a : App). a.top) c.described-2.ensures.app) in
+    let third = joined c.classes_command.result c.in_ok-counting.ensures.0 c.in_ok-counting.counting (app_of c.in_ok-racing.racing) classes_app
+    c.classes_command.ensures.app c.classes_command.ensures.local c.in_ok-counting.ensures.1 c.in_ok-counting.ensures.2
+    ∙ ap (λ (a : App). with_subcommand a classes_app.top) second in
+    let fourth = joined c.size_command.result c.in_ok-with_command.ensures.0 c.in_ok-with_command.field-0 (app_of c.in_ok-counting.counting) size_app
+    c.size_command.ensures.app c.size_command.ensures.local c.in_ok-with_command.ensures.1 c.in_ok-with_command.ensures.2
+    ∙ ap (λ (a : App). with_subcommand a size_app.top) third in
+    IfOk-weaker c.bin_name.result _ _ (λ command named. ap app_of_fields named.0 ∙ fourth) c.bin_name.ensures

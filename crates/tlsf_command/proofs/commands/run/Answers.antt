@@ -1,6 +1,7 @@
 use Rattle.std.proofs.Common.{inl, inr}
-use Rattle.tlsf_command.specs.Runs.{RacesOrLacksMemory, ReplaysOrLacksMemory, streams}
-use Rattle.tlsf_command.proofs.ChosenCommands.{classes_not_race, classes_not_replay, race_not_replay, replay_not_race, size_not_race, size_not_replay}
+use Rattle.tlsf_command.specs.Runs.{RacesOrLacksMemory, ReplaysOrLacksMemory, ShowsPairsOrLacksMemory, streams}
+use Rattle.tlsf_command.proofs.ChosenCommands.{classes_no_pairs, classes_not_race, classes_not_replay, race_no_pairs, race_not_replay, replay_no_pairs, replay_not_race, size_not_race, size_not_replay}
+use Rattle.tlsf_command.proofs.SizePairs.{pairs_question}
 use Rattle.tlsf_command.proofs.SizeTables.{has_table}
 use Rattle.tlsf_command.proofs.RunEnds.{answer_ends, answer_lacks}
 use Rattle.tlsf_command.proofs.commands.run.Goals as goal
@@ -16,6 +17,10 @@ returns-in-Err-clause-replay g c = λ called is.
 pub returns-in-Err-clause-race : goal.returns-in-Err-clause-race
 returns-in-Err-clause-race g c = λ called is.
     inr (answer_lacks _ _ _ _ (c.answer.ensures (g.R.Read.remaining c.args.reader.now)) (c.in-Err.ensures.race called is))
+
+pub returns-in-Err-clause-size : goal.returns-in-Err-clause-size
+returns-in-Err-clause-size g c = λ called pairs are is.
+    inr (answer_lacks _ _ _ _ (c.answer.ensures (g.R.Read.remaining c.args.reader.now)) (c.in-Err.ensures.size called pairs are is))
 
 pub returns-in-Ok-Classes-clause-ends : goal.returns-in-Ok-Classes-clause-ends
 returns-in-Ok-Classes-clause-ends g c =
@@ -74,6 +79,39 @@ returns-in-Ok-Replay-clause-race g c =
     (streams (g.R.Read.remaining c.args.reader.now) (g.W.Write.contents c.args.writer.now) (g.E.Write.contents c.args.errors.now))
     (streams (g.R.Read.remaining c.run_replay.new.reader) (g.W.Write.contents c.run_replay.new.writer) (g.E.Write.contents c.run_replay.new.errors))}
     (replay_not_race _ called asks is)
+
+pub returns-in-Ok-Classes-clause-size : goal.returns-in-Ok-Classes-clause-size
+returns-in-Ok-Classes-clause-size g c =
+    let asks = rw c.in-Ok-Classes.field-0-is at c.in-Ok-Classes.ensures.asked in
+    λ called pairs are is. absurd {A = ShowsPairsOrLacksMemory pairs c.run_classes.result
+    (streams (g.R.Read.remaining c.args.reader.now) (g.W.Write.contents c.args.writer.now) (g.E.Write.contents c.args.errors.now))
+    (streams (g.R.Read.remaining c.args.reader.now) (g.W.Write.contents c.run_classes.new.writer) (g.E.Write.contents c.run_classes.new.errors))}
+    (classes_no_pairs _ called pairs c.in-Ok-Classes.words asks are is)
+
+pub returns-in-Ok-Race-clause-size : goal.returns-in-Ok-Race-clause-size
+returns-in-Ok-Race-clause-size g c =
+    let asks = rw c.in-Ok-Race.field-0-is at c.in-Ok-Race.ensures.asked in
+    λ called pairs are is. absurd {A = ShowsPairsOrLacksMemory pairs c.run_race.result
+    (streams (g.R.Read.remaining c.args.reader.now) (g.W.Write.contents c.args.writer.now) (g.E.Write.contents c.args.errors.now))
+    (streams (g.R.Read.remaining c.run_race.new.reader) (g.W.Write.contents c.run_race.new.writer) (g.E.Write.contents c.run_race.new.errors))}
+    (race_no_pairs _ called pairs asks are is)
+
+pub returns-in-Ok-Replay-clause-size : goal.returns-in-Ok-Replay-clause-size
+returns-in-Ok-Replay-clause-size g c =
+    let asks = rw c.in-Ok-Replay.field-0-is at c.in-Ok-Replay.ensures.asked in
+    λ called pairs are is. absurd {A = ShowsPairsOrLacksMemory pairs c.run_replay.result
+    (streams (g.R.Read.remaining c.args.reader.now) (g.W.Write.contents c.args.writer.now) (g.E.Write.contents c.args.errors.now))
+    (streams (g.R.Read.remaining c.run_replay.new.reader) (g.W.Write.contents c.run_replay.new.writer) (g.E.Write.contents c.run_replay.new.errors))}
+    (replay_no_pairs _ called pairs asks are is)
+
+pub returns-in-Ok-Size-clause-size : goal.returns-in-Ok-Size-clause-size
+returns-in-Ok-Size-clause-size g c =
+    let asks = rw c.in-Ok-Size.field-0-is at c.in-Ok-Size.ensures.asked in
+    λ called pairs are is. inl (
+      c.in-Ok-Size.question,
+      pairs_question _ called pairs c.in-Ok-Size.question asks are is,
+      c.run_size.ensures (g.R.Read.remaining c.args.reader.now),
+    )
 
 pub run_size-requires : goal.run_size-requires
 run_size-requires g c =
