@@ -2,10 +2,11 @@
 
 mod commands;
 mod fakes;
+mod long_texts;
 mod race_notices;
 mod race_traces;
 mod replays;
 mod sizes;
-mod texts;
+mod streams;
 mod trace_faults;
 mod writing;

@@ -1,63 +1,35 @@
-ghost use Rattle.std.specs.Prelude.{◌≤◌, ◌^◌};
-
 use std::process::Abort;
 use tlsf_class::{Bitmaps, class_of, low, search_of};
 use tlsf_fixtures::same;
 
-/// The least size of each class by its number, from the widths of the first levels: 1, 1, 2, 4 and so on.
-fn plain_lows() -> [u32; 273] {
-    let mut lows = [0; 273];
-    let mut least: u32 = 0;
-    let mut width: u32 = 1;
-    for number in 0..273 {
-        lows[number] = least;
-        if number % 16 == 0 && number >= 32 {
-            width = width.saturating_mul(2);
-        }
-        least = least.saturating_add(width);
-    }
-    lows
-}
+/// Sizes, each with the number of its class, the least size of that, the number of the search class and the least size of that.
+const SIZES: [(u32, (u32, u32, u32, u32)); 10] = [
+    (4, (4, 4, 4, 4)),
+    (15, (15, 15, 15, 15)),
+    (16, (16, 16, 16, 16)),
+    (31, (31, 31, 31, 31)),
+    (32, (32, 32, 32, 32)),
+    (33, (32, 32, 33, 34)),
+    (63, (47, 62, 48, 64)),
+    (460, (92, 448, 93, 464)),
+    (1048575, (271, 1015808, 272, 1048576)),
+    (1048576, (272, 1048576, 272, 1048576)),
+];
 
-/// The number and the least size of the last class that begins at `words` or below, and the number of the first one that
-/// begins at `words` or above.
-fn plain_classes(lows: &[u32], words: u32) -> (u32, u32, u32) {
-    let (mut class, mut class_low, mut search) = (0, 0, 0);
-    for (number, least) in (0..273).zip(lows) {
-        if *least <= words {
-            class = number;
-            class_low = *least;
-        }
-        if *least >= words && search == 0 {
-            search = number;
+/// The classes of sizes are those that are wanted.
+fn check_sizes(rt: &impl Abort, sizes: &[(u32, (u32, u32, u32, u32))]) {
+    for &(words, wanted) in sizes {
+        if 4 <= words && words <= 1048576 {
+            let (class, search) = (class_of(words), search_of(words));
+            let found = (class.number(), low(class), search.number(), low(search));
+            same(found, wanted).expect(rt, "differ");
         }
     }
-    (class, class_low, search)
-}
-
-/// The class of a size, its least size, and the search class are those of the plain scans.
-fn check_size(rt: &impl Abort, lows: &[u32], words: u32)
-    requires least { 4 ≤ words }
-    requires most { words ≤ 2 ^ 20 }
-{
-    let class = class_of(words);
-    let found = (class.number(), low(class), search_of(words).number());
-    same(found, plain_classes(lows, words)).expect(rt, "differ");
 }
 
 #[test]
-fn classes_are_as_the_plain_scans_say(rt: HostRuntime) {
-    let lows = plain_lows();
-    for words in 4..4201 {
-        check_size(&rt, &lows, words);
-    }
-    for least in lows {
-        for words in least.saturating_sub(1)..least.saturating_add(2) {
-            if 4 <= words && words <= 1048576 {
-                check_size(&rt, &lows, words);
-            }
-        }
-    }
+fn classes_of_sizes(rt: HostRuntime) {
+    check_sizes(&rt, &SIZES);
 }
 
 /// The numbers of the least members at or above the classes of eight sizes, 0 where there is none.

@@ -11,17 +11,6 @@ use tlsf_post::{Post, PostEnd, TakeEnd, lane};
 /// How often a thread looks for the other at most.
 const TURNS: u64 = 100_000_000;
 
-/// What two threads tell each other beside the lane.
-#[derive(Drop)]
-struct Flags {
-    posted: AtomicU64,
-    taken: AtomicU64,
-}
-
-fn set(flag: &AtomicU64) {
-    flag.store(1, Ordering::SeqCst);
-}
-
 /// Turns until the flag is set. Tells whether it was.
 fn seen(flag: &AtomicU64) -> bool {
     for _ in 0..TURNS {
@@ -34,28 +23,28 @@ fn seen(flag: &AtomicU64) -> bool {
 }
 
 /// Sends one post, and a second one once the first was taken. Tells whether both were sent.
-fn send_two(mut end: PostEnd, flags: &Flags) -> bool {
+fn send_two(mut end: PostEnd, is_taken: &AtomicU64) -> bool {
     let first = end.put(post(1)).is_ok();
-    set(&flags.posted);
-    seen(&flags.taken) && end.put(post(2)).is_ok() && first
+    seen(is_taken) && end.put(post(2)).is_ok() && first
 }
 
-/// Takes one post once it was sent, tells so, and turns until there is a second one.
-fn take_two(mut end: TakeEnd, flags: &Flags) -> (Option<Post>, Option<Post>) {
-    let in_time = seen(&flags.posted);
-    let first = end.take();
-    set(&flags.taken);
-    if !in_time || first.is_none() {
-        return (first, None);
-    }
+/// Turns until there is a post.
+fn take_next(end: &mut TakeEnd) -> Option<Post> {
     for _ in 0..TURNS {
-        let second = end.take();
-        if second.is_some() {
-            return (first, second);
+        let next = end.take();
+        if next.is_some() {
+            return next;
         }
         yield_now();
     }
-    (first, None)
+    None
+}
+
+/// Takes one post, tells so, and takes a second one.
+fn take_two(mut end: TakeEnd, is_taken: &AtomicU64) -> (Option<Post>, Option<Post>) {
+    let first = take_next(&mut end);
+    is_taken.store(1, Ordering::SeqCst);
+    (first, take_next(&mut end))
 }
 
 /// Whether both posts were sent, and the two that were taken.
@@ -67,11 +56,8 @@ fn pass_two<R: Threads + Wait + Sync>(
     post_end: PostEnd,
     take_end: TakeEnd,
 ) -> Result<Passed, AllocError> {
-    let flags = Flags {
-        posted: AtomicU64::new(0),
-        taken: AtomicU64::new(0),
-    };
-    let shared = &flags;
+    let is_taken = AtomicU64::new(0);
+    let shared = &is_taken;
     thread::scope(thread::scope_env(), rt, move |scope| {
         let child = scope.spawn(move || send_two(post_end, shared))?;
         let taken = take_two(take_end, shared);

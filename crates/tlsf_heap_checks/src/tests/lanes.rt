@@ -43,23 +43,6 @@ fn answer(post_end: &mut PostEnd, take_end: &mut TakeEnd, ask: Ask) -> (Option<u
 }
 
 #[test]
-fn lane_of_one_post(rt: HostRuntime) -> Result<(), Fail> {
-    let rows = [
-        (Ask::Put(1), (None, 0)),
-        (Ask::Beside, (None, 1)),
-        (Ask::Put(2), (Some(2), 1)),
-        (Ask::Take, (Some(1), 0)),
-        (Ask::Beside, (None, 0)),
-        (Ask::Take, (None, 0)),
-        (Ask::Put(2), (None, 0)),
-        (Ask::Beside, (None, 1)),
-        (Ask::Take, (Some(2), 0)),
-    ];
-    check_asks(&rt, rt.alloc(), 1, &rows)?;
-    Ok(())
-}
-
-#[test]
 fn first_sent_first_taken(rt: HostRuntime) -> Result<(), Fail> {
     let rows = [
         (Ask::Put(1), (None, 0)),
@@ -97,26 +80,43 @@ fn check_asks(
     Ok(())
 }
 
-/// Fills a new lane and empties it, while its ends are never beside each other.
+/// How many posts a lane takes before it gives one back, by their serials from 0 on.
+fn filled(post_end: &mut PostEnd) -> u64 {
+    for serial in 0..2_000 {
+        if post_end.put(post(serial)) == Err(post(serial)) {
+            return serial;
+        }
+    }
+    2_000
+}
+
+/// The first serial from `first` on that isn't taken.
+fn emptied(take_end: &mut TakeEnd, first: u64) -> u64 {
+    for serial in first..2_000 {
+        if take_end.take() != Some(post(serial)) {
+            return serial;
+        }
+    }
+    2_000
+}
+
+/// What is put once a lane is full, and what is taken: one post for a place that was taken, and no more.
 fn check_full(rt: &impl Abort, alloc: Global, capacity: u32) -> Result<(), NoMemory>
     requires { (0 < capacity) × (capacity ≤ 1024) }
 {
     let (mut post_end, mut take_end) = lane(alloc, capacity)?;
     let count = u64::from(capacity);
-    for serial in 0..count {
-        same(post_end.put(post(serial)), Ok(())).expect(rt, "differ");
-    }
-    same(post_end.put(post(count)), Err(post(count))).expect(rt, "differ");
-    same(take_end.take(), Some(post(0))).expect(rt, "differ");
-    let last = (post_end.put(post(count)), post_end.put(post(0)));
-    same(last, (Ok(()), Err(post(0)))).expect(rt, "differ");
-    for serial in 1..=count {
-        same(take_end.take(), Some(post(serial))).expect(rt, "differ");
-    }
+    let next = post(count);
+    let found = (filled(&mut post_end), take_end.take());
+    same(found, (count, Some(post(0)))).expect(rt, "differ");
+    let found = (post_end.put(next), post_end.put(next));
+    same(found, (Ok(()), Err(next))).expect(rt, "differ");
+    same(emptied(&mut take_end, 1), count + 1).expect(rt, "differ");
     same(take_end.take(), None).expect(rt, "differ");
     Ok(())
 }
 
+// The ends are never beside each other.
 #[test]
 fn new_lane_holds_its_capacity(rt: HostRuntime) -> Result<(), Fail> {
     for capacity in [1, 2, 3, 5, 1024] {

@@ -22,35 +22,21 @@ fn push_three(lists: &mut FreeLists, words: &mut Words, class: Class)
     lists.push(words, class, 16);
 }
 
-/// The third words of the headers at 0, 8 and 16.
-fn third_words(words: &mut Words) -> [u64; 3] {
-    let mut third = [0; 3];
-    for (word, at) in third.iter_mut().zip([2, 10, 18]) {
-        if at < words.len() {
-            *word = words.word(at);
-        }
+/// The third word of a header, 0 outside the region.
+fn third_word(words: &mut Words, at: u32) -> u64 {
+    match at.checked_add(2) {
+        Some(place) if place < words.len() => words.word(place),
+        _ => 0,
     }
-    third
 }
 
-#[test]
-fn pushes_name_each_other(rt: HostRuntime) -> Result<(), Fail> {
-    let mut words = Words::open(rt.alloc(), 24)?;
-    let mut lists = FreeLists::new();
-    let class = class_of(8);
-    push_three(&mut lists, &mut words, class);
-    let found = (
-        lists.first(class),
-        lists.first(class_of(9)),
-        third_words(&mut words),
-    );
-    let third = [
-        0x0000_0008_ffff_ffff,
-        0x0000_0010_0000_0000,
-        0xffff_ffff_0000_0008,
-    ];
-    same(found, (Some(16), None, third)).expect(&rt, "differ");
-    Ok(())
+/// The third words of the headers at 0, 8 and 16.
+fn third_words(words: &mut Words) -> [u64; 3] {
+    [
+        third_word(words, 0),
+        third_word(words, 8),
+        third_word(words, 16),
+    ]
 }
 
 /// The first place and the third words, once a place was taken out of the list of 16, 8 and 0.
@@ -102,38 +88,18 @@ fn the_head_of_three(rt: HostRuntime) -> Result<(), Fail> {
     let class = class_of(8);
     push_three(&mut lists, &mut words, class);
     let head = lists.pop_first(&mut words, class);
+    let found = (
+        head,
+        lists.first(class),
+        lists.first(class_of(9)),
+        lists.next_from(class_of(4)),
+        third_words(&mut words),
+    );
     let third = [
         0x0000_0008_ffff_ffff,
         0xffff_ffff_0000_0000,
         0xffff_ffff_0000_0008,
     ];
-    let left = (head, lists.first(class), third_words(&mut words));
-    same(left, (16, Some(8), third)).expect(&rt, "differ");
-    Ok(())
-}
-
-#[test]
-fn the_head_of_one(rt: HostRuntime) -> Result<(), Fail> {
-    let mut words = Words::open(rt.alloc(), 24)?;
-    let mut lists = FreeLists::new();
-    let class = class_of(16);
-    lists.push(&mut words, class, 20);
-    let head = lists.pop_first(&mut words, class);
-    let empty = (head, lists.first(class), lists.next_from(class));
-    same(empty, (20, None, None)).expect(&rt, "differ");
-    Ok(())
-}
-
-#[test]
-fn the_only_place_of_a_list(rt: HostRuntime) -> Result<(), Fail> {
-    let mut words = Words::open(rt.alloc(), 16)?;
-    let mut lists = FreeLists::new();
-    let class = class_of(8);
-    lists.push(&mut words, class, 4);
-    let listed = (lists.first(class), lists.next_from(class_of(4)));
-    same(listed, (Some(4), Some(class))).expect(&rt, "differ");
-    lists.remove(&mut words, class, 4);
-    let empty = (lists.first(class), lists.next_from(class_of(4)));
-    same(empty, (None, None)).expect(&rt, "differ");
+    same(found, (16, Some(8), None, Some(class), third)).expect(&rt, "differ");
     Ok(())
 }

@@ -1,9 +1,8 @@
 use crate::tests::heaps::{Answer, Ask};
-use std::alloc::Global;
 use std::process::Abort;
 use std::sync::Wait;
 use std::test::Fail;
-use std::thread::{Threads, join};
+use std::thread::join;
 use tlsf_fixtures::{name, same};
 use tlsf_heap::{OpenFault, Refusal};
 use tlsf_lock::LockedHeap;
@@ -109,21 +108,4 @@ fn two_threads_share_a_heap(rt: HostRuntime) -> Result<(), Fail> {
     same(accepted, (true, true)).expect(&rt, "differ");
     check_asks(&rt, &heap, &[], (200, 120, 80));
     Ok(())
-}
-
-/// Two threads, each of which allocates.
-fn two_threads<R: Threads + Wait + Sync>(rt: &R, alloc: Global) -> Result<u64, OpenFault> {
-    let heap = LockedHeap::new(alloc, 0, 1024, 0)?;
-    join(
-        rt,
-        || heap.lock(rt).allocate(8).is_ok(),
-        || heap.lock(rt).allocate(100).is_ok(),
-    );
-    let grants = heap.lock(rt).grants();
-    Ok(grants)
-}
-
-#[test]
-fn use_from_two_threads(rt: HostRuntime) {
-    same(two_threads(&rt, rt.alloc()), Ok(2)).expect(&rt, "differ");
 }

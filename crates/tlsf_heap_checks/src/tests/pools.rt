@@ -2,39 +2,33 @@
 
 use std::test::Fail;
 use tlsf_fixtures::{name, same};
-use tlsf_heap::{OpenFault, Refusal};
+use tlsf_heap::{Name, OpenFault, Refusal};
 use tlsf_pool::{Kind, LONGEST, Pool, PoolRefusal, kinds_words, longest_request, most_blocks};
+
+/// What the last two of the first eight bytes of a block are, once they were written.
+fn two_bytes(pool: &mut Pool, block: Name) -> Result<[u8; 2], Refusal> {
+    let mut out = [0; 2];
+    pool.write(block, 6, &[0x48, 0x69])?;
+    pool.read(block, 6, &mut out)?;
+    Ok(out)
+}
 
 #[test]
 fn pool_is_filled_and_emptied(rt: HostRuntime) -> Result<(), Fail> {
     let mut pool = Pool::open(rt.alloc(), 3, 2, 8, 0)?;
     let first = name(3, 0, 1);
-    let given = [
-        pool.allocate(8),
-        pool.allocate(0),
-        pool.allocate(8),
-        pool.allocate(9),
-    ];
-    let wanted = [
-        Ok(first),
-        Ok(name(3, 4, 2)),
-        Err(PoolRefusal::Full),
-        Err(PoolRefusal::TooLong),
-    ];
-    same((given, pool.held()), (wanted, 2)).expect(&rt, "differ");
-    let mut out = [0; 2];
-    let written = pool.write(first, 6, &[0x48, 0x69]);
-    let read = pool.read(first, 6, &mut out);
-    let released = [pool.release(first), pool.release(first)];
-    let found = (written, read, out, released, pool.held());
-    let wanted = (
-        Ok(()),
-        Ok(()),
-        [0x48, 0x69],
-        [Ok(()), Err(Refusal::Stale)],
-        1,
-    );
-    same(found, wanted).expect(&rt, "differ");
+    for (len, wanted) in [
+        (8, Ok(first)),
+        (0, Ok(name(3, 4, 2))),
+        (8, Err(PoolRefusal::Full)),
+        (9, Err(PoolRefusal::TooLong)),
+    ] {
+        same(pool.allocate(len), wanted).expect(&rt, "differ");
+    }
+    same(two_bytes(&mut pool, first), Ok([0x48, 0x69])).expect(&rt, "differ");
+    for (wanted, held) in [(Ok(()), 1), (Err(Refusal::Stale), 1)] {
+        same((pool.release(first), pool.held()), (wanted, held)).expect(&rt, "differ");
+    }
     same(pool.allocate(8), Ok(name(3, 0, 4))).expect(&rt, "differ");
     Ok(())
 }

@@ -1,7 +1,6 @@
-ghost use Rattle.std.specs.Prelude.{◌≡◌, ◌≤◌, ◌^◌, length, IfOk};
+ghost use Rattle.std.specs.Prelude.{◌≡◌, ◌+◌, ◌<◌, ◌≤◌, length};
 
 use byteorder::{ByteOrder, LittleEndian};
-use std::alloc::Global;
 use std::process::Abort;
 use std::test::Fail;
 use tlsf_fixtures::same;
@@ -21,15 +20,6 @@ fn fill(rt: &impl Abort, words: &mut Words)
     assert!(rt; words.len() == 16);
 }
 
-/// A region of 16 words, each `KEPT` but for word 0.
-fn filled(rt: &impl Abort, alloc: Global) -> Result<Words, NoMemory>
-    ensures { IfOk result (λ words. length words.words ≡ 16) }
-{
-    let mut words = Words::open(alloc, 16)?;
-    fill(rt, &mut words);
-    Ok(words)
-}
-
 /// The words of a region of 16.
 fn image(words: &mut Words) -> [u64; 16] {
     let mut image = [0; 16];
@@ -37,16 +27,6 @@ fn image(words: &mut Words) -> [u64; 16] {
         if at < words.len() {
             *word = words.word(at);
         }
-    }
-    image
-}
-
-/// The image of a region that was filled, with these words from a place on.
-fn kept_but(at: usize, written: &[u64]) -> [u64; 16] {
-    let mut image = [KEPT; 16];
-    image[0] = 0;
-    for (word, new) in image.iter_mut().skip(at).zip(written) {
-        *word = *new;
     }
     image
 }
@@ -65,40 +45,53 @@ const FREE: Tag = Tag {
     back: 5,
 };
 
+const LINKS: Links = Links {
+    next: 9,
+    previous: u32::MAX,
+};
+
+/// Writes the header of a free block, and reads it.
+fn free_header(words: &mut Words, at: u32) -> (Tag, u64, Links)
+    requires { at + 2 < length words.old.words }
+    ensures { length words.new.words ≡ length words.old.words }
+{
+    words.set_tag(at, FREE);
+    words.set_mark(at, u64::MAX);
+    words.set_links(at, LINKS);
+    (words.tag(at), words.mark(at), words.links(at))
+}
+
+/// Writes the header of a live block, and reads it.
+fn live_header(words: &mut Words, at: u32) -> (Tag, u64, u32)
+    requires { at + 2 < length words.old.words }
+    ensures { length words.new.words ≡ length words.old.words }
+{
+    words.set_tag(at, LIVE);
+    words.set_mark(at, 3);
+    words.set_length(at, 7);
+    (words.tag(at), words.mark(at), words.length(at))
+}
+
 #[test]
-fn first_words_of_headers(rt: HostRuntime) -> Result<(), Fail> {
-    let mut words = filled(&rt, rt.alloc())?;
-    words.set_tag(3, LIVE);
-    words.set_tag(4, FREE);
-    same((words.tag(3), words.tag(4)), (LIVE, FREE)).expect(&rt, "differ");
-    let wanted = kept_but(3, &[0xffff_ffff_0000_0010, 0x0000_0005_0000_0033]);
+fn words_of_headers(rt: HostRuntime) -> Result<(), Fail> {
+    let mut words = Words::open(rt.alloc(), 16)?;
+    let found = (
+        free_header(&mut words, 1),
+        free_header(&mut words, 4),
+        live_header(&mut words, 8),
+    );
+    let free = (FREE, u64::MAX, LINKS);
+    same(found, (free, free, (LIVE, 3, 7))).expect(&rt, "differ");
+    words.zero(2, 2);
+    let mut wanted = [0; 16];
+    wanted[1] = 0x0000_0005_0000_0033;
+    wanted[4] = 0x0000_0005_0000_0033;
+    wanted[5] = u64::MAX;
+    wanted[6] = 0xffff_ffff_0000_0009;
+    wanted[8] = 0xffff_ffff_0000_0010;
+    wanted[9] = 3;
+    wanted[10] = 7;
     same(image(&mut words), wanted).expect(&rt, "differ");
-    Ok(())
-}
-
-#[test]
-fn second_and_third_words_of_headers(rt: HostRuntime) -> Result<(), Fail> {
-    let mut live = filled(&rt, rt.alloc())?;
-    live.set_mark(2, u64::MAX);
-    live.set_length(2, 7);
-    same((live.mark(2), live.length(2)), (u64::MAX, 7)).expect(&rt, "differ");
-    same(image(&mut live), kept_but(3, &[u64::MAX, 7])).expect(&rt, "differ");
-    let links = Links {
-        next: 9,
-        previous: u32::MAX,
-    };
-    let mut free = filled(&rt, rt.alloc())?;
-    free.set_links(2, links);
-    same(free.links(2), links).expect(&rt, "differ");
-    same(image(&mut free), kept_but(4, &[0xffff_ffff_0000_0009])).expect(&rt, "differ");
-    Ok(())
-}
-
-#[test]
-fn zeros_and_their_neighbours(rt: HostRuntime) -> Result<(), Fail> {
-    let mut words = filled(&rt, rt.alloc())?;
-    words.zero(2, 3);
-    same(image(&mut words), kept_but(2, &[0, 0, 0])).expect(&rt, "differ");
     Ok(())
 }
 
@@ -141,30 +134,28 @@ fn bytes_and_their_neighbours(rt: HostRuntime) -> Result<(), Fail> {
     Ok(())
 }
 
-/// Opens a region, and sets and clears the start bits of some places.
-fn check_region(rt: &impl Abort, alloc: Global, n: u32, places: &[u32]) -> Result<(), NoMemory>
-    requires least { 4 ≤ n }
-    requires most { n ≤ 2 ^ 20 }
-{
-    let mut words = Words::open(alloc, n)?;
-    for &at in places {
-        assert!(rt; at < words.len());
-        same((at, words.word(at), words.starts(at)), (at, 0, false)).expect(rt, "differ");
-        words.set_start(at, true);
+/// Whether a start bit is clear, can be set and can be cleared again.
+fn switches(words: &mut Words, at: u32) -> bool {
+    if at >= words.len() {
+        return false;
     }
-    for &at in places {
-        assert!(rt; at < words.len());
-        let is_set = words.starts(at);
-        words.set_start(at, false);
-        same((at, is_set, words.starts(at)), (at, true, false)).expect(rt, "differ");
-    }
-    Ok(())
+    let was_set = words.starts(at);
+    words.set_start(at, true);
+    let is_set = words.starts(at);
+    words.set_start(at, false);
+    !was_set && is_set && !words.starts(at)
 }
 
 #[test]
 fn start_bits_of_the_least_and_the_largest_region(rt: HostRuntime) -> Result<(), Fail> {
-    check_region(&rt, rt.alloc(), 4, &[0, 1, 3])?;
-    check_region(&rt, rt.alloc(), 1048576, &[0, 62, 63, 64, 65, 1048575])?;
+    let mut least = Words::open(rt.alloc(), 4)?;
+    for at in [0, 1, 3] {
+        same((at, switches(&mut least, at)), (at, true)).expect(&rt, "differ");
+    }
+    let mut largest = Words::open(rt.alloc(), 1048576)?;
+    for at in [0, 62, 63, 64, 65, 1048575] {
+        same((at, switches(&mut largest, at)), (at, true)).expect(&rt, "differ");
+    }
     Ok(())
 }
 

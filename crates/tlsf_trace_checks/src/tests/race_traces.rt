@@ -1,13 +1,12 @@
 //! Traces that are raced.
-use crate::tests::fakes::{FakeReader, FakeWriter};
+use crate::tests::streams::Streams;
 use std::alloc::Global;
 use std::marker::Sync;
 use std::process::Abort;
 use std::sync::Wait;
 use std::thread::Threads;
-use tlsf_crew::OpenGate;
 use tlsf_fixtures::same;
-use tlsf_trace::{Summary, TraceFault, race_trace};
+use tlsf_trace::{Summary, TraceFault};
 
 /// Two workers, each with a block of the other's to release.
 const TWO_WORKERS: &[u8] =
@@ -31,48 +30,41 @@ fn check_raced<T: Threads + Wait + Abort + Sync>(
     room: usize,
     wanted: (Result<Summary, TraceFault>, &str),
 ) {
-    let mut writer = FakeWriter::new(alloc);
-    writer.room = room;
-    let answer = race_trace(
-        rt,
-        alloc,
-        &mut FakeReader::new(text),
-        &mut writer,
-        &OpenGate,
-    );
-    same((answer, writer.text()), wanted).expect(rt, "differ");
+    let mut streams = Streams::new(alloc, text);
+    streams.writer.room = room;
+    let answer = streams.race(rt, alloc);
+    same((answer, streams.writer.text()), wanted).expect(rt, "differ");
 }
 
 #[test]
 fn traces_are_raced(rt: HostRuntime) {
-    let two_workers = Summary {
+    let two_workers = Ok(Summary {
         calls: 6,
-        bytes: TWO_WORKERS_TEXT.len() as u64,
-    };
-    let refused_label = Summary {
+        bytes: 371,
+    });
+    let refused_label = Ok(Summary {
         calls: 5,
-        bytes: REFUSED_LABEL_TEXT.len() as u64,
-    };
-    let rows: [(&[u8], usize, (Result<Summary, TraceFault>, &str)); 5] = [
-        (TWO_WORKERS, 1000, (Ok(two_workers), TWO_WORKERS_TEXT)),
-        (REFUSED_LABEL, 1000, (Ok(refused_label), REFUSED_LABEL_TEXT)),
-        (
-            TWO_WORKERS,
-            40,
-            (Err(TraceFault::WRITE), &TWO_WORKERS_TEXT[..40]),
-        ),
-        (
-            b"tlsf 2 2 64 4\n",
-            0,
-            (Err(TraceFault { no: 11, line: 1 }), ""),
-        ),
-        (
-            b"tlsf 1 2 64 4\na 0 1 8\nf 1 1\n",
-            0,
-            (Err(TraceFault { no: 14, line: 3 }), ""),
-        ),
-    ];
-    for (text, room, wanted) in rows {
-        check_raced(&rt, rt.alloc(), text, room, wanted);
-    }
+        bytes: 326,
+    });
+    let refused = Err(TraceFault { no: 14, line: 3 });
+    let refused_text = b"tlsf 1 2 64 4\na 0 1 8\nf 1 1\n";
+    let unwritten = Err(TraceFault::WRITE);
+    let front = "0 a 1 at 0 serial 1\n0 p 1 wrote 4\n0 d dr";
+    let alloc = rt.alloc();
+    check_raced(
+        &rt,
+        alloc,
+        TWO_WORKERS,
+        1000,
+        (two_workers, TWO_WORKERS_TEXT),
+    );
+    check_raced(
+        &rt,
+        alloc,
+        REFUSED_LABEL,
+        1000,
+        (refused_label, REFUSED_LABEL_TEXT),
+    );
+    check_raced(&rt, alloc, TWO_WORKERS, 40, (unwritten, front));
+    check_raced(&rt, alloc, refused_text, 0, (refused, ""));
 }

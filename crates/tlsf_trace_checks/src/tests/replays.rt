@@ -1,95 +1,73 @@
 //! Traces that are replayed, as far as they are read and written.
-use crate::tests::fakes::{FakeReader, FakeWriter};
+use crate::tests::streams::Streams;
 use std::alloc::Global;
-use std::test::Fail;
 use tlsf_fixtures::same;
-use tlsf_trace::{Summary, TraceFault, replay};
+use tlsf_trace::{Summary, TraceFault};
 
 const FIRST_TRACE: &[u8] = b"tlsf 1 1 64 1\na 0 1 8\na 0 2 100\nf 0 1\n";
 
-const FIRST_TEXT: &str =
-    "0 a 1 at 0 serial 1\n0 a 2 at 4 serial 2\n0 f 1 freed\n0 d drained 0\nheap 0 live 1 16 100 free 2 48 largest 44 grant 328 fragmentation 84 waste 28 age 2\n";
+const FIRST_TEXT: &[u8] =
+    b"0 a 1 at 0 serial 1\n0 a 2 at 4 serial 2\n0 f 1 freed\n0 d drained 0\nheap 0 live 1 16 100 free 2 48 largest 44 grant 328 fragmentation 84 waste 28 age 2\n";
 
-/// What a replay of the text answers and writes.
-pub fn replayed(alloc: Global, text: &[u8]) -> (Result<Summary, TraceFault>, FakeWriter) {
-    let mut writer = FakeWriter::new(alloc);
-    let answer = replay(alloc, &mut FakeReader::new(text), &mut writer);
-    (answer, writer)
+/// What a replay of the first trace answers, and how many bytes it wrote, if they are the front of its text. The reads and
+/// the writes move up to so many bytes, and there is room for so many.
+fn ending(
+    alloc: Global,
+    most: usize,
+    room: usize,
+    fails_when_full: bool,
+    flush_fails: bool,
+) -> (Result<Summary, TraceFault>, Option<usize>) {
+    let mut streams = Streams::new(alloc, FIRST_TRACE);
+    streams.reader.most = most;
+    streams.writer.most = most;
+    streams.writer.room = room;
+    streams.writer.fails_when_full = fails_when_full;
+    streams.writer.flush_fails = flush_fails;
+    let answer = streams.replay(alloc);
+    let held = streams.writer.held.as_slice();
+    (answer, FIRST_TEXT.starts_with(held).then_some(held.len()))
 }
 
 #[test]
 fn first_trace(rt: HostRuntime) {
+    let done = Summary {
+        calls: 3,
+        bytes: 150,
+    };
     for most in [1, 7, 4096] {
-        let mut reader = FakeReader::new(FIRST_TRACE);
-        reader.most = most;
-        let mut writer = FakeWriter::new(rt.alloc());
-        writer.most = most;
-        let answer = replay(rt.alloc(), &mut reader, &mut writer);
-        let done = Summary {
-            calls: 3,
-            bytes: 150,
-        };
-        same((answer, writer.text()), (Ok(done), FIRST_TEXT)).expect(&rt, "differ");
+        let found = ending(rt.alloc(), most, usize::MAX, true, false);
+        same(found, (Ok(done), Some(150))).expect(&rt, "differ");
     }
 }
 
-// The end of a phase is no call, and every other line is one.
-#[test]
-fn counts_the_calls(rt: HostRuntime) {
-    let rows: [(&[u8], u32); 3] = [
-        (b"tlsf 1 1 64 1\n", 0),
-        (b"tlsf 1 1 64 1\nphase\nphase\n", 0),
-        (
-            b"tlsf 1 2 64 4\na 0 1 8\np 0 1 0 48\ng 0 1 0 1\nphase\nf 1 1\nd 0 1\n",
-            5,
-        ),
-    ];
-    for (text, calls) in rows {
-        let (answer, writer) = replayed(rt.alloc(), text);
-        let bytes = writer.held.len() as u64;
-        same(answer, Ok(Summary { calls, bytes })).expect(&rt, "differ");
-    }
-}
-
-// What was written before a write failed is a front of the text.
+// What was written before a write failed, or took no byte, is a front of the text. The whole is written before a flush.
 #[test]
 fn a_front_is_written(rt: HostRuntime) {
-    for (room, fails_when_full) in [(0, true), (0, false), (20, true), (21, false), (149, false)] {
-        let mut writer = FakeWriter::new(rt.alloc());
-        writer.room = room;
-        writer.fails_when_full = fails_when_full;
-        writer.most = 16;
-        let answer = replay(rt.alloc(), &mut FakeReader::new(FIRST_TRACE), &mut writer);
-        let front = &FIRST_TEXT[..room];
-        same((answer, writer.text()), (Err(TraceFault::WRITE), front)).expect(&rt, "differ");
+    for room in 0..150 {
+        for fails_when_full in [true, false] {
+            let found = ending(rt.alloc(), 16, room, fails_when_full, false);
+            same(found, (Err(TraceFault::WRITE), Some(room))).expect(&rt, "differ");
+        }
     }
+    let flushed = ending(rt.alloc(), 16, usize::MAX, true, true);
+    same(flushed, (Err(TraceFault::WRITE), Some(150))).expect(&rt, "differ");
 }
 
-/// As many lines as a trace may have: each block is released before the next is asked for.
-fn longest_trace(alloc: Global) -> Result<Vec<u8>, Fail> {
-    let mut text = Vec::new(alloc);
-    text.extend_from_slice(b"tlsf 1 1 64 1\na 0 65535 8\n")?;
-    for label in 0..16_383u32 {
-        let lines = format!(in alloc; "a 0 {label} 8\nf 0 {label}\n")?;
-        text.extend_from_slice(lines.as_bytes())?;
-    }
-    Ok(text)
+/// The number of the fault where a read of one byte fails, how many reads there were, and how many bytes were written.
+fn failing_read(alloc: Global, fails_at: u64) -> (u32, u64, usize) {
+    let mut streams = Streams::new(alloc, FIRST_TRACE);
+    streams.reader.most = 1;
+    streams.reader.fails_at = fails_at;
+    let no = streams.replay(alloc).err().map_or(0, |fault| fault.no);
+    (no, streams.reader.reads, streams.writer.held.len())
 }
 
+// The last of them would show the end.
 #[test]
-fn as_many_lines_as_a_trace_may_have(rt: HostRuntime) -> Result<(), Fail> {
-    let mut text = longest_trace(rt.alloc())?;
-    let (answer, writer) = replayed(rt.alloc(), &text);
-    let ends = writer.held.ends_with(
-        b"0 a 16382 at 4 serial 32766\n0 f 16382 freed\n0 d drained 0\nheap 0 live 1 4 8 free 1 60 largest 60 grant 456 fragmentation 0 waste 24 age 1\n",
-    );
-    same(
-        (answer.map(|summary| summary.calls), ends),
-        (Ok(32_767), true),
-    )
-    .expect(&rt, "differ");
-    text.extend_from_slice(b"f 0 1\n")?;
-    let (refused, unwritten) = replayed(rt.alloc(), &text);
-    same((refused, unwritten.text()), (Err(TraceFault::TOO_LONG), "")).expect(&rt, "differ");
-    Ok(())
+fn stops_at_a_read_that_fails(rt: HostRuntime) {
+    for fails_at in 0..39 {
+        let found = failing_read(rt.alloc(), fails_at);
+        same(found, (16, fails_at.saturating_add(1), 0)).expect(&rt, "differ");
+    }
 }

@@ -1,42 +1,36 @@
 use crate::tests::fakes::FakeWriter;
+use std::alloc::Global;
 use tlsf_fixtures::same;
 use tlsf_trace::{TraceFault, WriteError, write_out};
 
 const TEXT: &[u8] = b"0 a 1 at 0 serial 1\n";
 
-#[test]
-fn writes_the_whole_text(rt: HostRuntime) {
-    for most in [1, 7, 20, 4096] {
-        let mut writer = FakeWriter::new(rt.alloc());
-        writer.most = most;
-        let written = write_out(&mut writer, TEXT);
-        same((written, writer.held.as_slice()), (Ok(()), TEXT)).expect(&rt, "differ");
-    }
+/// What writing a text answers, and how many bytes it wrote, if they are the front of the text.
+fn written(
+    alloc: Global,
+    text: &[u8],
+    room: usize,
+    flush_fails: bool,
+) -> (Result<(), WriteError>, Option<usize>) {
+    let mut writer = FakeWriter::new(alloc);
+    writer.most = 7;
+    writer.room = room;
+    writer.flush_fails = flush_fails;
+    let answer = write_out(&mut writer, text);
+    let held = writer.held.as_slice();
+    (answer, text.starts_with(held).then_some(held.len()))
 }
 
 #[test]
-fn stops_where_no_byte_is_taken(rt: HostRuntime) {
-    for (room, fails_when_full) in [(0, true), (0, false), (13, true), (13, false)] {
-        let mut writer = FakeWriter::new(rt.alloc());
-        writer.most = 5;
-        writer.room = room;
-        writer.fails_when_full = fails_when_full;
-        let written = write_out(&mut writer, TEXT);
-        same(
-            (written, writer.held.as_slice()),
-            (Err(WriteError), &TEXT[..room]),
-        )
-        .expect(&rt, "differ");
-    }
-}
-
-#[test]
-fn reports_a_flush_that_fails(rt: HostRuntime) {
-    for text in [TEXT, b"".as_slice()] {
-        let mut writer = FakeWriter::new(rt.alloc());
-        writer.flush_fails = true;
-        let written = write_out(&mut writer, text);
-        same((written, writer.held.as_slice()), (Err(WriteError), text)).expect(&rt, "differ");
+fn tells_whether_all_is_written(rt: HostRuntime) {
+    for (text, room, flush_fails, wanted) in [
+        (TEXT, 20, false, (Ok(()), Some(20))),
+        (TEXT, 13, false, (Err(WriteError), Some(13))),
+        (TEXT, 20, true, (Err(WriteError), Some(20))),
+        (b"".as_slice(), 0, true, (Err(WriteError), Some(0))),
+    ] {
+        let found = written(rt.alloc(), text, room, flush_fails);
+        same((room, found), (room, wanted)).expect(&rt, "differ");
     }
 }
 
@@ -49,9 +43,6 @@ fn faults_of_reading_and_writing(rt: HostRuntime) {
         TraceFault::WRITE,
         TraceFault::from(WriteError),
     ];
-    same(
-        faults.map(|fault| (fault.no, fault.line)),
-        [(6, 0), (15, 0), (16, 0), (17, 0), (17, 0)],
-    )
-    .expect(&rt, "differ");
+    let found = faults.map(|fault| (fault.no, fault.line));
+    same(found, [(6, 0), (15, 0), (16, 0), (17, 0), (17, 0)]).expect(&rt, "differ");
 }

@@ -118,107 +118,24 @@ fn calls_of_a_worker(rt: HostRuntime) -> Result<(), Fail> {
         (take(0, 1), took(1, block, Err(Refusal::Stale))),
         (take(0, 1), Reply::Empty),
         (take(0, 0), STRANGER),
-    ];
-    check_calls(&rt, &mut workers, &rows);
-    Ok(())
-}
-
-#[test]
-fn refused_calls_of_a_worker_change_nothing(rt: HostRuntime) -> Result<(), Fail> {
-    let mut workers = open_yard(rt.alloc(), 2, 64, 1)?;
-    let block = name(0, 0, 1);
-    let (foreign, stale) = (name(1, 0, 1), name(0, 0, 2));
-    let bytes = Chunk::new(b"payload.").ok_or("up to 64 bytes")?;
-    let spoils = Chunk::new(b"spoils").ok_or("up to 64 bytes")?;
-    let given_back = name(1, 0, 8);
-    let rows = [
-        (allocate(0, 600), heap_refuses(Refusal::NoFit)),
-        (allocate(0, 8), Reply::Made(block)),
-        (write(0, block, 0, bytes), Reply::Wrote(8)),
-        (write(0, foreign, 0, spoils), heap_refuses(Refusal::Foreign)),
-        (read_of(0, foreign, 0, 6), heap_refuses(Refusal::Foreign)),
-        (write(0, stale, 0, spoils), heap_refuses(Refusal::Stale)),
-        (read_of(0, stale, 0, 6), heap_refuses(Refusal::Stale)),
-        (write(0, block, 3, spoils), heap_refuses(Refusal::Range)),
-        (read_of(0, block, 3, 6), heap_refuses(Refusal::Range)),
-        (release_of(0, stale), heap_refuses(Refusal::Stale)),
-        (release_of(0, name(2, 0, 1)), STRANGER),
-        (release_of(0, name(1, 0, 7)), Reply::Posted),
-        (
-            release_of(0, given_back),
-            Reply::Refused(CrewRefusal::Full(given_back)),
-        ),
-        (take(0, 0), STRANGER),
-        (take(0, 2), STRANGER),
-        (read_of(0, block, 0, 8), Reply::Got(bytes)),
-        (allocate(0, 8), Reply::Made(name(0, 4, 2))),
-    ];
-    check_calls(&rt, &mut workers, &rows);
-    Ok(())
-}
-
-#[test]
-fn lone_worker_has_no_lanes(rt: HostRuntime) -> Result<(), Fail> {
-    let mut workers = open_yard(rt.alloc(), 1, 64, 4)?;
-    let rows = [
-        (allocate(0, 8), Reply::Made(name(0, 0, 1))),
-        (release_of(0, name(1, 0, 1)), STRANGER),
-        (take(0, 0), STRANGER),
-        (take(0, 1), STRANGER),
         (drain(0, 8), Reply::Drained(0)),
-        (release_of(0, name(0, 0, 1)), Reply::Freed),
     ];
     check_calls(&rt, &mut workers, &rows);
     Ok(())
 }
 
-/// Worker 0 of a new yard, after a list of events.
-fn first_after(alloc: Global, n: u32, events: &[Event]) -> Result<Option<Worker>, Fail> {
-    let mut workers = open_yard(alloc, n, 64, 4)?;
-    let _ = replay_events(alloc, &mut workers, events)?;
+/// What the first of two workers answers to a drain of no post and to one of up to 8, once the second has posted a name.
+fn drained(alloc: Global, posted: Name) -> Result<[Drained; 2], Fail> {
+    let mut workers = open_yard(alloc, 2, 64, 4)?;
+    let _ = replay_events(alloc, &mut workers, &[release_of(1, posted)])?;
     settle(&mut workers);
-    workers.truncate(1);
-    Ok(workers.pop())
-}
-
-/// Which of the three first blocks of the own heap can be read.
-fn live(worker: &mut Worker) -> [bool; 3] {
-    [name(0, 0, 1), name(0, 4, 2), name(0, 8, 3)].map(|block| worker
-        .read(block, 0, &mut [])
-        .is_ok())
-}
-
-#[test]
-fn drain_goes_over_workers_in_rising_order(rt: HostRuntime) -> Result<(), Fail> {
-    let events = [
-        allocate(0, 8),
-        allocate(0, 8),
-        allocate(0, 8),
-        release(2, Target::Made(0)),
-        release(1, Target::Made(1)),
-        release(1, Target::Made(2)),
-    ];
-    let mut first = first_after(rt.alloc(), 3, &events)?.ok_or("three workers")?;
-    same(live(&mut first), [true; 3]).expect(&rt, "differ");
-    let one = Drained { taken: 1, freed: 1 };
-    let none = Drained { taken: 0, freed: 0 };
-    for (most, drained, left) in [
-        (1, one, [true, false, true]),
-        (1, one, [true, false, false]),
-        (8, one, [false; 3]),
-        (8, none, [false; 3]),
-    ] {
-        let found = (first.drain(most), live(&mut first));
-        same(found, (drained, left)).expect(&rt, "differ");
-    }
-    Ok(())
+    let first = workers.first_mut().ok_or("two workers")?;
+    Ok([first.drain(0), first.drain(8)])
 }
 
 #[test]
 fn drain_counts_a_forged_name_as_taken(rt: HostRuntime) -> Result<(), Fail> {
-    let events = [release(1, Target::Named(name(0, 5, 2)))];
-    let mut first = first_after(rt.alloc(), 2, &events)?.ok_or("two workers")?;
-    let found = [first.drain(0), first.drain(8)];
+    let found = drained(rt.alloc(), name(0, 5, 2))?;
     let none = Drained { taken: 0, freed: 0 };
     same(found, [none, Drained { taken: 1, freed: 0 }]).expect(&rt, "differ");
     Ok(())

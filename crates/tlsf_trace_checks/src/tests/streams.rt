@@ -1,0 +1,74 @@
+//! The streams of a run.
+use crate::tests::fakes::{FakeReader, FakeWriter};
+use std::alloc::Global;
+use std::marker::Sync;
+use std::process::Abort;
+use std::sync::Wait;
+use std::thread::Threads;
+use tlsf_command::run;
+use tlsf_crew::OpenGate;
+use tlsf_trace::{Summary, TraceFault, race_trace, replay};
+
+/// What a run reads, and where it writes and reports.
+#[derive(Drop)]
+pub struct Streams<'a> {
+    pub reader: FakeReader<'a>,
+    pub writer: FakeWriter,
+    pub errors: FakeWriter,
+}
+
+impl<'a> Streams<'a> {
+    pub fn new(alloc: Global, text: &'a [u8]) -> Streams<'a> {
+        Streams {
+            reader: FakeReader::new(text),
+            writer: FakeWriter::new(alloc),
+            errors: FakeWriter::new(alloc),
+        }
+    }
+
+    /// What the replay of the text answers.
+    pub fn replay(&mut self, alloc: Global) -> Result<Summary, TraceFault> {
+        replay(alloc, &mut self.reader, &mut self.writer)
+    }
+
+    /// What the race of the text answers.
+    pub fn race<R: Threads + Wait + Sync>(
+        &mut self,
+        rt: &R,
+        alloc: Global,
+    ) -> Result<Summary, TraceFault> {
+        race_trace(rt, alloc, &mut self.reader, &mut self.writer, &OpenGate)
+    }
+
+    /// The status of a run on words that commas end.
+    pub fn run<R: Threads + Wait + Abort + Sync>(
+        &mut self,
+        rt: &R,
+        alloc: Global,
+        words: &str,
+    ) -> u8 {
+        let words = words
+            .split_terminator(',')
+            .collect::<Vec<&str>>(alloc)
+            .expect(rt, "memory");
+        run(
+            rt,
+            alloc,
+            &words,
+            &mut self.reader,
+            &mut self.writer,
+            &mut self.errors,
+            &OpenGate,
+        )
+    }
+
+    /// What stands in the stream that this status calls for, and in the other: a run writes where it is done, else it reports.
+    pub fn told(&self, status: u8) -> (&str, &str) {
+        let (written, reported) = (self.writer.text(), self.errors.text());
+        if status == 0 {
+            (written, reported)
+        } else {
+            (reported, written)
+        }
+    }
+}
