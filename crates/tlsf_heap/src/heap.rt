@@ -293,6 +293,7 @@ impl Heap {
         ensures heap { self.new.heap ≡ self.old.heap }
         ensures stored { self.new.stored ≡ self.old.stored }
         ensures was_lawful { IsLawful self.old.heap }
+        ensures most { self.old.heap.words ≤ 2 ^ 20 }
         ensures touches { self.new.touches ≤ self.old.touches + 4 }
         ensures touches_rise { self.old.touches ≤ self.new.touches }
 
@@ -301,6 +302,19 @@ impl Heap {
         ensures nowhere { ¬ (IsPlace self.old.heap.blocks at) → self.new.touches ≤ self.old.touches + 1 }
     {
         self.region.block_at(at)
+    }
+
+    /// The tick of the heap: that which the next accepted allocate or release stamps, 1 to 2^64 - 1. A block that is free since tick
+    /// s has been free for `tick - s` ticks.
+    ///
+    /// ```text
+    /// let mut heap = Heap::open(alloc, 0, 64, 0)?;
+    /// heap.tick()                                      // 1, and 2 behind an accepted allocate
+    /// ```
+    pub fn tick(&self) -> u64
+        ensures { result ≡ self.now.heap.tick }
+    {
+        self.tick
     }
 
     /// The tag of the live block of this heap that has that name. Where none has, `Foreign` or else `Stale`.
