@@ -1,5 +1,7 @@
 -- What a race comes to: the records of its workers, and what its threads promise.
 
+-- What a race comes to where no script takes posts: the schedule of the threads decides nothing.
+pub mod Alone
 -- What the thread of one worker is given, and what it promises of what it hands back.
 pub mod Job
 -- What the parts of a race give one another. This serves the contracts and proofs of private functions alone.

@@ -13,7 +13,8 @@
 //! [`race`] runs a script for each worker, in a thread of its own, and then drains each worker. What each was answered is
 //! its record, in the [`Outcome`]. Whatever the schedule of the threads, each record is legal (what the worker's own heap
 //! answers to its calls, one after another), each two agree on what was posted and taken, and nothing waits in the end
-//! (`IsRace`). A [`Gate`] is passed before each call, where a test can have the threads meet.
+//! (`IsRace`). A [`Gate`] is passed before each call, where a test can have the threads meet. Where no script takes posts,
+//! [`race_without_takes`] says which records and which world each schedule leads to.
 //!
 //! Each call of a `Worker` takes no memory and doesn't wait, and keeps its yard whole.
 //!
@@ -23,6 +24,7 @@
 mod threads;
 mod yard;
 
+pub use threads::alone::race_without_takes;
 pub use threads::gate::{Gate, OpenGate};
 pub use threads::laws::one_history_of_a_race;
 pub use threads::outcome::Outcome;

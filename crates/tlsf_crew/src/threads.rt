@@ -1,5 +1,6 @@
 //! A race: a thread for each worker of a yard, with its job, its record and what it hands back.
 
+pub(crate) mod alone;
 pub(crate) mod done;
 pub(crate) mod fan_out;
 pub(crate) mod gate;

@@ -1,9 +1,17 @@
 -- Lemmas on races.
 
+-- The last drain of a worker takes in a race what it takes where each worker ran alone.
+pub mod AloneDrains
+-- A worker whose script takes no post is told in a race what it is told alone.
+pub mod AloneRuns
 -- The last drains, worker after worker, take all that waits, are told, and have their room.
 pub mod LastDrains
+-- Two races of the same scripts, which take no post, are the same.
+pub mod OneRace
 -- A record tells the calls of its script and the history of its worker's heap.
 pub mod RecordHistory
+-- Two drains of the same heap that took the same posts are the same.
+pub mod SameDrains
 -- The calls of a script, one after another.
 pub mod ScriptRuns
 -- A worker may go to another thread, with its job and with what it hands back.

@@ -1,7 +1,8 @@
-ghost use Rattle.std.specs.Prelude.{◌≡◌, ◌≢◌, ◌+◌, ◌*◌, ◌/◌, ◌≤◌, List, length, true, false, Ok, Err, OnSome, IfNone};
+ghost use Rattle.std.specs.Prelude.{◌≡◌, ◌≢◌, ◌+◌, ◌*◌, ◌/◌, ◌≤◌, ◌^◌, List, length, true, false, Ok, Err, OnSome, IfNone};
 ghost use Rattle.std.specs.Result.{result_unwrap_or};
 ghost use Rattle.tlsf_heap.specs.Calls.{allocated, written, read_of, read_answer};
 ghost use Rattle.tlsf_heap.specs.Given.{payload_words_given};
+ghost use Rattle.tlsf_heap.specs.Lawful.{IsLawful};
 ghost use Rattle.tlsf_heap.specs.Placed.{placed_at};
 ghost use Rattle.tlsf_heap.specs.Reports.{report_of};
 ghost use Rattle.tlsf_calls.specs.declared.took.Took.{Took};
@@ -303,6 +304,17 @@ impl Worker {
         self.heap.report()
     }
 
+    /// The tick of the own heap: that which the next accepted allocate or release stamps.
+    ///
+    /// ```
+    /// let tick = worker.tick();               // 1 where nothing was allocated yet
+    /// ```
+    pub fn tick(&self) -> u64
+        ensures { result ≡ (heap_of self.now).tick }
+    {
+        self.heap.tick()
+    }
+
     /// The block of the own heap that begins at a place, None where none does. The next begins at its end, `at + size`.
     ///
     /// ```
@@ -311,6 +323,8 @@ impl Worker {
     pub fn block_at(&mut self, at: u32) -> Option<PlacedBlock>
         ensures block { result ≡ placed_at (heap_of self.old).blocks at }
         ensures heap { heap_of self.new ≡ heap_of self.old }
+        ensures was_lawful { IsLawful (heap_of self.old) }
+        ensures most { (heap_of self.old).words ≤ 2 ^ 20 }
         ensures same { SameButHeap self.old self.new }
         ensures yard { KeepsYards self.old self.new }
         ensures touches { touches_of self.new ≤ touches_of self.old + 4 }

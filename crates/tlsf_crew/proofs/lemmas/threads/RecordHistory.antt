@@ -118,6 +118,11 @@ race_told : (w v : World) (scripts : List (List Call)) (records : List (List Ent
     → ToldWhole (length w.heaps) j (heap_in w j) (script_of scripts j ++ last_call ∷ []) (record { made = race.made j; entries = record_of records j; heap = heap_in v j })
 race_told w v scripts records race j j_in = legal_told (length w.heaps) j (heap_in w j) (script_of scripts j) (race.scripted j) _ j_in (race.legal j j_in)
 
+-- each entry tells an answer where it tells a call on its worker's own heap
+pub race_answered : (w v : World) (scripts : List (List Call)) (records : List (List Entry)) (race : IsRace w scripts records v) (j : ℕ) → j < length w.heaps
+    → All (IsAnswered (race.made j) (length w.heaps)) (record_of records j)
+race_answered w v scripts records race j j_in = (race_told w v scripts records race j j_in).each
+
 pub race_tells : (w v : World) (scripts : List (List Call)) (records : List (List Entry)) (race : IsRace w scripts records v) (j : ℕ) → j < length w.heaps
     → Tells (length w.heaps) [] (events_of_race scripts j) (race.made j) (record_of records j)
 race_tells w v scripts records race j j_in = (race_told w v scripts records race j j_in).tells
