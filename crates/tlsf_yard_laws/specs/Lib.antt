@@ -1,4 +1,5 @@
 pub mod Yards
 pub mod Races
+pub mod Posts
 pub mod Sharing
 pub mod Moments

@@ -8,15 +8,18 @@
 //! |---|---|---|
 //! | how many blocks its own worker was told to be held, those under way included | how many words are enough | [`yard_never_refuses`], [`race_never_refuses`] |
 //! | how many blocks nobody has released yet, and how many posts the lanes hold | the same | [`lanes_add_their_capacity`]; in a race [`race_adds_its_lanes`] |
+//! | that each block is given back once | a post that is taken is never stale | [`no_post_is_stale`] |
 //! | what its own worker was told | the bytes under each name | [`yard_keeps_bytes`], [`race_keeps_bytes`] |
 //!
 //! A law on a race holds after any earlier replays and races ([`past_goes_on`]).
 #![tactic(auto)]
 
+mod posts;
 mod races;
 mod sharing;
 mod yards;
 
+pub use posts::no_post_is_stale;
 pub use races::{past_goes_on, race_keeps_bytes, race_never_refuses};
 pub use sharing::{lanes_add_their_capacity, race_adds_its_lanes};
 pub use yards::{yard_keeps_bytes, yard_never_refuses};
