@@ -4,5 +4,6 @@ pub mod ReportSteps  -- report lines of heaps, one heap after another
 pub mod WholeOutput  -- what is put out, from its parts
 pub mod WholeReplay  -- a replay that is done
 -- Races.
+pub mod OneText  -- a trace without `d` lines gives one text
 pub mod RaceTold  -- what the text of a raced trace tells of each heap
 pub mod RacedPhases  -- phases that are raced one after another

@@ -26,9 +26,17 @@ pub part_left : (w u last : World) (made names : List (Option Name)) (part rest 
     → names ≡ (replies_behind w made part).made → u ≡ (replies_behind w made part).world → (replies_behind u names rest).world ≡ last
 part_left w u last made names part rest so_far names_are world_is = rw (world_is, names_are) (sym (ap (λ r. r.world) (replies_in_parts w made part rest)) ∙ so_far)
 
+-- and it makes the names that both make
+pub part_made : (w u : World) (last made names : List (Option Name)) (part rest : List Event) → (replies_behind w made (part ++ rest)).made ≡ last
+    → names ≡ (replies_behind w made part).made → u ≡ (replies_behind w made part).world → (replies_behind u names rest).made ≡ last
+part_made w u last made names part rest so_far names_are world_is = rw (world_is, names_are) (sym (ap (λ r. r.made) (replies_in_parts w made part rest)) ∙ so_far)
+
 -- no event is left, and so no line
 pub all_told : (w : World) (made : List (Option Name)) (labels : List (Option ℕ)) (text : List ℕ) → text ≡ text ++ reply_text (replies_behind w made []).entries labels
 all_told w made labels text = rw (replies_none w made) (sym (append-nil text))
 
 pub all_left : (w : World) (made : List (Option Name)) → w ≡ (replies_behind w made []).world
 all_left w made = rw (replies_none w made) refl
+
+pub all_made : (w : World) (made : List (Option Name)) → made ≡ (replies_behind w made []).made
+all_made w made = rw (replies_none w made) refl

@@ -12,7 +12,7 @@ use Rattle.tlsf_lines.specs.Trace.{Trace}
 use Rattle.tlsf_lines.specs.Events.{events_of, labels_of}
 
 -- the heaps of the world that a yard shows
-heaps_in : (ws : List Worker) (w : World) → world_of ws ≡ w → map heap_of ws ≡ w.heaps
+pub heaps_in : (ws : List Worker) (w : World) → world_of ws ≡ w → map heap_of ws ≡ w.heaps
 unfolding world_of
 heaps_in ws w is = ap (λ (x : World). x.heaps) is
 

@@ -3,7 +3,10 @@ pub mod ReportLines
 pub mod Output
 pub mod RaceOutput
 pub mod RaceHistory
+pub mod OneText
 pub mod Replay
+pub mod Finish
+pub mod Ended
 pub use Rattle.tlsf_lines.specs.Pieces
 pub use Rattle.tlsf_lines.specs.Trace
 pub use Rattle.tlsf_lines.specs.Events
@@ -15,4 +18,3 @@ pub use Rattle.tlsf_lines.specs.Limits
 pub use Rattle.tlsf_lines.specs.Prefixes
 -- What the clauses of private functions cite besides.
 pub mod RaceSoFar
-pub mod Finish

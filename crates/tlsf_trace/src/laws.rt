@@ -1,4 +1,5 @@
 ghost use Rattle.std.specs.Prelude.{ℕ, List};
+ghost use Rattle.tlsf_trace.specs.OneText.{RaceGivesOneText};
 ghost use Rattle.tlsf_trace.specs.RaceHistory.{HasHistory};
 ghost use Rattle.tlsf_trace.specs.RaceOutput.{IsRaceOutput};
 ghost use Rattle.tlsf_lines.specs.Trace.{Trace};
@@ -11,4 +12,13 @@ ghost use Rattle.tlsf_lines.specs.Trace.{Trace};
 /// phase and, by the line `0 take 1 at 0 serial 1 freed`, a release of that block in the second.
 pub fn one_history_of_a_raced_trace()
     ensures { (trace : Trace) (text : List ℕ) → IsRaceOutput trace text → HasHistory trace text }
+{}
+
+/// A trace without `d` lines gives one text when it is raced, whatever the schedule of the threads: all that
+/// [`race_trace`](crate::race_trace) may write of it is the same.
+///
+/// Its posts are taken in the last drains of the phases alone (`tlsf_crew::race_without_takes`). So it is for the trace of
+/// `tlsf 1 2 64 4`, `a 0 1 8`, `phase`, `f 1 1`.
+pub fn trace_without_drains_gives_one_text()
+    ensures { RaceGivesOneText }
 {}

@@ -10,6 +10,7 @@ ghost use Rattle.tlsf_lines.specs.Trace.{Trace};
 use crate::report_lines::write_reports;
 use std::alloc::{AllocError, Global};
 use tlsf_crew::{Event, Worker, open_yard, replay_behind};
+use tlsf_heap::Name;
 use tlsf_lines::{Script, write_replies};
 
 /// How many events run before their lines are written. An entry has 200 bytes, so few are held at a time.
@@ -18,14 +19,16 @@ const PART: usize = 1024;
 /// How many bytes of text are made ready for each event: most reply lines have fewer.
 const REPLY_BYTES: usize = 32;
 
-// Runs the events of a script, part by part, and adds the lines of what they are answered.
-fn write_run(
+// Runs the events of a script, part by part, and adds the lines of what they are answered. Answers the name that each made.
+pub(crate) fn write_run(
     alloc: Global,
     text: &mut String,
     workers: &mut [Worker],
     script: &Script,
-) -> Result<(), AllocError>
+) -> Result<Vec<Option<Name>>, AllocError>
     requires { IsYard workers.old }
+    ensures yard { IsYard workers.new }
+    ensures made { IfOk result (λ made. made.items ≡ (replies (world_of workers.old) script.now.events.items).made) }
     ensures text { OnOk result (string_bytes text.new ≡ string_bytes text.old
         ++ reply_text (replies (world_of workers.old) script.now.events.items).entries script.now.labels.items) }
     ensures world { OnOk result (world_of workers.new ≡ (replies (world_of workers.old) script.now.events.items).world) }
@@ -42,7 +45,7 @@ fn write_run(
         labels = write_replies(text, &entries, labels)?;
         events = rest;
     }
-    Ok(())
+    Ok(made)
 }
 
 /// The reply lines of a script, run on a new yard, and a report line for each heap that it leaves.

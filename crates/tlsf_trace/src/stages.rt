@@ -12,8 +12,17 @@ use std::thread::Threads;
 use tlsf_crew::Gate;
 use tlsf_lines::{TraceFault, read_all, script_in, trace_in, write_out};
 
-// Writes what so many calls put out. The text is whole before its first byte is written.
-fn finish<W: Write>(writer: &mut W, calls: u32, output: &str) -> Result<Summary, TraceFault>
+/// Writes the whole text that a trace of so many calls comes to, flushes, and tells of both.
+///
+/// ```
+/// let summary = finish(&mut writer, 2, "0 f 1 freed\n")?;
+/// // summary.calls is 2 and summary.bytes is 12
+/// ```
+///
+/// # Errors
+///
+/// A write that fails (17). Then a prefix of the text was written.
+pub fn finish<W: Write>(writer: &mut W, calls: u32, output: &str) -> Result<Summary, TraceFault>
     ensures { Finishes result calls output.now (W.contents writer.old) (W.contents writer.new) }
 {
     write_out(writer, output.as_bytes())?;
@@ -58,8 +67,8 @@ pub fn replay<R: Read, W: Write>(
 ///
 /// Each phase is one [`race`](tlsf_crew::race): a worker's lines are its script, run in a thread of its own, and a last
 /// drain of each worker ends the phase. The reply lines of a phase stand worker by worker. A trace without `d` lines gives
-/// the same text on every run; else it depends on the schedule how many posts a drain takes. `gate` is passed as `race`
-/// passes it, once more for each phase.
+/// the same text on every run ([`trace_without_drains_gives_one_text`](crate::trace_without_drains_gives_one_text)); else it
+/// depends on the schedule how many posts a drain takes. `gate` is passed as `race` passes it, once more for each phase.
 ///
 /// The trace is read to its end and checked before a line runs, and the whole text is made before a byte is written. The
 /// limits are those of [`replay`].

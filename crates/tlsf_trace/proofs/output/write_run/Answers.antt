@@ -2,7 +2,7 @@ use Rattle.std.proofs.Common.{◌≡◌, ◌++◌, [], rules, refl, string_bytes
 use Rattle.std.proofs.lemmas.List.{nil_from_length}
 use Rattle.tlsf_crew.specs.yard.World.{world_of}
 use Rattle.tlsf_crew.proofs.lemmas.yard.InParts.{replies_alone}
-use Rattle.tlsf_trace.proofs.PartByPart.{all_left, all_told, part_left, part_told}
+use Rattle.tlsf_trace.proofs.PartByPart.{all_left, all_made, all_told, part_left, part_made, part_told}
 use Rattle.tlsf_trace.proofs.output.write_run.Goals as goal
 
 pub loop-events-init : goal.loop-events-init
@@ -12,6 +12,7 @@ loop-events-init c =
       yard = c.requires;
       so_far = rw (c.deref-events.ensures.value, c.deref-labels.ensures.value, c.in_ok-made.ensures.items, alone) refl;
       world = rw (c.deref-events.ensures.value, c.in_ok-made.ensures.items, alone) refl;
+      made = rw (c.deref-events.ensures.value, c.in_ok-made.ensures.items, alone) refl;
     }
 
 pub loop-events-preserved : goal.loop-events-preserved
@@ -32,6 +33,7 @@ loop-events-preserved c =
       so_far = part_told w u made names part rest c.in-Ok.entries.items c.loop-events.labels.now c.in_ok-labels.labels.now (string_bytes c.loop-events.text) (string_bytes c.write_replies.new.text) _
           (rw whole at inv.so_far) told.entries told.made told.world text left;
       world = part_left w u _ made names part rest (rw whole at inv.world) told.made told.world;
+      made = part_made w u _ made names part rest (rw whole at inv.made) told.made told.world;
     }
 
 pub returns-clause-text : goal.returns-clause-text
@@ -43,3 +45,8 @@ pub returns-clause-world : goal.returns-clause-world
 returns-clause-world c =
     let none : c.loop-events.events.now ≡ [] = nil_from_length _ (search rules) in
     all_left (world_of c.loop-events.workers) c.loop-events.made.items ∙ (rw none at c.loop-events.invariant.world)
+
+pub returns-clause-made : goal.returns-clause-made
+returns-clause-made c =
+    let none : c.loop-events.events.now ≡ [] = nil_from_length _ (search rules) in
+    all_made (world_of c.loop-events.workers) c.loop-events.made.items ∙ (rw none at c.loop-events.invariant.made)

@@ -1,0 +1,75 @@
+-- A trace without `d` lines gives one text.
+use Rattle.std.proofs.Common.{Bool, true, false, ◌==◌, ◌≡◌, ◌∷◌, ◌++◌, [], ℕ, zero, suc, List, Option, map, get_or, refl, sym, ap, ◌∙◌, subst}
+use Rattle.std.specs.List.{AllByRecursion}
+use Rattle.tlsf_heap.specs.declared.name.Name.{Name}
+use Rattle.tlsf_calls.specs.declared.entry.Entry.{Entry}
+use Rattle.tlsf_crew.specs.yard.World.{World}
+use Rattle.tlsf_crew.specs.threads.Alone.{OnlyLastDrains, TakesNoPost}
+use Rattle.tlsf_crew.proofs.lemmas.threads.OneRace.{race_is_one}
+use Rattle.tlsf_lines.specs.Phases.{call_in, calls_from, in_first, is_line_of, known_below, none_known, own_lines, phases_of, script_in, scripts_in}
+use Rattle.tlsf_lines.specs.Records.{records_text}
+use Rattle.tlsf_lines.specs.declared.line.Line.{Line}
+use Rattle.tlsf_lines.specs.declared.line.Line.TheVariants.{Allocate, Release, Write, Read, Drain, Phase}
+use Rattle.tlsf_trace.specs.OneText.{IsNoDrain, RaceGivesOneText}
+use Rattle.tlsf_trace.specs.Output.{yard_of}
+use Rattle.tlsf_trace.specs.RaceOutput.{IsRaceText}
+
+-- ---- a phase without `d` lines
+
+abbrev HasNone : List Line → Type 0
+HasNone lines = AllByRecursion IsNoDrain lines
+
+-- one line more in front of the first phase
+first_none : (line : Line) (phases : List (List Line)) → IsNoDrain line → AllByRecursion HasNone phases → AllByRecursion HasNone (in_first line phases)
+first_none line [] one all = ((one, tt), tt)
+first_none line (phase ∷ phases) one all = ((one, all.0), all.1)
+
+phases_none : (lines : List Line) → HasNone lines → AllByRecursion HasNone (phases_of lines)
+phases_none [] all = (tt, tt)
+phases_none (Allocate worker label len ∷ lines) all = first_none (Allocate worker label len) (phases_of lines) tt (phases_none lines all.1)
+phases_none (Release worker label ∷ lines) all = first_none (Release worker label) (phases_of lines) tt (phases_none lines all.1)
+phases_none (Write worker label at bytes ∷ lines) all = first_none (Write worker label at bytes) (phases_of lines) tt (phases_none lines all.1)
+phases_none (Read worker label at n ∷ lines) all = first_none (Read worker label at n) (phases_of lines) tt (phases_none lines all.1)
+phases_none (Drain worker most ∷ lines) all = absurd all.0
+phases_none (Phase ∷ lines) all = (tt, phases_none lines all.1)
+
+-- ---- its scripts
+
+-- the calls of a worker's lines take no post
+abbrev AreFree : (ℕ → Option Name) → ℕ → List Line → Type 0
+AreFree known w lines = (before : List Line) → AllByRecursion TakesNoPost (calls_from known before (own_lines w lines))
+
+free_line : (known : ℕ → Option Name) (w : ℕ) (line : Line) (lines before : List Line) (b : Bool) → is_line_of w line ≡ b → TakesNoPost (call_in known before line) → AreFree known w lines
+    → AllByRecursion TakesNoPost (calls_from known before (own_lines w (line ∷ lines)))
+free_line known w line lines before true e one rest = rw e (one, rest (line ∷ before))
+free_line known w line lines before false e one rest = rw e (rest before)
+
+free_lines : (known : ℕ → Option Name) (w : ℕ) (lines : List Line) → HasNone lines → AreFree known w lines
+free_lines known w [] all before = tt
+free_lines known w (Allocate worker label len ∷ lines) all before = free_line known w (Allocate worker label len) lines before (worker == w) refl tt (free_lines known w lines all.1)
+free_lines known w (Release worker label ∷ lines) all before = free_line known w (Release worker label) lines before (worker == w) refl tt (free_lines known w lines all.1)
+free_lines known w (Write worker label at bytes ∷ lines) all before = free_line known w (Write worker label at bytes) lines before (worker == w) refl tt (free_lines known w lines all.1)
+free_lines known w (Read worker label at n ∷ lines) all before = free_line known w (Read worker label at n) lines before (worker == w) refl tt (free_lines known w lines all.1)
+free_lines known w (Drain worker most ∷ lines) all before = absurd all.0
+free_lines known w (Phase ∷ lines) all before = free_lines known w lines all.1 before
+
+free_scripts : (known : ℕ → Option Name) (phase : List Line) → HasNone phase → (workers : List ℕ) (j : ℕ) → AllByRecursion TakesNoPost (get_or (map (script_in known phase) workers) j [])
+free_scripts known phase all [] j = tt
+free_scripts known phase all (w ∷ workers) zero = free_lines known w phase all []
+free_scripts known phase all (w ∷ workers) (suc j) = free_scripts known phase all workers j
+
+-- ---- phase after phase
+
+same_text : (n : ℕ) (phases : List (List Line)) (w : World) (known : ℕ → Option Name) (text other : List ℕ) → AllByRecursion HasNone phases
+    → IsRaceText n w known phases text → IsRaceText n w known phases other → text ≡ other
+same_text n [] w known text other all is was = is ∙ sym was
+same_text n (phase ∷ phases) w known text other all (records, v, tail, race, text_is, more) (others, u, end, again, other_is, later) =
+    let free : OnlyLastDrains (scripts_in n known phase) = λ j. free_scripts known phase all.0 _ j in
+    let one = race_is_one w v u (scripts_in n known phase) records others free race again in
+    let told : IsRaceText n v (known_below known phase others n) phases tail = subst (λ (rs : List (List Entry)). IsRaceText n v (known_below known phase rs n) phases tail) one.0 more in
+    let moved : IsRaceText n u (known_below known phase others n) phases tail = subst (λ (x : World). IsRaceText n x (known_below known phase others n) phases tail) one.1 told in
+    let rest = same_text n phases u (known_below known phase others n) tail end all.1 moved later in
+    text_is ∙ (ap (λ rs. records_text phase rs n ++ tail) one.0 ∙ (ap (λ t. records_text phase others n ++ t) rest ∙ sym other_is))
+
+pub one_text : RaceGivesOneText
+one_text trace text other none is was = same_text trace.header.workers (phases_of trace.lines) (yard_of trace.header) none_known text other (phases_none trace.lines none) is was
