@@ -16,7 +16,7 @@ use Rattle.tlsf_command.specs.CommandLine.{Answers, Asks, command_in, name_of, n
 use Rattle.tlsf_command.specs.SizeQuestions.{pair_words, ArePairs, IsQuestion, Pair}
 use Rattle.tlsf_command.specs.declared.size_question.SizeQuestion.{SizeQuestion}
 use Rattle.tlsf_command.specs.declared.command_line.Choice.{Choice}
-use Rattle.tlsf_command.specs.declared.command_line.Choice.TheVariants.{Replay, Race, Classes, Size}
+use Rattle.tlsf_command.specs.declared.command_line.Choice.TheVariants.{Replay, Race, Map, Classes, Size}
 use Rattle.tlsf_command.proofs.NamedCommands.{faultless_named, race_named, replay_named, subcommand_name-rows}
 use Rattle.tlsf_command.proofs.SizePairs.{pairs_named}
 use Rattle.tlsf_command.proofs.SizeWords.{IsSized}
@@ -55,6 +55,18 @@ size_no_race same = let letters : 115 ≡ 114 = ap letter_of_name same in omega 
 race_differs : Some (codes "race") ≡ Some (codes "replay") → ⊥
 race_differs same = let counted : 4 ≡ 6 = ap size_of_name same in omega (arith, counted)
 
+map_other : Some (codes "map") ≡ Some (codes "classes") → ⊥
+map_other same = let counted : 3 ≡ 7 = ap size_of_name same in omega (arith, counted)
+
+map_differs : Some (codes "map") ≡ Some (codes "replay") → ⊥
+map_differs same = let counted : 3 ≡ 6 = ap size_of_name same in omega (arith, counted)
+
+map_no_race : Some (codes "map") ≡ Some (codes "race") → ⊥
+map_no_race same = let counted : 3 ≡ 4 = ap size_of_name same in omega (arith, counted)
+
+map_no_size : Some (codes "map") ≡ Some (codes "size") → ⊥
+map_no_size same = let counted : 3 ≡ 4 = ap size_of_name same in omega (arith, counted)
+
 -- what is asked for has the name that the words name
 asked_name : (words : List Text) (name : Text) (choice : Choice) → Asks words choice → command_in words ≡ Some name
     → Some (name_of choice) ≡ Some name
@@ -67,6 +79,14 @@ race_not_replay words called asks is = race_differs (asked_name words _ Race ask
 -- and those that ask for a replay not its name and `race`
 pub replay_not_race : (words : List Text) (called : Text) → Asks words Replay → words ≡ called ∷ codes "race" ∷ [] → ⊥
 replay_not_race words called asks is = race_differs (sym (asked_name words _ Replay asks (ap command_in is ∙ race_named called)))
+
+-- words that ask for a map are not the program's name and `race`
+pub map_not_race : (words : List Text) (called : Text) → Asks words Map → words ≡ called ∷ codes "race" ∷ [] → ⊥
+map_not_race words called asks is = map_no_race (asked_name words _ Map asks (ap command_in is ∙ race_named called))
+
+-- nor its name and `replay`
+pub map_not_replay : (words : List Text) (called : Text) → Asks words Map → words ≡ called ∷ codes "replay" ∷ [] → ⊥
+map_not_replay words called asks is = map_differs (asked_name words _ Map asks (ap command_in is ∙ replay_named called))
 
 -- words that ask for classes are not the program's name and `race`
 pub classes_not_race : (words : List Text) (called : Text) (n : ℕ) → Asks words (Classes n) → words ≡ called ∷ codes "race" ∷ [] → ⊥
@@ -101,6 +121,10 @@ pub race_no_pairs : (words : List Text) (called : Text) (pairs : List Pair) → 
     → words ≡ called ∷ codes "size" ∷ pair_words pairs → ⊥
 race_no_pairs words called pairs asks are is = size_no_race (pairs_name words called pairs Race asks are is)
 
+pub map_no_pairs : (words : List Text) (called : Text) (pairs : List Pair) → Asks words Map → ArePairs pairs
+    → words ≡ called ∷ codes "size" ∷ pair_words pairs → ⊥
+map_no_pairs words called pairs asks are is = map_no_size (sym (pairs_name words called pairs Map asks are is))
+
 pub classes_no_pairs : (words : List Text) (called : Text) (pairs : List Pair) (n : ℕ) → Asks words (Classes n) → ArePairs pairs
     → words ≡ called ∷ codes "size" ∷ pair_words pairs → ⊥
 classes_no_pairs words called pairs n asks are is = size_other (pairs_name words called pairs (Classes n) asks are is)
@@ -108,18 +132,28 @@ classes_no_pairs words called pairs n asks are is = size_other (pairs_name words
 -- where the command is none of the others it is `replay`
 pub asks_replay : (words : List Text) (matches : ArgMatches) → Answers words matches
     → (subcommand_name_of matches ≡ Some (codes "classes") → ⊥) → (subcommand_name_of matches ≡ Some (codes "race") → ⊥)
-    → (subcommand_name_of matches ≡ Some (codes "size") → ⊥) → Asks words Replay
-asks_replay words matches answers no_classes no_race no_size = elim (faultless_named words answers.0) [
+    → (subcommand_name_of matches ≡ Some (codes "size") → ⊥) → (subcommand_name_of matches ≡ Some (codes "map") → ⊥) → Asks words Replay
+asks_replay words matches answers no_classes no_race no_size no_map = elim (faultless_named words answers.0) [
   | inl is ↦ record { faultless = answers.0; named = ap label is.1; sized = tt }
   | inr (inl is) ↦ absurd (no_race (label_of_words words matches answers ∙ ap label is.1))
   | inr (inr (inl is)) ↦ absurd (no_classes (label_of_words words matches answers ∙ ap label is.1))
-  | inr (inr (inr is)) ↦ absurd (no_size (label_of_words words matches answers ∙ ap label is.1))
+  | inr (inr (inr (inl is))) ↦ absurd (no_size (label_of_words words matches answers ∙ ap label is.1))
+  | inr (inr (inr (inr is))) ↦ absurd (no_map (label_of_words words matches answers ∙ ap label is.1))
 ]
 
 -- where it is `race` the words ask for a race
 pub asks_race : (words : List Text) (matches : ArgMatches) → Answers words matches
     → subcommand_name_of matches ≡ Some (codes "race") → Asks words Race
 asks_race words matches answers called = record {
+  faultless = answers.0;
+  named = sym (label_of_words words matches answers) ∙ called;
+  sized = tt;
+}
+
+-- where it is `map` the words ask for a map
+pub asks_map : (words : List Text) (matches : ArgMatches) → Answers words matches
+    → subcommand_name_of matches ≡ Some (codes "map") → Asks words Map
+asks_map words matches answers called = record {
   faultless = answers.0;
   named = sym (label_of_words words matches answers) ∙ called;
   sized = tt;
@@ -132,7 +166,8 @@ sized_rows words matches answers called = elim (faultless_named words answers.0)
   | inl is ↦ absurd (replay_other (sym (ap label is.1) ∙ (sym (label_of_words words matches answers) ∙ called)))
   | inr (inl is) ↦ absurd (race_other (sym (ap label is.1) ∙ (sym (label_of_words words matches answers) ∙ called)))
   | inr (inr (inl is)) ↦ is
-  | inr (inr (inr is)) ↦ absurd (size_other (sym (ap label is.1) ∙ (sym (label_of_words words matches answers) ∙ called)))
+  | inr (inr (inr (inl is))) ↦ absurd (size_other (sym (ap label is.1) ∙ (sym (label_of_words words matches answers) ∙ called)))
+  | inr (inr (inr (inr is))) ↦ absurd (map_other (sym (ap label is.1) ∙ (sym (label_of_words words matches answers) ∙ called)))
 ]
 
 -- the texts that the words give under an id, by the matches of the command that was entered

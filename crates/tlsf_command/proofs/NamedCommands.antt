@@ -38,9 +38,12 @@ classes_name = codes "classes"
 abbrev size_name : Text
 size_name = codes "size"
 
+abbrev map_name : Text
+map_name = codes "map"
+
 -- the name of a command of the program
 abbrev IsOwn : Text → Type 0
-IsOwn name = (name ≡ replay_name) ⊎ ((name ≡ race_name) ⊎ ((name ≡ classes_name) ⊎ (name ≡ size_name)))
+IsOwn name = (name ≡ replay_name) ⊎ ((name ≡ race_name) ⊎ ((name ≡ classes_name) ⊎ ((name ≡ size_name) ⊎ (name ≡ map_name))))
 
 -- a step that is no subcommand but these
 abbrev IsAllowed : Step → Type 0
@@ -80,22 +83,23 @@ other_allowed : (b : Bool) (rules : List Rule) (waiting : Waiting) (position : �
 other_allowed true rules waiting position word h = tt
 other_allowed false rules waiting position word h = long_allowed rules waiting word (long_of word) h
 
--- the name of the subcommand that is found, of `replay`, `race`, `classes`, `size` and `help`
-abbrev name_found : Bool → Bool → Bool → Bool → Bool → Option Text
-name_found a b c d e = option_map (λ (s : Text × List Text). s.0)
+-- the name of the subcommand that is found, of `replay`, `race`, `classes`, `size`, `map` and `help`
+abbrev name_found : Bool → Bool → Bool → Bool → Bool → Bool → Option Text
+name_found a b c d m e = option_map (λ (s : Text × List Text). s.0)
     (cond a (Some (replay_name, [])) (cond b (Some (race_name, [])) (cond c (Some (classes_name, []))
-    (cond d (Some (size_name, [])) (cond e (Some (codes "help", [])) None)))))
+    (cond d (Some (size_name, [])) (cond m (Some (map_name, [])) (cond e (Some (codes "help", [])) None))))))
 
--- by whether the word is `replay`, `race`, `classes`, `size`, and `help`
-named_allowed : (a b c d e : Bool) (waiting : Waiting) (position : ℕ) (word : Text) (h : Held)
-    → other_fault program.top (name_found a b c d e) word h ≡ []
-    → IsAllowed (subcommand_or_other program.top.rules (name_found a b c d e) waiting position word h).1
-named_allowed true b c d e waiting position word h none = inl refl
-named_allowed false true c d e waiting position word h none = inr (inl refl)
-named_allowed false false true d e waiting position word h none = inr (inr (inl refl))
-named_allowed false false false true e waiting position word h none = inr (inr (inr refl))
-named_allowed false false false false true waiting position word h none = let counted : 2 ≡ 0 = ap length none in absurd (omega (arith, counted))
-named_allowed false false false false false waiting position word h none =
+-- by whether the word is `replay`, `race`, `classes`, `size`, `map`, and `help`
+named_allowed : (a b c d m e : Bool) (waiting : Waiting) (position : ℕ) (word : Text) (h : Held)
+    → other_fault program.top (name_found a b c d m e) word h ≡ []
+    → IsAllowed (subcommand_or_other program.top.rules (name_found a b c d m e) waiting position word h).1
+named_allowed true b c d m e waiting position word h none = inl refl
+named_allowed false true c d m e waiting position word h none = inr (inl refl)
+named_allowed false false true d m e waiting position word h none = inr (inr (inl refl))
+named_allowed false false false true m e waiting position word h none = inr (inr (inr (inl refl)))
+named_allowed false false false false true e waiting position word h none = inr (inr (inr (inr refl)))
+named_allowed false false false false false true waiting position word h none = let counted : 2 ≡ 0 = ap length none in absurd (omega (arith, counted))
+named_allowed false false false false false false waiting position word h none =
     other_allowed (bytes_eq word (45 ∷ 45 ∷ [])) program.top.rules waiting position word h
 
 met_allowed : (waiting : Waiting) (position : ℕ) (word : Text) (h : Held)
@@ -103,7 +107,7 @@ met_allowed : (waiting : Waiting) (position : ℕ) (word : Text) (h : Held)
     → IsAllowed (subcommand_or_other program.top.rules (subcommand_met (names_of program) waiting word) waiting position word h).1
 met_allowed idle position word h none =
     named_allowed (answers_to word (replay_name, [])) (answers_to word (race_name, [])) (answers_to word (classes_name, []))
-    (answers_to word (size_name, [])) (answers_to word (codes "help", [])) idle position word h none
+    (answers_to word (size_name, [])) (answers_to word (map_name, [])) (answers_to word (codes "help", [])) idle position word h none
 met_allowed (option id) position word h none = other_allowed (bytes_eq word (45 ∷ 45 ∷ [])) program.top.rules (option id) position word h
 met_allowed positional position word h none = other_allowed (bytes_eq word (45 ∷ 45 ∷ [])) program.top.rules positional position word h
 
@@ -147,17 +151,19 @@ walk_allowed w (word ∷ words) allowed none =
 
 -- ---- the command that was entered
 
--- the command that was entered is `replay`, `race`, `classes` with one size, or `size`
+-- the command that was entered is `replay`, `race`, `classes` with one size, `size`, or `map`
 abbrev pub IsNamed : Option (Text × List Row) → Type 0
 IsNamed named = ((rows : List Row) × (named ≡ Some (replay_name, rows)))
     ⊎ (((rows : List Row) × (named ≡ Some (race_name, rows)))
     ⊎ (((rows : List Row) × (named ≡ Some (classes_name, rows)) × IsSized rows)
-    ⊎ ((rows : List Row) × (named ≡ Some (size_name, rows)))))
+    ⊎ (((rows : List Row) × (named ≡ Some (size_name, rows)))
+    ⊎ ((rows : List Row) × (named ≡ Some (map_name, rows))))))
 
 own_entered : (stop : Text × List Text) → IsOwn stop.0 → entered_fault program (Some stop) ≡ [] → IsNamed (entered program (Some stop))
 own_entered stop (inl is) none = inl (_, ap (λ (name : Text). entered program (Some (name, stop.1))) is)
 own_entered stop (inr (inl is)) none = inr (inl (_, ap (λ (name : Text). entered program (Some (name, stop.1))) is))
-own_entered stop (inr (inr (inr is))) none = inr (inr (inr (_, ap (λ (name : Text). entered program (Some (name, stop.1))) is)))
+own_entered stop (inr (inr (inr (inl is)))) none = inr (inr (inr (inl (_, ap (λ (name : Text). entered program (Some (name, stop.1))) is))))
+own_entered stop (inr (inr (inr (inr is)))) none = inr (inr (inr (inr (_, ap (λ (name : Text). entered program (Some (name, stop.1))) is))))
 own_entered stop (inr (inr (inl is))) none =
     let level = subst (λ (name : Text). entered_fault program (Some (name, stop.1)) ≡ []) is none in
     inr (inr (inl (_, ap (λ (name : Text). entered program (Some (name, stop.1))) is, size_found stop.1 level)))

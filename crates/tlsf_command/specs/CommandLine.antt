@@ -7,7 +7,7 @@ use Rattle.clap.specs.declared.builder.value_parser.ValueParser.TheVariants.{Sig
 use Rattle.clap.specs.declared.parser.matches.ArgMatches.{ArgMatches}
 use Rattle.tlsf_command.specs.SizeQuestions.{IsQuestion}
 use Rattle.tlsf_command.specs.declared.command_line.Choice.{Choice}
-use Rattle.tlsf_command.specs.declared.command_line.Choice.TheVariants.{Replay, Race, Classes, Size}
+use Rattle.tlsf_command.specs.declared.command_line.Choice.TheVariants.{Replay, Race, Map, Classes, Size}
 
 -- the size that `classes` asks for, a number from 4 to 2^20
 abbrev pub size_rule : Rule
@@ -46,7 +46,8 @@ abbrev pub tlsf_app : App
 tlsf_app =
     let replaying = with_subcommand bare_app (new_app (codes "replay")).top in
     let racing = with_subcommand replaying (new_app (codes "race")).top in
-    with_subcommand (with_subcommand racing classes_app.top) size_app.top
+    let sizing = with_subcommand (with_subcommand racing classes_app.top) size_app.top in
+    with_subcommand sizing (new_app (codes "map")).top
 
 -- the kinds of error that the words may come to, none where they name a command
 abbrev pub faults_of : List Text → Kinds
@@ -78,6 +79,7 @@ texts_given id words =
 abbrev pub name_of : Choice → Text
 name_of Replay = codes "replay"
 name_of Race = codes "race"
+name_of Map = codes "map"
 name_of (Classes n) = codes "classes"
 name_of (Size question) = codes "size"
 
@@ -85,6 +87,7 @@ name_of (Size question) = codes "size"
 abbrev pub HasSize : List Text → Choice → Type 0
 HasSize words Replay = ⊤
 HasSize words Race = ⊤
+HasSize words Map = ⊤
 HasSize words (Classes n) =
     (option_map number_in (size_text words) ≡ Some n) × (4 ≤ n) × (n ≤ 2 ^ 20)
 HasSize words (Size question) = IsQuestion (texts_given (codes "B") words) (texts_given (codes "N") words) question

@@ -20,6 +20,9 @@ pub enum Choice {
     /// `tlsf race`: read a trace from standard input, run each phase in threads, one for each worker,
     /// and write its replies and reports to standard output.
     Race,
+    /// `tlsf map`: read a trace from standard input, and write a picture of the heaps that it leaves to
+    /// standard output.
+    Map,
     /// `tlsf classes N`: write the class and the search class of a size of N words, 4 to 2^20, to
     /// standard output.
     Classes(u32),
@@ -40,6 +43,7 @@ and frees the first block:
   f 0 1
 
 'tlsf race' does so with the workers of each phase in threads of their own.
+'tlsf map' draws the heaps that a trace leaves, as an SVG file.
 'tlsf classes N' and 'tlsf size' read nothing and write one line.
 
 The exit status is 0 where the run is done, 1 where a fault of the trace, of a
@@ -113,6 +117,25 @@ a trace, and this is what it comes to:
 The exit status is 0 where the replies are written, 1 where a fault of the
 trace, of a read or of a write ends the run, and 3 where memory runs out, or no
 thread can be started. Faults are those of 'tlsf replay'.";
+
+const MAP_HELP: &str = "\
+Standard input is a trace, as 'tlsf replay --help' tells. It is run to its end,
+with the drains there, and no reply is written.
+
+Standard output is an SVG file, for a browser: each heap as rows of words, read
+as a text is. A row has 64 words where a heap has at most 4096, 1024 where it
+has at most 65536, and else 16384. A block is a rectangle in each row that it
+touches, as wide as its words there. A live block shows its header and what its
+payload leaves empty, and where there is room its label and its bytes. A free
+block is the darker, the longer it is free, and the largest ones are framed.
+Above each heap stand the numbers of its report, and each block tells its own
+where the pointer rests on it.
+
+  tlsf map < two_workers.trace > heaps.svg
+
+The exit status is 0 where the picture is written, 1 where a fault of the
+trace, of a read or of a write ends the run, and 3 where memory runs out. Faults
+are those of 'tlsf replay'.";
 
 const CLASSES_HELP: &str = "\
 Nothing is read. Standard output is one line. For 460 words it is
@@ -243,11 +266,15 @@ fn tlsf_command<'a>(alloc: Global) -> Result<Command<'a>, AllocError>
     let replay = "Read a trace from standard input and write its replies to standard output";
     let race =
         "Read a trace from standard input and run each phase in threads, one for each worker";
+    let map = "Read a trace from standard input and write a picture of the heaps that it leaves";
     let bare = bare_command(alloc);
     let replaying = bare.subcommand(described(alloc, "replay", replay, REPLAY_HELP))?;
     let racing = replaying.subcommand(described(alloc, "race", race, RACE_HELP))?;
     let counting = with_command(racing, classes_command(alloc))?;
-    with_command(counting, size_command(alloc))?.bin_name("tlsf")
+    let sizing = with_command(counting, size_command(alloc))?;
+    sizing
+        .subcommand(described(alloc, "map", map, MAP_HELP))?
+        .bin_name("tlsf")
 }
 
 // What `clap` makes of the words.
@@ -274,7 +301,10 @@ fn chosen(alloc: Global, matches: &ArgMatches<'_>) -> Result<Choice, AllocError>
             Some(_) => Ok(Choice::Race),
             None => match matches.subcommand_matches("size") {
                 Some(given) => Ok(Choice::Size(SizeQuestion::given(alloc, given)?)),
-                None => Ok(Choice::Replay),
+                None => match matches.subcommand_matches("map") {
+                    Some(_) => Ok(Choice::Map),
+                    None => Ok(Choice::Replay),
+                },
             },
         },
     }

@@ -2,14 +2,15 @@
 //! status.
 //!
 //! [`run`] does what the words ask for. `replay` reads a trace, runs it, and writes the reply lines and a report on each
-//! heap. `race` does so with each phase run in threads, one for each worker. `classes N` writes the size class and the
+//! heap. `race` does so with each phase run in threads, one for each worker. `map` writes a picture of the heaps that a trace
+//! leaves. `classes N` writes the size class and the
 //! search class of N words. `size --blocks B --bytes N ..` writes the words of a region that never refuses B blocks of N
 //! bytes, for each pair. Help and version texts are written, and words that are refused are answered on the error stream. A
 //! [`RaceNotice`] shows that a long race is alive.
 //!
 //! | Exit status | When |
 //! |---|---|
-//! | 0 | the run is done, or the class line, the size line, the help or the version text is written |
+//! | 0 | the run is done, or the class line, the size line, the picture, the help or the version text is written |
 //! | 1 | a fault of the trace, a read or a write ended the run; its line is on the error stream |
 //! | 2 | the words of the command line are refused, and the usage is on the error stream; or no region is large enough or the options are no pairs, and that line is there |
 //! | 3 | memory ran out; the line `tlsf: out of memory (6)` is on the error stream |

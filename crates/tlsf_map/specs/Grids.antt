@@ -1,5 +1,5 @@
 -- How the words of a heap are laid out in rows.
-use Rattle.std.specs.Prelude.{◌≡◌, ℕ, zero, suc, ◌+◌, ◌*◌, ◌-◌, ◌/◌, ◌%◌, ◌≤◌, List, [], ◌∷◌, ◌==◌, ◌==◌, ◌==◌, ◌==◌, ◌==◌, ◌==◌, ◌==◌, nat_le, min, if◌then◌else◌, ⊤}
+use Rattle.std.specs.Prelude.{◌≡◌, ℕ, zero, suc, ◌+◌, ◌*◌, ◌-◌, ◌/◌, ◌%◌, ◌≤◌, List, [], ◌∷◌, ◌==◌, nat_le, min, if◌then◌else◌, ⊤}
 use Rattle.tlsf_map.specs.declared.grid.Grid.{Grid}
 
 -- rows of 64, 1,024 or 16,384 words, so that a heap has at most 64 rows; each row is 16,384 sixteenths of a pixel wide

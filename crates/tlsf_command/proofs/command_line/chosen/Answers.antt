@@ -22,12 +22,13 @@ unreachable-requires c =
     let bad : false ≡ true = ap is_some (sym c.in-None-get_one.is ∙ asks.1) in
     true≢false (sym bad)
 
-pub returns-in-None-subcommand_matches-2 : goal.returns-in-None-subcommand_matches-2
-returns-in-None-subcommand_matches-2 c = λ words answers.
+pub returns-in-None-subcommand_matches-3 : goal.returns-in-None-subcommand_matches-3
+returns-in-None-subcommand_matches-3 c = λ words answers.
     asks_replay words c.args.matches.now answers
     (λ called. true≢false (sym (rw c.in-None.is at (c.subcommand_matches.ensures.found.1 called))))
     (λ called. true≢false (sym (rw c.in-None-subcommand_matches.is at (c.subcommand_matches-in-None.ensures.found.1 called))))
     (λ called. true≢false (sym (rw c.in-None-subcommand_matches-2.is at (c.subcommand_matches-in-None-subcommand_matches.ensures.found.1 called))))
+    (λ called. true≢false (sym (rw c.in-None-subcommand_matches-3.is at (c.subcommand_matches-in-None-subcommand_matches-2.ensures.found.1 called))))
 
 pub returns-in_ok-given-in-Some-subcommand_matches-2 : goal.returns-in_ok-given-in-Some-subcommand_matches-2
 returns-in_ok-given-in-Some-subcommand_matches-2 c = λ words answers.

@@ -25,7 +25,9 @@ returns c =
     let third = joined c.classes_command.result c.in_ok-counting.ensures.0 c.in_ok-counting.counting (app_of c.in_ok-racing.racing) classes_app
     c.classes_command.ensures.app c.classes_command.ensures.local c.in_ok-counting.ensures.1 c.in_ok-counting.ensures.2
     ∙ ap (λ (a : App). with_subcommand a classes_app.top) second in
-    let fourth = joined c.size_command.result c.in_ok-with_command.ensures.0 c.in_ok-with_command.field-0 (app_of c.in_ok-counting.counting) size_app
-    c.size_command.ensures.app c.size_command.ensures.local c.in_ok-with_command.ensures.1 c.in_ok-with_command.ensures.2
+    let fourth = joined c.size_command.result c.in_ok-sizing.ensures.0 c.in_ok-sizing.sizing (app_of c.in_ok-counting.counting) size_app
+    c.size_command.ensures.app c.size_command.ensures.local c.in_ok-sizing.ensures.1 c.in_ok-sizing.ensures.2
     ∙ ap (λ (a : App). with_subcommand a size_app.top) third in
-    IfOk-weaker c.bin_name.result _ _ (λ command named. ap app_of_fields named.0 ∙ fourth) c.bin_name.ensures
+    let fifth = c.in_ok-subcommand.ensures.shape c.described-3.ensures.local
+    ∙ ap₂ with_subcommand fourth (ap (λ (a : App). a.top) c.described-3.ensures.app) in
+    IfOk-weaker c.bin_name.result _ _ (λ command named. ap app_of_fields named.0 ∙ fifth) c.bin_name.ensures

@@ -1,0 +1,51 @@
+use Rattle.std.proofs.Common.{◌≡◌, ◌+◌, ◌∷◌, ◌++◌, [], Some, None, sym, ap, ◌∙◌, subst, arith}
+use Rattle.tlsf_crew.specs.yard.Workers.{heap_of}
+use Rattle.tlsf_heap.specs.Blocks.{HeapState}
+use Rattle.tlsf_heap.specs.Lawful.{IsLawful}
+use Rattle.tlsf_heap.specs.Placed.{placed_at}
+use Rattle.tlsf_map.specs.declared.mapped_heap.LabelledBlock.{LabelledBlock}
+use Rattle.tlsf_picture.specs.Labelled.{known_in, labelled}
+use Rattle.tlsf_picture.proofs.Walking.{HasWalked, walk_ends, walk_on}
+use Rattle.tlsf_picture.proofs.mapping.blocks_of.Goals as goal
+
+pub overflow_add-at : goal.overflow_add-at
+overflow_add-at c =
+    let h = heap_of c.args.worker.now in
+    let same = c.loop-block.invariant.heap in
+    let lawful : IsLawful h = subst IsLawful same c.in-Some.ensures.was_lawful in
+    let found : placed_at h.blocks c.loop-block.at ≡ Some c.in-Some.block = ap (λ (x : HeapState). placed_at x.blocks c.loop-block.at) (sym same) ∙ sym c.in-Some.ensures.block in
+    let goes = walk_on (labelled (known_in c.args.labels.now)) h.blocks c.loop-block.at c.loop-block.blocks.items lawful.rooms c.loop-block.invariant.walked c.in-Some.block found in
+    let words = ap (λ (x : HeapState). x.words) same in
+    omega (arith, goes.inside, lawful.whole, words, c.in-Some.ensures.most)
+
+pub loop-block-smaller : goal.loop-block-smaller
+loop-block-smaller c =
+    let h = heap_of c.args.worker.now in
+    let same = c.loop-block.invariant.heap in
+    let lawful : IsLawful h = subst IsLawful same c.in-Some.ensures.was_lawful in
+    let found : placed_at h.blocks c.loop-block.at ≡ Some c.in-Some.block = ap (λ (x : HeapState). placed_at x.blocks c.loop-block.at) (sym same) ∙ sym c.in-Some.ensures.block in
+    let goes = walk_on (labelled (known_in c.args.labels.now)) h.blocks c.loop-block.at c.loop-block.blocks.items lawful.rooms c.loop-block.invariant.walked c.in-Some.block found in
+    omega (arith, goes.inside, goes.long, lawful.whole)
+
+pub loop-block-preserved : goal.loop-block-preserved
+loop-block-preserved c =
+    let h = heap_of c.args.worker.now in
+    let same = c.loop-block.invariant.heap in
+    let lawful : IsLawful h = subst IsLawful same c.in-Some.ensures.was_lawful in
+    let found : placed_at h.blocks c.loop-block.at ≡ Some c.in-Some.block = ap (λ (x : HeapState). placed_at x.blocks c.loop-block.at) (sym same) ∙ sym c.in-Some.ensures.block in
+    let label = labelled (known_in c.args.labels.now) in
+    let goes = walk_on label h.blocks c.loop-block.at c.loop-block.blocks.items lawful.rooms c.loop-block.invariant.walked c.in-Some.block found in
+    let items : c.push.new.self.items ≡ c.loop-block.blocks.items ++ label c.in-Some.block ∷ [] =
+    c.in_ok-push.ensures.items ∙ ap (λ (b : LabelledBlock). c.loop-block.blocks.items ++ b ∷ []) c.labelled.ensures in
+    record {
+      heap = c.in-Some.ensures.heap ∙ same;
+      walked = subst (HasWalked label h.blocks (c.loop-block.at + c.in-Some.block.size)) (sym items) goes.walked;
+    }
+
+pub returns-clause-blocks : goal.returns-clause-blocks
+returns-clause-blocks c =
+    let h = heap_of c.args.worker.now in
+    let same = c.loop-block.invariant.heap in
+    let lawful : IsLawful h = subst IsLawful same c.block_at.ensures.was_lawful in
+    let none : placed_at h.blocks c.loop-block.at ≡ None = ap (λ (x : HeapState). placed_at x.blocks c.loop-block.at) (sym same) ∙ (sym c.block_at.ensures.block ∙ c.in_default.is) in
+    walk_ends (labelled (known_in c.args.labels.now)) h.blocks c.loop-block.at c.loop-block.blocks.items lawful.rooms c.loop-block.invariant.walked none

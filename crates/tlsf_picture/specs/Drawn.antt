@@ -1,0 +1,41 @@
+-- The picture of the heaps that a trace leaves.
+use Rattle.std.specs.Prelude.{◌≡◌, ℕ, List, Option, Result, map}
+use Rattle.std.specs.List.{AllZip}
+use Rattle.tlsf_heap.specs.Blocks.{HeapState}
+use Rattle.tlsf_heap.specs.Placed.{placed_blocks}
+use Rattle.tlsf_heap.specs.Reports.{report_of}
+use Rattle.tlsf_heap.specs.declared.name.Name.{Name}
+use Rattle.tlsf_map.specs.Page.{svg_text}
+use Rattle.tlsf_map.specs.declared.mapped_heap.MappedHeap.{MappedHeap}
+use Rattle.tlsf_picture.specs.Labelled.{label_of, labelled}
+use Rattle.tlsf_lines.specs.Events.{labels_of}
+use Rattle.tlsf_trace.specs.Output.{run_of}
+use Rattle.tlsf_trace.specs.Replay.{IsRun}
+use Rattle.tlsf_lines.specs.Trace.{Trace}
+use Rattle.tlsf_trace.specs.declared.summary.Summary.{Summary}
+use Rattle.tlsf_lines.specs.declared.trace_fault.TraceFault.{TraceFault}
+
+-- the map of a heap: its number, its tick, its report, and each of its blocks in the order of their places, with these labels
+pub record IsMapBy (known : ℕ → Option ℕ) (heap : HeapState) (mapped : MappedHeap) : Type 0 where
+  pub id : mapped.id ≡ heap.id
+  pub tick : mapped.tick ≡ heap.tick
+  pub report : mapped.report ≡ report_of heap
+  pub blocks : mapped.blocks.items ≡ map (labelled known) (placed_blocks heap.blocks)
+
+-- the map of a heap, by what each event made and the label of each
+abbrev pub IsMap : List (Option Name) → List (Option ℕ) → HeapState → MappedHeap → Type 0
+IsMap made labels heap = IsMapBy (label_of heap.id made labels) heap
+
+-- a map for each heap, in their order
+abbrev pub AreMaps : List (Option Name) → List (Option ℕ) → List HeapState → List MappedHeap → Type 0
+AreMaps made labels heaps maps = AllZip (IsMap made labels) heaps maps
+
+-- the text is the picture of maps of the heaps that the trace leaves
+pub record Draws (trace : Trace) (text : List ℕ) : Type 0 where
+  pub maps : List MappedHeap
+  pub mapped : AreMaps (run_of trace).made (labels_of trace) (run_of trace).world.heaps maps
+  pub drawn : text ≡ svg_text trace.header.words maps
+
+-- a run of a trace that puts out its picture
+abbrev pub IsDrawing : Result Summary TraceFault → Option (List ℕ) → Option (List ℕ) → Option (List ℕ) → Option (List ℕ) → Type 0
+IsDrawing = IsRun Draws

@@ -1,0 +1,72 @@
+//! What pictures of the heaps of workers are made of.
+ghost use Rattle.std.specs.Prelude.{◌≡◌, ◌<◌, ◌≤◌, ℕ, List, Option, length, map, IfOk};
+ghost use Rattle.tlsf_crew.specs.yard.Workers.{heap_of};
+ghost use Rattle.tlsf_crew.specs.yard.Yard.{IsYard};
+ghost use Rattle.tlsf_heap.specs.Placed.{placed_blocks};
+ghost use Rattle.tlsf_picture.specs.Drawn.{AreMaps, IsMap, IsMapBy};
+ghost use Rattle.tlsf_picture.specs.Labelled.{known_in, labelled};
+
+use crate::block_labels::BlockLabels;
+use std::alloc::{AllocError, Global};
+use tlsf_crew::Worker;
+use tlsf_heap::Name;
+use tlsf_map::{LabelledBlock, MappedHeap};
+
+// The blocks of a worker's heap, in the order of their places, each with its label.
+fn blocks_of(
+    alloc: Global,
+    worker: &mut Worker,
+    labels: &BlockLabels,
+) -> Result<Vec<LabelledBlock>, AllocError>
+    ensures heap { heap_of worker.new ≡ heap_of worker.old }
+    ensures blocks { IfOk result (λ blocks. blocks.items
+        ≡ map (labelled (known_in labels.now)) (placed_blocks (heap_of worker.old).blocks)) }
+{
+    let mut blocks = Vec::new(alloc);
+    let mut at = 0;
+    while let Some(block) = worker.block_at(at) {
+        blocks.push(labels.labelled(block))?;
+        at += block.size;
+    }
+    Ok(blocks)
+}
+
+// What a picture of a worker's heap of this number is made of.
+fn map_heap(
+    alloc: Global,
+    id: u32,
+    worker: &mut Worker,
+    labels: &BlockLabels,
+) -> Result<MappedHeap, AllocError>
+    requires { (heap_of worker.old).id ≡ id }
+    ensures heap { heap_of worker.new ≡ heap_of worker.old }
+    ensures mapped { IfOk result (IsMapBy (known_in labels.now) (heap_of worker.old)) }
+{
+    let report = worker.report();
+    let blocks = blocks_of(alloc, worker, labels)?;
+    Ok(MappedHeap {
+        id,
+        tick: worker.tick(),
+        report,
+        blocks,
+    })
+}
+
+/// What a picture of the workers' heaps is made of, by the name that each event made and the label of each.
+pub fn map_heaps(
+    alloc: Global,
+    workers: &mut [Worker],
+    made: &[Option<Name>],
+    labels: &[Option<u32>],
+) -> Result<Vec<MappedHeap>, AllocError>
+    requires { IsYard workers.old }
+    ensures { IfOk result (λ maps. AreMaps made.now labels.now (map heap_of workers.old) maps.items) }
+{
+    let mut maps = Vec::new(alloc);
+    for number in 0..workers.len() {
+        let id = number as u32;
+        let known = BlockLabels::of(alloc, id, made, labels)?;
+        maps.push(map_heap(alloc, id, &mut workers[number], &known)?)?;
+    }
+    Ok(maps)
+}
