@@ -1,6 +1,8 @@
 #!/bin/sh
-# Refuses memory, reads, writes and threads to the built program, one after another, and judges each answer: status, standard
-# output and standard error. Run by hand: the gate doesn't. Needs cc and python3.
+# usage: bench/refusals.sh [PROGRAM]
+# Refuses memory, reads, writes and threads to a built program, one after another, and judges each answer: status, standard
+# output and standard error. The program is that of this tree, where none is named. The gate doesn't run this; ./attack does.
+# Needs cc and python3.
 #
 # Each growth of memory and each start of a thread is refused in turn, in each command, and each read; standard output takes
 # k bytes and then fails or takes none, for each k; and the limits on reads and lines are tried from both sides. Then the
@@ -15,6 +17,7 @@ for tool in cc python3; do
     command -v "$tool" > /dev/null || { echo "refusals: $tool is wanted, and isn't there" >&2; exit 2; }
 done
 
-"$top/tlsf" --version > "$work/version"
+program=${1:-$top/crates/tlsf_tool/out/tlsf_tool}
+[ $# -gt 0 ] || "$top/tlsf" --version > "$work/version"
 cc -shared -fPIC -O1 -o "$work/refuse.so" "$top/bench/refusals/refuse.c" -ldl
-python3 "$top/bench/refusals/judge.py" "$top/crates/tlsf_tool/out/tlsf_tool" "$work/refuse.so" "$work"
+python3 "$top/bench/refusals/judge.py" "$program" "$work/refuse.so" "$work"
