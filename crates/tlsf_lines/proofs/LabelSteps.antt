@@ -7,7 +7,7 @@ use Rattle.std.proofs.lemmas.List.{get_or-set_other}
 use Rattle.std.proofs.Math.ListN.{set}
 use Rattle.tlsf_lines.specs.Events.{width_in}
 use Rattle.tlsf_lines.specs.Labels.{Earlier, Made, Now, at_phase, made_of}
-use Rattle.tlsf_lines.specs.LabelMemory.{Memory, Recalls, Remembers, event_by, made_in, maker_at}
+use Rattle.tlsf_lines.specs.LabelMemory.{Memory, Recalls, Remembers, event_by, when_made, maker_at}
 use Rattle.tlsf_lines.specs.declared.line.Line.{Line}
 use Rattle.tlsf_lines.specs.declared.line.Line.TheVariants.{Allocate, Phase}
 use Rattle.tlsf_lines.specs.declared.maker.Maker.{Maker}
@@ -19,7 +19,7 @@ earlier worker true = refl
 earlier worker false = refl
 
 -- what was made, was made in an earlier phase
-later : (phase : ℕ) (maker : Option Maker) → IfSome maker (λ m. m.phase ≤ phase) → made_in (phase + 1) maker ≡ at_phase (made_in phase maker)
+later : (phase : ℕ) (maker : Option Maker) → IfSome maker (λ m. m.phase ≤ phase) → when_made (phase + 1) maker ≡ at_phase (when_made phase maker)
 later phase None past = refl
 later phase (Some maker) past =
     let other : eqb maker.phase (phase + 1) ≡ false = ne_eqb maker.phase (phase + 1) (λ same. omega (arith, past, same)) in
@@ -41,8 +41,8 @@ phase_ends memory before known = record {
 same_phase : (phase : ℕ) → eqb phase phase ≡ true
 same_phase phase = grind arith
 
-chosen : (b : Bool) (phase : ℕ) (new : Maker) (maker : Option Maker) (made : Made) → new.phase ≡ phase → made_in phase maker ≡ made
-    → made_in phase (cond b (Some new) maker) ≡ cond b (Now new.worker) made
+chosen : (b : Bool) (phase : ℕ) (new : Maker) (maker : Option Maker) (made : Made) → new.phase ≡ phase → when_made phase maker ≡ made
+    → when_made phase (cond b (Some new) maker) ≡ cond b (Now new.worker) made
 chosen true phase new maker made now is = rw (now, same_phase phase) refl
 chosen false phase new maker made now is = is
 
@@ -80,7 +80,7 @@ module _ (memory : Memory) (made : List (Option Maker)) (before : List Line) (la
   pub label_made : maker.phase ≡ memory.phase → Remembers memory before
       → Remembers (record { phase = memory.phase; made = made }) (Allocate maker.worker label len ∷ before)
   label_made now known = record {
-    tells = λ q. ap (made_in memory.phase) (updated q) ∙ chosen (nat_eq label q) memory.phase maker (maker_at memory.made q) (made_of q before) now (known.tells q);
+    tells = λ q. ap (when_made memory.phase) (updated q) ∙ chosen (nat_eq label q) memory.phase maker (maker_at memory.made q) (made_of q before) now (known.tells q);
     past = λ q. rw (updated q) (chosen_past (nat_eq label q) memory.phase maker (maker_at memory.made q) now (known.past q));
   }
 

@@ -3,8 +3,8 @@ use Rattle.std.proofs.Common.{◌≡◌, ◌∷◌, ◌++◌, [], ℕ, ◌+◌, 
 use mathlib.Core.Path.{fun_ext}
 use Rattle.std.proofs.lemmas.List.{reverse-append, length-reverse, length-take-le, take_more}
 use Rattle.tlsf_heap.specs.declared.name.Name.{Name}
-use Rattle.tlsf_lines.specs.OwnMakers.{with_line}
-use Rattle.tlsf_lines.specs.Phases.{known_behind, maker_in, name_by}
+use Rattle.tlsf_lines.specs.CallsByLabel.{with_line}
+use Rattle.tlsf_lines.specs.Phases.{known_behind, call_that_makes, name_by}
 use Rattle.tlsf_lines.specs.declared.line.Line.{Line}
 use Rattle.tlsf_lines.specs.declared.line.Line.TheVariants.{Allocate, Release, Write, Read, Drain, Phase}
 
@@ -15,8 +15,8 @@ one_case true k n maker made earlier is = ap (λ n. get_or made n None) is
 one_case false k n maker made earlier is = refl
 
 behind_line : (known : ℕ → Option Name) (before : List Line) (line : Line) (made : List (Option Name)) (n : ℕ) → length before ≡ n → (label : ℕ)
-    → name_by (maker_in label (line ∷ before)) made (known label) ≡ with_line (λ label. name_by (maker_in label before) made (known label)) line (get_or made n None) label
-behind_line known before (Allocate worker made_label len) made n is label = one_case (made_label == label) (length before) n (maker_in label before) made (known label) is
+    → name_by (call_that_makes label (line ∷ before)) made (known label) ≡ with_line (λ label. name_by (call_that_makes label before) made (known label)) line (get_or made n None) label
+behind_line known before (Allocate worker made_label len) made n is label = one_case (made_label == label) (length before) n (call_that_makes label before) made (known label) is
 behind_line known before (Release worker used) made n is label = refl
 behind_line known before (Write worker used at bytes) made n is label = refl
 behind_line known before (Read worker used at k) made n is label = refl
@@ -27,7 +27,7 @@ pub behind_more : (known : ℕ → Option Name) (lines : List Line) (line : Line
     → known_behind known (lines ++ line ∷ []) made ≡ with_line (known_behind known lines made) line (get_or made (length lines) None)
 behind_more known lines line made =
     fun_ext (λ label.
-    ap (λ before. name_by (maker_in label before) made (known label)) (reverse-append lines (line ∷ []))
+    ap (λ before. name_by (call_that_makes label before) made (known label)) (reverse-append lines (line ∷ []))
     ∙ behind_line known (reverse lines) line made (length lines) (length-reverse lines) label)
 
 pub behind_more_at : (known : ℕ → Option Name) (lines : List Line) (k : ℕ) (made : List (Option Name)) → k < length lines

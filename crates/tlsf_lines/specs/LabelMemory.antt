@@ -14,13 +14,13 @@ abbrev pub maker_at : List (Option Maker) → ℕ → Option Maker
 maker_at made label = slice_index_or made label None
 
 -- when a label was made, by its maker and the phase
-abbrev pub made_in : ℕ → Option Maker → Made
-made_in phase None = Never
-made_in phase (Some maker) = if maker.phase == phase then Now maker.worker else Earlier
+abbrev pub when_made : ℕ → Option Maker → Made
+when_made phase None = Never
+when_made phase (Some maker) = if maker.phase == phase then Now maker.worker else Earlier
 
 -- the memory tells what the lines before, the newest first, made of each label
 pub record Remembers (memory : Memory) (before : List Line) : Type 0 where
-  pub tells : (label : ℕ) → made_in memory.phase (maker_at memory.made label) ≡ made_of label before
+  pub tells : (label : ℕ) → when_made memory.phase (maker_at memory.made label) ≡ made_of label before
   pub past : (label : ℕ) → IfSome (maker_at memory.made label) (λ maker. maker.phase ≤ memory.phase)
 
 -- the event by which a label was made, where it was

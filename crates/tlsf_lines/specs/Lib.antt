@@ -25,5 +25,5 @@ pub use Rattle.tlsf_calls.specs.Numbers
 -- What the clauses of private functions cite besides.
 pub mod CutFields
 pub mod LabelMemory
-pub mod OwnMakers
+pub mod CallsByLabel
 pub mod OpenLines

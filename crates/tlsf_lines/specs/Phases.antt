@@ -43,10 +43,10 @@ abbrev pub own_lines : ℕ → List Line → List Line
 own_lines w lines = filter (is_line_of w) lines
 
 -- the number of the call that makes the label, among a worker's lines before, the newest first
-abbrev pub maker_in : ℕ → List Line → Option ℕ
-maker_in label [] = None
-maker_in label (Allocate worker made len ∷ before) = if made == label then Some (length before) else maker_in label before
-maker_in label (line ∷ before) = maker_in label before
+abbrev pub call_that_makes : ℕ → List Line → Option ℕ
+call_that_makes label [] = None
+call_that_makes label (Allocate worker made len ∷ before) = if made == label then Some (length before) else call_that_makes label before
+call_that_makes label (line ∷ before) = call_that_makes label before
 
 -- the name that a label has from an earlier phase, where its line was not refused
 abbrev pub named : Option Name → Target
@@ -60,7 +60,7 @@ target_by (Some k) earlier = Made k
 
 -- what a label stands for, where earlier phases gave labels these names
 abbrev pub target_in : (ℕ → Option Name) → List Line → ℕ → Target
-target_in known before label = target_by (maker_in label before) (known label)
+target_in known before label = target_by (call_that_makes label before) (known label)
 
 -- no label has a name before the first phase
 abbrev pub none_known : ℕ → Option Name
@@ -115,7 +115,7 @@ name_by (Some k) names earlier = get_or names k None
 
 -- what labels stand for behind the lines of a worker, whose calls made these names
 abbrev pub known_behind : (ℕ → Option Name) → List Line → List (Option Name) → ℕ → Option Name
-known_behind known lines names label = name_by (maker_in label (reverse lines)) names (known label)
+known_behind known lines names label = name_by (call_that_makes label (reverse lines)) names (known label)
 
 -- the same behind the lines of the workers below a number
 abbrev pub known_below : (ℕ → Option Name) → List Line → List (List Entry) → ℕ → ℕ → Option Name

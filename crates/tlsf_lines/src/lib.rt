@@ -19,6 +19,7 @@
 //! as `reply_text`.
 #![tactic(auto)]
 
+mod calls_by_label;
 mod fields;
 mod header;
 mod input;
@@ -28,7 +29,6 @@ mod learning;
 mod line;
 mod line_fault;
 mod maker;
-mod makers;
 mod names;
 mod numbers;
 mod parse_error;

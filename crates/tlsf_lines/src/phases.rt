@@ -4,11 +4,11 @@ ghost use Rattle.std.specs.List.{range_with_len};
 ghost use Rattle.tlsf_lines.specs.Phases as spelled;
 ghost use Rattle.tlsf_lines.specs.Phases.{calls_from, known_in, phases_of, scripts_in, target_in};
 ghost use Rattle.tlsf_lines.specs.Records as told;
-ghost use Rattle.tlsf_lines.specs.OwnMakers.{RecallsOwn};
+ghost use Rattle.tlsf_lines.specs.CallsByLabel.{RecallsOwn};
 ghost use Rattle.tlsf_lines.specs.declared.line.Line.{Line as ALine};
 
+use crate::calls_by_label::CallsByLabel;
 use crate::line::Line;
-use crate::makers::Makers;
 use crate::names::Names;
 use std::alloc::{AllocError, Global};
 use tlsf_calls::{Call, Target};
@@ -52,11 +52,11 @@ fn own_lines(alloc: Global, worker: u32, phase: &[Line]) -> Result<Vec<Line>, Al
 }
 
 // What a label stands for: what a call of this phase makes, or the name that it has from an earlier one.
-fn target_of(makers: &Makers, names: &Names, label: u32) -> Target
-    ensures { (before : List ALine) → RecallsOwn makers.now before
+fn target_of(by_label: &CallsByLabel, names: &Names, label: u32) -> Target
+    ensures { (before : List ALine) → RecallsOwn by_label.now before
         → result ≡ target_in (known_in names.now) before label }
 {
-    match makers.target(label) {
+    match by_label.target(label) {
         Target::Absent => match names.get(label) {
             Some(name) => Target::Named(name),
             None => Target::Absent,
@@ -66,14 +66,14 @@ fn target_of(makers: &Makers, names: &Names, label: u32) -> Target
 }
 
 // The call that a line stands for.
-fn call_of(makers: &Makers, names: &Names, line: Line) -> Call
-    ensures { (before : List ALine) → RecallsOwn makers.now before
+fn call_of(by_label: &CallsByLabel, names: &Names, line: Line) -> Call
+    ensures { (before : List ALine) → RecallsOwn by_label.now before
         → result ≡ spelled.call_in (known_in names.now) before line }
 {
     match line {
         Line::Allocate { len, .. } => Call::Allocate { len },
         Line::Release { label, .. } => Call::Release {
-            target: target_of(makers, names, label),
+            target: target_of(by_label, names, label),
         },
         Line::Write {
             label,
@@ -81,12 +81,12 @@ fn call_of(makers: &Makers, names: &Names, line: Line) -> Call
             bytes,
             ..
         } => Call::Write {
-            target: target_of(makers, names, label),
+            target: target_of(by_label, names, label),
             at,
             bytes,
         },
         Line::Read { label, at, n, .. } => Call::Read {
-            target: target_of(makers, names, label),
+            target: target_of(by_label, names, label),
             at,
             n,
         },
@@ -97,12 +97,12 @@ fn call_of(makers: &Makers, names: &Names, line: Line) -> Call
 }
 
 // Lets the call of this number make the label of its line, where the line makes one.
-fn remember(makers: &mut Makers, line: Line, call: u32) -> Result<(), AllocError>
-    ensures { OnOk result ((before : List ALine) → RecallsOwn makers.old before
-        → call ≡ length before → RecallsOwn makers.new (line ∷ before)) }
+fn remember(by_label: &mut CallsByLabel, line: Line, call: u32) -> Result<(), AllocError>
+    ensures { OnOk result ((before : List ALine) → RecallsOwn by_label.old before
+        → call ≡ length before → RecallsOwn by_label.new (line ∷ before)) }
 {
     if let Line::Allocate { label, .. } = line {
-        makers.insert(label, call)?;
+        by_label.insert(label, call)?;
     }
     Ok(())
 }
@@ -113,11 +113,11 @@ fn own_calls(alloc: Global, names: &Names, lines: &[Line]) -> Result<Vec<Call>, 
     ensures calls { IfOk result (λ calls. calls.items ≡ calls_from (known_in names.now) [] lines.now) }
     ensures len { IfOk result (λ calls. vec_len calls ≡ length lines.now) }
 {
-    let mut makers = Makers::new(alloc);
+    let mut by_label = CallsByLabel::new(alloc);
     let mut calls = Vec::new(alloc);
     for line in lines {
-        let call = call_of(&makers, names, *line);
-        remember(&mut makers, *line, calls.len() as u32)?;
+        let call = call_of(&by_label, names, *line);
+        remember(&mut by_label, *line, calls.len() as u32)?;
         calls.push(call)?;
     }
     Ok(calls)

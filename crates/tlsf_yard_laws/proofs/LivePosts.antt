@@ -17,7 +17,7 @@ use Rattle.tlsf_laws.proofs.Names.{same_is}
 use Rattle.tlsf_calls.specs.declared.entry.Entry.{Entry}
 use Rattle.tlsf_crew.specs.yard.History.{RunsTo, answer_told, answers_on, call_on_own, calls_on, handed_on}
 use Rattle.tlsf_crew.proofs.lemmas.yard.Fronts.{runs_through}
-use Rattle.tlsf_crew.proofs.lemmas.yard.JoinedEntries.{IsAnswered, told_other, told_own}
+use Rattle.tlsf_crew.proofs.lemmas.yard.JoinedEntries.{HasItsAnswer, told_other, told_own}
 
 -- the call isn't an accepted release of this name
 abbrev Spares : Name → heap.Call → heap.Answer → Type 0
@@ -104,9 +104,9 @@ entry_live j made name h g e lawful is spares run =
     ]
 
 -- all of them leave it live
-pub entries_live : (n j : ℕ) (made : List (Option Name)) (name : Name) (es : List Entry) (h g : HeapState) → j < n → IsLawful h → IsLive h name → All (IsAnswered made n) es
+pub entries_live : (n j : ℕ) (made : List (Option Name)) (name : Name) (es : List Entry) (h g : HeapState) → j < n → IsLawful h → IsLive h name → All (HasItsAnswer made n) es
     → AllByRecursion (SparesIn j made name) es → RunsTo h (calls_on j made es) (answers_on j es) g → IsLive g name
 entries_live n j made name [] h g j_in lawful is each spares run = subst (λ (x : HeapState). IsLive x name) run.left is
 entries_live n j made name (e ∷ es) h g j_in lawful is each spares run =
     let t = runs_through made n j h g (e ∷ []) es j_in lawful each run in
-    entries_live n j made name es t.between g j_in t.lawful (entry_live j made name h t.between e lawful is spares.0 t.first) (All-tail (IsAnswered made n) e es each) spares.1 t.rest
+    entries_live n j made name es t.between g j_in t.lawful (entry_live j made name h t.between e lawful is spares.0 t.first) (All-tail (HasItsAnswer made n) e es each) spares.1 t.rest

@@ -19,7 +19,7 @@ use Rattle.tlsf_laws.proofs.Names.{same_is, same_self}
 use Rattle.tlsf_laws.proofs.Around.{new_lawful}
 use Rattle.tlsf_laws.proofs.Ledgers.{Agrees, agrees_run, live_agrees, lookup, new_agrees}
 use Rattle.tlsf_crew.specs.yard.World.{World, heap_in}
-use Rattle.tlsf_crew.specs.yard.History.{RunsTo, answer_told, answers_on, call_on_own, calls_on, entries_of, handed_on, post_made, post_taken}
+use Rattle.tlsf_crew.specs.yard.History.{RunsTo, answer_told, answers_on, call_on_own, calls_on, entries_of, handed_on, post_of_release, post_of_take}
 use Rattle.tlsf_crew.specs.threads.Race.{IsRace, record_of}
 use Rattle.tlsf_calls.specs.declared.call.Call.{Call}
 use Rattle.tlsf_calls.specs.declared.entry.Entry.{Entry}
@@ -255,9 +255,9 @@ order_moments w made records order is before prefix j j_in = (
     under_way = λ i. is.waits before i j;
     part = λ i i_in ne. subst (IsPrefix (entries_of i before)) (is.each i i_in) (part i);
     posts = λ i i_in ne.
-        ap (λ (l : List Entry). w.waiting i j ++ filter_map (λ e. post_made j (made i) e.worker e.call e.reply) l) (entries_twice i before)
+        ap (λ (l : List Entry). w.waiting i j ++ filter_map (λ e. post_of_release j (made i) e.worker e.call e.reply) l) (entries_twice i before)
         ∙ (is.posts before i j prefix i_in j_in ne
-        ∙ ap (λ (l : List Entry). filter_map (λ e. post_taken i e.call e.reply) l ++ is.waits before i j) (sym (entries_twice j before)));
+        ∙ ap (λ (l : List Entry). filter_map (λ e. post_of_take i e.call e.reply) l ++ is.waits before i j) (sym (entries_twice j before)));
     short = λ i i_in ne. is.short before i j prefix i_in j_in ne;
   },
   (λ i. refl),

@@ -20,7 +20,7 @@ use Rattle.tlsf_calls.specs.declared.target.Target.{Target}
 use Rattle.tlsf_calls.specs.declared.took.Took.{Took}
 use Rattle.tlsf_crew.specs.yard.World.{World, Replayed, called, draining, heap_in, name_of, taking}
 use Rattle.tlsf_crew.specs.yard.Told.{Told, MayTell, MayTellAll, untold}
-use Rattle.tlsf_crew.specs.yard.History.{StandsBehind, answer_told, call_on_own, entries_of, meant, of_heap, post_made, post_taken, posts_made, posts_taken}
+use Rattle.tlsf_crew.specs.yard.History.{StandsBehind, answer_told, call_on_own, entries_of, meant, of_heap, post_of_release, post_of_take, posts_made, posts_taken}
 use Rattle.tlsf_crew.specs.threads.Race.{IsRace, last_call, record_of, script_of}
 use Rattle.tlsf_crew.proofs.lemmas.threads.AloneRuns.{takes_none}
 use Rattle.tlsf_crew.proofs.lemmas.threads.RecordHistory.{race_always, race_answered}
@@ -33,7 +33,7 @@ use Rattle.tlsf_crew.proofs.lemmas.yard.LaneCalls.{of_other, of_same}
 use Rattle.tlsf_crew.specs.threads.Alone.{TakesNoPost}
 use Rattle.tlsf_calls.specs.Bytes.{bytes_of}
 use Rattle.std.proofs.Math.Seq.{take-append_seam}
-use Rattle.tlsf_crew.proofs.lemmas.yard.JoinedEntries.{IsAnswered, told_nothing, told_other, told_own, told_then}
+use Rattle.tlsf_crew.proofs.lemmas.yard.JoinedEntries.{HasItsAnswer, told_nothing, told_other, told_own, told_then}
 use Rattle.tlsf_crew.proofs.lemmas.yard.ManyEntries.{taken_then}
 use Rattle.tlsf_crew.proofs.lemmas.yard.OneEvent.{taking_far, taking_own}
 use Rattle.tlsf_yard_laws.proofs.LivePosts.{SparesIn, entries_live}
@@ -93,8 +93,8 @@ all_standing P (x ∷ es) each = (each [] x (es, refl), all_standing P es (λ b 
 
 -- ---- no worker takes from itself, or from one that isn't there
 
-refused_take : (x : World) (at k from : ℕ) (e : Entry) → (k ≢ at → length x.heaps ≤ k) → e ≡ record { worker = at; call = Take from; reply = (taking x at from).reply } → post_taken k e.call e.reply ≡ None
-refused_take x at k from e far is = ap (λ (y : Entry). post_taken k y.call y.reply) is ∙ elim (cases_eq from k) [
+refused_take : (x : World) (at k from : ℕ) (e : Entry) → (k ≢ at → length x.heaps ≤ k) → e ≡ record { worker = at; call = Take from; reply = (taking x at from).reply } → post_of_take k e.call e.reply ≡ None
+refused_take x at k from e far is = ap (λ (y : Entry). post_of_take k y.call y.reply) is ∙ elim (cases_eq from k) [
   | inl same ↦ elim (cases_eq from at) [
     | inl own ↦ rw (taking_own x at from own) refl
     | inr ne ↦ let le = far (λ q. ne (same ∙ q)) in rw (taking_far x at from (omega (arith, le, same))) refl
@@ -102,7 +102,7 @@ refused_take x at k from e far is = ap (λ (y : Entry). post_taken k y.call y.re
   | inr ne ↦ not_from k from (taking x at from).reply ne
 ]
   where
-    not_from : (k from : ℕ) (reply : Reply) → from ≢ k → post_taken k (Take from) reply ≡ None
+    not_from : (k from : ℕ) (reply : Reply) → from ≢ k → post_of_take k (Take from) reply ≡ None
     not_from k from (Made name) ne = refl
     not_from k from Freed ne = refl
     not_from k from Posted ne = refl
@@ -141,7 +141,7 @@ take_away : (n at k from : ℕ) (s t : Told) → Away n at k → MayTell n at s 
 take_away n at k from s t far m none =
     let e : Entry = record { worker = at; call = Take from; reply = (taking m.0 at from).reply } in
     behind_none k at s.entries (e ∷ []) t.entries (sym (ap (λ (t : Told). t.entries) m.2)) none
-    (told_nothing (λ e. post_taken k e.call e.reply) at e (refused_take m.0 at k from e (λ ne. let le = far ne in omega (arith, le, m.1.0)) refl))
+    (told_nothing (λ e. post_of_take k e.call e.reply) at e (refused_take m.0 at k from e (λ ne. let le = far ne in omega (arith, le, m.1.0)) refl))
 
 one_away : (n at k : ℕ) (s t : Told) (call : Call) → at < n → Away n at k → MayTell n at s call t → posts_taken k at s.entries ≡ [] → posts_taken k at t.entries ≡ []
 one_away n at k s t (Allocate len) at_in far m none = quiet_away n at k s t (Allocate len) at_in tt m none
@@ -182,7 +182,7 @@ named_post j i made target (Some name) p e = elim (cases_eq name.heap j) [
       absurd cc
 ]
 
-post_gives : (j : ℕ) (made : List (Option Name)) (e : Entry) (p : Post) (call : Call) (reply : Reply) → e.call ≡ call → e.reply ≡ reply → post_made j made e.worker call reply ≡ Some p → Posts j made e p.name
+post_gives : (j : ℕ) (made : List (Option Name)) (e : Entry) (p : Post) (call : Call) (reply : Reply) → e.call ≡ call → e.reply ≡ reply → post_of_release j made e.worker call reply ≡ Some p → Posts j made e p.name
 post_gives j made e p (Release target) Posted c r is =
     let n = named_post j e.worker made target (name_of made target) p is in
     record { gives = record { target = target; call = c; means = n.0; reply = inr r }; reply = r; heap = n.1 }
@@ -228,7 +228,7 @@ poster w v scripts records race empty j b from t j_in stands =
     let made = race.made from in
     let posts : posts_made from j made (record_of records from) ≡ first ++ p ∷ later
     = sym (ap (λ l. l ++ posts_made from j made (record_of records from)) (empty from j)) ∙ ((race.agree from j near j_in apart).posts ∙ all) in
-    let f : Entry → Option Post = λ e. post_made j made e.worker e.call e.reply in
+    let f : Entry → Option Post = λ e. post_of_release j made e.worker e.call e.reply in
     let a = found f from (record_of records from) first later p posts in
     record { near = near; apart = apart; before = a.before; e = a.e; stands = a.stands; posts = post_gives j made a.e p (a.e).call (a.e).reply refl refl a.is; earlier = a.earlier }
 
@@ -321,9 +321,9 @@ none_stale w v scripts records race lawful empty alive once j b from t j_in stan
     let p = poster w v scripts records race empty j b from t j_in stands in
     let start : IsLive (heap_in w j) t.name = subst (λ (k : ℕ). IsLive (heap_in w k) t.name) (p.posts).heap (alive from p.before p.e t.name p.stands (p.posts).gives (p.posts).reply) in
     let through = race_always w v scripts records race b (take_entry j from t ∷ stands.0) j (lawful j j_in) j_in stands.1 in
-    let each : All (IsAnswered made (length w.heaps)) b
-    = subst (All (IsAnswered made (length w.heaps))) (take-append_seam b (take_entry j from t ∷ stands.0))
-    (All-take (IsAnswered made (length w.heaps)) (length b) (b ++ take_entry j from t ∷ stands.0) (subst (All (IsAnswered made (length w.heaps))) stands.1 (race_answered w v scripts records race j j_in))) in
+    let each : All (HasItsAnswer made (length w.heaps)) b
+    = subst (All (HasItsAnswer made (length w.heaps))) (take-append_seam b (take_entry j from t ∷ stands.0))
+    (All-take (HasItsAnswer made (length w.heaps)) (length b) (b ++ take_entry j from t ∷ stands.0) (subst (All (HasItsAnswer made (length w.heaps))) stands.1 (race_answered w v scripts records race j j_in))) in
     let spares = all_standing (SparesIn j made t.name) b (spared w v scripts records race empty once j b from t j_in stands) in
     let now : IsLive through.between t.name = entries_live (length w.heaps) j made t.name b (heap_in w j) through.between j_in (lawful j j_in) start each spares through.first in
     let ran = ran_take through.between (heap_in v j) j from made t stands.0 through.rest in

@@ -22,7 +22,7 @@ use Rattle.tlsf_laws.proofs.Names.{same_is, same_self}
 use Rattle.tlsf_laws.proofs.Ledgers.{Agrees, agrees_call, live_agrees, lookup, lookup_without}
 use Rattle.tlsf_laws.proofs.ModestCalls.{InPool, is_served, kept, tick_kept}
 use Rattle.tlsf_calls.specs.Bytes.{bytes_of}
-use Rattle.tlsf_crew.specs.yard.History.{RunsTo, answer_told, answers_on, call_on_own, calls_on, handed_on, post_made, post_taken, posts_made, posts_taken}
+use Rattle.tlsf_crew.specs.yard.History.{RunsTo, answer_told, answers_on, call_on_own, calls_on, handed_on, post_of_release, post_of_take, posts_made, posts_taken}
 use Rattle.tlsf_calls.specs.declared.entry.Entry.{Entry}
 use Rattle.tlsf_calls.specs.declared.call.Call.{Call}
 use Rattle.tlsf_calls.specs.declared.call.Call.TheVariants.{Allocate, Release, Write, Read, Take, Drain}
@@ -133,7 +133,7 @@ no_post : (p : Post) → ◌≡◌ {A = Option Post} None (Some p) → ⊥
 no_post p e = cc
 
 -- an entry that takes a post tells the release of its name
-take_asks : (made : List (Option Name)) (i at : ℕ) (call : Call) (reply : Reply) (p : Post) → post_taken i call reply ≡ Some p → call_on_own made at call reply ≡ Some (heap.Release p.name)
+take_asks : (made : List (Option Name)) (i at : ℕ) (call : Call) (reply : Reply) (p : Post) → post_of_take i call reply ≡ Some p → call_on_own made at call reply ≡ Some (heap.Release p.name)
 take_asks made i at (Allocate len) reply p e = absurd (no_post p e)
 take_asks made i at (Release target) reply p e = absurd (no_post p e)
 take_asks made i at (Write target from bytes) reply p e = absurd (no_post p e)
@@ -185,7 +185,7 @@ pub record Leads (j n capacity : ℕ) (made : List (Option Name)) (h : HeapState
   pub run : RunsTo h (calls_on j made (e ∷ [])) (answers_on j (e ∷ [])) g
   pub posts : (i : ℕ) → lanes i ++ posts_made i j made (e ∷ []) ≡ posts_taken i j (e ∷ []) ++ later i
   pub short : (i : ℕ) → length (later i) ≤ capacity
-  pub near : (p : Post) → post_made j made e.worker e.call e.reply ≡ Some p → e.worker < n
+  pub near : (p : Post) → post_of_release j made e.worker e.call e.reply ≡ Some p → e.worker < n
 
 -- and so does each of some entries
 abbrev pub AllLead : (j n capacity : ℕ) → List (Option Name) → HeapState → (ℕ → List Post) → List Entry → Type 0
@@ -275,13 +275,13 @@ posted_right name (p ∷ ps) qs a = inr (posted_right name ps qs a)
 own_leaves : (j n capacity : ℕ) (made : List (Option Name)) (h g : HeapState) (lanes later : ℕ → List Post) (e : Entry) → e.worker ≡ j → Leads j n capacity made h lanes e g later
     → Leaves j lanes later (call_on_own made e.worker e.call e.reply)
 own_leaves j n capacity made h g lanes later e own leads i ne name among =
-    let none : posts_made i j made (e ∷ []) ≡ [] = told_other (λ e. post_made j made e.worker e.call e.reply) i e (λ q. ne (sym q ∙ own)) in
-    let one : posts_taken i j (e ∷ []) ≡ cons_option (post_taken i e.call e.reply) [] = told_own (λ e. post_taken i e.call e.reply) j e own in
-    let waits : lanes i ≡ cons_option (post_taken i e.call e.reply) [] ++ later i
+    let none : posts_made i j made (e ∷ []) ≡ [] = told_other (λ e. post_of_release j made e.worker e.call e.reply) i e (λ q. ne (sym q ∙ own)) in
+    let one : posts_taken i j (e ∷ []) ≡ cons_option (post_of_take i e.call e.reply) [] = told_own (λ e. post_of_take i e.call e.reply) j e own in
+    let waits : lanes i ≡ cons_option (post_of_take i e.call e.reply) [] ++ later i
     = sym (append-nil (lanes i)) ∙ (sym (ap (λ l. lanes i ++ l) none) ∙ (leads.posts i ∙ ap (λ l. l ++ later i) one)) in
-    on (post_taken i e.call e.reply) refl (subst (λ (l : List Post). IsAmong name (posted l)) waits among)
+    on (post_of_take i e.call e.reply) refl (subst (λ (l : List Post). IsAmong name (posted l)) waits among)
   where
-    on : (o : Option Post) → post_taken i e.call e.reply ≡ o → IsAmong name (posted (cons_option o [] ++ later i))
+    on : (o : Option Post) → post_of_take i e.call e.reply ≡ o → IsAmong name (posted (cons_option o [] ++ later i))
         → IsAmong name (posted (later i)) ⊎ (call_on_own made e.worker e.call e.reply ≡ Some (heap.Release name))
     on None is a = inl a
     on (Some p) is a = elim a [
@@ -293,29 +293,29 @@ own_leaves j n capacity made h g lanes later e own leads i ne name among =
 other_waits : (j n capacity : ℕ) (made : List (Option Name)) (h g : HeapState) (lanes later : ℕ → List Post) (e : Entry) → e.worker ≢ j → Leads j n capacity made h lanes e g later
     → (i : ℕ) → later i ≡ lanes i ++ posts_made i j made (e ∷ [])
 other_waits j n capacity made h g lanes later e other leads i =
-    sym (leads.posts i ∙ ap (λ l. l ++ later i) (told_other (λ e. post_taken i e.call e.reply) j e other))
+    sym (leads.posts i ∙ ap (λ l. l ++ later i) (told_other (λ e. post_of_take i e.call e.reply) j e other))
 
 -- and what it posts waits
 other_covers : (j n capacity : ℕ) (made : List (Option Name)) (h g : HeapState) (l u : Ledger) (lanes later : ℕ → List Post) (e : Entry) → e.worker ≢ j → Leads j n capacity made h lanes e g later
-    → Covers j n l u lanes → Covers j n l (without_post u (post_made j made e.worker e.call e.reply)) later
-other_covers j n capacity made h g l u lanes later e other leads covers name len found = at (post_made j made e.worker e.call e.reply) refl (covers name len found)
+    → Covers j n l u lanes → Covers j n l (without_post u (post_of_release j made e.worker e.call e.reply)) later
+other_covers j n capacity made h g l u lanes later e other leads covers name len found = at (post_of_release j made e.worker e.call e.reply) refl (covers name len found)
   where
     waits : (i : ℕ) → i ≢ j → IsAmong name (posted (lanes i)) → IsAmong name (posted (later i))
     waits i ne a = subst (λ (l : List Post). IsAmong name (posted l)) (sym (other_waits j n capacity made h g lanes later e other leads i)) (posted_left name (lanes i) _ a)
 
-    new : (p : Post) → post_made j made e.worker e.call e.reply ≡ Some p → p.name ≡ name → WaitsFor j n later name
+    new : (p : Post) → post_of_release j made e.worker e.call e.reply ≡ Some p → p.name ≡ name → WaitsFor j n later name
     new p is same =
         let one : posts_made e.worker j made (e ∷ []) ≡ p ∷ []
-        = told_own (λ e. post_made j made e.worker e.call e.reply) e.worker e refl ∙ ap (λ (o : Option Post). cons_option o []) is in
+        = told_own (λ e. post_of_release j made e.worker e.call e.reply) e.worker e refl ∙ ap (λ (o : Option Post). cons_option o []) is in
         let here : later e.worker ≡ lanes e.worker ++ p ∷ [] = other_waits j n capacity made h g lanes later e other leads e.worker ∙ ap (λ l. lanes e.worker ++ l) one in
         (e.worker, leads.near p is, other, subst (λ (l : List Post). IsAmong name (posted l)) (sym here) (posted_right name (lanes e.worker) (p ∷ []) (inl same)))
 
-    split : (p : Post) → post_made j made e.worker e.call e.reply ≡ Some p → (c : Bool) → is_same p.name name ≡ c → IsCovered j n u lanes name → IsCovered j n (without_post u (Some p)) later name
+    split : (p : Post) → post_of_release j made e.worker e.call e.reply ≡ Some p → (c : Bool) → is_same p.name name ≡ c → IsCovered j n u lanes name → IsCovered j n (without_post u (Some p)) later name
     split p is true same c = inr (new p is (same_is p.name name same))
     split p is false same c = stay_covered j n u (without_post u (Some p)) lanes later name
         (still_among p.name name u (λ q. false≢true (sym same ∙ subst (λ (x : Name). is_same p.name x ≡ true) q (same_self p.name)))) waits c
 
-    at : (o : Option Post) → post_made j made e.worker e.call e.reply ≡ o → IsCovered j n u lanes name → IsCovered j n (without_post u o) later name
+    at : (o : Option Post) → post_of_release j made e.worker e.call e.reply ≡ o → IsCovered j n u lanes name → IsCovered j n (without_post u o) later name
     at None is c = stay_covered j n u u lanes later name (λ a. a) waits c
     at (Some p) is c = split p is (is_same p.name name) refl c
 
@@ -337,7 +337,7 @@ module _ (words most len : ℕ) (region : want len ≤ 2 ^ 20) (capacity j m : �
         let few = live_few j m capacity words (want len + 3) h l u lanes j_in short shared in
         let allows : (x : ℕ) → o ≡ Some (heap.Allocate x) → (x ≤ len) × (live_count h < most + m * capacity)
         = λ x is. let s = sparing own x (allocate_asks made e.worker e.call e.reply x is) in (s.0, omega (arith, s.1, few)) in
-        let test : unreleased_after j made u e ≡ with_call u o a = ap (λ (c : Bool). cond c (with_call u o a) (without_post u (post_made j made e.worker e.call e.reply))) (eq-eqb e.worker j own) in
+        let test : unreleased_after j made u e ≡ with_call u o a = ap (λ (c : Bool). cond c (with_call u o a) (without_post u (post_of_release j made e.worker e.call e.reply))) (eq-eqb e.worker j own) in
         subst (λ (v : Ledger). Next j n words (want len + 3) h v g later (answers_on j (e ∷ []))) (sym test)
         (subst (λ x. Next j n words (want len + 3) h (with_call u o a) g later x) (sym answers)
         (own_next words (most + m * capacity) len region enough j n h g l u lanes later o a run shared (own_leaves j n capacity made h g lanes later e own leads) allows fresh))
@@ -345,7 +345,7 @@ module _ (words most len : ℕ) (region : want len ≤ 2 ^ 20) (capacity j m : �
         let calls : calls_on j made (e ∷ []) ≡ [] = told_other (λ e. call_on_own made e.worker e.call e.reply) j e other in
         let answers : answers_on j (e ∷ []) ≡ [] = told_other (λ e. answer_told e.call e.reply) j e other in
         let same : h ≡ g = (subst (λ c. RunsTo h c (answers_on j (e ∷ [])) g) calls leads.run).left in
-        let p = post_made j made e.worker e.call e.reply in
+        let p = post_of_release j made e.worker e.call e.reply in
         let test : unreleased_after j made u e ≡ without_post u p = ap (λ (c : Bool). cond c (with_call u (call_on_own made e.worker e.call e.reply) (answer_told e.call e.reply)) (without_post u p)) (ne_eqb e.worker j other) in
         record {
           live = l;

@@ -9,7 +9,7 @@ use Rattle.tlsf_post.specs.declared.post.Post.{Post}
 use Rattle.tlsf_calls.specs.Bytes.{bytes_of}
 use Rattle.tlsf_calls.specs.declared.call.Call.{Call}
 use Rattle.tlsf_calls.specs.declared.call.Call.TheVariants.{Allocate, Release, Write, Read, Take, Drain}
-use Rattle.tlsf_crew.specs.yard.World.{World, Replayed, Draining, called, draining, drained_all, drained_below, drained_lane, name_of, posting, reading_named, releasing_named, taking, taking_next, took_first, took_more, with_waiting, writing_named}
+use Rattle.tlsf_crew.specs.yard.World.{World, Replayed, Draining, called, draining, after_drain, drained_below, drained_lane, name_of, posting, reading_named, releasing_named, taking, taking_next, took_first, took_more, with_waiting, writing_named}
 use Rattle.tlsf_crew.proofs.lemmas.yard.LaneChanges.{edited_other, edited_same}
 use Rattle.tlsf_crew.proofs.lemmas.yard.OneEvent.{from_other, from_own, releasing_far, releasing_post, taking_far, taking_lane, taking_own}
 
@@ -111,8 +111,8 @@ below_short j at most d (suc k) =
       | inr ne ↦ rw (from_other at most b k ne) (then j d.world b.world (drained_lane at most k b).world rest (one_lane_short j at most k b))
     ]
 
-all_short : (j at most : ℕ) (d : Draining) → StayShort j d.world (drained_all at most d).world
-unfolding drained_all
+all_short : (j at most : ℕ) (d : Draining) → StayShort j d.world (after_drain at most d).world
+unfolding after_drain
 all_short j at most d = below_short j at most d (length d.world.heaps)
 
 drain_short : (j : ℕ) (r : Replayed) (at most : ℕ) → StayShort j r.world (draining r at most).world

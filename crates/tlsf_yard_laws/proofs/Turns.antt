@@ -12,7 +12,7 @@ use Rattle.tlsf_laws.specs.Pools.{pool_words, IsServed}
 use Rattle.tlsf_laws.proofs.Ledgers.{Agrees, new_agrees}
 use Rattle.tlsf_laws.proofs.ModestCalls.{InPool, opens}
 use Rattle.tlsf_crew.specs.yard.World.{World, Replayed, after, answered, begun, called, heap_in, replies}
-use Rattle.tlsf_crew.specs.yard.History.{AreTakes, RunsTo, TellsCall, answer_told, answers_on, call_on_own, calls_on, post_made, post_taken, posts_made, posts_taken}
+use Rattle.tlsf_crew.specs.yard.History.{AreTakes, RunsTo, TellsCall, answer_told, answers_on, call_on_own, calls_on, post_of_release, post_of_take, posts_made, posts_taken}
 use Rattle.tlsf_calls.specs.declared.entry.Entry.{Entry}
 use Rattle.tlsf_calls.specs.declared.event.Event.{Event}
 use Rattle.tlsf_calls.specs.declared.call.Call.{Call}
@@ -24,7 +24,7 @@ use Rattle.tlsf_crew.proofs.lemmas.yard.AllEntries.{called_knows, called_told, m
 use Rattle.tlsf_crew.proofs.lemmas.yard.DrainEntries.{ToldOnce}
 use Rattle.tlsf_crew.proofs.lemmas.yard.EventSteps.{after_far, after_near}
 use Rattle.tlsf_crew.proofs.lemmas.yard.Fronts.{runs_through}
-use Rattle.tlsf_crew.proofs.lemmas.yard.JoinedEntries.{IsAnswered, told_nothing, told_other, told_then}
+use Rattle.tlsf_crew.proofs.lemmas.yard.JoinedEntries.{HasItsAnswer, told_nothing, told_other, told_then}
 use Rattle.tlsf_crew.proofs.lemmas.yard.OwnCalls.{Knows}
 use Rattle.tlsf_yard_laws.specs.Sharing.{SharedPoolServes}
 use Rattle.tlsf_yard_laws.proofs.Shares.{AllLead, all_served}
@@ -33,16 +33,16 @@ use Rattle.tlsf_yard_laws.proofs.ShortLanes.{AreShort, StayShort, called_short}
 -- ---- entries that post nothing for worker j
 
 abbrev IsQuiet : List (Option Name) → ℕ → Entry → Type 0
-IsQuiet made j e = post_made j made e.worker e.call e.reply ≡ None
+IsQuiet made j e = post_of_release j made e.worker e.call e.reply ≡ None
 
 module _ (made : List (Option Name)) (n j capacity : ℕ) (j_in : j < n) where
   quiet_one : (i : ℕ) (e : Entry) → IsQuiet made j e → posts_made i j made (e ∷ []) ≡ []
-  quiet_one i e quiet = told_nothing (λ e. post_made j made e.worker e.call e.reply) i e quiet
+  quiet_one i e quiet = told_nothing (λ e. post_of_release j made e.worker e.call e.reply) i e quiet
 
   quiet_all : (i : ℕ) (es : List Entry) → AllByRecursion (IsQuiet made j) es → posts_made i j made es ≡ []
   quiet_all i [] quiet = refl
   quiet_all i (e ∷ es) quiet =
-      told_then (λ e. post_made j made e.worker e.call e.reply) i (e ∷ []) es
+      told_then (λ e. post_of_release j made e.worker e.call e.reply) i (e ∷ []) es
       ∙ (ap (λ l. l ++ posts_made i j made es) (quiet_one i e quiet.0) ∙ quiet_all i es quiet.1)
 
   -- the same heap and the same posts lead on
@@ -62,7 +62,7 @@ module _ (made : List (Option Name)) (n j capacity : ℕ) (j_in : j < n) where
   )
 
   -- entries that are told together lead one by one
-  quiet_lead : (xs ys : List Entry) (h g : HeapState) (lanes later : ℕ → List Post) → IsLawful h → All (IsAnswered made n) xs → AllByRecursion (IsQuiet made j) xs
+  quiet_lead : (xs ys : List Entry) (h g : HeapState) (lanes later : ℕ → List Post) → IsLawful h → All (HasItsAnswer made n) xs → AllByRecursion (IsQuiet made j) xs
       → RunsTo h (calls_on j made xs) (answers_on j xs) g → ((i : ℕ) → lanes i ≡ posts_taken i j xs ++ later i) → ((i : ℕ) → length (lanes i) ≤ capacity)
       → AllLead j n capacity made g later ys → AllLead j n capacity made h lanes (xs ++ ys)
   quiet_lead [] ys h g lanes later lawful each quiet run posts short lead = same_lead h g lanes later ys run.left posts lead
@@ -70,7 +70,7 @@ module _ (made : List (Option Name)) (n j capacity : ℕ) (j_in : j < n) where
       let t = runs_through made n j h g (x ∷ []) xs j_in lawful each run in
       let middle : ℕ → List Post = λ i. posts_taken i j xs ++ later i in
       let split : (i : ℕ) → lanes i ≡ posts_taken i j (x ∷ []) ++ (posts_taken i j xs ++ later i)
-      = λ i. posts i ∙ (ap (λ l. l ++ later i) (told_then (λ e. post_taken i e.call e.reply) j (x ∷ []) xs) ∙ append_assoc (posts_taken i j (x ∷ [])) (posts_taken i j xs) (later i)) in
+      = λ i. posts i ∙ (ap (λ l. l ++ later i) (told_then (λ e. post_of_take i e.call e.reply) j (x ∷ []) xs) ∙ append_assoc (posts_taken i j (x ∷ [])) (posts_taken i j xs) (later i)) in
       let less : (i : ℕ) → length (posts_taken i j xs ++ later i) ≤ capacity
       = λ i. let a = ap length (split i) in let b = length-append (posts_taken i j (x ∷ [])) (posts_taken i j xs ++ later i) in let c = short i in omega arith in (
         t.between,
@@ -81,7 +81,7 @@ module _ (made : List (Option Name)) (n j capacity : ℕ) (j_in : j < n) where
           short = less;
           near = λ p is. absurd (none_post p (sym quiet.0 ∙ is));
         },
-        quiet_lead xs ys t.between g middle later t.lawful (All-tail (IsAnswered made n) x xs each) quiet.1 t.rest (λ i. refl) less lead,
+        quiet_lead xs ys t.between g middle later t.lawful (All-tail (HasItsAnswer made n) x xs each) quiet.1 t.rest (λ i. refl) less lead,
       )
     where
       none_post : (p : Post) → ◌≡◌ {A = Option Post} None (Some p) → ⊥
@@ -126,7 +126,7 @@ module _ (made : List (Option Name)) (n j capacity : ℕ) (j_in : j < n) where
         lawful = subst IsLawful run.left (lawful_run (heap_in r.world j) (calls_on j made t.own) b.lawful);
         stays = stays;
         lead = λ ys lead. quiet_lead t.own ys (heap_in r.world j) (heap_in s.world j) (λ i. r.world.waiting i j) (λ i. s.world.waiting i j) b.lawful
-            (subst (λ (x : ℕ). All (IsAnswered made x) t.own) b.count t.history.each) quiet run
+            (subst (λ (x : ℕ). All (HasItsAnswer made x) t.own) b.count t.history.each) quiet run
             (λ i. sym (append-nil (r.world.waiting i j)) ∙ (sym (ap (λ l. r.world.waiting i j ++ l) (quiet_all i t.own quiet)) ∙ t.history.posts i j)) (few r b) lead;
       }
 
@@ -189,7 +189,7 @@ module _ (made : List (Option Name)) (n j capacity : ℕ) (j_in : j < n) where
           record {
             run = subst (λ c. RunsTo h c (answers_on j (x ∷ [])) h) (sym calls) (subst (λ a. RunsTo h [] a h) (sym answers) (record { told = refl; left = refl }));
             posts = λ i. ap (λ l. r.world.waiting i j ++ l) (quiet_one i x quiet) ∙ (append-nil (r.world.waiting i j)
-                ∙ sym (ap (λ l. l ++ r.world.waiting i j) (told_other (λ e. post_taken i e.call e.reply) j x away)));
+                ∙ sym (ap (λ l. l ++ r.world.waiting i j) (told_other (λ e. post_of_take i e.call e.reply) j x away)));
             short = few r b;
             near = λ p is. absurd (none_post p (sym quiet ∙ is));
           },
@@ -200,7 +200,7 @@ module _ (made : List (Option Name)) (n j capacity : ℕ) (j_in : j < n) where
       none_post : (p : Post) → ◌≡◌ {A = Option Post} None (Some p) → ⊥
       none_post p e = cc
 
-      quiet_far : (at : ℕ) (call : Call) → post_made j made at call (Refused Stranger) ≡ None
+      quiet_far : (at : ℕ) (call : Call) → post_of_release j made at call (Refused Stranger) ≡ None
       quiet_far at (Allocate len) = refl
       quiet_far at (Release target) = refl
       quiet_far at (Write target from bytes) = refl

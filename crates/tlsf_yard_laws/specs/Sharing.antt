@@ -10,7 +10,7 @@ use Rattle.tlsf_laws.specs.Pools.{pool_words, IsServed}
 use Rattle.tlsf_laws.specs.Contents.{is_same}
 use Rattle.tlsf_laws.specs.Kinds.{Ledger, ledger_after}
 use Rattle.tlsf_crew.specs.yard.World.{World, replies}
-use Rattle.tlsf_crew.specs.yard.History.{answer_told, answers_on, call_on_own, post_made}
+use Rattle.tlsf_crew.specs.yard.History.{answer_told, answers_on, call_on_own, post_of_release}
 use Rattle.tlsf_calls.specs.declared.entry.Entry.{Entry}
 use Rattle.tlsf_calls.specs.declared.event.Event.{Event}
 use Rattle.tlsf_calls.specs.declared.call.Call.TheVariants.{Allocate}
@@ -33,7 +33,7 @@ abbrev pub unreleased_after : ℕ → List (Option Name) → Ledger → Entry �
 unreleased_after j made ledger e =
     if e.worker == j
     then with_call ledger (call_on_own made e.worker e.call e.reply) (answer_told e.call e.reply)
-    else without_post ledger (post_made j made e.worker e.call e.reply)
+    else without_post ledger (post_of_release j made e.worker e.call e.reply)
 
 -- each request of worker j is for at most `len` bytes, and is made while the programs hold fewer than `most` blocks of its heap
 abbrev pub IsSparing : ℕ → ℕ → ℕ → Ledger → Entry → Type 0

@@ -11,7 +11,7 @@ use Rattle.tlsf_calls.specs.declared.call.Call.{Call}
 use Rattle.tlsf_calls.specs.declared.call.Call.TheVariants.{Take, Drain}
 use Rattle.tlsf_calls.specs.declared.reply.Reply.TheVariants.{Empty, Drained, Refused}
 use Rattle.tlsf_calls.specs.declared.crew_refusal.CrewRefusal.TheVariants.{Full}
-use Rattle.tlsf_crew.specs.yard.Workers.{heap_of, id_of, own_numbers, end_to, end_from, KnowsYard}
+use Rattle.tlsf_crew.specs.yard.Workers.{heap_of, id_of, id_and_capacity, end_to, end_from, KnowsYard}
 use Rattle.tlsf_crew.specs.yard.Calls.{KeepsYards}
 use Rattle.tlsf_crew.specs.yard.Counts.{sum_below, sum_of, releases_of}
 use Rattle.tlsf_crew.specs.yard.History.{posts_made, posts_taken, StandsBehind}
@@ -46,7 +46,7 @@ pub record HasTaken (a v : Worker) (i : ℕ) (entries : List Entry) (t : TakeEnd
 pub record Ran (n : ℕ) (a : Worker) (script : List Call) (made : List (Option Name)) (entries : List Entry) (v : Worker) : Type 0 where
   pub told : MayTellAll n (id_of a) (untold (heap_of a)) script (record { made = made; entries = entries; heap = heap_of v })
   pub yard : KeepsYards a v
-  pub numbers : own_numbers v ≡ own_numbers a
+  pub numbers : id_and_capacity v ≡ id_and_capacity a
   pub sent : (j : ℕ) (p : PostEnd) → end_to a j ≡ Some p → HasSent a v j made entries p
   pub taken : (i : ℕ) (t : TakeEnd) → end_from a i ≡ Some t → HasTaken a v i entries t
   -- Full came only where no free slot was known any more

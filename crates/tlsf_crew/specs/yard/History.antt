@@ -135,21 +135,21 @@ pub record RunsThrough (h : HeapState) (j : ℕ) (made : List (Option Name)) (be
 -- ---- the posts of a lane
 
 -- the post for heap j that the call of worker i made
-abbrev pub post_made : ℕ → List (Option Name) → ℕ → Call → Reply → Option Post
-post_made j made i (Release target) Posted = option_map (λ name. record { from = i; name = name }) (of_heap j (name_of made target))
-post_made j made i call reply = None
+abbrev pub post_of_release : ℕ → List (Option Name) → ℕ → Call → Reply → Option Post
+post_of_release j made i (Release target) Posted = option_map (λ name. record { from = i; name = name }) (of_heap j (name_of made target))
+post_of_release j made i call reply = None
 
 -- the post that the call took from worker i
-abbrev pub post_taken : ℕ → Call → Reply → Option Post
-post_taken i (Take from) (Taken t) = if from == i then Some (record { from = t.from; name = t.name }) else None
-post_taken i call reply = None
+abbrev pub post_of_take : ℕ → Call → Reply → Option Post
+post_of_take i (Take from) (Taken t) = if from == i then Some (record { from = t.from; name = t.name }) else None
+post_of_take i call reply = None
 
 -- the posts that worker i made for heap j, in order, and those that worker j took from i
 abbrev pub posts_made : ℕ → ℕ → List (Option Name) → List Entry → List Post
-posts_made i j made entries = filter_map (λ e. post_made j made e.worker e.call e.reply) (entries_of i entries)
+posts_made i j made entries = filter_map (λ e. post_of_release j made e.worker e.call e.reply) (entries_of i entries)
 
 abbrev pub posts_taken : ℕ → ℕ → List Entry → List Post
-posts_taken i j entries = filter_map (λ e. post_taken i e.call e.reply) (entries_of j entries)
+posts_taken i j entries = filter_map (λ e. post_of_take i e.call e.reply) (entries_of j entries)
 
 -- ---- the worlds
 

@@ -4,7 +4,7 @@ use Rattle.tlsf_post.specs.declared.post_end.PostEnd.{PostEnd}
 use Rattle.tlsf_post.specs.declared.take_end.TakeEnd.{TakeEnd}
 use Rattle.tlsf_post.specs.Lanes.{capacity_of, IsLane}
 use Rattle.tlsf_crew.specs.declared.yard.worker.Worker.{Worker}
-use Rattle.tlsf_crew.specs.yard.Workers.{heap_of, own_numbers}
+use Rattle.tlsf_crew.specs.yard.Workers.{heap_of, id_and_capacity}
 use Rattle.tlsf_crew.specs.yard.Yard.{post_at, take_at, Meets}
 use Rattle.tlsf_crew.specs.yard.Settle.{MetIn}
 
@@ -25,8 +25,8 @@ pub record LaneMet (i j : ℕ) (a b v w : Worker) : Type 0 where
   pub meets : Meets post take new_post new_take
   pub posts : v.posts.items ≡ slice_set a.posts.items j (Some new_post)
   pub takes : w.takes.items ≡ slice_set b.takes.items i (Some new_take)
-  pub same_poster : (v.heap ≡ a.heap) × (own_numbers v ≡ own_numbers a) × (v.takes ≡ a.takes)
-  pub same_taker : (w.heap ≡ b.heap) × (own_numbers w ≡ own_numbers b) × (w.posts ≡ b.posts)
+  pub same_poster : (v.heap ≡ a.heap) × (id_and_capacity v ≡ id_and_capacity a) × (v.takes ≡ a.takes)
+  pub same_taker : (w.heap ≡ b.heap) × (id_and_capacity w ≡ id_and_capacity b) × (w.posts ≡ b.posts)
 
 -- the lane from i to j has both its ends in the yard
 abbrev pub InYard : List Worker → ℕ → ℕ → Type 0
@@ -55,7 +55,7 @@ pub record LaneChange (ws vs : List Worker) (i j : ℕ) (p : PostEnd) (t : TakeE
   pub new_take_is : take_at vs i j ≡ Some u
   pub same : (x y : ℕ) → (x ≡ i → y ≡ j → ⊥) → SameLane ws vs x y
   pub heaps : map heap_of vs ≡ map heap_of ws
-  pub numbers : map own_numbers vs ≡ map own_numbers ws
+  pub numbers : map id_and_capacity vs ≡ map id_and_capacity ws
   pub len : length vs ≡ length ws
   pub lane : IsLane q u
   pub capacity : capacity_of q ≡ capacity_of p

@@ -18,7 +18,7 @@ use Rattle.tlsf_calls.specs.declared.reply.Reply.{Reply}
 use Rattle.tlsf_calls.specs.declared.reply.Reply.TheVariants.{Posted, Took as Taken, Empty, Drained, Refused}
 use Rattle.tlsf_calls.specs.declared.crew_refusal.CrewRefusal.TheVariants.{Full}
 use Rattle.tlsf_crew.specs.yard.Heaps.{released}
-use Rattle.tlsf_crew.specs.yard.Workers.{heap_of, id_of, own_numbers, end_to, end_from, HasTake, KnowsYard}
+use Rattle.tlsf_crew.specs.yard.Workers.{heap_of, id_of, id_and_capacity, end_to, end_from, HasTake, KnowsYard}
 use Rattle.tlsf_crew.specs.yard.Calls.{KeepsYards}
 use Rattle.tlsf_crew.specs.yard.Counts.{sum_below, releases_of}
 use Rattle.tlsf_crew.specs.yard.History.{posts_made, posts_taken, StandsBehind}
@@ -53,7 +53,7 @@ Spent a limits at i entries = (t : TakeEnd) → end_from a i ≡ Some t → IsPr
 -- worker, and may take what is left
 pub record Moved (at : ℕ) (made : List (Option Name)) (a : Worker) (limits : List ℕ) (calls : List Call) (entries : List Entry) (v : Worker) (left : List ℕ) : Type 0 where
   pub yard : KeepsYards a v
-  pub numbers : own_numbers v ≡ own_numbers a
+  pub numbers : id_and_capacity v ≡ id_and_capacity a
   pub knows : (n : ℕ) → KnowsYard n a → KnowsYard n v
   pub sent : (j : ℕ) (p : PostEnd) → end_to a j ≡ Some p → Sends at made v j entries p
   pub taken : (i : ℕ) (t : TakeEnd) → end_from a i ≡ Some t → Takes at v i entries t
@@ -79,17 +79,17 @@ pub record Suits (w : World) (at : ℕ) (made : List (Option Name)) (call : Call
   pub empty : (from : ℕ) → call ≡ Take from → from ≢ at → from < length w.heaps → answer ≡ Empty → w.waiting from at ≡ []
 
 -- the model answers so, and leaves this heap
-pub record IsAnswer (at : ℕ) (v : Worker) (answer : Reply) (r : Replied) : Type 0 where
+pub record ModelReplies (at : ℕ) (v : Worker) (answer : Reply) (r : Replied) : Type 0 where
   pub reply : answer ≡ r.reply
   pub left : heap_of v ≡ heap_in r.world at
 
 -- so it does in each world that suits
-abbrev pub IsAnswered : List (Option Name) → Worker → Call → Worker → Reply → (World → Replied) → Type 0
-IsAnswered made a call v reply by =
-    (n : ℕ) → KnowsYard n a → (w : World) → HasHeap w n (id_of a) (heap_of a) → Suits w (id_of a) made call reply → IsAnswer (id_of a) v reply (by w)
+abbrev pub RepliesAsModel : List (Option Name) → Worker → Call → Worker → Reply → (World → Replied) → Type 0
+RepliesAsModel made a call v reply by =
+    (n : ℕ) → KnowsYard n a → (w : World) → HasHeap w n (id_of a) (heap_of a) → Suits w (id_of a) made call reply → ModelReplies (id_of a) v reply (by w)
 
-pub record Answered (made : List (Option Name)) (a : Worker) (limits : List ℕ) (call : Call) (v : Worker) (left : List ℕ) (reply : Reply) (by : World → Replied) : Type 0 where
-  pub told : IsAnswered made a call v reply by
+pub record CallStep (made : List (Option Name)) (a : Worker) (limits : List ℕ) (call : Call) (v : Worker) (left : List ℕ) (reply : Reply) (by : World → Replied) : Type 0 where
+  pub told : RepliesAsModel made a call v reply by
   pub moved : (rest : List (Option Name)) → Moved (id_of a) (made ++ rest) a limits (call ∷ []) (one (id_of a) call reply) v left
 
 -- ---- takes

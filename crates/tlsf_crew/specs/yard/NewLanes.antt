@@ -2,7 +2,7 @@
 use Rattle.std.specs.Prelude.{◌≡◌, ◌≢◌, ℕ, ◌<◌, ◌⊎◌, List, [], length, map, Some, None, slice_get}
 use Rattle.std.specs.List.{range_with_len}
 use Rattle.tlsf_crew.specs.declared.yard.worker.Worker.{Worker}
-use Rattle.tlsf_crew.specs.yard.Workers.{heap_of, own_numbers}
+use Rattle.tlsf_crew.specs.yard.Workers.{heap_of, id_and_capacity}
 use Rattle.tlsf_crew.specs.yard.Yard.{post_at, take_at, lane_waits, HasPair}
 use Rattle.tlsf_crew.specs.yard.Opening.{opened_heaps, KnowFree, AreFresh}
 
@@ -17,7 +17,7 @@ IsBefore i j x y = (x < i) ⊎ ((x ≡ i) × (y < j))
 pub record IsLaid (ws : List Worker) (n words capacity i j : ℕ) : Type 0 where
   pub len : length ws ≡ n
   pub heaps : map heap_of ws ≡ opened_heaps n words
-  pub numbers : map own_numbers ws ≡ opened_numbers n capacity
+  pub numbers : map id_and_capacity ws ≡ opened_numbers n capacity
   pub slots : (x : ℕ) (a : Worker) → slice_get ws x ≡ Some a → (length a.posts.items ≡ n) × (length a.takes.items ≡ n)
   pub empty : (x y : ℕ) → lane_waits (post_at ws x y) (take_at ws x y) ≡ []
   pub free : KnowFree ws capacity

@@ -19,8 +19,8 @@ abbrev pub id_of : Worker → ℕ
 id_of a = a.id
 
 -- a worker's own number, and the capacity of its lanes
-abbrev pub own_numbers : Worker → ℕ × ℕ
-own_numbers a = (a.id, a.capacity)
+abbrev pub id_and_capacity : Worker → ℕ × ℕ
+id_and_capacity a = (a.id, a.capacity)
 
 abbrev pub slot_of : {X : Type 0} → Option (Option X) → Option X
 slot_of None = None
@@ -46,7 +46,7 @@ HasTake a i = (t : TakeEnd) × (end_from a i ≡ Some t)
 
 -- a worker with another heap
 abbrev pub SameButHeap : Worker → Worker → Type 0
-SameButHeap a v = (own_numbers v ≡ own_numbers a) × (end_to v ≡ end_to a) × (end_from v ≡ end_from a)
+SameButHeap a v = (id_and_capacity v ≡ id_and_capacity a) × (end_to v ≡ end_to a) × (end_from v ≡ end_from a)
 
 -- worker v is a with its end to j after a put
 pub record PutTo (a v : Worker) (j : ℕ) (post : Post) (answer : Result (Unit {0}) Post) : Type 0 where
@@ -55,7 +55,7 @@ pub record PutTo (a v : Worker) (j : ℕ) (post : Post) (answer : Result (Unit {
   pub end_is : end_to a j ≡ Some end
   pub new_end_is : end_to v j ≡ Some new_end
   pub others : (k : ℕ) → k ≢ j → end_to v k ≡ end_to a k
-  pub same : (heap_of v ≡ heap_of a) × (own_numbers v ≡ own_numbers a) × (end_from v ≡ end_from a)
+  pub same : (heap_of v ≡ heap_of a) × (id_and_capacity v ≡ id_and_capacity a) × (end_from v ≡ end_from a)
   pub lane : KeepsPost end new_end
   pub ok : OnOk answer ((posts_sent new_end ≡ posts_sent end ++ post ∷ []) × (free_slots new_end ≡ free_slots end - 1))
   pub full : IfErr answer (λ back. (back ≡ post) × (posts_sent new_end ≡ posts_sent end) × (free_slots new_end ≡ free_slots end))
@@ -68,7 +68,7 @@ pub record TookFrom (a v : Worker) (i : ℕ) (answer : Option Post) : Type 0 whe
   pub end_is : end_from a i ≡ Some end
   pub new_end_is : end_from v i ≡ Some new_end
   pub others : (k : ℕ) → k ≢ i → end_from v k ≡ end_from a k
-  pub same : (heap_of v ≡ heap_of a) × (own_numbers v ≡ own_numbers a) × (end_to v ≡ end_to a)
+  pub same : (heap_of v ≡ heap_of a) × (id_and_capacity v ≡ id_and_capacity a) × (end_to v ≡ end_to a)
   pub lane : KeepsTake end new_end
   pub still : waited new_end ≡ waited end
   pub some : IfSome answer (λ p. (taken new_end ≡ taken end ++ p ∷ []) × IsPrefix (ready end) (p ∷ ready new_end))

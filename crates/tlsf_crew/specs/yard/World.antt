@@ -136,8 +136,8 @@ abbrev pub drained_below : ℕ → ℕ → Draining → ℕ → Draining
 drained_below at most d zero = d
 drained_below at most d (suc from) = drained_from at most (drained_below at most d from) from
 
-unfoldable pub drained_all : ℕ → ℕ → Draining → Draining
-drained_all at most d = drained_below at most d (length d.world.heaps)
+unfoldable pub after_drain : ℕ → ℕ → Draining → Draining
+after_drain at most d = drained_below at most d (length d.world.heaps)
 
 -- the name that a target means, by what the events so far made
 abbrev pub name_of : List (Option Name) → Target → Option Name
@@ -174,7 +174,7 @@ answered r at call a = record {
 -- the drain's entries, and then its own
 unfoldable pub draining : Replayed → ℕ → ℕ → Replayed
 draining r at most =
-    let d = drained_all at most (record { entries = r.entries; world = r.world; taken = 0 }) in
+    let d = after_drain at most (record { entries = r.entries; world = r.world; taken = 0 }) in
     record {
       made = r.made ++ None ∷ [];
       entries = d.entries ++ record { worker = at; call = Drain most; reply = Drained d.taken } ∷ [];

@@ -7,7 +7,7 @@ use Rattle.tlsf_post.specs.Lanes.{posts_sent, free_slots, capacity_of, waited, t
 use Rattle.tlsf_heap.specs.Blocks.{HeapState}
 use Rattle.tlsf_heap.specs.Lawful.{IsLawful}
 use Rattle.tlsf_crew.specs.declared.yard.worker.Worker.{Worker}
-use Rattle.tlsf_crew.specs.yard.Workers.{heap_of, own_numbers, end_to, end_from}
+use Rattle.tlsf_crew.specs.yard.Workers.{heap_of, id_and_capacity, end_to, end_from}
 
 abbrev pub end_to_in : Option Worker → ℕ → Option PostEnd
 end_to_in None j = None
@@ -34,11 +34,11 @@ yard_heap ws i = get_or (map heap_of ws) i no_heap
 
 -- the number of worker i
 abbrev pub id_in : List Worker → ℕ → ℕ
-id_in ws i = (get_or (map own_numbers ws) i (0, 0)).0
+id_in ws i = (get_or (map id_and_capacity ws) i (0, 0)).0
 
 -- the capacity of every lane, as the first worker knows it
 abbrev pub capacity_in : List Worker → ℕ
-capacity_in ws = (get_or (map own_numbers ws) 0 (0, 0)).1
+capacity_in ws = (get_or (map id_and_capacity ws) 0 (0, 0)).1
 
 -- what waits between two ends: what had waited less what was taken, then what was sent
 abbrev pub lane_waits : Option PostEnd → Option TakeEnd → List Post

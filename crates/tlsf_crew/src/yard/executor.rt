@@ -9,7 +9,7 @@ ghost use Rattle.tlsf_crew.specs.yard.Heaps.{as_chunk, chunk_read};
 ghost use Rattle.tlsf_crew.specs.yard.Workers.{heap_of, id_of, SameButHeap, HasTake, KnowsYard};
 ghost use Rattle.tlsf_crew.specs.yard.World.{allocating, releasing_named, writing_named, reading_named, taking, name_of, made_by};
 ghost use Rattle.tlsf_crew.specs.yard.Counts.{sum_of};
-ghost use Rattle.tlsf_crew.specs.yard.Moves.{Answered, TookWithin, EachLaneSpent, Stepped, Called};
+ghost use Rattle.tlsf_crew.specs.yard.Moves.{CallStep, TookWithin, EachLaneSpent, Stepped, Called};
 ghost use Rattle.tlsf_crew.specs.yard.Notes.{HasRoom};
 
 use crate::yard::journal::Journal;
@@ -66,7 +66,7 @@ pub(crate) fn named(target: Target, made: &[Option<Name>]) -> Option<Name>
 
 /// Allocates `len` bytes on the own heap.
 fn reply_to_allocate(worker: &mut Worker, len: u32) -> Reply
-    ensures { (made : List (Option Name)) (limits : List ℕ) → Answered made worker.old limits (Allocate len) worker.new limits result (λ w. allocating w (id_of worker.old) len) }
+    ensures { (made : List (Option Name)) (limits : List ℕ) → CallStep made worker.old limits (Allocate len) worker.new limits result (λ w. allocating w (id_of worker.old) len) }
 {
     match worker.allocate(len) {
         Ok(name) => Reply::Made(name),
@@ -76,7 +76,7 @@ fn reply_to_allocate(worker: &mut Worker, len: u32) -> Reply
 
 /// Releases what a target means: a block of the own heap, or by a post another's.
 fn reply_to_release(worker: &mut Worker, target: Target, made: &[Option<Name>]) -> Reply
-    ensures { (limits : List ℕ) → Answered made.now worker.old limits (Release target) worker.new limits result (λ w. releasing_named w (id_of worker.old) (name_of made.now target)) }
+    ensures { (limits : List ℕ) → CallStep made.now worker.old limits (Release target) worker.new limits result (λ w. releasing_named w (id_of worker.old) (name_of made.now target)) }
 {
     let Some(name) = named(target, made) else {
         return Reply::Refused(CrewRefusal::Unmade);
@@ -96,7 +96,7 @@ fn reply_to_write(
     bytes: Chunk,
     made: &[Option<Name>],
 ) -> Reply
-    ensures { (limits : List ℕ) → Answered made.now worker.old limits (Write target from bytes) worker.new limits result (λ w. writing_named w (id_of worker.old) (name_of made.now target) from (bytes_of bytes)) }
+    ensures { (limits : List ℕ) → CallStep made.now worker.old limits (Write target from bytes) worker.new limits result (λ w. writing_named w (id_of worker.old) (name_of made.now target) from (bytes_of bytes)) }
 {
     let Some(name) = named(target, made) else {
         return Reply::Refused(CrewRefusal::Unmade);
@@ -155,7 +155,7 @@ fn reply_to_read(
     n: u32,
     made: &[Option<Name>],
 ) -> Reply
-    ensures { (limits : List ℕ) → Answered made.now worker.old limits (Read target from n) worker.new limits result (λ w. reading_named w (id_of worker.old) (name_of made.now target) from n) }
+    ensures { (limits : List ℕ) → CallStep made.now worker.old limits (Read target from n) worker.new limits result (λ w. reading_named w (id_of worker.old) (name_of made.now target) from n) }
 {
     let Some(name) = named(target, made) else {
         return Reply::Refused(CrewRefusal::Unmade);
@@ -186,7 +186,7 @@ fn take_within(worker: &mut Worker, limits: &mut [u32; 8], from: u32) -> Option<
 /// Takes the next post from a worker. It is `Stranger` where that is itself or none of `count`.
 fn reply_to_take(worker: &mut Worker, count: u32, limits: &mut [u32; 8], from: u32) -> Reply
     requires { KnowsYard count worker.old }
-    ensures { (made : List (Option Name)) → Answered made worker.old limits.old (Take from) worker.new limits.new result (λ w. taking w (id_of worker.old) from) }
+    ensures { (made : List (Option Name)) → CallStep made worker.old limits.old (Take from) worker.new limits.new result (λ w. taking w (id_of worker.old) from) }
 {
     if from == worker.id || from >= count {
         return Reply::Refused(CrewRefusal::Stranger);

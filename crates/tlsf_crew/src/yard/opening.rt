@@ -5,7 +5,7 @@ ghost use Rattle.tlsf_crew.specs.yard.Opening.{AreSizes, opened_world, KnowFree,
 ghost use Rattle.tlsf_crew.specs.yard.World.{world_of};
 ghost use Rattle.tlsf_crew.specs.yard.Yard.{IsYard};
 ghost use Rattle.tlsf_crew.specs.yard.NewLanes.{IsLaid};
-ghost use Rattle.tlsf_crew.specs.yard.Workers.{heap_of, own_numbers};
+ghost use Rattle.tlsf_crew.specs.yard.Workers.{heap_of, id_and_capacity};
 
 use crate::yard::worker::Worker;
 use std::alloc::Global;
@@ -89,7 +89,7 @@ fn open_worker(
 ) -> Result<Worker, NoMemory>
     requires { IsRegion words }
     ensures heap { IfOk result (λ worker. heap_of worker ≡ opened id words 0) }
-    ensures numbers { IfOk result (λ worker. own_numbers worker ≡ (id, capacity)) }
+    ensures numbers { IfOk result (λ worker. id_and_capacity worker ≡ (id, capacity)) }
     ensures posts { IfOk result (λ worker. worker.posts.items ≡ replicate n None) }
     ensures takes { IfOk result (λ worker. worker.takes.items ≡ replicate n None) }
 {
@@ -190,7 +190,7 @@ fn lay_lane(
 fn put_post_end(worker: &mut Worker, j: usize, end: PostEnd)
     requires { j < vec_len worker.old.posts }
     ensures posts { worker.new.posts.items ≡ slice_set worker.old.posts.items j (Some end) }
-    ensures same { (worker.new.heap ≡ worker.old.heap) × (own_numbers worker.new ≡ own_numbers worker.old) × (worker.new.takes ≡ worker.old.takes) }
+    ensures same { (worker.new.heap ≡ worker.old.heap) × (id_and_capacity worker.new ≡ id_and_capacity worker.old) × (worker.new.takes ≡ worker.old.takes) }
 {
     worker.posts[j] = Some(end);
 }
@@ -198,7 +198,7 @@ fn put_post_end(worker: &mut Worker, j: usize, end: PostEnd)
 fn put_take_end(worker: &mut Worker, i: usize, end: TakeEnd)
     requires { i < vec_len worker.old.takes }
     ensures takes { worker.new.takes.items ≡ slice_set worker.old.takes.items i (Some end) }
-    ensures same { (worker.new.heap ≡ worker.old.heap) × (own_numbers worker.new ≡ own_numbers worker.old) × (worker.new.posts ≡ worker.old.posts) }
+    ensures same { (worker.new.heap ≡ worker.old.heap) × (id_and_capacity worker.new ≡ id_and_capacity worker.old) × (worker.new.posts ≡ worker.old.posts) }
 {
     worker.takes[i] = Some(end);
 }

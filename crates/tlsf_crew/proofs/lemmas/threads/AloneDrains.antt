@@ -7,7 +7,7 @@ use Rattle.tlsf_post.specs.declared.post.Post.{Post}
 use Rattle.tlsf_calls.specs.declared.call.Call.{Call}
 use Rattle.tlsf_calls.specs.declared.entry.Entry.{Entry}
 use Rattle.tlsf_calls.specs.declared.took.Took.{Took}
-use Rattle.tlsf_crew.specs.yard.World.{World, Replayed, Draining, called, drained_all, drained_below, drained_lane, draining, took_more}
+use Rattle.tlsf_crew.specs.yard.World.{World, Replayed, Draining, called, after_drain, drained_below, drained_lane, draining, took_more}
 use Rattle.tlsf_crew.specs.yard.Told.{MayTell, told_by}
 use Rattle.tlsf_crew.specs.yard.Counts.{sum_below}
 use Rattle.tlsf_crew.specs.yard.History.{AreTakes, posts_taken}
@@ -99,7 +99,7 @@ others_out at most bound d (suc k) few le =
 
 drain_out : (r : Replayed) (at x : ℕ) (bound : ℕ → ℕ) → ((y : ℕ) → y < length r.world.heaps → y ≢ at → length (r.world.waiting y at) ≤ bound y) → sum_below (length r.world.heaps) bound ≤ 8192
     → x < length r.world.heaps → x ≢ at → (draining r at 8192).world.waiting x at ≡ []
-unfolding draining drained_all
+unfolding draining after_drain
 drain_out r at x bound few le lt ne = (others_out at 8192 bound (record { entries = r.entries; world = r.world; taken = 0 }) (length r.world.heaps) few (omega (arith, le))).empty x lt ne
 
 -- ---- a race

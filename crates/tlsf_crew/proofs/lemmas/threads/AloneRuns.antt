@@ -19,7 +19,7 @@ use Rattle.tlsf_crew.specs.yard.Yard.{no_heap}
 use Rattle.tlsf_calls.specs.Entries.{made_by}
 use Rattle.tlsf_crew.specs.yard.World.{World, Replied, Replayed, after, allocating, answered, called, freeing, heap_in, name_of, posting, reading_named, releasing, releasing_named, reply_freed, reply_got, reply_made, reply_wrote, with_heap, writing_named}
 use Rattle.tlsf_crew.specs.yard.Told.{Told, MayTell, MayTellAll, told_by}
-use Rattle.tlsf_crew.specs.yard.History.{StandsBehind, TellsCall, post_made, post_taken, posts_made, posts_taken}
+use Rattle.tlsf_crew.specs.yard.History.{StandsBehind, TellsCall, post_of_release, post_of_take, posts_made, posts_taken}
 use Rattle.tlsf_crew.specs.threads.Race.{events_by}
 use Rattle.tlsf_crew.proofs.lemmas.yard.AllEntries.{called_knows, called_told}
 use Rattle.tlsf_crew.proofs.lemmas.yard.EventSteps.{after_near}
@@ -191,10 +191,10 @@ same_capacity r at (Drain most) none = absurd none
 
 -- the entries of a call that takes none
 pub takes_none : (i j at : ℕ) (made : List (Option Name)) (call : Call) (name : Option Name) (own : List Entry) → TakesNoPost call → TellsCall at made call name own → posts_taken i j own ≡ []
-takes_none i j at made (Allocate len) name own none t = ap (posts_taken i j) t.whole ∙ told_nothing (λ e. post_taken i e.call e.reply) j _ refl
-takes_none i j at made (Release target) name own none t = ap (posts_taken i j) t.whole ∙ told_nothing (λ e. post_taken i e.call e.reply) j _ refl
-takes_none i j at made (Write target from bytes) name own none t = ap (posts_taken i j) t.whole ∙ told_nothing (λ e. post_taken i e.call e.reply) j _ refl
-takes_none i j at made (Read target from k) name own none t = ap (posts_taken i j) t.whole ∙ told_nothing (λ e. post_taken i e.call e.reply) j _ refl
+takes_none i j at made (Allocate len) name own none t = ap (posts_taken i j) t.whole ∙ told_nothing (λ e. post_of_take i e.call e.reply) j _ refl
+takes_none i j at made (Release target) name own none t = ap (posts_taken i j) t.whole ∙ told_nothing (λ e. post_of_take i e.call e.reply) j _ refl
+takes_none i j at made (Write target from bytes) name own none t = ap (posts_taken i j) t.whole ∙ told_nothing (λ e. post_of_take i e.call e.reply) j _ refl
+takes_none i j at made (Read target from k) name own none t = ap (posts_taken i j) t.whole ∙ told_nothing (λ e. post_of_take i e.call e.reply) j _ refl
 takes_none i j at made (Take from) name own none t = absurd none
 takes_none i j at made (Drain most) name own none t = absurd none
 
@@ -250,7 +250,7 @@ pub record IsAlone (w : World) (i : ℕ) (made : List (Option Name)) (s : Told) 
 one_post : (i : ℕ) (made : List (Option Name)) (target : Target) (name : Name) (e : Entry) → e ≡ record { worker = i; call = Release target; reply = Posted } → name_of made target ≡ Some name
     → length (posts_made i name.heap made (e ∷ [])) ≡ 1
 one_post i made target name e is known =
-    let f : Entry → Option Post = λ e. post_made name.heap made e.worker e.call e.reply in
+    let f : Entry → Option Post = λ e. post_of_release name.heap made e.worker e.call e.reply in
     let x : Entry = record { worker = i; call = Release target; reply = Posted } in
     let post : f x ≡ Some (record { from = i; name = name }) = rw (known, of_same name.heap name refl) refl in
     rw (is, told_own f i x refl, post) refl

@@ -14,7 +14,7 @@ use Rattle.tlsf_post.specs.declared.post.Post.{Post}
 use Rattle.tlsf_crew.specs.declared.yard.worker.Worker.{Worker}
 use Rattle.tlsf_calls.specs.declared.entry.Entry.{Entry}
 use Rattle.tlsf_crew.specs.yard.Yard.{IsYard, yard_heap, post_at, take_at, lane_waits, capacity_in, waits_in}
-use Rattle.tlsf_crew.specs.yard.World.{World, Replayed, world_of, made_by, called, drained_all, draining}
+use Rattle.tlsf_crew.specs.yard.World.{World, Replayed, world_of, made_by, called, after_drain, draining}
 use Rattle.tlsf_crew.specs.yard.Counts.{sum_below}
 use Rattle.tlsf_crew.specs.yard.History.{posts_made, posts_taken}
 use Rattle.tlsf_crew.specs.yard.ReplaySteps.{drain_of, replay_of, IsReplied}
@@ -34,17 +34,17 @@ use Rattle.tlsf_crew.proofs.lemmas.yard.Pending.{same_sum}
 
 -- what such a drain leaves
 pub last_out : (ws : List Worker) (es : List Entry) (at : ℕ) → IsYard ws → HasFew ws at
-    → LanesOut at (length ws) (drain_of es ws 0) (drained_all at 8192 (drain_of es ws 0))
+    → LanesOut at (length ws) (drain_of es ws 0) (after_drain at 8192 (drain_of es ws 0))
 unfolding world_of
 last_out ws es at yard few =
     let d = drain_of es ws 0 in
     let n = heaps_count ws in
     let k : waits_below at d (length ws) ≤ length ws * 1024 = sum_most (length ws) 1024 (λ x. length (waits_in ws x at)) (λ x _. few x) in
     let le : waits_below at d (length ws) ≤ 8192 = omega (arith, yard.few) in
-    subst (λ (m : ℕ). LanesOut at m d (drained_all at 8192 d)) n (all_out at 8192 d (rw n (omega arith)))
+    subst (λ (m : ℕ). LanesOut at m d (after_drain at 8192 d)) n (all_out at 8192 d (rw n (omega arith)))
 
 pub last_drain_fits : (ws : List Worker) (es : List Entry) (at : ℕ) → IsYard ws → HasFew ws at
-    → length (drained_all at 8192 (drain_of es ws 0)).entries ≤ length es + sum_below 8 (λ i. length (waits_in ws i at))
+    → length (after_drain at 8192 (drain_of es ws 0)).entries ≤ length es + sum_below 8 (λ i. length (waits_in ws i at))
 unfolding world_of
 last_drain_fits ws es at yard few =
     let a = (last_out ws es at yard few).entries in
@@ -64,7 +64,7 @@ pub last_fits : (ws vs : List Worker) (made : List (Option Name)) (es fs : List 
     → IsReplied (replay_of made es ws) (record { worker = at; call = last_call }) fs vs reply → length fs ≤ length es + sum_below 8 (λ i. length (waits_in ws i at))
 unfolding draining
 last_fits ws vs made es fs at reply yard few lt told =
-    let d = drained_all at 8192 (drain_of es ws 0) in
+    let d = after_drain at 8192 (drain_of es ws 0) in
     let last : Entry = record { worker = at; call = last_call; reply = Drained d.taken } in
     let entry : Entry = record { worker = at; call = last_call; reply = reply } in
     let e : d.entries ++ last ∷ [] ≡ fs ++ entry ∷ [] = ap (λ (x : Replayed). x.entries) (last_replied ws vs made es fs at reply lt told) in
@@ -76,7 +76,7 @@ pub last_told : (ws vs : List Worker) (es fs : List Entry) (at : ℕ) (reply : R
     → (made : List (Option Name)) → replay_of (made ++ None ∷ []) (fs ++ record { worker = at; call = last_call; reply = reply } ∷ []) vs ≡ called (replay_of made es ws) at last_call
 unfolding draining
 last_told ws vs es fs at reply lt told made =
-    let d = drained_all at 8192 (drain_of es ws 0) in
+    let d = after_drain at 8192 (drain_of es ws 0) in
     let last : Entry = record { worker = at; call = last_call; reply = Drained d.taken } in
     let entry : Entry = record { worker = at; call = last_call; reply = reply } in
     let all = last_replied ws vs [] es fs at reply lt told in
@@ -139,7 +139,7 @@ pub one_drained : (ws vs : List Worker) (j : ℕ) (es fs : List Entry) → IsYar
 unfolding world_of draining
 one_drained ws vs j es fs yard j_in few after tells =
     let d = drain_of es ws 0 in
-    let b = drained_all j 8192 d in
+    let b = after_drain j 8192 d in
     let r : Replayed = replay_of [] es ws in
     let n = heaps_count ws in
     let out = last_out ws es j yard few in

@@ -13,7 +13,7 @@ use Rattle.tlsf_crew.specs.yard.World.{World, Replayed, called, heap_in}
 use Rattle.tlsf_crew.specs.threads.Race.{IsLegal, IsRace, events_by, events_of_race, last_call, record_of, script_of}
 use Rattle.tlsf_crew.proofs.lemmas.yard.AllEntries.{called_knows, called_told}
 use Rattle.tlsf_crew.proofs.lemmas.yard.Fronts.{runs_through}
-use Rattle.tlsf_crew.proofs.lemmas.yard.JoinedEntries.{IsAnswered, runs_then, told_then}
+use Rattle.tlsf_crew.proofs.lemmas.yard.JoinedEntries.{HasItsAnswer, runs_then, told_then}
 use Rattle.tlsf_crew.proofs.lemmas.yard.OwnCalls.{Knows}
 use Rattle.tlsf_crew.proofs.lemmas.threads.ScriptRuns.{tell_more}
 
@@ -25,7 +25,7 @@ record ToldCalls (made : List (Option Name)) (n at : ℕ) (s : Told) (calls : Li
   names : t.made ≡ s.made ++ later
   tells : Tells n s.made (events_by at calls) later own
   run : RunsTo s.heap (calls_on at made own) (answers_on at own) t.heap
-  each : All (IsAnswered made n) own
+  each : All (HasItsAnswer made n) own
 
 -- names that were made stay known
 knows_one : (n at : ℕ) (s t : Told) (call : Call) → MayTell n at s call t → Knows t.made s.made
@@ -45,7 +45,7 @@ record OneTold (made : List (Option Name)) (n at : ℕ) (s : Told) (call : Call)
   names : t.made ≡ s.made ++ name ∷ []
   tells : TellsEvent n s.made (record { worker = at; call = call }) name own
   run : RunsTo s.heap (calls_on at made own) (answers_on at own) t.heap
-  each : All (IsAnswered made n) own
+  each : All (HasItsAnswer made n) own
 
 one_told : (made : List (Option Name)) (n at : ℕ) (s t : Told) (call : Call) → at < n → Knows made s.made → MayTell n at s call t → OneTold made n at s call t
 one_told made n at s t call at_in known m =
@@ -62,7 +62,7 @@ one_told made n at s t call at_in known m =
       tells = record { near = λ _. c.tells; far = λ far. absurd (omega arith) };
       run = subst (λ h. RunsTo s.heap (calls_on at made c.own) (answers_on at c.own) h) (ap (λ (t : Told). t.heap) m.2)
           (subst (λ h. RunsTo h (calls_on at made c.own) (answers_on at c.own) (heap_in v.world at)) m.1.1 (c.history.heaps at (omega (arith, count))));
-      each = subst (λ (n : ℕ). All (IsAnswered made n) c.own) count c.history.each;
+      each = subst (λ (n : ℕ). All (HasItsAnswer made n) c.own) count c.history.each;
     }
 
 all_told : (made : List (Option Name)) (n at : ℕ) (s t : Told) (calls : List Call) → at < n → Knows made t.made → MayTellAll n at s calls t → ToldCalls made n at s calls t
@@ -74,7 +74,7 @@ all_told made n at s t [] at_in known m =
       names = ap (λ (t : Told). t.made) m ∙ sym (append-nil s.made);
       tells = refl;
       run = record { told = refl; left = sym (ap (λ (t : Told). t.heap) m) };
-      each = All-nil (IsAnswered made n);
+      each = All-nil (HasItsAnswer made n);
     }
 all_told made n at s t (call ∷ calls) at_in known m =
     let u = m.0 in
@@ -89,14 +89,14 @@ all_told made n at s t (call ∷ calls) at_in known m =
       names = rest.names ∙ (ap (λ l. l ++ rest.later) first.names ∙ append_assoc s.made (first.name ∷ []) rest.later);
       tells = (first.own, rest.own, refl, first.tells, subst (λ m. Tells n m (events_by at calls) rest.later rest.own) first.names rest.tells);
       run = rw (calls_told, answers_told) (runs_then s.heap u.heap t.heap (calls_on at made first.own) (calls_on at made rest.own) (answers_on at first.own) (answers_on at rest.own) first.run rest.run);
-      each = All-append (IsAnswered made n) first.own rest.own first.each rest.each;
+      each = All-append (HasItsAnswer made n) first.own rest.own first.each rest.each;
     }
 
 -- a legal record: its names are all that its calls made
 record ToldWhole (n at : ℕ) (h : HeapState) (calls : List Call) (end : Told) : Type 0 where
   tells : Tells n [] (events_by at calls) end.made end.entries
   run : RunsTo h (calls_on at end.made end.entries) (answers_on at end.entries) end.heap
-  each : All (IsAnswered end.made n) end.entries
+  each : All (HasItsAnswer end.made n) end.entries
 
 whole_told : (n at : ℕ) (h : HeapState) (calls : List Call) (end : Told) → at < n → MayTellAll n at (untold h) calls end → ToldWhole n at h calls end
 whole_told n at h calls end at_in m =
@@ -106,7 +106,7 @@ whole_told n at h calls end at_in m =
     record {
       tells = subst (λ l. Tells n [] (events_by at calls) end.made l) entries (subst (λ m. Tells n [] (events_by at calls) m t.own) names t.tells);
       run = subst (λ l. RunsTo h (calls_on at end.made l) (answers_on at l) end.heap) entries t.run;
-      each = subst (All (IsAnswered end.made n)) entries t.each;
+      each = subst (All (HasItsAnswer end.made n)) entries t.each;
     }
 
 legal_told : (n at : ℕ) (h : HeapState) (calls : List Call) (scripted : List Entry) (end : Told) → at < n → IsLegal n at h calls scripted end → ToldWhole n at h (calls ++ last_call ∷ []) end
@@ -120,7 +120,7 @@ race_told w v scripts records race j j_in = legal_told (length w.heaps) j (heap_
 
 -- each entry tells an answer where it tells a call on its worker's own heap
 pub race_answered : (w v : World) (scripts : List (List Call)) (records : List (List Entry)) (race : IsRace w scripts records v) (j : ℕ) → j < length w.heaps
-    → All (IsAnswered (race.made j) (length w.heaps)) (record_of records j)
+    → All (HasItsAnswer (race.made j) (length w.heaps)) (record_of records j)
 race_answered w v scripts records race j j_in = (race_told w v scripts records race j j_in).each
 
 pub race_tells : (w v : World) (scripts : List (List Call)) (records : List (List Entry)) (race : IsRace w scripts records v) (j : ℕ) → j < length w.heaps
@@ -145,5 +145,5 @@ pub race_always : (w v : World) (scripts : List (List Call)) (records : List (Li
 race_always w v scripts records race before later j lawful j_in whole =
     let t = race_told w v scripts records race j j_in in
     runs_through (race.made j) (length w.heaps) j (heap_in w j) (heap_in v j) before later j_in lawful
-    (subst (All (IsAnswered (race.made j) (length w.heaps))) whole t.each)
+    (subst (All (HasItsAnswer (race.made j) (length w.heaps))) whole t.each)
     (subst (λ l. RunsTo (heap_in w j) (calls_on j (race.made j) l) (answers_on j l) (heap_in v j)) whole t.run)

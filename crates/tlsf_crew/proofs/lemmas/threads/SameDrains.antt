@@ -11,9 +11,9 @@ use Rattle.tlsf_calls.specs.declared.call.Call.TheVariants.{Take, Drain}
 use Rattle.tlsf_calls.specs.declared.entry.Entry.{Entry}
 use Rattle.tlsf_calls.specs.declared.reply.Reply.TheVariants.{Took as Taken, Drained}
 use Rattle.tlsf_calls.specs.declared.took.Took.{Took}
-use Rattle.tlsf_crew.specs.yard.World.{Replayed, Draining, drained_all, drained_below, drained_lane, draining, heap_in, took_more}
+use Rattle.tlsf_crew.specs.yard.World.{Replayed, Draining, after_drain, drained_below, drained_lane, draining, heap_in, took_more}
 use Rattle.tlsf_crew.specs.yard.Told.{Told, MayTell}
-use Rattle.tlsf_crew.specs.yard.History.{AreTakes, IsDrain, RunsTo, answer_told, answers_on, call_on_own, calls_on, post_taken, posts_taken}
+use Rattle.tlsf_crew.specs.yard.History.{AreTakes, IsDrain, RunsTo, answer_told, answers_on, call_on_own, calls_on, post_of_take, posts_taken}
 use Rattle.tlsf_crew.specs.threads.Race.{last_call}
 use Rattle.tlsf_crew.proofs.lemmas.threads.TwoRecords.{drain_makes, drain_takes}
 use Rattle.tlsf_crew.proofs.lemmas.yard.DrainEntries.{drain_told}
@@ -33,17 +33,17 @@ post_of t = record { from = t.from; name = t.name }
 pub own_post : (at from : ℕ) (t : Took) (es : List Entry) → posts_taken from at (take_entry at from t ∷ es) ≡ post_of t ∷ posts_taken from at es
 own_post at from t es =
     let e = take_entry at from t in
-    let f : Entry → Option Post = λ x. post_taken from x.call x.reply in
+    let f : Entry → Option Post = λ x. post_of_take from x.call x.reply in
     let here : f e ≡ Some (post_of t) = same from in
     taken_then from at (e ∷ []) es ∙ ap (λ l. l ++ posts_taken from at es) (told_own f at e refl ∙ ap (λ o. cons_option o []) here)
   where
-    same : (from : ℕ) → post_taken from (Take from) (Taken t) ≡ Some (post_of t)
+    same : (from : ℕ) → post_of_take from (Take from) (Taken t) ≡ Some (post_of t)
     same from = let b : (from == from) ≡ true = grind (arith, nat_tests) in rw b refl
 
 pub other_post : (at i from : ℕ) (t : Took) (es : List Entry) → from ≢ i → posts_taken i at (take_entry at from t ∷ es) ≡ posts_taken i at es
 other_post at i from t es ne =
     let e = take_entry at from t in
-    let f : Entry → Option Post = λ x. post_taken i x.call x.reply in
+    let f : Entry → Option Post = λ x. post_of_take i x.call x.reply in
     let b : (from == i) ≡ false = grind (arith, nat_tests) in
     let here : f e ≡ None = rw b refl in
     taken_then i at (e ∷ []) es ∙ ap (λ l. l ++ posts_taken i at es) (told_nothing f at e here)
@@ -159,7 +159,7 @@ below_apart at most x d (suc k) far =
     ]
 
 pub drain_apart : (r : Replayed) (at most x : ℕ) → (x ≢ at → length r.world.heaps ≤ x) → (draining r at most).world.waiting x at ≡ r.world.waiting x at
-unfolding draining drained_all
+unfolding draining after_drain
 drain_apart r at most x far = below_apart at most x (record { entries = r.entries; world = r.world; taken = 0 }) (length r.world.heaps) far
 
 -- nothing was put in front

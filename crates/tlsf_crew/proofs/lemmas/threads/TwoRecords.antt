@@ -18,7 +18,7 @@ use Rattle.tlsf_calls.specs.declared.reply.Reply.{Reply}
 use Rattle.tlsf_calls.specs.declared.reply.Reply.TheVariants.{Made, Freed, Posted, Wrote, Got, Took as Taken, Empty, Drained, Refused}
 use Rattle.tlsf_calls.specs.declared.crew_refusal.CrewRefusal.TheVariants.{Full}
 use Rattle.tlsf_crew.specs.yard.World.{name_of}
-use Rattle.tlsf_crew.specs.yard.History.{AreTakes, IsDrain, of_heap, post_made, post_taken, posts_made, posts_taken, entries_of, StandsBehind}
+use Rattle.tlsf_crew.specs.yard.History.{AreTakes, IsDrain, of_heap, post_of_release, post_of_take, posts_made, posts_taken, entries_of, StandsBehind}
 use Rattle.tlsf_crew.specs.threads.Race.{Agree}
 use Rattle.tlsf_crew.proofs.lemmas.yard.Signed.{AreFrom}
 use Rattle.tlsf_crew.proofs.lemmas.yard.JoinedEntries.{told_own, told_other, told_nothing}
@@ -39,7 +39,7 @@ same_name made (Named name) = refl
 same_name made (MadeBy k) = same_at made k
 same_name made Absent = refl
 
-same_post : (j : ℕ) (made : List (Option Name)) (i : ℕ) (call : Call) (reply : Reply) → post_made j (made ++ None ∷ []) i call reply ≡ post_made j made i call reply
+same_post : (j : ℕ) (made : List (Option Name)) (i : ℕ) (call : Call) (reply : Reply) → post_of_release j (made ++ None ∷ []) i call reply ≡ post_of_release j made i call reply
 same_post j made i (Allocate len) reply = refl
 same_post j made i (Release target) (Made name) = refl
 same_post j made i (Release target) Freed = refl
@@ -64,7 +64,7 @@ from_name : (i : ℕ) (n : Option Name) → AreFrom i (cons_option (option_map (
 from_name i None = All-nil (λ (post : Post). post.from ≡ i)
 from_name i (Some name) = All-push (λ (post : Post). post.from ≡ i) [] (record { from = i; name = name }) (All-nil (λ (post : Post). post.from ≡ i)) refl
 
-from_call : (j : ℕ) (made : List (Option Name)) (i : ℕ) (call : Call) (reply : Reply) → AreFrom i (cons_option (post_made j made i call reply) [])
+from_call : (j : ℕ) (made : List (Option Name)) (i : ℕ) (call : Call) (reply : Reply) → AreFrom i (cons_option (post_of_release j made i call reply) [])
 from_call j made i (Allocate len) reply = All-nil (λ (post : Post). post.from ≡ i)
 from_call j made i (Release target) (Made name) = All-nil (λ (post : Post). post.from ≡ i)
 from_call j made i (Release target) Freed = All-nil (λ (post : Post). post.from ≡ i)
@@ -82,9 +82,9 @@ from_call j made i (Drain most) reply = All-nil (λ (post : Post). post.from ≡
 
 from_entry : (i j : ℕ) (made : List (Option Name)) (e : Entry) → AreFrom i (posts_made i j made (e ∷ []))
 from_entry i j made e =
-    let f : Entry → Option Post = λ x. post_made j made x.worker x.call x.reply in
+    let f : Entry → Option Post = λ x. post_of_release j made x.worker x.call x.reply in
     elim (cases_eq e.worker i) [
-      | inl own ↦ rw (told_own f i e own) (subst (λ (k : ℕ). AreFrom i (cons_option (post_made j made k e.call e.reply) [])) (sym own) (from_call j made i e.call e.reply))
+      | inl own ↦ rw (told_own f i e own) (subst (λ (k : ℕ). AreFrom i (cons_option (post_of_release j made k e.call e.reply) [])) (sym own) (from_call j made i e.call e.reply))
       | inr ne ↦ rw (told_other f i e ne) (All-nil (λ (post : Post). post.from ≡ i))
     ]
 
@@ -144,14 +144,14 @@ of_drain at most own mid after e d eq =
 takes_make : (i j at low : ℕ) (made : List (Option Name)) (es : List Entry) → AreTakes at low es → posts_made i j made es ≡ []
 takes_make i j at low made [] a = refl
 takes_make i j at low made (e ∷ es) a =
-    let f : Entry → Option Post = λ x. post_made j made x.worker x.call x.reply in
+    let f : Entry → Option Post = λ x. post_of_release j made x.worker x.call x.reply in
     let one : posts_made i j made (e ∷ []) ≡ [] = told_nothing f i e (ap f a.2) in
     made_then i j made (e ∷ []) es ∙ (ap (λ l. l ++ posts_made i j made es) one ∙ takes_make i j at a.0 made es a.4)
 
 pub drain_makes : (i j at most : ℕ) (made : List (Option Name)) (own : List Entry) → IsDrain at most own → posts_made i j made own ≡ []
 drain_makes i j at most made own d =
     let last : Entry = record { worker = at; call = Drain most; reply = Drained (length d.takes) } in
-    let one : posts_made i j made (last ∷ []) ≡ [] = told_nothing (λ x. post_made j made x.worker x.call x.reply) i last refl in
+    let one : posts_made i j made (last ∷ []) ≡ [] = told_nothing (λ x. post_of_release j made x.worker x.call x.reply) i last refl in
     ap (posts_made i j made) d.whole ∙ (made_then i j made d.takes (last ∷ [])
     ∙ (ap (λ l. l ++ posts_made i j made (last ∷ [])) (takes_make i j at 0 made d.takes d.are_takes) ∙ one))
 
@@ -159,7 +159,7 @@ drain_makes i j at most made own d =
 pub drain_takes : (i j at most : ℕ) (own : List Entry) (d : IsDrain at most own) → posts_taken i j d.takes ≡ posts_taken i j own
 drain_takes i j at most own d =
     let last : Entry = record { worker = at; call = Drain most; reply = Drained (length d.takes) } in
-    let one : posts_taken i j (last ∷ []) ≡ [] = told_nothing (λ x. post_taken i x.call x.reply) j last refl in
+    let one : posts_taken i j (last ∷ []) ≡ [] = told_nothing (λ x. post_of_take i x.call x.reply) j last refl in
     sym (ap (posts_taken i j) d.whole ∙ (taken_then i j d.takes (last ∷ []) ∙ (ap (λ l. posts_taken i j d.takes ++ l) one ∙ append-nil (posts_taken i j d.takes))))
 
 -- ---- two records

@@ -17,7 +17,7 @@ use Rattle.tlsf_post.specs.Lanes.{posts_sent, free_slots, capacity_of, waited, t
 use Rattle.tlsf_crew.specs.declared.yard.worker.Worker.{Worker}
 use Rattle.tlsf_calls.specs.declared.entry.Entry.{Entry}
 use Rattle.tlsf_calls.specs.declared.call.Call.{Call}
-use Rattle.tlsf_crew.specs.yard.Workers.{heap_of, id_of, own_numbers, end_to, end_from}
+use Rattle.tlsf_crew.specs.yard.Workers.{heap_of, id_of, id_and_capacity, end_to, end_from}
 use Rattle.tlsf_crew.specs.yard.Yard.{IsYard, yard_heap, post_at, take_at, end_to_in, end_from_in, capacity_in, waits_in}
 use Rattle.tlsf_crew.specs.yard.World.{World, world_of}
 use Rattle.tlsf_crew.specs.yard.Settle.{MetIn, HaveMet}
@@ -73,7 +73,7 @@ capacity_kept [] (v ∷ vs) scripts rs run = let n : length vs + 1 ≡ 0 = let m
 capacity_kept (a ∷ ws) [] scripts rs run = let n : 0 ≡ length ws + 1 = let m = run.worker_count in omega arith in absurd (omega arith)
 capacity_kept (a ∷ ws) (v ∷ vs) scripts rs run =
     let r = run.ran 0 a refl in
-    ap (λ (x : ℕ × ℕ). x.1) (ap own_numbers (some_same v r.0 r.1) ∙ r.2.numbers)
+    ap (λ (x : ℕ × ℕ). x.1) (ap id_and_capacity (some_same v r.0 r.1) ∙ r.2.numbers)
 
 pub capacity_same : (ws vs : List Worker) → world_of vs ≡ world_of ws → capacity_in vs ≡ capacity_in ws
 unfolding world_of

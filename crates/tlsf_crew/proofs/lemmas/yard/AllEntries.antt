@@ -14,14 +14,14 @@ use Rattle.tlsf_calls.specs.declared.call.Call.TheVariants.{Allocate, Release, W
 use Rattle.tlsf_calls.specs.declared.target.Target.TheVariants.{Named, Made as MadeBy, Absent}
 use Rattle.tlsf_calls.specs.declared.reply.Reply.TheVariants.{Refused}
 use Rattle.tlsf_calls.specs.declared.crew_refusal.CrewRefusal.TheVariants.{Stranger}
-use Rattle.tlsf_crew.specs.yard.History.{AreLawful, Tells, TellsCall, TellsEvent, answer_told, call_on_own, calls_on, post_made, post_taken}
+use Rattle.tlsf_crew.specs.yard.History.{AreLawful, Tells, TellsCall, TellsEvent, answer_told, call_on_own, calls_on, post_of_release, post_of_take}
 use Rattle.tlsf_crew.specs.yard.World.{World, Replayed, after, begun, called, draining, heap_in, name_of, replies}
 use Rattle.tlsf_crew.proofs.lemmas.yard.DrainEntries.{ToldOnce, drain_told}
 use Rattle.tlsf_crew.proofs.lemmas.yard.EventSteps.{after_far, after_near}
 use Rattle.tlsf_crew.proofs.lemmas.yard.LaneCalls.{release_told, take_told}
 use Rattle.tlsf_crew.proofs.lemmas.yard.OwnCalls.{Knows, allocate_told, read_told, write_told}
 use Rattle.tlsf_crew.proofs.lemmas.yard.NamesMeant.{allocate_unmade, read_unmade, release_unmade, take_unmade, write_unmade}
-use Rattle.tlsf_crew.proofs.lemmas.yard.JoinedEntries.{IsAnswered, IsHistory, history_none, history_then, quiet_posts, told_other}
+use Rattle.tlsf_crew.proofs.lemmas.yard.JoinedEntries.{HasItsAnswer, IsHistory, history_none, history_then, quiet_posts, told_other}
 
 -- ---- names that were made stay known
 
@@ -73,7 +73,7 @@ called_told made r at (Take from) at_in known =
     record { own = _; name = _; entries = refl; names = refl; tells = record { reply = _; name_is = refl; unmade = take_unmade r.world at from; whole = refl }; history = take_told made r.world at from at_in }
 called_told made r at (Drain most) at_in known = drain_told made r at most at_in
 
-no_post : (made : List (Option Name)) (j at : ℕ) (call : Call) → post_made j made at call (Refused Stranger) ≡ None
+no_post : (made : List (Option Name)) (j at : ℕ) (call : Call) → post_of_release j made at call (Refused Stranger) ≡ None
 no_post made j at (Allocate len) = refl
 no_post made j at (Release target) = refl
 no_post made j at (Write target from bytes) = refl
@@ -81,7 +81,7 @@ no_post made j at (Read target from n) = refl
 no_post made j at (Take from) = refl
 no_post made j at (Drain most) = refl
 
-no_take : (i : ℕ) (call : Call) → post_taken i call (Refused Stranger) ≡ None
+no_take : (i : ℕ) (call : Call) → post_of_take i call (Refused Stranger) ≡ None
 no_take i (Allocate len) = refl
 no_take i (Release target) = refl
 no_take i (Write target from bytes) = refl
@@ -101,7 +101,7 @@ far_told made w at call ge =
           rw (a, b) (record { told = refl; left = refl });
       posts = quiet_posts made w w e (record { made_none = λ j. no_post made j at call; taken_none = λ i. no_take i call }) refl;
       count = refl;
-      each = All-cons (IsAnswered made (length w.heaps)) e [] (λ lt. absurd (omega arith)) (All-nil (IsAnswered made (length w.heaps)));
+      each = All-cons (HasItsAnswer made (length w.heaps)) e [] (λ lt. absurd (omega arith)) (All-nil (HasItsAnswer made (length w.heaps)));
     }
 
 after_told : (made : List (Option Name)) (r : Replayed) (e : Event) → Knows made r.made → ToldOnce made r (after r e) (TellsEvent (length r.world.heaps) r.made e)

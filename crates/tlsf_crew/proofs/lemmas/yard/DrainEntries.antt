@@ -10,7 +10,7 @@ use Rattle.tlsf_calls.specs.declared.call.Call.TheVariants.{Take, Drain}
 use Rattle.tlsf_calls.specs.declared.took.Took.{Took}
 use Rattle.tlsf_calls.specs.declared.reply.Reply.TheVariants.{Took as Taken, Drained}
 use Rattle.tlsf_crew.specs.yard.History.{AreTakes, TellsCall}
-use Rattle.tlsf_crew.specs.yard.World.{Replayed, Draining, took, took_more, drained_lane, drained_below, drained_all, draining}
+use Rattle.tlsf_crew.specs.yard.World.{Replayed, Draining, took, took_more, drained_lane, drained_below, after_drain, draining}
 use Rattle.tlsf_crew.proofs.lemmas.yard.LaneCalls.{took_told}
 use Rattle.tlsf_crew.proofs.lemmas.yard.OneEvent.{from_other, from_own}
 use Rattle.tlsf_crew.proofs.lemmas.yard.OwnCalls.{none_done}
@@ -117,8 +117,8 @@ below_took made at most d (suc k) at_in le =
     ]
 
 all_took : (made : List (Option Name)) (at most : ℕ) (d : Draining) → at < length d.world.heaps → d.taken ≤ most
-    → TookSome made at 0 (length d.world.heaps) d (drained_all at most d) × ((drained_all at most d).taken ≤ most)
-unfolding drained_all
+    → TookSome made at 0 (length d.world.heaps) d (after_drain at most d) × ((after_drain at most d).taken ≤ most)
+unfolding after_drain
 all_took made at most d at_in le = below_took made at most d (length d.world.heaps) at_in le
 
 -- the entries of one call, which lead from one state of a replay to the other, and the name that it made
@@ -134,7 +134,7 @@ pub drain_told : (made : List (Option Name)) (r : Replayed) (at most : ℕ) → 
 unfolding draining
 drain_told made r at most at_in =
     let d : Draining = record { entries = r.entries; world = r.world; taken = 0 } in
-    let b = drained_all at most d in
+    let b = after_drain at most d in
     let t = all_took made at most d at_in (omega arith) in
     let last : Entry = record { worker = at; call = Drain most; reply = Drained b.taken } in
     let n : b.taken ≡ length t.0.takes = let q = t.0.taken in omega arith in

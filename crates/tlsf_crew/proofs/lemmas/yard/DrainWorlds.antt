@@ -13,7 +13,7 @@ use Rattle.tlsf_calls.specs.declared.reply.Reply.TheVariants.{Drained}
 use Rattle.tlsf_crew.specs.yard.Heaps.{released}
 use Rattle.tlsf_crew.specs.yard.Workers.{heap_of, id_of, KnowsYard}
 use Rattle.tlsf_crew.specs.yard.Yard.{no_heap}
-use Rattle.tlsf_crew.specs.yard.World.{World, Draining, heap_in, called, draining, drained_all, drained_below, drained_lane, took_more}
+use Rattle.tlsf_crew.specs.yard.World.{World, Draining, heap_in, called, draining, after_drain, drained_below, drained_lane, took_more}
 use Rattle.tlsf_crew.specs.yard.Told.{MayTell, HasHeap, told_by}
 use Rattle.tlsf_crew.specs.yard.Counts.{sum_below}
 use Rattle.tlsf_crew.specs.yard.History.{posts_taken}
@@ -117,14 +117,14 @@ world_below at most n posts d (suc k) le lt start none waits few =
     ]
 
 all_world : (at most n : ℕ) (posts : ℕ → List Post) (d : Draining) → length d.world.heaps ≡ n → at < n → d.taken ≡ 0 → ((i : ℕ) → i ≡ at → posts i ≡ [])
-    → ((x : ℕ) → x < n → x ≢ at → WaitsFirst posts most x (d.world.waiting x at)) → sum_below n (λ i. length (posts i)) ≤ most → own_of at (drained_all at most d) ≡ each_lane_own at posts (own_of at d) n
-unfolding drained_all
+    → ((x : ℕ) → x < n → x ≢ at → WaitsFirst posts most x (d.world.waiting x at)) → sum_below n (λ i. length (posts i)) ≤ most → own_of at (after_drain at most d) ≡ each_lane_own at posts (own_of at d) n
+unfolding after_drain
 all_world at most n posts d len lt start none waits few =
     let w = world_below at most n posts d n (omega arith) (omega arith) start none waits few in
     ap (λ k. own_of at (drained_below at most d k)) len ∙ w.own
 
 -- what a drain tells, as its worker sees it
-drain_tells : (made : List (Option Name)) (at most : ℕ) (es : List Entry) (w : World) (o : OwnDrain) → own_of at (drained_all at most (record { entries = es; world = w; taken = 0 })) ≡ o
+drain_tells : (made : List (Option Name)) (at most : ℕ) (es : List Entry) (w : World) (o : OwnDrain) → own_of at (after_drain at most (record { entries = es; world = w; taken = 0 })) ≡ o
     → told_by at (called (record { made = made; entries = es; world = w }) at (Drain most))
     ≡ record { made = made ++ None ∷ []; entries = o.entries ++ one at (Drain most) (Drained o.taken); heap = o.heap }
 unfolding draining

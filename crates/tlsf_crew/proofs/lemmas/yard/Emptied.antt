@@ -7,7 +7,7 @@ use Rattle.tlsf_post.specs.declared.post.Post.{Post}
 use Rattle.tlsf_calls.specs.declared.call.Call.TheVariants.{Take}
 use Rattle.tlsf_crew.specs.yard.Heaps.{released}
 use Rattle.tlsf_crew.specs.yard.Yard.{no_heap}
-use Rattle.tlsf_crew.specs.yard.World.{Draining, heap_in, took, took_more, drained_lane, drained_below, drained_all}
+use Rattle.tlsf_crew.specs.yard.World.{Draining, heap_in, took, took_more, drained_lane, drained_below, after_drain}
 use Rattle.tlsf_crew.specs.yard.Counts.{sum_below}
 use Rattle.tlsf_crew.proofs.lemmas.yard.OneEvent.{from_other, from_own}
 use Rattle.tlsf_crew.proofs.lemmas.yard.LaneChanges.{edited_same, edited_other}
@@ -141,6 +141,6 @@ below_out at most d (suc k) le =
     ]
 
 -- all of them were
-pub all_out : (at most : ℕ) (d : Draining) → d.taken + waits_below at d (length d.world.heaps) ≤ most → LanesOut at (length d.world.heaps) d (drained_all at most d)
-unfolding drained_all
+pub all_out : (at most : ℕ) (d : Draining) → d.taken + waits_below at d (length d.world.heaps) ≤ most → LanesOut at (length d.world.heaps) d (after_drain at most d)
+unfolding after_drain
 all_out at most d le = below_out at most d (length d.world.heaps) le

@@ -25,13 +25,13 @@ use Rattle.tlsf_calls.specs.declared.call.Call.TheVariants.{Allocate, Release, W
 use Rattle.tlsf_calls.specs.declared.reply.Reply.{Reply}
 use Rattle.tlsf_calls.specs.declared.reply.Reply.TheVariants.{Posted, Took as Taken, Empty, Drained, Refused}
 use Rattle.tlsf_calls.specs.declared.crew_refusal.CrewRefusal.TheVariants.{Full}
-use Rattle.tlsf_crew.specs.yard.Workers.{heap_of, id_of, own_numbers, end_to, end_from, KnowsYard}
+use Rattle.tlsf_crew.specs.yard.Workers.{heap_of, id_of, id_and_capacity, end_to, end_from, KnowsYard}
 use Rattle.tlsf_crew.specs.yard.Yard.{IsYard, post_at, take_at, end_to_in, end_from_in, lane_waits, capacity_in, no_heap, waits_in}
-use Rattle.tlsf_crew.specs.yard.World.{World, Replayed, Draining, world_of, heap_in, made_by, name_of, called, draining, posting, releasing_named, writing_named, reading_named, taking, taking_next, took_first, took_more, drained_lane, drained_below, drained_all}
+use Rattle.tlsf_crew.specs.yard.World.{World, Replayed, Draining, world_of, heap_in, made_by, name_of, called, draining, posting, releasing_named, writing_named, reading_named, taking, taking_next, took_first, took_more, drained_lane, drained_below, after_drain}
 use Rattle.tlsf_calls.specs.Bytes.{bytes_of}
 use Rattle.tlsf_crew.specs.yard.Counts.{sum_below, count_of, ready_from, sum_of}
 use Rattle.tlsf_crew.specs.yard.Settle.{MetIn}
-use Rattle.tlsf_crew.specs.yard.History.{AreTakes, TellsCall, RunsTo, calls_on, answers_on, call_on_own, post_made, post_taken, posts_made, posts_taken, entries_of}
+use Rattle.tlsf_crew.specs.yard.History.{AreTakes, TellsCall, RunsTo, calls_on, answers_on, call_on_own, post_of_release, post_of_take, posts_made, posts_taken, entries_of}
 use Rattle.tlsf_crew.specs.yard.Moves.{one, Moved, Spent, SuitsCall, Stepped}
 use Rattle.tlsf_crew.specs.yard.ReplaySteps.{replay_of, ConcernsCall, MayTake, AreLimits, IsReplied}
 use Rattle.tlsf_crew.proofs.lemmas.threads.TwoRecords.{drain_makes}
@@ -99,7 +99,7 @@ at_us : (r : Run) → slice_get (us_of r) (at_of r) ≡ Some r.v
 at_us r = get_set_same r.vs (at_of r) r.v (at_in r)
 
 us_capacity : (r : Run) → capacity_in (us_of r) ≡ capacity_in r.vs
-us_capacity r = let m = moved_of r in ap (λ (l : List (ℕ × ℕ)). (get_or l 0 (0, 0)).1) (map_same own_numbers r.vs (at_of r) r.a r.v r.is m.numbers)
+us_capacity r = let m = moved_of r in ap (λ (l : List (ℕ × ℕ)). (get_or l 0 (0, 0)).1) (map_same id_and_capacity r.vs (at_of r) r.a r.v r.is m.numbers)
 
 post_other : (r : Run) (i j : ℕ) → i ≢ at_of r → post_at (us_of r) i j ≡ post_at r.vs i j
 post_other r i j ne = ap (λ o. end_to_in o j) (get_set_other r.vs (at_of r) i r.v ne)
@@ -243,9 +243,9 @@ drain_in r ws zs s most c k lt ne =
     let m = s.before k at lt (at_in r) ne concern in
     let n = s.after k at lt (at_in r) ne concern in
     let entry : Entry = record { worker = at; call = r.call; reply = r.reply } in
-    let none : post_taken k r.call r.reply ≡ None = rw c refl in
+    let none : post_of_take k r.call r.reply ≡ None = rw c refl in
     let took : posts_taken k at (own_of r) ≡ posts_taken k at r.step.own =
-    taken_then k at r.step.own (entry ∷ []) ∙ (ap (λ l. posts_taken k at r.step.own ++ l) (told_nothing (λ e. post_taken k e.call e.reply) at entry none) ∙ append-nil (posts_taken k at r.step.own)) in
+    taken_then k at r.step.own (entry ∷ []) ∙ (ap (λ l. posts_taken k at r.step.own ++ l) (told_nothing (λ e. post_of_take k e.call e.reply) at entry none) ∙ append-nil (posts_taken k at r.step.own)) in
     let waits : waits_in r.vs k at ≡ posts_taken k at r.step.own ++ waited n.new_take = lane_took r ws zs k ne m n ∙ ap (λ l. l ++ waited n.new_take) took in
     let few = r.yard.few in
     let le = s.limits (subst MayTake (sym c) tt) k m.new_take (omega arith) (take_was r k ∙ m.new_take_is) in (
@@ -302,30 +302,30 @@ Posts j later call = (target : Target) × (name : Name) × (call ≡ Release tar
 named_or : (at j : ℕ) (later : List (Option Name)) (target : Target) (o : Option Name) → name_of later target ≡ o → (posts_made at j later (one at (Release target) Posted) ≡ []) ⊎ Posts j later (Release target)
 named_or at j later target None e =
     let entry : Entry = record { worker = at; call = Release target; reply = Posted } in
-    let f : Entry → Option Post = λ x. post_made j later x.worker x.call x.reply in
+    let f : Entry → Option Post = λ x. post_of_release j later x.worker x.call x.reply in
     let none : f entry ≡ None = rw e refl in
     inl (told_nothing f at entry none)
 named_or at j later target (Some name) e = elim (cases_eq name.heap j) [
   | inl here ↦ inr (target, name, refl, e, here)
   | inr away ↦
       let entry : Entry = record { worker = at; call = Release target; reply = Posted } in
-      let f : Entry → Option Post = λ x. post_made j later x.worker x.call x.reply in
+      let f : Entry → Option Post = λ x. post_of_release j later x.worker x.call x.reply in
       let none : f entry ≡ None = rw (e, of_other j name away) refl in
       inl (told_nothing f at entry none)
 ]
 
 release_or : (at j : ℕ) (later : List (Option Name)) (target : Target) (reply : Reply) → (posts_made at j later (one at (Release target) reply) ≡ []) ⊎ Posts j later (Release target)
 release_or at j later target Posted = named_or at j later target (name_of later target) refl
-release_or at j later target reply = inl (told_nothing (λ x. post_made j later x.worker x.call x.reply) at (record { worker = at; call = Release target; reply = reply }) refl)
+release_or at j later target reply = inl (told_nothing (λ x. post_of_release j later x.worker x.call x.reply) at (record { worker = at; call = Release target; reply = reply }) refl)
 
 posts_or : (at j : ℕ) (made later : List (Option Name)) (call : Call) (name : Option Name) (own : List Entry) → TellsCall at made call name own → (posts_made at j later own ≡ []) ⊎ Posts j later call
 posts_or at j made later (Drain most) name own t = inl (drain_makes at j at most later own t.1)
 posts_or at j made later (Release target) name own t = subst (λ es. (posts_made at j later es ≡ []) ⊎ Posts j later (Release target)) (sym t.whole) (release_or at j later target t.reply)
-posts_or at j made later (Allocate len) name own t = inl (ap (posts_made at j later) t.whole ∙ told_nothing (λ x. post_made j later x.worker x.call x.reply) at (record { worker = at; call = Allocate len; reply = t.reply }) refl)
+posts_or at j made later (Allocate len) name own t = inl (ap (posts_made at j later) t.whole ∙ told_nothing (λ x. post_of_release j later x.worker x.call x.reply) at (record { worker = at; call = Allocate len; reply = t.reply }) refl)
 posts_or at j made later (Write target from bytes) name own t =
-    inl (ap (posts_made at j later) t.whole ∙ told_nothing (λ x. post_made j later x.worker x.call x.reply) at (record { worker = at; call = Write target from bytes; reply = t.reply }) refl)
-posts_or at j made later (Read target from n) name own t = inl (ap (posts_made at j later) t.whole ∙ told_nothing (λ x. post_made j later x.worker x.call x.reply) at (record { worker = at; call = Read target from n; reply = t.reply }) refl)
-posts_or at j made later (Take from) name own t = inl (ap (posts_made at j later) t.whole ∙ told_nothing (λ x. post_made j later x.worker x.call x.reply) at (record { worker = at; call = Take from; reply = t.reply }) refl)
+    inl (ap (posts_made at j later) t.whole ∙ told_nothing (λ x. post_of_release j later x.worker x.call x.reply) at (record { worker = at; call = Write target from bytes; reply = t.reply }) refl)
+posts_or at j made later (Read target from n) name own t = inl (ap (posts_made at j later) t.whole ∙ told_nothing (λ x. post_of_release j later x.worker x.call x.reply) at (record { worker = at; call = Read target from n; reply = t.reply }) refl)
+posts_or at j made later (Take from) name own t = inl (ap (posts_made at j later) t.whole ∙ told_nothing (λ x. post_of_release j later x.worker x.call x.reply) at (record { worker = at; call = Take from; reply = t.reply }) refl)
 
 -- ---- what a release leaves in a lane that isn't there
 
@@ -412,7 +412,7 @@ below_capacity at most d (suc k) =
     ]
 
 drain_capacity : (r : Replayed) (at most : ℕ) → (draining r at most).world.capacity ≡ r.world.capacity
-unfolding draining drained_all
+unfolding draining after_drain
 drain_capacity r at most = below_capacity at most (record { entries = r.entries; world = r.world; taken = 0 }) (length r.world.heaps)
 
 called_capacity : (r : Replayed) (at : ℕ) (call : Call) → (called r at call).world.capacity ≡ r.world.capacity
@@ -505,10 +505,10 @@ abbrev after_of : Run → Replayed
 after_of r = called (begun_of r) (at_of r) r.call
 
 none_made : (i j : ℕ) (made : List (Option Name)) (own : List Entry) → entries_of i own ≡ [] → posts_made i j made own ≡ []
-none_made i j made own none = ap (λ (es : List Entry). filter_map (λ e. post_made j made e.worker e.call e.reply) es) none
+none_made i j made own none = ap (λ (es : List Entry). filter_map (λ e. post_of_release j made e.worker e.call e.reply) es) none
 
 none_taken : (i j : ℕ) (own : List Entry) → entries_of j own ≡ [] → posts_taken i j own ≡ []
-none_taken i j own none = ap (λ (es : List Entry). filter_map (λ e. post_taken i e.call e.reply) es) none
+none_taken i j own none = ap (λ (es : List Entry). filter_map (λ e. post_of_take i e.call e.reply) es) none
 
 nil_end : (xs ys : List Post) → [] ≡ xs ++ ys → ys ≡ []
 nil_end xs ys e = let a = ap length e ∙ length-append xs ys in nil_from_length ys (omega arith)

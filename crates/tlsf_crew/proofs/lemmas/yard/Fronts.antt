@@ -14,22 +14,22 @@ use Rattle.tlsf_calls.specs.declared.event.Event.{Event}
 use Rattle.tlsf_crew.specs.yard.History.{AreLawful, RunsThrough, RunsTo, answer_told, answers_on, call_on_own, calls_on, handed_on}
 use Rattle.tlsf_crew.specs.yard.World.{World, heap_in, replies}
 use Rattle.tlsf_crew.proofs.lemmas.yard.AllEntries.{replies_tell}
-use Rattle.tlsf_crew.proofs.lemmas.yard.JoinedEntries.{IsAnswered, length_run, run_more, told_other, told_own, told_then}
+use Rattle.tlsf_crew.proofs.lemmas.yard.JoinedEntries.{HasItsAnswer, length_run, run_more, told_other, told_own, told_then}
 
 -- so many calls on a heap are told as answers of it
-as_many : (made : List (Option Name)) (workers j : ℕ) (es : List Entry) → j < workers → All (IsAnswered made workers) es → length (calls_on j made es) ≡ length (answers_on j es)
+as_many : (made : List (Option Name)) (workers j : ℕ) (es : List Entry) → j < workers → All (HasItsAnswer made workers) es → length (calls_on j made es) ≡ length (answers_on j es)
 as_many made workers j [] j_in each = refl
 as_many made workers j (e ∷ es) j_in each =
     let call = λ (e : Entry). call_on_own made e.worker e.call e.reply in
     let answer = λ (e : Entry). answer_told e.call e.reply in
-    let rest = as_many made workers j es j_in (All-tail (IsAnswered made workers) e es each) in
+    let rest = as_many made workers j es j_in (All-tail (HasItsAnswer made workers) e es each) in
     let calls : length (calls_on j made (e ∷ es)) ≡ length (calls_on j made (e ∷ [])) + length (calls_on j made es)
     = ap length (told_then call j (e ∷ []) es) ∙ length-append (calls_on j made (e ∷ [])) (calls_on j made es) in
     let answers : length (answers_on j (e ∷ es)) ≡ length (answers_on j (e ∷ [])) + length (answers_on j es)
     = ap length (told_then answer j (e ∷ []) es) ∙ length-append (answers_on j (e ∷ [])) (answers_on j es) in
     let one : length (calls_on j made (e ∷ [])) ≡ length (answers_on j (e ∷ [])) =
     elim (cases_eq e.worker j) [
-      | inl is ↦ rw (told_own call j e is, told_own answer j e is) (All-head (IsAnswered made workers) e es each (omega arith))
+      | inl is ↦ rw (told_own call j e is, told_own answer j e is) (All-head (HasItsAnswer made workers) e es each (omega arith))
       | inr ne ↦ rw (told_other call j e ne, told_other answer j e ne) refl
     ] in
     omega arith
@@ -52,11 +52,11 @@ run_split h last cs ds xs ys even run =
     )
 
 -- where all entries are told by a run, some of them leave a lawful heap, behind which the others are told
-pub runs_through : (made : List (Option Name)) (workers j : ℕ) (h last : HeapState) (before later : List Entry) → j < workers → IsLawful h → All (IsAnswered made workers) (before ++ later)
+pub runs_through : (made : List (Option Name)) (workers j : ℕ) (h last : HeapState) (before later : List Entry) → j < workers → IsLawful h → All (HasItsAnswer made workers) (before ++ later)
     → RunsTo h (calls_on j made (before ++ later)) (answers_on j (before ++ later)) last → RunsThrough h j made before later last
 runs_through made workers j h last before later j_in lawful each run =
-    let front : All (IsAnswered made workers) before
-    = subst (All (IsAnswered made workers)) (take-append_seam before later) (All-take (IsAnswered made workers) (length before) (before ++ later) each) in
+    let front : All (HasItsAnswer made workers) before
+    = subst (All (HasItsAnswer made workers)) (take-append_seam before later) (All-take (HasItsAnswer made workers) (length before) (before ++ later) each) in
     let calls = told_then (λ e. call_on_own made e.worker e.call e.reply) j before later in
     let answers = told_then (λ e. answer_told e.call e.reply) j before later in
     let both = run_split h last (calls_on j made before) (calls_on j made later) (answers_on j before) (answers_on j later)
@@ -70,5 +70,5 @@ replies_always w es before later j lawful j_in whole =
     let last = heap_in (replies w es).world j in
     let history = (replies_tell w es).history in
     runs_through made (length w.heaps) j (heap_in w j) last before later j_in (lawful j j_in)
-    (subst (All (IsAnswered made (length w.heaps))) whole history.each)
+    (subst (All (HasItsAnswer made (length w.heaps))) whole history.each)
     (subst (λ l. RunsTo (heap_in w j) (calls_on j made l) (answers_on j l) last) whole (history.heaps j j_in))

@@ -62,8 +62,8 @@ scripts_in js = map (λ s. s.items) (map (λ j. j.script) js)
 abbrev records_in : List Done → List (List Entry)
 records_in ds = map (λ r. r.items) (map (λ d. d.entries) ds)
 
-abbrev made_in : List Done → ℕ → List (Option Name)
-made_in ds k = get_or (map (λ (d : Done). d.made.items) ds) k []
+abbrev names_made_by : List Done → ℕ → List (Option Name)
+names_made_by ds k = get_or (map (λ (d : Done). d.made.items) ds) k []
 
 -- what was done with the job at a place
 record DoneAt (ds : List Done) (k : ℕ) (j : Job) : Type 0 where
@@ -94,7 +94,7 @@ script_at js k j e = get_or_from_slice_get (scripts_in js) k j.script.items [] (
 record_at : (ds : List Done) (k : ℕ) (d : Done) → slice_get ds k ≡ Some d → record_of (records_in ds) k ≡ d.entries.items
 record_at ds k d e = get_or_from_slice_get (records_in ds) k d.entries.items [] (map_at (λ r. r.items) (map (λ (x : Done). x.entries) ds) k d.entries (map_at (λ (x : Done). x.entries) ds k d e))
 
-made_at : (ds : List Done) (k : ℕ) (d : Done) → slice_get ds k ≡ Some d → made_in ds k ≡ d.made.items
+made_at : (ds : List Done) (k : ℕ) (d : Done) → slice_get ds k ≡ Some d → names_made_by ds k ≡ d.made.items
 made_at ds k d e = get_or_from_slice_get (map (λ (x : Done). x.made.items) ds) k d.made.items [] (map_at (λ (x : Done). x.made.items) ds k d e)
 
 prepared_at : (n : ℕ) (releases : List ℕ) (js : List Job) → All (IsPrepared n releases) js → (k : ℕ) (j : Job) → slice_get js k ≡ Some j → IsPrepared n releases j
@@ -103,7 +103,7 @@ prepared_at n releases js all k j e = subst (IsPrepared n releases) (get_or_from
 -- what leads from this worker to one of the others
 abbrev RanTo : ℕ → List Job → List Done → ℕ → Worker → Type 0
 RanTo n js ds k a =
-    (v : Worker) × (slice_get (map (λ d. d.worker) ds) k ≡ Some v) × Ran n a (script_of (scripts_in js) k) (made_in ds k) (record_of (records_in ds) k) v
+    (v : Worker) × (slice_get (map (λ d. d.worker) ds) k ≡ Some v) × Ran n a (script_of (scripts_in js) k) (names_made_by ds k) (record_of (records_in ds) k) v
 
 job_ran : (n : ℕ) (releases : List ℕ) (js : List Job) (ds : List Done) → AllDone IsDone js ds → All (IsPrepared n releases) js → (k : ℕ) (j : Job) → slice_get js k ≡ Some j
     → RanTo n js ds k j.worker
@@ -171,7 +171,7 @@ gathered n releases js ds ws scripts records vs a b c d len all done yard =
     length-map (map (λ (e : Done). e.entries) ds) (λ r. r.items) ∙ (length-map ds (λ e. e.entries) ∙ (done_count js ds done ∙ sym (length-map js (λ j. j.worker)))) in
     let size : n ≡ length (map (λ (j : Job). j.worker) js) = len ∙ ap length (sym a) in
     let run : HaveRun (map (λ (j : Job). j.worker) js) (scripts_in js) (records_in ds) (map (λ (e : Done). e.worker) ds) = record {
-      made = made_in ds;
+      made = names_made_by ds;
       worker_count = count;
       record_count = told;
       yard = done_yard [] js ds done (subst IsYard (sym a) yard);

@@ -10,15 +10,15 @@ use Rattle.tlsf_calls.specs.declared.event.Event.{Event}
 use Rattle.tlsf_calls.specs.declared.call.Call.{Call}
 use Rattle.tlsf_calls.specs.declared.call.Call.TheVariants.{Allocate, Release, Write, Read, Take, Drain}
 use Rattle.tlsf_calls.specs.declared.reply.Reply.TheVariants.{Drained}
-use Rattle.tlsf_crew.specs.yard.World.{World, Replied, Replayed, Draining, made_by, took, took_more, drained_lane, drained_below, drained_all, draining, answered, called, after, replies, resumed, replies_behind}
+use Rattle.tlsf_crew.specs.yard.World.{World, Replied, Replayed, Draining, made_by, took, took_more, drained_lane, drained_below, after_drain, draining, answered, called, after, replies, resumed, replies_behind}
 use Rattle.tlsf_crew.proofs.lemmas.yard.EventSteps.{after_far, after_near}
 use Rattle.tlsf_crew.proofs.lemmas.yard.OneEvent.{from_other, from_own}
 
 abbrev drain_of : List Entry → World → ℕ → Draining
 drain_of entries world taken = record { entries = entries; world = world; taken = taken }
 
-abbrev replayed_of : List (Option Name) → List Entry → World → Replayed
-replayed_of made entries world = record { made = made; entries = entries; world = world }
+abbrev run_so_far : List (Option Name) → List Entry → World → Replayed
+run_so_far made entries world = record { made = made; entries = entries; world = world }
 
 -- a drain with entries in front
 abbrev drain_behind : List Entry → Draining → Draining
@@ -54,13 +54,13 @@ below_behind at most es d (suc k) =
           ∙ (ap (drained_lane at most k) h ∙ (lane_behind at most k es b ∙ ap (drain_behind es) (sym (from_other at most b k ne))))
     ]
 
-all_behind : (at most : ℕ) (es : List Entry) (d : Draining) → drained_all at most (drain_behind es d) ≡ drain_behind es (drained_all at most d)
-unfolding drained_all
+all_behind : (at most : ℕ) (es : List Entry) (d : Draining) → after_drain at most (drain_behind es d) ≡ drain_behind es (after_drain at most d)
+unfolding after_drain
 all_behind at most es d = below_behind at most es d (length d.world.heaps)
 
 answered_behind : (es : List Entry) (r : Replayed) (at : ℕ) (call : Call) (a : Replied) → answered (behind es r) at call a ≡ behind es (answered r at call a)
 answered_behind es r at call a =
-    ap (λ (l : List Entry). replayed_of (r.made ++ made_by a.reply ∷ []) l a.world) (append_assoc es r.entries (record { worker = at; call = call; reply = a.reply } ∷ []))
+    ap (λ (l : List Entry). run_so_far (r.made ++ made_by a.reply ∷ []) l a.world) (append_assoc es r.entries (record { worker = at; call = call; reply = a.reply } ∷ []))
 
 own_entry : ℕ → ℕ → Draining → Entry
 own_entry at most d = record { worker = at; call = Drain most; reply = Drained d.taken }
@@ -68,9 +68,9 @@ own_entry at most d = record { worker = at; call = Drain most; reply = Drained d
 draining_behind : (es : List Entry) (r : Replayed) (at most : ℕ) → draining (behind es r) at most ≡ behind es (draining r at most)
 unfolding draining own_entry
 draining_behind es r at most =
-    let d = drained_all at most (drain_of r.entries r.world 0) in
-    ap (λ (d : Draining). replayed_of (r.made ++ None ∷ []) (d.entries ++ own_entry at most d ∷ []) d.world) (all_behind at most es (drain_of r.entries r.world 0))
-    ∙ ap (λ (l : List Entry). replayed_of (r.made ++ None ∷ []) l d.world) (append_assoc es d.entries (own_entry at most d ∷ []))
+    let d = after_drain at most (drain_of r.entries r.world 0) in
+    ap (λ (d : Draining). run_so_far (r.made ++ None ∷ []) (d.entries ++ own_entry at most d ∷ []) d.world) (all_behind at most es (drain_of r.entries r.world 0))
+    ∙ ap (λ (l : List Entry). run_so_far (r.made ++ None ∷ []) l d.world) (append_assoc es d.entries (own_entry at most d ∷ []))
 
 called_behind : (es : List Entry) (r : Replayed) (at : ℕ) (call : Call) → called (behind es r) at call ≡ behind es (called r at call)
 called_behind es r at (Allocate len) = answered_behind es r at (Allocate len) _
@@ -98,7 +98,7 @@ unfolding replies_behind
 replies_in_parts w made xs ys =
     let d = fold after (resumed w made) xs in
     fold-append after (resumed w made) xs ys
-    ∙ (ap (λ (l : List Entry). fold after (replayed_of d.made l d.world) ys) (sym (append-nil d.entries)) ∙ events_behind d.entries ys (resumed d.world d.made))
+    ∙ (ap (λ (l : List Entry). fold after (run_so_far d.made l d.world) ys) (sym (append-nil d.entries)) ∙ events_behind d.entries ys (resumed d.world d.made))
 
 -- behind no names a list of events is answered as it is alone
 pub replies_alone : (w : World) (es : List Event) → replies_behind w [] es ≡ replies w es

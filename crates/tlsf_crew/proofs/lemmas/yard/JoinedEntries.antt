@@ -9,7 +9,7 @@ use Rattle.tlsf_heap.specs.Blocks.{HeapState}
 use Rattle.tlsf_heap.specs.Calls as heap
 use Rattle.tlsf_heap.specs.declared.name.Name.{Name}
 use Rattle.tlsf_calls.specs.declared.entry.Entry.{Entry}
-use Rattle.tlsf_crew.specs.yard.History.{RunsTo, answer_told, answers_on, call_on_own, calls_on, entries_of, handed_on, post_made, post_taken, posts_made, posts_taken}
+use Rattle.tlsf_crew.specs.yard.History.{RunsTo, answer_told, answers_on, call_on_own, calls_on, entries_of, handed_on, post_of_release, post_of_take, posts_made, posts_taken}
 use Rattle.tlsf_crew.specs.yard.World.{World, heap_in}
 
 -- ---- runs in turn
@@ -54,18 +54,18 @@ told_nothing f j e is = elim (cases_eq e.worker j) [
 ]
 
 -- an entry of one of so many workers tells an answer where it tells a call on its worker's own heap
-abbrev pub IsAnswered : List (Option Name) → ℕ → Entry → Type 0
-IsAnswered made workers e = e.worker < workers → length (cons_option (call_on_own made e.worker e.call e.reply) []) ≡ length (cons_option (answer_told e.call e.reply) [])
+abbrev pub HasItsAnswer : List (Option Name) → ℕ → Entry → Type 0
+HasItsAnswer made workers e = e.worker < workers → length (cons_option (call_on_own made e.worker e.call e.reply) []) ≡ length (cons_option (answer_told e.call e.reply) [])
 
 -- the entries tell of the heaps and the lanes what leads from one world to the other
 pub record IsHistory (made : List (Option Name)) (w : World) (entries : List Entry) (v : World) : Type 0 where
   pub heaps : (j : ℕ) → j < length w.heaps → RunsTo (heap_in w j) (calls_on j made entries) (answers_on j entries) (heap_in v j)
   pub posts : (i j : ℕ) → w.waiting i j ++ posts_made i j made entries ≡ posts_taken i j entries ++ v.waiting i j
   pub count : length v.heaps ≡ length w.heaps
-  pub each : All (IsAnswered made (length w.heaps)) entries
+  pub each : All (HasItsAnswer made (length w.heaps)) entries
 
 pub history_none : (made : List (Option Name)) (w : World) → IsHistory made w [] w
-history_none made w = record { heaps = λ j j_in. record { told = refl; left = refl }; posts = λ i j. append-nil (w.waiting i j); count = refl; each = All-nil (IsAnswered made (length w.heaps)) }
+history_none made w = record { heaps = λ j j_in. record { told = refl; left = refl }; posts = λ i j. append-nil (w.waiting i j); count = refl; each = All-nil (HasItsAnswer made (length w.heaps)) }
 
 posts_then : {X : Type 0} (a b c m n s t : List X) → a ++ m ≡ s ++ b → b ++ n ≡ t ++ c → a ++ (m ++ n) ≡ (s ++ t) ++ c
 posts_then a b c m n s t x y =
@@ -79,11 +79,11 @@ history_then made w v u xs ys a b = record {
       let two = runs_then (heap_in w j) (heap_in v j) (heap_in u j) (calls_on j made xs) (calls_on j made ys) (answers_on j xs) (answers_on j ys) (a.heaps j j_in) (b.heaps j (omega (arith, a.count))) in
       rw (c, d) two;
   posts = λ i j.
-      let c = told_then (λ e. post_made j made e.worker e.call e.reply) i xs ys in
-      let d = told_then (λ e. post_taken i e.call e.reply) j xs ys in
+      let c = told_then (λ e. post_of_release j made e.worker e.call e.reply) i xs ys in
+      let d = told_then (λ e. post_of_take i e.call e.reply) j xs ys in
       rw (c, d) (posts_then (w.waiting i j) (v.waiting i j) (u.waiting i j) (posts_made i j made xs) (posts_made i j made ys) (posts_taken i j xs) (posts_taken i j ys) (a.posts i j) (b.posts i j));
   count = b.count ∙ a.count;
-  each = All-append (IsAnswered made (length w.heaps)) xs ys a.each (subst (λ (n : ℕ). All (IsAnswered made n) ys) a.count b.each);
+  each = All-append (HasItsAnswer made (length w.heaps)) xs ys a.each (subst (λ (n : ℕ). All (HasItsAnswer made n) ys) a.count b.each);
 }
 
 -- ---- one entry
@@ -103,20 +103,20 @@ heap_of_own_call made w v e c j =
           (record { told = refl; left = sym (c.others j (λ q. ne (sym q))) })
     ]
 
-pub own_each : (made : List (Option Name)) (w v : World) (e : Entry) (workers : ℕ) → IsOwnCall made w e v → All (IsAnswered made workers) (e ∷ [])
+pub own_each : (made : List (Option Name)) (w v : World) (e : Entry) (workers : ℕ) → IsOwnCall made w e v → All (HasItsAnswer made workers) (e ∷ [])
 own_each made w v e workers c =
-    All-cons (IsAnswered made workers) e [] (λ _. length_told (heap_in w e.worker) (heap_in v e.worker) _ _ c.own) (All-nil (IsAnswered made workers))
+    All-cons (HasItsAnswer made workers) e [] (λ _. length_told (heap_in w e.worker) (heap_in v e.worker) _ _ c.own) (All-nil (HasItsAnswer made workers))
 
 -- an entry that tells of no lane
 pub record IsNoPost (made : List (Option Name)) (e : Entry) : Type 0 where
-  pub made_none : (j : ℕ) → post_made j made e.worker e.call e.reply ≡ None
-  pub taken_none : (i : ℕ) → post_taken i e.call e.reply ≡ None
+  pub made_none : (j : ℕ) → post_of_release j made e.worker e.call e.reply ≡ None
+  pub taken_none : (i : ℕ) → post_of_take i e.call e.reply ≡ None
 
 pub quiet_posts : (made : List (Option Name)) (w v : World) (e : Entry) → IsNoPost made e → v.waiting ≡ w.waiting → (i j : ℕ)
     → w.waiting i j ++ posts_made i j made (e ∷ []) ≡ posts_taken i j (e ∷ []) ++ v.waiting i j
 quiet_posts made w v e silent same i j =
-    let a = told_nothing (λ e. post_made j made e.worker e.call e.reply) i e (silent.made_none j) in
-    let b = told_nothing (λ e. post_taken i e.call e.reply) j e (silent.taken_none i) in
+    let a = told_nothing (λ e. post_of_release j made e.worker e.call e.reply) i e (silent.made_none j) in
+    let b = told_nothing (λ e. post_of_take i e.call e.reply) j e (silent.taken_none i) in
     rw (a, b) (append-nil (w.waiting i j) ∙ sym (ap (λ f. f i j) same))
 
 pub history_quiet : (made : List (Option Name)) (w v : World) (e : Entry) → IsOwnCall made w e v → IsNoPost made e → v.waiting ≡ w.waiting → length v.heaps ≡ length w.heaps → IsHistory made w (e ∷ []) v

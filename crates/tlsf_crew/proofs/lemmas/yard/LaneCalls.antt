@@ -15,7 +15,7 @@ use Rattle.tlsf_calls.specs.declared.reply.Reply.{Reply}
 use Rattle.tlsf_calls.specs.declared.reply.Reply.TheVariants.{Posted, Empty, Refused}
 use Rattle.tlsf_calls.specs.declared.crew_refusal.CrewRefusal.TheVariants.{Full, Stranger, Unmade}
 use Rattle.tlsf_crew.specs.yard.Heaps.{released}
-use Rattle.tlsf_crew.specs.yard.History.{answer_told, call_on_own, meant, of_heap, post_made, post_taken, posts_made, posts_taken}
+use Rattle.tlsf_crew.specs.yard.History.{answer_told, call_on_own, meant, of_heap, post_of_release, post_of_take, posts_made, posts_taken}
 use Rattle.tlsf_crew.specs.yard.World.{World, heap_in, with_heap, with_waiting, freeing, posting, releasing_named, taking, taking_next, took, took_first, reply_freed, name_of}
 use Rattle.tlsf_crew.proofs.lemmas.yard.OneEvent.{releasing_post, releasing_far, taking_lane, taking_own, taking_far}
 use Rattle.tlsf_crew.proofs.lemmas.yard.LaneChanges.{edited_same, edited_other}
@@ -38,7 +38,7 @@ freed_meant : (made : List (Option Name)) (target : Target) (r : Result (Unit {0
 freed_meant made target (Ok done) = refl
 freed_meant made target (Err why) = refl
 
-freed_made : (made : List (Option Name)) (j at : ℕ) (target : Target) (r : Result (Unit {0}) Refusal) → post_made j made at (Release target) (reply_freed r) ≡ None
+freed_made : (made : List (Option Name)) (j at : ℕ) (target : Target) (r : Result (Unit {0}) Refusal) → post_of_release j made at (Release target) (reply_freed r) ≡ None
 freed_made made j at target (Ok done) = refl
 freed_made made j at target (Err why) = refl
 
@@ -57,7 +57,7 @@ own_release_told made w at target name at_in own known =
 
 -- a refusal by the worker itself
 refused_told : (made : List (Option Name)) (w : World) (at : ℕ) (target : Target) (reply : Reply) → call_on_own made at (Release target) reply ≡ None → answer_told (Release target) reply ≡ None
-    → ((j : ℕ) → post_made j made at (Release target) reply ≡ None) → Tells1 made w at (Release target) (record { reply = reply; world = w })
+    → ((j : ℕ) → post_of_release j made at (Release target) reply ≡ None) → Tells1 made w at (Release target) (record { reply = reply; world = w })
 refused_told made w at target reply a b c =
     history_quiet made w w (record { worker = at; call = Release target; reply = reply }) (none_done made w w at (Release target) reply a b refl)
     (record { made_none = c; taken_none = λ i. refl }) refl refl
@@ -70,8 +70,8 @@ posted_here made w at target name known =
     let x : Post = record { from = at; name = name } in
     let e : Entry = record { worker = at; call = Release target; reply = Posted } in
     let posts = w.waiting at name.heap ++ x ∷ [] in
-    let one = told_own (λ e. post_made name.heap made e.worker e.call e.reply) at e refl in
-    let no_take = told_nothing (λ e. post_taken at e.call e.reply) name.heap e refl in
+    let one = told_own (λ e. post_of_release name.heap made e.worker e.call e.reply) at e refl in
+    let no_take = told_nothing (λ e. post_of_take at e.call e.reply) name.heap e refl in
     rw (one, no_take, known, of_same name.heap name refl) (sym (edited_same w.waiting at name.heap posts))
 
 posted_away : (made : List (Option Name)) (w : World) (at to i j : ℕ) (target : Target) (posts : List Post)
@@ -79,7 +79,7 @@ posted_away : (made : List (Option Name)) (w : World) (at to i j : ℕ) (target 
     → w.waiting i j ++ posts_made i j made (e ∷ []) ≡ posts_taken i j (e ∷ []) ++ (with_waiting w at to posts).waiting i j
 posted_away made w at to i j target posts none away =
     let e : Entry = record { worker = at; call = Release target; reply = Posted } in
-    let no_take = told_nothing (λ e. post_taken i e.call e.reply) j e refl in
+    let no_take = told_nothing (λ e. post_of_take i e.call e.reply) j e refl in
     rw (none, no_take) (append-nil (w.waiting i j) ∙ sym (edited_other w.waiting at to i j posts away))
 
 posted_lanes : (made : List (Option Name)) (w : World) (at : ℕ) (target : Target) (name : Name) → name_of made target ≡ Some name → (i j : ℕ)
@@ -88,7 +88,7 @@ posted_lanes : (made : List (Option Name)) (w : World) (at : ℕ) (target : Targ
 posted_lanes made w at target name known i j =
     let posts = w.waiting at name.heap ++ record { from = at; name = name } ∷ [] in
     let e : Entry = record { worker = at; call = Release target; reply = Posted } in
-    let f : Entry → Option Post = λ e. post_made j made e.worker e.call e.reply in
+    let f : Entry → Option Post = λ e. post_of_release j made e.worker e.call e.reply in
     elim (cases_eq i at) [
       | inl a ↦ elim (cases_eq j name.heap) [
         | inl b ↦ rw (a, b) (posted_here made w at target name known)
@@ -138,10 +138,10 @@ took_here : (made : List (Option Name)) (w : World) (at from : ℕ) (p : Post) (
     w.waiting from at ++ posts_made from at made (e ∷ []) ≡ posts_taken from at (e ∷ []) ++ a.world.waiting from at
 took_here made w at from p rest waits =
     let e : Entry = record { worker = at; call = Take from; reply = (took w at from p rest).reply } in
-    let no_post = told_nothing (λ e. post_made at made e.worker e.call e.reply) from e refl in
+    let no_post = told_nothing (λ e. post_of_release at made e.worker e.call e.reply) from e refl in
     let own : (from == from) ≡ true = grind (arith, nat_tests) in
-    let this : post_taken from e.call e.reply ≡ Some p = rw own refl in
-    let one : posts_taken from at (e ∷ []) ≡ p ∷ [] = told_own (λ e. post_taken from e.call e.reply) at e refl ∙ ap (λ o. cons_option o []) this in
+    let this : post_of_take from e.call e.reply ≡ Some p = rw own refl in
+    let one : posts_taken from at (e ∷ []) ≡ p ∷ [] = told_own (λ e. post_of_take from e.call e.reply) at e refl ∙ ap (λ o. cons_option o []) this in
     rw (no_post, one) (append-nil (w.waiting from at) ∙ (waits ∙ ap (λ l. p ∷ l) (sym (edited_same w.waiting from at rest))))
 
 took_away : (made : List (Option Name)) (w : World) (at from : ℕ) (p : Post) (rest : List Post) (i j : ℕ) → (i ≡ from → j ≡ at → ⊥)
@@ -149,7 +149,7 @@ took_away : (made : List (Option Name)) (w : World) (at from : ℕ) (p : Post) (
     posts_taken i j (e ∷ []) ≡ [] → w.waiting i j ++ posts_made i j made (e ∷ []) ≡ posts_taken i j (e ∷ []) ++ a.world.waiting i j
 took_away made w at from p rest i j away none =
     let e : Entry = record { worker = at; call = Take from; reply = (took w at from p rest).reply } in
-    let no_post = told_nothing (λ e. post_made j made e.worker e.call e.reply) i e refl in
+    let no_post = told_nothing (λ e. post_of_release j made e.worker e.call e.reply) i e refl in
     rw (no_post, none) (append-nil (w.waiting i j) ∙ sym (edited_other w.waiting from at i j rest away))
 
 took_lanes : (made : List (Option Name)) (w : World) (at from : ℕ) (p : Post) (rest : List Post) → w.waiting from at ≡ p ∷ rest → (i j : ℕ)
@@ -157,7 +157,7 @@ took_lanes : (made : List (Option Name)) (w : World) (at from : ℕ) (p : Post) 
     w.waiting i j ++ posts_made i j made (e ∷ []) ≡ posts_taken i j (e ∷ []) ++ a.world.waiting i j
 took_lanes made w at from p rest waits i j =
     let e : Entry = record { worker = at; call = Take from; reply = (took w at from p rest).reply } in
-    let f : Entry → Option Post = λ e. post_taken i e.call e.reply in
+    let f : Entry → Option Post = λ e. post_of_take i e.call e.reply in
     elim (cases_eq i from) [
       | inl a ↦ elim (cases_eq j at) [
         | inl b ↦ rw (a, b) (took_here made w at from p rest waits)
@@ -184,7 +184,7 @@ took_told made w at from p rest at_in waits =
     }
 
 untaken_told : (made : List (Option Name)) (w : World) (at from : ℕ) (reply : Reply) → call_on_own made at (Take from) reply ≡ None → answer_told (Take from) reply ≡ None
-    → ((i : ℕ) → post_taken i (Take from) reply ≡ None) → Tells1 made w at (Take from) (record { reply = reply; world = w })
+    → ((i : ℕ) → post_of_take i (Take from) reply ≡ None) → Tells1 made w at (Take from) (record { reply = reply; world = w })
 untaken_told made w at from reply a b c =
     history_quiet made w w (record { worker = at; call = Take from; reply = reply }) (none_done made w w at (Take from) reply a b refl)
     (record { made_none = λ j. refl; taken_none = c }) refl refl

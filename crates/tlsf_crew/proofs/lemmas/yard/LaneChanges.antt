@@ -10,7 +10,7 @@ use Rattle.tlsf_post.specs.declared.post_end.PostEnd.{PostEnd}
 use Rattle.tlsf_post.specs.declared.take_end.TakeEnd.{TakeEnd}
 use Rattle.tlsf_post.specs.Lanes.{posts_sent, capacity_of, waited, taken}
 use Rattle.tlsf_crew.specs.declared.yard.worker.Worker.{Worker}
-use Rattle.tlsf_crew.specs.yard.Workers.{heap_of, own_numbers, SameButHeap}
+use Rattle.tlsf_crew.specs.yard.Workers.{heap_of, id_and_capacity, SameButHeap}
 use Rattle.tlsf_crew.specs.yard.Yard.{post_at, take_at, HasEnds, IsYard, capacity_in, lane_waits}
 use Rattle.tlsf_crew.specs.yard.LaneSteps.{LaneChange, SameLane}
 use Rattle.tlsf_crew.specs.yard.World.{World, world_of, edited, with_waiting, heap_in}
@@ -128,12 +128,12 @@ heap_ends ws i a v is same yard x y x_in y_in ne =
     let yi : y < length ws = omega arith in
     let h = yard.lanes x y xi yi ne in
     let s = heap_lanes ws i a v is same x y in
-    (h.0, h.1, s.0 ∙ h.2, s.1 ∙ h.3, h.4, h.5 ∙ sym (ap (λ (l : List (ℕ × ℕ)). (get_or l 0 (0, 0)).1) (map_same own_numbers ws i a v is same.0)))
+    (h.0, h.1, s.0 ∙ h.2, s.1 ∙ h.3, h.4, h.5 ∙ sym (ap (λ (l : List (ℕ × ℕ)). (get_or l 0 (0, 0)).1) (map_same id_and_capacity ws i a v is same.0)))
 
 pub heap_yard : (ws : List Worker) (i : ℕ) (a v : Worker) → slice_get ws i ≡ Some a → SameButHeap a v → KeepsHeap (heap_of a) (heap_of v) → IsYard ws → IsYard (set ws i v)
 heap_yard ws i a v is same kept yard = record {
   few = omega (arith, length-set ws i v, yard.few);
-  ids = λ x x_in. ap (λ (l : List (ℕ × ℕ)). (get_or l x (0, 0)).0) (map_same own_numbers ws i a v is same.0) ∙ yard.ids x (omega (arith, length-set ws i v));
+  ids = λ x x_in. ap (λ (l : List (ℕ × ℕ)). (get_or l x (0, 0)).0) (map_same id_and_capacity ws i a v is same.0) ∙ yard.ids x (omega (arith, length-set ws i v));
   heaps = heaps_set ws i a v is kept yard.heaps;
   alone = λ x. let s = heap_lanes ws i a v is same x x in (s.0 ∙ (yard.alone x).0, s.1 ∙ (yard.alone x).1);
   outside = λ x y far.
@@ -141,7 +141,7 @@ heap_yard ws i a v is same kept yard = record {
       ((heap_lanes ws i a v is same x y).0 ∙ none.0, (heap_lanes ws i a v is same y x).1 ∙ none.1);
   lanes = heap_ends ws i a v is same yard;
   small =
-      let e : capacity_in (set ws i v) ≡ capacity_in ws = ap (λ (l : List (ℕ × ℕ)). (get_or l 0 (0, 0)).1) (map_same own_numbers ws i a v is same.0) in
+      let e : capacity_in (set ws i v) ≡ capacity_in ws = ap (λ (l : List (ℕ × ℕ)). (get_or l 0 (0, 0)).1) (map_same id_and_capacity ws i a v is same.0) in
       omega (arith, yard.small);
   signed = same_signed ws (set ws i v) (heap_lanes ws i a v is same) yard.signed;
 }

@@ -17,7 +17,7 @@ use Rattle.tlsf_calls.specs.declared.took.Took.{Took}
 use Rattle.tlsf_calls.specs.declared.reply.Reply.TheVariants.{Posted, Took as Taken}
 use Rattle.tlsf_crew.specs.yard.Workers.{id_of, end_to, end_from, PutTo, TookFrom}
 use Rattle.tlsf_crew.specs.yard.Counts.{sum_below}
-use Rattle.tlsf_crew.specs.yard.History.{posts_made, posts_taken, post_made, post_taken}
+use Rattle.tlsf_crew.specs.yard.History.{posts_made, posts_taken, post_of_release, post_of_take}
 use Rattle.tlsf_crew.specs.yard.World.{name_of}
 use Rattle.tlsf_crew.specs.yard.Notes.{OneFewer}
 use Rattle.tlsf_crew.specs.yard.Moves.{one, Sends, Takes, Spent, Moved}
@@ -80,14 +80,14 @@ pub posted_same : (at : ℕ) (made : List (Option Name)) (target : Target) (name
     → posts_made at name.heap made (one at (Release target) Posted) ≡ record { from = at; name = name } ∷ []
 posted_same at made target name known =
     let e : Entry = record { worker = at; call = Release target; reply = Posted } in
-    let one = told_own (λ e. post_made name.heap made e.worker e.call e.reply) at e refl in
+    let one = told_own (λ e. post_of_release name.heap made e.worker e.call e.reply) at e refl in
     rw (one, known, of_same name.heap name refl) refl
 
-posted_other : (at j : ℕ) (made : List (Option Name)) (target : Target) (name : Name) → name_of made target ≡ Some name → j ≢ name.heap
+release_posts_elsewhere : (at j : ℕ) (made : List (Option Name)) (target : Target) (name : Name) → name_of made target ≡ Some name → j ≢ name.heap
     → posts_made at j made (one at (Release target) Posted) ≡ []
-posted_other at j made target name known ne =
+release_posts_elsewhere at j made target name known ne =
     let e : Entry = record { worker = at; call = Release target; reply = Posted } in
-    let f : Entry → Option Post = λ e. post_made j made e.worker e.call e.reply in
+    let f : Entry → Option Post = λ e. post_of_release j made e.worker e.call e.reply in
     let none : f e ≡ None = rw (known, of_other j name (λ q. ne (sym q))) refl in
     told_nothing f at e none
 
@@ -95,7 +95,7 @@ posted_few : (at j : ℕ) (made : List (Option Name)) (target : Target) (name : 
     → length (posts_made at j made (one at (Release target) Posted)) ≤ 1
 posted_few at j made target name known = elim (cases_eq j name.heap) [
   | inl e ↦ let q = ap length (posted_same at made target name known) in rw e (omega arith)
-  | inr e ↦ omega (arith, ap length (posted_other at j made target name known e))
+  | inr e ↦ omega (arith, ap length (release_posts_elsewhere at j made target name known e))
 ]
 
 post_sends : (at : ℕ) (made : List (Option Name)) (a v : Worker) (target : Target) (name : Name) (done : Unit {0}) → name_of made target ≡ Some name
@@ -111,7 +111,7 @@ post_sends at made a v target name done known put j p is = elim (cases_eq j name
         free = rw (q, e, m) (omega (arith, put.ok.1));
       }
   | inr e ↦
-      let m = posted_other at j made target name known e in
+      let m = release_posts_elsewhere at j made target name known e in
       record {
         end = p;
         end_is = put.others j e ∙ is;
@@ -125,7 +125,7 @@ pub moved_post : (at : ℕ) (made : List (Option Name)) (a v : Worker) (limits :
 moved_post at made a v limits target name done known own put =
     let e : Entry = record { worker = at; call = Release target; reply = Posted } in
     let lanes = put_lanes a v name.heap (record { from = at; name = name }) (Ok done) put in
-    let none = λ (i : ℕ). told_nothing (λ e. post_taken i e.call e.reply) at e refl in
+    let none = λ (i : ℕ). told_nothing (λ e. post_of_take i e.call e.reply) at e refl in
     record {
       yard = put_keeps a v name.heap (record { from = at; name = name }) (Ok done) own put;
       numbers = put.same.1;
@@ -207,13 +207,13 @@ pub taken_same : (at i : ℕ) (t : Took) → posts_taken i at (one at (Take i) (
 taken_same at i t =
     let e : Entry = record { worker = at; call = Take i; reply = Taken t } in
     let own : (i == i) ≡ true = grind (arith, nat_tests) in
-    told_own (λ e. post_taken i e.call e.reply) at e refl ∙ rw own refl
+    told_own (λ e. post_of_take i e.call e.reply) at e refl ∙ rw own refl
 
 pub taken_elsewhere : (at i k : ℕ) (t : Took) → k ≢ i → posts_taken k at (one at (Take i) (Taken t)) ≡ []
 taken_elsewhere at i k t ne =
     let e : Entry = record { worker = at; call = Take i; reply = Taken t } in
     let other : (i == k) ≡ false = grind (arith, nat_tests) in
-    let f : Entry → Option Post = λ e. post_taken k e.call e.reply in
+    let f : Entry → Option Post = λ e. post_of_take k e.call e.reply in
     let none : f e ≡ None = rw other refl in
     told_nothing f at e none
 
@@ -253,7 +253,7 @@ pub moved_take : (at : ℕ) (made : List (Option Name)) (a v : Worker) (limits l
 moved_take at made a v limits left i t near fewer took =
     let e : Entry = record { worker = at; call = Take i; reply = Taken t } in
     let p : Post = record { from = t.from; name = t.name } in
-    let none = λ (j : ℕ). told_nothing (λ e. post_made j made e.worker e.call e.reply) at e refl in
+    let none = λ (j : ℕ). told_nothing (λ e. post_of_release j made e.worker e.call e.reply) at e refl in
     record {
       yard = take_keeps a v i (Some p) took;
       numbers = took.same.1;

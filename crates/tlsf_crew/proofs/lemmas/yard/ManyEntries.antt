@@ -11,7 +11,7 @@ use Rattle.tlsf_crew.specs.declared.yard.worker.Worker.{Worker}
 use Rattle.tlsf_calls.specs.declared.entry.Entry.{Entry}
 use Rattle.tlsf_calls.specs.declared.call.Call.{Call}
 use Rattle.tlsf_crew.specs.yard.Counts.{sum_below, is_release, sum_of}
-use Rattle.tlsf_crew.specs.yard.History.{posts_made, posts_taken, post_made, post_taken, StandsBehind}
+use Rattle.tlsf_crew.specs.yard.History.{posts_made, posts_taken, post_of_release, post_of_take, StandsBehind}
 use Rattle.tlsf_crew.specs.yard.Moves.{Sends, Takes, Spent, Moved}
 use Rattle.tlsf_crew.proofs.lemmas.yard.YardKept.{keeps_then}
 use Rattle.tlsf_crew.proofs.lemmas.yard.JoinedEntries.{told_then}
@@ -60,10 +60,10 @@ stands_split (x ∷ xs) ys (b ∷ before) e s =
 -- ---- the posts of some entries and then others
 
 pub made_then : (at j : ℕ) (made : List (Option Name)) (xs ys : List Entry) → posts_made at j made (xs ++ ys) ≡ posts_made at j made xs ++ posts_made at j made ys
-made_then at j made xs ys = told_then (λ e. post_made j made e.worker e.call e.reply) at xs ys
+made_then at j made xs ys = told_then (λ e. post_of_release j made e.worker e.call e.reply) at xs ys
 
 pub taken_then : (i at : ℕ) (xs ys : List Entry) → posts_taken i at (xs ++ ys) ≡ posts_taken i at xs ++ posts_taken i at ys
-taken_then i at xs ys = told_then (λ e. post_taken i e.call e.reply) at xs ys
+taken_then i at xs ys = told_then (λ e. post_of_take i e.call e.reply) at xs ys
 
 count_made : (at j : ℕ) (made : List (Option Name)) (xs ys : List Entry) → length (posts_made at j made (xs ++ ys)) ≡ length (posts_made at j made xs) + length (posts_made at j made ys)
 count_made at j made xs ys = ap length (made_then at j made xs ys) ∙ length-append (posts_made at j made xs) (posts_made at j made ys)

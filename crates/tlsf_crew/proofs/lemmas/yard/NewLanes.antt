@@ -14,7 +14,7 @@ use Rattle.tlsf_crew.specs.declared.yard.worker.Worker.{Worker}
 use Rattle.tlsf_crew.specs.yard.Yard.{post_at, take_at, capacity_in, lane_waits, IsYard, yard_heap, no_heap}
 use Rattle.tlsf_crew.specs.yard.World.{world_of}
 use Rattle.tlsf_crew.specs.yard.Opening.{AreSizes, opened_heaps, opened_world}
-use Rattle.tlsf_crew.specs.yard.Workers.{slot_of, heap_of, own_numbers}
+use Rattle.tlsf_crew.specs.yard.Workers.{slot_of, heap_of, id_and_capacity}
 use Rattle.tlsf_crew.specs.yard.NewLanes.{IsBefore, IsLaid, opened_numbers}
 use Rattle.tlsf_crew.proofs.lemmas.yard.Slots.{get_set_same, get_set_other, map_same, some_same, none_or_some, slot_new, slot_other}
 use Rattle.tlsf_crew.proofs.lemmas.yard.LaneChanges.{same_world}
@@ -57,8 +57,8 @@ end_laid P old new i j e here others own before x y q is =
 -- one lane more
 pub lane_laid : (ws : List Worker) (n words capacity i j : ℕ) (a v b w : Worker) (p : PostEnd) (t : TakeEnd)
     → IsLaid ws n words capacity i j → i < n → j < n → i ≢ j
-    → slice_get ws i ≡ Some a → v.posts.items ≡ set a.posts.items j (Some p) → (v.heap ≡ a.heap) × (own_numbers v ≡ own_numbers a) × (v.takes ≡ a.takes)
-    → slice_get (set ws i v) j ≡ Some b → w.takes.items ≡ set b.takes.items i (Some t) → (w.heap ≡ b.heap) × (own_numbers w ≡ own_numbers b) × (w.posts ≡ b.posts)
+    → slice_get ws i ≡ Some a → v.posts.items ≡ set a.posts.items j (Some p) → (v.heap ≡ a.heap) × (id_and_capacity v ≡ id_and_capacity a) × (v.takes ≡ a.takes)
+    → slice_get (set ws i v) j ≡ Some b → w.takes.items ≡ set b.takes.items i (Some t) → (w.heap ≡ b.heap) × (id_and_capacity w ≡ id_and_capacity b) × (w.posts ≡ b.posts)
     → IsLane p t → capacity_of p ≡ capacity → free_slots p ≡ capacity → posts_sent p ≡ [] → (waited t ≡ []) × (taken t ≡ []) × (ready t ≡ [])
     → IsLaid (set (set ws i v) j w) n words capacity i (j + 1)
 lane_laid ws n words capacity i j a v b w p t l i_in j_in ne a_is posts a_same b_is takes b_same lane same_capacity all_free unsent untaken =
@@ -85,7 +85,7 @@ lane_laid ws n words capacity i j a v b w p t l i_in j_in ne a_is posts a_same b
     record {
       len = len_v ∙ (len_u ∙ l.len);
       heaps = map_same heap_of us j b w b_is (ap (λ h. h.heap) b_same.0) ∙ (map_same heap_of ws i a v a_is (ap (λ h. h.heap) a_same.0) ∙ l.heaps);
-      numbers = map_same own_numbers us j b w b_is b_same.1 ∙ (map_same own_numbers ws i a v a_is a_same.1 ∙ l.numbers);
+      numbers = map_same id_and_capacity us j b w b_is b_same.1 ∙ (map_same id_and_capacity ws i a v a_is a_same.1 ∙ l.numbers);
       slots = slots_set us n j w j_len slots_u w_slots;
       empty = λ x y.
           elim (cases_eq x i) [
@@ -209,7 +209,7 @@ none_from [] n x y alone = refl
 none_from (w ∷ ws) n zero y alone = rw ((alone 0 w refl).1) (no_slot n y)
 none_from (w ∷ ws) n (suc x) y alone = none_from ws n x y (λ z b q. alone (suc z) b q)
 
-pub alone_laid : (ws : List Worker) (n words capacity : ℕ) → length ws ≡ n → map heap_of ws ≡ opened_heaps n words → map own_numbers ws ≡ opened_numbers n capacity → AreAlone ws n
+pub alone_laid : (ws : List Worker) (n words capacity : ℕ) → length ws ≡ n → map heap_of ws ≡ opened_heaps n words → map id_and_capacity ws ≡ opened_numbers n capacity → AreAlone ws n
     → IsLaid ws n words capacity 0 0
 alone_laid ws n words capacity len heaps numbers alone =
     record {

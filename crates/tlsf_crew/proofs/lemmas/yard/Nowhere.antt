@@ -9,14 +9,14 @@ use Rattle.tlsf_calls.specs.declared.call.Call.{Call}
 use Rattle.tlsf_calls.specs.declared.call.Call.TheVariants.{Allocate, Release, Write, Read, Take, Drain}
 use Rattle.tlsf_calls.specs.declared.reply.Reply.{Reply}
 use Rattle.tlsf_calls.specs.declared.reply.Reply.TheVariants.{Made, Freed, Posted, Wrote, Got, Took as Taken, Empty, Drained, Refused}
-use Rattle.tlsf_crew.specs.yard.History.{post_taken, posts_taken}
-use Rattle.tlsf_crew.specs.yard.World.{World, Draining, Replayed, took, took_more, taking, drained_lane, drained_below, drained_all, draining, called}
+use Rattle.tlsf_crew.specs.yard.History.{post_of_take, posts_taken}
+use Rattle.tlsf_crew.specs.yard.World.{World, Draining, Replayed, took, took_more, taking, drained_lane, drained_below, after_drain, draining, called}
 use Rattle.tlsf_crew.specs.yard.Told.{Told, MayTell, MayTellAll}
 use Rattle.tlsf_crew.proofs.lemmas.yard.OneEvent.{from_other, from_own, taking_own, taking_far}
 use Rattle.tlsf_crew.proofs.lemmas.yard.JoinedEntries.{told_nothing}
 use Rattle.tlsf_crew.proofs.lemmas.yard.ManyEntries.{taken_then}
 
-other_take : (i from : ℕ) (reply : Reply) → from ≢ i → post_taken i (Take from) reply ≡ None
+other_take : (i from : ℕ) (reply : Reply) → from ≢ i → post_of_take i (Take from) reply ≡ None
 other_take i from (Made name) ne = refl
 other_take i from Freed ne = refl
 other_take i from Posted ne = refl
@@ -28,9 +28,9 @@ other_take i from (Drained n) ne = refl
 other_take i from (Refused why) ne = refl
 
 -- one entry more that took nothing from i
-none_more : (i at : ℕ) (es : List Entry) (e : Entry) → posts_taken i at es ≡ [] → post_taken i e.call e.reply ≡ None → posts_taken i at (es ++ e ∷ []) ≡ []
+none_more : (i at : ℕ) (es : List Entry) (e : Entry) → posts_taken i at es ≡ [] → post_of_take i e.call e.reply ≡ None → posts_taken i at (es ++ e ∷ []) ≡ []
 none_more i at es e none silent =
-    taken_then i at es (e ∷ []) ∙ (ap (λ l. l ++ posts_taken i at (e ∷ [])) none ∙ told_nothing (λ (x : Entry). post_taken i x.call x.reply) at e silent)
+    taken_then i at es (e ∷ []) ∙ (ap (λ l. l ++ posts_taken i at (e ∷ [])) none ∙ told_nothing (λ (x : Entry). post_of_take i x.call x.reply) at e silent)
 
 -- ---- drains
 
@@ -56,14 +56,14 @@ below_none i at most n d (suc k) far le none =
     ]
 
 drain_none : (i at most : ℕ) (r : Replayed) → (i ≢ at → length r.world.heaps ≤ i) → posts_taken i at r.entries ≡ [] → posts_taken i at (draining r at most).entries ≡ []
-unfolding draining drained_all
+unfolding draining after_drain
 drain_none i at most r far none =
     let d : Draining = record { entries = r.entries; world = r.world; taken = 0 } in
     none_more i at (drained_below at most d (length r.world.heaps)).entries _ (below_none i at most (length r.world.heaps) d (length r.world.heaps) far (omega arith) none) refl
 
 -- ---- calls
 
-take_none : (i at from : ℕ) (w : World) → (i ≢ at → length w.heaps ≤ i) → post_taken i (Take from) (taking w at from).reply ≡ None
+take_none : (i at from : ℕ) (w : World) → (i ≢ at → length w.heaps ≤ i) → post_of_take i (Take from) (taking w at from).reply ≡ None
 take_none i at from w far =
     elim (cases_eq from i) [
       | inl e ↦ elim (cases_eq from at) [

@@ -12,10 +12,10 @@ use Rattle.tlsf_calls.specs.declared.call.Call.{Call}
 use Rattle.tlsf_calls.specs.declared.call.Call.TheVariants.{Take, Drain}
 use Rattle.tlsf_calls.specs.declared.reply.Reply.TheVariants.{Empty, Drained, Refused}
 use Rattle.tlsf_calls.specs.declared.crew_refusal.CrewRefusal.TheVariants.{Full}
-use Rattle.tlsf_crew.specs.yard.Workers.{id_of, own_numbers, end_to, end_from, HasPost, HasTake, SameButHeap, KnowsYard}
+use Rattle.tlsf_crew.specs.yard.Workers.{id_of, id_and_capacity, end_to, end_from, HasPost, HasTake, SameButHeap, KnowsYard}
 use Rattle.tlsf_crew.specs.yard.Calls.{KeepsYards}
 use Rattle.tlsf_crew.specs.yard.Counts.{sum_below}
-use Rattle.tlsf_crew.specs.yard.History.{posts_made, posts_taken, post_made, post_taken, StandsBehind}
+use Rattle.tlsf_crew.specs.yard.History.{posts_made, posts_taken, post_of_release, post_of_take, StandsBehind}
 use Rattle.tlsf_crew.specs.yard.Moves.{Sends, Takes, Spent, Moved}
 use Rattle.tlsf_crew.proofs.lemmas.yard.ManyEntries.{made_then, taken_then, stands_split}
 use Rattle.tlsf_crew.proofs.lemmas.yard.JoinedEntries.{IsNoPost, told_nothing}
@@ -24,7 +24,7 @@ use Rattle.tlsf_crew.proofs.lemmas.yard.JoinedEntries.{IsNoPost, told_nothing}
 
 -- the same ends are there
 pub record EachLaneSame (a v : Worker) : Type 0 where
-  pub numbers : own_numbers v ≡ own_numbers a
+  pub numbers : id_and_capacity v ≡ id_and_capacity a
   pub to : (j : ℕ) → HasPost v j ↔ HasPost a j
   pub from : (i : ℕ) → HasTake v i ↔ HasTake a i
 
@@ -104,11 +104,11 @@ stands_last xs x before e s = elim (stands_split xs (x ∷ []) before e s) [
 
 none_made : (at j : ℕ) (made : List (Option Name)) (xs : List Entry) (e : Entry) → IsNoPost made e → posts_made at j made (xs ++ e ∷ []) ≡ posts_made at j made xs
 none_made at j made xs e n =
-    made_then at j made xs (e ∷ []) ∙ (ap (λ l. posts_made at j made xs ++ l) (told_nothing (λ x. post_made j made x.worker x.call x.reply) at e (n.made_none j)) ∙ append-nil (posts_made at j made xs))
+    made_then at j made xs (e ∷ []) ∙ (ap (λ l. posts_made at j made xs ++ l) (told_nothing (λ x. post_of_release j made x.worker x.call x.reply) at e (n.made_none j)) ∙ append-nil (posts_made at j made xs))
 
 none_taken : (i at : ℕ) (made : List (Option Name)) (xs : List Entry) (e : Entry) → IsNoPost made e → posts_taken i at (xs ++ e ∷ []) ≡ posts_taken i at xs
 none_taken i at made xs e n =
-    taken_then i at xs (e ∷ []) ∙ (ap (λ l. posts_taken i at xs ++ l) (told_nothing (λ x. post_taken i x.call x.reply) at e (n.taken_none i)) ∙ append-nil (posts_taken i at xs))
+    taken_then i at xs (e ∷ []) ∙ (ap (λ l. posts_taken i at xs ++ l) (told_nothing (λ x. post_of_take i x.call x.reply) at e (n.taken_none i)) ∙ append-nil (posts_taken i at xs))
 
 sum_same : (n : ℕ) (f g : ℕ → ℕ) → ((i : ℕ) → f i ≡ g i) → sum_below n f ≡ sum_below n g
 sum_same zero f g e = refl

@@ -24,7 +24,7 @@ use Rattle.tlsf_crew.specs.yard.Workers.{heap_of, id_of, end_to, SameButHeap, Ha
 use Rattle.tlsf_crew.specs.yard.Calls.{KeepsYards, by_heap, freed_by, posted_by, ReleasedHere, ReleasedThere}
 use Rattle.tlsf_crew.specs.yard.World.{World, Replied, heap_in, name_of, freeing, posting, releasing, releasing_named, writing, writing_named, reading, reading_named, reply_freed, reply_wrote, reply_got}
 use Rattle.tlsf_crew.specs.yard.Told.{HasHeap}
-use Rattle.tlsf_crew.specs.yard.Moves.{IsAnswer, Answered}
+use Rattle.tlsf_crew.specs.yard.Moves.{ModelReplies, CallStep}
 use Rattle.tlsf_crew.proofs.lemmas.yard.AllEntries.{more_knows}
 use Rattle.tlsf_crew.proofs.lemmas.yard.YardKept.{same_keeps}
 use Rattle.tlsf_crew.proofs.lemmas.yard.LaneMoves.{moved_post, none_free, still_full}
@@ -36,7 +36,7 @@ use Rattle.tlsf_crew.proofs.lemmas.yard.Witnesses.{heap_left, answered_quiet}
 
 -- the worker itself refuses, and nothing changes
 itself_told : (n : ℕ) (a : Worker) (reply : Reply) (by : World → Replied) (w : World) → HasHeap w n (id_of a) (heap_of a)
-    → (length w.heaps ≡ n → by w ≡ record { reply = reply; world = w }) → IsAnswer (id_of a) a reply (by w)
+    → (length w.heaps ≡ n → by w ≡ record { reply = reply; world = w }) → ModelReplies (id_of a) a reply (by w)
 itself_told n a reply by w has is =
     let e = is has.0 in
     record {
@@ -46,7 +46,7 @@ itself_told n a reply by w has is =
 
 pub itself_answered : (made : List (Option Name)) (a : Worker) (limits : List ℕ) (call : Call) (reply : Reply) (by : World → Replied)
     → ((later : List (Option Name)) → IsIdle (id_of a) later a limits [] (record { worker = id_of a; call = call; reply = reply }))
-    → ((n : ℕ) → KnowsYard n a → (w : World) → length w.heaps ≡ n → by w ≡ record { reply = reply; world = w }) → Answered made a limits call a limits reply by
+    → ((n : ℕ) → KnowsYard n a → (w : World) → length w.heaps ≡ n → by w ≡ record { reply = reply; world = w }) → CallStep made a limits call a limits reply by
 itself_answered made a limits call reply by idle is =
     answered_quiet made a a limits call reply by (refl, refl, refl) (same_keeps a) idle (λ n k w has s. itself_told n a reply by w has (is n k w))
 
@@ -60,9 +60,9 @@ refused_release at later a limits target why other = record {
 }
 
 pub release_unmade : (made : List (Option Name)) (a : Worker) (limits : List ℕ) (target : Target) → None ≡ name_of made target
-    → Answered made a limits (Release target) a limits (Refused Unmade) (λ w. releasing_named w (id_of a) (name_of made target))
+    → CallStep made a limits (Release target) a limits (Refused Unmade) (λ w. releasing_named w (id_of a) (name_of made target))
 release_unmade made a limits target none =
-    subst (λ o. Answered made a limits (Release target) a limits (Refused Unmade) (λ w. releasing_named w (id_of a) o)) none
+    subst (λ o. CallStep made a limits (Release target) a limits (Refused Unmade) (λ w. releasing_named w (id_of a) o)) none
     (itself_answered made a limits (Release target) (Refused Unmade) (λ w. releasing_named w (id_of a) None)
     (λ later. refused_release (id_of a) later a limits target Unmade (λ name e. cc)) (λ n k w e. refl))
 
@@ -87,7 +87,7 @@ own_name : (w : World) (at : ℕ) (name : Name) → name.heap ≡ at → releasi
 own_name w at name e = let b : (name.heap == at) ≡ true = grind (arith, nat_tests) in rw b refl
 
 freed_here : (n : ℕ) (a v : Worker) (name : Name) → heap_of v ≡ (heap.released (heap_of a) name).heap → name.heap ≡ id_of a → KnowsYard n a → (w : World) → HasHeap w n (id_of a) (heap_of a)
-    → IsAnswer (id_of a) v (reply_freed (heap.released (heap_of a) name).answer) (releasing w (id_of a) name)
+    → ModelReplies (id_of a) v (reply_freed (heap.released (heap_of a) name).answer) (releasing w (id_of a) name)
 unfolding released
 freed_here n a v name h own k w has =
     let at = id_of a in
@@ -107,7 +107,7 @@ unfolding posting
 full_world w at name e = let b : (length (w.waiting at name.heap) == w.capacity) ≡ true = grind (arith, nat_tests) in rw b refl
 
 posted_there : (n : ℕ) (a v : Worker) (name : Name) → heap_of v ≡ heap_of a → name.heap ≢ id_of a → name.heap < n → (w : World) → HasHeap w n (id_of a) (heap_of a)
-    → length (w.waiting (id_of a) name.heap) ≢ w.capacity → IsAnswer (id_of a) v Posted (releasing w (id_of a) name)
+    → length (w.waiting (id_of a) name.heap) ≢ w.capacity → ModelReplies (id_of a) v Posted (releasing w (id_of a) name)
 posted_there n a v name h ne lt w has room =
     let at = id_of a in
     let e = releasing_post w at name ne (omega (arith, has.0)) in
@@ -118,7 +118,7 @@ posted_there n a v name h ne lt w has room =
     }
 
 full_there : (n : ℕ) (a v : Worker) (name : Name) → heap_of v ≡ heap_of a → name.heap ≢ id_of a → name.heap < n → (w : World) → HasHeap w n (id_of a) (heap_of a)
-    → length (w.waiting (id_of a) name.heap) ≡ w.capacity → IsAnswer (id_of a) v (Refused (Full name)) (releasing w (id_of a) name)
+    → length (w.waiting (id_of a) name.heap) ≡ w.capacity → ModelReplies (id_of a) v (Refused (Full name)) (releasing w (id_of a) name)
 full_there n a v name h ne lt w has full =
     let at = id_of a in
     let e = releasing_post w at name ne (omega (arith, has.0)) ∙ full_world w at name full in
@@ -137,11 +137,11 @@ freed_reply (Ok done) = refl
 freed_reply (Err why) = refl
 
 here_answered : (made : List (Option Name)) (a v : Worker) (limits : List ℕ) (target : Target) (name : Name) (answer : Result Released CrewRefusal) → KeepsYards a v
-    → name.heap ≡ id_of a → ReleasedHere a v name answer → Answered made a limits (Release target) v limits (reply_released answer) (λ w. releasing w (id_of a) name)
+    → name.heap ≡ id_of a → ReleasedHere a v name answer → CallStep made a limits (Release target) v limits (reply_released answer) (λ w. releasing w (id_of a) name)
 here_answered made a v limits target name answer yard own here =
     let o = (heap.released (heap_of a) name).answer in
     let e : reply_released answer ≡ reply_freed o = ap reply_released here.answer_is ∙ freed_reply o in
-    subst (λ r. Answered made a limits (Release target) v limits r (λ w. releasing w (id_of a) name)) (sym e)
+    subst (λ r. CallStep made a limits (Release target) v limits r (λ w. releasing w (id_of a) name)) (sym e)
     (answered_quiet made a v limits (Release target) (reply_freed o) (λ w. releasing w (id_of a) name) here.same yard (λ later. freed_idle (id_of a) later a limits target o)
     (λ n k w has s. freed_here n a v name here.heap own k w has))
 
@@ -156,7 +156,7 @@ full_idle at later a v limits target name post back put = record {
 
 put_answered : (made : List (Option Name)) (a v : Worker) (limits : List ℕ) (target : Target) (name : Name) (put : Result (Unit {0}) Post) → name_of made target ≡ Some name
     → name.heap ≢ id_of a → PutTo a v name.heap (record { from = id_of a; name = name }) put
-    → Answered made a limits (Release target) v limits (reply_released (posted_by name put)) (λ w. releasing w (id_of a) name)
+    → CallStep made a limits (Release target) v limits (reply_released (posted_by name put)) (λ w. releasing w (id_of a) name)
 put_answered made a v limits target name (Ok done) known ne put = record {
   told = λ n k w has s. let x = (k.to name.heap).0 (put.end, put.end_is) in posted_there n a v name put.same.0 ne x.0 w has (s.room target name refl known ne (omega (arith, x.0, has.0)) refl);
   moved = λ rest. moved_post (id_of a) (made ++ rest) a v limits target name done (more_knows made rest target name known) refl put;
@@ -171,13 +171,13 @@ put_answered made a v limits target name (Err back) known ne put = record {
 }
 
 there_answered : (made : List (Option Name)) (a v : Worker) (limits : List ℕ) (target : Target) (name : Name) (answer : Result Released CrewRefusal) → name_of made target ≡ Some name
-    → name.heap ≢ id_of a → ReleasedThere a v name answer → Answered made a limits (Release target) v limits (reply_released answer) (λ w. releasing w (id_of a) name)
+    → name.heap ≢ id_of a → ReleasedThere a v name answer → CallStep made a limits (Release target) v limits (reply_released answer) (λ w. releasing w (id_of a) name)
 there_answered made a v limits target name answer known ne there =
-    subst (λ r. Answered made a limits (Release target) v limits (reply_released r) (λ w. releasing w (id_of a) name)) (sym there.answer_is)
+    subst (λ r. CallStep made a limits (Release target) v limits (reply_released r) (λ w. releasing w (id_of a) name)) (sym there.answer_is)
     (put_answered made a v limits target name there.put known ne there.lane)
 
 nowhere_answered : (made : List (Option Name)) (a : Worker) (limits : List ℕ) (target : Target) (name : Name) → name.heap ≢ id_of a → ¬ (HasPost a name.heap)
-    → Answered made a limits (Release target) a limits (Refused Stranger) (λ w. releasing w (id_of a) name)
+    → CallStep made a limits (Release target) a limits (Refused Stranger) (λ w. releasing w (id_of a) name)
 nowhere_answered made a limits target name ne none =
     itself_answered made a limits (Release target) (Refused Stranger) (λ w. releasing w (id_of a) name)
     (λ later. refused_release (id_of a) later a limits target Stranger (λ other e. cc))
@@ -198,7 +198,7 @@ pub record IsRelease (a v : Worker) (name : Name) (answer : Result Released Crew
   pub yard : KeepsYards a v
 
 release_by_name : (made : List (Option Name)) (a v : Worker) (limits : List ℕ) (target : Target) (name : Name) (answer : Result Released CrewRefusal) → name_of made target ≡ Some name
-    → IsRelease a v name answer → Answered made a limits (Release target) v limits (reply_released answer) (λ w. releasing w (id_of a) name)
+    → IsRelease a v name answer → CallStep made a limits (Release target) v limits (reply_released answer) (λ w. releasing w (id_of a) name)
 release_by_name made a v limits target name answer known r =
     elim (cases_eq name.heap (id_of a)) [
       | inl own ↦ here_answered made a v limits target name answer r.yard own (r.here own)
@@ -207,16 +207,16 @@ release_by_name made a v limits target name answer known r =
         | inr none ↦
             let e = r.nowhere ne none in
             let x = nowhere_answered made a limits target name ne none in
-            subst (λ y. Answered made a limits (Release target) y limits (reply_released answer) (λ w. releasing w (id_of a) name)) (sym e.1)
-            (subst (λ y. Answered made a limits (Release target) a limits (reply_released y) (λ w. releasing w (id_of a) name)) (sym e.0) x)
+            subst (λ y. CallStep made a limits (Release target) y limits (reply_released answer) (λ w. releasing w (id_of a) name)) (sym e.1)
+            (subst (λ y. CallStep made a limits (Release target) a limits (reply_released y) (λ w. releasing w (id_of a) name)) (sym e.0) x)
       ]
     ]
 
 pub release_answered : (made : List (Option Name)) (a v : Worker) (limits : List ℕ) (target : Target) (name : Name) (answer : Result Released CrewRefusal) (reply : Reply) → Some name ≡ name_of made target
-    → IsRelease a v name answer → reply_released answer ≡ reply → Answered made a limits (Release target) v limits reply (λ w. releasing_named w (id_of a) (name_of made target))
+    → IsRelease a v name answer → reply_released answer ≡ reply → CallStep made a limits (Release target) v limits reply (λ w. releasing_named w (id_of a) (name_of made target))
 release_answered made a v limits target name answer reply known r e =
-    subst (λ o. Answered made a limits (Release target) v limits reply (λ w. releasing_named w (id_of a) o)) known
-    (subst (λ y. Answered made a limits (Release target) v limits y (λ w. releasing w (id_of a) name)) e
+    subst (λ o. CallStep made a limits (Release target) v limits reply (λ w. releasing_named w (id_of a) o)) known
+    (subst (λ y. CallStep made a limits (Release target) v limits y (λ w. releasing w (id_of a) name)) e
     (release_by_name made a v limits target name answer (sym known) r))
 
 -- ---- write
@@ -245,15 +245,15 @@ wrote_idle at from count bytes later a limits target (Ok done) = wrote_quiet at 
 wrote_idle at from count bytes later a limits target (Err why) = refused_write at from bytes later a limits target (Heap why) (λ name e. cc)
 
 pub write_unmade : (made : List (Option Name)) (a : Worker) (limits : List ℕ) (target : Target) (from : ℕ) (bytes : Chunk) → None ≡ name_of made target
-    → Answered made a limits (Write target from bytes) a limits (Refused Unmade) (λ w. writing_named w (id_of a) (name_of made target) from (bytes_of bytes))
+    → CallStep made a limits (Write target from bytes) a limits (Refused Unmade) (λ w. writing_named w (id_of a) (name_of made target) from (bytes_of bytes))
 write_unmade made a limits target from bytes none =
-    subst (λ o. Answered made a limits (Write target from bytes) a limits (Refused Unmade) (λ w. writing_named w (id_of a) o from (bytes_of bytes))) none
+    subst (λ o. CallStep made a limits (Write target from bytes) a limits (Refused Unmade) (λ w. writing_named w (id_of a) o from (bytes_of bytes))) none
     (itself_answered made a limits (Write target from bytes) (Refused Unmade) (λ w. writing_named w (id_of a) None from (bytes_of bytes))
     (λ later. refused_write (id_of a) from bytes later a limits target Unmade (λ name e. cc)) (λ n k w e. refl))
 
 written_here : (n : ℕ) (a v : Worker) (name : Name) (from : ℕ) (bytes : List ℕ) → heap_of v ≡ (heap.written (heap_of a) name from bytes).heap → KnowsYard n a
     → (w : World) → HasHeap w n (id_of a) (heap_of a)
-    → IsAnswer (id_of a) v (reply_wrote (length bytes) (heap.written (heap_of a) name from bytes).answer) (writing w (id_of a) name from bytes)
+    → ModelReplies (id_of a) v (reply_wrote (length bytes) (heap.written (heap_of a) name from bytes).answer) (writing w (id_of a) name from bytes)
 unfolding written
 written_here n a v name from bytes h k w has =
     let at = id_of a in
@@ -265,12 +265,12 @@ written_here n a v name from bytes h k w has =
 pub write_answered : (made : List (Option Name)) (a v : Worker) (limits : List ℕ) (target : Target) (name : Name) (from : ℕ) (bytes : Chunk) (list : List ℕ) (reply : Reply)
     → Some name ≡ name_of made target → list ≡ bytes_of bytes → SameButHeap a v → KeepsYards a v
     → reply ≡ reply_wrote (length list) (heap.written (heap_of a) name from list).answer → heap_of v ≡ (heap.written (heap_of a) name from list).heap
-    → Answered made a limits (Write target from bytes) v limits reply (λ w. writing_named w (id_of a) (name_of made target) from (bytes_of bytes))
+    → CallStep made a limits (Write target from bytes) v limits reply (λ w. writing_named w (id_of a) (name_of made target) from (bytes_of bytes))
 write_answered made a v limits target name from bytes list reply known are same yard e h =
     let o = (heap.written (heap_of a) name from list).answer in
-    subst (λ o. Answered made a limits (Write target from bytes) v limits reply (λ w. writing_named w (id_of a) o from (bytes_of bytes))) known
-    (subst (λ l. Answered made a limits (Write target from bytes) v limits reply (λ w. writing w (id_of a) name from l)) are
-    (subst (λ r. Answered made a limits (Write target from bytes) v limits r (λ w. writing w (id_of a) name from list)) (sym e)
+    subst (λ o. CallStep made a limits (Write target from bytes) v limits reply (λ w. writing_named w (id_of a) o from (bytes_of bytes))) known
+    (subst (λ l. CallStep made a limits (Write target from bytes) v limits reply (λ w. writing w (id_of a) name from l)) are
+    (subst (λ r. CallStep made a limits (Write target from bytes) v limits r (λ w. writing w (id_of a) name from list)) (sym e)
     (answered_quiet made a v limits (Write target from bytes) (reply_wrote (length list) o) (λ w. writing w (id_of a) name from list) same yard
     (λ later. wrote_idle (id_of a) from (length list) bytes later a limits target o) (λ n k w has s. written_here n a v name from list h k w has))))
 
@@ -308,14 +308,14 @@ got_idle at from n later a limits target (Ok bytes) = got_quiet at from n later 
 got_idle at from n later a limits target (Err why) = refused_read at from n later a limits target (Heap why) (λ name e. cc)
 
 pub read_unmade : (made : List (Option Name)) (a : Worker) (limits : List ℕ) (target : Target) (from n : ℕ) → None ≡ name_of made target
-    → Answered made a limits (Read target from n) a limits (Refused Unmade) (λ w. reading_named w (id_of a) (name_of made target) from n)
+    → CallStep made a limits (Read target from n) a limits (Refused Unmade) (λ w. reading_named w (id_of a) (name_of made target) from n)
 read_unmade made a limits target from n none =
-    subst (λ o. Answered made a limits (Read target from n) a limits (Refused Unmade) (λ w. reading_named w (id_of a) o from n)) none
+    subst (λ o. CallStep made a limits (Read target from n) a limits (Refused Unmade) (λ w. reading_named w (id_of a) o from n)) none
     (itself_answered made a limits (Read target from n) (Refused Unmade) (λ w. reading_named w (id_of a) None from n)
     (λ later. refused_read (id_of a) from n later a limits target Unmade (λ name e. cc)) (λ m k w e. refl))
 
 read_here : (m : ℕ) (a v : Worker) (name : Name) (from n : ℕ) → heap_of v ≡ heap_of a → (w : World) → HasHeap w m (id_of a) (heap_of a)
-    → IsAnswer (id_of a) v (reply_got (chunk_read (heap_of a) name from n)) (reading w (id_of a) name from n)
+    → ModelReplies (id_of a) v (reply_got (chunk_read (heap_of a) name from n)) (reading w (id_of a) name from n)
 read_here m a v name from n h w has =
     record {
       reply = ap (λ g. reply_got (chunk_read g name from n)) (sym has.1);
@@ -324,11 +324,11 @@ read_here m a v name from n h w has =
 
 pub read_answered : (made : List (Option Name)) (a v : Worker) (limits : List ℕ) (target : Target) (name : Name) (from n : ℕ) (reply : Reply) → Some name ≡ name_of made target
     → SameButHeap a v → KeepsYards a v → reply ≡ reply_got (chunk_read (heap_of a) name from n) → heap_of v ≡ heap_of a
-    → Answered made a limits (Read target from n) v limits reply (λ w. reading_named w (id_of a) (name_of made target) from n)
+    → CallStep made a limits (Read target from n) v limits reply (λ w. reading_named w (id_of a) (name_of made target) from n)
 read_answered made a v limits target name from n reply known same yard e h =
     let o = chunk_read (heap_of a) name from n in
-    subst (λ o. Answered made a limits (Read target from n) v limits reply (λ w. reading_named w (id_of a) o from n)) known
-    (subst (λ r. Answered made a limits (Read target from n) v limits r (λ w. reading w (id_of a) name from n)) (sym e)
+    subst (λ o. CallStep made a limits (Read target from n) v limits reply (λ w. reading_named w (id_of a) o from n)) known
+    (subst (λ r. CallStep made a limits (Read target from n) v limits r (λ w. reading w (id_of a) name from n)) (sym e)
     (answered_quiet made a v limits (Read target from n) (reply_got o) (λ w. reading w (id_of a) name from n) same yard
     (λ later. got_idle (id_of a) from n later a limits target o) (λ m k w has s. read_here m a v name from n h w has)))
 

@@ -10,7 +10,7 @@ use Rattle.tlsf_heap.specs.Laws.{IsLive}
 use Rattle.tlsf_crew.specs.yard.Heaps.{released}
 use Rattle.tlsf_calls.specs.declared.took.Took.{Took}
 use Rattle.tlsf_calls.specs.declared.entry.Entry.{Entry}
-use Rattle.tlsf_crew.specs.yard.World.{World, with_waiting, heap_in, took, took_more, Draining, drained_lane, drained_below, drained_all}
+use Rattle.tlsf_crew.specs.yard.World.{World, with_waiting, heap_in, took, took_more, Draining, drained_lane, drained_below, after_drain}
 use Rattle.tlsf_crew.specs.yard.FairRuns.{IsNotStale, NoneStale}
 use Rattle.tlsf_crew.proofs.lemmas.yard.LaneChanges.{edited_same, edited_other}
 use Rattle.tlsf_crew.proofs.lemmas.yard.OneEvent.{from_other, from_own}
@@ -111,6 +111,6 @@ below_kept made gone at most d (suc j) k =
       | inr e ↦ rw (from_other at most (drained_below at most d j) j e) (drained_kept made gone at most j (drained_below at most d j) b)
     ]
 
-pub all_kept : (made gone : Name → Type 0) (at most : ℕ) (d : Draining) → IsDrainKept made gone d → IsDrainKept made gone (drained_all at most d)
-unfolding drained_all
+pub all_kept : (made gone : Name → Type 0) (at most : ℕ) (d : Draining) → IsDrainKept made gone d → IsDrainKept made gone (after_drain at most d)
+unfolding after_drain
 all_kept made gone at most d k = below_kept made gone at most d (length d.world.heaps) k

@@ -15,7 +15,7 @@ use Rattle.tlsf_calls.specs.declared.reply.Reply.TheVariants.{Drained, Refused}
 use Rattle.tlsf_calls.specs.declared.crew_refusal.CrewRefusal.TheVariants.{Stranger}
 use Rattle.tlsf_calls.specs.Bytes.{bytes_of}
 use Rattle.tlsf_crew.specs.yard.Heaps.{allocated, released, written}
-use Rattle.tlsf_crew.specs.yard.World.{World, world_of, Replied, Replayed, with_heap, with_waiting, heap_in, posting, releasing, releasing_named, writing_named, reading_named, taking, taking_next, took_first, took, took_more, Draining, drained_lane, drained_below, drained_all, draining, answered, called, after, resumed, name_of}
+use Rattle.tlsf_crew.specs.yard.World.{World, world_of, Replied, Replayed, with_heap, with_waiting, heap_in, posting, releasing, releasing_named, writing_named, reading_named, taking, taking_next, took_first, took, took_more, Draining, drained_lane, drained_below, after_drain, draining, answered, called, after, resumed, name_of}
 use Rattle.tlsf_crew.specs.yard.Counts.{sum_below, waiting_in, is_release, releases_in}
 use Rattle.tlsf_crew.proofs.lemmas.yard.LaneChanges.{edited_same}
 use Rattle.tlsf_crew.proofs.lemmas.yard.OneEvent.{heaps_count, releasing_post, releasing_far, taking_lane, taking_own, taking_far, from_other, from_own}
@@ -136,8 +136,8 @@ below_even at most d (suc k) at_in le =
       | inr e ↦ rw (from_other at most b k e) (even_then d b (drained_lane at most k b) h (drained_even at most k b (omega arith) (omega arith)))
     ]
 
-all_even : (at most : ℕ) (d : Draining) → at < length d.world.heaps → IsEven d (drained_all at most d)
-unfolding drained_all
+all_even : (at most : ℕ) (d : Draining) → at < length d.world.heaps → IsEven d (after_drain at most d)
+unfolding after_drain
 all_even at most d at_in = below_even at most d (length d.world.heaps) at_in (omega arith)
 
 drain_even : (r : Replayed) (at most : ℕ) → at < length r.world.heaps → length (draining r at most).entries + waiting_in (draining r at most).world ≡ length r.entries + waiting_in r.world + 1
@@ -145,7 +145,7 @@ unfolding draining
 drain_even r at most at_in =
     let d : Draining = record { entries = r.entries; world = r.world; taken = 0 } in
     let a = (all_even at most d at_in).0 in
-    let n = length_push (drained_all at most d).entries (record { worker = at; call = Drain most; reply = Drained (drained_all at most d).taken }) in
+    let n = length_push (after_drain at most d).entries (record { worker = at; call = Drain most; reply = Drained (after_drain at most d).taken }) in
     omega arith
 
 -- an event makes one entry, and a release one more later on where it posts

@@ -12,7 +12,7 @@ use Rattle.tlsf_crew.specs.yard.Told.{HasHeap, told_by}
 use Rattle.tlsf_calls.specs.declared.call.Call.TheVariants.{Drain}
 use Rattle.tlsf_crew.proofs.lemmas.yard.Witnesses.{a_suit}
 use Rattle.tlsf_crew.specs.yard.Counts.{sum_of}
-use Rattle.tlsf_crew.specs.yard.Moves.{one, Suits, Answered, Stepped, Called}
+use Rattle.tlsf_crew.specs.yard.Moves.{one, Suits, CallStep, Stepped, Called}
 use Rattle.tlsf_crew.proofs.lemmas.yard.ManyEntries.{moved_room}
 
 -- one answer, as it is told
@@ -22,7 +22,7 @@ answer_told at made es w call reply h x e g = rw (e, g) refl
 
 pub single_stepped : (n : ℕ) (a v : Worker) (limits left : List ℕ) (call : Call) (made : List (Option Name)) (es : List Entry) (reply : Reply) (by : World → Replied) → KnowsYard n a
     → ((most : ℕ) → call ≡ Drain most → ⊥) → ((w : World) → called (record { made = made; entries = es; world = w }) (id_of a) call ≡ answered (record { made = made; entries = es; world = w }) (id_of a) call (by w))
-    → Answered made a limits call v left reply by → Stepped n a limits call made es v left es reply
+    → CallStep made a limits call v left reply by → Stepped n a limits call made es v left es reply
 single_stepped n a v limits left call made es reply by k single is x =
     let told_in : (w : World) → HasHeap w n (id_of a) (heap_of a) → Suits w (id_of a) made call reply
     → told_by (id_of a) (called (record { made = made; entries = es; world = w }) (id_of a) call) ≡ record { made = made ++ made_by reply ∷ []; entries = es ++ one (id_of a) call reply; heap = heap_of v } =

@@ -8,7 +8,7 @@ use Rattle.std.proofs.Math.Seq.{map-set_same}
 use Rattle.tlsf_post.specs.declared.post_end.PostEnd.{PostEnd}
 use Rattle.tlsf_post.specs.declared.take_end.TakeEnd.{TakeEnd}
 use Rattle.tlsf_crew.specs.declared.yard.worker.Worker.{Worker}
-use Rattle.tlsf_crew.specs.yard.Workers.{heap_of, own_numbers, slot_of}
+use Rattle.tlsf_crew.specs.yard.Workers.{heap_of, id_and_capacity, slot_of}
 use Rattle.tlsf_crew.specs.yard.Yard.{end_to_in, end_from_in, yard_heap, HasEnds}
 use Rattle.tlsf_crew.specs.yard.LaneSteps.{LaneStep, LaneChange, SameLane, InYard}
 
@@ -115,7 +115,7 @@ settled ws vs i j ne s =
       new_take_is = rw (at_j, m.takes, get_set_same s.b.takes.items i (Some m.new_take) i_take) refl;
       same = λ x y away. step_same ws vs i j x y ne s away;
       heaps = rw s.after (map_same heap_of (set ws i s.v) j s.b s.w b_still (ap (λ h. h.heap) m.same_taker.0) ∙ map_same heap_of ws i s.a s.v s.a_is (ap (λ h. h.heap) m.same_poster.0));
-      numbers = rw s.after (map_same own_numbers (set ws i s.v) j s.b s.w b_still m.same_taker.1 ∙ map_same own_numbers ws i s.a s.v s.a_is m.same_poster.1);
+      numbers = rw s.after (map_same id_and_capacity (set ws i s.v) j s.b s.w b_still m.same_taker.1 ∙ map_same id_and_capacity ws i s.a s.v s.a_is m.same_poster.1);
       len = ap length s.after ∙ (length-set _ j s.w ∙ length-set ws i s.v);
       lane = m.meets.lane;
       capacity = m.meets.capacity;

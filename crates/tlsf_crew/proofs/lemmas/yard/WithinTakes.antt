@@ -21,7 +21,7 @@ use Rattle.tlsf_crew.specs.yard.Calls.{AfterTake, TakenFrom}
 use Rattle.tlsf_crew.specs.yard.Told.{HasHeap}
 use Rattle.tlsf_crew.specs.yard.World.{World, heap_in, taking, taking_next, took, took_first}
 use Rattle.tlsf_crew.specs.yard.ReplaySteps.{reply_took}
-use Rattle.tlsf_crew.specs.yard.Moves.{one, Spent, Moved, IsAnswer, Answered, TookWithin, took_by}
+use Rattle.tlsf_crew.specs.yard.Moves.{one, Spent, Moved, ModelReplies, CallStep, TookWithin, took_by}
 use Rattle.tlsf_crew.proofs.lemmas.yard.YardKept.{heap_keeps, same_keeps}
 use Rattle.tlsf_crew.proofs.lemmas.yard.LaneMoves.{moved_take, spent_none, still_empty}
 use Rattle.tlsf_crew.specs.yard.Notes.{OneFewer}
@@ -95,7 +95,7 @@ refused_take at from later a limits = record {
 }
 
 pub take_stranger : (made : List (Option Name)) (n : ℕ) (a : Worker) (limits : List ℕ) (from : ℕ) → KnowsYard n a → (from ≡ id_of a) ⊎ (n ≤ from)
-    → Answered made a limits (Take from) a limits (Refused Stranger) (λ w. taking w (id_of a) from)
+    → CallStep made a limits (Take from) a limits (Refused Stranger) (λ w. taking w (id_of a) from)
 take_stranger made n a limits from known away =
     itself_answered made a limits (Take from) (Refused Stranger) (λ w. taking w (id_of a) from) (λ later. refused_take (id_of a) from later a limits)
     (λ m k w e. elim (cases_eq from (id_of a)) [
@@ -142,14 +142,14 @@ is_near : (n m : ℕ) (a : Worker) (from : ℕ) → KnowsYard n a → KnowsYard 
 is_near n m a from known k ne lt = let x = (k.from from).0 ((known.from from).1 (lt, ne)) in x.0
 
 took_world : (n : ℕ) (a v : Worker) (from : ℕ) (p : Post) (rest : List Post) (w : World) → heap_of v ≡ (released (heap_of a) p.name).heap → id_of a < n → HasHeap w n (id_of a) (heap_of a)
-    → IsAnswer (id_of a) v (Taken (took_by (heap_of a) p)) (took w (id_of a) from p rest)
+    → ModelReplies (id_of a) v (Taken (took_by (heap_of a) p)) (took w (id_of a) from p rest)
 took_world n a v from p rest w h lt has = record {
   reply = ap (λ g. Taken (took_by g p)) (sym has.1);
   left = h ∙ (ap (λ g. (released g p.name).heap) (sym has.1) ∙ sym (heap_left n (id_of a) w (heap_of a) (released (heap_in w (id_of a)) p.name).heap lt has));
 }
 
 pub take_answered : (made : List (Option Name)) (n : ℕ) (a v : Worker) (limits left : List ℕ) (from : ℕ) (answer : Option Took) → KnowsYard n a → from ≢ id_of a → from < n → TookWithin a limits from v left answer
-    → Answered made a limits (Take from) v left (reply_took answer) (λ w. taking w (id_of a) from)
+    → CallStep made a limits (Take from) v left (reply_took answer) (λ w. taking w (id_of a) from)
 take_answered made n a v limits left from None known ne lt t = record {
   told = λ m k w has s.
       let near = is_near n m a from known k ne lt in

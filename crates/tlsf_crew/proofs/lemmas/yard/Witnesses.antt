@@ -19,7 +19,7 @@ use Rattle.tlsf_crew.specs.yard.Calls.{KeepsYards, by_heap}
 use Rattle.tlsf_crew.specs.yard.Yard.{no_heap}
 use Rattle.tlsf_crew.specs.yard.Told.{HasHeap}
 use Rattle.tlsf_crew.specs.yard.World.{World, Replied, heap_in, with_heap, allocating, reply_made}
-use Rattle.tlsf_crew.specs.yard.Moves.{Suits, IsAnswer, IsAnswered, Answered}
+use Rattle.tlsf_crew.specs.yard.Moves.{Suits, ModelReplies, RepliesAsModel, CallStep}
 use Rattle.tlsf_crew.proofs.lemmas.yard.OneEntry.{IsIdle, moved_still, moved_idle, still_heap}
 
 -- n workers, one of whom has this heap; these posts wait in all lanes from each
@@ -67,7 +67,7 @@ a_suit n a made call reply lt = (
 -- an entry that tells of no lane, by a worker whose heap alone may have changed
 pub answered_quiet : (made : List (Option Name)) (a v : Worker) (limits : List ℕ) (call : Call) (reply : Reply) (by : World → Replied) → SameButHeap a v → KeepsYards a v
     → ((later : List (Option Name)) → IsIdle (id_of a) later a limits [] (record { worker = id_of a; call = call; reply = reply }))
-    → IsAnswered made a call v reply by → Answered made a limits call v limits reply by
+    → RepliesAsModel made a call v reply by → CallStep made a limits call v limits reply by
 answered_quiet made a v limits call reply by same yard idle told = record {
   told = told;
   moved = λ rest. moved_idle (id_of a) (made ++ rest) a v limits limits [] _ call (moved_still (id_of a) (made ++ rest) a v limits (still_heap (id_of a) a v same yard)) (idle (made ++ rest));
@@ -100,7 +100,7 @@ made_idle at len later a limits (Ok name) = made_quiet at len later a limits nam
 made_idle at len later a limits (Err why) = refused_quiet at len later a limits why
 
 allocated_here : (n len : ℕ) (a v : Worker) → heap_of v ≡ (heap.allocated (heap_of a) len).heap → KnowsYard n a → (w : World) → HasHeap w n (id_of a) (heap_of a)
-    → IsAnswer (id_of a) v (reply_made (heap.allocated (heap_of a) len).answer) (allocating w (id_of a) len)
+    → ModelReplies (id_of a) v (reply_made (heap.allocated (heap_of a) len).answer) (allocating w (id_of a) len)
 unfolding allocated
 allocated_here n len a v h k w has =
     let at = id_of a in
@@ -111,10 +111,10 @@ allocated_here n len a v h k w has =
 
 pub allocate_answered : (made : List (Option Name)) (a v : Worker) (limits : List ℕ) (len : ℕ) (reply : Reply) → SameButHeap a v → KeepsYards a v
     → reply ≡ reply_made (heap.allocated (heap_of a) len).answer → heap_of v ≡ (heap.allocated (heap_of a) len).heap
-    → Answered made a limits (Allocate len) v limits reply (λ w. allocating w (id_of a) len)
+    → CallStep made a limits (Allocate len) v limits reply (λ w. allocating w (id_of a) len)
 allocate_answered made a v limits len reply same yard e h =
     let o = (heap.allocated (heap_of a) len).answer in
-    subst (λ r. Answered made a limits (Allocate len) v limits r (λ w. allocating w (id_of a) len)) (sym e)
+    subst (λ r. CallStep made a limits (Allocate len) v limits r (λ w. allocating w (id_of a) len)) (sym e)
     (answered_quiet made a v limits (Allocate len) (reply_made o) (λ w. allocating w (id_of a) len) same yard (λ later. made_idle (id_of a) len later a limits o)
     (λ n k w has s. allocated_here n len a v h k w has))
 

@@ -10,7 +10,7 @@ use Rattle.tlsf_post.specs.declared.take_end.TakeEnd.{TakeEnd}
 use Rattle.tlsf_post.specs.Lanes.{capacity_of, IsLane}
 use Rattle.tlsf_crew.specs.declared.yard.worker.Worker.{Worker}
 use Rattle.tlsf_crew.specs.yard.Yard.{post_at, take_at, capacity_in, HasEnds, IsYard}
-use Rattle.tlsf_crew.specs.yard.Workers.{own_numbers, SameButHeap, PutTo, TookFrom, heap_of, id_of}
+use Rattle.tlsf_crew.specs.yard.Workers.{id_and_capacity, SameButHeap, PutTo, TookFrom, heap_of, id_of}
 use Rattle.tlsf_crew.specs.yard.Calls.{KeepsYards}
 use Rattle.tlsf_crew.proofs.lemmas.yard.Slots.{map_same, get_set_same, some_same, none_or_some}
 use Rattle.tlsf_crew.proofs.lemmas.yard.LaneChanges.{heap_yard}
@@ -35,7 +35,7 @@ put_ends : (ws : List Worker) (i j : ℕ) (a v : Worker) (post : Post) (answer :
     → post_at ws i j ≡ Some put.end → PostSet ws (set ws i v) i j put.new_end → IsYard ws → (x y : ℕ) → x < length ws → y < length ws → x ≢ y → HasEnds (set ws i v) x y
 put_ends ws i j a v post answer is put here there yard x y x_in y_in apart =
     let h = yard.lanes x y x_in y_in apart in
-    let same : capacity_in (set ws i v) ≡ capacity_in ws = ap (λ (l : List (ℕ × ℕ)). (get_or l 0 (0, 0)).1) (map_same own_numbers ws i a v is put.same.1) in
+    let same : capacity_in (set ws i v) ≡ capacity_in ws = ap (λ (l : List (ℕ × ℕ)). (get_or l 0 (0, 0)).1) (map_same id_and_capacity ws i a v is put.same.1) in
     elim (cases_eq x i) [
       | inl xi ↦ elim (cases_eq y j) [
         | inl yj ↦
@@ -67,7 +67,7 @@ put_keeps a v j post answer own put ws i is yard =
     let len = length-set ws i v in
     record {
       few = omega (arith, len, yard.few);
-      ids = λ x x_in. ap (λ (l : List (ℕ × ℕ)). (get_or l x (0, 0)).0) (map_same own_numbers ws i a v is put.same.1) ∙ yard.ids x (omega (arith, len));
+      ids = λ x x_in. ap (λ (l : List (ℕ × ℕ)). (get_or l x (0, 0)).0) (map_same id_and_capacity ws i a v is put.same.1) ∙ yard.ids x (omega (arith, len));
       heaps = heaps_set ws i a v is (same_heap_keeps (heap_of a) (heap_of v) put.same.0) yard.heaps;
       alone = λ x. let none = yard.alone x in (there.others x x (λ e f. none_or_some (post_at ws x x) put.end none.0 (ap (λ k. post_at ws k x) e ∙ (ap (post_at ws i) f ∙ here))) ∙ none.0, there.takes x x ∙ none.1);
       outside = λ x y far.
@@ -75,7 +75,7 @@ put_keeps a v j post answer own put ws i is yard =
           (there.others x y (λ e f. none_or_some (post_at ws x y) put.end none.0 (rw (e, f) here)) ∙ none.0, there.takes y x ∙ none.1);
       lanes = λ x y x_in y_in apart. put_ends ws i j a v post answer is put here there yard x y (omega (arith, len)) (omega (arith, len)) apart;
       small =
-          let e : capacity_in (set ws i v) ≡ capacity_in ws = ap (λ (l : List (ℕ × ℕ)). (get_or l 0 (0, 0)).1) (map_same own_numbers ws i a v is put.same.1) in
+          let e : capacity_in (set ws i v) ≡ capacity_in ws = ap (λ (l : List (ℕ × ℕ)). (get_or l 0 (0, 0)).1) (map_same id_and_capacity ws i a v is put.same.1) in
           omega (arith, yard.small);
       signed = put_signed_in ws i j a v post answer (own ∙ own_number ws i a yard is) put here there yard.signed;
     }
@@ -84,7 +84,7 @@ take_ends : (ws : List Worker) (i j : ℕ) (a v : Worker) (post : Option Post) �
     → take_at ws i j ≡ Some got.end → TakeSet ws (set ws j v) i j got.new_end → IsYard ws → (x y : ℕ) → x < length ws → y < length ws → x ≢ y → HasEnds (set ws j v) x y
 take_ends ws i j a v post is got here there yard x y x_in y_in apart =
     let h = yard.lanes x y x_in y_in apart in
-    let same : capacity_in (set ws j v) ≡ capacity_in ws = ap (λ (l : List (ℕ × ℕ)). (get_or l 0 (0, 0)).1) (map_same own_numbers ws j a v is got.same.1) in
+    let same : capacity_in (set ws j v) ≡ capacity_in ws = ap (λ (l : List (ℕ × ℕ)). (get_or l 0 (0, 0)).1) (map_same id_and_capacity ws j a v is got.same.1) in
     elim (cases_eq x i) [
       | inl xi ↦ elim (cases_eq y j) [
         | inl yj ↦
@@ -115,7 +115,7 @@ take_keeps a v i post got ws j is yard =
     let len = length-set ws j v in
     record {
       few = omega (arith, len, yard.few);
-      ids = λ x x_in. ap (λ (l : List (ℕ × ℕ)). (get_or l x (0, 0)).0) (map_same own_numbers ws j a v is got.same.1) ∙ yard.ids x (omega (arith, len));
+      ids = λ x x_in. ap (λ (l : List (ℕ × ℕ)). (get_or l x (0, 0)).0) (map_same id_and_capacity ws j a v is got.same.1) ∙ yard.ids x (omega (arith, len));
       heaps = heaps_set ws j a v is (same_heap_keeps (heap_of a) (heap_of v) got.same.0) yard.heaps;
       alone = λ x. let none = yard.alone x in (there.posts x x ∙ none.0, there.others x x (λ e f. none_or_some (take_at ws x x) got.end none.1 (ap (λ k. take_at ws k x) e ∙ (ap (take_at ws i) f ∙ here))) ∙ none.1);
       outside = λ x y far.
@@ -123,7 +123,7 @@ take_keeps a v i post got ws j is yard =
           (there.posts x y ∙ none.0, there.others y x (λ e f. none_or_some (take_at ws y x) got.end none.1 (rw (e, f) here)) ∙ none.1);
       lanes = λ x y x_in y_in apart. take_ends ws i j a v post is got here there yard x y (omega (arith, len)) (omega (arith, len)) apart;
       small =
-          let e : capacity_in (set ws j v) ≡ capacity_in ws = ap (λ (l : List (ℕ × ℕ)). (get_or l 0 (0, 0)).1) (map_same own_numbers ws j a v is got.same.1) in
+          let e : capacity_in (set ws j v) ≡ capacity_in ws = ap (λ (l : List (ℕ × ℕ)). (get_or l 0 (0, 0)).1) (map_same id_and_capacity ws j a v is got.same.1) in
           omega (arith, yard.small);
       signed = take_signed_in ws i j a v post got here there yard.signed;
     }

@@ -1,6 +1,6 @@
 use Rattle.std.proofs.Common.{◌≡◌, ◌++◌, [], List, length, drop, vec_len}
 use Rattle.tlsf_lines.specs.Phases.{calls_from, known_in}
-use Rattle.tlsf_lines.specs.OwnMakers.{RecallsOwn}
+use Rattle.tlsf_lines.specs.CallsByLabel.{RecallsOwn}
 use Rattle.tlsf_lines.specs.declared.line.Line.{Line}
 use Rattle.tlsf_lines.proofs.phases.own_calls.Given as goal
 
@@ -8,7 +8,7 @@ use Rattle.tlsf_lines.proofs.phases.own_calls.Given as goal
 abbrev pub invariant-loop-line : goal.invariant-loop-line
 invariant-loop-line l = record {
   before : List Line;
-  recalls : RecallsOwn l.makers before;
+  recalls : RecallsOwn l.by_label before;
   count : length before ≡ l.line-index;
   len : vec_len l.calls ≡ l.line-index;
   so_far : l.calls.items ++ calls_from (known_in l.names) before (drop l.line-index l.lines) ≡ calls_from (known_in l.names) [] l.lines;

@@ -1,7 +1,7 @@
 use Rattle.std.proofs.Common.{◌≡◌, length, ap, ◌∙◌, arith, rules}
 use Rattle.tlsf_heap.specs.Calls.{opened}
 use Rattle.tlsf_crew.specs.yard.Opening.{opened_heaps}
-use Rattle.tlsf_crew.specs.yard.Workers.{heap_of, own_numbers}
+use Rattle.tlsf_crew.specs.yard.Workers.{heap_of, id_and_capacity}
 use Rattle.tlsf_crew.specs.yard.NewLanes.{opened_numbers}
 use Rattle.tlsf_crew.proofs.lemmas.yard.NewLanes.{map_push, alone_push, alone_laid}
 use Rattle.tlsf_crew.proofs.yard.opening.open_alone.Goals as goal
@@ -15,7 +15,7 @@ loop-id-preserved c =
       count = search rules;
       room = search rules;
       heaps = rw e (map_push heap_of (λ j. opened j c.args.words 0) _ _ _ i.heaps own.heap);
-      numbers = rw e (map_push own_numbers (λ j. (j, c.args.capacity)) _ _ _ i.numbers own.numbers);
+      numbers = rw e (map_push id_and_capacity (λ j. (j, c.args.capacity)) _ _ _ i.numbers own.numbers);
       alone = rw e (alone_push _ _ _ i.alone own.posts own.takes);
     }
 

@@ -1,6 +1,6 @@
 use Rattle.std.proofs.Common.{◌≡◌, ◌≤◌, map, vec_len, vec_capacity}
 use Rattle.tlsf_crew.specs.yard.Opening.{opened_heaps}
-use Rattle.tlsf_crew.specs.yard.Workers.{heap_of, own_numbers}
+use Rattle.tlsf_crew.specs.yard.Workers.{heap_of, id_and_capacity}
 use Rattle.tlsf_crew.specs.yard.NewLanes.{opened_numbers}
 use Rattle.tlsf_crew.proofs.lemmas.yard.NewLanes.{AreAlone}
 use Rattle.tlsf_crew.proofs.yard.opening.open_alone.Given as goal
@@ -10,6 +10,6 @@ invariant-loop-id l = record {
   count : vec_len l.workers ≡ l.id;
   room : l.n ≤ vec_capacity l.workers;
   heaps : map heap_of l.workers.items ≡ opened_heaps l.id l.words;
-  numbers : map own_numbers l.workers.items ≡ opened_numbers l.id l.capacity;
+  numbers : map id_and_capacity l.workers.items ≡ opened_numbers l.id l.capacity;
   alone : AreAlone l.workers.items l.n;
 }

@@ -1,7 +1,7 @@
 ghost use Rattle.std.specs.Prelude.{◌≡◌, ℕ, List, [], ◌∷◌, length, OnOk};
 ghost use Rattle.tlsf_lines.specs.Events.{made_by};
-ghost use Rattle.tlsf_lines.specs.OwnMakers.{RecallsOwn};
-ghost use Rattle.tlsf_lines.specs.Phases.{maker_in};
+ghost use Rattle.tlsf_lines.specs.CallsByLabel.{RecallsOwn};
+ghost use Rattle.tlsf_lines.specs.Phases.{call_that_makes};
 ghost use Rattle.tlsf_lines.specs.declared.line.Line.{Line as ALine};
 ghost use Rattle.tlsf_lines.specs.declared.line.Line.TheVariants.{Allocate};
 
@@ -13,31 +13,31 @@ use tlsf_calls::Target;
 /// The number of the call, in a worker's script of one phase, that makes each label. A contract sees the pairs of label
 /// and number, in any order.
 #[derive(Drop)]
-pub struct Makers {
+pub struct CallsByLabel {
     made: HashMap<u32, u32>,
 }
 
-impl Model for Makers {
+impl Model for CallsByLabel {
     ghost use Rattle.std.specs.Prelude.{ℕ, List};
 
     ghost Value = { List (ℕ × ℕ) };
 
-    ghost view = { λ makers. makers.made.entries };
+    ghost view = { λ by_label. by_label.made.entries };
 }
 
-impl Makers {
+impl CallsByLabel {
     /// No labels yet.
-    pub fn new(alloc: Global) -> Makers
+    pub fn new(alloc: Global) -> CallsByLabel
         ensures { RecallsOwn result [] }
     {
-        Makers {
+        CallsByLabel {
             made: HashMap::new(alloc),
         }
     }
 
     /// What a label stands for: what its call makes, or `Absent` where no line made it.
     pub fn target(&self, label: u32) -> Target
-        ensures { (before : List ALine) → RecallsOwn self.now before → result ≡ made_by (maker_in label before) }
+        ensures { (before : List ALine) → RecallsOwn self.now before → result ≡ made_by (call_that_makes label before) }
     {
         match self.made.get(&label).copied() {
             Some(call) => Target::Made(call),
