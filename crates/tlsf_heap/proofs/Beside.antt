@@ -8,7 +8,7 @@ use Rattle.tlsf_heap.specs.Blocks.{Block, Live, Free, size_of, words_in, is_free
 use Rattle.tlsf_heap.specs.Calls.{first_free, last_free, before_free}
 use Rattle.tlsf_heap.specs.GoodFit.{block_at, site_at}
 use Rattle.tlsf_heap.specs.Image.{back_behind}
-use Rattle.tlsf_heap.specs.Regions.{AreNeighbours, AreRegions, IsTagOf, IsTakenTag}
+use Rattle.tlsf_heap.specs.Regions.{AreNeighbours, AreRegions, IsTagOf, IsTakenTag, IsTagBehind}
 use Rattle.tlsf_heap.proofs.Ends.{ends_free, ends_live}
 use Rattle.tlsf_heap.proofs.Sizes.{around, one_index, region_around, words_around, free_as, last_is, last_words}
 use Rattle.tlsf_heap.proofs.Standing.{words_up_to, stands_next, back_next, back_behind-last}
@@ -122,6 +122,12 @@ module _ {bs : List Block} {words : ℕ} (whole : words_in bs ≡ words) where
         let none : Tag = record { size = 0; free = own.free; last = own.last; back = own.back } in
         tag_behind {none = none} refl (is.last ∙ ap (λ (n : ℕ). eqb (n + size_of (block_at bs i)) words) stands.place)
         (subst (λ (n : ℕ). IsTakenTag bs words (at + n) none next) is.size taken)
+
+    -- the tag taken behind a block is that of the free block there
+    pub is_behind : {own next : Tag} → IsTagOf words (site_at bs i) own → IsTakenTag bs words (at + own.size) (record { size = 0; free = own.free; last = own.last; back = own.back }) next → IsTagBehind words (site_at bs i) next
+    is_behind is taken =
+        let behind = behind_taken is taken in
+        record { size = behind.size; last = behind.last ∙ ap (λ (n : ℕ). eqb (n + size_of (block_at bs i) + first_free (drop (suc i) bs)) words) (sym stands.place) }
 
     -- the tag taken behind a block has the size of the free block there
     pub size_behind : {own next : Tag} → IsTagOf words (site_at bs i) own → IsTakenTag bs words (at + own.size) (record { size = 0; free = own.free; last = own.last; back = own.back }) next → next.size ≡ first_free (drop (suc i) bs)

@@ -128,7 +128,7 @@ from_free n u k t (Free a b ∷ []) X Y f h = absurd h
 from_free n u k t (Free a b ∷ Live c d e ∷ front) X Y f h = from_free n u k t front X Y f h
 from_free n u k t (Free a b ∷ Free c d ∷ front) X Y f h = absurd h
 
-free_first : (k t : ℕ) (back : List Block) → AreApart back → AreApart (Free k t ∷ past_free back)
+pub free_first : (k t : ℕ) (back : List Block) → AreApart back → AreApart (Free k t ∷ past_free back)
 free_first k t [] h = tt
 free_first k t (Live a b c ∷ back) h = h
 free_first k t (Free a b ∷ []) h = tt

@@ -14,7 +14,7 @@ use Rattle.tlsf_heap.specs.Image.{back_behind}
 use Rattle.tlsf_heap.proofs.Beside.{back_free, free_behind, free_before}
 use Rattle.tlsf_heap.proofs.Edits.{first_free-words}
 use Rattle.tlsf_heap.proofs.Listing.{AreListed, IsFresh, fresh_both, contains_own, not_listed, same_lists, taken, given}
-use Rattle.tlsf_heap.proofs.Sizes.{Around, around, block_around, stands_around, words_around, region_around, regions_front, regions_back, next_is, next_none, last_is, last_none, last_words, past_regions, before_regions, place, places_behind, fresh_front, fresh_back, ArePast, past_around, newest, past_past, before_past}
+use Rattle.tlsf_heap.proofs.Sizes.{Around, around, around_first, block_around, stands_around, words_around, region_around, regions_front, regions_back, next_is, next_none, last_is, last_none, last_words, past_regions, before_regions, place, places_behind, fresh_front, fresh_back, ArePast, past_around, newest, past_past, before_past}
 
 -- ---- a free block that is taken out of the list of its class where there is one
 
@@ -100,7 +100,7 @@ module _ {bs : List Block} {at i before size after tick : ℕ} {lists : ℕ → 
   abbrev back : List Block
   back = drop (suc i) bs
 
-  between : Around bs at i front (block_at bs i) back
+  pub between : Around bs at i front (block_at bs i) back
   between = around bs at i f.stands
 
   pub size_region : IsRegion size
@@ -126,7 +126,7 @@ module _ {bs : List Block} {at i before size after tick : ℕ} {lists : ℕ → 
   abbrev behind : List FreePlace
   behind = free_places (at + size + after) (past_free back)
 
-  fresh_behind : (k : ℕ) → k < at + size + after → IsFresh k behind
+  pub fresh_behind : (k : ℕ) → k < at + size + after → IsFresh k behind
   fresh_behind k h = fresh_back (past_free back) (at + size + after) k (past_regions back (regions_back between f.sized)) h
 
   fresh_next : 0 < after → IsFresh (at + size) (ahead ++ behind)
@@ -158,6 +158,9 @@ module _ {bs : List Block} {at i before size after tick : ℕ} {lists : ℕ → 
       subst (λ (n : ℕ). AreListed (ahead ++ free_places (at + size + n) (past_free back)) lists) (sym f.is_after)
       (subst (λ (l : List FreePlace). AreListed (ahead ++ l) lists) (next_no_places back (at + size) (regions_back between f.sized) (omega (arith, e, f.is_after))) listed_between)
 
+  pub next_region : 0 < after → IsRegion after
+  next_region h = rw f.is_after (region_around (around_first between (omega (arith, h, f.is_after))) f.sized)
+
   pub contains_next : 0 < after → Contains (lists (class_of after)) (at + size)
   contains_next h = let listed = listed_next h in contains_own (place after (at + size) listed.0) ahead behind (lists (class_of after)) (listed.1 (class_of after))
 
@@ -169,7 +172,7 @@ module _ {bs : List Block} {at i before size after tick : ℕ} {lists : ℕ → 
 
   -- once the block behind is out
   module _ {left : ℕ → List ℕ} (out : Forgets after (at + size) lists left) where
-    left_next : AreListed (ahead ++ behind) left
+    pub left_next : AreListed (ahead ++ behind) left
     left_next = forgotten out ahead behind fresh_next listed_next kept_next
 
     listed_previous : 0 < before → (stamp : ℕ) × AreListed (first ++ place before (at - before) stamp ∷ behind) left

@@ -1,17 +1,18 @@
 -- A released name is never live again.
-use Rattle.std.proofs.Common.{◌≡◌, ◌≢◌, ℕ, ◌+◌, ◌<◌, true, nat_le, List, [], ◌∷◌, ◌++◌, Ok, refl, sym, subst, arith}
+use Rattle.std.proofs.Common.{◌≡◌, ◌≢◌, ℕ, ◌+◌, ◌<◌, ◌≤◌, true, nat_le, List, [], ◌∷◌, ◌++◌, Ok, refl, sym, subst, arith}
 use Rattle.std.specs.List.{AllByRecursion}
 use Rattle.std.proofs.lemmas.Bool.{eqb-true, false≢true}
 use Rattle.tlsf_heap.specs.Blocks.{Block, Live, Free, HeapState, size_of, serials, want}
 use Rattle.tlsf_heap.specs.Lawful.{IsLawful}
 use Rattle.tlsf_words.specs.Lists.{AreDistinct}
-use Rattle.tlsf_heap.specs.Calls.{ticked, with_blocks, carved, has_serial, past_free, before_free, coalesced, released, with_bytes, Call, Allocate, Release, Write, Read, answered, run}
+use Rattle.tlsf_heap.specs.Calls.{ticked, with_blocks, carved, has_serial, past_free, before_free, coalesced, released, with_bytes, is_sized, refitted, room_of, Call, Allocate, Release, Resize, Write, Read, answered, run}
 use Rattle.tlsf_heap.specs.Laws.{IsLive, IsTaken}
 use Rattle.tlsf_heap.specs.declared.name.Name.{Name}
 use Rattle.tlsf_heap.proofs.Finding.{and_left}
 use Rattle.tlsf_heap.proofs.Lawfulness.{all_append, all_left, all_right, all_weaker, serials-append}
 use Rattle.tlsf_heap.proofs.Coalescing.{by_last}
-use Rattle.tlsf_heap.proofs.Outcomes.{by_test, by_allocated, by_released, by_written, lawful_site}
+use Rattle.tlsf_heap.proofs.Outcomes.{by_test, by_allocated, by_released, by_resized, by_written, lawful_site}
+use Rattle.tlsf_heap.proofs.Resizing.{by_refitted}
 use Rattle.tlsf_heap.proofs.Living.{serial_of, lives}
 
 -- the serial is of a past tick, and no live block has it
@@ -49,6 +50,10 @@ module _ (P : ℕ → Type 0) where
   all_with (Live m s xs) new bs all = all
   all_with (Free m s) new bs all = all
 
+  all_refitted : (tick n len : ℕ) (b : Block) (back : List Block) → n ≤ room_of b back → AllSerials (b ∷ back) → AllSerials (refitted tick n len b back)
+  all_refitted tick n len (Live m s xs) back room all = by_refitted AllSerials tick n len m s xs back room (λ _. all) (all.0, all_past back all.1) (λ _. (all.0, all_past back all.1))
+  all_refitted tick n len (Free m s) back room all = by_test AllSerials (is_sized n (Free m s)) (Free m s ∷ back) (Free m s ∷ back) (λ _. all) all
+
 gone_call : (h : HeapState) (serial : ℕ) (call : Call) → IsGone h serial → IsGone (answered h call).1 serial
 gone_call h serial (Allocate len) g = by_allocated (λ o. IsGone o.heap serial) h len (λ why. g) (λ s site fit.
     let P : ℕ → Type 0 = λ y. y ≢ serial in
@@ -63,6 +68,10 @@ gone_call h serial (Release name) g = by_released (λ o. IsGone o.heap serial) h
     let P : ℕ → Type 0 = λ y. y ≢ serial in
     let all = all_of P s.before (s.block ∷ s.after) (subst (AllSerials P) (sym site) g.absent) in
     record { past = omega (arith, g.past); absent = all_coalesced P h.tick s.before s.after s.block all.0 (of_rest P s.block s.after all.1) })
+gone_call h serial (Resize name len) g = by_resized (λ o. IsGone o.heap serial) h name len (λ why. g) (λ s own site is room.
+    let P : ℕ → Type 0 = λ y. y ≢ serial in
+    let all = all_of P s.before (s.block ∷ s.after) (subst (AllSerials P) (sym site) g.absent) in
+    record { past = omega (arith, g.past); absent = of_both P s.before _ all.0 (all_refitted P h.tick (want len) len s.block s.after room all.1) })
 gone_call h serial (Write name at bytes) g = by_written (λ o. IsGone o.heap serial) h name at bytes (λ why. g) (λ s site has.
     let P : ℕ → Type 0 = λ y. y ≢ serial in
     let all = all_of P s.before (s.block ∷ s.after) (subst (AllSerials P) (sym site) g.absent) in

@@ -1,12 +1,12 @@
 -- Which names are live.
-use Rattle.std.proofs.Common.{◌≡◌, ◌≢◌, ℕ, ◌+◌, ◌<◌, Bool, true, cond, nat_le, List, [], ◌∷◌, ◌++◌, ◌&&◌, find, Option, Some, None, Ok, Err, refl, sym, ap, ◌∙◌, subst, inl, inr, arith, append_assoc, eq-eqb}
+use Rattle.std.proofs.Common.{◌≡◌, ◌≢◌, ℕ, ◌+◌, ◌<◌, Bool, true, cond, nat_le, List, [], ◌∷◌, ◌++◌, ◌&&◌, find, Option, Some, None, Ok, Err, refl, sym, ap, ◌∙◌, subst, inl, inr, arith, append_assoc, eq-eqb, ◌≤◌}
 use Rattle.std.specs.Prelude.{IsSome, ◌⊎◌}
 use Rattle.std.specs.List.{AllByRecursion}
 use Rattle.std.proofs.lemmas.Bool.{eqb-true, false≢true, cases_lt}
 use Rattle.tlsf_heap.specs.Blocks.{Block, Live, Free, HeapState, size_of, bytes_of, words_in, serials, want}
 use Rattle.tlsf_heap.specs.GoodFit.{Site, sites_behind, place_of, is_fit}
 use Rattle.tlsf_heap.specs.Lawful.{IsLawful}
-use Rattle.tlsf_heap.specs.Calls.{Outcome, refused, is_worn, carved, allocated, has_serial, is_named, named, first_free, past_free, last_free, before_free, coalesced, released, released_at, overwritten, with_bytes, Call, Allocate, Release, Write, Read, answered}
+use Rattle.tlsf_heap.specs.Calls.{Outcome, refused, is_worn, carved, allocated, has_serial, is_named, named, first_free, past_free, last_free, before_free, coalesced, released, released_at, overwritten, with_bytes, room_of, is_sized, refitted, Call, Allocate, Release, Resize, Write, Read, answered}
 use Rattle.tlsf_heap.specs.Laws.{IsLive, IsGiven, IsTaken, TakesBack}
 use Rattle.tlsf_heap.specs.declared.name.Name.{Name}
 use Rattle.tlsf_heap.specs.declared.refusal.Refusal.TheVariants.{Worn, Foreign, Stale}
@@ -14,7 +14,8 @@ use Rattle.tlsf_heap.proofs.Finding.{and_left, and_right}
 use Rattle.tlsf_heap.proofs.Lawfulness.{words_in-append}
 use Rattle.tlsf_heap.proofs.Edits.{carved_small, carved_large}
 use Rattle.tlsf_heap.proofs.Coalescing.{by_last}
-use Rattle.tlsf_heap.proofs.Outcomes.{by_test, first_or, or_first, IsSiteOf, gives, by_allocated, takes, by_released, writes, by_written}
+use Rattle.tlsf_heap.proofs.Outcomes.{by_test, first_or, or_first, IsSiteOf, gives, by_allocated, takes, by_released, resizes, by_resized, writes, by_written}
+use Rattle.tlsf_heap.proofs.Resizing.{by_refitted}
 
 -- ---- live blocks by their places
 
@@ -97,6 +98,15 @@ module _ (at serial : ℕ) where
   past_lives place (Live m s xs ∷ bs) h = moved _ _ (Live m s xs ∷ bs) (omega arith) h
   past_lives place (Free m s ∷ bs) h = elim h [ inl e ↦ absurd (false≢true e.0) | inr t ↦ t ]
 
+  -- what a resize leaves of a block and those behind it
+  refitted_lives : (tick n len place : ℕ) (b : Block) (back : List Block) → n ≤ room_of b back → LivesFrom place (b ∷ back) → LivesFrom place (refitted tick n len b back)
+  refitted_lives tick n len place (Live m s xs) back room h =
+      by_refitted (LivesFrom place) tick n len m s xs back room
+      (λ enough. h)
+      (elim h [ inl e ↦ inl e | inr t ↦ inr (moved _ _ (past_free back) (omega arith) (past_lives (place + m) back t)) ])
+      (λ large. elim h [ inl e ↦ inl e | inr t ↦ inr (inr (moved _ _ (past_free back) (omega arith) (past_lives (place + m) back t))) ])
+  refitted_lives tick n len place (Free m s) back room h = by_test (LivesFrom place) (is_sized n (Free m s)) (Free m s ∷ back) (Free m s ∷ back) (λ _. h) h
+
   before_lives : (place : ℕ) (bs : List Block) → LivesFrom place bs → LivesFrom place (before_free bs)
   before_lives place bs =
       by_last (λ all k left. LivesFrom place all → LivesFrom place left) bs (λ h. h) (λ all m s xs h. h)
@@ -167,6 +177,12 @@ kept h name (Release taken) other live =
     differ refl (same_name taken name (own ∙ sym live.0) (sym (eqb-true _ _ (and_right (has_serial taken.serial s.block) _ is)) ∙ at) (one_serial taken.serial name.serial s.block (and_left _ _ is) e)))
     (kept_blocks h name s site live)))
     (λ e same. other (ap Release same, subst (λ (n : Name). IsTaken h n) same e))
+kept h name (Resize at_name len) other live = by_resized (λ o. IsLive o.heap name) h at_name len (λ why. live) (λ s own site is room.
+    let new : List Block = refitted h.tick (want len) len s.block s.after in
+    shown (resizes h len s).heap name live.0 (elim (in_either name.at name.serial 0 s.before (s.block ∷ s.after) (kept_blocks h name s site live)) [
+      | inl ahead ↦ in_left name.at name.serial 0 s.before new ahead
+      | inr here ↦ in_right name.at name.serial 0 s.before new (refitted_lives name.at name.serial h.tick (want len) len (0 + words_in s.before) s.block s.after room here)
+    ]))
 kept h name (Write at_name at bytes) other live = by_written (λ o. IsLive o.heap name) h at_name at bytes (λ why. live) (λ s site has.
     let new : Block = with_bytes s.block (overwritten (bytes_of s.block) at bytes) in
     shown (writes h at bytes s).heap name live.0

@@ -18,10 +18,10 @@ use Rattle.tlsf_heap.proofs.Sizes.{Around, around, around_first, around_last, bl
 -- ---- a start bit that is taken away
 
 -- the start map without a start, or as it was
-record Cleared (old new : List Bool) (at size : ℕ) : Type 0 where
-  others : (k : ℕ) → (k ≡ at → size ≡ 0) → get_or new k false ≡ get_or old k false
-  gone : 0 < size → at < length old → get_or new at false ≡ false
-  as_long : length new ≡ length old
+pub record Cleared (old new : List Bool) (at size : ℕ) : Type 0 where
+  pub others : (k : ℕ) → (k ≡ at → size ≡ 0) → get_or new k false ≡ get_or old k false
+  pub gone : 0 < size → at < length old → get_or new at false ≡ false
+  pub as_long : length new ≡ length old
 
 without_some : (starts : List Bool) (at size : ℕ) → without_start starts at (suc size) ≡ set starts at false
 unfolding without_start
@@ -31,7 +31,7 @@ without_none : (starts : List Bool) (at : ℕ) → without_start starts at 0 ≡
 unfolding without_start
 without_none starts at = refl
 
-cleared : (starts : List Bool) (at size : ℕ) → Cleared starts (without_start starts at size) at size
+pub cleared : (starts : List Bool) (at size : ℕ) → Cleared starts (without_start starts at size) at size
 cleared starts at zero = subst (λ (s : List Bool). Cleared starts s at 0) (sym (without_none starts at)) (record { others = λ k h. refl; gone = λ h. absurd (omega (arith, h)); as_long = refl })
 cleared starts at (suc size) = subst (λ (s : List Bool). Cleared starts s at (suc size)) (sym (without_some starts at size)) (record {
   others = λ k h. get_or-set_other starts at k false false (λ e. omega (arith, h e));
@@ -65,7 +65,7 @@ module _ {m : Image} {bs : List Block} (shows : Shows m bs) {at i : ℕ} (stands
   here = around bs at i stands
 
   -- the free block behind ends in the region, and no block starts within
-  next_starts : 0 < first_free back → (at + size_of block + first_free back ≤ length m.words) × StartsOnce m.starts (at + size_of block) (first_free back)
+  pub next_starts : 0 < first_free back → (at + size_of block + first_free back ≤ length m.words) × StartsOnce m.starts (at + size_of block) (first_free back)
   next_starts h =
       let a = around_first here h in
       let says = says_here shows (stands_around a) in

@@ -8,7 +8,7 @@ use Rattle.tlsf_heap.specs.Calls.{is_named, has_serial, named}
 use Rattle.tlsf_heap.specs.Named.{NoneNamed, IsFirst, IsNamed, RefusesName}
 use Rattle.tlsf_heap.specs.declared.name.Name.{Name}
 use Rattle.tlsf_heap.specs.declared.refusal.Refusal.{Refusal}
-use Rattle.tlsf_heap.specs.declared.refusal.Refusal.TheVariants.{NoFit, Worn, Foreign, Stale, Range}
+use Rattle.tlsf_heap.specs.declared.refusal.Refusal.TheVariants.{NoFit, Worn, Foreign, Stale, Range, NoRoom}
 use Rattle.tlsf_heap.proofs.Finding.{and_left, and_right, not_true, find_at, find_none}
 use Rattle.tlsf_heap.proofs.Edits.{words_in-take}
 use Rattle.tlsf_heap.proofs.Granting.{four_words}
@@ -21,7 +21,7 @@ named_none name bs none =
     let within : j < length bs = omega (arith, length-sites bs, l) in
     ap (is_named name.at name.serial) (get_or-sites nowhere bs j within) ∙ none j within)
 
-named_is : (name : Name) (bs : List Block) (i : ℕ) → IsFirst name.at name.serial bs i → named name bs ≡ Some (site_at bs i)
+pub named_is : (name : Name) (bs : List Block) (i : ℕ) → IsFirst name.at name.serial bs i → named name bs ≡ Some (site_at bs i)
 named_is name bs i first =
     find_at (is_named name.at name.serial) nowhere (sites bs) i (omega (arith, length-sites bs, first.within))
     (ap (is_named name.at name.serial) (get_or-sites nowhere bs i first.within) ∙ first.here)
@@ -39,6 +39,7 @@ module _ {X : Type 0} (h : HeapState) (name : Name) (does : Option Site → X) (
   refused_name stale NoFit r = absurd r
   refused_name stale Worn r = absurd r
   refused_name stale Range r = absurd r
+  refused_name stale NoRoom r = absurd r
 
   pub at_name : name.heap ≡ h.id → (i : ℕ) → IsFirst name.at name.serial h.blocks i → cond (eqb name.heap h.id) (does (named name h.blocks)) (refuse Foreign) ≡ does (Some (site_at h.blocks i))
   at_name own i first = of_own own ∙ ap does (named_is name h.blocks i first)

@@ -1,18 +1,20 @@
 -- What a call comes to: a refusal, or an edit at the site of one block.
-use Rattle.std.proofs.Common.{◌≡◌, ℕ, Bool, true, false, cond, eqb, List, [], ◌∷◌, ◌++◌, length, filter, find, Option, Some, None, Ok, refl, sym, subst, inl, inr, append_assoc}
+use Rattle.std.proofs.Common.{◌≡◌, ℕ, Bool, true, false, cond, nat_lt, eqb, ◌≤◌, arith, List, [], ◌∷◌, ◌++◌, length, filter, find, Option, Some, None, Ok, refl, sym, subst, inl, inr, append_assoc}
 use Rattle.std.specs.Prelude.{IsSome, ◌⊎◌}
 use Rattle.std.specs.List.{AllByRecursion}
 use Rattle.std.proofs.lemmas.Bool.{eqb-true, false≢true}
+use Rattle.std.proofs.lemmas.Bool.Decides.{nat_tests}
 use Rattle.tlsf_heap.specs.Blocks.{Block, HeapState, size_of, bytes_of, want}
 use Rattle.tlsf_heap.specs.GoodFit.{Site, sites, sites_behind, place_of, is_fit, fits, choice}
 use Rattle.tlsf_heap.specs.Lawful.{IsLawful}
-use Rattle.tlsf_heap.specs.Calls.{Outcome, refused, is_worn, ticked, with_blocks, carved, allocated, allocated_at, is_named, named, coalesced, released, released_at, overwritten, with_bytes, has_bytes, written, written_at, Call, Allocate, Release, Write, Read, answered, run}
+use Rattle.tlsf_heap.specs.Calls.{Outcome, refused, is_worn, ticked, with_blocks, carved, allocated, allocated_at, is_named, named, coalesced, released, released_at, overwritten, with_bytes, has_bytes, written, written_at, refitted, room_of, resized, resized_at, Call, Allocate, Release, Resize, Write, Read, answered, run}
 use Rattle.tlsf_heap.specs.declared.name.Name.{Name}
 use Rattle.tlsf_heap.specs.declared.refusal.Refusal.{Refusal}
-use Rattle.tlsf_heap.specs.declared.refusal.Refusal.TheVariants.{NoFit, Worn, Foreign, Stale, Range}
+use Rattle.tlsf_heap.specs.declared.refusal.Refusal.TheVariants.{NoFit, Worn, Foreign, Stale, Range, NoRoom}
 use Rattle.tlsf_heap.proofs.Finding.{and_left}
 use Rattle.tlsf_heap.proofs.Allocating.{lawful_carved}
 use Rattle.tlsf_heap.proofs.Releasing.{lawful_at}
+use Rattle.tlsf_heap.proofs.Resizing.{lawful_refitted}
 use Rattle.tlsf_heap.proofs.Writing.{lawful_bytes, length-overwritten, range_fits}
 
 -- ---- what a search finds
@@ -20,6 +22,10 @@ use Rattle.tlsf_heap.proofs.Writing.{lawful_bytes, length-overwritten, range_fit
 pub by_test : {X : Type 0} (P : X → Type 0) (b : Bool) (x y : X) → (b ≡ true → P x) → P y → P (cond b x y)
 by_test P true x y f g = f refl
 by_test P false x y f g = g
+
+unless : {X : Type 0} (P : X → Type 0) (b : Bool) (x y : X) → P x → (b ≡ false → P y) → P (cond b x y)
+unless P true x y f g = f
+unless P false x y f g = g refl
 
 module _ {X : Type 0} where
   found_or : (P : X → Type 0) (p : X → Bool) (b : Bool) (y : X) (rest : Option X) (x : X) → p y ≡ b → P y → (rest ≡ Some x → P x × (p x ≡ true)) → cond b (Some y) rest ≡ Some x → P x × (p x ≡ true)
@@ -86,6 +92,21 @@ by_released P h name if_refused if_done =
     at own None e = if_refused Stale
     at own (Some s) e = let site = named_site name h.blocks s e in by_test P (is_worn h) (refused h Worn) (takes h s) (λ _. if_refused Worn) (if_done s own site.0 site.1)
 
+abbrev pub resizes : HeapState → ℕ → Site → Outcome (Unit {0})
+resizes h len s = record { answer = Ok tt; heap = ticked h (s.before ++ refitted h.tick (want len) len s.block s.after) }
+
+pub by_resized : (P : Outcome (Unit {0}) → Type 0) (h : HeapState) (name : Name) (len : ℕ) → ((why : Refusal) → P (refused h why))
+    → ((s : Site) → name.heap ≡ h.id → IsSiteOf h.blocks s → is_named name.at name.serial s ≡ true → want len ≤ room_of s.block s.after → P (resizes h len s)) → P (resized h name len)
+by_resized P h name len if_refused if_done =
+    by_test P (eqb name.heap h.id) (resized_at h len (named name h.blocks)) (refused h Foreign) (λ own. at (eqb-true name.heap h.id own) (named name h.blocks) refl) (if_refused Foreign)
+  where
+    at : name.heap ≡ h.id → (o : Option Site) → named name h.blocks ≡ o → P (resized_at h len o)
+    at own None e = if_refused Stale
+    at own (Some s) e =
+        let site = named_site name h.blocks s e in
+        unless P (nat_lt (room_of s.block s.after) (want len)) (refused h NoRoom) _ (if_refused NoRoom)
+        (λ t. by_test P (is_worn h) (refused h Worn) (resizes h len s) (λ _. if_refused Worn) (if_done s own site.0 site.1 (grind (arith, nat_tests))))
+
 abbrev pub writes : HeapState → ℕ → List ℕ → Site → Outcome (Unit {0})
 writes h at bytes s = record { answer = Ok tt; heap = with_blocks h (s.before ++ with_bytes s.block (overwritten (bytes_of s.block) at bytes) ∷ s.after) }
 
@@ -102,6 +123,7 @@ by_written P h name at bytes if_refused if_done = by_test P (eqb name.heap h.id)
 pub ids : (h : HeapState) (call : Call) → (answered h call).1.id ≡ h.id
 ids h (Allocate len) = by_allocated (λ o. o.heap.id ≡ h.id) h len (λ why. refl) (λ s site fit. refl)
 ids h (Release name) = by_released (λ o. o.heap.id ≡ h.id) h name (λ why. refl) (λ s own site is. refl)
+ids h (Resize name len) = by_resized (λ o. o.heap.id ≡ h.id) h name len (λ why. refl) (λ s own site is room. refl)
 ids h (Write name at bytes) = by_written (λ o. o.heap.id ≡ h.id) h name at bytes (λ why. refl) (λ s site has. refl)
 ids h (Read name at n) = refl
 
@@ -113,6 +135,8 @@ lawful_call h (Allocate len) lawful =
     by_allocated (λ o. IsLawful o.heap) h len (λ why. lawful) (λ s site fit. lawful_carved h s.before s.after s.block len fit (lawful_site h s site lawful))
 lawful_call h (Release name) lawful =
     by_released (λ o. IsLawful o.heap) h name (λ why. lawful) (λ s own site is. lawful_at h s.before s.after s.block name.serial (and_left _ _ is) (lawful_site h s site lawful))
+lawful_call h (Resize name len) lawful =
+    by_resized (λ o. IsLawful o.heap) h name len (λ why. lawful) (λ s own site is room. lawful_refitted h s.before s.after s.block name.serial len (and_left _ _ is) room (lawful_site h s site lawful))
 lawful_call h (Write name at bytes) lawful =
     by_written (λ o. IsLawful o.heap) h name at bytes (λ why. lawful) (λ s site has.
     lawful_bytes h s.before s.after s.block _ (length-overwritten (bytes_of s.block) bytes at (range_fits s.block at (length bytes) has)) (lawful_site h s site lawful))

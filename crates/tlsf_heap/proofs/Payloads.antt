@@ -17,11 +17,11 @@ use Rattle.tlsf_heap.proofs.Edited.{Leaves, leaves, one_changed}
 
 -- ---- bytes of words
 
-length-bytes_in : (words : List ℕ) (from len : ℕ) → length (bytes_in words from len) ≡ len
+pub length-bytes_in : (words : List ℕ) (from len : ℕ) → length (bytes_in words from len) ≡ len
 unfolding bytes_in
 length-bytes_in words from len = length-map-range_with_len (byte_in words) from len
 
-get_or-bytes_in : (words : List ℕ) (from len i j : ℕ) → i < len → from + i ≡ j → get_or (bytes_in words from len) i 0 ≡ byte_in words j
+pub get_or-bytes_in : (words : List ℕ) (from len i j : ℕ) → i < len → from + i ≡ j → get_or (bytes_in words from len) i 0 ≡ byte_in words j
 unfolding bytes_in
 get_or-bytes_in words from len i j inside e = get_or-map-range_with_len (byte_in words) from len i j 0 inside e
 
@@ -78,7 +78,7 @@ bytes_written xs ys from len offset new fits written before behind =
 -- ---- the payload of a block
 
 -- the bytes behind a header are the payload
-held_bytes : (words : List ℕ) (at : ℕ) (b : Block) → HoldsPayload words at b → bytes_in words (8 * (at + 3)) (length (bytes_of b)) ≡ bytes_of b
+pub held_bytes : (words : List ℕ) (at : ℕ) (b : Block) → HoldsPayload words at b → bytes_in words (8 * (at + 3)) (length (bytes_of b)) ≡ bytes_of b
 unfolding bytes_in
 held_bytes words at (Live size serial bytes) h = h.1
 held_bytes words at (Free size stamp) h = refl
@@ -119,7 +119,7 @@ pub is_free-with_bytes : (b : Block) (bytes : List ℕ) → is_free (with_bytes 
 is_free-with_bytes (Live size serial old) bytes = refl
 is_free-with_bytes (Free size stamp) bytes = refl
 
-mark_of-with_bytes : (b : Block) (bytes : List ℕ) → mark_of (with_bytes b bytes) ≡ mark_of b
+pub mark_of-with_bytes : (b : Block) (bytes : List ℕ) → mark_of (with_bytes b bytes) ≡ mark_of b
 mark_of-with_bytes (Live size serial old) bytes = refl
 mark_of-with_bytes (Free size stamp) bytes = refl
 

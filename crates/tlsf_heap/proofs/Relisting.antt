@@ -15,7 +15,7 @@ use Rattle.tlsf_heap.proofs.Linking.{HoldsState, IsListed, Relists, relisted, fr
 
 module _ {m v : Image} {l : ListHeads} {r : RegionState} (state : HoldsState m l r) {at : ℕ} where
   -- one block becomes another of its size, which is free where that was and is listed
-  one_relisted : {i : ℕ} → StandsAt r.blocks at i → (new : ℕ → Block) → Leaves v r.blocks at (λ i. take i r.blocks ++ (new i ∷ []) ++ drop (i + 1) r.blocks)
+  pub one_relisted : {i : ℕ} → StandsAt r.blocks at i → (new : ℕ → Block) → Leaves v r.blocks at (λ i. take i r.blocks ++ (new i ∷ []) ++ drop (i + 1) r.blocks)
       → length v.words ≡ length m.words → size_of (new i) ≡ size_of (block_at r.blocks i)
       → ((other : ℕ) → IsListed (list_in r.lists) other → other ≡ at → is_free (block_at r.blocks i) ≡ true → is_free (new i) ≡ true)
       → ((other : ℕ) → IsListed (list_in r.lists) other → (other ≡ at) ⊎ ((other + 4 ≤ at) ⊎ (at + size_of (block_at r.blocks i) ≤ other)) → word_at v (other + 2) ≡ word_at m (other + 2))

@@ -57,7 +57,7 @@ places_here at (Live m s old) new back = refl
 places_here at (Free m s) new back = refl
 
 -- and its free places stay
-places_bytes : (front back : List Block) (b : Block) (new : List ℕ) → free_places 0 (front ++ with_bytes b new ∷ back) ≡ free_places 0 (front ++ b ∷ back)
+pub places_bytes : (front back : List Block) (b : Block) (new : List ℕ) → free_places 0 (front ++ with_bytes b new ∷ back) ≡ free_places 0 (front ++ b ∷ back)
 places_bytes front back b new =
     free_places-append 0 front _ ∙ ap (λ places. free_places 0 front ++ places) (places_here (0 + words_in front) b new back) ∙ sym (free_places-append 0 front (b ∷ back))
 

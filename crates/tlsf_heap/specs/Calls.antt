@@ -1,10 +1,10 @@
 -- What the calls of a heap answer and leave.
-use Rattle.std.specs.Prelude.{ℕ, ◌+◌, ◌-◌, ◌^◌, List, [], ◌∷◌, ◌++◌, Option, Some, None, Result, Ok, Err, Bool, false, ◌&&◌, ◌==◌, nat_le, if◌then◌else◌, find, replicate, reverse, length, take, drop}
+use Rattle.std.specs.Prelude.{ℕ, ◌+◌, ◌-◌, ◌^◌, List, [], ◌∷◌, ◌++◌, Option, Some, None, Result, Ok, Err, Bool, false, ◌&&◌, ◌==◌, nat_le, nat_lt, if◌then◌else◌, find, replicate, reverse, length, take, drop}
 use Rattle.tlsf_heap.specs.Blocks.{Block, Live, Free, HeapState, size_of, bytes_of, want}
 use Rattle.tlsf_heap.specs.GoodFit.{Site, sites, place_of, choice}
 use Rattle.tlsf_heap.specs.declared.name.Name.{Name}
 use Rattle.tlsf_heap.specs.declared.refusal.Refusal.{Refusal}
-use Rattle.tlsf_heap.specs.declared.refusal.Refusal.TheVariants.{NoFit, Worn, Foreign, Stale, Range}
+use Rattle.tlsf_heap.specs.declared.refusal.Refusal.TheVariants.{NoFit, Worn, Foreign, Stale, Range, NoRoom}
 
 -- an answer, and the heap that the call leaves
 pub record Outcome (A : Type 0) : Type 0 where
@@ -127,6 +127,46 @@ written_at h at bytes (Some s) = if has_bytes s.block at (length bytes) then rec
 abbrev pub written : HeapState → Name → ℕ → List ℕ → Outcome (Unit {0})
 written h name at bytes = if name.heap == h.id then written_at h at bytes (named name h.blocks) else refused h Foreign
 
+-- ---- resize
+
+-- bytes of another length: those up to the smaller length stay, and new ones are zero
+abbrev pub fitted : List ℕ → ℕ → List ℕ
+fitted bytes len = take len bytes ++ replicate (len - length bytes) 0
+
+-- a live block in `room` words, of which it keeps n where four or more are left: those are then a free block
+abbrev pub cut : ℕ → ℕ → ℕ → ℕ → List ℕ → List Block
+cut room n tick serial bytes =
+    if nat_le (n + 4) room then Live n serial bytes ∷ Free (room - n) tick ∷ [] else Live room serial bytes ∷ []
+
+-- the words in which a block can grow where it stands: its own, and those of a free block behind it
+abbrev pub room_of : Block → List Block → ℕ
+room_of block after = size_of block + first_free after
+
+-- a live block takes the free block behind it in, and is cut at n words
+abbrev pub recut : ℕ → ℕ → Block → List Block → List Block
+recut tick n (Live size serial bytes) after = cut (size + first_free after) n tick serial bytes ++ past_free after
+recut tick n (Free size stamp) after = Free size stamp ∷ after
+
+-- whether n words leave fewer than four of a block's over
+abbrev pub is_sized : ℕ → Block → Bool
+is_sized n block = nat_le n (size_of block) && nat_lt (size_of block) (n + 4)
+
+-- a live block and those behind it, once it has `len` bytes, for which it needs n words
+abbrev pub refitted : ℕ → ℕ → ℕ → Block → List Block → List Block
+refitted tick n len block after =
+    let new = with_bytes block (fitted (bytes_of block) len) in if is_sized n block then new ∷ after else recut tick n new after
+
+abbrev pub resized_at : HeapState → ℕ → Option Site → Outcome (Unit {0})
+resized_at h len None = refused h Stale
+resized_at h len (Some s) = if nat_lt (room_of s.block s.after) (want len) then refused h NoRoom else (if is_worn h then refused h Worn else record {
+  answer = Ok tt;
+  heap = ticked h (s.before ++ refitted h.tick (want len) len s.block s.after);
+})
+
+-- the block that a name names gets `len` bytes where it stands
+abbrev pub resized : HeapState → Name → ℕ → Outcome (Unit {0})
+resized h name len = if name.heap == h.id then resized_at h len (named name h.blocks) else refused h Foreign
+
 -- ---- read
 
 abbrev pub read_at : ℕ → ℕ → Option Site → Result (List ℕ) Refusal
@@ -147,6 +187,7 @@ read_answer (Err why) = Err why
 pub data Call : Type 0 where
   Allocate : ℕ → Call  -- a length in bytes
   Release : Name → Call
+  Resize : Name → ℕ → Call  -- to a length in bytes
   Write : Name → ℕ → List ℕ → Call  -- from this byte on, these bytes
   Read : Name → ℕ → ℕ → Call  -- from this byte on, so many bytes
 
@@ -154,6 +195,7 @@ pub data Call : Type 0 where
 pub data Answer : Type 0 where
   Allocated : Result Name Refusal → Answer
   Released : Result (Unit {0}) Refusal → Answer
+  Resized : Result (Unit {0}) Refusal → Answer
   Written : Result (Unit {0}) Refusal → Answer
   Got : Result (List ℕ) Refusal → Answer
 
@@ -161,6 +203,7 @@ pub data Answer : Type 0 where
 abbrev pub answered : HeapState → Call → Answer × HeapState
 answered h (Allocate len) = (Allocated (allocated h len).answer, (allocated h len).heap)
 answered h (Release name) = (Released (released h name).answer, (released h name).heap)
+answered h (Resize name len) = (Resized (resized h name len).answer, (resized h name len).heap)
 answered h (Write name at bytes) = (Written (written h name at bytes).answer, (written h name at bytes).heap)
 answered h (Read name at n) = (Got (read_of h name at n), h)
 

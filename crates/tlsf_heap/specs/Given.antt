@@ -1,4 +1,4 @@
--- What an allocate gave.
+-- What an allocate gave, and what a resize left.
 use Rattle.std.specs.Prelude.{ℕ, Option, Some, None, Result, Ok, Err}
 use Rattle.tlsf_heap.specs.Blocks.{HeapState, payload_words}
 use Rattle.tlsf_heap.specs.GoodFit.{Site}
@@ -15,3 +15,8 @@ payload_words_at (Some s) = payload_words s.block
 abbrev pub payload_words_given : Result Name Refusal → HeapState → ℕ
 payload_words_given (Err why) h = 0
 payload_words_given (Ok name) h = payload_words_at (named name h.blocks)
+
+-- the payload words of the block of this name in the heap that a resize of it left; 0 where that was refused
+abbrev pub payload_words_left : Result (Unit {0}) Refusal → HeapState → Name → ℕ
+payload_words_left (Err why) h name = 0
+payload_words_left (Ok done) h name = payload_words_at (named name h.blocks)

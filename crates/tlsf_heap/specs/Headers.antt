@@ -70,3 +70,20 @@ pub record Merges (old new : Image) (at : ℕ) (around : Neighbours) (stamp : �
   pub next : NamesBefore old.words new.words (at - around.before + around.tag.size) (at - around.before)
   pub only : OnlyFrom old.words new.words (at - around.before) (at - around.before + around.tag.size + 1)
   pub starts : new.starts ≡ without_start (without_start old.starts at around.before) (at - around.before + around.tag.size - around.after) around.after
+
+-- a live block and the `after` free words behind it become a live block of this tag
+pub record Widens (old new : Image) (at : ℕ) (tag : Tag) (after : ℕ) : Type 0 where
+  pub header : slice_index new.words at ≡ tag_word tag.size tag.last false tag.back
+  pub next : NamesBefore old.words new.words (at + tag.size) at
+  pub kept : (k : ℕ) → at < k → k < at + tag.size → slice_index new.words k ≡ slice_index old.words k
+  pub only : OnlyFrom old.words new.words at (at + tag.size + 1)
+  pub starts : new.starts ≡ without_start old.starts (at + tag.size - after) after
+
+-- or one of `size` words and a free rest
+pub record Recuts (old new : Image) (at : ℕ) (tag : Tag) (after size stamp : ℕ) : Type 0 where
+  pub header : slice_index new.words at ≡ tag_word size false false tag.back
+  pub rest : HasFree new.words (at + size) (tag.size - size) tag.last at stamp
+  pub next : NamesBefore old.words new.words (at + tag.size) (at + size)
+  pub kept : (k : ℕ) → at < k → k < at + size → slice_index new.words k ≡ slice_index old.words k
+  pub only : OnlyFrom old.words new.words at (at + tag.size + 1)
+  pub starts : new.starts ≡ slice_set (without_start old.starts (at + tag.size - after) after) (at + size) true

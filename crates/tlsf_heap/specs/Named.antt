@@ -7,7 +7,7 @@ use Rattle.tlsf_heap.specs.Regions.{IsTagOf}
 use Rattle.tlsf_words.specs.declared.tag.Tag.{Tag}
 use Rattle.tlsf_heap.specs.declared.name.Name.{Name}
 use Rattle.tlsf_heap.specs.declared.refusal.Refusal.{Refusal}
-use Rattle.tlsf_heap.specs.declared.refusal.Refusal.TheVariants.{NoFit, Worn, Foreign, Stale, Range}
+use Rattle.tlsf_heap.specs.declared.refusal.Refusal.TheVariants.{NoFit, Worn, Foreign, Stale, Range, NoRoom}
 
 -- no live block begins at this place with this serial
 abbrev pub NoneNamed : ℕ → ℕ → List Block → Type 0
@@ -35,6 +35,7 @@ RefusesName h name Stale = (name.heap ≡ h.id) × NoneNamed name.at name.serial
 RefusesName h name NoFit = ⊥
 RefusesName h name Worn = ⊥
 RefusesName h name Range = ⊥
+RefusesName h name NoRoom = ⊥
 
 -- what the check of a name answers: the tag of its block
 abbrev pub IsNameCheck : HeapState → Name → Result Tag Refusal → Type 0

@@ -1,7 +1,7 @@
 -- The numbers that stand for refusals and faults.
 use Rattle.std.specs.Prelude.{ℕ}
 use Rattle.tlsf_heap.specs.declared.refusal.Refusal.{Refusal}
-use Rattle.tlsf_heap.specs.declared.refusal.Refusal.TheVariants.{NoFit, Worn, Foreign, Stale, Range}
+use Rattle.tlsf_heap.specs.declared.refusal.Refusal.TheVariants.{NoFit, Worn, Foreign, Stale, Range, NoRoom}
 use Rattle.tlsf_heap.specs.declared.open_fault.OpenFault.{OpenFault}
 use Rattle.tlsf_heap.specs.declared.open_fault.OpenFault.TheVariants as fault
 
@@ -11,6 +11,7 @@ number_of Worn = 2
 number_of Foreign = 3
 number_of Stale = 4
 number_of Range = 7
+number_of NoRoom = 10
 
 abbrev pub fault_number_of : OpenFault → ℕ
 fault_number_of fault.BadSize = 5

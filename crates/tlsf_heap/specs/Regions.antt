@@ -56,6 +56,11 @@ pub record AreNeighbours (words : ℕ) (s : Site) (around : Neighbours) : Type 0
   pub last : around.tag.last ≡ (place_of s + size_of s.block + first_free s.after == words)
   pub back : around.tag.back ≡ back_behind 0 nowhere (before_free s.before)
 
+-- the tag of the free block behind a block in a region of so many words; of size 0 where there is none
+pub record IsTagBehind (words : ℕ) (s : Site) (tag : Tag) : Type 0 where
+  pub size : tag.size ≡ first_free s.after
+  pub last : tag.last ≡ (place_of s + size_of s.block + first_free s.after == words)
+
 -- of the lists of all classes, that of one
 abbrev pub list_in : List (List ℕ) → ℕ → List ℕ
 list_in lists class = slice_index_or lists class []

@@ -1,7 +1,7 @@
 //! The words of headers: what is written where a block is given or taken back. Each word is written once. Sizes and places are in
 //! words.
 ghost use Rattle.std.specs.Prelude.{◌≡◌, ℕ, ◌+◌, ◌-◌, ◌<◌, ◌≤◌, ◌^◌, true, length, slice_set};
-ghost use Rattle.tlsf_heap.specs.Headers.{HasFree, HasLive, NamesBefore, OnlyFrom, RisesBy, Wholes, Splits, Merges, without_start};
+ghost use Rattle.tlsf_heap.specs.Headers.{HasFree, HasLive, NamesBefore, OnlyFrom, RisesBy, Wholes, Splits, Merges, Widens, Recuts, without_start};
 ghost use Rattle.tlsf_heap.specs.Regions.{image_of};
 ghost use Rattle.tlsf_words.specs.Lists.{nowhere};
 
@@ -108,6 +108,52 @@ pub fn merge_headers(words: &mut Words, at: u32, around: Neighbours, stamp: u64)
     clear_start(words, end - around.after, around.after);
     write_free(words, place, around.tag, stamp);
     set_back(words, end, place);
+}
+
+/// Writes the header of the live block of this tag that a live block at a place and the `after` free words behind it become. Its
+/// mark, its length and its payload stay.
+pub fn widen_header(words: &mut Words, at: u32, tag: Tag, after: u32)
+    requires after { after + 4 ≤ tag.size }
+    requires within { at + tag.size ≤ length words.old.words }
+    requires small { length words.old.words ≤ 2 ^ 20 }
+    ensures change { Widens (image_of words.old) (image_of words.new) at tag after }
+    ensures touches { RisesBy words.old.touches words.new.touches 4 }
+{
+    clear_start(words, at + tag.size - after, after);
+    set_back(words, at + tag.size, at);
+    let live = Tag { free: false, ..tag };
+    words.set_tag(at, live);
+}
+
+/// Makes the live block at a place and the `after` free words behind it, which have this tag together, a live block of `size` words
+/// and a free rest. The mark, the length and the payload of the first stay.
+pub fn recut_header(words: &mut Words, at: u32, tag: Tag, after: u32, size: u32, stamp: u64)
+    requires least { 4 ≤ size }
+    requires room { size + 4 ≤ tag.size }
+    requires after { after + 4 ≤ tag.size }
+    requires within { at + tag.size ≤ length words.old.words }
+    requires small { length words.old.words ≤ 2 ^ 20 }
+    ensures change { Recuts (image_of words.old) (image_of words.new) at tag after size stamp }
+    ensures touches { RisesBy words.old.touches words.new.touches 7 }
+{
+    clear_start(words, at + tag.size - after, after);
+    let place = at + size;
+    let left = tag.size - size;
+    let rest = Tag {
+        size: left,
+        back: at,
+        ..tag
+    };
+    write_free(words, place, rest, stamp);
+    words.set_start(place, true);
+    set_back(words, place + left, place);
+    let front = Tag {
+        size,
+        last: false,
+        free: false,
+        ..tag
+    };
+    words.set_tag(at, front);
 }
 
 /// Says that no block starts at a place where a block is merged with `size` words of a neighbour. Where that is 0 there is none.

@@ -8,13 +8,14 @@ ghost use Rattle.tlsf_heap.specs.GoodFit.{fits, block_at};
 ghost use Rattle.tlsf_heap.specs.Named.{IsFirst, IsNameCheck};
 ghost use Rattle.tlsf_heap.specs.Placed.{placed_at};
 ghost use Rattle.tlsf_heap.specs.Reports.{report_of, IsGrant};
-ghost use Rattle.tlsf_heap.specs.Given.{payload_words_given};
-ghost use Rattle.tlsf_heap.specs.Calls.{opened, allocated, released, written, read_of, read_answer, has_bytes, last_tick};
+ghost use Rattle.tlsf_heap.specs.Given.{payload_words_given, payload_words_left};
+ghost use Rattle.tlsf_heap.specs.Calls.{opened, allocated, released, resized, written, read_of, read_answer, has_bytes, last_tick};
 
 use crate::fitting::{carve, choose, coalesce};
 use crate::name::Name;
 use crate::open_fault::OpenFault;
 use crate::placed_block::PlacedBlock;
+use crate::refitting::{look_behind, refit};
 use crate::refusal::Refusal;
 use crate::region::Region;
 use crate::report::Report;
@@ -30,7 +31,7 @@ mod image_tests;
 /// A heap over a region of 4 to 2^20 words, kept by two-level segregated fit (ECRTS 2004, section 3).
 ///
 /// Contracts see it as its number, its words, its tick and its blocks in the order of their places. The tick begins
-/// one above the first, rises by one with each accepted allocate or release, and stamps what they change. Beside them
+/// one above the first, rises by one with each accepted allocate, release or resize, and stamps what they change. Beside them
 /// they see what is stored in its region, each word and start bit, and its touches: how many times a stored word, a start
 /// bit, the head of a list or a word of the bitmaps was read or written.
 ///
@@ -193,6 +194,62 @@ impl Heap {
         Ok(())
     }
 
+    /// Makes the payload of the block of that name `len` bytes long, where the block stands: its place and serial stay, so the name
+    /// stays live. The bytes up to the smaller length stay, and new ones are zero.
+    ///
+    /// A block that has the words wanted, and fewer than four more, keeps its size. Every other one takes in the free block behind it;
+    /// where four words or more are left of both, they are a free block, stamped with the tick. No block moves: where there is no room,
+    /// the caller may allocate, copy and release.
+    ///
+    /// Refused as `Foreign` where the name is of another heap, else as `Stale` where no live block has that place and serial, else as
+    /// `NoRoom` where the block and a free one behind it have fewer words than wanted, else as `Worn` where the tick is at its last
+    /// value. Takes no memory.
+    ///
+    /// ```text
+    /// let name = heap.allocate(8)?;            // of a new heap of 64 words: 4 of them
+    /// heap.resize(name, 100) == Ok(())         // 16 words at place 0, and 48 free behind them
+    /// heap.resize(name, 1000) == Err(Refusal::NoRoom)
+    /// ```
+    pub fn resize(&mut self, name: Name, len: u32) -> Result<(), Refusal>
+        ensures answer { result ≡ (resized self.old.heap name len).answer }
+        ensures heap { self.new.heap ≡ (resized self.old.heap name len).heap }
+
+        // A refusal changes nothing.
+        ensures err { OnErr result (self.new.heap ≡ self.old.heap) }
+        ensures stored { OnErr result (self.new.stored ≡ self.old.stored) }
+        ensures was_lawful { IsLawful self.old.heap }
+        ensures lawful { IsLawful self.new.heap }
+        ensures shows { Shows self.new.stored self.new.heap.blocks }
+
+        // Accepted or refused, and whatever the region holds: at most 64 touches, and one for each payload word of the block that is left.
+        ensures touches { self.new.touches ≤ self.old.touches + 64 + payload_words_left result self.new.heap name }
+
+        // The count of this code: 3 to check the name, 1 for the tag behind, 6 to take that block out of its list, 7 for the headers, 7 to list
+        // the rest, and 3 for the payload besides its words.
+        ensures most_touches { self.new.touches ≤ self.old.touches + 27 + payload_words_left result self.new.heap name }
+        ensures touches_rise { self.old.touches ≤ self.new.touches }
+
+        // A forged name is not followed: not even a start bit is read unless the place lies in the region, and no word unless a block begins there.
+        ensures foreign { name.heap ≢ self.old.heap.id → self.new.touches ≡ self.old.touches }
+        ensures outside { self.old.heap.words ≤ name.at → self.new.touches ≡ self.old.touches }
+        ensures nowhere { name.heap ≡ self.old.heap.id → name.at < self.old.heap.words → ¬ (IsPlace self.old.heap.blocks name.at)
+            → self.new.touches ≡ self.old.touches + 1 }
+    {
+        let own = self.check(name)?;
+        let words = want(len);
+        let next = look_behind(&mut self.region, name.at, own);
+        let room = own.size + next.size;
+        if room < words {
+            return Err(Refusal::NoRoom);
+        }
+        if self.tick == u64::MAX {
+            return Err(Refusal::Worn);
+        }
+        refit(&mut self.region, name.at, own, next, words, len, self.tick);
+        self.tick += 1;
+        Ok(())
+    }
+
     /// Writes bytes into the payload of the block of that name, from byte `at` of it on.
     ///
     /// Refused as `Foreign` where the name is of another heap, else as `Stale` where no live block has that place and
@@ -304,7 +361,7 @@ impl Heap {
         self.region.block_at(at)
     }
 
-    /// The tick of the heap: that which the next accepted allocate or release stamps, 1 to 2^64 - 1. A block that is free since tick
+    /// The tick of the heap: that which the next accepted allocate, release or resize stamps, 1 to 2^64 - 1. A block that is free since tick
     /// s has been free for `tick - s` ticks.
     ///
     /// ```text

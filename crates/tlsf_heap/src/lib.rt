@@ -14,8 +14,8 @@
 //! thread the free blocks of each class into a list: the one that became free last is its head.
 //!
 //! They also count its touches, each read or write of a stored word, a start bit, the head of a list or a word of the
-//! bitmaps. A release makes at most 64, an allocate at most 64 and one for each payload word of the block that it gives,
-//! however many blocks the region has. The count has no bytes at run time.
+//! bitmaps. A release makes at most 64, an allocate at most 64 and one for each payload word of the block that it gives, a
+//! resize at most 64 and one for each payload word of the block that it leaves, however many blocks the region has. The count has no bytes at run time.
 #![tactic(auto)]
 
 mod fitting;
@@ -25,7 +25,9 @@ mod laws;
 mod name;
 mod neighbours;
 mod open_fault;
+mod payload;
 mod placed_block;
+mod refitting;
 mod refusal;
 mod region;
 mod report;

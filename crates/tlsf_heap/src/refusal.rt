@@ -20,6 +20,9 @@ pub enum Refusal {
     /// The bytes that were named go past the end of the payload.
     #[error("the payload ends before")]
     Range,
+    /// The block and a free one behind it have fewer words than the resize wants.
+    #[error("there is no room behind the block")]
+    NoRoom,
 }
 
 impl Refusal {
@@ -35,6 +38,7 @@ impl Refusal {
             Refusal::Foreign => 3,
             Refusal::Stale => 4,
             Refusal::Range => 7,
+            Refusal::NoRoom => 10,
         }
     }
 }

@@ -9,10 +9,13 @@ ghost use Rattle.tlsf_heap.specs.Image.{mark_of};
 ghost use Rattle.tlsf_heap.specs.Lawful.{HasRoom};
 ghost use Rattle.tlsf_heap.specs.Named.{IsNameTest};
 ghost use Rattle.tlsf_heap.specs.Placed.{placed_at};
-ghost use Rattle.tlsf_heap.specs.Regions.{list_in, AreUnlisted, EachAt, HasAt, IsTagOf, AreNeighbours, rest_of, OnlyReads, Rewrites, PutInFront, TakenOut, IsOpened};
+ghost use Rattle.tlsf_heap.specs.Regions.{list_in, AreUnlisted, EachAt, HasAt, IsTagOf, IsTagBehind, AreNeighbours, rest_of, OnlyReads, Rewrites, PutInFront, TakenOut, IsOpened};
 
-use crate::headers::{first_header, live_header, merge_headers, split_header};
+use crate::headers::{
+    first_header, live_header, merge_headers, recut_header, split_header, widen_header,
+};
 use crate::neighbours::Neighbours;
+use crate::payload::set_payload;
 use crate::placed_block::{Content, PlacedBlock};
 use std::alloc::Global;
 use std::marker::Model;
@@ -166,6 +169,43 @@ impl Region {
             (s.before ++ (Calls.with_bytes s.block (Calls.overwritten (bytes_of s.block) offset bytes.now) ∷ []) ++ s.after) (2 * (length bytes.now / 8 + 2))) }
     {
         self.words.copy_in(at, offset, bytes);
+    }
+
+    /// Makes the payload of the live block at a place `len` bytes long, for which the block has room. The bytes up to the smaller
+    /// length stay, and new ones are zero.
+    pub fn set_payload(&mut self, at: u32, len: u32)
+        requires { HasAt self.old.blocks at (λ s. (is_free s.block ≡ false) × (words_for len ≤ size_of s.block)) }
+        ensures { EachAt self.old.blocks at (λ s. Rewrites self.old self.new
+            (s.before ++ (Calls.with_bytes s.block (Calls.fitted (bytes_of s.block) len) ∷ []) ++ s.after) (words_for len)) }
+    {
+        set_payload(&mut self.words, at, len);
+    }
+
+    /// Makes the live block at a place and the free block behind it, of these tags, a live block of `size` words and a free rest; a
+    /// live block of them all where the rest would have fewer than four words. The payload stays. Answers the size of the rest, or 0.
+    pub fn recut(&mut self, at: u32, own: Tag, next: Tag, size: u32, stamp: u64) -> u32
+        requires least { 4 ≤ size }
+        requires live { HasAt self.old.blocks at (λ s. (is_free s.block ≡ false) × (words_for (length (bytes_of s.block)) ≤ size)) }
+        requires own { EachAt self.old.blocks at (λ s. IsTagOf self.old.words s own) }
+        requires next { EachAt self.old.blocks at (λ s. IsTagBehind self.old.words s next) }
+        requires room { size ≤ own.size + next.size }
+        requires small { own.size + next.size ≤ 2 ^ 20 }
+        requires unlisted { AreUnlisted (list_in self.old.lists) at (at + own.size + next.size) }
+        ensures rest { result ≡ rest_of (own.size + next.size) size }
+        ensures change { EachAt self.old.blocks at (λ s. Rewrites self.old self.new (s.before ++ Calls.recut stamp size s.block s.after) 7) }
+    {
+        let whole = Tag {
+            size: own.size + next.size,
+            last: next.last,
+            ..own
+        };
+        if whole.size < size + 4 {
+            widen_header(&mut self.words, at, whole, next.size);
+            return 0;
+        }
+        let left = whole.size - size;
+        recut_header(&mut self.words, at, whole, next.size, size, stamp);
+        left
     }
 
     /// Makes the block at a place, which is in no list, a live one of `size` words with `len` bytes of payload, all zero, and a free

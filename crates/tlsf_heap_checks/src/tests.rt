@@ -1,12 +1,13 @@
 //! Tests of public calls: what no contract says, and no stored case shows.
 
+mod blocks;
 mod classes;
 mod heaps;
 mod lane_threads;
 mod lanes;
 mod lists;
 mod locked_heaps;
-mod maps;
 mod payloads;
 mod pools;
+mod resizes;
 mod words;

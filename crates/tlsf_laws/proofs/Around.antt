@@ -4,10 +4,11 @@ use Rattle.std.specs.List.{AllByRecursion}
 use Rattle.tlsf_heap.specs.Blocks.{Block, Live, Free, HeapState}
 use Rattle.tlsf_heap.specs.GoodFit.{Site}
 use Rattle.tlsf_heap.specs.Lawful.{IsLawful}
-use Rattle.tlsf_heap.specs.Calls.{Call, Allocate, Release, Write, Read, past_free, before_free, answered, opened, run}
+use Rattle.tlsf_heap.specs.Calls.{Call, Allocate, Release, Write, Resize, Read, past_free, before_free, answered, opened, run}
 use Rattle.tlsf_heap.proofs.Lawfulness.{all_left, all_right}
 use Rattle.tlsf_heap.proofs.Coalescing.{by_last}
 use Rattle.tlsf_heap.proofs.Outcomes.{by_allocated, by_released, by_written}
+use Rattle.tlsf_laws.proofs.Refits.{by_resize}
 
 module _ (P : Block → Type 0) where
   pub past_all : (bs : List Block) → AllByRecursion P bs → AllByRecursion P (past_free bs)
@@ -29,6 +30,7 @@ pub words_kept : (h : HeapState) (call : Call) → (answered h call).1.words ≡
 words_kept h (Allocate n) = by_allocated (λ o. o.heap.words ≡ h.words) h n (λ why. refl) (λ s site fit. refl)
 words_kept h (Release name) = by_released (λ o. o.heap.words ≡ h.words) h name (λ why. refl) (λ s own site is. refl)
 words_kept h (Write name at bytes) = by_written (λ o. o.heap.words ≡ h.words) h name at bytes (λ why. refl) (λ s site has. refl)
+words_kept h (Resize name len) = by_resize (λ o. o.heap.words ≡ h.words) h name len (λ why. refl) (λ s own e site is. refl)
 words_kept h (Read name at n) = refl
 
 pub words_run : (h : HeapState) (calls : List Call) → (run h calls).1.words ≡ h.words

@@ -1,12 +1,13 @@
 -- As many blocks are live as are held.
 use Rattle.std.proofs.Common.{◌≡◌, ℕ, List, [], ◌∷◌, length, refl, ap, ◌∙◌, arith}
 use Rattle.tlsf_heap.specs.Blocks.{Block, Live, Free, HeapState}
-use Rattle.tlsf_heap.specs.Calls.{Call, Allocate, Release, Write, Read, Allocated, Released, Written, answered, opened, run}
+use Rattle.tlsf_heap.specs.Calls.{Call, Allocate, Release, Write, Resize, Read, Allocated, Released, Written, Resized, answered, opened, run}
 use Rattle.tlsf_heap.specs.Reports.{live_among}
 use Rattle.tlsf_heap.proofs.Outcomes.{by_allocated, by_released, by_written, gives, takes, writes}
 use Rattle.tlsf_laws.specs.Room.{live_count}
 use Rattle.tlsf_laws.specs.Held.{held_after, held_after_all, HoldsWhatIsLive}
-use Rattle.tlsf_laws.proofs.Loads.{load, load_given, load_taken, load_written}
+use Rattle.tlsf_laws.proofs.Loads.{load, load_given, load_taken, load_resized, load_written}
+use Rattle.tlsf_laws.proofs.Refits.{by_resize, refits}
 
 -- one for each live block
 abbrev pub one : ℕ → ℕ
@@ -24,6 +25,8 @@ held_is h (Release name) = by_released (λ o. live_count o.heap ≡ held_after (
     omega (arith, load_taken one h s name.at name.serial site is, counted h.blocks, counted (takes h s).heap.blocks))
 held_is h (Write name at bytes) = by_written (λ o. live_count o.heap ≡ held_after (live_count h) (Write name at bytes) (Written o.answer)) h name at bytes (λ why. refl) (λ s site has.
     omega (arith, load_written one h s at bytes site has, counted h.blocks, counted (writes h at bytes s).heap.blocks))
+held_is h (Resize name len) = by_resize (λ o. live_count o.heap ≡ held_after (live_count h) (Resize name len) (Resized o.answer)) h name len (λ why. refl) (λ s own e site is.
+    omega (arith, load_resized one h s name.at name.serial len site is, counted h.blocks, counted (refits h len s).heap.blocks))
 held_is h (Read name at n) = refl
 
 held_through : (h : HeapState) (calls : List Call) → live_count (run h calls).1 ≡ held_after_all (live_count h) calls (run h calls).0

@@ -10,6 +10,7 @@
 --   ModestCalls: what each call leaves of the bounds of a pool
 --   Names: whether two names are the same
 --   PlannedCalls: what each call leaves of the bounds of a table of kinds
+--   Refits: what a resize comes to, by its cases
 --   Snug: no live block has four words that it doesn't want
 --   Spans: names by the sites of their blocks
 --   Tables: how many blocks fit a table of kinds, and the words they take
@@ -24,6 +25,7 @@ pub mod Looks
 pub mod ModestCalls
 pub mod Names
 pub mod PlannedCalls
+pub mod Refits
 pub mod Snug
 pub mod Spans
 pub mod Tables

@@ -4,12 +4,13 @@ use Rattle.std.proofs.lemmas.List.{length-replicate}
 use Rattle.std.proofs.lemmas.Bool.{false≢true, cases_lt}
 use Rattle.tlsf_heap.specs.Blocks.{Block, Live, Free, HeapState, size_of, bytes_of, want}
 use Rattle.tlsf_heap.specs.GoodFit.{Site, is_fit}
-use Rattle.tlsf_heap.specs.Calls.{carved, has_serial, is_named, past_free, before_free, first_free, last_free, with_bytes, overwritten, has_bytes}
+use Rattle.tlsf_heap.specs.Calls.{carved, has_serial, is_named, past_free, before_free, first_free, last_free, with_bytes, fitted, refitted, overwritten, has_bytes}
 use Rattle.tlsf_heap.proofs.Finding.{and_left}
 use Rattle.tlsf_heap.proofs.Edits.{carved_small, carved_large}
 use Rattle.tlsf_heap.proofs.Coalescing.{by_last}
 use Rattle.tlsf_heap.proofs.Writing.{length-overwritten, range_fits}
 use Rattle.tlsf_heap.proofs.Outcomes.{IsSiteOf, gives, takes, writes}
+use Rattle.tlsf_laws.proofs.Refits.{by_refit, fitted_count, refits}
 
 abbrev pub load : (ℕ → ℕ) → List Block → ℕ
 load f [] = 0
@@ -64,6 +65,21 @@ module _ (f : ℕ → ℕ) where
   load_taken h s at serial site is =
       let left : List Block = Free (last_free s.before + size_of s.block + first_free s.after) h.tick ∷ past_free s.after in
       omega (arith, load_site h s site, load_named serial s.block (and_left _ _ is), load_before s.before, load_past s.after, load-append (before_free s.before) left)
+
+  load_refitted : (tick n len serial : ℕ) (b : Block) (bs : List Block) → has_serial serial b ≡ true → load f (refitted tick n len b bs) ≡ f len + load f bs
+  load_refitted tick n len serial (Free m s) bs e = absurd (false≢true e)
+  load_refitted tick n len serial (Live m s xs) bs e =
+      let many : f (length (fitted xs len)) ≡ f len = ap f (fitted_count xs len) in
+      let past = load_past bs in
+      by_refit (λ l. load f l ≡ f len + load f bs) tick n len m s xs bs (λ enough few. omega (arith, many)) (λ large. omega (arith, many, past)) (λ small. omega (arith, many, past))
+
+  -- an accepted resize puts the number for its length in the place of that for the old one
+  pub load_resized : (h : HeapState) (s : Site) (at serial len : ℕ) → IsSiteOf h.blocks s → is_named at serial s ≡ true
+      → f (length (bytes_of s.block)) + load f (refits h len s).heap.blocks ≡ f len + load f h.blocks
+  load_resized h s at serial len site is =
+      let one : has_serial serial s.block ≡ true = and_left _ _ is in
+      let new : List Block = refitted h.tick (want len) len s.block s.after in
+      omega (arith, load_site h s site, load_named serial s.block one, load-append s.before new, load_refitted h.tick (want len) len serial s.block s.after one)
 
   -- a write leaves it
   pub load_written : (h : HeapState) (s : Site) (at : ℕ) (bytes : List ℕ) → IsSiteOf h.blocks s → has_bytes s.block at (length bytes) ≡ true

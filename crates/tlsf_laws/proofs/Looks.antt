@@ -11,7 +11,7 @@ use Rattle.tlsf_heap.specs.Blocks.{Block, Live, Free, HeapState, size_of, words_
 use Rattle.tlsf_heap.specs.GoodFit.{Site, sites_behind, place_of, is_fit}
 use Rattle.tlsf_words.specs.Lists.{AreDistinct}
 use Rattle.tlsf_heap.specs.Lawful.{IsLawful}
-use Rattle.tlsf_heap.specs.Calls.{Outcome, refused, carved, has_serial, is_named, named, first_free, past_free, last_free, before_free, coalesced, overwritten, with_bytes, has_bytes, written, written_at, read_of, read_at, Call, Allocate, Release, Write, Read, Answer, Allocated, Released, Written, Got, answered, opened, run}
+use Rattle.tlsf_heap.specs.Calls.{Outcome, refused, carved, has_serial, is_named, named, first_free, past_free, last_free, before_free, coalesced, fitted, refitted, overwritten, with_bytes, has_bytes, written, written_at, read_of, read_at, Call, Allocate, Release, Write, Resize, Read, Answer, Allocated, Released, Written, Resized, Got, answered, opened, run}
 use Rattle.tlsf_heap.specs.declared.name.Name.{Name}
 use Rattle.tlsf_heap.specs.declared.refusal.Refusal.{Refusal}
 use Rattle.tlsf_heap.specs.declared.refusal.Refusal.TheVariants.{Foreign, Range}
@@ -24,6 +24,7 @@ use Rattle.tlsf_heap.proofs.Outcomes.{by_test, IsSiteOf, named_site, gives, by_a
 use Rattle.tlsf_laws.proofs.Around.{new_lawful}
 use Rattle.tlsf_laws.proofs.Names.{same_self}
 use Rattle.tlsf_laws.specs.Contents.{Contents, bytes_there, contents, is_same, with_contents, after, after_all, part_of, got, HasWhatIsLive, ChangesOneName, part, WritesIntoContents, ReadsBack, ReadsWhatWasWritten}
+use Rattle.tlsf_laws.proofs.Refits.{by_refit, by_resize, refits}
 
 abbrev or_else : {X : Type 0} → Option X → Option X → Option X
 or_else None y = y
@@ -101,6 +102,25 @@ module _ (at serial : ℕ) where
       ∙ ap (λ (i : ℕ). or_else (look 0 front) (look i (Live m own new ∷ back))) place
       ∙ by_asked (asked (words_in front) own) (look 0 front) (Some old) (look (words_in front + m) back) (Some new) (λ t. look_none 0 front (subst (λ (i : ℕ). AllByRecursion (λ y. y ≢ i) (serials front)) (eqb-true own serial (and_left _ _ t)) others))
       ∙ ap (λ (o : Option (List ℕ)). cond (asked (words_in front) own) (Some new) o) (sym (look-append 0 front (Live m own old ∷ back) ∙ ap (λ (i : ℕ). or_else (look 0 front) (look i (Live m own old ∷ back))) place))
+
+  -- a block with another length, which may take in the free block behind it and leave a free rest
+  look_refitted : (front back : List Block) (m own tick n len : ℕ) (old : List ℕ) → AllByRecursion (λ y. y ≢ own) (serials front)
+      → look 0 (front ++ refitted tick n len (Live m own old) back) ≡ cond (asked (words_in front) own) (Some (fitted old len)) (look 0 (front ++ Live m own old ∷ back))
+  look_refitted front back m own tick n len old others =
+      let place : 0 + words_in front ≡ words_in front = omega arith in
+      let new : List ℕ = fitted old len in
+      let left : List Block = refitted tick n len (Live m own old) back in
+      let p = words_in front in
+      let c : Bool = asked p own in
+      let first : look p left ≡ cond c (Some new) (look (p + m) back) =
+      by_refit (λ l. look p l ≡ cond c (Some new) (look (p + m) back)) tick n len m own old back (λ enough few. refl)
+      (λ large. ap (λ (o : Option (List ℕ)). cond c (Some new) o) (moved _ _ (past_free back) (omega (arith, large)) ∙ look_past (p + m) back))
+      (λ small. ap (λ (o : Option (List ℕ)). cond c (Some new) o) (moved _ _ (past_free back) (omega arith) ∙ look_past (p + m) back)) in
+      look-append 0 front left
+      ∙ ap (λ (i : ℕ). or_else (look 0 front) (look i left)) place
+      ∙ ap (or_else (look 0 front)) first
+      ∙ by_asked c (look 0 front) (Some old) (look (p + m) back) (Some new) (λ t. look_none 0 front (subst (λ (i : ℕ). AllByRecursion (λ y. y ≢ i) (serials front)) (eqb-true own serial (and_left _ _ t)) others))
+      ∙ ap (λ (o : Option (List ℕ)). cond c (Some new) o) (sym (look-append 0 front (Live m own old ∷ back) ∙ ap (λ (i : ℕ). or_else (look 0 front) (look i (Live m own old ∷ back))) place))
 
   -- a free block becomes live
   look_given : (front back : List Block) (m s n own len : ℕ) → AllByRecursion (λ y. y ≢ own) (serials front)
@@ -248,7 +268,28 @@ written_name h s at bytes own_name name lawful own found =
         rw (← same, ← at_place) (look_with name.at name.serial s.before s.after m t xs new (own_front s.before s.after m t xs differ))
     by_block (Free m t) e differ = absurd (false≢true e)
 
+pub resized_name : (h : HeapState) (s : Site) (own_name : Name) (len : ℕ) (name : Name) → IsLawful h → own_name.heap ≡ h.id → IsSiteOf h.blocks s → is_named own_name.at own_name.serial s ≡ true
+    → contents (refits h len s).heap name ≡ with_contents (contents h) own_name (Some (fitted (bytes_of s.block) len)) name
+resized_name h s own_name len name lawful own site is =
+    changes h (h.tick + 1) (s.before ++ refitted h.tick (want len) len s.block s.after) (Some (fitted (bytes_of s.block) len)) own_name name own
+    (at_site h s name.at name.serial _ _ (Some (fitted (bytes_of s.block) len)) site (by_block s.block (and_left _ _ is) (subst (λ (l : List Block). AreDistinct (serials l)) (sym site) lawful.serials_differ)))
+  where
+    at_place : place_of s ≡ own_name.at
+    at_place = eqb-true _ _ (and_right (has_serial own_name.serial s.block) _ is)
+
+    by_block : (b : Block) → has_serial own_name.serial b ≡ true → AreDistinct (serials (s.before ++ b ∷ s.after))
+        → look name.at name.serial 0 (s.before ++ refitted h.tick (want len) len b s.after)
+        ≡ cond (eqb own_name.serial name.serial && eqb own_name.at name.at) (Some (fitted (bytes_of b) len)) (look name.at name.serial 0 (s.before ++ b ∷ s.after))
+    by_block (Live m t xs) e differ =
+        let same : t ≡ own_name.serial = eqb-true t own_name.serial e in
+        rw (← same, ← at_place) (look_refitted name.at name.serial s.before s.after m t h.tick (want len) len xs (own_front s.before s.after m t xs differ))
+    by_block (Free m t) e differ = absurd (false≢true e)
+
 -- ---- the laws
+
+-- the bytes under a name that a search finds
+pub found_bytes : (h : HeapState) (own_name : Name) (s : Site) → own_name.heap ≡ h.id → named own_name h.blocks ≡ Some s → contents h own_name ≡ Some (bytes_of s.block)
+found_bytes h own_name s own e = ap (λ (c : Bool). cond c (bytes_there (named own_name h.blocks)) None) (eq-eqb own_name.heap h.id own) ∙ ap bytes_there e
 
 -- the answer of a write by the search for its name
 write_changes : (h : HeapState) (own_name : Name) (at : ℕ) (bytes : List ℕ) (name : Name) → IsLawful h
@@ -263,16 +304,13 @@ write_changes h own_name at bytes name lawful = elim (cases_eq own_name.heap h.i
       subst (λ (c : Bool). P (cond c (written_at h at bytes (named own_name h.blocks)) (refused h Foreign))) (sym (ne_eqb own_name.heap h.id other)) refl
 ]
   where
-    has : own_name.heap ≡ h.id → (s : Site) → named own_name h.blocks ≡ Some s → contents h own_name ≡ Some (bytes_of s.block)
-    has own s e = ap (λ (c : Bool). cond c (bytes_there (named own_name h.blocks)) None) (eq-eqb own_name.heap h.id own) ∙ ap bytes_there e
-
     on : own_name.heap ≡ h.id → (o : Option Site) → named own_name h.blocks ≡ o
         → contents (written_at h at bytes o).heap name ≡ after (contents h) (Write own_name at bytes) (Written (written_at h at bytes o).answer) name
     on own None e = refl
     on own (Some s) e =
         by_test (λ (o : Outcome (Unit {0})). contents o.heap name ≡ after (contents h) (Write own_name at bytes) (Written o.answer) name) (has_bytes s.block at (length bytes)) (writes h at bytes s) (refused h Range)
         (λ t. written_name h s at bytes own_name name lawful own e
-        ∙ ap (λ (o : Option (List ℕ)). with_contents (contents h) own_name (option_map (λ old. overwritten old at bytes) o) name) (sym (has own s e))) refl
+        ∙ ap (λ (o : Option (List ℕ)). with_contents (contents h) own_name (option_map (λ old. overwritten old at bytes) o) name) (sym (found_bytes h own_name s own e))) refl
 
 pub change : ChangesOneName
 change h (Allocate len) name lawful =
@@ -280,6 +318,10 @@ change h (Allocate len) name lawful =
 change h (Release taken) name lawful =
     by_released (λ o. contents o.heap name ≡ after (contents h) (Release taken) (Released o.answer) name) h taken (λ why. refl) (λ s own site is. taken_name h s taken name lawful own site is)
 change h (Write own_name at bytes) name lawful = write_changes h own_name at bytes name lawful
+change h (Resize own_name len) name lawful =
+    by_resize (λ o. contents o.heap name ≡ after (contents h) (Resize own_name len) (Resized o.answer) name) h own_name len (λ why. refl) (λ s own e site is.
+    resized_name h s own_name len name lawful own site is
+    ∙ ap (λ (o : Option (List ℕ)). with_contents (contents h) own_name (option_map (λ old. fitted old len) o) name) (sym (found_bytes h own_name s own e)))
 change h (Read own_name at n) name lawful = refl
 
 -- equal maps stay equal
@@ -288,6 +330,7 @@ after_same f g e (Allocate len) (Allocated (Ok own)) name = ap (λ (o : Option (
 after_same f g e (Allocate len) (Allocated (Err why)) name = e name
 after_same f g e (Allocate len) (Released r) name = e name
 after_same f g e (Allocate len) (Written r) name = e name
+after_same f g e (Allocate len) (Resized r) name = e name
 after_same f g e (Allocate len) (Got r) name = e name
 after_same f g e (Write own at bytes) (Written (Ok done)) name =
     ap (λ (o : Option (List ℕ)). cond (is_same own name) (option_map (λ old. overwritten old at bytes) o) (f name)) (e own)
@@ -295,12 +338,22 @@ after_same f g e (Write own at bytes) (Written (Ok done)) name =
 after_same f g e (Write own at bytes) (Written (Err why)) name = e name
 after_same f g e (Write own at bytes) (Released r) name = e name
 after_same f g e (Write own at bytes) (Allocated r) name = e name
+after_same f g e (Write own at bytes) (Resized r) name = e name
 after_same f g e (Write own at bytes) (Got r) name = e name
 after_same f g e (Release own) (Released (Ok done)) name = ap (λ (o : Option (List ℕ)). cond (is_same own name) None o) (e name)
 after_same f g e (Release own) (Released (Err why)) name = e name
 after_same f g e (Release own) (Allocated r) name = e name
 after_same f g e (Release own) (Written r) name = e name
+after_same f g e (Release own) (Resized r) name = e name
 after_same f g e (Release own) (Got r) name = e name
+after_same f g e (Resize own len) (Resized (Ok done)) name =
+    ap (λ (o : Option (List ℕ)). cond (is_same own name) (option_map (λ old. fitted old len) o) (f name)) (e own)
+    ∙ ap (λ (o : Option (List ℕ)). cond (is_same own name) (option_map (λ old. fitted old len) (g own)) o) (e name)
+after_same f g e (Resize own len) (Resized (Err why)) name = e name
+after_same f g e (Resize own len) (Released r) name = e name
+after_same f g e (Resize own len) (Allocated r) name = e name
+after_same f g e (Resize own len) (Written r) name = e name
+after_same f g e (Resize own len) (Got r) name = e name
 after_same f g e (Read own at n) answer name = e name
 
 all_same : (f g : Contents) → ((name : Name) → f name ≡ g name) → (calls : List Call) (answers : List Answer) (name : Name) → after_all f calls answers name ≡ after_all g calls answers name

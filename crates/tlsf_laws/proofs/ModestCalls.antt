@@ -1,15 +1,16 @@
 -- A pool that never refuses: what each call leaves of its bounds.
-use Rattle.std.proofs.Common.{◌≡◌, ◌≢◌, ℕ, ◌+◌, ◌-◌, ◌*◌, ◌^◌, ◌<◌, ◌≤◌, List, [], ◌∷◌, ◌++◌, length, Option, Some, None, Err, refl, sym, ◌∙◌, subst, inl, inr, arith}
+use Rattle.std.proofs.Common.{◌≡◌, ◌≢◌, ℕ, ◌+◌, ◌-◌, ◌*◌, ◌^◌, ◌<◌, ◌≤◌, true, List, [], ◌∷◌, ◌++◌, length, Option, Some, None, Err, refl, sym, ◌∙◌, subst, inl, inr, arith}
 use Rattle.std.specs.List.{AllByRecursion}
 use Rattle.std.proofs.Math.Nat.{mul-le-mul, mul-le-mul_right}
 use Rattle.std.proofs.lemmas.Bool.{false≢true, cases_lt, ne_eqb}
 use Rattle.tlsf_heap.specs.Blocks.{Block, Live, Free, HeapState, size_of, words_in, want}
 use Rattle.tlsf_heap.specs.GoodFit.{Site, choice}
 use Rattle.tlsf_heap.specs.Lawful.{IsLawful, IsRegion}
-use Rattle.tlsf_heap.specs.Calls.{Outcome, Call, Allocate, Release, Write, Read, Allocated, allocated, allocated_at, refused, carved, before_free, with_bytes, answered, opened, run, is_worn, last_tick}
+use Rattle.tlsf_heap.specs.Calls.{Outcome, Call, Allocate, Release, Write, Resize, Read, Allocated, allocated, allocated_at, refused, carved, before_free, with_bytes, has_serial, refitted, answered, opened, run, is_worn, last_tick}
 use Rattle.tlsf_heap.specs.Reports.{live_among}
 use Rattle.tlsf_heap.specs.declared.name.Name.{Name}
 use Rattle.tlsf_heap.specs.declared.refusal.Refusal.TheVariants.{NoFit, Worn}
+use Rattle.tlsf_heap.proofs.Finding.{and_left}
 use Rattle.tlsf_heap.proofs.Lawfulness.{all_append}
 use Rattle.tlsf_heap.proofs.Edits.{carved_small, carved_large}
 use Rattle.tlsf_heap.proofs.Summing.{words_apart}
@@ -21,6 +22,7 @@ use Rattle.tlsf_laws.specs.Pools.{pool_words, IsSmall, IsModest, AreModest, HasR
 use Rattle.tlsf_laws.proofs.FreeRoom.{finds_room, sure_rises}
 use Rattle.tlsf_laws.proofs.Around.{past_all, before_all, around_site, words_kept, new_lawful}
 use Rattle.tlsf_laws.proofs.Held.{held_is}
+use Rattle.tlsf_laws.proofs.Refits.{by_refit, by_resize}
 
 -- ---- live blocks of at most k words
 
@@ -41,6 +43,12 @@ small_carved k size n tick len h = elim (cases_lt size (n + 4)) [
 small_with : (k : ℕ) (b : Block) (xs : List ℕ) → IsSmall k b → IsSmall k (with_bytes b xs)
 small_with k (Live m s ys) xs h = h
 small_with k (Free m s) xs h = h
+
+small_refitted : (k tick n len serial : ℕ) (b : Block) (bs : List Block) → n + 3 ≤ k → has_serial serial b ≡ true → AreSmall k bs → AreSmall k (refitted tick n len b bs)
+small_refitted k tick n len serial (Free m s) bs h e all = absurd (false≢true e)
+small_refitted k tick n len serial (Live m s xs) bs h e all =
+    let past = past_all (IsSmall k) bs all in
+    by_refit (AreSmall k) tick n len m s xs bs (λ enough few. ((λ _. omega arith), all)) (λ large. ((λ _. omega arith), ((λ f. absurd (false≢true (sym f))), past))) (λ small. ((λ _. omega arith), past))
 
 -- ---- what holds of the heap of a pool
 
@@ -64,6 +72,9 @@ module _ (words most len : ℕ) (region : want len ≤ 2 ^ 20) (enough : pool_wo
   small_kept h (Write name at bytes) small modest = by_written (λ o. AreSmall k o.heap.blocks) h name at bytes (λ why. small) (λ s site has.
       let a = around_site (IsSmall k) h s site small in
       all_append (IsSmall k) s.before _ a.0 (small_with k s.block _ a.1, a.2))
+  small_kept h (Resize name n) small modest = by_resize (λ o. AreSmall k o.heap.blocks) h name n (λ why. small) (λ s own e site is.
+      let a = around_site (IsSmall k) h s site small in
+      all_append (IsSmall k) s.before _ a.0 (small_refitted k h.tick (want n) n name.serial s.block s.after (omega (arith, modest)) (and_left _ _ is) a.2))
   small_kept h (Read name at n) small modest = small
 
   pub kept : (h : HeapState) (call : Call) → InPool words k h → IsModest most len (live_count h) call → InPool words k (answered h call).1
@@ -86,6 +97,7 @@ module _ (words most len : ℕ) (region : want len ≤ 2 ^ 20) (enough : pool_wo
   not_refused h (Allocate n) pool modest = λ e. let same : (allocated h n).answer ≡ Err NoFit = cc in has_room h n pool modest.0 modest.1 same
   not_refused h (Release name) pool modest = λ e. cc
   not_refused h (Write name at bytes) pool modest = λ e. cc
+  not_refused h (Resize name n) pool modest = λ e. cc
   not_refused h (Read name at n) pool modest = λ e. cc
 
   next : (h : HeapState) (call : Call) (calls : List Call) → AreModest most len (held_after (live_count h) call (answered h call).0) calls (run (answered h call).1 calls).0
@@ -102,6 +114,7 @@ module _ (words most len : ℕ) (region : want len ≤ 2 ^ 20) (enough : pool_wo
   tick_kept h (Allocate n) = by_allocated (λ o. o.heap.tick ≤ h.tick + 1) h n (λ why. omega arith) (λ s site fit. omega arith)
   tick_kept h (Release name) = by_released (λ o. o.heap.tick ≤ h.tick + 1) h name (λ why. omega arith) (λ s own site is. omega arith)
   tick_kept h (Write name at bytes) = by_written (λ o. o.heap.tick ≤ h.tick + 1) h name at bytes (λ why. omega arith) (λ s site has. omega arith)
+  tick_kept h (Resize name n) = by_resize (λ o. o.heap.tick ≤ h.tick + 1) h name n (λ why. omega arith) (λ s own e site is. omega arith)
   tick_kept h (Read name at n) = omega arith
 
   pub is_served : (h : HeapState) (call : Call) → InPool words k h → IsModest most len (live_count h) call → h.tick < last_tick → IsServed (answered h call).0
@@ -112,6 +125,7 @@ module _ (words most len : ℕ) (region : want len ≤ 2 ^ 20) (enough : pool_wo
       at (Some s) room = by_test (λ (o : Outcome Name). IsServed (Allocated o.answer)) (is_worn h) (refused h Worn) (gives h n s) (λ worn. absurd (false≢true (sym (ne_eqb h.tick last_tick (λ e. omega (arith, e, fresh))) ∙ worn))) tt
   is_served h (Release name) pool modest fresh = tt
   is_served h (Write name at bytes) pool modest fresh = tt
+  is_served h (Resize name n) pool modest fresh = tt
   is_served h (Read name at n) pool modest fresh = tt
 
   all_served : (h : HeapState) (calls : List Call) → InPool words k h → AreModest most len (live_count h) calls (run h calls).0 → h.tick + length calls ≤ last_tick → AllByRecursion IsServed (run h calls).0

@@ -4,7 +4,7 @@ use Rattle.std.specs.List.{AllByRecursion}
 use Rattle.std.proofs.Math.Nat.{mul-le-mul}
 use Rattle.tlsf_heap.specs.Blocks.{Block, Live, Free, HeapState, words_in, want}
 use Rattle.tlsf_heap.specs.Lawful.{IsLawful}
-use Rattle.tlsf_heap.specs.Calls.{Call, Allocate, Release, Write, Read, allocated, answered, opened, run}
+use Rattle.tlsf_heap.specs.Calls.{Call, Allocate, Release, Write, Resize, Read, allocated, answered, opened, run}
 use Rattle.tlsf_heap.specs.Reports.{live_among}
 use Rattle.tlsf_heap.specs.declared.refusal.Refusal.TheVariants.{NoFit}
 use Rattle.tlsf_heap.proofs.Summing.{words_apart}
@@ -79,6 +79,7 @@ module _ (words : ℕ) (kinds : List Kind) (classes : AllByRecursion HasClass ki
   not_refused h l (Allocate n) table planned = λ e. let same : (allocated h n).answer ≡ Err NoFit = cc in has_room h l n table planned same
   not_refused h l (Release name) table planned = λ e. cc
   not_refused h l (Write name at bytes) table planned = λ e. cc
+  not_refused h l (Resize name n) table planned = λ e. cc
   not_refused h l (Read name at n) table planned = λ e. cc
 
   none_refused : (h : HeapState) (l : Ledger) (calls : List Call) → InTable words h l → ArePlanned kinds l calls (run h calls).0 → AllByRecursion HasRoomFor (run h calls).0

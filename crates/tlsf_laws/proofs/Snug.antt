@@ -1,21 +1,23 @@
 -- No live block has four words that it doesn't want.
-use Rattle.std.proofs.Common.{◌≡◌, ℕ, ◌+◌, ◌*◌, ◌≤◌, List, [], ◌∷◌, ◌++◌, length, replicate, sym, subst, inl, inr, arith}
+use Rattle.std.proofs.Common.{◌≡◌, ℕ, ◌+◌, ◌*◌, ◌≤◌, true, List, [], ◌∷◌, ◌++◌, length, replicate, sym, subst, inl, inr, arith}
 use Rattle.std.specs.List.{AllByRecursion}
 use Rattle.std.proofs.lemmas.List.{length-replicate}
-use Rattle.std.proofs.lemmas.Bool.{cases_lt}
+use Rattle.std.proofs.lemmas.Bool.{cases_lt, false≢true}
 use Rattle.tlsf_heap.specs.Blocks.{Block, Live, Free, HeapState, size_of, words_in, bytes_of, want}
-use Rattle.tlsf_heap.specs.Calls.{Call, Allocate, Release, Write, Read, carved, before_free, with_bytes, answered, opened, run}
+use Rattle.tlsf_heap.specs.Calls.{Call, Allocate, Release, Write, Resize, Read, carved, before_free, with_bytes, has_serial, refitted, answered, opened, run}
 use Rattle.tlsf_heap.specs.Lawful.{IsLawful}
 use Rattle.tlsf_heap.specs.Reports.{live_among}
 use Rattle.tlsf_heap.proofs.Edits.{carved_small, carved_large}
 use Rattle.tlsf_heap.proofs.Lawfulness.{all_append}
 use Rattle.tlsf_heap.proofs.Summing.{words_apart}
+use Rattle.tlsf_heap.proofs.Finding.{and_left}
 use Rattle.tlsf_heap.proofs.Writing.{length-overwritten, range_fits}
 use Rattle.tlsf_heap.proofs.Outcomes.{by_allocated, by_released, by_written, lawful_run}
 use Rattle.tlsf_laws.specs.Room.{IsSnug, BlocksAreSnug, wanted_words, SumSuffices}
 use Rattle.tlsf_heap.proofs.Served.{no_fit}
 use Rattle.tlsf_laws.proofs.FreeRoom.{finds_room}
 use Rattle.tlsf_laws.proofs.Around.{around_site, past_all, before_all, new_lawful, words_run}
+use Rattle.tlsf_laws.proofs.Refits.{by_refit, by_resize, fitted_count}
 
 snug_carved : (size tick len : ℕ) → AllByRecursion IsSnug (carved size (want len) tick len)
 snug_carved size tick len =
@@ -29,6 +31,13 @@ snug_with : (b : Block) (xs : List ℕ) → length xs ≡ length (bytes_of b) �
 snug_with (Live m s ys) xs e h = rw e h
 snug_with (Free m s) xs e h = tt
 
+snug_refitted : (tick len serial : ℕ) (b : Block) (bs : List Block) → has_serial serial b ≡ true → AllByRecursion IsSnug bs → AllByRecursion IsSnug (refitted tick (want len) len b bs)
+snug_refitted tick len serial (Free m s) bs e all = absurd (false≢true e)
+snug_refitted tick len serial (Live m s xs) bs e all =
+    let many = fitted_count xs len in
+    let past = past_all IsSnug bs all in
+    by_refit (AllByRecursion IsSnug) tick (want len) len m s xs bs (λ enough few. (rw many (omega arith), all)) (λ large. (rw many (omega arith), (tt, past))) (λ small. (rw many (omega arith), past))
+
 pub snug_kept : (h : HeapState) (call : Call) → AllByRecursion IsSnug h.blocks → AllByRecursion IsSnug (answered h call).1.blocks
 snug_kept h (Allocate n) all = by_allocated (λ o. AllByRecursion IsSnug o.heap.blocks) h n (λ why. all) (λ s site fit.
     let a = around_site IsSnug h s site all in
@@ -39,6 +48,9 @@ snug_kept h (Release name) all = by_released (λ o. AllByRecursion IsSnug o.heap
 snug_kept h (Write name at bytes) all = by_written (λ o. AllByRecursion IsSnug o.heap.blocks) h name at bytes (λ why. all) (λ s site has.
     let a = around_site IsSnug h s site all in
     all_append IsSnug s.before _ a.0 (snug_with s.block _ (length-overwritten (bytes_of s.block) bytes at (range_fits s.block at (length bytes) has)) a.1, a.2))
+snug_kept h (Resize name len) all = by_resize (λ o. AllByRecursion IsSnug o.heap.blocks) h name len (λ why. all) (λ s own e site is.
+    let a = around_site IsSnug h s site all in
+    all_append IsSnug s.before _ a.0 (snug_refitted h.tick len name.serial s.block s.after (and_left _ _ is) a.2))
 snug_kept h (Read name at n) all = all
 
 snug_run : (h : HeapState) (calls : List Call) → AllByRecursion IsSnug h.blocks → AllByRecursion IsSnug (run h calls).1.blocks

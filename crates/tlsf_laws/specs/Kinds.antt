@@ -1,16 +1,16 @@
 -- How large a region must be for several kinds of request.
-use Rattle.std.specs.Prelude.{◌≡◌, ℕ, ◌+◌, ◌*◌, ◌-◌, ◌≤◌, ◌^◌, List, [], ◌∷◌, Ok, length, map, filter, fold, max, nat_le, nat_lt, not, ⊤}
+use Rattle.std.specs.Prelude.{◌≡◌, ℕ, ◌+◌, ◌*◌, ◌-◌, ◌≤◌, ◌^◌, List, [], ◌∷◌, Ok, length, map, filter, fold, max, nat_le, nat_lt, not, if◌then◌else◌, ⊤}
 use Rattle.std.specs.List.{AllByRecursion}
 use Rattle.tlsf_heap.specs.Blocks.{want}
 use Rattle.tlsf_heap.specs.Lawful.{IsRegion}
-use Rattle.tlsf_heap.specs.Calls.{Call, Allocate, Release, Write, Read, Answer, Allocated, Released, opened, run}
+use Rattle.tlsf_heap.specs.Calls.{Call, Allocate, Release, Write, Resize, Read, Answer, Allocated, Released, Resized, opened, run}
 use Rattle.tlsf_heap.specs.declared.name.Name.{Name}
 use Rattle.tlsf_laws.specs.Room.{live_count, sure}
 use Rattle.tlsf_laws.specs.Pools.{pool_words, HasRoomFor}
 use Rattle.tlsf_laws.specs.Contents.{is_same}
 use Rattle.tlsf_laws.specs.declared.kind.Kind.{Kind}
 
--- what a program holds: the names that it was given and has not released, each with the bytes that it asked for
+-- what a program holds: the names that it was given and has not released, each with the bytes that it asked for last
 abbrev pub Ledger : Type 0
 Ledger = List (Name × ℕ)
 
@@ -18,10 +18,15 @@ Ledger = List (Name × ℕ)
 abbrev pub lengths : Ledger → List ℕ
 lengths ledger = map (λ entry. entry.1) ledger
 
+-- the ledger with another length under a name
+abbrev pub with_length : Ledger → Name → ℕ → Ledger
+with_length ledger name len = map (λ entry. if is_same name entry.0 then (entry.0, len) else entry) ledger
+
 -- the ledger after a call, told by its answer
 abbrev pub ledger_after : Ledger → Call → Answer → Ledger
 ledger_after ledger (Allocate len) (Allocated (Ok name)) = (name, len) ∷ ledger
 ledger_after ledger (Release name) (Released (Ok done)) = filter (λ entry. not (is_same name entry.0)) ledger
+ledger_after ledger (Resize name len) (Resized (Ok done)) = with_length ledger name len
 ledger_after ledger call answer = ledger
 
 -- and after calls in turn
@@ -35,11 +40,12 @@ abbrev pub AreOfKinds : List Kind → List ℕ → Type 0
 AreOfKinds [] lens = lens ≡ []
 AreOfKinds (kind ∷ kinds) lens = (length (filter (λ n. nat_le n kind.len) lens) ≤ kind.most) × AreOfKinds kinds (filter (λ n. nat_lt kind.len n) lens)
 
--- a request fits the table with all that is held
+-- a request fits the table with all that is held, at the lengths that it has then
 abbrev pub IsPlanned : List Kind → Ledger → Call → Type 0
 IsPlanned kinds ledger (Allocate n) = AreOfKinds kinds (n ∷ lengths ledger)
 IsPlanned kinds ledger (Release name) = ⊤
 IsPlanned kinds ledger (Write name at bytes) = ⊤
+IsPlanned kinds ledger (Resize name n) = ⊤
 IsPlanned kinds ledger (Read name at n) = ⊤
 
 -- so does each request among these calls, which get these answers

@@ -3,7 +3,7 @@ use Rattle.std.specs.Prelude.{◌≡◌, ◌≢◌, ℕ, ◌+◌, ◌*◌, ◌-�
 use Rattle.std.specs.List.{AllByRecursion}
 use Rattle.tlsf_heap.specs.Blocks.{Block, is_free, size_of, want}
 use Rattle.tlsf_heap.specs.Lawful.{IsRegion}
-use Rattle.tlsf_heap.specs.Calls.{Call, Allocate, Release, Write, Read, Answer, Allocated, Released, Written, Got, allocated, opened, run, last_tick}
+use Rattle.tlsf_heap.specs.Calls.{Call, Allocate, Release, Write, Resize, Read, Answer, Allocated, Released, Written, Resized, Got, allocated, opened, run, last_tick}
 use Rattle.tlsf_heap.specs.declared.refusal.Refusal.TheVariants.{NoFit}
 use Rattle.tlsf_laws.specs.Room.{sure}
 use Rattle.tlsf_laws.specs.Held.{held_after}
@@ -12,11 +12,12 @@ use Rattle.tlsf_laws.specs.Held.{held_after}
 abbrev pub pool_words : ℕ → ℕ → ℕ
 pool_words most len = (most - 1) * (want len + 3) + most * (sure (want len) - 1) + 1
 
--- a request is for at most `len` bytes, by a program that holds fewer than `most` blocks
+-- a request is for at most `len` bytes, by a program that holds fewer than `most` blocks; and no block is resized to more than `len`
 abbrev pub IsModest : ℕ → ℕ → ℕ → Call → Type 0
 IsModest most len held (Allocate n) = (n ≤ len) × (held < most)
 IsModest most len held (Release name) = ⊤
 IsModest most len held (Write name at bytes) = ⊤
+IsModest most len held (Resize name n) = n ≤ len
 IsModest most len held (Read name at n) = ⊤
 
 -- so is each request among these calls, which get these answers
@@ -44,6 +45,7 @@ IsServed (Allocated (Ok name)) = ⊤
 IsServed (Allocated (Err why)) = ⊥
 IsServed (Released result) = ⊤
 IsServed (Written result) = ⊤
+IsServed (Resized result) = ⊤
 IsServed (Got result) = ⊤
 
 -- and each of its requests is served, while the ticks last

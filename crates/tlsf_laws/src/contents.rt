@@ -2,14 +2,16 @@ ghost use Rattle.tlsf_laws.specs.Contents.{ChangesOneName, HasWhatIsLive, ReadsB
 
 /// To its user a heap is a map from live names to bytes.
 ///
-/// One equation tells what each call makes of the map: an accepted allocate puts zeros under its new name, an accepted write
-/// replaces bytes under its own, an accepted release takes its own away. Every other name keeps its bytes, and a refused call
+/// One equation tells what each call makes of the map: an accepted allocate puts zeros under its new name, an accepted resize
+/// cuts the bytes under its own or puts zeros behind them, an accepted write replaces some, an accepted release takes its own
+/// name away. Every other name keeps its bytes, and a refused call
 /// changes none.
 ///
 /// ```text
 /// let a = heap.allocate(2)?;              // a: 00 00
 /// let b = heap.allocate(1)?;              // a: 00 00, b: 00
 /// heap.write(a, 1, &[7])?;                // a: 00 07, b: 00
+/// heap.resize(b, 2)?;                     // a: 00 07, b: 00 00
 /// heap.release(b)?;                       // a: 00 07
 /// ```
 pub fn heap_is_a_map()

@@ -3,7 +3,7 @@ ghost use Rattle.tlsf_laws.specs.Kinds.{KindsSuffice, LedgerHoldsWhatIsLive, One
 /// How large a region must be for several kinds of request, by a table of sizes with how many blocks of each may be held.
 ///
 /// A block counts for the first kind of the table that is long enough for it. A program that keeps a ledger of the names that
-/// it was given, with the bytes that it asked for, and makes no request that would put more blocks on a kind than the table
+/// it was given, with the bytes that it asked for last, and makes no request that would put more blocks on a kind than the table
 /// has, is never answered `NoFit` in a region of `kinds_words` of the table, 2^20 words at most.
 ///
 /// For a table of one kind these are the words of [`pool_never_refuses`](crate::pool_never_refuses).

@@ -3,9 +3,10 @@ ghost use Rattle.tlsf_laws.specs.Pools.{HundredBlocks, OneBlockIsTight, PoolServ
 
 /// How large a region must be, so that no request is ever refused for want of room.
 ///
-/// A program that holds at most `most` blocks at any moment, and asks for at most `len` bytes each time, is never answered
-/// `NoFit` in a region of `pool_words most len` words, 2^20 at most, whatever the order of its calls. What it holds is told by
-/// its answers: the accepted allocates less the accepted releases. While the ticks last, each of its requests gets a block.
+/// A program that holds at most `most` blocks at any moment, and asks for at most `len` bytes each time, also where it resizes,
+/// is never answered `NoFit` in a region of `pool_words most len` words, 2^20 at most, whatever the order of its calls. A resize
+/// moves no block, so it may still be answered `NoRoom`. What it holds is told by its answers: the accepted allocates less the
+/// accepted releases. While the ticks last, each of its requests gets a block.
 ///
 /// ```text
 /// 100 blocks of up to 512 bytes: 13,631 words, 109,048 bytes for 51,200 bytes of payload

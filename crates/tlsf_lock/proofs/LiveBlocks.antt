@@ -1,16 +1,18 @@
 -- How many blocks of a heap are live after each call on it.
-use Rattle.std.proofs.Common.{◌≡◌, ℕ, ◌+◌, true, nat_le, List, [], ◌∷◌, ◌++◌, Ok, length, refl, sym, ap, ◌∙◌, arith, length-append, add-zero}
+use Rattle.std.proofs.Common.{◌≡◌, ℕ, ◌+◌, ◌-◌, ◌≤◌, ◌&&◌, true, cond, eqb, nat_le, nat_lt, List, [], ◌∷◌, ◌++◌, Option, Some, None, Ok, length, refl, sym, ap, ◌∙◌, arith, length-append, add-zero}
 use Rattle.std.proofs.lemmas.List.Elements.{filter-append}
 use Rattle.std.proofs.lemmas.Bool.{false≢true}
 use Rattle.tlsf_heap.specs.Blocks.{Block, Live, Free, HeapState, size_of, bytes_of, want}
 use Rattle.tlsf_heap.specs.GoodFit.{Site, is_fit}
 use Rattle.tlsf_heap.specs.Lawful.{IsLawful}
 use Rattle.tlsf_heap.specs.Reports.{live_among}
-use Rattle.tlsf_heap.specs.Calls.{Outcome, carved, allocated, has_serial, past_free, before_free, first_free, last_free, released, overwritten, with_bytes, written}
+use Rattle.tlsf_heap.specs.Calls.{Outcome, carved, allocated, has_serial, is_worn, named, past_free, before_free, first_free, last_free, refused, released, room_of, fitted, cut, refitted, resized, resized_at, ticked, overwritten, with_bytes, written}
 use Rattle.tlsf_heap.specs.declared.name.Name.{Name}
+use Rattle.tlsf_heap.specs.declared.refusal.Refusal.{Refusal}
+use Rattle.tlsf_heap.specs.declared.refusal.Refusal.TheVariants.{Foreign, Stale, NoRoom, Worn}
 use Rattle.tlsf_heap.proofs.Finding.{and_left}
 use Rattle.tlsf_heap.proofs.Coalescing.{by_last}
-use Rattle.tlsf_heap.proofs.Outcomes.{IsSiteOf, by_test, by_allocated, by_released, by_written}
+use Rattle.tlsf_heap.proofs.Outcomes.{IsSiteOf, by_test, by_allocated, by_released, by_written, named_site}
 use Rattle.tlsf_lock.specs.Grants.{HeapCount, IsCounted, live_count, accepted}
 
 abbrev live_in : List Block → ℕ
@@ -66,6 +68,36 @@ released_shrinks h name = by_released (Shrinks h) h name (λ why. (add-zero (liv
     let free : Block = Free (last_free s.before + size_of s.block + first_free s.after) h.tick in
     (omega (arith, live_site h.blocks s site, live_named name.serial s.block s.after (and_left _ _ is), live_append (before_free s.before) (free ∷ past_free s.after), live_before s.before, live_past s.after), refl))
 
+-- a resize leaves a live block, and those behind it
+live_refitted : (tick n len : ℕ) (b : Block) (bs : List Block) → live_in (refitted tick n len b bs) ≡ live_in (b ∷ bs)
+live_refitted tick n len (Live m s xs) bs =
+    let new : List ℕ = fitted xs len in
+    let room = m + first_free bs in
+    let past = live_past bs in
+    by_test (λ l. live_in l ≡ live_in (Live m s xs ∷ bs)) (nat_le n m && nat_lt m (n + 4)) (Live m s new ∷ bs) (cut room n tick s new ++ past_free bs) (λ _. refl)
+    (by_test (λ l. live_in (l ++ past_free bs) ≡ live_in (Live m s xs ∷ bs)) (nat_le (n + 4) room) (Live n s new ∷ Free (room - n) tick ∷ []) (Live room s new ∷ []) (λ _. omega (arith, past)) (omega (arith, past)))
+live_refitted tick n len (Free m s) bs = by_test (λ l. live_in l ≡ live_in bs) (nat_le n m && nat_lt m (n + 4)) (Free m s ∷ bs) (Free m s ∷ bs) (λ _. refl) refl
+
+-- as many live blocks, at no earlier tick
+abbrev Lasts : HeapState → Outcome (Unit {0}) → Type 0
+Lasts h o = (live_count o.heap ≡ live_count h) × (h.tick ≤ o.heap.tick)
+
+pub resized_lasts : (h : HeapState) (name : Name) (len : ℕ) → Lasts h (resized h name len)
+resized_lasts h name len = by_test (Lasts h) (eqb name.heap h.id) (resized_at h len (named name h.blocks)) (refused h Foreign) (λ _. on (named name h.blocks) refl) (none Foreign)
+  where
+    none : (why : Refusal) → Lasts h (refused h why)
+    none why = (refl, omega arith)
+
+    on : (o : Option Site) → named name h.blocks ≡ o → Lasts h (resized_at h len o)
+    on None e = none Stale
+    on (Some s) e =
+        let left : Outcome (Unit {0}) = record { answer = Ok tt; heap = ticked h (s.before ++ refitted h.tick (want len) len s.block s.after) } in
+        let site = (named_site name h.blocks s e).0 in
+        let same : live_count left.heap ≡ live_count h =
+        omega (arith, live_site h.blocks s site, live_refitted h.tick (want len) len s.block s.after, live_append s.before (refitted h.tick (want len) len s.block s.after)) in
+        by_test (Lasts h) (nat_lt (room_of s.block s.after) (want len)) (refused h NoRoom) (cond (is_worn h) (refused h Worn) left) (λ _. none NoRoom)
+        (by_test (Lasts h) (is_worn h) (refused h Worn) left (λ _. none Worn) (same, omega arith))
+
 -- a write leaves how many are live, and the tick
 abbrev pub Stays : {A : Type 0} → HeapState → Outcome A → Type 0
 Stays h o = (live_count o.heap ≡ live_count h) × (o.heap.tick ≡ h.tick)
@@ -110,4 +142,15 @@ written_counted c name at bytes left touches is heap lawful =
       lawful = lawful;
       live = omega (arith, ap live_count heap, stays.0, is.live);
       below = omega (arith, ap (λ (h : HeapState). h.tick) heap, stays.1, is.below);
+    }
+
+-- after a resize, done or refused
+pub resized_counted : (c : HeapCount) (name : Name) (len : ℕ) (left : HeapState) (touches : ℕ) → IsCounted c → left ≡ (resized c.heap name len).heap → IsLawful left
+    → IsCounted (record { heap = left; grants = c.grants; returns = c.returns; touches = touches })
+resized_counted c name len left touches is heap lawful =
+    let lasts = resized_lasts c.heap name len in
+    record {
+      lawful = lawful;
+      live = omega (arith, ap live_count heap, lasts.0, is.live);
+      below = omega (arith, ap (λ (h : HeapState). h.tick) heap, lasts.1, is.below);
     }

@@ -5,8 +5,8 @@ ghost use Rattle.tlsf_heap.specs.Lawful.{IsRegion};
 ghost use Rattle.tlsf_heap.specs.GoodFit.{fits};
 ghost use Rattle.tlsf_heap.specs.Placed.{placed_at};
 ghost use Rattle.tlsf_heap.specs.Reports.{report_of, IsGrant};
-ghost use Rattle.tlsf_heap.specs.Given.{payload_words_given};
-ghost use Rattle.tlsf_heap.specs.Calls.{opened, allocated, released, written, read_of, read_answer, last_tick};
+ghost use Rattle.tlsf_heap.specs.Given.{payload_words_given, payload_words_left};
+ghost use Rattle.tlsf_heap.specs.Calls.{opened, allocated, released, resized, written, read_of, read_answer, last_tick};
 ghost use Rattle.tlsf_lock.specs.Grants.{IsCounted, AreCounts, SameCount, accepted};
 
 use std::alloc::Global;
@@ -110,6 +110,34 @@ impl Counted {
         self.heap.release(name)?;
         self.returns += 1;
         Ok(())
+    }
+
+    /// Makes the payload of the block of that name `len` bytes long, where the block stands: the name stays live, the bytes up to the
+    /// smaller length stay, and new ones are zero. It is counted neither as a grant nor as a return.
+    ///
+    /// Refused as `Heap::resize` refuses: `Foreign` where the name is of another heap, else `Stale` where no live block has that
+    /// place and serial, else `NoRoom` where the block and a free one behind it have fewer words than wanted, else `Worn` where the
+    /// tick is at its last value. Nothing changes then. Takes no memory.
+    ///
+    /// ```
+    /// let name = guard.allocate(8)?;
+    /// guard.resize(name, 100)?; // the same block, with 100 bytes
+    /// ```
+    pub fn resize(&mut self, name: Name, len: u32) -> Result<(), Refusal>
+        ensures answer { result ≡ (resized self.old.heap name len).answer }
+        ensures heap { self.new.heap ≡ (resized self.old.heap name len).heap }
+        ensures counts { AreCounts self.old self.new 0 0 }
+
+        // A refusal changes neither heap nor counts.
+        ensures err { OnErr result (SameCount self.old self.new) }
+        ensures was_counted { IsCounted self.old }
+        ensures counted { IsCounted self.new }
+
+        // Accepted or refused, and whatever the region holds: at most 64 touches, and one for each payload word of the block that is left.
+        ensures touches { self.new.touches ≤ self.old.touches + 64 + payload_words_left result self.new.heap name }
+        ensures touches_rise { self.old.touches ≤ self.new.touches }
+    {
+        self.heap.resize(name, len)
     }
 
     /// Writes bytes into the payload of the block of that name, from byte `at` of it on.

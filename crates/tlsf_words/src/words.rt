@@ -300,6 +300,25 @@ impl Words {
         }
     }
 
+    /// Makes bytes of the payload behind the header at a place zero: that at an offset, and those behind it in the same word.
+    ///
+    /// ```
+    /// words.zero_rest(at, 13);     // bytes 13, 14 and 15 of the payload
+    /// ```
+    pub fn zero_rest(&mut self, at: u32, offset: u32)
+        requires { payload_byte at offset < 8 * length self.old.words }
+        ensures zero { (k : ℕ) → payload_byte at offset ≤ k → k < 8 * (payload_byte at offset / 8 + 1) → byte_in self.new.words k ≡ 0 }
+        ensures before { (k : ℕ) → k < payload_byte at offset → byte_in self.new.words k ≡ byte_in self.old.words k }
+        ensures words { (k : ℕ) → k ≢ payload_byte at offset / 8 → slice_index self.new.words k ≡ slice_index self.old.words k }
+        ensures length { length self.new.words ≡ length self.old.words }
+        ensures starts { self.new.starts ≡ self.old.starts }
+        ensures touches { self.new.touches ≡ self.old.touches + 2 }
+    {
+        let start = 8 * (at as usize + 3) + offset as usize;
+        let first = start % 8;
+        self.write_piece(start / 8, first, &[0; 8][first..]);
+    }
+
     /// Reads bytes of the payload behind the header at a place, from a byte offset of it on, until `out` is full. Each word that
     /// has one of them is read once.
     ///

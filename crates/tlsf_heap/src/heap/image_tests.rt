@@ -1,10 +1,13 @@
 //! What stands in the words of a region, word for word.
+ghost use Rattle.std.specs.Prelude.{◌≡◌};
+
 use crate::heap::Heap;
 use crate::name::Name;
 use crate::region::Region;
 use std::alloc::Global;
 use std::process::Abort;
 use std::test::Fail;
+use tlsf_words::Words;
 
 /// Neither next nor previous in a list.
 const ALONE: u64 = u64::MAX;
@@ -31,33 +34,33 @@ fn after_releases(alloc: Global, words: u32, blocks: u32, places: &[u32]) -> Res
     Ok(heap)
 }
 
-/// The region of the heap has these words, four in a row, and blocks start at these places and at no other.
-fn check_image(
-    rt: &impl Abort,
-    alloc: Global,
-    heap: Heap,
-    rows: &[[u64; 4]],
-    starts: &[u32],
-) -> Result<(), Fail> {
+/// The word at a place of the region, and whether a block starts there; None outside the region.
+fn found_at(words: &mut Words, at: u32) -> Option<(u64, bool)>
+    ensures words { words.new.words ≡ words.old.words }
+    ensures starts { words.new.starts ≡ words.old.starts }
+{
+    if at < words.len() {
+        Some((words.word(at), words.starts(at)))
+    } else {
+        None
+    }
+}
+
+/// What stands at a place of an image, which has four words in a row; None outside the image.
+fn wanted_at(rows: &[[u64; 4]], starts: &[u32], at: u32) -> Option<(u64, bool)> {
+    let word = rows.as_flattened().get(at as usize)?;
+    Some((*word, starts.contains(&at)))
+}
+
+/// The region of the heap has these words, four in a row, and blocks start at these places and at no other. The regions of
+/// these tests have at most 32 words.
+fn check_image(rt: &impl Abort, heap: Heap, rows: &[[u64; 4]], starts: &[u32]) {
     let Heap { region, .. } = heap;
     let Region { mut words, .. } = region;
-    let mut found = Vec::new(alloc);
-    let mut places = Vec::new(alloc);
-    for at in 0..words.len() {
-        if at % 4 == 3 {
-            found.push([
-                words.word(at - 3),
-                words.word(at - 2),
-                words.word(at - 1),
-                words.word(at),
-            ])?;
-        }
-        if words.starts(at) {
-            places.push(at)?;
-        }
+    for at in 0..=32 {
+        let wanted = wanted_at(rows, starts, at);
+        assert_eq!(rt; (at, found_at(&mut words, at)), (at, wanted));
     }
-    assert_eq!(rt; (found.as_slice(), places.as_slice()), (rows, starts));
-    Ok(())
 }
 
 #[test]
@@ -69,7 +72,7 @@ fn image_of_a_small_region(rt: HostRuntime) -> Result<(), Fail> {
         [0, 0, 0, 0],
         [0, 0, 0, 0],
     ];
-    check_image(&rt, alloc, with_blocks(alloc, 16, 0)?, &opened, &[0])?;
+    check_image(&rt, with_blocks(alloc, 16, 0)?, &opened, &[0]);
     let mut heap = Heap::open(alloc, 0, 16, 0)?;
     let name = heap.allocate(8)?;
     heap.write(name, 0, &[0x48, 0x69])?;
@@ -79,7 +82,8 @@ fn image_of_a_small_region(rt: HostRuntime) -> Result<(), Fail> {
         [0, 0, 0, 0],
         [0, 0, 0, 0],
     ];
-    check_image(&rt, alloc, heap, &written, &[0, 4])
+    check_image(&rt, heap, &written, &[0, 4]);
+    Ok(())
 }
 
 #[test]
@@ -93,7 +97,8 @@ fn bytes_in_their_words(rt: HostRuntime) -> Result<(), Fail> {
         [0xffff_ffff_0000_0022, 1, 16, 0x8007_0605_0403_0201],
         [0x90, 0, 0, 0],
     ];
-    check_image(&rt, alloc, heap, &words, &[0])
+    check_image(&rt, heap, &words, &[0]);
+    Ok(())
 }
 
 #[test]
@@ -109,7 +114,7 @@ fn tags_name_the_block_before(rt: HostRuntime) -> Result<(), Fail> {
         [0, 0, 0, 0],
     ];
     let heap = with_blocks(alloc, 24, 4)?;
-    check_image(&rt, alloc, heap, &allocated, &[0, 4, 8, 12, 16])?;
+    check_image(&rt, heap, &allocated, &[0, 4, 8, 12, 16]);
     // The first two are one free block now, and the third names it. It is the head of the list of eight words.
     let first_two = [
         [0xffff_ffff_0000_0021, 6, 0xffff_ffff_0000_0010, 0],
@@ -120,7 +125,7 @@ fn tags_name_the_block_before(rt: HostRuntime) -> Result<(), Fail> {
         [0, 0, 0, 0],
     ];
     let heap = after_releases(alloc, 24, 4, &[4, 0])?;
-    check_image(&rt, alloc, heap, &first_two, &[0, 8, 12, 16])?;
+    check_image(&rt, heap, &first_two, &[0, 8, 12, 16]);
     // The fourth and the last are one too.
     let last_two = [
         [0xffff_ffff_0000_0021, 6, ALONE, 0],
@@ -131,7 +136,8 @@ fn tags_name_the_block_before(rt: HostRuntime) -> Result<(), Fail> {
         [0, 0, 0, 0],
     ];
     let heap = after_releases(alloc, 24, 4, &[4, 0, 12])?;
-    check_image(&rt, alloc, heap, &last_two, &[0, 8, 12])
+    check_image(&rt, heap, &last_two, &[0, 8, 12]);
+    Ok(())
 }
 
 #[test]
@@ -147,7 +153,7 @@ fn links_name_the_neighbours_in_a_list(rt: HostRuntime) -> Result<(), Fail> {
         [0, 0, 0, 0],
     ];
     let heap = after_releases(alloc, 24, 4, &[0, 8])?;
-    check_image(&rt, alloc, heap, &two, &[0, 4, 8, 12, 16])?;
+    check_image(&rt, heap, &two, &[0, 4, 8, 12, 16]);
     // All three are one free block now, alone in the list of its class. The words of the second and third header are no block's now,
     // and stay.
     let merged = [
@@ -159,7 +165,8 @@ fn links_name_the_neighbours_in_a_list(rt: HostRuntime) -> Result<(), Fail> {
         [0, 0, 0, 0],
     ];
     let heap = after_releases(alloc, 24, 4, &[0, 8, 4])?;
-    check_image(&rt, alloc, heap, &merged, &[0, 12, 16])
+    check_image(&rt, heap, &merged, &[0, 12, 16]);
+    Ok(())
 }
 
 #[test]
@@ -177,7 +184,8 @@ fn middle_of_a_list_is_taken_out(rt: HostRuntime) -> Result<(), Fail> {
         [0, 0, 0, 0],
     ];
     let heap = after_releases(alloc, 32, 6, &[0, 8, 16, 4])?;
-    check_image(&rt, alloc, heap, &merged, &[0, 12, 16, 20, 24])
+    check_image(&rt, heap, &merged, &[0, 12, 16, 20, 24]);
+    Ok(())
 }
 
 #[test]
@@ -191,5 +199,6 @@ fn payload_is_zero_where_headers_were(rt: HostRuntime) -> Result<(), Fail> {
         [0, 0, 0, 0],
         [0, 0, 0, 0],
     ];
-    check_image(&rt, alloc, heap, &whole, &[0])
+    check_image(&rt, heap, &whole, &[0]);
+    Ok(())
 }

@@ -14,6 +14,22 @@ pub enum Ask {
 /// The name that was given, if any.
 pub type Answer = Result<Option<Name>, Refusal>;
 
+/// What an allocate answered.
+pub fn given(answer: Result<Name, Refusal>) -> Answer {
+    match answer {
+        Ok(name) => Ok(Some(name)),
+        Err(why) => Err(why),
+    }
+}
+
+/// What a release answered.
+pub fn returned(answer: Result<(), Refusal>) -> Answer {
+    match answer {
+        Ok(()) => Ok(None),
+        Err(why) => Err(why),
+    }
+}
+
 /// Asks a new heap, and holds each answer to the one that is wanted.
 fn check_asks(
     rt: &impl Abort,
@@ -24,8 +40,8 @@ fn check_asks(
     let mut heap = Heap::open(alloc, 0, 64, first)?;
     for (i, (ask, wanted)) in rows.iter().enumerate() {
         let answer = match *ask {
-            Ask::Allocate(len) => heap.allocate(len).map(Some),
-            Ask::Release(name) => heap.release(name).map(|()| None),
+            Ask::Allocate(len) => given(heap.allocate(len)),
+            Ask::Release(name) => returned(heap.release(name)),
         };
         same((i, answer), (i, *wanted)).expect(rt, "differ");
     }
@@ -64,6 +80,27 @@ fn worn_at_the_last_tick(rt: HostRuntime) -> Result<(), Fail> {
     ];
     check_asks(&rt, rt.alloc(), u64::MAX - 1, &worn)?;
     check_asks(&rt, rt.alloc(), u64::MAX - 2, &wears)?;
+    Ok(())
+}
+
+// A block of the last serial can't be released, and stays a block: its bytes are written and read.
+#[test]
+fn worn_block_keeps_its_bytes(rt: HostRuntime) -> Result<(), Fail> {
+    let mut heap = Heap::open(rt.alloc(), 0, 64, u64::MAX - 2)?;
+    let last = heap.allocate(8)?;
+    let refused = heap.release(last);
+    let written = heap.write(last, 6, &[0x48, 0x69]);
+    let mut out = [0xee; 3];
+    let read = heap.read(last, 5, &mut out);
+    let found = (last, refused, written, read, out);
+    let wanted = (
+        name(0, 0, u64::MAX - 1),
+        Err(Refusal::Worn),
+        Ok(()),
+        Ok(()),
+        [0, 0x48, 0x69],
+    );
+    same(found, wanted).expect(&rt, "differ");
     Ok(())
 }
 

@@ -31,9 +31,8 @@ fn send_two(mut end: PostEnd, is_taken: &AtomicU64) -> bool {
 /// Turns until there is a post.
 fn take_next(end: &mut TakeEnd) -> Option<Post> {
     for _ in 0..TURNS {
-        let next = end.take();
-        if next.is_some() {
-            return next;
+        if let Some(next) = end.take() {
+            return Some(next);
         }
         yield_now();
     }

@@ -1,4 +1,4 @@
-use crate::tests::heaps::{Answer, Ask};
+use crate::tests::heaps::{Answer, Ask, given, returned};
 use std::process::Abort;
 use std::sync::Wait;
 use std::test::Fail;
@@ -17,8 +17,8 @@ fn check_asks<R: Wait + Abort>(
 ) {
     for (i, (ask, wanted)) in rows.iter().enumerate() {
         let answer = match *ask {
-            Ask::Allocate(len) => heap.lock(rt).allocate(len).map(Some),
-            Ask::Release(name) => heap.lock(rt).release(name).map(|()| None),
+            Ask::Allocate(len) => given(heap.lock(rt).allocate(len)),
+            Ask::Release(name) => returned(heap.lock(rt).release(name)),
         };
         same((i, answer), (i, *wanted)).expect(rt, "differ");
     }

@@ -12,7 +12,8 @@ fn read(heap: &mut Heap, block: Name, at: u32, n: usize) -> (Result<(), Refusal>
 
 /// What a write of `n` ones, of up to 16, answers.
 fn write(heap: &mut Heap, block: Name, at: u32, n: usize) -> Result<(), Refusal> {
-    heap.write(block, at, &[1; 16][..n.min(16)])
+    let ones = [1; 16];
+    heap.write(block, at, &ones[..n.min(16)])
 }
 
 // A write and a read are refused, and leave what they were given. No sum of an offset and a length wraps.

@@ -1,4 +1,5 @@
 use Rattle.std.proofs.Common.{◌≡◌, ℕ, length, sym, ap, ◌∙◌, arith}
+use Rattle.std.proofs.lemmas.Result.{err_from_is_err_and}
 use Rattle.tlsf_heap.specs.Blocks.{HeapState, StandsAt}
 use Rattle.tlsf_heap.specs.Shown.{Shown}
 use Rattle.tlsf_heap.specs.Calls.{Outcome}
@@ -11,6 +12,11 @@ use Rattle.tlsf_heap.proofs.Naming.{named_stands, named_inside}
 use Rattle.tlsf_heap.proofs.Writing.{range_stands, unwritten, Writes, writes}
 use Rattle.tlsf_heap.proofs.Standing.{behind_one}
 use Rattle.tlsf_heap.proofs.heap.Heap.write.Goals as goal
+
+pub returns-in_err-check_range-clause-answer : goal.returns-in_err-check_range-clause-answer
+returns-in_err-check_range-clause-answer c =
+    let p = err_from_is_err_and c.from_residual.result c.from_residual.ensures.1 in
+    rw (p.1, p.2) (sym (ap (λ (o : Outcome (Unit {0})). o.answer) (unwritten c.args.self.now.heap c.args.name c.args.at c.args.bytes.now _ c.in_err-check_range.ensures.answer)))
 
 pub returns-in_err-check_range-clause-heap : goal.returns-in_err-check_range-clause-heap
 returns-in_err-check_range-clause-heap c =

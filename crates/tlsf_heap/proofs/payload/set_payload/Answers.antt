@@ -1,0 +1,24 @@
+use Rattle.std.proofs.Common.{◌≡◌, ℕ, ◌+◌, ◌*◌, ◌≤◌, List, set, ap, ◌∙◌, arith}
+use Rattle.tlsf_words.specs.Bytes.{byte_in}
+use Rattle.tlsf_words.specs.Fields.{length_word}
+use Rattle.tlsf_heap.proofs.Fitted.{bytes_fitted, bytes_behind}
+use Rattle.tlsf_heap.proofs.payload.set_payload.Goals as goal
+
+-- the length is no byte of the payload
+same : (old read new : List ℕ) (at len : ℕ) → read ≡ old → new ≡ set read (at + 2) (length_word len) → (k : ℕ) → 8 * (at + 3) ≤ k → byte_in new k ≡ byte_in old k
+same old read new at len is_old is_new k h =
+    ap (λ (l : List ℕ). byte_in l k) (is_new ∙ ap (λ (l : List ℕ). set l (at + 2) (length_word len)) is_old) ∙ bytes_behind old (at + 2) (length_word len) k (omega arith)
+
+pub returns-then-len-old-clause-bytes : goal.returns-then-len-old-clause-bytes
+returns-then-len-old-clause-bytes c =
+    let value = c.length-old.ensures.value in
+    bytes_fitted c.args.words.now.words c.zero_bytes.new.words.words (8 * (c.args.at + 3)) _ c.args.len
+    (λ k l g f. c.zero_bytes.ensures.before k (omega arith) ∙ same c.args.words.now.words _ _ c.args.at c.args.len c.length-old.ensures.words c.set_length.ensures.words k l)
+    (λ k l g. c.zero_bytes.ensures.zero k (omega arith) g)
+
+pub returns-else-len-old-clause-bytes : goal.returns-else-len-old-clause-bytes
+returns-else-len-old-clause-bytes c =
+    let value = c.length-old.ensures.value in
+    bytes_fitted c.args.words.now.words c.set_length.new.self.words (8 * (c.args.at + 3)) _ c.args.len
+    (λ k l g f. same c.args.words.now.words _ _ c.args.at c.args.len c.length-old.ensures.words c.set_length.ensures.words k l)
+    (λ k l g. absurd (omega (arith, l, g, value, c.if-len-old.false)))

@@ -1,0 +1,42 @@
+use Rattle.std.proofs.Common.{ap, ◌∙◌, arith}
+use Rattle.tlsf_heap.specs.Regions.{RegionState, image_of}
+use Rattle.tlsf_heap.proofs.Linking.{Relists, holds_state}
+use Rattle.tlsf_heap.proofs.Payloads.{held_within, length_read}
+use Rattle.tlsf_heap.proofs.Reading.{shows_state, says_here}
+use Rattle.tlsf_heap.proofs.Resized.{Refills, refilled, relisted_refill}
+use Rattle.tlsf_heap.proofs.Showing.{room_here}
+use Rattle.tlsf_heap.proofs.Standing.{behind_one}
+use Rattle.tlsf_heap.proofs.region.Region.set_payload.Goals as goal
+
+pub set_payload-requires : goal.set_payload-requires
+set_payload-requires c =
+    let shows = shows_state c.self.invariant c.self.view_is in
+    let stands = c.requires.1 in
+    let says = says_here shows stands in
+    let held = held_within _ (room_here (image_of c.self.inside.words) c.args.self.now.blocks shows c.args.at c.requires.0 stands) in
+    record {
+      old = omega (arith, length_read shows stands (c.requires.0, stands, c.requires.2.0), held, says.ends);
+      new = omega (arith, c.requires.2.1, says.ends);
+      small = shows.small;
+    }
+
+refills : (c : goal.After-set_payload) → Refills (image_of c.self.inside.words) (image_of c.set_payload.new.words) c.args.at c.args.len
+refills c = let new = c.set_payload.ensures in record { length = new.length; bytes = new.bytes; only = new.only; starts = new.starts }
+
+relists : (c : goal.After-set_payload) → Relists (image_of c.set_payload.new.words) c.self.inside.lists c.args.self.now.lists
+relists c = relisted_refill (holds_state c.self.invariant c.self.view_is) c.requires (refills c)
+
+pub invariant_of-self : goal.invariant_of-self
+invariant_of-self c = (relists c).holds
+
+pub returns : goal.returns
+returns c i stands =
+    let new = c.set_payload.ensures in
+    let left = refilled (shows_state c.self.invariant c.self.view_is) c.requires (refills c) in
+    let touches = ap (λ (r : RegionState). r.touches) c.self.view_is in
+    let words = ap (λ (r : RegionState). r.words) c.self.view_is in
+    record {
+      blocks = left.blocks i stands ∙ behind_one i _ c.args.self.now.blocks;
+      lists = (relists c).same;
+      edits = record { words = new.only.length ∙ words; shows = (relists c).holds.shows; touches = omega (arith, new.touches.within, touches); rise = omega (arith, new.touches.rise, touches) };
+    }

@@ -1,0 +1,46 @@
+//! The payload of a live block at another length. Places are in words, lengths in bytes.
+ghost use Rattle.std.specs.Prelude.{◌≡◌, ℕ, ◌+◌, ◌*◌, ◌/◌, ◌<◌, ◌≤◌, ◌^◌, length, slice_index};
+ghost use Rattle.tlsf_words.specs.Bytes.{byte_in, bytes_in, payload_byte};
+ghost use Rattle.tlsf_words.specs.Fields.{low_half, length_word};
+ghost use Rattle.tlsf_heap.specs.Blocks.{words_for};
+ghost use Rattle.tlsf_heap.specs.Calls.{fitted};
+ghost use Rattle.tlsf_heap.specs.Headers.{OnlyFrom, RisesBy};
+
+use tlsf_words::Words;
+
+/// Writes the payload length of the live block at a place. The bytes up to the smaller length stay, and new ones are zero. Bytes of a
+/// word past the length have no meaning, so a payload that grows within a word has them made zero too.
+pub fn set_payload(words: &mut Words, at: u32, len: u32)
+    requires old { at + words_for (low_half (slice_index words.old.words (at + 2))) ≤ length words.old.words }
+    requires new { at + words_for len ≤ length words.old.words }
+    requires small { length words.old.words ≤ 2 ^ 20 }
+    ensures length { slice_index words.new.words (at + 2) ≡ length_word len }
+    ensures bytes { bytes_in words.new.words (8 * (at + 3)) len ≡ fitted (bytes_in words.old.words (8 * (at + 3)) (low_half (slice_index words.old.words (at + 2)))) len }
+    ensures only { OnlyFrom words.old.words words.new.words (at + 2) (at + words_for len) }
+    ensures starts { words.new.starts ≡ words.old.starts }
+    ensures touches { RisesBy words.old.touches words.new.touches (words_for len) }
+{
+    let old = words.length(at);
+    words.set_length(at, len);
+    if len > old {
+        zero_bytes(words, at, old, len);
+    }
+}
+
+/// Makes the bytes of a payload zero from number `from` up to `to`, and those behind them in the same word.
+fn zero_bytes(words: &mut Words, at: u32, from: u32, to: u32)
+    requires some { from < to }
+    requires within { at + words_for to ≤ length words.old.words }
+    requires small { length words.old.words ≤ 2 ^ 20 }
+    ensures zero { (k : ℕ) → payload_byte at from ≤ k → k < payload_byte at to → byte_in words.new.words k ≡ 0 }
+    ensures before { (k : ℕ) → k < payload_byte at from → byte_in words.new.words k ≡ byte_in words.old.words k }
+    ensures only { OnlyFrom words.old.words words.new.words (at + 3) (at + words_for to) }
+    ensures starts { words.new.starts ≡ words.old.starts }
+    ensures touches { RisesBy words.old.touches words.new.touches (1 + (to + 7) / 8) }
+{
+    if from % 8 > 0 {
+        words.zero_rest(at, from);
+    }
+    let first = from.div_ceil(8);
+    words.zero(at + 3 + first, to.div_ceil(8) - first);
+}
