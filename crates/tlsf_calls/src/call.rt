@@ -24,6 +24,11 @@ pub enum Call {
         at: u32,
         n: u32,
     },
+    /// Resizes a block of the own heap where it stands, so that it holds `len` bytes.
+    Resize {
+        target: Target,
+        len: u32,
+    },
     /// Takes the first post that waits from a worker, and releases what it names.
     Take {
         from: u32,

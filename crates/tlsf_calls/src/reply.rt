@@ -16,6 +16,8 @@ pub enum Reply {
     Wrote(u32),
     /// The bytes that were read.
     Got(Chunk),
+    /// The block was resized, and has its name as before.
+    Resized,
     /// A post was taken.
     Took(Took),
     /// No post waited.

@@ -8,3 +8,5 @@ pub mod Job
 pub mod Parts
 -- What the workers of a race are answered: each record by itself, and how the records fit together.
 pub mod Race
+-- How many entries a race makes room for.
+pub mod Rooms

@@ -6,7 +6,7 @@ use Rattle.tlsf_heap.specs.declared.name.Name.{Name}
 use Rattle.tlsf_lines.specs.CallsByLabel.{with_line}
 use Rattle.tlsf_lines.specs.Phases.{known_behind, call_that_makes, name_by}
 use Rattle.tlsf_lines.specs.declared.line.Line.{Line}
-use Rattle.tlsf_lines.specs.declared.line.Line.TheVariants.{Allocate, Release, Write, Read, Drain, Phase}
+use Rattle.tlsf_lines.specs.declared.line.Line.TheVariants.{Allocate, Release, Write, Read, Resize, Drain, Phase}
 
 -- the name of a label that this line makes, or else by the lines before
 one_case : (b : Bool) (k n : ℕ) (maker : Option ℕ) (made : List (Option Name)) (earlier : Option Name) → k ≡ n
@@ -20,6 +20,7 @@ behind_line known before (Allocate worker made_label len) made n is label = one_
 behind_line known before (Release worker used) made n is label = refl
 behind_line known before (Write worker used at bytes) made n is label = refl
 behind_line known before (Read worker used at k) made n is label = refl
+behind_line known before (Resize worker used len) made n is label = refl
 behind_line known before (Drain worker most) made n is label = refl
 behind_line known before Phase made n is label = refl
 

@@ -3,7 +3,7 @@ use Rattle.std.proofs.Common.{◌≡◌, ℕ, zero, suc, ◌<◌, true, false, L
 use Rattle.tlsf_lines.specs.Lines.{is_call}
 use Rattle.tlsf_lines.specs.Phases.{in_first, phases_of}
 use Rattle.tlsf_lines.specs.declared.line.Line.{Line}
-use Rattle.tlsf_lines.specs.declared.line.Line.TheVariants.{Allocate, Release, Write, Read, Drain, Phase}
+use Rattle.tlsf_lines.specs.declared.line.Line.TheVariants.{Allocate, Release, Write, Read, Resize, Drain, Phase}
 
 -- a call stands in the first phase
 call_first : (line : Line) (lines : List Line) → is_call line ≡ true → phases_of (line ∷ lines) ≡ in_first line (phases_of lines)
@@ -11,6 +11,7 @@ call_first (Allocate worker label len) lines call = refl
 call_first (Release worker label) lines call = refl
 call_first (Write worker label at bytes) lines call = refl
 call_first (Read worker label at n) lines call = refl
+call_first (Resize worker label len) lines call = refl
 call_first (Drain worker most) lines call = refl
 call_first Phase lines call = cc
 
@@ -20,6 +21,7 @@ phase_first (Allocate worker label len) lines call = cc
 phase_first (Release worker label) lines call = cc
 phase_first (Write worker label at bytes) lines call = cc
 phase_first (Read worker label at n) lines call = cc
+phase_first (Resize worker label len) lines call = cc
 phase_first (Drain worker most) lines call = cc
 phase_first Phase lines call = refl
 

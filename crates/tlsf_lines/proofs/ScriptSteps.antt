@@ -5,7 +5,7 @@ use Rattle.std.proofs.lemmas.List.Sums.{sum_by-append}
 use Rattle.std.proofs.lemmas.List.FromFn.{length-map-range_with_len}
 use Rattle.tlsf_lines.specs.declared.header.Header.{Header}
 use Rattle.tlsf_lines.specs.declared.line.Line.{Line}
-use Rattle.tlsf_lines.specs.declared.line.Line.TheVariants.{Allocate, Release, Write, Read, Drain, Phase}
+use Rattle.tlsf_lines.specs.declared.line.Line.TheVariants.{Allocate, Release, Write, Read, Resize, Drain, Phase}
 use Rattle.tlsf_lines.specs.declared.line_fault.LineFault.{LineFault}
 use Rattle.tlsf_lines.specs.declared.parse_error.ParseError.{ParseError}
 use Rattle.tlsf_lines.specs.declared.parse_error.ParseError.TheVariants as parsing
@@ -22,6 +22,7 @@ width_is workers before (Allocate worker label len) = refl
 width_is workers before (Release worker label) = refl
 width_is workers before (Write worker label at bytes) = refl
 width_is workers before (Read worker label at n) = refl
+width_is workers before (Resize worker label len) = refl
 width_is workers before (Drain worker most) = refl
 width_is workers before Phase = length-map-range_with_len last_drain 0 workers
 
@@ -31,6 +32,7 @@ width_most workers (Allocate worker label len) few = omega arith
 width_most workers (Release worker label) few = omega arith
 width_most workers (Write worker label at bytes) few = omega arith
 width_most workers (Read worker label at n) few = omega arith
+width_most workers (Resize worker label len) few = omega arith
 width_most workers (Drain worker most) few = omega arith
 width_most workers Phase few = few
 

@@ -63,6 +63,16 @@ field_too_many : second_line (codes "f 0 1 8") ≡ Err (BadLine, 2)
 unfolding trace_of lines_in line_in line_from header_in header_from
 field_too_many = refl
 
+-- a resize has no offset
+resize_of_five_fields : second_line (codes "r 0 1 0 8") ≡ Err (BadLine, 2)
+unfolding trace_of lines_in line_in line_from header_in header_from
+resize_of_five_fields = refl
+
+-- but a length
+resize_of_three_fields : second_line (codes "r 0 1") ≡ Err (BadLine, 2)
+unfolding trace_of lines_in line_in line_from header_in header_from
+resize_of_three_fields = refl
+
 -- the end of a phase has no more fields
 phase_with_a_field : second_line (codes "phase 1") ≡ Err (BadLine, 2)
 unfolding trace_of lines_in line_in line_from header_in header_from
@@ -133,6 +143,11 @@ great_length : second_line (codes "a 0 1 4294967296") ≡ Err (BadNumber, 2)
 unfolding trace_of lines_in line_in line_from header_in header_from
 great_length = refl
 
+-- also that of a resize
+great_resize : second_line (codes "r 0 1 4294967296") ≡ Err (BadNumber, 2)
+unfolding trace_of lines_in line_in line_from header_in header_from
+great_resize = refl
+
 -- a hundred digits
 hundred_digits : second_line (codes "a 0 1 9999999999999999999999999999999999999999999999999999999999999999999999999999999999999999999999999999") ≡ Err (BadNumber, 2)
 unfolding trace_of lines_in line_in line_from header_in header_from
@@ -183,6 +198,11 @@ label_not_made_for_read : second_line (codes "g 0 1 0 1") ≡ Err (LabelOrder, 2
 unfolding trace_of lines_in line_in line_from header_in header_from
 label_not_made_for_read = refl
 
+-- or resized
+label_not_made_for_resize : second_line (codes "r 0 1 8") ≡ Err (LabelOrder, 2)
+unfolding trace_of lines_in line_in line_from header_in header_from
+label_not_made_for_resize = refl
+
 -- a label is made twice
 label_made_twice : trace_of (text (codes "tlsf 1 1 64 1" ∷ codes "a 0 1 8" ∷ codes "a 0 1 8" ∷ [])) ≡ Err (LabelOrder, 3)
 unfolding trace_of lines_in line_in line_from header_in header_from
@@ -202,6 +222,11 @@ label_made_after_release = refl
 used_in_its_phase : trace_of (text (codes "tlsf 1 2 64 4" ∷ codes "a 0 1 8" ∷ codes "f 1 1" ∷ [])) ≡ Err (LabelOrder, 3)
 unfolding trace_of lines_in line_in line_from header_in header_from
 used_in_its_phase = refl
+
+-- or resizes its block
+resized_in_its_phase : trace_of (text (codes "tlsf 1 2 64 4" ∷ codes "a 0 1 8" ∷ codes "r 1 1 9" ∷ [])) ≡ Err (LabelOrder, 3)
+unfolding trace_of lines_in line_in line_from header_in header_from
+resized_in_its_phase = refl
 
 -- also where that is a later phase
 used_in_a_later_phase : trace_of (text (codes "tlsf 1 2 64 4" ∷ codes "a 0 1 8" ∷ codes "phase" ∷ codes "a 0 2 8" ∷ codes "p 1 1 0 48" ∷ codes "g 1 2 0 1" ∷ [])) ≡ Err (LabelOrder, 6)

@@ -1,9 +1,9 @@
 -- Worked rows: the events of a trace, and single lines.
 use Rattle.std.proofs.Common.{◌≡◌, [], ◌∷◌, codes, refl, Some, None, Err}
 use Rattle.std.specs.Fmt.{digits}
-use Rattle.tlsf_heap.specs.declared.refusal.Refusal.TheVariants.{Stale}
+use Rattle.tlsf_heap.specs.declared.refusal.Refusal.TheVariants.{NoRoom, Stale}
 use Rattle.tlsf_calls.specs.declared.call.Call.TheVariants as call
-use Rattle.tlsf_calls.specs.declared.crew_refusal.CrewRefusal.TheVariants.{Unmade}
+use Rattle.tlsf_calls.specs.declared.crew_refusal.CrewRefusal.TheVariants.{Heap, Unmade}
 use Rattle.tlsf_calls.specs.declared.reply.Reply.TheVariants as reply
 use Rattle.tlsf_calls.specs.declared.target.Target.TheVariants.{Made, Absent}
 use Rattle.tlsf_lines.specs.Events.{events_of, labels_of}
@@ -35,6 +35,16 @@ labels_of_phases = refl
 allocate_line : reply_line (record { worker = 0; call = call.Allocate 8; reply = reply.Made (record { heap = 0; at = 4; serial = 12 }) }) (Some 1) ≡ codes "0 a 1 at 4 serial 12\n"
 unfolding digits
 allocate_line = refl
+
+-- 0 r 1 resized
+resize_line : reply_line (record { worker = 0; call = call.Resize (Made 0) 100; reply = reply.Resized }) (Some 1) ≡ codes "0 r 1 resized\n"
+unfolding digits
+resize_line = refl
+
+-- a block that has no room to grow
+no_room_line : reply_line (record { worker = 0; call = call.Resize (Made 0) 100; reply = reply.Refused (Heap NoRoom) }) (Some 1) ≡ codes "0 r 1 refused 10\n"
+unfolding digits
+no_room_line = refl
 
 -- a use of a label whose line was refused
 unmade_line : reply_line (record { worker = 0; call = call.Release Absent; reply = reply.Refused Unmade }) (Some 2) ≡ codes "0 f 2 refused 18\n"

@@ -4,7 +4,7 @@ use Rattle.std.specs.Prelude.{codes}
 use Rattle.hex.proofs.OnLiterals.{hex_on_literals}
 use Rattle.tlsf_calls.specs.Bytes.{chunk_of}
 use Rattle.tlsf_lines.specs.declared.header.Header.{Header}
-use Rattle.tlsf_lines.specs.declared.line.Line.TheVariants.{Allocate, Release, Write, Read, Drain, Phase}
+use Rattle.tlsf_lines.specs.declared.line.Line.TheVariants.{Allocate, Release, Write, Read, Resize, Drain, Phase}
 use Rattle.tlsf_lines.specs.declared.line_fault.LineFault.{LineFault}
 use Rattle.tlsf_lines.specs.declared.line_fault.LineFault.TheVariants.{BadHeader, BadLine, LabelOrder}
 use Rattle.tlsf_lines.specs.Lines.{line_from}
@@ -57,6 +57,18 @@ read : trace_of (text (codes "tlsf 1 1 64 1" ∷ codes "a 0 1 11" ∷ codes "g 0
     Ok (record { header = heap_of_64; lines = Allocate 0 1 11 ∷ Read 0 1 4 64 ∷ [] })
 unfolding trace_of lines_in line_in line_from header_in header_from
 read = refl
+
+-- a block grows and shrinks
+resize : trace_of (text (codes "tlsf 1 1 64 1" ∷ codes "a 0 1 8" ∷ codes "r 0 1 100" ∷ codes "r 0 1 3" ∷ [])) ≡
+    Ok (record { header = heap_of_64; lines = Allocate 0 1 8 ∷ Resize 0 1 100 ∷ Resize 0 1 3 ∷ [] })
+unfolding trace_of lines_in line_in line_from header_in header_from
+resize = refl
+
+-- another worker may ask to resize it after a phase
+resized_after_phase : trace_of (text (codes "tlsf 1 2 64 4" ∷ codes "a 0 1 8" ∷ codes "phase" ∷ codes "r 1 1 100" ∷ [])) ≡
+    Ok (record { header = two_of_64; lines = Allocate 0 1 8 ∷ Phase ∷ Resize 1 1 100 ∷ [] })
+unfolding trace_of lines_in line_in line_from header_in header_from
+resized_after_phase = refl
 
 -- a drain, and the end of a phase
 drain : trace_of (text (codes "tlsf 1 2 64 4" ∷ codes "d 1 8192" ∷ codes "phase" ∷ [])) ≡

@@ -7,7 +7,7 @@ use Rattle.tlsf_calls.specs.declared.call.Call.TheVariants as call
 use Rattle.tlsf_calls.specs.declared.target.Target.{Target}
 use Rattle.tlsf_calls.specs.declared.target.Target.TheVariants.{Made, Absent}
 use Rattle.tlsf_lines.specs.declared.line.Line.{Line}
-use Rattle.tlsf_lines.specs.declared.line.Line.TheVariants.{Allocate, Release, Write, Read, Drain, Phase}
+use Rattle.tlsf_lines.specs.declared.line.Line.TheVariants.{Allocate, Release, Write, Read, Resize, Drain, Phase}
 use Rattle.tlsf_lines.specs.Trace.{Trace}
 
 -- ---- drains
@@ -28,6 +28,7 @@ width_of workers (Allocate worker label len) = 1
 width_of workers (Release worker label) = 1
 width_of workers (Write worker label at bytes) = 1
 width_of workers (Read worker label at n) = 1
+width_of workers (Resize worker label len) = 1
 width_of workers (Drain worker most) = 1
 width_of workers Phase = workers
 
@@ -43,6 +44,7 @@ maker_of workers label (Allocate worker made len ∷ before) = if made == label 
 maker_of workers label (Release worker used ∷ before) = maker_of workers label before
 maker_of workers label (Write worker used at bytes ∷ before) = maker_of workers label before
 maker_of workers label (Read worker used at n ∷ before) = maker_of workers label before
+maker_of workers label (Resize worker used len ∷ before) = maker_of workers label before
 maker_of workers label (Drain worker most ∷ before) = maker_of workers label before
 maker_of workers label (Phase ∷ before) = maker_of workers label before
 
@@ -65,6 +67,7 @@ events_in workers before (Allocate worker label len) = one_event worker (call.Al
 events_in workers before (Release worker label) = one_event worker (call.Release (target_of workers label before))
 events_in workers before (Write worker label at bytes) = one_event worker (call.Write (target_of workers label before) at bytes)
 events_in workers before (Read worker label at n) = one_event worker (call.Read (target_of workers label before) at n)
+events_in workers before (Resize worker label len) = one_event worker (call.Resize (target_of workers label before) len)
 events_in workers before (Drain worker most) = one_event worker (call.Drain most)
 events_in workers before Phase = last_drains workers
 
@@ -84,6 +87,7 @@ labels_in workers (Allocate worker label len) = Some label ∷ []
 labels_in workers (Release worker label) = Some label ∷ []
 labels_in workers (Write worker label at bytes) = Some label ∷ []
 labels_in workers (Read worker label at n) = Some label ∷ []
+labels_in workers (Resize worker label len) = Some label ∷ []
 labels_in workers (Drain worker most) = None ∷ []
 labels_in workers Phase = replicate workers None
 

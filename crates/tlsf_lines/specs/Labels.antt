@@ -1,7 +1,7 @@
 -- Labels: what the lines before have made of them, and which a line may make or use.
 use Rattle.std.specs.Prelude.{ℕ, Bool, true, false, ◌==◌, if◌then◌else◌, List, [], ◌∷◌}
 use Rattle.tlsf_lines.specs.declared.line.Line.{Line}
-use Rattle.tlsf_lines.specs.declared.line.Line.TheVariants.{Allocate, Release, Write, Read, Drain, Phase}
+use Rattle.tlsf_lines.specs.declared.line.Line.TheVariants.{Allocate, Release, Write, Read, Resize, Drain, Phase}
 
 -- when the lines before made a label
 pub data Made : Type 0 where
@@ -22,6 +22,7 @@ made_of label (Allocate worker made length ∷ before) = if made == label then N
 made_of label (Release worker used ∷ before) = made_of label before
 made_of label (Write worker used at bytes ∷ before) = made_of label before
 made_of label (Read worker used at n ∷ before) = made_of label before
+made_of label (Resize worker used length ∷ before) = made_of label before
 made_of label (Drain worker most ∷ before) = made_of label before
 made_of label (Phase ∷ before) = at_phase (made_of label before)
 
@@ -44,5 +45,6 @@ is_in_order before (Allocate worker label length) = can_make (made_of label befo
 is_in_order before (Release worker label) = can_use worker (made_of label before)
 is_in_order before (Write worker label at bytes) = can_use worker (made_of label before)
 is_in_order before (Read worker label at n) = can_use worker (made_of label before)
+is_in_order before (Resize worker label length) = can_use worker (made_of label before)
 is_in_order before (Drain worker most) = true
 is_in_order before Phase = true

@@ -3,7 +3,7 @@ use Rattle.std.specs.Prelude.{ℕ, Bool, true, false, if◌then◌else◌, List,
 use Rattle.std.specs.Str.{bytes_eq}
 use Rattle.tlsf_lines.specs.Values.{Kind, Worker, Label, Length, Offset, Hex, Count, Most}
 use Rattle.tlsf_lines.specs.declared.line.Line.{Line}
-use Rattle.tlsf_lines.specs.declared.line.Line.TheVariants.{Allocate, Release, Write, Read, Drain, Phase}
+use Rattle.tlsf_lines.specs.declared.line.Line.TheVariants.{Allocate, Release, Write, Read, Resize, Drain, Phase}
 use Rattle.tlsf_lines.specs.declared.word.Word.{Word}
 use Rattle.tlsf_lines.specs.declared.word.Word.TheVariants as word
 use Rattle.tlsf_lines.specs.Values.{Value, Number, Bytes}
@@ -12,7 +12,7 @@ use Rattle.tlsf_lines.specs.Values.{Value, Number, Bytes}
 abbrev pub words : List (List ℕ × Word)
 words =
     (codes "a", word.Allocate) ∷ (codes "f", word.Release) ∷ (codes "p", word.Write)
-    ∷ (codes "g", word.Read) ∷ (codes "d", word.Drain) ∷ (codes "phase", word.Phase) ∷ []
+    ∷ (codes "g", word.Read) ∷ (codes "d", word.Drain) ∷ (codes "phase", word.Phase) ∷ (codes "r", word.Resize) ∷ []
 
 -- the word that a first field spells, of these
 abbrev pub word_of : List (List ℕ × Word) → List ℕ → Option Word
@@ -25,6 +25,7 @@ kinds_of word.Allocate = Worker ∷ Label ∷ Length ∷ []
 kinds_of word.Release = Worker ∷ Label ∷ []
 kinds_of word.Write = Worker ∷ Label ∷ Offset ∷ Hex ∷ []
 kinds_of word.Read = Worker ∷ Label ∷ Offset ∷ Count ∷ []
+kinds_of word.Resize = Worker ∷ Label ∷ Length ∷ []
 kinds_of word.Drain = Worker ∷ Most ∷ []
 kinds_of word.Phase = []
 
@@ -34,6 +35,7 @@ line_from word.Allocate (Number worker ∷ Number label ∷ Number length ∷ []
 line_from word.Release (Number worker ∷ Number label ∷ []) = Some (Release worker label)
 line_from word.Write (Number worker ∷ Number label ∷ Number at ∷ Bytes bytes ∷ []) = Some (Write worker label at bytes)
 line_from word.Read (Number worker ∷ Number label ∷ Number at ∷ Number n ∷ []) = Some (Read worker label at n)
+line_from word.Resize (Number worker ∷ Number label ∷ Number length ∷ []) = Some (Resize worker label length)
 line_from word.Drain (Number worker ∷ Number most ∷ []) = Some (Drain worker most)
 line_from word.Phase [] = Some Phase
 line_from _ _ = None

@@ -11,7 +11,7 @@ use Rattle.tlsf_calls.specs.declared.target.Target.TheVariants.{Made, Named, Abs
 use Rattle.tlsf_calls.specs.Entries.{record_of}
 use Rattle.tlsf_calls.specs.Entries.{made_by}
 use Rattle.tlsf_lines.specs.declared.line.Line.{Line}
-use Rattle.tlsf_lines.specs.declared.line.Line.TheVariants.{Allocate, Release, Write, Read, Drain, Phase}
+use Rattle.tlsf_lines.specs.declared.line.Line.TheVariants.{Allocate, Release, Write, Read, Resize, Drain, Phase}
 use Rattle.tlsf_lines.specs.ReplyLines.{is_taken}
 
 -- ---- phases
@@ -35,6 +35,7 @@ is_line_of w (Allocate worker label len) = worker == w
 is_line_of w (Release worker label) = worker == w
 is_line_of w (Write worker label at bytes) = worker == w
 is_line_of w (Read worker label at n) = worker == w
+is_line_of w (Resize worker label len) = worker == w
 is_line_of w (Drain worker most) = worker == w
 is_line_of w Phase = false
 
@@ -72,6 +73,7 @@ call_in known before (Allocate worker label len) = call.Allocate len
 call_in known before (Release worker label) = call.Release (target_in known before label)
 call_in known before (Write worker label at bytes) = call.Write (target_in known before label) at bytes
 call_in known before (Read worker label at n) = call.Read (target_in known before label) at n
+call_in known before (Resize worker label len) = call.Resize (target_in known before label) len
 call_in known before (Drain worker most) = call.Drain most
 call_in known before Phase = call.Drain 0
 

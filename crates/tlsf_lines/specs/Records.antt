@@ -3,7 +3,7 @@ use Rattle.std.specs.Prelude.{zero, suc, ℕ, List, [], ◌++◌, map, Option, S
 use Rattle.tlsf_calls.specs.Entries.{record_of}
 use Rattle.tlsf_calls.specs.declared.entry.Entry.{Entry}
 use Rattle.tlsf_lines.specs.declared.line.Line.{Line}
-use Rattle.tlsf_lines.specs.declared.line.Line.TheVariants.{Allocate, Release, Write, Read, Drain, Phase}
+use Rattle.tlsf_lines.specs.declared.line.Line.TheVariants.{Allocate, Release, Write, Read, Resize, Drain, Phase}
 use Rattle.tlsf_lines.specs.Phases.{own_lines}
 use Rattle.tlsf_lines.specs.ReplyLines.{reply_text}
 
@@ -13,6 +13,7 @@ label_in (Allocate worker label len) = Some label
 label_in (Release worker label) = Some label
 label_in (Write worker label at bytes) = Some label
 label_in (Read worker label at n) = Some label
+label_in (Resize worker label len) = Some label
 label_in (Drain worker most) = None
 label_in Phase = None
 

@@ -8,9 +8,9 @@ use Rattle.tlsf_heap.specs.declared.refusal.Refusal.{Refusal}
 use Rattle.tlsf_calls.specs.Bytes.{bytes_of}
 use Rattle.tlsf_calls.specs.Numbers as crew
 use Rattle.tlsf_calls.specs.declared.call.Call.{Call}
-use Rattle.tlsf_calls.specs.declared.call.Call.TheVariants.{Allocate, Release, Write, Read, Take, Drain}
+use Rattle.tlsf_calls.specs.declared.call.Call.TheVariants.{Allocate, Release, Write, Read, Resize, Take, Drain}
 use Rattle.tlsf_calls.specs.declared.reply.Reply.{Reply}
-use Rattle.tlsf_calls.specs.declared.reply.Reply.TheVariants.{Made, Freed, Posted, Wrote, Got, Took, Empty, Drained, Refused}
+use Rattle.tlsf_calls.specs.declared.reply.Reply.TheVariants.{Made, Freed, Posted, Wrote, Got, Resized, Took, Empty, Drained, Refused}
 use Rattle.tlsf_calls.specs.declared.entry.Entry.{Entry}
 
 -- the word of a call, as a line has it
@@ -19,6 +19,7 @@ call_part (Allocate len) = codes " a"
 call_part (Release target) = codes " f"
 call_part (Write target at bytes) = codes " p"
 call_part (Read target at n) = codes " g"
+call_part (Resize target len) = codes " r"
 call_part (Take from) = codes " take " ++ decimal from
 call_part (Drain most) = codes " d"
 
@@ -43,12 +44,13 @@ answer_part Freed = codes " freed"
 answer_part Posted = codes " posted"
 answer_part (Wrote n) = codes " wrote " ++ decimal n
 answer_part (Got bytes) = codes " got " ++ encode_lower (bytes_of bytes)
+answer_part Resized = codes " resized"
 answer_part (Took t) = place_part t.name ++ release_part t.answer
 answer_part Empty = codes " empty"
 answer_part (Drained n) = codes " drained " ++ decimal n
 answer_part (Refused why) = codes " refused " ++ decimal (crew.number_of why)
 
--- w a L, w f L, w p L, w g L, w take I or w d, and then the answer
+-- w a L, w f L, w p L, w g L, w r L, w take I or w d, and then the answer
 abbrev pub reply_line : Entry → Option ℕ → List ℕ
 reply_line entry label = decimal entry.worker ++ call_part entry.call ++ label_part label ++ answer_part entry.reply ++ codes "\n"
 

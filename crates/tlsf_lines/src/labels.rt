@@ -79,6 +79,7 @@ impl Labels {
             Line::Release { worker, label } => self.can_use(*label, *worker),
             Line::Write { worker, label, .. } => self.can_use(*label, *worker),
             Line::Read { worker, label, .. } => self.can_use(*label, *worker),
+            Line::Resize { worker, label, .. } => self.can_use(*label, *worker),
             Line::Drain { .. } => true,
             Line::Phase => true,
         }
@@ -147,7 +148,11 @@ impl Labels {
         match line {
             Line::Allocate { worker, label, .. } => self.make(*label, *worker, events)?,
             Line::Phase => self.end_phase(),
-            Line::Release { .. } | Line::Write { .. } | Line::Read { .. } | Line::Drain { .. } => {}
+            Line::Release { .. }
+            | Line::Write { .. }
+            | Line::Read { .. }
+            | Line::Resize { .. }
+            | Line::Drain { .. } => {}
         }
         Ok(())
     }

@@ -8,6 +8,7 @@
 //! | `f w L` | worker w releases the block of label L |
 //! | `p w L at HEX` | worker w writes the bytes at byte `at` of the block |
 //! | `g w L at n` | worker w reads n bytes at byte `at` of the block |
+//! | `r w L len` | worker w resizes the block of label L to len bytes, where it stands |
 //! | `d w n` | worker w drains at most n posts |
 //! | `phase` | a phase ends |
 //!

@@ -44,6 +44,12 @@ pub enum Line {
         at: u32,
         n: u32,
     },
+    /// `r w L len`: the worker resizes the block to `len` bytes, where it stands.
+    Resize {
+        worker: u32,
+        label: u32,
+        len: u32,
+    },
     /// `d w n`: the worker drains at most so many posts, 1 to 8192.
     Drain {
         worker: u32,
@@ -69,6 +75,7 @@ impl Line {
             | Line::Release { .. }
             | Line::Write { .. }
             | Line::Read { .. }
+            | Line::Resize { .. }
             | Line::Drain { .. } => true,
         }
     }
@@ -83,6 +90,7 @@ impl Line {
             | Line::Release { worker, .. }
             | Line::Write { worker, .. }
             | Line::Read { worker, .. }
+            | Line::Resize { worker, .. }
             | Line::Drain { worker, .. } => *worker == caller,
         }
     }
@@ -95,7 +103,8 @@ impl Line {
             Line::Allocate { label, .. }
             | Line::Release { label, .. }
             | Line::Write { label, .. }
-            | Line::Read { label, .. } => Some(*label),
+            | Line::Read { label, .. }
+            | Line::Resize { label, .. } => Some(*label),
             Line::Drain { .. } | Line::Phase => None,
         }
     }

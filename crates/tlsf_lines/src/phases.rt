@@ -90,6 +90,10 @@ fn call_of(by_label: &CallsByLabel, names: &Names, line: Line) -> Call
             at,
             n,
         },
+        Line::Resize { label, len, .. } => Call::Resize {
+            target: target_of(by_label, names, label),
+            len,
+        },
         Line::Drain { most, .. } => Call::Drain { most },
         // A worker's lines are calls: none of them ends a phase.
         Line::Phase => Call::Drain { most: 0 },

@@ -63,6 +63,17 @@ fn read_of(worker: Option<u32>, label: Option<u32>, at: Option<u32>, n: Option<u
 }
 
 #[tactic(auto, unfolding(crate::specs::Lines::line_from))]
+fn resize_of(worker: Option<u32>, label: Option<u32>, len: Option<u32>) -> Option<Line>
+    ensures { result ≡ Lines.line_from word.Resize (value_of worker ∷ value_of label ∷ value_of len ∷ []) }
+{
+    Some(Line::Resize {
+        worker: worker?,
+        label: label?,
+        len: len?,
+    })
+}
+
+#[tactic(auto, unfolding(crate::specs::Lines::line_from))]
 fn drain_of(worker: Option<u32>, most: Option<u32>) -> Option<Line>
     ensures { result ≡ Lines.line_from word.Drain (value_of worker ∷ value_of most ∷ []) }
 {
@@ -117,6 +128,17 @@ fn read_in(workers: u32, fields: Option<&[u8]>) -> Option<Option<Line>>
     Some(read_of(worker, label, at, n))
 }
 
+// `r w L len`, behind its word.
+fn resize_in(workers: u32, fields: Option<&[u8]>) -> Option<Option<Line>>
+    requires { 0 < workers }
+    ensures { result ≡ line_behind workers word.Resize (fields_left fields.entry) }
+{
+    let (worker, fields) = next_number(fields, 0, workers - 1)?;
+    let (label, fields) = next_number(fields, 0, MOST_LABEL)?;
+    let len = last_number(fields, 0, u32::MAX)?;
+    Some(resize_of(worker, label, len))
+}
+
 // `d w n`, behind its word.
 fn drain_in(workers: u32, fields: Option<&[u8]>) -> Option<Option<Line>>
     requires { 0 < workers }
@@ -148,6 +170,7 @@ pub fn line_of_word(workers: u32, word: Word, fields: Option<&[u8]>) -> Option<O
         Word::Release => release_in(workers, fields),
         Word::Write => write_in(workers, fields),
         Word::Read => read_in(workers, fields),
+        Word::Resize => resize_in(workers, fields),
         Word::Drain => drain_in(workers, fields),
         Word::Phase => phase_in(fields),
     }

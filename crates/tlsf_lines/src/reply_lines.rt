@@ -32,6 +32,7 @@ fn write_call(text: &mut String, call: Call) -> Result<(), AllocError>
         Call::Release { .. } => text.push_str(" f"),
         Call::Write { .. } => text.push_str(" p"),
         Call::Read { .. } => text.push_str(" g"),
+        Call::Resize { .. } => text.push_str(" r"),
         Call::Take { from } => {
             text.push_str(" take ")?;
             write_number(text, u64::from(from))
@@ -106,6 +107,7 @@ fn write_answer(text: &mut String, reply: Reply) -> Result<(), AllocError>
             write_number(text, u64::from(n))
         }
         Reply::Got(bytes) => write_bytes(text, &bytes),
+        Reply::Resized => text.push_str(" resized"),
         Reply::Took(took) => {
             write_place(text, took.name)?;
             write_release(text, took.answer)

@@ -127,6 +127,10 @@ impl Script {
                 let target = labels.target(label);
                 self.push(worker, Call::Read { target, at, n }, Some(label))
             }
+            Line::Resize { worker, label, len } => {
+                let target = labels.target(label);
+                self.push(worker, Call::Resize { target, len }, Some(label))
+            }
             Line::Drain { worker, most } => self.push(worker, Call::Drain { most }, None),
             Line::Phase => self.drain_all(workers),
         }

@@ -16,6 +16,8 @@ pub enum Word {
     Drain,
     /// `phase`: a phase ends.
     Phase,
+    /// `r`: a worker resizes the block of a label where it stands.
+    Resize,
 }
 
 /// The word that a first field spells, or `None` where it spells none.
@@ -34,6 +36,8 @@ pub fn word_of(field: &[u8]) -> Option<Word>
         Some(Word::Drain)
     } else if field == b"phase".as_slice() {
         Some(Word::Phase)
+    } else if field == b"r".as_slice() {
+        Some(Word::Resize)
     } else {
         None
     }

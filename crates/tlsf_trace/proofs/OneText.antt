@@ -9,7 +9,7 @@ use Rattle.tlsf_crew.proofs.lemmas.threads.OneRace.{race_is_one}
 use Rattle.tlsf_lines.specs.Phases.{call_in, calls_from, in_first, is_line_of, known_below, none_known, own_lines, phases_of, script_in, scripts_in}
 use Rattle.tlsf_lines.specs.Records.{records_text}
 use Rattle.tlsf_lines.specs.declared.line.Line.{Line}
-use Rattle.tlsf_lines.specs.declared.line.Line.TheVariants.{Allocate, Release, Write, Read, Drain, Phase}
+use Rattle.tlsf_lines.specs.declared.line.Line.TheVariants.{Allocate, Release, Write, Read, Resize, Drain, Phase}
 use Rattle.tlsf_trace.specs.OneText.{IsNoDrain, RaceGivesOneText}
 use Rattle.tlsf_trace.specs.Output.{yard_of}
 use Rattle.tlsf_trace.specs.RaceOutput.{IsRaceText}
@@ -30,6 +30,7 @@ phases_none (Allocate worker label len ∷ lines) all = first_none (Allocate wor
 phases_none (Release worker label ∷ lines) all = first_none (Release worker label) (phases_of lines) tt (phases_none lines all.1)
 phases_none (Write worker label at bytes ∷ lines) all = first_none (Write worker label at bytes) (phases_of lines) tt (phases_none lines all.1)
 phases_none (Read worker label at n ∷ lines) all = first_none (Read worker label at n) (phases_of lines) tt (phases_none lines all.1)
+phases_none (Resize worker label len ∷ lines) all = first_none (Resize worker label len) (phases_of lines) tt (phases_none lines all.1)
 phases_none (Drain worker most ∷ lines) all = absurd all.0
 phases_none (Phase ∷ lines) all = (tt, phases_none lines all.1)
 
@@ -50,6 +51,7 @@ free_lines known w (Allocate worker label len ∷ lines) all before = free_line 
 free_lines known w (Release worker label ∷ lines) all before = free_line known w (Release worker label) lines before (worker == w) refl tt (free_lines known w lines all.1)
 free_lines known w (Write worker label at bytes ∷ lines) all before = free_line known w (Write worker label at bytes) lines before (worker == w) refl tt (free_lines known w lines all.1)
 free_lines known w (Read worker label at n ∷ lines) all before = free_line known w (Read worker label at n) lines before (worker == w) refl tt (free_lines known w lines all.1)
+free_lines known w (Resize worker label len ∷ lines) all before = free_line known w (Resize worker label len) lines before (worker == w) refl tt (free_lines known w lines all.1)
 free_lines known w (Drain worker most ∷ lines) all before = absurd all.0
 free_lines known w (Phase ∷ lines) all before = free_lines known w lines all.1 before
 

@@ -45,16 +45,25 @@ stays map name (heap.Allocate len) (heap.Allocated (Ok own)) spares some = given
 stays map name (heap.Allocate len) (heap.Allocated (Err why)) spares some = some
 stays map name (heap.Allocate len) (heap.Released r) spares some = some
 stays map name (heap.Allocate len) (heap.Written r) spares some = some
+stays map name (heap.Allocate len) (heap.Resized r) spares some = some
 stays map name (heap.Allocate len) (heap.Got r) spares some = some
 stays map name (heap.Write own at bytes) (heap.Written (Ok done)) spares some = new_bytes map own name (λ old. heap.overwritten old at bytes) (is_same own name) refl some
 stays map name (heap.Write own at bytes) (heap.Written (Err why)) spares some = some
 stays map name (heap.Write own at bytes) (heap.Allocated r) spares some = some
 stays map name (heap.Write own at bytes) (heap.Released r) spares some = some
+stays map name (heap.Write own at bytes) (heap.Resized r) spares some = some
 stays map name (heap.Write own at bytes) (heap.Got r) spares some = some
+stays map name (heap.Resize own len) (heap.Resized (Ok done)) spares some = new_bytes map own name (λ old. heap.fitted old len) (is_same own name) refl some
+stays map name (heap.Resize own len) (heap.Resized (Err why)) spares some = some
+stays map name (heap.Resize own len) (heap.Allocated r) spares some = some
+stays map name (heap.Resize own len) (heap.Released r) spares some = some
+stays map name (heap.Resize own len) (heap.Written r) spares some = some
+stays map name (heap.Resize own len) (heap.Got r) spares some = some
 stays map name (heap.Release own) (heap.Released (Ok done)) spares some = not_taken map own name (is_same own name) refl spares some
 stays map name (heap.Release own) (heap.Released (Err why)) spares some = some
 stays map name (heap.Release own) (heap.Allocated r) spares some = some
 stays map name (heap.Release own) (heap.Written r) spares some = some
+stays map name (heap.Release own) (heap.Resized r) spares some = some
 stays map name (heap.Release own) (heap.Got r) spares some = some
 stays map name (heap.Read own at n) answer spares some = some
 
@@ -74,6 +83,7 @@ spares_call : (h : HeapState) (call : heap.Call) (name : Name) (a : Option heap.
     → ((own : Name) → call ≡ heap.Release own → a ≡ Some (heap.Released (Ok tt)) → own ≢ name) → Spares name call (heap.answered h call).0
 spares_call h (heap.Allocate len) name a told spares = tt
 spares_call h (heap.Write own at bytes) name a told spares = tt
+spares_call h (heap.Resize own len) name a told spares = tt
 spares_call h (heap.Read own at n) name a told spares = tt
 spares_call h (heap.Release own) name None told spares = let e : ◌≡◌ {A = List heap.Answer} (heap.Released (heap.released h own).answer ∷ []) [] = told in cc
 spares_call h (heap.Release own) name (Some x) told spares =

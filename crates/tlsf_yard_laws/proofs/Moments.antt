@@ -29,7 +29,7 @@ use Rattle.tlsf_yard_laws.specs.Races.{HasPast}
 use Rattle.tlsf_yard_laws.specs.Sharing.{most_under_way, without_post}
 use Rattle.tlsf_yard_laws.specs.Moments.{OrdersHaveMoments, RaceSharedPoolServes, all_under_way, unreleased, AreSparingInRace}
 use Rattle.tlsf_yard_laws.proofs.Few.{IsAmong, among_left, among_right, few, names_of, posted, still_among}
-use Rattle.tlsf_yard_laws.proofs.Shares.{allocate_asks}
+use Rattle.tlsf_yard_laws.proofs.Shares.{allocate_asks, resize_asks}
 use Rattle.tlsf_yard_laws.proofs.Told.{noted_same, past_holds, race_serves}
 
 -- ---- what is live is held, or its name is under way
@@ -158,7 +158,7 @@ module _ (w v : World) (scripts : List (List Call)) (records : List (List Entry)
   modest_call : (before later : List Entry) (e : Entry) (c : heap.Call) → record_of records j ≡ before ++ e ∷ later → call_on_own (race.made j) e.worker e.call e.reply ≡ Some c
       → IsModest (most + most_under_way w) len (held_after_all 0 (all_calls before) (all_answers before)) c
   modest_call before later e (heap.Allocate n) whole is =
-      let s = sparing before e n (later, whole) (allocate_asks (race.made j) e.worker e.call e.reply n is) in
+      let s = (sparing before e (later, whole)).0 n (allocate_asks (race.made j) e.worker e.call e.reply n is) in
       let now = history before (e ∷ later) whole in
       let live = ledger_after_all [] (all_calls before) (all_answers before) in
       let agrees : Agrees now.0 live = past_agrees j words first (all_calls before) (all_answers before) now.0 now.1 four in
@@ -178,6 +178,8 @@ module _ (w v : World) (scripts : List (List Call)) (records : List (List Entry)
               subst (λ (m : ℕ). length (all_under_way j lanes (suc k)) ≤ m * w.capacity) less (way_few j w.capacity lanes k (omega arith) (λ i l ne. short i (omega (arith, l)) ne))
   modest_call before later e (heap.Release name) whole is = tt
   modest_call before later e (heap.Write name at bytes) whole is = tt
+  modest_call before later e (heap.Resize name n) whole is =
+      let asks = resize_asks (race.made j) e.worker e.call e.reply name n is in (sparing before e (later, whole)).1 asks.0 n asks.1
   modest_call before later e (heap.Read name at n) whole is = tt
 
   abbrev Modest : List Entry → List Entry → Type 0

@@ -11,10 +11,10 @@ use Rattle.tlsf_heap.specs.declared.name.Name.{Name}
 use Rattle.tlsf_heap.proofs.Living.{known}
 use Rattle.tlsf_post.specs.declared.post.Post.{Post}
 use Rattle.tlsf_calls.specs.declared.call.Call.{Call}
-use Rattle.tlsf_calls.specs.declared.call.Call.TheVariants.{Allocate, Release, Write, Read, Take, Drain}
+use Rattle.tlsf_calls.specs.declared.call.Call.TheVariants.{Allocate, Release, Write, Read, Resize, Take, Drain}
 use Rattle.tlsf_calls.specs.declared.entry.Entry.{Entry}
 use Rattle.tlsf_calls.specs.declared.reply.Reply.{Reply}
-use Rattle.tlsf_calls.specs.declared.reply.Reply.TheVariants.{Made, Freed, Posted, Wrote, Got, Took as Taken, Empty, Drained, Refused}
+use Rattle.tlsf_calls.specs.declared.reply.Reply.TheVariants.{Made, Freed, Posted, Wrote, Got, Resized, Took as Taken, Empty, Drained, Refused}
 use Rattle.tlsf_calls.specs.declared.crew_refusal.CrewRefusal.TheVariants.{Heap, Full, Stranger, Unmade}
 use Rattle.tlsf_calls.specs.declared.target.Target.{Target}
 use Rattle.tlsf_calls.specs.declared.took.Took.{Took}
@@ -108,6 +108,7 @@ refused_take x at k from e far is = ap (λ (y : Entry). post_of_take k y.call y.
     not_from k from Posted ne = refl
     not_from k from (Wrote n) ne = refl
     not_from k from (Got bytes) ne = refl
+    not_from k from Resized ne = refl
     not_from k from (Taken t) ne = let b : (from == k) ≡ false = grind (arith, nat_tests) in rw b refl
     not_from k from Empty ne = refl
     not_from k from (Drained n) ne = refl
@@ -148,6 +149,7 @@ one_away n at k s t (Allocate len) at_in far m none = quiet_away n at k s t (All
 one_away n at k s t (Release target) at_in far m none = quiet_away n at k s t (Release target) at_in tt m none
 one_away n at k s t (Write target from bytes) at_in far m none = quiet_away n at k s t (Write target from bytes) at_in tt m none
 one_away n at k s t (Read target from count) at_in far m none = quiet_away n at k s t (Read target from count) at_in tt m none
+one_away n at k s t (Resize target len) at_in far m none = quiet_away n at k s t (Resize target len) at_in tt m none
 one_away n at k s t (Take from) at_in far m none = take_away n at k from s t far m none
 one_away n at k s t (Drain most) at_in far m none = drain_away n at k most s t at_in far m none
 
@@ -190,6 +192,7 @@ post_gives j made e p (Release target) (Made name) c r is = cc
 post_gives j made e p (Release target) Freed c r is = cc
 post_gives j made e p (Release target) (Wrote n) c r is = cc
 post_gives j made e p (Release target) (Got bytes) c r is = cc
+post_gives j made e p (Release target) Resized c r is = cc
 post_gives j made e p (Release target) (Taken t) c r is = cc
 post_gives j made e p (Release target) Empty c r is = cc
 post_gives j made e p (Release target) (Drained n) c r is = cc
@@ -197,6 +200,7 @@ post_gives j made e p (Release target) (Refused why) c r is = cc
 post_gives j made e p (Allocate len) reply c r is = cc
 post_gives j made e p (Write target from bytes) reply c r is = cc
 post_gives j made e p (Read target from n) reply c r is = cc
+post_gives j made e p (Resize target len) reply c r is = cc
 post_gives j made e p (Take from) reply c r is = cc
 post_gives j made e p (Drain most) reply c r is = cc
 
@@ -259,6 +263,7 @@ let_go made e (Release target) (Made name) own c r is told = cc
 let_go made e (Release target) Posted own c r is told = cc
 let_go made e (Release target) (Wrote n) own c r is told = cc
 let_go made e (Release target) (Got bytes) own c r is told = cc
+let_go made e (Release target) Resized own c r is told = cc
 let_go made e (Release target) (Taken t) own c r is told = cc
 let_go made e (Release target) Empty own c r is told = cc
 let_go made e (Release target) (Drained n) own c r is told = cc
@@ -272,12 +277,14 @@ let_go made e (Take from) Freed own c r is told = cc
 let_go made e (Take from) Posted own c r is told = cc
 let_go made e (Take from) (Wrote n) own c r is told = cc
 let_go made e (Take from) (Got bytes) own c r is told = cc
+let_go made e (Take from) Resized own c r is told = cc
 let_go made e (Take from) Empty own c r is told = cc
 let_go made e (Take from) (Drained n) own c r is told = cc
 let_go made e (Take from) (Refused why) own c r is told = cc
 let_go made e (Allocate len) reply own c r is told = cc
 let_go made e (Write target from bytes) reply own c r is told = absurd (not_written (meant made target reply) (λ name. heap.Write name from (bytes_of bytes)) own (λ name q. cc) is)
 let_go made e (Read target from n) reply own c r is told = absurd (not_written (meant made target reply) (λ name. heap.Read name from n) own (λ name q. cc) is)
+let_go made e (Resize target len) reply own c r is told = absurd (not_written (meant made target reply) (λ name. heap.Resize name len) own (λ name q. cc) is)
 let_go made e (Drain most) reply own c r is told = cc
 
 -- a later stretch has more posts

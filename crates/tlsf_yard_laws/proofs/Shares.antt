@@ -17,17 +17,18 @@ use Rattle.tlsf_post.specs.declared.post.Post.{Post}
 use Rattle.tlsf_laws.specs.Room.{live_count}
 use Rattle.tlsf_laws.specs.Pools.{pool_words, IsModest, IsServed}
 use Rattle.tlsf_laws.specs.Contents.{bytes_there, is_same}
-use Rattle.tlsf_laws.specs.Kinds.{Ledger, ledger_after}
+use Rattle.tlsf_laws.specs.Kinds.{Ledger, ledger_after, with_length}
 use Rattle.tlsf_laws.proofs.Names.{same_is, same_self}
 use Rattle.tlsf_laws.proofs.Ledgers.{Agrees, agrees_call, live_agrees, lookup, lookup_without}
 use Rattle.tlsf_laws.proofs.ModestCalls.{InPool, is_served, kept, tick_kept}
 use Rattle.tlsf_calls.specs.Bytes.{bytes_of}
-use Rattle.tlsf_crew.specs.yard.History.{RunsTo, answer_told, answers_on, call_on_own, calls_on, handed_on, post_of_release, post_of_take, posts_made, posts_taken}
+use Rattle.tlsf_crew.specs.yard.History.{RunsTo, answer_told, answers_on, call_on_own, calls_on, handed_on, meant, of_heap, post_of_release, post_of_take, posts_made, posts_taken, taken_name}
 use Rattle.tlsf_calls.specs.declared.entry.Entry.{Entry}
 use Rattle.tlsf_calls.specs.declared.call.Call.{Call}
-use Rattle.tlsf_calls.specs.declared.call.Call.TheVariants.{Allocate, Release, Write, Read, Take, Drain}
+use Rattle.tlsf_calls.specs.declared.call.Call.TheVariants.{Allocate, Release, Write, Read, Resize, Take, Drain}
+use Rattle.tlsf_calls.specs.declared.target.Target.{Target}
 use Rattle.tlsf_calls.specs.declared.reply.Reply.{Reply}
-use Rattle.tlsf_calls.specs.declared.reply.Reply.TheVariants.{Made, Freed, Posted, Wrote, Got, Took as Taken, Empty, Drained, Refused}
+use Rattle.tlsf_calls.specs.declared.reply.Reply.TheVariants.{Made, Freed, Posted, Wrote, Got, Resized, Took as Taken, Empty, Drained, Refused}
 use Rattle.tlsf_crew.proofs.lemmas.yard.JoinedEntries.{told_other, told_own, told_then}
 use Rattle.tlsf_yard_laws.specs.Sharing.{AreSparing, IsSparing, unreleased_after, with_call, without_post}
 use Rattle.tlsf_yard_laws.proofs.Told.{noted_same, served_on}
@@ -86,6 +87,33 @@ still_held : (m name : Name) (u : Ledger) (r : Result (Unit {0}) Refusal) → m 
 still_held m name u (Ok done) ne a = still_among m name u ne a
 still_held m name u (Err why) ne a = a
 
+-- a resize leaves the names of a ledger, and what else it tells of each
+resize_keeps : (m name : Name) (k : ℕ) (u : Ledger) → IsAmong name (names_of u) → IsAmong name (names_of (with_length u m k))
+resize_keeps m name k [] a = absurd a
+resize_keeps m name k (x ∷ u) a = elim a [
+  | inl same ↦ inl (first (is_same m x.0) ∙ same)
+  | inr rest ↦ inr (resize_keeps m name k u rest)
+]
+  where
+    first : (c : Bool) → (cond {A = Name × ℕ} c (x.0, k) x).0 ≡ x.0
+    first true = refl
+    first false = refl
+
+abbrev Finds : (m name : Name) → (k len : ℕ) → Ledger → Type 0
+Finds m name k len l = lookup name (with_length l m k) ≡ Some len → (n : ℕ) × (lookup name l ≡ Some n)
+
+resize_finds : (m name : Name) (k len : ℕ) (l : Ledger) → Finds m name k len l
+resize_finds m name k len [] e = cc
+resize_finds m name k len (x ∷ l) e = at (resize_finds m name k len l) (is_same m x.0) e
+  where
+    on : Finds m name k len l → (c : Bool) (n : ℕ) → cond c (Some n) (lookup name (with_length l m k)) ≡ Some len → (n : ℕ) × (cond c (Some x.1) (lookup name l) ≡ Some n)
+    on rest true n e = (x.1, refl)
+    on rest false n e = rest e
+
+    at : Finds m name k len l → (c : Bool) → lookup name (cond {A = Name × ℕ} c (x.0, k) x ∷ with_length l m k) ≡ Some len → (n : ℕ) × (lookup name (x ∷ l) ≡ Some n)
+    at rest true e = on rest (is_same x.0 name) k e
+    at rest false e = on rest (is_same x.0 name) x.1 e
+
 -- each name that waited waits still, but for that which the call releases
 abbrev Leaves : ℕ → (ℕ → List Post) → (ℕ → List Post) → Option heap.Call → Type 0
 Leaves j lanes later o = (i : ℕ) → i ≢ j → (name : Name) → IsAmong name (posted (lanes i)) → IsAmong name (posted (later i)) ⊎ (o ≡ Some (heap.Release name))
@@ -121,6 +149,16 @@ call_covers j n h l u lanes later (heap.Write m at bytes) agrees fresh covers le
   where
     differs : ◌≡◌ {A = Option heap.Call} (Some (heap.Write m at bytes)) (Some (heap.Release name)) → ⊥
     differs e = cc
+call_covers j n h l u lanes later (heap.Resize m k) agrees fresh covers leaves name len found = on (heap.resized h m k).answer found
+  where
+    differs : ◌≡◌ {A = Option heap.Call} (Some (heap.Resize m k)) (Some (heap.Release name)) → ⊥
+    differs e = cc
+
+    on : (r : Result (Unit {0}) Refusal) → lookup name (ledger_after l (heap.Resize m k) (heap.Resized r)) ≡ Some len → IsCovered j n (ledger_after u (heap.Resize m k) (heap.Resized r)) later name
+    on (Ok done) e =
+        let old = resize_finds m name k len l e in
+        stay_covered j n u (with_length u m k) lanes later name (resize_keeps m name k u) (still_waits j lanes later (heap.Resize m k) name differs leaves) (covers name old.0 old.1)
+    on (Err why) e = stay_covered j n u u lanes later name (λ a. a) (still_waits j lanes later (heap.Resize m k) name differs leaves) (covers name len e)
 call_covers j n h l u lanes later (heap.Read m at k) agrees fresh covers leaves name len found =
     stay_covered j n u u lanes later name (λ a. a) (still_waits j lanes later (heap.Read m at k) name differs leaves) (covers name len found)
   where
@@ -138,11 +176,13 @@ take_asks made i at (Allocate len) reply p e = absurd (no_post p e)
 take_asks made i at (Release target) reply p e = absurd (no_post p e)
 take_asks made i at (Write target from bytes) reply p e = absurd (no_post p e)
 take_asks made i at (Read target from n) reply p e = absurd (no_post p e)
+take_asks made i at (Resize target len) reply p e = absurd (no_post p e)
 take_asks made i at (Take from) (Made name) p e = absurd (no_post p e)
 take_asks made i at (Take from) Freed p e = absurd (no_post p e)
 take_asks made i at (Take from) Posted p e = absurd (no_post p e)
 take_asks made i at (Take from) (Wrote n) p e = absurd (no_post p e)
 take_asks made i at (Take from) (Got chunk) p e = absurd (no_post p e)
+take_asks made i at (Take from) Resized p e = absurd (no_post p e)
 take_asks made i at (Take from) (Taken t) p e = on (from == i) e
   where
     on : (c : Bool) → cond c (Some (record { from = t.from; name = t.name })) None ≡ Some p → ◌≡◌ {A = Option heap.Call} (Some (heap.Release t.name)) (Some (heap.Release p.name))
@@ -171,12 +211,48 @@ allocate_asks made at (Read target from n) reply m e = absurd (on _ e)
     on : (o : Option Name) → option_map (λ name. heap.Read name from n) o ≡ Some (heap.Allocate m) → ⊥
     on None e = cc
     on (Some name) e = cc
+allocate_asks made at (Resize target len) reply m e = absurd (on _ e)
+  where
+    on : (o : Option Name) → option_map (λ name. heap.Resize name len) o ≡ Some (heap.Allocate m) → ⊥
+    on None e = cc
+    on (Some name) e = cc
 allocate_asks made at (Take from) reply m e = absurd (on _ e)
   where
     on : (o : Option Name) → option_map heap.Release o ≡ Some (heap.Allocate m) → ⊥
     on None e = cc
     on (Some name) e = cc
 allocate_asks made at (Drain most) reply m e = absurd cc
+
+-- and one that tells a resize is one
+pub resize_asks : (made : List (Option Name)) (at : ℕ) (call : Call) (reply : Reply) (name : Name) (m : ℕ) → call_on_own made at call reply ≡ Some (heap.Resize name m)
+    → (target : Target) × (call ≡ Resize target m)
+resize_asks made at (Resize target len) reply name m e = (target, on (meant made target reply) e)
+  where
+    on : (o : Option Name) → option_map (λ name. heap.Resize name len) o ≡ Some (heap.Resize name m) → ◌≡◌ {A = Call} (Resize target len) (Resize target m)
+    on None e = cc
+    on (Some own) e = let same : len ≡ m = cc in ap (λ (n : ℕ). Resize target n) same
+resize_asks made at (Allocate len) reply name m e = absurd cc
+resize_asks made at (Release target) reply name m e = absurd (on (of_heap at (meant made target reply)) e)
+  where
+    on : (o : Option Name) → option_map heap.Release o ≡ Some (heap.Resize name m) → ⊥
+    on None e = cc
+    on (Some own) e = cc
+resize_asks made at (Write target from bytes) reply name m e = absurd (on (bytes_of bytes) (meant made target reply) e)
+  where
+    on : (xs : List ℕ) (o : Option Name) → option_map (λ name. heap.Write name from xs) o ≡ Some (heap.Resize name m) → ⊥
+    on xs None e = cc
+    on xs (Some own) e = cc
+resize_asks made at (Read target from n) reply name m e = absurd (on (meant made target reply) e)
+  where
+    on : (o : Option Name) → option_map (λ name. heap.Read name from n) o ≡ Some (heap.Resize name m) → ⊥
+    on None e = cc
+    on (Some own) e = cc
+resize_asks made at (Take from) reply name m e = absurd (on (taken_name reply) e)
+  where
+    on : (o : Option Name) → option_map heap.Release o ≡ Some (heap.Resize name m) → ⊥
+    on None e = cc
+    on (Some own) e = cc
+resize_asks made at (Drain most) reply name m e = absurd cc
 
 -- ---- one entry after another
 
@@ -221,14 +297,15 @@ live_few j m capacity words k h l u lanes j_in short shared =
     omega arith
 
 module _ (words most len : ℕ) (region : want len ≤ 2 ^ 20) (enough : pool_words most len ≤ words) (j n : ℕ) where
-  -- a request that the entry tells is modest
+  -- a request that the entry tells is modest, and so is a resize
   abbrev Allows : HeapState → Option heap.Call → Type 0
-  Allows h o = (m : ℕ) → o ≡ Some (heap.Allocate m) → (m ≤ len) × (live_count h < most)
+  Allows h o = ((m : ℕ) → o ≡ Some (heap.Allocate m) → (m ≤ len) × (live_count h < most)) × ((name : Name) (m : ℕ) → o ≡ Some (heap.Resize name m) → m ≤ len)
 
   is_modest : (h : HeapState) (c : heap.Call) → Allows h (Some c) → IsModest most len (live_count h) c
-  is_modest h (heap.Allocate m) allows = allows m refl
+  is_modest h (heap.Allocate m) allows = allows.0 m refl
   is_modest h (heap.Release name) allows = tt
   is_modest h (heap.Write name at bytes) allows = tt
+  is_modest h (heap.Resize name m) allows = allows.1 name m refl
   is_modest h (heap.Read name at m) allows = tt
 
   own_next : (h g : HeapState) (l u : Ledger) (lanes later : ℕ → List Post) (o : Option heap.Call) (a : Option heap.Answer) → RunsTo h (cons_option o []) (cons_option a []) g
@@ -335,12 +412,14 @@ module _ (words most len : ℕ) (region : want len ≤ 2 ^ 20) (capacity j m : �
         let answers : answers_on j (e ∷ []) ≡ cons_option a [] = told_own (λ e. answer_told e.call e.reply) j e own in
         let run : RunsTo h (cons_option o []) (cons_option a []) g = subst (λ c. RunsTo h c (cons_option a []) g) calls (subst (λ x. RunsTo h (calls_on j made (e ∷ [])) x g) answers leads.run) in
         let few = live_few j m capacity words (want len + 3) h l u lanes j_in short shared in
-        let allows : (x : ℕ) → o ≡ Some (heap.Allocate x) → (x ≤ len) × (live_count h < most + m * capacity)
-        = λ x is. let s = sparing own x (allocate_asks made e.worker e.call e.reply x is) in (s.0, omega (arith, s.1, few)) in
+        let allocates : (x : ℕ) → o ≡ Some (heap.Allocate x) → (x ≤ len) × (live_count h < most + m * capacity)
+        = λ x is. let s = (sparing own).0 x (allocate_asks made e.worker e.call e.reply x is) in (s.0, omega (arith, s.1, few)) in
+        let resizes : (name : Name) (x : ℕ) → o ≡ Some (heap.Resize name x) → x ≤ len
+        = λ name x is. let asks = resize_asks made e.worker e.call e.reply name x is in (sparing own).1 asks.0 x asks.1 in
         let test : unreleased_after j made u e ≡ with_call u o a = ap (λ (c : Bool). cond c (with_call u o a) (without_post u (post_of_release j made e.worker e.call e.reply))) (eq-eqb e.worker j own) in
         subst (λ (v : Ledger). Next j n words (want len + 3) h v g later (answers_on j (e ∷ []))) (sym test)
         (subst (λ x. Next j n words (want len + 3) h (with_call u o a) g later x) (sym answers)
-        (own_next words (most + m * capacity) len region enough j n h g l u lanes later o a run shared (own_leaves j n capacity made h g lanes later e own leads) allows fresh))
+        (own_next words (most + m * capacity) len region enough j n h g l u lanes later o a run shared (own_leaves j n capacity made h g lanes later e own leads) (allocates, resizes) fresh))
     | inr other ↦
         let calls : calls_on j made (e ∷ []) ≡ [] = told_other (λ e. call_on_own made e.worker e.call e.reply) j e other in
         let answers : answers_on j (e ∷ []) ≡ [] = told_other (λ e. answer_told e.call e.reply) j e other in

@@ -8,8 +8,8 @@ use Rattle.tlsf_heap.specs.declared.name.Name.{Name}
 use Rattle.tlsf_post.specs.declared.post.Post.{Post}
 use Rattle.tlsf_calls.specs.Bytes.{bytes_of}
 use Rattle.tlsf_calls.specs.declared.call.Call.{Call}
-use Rattle.tlsf_calls.specs.declared.call.Call.TheVariants.{Allocate, Release, Write, Read, Take, Drain}
-use Rattle.tlsf_crew.specs.yard.World.{World, Replayed, Draining, called, draining, after_drain, drained_below, drained_lane, name_of, posting, reading_named, releasing_named, taking, taking_next, took_first, took_more, with_waiting, writing_named}
+use Rattle.tlsf_calls.specs.declared.call.Call.TheVariants.{Allocate, Release, Write, Read, Resize, Take, Drain}
+use Rattle.tlsf_crew.specs.yard.World.{World, Replayed, Draining, called, draining, after_drain, drained_below, drained_lane, name_of, posting, reading_named, releasing_named, resizing_named, taking, taking_next, took_first, took_more, with_waiting, writing_named}
 use Rattle.tlsf_crew.proofs.lemmas.yard.LaneChanges.{edited_other, edited_same}
 use Rattle.tlsf_crew.proofs.lemmas.yard.OneEvent.{from_other, from_own, releasing_far, releasing_post, taking_far, taking_lane, taking_own}
 
@@ -87,6 +87,10 @@ read_short : (j : ℕ) (w : World) (at : ℕ) (o : Option Name) (from n : ℕ) �
 read_short j w at None from n = stay j w
 read_short j w at (Some name) from n = record { capacity = refl; short = λ s. s }
 
+resize_short : (j : ℕ) (w : World) (at : ℕ) (o : Option Name) (len : ℕ) → StayShort j w (resizing_named w at o len).world
+resize_short j w at None len = stay j w
+resize_short j w at (Some name) len = record { capacity = refl; short = λ s. s }
+
 -- ---- a drain
 
 more_short : (j at from : ℕ) (ps : List Post) (d : Draining) → StayShort j d.world (fold (took_more at from) d ps).world
@@ -125,5 +129,6 @@ called_short j r at (Allocate len) = record { capacity = refl; short = λ s. s }
 called_short j r at (Release target) = release_short j r.world at (name_of r.made target)
 called_short j r at (Write target from bytes) = write_short j r.world at (name_of r.made target) from (bytes_of bytes)
 called_short j r at (Read target from n) = read_short j r.world at (name_of r.made target) from n
+called_short j r at (Resize target len) = resize_short j r.world at (name_of r.made target) len
 called_short j r at (Take from) = take_short j r.world at from
 called_short j r at (Drain most) = drain_short j r at most

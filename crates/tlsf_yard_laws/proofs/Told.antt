@@ -3,7 +3,7 @@ use Rattle.std.proofs.Common.{◌≡◌, ℕ, ◌+◌, ◌<◌, ◌≤◌, ◌^�
 use Rattle.std.specs.List.{AllByRecursion}
 use Rattle.tlsf_heap.specs.Blocks.{HeapState, want}
 use Rattle.tlsf_heap.specs.Lawful.{IsRegion}
-use Rattle.tlsf_heap.specs.Calls.{Call, Allocate, Release, Write, Read, Answer, Allocated, Released, Written, Got, last_tick, opened, run}
+use Rattle.tlsf_heap.specs.Calls.{Call, Allocate, Release, Write, Resize, Read, Answer, Allocated, Released, Written, Resized, Got, last_tick, opened, run}
 use Rattle.tlsf_laws.specs.Room.{live_count}
 use Rattle.tlsf_laws.specs.Held.{held_after, held_after_all}
 use Rattle.tlsf_heap.specs.declared.name.Name.{Name}
@@ -26,9 +26,11 @@ held_same : (held : ℕ) (call : Call) (answer : Answer) → held_after held cal
 held_same held call (Allocated r) = refl
 held_same held call (Released r) = refl
 held_same held call (Written r) = refl
+held_same held call (Resized r) = refl
 held_same held (Allocate len) (Got (Ok bytes)) = refl
 held_same held (Release name) (Got (Ok bytes)) = refl
 held_same held (Write name at xs) (Got (Ok bytes)) = refl
+held_same held (Resize name len) (Got (Ok bytes)) = refl
 held_same held (Read name at n) (Got (Ok bytes)) = refl
 held_same held call (Got (Err why)) = refl
 
@@ -48,6 +50,7 @@ room_same : (answer : Answer) → HasRoomFor answer → HasRoomFor (handed_on an
 room_same (Allocated r) room = room
 room_same (Released r) room = room
 room_same (Written r) room = room
+room_same (Resized r) room = room
 room_same (Got (Ok bytes)) room = λ e. cc
 room_same (Got (Err why)) room = room
 
@@ -59,9 +62,11 @@ after_same : (bytes : Contents) (call : Call) (answer : Answer) → after bytes 
 after_same bytes call (Allocated r) = refl
 after_same bytes call (Released r) = refl
 after_same bytes call (Written r) = refl
+after_same bytes call (Resized r) = refl
 after_same bytes (Allocate len) (Got (Ok xs)) = refl
 after_same bytes (Release name) (Got (Ok xs)) = refl
 after_same bytes (Write name at new) (Got (Ok xs)) = refl
+after_same bytes (Resize name len) (Got (Ok xs)) = refl
 after_same bytes (Read name at n) (Got (Ok xs)) = refl
 after_same bytes call (Got (Err why)) = refl
 
@@ -76,6 +81,7 @@ pub served_on : (answer : Answer) → IsServed answer → IsServed (handed_on an
 served_on (Allocated r) s = s
 served_on (Released r) s = s
 served_on (Written r) s = s
+served_on (Resized r) s = s
 served_on (Got (Ok bytes)) s = tt
 served_on (Got (Err why)) s = s
 
@@ -83,9 +89,11 @@ pub noted_same : (l : Ledger) (call : Call) (answer : Answer) → ledger_after l
 noted_same l call (Allocated r) = refl
 noted_same l call (Released r) = refl
 noted_same l call (Written r) = refl
+noted_same l call (Resized r) = refl
 noted_same l (Allocate len) (Got (Ok bytes)) = refl
 noted_same l (Release name) (Got (Ok bytes)) = refl
 noted_same l (Write name at xs) (Got (Ok bytes)) = refl
+noted_same l (Resize name len) (Got (Ok bytes)) = refl
 noted_same l (Read name at n) (Got (Ok bytes)) = refl
 noted_same l call (Got (Err why)) = refl
 

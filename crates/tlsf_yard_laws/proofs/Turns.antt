@@ -16,7 +16,7 @@ use Rattle.tlsf_crew.specs.yard.History.{AreTakes, RunsTo, TellsCall, answer_tol
 use Rattle.tlsf_calls.specs.declared.entry.Entry.{Entry}
 use Rattle.tlsf_calls.specs.declared.event.Event.{Event}
 use Rattle.tlsf_calls.specs.declared.call.Call.{Call}
-use Rattle.tlsf_calls.specs.declared.call.Call.TheVariants.{Allocate, Release, Write, Read, Take, Drain}
+use Rattle.tlsf_calls.specs.declared.call.Call.TheVariants.{Allocate, Release, Write, Read, Resize, Take, Drain}
 use Rattle.tlsf_calls.specs.declared.target.Target.{Target}
 use Rattle.tlsf_calls.specs.declared.reply.Reply.TheVariants.{Drained, Refused}
 use Rattle.tlsf_calls.specs.declared.crew_refusal.CrewRefusal.TheVariants.{Stranger}
@@ -164,6 +164,7 @@ module _ (made : List (Option Name)) (n j capacity : ℕ) (j_in : j < n) where
       on (Release target) t = release_turn r (called r at (Release target)) at target t at_in b (called_short j r at (Release target))
       on (Write target from bytes) t = quiet_turn r (called r at (Write target from bytes)) at (Write target from bytes) t b (called_short j r at (Write target from bytes)) (subst (AllByRecursion (IsQuiet made j)) (sym t.tells.whole) (refl, tt))
       on (Read target from k) t = quiet_turn r (called r at (Read target from k)) at (Read target from k) t b (called_short j r at (Read target from k)) (subst (AllByRecursion (IsQuiet made j)) (sym t.tells.whole) (refl, tt))
+      on (Resize target len) t = quiet_turn r (called r at (Resize target len)) at (Resize target len) t b (called_short j r at (Resize target len)) (subst (AllByRecursion (IsQuiet made j)) (sym t.tells.whole) (refl, tt))
       on (Take from) t = quiet_turn r (called r at (Take from)) at (Take from) t b (called_short j r at (Take from)) (subst (AllByRecursion (IsQuiet made j)) (sym t.tells.whole) (refl, tt))
       on (Drain most) t = quiet_turn r (called r at (Drain most)) at (Drain most) t b (called_short j r at (Drain most))
           (subst (AllByRecursion (IsQuiet made j)) (sym t.tells.1.whole) (takes_quiet at 0 most t.tells.1.takes t.tells.1.are_takes))
@@ -205,6 +206,7 @@ module _ (made : List (Option Name)) (n j capacity : ℕ) (j_in : j < n) where
       quiet_far at (Release target) = refl
       quiet_far at (Write target from bytes) = refl
       quiet_far at (Read target from k) = refl
+      quiet_far at (Resize target len) = refl
       quiet_far at (Take from) = refl
       quiet_far at (Drain most) = refl
 

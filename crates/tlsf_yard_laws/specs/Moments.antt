@@ -14,7 +14,8 @@ use Rattle.tlsf_crew.specs.yard.History.{StandsBehind, answers_on, calls_on, ent
 use Rattle.tlsf_crew.specs.threads.Race.{IsRace, record_of}
 use Rattle.tlsf_calls.specs.declared.entry.Entry.{Entry}
 use Rattle.tlsf_calls.specs.declared.call.Call.{Call}
-use Rattle.tlsf_calls.specs.declared.call.Call.TheVariants.{Allocate}
+use Rattle.tlsf_calls.specs.declared.target.Target.{Target}
+use Rattle.tlsf_calls.specs.declared.call.Call.TheVariants.{Allocate, Resize}
 use Rattle.tlsf_yard_laws.specs.Races.{HasPast}
 use Rattle.tlsf_yard_laws.specs.Sharing.{most_under_way, without_post}
 
@@ -60,10 +61,12 @@ pub record IsSparingNow (w : World) (made : ℕ → List (Option Name)) (records
   pub moment : Moment w made records j before
   pub few : length (unreleased live (all_under_way j moment.under_way (length w.heaps))) < most
 
--- so is each request in its record, behind earlier calls on its heap
+-- so is each request in its record, behind earlier calls on its heap; and it resizes blocks to at most `len` bytes
 abbrev pub AreSparingInRace : (w : World) → (ℕ → List (Option Name)) → List (List Entry) → (j most len : ℕ) → List heap.Call → List heap.Answer → Type 0
-AreSparingInRace w made records j most len calls answers = (before : List Entry) (e : Entry) (n : ℕ) → StandsBehind (record_of records j) before e → e.call ≡ Allocate n
-    → IsSparingNow w made records j most len before (ledger_after_all [] (calls ++ calls_on j (made j) before) (answers ++ answers_on j before)) n
+AreSparingInRace w made records j most len calls answers = (before : List Entry) (e : Entry) → StandsBehind (record_of records j) before e
+    → ((n : ℕ) → e.call ≡ Allocate n
+    → IsSparingNow w made records j most len before (ledger_after_all [] (calls ++ calls_on j (made j) before) (answers ++ answers_on j before)) n)
+    × ((target : Target) (n : ℕ) → e.call ≡ Resize target n → n ≤ len)
 
 -- a heap with room for what the programs hold and for what may be under way serves each request of its worker, while the ticks last
 abbrev pub RaceSharedPoolServes : Type 0

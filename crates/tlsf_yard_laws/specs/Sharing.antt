@@ -13,7 +13,8 @@ use Rattle.tlsf_crew.specs.yard.World.{World, replies}
 use Rattle.tlsf_crew.specs.yard.History.{answer_told, answers_on, call_on_own, post_of_release}
 use Rattle.tlsf_calls.specs.declared.entry.Entry.{Entry}
 use Rattle.tlsf_calls.specs.declared.event.Event.{Event}
-use Rattle.tlsf_calls.specs.declared.call.Call.TheVariants.{Allocate}
+use Rattle.tlsf_calls.specs.declared.target.Target.{Target}
+use Rattle.tlsf_calls.specs.declared.call.Call.TheVariants.{Allocate, Resize}
 use Rattle.tlsf_yard_laws.specs.Yards.{IsNew}
 
 -- the ledger after a call on the heap itself, where there is one
@@ -35,9 +36,11 @@ unreleased_after j made ledger e =
     then with_call ledger (call_on_own made e.worker e.call e.reply) (answer_told e.call e.reply)
     else without_post ledger (post_of_release j made e.worker e.call e.reply)
 
--- each request of worker j is for at most `len` bytes, and is made while the programs hold fewer than `most` blocks of its heap
+-- each request of worker j is for at most `len` bytes, and is made while the programs hold fewer than `most` blocks of its heap;
+-- and it resizes blocks to at most `len` bytes
 abbrev pub IsSparing : ℕ → ℕ → ℕ → Ledger → Entry → Type 0
-IsSparing j most len ledger e = e.worker ≡ j → (n : ℕ) → e.call ≡ Allocate n → (n ≤ len) × (length ledger < most)
+IsSparing j most len ledger e = e.worker ≡ j →
+    ((n : ℕ) → e.call ≡ Allocate n → (n ≤ len) × (length ledger < most)) × ((target : Target) (n : ℕ) → e.call ≡ Resize target n → n ≤ len)
 
 abbrev pub AreSparing : ℕ → ℕ → ℕ → List (Option Name) → Ledger → List Entry → Type 0
 AreSparing j most len made ledger [] = ⊤

@@ -7,8 +7,8 @@ ghost use Rattle.tlsf_yard_laws.specs.Sharing.{SharedPoolServes};
 /// owner, or `Posted` by another worker. So a program that is done with a block need not know when its owner drains. Blocks
 /// whose names are under way are bounded by the lanes: each of the n - 1 lanes that lead to a worker holds up to C posts. A heap
 /// with the words of `tlsf_laws::pool_never_refuses` for `most` + (n - 1) * C blocks of `len` bytes serves each request of
-/// its worker that is for at most `len` bytes and is made while fewer than `most` are held, as long as the ticks last. Nothing
-/// is asked of when a worker drains, and posts of forged or doubled names change nothing.
+/// its worker that is for at most `len` bytes and is made while fewer than `most` are held, as long as the ticks last and its
+/// worker resizes no block to more than `len` bytes. Nothing is asked of when a worker drains, and posts of forged or doubled names change nothing.
 ///
 /// ```text
 /// two workers, lanes of 8 posts, at most 100 blocks of worker 0 held, of up to 512 bytes:
@@ -24,7 +24,8 @@ pub fn lanes_add_their_capacity()
 /// record of which all is posted that the owner took from it, and at most C posts more, those under way. The blocks that the owner's
 /// answers leave live are held by the programs, but for those whose names are under way. A heap with the words of
 /// `tlsf_laws::pool_never_refuses` for `most` + (n - 1) * C blocks of `len` bytes serves each request of its worker that is for at
-/// most `len` bytes and is made at some such moment at which fewer than `most` are held, as long as the ticks last.
+/// most `len` bytes and is made at some such moment at which fewer than `most` are held, as long as the ticks last and its worker
+/// resizes no block to more than `len` bytes.
 ///
 /// So it is enough that one moment which the records admit is sparing, for each request by itself. That the calls of a race have
 /// an order in which no lane is overfull no clause says: a record orders no post against another worker's take.

@@ -10,6 +10,8 @@ pub mod LastDrains
 pub mod OneRace
 -- A record tells the calls of its script and the history of its worker's heap.
 pub mod RecordHistory
+-- The room that the records of a race have when they come back is that which was made for what waited and for the scripts.
+pub mod RecordRooms
 -- Two drains of the same heap that took the same posts are the same.
 pub mod SameDrains
 -- The calls of a script, one after another.

@@ -24,7 +24,7 @@ pub record IsPrepared (n : ℕ) (releases : List ℕ) (job : Job) : Type 0 where
   pub ready : IsReady job
   pub count : job.count ≡ n
   pub reach : (i : ℕ) → i < 8 → min (most_from releases job.worker i) (2 ^ 32 - 1) ≤ slice_index job.limits i
-  pub room : vec_len job.script + sum_below 8 (most_from releases job.worker) + 1 ≤ vec_capacity job.entries
+  pub room : vec_capacity job.entries ≡ vec_len job.script + sum_below 8 (most_from releases job.worker) + 1
 
 -- each job was done, in order
 abbrev pub AllDone : {J D : Type 0} → (J → D → Type 0) → List J → List D → Type 0
@@ -45,7 +45,11 @@ pub record HaveRun (ws : List Worker) (scripts : List (List Call)) (records : Li
 -- each record has room for the calls of the script, for each post that may be taken, and for the last drain
 abbrev pub HaveRooms : List Worker → List (List Call) → List (Vec Entry Global) → Type 0
 HaveRooms ws scripts records = (j : ℕ) (a : Worker) (r : Vec Entry Global) → slice_get ws j ≡ Some a → slice_get records j ≡ Some r
-    → length (script_of scripts j) + sum_below 8 (λ i. ready_from a i + releases_of (script_of scripts i)) + 1 ≤ vec_capacity r
+    → vec_capacity r ≡ length (script_of scripts j) + sum_below 8 (λ i. ready_from a i + releases_of (script_of scripts i)) + 1
+
+-- each record of the later ones has the room that it had
+abbrev pub KeepRooms : List (Vec Entry Global) → List (Vec Entry Global) → Type 0
+KeepRooms rs ss = (k : ℕ) (s : Vec Entry Global) → slice_get ss k ≡ Some s → (r : Vec Entry Global) × (slice_get rs k ≡ Some r) × (vec_capacity s ≡ vec_capacity r)
 
 -- a record has room for all that waits for worker j, and for one entry more
 abbrev pub HasLastRoom : List Worker → ℕ → Vec Entry Global → Type 0

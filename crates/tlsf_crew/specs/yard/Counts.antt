@@ -5,7 +5,7 @@ use Rattle.tlsf_post.specs.declared.take_end.TakeEnd.{TakeEnd}
 use Rattle.tlsf_post.specs.Lanes.{ready}
 use Rattle.tlsf_crew.specs.declared.yard.worker.Worker.{Worker}
 use Rattle.tlsf_calls.specs.declared.call.Call.{Call}
-use Rattle.tlsf_calls.specs.declared.call.Call.TheVariants.{Allocate, Release, Write, Read, Take, Drain}
+use Rattle.tlsf_calls.specs.declared.call.Call.TheVariants.{Allocate, Release, Write, Read, Resize, Take, Drain}
 use Rattle.tlsf_calls.specs.declared.event.Event.{Event}
 use Rattle.tlsf_crew.specs.yard.Workers.{end_from}
 use Rattle.tlsf_crew.specs.yard.Yard.{take_at}
@@ -45,12 +45,18 @@ is_release (Allocate len) = false
 is_release (Release target) = true
 is_release (Write target from bytes) = false
 is_release (Read target from n) = false
+is_release (Resize target len) = false
 is_release (Take from) = false
 is_release (Drain most) = false
 
 -- how many of the events are releases
 abbrev pub releases_in : List Event → ℕ
 releases_in es = count_by (λ e. is_release e.call) es
+
+-- the room for the entries of events: one for each event, one for each release among them, whose post a drain may take, and one for
+-- each post that waits
+abbrev pub entry_room : World → List Event → ℕ
+entry_room w es = length es + releases_in es + waiting_in w
 
 -- a sum over the workers
 abbrev pub sum_of : List ℕ → ℕ

@@ -6,7 +6,7 @@ use Rattle.tlsf_heap.specs.declared.refusal.Refusal.TheVariants.{Stale}
 use Rattle.tlsf_calls.specs.declared.event.Event.{Event}
 use Rattle.tlsf_calls.specs.declared.entry.Entry.{Entry}
 use Rattle.tlsf_calls.specs.declared.call.Call.{Call}
-use Rattle.tlsf_calls.specs.declared.call.Call.TheVariants.{Allocate, Release, Write, Read, Take, Drain}
+use Rattle.tlsf_calls.specs.declared.call.Call.TheVariants.{Allocate, Release, Write, Read, Resize, Take, Drain}
 use Rattle.tlsf_calls.specs.declared.target.Target.{Target}
 use Rattle.tlsf_calls.specs.declared.took.Took.{Took}
 use Rattle.tlsf_calls.specs.declared.reply.Reply.{Reply}
@@ -47,6 +47,7 @@ IsFairCall r gone (Allocate len) = ⊤
 IsFairCall r gone (Release target) = IsUsable r gone (name_of r.made target)
 IsFairCall r gone (Write target from bytes) = IsUsable r gone (name_of r.made target)
 IsFairCall r gone (Read target from n) = IsUsable r gone (name_of r.made target)
+IsFairCall r gone (Resize target len) = IsUsable r gone (name_of r.made target)
 IsFairCall r gone (Take from) = ⊤
 IsFairCall r gone (Drain most) = ⊤
 

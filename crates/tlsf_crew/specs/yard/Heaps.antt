@@ -19,6 +19,9 @@ released h name = heap.released h name
 unfoldable pub written : HeapState → Name → ℕ → List ℕ → Outcome (Unit {0})
 written h name from bytes = heap.written h name from bytes
 
+unfoldable pub resized : HeapState → Name → ℕ → Outcome (Unit {0})
+resized h name len = heap.resized h name len
+
 abbrev pub bytes_read : HeapState → Name → ℕ → ℕ → Result (List ℕ) Refusal
 bytes_read h name from n = heap.read_of h name from n
 

@@ -12,11 +12,11 @@ use Rattle.tlsf_calls.specs.Bytes.{bytes_of}
 use Rattle.tlsf_calls.specs.declared.event.Event.{Event}
 use Rattle.tlsf_calls.specs.declared.entry.Entry.{Entry}
 use Rattle.tlsf_calls.specs.declared.call.Call.{Call}
-use Rattle.tlsf_calls.specs.declared.call.Call.TheVariants.{Allocate, Release, Write, Read, Take, Drain}
+use Rattle.tlsf_calls.specs.declared.call.Call.TheVariants.{Allocate, Release, Write, Read, Resize, Take, Drain}
 use Rattle.tlsf_calls.specs.declared.target.Target.{Target}
 use Rattle.tlsf_calls.specs.declared.reply.Reply.{Reply}
 use Rattle.tlsf_calls.specs.declared.took.Took.{Took}
-use Rattle.tlsf_calls.specs.declared.reply.Reply.TheVariants.{Made, Freed, Posted, Wrote, Got, Took as Taken, Drained, Refused}
+use Rattle.tlsf_calls.specs.declared.reply.Reply.TheVariants.{Made, Freed, Posted, Wrote, Got, Resized, Took as Taken, Drained, Refused}
 use Rattle.tlsf_calls.specs.declared.crew_refusal.CrewRefusal.TheVariants.{Heap, Stranger, Unmade}
 use Rattle.tlsf_crew.specs.yard.World.{World, heap_in, made_by, name_of}
 
@@ -27,6 +27,7 @@ abbrev pub LacksName : List (Option Name) → Call → Type 0
 LacksName made (Release target) = name_of made target ≡ None
 LacksName made (Write target from bytes) = name_of made target ≡ None
 LacksName made (Read target from n) = name_of made target ≡ None
+LacksName made (Resize target len) = name_of made target ≡ None
 LacksName made call = ⊥
 
 -- one entry of the call, and the name that it made. It is refused as Unmade exactly where its target means none
@@ -91,6 +92,7 @@ call_on_own made at (Allocate len) reply = Some (heap.Allocate len)
 call_on_own made at (Release target) reply = option_map heap.Release (of_heap at (meant made target reply))
 call_on_own made at (Write target from bytes) reply = option_map (λ name. heap.Write name from (bytes_of bytes)) (meant made target reply)
 call_on_own made at (Read target from n) reply = option_map (λ name. heap.Read name from n) (meant made target reply)
+call_on_own made at (Resize target len) reply = option_map (λ name. heap.Resize name len) (meant made target reply)
 call_on_own made at (Take from) reply = option_map heap.Release (taken_name reply)
 call_on_own made at (Drain most) reply = None
 
@@ -104,6 +106,8 @@ answer_told (Write target from bytes) (Wrote n) = if n == length (bytes_of bytes
 answer_told (Write target from bytes) (Refused (Heap why)) = Some (heap.Written (Err why))
 answer_told (Read target from n) (Got chunk) = Some (heap.Got (Ok (bytes_of chunk)))
 answer_told (Read target from n) (Refused (Heap why)) = Some (heap.Got (Err why))
+answer_told (Resize target len) Resized = Some (heap.Resized (Ok tt))
+answer_told (Resize target len) (Refused (Heap why)) = Some (heap.Resized (Err why))
 answer_told (Take from) (Taken t) = Some (heap.Released t.answer)
 answer_told call reply = None
 

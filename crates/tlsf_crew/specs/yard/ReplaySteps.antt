@@ -7,7 +7,7 @@ use Rattle.tlsf_crew.specs.declared.yard.worker.Worker.{Worker}
 use Rattle.tlsf_calls.specs.declared.entry.Entry.{Entry}
 use Rattle.tlsf_calls.specs.declared.event.Event.{Event}
 use Rattle.tlsf_calls.specs.declared.call.Call.{Call}
-use Rattle.tlsf_calls.specs.declared.call.Call.TheVariants.{Allocate, Release, Write, Read, Take, Drain}
+use Rattle.tlsf_calls.specs.declared.call.Call.TheVariants.{Allocate, Release, Write, Read, Resize, Take, Drain}
 use Rattle.tlsf_calls.specs.declared.reply.Reply.{Reply}
 use Rattle.tlsf_calls.specs.declared.reply.Reply.TheVariants.{Took as Taken, Empty}
 use Rattle.tlsf_calls.specs.declared.took.Took.{Took}
@@ -35,6 +35,7 @@ ConcernsCall made at (Allocate len) i j = ⊥
 ConcernsCall made at (Release target) i j = (i ≡ at) × (name : Name) × (name_of made target ≡ Some name) × (j ≡ name.heap)
 ConcernsCall made at (Write target from bytes) i j = ⊥
 ConcernsCall made at (Read target from n) i j = ⊥
+ConcernsCall made at (Resize target len) i j = ⊥
 ConcernsCall made at (Take from) i j = j ≡ at
 ConcernsCall made at (Drain most) i j = j ≡ at
 
@@ -46,6 +47,7 @@ MayTake (Allocate len) = ⊥
 MayTake (Release target) = ⊥
 MayTake (Write target from bytes) = ⊥
 MayTake (Read target from n) = ⊥
+MayTake (Resize target len) = ⊥
 MayTake (Take from) = ⊤
 MayTake (Drain most) = ⊤
 

@@ -6,17 +6,17 @@ use Rattle.tlsf_heap.specs.declared.name.Name.{Name}
 use Rattle.tlsf_heap.specs.Blocks.{HeapState}
 use Rattle.tlsf_calls.specs.Bytes.{bytes_of}
 use Rattle.tlsf_calls.specs.declared.chunk.Chunk.{Chunk}
-use Rattle.tlsf_crew.specs.yard.Heaps.{allocated, released, written, chunk_read}
+use Rattle.tlsf_crew.specs.yard.Heaps.{allocated, released, written, resized, chunk_read}
 use Rattle.tlsf_heap.specs.declared.refusal.Refusal.{Refusal}
 use Rattle.tlsf_crew.specs.declared.yard.worker.Worker.{Worker}
 use Rattle.tlsf_calls.specs.declared.event.Event.{Event}
 use Rattle.tlsf_calls.specs.declared.entry.Entry.{Entry}
 use Rattle.tlsf_calls.specs.declared.call.Call.{Call}
-use Rattle.tlsf_calls.specs.declared.call.Call.TheVariants.{Allocate, Release, Write, Read, Take, Drain}
+use Rattle.tlsf_calls.specs.declared.call.Call.TheVariants.{Allocate, Release, Write, Read, Resize, Take, Drain}
 use Rattle.tlsf_calls.specs.declared.target.Target.{Target}
 use Rattle.tlsf_calls.specs.declared.target.Target.TheVariants.{Named, Made as MadeBy, Absent}
 use Rattle.tlsf_calls.specs.declared.reply.Reply.{Reply}
-use Rattle.tlsf_calls.specs.declared.reply.Reply.TheVariants.{Made, Freed, Posted, Wrote, Got, Took as Taken, Empty, Drained, Refused}
+use Rattle.tlsf_calls.specs.declared.reply.Reply.TheVariants.{Made, Freed, Posted, Wrote, Got, Resized, Took as Taken, Empty, Drained, Refused}
 use Rattle.tlsf_calls.specs.declared.crew_refusal.CrewRefusal.TheVariants.{Heap, Full, Stranger, Unmade}
 pub use Rattle.tlsf_calls.specs.Entries.{made_by}
 use Rattle.tlsf_crew.specs.yard.Workers.{heap_of}
@@ -80,6 +80,13 @@ writing w at name from bytes = record {
 
 abbrev pub reading : World → ℕ → Name → ℕ → ℕ → Replied
 reading w at name from n = record { reply = reply_got (chunk_read (heap_in w at) name from n); world = w }
+
+abbrev pub reply_resized : Result (Unit {0}) Refusal → Reply
+reply_resized (Ok done) = Resized
+reply_resized (Err why) = Refused (Heap why)
+
+abbrev pub resizing : World → ℕ → Name → ℕ → Replied
+resizing w at name len = record { reply = reply_resized (resized (heap_in w at) name len).answer; world = with_heap w at (resized (heap_in w at) name len).heap }
 
 -- a post into the lane from `at` to another worker
 unfoldable pub posting : World → ℕ → Name → Replied
@@ -157,6 +164,10 @@ abbrev pub reading_named : World → ℕ → Option Name → ℕ → ℕ → Rep
 reading_named w at None from n = record { reply = Refused Unmade; world = w }
 reading_named w at (Some name) from n = reading w at name from n
 
+abbrev pub resizing_named : World → ℕ → Option Name → ℕ → Replied
+resizing_named w at None len = record { reply = Refused Unmade; world = w }
+resizing_named w at (Some name) len = resizing w at name len
+
 -- the events so far: what each made, what was answered, and the world
 pub record Replayed : Type 0 where
   pub made : List (Option Name)
@@ -186,6 +197,7 @@ called r at (Allocate len) = answered r at (Allocate len) (allocating r.world at
 called r at (Release target) = answered r at (Release target) (releasing_named r.world at (name_of r.made target))
 called r at (Write target from bytes) = answered r at (Write target from bytes) (writing_named r.world at (name_of r.made target) from (bytes_of bytes))
 called r at (Read target from n) = answered r at (Read target from n) (reading_named r.world at (name_of r.made target) from n)
+called r at (Resize target len) = answered r at (Resize target len) (resizing_named r.world at (name_of r.made target) len)
 called r at (Take from) = answered r at (Take from) (taking r.world at from)
 called r at (Drain most) = draining r at most
 

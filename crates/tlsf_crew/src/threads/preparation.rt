@@ -74,7 +74,7 @@ fn room_for_job(
     requires { calls < 2 ^ 32 }
     ensures fresh { IfOk result (λ room. (room.0.items ≡ []) × (room.1.items ≡ [])) }
     ensures names { IfOk result (λ room. calls ≤ vec_capacity room.0) }
-    ensures record { IfOk result (λ room. calls + sum_below 8 (most_from releases.now worker.now) + 1 ≤ vec_capacity room.1) }
+    ensures record { IfOk result (λ room. vec_capacity room.1 ≡ calls + sum_below 8 (most_from releases.now worker.now) + 1) }
 {
     let made = Vec::with_capacity(alloc, calls)?;
     let entries = Vec::with_capacity(alloc, room_for_record(worker, releases, calls))?;

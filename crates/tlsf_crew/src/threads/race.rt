@@ -6,7 +6,8 @@ ghost use Rattle.tlsf_crew.specs.yard.World.{world_of, called};
 ghost use Rattle.tlsf_crew.specs.yard.Counts.{sum_below};
 ghost use Rattle.tlsf_crew.specs.yard.ReplaySteps.{replay_of};
 ghost use Rattle.tlsf_crew.specs.threads.Race.{last_call, IsRace};
-ghost use Rattle.tlsf_crew.specs.threads.Parts.{HaveRun, HaveRooms, HasFew, HasLastRoom, HaveLastRooms, LastDrained};
+ghost use Rattle.tlsf_crew.specs.threads.Rooms.{HaveRecordRooms};
+ghost use Rattle.tlsf_crew.specs.threads.Parts.{HaveRun, HaveRooms, KeepRooms, HasFew, HasLastRoom, HaveLastRooms, LastDrained};
 
 use crate::threads::fan_out::{run_all, take_apart};
 use crate::threads::gate::Gate;
@@ -34,7 +35,10 @@ use tlsf_post::NoMemory;
 ///   its script, one after another, and to the last drain. What worker j took from worker i is what had waited for it,
 ///   and then what i was answered to have posted to it, in order and each once. Nothing waits in the end.
 ///
-/// All room is made before a thread starts. `NoMemory`, where a growth or the start of a thread was refused, gives no
+/// - `room`: all room is made before a thread starts. Each record has room for the calls of its script, for each post that waited for its
+///   worker, for each release of any script, and for the last drain.
+///
+/// `NoMemory`, where a growth or the start of a thread was refused, gives no
 /// outcome, and the workers are spent.
 ///
 /// ```
@@ -57,6 +61,7 @@ pub fn race<R: Threads + Wait + Sync, G: Gate>(
     ensures race { IfOk result (λ o. IsRace (world_of workers.items) (map (λ s. s.items) scripts.items)
         (map (λ r. r.items) o.records.items) (world_of o.workers.items)) }
     ensures yard { IfOk result (λ o. IsYard o.workers.items) }
+    ensures room { IfOk result (λ o. HaveRecordRooms (world_of workers.items) (map (λ s. s.items) scripts.items) o.records.items) }
 {
     let mut workers = workers;
     settle(&mut workers);
@@ -104,7 +109,8 @@ fn drain_last(alloc: Global, workers: &mut [Worker], records: &mut [Vec<Entry>])
     requires count { length records.old ≡ length workers.old }
     requires few { (j : ℕ) → HasFew workers.old j }
     requires room { HaveLastRooms workers.old records.old }
-    ensures { LastDrained workers.old (map (λ r. r.items) records.old) (map (λ r. r.items) records.new) workers.new (length workers.old) }
+    ensures drained { LastDrained workers.old (map (λ r. r.items) records.old) (map (λ r. r.items) records.new) workers.new (length workers.old) }
+    ensures rooms { KeepRooms records.old records.new }
 {
     for j in 0..workers.len() {
         drain_one(alloc, workers, j as u32, &mut records[j]);
@@ -120,6 +126,7 @@ fn drain_one(alloc: Global, workers: &mut [Worker], at: u32, entries: &mut Vec<E
     ensures yard { IsYard workers.new }
     ensures told { (made : List (Option Name)) → replay_of (made ++ None ∷ []) entries.new.items workers.new
         ≡ called (replay_of made entries.old.items workers.old) at last_call }
+    ensures capacity { vec_capacity entries.new ≡ vec_capacity entries.old }
 {
     let event = Event {
         worker: at,

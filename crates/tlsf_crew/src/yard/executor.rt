@@ -1,13 +1,13 @@
 //! The executor: one call of a script on one worker, with its entries and the name that it made.
 ghost use Rattle.std.specs.Prelude.{◌≡◌, ℕ, ◌+◌, ◌<◌, ◌≤◌, [], ◌∷◌, ◌++◌, List, Option, length, vec_len, vec_capacity};
 ghost use Rattle.tlsf_heap.specs.declared.name.Name.{Name};
-ghost use Rattle.tlsf_calls.specs.declared.call.Call.TheVariants.{Allocate, Release, Write, Read, Take};
+ghost use Rattle.tlsf_calls.specs.declared.call.Call.TheVariants.{Allocate, Release, Write, Read, Resize, Take};
 ghost use Rattle.tlsf_heap.specs.Calls.{read_of};
 ghost use Rattle.tlsf_crew.specs.yard.Calls.{by_heap};
 ghost use Rattle.tlsf_calls.specs.Bytes.{bytes_of};
 ghost use Rattle.tlsf_crew.specs.yard.Heaps.{as_chunk, chunk_read};
 ghost use Rattle.tlsf_crew.specs.yard.Workers.{heap_of, id_of, SameButHeap, HasTake, KnowsYard};
-ghost use Rattle.tlsf_crew.specs.yard.World.{allocating, releasing_named, writing_named, reading_named, taking, name_of, made_by};
+ghost use Rattle.tlsf_crew.specs.yard.World.{allocating, releasing_named, writing_named, reading_named, resizing_named, taking, name_of, made_by};
 ghost use Rattle.tlsf_crew.specs.yard.Counts.{sum_of};
 ghost use Rattle.tlsf_crew.specs.yard.Moves.{CallStep, TookWithin, EachLaneSpent, Stepped, Called};
 ghost use Rattle.tlsf_crew.specs.yard.Notes.{HasRoom};
@@ -166,6 +166,19 @@ fn reply_to_read(
     }
 }
 
+/// Resizes the own block that a target means, where it stands.
+fn reply_to_resize(worker: &mut Worker, target: Target, len: u32, made: &[Option<Name>]) -> Reply
+    ensures { (limits : List ℕ) → CallStep made.now worker.old limits (Resize target len) worker.new limits result (λ w. resizing_named w (id_of worker.old) (name_of made.now target) len) }
+{
+    let Some(name) = named(target, made) else {
+        return Reply::Refused(CrewRefusal::Unmade);
+    };
+    match worker.resize(name, len) {
+        Ok(()) => Reply::Resized,
+        Err(why) => Reply::Refused(why),
+    }
+}
+
 /// Takes the next post from another worker, and counts its limit down. At a limit of 0 the lane isn't asked.
 fn take_within(worker: &mut Worker, limits: &mut [u32; 8], from: u32) -> Option<Took>
     requires near { from < 8 }
@@ -226,6 +239,7 @@ pub(crate) fn reply_to(
         Call::Release { target } => reply_to_release(worker, target, made),
         Call::Write { target, at, bytes } => reply_to_write(worker, target, at, bytes, made),
         Call::Read { target, at, n } => reply_to_read(worker, target, at, n, made),
+        Call::Resize { target, len } => reply_to_resize(worker, target, len, made),
         Call::Take { from } => reply_to_take(worker, count, &mut journal.limits, from),
         Call::Drain { most } => Reply::Drained(drain_into_journal(worker, count, journal, most)),
     }

@@ -19,7 +19,7 @@ impl Journal {
     /// Room for so many entries, and limits of 0.
     pub(crate) fn with_room(alloc: Global, room: usize) -> Result<Journal, NoMemory>
         ensures empty { IfOk result (λ journal. journal.entries.items ≡ []) }
-        ensures room { IfOk result (λ journal. room ≤ vec_capacity journal.entries) }
+        ensures room { IfOk result (λ journal. vec_capacity journal.entries ≡ room) }
     {
         let entries = Vec::with_capacity(alloc, room)?;
         Ok(Journal {

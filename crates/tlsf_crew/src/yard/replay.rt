@@ -1,7 +1,7 @@
 //! Events, one after another.
 ghost use Rattle.std.specs.Prelude.{◌≡◌, ◌≢◌, ℕ, ◌+◌, ◌*◌, ◌<◌, ◌≤◌, length, Some, vec_len, vec_capacity, IfOk, OnOk, OnErr};
 ghost use Rattle.tlsf_heap.specs.declared.name.Name.{Name};
-ghost use Rattle.tlsf_crew.specs.yard.Counts.{sum_below, waiting_in, releases_in};
+ghost use Rattle.tlsf_crew.specs.yard.Counts.{sum_below, waiting_in, releases_in, entry_room};
 ghost use Rattle.tlsf_crew.specs.yard.Yard.{IsYard, waits_in};
 ghost use Rattle.tlsf_crew.specs.yard.World.{world_of, after, replies, replies_behind};
 ghost use Rattle.tlsf_crew.specs.yard.FairRuns.{IsFairRun, NoneStale, WaitLive};
@@ -71,6 +71,7 @@ fn settle_for(workers: &mut [Worker], event: Event, made: &[Option<Name>]) -> [u
         Call::Allocate { .. } => [0; 8],
         Call::Write { .. } => [0; 8],
         Call::Read { .. } => [0; 8],
+        Call::Resize { .. } => [0; 8],
     }
 }
 
@@ -131,7 +132,8 @@ fn run_event(
 /// answer is `Stale` and each post that waits in the end names a live block. So no block is given again while a post
 /// of it waits.
 ///
-/// The room for all entries is made first: where it answers `NoMemory`, no event has run.
+/// - `room`: the room for all entries is made first, one for each event, for each release among them and for each post that waits at the
+///   start. Where it answers `NoMemory`, no event has run.
 pub fn replay_events(
     alloc: Global,
     workers: &mut [Worker],
@@ -143,6 +145,9 @@ pub fn replay_events(
     ensures world { OnOk result (world_of workers.new ≡ (replies (world_of workers.old) events.now).world) }
     ensures no_memory { OnErr result (world_of workers.new ≡ world_of workers.old) }
     ensures no_stale { IsFairRun (world_of workers.old) events.now → IfOk result (λ entries. NoneStale entries.items × WaitLive (world_of workers.new)) }
+
+    // So much memory is asked for, and no more.
+    ensures room { IfOk result (λ entries. vec_capacity entries ≡ entry_room (world_of workers.old) events.now) }
 {
     let mut made = Vec::new(alloc);
     replay_behind(alloc, workers, &mut made, events)
@@ -171,6 +176,7 @@ pub fn replay_behind(
     ensures made { OnOk result (made.new.items ≡ (replies_behind (world_of workers.old) made.old.items events.now).made) }
     ensures world { OnOk result (world_of workers.new ≡ (replies_behind (world_of workers.old) made.old.items events.now).world) }
     ensures no_memory { OnErr result ((world_of workers.new ≡ world_of workers.old) × (made.new.items ≡ made.old.items)) }
+    ensures room { IfOk result (λ entries. vec_capacity entries ≡ entry_room (world_of workers.old) events.now) }
 {
     settle(workers);
     let room = room_for(workers, events);
@@ -190,6 +196,7 @@ fn replay_within(
     ensures yard { IsYard workers.new }
     ensures replies { IfOk result (λ es. replay_of made.new.items es.items workers.new ≡ replies_behind (world_of workers.old) made.old.items events.now) }
     ensures refused { OnErr result ((world_of workers.new ≡ world_of workers.old) × (made.new.items ≡ made.old.items)) }
+    ensures room { IfOk result (λ es. vec_capacity es ≡ room) }
 {
     made.reserve(events.len())?;
     let mut journal = Journal::with_room(alloc, room)?;

@@ -1,7 +1,7 @@
 ghost use Rattle.std.specs.Prelude.{◌≡◌, ◌≢◌, ◌+◌, ◌*◌, ◌/◌, ◌≤◌, ◌^◌, List, length, true, false, Ok, Err, OnSome, IfNone};
 ghost use Rattle.std.specs.Result.{result_unwrap_or};
-ghost use Rattle.tlsf_heap.specs.Calls.{allocated, written, read_of, read_answer};
-ghost use Rattle.tlsf_heap.specs.Given.{payload_words_given};
+ghost use Rattle.tlsf_heap.specs.Calls.{allocated, written, read_of, read_answer, resized};
+ghost use Rattle.tlsf_heap.specs.Given.{payload_words_given, payload_words_left};
 ghost use Rattle.tlsf_heap.specs.Lawful.{IsLawful};
 ghost use Rattle.tlsf_heap.specs.Placed.{placed_at};
 ghost use Rattle.tlsf_heap.specs.Reports.{report_of};
@@ -201,6 +201,32 @@ impl Worker {
         ensures touches_rise { touches_of self.old ≤ touches_of self.new }
     {
         match self.heap.read(name, at, out) {
+            Ok(()) => Ok(()),
+            Err(why) => Err(CrewRefusal::Heap(why)),
+        }
+    }
+
+    /// Resizes a block of the own heap where it stands, so that it holds `len` bytes. Its name stays, and so do its bytes up to the
+    /// smaller of both lengths; new bytes are zero.
+    ///
+    /// Refused as the own heap refuses it: `Foreign` where the name is of another worker's heap, else `Stale`, `NoRoom` or `Worn`. All
+    /// is then as before.
+    ///
+    /// - `touches`: at most 64 touches of the heap's memory, and one more for each payload word of the block.
+    ///
+    /// ```
+    /// let name = worker.allocate(8)?;
+    /// worker.resize(name, 100)?; // the same block, with 100 bytes: its first 8, and 92 zeros
+    /// ```
+    pub fn resize(&mut self, name: Name, len: u32) -> Result<(), CrewRefusal>
+        ensures answer { result ≡ by_heap (resized (heap_of self.old) name len).answer }
+        ensures heap { heap_of self.new ≡ (resized (heap_of self.old) name len).heap }
+        ensures same { SameButHeap self.old self.new }
+        ensures yard { KeepsYards self.old self.new }
+        ensures touches { touches_of self.new ≤ touches_of self.old + 64 + payload_words_left (resized (heap_of self.old) name len).answer (heap_of self.new) name }
+        ensures touches_rise { touches_of self.old ≤ touches_of self.new }
+    {
+        match self.heap.resize(name, len) {
             Ok(()) => Ok(()),
             Err(why) => Err(CrewRefusal::Heap(why)),
         }

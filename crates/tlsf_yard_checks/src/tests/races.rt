@@ -2,7 +2,7 @@ ghost use Rattle.std.specs.Prelude.{◌≡◌, ◌<◌, ◌^◌, length, vec_len
 ghost use Rattle.tlsf_crew.specs.yard.Yard.{IsYard};
 
 use crate::tests::yards::{allocate, drain, took};
-use std::alloc::Global;
+use std::alloc::{AllocError, Global};
 use std::marker::Sync;
 use std::process::Abort;
 use std::sync::Wait;
@@ -14,7 +14,7 @@ use tlsf_crew::{
     race, replay_events, settle,
 };
 use tlsf_fixtures::{name, same};
-use tlsf_heap::Name;
+use tlsf_heap::{Name, Refusal};
 
 /// The most turns that a gate makes.
 const TURNS: u64 = 100_000_000;
@@ -54,6 +54,26 @@ fn two_workers(alloc: Global, capacity: u32, events: &[Event]) -> Result<Vec<Wor
     Ok(workers)
 }
 
+/// A script for each of two workers.
+fn two_scripts(alloc: Global, first: &[Call], second: &[Call]) -> Result<Vec<Vec<Call>>, AllocError>
+    requires first_short { length first.now < 2 ^ 32 }
+    requires second_short { length second.now < 2 ^ 32 }
+    ensures two { IfOk result (λ scripts. vec_len scripts ≡ 2) }
+    ensures short { IfOk result (λ scripts. All (λ s. vec_len s < 2 ^ 32) scripts.items) }
+{
+    let first = first.to_vec(alloc)?;
+    let second = second.to_vec(alloc)?;
+    Ok(vec![in alloc; first, second]?)
+}
+
+/// The records are those that are wanted.
+fn check_records(rt: &impl Abort, records: &[Vec<Entry>], wanted: [&[Entry]; 2]) {
+    for (i, wanted) in wanted.iter().enumerate() {
+        let found = records.get(i).map(Vec::as_slice);
+        same(found, Some(*wanted)).expect(rt, "differ");
+    }
+}
+
 /// Two workers run a script each, and their records are those that are wanted.
 fn check_race<R: Threads + Wait + Abort + Sync, G: Gate>(
     rt: &R,
@@ -69,13 +89,9 @@ fn check_race<R: Threads + Wait + Abort + Sync, G: Gate>(
     requires second_short { length second.now < 2 ^ 32 }
 {
     assert!(rt; workers.len() == 2);
-    let first = first.to_vec(alloc)?;
-    let second = second.to_vec(alloc)?;
-    let scripts = vec![in alloc; first, second]?;
+    let scripts = two_scripts(alloc, first, second)?;
     let outcome = race(rt, alloc, workers, scripts, gate)?;
-    assert!(rt; outcome.records.len() == 2);
-    same(outcome.records[0].as_slice(), wanted[0]).expect(rt, "differ");
-    same(outcome.records[1].as_slice(), wanted[1]).expect(rt, "differ");
+    check_records(rt, &outcome.records, wanted);
     Ok(())
 }
 
@@ -116,6 +132,30 @@ fn lane_of_one_is_full(rt: HostRuntime) -> Result<(), Fail> {
                 entry(1, release(blocks[1]), full),
                 last(1, 0),
             ],
+        ],
+    )
+}
+
+// A worker resizes its own blocks, and not another's, whatever that one does meanwhile.
+#[test]
+fn each_resizes_its_own(rt: HostRuntime) -> Result<(), Fail> {
+    let block = name(0, 0, 1);
+    let workers = two_workers(rt.alloc(), 4, &[allocate(0, 8)])?;
+    let longer = Call::Resize {
+        target: Target::Named(block),
+        len: 100,
+    };
+    let foreign = Reply::Refused(CrewRefusal::Heap(Refusal::Foreign));
+    check_race(
+        &rt,
+        rt.alloc(),
+        workers,
+        &[longer],
+        &[longer],
+        &OpenGate,
+        [
+            &[entry(0, longer, Reply::Resized), last(0, 0)],
+            &[entry(1, longer, foreign), last(1, 0)],
         ],
     )
 }
@@ -177,17 +217,35 @@ impl Gate for AllHere {
     }
 }
 
+/// One allocate for each of so many workers.
+fn one_call_each(alloc: Global, count: usize) -> Result<Vec<Vec<Call>>, AllocError>
+    ensures count { IfOk result (λ scripts. vec_len scripts ≡ count) }
+    ensures short { IfOk result (λ scripts. All (λ s. vec_len s < 2 ^ 32) scripts.items) }
+{
+    let mut scripts = Vec::new(alloc);
+    for _ in 0..count {
+        scripts.push(vec![in alloc; Call::Allocate { len: 8 }]?)?;
+    }
+    Ok(scripts)
+}
+
+/// Whether each of the records has two entries.
+fn have_two(records: &[Vec<Entry>]) -> bool {
+    for record in records {
+        if record.len() != 2 {
+            return false;
+        }
+    }
+    true
+}
+
 /// Whether all of so many workers met at the gate, and each has a record of its one call and its last drain.
 fn all_meet<R: Threads + Wait + Sync>(rt: &R, alloc: Global, count: u32) -> Result<bool, Fail> {
     let workers = open_yard(alloc, count, 64, 1)?;
-    let mut scripts = Vec::new(alloc);
-    for _ in 0..workers.len() {
-        scripts.push(vec![in alloc; Call::Allocate { len: 8 }]?)?;
-    }
+    let scripts = one_call_each(alloc, workers.len())?;
     let gate = AllHere::new(workers.len());
     let outcome = race(rt, alloc, workers, scripts, &gate)?;
-    let told = outcome.records.iter().all(|record| record.len() == 2);
-    Ok(told && gate.all_set() && gate.missed.load(Ordering::SeqCst) == 0)
+    Ok(have_two(&outcome.records) && gate.all_set() && gate.missed.load(Ordering::SeqCst) == 0)
 }
 
 // A race on one thread gives the same records. There the first worker would wait at the gate for the others.

@@ -1,5 +1,5 @@
 //! A worker's own calls.
-use crate::tests::yards::{allocate, drain, release, take, took};
+use crate::tests::yards::{allocate, drain, release, resize, take, took};
 use std::alloc::{AllocError, Global};
 use std::process::Abort;
 use std::sync::Wait;
@@ -46,6 +46,13 @@ fn reply(worker: &mut Worker, call: &Call) -> Result<Reply, CrewRefusal> {
             at,
             n,
         } => read(worker, name, at, n),
+        Call::Resize {
+            target: Target::Named(name),
+            len,
+        } => {
+            worker.resize(name, len)?;
+            Ok(Reply::Resized)
+        }
         Call::Take { from } => match worker.take(from)? {
             Some(took) => Ok(Reply::Took(took)),
             None => Ok(Reply::Empty),
@@ -91,6 +98,10 @@ fn read_of(worker: u32, name: Name, at: u32, n: u32) -> Event {
     }
 }
 
+fn resize_of(worker: u32, name: Name, len: u32) -> Event {
+    resize(worker, Target::Named(name), len)
+}
+
 fn heap_refuses(why: Refusal) -> Reply {
     Reply::Refused(CrewRefusal::Heap(why))
 }
@@ -119,6 +130,30 @@ fn calls_of_a_worker(rt: HostRuntime) -> Result<(), Fail> {
         (take(0, 1), Reply::Empty),
         (take(0, 0), STRANGER),
         (drain(0, 8), Reply::Drained(0)),
+    ];
+    check_calls(&rt, &mut workers, &rows);
+    Ok(())
+}
+
+// A block grows into the free words behind it, up to the next live block, and other workers don't resize it.
+#[test]
+fn resizes_of_a_worker(rt: HostRuntime) -> Result<(), Fail> {
+    let mut workers = open_yard(rt.alloc(), 2, 64, 1)?;
+    let block = name(0, 0, 1);
+    let bytes = Chunk::new(b"ab").ok_or("up to 64 bytes")?;
+    let read = Chunk::new(b"ab\0").ok_or("up to 64 bytes")?;
+    let rows = [
+        (allocate(0, 2), Reply::Made(block)),
+        (write(0, block, 0, bytes), Reply::Wrote(2)),
+        (resize_of(1, block, 3), heap_refuses(Refusal::Foreign)),
+        (resize_of(0, block, 100), Reply::Resized),
+        (read_of(0, block, 0, 3), Reply::Got(read)),
+        (allocate(0, 8), Reply::Made(name(0, 16, 3))),
+        (resize_of(0, block, 105), heap_refuses(Refusal::NoRoom)),
+        (resize_of(0, block, 1), Reply::Resized),
+        (read_of(0, block, 0, 2), heap_refuses(Refusal::Range)),
+        (release_of(0, block), Reply::Freed),
+        (resize_of(0, block, 1), heap_refuses(Refusal::Stale)),
     ];
     check_calls(&rt, &mut workers, &rows);
     Ok(())

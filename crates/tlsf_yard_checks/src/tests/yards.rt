@@ -20,6 +20,13 @@ pub fn release(worker: u32, target: Target) -> Event {
     }
 }
 
+pub fn resize(worker: u32, target: Target, len: u32) -> Event {
+    Event {
+        worker,
+        call: Call::Resize { target, len },
+    }
+}
+
 pub fn take(worker: u32, from: u32) -> Event {
     Event {
         worker,
@@ -69,6 +76,8 @@ fn events_that_a_worker_refuses_change_nothing(rt: HostRuntime) -> Result<(), Fa
         (release(0, Target::Made(0)), unmade),
         (release(0, Target::Made(99)), unmade),
         (release(0, Target::Absent), unmade),
+        (resize(0, Target::Absent, 8), unmade),
+        (resize(2, Target::Absent, 8), stranger),
         (release(0, Target::Named(waits)), Reply::Posted),
         (
             release(0, Target::Named(given_back)),
@@ -80,6 +89,32 @@ fn events_that_a_worker_refuses_change_nothing(rt: HostRuntime) -> Result<(), Fa
         (allocate(1, 8), Reply::Made(name(1, 0, 1))),
     ];
     check_replies(&rt, rt.alloc(), &rows)
+}
+
+// A name that worker 1 made up is posted unread. Where worker 0 drains it, no block has it.
+#[test]
+fn forged_post_is_stale(rt: HostRuntime) -> Result<(), Fail> {
+    let forged = name(0, 5, 2);
+    let mut workers = open_yard(rt.alloc(), 2, 64, 4)?;
+    let events = [
+        allocate(0, 8),
+        allocate(0, 100),
+        release(1, Target::Named(forged)),
+        drain(0, 8),
+    ];
+    let entries = replay_events(rt.alloc(), &mut workers, &events)?;
+    let wanted = [
+        Reply::Made(name(0, 0, 1)),
+        Reply::Made(name(0, 4, 2)),
+        Reply::Posted,
+        took(1, forged, Err(Refusal::Stale)),
+        Reply::Drained(1),
+    ];
+    same(entries.len(), wanted.len()).expect(&rt, "differ");
+    for (entry, reply) in entries.iter().zip(wanted) {
+        same(entry.reply, reply).expect(&rt, "differ");
+    }
+    Ok(())
 }
 
 #[test]

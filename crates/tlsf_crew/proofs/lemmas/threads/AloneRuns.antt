@@ -8,16 +8,16 @@ use Rattle.tlsf_heap.specs.declared.name.Name.{Name}
 use Rattle.tlsf_post.specs.declared.post.Post.{Post}
 use Rattle.tlsf_calls.specs.Bytes.{bytes_of}
 use Rattle.tlsf_calls.specs.declared.call.Call.{Call}
-use Rattle.tlsf_calls.specs.declared.call.Call.TheVariants.{Allocate, Release, Write, Read, Take, Drain}
+use Rattle.tlsf_calls.specs.declared.call.Call.TheVariants.{Allocate, Release, Write, Read, Resize, Take, Drain}
 use Rattle.tlsf_calls.specs.declared.entry.Entry.{Entry}
 use Rattle.tlsf_calls.specs.declared.reply.Reply.{Reply}
 use Rattle.tlsf_calls.specs.declared.reply.Reply.TheVariants.{Posted, Empty, Refused}
 use Rattle.tlsf_calls.specs.declared.crew_refusal.CrewRefusal.TheVariants.{Full}
 use Rattle.tlsf_calls.specs.declared.target.Target.{Target}
-use Rattle.tlsf_crew.specs.yard.Heaps.{allocated, released, written, chunk_read}
+use Rattle.tlsf_crew.specs.yard.Heaps.{allocated, released, written, resized, chunk_read}
 use Rattle.tlsf_crew.specs.yard.Yard.{no_heap}
 use Rattle.tlsf_calls.specs.Entries.{made_by}
-use Rattle.tlsf_crew.specs.yard.World.{World, Replied, Replayed, after, allocating, answered, called, freeing, heap_in, name_of, posting, reading_named, releasing, releasing_named, reply_freed, reply_got, reply_made, reply_wrote, with_heap, writing_named}
+use Rattle.tlsf_crew.specs.yard.World.{World, Replied, Replayed, after, allocating, answered, called, freeing, heap_in, name_of, posting, reading_named, releasing, releasing_named, reply_freed, reply_got, reply_made, reply_resized, reply_wrote, resizing_named, with_heap, writing_named}
 use Rattle.tlsf_crew.specs.yard.Told.{Told, MayTell, MayTellAll, told_by}
 use Rattle.tlsf_crew.specs.yard.History.{StandsBehind, TellsCall, post_of_release, post_of_take, posts_made, posts_taken}
 use Rattle.tlsf_crew.specs.threads.Race.{events_by}
@@ -38,6 +38,7 @@ reply_to made w at (Allocate len) = allocating w at len
 reply_to made w at (Release target) = releasing_named w at (name_of made target)
 reply_to made w at (Write target from bytes) = writing_named w at (name_of made target) from (bytes_of bytes)
 reply_to made w at (Read target from n) = reading_named w at (name_of made target) from n
+reply_to made w at (Resize target len) = resizing_named w at (name_of made target) len
 reply_to made w at call = record { reply = Empty; world = w }
 
 called_is : (r : Replayed) (at : ℕ) (call : Call) → TakesNoPost call → called r at call ≡ answered r at call (reply_to r.made r.world at call)
@@ -45,6 +46,7 @@ called_is r at (Allocate len) none = refl
 called_is r at (Release target) none = refl
 called_is r at (Write target from bytes) none = refl
 called_is r at (Read target from n) none = refl
+called_is r at (Resize target len) none = refl
 called_is r at (Take from) none = absurd none
 called_is r at (Drain most) none = absurd none
 
@@ -86,6 +88,10 @@ same_write n at from bytes x y (Some name) a = by_heap n at x y (λ h. reply_wro
 same_read : (n at from k : ℕ) (x y : World) (o : Option Name) → Alike n at x y → SameReply at (reading_named x at o from k) (reading_named y at o from k)
 same_read n at from k x y None a = (refl, a.heap)
 same_read n at from k x y (Some name) a = (ap (λ h. reply_got (chunk_read h name from k)) a.heap, a.heap)
+
+same_resize : (n at len : ℕ) (x y : World) (o : Option Name) → Alike n at x y → SameReply at (resizing_named x at o len) (resizing_named y at o len)
+same_resize n at len x y None a = (refl, a.heap)
+same_resize n at len x y (Some name) a = by_heap n at x y (λ h. reply_resized (resized h name len).answer) (λ h. (resized h name len).heap) a
 
 -- ---- posts
 
@@ -149,6 +155,7 @@ same_reply n at made x y (Allocate len) none a room = by_heap n at x y (λ h. re
 same_reply n at made x y (Release target) none a room = same_release n at x y (name_of made target) a room
 same_reply n at made x y (Write target from bytes) none a room = same_write n at from (bytes_of bytes) x y (name_of made target) a
 same_reply n at made x y (Read target from k) none a room = same_read n at from k x y (name_of made target) a
+same_reply n at made x y (Resize target len) none a room = same_resize n at len x y (name_of made target) a
 same_reply n at made x y (Take from) none a room = absurd none
 same_reply n at made x y (Drain most) none a room = absurd none
 
@@ -179,11 +186,16 @@ read_capacity : (w : World) (at from n : ℕ) (o : Option Name) → ((reading_na
 read_capacity w at from n None = refl
 read_capacity w at from n (Some name) = refl
 
+resize_capacity : (w : World) (at len : ℕ) (o : Option Name) → ((resizing_named w at o len).world).capacity ≡ w.capacity
+resize_capacity w at len None = refl
+resize_capacity w at len (Some name) = refl
+
 same_capacity : (r : Replayed) (at : ℕ) (call : Call) → TakesNoPost call → ((called r at call).world).capacity ≡ (r.world).capacity
 same_capacity r at (Allocate len) none = refl
 same_capacity r at (Release target) none = release_capacity r.world at (name_of r.made target)
 same_capacity r at (Write target from bytes) none = write_capacity r.world at from (bytes_of bytes) (name_of r.made target)
 same_capacity r at (Read target from n) none = read_capacity r.world at from n (name_of r.made target)
+same_capacity r at (Resize target len) none = resize_capacity r.world at len (name_of r.made target)
 same_capacity r at (Take from) none = absurd none
 same_capacity r at (Drain most) none = absurd none
 
@@ -195,6 +207,7 @@ takes_none i j at made (Allocate len) name own none t = ap (posts_taken i j) t.w
 takes_none i j at made (Release target) name own none t = ap (posts_taken i j) t.whole ∙ told_nothing (λ e. post_of_take i e.call e.reply) j _ refl
 takes_none i j at made (Write target from bytes) name own none t = ap (posts_taken i j) t.whole ∙ told_nothing (λ e. post_of_take i e.call e.reply) j _ refl
 takes_none i j at made (Read target from k) name own none t = ap (posts_taken i j) t.whole ∙ told_nothing (λ e. post_of_take i e.call e.reply) j _ refl
+takes_none i j at made (Resize target len) name own none t = ap (posts_taken i j) t.whole ∙ told_nothing (λ e. post_of_take i e.call e.reply) j _ refl
 takes_none i j at made (Take from) name own none t = absurd none
 takes_none i j at made (Drain most) name own none t = absurd none
 
@@ -329,6 +342,7 @@ alone_step w i z s u call calls r lanes i_in free m later a =
         λ name found ne lt. same_room w i z s x r.world target name rest lanes a.capacity a.waits found (known target name found) ne lt (omega (arith, count, lt)) whole
     room_for w i z s x r (Write target from bytes) rest lanes i_in count a known whole = tt
     room_for w i z s x r (Read target from k) rest lanes i_in count a known whole = tt
+    room_for w i z s x r (Resize target len) rest lanes i_in count a known whole = tt
     room_for w i z s x r (Take from) rest lanes i_in count a known whole = tt
     room_for w i z s x r (Drain most) rest lanes i_in count a known whole = tt
 

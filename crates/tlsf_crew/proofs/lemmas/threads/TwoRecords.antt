@@ -10,12 +10,12 @@ use Rattle.tlsf_heap.specs.declared.name.Name.{Name}
 use Rattle.tlsf_post.specs.declared.post.Post.{Post}
 use Rattle.tlsf_calls.specs.declared.entry.Entry.{Entry}
 use Rattle.tlsf_calls.specs.declared.call.Call.{Call}
-use Rattle.tlsf_calls.specs.declared.call.Call.TheVariants.{Allocate, Release, Write, Read, Take, Drain}
+use Rattle.tlsf_calls.specs.declared.call.Call.TheVariants.{Allocate, Release, Write, Read, Resize, Take, Drain}
 use Rattle.tlsf_calls.specs.declared.target.Target.{Target}
 use Rattle.tlsf_calls.specs.declared.target.Target.TheVariants.{Named, Made as MadeBy, Absent}
 use Rattle.tlsf_calls.specs.declared.took.Took.{Took}
 use Rattle.tlsf_calls.specs.declared.reply.Reply.{Reply}
-use Rattle.tlsf_calls.specs.declared.reply.Reply.TheVariants.{Made, Freed, Posted, Wrote, Got, Took as Taken, Empty, Drained, Refused}
+use Rattle.tlsf_calls.specs.declared.reply.Reply.TheVariants.{Made, Freed, Posted, Wrote, Got, Resized, Took as Taken, Empty, Drained, Refused}
 use Rattle.tlsf_calls.specs.declared.crew_refusal.CrewRefusal.TheVariants.{Full}
 use Rattle.tlsf_crew.specs.yard.World.{name_of}
 use Rattle.tlsf_crew.specs.yard.History.{AreTakes, IsDrain, of_heap, post_of_release, post_of_take, posts_made, posts_taken, entries_of, StandsBehind}
@@ -46,12 +46,14 @@ same_post j made i (Release target) Freed = refl
 same_post j made i (Release target) Posted = ap (λ (n : Option Name). option_map (λ name. record { from = i; name = name }) (of_heap j n)) (same_name made target)
 same_post j made i (Release target) (Wrote n) = refl
 same_post j made i (Release target) (Got bytes) = refl
+same_post j made i (Release target) Resized = refl
 same_post j made i (Release target) (Taken t) = refl
 same_post j made i (Release target) Empty = refl
 same_post j made i (Release target) (Drained n) = refl
 same_post j made i (Release target) (Refused why) = refl
 same_post j made i (Write target from bytes) reply = refl
 same_post j made i (Read target from n) reply = refl
+same_post j made i (Resize target len) reply = refl
 same_post j made i (Take from) reply = refl
 same_post j made i (Drain most) reply = refl
 
@@ -71,12 +73,14 @@ from_call j made i (Release target) Freed = All-nil (λ (post : Post). post.from
 from_call j made i (Release target) Posted = from_name i (of_heap j (name_of made target))
 from_call j made i (Release target) (Wrote n) = All-nil (λ (post : Post). post.from ≡ i)
 from_call j made i (Release target) (Got bytes) = All-nil (λ (post : Post). post.from ≡ i)
+from_call j made i (Release target) Resized = All-nil (λ (post : Post). post.from ≡ i)
 from_call j made i (Release target) (Taken t) = All-nil (λ (post : Post). post.from ≡ i)
 from_call j made i (Release target) Empty = All-nil (λ (post : Post). post.from ≡ i)
 from_call j made i (Release target) (Drained n) = All-nil (λ (post : Post). post.from ≡ i)
 from_call j made i (Release target) (Refused why) = All-nil (λ (post : Post). post.from ≡ i)
 from_call j made i (Write target from bytes) reply = All-nil (λ (post : Post). post.from ≡ i)
 from_call j made i (Read target from n) reply = All-nil (λ (post : Post). post.from ≡ i)
+from_call j made i (Resize target len) reply = All-nil (λ (post : Post). post.from ≡ i)
 from_call j made i (Take from) reply = All-nil (λ (post : Post). post.from ≡ i)
 from_call j made i (Drain most) reply = All-nil (λ (post : Post). post.from ≡ i)
 

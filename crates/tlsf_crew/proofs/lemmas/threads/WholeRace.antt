@@ -210,12 +210,12 @@ lane_room zs ws vs us scripts rs len met yard run later_len later_met later capa
       ]
     ]
 
-found_at : (ws : List Worker) (j : ℕ) → j < length ws → (a : Worker) × (slice_get ws j ≡ Some a)
+pub found_at : (ws : List Worker) (j : ℕ) → j < length ws → (a : Worker) × (slice_get ws j ≡ Some a)
 found_at [] j lt = absurd (omega arith)
 found_at (w ∷ ws) zero lt = (w, refl)
 found_at (w ∷ ws) (suc j) lt = found_at ws j (omega arith)
 
-plain_room : (n e s t w b m c : ℕ) → n ≡ e → e ≤ s + t → b ≡ t + w → b ≤ m → s + m + 1 ≤ c → n + w + 1 ≤ c
+plain_room : (n e s t w b m c : ℕ) → n ≡ e → e ≤ s + t → b ≡ t + w → b ≤ m → c ≡ s + m + 1 → n + w + 1 ≤ c
 plain_room n e s t w b m c p q r x y = omega arith
 
 pub last_rooms : (zs ws vs us : List Worker) (scripts : List (List Call)) (records : List (Vec Entry Global)) → length ws ≡ length zs → HaveMet zs ws → IsYard ws → (run : HaveRun ws scripts (items_of records) vs)

@@ -10,7 +10,7 @@ use Rattle.tlsf_calls.specs.Bytes.{bytes_of}
 use Rattle.tlsf_calls.specs.declared.entry.Entry.{Entry}
 use Rattle.tlsf_calls.specs.declared.event.Event.{Event}
 use Rattle.tlsf_calls.specs.declared.call.Call.{Call}
-use Rattle.tlsf_calls.specs.declared.call.Call.TheVariants.{Allocate, Release, Write, Read, Take, Drain}
+use Rattle.tlsf_calls.specs.declared.call.Call.TheVariants.{Allocate, Release, Write, Read, Resize, Take, Drain}
 use Rattle.tlsf_calls.specs.declared.target.Target.TheVariants.{Named, Made as MadeBy, Absent}
 use Rattle.tlsf_calls.specs.declared.reply.Reply.TheVariants.{Refused}
 use Rattle.tlsf_calls.specs.declared.crew_refusal.CrewRefusal.TheVariants.{Stranger}
@@ -19,8 +19,8 @@ use Rattle.tlsf_crew.specs.yard.World.{World, Replayed, after, begun, called, dr
 use Rattle.tlsf_crew.proofs.lemmas.yard.DrainEntries.{ToldOnce, drain_told}
 use Rattle.tlsf_crew.proofs.lemmas.yard.EventSteps.{after_far, after_near}
 use Rattle.tlsf_crew.proofs.lemmas.yard.LaneCalls.{release_told, take_told}
-use Rattle.tlsf_crew.proofs.lemmas.yard.OwnCalls.{Knows, allocate_told, read_told, write_told}
-use Rattle.tlsf_crew.proofs.lemmas.yard.NamesMeant.{allocate_unmade, read_unmade, release_unmade, take_unmade, write_unmade}
+use Rattle.tlsf_crew.proofs.lemmas.yard.OwnCalls.{Knows, allocate_told, read_told, resize_told, write_told}
+use Rattle.tlsf_crew.proofs.lemmas.yard.NamesMeant.{allocate_unmade, read_unmade, release_unmade, resize_unmade, take_unmade, write_unmade}
 use Rattle.tlsf_crew.proofs.lemmas.yard.JoinedEntries.{HasItsAnswer, IsHistory, history_none, history_then, quiet_posts, told_other}
 
 -- ---- names that were made stay known
@@ -44,6 +44,7 @@ called_knows r at (Allocate len) = more_knows r.made _
 called_knows r at (Release target) = more_knows r.made _
 called_knows r at (Write target from bytes) = more_knows r.made _
 called_knows r at (Read target from n) = more_knows r.made _
+called_knows r at (Resize target len) = more_knows r.made _
 called_knows r at (Take from) = more_knows r.made _
 called_knows r at (Drain most) = drain_knows r at most
 
@@ -69,6 +70,8 @@ called_told made r at (Write target from bytes) at_in known =
     record { own = _; name = _; entries = refl; names = refl; tells = record { reply = _; name_is = refl; unmade = write_unmade r.world at from (bytes_of bytes) (name_of r.made target); whole = refl }; history = write_told made r.world at from target bytes (name_of r.made target) at_in (known target) }
 called_told made r at (Read target from n) at_in known =
     record { own = _; name = _; entries = refl; names = refl; tells = record { reply = _; name_is = refl; unmade = read_unmade r.world at from n (name_of r.made target); whole = refl }; history = read_told made r.world at from n target (name_of r.made target) at_in (known target) }
+called_told made r at (Resize target len) at_in known =
+    record { own = _; name = _; entries = refl; names = refl; tells = record { reply = _; name_is = refl; unmade = resize_unmade r.world at len (name_of r.made target); whole = refl }; history = resize_told made r.world at len target (name_of r.made target) at_in (known target) }
 called_told made r at (Take from) at_in known =
     record { own = _; name = _; entries = refl; names = refl; tells = record { reply = _; name_is = refl; unmade = take_unmade r.world at from; whole = refl }; history = take_told made r.world at from at_in }
 called_told made r at (Drain most) at_in known = drain_told made r at most at_in
@@ -78,6 +81,7 @@ no_post made j at (Allocate len) = refl
 no_post made j at (Release target) = refl
 no_post made j at (Write target from bytes) = refl
 no_post made j at (Read target from n) = refl
+no_post made j at (Resize target len) = refl
 no_post made j at (Take from) = refl
 no_post made j at (Drain most) = refl
 
@@ -86,6 +90,7 @@ no_take i (Allocate len) = refl
 no_take i (Release target) = refl
 no_take i (Write target from bytes) = refl
 no_take i (Read target from n) = refl
+no_take i (Resize target len) = refl
 no_take i (Take from) = refl
 no_take i (Drain most) = refl
 

@@ -21,13 +21,13 @@ use Rattle.tlsf_calls.specs.declared.event.Event.{Event}
 use Rattle.tlsf_calls.specs.declared.took.Took.{Took}
 use Rattle.tlsf_calls.specs.declared.target.Target.{Target}
 use Rattle.tlsf_calls.specs.declared.call.Call.{Call}
-use Rattle.tlsf_calls.specs.declared.call.Call.TheVariants.{Allocate, Release, Write, Read, Take, Drain}
+use Rattle.tlsf_calls.specs.declared.call.Call.TheVariants.{Allocate, Release, Write, Read, Resize, Take, Drain}
 use Rattle.tlsf_calls.specs.declared.reply.Reply.{Reply}
 use Rattle.tlsf_calls.specs.declared.reply.Reply.TheVariants.{Posted, Took as Taken, Empty, Drained, Refused}
 use Rattle.tlsf_calls.specs.declared.crew_refusal.CrewRefusal.TheVariants.{Full}
 use Rattle.tlsf_crew.specs.yard.Workers.{heap_of, id_of, id_and_capacity, end_to, end_from, KnowsYard}
 use Rattle.tlsf_crew.specs.yard.Yard.{IsYard, post_at, take_at, end_to_in, end_from_in, lane_waits, capacity_in, no_heap, waits_in}
-use Rattle.tlsf_crew.specs.yard.World.{World, Replayed, Draining, world_of, heap_in, made_by, name_of, called, draining, posting, releasing_named, writing_named, reading_named, taking, taking_next, took_first, took_more, drained_lane, drained_below, after_drain}
+use Rattle.tlsf_crew.specs.yard.World.{World, Replayed, Draining, world_of, heap_in, made_by, name_of, called, draining, posting, releasing_named, writing_named, reading_named, resizing_named, taking, taking_next, took_first, took_more, drained_lane, drained_below, after_drain}
 use Rattle.tlsf_calls.specs.Bytes.{bytes_of}
 use Rattle.tlsf_crew.specs.yard.Counts.{sum_below, count_of, ready_from, sum_of}
 use Rattle.tlsf_crew.specs.yard.Settle.{MetIn}
@@ -293,6 +293,7 @@ call_away at made (Allocate len) name own j t ne = ap (entries_of j) t.whole ∙
 call_away at made (Release target) name own j t ne = ap (entries_of j) t.whole ∙ one_away at j (Release target) t.reply ne
 call_away at made (Write target from bytes) name own j t ne = ap (entries_of j) t.whole ∙ one_away at j (Write target from bytes) t.reply ne
 call_away at made (Read target from n) name own j t ne = ap (entries_of j) t.whole ∙ one_away at j (Read target from n) t.reply ne
+call_away at made (Resize target len) name own j t ne = ap (entries_of j) t.whole ∙ one_away at j (Resize target len) t.reply ne
 call_away at made (Take from) name own j t ne = ap (entries_of j) t.whole ∙ one_away at j (Take from) t.reply ne
 
 -- a post is made by a release of such a name alone
@@ -325,6 +326,7 @@ posts_or at j made later (Allocate len) name own t = inl (ap (posts_made at j la
 posts_or at j made later (Write target from bytes) name own t =
     inl (ap (posts_made at j later) t.whole ∙ told_nothing (λ x. post_of_release j later x.worker x.call x.reply) at (record { worker = at; call = Write target from bytes; reply = t.reply }) refl)
 posts_or at j made later (Read target from n) name own t = inl (ap (posts_made at j later) t.whole ∙ told_nothing (λ x. post_of_release j later x.worker x.call x.reply) at (record { worker = at; call = Read target from n; reply = t.reply }) refl)
+posts_or at j made later (Resize target len) name own t = inl (ap (posts_made at j later) t.whole ∙ told_nothing (λ x. post_of_release j later x.worker x.call x.reply) at (record { worker = at; call = Resize target len; reply = t.reply }) refl)
 posts_or at j made later (Take from) name own t = inl (ap (posts_made at j later) t.whole ∙ told_nothing (λ x. post_of_release j later x.worker x.call x.reply) at (record { worker = at; call = Take from; reply = t.reply }) refl)
 
 -- ---- what a release leaves in a lane that isn't there
@@ -394,6 +396,10 @@ read_capacity : (w : World) (at : ℕ) (o : Option Name) (from n : ℕ) → (rea
 read_capacity w at None from n = refl
 read_capacity w at (Some name) from n = refl
 
+resize_capacity : (w : World) (at : ℕ) (o : Option Name) (len : ℕ) → (resizing_named w at o len).world.capacity ≡ w.capacity
+resize_capacity w at None len = refl
+resize_capacity w at (Some name) len = refl
+
 lane_capacity : (at from : ℕ) (ps : List Post) (d : Draining) → (fold (took_more at from) d ps).world.capacity ≡ d.world.capacity
 lane_capacity at from [] d = refl
 lane_capacity at from (p ∷ ps) d = lane_capacity at from ps (took_more at from d p)
@@ -420,6 +426,7 @@ called_capacity r at (Allocate len) = refl
 called_capacity r at (Release target) = release_capacity r.world at (name_of r.made target)
 called_capacity r at (Write target from bytes) = write_capacity r.world at (name_of r.made target) from (bytes_of bytes)
 called_capacity r at (Read target from n) = read_capacity r.world at (name_of r.made target) from n
+called_capacity r at (Resize target len) = resize_capacity r.world at (name_of r.made target) len
 called_capacity r at (Take from) = take_capacity r.world at from
 called_capacity r at (Drain most) = drain_capacity r at most
 

@@ -9,20 +9,20 @@ use Rattle.tlsf_heap.specs.declared.name.Name.{Name}
 use Rattle.tlsf_heap.specs.declared.refusal.Refusal.{Refusal}
 use Rattle.tlsf_heap.specs.declared.refusal.Refusal.TheVariants.{Stale}
 use Rattle.tlsf_calls.specs.Bytes.{bytes_of}
-use Rattle.tlsf_crew.specs.yard.Heaps.{allocated, written, chunk_read}
+use Rattle.tlsf_crew.specs.yard.Heaps.{allocated, written, resized, chunk_read}
 use Rattle.tlsf_calls.specs.declared.chunk.Chunk.{Chunk}
 use Rattle.tlsf_calls.specs.declared.event.Event.{Event}
 use Rattle.tlsf_calls.specs.declared.call.Call.{Call}
-use Rattle.tlsf_calls.specs.declared.call.Call.TheVariants.{Allocate, Release, Write, Read, Take, Drain}
+use Rattle.tlsf_calls.specs.declared.call.Call.TheVariants.{Allocate, Release, Write, Read, Resize, Take, Drain}
 use Rattle.tlsf_calls.specs.declared.target.Target.{Target}
 use Rattle.tlsf_calls.specs.declared.reply.Reply.{Reply}
 use Rattle.tlsf_calls.specs.declared.reply.Reply.TheVariants.{Freed, Posted, Refused}
 use Rattle.tlsf_calls.specs.declared.crew_refusal.CrewRefusal.TheVariants.{Stranger}
-use Rattle.tlsf_crew.specs.yard.World.{World, Replied, Replayed, with_heap, heap_in, reply_wrote, reply_got, releasing, releasing_named, writing_named, reading_named, taking, taking_next, took_first, took, name_of, called, after, draining, begun, replies}
+use Rattle.tlsf_crew.specs.yard.World.{World, Replied, Replayed, with_heap, heap_in, reply_wrote, reply_got, reply_resized, releasing, releasing_named, writing_named, reading_named, resizing_named, taking, taking_next, took_first, took, name_of, called, after, draining, begun, replies}
 use Rattle.tlsf_crew.specs.yard.FairRuns.{NoneStale, IsUsable, IsFairCall, IsAnswered, Releases, IsFair, HasIds, IsFairRun, WaitLive}
 use Rattle.tlsf_crew.proofs.lemmas.yard.OneEvent.{taking_lane, taking_own, taking_far}
 use Rattle.tlsf_crew.proofs.lemmas.yard.EventSteps.{after_far, after_near, replies_is}
-use Rattle.tlsf_crew.proofs.lemmas.yard.HeapNames.{written_known, written_id, written_stays, chunk_known}
+use Rattle.tlsf_crew.proofs.lemmas.yard.HeapNames.{written_known, written_id, written_stays, resized_known, resized_id, resized_stays, chunk_known}
 use Rattle.tlsf_crew.proofs.lemmas.yard.NamesKept.{IsKept}
 use Rattle.tlsf_crew.proofs.lemmas.yard.PostsKept.{took_kept, none_push, all_kept}
 use Rattle.tlsf_crew.proofs.lemmas.yard.FairEvents.{IsMade, After, same_made, more_gone, idle, refused_kept, stays_kept, allocate_kept, release_kept}
@@ -62,6 +62,20 @@ module _ (r : Replayed) (gone gone2 : Name → Type 0) (more : (n : Name) → go
   read_kept at None from n at_in usable = absurd usable
   read_kept at (Some name) from n at_in usable =
       got_kept (chunk_read (heap_in r.world at) name from n) (chunk_known (heap_in r.world at) name from n (own_live at name at_in usable.0 usable.1))
+
+  resize_answer_kept : (v : World) → IsKept (IsMade (r.made ++ None ∷ [])) gone2 v → (answer : Result (Unit {0}) Refusal) → answer ≢ Err Stale
+      → Next (record { reply = reply_resized answer; world = v })
+  resize_answer_kept v after (Ok done) known = (after, (λ f. cc, λ t f. cc))
+  resize_answer_kept v after (Err why) known = (after, (λ f. known (let same : why ≡ Stale = cc in ap Err same), λ t f. cc))
+
+  resize_kept : (at : ℕ) (o : Option Name) (len : ℕ) → at < length r.world.heaps → IsUsable r gone o → Next (resizing_named r.world at o len)
+  resize_kept at None len at_in usable = absurd usable
+  resize_kept at (Some n) len at_in usable =
+      let h = heap_in r.world at in
+      let g = (resized h n len).heap in
+      let all = stays_kept r gone gone2 more at g at_in (resized_id h n len) (λ m l. resized_stays h n len m l) kept in
+      resize_answer_kept (with_heap r.world at g) (same_made r gone gone2 more (with_heap r.world at g) all)
+      (resized h n len).answer (resized_known h n len (own_live at n at_in usable.0 usable.1))
 
   first_kept : (at from : ℕ) (ps : List Post) → r.world.waiting from at ≡ ps → Next (took_first r.world at from ps)
   first_kept at from [] e = (idle r gone gone2 more kept, (λ f. cc, λ t f. cc))
@@ -108,6 +122,7 @@ module _ (r : Replayed) (gone gone2 : Name → Type 0) (more : (n : Name) → go
   called_kept at (Release target) at_in fair now none = let a = released_kept at (name_of r.made target) at_in fair (now target refl) in (a.0, none_push r.entries _ none a.1)
   called_kept at (Write target from bytes) at_in fair now none = let a = write_kept at (name_of r.made target) from (bytes_of bytes) at_in fair in (a.0, none_push r.entries _ none a.1)
   called_kept at (Read target from n) at_in fair now none = let a = read_kept at (name_of r.made target) from n at_in fair in (a.0, none_push r.entries _ none a.1)
+  called_kept at (Resize target len) at_in fair now none = let a = resize_kept at (name_of r.made target) len at_in fair in (a.0, none_push r.entries _ none a.1)
   called_kept at (Take from) at_in fair now none = let a = take_kept at from in (a.0, none_push r.entries _ none a.1)
   called_kept at (Drain most) at_in fair now none = drain_kept at most none
 

@@ -125,7 +125,7 @@ done_ran n releases js ds done all k a e =
 -- ---- the room that each has
 
 abbrev HasRoom : List ℕ → List Job → ℕ → Vec Entry Global → Worker → Type 0
-HasRoom releases js k r a = length (script_of (scripts_in js) k) + sum_below 8 (most_from releases a) + 1 ≤ vec_capacity r
+HasRoom releases js k r a = vec_capacity r ≡ length (script_of (scripts_in js) k) + sum_below 8 (most_from releases a) + 1
 
 job_room : (n : ℕ) (releases : List ℕ) (js : List Job) (ds : List Done) → AllDone IsDone js ds → All (IsPrepared n releases) js
     → (k : ℕ) (j : Job) (r : Vec Entry Global) → slice_get js k ≡ Some j → slice_get (map (λ d. d.entries) ds) k ≡ Some r → HasRoom releases js k r j.worker
@@ -195,7 +195,7 @@ pub prepared : (n : ℕ) (releases limits : List ℕ) (w : Worker) (script : Vec
     → KnowsYard n w → vec_len script < 4294967296 → (made.items ≡ []) × (entries.items ≡ []) → vec_len script ≤ vec_capacity made
     → ((i : ℕ) → i < 8 → ready_from w i ≤ slice_index limits i) → ((i : ℕ) → i < 8 → slice_index limits i ≤ most_from releases w i)
     → ((i : ℕ) → i < 8 → min (most_from releases w i) 4294967295 ≤ slice_index limits i)
-    → vec_len script + sum_below 8 (most_from releases w) + 1 ≤ vec_capacity entries
+    → vec_capacity entries ≡ vec_len script + sum_below 8 (most_from releases w) + 1
     → IsPrepared n releases (record { worker = w; count = n; script = script; limits = limits; made = made; entries = entries })
 prepared n releases limits w script made entries yard short fresh names least most reach room = record {
   ready = record {

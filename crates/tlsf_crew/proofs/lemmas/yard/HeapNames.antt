@@ -1,17 +1,17 @@
 -- A call on a heap by a live name isn't answered Stale, and each other live name stays live.
-use Rattle.std.proofs.Common.{◌≡◌, ◌≢◌, ℕ, eqb, nat_le, List, length, take, drop, Option, Some, None, Result, Ok, Err, sym, ap}
+use Rattle.std.proofs.Common.{◌≡◌, ◌≢◌, ℕ, eqb, nat_le, nat_lt, List, length, take, drop, Option, Some, None, Result, Ok, Err, sym, ap}
 use Rattle.std.specs.Prelude.{IsSome}
 use Rattle.std.proofs.lemmas.Bool.{eqb-true, false≢true}
 use Rattle.tlsf_heap.specs.Blocks.{HeapState, bytes_of, want}
 use Rattle.tlsf_heap.specs.GoodFit.{Site, choice}
-use Rattle.tlsf_heap.specs.Calls.{refused, is_worn, allocated_at, named, has_bytes, written_at, read_at, Allocate, Release, Write}
+use Rattle.tlsf_heap.specs.Calls.{refused, is_worn, allocated_at, named, has_bytes, written_at, resized_at, room_of, read_at, Allocate, Release, Write, Resize}
 use Rattle.tlsf_heap.specs.Laws.{IsLive}
 use Rattle.tlsf_heap.specs.declared.name.Name.{Name}
 use Rattle.tlsf_heap.specs.declared.refusal.Refusal.{Refusal}
-use Rattle.tlsf_heap.specs.declared.refusal.Refusal.TheVariants.{Stale, Foreign, Worn, Range}
+use Rattle.tlsf_heap.specs.declared.refusal.Refusal.TheVariants.{Stale, Foreign, Worn, Range, NoRoom}
 use Rattle.tlsf_heap.proofs.Outcomes.{by_test, gives, writes, ids}
 use Rattle.tlsf_heap.proofs.Living.{given, kept, known}
-use Rattle.tlsf_crew.specs.yard.Heaps.{allocated, released, written, bytes_read, too_many, as_chunk, chunk_read}
+use Rattle.tlsf_crew.specs.yard.Heaps.{allocated, released, written, resized, bytes_read, too_many, as_chunk, chunk_read}
 
 abbrev IsKnown : {A : Type 0} → Result A Refusal → Type 0
 IsKnown answer = answer ≢ Err Stale
@@ -72,6 +72,25 @@ written_id h name from bytes = ids h (Write name from bytes)
 pub written_stays : (h : HeapState) (name : Name) (from : ℕ) (bytes : List ℕ) (m : Name) → IsLive h m → IsLive (written h name from bytes).heap m
 unfolding written
 written_stays h name from bytes m live = kept h m (Write name from bytes) (λ t. let e = t.0 in cc) live
+
+resized_some : (h : HeapState) (len : ℕ) (o : Option Site) → IsSome o → IsKnown (resized_at h len o).answer
+resized_some h len None some = absurd (false≢true some)
+resized_some h len (Some s) some =
+    by_test (λ x. IsKnown x.answer) (nat_lt (room_of s.block s.after) (want len)) (refused h NoRoom) _ (λ _ e. cc)
+    (by_test (λ x. IsKnown x.answer) (is_worn h) (refused h Worn) _ (λ _ e. cc) (λ e. cc))
+
+pub resized_known : (h : HeapState) (name : Name) (len : ℕ) → (name.heap ≡ h.id → IsLive h name) → IsKnown (resized h name len).answer
+unfolding resized
+resized_known h name len live =
+    by_test (λ x. IsKnown x.answer) (eqb name.heap h.id) (resized_at h len (named name h.blocks)) (refused h Foreign) (λ t. resized_some h len (named name h.blocks) (live (eqb-true name.heap h.id t)).1) (λ e. cc)
+
+pub resized_id : (h : HeapState) (name : Name) (len : ℕ) → (resized h name len).heap.id ≡ h.id
+unfolding resized
+resized_id h name len = ids h (Resize name len)
+
+pub resized_stays : (h : HeapState) (name : Name) (len : ℕ) (m : Name) → IsLive h m → IsLive (resized h name len).heap m
+unfolding resized
+resized_stays h name len m live = kept h m (Resize name len) (λ t. let e = t.0 in cc) live
 
 read_some : (h : HeapState) (from n : ℕ) (o : Option Site) → IsSome o → IsKnown (read_at from n o)
 read_some h from n None some = absurd (false≢true some)

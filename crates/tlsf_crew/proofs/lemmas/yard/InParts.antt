@@ -8,7 +8,7 @@ use Rattle.tlsf_post.specs.declared.post.Post.{Post}
 use Rattle.tlsf_calls.specs.declared.entry.Entry.{Entry}
 use Rattle.tlsf_calls.specs.declared.event.Event.{Event}
 use Rattle.tlsf_calls.specs.declared.call.Call.{Call}
-use Rattle.tlsf_calls.specs.declared.call.Call.TheVariants.{Allocate, Release, Write, Read, Take, Drain}
+use Rattle.tlsf_calls.specs.declared.call.Call.TheVariants.{Allocate, Release, Write, Read, Resize, Take, Drain}
 use Rattle.tlsf_calls.specs.declared.reply.Reply.TheVariants.{Drained}
 use Rattle.tlsf_crew.specs.yard.World.{World, Replied, Replayed, Draining, made_by, took, took_more, drained_lane, drained_below, after_drain, draining, answered, called, after, replies, resumed, replies_behind}
 use Rattle.tlsf_crew.proofs.lemmas.yard.EventSteps.{after_far, after_near}
@@ -77,6 +77,7 @@ called_behind es r at (Allocate len) = answered_behind es r at (Allocate len) _
 called_behind es r at (Release target) = answered_behind es r at (Release target) _
 called_behind es r at (Write target from bytes) = answered_behind es r at (Write target from bytes) _
 called_behind es r at (Read target from n) = answered_behind es r at (Read target from n) _
+called_behind es r at (Resize target len) = answered_behind es r at (Resize target len) _
 called_behind es r at (Take from) = answered_behind es r at (Take from) _
 called_behind es r at (Drain most) = draining_behind es r at most
 

@@ -10,8 +10,8 @@ use Rattle.tlsf_calls.specs.declared.chunk.Chunk.{Chunk}
 use Rattle.tlsf_calls.specs.declared.reply.Reply.{Reply}
 use Rattle.tlsf_calls.specs.declared.reply.Reply.TheVariants.{Refused}
 use Rattle.tlsf_calls.specs.declared.crew_refusal.CrewRefusal.TheVariants.{Unmade}
-use Rattle.tlsf_crew.specs.yard.Heaps.{allocated, chunk_read, released, written}
-use Rattle.tlsf_crew.specs.yard.World.{World, allocating, heap_in, posting, reading_named, releasing, releasing_named, reply_freed, reply_got, reply_made, reply_wrote, taking, taking_next, took_first, writing_named}
+use Rattle.tlsf_crew.specs.yard.Heaps.{allocated, chunk_read, released, resized, written}
+use Rattle.tlsf_crew.specs.yard.World.{World, allocating, heap_in, posting, reading_named, releasing, releasing_named, reply_freed, reply_got, reply_made, reply_resized, reply_wrote, resizing_named, taking, taking_next, took_first, writing_named}
 use Rattle.tlsf_crew.proofs.lemmas.yard.OneEvent.{releasing_post, releasing_far, taking_lane, taking_own, taking_far}
 
 made_known : (r : Result Name Refusal) → reply_made r ≢ Refused Unmade
@@ -29,6 +29,10 @@ wrote_known n (Err why) e = cc
 got_known : (r : Result Chunk Refusal) → reply_got r ≢ Refused Unmade
 got_known (Ok bytes) e = cc
 got_known (Err why) e = cc
+
+resize_known : (r : Result (Unit {0}) Refusal) → reply_resized r ≢ Refused Unmade
+resize_known (Ok done) e = cc
+resize_known (Err why) e = cc
 
 post_known : (w : World) (at : ℕ) (name : Name) → (posting w at name).reply ≢ Refused Unmade
 unfolding posting
@@ -86,3 +90,7 @@ write_unmade w at from bytes (Some name) = some_named name _ (wrote_known (lengt
 pub read_unmade : (w : World) (at from n : ℕ) (o : Option Name) → ((reading_named w at o from n).reply ≡ Refused Unmade) ↔ (o ≡ None)
 read_unmade w at from n None = ((λ e. refl), (λ e. refl))
 read_unmade w at from n (Some name) = some_named name _ (got_known (chunk_read (heap_in w at) name from n))
+
+pub resize_unmade : (w : World) (at len : ℕ) (o : Option Name) → ((resizing_named w at o len).reply ≡ Refused Unmade) ↔ (o ≡ None)
+resize_unmade w at len None = ((λ e. refl), (λ e. refl))
+resize_unmade w at len (Some name) = some_named name _ (resize_known (resized (heap_in w at) name len).answer)

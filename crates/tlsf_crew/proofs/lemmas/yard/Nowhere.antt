@@ -6,9 +6,9 @@ use Rattle.std.proofs.lemmas.Bool.Decides.{nat_tests}
 use Rattle.tlsf_post.specs.declared.post.Post.{Post}
 use Rattle.tlsf_calls.specs.declared.entry.Entry.{Entry}
 use Rattle.tlsf_calls.specs.declared.call.Call.{Call}
-use Rattle.tlsf_calls.specs.declared.call.Call.TheVariants.{Allocate, Release, Write, Read, Take, Drain}
+use Rattle.tlsf_calls.specs.declared.call.Call.TheVariants.{Allocate, Release, Write, Read, Resize, Take, Drain}
 use Rattle.tlsf_calls.specs.declared.reply.Reply.{Reply}
-use Rattle.tlsf_calls.specs.declared.reply.Reply.TheVariants.{Made, Freed, Posted, Wrote, Got, Took as Taken, Empty, Drained, Refused}
+use Rattle.tlsf_calls.specs.declared.reply.Reply.TheVariants.{Made, Freed, Posted, Wrote, Got, Resized, Took as Taken, Empty, Drained, Refused}
 use Rattle.tlsf_crew.specs.yard.History.{post_of_take, posts_taken}
 use Rattle.tlsf_crew.specs.yard.World.{World, Draining, Replayed, took, took_more, taking, drained_lane, drained_below, after_drain, draining, called}
 use Rattle.tlsf_crew.specs.yard.Told.{Told, MayTell, MayTellAll}
@@ -22,6 +22,7 @@ other_take i from Freed ne = refl
 other_take i from Posted ne = refl
 other_take i from (Wrote n) ne = refl
 other_take i from (Got bytes) ne = refl
+other_take i from Resized ne = refl
 other_take i from (Taken t) ne = let b : (from == i) ≡ false = grind (arith, nat_tests) in rw b refl
 other_take i from Empty ne = refl
 other_take i from (Drained n) ne = refl
@@ -78,6 +79,7 @@ call_none i at r (Allocate len) far none = none_more i at r.entries _ none refl
 call_none i at r (Release target) far none = none_more i at r.entries _ none refl
 call_none i at r (Write target from bytes) far none = none_more i at r.entries _ none refl
 call_none i at r (Read target from n) far none = none_more i at r.entries _ none refl
+call_none i at r (Resize target len) far none = none_more i at r.entries _ none refl
 call_none i at r (Take from) far none = none_more i at r.entries _ none (take_none i at from r.world far)
 call_none i at r (Drain most) far none = drain_none i at most r far none
 

@@ -1,4 +1,4 @@
--- A release, a write or a read of a worker in a race is answered as in some world.
+-- A release, a write, a resize or a read of a worker in a race is answered as in some world.
 use Rattle.std.proofs.Common.{◌==◌, true, false, [], ◌++◌, ◌≡◌, ◌≢◌, ℕ, ◌<◌, List, Option, Some, None, Result, Ok, Err, length, sym, ◌∙◌, ap, arith, refl, inl, inr, ◌⊎◌, subst}
 use Rattle.std.proofs.lemmas.Bool.{cases_eq, cases_lt}
 use Rattle.std.proofs.lemmas.Bool.Decides.{nat_tests}
@@ -11,18 +11,18 @@ use Rattle.tlsf_crew.specs.declared.yard.worker.Worker.{Worker}
 use Rattle.tlsf_calls.specs.declared.chunk.Chunk.{Chunk}
 use Rattle.tlsf_calls.specs.declared.target.Target.{Target}
 use Rattle.tlsf_calls.specs.declared.call.Call.{Call}
-use Rattle.tlsf_calls.specs.declared.call.Call.TheVariants.{Release, Write, Read}
+use Rattle.tlsf_calls.specs.declared.call.Call.TheVariants.{Release, Write, Read, Resize}
 use Rattle.tlsf_calls.specs.declared.released.Released.{Released}
 use Rattle.tlsf_calls.specs.declared.released.Released.TheVariants.{Freed as WasFreed, Posted as WasPosted}
 use Rattle.tlsf_calls.specs.declared.reply.Reply.{Reply}
-use Rattle.tlsf_calls.specs.declared.reply.Reply.TheVariants.{Freed, Posted, Wrote, Got, Refused}
+use Rattle.tlsf_calls.specs.declared.reply.Reply.TheVariants.{Freed, Posted, Wrote, Got, Resized, Refused}
 use Rattle.tlsf_calls.specs.declared.crew_refusal.CrewRefusal.{CrewRefusal}
 use Rattle.tlsf_calls.specs.declared.crew_refusal.CrewRefusal.TheVariants.{Heap, Full, Stranger, Unmade}
 use Rattle.tlsf_calls.specs.Bytes.{bytes_of}
-use Rattle.tlsf_crew.specs.yard.Heaps.{released, written, chunk_read}
+use Rattle.tlsf_crew.specs.yard.Heaps.{released, written, resized, chunk_read}
 use Rattle.tlsf_crew.specs.yard.Workers.{heap_of, id_of, end_to, SameButHeap, HasPost, PutTo, KnowsYard}
 use Rattle.tlsf_crew.specs.yard.Calls.{KeepsYards, by_heap, freed_by, posted_by, ReleasedHere, ReleasedThere}
-use Rattle.tlsf_crew.specs.yard.World.{World, Replied, heap_in, name_of, freeing, posting, releasing, releasing_named, writing, writing_named, reading, reading_named, reply_freed, reply_wrote, reply_got}
+use Rattle.tlsf_crew.specs.yard.World.{World, Replied, heap_in, name_of, freeing, posting, releasing, releasing_named, writing, writing_named, reading, reading_named, resizing, resizing_named, reply_freed, reply_wrote, reply_got, reply_resized}
 use Rattle.tlsf_crew.specs.yard.Told.{HasHeap}
 use Rattle.tlsf_crew.specs.yard.Moves.{ModelReplies, CallStep}
 use Rattle.tlsf_crew.proofs.lemmas.yard.AllEntries.{more_knows}
@@ -281,6 +281,68 @@ wrote_ok (Err why) done n e = cc
 pub wrote_err : (o : Result (Unit {0}) Refusal) (why : CrewRefusal) (n : ℕ) → Err why ≡ by_heap o → Refused why ≡ reply_wrote n o
 wrote_err (Ok x) why n e = cc
 wrote_err (Err x) why n e = let q : why ≡ Heap x = cc in ap Refused q
+
+-- ---- resize
+
+refused_resize : (at len : ℕ) (later : List (Option Name)) (a : Worker) (limits : List ℕ) (target : Target) (why : CrewRefusal) → ((name : Name) → why ≢ Full name)
+    → IsIdle at later a limits [] (record { worker = at; call = Resize target len; reply = Refused why })
+refused_resize at len later a limits target why other = record {
+  posts = record { made_none = λ j. refl; taken_none = λ i. refl };
+  full = λ name p e. let q : why ≡ Full name = cc in absurd (other name q);
+  empty = λ i e. cc;
+  drained = λ most k i e. cc;
+}
+
+resize_quiet : (at len : ℕ) (later : List (Option Name)) (a : Worker) (limits : List ℕ) (target : Target)
+    → IsIdle at later a limits [] (record { worker = at; call = Resize target len; reply = Resized })
+resize_quiet at len later a limits target = record {
+  posts = record { made_none = λ j. refl; taken_none = λ i. refl };
+  full = λ name p e. cc;
+  empty = λ i e. cc;
+  drained = λ most k i e. cc;
+}
+
+resize_idle : (at len : ℕ) (later : List (Option Name)) (a : Worker) (limits : List ℕ) (target : Target) (r : Result (Unit {0}) Refusal)
+    → IsIdle at later a limits [] (record { worker = at; call = Resize target len; reply = reply_resized r })
+resize_idle at len later a limits target (Ok done) = resize_quiet at len later a limits target
+resize_idle at len later a limits target (Err why) = refused_resize at len later a limits target (Heap why) (λ name e. cc)
+
+pub resize_unmade : (made : List (Option Name)) (a : Worker) (limits : List ℕ) (target : Target) (len : ℕ) → None ≡ name_of made target
+    → CallStep made a limits (Resize target len) a limits (Refused Unmade) (λ w. resizing_named w (id_of a) (name_of made target) len)
+resize_unmade made a limits target len none =
+    subst (λ o. CallStep made a limits (Resize target len) a limits (Refused Unmade) (λ w. resizing_named w (id_of a) o len)) none
+    (itself_answered made a limits (Resize target len) (Refused Unmade) (λ w. resizing_named w (id_of a) None len)
+    (λ later. refused_resize (id_of a) len later a limits target Unmade (λ name e. cc)) (λ n k w e. refl))
+
+resize_here : (n : ℕ) (a v : Worker) (name : Name) (len : ℕ) → heap_of v ≡ (heap.resized (heap_of a) name len).heap → KnowsYard n a
+    → (w : World) → HasHeap w n (id_of a) (heap_of a)
+    → ModelReplies (id_of a) v (reply_resized (heap.resized (heap_of a) name len).answer) (resizing w (id_of a) name len)
+unfolding resized
+resize_here n a v name len h k w has =
+    let at = id_of a in
+    record {
+      reply = ap (λ g. reply_resized (heap.resized g name len).answer) (sym has.1);
+      left = h ∙ (ap (λ g. (heap.resized g name len).heap) (sym has.1) ∙ sym (heap_left n at w (heap_of a) (heap.resized (heap_in w at) name len).heap k.self has));
+    }
+
+pub resize_answered : (made : List (Option Name)) (a v : Worker) (limits : List ℕ) (target : Target) (name : Name) (len : ℕ) (reply : Reply)
+    → Some name ≡ name_of made target → SameButHeap a v → KeepsYards a v
+    → reply ≡ reply_resized (heap.resized (heap_of a) name len).answer → heap_of v ≡ (heap.resized (heap_of a) name len).heap
+    → CallStep made a limits (Resize target len) v limits reply (λ w. resizing_named w (id_of a) (name_of made target) len)
+resize_answered made a v limits target name len reply known same yard e h =
+    let o = (heap.resized (heap_of a) name len).answer in
+    subst (λ o. CallStep made a limits (Resize target len) v limits reply (λ w. resizing_named w (id_of a) o len)) known
+    (subst (λ r. CallStep made a limits (Resize target len) v limits r (λ w. resizing w (id_of a) name len)) (sym e)
+    (answered_quiet made a v limits (Resize target len) (reply_resized o) (λ w. resizing w (id_of a) name len) same yard
+    (λ later. resize_idle (id_of a) len later a limits target o) (λ n k w has s. resize_here n a v name len h k w has)))
+
+pub resize_ok : (o : Result (Unit {0}) Refusal) (done : Unit {0}) → Ok done ≡ by_heap o → Resized ≡ reply_resized o
+resize_ok (Ok x) done e = refl
+resize_ok (Err why) done e = cc
+
+pub resize_err : (o : Result (Unit {0}) Refusal) (why : CrewRefusal) → Err why ≡ by_heap o → Refused why ≡ reply_resized o
+resize_err (Ok x) why e = cc
+resize_err (Err x) why e = let q : why ≡ Heap x = cc in ap Refused q
 
 -- ---- read
 

@@ -1,4 +1,4 @@
--- The entry of an allocate, a write, a read or a refused call tells the call on its worker's own heap.
+-- The entry of an allocate, a write, a resize, a read or a refused call tells the call on its worker's own heap.
 use Rattle.std.proofs.Common.{◌==◌, nat_le, true, false, Bool, cond, [], ◌∷◌, ◌≡◌, ℕ, ◌<◌, ◌≤◌, List, Option, Some, None, Result, Ok, Err, length, take, drop, ◌∙◌, ap, arith, refl, inl, inr, subst}
 use Rattle.std.specs.List.{cons_option}
 use Rattle.std.proofs.lemmas.Bool.{cases_lt}
@@ -15,12 +15,12 @@ use Rattle.tlsf_calls.specs.Bytes.{bytes_of}
 use Rattle.tlsf_calls.specs.declared.chunk.Chunk.{Chunk}
 use Rattle.tlsf_calls.specs.declared.entry.Entry.{Entry}
 use Rattle.tlsf_calls.specs.declared.call.Call.{Call}
-use Rattle.tlsf_calls.specs.declared.call.Call.TheVariants.{Allocate, Write, Read}
+use Rattle.tlsf_calls.specs.declared.call.Call.TheVariants.{Allocate, Write, Read, Resize}
 use Rattle.tlsf_calls.specs.declared.target.Target.{Target}
 use Rattle.tlsf_calls.specs.declared.reply.Reply.{Reply}
-use Rattle.tlsf_crew.specs.yard.Heaps.{allocated, written, chunk_read, as_chunk, too_many}
+use Rattle.tlsf_crew.specs.yard.Heaps.{allocated, written, resized, chunk_read, as_chunk, too_many}
 use Rattle.tlsf_crew.specs.yard.History.{RunsTo, answer_told, call_on_own, handed_on, meant}
-use Rattle.tlsf_crew.specs.yard.World.{World, Replied, heap_in, with_heap, allocating, writing, writing_named, reading, reading_named, reply_made, reply_wrote, reply_got, name_of}
+use Rattle.tlsf_crew.specs.yard.World.{World, Replied, heap_in, with_heap, allocating, writing, writing_named, reading, reading_named, resizing, resizing_named, reply_made, reply_wrote, reply_got, reply_resized, name_of}
 use Rattle.tlsf_crew.specs.yard.Yard.{no_heap}
 use Rattle.tlsf_crew.proofs.lemmas.yard.OneEvent.{same_heap}
 use Rattle.tlsf_calls.proofs.Padding.{bytes_back}
@@ -109,6 +109,32 @@ write_told made w at from target chunk (Some name) at_in known =
     history_quiet made w a.world (record { worker = at; call = Write target from chunk; reply = a.reply })
     (done_here made w at (Write target from chunk) a.reply (heap.Write name from (bytes_of chunk)) at_in on_own (wrote_told target from chunk r))
     (record { made_none = λ j. refl; taken_none = λ i. refl }) refl (length-set w.heaps at (heap.written (heap_in w at) name from (bytes_of chunk)).heap)
+
+-- ---- resize
+
+resize_answer_told : (target : Target) (len : ℕ) (r : Result (Unit {0}) Refusal) → answer_told (Resize target len) (reply_resized r) ≡ Some (heap.Resized r)
+resize_answer_told target len (Ok done) = refl
+resize_answer_told target len (Err why) = refl
+
+resize_meant : (made : List (Option Name)) (target : Target) (r : Result (Unit {0}) Refusal) → meant made target (reply_resized r) ≡ name_of made target
+resize_meant made target (Ok done) = refl
+resize_meant made target (Err why) = refl
+
+pub resize_told : (made : List (Option Name)) (w : World) (at len : ℕ) (target : Target) (o : Option Name) → at < length w.heaps
+    → ((name : Name) → o ≡ Some name → name_of made target ≡ Some name) → Tells1 made w at (Resize target len) (resizing_named w at o len)
+unfolding resized
+resize_told made w at len target None at_in known =
+    let a = resizing_named w at None len in
+    history_quiet made w w (record { worker = at; call = Resize target len; reply = a.reply }) (none_done made w w at (Resize target len) a.reply refl refl refl)
+    (record { made_none = λ j. refl; taken_none = λ i. refl }) refl refl
+resize_told made w at len target (Some name) at_in known =
+    let a = resizing w at name len in
+    let r = (heap.resized (heap_in w at) name len).answer in
+    let named : meant made target a.reply ≡ Some name = resize_meant made target r ∙ known name refl in
+    let on_own : call_on_own made at (Resize target len) a.reply ≡ Some (heap.Resize name len) = rw named refl in
+    history_quiet made w a.world (record { worker = at; call = Resize target len; reply = a.reply })
+    (done_here made w at (Resize target len) a.reply (heap.Resize name len) at_in on_own (resize_answer_told target len r))
+    (record { made_none = λ j. refl; taken_none = λ i. refl }) refl (length-set w.heaps at (heap.resized (heap_in w at) name len).heap)
 
 -- ---- read
 

@@ -58,13 +58,13 @@ edited_sum n f i j ps i_in j_in =
 pub worker_ready : (ws : List Worker) (j : ℕ) (w : Worker) → slice_get ws j ≡ Some w → ready_below ws (j + 1) ≡ ready_below ws j + sum_below (length ws) (ready_from w)
 worker_ready ws j w e = rw (add-one, e) refl
 
--- in a settled yard all that waits is ready
-lane_ready : (ws vs : List Worker) (i j : ℕ) → length vs ≡ length ws → HaveMet ws vs → IsYard vs → i < length vs → j < length vs
-    → length ((world_of vs).waiting i j) ≤ count_of (take_at vs i j)
+-- in a settled yard all that waits is ready, and nothing else
+pub lane_ready : (ws vs : List Worker) (i j : ℕ) → length vs ≡ length ws → HaveMet ws vs → IsYard vs → i < length vs → j < length vs
+    → count_of (take_at vs i j) ≡ length ((world_of vs).waiting i j)
 unfolding world_of
 lane_ready ws vs i j len met yard i_in j_in =
     elim (cases_eq i j) [
-      | inl e ↦ rw (e, (yard.alone j).0) (omega arith)
+      | inl e ↦ rw (e, (yard.alone j).0, (yard.alone j).1) refl
       | inr ne ↦
           let m = met i j (omega (arith, len)) (omega (arith, len)) ne in
           let waits : lane_waits (Some m.new_post) (Some m.new_take) ≡ waited m.new_take = waits_after _ _ _ _ m.meets in
@@ -73,9 +73,9 @@ lane_ready ws vs i j len met yard i_in j_in =
           rw (m.new_post_is, m.new_take_is) (omega arith)
     ]
 
-pub all_ready : (ws vs : List Worker) → length vs ≡ length ws → HaveMet ws vs → IsYard vs → waiting_in (world_of vs) ≤ ready_in vs
+pub all_ready : (ws vs : List Worker) → length vs ≡ length ws → HaveMet ws vs → IsYard vs → ready_in vs ≡ waiting_in (world_of vs)
 unfolding waiting_in ready_in
 all_ready ws vs len met yard =
     let n = length vs in
-    rw (heaps_count vs) (least_sum n (λ j. sum_below n (λ i. length ((world_of vs).waiting i j))) (λ j. sum_below n (λ i. count_of (take_at vs i j)))
-    (λ j j_in. least_sum n (λ i. length ((world_of vs).waiting i j)) (λ i. count_of (take_at vs i j)) (λ i i_in. lane_ready ws vs i j len met yard i_in j_in)))
+    rw (heaps_count vs) (same_sum n (λ j. sum_below n (λ i. length ((world_of vs).waiting i j))) (λ j. sum_below n (λ i. count_of (take_at vs i j)))
+    (λ j j_in. same_sum n (λ i. length ((world_of vs).waiting i j)) (λ i. count_of (take_at vs i j)) (λ i i_in. lane_ready ws vs i j len met yard i_in j_in)))

@@ -10,12 +10,12 @@ use Rattle.tlsf_heap.specs.declared.name.Name.{Name}
 use Rattle.tlsf_post.specs.declared.post.Post.{Post}
 use Rattle.tlsf_calls.specs.declared.event.Event.{Event}
 use Rattle.tlsf_calls.specs.declared.call.Call.{Call}
-use Rattle.tlsf_calls.specs.declared.call.Call.TheVariants.{Allocate, Release, Write, Read, Take, Drain}
+use Rattle.tlsf_calls.specs.declared.call.Call.TheVariants.{Allocate, Release, Write, Read, Resize, Take, Drain}
 use Rattle.tlsf_calls.specs.declared.reply.Reply.TheVariants.{Drained, Refused}
 use Rattle.tlsf_calls.specs.declared.crew_refusal.CrewRefusal.TheVariants.{Stranger}
 use Rattle.tlsf_calls.specs.Bytes.{bytes_of}
-use Rattle.tlsf_crew.specs.yard.Heaps.{allocated, released, written}
-use Rattle.tlsf_crew.specs.yard.World.{World, world_of, Replied, Replayed, with_heap, with_waiting, heap_in, posting, releasing, releasing_named, writing_named, reading_named, taking, taking_next, took_first, took, took_more, Draining, drained_lane, drained_below, after_drain, draining, answered, called, after, resumed, name_of}
+use Rattle.tlsf_crew.specs.yard.Heaps.{allocated, released, written, resized}
+use Rattle.tlsf_crew.specs.yard.World.{World, world_of, Replied, Replayed, with_heap, with_waiting, heap_in, posting, releasing, releasing_named, writing_named, reading_named, resizing_named, taking, taking_next, took_first, took, took_more, Draining, drained_lane, drained_below, after_drain, draining, answered, called, after, resumed, name_of}
 use Rattle.tlsf_crew.specs.yard.Counts.{sum_below, waiting_in, is_release, releases_in}
 use Rattle.tlsf_crew.proofs.lemmas.yard.LaneChanges.{edited_same}
 use Rattle.tlsf_crew.proofs.lemmas.yard.OneEvent.{heaps_count, releasing_post, releasing_far, taking_lane, taking_own, taking_far, from_other, from_own}
@@ -71,6 +71,10 @@ write_waits w at (Some name) from bytes = let h = heap_waits w at (written (heap
 read_waits : (w : World) (at : ℕ) (name : Option Name) (from n : ℕ) → waiting_in (reading_named w at name from n).world ≤ waiting_in w
 read_waits w at None from n = omega arith
 read_waits w at (Some name) from n = omega arith
+
+resize_waits : (w : World) (at : ℕ) (name : Option Name) (len : ℕ) → waiting_in (resizing_named w at name len).world ≤ waiting_in w
+resize_waits w at None len = omega arith
+resize_waits w at (Some name) len = let h = heap_waits w at (resized (heap_in w at) name len).heap in omega arith
 
 -- a take takes one post out
 took_waits : (w : World) (at from : ℕ) (p : Post) (rest : List Post) → at < length w.heaps → from < length w.heaps → w.waiting from at ≡ p ∷ rest
@@ -162,6 +166,7 @@ called_room r at (Allocate len) at_in = answered_room r at (Allocate len) _ (let
 called_room r at (Release target) at_in = answered_room r at (Release target) _ (named_waits r.world at (name_of r.made target) at_in)
 called_room r at (Write target from bytes) at_in = answered_room r at (Write target from bytes) _ (let h = write_waits r.world at (name_of r.made target) from (bytes_of bytes) in omega arith)
 called_room r at (Read target from n) at_in = answered_room r at (Read target from n) _ (let h = read_waits r.world at (name_of r.made target) from n in omega arith)
+called_room r at (Resize target len) at_in = answered_room r at (Resize target len) _ (let h = resize_waits r.world at (name_of r.made target) len in omega arith)
 called_room r at (Take from) at_in = answered_room r at (Take from) _ (let h = take_waits r.world at from at_in in omega arith)
 called_room r at (Drain most) at_in = let a = drain_even r at most at_in in omega arith
 

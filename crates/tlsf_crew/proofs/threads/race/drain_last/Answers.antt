@@ -1,6 +1,7 @@
-use Rattle.std.proofs.Common.{◌≡◌, ◌∙◌, ap, sym, arith, Some, slice_get}
+use Rattle.std.proofs.Common.{◌≡◌, ◌∙◌, ap, sym, refl, arith, Some, slice_get}
 use Rattle.std.proofs.lemmas.Option.{slice_get-get_or}
 use Rattle.tlsf_crew.proofs.lemmas.threads.LastDrains.{drain_next, room_next}
+use Rattle.tlsf_crew.proofs.lemmas.threads.RecordRooms.{keeps_set}
 use Rattle.tlsf_crew.proofs.lemmas.yard.Slots.{get_set_other}
 use Rattle.tlsf_crew.proofs.threads.race.drain_last.Goals as goal
 
@@ -12,6 +13,22 @@ drain_one-requires-clause-room c =
     let there : slice_get c.args.records.now j ≡ Some r = sym (c.loop-j.invariant.later j (omega arith)) ∙ here in
     rw (sym c.index-records-j.is) (room_next _ _ _ _ j r c.loop-j.invariant.last (c.requires.room j r there))
 
+pub loop-j-init : goal.loop-j-init
+loop-j-init c = record {
+  last = record {
+    yard = c.requires.yard;
+    worker_count = refl;
+    record_count = refl;
+    capacity = refl;
+    told = λ j lt. absurd (omega arith);
+    empty = λ i j lt. absurd (omega arith);
+    later_waits = λ i j le. refl;
+    later_heaps = λ j le. refl;
+  };
+  rooms = λ k s there. (s, there, refl);
+  later = λ k le. refl;
+}
+
 pub loop-j-preserved : goal.loop-j-preserved
 loop-j-preserved c =
     let r = c.index-records-j.result in
@@ -21,6 +38,7 @@ loop-j-preserved c =
     record {
       last = drain_next _ _ _ _ _ j r c.drain_one.new.entries c.loop-j.invariant.last (c.requires.few j) (omega arith) here there c.drain_one.ensures.yard
           (rw (sym c.index-records-j.is) at c.drain_one.ensures.told);
+      rooms = keeps_set _ _ j r c.drain_one.new.entries c.loop-j.invariant.rooms (omega arith) here (rw (sym c.index-records-j.is) at c.drain_one.ensures.capacity);
       later = λ k le. get_set_other c.loop-j.records j k c.drain_one.new.entries (λ e. omega arith) ∙ c.loop-j.invariant.later k (omega arith);
     }
 

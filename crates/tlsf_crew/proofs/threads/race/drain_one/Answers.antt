@@ -1,4 +1,4 @@
-use Rattle.std.proofs.Common.{[], ap, arith, vec_capacity}
+use Rattle.std.proofs.Common.{[], ◌∙◌, ap, arith, vec_capacity}
 use Rattle.std.specs.declared.vec.Vec.{Vec}
 use Rattle.std.specs.declared.alloc.Global.{Global}
 use Rattle.tlsf_calls.specs.declared.entry.Entry.{Entry}
@@ -16,6 +16,11 @@ push_reserved-requires c =
     let k = c.args.entries.now.ok in
     let l = c.reply_in_yard-reply.new.journal.entries.ok in
     omega arith
+
+pub returns-clause-capacity : goal.returns-clause-capacity
+returns-clause-capacity c =
+    let same = ap (λ (v : Vec Entry Global). vec_capacity v) c.replace.ensures.value in
+    c.push_reserved.ensures.capacity ∙ (c.reply_in_yard-reply.ensures.capacity ∙ same)
 
 pub returns-clause-told : goal.returns-clause-told
 returns-clause-told c = λ made.

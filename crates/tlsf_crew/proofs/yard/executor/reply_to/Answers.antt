@@ -1,5 +1,5 @@
 use Rattle.std.proofs.Common.{refl}
-use Rattle.tlsf_calls.specs.declared.call.Call.TheVariants.{Allocate, Release, Write, Read, Take}
+use Rattle.tlsf_calls.specs.declared.call.Call.TheVariants.{Allocate, Release, Write, Read, Resize, Take}
 use Rattle.tlsf_crew.proofs.lemmas.yard.DrainWorlds.{drain_stepped}
 use Rattle.tlsf_crew.proofs.lemmas.yard.ScriptCalls.{single_stepped}
 use Rattle.tlsf_crew.proofs.yard.executor.reply_to.Goals as goal
@@ -31,6 +31,13 @@ returns-in-Read-clause-stepped c =
     rw c.in-Read.is
     (single_stepped c.args.count c.args.worker.now c.reply_to_read.new.worker limits limits (Read c.in-Read.target c.in-Read.at c.in-Read.n) c.args.made.now c.args.journal.now.entries.items c.reply_to_read.result _ c.requires.knows (λ most e. cc) (λ w. refl)
     (c.reply_to_read.ensures limits))
+
+pub returns-in-Resize-clause-stepped : goal.returns-in-Resize-clause-stepped
+returns-in-Resize-clause-stepped c =
+    let limits = c.args.journal.now.limits in
+    rw c.in-Resize.is
+    (single_stepped c.args.count c.args.worker.now c.reply_to_resize.new.worker limits limits (Resize c.in-Resize.target c.in-Resize.len) c.args.made.now c.args.journal.now.entries.items c.reply_to_resize.result _ c.requires.knows (λ most e. cc) (λ w. refl)
+    (c.reply_to_resize.ensures limits))
 
 pub returns-in-Take-clause-stepped : goal.returns-in-Take-clause-stepped
 returns-in-Take-clause-stepped c =

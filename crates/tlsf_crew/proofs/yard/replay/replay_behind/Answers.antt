@@ -1,4 +1,6 @@
-use Rattle.std.proofs.Common.{arith}
+use Rattle.std.proofs.Common.{◌≡◌, ap, arith}
+use Rattle.tlsf_crew.specs.yard.World.{world_of}
+use Rattle.tlsf_crew.specs.yard.Counts.{waiting_in, entry_room}
 use Rattle.tlsf_crew.proofs.lemmas.yard.Pending.{all_ready}
 use Rattle.tlsf_crew.proofs.yard.replay.replay_behind.Goals as goal
 
@@ -8,3 +10,12 @@ replay_within-requires-clause-room c =
     let s = c.settle.ensures in
     let b = all_ready c.args.workers.now vs s.count s.met s.yard in
     omega (arith, c.room_for-room.ensures)
+
+pub returns-clause-room : goal.returns-clause-room
+returns-clause-room c =
+    let vs = c.settle.new.workers in
+    let s = c.settle.ensures in
+    let b = all_ready c.args.workers.now vs s.count s.met s.yard in
+    let same = ap waiting_in s.world in
+    let e : c.room_for-room.result ≡ entry_room (world_of c.args.workers.now) c.args.events.now = omega (arith, b, c.room_for-room.ensures) in
+    rw e at c.replay_within.ensures.room

@@ -11,6 +11,6 @@ invariant-loop-event l = record {
   count : length l.workers ≡ length l.fn.workers;
   made : vec_len l.made ≡ vec_len l.fn.made + l.event-index;
   made_room : vec_len l.fn.made + length l.events ≤ vec_capacity l.made;
-  room : l.room ≤ vec_capacity l.journal.entries;
+  room : vec_capacity l.journal.entries ≡ l.room;
   replayed : replay_of l.made.items l.journal.entries.items l.workers ≡ fold after (resumed (world_of l.fn.workers) l.fn.made.items) (take l.event-index l.events);
 }

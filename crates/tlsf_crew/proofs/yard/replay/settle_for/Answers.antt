@@ -87,3 +87,18 @@ returns-in-Read-clause-count c = refl
 
 pub returns-in-Read-clause-world : goal.returns-in-Read-clause-world
 returns-in-Read-clause-world c = refl
+
+pub returns-in-Resize-clause-met : goal.returns-in-Resize-clause-met
+returns-in-Resize-clause-met c = λ i j a b ne k. absurd (subst (λ x. ConcernsCall c.args.made.now c.args.event.worker x i j) c.in-Resize.is k)
+
+pub returns-in-Resize-clause-limits : goal.returns-in-Resize-clause-limits
+returns-in-Resize-clause-limits c = zero_limits _ c.args.event (λ m. subst MayTake c.in-Resize.is m)
+
+pub returns-in-Resize-clause-yard : goal.returns-in-Resize-clause-yard
+returns-in-Resize-clause-yard c = c.requires.yard
+
+pub returns-in-Resize-clause-count : goal.returns-in-Resize-clause-count
+returns-in-Resize-clause-count c = refl
+
+pub returns-in-Resize-clause-world : goal.returns-in-Resize-clause-world
+returns-in-Resize-clause-world c = refl
