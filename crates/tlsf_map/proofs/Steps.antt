@@ -2,10 +2,10 @@
 use Rattle.std.proofs.Common.{◌≡◌, ℕ, suc, ◌+◌, ◌*◌, ◌-◌, ◌<◌, List, ◌∷◌, ◌++◌, length, get_or, drop, sym, ap, ◌∙◌, subst, arith, append_assoc}
 use Rattle.std.proofs.lemmas.List.{at_drop_more}
 use Rattle.tlsf_map.specs.Grids.{words_here, cut, heap_height}
-use Rattle.tlsf_map.specs.Svg.{piece_text, pieces_text, block_text, blocks_text}
+use Rattle.tlsf_map.specs.Svg.{piece_text, pieces_text}
 use Rattle.tlsf_map.specs.Page.{heap_text, heaps_text}
+use Rattle.tlsf_map.specs.Text.{marks_text, row_begin, up_to}
 use Rattle.tlsf_map.specs.declared.grid.Grid.{Grid}
-use Rattle.tlsf_map.specs.declared.mapped_heap.LabelledBlock.{LabelledBlock}
 use Rattle.tlsf_map.specs.declared.mapped_heap.MappedHeap.{MappedHeap}
 
 -- the piece of this row, and then those of the rows behind it
@@ -17,15 +17,7 @@ piece_more grid text whole rows counter at words here lt is so_far =
     subst (λ (h : ℕ). (text ++ piece_text grid (record { at = at; words = h })) ++ pieces_text grid (cut (rows - (counter + 1)) grid (at + h) (words - h)) ≡ whole) (sym is)
     (append_assoc text _ _ ∙ ap (λ (n : ℕ). text ++ pieces_text grid (cut n grid at words)) (sym more) ∙ so_far)
 
--- the part of this element, and then those of the elements behind it
-pub block_more : (grid : Grid) (heap : MappedHeap) (text whole : List ℕ) (blocks : List LabelledBlock) (i : ℕ) (d block : LabelledBlock) → i < length blocks → get_or blocks i d ≡ block
-    → text ++ blocks_text grid heap (drop i blocks) ≡ whole
-    → (text ++ block_text grid heap block) ++ blocks_text grid heap (drop (i + 1) blocks) ≡ whole
-block_more grid heap text whole blocks i d block lt is so_far =
-    append_assoc text (block_text grid heap block) _
-    ∙ (ap (λ (b : LabelledBlock). text ++ blocks_text grid heap (b ∷ drop (i + 1) blocks)) (sym is)
-    ∙ (sym (at_drop_more (λ (l : List LabelledBlock). text ++ blocks_text grid heap l) blocks i d lt) ∙ so_far))
-
+-- the part of this heap, and then those of the heaps behind it
 pub heap_more : (grid : Grid) (words : ℕ) (text whole : List ℕ) (heaps : List MappedHeap) (i : ℕ) (d heap : MappedHeap) → i < length heaps → get_or heaps i d ≡ heap
     → text ++ heaps_text grid words i (drop i heaps) ≡ whole
     → (text ++ heap_text grid (768 + i * heap_height grid words) words heap) ++ heaps_text grid words (i + 1) (drop (i + 1) heaps) ≡ whole
@@ -33,3 +25,11 @@ heap_more grid words text whole heaps i d heap lt is so_far =
     append_assoc text (heap_text grid (768 + i * heap_height grid words) words heap) _
     ∙ (ap (λ (h : MappedHeap). text ++ heaps_text grid words i (h ∷ drop (i + 1) heaps)) (sym is)
     ∙ (sym (at_drop_more (λ (l : List MappedHeap). text ++ heaps_text grid words i l) heaps i d lt) ∙ so_far))
+
+-- this character, and then those behind it
+pub mark_more : (span number end : ℕ) (mark text whole : List ℕ) → number < end → text ++ up_to span number end mark ≡ whole
+    → ((text ++ row_begin span number) ++ mark) ++ up_to span (number + 1) end mark ≡ whole
+mark_more span number end mark text whole lt so_far =
+    let more : end - number ≡ suc (end - (number + 1)) = omega (arith, lt) in
+    ap (λ (t : List ℕ). t ++ up_to span (number + 1) end mark) (append_assoc text (row_begin span number) mark)
+    ∙ (append_assoc text (row_begin span number ++ mark) _ ∙ (ap (λ (n : ℕ). text ++ marks_text span number n mark) (sym more) ∙ so_far))

@@ -1,3 +1,6 @@
 pub mod Grids
 pub mod Svg
+pub mod Groups
 pub mod Page
+pub mod Columns
+pub mod Text

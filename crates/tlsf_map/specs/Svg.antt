@@ -100,8 +100,3 @@ content_text grid heap block label (Live serial length) = live_text grid block l
 
 abbrev pub block_text : Grid → MappedHeap → LabelledBlock → List ℕ
 block_text grid heap drawn = content_text grid heap drawn.block drawn.label drawn.block.content
-
--- blocks of a heap, in their order
-abbrev pub blocks_text : Grid → MappedHeap → List LabelledBlock → List ℕ
-blocks_text grid heap [] = []
-blocks_text grid heap (drawn ∷ others) = block_text grid heap drawn ++ blocks_text grid heap others

@@ -3,18 +3,28 @@
 //! [`write_svg`] makes one picture of some heaps with equally many words. A heap is rows of words, read as a text is; a block is a
 //! rectangle in each row that it touches, as wide as its words in that row. A live block shows its header and what its payload
 //! leaves empty, and its label and its bytes where there is room; a free one is the darker, the longer it is free, and the greatest
-//! are framed. Above each heap stand the numbers of its [`Report`](tlsf_heap::Report).
+//! are framed. Above each heap stand the numbers of its [`Report`](tlsf_heap::Report). Neighbours that are too narrow to be seen are
+//! drawn as one.
 //!
-//! Contracts see the picture as the text that `svg_text` of `specs/Page.antt` spells, from the pieces of `specs/Grids.antt`.
+//! [`write_text`] makes one in the characters of a terminal, each for as many words as the picture says.
+//!
+//! Contracts see the pictures as the texts that `svg_text` of `specs/Page.antt` and `text_of` of `specs/Text.antt` spell. Rows and
+//! pieces are those of `specs/Grids.antt`, neighbours that are drawn as one those of `specs/Groups.antt`, and characters those of
+//! `specs/Columns.antt`.
 #![tactic(auto)]
 
+mod columns;
 mod drawn_blocks;
 mod grid;
+mod group;
 mod laws;
 mod mapped_heap;
+mod marks;
 mod page;
 mod rectangles;
+mod text_page;
 
-pub use laws::pieces_are_the_block;
+pub use laws::{groups_are_the_blocks, pieces_are_the_block};
 pub use mapped_heap::{LabelledBlock, MappedHeap};
 pub use page::write_svg;
+pub use text_page::write_text;

@@ -1,22 +1,23 @@
 //! The picture as a whole: its style, a key to its colours, and the heaps, one below the other.
-ghost use Rattle.std.specs.Prelude.{◌≡◌, ◌++◌, ◌≤◌, ◌^◌, ◌*◌, ◌+◌, length, OnOk, string_bytes};
+ghost use Rattle.std.specs.Prelude.{◌≡◌, ◌++◌, ◌≤◌, ◌^◌, ◌*◌, ◌+◌, length, IfOk, OnOk, string_bytes};
 ghost use Rattle.tlsf_map.specs.Grids.{IsGrid};
-ghost use Rattle.tlsf_map.specs.Svg.{blocks_text};
-ghost use Rattle.tlsf_map.specs.Page.{begin_text, live_numbers, free_numbers, room_numbers, heap_head, heap_text, heaps_text, page_begin, key_text, svg_text};
+ghost use Rattle.tlsf_map.specs.Groups.{groups_of, groups_text, joined_of, note_line, note_text};
+ghost use Rattle.tlsf_map.specs.Page.{begin_text, blocks_text, live_numbers, free_numbers, room_numbers, heap_head, heap_text, heaps_text, page_begin, key_text, svg_text};
 
-use crate::drawn_blocks::write_block;
 use crate::grid::Grid;
+use crate::group::Group;
 use crate::mapped_heap::MappedHeap;
 use std::alloc::AllocError;
 use tlsf_heap::Report;
 
-// Colours by the reader's scheme: dark blue, blue and orange for header, payload and what it leaves empty, green for free words.
+// Colours by the reader's scheme: dark blue, blue and orange for header, payload and what it leaves empty, green for free words,
+// violet for neighbours that are drawn as one.
 const STYLE: &str =
-    "<style>text{font:176px ui-monospace,Menlo,Consolas,monospace;fill:#1f2328}.name{font-size:208px;font-weight:600}.numbers{font-size:160px}.page{fill:#fff}.live{fill:#4f83cc}.head{fill:#2b4f86}.slack{fill:#e3a04f}.free{fill:#2e9e6b}.largest rect{stroke:#b4232a;stroke-width:32}.caption text{fill:#fff;fill-opacity:1}.free .caption text{fill:#1f2328}rect{stroke:#fff;stroke-width:16}@media(prefers-color-scheme:dark){text,.free .caption text{fill:#e6edf3}.page{fill:#0d1117}rect{stroke:#0d1117}.live{fill:#3f6fb5}.head{fill:#1d3c6b}.slack{fill:#b97a2e}.largest rect{stroke:#ff7b72}}</style><rect class='page' width='100%' height='100%'/>\n";
+    "<style>text{font:176px ui-monospace,Menlo,Consolas,monospace;fill:#1f2328}.name{font-size:208px;font-weight:600}.numbers{font-size:144px}.page{fill:#fff}.live{fill:#4f83cc}.head{fill:#2b4f86}.slack{fill:#e3a04f}.free{fill:#2e9e6b}.joined{fill:#8257c9}.largest rect{stroke:#b4232a;stroke-width:32}.caption text{fill:#fff;fill-opacity:1}.free .caption text{fill:#1f2328}rect{stroke:#fff;stroke-width:16}@media(prefers-color-scheme:dark){text,.free .caption text{fill:#e6edf3}.page{fill:#0d1117}rect{stroke:#0d1117}.live{fill:#3f6fb5}.head{fill:#1d3c6b}.slack{fill:#b97a2e}.joined{fill:#9d7be0}.largest rect{stroke:#ff7b72}}</style><rect class='page' width='100%' height='100%'/>\n";
 
 // What each colour is.
 const KEY: &str =
-    "<g transform='translate(256 128)'><rect class='head' width='256' height='256'/><text x='352' y='200'>header</text><rect class='live' x='1792' width='256' height='256'/><text x='2144' y='200'>payload</text><rect class='slack' x='3584' width='256' height='256'/><text x='3936' y='200'>left empty</text><rect class='free' x='5888' width='256' height='256' fill-opacity='.15'/><text x='6240' y='200'>just freed</text><rect class='free' x='8192' width='256' height='256' fill-opacity='.85'/><text x='8544' y='200'>free longest</text><g class='largest'><rect class='free' x='10880' width='256' height='256' fill-opacity='.5'/></g><text x='11232' y='200'>largest free</text></g>\n";
+    "<g transform='translate(256 128)'><rect class='head' width='256' height='256'/><text x='352' y='200'>header</text><rect class='live' x='1792' width='256' height='256'/><text x='2144' y='200'>payload</text><rect class='slack' x='3584' width='256' height='256'/><text x='3936' y='200'>left empty</text><rect class='free' x='5888' width='256' height='256' fill-opacity='.15'/><text x='6240' y='200'>just freed</text><rect class='free' x='8192' width='256' height='256' fill-opacity='.85'/><text x='8544' y='200'>free longest</text><g class='largest'><rect class='free' x='10880' width='256' height='256' fill-opacity='.5'/></g><text x='11232' y='200'>largest free</text><rect class='joined' x='13184' width='256' height='256' fill-opacity='.5'/><text x='13536' y='200'>drawn as one</text></g>\n";
 
 fn write_begin(text: &mut String, y: u64, words: u32, heap: &MappedHeap) -> Result<(), AllocError>
     ensures { OnOk result (string_bytes text.new ≡ string_bytes text.old ++ begin_text y words heap.now) }
@@ -76,14 +77,58 @@ fn write_head(text: &mut String, y: u64, words: u32, heap: &MappedHeap) -> Resul
     write_room_numbers(text, &heap.report)
 }
 
+// Adds the groups of a heap's blocks, and says how many blocks are drawn as one with others.
+fn write_groups(text: &mut String, grid: Grid, heap: &MappedHeap) -> Result<u64, AllocError>
+    requires { IsGrid grid }
+    ensures text { OnOk result (string_bytes text.new ≡ string_bytes text.old ++ groups_text grid heap.now (groups_of grid heap.now.blocks.items)) }
+    ensures joined { IfOk result (λ joined. joined ≡ joined_of (groups_of grid heap.now.blocks.items)) }
+{
+    if heap.blocks.is_empty() {
+        return Ok(0);
+    }
+    let mut group = Group::of(grid, heap.blocks[0]);
+    let mut joined = 0;
+    for index in 1..heap.blocks.len() {
+        let next = heap.blocks[index];
+        if group.joins(grid, next) {
+            group = group.with(next);
+        } else {
+            joined += group.joined();
+            group.write(text, grid, heap)?;
+            group = Group::of(grid, next);
+        }
+    }
+    group.write(text, grid, heap)?;
+    Ok(joined + group.joined())
+}
+
+fn write_note_line(text: &mut String, count: u64) -> Result<(), AllocError>
+    ensures { OnOk result (string_bytes text.new ≡ string_bytes text.old ++ note_line count) }
+{
+    write!(
+        text,
+        "<text class='numbers' text-anchor='end' x='16384' y='320'>{count} blocks, each under 4 pixels wide, are drawn as one with neighbours</text>\n"
+    )
+}
+
+// Adds the legend's line on blocks that are drawn as one with others, where there are any.
+#[tactic(auto, unfolding(crate::specs::Groups::note_text))]
+fn write_note(text: &mut String, count: u64) -> Result<(), AllocError>
+    ensures { OnOk result (string_bytes text.new ≡ string_bytes text.old ++ note_text count) }
+{
+    if count == 0 {
+        return Ok(());
+    }
+    write_note_line(text, count)
+}
+
+#[tactic(auto, unfolding(crate::specs::Page::blocks_text))]
 fn write_blocks(text: &mut String, grid: Grid, heap: &MappedHeap) -> Result<(), AllocError>
     requires { IsGrid grid }
-    ensures { OnOk result (string_bytes text.new ≡ string_bytes text.old ++ blocks_text grid heap.now heap.now.blocks.items) }
+    ensures { OnOk result (string_bytes text.new ≡ string_bytes text.old ++ blocks_text grid heap.now) }
 {
-    for index in 0..heap.blocks.len() {
-        write_block(text, grid, heap, heap.blocks[index])?;
-    }
-    Ok(())
+    let joined = write_groups(text, grid, heap)?;
+    write_note(text, joined)
 }
 
 // Adds a heap, with its numbers above it.

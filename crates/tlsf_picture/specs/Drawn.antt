@@ -6,6 +6,7 @@ use Rattle.tlsf_heap.specs.Placed.{placed_blocks}
 use Rattle.tlsf_heap.specs.Reports.{report_of}
 use Rattle.tlsf_heap.specs.declared.name.Name.{Name}
 use Rattle.tlsf_map.specs.Page.{svg_text}
+use Rattle.tlsf_map.specs.Text.{text_of}
 use Rattle.tlsf_map.specs.declared.mapped_heap.MappedHeap.{MappedHeap}
 use Rattle.tlsf_picture.specs.Labelled.{label_of, labelled}
 use Rattle.tlsf_lines.specs.Events.{labels_of}
@@ -30,12 +31,22 @@ IsMap made labels heap = IsMapBy (label_of heap.id made labels) heap
 abbrev pub AreMaps : List (Option Name) → List (Option ℕ) → List HeapState → List MappedHeap → Type 0
 AreMaps made labels heaps maps = AllZip (IsMap made labels) heaps maps
 
--- the text is the picture of maps of the heaps that the trace leaves
-pub record Draws (trace : Trace) (text : List ℕ) : Type 0 where
+-- the text is the picture, by this definition of one, of maps of the heaps that the trace leaves
+pub record DrawsBy (picture : ℕ → List MappedHeap → List ℕ) (trace : Trace) (text : List ℕ) : Type 0 where
   pub maps : List MappedHeap
   pub mapped : AreMaps (run_of trace).made (labels_of trace) (run_of trace).world.heaps maps
-  pub drawn : text ≡ svg_text trace.header.words maps
+  pub drawn : text ≡ picture trace.header.words maps
+
+-- as an SVG file, or in the characters of a terminal
+abbrev pub Draws : Trace → List ℕ → Type 0
+Draws = DrawsBy svg_text
+
+abbrev pub DrawsText : Trace → List ℕ → Type 0
+DrawsText = DrawsBy text_of
 
 -- a run of a trace that puts out its picture
 abbrev pub IsDrawing : Result Summary TraceFault → Option (List ℕ) → Option (List ℕ) → Option (List ℕ) → Option (List ℕ) → Type 0
 IsDrawing = IsRun Draws
+
+abbrev pub IsTextDrawing : Result Summary TraceFault → Option (List ℕ) → Option (List ℕ) → Option (List ℕ) → Option (List ℕ) → Type 0
+IsTextDrawing = IsRun DrawsText

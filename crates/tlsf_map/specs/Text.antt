@@ -1,0 +1,125 @@
+-- The picture of some heaps in the characters of a terminal, 80 columns wide.
+use Rattle.std.specs.Prelude.{ℕ, zero, suc, ◌+◌, ◌*◌, ◌-◌, ◌/◌, ◌%◌, ◌==◌, ◌&&◌, Bool, List, [], ◌∷◌, ◌++◌, Option, Some, None, max, nat_le, nat_lt, length, codes, count_by, if◌then◌else◌}
+use Rattle.std.specs.Fmt.{decimal}
+use Rattle.tlsf_heap.specs.declared.placed_block.PlacedBlock.{PlacedBlock}
+use Rattle.tlsf_heap.specs.declared.placed_block.Content.{Content}
+use Rattle.tlsf_heap.specs.declared.placed_block.Content.TheVariants.{Free, Live}
+use Rattle.tlsf_heap.specs.declared.report.Report.{Report}
+use Rattle.tlsf_map.specs.Columns.{columns_before, gap_of, span_of}
+use Rattle.tlsf_map.specs.Svg.{used_words}
+use Rattle.tlsf_map.specs.declared.mapped_heap.LabelledBlock.{LabelledBlock}
+use Rattle.tlsf_map.specs.declared.mapped_heap.MappedHeap.{MappedHeap}
+
+-- the begin of a row: the place of its first word
+unfoldable pub line_begin : ℕ → List ℕ
+line_begin place = codes "\n" ++ (gap_of place ++ (decimal place ++ codes " |"))
+
+-- the character of this number, in a new row behind each 64
+unfoldable pub row_begin : ℕ → ℕ → List ℕ
+row_begin span number = if number % 64 == 0 then line_begin (number * span) else []
+
+-- so many characters alike, from this number on
+abbrev pub marks_text : ℕ → ℕ → ℕ → List ℕ → List ℕ
+marks_text span number zero mark = []
+marks_text span number (suc count) mark = row_begin span number ++ mark ++ marks_text span (number + 1) count mark
+
+-- characters alike from this number up to that
+abbrev pub up_to : ℕ → ℕ → ℕ → List ℕ → List ℕ
+up_to span from end mark = marks_text span from (end - from) mark
+
+-- whether a text of this width fits behind the first character of a block, in its row and in the characters of the block
+abbrev pub fits_behind : ℕ → ℕ → ℕ → Bool
+fits_behind first end width = nat_le (first % 64 + 1 + width) 64 && nat_le (first + 1 + width) end
+
+-- a label, where it fits
+abbrev pub label_marks : ℕ → ℕ → Option ℕ → List ℕ
+label_marks first end None = []
+label_marks first end (Some label) = if fits_behind first end (length (decimal label)) then decimal label else []
+
+-- the header of a block up to its end, then its payload up to its end, and then what that leaves empty
+unfoldable pub fill_marks : ℕ → ℕ → ℕ → ℕ → ℕ → List ℕ
+fill_marks span from header payload end =
+    up_to span from header (codes "#") ++ up_to span (max from header) payload (codes "=") ++ up_to span (max (max from header) payload) end (codes "-")
+
+-- a live block with characters from this one up to that: a bracket, its label, and what it holds
+unfoldable pub live_marks : ℕ → PlacedBlock → Option ℕ → ℕ → ℕ → ℕ → List ℕ
+live_marks span block label length_in first end =
+    up_to span first (first + 1) (codes "[") ++ label_marks first end label
+    ++ fill_marks span (first + 1 + length (label_marks first end label)) (columns_before span (block.at + 3)) (columns_before span (block.at + used_words length_in)) end
+
+-- the first character of a free block of this size where the greatest has `largest` words
+abbrev pub free_mark : ℕ → ℕ → List ℕ
+free_mark size largest = if size == largest then codes "*" else codes "("
+
+-- all others: whether it is free for more than half as long as the oldest
+abbrev pub age_mark : ℕ → ℕ → List ℕ
+age_mark age oldest = if nat_lt (oldest / 2) age then codes ":" else codes "."
+
+unfoldable pub free_marks : ℕ → MappedHeap → PlacedBlock → ℕ → ℕ → ℕ → List ℕ
+free_marks span heap block stamp first end =
+    up_to span first (first + 1) (free_mark block.size heap.report.largest) ++ up_to span (first + 1) end (age_mark (heap.tick - stamp) heap.report.age)
+
+abbrev pub content_marks : ℕ → MappedHeap → PlacedBlock → Option ℕ → ℕ → ℕ → Content → List ℕ
+content_marks span heap block label first end (Free stamp) = free_marks span heap block stamp first end
+content_marks span heap block label first end (Live serial length_in) = live_marks span block label length_in first end
+
+-- whether no character begins in a block
+abbrev pub is_unseen : ℕ → LabelledBlock → Bool
+is_unseen span drawn = columns_before span drawn.block.at == columns_before span (drawn.block.at + drawn.block.size)
+
+-- a block: the characters that begin in it
+unfoldable pub block_marks : ℕ → MappedHeap → LabelledBlock → List ℕ
+block_marks span heap drawn =
+    if is_unseen span drawn then []
+    else content_marks span heap drawn.block drawn.label (columns_before span drawn.block.at) (columns_before span (drawn.block.at + drawn.block.size)) drawn.block.content
+
+-- blocks of a heap, in their order
+abbrev pub blocks_marks : ℕ → MappedHeap → List LabelledBlock → List ℕ
+blocks_marks span heap [] = []
+blocks_marks span heap (drawn ∷ others) = block_marks span heap drawn ++ blocks_marks span heap others
+
+-- the lines above the rows of a heap
+unfoldable pub name_line : ℕ → ℕ → MappedHeap → List ℕ
+name_line span words heap =
+    codes "\nheap " ++ (decimal heap.id ++ (codes ": " ++ (decimal words ++ (codes " words at tick " ++ (decimal heap.tick
+    ++ (codes ", words a character: " ++ (decimal span ++ codes "\n")))))))
+
+unfoldable pub live_line : Report → List ℕ
+live_line report =
+    codes "live " ++ (decimal report.live_blocks ++ (codes " blocks, " ++ (decimal report.live_words
+    ++ (codes " words, " ++ (decimal report.live_bytes ++ (codes " bytes; waste " ++ (decimal report.waste ++ codes " bytes\n")))))))
+
+unfoldable pub free_line : Report → List ℕ
+free_line report =
+    codes "free " ++ (decimal report.free_blocks ++ (codes " blocks, " ++ (decimal report.free_words ++ (codes " words; largest " ++ (decimal report.largest
+    ++ (codes " words, grant " ++ (decimal report.grant ++ codes " bytes\n")))))))
+
+unfoldable pub age_line : Report → List ℕ
+age_line report = codes "fragmentation " ++ (decimal report.fragmentation ++ (codes "/1000; age " ++ (decimal report.age ++ codes " ticks")))
+
+unfoldable pub head_lines : ℕ → ℕ → MappedHeap → List ℕ
+head_lines span words heap = name_line span words heap ++ live_line heap.report ++ free_line heap.report ++ age_line heap.report
+
+-- the line below them on so many blocks in which no character begins, where there are any
+unfoldable pub unseen_line : ℕ → List ℕ
+unseen_line count = codes "\n" ++ (decimal count ++ codes " blocks are not shown: none of them has the first word of a character")
+
+unfoldable pub unseen_text : ℕ → List ℕ
+unseen_text count = if count == 0 then [] else unseen_line count
+
+-- a heap
+unfoldable pub heap_lines : ℕ → ℕ → MappedHeap → List ℕ
+heap_lines span words heap =
+    head_lines span words heap ++ blocks_marks span heap heap.blocks.items ++ unseen_text (count_by (is_unseen span) heap.blocks.items) ++ codes "\n"
+
+abbrev pub heaps_lines : ℕ → ℕ → List MappedHeap → List ℕ
+heaps_lines span words [] = []
+heaps_lines span words (heap ∷ heaps) = heap_lines span words heap ++ heaps_lines span words heaps
+
+-- what each character is
+unfoldable pub key_line : List ℕ
+key_line = codes "[ live block  # header  = payload  - empty  ( free  * largest  . young  : old\n"
+
+-- the picture of heaps with so many words each
+unfoldable pub text_of : ℕ → List MappedHeap → List ℕ
+text_of words heaps = key_line ++ heaps_lines (span_of words) words heaps

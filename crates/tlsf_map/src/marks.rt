@@ -1,0 +1,224 @@
+//! The characters that show a block.
+ghost use Rattle.std.specs.Prelude.{◌≡◌, ◌++◌, ◌+◌, ◌≤◌, ◌^◌, decimal, length, IfOk, OnOk, string_bytes};
+ghost use Rattle.tlsf_map.specs.Columns.{columns_before, IsSpan};
+ghost use Rattle.tlsf_map.specs.Svg.{used_words};
+ghost use Rattle.tlsf_map.specs.Text as lines;
+ghost use Rattle.tlsf_map.specs.Text.{age_mark, block_marks, content_marks, fill_marks, fits_behind, free_marks, is_unseen, label_marks, line_begin, live_marks, row_begin, up_to};
+
+use crate::columns::{columns, gap};
+use crate::mapped_heap::{LabelledBlock, MappedHeap};
+use std::alloc::AllocError;
+use tlsf_heap::{Content, PlacedBlock};
+
+fn write_line_begin(text: &mut String, place: u64) -> Result<(), AllocError>
+    ensures { OnOk result (string_bytes text.new ≡ string_bytes text.old ++ line_begin place) }
+{
+    let gap = gap(place);
+    write!(text, "\n{gap}{place} |")
+}
+
+// Begins a row where the character of this number is the first of one.
+#[tactic(auto, unfolding(crate::specs::Text::row_begin))]
+fn write_row_begin(text: &mut String, span: u64, number: u64) -> Result<(), AllocError>
+    requires span { IsSpan span }
+    requires number { number ≤ 2 ^ 36 }
+    ensures { OnOk result (string_bytes text.new ≡ string_bytes text.old ++ row_begin span number) }
+{
+    if number % 64 == 0 {
+        return write_line_begin(text, number * span);
+    }
+    Ok(())
+}
+
+// Adds characters alike, from a number up to another.
+fn write_up_to(
+    text: &mut String,
+    span: u64,
+    from: u64,
+    end: u64,
+    mark: &str,
+) -> Result<(), AllocError>
+    requires span { IsSpan span }
+    requires end { end ≤ 2 ^ 36 }
+    ensures { OnOk result (string_bytes text.new ≡ string_bytes text.old ++ up_to span from end mark.now) }
+{
+    for number in from..end {
+        write_row_begin(text, span, number)?;
+        text.push_str(mark)?;
+    }
+    Ok(())
+}
+
+// How many digits a number has.
+fn digits_of(number: u32) -> u64
+    ensures width { result ≡ length (decimal number) }
+    ensures most { result ≤ 2 ^ 32 }
+{
+    let mut width = 1;
+    let mut left = number;
+    while left >= 10 {
+        left /= 10;
+        width += 1;
+    }
+    width
+}
+
+// Whether a text of this width fits behind the first character of a block, in its row and in the characters of the block.
+fn fits(first: u64, end: u64, width: u64) -> bool
+    requires first { first ≤ 2 ^ 35 }
+    requires width { width ≤ 2 ^ 32 }
+    ensures { result ≡ fits_behind first end width }
+{
+    first % 64 + 1 + width <= 64 && first + 1 + width <= end
+}
+
+// Adds the label of a block where it fits, and says how many characters it takes.
+fn write_label_marks(
+    text: &mut String,
+    first: u64,
+    end: u64,
+    label: Option<u32>,
+) -> Result<u64, AllocError>
+    requires { first ≤ 2 ^ 35 }
+    ensures text { OnOk result (string_bytes text.new ≡ string_bytes text.old ++ label_marks first end label) }
+    ensures width { IfOk result (λ width. width ≡ length (label_marks first end label)) }
+    ensures most { IfOk result (λ width. width ≤ 2 ^ 32) }
+{
+    let Some(label) = label else {
+        return Ok(0);
+    };
+    let width = digits_of(label);
+    if !fits(first, end, width) {
+        return Ok(0);
+    }
+    write!(text, "{label}")?;
+    Ok(width)
+}
+
+// Adds what a live block holds, from a number on: its header and its payload, each up to its end, and what that leaves empty.
+#[tactic(auto, unfolding(crate::specs::Text::fill_marks))]
+fn write_fill_marks(
+    text: &mut String,
+    span: u64,
+    from: u64,
+    header: u64,
+    payload: u64,
+    end: u64,
+) -> Result<(), AllocError>
+    requires span { IsSpan span }
+    requires header { header ≤ 2 ^ 35 }
+    requires payload { payload ≤ 2 ^ 35 }
+    requires end { end ≤ 2 ^ 35 }
+    ensures { OnOk result (string_bytes text.new ≡ string_bytes text.old ++ fill_marks span from header payload end) }
+{
+    write_up_to(text, span, from, header, "#")?;
+    let filled = from.max(header);
+    write_up_to(text, span, filled, payload, "=")?;
+    write_up_to(text, span, filled.max(payload), end, "-")
+}
+
+// Adds a live block with characters from this one up to that.
+#[tactic(auto, unfolding(crate::specs::Text::live_marks))]
+fn write_live_marks(
+    text: &mut String,
+    span: u64,
+    block: PlacedBlock,
+    label: Option<u32>,
+    length: u32,
+    first: u64,
+    end: u64,
+) -> Result<(), AllocError>
+    requires span { IsSpan span }
+    requires first { first ≤ 2 ^ 35 }
+    requires end { end ≤ 2 ^ 35 }
+    ensures { OnOk result (string_bytes text.new ≡ string_bytes text.old ++ live_marks span block label length first end) }
+{
+    let at = u64::from(block.at);
+    let header = columns(span, at + 3);
+    let payload = columns(span, at + (3 + (u64::from(length) + 7) / 8));
+    write_up_to(text, span, first, first + 1, "[")?;
+    let width = write_label_marks(text, first, end, label)?;
+    write_fill_marks(text, span, first + 1 + width, header, payload, end)
+}
+
+// The first character of a free block of this size where the greatest has `largest` words.
+fn free_mark(size: u32, largest: u32) -> &'static str
+    ensures { result.now ≡ lines.free_mark size largest }
+{
+    if size == largest { "*" } else { "(" }
+}
+
+// The other characters of a free block of this age.
+fn mark_of_age(age: u64, oldest: u64) -> &'static str
+    ensures { result.now ≡ age_mark age oldest }
+{
+    if oldest / 2 < age { ":" } else { "." }
+}
+
+// Adds a free block of a heap with characters from this one up to that.
+#[tactic(auto, unfolding(crate::specs::Text::free_marks))]
+fn write_free_marks(
+    text: &mut String,
+    span: u64,
+    heap: &MappedHeap,
+    block: PlacedBlock,
+    stamp: u64,
+    first: u64,
+    end: u64,
+) -> Result<(), AllocError>
+    requires span { IsSpan span }
+    requires first { first ≤ 2 ^ 35 }
+    requires end { end ≤ 2 ^ 35 }
+    ensures { OnOk result (string_bytes text.new ≡ string_bytes text.old ++ free_marks span heap.now block stamp first end) }
+{
+    let mark = free_mark(block.size, heap.report.largest);
+    let age = mark_of_age(heap.tick.saturating_sub(stamp), heap.report.age);
+    write_up_to(text, span, first, first + 1, mark)?;
+    write_up_to(text, span, first + 1, end, age)
+}
+
+// Adds a block with characters from this one up to that.
+fn write_content_marks(
+    text: &mut String,
+    span: u64,
+    heap: &MappedHeap,
+    drawn: LabelledBlock,
+    first: u64,
+    end: u64,
+) -> Result<(), AllocError>
+    requires span { IsSpan span }
+    requires first { first ≤ 2 ^ 35 }
+    requires end { end ≤ 2 ^ 35 }
+    ensures { OnOk result (string_bytes text.new ≡ string_bytes text.old ++ content_marks span heap.now drawn.block drawn.label first end drawn.block.content) }
+{
+    match drawn.block.content {
+        Content::Free { stamp } => {
+            write_free_marks(text, span, heap, drawn.block, stamp, first, end)
+        }
+        Content::Live { length, .. } => {
+            write_live_marks(text, span, drawn.block, drawn.label, length, first, end)
+        }
+    }
+}
+
+/// Adds the characters that begin in a block, and says whether none does.
+#[tactic(auto, unfolding(crate::specs::Text::block_marks))]
+pub fn write_block_marks(
+    text: &mut String,
+    span: u64,
+    heap: &MappedHeap,
+    drawn: LabelledBlock,
+) -> Result<bool, AllocError>
+    requires { IsSpan span }
+    ensures text { OnOk result (string_bytes text.new ≡ string_bytes text.old ++ block_marks span heap.now drawn) }
+    ensures unseen { IfOk result (λ unseen. unseen ≡ is_unseen span drawn) }
+{
+    let at = u64::from(drawn.block.at);
+    let first = columns(span, at);
+    let end = columns(span, at + u64::from(drawn.block.size));
+    if first == end {
+        return Ok(true);
+    }
+    write_content_marks(text, span, heap, drawn, first, end)?;
+    Ok(false)
+}

@@ -1,0 +1,170 @@
+//! The picture in characters as a whole: a key to them, and the heaps, one below the other.
+ghost use Rattle.std.specs.Prelude.{◌≡◌, ◌++◌, count_by, IfOk, OnOk, string_bytes};
+ghost use Rattle.tlsf_map.specs.Columns.{IsSpan};
+ghost use Rattle.tlsf_map.specs.Text as lines;
+ghost use Rattle.tlsf_map.specs.Text.{age_line, blocks_marks, free_line, head_lines, heap_lines, heaps_lines, is_unseen, key_line, live_line, name_line, text_of, unseen_text};
+
+use crate::columns::span;
+use crate::mapped_heap::MappedHeap;
+use crate::marks::write_block_marks;
+use std::alloc::AllocError;
+use tlsf_heap::Report;
+
+// What each character is.
+const KEY: &str = "[ live block  # header  = payload  - empty  ( free  * largest  . young  : old\n";
+
+fn write_name_line(
+    text: &mut String,
+    span: u64,
+    words: u32,
+    heap: &MappedHeap,
+) -> Result<(), AllocError>
+    ensures { OnOk result (string_bytes text.new ≡ string_bytes text.old ++ name_line span words heap.now) }
+{
+    let id = heap.id;
+    let tick = heap.tick;
+    write!(
+        text,
+        "\nheap {id}: {words} words at tick {tick}, words a character: {span}\n"
+    )
+}
+
+fn write_live_line(text: &mut String, report: &Report) -> Result<(), AllocError>
+    ensures { OnOk result (string_bytes text.new ≡ string_bytes text.old ++ live_line report.now) }
+{
+    let blocks = report.live_blocks;
+    let words = report.live_words;
+    let bytes = report.live_bytes;
+    let waste = report.waste;
+    write!(
+        text,
+        "live {blocks} blocks, {words} words, {bytes} bytes; waste {waste} bytes\n"
+    )
+}
+
+fn write_free_line(text: &mut String, report: &Report) -> Result<(), AllocError>
+    ensures { OnOk result (string_bytes text.new ≡ string_bytes text.old ++ free_line report.now) }
+{
+    let blocks = report.free_blocks;
+    let words = report.free_words;
+    let largest = report.largest;
+    let grant = report.grant;
+    write!(
+        text,
+        "free {blocks} blocks, {words} words; largest {largest} words, grant {grant} bytes\n"
+    )
+}
+
+fn write_age_line(text: &mut String, report: &Report) -> Result<(), AllocError>
+    ensures { OnOk result (string_bytes text.new ≡ string_bytes text.old ++ age_line report.now) }
+{
+    let fragmentation = report.fragmentation;
+    let age = report.age;
+    write!(text, "fragmentation {fragmentation}/1000; age {age} ticks")
+}
+
+#[tactic(auto, unfolding(crate::specs::Text::head_lines))]
+fn write_head_lines(
+    text: &mut String,
+    span: u64,
+    words: u32,
+    heap: &MappedHeap,
+) -> Result<(), AllocError>
+    ensures { OnOk result (string_bytes text.new ≡ string_bytes text.old ++ head_lines span words heap.now) }
+{
+    write_name_line(text, span, words, heap)?;
+    write_live_line(text, &heap.report)?;
+    write_free_line(text, &heap.report)?;
+    write_age_line(text, &heap.report)
+}
+
+// Adds the blocks of a heap, and says in how many no character begins.
+fn write_rows(text: &mut String, span: u64, heap: &MappedHeap) -> Result<u64, AllocError>
+    requires { IsSpan span }
+    ensures text { OnOk result (string_bytes text.new ≡ string_bytes text.old ++ blocks_marks span heap.now heap.now.blocks.items) }
+    ensures unseen { IfOk result (λ unseen. unseen ≡ count_by (is_unseen span) heap.now.blocks.items) }
+{
+    let mut unseen = 0;
+    for index in 0..heap.blocks.len() {
+        if write_block_marks(text, span, heap, heap.blocks[index])? {
+            unseen += 1;
+        }
+    }
+    Ok(unseen)
+}
+
+fn write_unseen_line(text: &mut String, count: u64) -> Result<(), AllocError>
+    ensures { OnOk result (string_bytes text.new ≡ string_bytes text.old ++ lines.unseen_line count) }
+{
+    write!(
+        text,
+        "\n{count} blocks are not shown: none of them has the first word of a character"
+    )
+}
+
+// Adds the line on so many blocks that aren't shown, where there are any.
+#[tactic(auto, unfolding(crate::specs::Text::unseen_text))]
+fn write_unseen(text: &mut String, count: u64) -> Result<(), AllocError>
+    ensures { OnOk result (string_bytes text.new ≡ string_bytes text.old ++ unseen_text count) }
+{
+    if count == 0 {
+        return Ok(());
+    }
+    write_unseen_line(text, count)
+}
+
+#[tactic(auto, unfolding(crate::specs::Text::heap_lines))]
+fn write_heap_lines(
+    text: &mut String,
+    span: u64,
+    words: u32,
+    heap: &MappedHeap,
+) -> Result<(), AllocError>
+    requires { IsSpan span }
+    ensures { OnOk result (string_bytes text.new ≡ string_bytes text.old ++ heap_lines span words heap.now) }
+{
+    write_head_lines(text, span, words, heap)?;
+    let unseen = write_rows(text, span, heap)?;
+    write_unseen(text, unseen)?;
+    text.push_str("\n")
+}
+
+fn write_heaps_lines(
+    text: &mut String,
+    span: u64,
+    words: u32,
+    heaps: &[MappedHeap],
+) -> Result<(), AllocError>
+    requires { IsSpan span }
+    ensures { OnOk result (string_bytes text.new ≡ string_bytes text.old ++ heaps_lines span words heaps.now) }
+{
+    for number in 0..heaps.len() {
+        write_heap_lines(text, span, words, &heaps[number])?;
+    }
+    Ok(())
+}
+
+#[tactic(auto, unfolding(crate::specs::Text::key_line))]
+fn write_key_line(text: &mut String) -> Result<(), AllocError>
+    ensures { OnOk result (string_bytes text.new ≡ string_bytes text.old ++ key_line) }
+{
+    text.push_str(KEY)
+}
+
+/// Adds the picture of heaps with so many words each, in the characters of a terminal of 80 columns.
+///
+/// ```text
+/// let mut text = String::new(alloc);
+/// write_text(&mut text, 64, &heaps)?;      // "[ live block  # header .." and for each heap "\nheap 0: 64 words .."
+/// ```
+///
+/// # Errors
+///
+/// Where memory runs out.
+#[tactic(auto, unfolding(crate::specs::Text::text_of))]
+pub fn write_text(text: &mut String, words: u32, heaps: &[MappedHeap]) -> Result<(), AllocError>
+    ensures { OnOk result (string_bytes text.new ≡ string_bytes text.old ++ text_of words heaps.now) }
+{
+    write_key_line(text)?;
+    write_heaps_lines(text, span(words), words, heaps)
+}

@@ -1,0 +1,11 @@
+use Rattle.std.proofs.Common.{string_bytes}
+use Rattle.tlsf_picture.specs.Drawn.{DrawsText}
+use Rattle.tlsf_trace.proofs.WholeReplay.{run_is_done}
+use Rattle.tlsf_picture.proofs.text_drawing.draw_trace_as_text.Goals as goal
+
+pub returns : goal.returns
+returns g c =
+    let ended = c.in_ok-ended.ensures in
+    run_is_done DrawsText _ _ _ _ ended.text ended.read.whole ended.read.end ended.read.limits
+    ended.trace ended.spelled c.in_ok-ended.ended.calls ended.is_end.calls (string_bytes c.in_ok-picture.picture) (c.in_ok-picture.ensures ended.trace ended.is_end)
+    c.finish.result (rw c.deref.ensures at c.finish.ensures)
