@@ -1,5 +1,5 @@
 -- What the words ask for, by what `clap` answers of them.
-use Rattle.std.proofs.Common.{◌≡◌, ◌∙◌, ◌^◌, ℕ, false, List, [], ◌∷◌, Option, Some, None, Result, Ok, codes, length, option_map, inl, inr, refl, sym, ap, subst, arith}
+use Rattle.std.proofs.Common.{◌≡◌, ◌∙◌, ◌^◌, ℕ, Bool, false, true, true≢false, List, [], ◌∷◌, Option, Some, None, Result, Ok, codes, length, option_map, inl, inr, refl, sym, ap, subst, arith}
 use Rattle.std.specs.Option.{option_map_or, unwrap_or}
 use Rattle.std.specs.Prelude.{option_and_then, pos, slice_get}
 use Rattle.std.specs.Str.Parse.{ParsesUnsigned}
@@ -12,11 +12,11 @@ use Rattle.clap.specs.declared.parser.matches.ArgMatches.{ArgMatches}
 use Rattle.clap.proofs.CallerReads.{signed_reads}
 use Rattle.clap.proofs.ValueTestLemmas.{accepts-Accepts}
 use Rattle.clap.proofs.WalkLemmas.{one_text-rows, raw_values-rows}
-use Rattle.tlsf_command.specs.CommandLine.{Answers, Asks, command_in, name_of, number_in, texts_given, tlsf_app}
+use Rattle.tlsf_command.specs.CommandLine.{Answers, Asks, command_in, flag_given, name_of, number_in, texts_given, tlsf_app}
 use Rattle.tlsf_command.specs.SizeQuestions.{pair_words, ArePairs, IsQuestion, Pair}
 use Rattle.tlsf_command.specs.declared.size_question.SizeQuestion.{SizeQuestion}
 use Rattle.tlsf_command.specs.declared.command_line.Choice.{Choice}
-use Rattle.tlsf_command.specs.declared.command_line.Choice.TheVariants.{Replay, Race, Map, Classes, Size}
+use Rattle.tlsf_command.specs.declared.command_line.Choice.TheVariants.{Replay, Race, Map, MapText, Classes, Size}
 use Rattle.tlsf_command.proofs.NamedCommands.{faultless_named, race_named, replay_named, subcommand_name-rows}
 use Rattle.tlsf_command.proofs.SizePairs.{pairs_named}
 use Rattle.tlsf_command.proofs.SizeWords.{IsSized}
@@ -88,6 +88,13 @@ map_not_race words called asks is = map_no_race (asked_name words _ Map asks (ap
 pub map_not_replay : (words : List Text) (called : Text) → Asks words Map → words ≡ called ∷ codes "replay" ∷ [] → ⊥
 map_not_replay words called asks is = map_differs (asked_name words _ Map asks (ap command_in is ∙ replay_named called))
 
+-- nor are words that ask for a map in characters
+pub map_text_not_race : (words : List Text) (called : Text) → Asks words MapText → words ≡ called ∷ codes "race" ∷ [] → ⊥
+map_text_not_race words called asks is = map_no_race (asked_name words _ MapText asks (ap command_in is ∙ race_named called))
+
+pub map_text_not_replay : (words : List Text) (called : Text) → Asks words MapText → words ≡ called ∷ codes "replay" ∷ [] → ⊥
+map_text_not_replay words called asks is = map_differs (asked_name words _ MapText asks (ap command_in is ∙ replay_named called))
+
 -- words that ask for classes are not the program's name and `race`
 pub classes_not_race : (words : List Text) (called : Text) (n : ℕ) → Asks words (Classes n) → words ≡ called ∷ codes "race" ∷ [] → ⊥
 classes_not_race words called n asks is =
@@ -125,6 +132,10 @@ pub map_no_pairs : (words : List Text) (called : Text) (pairs : List Pair) → A
     → words ≡ called ∷ codes "size" ∷ pair_words pairs → ⊥
 map_no_pairs words called pairs asks are is = map_no_size (sym (pairs_name words called pairs Map asks are is))
 
+pub map_text_no_pairs : (words : List Text) (called : Text) (pairs : List Pair) → Asks words MapText → ArePairs pairs
+    → words ≡ called ∷ codes "size" ∷ pair_words pairs → ⊥
+map_text_no_pairs words called pairs asks are is = map_no_size (sym (pairs_name words called pairs MapText asks are is))
+
 pub classes_no_pairs : (words : List Text) (called : Text) (pairs : List Pair) (n : ℕ) → Asks words (Classes n) → ArePairs pairs
     → words ≡ called ∷ codes "size" ∷ pair_words pairs → ⊥
 classes_no_pairs words called pairs n asks are is = size_other (pairs_name words called pairs (Classes n) asks are is)
@@ -150,14 +161,43 @@ asks_race words matches answers called = record {
   sized = tt;
 }
 
--- where it is `map` the words ask for a map
-pub asks_map : (words : List Text) (matches : ArgMatches) → Answers words matches
-    → subcommand_name_of matches ≡ Some (codes "map") → Asks words Map
-asks_map words matches answers called = record {
+-- what is read of the command that was entered
+through : {A : Type 0} (f : List Row → Option A) (o : Option (Text × List Row)) → option_and_then f (option_map (λ (e : Text × List Row). e.1) o)
+    ≡ option_and_then (λ (e : Text × List Row). f e.1) o
+through f None = refl
+through f (Some e) = refl
+
+-- the text that the words give for the flag of `map`, by the matches of the command that was entered
+flag_entered : (words : List Text) (matches given : ArgMatches) → Answers words matches
+    → option_map (λ (entered : Text × List Row). entered.1) (subcommand_rows_of matches) ≡ Some (rows_of (found_of given))
+    → one_text (found_of given) (codes "text") ≡ flag_given words
+flag_entered words matches given answers entered =
+    one_text-rows (found_of given) (codes "text") ∙ (sym (ap (option_and_then (one_of (codes "text"))) entered)
+    ∙ (through (one_of (codes "text")) (subcommand_rows_of matches) ∙ ap (option_and_then (λ (e : Text × List Row). one_of (codes "text") e.1)) answers.1))
+
+-- where it is `map` and its flag isn't set the words ask for a map
+pub asks_map : (words : List Text) (matches given : ArgMatches) (flag : Bool) → Answers words matches
+    → subcommand_name_of matches ≡ Some (codes "map")
+    → option_map (λ (entered : Text × List Row). entered.1) (subcommand_rows_of matches) ≡ Some (rows_of (found_of given))
+    → (one_text (found_of given) (codes "text") ≡ Some (codes "true") → flag ≡ true) → flag ≡ false → Asks words Map
+asks_map words matches given flag answers called entered set clear = record {
   faultless = answers.0;
   named = sym (label_of_words words matches answers) ∙ called;
-  sized = tt;
+  sized = λ is. true≢false (sym (set (flag_entered words matches given answers entered ∙ is)) ∙ clear);
 }
+
+-- and where it is set, for one in characters
+pub asks_map_text : (words : List Text) (matches given : ArgMatches) (flag : Bool) → Answers words matches
+    → subcommand_name_of matches ≡ Some (codes "map")
+    → option_map (λ (entered : Text × List Row). entered.1) (subcommand_rows_of matches) ≡ Some (rows_of (found_of given))
+    → (one_text (found_of given) (codes "text") ≡ Some (codes "false") → flag ≡ false) → (one_text (found_of given) (codes "text") ≡ None → flag ≡ false)
+    → flag ≡ true → Asks words MapText
+asks_map_text words matches given flag answers called entered clear none set =
+    let read = flag_entered words matches given answers entered in record {
+      faultless = answers.0;
+      named = sym (label_of_words words matches answers) ∙ called;
+      sized = ((λ is. true≢false (sym set ∙ clear (read ∙ is))), (λ is. true≢false (sym set ∙ none (read ∙ is))));
+    }
 
 -- where it is `classes` its one row is that of a size
 sized_rows : (words : List Text) (matches : ArgMatches) → Answers words matches → subcommand_name_of matches ≡ Some (codes "classes")
@@ -176,12 +216,7 @@ texts_entered : (words : List Text) (matches given : ArgMatches) (id : Text) →
     → unwrap_or (option_map raw_values (matched_of (found_of given) id)) [] ≡ texts_given id words
 texts_entered words matches given id answers entered =
     ap (λ (o : Option (List Text)). unwrap_or o []) (raw_values-rows (found_of given) id ∙ (sym (ap (option_and_then (all_of id)) entered)
-    ∙ (through (subcommand_rows_of matches) ∙ ap (option_and_then (λ (e : Text × List Row). all_of id e.1)) answers.1)))
-  where
-    through : (o : Option (Text × List Row)) → option_and_then (all_of id) (option_map (λ (e : Text × List Row). e.1) o)
-        ≡ option_and_then (λ (e : Text × List Row). all_of id e.1) o
-    through None = refl
-    through (Some e) = refl
+    ∙ (through (all_of id) (subcommand_rows_of matches) ∙ ap (option_and_then (λ (e : Text × List Row). all_of id e.1)) answers.1)))
 
 -- where the command is `size` the words ask the question that is made of the matches
 pub asks_size : (words : List Text) (matches given : ArgMatches) (question : SizeQuestion) → Answers words matches

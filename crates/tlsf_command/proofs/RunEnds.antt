@@ -14,4 +14,4 @@ answer_lacks kind status old new shows is = subst (λ k. ShowsAnswer k status ol
 pub answer_ends : (words : List Text) (kind : ErrorKind) (status : ℕ) (old new : Streams) → ShowsAnswer kind status old new
     → (kind ≡ OutOfMemory) ⊎ IsAmong kind (faults_of words) → Ends words status old new
 answer_ends words kind status old new shows (inl is) = inl (answer_lacks kind status old new shows is)
-answer_ends words kind status old new shows (inr among) = inr (inr (inr (inr (inr (inr (kind, among, shows))))))
+answer_ends words kind status old new shows (inr among) = inr (inr (inr (inr (inr (inr (inr (kind, among, shows)))))))

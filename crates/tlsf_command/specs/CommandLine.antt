@@ -1,13 +1,13 @@
 -- The command line, by the definitions of `clap`.
-use Rattle.std.specs.Prelude.{◌≡◌, ◌≤◌, ◌^◌, ⊤, ℕ, true, pos, List, [], Option, Some, codes, option_and_then, option_map, unwrap_or}
+use Rattle.std.specs.Prelude.{◌≡◌, ◌≢◌, ◌≤◌, ◌^◌, ⊤, ℕ, true, pos, List, [], Option, Some, None, codes, option_and_then, option_map, unwrap_or}
 use Rattle.std.specs.Str.Parse.{digits_value, without_leading_plus}
 use Rattle.clap.specs.Words.{App, Kinds, Rule, Text, all_of, fault_of, new_app, new_rule, one_of, subcommand_of, subcommand_rows_of, with_rule, with_subcommand}
-use Rattle.clap.specs.declared.builder.action.ArgAction.TheVariants.{Append, Set}
+use Rattle.clap.specs.declared.builder.action.ArgAction.TheVariants.{Append, Set, SetTrue}
 use Rattle.clap.specs.declared.builder.value_parser.ValueParser.TheVariants.{Signed}
 use Rattle.clap.specs.declared.parser.matches.ArgMatches.{ArgMatches}
 use Rattle.tlsf_command.specs.SizeQuestions.{IsQuestion}
 use Rattle.tlsf_command.specs.declared.command_line.Choice.{Choice}
-use Rattle.tlsf_command.specs.declared.command_line.Choice.TheVariants.{Replay, Race, Map, Classes, Size}
+use Rattle.tlsf_command.specs.declared.command_line.Choice.TheVariants.{Replay, Race, Map, MapText, Classes, Size}
 
 -- the size that `classes` asks for, a number from 4 to 2^20
 abbrev pub size_rule : Rule
@@ -35,6 +35,14 @@ abbrev pub size_app : App
 size_app = with_rule (with_rule (new_app (codes "size")) (count_rule (codes "B") (codes "blocks")))
     (count_rule (codes "N") (codes "bytes"))
 
+-- the flag of `map` by which the heaps are drawn in characters
+abbrev pub text_rule : Rule
+text_rule = record (new_rule (codes "text")) { long = Some (codes "text"); action = Some SetTrue }
+
+-- the command `map`
+abbrev pub map_app : App
+map_app = with_rule (new_app (codes "map")) text_rule
+
 -- the program with its version and no command yet, of which a command must be named
 abbrev pub bare_app : App
 bare_app =
@@ -47,7 +55,7 @@ tlsf_app =
     let replaying = with_subcommand bare_app (new_app (codes "replay")).top in
     let racing = with_subcommand replaying (new_app (codes "race")).top in
     let sizing = with_subcommand (with_subcommand racing classes_app.top) size_app.top in
-    with_subcommand sizing (new_app (codes "map")).top
+    with_subcommand sizing map_app.top
 
 -- the kinds of error that the words may come to, none where they name a command
 abbrev pub faults_of : List Text → Kinds
@@ -66,6 +74,10 @@ abbrev pub size_text : List Text → Option Text
 size_text words =
     option_and_then (λ named. one_of (codes "N") named.1) (subcommand_of tlsf_app words)
 
+-- what the words give for the flag `--text`: `true` where it stands among them, `false` where it doesn't
+abbrev pub flag_given : List Text → Option Text
+flag_given words = option_and_then (λ named. one_of (codes "text") named.1) (subcommand_of tlsf_app words)
+
 -- the number that a text of digits spells, behind a plus sign if there is one
 abbrev pub number_in : Text → ℕ
 number_in text = digits_value 10 (without_leading_plus text)
@@ -80,14 +92,17 @@ abbrev pub name_of : Choice → Text
 name_of Replay = codes "replay"
 name_of Race = codes "race"
 name_of Map = codes "map"
+name_of MapText = codes "map"
 name_of (Classes n) = codes "classes"
 name_of (Size question) = codes "size"
 
--- the size of the choice, where it has one, is the number that the words give, from 4 to 2^20, and its question that of the texts that they give
+-- the size of the choice, where it has one, is the number that the words give, from 4 to 2^20, its question that of the texts that they give,
+-- and its picture that of the flag `--text`
 abbrev pub HasSize : List Text → Choice → Type 0
 HasSize words Replay = ⊤
 HasSize words Race = ⊤
-HasSize words Map = ⊤
+HasSize words Map = flag_given words ≢ Some (codes "true")
+HasSize words MapText = (flag_given words ≢ Some (codes "false")) × (flag_given words ≢ None)
 HasSize words (Classes n) =
     (option_map number_in (size_text words) ≡ Some n) × (4 ≤ n) × (n ≤ 2 ^ 20)
 HasSize words (Size question) = IsQuestion (texts_given (codes "B") words) (texts_given (codes "N") words) question

@@ -12,8 +12,8 @@ use Rattle.tlsf_command.specs.SizeQuestions.{blocks_of, bytes_of, IsQuestion, Pa
 use Rattle.tlsf_command.specs.declared.size_question.SizeQuestion.{SizeQuestion}
 use Rattle.tlsf_command.specs.declared.size_question.SizeQuestion.TheVariants.{Table, Unpaired}
 use Rattle.tlsf_laws.specs.declared.kind.Kind.{Kind}
-use Rattle.tlsf_command.specs.declared.command_line.Choice.TheVariants.{Classes, Map, Race, Replay, Size}
-use Rattle.tlsf_picture.specs.Drawn.{Draws}
+use Rattle.tlsf_command.specs.declared.command_line.Choice.TheVariants.{Classes, Map, MapText, Race, Replay, Size}
+use Rattle.tlsf_picture.specs.Drawn.{Draws, DrawsText}
 use Rattle.tlsf_lines.specs.Prefixes.{AppendsFront}
 use Rattle.tlsf_trace.specs.Replay.{IsRun, Outputs, Races, Replays}
 use Rattle.tlsf_lines.specs.TraceFaults.{no_memory_fault, write_fault}
@@ -54,9 +54,13 @@ RunsReplay = RunsTrace Replays
 abbrev pub RunsRace : ℕ → Streams → Streams → Type 0
 RunsRace = RunsTrace Races
 
--- the run draws the heaps that the trace leaves
+-- the run draws the heaps that the trace leaves, as an SVG file
 abbrev pub RunsMap : ℕ → Streams → Streams → Type 0
 RunsMap = RunsTrace Draws
+
+-- or in the characters of a terminal
+abbrev pub RunsMapText : ℕ → Streams → Streams → Type 0
+RunsMapText = RunsTrace DrawsText
 
 -- memory ran out before anything was read or written
 pub record LacksMemory (status : ℕ) (old new : Streams) : Type 0 where
@@ -131,7 +135,7 @@ ShowsAnswer DisplayVersion status old new = ShowsText status old new
 ShowsAnswer OutOfMemory status old new = LacksMemory status old new
 ShowsAnswer _ status old new = ShowsUsage status old new
 
--- how a run ends, by its words: it replays, it races, it draws the heaps of a trace, it shows the classes of a size or the words of a region, it answers by one of the faults of the words, or it lacks memory
+-- how a run ends, by its words: it replays, it races, it draws the heaps of a trace as an SVG file or in characters, it shows the classes of a size or the words of a region, it answers by one of the faults of the words, or it lacks memory
 abbrev pub Ends : List Text → ℕ → Streams → Streams → Type 0
 Ends words status old new = LacksMemory status old new
     ⊎ ((Asks words Replay × RunsReplay status old new)
@@ -139,7 +143,8 @@ Ends words status old new = LacksMemory status old new
     ⊎ (((n : ℕ) × Asks words (Classes n) × ShowsClasses n status old new)
     ⊎ (((question : SizeQuestion) × Asks words (Size question) × ShowsSize question status old new)
     ⊎ ((Asks words Map × RunsMap status old new)
-    ⊎ ((kind : ErrorKind) × IsAmong kind (faults_of words) × ShowsAnswer kind status old new))))))
+    ⊎ ((Asks words MapText × RunsMapText status old new)
+    ⊎ ((kind : ErrorKind) × IsAmong kind (faults_of words) × ShowsAnswer kind status old new)))))))
 
 -- the run is a replay, unless memory ran out before
 abbrev pub ReplaysOrLacksMemory : ℕ → Streams → Streams → Type 0

@@ -3,7 +3,7 @@ ghost use Rattle.clap.specs.declared.builder.command.Command.{Command};
 ghost use Rattle.clap.specs.Words.{app_of, kind_of, new_app, rule_of, subcommand_of, subcommand_rows_of, with_subcommand, FailsBy, Text};
 ghost use Rattle.clap.specs.declared.builder.command.Command.TheViews.{out-Command};
 ghost use Rattle.tlsf_command.specs.SizeQuestions.{pair_words, ArePairs, Pair};
-ghost use Rattle.tlsf_command.specs.CommandLine.{bare_app, classes_app, count_rule, size_app, size_rule, tlsf_app, faults_of, Answers, Asks};
+ghost use Rattle.tlsf_command.specs.CommandLine.{bare_app, classes_app, count_rule, map_app, size_app, size_rule, text_rule, tlsf_app, faults_of, Answers, Asks};
 
 use crate::size_question::SizeQuestion;
 use clap::error::ErrorKind;
@@ -21,8 +21,10 @@ pub enum Choice {
     /// and write its replies and reports to standard output.
     Race,
     /// `tlsf map`: read a trace from standard input, and write a picture of the heaps that it leaves to
-    /// standard output.
+    /// standard output, as an SVG file.
     Map,
+    /// `tlsf map --text`: write that picture in the characters of a terminal.
+    MapText,
     /// `tlsf classes N`: write the class and the search class of a size of N words, 4 to 2^20, to
     /// standard output.
     Classes(u32),
@@ -43,7 +45,8 @@ and frees the first block:
   f 0 1
 
 'tlsf race' does so with the workers of each phase in threads of their own.
-'tlsf map' draws the heaps that a trace leaves, as an SVG file.
+'tlsf map' draws the heaps that a trace leaves, as an SVG file; 'tlsf map --text'
+draws them in the characters of a terminal.
 'tlsf classes N' and 'tlsf size' read nothing and write one line.
 
 The exit status is 0 where the run is done, 1 where a fault of the trace, of a
@@ -59,6 +62,7 @@ each, 1 to 1024. Each line after it is one of these:
   f w L        worker w frees the block of L, or posts its name to its owner
   p w L at HEX worker w writes 1 to 64 bytes at byte 'at' of the block of L
   g w L at n   worker w reads n bytes, 1 to 64, at byte 'at' of the block of L
+  r w L len    worker w resizes the block of L to len bytes, where it stands
   d w n        worker w takes at most n posts, 1 to 8192, and frees their blocks
   phase        each worker takes its posts, and labels may go to other workers
 
@@ -129,9 +133,20 @@ touches, as wide as its words there. A live block shows its header and what its
 payload leaves empty, and where there is room its label and its bytes. A free
 block is the darker, the longer it is free, and the largest ones are framed.
 Above each heap stand the numbers of its report, and each block tells its own
-where the pointer rests on it.
+where the pointer rests on it. Neighbours under 4 pixels wide are drawn as one,
+the darker, the more of their words are live, and the heap says how many.
 
   tlsf map < two_workers.trace > heaps.svg
+
+With --text it is rows of 64 characters for a terminal of 80 columns. Each row
+begins with the place of its first word, and each character shows the first of
+so many words, 1 where a heap has at most 1024:
+
+  [ and a label   a live block        (   a free block
+  #   its header                      *   one of the largest free blocks
+  =   its payload                     .   words freed lately
+  -   words that it leaves empty      :   words free for longer than half as
+                                          long as the oldest
 
 The exit status is 0 where the picture is written, 1 where a fault of the
 trace, of a read or of a write ends the run, and 3 where memory runs out. Faults
@@ -220,6 +235,26 @@ fn count_option<'a>(alloc: Global, id: &'a str, name: &'a str, help: &'static st
         .value_parser(clap::value_parser!(u32).range(1..=4_294_967_295))
 }
 
+// The flag of `map` by which the heaps are drawn in characters.
+fn text_flag<'a>(alloc: Global) -> Arg<'a>
+    ensures rule { rule_of result ≡ text_rule }
+    ensures local { result.global ≡ false }
+{
+    Arg::new(alloc, "text")
+        .long("text")
+        .help("Draw the heaps in the characters of a terminal")
+        .action(ArgAction::SetTrue)
+}
+
+// The command `map`.
+fn map_command<'a>(alloc: Global) -> Result<Command<'a>, AllocError>
+    ensures app { IfOk result (λ command. app_of command ≡ map_app) }
+    ensures local { IfOk result (λ command. (out-Command command).has_globals ≡ false) }
+{
+    let about = "Read a trace from standard input and write a picture of the heaps that it leaves";
+    described(alloc, "map", about, MAP_HELP).arg(text_flag(alloc))
+}
+
 // The command `size`.
 fn size_command<'a>(alloc: Global) -> Result<Command<'a>, AllocError>
     ensures app { IfOk result (λ command. app_of command ≡ size_app) }
@@ -266,15 +301,12 @@ fn tlsf_command<'a>(alloc: Global) -> Result<Command<'a>, AllocError>
     let replay = "Read a trace from standard input and write its replies to standard output";
     let race =
         "Read a trace from standard input and run each phase in threads, one for each worker";
-    let map = "Read a trace from standard input and write a picture of the heaps that it leaves";
     let bare = bare_command(alloc);
     let replaying = bare.subcommand(described(alloc, "replay", replay, REPLAY_HELP))?;
     let racing = replaying.subcommand(described(alloc, "race", race, RACE_HELP))?;
     let counting = with_command(racing, classes_command(alloc))?;
     let sizing = with_command(counting, size_command(alloc))?;
-    sizing
-        .subcommand(described(alloc, "map", map, MAP_HELP))?
-        .bin_name("tlsf")
+    with_command(sizing, map_command(alloc))?.bin_name("tlsf")
 }
 
 // What `clap` makes of the words.
@@ -302,7 +334,11 @@ fn chosen(alloc: Global, matches: &ArgMatches<'_>) -> Result<Choice, AllocError>
             None => match matches.subcommand_matches("size") {
                 Some(given) => Ok(Choice::Size(SizeQuestion::given(alloc, given)?)),
                 None => match matches.subcommand_matches("map") {
-                    Some(_) => Ok(Choice::Map),
+                    Some(given) => Ok(if given.get_flag("text") {
+                        Choice::MapText
+                    } else {
+                        Choice::Map
+                    }),
                     None => Ok(Choice::Replay),
                 },
             },

@@ -1,7 +1,7 @@
 ghost use Rattle.std.specs.Prelude.{◌≡◌, ◌≤◌, ◌^◌, ℕ, List, [], ◌∷◌, Option, codes, map};
 ghost use Rattle.clap.specs.Words.{kind_of};
 ghost use Rattle.tlsf_command.specs.FaultLines.{fault_line, status_of_fault};
-ghost use Rattle.tlsf_command.specs.Runs.{streams, status_of, Ends, RacesOrLacksMemory, ReplaysOrLacksMemory, Reports, RunsMap, RunsRace, RunsReplay, ShowsAnswer, ShowsClasses, ShowsPairsOrLacksMemory};
+ghost use Rattle.tlsf_command.specs.Runs.{streams, status_of, Ends, RacesOrLacksMemory, ReplaysOrLacksMemory, Reports, RunsMap, RunsMapText, RunsRace, RunsReplay, ShowsAnswer, ShowsClasses, ShowsPairsOrLacksMemory};
 ghost use Rattle.tlsf_command.specs.SizeQuestions.{pair_words, ArePairs, Pair};
 ghost use Rattle.tlsf_lines.specs.Prefixes.{AppendsFront};
 
@@ -17,7 +17,7 @@ use std::marker::Sync;
 use std::sync::Wait;
 use std::thread::Threads;
 use tlsf_crew::Gate;
-use tlsf_picture::draw_trace;
+use tlsf_picture::{draw_trace, draw_trace_as_text};
 use tlsf_trace::{Summary, TraceFault, WriteError, race_trace, replay, write_out};
 
 fn write_line<E: Write>(fault: TraceFault, errors: &mut E) -> Result<(), WriteError>
@@ -92,6 +92,20 @@ fn run_map<R: Read, W: Write, E: Write>(
         (streams (R.remaining reader.new) (W.contents writer.new) (E.contents errors.new)) }
 {
     ended(draw_trace(alloc, reader, writer), errors)
+}
+
+// Draws them in characters.
+fn run_map_text<R: Read, W: Write, E: Write>(
+    alloc: Global,
+    reader: &mut R,
+    writer: &mut W,
+    errors: &mut E,
+) -> u8
+    ensures { RunsMapText result
+        (streams (R.remaining reader.old) (W.contents writer.old) (E.contents errors.old))
+        (streams (R.remaining reader.new) (W.contents writer.new) (E.contents errors.new)) }
+{
+    ended(draw_trace_as_text(alloc, reader, writer), errors)
 }
 
 // Writes the line on a size of `words`, and reports a write that fails.
@@ -182,6 +196,7 @@ pub fn run<T: Threads + Wait + Sync, S: AsStr, R: Read, W: Write, E: Write, G: G
         Ok(Choice::Replay) => run_replay(alloc, reader, writer, errors),
         Ok(Choice::Race) => run_race(rt, alloc, reader, writer, errors, gate),
         Ok(Choice::Map) => run_map(alloc, reader, writer, errors),
+        Ok(Choice::MapText) => run_map_text(alloc, reader, writer, errors),
         Ok(Choice::Classes(words)) => run_classes(words, writer, errors),
         Ok(Choice::Size(question)) => run_size(question, writer, errors),
         Err(error) => answer(&error, writer, errors),

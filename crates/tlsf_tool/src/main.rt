@@ -3,7 +3,8 @@
 //! `tlsf replay` reads a trace from standard input, runs it, and writes the reply lines and a report on each heap to
 //! standard output. The whole trace is read and checked before a line runs, and the whole text is made before a byte is
 //! written. `tlsf race` does so with each phase run in threads, one for each worker; where it is long, it says on standard
-//! error about every ten seconds that it still runs. `tlsf map` writes a picture of the heaps that a trace leaves. `tlsf classes N` writes the size class and the search class of N
+//! error about every ten seconds that it still runs. `tlsf map` writes a picture of the heaps that a trace leaves,
+//! with `--text` in the characters of a terminal. `tlsf classes N` writes the size class and the search class of N
 //! words. `tlsf --help` and `tlsf --version` say the rest. What it does with words and streams is [`tlsf_command::run`];
 //! `main` gives it those of the process.
 //!

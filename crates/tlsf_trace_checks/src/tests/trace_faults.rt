@@ -48,7 +48,7 @@ const HEADERS: [Row; 21] = [
     (b"tlsf 1 1 64 1\n", (0, 0)),
 ];
 
-const SECOND_LINES: [Row; 31] = [
+const SECOND_LINES: [Row; 35] = [
     (b"tlsf 1 2 64 4\na 0 1 8\r\n", (12, 2)),
     (b"tlsf 1 2 64 4\na  0 1 8\n", (12, 2)),
     (b"tlsf 1 2 64 4\na 9 1 x\n", (12, 2)),
@@ -66,10 +66,13 @@ const SECOND_LINES: [Row; 31] = [
     (b"tlsf 1 2 64 4\na 0\t1 8\n", (12, 2)),
     (b"tlsf 1 2 64 4\na 0 1\n", (12, 2)),
     (b"tlsf 1 2 64 4\na 0 1 -8\n", (12, 2)),
+    (b"tlsf 1 2 64 4\nr 0 1\n", (12, 2)),
+    (b"tlsf 1 2 64 4\nr 0 1 0 8\n", (12, 2)),
     (b"tlsf 1 2 64 4\nf 2 1\n", (13, 2)),
     (b"tlsf 1 2 64 4\na 0 65536 8\n", (13, 2)),
     (b"tlsf 1 2 64 4\na 0 1 4294967296\n", (13, 2)),
     (b"tlsf 1 2 64 4\na 0 01 8\n", (13, 2)),
+    (b"tlsf 1 2 64 4\nr 0 1 4294967296\n", (13, 2)),
     (b"tlsf 1 2 64 4\np 0 1 4294967296 48\n", (13, 2)),
     (b"tlsf 1 2 64 4\ng 0 1 0 0\n", (13, 2)),
     (b"tlsf 1 2 64 4\ng 0 1 0 65\n", (13, 2)),
@@ -78,6 +81,7 @@ const SECOND_LINES: [Row; 31] = [
     (b"tlsf 1 2 64 4\ng 0 1 0 1\n", (14, 2)),
     (b"tlsf 1 2 64 4\np 0 1 0 48\n", (14, 2)),
     (b"tlsf 1 2 64 4\nf 0 1\n", (14, 2)),
+    (b"tlsf 1 2 64 4\nr 0 1 8\n", (14, 2)),
     (b"tlsf 1 2 64 4\na 0 65535 4294967295\n", (0, 0)),
     (b"tlsf 1 2 64 4\nphase\n", (0, 0)),
 ];
@@ -101,11 +105,13 @@ const LATER_LINES: [Row; 13] = [
 ];
 
 // A label goes to another worker where a phase has ended since it was made.
-const LABELS: [Row; 9] = [
+const LABELS: [Row; 11] = [
     (b"tlsf 1 1 64 1\na 0 1 8\nf 0 2\n", (14, 3)),
     (b"tlsf 1 1 64 1\na 0 1 8\na 0 1 8\n", (14, 3)),
     (b"tlsf 1 2 64 4\na 0 1 8\nf 1 1\n", (14, 3)),
     (b"tlsf 1 2 64 4\na 0 1 8\nphase\nf 1 1\n", (0, 0)),
+    (b"tlsf 1 2 64 4\na 0 1 8\nr 1 1 9\n", (14, 3)),
+    (b"tlsf 1 2 64 4\na 0 1 8\nphase\nr 1 1 9\n", (0, 0)),
     (
         b"tlsf 1 2 64 4\na 0 65535 8\nphase\ng 1 65535 0 1\n",
         (0, 0),

@@ -3,7 +3,8 @@ use Rattle.std.specs.Option.{is_some, unwrap_or}
 use Rattle.std.specs.Str.Parse.{ParsesUnsigned, ExplainsUnsignedError, HasUnsignedDigitsIfOk}
 use Rattle.tlsf_command.specs.CommandLine.{Asks}
 use Rattle.tlsf_command.specs.declared.command_line.Choice.TheVariants.{Classes}
-use Rattle.tlsf_command.proofs.ChosenCommands.{asks_classes, asks_replay, asks_size}
+use Rattle.tlsf_command.proofs.ChosenCommands.{asks_classes, asks_map, asks_map_text, asks_replay, asks_size}
+use Rattle.tlsf_command.proofs.command_line.chosen.Goals.{then-get_flag, else-get_flag}
 use Rattle.tlsf_command.proofs.command_line.chosen.Goals as goal
 
 pub returns-in-Some-get_one : goal.returns-in-Some-get_one
@@ -35,3 +36,13 @@ returns-in_ok-given-in-Some-subcommand_matches-2 c = λ words answers.
     asks_size words c.args.matches.now c.in-Some-subcommand_matches-2.given.now _
     answers (c.in-Some-subcommand_matches-2.ensures.found.0 refl)
     c.in-Some-subcommand_matches-2.ensures.rows c.in_ok-given-in-Some-subcommand_matches-2.ensures
+
+pub returns-after-get_flag : goal.returns-after-get_flag
+returns-after-get_flag c = λ words answers.
+    let map = c.in-Some-subcommand_matches-3 in
+    elim c.if-get_flag.branch [
+      | then-get_flag w ↦ rw w.result-is (asks_map_text words c.args.matches.now map.given.now c.get_flag.result
+          answers (map.ensures.found.0 refl) map.ensures.rows c.get_flag.ensures.other c.get_flag.ensures.none w.if-get_flag.true)
+      | else-get_flag w ↦ rw w.result-is (asks_map words c.args.matches.now map.given.now c.get_flag.result
+          answers (map.ensures.found.0 refl) map.ensures.rows c.get_flag.ensures.value w.if-get_flag.false)
+    ]

@@ -1,6 +1,6 @@
 use Rattle.std.proofs.Common.{inl, inr}
 use Rattle.tlsf_command.specs.Runs.{RacesOrLacksMemory, ReplaysOrLacksMemory, ShowsPairsOrLacksMemory, streams}
-use Rattle.tlsf_command.proofs.ChosenCommands.{classes_no_pairs, classes_not_race, classes_not_replay, map_no_pairs, map_not_race, map_not_replay, race_no_pairs, race_not_replay, replay_no_pairs, replay_not_race, size_not_race, size_not_replay}
+use Rattle.tlsf_command.proofs.ChosenCommands.{classes_no_pairs, classes_not_race, classes_not_replay, map_no_pairs, map_not_race, map_not_replay, map_text_no_pairs, map_text_not_race, map_text_not_replay, race_no_pairs, race_not_replay, replay_no_pairs, replay_not_race, size_not_race, size_not_replay}
 use Rattle.tlsf_command.proofs.SizePairs.{pairs_question}
 use Rattle.tlsf_command.proofs.SizeTables.{has_table}
 use Rattle.tlsf_command.proofs.RunEnds.{answer_ends, answer_lacks}
@@ -80,6 +80,14 @@ returns-in-Ok-Map-clause-replay g c =
     (streams (g.R.Read.remaining c.run_map.new.reader) (g.W.Write.contents c.run_map.new.writer) (g.E.Write.contents c.run_map.new.errors))}
     (map_not_replay _ called asks is)
 
+pub returns-in-Ok-MapText-clause-replay : goal.returns-in-Ok-MapText-clause-replay
+returns-in-Ok-MapText-clause-replay g c =
+    let asks = rw c.in-Ok-MapText.field-0-is at c.in-Ok-MapText.ensures.asked in
+    λ called is. absurd {A = ReplaysOrLacksMemory c.run_map_text.result
+    (streams (g.R.Read.remaining c.args.reader.now) (g.W.Write.contents c.args.writer.now) (g.E.Write.contents c.args.errors.now))
+    (streams (g.R.Read.remaining c.run_map_text.new.reader) (g.W.Write.contents c.run_map_text.new.writer) (g.E.Write.contents c.run_map_text.new.errors))}
+    (map_text_not_replay _ called asks is)
+
 pub returns-in-Ok-Map-clause-race : goal.returns-in-Ok-Map-clause-race
 returns-in-Ok-Map-clause-race g c =
     let asks = rw c.in-Ok-Map.field-0-is at c.in-Ok-Map.ensures.asked in
@@ -87,6 +95,14 @@ returns-in-Ok-Map-clause-race g c =
     (streams (g.R.Read.remaining c.args.reader.now) (g.W.Write.contents c.args.writer.now) (g.E.Write.contents c.args.errors.now))
     (streams (g.R.Read.remaining c.run_map.new.reader) (g.W.Write.contents c.run_map.new.writer) (g.E.Write.contents c.run_map.new.errors))}
     (map_not_race _ called asks is)
+
+pub returns-in-Ok-MapText-clause-race : goal.returns-in-Ok-MapText-clause-race
+returns-in-Ok-MapText-clause-race g c =
+    let asks = rw c.in-Ok-MapText.field-0-is at c.in-Ok-MapText.ensures.asked in
+    λ called is. absurd {A = RacesOrLacksMemory c.run_map_text.result
+    (streams (g.R.Read.remaining c.args.reader.now) (g.W.Write.contents c.args.writer.now) (g.E.Write.contents c.args.errors.now))
+    (streams (g.R.Read.remaining c.run_map_text.new.reader) (g.W.Write.contents c.run_map_text.new.writer) (g.E.Write.contents c.run_map_text.new.errors))}
+    (map_text_not_race _ called asks is)
 
 pub returns-in-Ok-Replay-clause-race : goal.returns-in-Ok-Replay-clause-race
 returns-in-Ok-Replay-clause-race g c =
@@ -119,6 +135,14 @@ returns-in-Ok-Map-clause-size g c =
     (streams (g.R.Read.remaining c.args.reader.now) (g.W.Write.contents c.args.writer.now) (g.E.Write.contents c.args.errors.now))
     (streams (g.R.Read.remaining c.run_map.new.reader) (g.W.Write.contents c.run_map.new.writer) (g.E.Write.contents c.run_map.new.errors))}
     (map_no_pairs _ called pairs asks are is)
+
+pub returns-in-Ok-MapText-clause-size : goal.returns-in-Ok-MapText-clause-size
+returns-in-Ok-MapText-clause-size g c =
+    let asks = rw c.in-Ok-MapText.field-0-is at c.in-Ok-MapText.ensures.asked in
+    λ called pairs are is. absurd {A = ShowsPairsOrLacksMemory pairs c.run_map_text.result
+    (streams (g.R.Read.remaining c.args.reader.now) (g.W.Write.contents c.args.writer.now) (g.E.Write.contents c.args.errors.now))
+    (streams (g.R.Read.remaining c.run_map_text.new.reader) (g.W.Write.contents c.run_map_text.new.writer) (g.E.Write.contents c.run_map_text.new.errors))}
+    (map_text_no_pairs _ called pairs asks are is)
 
 pub returns-in-Ok-Replay-clause-size : goal.returns-in-Ok-Replay-clause-size
 returns-in-Ok-Replay-clause-size g c =
