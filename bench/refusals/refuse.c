@@ -45,8 +45,7 @@ __attribute__((constructor)) static void start(void)
     takes_none = !number("OUTPUT_THEN", 1);
 }
 
-/* The program ends by _exit. */
-void _exit(int status)
+static void tell_counts(void)
 {
     const char *path = getenv("COUNTS");
     long counts[] = { growths.asked, reads.asked, threads.asked, refused };
@@ -56,6 +55,17 @@ void _exit(int status)
         fprintf(file, "%ld %ld %ld %ld\n", counts[0], counts[1], counts[2], counts[3]);
         fclose(file);
     }
+}
+
+/* A program that may start threads ends by _exit, any other by exit. */
+__attribute__((destructor)) static void end(void)
+{
+    tell_counts();
+}
+
+void _exit(int status)
+{
+    tell_counts();
     for (;;) syscall(SYS_exit_group, status);
 }
 

@@ -1,0 +1,155 @@
+// What `tlsf replay` and `tlsf race` answer to a trace: docs/FORMATS.md, "Reply lines", "Report lines" and "Faults".
+#pragma once
+#include <deque>
+#include <set>
+#include "heap.h"
+#include "trace.h"
+
+struct Answer {
+    int status;
+    std::string output, errors;
+    bool operator==(const Answer&) const = default;
+};
+
+class Yard {
+  public:
+    explicit Yard(const Trace& trace) : capacity(trace.capacity), lanes(trace.workers, std::vector<std::deque<Name>>(trace.workers)) {
+        for (uint64_t i = 0; i < trace.workers; i++) heaps.emplace_back(i, trace.words);
+    }
+
+    // The reply lines of a call.
+    std::string call(const Line& line) {
+        if (line.kind == 'd') return drain(line.worker, line.count);
+        const std::string start = std::to_string(line.worker) + " " + line.kind + " " + std::to_string(line.label) + " ";
+        return start + reply(line) + "\n";
+    }
+
+    // Posts are taken lane by lane, in the rising number of their posters.
+    std::string drain(uint64_t worker, uint64_t most) {
+        std::string lines;
+        uint64_t taken = 0;
+        for (uint64_t from = 0; from < heaps.size(); from++) {
+            auto& lane = lanes[from][worker];
+            for (; !lane.empty() && taken < most; taken++) {
+                lines += take(worker, from, lane.front());
+                lane.pop_front();
+            }
+        }
+        return lines + std::to_string(worker) + " d drained " + std::to_string(taken) + "\n";
+    }
+
+    std::string reports() const {
+        std::string lines;
+        for (const Heap& heap : heaps) lines += heap.report() + "\n";
+        return lines;
+    }
+
+    uint64_t count() const { return heaps.size(); }
+
+  private:
+    uint64_t capacity;
+    std::vector<Heap> heaps = {};
+    // From each worker to each other.
+    std::vector<std::vector<std::deque<Name>>> lanes;
+    // None where the `a` line was refused.
+    std::map<uint64_t, std::optional<Name>> names = {};
+
+    static std::string refused(int number) { return "refused " + std::to_string(number); }
+
+    static std::string placed(const Name& name) { return "at " + std::to_string(name.place) + " serial " + std::to_string(name.serial); }
+
+    std::string take(uint64_t worker, uint64_t from, const Name& name) {
+        const auto refusal = heaps[worker].release(name);
+        return std::to_string(worker) + " take " + std::to_string(from) + " " + placed(name) + " " + (refusal ? refused(*refusal) : "freed") + "\n";
+    }
+
+    std::string reply(const Line& line) {
+        Heap& heap = heaps[line.worker];
+        if (line.kind == 'a') {
+            const auto answer = heap.allocate(line.count);
+            const Name* name = std::get_if<Name>(&answer);
+            names[line.label] = name ? std::optional(*name) : std::nullopt;
+            return name ? placed(*name) : refused(std::get<Refusal>(answer));
+        }
+        const auto name = names[line.label];
+        if (!name) return refused(UNMADE);
+        if (line.kind == 'f') return release(line.worker, *name);
+        if (line.kind == 'r') {
+            const auto refusal = heap.resize(*name, line.count);
+            return refusal ? refused(*refusal) : "resized";
+        }
+        if (line.kind == 'p') {
+            const auto refusal = heap.write(*name, line.at, line.bytes);
+            return refusal ? refused(*refusal) : "wrote " + std::to_string(line.bytes.size());
+        }
+        const auto answer = heap.read(*name, line.at, line.count);
+        const std::string* bytes = std::get_if<std::string>(&answer);
+        return bytes ? "got " + hex(*bytes) : refused(std::get<Refusal>(answer));
+    }
+
+    std::string release(uint64_t worker, const Name& name) {
+        if (name.heap == worker) {
+            const auto refusal = heaps[worker].release(name);
+            return refusal ? refused(*refusal) : "freed";
+        }
+        auto& lane = lanes[worker][name.heap];
+        if (lane.size() == capacity) return refused(FULL);
+        lane.push_back(name);
+        return "posted";
+    }
+
+    static std::string hex(const std::string& bytes) {
+        std::string digits;
+        for (const unsigned char byte : bytes) {
+            digits += "0123456789abcdef"[byte / 16];
+            digits += "0123456789abcdef"[byte % 16];
+        }
+        return digits;
+    }
+};
+
+inline std::string replay_text(const Trace& trace) {
+    Yard yard(trace);
+    std::string text;
+    const auto end_phase = [&] {
+        for (uint64_t worker = 0; worker < yard.count(); worker++) text += yard.drain(worker, 8192);
+    };
+    for (const Line& line : trace.lines) {
+        if (line.kind == 'e') end_phase();
+        else text += yard.call(line);
+    }
+    end_phase();
+    return text + yard.reports();
+}
+
+// Without `d` lines posts are taken at the ends of phases alone, so that no schedule changes what a call is answered: the calls
+// of a phase may be made in the order of their lines.
+inline std::string race_text(const Trace& trace) {
+    Yard yard(trace);
+    std::string text;
+    std::vector<std::string> records(trace.workers);
+    const auto end_phase = [&] {
+        for (uint64_t worker = 0; worker < trace.workers; worker++) {
+            text += records[worker] + yard.drain(worker, 8192);
+            records[worker].clear();
+        }
+    };
+    for (const Line& line : trace.lines) {
+        if (line.kind == 'e') end_phase();
+        else records[line.worker] += yard.call(line);
+    }
+    end_phase();
+    return text + yard.reports();
+}
+
+inline Answer fault_answer(const Fault& fault) {
+    static const std::map<int, std::string> words = {{11, "bad header"}, {12, "bad line"}, {13, "bad number"}, {14, "label out of order"}, {15, "trace too long"}};
+    const std::string where = fault.line ? "line " + std::to_string(fault.line) + ": " : "";
+    return {1, "", "tlsf: " + where + words.at(fault.number) + " (" + std::to_string(fault.number) + ")\n"};
+}
+
+inline bool has_drain_lines(const Trace& trace) {
+    for (const Line& line : trace.lines)
+        if (line.kind == 'd') return true;
+    return false;
+}
