@@ -2,10 +2,11 @@
 
 mod commands;
 mod fakes;
+mod fronts;
 mod long_texts;
 mod race_notices;
 mod race_traces;
-mod replays;
+mod runs;
 mod sizes;
 mod streams;
 mod trace_faults;

@@ -9,6 +9,7 @@ use tlsf_heap::{Heap, Name, OpenFault, Refusal};
 pub enum Ask {
     Allocate(u32),
     Release(Name),
+    Resize(Name, u32),
 }
 
 /// The name that was given, if any.
@@ -22,7 +23,7 @@ pub fn given(answer: Result<Name, Refusal>) -> Answer {
     }
 }
 
-/// What a release answered.
+/// What a release or a resize answered.
 pub fn returned(answer: Result<(), Refusal>) -> Answer {
     match answer {
         Ok(()) => Ok(None),
@@ -42,6 +43,7 @@ fn check_asks(
         let answer = match *ask {
             Ask::Allocate(len) => given(heap.allocate(len)),
             Ask::Release(name) => returned(heap.release(name)),
+            Ask::Resize(name, len) => returned(heap.resize(name, len)),
         };
         same((i, answer), (i, *wanted)).expect(rt, "differ");
     }

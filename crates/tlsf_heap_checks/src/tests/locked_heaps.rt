@@ -19,6 +19,7 @@ fn check_asks<R: Wait + Abort>(
         let answer = match *ask {
             Ask::Allocate(len) => given(heap.lock(rt).allocate(len)),
             Ask::Release(name) => returned(heap.lock(rt).release(name)),
+            Ask::Resize(name, len) => returned(heap.lock(rt).resize(name, len)),
         };
         same((i, answer), (i, *wanted)).expect(rt, "differ");
     }
@@ -46,6 +47,7 @@ fn counts_agree_at_the_last_tick(rt: HostRuntime) -> Result<(), Fail> {
         (Ask::Allocate(8), Ok(Some(last))),
         (Ask::Allocate(8), Err(Refusal::Worn)),
         (Ask::Release(last), Err(Refusal::Worn)),
+        (Ask::Resize(last, 8), Err(Refusal::Worn)),
     ];
     check_asks(&rt, &heap, &rows, (1, 0, 1));
     Ok(())
@@ -72,6 +74,25 @@ fn calls_behind_a_lock(rt: HostRuntime) -> Result<(), Fail> {
         (Ask::Release(block), Err(Refusal::Stale)),
     ];
     check_asks(&rt, &heap, &rows, (1, 1, 0));
+    Ok(())
+}
+
+// A resize is neither a grant nor a return. Where it is accepted the tick rises by one, as the serial of the next block shows.
+#[test]
+fn resizes_leave_the_counts(rt: HostRuntime) -> Result<(), Fail> {
+    let heap = LockedHeap::new(rt.alloc(), 0, 64, 0)?;
+    let block = name(0, 0, 1);
+    let rows = [
+        (Ask::Allocate(8), Ok(Some(block))),
+        (Ask::Resize(block, 1000), Err(Refusal::NoRoom)),
+        (Ask::Resize(name(1, 0, 1), 8), Err(Refusal::Foreign)),
+        (Ask::Resize(block, 100), Ok(None)),
+        (Ask::Allocate(8), Ok(Some(name(0, 16, 3)))),
+        (Ask::Resize(block, 8), Ok(None)),
+        (Ask::Release(block), Ok(None)),
+        (Ask::Resize(block, 8), Err(Refusal::Stale)),
+    ];
+    check_asks(&rt, &heap, &rows, (2, 1, 1));
     Ok(())
 }
 

@@ -1,8 +1,11 @@
 //! How much of a reader is read, and traces at the limits. A text that is read whole, and is no trace, is a fault of line 1.
-use crate::tests::streams::Streams;
+use crate::tests::streams::{MODES, Mode, Streams};
 use std::alloc::{AllocError, Global};
+use std::marker::Sync;
 use std::process::Abort;
+use std::sync::Wait;
 use std::test::Fail;
+use std::thread::Threads;
 use tlsf_fixtures::same;
 use tlsf_trace::TraceFault;
 
@@ -19,15 +22,22 @@ fn bytes_of(alloc: Global, text: Text) -> Result<Vec<u8>, AllocError> {
     Ok(bytes)
 }
 
-/// The number of the fault that the replay of a text ends in, 0 where it has none, and how many reads of up to `most` bytes
+/// The number of the fault that a run of a text ends in, 0 where it has none, and how many reads of up to `most` bytes
 /// there were.
-fn ending(alloc: Global, text: Text, most: usize) -> (u32, u64) {
+fn ending<R: Threads + Wait + Sync>(
+    rt: &R,
+    alloc: Global,
+    mode: Mode,
+    text: Text,
+    most: usize,
+) -> (u32, u64) {
     let Ok(bytes) = bytes_of(alloc, text) else {
         return (TraceFault::NO_MEMORY.no, 0);
     };
     let mut streams = Streams::new(alloc, &bytes);
     streams.reader.most = most;
-    let no = streams.replay(alloc).err().map_or(0, |fault| fault.no);
+    let answer = streams.answer(rt, alloc, mode);
+    let no = answer.err().map_or(0, |fault| fault.no);
     (no, streams.reader.reads)
 }
 
@@ -36,10 +46,20 @@ const HEADER: &[u8] = b"tlsf 1 1 64 1\n";
 /// A line of 32 bytes.
 const LINE: &[u8] = b"aaaaaaaaaaaaaaaaaaaaaaaaaaaaaaa\n";
 
-/// A text, how many bytes a read of it gives at most, and the number of the fault that its replay ends in.
+/// A text, how many bytes a read of it gives at most, and the number of the fault that its run ends in.
 type Row = (Text, usize, u32);
 
-const ROWS: [Row; 27] = [
+/// Traces at the limits on reads and lines. A race starts a thread for each of their phases.
+const TRACES: [Row; 6] = [
+    ((HEADER, b"phase\n", 10_919, b"d 0 10\n"), 1, 0),
+    ((HEADER, b"phase\n", 10_918, b"d 0 10\nd 0 10\n"), 1, 15),
+    ((HEADER, b"phase\n", 32_767, b""), 4096, 0),
+    ((HEADER, b"phase\n", 32_768, b""), 4096, 15),
+    ((b"tlsf 1 1 64 1\nx\n", b"phase\n", 32_766, b""), 4096, 12),
+    ((b"tlsf 1 1 64 1\nx\n", b"phase\n", 32_767, b""), 4096, 15),
+];
+
+const ROWS: [Row; 21] = [
     // Bytes.
     ((b"", b"a", 1_048_576, b""), 4095, 11),
     ((b"", b"a", 1_048_577, b""), 4095, 15),
@@ -61,13 +81,6 @@ const ROWS: [Row; 27] = [
     // Reads. The one that shows the end is one of them.
     ((b"", b"a", 65_535, b""), 1, 11),
     ((b"", b"a", 65_536, b""), 1, 15),
-    ((HEADER, b"phase\n", 10_919, b"d 0 10\n"), 1, 0),
-    ((HEADER, b"phase\n", 10_918, b"d 0 10\nd 0 10\n"), 1, 15),
-    // Lines of a trace.
-    ((HEADER, b"phase\n", 32_767, b""), 4096, 0),
-    ((HEADER, b"phase\n", 32_768, b""), 4096, 15),
-    ((b"tlsf 1 1 64 1\nx\n", b"phase\n", 32_766, b""), 4096, 12),
-    ((b"tlsf 1 1 64 1\nx\n", b"phase\n", 32_767, b""), 4096, 15),
     // Digits of a field.
     ((b"tlsf 1 2 64 4\na 0 1 ", b"9", 100, b"\n"), 4096, 13),
     ((b"tlsf 1 2 64 4\na 0 1 ", b"0", 100, b"\n"), 4096, 13),
@@ -77,24 +90,31 @@ const ROWS: [Row; 27] = [
 ];
 
 /// Each text ends in its fault.
-fn check_rows(rt: &impl Abort, alloc: Global, rows: &[Row]) {
+fn check_rows<R: Threads + Wait + Abort + Sync>(rt: &R, alloc: Global, mode: Mode, rows: &[Row]) {
     for (i, (text, most, fault)) in rows.iter().enumerate() {
-        let (found, _) = ending(alloc, *text, *most);
-        same((i, found), (i, *fault)).expect(rt, "differ");
+        let (found, _) = ending(rt, alloc, mode, *text, *most);
+        same((mode, i, found), (mode, i, *fault)).expect(rt, "differ");
     }
 }
 
 #[test]
 fn takes_so_many_bytes_lines_and_reads(rt: HostRuntime) {
-    check_rows(&rt, rt.alloc(), &ROWS);
+    check_rows(&rt, rt.alloc(), Mode::Replay, &ROWS);
+    for mode in MODES {
+        check_rows(&rt, rt.alloc(), mode, &TRACES);
+    }
 }
 
 // It gives up where the end has not come, be the reads short or long.
 #[test]
 fn gives_up_on_an_endless_reader(rt: HostRuntime) {
     let endless: Text = (b"", b"a", 2_000_000, b"");
-    let found = [1, 4096].map(|most| ending(rt.alloc(), endless, most));
-    same(found, [(15, 65_536), (15, 257)]).expect(&rt, "differ");
+    for mode in MODES {
+        for (most, reads) in [(1, 65_536), (4096, 257)] {
+            let found = ending(&rt, rt.alloc(), mode, endless, most);
+            same((mode, found), (mode, (15, reads))).expect(&rt, "differ");
+        }
+    }
 }
 
 /// The end of what is written for the longest trace.

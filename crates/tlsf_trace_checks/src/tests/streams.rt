@@ -9,6 +9,15 @@ use tlsf_command::run;
 use tlsf_crew::OpenGate;
 use tlsf_trace::{Summary, TraceFault, race_trace, replay};
 
+/// How a trace is run.
+#[derive(Clone, Copy, Debug, PartialEq, Eq)]
+pub enum Mode {
+    Replay,
+    Race,
+}
+
+pub const MODES: [Mode; 2] = [Mode::Replay, Mode::Race];
+
 /// What a run reads, and where it writes and reports.
 #[derive(Drop)]
 pub struct Streams<'a> {
@@ -38,6 +47,19 @@ impl<'a> Streams<'a> {
         alloc: Global,
     ) -> Result<Summary, TraceFault> {
         race_trace(rt, alloc, &mut self.reader, &mut self.writer, &OpenGate)
+    }
+
+    /// What the run of the text answers.
+    pub fn answer<R: Threads + Wait + Sync>(
+        &mut self,
+        rt: &R,
+        alloc: Global,
+        mode: Mode,
+    ) -> Result<Summary, TraceFault> {
+        match mode {
+            Mode::Replay => self.replay(alloc),
+            Mode::Race => self.race(rt, alloc),
+        }
     }
 
     /// The status of a run on words that commas end.
