@@ -38,6 +38,7 @@ RACED = b"".join(line for line in TRACE.splitlines(True) if not line.startswith(
 
 COMMANDS = [
     (["replay"], TRACE),
+    (["replay", "--held"], TRACE),
     (["race"], RACED),
     (["map"], TRACE),
     (["classes", "460"], b""),
@@ -46,6 +47,7 @@ COMMANDS = [
     (["replay", "--help"], b""),
     (["--version"], b""),
     (["replay"], TRACE + b"x\n"),
+    (["replay", "--held"], TRACE + b"x\n"),
     (["race"], RACED + b"a 0 1 1\n"),
     (["map"], TRACE + b"x\n"),
 ]
@@ -122,10 +124,10 @@ def judge_threads(tally):
 
 
 def judge_reads(tally):
-    for command in ["replay", "race", "map"]:
+    for words in [["replay"], ["replay", "--held"], ["race"], ["map"]]:
         for bytes_each in [1, 7]:
-            count = refuse_in_turn(tally, [command], TRACE, [READ_FAILED], "refuse_read", read_bytes=bytes_each)
-            print(f"tlsf {command}: {count} reads of at most {bytes_each} bytes refused in turn")
+            count = refuse_in_turn(tally, words, TRACE, [READ_FAILED], "refuse_read", read_bytes=bytes_each)
+            print(f"tlsf {' '.join(words)}: {count} reads of at most {bytes_each} bytes refused in turn")
 
 
 def judge_lengths(tally):
@@ -147,7 +149,7 @@ def judge_lengths(tally):
 
 def judge_writes(tally):
     """Standard output takes so many bytes, and then a write fails or takes no byte."""
-    for words, text in [(["replay"], SHORT_TRACE), (["race"], SHORT_TRACE), (["map"], SHORT_TRACE), (["classes", "460"], b""), (["--help"], b"")]:
+    for words, text in [(["replay"], SHORT_TRACE), (["replay", "--held"], SHORT_TRACE), (["race"], SHORT_TRACE), (["map"], SHORT_TRACE), (["classes", "460"], b""), (["--help"], b"")]:
         (status, whole, _), _ = run(words, text)
         assert status == 0
         for takes in range(len(whole)):

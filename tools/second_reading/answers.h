@@ -1,4 +1,5 @@
-// What `tlsf replay` and `tlsf race` answer to a trace: docs/FORMATS.md, "Reply lines", "Report lines" and "Faults".
+// What `tlsf replay`, `tlsf replay --held` and `tlsf race` answer to a trace: docs/FORMATS.md, "Reply lines", "Report lines", "Held lines"
+// and "Faults".
 #pragma once
 #include <deque>
 #include <set>
@@ -11,9 +12,29 @@ struct Answer {
     bool operator==(const Answer&) const = default;
 };
 
+// What one worker's calls asked of its heap.
+struct Asked {
+    uint64_t held = 0, most = 0, longest = 0;
+
+    void request(uint64_t length) {
+        most = std::max(most, held + 1);
+        longest = std::max(longest, length);
+    }
+};
+
+// The words of a pool of so many blocks of so many bytes: docs/SIZING.md, lines 3 to 5.
+inline std::string words_text(const Asked& asked) {
+    const uint64_t want = want_of(asked.longest);
+    if (search_class_of(want) == lows().size()) return "none";
+    const uint64_t blocks = asked.most, others = blocks == 0 ? 0 : blocks - 1;
+    const uint64_t words = others * (want + 3) + blocks * (lows()[search_class_of(want)] - 1) + 1;
+    return words > 1048576 ? "none" : std::to_string(std::max<uint64_t>(4, words));
+}
+
 class Yard {
   public:
-    explicit Yard(const Trace& trace) : capacity(trace.capacity), lanes(trace.workers, std::vector<std::deque<Name>>(trace.workers)) {
+    explicit Yard(const Trace& trace)
+        : capacity(trace.capacity), region(trace.words), lanes(trace.workers, std::vector<std::deque<Name>>(trace.workers)), asked(trace.workers) {
         for (uint64_t i = 0; i < trace.workers; i++) heaps.emplace_back(i, trace.words);
     }
 
@@ -44,15 +65,24 @@ class Yard {
         return lines;
     }
 
+    std::string held_lines() const {
+        std::string lines;
+        for (size_t i = 0; i < asked.size(); i++)
+            lines += "held " + std::to_string(i) + " blocks " + std::to_string(asked[i].most) + " bytes " + std::to_string(asked[i].longest) + " words "
+                + words_text(asked[i]) + " region " + std::to_string(region) + "\n";
+        return lines;
+    }
+
     uint64_t count() const { return heaps.size(); }
 
   private:
-    uint64_t capacity;
+    uint64_t capacity, region;
     std::vector<Heap> heaps = {};
     // From each worker to each other.
     std::vector<std::vector<std::deque<Name>>> lanes;
     // None where the `a` line was refused.
     std::map<uint64_t, std::optional<Name>> names = {};
+    std::vector<Asked> asked;
 
     static std::string refused(int number) { return "refused " + std::to_string(number); }
 
@@ -60,14 +90,17 @@ class Yard {
 
     std::string take(uint64_t worker, uint64_t from, const Name& name) {
         const auto refusal = heaps[worker].release(name);
+        if (!refusal) asked[worker].held--;
         return std::to_string(worker) + " take " + std::to_string(from) + " " + placed(name) + " " + (refusal ? refused(*refusal) : "freed") + "\n";
     }
 
     std::string reply(const Line& line) {
         Heap& heap = heaps[line.worker];
         if (line.kind == 'a') {
+            asked[line.worker].request(line.count);
             const auto answer = heap.allocate(line.count);
             const Name* name = std::get_if<Name>(&answer);
+            if (name) asked[line.worker].held++;
             names[line.label] = name ? std::optional(*name) : std::nullopt;
             return name ? placed(*name) : refused(std::get<Refusal>(answer));
         }
@@ -75,6 +108,7 @@ class Yard {
         if (!name) return refused(UNMADE);
         if (line.kind == 'f') return release(line.worker, *name);
         if (line.kind == 'r') {
+            asked[line.worker].longest = std::max(asked[line.worker].longest, line.count);
             const auto refusal = heap.resize(*name, line.count);
             return refusal ? refused(*refusal) : "resized";
         }
@@ -90,6 +124,7 @@ class Yard {
     std::string release(uint64_t worker, const Name& name) {
         if (name.heap == worker) {
             const auto refusal = heaps[worker].release(name);
+            if (!refusal) asked[worker].held--;
             return refusal ? refused(*refusal) : "freed";
         }
         auto& lane = lanes[worker][name.heap];
@@ -108,8 +143,8 @@ class Yard {
     }
 };
 
-inline std::string replay_text(const Trace& trace) {
-    Yard yard(trace);
+// The reply lines of a replay, which leaves the yard.
+inline std::string replies_on(Yard& yard, const Trace& trace) {
     std::string text;
     const auto end_phase = [&] {
         for (uint64_t worker = 0; worker < yard.count(); worker++) text += yard.drain(worker, 8192);
@@ -119,7 +154,19 @@ inline std::string replay_text(const Trace& trace) {
         else text += yard.call(line);
     }
     end_phase();
-    return text + yard.reports();
+    return text;
+}
+
+inline std::string replay_text(const Trace& trace) {
+    Yard yard(trace);
+    const std::string replies = replies_on(yard, trace);
+    return replies + yard.reports();
+}
+
+inline std::string held_text(const Trace& trace) {
+    Yard yard(trace);
+    replies_on(yard, trace);
+    return yard.held_lines();
 }
 
 // Without `d` lines posts are taken at the ends of phases alone, so that no schedule changes what a call is answered: the calls

@@ -1,7 +1,7 @@
 // usage: compare PROGRAM COUNT SEED JOBS
 // Runs the built program on so many traces, a third of them damaged, and compares status, output and errors with those of a
-// second reading. Each is replayed; every fourth is raced too, where its text is the same for every schedule. A trace that is
-// answered otherwise is kept in the file differs-SEED-NUMBER of this folder. The last line is 'N traces, M runs, K different';
+// second reading. Each is replayed, and every second with --held too; every fourth is raced too, where its text is the same for
+// every schedule. A trace that is answered otherwise is kept in the file differs-SEED-NUMBER of this folder. The last line is 'N traces, M runs, K different';
 // the exit status is 0 where K is 0.
 #include <fcntl.h>
 #include <spawn.h>
@@ -16,6 +16,9 @@
 
 // What was seen, each kind by its words.
 using Tally = std::map<std::string, uint64_t>;
+
+// The words of a command line behind the program's name.
+using Words = std::vector<std::string>;
 
 // A file without a name.
 class Scratch {
@@ -42,18 +45,20 @@ class Program {
   public:
     explicit Program(const char* path) : path(path) {}
 
-    Answer run(const char* command, const std::string& text) const {
+    Answer run(const Words& given, const std::string& text) const {
         input.hold(text), output.hold(""), errors.hold("");
         posix_spawn_file_actions_t actions;
         posix_spawn_file_actions_init(&actions);
         posix_spawn_file_actions_adddup2(&actions, input.file, 0);
         posix_spawn_file_actions_adddup2(&actions, output.file, 1);
         posix_spawn_file_actions_adddup2(&actions, errors.file, 2);
-        const char* words[] = {"tlsf", command, nullptr};
+        std::vector<char*> words = {const_cast<char*>("tlsf")};
+        for (const std::string& word : given) words.push_back(const_cast<char*>(word.c_str()));
+        words.push_back(nullptr);
         char* environment[] = {nullptr};
         pid_t child = 0;
         int status = 0;
-        if (posix_spawn(&child, path, &actions, nullptr, const_cast<char**>(words), environment) != 0) std::abort();
+        if (posix_spawn(&child, path, &actions, nullptr, words.data(), environment) != 0) std::abort();
         posix_spawn_file_actions_destroy(&actions);
         if (waitpid(child, &status, 0) != child) std::abort();
         return {WIFEXITED(status) ? WEXITSTATUS(status) : -1, output.held(), errors.held()};
@@ -85,26 +90,39 @@ void note(Tally& tally, const Answer& wanted) {
     for (const std::string& line : split(wanted.output, '\n')) {
         const Fields fields = split(line, ' ');
         if (fields.size() < 3 || fields[0] == "heap") continue;
+        if (fields[0] == "held") {
+            tally[fields[7] == "none" ? "line held, no region has so many words" : "line held"]++;
+            continue;
+        }
         const bool refused = fields[fields.size() - 2] == "refused";
         tally["line " + fields[1] + (refused ? " refused " + fields.back() : fields[1] == "f" || fields[1] == "take" ? " " + fields.back() : "")]++;
     }
 }
 
 // Runs one command on one text. Tells whether the answers agree.
-bool agrees(const Program& program, const char* command, const std::string& text, const Answer& wanted, Tally& tally) {
+bool agrees(const Program& program, const Words& words, const std::string& text, const Answer& wanted, Tally& tally) {
     note(tally, wanted);
-    tally[std::string("runs of ") + command]++;
-    return program.run(command, text) == wanted;
+    std::string name = "runs of";
+    for (const std::string& word : words) name += " " + word;
+    tally[name]++;
+    return program.run(words, text) == wanted;
 }
 
-bool judge(const Program& program, const std::string& text, bool raced, Tally& tally) {
+// What each trace is tried with besides a replay.
+struct Tries {
+    bool held, raced;
+};
+
+bool judge(const Program& program, const std::string& text, Tries tries, Tally& tally) {
+    const Words replay = {"replay"}, held = {"replay", "--held"}, race = {"race"};
     const auto read = trace_in(text);
-    if (const Fault* fault = std::get_if<Fault>(&read)) return agrees(program, raced ? "race" : "replay", text, fault_answer(*fault), tally);
+    if (const Fault* fault = std::get_if<Fault>(&read)) return agrees(program, tries.raced ? race : tries.held ? held : replay, text, fault_answer(*fault), tally);
     const Trace& trace = std::get<Trace>(read);
-    const bool agree = agrees(program, "replay", text, {0, replay_text(trace), ""}, tally);
+    bool agree = agrees(program, replay, text, {0, replay_text(trace), ""}, tally);
+    if (tries.held) agree = agrees(program, held, text, {0, held_text(trace), ""}, tally) && agree;
     // A race starts a thread for each worker and phase, so one of very many phases takes seconds.
-    if (!raced || has_drain_lines(trace) || trace.lines.size() > 5000) return agree;
-    return agrees(program, "race", text, {0, race_text(trace), ""}, tally) && agree;
+    if (!tries.raced || has_drain_lines(trace) || trace.lines.size() > 5000) return agree;
+    return agrees(program, race, text, {0, race_text(trace), ""}, tally) && agree;
 }
 
 // Judges every so many traces, and puts what was seen into the stream.
@@ -114,7 +132,7 @@ void judge_share(const char* path, uint64_t count, uint64_t seed, uint64_t first
     for (uint64_t which = first; which < count; which += step) {
         const std::string text = trace_number(seed, which);
         tally["traces"]++;
-        if (judge(program, text, which % 4 == 0, tally)) continue;
+        if (judge(program, text, {which % 2 == 1, which % 4 == 0}, tally)) continue;
         tally["different"]++;
         const std::string name = "differs-" + std::to_string(seed) + "-" + std::to_string(which);
         std::ofstream(name, std::ios::binary) << text;
@@ -160,6 +178,6 @@ int main(int count, char** words) {
     Tally tally = judge_all(words[1], strtoull(words[2], nullptr, 10), strtoull(words[3], nullptr, 10), strtoull(words[4], nullptr, 10));
     for (const auto& [what, times] : tally) printf("%s: %lu\n", what.c_str(), static_cast<unsigned long>(times));
     printf("%lu traces, %lu runs, %lu different\n", static_cast<unsigned long>(tally["traces"]),
-        static_cast<unsigned long>(tally["runs of replay"] + tally["runs of race"]), static_cast<unsigned long>(tally["different"]));
+        static_cast<unsigned long>(tally["runs of replay"] + tally["runs of replay --held"] + tally["runs of race"]), static_cast<unsigned long>(tally["different"]));
     return tally["different"] == 0 ? 0 : 1;
 }

@@ -1,7 +1,9 @@
 -- What the words ask for, by what `clap` answers of them.
-use Rattle.std.proofs.Common.{◌≡◌, ◌∙◌, ◌^◌, ℕ, Bool, false, true, true≢false, List, [], ◌∷◌, Option, Some, None, Result, Ok, codes, length, option_map, inl, inr, refl, sym, ap, subst, arith}
+use Rattle.std.proofs.Common.{◌≡◌, ◌∙◌, ◌^◌, ℕ, Bool, false, true, true≢false, List, [], Option, Some, None, Result, Ok, codes, option_map, inl, inr, refl, sym, ap, subst, arith}
 use Rattle.std.specs.Option.{option_map_or, unwrap_or}
-use Rattle.std.specs.Prelude.{option_and_then, pos, slice_get}
+use Rattle.std.specs.Prelude.{option_and_then, pos}
+use Rattle.std.specs.Str.{bytes_eq}
+use Rattle.std.proofs.lemmas.Bool.{false≢true}
 use Rattle.std.specs.Str.Parse.{ParsesUnsigned}
 use Rattle.clap.specs.Lexer.{without_minus}
 use Rattle.clap.specs.Matches.{ReadsOne, found_of, matched_of, one_text, raw_values, subcommand_name_of}
@@ -12,13 +14,13 @@ use Rattle.clap.specs.declared.parser.matches.ArgMatches.{ArgMatches}
 use Rattle.clap.proofs.CallerReads.{signed_reads}
 use Rattle.clap.proofs.ValueTestLemmas.{accepts-Accepts}
 use Rattle.clap.proofs.WalkLemmas.{one_text-rows, raw_values-rows}
-use Rattle.tlsf_command.specs.CommandLine.{Answers, Asks, command_in, flag_given, name_of, number_in, texts_given, tlsf_app}
-use Rattle.tlsf_command.specs.SizeQuestions.{pair_words, ArePairs, IsQuestion, Pair}
+use Rattle.tlsf_command.specs.CommandLine.{Answers, Asks, HasFlag, IsAnswerable, LacksFlag, command_in, flag_given, name_of, number_in, texts_given, tlsf_app}
+use Rattle.tlsf_command.specs.SizeQuestions.{IsQuestion}
 use Rattle.tlsf_command.specs.declared.size_question.SizeQuestion.{SizeQuestion}
 use Rattle.tlsf_command.specs.declared.command_line.Choice.{Choice}
-use Rattle.tlsf_command.specs.declared.command_line.Choice.TheVariants.{Replay, Race, Map, MapText, Classes, Size}
-use Rattle.tlsf_command.proofs.NamedCommands.{faultless_named, race_named, replay_named, subcommand_name-rows}
-use Rattle.tlsf_command.proofs.SizePairs.{pairs_named}
+use Rattle.tlsf_command.specs.declared.command_line.Choice.TheVariants.{Replay, Held, Race, Map, MapText, Classes, Size}
+use Rattle.tlsf_command.proofs.NamedCommands.{faultless_named, subcommand_name-rows}
+use Rattle.tlsf_command.proofs.SizeTables.{has_table}
 use Rattle.tlsf_command.proofs.SizeWords.{IsSized}
 
 abbrev label : Option (Text × List Row) → Option Text
@@ -29,128 +31,95 @@ label_of_words : (words : List Text) (matches : ArgMatches) → Answers words ma
     → subcommand_name_of matches ≡ label (subcommand_of tlsf_app words)
 label_of_words words matches answers = subcommand_name-rows matches ∙ ap label answers.1
 
--- names of other lengths are no name of `classes`
-abbrev size_of_name : Option Text → ℕ
-size_of_name name = option_map_or length name 0
+-- ---- what words ask for that name a command
 
-replay_other : Some (codes "replay") ≡ Some (codes "classes") → ⊥
-replay_other same = let counted : 6 ≡ 7 = ap size_of_name same in omega (arith, counted)
+-- another name than that which the words name isn't asked for
+other_name : (words : List Text) (choice : Choice) (name : Text) → Asks words choice → command_in words ≡ Some name
+    → bytes_eq (name_of choice) name ≡ false → bytes_eq name name ≡ true → ⊥
+other_name words choice name asks is differs same =
+    let one : Some (name_of choice) ≡ Some name = sym asks.named ∙ is in
+    false≢true (sym differs ∙ (ap (λ (o : Option Text). option_map_or (λ text. bytes_eq text name) o true) one ∙ same))
 
-race_other : Some (codes "race") ≡ Some (codes "classes") → ⊥
-race_other same = let counted : 4 ≡ 7 = ap size_of_name same in omega (arith, counted)
+pub only_replay : (words : List Text) (choice : Choice) → command_in words ≡ Some (codes "replay") → flag_given (codes "held") words ≡ Some (codes "false") → Asks words choice → choice ≡ Replay
+only_replay words Replay is flag asks = refl
+only_replay words Held is flag asks = absurd (asks.sized.0 flag)
+only_replay words Race is flag asks = absurd (other_name words Race _ asks is refl refl)
+only_replay words Map is flag asks = absurd (other_name words Map _ asks is refl refl)
+only_replay words MapText is flag asks = absurd (other_name words MapText _ asks is refl refl)
+only_replay words (Classes n) is flag asks = absurd (other_name words (Classes n) _ asks is refl refl)
+only_replay words (Size question) is flag asks = absurd (other_name words (Size question) _ asks is refl refl)
 
-size_other : Some (codes "size") ≡ Some (codes "classes") → ⊥
-size_other same = let counted : 4 ≡ 7 = ap size_of_name same in omega (arith, counted)
+pub only_held : (words : List Text) (choice : Choice) → command_in words ≡ Some (codes "replay") → flag_given (codes "held") words ≡ Some (codes "true") → Asks words choice → choice ≡ Held
+only_held words Replay is flag asks = absurd (asks.sized flag)
+only_held words Held is flag asks = refl
+only_held words Race is flag asks = absurd (other_name words Race _ asks is refl refl)
+only_held words Map is flag asks = absurd (other_name words Map _ asks is refl refl)
+only_held words MapText is flag asks = absurd (other_name words MapText _ asks is refl refl)
+only_held words (Classes n) is flag asks = absurd (other_name words (Classes n) _ asks is refl refl)
+only_held words (Size question) is flag asks = absurd (other_name words (Size question) _ asks is refl refl)
 
-size_differs : Some (codes "size") ≡ Some (codes "replay") → ⊥
-size_differs same = let counted : 4 ≡ 6 = ap size_of_name same in omega (arith, counted)
+pub only_race : (words : List Text) (choice : Choice) → command_in words ≡ Some (codes "race") → Asks words choice → choice ≡ Race
+only_race words Replay is asks = absurd (other_name words Replay _ asks is refl refl)
+only_race words Held is asks = absurd (other_name words Held _ asks is refl refl)
+only_race words Race is asks = refl
+only_race words Map is asks = absurd (other_name words Map _ asks is refl refl)
+only_race words MapText is asks = absurd (other_name words MapText _ asks is refl refl)
+only_race words (Classes n) is asks = absurd (other_name words (Classes n) _ asks is refl refl)
+only_race words (Size question) is asks = absurd (other_name words (Size question) _ asks is refl refl)
 
--- `size` and `race` have another first letter
-abbrev letter_of_name : Option Text → ℕ
-letter_of_name name = option_map_or (λ text. unwrap_or (slice_get text 0) 0) name 0
+pub only_map : (words : List Text) (choice : Choice) → command_in words ≡ Some (codes "map") → flag_given (codes "text") words ≡ Some (codes "false") → Asks words choice → choice ≡ Map
+only_map words Replay is flag asks = absurd (other_name words Replay _ asks is refl refl)
+only_map words Held is flag asks = absurd (other_name words Held _ asks is refl refl)
+only_map words Race is flag asks = absurd (other_name words Race _ asks is refl refl)
+only_map words Map is flag asks = refl
+only_map words MapText is flag asks = absurd (asks.sized.0 flag)
+only_map words (Classes n) is flag asks = absurd (other_name words (Classes n) _ asks is refl refl)
+only_map words (Size question) is flag asks = absurd (other_name words (Size question) _ asks is refl refl)
 
-size_no_race : Some (codes "size") ≡ Some (codes "race") → ⊥
-size_no_race same = let letters : 115 ≡ 114 = ap letter_of_name same in omega (arith, letters)
+pub only_map_text : (words : List Text) (choice : Choice) → command_in words ≡ Some (codes "map") → flag_given (codes "text") words ≡ Some (codes "true") → Asks words choice → choice ≡ MapText
+only_map_text words Replay is flag asks = absurd (other_name words Replay _ asks is refl refl)
+only_map_text words Held is flag asks = absurd (other_name words Held _ asks is refl refl)
+only_map_text words Race is flag asks = absurd (other_name words Race _ asks is refl refl)
+only_map_text words Map is flag asks = absurd (asks.sized flag)
+only_map_text words MapText is flag asks = refl
+only_map_text words (Classes n) is flag asks = absurd (other_name words (Classes n) _ asks is refl refl)
+only_map_text words (Size question) is flag asks = absurd (other_name words (Size question) _ asks is refl refl)
 
-race_differs : Some (codes "race") ≡ Some (codes "replay") → ⊥
-race_differs same = let counted : 4 ≡ 6 = ap size_of_name same in omega (arith, counted)
+pub only_size : (words : List Text) (choice : Choice) → command_in words ≡ Some (codes "size") → Asks words choice → (question : SizeQuestion) × (choice ≡ Size question)
+only_size words Replay is asks = absurd (other_name words Replay _ asks is refl refl)
+only_size words Held is asks = absurd (other_name words Held _ asks is refl refl)
+only_size words Race is asks = absurd (other_name words Race _ asks is refl refl)
+only_size words Map is asks = absurd (other_name words Map _ asks is refl refl)
+only_size words MapText is asks = absurd (other_name words MapText _ asks is refl refl)
+only_size words (Classes n) is asks = absurd (other_name words (Classes n) _ asks is refl refl)
+only_size words (Size question) is asks = (question, refl)
 
-map_other : Some (codes "map") ≡ Some (codes "classes") → ⊥
-map_other same = let counted : 3 ≡ 7 = ap size_of_name same in omega (arith, counted)
+-- what is asked for can be answered
+pub answerable : (words : List Text) (choice : Choice) → Asks words choice → IsAnswerable choice
+answerable words Replay asks = tt
+answerable words Held asks = tt
+answerable words Race asks = tt
+answerable words Map asks = tt
+answerable words MapText asks = tt
+answerable words (Classes n) asks = (asks.sized.1, asks.sized.2)
+answerable words (Size question) asks = has_table _ _ question asks.sized
 
-map_differs : Some (codes "map") ≡ Some (codes "replay") → ⊥
-map_differs same = let counted : 3 ≡ 6 = ap size_of_name same in omega (arith, counted)
+-- ---- by what `clap` answers
 
-map_no_race : Some (codes "map") ≡ Some (codes "race") → ⊥
-map_no_race same = let counted : 3 ≡ 4 = ap size_of_name same in omega (arith, counted)
-
-map_no_size : Some (codes "map") ≡ Some (codes "size") → ⊥
-map_no_size same = let counted : 3 ≡ 4 = ap size_of_name same in omega (arith, counted)
-
--- what is asked for has the name that the words name
-asked_name : (words : List Text) (name : Text) (choice : Choice) → Asks words choice → command_in words ≡ Some name
-    → Some (name_of choice) ≡ Some name
-asked_name words name choice asks is = sym asks.named ∙ is
-
--- words that ask for a race are not the program's name and `replay`
-pub race_not_replay : (words : List Text) (called : Text) → Asks words Race → words ≡ called ∷ codes "replay" ∷ [] → ⊥
-race_not_replay words called asks is = race_differs (asked_name words _ Race asks (ap command_in is ∙ replay_named called))
-
--- and those that ask for a replay not its name and `race`
-pub replay_not_race : (words : List Text) (called : Text) → Asks words Replay → words ≡ called ∷ codes "race" ∷ [] → ⊥
-replay_not_race words called asks is = race_differs (sym (asked_name words _ Replay asks (ap command_in is ∙ race_named called)))
-
--- words that ask for a map are not the program's name and `race`
-pub map_not_race : (words : List Text) (called : Text) → Asks words Map → words ≡ called ∷ codes "race" ∷ [] → ⊥
-map_not_race words called asks is = map_no_race (asked_name words _ Map asks (ap command_in is ∙ race_named called))
-
--- nor its name and `replay`
-pub map_not_replay : (words : List Text) (called : Text) → Asks words Map → words ≡ called ∷ codes "replay" ∷ [] → ⊥
-map_not_replay words called asks is = map_differs (asked_name words _ Map asks (ap command_in is ∙ replay_named called))
-
--- nor are words that ask for a map in characters
-pub map_text_not_race : (words : List Text) (called : Text) → Asks words MapText → words ≡ called ∷ codes "race" ∷ [] → ⊥
-map_text_not_race words called asks is = map_no_race (asked_name words _ MapText asks (ap command_in is ∙ race_named called))
-
-pub map_text_not_replay : (words : List Text) (called : Text) → Asks words MapText → words ≡ called ∷ codes "replay" ∷ [] → ⊥
-map_text_not_replay words called asks is = map_differs (asked_name words _ MapText asks (ap command_in is ∙ replay_named called))
-
--- words that ask for classes are not the program's name and `race`
-pub classes_not_race : (words : List Text) (called : Text) (n : ℕ) → Asks words (Classes n) → words ≡ called ∷ codes "race" ∷ [] → ⊥
-classes_not_race words called n asks is =
-    race_other (sym (asked_name words _ (Classes n) asks (ap command_in is ∙ race_named called)))
-
--- nor its name and `replay`
-pub classes_not_replay : (words : List Text) (called : Text) (n : ℕ) → Asks words (Classes n) → words ≡ called ∷ codes "replay" ∷ [] → ⊥
-classes_not_replay words called n asks is =
-    replay_other (sym (asked_name words _ (Classes n) asks (ap command_in is ∙ replay_named called)))
-
--- words that ask for a size are not the program's name and `race`
-pub size_not_race : (words : List Text) (called : Text) (question : SizeQuestion) → Asks words (Size question) → words ≡ called ∷ codes "race" ∷ [] → ⊥
-size_not_race words called question asks is =
-    size_no_race (asked_name words _ (Size question) asks (ap command_in is ∙ race_named called))
-
--- nor its name and `replay`
-pub size_not_replay : (words : List Text) (called : Text) (question : SizeQuestion) → Asks words (Size question) → words ≡ called ∷ codes "replay" ∷ [] → ⊥
-size_not_replay words called question asks is =
-    size_differs (asked_name words _ (Size question) asks (ap command_in is ∙ replay_named called))
-
--- words that are the program's name, `size` and pairs ask for what `size` names
-pairs_name : (words : List Text) (called : Text) (pairs : List Pair) (choice : Choice) → Asks words choice → ArePairs pairs
-    → words ≡ called ∷ codes "size" ∷ pair_words pairs → Some (codes "size") ≡ Some (name_of choice)
-pairs_name words called pairs choice asks are is = sym (asked_name words _ choice asks (ap command_in is ∙ pairs_named called pairs are))
-
-pub replay_no_pairs : (words : List Text) (called : Text) (pairs : List Pair) → Asks words Replay → ArePairs pairs
-    → words ≡ called ∷ codes "size" ∷ pair_words pairs → ⊥
-replay_no_pairs words called pairs asks are is = size_differs (pairs_name words called pairs Replay asks are is)
-
-pub race_no_pairs : (words : List Text) (called : Text) (pairs : List Pair) → Asks words Race → ArePairs pairs
-    → words ≡ called ∷ codes "size" ∷ pair_words pairs → ⊥
-race_no_pairs words called pairs asks are is = size_no_race (pairs_name words called pairs Race asks are is)
-
-pub map_no_pairs : (words : List Text) (called : Text) (pairs : List Pair) → Asks words Map → ArePairs pairs
-    → words ≡ called ∷ codes "size" ∷ pair_words pairs → ⊥
-map_no_pairs words called pairs asks are is = map_no_size (sym (pairs_name words called pairs Map asks are is))
-
-pub map_text_no_pairs : (words : List Text) (called : Text) (pairs : List Pair) → Asks words MapText → ArePairs pairs
-    → words ≡ called ∷ codes "size" ∷ pair_words pairs → ⊥
-map_text_no_pairs words called pairs asks are is = map_no_size (sym (pairs_name words called pairs MapText asks are is))
-
-pub classes_no_pairs : (words : List Text) (called : Text) (pairs : List Pair) (n : ℕ) → Asks words (Classes n) → ArePairs pairs
-    → words ≡ called ∷ codes "size" ∷ pair_words pairs → ⊥
-classes_no_pairs words called pairs n asks are is = size_other (pairs_name words called pairs (Classes n) asks are is)
-
--- where the command is none of the others it is `replay`
-pub asks_replay : (words : List Text) (matches : ArgMatches) → Answers words matches
+-- a command is named, so it is one of these
+pub some_named : (words : List Text) (matches : ArgMatches) → Answers words matches
     → (subcommand_name_of matches ≡ Some (codes "classes") → ⊥) → (subcommand_name_of matches ≡ Some (codes "race") → ⊥)
-    → (subcommand_name_of matches ≡ Some (codes "size") → ⊥) → (subcommand_name_of matches ≡ Some (codes "map") → ⊥) → Asks words Replay
-asks_replay words matches answers no_classes no_race no_size no_map = elim (faultless_named words answers.0) [
-  | inl is ↦ record { faultless = answers.0; named = ap label is.1; sized = tt }
-  | inr (inl is) ↦ absurd (no_race (label_of_words words matches answers ∙ ap label is.1))
-  | inr (inr (inl is)) ↦ absurd (no_classes (label_of_words words matches answers ∙ ap label is.1))
-  | inr (inr (inr (inl is))) ↦ absurd (no_size (label_of_words words matches answers ∙ ap label is.1))
-  | inr (inr (inr (inr is))) ↦ absurd (no_map (label_of_words words matches answers ∙ ap label is.1))
-]
+    → (subcommand_name_of matches ≡ Some (codes "size") → ⊥) → (subcommand_name_of matches ≡ Some (codes "map") → ⊥)
+    → (subcommand_name_of matches ≡ Some (codes "replay") → ⊥) → ⊥
+some_named words matches answers no_classes no_race no_size no_map no_replay =
+    let called = label_of_words words matches answers in
+    elim (faultless_named words answers.0) [
+      | inl is ↦ no_replay (called ∙ ap label is.1)
+      | inr (inl is) ↦ no_race (called ∙ ap label is.1)
+      | inr (inr (inl is)) ↦ no_classes (called ∙ ap label is.1)
+      | inr (inr (inr (inl is))) ↦ no_size (called ∙ ap label is.1)
+      | inr (inr (inr (inr is))) ↦ no_map (called ∙ ap label is.1)
+    ]
 
 -- where it is `race` the words ask for a race
 pub asks_race : (words : List Text) (matches : ArgMatches) → Answers words matches
@@ -167,48 +136,73 @@ through : {A : Type 0} (f : List Row → Option A) (o : Option (Text × List Row
 through f None = refl
 through f (Some e) = refl
 
--- the text that the words give for the flag of `map`, by the matches of the command that was entered
-flag_entered : (words : List Text) (matches given : ArgMatches) → Answers words matches
+-- the text that the words give for a flag, by the matches of the command that was entered
+flag_entered : (words : List Text) (matches given : ArgMatches) (name : Text) → Answers words matches
     → option_map (λ (entered : Text × List Row). entered.1) (subcommand_rows_of matches) ≡ Some (rows_of (found_of given))
-    → one_text (found_of given) (codes "text") ≡ flag_given words
-flag_entered words matches given answers entered =
-    one_text-rows (found_of given) (codes "text") ∙ (sym (ap (option_and_then (one_of (codes "text"))) entered)
-    ∙ (through (one_of (codes "text")) (subcommand_rows_of matches) ∙ ap (option_and_then (λ (e : Text × List Row). one_of (codes "text") e.1)) answers.1))
+    → one_text (found_of given) name ≡ flag_given name words
+flag_entered words matches given name answers entered =
+    one_text-rows (found_of given) name ∙ (sym (ap (option_and_then (one_of name)) entered)
+    ∙ (through (one_of name) (subcommand_rows_of matches) ∙ ap (option_and_then (λ (e : Text × List Row). one_of name e.1)) answers.1))
 
--- where it is `map` and its flag isn't set the words ask for a map
-pub asks_map : (words : List Text) (matches given : ArgMatches) (flag : Bool) → Answers words matches
-    → subcommand_name_of matches ≡ Some (codes "map")
+-- a flag that isn't set isn't given
+flag_lacks : (words : List Text) (matches given : ArgMatches) (name : Text) (flag : Bool) → Answers words matches
     → option_map (λ (entered : Text × List Row). entered.1) (subcommand_rows_of matches) ≡ Some (rows_of (found_of given))
-    → (one_text (found_of given) (codes "text") ≡ Some (codes "true") → flag ≡ true) → flag ≡ false → Asks words Map
-asks_map words matches given flag answers called entered set clear = record {
-  faultless = answers.0;
-  named = sym (label_of_words words matches answers) ∙ called;
-  sized = λ is. true≢false (sym (set (flag_entered words matches given answers entered ∙ is)) ∙ clear);
-}
+    → (one_text (found_of given) name ≡ Some (codes "true") → flag ≡ true) → flag ≡ false → LacksFlag name words
+flag_lacks words matches given name flag answers entered set clear =
+    λ is. true≢false (sym (set (flag_entered words matches given name answers entered ∙ is)) ∙ clear)
 
--- and where it is set, for one in characters
-pub asks_map_text : (words : List Text) (matches given : ArgMatches) (flag : Bool) → Answers words matches
-    → subcommand_name_of matches ≡ Some (codes "map")
+-- and one that is set is given
+flag_has : (words : List Text) (matches given : ArgMatches) (name : Text) (flag : Bool) → Answers words matches
     → option_map (λ (entered : Text × List Row). entered.1) (subcommand_rows_of matches) ≡ Some (rows_of (found_of given))
-    → (one_text (found_of given) (codes "text") ≡ Some (codes "false") → flag ≡ false) → (one_text (found_of given) (codes "text") ≡ None → flag ≡ false)
-    → flag ≡ true → Asks words MapText
-asks_map_text words matches given flag answers called entered clear none set =
-    let read = flag_entered words matches given answers entered in record {
-      faultless = answers.0;
-      named = sym (label_of_words words matches answers) ∙ called;
-      sized = ((λ is. true≢false (sym set ∙ clear (read ∙ is))), (λ is. true≢false (sym set ∙ none (read ∙ is))));
-    }
+    → (one_text (found_of given) name ≡ Some (codes "false") → flag ≡ false) → (one_text (found_of given) name ≡ None → flag ≡ false)
+    → flag ≡ true → HasFlag name words
+flag_has words matches given name flag answers entered clear none set =
+    let read = flag_entered words matches given name answers entered in
+    ((λ is. true≢false (sym set ∙ clear (read ∙ is))), (λ is. true≢false (sym set ∙ none (read ∙ is))))
+
+module _ (words : List Text) (matches given : ArgMatches) (flag : Bool) (answers : Answers words matches)
+    (entered : option_map (λ (entered : Text × List Row). entered.1) (subcommand_rows_of matches) ≡ Some (rows_of (found_of given))) where
+  -- where the command is `replay` and its flag isn't set the words ask for a replay
+  pub asks_replay : subcommand_name_of matches ≡ Some (codes "replay")
+      → (one_text (found_of given) (codes "held") ≡ Some (codes "true") → flag ≡ true) → flag ≡ false → Asks words Replay
+  asks_replay called set clear =
+      record { faultless = answers.0; named = sym (label_of_words words matches answers) ∙ called; sized = flag_lacks words matches given (codes "held") flag answers entered set clear }
+
+  -- where it is set, for what the workers ask of their heaps
+  pub asks_held : subcommand_name_of matches ≡ Some (codes "replay")
+      → (one_text (found_of given) (codes "held") ≡ Some (codes "false") → flag ≡ false) → (one_text (found_of given) (codes "held") ≡ None → flag ≡ false)
+      → flag ≡ true → Asks words Held
+  asks_held called clear none set =
+      record { faultless = answers.0; named = sym (label_of_words words matches answers) ∙ called; sized = flag_has words matches given (codes "held") flag answers entered clear none set }
+
+  -- where it is `map` and its flag isn't set, for a map
+  pub asks_map : subcommand_name_of matches ≡ Some (codes "map")
+      → (one_text (found_of given) (codes "text") ≡ Some (codes "true") → flag ≡ true) → flag ≡ false → Asks words Map
+  asks_map called set clear =
+      record { faultless = answers.0; named = sym (label_of_words words matches answers) ∙ called; sized = flag_lacks words matches given (codes "text") flag answers entered set clear }
+
+  -- and where it is set, for one in characters
+  pub asks_map_text : subcommand_name_of matches ≡ Some (codes "map")
+      → (one_text (found_of given) (codes "text") ≡ Some (codes "false") → flag ≡ false) → (one_text (found_of given) (codes "text") ≡ None → flag ≡ false)
+      → flag ≡ true → Asks words MapText
+  asks_map_text called clear none set =
+      record { faultless = answers.0; named = sym (label_of_words words matches answers) ∙ called; sized = flag_has words matches given (codes "text") flag answers entered clear none set }
 
 -- where it is `classes` its one row is that of a size
 sized_rows : (words : List Text) (matches : ArgMatches) → Answers words matches → subcommand_name_of matches ≡ Some (codes "classes")
     → (rows : List Row) × (subcommand_of tlsf_app words ≡ Some (codes "classes", rows)) × IsSized rows
 sized_rows words matches answers called = elim (faultless_named words answers.0) [
-  | inl is ↦ absurd (replay_other (sym (ap label is.1) ∙ (sym (label_of_words words matches answers) ∙ called)))
-  | inr (inl is) ↦ absurd (race_other (sym (ap label is.1) ∙ (sym (label_of_words words matches answers) ∙ called)))
+  | inl is ↦ absurd (other (codes "replay") (ap label is.1) refl)
+  | inr (inl is) ↦ absurd (other (codes "race") (ap label is.1) refl)
   | inr (inr (inl is)) ↦ is
-  | inr (inr (inr (inl is))) ↦ absurd (size_other (sym (ap label is.1) ∙ (sym (label_of_words words matches answers) ∙ called)))
-  | inr (inr (inr (inr is))) ↦ absurd (map_other (sym (ap label is.1) ∙ (sym (label_of_words words matches answers) ∙ called)))
+  | inr (inr (inr (inl is))) ↦ absurd (other (codes "size") (ap label is.1) refl)
+  | inr (inr (inr (inr is))) ↦ absurd (other (codes "map") (ap label is.1) refl)
 ]
+  where
+    other : (name : Text) → label (subcommand_of tlsf_app words) ≡ Some name → bytes_eq name (codes "classes") ≡ false → ⊥
+    other name is differs =
+        let one : Some name ≡ Some (codes "classes") = sym is ∙ (sym (label_of_words words matches answers) ∙ called) in
+        false≢true (sym differs ∙ ap (λ (o : Option Text). option_map_or (λ text. bytes_eq text (codes "classes")) o true) one)
 
 -- the texts that the words give under an id, by the matches of the command that was entered
 texts_entered : (words : List Text) (matches given : ArgMatches) (id : Text) → Answers words matches

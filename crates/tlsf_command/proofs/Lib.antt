@@ -3,7 +3,7 @@ pub mod ClassLines  -- the line on a size, piece by piece
 pub mod NamedCommands  -- a command line that comes to no fault names a command of the program
 pub mod SizeWords  -- the words after `classes`: where they come to no fault, they are one size
 pub mod ChosenCommands  -- what the words ask for, by what `clap` answers of them
-pub mod RunEnds  -- how a run ends that `clap` ends by an error
+pub mod RunEnds  -- how a run ends, by what its words name
 pub mod Greatest  -- the most bytes for so many blocks
 pub mod SizeTables  -- tables of kinds, and the numbers of texts
-pub mod SizePairs  -- the words after `size`: pairs of options come to no fault, and give their texts
+pub mod SizeOptions  -- the words after `size`: options in any order come to no fault, and give their texts

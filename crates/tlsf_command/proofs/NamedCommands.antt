@@ -1,6 +1,6 @@
 -- A command line that comes to no fault names a command of the program.
 use Rattle.std.proofs.Common.{◌≡◌, ◌⊎◌, ℕ, Bool, true, false, cond, List, [], ◌∷◌, Option, Some, None, codes, fold, length, Result, Ok, Err, inl, inr, option_map, refl, sym, ◌∙◌, ap, subst, arith}
-use Rattle.std.specs.Prelude.{is_some, IfErr, IfOk}
+use Rattle.std.specs.Prelude.{is_some, IfOk}
 use Rattle.std.specs.Str.{bytes_eq}
 use Rattle.clap.specs.Faults.{check_fault, defaults_fault, entered_fault, other_fault, settle_fault, turn_fault, walk_fault, word_fault}
 use Rattle.clap.specs.Kinds.{Kinds, or_else}
@@ -13,14 +13,10 @@ use Rattle.clap.specs.Matches.{subcommand_name_of}
 use Rattle.clap.specs.Words.{HasMatchesOf, fault_of, is_simple, is_simple_and_free, subcommand_of, subcommand_rows, subcommand_rows_of}
 use Rattle.clap.specs.declared.parser.matches.ArgMatches.{ArgMatches}
 use Rattle.clap.specs.declared.parser.matches.ArgMatches.TheViews.{out-ArgMatches, out-SubCommand}
-use Rattle.clap.specs.Kinds.{FailsBy, HasKind}
-use Rattle.clap.specs.Values.{kind_of}
+use Rattle.clap.specs.Kinds.{FailsBy}
 use Rattle.clap.specs.declared.error.Error.{Error}
-use Rattle.clap.specs.declared.error.kind.ErrorKind.TheVariants.{OutOfMemory}
 use Rattle.clap.proofs.OnLiterals.{clap_on_literals}
-use Rattle.tlsf_command.specs.CommandLine.{command_in, faults_of, tlsf_app}
-use Rattle.tlsf_command.specs.SizeQuestions.{pair_words, ArePairs, Pair}
-use Rattle.tlsf_command.proofs.SizePairs.{pairs_faultless}
+use Rattle.tlsf_command.specs.CommandLine.{command_in, faults_of, flag_given, tlsf_app}
 use Rattle.tlsf_command.proofs.SizeWords.{IsSized, nothing_first, nothing_second, size_found, steps_pass}
 
 abbrev program : App
@@ -185,25 +181,52 @@ faultless_named words none =
     stop_named end.stopped (finished program.top.rules end.held)
     (walk_allowed (walk_from nothing_held) given tt passed.0) passed.1 passed.3
 
--- the program's name, whatever that is, and `replay` come to no fault
-pub replay_faultless : (called : Text) → faults_of (called ∷ replay_name ∷ []) ≡ []
-unfolding clap_on_literals
-replay_faultless called = refl
+-- ---- words that are written out
 
--- and name `replay`
-pub replay_named : (called : Text) → command_in (called ∷ replay_name ∷ []) ≡ Some replay_name
-unfolding clap_on_literals
-replay_named called = refl
+-- the words come to no fault, and name this command
+pub record AreNamed (words : List Text) (name : Text) : Type 0 where
+  pub faultless : faults_of words ≡ []
+  pub named : command_in words ≡ Some name
 
--- the program's name and `race` come to no fault
-pub race_faultless : (called : Text) → faults_of (called ∷ race_name ∷ []) ≡ []
+-- the program's name, whatever that is, and `replay`
+pub replay_named : (called : Text) → AreNamed (called ∷ replay_name ∷ []) replay_name
 unfolding clap_on_literals
-race_faultless called = refl
+replay_named called = record { faultless = refl; named = refl }
 
--- and name `race`
-pub race_named : (called : Text) → command_in (called ∷ race_name ∷ []) ≡ Some race_name
+pub replay_unflagged : (called : Text) → flag_given (codes "held") (called ∷ replay_name ∷ []) ≡ Some (codes "false")
 unfolding clap_on_literals
-race_named called = refl
+replay_unflagged called = refl
+
+-- `replay --held`
+pub held_named : (called : Text) → AreNamed (called ∷ replay_name ∷ codes "--held" ∷ []) replay_name
+unfolding clap_on_literals
+held_named called = record { faultless = refl; named = refl }
+
+pub held_flagged : (called : Text) → flag_given (codes "held") (called ∷ replay_name ∷ codes "--held" ∷ []) ≡ Some (codes "true")
+unfolding clap_on_literals
+held_flagged called = refl
+
+-- `race`
+pub race_named : (called : Text) → AreNamed (called ∷ race_name ∷ []) race_name
+unfolding clap_on_literals
+race_named called = record { faultless = refl; named = refl }
+
+-- `map`, and `map --text`
+pub map_named : (called : Text) → AreNamed (called ∷ map_name ∷ []) map_name
+unfolding clap_on_literals
+map_named called = record { faultless = refl; named = refl }
+
+pub map_unflagged : (called : Text) → flag_given (codes "text") (called ∷ map_name ∷ []) ≡ Some (codes "false")
+unfolding clap_on_literals
+map_unflagged called = refl
+
+pub map_text_named : (called : Text) → AreNamed (called ∷ map_name ∷ codes "--text" ∷ []) map_name
+unfolding clap_on_literals
+map_text_named called = record { faultless = refl; named = refl }
+
+pub map_text_flagged : (called : Text) → flag_given (codes "text") (called ∷ map_name ∷ codes "--text" ∷ []) ≡ Some (codes "true")
+unfolding clap_on_literals
+map_text_flagged called = refl
 
 -- the name that matches give is that of the subcommand's rows
 pub subcommand_name-rows : (m : ArgMatches) → subcommand_name_of m ≡ option_map (λ (named : Text × List Row). named.0) (subcommand_rows_of m)
@@ -211,32 +234,6 @@ subcommand_name-rows m = elim ((out-ArgMatches m).subcommand) as (λ v. option_m
   | None ↦ refl
   | Some b ↦ refl
 ]
-
--- words that come to no fault fail only for want of memory
-named_fails : {T : Type 0} (r : Result T Error) (words named : List Text) → FailsBy (faults_of words) r → faults_of named ≡ []
-    → words ≡ named → IfErr r (λ e. kind_of e ≡ OutOfMemory)
-named_fails (Ok t) words named fails faultless is = tt
-named_fails (Err e) words named fails faultless is =
-    let kinds = subst (λ given. HasKind (faults_of given) e) is fails in
-    elim (subst (λ none. HasKind none e) faultless kinds) [
-      | inl memory ↦ memory
-      | inr other ↦ absurd other
-    ]
-
--- such are the program's name and `replay`
-pub replay_fails : {T : Type 0} (r : Result T Error) (words : List Text) (called : Text) → FailsBy (faults_of words) r
-    → words ≡ called ∷ replay_name ∷ [] → IfErr r (λ e. kind_of e ≡ OutOfMemory)
-replay_fails r words called fails is = named_fails r words (called ∷ replay_name ∷ []) fails (replay_faultless called) is
-
--- and the program's name and `race`
-pub race_fails : {T : Type 0} (r : Result T Error) (words : List Text) (called : Text) → FailsBy (faults_of words) r
-    → words ≡ called ∷ race_name ∷ [] → IfErr r (λ e. kind_of e ≡ OutOfMemory)
-race_fails r words called fails is = named_fails r words (called ∷ race_name ∷ []) fails (race_faultless called) is
-
--- and the program's name, `size` and pairs
-pub pairs_fails : {T : Type 0} (r : Result T Error) (words : List Text) (called : Text) (pairs : List Pair) → ArePairs pairs → FailsBy (faults_of words) r
-    → words ≡ called ∷ size_name ∷ pair_words pairs → IfErr r (λ e. kind_of e ≡ OutOfMemory)
-pairs_fails r words called pairs are fails is = named_fails r words (called ∷ size_name ∷ pair_words pairs) fails (pairs_faultless called pairs are) is
 
 -- a parse of the program's words that succeeds has met the command that they name
 pub parsed_named : (r : Result ArgMatches Error) (a : App) (words : List Text) → a ≡ tlsf_app → IfOk r (HasMatchesOf a words)

@@ -5,9 +5,9 @@ use Rattle.clap.specs.Words.{App, Kinds, Rule, Text, all_of, fault_of, new_app, 
 use Rattle.clap.specs.declared.builder.action.ArgAction.TheVariants.{Append, Set, SetTrue}
 use Rattle.clap.specs.declared.builder.value_parser.ValueParser.TheVariants.{Signed}
 use Rattle.clap.specs.declared.parser.matches.ArgMatches.{ArgMatches}
-use Rattle.tlsf_command.specs.SizeQuestions.{IsQuestion}
+use Rattle.tlsf_command.specs.SizeQuestions.{HasTable, IsQuestion}
 use Rattle.tlsf_command.specs.declared.command_line.Choice.{Choice}
-use Rattle.tlsf_command.specs.declared.command_line.Choice.TheVariants.{Replay, Race, Map, MapText, Classes, Size}
+use Rattle.tlsf_command.specs.declared.command_line.Choice.TheVariants.{Replay, Held, Race, Map, MapText, Classes, Size}
 
 -- the size that `classes` asks for, a number from 4 to 2^20
 abbrev pub size_rule : Rule
@@ -35,13 +35,17 @@ abbrev pub size_app : App
 size_app = with_rule (with_rule (new_app (codes "size")) (count_rule (codes "B") (codes "blocks")))
     (count_rule (codes "N") (codes "bytes"))
 
--- the flag of `map` by which the heaps are drawn in characters
-abbrev pub text_rule : Rule
-text_rule = record (new_rule (codes "text")) { long = Some (codes "text"); action = Some SetTrue }
+-- a flag, which is given or not
+abbrev pub flag_rule : Text → Rule
+flag_rule name = record (new_rule name) { long = Some name; action = Some SetTrue }
 
--- the command `map`
+-- the command `replay`, with the flag by which it writes what the workers ask of their heaps
+abbrev pub replay_app : App
+replay_app = with_rule (new_app (codes "replay")) (flag_rule (codes "held"))
+
+-- the command `map`, with the flag by which the heaps are drawn in characters
 abbrev pub map_app : App
-map_app = with_rule (new_app (codes "map")) text_rule
+map_app = with_rule (new_app (codes "map")) (flag_rule (codes "text"))
 
 -- the program with its version and no command yet, of which a command must be named
 abbrev pub bare_app : App
@@ -52,7 +56,7 @@ bare_app =
 -- the program with its commands
 abbrev pub tlsf_app : App
 tlsf_app =
-    let replaying = with_subcommand bare_app (new_app (codes "replay")).top in
+    let replaying = with_subcommand bare_app replay_app.top in
     let racing = with_subcommand replaying (new_app (codes "race")).top in
     let sizing = with_subcommand (with_subcommand racing classes_app.top) size_app.top in
     with_subcommand sizing map_app.top
@@ -74,9 +78,9 @@ abbrev pub size_text : List Text → Option Text
 size_text words =
     option_and_then (λ named. one_of (codes "N") named.1) (subcommand_of tlsf_app words)
 
--- what the words give for the flag `--text`: `true` where it stands among them, `false` where it doesn't
-abbrev pub flag_given : List Text → Option Text
-flag_given words = option_and_then (λ named. one_of (codes "text") named.1) (subcommand_of tlsf_app words)
+-- what the words give for a flag of the command that they name: `true` where it stands among them, `false` where it doesn't
+abbrev pub flag_given : Text → List Text → Option Text
+flag_given name words = option_and_then (λ named. one_of name named.1) (subcommand_of tlsf_app words)
 
 -- the number that a text of digits spells, behind a plus sign if there is one
 abbrev pub number_in : Text → ℕ
@@ -90,22 +94,37 @@ texts_given id words =
 -- how a command line names the choice
 abbrev pub name_of : Choice → Text
 name_of Replay = codes "replay"
+name_of Held = codes "replay"
 name_of Race = codes "race"
 name_of Map = codes "map"
 name_of MapText = codes "map"
 name_of (Classes n) = codes "classes"
 name_of (Size question) = codes "size"
 
+-- the words give this flag, as far as `clap` tells it; and they don't
+abbrev pub HasFlag : Text → List Text → Type 0
+HasFlag name words = (flag_given name words ≢ Some (codes "false")) × (flag_given name words ≢ None)
+
+abbrev pub LacksFlag : Text → List Text → Type 0
+LacksFlag name words = flag_given name words ≢ Some (codes "true")
+
 -- the size of the choice, where it has one, is the number that the words give, from 4 to 2^20, its question that of the texts that they give,
--- and its picture that of the flag `--text`
+-- and it is that of the flags that they give
 abbrev pub HasSize : List Text → Choice → Type 0
-HasSize words Replay = ⊤
+HasSize words Replay = LacksFlag (codes "held") words
+HasSize words Held = HasFlag (codes "held") words
 HasSize words Race = ⊤
-HasSize words Map = flag_given words ≢ Some (codes "true")
-HasSize words MapText = (flag_given words ≢ Some (codes "false")) × (flag_given words ≢ None)
+HasSize words Map = LacksFlag (codes "text") words
+HasSize words MapText = HasFlag (codes "text") words
 HasSize words (Classes n) =
     (option_map number_in (size_text words) ≡ Some n) × (4 ≤ n) × (n ≤ 2 ^ 20)
 HasSize words (Size question) = IsQuestion (texts_given (codes "B") words) (texts_given (codes "N") words) question
+
+-- the size of the choice, where it has one, is in its range, and a table has 1 to 64 kinds
+abbrev pub IsAnswerable : Choice → Type 0
+IsAnswerable (Classes n) = (4 ≤ n) × (n ≤ 2 ^ 20)
+IsAnswerable (Size question) = HasTable question
+IsAnswerable choice = ⊤
 
 -- the words ask for this and nothing else
 pub record Asks (words : List Text) (choice : Choice) : Type 0 where

@@ -8,11 +8,13 @@ use Rattle.tlsf_command.specs.ClassLines.{class_line}
 use Rattle.tlsf_command.specs.CommandLine.{Asks, faults_of}
 use Rattle.tlsf_command.specs.FaultLines.{fault_line, status_of_fault}
 use Rattle.tlsf_command.specs.SizeLines.{size_line, unpaired_line, unreached_line, unreached_table_line, AreReached, IsFirstUnreached, IsGreatest, IsReached}
-use Rattle.tlsf_command.specs.SizeQuestions.{blocks_of, bytes_of, IsQuestion, Pair}
+use Rattle.tlsf_command.specs.SizeQuestions.{blocks_in, blocks_of, bytes_in, bytes_of, IsQuestion, Pair, SizeOption}
 use Rattle.tlsf_command.specs.declared.size_question.SizeQuestion.{SizeQuestion}
 use Rattle.tlsf_command.specs.declared.size_question.SizeQuestion.TheVariants.{Table, Unpaired}
 use Rattle.tlsf_laws.specs.declared.kind.Kind.{Kind}
-use Rattle.tlsf_command.specs.declared.command_line.Choice.TheVariants.{Classes, Map, MapText, Race, Replay, Size}
+use Rattle.tlsf_command.specs.declared.command_line.Choice.{Choice}
+use Rattle.tlsf_command.specs.declared.command_line.Choice.TheVariants.{Classes, Held, Map, MapText, Race, Replay, Size}
+use Rattle.tlsf_held.specs.Measures.{Measures}
 use Rattle.tlsf_picture.specs.Drawn.{Draws, DrawsText}
 use Rattle.tlsf_lines.specs.Prefixes.{AppendsFront}
 use Rattle.tlsf_trace.specs.Replay.{IsRun, Outputs, Races, Replays}
@@ -49,6 +51,10 @@ pub record RunsTrace (Puts : Outputs) (status : ℕ) (old new : Streams) : Type 
 -- the run is a replay
 abbrev pub RunsReplay : ℕ → Streams → Streams → Type 0
 RunsReplay = RunsTrace Replays
+
+-- the run is a replay that puts out what the workers ask of their heaps
+abbrev pub RunsHeld : ℕ → Streams → Streams → Type 0
+RunsHeld = RunsTrace Measures
 
 -- the run is a race, each phase in threads
 abbrev pub RunsRace : ℕ → Streams → Streams → Type 0
@@ -135,16 +141,22 @@ ShowsAnswer DisplayVersion status old new = ShowsText status old new
 ShowsAnswer OutOfMemory status old new = LacksMemory status old new
 ShowsAnswer _ status old new = ShowsUsage status old new
 
--- how a run ends, by its words: it replays, it races, it draws the heaps of a trace as an SVG file or in characters, it shows the classes of a size or the words of a region, it answers by one of the faults of the words, or it lacks memory
+-- the run does what was chosen: it replays, or measures a replay; it races; it draws the heaps of a trace as an SVG file or in
+-- characters; it shows the classes of a size, or the words of a region
+abbrev pub Does : Choice → ℕ → Streams → Streams → Type 0
+Does Replay = RunsReplay
+Does Held = RunsHeld
+Does Race = RunsRace
+Does Map = RunsMap
+Does MapText = RunsMapText
+Does (Classes n) = ShowsClasses n
+Does (Size question) = ShowsSize question
+
+-- how a run ends, by its words: it does what they ask for, it answers by one of their faults, or it lacks memory
 abbrev pub Ends : List Text → ℕ → Streams → Streams → Type 0
 Ends words status old new = LacksMemory status old new
-    ⊎ ((Asks words Replay × RunsReplay status old new)
-    ⊎ ((Asks words Race × RunsRace status old new)
-    ⊎ (((n : ℕ) × Asks words (Classes n) × ShowsClasses n status old new)
-    ⊎ (((question : SizeQuestion) × Asks words (Size question) × ShowsSize question status old new)
-    ⊎ ((Asks words Map × RunsMap status old new)
-    ⊎ ((Asks words MapText × RunsMapText status old new)
-    ⊎ ((kind : ErrorKind) × IsAmong kind (faults_of words) × ShowsAnswer kind status old new)))))))
+    ⊎ (((choice : Choice) × Asks words choice × Does choice status old new)
+    ⊎ ((kind : ErrorKind) × IsAmong kind (faults_of words) × ShowsAnswer kind status old new))
 
 -- the run is a replay, unless memory ran out before
 abbrev pub ReplaysOrLacksMemory : ℕ → Streams → Streams → Type 0
@@ -154,8 +166,18 @@ ReplaysOrLacksMemory status old new = RunsReplay status old new ⊎ LacksMemory 
 abbrev pub RacesOrLacksMemory : ℕ → Streams → Streams → Type 0
 RacesOrLacksMemory status old new = RunsRace status old new ⊎ LacksMemory status old new
 
+-- what was chosen is done, unless memory ran out before
+abbrev pub DoesOrLacksMemory : Choice → ℕ → Streams → Streams → Type 0
+DoesOrLacksMemory choice status old new = Does choice status old new ⊎ LacksMemory status old new
+
 -- the question that the pairs make was answered, unless memory ran out before
 abbrev pub ShowsPairsOrLacksMemory : List Pair → ℕ → Streams → Streams → Type 0
 ShowsPairsOrLacksMemory pairs status old new =
     ((question : SizeQuestion) × IsQuestion (blocks_of pairs) (bytes_of pairs) question × ShowsSize question status old new)
+    ⊎ LacksMemory status old new
+
+-- the question that the options make was answered, unless memory ran out before
+abbrev pub ShowsOptionsOrLacksMemory : List SizeOption → ℕ → Streams → Streams → Type 0
+ShowsOptionsOrLacksMemory options status old new =
+    ((question : SizeQuestion) × IsQuestion (blocks_in options) (bytes_in options) question × ShowsSize question status old new)
     ⊎ LacksMemory status old new

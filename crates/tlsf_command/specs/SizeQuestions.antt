@@ -58,3 +58,35 @@ bytes_of = map (λ pair. pair.1)
 -- one pair or more, of such numbers
 abbrev pub ArePairs : List Pair → Type 0
 ArePairs pairs = (1 ≤ length pairs) × AllByRecursion IsPair pairs
+
+-- an option with the text behind it
+pub data SizeOption : Type 0 where
+  Blocks : Text → SizeOption  -- `--blocks B`
+  Bytes : Text → SizeOption  -- `--bytes N`
+
+abbrev pub IsOption : SizeOption → Type 0
+IsOption (Blocks text) = IsCount text
+IsOption (Bytes text) = IsCount text
+
+-- the words of options, in their order
+abbrev pub option_words : List SizeOption → List Text
+option_words [] = []
+option_words (Blocks text ∷ options) = codes "--blocks" ∷ text ∷ option_words options
+option_words (Bytes text ∷ options) = codes "--bytes" ∷ text ∷ option_words options
+
+-- the texts behind `--blocks`, and those behind `--bytes`
+abbrev pub blocks_in : List SizeOption → List Text
+blocks_in [] = []
+blocks_in (Blocks text ∷ options) = text ∷ blocks_in options
+blocks_in (Bytes text ∷ options) = blocks_in options
+
+abbrev pub bytes_in : List SizeOption → List Text
+bytes_in [] = []
+bytes_in (Blocks text ∷ options) = bytes_in options
+bytes_in (Bytes text ∷ options) = text ∷ bytes_in options
+
+-- each of both is given once or more, with such numbers
+pub record AreOptions (options : List SizeOption) : Type 0 where
+  pub each : AllByRecursion IsOption options
+  pub blocks : 1 ≤ length (blocks_in options)
+  pub bytes : 1 ≤ length (bytes_in options)

@@ -1,12 +1,10 @@
-ghost use Rattle.std.specs.Prelude.{◌≡◌, ℕ, List, [], ◌∷◌, codes, false, map, IfErr, IfOk};
+ghost use Rattle.std.specs.Prelude.{◌≡◌, List, false, map, IfOk};
 ghost use Rattle.clap.specs.declared.builder.command.Command.{Command};
-ghost use Rattle.clap.specs.Words.{app_of, kind_of, new_app, rule_of, subcommand_of, subcommand_rows_of, with_subcommand, FailsBy, Text};
+ghost use Rattle.clap.specs.Words.{app_of, new_app, rule_of, subcommand_of, subcommand_rows_of, with_subcommand, FailsBy, Text};
 ghost use Rattle.clap.specs.declared.builder.command.Command.TheViews.{out-Command};
-ghost use Rattle.tlsf_command.specs.SizeQuestions.{pair_words, ArePairs, Pair};
-ghost use Rattle.tlsf_command.specs.CommandLine.{bare_app, classes_app, count_rule, map_app, size_app, size_rule, text_rule, tlsf_app, faults_of, Answers, Asks};
+ghost use Rattle.tlsf_command.specs.CommandLine.{bare_app, classes_app, count_rule, flag_rule, map_app, replay_app, size_app, size_rule, tlsf_app, faults_of, Answers, Asks};
 
 use crate::size_question::SizeQuestion;
-use clap::error::ErrorKind;
 use clap::{Arg, ArgAction, ArgMatches, Command, Error};
 use std::alloc::{AllocError, Global};
 use std::convert::AsStr;
@@ -17,6 +15,9 @@ pub enum Choice {
     /// `tlsf replay`: read a trace from standard input, and write its replies and reports to
     /// standard output.
     Replay,
+    /// `tlsf replay --held`: read a trace from standard input, and write what each worker asks of
+    /// its heap, and the words of a pool for that, to standard output.
+    Held,
     /// `tlsf race`: read a trace from standard input, run each phase in threads, one for each worker,
     /// and write its replies and reports to standard output.
     Race,
@@ -44,7 +45,8 @@ and frees the first block:
   a 0 2 100
   f 0 1
 
-'tlsf race' does so with the workers of each phase in threads of their own.
+'tlsf replay --held' writes how large the heaps must be for the calls of a trace.
+'tlsf race' replays with the workers of each phase in threads of their own.
 'tlsf map' draws the heaps that a trace leaves, as an SVG file; 'tlsf map --text'
 draws them in the characters of a terminal.
 'tlsf classes N' and 'tlsf size' read nothing and write one line.
@@ -89,7 +91,17 @@ posts. This is a trace, and this is what it comes to:
   heap 0 live 0 0 0 free 1 64 largest 64 grant 488 fragmentation 0 waste 0 age 1
   heap 1 live 0 0 0 free 1 64 largest 64 grant 488 fragmentation 0 waste 0 age 1
 
-The exit status is 0 where the replies are written, 1 where a fault of the
+With --held it is one line for each worker instead, as
+
+  held 0 blocks 3 bytes 512 words 342 region 64
+
+Worker 0 held at most 3 blocks of its heap at once, the one that it asked for
+included, and asked for at most 512 bytes. A heap of 342 words never answers
+NoFit (1) to such calls; 'none' says that no heap is so large. The heaps of the
+trace have 64 words. A block that another worker frees is held until its owner
+takes the post.
+
+The exit status is 0 where the lines are written, 1 where a fault of the
 trace, of a read or of a write ends the run, and 3 where memory runs out. A
 fault is one line on standard error, as 'tlsf: line 2: bad number (13)'.";
 
@@ -235,15 +247,25 @@ fn count_option<'a>(alloc: Global, id: &'a str, name: &'a str, help: &'static st
         .value_parser(clap::value_parser!(u32).range(1..=4_294_967_295))
 }
 
-// The flag of `map` by which the heaps are drawn in characters.
-fn text_flag<'a>(alloc: Global) -> Arg<'a>
-    ensures rule { rule_of result ≡ text_rule }
+// A flag of a command.
+fn flag<'a>(alloc: Global, name: &'a str, help: &'static str) -> Arg<'a>
+    ensures rule { rule_of result ≡ flag_rule name.entry.now }
     ensures local { result.global ≡ false }
 {
-    Arg::new(alloc, "text")
-        .long("text")
-        .help("Draw the heaps in the characters of a terminal")
+    Arg::new(alloc, name)
+        .long(name)
+        .help(help)
         .action(ArgAction::SetTrue)
+}
+
+// The command `replay`.
+fn replay_command<'a>(alloc: Global) -> Result<Command<'a>, AllocError>
+    ensures app { IfOk result (λ command. app_of command ≡ replay_app) }
+    ensures local { IfOk result (λ command. (out-Command command).has_globals ≡ false) }
+{
+    let about = "Read a trace from standard input and write its replies to standard output";
+    let help = "Write how large the heaps must be for these calls";
+    described(alloc, "replay", about, REPLAY_HELP).arg(flag(alloc, "held", help))
 }
 
 // The command `map`.
@@ -252,7 +274,8 @@ fn map_command<'a>(alloc: Global) -> Result<Command<'a>, AllocError>
     ensures local { IfOk result (λ command. (out-Command command).has_globals ≡ false) }
 {
     let about = "Read a trace from standard input and write a picture of the heaps that it leaves";
-    described(alloc, "map", about, MAP_HELP).arg(text_flag(alloc))
+    let help = "Draw the heaps in the characters of a terminal";
+    described(alloc, "map", about, MAP_HELP).arg(flag(alloc, "text", help))
 }
 
 // The command `size`.
@@ -298,11 +321,9 @@ fn with_command<'a>(
 fn tlsf_command<'a>(alloc: Global) -> Result<Command<'a>, AllocError>
     ensures { IfOk result (λ command. app_of command ≡ tlsf_app) }
 {
-    let replay = "Read a trace from standard input and write its replies to standard output";
     let race =
         "Read a trace from standard input and run each phase in threads, one for each worker";
-    let bare = bare_command(alloc);
-    let replaying = bare.subcommand(described(alloc, "replay", replay, REPLAY_HELP))?;
+    let replaying = with_command(bare_command(alloc), replay_command(alloc))?;
     let racing = replaying.subcommand(described(alloc, "race", race, RACE_HELP))?;
     let counting = with_command(racing, classes_command(alloc))?;
     let sizing = with_command(counting, size_command(alloc))?;
@@ -323,26 +344,34 @@ fn chosen(alloc: Global, matches: &ArgMatches<'_>) -> Result<Choice, AllocError>
     requires { (words : List Text) × Answers words matches.now }
     ensures { (words : List Text) → Answers words matches.now → IfOk result (Asks words) }
 {
-    match matches.subcommand_matches("classes") {
-        Some(given) => match given.get_one::<u32>("N") {
+    if let Some(given) = matches.subcommand_matches("classes") {
+        return match given.get_one::<u32>("N") {
             Some(size) => Ok(Choice::Classes(size)),
             // The size is required, so words without one came to an error before.
             None => unreachable!(),
-        },
-        None => match matches.subcommand_matches("race") {
-            Some(_) => Ok(Choice::Race),
-            None => match matches.subcommand_matches("size") {
-                Some(given) => Ok(Choice::Size(SizeQuestion::given(alloc, given)?)),
-                None => match matches.subcommand_matches("map") {
-                    Some(given) => Ok(if given.get_flag("text") {
-                        Choice::MapText
-                    } else {
-                        Choice::Map
-                    }),
-                    None => Ok(Choice::Replay),
-                },
-            },
-        },
+        };
+    }
+    if matches.subcommand_matches("race").is_some() {
+        return Ok(Choice::Race);
+    }
+    if let Some(given) = matches.subcommand_matches("size") {
+        return Ok(Choice::Size(SizeQuestion::given(alloc, given)?));
+    }
+    if let Some(given) = matches.subcommand_matches("map") {
+        return Ok(if given.get_flag("text") {
+            Choice::MapText
+        } else {
+            Choice::Map
+        });
+    }
+    match matches.subcommand_matches("replay") {
+        Some(given) => Ok(if given.get_flag("held") {
+            Choice::Held
+        } else {
+            Choice::Replay
+        }),
+        // A command is required, so words without one came to an error before.
+        None => unreachable!(),
     }
 }
 
@@ -358,21 +387,6 @@ fn chosen(alloc: Global, matches: &ArgMatches<'_>) -> Result<Choice, AllocError>
 pub fn choose<'a, S: AsStr>(alloc: Global, words: &'a [S]) -> Result<Choice, Error>
     ensures asked { IfOk result (Asks (map S.text words.entry.now)) }
     ensures kinds { FailsBy (faults_of (map S.text words.entry.now)) result }
-
-    // Where the words are the program's name, whatever that is, and `replay`.
-    ensures replay { (program : List ℕ)
-        → map S.text words.entry.now ≡ program ∷ codes "replay" ∷ []
-        → IfErr result (λ error. kind_of error ≡ ErrorKind.OutOfMemory) }
-
-    // Where they are the program's name and `race`.
-    ensures race { (program : List ℕ)
-        → map S.text words.entry.now ≡ program ∷ codes "race" ∷ []
-        → IfErr result (λ error. kind_of error ≡ ErrorKind.OutOfMemory) }
-
-    // Where they are the program's name, `size`, and one pair of options or more.
-    ensures size { (program : List ℕ) (pairs : List Pair) → ArePairs pairs
-        → map S.text words.entry.now ≡ program ∷ codes "size" ∷ pair_words pairs
-        → IfErr result (λ error. kind_of error ≡ ErrorKind.OutOfMemory) }
 {
     let matches = parse(alloc, words)?;
     Ok(chosen(alloc, &matches)?)

@@ -1,8 +1,9 @@
 ghost use Rattle.std.specs.Prelude.{◌≡◌, ◌≤◌, ◌^◌, ℕ, List, [], ◌∷◌, Option, codes, map};
 ghost use Rattle.clap.specs.Words.{kind_of};
 ghost use Rattle.tlsf_command.specs.FaultLines.{fault_line, status_of_fault};
-ghost use Rattle.tlsf_command.specs.Runs.{streams, status_of, Ends, RacesOrLacksMemory, ReplaysOrLacksMemory, Reports, RunsMap, RunsMapText, RunsRace, RunsReplay, ShowsAnswer, ShowsClasses, ShowsPairsOrLacksMemory};
-ghost use Rattle.tlsf_command.specs.SizeQuestions.{pair_words, ArePairs, Pair};
+ghost use Rattle.tlsf_command.specs.CommandLine.{IsAnswerable};
+ghost use Rattle.tlsf_command.specs.Runs.{streams, status_of, Does, DoesOrLacksMemory, Ends, RacesOrLacksMemory, ReplaysOrLacksMemory, Reports, RunsHeld, RunsMap, RunsMapText, RunsRace, RunsReplay, ShowsAnswer, ShowsClasses, ShowsOptionsOrLacksMemory, ShowsPairsOrLacksMemory};
+ghost use Rattle.tlsf_command.specs.SizeQuestions.{option_words, pair_words, AreOptions, ArePairs, Pair, SizeOption};
 ghost use Rattle.tlsf_lines.specs.Prefixes.{AppendsFront};
 
 use crate::class_line::write_class_line;
@@ -17,6 +18,7 @@ use std::marker::Sync;
 use std::sync::Wait;
 use std::thread::Threads;
 use tlsf_crew::Gate;
+use tlsf_held::measure_trace;
 use tlsf_picture::{draw_trace, draw_trace_as_text};
 use tlsf_trace::{Summary, TraceFault, WriteError, race_trace, replay, write_out};
 
@@ -62,6 +64,20 @@ fn run_replay<R: Read, W: Write, E: Write>(
         (streams (R.remaining reader.new) (W.contents writer.new) (E.contents errors.new)) }
 {
     ended(replay(alloc, reader, writer), errors)
+}
+
+// Measures a replay, and reports the fault that ended it.
+fn run_held<R: Read, W: Write, E: Write>(
+    alloc: Global,
+    reader: &mut R,
+    writer: &mut W,
+    errors: &mut E,
+) -> u8
+    ensures { RunsHeld result
+        (streams (R.remaining reader.old) (W.contents writer.old) (E.contents errors.old))
+        (streams (R.remaining reader.new) (W.contents writer.new) (E.contents errors.new)) }
+{
+    ended(measure_trace(alloc, reader, writer), errors)
 }
 
 // Runs each phase in threads, and reports the fault that ended it.
@@ -147,6 +163,32 @@ fn answer<W: Write, E: Write>(error: &clap::Error, writer: &mut W, errors: &mut 
     }
 }
 
+// Does what was chosen, and gives the exit status.
+fn act<T: Threads + Wait + Sync, R: Read, W: Write, E: Write, G: Gate>(
+    rt: &T,
+    alloc: Global,
+    choice: Choice,
+    reader: &mut R,
+    writer: &mut W,
+    errors: &mut E,
+    gate: &G,
+) -> u8
+    requires { IsAnswerable choice }
+    ensures { Does choice result
+        (streams (R.remaining reader.old) (W.contents writer.old) (E.contents errors.old))
+        (streams (R.remaining reader.new) (W.contents writer.new) (E.contents errors.new)) }
+{
+    match choice {
+        Choice::Replay => run_replay(alloc, reader, writer, errors),
+        Choice::Held => run_held(alloc, reader, writer, errors),
+        Choice::Race => run_race(rt, alloc, reader, writer, errors, gate),
+        Choice::Map => run_map(alloc, reader, writer, errors),
+        Choice::MapText => run_map_text(alloc, reader, writer, errors),
+        Choice::Classes(words) => run_classes(words, writer, errors),
+        Choice::Size(question) => run_size(question, writer, errors),
+    }
+}
+
 /// Runs the program on the words of its command line, its name first, and gives the exit status.
 /// Only `tlsf race` starts threads, by `rt`; they pass `gate` before each call and once after the
 /// last one of a phase, where a [`RaceNotice`](crate::RaceNotice) shows that the race is alive.
@@ -191,14 +233,32 @@ pub fn run<T: Threads + Wait + Sync, S: AsStr, R: Read, W: Write, E: Write, G: G
         → ShowsPairsOrLacksMemory pairs result
         (streams (R.remaining reader.old) (W.contents writer.old) (E.contents errors.old))
         (streams (R.remaining reader.new) (W.contents writer.new) (E.contents errors.new)) }
+
+    // Where these options stand in any order, each once or more.
+    ensures options { (program : List ℕ) (options : List SizeOption) → AreOptions options
+        → map S.text words.now ≡ program ∷ codes "size" ∷ option_words options
+        → ShowsOptionsOrLacksMemory options result
+        (streams (R.remaining reader.old) (W.contents writer.old) (E.contents errors.old))
+        (streams (R.remaining reader.new) (W.contents writer.new) (E.contents errors.new)) }
+
+    // Where they are the program's name and `replay --held`.
+    ensures held { (program : List ℕ) → map S.text words.now ≡ program ∷ codes "replay" ∷ codes "--held" ∷ []
+        → DoesOrLacksMemory Choice.Held result
+        (streams (R.remaining reader.old) (W.contents writer.old) (E.contents errors.old))
+        (streams (R.remaining reader.new) (W.contents writer.new) (E.contents errors.new)) }
+
+    // Where they are the program's name and `map`, and where `--text` stands behind it.
+    ensures map_svg { (program : List ℕ) → map S.text words.now ≡ program ∷ codes "map" ∷ []
+        → DoesOrLacksMemory Choice.Map result
+        (streams (R.remaining reader.old) (W.contents writer.old) (E.contents errors.old))
+        (streams (R.remaining reader.new) (W.contents writer.new) (E.contents errors.new)) }
+    ensures map_text { (program : List ℕ) → map S.text words.now ≡ program ∷ codes "map" ∷ codes "--text" ∷ []
+        → DoesOrLacksMemory Choice.MapText result
+        (streams (R.remaining reader.old) (W.contents writer.old) (E.contents errors.old))
+        (streams (R.remaining reader.new) (W.contents writer.new) (E.contents errors.new)) }
 {
     match choose(alloc, words) {
-        Ok(Choice::Replay) => run_replay(alloc, reader, writer, errors),
-        Ok(Choice::Race) => run_race(rt, alloc, reader, writer, errors, gate),
-        Ok(Choice::Map) => run_map(alloc, reader, writer, errors),
-        Ok(Choice::MapText) => run_map_text(alloc, reader, writer, errors),
-        Ok(Choice::Classes(words)) => run_classes(words, writer, errors),
-        Ok(Choice::Size(question)) => run_size(question, writer, errors),
+        Ok(choice) => act(rt, alloc, choice, reader, writer, errors, gate),
         Err(error) => answer(&error, writer, errors),
     }
 }

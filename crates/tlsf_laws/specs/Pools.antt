@@ -1,5 +1,5 @@
 -- How large a region must be, so that a program is never refused for want of room.
-use Rattle.std.specs.Prelude.{◌≡◌, ◌≢◌, ℕ, ◌+◌, ◌*◌, ◌-◌, ◌<◌, ◌≤◌, ◌^◌, List, [], ◌∷◌, Ok, Err, false, length, ⊤}
+use Rattle.std.specs.Prelude.{◌≡◌, ◌≢◌, ℕ, ◌+◌, ◌*◌, ◌-◌, ◌<◌, ◌≤◌, ◌^◌, ◌&&◌, List, [], ◌∷◌, Option, Some, None, Ok, Err, false, length, max, nat_le, if◌then◌else◌, ⊤}
 use Rattle.std.specs.List.{AllByRecursion}
 use Rattle.tlsf_heap.specs.Blocks.{Block, is_free, size_of, want}
 use Rattle.tlsf_heap.specs.Lawful.{IsRegion}
@@ -11,6 +11,11 @@ use Rattle.tlsf_laws.specs.Held.{held_after}
 -- the words of a region that has room for `most` live blocks of at most `len` bytes each, in whatever order they come and go
 abbrev pub pool_words : ℕ → ℕ → ℕ
 pool_words most len = (most - 1) * (want len + 3) + most * (sure (want len) - 1) + 1
+
+-- the words of the least region that has this room; None where a region can't have so many, or has no class for so long a request
+abbrev pub pool_region : ℕ → ℕ → Option ℕ
+pool_region most len =
+    if nat_le (want len) (2 ^ 20) && nat_le (pool_words most len) (2 ^ 20) then Some (max 4 (pool_words most len)) else None
 
 -- a request is for at most `len` bytes, by a program that holds fewer than `most` blocks; and no block is resized to more than `len`
 abbrev pub IsModest : ℕ → ℕ → ℕ → Call → Type 0

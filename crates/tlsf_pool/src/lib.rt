@@ -10,17 +10,19 @@
 //! let name = pool.allocate(512)?;
 //! ```
 //!
-//! [`kinds_words`] tells how many words a heap needs for several kinds of request, [`most_blocks`] and [`longest_request`] how far
-//! the greatest region goes.
+//! [`kinds_words`] tells how many words a heap needs for several kinds of request, [`pool_region`] the words of the region for one,
+//! [`most_blocks`] and [`longest_request`] how far the greatest region goes.
 #![tactic(auto)]
 
 mod greatest;
 mod pool;
 mod pool_refusal;
+mod region;
 mod sizing;
 
 pub use greatest::{longest_request, most_blocks};
 pub use pool::Pool;
 pub use pool_refusal::PoolRefusal;
+pub use region::pool_region;
 pub use sizing::{LONGEST, kinds_words};
 pub use tlsf_laws::Kind;

@@ -44,6 +44,12 @@ fn writes_classes(rt: HostRuntime) {
     );
 }
 
+#[test]
+fn measures_what_a_trace_asks(rt: HostRuntime) {
+    let line = "held 0 blocks 0 bytes 0 words 4 region 64\n";
+    check_lines(&rt, rt.alloc(), &[("tlsf,replay,--held", 0, line)]);
+}
+
 /// A run on these words and this text ends with this status, and with these texts written and reported.
 fn check_run<R: Threads + Wait + Abort + Sync>(
     rt: &R,
@@ -92,6 +98,7 @@ fn reports_a_read_that_fails(rt: HostRuntime) {
         ("tlsf,replay", usize::MAX, 1, "tlsf: read failed (16)\n"),
         ("tlsf,replay", 0, 1, ""),
         ("tlsf,replay", 4, 1, "tlsf"),
+        ("tlsf,replay,--held", 4, 1, "tlsf"),
         ("tlsf,race", usize::MAX, 1, "tlsf: read failed (16)\n"),
         ("tlsf,nothing", 0, 2, ""),
         ("tlsf,nothing", 4, 2, "erro"),
@@ -132,6 +139,7 @@ fn check_unwritten<R: Threads + Wait + Abort + Sync>(
 fn reports_a_fault_of_the_writer(rt: HostRuntime) {
     for (words, front) in [
         ("tlsf,replay", "0 d d"),
+        ("tlsf,replay,--held", "held "),
         ("tlsf,race", "0 d d"),
         ("tlsf,--help", "Prove"),
         ("tlsf,--version", "tlsf "),
@@ -224,6 +232,16 @@ fn refuses_other_words(rt: HostRuntime) {
                 "tlsf,--fast,replay",
                 2,
                 "unexpected argument '--fast' found",
+            ),
+            (
+                "tlsf,--held,replay",
+                2,
+                "unexpected argument '--held' found",
+            ),
+            (
+                "tlsf,replay,--held,--held",
+                2,
+                "'--held' cannot be used multiple times",
             ),
             ("tlsf,help,nothing", 2, "unrecognized subcommand 'nothing'"),
             ("tlsf,classes", 2, "Usage: tlsf classes <N>"),

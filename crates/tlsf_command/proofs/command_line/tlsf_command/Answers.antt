@@ -5,7 +5,7 @@ use Rattle.clap.specs.Simple.{app_of_fields}
 use Rattle.clap.specs.Words.{App, app_of, with_subcommand}
 use Rattle.clap.specs.declared.builder.command.Command.{Command}
 use Rattle.clap.specs.declared.builder.command.Command.TheViews.{out-Command}
-use Rattle.tlsf_command.specs.CommandLine.{classes_app, map_app, size_app}
+use Rattle.tlsf_command.specs.CommandLine.{classes_app, map_app, replay_app, size_app}
 use Rattle.tlsf_command.proofs.command_line.tlsf_command.Goals as goal
 
 -- the program with a command that could be made
@@ -18,10 +18,11 @@ joined added sub command program wanted app local is shape =
 
 pub returns : goal.returns
 returns c =
-    let first = c.in_ok-replaying.ensures.shape c.described.ensures.local
-    ∙ ap₂ with_subcommand c.bare_command-bare.ensures (ap (λ (a : App). a.top) c.described.ensures.app) in
-    let second = c.in_ok-racing.ensures.shape c.described-2.ensures.local
-    ∙ ap₂ with_subcommand first (ap (λ (a : App). a.top) c.described-2.ensures.app) in
+    let first = joined c.replay_command.result c.in_ok-replaying.ensures.0 c.in_ok-replaying.replaying (app_of c.bare_command.result) replay_app
+    c.replay_command.ensures.app c.replay_command.ensures.local c.in_ok-replaying.ensures.1 c.in_ok-replaying.ensures.2
+    ∙ ap (λ (a : App). with_subcommand a replay_app.top) c.bare_command.ensures in
+    let second = c.in_ok-racing.ensures.shape c.described.ensures.local
+    ∙ ap₂ with_subcommand first (ap (λ (a : App). a.top) c.described.ensures.app) in
     let third = joined c.classes_command.result c.in_ok-counting.ensures.0 c.in_ok-counting.counting (app_of c.in_ok-racing.racing) classes_app
     c.classes_command.ensures.app c.classes_command.ensures.local c.in_ok-counting.ensures.1 c.in_ok-counting.ensures.2
     ∙ ap (λ (a : App). with_subcommand a classes_app.top) second in

@@ -1,13 +1,13 @@
-use Rattle.std.proofs.Common.{◌∙◌, Some, codes, ap}
+use Rattle.std.proofs.Common.{◌∙◌, Some, ap}
 use Rattle.clap.specs.Words.{Rule, rule_of}
 use Rattle.clap.specs.declared.builder.action.ArgAction.TheVariants.{SetTrue}
 use Rattle.clap.specs.declared.builder.arg.Arg.{Arg}
-use Rattle.tlsf_command.proofs.command_line.text_flag.Goals as goal
+use Rattle.tlsf_command.proofs.command_line.flag.Goals as goal
 
 pub returns-clause-rule : goal.returns-clause-rule
 returns-clause-rule c =
     ap rule_of c.action.ensures ∙ ap (λ (rule : Rule). record rule { action = Some SetTrue })
-    (ap rule_of c.help.ensures ∙ (ap rule_of c.long.ensures ∙ ap (λ (rule : Rule). record rule { long = Some (codes "text") }) c.new.ensures.rule))
+    (ap rule_of c.help.ensures ∙ (ap rule_of c.long.ensures ∙ ap (λ (rule : Rule). record rule { long = Some c.args.name.now }) c.new.ensures.rule))
 
 pub returns-clause-local : goal.returns-clause-local
 returns-clause-local c =

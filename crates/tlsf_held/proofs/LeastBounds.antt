@@ -1,0 +1,275 @@
+-- What is tallied is the least bounds of the calls that the entries tell.
+use Rattle.std.proofs.Common.{◌≡◌, ◌==◌, ℕ, ◌+◌, ◌<◌, ◌≤◌, true, false, true≢false, List, [], ◌∷◌, length, All, fold, max, Option, Some, None, Result, Ok, Err, option_map, inl, inr, refl, sym, ap, ap₂, ◌∙◌, subst, arith}
+use Rattle.std.specs.Prelude.{is_ok, is_some}
+use Rattle.std.specs.List.{cons_option}
+use Rattle.std.proofs.lemmas.Bool.{cases_eq}
+use Rattle.std.proofs.lemmas.Bool.Decides.{nat_tests}
+use Rattle.std.proofs.lemmas.List.Elements.{All-head, All-tail}
+use Rattle.std.proofs.lemmas.List.FromFn.{length-map-range_with_len}
+use Rattle.tlsf_heap.specs.Calls as heap
+use Rattle.tlsf_heap.specs.declared.name.Name.{Name}
+use Rattle.tlsf_heap.specs.declared.refusal.Refusal.{Refusal}
+use Rattle.tlsf_laws.specs.Held.{held_after}
+use Rattle.tlsf_laws.specs.Pools.{AreModest, IsModest}
+use Rattle.tlsf_calls.specs.Bytes.{bytes_of}
+use Rattle.tlsf_calls.specs.declared.call.Call.{Call}
+use Rattle.tlsf_calls.specs.declared.call.Call.TheVariants.{Allocate, Release, Write, Read, Resize, Take, Drain}
+use Rattle.tlsf_calls.specs.declared.crew_refusal.CrewRefusal.TheVariants.{Heap, Full, Stranger, Unmade}
+use Rattle.tlsf_calls.specs.declared.entry.Entry.{Entry}
+use Rattle.tlsf_calls.specs.declared.event.Event.{Event}
+use Rattle.tlsf_calls.specs.declared.reply.Reply.{Reply}
+use Rattle.tlsf_calls.specs.declared.reply.Reply.TheVariants.{Made, Freed, Posted, Wrote, Got, Resized, Took, Empty, Drained, Refused}
+use Rattle.tlsf_crew.specs.yard.History.{answer_told, answers_on, call_on_own, calls_on, entries_of, meant, of_heap}
+use Rattle.tlsf_crew.specs.yard.World.{World, replies}
+use Rattle.tlsf_crew.proofs.lemmas.yard.AllEntries.{replies_tell}
+use Rattle.tlsf_crew.proofs.lemmas.yard.JoinedEntries.{HasItsAnswer}
+use Rattle.tlsf_lines.specs.Events.{events_of}
+use Rattle.tlsf_lines.specs.Trace.{Trace}
+use Rattle.tlsf_lines.specs.declared.header.Header.{Header}
+use Rattle.tlsf_trace.specs.Output.{run_of, yard_of}
+use Rattle.tlsf_held.specs.HeldLines.{held_text}
+use Rattle.tlsf_held.specs.Measures.{AreLeastBounds, Measures}
+use Rattle.tlsf_held.specs.Tallies.{no_calls, noted, tally_of, with_length, with_release}
+use Rattle.tlsf_held.specs.declared.tally.Tally.{Tally}
+
+-- ---- by the calls on the heap and its answers
+
+-- a call more
+abbrev pub tally_after : Tally → heap.Call → heap.Answer → Tally
+tally_after t (heap.Allocate n) answer = record { held = held_after t.held (heap.Allocate n) answer; most = max t.most (t.held + 1); longest = max t.longest n }
+tally_after t (heap.Release name) answer = record t { held = held_after t.held (heap.Release name) answer }
+tally_after t (heap.Write name at bytes) answer = t
+tally_after t (heap.Resize name n) answer = with_length t n
+tally_after t (heap.Read name at n) answer = t
+
+-- what an entry may tell of a call
+abbrev tally_with : Tally → Option heap.Call → Option heap.Answer → Tally
+tally_with t None answer = t
+tally_with t (Some call) None = t
+tally_with t (Some call) (Some answer) = tally_after t call answer
+
+-- and calls in turn
+abbrev pub tally_after_all : Tally → List heap.Call → List heap.Answer → Tally
+tally_after_all t [] answers = t
+tally_after_all t (call ∷ calls) [] = t
+tally_after_all t (call ∷ calls) (answer ∷ answers) = tally_after_all (tally_after t call answer) calls answers
+
+-- ---- one entry
+
+by_call : (t u : Tally) (f : Name → heap.Call) (o : Option Name) (answer : heap.Answer) → is_some (option_map f o) ≡ true
+    → ((name : Name) → u ≡ tally_after t (f name) answer) → u ≡ tally_with t (option_map f o) (Some answer)
+by_call t u f None answer some is = absurd (true≢false (sym some))
+by_call t u f (Some name) answer some is = is name
+
+no_answer : (t : Tally) (o : Option heap.Call) → t ≡ tally_with t o None
+no_answer t None = refl
+no_answer t (Some call) = refl
+
+of_write : (t : Tally) (at : ℕ) (bytes : List ℕ) (o : Option Name) (a : Option heap.Answer) → t ≡ tally_with t (option_map (λ name. heap.Write name at bytes) o) a
+of_write t at bytes None a = refl
+of_write t at bytes (Some name) None = refl
+of_write t at bytes (Some name) (Some answer) = refl
+
+of_read : (t : Tally) (at n : ℕ) (o : Option Name) (a : Option heap.Answer) → t ≡ tally_with t (option_map (λ name. heap.Read name at n) o) a
+of_read t at n None a = refl
+of_read t at n (Some name) None = refl
+of_read t at n (Some name) (Some answer) = refl
+
+of_post : (t : Tally) (name : Name) (r : Result (Unit {0}) Refusal) → with_release t (is_ok r) ≡ tally_after t (heap.Release name) (heap.Released r)
+of_post t name (Ok done) = refl
+of_post t name (Err why) = refl
+
+-- what is noted of an entry that tells an answer of its worker's heap where it tells a call
+entry_noted : (made : List (Option Name)) (at : ℕ) (t : Tally) (call : Call) (reply : Reply) → is_some (call_on_own made at call reply) ≡ is_some (answer_told call reply)
+    → noted t call reply ≡ tally_with t (call_on_own made at call reply) (answer_told call reply)
+entry_noted made at t (Allocate len) (Made name) even = refl
+entry_noted made at t (Allocate len) Freed even = absurd (true≢false even)
+entry_noted made at t (Allocate len) Posted even = absurd (true≢false even)
+entry_noted made at t (Allocate len) (Wrote n) even = absurd (true≢false even)
+entry_noted made at t (Allocate len) (Got bytes) even = absurd (true≢false even)
+entry_noted made at t (Allocate len) Resized even = absurd (true≢false even)
+entry_noted made at t (Allocate len) (Took took) even = absurd (true≢false even)
+entry_noted made at t (Allocate len) Empty even = absurd (true≢false even)
+entry_noted made at t (Allocate len) (Drained n) even = absurd (true≢false even)
+entry_noted made at t (Allocate len) (Refused (Heap why)) even = refl
+entry_noted made at t (Allocate len) (Refused (Full name)) even = absurd (true≢false even)
+entry_noted made at t (Allocate len) (Refused Stranger) even = absurd (true≢false even)
+entry_noted made at t (Allocate len) (Refused Unmade) even = absurd (true≢false even)
+entry_noted made at t (Release target) (Made name) even = no_answer t _
+entry_noted made at t (Release target) Freed even = by_call t _ heap.Release (of_heap at (meant made target Freed)) (heap.Released (Ok tt)) even (λ name. refl)
+entry_noted made at t (Release target) Posted even = no_answer t _
+entry_noted made at t (Release target) (Wrote n) even = no_answer t _
+entry_noted made at t (Release target) (Got bytes) even = no_answer t _
+entry_noted made at t (Release target) Resized even = no_answer t _
+entry_noted made at t (Release target) (Took took) even = no_answer t _
+entry_noted made at t (Release target) Empty even = no_answer t _
+entry_noted made at t (Release target) (Drained n) even = no_answer t _
+entry_noted made at t (Release target) (Refused (Heap why)) even =
+    by_call t _ heap.Release (of_heap at (meant made target (Refused (Heap why)))) (heap.Released (Err why)) even (λ name. refl)
+entry_noted made at t (Release target) (Refused (Full name)) even = no_answer t _
+entry_noted made at t (Release target) (Refused Stranger) even = no_answer t _
+entry_noted made at t (Release target) (Refused Unmade) even = no_answer t (call_on_own made at (Release target) (Refused Unmade))
+entry_noted made at t (Write target from bytes) reply even = of_write t from (bytes_of bytes) (meant made target reply) (answer_told (Write target from bytes) reply)
+entry_noted made at t (Read target from n) reply even = of_read t from n (meant made target reply) (answer_told (Read target from n) reply)
+entry_noted made at t (Resize target len) (Made name) even = no_answer t _
+entry_noted made at t (Resize target len) Freed even = no_answer t _
+entry_noted made at t (Resize target len) Posted even = no_answer t _
+entry_noted made at t (Resize target len) (Wrote n) even = no_answer t _
+entry_noted made at t (Resize target len) (Got bytes) even = no_answer t _
+entry_noted made at t (Resize target len) Resized even =
+    by_call t _ (λ name. heap.Resize name len) (meant made target Resized) (heap.Resized (Ok tt)) even (λ name. refl)
+entry_noted made at t (Resize target len) (Took took) even = no_answer t _
+entry_noted made at t (Resize target len) Empty even = no_answer t _
+entry_noted made at t (Resize target len) (Drained n) even = no_answer t _
+entry_noted made at t (Resize target len) (Refused (Heap why)) even =
+    by_call t _ (λ name. heap.Resize name len) (meant made target (Refused (Heap why))) (heap.Resized (Err why)) even (λ name. refl)
+entry_noted made at t (Resize target len) (Refused (Full name)) even = no_answer t _
+entry_noted made at t (Resize target len) (Refused Stranger) even = no_answer t _
+entry_noted made at t (Resize target len) (Refused Unmade) even = no_answer t (call_on_own made at (Resize target len) (Refused Unmade))
+entry_noted made at t (Take from) (Made name) even = refl
+entry_noted made at t (Take from) Freed even = refl
+entry_noted made at t (Take from) Posted even = refl
+entry_noted made at t (Take from) (Wrote n) even = refl
+entry_noted made at t (Take from) (Got bytes) even = refl
+entry_noted made at t (Take from) Resized even = refl
+entry_noted made at t (Take from) (Took took) even = of_post t took.name took.answer
+entry_noted made at t (Take from) Empty even = refl
+entry_noted made at t (Take from) (Drained n) even = refl
+entry_noted made at t (Take from) (Refused why) even = refl
+entry_noted made at t (Drain most) reply even = refl
+
+-- ---- all entries
+
+abbrev with_entry : Tally → Entry → Tally
+with_entry t e = noted t e.call e.reply
+
+one_told : {X Y : Type 0} (o : Option X) (a : Option Y) → length (cons_option o []) ≡ length (cons_option a []) → is_some o ≡ is_some a
+one_told None None same = refl
+one_told None (Some y) same = absurd (omega (arith, same))
+one_told (Some x) None same = absurd (omega (arith, same))
+one_told (Some x) (Some y) same = refl
+
+one_more : (t : Tally) (o : Option heap.Call) (a : Option heap.Answer) (calls : List heap.Call) (answers : List heap.Answer) → is_some o ≡ is_some a
+    → tally_after_all t (cons_option o calls) (cons_option a answers) ≡ tally_after_all (tally_with t o a) calls answers
+one_more t None None calls answers even = refl
+one_more t None (Some answer) calls answers even = absurd (true≢false (sym even))
+one_more t (Some call) None calls answers even = absurd (true≢false even)
+one_more t (Some call) (Some answer) calls answers even = refl
+
+module _ (made : List (Option Name)) (workers j : ℕ) (inside : j < workers) where
+  call_of : Entry → Option heap.Call
+  call_of e = call_on_own made e.worker e.call e.reply
+
+  entries_tallied : (t : Tally) (es : List Entry) → All (HasItsAnswer made workers) es
+      → fold with_entry t (entries_of j es) ≡ tally_after_all t (calls_on j made es) (answers_on j es)
+  entries_tallied t [] each = refl
+  entries_tallied t (e ∷ es) each =
+      let rest = All-tail (HasItsAnswer made workers) e es each in
+      elim (cases_eq e.worker j) [
+        | inl is ↦
+            let b : (e.worker == j) ≡ true = grind (arith, nat_tests) in
+            let o = call_on_own made e.worker e.call e.reply in
+            let a = answer_told e.call e.reply in
+            let even : is_some o ≡ is_some a = one_told o a (All-head (HasItsAnswer made workers) e es each (omega arith)) in
+            rw b (ap (λ (u : Tally). fold with_entry u (entries_of j es)) (entry_noted made e.worker t e.call e.reply even)
+            ∙ (entries_tallied (tally_with t o a) es rest ∙ sym (one_more t o a (calls_on j made es) (answers_on j es) even)))
+        | inr ne ↦
+            let b : (e.worker == j) ≡ false = grind (arith, nat_tests) in
+            rw b (entries_tallied t es rest)
+      ]
+
+-- ---- the least bounds
+
+quiet_write : (held : ℕ) (name : Name) (at : ℕ) (bytes : List ℕ) (answer : heap.Answer) → held ≡ held_after held (heap.Write name at bytes) answer
+quiet_write held name at bytes (heap.Allocated r) = refl
+quiet_write held name at bytes (heap.Released r) = refl
+quiet_write held name at bytes (heap.Written r) = refl
+quiet_write held name at bytes (heap.Resized r) = refl
+quiet_write held name at bytes (heap.Got r) = refl
+
+quiet_resize : (held : ℕ) (name : Name) (n : ℕ) (answer : heap.Answer) → held ≡ held_after held (heap.Resize name n) answer
+quiet_resize held name n (heap.Allocated r) = refl
+quiet_resize held name n (heap.Released r) = refl
+quiet_resize held name n (heap.Written r) = refl
+quiet_resize held name n (heap.Resized r) = refl
+quiet_resize held name n (heap.Got r) = refl
+
+quiet_read : (held : ℕ) (name : Name) (at n : ℕ) (answer : heap.Answer) → held ≡ held_after held (heap.Read name at n) answer
+quiet_read held name at n (heap.Allocated r) = refl
+quiet_read held name at n (heap.Released r) = refl
+quiet_read held name at n (heap.Written r) = refl
+quiet_read held name at n (heap.Resized r) = refl
+quiet_read held name at n (heap.Got r) = refl
+
+held_is : (t : Tally) (call : heap.Call) (answer : heap.Answer) → (tally_after t call answer).held ≡ held_after t.held call answer
+held_is t (heap.Allocate n) answer = refl
+held_is t (heap.Release name) answer = refl
+held_is t (heap.Write name at bytes) answer = quiet_write t.held name at bytes answer
+held_is t (heap.Resize name n) answer = quiet_resize t.held name n answer
+held_is t (heap.Read name at n) answer = quiet_read t.held name at n answer
+
+-- a tally is within two bounds
+abbrev IsWithin : ℕ → ℕ → Tally → Type 0
+IsWithin m n t = (t.most ≤ m) × (t.longest ≤ n)
+
+module _ (m n : ℕ) where
+  call_keeps : (t : Tally) (call : heap.Call) (answer : heap.Answer) → IsModest m n t.held call → IsWithin m n t → IsWithin m n (tally_after t call answer)
+  call_keeps t (heap.Allocate len) answer modest within = (omega (arith, modest.1, within.0), omega (arith, modest.0, within.1))
+  call_keeps t (heap.Release name) answer modest within = within
+  call_keeps t (heap.Write name at bytes) answer modest within = within
+  call_keeps t (heap.Resize name len) answer modest within = (within.0, omega (arith, modest, within.1))
+  call_keeps t (heap.Read name at len) answer modest within = within
+
+  call_kept : (t : Tally) (call : heap.Call) (answer : heap.Answer) → IsWithin m n (tally_after t call answer) → IsModest m n t.held call × IsWithin m n t
+  call_kept t (heap.Allocate len) answer within = ((omega (arith, within.1), omega (arith, within.0)), (omega (arith, within.0), omega (arith, within.1)))
+  call_kept t (heap.Release name) answer within = (tt, within)
+  call_kept t (heap.Write name at bytes) answer within = (tt, within)
+  call_kept t (heap.Resize name len) answer within = (omega (arith, within.1), (within.0, omega (arith, within.1)))
+  call_kept t (heap.Read name at len) answer within = (tt, within)
+
+  calls_keep : (t : Tally) (calls : List heap.Call) (answers : List heap.Answer) → AreModest m n t.held calls answers → IsWithin m n t → IsWithin m n (tally_after_all t calls answers)
+  calls_keep t [] answers modest within = within
+  calls_keep t (call ∷ calls) [] modest within = within
+  calls_keep t (call ∷ calls) (answer ∷ answers) modest within =
+      calls_keep (tally_after t call answer) calls answers
+      (subst (λ (held : ℕ). AreModest m n held calls answers) (sym (held_is t call answer)) modest.1) (call_keeps t call answer modest.0 within)
+
+  calls_kept : (t : Tally) (calls : List heap.Call) (answers : List heap.Answer) → IsWithin m n (tally_after_all t calls answers) → AreModest m n t.held calls answers × IsWithin m n t
+  calls_kept t [] answers within = (tt, within)
+  calls_kept t (call ∷ calls) [] within = (tt, within)
+  calls_kept t (call ∷ calls) (answer ∷ answers) within =
+      let rest = calls_kept (tally_after t call answer) calls answers within in
+      let one = call_kept t call answer rest.1 in
+      ((one.0, subst (λ (held : ℕ). AreModest m n held calls answers) (held_is t call answer) rest.0), one.1)
+
+least : (calls : List heap.Call) (answers : List heap.Answer)
+    → AreLeastBounds calls answers (tally_after_all no_calls calls answers).most (tally_after_all no_calls calls answers).longest
+least calls answers m n =
+    ((λ modest. calls_keep m n no_calls calls answers modest (omega arith, omega arith)), (λ within. (calls_kept m n no_calls calls answers within).0))
+
+-- what the entries of a run tell of a heap comes to its least bounds
+pub tally_bounds : (w : World) (es : List Event) (j : ℕ) → j < length w.heaps
+    → let r = replies w es in AreLeastBounds (calls_on j r.made r.entries) (answers_on j r.entries) (tally_of j r.entries).most (tally_of j r.entries).longest
+tally_bounds w es j inside =
+    let r = replies w es in
+    let calls = calls_on j r.made r.entries in
+    let answers = answers_on j r.entries in
+    subst (λ (t : Tally). AreLeastBounds calls answers t.most t.longest)
+    (sym (entries_tallied r.made (length w.heaps) j inside no_calls r.entries (replies_tell w es).history.each)) (least calls answers)
+
+-- the lines of a run's tallies are those of the trace
+pub tallies_measure : (trace : Trace) (header : Header) (w : World) (events : List Event) (entries : List Entry) (text : List ℕ)
+    → header ≡ trace.header → w ≡ yard_of header → events ≡ events_of trace → entries ≡ (replies w events).entries
+    → text ≡ held_text header.words (λ j. (tally_of j entries).most) (λ j. (tally_of j entries).longest) header.workers → Measures trace text
+tallies_measure trace header w events entries text header_is world_is events_are entries_are text_is =
+    let run = run_of trace in
+    let yard : w ≡ yard_of trace.header = world_is ∙ ap yard_of header_is in
+    let same : entries ≡ run.entries = entries_are ∙ ap₂ (λ (v : World) (es : List Event). (replies v es).entries) yard events_are in
+    let count = length-map-range_with_len (λ (i : ℕ). heap.opened i trace.header.words 0) 0 trace.header.workers in
+    let lines = λ (h : Header) (es : List Entry). held_text h.words (λ j. (tally_of j es).most) (λ j. (tally_of j es).longest) h.workers in
+    record {
+      most = λ j. (tally_of j run.entries).most;
+      len = λ j. (tally_of j run.entries).longest;
+      bounds = λ j inside. tally_bounds (yard_of trace.header) (events_of trace) j (omega (arith, count, inside));
+      written = text_is ∙ ap₂ lines header_is same;
+    }

@@ -1,0 +1,20 @@
+-- The lines on what workers asked of their heaps.
+use Rattle.std.specs.Prelude.{ℕ, zero, suc, List, [], ◌++◌, Option, Some, None, codes}
+use Rattle.std.specs.Fmt.{decimal}
+use Rattle.tlsf_laws.specs.Pools.{pool_region}
+
+-- so many words, or that no region has so many
+abbrev pub words_text : Option ℕ → List ℕ
+words_text (Some words) = decimal words
+words_text None = codes "none"
+
+-- held J blocks B bytes N words W region R
+abbrev pub held_line : (worker most len words : ℕ) → List ℕ
+held_line worker most len words =
+    codes "held " ++ decimal worker ++ codes " blocks " ++ decimal most ++ codes " bytes " ++ decimal len
+    ++ codes " words " ++ words_text (pool_region most len) ++ codes " region " ++ decimal words ++ codes "\n"
+
+-- the lines of the workers below a number, whose heaps have so many words each
+abbrev pub held_text : ℕ → (most len : ℕ → ℕ) → ℕ → List ℕ
+held_text words most len zero = []
+held_text words most len (suc j) = held_text words most len j ++ held_line j (most j) (len j) words

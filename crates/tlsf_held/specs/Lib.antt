@@ -1,0 +1,6 @@
+-- What the clauses of public functions cite: the lines, and what they tell.
+pub mod HeldLines
+pub mod Measures
+-- What the clauses of private functions cite besides.
+pub mod Replies
+pub mod Tallies

@@ -1,0 +1,40 @@
+-- What a trace tells that its workers asked of their heaps.
+use Rattle.std.specs.Prelude.{◌≡◌, ◌↔◌, ℕ, ◌<◌, ◌≤◌, List, Option, Some, Result}
+use Rattle.std.specs.List.{AllByRecursion}
+use Rattle.tlsf_heap.specs.Calls.{Call, Answer}
+use Rattle.tlsf_heap.specs.Lawful.{IsRegion}
+use Rattle.tlsf_laws.specs.Pools.{pool_region, AreModest, HasRoomFor}
+use Rattle.tlsf_crew.specs.yard.History.{answers_on, calls_on}
+use Rattle.tlsf_held.specs.HeldLines.{held_text}
+use Rattle.tlsf_lines.specs.Trace.{Trace}
+use Rattle.tlsf_lines.specs.declared.trace_fault.TraceFault.{TraceFault}
+use Rattle.tlsf_trace.specs.Output.{run_of}
+use Rattle.tlsf_trace.specs.Replay.{IsRun}
+use Rattle.tlsf_trace.specs.declared.summary.Summary.{Summary}
+
+-- the least bounds of these calls, which got these answers: no fewer blocks held at once, the one that is asked for included, and no
+-- fewer bytes
+abbrev pub AreLeastBounds : List Call → List Answer → (most len : ℕ) → Type 0
+AreLeastBounds calls answers most len = (m n : ℕ) → AreModest m n 0 calls answers ↔ ((most ≤ m) × (len ≤ n))
+
+-- the least bounds of the calls on heap j that a replay of the trace makes, a drain's releases among them
+abbrev pub AreBoundsOf : Trace → ℕ → (most len : ℕ) → Type 0
+AreBoundsOf trace j most len =
+    let run = run_of trace in AreLeastBounds (calls_on j run.made run.entries) (answers_on j run.entries) most len
+
+-- the text has a line for each worker, in rising number, with the least bounds of the calls on its heap
+pub record Measures (trace : Trace) (text : List ℕ) : Type 0 where
+  pub most : ℕ → ℕ
+  pub len : ℕ → ℕ
+  pub bounds : (j : ℕ) → j < trace.header.workers → AreBoundsOf trace j (most j) (len j)
+  pub written : text ≡ held_text trace.header.words most len trace.header.workers
+
+-- a run of a trace that puts out what its workers asked of their heaps
+abbrev pub IsMeasurement : Result Summary TraceFault → Option (List ℕ) → Option (List ℕ) → Option (List ℕ) → Option (List ℕ) → Type 0
+IsMeasurement = IsRun Measures
+
+-- where the heaps of a trace have the words of a pool of these bounds, no request of the worker's is answered NoFit
+abbrev pub HeldWordsSuffice : Type 0
+HeldWordsSuffice = (trace : Trace) (j most len words : ℕ) → IsRegion trace.header.words → j < trace.header.workers
+    → AreBoundsOf trace j most len → pool_region most len ≡ Some words → words ≤ trace.header.words
+    → AllByRecursion HasRoomFor (answers_on j (run_of trace).entries)

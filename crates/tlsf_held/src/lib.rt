@@ -1,0 +1,20 @@
+//! What a recorded trace asks of its heaps, so that it leads to a pool.
+//!
+//! [`measure_trace`] reads a trace, runs it to its end as a replay does, and writes one line for each worker: the most blocks of its heap
+//! that were held at once, the longest request, and the words of the region in which such calls are never refused for want of
+//! room, beside the words that the trace gives each heap. No reply line is written.
+//!
+//! Held is what the law for a heap of a yard counts (`tlsf_yard_laws::yard_never_refuses`): the accepted allocates of the heap's own worker less the
+//! releases that its heap accepted, at once or in a drain. So a block that another worker has released is held until its owner drains.
+//!
+//! Contracts see the trace that a text spells and what its run was answered by the definitions of `tlsf_trace` and `tlsf_crew`;
+//! `Measures` of `specs/Measures.antt` joins them with the laws: the numbers of a line are the least bounds within which the worker's calls keep.
+#![tactic(auto)]
+
+mod laws;
+mod lines;
+mod measuring;
+mod tally;
+
+pub use laws::held_words_suffice;
+pub use measuring::measure_trace;

@@ -1,0 +1,63 @@
+//! A trace whose run is measured.
+ghost use Rattle.std.specs.Prelude.{IfOk, string_bytes};
+ghost use Rattle.tlsf_held.specs.Measures.{IsMeasurement, Measures};
+ghost use Rattle.tlsf_lines.specs.Ranges.{IsHeaderInRange};
+ghost use Rattle.tlsf_lines.specs.ScriptSoFar.{IsScript};
+ghost use Rattle.tlsf_lines.specs.Trace.{Trace};
+
+use crate::lines::write_held_lines;
+use std::alloc::{AllocError, Global};
+use std::io::{Read, Write};
+use tlsf_crew::{open_yard, replay_events};
+use tlsf_lines::{Script, read_all, script_in};
+use tlsf_trace::{Summary, TraceFault, finish};
+
+// The lines on a script that is run on a new yard.
+fn lines_of(alloc: Global, script: &Script) -> Result<String, AllocError>
+    requires { IsHeaderInRange script.now.header }
+    ensures { (trace : Trace) → IsScript script.now trace → IfOk result (λ text. Measures trace (string_bytes text)) }
+{
+    let header = script.header;
+    // A header in its ranges is not of a bad size, so what is refused here is memory.
+    let Ok(mut workers) = open_yard(alloc, header.workers, header.words, header.capacity) else {
+        return Err(AllocError);
+    };
+    let Ok(entries) = replay_events(alloc, &mut workers, &script.events) else {
+        return Err(AllocError);
+    };
+    let mut text = String::new(alloc);
+    write_held_lines(&mut text, header.workers, header.words, &entries)?;
+    Ok(text)
+}
+
+/// Reads a whole trace, runs it on a new yard of workers, and writes for each worker what its calls asked of its heap.
+///
+/// A worker's line has the most blocks of its heap that were held at once, the one that was asked for included; the most bytes of an
+/// allocate or a resize; the words of the least region in which such calls are never refused for want of room, or `none` where no
+/// region has so many; and the words that the trace gives each heap. A block is held until its heap has taken it back: where another
+/// worker releases it, until its owner drains. The trace is read to its end and checked before a line runs, and the whole text is
+/// made before a byte is written. The limits are those of [`replay`](tlsf_trace::replay).
+///
+/// ```
+/// // reader gives "tlsf 1 1 64 1\na 0 1 100\na 0 2 8\nf 0 1\n"
+/// let summary = measure_trace(alloc, &mut reader, &mut writer)?;
+/// // summary.calls is 3, and writer holds "held 0 blocks 2 bytes 100 words 50 region 64\n"
+/// ```
+///
+/// # Errors
+///
+/// Those of [`replay`](tlsf_trace::replay), each where a replay of that trace has it.
+pub fn measure_trace<R: Read, W: Write>(
+    alloc: Global,
+    reader: &mut R,
+    writer: &mut W,
+) -> Result<Summary, TraceFault>
+    ensures { IsMeasurement result (R.remaining reader.old) (R.remaining reader.new)
+        (W.contents writer.old) (W.contents writer.new) }
+{
+    let text = read_all(alloc, reader)?;
+    let script = script_in(alloc, &text)?;
+    drop(text);
+    let lines = lines_of(alloc, &script)?;
+    finish(writer, script.calls, &lines)
+}
