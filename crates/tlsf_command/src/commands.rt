@@ -20,25 +20,16 @@ use std::thread::Threads;
 use tlsf_crew::Gate;
 use tlsf_held::measure_trace;
 use tlsf_picture::{draw_trace, draw_trace_as_text};
-use tlsf_trace::{Summary, TraceFault, WriteError, race_trace, replay, write_out};
-
-fn write_line<E: Write>(fault: TraceFault, errors: &mut E) -> Result<(), WriteError>
-    ensures { AppendsFront (E.contents errors.old) (E.contents errors.new) (fault_line fault) }
-{
-    match (FaultReport { fault }).line() {
-        Ok(line) => write_out(errors, line.as_bytes()),
-        // No fault's line is longer than the 64 bytes it has room in, but no clause of the line says so.
-        Err(_) => Err(WriteError),
-    }
-}
+use tlsf_trace::{Summary, TraceFault, WriteError, race_trace, replay};
 
 // Reports the fault, and gives its exit status, which a fault in writing does not change.
 pub(crate) fn report<E: Write>(fault: TraceFault, errors: &mut E) -> u8
     ensures status { result ≡ status_of_fault fault }
     ensures line { AppendsFront (E.contents errors.old) (E.contents errors.new) (fault_line fault) }
 {
-    let _ = write_line(fault, errors);
-    FaultReport { fault }.status()
+    let report = FaultReport { fault };
+    let _ = report.write_to(errors);
+    report.status()
 }
 
 // The exit status of a run of a trace by its answer. Reports the fault that ended it, if one did.

@@ -1,7 +1,7 @@
 use arrayvec::ArrayString;
-use std::fmt;
 use std::fmt::Write as _;
-use tlsf_trace::TraceFault;
+use std::{fmt, io};
+use tlsf_trace::{TraceFault, WriteError, write_out};
 
 /// A fault as the program shows it, as `line 2: bad line (12)`.
 ///
@@ -16,8 +16,10 @@ pub struct FaultReport {
 }
 
 impl FaultReport {
-    ghost use Rattle.std.specs.Prelude.{◌≡◌, IfOk};
+    ghost use Rattle.std.specs.Prelude.{◌≡◌, IfOk, OnOk};
+    ghost use Rattle.std.specs.Io.KnownBytes.{Appends};
     ghost use Rattle.tlsf_command.specs.FaultLines.{fault_line, reason_of, status_of_fault};
+    ghost use Rattle.tlsf_lines.specs.Prefixes.{AppendsFront};
 
     /// The exit status of a run that ends by this fault: 3 for want of memory, else 1.
     pub fn status(&self) -> u8
@@ -34,6 +36,27 @@ impl FaultReport {
         let mut line = ArrayString::new();
         writeln!(line, "tlsf: {self}")?;
         Ok(line)
+    }
+
+    /// Writes the line that reports the fault, and flushes. Where the stream takes all bytes and the flush succeeds, it
+    /// answers `Ok` and the line was written whole.
+    ///
+    /// ```
+    /// report.write_to(&mut errors)?;      // errors holds "tlsf: line 2: bad line (12)\n" besides
+    /// ```
+    ///
+    /// # Errors
+    ///
+    /// [`WriteError`] where a write or the flush answered an error, or a write took no byte. A prefix of the line was written.
+    pub fn write_to<W: io::Write>(self, stream: &mut W) -> Result<(), WriteError>
+        ensures front { AppendsFront (W.contents stream.old) (W.contents stream.new) (fault_line self.fault) }
+        ensures whole { OnOk result (Appends (W.contents stream.old) (W.contents stream.new) (fault_line self.fault)) }
+    {
+        match self.line() {
+            Ok(line) => write_out(stream, line.as_bytes()),
+            // No fault's line is longer than the 64 bytes it has room in, but no clause of the line says so.
+            Err(_) => Err(WriteError),
+        }
     }
 
     // What the fault's number stands for.

@@ -14,6 +14,7 @@ pub mod Records
 pub mod LineFaults
 pub mod TraceFaults
 pub mod Limits
+pub mod ReadCounts
 pub mod Prefixes
 pub mod Ranges
 pub mod Views

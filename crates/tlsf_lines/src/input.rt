@@ -1,14 +1,14 @@
-ghost use Rattle.std.specs.Prelude.{◌≡◌, ◌+◌, ◌==◌, ◌<◌, ◌≤◌, length, IfErr, IfOk, OnOk, IfSome, count_by};
+ghost use Rattle.std.specs.Prelude.{◌≡◌, ℕ, ◌+◌, ◌==◌, ◌<◌, ◌≤◌, List, length, IfErr, IfOk, IsErrOf, OnOk, IfSome, count_by};
 ghost use Rattle.std.specs.Io.KnownBytes.{Consumes, IsAtEnd};
 ghost use Rattle.tlsf_lines.specs.Limits.{IsWithinLimits, IsTooLong};
 ghost use Rattle.tlsf_lines.specs.OpenLines.{open_count};
+ghost use Rattle.tlsf_lines.specs.ReadCounts.{IsOverLimits};
+ghost use Rattle.tlsf_lines.specs.declared.last_read.LastRead.TheVariants.{Ended, Failed};
 
+use crate::read_count::ReadCount;
 use crate::read_error::ReadError;
 use std::alloc::Global;
 use std::io::Read;
-
-/// How many reads an input is given to end, the one that shows its end among them.
-pub const MOST_READS: u32 = 65_536;
 
 /// How many bytes an input may have.
 pub const MOST_BYTES: usize = 1_048_576;
@@ -40,6 +40,66 @@ fn count_open_lines(bytes: &[u8]) -> usize
     }
 }
 
+/// Reads all that the reader has left, in reads of up to 4,096 bytes: at most 2^20 bytes and 32,768 lines. `count` begins
+/// anew, and shows afterwards how many reads there were and how the last one went.
+///
+/// After an `Err` the reader may have given any number of its bytes.
+///
+/// ```
+/// // reader gives "tlsf 1 1 64 1\n", and then its end
+/// let mut count = ReadCount::new();
+/// let text = read_counted(alloc, &mut reader, &mut count)?;
+/// // text has these 14 bytes, and count.left() is 65_534
+/// ```
+///
+/// # Errors
+///
+/// [`ReadError::TooLong`] exactly where what was read has more than 2^20 bytes or 32,768 lines, or where 65,536 reads all gave
+/// bytes; [`ReadError::Read`] only where a read answered an error; and [`ReadError::NoMemory`].
+pub fn read_counted<R: Read>(
+    alloc: Global,
+    reader: &mut R,
+    count: &mut ReadCount,
+) -> Result<Vec<u8>, ReadError>
+    ensures whole { IfOk result (λ text. IfSome (R.remaining reader.old)
+        (λ left. text.items ≡ left)) }
+    ensures consumed { IfOk result (λ text.
+        Consumes (R.remaining reader.old) (R.remaining reader.new) text.items) }
+    ensures end { OnOk result (IsAtEnd (R.remaining reader.new)) }
+    ensures limits { IfOk result (λ text. IsWithinLimits text.items) }
+
+    // An input is accepted only where a read showed its end.
+    ensures ended { OnOk result (count.new.last ≡ Ended) }
+    ensures failed { IsErrOf result ReadError.Read → count.new.last ≡ Failed }
+
+    // It is refused for its length only where what was given up to then is too long. All reads up to then gave a byte.
+    ensures too_long { IsErrOf result ReadError.TooLong → (given : List ℕ)
+        × Consumes (R.remaining reader.old) (R.remaining reader.new) given
+        × (65536 ≤ count.new.left + length given) × IsOverLimits count.new given }
+{
+    *count = ReadCount::new();
+    let mut text: Vec<u8> = Vec::new(alloc);
+    let mut line_feeds = 0;
+    let mut buffer = [0u8; 4096];
+    loop {
+        let taken = count.read(reader, &mut buffer)?;
+        if taken == 0 {
+            return Ok(text);
+        }
+        let piece = &buffer[..taken];
+        if MOST_BYTES - text.len() < piece.len() {
+            return Err(ReadError::TooLong);
+        }
+        line_feeds += count_line_feeds(piece);
+        if line_feeds + count_open_lines(piece) > MOST_LINES {
+            return Err(ReadError::TooLong);
+        }
+        if text.extend_from_slice(piece).is_err() {
+            return Err(ReadError::NoMemory);
+        }
+    }
+}
+
 /// Reads all that the reader has left, in reads of up to 4,096 bytes: at most 2^20 bytes and 32,768 lines.
 ///
 /// After an `Err` the reader may have given any number of its bytes.
@@ -65,27 +125,5 @@ pub fn read_all<R: Read>(alloc: Global, reader: &mut R) -> Result<Vec<u8>, ReadE
     ensures too_long { IfErr result (λ error. error ≡ ReadError.TooLong
         → IfSome (R.remaining reader.old) IsTooLong) }
 {
-    let mut text: Vec<u8> = Vec::new(alloc);
-    let mut line_feeds = 0;
-    let mut buffer = [0u8; 4096];
-    for reads in 0..MOST_READS {
-        match reader.read(&mut buffer) {
-            Err(_) => return Err(ReadError::Read),
-            Ok(0) => return Ok(text),
-            Ok(count) => {
-                let piece = &buffer[..count];
-                if MOST_BYTES - text.len() < piece.len() {
-                    return Err(ReadError::TooLong);
-                }
-                line_feeds += count_line_feeds(piece);
-                if line_feeds + count_open_lines(piece) > MOST_LINES {
-                    return Err(ReadError::TooLong);
-                }
-                if text.extend_from_slice(piece).is_err() {
-                    return Err(ReadError::NoMemory);
-                }
-            }
-        }
-    }
-    Err(ReadError::TooLong)
+    read_counted(alloc, reader, &mut ReadCount::new())
 }

@@ -12,7 +12,7 @@
 //! | `d w n` | worker w drains at most n posts |
 //! | `phase` | a phase ends |
 //!
-//! [`read_all`] reads a text. [`script_in`] turns it into the events of a replay, [`trace_in`] into the lines of a race, each
+//! [`read_all`] reads a text, and [`read_counted`] shows besides how its reads went. [`script_in`] turns it into the events of a replay, [`trace_in`] into the lines of a race, each
 //! with the first fault of a text that spells no trace. [`write_replies`] writes what the events were answered, and
 //! [`write_out`] hands a text on. No worker stands here: who runs the events is `tlsf_trace`.
 //!
@@ -25,6 +25,7 @@ mod fields;
 mod header;
 mod input;
 mod labels;
+mod last_read;
 mod laws;
 mod learning;
 mod line;
@@ -36,6 +37,7 @@ mod parse_error;
 mod payload;
 mod phases;
 mod pieces;
+mod read_count;
 mod read_error;
 mod reading;
 mod records;
@@ -48,11 +50,13 @@ mod trace_fault;
 mod word;
 
 pub use header::Header;
-pub use input::read_all;
+pub use input::{read_all, read_counted};
+pub use last_read::LastRead;
 pub use laws::{first_fault, pieces_join};
 pub use line::Line;
 pub use names::Names;
 pub use phases::{PhaseScripts, cut_phase};
+pub use read_count::{MOST_READS, ReadCount};
 pub use read_error::ReadError;
 pub use records::write_phase;
 pub use reply_lines::write_replies;
