@@ -7,6 +7,8 @@ mod lane_threads;
 mod lanes;
 mod lists;
 mod locked_heaps;
+mod mailbox_threads;
+mod mailboxes;
 mod payloads;
 mod pools;
 mod resizes;

@@ -1,4 +1,4 @@
-//! Lanes: the way of a name to the owner of its heap.
+//! Lanes and mailboxes: two ways of a name to the owner of its heap.
 //!
 //! A lane goes from one worker to another. A [`PostEnd`] sends posts into it, a [`TakeEnd`] takes them out in the order
 //! in which they were sent. The two ends come from one call of [`lane`], and each may then go into a thread of its own:
@@ -10,16 +10,32 @@
 //! at the last `beside` (`waited`), those taken since (`taken`) and those that it knows to be ready (`ready`). That two
 //! ends fit each other as those of one lane do, so that `beside` may join them, is `IsLane`.
 //!
-//! Nothing but `lane` takes memory, and nothing waits.
+//! A mailbox is one queue for each owner, into which all others post. [`mailbox`] answers the [`OwnerEnd`] that takes, and
+//! a [`PosterEnd`] for each other worker. Where all ends are at hand, [`meet`] tells the owner what was put.
+//!
+//! Contracts see a `PosterEnd` as its number (`number_of`) and all that was put through it (`put_by`). They see an
+//! `OwnerEnd` as its number (`owner_of`), all that was taken through it (`got_by`), and what it knows to have been put
+//! (`known_to`), of which `posts_of` are the posts of one worker. That ends are all those of one mailbox is `IsWhole`.
+//!
+//! Nothing but `lane` and `mailbox` takes memory. A lane's ends never wait; those of a mailbox may wait for one another's
+//! half of a step.
 #![tactic(auto)]
 
+mod hand;
 mod lanes;
+mod mailboxes;
+mod owner_end;
 mod post;
 mod post_end;
+mod poster_end;
+mod rule;
 mod take_end;
 
 pub use lanes::{beside, lane};
+pub use mailboxes::{mailbox, meet};
+pub use owner_end::OwnerEnd;
 pub use post::Post;
 pub use post_end::PostEnd;
+pub use poster_end::PosterEnd;
 pub use take_end::TakeEnd;
 pub use tlsf_words::NoMemory;

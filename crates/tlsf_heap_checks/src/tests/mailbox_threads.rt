@@ -1,0 +1,95 @@
+use crate::tests::mailboxes::block;
+use std::alloc::AllocError;
+use std::sync::Wait;
+use std::test::Fail;
+use std::thread;
+use std::thread::{Threads, yield_now};
+use tlsf_fixtures::same;
+use tlsf_post::{OwnerEnd, Post, PosterEnd, mailbox};
+
+/// How often a thread tries at most.
+const TURNS: u64 = 100_000_000;
+
+/// How many posts each poster puts.
+const EACH: u64 = 100;
+
+/// Puts the names with the serials below `EACH`, in rising order. Tells how many went in.
+fn put_all<R: Wait>(rt: &R, mut end: PosterEnd) -> u64 {
+    let mut done = 0;
+    for _ in 0..TURNS {
+        if done == EACH {
+            break;
+        }
+        match end.put(rt, block(done)) {
+            Ok(()) => done = done.wrapping_add(1),
+            Err(_) => yield_now(),
+        }
+    }
+    done
+}
+
+/// How many posts of the posters 1 and 2 came, and whether those of each came in the order of their serials.
+#[derive(Debug, PartialEq, Eq, Clone, Copy)]
+struct Came {
+    first: u64,
+    second: u64,
+    in_order: bool,
+}
+
+/// Takes until all posts of both came.
+fn take_all<R: Wait>(rt: &R, mut end: OwnerEnd) -> Came {
+    let mut came = Came {
+        first: 0,
+        second: 0,
+        in_order: true,
+    };
+    for _ in 0..TURNS {
+        if came.first >= EACH && came.second >= EACH {
+            break;
+        }
+        match end.take(rt) {
+            Some(Post { from: 1, name }) => {
+                came.in_order = came.in_order && name == block(came.first);
+                came.first = came.first.wrapping_add(1);
+            }
+            Some(Post { from: 2, name }) => {
+                came.in_order = came.in_order && name == block(came.second);
+                came.second = came.second.wrapping_add(1);
+            }
+            Some(_) => came.in_order = false,
+            None => yield_now(),
+        }
+    }
+    came
+}
+
+/// Two posters put in threads of their own what this one takes. The mailbox holds two posts, so each place is used again
+/// and again, and the ends never meet.
+fn pass_all<R: Threads + Wait + Sync>(
+    rt: &R,
+    owner_end: OwnerEnd,
+    one: PosterEnd,
+    two: PosterEnd,
+) -> Result<(Came, u64, u64), AllocError> {
+    thread::scope(thread::scope_env(), rt, move |scope| {
+        let first = scope.spawn(move || put_all(rt, one))?;
+        let second = scope.spawn(move || put_all(rt, two))?;
+        let came = take_all(rt, owner_end);
+        Ok((came, first.join(rt), second.join(rt)))
+    })
+}
+
+#[test]
+fn posts_pass_between_threads_in_each_posters_order(rt: HostRuntime) -> Result<(), Fail> {
+    let (owner_end, mut posters) = mailbox(rt.alloc(), 0, 3, 2)?;
+    let two = posters.pop().expect(&rt, "no end");
+    let one = posters.pop().expect(&rt, "no end");
+    let passed = pass_all(&rt, owner_end, one, two)?;
+    let all = Came {
+        first: EACH,
+        second: EACH,
+        in_order: true,
+    };
+    same(passed, (all, EACH, EACH)).expect(&rt, "differ");
+    Ok(())
+}

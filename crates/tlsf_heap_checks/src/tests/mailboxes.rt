@@ -1,0 +1,148 @@
+use std::process::Abort;
+use std::sync::Wait;
+use std::test::Fail;
+use tlsf_fixtures::{name, same};
+use tlsf_heap::Name;
+use tlsf_post::{OwnerEnd, Post, PosterEnd, mailbox, meet};
+
+/// The name of the block of heap 1 with a serial.
+pub fn block(serial: u64) -> Name {
+    name(1, 4, serial)
+}
+
+/// What the ends of a mailbox are asked.
+#[derive(Clone, Copy)]
+enum Ask {
+    /// The end of that place puts the name with a serial.
+    Put(usize, u64),
+    Take,
+    Count,
+}
+
+/// What they answer.
+#[derive(Debug, PartialEq, Eq, Clone, Copy)]
+enum Answer {
+    Done,
+    /// The serial of a name that was given back.
+    Back(u64),
+    /// The number of a poster and a serial.
+    Took(u32, u64),
+    Nothing,
+    /// How many posts wait.
+    Waiting(usize),
+}
+
+fn ask_ends<R: Wait>(
+    rt: &R,
+    owner_end: &mut OwnerEnd,
+    posters: &mut [PosterEnd],
+    ask: Ask,
+) -> Answer {
+    match ask {
+        Ask::Put(place, serial) => match posters.get_mut(place) {
+            Some(end) => match end.put(rt, block(serial)) {
+                Ok(()) => Answer::Done,
+                Err(back) => Answer::Back(back.serial),
+            },
+            None => Answer::Nothing,
+        },
+        Ask::Take => match owner_end.take(rt) {
+            Some(post) => Answer::Took(post.from, post.name.serial),
+            None => Answer::Nothing,
+        },
+        Ask::Count => Answer::Waiting(owner_end.count(rt)),
+    }
+}
+
+/// Asks the ends, and holds each answer to the one that is wanted.
+fn check_ends<R: Abort + Wait>(
+    rt: &R,
+    owner_end: &mut OwnerEnd,
+    posters: &mut [PosterEnd],
+    rows: &[(Ask, Answer)],
+) {
+    for (i, (ask, wanted)) in rows.iter().enumerate() {
+        let found = ask_ends(rt, owner_end, posters, *ask);
+        same((i, found), (i, *wanted)).expect(rt, "differ");
+    }
+}
+
+// The mailbox of worker 1 of three holds two posts: posters 0 and 2 share its places.
+#[test]
+fn posters_share_a_mailbox(rt: HostRuntime) -> Result<(), Fail> {
+    let rows = [
+        (Ask::Take, Answer::Nothing),
+        (Ask::Put(0, 5), Answer::Done),
+        (Ask::Put(1, 6), Answer::Done),
+        (Ask::Put(0, 7), Answer::Back(7)),
+        (Ask::Put(1, 8), Answer::Back(8)),
+        (Ask::Count, Answer::Waiting(2)),
+        (Ask::Take, Answer::Took(0, 5)),
+        (Ask::Put(1, 8), Answer::Done),
+        (Ask::Put(0, 7), Answer::Back(7)),
+        (Ask::Take, Answer::Took(2, 6)),
+        (Ask::Take, Answer::Took(2, 8)),
+        (Ask::Count, Answer::Waiting(0)),
+        (Ask::Take, Answer::Nothing),
+    ];
+    let (mut owner_end, mut posters) = mailbox(rt.alloc(), 1, 3, 2)?;
+    check_ends(&rt, &mut owner_end, &mut posters, &rows);
+    Ok(())
+}
+
+// Each end goes on with its number behind a meeting.
+#[test]
+fn ends_go_on_after_a_meeting(rt: HostRuntime) -> Result<(), Fail> {
+    let rows = [
+        (Ask::Put(1, 5), Answer::Done),
+        (Ask::Put(0, 6), Answer::Done),
+        (Ask::Put(0, 7), Answer::Done),
+        (Ask::Put(1, 8), Answer::Back(8)),
+        (Ask::Count, Answer::Waiting(3)),
+        (Ask::Take, Answer::Took(2, 5)),
+        (Ask::Take, Answer::Took(0, 6)),
+        (Ask::Take, Answer::Took(0, 7)),
+        (Ask::Take, Answer::Nothing),
+    ];
+    let (mut owner_end, mut posters) = mailbox(rt.alloc(), 1, 3, 3)?;
+    meet(&mut owner_end, &mut posters);
+    check_ends(&rt, &mut owner_end, &mut posters, &rows);
+    Ok(())
+}
+
+/// How many posts a mailbox takes before it gives a name back, by their serials from 0 on.
+fn filled<R: Wait>(rt: &R, end: &mut PosterEnd) -> u64 {
+    for serial in 0..2_000 {
+        if end.put(rt, block(serial)) == Err(block(serial)) {
+            return serial;
+        }
+    }
+    2_000
+}
+
+#[test]
+fn mailbox_holds_its_capacity(rt: HostRuntime) -> Result<(), Fail> {
+    for capacity in [1, 2, 3, 1024] {
+        let (mut owner_end, mut posters) = mailbox(rt.alloc(), 0, 2, capacity)?;
+        let mut end = posters.pop().expect(&rt, "no end");
+        same(filled(&rt, &mut end), u64::from(capacity)).expect(&rt, "differ");
+        let first = Post {
+            from: 1,
+            name: block(0),
+        };
+        same(owner_end.take(&rt), Some(first)).expect(&rt, "differ");
+        let found = (end.put(&rt, block(3)), end.put(&rt, block(4)));
+        same(found, (Ok(()), Err(block(4)))).expect(&rt, "differ");
+    }
+    Ok(())
+}
+
+#[test]
+fn mailbox_of_one_has_no_posters(rt: HostRuntime) -> Result<(), Fail> {
+    let (mut owner_end, mut posters) = mailbox(rt.alloc(), 0, 1, 1)?;
+    meet(&mut owner_end, &mut posters);
+    owner_end.wait_empty(&rt);
+    let found = (posters.len(), owner_end.is_empty(), owner_end.take(&rt));
+    same(found, (0, true, None)).expect(&rt, "differ");
+    Ok(())
+}

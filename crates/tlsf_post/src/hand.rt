@@ -1,0 +1,18 @@
+use crate::post::Post;
+use std::collections::LinkedList;
+
+/// What a pass of a mailbox's queue knows. It stands in contracts alone: no value of it is made.
+pub struct Hand {
+    /// Whether it is a poster's.
+    pub posts: bool,
+    /// Whether it is the owner's.
+    pub takes: bool,
+    /// A poster's number. Of the owner, the number below which the posters are out.
+    pub number: u32,
+    /// The owner's own number, by which nobody posts, once it was passed over.
+    pub own: LinkedList<u32>,
+    /// What a poster has put. Of the owner, what it knows that the posters had put.
+    pub put: LinkedList<Post>,
+    /// What the owner has taken.
+    pub got: LinkedList<Post>,
+}

@@ -1,0 +1,120 @@
+ghost use Rattle.std.specs.Prelude.{◌≡◌, ℕ, ◌<◌, [], ◌∷◌, true, false};
+ghost use Rattle.std.specs.Arc.{arc_value};
+ghost use Rattle.crossbeam_queue.specs.Passes.{view};
+ghost use Rattle.tlsf_post.specs.Rule.{posts_of, IsIn};
+
+use crate::hand::Hand;
+use crate::post::Post;
+use crate::rule::{OneTake, Queue};
+use crossbeam_queue::Pass;
+use std::alloc::Global;
+use std::sync::{Arc, Wait};
+use std::thread::yield_now;
+
+/// The end of a mailbox that takes posts, whoever put them. It may go into a thread of its own.
+///
+/// ```
+/// let child = scope.spawn(move || owner_end.take(rt))?;
+/// ```
+#[derive(Drop)]
+pub struct OwnerEnd {
+    pub(crate) queue: Arc<Queue, Global>,
+    // What was taken, and what is known to have been put. It has no bytes.
+    pub(crate) pass: Pass<Post, Hand>,
+    pub(crate) number: u32,
+    ghost place: { pass.table_id ≡ (arc_value queue).table.shared.table_id },
+    ghost whole: { pass.me.1 ≡ [] },
+    ghost takes: { (view pass).takes ≡ true },
+    ghost posts: { (view pass).posts ≡ false },
+    ghost own: { (view pass).own ≡ number ∷ [] },
+    ghost past: { number < (view pass).number },
+    ghost nobody: { (p : ℕ) → IsIn (view pass) p → posts_of p (view pass).put ≡ [] },
+}
+
+impl OwnerEnd {
+    ghost use Rattle.std.specs.Prelude.{◌≡◌, ◌≢◌, ℕ, ◌<◌, ◌≤◌, List, [], ◌∷◌, ◌++◌, length, IfSome, IfNone, IsTrue};
+    ghost use mathlib.Core.List.{IsPrefix};
+    ghost use Rattle.tlsf_post.specs.declared.post.Post.{Post};
+    ghost use Rattle.tlsf_post.specs.Rule.{posts_of};
+    ghost use Rattle.tlsf_post.specs.Mailboxes.{owner_of, out_of, most_of, got_by, known_to, KeepsOwner, IsAllTaken};
+
+    /// Takes the post that has waited longest, or answers `None` where the mailbox was empty at one moment of the call.
+    /// It may spin while a post is half put or taken by another thread, and so needs `Wait`.
+    ///
+    /// - `mailbox`: it stays the owner's end of its mailbox.
+    /// - `some`: the post stands behind those taken before.
+    /// - `from`: it is of another worker, for which the mailbox has an end.
+    /// - `none`: nothing was taken, and of each poster all was taken that was known to have been put.
+    ///
+    /// ```
+    /// if let Some(post) = owner_end.take(rt) {
+    ///     let _ = heap.release(post.name);     // worker `post.from` posted it
+    /// }
+    /// ```
+    pub fn take<R: Wait>(&mut self, rt: &R) -> Option<Post>
+        ensures mailbox { KeepsOwner self.old self.new }
+        ensures some { IfSome result (λ p. got_by self.new ≡ got_by self.old ++ p ∷ []) }
+        ensures from { IfSome result (λ p. (p.from < out_of self.old) × (p.from ≢ owner_of self.old)) }
+        ensures none { IfNone result ((got_by self.new ≡ got_by self.old) × IsAllTaken self.new) }
+    {
+        self.queue.pop_as::<OneTake, R>(rt, &mut self.pass)
+    }
+
+    /// Whether the mailbox was empty at one moment of the call. A post may have come since.
+    ///
+    /// - `mailbox`, `same`: it stays the owner's end of its mailbox, and nothing is taken.
+    /// - `empty`: at `true`, of each poster all was taken that was known to have been put.
+    ///
+    /// ```
+    /// let empty = owner_end.is_empty();        // true right after `mailbox`
+    /// ```
+    pub fn is_empty(&mut self) -> bool
+        ensures mailbox { KeepsOwner self.old self.new }
+        ensures same { got_by self.new ≡ got_by self.old }
+        ensures empty { IsTrue result → IsAllTaken self.new }
+    {
+        self.queue.is_empty_as::<OneTake>(&mut self.pass)
+    }
+
+    /// Waits until the mailbox is empty, which it is at once where every post that may come was taken. While posts are
+    /// left it doesn't return, since nobody else takes them.
+    ///
+    /// - `mailbox`, `same`: it stays the owner's end of its mailbox, and nothing is taken.
+    /// - `empty`: of each poster all was taken that was known to have been put.
+    ///
+    /// ```
+    /// owner_end.wait_empty(rt);                // what waited was taken before
+    /// ```
+    pub fn wait_empty<R: Wait>(&mut self, rt: &R)
+        ensures mailbox { KeepsOwner self.old self.new }
+        ensures same { got_by self.new ≡ got_by self.old }
+        ensures empty { IsAllTaken self.new }
+    {
+        for _ in rt.forever() {
+            if self.is_empty() {
+                return;
+            }
+            yield_now();
+        }
+        unreachable!()
+    }
+
+    /// How many posts waited at one moment of the call, 0 to the mailbox's capacity.
+    ///
+    /// - `mailbox`, `same`: it stays the owner's end of its mailbox, and nothing is taken.
+    /// - `most`: no more than the mailbox holds.
+    /// - `count`: so many that, of each poster, what was taken and they begin with what was known to have been put.
+    ///
+    /// ```
+    /// let waiting = owner_end.count(rt);       // 0 right after `mailbox`
+    /// ```
+    pub fn count<R: Wait>(&mut self, rt: &R) -> usize
+        ensures mailbox { KeepsOwner self.old self.new }
+        ensures same { got_by self.new ≡ got_by self.old }
+        ensures most { result ≤ most_of self.old }
+        ensures count { (waiting : List Post) × (length waiting ≡ result)
+            × ((p : ℕ) → IsPrefix (posts_of p (known_to self.new)) (posts_of p (got_by self.new ++ waiting))) }
+    {
+        self.queue.len_as::<OneTake, R>(rt, &mut self.pass)
+    }
+}

@@ -1,0 +1,65 @@
+ghost use Rattle.std.specs.Prelude.{◌≡◌, [], true, false};
+ghost use Rattle.std.specs.Arc.{arc_value};
+ghost use Rattle.crossbeam_queue.specs.Passes.{view};
+ghost use Rattle.tlsf_post.specs.Rule.{posts_of};
+
+use crate::hand::Hand;
+use crate::post::Post;
+use crate::rule::{OnePut, Queue};
+use crossbeam_queue::Pass;
+use std::alloc::Global;
+use std::sync::{Arc, Wait};
+use tlsf_heap::Name;
+
+/// The end of a mailbox through which one worker puts posts. It may go into a thread of its own.
+///
+/// ```
+/// let child = scope.spawn(move || poster_end.put(rt, name).is_ok())?;
+/// ```
+#[derive(Drop)]
+pub struct PosterEnd {
+    pub(crate) queue: Arc<Queue, Global>,
+    // What was put. It has no bytes.
+    pub(crate) pass: Pass<Post, Hand>,
+    pub(crate) from: u32,
+    ghost place: { pass.table_id ≡ (arc_value queue).table.shared.table_id },
+    ghost whole: { pass.me.1 ≡ [] },
+    ghost posts: { (view pass).posts ≡ true },
+    ghost takes: { (view pass).takes ≡ false },
+    ghost number: { (view pass).number ≡ from },
+    ghost signed: { posts_of from (view pass).put ≡ (view pass).put },
+}
+
+impl PosterEnd {
+    ghost use Rattle.std.specs.Prelude.{◌≡◌, [], ◌∷◌, ◌++◌, OnOk, IfErr};
+    ghost use Rattle.tlsf_post.specs.Mailboxes.{number_of, put_by, KeepsPoster};
+
+    /// Puts a post that names a block, or gives the name back where the mailbox was full at one moment of the call. The
+    /// owner may take the post at once. It may spin while a post is half put or taken by another thread, and so needs
+    /// `Wait`.
+    ///
+    /// - `mailbox`: it stays an end of its mailbox, with its number.
+    /// - `ok`: on Ok a post of this end's number, with the name, stands behind those put before.
+    /// - `full`: on Err the name is given back, and what was put doesn't change.
+    ///
+    /// ```
+    /// match poster_end.put(rt, name) {
+    ///     Ok(()) => {}                  // it comes out at the owner's end, behind what this end put before
+    ///     Err(back) => keep(back),      // full: the same name, to be put again later
+    /// }
+    /// ```
+    pub fn put<R: Wait>(&mut self, rt: &R, name: Name) -> Result<(), Name>
+        ensures mailbox { KeepsPoster self.old self.new }
+        ensures ok { OnOk result (put_by self.new ≡ put_by self.old ++ record { from = number_of self.old; name = name } ∷ []) }
+        ensures full { IfErr result (λ back. (back ≡ name) × (put_by self.new ≡ put_by self.old)) }
+    {
+        let post = Post {
+            from: self.from,
+            name,
+        };
+        match self.queue.push_as::<OnePut, R>(rt, &mut self.pass, post) {
+            Ok(()) => Ok(()),
+            Err(back) => Err(back.name),
+        }
+    }
+}
