@@ -4,3 +4,5 @@
 pub mod yard
 -- Lemmas on races.
 pub mod threads
+-- Lemmas on yards over queues and on races over them.
+pub mod queues

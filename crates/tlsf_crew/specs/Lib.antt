@@ -6,3 +6,5 @@ pub use Rattle.tlsf_lock.specs.Grants
 pub mod yard
 -- What a race comes to: the records of its workers, and what its threads promise.
 pub mod threads
+-- Yards over queues: one queue for each owner, into which all others post; their workers, and races over them.
+pub mod queues

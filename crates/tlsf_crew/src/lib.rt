@@ -18,12 +18,20 @@
 //!
 //! Each call of a `Worker` takes no memory and doesn't wait, and keeps its yard whole.
 //!
+//! [`open_queue_yard`] opens a yard of another kind, with one queue for each owner, into which all others post. Each
+//! [`QueueWorker`] takes from its own. Such a yard (`IsQueueYard`) shows a `World` too; `post`, `take` and `drain` may wait
+//! for another thread's half of a step, and so are passed a runtime.
+//!
 //! A [`LockedHeap`] is a heap without an owner, outside any yard; it is `tlsf_lock`'s.
 #![tactic(auto)]
 
+mod queues;
 mod threads;
 mod yard;
 
+pub use queues::queue_laws::one_history_of_a_queue_race;
+pub use queues::queue_opening::open_queue_yard;
+pub use queues::queue_worker::QueueWorker;
 pub use threads::alone::race_without_takes;
 pub use threads::gate::{Gate, OpenGate};
 pub use threads::laws::one_history_of_a_race;

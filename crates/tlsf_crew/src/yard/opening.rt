@@ -13,10 +13,10 @@ use tlsf_heap::{Heap, MOST_WORDS, OpenFault};
 use tlsf_post::{NoMemory, PostEnd, TakeEnd, lane};
 
 // The most workers of a yard.
-const MOST_WORKERS: u32 = 8;
+pub(crate) const MOST_WORKERS: u32 = 8;
 
-// The most posts that a lane holds.
-const MOST_CAPACITY: u32 = 1024;
+// The most posts that a lane, or the queue of an owner, holds.
+pub(crate) const MOST_CAPACITY: u32 = 1024;
 
 /// Opens a yard of `n` workers, 1 to 8, numbered from 0: each owns a heap of its number over `words` words, 4 to 2^20,
 /// and from each to each other goes a lane that holds up to `capacity` posts, 1 to 1,024. Each end that posts knows all
@@ -106,7 +106,7 @@ fn open_worker(
 }
 
 /// Opens the heap of a worker.
-fn open_heap(alloc: Global, id: u32, words: u32) -> Result<Heap, NoMemory>
+pub(crate) fn open_heap(alloc: Global, id: u32, words: u32) -> Result<Heap, NoMemory>
     requires { IsRegion words }
     ensures { IfOk result (λ heap. heap.heap ≡ opened id words 0) }
 {
@@ -117,8 +117,8 @@ fn open_heap(alloc: Global, id: u32, words: u32) -> Result<Heap, NoMemory>
     }
 }
 
-/// Slots for the ends of `n` lanes.
-fn no_ends<E: Drop>(alloc: Global, n: u32) -> Result<Vec<Option<E>>, NoMemory>
+/// Slots for the ends of `n` lanes or queues.
+pub(crate) fn no_ends<E: Drop>(alloc: Global, n: u32) -> Result<Vec<Option<E>>, NoMemory>
     ensures { IfOk result (λ ends. ends.items ≡ replicate n None) }
 {
     let mut ends = Vec::with_capacity(alloc, n as usize)?;

@@ -12,6 +12,7 @@ ghost use Rattle.tlsf_crew.specs.yard.LaneTurns.{IsCountOf, DrainedAll};
 ghost use Rattle.tlsf_crew.specs.yard.Notes.{LaneNoted, AllNoted};
 
 use crate::yard::notes::{NoNotes, Notes};
+use crate::yard::own_calls;
 use tlsf_calls::{CrewRefusal, Drained, Released, Took};
 use tlsf_heap::{Heap, Name, PlacedBlock, Report};
 use tlsf_post::{Post, PostEnd, TakeEnd};
@@ -160,10 +161,7 @@ impl Worker {
         ensures touches { touches_of self.new ≤ touches_of self.old + 64 + payload_words_given (allocated (heap_of self.old) len).answer (heap_of self.new) }
         ensures touches_rise { touches_of self.old ≤ touches_of self.new }
     {
-        match self.heap.allocate(len) {
-            Ok(name) => Ok(name),
-            Err(why) => Err(CrewRefusal::Heap(why)),
-        }
+        own_calls::allocate(&mut self.heap, len)
     }
 
     /// Writes bytes into a block of the own heap, from byte `at` of it on.
@@ -179,10 +177,7 @@ impl Worker {
         ensures touches { touches_of self.new ≤ touches_of self.old + 4 + 2 * (length bytes.now / 8 + 2) }
         ensures touches_rise { touches_of self.old ≤ touches_of self.new }
     {
-        match self.heap.write(name, at, bytes) {
-            Ok(()) => Ok(()),
-            Err(why) => Err(CrewRefusal::Heap(why)),
-        }
+        own_calls::write(&mut self.heap, name, at, bytes)
     }
 
     /// Reads bytes of a block of the own heap, from byte `at` of it on, and fills `out` with them.
@@ -200,10 +195,7 @@ impl Worker {
         ensures touches { touches_of self.new ≤ touches_of self.old + 4 + (length out.old / 8 + 2) }
         ensures touches_rise { touches_of self.old ≤ touches_of self.new }
     {
-        match self.heap.read(name, at, out) {
-            Ok(()) => Ok(()),
-            Err(why) => Err(CrewRefusal::Heap(why)),
-        }
+        own_calls::read(&mut self.heap, name, at, out)
     }
 
     /// Resizes a block of the own heap where it stands, so that it holds `len` bytes. Its name stays, and so do its bytes up to the
@@ -226,10 +218,7 @@ impl Worker {
         ensures touches { touches_of self.new ≤ touches_of self.old + 64 + payload_words_left (resized (heap_of self.old) name len).answer (heap_of self.new) name }
         ensures touches_rise { touches_of self.old ≤ touches_of self.new }
     {
-        match self.heap.resize(name, len) {
-            Ok(()) => Ok(()),
-            Err(why) => Err(CrewRefusal::Heap(why)),
-        }
+        own_calls::resize(&mut self.heap, name, len)
     }
 
     /// Releases a block of the own heap, or posts the name of another worker's block to its owner, unread.

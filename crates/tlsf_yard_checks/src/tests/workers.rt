@@ -72,11 +72,11 @@ fn check_calls(rt: &impl Abort, workers: &mut [Worker], rows: &[(Event, Reply)])
     }
 }
 
-fn release_of(worker: u32, name: Name) -> Event {
+pub fn release_of(worker: u32, name: Name) -> Event {
     release(worker, Target::Named(name))
 }
 
-fn write(worker: u32, name: Name, at: u32, bytes: Chunk) -> Event {
+pub fn write(worker: u32, name: Name, at: u32, bytes: Chunk) -> Event {
     Event {
         worker,
         call: Call::Write {
@@ -87,7 +87,7 @@ fn write(worker: u32, name: Name, at: u32, bytes: Chunk) -> Event {
     }
 }
 
-fn read_of(worker: u32, name: Name, at: u32, n: u32) -> Event {
+pub fn read_of(worker: u32, name: Name, at: u32, n: u32) -> Event {
     Event {
         worker,
         call: Call::Read {
@@ -98,15 +98,15 @@ fn read_of(worker: u32, name: Name, at: u32, n: u32) -> Event {
     }
 }
 
-fn resize_of(worker: u32, name: Name, len: u32) -> Event {
+pub fn resize_of(worker: u32, name: Name, len: u32) -> Event {
     resize(worker, Target::Named(name), len)
 }
 
-fn heap_refuses(why: Refusal) -> Reply {
+pub fn heap_refuses(why: Refusal) -> Reply {
     Reply::Refused(CrewRefusal::Heap(why))
 }
 
-const STRANGER: Reply = Reply::Refused(CrewRefusal::Stranger);
+pub const STRANGER: Reply = Reply::Refused(CrewRefusal::Stranger);
 
 #[test]
 fn calls_of_a_worker(rt: HostRuntime) -> Result<(), Fail> {

@@ -28,7 +28,7 @@ record ToldCalls (made : List (Option Name)) (n at : ℕ) (s : Told) (calls : Li
   each : All (HasItsAnswer made n) own
 
 -- names that were made stay known
-knows_one : (n at : ℕ) (s t : Told) (call : Call) → MayTell n at s call t → Knows t.made s.made
+pub knows_one : (n at : ℕ) (s t : Told) (call : Call) → MayTell n at s call t → Knows t.made s.made
 knows_one n at s t call m =
     let r : Replayed = record { made = s.made; entries = s.entries; world = m.0 } in
     subst (λ (made : List (Option Name)). Knows made s.made) (ap (λ (t : Told). t.made) m.2) (called_knows r at call)
@@ -38,16 +38,16 @@ knows_all n at s t [] m = rw m (λ target name e. e)
 knows_all n at s t (call ∷ calls) m = λ target name e. knows_all n at m.0 t calls m.2 target name (knows_one n at s m.0 call m.1 target name e)
 
 -- the entries of one call
-record OneTold (made : List (Option Name)) (n at : ℕ) (s : Told) (call : Call) (t : Told) : Type 0 where
-  own : List Entry
-  name : Option Name
-  entries : t.entries ≡ s.entries ++ own
-  names : t.made ≡ s.made ++ name ∷ []
-  tells : TellsEvent n s.made (record { worker = at; call = call }) name own
-  run : RunsTo s.heap (calls_on at made own) (answers_on at own) t.heap
-  each : All (HasItsAnswer made n) own
+pub record OneTold (made : List (Option Name)) (n at : ℕ) (s : Told) (call : Call) (t : Told) : Type 0 where
+  pub own : List Entry
+  pub name : Option Name
+  pub entries : t.entries ≡ s.entries ++ own
+  pub names : t.made ≡ s.made ++ name ∷ []
+  pub tells : TellsEvent n s.made (record { worker = at; call = call }) name own
+  pub run : RunsTo s.heap (calls_on at made own) (answers_on at own) t.heap
+  pub each : All (HasItsAnswer made n) own
 
-one_told : (made : List (Option Name)) (n at : ℕ) (s t : Told) (call : Call) → at < n → Knows made s.made → MayTell n at s call t → OneTold made n at s call t
+pub one_told : (made : List (Option Name)) (n at : ℕ) (s t : Told) (call : Call) → at < n → Knows made s.made → MayTell n at s call t → OneTold made n at s call t
 one_told made n at s t call at_in known m =
     let w = m.0 in
     let r : Replayed = record { made = s.made; entries = s.entries; world = w } in

@@ -1,5 +1,5 @@
 -- The room that the records of a race have when they come back is that which was made for what waited and for the scripts.
-use Rattle.std.proofs.Common.{◌≡◌, ℕ, ◌+◌, ◌<◌, List, Some, length, set, vec_capacity, sym, ◌∙◌, ap, subst, arith, refl, inl, inr}
+use Rattle.std.proofs.Common.{◌≡◌, ℕ, ◌+◌, ◌<◌, List, Some, length, set, vec_capacity, sym, ◌∙◌, ap, arith, inl, inr}
 use Rattle.std.specs.List.{slice_get}
 use Rattle.std.specs.declared.vec.Vec.{Vec}
 use Rattle.std.specs.declared.alloc.Global.{Global}
@@ -11,7 +11,7 @@ use Rattle.tlsf_calls.specs.declared.call.Call.{Call}
 use Rattle.tlsf_crew.specs.yard.Yard.{IsYard, take_at, end_from_in}
 use Rattle.tlsf_crew.specs.yard.World.{World, world_of}
 use Rattle.tlsf_crew.specs.yard.Settle.{HaveMet}
-use Rattle.tlsf_crew.specs.yard.Counts.{sum_below, count_of, ready_from, releases_of}
+use Rattle.tlsf_crew.specs.yard.Counts.{count_of, ready_from, releases_of}
 use Rattle.tlsf_crew.specs.threads.Race.{script_of}
 use Rattle.tlsf_crew.specs.threads.Rooms.{HaveRecordRooms}
 use Rattle.tlsf_crew.specs.threads.Parts.{HaveRooms, KeepRooms}

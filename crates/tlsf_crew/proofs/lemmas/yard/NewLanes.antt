@@ -194,7 +194,7 @@ alone_push [] w n alone p t (suc x) a is = cc
 alone_push (z ∷ ws) w n alone p t zero a is = alone zero a is
 alone_push (z ∷ ws) w n alone p t (suc x) a is = alone_push ws w n (λ y b q. alone (suc y) b q) p t x a is
 
-no_slot : {X : Type 0} (n y : ℕ) → slot_of (slice_get (replicate {A = Option X} n None) y) ≡ None
+pub no_slot : {X : Type 0} (n y : ℕ) → slot_of (slice_get (replicate {A = Option X} n None) y) ≡ None
 no_slot zero y = refl
 no_slot (suc n) zero = refl
 no_slot (suc n) (suc y) = no_slot n y

@@ -1,0 +1,99 @@
+-- A worker's own calls keep its place in a yard over queues.
+use Rattle.std.proofs.Common.{◌≡◌, ℕ, Option, Some, None, Result, sym, ◌∙◌, ap, arith, refl, inl, inr, subst}
+use Rattle.std.proofs.lemmas.Bool.{cases_eq}
+use Rattle.tlsf_heap.specs.declared.name.Name.{Name}
+use Rattle.tlsf_post.specs.Mailboxes.{KeepsPoster, KeepsOwner}
+use Rattle.tlsf_post.specs.declared.owner_end.OwnerEnd.{OwnerEnd}
+use Rattle.tlsf_post.specs.declared.poster_end.PosterEnd.{PosterEnd}
+use Rattle.tlsf_post.specs.declared.post.Post.{Post}
+use Rattle.tlsf_crew.specs.declared.queues.queue_worker.QueueWorker.{QueueWorker}
+use Rattle.tlsf_crew.specs.queues.QueueWorkers.{queue_heap, queue_end_to, KnowsQueueYard, KeepsSlot, KeepsQueueYards, SameButQueueHeap, PutToQueue, TookFromQueue}
+use Rattle.tlsf_crew.proofs.lemmas.yard.OwnHeaps.{KeepsHeap, same_heap_keeps}
+use Rattle.tlsf_crew.proofs.lemmas.yard.Slots.{some_same}
+
+-- ---- ends
+
+pub same_owner : (o n : OwnerEnd) → n ≡ o → KeepsOwner o n
+same_owner o n e = subst (KeepsOwner o) (sym e) (refl, refl, refl, refl, refl)
+
+pub owner_then : (o m n : OwnerEnd) → KeepsOwner o m → KeepsOwner m n → KeepsOwner o n
+owner_then o m n x y = (y.0 ∙ x.0, y.1 ∙ x.1, y.2 ∙ x.2, y.3 ∙ x.3, y.4 ∙ x.4)
+
+pub slot_same : (o : Option PosterEnd) → KeepsSlot o o
+slot_same None = tt
+slot_same (Some p) = (refl, refl)
+
+slot_is : (o s : Option PosterEnd) → s ≡ o → KeepsSlot o s
+slot_is o s e = subst (KeepsSlot o) (sym e) (slot_same o)
+
+slot_then : (o s t : Option PosterEnd) → KeepsSlot o s → KeepsSlot s t → KeepsSlot o t
+slot_then None None None x y = tt
+slot_then None None (Some r) x y = y
+slot_then None (Some q) t x y = absurd x
+slot_then (Some p) None t x y = absurd x
+slot_then (Some p) (Some q) None x y = y
+slot_then (Some p) (Some q) (Some r) x y = (y.0 ∙ x.0, y.1 ∙ x.1)
+
+-- an end that stays
+pub slot_kept : (o s : Option PosterEnd) (p : PosterEnd) → KeepsSlot o s → o ≡ Some p → (q : PosterEnd) × (s ≡ Some q) × KeepsPoster p q
+slot_kept None s p k e = absurd cc
+slot_kept (Some r) None p k e = absurd k
+slot_kept (Some r) (Some q) p k e = (q, refl, subst (λ (r : PosterEnd). KeepsPoster r q) (some_same r p e) k)
+
+pub slot_none : (o s : Option PosterEnd) → KeepsSlot o s → o ≡ None → s ≡ None
+slot_none None None k e = refl
+slot_none None (Some q) k e = absurd k
+slot_none (Some p) s k e = absurd cc
+
+-- ---- places in a yard
+
+pub keeps_heap : (a v : QueueWorker) → SameButQueueHeap a v → KeepsHeap (queue_heap a) (queue_heap v) → KeepsQueueYards a v
+keeps_heap a v same kept = record {
+  number = same.0;
+  heap = kept;
+  own = same_owner a.own v.own same.1;
+  posts = λ j. slot_is (queue_end_to a j) (queue_end_to v j) (ap (λ f. f j) same.2);
+}
+
+pub keeps_all : (a : QueueWorker) → KeepsQueueYards a a
+keeps_all a = keeps_heap a a (refl, refl, refl) (same_heap_keeps (queue_heap a) (queue_heap a) refl)
+
+pub keeps_put : (a v : QueueWorker) (j : ℕ) (name : Name) (answer : Result (Unit {0}) Name) → PutToQueue a v j name answer → KeepsQueueYards a v
+keeps_put a v j name answer put = record {
+  number = put.same.1;
+  heap = same_heap_keeps (queue_heap a) (queue_heap v) put.same.0;
+  own = same_owner a.own v.own put.same.2;
+  posts = λ k. elim (cases_eq k j) [
+    | inl e ↦ rw (e, put.end_is, put.new_end_is) put.mailbox
+    | inr e ↦ slot_is (queue_end_to a k) (queue_end_to v k) (put.others k e)
+  ];
+}
+
+pub keeps_take : (a v : QueueWorker) (answer : Option Post) → TookFromQueue a v answer → KeepsQueueYards a v
+keeps_take a v answer took = record {
+  number = took.same.1;
+  heap = same_heap_keeps (queue_heap a) (queue_heap v) took.same.0;
+  own = took.mailbox;
+  posts = λ k. slot_is (queue_end_to a k) (queue_end_to v k) (ap (λ f. f k) took.same.2);
+}
+
+pub keeps_then : (a b v : QueueWorker) → KeepsQueueYards a b → KeepsQueueYards b v → KeepsQueueYards a v
+keeps_then a b v x y = record {
+  number = y.number ∙ x.number;
+  heap = (y.heap.0 ∙ x.heap.0, λ lawful. y.heap.1 (x.heap.1 lawful));
+  own = owner_then a.own b.own v.own x.own y.own;
+  posts = λ j. slot_then (queue_end_to a j) (queue_end_to b j) (queue_end_to v j) (x.posts j) (y.posts j);
+}
+
+-- a worker that knows its yard goes on knowing it
+pub knows_kept : (n : ℕ) (a v : QueueWorker) → KeepsQueueYards a v → KnowsQueueYard n a → KnowsQueueYard n v
+knows_kept n a v keeps k = record {
+  few = k.few;
+  self = omega (arith, keeps.number, k.self);
+  own = (keeps.own.1 ∙ (k.own.0 ∙ sym keeps.number), keeps.own.2 ∙ k.own.1);
+  to = λ j other.
+      let old = k.to j (other.0, λ e. other.1 (e ∙ sym keeps.number)) in
+      let kept = slot_kept (queue_end_to a j) (queue_end_to v j) old.0 (keeps.posts j) old.1 in
+      (kept.0, kept.1, kept.2.1 ∙ (old.2 ∙ sym keeps.number));
+  none = λ j far. slot_none (queue_end_to a j) (queue_end_to v j) (keeps.posts j) (k.none j (λ other. far (other.0, λ e. other.1 (e ∙ keeps.number))));
+}

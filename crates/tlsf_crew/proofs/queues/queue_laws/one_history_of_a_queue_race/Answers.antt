@@ -1,0 +1,5 @@
+use Rattle.tlsf_crew.proofs.lemmas.queues.QueueRecords.{queue_race_tells, queue_race_runs, queue_race_posts, queue_race_lawful, queue_race_always}
+use Rattle.tlsf_crew.proofs.queues.queue_laws.one_history_of_a_queue_race.Goals as goal
+
+pub returns : goal.returns
+returns c = record { told = queue_race_tells; heaps = queue_race_runs; posts = queue_race_posts; lawful = queue_race_lawful; always_lawful = queue_race_always }

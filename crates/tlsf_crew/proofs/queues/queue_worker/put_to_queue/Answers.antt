@@ -1,0 +1,40 @@
+use Rattle.std.proofs.Common.{◌≡◌, ◌∙◌, arith, refl, sym, ap, Some, None}
+use Rattle.std.specs.Option.{option_copied_mut}
+use Rattle.std.proofs.lemmas.Option.{slice_get_within}
+use Rattle.tlsf_crew.proofs.lemmas.yard.StandingEnd.{same_end, end_stands}
+use Rattle.tlsf_crew.proofs.lemmas.yard.Slots.{from_slot, slot_new, slot_other}
+use Rattle.tlsf_crew.proofs.queues.queue_worker.put_to_queue.Goals as goal
+
+pub returns-clause-put : goal.returns-clause-put
+returns-clause-put g c =
+    let e = c.put.ensures in
+    let p = c.requires.0 in
+    let xs = c.args.poster.now.posts.items in
+    let is = from_slot _ p c.requires.1 in
+    let a : Some c.in-Some.end.now ≡ c.index_mut.result.now = sym (ap option_copied_mut c.in-Some.is) ∙ c.as_mut.ensures.value in
+    let pe : c.in-Some.end.now ≡ p = same_end _ xs c.args.j _ _ c.index_mut.ensures.value is a in
+    record {
+      end = p;
+      new_end = c.put.new.self;
+      end_is = c.requires.1;
+      new_end_is = slot_new xs _ c.args.j c.put.new.self (slice_get_within xs c.args.j (Some p) is) refl;
+      others = slot_other xs _ c.args.j c.put.new.self refl;
+      same = (refl, refl, refl);
+      mailbox = rw (← pe) e.mailbox;
+      ok = rw (← pe) e.ok;
+      full = rw (← pe) e.full;
+    }
+
+pub index_mut-requires : goal.index_mut-requires
+index_mut-requires g c =
+    let xs = c.args.poster.now.posts in
+    let l = xs.ok in
+    omega (arith, slice_get_within xs.items c.args.j (Some c.requires.0) (from_slot _ c.requires.0 c.requires.1))
+
+pub unreachable-requires : goal.unreachable-requires
+unreachable-requires g c =
+    let none : None ≡ c.index_mut.result.now = sym (ap option_copied_mut c.in_default.is) ∙ c.as_mut.ensures.value in
+    absurd (end_stands _ c.args.poster.now.posts.items c.args.j _ c.index_mut.ensures.value (from_slot _ c.requires.0 c.requires.1) none)
+
+pub returns-clause-heap : goal.returns-clause-heap
+returns-clause-heap g c = refl

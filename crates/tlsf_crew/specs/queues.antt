@@ -1,0 +1,18 @@
+-- Yards over queues: one queue for each owner, into which all others post; their workers, and races over them.
+
+-- What the calls of a worker over queues answer and leave.
+pub mod QueueCalls
+-- What the record of a worker over queues tells: its calls, and what its drains took.
+pub mod QueueHistory
+-- What a drain of a queue notes of the posts that it takes. For private functions alone.
+pub mod QueueNotes
+-- How a yard over queues is opened.
+pub mod QueueOpening
+-- What the workers of a race over queues are answered: each record by itself, and how the records fit together.
+pub mod QueueRace
+-- What a worker over queues is told by its calls, one after another.
+pub mod QueueTold
+-- What a worker over queues shows: its heap, its number, the end of its own queue, and its end of each other queue.
+pub mod QueueWorkers
+-- A yard over queues, when it is whole, and the world that it shows.
+pub mod QueueYard

@@ -1,0 +1,22 @@
+-- What a drain of a queue notes of the posts that it takes. This serves the contracts and proofs of private functions alone.
+use Rattle.std.specs.Prelude.{◌≡◌, ℕ, ◌<◌, ◌⊎◌, List, [], ◌∷◌, length, Some, None}
+use Rattle.tlsf_calls.specs.declared.drained.Drained.{Drained}
+use Rattle.tlsf_calls.specs.declared.took.Took.{Took}
+use Rattle.tlsf_crew.specs.yard.LaneTurns.{IsCountOf}
+use Rattle.tlsf_crew.specs.declared.queues.queue_worker.QueueWorker.{QueueWorker}
+use Rattle.tlsf_crew.specs.queues.QueueWorkers.{queue_id}
+use Rattle.tlsf_crew.specs.queues.QueueCalls.{TakenFromQueue}
+
+-- worker a becomes v by takes, which answered these one after another, and notes x become y
+abbrev pub QueueNotedInTurn : {N : Type 0} → (N → ℕ → Took → N → Type 0) → QueueWorker → QueueWorker → N → N → List Took → Type 0
+QueueNotedInTurn noted a v x y [] = (v ≡ a) × (y ≡ x)
+QueueNotedInTurn {N} noted a v x y (took ∷ tooks) =
+    (b : QueueWorker) × (z : N) × TakenFromQueue a b (Some took) × noted x (queue_id b) took z × QueueNotedInTurn noted b v z y tooks
+
+-- a drain ends where `most` posts were taken, or with a take that shows no post
+pub record QueueNoted {N : Type 0} (noted : N → ℕ → Took → N → Type 0) (a v : QueueWorker) (x y : N) (most : ℕ) (answer : Drained) : Type 0 where
+  pub tooks : List Took
+  pub last : QueueWorker
+  pub takes : QueueNotedInTurn noted a last x y tooks
+  pub end : ((length tooks ≡ most) × (v ≡ last)) ⊎ ((length tooks < most) × TakenFromQueue last v None)
+  pub count : IsCountOf answer tooks

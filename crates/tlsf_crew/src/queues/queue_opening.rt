@@ -1,0 +1,164 @@
+//! How a yard over queues is opened.
+ghost use Rattle.std.specs.Prelude.{◌≡◌, ◌↔◌, ℕ, ◌<◌, ◌≤◌, Some, None, length, map, vec_len, vec_capacity, slice_get, slice_set, replicate, IfOk, IsErrOf};
+ghost use Rattle.tlsf_heap.specs.Calls.{opened};
+ghost use Rattle.tlsf_heap.specs.Lawful.{IsRegion};
+ghost use Rattle.tlsf_post.specs.Mailboxes.{number_of, below_but};
+ghost use Rattle.tlsf_crew.specs.declared.queues.queue_worker.QueueWorker.{QueueWorker};
+ghost use Rattle.tlsf_crew.specs.yard.Opening.{AreSizes, opened_world};
+ghost use Rattle.tlsf_crew.specs.queues.QueueWorkers.{queue_heap, queue_id};
+ghost use Rattle.tlsf_crew.specs.queues.QueueYard.{IsQueueYard, queue_world_of};
+ghost use Rattle.tlsf_crew.specs.queues.QueueOpening.{AreFreshQueues, AreGiven, AreEnds, GaveEnds};
+
+use crate::queues::queue_worker::QueueWorker;
+use crate::yard::opening::{MOST_CAPACITY, MOST_WORKERS, no_ends, open_heap};
+use std::alloc::Global;
+use tlsf_heap::{MOST_WORDS, OpenFault};
+use tlsf_post::{NoMemory, OwnerEnd, PosterEnd, mailbox};
+
+/// Opens a yard over queues of `n` workers, 1 to 8, numbered from 0: each owns a heap of its number over `words` words,
+/// 4 to 2^20, and a queue into which all others post, of up to `capacity` posts, 1 to 1,024.
+///
+/// Refused as `BadSize` where a number is out of range, else as `NoMemory` where memory was not granted.
+///
+/// - `fresh`: nothing was put into a queue or taken out of one.
+///
+/// ```
+/// let mut workers = open_queue_yard(alloc, 3, 1024, 16)?; // three heaps of 8 KiB, and three queues of up to 16 posts
+/// let name = workers[0].allocate(100)?;                   // a block of worker 0
+/// workers[1].post(rt, name)?;                             // its name waits in the queue of worker 0
+/// ```
+pub fn open_queue_yard(
+    alloc: Global,
+    n: u32,
+    words: u32,
+    capacity: u32,
+) -> Result<Vec<QueueWorker>, OpenFault>
+    ensures yard { IfOk result (λ workers. IsQueueYard workers.items) }
+    ensures world { IfOk result (λ workers. queue_world_of workers.items ≡ opened_world n words capacity) }
+    ensures fresh { IfOk result (λ workers. AreFreshQueues workers.items) }
+
+    // The refusals.
+    ensures bad_size { IsErrOf result OpenFault.BadSize ↔ ¬ (AreSizes n words capacity) }
+    ensures never_worn { ¬ (IsErrOf result OpenFault.Worn) }
+{
+    if n < 1
+        || n > MOST_WORKERS
+        || words < 4
+        || words > MOST_WORDS
+        || capacity < 1
+        || capacity > MOST_CAPACITY
+    {
+        return Err(OpenFault::BadSize);
+    }
+    match open_queue_workers(alloc, n, words, capacity) {
+        Ok(workers) => Ok(workers),
+        Err(_) => Err(OpenFault::NoMemory),
+    }
+}
+
+fn open_queue_workers(
+    alloc: Global,
+    n: u32,
+    words: u32,
+    capacity: u32,
+) -> Result<Vec<QueueWorker>, NoMemory>
+    requires { AreSizes n words capacity }
+    ensures yard { IfOk result (λ workers. IsQueueYard workers.items) }
+    ensures world { IfOk result (λ workers. queue_world_of workers.items ≡ opened_world n words capacity) }
+    ensures fresh { IfOk result (λ workers. AreFreshQueues workers.items) }
+{
+    let (mut workers, mut ends) = open_without_ends(alloc, n, words, capacity)?;
+    give_all(&mut workers, &mut ends);
+    Ok(workers)
+}
+
+/// Opens workers with no ends to others' queues, and answers these ends apart, queue by queue.
+fn open_without_ends(
+    alloc: Global,
+    n: u32,
+    words: u32,
+    capacity: u32,
+) -> Result<(Vec<QueueWorker>, Vec<Vec<PosterEnd>>), NoMemory>
+    requires { AreSizes n words capacity }
+    ensures given { IfOk result (λ r. AreGiven n words capacity n r.0.items) }
+    ensures ends { IfOk result (λ r. AreEnds r.0.items r.1.items × (vec_len r.1 ≡ n)) }
+{
+    let mut workers = Vec::with_capacity(alloc, n as usize)?;
+    let mut ends = Vec::with_capacity(alloc, n as usize)?;
+    for id in 0..n {
+        let (own, posters) = mailbox(alloc, id, n, capacity)?;
+        workers.push_reserved(open_queue_worker(alloc, id, n, words, own)?);
+        ends.push_reserved(posters);
+    }
+    Ok((workers, ends))
+}
+
+/// Opens a worker with room for ends to `n` queues.
+fn open_queue_worker(
+    alloc: Global,
+    id: u32,
+    n: u32,
+    words: u32,
+    own: OwnerEnd,
+) -> Result<QueueWorker, NoMemory>
+    requires { IsRegion words }
+    ensures heap { IfOk result (λ worker. queue_heap worker ≡ opened id words 0) }
+    ensures numbers { IfOk result (λ worker. (queue_id worker ≡ id) × (worker.own ≡ own)) }
+    ensures posts { IfOk result (λ worker. worker.posts.items ≡ replicate n None) }
+{
+    let posts = no_ends(alloc, n)?;
+    let heap = open_heap(alloc, id, words)?;
+    Ok(QueueWorker {
+        heap,
+        id,
+        own,
+        posts,
+    })
+}
+
+/// Gives each worker its end to each other queue, the last one first.
+fn give_all(workers: &mut [QueueWorker], ends: &mut Vec<Vec<PosterEnd>>)
+    requires given { (words : ℕ) × (capacity : ℕ) × AreGiven (length workers.old) words capacity (vec_len ends.old) workers.old }
+    requires ends { AreEnds workers.old ends.old.items × (vec_len ends.old ≤ length workers.old) }
+    ensures { (words capacity : ℕ) → AreGiven (length workers.old) words capacity (vec_len ends.old) workers.old
+        → AreGiven (length workers.old) words capacity 0 workers.new }
+{
+    let Some(mut posters) = ends.pop() else {
+        return;
+    };
+    let k = workers.len();
+    give_ends(workers, ends.len(), k, &mut posters);
+    give_all(workers, ends);
+}
+
+/// Gives each worker below `k` its end to queue `j`, the last one first.
+fn give_ends(workers: &mut [QueueWorker], j: usize, k: usize, posters: &mut Vec<PosterEnd>)
+    requires inside { k ≤ length workers.old }
+    requires slots { (i : ℕ) (a : QueueWorker) → slice_get workers.old i ≡ Some a → j < length a.posts.items }
+    requires numbers { map number_of posters.old.items ≡ below_but j k }
+    ensures { GaveEnds workers.old j k posters.old.items workers.new }
+{
+    if k == 0 {
+        return;
+    }
+    let i = k - 1;
+    if i == j {
+        // The owner has no end to its own queue.
+        give_ends(workers, j, i, posters);
+        return;
+    }
+    let Some(end) = posters.pop() else {
+        unreachable!()
+    };
+    put_end(&mut workers[i], j, end);
+    give_ends(workers, j, i, posters);
+}
+
+/// Puts an end into its slot.
+fn put_end(worker: &mut QueueWorker, j: usize, end: PosterEnd)
+    requires { j < vec_len worker.old.posts }
+    ensures posts { worker.new.posts.items ≡ slice_set worker.old.posts.items j (Some end) }
+    ensures same { (worker.new.heap ≡ worker.old.heap) × (worker.new.id ≡ worker.old.id) × (worker.new.own ≡ worker.old.own) }
+{
+    worker.posts[j] = Some(end);
+}

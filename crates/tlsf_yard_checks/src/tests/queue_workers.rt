@@ -1,0 +1,193 @@
+//! The calls of workers over queues.
+use crate::tests::workers::{STRANGER, heap_refuses, read_of, release_of, resize_of, write};
+use crate::tests::yards::{allocate, drain, take, took};
+use std::alloc::AllocError;
+use std::process::Abort;
+use std::sync::Wait;
+use std::test::Fail;
+use std::thread;
+use std::thread::Threads;
+use tlsf_crew::{Call, Chunk, CrewRefusal, Event, QueueWorker, Reply, Target, open_queue_yard};
+use tlsf_fixtures::{name, same};
+use tlsf_heap::{Name, OpenFault, Refusal};
+
+/// The answer to a read of up to 64 bytes.
+fn read(worker: &mut QueueWorker, name: Name, at: u32, n: u32) -> Result<Reply, CrewRefusal> {
+    let mut out = [0; 64];
+    let Some(part) = out.get_mut(..n as usize) else {
+        return Err(CrewRefusal::Unmade);
+    };
+    worker.read(name, at, part)?;
+    Ok(Chunk::new(part).map_or(Reply::Empty, Reply::Got))
+}
+
+/// Frees a name of the own heap, and posts another's.
+fn let_go<R: Wait>(
+    rt: &R,
+    worker: &mut QueueWorker,
+    at: u32,
+    name: Name,
+) -> Result<Reply, CrewRefusal> {
+    if name.heap == at {
+        worker.free(name)?;
+        return Ok(Reply::Freed);
+    }
+    worker.post(rt, name)?;
+    Ok(Reply::Posted)
+}
+
+/// What a worker answers to one of its calls, as a reply of an event would say it.
+fn reply<R: Wait>(rt: &R, worker: &mut QueueWorker, event: &Event) -> Result<Reply, CrewRefusal> {
+    match event.call {
+        Call::Allocate { len } => Ok(Reply::Made(worker.allocate(len)?)),
+        Call::Release {
+            target: Target::Named(name),
+        } => let_go(rt, worker, event.worker, name),
+        Call::Write {
+            target: Target::Named(name),
+            at,
+            bytes,
+        } => {
+            worker.write(name, at, bytes.as_slice())?;
+            Ok(Reply::Wrote(bytes.as_slice().len() as u32))
+        }
+        Call::Read {
+            target: Target::Named(name),
+            at,
+            n,
+        } => read(worker, name, at, n),
+        Call::Resize {
+            target: Target::Named(name),
+            len,
+        } => {
+            worker.resize(name, len)?;
+            Ok(Reply::Resized)
+        }
+        Call::Take { .. } => Ok(worker.take(rt).map_or(Reply::Empty, Reply::Took)),
+        Call::Drain { most } => Ok(Reply::Drained(worker.drain(rt, most).taken)),
+        _ => Err(CrewRefusal::Unmade),
+    }
+}
+
+/// Has workers make calls, and holds each answer to the one that is wanted.
+fn check_calls<R: Abort + Wait>(rt: &R, workers: &mut [QueueWorker], rows: &[(Event, Reply)]) {
+    for (i, (event, wanted)) in rows.iter().enumerate() {
+        if let Some(worker) = workers.get_mut(event.worker as usize) {
+            let found = reply(rt, worker, event).unwrap_or_else(Reply::Refused);
+            same((i, found), (i, *wanted)).expect(rt, "differ");
+        }
+    }
+}
+
+// Workers 1 and 2 share the one place of worker 0's queue.
+#[test]
+fn calls_of_a_queue_worker(rt: HostRuntime) -> Result<(), Fail> {
+    let mut workers = open_queue_yard(rt.alloc(), 3, 64, 1)?;
+    let block = name(0, 0, 1);
+    let bytes = Chunk::new(b"ab").ok_or("up to 64 bytes")?;
+    let read = Chunk::new(b"\0ab").ok_or("up to 64 bytes")?;
+    let rows = [
+        (allocate(0, 8), Reply::Made(block)),
+        (write(0, block, 1, bytes), Reply::Wrote(2)),
+        (read_of(0, block, 0, 3), Reply::Got(read)),
+        (resize_of(0, block, 100), Reply::Resized),
+        (write(1, block, 1, bytes), heap_refuses(Refusal::Foreign)),
+        (resize_of(1, block, 8), heap_refuses(Refusal::Foreign)),
+        (take(0, 1), Reply::Empty),
+        (release_of(1, block), Reply::Posted),
+        (
+            release_of(2, block),
+            Reply::Refused(CrewRefusal::Full(block)),
+        ),
+        (release_of(2, name(3, 0, 1)), STRANGER),
+        (take(0, 2), took(1, block, Ok(()))),
+        (release_of(2, block), Reply::Posted),
+        (drain(0, 0), Reply::Drained(0)),
+        (drain(0, 8), Reply::Drained(1)),
+        (release_of(0, block), heap_refuses(Refusal::Stale)),
+        (allocate(0, 8), Reply::Made(name(0, 0, 4))),
+        (release_of(0, name(0, 0, 4)), Reply::Freed),
+    ];
+    check_calls(&rt, &mut workers, &rows);
+    Ok(())
+}
+
+// A worker frees its own names alone, and posts those of others alone.
+#[test]
+fn names_of_the_wrong_heap(rt: HostRuntime) -> Result<(), Fail> {
+    let mut workers = open_queue_yard(rt.alloc(), 2, 64, 4)?;
+    let worker = workers.first_mut().ok_or("two workers")?;
+    let block = worker.allocate(8)?;
+    let found = (worker.post(&rt, block), worker.free(name(1, 0, 1)));
+    let foreign = Err(CrewRefusal::Heap(Refusal::Foreign));
+    same(found, (foreign, foreign)).expect(&rt, "differ");
+    let report = worker.report();
+    same((report.live_blocks, report.live_bytes), (1, 8)).expect(&rt, "differ");
+    Ok(())
+}
+
+#[test]
+fn sizes_out_of_range_of_queues(rt: HostRuntime) {
+    for (n, words, capacity, fault) in [
+        (0, 64, 4, Some(OpenFault::BadSize)),
+        (9, 64, 4, Some(OpenFault::BadSize)),
+        (2, 3, 4, Some(OpenFault::BadSize)),
+        (2, (1 << 20) + 1, 4, Some(OpenFault::BadSize)),
+        (2, 64, 0, Some(OpenFault::BadSize)),
+        (2, 64, 1025, Some(OpenFault::BadSize)),
+        (8, 4, 1024, None),
+    ] {
+        let refused = open_queue_yard(rt.alloc(), n, words, capacity).err();
+        same((n, words, capacity, refused), (n, words, capacity, fault)).expect(&rt, "differ");
+    }
+}
+
+/// Moves two workers into threads of their own, where each posts the name of a block, and takes them back.
+fn post_away<R: Threads + Wait + Sync>(
+    rt: &R,
+    one: QueueWorker,
+    two: QueueWorker,
+    blocks: (Name, Name),
+) -> Result<(QueueWorker, QueueWorker), AllocError> {
+    thread::scope(thread::scope_env(), rt, move |scope| {
+        let first = scope.spawn(move || {
+            let mut worker = one;
+            let _ = worker.post(rt, blocks.0);
+            worker
+        })?;
+        let second = scope.spawn(move || {
+            let mut worker = two;
+            let _ = worker.post(rt, blocks.1);
+            worker
+        })?;
+        Ok((first.join(rt), second.join(rt)))
+    })
+}
+
+#[test]
+fn queue_workers_come_back_from_threads(rt: HostRuntime) -> Result<(), Fail> {
+    let mut workers = open_queue_yard(rt.alloc(), 3, 64, 2)?;
+    let blocks = (name(0, 0, 1), name(0, 4, 2));
+    let rows = [
+        (allocate(0, 8), Reply::Made(blocks.0)),
+        (allocate(0, 8), Reply::Made(blocks.1)),
+    ];
+    check_calls(&rt, &mut workers, &rows);
+    let two = workers.pop().ok_or("the third of three workers")?;
+    let one = workers.pop().ok_or("the second of three workers")?;
+    let (one, two) = post_away(&rt, one, two, blocks)?;
+    workers.push(one)?;
+    workers.push(two)?;
+    let rows = [
+        (
+            release_of(1, blocks.0),
+            Reply::Refused(CrewRefusal::Full(blocks.0)),
+        ),
+        (drain(0, 8), Reply::Drained(2)),
+        (drain(0, 8), Reply::Drained(0)),
+    ];
+    check_calls(&rt, &mut workers, &rows);
+    let report = workers.first_mut().ok_or("three workers")?.report();
+    same((report.live_blocks, report.free_blocks), (0, 1)).expect(&rt, "differ");
+    Ok(())
+}
