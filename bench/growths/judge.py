@@ -12,7 +12,7 @@ import sys
 
 PROGRAM, LIBRARY, WORK = sys.argv[1:]
 COUNTS = os.path.join(WORK, "counts")
-CALLS = ["Heap::open", "Pool::open", "LockedHeap::new", "lane", "open_yard", "replay_events"]
+CALLS = ["Heap::open", "Pool::open", "LockedHeap::new", "lane", "mailbox", "open_queue_yard", "open_yard", "replay_events"]
 DONE = [f"{call} done" for call in CALLS] + ["first serial 1"]
 
 
@@ -30,7 +30,7 @@ def lacking(lines):
     for i, call in enumerate(CALLS):
         if lines == DONE[:i] + [f"{call} NoMemory"] + DONE[i + 1 :]:
             return call
-    return "the second yard" if lines == DONE[:5] else None
+    return "the second yard" if lines == DONE[: CALLS.index("replay_events")] else None
 
 
 def main():
