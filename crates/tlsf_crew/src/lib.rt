@@ -29,7 +29,7 @@ mod queues;
 mod threads;
 mod yard;
 
-pub use queues::queue_laws::one_history_of_a_queue_race;
+pub use queues::queue_laws::{one_history_of_a_queue_race, queues_join_the_yard};
 pub use queues::queue_opening::open_queue_yard;
 pub use queues::queue_worker::QueueWorker;
 pub use threads::alone::race_without_takes;

@@ -8,3 +8,5 @@ pub mod QueueKept
 pub mod QueueOpened
 -- A record over queues tells the calls of its script and the history of its worker's heap.
 pub mod QueueRecords
+-- Each worker of a whole yard over queues has an end to each other queue, and the yard stays whole where one takes the place of the one that it was.
+pub mod QueueYards

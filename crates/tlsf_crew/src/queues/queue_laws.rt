@@ -1,11 +1,35 @@
-ghost use Rattle.std.specs.Prelude.{◌≡◌, ◌≢◌, ℕ, ◌<◌, ◌++◌, List, [], ◌∷◌, length};
+ghost use Rattle.std.specs.Prelude.{◌≡◌, ◌≢◌, ◌↔◌, ℕ, ◌<◌, ◌++◌, List, [], ◌∷◌, length, Some, slice_get, slice_set};
 ghost use Rattle.tlsf_crew.specs.yard.History.{AreLawful, RunsThrough, RunsTo, answers_on, calls_on, posts_made, posts_taken};
 ghost use Rattle.tlsf_crew.specs.yard.World.{World, heap_in};
 ghost use Rattle.tlsf_crew.specs.threads.Race.{last_call, record_of, script_of};
+ghost use Rattle.tlsf_crew.specs.yard.Yard.{IsHeapOf};
+ghost use Rattle.tlsf_crew.specs.declared.queues.queue_worker.QueueWorker.{QueueWorker};
+ghost use Rattle.tlsf_crew.specs.queues.QueueWorkers.{queue_heap, queue_id, HasQueueEnd, IsOtherOf, KeepsQueueYards};
+ghost use Rattle.tlsf_crew.specs.queues.QueueYard.{IsQueueYard};
 ghost use Rattle.tlsf_crew.specs.queues.QueueHistory.{TellsQueue};
 ghost use Rattle.tlsf_crew.specs.queues.QueueRace.{IsQueueRace};
 ghost use Rattle.tlsf_calls.specs.declared.call.Call.{Call};
 ghost use Rattle.tlsf_calls.specs.declared.entry.Entry.{Entry};
+
+/// In a whole yard over queues each worker has an end to the queue of each other worker and none else. So
+/// [`crate::QueueWorker::post`] answers `Stranger` exactly where a name is of the heap of no worker. A worker stays one of
+/// its yard by each of its calls.
+///
+/// ```
+/// let mut workers = open_queue_yard(alloc, 3, 1024, 8)?;
+/// let posted = workers[1].post(rt, name); // Err(CrewRefusal::Stranger) where `name.heap` is 3 or above
+/// ```
+pub fn queues_join_the_yard()
+    // Worker i has the number i, and a lawful heap of that number.
+    ensures ids { (ws : List QueueWorker) (i : ℕ) (a : QueueWorker) → IsQueueYard ws → slice_get ws i ≡ Some a → queue_id a ≡ i }
+    ensures heaps { (ws : List QueueWorker) (i : ℕ) (a : QueueWorker) → IsQueueYard ws → slice_get ws i ≡ Some a → IsHeapOf i (queue_heap a) }
+
+    // Its ends.
+    ensures to { (ws : List QueueWorker) (i j : ℕ) (a : QueueWorker) → IsQueueYard ws → slice_get ws i ≡ Some a → (HasQueueEnd a j ↔ IsOtherOf (length ws) i j) }
+
+    // What each call's clause `yard` says of a worker keeps the yard whole.
+    ensures kept { (ws : List QueueWorker) (i : ℕ) (a v : QueueWorker) → IsQueueYard ws → slice_get ws i ≡ Some a → KeepsQueueYards a v → IsQueueYard (slice_set ws i v) }
+{}
 
 /// In a race over queues each heap has one history too, in the words of [`crate::one_history`]: each call made on it and
 /// each post taken for it stands once, in its caller's order, and each answer is that of the sequential heap at that

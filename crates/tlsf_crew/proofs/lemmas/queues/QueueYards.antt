@@ -1,0 +1,92 @@
+-- Each worker of a whole yard over queues has an end to each other queue, and the yard stays whole where one takes the place of the one that it was.
+use Rattle.std.proofs.Common.{◌≡◌, ℕ, List, Option, Some, None, length, set, sym, ◌∙◌, ap, arith, refl, inl, inr, subst}
+use Rattle.std.specs.List.{slice_get}
+use Rattle.std.proofs.lemmas.Option.{slice_get_within}
+use Rattle.std.specs.Prelude.{◌↔◌}
+use Rattle.std.proofs.lemmas.Bool.{cases_eq, cases_lt}
+use Rattle.std.proofs.lemmas.List.{length-set}
+use Rattle.tlsf_post.specs.Mailboxes.{KeepsPoster}
+use Rattle.tlsf_post.specs.declared.poster_end.PosterEnd.{PosterEnd}
+use Rattle.tlsf_crew.specs.declared.queues.queue_worker.QueueWorker.{QueueWorker}
+use Rattle.tlsf_crew.specs.yard.Yard.{IsHeapOf}
+use Rattle.tlsf_crew.specs.queues.QueueWorkers.{queue_heap, queue_id, queue_end_to, HasQueueEnd, IsOtherOf, KnowsQueueYard, KeepsQueueYards, KeepsSlot}
+use Rattle.tlsf_crew.specs.queues.QueueYard.{IsQueueYard, first_capacity, queue_capacity_in}
+use Rattle.tlsf_crew.proofs.lemmas.yard.Slots.{get_set_same, get_set_other, none_or_some, some_same}
+use Rattle.tlsf_crew.proofs.lemmas.queues.QueueKept.{keeps_all, knows_kept}
+
+-- ---- one worker
+
+pub queue_number : (ws : List QueueWorker) (i : ℕ) (a : QueueWorker) → IsQueueYard ws → slice_get ws i ≡ Some a → queue_id a ≡ i
+queue_number ws i a yard is = let w = yard.workers i a is in w.number
+
+pub own_queue_heap : (ws : List QueueWorker) (i : ℕ) (a : QueueWorker) → IsQueueYard ws → slice_get ws i ≡ Some a → IsHeapOf i (queue_heap a)
+own_queue_heap ws i a yard is = let w = yard.workers i a is in w.heap
+
+pub queues_joined : (ws : List QueueWorker) (i j : ℕ) (a : QueueWorker) → IsQueueYard ws → slice_get ws i ≡ Some a → HasQueueEnd a j ↔ IsOtherOf (length ws) i j
+queues_joined ws i j a yard is =
+    let w = yard.workers i a is in
+    let k = w.knows in (
+      (λ has. elim (cases_lt j (length ws)) [
+        | inl lt ↦ elim (cases_eq j i) [
+          | inl e ↦ absurd (none_or_some (queue_end_to a j) has.0 (k.none j (λ other. other.1 (e ∙ sym w.number))) has.1)
+          | inr ne ↦ (lt, ne)
+        ]
+        | inr ge ↦ absurd (none_or_some (queue_end_to a j) has.0 (k.none j (λ other. let lt = other.0 in omega arith)) has.1)
+      ]),
+      (λ other. let end = k.to j (other.0, λ e. other.1 (e ∙ w.number)) in (end.0, end.1)),
+    )
+
+-- ---- one worker in the place of another
+
+-- where an end is now there was one
+slot_was : (o s : Option PosterEnd) (q : PosterEnd) → KeepsSlot o s → s ≡ Some q → (p : PosterEnd) × (o ≡ Some p) × KeepsPoster p q
+slot_was None None q k e = absurd cc
+slot_was None (Some r) q k e = absurd k
+slot_was (Some p) None q k e = absurd k
+slot_was (Some p) (Some r) q k e = (p, refl, subst (λ (z : PosterEnd). KeepsPoster p z) (some_same r q e) k)
+
+-- the worker that was in a place, and what has stayed of it
+record Was (ws : List QueueWorker) (x : ℕ) (b : QueueWorker) : Type 0 where
+  old : QueueWorker
+  is : slice_get ws x ≡ Some old
+  keeps : KeepsQueueYards old b
+
+was : (ws : List QueueWorker) (i x : ℕ) (a v b : QueueWorker) → slice_get ws i ≡ Some a → KeepsQueueYards a v → slice_get (set ws i v) x ≡ Some b → Was ws x b
+was ws i x a v b is keeps at = elim (cases_eq x i) [
+  | inl e ↦
+      let b_is : v ≡ b = some_same v b (sym (get_set_same ws i v (slice_get_within ws i a is)) ∙ (sym (ap (slice_get (set ws i v)) e) ∙ at)) in
+      record { old = a; is = ap (slice_get ws) e ∙ is; keeps = subst (KeepsQueueYards a) b_is keeps }
+  | inr ne ↦ record { old = b; is = sym (get_set_other ws i x v ne) ∙ at; keeps = keeps_all b }
+]
+
+same_capacity : (ws : List QueueWorker) (i : ℕ) (a v : QueueWorker) → slice_get ws i ≡ Some a → KeepsQueueYards a v → queue_capacity_in (set ws i v) ≡ queue_capacity_in ws
+same_capacity ws i a v is keeps = elim (cases_eq 0 i) [
+  | inl e ↦
+      let new : slice_get (set ws i v) 0 ≡ Some v = ap (slice_get (set ws i v)) e ∙ get_set_same ws i v (slice_get_within ws i a is) in
+      let old : slice_get ws 0 ≡ Some a = ap (slice_get ws) e ∙ is in
+      ap first_capacity new ∙ (keeps.own.3 ∙ sym (ap first_capacity old))
+  | inr ne ↦ ap first_capacity (get_set_other ws i 0 v ne)
+]
+
+pub queue_yard_kept : (ws : List QueueWorker) (i : ℕ) (a v : QueueWorker) → IsQueueYard ws → slice_get ws i ≡ Some a → KeepsQueueYards a v → IsQueueYard (set ws i v)
+queue_yard_kept ws i a v yard is keeps =
+    let len : length (set ws i v) ≡ length ws = length-set ws i v in
+    let room = same_capacity ws i a v is keeps in
+    record {
+      few = omega (arith, len, yard.few);
+      small = omega (arith, room, yard.small);
+      workers = λ x b at.
+          let w = was ws i x a v b is keeps at in
+          let old = yard.workers x w.old w.is in
+          record {
+            number = w.keeps.number ∙ old.number;
+            knows = subst (λ (n : ℕ). KnowsQueueYard n b) (sym len) (knows_kept (length ws) w.old b w.keeps old.knows);
+            heap = (w.keeps.heap.0 ∙ old.heap.0, w.keeps.heap.1 old.heap.1);
+            room = w.keeps.own.3 ∙ (old.room ∙ sym room);
+          };
+      mailboxes = λ x y b c q at_x at_y q_is.
+          let w = was ws i x a v b is keeps at_x in
+          let u = was ws i y a v c is keeps at_y in
+          let p = slot_was (queue_end_to w.old y) (queue_end_to b y) q (w.keeps.posts y) q_is in
+          p.2.0 ∙ (yard.mailboxes x y w.old u.old p.0 w.is u.is p.1 ∙ sym u.keeps.own.0);
+    }
