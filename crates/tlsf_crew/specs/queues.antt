@@ -4,6 +4,8 @@
 pub mod QueueCalls
 -- What the record of a worker over queues tells: its calls, and what its drains took.
 pub mod QueueHistory
+-- What the calls of one worker of a race over queues answer and leave. For private functions alone.
+pub mod QueueMoves
 -- What a drain of a queue notes of the posts that it takes. For private functions alone.
 pub mod QueueNotes
 -- How a yard over queues is opened.

@@ -22,6 +22,8 @@ pub mod NewLanes
 pub mod Notes
 -- How a yard is opened.
 pub mod Opening
+-- What a worker's own heap replies to a call of a script, and what it leaves.
+pub mod OwnReplies
 -- What the steps of a replay answer and leave. For private functions alone.
 pub mod ReplaySteps
 -- What `settle` tells of the lanes of a yard.

@@ -7,6 +7,7 @@ pub(crate) mod laws;
 pub(crate) mod notes;
 pub(crate) mod opening;
 pub(crate) mod own_calls;
+pub(crate) mod own_replies;
 pub(crate) mod pairs;
 pub(crate) mod replay;
 pub(crate) mod room;

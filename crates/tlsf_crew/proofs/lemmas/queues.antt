@@ -1,5 +1,7 @@
 -- Lemmas on yards over queues and on races over them.
 
+-- A call that a worker's own heap replied to is told as in a world in which the worker has that heap.
+pub mod OwnTold
 -- Takes one after another from a queue make up a drain.
 pub mod QueueDrains
 -- A worker's own calls keep its place in a yard over queues.
@@ -8,5 +10,7 @@ pub mod QueueKept
 pub mod QueueOpened
 -- A record over queues tells the calls of its script and the history of its worker's heap.
 pub mod QueueRecords
+-- One call of a worker over queues, and the entries that tell of it.
+pub mod QueueSteps
 -- Each worker of a whole yard over queues has an end to each other queue, and the yard stays whole where one takes the place of the one that it was.
 pub mod QueueYards

@@ -70,6 +70,8 @@ pub mod OwnAnswers
 pub mod OwnCalls
 -- A call leaves a heap its number, and leaves it lawful.
 pub mod OwnHeaps
+-- What a heap answers is what its worker replies: where the call's target means a name, and where it means none.
+pub mod OwnReplied
 -- Where all lanes of a yard were settled, all posts that wait are ready; a change of one lane changes their sum by that lane.
 pub mod Pending
 -- A take or a drain keeps the names.

@@ -132,11 +132,17 @@ fn give_all(workers: &mut [QueueWorker], ends: &mut Vec<Vec<PosterEnd>>)
 }
 
 /// Gives each worker below `k` its end to queue `j`, the last one first.
-fn give_ends(workers: &mut [QueueWorker], j: usize, k: usize, posters: &mut Vec<PosterEnd>)
+pub(crate) fn give_ends(
+    workers: &mut [QueueWorker],
+    j: usize,
+    k: usize,
+    posters: &mut Vec<PosterEnd>,
+)
     requires inside { k ≤ length workers.old }
     requires slots { (i : ℕ) (a : QueueWorker) → slice_get workers.old i ≡ Some a → j < length a.posts.items }
     requires numbers { map number_of posters.old.items ≡ below_but j k }
-    ensures { GaveEnds workers.old j k posters.old.items workers.new }
+    ensures gave { GaveEnds workers.old j k posters.old.items workers.new }
+    ensures capacity { vec_capacity posters.new ≡ vec_capacity posters.old }
 {
     if k == 0 {
         return;

@@ -1,21 +1,21 @@
 //! The executor: one call of a script on one worker, with its entries and the name that it made.
-ghost use Rattle.std.specs.Prelude.{◌≡◌, ℕ, ◌+◌, ◌<◌, ◌≤◌, [], ◌∷◌, ◌++◌, List, Option, length, vec_len, vec_capacity};
+ghost use Rattle.std.specs.Prelude.{◌≡◌, ℕ, ◌+◌, ◌<◌, ◌≤◌, [], ◌∷◌, ◌++◌, List, Option, vec_len, vec_capacity};
 ghost use Rattle.tlsf_heap.specs.declared.name.Name.{Name};
 ghost use Rattle.tlsf_calls.specs.declared.call.Call.TheVariants.{Allocate, Release, Write, Read, Resize, Take};
-ghost use Rattle.tlsf_heap.specs.Calls.{read_of};
-ghost use Rattle.tlsf_crew.specs.yard.Calls.{by_heap};
 ghost use Rattle.tlsf_calls.specs.Bytes.{bytes_of};
-ghost use Rattle.tlsf_crew.specs.yard.Heaps.{as_chunk, chunk_read};
-ghost use Rattle.tlsf_crew.specs.yard.Workers.{heap_of, id_of, SameButHeap, HasTake, KnowsYard};
+ghost use Rattle.tlsf_crew.specs.yard.Workers.{id_of, HasTake, KnowsYard};
 ghost use Rattle.tlsf_crew.specs.yard.World.{allocating, releasing_named, writing_named, reading_named, resizing_named, taking, name_of, made_by};
 ghost use Rattle.tlsf_crew.specs.yard.Counts.{sum_of};
 ghost use Rattle.tlsf_crew.specs.yard.Moves.{CallStep, TookWithin, EachLaneSpent, Stepped, Called};
 ghost use Rattle.tlsf_crew.specs.yard.Notes.{HasRoom};
 
 use crate::yard::journal::Journal;
+use crate::yard::own_replies::{
+    named, reply_to_own_allocate, reply_to_own_read, reply_to_own_resize, reply_to_own_write,
+};
 use crate::yard::worker::{Worker, drain_noting, take_next};
 use tlsf_calls::{Call, Chunk, CrewRefusal, Entry, Event, Released, Reply, Target, Took};
-use tlsf_heap::{Name, Refusal};
+use tlsf_heap::Name;
 
 /// The name that a reply made.
 fn made_name(reply: Reply) -> Option<Name>
@@ -48,30 +48,11 @@ pub(crate) fn answer(
     });
 }
 
-/// The name that a target means.
-pub(crate) fn named(target: Target, made: &[Option<Name>]) -> Option<Name>
-    ensures { result ≡ name_of made.now target }
-{
-    match target {
-        Target::Named(name) => Some(name),
-        Target::Made(k) => {
-            if (k as usize) < made.len() {
-                return made[k as usize];
-            }
-            None
-        }
-        Target::Absent => None,
-    }
-}
-
 /// Allocates `len` bytes on the own heap.
 fn reply_to_allocate(worker: &mut Worker, len: u32) -> Reply
     ensures { (made : List (Option Name)) (limits : List ℕ) → CallStep made worker.old limits (Allocate len) worker.new limits result (λ w. allocating w (id_of worker.old) len) }
 {
-    match worker.allocate(len) {
-        Ok(name) => Reply::Made(name),
-        Err(why) => Reply::Refused(why),
-    }
+    reply_to_own_allocate(&mut worker.heap, len)
 }
 
 /// Releases what a target means: a block of the own heap, or by a post another's.
@@ -98,53 +79,7 @@ fn reply_to_write(
 ) -> Reply
     ensures { (limits : List ℕ) → CallStep made.now worker.old limits (Write target from bytes) worker.new limits result (λ w. writing_named w (id_of worker.old) (name_of made.now target) from (bytes_of bytes)) }
 {
-    let Some(name) = named(target, made) else {
-        return Reply::Refused(CrewRefusal::Unmade);
-    };
-    let list = bytes.as_slice();
-    match worker.write(name, from, list) {
-        Ok(()) => Reply::Wrote(list.len() as u32),
-        Err(why) => Reply::Refused(why),
-    }
-}
-
-/// Fills up to 64 bytes from a block of the own heap.
-fn read_into(
-    worker: &mut Worker,
-    name: Name,
-    from: u32,
-    out: &mut [u8],
-) -> Result<Chunk, CrewRefusal>
-    requires { length out.old ≤ 64 }
-    ensures answer { result ≡ by_heap (as_chunk (read_of (heap_of worker.old) name from (length out.old))) }
-    ensures same { SameButHeap worker.old worker.new }
-    ensures heap { heap_of worker.new ≡ heap_of worker.old }
-{
-    match worker.read(name, from, out) {
-        Ok(()) => match Chunk::new(out) {
-            Some(chunk) => Ok(chunk),
-            // It can't come: `out` has no more bytes than a chunk holds.
-            None => Err(CrewRefusal::Heap(Refusal::Range)),
-        },
-        Err(why) => Err(why),
-    }
-}
-
-/// Reads up to 64 bytes of a block of the own heap. More are refused as `Range`, where the heap doesn't refuse the name.
-fn read_chunk(worker: &mut Worker, name: Name, from: u32, n: u32) -> Result<Chunk, CrewRefusal>
-    ensures answer { result ≡ by_heap (chunk_read (heap_of worker.old) name from n) }
-    ensures same { SameButHeap worker.old worker.new }
-    ensures heap { heap_of worker.new ≡ heap_of worker.old }
-{
-    let mut bytes = [0u8; 64];
-    if n > 64 {
-        // A read of no bytes: what the heap says of the name alone.
-        return match worker.read(name, from, &mut bytes[..0]) {
-            Ok(()) => Err(CrewRefusal::Heap(Refusal::Range)),
-            Err(why) => Err(why),
-        };
-    }
-    read_into(worker, name, from, &mut bytes[..n as usize])
+    reply_to_own_write(&mut worker.heap, target, from, bytes, made)
 }
 
 /// Reads `n` bytes of the own block that a target means, from byte `from` of it on. More than 64 are refused.
@@ -157,26 +92,14 @@ fn reply_to_read(
 ) -> Reply
     ensures { (limits : List ℕ) → CallStep made.now worker.old limits (Read target from n) worker.new limits result (λ w. reading_named w (id_of worker.old) (name_of made.now target) from n) }
 {
-    let Some(name) = named(target, made) else {
-        return Reply::Refused(CrewRefusal::Unmade);
-    };
-    match read_chunk(worker, name, from, n) {
-        Ok(bytes) => Reply::Got(bytes),
-        Err(why) => Reply::Refused(why),
-    }
+    reply_to_own_read(&mut worker.heap, target, from, n, made)
 }
 
 /// Resizes the own block that a target means, where it stands.
 fn reply_to_resize(worker: &mut Worker, target: Target, len: u32, made: &[Option<Name>]) -> Reply
     ensures { (limits : List ℕ) → CallStep made.now worker.old limits (Resize target len) worker.new limits result (λ w. resizing_named w (id_of worker.old) (name_of made.now target) len) }
 {
-    let Some(name) = named(target, made) else {
-        return Reply::Refused(CrewRefusal::Unmade);
-    };
-    match worker.resize(name, len) {
-        Ok(()) => Reply::Resized,
-        Err(why) => Reply::Refused(why),
-    }
+    reply_to_own_resize(&mut worker.heap, target, len, made)
 }
 
 /// Takes the next post from another worker, and counts its limit down. At a limit of 0 the lane isn't asked.

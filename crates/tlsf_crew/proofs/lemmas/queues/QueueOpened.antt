@@ -116,7 +116,7 @@ all_middle : (P : PosterEnd → Type 0) (before after : List PosterEnd) (p : Pos
 all_middle P [] after p all = All-head P p after all
 all_middle P (b ∷ before) after p all = all_middle P before after p (All-tail P b (before ++ p ∷ after) all)
 
-of_all : (P : PosterEnd → Type 0) (ps before after : List PosterEnd) (p : PosterEnd) → ps ≡ before ++ p ∷ after → All P ps → P p
+pub of_all : (P : PosterEnd → Type 0) (ps before after : List PosterEnd) (p : PosterEnd) → ps ≡ before ++ p ∷ after → All P ps → P p
 of_all P ps before after p e all = all_middle P before after p (subst (All P) e all)
 
 -- the worker that was there before, and how it has changed: the owner of the queue is the same, all others got an end
@@ -221,7 +221,7 @@ get_front [] x a k e = cc
 get_front (y ∷ xs) x a zero e = e
 get_front (y ∷ xs) x a (suc k) e = get_front xs x a k e
 
-some_at : {X : Type 0} (xs : List X) (k : ℕ) → k < length xs → (x : X) × (slice_get xs k ≡ Some x)
+pub some_at : {X : Type 0} (xs : List X) (k : ℕ) → k < length xs → (x : X) × (slice_get xs k ≡ Some x)
 some_at [] k lt = absurd (omega arith)
 some_at (x ∷ xs) zero lt = (x, refl)
 some_at (x ∷ xs) (suc k) lt = some_at xs k (omega arith)

@@ -83,7 +83,7 @@ posted_same at made target name known =
     let one = told_own (λ e. post_of_release name.heap made e.worker e.call e.reply) at e refl in
     rw (one, known, of_same name.heap name refl) refl
 
-release_posts_elsewhere : (at j : ℕ) (made : List (Option Name)) (target : Target) (name : Name) → name_of made target ≡ Some name → j ≢ name.heap
+pub release_posts_elsewhere : (at j : ℕ) (made : List (Option Name)) (target : Target) (name : Name) → name_of made target ≡ Some name → j ≢ name.heap
     → posts_made at j made (one at (Release target) Posted) ≡ []
 release_posts_elsewhere at j made target name known ne =
     let e : Entry = record { worker = at; call = Release target; reply = Posted } in

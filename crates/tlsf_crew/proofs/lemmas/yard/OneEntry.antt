@@ -47,7 +47,7 @@ heap_lanes a v same = record {
 
 -- ---- no entry
 
-no_entry : (before : List Entry) (e : Entry) → StandsBehind [] before e → ⊥
+pub no_entry : (before : List Entry) (e : Entry) → StandsBehind [] before e → ⊥
 no_entry [] e s = let h = s.1 in cc
 no_entry (b ∷ before) e s = let h = s.1 in cc
 

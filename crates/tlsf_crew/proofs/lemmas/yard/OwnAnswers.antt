@@ -22,11 +22,13 @@ use Rattle.tlsf_calls.specs.Bytes.{bytes_of}
 use Rattle.tlsf_crew.specs.yard.Heaps.{released, written, resized, chunk_read}
 use Rattle.tlsf_crew.specs.yard.Workers.{heap_of, id_of, end_to, SameButHeap, HasPost, PutTo, KnowsYard}
 use Rattle.tlsf_crew.specs.yard.Calls.{KeepsYards, by_heap, freed_by, posted_by, ReleasedHere, ReleasedThere}
+use Rattle.tlsf_crew.specs.yard.OwnReplies.{own_reading, own_resizing, own_writing}
 use Rattle.tlsf_crew.specs.yard.World.{World, Replied, heap_in, name_of, freeing, posting, releasing, releasing_named, writing, writing_named, reading, reading_named, resizing, resizing_named, reply_freed, reply_wrote, reply_got, reply_resized}
 use Rattle.tlsf_crew.specs.yard.Told.{HasHeap}
 use Rattle.tlsf_crew.specs.yard.Moves.{ModelReplies, CallStep}
 use Rattle.tlsf_crew.proofs.lemmas.yard.AllEntries.{more_knows}
-use Rattle.tlsf_crew.proofs.lemmas.yard.YardKept.{same_keeps}
+use Rattle.tlsf_crew.proofs.lemmas.yard.OwnReplied.{read_keeps, resize_keeps, write_keeps}
+use Rattle.tlsf_crew.proofs.lemmas.yard.YardKept.{heap_keeps, same_keeps}
 use Rattle.tlsf_crew.proofs.lemmas.yard.LaneMoves.{moved_post, none_free, still_full}
 use Rattle.tlsf_crew.proofs.lemmas.yard.OneEvent.{releasing_post, releasing_far}
 use Rattle.tlsf_crew.proofs.lemmas.yard.OneEntry.{IsIdle, moved_still, moved_idle}
@@ -83,7 +85,7 @@ freed_idle : (at : ℕ) (later : List (Option Name)) (a : Worker) (limits : List
 freed_idle at later a limits target (Ok done) = freed_quiet at later a limits target
 freed_idle at later a limits target (Err why) = refused_release at later a limits target (Heap why) (λ name e. cc)
 
-own_name : (w : World) (at : ℕ) (name : Name) → name.heap ≡ at → releasing w at name ≡ freeing w at name
+pub own_name : (w : World) (at : ℕ) (name : Name) → name.heap ≡ at → releasing w at name ≡ freeing w at name
 own_name w at name e = let b : (name.heap == at) ≡ true = grind (arith, nat_tests) in rw b refl
 
 freed_here : (n : ℕ) (a v : Worker) (name : Name) → heap_of v ≡ (heap.released (heap_of a) name).heap → name.heap ≡ id_of a → KnowsYard n a → (w : World) → HasHeap w n (id_of a) (heap_of a)
@@ -98,11 +100,11 @@ freed_here n a v name h own k w has =
           ∙ ap (λ r. heap_in r.world at) (sym e)));
     }
 
-posted_world : (w : World) (at : ℕ) (name : Name) → length (w.waiting at name.heap) ≢ w.capacity → ((posting w at name).reply ≡ Posted) × (heap_in (posting w at name).world at ≡ heap_in w at)
+pub posted_world : (w : World) (at : ℕ) (name : Name) → length (w.waiting at name.heap) ≢ w.capacity → ((posting w at name).reply ≡ Posted) × (heap_in (posting w at name).world at ≡ heap_in w at)
 unfolding posting
 posted_world w at name ne = let b : (length (w.waiting at name.heap) == w.capacity) ≡ false = grind (arith, nat_tests) in (rw b refl, rw b refl)
 
-full_world : (w : World) (at : ℕ) (name : Name) → length (w.waiting at name.heap) ≡ w.capacity → posting w at name ≡ record { reply = Refused (Full name); world = w }
+pub full_world : (w : World) (at : ℕ) (name : Name) → length (w.waiting at name.heap) ≡ w.capacity → posting w at name ≡ record { reply = Refused (Full name); world = w }
 unfolding posting
 full_world w at name e = let b : (length (w.waiting at name.heap) == w.capacity) ≡ true = grind (arith, nat_tests) in rw b refl
 
@@ -244,13 +246,6 @@ wrote_idle : (at from count : ℕ) (bytes : Chunk) (later : List (Option Name)) 
 wrote_idle at from count bytes later a limits target (Ok done) = wrote_quiet at from count bytes later a limits target
 wrote_idle at from count bytes later a limits target (Err why) = refused_write at from bytes later a limits target (Heap why) (λ name e. cc)
 
-pub write_unmade : (made : List (Option Name)) (a : Worker) (limits : List ℕ) (target : Target) (from : ℕ) (bytes : Chunk) → None ≡ name_of made target
-    → CallStep made a limits (Write target from bytes) a limits (Refused Unmade) (λ w. writing_named w (id_of a) (name_of made target) from (bytes_of bytes))
-write_unmade made a limits target from bytes none =
-    subst (λ o. CallStep made a limits (Write target from bytes) a limits (Refused Unmade) (λ w. writing_named w (id_of a) o from (bytes_of bytes))) none
-    (itself_answered made a limits (Write target from bytes) (Refused Unmade) (λ w. writing_named w (id_of a) None from (bytes_of bytes))
-    (λ later. refused_write (id_of a) from bytes later a limits target Unmade (λ name e. cc)) (λ n k w e. refl))
-
 written_here : (n : ℕ) (a v : Worker) (name : Name) (from : ℕ) (bytes : List ℕ) → heap_of v ≡ (heap.written (heap_of a) name from bytes).heap → KnowsYard n a
     → (w : World) → HasHeap w n (id_of a) (heap_of a)
     → ModelReplies (id_of a) v (reply_wrote (length bytes) (heap.written (heap_of a) name from bytes).answer) (writing w (id_of a) name from bytes)
@@ -307,13 +302,6 @@ resize_idle : (at len : ℕ) (later : List (Option Name)) (a : Worker) (limits :
 resize_idle at len later a limits target (Ok done) = resize_quiet at len later a limits target
 resize_idle at len later a limits target (Err why) = refused_resize at len later a limits target (Heap why) (λ name e. cc)
 
-pub resize_unmade : (made : List (Option Name)) (a : Worker) (limits : List ℕ) (target : Target) (len : ℕ) → None ≡ name_of made target
-    → CallStep made a limits (Resize target len) a limits (Refused Unmade) (λ w. resizing_named w (id_of a) (name_of made target) len)
-resize_unmade made a limits target len none =
-    subst (λ o. CallStep made a limits (Resize target len) a limits (Refused Unmade) (λ w. resizing_named w (id_of a) o len)) none
-    (itself_answered made a limits (Resize target len) (Refused Unmade) (λ w. resizing_named w (id_of a) None len)
-    (λ later. refused_resize (id_of a) len later a limits target Unmade (λ name e. cc)) (λ n k w e. refl))
-
 resize_here : (n : ℕ) (a v : Worker) (name : Name) (len : ℕ) → heap_of v ≡ (heap.resized (heap_of a) name len).heap → KnowsYard n a
     → (w : World) → HasHeap w n (id_of a) (heap_of a)
     → ModelReplies (id_of a) v (reply_resized (heap.resized (heap_of a) name len).answer) (resizing w (id_of a) name len)
@@ -369,13 +357,6 @@ got_idle : (at from n : ℕ) (later : List (Option Name)) (a : Worker) (limits :
 got_idle at from n later a limits target (Ok bytes) = got_quiet at from n later a limits target bytes
 got_idle at from n later a limits target (Err why) = refused_read at from n later a limits target (Heap why) (λ name e. cc)
 
-pub read_unmade : (made : List (Option Name)) (a : Worker) (limits : List ℕ) (target : Target) (from n : ℕ) → None ≡ name_of made target
-    → CallStep made a limits (Read target from n) a limits (Refused Unmade) (λ w. reading_named w (id_of a) (name_of made target) from n)
-read_unmade made a limits target from n none =
-    subst (λ o. CallStep made a limits (Read target from n) a limits (Refused Unmade) (λ w. reading_named w (id_of a) o from n)) none
-    (itself_answered made a limits (Read target from n) (Refused Unmade) (λ w. reading_named w (id_of a) None from n)
-    (λ later. refused_read (id_of a) from n later a limits target Unmade (λ name e. cc)) (λ m k w e. refl))
-
 read_here : (m : ℕ) (a v : Worker) (name : Name) (from n : ℕ) → heap_of v ≡ heap_of a → (w : World) → HasHeap w m (id_of a) (heap_of a)
     → ModelReplies (id_of a) v (reply_got (chunk_read (heap_of a) name from n)) (reading w (id_of a) name from n)
 read_here m a v name from n h w has =
@@ -401,3 +382,43 @@ got_ok (Err why) bytes e = cc
 pub got_err : (o : Result Chunk Refusal) (why : CrewRefusal) → Err why ≡ by_heap o → Refused why ≡ reply_got o
 got_err (Ok x) why e = cc
 got_err (Err x) why e = let q : why ≡ Heap x = cc in ap Refused q
+
+-- ---- whatever a target means
+
+unmade_here : (n : ℕ) (a v : Worker) → heap_of v ≡ heap_of a → (w : World) → HasHeap w n (id_of a) (heap_of a) → ModelReplies (id_of a) v (Refused Unmade) (record { reply = Refused Unmade; world = w })
+unmade_here n a v h w has = record { reply = refl; left = h ∙ sym has.1 }
+
+pub write_by_target : (made : List (Option Name)) (a v : Worker) (limits : List ℕ) (target : Target) (from : ℕ) (bytes : Chunk) (reply : Reply) (o : Option Name) → o ≡ name_of made target → SameButHeap a v
+    → reply ≡ (own_writing (heap_of a) o from (bytes_of bytes)).reply → heap_of v ≡ (own_writing (heap_of a) o from (bytes_of bytes)).heap
+    → CallStep made a limits (Write target from bytes) v limits reply (λ w. writing_named w (id_of a) (name_of made target) from (bytes_of bytes))
+unfolding written
+write_by_target made a v limits target from bytes reply None known same e h =
+    subst (λ o. CallStep made a limits (Write target from bytes) v limits reply (λ w. writing_named w (id_of a) o from (bytes_of bytes))) known
+    (subst (λ r. CallStep made a limits (Write target from bytes) v limits r (λ w. writing_named w (id_of a) None from (bytes_of bytes))) (sym e)
+    (answered_quiet made a v limits (Write target from bytes) (Refused Unmade) (λ w. writing_named w (id_of a) None from (bytes_of bytes)) same (heap_keeps a v same (write_keeps (heap_of a) (heap_of v) None from (bytes_of bytes) h))
+    (λ later. refused_write (id_of a) from bytes later a limits target Unmade (λ name e. cc)) (λ n k w has s. unmade_here n a v h w has)))
+write_by_target made a v limits target from bytes reply (Some name) known same e h =
+    write_answered made a v limits target name from bytes (bytes_of bytes) reply known refl same (heap_keeps a v same (write_keeps (heap_of a) (heap_of v) (Some name) from (bytes_of bytes) h)) e h
+
+pub resize_by_target : (made : List (Option Name)) (a v : Worker) (limits : List ℕ) (target : Target) (len : ℕ) (reply : Reply) (o : Option Name) → o ≡ name_of made target → SameButHeap a v
+    → reply ≡ (own_resizing (heap_of a) o len).reply → heap_of v ≡ (own_resizing (heap_of a) o len).heap
+    → CallStep made a limits (Resize target len) v limits reply (λ w. resizing_named w (id_of a) (name_of made target) len)
+unfolding resized
+resize_by_target made a v limits target len reply None known same e h =
+    subst (λ o. CallStep made a limits (Resize target len) v limits reply (λ w. resizing_named w (id_of a) o len)) known
+    (subst (λ r. CallStep made a limits (Resize target len) v limits r (λ w. resizing_named w (id_of a) None len)) (sym e)
+    (answered_quiet made a v limits (Resize target len) (Refused Unmade) (λ w. resizing_named w (id_of a) None len) same (heap_keeps a v same (resize_keeps (heap_of a) (heap_of v) None len h))
+    (λ later. refused_resize (id_of a) len later a limits target Unmade (λ name e. cc)) (λ n k w has s. unmade_here n a v h w has)))
+resize_by_target made a v limits target len reply (Some name) known same e h =
+    resize_answered made a v limits target name len reply known same (heap_keeps a v same (resize_keeps (heap_of a) (heap_of v) (Some name) len h)) e h
+
+pub read_by_target : (made : List (Option Name)) (a v : Worker) (limits : List ℕ) (target : Target) (from n : ℕ) (reply : Reply) (o : Option Name) → o ≡ name_of made target → SameButHeap a v
+    → reply ≡ (own_reading (heap_of a) o from n).reply → heap_of v ≡ (own_reading (heap_of a) o from n).heap
+    → CallStep made a limits (Read target from n) v limits reply (λ w. reading_named w (id_of a) (name_of made target) from n)
+read_by_target made a v limits target from n reply None known same e h =
+    subst (λ o. CallStep made a limits (Read target from n) v limits reply (λ w. reading_named w (id_of a) o from n)) known
+    (subst (λ r. CallStep made a limits (Read target from n) v limits r (λ w. reading_named w (id_of a) None from n)) (sym e)
+    (answered_quiet made a v limits (Read target from n) (Refused Unmade) (λ w. reading_named w (id_of a) None from n) same (heap_keeps a v same (read_keeps (heap_of a) (heap_of v) None from n h))
+    (λ later. refused_read (id_of a) from n later a limits target Unmade (λ name e. cc)) (λ m k w has s. unmade_here m a v h w has)))
+read_by_target made a v limits target from n reply (Some name) known same e h =
+    read_answered made a v limits target name from n reply known same (heap_keeps a v same (read_keeps (heap_of a) (heap_of v) (Some name) from n h)) e h

@@ -23,7 +23,7 @@ give_all-requires t c =
     let more : m + 1 ≡ vec_len c.args.ends.now = c.in-Some.ensures.cases in
     let m_is : m ≡ length rest.items = grind (arith, common_steps) in
     let m_in : m < length ws = omega (arith, c.requires.ends.1) in
-    let gave : GaveEnds ws m (length ws) c.in-Some.posters.items vs = subst (λ (j : ℕ). GaveEnds ws j (length ws) c.in-Some.posters.items vs) c.len.ensures c.give_ends.ensures in
+    let gave : GaveEnds ws m (length ws) c.in-Some.posters.items vs = subst (λ (j : ℕ). GaveEnds ws j (length ws) c.in-Some.posters.items vs) c.len.ensures c.give_ends.ensures.gave in
     let g = c.requires.given in
     let next = queue_given (length ws) g.0 g.1 _ m ws vs c.args.ends.now.items rest.items c.in-Some.posters g.2 (sym more) c.requires.ends.0 c.in-Some.ensures.items m_is m_in gave in (
       grind (arith, common_steps),
@@ -42,6 +42,6 @@ returns t c = λ words capacity g.
     let more : m + 1 ≡ vec_len c.args.ends.now = c.in-Some.ensures.cases in
     let m_is : m ≡ length rest.items = grind (arith, common_steps) in
     let m_in : m < length ws = omega (arith, c.requires.ends.1) in
-    let gave : GaveEnds ws m (length ws) c.in-Some.posters.items vs = subst (λ (j : ℕ). GaveEnds ws j (length ws) c.in-Some.posters.items vs) c.len.ensures c.give_ends.ensures in
+    let gave : GaveEnds ws m (length ws) c.in-Some.posters.items vs = subst (λ (j : ℕ). GaveEnds ws j (length ws) c.in-Some.posters.items vs) c.len.ensures c.give_ends.ensures.gave in
     let next = queue_given (length ws) words capacity _ m ws vs c.args.ends.now.items rest.items c.in-Some.posters g (sym more) c.requires.ends.0 c.in-Some.ensures.items m_is m_in gave in
     subst (λ (n : ℕ). AreGiven n words capacity 0 c.give_all.new.workers) gave.count (c.give_all.ensures words capacity (subst (λ (n : ℕ). AreGiven n words capacity m vs) (sym gave.count) next))

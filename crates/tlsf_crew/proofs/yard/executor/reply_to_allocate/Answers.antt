@@ -1,12 +1,13 @@
-use Rattle.tlsf_crew.proofs.lemmas.yard.Witnesses.{allocate_answered, made_ok, made_err}
+use Rattle.std.proofs.Common.{refl}
+use Rattle.tlsf_heap.specs.Calls.{Allocate}
+use Rattle.tlsf_crew.specs.yard.Heaps.{allocated}
+use Rattle.tlsf_crew.proofs.lemmas.yard.OwnHeaps.{call_keeps}
+use Rattle.tlsf_crew.proofs.lemmas.yard.Witnesses.{allocate_answered}
+use Rattle.tlsf_crew.proofs.lemmas.yard.YardKept.{heap_keeps}
 use Rattle.tlsf_crew.proofs.yard.executor.reply_to_allocate.Goals as goal
 
-pub returns-in-Ok : goal.returns-in-Ok
-returns-in-Ok c = λ made limits.
-    let e = c.in-Ok.ensures in
-    allocate_answered made c.args.worker.now c.allocate.new.self limits c.args.len _ e.same e.yard (made_ok _ c.in-Ok.name e.answer) e.heap
-
-pub returns-in-Err : goal.returns-in-Err
-returns-in-Err c = λ made limits.
-    let e = c.in-Err.ensures in
-    allocate_answered made c.args.worker.now c.allocate.new.self limits c.args.len _ e.same e.yard (made_err _ c.in-Err.why e.answer) e.heap
+pub returns : goal.returns
+unfolding allocated
+returns c = λ made limits.
+    let e = c.reply_to_own_allocate.ensures in
+    allocate_answered made c.args.worker.now _ limits c.args.len _ (refl, refl, refl) (heap_keeps _ _ (refl, refl, refl) (call_keeps _ _ (Allocate c.args.len) e.heap)) e.reply e.heap

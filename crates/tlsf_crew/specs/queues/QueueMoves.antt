@@ -1,0 +1,64 @@
+-- What the calls of one worker of a race over queues answer and leave. This serves the contracts and proofs of private functions alone.
+use Rattle.std.specs.Prelude.{◌≡◌, ℕ, ◌+◌, ◌<◌, ◌≤◌, List, [], ◌∷◌, ◌++◌, length, Option, Some}
+use mathlib.Core.List.{IsPrefix}
+use Rattle.tlsf_post.specs.Rule.{posts_of}
+use Rattle.tlsf_post.specs.Mailboxes.{put_by, got_by, known_to}
+use Rattle.tlsf_post.specs.declared.poster_end.PosterEnd.{PosterEnd}
+use Rattle.tlsf_heap.specs.Blocks.{HeapState}
+use Rattle.tlsf_heap.specs.declared.name.Name.{Name}
+use Rattle.tlsf_calls.specs.declared.entry.Entry.{Entry}
+use Rattle.tlsf_calls.specs.declared.call.Call.{Call}
+use Rattle.tlsf_calls.specs.declared.call.Call.TheVariants.{Drain}
+use Rattle.tlsf_calls.specs.declared.reply.Reply.{Reply}
+use Rattle.tlsf_calls.specs.declared.reply.Reply.TheVariants.{Drained}
+use Rattle.tlsf_crew.specs.yard.History.{posts_made, posts_taken, StandsBehind}
+use Rattle.tlsf_crew.specs.yard.Told.{Told, MayTell}
+use Rattle.tlsf_crew.specs.yard.World.{made_by}
+use Rattle.tlsf_crew.specs.declared.queues.queue_worker.QueueWorker.{QueueWorker}
+use Rattle.tlsf_crew.specs.queues.QueueWorkers.{queue_heap, queue_id, queue_end_to, KeepsQueueYards}
+use Rattle.tlsf_crew.specs.queues.QueueTold.{MayTellQueue, MayTellQueueAll}
+
+abbrev pub told_of : List (Option Name) → List Entry → HeapState → Told
+told_of made entries h = record { made = made; entries = entries; heap = h }
+
+abbrev pub entry_by : ℕ → Call → Reply → Entry
+entry_by at call reply = record { worker = at; call = call; reply = reply }
+
+-- ---- a call on a heap
+
+-- a heap answers the call so and becomes the other, whoever its worker is
+abbrev pub TellsOwn : List (Option Name) → HeapState → Call → HeapState → Reply → Type 0
+TellsOwn made h call g reply =
+    (n at : ℕ) (entries : List Entry) → at < n
+    → MayTell n at (told_of made entries h) call (told_of (made ++ made_by reply ∷ []) (entries ++ entry_by at call reply ∷ []) g)
+
+-- ---- what entries tell of the ends
+
+-- worker a, of number `at`, has become v by these calls, as the entries tell. It might take so many posts, and may take what is left
+pub record QueueMoved (at : ℕ) (made : List (Option Name)) (a : QueueWorker) (limit : ℕ) (calls : List Call) (entries : List Entry) (v : QueueWorker) (left : ℕ) : Type 0 where
+  pub yard : KeepsQueueYards a v
+  -- each end put the posts that the entries tell
+  pub sent : (j : ℕ) (p q : PosterEnd) → queue_end_to a j ≡ Some p → queue_end_to v j ≡ Some q → put_by q ≡ put_by p ++ posts_made at j made entries
+  -- and of each worker those were taken that they tell
+  pub taken : (i : ℕ) → posts_of i (got_by v.own) ≡ posts_of i (got_by a.own) ++ posts_taken i at entries
+  -- a drain ended early only where all was taken that was known to have been put
+  pub drained : (before : List Entry) (e : Entry) (most k : ℕ) → StandsBehind entries before e → e.call ≡ Drain most → e.reply ≡ Drained k → k < most
+      → (i : ℕ) → IsPrefix (posts_of i (known_to a.own)) (posts_of i (got_by a.own) ++ posts_taken i at before)
+  pub room : length entries + left ≤ length calls + limit
+
+-- the call was answered so; the entries got longer by those of a drain's takes, and have not its own yet
+pub record QueueStepped (n : ℕ) (a : QueueWorker) (limit : ℕ) (call : Call) (made : List (Option Name)) (entries : List Entry) (v : QueueWorker) (left : ℕ) (longer : List Entry) (reply : Reply) : Type 0 where
+  pub own : List Entry
+  pub entries_are : longer ≡ entries ++ own
+  pub told : MayTellQueue n (queue_id a) (told_of made entries (queue_heap a)) call
+      (told_of (made ++ made_by reply ∷ []) (longer ++ entry_by (queue_id a) call reply ∷ []) (queue_heap v))
+  pub moved : (rest : List (Option Name)) → QueueMoved (queue_id a) (made ++ rest) a limit (call ∷ []) (own ++ entry_by (queue_id a) call reply ∷ []) v left
+
+-- the call was made, and told in full
+pub record QueueCalled (n : ℕ) (a : QueueWorker) (limit : ℕ) (call : Call) (made : List (Option Name)) (entries : List Entry) (v : QueueWorker) (left : ℕ) (more : List (Option Name)) (longer : List Entry) : Type 0 where
+  pub name : Option Name
+  pub made_are : more ≡ made ++ name ∷ []
+  pub own : List Entry
+  pub entries_are : longer ≡ entries ++ own
+  pub told : MayTellQueue n (queue_id a) (told_of made entries (queue_heap a)) call (told_of more longer (queue_heap v))
+  pub moved : (rest : List (Option Name)) → QueueMoved (queue_id a) (made ++ rest) a limit (call ∷ []) own v left
