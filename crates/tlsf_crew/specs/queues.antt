@@ -12,6 +12,8 @@ pub mod QueueNotes
 pub mod QueueOpening
 -- What the workers of a race over queues are answered: each record by itself, and how the records fit together.
 pub mod QueueRace
+-- What is known of the queues of a yard once all ends of each were side by side. For private functions alone.
+pub mod QueueSettle
 -- What a worker over queues is told by its calls, one after another.
 pub mod QueueTold
 -- What a worker over queues shows: its heap, its number, the end of its own queue, and its end of each other queue.

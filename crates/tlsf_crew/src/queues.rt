@@ -5,4 +5,5 @@ pub(crate) mod queue_journal;
 pub(crate) mod queue_laws;
 pub(crate) mod queue_notes;
 pub(crate) mod queue_opening;
+pub(crate) mod queue_settle;
 pub(crate) mod queue_worker;

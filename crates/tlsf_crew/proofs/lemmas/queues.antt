@@ -10,6 +10,8 @@ pub mod QueueKept
 pub mod QueueOpened
 -- A record over queues tells the calls of its script and the history of its worker's heap.
 pub mod QueueRecords
+-- Once all ends of a queue were side by side, its owner knows what was put into it, and all else of the yard stays.
+pub mod QueueSettled
 -- One call of a worker over queues, and the entries that tell of it.
 pub mod QueueSteps
 -- Each worker of a whole yard over queues has an end to each other queue, and the yard stays whole where one takes the place of the one that it was.

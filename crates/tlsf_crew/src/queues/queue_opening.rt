@@ -1,5 +1,5 @@
 //! How a yard over queues is opened.
-ghost use Rattle.std.specs.Prelude.{◌≡◌, ◌↔◌, ℕ, ◌<◌, ◌≤◌, Some, None, length, map, vec_len, vec_capacity, slice_get, slice_set, replicate, IfOk, IsErrOf};
+ghost use Rattle.std.specs.Prelude.{◌≡◌, ◌≢◌, ◌↔◌, ℕ, ◌<◌, ◌≤◌, Some, None, length, map, vec_len, vec_capacity, slice_get, slice_set, replicate, IfOk, IsErrOf};
 ghost use Rattle.tlsf_heap.specs.Calls.{opened};
 ghost use Rattle.tlsf_heap.specs.Lawful.{IsRegion};
 ghost use Rattle.tlsf_post.specs.Mailboxes.{number_of, below_but};
@@ -139,7 +139,7 @@ pub(crate) fn give_ends(
     posters: &mut Vec<PosterEnd>,
 )
     requires inside { k ≤ length workers.old }
-    requires slots { (i : ℕ) (a : QueueWorker) → slice_get workers.old i ≡ Some a → j < length a.posts.items }
+    requires slots { (i : ℕ) (a : QueueWorker) → i ≢ j → slice_get workers.old i ≡ Some a → j < length a.posts.items }
     requires numbers { map number_of posters.old.items ≡ below_but j k }
     ensures gave { GaveEnds workers.old j k posters.old.items workers.new }
     ensures capacity { vec_capacity posters.new ≡ vec_capacity posters.old }

@@ -263,15 +263,15 @@ ends_kept ws vs ends rest ps m fit whole gave j b qs is_b is_qs =
     subst (λ (o : OwnerEnd). IsWhole o qs.items × All (λ p. put_by p ≡ []) qs.items) (sym (earlier_own ws m j b ps.items x)) (fit j x.a qs x.is at)
 
 -- slots stay as many when one is filled
-pub slots_set : (ws : List QueueWorker) (i j : ℕ) (a v : QueueWorker) → slice_get ws i ≡ Some a → length v.posts.items ≡ length a.posts.items → ((x : ℕ) (b : QueueWorker) → slice_get ws x ≡ Some b → j < length b.posts.items)
-    → (x : ℕ) (b : QueueWorker) → slice_get (set ws i v) x ≡ Some b → j < length b.posts.items
-slots_set ws i j a v at len slots x b is =
+pub slots_set : (ws : List QueueWorker) (i j : ℕ) (a v : QueueWorker) → slice_get ws i ≡ Some a → length v.posts.items ≡ length a.posts.items → ((x : ℕ) (b : QueueWorker) → x ≢ j → slice_get ws x ≡ Some b → j < length b.posts.items)
+    → (x : ℕ) (b : QueueWorker) → x ≢ j → slice_get (set ws i v) x ≡ Some b → j < length b.posts.items
+slots_set ws i j a v at len slots x b apart is =
     elim (cases_eq x i) [
       | inl e ↦
           let b_is : v ≡ b = some_same v b (sym (ap (slice_get (set ws i v)) e ∙ get_set_same ws i v (slice_get_within ws i a at)) ∙ is) in
-          let room = slots i a at in
+          let room = slots i a (λ f. apart (e ∙ f)) at in
           subst (λ (w : QueueWorker). j < length w.posts.items) b_is (omega (arith, len))
-      | inr ne ↦ slots x b (sym (get_set_other ws i x v ne) ∙ is)
+      | inr ne ↦ slots x b apart (sym (get_set_other ws i x v ne) ∙ is)
     ]
 
 -- ---- the whole yard

@@ -35,6 +35,9 @@ slot_new xs ys j p lt e = rw (e, get_set_same xs j (Some p) lt) refl
 pub slot_other : {X : Type 0} (xs ys : List (Option X)) (j : ℕ) (p : X) → ys ≡ set xs j (Some p) → (k : ℕ) → k ≢ j → slot_of (slice_get ys k) ≡ slot_of (slice_get xs k)
 slot_other xs ys j p e k ne = rw (e, get_set_other xs j k (Some p) ne) refl
 
+pub slot_emptied : {X : Type 0} (xs ys : List (Option X)) (j : ℕ) → ys ≡ set xs j None → (k : ℕ) → k ≢ j → slot_of (slice_get ys k) ≡ slot_of (slice_get xs k)
+slot_emptied xs ys j e k ne = rw (e, get_set_other xs j k None ne) refl
+
 -- worker x after two are written
 pub got : {X : Type 0} (ws : List X) (i j x : ℕ) (v w : X) → x ≢ i → x ≢ j → slice_get (set (set ws i v) j w) x ≡ slice_get ws x
 got ws i j x v w a b = get_set_other (set ws i v) j x w b ∙ get_set_other ws i x v a

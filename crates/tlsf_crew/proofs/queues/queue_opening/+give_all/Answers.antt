@@ -8,7 +8,7 @@ pub returns-in_default : goal.returns-in_default
 returns-in_default t c = λ words capacity g. subst (λ (m : ℕ). AreGiven (length c.args.workers.now) words capacity m c.args.workers.now) c.in_default.ensures.cases.0 g
 
 pub give_ends-requires-clause-slots : goal.give_ends-requires-clause-slots
-give_ends-requires-clause-slots t c = λ i a is. let w = c.requires.given.2.new i a is in omega (arith, w.slots, c.requires.ends.1, c.in-Some.ensures.cases)
+give_ends-requires-clause-slots t c = λ i a ne is. let w = c.requires.given.2.new i a is in omega (arith, w.slots, c.requires.ends.1, c.in-Some.ensures.cases)
 
 pub give_ends-requires-clause-numbers : goal.give_ends-requires-clause-numbers
 give_ends-requires-clause-numbers t c =

@@ -35,7 +35,7 @@ put_end-requires t c =
     let i = c.args.k - 1 in
     let inside : i < length ws = omega (arith, c.requires.inside) in
     let a : QueueWorker = get_or ws i c.index-workers-i.result in
-    omega (arith, a.posts.ok, c.requires.slots i a (slice_get-get_or ws i c.index-workers-i.result inside))
+    omega (arith, a.posts.ok, c.requires.slots i a c.if-i-j.false (slice_get-get_or ws i c.index-workers-i.result inside))
 
 pub give_ends-requires-2 : goal.give_ends-requires-2
 give_ends-requires-2 t c =
