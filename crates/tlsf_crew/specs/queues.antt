@@ -14,6 +14,8 @@ pub mod QueueOpening
 pub mod QueueRace
 -- What is known of the queues of a yard once all ends of each were side by side. For private functions alone.
 pub mod QueueSettle
+-- What the parts of a race over queues give one another. For private functions alone.
+pub mod QueueTasks
 -- What a worker over queues is told by its calls, one after another.
 pub mod QueueTold
 -- What a worker over queues shows: its heap, its number, the end of its own queue, and its end of each other queue.

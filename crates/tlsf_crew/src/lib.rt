@@ -20,7 +20,8 @@
 //!
 //! [`open_queue_yard`] opens a yard of another kind, with one queue for each owner, into which all others post. Each
 //! [`QueueWorker`] takes from its own. Such a yard (`IsQueueYard`) shows a `World` too; `post`, `take` and `drain` may wait
-//! for another thread's half of a step, and so are passed a runtime.
+//! for another thread's half of a step, and so are passed a runtime. [`race_queues`] races such workers (`IsQueueRace`): each
+//! two records agree on what was posted and taken, poster by poster.
 //!
 //! A [`LockedHeap`] is a heap without an owner, outside any yard; it is `tlsf_lock`'s.
 #![tactic(auto)]
@@ -31,6 +32,8 @@ mod yard;
 
 pub use queues::queue_laws::{one_history_of_a_queue_race, queues_join_the_yard};
 pub use queues::queue_opening::open_queue_yard;
+pub use queues::queue_outcome::QueueOutcome;
+pub use queues::queue_race::race_queues;
 pub use queues::queue_worker::QueueWorker;
 pub use threads::alone::race_without_takes;
 pub use threads::gate::{Gate, OpenGate};

@@ -12,7 +12,7 @@ use Rattle.tlsf_calls.specs.declared.call.Call.TheVariants.{Drain}
 use Rattle.tlsf_calls.specs.declared.reply.Reply.{Reply}
 use Rattle.tlsf_calls.specs.declared.reply.Reply.TheVariants.{Drained}
 use Rattle.tlsf_crew.specs.yard.History.{posts_made, posts_taken, StandsBehind}
-use Rattle.tlsf_crew.specs.yard.Told.{Told, MayTell}
+use Rattle.tlsf_crew.specs.yard.Told.{Told, MayTell, untold}
 use Rattle.tlsf_crew.specs.yard.World.{made_by}
 use Rattle.tlsf_crew.specs.declared.queues.queue_worker.QueueWorker.{QueueWorker}
 use Rattle.tlsf_crew.specs.queues.QueueWorkers.{queue_heap, queue_id, queue_end_to, KeepsQueueYards}
@@ -62,3 +62,11 @@ pub record QueueCalled (n : ℕ) (a : QueueWorker) (limit : ℕ) (call : Call) (
   pub entries_are : longer ≡ entries ++ own
   pub told : MayTellQueue n (queue_id a) (told_of made entries (queue_heap a)) call (told_of more longer (queue_heap v))
   pub moved : (rest : List (Option Name)) → QueueMoved (queue_id a) (made ++ rest) a limit (call ∷ []) own v left
+
+-- ---- a script
+
+-- a worker has made these calls of its script
+pub record QueueScriptRun (n : ℕ) (a : QueueWorker) (limit : ℕ) (calls : List Call) (made : List (Option Name)) (entries : List Entry) (v : QueueWorker) (left : ℕ) : Type 0 where
+  pub told : MayTellQueueAll n (queue_id a) (untold (queue_heap a)) calls (told_of made entries (queue_heap v))
+  pub names : length made ≡ length calls
+  pub moved : (rest : List (Option Name)) → QueueMoved (queue_id a) (made ++ rest) a limit calls entries v left

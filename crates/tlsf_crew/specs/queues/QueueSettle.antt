@@ -1,5 +1,5 @@
 -- What is known of the queues of a yard once all ends of each were side by side. This serves the contracts and proofs of private functions alone.
-use Rattle.std.specs.Prelude.{◌≡◌, ◌≢◌, ◌⊎◌, ℕ, zero, suc, ◌<◌, ◌≤◌, List, [], ◌∷◌, ◌++◌, length, Option, Some, None, slice_get, slice_set}
+use Rattle.std.specs.Prelude.{◌≡◌, ◌≢◌, ◌⊎◌, ℕ, zero, suc, ◌<◌, ◌≤◌, List, [], ◌++◌, length, Option, Some, None, slice_get, slice_set}
 use Rattle.std.specs.Option.{option_to_list}
 use Rattle.tlsf_post.specs.Rule.{posts_of}
 use Rattle.tlsf_post.specs.Mailboxes.{put_by, got_by, known_to, most_of}

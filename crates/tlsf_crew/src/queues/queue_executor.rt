@@ -1,9 +1,9 @@
 //! The executor over queues: one call of a script on one worker, with its entries and the name that it made.
-ghost use Rattle.std.specs.Prelude.{◌≡◌, ℕ, ◌+◌, ◌<◌, List, Option, vec_len, vec_capacity};
+ghost use Rattle.std.specs.Prelude.{◌≡◌, ℕ, ◌+◌, ◌<◌, ◌≤◌, List, Option, vec_len, vec_capacity};
 ghost use Rattle.tlsf_heap.specs.declared.name.Name.{Name};
 ghost use Rattle.tlsf_calls.specs.declared.entry.Entry.{Entry};
 ghost use Rattle.tlsf_calls.specs.declared.call.Call.TheVariants.{Release, Drain};
-ghost use Rattle.tlsf_crew.specs.queues.QueueWorkers.{KnowsQueueYard};
+ghost use Rattle.tlsf_crew.specs.queues.QueueWorkers.{KnowsQueueYard, queue_end_to};
 ghost use Rattle.tlsf_crew.specs.queues.QueueMoves.{QueueStepped, QueueCalled};
 ghost use Rattle.tlsf_crew.specs.queues.QueueNotes.{HasQueueRoom};
 
@@ -41,18 +41,20 @@ fn reply_to_queue_release<R: Wait>(
 }
 
 /// Takes from the own queue, each post with an entry, until `most` were taken or the queue is empty. Answers how many.
-fn drain_into_queue_journal<R: Wait>(
+pub(crate) fn drain_into_queue_journal<R: Wait>(
     rt: &R,
     worker: &mut QueueWorker,
     journal: &mut QueueJournal,
     most: u32,
-) -> Reply
+) -> u32
     requires room { HasQueueRoom journal.old }
     ensures stepped { (n : ℕ) (made : List (Option Name)) → KnowsQueueYard n worker.old
-        → QueueStepped n worker.old journal.old.limit (Drain most) made journal.old.entries.items worker.new journal.new.limit journal.new.entries.items result }
+        → QueueStepped n worker.old journal.old.limit (Drain most) made journal.old.entries.items worker.new journal.new.limit journal.new.entries.items (Reply.Drained result) }
+    ensures few { result ≤ journal.old.limit }
+    ensures ends { (n : ℕ) → KnowsQueueYard n worker.old → queue_end_to worker.new ≡ queue_end_to worker.old }
     ensures capacity { vec_capacity journal.new.entries ≡ vec_capacity journal.old.entries }
 {
-    Reply::Drained(drain_queue(rt, worker, most, journal).taken)
+    drain_queue(rt, worker, most, journal).taken
 }
 
 /// Makes one call, and answers the reply. A drain's takes get their entries here, the call gets its own later.
@@ -78,7 +80,9 @@ fn reply_over_queues<R: Wait>(
         Call::Resize { target, len } => reply_to_own_resize(&mut worker.heap, target, len, made),
         // A queue has no single poster.
         Call::Take { .. } => Reply::Refused(CrewRefusal::Stranger),
-        Call::Drain { most } => drain_into_queue_journal(rt, worker, journal, most),
+        Call::Drain { most } => {
+            Reply::Drained(drain_into_queue_journal(rt, worker, journal, most))
+        }
     }
 }
 

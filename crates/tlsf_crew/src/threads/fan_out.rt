@@ -15,8 +15,8 @@ use std::thread;
 use std::thread::{Scope, Threads};
 
 /// Does each job in a thread of its own: the last one's starts first, and is joined last.
-fn fan_out<'s, E, R: Threads, W: Work + Send + Drop + 's, G: Gate + Sync>(
-    rt: &R,
+fn fan_out<'s, E, R: Threads + Wait + Sync, W: Work + Send + Drop + 's, G: Gate + Sync>(
+    rt: &'s R,
     scope: &Scope<'s, E>,
     jobs: &mut Vec<W>,
     gate: &'s G,
@@ -41,7 +41,7 @@ where
         move || -> W::Done
             requires { W.is_ready job }
             ensures { W.is_done job result }
-        { job.run(gate) },
+        { job.run(rt, gate) },
     )?;
     fan_out(rt, scope, jobs, gate, done)?;
     done.push_reserved(child.join(rt));

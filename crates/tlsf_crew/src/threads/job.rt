@@ -6,6 +6,7 @@ use crate::threads::work::Work;
 use crate::yard::executor::run_call;
 use crate::yard::journal::Journal;
 use crate::yard::worker::Worker;
+use std::sync::Wait;
 use tlsf_calls::{Call, Entry};
 use tlsf_heap::Name;
 
@@ -32,7 +33,7 @@ impl Work for Job {
     ghost is_done = { λ job done. IsDone job done };
 
     /// Runs the script. The gate is passed before each call, and once after the last.
-    fn run<G: Gate>(self, gate: &G) -> Done {
+    fn run<R: Wait, G: Gate>(self, _rt: &R, gate: &G) -> Done {
         let Job {
             mut worker,
             count,

@@ -15,7 +15,7 @@ use tlsf_heap::Name;
 use tlsf_post::NoMemory;
 
 /// How many calls of a script are releases.
-fn count_releases(script: &[Call]) -> u32
+pub(crate) fn count_releases(script: &[Call]) -> u32
     requires { length script.now < 2 ^ 32 }
     ensures { result ≡ releases_of script.now }
 {

@@ -1,4 +1,5 @@
 use crate::threads::gate::Gate;
+use std::sync::Wait;
 
 /// A job that a thread of its own does.
 ///
@@ -16,7 +17,7 @@ pub(crate) trait Work {
     ghost is_done: { Self → Self.Done → Type 0 };
 
     /// Does the job in this thread. The jobs that are done at once pass the same gate.
-    fn run<G: Gate>(self, gate: &G) -> Self::Done
+    fn run<R: Wait, G: Gate>(self, rt: &R, gate: &G) -> Self::Done
         requires { is_ready self }
         ensures { is_done self result };
 }

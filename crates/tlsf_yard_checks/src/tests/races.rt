@@ -19,13 +19,13 @@ use tlsf_heap::{Name, Refusal};
 /// The most turns that a gate makes.
 const TURNS: u64 = 100_000_000;
 
-fn release(name: Name) -> Call {
+pub(crate) fn release(name: Name) -> Call {
     Call::Release {
         target: Target::Named(name),
     }
 }
 
-fn entry(worker: u32, call: Call, reply: Reply) -> Entry {
+pub(crate) fn entry(worker: u32, call: Call, reply: Reply) -> Entry {
     Entry {
         worker,
         call,
@@ -33,15 +33,15 @@ fn entry(worker: u32, call: Call, reply: Reply) -> Entry {
     }
 }
 
-fn posted(worker: u32, name: Name) -> Entry {
+pub(crate) fn posted(worker: u32, name: Name) -> Entry {
     entry(worker, release(name), Reply::Posted)
 }
 
-fn taken(worker: u32, from: u32, name: Name) -> Entry {
+pub(crate) fn taken(worker: u32, from: u32, name: Name) -> Entry {
     entry(worker, Call::Take { from }, took(from, name, Ok(())))
 }
 
-fn last(worker: u32, taken: u32) -> Entry {
+pub(crate) fn last(worker: u32, taken: u32) -> Entry {
     entry(worker, Call::Drain { most: 8192 }, Reply::Drained(taken))
 }
 
@@ -55,7 +55,11 @@ fn two_workers(alloc: Global, capacity: u32, events: &[Event]) -> Result<Vec<Wor
 }
 
 /// A script for each of two workers.
-fn two_scripts(alloc: Global, first: &[Call], second: &[Call]) -> Result<Vec<Vec<Call>>, AllocError>
+pub(crate) fn two_scripts(
+    alloc: Global,
+    first: &[Call],
+    second: &[Call],
+) -> Result<Vec<Vec<Call>>, AllocError>
     requires first_short { length first.now < 2 ^ 32 }
     requires second_short { length second.now < 2 ^ 32 }
     ensures two { IfOk result (λ scripts. vec_len scripts ≡ 2) }
@@ -67,7 +71,7 @@ fn two_scripts(alloc: Global, first: &[Call], second: &[Call]) -> Result<Vec<Vec
 }
 
 /// The records are those that are wanted.
-fn check_records(rt: &impl Abort, records: &[Vec<Entry>], wanted: [&[Entry]; 2]) {
+pub(crate) fn check_records(rt: &impl Abort, records: &[Vec<Entry>], wanted: [&[Entry]; 2]) {
     for (i, wanted) in wanted.iter().enumerate() {
         let found = records.get(i).map(Vec::as_slice);
         same(found, Some(*wanted)).expect(rt, "differ");
@@ -162,7 +166,7 @@ fn each_resizes_its_own(rt: HostRuntime) -> Result<(), Fail> {
 
 /// A gate at which all wait for all before their first call.
 #[derive(Drop)]
-struct AllHere {
+pub(crate) struct AllHere {
     flags: [AtomicU64; 8],
     count: usize,
     missed: AtomicU64,
@@ -182,12 +186,17 @@ fn flags() -> [AtomicU64; 8] {
 }
 
 impl AllHere {
-    fn new(count: usize) -> AllHere {
+    pub(crate) fn new(count: usize) -> AllHere {
         AllHere {
             flags: flags(),
             count,
             missed: AtomicU64::new(0),
         }
+    }
+
+    /// Whether all came, and none of them waited in vain.
+    pub(crate) fn all_met(&self) -> bool {
+        self.all_set() && self.missed.load(Ordering::SeqCst) == 0
     }
 
     fn all_set(&self) -> bool {
@@ -218,7 +227,7 @@ impl Gate for AllHere {
 }
 
 /// One allocate for each of so many workers.
-fn one_call_each(alloc: Global, count: usize) -> Result<Vec<Vec<Call>>, AllocError>
+pub(crate) fn one_call_each(alloc: Global, count: usize) -> Result<Vec<Vec<Call>>, AllocError>
     ensures count { IfOk result (λ scripts. vec_len scripts ≡ count) }
     ensures short { IfOk result (λ scripts. All (λ s. vec_len s < 2 ^ 32) scripts.items) }
 {
@@ -230,7 +239,7 @@ fn one_call_each(alloc: Global, count: usize) -> Result<Vec<Vec<Call>>, AllocErr
 }
 
 /// Whether each of the records has two entries.
-fn have_two(records: &[Vec<Entry>]) -> bool {
+pub(crate) fn have_two(records: &[Vec<Entry>]) -> bool {
     for record in records {
         if record.len() != 2 {
             return false;
@@ -245,7 +254,7 @@ fn all_meet<R: Threads + Wait + Sync>(rt: &R, alloc: Global, count: u32) -> Resu
     let scripts = one_call_each(alloc, workers.len())?;
     let gate = AllHere::new(workers.len());
     let outcome = race(rt, alloc, workers, scripts, &gate)?;
-    Ok(have_two(&outcome.records) && gate.all_set() && gate.missed.load(Ordering::SeqCst) == 0)
+    Ok(have_two(&outcome.records) && gate.all_met())
 }
 
 // A race on one thread gives the same records. There the first worker would wait at the gate for the others.
@@ -258,19 +267,24 @@ fn threads_run_at_once(rt: HostRuntime) -> Result<(), Fail> {
 
 /// A gate at which the worker that takes waits for the first post, and the one that posts waits for its slot.
 #[derive(Drop)]
-struct InTurn {
+pub(crate) struct InTurn {
     posted: AtomicU64,
     taken: AtomicU64,
     missed: AtomicU64,
 }
 
 impl InTurn {
-    fn new() -> InTurn {
+    pub(crate) fn new() -> InTurn {
         InTurn {
             posted: AtomicU64::new(0),
             taken: AtomicU64::new(0),
             missed: AtomicU64::new(0),
         }
+    }
+
+    /// Whether nobody waited in vain.
+    pub(crate) fn all_met(&self) -> bool {
+        self.missed.load(Ordering::SeqCst) == 0
     }
 
     /// Turns until a flag is set.
@@ -317,7 +331,7 @@ fn slot_comes_back_while_workers_run(rt: HostRuntime) -> Result<(), Fail> {
             &[posted(1, blocks[0]), posted(1, blocks[1]), last(1, 0)],
         ],
     )?;
-    same(gate.missed.load(Ordering::SeqCst), 0).expect(&rt, "differ");
+    same(gate.all_met(), true).expect(&rt, "differ");
     Ok(())
 }
 

@@ -1,6 +1,5 @@
 -- A call that a worker's own heap replied to is told as in a world in which the worker has that heap.
-use Rattle.std.proofs.Common.{◌==◌, true, false, [], ◌∷◌, ◌++◌, ◌≡◌, ◌≢◌, ℕ, ◌<◌, ◌≤◌, List, Option, Some, None, length, sym, ◌∙◌, ap, arith, refl}
-use Rattle.std.proofs.lemmas.Bool.Decides.{nat_tests}
+use Rattle.std.proofs.Common.{[], ◌∷◌, ◌++◌, ◌≡◌, ◌≢◌, ℕ, ◌<◌, ◌≤◌, List, Option, Some, None, length, sym, ◌∙◌, ap, arith, refl}
 use Rattle.tlsf_heap.specs.Blocks.{HeapState}
 use Rattle.tlsf_heap.specs.declared.name.Name.{Name}
 use Rattle.tlsf_calls.specs.Bytes.{bytes_of}
@@ -15,7 +14,7 @@ use Rattle.tlsf_calls.specs.declared.crew_refusal.CrewRefusal.TheVariants.{Full,
 use Rattle.tlsf_crew.specs.yard.Heaps.{allocated, released, written, resized, chunk_read}
 use Rattle.tlsf_crew.specs.yard.OwnReplies.{own_allocating, own_freeing, own_writing, own_reading, own_resizing}
 use Rattle.tlsf_crew.specs.yard.Told.{HasHeap, MayTell, told_by}
-use Rattle.tlsf_crew.specs.yard.World.{World, Replied, allocating, answered, called, freeing, heap_in, made_by, name_of, posting, reading_named, releasing, releasing_named, reply_freed, reply_got, reply_made, reply_resized, reply_wrote, resizing_named, writing_named}
+use Rattle.tlsf_crew.specs.yard.World.{World, Replied, allocating, answered, called, heap_in, made_by, name_of, reading_named, releasing, releasing_named, reply_freed, reply_got, reply_made, reply_resized, reply_wrote, resizing_named, writing_named}
 use Rattle.tlsf_crew.specs.queues.QueueMoves.{TellsOwn, entry_by, told_of}
 use Rattle.tlsf_crew.proofs.lemmas.yard.OneEvent.{releasing_post, releasing_far}
 use Rattle.tlsf_crew.proofs.lemmas.yard.OwnAnswers.{own_name, posted_world, full_world}

@@ -6,7 +6,7 @@ use Rattle.std.specs.declared.alloc.Global.{Global}
 use Rattle.std.specs.Option.{option_to_list}
 use Rattle.std.proofs.lemmas.Option.{slice_get-get_or, slice_get_within}
 use Rattle.std.proofs.lemmas.Bool.{cases_eq, cases_lt}
-use Rattle.std.proofs.lemmas.List.{append-nil, length-append, length-set, map-append}
+use Rattle.std.proofs.lemmas.List.{append-nil, length-set, map-append}
 use Rattle.std.proofs.lemmas.List.Elements.{All-append, All-cons, All-head, All-nil, All-tail}
 use Rattle.tlsf_post.specs.Rule.{posts_of}
 use Rattle.tlsf_post.specs.Mailboxes.{below_but, number_of, put_by, owner_of, out_of, most_of, got_by, known_to, IsMailbox, IsWhole, HaveMet}
@@ -16,7 +16,7 @@ use Rattle.tlsf_post.specs.declared.poster_end.PosterEnd.{PosterEnd}
 use Rattle.tlsf_crew.specs.declared.queues.queue_worker.QueueWorker.{QueueWorker}
 use Rattle.tlsf_crew.specs.yard.Workers.{slot_of}
 use Rattle.tlsf_crew.specs.yard.Yard.{IsHeapOf}
-use Rattle.tlsf_crew.specs.queues.QueueWorkers.{queue_heap, queue_id, queue_end_to, IsOtherOf, KnowsQueueYard}
+use Rattle.tlsf_crew.specs.queues.QueueWorkers.{queue_id, queue_end_to, IsOtherOf, KnowsQueueYard}
 use Rattle.tlsf_crew.specs.queues.QueueYard.{FitsQueueYard, IsQueueYard, first_capacity, queue_capacity_in, queue_end_in}
 use Rattle.tlsf_crew.specs.queues.QueueOpening.{GaveEnds, GotEnd}
 use Rattle.tlsf_crew.specs.queues.QueueSettle.{Gathered, GaveUpEnd, QueueKnown, QueueSettled, QueuesSettled, StaysPut, StaysSettled, end_at, ends_below}

@@ -5,13 +5,13 @@ use Rattle.std.specs.List.{cons_option}
 use Rattle.std.specs.Prelude.{vec_capacity}
 use Rattle.std.proofs.lemmas.Bool.{cases_eq, cases_lt}
 use Rattle.std.proofs.lemmas.Bool.Decides.{nat_tests}
-use Rattle.std.proofs.lemmas.List.Elements.{All-nil, All-cons, filter-append}
+use Rattle.std.proofs.lemmas.List.Elements.{All-nil, All-cons}
 use Rattle.tlsf_heap.specs.Blocks.{HeapState}
 use Rattle.tlsf_heap.specs.Calls as heap
 use Rattle.tlsf_heap.specs.declared.name.Name.{Name}
 use Rattle.tlsf_heap.specs.declared.refusal.Refusal.{Refusal}
 use Rattle.tlsf_post.specs.Rule.{posts_of}
-use Rattle.tlsf_post.specs.Mailboxes.{number_of, put_by, got_by, known_to, owner_of, out_of, IsAllTaken, KeepsOwner}
+use Rattle.tlsf_post.specs.Mailboxes.{number_of, put_by, got_by, known_to, IsAllTaken}
 use Rattle.tlsf_post.specs.declared.post.Post.{Post}
 use Rattle.tlsf_post.specs.declared.owner_end.OwnerEnd.{OwnerEnd}
 use Rattle.tlsf_post.specs.declared.poster_end.PosterEnd.{PosterEnd}
@@ -27,7 +27,7 @@ use Rattle.tlsf_calls.specs.declared.crew_refusal.CrewRefusal.{CrewRefusal}
 use Rattle.tlsf_calls.specs.declared.crew_refusal.CrewRefusal.TheVariants.{Full, Stranger, Unmade}
 use Rattle.tlsf_calls.specs.declared.reply.Reply.{Reply}
 use Rattle.tlsf_calls.specs.declared.reply.Reply.TheVariants.{Posted, Took as Taken, Drained, Refused}
-use Rattle.tlsf_crew.specs.yard.Heaps.{allocated, released, written, resized}
+use Rattle.tlsf_crew.specs.yard.Heaps.{allocated, released}
 use Rattle.tlsf_crew.specs.yard.OwnReplies.{own_allocating, own_freeing, own_reading, own_resizing, own_writing}
 use Rattle.tlsf_crew.specs.yard.History.{StandsBehind, posts_made, posts_taken, post_of_release, post_of_take}
 use Rattle.tlsf_crew.specs.yard.Told.{Told}
@@ -43,7 +43,7 @@ use Rattle.tlsf_post.proofs.RuleSteps.{of_append}
 use Rattle.tlsf_crew.proofs.lemmas.yard.AllEntries.{more_knows}
 use Rattle.tlsf_crew.proofs.lemmas.yard.JoinedEntries.{IsNoPost, told_nothing, told_own}
 use Rattle.tlsf_crew.proofs.lemmas.yard.LaneMoves.{posted_same, release_posts_elsewhere}
-use Rattle.tlsf_crew.proofs.lemmas.yard.ManyEntries.{made_then, taken_then, stands_split, prefix_more, prefix_behind}
+use Rattle.tlsf_crew.proofs.lemmas.yard.ManyEntries.{made_then, taken_then, stands_split}
 use Rattle.tlsf_crew.proofs.lemmas.yard.OneEntry.{no_entry, the_one, stands_last}
 use Rattle.tlsf_crew.proofs.lemmas.yard.OwnHeaps.{KeepsHeap, call_keeps, same_heap_keeps}
 use Rattle.tlsf_crew.proofs.lemmas.yard.OwnReplied.{read_keeps, resize_keeps, write_keeps}
@@ -428,6 +428,21 @@ turns_capacity a v x y (took ∷ tooks) t = turns_capacity t.0 v t.1 y tooks t.4
 
 pub drain_capacity : (a v : QueueWorker) (x y : QueueJournal) (most : ℕ) (d : WasDrained) → QueueNoted IsQueueNoted a v x y most d → vec_capacity y.entries ≡ vec_capacity x.entries
 drain_capacity a v x y most d n = turns_capacity a n.last x y n.tooks n.takes
+
+-- each post that was taken counts the limit down
+turns_left : (a v : QueueWorker) (x y : QueueJournal) (tooks : List Took) → QueueNotedInTurn IsQueueNoted a v x y tooks → y.limit + length tooks ≡ x.limit
+turns_left a v x y [] t = omega (arith, ap (λ (z : QueueJournal). z.limit) t.1)
+turns_left a v x y (took ∷ tooks) t = let noted = t.3 in omega (arith, turns_left t.0 v t.1 y tooks t.4, noted.fewer)
+
+pub drain_few : (a v : QueueWorker) (x y : QueueJournal) (most : ℕ) (d : WasDrained) → QueueNoted IsQueueNoted a v x y most d → d.taken ≤ x.limit
+drain_few a v x y most d n = omega (arith, turns_left a n.last x y n.tooks n.takes, n.count.0)
+
+-- a drain leaves the ends to other queues
+pub drain_ends : (n : ℕ) (a v : QueueWorker) (x y : QueueJournal) (most : ℕ) (d : WasDrained) → KnowsQueueYard n a → QueueNoted IsQueueNoted a v x y most d → queue_end_to v ≡ queue_end_to a
+drain_ends n a v x y most d k noted =
+    let t = taken_all n (queue_id a) a noted.last x y noted.tooks refl k noted.takes in
+    let seen = end_seen noted.last v most (length noted.tooks) noted.end in
+    seen.ends ∙ t.ends
 
 -- ---- calls on the own heap
 

@@ -1,7 +1,7 @@
 -- Each worker of a whole yard over queues has an end to each other queue, and the yard stays whole where one takes the place of the one that it was.
 use Rattle.std.proofs.Common.{◌≡◌, ℕ, List, Option, Some, None, length, set, sym, ◌∙◌, ap, arith, refl, inl, inr, subst}
 use Rattle.std.specs.List.{slice_get}
-use Rattle.std.proofs.lemmas.Option.{slice_get_within}
+use Rattle.std.proofs.lemmas.Option.{slice_get_past, slice_get_within}
 use Rattle.std.specs.Prelude.{◌↔◌}
 use Rattle.std.proofs.lemmas.Bool.{cases_eq, cases_lt}
 use Rattle.std.proofs.lemmas.List.{length-set}
@@ -13,6 +13,7 @@ use Rattle.tlsf_crew.specs.queues.QueueWorkers.{queue_heap, queue_id, queue_end_
 use Rattle.tlsf_crew.specs.queues.QueueYard.{IsQueueYard, first_capacity, queue_capacity_in}
 use Rattle.tlsf_crew.proofs.lemmas.yard.Slots.{get_set_same, get_set_other, none_or_some, some_same}
 use Rattle.tlsf_crew.proofs.lemmas.queues.QueueKept.{keeps_all, knows_kept}
+use Rattle.tlsf_crew.proofs.lemmas.queues.QueueOpened.{some_at}
 
 -- ---- one worker
 
@@ -46,37 +47,29 @@ slot_was (Some p) None q k e = absurd k
 slot_was (Some p) (Some r) q k e = (p, refl, subst (λ (z : PosterEnd). KeepsPoster p z) (some_same r q e) k)
 
 -- the worker that was in a place, and what has stayed of it
-record Was (ws : List QueueWorker) (x : ℕ) (b : QueueWorker) : Type 0 where
-  old : QueueWorker
-  is : slice_get ws x ≡ Some old
-  keeps : KeepsQueueYards old b
+pub record Was (ws : List QueueWorker) (x : ℕ) (b : QueueWorker) : Type 0 where
+  pub old : QueueWorker
+  pub is : slice_get ws x ≡ Some old
+  pub keeps : KeepsQueueYards old b
 
-was : (ws : List QueueWorker) (i x : ℕ) (a v b : QueueWorker) → slice_get ws i ≡ Some a → KeepsQueueYards a v → slice_get (set ws i v) x ≡ Some b → Was ws x b
-was ws i x a v b is keeps at = elim (cases_eq x i) [
-  | inl e ↦
-      let b_is : v ≡ b = some_same v b (sym (get_set_same ws i v (slice_get_within ws i a is)) ∙ (sym (ap (slice_get (set ws i v)) e) ∙ at)) in
-      record { old = a; is = ap (slice_get ws) e ∙ is; keeps = subst (KeepsQueueYards a) b_is keeps }
-  | inr ne ↦ record { old = b; is = sym (get_set_other ws i x v ne) ∙ at; keeps = keeps_all b }
+same_capacity : (ws vs : List QueueWorker) → length vs ≡ length ws → ((x : ℕ) (b : QueueWorker) → slice_get vs x ≡ Some b → Was ws x b) → queue_capacity_in vs ≡ queue_capacity_in ws
+same_capacity ws vs len was = elim (cases_lt 0 (length vs)) [
+  | inl lt ↦
+      let b = some_at vs 0 lt in
+      let w = was 0 b.0 b.1 in
+      ap first_capacity b.1 ∙ (w.keeps.own.3 ∙ sym (ap first_capacity w.is))
+  | inr ge ↦ ap first_capacity (slice_get_past vs 0 ge) ∙ sym (ap first_capacity (slice_get_past ws 0 (omega (arith, len))))
 ]
 
-same_capacity : (ws : List QueueWorker) (i : ℕ) (a v : QueueWorker) → slice_get ws i ≡ Some a → KeepsQueueYards a v → queue_capacity_in (set ws i v) ≡ queue_capacity_in ws
-same_capacity ws i a v is keeps = elim (cases_eq 0 i) [
-  | inl e ↦
-      let new : slice_get (set ws i v) 0 ≡ Some v = ap (slice_get (set ws i v)) e ∙ get_set_same ws i v (slice_get_within ws i a is) in
-      let old : slice_get ws 0 ≡ Some a = ap (slice_get ws) e ∙ is in
-      ap first_capacity new ∙ (keeps.own.3 ∙ sym (ap first_capacity old))
-  | inr ne ↦ ap first_capacity (get_set_other ws i 0 v ne)
-]
-
-pub queue_yard_kept : (ws : List QueueWorker) (i : ℕ) (a v : QueueWorker) → IsQueueYard ws → slice_get ws i ≡ Some a → KeepsQueueYards a v → IsQueueYard (set ws i v)
-queue_yard_kept ws i a v yard is keeps =
-    let len : length (set ws i v) ≡ length ws = length-set ws i v in
-    let room = same_capacity ws i a v is keeps in
+-- each worker has stayed in its place
+pub all_kept : (ws vs : List QueueWorker) → IsQueueYard ws → length vs ≡ length ws → ((x : ℕ) (b : QueueWorker) → slice_get vs x ≡ Some b → Was ws x b) → IsQueueYard vs
+all_kept ws vs yard len was =
+    let room = same_capacity ws vs len was in
     record {
       few = omega (arith, len, yard.few);
       small = omega (arith, room, yard.small);
       workers = λ x b at.
-          let w = was ws i x a v b is keeps at in
+          let w = was x b at in
           let old = yard.workers x w.old w.is in
           record {
             number = w.keeps.number ∙ old.number;
@@ -85,8 +78,20 @@ queue_yard_kept ws i a v yard is keeps =
             room = w.keeps.own.3 ∙ (old.room ∙ sym room);
           };
       mailboxes = λ x y b c q at_x at_y q_is.
-          let w = was ws i x a v b is keeps at_x in
-          let u = was ws i y a v c is keeps at_y in
+          let w = was x b at_x in
+          let u = was y c at_y in
           let p = slot_was (queue_end_to w.old y) (queue_end_to b y) q (w.keeps.posts y) q_is in
           p.2.0 ∙ (yard.mailboxes x y w.old u.old p.0 w.is u.is p.1 ∙ sym u.keeps.own.0);
     }
+
+-- one worker has, and the others are the same
+one_was : (ws : List QueueWorker) (i : ℕ) (a v : QueueWorker) → slice_get ws i ≡ Some a → KeepsQueueYards a v → (x : ℕ) (b : QueueWorker) → slice_get (set ws i v) x ≡ Some b → Was ws x b
+one_was ws i a v is keeps x b at = elim (cases_eq x i) [
+  | inl e ↦
+      let b_is : v ≡ b = some_same v b (sym (get_set_same ws i v (slice_get_within ws i a is)) ∙ (sym (ap (slice_get (set ws i v)) e) ∙ at)) in
+      record { old = a; is = ap (slice_get ws) e ∙ is; keeps = subst (KeepsQueueYards a) b_is keeps }
+  | inr ne ↦ record { old = b; is = sym (get_set_other ws i x v ne) ∙ at; keeps = keeps_all b }
+]
+
+pub queue_yard_kept : (ws : List QueueWorker) (i : ℕ) (a v : QueueWorker) → IsQueueYard ws → slice_get ws i ≡ Some a → KeepsQueueYards a v → IsQueueYard (set ws i v)
+queue_yard_kept ws i a v yard is keeps = all_kept ws (set ws i v) yard (length-set ws i v) (one_was ws i a v is keeps)

@@ -83,7 +83,7 @@ done_at (x ∷ js) (y ∷ ds) a (suc k) j e = let r = done_at js ds a.1 k j e in
 pub map_at : {X Y : Type 0} (f : X → Y) (xs : List X) (k : ℕ) (x : X) → slice_get xs k ≡ Some x → slice_get (map f xs) k ≡ Some (f x)
 map_at f xs k x e = slice_get-map f xs k ∙ ap (option_map f) e
 
-from_map : {X Y : Type 0} (f : X → Y) (xs : List X) (k : ℕ) (y : Y) → slice_get (map f xs) k ≡ Some y → (x : X) × (slice_get xs k ≡ Some x) × (f x ≡ y)
+pub from_map : {X Y : Type 0} (f : X → Y) (xs : List X) (k : ℕ) (y : Y) → slice_get (map f xs) k ≡ Some y → (x : X) × (slice_get xs k ≡ Some x) × (f x ≡ y)
 from_map f [] k y e = absurd (none_some y e)
 from_map f (x ∷ xs) zero y e = (x, refl, some_same (f x) y e)
 from_map f (x ∷ xs) (suc k) y e = from_map f xs k y e

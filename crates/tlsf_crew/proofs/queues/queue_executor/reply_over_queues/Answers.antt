@@ -1,6 +1,4 @@
 use Rattle.std.proofs.Common.{refl}
-use Rattle.tlsf_calls.specs.declared.call.Call.TheVariants.{Allocate, Release, Write, Read, Resize, Take}
-use Rattle.tlsf_crew.proofs.lemmas.queues.OwnTold.{allocate_tells, read_tells, resize_tells, write_tells}
 use Rattle.tlsf_crew.proofs.lemmas.queues.QueueSteps.{allocate_stepped, read_stepped, resize_stepped, take_stepped, write_stepped}
 use Rattle.tlsf_crew.proofs.queues.queue_executor.reply_over_queues.Goals as goal
 

@@ -1,4 +1,4 @@
-use Rattle.std.proofs.Common.{◌∙◌, ℕ, length, get_or, set, arith, subst, sym}
+use Rattle.std.proofs.Common.{◌∙◌, ℕ, get_or, set, arith, subst, sym}
 use Rattle.std.proofs.lemmas.List.{length-set}
 use Rattle.tlsf_post.specs.Mailboxes.{IsWhole, below_but}
 use Rattle.tlsf_crew.specs.declared.queues.queue_worker.QueueWorker.{QueueWorker}

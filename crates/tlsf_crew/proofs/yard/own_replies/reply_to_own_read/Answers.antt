@@ -1,5 +1,4 @@
-use Rattle.std.proofs.Common.{length, refl}
-use Rattle.tlsf_calls.specs.Bytes.{bytes_of}
+use Rattle.std.proofs.Common.{refl}
 use Rattle.tlsf_crew.specs.yard.OwnReplies.{own_reading}
 use Rattle.tlsf_crew.proofs.lemmas.yard.OwnAnswers.{got_ok, got_err}
 use Rattle.tlsf_crew.proofs.lemmas.yard.OwnReplied.{none_replied, read_replied}

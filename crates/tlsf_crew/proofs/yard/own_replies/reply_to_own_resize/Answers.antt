@@ -1,5 +1,4 @@
-use Rattle.std.proofs.Common.{length, refl}
-use Rattle.tlsf_calls.specs.Bytes.{bytes_of}
+use Rattle.std.proofs.Common.{refl}
 use Rattle.tlsf_crew.specs.yard.OwnReplies.{own_resizing}
 use Rattle.tlsf_crew.proofs.lemmas.yard.OwnAnswers.{resize_ok, resize_err}
 use Rattle.tlsf_crew.proofs.lemmas.yard.OwnReplied.{none_replied, resize_replied}

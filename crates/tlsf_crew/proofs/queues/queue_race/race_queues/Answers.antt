@@ -1,0 +1,37 @@
+use Rattle.std.proofs.Common.{arith, map, sym}
+use Rattle.std.specs.declared.vec.Vec.{Vec}
+use Rattle.std.specs.declared.alloc.Global.{Global}
+use Rattle.std.proofs.lemmas.List.{length-map}
+use Rattle.tlsf_calls.specs.declared.entry.Entry.{Entry}
+use Rattle.tlsf_crew.proofs.lemmas.threads.WholeRace.{written_back}
+use Rattle.tlsf_crew.proofs.lemmas.queues.QueueRaces.{queue_race_is, ran_yard}
+use Rattle.tlsf_crew.proofs.queues.queue_race.race_queues.Goals as goal
+
+pub finish-requires-clause-yard : goal.finish-requires-clause-yard
+finish-requires-clause-yard g c =
+    let ws = c.settle_queues.new.workers in
+    let settled = c.settle_queues.ensures.settled in
+    let first = written_back c.args.workers.len ws c.args.workers.items (omega (arith, settled.count, c.deref_mut.ensures.len)) in
+    let run = rw first at c.in_ok-outcome.ensures.run in
+    rw c.deref_mut-2.ensures.value (ran_yard ws _ _ c.in_ok-outcome.outcome.workers.items settled.yard run)
+
+pub returns : goal.returns
+returns g c =
+    let zs = c.deref_mut.result.now in
+    let ws = c.settle_queues.new.workers in
+    let out = c.in_ok-outcome.outcome in
+    let settled = c.settle_queues.ensures.settled in
+    let done = rw (c.deref_mut-2.ensures.value, c.deref_mut-3.ensures.value) at c.finish.ensures in
+    let first = written_back c.args.workers.len ws c.args.workers.items (omega (arith, settled.count, c.deref_mut.ensures.len)) in
+    let run = rw first at c.in_ok-outcome.ensures.run in
+    let new_len = length-map c.finish.new.records (λ (r : Vec Entry Global). r.items) in
+    let old_len = length-map out.records.items (λ (r : Vec Entry Global). r.items) in
+    let a = out.workers.ok in
+    let b = out.records.ok in
+    let workers = written_back out.workers.len c.finish.new.workers out.workers.items (omega (arith, done.last.count, done.drained.worker_count, done.first.count)) in
+    let records = written_back out.records.len c.finish.new.records out.records.items (omega (arith, done.drained.record_count, new_len, old_len)) in
+    record {
+      race = rw (records, workers, sym c.deref_mut.ensures.value) (queue_race_is zs ws out.workers.items c.finish.new.workers (map (λ s. s.items) c.args.scripts.items)
+          (map (λ r. r.items) out.records.items) (map (λ r. r.items) c.finish.new.records) (rw c.deref_mut.ensures.value c.requires.yard) settled run done);
+      yard = rw workers done.last.yard;
+    }

@@ -1,0 +1,27 @@
+use Rattle.std.proofs.Common.{arith}
+use Rattle.tlsf_crew.proofs.lemmas.queues.QueueGathering.{queue_places, queues_gathered}
+use Rattle.tlsf_crew.proofs.queues.queue_race.run_scripts.Goals as goal
+
+pub returns-clause-run : goal.returns-clause-run
+returns-clause-run g c =
+    queues_gathered c.in_ok-tasks.tasks.items c.in_ok-done.done.items c.args.workers.items c.args.scripts.items
+    c.take_apart.new.out.records.items c.take_apart.new.out.workers.items c.in_ok-tasks.ensures.workers c.in_ok-tasks.ensures.scripts
+    c.take_apart.ensures.parts.0 c.take_apart.ensures.parts.1 c.in_ok-done.ensures.done
+
+pub returns-clause-places : goal.returns-clause-places
+returns-clause-places g c = queue_places c.in_ok-tasks.tasks.items c.in_ok-done.done.items c.take_apart.new.out.records.items c.take_apart.ensures.parts.1 c.in_ok-done.ensures.done
+
+pub prepare_tasks-requires-clause-yard : goal.prepare_tasks-requires-clause-yard
+prepare_tasks-requires-clause-yard g c = c.requires.yard
+
+pub take_apart-requires-clause-empty : goal.take_apart-requires-clause-empty
+take_apart-requires-clause-empty g c = c.in_ok-outcome.ensures.empty
+
+pub take_apart-requires-clause-room : goal.take_apart-requires-clause-room
+take_apart-requires-clause-room g c = (
+  omega (arith, c.in_ok-done.ensures.len, c.len.ensures, c.in_ok-outcome.ensures.room.0),
+  omega (arith, c.in_ok-done.ensures.len, c.len.ensures, c.in_ok-outcome.ensures.room.1),
+)
+
+pub run_all-requires-clause-ready : goal.run_all-requires-clause-ready
+run_all-requires-clause-ready g c κs within = c.in_ok-tasks.ensures.ready

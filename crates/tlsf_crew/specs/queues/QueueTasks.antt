@@ -1,0 +1,86 @@
+-- What the parts of a race over queues give one another. This serves the contracts and proofs of private functions alone.
+use Rattle.std.specs.Prelude.{◌≡◌, ℕ, ◌+◌, ◌^◌, ◌<◌, ◌≤◌, List, [], ◌∷◌, ◌++◌, length, Option, Some, None, slice_get, vec_len, vec_capacity}
+use Rattle.std.specs.declared.vec.Vec.{Vec}
+use Rattle.std.specs.declared.alloc.Global.{Global}
+use mathlib.Core.List.{IsPrefix}
+use Rattle.tlsf_post.specs.Rule.{posts_of}
+use Rattle.tlsf_post.specs.Mailboxes.{got_by, known_to}
+use Rattle.tlsf_heap.specs.declared.name.Name.{Name}
+use Rattle.tlsf_calls.specs.declared.entry.Entry.{Entry}
+use Rattle.tlsf_calls.specs.declared.call.Call.{Call}
+use Rattle.tlsf_crew.specs.threads.Race.{last_call, record_of, script_of}
+use Rattle.tlsf_crew.specs.declared.queues.queue_worker.QueueWorker.{QueueWorker}
+use Rattle.tlsf_crew.specs.declared.queues.queue_task.QueueTask.{QueueTask}
+use Rattle.tlsf_crew.specs.declared.queues.queue_done.QueueDone.{QueueDone}
+use Rattle.tlsf_crew.specs.queues.QueueWorkers.{queue_heap, queue_id, queue_end_to, KnowsQueueYard}
+use Rattle.tlsf_crew.specs.queues.QueueTold.{MayTellQueue}
+use Rattle.tlsf_crew.specs.queues.QueueMoves.{QueueMoved, QueueScriptRun, told_of}
+use Rattle.tlsf_crew.specs.queues.QueueSettle.{QueuesSettled}
+
+-- ---- one worker
+
+-- the worker is one of some yard
+abbrev pub KnowsSomeYard : QueueWorker → Type 0
+KnowsSomeYard a = (n : ℕ) × KnowsQueueYard n a
+
+-- a task is ready to run: nothing is recorded, and there is room for an entry of each call, for one of each post that may be taken, and for one more
+pub record IsQueueReady (task : QueueTask) : Type 0 where
+  pub yard : KnowsSomeYard task.worker
+  pub fresh : (task.made.items ≡ []) × (task.entries.items ≡ [])
+  pub short : vec_len task.script < 2 ^ 32
+  pub names : vec_len task.script ≤ vec_capacity task.made
+  pub room : vec_len task.script + task.limit + 1 ≤ vec_capacity task.entries
+
+-- worker a of n has made the calls of a script, and has become v
+pub record QueueRan (n : ℕ) (a : QueueWorker) (script : List Call) (made : List (Option Name)) (entries : List Entry) (v : QueueWorker) : Type 0 where
+  pub limit : ℕ
+  pub left : ℕ
+  pub run : QueueScriptRun n a limit script made entries v left
+
+-- there is room for one entry more
+abbrev pub HasPlace : Vec Entry Global → Type 0
+HasPlace entries = vec_len entries < vec_capacity entries
+
+-- what a thread that was given this task hands back
+pub record IsQueueDone (task : QueueTask) (d : QueueDone) : Type 0 where
+  pub ran : (n : ℕ) → KnowsQueueYard n task.worker → QueueRan n task.worker task.script.items d.made.items d.entries.items d.worker
+  pub place : HasPlace d.entries
+
+-- ---- all workers
+
+-- the workers ws ran the scripts and became the workers vs
+pub record HaveQueuesRun (ws : List QueueWorker) (scripts : List (List Call)) (records : List (List Entry)) (vs : List QueueWorker) : Type 0 where
+  pub made : ℕ → List (Option Name)
+  pub worker_count : length vs ≡ length ws
+  pub record_count : length records ≡ length ws
+  pub ran : (j : ℕ) (a : QueueWorker) → slice_get ws j ≡ Some a
+      → (v : QueueWorker) × (slice_get vs j ≡ Some v) × ((n : ℕ) → KnowsQueueYard n a → QueueRan n a (script_of scripts j) (made j) (record_of records j) v)
+
+-- ---- the last drains
+
+-- worker a has taken all that was known to have been put, and has become v
+pub record DrainedLast (n : ℕ) (a v : QueueWorker) (before after : List Entry) : Type 0 where
+  pub own : List Entry
+  pub entries_are : after ≡ before ++ own
+  pub told : (made : List (Option Name)) → MayTellQueue n (queue_id a) (told_of made before (queue_heap a)) last_call (told_of (made ++ None ∷ []) after (queue_heap v))
+  pub limit : ℕ
+  pub left : ℕ
+  pub moved : (made : List (Option Name)) → QueueMoved (queue_id a) made a limit (last_call ∷ []) own v left
+  pub all : (i : ℕ) → IsPrefix (posts_of i (known_to a.own)) (posts_of i (got_by v.own))
+  pub ends : queue_end_to v ≡ queue_end_to a
+
+-- so has each worker below k; the others are as they were
+pub record QueuesDrained (ws : List QueueWorker) (rs ss : List (List Entry)) (vs : List QueueWorker) (k : ℕ) : Type 0 where
+  pub worker_count : length vs ≡ length ws
+  pub record_count : length ss ≡ length rs
+  pub drained : (j : ℕ) (a : QueueWorker) → j < k → slice_get ws j ≡ Some a
+      → (v : QueueWorker) × (slice_get vs j ≡ Some v) × ((n : ℕ) → KnowsQueueYard n a → DrainedLast n a v (record_of rs j) (record_of ss j))
+  pub later_workers : (j : ℕ) → k ≤ j → slice_get vs j ≡ slice_get ws j
+
+-- the queues were settled, drained, and settled again
+pub record Finished (ws : List QueueWorker) (rs ss : List (List Entry)) (xs : List QueueWorker) : Type 0 where
+  pub met : List QueueWorker
+  pub emptied : List QueueWorker
+  pub first : QueuesSettled ws (length ws) met
+  pub drained : QueuesDrained met rs ss emptied (length met)
+  pub last : QueuesSettled emptied (length emptied) xs

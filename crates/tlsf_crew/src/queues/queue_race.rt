@@ -1,0 +1,195 @@
+//! Workers over queues that run their scripts at once.
+ghost use Rattle.std.specs.Prelude.{◌≡◌, ℕ, ◌+◌, ◌^◌, ◌<◌, ◌≤◌, [], length, map, vec_len, vec_capacity, IfOk, All};
+ghost use Rattle.tlsf_crew.specs.queues.QueueYard.{IsQueueYard, queue_world_of};
+ghost use Rattle.tlsf_crew.specs.queues.QueueRace.{IsQueueRace};
+ghost use Rattle.tlsf_crew.specs.queues.QueueWorkers.{KnowsQueueYard};
+ghost use Rattle.tlsf_crew.specs.queues.QueueTasks.{DrainedLast, Finished, HasPlace, HaveQueuesRun, KnowsSomeYard, QueuesDrained};
+
+use crate::queues::queue_done::QueueDone;
+use crate::queues::queue_executor::drain_into_queue_journal;
+use crate::queues::queue_journal::QueueJournal;
+use crate::queues::queue_outcome::QueueOutcome;
+use crate::queues::queue_preparation::prepare_tasks;
+use crate::queues::queue_settle::settle_queues;
+use crate::queues::queue_worker::QueueWorker;
+use crate::threads::fan_out::run_all;
+use crate::threads::gate::Gate;
+use std::alloc::Global;
+use std::marker::Sync;
+use std::mem;
+use std::sync::Wait;
+use std::thread::Threads;
+use tlsf_calls::{Call, Entry, MOST_DRAINED, Reply};
+use tlsf_post::{NoMemory, PosterEnd};
+
+/// Runs each worker's script in a thread of its own over queues, waits for all, and then drains each worker, in rising
+/// number. The workers are a whole yard, and there is a script for each, of fewer than 2^32 calls. A script's `Made(k)` is
+/// the name that its own call number k made. A `Take` is answered Stranger, since a queue has no single poster.
+///
+/// `gate` is passed in the thread of worker j before its call of number i, by (j, i), and once after its last call.
+///
+/// - `race`: whatever the schedule of the threads, each record is what its worker's own heap answers to the calls of
+///   its script, one after another, and to the last drain. What worker j took of worker i is what had waited of it,
+///   and then what i was answered to have posted to j, in order and each once. Nothing waits in the end.
+///
+/// All room is made before a thread starts. `NoMemory`, where a growth or the start of a thread was refused, gives no
+/// outcome, and the workers are spent.
+///
+/// ```
+/// // two workers, each to release a block of the other's: `theirs` of worker 1, `ours` of worker 0
+/// let first = vec![in alloc; Call::Release { target: Target::Named(theirs) }]?;
+/// let second = vec![in alloc; Call::Release { target: Target::Named(ours) }]?;
+/// let outcome = race_queues(rt, alloc, workers, vec![in alloc; first, second]?, &OpenGate)?;
+/// let record = &outcome.records[0]; // the release: Posted; the take of `ours` from worker 1; the last drain: Drained(1)
+/// ```
+pub fn race_queues<R: Threads + Wait + Sync, G: Gate>(
+    rt: &R,
+    alloc: Global,
+    workers: Vec<QueueWorker>,
+    scripts: Vec<Vec<Call>>,
+    gate: &G,
+) -> Result<QueueOutcome, NoMemory>
+    requires yard { IsQueueYard workers.items }
+    requires count { vec_len scripts ≡ vec_len workers }
+    requires short { All (λ s. vec_len s < 2 ^ 32) scripts.items }
+    ensures race { IfOk result (λ o. IsQueueRace (queue_world_of workers.items) (map (λ s. s.items) scripts.items)
+        (map (λ r. r.items) o.records.items) (queue_world_of o.workers.items)) }
+    ensures yard { IfOk result (λ o. IsQueueYard o.workers.items) }
+{
+    let mut workers = workers;
+    let mut posters = Vec::with_capacity(alloc, workers.len())?;
+    settle_queues(&mut workers, &mut posters);
+    let mut outcome = run_scripts(rt, alloc, workers, scripts, gate)?;
+    finish(
+        rt,
+        alloc,
+        &mut outcome.workers,
+        &mut outcome.records,
+        &mut posters,
+    );
+    Ok(outcome)
+}
+
+/// Room for what so many workers hand back.
+fn room_for_outcome(alloc: Global, count: usize) -> Result<QueueOutcome, NoMemory>
+    ensures empty { IfOk result (λ out. (out.workers.items ≡ []) × (out.records.items ≡ [])) }
+    ensures room { IfOk result (λ out. (count ≤ vec_capacity out.workers) × (count ≤ vec_capacity out.records)) }
+{
+    let workers = Vec::with_capacity(alloc, count)?;
+    let records = Vec::with_capacity(alloc, count)?;
+    Ok(QueueOutcome { workers, records })
+}
+
+/// Takes apart what was done.
+fn take_apart(done: &mut Vec<QueueDone>, out: &mut QueueOutcome)
+    requires empty { (out.old.workers.items ≡ []) × (out.old.records.items ≡ []) }
+    requires room { (vec_len done.old ≤ vec_capacity out.old.workers) × (vec_len done.old ≤ vec_capacity out.old.records) }
+    ensures parts { (out.new.workers.items ≡ map (λ d. d.worker) done.old.items) × (out.new.records.items ≡ map (λ d. d.entries) done.old.items) }
+    ensures len { (vec_len out.new.workers ≡ vec_len done.old) × (vec_len out.new.records ≡ vec_len done.old) }
+    ensures capacity { (vec_capacity out.new.workers ≡ vec_capacity out.old.workers) × (vec_capacity out.new.records ≡ vec_capacity out.old.records) }
+{
+    let Some(
+        QueueDone {
+            worker,
+            made: _,
+            entries,
+        },
+    ) = done.pop()
+    else {
+        return;
+    };
+    take_apart(done, out);
+    out.workers.push_reserved(worker);
+    out.records.push_reserved(entries);
+}
+
+/// Makes all room, and runs each script in a thread of its own.
+fn run_scripts<R: Threads + Wait + Sync, G: Gate>(
+    rt: &R,
+    alloc: Global,
+    workers: Vec<QueueWorker>,
+    scripts: Vec<Vec<Call>>,
+    gate: &G,
+) -> Result<QueueOutcome, NoMemory>
+    requires yard { IsQueueYard workers.items }
+    requires count { vec_len scripts ≡ vec_len workers }
+    requires short { All (λ s. vec_len s < 2 ^ 32) scripts.items }
+    ensures run { IfOk result (λ o. HaveQueuesRun workers.items (map (λ s. s.items) scripts.items) (map (λ r. r.items) o.records.items) o.workers.items) }
+    ensures places { IfOk result (λ o. All HasPlace o.records.items) }
+{
+    let tasks = prepare_tasks(alloc, workers, scripts)?;
+    let mut outcome = room_for_outcome(alloc, tasks.len())?;
+    let mut done = run_all(rt, alloc, tasks, gate)?;
+    take_apart(&mut done, &mut outcome);
+    Ok(outcome)
+}
+
+/// Settles the queues, drains each worker, and settles them again.
+fn finish<R: Wait>(
+    rt: &R,
+    alloc: Global,
+    workers: &mut [QueueWorker],
+    records: &mut [Vec<Entry>],
+    posters: &mut Vec<PosterEnd>,
+)
+    requires yard { IsQueueYard workers.old }
+    requires count { length records.old ≡ length workers.old }
+    requires places { All HasPlace records.old }
+    requires room { length workers.old ≤ vec_capacity posters.old }
+    ensures { Finished workers.old (map (λ r. r.items) records.old) (map (λ r. r.items) records.new) workers.new }
+{
+    settle_queues(workers, posters);
+    drain_all(rt, alloc, workers, records);
+    settle_queues(workers, posters);
+}
+
+/// Drains each worker, in rising number.
+fn drain_all<R: Wait>(
+    rt: &R,
+    alloc: Global,
+    workers: &mut [QueueWorker],
+    records: &mut [Vec<Entry>],
+)
+    requires yard { All KnowsSomeYard workers.old }
+    requires count { length records.old ≡ length workers.old }
+    requires places { All HasPlace records.old }
+    ensures { QueuesDrained workers.old (map (λ r. r.items) records.old) (map (λ r. r.items) records.new) workers.new (length workers.old) }
+{
+    for j in 0..workers.len() {
+        drain_last(rt, alloc, &mut workers[j], &mut records[j]);
+    }
+}
+
+/// Takes all that waits for a worker. Nobody posts any more, and there is room for an entry of each post: so the queue is
+/// empty at the end, and the drain doesn't wait for long.
+fn drain_last<R: Wait>(rt: &R, alloc: Global, worker: &mut QueueWorker, entries: &mut Vec<Entry>)
+    requires yard { KnowsSomeYard worker.old }
+    requires place { HasPlace entries.old }
+    ensures { (n : ℕ) → KnowsQueueYard n worker.old → DrainedLast n worker.old worker.new entries.old.items entries.new.items }
+{
+    let mut journal = QueueJournal {
+        limit: last_limit(entries),
+        entries: mem::replace(entries, Vec::new(alloc)),
+    };
+    let taken = drain_into_queue_journal(rt, worker, &mut journal, MOST_DRAINED);
+    journal.entries.push_reserved(Entry {
+        worker: worker.id,
+        call: Call::Drain { most: MOST_DRAINED },
+        reply: Reply::Drained(taken),
+    });
+    *entries = journal.entries;
+}
+
+/// How many posts a last drain may take: fewer than it asks for, so that it goes on until its queue is empty.
+fn last_limit(entries: &Vec<Entry>) -> usize
+    requires { HasPlace entries.now }
+    ensures few { result < 8192 }
+    ensures room { vec_len entries.now + result + 1 ≤ vec_capacity entries.now }
+{
+    let room = entries.capacity() - entries.len() - 1;
+    if room < MOST_DRAINED as usize {
+        room
+    } else {
+        MOST_DRAINED as usize - 1
+    }
+}
