@@ -166,20 +166,33 @@ fn share_one_place<R: Threads + Wait + Abort + Sync>(
 fn queue_of_one_is_full(rt: HostRuntime) -> Result<(), Fail> {
     let blocks = [name(0, 0, 1), name(0, 4, 2)];
     let records = share_one_place(&rt, rt.alloc(), blocks)?;
-    let found = [records.get(0), records.get(1), records.get(2)].map(|r| r.map(Vec::as_slice));
-    let full = |at: usize| Reply::Refused(CrewRefusal::Full(blocks[at]));
-    let first = [
-        Some([taken(0, 1, blocks[0]), last(0, 1)].as_slice()),
-        Some([posted(1, blocks[0]), last(1, 0)].as_slice()),
-        Some([entry(2, release(blocks[1]), full(1)), last(2, 0)].as_slice()),
+    let full = [
+        Reply::Refused(CrewRefusal::Full(blocks[0])),
+        Reply::Refused(CrewRefusal::Full(blocks[1])),
     ];
-    let second = [
-        Some([taken(0, 2, blocks[1]), last(0, 1)].as_slice()),
-        Some([entry(1, release(blocks[0]), full(0)), last(1, 0)].as_slice()),
-        Some([posted(2, blocks[1]), last(2, 0)].as_slice()),
+    let first: [&[Entry]; 3] = [
+        &[taken(0, 1, blocks[0]), last(0, 1)],
+        &[posted(1, blocks[0]), last(1, 0)],
+        &[entry(2, release(blocks[1]), full[1]), last(2, 0)],
     ];
-    assert!(rt; found == first || found == second);
+    let second: [&[Entry]; 3] = [
+        &[taken(0, 2, blocks[1]), last(0, 1)],
+        &[entry(1, release(blocks[0]), full[0]), last(1, 0)],
+        &[posted(2, blocks[1]), last(2, 0)],
+    ];
+    let found = are_records(&records, first) || are_records(&records, second);
+    same(found, true).expect(&rt, "differ");
     Ok(())
+}
+
+/// Whether the records are these.
+fn are_records(records: &[Vec<Entry>], wanted: [&[Entry]; 3]) -> bool {
+    for (i, wanted) in wanted.iter().enumerate() {
+        if records.get(i).map(Vec::as_slice) != Some(*wanted) {
+            return false;
+        }
+    }
+    true
 }
 
 /// Whether all of so many workers met at the gate, and each has a record of its one call and its last drain.
