@@ -39,7 +39,7 @@ own_program calls ': tlsf_heap anyhow' tlsf_class tlsf_words tlsf_heap
 }
 cp "$work/crates/calls_bench/out/calls_bench" "$work/heap"
 
-# The mean of the instructions of the calls of a function, from what callgrind wrote.
+# The mean of the instructions of the calls of a function, from what callgrind wrote. The level is left out of a function's name.
 mean() {
     awk -v wanted="$1" '
     function name(text, key) {
@@ -49,7 +49,7 @@ mean() {
         return names[key]
     }
     /^fn=/ { name(substr($0, 4)) }
-    /^cfn=/ { called = name(substr($0, 5)) }
+    /^cfn=/ { called = name(substr($0, 5)); gsub(/(::)?<[^<>]*>/, "", called) }
     /^calls=/ {
         split($1, count, "=")
         getline

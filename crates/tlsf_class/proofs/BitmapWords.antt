@@ -3,244 +3,263 @@ use Rattle.std.proofs.Common.{◌≡◌, ◌≢◌, ℕ, ◌+◌, ◌*◌, ◌/�
 use Rattle.std.specs.Prelude.{◌↔◌, Contains}
 use Rattle.std.specs.Int.{bit_at}
 use Rattle.std.proofs.lemmas.List.{length-set}
-use Rattle.std.proofs.lemmas.Bool.{cases_eq, eq-eqb, ne_eqb, cases_order}
+use Rattle.std.proofs.lemmas.Bool.{cases_eq, cases_lt, eq-eqb, ne_eqb, cases_order}
 use Rattle.std.proofs.lemmas.Nat.Bits.{bit_at-zero}
-use Rattle.tlsf_class.specs.Classes.{classes}
+use Rattle.tlsf_class.specs.Classes.{IsLevel, level_classes, last_class, classes}
+use Rattle.tlsf_class.proofs.TwoLevels.{by_level, split, first_at, second_at, second_below, first_inside, first_rises, second_rises, same_class, first_below, second_less}
 use Rattle.tlsf_class.specs.Members.{with_member, without_member, next_member}
 use Rattle.tlsf_class.specs.Bitmaps.{is_set, members_of, AreLevels}
 use Rattle.tlsf_class.proofs.Members.{filter-classes_same, Contains-filter, with_member-filter, without_member-filter, next_member-filter, next_member-filter_none}
 
--- a class is a member exactly where its bit is set
-pub Contains-members_of : (second : List ℕ) (c : ℕ) → 4 ≤ c → c ≤ 272 → (is_set second c ≡ true) ↔ Contains (members_of second) c
-unfolding members_of
-Contains-members_of second c = Contains-filter (is_set second) c
+module _ (sli : ℕ) (level : IsLevel sli) where
+  -- a class is a member exactly where its bit is set
+  pub Contains-members_of : (second : List ℕ) (c : ℕ) → 4 ≤ c → c ≤ last_class sli → (is_set sli second c ≡ true) ↔ Contains (members_of sli second) c
+  unfolding members_of
+  Contains-members_of second c = Contains-filter sli level (is_set sli second) c
 
--- where the word of one first level is written, the bit of each class is that of the new word or as it was
-written : (P : ℕ → Type 0) (second : List ℕ) (first_level word d : ℕ) → first_level < length second → (d / 16 ≡ first_level → P word) → (d / 16 ≢ first_level → P (get_or second (d / 16) 0)) → P (get_or (set second first_level word) (d / 16) 0)
-written P second first_level word d within here there = elim (cases_eq (d / 16) first_level) [
-  | inl e ↦ rw (e, get_or-set_same second first_level word 0 within) (here e)
-  | inr n ↦ rw (get_or-set_other second first_level (d / 16) word 0 n) (there n)
-]
+  -- where the word of one first level is written, the bit of each class is that of the new word or as it was
+  written : (P : ℕ → Type 0) (second : List ℕ) (first_level word d : ℕ) → first_level < length second → (d / level_classes sli ≡ first_level → P word) → (d / level_classes sli ≢ first_level → P (get_or second (d / level_classes sli) 0)) → P (get_or (set second first_level word) (d / level_classes sli) 0)
+  written P second first_level word d within here there = elim (cases_eq (d / level_classes sli) first_level) [
+    | inl e ↦ rw (e, get_or-set_same second first_level word 0 within) (here e)
+    | inr n ↦ rw (get_or-set_other second first_level (d / level_classes sli) word 0 n) (there n)
+  ]
 
--- the word of the first level of c, with the bit of c set
-pub record SetsBit (second : List ℕ) (c first_level second_level word : ℕ) : Type 0 where
-  pub first_levels : length second ≡ 18
-  pub least : 4 ≤ c
-  pub most : c ≤ 272
-  pub first_is : first_level ≡ c / 16
-  pub second_is : second_level ≡ c % 16
-  pub same : bit_at word second_level ≡ 1
-  pub others : (k : ℕ) → k ≢ second_level → bit_at word k ≡ bit_at (get_or second first_level 0) k
+  -- the word of the first level of c, with the bit of c set
+  pub record SetsBit (second : List ℕ) (c first_level second_level word : ℕ) : Type 0 where
+    pub first_levels : length second ≡ 21
+    pub least : 4 ≤ c
+    pub most : c ≤ last_class sli
+    pub first_is : first_level ≡ c / level_classes sli
+    pub second_is : second_level ≡ c % level_classes sli
+    pub same : bit_at word second_level ≡ 1
+    pub others : (k : ℕ) → k ≢ second_level → bit_at word k ≡ bit_at (get_or second first_level 0) k
 
--- from a word that was read
-pub SetsBit-read : (second : List ℕ) (c first_level second_level old word : ℕ) → length second ≡ 18 → 4 ≤ c → c ≤ 272 → first_level ≡ c / 16 → second_level ≡ c % 16 → old ≡ get_or second first_level 0 → bit_at word second_level ≡ 1 → ((k : ℕ) → k ≢ second_level → bit_at word k ≡ bit_at old k) → SetsBit second c first_level second_level word
-SetsBit-read second c first_level second_level old word first_levels least most first_is second_is read same others =
-    record {
-      first_levels = first_levels;
-      least = least;
-      most = most;
-      first_is = first_is;
-      second_is = second_is;
-      same = same;
-      others = λ k other. others k other ∙ ap (λ w. bit_at w k) read;
-    }
+  -- from a word that was read
+  pub SetsBit-read : (second : List ℕ) (c first_level second_level old word : ℕ) → length second ≡ 21 → 4 ≤ c → c ≤ last_class sli → first_level ≡ c / level_classes sli → second_level ≡ c % level_classes sli → old ≡ get_or second first_level 0 → bit_at word second_level ≡ 1 → ((k : ℕ) → k ≢ second_level → bit_at word k ≡ bit_at old k) → SetsBit second c first_level second_level word
+  SetsBit-read second c first_level second_level old word first_levels least most first_is second_is read same others =
+      record {
+        first_levels = first_levels;
+        least = least;
+        most = most;
+        first_is = first_is;
+        second_is = second_is;
+        same = same;
+        others = λ k other. others k other ∙ ap (λ w. bit_at w k) read;
+      }
 
--- then the bit of each class is set that was, and that of c
-is_set-set : (second : List ℕ) (c first_level second_level word d : ℕ) → SetsBit second c first_level second_level word → is_set (set second first_level word) d ≡ (eqb c d || is_set second d)
-is_set-set second c first_level second_level word d sets =
-    written (λ w. eqb (bit_at w (d % 16)) 1 ≡ (eqb c d || is_set second d)) second first_level word d (omega (arith, sets.first_levels, sets.first_is, sets.most))
-    (λ e. elim (cases_eq (d % 16) second_level) [
-      | inl f ↦
-          let one : c ≡ d = omega (arith, sets.first_is, sets.second_is) in
-          rw (f, sets.same, eq-eqb c d one) refl
-      | inr n ↦
-          let other : c ≢ d = λ g. n (omega (arith, sets.second_is)) in
-          rw (sets.others (d % 16) n, ne_eqb c d other, e) refl
-    ])
-    (λ n. let other : c ≢ d = (λ g. n (omega (arith, sets.first_is))) in rw (ne_eqb c d other) refl)
+  -- then the bit of each class is set that was, and that of c
+  is_set-set : (second : List ℕ) (c first_level second_level word d : ℕ) → SetsBit second c first_level second_level word → is_set sli (set second first_level word) d ≡ (eqb c d || is_set sli second d)
+  is_set-set second c first_level second_level word d sets =
+      written (λ w. eqb (bit_at w (d % level_classes sli)) 1 ≡ (eqb c d || is_set sli second d)) second first_level word d (omega (arith, sets.first_levels, sets.first_is, first_inside sli level c sets.most))
+      (λ e. elim (cases_eq (d % level_classes sli) second_level) [
+        | inl f ↦
+            let one : c ≡ d = same_class sli c d (omega (arith, sets.first_is)) (omega (arith, sets.second_is)) in
+            rw (f, sets.same, eq-eqb c d one) refl
+        | inr n ↦
+            let other : c ≢ d = λ g. n (ap (λ k. k % level_classes sli) (sym g) ∙ sym sets.second_is) in
+            rw (sets.others (d % level_classes sli) n, ne_eqb c d other, e) refl
+      ])
+      (λ n. let other : c ≢ d = (λ g. n (ap (λ k. k / level_classes sli) (sym g) ∙ sym sets.first_is)) in rw (ne_eqb c d other) refl)
 
--- and the members are c and those before
-pub members_of-set : (second : List ℕ) (c first_level second_level word : ℕ) → SetsBit second c first_level second_level word → members_of (set second first_level word) ≡ with_member (members_of second) c
-unfolding members_of
-members_of-set second c first_level second_level word sets =
-    filter-classes_same (is_set (set second first_level word)) (λ d. eqb c d || is_set second d) (λ d _ _. is_set-set second c first_level second_level word d sets)
-    ∙ sym (with_member-filter (is_set second) c)
+  -- and the members are c and those before
+  pub members_of-set : (second : List ℕ) (c first_level second_level word : ℕ) → SetsBit second c first_level second_level word → members_of sli (set second first_level word) ≡ with_member sli (members_of sli second) c
+  unfolding members_of
+  members_of-set second c first_level second_level word sets =
+      filter-classes_same sli level (is_set sli (set second first_level word)) (λ d. eqb c d || is_set sli second d) (λ d _ _. is_set-set second c first_level second_level word d sets)
+      ∙ sym (with_member-filter sli level (is_set sli second) c)
 
--- a word with a bit set isn't zero
-some_bit : (word bit : ℕ) → bit_at word bit ≡ 1 → 0 < word
-some_bit word bit h = elim (cases_order word 0) [
-  | inl e ↦ absurd (omega (arith, bit_at-zero bit, sym h ∙ ap (λ w. bit_at w bit) e))
-  | inr other ↦ elim other [ inl below ↦ absurd (omega arith) | inr above ↦ above ]
-]
+  -- a word with a bit set isn't zero
+  some_bit : (word bit : ℕ) → bit_at word bit ≡ 1 → 0 < word
+  some_bit word bit h = elim (cases_order word 0) [
+    | inl e ↦ absurd (omega (arith, bit_at-zero bit, sym h ∙ ap (λ w. bit_at w bit) e))
+    | inr other ↦ elim other [ inl below ↦ absurd (omega arith) | inr above ↦ above ]
+  ]
 
--- the two levels stay in step where the bit of c is set in both
-pub AreLevels-set : (first next : ℕ) (second : List ℕ) (c first_level second_level word : ℕ) → AreLevels first second → SetsBit second c first_level second_level word → bit_at next first_level ≡ 1 → ((k : ℕ) → k ≢ first_level → bit_at next k ≡ bit_at first k) → AreLevels next (set second first_level word)
-AreLevels-set first next second c first_level second_level word levels sets here others =
-    record {
-      first_levels = length-set second first_level word ∙ levels.first_levels;
-      first_bits = λ r. elim (cases_eq r first_level) [
-        | inl e ↦ rw (e, get_or-set_same second first_level word 0 within) (omega (arith, some_bit word second_level sets.same, here))
-        | inr n ↦ rw (get_or-set_other second first_level r word 0 n) (others r n ∙ levels.first_bits r)
-      ];
-      in_use = λ r p. elim (cases_eq r first_level) [
-        | inl e ↦ rw (e, get_or-set_same second first_level word 0 within) (λ h. elim (cases_eq p second_level) [
-          | inl f ↦ (omega (arith, sets.second_is), omega (arith, sets.first_is, sets.second_is, sets.least), omega (arith, sets.first_is, sets.second_is, sets.most))
-          | inr m ↦ levels.in_use first_level p (sym (sets.others p m) ∙ h)
-        ])
-        | inr n ↦ rw (get_or-set_other second first_level r word 0 n) (levels.in_use r p)
-      ];
-    }
-  where
-    within : first_level < length second
-    within = omega (arith, sets.first_levels, sets.first_is, sets.most)
+  -- the two levels stay in step where the bit of c is set in both
+  pub AreLevels-set : (first next : ℕ) (second : List ℕ) (c first_level second_level word : ℕ) → AreLevels sli first second → SetsBit second c first_level second_level word → bit_at next first_level ≡ 1 → ((k : ℕ) → k ≢ first_level → bit_at next k ≡ bit_at first k) → AreLevels sli next (set second first_level word)
+  AreLevels-set first next second c first_level second_level word levels sets here others =
+      record {
+        level = level;
+        first_levels = length-set second first_level word ∙ levels.first_levels;
+        first_bits = λ r. elim (cases_eq r first_level) [
+          | inl e ↦ rw (e, get_or-set_same second first_level word 0 within) (omega (arith, some_bit word second_level sets.same, here))
+          | inr n ↦ rw (get_or-set_other second first_level r word 0 n) (others r n ∙ levels.first_bits r)
+        ];
+        in_use = λ r p. elim (cases_eq r first_level) [
+          | inl e ↦ rw (e, get_or-set_same second first_level word 0 within) (λ h. elim (cases_eq p second_level) [
+            | inl f ↦ rw (f, sets.first_is, sets.second_is, split sli c) (second_below sli level c, sets.least, sets.most)
+            | inr m ↦ levels.in_use first_level p (sym (sets.others p m) ∙ h)
+          ])
+          | inr n ↦ rw (get_or-set_other second first_level r word 0 n) (levels.in_use r p)
+        ];
+      }
+    where
+      within : first_level < length second
+      within = omega (arith, sets.first_levels, sets.first_is, first_inside sli level c sets.most)
 
--- the word of the first level of c, with the bit of c cleared
-pub record ClearsBit (second : List ℕ) (c first_level second_level word : ℕ) : Type 0 where
-  pub first_levels : length second ≡ 18
-  pub most : c ≤ 272
-  pub first_is : first_level ≡ c / 16
-  pub second_is : second_level ≡ c % 16
-  pub same : bit_at word second_level ≡ 0
-  pub others : (k : ℕ) → k ≢ second_level → bit_at word k ≡ bit_at (get_or second first_level 0) k
-  pub below : word ≤ get_or second first_level 0
+  -- the word of the first level of c, with the bit of c cleared
+  pub record ClearsBit (second : List ℕ) (c first_level second_level word : ℕ) : Type 0 where
+    pub first_levels : length second ≡ 21
+    pub most : c ≤ last_class sli
+    pub first_is : first_level ≡ c / level_classes sli
+    pub second_is : second_level ≡ c % level_classes sli
+    pub same : bit_at word second_level ≡ 0
+    pub others : (k : ℕ) → k ≢ second_level → bit_at word k ≡ bit_at (get_or second first_level 0) k
+    pub below : word ≤ get_or second first_level 0
 
--- from a word that was read
-pub ClearsBit-read : (second : List ℕ) (c first_level second_level old word : ℕ) → length second ≡ 18 → c ≤ 272 → first_level ≡ c / 16 → second_level ≡ c % 16 → old ≡ get_or second first_level 0 → bit_at word second_level ≡ 0 → ((k : ℕ) → k ≢ second_level → bit_at word k ≡ bit_at old k) → word ≤ old → ClearsBit second c first_level second_level word
-ClearsBit-read second c first_level second_level old word first_levels most first_is second_is read same others below =
-    record {
-      first_levels = first_levels;
-      most = most;
-      first_is = first_is;
-      second_is = second_is;
-      same = same;
-      others = λ k other. others k other ∙ ap (λ w. bit_at w k) read;
-      below = omega arith;
-    }
+  -- from a word that was read
+  pub ClearsBit-read : (second : List ℕ) (c first_level second_level old word : ℕ) → length second ≡ 21 → c ≤ last_class sli → first_level ≡ c / level_classes sli → second_level ≡ c % level_classes sli → old ≡ get_or second first_level 0 → bit_at word second_level ≡ 0 → ((k : ℕ) → k ≢ second_level → bit_at word k ≡ bit_at old k) → word ≤ old → ClearsBit second c first_level second_level word
+  ClearsBit-read second c first_level second_level old word first_levels most first_is second_is read same others below =
+      record {
+        first_levels = first_levels;
+        most = most;
+        first_is = first_is;
+        second_is = second_is;
+        same = same;
+        others = λ k other. others k other ∙ ap (λ w. bit_at w k) read;
+        below = omega arith;
+      }
 
--- then the bit of each class is set that was, but that of c
-is_set-clear : (second : List ℕ) (c first_level second_level word d : ℕ) → ClearsBit second c first_level second_level word → is_set (set second first_level word) d ≡ (is_set second d && not (eqb c d))
-is_set-clear second c first_level second_level word d clears =
-    written (λ w. eqb (bit_at w (d % 16)) 1 ≡ (is_set second d && not (eqb c d))) second first_level word d (omega (arith, clears.first_levels, clears.first_is, clears.most))
-    (λ e. elim (cases_eq (d % 16) second_level) [
-      | inl f ↦
-          let one : c ≡ d = omega (arith, clears.first_is, clears.second_is) in
-          rw (f, clears.same, eq-eqb c d one) (sym (and_false (eqb (bit_at (get_or second (d / 16) 0) second_level) 1)))
-      | inr n ↦
-          let other : c ≢ d = λ g. n (omega (arith, clears.second_is)) in
-          rw (clears.others (d % 16) n, ne_eqb c d other, e) (sym (and_true (eqb (bit_at (get_or second first_level 0) (d % 16)) 1)))
-    ])
-    (λ n. let other : c ≢ d = (λ g. n (omega (arith, clears.first_is))) in rw (ne_eqb c d other) (sym (and_true (is_set second d))))
-  where
-    and_true : (b : Bool) → (b && true) ≡ b
-    and_true true = refl
-    and_true false = refl
+  -- then the bit of each class is set that was, but that of c
+  is_set-clear : (second : List ℕ) (c first_level second_level word d : ℕ) → ClearsBit second c first_level second_level word → is_set sli (set second first_level word) d ≡ (is_set sli second d && not (eqb c d))
+  is_set-clear second c first_level second_level word d clears =
+      written (λ w. eqb (bit_at w (d % level_classes sli)) 1 ≡ (is_set sli second d && not (eqb c d))) second first_level word d (omega (arith, clears.first_levels, clears.first_is, first_inside sli level c clears.most))
+      (λ e. elim (cases_eq (d % level_classes sli) second_level) [
+        | inl f ↦
+            let one : c ≡ d = same_class sli c d (omega (arith, clears.first_is)) (omega (arith, clears.second_is)) in
+            rw (f, clears.same, eq-eqb c d one) (sym (and_false (eqb (bit_at (get_or second (d / level_classes sli) 0) second_level) 1)))
+        | inr n ↦
+            let other : c ≢ d = λ g. n (ap (λ k. k % level_classes sli) (sym g) ∙ sym clears.second_is) in
+            rw (clears.others (d % level_classes sli) n, ne_eqb c d other, e) (sym (and_true (eqb (bit_at (get_or second first_level 0) (d % level_classes sli)) 1)))
+      ])
+      (λ n. let other : c ≢ d = (λ g. n (ap (λ k. k / level_classes sli) (sym g) ∙ sym clears.first_is)) in rw (ne_eqb c d other) (sym (and_true (is_set sli second d))))
+    where
+      and_true : (b : Bool) → (b && true) ≡ b
+      and_true true = refl
+      and_true false = refl
 
-    and_false : (b : Bool) → (b && false) ≡ false
-    and_false true = refl
-    and_false false = refl
+      and_false : (b : Bool) → (b && false) ≡ false
+      and_false true = refl
+      and_false false = refl
 
--- and the members are those before but c
-pub members_of-clear : (second : List ℕ) (c first_level second_level word : ℕ) → ClearsBit second c first_level second_level word → members_of (set second first_level word) ≡ without_member (members_of second) c
-unfolding members_of
-members_of-clear second c first_level second_level word clears =
-    filter-classes_same (is_set (set second first_level word)) (λ d. is_set second d && not (eqb c d)) (λ d _ _. is_set-clear second c first_level second_level word d clears)
-    ∙ sym (without_member-filter (is_set second) c)
+  -- and the members are those before but c
+  pub members_of-clear : (second : List ℕ) (c first_level second_level word : ℕ) → ClearsBit second c first_level second_level word → members_of sli (set second first_level word) ≡ without_member (members_of sli second) c
+  unfolding members_of
+  members_of-clear second c first_level second_level word clears =
+      filter-classes_same sli level (is_set sli (set second first_level word)) (λ d. is_set sli second d && not (eqb c d)) (λ d _ _. is_set-clear second c first_level second_level word d clears)
+      ∙ sym (without_member-filter sli (is_set sli second) c)
 
--- the two levels stay in step where the bit of c is cleared, and the bit of its first level says whether its word is zero
-pub AreLevels-clear : (first next : ℕ) (second : List ℕ) (c first_level second_level word : ℕ) → AreLevels first second → ClearsBit second c first_level second_level word → bit_at next first_level ≡ min 1 word → ((k : ℕ) → k ≢ first_level → bit_at next k ≡ bit_at first k) → AreLevels next (set second first_level word)
-AreLevels-clear first next second c first_level second_level word levels clears here others =
-    record {
-      first_levels = length-set second first_level word ∙ levels.first_levels;
-      first_bits = λ r. elim (cases_eq r first_level) [
-        | inl e ↦ rw (e, get_or-set_same second first_level word 0 within) here
-        | inr n ↦ rw (get_or-set_other second first_level r word 0 n) (others r n ∙ levels.first_bits r)
-      ];
-      in_use = λ r p. elim (cases_eq r first_level) [
-        | inl e ↦ rw (e, get_or-set_same second first_level word 0 within) (λ h. elim (cases_eq p second_level) [
-          | inl f ↦ absurd (omega (arith, clears.same, sym h ∙ ap (bit_at word) f))
-          | inr m ↦ levels.in_use first_level p (sym (clears.others p m) ∙ h)
-        ])
-        | inr n ↦ rw (get_or-set_other second first_level r word 0 n) (levels.in_use r p)
-      ];
-    }
-  where
-    within : first_level < length second
-    within = omega (arith, clears.first_levels, clears.first_is, clears.most)
+  -- the two levels stay in step where the bit of c is cleared, and the bit of its first level says whether its word is zero
+  pub AreLevels-clear : (first next : ℕ) (second : List ℕ) (c first_level second_level word : ℕ) → AreLevels sli first second → ClearsBit second c first_level second_level word → bit_at next first_level ≡ min 1 word → ((k : ℕ) → k ≢ first_level → bit_at next k ≡ bit_at first k) → AreLevels sli next (set second first_level word)
+  AreLevels-clear first next second c first_level second_level word levels clears here others =
+      record {
+        level = level;
+        first_levels = length-set second first_level word ∙ levels.first_levels;
+        first_bits = λ r. elim (cases_eq r first_level) [
+          | inl e ↦ rw (e, get_or-set_same second first_level word 0 within) here
+          | inr n ↦ rw (get_or-set_other second first_level r word 0 n) (others r n ∙ levels.first_bits r)
+        ];
+        in_use = λ r p. elim (cases_eq r first_level) [
+          | inl e ↦ rw (e, get_or-set_same second first_level word 0 within) (λ h. elim (cases_eq p second_level) [
+            | inl f ↦ absurd (omega (arith, clears.same, sym h ∙ ap (bit_at word) f))
+            | inr m ↦ levels.in_use first_level p (sym (clears.others p m) ∙ h)
+          ])
+          | inr n ↦ rw (get_or-set_other second first_level r word 0 n) (levels.in_use r p)
+        ];
+      }
+    where
+      within : first_level < length second
+      within = omega (arith, clears.first_levels, clears.first_is, first_inside sli level c clears.most)
 
--- the bit of a first level stays where the new word isn't zero, since the old one wasn't either
-pub first_bit-kept : (first : ℕ) (second : List ℕ) (first_level word : ℕ) → AreLevels first second → word ≤ get_or second first_level 0 → 0 < word → bit_at first first_level ≡ min 1 word
-first_bit-kept first second first_level word levels below some = levels.first_bits first_level ∙ omega arith
+  -- the bit of a first level stays where the new word isn't zero, since the old one wasn't either
+  pub first_bit-kept : (first : ℕ) (second : List ℕ) (first_level word : ℕ) → AreLevels sli first second → word ≤ get_or second first_level 0 → 0 < word → bit_at first first_level ≡ min 1 word
+  first_bit-kept first second first_level word levels below some = levels.first_bits first_level ∙ omega arith
 
--- where the bit of a first level is zero, no bit of its word is set
-no_bit : (first : ℕ) (second : List ℕ) (first_level bit : ℕ) → AreLevels first second → bit_at first first_level ≡ 0 → bit_at (get_or second first_level 0) bit ≡ 0
-no_bit first second first_level bit levels h =
-    let e : get_or second first_level 0 ≡ 0 = omega (arith, levels.first_bits first_level, h) in
-    ap (λ w. bit_at w bit) e ∙ bit_at-zero bit
+  -- where the bit of a first level is zero, no bit of its word is set
+  no_bit : (first : ℕ) (second : List ℕ) (first_level bit : ℕ) → AreLevels sli first second → bit_at first first_level ≡ 0 → bit_at (get_or second first_level 0) bit ≡ 0
+  no_bit first second first_level bit levels h =
+      let e : get_or second first_level 0 ≡ 0 = omega (arith, levels.first_bits first_level, h) in
+      ap (λ w. bit_at w bit) e ∙ bit_at-zero bit
 
--- the least member at or above c, by its two levels
-pub record IsNext (second : List ℕ) (c first_level second_level : ℕ) : Type 0 where
-  pub above : c ≤ 16 * first_level + second_level
-  pub here : bit_at (get_or second first_level 0) second_level ≡ 1
-  pub before : (d : ℕ) → c ≤ d → d < 16 * first_level + second_level → bit_at (get_or second (d / 16) 0) (d % 16) ≡ 0
+  -- the least member at or above c, by its two levels
+  pub record IsNext (second : List ℕ) (c first_level second_level : ℕ) : Type 0 where
+    pub above : c ≤ level_classes sli * first_level + second_level
+    pub here : bit_at (get_or second first_level 0) second_level ≡ 1
+    pub before : (d : ℕ) → c ≤ d → d < level_classes sli * first_level + second_level → bit_at (get_or second (d / level_classes sli) 0) (d % level_classes sli) ≡ 0
 
--- those levels are of the least member at or above c
-next_is : (first : ℕ) (second : List ℕ) (c first_level second_level : ℕ) → AreLevels first second → IsNext second c first_level second_level → next_member (members_of second) c ≡ Some (16 * first_level + second_level)
-unfolding members_of
-next_is first second c first_level second_level levels next =
-    let (inside, least, most) = levels.in_use first_level second_level next.here in
-    let q : (16 * first_level + second_level) / 16 ≡ first_level = omega arith in
-    let r : (16 * first_level + second_level) % 16 ≡ second_level = omega arith in
-    let passes : is_set second (16 * first_level + second_level) ≡ true = rw (q, r) (eq-eqb (bit_at (get_or second first_level 0) second_level) 1 next.here) in
-    next_member-filter (is_set second) c (16 * first_level + second_level) least most next.above passes
-    (λ d _ l h. ap (λ b. eqb b 1) (next.before d l h))
+  -- those levels are of the least member at or above c
+  next_is : (first : ℕ) (second : List ℕ) (c first_level second_level : ℕ) → AreLevels sli first second → IsNext second c first_level second_level → next_member (members_of sli second) c ≡ Some (level_classes sli * first_level + second_level)
+  unfolding members_of
+  next_is first second c first_level second_level levels next =
+      let (inside, least, most) = levels.in_use first_level second_level next.here in
+      let q = first_at sli first_level second_level inside in
+      let r = second_at sli first_level second_level inside in
+      let passes : is_set sli second (level_classes sli * first_level + second_level) ≡ true = rw (q, r) (eq-eqb (bit_at (get_or second first_level 0) second_level) 1 next.here) in
+      next_member-filter sli level (is_set sli second) c (level_classes sli * first_level + second_level) least most next.above passes
+      (λ d _ l h. ap (λ b. eqb b 1) (next.before d l h))
 
--- it is in the first level of c
-pub next-same_level : (first : ℕ) (second : List ℕ) (c first_level from second_level : ℕ) → AreLevels first second → first_level ≡ c / 16 → from ≡ c % 16 → from ≤ second_level → bit_at (get_or second first_level 0) second_level ≡ 1 → ((k : ℕ) → from ≤ k → k < second_level → bit_at (get_or second first_level 0) k ≡ 0) → next_member (members_of second) c ≡ Some (16 * first_level + second_level)
-next-same_level first second c first_level from second_level levels first_is from_is above here lowest =
-    let inside = (levels.in_use first_level second_level here).0 in
-    next_is first second c first_level second_level levels record {
-      above = omega arith;
-      here = here;
-      before = λ d l h. let e : d / 16 ≡ first_level = omega arith in rw e (lowest (d % 16) (omega arith) (omega arith));
-    }
+  -- it is in the first level of c
+  pub next-same_level : (first : ℕ) (second : List ℕ) (c first_level from second_level : ℕ) → AreLevels sli first second → first_level ≡ c / level_classes sli → from ≡ c % level_classes sli → from ≤ second_level → bit_at (get_or second first_level 0) second_level ≡ 1 → ((k : ℕ) → from ≤ k → k < second_level → bit_at (get_or second first_level 0) k ≡ 0) → next_member (members_of sli second) c ≡ Some (level_classes sli * first_level + second_level)
+  next-same_level first second c first_level from second_level levels first_is from_is above here lowest =
+      let inside = (levels.in_use first_level second_level here).0 in
+      next_is first second c first_level second_level levels record {
+        above = let s = split sli c in rw first_is (omega arith);
+        here = here;
+        before = λ d l h.
+            let rises = first_rises sli level c d l in
+            let under = first_below sli level d first_level second_level inside h in
+            let e : d / level_classes sli ≡ first_level = omega arith in
+            let from_d = second_rises sli c d first_level l (sym first_is) e in
+            rw e (lowest (d % level_classes sli) (omega arith) (second_less sli d first_level second_level h e));
+      }
 
--- it is the least of the next first level that has a member
-pub next-later_level : (first : ℕ) (second : List ℕ) (c first_level from later second_level : ℕ) → AreLevels first second → first_level ≡ c / 16 → from ≡ c % 16 → ((k : ℕ) → from ≤ k → bit_at (get_or second first_level 0) k ≡ 0) → first_level + 1 ≤ later → ((k : ℕ) → first_level + 1 ≤ k → k < later → bit_at first k ≡ 0) → bit_at (get_or second later 0) second_level ≡ 1 → ((k : ℕ) → k < second_level → bit_at (get_or second later 0) k ≡ 0) → next_member (members_of second) c ≡ Some (16 * later + second_level)
-next-later_level first second c first_level from later second_level levels first_is from_is none past skipped here lowest =
-    let inside = (levels.in_use later second_level here).0 in
-    next_is first second c later second_level levels record {
-      above = omega arith;
-      here = here;
-      before = λ d l h. elim (cases_order (d / 16) first_level) [
-        | inl e ↦ rw e (none (d % 16) (omega arith))
-        | inr other ↦ elim other [
-          | inl below ↦ absurd (omega arith)
-          | inr above ↦ elim (cases_order (d / 16) later) [
-            | inl e ↦ rw e (lowest (d % 16) (omega arith))
-            | inr other ↦ elim other [
-              | inl between ↦ no_bit first second (d / 16) (d % 16) levels (skipped (d / 16) (omega arith) between)
-              | inr beyond ↦ absurd (omega arith)
+  -- it is the least of the next first level that has a member
+  pub next-later_level : (first : ℕ) (second : List ℕ) (c first_level from later second_level : ℕ) → AreLevels sli first second → first_level ≡ c / level_classes sli → from ≡ c % level_classes sli → ((k : ℕ) → from ≤ k → bit_at (get_or second first_level 0) k ≡ 0) → first_level + 1 ≤ later → ((k : ℕ) → first_level + 1 ≤ k → k < later → bit_at first k ≡ 0) → bit_at (get_or second later 0) second_level ≡ 1 → ((k : ℕ) → k < second_level → bit_at (get_or second later 0) k ≡ 0) → next_member (members_of sli second) c ≡ Some (level_classes sli * later + second_level)
+  next-later_level first second c first_level from later second_level levels first_is from_is none past skipped here lowest =
+      let inside = (levels.in_use later second_level here).0 in
+      next_is first second c later second_level levels record {
+        above = elim (cases_lt c (level_classes sli * later + second_level)) [
+          | inl fine ↦ omega arith
+          | inr under ↦ let rises = first_rises sli level (level_classes sli * later + second_level) c under in let at = first_at sli later second_level inside in absurd (omega arith)
+        ];
+        here = here;
+        before = λ d l h. elim (cases_order (d / level_classes sli) first_level) [
+          | inl e ↦ rw e (none (d % level_classes sli) (let from_d = second_rises sli c d first_level l (sym first_is) e in omega arith))
+          | inr other ↦ elim other [
+            | inl below ↦ absurd (let rises = first_rises sli level c d l in omega arith)
+            | inr above ↦ elim (cases_order (d / level_classes sli) later) [
+              | inl e ↦ rw e (lowest (d % level_classes sli) (second_less sli d later second_level h e))
+              | inr other ↦ elim other [
+                | inl between ↦ no_bit first second (d / level_classes sli) (d % level_classes sli) levels (skipped (d / level_classes sli) (omega arith) between)
+                | inr beyond ↦ absurd (let under = first_below sli level d later second_level inside h in omega arith)
+              ]
             ]
           ]
-        ]
-      ];
-    }
+        ];
+      }
 
--- there is none in the first level of c from c on, and no first level above has one
-pub next-none : (first : ℕ) (second : List ℕ) (c first_level from : ℕ) → AreLevels first second → first_level ≡ c / 16 → from ≡ c % 16 → ((k : ℕ) → from ≤ k → bit_at (get_or second first_level 0) k ≡ 0) → ((k : ℕ) → first_level + 1 ≤ k → bit_at first k ≡ 0) → next_member (members_of second) c ≡ None
-unfolding members_of
-next-none first second c first_level from levels first_is from_is none above_none =
-    next_member-filter_none (is_set second) c (λ d _ l _.
-    let zero : bit_at (get_or second (d / 16) 0) (d % 16) ≡ 0 = elim (cases_order (d / 16) first_level) [
-      | inl e ↦ rw e (none (d % 16) (omega arith))
-      | inr other ↦ elim other [
-        | inl below ↦ absurd (omega arith)
-        | inr above ↦ no_bit first second (d / 16) (d % 16) levels (above_none (d / 16) (omega arith))
-      ]
-    ] in
-    ap (λ b. eqb b 1) zero)
+  -- there is none in the first level of c from c on, and no first level above has one
+  pub next-none : (first : ℕ) (second : List ℕ) (c first_level from : ℕ) → AreLevels sli first second → first_level ≡ c / level_classes sli → from ≡ c % level_classes sli → ((k : ℕ) → from ≤ k → bit_at (get_or second first_level 0) k ≡ 0) → ((k : ℕ) → first_level + 1 ≤ k → bit_at first k ≡ 0) → next_member (members_of sli second) c ≡ None
+  unfolding members_of
+  next-none first second c first_level from levels first_is from_is none above_none =
+      next_member-filter_none sli level (is_set sli second) c (λ d _ l _.
+      let zero : bit_at (get_or second (d / level_classes sli) 0) (d % level_classes sli) ≡ 0 = elim (cases_order (d / level_classes sli) first_level) [
+        | inl e ↦ rw e (none (d % level_classes sli) (let from_d = second_rises sli c d first_level l (sym first_is) e in omega arith))
+        | inr other ↦ elim other [
+          | inl below ↦ absurd (let rises = first_rises sli level c d l in omega arith)
+          | inr above ↦ no_bit first second (d / level_classes sli) (d % level_classes sli) levels (above_none (d / level_classes sli) (omega arith))
+        ]
+      ] in
+      ap (λ b. eqb b 1) zero)
 
 -- no bit is set, and there is no member
-pub members_of-zeros : members_of (replicate 18 0) ≡ []
+zeros_4 : members_of 4 (replicate 21 0) ≡ []
 unfolding members_of classes
-members_of-zeros = refl
+zeros_4 = refl
+
+zeros_5 : members_of 5 (replicate 21 0) ≡ []
+unfolding members_of classes
+zeros_5 = refl
+
+pub members_of-zeros : (sli : ℕ) → IsLevel sli → members_of sli (replicate 21 0) ≡ []
+members_of-zeros = by_level (λ sli. members_of sli (replicate 21 0) ≡ []) zeros_4 zeros_5

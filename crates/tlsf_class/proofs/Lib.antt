@@ -7,6 +7,7 @@
 --   OneBit: the bits of a word of 32 bits under a mask, and with one bit cleared
 --   RangeSearch: what searches among numbers in rising order find
 --   Tables: the definitions of classes against known values
+--   TwoLevels: what holds of second levels of 4 and of 5 bits, and how the number of a class splits into its two levels
 pub mod BitmapWords
 pub mod ClassByBits
 pub mod ClassOfSize
@@ -15,3 +16,4 @@ pub mod Members
 pub mod OneBit
 pub mod RangeSearch
 pub mod Tables
+pub mod TwoLevels

@@ -2,18 +2,19 @@
 -- each of its classes, at the class's second level.
 use Rattle.std.specs.Prelude.{◌≡◌, ℕ, ◌+◌, ◌*◌, ◌/◌, ◌%◌, ◌<◌, ◌≤◌, List, Bool, ◌==◌, length, slice_index, min, filter}
 use Rattle.std.specs.Int.{bit_at}
-use Rattle.tlsf_class.specs.Classes.{classes}
+use Rattle.tlsf_class.specs.Classes.{IsLevel, level_classes, last_class, classes}
 
 -- whether the bit of a class is set in the word of its first level
-abbrev pub is_set : List ℕ → ℕ → Bool
-is_set second class = bit_at (slice_index second (class / 16)) (class % 16) == 1
+abbrev pub is_set : ℕ → List ℕ → ℕ → Bool
+is_set sli second class = bit_at (slice_index second (class / level_classes sli)) (class % level_classes sli) == 1
 
 -- the classes whose bits are set, rising
-unfoldable pub members_of : List ℕ → List ℕ
-members_of second = filter (is_set second) classes
+unfoldable pub members_of : ℕ → List ℕ → List ℕ
+members_of sli second = filter (is_set sli second) (classes sli)
 
 -- the bit of a first level is set exactly where its word isn't zero, and only classes in use have bits
-pub record AreLevels (first : ℕ) (second : List ℕ) : Type 0 where
-  pub first_levels : length second ≡ 18
+pub record AreLevels (sli first : ℕ) (second : List ℕ) : Type 0 where
+  pub level : IsLevel sli
+  pub first_levels : length second ≡ 21
   pub first_bits : (first_level : ℕ) → bit_at first first_level ≡ min 1 (slice_index second first_level)
-  pub in_use : (first_level second_level : ℕ) → bit_at (slice_index second first_level) second_level ≡ 1 → (second_level < 16) × (4 ≤ 16 * first_level + second_level) × (16 * first_level + second_level ≤ 272)
+  pub in_use : (first_level second_level : ℕ) → bit_at (slice_index second first_level) second_level ≡ 1 → (second_level < level_classes sli) × (4 ≤ level_classes sli * first_level + second_level) × (level_classes sli * first_level + second_level ≤ last_class sli)

@@ -1,4 +1,5 @@
 ghost use Rattle.std.specs.Prelude.{◌≡◌, ◌↔◌, ◌+◌, ◌≤◌, [], Contains, IsTrue};
+ghost use Rattle.tlsf_class.specs.Classes.{IsLevel};
 ghost use Rattle.tlsf_class.specs.Members.{with_member, without_member, next_member};
 
 use crate::bits::{is_bit_set, lowest_bit, lowest_bit_from, with_bit, without_bit};
@@ -6,38 +7,39 @@ use crate::class::Class;
 use crate::levels::Levels;
 use std::marker::Model;
 
-/// A set of classes, as of those that have a free block, in two levels of bitmaps (ECRTS 2004, section 3). It holds 19
+/// A set of classes, as of those that have a free block, in two levels of bitmaps (ECRTS 2004, section 3). It holds 22
 /// words of 32 bits and takes no other memory. A call reads and writes four words at most, and counts each read and
 /// write as a touch.
 ///
 /// ```
-/// let mut bitmaps = Bitmaps::new();
+/// let mut bitmaps = Bitmaps::<4>::new();
 /// bitmaps.set(class_of(64));
 /// let next = bitmaps.next_from(search_of(33));     // Some: class 48, of 64 to 67 words
 /// ```
 #[derive(Drop)]
-pub struct Bitmaps {
+pub struct Bitmaps<const SLI: u32> {
     levels: Levels,
 }
 
-impl Model for Bitmaps {
+impl<const SLI: u32> Model for Bitmaps<SLI> {
     ghost use Rattle.tlsf_class.specs.Bitmaps.{members_of, AreLevels};
     ghost use Rattle.tlsf_class.specs.Members.{ClassSet};
 
     ghost Value = { ClassSet };
 
-    ghost view = { λ b. record { members = members_of b.levels.second; touches = b.levels.touches } };
+    ghost view = { λ b. record { members = members_of SLI b.levels.second; touches = b.levels.touches } };
 
-    ghost invariant = { λ b. AreLevels b.levels.first b.levels.second };
+    ghost invariant = { λ b. AreLevels SLI b.levels.first b.levels.second };
 }
 
-impl Bitmaps {
+impl<const SLI: u32> Bitmaps<SLI> {
     /// The empty set. It makes no touch: the first zeros aren't counted.
     ///
     /// ```
-    /// let none = Bitmaps::new().next_from(class_of(4));     // None
+    /// let none = Bitmaps::<4>::new().next_from(class_of(4));     // None
     /// ```
-    pub fn new() -> Bitmaps
+    pub fn new() -> Bitmaps<SLI>
+        requires { IsLevel SLI }
         ensures members { result.members ≡ [] }
         ensures touches { result.touches ≡ 0 }
     {
@@ -52,8 +54,8 @@ impl Bitmaps {
     /// bitmaps.set(class_of(20));
     /// let is_member = bitmaps.holds(class_of(20));     // true
     /// ```
-    pub fn set(&mut self, class: Class)
-        ensures members { self.new.members ≡ with_member self.old.members class }
+    pub fn set(&mut self, class: Class<SLI>)
+        ensures members { self.new.members ≡ with_member SLI self.old.members class.entry }
         ensures touches { self.new.touches ≤ self.old.touches + 4 }
         ensures rise { self.old.touches ≤ self.new.touches }
     {
@@ -71,8 +73,8 @@ impl Bitmaps {
     /// bitmaps.clear(class_of(20));
     /// let is_member = bitmaps.holds(class_of(20));     // false
     /// ```
-    pub fn clear(&mut self, class: Class)
-        ensures members { self.new.members ≡ without_member self.old.members class }
+    pub fn clear(&mut self, class: Class<SLI>)
+        ensures members { self.new.members ≡ without_member self.old.members class.entry }
         ensures touches { self.new.touches ≤ self.old.touches + 4 }
         ensures rise { self.old.touches ≤ self.new.touches }
     {
@@ -92,8 +94,8 @@ impl Bitmaps {
     /// ```
     /// let has_blocks = bitmaps.holds(class_of(32));
     /// ```
-    pub fn holds(&mut self, class: Class) -> bool
-        ensures answer { IsTrue result ↔ Contains self.old.members class }
+    pub fn holds(&mut self, class: Class<SLI>) -> bool
+        ensures answer { IsTrue result ↔ Contains self.old.members class.entry }
         ensures same { self.new.members ≡ self.old.members }
         ensures touches { self.new.touches ≡ self.old.touches + 1 }
     {
@@ -107,8 +109,8 @@ impl Bitmaps {
     /// ```
     /// let class = bitmaps.next_from(search_of(33))?;     // of blocks of 34 words or more
     /// ```
-    pub fn next_from(&mut self, class: Class) -> Option<Class>
-        ensures least { result ≡ next_member self.old.members class }
+    pub fn next_from(&mut self, class: Class<SLI>) -> Option<Class<SLI>>
+        ensures least { result ≡ next_member self.old.members class.entry }
         ensures same { self.new.members ≡ self.old.members }
         ensures touches { self.new.touches ≤ self.old.touches + 3 }
         ensures rise { self.old.touches ≤ self.new.touches }
@@ -125,16 +127,29 @@ impl Bitmaps {
     }
 }
 
-impl Default for Bitmaps {
+impl Default for Bitmaps<4> {
     ghost is_default = { λ bitmaps. (bitmaps.members ≡ []) × (bitmaps.touches ≡ 0) };
 
     /// The empty set, as `new` gives it. Types that hold a set of classes can so derive their own `Default`; no crate of
     /// this repository calls it but for tests.
     ///
     /// ```
-    /// let bitmaps = Bitmaps::default();
+    /// let bitmaps = Bitmaps::<4>::default();
     /// ```
-    fn default() -> Bitmaps {
+    fn default() -> Bitmaps<4> {
+        Bitmaps::new()
+    }
+}
+
+impl Default for Bitmaps<5> {
+    ghost is_default = { λ bitmaps. (bitmaps.members ≡ []) × (bitmaps.touches ≡ 0) };
+
+    /// The empty set of level 5, as `new` gives it.
+    ///
+    /// ```
+    /// let bitmaps = Bitmaps::<5>::default();
+    /// ```
+    fn default() -> Bitmaps<5> {
         Bitmaps::new()
     }
 }

@@ -3,11 +3,11 @@ ghost use Rattle.std.specs.Prelude.{◌≡◌, ◌+◌, ◌<◌, length, replica
 use crate::touches::Touches;
 use std::marker::Model;
 
-/// The words of the bitmaps, 19 of 32 bits, and how often one was read or written. All reads and writes of them go
-/// through here, so that each is counted.
+/// The words of the bitmaps, 22 of 32 bits, and how often one was read or written. All reads and writes of them go
+/// through here, so that each is counted. Level 4 uses the first 19.
 #[derive(Drop)]
 pub(crate) struct Cells {
-    words: [u32; 19],
+    words: [u32; 22],
     touches: Touches,
 }
 
@@ -19,24 +19,24 @@ impl Model for Cells {
 
     ghost view = { λ c. record { words = c.words; touches = c.touches.count } };
 
-    ghost invariant = { λ c. length c.words ≡ 19 };
+    ghost invariant = { λ c. length c.words ≡ 22 };
 }
 
 impl Cells {
     /// Every word is zero.
     pub(crate) fn new() -> Cells
-        ensures words { result.words ≡ replicate 19 0 }
+        ensures words { result.words ≡ replicate 22 0 }
         ensures touches { result.touches ≡ 0 }
     {
         Cells {
-            words: [0; 19],
+            words: [0; 22],
             touches: Touches::new(),
         }
     }
 
-    /// Reads word `at`, 0 to 18. Each read is here.
+    /// Reads word `at`, 0 to 21. Each read is here.
     pub(crate) fn read(&mut self, at: u32) -> u32
-        requires { at < 19 }
+        requires { at < 22 }
         ensures value { result ≡ slice_index self.old.words at }
         ensures words { self.new.words ≡ self.old.words }
         ensures touches { self.new.touches ≡ self.old.touches + 1 }
@@ -46,10 +46,10 @@ impl Cells {
         word
     }
 
-    /// Writes word `at`, 0 to 18. Each write is here.
+    /// Writes word `at`, 0 to 21. Each write is here.
     pub(crate) fn write(&mut self, at: u32, word: u32)
-        requires { at < 19 }
-        ensures length { length self.old.words ≡ 19 }
+        requires { at < 22 }
+        ensures length { length self.old.words ≡ 22 }
         ensures words { self.new.words ≡ slice_set self.old.words at word }
         ensures touches { self.new.touches ≡ self.old.touches + 1 }
     {

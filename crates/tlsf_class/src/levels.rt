@@ -3,7 +3,7 @@ ghost use Rattle.std.specs.Prelude.{◌≡◌, ◌+◌, ◌<◌, slice_index, sl
 use crate::cells::Cells;
 use std::marker::Model;
 
-/// The words of the two levels: one of the first, with a bit for each first level, and behind it 18 of the second, one
+/// The words of the two levels: one of the first, with a bit for each first level, and behind it 21 of the second, one
 /// for each first level with a bit for each of its classes.
 #[derive(Drop)]
 pub(crate) struct Levels {
@@ -23,7 +23,7 @@ impl Levels {
     /// Every word is zero.
     pub(crate) fn new() -> Levels
         ensures first { result.first ≡ 0 }
-        ensures second { result.second ≡ replicate 18 0 }
+        ensures second { result.second ≡ replicate 21 0 }
         ensures touches { result.touches ≡ 0 }
     {
         Levels {
@@ -50,9 +50,9 @@ impl Levels {
         self.cells.write(0, word);
     }
 
-    /// Reads the second-level word of a first level, 0 to 17.
+    /// Reads the second-level word of a first level, 0 to 20.
     pub(crate) fn second_word(&mut self, first_level: u32) -> u32
-        requires { first_level < 18 }
+        requires { first_level < 21 }
         ensures value { result ≡ slice_index self.old.second first_level }
         ensures first { self.new.first ≡ self.old.first }
         ensures second { self.new.second ≡ self.old.second }
@@ -61,9 +61,9 @@ impl Levels {
         self.cells.read(first_level + 1)
     }
 
-    /// Writes the second-level word of a first level, 0 to 17.
+    /// Writes the second-level word of a first level, 0 to 20.
     pub(crate) fn set_second_word(&mut self, first_level: u32, word: u32)
-        requires { first_level < 18 }
+        requires { first_level < 21 }
         ensures first { self.new.first ≡ self.old.first }
         ensures second { self.new.second ≡ slice_set self.old.second first_level word }
         ensures touches { self.new.touches ≡ self.old.touches + 1 }

@@ -16,8 +16,8 @@ fn line_of(words: u32) -> Result<ArrayString<64>, fmt::Error>
     requires most { words ≤ 2 ^ 20 }
     ensures { IfOk result (λ line. line.bytes ≡ class_line words) }
 {
-    let class = class_of(words);
-    let search = search_of(words);
+    let class = class_of::<4>(words);
+    let search = search_of::<4>(words);
     let mut line = ArrayString::new();
     writeln!(
         line,

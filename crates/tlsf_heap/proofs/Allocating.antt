@@ -5,6 +5,7 @@ use Rattle.std.specs.List.{AllByRecursion, list_all}
 use Rattle.std.proofs.lemmas.List.{drop_more, take-append-drop}
 use Rattle.std.proofs.lemmas.Bool.{false≢true, cases_lt}
 use Rattle.std.proofs.lemmas.Bool.Decides.{nat_tests}
+use Rattle.tlsf_class.specs.Classes.{IsLevel, most_words}
 use Rattle.tlsf_heap.specs.Blocks.{Block, Live, Free, HeapState, size_of, words_in, want}
 use Rattle.tlsf_heap.specs.Lawful.{IsLawful, HasRoom}
 use Rattle.tlsf_heap.specs.Regions.{AreRegions, RegionState}
@@ -21,32 +22,32 @@ use Rattle.tlsf_heap.proofs.Edits.{carved_small, carved_large}
 use Rattle.tlsf_heap.proofs.Lawfulness.{lawful_split, lawful_whole, with_region, region_is}
 
 -- what a fit block is
-pub fits_size : (n : ℕ) (b : Block) → is_fit n b ≡ true → n ≤ size_of b
-fits_size n (Live m s xs) h = absurd (false≢true h)
-fits_size n (Free m s) h = le_from_serves n m h
+pub fits_size : (sli : ℕ) (level : IsLevel sli) (n : ℕ) (b : Block) → is_fit sli n b ≡ true → n ≤ size_of b
+fits_size sli level n (Live m s xs) h = absurd (false≢true h)
+fits_size sli level n (Free m s) h = le_from_serves sli level n m h
 
 pub split_at : (bs : List Block) (i : ℕ) → i < length bs → bs ≡ take i bs ++ block_at bs i ∷ drop (suc i) bs
 split_at bs i h = sym (take-append-drop i bs) ∙ ap (λ (l : List Block). take i bs ++ l) (drop_more bs i (Free 0 0) h) ∙ ap (λ (n : ℕ). take i bs ++ block_at bs i ∷ drop n bs) (add-one i)
 
-pub lawful_carved : (h : HeapState) (front back : List Block) (b : Block) (len : ℕ) → is_fit (want len) b ≡ true → IsLawful (with_blocks h (front ++ b ∷ back)) → IsLawful (ticked h (front ++ carved (size_of b) (want len) h.tick len ++ back))
-lawful_carved h front back (Live m s xs) len f lawful = absurd (false≢true f)
-lawful_carved h front back (Free m s) len f lawful =
+pub lawful_carved : (sli : ℕ) (level : IsLevel sli) (h : HeapState) (front back : List Block) (b : Block) (len : ℕ) → is_fit sli (want len) b ≡ true → IsLawful (with_blocks h (front ++ b ∷ back)) → IsLawful (ticked h (front ++ carved (size_of b) (want len) h.tick len ++ back))
+lawful_carved sli level h front back (Live m s xs) len f lawful = absurd (false≢true f)
+lawful_carved sli level h front back (Free m s) len f lawful =
     let P : List Block → Type 0 = λ l. IsLawful (ticked h (front ++ l ++ back)) in
     elim (cases_lt m (want len + 4)) [
-      | inl small ↦ subst P (sym (carved_small m (want len) h.tick len small)) (lawful_whole h front back m s (want len) len refl lawful (fits_size (want len) (Free m s) f))
+      | inl small ↦ subst P (sym (carved_small m (want len) h.tick len small)) (lawful_whole h front back m s (want len) len refl lawful (fits_size sli level (want len) (Free m s) f))
       | inr large ↦ subst P (sym (carved_large m (want len) h.tick len large)) (lawful_split h front back m s (want len) len refl lawful large)
     ]
 
-module _ (h : HeapState) (len : ℕ) (lawful : IsLawful h) where
-  allocated_none : NoneFits (want len) h.blocks → allocated h len ≡ refused h NoFit
-  allocated_none none = ap (allocated_at h len) (choice_none (want len) h.blocks none)
+module _ (sli : ℕ) (level : IsLevel sli) (h : HeapState) (len : ℕ) (lawful : IsLawful h) where
+  allocated_none : NoneFits sli (want len) h.blocks → allocated sli h len ≡ refused h NoFit
+  allocated_none none = ap (allocated_at h len) (choice_none sli (want len) h.blocks none)
 
-  fits_none : NoneFits (want len) h.blocks → fits (want len) h.blocks ≡ []
-  fits_none none = fits_nothing (want len) h.blocks none
+  fits_none : NoneFits sli (want len) h.blocks → fits sli (want len) h.blocks ≡ []
+  fits_none none = fits_nothing sli (want len) h.blocks none
 
-  module _ (i : ℕ) (c : IsChoice (want len) h.blocks i) where
-    chosen : choice (want len) h.blocks ≡ Some (site_at h.blocks i)
-    chosen = choice_is (want len) h.blocks i lawful.stamps_differ c
+  module _ (i : ℕ) (c : IsChoice sli (want len) h.blocks i) where
+    chosen : choice sli (want len) h.blocks ≡ Some (site_at h.blocks i)
+    chosen = choice_is sli (want len) h.blocks i lawful.stamps_differ c
 
     -- the blocks that are left
     abbrev left : ℕ → List Block
@@ -55,10 +56,10 @@ module _ (h : HeapState) (len : ℕ) (lawful : IsLawful h) where
     abbrev answered : ℕ → Outcome Name
     answered k = record { answer = Ok (record { heap = h.id; at = words_in (take i h.blocks); serial = h.tick }); heap = ticked h (left k) }
 
-    allocated_worn : h.tick ≡ 2 ^ 64 - 1 → allocated h len ≡ refused h Worn
+    allocated_worn : h.tick ≡ 2 ^ 64 - 1 → allocated sli h len ≡ refused h Worn
     allocated_worn e = ap (allocated_at h len) chosen ∙ ap (λ (b : Bool). cond b (refused h Worn) (answered (suc i))) (eq-eqb h.tick (2 ^ 64 - 1) e)
 
-    allocated_is : (h.tick ≡ 2 ^ 64 - 1 → ⊥) → allocated h len ≡ answered (suc i)
+    allocated_is : (h.tick ≡ 2 ^ 64 - 1 → ⊥) → allocated sli h len ≡ answered (suc i)
     allocated_is n =
         let t : eqb h.tick (2 ^ 64 - 1) ≡ false = not_true _ (λ e. n (grind (arith, nat_tests))) in
         ap (allocated_at h len) chosen ∙ ap (λ (b : Bool). cond b (refused h Worn) (answered (suc i))) t
@@ -66,71 +67,71 @@ module _ (h : HeapState) (len : ℕ) (lawful : IsLawful h) where
     allocated_lawful : IsLawful (ticked h (left (suc i)))
     allocated_lawful =
         let P : List Block → Type 0 = λ l. IsLawful (with_blocks h l) in
-        lawful_carved h (take i h.blocks) (drop (suc i) h.blocks) (block_at h.blocks i) len c.fit (subst P (split_at h.blocks i c.within) lawful)
+        lawful_carved sli level h (take i h.blocks) (drop (suc i) h.blocks) (block_at h.blocks i) len c.fit (subst P (split_at h.blocks i c.within) lawful)
 
 -- where there is a choice there is a fit
-fits_some : (h : HeapState) (len i : ℕ) → IsLawful h → IsChoice (want len) h.blocks i → fits (want len) h.blocks ≡ [] → ⊥
-fits_some h len i lawful c e =
-    let some = choice_is (want len) h.blocks i lawful.stamps_differ c in
-    let none : choice (want len) h.blocks ≡ None = ap (λ (l : List Site). find (λ s. list_all (λ t. is_as_good s.block t.block) l) l) e in
+fits_some : (sli : ℕ) (h : HeapState) (len i : ℕ) → IsLawful h → IsChoice sli (want len) h.blocks i → fits sli (want len) h.blocks ≡ [] → ⊥
+fits_some sli h len i lawful c e =
+    let some = choice_is sli (want len) h.blocks i lawful.stamps_differ c in
+    let none : choice sli (want len) h.blocks ≡ None = ap (λ (l : List Site). find (λ s. list_all (λ t. is_as_good sli s.block t.block) l) l) e in
     let bad : Some (site_at h.blocks i) ≡ None = sym some ∙ none in cc
 
 -- what a call of `allocate` on the heap h ensures, whose answer and whose heap are these
-pub record Allocates (h : HeapState) (len : ℕ) (answer : Result Name Refusal) (left : HeapState) : Type 0 where
-  pub is_answer : answer ≡ (allocated h len).answer
-  pub is_heap : left ≡ (allocated h len).heap
-  pub no_fit : (answer ≡ Err NoFit) ↔ (fits (want len) h.blocks ≡ [])
-  pub ok : IsOk answer ↔ (¬ (fits (want len) h.blocks ≡ []) × ¬ (h.tick ≡ last_tick))
+pub record Allocates (sli : ℕ) (h : HeapState) (len : ℕ) (answer : Result Name Refusal) (left : HeapState) : Type 0 where
+  pub is_answer : answer ≡ (allocated sli h len).answer
+  pub is_heap : left ≡ (allocated sli h len).heap
+  pub no_fit : (answer ≡ Err NoFit) ↔ (fits sli (want len) h.blocks ≡ [])
+  pub ok : IsOk answer ↔ (¬ (fits sli (want len) h.blocks ≡ []) × ¬ (h.tick ≡ last_tick))
   pub lawful : IsLawful left
 
 -- the outcomes, for a heap h that a representation shows and the heap k that it stands for, by the words n that are wanted and the region that is left
-module _ (h k : HeapState) (len n : ℕ) (lawful : IsLawful h) (same : h ≡ k) (wanted : n ≡ want len) (region : RegionState) (words : region.words ≡ h.words) where
-  pub allocates_none : region.blocks ≡ h.blocks → NoneFits n h.blocks → Allocates k len (Err NoFit) (with_region h h.tick region)
+module _ (sli : ℕ) (level : IsLevel sli) (h k : HeapState) (len n : ℕ) (lawful : IsLawful h) (same : h ≡ k) (wanted : n ≡ want len) (region : RegionState) (words : region.words ≡ h.words) where
+  pub allocates_none : region.blocks ≡ h.blocks → NoneFits sli n h.blocks → Allocates sli k len (Err NoFit) (with_region h h.tick region)
   allocates_none blocks unfit =
       let kept = region_is h h.tick region h.blocks words blocks in
-      let none : NoneFits (want len) h.blocks = subst (λ (m : ℕ). NoneFits m h.blocks) wanted unfit in
-      subst (λ (s : HeapState). Allocates s len (Err NoFit) (with_region h h.tick region)) same (record {
-        is_answer = sym (ap (λ (o : Outcome Name). o.answer) (allocated_none h len lawful none));
-        is_heap = kept ∙ sym (ap (λ (o : Outcome Name). o.heap) (allocated_none h len lawful none));
-        no_fit = (λ _. fits_none h len lawful none, λ _. refl);
-        ok = (λ f. absurd (false≢true f), λ p. absurd (p.0 (fits_none h len lawful none)));
+      let none : NoneFits sli (want len) h.blocks = subst (λ (m : ℕ). NoneFits sli m h.blocks) wanted unfit in
+      subst (λ (s : HeapState). Allocates sli s len (Err NoFit) (with_region h h.tick region)) same (record {
+        is_answer = sym (ap (λ (o : Outcome Name). o.answer) (allocated_none sli level h len lawful none));
+        is_heap = kept ∙ sym (ap (λ (o : Outcome Name). o.heap) (allocated_none sli level h len lawful none));
+        no_fit = (λ _. fits_none sli level h len lawful none, λ _. refl);
+        ok = (λ f. absurd (false≢true f), λ p. absurd (p.0 (fits_none sli level h len lawful none)));
         lawful = subst IsLawful (sym kept) lawful;
       })
 
-  module _ (i : ℕ) (best : IsChoice n h.blocks i) where
-    abbrev is_chosen : IsChoice (want len) h.blocks i
-    is_chosen = subst (λ (m : ℕ). IsChoice m h.blocks i) wanted best
+  module _ (i : ℕ) (best : IsChoice sli n h.blocks i) where
+    abbrev is_chosen : IsChoice sli (want len) h.blocks i
+    is_chosen = subst (λ (m : ℕ). IsChoice sli m h.blocks i) wanted best
 
-    pub allocates_worn : region.blocks ≡ h.blocks → h.tick ≡ last_tick → Allocates k len (Err Worn) (with_region h h.tick region)
+    pub allocates_worn : region.blocks ≡ h.blocks → h.tick ≡ last_tick → Allocates sli k len (Err Worn) (with_region h h.tick region)
     allocates_worn blocks worn =
         let kept = region_is h h.tick region h.blocks words blocks in
-        subst (λ (s : HeapState). Allocates s len (Err Worn) (with_region h h.tick region)) same (record {
-          is_answer = sym (ap (λ (o : Outcome Name). o.answer) (allocated_worn h len lawful i is_chosen worn));
-          is_heap = kept ∙ sym (ap (λ (o : Outcome Name). o.heap) (allocated_worn h len lawful i is_chosen worn));
-          no_fit = (λ f. cc, λ f. absurd (fits_some h len i lawful is_chosen f));
+        subst (λ (s : HeapState). Allocates sli s len (Err Worn) (with_region h h.tick region)) same (record {
+          is_answer = sym (ap (λ (o : Outcome Name). o.answer) (allocated_worn sli level h len lawful i is_chosen worn));
+          is_heap = kept ∙ sym (ap (λ (o : Outcome Name). o.heap) (allocated_worn sli level h len lawful i is_chosen worn));
+          no_fit = (λ f. cc, λ f. absurd (fits_some sli h len i lawful is_chosen f));
           ok = (λ f. absurd (false≢true f), λ p. absurd (p.1 worn));
           lawful = subst IsLawful (sym kept) lawful;
         })
 
     pub allocates_some : (at : ℕ) → words_in (take i h.blocks) ≡ at → region.blocks ≡ take i h.blocks ++ carved (size_of (block_at h.blocks i)) n h.tick len ++ drop (suc i) h.blocks
-        → ¬ (h.tick ≡ last_tick) → Allocates k len (Ok (record { heap = h.id; at = at; serial = h.tick })) (with_region h (h.tick + 1) region)
+        → ¬ (h.tick ≡ last_tick) → Allocates sli k len (Ok (record { heap = h.id; at = at; serial = h.tick })) (with_region h (h.tick + 1) region)
     allocates_some at is_at blocks fresh =
         let wanted_blocks = blocks ∙ ap (λ (m : ℕ). take i h.blocks ++ carved (size_of (block_at h.blocks i)) m h.tick len ++ drop (suc i) h.blocks) wanted in
         let is_left = region_is h (h.tick + 1) region _ words wanted_blocks in
-        let made = allocated_is h len lawful i is_chosen fresh in
-        subst (λ (s : HeapState). Allocates s len (Ok (record { heap = h.id; at = at; serial = h.tick })) (with_region h (h.tick + 1) region)) same (record {
+        let made = allocated_is sli level h len lawful i is_chosen fresh in
+        subst (λ (s : HeapState). Allocates sli s len (Ok (record { heap = h.id; at = at; serial = h.tick })) (with_region h (h.tick + 1) region)) same (record {
           is_answer = ap (λ (m : ℕ). Ok (record { heap = h.id; at = m; serial = h.tick })) (sym is_at) ∙ sym (ap (λ (o : Outcome Name). o.answer) made);
           is_heap = is_left ∙ sym (ap (λ (o : Outcome Name). o.heap) made);
-          no_fit = (λ f. cc, λ f. absurd (fits_some h len i lawful is_chosen f));
-          ok = (λ _. (fits_some h len i lawful is_chosen, fresh), λ _. refl);
-          lawful = subst IsLawful (sym is_left) (allocated_lawful h len lawful i is_chosen);
+          no_fit = (λ f. cc, λ f. absurd (fits_some sli h len i lawful is_chosen f));
+          ok = (λ _. (fits_some sli h len i lawful is_chosen, fresh), λ _. refl);
+          lawful = subst IsLawful (sym is_left) (allocated_lawful sli level h len lawful i is_chosen);
         })
 
 -- the blocks of a lawful heap are of sizes that a region may have
-regions_of : (bs : List Block) → AllByRecursion HasRoom bs → words_in bs ≤ 2 ^ 20 → AreRegions bs
-regions_of [] h g = tt
-regions_of (Live m s xs ∷ bs) h g = ((h.0.0, omega arith), regions_of bs h.1 (omega arith))
-regions_of (Free m s ∷ bs) h g = ((h.0, omega arith), regions_of bs h.1 (omega arith))
+pub regions_of : (sli : ℕ) (bs : List Block) → AllByRecursion HasRoom bs → words_in bs ≤ most_words sli → AreRegions sli bs
+regions_of sli [] h g = tt
+regions_of sli (Live m s xs ∷ bs) h g = ((h.0.0, omega arith), regions_of sli bs h.1 (omega arith))
+regions_of sli (Free m s ∷ bs) h g = ((h.0, omega arith), regions_of sli bs h.1 (omega arith))
 
-pub lawful_regions : (h : HeapState) → IsLawful h → h.words ≤ 2 ^ 20 → AreRegions h.blocks
-lawful_regions h lawful small = regions_of h.blocks lawful.rooms (omega (arith, lawful.whole))
+pub lawful_regions : (sli : ℕ) (h : HeapState) → IsLawful h → h.words ≤ most_words sli → AreRegions sli h.blocks
+lawful_regions sli h lawful small = regions_of sli h.blocks lawful.rooms (omega (arith, lawful.whole))

@@ -78,10 +78,6 @@ module _ {bs : List Block} {words : ℕ} (whole : words_in bs ≡ words) where
     live = taken.live i stands;
   }
 
-  -- a place is one of the region
-  pub inside : AreRegions bs → {at i : ℕ} → StandsAt bs at i → at < words
-  inside sized {at = at} {i = i} stands = let a = around bs at i stands in omega (arith, words_around a, (region_around a sized).0, whole)
-
   module _ {at i : ℕ} (stands : StandsAt bs at i) where
     abbrev end : ℕ
     end = at + size_of (block_at bs i)
@@ -95,16 +91,6 @@ module _ {bs : List Block} {words : ℕ} (whole : words_in bs ≡ words) where
     place_behind short = elim (cases_lt (i + 1) (length bs)) [
       | inl within ↦ (i + 1, stands_next stands within)
       | inr past ↦ absurd (omega (arith, ends_last past, short))
-    ]
-
-    -- the block there is the first of those behind
-    pub free_behind : AreRegions bs → (j : ℕ) → StandsAt bs end j → is_free (block_at bs j) ≡ true → first_free (drop (suc i) bs) ≡ size_of (block_at bs j)
-    free_behind sized j there free = elim (cases_lt (i + 1) (length bs)) [
-      | inl within ↦
-          let more : suc i ≡ i + 1 = omega arith in
-          let same : i + 1 ≡ j = one_index bs end (i + 1) j sized (stands_next stands within) there in
-          ap (λ (k : ℕ). first_free (drop k bs)) (more ∙ same) ∙ ap first_free (drop_more bs j (Free 0 0) there.within) ∙ begins_free (block_at bs j) (drop (j + 1) bs) free
-      | inr past ↦ absurd (omega (arith, ends_last past, inside sized there))
     ]
 
     tag_behind : {none tag : Tag} → none.size ≡ 0 → none.last ≡ eqb end words → IsTakenTag bs words end none tag → TagBehind (drop (suc i) bs) end words tag
@@ -145,20 +131,11 @@ module _ {bs : List Block} {words : ℕ} (whole : words_in bs ≡ words) where
       )
 
   -- a block begins where the block before does, unless there is none
-  pub place_before : words_in bs ≤ 2 ^ 20 → {at i : ℕ} → StandsAt bs at i → back_behind 0 nowhere (take i bs) < words → IsPlace bs (back_behind 0 nowhere (take i bs))
+  pub place_before : words_in bs ≤ 2 ^ 24 → {at i : ℕ} → StandsAt bs at i → back_behind 0 nowhere (take i bs) < words → IsPlace bs (back_behind 0 nowhere (take i bs))
   place_before small {i = zero} stands short = absurd (omega (arith, small, short, whole))
   place_before small {i = suc j} stands short = let b = before_here stands in (j, subst (λ (k : ℕ). StandsAt bs k j) (sym b.2) b.0)
 
-  -- the block there is the last of those before
-  pub free_before : words_in bs ≤ 2 ^ 20 → AreRegions bs → {at i : ℕ} → StandsAt bs at i → (j : ℕ) → StandsAt bs (back_behind 0 nowhere (take i bs)) j → is_free (block_at bs j) ≡ true
-      → last_free (take i bs) ≡ size_of (block_at bs j)
-  free_before small sized {i = zero} stands k there free = absurd (omega (arith, small, inside sized there, whole))
-  free_before small sized {at = at} {i = suc j} stands k there free =
-      let b = before_here stands in
-      let same : j ≡ k = one_index bs (words_in (take j bs)) j k sized b.0 (subst (λ (n : ℕ). StandsAt bs n k) b.2 there) in
-      ap last_free (b.1 ∙ ap (λ (n : ℕ). take j bs ++ block_at bs n ∷ []) same) ∙ ends_with (block_at bs k) (take j bs) free
-
-  tag_before : words_in bs ≤ 2 ^ 20 → {at i : ℕ} {none tag : Tag} → StandsAt bs at i → none.size ≡ 0 → none.back ≡ back_behind 0 nowhere (take i bs)
+  tag_before : words_in bs ≤ 2 ^ 24 → {at i : ℕ} {none tag : Tag} → StandsAt bs at i → none.size ≡ 0 → none.back ≡ back_behind 0 nowhere (take i bs)
       → IsTakenTag bs words (back_behind 0 nowhere (take i bs)) none tag → TagBefore (take i bs) tag
   tag_before small {i = zero} stands size back taken =
       let same = taken.outside (omega (arith, small, whole)) in record { size = ap (λ (t : Tag). t.size) same ∙ size; back = ap (λ (t : Tag). t.back) same ∙ back }
@@ -169,7 +146,7 @@ module _ {bs : List Block} {words : ℕ} (whole : words_in bs ≡ words) where
       (tag_here b.0 (subst (λ (k : ℕ). IsTakenTag bs words k none tag) b.2 taken)))
 
   -- what the tags of a block and of its free neighbours say
-  pub neighbours_are : words_in bs ≤ 2 ^ 20 → {at i : ℕ} {own next previous : Tag} → StandsAt bs at i → IsTagOf words (site_at bs i) own
+  pub neighbours_are : words_in bs ≤ 2 ^ 24 → {at i : ℕ} {own next previous : Tag} → StandsAt bs at i → IsTagOf words (site_at bs i) own
       → IsTakenTag bs words (at + own.size) (record { size = 0; free = own.free; last = own.last; back = own.back }) next
       → IsTakenTag bs words own.back (record { size = 0; free = own.free; last = own.last; back = own.back }) previous
       → AreNeighbours words (site_at bs i)
@@ -186,3 +163,28 @@ module _ {bs : List Block} {words : ℕ} (whole : words_in bs ≡ words) where
         last = behind.last ∙ rw place refl;
         back = ahead.back;
       }
+
+-- where each size is one that a region may have, no two blocks begin at one place
+module _ (sli : ℕ) {bs : List Block} {words : ℕ} (whole : words_in bs ≡ words) where
+  -- a place is one of the region
+  pub inside : AreRegions sli bs → {at i : ℕ} → StandsAt bs at i → at < words
+  inside sized {at = at} {i = i} stands = let a = around bs at i stands in omega (arith, words_around a, (region_around sli a sized).0, whole)
+
+  -- the block there is the first of those behind
+  pub free_behind : {at i : ℕ} → StandsAt bs at i → AreRegions sli bs → (j : ℕ) → StandsAt bs (at + size_of (block_at bs i)) j → is_free (block_at bs j) ≡ true → first_free (drop (suc i) bs) ≡ size_of (block_at bs j)
+  free_behind {at = at} {i = i} stands sized j there free = elim (cases_lt (i + 1) (length bs)) [
+    | inl within ↦
+        let more : suc i ≡ i + 1 = omega arith in
+        let same : i + 1 ≡ j = one_index sli bs (at + size_of (block_at bs i)) (i + 1) j sized (stands_next stands within) there in
+        ap (λ (k : ℕ). first_free (drop k bs)) (more ∙ same) ∙ ap first_free (drop_more bs j (Free 0 0) there.within) ∙ begins_free (block_at bs j) (drop (j + 1) bs) free
+    | inr past ↦ absurd (omega (arith, ends_last whole stands past, inside sized there))
+  ]
+
+  -- the block there is the last of those before
+  pub free_before : words_in bs ≤ 2 ^ 24 → AreRegions sli bs → {at i : ℕ} → StandsAt bs at i → (j : ℕ) → StandsAt bs (back_behind 0 nowhere (take i bs)) j → is_free (block_at bs j) ≡ true
+      → last_free (take i bs) ≡ size_of (block_at bs j)
+  free_before small sized {i = zero} stands k there free = absurd (omega (arith, small, inside sized there, whole))
+  free_before small sized {at = at} {i = suc j} stands k there free =
+      let b = before_here whole stands in
+      let same : j ≡ k = one_index sli bs (words_in (take j bs)) j k sized b.0 (subst (λ (n : ℕ). StandsAt bs n k) b.2 there) in
+      ap last_free (b.1 ∙ ap (λ (n : ℕ). take j bs ++ block_at bs n ∷ []) same) ∙ ends_with (block_at bs k) (take j bs) free

@@ -15,30 +15,30 @@ use Rattle.tlsf_heap.proofs.Listing.{AreListed, IsFresh, fresh_both, not_listed,
 use Rattle.tlsf_heap.proofs.Sizes.{Around, around, around_next, block_around, stands_around, words_around, regions_front, regions_back, region_around, one_index, free_as, places_behind, fresh_front, fresh_back, ArePast, past_around, newest}
 
 -- a free block of this class begins at a place, and these are the lists of the free blocks, all past
-pub record IsListed (bs : List Block) (at i class tick : ℕ) (lists : ℕ → List ℕ) : Type 0 where
+pub record IsListed (sli : ℕ) (bs : List Block) (at i class tick : ℕ) (lists : ℕ → List ℕ) : Type 0 where
   pub stands : StandsAt bs at i
   pub free : is_free (block_at bs i) ≡ true
-  pub classed : class ≡ class_of (size_of (block_at bs i))
-  pub regions : AreRegions bs
+  pub classed : class ≡ class_of sli (size_of (block_at bs i))
+  pub regions : AreRegions sli bs
   pub past : ArePast tick bs
-  pub listed : AreFreeLists bs lists
+  pub listed : AreFreeLists sli bs lists
 
 -- the head of a list is one place
-pub head_stands : {bs : List Block} {lists : ℕ → List ℕ} {class at result i : ℕ} → IsHead bs lists class at i → slice_get (lists class) 0 ≡ Some result → StandsAt bs result i
-head_stands {bs = bs} {i = i} head is = subst (λ (k : ℕ). StandsAt bs k i) (ap place (sym head.first ∙ is)) head.stands
+pub head_stands : (sli : ℕ) {bs : List Block} {lists : ℕ → List ℕ} {class at result i : ℕ} → IsHead sli bs lists class at i → slice_get (lists class) 0 ≡ Some result → StandsAt bs result i
+head_stands sli {bs = bs} {i = i} head is = subst (λ (k : ℕ). StandsAt bs k i) (ap place (sym head.first ∙ is)) head.stands
   where
     place : Option ℕ → ℕ
     place None = 0
     place (Some at) = at
 
 -- the head that is taken out is such a block
-pub is_listed : {bs : List Block} {class tick words result : ℕ} {lists : ℕ → List ℕ} → (fits : (at : ℕ) × (i : ℕ) × IsHead bs lists class at i × (is_free (block_at bs i) ≡ true) × (words ≤ size_of (block_at bs i)))
-    → slice_get (lists class) 0 ≡ Some result → AreRegions bs → ArePast tick bs → AreFreeLists bs lists → IsListed bs result fits.1 class tick lists
-is_listed fits is regions past listed = record { stands = head_stands fits.2 is; free = fits.3; classed = fits.2.classed; regions = regions; past = past; listed = listed }
+pub is_listed : (sli : ℕ) {bs : List Block} {class tick words result : ℕ} {lists : ℕ → List ℕ} → (fits : (at : ℕ) × (i : ℕ) × IsHead sli bs lists class at i × (is_free (block_at bs i) ≡ true) × (words ≤ size_of (block_at bs i)))
+    → slice_get (lists class) 0 ≡ Some result → AreRegions sli bs → ArePast tick bs → AreFreeLists sli bs lists → IsListed sli bs result fits.1 class tick lists
+is_listed sli fits is regions past listed = record { stands = head_stands sli fits.2 is; free = fits.3; classed = fits.2.classed; regions = regions; past = past; listed = listed }
 
 -- a list with a head isn't empty
-pub head_some : {bs : List Block} {lists : ℕ → List ℕ} {class at i : ℕ} → IsHead bs lists class at i → lists class ≡ [] → ⊥
-head_some {lists = lists} {class = class} {at = at} head none = let bad : None ≡ Some at = ap (λ (l : List ℕ). slice_get l 0) (sym none) ∙ head.first in cc
+pub head_some : (sli : ℕ) {bs : List Block} {lists : ℕ → List ℕ} {class at i : ℕ} → IsHead sli bs lists class at i → lists class ≡ [] → ⊥
+head_some sli {lists = lists} {class = class} {at = at} head none = let bad : None ≡ Some at = ap (λ (l : List ℕ). slice_get l 0) (sym none) ∙ head.first in cc
 
 -- a rest is split off exactly where it has four words
 pub rest_some : (size n : ℕ) → 0 < rest_of size n → (n + 4 ≤ size) × (rest_of size n ≡ size - n)
@@ -53,7 +53,7 @@ rest_none size n none = elim (cases_lt size (n + 4)) [
   | inr large ↦ absurd (omega (arith, rest_large size n large))
 ]
 
-module _ {bs : List Block} {at i class tick : ℕ} {lists : ℕ → List ℕ} (f : IsListed bs at i class tick lists) where
+module _ (sli : ℕ) {bs : List Block} {at i class tick : ℕ} {lists : ℕ → List ℕ} (f : IsListed sli bs at i class tick lists) where
   abbrev size : ℕ
   size = size_of (block_at bs i)
 
@@ -64,10 +64,10 @@ module _ {bs : List Block} {at i class tick : ℕ} {lists : ℕ → List ℕ} (f
   entry = record { class = class; at = at; stamp = stamp }
 
   abbrev before : List FreePlace
-  before = free_places 0 (take i bs)
+  before = free_places sli 0 (take i bs)
 
   abbrev behind : List FreePlace
-  behind = free_places (at + size) (drop (suc i) bs)
+  behind = free_places sli (at + size) (drop (suc i) bs)
 
   around_free : Around bs at i (take i bs) (Free size stamp) (drop (suc i) bs)
   around_free = subst (λ (b : Block). Around bs at i (take i bs) b (drop (suc i) bs)) (free_as (block_at bs i) f.free) (around bs at i f.stands)
@@ -76,7 +76,7 @@ module _ {bs : List Block} {at i class tick : ℕ} {lists : ℕ → List ℕ} (f
   listed_free =
       let a = around_free in
       let e = ap (λ (n : ℕ). before ++ record { class = n; at = at; stamp = stamp } ∷ behind) (sym f.classed) in
-      subst (λ (l : List FreePlace). AreListed l lists) (ap (free_places 0) a.is ∙ places_behind (take i bs) (Free size stamp ∷ drop (suc i) bs) at a.place ∙ e) f.listed
+      subst (λ (l : List FreePlace). AreListed l lists) (ap (free_places sli 0) a.is ∙ places_behind sli (take i bs) (Free size stamp ∷ drop (suc i) bs) at a.place ∙ e) f.listed
 
   pub end_within : at + size ≤ words_in bs
   end_within = omega (arith, words_around around_free)
@@ -84,11 +84,11 @@ module _ {bs : List Block} {at i class tick : ℕ} {lists : ℕ → List ℕ} (f
   -- no other free block begins in its words
   fresh_here : (k : ℕ) → at ≤ k → k < at + size → IsFresh k (before ++ behind)
   fresh_here k low high =
-      fresh_both k before behind (fresh_front (take i bs) k (regions_front around_free f.regions) (omega (arith, f.stands.place, low)))
-      (fresh_back (drop (suc i) bs) (at + size) k (regions_back around_free f.regions) high)
+      fresh_both k before behind (fresh_front sli (take i bs) k (regions_front sli around_free f.regions) (omega (arith, f.stands.place, low)))
+      (fresh_back sli (drop (suc i) bs) (at + size) k (regions_back sli around_free f.regions) high)
 
   some_size : 4 ≤ size
-  some_size = (region_around around_free f.regions).0
+  some_size = (region_around sli around_free f.regions).0
 
   -- the block that is given begins where it did
   given_around : (words len : ℕ) (new : List Block) → new ≡ take i bs ++ carved size words tick len ++ drop (suc i) bs → (b : Block) (more : List Block) → carved size words tick len ≡ b ∷ more
@@ -102,7 +102,7 @@ module _ {bs : List Block} {at i class tick : ℕ} {lists : ℕ → List ℕ} (f
   pub given_size : (words len rest : ℕ) (new : List Block) → rest ≡ rest_of size words → new ≡ take i bs ++ carved size words tick len ++ drop (suc i) bs
       → (j : ℕ) → StandsAt bs at j → size_of (block_at new j) ≡ size_of (block_at bs j) - rest
   given_size words len rest new is_rest is j other =
-      subst (λ (k : ℕ). size_of (block_at new k) ≡ size_of (block_at bs k) - rest) (one_index bs at i j f.regions f.stands other)
+      subst (λ (k : ℕ). size_of (block_at new k) ≡ size_of (block_at bs k) - rest) (one_index sli bs at i j f.regions f.stands other)
       (elim (cases_lt size (words + 4)) [
         | inl small ↦ ap size_of (block_around (given_around words len new is (Live size tick (replicate len 0)) [] (carved_small size words tick len small))) ∙ omega (arith, is_rest, rest_small size words small)
         | inr large ↦ ap size_of (block_around (given_around words len new is (Live words tick (replicate len 0)) (Free (size - words) tick ∷ []) (carved_large size words tick len large)))
@@ -119,15 +119,15 @@ module _ {bs : List Block} {at i class tick : ℕ} {lists : ℕ → List ℕ} (f
     left_unlisted k low high = not_listed (before ++ behind) left k left_listed (fresh_here k low high)
 
     pub left_unlisted_each : (j : ℕ) → StandsAt bs at j → AreUnlisted left at (at + size_of (block_at bs j))
-    left_unlisted_each j other = subst (λ (k : ℕ). AreUnlisted left at (at + size_of (block_at bs k))) (one_index bs at i j f.regions f.stands other) left_unlisted
+    left_unlisted_each j other = subst (λ (k : ℕ). AreUnlisted left at (at + size_of (block_at bs k))) (one_index sli bs at i j f.regions f.stands other) left_unlisted
 
     -- and it is carved
     module _ (words len : ℕ) (new : List Block) (is : new ≡ take i bs ++ carved size words tick len ++ drop (suc i) bs) (kept : ℕ → List ℕ) (stay : SameLists kept left) where
       -- whole, it is in no list
-      pub whole_listed : size < words + 4 → AreFreeLists new kept
+      pub whole_listed : size < words + 4 → AreFreeLists sli new kept
       whole_listed small =
           let a = given_around words len new is (Live size tick (replicate len 0)) [] (carved_small size words tick len small) in
-          subst (λ (l : List FreePlace). AreListed l kept) (sym (ap (free_places 0) a.is ∙ places_behind (take i bs) (Live size tick (replicate len 0) ∷ drop (suc i) bs) at a.place))
+          subst (λ (l : List FreePlace). AreListed l kept) (sym (ap (free_places sli 0) a.is ∙ places_behind sli (take i bs) (Live size tick (replicate len 0) ∷ drop (suc i) bs) at a.place))
           (same_lists (before ++ behind) left kept stay left_listed)
 
       module _ (large : words + 4 ≤ size) where
@@ -142,15 +142,15 @@ module _ {bs : List Block} {at i class tick : ℕ} {lists : ℕ → List ℕ} (f
         rest_unlisted = unlisted_same left kept (at + words) stay (left_unlisted (at + words) (omega arith) (omega (arith, large)))
 
         -- and once that is in the list of its class
-        pub rest_listed : (now : List Block) → now ≡ new → (came : ℕ) (more : ℕ → List ℕ) → came ≡ class_of (size - words) → more came ≡ (at + words) ∷ kept came → ((other : ℕ) → other ≢ came → more other ≡ kept other)
-            → AreFreeLists now more
+        pub rest_listed : (now : List Block) → now ≡ new → (came : ℕ) (more : ℕ → List ℕ) → came ≡ class_of sli (size - words) → more came ≡ (at + words) ∷ kept came → ((other : ℕ) → other ≢ came → more other ≡ kept other)
+            → AreFreeLists sli now more
         rest_listed now same came more is_class is_more rest_stays =
             let split_off : FreePlace = record { class = came; at = at + words; stamp = tick } in
             let past = past_around around_free tick f.past in
             let listed : AreListed (before ++ split_off ∷ behind) more =
-            given split_off before behind kept more rest_stays (newest tick (at + size) (take i bs) (drop (suc i) bs) past.0 past.1) is_more (same_lists (before ++ behind) left kept stay left_listed) in
+            given split_off before behind kept more rest_stays (newest sli tick (at + size) (take i bs) (drop (suc i) bs) past.0 past.1) is_more (same_lists (before ++ behind) left kept stay left_listed) in
             let rest : at + words + (size - words) ≡ at + size = omega (arith, large) in
             subst (λ (l : List FreePlace). AreListed l more)
-            (sym (ap (free_places 0) (same ∙ split.is) ∙ places_behind (take i bs) (Live words tick (replicate len 0) ∷ Free (size - words) tick ∷ drop (suc i) bs) at split.place
-            ∙ ap (λ (n : ℕ). before ++ record { class = class_of (size - words); at = at + words; stamp = tick } ∷ free_places n (drop (suc i) bs)) rest
+            (sym (ap (free_places sli 0) (same ∙ split.is) ∙ places_behind sli (take i bs) (Live words tick (replicate len 0) ∷ Free (size - words) tick ∷ drop (suc i) bs) at split.place
+            ∙ ap (λ (n : ℕ). before ++ record { class = class_of sli (size - words); at = at + words; stamp = tick } ∷ free_places sli n (drop (suc i) bs)) rest
             ∙ ap (λ (n : ℕ). before ++ record { class = n; at = at + words; stamp = tick } ∷ behind) (sym is_class))) listed

@@ -19,27 +19,27 @@ use Rattle.tlsf_heap.proofs.Sizes.{Around, around, around_first, block_around, s
 -- ---- a free block that is taken out of the list of its class where there is one
 
 -- what taking out a block ensures, where there is one: not where the size is 0
-pub record Forgets (size at : ℕ) (old new : ℕ → List ℕ) : Type 0 where
-  pub out : 0 < size → new (class_of size) ≡ without_place at (old (class_of size))
-  pub others : (other : ℕ) → other ≢ class_of size → new other ≡ old other
+pub record Forgets (sli size at : ℕ) (old new : ℕ → List ℕ) : Type 0 where
+  pub out : 0 < size → new (class_of sli size) ≡ without_place at (old (class_of sli size))
+  pub others : (other : ℕ) → other ≢ class_of sli size → new other ≡ old other
   pub none : size ≡ 0 → SameLists new old
 
 -- what was taken out, by the size of the block there and its place
-pub forgets : {size read to at : ℕ} {old new : List (List ℕ)} → read ≡ size → (0 < size → to ≡ at) → (0 < read → list_in new (class_of read) ≡ without_place to (list_in old (class_of read)))
-    → ((other : ℕ) → other ≢ class_of read → list_in new other ≡ list_in old other) → (read ≡ 0 → new ≡ old) → Forgets size at (list_in old) (list_in new)
-forgets {size = size} {read = read} {at = at} {old = old} {new = new} is_size same out others none =
-    subst (λ (n : ℕ). Forgets n at (list_in old) (list_in new)) is_size
+pub forgets : (sli : ℕ) {size read to at : ℕ} {old new : List (List ℕ)} → read ≡ size → (0 < size → to ≡ at) → (0 < read → list_in new (class_of sli read) ≡ without_place to (list_in old (class_of sli read)))
+    → ((other : ℕ) → other ≢ class_of sli read → list_in new other ≡ list_in old other) → (read ≡ 0 → new ≡ old) → Forgets sli size at (list_in old) (list_in new)
+forgets sli {size = size} {read = read} {at = at} {old = old} {new = new} is_size same out others none =
+    subst (λ (n : ℕ). Forgets sli n at (list_in old) (list_in new)) is_size
     (record {
-      out = λ h. out h ∙ ap (λ (k : ℕ). without_place k (list_in old (class_of read))) (same (omega (arith, h, is_size)));
+      out = λ h. out h ∙ ap (λ (k : ℕ). without_place k (list_in old (class_of sli read))) (same (omega (arith, h, is_size)));
       others = others;
       none = λ e class. ap (λ (l : List (List ℕ)). list_in l class) (none e);
     })
 
-forgotten : {size at : ℕ} {old new : ℕ → List ℕ} → Forgets size at old new → (front back : List FreePlace) → (0 < size → IsFresh at (front ++ back))
-    → (0 < size → (stamp : ℕ) × AreListed (front ++ place size at stamp ∷ back) old) → (size ≡ 0 → AreListed (front ++ back) old) → AreListed (front ++ back) new
-forgotten {size = size} {at = at} {old = old} {new = new} f front back fresh some kept =
+forgotten : (sli : ℕ) {size at : ℕ} {old new : ℕ → List ℕ} → Forgets sli size at old new → (front back : List FreePlace) → (0 < size → IsFresh at (front ++ back))
+    → (0 < size → (stamp : ℕ) × AreListed (front ++ place sli size at stamp ∷ back) old) → (size ≡ 0 → AreListed (front ++ back) old) → AreListed (front ++ back) new
+forgotten sli {size = size} {at = at} {old = old} {new = new} f front back fresh some kept =
     by_size size
-    (λ h. let listed = some h in taken (place size at listed.0) front back old new f.others (fresh h) (f.out h) listed.1)
+    (λ h. let listed = some h in taken (place sli size at listed.0) front back old new f.others (fresh h) (f.out h) listed.1)
     (λ e. same_lists (front ++ back) old new (f.none e) (kept e))
   where
     by_size : (n : ℕ) → (0 < n → AreListed (front ++ back) new) → (n ≡ 0 → AreListed (front ++ back) new) → AreListed (front ++ back) new
@@ -49,20 +49,20 @@ forgotten {size = size} {at = at} {old = old} {new = new} f front back fresh som
 -- ---- a live block between its neighbours
 
 -- a live block begins at a place, its free neighbours have these sizes, and these are the lists of the free blocks, all past
-pub record IsBetween (bs : List Block) (at i before size after tick : ℕ) (lists : ℕ → List ℕ) : Type 0 where
+pub record IsBetween (sli : ℕ) (bs : List Block) (at i before size after tick : ℕ) (lists : ℕ → List ℕ) : Type 0 where
   pub stands : StandsAt bs at i
   pub live : is_free (block_at bs i) ≡ false
-  pub sized : AreRegions bs
+  pub sized : AreRegions sli bs
   pub is_size : size ≡ size_of (block_at bs i)
   pub is_before : before ≡ last_free (take i bs)
   pub is_after : after ≡ first_free (drop (suc i) bs)
   pub past : ArePast tick bs
-  pub listed : AreFreeLists bs lists
+  pub listed : AreFreeLists sli bs lists
 
-pub is_between : {bs : List Block} {at tick : ℕ} {old new : List (List ℕ)} → (live : (i : ℕ) × StandsAt bs at i × (is_free (block_at bs i) ≡ false)) → AreRegions bs
-    → ArePast tick bs → AreFreeLists bs (list_in old) → new ≡ old
-    → IsBetween bs at live.0 (last_free (take live.0 bs)) (size_of (block_at bs live.0)) (first_free (drop (suc live.0) bs)) tick (list_in new)
-is_between live sized past listed kept = record {
+pub is_between : (sli : ℕ) {bs : List Block} {at tick : ℕ} {old new : List (List ℕ)} → (live : (i : ℕ) × StandsAt bs at i × (is_free (block_at bs i) ≡ false)) → AreRegions sli bs
+    → ArePast tick bs → AreFreeLists sli bs (list_in old) → new ≡ old
+    → IsBetween sli bs at live.0 (last_free (take live.0 bs)) (size_of (block_at bs live.0)) (first_free (drop (suc live.0) bs)) tick (list_in new)
+is_between sli live sized past listed kept = record {
   stands = live.1;
   live = live.2;
   sized = sized;
@@ -73,27 +73,27 @@ is_between live sized past listed kept = record {
   listed = rw kept listed;
 }
 
-live_places : (at : ℕ) (b : Block) (back : List Block) → is_free b ≡ false → free_places at (b ∷ back) ≡ free_places (at + size_of b) back
-live_places at (Live m s xs) back e = refl
-live_places at (Free m s) back e = absurd (false≢true (sym e))
+live_places : (sli at : ℕ) (b : Block) (back : List Block) → is_free b ≡ false → free_places sli at (b ∷ back) ≡ free_places sli (at + size_of b) back
+live_places sli at (Live m s xs) back e = refl
+live_places sli at (Free m s) back e = absurd (false≢true (sym e))
 
 -- the blocks behind one, whose first may be free
-next_places : (back : List Block) (at : ℕ) → (h : 0 < first_free back) → free_places at back ≡ place (first_free back) at (next_is back h).0 ∷ free_places (at + first_free back) (past_free back)
-next_places back at h = ap (free_places at) (next_is back h).1
+next_places : (sli : ℕ) (back : List Block) (at : ℕ) → (h : 0 < first_free back) → free_places sli at back ≡ place sli (first_free back) at (next_is back h).0 ∷ free_places sli (at + first_free back) (past_free back)
+next_places sli back at h = ap (free_places sli at) (next_is back h).1
 
-next_no_places : (back : List Block) (at : ℕ) → AreRegions back → first_free back ≡ 0 → free_places at back ≡ free_places (at + first_free back) (past_free back)
-next_no_places back at sized e =
+next_no_places : (sli : ℕ) (back : List Block) (at : ℕ) → AreRegions sli back → first_free back ≡ 0 → free_places sli at back ≡ free_places sli (at + first_free back) (past_free back)
+next_no_places sli back at sized e =
     let same : at ≡ at + first_free back = omega (arith, e) in
-    ap (λ (n : ℕ). free_places n back) same ∙ ap (free_places (at + first_free back)) (sym (next_none back sized e))
+    ap (λ (n : ℕ). free_places sli n back) same ∙ ap (free_places sli (at + first_free back)) (sym (next_none sli back sized e))
 
 -- the blocks before one, whose last may be free
-last_places : (front : List Block) (at : ℕ) → words_in front ≡ at → (h : 0 < last_free front)
-    → free_places 0 front ≡ free_places 0 (before_free front) ++ place (last_free front) (at - last_free front) (last_is front h).0 ∷ []
-last_places front at e h =
+last_places : (sli : ℕ) (front : List Block) (at : ℕ) → words_in front ≡ at → (h : 0 < last_free front)
+    → free_places sli 0 front ≡ free_places sli 0 (before_free front) ++ place sli (last_free front) (at - last_free front) (last_is front h).0 ∷ []
+last_places sli front at e h =
     let begins : words_in (before_free front) ≡ at - last_free front = omega (arith, last_words front, e) in
-    ap (free_places 0) (last_is front h).1 ∙ places_behind (before_free front) (Free (last_free front) (last_is front h).0 ∷ []) (at - last_free front) begins
+    ap (free_places sli 0) (last_is front h).1 ∙ places_behind sli (before_free front) (Free (last_free front) (last_is front h).0 ∷ []) (at - last_free front) begins
 
-module _ {bs : List Block} {at i before size after tick : ℕ} {lists : ℕ → List ℕ} (f : IsBetween bs at i before size after tick lists) where
+module _ (sli : ℕ) {bs : List Block} {at i before size after tick : ℕ} {lists : ℕ → List ℕ} (f : IsBetween sli bs at i before size after tick lists) where
   abbrev front : List Block
   front = take i bs
 
@@ -103,8 +103,8 @@ module _ {bs : List Block} {at i before size after tick : ℕ} {lists : ℕ → 
   pub between : Around bs at i front (block_at bs i) back
   between = around bs at i f.stands
 
-  pub size_region : IsRegion size
-  size_region = subst IsRegion (sym f.is_size) (region_around between f.sized)
+  pub size_region : IsRegion sli size
+  size_region = subst (IsRegion sli) (sym f.is_size) (region_around sli between f.sized)
 
   pub end_within : at + size + after ≤ words_in bs
   end_within = omega (arith, words_around between, f.is_size, f.is_after, first_free-words back)
@@ -117,96 +117,96 @@ module _ {bs : List Block} {at i before size after tick : ℕ} {lists : ℕ → 
 
   -- the free blocks before the block, and before the free one before it
   abbrev ahead : List FreePlace
-  ahead = free_places 0 front
+  ahead = free_places sli 0 front
 
   abbrev first : List FreePlace
-  first = free_places 0 (before_free front)
+  first = free_places sli 0 (before_free front)
 
   -- those behind the block and the free one behind it
   abbrev behind : List FreePlace
-  behind = free_places (at + size + after) (past_free back)
+  behind = free_places sli (at + size + after) (past_free back)
 
   pub fresh_behind : (k : ℕ) → k < at + size + after → IsFresh k behind
-  fresh_behind k h = fresh_back (past_free back) (at + size + after) k (past_regions back (regions_back between f.sized)) h
+  fresh_behind k h = fresh_back sli (past_free back) (at + size + after) k (past_regions sli back (regions_back sli between f.sized)) h
 
   fresh_next : 0 < after → IsFresh (at + size) (ahead ++ behind)
   fresh_next h =
-      fresh_both (at + size) ahead behind (fresh_front front (at + size) (regions_front between f.sized) (omega (arith, f.stands.place))) (fresh_behind (at + size) (omega (arith, h)))
+      fresh_both (at + size) ahead behind (fresh_front sli front (at + size) (regions_front sli between f.sized) (omega (arith, f.stands.place))) (fresh_behind (at + size) (omega (arith, h)))
 
   -- none begins in their words
   fresh_merged : (k : ℕ) → at - before ≤ k → k < at + size + after → IsFresh k (first ++ behind)
   fresh_merged k low high =
-      fresh_both k first behind (fresh_front (before_free front) k (before_regions front (regions_front between f.sized)) (omega (arith, begins, low))) (fresh_behind k high)
+      fresh_both k first behind (fresh_front sli (before_free front) k (before_regions sli front (regions_front sli between f.sized)) (omega (arith, begins, low))) (fresh_behind k high)
 
-  listed_between : AreListed (ahead ++ free_places (at + size) back) lists
+  listed_between : AreListed (ahead ++ free_places sli (at + size) back) lists
   listed_between =
       subst (λ (l : List FreePlace). AreListed l lists)
-      (ap (free_places 0) between.is ∙ places_behind front (block_at bs i ∷ back) at between.place
-      ∙ ap (λ (l : List FreePlace). ahead ++ l) (live_places at (block_at bs i) back f.live)
-      ∙ ap (λ (n : ℕ). ahead ++ free_places (at + n) back) (sym f.is_size)) f.listed
+      (ap (free_places sli 0) between.is ∙ places_behind sli front (block_at bs i ∷ back) at between.place
+      ∙ ap (λ (l : List FreePlace). ahead ++ l) (live_places sli at (block_at bs i) back f.live)
+      ∙ ap (λ (n : ℕ). ahead ++ free_places sli (at + n) back) (sym f.is_size)) f.listed
 
-  listed_next : 0 < after → (stamp : ℕ) × AreListed (ahead ++ place after (at + size) stamp ∷ behind) lists
+  listed_next : 0 < after → (stamp : ℕ) × AreListed (ahead ++ place sli after (at + size) stamp ∷ behind) lists
   listed_next h =
       let some : 0 < first_free back = omega (arith, h, f.is_after) in (
         (next_is back some).0,
-        subst (λ (n : ℕ). AreListed (ahead ++ place n (at + size) (next_is back some).0 ∷ free_places (at + size + n) (past_free back)) lists) (sym f.is_after)
-            (subst (λ (l : List FreePlace). AreListed (ahead ++ l) lists) (next_places back (at + size) some) listed_between),
+        subst (λ (n : ℕ). AreListed (ahead ++ place sli n (at + size) (next_is back some).0 ∷ free_places sli (at + size + n) (past_free back)) lists) (sym f.is_after)
+            (subst (λ (l : List FreePlace). AreListed (ahead ++ l) lists) (next_places sli back (at + size) some) listed_between),
       )
 
   kept_next : after ≡ 0 → AreListed (ahead ++ behind) lists
   kept_next e =
-      subst (λ (n : ℕ). AreListed (ahead ++ free_places (at + size + n) (past_free back)) lists) (sym f.is_after)
-      (subst (λ (l : List FreePlace). AreListed (ahead ++ l) lists) (next_no_places back (at + size) (regions_back between f.sized) (omega (arith, e, f.is_after))) listed_between)
+      subst (λ (n : ℕ). AreListed (ahead ++ free_places sli (at + size + n) (past_free back)) lists) (sym f.is_after)
+      (subst (λ (l : List FreePlace). AreListed (ahead ++ l) lists) (next_no_places sli back (at + size) (regions_back sli between f.sized) (omega (arith, e, f.is_after))) listed_between)
 
-  pub next_region : 0 < after → IsRegion after
-  next_region h = rw f.is_after (region_around (around_first between (omega (arith, h, f.is_after))) f.sized)
+  pub next_region : 0 < after → IsRegion sli after
+  next_region h = rw f.is_after (region_around sli (around_first between (omega (arith, h, f.is_after))) f.sized)
 
-  pub contains_next : 0 < after → Contains (lists (class_of after)) (at + size)
-  contains_next h = let listed = listed_next h in contains_own (place after (at + size) listed.0) ahead behind (lists (class_of after)) (listed.1 (class_of after))
+  pub contains_next : 0 < after → Contains (lists (class_of sli after)) (at + size)
+  contains_next h = let listed = listed_next h in contains_own (place sli after (at + size) listed.0) ahead behind (lists (class_of sli after)) (listed.1 (class_of sli after))
 
   -- a free block that begins where the block ends is listed
-  pub contains_behind : {words : ℕ} → words_in bs ≡ words → (j : ℕ) → StandsAt bs (at + size) j → is_free (block_at bs j) ≡ true → Contains (lists (class_of (size_of (block_at bs j)))) (at + size)
+  pub contains_behind : {words : ℕ} → words_in bs ≡ words → (j : ℕ) → StandsAt bs (at + size) j → is_free (block_at bs j) ≡ true → Contains (lists (class_of sli (size_of (block_at bs j)))) (at + size)
   contains_behind whole j there free =
-      let same = f.is_after ∙ free_behind whole f.stands f.sized j (subst (λ (n : ℕ). StandsAt bs (at + n) j) f.is_size there) free in
-      subst (λ (n : ℕ). Contains (lists (class_of n)) (at + size)) same (contains_next (omega (arith, same, (region_around (around bs (at + size) j there) f.sized).0)))
+      let same = f.is_after ∙ free_behind sli whole f.stands f.sized j (subst (λ (n : ℕ). StandsAt bs (at + n) j) f.is_size there) free in
+      subst (λ (n : ℕ). Contains (lists (class_of sli n)) (at + size)) same (contains_next (omega (arith, same, (region_around sli (around bs (at + size) j there) f.sized).0)))
 
   -- once the block behind is out
-  module _ {left : ℕ → List ℕ} (out : Forgets after (at + size) lists left) where
+  module _ {left : ℕ → List ℕ} (out : Forgets sli after (at + size) lists left) where
     pub left_next : AreListed (ahead ++ behind) left
-    left_next = forgotten out ahead behind fresh_next listed_next kept_next
+    left_next = forgotten sli out ahead behind fresh_next listed_next kept_next
 
-    listed_previous : 0 < before → (stamp : ℕ) × AreListed (first ++ place before (at - before) stamp ∷ behind) left
+    listed_previous : 0 < before → (stamp : ℕ) × AreListed (first ++ place sli before (at - before) stamp ∷ behind) left
     listed_previous h =
         let some : 0 < last_free front = omega (arith, h, f.is_before) in
         let stamp = (last_is front some).0 in (
           stamp,
-          subst (λ (n : ℕ). AreListed (first ++ place n (at - n) stamp ∷ behind) left) (sym f.is_before)
+          subst (λ (n : ℕ). AreListed (first ++ place sli n (at - n) stamp ∷ behind) left) (sym f.is_before)
               (subst (λ (l : List FreePlace). AreListed l left)
-              (ap (λ (l : List FreePlace). l ++ behind) (last_places front at f.stands.place some)
-              ∙ append_assoc first (place (last_free front) (at - last_free front) stamp ∷ []) behind) left_next),
+              (ap (λ (l : List FreePlace). l ++ behind) (last_places sli front at f.stands.place some)
+              ∙ append_assoc first (place sli (last_free front) (at - last_free front) stamp ∷ []) behind) left_next),
         )
 
     kept_previous : before ≡ 0 → AreListed (first ++ behind) left
     kept_previous e =
-        subst (λ (l : List Block). AreListed (free_places 0 l ++ behind) left) (sym (last_none front (regions_front between f.sized) (omega (arith, e, f.is_before)))) left_next
+        subst (λ (l : List Block). AreListed (free_places sli 0 l ++ behind) left) (sym (last_none sli front (regions_front sli between f.sized) (omega (arith, e, f.is_before)))) left_next
 
-    pub contains_previous : 0 < before → Contains (left (class_of before)) (at - before)
+    pub contains_previous : 0 < before → Contains (left (class_of sli before)) (at - before)
     contains_previous h =
-        let listed = listed_previous h in contains_own (place before (at - before) listed.0) first behind (left (class_of before)) (listed.1 (class_of before))
+        let listed = listed_previous h in contains_own (place sli before (at - before) listed.0) first behind (left (class_of sli before)) (listed.1 (class_of sli before))
 
     -- and so is one where the block before begins
-    pub contains_before : {words : ℕ} → words_in bs ≡ words → words_in bs ≤ 2 ^ 20 → (j : ℕ) → StandsAt bs (back_behind 0 nowhere front) j → is_free (block_at bs j) ≡ true
-        → Contains (left (class_of (size_of (block_at bs j)))) (back_behind 0 nowhere front)
+    pub contains_before : {words : ℕ} → words_in bs ≡ words → words_in bs ≤ 2 ^ 24 → (j : ℕ) → StandsAt bs (back_behind 0 nowhere front) j → is_free (block_at bs j) ≡ true
+        → Contains (left (class_of sli (size_of (block_at bs j)))) (back_behind 0 nowhere front)
     contains_before whole small j there free =
-        let same = f.is_before ∙ free_before whole small f.sized f.stands j there free in
-        let some : 0 < before = omega (arith, same, (region_around (around bs (back_behind 0 nowhere front) j there) f.sized).0) in
-        let place : at - before ≡ back_behind 0 nowhere front = ap (λ (n : ℕ). at - n) f.is_before ∙ sym (back_free f.stands (omega (arith, some, f.is_before))) in
-        subst (λ (k : ℕ). Contains (left (class_of (size_of (block_at bs j)))) k) place (subst (λ (n : ℕ). Contains (left (class_of n)) (at - before)) same (contains_previous some))
+        let same = f.is_before ∙ free_before sli whole small f.sized f.stands j there free in
+        let some : 0 < before = omega (arith, same, (region_around sli (around bs (back_behind 0 nowhere front) j there) f.sized).0) in
+        let begins_there : at - before ≡ back_behind 0 nowhere front = ap (λ (n : ℕ). at - n) f.is_before ∙ sym (back_free f.stands (omega (arith, some, f.is_before))) in
+        subst (λ (k : ℕ). Contains (left (class_of sli (size_of (block_at bs j)))) k) begins_there (subst (λ (n : ℕ). Contains (left (class_of sli n)) (at - before)) same (contains_previous some))
 
     -- once that before it is out too
-    module _ {rest : ℕ → List ℕ} (out_too : Forgets before (at - before) left rest) where
+    module _ {rest : ℕ → List ℕ} (out_too : Forgets sli before (at - before) left rest) where
       rest_listed : AreListed (first ++ behind) rest
-      rest_listed = forgotten out_too first behind (λ h. fresh_merged (at - before) (omega arith) (omega (arith, size_region.0))) listed_previous kept_previous
+      rest_listed = forgotten sli out_too first behind (λ h. fresh_merged (at - before) (omega arith) (omega (arith, size_region.0))) listed_previous kept_previous
 
       -- no place in their words is listed
       pub rest_unlisted : AreUnlisted rest (at - before) (at + size + after)
@@ -228,14 +228,14 @@ module _ {bs : List Block} {at i before size after tick : ℕ} {lists : ℕ → 
             (length (before_free front), stands_around a, ap is_free (block_around a))
 
         -- and once it is in the list of its class
-        pub merged_listed : (class : ℕ) (kept all : ℕ → List ℕ) → class ≡ class_of total → SameLists kept rest → all class ≡ (at - before) ∷ kept class → ((other : ℕ) → other ≢ class → all other ≡ kept other) → AreFreeLists new all
+        pub merged_listed : (class : ℕ) (kept all : ℕ → List ℕ) → class ≡ class_of sli total → SameLists kept rest → all class ≡ (at - before) ∷ kept class → ((other : ℕ) → other ≢ class → all other ≡ kept other) → AreFreeLists sli new all
         merged_listed class kept all is_class stay came others =
             let ends : at + size + after ≡ at - before + total = omega (arith, before_within) in
             let e : FreePlace = record { class = class; at = at - before; stamp = tick } in
             let past = past_around between tick f.past in
             let listed : AreListed (first ++ e ∷ behind) all =
-            given e first behind kept all others (newest tick (at + size + after) (before_free front) (past_free back) (before_past tick front past.0) (past_past tick back past.1)) came
+            given e first behind kept all others (newest sli tick (at + size + after) (before_free front) (past_free back) (before_past tick front past.0) (past_past tick back past.1)) came
             (same_lists (first ++ behind) rest kept stay rest_listed) in
-            subst (λ (l : List FreePlace). AreListed l all) (sym (ap (free_places 0) is_merged ∙ places_behind (before_free front) (Free total tick ∷ past_free back) (at - before) begins))
-            (subst (λ (n : ℕ). AreListed (first ++ place total (at - before) tick ∷ free_places n (past_free back)) all) ends
+            subst (λ (l : List FreePlace). AreListed l all) (sym (ap (free_places sli 0) is_merged ∙ places_behind sli (before_free front) (Free total tick ∷ past_free back) (at - before) begins))
+            (subst (λ (n : ℕ). AreListed (first ++ place sli total (at - before) tick ∷ free_places sli n (past_free back)) all) ends
             (subst (λ (n : ℕ). AreListed (first ++ record { class = n; at = at - before; stamp = tick } ∷ behind) all) is_class listed))

@@ -26,12 +26,12 @@ carved_stands bs new at i size words tick len stands is =
     ]
 
 -- the block that a live name names is the one at its place
-pub named_payload : (h : HeapState) (name : Name) (i : ℕ) → AreRegions h.blocks → StandsAt h.blocks name.at i → IsLive h name → payload_words_at (named name h.blocks) ≡ payload_words (block_at h.blocks i)
-named_payload h name i regions stands live = found (named name h.blocks) refl live.1
+pub named_payload : (sli : ℕ) (h : HeapState) (name : Name) (i : ℕ) → AreRegions sli h.blocks → StandsAt h.blocks name.at i → IsLive h name → payload_words_at (named name h.blocks) ≡ payload_words (block_at h.blocks i)
+named_payload sli h name i regions stands live = found (named name h.blocks) refl live.1
   where
     found : (o : Option Site) → named name h.blocks ≡ o → IsSome o → payload_words_at o ≡ payload_words (block_at h.blocks i)
     found None e some = absurd (false≢true some)
     found (Some s) e some =
         let site = named_site name h.blocks s e in
         let a : Around h.blocks name.at (length s.before) s.before s.block s.after = record { is = sym site.0; before = refl; place = eqb-true _ _ (and_right (has_serial name.serial s.block) _ site.1) } in
-        ap payload_words (sym (block_around a) ∙ ap (block_at h.blocks) (one_index h.blocks name.at (length s.before) i regions (stands_around a) stands))
+        ap payload_words (sym (block_around a) ∙ ap (block_at h.blocks) (one_index sli h.blocks name.at (length s.before) i regions (stands_around a) stands))

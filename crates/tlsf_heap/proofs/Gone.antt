@@ -54,8 +54,8 @@ module _ (P : ℕ → Type 0) where
   all_refitted tick n len (Live m s xs) back room all = by_refitted AllSerials tick n len m s xs back room (λ _. all) (all.0, all_past back all.1) (λ _. (all.0, all_past back all.1))
   all_refitted tick n len (Free m s) back room all = by_test AllSerials (is_sized n (Free m s)) (Free m s ∷ back) (Free m s ∷ back) (λ _. all) all
 
-gone_call : (h : HeapState) (serial : ℕ) (call : Call) → IsGone h serial → IsGone (answered h call).1 serial
-gone_call h serial (Allocate len) g = by_allocated (λ o. IsGone o.heap serial) h len (λ why. g) (λ s site fit.
+gone_call : (sli : ℕ) (h : HeapState) (serial : ℕ) (call : Call) → IsGone h serial → IsGone (answered sli h call).1 serial
+gone_call sli h serial (Allocate len) g = by_allocated sli (λ o. IsGone o.heap serial) h len (λ why. g) (λ s site fit.
     let P : ℕ → Type 0 = λ y. y ≢ serial in
     let new : List Block = carved (size_of s.block) (want len) h.tick len in
     let other : h.tick ≢ serial = λ e. omega (arith, g.past, e) in
@@ -64,23 +64,23 @@ gone_call h serial (Allocate len) g = by_allocated (λ o. IsGone o.heap serial) 
       past = omega (arith, g.past);
       absent = of_both P (s.before ++ new) s.after (of_both P s.before new all.0 (by_test (AllSerials P) (nat_le (want len + 4) (size_of s.block)) _ _ (λ _. (other, tt)) (other, tt))) (of_rest P s.block s.after all.1);
     })
-gone_call h serial (Release name) g = by_released (λ o. IsGone o.heap serial) h name (λ why. g) (λ s own site is.
+gone_call sli h serial (Release name) g = by_released (λ o. IsGone o.heap serial) h name (λ why. g) (λ s own site is.
     let P : ℕ → Type 0 = λ y. y ≢ serial in
     let all = all_of P s.before (s.block ∷ s.after) (subst (AllSerials P) (sym site) g.absent) in
     record { past = omega (arith, g.past); absent = all_coalesced P h.tick s.before s.after s.block all.0 (of_rest P s.block s.after all.1) })
-gone_call h serial (Resize name len) g = by_resized (λ o. IsGone o.heap serial) h name len (λ why. g) (λ s own site is room.
+gone_call sli h serial (Resize name len) g = by_resized (λ o. IsGone o.heap serial) h name len (λ why. g) (λ s own site is room.
     let P : ℕ → Type 0 = λ y. y ≢ serial in
     let all = all_of P s.before (s.block ∷ s.after) (subst (AllSerials P) (sym site) g.absent) in
     record { past = omega (arith, g.past); absent = of_both P s.before _ all.0 (all_refitted P h.tick (want len) len s.block s.after room all.1) })
-gone_call h serial (Write name at bytes) g = by_written (λ o. IsGone o.heap serial) h name at bytes (λ why. g) (λ s site has.
+gone_call sli h serial (Write name at bytes) g = by_written (λ o. IsGone o.heap serial) h name at bytes (λ why. g) (λ s site has.
     let P : ℕ → Type 0 = λ y. y ≢ serial in
     let all = all_of P s.before (s.block ∷ s.after) (subst (AllSerials P) (sym site) g.absent) in
     record { past = g.past; absent = of_both P s.before _ all.0 (all_with P s.block _ s.after all.1) })
-gone_call h serial (Read name at n) g = g
+gone_call sli h serial (Read name at n) g = g
 
-gone_run : (h : HeapState) (serial : ℕ) (calls : List Call) → IsGone h serial → IsGone (run h calls).1 serial
-gone_run h serial [] g = g
-gone_run h serial (call ∷ calls) g = gone_run (answered h call).1 serial calls (gone_call h serial call g)
+gone_run : (sli : ℕ) (h : HeapState) (serial : ℕ) (calls : List Call) → IsGone h serial → IsGone (run sli h calls).1 serial
+gone_run sli h serial [] g = g
+gone_run sli h serial (call ∷ calls) g = gone_run sli (answered sli h call).1 serial calls (gone_call sli h serial call g)
 
 distinct_from : (s : ℕ) (xs ys : List ℕ) → AreDistinct (xs ++ s ∷ ys) → AllByRecursion (λ y. y ≢ s) xs × AllByRecursion (λ y. y ≢ s) ys
 distinct_from s [] ys d = (tt, all_weaker (λ y. s ≢ y) (λ y. y ≢ s) (λ y f e. f (sym e)) ys d.0)
@@ -96,9 +96,9 @@ gone_released h front back (Live m s xs) serial e lawful =
     record { past = omega (arith, past); absent = all_coalesced (λ y. y ≢ s) h.tick front back (Live m s xs) others.0 others.1 } in
     subst (IsGone (ticked h (coalesced h.tick (record { before = front; block = Live m s xs; after = back })))) (eqb-true s serial e) here
 
-pub gone : (h : HeapState) (name : Name) (calls : List Call) → IsLawful h → IsTaken h name → ¬ (IsLive (run (released h name).heap calls).1 name)
-gone h name calls lawful taken live =
+pub gone : (sli : ℕ) (h : HeapState) (name : Name) (calls : List Call) → IsLawful h → IsTaken h name → ¬ (IsLive (run sli (released h name).heap calls).1 name)
+gone sli h name calls lawful taken live =
     let first : IsGone (released h name).heap name.serial = by_released (λ o. o.answer ≡ Ok tt → IsGone o.heap name.serial) h name (λ why e. absurd cc)
     (λ s own site is e. gone_released h s.before s.after s.block name.serial (and_left _ _ is) (lawful_site h s site lawful)) taken in
-    let left = gone_run (released h name).heap name.serial calls first in
-    serial_of name.at name.serial (λ y. y ≢ name.serial) 0 _ left.absent (lives (run (released h name).heap calls).1 name live) refl
+    let left = gone_run sli (released h name).heap name.serial calls first in
+    serial_of name.at name.serial (λ y. y ≢ name.serial) 0 _ left.absent (lives (run sli (released h name).heap calls).1 name live) refl

@@ -1,7 +1,8 @@
 -- What a resize goes by: the block that is named and the free one behind it; and the block that it leaves.
-use Rattle.std.proofs.Common.{◌≡◌, ℕ, suc, ◌+◌, ◌^◌, ◌<◌, ◌≤◌, false, List, ◌∷◌, ◌++◌, take, drop, Ok, Err, refl, sym, ap, ◌∙◌, subst, arith}
+use Rattle.std.proofs.Common.{◌≡◌, ℕ, suc, ◌+◌, ◌<◌, ◌≤◌, false, List, ◌∷◌, ◌++◌, take, drop, Ok, Err, refl, sym, ap, ◌∙◌, subst, arith}
 use Rattle.std.specs.Prelude.{IsSome}
 use Rattle.std.proofs.lemmas.Bool.{false≢true}
+use Rattle.tlsf_class.specs.Classes.{most_words}
 use Rattle.tlsf_words.specs.declared.tag.Tag.{Tag}
 use Rattle.tlsf_heap.specs.Blocks.{Block, Live, Free, HeapState, size_of, is_free, words_for, want}
 use Rattle.tlsf_heap.specs.Calls.{Release, Resize, refused, last_tick, room_of, refitted, resized, named}
@@ -40,7 +41,7 @@ refitted_size tick n len (Live m s xs) back live room =
     by_refitted (λ (l : List Block). (now : Block) × (rest : List Block) × (l ≡ now ∷ rest) × (n ≤ size_of now)) tick n len m s xs back room
     (λ enough. (_, _, refl, enough)) (_, _, refl, room) (λ large. (_, _, refl, omega arith))
 
-module _ {h k : HeapState} {name : Name} {own next : Tag} (f : Found h name own next) (same : h ≡ k) (lawful : IsLawful h) (len : ℕ) where
+module _ (sli : ℕ) {h k : HeapState} {name : Name} {own next : Tag} (f : Found h name own next) (same : h ≡ k) (lawful : IsLawful h) (len : ℕ) where
   pub room_small : own.size + next.size ≤ h.words
   room_small =
       let a = around h.blocks name.at f.named.1.0 (named_stands _ _ _ _ f.named.1.1) in
@@ -72,17 +73,17 @@ module _ {h k : HeapState} {name : Name} {own next : Tag} (f : Found h name own 
     resizes_done = subst (λ (s : HeapState). Resizes s name len (Ok tt) (with_region h (h.tick + 1) region)) same own_resizes
 
     -- the block of the name has the words wanted
-    pub payload_left : h.words ≤ 2 ^ 20 → words_for len ≤ 3 + payload_words_at (named name region.blocks)
+    pub payload_left : h.words ≤ most_words sli → words_for len ≤ 3 + payload_words_at (named name region.blocks)
     payload_left small =
         let stands = named_stands _ _ _ _ f.named.1.1 in
         let live : IsLive h name = (f.named.0, subst IsSome (sym (named_is name h.blocks f.named.1.0 f.named.1.1)) refl) in
         let still : IsLive (with_region h (h.tick + 1) region) name =
-        subst (λ (s : HeapState). IsLive s name) (sym own_resizes.is_heap) (kept h name (Resize name len) (λ taken. let bad : Resize name len ≡ Release name = taken.0 in cc) live) in
+        subst (λ (s : HeapState). IsLive s name) (sym own_resizes.is_heap) (kept sli h name (Resize name len) (λ taken. let bad : Resize name len ≡ Release name = taken.0 in cc) live) in
         let now = refitted_size h.tick (want len) len (block_at h.blocks f.named.1.0) (drop (suc f.named.1.0) h.blocks) (named_live _ _ _ _ f.named.1.1) enough in
         let a : Around region.blocks name.at f.named.1.0 (take f.named.1.0 h.blocks) now.0 now.1 = record {
           is = blocks ∙ ap (λ (l : List Block). take f.named.1.0 h.blocks ++ l) now.2;
           before = (around h.blocks name.at f.named.1.0 stands).before;
           place = stands.place;
         } in
-        let regions = lawful_regions (with_region h (h.tick + 1) region) own_resizes.lawful (omega (arith, words, small)) in
-        omega (arith, named_payload (with_region h (h.tick + 1) region) name f.named.1.0 regions (stands_around a) still, ap size_of (block_around a), now.3)
+        let regions = lawful_regions sli (with_region h (h.tick + 1) region) own_resizes.lawful (omega (arith, words, small)) in
+        omega (arith, named_payload sli (with_region h (h.tick + 1) region) name f.named.1.0 regions (stands_around a) still, ap size_of (block_around a), now.3)

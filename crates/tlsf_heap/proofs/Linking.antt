@@ -27,16 +27,16 @@ unfolding lists_of list_of places_from
 list_in-lists_of heads words class = get_or-map (places_from (suc (length words)) words) heads class nowhere
 
 -- the words of a region hold the blocks and the lists that it shows
-pub record HoldsState (m : Image) (l : ListHeads) (r : RegionState) : Type 0 where
+pub record HoldsState (sli : ℕ) (m : Image) (l : ListHeads) (r : RegionState) : Type 0 where
   pub shows : Shows m r.blocks
-  pub threaded : AreThreaded l.heads l.members m.words
+  pub threaded : AreThreaded sli l.heads l.members m.words
   pub free : AreFreeBlocks (list_of l.heads m.words) r.blocks
   pub lists : (class : ℕ) → list_in r.lists class ≡ list_of l.heads m.words class
 
-pub holds_state : {m : Image} {l : ListHeads} {r : RegionState} {touches : ℕ} → HoldsLists m l
-    → record { words = length m.words; blocks = blocks_of m.words; lists = lists_of l.heads m.words; stored = m; touches = touches } ≡ r → HoldsState m l r
-holds_state {m = m} {l = l} holds same =
-    subst (HoldsState m l) same (record { shows = holds.shows; threaded = holds.threaded; free = holds.free; lists = list_in-lists_of l.heads m.words })
+pub holds_state : (sli : ℕ) {m : Image} {l : ListHeads} {r : RegionState} {touches : ℕ} → HoldsLists sli m l
+    → record { words = length m.words; blocks = blocks_of m.words; lists = lists_of l.heads m.words; stored = m; touches = touches } ≡ r → HoldsState sli m l r
+holds_state sli {m = m} {l = l} holds same =
+    subst (HoldsState sli m l) same (record { shows = holds.shows; threaded = holds.threaded; free = holds.free; lists = list_in-lists_of l.heads m.words })
 
 -- ---- places of free blocks
 
@@ -129,18 +129,18 @@ abbrev pub IsListed : (ℕ → List ℕ) → ℕ → Type 0
 IsListed lists at = (class : ℕ) × Contains (lists class) at
 
 -- the words hold the lists, and each class has the list that it had
-pub record Relists (v : Image) (l : ListHeads) (lists : List (List ℕ)) : Type 0 where
-  pub holds : HoldsLists v l
+pub record Relists (sli : ℕ) (v : Image) (l : ListHeads) (lists : List (List ℕ)) : Type 0 where
+  pub holds : HoldsLists sli v l
   pub same : SameLists (list_in (lists_of l.heads v.words)) (list_in lists)
 
-module _ {m : Image} {l : ListHeads} {r : RegionState} (state : HoldsState m l r) (v : Image) where
+module _ (sli : ℕ) {m : Image} {l : ListHeads} {r : RegionState} (state : HoldsState sli m l r) (v : Image) where
   -- lists stay where an edit keeps the links of listed places, and the blocks there free
   pub relisted : Shows v (blocks_of v.words) → length v.words ≡ length m.words
       → ((at : ℕ) → IsListed (list_in r.lists) at → IsFreeAt r.blocks at → (word_at v (at + 2) ≡ word_at m (at + 2)) × IsFreeAt (blocks_of v.words) at)
-      → Relists v l r.lists
+      → Relists sli v l r.lists
   relisted shows as_long keeps =
       let listed = λ (class at : ℕ) (c : Contains (list_of l.heads m.words class) at). keeps at (class, subst (λ (places : List ℕ). Contains places at) (sym (state.lists class)) c) (state.free class at c) in
-      let all = kept l.heads l.members m.words v.words state.threaded as_long (λ class at c. (listed class at c).0) in
+      let all = kept sli l.heads l.members m.words v.words state.threaded as_long (λ class at c. (listed class at c).0) in
       record {
         holds = record {
           shows = shows;
@@ -159,22 +159,22 @@ module _ {m : Image} {l : ListHeads} {r : RegionState} (state : HoldsState m l r
       (subst (λ (bs : List Block). IsFreeAt bs other) (sym whole ∙ append_assoc (take i r.blocks) old after) h))
 
 -- words show these blocks, and each class has the list that it had
-pub record Reshapes (v : Image) (l : ListHeads) (left : List Block) (lists : List (List ℕ)) : Type 0 where
+pub record Reshapes (sli : ℕ) (v : Image) (l : ListHeads) (left : List Block) (lists : List (List ℕ)) : Type 0 where
   pub blocks : blocks_of v.words ≡ left
-  pub holds : HoldsLists v l
+  pub holds : HoldsLists sli v l
   pub same : SameLists (list_in (lists_of l.heads v.words)) (list_in lists)
 
 -- lists stay where blocks in whose words no listed place is become others
-pub reshaped : {m : Image} {l : ListHeads} {r : RegionState} → HoldsState m l r → (v : Image) → (front old new after : List Block) → front ++ old ++ after ≡ r.blocks → Replaces m v front old new
-    → AreUnlisted (list_in r.lists) (words_in front) (words_in front + words_in old) → Reshapes v l (front ++ new ++ after) r.lists
-reshaped {m = m} {l = l} {r = r} state v front old new after whole replaces unlisted =
+pub reshaped : (sli : ℕ) {m : Image} {l : ListHeads} {r : RegionState} → HoldsState sli m l r → (v : Image) → (front old new after : List Block) → front ++ old ++ after ≡ r.blocks → Replaces m v front old new
+    → AreUnlisted (list_in r.lists) (words_in front) (words_in front + words_in old) → Reshapes sli v l (front ++ new ++ after) r.lists
+reshaped sli {m = m} {l = l} {r = r} state v front old new after whole replaces unlisted =
     let parts : front ++ (old ++ after) ≡ r.blocks = sym (append_assoc front old after) ∙ whole in
     let shown = blocks_replaced m v front old new after replaces (subst (Shows m) (sym whole) state.shows) in
     let rooms = subst (AllByRecursion HasRoom) (sym parts) state.shows.rooms in
     let front_rooms = all_left HasRoom front (old ++ after) rooms in
     let old_rooms = all_left HasRoom old after (all_right HasRoom front (old ++ after) rooms) in
     let left : (at : ℕ) → IsFreeAt (front ++ (new ++ after)) at → IsFreeAt (blocks_of v.words) at = λ at h. subst (λ (bs : List Block). IsFreeAt bs at) (sym (shown.0 ∙ append_assoc front new after)) h in
-    let relists : Relists v l r.lists = relisted state v shown.1 replaces.as_long (λ at listed h.
+    let relists : Relists sli v l r.lists = relisted sli state v shown.1 replaces.as_long (λ at listed h.
     elim (free_parts front (old ++ after) at (subst (λ (bs : List Block). IsFreeAt bs at) (sym parts) h)) [
       | inl ahead ↦ let four = four_within front front_rooms at ahead in (replaces.before (at + 2) (omega arith), left at (free_left front (new ++ after) at ahead))
       | inr here ↦ elim (free_parts old after here.0 here.2) [
@@ -234,13 +234,13 @@ module _ (m v : Image) (as_long : length v.words ≡ length m.words) (same_start
   }
 
 -- where only links of listed places change, the blocks stay
-pub record Relinks (v : Image) (l : ListHeads) (blocks : List Block) : Type 0 where
-  pub holds : HoldsLists v l
+pub record Relinks (sli : ℕ) (v : Image) (l : ListHeads) (blocks : List Block) : Type 0 where
+  pub holds : HoldsLists sli v l
   pub same : blocks_of v.words ≡ blocks
 
-pub relinked : {m v : Image} {l new : ListHeads} {r : RegionState} → HoldsState m l r → AreThreaded new.heads new.members v.words → AreFreeBlocks (list_of new.heads v.words) r.blocks
-    → OnlyLinksChange (list_of new.heads v.words) m.words v.words → length v.words ≡ length m.words → v.starts ≡ m.starts → Relinks v new r.blocks
-relinked {m = m} {v = v} {l = l} {new = new} {r = r} state threaded free links as_long starts =
+pub relinked : (sli : ℕ) {m v : Image} {l new : ListHeads} {r : RegionState} → HoldsState sli m l r → AreThreaded sli new.heads new.members v.words → AreFreeBlocks (list_of new.heads v.words) r.blocks
+    → OnlyLinksChange (list_of new.heads v.words) m.words v.words → length v.words ≡ length m.words → v.starts ≡ m.starts → Relinks sli v new r.blocks
+relinked sli {m = m} {v = v} {l = l} {new = new} {r = r} state threaded free links as_long starts =
     let shown = shows_linked m v as_long starts r.blocks state.shows (λ k apart. links k (λ class at c. apart at (free class at c))) in
     let read = blocks_of-shown v r.blocks shown in
     record {
@@ -254,7 +254,7 @@ relinked {m = m} {v = v} {l = l} {new = new} {r = r} state threaded free links a
 
 -- ---- one more place, and one less
 
-module _ {m : Image} {l : ListHeads} {r : RegionState} (state : HoldsState m l r) (v : Image) (new : ListHeads) (class at : ℕ)
+module _ (sli : ℕ) {m : Image} {l : ListHeads} {r : RegionState} (state : HoldsState sli m l r) (v : Image) (new : ListHeads) (class at : ℕ)
     (others : (other : ℕ) → other ≢ class → list_of new.heads v.words other ≡ list_of l.heads m.words other) where
   -- what is in the list of a class, where that of another class is what it was
   free_there : (other place : ℕ) → ((Contains (list_of new.heads v.words class) place) → IsFreeAt r.blocks place) → Contains (list_of new.heads v.words other) place → IsFreeAt r.blocks place

@@ -244,9 +244,9 @@ module _ (e : FreePlace) (front back : List FreePlace) (old new : ℕ → List �
   ]
 
 -- the only block of a new heap is the only place of a list
-pub listed_first : (words first class : ℕ) (old new : ℕ → List ℕ) → ((other : ℕ) → old other ≡ []) → class ≡ class_of words → new class ≡ 0 ∷ old class → ((other : ℕ) → other ≢ class → new other ≡ old other)
-    → AreFreeLists (Free words first ∷ []) new
-listed_first words first class old new empty is_class came others =
+pub listed_first : (sli words first class : ℕ) (old new : ℕ → List ℕ) → ((other : ℕ) → old other ≡ []) → class ≡ class_of sli words → new class ≡ 0 ∷ old class → ((other : ℕ) → other ≢ class → new other ≡ old other)
+    → AreFreeLists sli (Free words first ∷ []) new
+listed_first sli words first class old new empty is_class came others =
     let nothing : AreListed [] old = λ other. record { order = []; same = IsPermutation-refl []; falling = tt; are = empty other } in
     let e : FreePlace = record { class = class; at = 0; stamp = first } in
     subst (λ (n : ℕ). AreListed (record { class = n; at = 0; stamp = first } ∷ []) new) is_class (given e [] [] old new others (λ place c. absurd (omega (arith, c.1))) came nothing)

@@ -79,11 +79,6 @@ module _ (at serial : ℕ) where
   serial_of P place (Live m s xs ∷ bs) all h = elim h [ inl e ↦ subst P (eqb-true s serial e.0) all.0 | inr t ↦ serial_of P (place + m) bs all.1 t ]
   serial_of P place (Free m s ∷ bs) all h = elim h [ inl e ↦ absurd (false≢true e.0) | inr t ↦ serial_of P (place + m) bs all t ]
 
-  -- a block that serves a request has no serial
-  no_serial : (n : ℕ) (b : Block) → is_fit n b ≡ true → has_serial serial b ≡ true → ⊥
-  no_serial n (Live m s xs) fit e = false≢true fit
-  no_serial n (Free m s) fit e = false≢true e
-
   with_serial : (b : Block) (new : List ℕ) → has_serial serial b ≡ true → has_serial serial (with_bytes b new) ≡ true
   with_serial (Live m s xs) new e = e
   with_serial (Free m s) new e = e
@@ -125,6 +120,11 @@ module _ (at serial : ℕ) where
         ]
       ]
 
+-- a block that serves a request has no serial
+no_serial : (sli serial n : ℕ) (b : Block) → is_fit sli n b ≡ true → has_serial serial b ≡ true → ⊥
+no_serial sli serial n (Live m s xs) fit e = false≢true fit
+no_serial sli serial n (Free m s) fit e = false≢true e
+
 words_carved : (size n tick len : ℕ) → size + 0 ≡ words_in (carved size n tick len)
 words_carved size n tick len =
     elim (cases_lt size (n + 4)) [
@@ -140,8 +140,8 @@ lives h name live = from_search name.at name.serial [] h.blocks live.1
 shown : (h : HeapState) (name : Name) → name.heap ≡ h.id → LivesFrom name.at name.serial 0 h.blocks → IsLive h name
 shown h name own l = (own, to_search name.at name.serial [] h.blocks l)
 
-pub given : (h : HeapState) (len : ℕ) (name : Name) → IsGiven h len name → IsLive (allocated h len).heap name
-given h len name = by_allocated (λ o. o.answer ≡ Ok name → IsLive o.heap name) h len (λ why e. absurd cc) (λ s site fit e.
+pub given : (sli : ℕ) (h : HeapState) (len : ℕ) (name : Name) → IsGiven sli h len name → IsLive (allocated sli h len).heap name
+given sli h len name = by_allocated sli (λ o. o.answer ≡ Ok name → IsLive o.heap name) h len (λ why e. absurd cc) (λ s site fit e.
     let new : List Block = carved (size_of s.block) (want len) h.tick len in
     let same : record { heap = h.id; at = place_of s; serial = h.tick } ≡ name = cc in
     let first : LivesFrom (place_of s) h.tick (0 + place_of s) new =
@@ -149,8 +149,8 @@ given h len name = by_allocated (λ o. o.answer ≡ Ok name → IsLive o.heap na
     subst (λ (n : Name). IsLive (gives h len s).heap n) same
     (shown (gives h len s).heap _ refl (subst (LivesFrom (place_of s) h.tick 0) (sym (append_assoc s.before new s.after)) (in_right (place_of s) h.tick 0 s.before (new ++ s.after) (in_left (place_of s) h.tick _ new s.after first)))))
 
-pub new : (h : HeapState) (len : ℕ) (name : Name) → IsLawful h → IsGiven h len name → ¬ (IsLive h name)
-new h len name lawful = by_allocated (λ o. o.answer ≡ Ok name → ¬ (IsLive h name)) h len (λ why e. absurd cc) (λ s site fit e live.
+pub new : (sli : ℕ) (h : HeapState) (len : ℕ) (name : Name) → IsLawful h → IsGiven sli h len name → ¬ (IsLive h name)
+new sli h len name lawful = by_allocated sli (λ o. o.answer ≡ Ok name → ¬ (IsLive h name)) h len (λ why e. absurd cc) (λ s site fit e live.
     let same : h.tick ≡ name.serial = cc in
     let past = serial_of name.at name.serial (λ x. x < h.tick) 0 h.blocks lawful.serials_past (lives h name live) in omega (arith, past))
 
@@ -165,30 +165,30 @@ same_name x y a b c =
 kept_blocks : (h : HeapState) (name : Name) (s : Site) → IsSiteOf h.blocks s → IsLive h name → LivesFrom name.at name.serial 0 (s.before ++ s.block ∷ s.after)
 kept_blocks h name s site live = subst (LivesFrom name.at name.serial 0) (sym site) (lives h name live)
 
-pub kept : (h : HeapState) (name : Name) (call : Call) → ¬ (TakesBack h name call) → IsLive h name → IsLive (answered h call).1 name
-kept h name (Allocate len) other live = by_allocated (λ o. IsLive o.heap name) h len (λ why. live) (λ s site fit.
+pub kept : (sli : ℕ) (h : HeapState) (name : Name) (call : Call) → ¬ (TakesBack h name call) → IsLive h name → IsLive (answered sli h call).1 name
+kept sli h name (Allocate len) other live = by_allocated sli (λ o. IsLive o.heap name) h len (λ why. live) (λ s site fit.
     let new : List Block = carved (size_of s.block) (want len) h.tick len in
     shown (gives h len s).heap name live.0 (subst (LivesFrom name.at name.serial 0) (sym (append_assoc s.before new s.after))
     (edited name.at name.serial 0 s.before (s.block ∷ []) new s.after (words_carved (size_of s.block) (want len) h.tick len)
-    (λ k l. elim l [ inl e ↦ absurd (no_serial name.at name.serial (want len) s.block fit e.0) | inr none ↦ absurd none ]) (kept_blocks h name s site live))))
-kept h name (Release taken) other live =
+    (λ k l. elim l [ inl e ↦ absurd (no_serial sli name.serial (want len) s.block fit e.0) | inr none ↦ absurd none ]) (kept_blocks h name s site live))))
+kept sli h name (Release taken) other live =
     by_released (λ o. (o.answer ≡ Ok tt → taken ≡ name → ⊥) → IsLive o.heap name) h taken (λ why _. live) (λ s own site is differ.
     shown (takes h s).heap name live.0 (released_lives name.at name.serial h.tick s.before s.after s.block (λ e at.
     differ refl (same_name taken name (own ∙ sym live.0) (sym (eqb-true _ _ (and_right (has_serial taken.serial s.block) _ is)) ∙ at) (one_serial taken.serial name.serial s.block (and_left _ _ is) e)))
     (kept_blocks h name s site live)))
     (λ e same. other (ap Release same, subst (λ (n : Name). IsTaken h n) same e))
-kept h name (Resize at_name len) other live = by_resized (λ o. IsLive o.heap name) h at_name len (λ why. live) (λ s own site is room.
+kept sli h name (Resize at_name len) other live = by_resized (λ o. IsLive o.heap name) h at_name len (λ why. live) (λ s own site is room.
     let new : List Block = refitted h.tick (want len) len s.block s.after in
     shown (resizes h len s).heap name live.0 (elim (in_either name.at name.serial 0 s.before (s.block ∷ s.after) (kept_blocks h name s site live)) [
       | inl ahead ↦ in_left name.at name.serial 0 s.before new ahead
       | inr here ↦ in_right name.at name.serial 0 s.before new (refitted_lives name.at name.serial h.tick (want len) len (0 + words_in s.before) s.block s.after room here)
     ]))
-kept h name (Write at_name at bytes) other live = by_written (λ o. IsLive o.heap name) h at_name at bytes (λ why. live) (λ s site has.
+kept sli h name (Write at_name at bytes) other live = by_written (λ o. IsLive o.heap name) h at_name at bytes (λ why. live) (λ s site has.
     let new : Block = with_bytes s.block (overwritten (bytes_of s.block) at bytes) in
     shown (writes h at bytes s).heap name live.0
     (edited name.at name.serial 0 s.before (s.block ∷ []) (new ∷ []) s.after (omega (arith, words_with name.at name.serial s.block (overwritten (bytes_of s.block) at bytes)))
     (λ k l. elim l [ inl e ↦ inl (with_serial name.at name.serial s.block _ e.0, e.1) | inr none ↦ absurd none ]) (kept_blocks h name s site live)))
-kept h name (Read at_name at n) other live = live
+kept sli h name (Read at_name at n) other live = live
 
 -- ---- what a release answers
 

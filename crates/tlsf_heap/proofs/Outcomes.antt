@@ -4,6 +4,7 @@ use Rattle.std.specs.Prelude.{IsSome, ◌⊎◌}
 use Rattle.std.specs.List.{AllByRecursion}
 use Rattle.std.proofs.lemmas.Bool.{eqb-true, false≢true}
 use Rattle.std.proofs.lemmas.Bool.Decides.{nat_tests}
+use Rattle.tlsf_class.specs.Classes.{IsLevel}
 use Rattle.tlsf_heap.specs.Blocks.{Block, HeapState, size_of, bytes_of, want}
 use Rattle.tlsf_heap.specs.GoodFit.{Site, sites, sites_behind, place_of, is_fit, fits, choice}
 use Rattle.tlsf_heap.specs.Lawful.{IsLawful}
@@ -58,8 +59,8 @@ sites_whole : (p bs : List Block) → AllByRecursion (IsSiteOf (p ++ bs)) (sites
 sites_whole p [] = tt
 sites_whole p (b ∷ bs) = (refl, subst (λ (l : List Block). AllByRecursion (IsSiteOf l) (sites_behind (p ++ b ∷ []) bs)) (append_assoc p (b ∷ []) bs) (sites_whole (p ++ b ∷ []) bs))
 
-chosen_site : (n : ℕ) (bs : List Block) (s : Site) → choice n bs ≡ Some s → IsSiteOf bs s × (is_fit n s.block ≡ true)
-chosen_site n bs s e = (found_has (λ s. IsSiteOf bs s × (is_fit n s.block ≡ true)) _ (fits n bs) s (filtered (IsSiteOf bs) (λ s. is_fit n s.block) (sites bs) (sites_whole [] bs)) e).0
+chosen_site : (sli n : ℕ) (bs : List Block) (s : Site) → choice sli n bs ≡ Some s → IsSiteOf bs s × (is_fit sli n s.block ≡ true)
+chosen_site sli n bs s e = (found_has (λ s. IsSiteOf bs s × (is_fit sli n s.block ≡ true)) _ (fits sli n bs) s (filtered (IsSiteOf bs) (λ s. is_fit sli n s.block) (sites bs) (sites_whole [] bs)) e).0
 
 pub named_site : (name : Name) (bs : List Block) (s : Site) → named name bs ≡ Some s → IsSiteOf bs s × (is_named name.at name.serial s ≡ true)
 named_site name bs s e = found_has (IsSiteOf bs) (is_named name.at name.serial) (sites bs) s (sites_whole [] bs) e
@@ -72,13 +73,13 @@ gives h len s = record {
   heap = ticked h (s.before ++ carved (size_of s.block) (want len) h.tick len ++ s.after);
 }
 
-pub by_allocated : (P : Outcome Name → Type 0) (h : HeapState) (len : ℕ) → ((why : Refusal) → P (refused h why))
-    → ((s : Site) → IsSiteOf h.blocks s → is_fit (want len) s.block ≡ true → P (gives h len s)) → P (allocated h len)
-by_allocated P h len if_refused if_done = at (choice (want len) h.blocks) refl
+pub by_allocated : (sli : ℕ) (P : Outcome Name → Type 0) (h : HeapState) (len : ℕ) → ((why : Refusal) → P (refused h why))
+    → ((s : Site) → IsSiteOf h.blocks s → is_fit sli (want len) s.block ≡ true → P (gives h len s)) → P (allocated sli h len)
+by_allocated sli P h len if_refused if_done = at (choice sli (want len) h.blocks) refl
   where
-    at : (o : Option Site) → choice (want len) h.blocks ≡ o → P (allocated_at h len o)
+    at : (o : Option Site) → choice sli (want len) h.blocks ≡ o → P (allocated_at h len o)
     at None e = if_refused NoFit
-    at (Some s) e = let site = chosen_site (want len) h.blocks s e in by_test P (is_worn h) (refused h Worn) (gives h len s) (λ _. if_refused Worn) (if_done s site.0 site.1)
+    at (Some s) e = let site = chosen_site sli (want len) h.blocks s e in by_test P (is_worn h) (refused h Worn) (gives h len s) (λ _. if_refused Worn) (if_done s site.0 site.1)
 
 abbrev pub takes : HeapState → Site → Outcome (Unit {0})
 takes h s = record { answer = Ok tt; heap = ticked h (coalesced h.tick s) }
@@ -120,28 +121,28 @@ by_written P h name at bytes if_refused if_done = by_test P (eqb name.heap h.id)
 
 -- ---- a heap keeps its number and its laws
 
-pub ids : (h : HeapState) (call : Call) → (answered h call).1.id ≡ h.id
-ids h (Allocate len) = by_allocated (λ o. o.heap.id ≡ h.id) h len (λ why. refl) (λ s site fit. refl)
-ids h (Release name) = by_released (λ o. o.heap.id ≡ h.id) h name (λ why. refl) (λ s own site is. refl)
-ids h (Resize name len) = by_resized (λ o. o.heap.id ≡ h.id) h name len (λ why. refl) (λ s own site is room. refl)
-ids h (Write name at bytes) = by_written (λ o. o.heap.id ≡ h.id) h name at bytes (λ why. refl) (λ s site has. refl)
-ids h (Read name at n) = refl
+pub ids : (sli : ℕ) (h : HeapState) (call : Call) → (answered sli h call).1.id ≡ h.id
+ids sli h (Allocate len) = by_allocated sli (λ o. o.heap.id ≡ h.id) h len (λ why. refl) (λ s site fit. refl)
+ids sli h (Release name) = by_released (λ o. o.heap.id ≡ h.id) h name (λ why. refl) (λ s own site is. refl)
+ids sli h (Resize name len) = by_resized (λ o. o.heap.id ≡ h.id) h name len (λ why. refl) (λ s own site is room. refl)
+ids sli h (Write name at bytes) = by_written (λ o. o.heap.id ≡ h.id) h name at bytes (λ why. refl) (λ s site has. refl)
+ids sli h (Read name at n) = refl
 
 pub lawful_site : (h : HeapState) (s : Site) → IsSiteOf h.blocks s → IsLawful h → IsLawful (with_blocks h (s.before ++ s.block ∷ s.after))
 lawful_site h s site lawful = subst (λ (l : List Block). IsLawful (with_blocks h l)) (sym site) lawful
 
-lawful_call : (h : HeapState) (call : Call) → IsLawful h → IsLawful (answered h call).1
-lawful_call h (Allocate len) lawful =
-    by_allocated (λ o. IsLawful o.heap) h len (λ why. lawful) (λ s site fit. lawful_carved h s.before s.after s.block len fit (lawful_site h s site lawful))
-lawful_call h (Release name) lawful =
+lawful_call : (sli : ℕ) (level : IsLevel sli) (h : HeapState) (call : Call) → IsLawful h → IsLawful (answered sli h call).1
+lawful_call sli level h (Allocate len) lawful =
+    by_allocated sli (λ o. IsLawful o.heap) h len (λ why. lawful) (λ s site fit. lawful_carved sli level h s.before s.after s.block len fit (lawful_site h s site lawful))
+lawful_call sli level h (Release name) lawful =
     by_released (λ o. IsLawful o.heap) h name (λ why. lawful) (λ s own site is. lawful_at h s.before s.after s.block name.serial (and_left _ _ is) (lawful_site h s site lawful))
-lawful_call h (Resize name len) lawful =
+lawful_call sli level h (Resize name len) lawful =
     by_resized (λ o. IsLawful o.heap) h name len (λ why. lawful) (λ s own site is room. lawful_refitted h s.before s.after s.block name.serial len (and_left _ _ is) room (lawful_site h s site lawful))
-lawful_call h (Write name at bytes) lawful =
+lawful_call sli level h (Write name at bytes) lawful =
     by_written (λ o. IsLawful o.heap) h name at bytes (λ why. lawful) (λ s site has.
     lawful_bytes h s.before s.after s.block _ (length-overwritten (bytes_of s.block) bytes at (range_fits s.block at (length bytes) has)) (lawful_site h s site lawful))
-lawful_call h (Read name at n) lawful = lawful
+lawful_call sli level h (Read name at n) lawful = lawful
 
-pub lawful_run : (h : HeapState) (calls : List Call) → IsLawful h → IsLawful (run h calls).1
-lawful_run h [] lawful = lawful
-lawful_run h (call ∷ calls) lawful = lawful_run (answered h call).1 calls (lawful_call h call lawful)
+pub lawful_run : (sli : ℕ) (level : IsLevel sli) (h : HeapState) (calls : List Call) → IsLawful h → IsLawful (run sli h calls).1
+lawful_run sli level h [] lawful = lawful
+lawful_run sli level h (call ∷ calls) lawful = lawful_run sli level (answered sli h call).1 calls (lawful_call sli level h call lawful)

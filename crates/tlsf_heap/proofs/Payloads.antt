@@ -84,7 +84,7 @@ held_bytes words at (Live size serial bytes) h = h.1
 held_bytes words at (Free size stamp) h = refl
 
 -- the third word of a live header is their number
-held_length : (words : List ℕ) (at : ℕ) (b : Block) → HasRoom b → size_of b ≤ 2 ^ 20 → is_free b ≡ false → HoldsPayload words at b → low_half (get_or words (at + 2) 0) ≡ length (bytes_of b)
+held_length : (words : List ℕ) (at : ℕ) (b : Block) → HasRoom b → size_of b ≤ 2 ^ 24 → is_free b ≡ false → HoldsPayload words at b → low_half (get_or words (at + 2) 0) ≡ length (bytes_of b)
 held_length words at (Live size serial bytes) room small live h = ap low_half h.0 ∙ low_half-length_word (length bytes) (omega (arith, room.1))
 held_length words at (Free size stamp) room small live h = absurd (false≢true (sym live))
 

@@ -20,24 +20,24 @@ use Rattle.tlsf_heap.proofs.Showing.{word_at, start_at, shown_here, four_here, e
 use Rattle.tlsf_heap.proofs.Linking.{shows_linked}
 
 -- the words of a region show its blocks
-pub shows_state : {m : Image} {l : ListHeads} {r : RegionState} {touches : ℕ} → HoldsLists m l
+pub shows_state : (sli : ℕ) {m : Image} {l : ListHeads} {r : RegionState} {touches : ℕ} → HoldsLists sli m l
     → record { words = length m.words; blocks = blocks_of m.words; lists = lists_of l.heads m.words; stored = m; touches = touches } ≡ r → Shows m r.blocks
-shows_state {m = m} holds same = subst (Shows m) (ap (λ (s : RegionState). s.blocks) same) holds.shows
+shows_state sli {m = m} holds same = subst (Shows m) (ap (λ (s : RegionState). s.blocks) same) holds.shows
 
 -- words that were only read hold what they held, at any number of touches
-pub holds_read : {m v : Image} {l : ListHeads} → v.words ≡ m.words → v.starts ≡ m.starts → HoldsLists m l → HoldsLists v l
-holds_read {m = m} {v = v} {l = l} words starts h = record {
+pub holds_read : (sli : ℕ) {m v : Image} {l : ListHeads} → v.words ≡ m.words → v.starts ≡ m.starts → HoldsLists sli m l → HoldsLists sli v l
+holds_read sli {m = m} {v = v} {l = l} words starts h = record {
   shows = subst (λ (w : List ℕ). Shows v (blocks_of w)) (sym words)
       (shows_linked m v (ap length words) starts (blocks_of m.words) h.shows (λ k apart. ap (λ (w : List ℕ). get_or w k 0) words));
-  threaded = subst (λ (w : List ℕ). AreThreaded l.heads l.members w) (sym words) h.threaded;
+  threaded = subst (λ (w : List ℕ). AreThreaded sli l.heads l.members w) (sym words) h.threaded;
   free = subst (λ (w : List ℕ). AreFreeBlocks (list_of l.heads w) (blocks_of w)) (sym words) h.free;
 }
 
 -- lists that were only read hold what they held, at any number of touches
-pub lists_read : {m : Image} {l k : ListHeads} → k.heads ≡ l.heads → k.members ≡ l.members → HoldsLists m l → HoldsLists m k
-lists_read {m = m} {l = l} {k = k} heads members h = record {
+pub lists_read : (sli : ℕ) {m : Image} {l k : ListHeads} → k.heads ≡ l.heads → k.members ≡ l.members → HoldsLists sli m l → HoldsLists sli m k
+lists_read sli {m = m} {l = l} {k = k} heads members h = record {
   shows = h.shows;
-  threaded = subst (λ (xs : List ℕ). AreThreaded k.heads xs m.words) (sym members) (subst (λ (xs : List ℕ). AreThreaded xs l.members m.words) (sym heads) h.threaded);
+  threaded = subst (λ (xs : List ℕ). AreThreaded sli k.heads xs m.words) (sym members) (subst (λ (xs : List ℕ). AreThreaded sli xs l.members m.words) (sym heads) h.threaded);
   free = subst (λ (xs : List ℕ). AreFreeBlocks (list_of xs m.words) (blocks_of m.words)) (sym heads) h.free;
 }
 

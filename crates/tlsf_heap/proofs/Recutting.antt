@@ -209,23 +209,23 @@ module _ {m : Image} {bs : List Block} (shows : Shows m bs) {at i : ℕ} (stands
 
 -- ---- the blocks and the lists that are left
 
-module _ {m v : Image} {l : ListHeads} {r : RegionState} (state : HoldsState m l r) {at i : ℕ} (stands : StandsAt r.blocks at i) {tag : Tag} {after : ℕ} (is : IsWhole (length m.words) (site_at r.blocks i) tag after)
+module _ (sli : ℕ) {m v : Image} {l : ListHeads} {r : RegionState} (state : HoldsState sli m l r) {at i : ℕ} (stands : StandsAt r.blocks at i) {tag : Tag} {after : ℕ} (is : IsWhole (length m.words) (site_at r.blocks i) tag after)
     (live : is_free (block_at r.blocks i) ≡ false) (unlisted : AreUnlisted (list_in r.lists) at (at + tag.size)) (n stamp : ℕ) where
   left_by : (new : List Block) → Replaces m v (take i r.blocks) (block_at r.blocks i ∷ (first_part (drop (suc i) r.blocks)).0) new → new ≡ cut tag.size n stamp (mark_of (block_at r.blocks i)) (bytes_of (block_at r.blocks i))
-      → Reshapes v l (take i r.blocks ++ recut stamp n (block_at r.blocks i) (drop (suc i) r.blocks)) r.lists
+      → Reshapes sli v l (take i r.blocks ++ recut stamp n (block_at r.blocks i) (drop (suc i) r.blocks)) r.lists
   left_by new replaces same =
       let room : tag.size ≡ size_of (block_at r.blocks i) + first_free (drop (suc i) r.blocks) = omega (arith, is.size, is.behind) in
       let cuts : new ++ past_free (drop (suc i) r.blocks) ≡ recut stamp n (block_at r.blocks i) (drop (suc i) r.blocks) =
       ap (λ (bs : List Block). bs ++ past_free (drop (suc i) r.blocks)) (same ∙ ap (λ (k : ℕ). cut k n stamp (mark_of (block_at r.blocks i)) (bytes_of (block_at r.blocks i))) room)
       ∙ ap (λ (b : Block). recut stamp n b (drop (suc i) r.blocks)) (sym (live_as (block_at r.blocks i) live)) in
-      subst (λ (bs : List Block). Reshapes v l bs r.lists) (append_assoc (take i r.blocks) new (past_free (drop (suc i) r.blocks)) ∙ ap (λ (bs : List Block). take i r.blocks ++ bs) cuts)
-      (reshaped state v (take i r.blocks) (block_at r.blocks i ∷ (first_part (drop (suc i) r.blocks)).0) new (past_free (drop (suc i) r.blocks)) (whole_parts state.shows stands is) replaces
+      subst (λ (bs : List Block). Reshapes sli v l bs r.lists) (append_assoc (take i r.blocks) new (past_free (drop (suc i) r.blocks)) ∙ ap (λ (bs : List Block). take i r.blocks ++ bs) cuts)
+      (reshaped sli state v (take i r.blocks) (block_at r.blocks i ∷ (first_part (drop (suc i) r.blocks)).0) new (past_free (drop (suc i) r.blocks)) (whole_parts state.shows stands is) replaces
       (λ k low high. unlisted k (omega (arith, low, stands.place)) (omega (arith, high, whole_range state.shows stands is))))
 
-  pub left_wide : Widens m v at tag after → tag.size < n + 4 → Reshapes v l (take i r.blocks ++ recut stamp n (block_at r.blocks i) (drop (suc i) r.blocks)) r.lists
+  pub left_wide : Widens m v at tag after → tag.size < n + 4 → Reshapes sli v l (take i r.blocks ++ recut stamp n (block_at r.blocks i) (drop (suc i) r.blocks)) r.lists
   left_wide widens small =
       left_by _ (wide_replaces state.shows stands is (mark_of (block_at r.blocks i)) (bytes_of (block_at r.blocks i)) (live_as (block_at r.blocks i) live) widens) (sym (cut_small tag.size n stamp (mark_of (block_at r.blocks i)) (bytes_of (block_at r.blocks i)) small))
 
-  pub left_recut : Recuts m v at tag after n stamp → 4 ≤ n → n + 4 ≤ tag.size → words_for (length (bytes_of (block_at r.blocks i))) ≤ n → Reshapes v l (take i r.blocks ++ recut stamp n (block_at r.blocks i) (drop (suc i) r.blocks)) r.lists
+  pub left_recut : Recuts m v at tag after n stamp → 4 ≤ n → n + 4 ≤ tag.size → words_for (length (bytes_of (block_at r.blocks i))) ≤ n → Reshapes sli v l (take i r.blocks ++ recut stamp n (block_at r.blocks i) (drop (suc i) r.blocks)) r.lists
   left_recut recuts least large fits =
       left_by _ (recut_replaces state.shows stands is (mark_of (block_at r.blocks i)) (bytes_of (block_at r.blocks i)) (live_as (block_at r.blocks i) live) n stamp recuts least large fits) (sym (cut_large tag.size n stamp (mark_of (block_at r.blocks i)) (bytes_of (block_at r.blocks i)) large))

@@ -5,7 +5,7 @@ use Rattle.std.proofs.lemmas.Bool.{false≢true, cases_lt}
 use Rattle.std.proofs.lemmas.Bool.Decides.{nat_tests}
 use Rattle.std.proofs.lemmas.List.{drop_at}
 use Rattle.tlsf_words.specs.declared.tag.Tag.{Tag}
-use Rattle.tlsf_heap.specs.Blocks.{Block, Live, Free, size_of, is_free, bytes_of, stamps, words_for, StandsAt}
+use Rattle.tlsf_heap.specs.Blocks.{Block, Live, Free, size_of, words_in, is_free, bytes_of, stamps, words_for, StandsAt}
 use Rattle.std.specs.List.{AllByRecursion}
 use Rattle.tlsf_heap.specs.Lawful.{HasRoom}
 use Rattle.tlsf_heap.specs.Calls.{first_free, past_free, with_bytes, fitted, recut, refitted}
@@ -17,7 +17,7 @@ use Rattle.tlsf_heap.proofs.Lawfulness.{stamps-append, all_right}
 use Rattle.tlsf_heap.proofs.Listing.{AreListed, same_lists}
 use Rattle.tlsf_heap.proofs.Payloads.{size_of-with_bytes, is_free-with_bytes}
 use Rattle.tlsf_heap.proofs.Recutting.{cut_small, cut_large}
-use Rattle.tlsf_heap.proofs.Sizes.{Around, around, take_around, block_around, stands_around}
+use Rattle.tlsf_heap.proofs.Sizes.{Around, around, take_around, block_around, stands_around, words_around}
 use Rattle.tlsf_heap.proofs.Writing.{places_bytes}
 
 pub drop_around : {bs : List Block} {at i : ℕ} {front : List Block} {b : Block} {back : List Block} → Around bs at i front b back → drop (suc i) bs ≡ back
@@ -45,7 +45,7 @@ behind_rebytes {words = words} {s = s} new is = record {
   last = is.last ∙ ap (λ (n : ℕ). eqb (place_of s + n + first_free s.after) words) (sym (size_of-with_bytes s.block new));
 }
 
-module _ {bs : List Block} {at i : ℕ} (stands : StandsAt bs at i) (new : List ℕ) {now : List Block} (is : now ≡ take i bs ++ (with_bytes (block_at bs i) new ∷ []) ++ drop (suc i) bs) where
+module _ (sli : ℕ) {bs : List Block} {at i : ℕ} (stands : StandsAt bs at i) (new : List ℕ) {now : List Block} (is : now ≡ take i bs ++ (with_bytes (block_at bs i) new ∷ []) ++ drop (suc i) bs) where
   pub rebytes_around : Around now at i (take i bs) (with_bytes (block_at bs i) new) (drop (suc i) bs)
   rebytes_around = record {
     is = is ∙ append_assoc (take i bs) (with_bytes (block_at bs i) new ∷ []) (drop (suc i) bs);
@@ -57,11 +57,15 @@ module _ {bs : List Block} {at i : ℕ} (stands : StandsAt bs at i) (new : List 
   rebytes_site = let a = take_around rebytes_around in let b = block_around rebytes_around in let c = drop_around rebytes_around in cc
 
   -- the free blocks stay
-  pub rebytes_listed : (old lists : ℕ → List ℕ) → SameLists lists old → AreFreeLists bs old → AreFreeLists now lists
+  pub rebytes_listed : (old lists : ℕ → List ℕ) → SameLists lists old → AreFreeLists sli bs old → AreFreeLists sli now lists
   rebytes_listed old lists same listed =
-      let places : free_places 0 now ≡ free_places 0 bs =
-      ap (free_places 0) rebytes_around.is ∙ places_bytes (take i bs) (drop (suc i) bs) (block_at bs i) new ∙ sym (ap (free_places 0) (around bs at i stands).is) in
-      subst (λ (l : List FreePlace). AreListed l lists) (sym places) (same_lists (free_places 0 bs) old lists same listed)
+      let places : free_places sli 0 now ≡ free_places sli 0 bs =
+      ap (free_places sli 0) rebytes_around.is ∙ places_bytes sli (take i bs) (drop (suc i) bs) (block_at bs i) new ∙ sym (ap (free_places sli 0) (around bs at i stands).is) in
+      subst (λ (l : List FreePlace). AreListed l lists) (sym places) (same_lists (free_places sli 0 bs) old lists same listed)
+
+  -- and so do the words
+  pub rebytes_words : words_in now ≡ words_in bs
+  rebytes_words = omega (arith, words_around rebytes_around, words_around (around bs at i stands), size_of-with_bytes (block_at bs i) new)
 
   pub rebytes_stamps : stamps now ≡ stamps bs
   rebytes_stamps =

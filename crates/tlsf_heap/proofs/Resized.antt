@@ -68,7 +68,7 @@ module _ {m v : Image} {bs : List Block} {at len : ℕ} (shows : Shows m bs) (fo
         starts = refills.starts;
       }))
 
-module _ {m v : Image} {l : ListHeads} {r : RegionState} (state : HoldsState m l r) {at len : ℕ} (found : (i : ℕ) × StandsAt r.blocks at i × Takes r.blocks len i) (refills : Refills m v at len) where
+module _ (sli : ℕ) {m v : Image} {l : ListHeads} {r : RegionState} (state : HoldsState sli m l r) {at len : ℕ} (found : (i : ℕ) × StandsAt r.blocks at i × Takes r.blocks len i) (refills : Refills m v at len) where
   -- a live block is in no list
   unlisted : (other : ℕ) → IsListed (list_in r.lists) other → other ≡ at → ⊥
   unlisted other listed same =
@@ -76,12 +76,12 @@ module _ {m v : Image} {l : ListHeads} {r : RegionState} (state : HoldsState m l
       let here = at_index state.shows (λ (j : ℕ). is_free (block_at r.blocks j) ≡ true) (free.0, subst (λ (k : ℕ). StandsAt r.blocks k free.0) same free.1, free.2) found.1 in
       false≢true (sym found.2.0 ∙ here)
 
-  pub relisted_refill : Relists v l r.lists
+  pub relisted_refill : Relists sli v l r.lists
   relisted_refill =
       let i = found.0 in
       let b = block_at r.blocks i in
       let new : ℕ → Block = λ i. with_bytes (block_at r.blocks i) (fitted (bytes_of (block_at r.blocks i)) len) in
-      one_relisted state found.1 new (refilled state.shows found refills) refills.only.length (size_of-with_bytes b (fitted (bytes_of b) len))
+      one_relisted sli state found.1 new (refilled state.shows found refills) refills.only.length (size_of-with_bytes b (fitted (bytes_of b) len))
       (λ other listed e free. is_free-with_bytes b (fitted (bytes_of b) len) ∙ free)
       (λ other listed order. elim order [
         | inl same ↦ absurd (unlisted other listed same)

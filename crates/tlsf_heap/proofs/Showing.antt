@@ -33,7 +33,7 @@ least (Free size stamp) room = room
 -- ---- reading the blocks
 
 -- a header says its block
-read_block : (m : Image) (at back : ℕ) (b : Block) → HasRoom b → size_of b ≤ 2 ^ 20 → BlockAt m at back b → block_in m.words at ≡ b
+read_block : (m : Image) (at back : ℕ) (b : Block) → HasRoom b → size_of b ≤ 2 ^ 24 → BlockAt m at back b → block_in m.words at ≡ b
 unfolding block_in
 read_block m at back (Live size serial bytes) room small h =
     let free : free_in (word_at m at) ≡ false = ap free_in h.tag ∙ free_in-tag_word size (at + size == length m.words) false back in
@@ -46,7 +46,7 @@ read_block m at back (Free size stamp) room small h =
     rw (free, sized, h.mark) refl
 
 -- what is read is what is shown
-read_blocks : (most : ℕ) (m : Image) (at back : ℕ) (bs : List Block) → length m.words ≤ 2 ^ 20 → at + words_in bs ≡ length m.words → words_in bs ≤ most
+read_blocks : (most : ℕ) (m : Image) (at back : ℕ) (bs : List Block) → length m.words ≤ 2 ^ 24 → at + words_in bs ≡ length m.words → words_in bs ≤ most
     → AllByRecursion HasRoom bs → ShowsFrom m at back bs → blocks_from most m.words at ≡ bs
 unfolding blocks_from
 read_blocks zero m at back [] small whole enough rooms h = refl
@@ -194,7 +194,7 @@ shows_stay m v at back (b ∷ bs) rooms as_long words starts h =
     )
 
 -- the block before them has moved
-shows_behind : (m v : Image) (at back to : ℕ) (bs : List Block) → AllByRecursion HasRoom bs → length v.words ≡ length m.words → words_in bs ≤ 2 ^ 20
+shows_behind : (m v : Image) (at back to : ℕ) (bs : List Block) → AllByRecursion HasRoom bs → length v.words ≡ length m.words → words_in bs ≤ 2 ^ 24
     → (0 < words_in bs → word_at v at ≡ with_back (word_at m at) to)
     → ((k : ℕ) → at < k → k < at + words_in bs → word_at v k ≡ word_at m k) → ((k : ℕ) → at ≤ k → k < at + words_in bs → start_at v k ≡ start_at m k)
     → ShowsFrom m at back bs → ShowsFrom v at to bs

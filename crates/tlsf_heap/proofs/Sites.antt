@@ -46,35 +46,35 @@ stamps_apart (Free m s ∷ bs) zero (suc j) l h f g a = stamp_in (λ y. s ≢ y)
 stamps_apart (Live m s xs ∷ bs) (suc i) (suc j) l h f g a = stamps_apart bs i j (omega arith) (omega arith) f g a
 stamps_apart (Free m s ∷ bs) (suc i) (suc j) l h f g a = stamps_apart bs i j (omega arith) (omega arith) f g a.1
 
-free_if_fit : (n : ℕ) (b : Block) → is_fit n b ≡ true → is_free b ≡ true
-free_if_fit n (Live m s xs) h = h
-free_if_fit n (Free m s) h = refl
+free_if_fit : (sli n : ℕ) (b : Block) → is_fit sli n b ≡ true → is_free b ≡ true
+free_if_fit sli n (Live m s xs) h = h
+free_if_fit sli n (Free m s) h = refl
 
-as_good_both : (a b : Block) → is_as_good a b ≡ true → is_as_good b a ≡ true → stamp_of a ≡ stamp_of b
-as_good_both a b g h = grind (arith, nat_tests)
+as_good_both : (sli : ℕ) (a b : Block) → is_as_good sli a b ≡ true → is_as_good sli b a ≡ true → stamp_of a ≡ stamp_of b
+as_good_both sli a b g h = grind (arith, nat_tests)
 
-pub fits_nothing : (n : ℕ) (bs : List Block) → NoneFits n bs → fits n bs ≡ []
-fits_nothing n bs h =
-    filter_none (λ s. is_fit n s.block) nowhere (sites bs) (λ j l. ap (λ (s : Site). is_fit n s.block) (get_or-sites nowhere bs j (omega (arith, length-sites bs, l))) ∙ h j (omega (arith, length-sites bs, l)))
+pub fits_nothing : (sli n : ℕ) (bs : List Block) → NoneFits sli n bs → fits sli n bs ≡ []
+fits_nothing sli n bs h =
+    filter_none (λ s. is_fit sli n s.block) nowhere (sites bs) (λ j l. ap (λ (s : Site). is_fit sli n s.block) (get_or-sites nowhere bs j (omega (arith, length-sites bs, l))) ∙ h j (omega (arith, length-sites bs, l)))
 
-pub choice_none : (n : ℕ) (bs : List Block) → NoneFits n bs → choice n bs ≡ None
-choice_none n bs h = ap (find _) (fits_nothing n bs h)
+pub choice_none : (sli n : ℕ) (bs : List Block) → NoneFits sli n bs → choice sli n bs ≡ None
+choice_none sli n bs h = ap (find _) (fits_nothing sli n bs h)
 
-pub choice_is : (n : ℕ) (bs : List Block) (i : ℕ) → AreDistinct (stamps bs) → IsChoice n bs i → choice n bs ≡ Some (site_at bs i)
-choice_is n bs i apart c =
-    let q : Site → Bool = λ s. is_fit n s.block in
-    let p : Site → Bool = λ s. list_all (λ t. is_as_good s.block t.block) (fits n bs) in
+pub choice_is : (sli n : ℕ) (bs : List Block) (i : ℕ) → AreDistinct (stamps bs) → IsChoice sli n bs i → choice sli n bs ≡ Some (site_at bs i)
+choice_is sli n bs i apart c =
+    let q : Site → Bool = λ s. is_fit sli n s.block in
+    let p : Site → Bool = λ s. list_all (λ t. is_as_good sli s.block t.block) (fits sli n bs) in
     let at : (j : ℕ) → j < length bs → get_or (sites bs) j nowhere ≡ site_at bs j = get_or-sites nowhere bs in
-    let is_best : p (site_at bs i) ≡ true = all_in (λ t. is_as_good (block_at bs i) t.block) q nowhere (sites bs) (λ j l f.
+    let is_best : p (site_at bs i) ≡ true = all_in (λ t. is_as_good sli (block_at bs i) t.block) q nowhere (sites bs) (λ j l f.
     let in_bs : j < length bs = omega (arith, length-sites bs, l) in
     rw (at j in_bs) (c.best j in_bs (rw (at j in_bs) at f))) in
     let worse : (j : ℕ) → j < i → (q (site_at bs j) && p (site_at bs j)) ≡ false = λ j l. not_true _ (λ e.
     let j_in : j < length bs = omega (arith, l, c.within) in
-    let j_fit : is_fit n (block_at bs j) ≡ true = and_left _ _ e in
+    let j_fit : is_fit sli n (block_at bs j) ≡ true = and_left _ _ e in
     let j_best : p (site_at bs j) ≡ true = and_right (q (site_at bs j)) _ e in
-    let j_good : is_as_good (block_at bs j) (block_at bs i) ≡ true =
-    rw (at i c.within) at (in_all (λ t. is_as_good (block_at bs j) t.block) q nowhere (sites bs) j_best i (omega (arith, length-sites bs, c.within)) (rw (at i c.within) c.fit)) in
-    stamps_apart bs j i l c.within (free_if_fit n _ j_fit) (free_if_fit n _ c.fit) apart (as_good_both (block_at bs j) (block_at bs i) j_good (c.best j j_in j_fit))) in
+    let j_good : is_as_good sli (block_at bs j) (block_at bs i) ≡ true =
+    rw (at i c.within) at (in_all (λ t. is_as_good sli (block_at bs j) t.block) q nowhere (sites bs) j_best i (omega (arith, length-sites bs, c.within)) (rw (at i c.within) c.fit)) in
+    stamps_apart bs j i l c.within (free_if_fit sli n _ j_fit) (free_if_fit sli n _ c.fit) apart (as_good_both sli (block_at bs j) (block_at bs i) j_good (c.best j j_in j_fit))) in
     find-filter p q (sites bs)
     ∙ find_at (λ s. q s && p s) nowhere (sites bs) i (omega (arith, length-sites bs, c.within))
     (rw (at i c.within) (ap (λ (b : Bool). b && p (site_at bs i)) c.fit ∙ is_best))

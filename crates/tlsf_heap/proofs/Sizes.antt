@@ -32,15 +32,15 @@ around blocks at i stands = record {
 }
 
 -- a block of sizes that a region may have begins at one place
-index_at : (bs : List Block) (i j : ℕ) → AreRegions bs → i < length bs → j < length bs → words_in (take i bs) ≡ words_in (take j bs) → i ≡ j
-index_at [] i j sized h g e = absurd (omega (arith, h))
-index_at (b ∷ bs) zero zero sized h g e = refl
-index_at (b ∷ bs) zero (suc j) sized h g e = absurd (omega (arith, sized.0.0, e))
-index_at (b ∷ bs) (suc i) zero sized h g e = absurd (omega (arith, sized.0.0, e))
-index_at (b ∷ bs) (suc i) (suc j) sized h g e = ap suc (index_at bs i j sized.1 (omega (arith, h)) (omega (arith, g)) (omega (arith, e)))
+index_at : (sli : ℕ) (bs : List Block) (i j : ℕ) → AreRegions sli bs → i < length bs → j < length bs → words_in (take i bs) ≡ words_in (take j bs) → i ≡ j
+index_at sli [] i j sized h g e = absurd (omega (arith, h))
+index_at sli (b ∷ bs) zero zero sized h g e = refl
+index_at sli (b ∷ bs) zero (suc j) sized h g e = absurd (omega (arith, sized.0.0, e))
+index_at sli (b ∷ bs) (suc i) zero sized h g e = absurd (omega (arith, sized.0.0, e))
+index_at sli (b ∷ bs) (suc i) (suc j) sized h g e = ap suc (index_at sli bs i j sized.1 (omega (arith, h)) (omega (arith, g)) (omega (arith, e)))
 
-pub one_index : (bs : List Block) (at i j : ℕ) → AreRegions bs → StandsAt bs at i → StandsAt bs at j → i ≡ j
-one_index bs at i j sized s t = index_at bs i j sized s.within t.within (s.place ∙ sym t.place)
+pub one_index : (sli : ℕ) (bs : List Block) (at i j : ℕ) → AreRegions sli bs → StandsAt bs at i → StandsAt bs at j → i ≡ j
+one_index sli bs at i j sized s t = index_at sli bs i j sized s.within t.within (s.place ∙ sym t.place)
 
 module _ {bs : List Block} {at i : ℕ} {front : List Block} {b : Block} {back : List Block} (a : Around bs at i front b back) where
   pub take_around : take i bs ≡ front
@@ -58,14 +58,16 @@ module _ {bs : List Block} {at i : ℕ} {front : List Block} {b : Block} {back :
   pub words_around : words_in bs ≡ at + size_of b + words_in back
   words_around = ap words_in a.is ∙ omega (arith, words_in-append front (b ∷ back), a.place)
 
-  pub region_around : AreRegions bs → IsRegion (size_of b)
-  region_around sized = (all_right (λ x. IsRegion (size_of x)) front (b ∷ back) (subst AreRegions a.is sized)).0
+-- and the sizes, where each is one that a region may have
+module _ (sli : ℕ) {bs : List Block} {at i : ℕ} {front : List Block} {b : Block} {back : List Block} (a : Around bs at i front b back) where
+  pub region_around : AreRegions sli bs → IsRegion sli (size_of b)
+  region_around sized = (all_right (λ x. IsRegion sli (size_of x)) front (b ∷ back) (subst (AreRegions sli) a.is sized)).0
 
-  pub regions_front : AreRegions bs → AreRegions front
-  regions_front sized = all_left (λ x. IsRegion (size_of x)) front (b ∷ back) (subst AreRegions a.is sized)
+  pub regions_front : AreRegions sli bs → AreRegions sli front
+  regions_front sized = all_left (λ x. IsRegion sli (size_of x)) front (b ∷ back) (subst (AreRegions sli) a.is sized)
 
-  pub regions_back : AreRegions bs → AreRegions back
-  regions_back sized = (all_right (λ x. IsRegion (size_of x)) front (b ∷ back) (subst AreRegions a.is sized)).1
+  pub regions_back : AreRegions sli bs → AreRegions sli back
+  regions_back sized = (all_right (λ x. IsRegion sli (size_of x)) front (b ∷ back) (subst (AreRegions sli) a.is sized)).1
 
 -- the block behind
 pub around_next : {bs : List Block} {at i : ℕ} {front : List Block} {b c : Block} {back : List Block} → Around bs at i front b (c ∷ back) → Around bs (at + size_of b) (i + 1) (front ++ b ∷ []) c back
@@ -87,10 +89,10 @@ next_is [] h = absurd (omega (arith, h))
 next_is (Live m s xs ∷ bs) h = absurd (omega (arith, h))
 next_is (Free m s ∷ bs) h = (s, refl)
 
-pub next_none : (bs : List Block) → AreRegions bs → first_free bs ≡ 0 → past_free bs ≡ bs
-next_none [] sized e = refl
-next_none (Live m s xs ∷ bs) sized e = refl
-next_none (Free m s ∷ bs) sized e = absurd (omega (arith, sized.0.0, e))
+pub next_none : (sli : ℕ) (bs : List Block) → AreRegions sli bs → first_free bs ≡ 0 → past_free bs ≡ bs
+next_none sli [] sized e = refl
+next_none sli (Live m s xs ∷ bs) sized e = refl
+next_none sli (Free m s ∷ bs) sized e = absurd (omega (arith, sized.0.0, e))
 
 -- the free block that a list ends with, and those before it
 pub last_is : (bs : List Block) → 0 < last_free bs → (s : ℕ) × (bs ≡ before_free bs ++ Free (last_free bs) s ∷ [])
@@ -99,11 +101,11 @@ last_is bs = by_last (λ all size rest. 0 < size → (s : ℕ) × (all ≡ rest 
     (λ front m s xs h. absurd (omega (arith, h)))
     (λ front m s h. (s, refl))
 
-pub last_none : (bs : List Block) → AreRegions bs → last_free bs ≡ 0 → before_free bs ≡ bs
-last_none bs = by_last (λ all size rest. AreRegions all → size ≡ 0 → rest ≡ all) bs
+pub last_none : (sli : ℕ) (bs : List Block) → AreRegions sli bs → last_free bs ≡ 0 → before_free bs ≡ bs
+last_none sli bs = by_last (λ all size rest. AreRegions sli all → size ≡ 0 → rest ≡ all) bs
     (λ a e. refl)
     (λ front m s xs a e. refl)
-    (λ front m s a e. absurd (omega (arith, e, (all_right (λ b. IsRegion (size_of b)) front (Free m s ∷ []) a).0.0)))
+    (λ front m s a e. absurd (omega (arith, e, (all_right (λ b. IsRegion sli (size_of b)) front (Free m s ∷ []) a).0.0)))
 
 pub last_words : (bs : List Block) → words_in (before_free bs) + last_free bs ≡ words_in bs
 last_words bs = by_last (λ all size rest. words_in rest + size ≡ words_in all) bs
@@ -111,16 +113,16 @@ last_words bs = by_last (λ all size rest. words_in rest + size ≡ words_in all
     (λ front m s xs. omega arith)
     (λ front m s. omega (arith, words_in-append front (Free m s ∷ [])))
 
-pub past_regions : (bs : List Block) → AreRegions bs → AreRegions (past_free bs)
-past_regions [] sized = sized
-past_regions (Live m s xs ∷ bs) sized = sized
-past_regions (Free m s ∷ bs) sized = sized.1
+pub past_regions : (sli : ℕ) (bs : List Block) → AreRegions sli bs → AreRegions sli (past_free bs)
+past_regions sli [] sized = sized
+past_regions sli (Live m s xs ∷ bs) sized = sized
+past_regions sli (Free m s ∷ bs) sized = sized.1
 
-pub before_regions : (bs : List Block) → AreRegions bs → AreRegions (before_free bs)
-before_regions bs = by_last (λ all size rest. AreRegions all → AreRegions rest) bs
+pub before_regions : (sli : ℕ) (bs : List Block) → AreRegions sli bs → AreRegions sli (before_free bs)
+before_regions sli bs = by_last (λ all size rest. AreRegions sli all → AreRegions sli rest) bs
     (λ a. a)
     (λ front m s xs a. a)
-    (λ front m s a. all_left (λ b. IsRegion (size_of b)) front (Free m s ∷ []) a)
+    (λ front m s a. all_left (λ b. IsRegion sli (size_of b)) front (Free m s ∷ []) a)
 
 -- the free block behind a block
 pub around_first : {bs : List Block} {at i : ℕ} {front : List Block} {b : Block} {back : List Block} → Around bs at i front b back → (h : 0 < first_free back)
@@ -152,19 +154,19 @@ first_part (Free m s ∷ back) = (Free m s ∷ [], refl, omega arith)
 -- ---- places of free blocks
 
 -- a free block of `size` words
-abbrev pub place : ℕ → ℕ → ℕ → FreePlace
-place size at stamp = record { class = class_of size; at = at; stamp = stamp }
+abbrev pub place : ℕ → ℕ → ℕ → ℕ → FreePlace
+place sli size at stamp = record { class = class_of sli size; at = at; stamp = stamp }
 
 -- the places behind the blocks `front`, which end at a place
-pub places_behind : (front back : List Block) (at : ℕ) → words_in front ≡ at → free_places 0 (front ++ back) ≡ free_places 0 front ++ free_places at back
-places_behind front back at e = free_places-append 0 front back ∙ ap (λ (n : ℕ). free_places 0 front ++ free_places n back) (omega (arith, e))
+pub places_behind : (sli : ℕ) (front back : List Block) (at : ℕ) → words_in front ≡ at → free_places sli 0 (front ++ back) ≡ free_places sli 0 front ++ free_places sli at back
+places_behind sli front back at e = free_places-append sli 0 front back ∙ ap (λ (n : ℕ). free_places sli 0 front ++ free_places sli n back) (omega (arith, e))
 
 -- a place behind these blocks, or before them, is that of no free one
-pub fresh_front : (front : List Block) (at : ℕ) → AreRegions front → words_in front ≤ at → IsFresh at (free_places 0 front)
-fresh_front front at sized h place c e = let lies = places_within 0 front place sized c in omega (arith, lies.1, e)
+pub fresh_front : (sli : ℕ) (front : List Block) (at : ℕ) → AreRegions sli front → words_in front ≤ at → IsFresh at (free_places sli 0 front)
+fresh_front sli front at sized h place c e = let lies = places_within sli 0 front place sized c in omega (arith, lies.1, e)
 
-pub fresh_back : (back : List Block) (from at : ℕ) → AreRegions back → at < from → IsFresh at (free_places from back)
-fresh_back back from at sized h place c e = let lies = places_within from back place sized c in omega (arith, lies.0, e)
+pub fresh_back : (sli : ℕ) (back : List Block) (from at : ℕ) → AreRegions sli back → at < from → IsFresh at (free_places sli from back)
+fresh_back sli back from at sized h place c e = let lies = places_within sli from back place sized c in omega (arith, lies.0, e)
 
 -- no stamp is above the tick
 abbrev pub ArePast : ℕ → List Block → Type 0
@@ -182,10 +184,10 @@ past_around {front = front} {b = b} {back = back} a tick past =
     rest (Free m s) h = h.1
 
 -- a free block that gets the tick is newer than all that are past
-pub newest : (tick from : ℕ) (front back : List Block) → ArePast tick front → ArePast tick back → (place : FreePlace) → Contains (free_places 0 front ++ free_places from back) place → place.stamp < tick
-newest tick from front back f g place c = elim (Contains-append_cases (free_places 0 front) (free_places from back) place c) [
-  | inl in_front ↦ stamps_below tick 0 front place f in_front
-  | inr in_back ↦ stamps_below tick from back place g in_back
+pub newest : (sli tick from : ℕ) (front back : List Block) → ArePast tick front → ArePast tick back → (place : FreePlace) → Contains (free_places sli 0 front ++ free_places sli from back) place → place.stamp < tick
+newest sli tick from front back f g place c = elim (Contains-append_cases (free_places sli 0 front) (free_places sli from back) place c) [
+  | inl in_front ↦ stamps_below sli tick 0 front place f in_front
+  | inr in_back ↦ stamps_below sli tick from back place g in_back
 ]
 
 pub past_past : (tick : ℕ) (bs : List Block) → ArePast tick bs → ArePast tick (past_free bs)

@@ -127,26 +127,26 @@ module _ {m v : Image} {bs : List Block} (shows : Shows m bs) {at i : ℕ} (stan
 
 -- ---- the blocks and the lists that are left
 
-module _ {m v : Image} {l : ListHeads} {r : RegionState} (state : HoldsState m l r) {at i : ℕ} (stands : StandsAt r.blocks at i) {tag : Tag} (is_tag : IsTagIn (word_at m at) tag) (size serial len : ℕ)
+module _ (sli : ℕ) {m v : Image} {l : ListHeads} {r : RegionState} (state : HoldsState sli m l r) {at i : ℕ} (stands : StandsAt r.blocks at i) {tag : Tag} (is_tag : IsTagIn (word_at m at) tag) (size serial len : ℕ)
     (unlisted : AreUnlisted (list_in r.lists) at (at + size_of (block_at r.blocks i))) where
   left_by : (new : List Block) → Replaces m v (take i r.blocks) (block_at r.blocks i ∷ []) new → new ≡ carved (size_of (block_at r.blocks i)) size serial len
-      → Reshapes v l (take i r.blocks ++ carved (size_of (block_at r.blocks i)) size serial len ++ drop (suc i) r.blocks) r.lists
+      → Reshapes sli v l (take i r.blocks ++ carved (size_of (block_at r.blocks i)) size serial len ++ drop (suc i) r.blocks) r.lists
   left_by new replaces is =
       let whole : take i r.blocks ++ (block_at r.blocks i ∷ []) ++ drop (suc i) r.blocks ≡ r.blocks =
       append_assoc (take i r.blocks) (block_at r.blocks i ∷ []) (drop (suc i) r.blocks) ∙ sym (split_at r.blocks i stands.within) in
       let place = stands.place in
-      subst (λ (bs : List Block). Reshapes v l (take i r.blocks ++ bs ++ drop (suc i) r.blocks) r.lists) is
-      (reshaped state v (take i r.blocks) (block_at r.blocks i ∷ []) new (drop (suc i) r.blocks) whole replaces
+      subst (λ (bs : List Block). Reshapes sli v l (take i r.blocks ++ bs ++ drop (suc i) r.blocks) r.lists) is
+      (reshaped sli state v (take i r.blocks) (block_at r.blocks i ∷ []) new (drop (suc i) r.blocks) whole replaces
       (λ k low high. unlisted k (omega (arith, low, place)) (omega (arith, high, place))))
 
   pub left_whole : Wholes m v at tag serial len → words_for len ≤ tag.size → tag.size < size + 4
-      → Reshapes v l (take i r.blocks ++ carved (size_of (block_at r.blocks i)) size serial len ++ drop (suc i) r.blocks) r.lists
+      → Reshapes sli v l (take i r.blocks ++ carved (size_of (block_at r.blocks i)) size serial len ++ drop (suc i) r.blocks) r.lists
   left_whole wholes room small =
       let same = tag_size state.shows stands is_tag in
       left_by _ (whole_replaces state.shows stands is_tag wholes room) (sym (carved_small tag.size size serial len small) ∙ ap (λ (n : ℕ). carved n size serial len) same)
 
   pub left_split : Splits m v at tag size serial len → 4 ≤ size → size + 4 ≤ tag.size → words_for len ≤ size
-      → Reshapes v l (take i r.blocks ++ carved (size_of (block_at r.blocks i)) size serial len ++ drop (suc i) r.blocks) r.lists
+      → Reshapes sli v l (take i r.blocks ++ carved (size_of (block_at r.blocks i)) size serial len ++ drop (suc i) r.blocks) r.lists
   left_split splits least large room =
       let same = tag_size state.shows stands is_tag in
       left_by _ (split_replaces state.shows stands is_tag size splits least large room) (sym (carved_large tag.size size serial len large) ∙ ap (λ (n : ℕ). carved n size serial len) same)

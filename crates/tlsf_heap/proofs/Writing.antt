@@ -52,14 +52,14 @@ lawful_bytes h front back (Live m s old) new e lawful =
       stamps_past = subst (AllByRecursion (λ x. x < h.tick)) same_stamps lawful.stamps_past;
     }
 
-places_here : (at : ℕ) (b : Block) (new : List ℕ) (back : List Block) → free_places at (with_bytes b new ∷ back) ≡ free_places at (b ∷ back)
-places_here at (Live m s old) new back = refl
-places_here at (Free m s) new back = refl
+places_here : (sli at : ℕ) (b : Block) (new : List ℕ) (back : List Block) → free_places sli at (with_bytes b new ∷ back) ≡ free_places sli at (b ∷ back)
+places_here sli at (Live m s old) new back = refl
+places_here sli at (Free m s) new back = refl
 
 -- and its free places stay
-pub places_bytes : (front back : List Block) (b : Block) (new : List ℕ) → free_places 0 (front ++ with_bytes b new ∷ back) ≡ free_places 0 (front ++ b ∷ back)
-places_bytes front back b new =
-    free_places-append 0 front _ ∙ ap (λ places. free_places 0 front ++ places) (places_here (0 + words_in front) b new back) ∙ sym (free_places-append 0 front (b ∷ back))
+pub places_bytes : (sli : ℕ) (front back : List Block) (b : Block) (new : List ℕ) → free_places sli 0 (front ++ with_bytes b new ∷ back) ≡ free_places sli 0 (front ++ b ∷ back)
+places_bytes sli front back b new =
+    free_places-append sli 0 front _ ∙ ap (λ places. free_places sli 0 front ++ places) (places_here sli (0 + words_in front) b new back) ∙ sym (free_places-append sli 0 front (b ∷ back))
 
 -- ---- whether some bytes are there
 
@@ -146,13 +146,13 @@ pub unwritten : (h : HeapState) (name : Name) (at : ℕ) (bytes : List ℕ) (why
 unwritten h name at bytes why e = unwritten_at h at bytes (eqb name.heap h.id) (named name h.blocks) why e
 
 -- what a write that is done ensures, where this heap is left
-pub record Writes (h : HeapState) (name : Name) (at : ℕ) (bytes : List ℕ) (left : HeapState) : Type 0 where
+pub record Writes (sli : ℕ) (h : HeapState) (name : Name) (at : ℕ) (bytes : List ℕ) (left : HeapState) : Type 0 where
   pub is_answer : Ok tt ≡ (written h name at bytes).answer
   pub is_heap : left ≡ (written h name at bytes).heap
   pub lawful : IsLawful left
-  pub places : free_places 0 left.blocks ≡ free_places 0 h.blocks
+  pub places : free_places sli 0 left.blocks ≡ free_places sli 0 h.blocks
 
-module _ (h : HeapState) (name : Name) (at : ℕ) (bytes : List ℕ) where
+module _ (sli : ℕ) (h : HeapState) (name : Name) (at : ℕ) (bytes : List ℕ) where
   -- the blocks of which the one at i has other bytes
   abbrev with_range : ℕ → List Block
   with_range i = take i h.blocks ++ (with_bytes (block_at h.blocks i) (overwritten (bytes_of (block_at h.blocks i)) at bytes) ∷ []) ++ drop (i + 1) h.blocks
@@ -174,7 +174,7 @@ module _ (h : HeapState) (name : Name) (at : ℕ) (bytes : List ℕ) where
     whole : h.blocks ≡ take range.0 h.blocks ++ block_at h.blocks range.0 ∷ drop (range.0 + 1) h.blocks
     whole = split_at h.blocks range.0 range.1.within ∙ ap (λ (k : ℕ). take range.0 h.blocks ++ block_at h.blocks range.0 ∷ drop k h.blocks) (sym (add-one range.0))
 
-    writes_own : (region : RegionState) → IsLawful h → region.words ≡ h.words → region.blocks ≡ with_range range.0 → Writes h name at bytes (with_region h h.tick region)
+    writes_own : (region : RegionState) → IsLawful h → region.words ≡ h.words → region.blocks ≡ with_range range.0 → Writes sli h name at bytes (with_region h h.tick region)
     writes_own region lawful words blocks =
         let left = region_is h h.tick region _ words (blocks ∙ apart) in
         record {
@@ -183,14 +183,14 @@ module _ (h : HeapState) (name : Name) (at : ℕ) (bytes : List ℕ) where
           lawful = subst IsLawful (sym left)
               (lawful_bytes h (take range.0 h.blocks) (drop (range.0 + 1) h.blocks) (block_at h.blocks range.0) _ (length-overwritten (bytes_of (block_at h.blocks range.0)) bytes at (range_fits (block_at h.blocks range.0) at (length bytes) range.2))
               (subst (λ (l : List Block). IsLawful (with_blocks h l)) whole lawful));
-          places = ap (λ (l : List Block). free_places 0 l) (blocks ∙ apart) ∙ places_bytes (take range.0 h.blocks) (drop (range.0 + 1) h.blocks) (block_at h.blocks range.0) _
-              ∙ ap (λ (l : List Block). free_places 0 l) (sym whole);
+          places = ap (λ (l : List Block). free_places sli 0 l) (blocks ∙ apart) ∙ places_bytes sli (take range.0 h.blocks) (drop (range.0 + 1) h.blocks) (block_at h.blocks range.0) _
+              ∙ ap (λ (l : List Block). free_places sli 0 l) (sym whole);
         }
 
 -- a write where a read is done, in a heap h that is the same as k
-pub writes : (h k : HeapState) (name : Name) (at : ℕ) (bytes : List ℕ) → h ≡ k → Ok tt ≡ read_answer (read_of k name at (length bytes)) → HasRange k name at (length bytes)
-    → (region : RegionState) → IsLawful h → region.words ≡ h.words → ((i : ℕ) → StandsAt h.blocks name.at i → region.blocks ≡ with_range h name at bytes i) → Writes k name at bytes (with_region h h.tick region)
-writes h k name at bytes same is_read range region lawful words blocks =
+pub writes : (sli : ℕ) (h k : HeapState) (name : Name) (at : ℕ) (bytes : List ℕ) → h ≡ k → Ok tt ≡ read_answer (read_of k name at (length bytes)) → HasRange k name at (length bytes)
+    → (region : RegionState) → IsLawful h → region.words ≡ h.words → ((i : ℕ) → StandsAt h.blocks name.at i → region.blocks ≡ with_range sli h name at bytes i) → Writes sli k name at bytes (with_region h h.tick region)
+writes sli h k name at bytes same is_read range region lawful words blocks =
     let here = found h k name at (length bytes) same is_read range in
-    subst (λ (s : HeapState). Writes s name at bytes (with_region h h.tick region)) same
-    (writes_own h name at bytes here.0 here.1 region lawful words (blocks here.1.0 (named_stands _ _ _ _ here.1.1)))
+    subst (λ (s : HeapState). Writes sli s name at bytes (with_region h h.tick region)) same
+    (writes_own sli h name at bytes here.0 here.1 region lawful words (blocks here.1.0 (named_stands _ _ _ _ here.1.1)))

@@ -47,8 +47,8 @@ allocated_at h len (Some s) = if is_worn h then refused h Worn else record {
 }
 
 -- a request of `len` bytes, served by good fit
-abbrev pub allocated : HeapState → ℕ → Outcome Name
-allocated h len = allocated_at h len (choice (want len) h.blocks)
+abbrev pub allocated : ℕ → HeapState → ℕ → Outcome Name
+allocated sli h len = allocated_at h len (choice sli (want len) h.blocks)
 
 -- ---- release
 
@@ -200,14 +200,14 @@ pub data Answer : Type 0 where
   Got : Result (List ℕ) Refusal → Answer
 
 -- the answer to a call, and the heap that it leaves
-abbrev pub answered : HeapState → Call → Answer × HeapState
-answered h (Allocate len) = (Allocated (allocated h len).answer, (allocated h len).heap)
-answered h (Release name) = (Released (released h name).answer, (released h name).heap)
-answered h (Resize name len) = (Resized (resized h name len).answer, (resized h name len).heap)
-answered h (Write name at bytes) = (Written (written h name at bytes).answer, (written h name at bytes).heap)
-answered h (Read name at n) = (Got (read_of h name at n), h)
+abbrev pub answered : ℕ → HeapState → Call → Answer × HeapState
+answered sli h (Allocate len) = (Allocated (allocated sli h len).answer, (allocated sli h len).heap)
+answered sli h (Release name) = (Released (released h name).answer, (released h name).heap)
+answered sli h (Resize name len) = (Resized (resized h name len).answer, (resized h name len).heap)
+answered sli h (Write name at bytes) = (Written (written h name at bytes).answer, (written h name at bytes).heap)
+answered sli h (Read name at n) = (Got (read_of h name at n), h)
 
 -- the answers to calls in turn, and the heap that they leave
-abbrev pub run : HeapState → List Call → List Answer × HeapState
-run h [] = ([], h)
-run h (call ∷ calls) = let step = answered h call in let rest = run step.1 calls in (step.0 ∷ rest.0, rest.1)
+abbrev pub run : ℕ → HeapState → List Call → List Answer × HeapState
+run sli h [] = ([], h)
+run sli h (call ∷ calls) = let step = answered sli h call in let rest = run sli step.1 calls in (step.0 ∷ rest.0, rest.1)

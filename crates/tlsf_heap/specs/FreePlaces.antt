@@ -11,10 +11,10 @@ pub record FreePlace : Type 0 where
   pub stamp : ℕ
 
 -- the free blocks of a list whose first block begins at a place
-abbrev pub free_places : ℕ → List Block → List FreePlace
-free_places at [] = []
-free_places at (Live size serial bytes ∷ blocks) = free_places (at + size) blocks
-free_places at (Free size stamp ∷ blocks) = record { class = class_of size; at = at; stamp = stamp } ∷ free_places (at + size) blocks
+abbrev pub free_places : ℕ → ℕ → List Block → List FreePlace
+free_places sli at [] = []
+free_places sli at (Live size serial bytes ∷ blocks) = free_places sli (at + size) blocks
+free_places sli at (Free size stamp ∷ blocks) = record { class = class_of sli size; at = at; stamp = stamp } ∷ free_places sli (at + size) blocks
 
 -- those of a class
 abbrev pub of_class : ℕ → List FreePlace → List FreePlace
@@ -33,5 +33,5 @@ pub record IsFreeList (class : ℕ) (free : List FreePlace) (places : List ℕ) 
   pub are : places ≡ map (λ place. place.at) order
 
 -- each class has the list of its free blocks
-abbrev pub AreFreeLists : List Block → (ℕ → List ℕ) → Type 0
-AreFreeLists blocks lists = (class : ℕ) → IsFreeList class (free_places 0 blocks) (lists class)
+abbrev pub AreFreeLists : ℕ → List Block → (ℕ → List ℕ) → Type 0
+AreFreeLists sli blocks lists = (class : ℕ) → IsFreeList class (free_places sli 0 blocks) (lists class)

@@ -23,21 +23,21 @@ abbrev pub place_of : Site → ℕ
 place_of s = words_in s.before
 
 -- a free block of a class at or above the search class of n words
-abbrev pub is_fit : ℕ → Block → Bool
-is_fit n block = is_free block && serves (class_of (size_of block)) n
+abbrev pub is_fit : ℕ → ℕ → Block → Bool
+is_fit sli n block = is_free block && serves sli (class_of sli (size_of block)) n
 
 -- the free blocks that may serve a request of n words
-abbrev pub fits : ℕ → List Block → List Site
-fits n blocks = filter (λ s. is_fit n s.block) (sites blocks)
+abbrev pub fits : ℕ → ℕ → List Block → List Site
+fits sli n blocks = filter (λ s. is_fit sli n s.block) (sites blocks)
 
 -- its class is lower, or it is the same and it became free no earlier
-abbrev pub is_as_good : Block → Block → Bool
-is_as_good a b =
-    nat_lt (class_of (size_of a)) (class_of (size_of b)) || (class_of (size_of a) == class_of (size_of b) && nat_le (stamp_of b) (stamp_of a))
+abbrev pub is_as_good : ℕ → Block → Block → Bool
+is_as_good sli a b =
+    nat_lt (class_of sli (size_of a)) (class_of sli (size_of b)) || (class_of sli (size_of a) == class_of sli (size_of b) && nat_le (stamp_of b) (stamp_of a))
 
 -- of the blocks that may serve n words, one of the least class, and of these the one that became free last
-abbrev pub choice : ℕ → List Block → Option Site
-choice n blocks = find (λ s. list_all (λ t. is_as_good s.block t.block) (fits n blocks)) (fits n blocks)
+abbrev pub choice : ℕ → ℕ → List Block → Option Site
+choice sli n blocks = find (λ s. list_all (λ t. is_as_good sli s.block t.block) (fits sli n blocks)) (fits sli n blocks)
 
 -- the block at index i of a list
 abbrev pub block_at : List Block → ℕ → Block

@@ -50,4 +50,4 @@ pub record Shows (m : Image) (blocks : List Block) : Type 0 where
   pub whole : words_in blocks ≡ length m.words
   pub mapped : length m.starts ≡ length m.words
   pub rooms : AllByRecursion HasRoom blocks
-  pub small : length m.words ≤ 2 ^ 20
+  pub small : length m.words ≤ 2 ^ 24

@@ -1,12 +1,13 @@
 -- What holds of a heap before and after each call.
-use Rattle.std.specs.Prelude.{◌≡◌, ℕ, ◌≤◌, ◌<◌, ◌^◌, List, [], ◌∷◌, length, ⊤}
+use Rattle.std.specs.Prelude.{◌≡◌, ℕ, ◌≤◌, ◌<◌, List, [], ◌∷◌, length, ⊤}
 use Rattle.std.specs.List.{AllByRecursion}
+use Rattle.tlsf_class.specs.Classes.{most_words}
 use Rattle.tlsf_words.specs.Lists.{AreDistinct}
 use Rattle.tlsf_heap.specs.Blocks.{Block, Live, Free, HeapState, words_in, serials, stamps, words_for}
 
--- a number of words that a region may have
-abbrev pub IsRegion : ℕ → Type 0
-IsRegion words = (4 ≤ words) × (words ≤ 2 ^ 20)
+-- a number of words that a region of a level may have
+abbrev pub IsRegion : ℕ → ℕ → Type 0
+IsRegion sli words = (4 ≤ words) × (words ≤ most_words sli)
 
 -- a block has four words, and a live one holds its payload
 abbrev pub HasRoom : Block → Type 0

@@ -22,8 +22,8 @@ abbrev pub IsLive : HeapState → Name → Type 0
 IsLive h name = (name.heap ≡ h.id) × IsSome (named name h.blocks)
 
 -- a request of `len` bytes gets this name
-abbrev pub IsGiven : HeapState → ℕ → Name → Type 0
-IsGiven h len name = (allocated h len).answer ≡ Ok name
+abbrev pub IsGiven : ℕ → HeapState → ℕ → Name → Type 0
+IsGiven sli h len name = (allocated sli h len).answer ≡ Ok name
 
 -- the release of this name is accepted
 abbrev pub IsTaken : HeapState → Name → Type 0

@@ -15,7 +15,7 @@ unfoldable pub lists_of : List ℕ → List ℕ → List (List ℕ)
 lists_of heads words = map (places_from (suc (length words)) words) heads
 
 -- the words of a region show blocks, and their links thread lists of free ones
-pub record HoldsLists (m : Image) (lists : ListHeads) : Type 0 where
+pub record HoldsLists (sli : ℕ) (m : Image) (lists : ListHeads) : Type 0 where
   pub shows : Shows m (blocks_of m.words)
-  pub threaded : AreThreaded lists.heads lists.members m.words
+  pub threaded : AreThreaded sli lists.heads lists.members m.words
   pub free : AreFreeBlocks (list_of lists.heads m.words) (blocks_of m.words)

@@ -19,9 +19,9 @@ pub record RegionState : Type 0 where
   pub stored : Image
   pub touches : ℕ
 
--- each block has a number of words that a region may have
-abbrev pub AreRegions : List Block → Type 0
-AreRegions blocks = AllByRecursion (λ block. IsRegion (size_of block)) blocks
+-- each block has a number of words that a region of a level may have
+abbrev pub AreRegions : ℕ → List Block → Type 0
+AreRegions sli blocks = AllByRecursion (λ block. IsRegion sli (size_of block)) blocks
 
 -- of the block that begins at a place, where it stands, this holds
 abbrev pub EachAt : List Block → ℕ → (Site → Type 0) → Type 0

@@ -23,12 +23,12 @@ abbrev pub largest_of : List Block → ℕ
 largest_of blocks = fold max 0 (map size_of blocks)
 
 -- whether a request of `len` bytes is not refused as NoFit: some free block may serve it
-abbrev pub is_served : List Block → ℕ → Bool
-is_served blocks len = nat_lt 0 (length (fits (want len) blocks))
+abbrev pub is_served : ℕ → List Block → ℕ → Bool
+is_served sli blocks len = nat_lt 0 (length (fits sli (want len) blocks))
 
 -- of the lengths below the bytes of all the blocks, the greatest that is served; 0 where none is
-unfoldable pub grant_of : List Block → ℕ
-grant_of blocks = fold max 0 (filter (is_served blocks) (range_with_len 0 (8 * words_in blocks)))
+unfoldable pub grant_of : ℕ → List Block → ℕ
+grant_of sli blocks = fold max 0 (filter (is_served sli blocks) (range_with_len 0 (8 * words_in blocks)))
 
 -- of so many free words, the thousandths that lie outside the greatest free block; 0 where nothing is free
 abbrev pub fragmentation_of : ℕ → ℕ → ℕ
@@ -39,22 +39,22 @@ abbrev pub oldest_of : ℕ → List Block → ℕ
 oldest_of tick blocks = fold min tick (stamps blocks)
 
 -- the report on a heap
-abbrev pub report_of : HeapState → Report
-report_of h = record {
+abbrev pub report_of : ℕ → HeapState → Report
+report_of sli h = record {
   live_blocks = length (live_among h.blocks);
   live_words = words_in (live_among h.blocks);
   live_bytes = payload_in (live_among h.blocks);
   free_blocks = length (free_among h.blocks);
   free_words = words_in (free_among h.blocks);
   largest = largest_of (free_among h.blocks);
-  grant = grant_of h.blocks;
+  grant = grant_of sli h.blocks;
   fragmentation = fragmentation_of (largest_of (free_among h.blocks)) (words_in (free_among h.blocks));
   waste = 8 * words_in (live_among h.blocks) - payload_in (live_among h.blocks);
   age = h.tick - oldest_of h.tick h.blocks;
 }
 
 -- a number of bytes for which, and for no greater one, a request is not refused as NoFit; 0 where nothing is free
-pub record IsGrant (blocks : List Block) (grant : ℕ) : Type 0 where
+pub record IsGrant (sli : ℕ) (blocks : List Block) (grant : ℕ) : Type 0 where
   pub none : free_among blocks ≡ [] → grant ≡ 0
-  pub served : ¬ (free_among blocks ≡ []) → ¬ (fits (want grant) blocks ≡ [])
-  pub greatest : (len : ℕ) → ¬ (fits (want len) blocks ≡ []) → len ≤ grant
+  pub served : ¬ (free_among blocks ≡ []) → ¬ (fits sli (want grant) blocks ≡ [])
+  pub greatest : (len : ℕ) → ¬ (fits sli (want len) blocks ≡ []) → len ≤ grant

@@ -1,5 +1,6 @@
 -- How a heap is stored.
-use Rattle.std.specs.Prelude.{◌≤◌, ◌^◌}
+use Rattle.std.specs.Prelude.{ℕ, ◌≤◌}
+use Rattle.tlsf_class.specs.Classes.{IsLevel, most_words}
 use Rattle.tlsf_heap.specs.Blocks.{HeapState}
 use Rattle.tlsf_heap.specs.Lawful.{IsLawful}
 use Rattle.tlsf_heap.specs.Image.{Shows}
@@ -8,12 +9,13 @@ use Rattle.tlsf_heap.specs.Regions.{list_in}
 use Rattle.tlsf_heap.specs.declared.heap.Heap.TheInside.{Inside}
 
 -- the heap that is stored so
-abbrev pub state_of : Inside → HeapState
-state_of h = record { id = h.id; words = h.region.words; tick = h.tick; blocks = h.region.blocks }
+abbrev pub state_of : (sli : ℕ) → Inside sli → HeapState
+state_of sli h = record { id = h.id; words = h.region.words; tick = h.tick; blocks = h.region.blocks }
 
--- the heap is lawful, its words show its blocks, and each class has the list of its free blocks
-pub record IsStored (h : Inside) : Type 0 where
-  pub lawful : IsLawful (state_of h)
+-- the heap has a level and is lawful, its words show its blocks, and each class has the list of its free blocks
+pub record IsStored (sli : ℕ) (h : Inside sli) : Type 0 where
+  pub level : IsLevel sli
+  pub lawful : IsLawful (state_of sli h)
   pub shows : Shows h.region.stored h.region.blocks
-  pub small : h.region.words ≤ 2 ^ 20
-  pub listed : AreFreeLists h.region.blocks (list_in h.region.lists)
+  pub small : h.region.words ≤ most_words sli
+  pub listed : AreFreeLists sli h.region.blocks (list_in h.region.lists)

@@ -26,19 +26,19 @@ pub record IsTallyUpTo (tick : ℕ) (blocks : List Block) (at : ℕ) (tally : Ta
   pub sums : tally ≡ tally_of tick (take index blocks)
 
 -- the greatest length in bytes that is served where the greatest free block has so many words: the payload of the least block of its class
-abbrev pub granted : ℕ → ℕ
-granted largest = if largest == 0 then 0 else 8 * (low (class_of largest) - 3)
+abbrev pub granted : ℕ → ℕ → ℕ
+granted sli largest = if largest == 0 then 0 else 8 * (low sli (class_of sli largest) - 3)
 
 -- the report that sums make at a tick
-abbrev pub told : Tally → ℕ → Report
-told tally tick = record {
+abbrev pub told : ℕ → Tally → ℕ → Report
+told sli tally tick = record {
   live_blocks = tally.live_blocks;
   live_words = tally.live_words;
   live_bytes = tally.live_bytes;
   free_blocks = tally.free_blocks;
   free_words = tally.free_words;
   largest = tally.largest;
-  grant = granted tally.largest;
+  grant = granted sli tally.largest;
   fragmentation = fragmentation_of tally.largest tally.free_words;
   waste = 8 * tally.live_words - tally.live_bytes;
   age = tick - tally.oldest;

@@ -57,7 +57,7 @@ pub fn first_header(words: &mut Words, stamp: u64)
 pub fn live_header(words: &mut Words, at: u32, tag: Tag, serial: u64, len: u32)
     requires least { 4 ≤ tag.size }
     requires within { at + tag.size ≤ length words.old.words }
-    requires small { length words.old.words ≤ 2 ^ 20 }
+    requires small { length words.old.words ≤ 2 ^ 24 }
     ensures change { Wholes (image_of words.old) (image_of words.new) at tag serial len }
     ensures touches { words.new.touches ≡ words.old.touches + 3 + (tag.size - 3) }
 {
@@ -73,7 +73,7 @@ pub fn split_header(words: &mut Words, at: u32, tag: Tag, size: u32, serial: u64
     requires least { 4 ≤ size }
     requires room { size + 4 ≤ tag.size }
     requires within { at + tag.size ≤ length words.old.words }
-    requires small { length words.old.words ≤ 2 ^ 20 }
+    requires small { length words.old.words ≤ 2 ^ 24 }
     ensures change { Splits (image_of words.old) (image_of words.new) at tag size serial len }
     ensures touches { RisesBy words.old.touches words.new.touches (8 + (size - 3)) }
 {
@@ -98,7 +98,7 @@ pub fn merge_headers(words: &mut Words, at: u32, around: Neighbours, stamp: u64)
     requires before { around.before ≤ at }
     requires after { around.before + around.after + 4 ≤ around.tag.size }
     requires within { at - around.before + around.tag.size ≤ length words.old.words }
-    requires small { length words.old.words ≤ 2 ^ 20 }
+    requires small { length words.old.words ≤ 2 ^ 24 }
     ensures change { Merges (image_of words.old) (image_of words.new) at around stamp }
     ensures touches { RisesBy words.old.touches words.new.touches 6 }
 {
@@ -115,7 +115,7 @@ pub fn merge_headers(words: &mut Words, at: u32, around: Neighbours, stamp: u64)
 pub fn widen_header(words: &mut Words, at: u32, tag: Tag, after: u32)
     requires after { after + 4 ≤ tag.size }
     requires within { at + tag.size ≤ length words.old.words }
-    requires small { length words.old.words ≤ 2 ^ 20 }
+    requires small { length words.old.words ≤ 2 ^ 24 }
     ensures change { Widens (image_of words.old) (image_of words.new) at tag after }
     ensures touches { RisesBy words.old.touches words.new.touches 4 }
 {
@@ -132,7 +132,7 @@ pub fn recut_header(words: &mut Words, at: u32, tag: Tag, after: u32, size: u32,
     requires room { size + 4 ≤ tag.size }
     requires after { after + 4 ≤ tag.size }
     requires within { at + tag.size ≤ length words.old.words }
-    requires small { length words.old.words ≤ 2 ^ 20 }
+    requires small { length words.old.words ≤ 2 ^ 24 }
     ensures change { Recuts (image_of words.old) (image_of words.new) at tag after size stamp }
     ensures touches { RisesBy words.old.touches words.new.touches 7 }
 {

@@ -1,5 +1,6 @@
 ghost use Rattle.std.specs.Prelude.{◌≡◌, ◌≢◌, ℕ, ◌+◌, ◌*◌, ◌/◌, ◌-◌, ◌<◌, ◌≤◌, ◌^◌, ◌↔◌, [], true, length, IfOk, OnOk, OnErr, IsOk, IsErrOf};
 ghost use Rattle.std.specs.Result.{result_unwrap_or};
+ghost use Rattle.tlsf_class.specs.Classes.{IsLevel, most_words};
 ghost use Rattle.tlsf_heap.specs.Blocks;
 ghost use Rattle.tlsf_heap.specs.Blocks.{IsPlace};
 ghost use Rattle.tlsf_heap.specs.Image.{Shows};
@@ -22,13 +23,16 @@ use crate::report::Report;
 use crate::tally::Tally;
 use std::alloc::Global;
 use std::marker::Model;
-use tlsf_class::{MOST_WORDS, class_of};
+use tlsf_class::{class_of, most_words};
 use tlsf_words::Tag;
 
 #[cfg(test)]
 mod image_tests;
 
-/// A heap over a region of 4 to 2^20 words, kept by two-level segregated fit (ECRTS 2004, section 3).
+/// A heap over a region of words, kept by two-level segregated fit (ECRTS 2004, section 3).
+///
+/// Its level, 4 or 5, says how fine its size classes are: 16 or 32 for each power of two. A region of level 4 has 4 to 2^20 words, and
+/// one of level 5 has 4 to 2^24. No heap has another level.
 ///
 /// Contracts see it as its number, its words, its tick and its blocks in the order of their places. The tick begins
 /// one above the first, rises by one with each accepted allocate, release or resize, and stamps what they change. Beside them
@@ -37,22 +41,22 @@ mod image_tests;
 ///
 /// Places and sizes are in words of 8 bytes, lengths in bytes.
 #[derive(Drop)]
-pub struct Heap {
+pub struct Heap<const SLI: u32> {
     id: u32,
     tick: u64,
-    region: Region,
+    region: Region<SLI>,
 }
 
-impl Model for Heap {
+impl<const SLI: u32> Model for Heap<SLI> {
     ghost use Rattle.tlsf_heap.specs.Shown.{Shown};
 
     ghost Value = { Shown };
 
     ghost use Rattle.tlsf_heap.specs.Stored.{IsStored, state_of};
 
-    ghost view = { λ h. record { heap = state_of h; stored = h.region.stored; touches = h.region.touches } };
+    ghost view = { λ h. record { heap = state_of SLI h; stored = h.region.stored; touches = h.region.touches } };
 
-    ghost invariant = { IsStored };
+    ghost invariant = { IsStored SLI };
 }
 
 /// The words wanted for a request of `len` bytes.
@@ -62,29 +66,30 @@ fn want(len: u32) -> u32
     ((u64::from(len) + 31) / 8).max(4) as u32
 }
 
-impl Heap {
+impl<const SLI: u32> Heap<SLI> {
     /// Opens a heap of number `id` over `words` words. It is one free block, stamped with the tick `first`.
     ///
-    /// Refused as `BadSize` where `words` is below 4 or above 2^20, else as `Worn` where `first` is the last tick,
+    /// Refused as `BadSize` where `words` is below 4, or above 2^20 at level 4 and 2^24 at level 5, else as `Worn` where `first` is the last tick,
     /// 2^64 - 1, else as `NoMemory` where the memory was not granted. No later call takes memory.
     ///
     /// ```text
-    /// let heap = Heap::open(alloc, 0, 64, 0)?;                       // heap 0: 512 bytes, at tick 1
-    /// Heap::open(alloc, 0, 3, 0).err() == Some(OpenFault::BadSize)
+    /// let heap = Heap::<4>::open(alloc, 0, 64, 0)?;                  // heap 0: 512 bytes, at tick 1
+    /// Heap::<4>::open(alloc, 0, 3, 0).err() == Some(OpenFault::BadSize)
     /// ```
-    pub fn open(alloc: Global, id: u32, words: u32, first: u64) -> Result<Heap, OpenFault>
+    pub fn open(alloc: Global, id: u32, words: u32, first: u64) -> Result<Heap<SLI>, OpenFault>
+        requires { IsLevel SLI }
         ensures heap { IfOk result (λ heap. heap.heap ≡ opened id words first) }
         ensures lawful { IfOk result (λ heap. IsLawful heap.heap) }
         ensures shows { IfOk result (λ heap. Shows heap.stored heap.heap.blocks) }
 
         // The refusals, in their order. Memory is refused only where no other refusal comes.
-        ensures bad_size { IsErrOf result OpenFault.BadSize ↔ ¬ (IsRegion words) }
-        ensures worn { IsRegion words → (IsErrOf result OpenFault.Worn ↔ (first ≡ last_tick)) }
+        ensures bad_size { IsErrOf result OpenFault.BadSize ↔ ¬ (IsRegion SLI words) }
+        ensures worn { IsRegion SLI words → (IsErrOf result OpenFault.Worn ↔ (first ≡ last_tick)) }
 
         // Three for the header of the free block and its start bit, and seven at most to list it. The first zeros aren't counted.
         ensures touches { IfOk result (λ heap. heap.touches ≤ 10) }
     {
-        if words < 4 || words > MOST_WORDS {
+        if words < 4 || words > most_words::<SLI>() {
             return Err(OpenFault::BadSize);
         }
         if first == u64::MAX {
@@ -108,17 +113,17 @@ impl Heap {
     /// as `Worn` where the tick is at its last value. Takes no memory.
     ///
     /// ```text
-    /// let mut heap = Heap::open(alloc, 0, 64, 0)?;
+    /// let mut heap = Heap::<4>::open(alloc, 0, 64, 0)?;
     /// let name = heap.allocate(100)?;         // 16 of the 64 words: Name { heap: 0, at: 0, serial: 1 }
     /// heap.allocate(400) == Err(Refusal::NoFit)
     /// ```
     pub fn allocate(&mut self, len: u32) -> Result<Name, Refusal>
-        ensures answer { result ≡ (allocated self.old.heap len).answer }
-        ensures heap { self.new.heap ≡ (allocated self.old.heap len).heap }
+        ensures answer { result ≡ (allocated SLI self.old.heap len).answer }
+        ensures heap { self.new.heap ≡ (allocated SLI self.old.heap len).heap }
 
         // What that comes to: when it is NoFit, when it is a name, and that a refusal changes nothing.
-        ensures no_fit { IsErrOf result Refusal.NoFit ↔ (fits (Blocks.want len) self.old.heap.blocks ≡ []) }
-        ensures ok { IsOk result ↔ (¬ (fits (Blocks.want len) self.old.heap.blocks ≡ []) × ¬ (self.old.heap.tick ≡ last_tick)) }
+        ensures no_fit { IsErrOf result Refusal.NoFit ↔ (fits SLI (Blocks.want len) self.old.heap.blocks ≡ []) }
+        ensures ok { IsOk result ↔ (¬ (fits SLI (Blocks.want len) self.old.heap.blocks ≡ []) × ¬ (self.old.heap.tick ≡ last_tick)) }
         ensures err { OnErr result (self.new.heap ≡ self.old.heap) }
         ensures stored { OnErr result (self.new.stored ≡ self.old.stored) }
         ensures was_lawful { IsLawful self.old.heap }
@@ -317,14 +322,14 @@ impl Heap {
     /// What the heap holds, and how well it serves: a walk over all its blocks. Takes no memory.
     ///
     /// ```text
-    /// let report = Heap::open(alloc, 0, 64, 0)?.report();
+    /// let report = Heap::<4>::open(alloc, 0, 64, 0)?.report();
     /// (report.free_words, report.grant) == (64, 488)
     /// ```
     pub fn report(&mut self) -> Report
-        ensures report { result ≡ report_of self.old.heap }
+        ensures report { result ≡ report_of SLI self.old.heap }
 
         // What the grant comes to: no request for more is served, and one for so much is, unless nothing is free.
-        ensures grant { IsGrant self.old.heap.blocks result.grant }
+        ensures grant { IsGrant SLI self.old.heap.blocks result.grant }
         ensures heap { self.new.heap ≡ self.old.heap }
         ensures stored { self.new.stored ≡ self.old.stored }
         ensures was_lawful { IsLawful self.old.heap }
@@ -334,7 +339,7 @@ impl Heap {
         ensures touches_rise { self.old.touches ≤ self.new.touches }
     {
         let tick = self.tick;
-        Tally::of(&mut self.region, tick).report(tick)
+        Tally::of(&mut self.region, tick).report::<SLI>(tick)
     }
 
     /// The block that begins at a place, None where none does: a number from outside is not followed. Where there is one, the next
@@ -350,7 +355,7 @@ impl Heap {
         ensures heap { self.new.heap ≡ self.old.heap }
         ensures stored { self.new.stored ≡ self.old.stored }
         ensures was_lawful { IsLawful self.old.heap }
-        ensures most { self.old.heap.words ≤ 2 ^ 20 }
+        ensures most { self.old.heap.words ≤ most_words SLI }
         ensures touches { self.new.touches ≤ self.old.touches + 4 }
         ensures touches_rise { self.old.touches ≤ self.new.touches }
 
@@ -365,7 +370,7 @@ impl Heap {
     /// s has been free for `tick - s` ticks.
     ///
     /// ```text
-    /// let mut heap = Heap::open(alloc, 0, 64, 0)?;
+    /// let mut heap = Heap::<4>::open(alloc, 0, 64, 0)?;
     /// heap.tick()                                      // 1, and 2 behind an accepted allocate
     /// ```
     pub fn tick(&self) -> u64

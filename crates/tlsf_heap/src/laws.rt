@@ -1,5 +1,5 @@
 ghost use Rattle.std.specs.Prelude.{◌≡◌, ◌≢◌, ◌↔◌, ℕ, ◌*◌, ◌-◌, ◌<◌, List, [], Err, IsOk, length};
-ghost use Rattle.tlsf_class.specs.Classes.{low, class_of};
+ghost use Rattle.tlsf_class.specs.Classes.{IsLevel, low, class_of};
 ghost use Rattle.tlsf_heap.specs.Blocks.{Block, HeapState, want};
 ghost use Rattle.tlsf_heap.specs.Calls.{Call, allocated, answered, last_tick, opened, released, run};
 ghost use Rattle.tlsf_heap.specs.GoodFit.{fits};
@@ -28,16 +28,16 @@ pub fn blocks_never_overlap()
 /// ```
 pub fn names_live_until_released()
     // A heap keeps its number, and stays lawful through every list of calls.
-    ensures ids { (h : HeapState) (call : Call) → (answered h call).1.id ≡ h.id }
-    ensures lawful { (h : HeapState) (calls : List Call) → IsLawful h → IsLawful (run h calls).1 }
+    ensures ids { (sli : ℕ) (h : HeapState) (call : Call) → (answered sli h call).1.id ≡ h.id }
+    ensures lawful { (sli : ℕ) → IsLevel sli → (h : HeapState) (calls : List Call) → IsLawful h → IsLawful (run sli h calls).1 }
 
     // The name that an allocate gives is live, and was not live before.
-    ensures given { (h : HeapState) (len : ℕ) (name : Name) → IsGiven h len name → IsLive (allocated h len).heap name }
-    ensures new { (h : HeapState) (len : ℕ) (name : Name) → IsLawful h → IsGiven h len name → ¬ (IsLive h name) }
+    ensures given { (sli : ℕ) (h : HeapState) (len : ℕ) (name : Name) → IsGiven sli h len name → IsLive (allocated sli h len).heap name }
+    ensures new { (sli : ℕ) (h : HeapState) (len : ℕ) (name : Name) → IsLawful h → IsGiven sli h len name → ¬ (IsLive h name) }
 
     // It stays live through each call but the release that takes it back, and no call makes it live after that.
-    ensures kept { (h : HeapState) (name : Name) (call : Call) → ¬ (TakesBack h name call) → IsLive h name → IsLive (answered h call).1 name }
-    ensures gone { (h : HeapState) (name : Name) (calls : List Call) → IsLawful h → IsTaken h name → ¬ (IsLive (run (released h name).heap calls).1 name) }
+    ensures kept { (sli : ℕ) (h : HeapState) (name : Name) (call : Call) → ¬ (TakesBack h name call) → IsLive h name → IsLive (answered sli h call).1 name }
+    ensures gone { (sli : ℕ) (h : HeapState) (name : Name) (calls : List Call) → IsLawful h → IsTaken h name → ¬ (IsLive (run sli (released h name).heap calls).1 name) }
 
     // The release of a name of the heap that is not live is refused as Stale, that of a live one neither so nor as Foreign.
     ensures stale { (h : HeapState) (name : Name) → name.heap ≡ h.id → ¬ (IsLive h name) → (released h name).answer ≡ Err Stale }
@@ -48,12 +48,12 @@ pub fn names_live_until_released()
 /// block of the class that the greatest free block lies in.
 ///
 /// ```text
-/// 63 words free: class 47 begins at 62 words, so 8 * (62 - 3) = 472 bytes are served, and 473 are not
+/// 63 words free at level 4: class 47 begins at 62 words, so 8 * (62 - 3) = 472 bytes are served, and 473 are not
 /// ```
 pub fn grant_is_greatest()
-    ensures greatest { (h : HeapState) → IsLawful h → IsGrant h.blocks (report_of h).grant }
-    ensures unique { (blocks : List Block) (g k : ℕ) → IsGrant blocks g → IsGrant blocks k → g ≡ k }
-    ensures formula { (h : HeapState) → IsLawful h → 0 < (report_of h).largest → (report_of h).grant ≡ 8 * (low (class_of (report_of h).largest) - 3) }
+    ensures greatest { (sli : ℕ) → IsLevel sli → (h : HeapState) → IsLawful h → IsGrant sli h.blocks (report_of sli h).grant }
+    ensures unique { (sli : ℕ) (blocks : List Block) (g k : ℕ) → IsGrant sli blocks g → IsGrant sli blocks k → g ≡ k }
+    ensures formula { (sli : ℕ) → IsLevel sli → (h : HeapState) → IsLawful h → 0 < (report_of sli h).largest → (report_of sli h).grant ≡ 8 * (low sli (class_of sli (report_of sli h).largest) - 3) }
 {}
 
 /// A request is refused as `NoFit` where no free block fits, and nowhere else: there is no other way to run out.
@@ -65,10 +65,10 @@ pub fn grant_is_greatest()
 /// free blocks of 8 and 12 words: 72 bytes want 12 words and get them, 73 bytes want 13 and are refused
 /// ```
 pub fn refused_only_where_nothing_fits()
-    ensures no_fit { (h : HeapState) (len : ℕ) → ((allocated h len).answer ≡ Err NoFit) ↔ (fits (want len) h.blocks ≡ []) }
-    ensures ok { (h : HeapState) (len : ℕ) → IsOk (allocated h len).answer ↔ (¬ (fits (want len) h.blocks ≡ []) × ¬ (h.tick ≡ last_tick)) }
+    ensures no_fit { (sli : ℕ) (h : HeapState) (len : ℕ) → ((allocated sli h len).answer ≡ Err NoFit) ↔ (fits sli (want len) h.blocks ≡ []) }
+    ensures ok { (sli : ℕ) (h : HeapState) (len : ℕ) → IsOk (allocated sli h len).answer ↔ (¬ (fits sli (want len) h.blocks ≡ []) × ¬ (h.tick ≡ last_tick)) }
 
     // The same, of the heap that a list of calls leaves of a new one.
-    ensures reached { (id words first len : ℕ) (calls : List Call) →
-        ((allocated (run (opened id words first) calls).1 len).answer ≡ Err NoFit) ↔ (fits (want len) (run (opened id words first) calls).1.blocks ≡ []) }
+    ensures reached { (sli id words first len : ℕ) (calls : List Call) →
+        ((allocated sli (run sli (opened id words first) calls).1 len).answer ≡ Err NoFit) ↔ (fits sli (want len) (run sli (opened id words first) calls).1.blocks ≡ []) }
 {}

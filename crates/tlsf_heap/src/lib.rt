@@ -13,6 +13,9 @@
 //! words and start bits show the blocks before and after each call, and a refused call leaves every one of them. The words also
 //! thread the free blocks of each class into a list: the one that became free last is its head.
 //!
+//! A const parameter is the level of a heap, 4 or 5: how many bits of a size tell the second level of its class. A heap of level 5 has
+//! finer classes and may have a greater region. All that contracts say, they say of both.
+//!
 //! They also count its touches, each read or write of a stored word, a start bit, the head of a list or a word of the
 //! bitmaps. A release makes at most 64, an allocate at most 64 and one for each payload word of the block that it gives, a
 //! resize at most 64 and one for each payload word of the block that it leaves, however many blocks the region has. The count has no bytes at run time.
@@ -43,4 +46,4 @@ pub use open_fault::OpenFault;
 pub use placed_block::{Content, PlacedBlock};
 pub use refusal::Refusal;
 pub use report::Report;
-pub use tlsf_class::MOST_WORDS;
+pub use tlsf_class::{MOST_WORDS, most_words};

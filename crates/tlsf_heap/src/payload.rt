@@ -13,7 +13,7 @@ use tlsf_words::Words;
 pub fn set_payload(words: &mut Words, at: u32, len: u32)
     requires old { at + words_for (low_half (slice_index words.old.words (at + 2))) ≤ length words.old.words }
     requires new { at + words_for len ≤ length words.old.words }
-    requires small { length words.old.words ≤ 2 ^ 20 }
+    requires small { length words.old.words ≤ 2 ^ 24 }
     ensures length { slice_index words.new.words (at + 2) ≡ length_word len }
     ensures bytes { bytes_in words.new.words (8 * (at + 3)) len ≡ fitted (bytes_in words.old.words (8 * (at + 3)) (low_half (slice_index words.old.words (at + 2)))) len }
     ensures only { OnlyFrom words.old.words words.new.words (at + 2) (at + words_for len) }
@@ -31,7 +31,7 @@ pub fn set_payload(words: &mut Words, at: u32, len: u32)
 fn zero_bytes(words: &mut Words, at: u32, from: u32, to: u32)
     requires some { from < to }
     requires within { at + words_for to ≤ length words.old.words }
-    requires small { length words.old.words ≤ 2 ^ 20 }
+    requires small { length words.old.words ≤ 2 ^ 24 }
     ensures zero { (k : ℕ) → payload_byte at from ≤ k → k < payload_byte at to → byte_in words.new.words k ≡ 0 }
     ensures before { (k : ℕ) → k < payload_byte at from → byte_in words.new.words k ≡ byte_in words.old.words k }
     ensures only { OnlyFrom words.old.words words.new.words (at + 3) (at + words_for to) }

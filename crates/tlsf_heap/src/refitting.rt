@@ -1,7 +1,7 @@
 //! Resizing a block where it stands, over a region and the lists of its free blocks. Sizes and places are in words, lengths in bytes.
-ghost use Rattle.std.specs.Prelude.{◌≡◌, ◌≢◌, ℕ, ◌+◌, ◌<◌, ◌≤◌, ◌^◌, ◌++◌, false, length, Contains};
+ghost use Rattle.std.specs.Prelude.{◌≡◌, ◌≢◌, ℕ, ◌+◌, ◌<◌, ◌≤◌, ◌++◌, false, length, Contains};
 ghost use Rattle.std.specs.List.{AllByRecursion};
-ghost use Rattle.tlsf_class.specs.Classes.{class_of};
+ghost use Rattle.tlsf_class.specs.Classes.{IsLevel, most_words, class_of};
 ghost use Rattle.tlsf_words.specs.Lists.{without_place};
 ghost use Rattle.tlsf_heap.specs.Lawful.{IsRegion, HasRoom};
 ghost use Rattle.tlsf_heap.specs.Blocks.{size_of, words_in, is_free, bytes_of, stamps, words_for};
@@ -15,12 +15,12 @@ use tlsf_words::Tag;
 
 /// The tag of the free block behind the block at a place, of this tag. Its size is 0 where the block behind is live or the region
 /// ends.
-pub fn look_behind(region: &mut Region, at: u32, own: Tag) -> Tag
+pub fn look_behind<const SLI: u32>(region: &mut Region<SLI>, at: u32, own: Tag) -> Tag
     requires live { HasAt region.old.blocks at (λ s. is_free s.block ≡ false) }
     requires own { EachAt region.old.blocks at (λ s. IsTagOf region.old.words s own) }
     requires whole { words_in region.old.blocks ≡ region.old.words }
-    requires sized { AreRegions region.old.blocks }
-    requires small { words_in region.old.blocks ≤ 2 ^ 20 }
+    requires sized { AreRegions SLI region.old.blocks }
+    requires small { words_in region.old.blocks ≤ most_words SLI }
     ensures tag { EachAt region.old.blocks at (λ s. IsTagBehind region.old.words s result) }
     ensures reads { OnlyReads region.old region.new 1 }
 {
@@ -34,11 +34,12 @@ pub fn look_behind(region: &mut Region, at: u32, own: Tag) -> Tag
 }
 
 /// Takes the free block of this size at a place out of the list of its class. Where the size is 0 there is none.
-fn forget(region: &mut Region, at: u32, size: u32)
-    requires sized { 0 < size → IsRegion size }
-    requires listed { 0 < size → Contains (list_in region.old.lists (class_of size)) at }
-    ensures list { 0 < size → list_in region.new.lists (class_of size) ≡ without_place at (list_in region.old.lists (class_of size)) }
-    ensures others { (other : ℕ) → other ≢ class_of size → list_in region.new.lists other ≡ list_in region.old.lists other }
+fn forget<const SLI: u32>(region: &mut Region<SLI>, at: u32, size: u32)
+    requires level { IsLevel SLI }
+    requires sized { 0 < size → IsRegion SLI size }
+    requires listed { 0 < size → Contains (list_in region.old.lists (class_of SLI size)) at }
+    ensures list { 0 < size → list_in region.new.lists (class_of SLI size) ≡ without_place at (list_in region.old.lists (class_of SLI size)) }
+    ensures others { (other : ℕ) → other ≢ class_of SLI size → list_in region.new.lists other ≡ list_in region.old.lists other }
     ensures none { size ≡ 0 → region.new.lists ≡ region.old.lists }
     ensures blocks { region.new.blocks ≡ region.old.blocks }
     ensures words { region.new.words ≡ region.old.words }
@@ -52,18 +53,26 @@ fn forget(region: &mut Region, at: u32, size: u32)
 
 /// Makes the live block at a place and the free block behind it, of these tags, a live block of `words` words and a free rest, or a
 /// live block of them all where the rest would have fewer than four words. The payload stays.
-fn recut(region: &mut Region, at: u32, own: Tag, next: Tag, words: u32, tick: u64)
+fn recut<const SLI: u32>(
+    region: &mut Region<SLI>,
+    at: u32,
+    own: Tag,
+    next: Tag,
+    words: u32,
+    tick: u64,
+)
+    requires level { IsLevel SLI }
     requires least { 4 ≤ words }
     requires live { HasAt region.old.blocks at (λ s. (is_free s.block ≡ false) × (words_for (length (bytes_of s.block)) ≤ words)) }
     requires own { EachAt region.old.blocks at (λ s. IsTagOf region.old.words s own) }
     requires next { EachAt region.old.blocks at (λ s. IsTagBehind region.old.words s next) }
     requires room { words ≤ own.size + next.size }
-    requires sized { AreRegions region.old.blocks }
-    requires small { words_in region.old.blocks ≤ 2 ^ 20 }
-    requires listed { AreFreeLists region.old.blocks (list_in region.old.lists) }
+    requires sized { AreRegions SLI region.old.blocks }
+    requires small { words_in region.old.blocks ≤ most_words SLI }
+    requires listed { AreFreeLists SLI region.old.blocks (list_in region.old.lists) }
     requires stamped { AllByRecursion (λ s. s < tick) (stamps region.old.blocks) }
     ensures blocks { EachAt region.old.blocks at (λ s. region.new.blocks ≡ s.before ++ Calls.recut tick words s.block s.after) }
-    ensures listed { AreFreeLists region.new.blocks (list_in region.new.lists) }
+    ensures listed { AreFreeLists SLI region.new.blocks (list_in region.new.lists) }
     ensures edits { Edits region.old region.new 20 }
 {
     forget(region, at + own.size, next.size);
@@ -75,7 +84,16 @@ fn recut(region: &mut Region, at: u32, own: Tag, next: Tag, words: u32, tick: u6
 
 /// Gives the live block at a place, which has this tag and the free block of tag `next` behind it, `len` bytes of payload, for which
 /// `words` words are wanted. A block that has those and fewer than four more keeps its size.
-pub fn refit(region: &mut Region, at: u32, own: Tag, next: Tag, words: u32, len: u32, tick: u64)
+pub fn refit<const SLI: u32>(
+    region: &mut Region<SLI>,
+    at: u32,
+    own: Tag,
+    next: Tag,
+    words: u32,
+    len: u32,
+    tick: u64,
+)
+    requires level { IsLevel SLI }
     requires least { 4 ≤ words }
     requires payload { words_for len ≤ words }
     requires live { HasAt region.old.blocks at (λ s. is_free s.block ≡ false) }
@@ -83,12 +101,12 @@ pub fn refit(region: &mut Region, at: u32, own: Tag, next: Tag, words: u32, len:
     requires next { EachAt region.old.blocks at (λ s. IsTagBehind region.old.words s next) }
     requires room { words ≤ own.size + next.size }
     requires rooms { AllByRecursion HasRoom region.old.blocks }
-    requires sized { AreRegions region.old.blocks }
-    requires small { words_in region.old.blocks ≤ 2 ^ 20 }
-    requires listed { AreFreeLists region.old.blocks (list_in region.old.lists) }
+    requires sized { AreRegions SLI region.old.blocks }
+    requires small { words_in region.old.blocks ≤ most_words SLI }
+    requires listed { AreFreeLists SLI region.old.blocks (list_in region.old.lists) }
     requires stamped { AllByRecursion (λ s. s < tick) (stamps region.old.blocks) }
     ensures blocks { EachAt region.old.blocks at (λ s. region.new.blocks ≡ s.before ++ Calls.refitted tick words len s.block s.after) }
-    ensures listed { AreFreeLists region.new.blocks (list_in region.new.lists) }
+    ensures listed { AreFreeLists SLI region.new.blocks (list_in region.new.lists) }
     ensures edits { Edits region.old region.new (20 + words_for len) }
 {
     if words > own.size {

@@ -1,5 +1,6 @@
 ghost use Rattle.std.specs.Prelude.{◌≡◌, ℕ, ◌+◌, ◌*◌, ◌/◌, ◌-◌, ◌<◌, ◌≤◌, ◌^◌, [], ◌∷◌, ◌++◌, false, true, length, take, drop, Some, slice_get, Contains, IfOk};
 ghost use Rattle.std.specs.List.{AllByRecursion};
+ghost use Rattle.tlsf_class.specs.Classes.{IsLevel, most_words};
 ghost use Rattle.tlsf_class.specs.Members.{next_member};
 ghost use Rattle.tlsf_words.specs.Lists.{listed_classes, IsUnlisted};
 ghost use Rattle.tlsf_heap.specs.Blocks.{size_of, is_free, bytes_of, words_for, StandsAt, IsPlace};
@@ -26,13 +27,13 @@ use tlsf_words::{FreeLists, NoMemory, Tag, Words};
 /// class, that their links thread. A block is known by its place. Sizes and places are in words. Nothing but `open` allocates.
 /// Its touches are those of the words and of the lists together.
 #[derive(Drop)]
-pub struct Region {
+pub struct Region<const SLI: u32> {
     // Open to the crate for the tests of what stands in the words.
     pub(crate) words: Words,
-    lists: FreeLists,
+    lists: FreeLists<SLI>,
 }
 
-impl Model for Region {
+impl<const SLI: u32> Model for Region<SLI> {
     ghost use Rattle.std.specs.Prelude.{◌+◌, length};
     ghost use Rattle.tlsf_heap.specs.Regions.{RegionState, image_of};
     ghost use Rattle.tlsf_heap.specs.Read.{blocks_of};
@@ -42,14 +43,15 @@ impl Model for Region {
 
     ghost view = { λ r. record { words = length r.words.words; blocks = blocks_of r.words.words; lists = lists_of r.lists.heads r.words.words; stored = image_of r.words; touches = r.words.touches + r.lists.touches } };
 
-    ghost invariant = { λ r. HoldsLists (image_of r.words) r.lists };
+    ghost invariant = { λ r. HoldsLists SLI (image_of r.words) r.lists };
 }
 
-impl Region {
-    /// A region of so many words, 4 to 2^20, that is one free block.
-    pub fn open(alloc: Global, words: u32, stamp: u64) -> Result<Region, NoMemory>
+impl<const SLI: u32> Region<SLI> {
+    /// A region of so many words, from 4 to as many as one of the level may have, that is one free block.
+    pub fn open(alloc: Global, words: u32, stamp: u64) -> Result<Region<SLI>, NoMemory>
+        requires level { IsLevel SLI }
         requires least { 4 ≤ words }
-        requires most { words ≤ 2 ^ 20 }
+        requires most { words ≤ most_words SLI }
         ensures { IfOk result (IsOpened words stamp) }
     {
         let mut region = Words::open(alloc, words)?;
@@ -60,7 +62,7 @@ impl Region {
         })
     }
 
-    /// The number of words, 4 to 2^20.
+    /// The number of words.
     pub fn len(&self) -> u32
         ensures value { result ≡ self.now.words }
     {
@@ -189,7 +191,7 @@ impl Region {
         requires own { EachAt self.old.blocks at (λ s. IsTagOf self.old.words s own) }
         requires next { EachAt self.old.blocks at (λ s. IsTagBehind self.old.words s next) }
         requires room { size ≤ own.size + next.size }
-        requires small { own.size + next.size ≤ 2 ^ 20 }
+        requires small { own.size + next.size ≤ 2 ^ 24 }
         requires unlisted { AreUnlisted (list_in self.old.lists) at (at + own.size + next.size) }
         ensures rest { result ≡ rest_of (own.size + next.size) size }
         ensures change { EachAt self.old.blocks at (λ s. Rewrites self.old self.new (s.before ++ Calls.recut stamp size s.block s.after) 7) }
@@ -239,34 +241,34 @@ impl Region {
     }
 
     /// Puts a free block that is in no list in front of the list of a class.
-    pub fn push(&mut self, class: Class, at: u32)
+    pub fn push(&mut self, class: Class<SLI>, at: u32)
         requires free { (i : ℕ) × StandsAt self.old.blocks at i × (is_free (block_at self.old.blocks i) ≡ true) }
         requires unlisted { IsUnlisted (list_in self.old.lists) at }
-        ensures { PutInFront self.old self.new class at 7 }
+        ensures { PutInFront self.old self.new class.entry at 7 }
     {
         self.lists.push(&mut self.words, class, at);
     }
 
     /// Takes a block out of the list of its class.
-    pub fn remove(&mut self, class: Class, at: u32)
+    pub fn remove(&mut self, class: Class<SLI>, at: u32)
         requires listed { Contains (list_in self.old.lists class) at }
-        ensures { TakenOut self.old self.new class at 6 }
+        ensures { TakenOut self.old self.new class.entry at 6 }
     {
         self.lists.remove(&mut self.words, class, at);
     }
 
     /// Takes the head of the list of a class, which isn't empty, out of it.
-    pub fn pop_first(&mut self, class: Class) -> u32
+    pub fn pop_first(&mut self, class: Class<SLI>) -> u32
         requires some { ¬ (list_in self.old.lists class ≡ []) }
-        ensures place { slice_get (list_in self.old.lists class) 0 ≡ Some result }
-        ensures change { TakenOut self.old self.new class result 7 }
+        ensures place { slice_get (list_in self.old.lists class.entry) 0 ≡ Some result }
+        ensures change { TakenOut self.old self.new class.entry result 7 }
     {
         self.lists.pop_first(&mut self.words, class)
     }
 
     /// The least class at or above a class whose list isn't empty, `None` where there is none.
-    pub fn next_from(&mut self, class: Class) -> Option<Class>
-        ensures least { result ≡ next_member (listed_classes (list_in self.old.lists)) class }
+    pub fn next_from(&mut self, class: Class<SLI>) -> Option<Class<SLI>>
+        ensures least { result ≡ next_member (listed_classes SLI (list_in self.old.lists)) class.entry }
         ensures reads { OnlyReads self.old self.new 3 }
     {
         self.lists.next_from(class)

@@ -1,6 +1,7 @@
 //! The sums that a report is made of. Sizes and places are in words.
 ghost use Rattle.std.specs.Prelude.{◌≡◌, ℕ, ◌*◌, ◌+◌, ◌<◌, ◌≤◌, ◌^◌, [], max, min};
 ghost use Rattle.std.specs.List.{AllByRecursion};
+ghost use Rattle.tlsf_class.specs.Classes.{IsLevel};
 ghost use Rattle.tlsf_heap.specs.Blocks.{words_in};
 ghost use Rattle.tlsf_heap.specs.Lawful.{HasRoom, IsRegion};
 ghost use Rattle.tlsf_heap.specs.Regions.{OnlyReads};
@@ -27,9 +28,9 @@ pub struct Tally {
 
 impl Tally {
     /// The sums over all blocks of a region at a tick.
-    pub fn of(region: &mut Region, tick: u64) -> Tally
+    pub fn of<const SLI: u32>(region: &mut Region<SLI>, tick: u64) -> Tally
         requires rooms { AllByRecursion HasRoom region.old.blocks }
-        requires small { words_in region.old.blocks ≤ 2 ^ 20 }
+        requires small { words_in region.old.blocks ≤ 2 ^ 24 }
         requires whole { words_in region.old.blocks ≡ region.old.words }
         ensures sums { result ≡ tally_of tick region.old.blocks }
         ensures reads { OnlyReads region.old region.new (3 * region.old.words) }
@@ -59,9 +60,9 @@ impl Tally {
     }
 
     /// Adds the block at a place to those before it, and answers the place behind it.
-    fn add(&mut self, region: &mut Region, at: u32) -> u32
+    fn add<const SLI: u32>(&mut self, region: &mut Region<SLI>, at: u32) -> u32
         requires rooms { AllByRecursion HasRoom region.old.blocks }
-        requires small { words_in region.old.blocks ≤ 2 ^ 20 }
+        requires small { words_in region.old.blocks ≤ 2 ^ 24 }
         requires within { at < words_in region.old.blocks }
         requires sums { (tick : ℕ) × IsTallyUpTo tick region.old.blocks at self.old }
         ensures sums { (tick : ℕ) → IsTallyUpTo tick region.old.blocks at self.old → IsTallyUpTo tick region.old.blocks result self.new }
@@ -79,9 +80,9 @@ impl Tally {
 
     /// Adds a live block.
     fn add_live(&mut self, size: u32, length: u32)
-        requires blocks { self.old.live_blocks < 2 ^ 20 }
-        requires words { self.old.live_words + size ≤ 2 ^ 20 }
-        requires bytes { self.old.live_bytes + length ≤ 2 ^ 23 }
+        requires blocks { self.old.live_blocks < 2 ^ 24 }
+        requires words { self.old.live_words + size ≤ 2 ^ 24 }
+        requires bytes { self.old.live_bytes + length ≤ 2 ^ 27 }
         ensures { self.new ≡ record self.old {
           live_blocks = self.old.live_blocks + 1;
           live_words = self.old.live_words + size;
@@ -95,8 +96,8 @@ impl Tally {
 
     /// Adds a free block.
     fn add_free(&mut self, size: u32, stamp: u64)
-        requires blocks { self.old.free_blocks < 2 ^ 20 }
-        requires words { self.old.free_words + size ≤ 2 ^ 20 }
+        requires blocks { self.old.free_blocks < 2 ^ 24 }
+        requires words { self.old.free_words + size ≤ 2 ^ 24 }
         ensures { self.new ≡ record self.old {
           free_blocks = self.old.free_blocks + 1;
           free_words = self.old.free_words + size;
@@ -111,14 +112,15 @@ impl Tally {
     }
 
     /// The report that these sums make at a tick.
-    pub fn report(self, tick: u64) -> Report
-        requires live { self.live_words ≤ 2 ^ 20 }
-        requires free { self.free_words ≤ 2 ^ 20 }
+    pub fn report<const SLI: u32>(self, tick: u64) -> Report
+        requires level { IsLevel SLI }
+        requires live { self.live_words ≤ 2 ^ 24 }
+        requires free { self.free_words ≤ 2 ^ 24 }
         requires bytes { self.live_bytes ≤ 8 * self.live_words }
-        requires largest { 0 < self.largest → IsRegion self.largest }
+        requires largest { 0 < self.largest → IsRegion SLI self.largest }
         requires part { self.largest ≤ self.free_words }
         requires past { self.oldest ≤ tick }
-        ensures { result ≡ told self tick }
+        ensures { result ≡ told SLI self tick }
     {
         Report {
             live_blocks: self.live_blocks,
@@ -127,7 +129,7 @@ impl Tally {
             free_blocks: self.free_blocks,
             free_words: self.free_words,
             largest: self.largest,
-            grant: grant(self.largest),
+            grant: grant::<SLI>(self.largest),
             fragmentation: fragmentation(self.largest, self.free_words),
             waste: 8 * self.live_words - self.live_bytes,
             age: tick - self.oldest,
@@ -136,24 +138,25 @@ impl Tally {
 }
 
 /// The greatest length in bytes that is served where the greatest free block has so many words, or 0.
-fn grant(largest: u32) -> u32
-    requires { 0 < largest → IsRegion largest }
-    ensures { result ≡ granted largest }
+fn grant<const SLI: u32>(largest: u32) -> u32
+    requires level { IsLevel SLI }
+    requires region { 0 < largest → IsRegion SLI largest }
+    ensures { result ≡ granted SLI largest }
 {
     if largest == 0 {
         return 0;
     }
-    8 * (low(class_of(largest)) - 3)
+    8 * (low(class_of::<SLI>(largest)) - 3)
 }
 
 /// The thousandths of the free words that are not in the greatest block, or 0.
 fn fragmentation(largest: u32, words: u32) -> u32
-    requires part { largest ≤ words }
-    requires small { words ≤ 2 ^ 20 }
+    requires { largest ≤ words }
     ensures { result ≡ fragmentation_of largest words }
 {
     if words == 0 {
         return 0;
     }
-    1000 - 1000 * largest / words
+    // In 64 bits: a region of level 5 may have more than 2^32 thousandths.
+    1000 - (1000 * u64::from(largest) / u64::from(words)) as u32
 }

@@ -18,15 +18,16 @@ use Rattle.tlsf_laws.specs.Room.{sure, RoomIsTight}
 use Rattle.tlsf_laws.specs.Pools.{OneBlockIsTight}
 use Rattle.tlsf_laws.proofs.FreeRoom.{sure_enough, sure_is}
 use Rattle.tlsf_heap.proofs.Served.{no_fit}
+use Rattle.tlsf_class.proofs.TwoLevels.{level_4}
 
 -- a free block below the least size of the search class doesn't serve
-too_small : (n m s : ℕ) → n ≤ 2 ^ 20 → m < sure n → is_fit n (Free m s) ≡ false
+too_small : (n m s : ℕ) → n ≤ 2 ^ 20 → m < sure n → is_fit 4 n (Free m s) ≡ false
 too_small n m s region below = not_true _ (λ fit.
-    let search = search_of-is n region in
-    let under : search.0 ≤ class_of m = leb-true search.0 (class_of m) (sym (serves-from n search.0 (class_of m) search.1.found) ∙ fit) in
+    let search = search_of-is 4 level_4 n region in
+    let under : search.0 ≤ class_of 4 m = leb-true search.0 (class_of 4 m) (sym (serves-from 4 level_4 n search.0 (class_of 4 m) search.1.found) ∙ fit) in
     elim (cases_lt m 4) [
-      | inl small ↦ omega (arith, search.1.least, under, class_of-small m small)
-      | inr large ↦ let own = class_of-is m large in omega (arith, below, sure_is n search.0 search.1, own.reached, low-rises_or_same search.0 (class_of m) under (omega (arith, own.most)))
+      | inl small ↦ omega (arith, search.1.least, under, class_of-small 4 level_4 m small)
+      | inr large ↦ let own = class_of-is 4 level_4 m large in omega (arith, below, sure_is n search.0 search.1, own.reached, low-rises_or_same 4 level_4 search.0 (class_of 4 m) under (omega (arith, own.most)))
     ])
 
 -- free blocks of k words with a live one between each two, from the tick t on
@@ -76,7 +77,7 @@ free : (k n t : ℕ) → words_in (free_among (comb k n t)) ≡ (n + 1) * k
 free k zero t = omega arith
 free k (suc n) t = let e = free k n (t + 1) in omega arith
 
-none_fits : (w k n t : ℕ) → ((s : ℕ) → is_fit w (Free k s) ≡ false) → NoneFits w (comb k n t)
+none_fits : (w k n t : ℕ) → ((s : ℕ) → is_fit 4 w (Free k s) ≡ false) → NoneFits 4 w (comb k n t)
 none_fits w k zero t h zero l = h t
 none_fits w k zero t h (suc i) l = absurd (omega (arith, l))
 none_fits w k (suc n) t h zero l = h t
@@ -99,9 +100,9 @@ room_tight count len region more =
       },
       live k count 0,
       free k count 0,
-      fits_nothing (want len) blocks (none_fits (want len) k count 0 (λ s. too_small (want len) k s region (omega (arith, more)))),
+      fits_nothing 4 (want len) blocks (none_fits (want len) k count 0 (λ s. too_small (want len) k s region (omega (arith, more)))),
     )
 
 pub one_block_tight : OneBlockIsTight
 one_block_tight id words first len region below =
-    (no_fit (opened id words first) len).1 (fits_nothing (want len) (Free words first ∷ []) (none_fits (want len) words 0 first (λ s. too_small (want len) words s region (omega (arith, below, sure_enough (want len) region)))))
+    (no_fit 4 (opened id words first) len).1 (fits_nothing 4 (want len) (Free words first ∷ []) (none_fits (want len) words 0 first (λ s. too_small (want len) words s region (omega (arith, below, sure_enough (want len) region)))))

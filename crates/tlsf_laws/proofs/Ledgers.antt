@@ -21,6 +21,7 @@ use Rattle.tlsf_laws.proofs.Held.{one, counted}
 use Rattle.tlsf_laws.proofs.Looks.{found_bytes, given_name, taken_name, resized_name, written_name, fresh, new_empty}
 use Rattle.tlsf_laws.proofs.Around.{new_lawful}
 use Rattle.tlsf_laws.proofs.Refits.{by_resize, fitted_count, refits}
+use Rattle.tlsf_class.proofs.TwoLevels.{level_4}
 
 -- the sum of a number for each length
 abbrev pub sum_of : (ℕ → ℕ) → List ℕ → ℕ
@@ -185,7 +186,7 @@ mapped : (c : Bool) (new old : Option (List ℕ)) → option_map length (cond c 
 mapped true new old = refl
 mapped false new old = refl
 
-given : (h : HeapState) (n : ℕ) (s : Site) (l : Ledger) → Agrees h l → IsLawful h → IsSiteOf h.blocks s → is_fit (want n) s.block ≡ true
+given : (h : HeapState) (n : ℕ) (s : Site) (l : Ledger) → Agrees h l → IsLawful h → IsSiteOf h.blocks s → is_fit 4 (want n) s.block ≡ true
     → Agrees (gives h n s).heap ((record { heap = h.id; at = place_of s; serial = h.tick }, n) ∷ l)
 given h n s l agrees lawful site fit = record {
   totals = λ f. load_given f h s n site fit ∙ ap (λ (t : ℕ). f n + t) (agrees.totals f);
@@ -270,9 +271,9 @@ Freed name l o = Agrees o.heap (ledger_after l (Release name) (Released o.answer
 abbrev Wrote : Name → ℕ → List ℕ → Ledger → Outcome (Unit {0}) → Type 0
 Wrote name at bytes l o = Agrees o.heap (ledger_after l (Write name at bytes) (Written o.answer))
 
-pub agrees_call : (h : HeapState) (call : Call) (l : Ledger) → Agrees h l → IsLawful h → Agrees (answered h call).1 (ledger_after l call (answered h call).0)
+pub agrees_call : (h : HeapState) (call : Call) (l : Ledger) → Agrees h l → IsLawful h → Agrees (answered 4 h call).1 (ledger_after l call (answered 4 h call).0)
 agrees_call h (Allocate n) l agrees lawful =
-    by_allocated (λ o. Agrees o.heap (ledger_after l (Allocate n) (Allocated o.answer))) h n (λ why. agrees) (λ s site fit. given h n s l agrees lawful site fit)
+    by_allocated 4 (λ o. Agrees o.heap (ledger_after l (Allocate n) (Allocated o.answer))) h n (λ why. agrees) (λ s site fit. given h n s l agrees lawful site fit)
 agrees_call h (Release name) l agrees lawful =
     by_test (Freed name l) (eqb name.heap h.id) (released_at h (named name h.blocks)) (refused h Foreign) (λ own. at (eqb-true name.heap h.id own) (named name h.blocks) refl) agrees
   where
@@ -289,9 +290,9 @@ agrees_call h (Resize name len) l agrees lawful =
     by_resize (λ o. Agrees o.heap (ledger_after l (Resize name len) (Resized o.answer))) h name len (λ why. agrees) (λ s own e site is. lengthened h s name len l agrees lawful own site e is)
 agrees_call h (Read name at n) l agrees lawful = agrees
 
-pub agrees_run : (h : HeapState) (calls : List Call) (l : Ledger) → Agrees h l → IsLawful h → Agrees (run h calls).1 (ledger_after_all l calls (run h calls).0)
+pub agrees_run : (h : HeapState) (calls : List Call) (l : Ledger) → Agrees h l → IsLawful h → Agrees (run 4 h calls).1 (ledger_after_all l calls (run 4 h calls).0)
 agrees_run h [] l agrees lawful = agrees
-agrees_run h (call ∷ calls) l agrees lawful = agrees_run (answered h call).1 calls (ledger_after l call (answered h call).0) (agrees_call h call l agrees lawful) (lawful_run h (call ∷ []) lawful)
+agrees_run h (call ∷ calls) l agrees lawful = agrees_run (answered 4 h call).1 calls (ledger_after l call (answered 4 h call).0) (agrees_call h call l agrees lawful) (lawful_run 4 level_4 h (call ∷ []) lawful)
 
 pub new_agrees : (id words first : ℕ) → Agrees (opened id words first) []
 new_agrees id words first = record { totals = λ f. refl; found = λ name. sym (ap (option_map length) (new_empty id words first name)); apart = tt }
@@ -311,4 +312,4 @@ live_agrees h l agrees = counted h.blocks ∙ agrees.totals one ∙ sum_one (len
 pub ledger_holds : LedgerHoldsWhatIsLive
 ledger_holds id words first calls four =
     let start : HeapState = opened id words first in
-    live_agrees (run start calls).1 (ledger_after_all [] calls (run start calls).0) (agrees_run start calls [] (new_agrees id words first) (new_lawful id words first four))
+    live_agrees (run 4 start calls).1 (ledger_after_all [] calls (run 4 start calls).0) (agrees_run start calls [] (new_agrees id words first) (new_lawful id words first four))

@@ -43,7 +43,7 @@ module _ (f : ℕ → ℕ) where
   load_with (Live m s ys) xs e = ap (λ (n : ℕ). f n + 0) e
   load_with (Free m s) xs e = refl
 
-  load_fit : (n : ℕ) (b : Block) → is_fit n b ≡ true → load f (b ∷ []) ≡ 0
+  load_fit : (n : ℕ) (b : Block) → is_fit 4 n b ≡ true → load f (b ∷ []) ≡ 0
   load_fit n (Live m s xs) fit = absurd (false≢true fit)
   load_fit n (Free m s) fit = refl
 
@@ -55,7 +55,7 @@ module _ (f : ℕ → ℕ) where
   load_site h s site = omega (arith, ap (load f) site, load-append s.before (s.block ∷ s.after), load-append (s.block ∷ []) s.after)
 
   -- an accepted allocate adds the number for its length
-  pub load_given : (h : HeapState) (s : Site) (n : ℕ) → IsSiteOf h.blocks s → is_fit (want n) s.block ≡ true → load f (gives h n s).heap.blocks ≡ f n + load f h.blocks
+  pub load_given : (h : HeapState) (s : Site) (n : ℕ) → IsSiteOf h.blocks s → is_fit 4 (want n) s.block ≡ true → load f (gives h n s).heap.blocks ≡ f n + load f h.blocks
   load_given h s n site fit =
       let new : List Block = carved (size_of s.block) (want n) h.tick n in
       omega (arith, load_site h s site, load_fit (want n) s.block fit, load-append (s.before ++ new) s.after, load-append s.before new, load_carved (size_of s.block) (want n) h.tick n)

@@ -25,6 +25,7 @@ use Rattle.tlsf_laws.proofs.Around.{new_lawful}
 use Rattle.tlsf_laws.proofs.Names.{same_self}
 use Rattle.tlsf_laws.specs.Contents.{Contents, bytes_there, contents, is_same, with_contents, after, after_all, part_of, got, HasWhatIsLive, ChangesOneName, part, WritesIntoContents, ReadsBack, ReadsWhatWasWritten}
 use Rattle.tlsf_laws.proofs.Refits.{by_refit, by_resize, refits}
+use Rattle.tlsf_class.proofs.TwoLevels.{level_4}
 
 abbrev or_else : {X : Type 0} → Option X → Option X → Option X
 or_else None y = y
@@ -210,7 +211,7 @@ at_site : (h : HeapState) (s : Site) (at serial : ℕ) (c : Bool) (new bytes : O
 at_site h s at serial c new bytes site e = subst (λ (l : List Block). new ≡ cond c bytes (look at serial 0 l)) site e
 
 -- what a call changes, where it is done at a site
-pub given_name : (h : HeapState) (len : ℕ) (s : Site) (name : Name) → IsLawful h → IsSiteOf h.blocks s → is_fit (want len) s.block ≡ true
+pub given_name : (h : HeapState) (len : ℕ) (s : Site) (name : Name) → IsLawful h → IsSiteOf h.blocks s → is_fit 4 (want len) s.block ≡ true
     → contents (gives h len s).heap name ≡ with_contents (contents h) (record { heap = h.id; at = place_of s; serial = h.tick }) (Some (replicate len 0)) name
 given_name h len s name lawful site fit =
     changes h (h.tick + 1) (s.before ++ carved (size_of s.block) (want len) h.tick len ++ s.after) (Some (replicate len 0)) (record { heap = h.id; at = place_of s; serial = h.tick }) name refl
@@ -219,7 +220,7 @@ given_name h len s name lawful site fit =
     others : AllByRecursion (λ y. y ≢ h.tick) (serials s.before)
     others = new_front h.tick s.before (s.block ∷ s.after) (subst (λ (l : List Block). AllByRecursion (λ x. x < h.tick) (serials l)) (sym site) lawful.serials_past)
 
-    by_block : (b : Block) → is_fit (want len) b ≡ true
+    by_block : (b : Block) → is_fit 4 (want len) b ≡ true
         → look name.at name.serial 0 (s.before ++ carved (size_of b) (want len) h.tick len ++ s.after)
         ≡ cond (eqb h.tick name.serial && eqb (place_of s) name.at) (Some (replicate len 0)) (look name.at name.serial 0 (s.before ++ b ∷ s.after))
     by_block (Live m t xs) fit = absurd (false≢true fit)
@@ -314,7 +315,7 @@ write_changes h own_name at bytes name lawful = elim (cases_eq own_name.heap h.i
 
 pub change : ChangesOneName
 change h (Allocate len) name lawful =
-    by_allocated (λ o. contents o.heap name ≡ after (contents h) (Allocate len) (Allocated o.answer) name) h len (λ why. refl) (λ s site fit. given_name h len s name lawful site fit)
+    by_allocated 4 (λ o. contents o.heap name ≡ after (contents h) (Allocate len) (Allocated o.answer) name) h len (λ why. refl) (λ s site fit. given_name h len s name lawful site fit)
 change h (Release taken) name lawful =
     by_released (λ o. contents o.heap name ≡ after (contents h) (Release taken) (Released o.answer) name) h taken (λ why. refl) (λ s own site is. taken_name h s taken name lawful own site is)
 change h (Write own_name at bytes) name lawful = write_changes h own_name at bytes name lawful
@@ -361,12 +362,12 @@ all_same f g e [] answers name = e name
 all_same f g e (call ∷ calls) [] name = e name
 all_same f g e (call ∷ calls) (answer ∷ answers) name = all_same (after f call answer) (after g call answer) (after_same f g e call answer) calls answers name
 
-told : (h : HeapState) (calls : List Call) (name : Name) → IsLawful h → contents (run h calls).1 name ≡ after_all (contents h) calls (run h calls).0 name
+told : (h : HeapState) (calls : List Call) (name : Name) → IsLawful h → contents (run 4 h calls).1 name ≡ after_all (contents h) calls (run 4 h calls).0 name
 told h [] name lawful = refl
 told h (call ∷ calls) name lawful =
-    let step = answered h call in
-    told step.1 calls name (lawful_run h (call ∷ []) lawful)
-    ∙ all_same (contents step.1) (after (contents h) call step.0) (λ other. change h call other lawful) calls (run step.1 calls).0 name
+    let step = answered 4 h call in
+    told step.1 calls name (lawful_run 4 level_4 h (call ∷ []) lawful)
+    ∙ all_same (contents step.1) (after (contents h) call step.0) (λ other. change h call other lawful) calls (run 4 step.1 calls).0 name
 
 -- no block has the serial of the tick
 pub fresh : (h : HeapState) (at : ℕ) → IsLawful h → contents h (record { heap = h.id; at = at; serial = h.tick }) ≡ None
@@ -393,14 +394,14 @@ reads h name at n = at_name (eqb name.heap h.id) (named name h.blocks)
 
 -- the bytes under a name, after calls on a new heap
 pub told_new : (id words first : ℕ) (calls : List Call) (name : Name) → 4 ≤ words
-    → let end = run (opened id words first) calls in contents end.1 name ≡ after_all (λ other. None) calls end.0 name
+    → let end = run 4 (opened id words first) calls in contents end.1 name ≡ after_all (λ other. None) calls end.0 name
 told_new id words first calls name four =
     told (opened id words first) calls name (new_lawful id words first four)
-    ∙ all_same (contents (opened id words first)) (λ other. None) (new_empty id words first) calls (run (opened id words first) calls).0 name
+    ∙ all_same (contents (opened id words first)) (λ other. None) (new_empty id words first) calls (run 4 (opened id words first) calls).0 name
 
 pub history : ReadsWhatWasWritten
 history id words first calls name at n four =
-    reads (run (opened id words first) calls).1 name at n ∙ ap (part_of at n) (told_new id words first calls name four)
+    reads (run 4 (opened id words first) calls).1 name at n ∙ ap (part_of at n) (told_new id words first calls name four)
 
 pub live : HasWhatIsLive
 live h name = elim (cases_eq name.heap h.id) [

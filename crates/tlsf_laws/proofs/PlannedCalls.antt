@@ -21,6 +21,7 @@ use Rattle.tlsf_laws.proofs.Ledgers.{Agrees, agrees_call, new_agrees, sum_of, su
 use Rattle.tlsf_laws.proofs.Loads.{load}
 use Rattle.tlsf_laws.proofs.Snug.{snug_kept}
 use Rattle.tlsf_laws.proofs.Tables.{spend, HasKind, has_kind, counted_in, least_words, class_of_kind}
+use Rattle.tlsf_class.proofs.TwoLevels.{level_4}
 
 record InTable (words : ℕ) (h : HeapState) (l : Ledger) : Type 0 where
   lawful : IsLawful h
@@ -38,7 +39,7 @@ enough : (live free words spent kind table lost least : ℕ) → live + free ≡
 enough live free words spent kind table lost least a b c d e = omega (arith, a, b, c, d, e)
 
 module _ (words : ℕ) (kinds : List Kind) (classes : AllByRecursion HasClass kinds) (large : kinds_words kinds ≤ words) where
-  has_room : (h : HeapState) (l : Ledger) (n : ℕ) → InTable words h l → AreOfKinds kinds (n ∷ lengths l) → (allocated h n).answer ≢ Err NoFit
+  has_room : (h : HeapState) (l : Ledger) (n : ℕ) → InTable words h l → AreOfKinds kinds (n ∷ lengths l) → (allocated 4 h n).answer ≢ Err NoFit
   has_room h l n table fit e =
       let has : HasKind kinds n (lengths l) = has_kind kinds n (lengths l) fit in
       let region : want has.kind.len ≤ 2 ^ 20 = class_of_kind kinds has.kind has.of classes in
@@ -50,7 +51,7 @@ module _ (words : ℕ) (kinds : List Kind) (classes : AllByRecursion HasClass ki
       let least : words_with kinds has.kind ≤ words = under _ _ _ (least_words kinds kinds 0 has.kind has.of) large in
       finds_room h n table.lawful (under _ _ _ wanted region) (enough (words_in (live_among h.blocks)) (free_words h) words (sum_of spend (lengths l)) (spend has.kind.len) (table_words kinds) _ _
       (words_apart h.blocks ∙ (table.lawful.whole ∙ table.words_are)) (under _ _ _ (live_spent h.blocks table.snug) (same _ _ (table.agrees.totals spend))) has.left least lost)
-      ((no_fit h n).0 e)
+      ((no_fit 4 h n).0 e)
     where
       wants : (a b : ℕ) → a ≤ b → want a ≤ want b
       wants a b f = omega (arith, f)
@@ -67,25 +68,25 @@ module _ (words : ℕ) (kinds : List Kind) (classes : AllByRecursion HasClass ki
       same : (a b : ℕ) → a ≡ b → a ≤ b
       same a b f = omega (arith, f)
 
-  kept : (h : HeapState) (l : Ledger) (call : Call) → InTable words h l → InTable words (answered h call).1 (ledger_after l call (answered h call).0)
+  kept : (h : HeapState) (l : Ledger) (call : Call) → InTable words h l → InTable words (answered 4 h call).1 (ledger_after l call (answered 4 h call).0)
   kept h l call table = record {
-    lawful = lawful_run h (call ∷ []) table.lawful;
+    lawful = lawful_run 4 level_4 h (call ∷ []) table.lawful;
     words_are = words_kept h call ∙ table.words_are;
     snug = snug_kept h call table.snug;
     agrees = agrees_call h call l table.agrees table.lawful;
   }
 
-  not_refused : (h : HeapState) (l : Ledger) (call : Call) → InTable words h l → IsPlanned kinds l call → HasRoomFor (answered h call).0
-  not_refused h l (Allocate n) table planned = λ e. let same : (allocated h n).answer ≡ Err NoFit = cc in has_room h l n table planned same
+  not_refused : (h : HeapState) (l : Ledger) (call : Call) → InTable words h l → IsPlanned kinds l call → HasRoomFor (answered 4 h call).0
+  not_refused h l (Allocate n) table planned = λ e. let same : (allocated 4 h n).answer ≡ Err NoFit = cc in has_room h l n table planned same
   not_refused h l (Release name) table planned = λ e. cc
   not_refused h l (Write name at bytes) table planned = λ e. cc
   not_refused h l (Resize name n) table planned = λ e. cc
   not_refused h l (Read name at n) table planned = λ e. cc
 
-  none_refused : (h : HeapState) (l : Ledger) (calls : List Call) → InTable words h l → ArePlanned kinds l calls (run h calls).0 → AllByRecursion HasRoomFor (run h calls).0
+  none_refused : (h : HeapState) (l : Ledger) (calls : List Call) → InTable words h l → ArePlanned kinds l calls (run 4 h calls).0 → AllByRecursion HasRoomFor (run 4 h calls).0
   none_refused h l [] table planned = tt
   none_refused h l (call ∷ calls) table planned =
-      (not_refused h l call table planned.0, none_refused (answered h call).1 (ledger_after l call (answered h call).0) calls (kept h l call table) planned.1)
+      (not_refused h l call table planned.0, none_refused (answered 4 h call).1 (ledger_after l call (answered 4 h call).0) calls (kept h l call table) planned.1)
 
 pub kinds_suffice : KindsSuffice
 kinds_suffice id words first kinds calls region classes large planned =

@@ -18,6 +18,7 @@ use Rattle.tlsf_heap.proofs.Served.{no_fit}
 use Rattle.tlsf_laws.proofs.FreeRoom.{finds_room}
 use Rattle.tlsf_laws.proofs.Around.{around_site, past_all, before_all, new_lawful, words_run}
 use Rattle.tlsf_laws.proofs.Refits.{by_refit, by_resize, fitted_count}
+use Rattle.tlsf_class.proofs.TwoLevels.{level_4}
 
 snug_carved : (size tick len : ℕ) → AllByRecursion IsSnug (carved size (want len) tick len)
 snug_carved size tick len =
@@ -38,8 +39,8 @@ snug_refitted tick len serial (Live m s xs) bs e all =
     let past = past_all IsSnug bs all in
     by_refit (AllByRecursion IsSnug) tick (want len) len m s xs bs (λ enough few. (rw many (omega arith), all)) (λ large. (rw many (omega arith), (tt, past))) (λ small. (rw many (omega arith), past))
 
-pub snug_kept : (h : HeapState) (call : Call) → AllByRecursion IsSnug h.blocks → AllByRecursion IsSnug (answered h call).1.blocks
-snug_kept h (Allocate n) all = by_allocated (λ o. AllByRecursion IsSnug o.heap.blocks) h n (λ why. all) (λ s site fit.
+pub snug_kept : (h : HeapState) (call : Call) → AllByRecursion IsSnug h.blocks → AllByRecursion IsSnug (answered 4 h call).1.blocks
+snug_kept h (Allocate n) all = by_allocated 4 (λ o. AllByRecursion IsSnug o.heap.blocks) h n (λ why. all) (λ s site fit.
     let a = around_site IsSnug h s site all in
     all_append IsSnug (s.before ++ carved (size_of s.block) (want n) h.tick n) s.after (all_append IsSnug s.before _ a.0 (snug_carved (size_of s.block) h.tick n)) a.2)
 snug_kept h (Release name) all = by_released (λ o. AllByRecursion IsSnug o.heap.blocks) h name (λ why. all) (λ s own site is.
@@ -53,9 +54,9 @@ snug_kept h (Resize name len) all = by_resize (λ o. AllByRecursion IsSnug o.hea
     all_append IsSnug s.before _ a.0 (snug_refitted h.tick len name.serial s.block s.after (and_left _ _ is) a.2))
 snug_kept h (Read name at n) all = all
 
-snug_run : (h : HeapState) (calls : List Call) → AllByRecursion IsSnug h.blocks → AllByRecursion IsSnug (run h calls).1.blocks
+snug_run : (h : HeapState) (calls : List Call) → AllByRecursion IsSnug h.blocks → AllByRecursion IsSnug (run 4 h calls).1.blocks
 snug_run h [] all = all
-snug_run h (call ∷ calls) all = snug_run (answered h call).1 calls (snug_kept h call all)
+snug_run h (call ∷ calls) all = snug_run (answered 4 h call).1 calls (snug_kept h call all)
 
 pub snug : BlocksAreSnug
 snug id words first calls four = snug_run (opened id words first) calls (tt, tt)
@@ -67,7 +68,7 @@ live_wanted (Free m s ∷ bs) all = live_wanted bs all.1
 
 pub sum_suffices : SumSuffices
 sum_suffices id words first len calls four region enough none =
-    let h : HeapState = (run (opened id words first) calls).1 in
-    let lawful : IsLawful h = lawful_run (opened id words first) calls (new_lawful id words first four) in
+    let h : HeapState = (run 4 (opened id words first) calls).1 in
+    let lawful : IsLawful h = lawful_run 4 level_4 (opened id words first) calls (new_lawful id words first four) in
     let live = live_wanted h.blocks (snug id words first calls four) in
-    finds_room h len lawful region (omega (arith, enough, live, words_apart h.blocks, lawful.whole, words_run (opened id words first) calls)) ((no_fit h len).0 none)
+    finds_room h len lawful region (omega (arith, enough, live, words_apart h.blocks, lawful.whole, words_run (opened id words first) calls)) ((no_fit 4 h len).0 none)

@@ -16,6 +16,7 @@ use Rattle.tlsf_laws.specs.Places.{Spans, ShareNoWord, StayInside, NothingLeaks}
 use Rattle.tlsf_laws.proofs.Around.{new_lawful, words_run}
 use Rattle.tlsf_laws.proofs.Held.{holds}
 use Rattle.tlsf_laws.proofs.Names.{same_name}
+use Rattle.tlsf_class.proofs.TwoLevels.{level_4}
 
 alone : (bs : List Block) → AreApart bs → live_among bs ≡ [] → 0 < words_in bs → (stamp : ℕ) × (bs ≡ Free (words_in bs) stamp ∷ [])
 alone [] a e h = absurd (omega arith)
@@ -29,8 +30,8 @@ whole h lawful some none = let is = alone h.blocks lawful.apart none (omega (ari
 
 pub no_leak : NothingLeaks
 no_leak id words first calls four none =
-    let end : HeapState = (run (opened id words first) calls).1 in
-    let lawful : IsLawful end = lawful_run (opened id words first) calls (new_lawful id words first four) in
+    let end : HeapState = (run 4 (opened id words first) calls).1 in
+    let lawful : IsLawful end = lawful_run 4 level_4 (opened id words first) calls (new_lawful id words first four) in
     let count : length (live_among end.blocks) ≡ 0 = holds id words first calls four ∙ none in
     let words_same : end.words ≡ words = words_run (opened id words first) calls in
     let is = whole end lawful (omega (arith, words_same, four)) (empty (live_among end.blocks) count) in

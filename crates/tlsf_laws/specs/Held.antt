@@ -18,4 +18,4 @@ held_after_all held (call ∷ calls) (answer ∷ answers) = held_after_all (held
 -- as many blocks are live as are held: the accepted allocates less the accepted releases
 abbrev pub HoldsWhatIsLive : Type 0
 HoldsWhatIsLive = (id words first : ℕ) (calls : List Call) → 4 ≤ words
-    → let end = run (opened id words first) calls in live_count end.1 ≡ held_after_all 0 calls end.0
+    → let end = run 4 (opened id words first) calls in live_count end.1 ≡ held_after_all 0 calls end.0

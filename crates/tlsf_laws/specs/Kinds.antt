@@ -78,8 +78,8 @@ HasClass kind = want kind.len ≤ 2 ^ 20
 
 -- a program whose requests fit the table is never answered NoFit in a region of kinds_words
 abbrev pub KindsSuffice : Type 0
-KindsSuffice = (id words first : ℕ) (kinds : List Kind) (calls : List Call) → IsRegion words → AllByRecursion HasClass kinds → kinds_words kinds ≤ words
-    → let answers = (run (opened id words first) calls).0 in ArePlanned kinds [] calls answers → AllByRecursion HasRoomFor answers
+KindsSuffice = (id words first : ℕ) (kinds : List Kind) (calls : List Call) → IsRegion 4 words → AllByRecursion HasClass kinds → kinds_words kinds ≤ words
+    → let answers = (run 4 (opened id words first) calls).0 in ArePlanned kinds [] calls answers → AllByRecursion HasRoomFor answers
 
 -- a table of one kind asks for the words of a pool
 abbrev pub OneKindIsAPool : Type 0
@@ -88,4 +88,4 @@ OneKindIsAPool = (kind : Kind) → kinds_words (kind ∷ []) ≡ pool_words kind
 -- as many blocks are live as the ledger has entries
 abbrev pub LedgerHoldsWhatIsLive : Type 0
 LedgerHoldsWhatIsLive = (id words first : ℕ) (calls : List Call) → 4 ≤ words
-    → let end = run (opened id words first) calls in live_count end.1 ≡ length (ledger_after_all [] calls end.0)
+    → let end = run 4 (opened id words first) calls in live_count end.1 ≡ length (ledger_after_all [] calls end.0)

@@ -30,4 +30,4 @@ WholeAgain = (h : HeapState) → IsLawful h → 0 < h.words → live_among h.blo
 -- whatever a program did, once it released all that it was given, the region is one free block again
 abbrev pub NothingLeaks : Type 0
 NothingLeaks = (id words first : ℕ) (calls : List Call) → 4 ≤ words
-    → let end = run (opened id words first) calls in held_after_all 0 calls end.0 ≡ 0 → (stamp : ℕ) × (end.1.blocks ≡ Free words stamp ∷ [])
+    → let end = run 4 (opened id words first) calls in held_after_all 0 calls end.0 ≡ 0 → (stamp : ℕ) × (end.1.blocks ≡ Free words stamp ∷ [])

@@ -41,8 +41,8 @@ HasRoomFor answer = answer ≢ Allocated (Err NoFit)
 
 -- a program that never holds more than `most` blocks, of at most `len` bytes each, is never answered NoFit in a region of pool_words
 abbrev pub PoolSuffices : Type 0
-PoolSuffices = (id words first most len : ℕ) (calls : List Call) → IsRegion words → want len ≤ 2 ^ 20 → pool_words most len ≤ words
-    → let answers = (run (opened id words first) calls).0 in AreModest most len 0 calls answers → AllByRecursion HasRoomFor answers
+PoolSuffices = (id words first most len : ℕ) (calls : List Call) → IsRegion 4 words → want len ≤ 2 ^ 20 → pool_words most len ≤ words
+    → let answers = (run 4 (opened id words first) calls).0 in AreModest most len 0 calls answers → AllByRecursion HasRoomFor answers
 
 -- no request is refused
 abbrev pub IsServed : Answer → Type 0
@@ -55,13 +55,13 @@ IsServed (Got result) = ⊤
 
 -- and each of its requests is served, while the ticks last
 abbrev pub PoolServes : Type 0
-PoolServes = (id words first most len : ℕ) (calls : List Call) → IsRegion words → want len ≤ 2 ^ 20 → pool_words most len ≤ words
-    → let answers = (run (opened id words first) calls).0 in AreModest most len 0 calls answers → first + length calls < last_tick
+PoolServes = (id words first most len : ℕ) (calls : List Call) → IsRegion 4 words → want len ≤ 2 ^ 20 → pool_words most len ≤ words
+    → let answers = (run 4 (opened id words first) calls).0 in AreModest most len 0 calls answers → first + length calls < last_tick
     → AllByRecursion IsServed answers
 
 -- for one block no smaller region would do
 abbrev pub OneBlockIsTight : Type 0
-OneBlockIsTight = (id words first len : ℕ) → want len ≤ 2 ^ 20 → words < pool_words 1 len → (allocated (opened id words first) len).answer ≡ Err NoFit
+OneBlockIsTight = (id words first len : ℕ) → want len ≤ 2 ^ 20 → words < pool_words 1 len → (allocated 4 (opened id words first) len).answer ≡ Err NoFit
 
 -- 13,631 words are room for 100 blocks of up to 512 bytes
 abbrev pub HundredBlocks : Type 0

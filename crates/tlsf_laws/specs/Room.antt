@@ -20,17 +20,17 @@ free_words h = words_in (free_among h.blocks)
 
 -- each free block of at least so many words serves a request of n words: the least size of its search class
 abbrev pub sure : ℕ → ℕ
-sure n = option_map_or low (search_of n) 0
+sure n = option_map_or (low 4) (search_of 4 n) 0
 
 -- a request finds room where more words are free than fit into blocks too small for it, one before each live block and one behind the last
 abbrev pub FindsRoom : Type 0
 FindsRoom = (h : HeapState) (len : ℕ) → IsLawful h → want len ≤ 2 ^ 20 → (live_count h + 1) * (sure (want len) - 1) < free_words h
-    → ¬ (fits (want len) h.blocks ≡ [])
+    → ¬ (fits 4 (want len) h.blocks ≡ [])
 
 -- no fewer free words would do, however many blocks are live: with just so many, a lawful heap may have room for no such request
 abbrev pub RoomIsTight : Type 0
 RoomIsTight = (live len : ℕ) → want len ≤ 2 ^ 20 → 4 < sure (want len)
-    → (h : HeapState) × IsLawful h × (live_count h ≡ live) × (free_words h ≡ (live + 1) * (sure (want len) - 1)) × (fits (want len) h.blocks ≡ [])
+    → (h : HeapState) × IsLawful h × (live_count h ≡ live) × (free_words h ≡ (live + 1) * (sure (want len) - 1)) × (fits 4 (want len) h.blocks ≡ [])
 
 -- a live block has at most three words more than were wanted
 abbrev pub IsSnug : Block → Type 0
@@ -39,7 +39,7 @@ IsSnug (Free size stamp) = ⊤
 
 -- after any calls on a new heap each live block is so: a rest of four words or more is split off
 abbrev pub BlocksAreSnug : Type 0
-BlocksAreSnug = (id words first : ℕ) (calls : List Call) → 4 ≤ words → AllByRecursion IsSnug (run (opened id words first) calls).1.blocks
+BlocksAreSnug = (id words first : ℕ) (calls : List Call) → 4 ≤ words → AllByRecursion IsSnug (run 4 (opened id words first) calls).1.blocks
 
 -- the words that were wanted for the live blocks
 abbrev pub wanted_words : List Block → ℕ
@@ -50,5 +50,5 @@ wanted_words (Free size stamp ∷ blocks) = wanted_words blocks
 -- after any calls on a new heap, a request finds room by what the live blocks were asked for, and by how many they are
 abbrev pub SumSuffices : Type 0
 SumSuffices = (id words first len : ℕ) (calls : List Call) → 4 ≤ words → want len ≤ 2 ^ 20
-    → let h = (run (opened id words first) calls).1 in wanted_words h.blocks + 3 * live_count h + (live_count h + 1) * (sure (want len) - 1) < words
-    → (allocated h len).answer ≢ Err NoFit
+    → let h = (run 4 (opened id words first) calls).1 in wanted_words h.blocks + 3 * live_count h + (live_count h + 1) * (sure (want len) - 1) < words
+    → (allocated 4 h len).answer ≢ Err NoFit

@@ -19,7 +19,7 @@ use tlsf_heap::{Heap, Name, OpenFault, PlacedBlock, Refusal, Report};
 /// returns. Both together stay below the heap's tick, so neither number overflows.
 #[derive(Drop)]
 pub struct Counted {
-    heap: Heap,
+    heap: Heap<4>,
     grants: u64,
     returns: u64,
 }
@@ -39,8 +39,8 @@ impl Counted {
     pub(crate) fn open(alloc: Global, id: u32, words: u32, first: u64) -> Result<Counted, OpenFault>
         ensures heap { IfOk result (λ c. c.heap ≡ opened id words first) }
         ensures none { IfOk result (λ c. (c.grants ≡ 0) × (c.returns ≡ 0)) }
-        ensures bad_size { IsErrOf result OpenFault.BadSize ↔ ¬ (IsRegion words) }
-        ensures worn { IsRegion words → (IsErrOf result OpenFault.Worn ↔ (first ≡ last_tick)) }
+        ensures bad_size { IsErrOf result OpenFault.BadSize ↔ ¬ (IsRegion 4 words) }
+        ensures worn { IsRegion 4 words → (IsErrOf result OpenFault.Worn ↔ (first ≡ last_tick)) }
     {
         let heap = Heap::open(alloc, id, words, first)?;
         Ok(Counted {
@@ -62,13 +62,13 @@ impl Counted {
     /// assert_eq!(guard.allocate(0), Err(Refusal::NoFit)); // nothing is free: counted as no grant
     /// ```
     pub fn allocate(&mut self, len: u32) -> Result<Name, Refusal>
-        ensures answer { result ≡ (allocated self.old.heap len).answer }
-        ensures heap { self.new.heap ≡ (allocated self.old.heap len).heap }
+        ensures answer { result ≡ (allocated 4 self.old.heap len).answer }
+        ensures heap { self.new.heap ≡ (allocated 4 self.old.heap len).heap }
         ensures counts { AreCounts self.old self.new (accepted result) 0 }
 
         // What that comes to: when it is NoFit, when it is a name, and that a refusal changes neither heap nor counts.
-        ensures no_fit { IsErrOf result Refusal.NoFit ↔ (fits (Blocks.want len) self.old.heap.blocks ≡ []) }
-        ensures ok { IsOk result ↔ (¬ (fits (Blocks.want len) self.old.heap.blocks ≡ []) × ¬ (self.old.heap.tick ≡ last_tick)) }
+        ensures no_fit { IsErrOf result Refusal.NoFit ↔ (fits 4 (Blocks.want len) self.old.heap.blocks ≡ []) }
+        ensures ok { IsOk result ↔ (¬ (fits 4 (Blocks.want len) self.old.heap.blocks ≡ []) × ¬ (self.old.heap.tick ≡ last_tick)) }
         ensures err { OnErr result (SameCount self.old self.new) }
         ensures was_counted { IsCounted self.old }
         ensures counted { IsCounted self.new }
@@ -197,10 +197,10 @@ impl Counted {
     /// assert_eq!((report.live_blocks, report.free_words), (0, 1024));
     /// ```
     pub fn report(&mut self) -> Report
-        ensures report { result ≡ report_of self.old.heap }
+        ensures report { result ≡ report_of 4 self.old.heap }
 
         // What the grant comes to: no request for more is served, and one for so much is, unless nothing is free.
-        ensures grant { IsGrant self.old.heap.blocks result.grant }
+        ensures grant { IsGrant 4 self.old.heap.blocks result.grant }
         ensures same { SameCount self.old self.new }
         ensures was_counted { IsCounted self.old }
         ensures touches { self.new.touches ≤ self.old.touches + 3 * self.old.heap.words }

@@ -26,8 +26,8 @@ impl LockedHeap {
     /// assert_eq!(LockedHeap::new(alloc, 0, 3, 0).err(), Some(OpenFault::BadSize));
     /// ```
     pub fn new(alloc: Global, id: u32, words: u32, first: u64) -> Result<LockedHeap, OpenFault>
-        ensures bad_size { IsErrOf result OpenFault.BadSize ↔ ¬ (IsRegion words) }
-        ensures worn { IsRegion words → (IsErrOf result OpenFault.Worn ↔ (first ≡ last_tick)) }
+        ensures bad_size { IsErrOf result OpenFault.BadSize ↔ ¬ (IsRegion 4 words) }
+        ensures worn { IsRegion 4 words → (IsErrOf result OpenFault.Worn ↔ (first ≡ last_tick)) }
     {
         let counted = Counted::open(alloc, id, words, first)?;
         Ok(LockedHeap {

@@ -20,7 +20,7 @@ use Rattle.tlsf_lines.specs.declared.trace_fault.TraceFault.{TraceFault}
 pub record IsMapBy (known : ℕ → Option ℕ) (heap : HeapState) (mapped : MappedHeap) : Type 0 where
   pub id : mapped.id ≡ heap.id
   pub tick : mapped.tick ≡ heap.tick
-  pub report : mapped.report ≡ report_of heap
+  pub report : mapped.report ≡ report_of 4 heap
   pub blocks : mapped.blocks.items ≡ map (labelled known) (placed_blocks heap.blocks)
 
 -- the map of a heap, by what each event made and the label of each

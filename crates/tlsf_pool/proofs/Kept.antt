@@ -27,13 +27,13 @@ enough : (p : PoolState) → IsPool p → pool_words p.most p.longest ≤ p.heap
 enough p is = omega (arith, is.words)
 
 -- a request within the bounds finds room
-pub room : (p : PoolState) (len : ℕ) → IsPool p → len ≤ p.longest → p.held < p.most → (allocated p.heap len).answer ≢ Err NoFit
+pub room : (p : PoolState) (len : ℕ) → IsPool p → len ≤ p.longest → p.held < p.most → (allocated 4 p.heap len).answer ≢ Err NoFit
 room p len is short few = has_room p.heap.words p.most p.longest is.class (enough p is) p.heap len (in_pool p is) short (omega (arith, is.live, few))
 
 -- after a call within the bounds, with so many blocks held
 after : (p : PoolState) (call : Call) (held touches : ℕ) → IsPool p → IsModest p.most p.longest (live_count p.heap) call
-    → held_after (live_count p.heap) call (answered p.heap call).0 ≡ held → held ≤ p.most
-    → IsPool (record { heap = (answered p.heap call).1; most = p.most; longest = p.longest; held = held; touches = touches })
+    → held_after (live_count p.heap) call (answered 4 p.heap call).0 ≡ held → held ≤ p.most
+    → IsPool (record { heap = (answered 4 p.heap call).1; most = p.most; longest = p.longest; held = held; touches = touches })
 after p call held touches is modest counts few =
     let left = kept p.heap.words p.most p.longest is.class (enough p is) p.heap call (in_pool p is) modest in record {
       lawful = left.lawful;
@@ -50,10 +50,10 @@ on p h left held touches same is =
     subst (λ (x : HeapState). IsPool (record { heap = x; most = p.most; longest = p.longest; held = held; touches = touches })) (sym same) is
 
 -- after an allocate that gave a name
-pub given_pool : (p : PoolState) (len : ℕ) (name : Name) (left : HeapState) (touches : ℕ) → IsPool p → len ≤ p.longest → p.held < p.most → Ok name ≡ (allocated p.heap len).answer → left ≡ (allocated p.heap len).heap
+pub given_pool : (p : PoolState) (len : ℕ) (name : Name) (left : HeapState) (touches : ℕ) → IsPool p → len ≤ p.longest → p.held < p.most → Ok name ≡ (allocated 4 p.heap len).answer → left ≡ (allocated 4 p.heap len).heap
     → IsPool (record { heap = left; most = p.most; longest = p.longest; held = p.held + 1; touches = touches })
 given_pool p len name left touches is short few answer heap =
-    on p (allocated p.heap len).heap left (p.held + 1) touches heap
+    on p (allocated 4 p.heap len).heap left (p.held + 1) touches heap
     (after p (Allocate len) (p.held + 1) touches is (short, omega (arith, is.live, few))
     (ap (λ (r : Result Name Refusal). held_after (live_count p.heap) (Allocate len) (Allocated r)) (sym answer) ∙ ap (λ (n : ℕ). n + 1) is.live) (omega (arith, few)))
 
@@ -87,8 +87,8 @@ given_small k name h small = at (named name h.blocks) refl
         omega (arith, size)
 
 -- a heap that refuses within the bounds is at its last tick
-pub worn : (p q : PoolState) (len : ℕ) → q ≡ p → IsPool p → ((¬ (fits (want len) p.heap.blocks ≡ []) × ¬ (p.heap.tick ≡ last_tick)) → false ≡ true)
+pub worn : (p q : PoolState) (len : ℕ) → q ≡ p → IsPool p → ((¬ (fits 4 (want len) p.heap.blocks ≡ []) × ¬ (p.heap.tick ≡ last_tick)) → false ≡ true)
     → ((len ≤ q.longest) × (q.held < q.most) × ¬ (q.heap.tick ≡ last_tick)) → false ≡ true
 worn p q len same is refused =
     subst (λ (x : PoolState). ((len ≤ x.longest) × (x.held < x.most) × ¬ (x.heap.tick ≡ last_tick)) → false ≡ true) (sym same)
-    (λ h. refused (λ empty. room p len is h.0 h.1 ((no_fit p.heap len).1 empty), h.2))
+    (λ h. refused (λ empty. room p len is h.0 h.1 ((no_fit 4 p.heap len).1 empty), h.2))

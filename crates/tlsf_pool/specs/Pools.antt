@@ -17,7 +17,7 @@ pub record PoolState : Type 0 where
 
 -- some class has blocks for a request of the longest length, and a region may have the words of the pool
 abbrev pub HasRegion : ℕ → ℕ → Type 0
-HasRegion most longest = (want longest ≤ 2 ^ 20) × IsRegion (pool_words most longest)
+HasRegion most longest = (want longest ≤ 2 ^ 20) × IsRegion 4 (pool_words most longest)
 
 -- the heap is lawful and has the words of the pool; as many blocks are live as are held, no more than may be, and none is longer
 -- than the longest request wants and three words more

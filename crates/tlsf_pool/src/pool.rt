@@ -18,7 +18,7 @@ use tlsf_laws::Kind;
 /// words of 8 bytes, lengths in bytes.
 #[derive(Drop)]
 pub struct Pool {
-    heap: Heap,
+    heap: Heap<4>,
     most: u32,
     longest: u32,
     held: u32,
@@ -95,11 +95,11 @@ impl Pool {
         // The refusals, in their order: there is none for want of room, since the heap has none.
         ensures too_long { IsErrOf result PoolRefusal.TooLong ↔ (self.old.longest < len) }
         ensures full { IsErrOf result PoolRefusal.Full ↔ ((len ≤ self.old.longest) × (self.old.held ≡ self.old.most)) }
-        ensures room { len ≤ self.old.longest → self.old.held < self.old.most → (allocated self.old.heap len).answer ≢ Err Refusal.NoFit }
+        ensures room { len ≤ self.old.longest → self.old.held < self.old.most → (allocated 4 self.old.heap len).answer ≢ Err Refusal.NoFit }
 
         // An accepted request is the heap's, and one block more is held. A refusal changes nothing.
-        ensures answer { IfOk result (λ name. (allocated self.old.heap len).answer ≡ Ok name) }
-        ensures heap { OnOk result (self.new.heap ≡ (allocated self.old.heap len).heap) }
+        ensures answer { IfOk result (λ name. (allocated 4 self.old.heap len).answer ≡ Ok name) }
+        ensures heap { OnOk result (self.new.heap ≡ (allocated 4 self.old.heap len).heap) }
         ensures held { OnOk result (self.new.held ≡ self.old.held + 1) }
         ensures err { OnErr result (SamePool self.old self.new) }
         ensures bounds { SameBounds self.old self.new }

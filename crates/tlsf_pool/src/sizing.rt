@@ -30,7 +30,7 @@ pub(crate) fn sure(words: u32) -> u32
     ensures least { words ≤ result }
     ensures most { result ≤ 2 ^ 20 }
 {
-    low(search_of(words))
+    low(search_of::<4>(words))
 }
 
 /// How many blocks a table of kinds has, and the words that they take, at most.

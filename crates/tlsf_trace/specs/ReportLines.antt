@@ -27,7 +27,7 @@ report_line heap report = codes "heap " ++ decimal heap ++ live_part report ++ f
 -- the lines of heaps, from this number on
 abbrev pub report_text_from : ℕ → List HeapState → List ℕ
 report_text_from number [] = []
-report_text_from number (heap ∷ heaps) = report_line number (report_of heap) ++ report_text_from (number + 1) heaps
+report_text_from number (heap ∷ heaps) = report_line number (report_of 4 heap) ++ report_text_from (number + 1) heaps
 
 abbrev pub report_text : List HeapState → List ℕ
 report_text heaps = report_text_from 0 heaps

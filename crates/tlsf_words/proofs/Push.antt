@@ -4,7 +4,7 @@ use Rattle.std.specs.List.{Contains}
 use Rattle.std.proofs.lemmas.Bool.{cases_eq}
 use Rattle.std.proofs.lemmas.List.{length-set}
 use Rattle.std.proofs.lemmas.List.FromFn.{length-range_with_len, get_or-range_with_len}
-use Rattle.tlsf_class.specs.Classes.{classes}
+use Rattle.tlsf_class.specs.Classes.{IsLevel, last_class, classes}
 use Rattle.tlsf_class.specs.Members.{with_member}
 use Rattle.tlsf_words.specs.Fields.{low_half, links_word}
 use Rattle.tlsf_words.specs.Lists.{nowhere, list_of, first_of, LinkedFrom, AreDistinct, listed_classes, IsUnlisted, OnlyLinksChange, AreThreaded}
@@ -47,7 +47,7 @@ IsAtHead-more w u v at next inside next_inside apart some is then =
     }
 
 -- then the places are linked
-linked-at_head : (w v : List ℕ) (at : ℕ) (places : List ℕ) → length w ≤ 2 ^ 20 → length v ≡ length w → at + 2 < length w → IsAtHead w v at (first_of places) → AreDistinct (at ∷ places) → LinkedFrom w nowhere places → LinkedFrom v nowhere (at ∷ places)
+linked-at_head : (w v : List ℕ) (at : ℕ) (places : List ℕ) → length w ≤ 2 ^ 24 → length v ≡ length w → at + 2 < length w → IsAtHead w v at (first_of places) → AreDistinct (at ∷ places) → LinkedFrom w nowhere places → LinkedFrom v nowhere (at ∷ places)
 linked-at_head w v at [] small long inside is_head distinct linked = (is_head.here, omega (arith, inside, long), tt)
 linked-at_head w v at (p ∷ places) small long inside is_head distinct linked = (
   is_head.here,
@@ -60,14 +60,14 @@ linked-at_head w v at (p ∷ places) small long inside is_head distinct linked =
 )
 
 -- the classes in use
-pub class_in_use : (class : ℕ) → 4 ≤ class → class ≤ 272 → Contains classes class
+pub class_in_use : (sli : ℕ) → IsLevel sli → (class : ℕ) → 4 ≤ class → class ≤ last_class sli → Contains (classes sli) class
 unfolding classes
-class_in_use class least most = (class - 4, omega (arith, length-range_with_len 4 269), get_or-range_with_len 4 269 (class - 4) class (omega arith) ∙ omega arith)
+class_in_use sli level class least most = (class - 4, omega (arith, length-range_with_len 4 (last_class sli - 3)), get_or-range_with_len 4 (last_class sli - 3) (class - 4) class (omega arith) ∙ omega arith)
 
 -- a place where a list begins is inside
-pub next_within : (heads members w : List ℕ) (class next : ℕ) → AreThreaded heads members w → next ≡ get_or heads class nowhere → next ≢ nowhere → next + 2 < length w
-next_within heads members w class next t e some =
-    let within = listed_within heads members w t class (get_or heads class nowhere) (head_listed heads w class (λ f. some (e ∙ f))) in
+pub next_within : (sli : ℕ) → (heads members w : List ℕ) (class next : ℕ) → AreThreaded sli heads members w → next ≡ get_or heads class nowhere → next ≢ nowhere → next + 2 < length w
+next_within sli heads members w class next t e some =
+    let within = listed_within sli heads members w t class (get_or heads class nowhere) (head_listed heads w class (λ f. some (e ∙ f))) in
     omega (arith, e, within)
 
 -- and differs from one that is in no list
@@ -76,19 +76,20 @@ next_apart heads w class at next unlisted e some same =
     unlisted class (subst (Contains (list_of heads w class)) (sym (same ∙ e)) (head_listed heads w class (λ f. some (e ∙ f))))
 
 -- what a push writes
-pub record PushWrites (heads members w : List ℕ) (class at : ℕ) (new_heads new_members v : List ℕ) : Type 0 where
-  pub small : length w ≤ 2 ^ 20
+pub record PushWrites (sli : ℕ) (heads members w : List ℕ) (class at : ℕ) (new_heads new_members v : List ℕ) : Type 0 where
+  pub level : IsLevel sli
+  pub small : length w ≤ 2 ^ 24
   pub inside : at + 2 < length w
   pub unlisted : IsUnlisted (list_of heads w) at
-  pub in_use : Contains classes class
+  pub in_use : Contains (classes sli) class
   pub long : length v ≡ length w
   pub at_head : IsAtHead w v at (get_or heads class nowhere)
   pub head : get_or new_heads class nowhere ≡ at
   pub heads_kept : (c : ℕ) → c ≢ class → get_or new_heads c nowhere ≡ get_or heads c nowhere
-  pub was_empty : get_or heads class nowhere ≡ nowhere → new_members ≡ with_member members class
+  pub was_empty : get_or heads class nowhere ≡ nowhere → new_members ≡ with_member sli members class
   pub was_some : get_or heads class nowhere ≢ nowhere → new_members ≡ members
 
-module _ (heads members w : List ℕ) (class at : ℕ) (new_heads new_members v : List ℕ) (t : AreThreaded heads members w) (p : PushWrites heads members w class at new_heads new_members v) where
+module _ (sli : ℕ) (heads members w : List ℕ) (class at : ℕ) (new_heads new_members v : List ℕ) (t : AreThreaded sli heads members w) (p : PushWrites sli heads members w class at new_heads new_members v) where
   abbrev old : List ℕ
   old = list_of heads w class
 
@@ -98,10 +99,10 @@ module _ (heads members w : List ℕ) (class at : ℕ) (new_heads new_members v 
   distinct : AreDistinct (at ∷ old)
   distinct = (all_from_members (λ y. at ≢ y) old (λ y m e. p.unlisted class (subst (Contains old) (sym e) m)), t.distinct class)
 
-  marked : new_members ≡ listed_classes (with_list (list_of heads w) class (at ∷ old))
+  marked : new_members ≡ listed_classes sli (with_list (list_of heads w) class (at ∷ old))
   marked = elim (cases_eq (get_or heads class nowhere) nowhere) [
-    | inl none ↦ p.was_empty none ∙ ap (λ (ms : List ℕ). with_member ms class) t.marked ∙ listed-with (list_of heads w) class (at ∷ old) (some-cons at old)
-    | inr some ↦ p.was_some some ∙ t.marked ∙ listed-same (list_of heads w) class (at ∷ old) (some-first old (λ e. some (head-list_of heads w class ∙ e))) (some-cons at old)
+    | inl none ↦ p.was_empty none ∙ ap (λ (ms : List ℕ). with_member sli ms class) t.marked ∙ listed-with sli (list_of heads w) class (at ∷ old) p.level (some-cons at old)
+    | inr some ↦ p.was_some some ∙ t.marked ∙ listed-same sli (list_of heads w) class (at ∷ old) (some-first old (λ e. some (head-list_of heads w class ∙ e))) (some-cons at old)
   ]
 
   -- no place of another list is the head or the one behind it
@@ -111,7 +112,7 @@ module _ (heads members w : List ℕ) (class at : ℕ) (new_heads new_members v 
       (λ some e. let same : first_of old ≡ q = omega (arith, e) in n (t.apart c class q m (subst (Contains old) same (first_member old some))))
 
   -- the list of its class is a new one, and no other is
-  pub new_list : NewList heads members w class (at ∷ old) new_heads new_members v
+  pub new_list : NewList sli heads members w class (at ∷ old) new_heads new_members v
   new_list = record {
     small = p.small;
     long = p.long;
@@ -129,16 +130,16 @@ module _ (heads members w : List ℕ) (class at : ℕ) (new_heads new_members v 
   }
 
   -- so the lists are threaded
-  pub push-threaded : AreThreaded new_heads new_members v
-  push-threaded = NewList-threaded heads members w class (at ∷ old) new_heads new_members v t new_list
+  pub push-threaded : AreThreaded sli new_heads new_members v
+  push-threaded = NewList-threaded sli heads members w class (at ∷ old) new_heads new_members v t new_list
 
   -- that list has the place at its head
   pub push-list : list_of new_heads v class ≡ at ∷ old
-  push-list = NewList-list heads members w class (at ∷ old) new_heads new_members v t new_list
+  push-list = NewList-list sli heads members w class (at ∷ old) new_heads new_members v t new_list
 
   -- the other lists stay
   pub push-others : (c : ℕ) → c ≢ class → list_of new_heads v c ≡ list_of heads w c
-  push-others = NewList-others heads members w class (at ∷ old) new_heads new_members v t new_list
+  push-others = NewList-others sli heads members w class (at ∷ old) new_heads new_members v t new_list
 
   listed : (q : ℕ) → Contains (at ∷ old) q → Contains (list_of new_heads v class) q
   listed q m = subst (λ (ps : List ℕ). Contains ps q) (sym push-list) m

@@ -12,7 +12,7 @@ use Rattle.tlsf_words.proofs.ListedClasses.{are_some, some-member, none-first, l
 use Rattle.tlsf_words.proofs.PlaceLists.{last_of, Split, split_member, member_here, first_member, last_member, all_member, all_weaker, all_right, all_last, distinct_without, without_split, without_within}
 use Rattle.tlsf_words.proofs.Threads.{head-list_of, first_small, listed_within, with_list, NewList, NewList-list, NewList-others, NewList-threaded}
 
-module _ (w v : List ℕ) (small : length w ≤ 2 ^ 20) (long : length v ≡ length w) (at next previous : ℕ) (tied : AreTied w v next previous) where
+module _ (w v : List ℕ) (small : length w ≤ 2 ^ 24) (long : length v ≡ length w) (at next previous : ℕ) (tied : AreTied w v next previous) where
   -- places that are neither neighbour keep their links
   linked-apart : (before : ℕ) (places : List ℕ) → AllByRecursion (λ y. y ≢ previous) places → AllByRecursion (λ y. y ≢ next) places → LinkedFrom w before places → LinkedFrom v before places
   linked-apart before [] a b linked = tt
@@ -51,7 +51,7 @@ module _ (w v : List ℕ) (small : length w ≤ 2 ^ 20) (long : length v ≡ len
         linked-without x (y ∷ prefix) rest b e distinct.1 a linked.2,
       )
     where
-      not_first : (x : ℕ) (rest : List ℕ) → AllByRecursion (λ z. x ≢ z) rest → x < 2 ^ 20 → x ≢ first_of rest
+      not_first : (x : ℕ) (rest : List ℕ) → AllByRecursion (λ z. x ≢ z) rest → x < 2 ^ 24 → x ≢ first_of rest
       not_first x [] d inside = λ f. omega (arith, f, inside)
       not_first x (r ∷ rest) d inside = d.0
 
@@ -65,16 +65,16 @@ behind_apart : (before at : ℕ) (prefix rest : List ℕ) → AllByRecursion (λ
 behind_apart before at [] rest a distinct = a.1
 behind_apart before at (x ∷ prefix) rest a distinct = behind_apart x at prefix rest (all_weaker (λ y. x ≢ y) (λ y. y ≢ x) (λ y n e. n (sym e)) (prefix ++ at ∷ rest) distinct.0) distinct.1
 
-none_nowhere : (w : List ℕ) (before : ℕ) (places : List ℕ) → length w ≤ 2 ^ 20 → LinkedFrom w before places → AllByRecursion (λ y. y ≢ nowhere) places
+none_nowhere : (w : List ℕ) (before : ℕ) (places : List ℕ) → length w ≤ 2 ^ 24 → LinkedFrom w before places → AllByRecursion (λ y. y ≢ nowhere) places
 none_nowhere w before [] small linked = tt
 none_nowhere w before (p ∷ places) small linked = ((λ e. omega (arith, linked.1, e)), none_nowhere w p places small linked.2)
 
-last_inside : (w : List ℕ) (x : ℕ) (prefix rest : List ℕ) → length w ≤ 2 ^ 20 → x + 2 < length w → LinkedFrom w x (prefix ++ rest) → last_of x prefix ≢ nowhere
+last_inside : (w : List ℕ) (x : ℕ) (prefix rest : List ℕ) → length w ≤ 2 ^ 24 → x + 2 < length w → LinkedFrom w x (prefix ++ rest) → last_of x prefix ≢ nowhere
 last_inside w x [] rest small inside linked = λ e. omega (arith, e)
 last_inside w x (y ∷ prefix) rest small inside linked = last_inside w y prefix rest small linked.1 linked.2
 
 -- what a removal writes
-pub record RemoveWrites (heads members w : List ℕ) (class at next previous : ℕ) (new_heads new_members v : List ℕ) : Type 0 where
+pub record RemoveWrites (sli : ℕ) (heads members w : List ℕ) (class at next previous : ℕ) (new_heads new_members v : List ℕ) : Type 0 where
   pub next_is : next ≡ low_half (get_or w (at + 2) 0)
   pub previous_is : previous ≡ high_half (get_or w (at + 2) 0)
   pub long : length v ≡ length w
@@ -86,7 +86,7 @@ pub record RemoveWrites (heads members w : List ℕ) (class at next previous : �
   pub left : (previous ≡ nowhere → next ≡ nowhere → ⊥) → new_members ≡ members
 
 -- a place of a list, by its links
-module _ (heads members w : List ℕ) (class at : ℕ) (t : AreThreaded heads members w) (small : length w ≤ 2 ^ 20) (m : Contains (list_of heads w class) at) where
+module _ (sli : ℕ) (heads members w : List ℕ) (class at : ℕ) (t : AreThreaded sli heads members w) (small : length w ≤ 2 ^ 24) (m : Contains (list_of heads w class) at) where
   abbrev old : List ℕ
   old = list_of heads w class
 
@@ -136,10 +136,10 @@ module _ (heads members w : List ℕ) (class at : ℕ) (t : AreThreaded heads me
 
     -- the neighbours, where there are any, have their links inside, and they differ
     pub next_within : next ≢ nowhere → next + 2 < length w
-    next_within some = listed_within heads members w t class next (left_listed next (next_left some))
+    next_within some = listed_within sli heads members w t class next (left_listed next (next_left some))
 
     pub previous_within : previous ≢ nowhere → previous + 2 < length w
-    previous_within some = listed_within heads members w t class previous (left_listed previous (previous_left some))
+    previous_within some = listed_within sli heads members w t class previous (left_listed previous (previous_left some))
 
     pub neighbours_apart : next ≢ nowhere → next ≢ previous
     neighbours_apart some e =
@@ -147,7 +147,7 @@ module _ (heads members w : List ℕ) (class at : ℕ) (t : AreThreaded heads me
         all_member (λ y. y ≢ last_of nowhere prefix) rest (first_of rest) rest_apart (first_member rest some_first)
         (sym (next_is ∙ next_first) ∙ e ∙ previous_is ∙ previous_last)
 
-  module _ (next previous : ℕ) (new_heads new_members v : List ℕ) (r : RemoveWrites heads members w class at next previous new_heads new_members v) where
+  module _ (next previous : ℕ) (new_heads new_members v : List ℕ) (r : RemoveWrites sli heads members w class at next previous new_heads new_members v) where
     first_left : (xs : List ℕ) → LinkedFrom w nowhere (xs ++ at ∷ rest) → last_of nowhere xs ≡ nowhere → xs ≡ []
     first_left [] h e = refl
     first_left (x ∷ xs) h e = absurd (last_inside w x xs (at ∷ rest) small h.1 h.2 e)
@@ -166,15 +166,15 @@ module _ (heads members w : List ℕ) (class at : ℕ) (t : AreThreaded heads me
       | inr some ↦ r.later some ∙ head-list_of heads w class ∙ ap first_of parts.2 ∙ first_kept prefix (λ e. some (r.previous_is ∙ previous_last ∙ e))
     ]
 
-    left_some : are_some (prefix ++ rest) ≡ true → (previous ≡ nowhere → next ≡ nowhere → ⊥) → new_members ≡ listed_classes (with_list (list_of heads w) class (prefix ++ rest))
-    left_some some neighbour = r.left neighbour ∙ t.marked ∙ listed-same (list_of heads w) class (prefix ++ rest) (some-member old at m) some
+    left_some : are_some (prefix ++ rest) ≡ true → (previous ≡ nowhere → next ≡ nowhere → ⊥) → new_members ≡ listed_classes sli (with_list (list_of heads w) class (prefix ++ rest))
+    left_some some neighbour = r.left neighbour ∙ t.marked ∙ listed-same sli (list_of heads w) class (prefix ++ rest) (some-member old at m) some
 
-    marked : new_members ≡ listed_classes (with_list (list_of heads w) class (prefix ++ rest))
+    marked : new_members ≡ listed_classes sli (with_list (list_of heads w) class (prefix ++ rest))
     marked = elim (cases_eq previous nowhere) [
       | inl none ↦ elim (cases_eq next nowhere) [
         | inl last ↦
             r.emptied none last ∙ ap (λ (ms : List ℕ). without_member ms class) t.marked
-            ∙ listed-without (list_of heads w) class (prefix ++ rest) (only_rest none ∙ none-first w at rest small links.2 (sym (r.next_is ∙ next_first) ∙ last))
+            ∙ listed-without sli (list_of heads w) class (prefix ++ rest) (only_rest none ∙ none-first w at rest small links.2 (sym (r.next_is ∙ next_first) ∙ last))
         | inr some ↦ left_some (some-member (prefix ++ rest) next (next_left next previous r.next_is r.previous_is some)) (λ _ e. some e)
       ]
       | inr some ↦ left_some (some-member (prefix ++ rest) previous (previous_left next previous r.next_is r.previous_is some)) (λ e _. some e)
@@ -188,7 +188,7 @@ module _ (heads members w : List ℕ) (class at : ℕ) (t : AreThreaded heads me
         other_place : (p : ℕ) → Contains (prefix ++ rest) p → p ≡ q → ⊥
         other_place p left same = n (t.apart c class q member (subst (Contains old) same (left_listed p left)))
 
-    new_list : NewList heads members w class (prefix ++ rest) new_heads new_members v
+    new_list : NewList sli heads members w class (prefix ++ rest) new_heads new_members v
     new_list = record {
       small = small;
       long = r.long;
@@ -207,16 +207,16 @@ module _ (heads members w : List ℕ) (class at : ℕ) (t : AreThreaded heads me
         not_empty ps e member = let none : length ps ≡ 0 = ap length e in absurd (omega (arith, member.1, none))
 
     -- so the lists are threaded
-    pub remove-threaded : AreThreaded new_heads new_members v
-    remove-threaded = NewList-threaded heads members w class (prefix ++ rest) new_heads new_members v t new_list
+    pub remove-threaded : AreThreaded sli new_heads new_members v
+    remove-threaded = NewList-threaded sli heads members w class (prefix ++ rest) new_heads new_members v t new_list
 
     -- that list is without the place
     pub remove-list : list_of new_heads v class ≡ without_place at old
-    remove-list = NewList-list heads members w class (prefix ++ rest) new_heads new_members v t new_list ∙ sym left_is
+    remove-list = NewList-list sli heads members w class (prefix ++ rest) new_heads new_members v t new_list ∙ sym left_is
 
     -- the other lists stay
     pub remove-others : (c : ℕ) → c ≢ class → list_of new_heads v c ≡ list_of heads w c
-    remove-others = NewList-others heads members w class (prefix ++ rest) new_heads new_members v t new_list
+    remove-others = NewList-others sli heads members w class (prefix ++ rest) new_heads new_members v t new_list
 
     listed : (q : ℕ) → Contains (prefix ++ rest) q → Contains (list_of new_heads v class) q
     listed q left = subst (λ (ps : List ℕ). Contains ps q) (sym (remove-list ∙ left_is)) left
@@ -234,7 +234,7 @@ first_then_left (p ∷ places) at differ some is =
     subst (λ (k : ℕ). p ∷ places ≡ k ∷ without_place k (p ∷ places)) (sym is) (ap (λ (ps : List ℕ). p ∷ ps) (sym (without_split p [] places differ)))
 
 -- the place at the head of a list that isn't empty
-module _ (heads members w : List ℕ) (class at : ℕ) (t : AreThreaded heads members w) (some : list_of heads w class ≡ [] → ⊥) (is : at ≡ get_or heads class nowhere) where
+module _ (sli : ℕ) (heads members w : List ℕ) (class at : ℕ) (t : AreThreaded sli heads members w) (some : list_of heads w class ≡ [] → ⊥) (is : at ≡ get_or heads class nowhere) where
   is_first : at ≡ first_of (list_of heads w class)
   is_first = is ∙ head-list_of heads w class
 
@@ -247,7 +247,7 @@ module _ (heads members w : List ℕ) (class at : ℕ) (t : AreThreaded heads me
       at_head (p ∷ places) some is = subst (Contains (p ∷ places)) (sym is) (member_here p places)
 
   -- no place stands before it
-  pub head_previous : length w ≤ 2 ^ 20 → nowhere ≡ high_half (get_or w (at + 2) 0)
+  pub head_previous : length w ≤ 2 ^ 24 → nowhere ≡ high_half (get_or w (at + 2) 0)
   head_previous small = at_head (list_of heads w class) some is_first (t.linked class)
     where
       at_head : (places : List ℕ) → (places ≡ [] → ⊥) → at ≡ first_of places → LinkedFrom w nowhere places → nowhere ≡ high_half (get_or w (at + 2) 0)

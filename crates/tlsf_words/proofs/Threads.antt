@@ -3,7 +3,8 @@ use Rattle.std.proofs.Common.{◌≡◌, ◌≢◌, ℕ, zero, suc, ◌+◌, ◌
 use Rattle.std.specs.List.{AllByRecursion, Contains}
 use Rattle.std.proofs.lemmas.Bool.{cases_eq, eqb-true, eq-eqb, ne_eqb}
 use Rattle.std.proofs.lemmas.List.Elements.{filter_agree}
-use Rattle.tlsf_class.specs.Classes.{classes}
+use Rattle.tlsf_class.specs.Classes.{IsLevel, classes}
+use Rattle.tlsf_class.proofs.TwoLevels.{by_level}
 use Rattle.tlsf_words.specs.Fields.{low_half}
 use Rattle.tlsf_words.specs.Lists.{nowhere, places_from, list_of, first_of, LinkedFrom, AreDistinct, listed_classes, without_place, AreThreaded, IsUnlisted}
 use Rattle.tlsf_words.proofs.FieldLaws.{low_half-links_word}
@@ -59,12 +60,12 @@ linked_within w previous [] linked = tt
 linked_within w previous (p ∷ places) linked = (linked.1, linked_within w p places linked.2)
 
 -- where linked places begin fits half a word
-pub first_small : (w : List ℕ) (previous : ℕ) (places : List ℕ) → length w ≤ 2 ^ 20 → LinkedFrom w previous places → first_of places < 2 ^ 32
+pub first_small : (w : List ℕ) (previous : ℕ) (places : List ℕ) → length w ≤ 2 ^ 24 → LinkedFrom w previous places → first_of places < 2 ^ 32
 first_small w previous [] small linked = omega arith
 first_small w previous (p ∷ places) small linked = omega (arith, linked.1)
 
 -- the places that are read are those that are linked
-places_from-linked : (most : ℕ) (w : List ℕ) (previous : ℕ) (places : List ℕ) → length w ≤ 2 ^ 20 → length places ≤ most → LinkedFrom w previous places → places_from most w (first_of places) ≡ places
+places_from-linked : (most : ℕ) (w : List ℕ) (previous : ℕ) (places : List ℕ) → length w ≤ 2 ^ 24 → length places ≤ most → LinkedFrom w previous places → places_from most w (first_of places) ≡ places
 unfolding places_from
 places_from-linked zero w previous [] small few linked = refl
 places_from-linked zero w previous (p ∷ places) small few linked = absurd (omega (arith, few))
@@ -77,7 +78,7 @@ places_from-linked (suc most) w previous (p ∷ places) small few linked =
     ∙ ap (λ (l : List ℕ). p ∷ l) (places_from-linked most w p places small (omega arith) linked.2)
 
 -- linked places that differ are the list that begins at the first of them
-list_of-linked : (heads w : List ℕ) (class : ℕ) (places : List ℕ) → length w ≤ 2 ^ 20 → get_or heads class nowhere ≡ first_of places → LinkedFrom w nowhere places → AreDistinct places → list_of heads w class ≡ places
+list_of-linked : (heads w : List ℕ) (class : ℕ) (places : List ℕ) → length w ≤ 2 ^ 24 → get_or heads class nowhere ≡ first_of places → LinkedFrom w nowhere places → AreDistinct places → list_of heads w class ≡ places
 unfolding list_of
 list_of-linked heads w class places small head linked distinct =
     ap (places_from (suc (length w)) w) head
@@ -87,29 +88,29 @@ list_of-linked heads w class places small head linked distinct =
     below = all_weaker (λ p. p + 2 < length w) (λ p. p < length w) (λ p h. omega arith) places (linked_within w nowhere places linked)
 
 -- what makes lists threaded, where they are these
-pub record AreLists (heads members w : List ℕ) (lists : ℕ → List ℕ) : Type 0 where
+pub record AreLists (sli : ℕ) (heads members w : List ℕ) (lists : ℕ → List ℕ) : Type 0 where
   pub is : (class : ℕ) → list_of heads w class ≡ lists class
   pub linked : (class : ℕ) → LinkedFrom w nowhere (lists class)
   pub distinct : (class : ℕ) → AreDistinct (lists class)
   pub apart : (a b at : ℕ) → Contains (lists a) at → Contains (lists b) at → a ≡ b
-  pub marked : members ≡ listed_classes lists
-  pub in_use : (class : ℕ) → (lists class ≡ [] → ⊥) → Contains classes class
+  pub marked : members ≡ listed_classes sli lists
+  pub in_use : (class : ℕ) → (lists class ≡ [] → ⊥) → Contains (classes sli) class
 
-are_threaded : (heads members w : List ℕ) (lists : ℕ → List ℕ) → AreLists heads members w lists → AreThreaded heads members w
-are_threaded heads members w lists l = record {
+are_threaded : (sli : ℕ) → (heads members w : List ℕ) (lists : ℕ → List ℕ) → AreLists sli heads members w lists → AreThreaded sli heads members w
+are_threaded sli heads members w lists l = record {
   linked = λ class. subst (LinkedFrom w nowhere) (sym (l.is class)) (l.linked class);
   distinct = λ class. subst AreDistinct (sym (l.is class)) (l.distinct class);
   apart = λ a b at m n. l.apart a b at (subst (λ (ps : List ℕ). Contains ps at) (l.is a) m) (subst (λ (ps : List ℕ). Contains ps at) (l.is b) n);
-  marked = l.marked ∙ filter_agree (λ class. not (eqb (length (lists class)) 0)) (λ class. not (eqb (length (list_of heads w class)) 0)) (λ class. ap (λ (ps : List ℕ). not (eqb (length ps) 0)) (sym (l.is class))) classes;
+  marked = l.marked ∙ filter_agree (λ class. not (eqb (length (lists class)) 0)) (λ class. not (eqb (length (list_of heads w class)) 0)) (λ class. ap (λ (ps : List ℕ). not (eqb (length ps) 0)) (sym (l.is class))) (classes sli);
   in_use = λ class some. l.in_use class (λ e. some (l.is class ∙ e));
 }
 
 -- threaded lists stay as they are where their places' links stay
-pub kept : (heads members w v : List ℕ) → AreThreaded heads members w → length v ≡ length w
+pub kept : (sli : ℕ) → (heads members w v : List ℕ) → AreThreaded sli heads members w → length v ≡ length w
     → ((class at : ℕ) → Contains (list_of heads w class) at → get_or v (at + 2) 0 ≡ get_or w (at + 2) 0)
-    → AreThreaded heads members v × ((class : ℕ) → list_of heads v class ≡ list_of heads w class)
-kept heads members w v t long same = (
-  are_threaded heads members v (list_of heads w) record {
+    → AreThreaded sli heads members v × ((class : ℕ) → list_of heads v class ≡ list_of heads w class)
+kept sli heads members w v t long same = (
+  are_threaded sli heads members v (list_of heads w) record {
     is = stays;
     linked = λ class. linked-kept w v nowhere (list_of heads w class) long (same class) (t.linked class);
     distinct = t.distinct;
@@ -124,13 +125,13 @@ kept heads members w v t long same = (
     stays class = list_of-kept heads heads w v class refl long (same class)
 
 -- a listed place has its links inside
-pub listed_within : (heads members w : List ℕ) → AreThreaded heads members w → (class at : ℕ) → Contains (list_of heads w class) at → at + 2 < length w
-listed_within heads members w t class at m = all_member (λ p. p + 2 < length w) (list_of heads w class) at (linked_within w nowhere (list_of heads w class) (t.linked class)) m
+pub listed_within : (sli : ℕ) → (heads members w : List ℕ) → AreThreaded sli heads members w → (class at : ℕ) → Contains (list_of heads w class) at → at + 2 < length w
+listed_within sli heads members w t class at m = all_member (λ p. p + 2 < length w) (list_of heads w class) at (linked_within w nowhere (list_of heads w class) (t.linked class)) m
 
 -- a place that has been taken out of its list is in no list
-pub remove-unlisted : (heads members w : List ℕ) (class at : ℕ) (new : ℕ → List ℕ) → AreThreaded heads members w → Contains (list_of heads w class) at
+pub remove-unlisted : (sli : ℕ) → (heads members w : List ℕ) (class at : ℕ) (new : ℕ → List ℕ) → AreThreaded sli heads members w → Contains (list_of heads w class) at
     → new class ≡ without_place at (list_of heads w class) → ((other : ℕ) → other ≢ class → new other ≡ list_of heads w other) → IsUnlisted new at
-remove-unlisted heads members w class at new t listed list others c m = elim (cases_eq c class) [
+remove-unlisted sli heads members w class at new t listed list others c m = elim (cases_eq c class) [
   | inl e ↦ without_apart at (list_of heads w class) (subst (λ (ps : List ℕ). Contains ps at) (ap new e ∙ list) m)
   | inr n ↦ n (t.apart c class at (subst (λ (ps : List ℕ). Contains ps at) (others c n) m) listed)
 ]
@@ -147,8 +148,8 @@ with_list-each P lists class places here others c = elim (cases_eq c class) [
 ]
 
 -- the list of one class is threaded anew, and no other list is touched
-pub record NewList (heads members w : List ℕ) (class : ℕ) (places new_heads new_members v : List ℕ) : Type 0 where
-  pub small : length w ≤ 2 ^ 20
+pub record NewList (sli : ℕ) (heads members w : List ℕ) (class : ℕ) (places new_heads new_members v : List ℕ) : Type 0 where
+  pub small : length w ≤ 2 ^ 24
   pub long : length v ≡ length w
   pub head : get_or new_heads class nowhere ≡ first_of places
   pub heads_kept : (c : ℕ) → c ≢ class → get_or new_heads c nowhere ≡ get_or heads c nowhere
@@ -156,11 +157,11 @@ pub record NewList (heads members w : List ℕ) (class : ℕ) (places new_heads 
   pub distinct : AreDistinct places
   pub words_kept : (c : ℕ) → c ≢ class → (at : ℕ) → Contains (list_of heads w c) at → get_or v (at + 2) 0 ≡ get_or w (at + 2) 0
   pub apart : (c at : ℕ) → Contains places at → Contains (list_of heads w c) at → c ≡ class
-  pub marked : new_members ≡ listed_classes (with_list (list_of heads w) class places)
-  pub in_use : Contains classes class
+  pub marked : new_members ≡ listed_classes sli (with_list (list_of heads w) class places)
+  pub in_use : Contains (classes sli) class
 
 -- what is threaded then
-module _ (heads members w : List ℕ) (class : ℕ) (places new_heads new_members v : List ℕ) (t : AreThreaded heads members w) (r : NewList heads members w class places new_heads new_members v) where
+module _ (sli : ℕ) (heads members w : List ℕ) (class : ℕ) (places new_heads new_members v : List ℕ) (t : AreThreaded sli heads members w) (r : NewList sli heads members w class places new_heads new_members v) where
   -- the class has the new list
   pub NewList-list : list_of new_heads v class ≡ places
   NewList-list = list_of-linked new_heads v class places (omega (arith, r.small, r.long)) r.head r.linked r.distinct
@@ -179,14 +180,14 @@ module _ (heads members w : List ℕ) (class : ℕ) (places new_heads new_member
       a
 
   -- and the lists are threaded
-  pub NewList-threaded : AreThreaded new_heads new_members v
-  NewList-threaded = are_threaded new_heads new_members v lists record {
+  pub NewList-threaded : AreThreaded sli new_heads new_members v
+  NewList-threaded = are_threaded sli new_heads new_members v lists record {
     is = with_list-each (λ c ps. list_of new_heads v c ≡ ps) (list_of heads w) class places NewList-list NewList-others;
     linked = with_list-each (λ c ps. LinkedFrom v nowhere ps) (list_of heads w) class places r.linked (λ c n. linked-kept w v nowhere (list_of heads w c) r.long (r.words_kept c n) (t.linked c));
     distinct = with_list-each (λ c ps. AreDistinct ps) (list_of heads w) class places r.distinct (λ c n. t.distinct c);
     apart = lists_apart;
     marked = r.marked;
-    in_use = with_list-each (λ c ps. (ps ≡ [] → ⊥) → Contains classes c) (list_of heads w) class places (λ _. r.in_use) (λ c n. t.in_use c);
+    in_use = with_list-each (λ c ps. (ps ≡ [] → ⊥) → Contains (classes sli) c) (list_of heads w) class places (λ _. r.in_use) (λ c n. t.in_use c);
   }
 
 -- a list that begins nowhere is empty
@@ -194,14 +195,25 @@ pub list_of-nowhere : (heads w : List ℕ) (class : ℕ) → get_or heads class 
 unfolding list_of places_from
 list_of-nowhere heads w class none = ap (places_from (suc (length w)) w) none
 
--- no list has a place
-pub threaded-none : (heads w : List ℕ) → ((class : ℕ) → get_or heads class nowhere ≡ nowhere) → AreThreaded heads [] w
+-- where all lists are empty no class is listed
+empty_4 : [] ≡ listed_classes 4 (λ _. [])
 unfolding classes
-threaded-none heads w none = are_threaded heads [] w (λ _. []) record {
+empty_4 = refl
+
+empty_5 : [] ≡ listed_classes 5 (λ _. [])
+unfolding classes
+empty_5 = refl
+
+none_listed : (sli : ℕ) → IsLevel sli → [] ≡ listed_classes sli (λ _. [])
+none_listed = by_level (λ sli. [] ≡ listed_classes sli (λ _. [])) empty_4 empty_5
+
+-- no list has a place
+pub threaded-none : (sli : ℕ) → IsLevel sli → (heads w : List ℕ) → ((class : ℕ) → get_or heads class nowhere ≡ nowhere) → AreThreaded sli heads [] w
+threaded-none sli level heads w none = are_threaded sli heads [] w (λ _. []) record {
   is = λ class. list_of-nowhere heads w class (none class);
   linked = λ class. tt;
   distinct = λ class. tt;
   apart = λ a b at m n. absurd (omega (arith, m.1));
-  marked = refl;
+  marked = none_listed sli level;
   in_use = λ class some. absurd (some refl);
 }

@@ -44,20 +44,20 @@ abbrev pub without_place : ℕ → List ℕ → List ℕ
 without_place at places = filter (λ other. not (at == other)) places
 
 -- the classes whose lists aren't empty, rising
-abbrev pub listed_classes : (ℕ → List ℕ) → List ℕ
-listed_classes lists = filter (λ class. not (length (lists class) == 0)) classes
+abbrev pub listed_classes : ℕ → (ℕ → List ℕ) → List ℕ
+listed_classes sli lists = filter (λ class. not (length (lists class) == 0)) (classes sli)
 
 -- a place is in no list
 abbrev pub IsUnlisted : (ℕ → List ℕ) → ℕ → Type 0
 IsUnlisted lists at = (class : ℕ) → ¬ (Contains (lists class) at)
 
 -- the links in the words thread the lists, no place stands twice, and a class is a member exactly where its list isn't empty
-pub record AreThreaded (heads members words : List ℕ) : Type 0 where
+pub record AreThreaded (sli : ℕ) (heads members words : List ℕ) : Type 0 where
   pub linked : (class : ℕ) → LinkedFrom words nowhere (list_of heads words class)
   pub distinct : (class : ℕ) → AreDistinct (list_of heads words class)
   pub apart : (a b at : ℕ) → Contains (list_of heads words a) at → Contains (list_of heads words b) at → a ≡ b
-  pub marked : members ≡ listed_classes (list_of heads words)
-  pub in_use : (class : ℕ) → ¬ (list_of heads words class ≡ []) → Contains classes class
+  pub marked : members ≡ listed_classes sli (list_of heads words)
+  pub in_use : (class : ℕ) → ¬ (list_of heads words class ≡ []) → Contains (classes sli) class
 
 -- no word has changed but the links of places that are in the lists now
 abbrev pub OnlyLinksChange : (ℕ → List ℕ) → List ℕ → List ℕ → Type 0

@@ -1,4 +1,5 @@
 ghost use Rattle.std.specs.Prelude.{◌≡◌, ◌≢◌, ℕ, ◌+◌, ◌<◌, ◌≤◌, [], ◌∷◌, List, length, Contains, slice_get, slice_index, slice_index_or, slice_set};
+ghost use Rattle.tlsf_class.specs.Classes.{IsLevel};
 ghost use Rattle.tlsf_class.specs.Members.{next_member, without_member};
 ghost use Rattle.tlsf_words.specs.Fields.{links_word, low_half, high_half};
 ghost use Rattle.tlsf_words.specs.Lists.{nowhere, list_of, without_place, AreThreaded, IsUnlisted, OnlyLinksChange};
@@ -16,18 +17,18 @@ use tlsf_class::{Bitmaps, Class};
 /// out the first, which isn't known yet, seven, however long the lists are.
 ///
 /// ```
-/// let mut lists = FreeLists::new();
+/// let mut lists = FreeLists::<4>::new();
 /// lists.push(&mut words, class_of(12), 0);                     // the block at place 0 has 12 words
 /// let at = lists.first(lists.next_from(search_of(9))?)?;       // 0
 /// lists.remove(&mut words, class_of(12), at);
 /// ```
 #[derive(Drop)]
-pub struct FreeLists {
-    heads: Heads,
-    bitmaps: Bitmaps,
+pub struct FreeLists<const SLI: u32> {
+    heads: Heads<SLI>,
+    bitmaps: Bitmaps<SLI>,
 }
 
-impl Model for FreeLists {
+impl<const SLI: u32> Model for FreeLists<SLI> {
     ghost use Rattle.std.specs.Prelude.{◌+◌};
     ghost use Rattle.tlsf_words.specs.Lists.{ListHeads};
 
@@ -36,15 +37,16 @@ impl Model for FreeLists {
     ghost view = { λ f. record { heads = f.heads.places; members = f.bitmaps.members; touches = f.heads.touches + f.bitmaps.touches } };
 }
 
-impl FreeLists {
+impl<const SLI: u32> FreeLists<SLI> {
     /// Lists with no place in any. It makes no touch: the first heads aren't counted.
     ///
     /// ```
-    /// let none = FreeLists::new().next_from(class_of(4));     // None
+    /// let none = FreeLists::<4>::new().next_from(class_of(4));     // None
     /// ```
-    pub fn new() -> FreeLists
+    pub fn new() -> FreeLists<SLI>
+        requires { IsLevel SLI }
         ensures empty { (words : List ℕ) (class : ℕ) → list_of result.heads words class ≡ [] }
-        ensures threaded { (words : List ℕ) → AreThreaded result.heads result.members words }
+        ensures threaded { (words : List ℕ) → AreThreaded SLI result.heads result.members words }
         ensures touches { result.touches ≡ 0 }
     {
         FreeLists {
@@ -60,13 +62,13 @@ impl FreeLists {
     /// lists.push(&mut words, class_of(12), 20);
     /// let head = lists.first(class_of(12));     // Some(20)
     /// ```
-    pub fn push(&mut self, words: &mut Words, class: Class, at: u32)
-        requires threaded { AreThreaded self.old.heads self.old.members words.old.words }
+    pub fn push(&mut self, words: &mut Words, class: Class<SLI>, at: u32)
+        requires threaded { AreThreaded SLI self.old.heads self.old.members words.old.words }
         requires inside { at + 2 < length words.old.words }
         requires unlisted { IsUnlisted (list_of self.old.heads words.old.words) at }
-        ensures threaded { AreThreaded self.new.heads self.new.members words.new.words }
-        ensures list { list_of self.new.heads words.new.words class ≡ at ∷ list_of self.old.heads words.old.words class }
-        ensures others { (other : ℕ) → other ≢ class → list_of self.new.heads words.new.words other ≡ list_of self.old.heads words.old.words other }
+        ensures threaded { AreThreaded SLI self.new.heads self.new.members words.new.words }
+        ensures list { list_of self.new.heads words.new.words class.entry ≡ at ∷ list_of self.old.heads words.old.words class.entry }
+        ensures others { (other : ℕ) → other ≢ class.entry → list_of self.new.heads words.new.words other ≡ list_of self.old.heads words.old.words other }
         ensures words { OnlyLinksChange (list_of self.new.heads words.new.words) words.old.words words.new.words }
         ensures length { length words.new.words ≡ length words.old.words }
         ensures starts { words.new.starts ≡ words.old.starts }
@@ -96,12 +98,12 @@ impl FreeLists {
     /// ```
     /// lists.remove(&mut words, class_of(12), 20);     // 20 was in the list of class 12, anywhere
     /// ```
-    pub fn remove(&mut self, words: &mut Words, class: Class, at: u32)
-        requires threaded { AreThreaded self.old.heads self.old.members words.old.words }
+    pub fn remove(&mut self, words: &mut Words, class: Class<SLI>, at: u32)
+        requires threaded { AreThreaded SLI self.old.heads self.old.members words.old.words }
         requires listed { Contains (list_of self.old.heads words.old.words class) at }
-        ensures threaded { AreThreaded self.new.heads self.new.members words.new.words }
-        ensures list { list_of self.new.heads words.new.words class ≡ without_place at (list_of self.old.heads words.old.words class) }
-        ensures others { (other : ℕ) → other ≢ class → list_of self.new.heads words.new.words other ≡ list_of self.old.heads words.old.words other }
+        ensures threaded { AreThreaded SLI self.new.heads self.new.members words.new.words }
+        ensures list { list_of self.new.heads words.new.words class.entry ≡ without_place at (list_of self.old.heads words.old.words class.entry) }
+        ensures others { (other : ℕ) → other ≢ class.entry → list_of self.new.heads words.new.words other ≡ list_of self.old.heads words.old.words other }
         ensures words { OnlyLinksChange (list_of self.new.heads words.new.words) words.old.words words.new.words }
         ensures length { length words.new.words ≡ length words.old.words }
         ensures starts { words.new.starts ≡ words.old.starts }
@@ -124,13 +126,13 @@ impl FreeLists {
     /// let class = lists.next_from(search_of(9))?;
     /// let at = lists.pop_first(&mut words, class);     // the one that `first` answers, and it is in no list any more
     /// ```
-    pub fn pop_first(&mut self, words: &mut Words, class: Class) -> u32
-        requires threaded { AreThreaded self.old.heads self.old.members words.old.words }
+    pub fn pop_first(&mut self, words: &mut Words, class: Class<SLI>) -> u32
+        requires threaded { AreThreaded SLI self.old.heads self.old.members words.old.words }
         requires some { ¬ (list_of self.old.heads words.old.words class ≡ []) }
-        ensures threaded { AreThreaded self.new.heads self.new.members words.new.words }
-        ensures first { list_of self.old.heads words.old.words class ≡ result ∷ list_of self.new.heads words.new.words class }
-        ensures list { list_of self.new.heads words.new.words class ≡ without_place result (list_of self.old.heads words.old.words class) }
-        ensures others { (other : ℕ) → other ≢ class → list_of self.new.heads words.new.words other ≡ list_of self.old.heads words.old.words other }
+        ensures threaded { AreThreaded SLI self.new.heads self.new.members words.new.words }
+        ensures first { list_of self.old.heads words.old.words class.entry ≡ result ∷ list_of self.new.heads words.new.words class.entry }
+        ensures list { list_of self.new.heads words.new.words class.entry ≡ without_place result (list_of self.old.heads words.old.words class.entry) }
+        ensures others { (other : ℕ) → other ≢ class.entry → list_of self.new.heads words.new.words other ≡ list_of self.old.heads words.old.words other }
         ensures words { OnlyLinksChange (list_of self.new.heads words.new.words) words.old.words words.new.words }
         ensures length { length words.new.words ≡ length words.old.words }
         ensures starts { words.new.starts ≡ words.old.starts }
@@ -156,8 +158,8 @@ impl FreeLists {
     /// ```
     /// let head = lists.first(class_of(12));
     /// ```
-    pub fn first(&mut self, class: Class) -> Option<u32>
-        ensures place { (words : List ℕ) → AreThreaded self.old.heads self.old.members words → result ≡ slice_get (list_of self.old.heads words class) 0 }
+    pub fn first(&mut self, class: Class<SLI>) -> Option<u32>
+        ensures place { (words : List ℕ) → AreThreaded SLI self.old.heads self.old.members words → result ≡ slice_get (list_of self.old.heads words class.entry) 0 }
         ensures heads { self.new.heads ≡ self.old.heads }
         ensures members { self.new.members ≡ self.old.members }
         ensures touches { self.new.touches ≡ self.old.touches + 1 }
@@ -172,8 +174,8 @@ impl FreeLists {
     /// ```
     /// let class = lists.next_from(search_of(9))?;     // each of its blocks has 9 words or more
     /// ```
-    pub fn next_from(&mut self, class: Class) -> Option<Class>
-        ensures least { result ≡ next_member self.old.members class }
+    pub fn next_from(&mut self, class: Class<SLI>) -> Option<Class<SLI>>
+        ensures least { result ≡ next_member self.old.members class.entry }
         ensures heads { self.new.heads ≡ self.old.heads }
         ensures members { self.new.members ≡ self.old.members }
         ensures touches { self.new.touches ≤ self.old.touches + 3 }
@@ -184,10 +186,10 @@ impl FreeLists {
 
     /// Makes the list of a class begin at a place. The class is no member where that is `NO_PLACE`. It stands apart from
     /// `remove`, and so does `tie`, since the proof of each has few cases then.
-    fn begin_at(&mut self, class: Class, first: u32)
-        ensures head { slice_index_or self.new.heads class nowhere ≡ first }
-        ensures heads { (other : ℕ) → other ≢ class → slice_index_or self.new.heads other nowhere ≡ slice_index_or self.old.heads other nowhere }
-        ensures emptied { first ≡ nowhere → self.new.members ≡ without_member self.old.members class }
+    fn begin_at(&mut self, class: Class<SLI>, first: u32)
+        ensures head { slice_index_or self.new.heads class.entry nowhere ≡ first }
+        ensures heads { (other : ℕ) → other ≢ class.entry → slice_index_or self.new.heads other nowhere ≡ slice_index_or self.old.heads other nowhere }
+        ensures emptied { first ≡ nowhere → self.new.members ≡ without_member self.old.members class.entry }
         ensures members { first ≢ nowhere → self.new.members ≡ self.old.members }
         ensures touches { self.new.touches ≤ self.old.touches + 5 }
         ensures kept { first ≢ nowhere → self.new.touches ≡ self.old.touches + 1 }

@@ -1,10 +1,11 @@
 ghost use Rattle.std.specs.Prelude.{◌≡◌, ◌≢◌, ℕ, ◌+◌, ◌≤◌, slice_index_or};
+ghost use Rattle.tlsf_class.specs.Classes.{IsLevel, last_class};
 ghost use Rattle.tlsf_words.specs.Lists.{nowhere};
 
 use std::marker::Model;
 use tlsf_class::{Class, Touches};
 
-/// No place, 2^32 - 1: where a list of places ends, and what stands before the first block of a region. A place is below 2^20, so
+/// No place, 2^32 - 1: where a list of places ends, and what stands before the first block of a region. A place is below 2^24, so
 /// no block begins there.
 ///
 /// ```
@@ -15,12 +16,12 @@ pub const NO_PLACE: u32 = u32::MAX;
 /// For each class, by its number, the place where its list begins, `NO_PLACE` for none, and how often one of them was read or
 /// written. No class has a number below 4: those entries are never read, and stay so that a number needs no sum.
 #[derive(Drop)]
-pub(crate) struct Heads {
-    places: [u32; 273],
+pub(crate) struct Heads<const SLI: u32> {
+    places: [u32; 641],
     touches: Touches,
 }
 
-impl Model for Heads {
+impl<const SLI: u32> Model for Heads<SLI> {
     ghost use Rattle.std.specs.Prelude.{◌≡◌, length};
     ghost use Rattle.tlsf_words.specs.Counted.{CountedHeads};
 
@@ -28,25 +29,25 @@ impl Model for Heads {
 
     ghost view = { λ h. record { places = h.places; touches = h.touches.count } };
 
-    ghost invariant = { λ h. length h.places ≡ 273 };
+    ghost invariant = { λ h. length h.places ≡ 641 };
 }
 
-impl Heads {
+impl<const SLI: u32> Heads<SLI> {
     /// No list has a place.
-    pub(crate) fn new() -> Heads
+    pub(crate) fn new() -> Heads<SLI>
         ensures places { (class : ℕ) → slice_index_or result.places class nowhere ≡ nowhere }
         ensures touches { result.touches ≡ 0 }
     {
         Heads {
-            places: [NO_PLACE; 273],
+            places: [NO_PLACE; 641],
             touches: Touches::new(),
         }
     }
 
     /// The place where the list of a class begins. Each read of a head is here.
     #[inline]
-    pub(crate) fn place(&mut self, class: Class) -> u32
-        ensures value { result ≡ slice_index_or self.old.places class nowhere }
+    pub(crate) fn place(&mut self, class: Class<SLI>) -> u32
+        ensures value { result ≡ slice_index_or self.old.places class.entry nowhere }
         ensures places { self.new.places ≡ self.old.places }
         ensures touches { self.new.touches ≡ self.old.touches + 1 }
     {
@@ -57,11 +58,12 @@ impl Heads {
     /// Makes the list of a class begin at a place. Each write of a head is here. The clauses say the range of the class's
     /// number besides, which a proof can't read off the private field.
     #[inline]
-    pub(crate) fn set_place(&mut self, class: Class, at: u32)
-        ensures value { slice_index_or self.new.places class nowhere ≡ at }
-        ensures others { (other : ℕ) → other ≢ class → slice_index_or self.new.places other nowhere ≡ slice_index_or self.old.places other nowhere }
-        ensures least { 4 ≤ class }
-        ensures most { class ≤ 272 }
+    pub(crate) fn set_place(&mut self, class: Class<SLI>, at: u32)
+        ensures value { slice_index_or self.new.places class.entry nowhere ≡ at }
+        ensures others { (other : ℕ) → other ≢ class.entry → slice_index_or self.new.places other nowhere ≡ slice_index_or self.old.places other nowhere }
+        ensures least { 4 ≤ class.entry }
+        ensures most { class.entry ≤ last_class SLI }
+        ensures level { IsLevel SLI }
         ensures touches { self.new.touches ≡ self.old.touches + 1 }
     {
         self.touches.add_one();

@@ -12,10 +12,10 @@ use crate::tag::Tag;
 use std::alloc::Global;
 use std::marker::Model;
 
-/// The 64-bit words of a region, 4 to 2^20, and a map that says at which of them a block starts. A place is the number of a word,
+/// The 64-bit words of a region, 4 to 2^24, and a map that says at which of them a block starts. A place is the number of a word,
 /// from 0 on. Nothing but `open` allocates. A call that reads or writes one field or one start bit makes one touch.
 ///
-/// A clause `small` says that there are at most 2^20 words, which a caller's proof can't read off the private fields.
+/// A clause `small` says that there are at most 2^24 words, which a caller's proof can't read off the private fields.
 ///
 /// ```
 /// let mut words = Words::open(alloc, 64)?;
@@ -40,7 +40,7 @@ impl Model for Words {
 }
 
 impl Words {
-    /// A region of `n` words, 4 to 2^20: each word is zero, and no block starts anywhere. The first zeros and the
+    /// A region of `n` words, 4 to 2^24: each word is zero, and no block starts anywhere. The first zeros and the
     /// empty map aren't counted. It fails only for want of memory.
     ///
     /// ```
@@ -48,7 +48,7 @@ impl Words {
     /// ```
     pub fn open(alloc: Global, n: u32) -> Result<Words, NoMemory>
         requires least { 4 ≤ n }
-        requires most { n ≤ 2 ^ 20 }
+        requires most { n ≤ 2 ^ 24 }
         ensures words { IfOk result (λ region. region.words ≡ replicate n 0) }
         ensures starts { IfOk result (λ region. region.starts ≡ replicate n false) }
         ensures touches { IfOk result (λ region. region.touches ≡ 0) }
@@ -58,7 +58,7 @@ impl Words {
         Ok(Words { words, starts })
     }
 
-    /// How many words the region has, 4 to 2^20. No touch.
+    /// How many words the region has, 4 to 2^24. No touch.
     ///
     /// ```
     /// let is_inside = at < words.len();
@@ -68,7 +68,7 @@ impl Words {
         ensures words { result ≡ length self.now.words }
         ensures starts { result ≡ length self.now.starts }
         ensures least { 4 ≤ result }
-        ensures most { result ≤ 2 ^ 20 }
+        ensures most { result ≤ 2 ^ 24 }
     {
         self.words.len() as u32
     }
@@ -101,7 +101,7 @@ impl Words {
         ensures free { result.free ≡ free_in (slice_index self.old.words at) }
         ensures last { result.last ≡ last_in (slice_index self.old.words at) }
         ensures back { result.back ≡ back_in (slice_index self.old.words at) }
-        ensures small { length self.old.words ≤ 2 ^ 20 }
+        ensures small { length self.old.words ≤ 2 ^ 24 }
         ensures words { self.new.words ≡ self.old.words }
         ensures starts { self.new.starts ≡ self.old.starts }
         ensures touches { self.new.touches ≡ self.old.touches + 1 }
@@ -200,7 +200,7 @@ impl Words {
         requires { at + 2 < length self.old.words }
         ensures next { result.next ≡ low_half (slice_index self.old.words (at + 2)) }
         ensures previous { result.previous ≡ high_half (slice_index self.old.words (at + 2)) }
-        ensures small { length self.old.words ≤ 2 ^ 20 }
+        ensures small { length self.old.words ≤ 2 ^ 24 }
         ensures words { self.new.words ≡ self.old.words }
         ensures starts { self.new.starts ≡ self.old.starts }
         ensures touches { self.new.touches ≡ self.old.touches + 1 }
@@ -216,7 +216,7 @@ impl Words {
     #[inline]
     pub fn set_links(&mut self, at: u32, links: Links)
         requires { at + 2 < length self.old.words }
-        ensures small { length self.old.words ≤ 2 ^ 20 }
+        ensures small { length self.old.words ≤ 2 ^ 24 }
         ensures words { self.new.words ≡ slice_set self.old.words (at + 2) (links_word links.next links.previous) }
         ensures starts { self.new.starts ≡ self.old.starts }
         ensures touches { self.new.touches ≡ self.old.touches + 1 }
@@ -384,7 +384,7 @@ impl Words {
     fn read(&mut self, at: usize) -> u64
         requires { at < length self.old.words }
         ensures value { result ≡ slice_index self.old.words at }
-        ensures small { length self.old.words ≤ 2 ^ 20 }
+        ensures small { length self.old.words ≤ 2 ^ 24 }
         ensures words { self.new.words ≡ self.old.words }
         ensures starts { self.new.starts ≡ self.old.starts }
         ensures touches { self.new.touches ≡ self.old.touches + 1 }
@@ -396,7 +396,7 @@ impl Words {
     #[inline]
     fn write(&mut self, at: usize, word: u64)
         requires { at < length self.old.words }
-        ensures small { length self.old.words ≤ 2 ^ 20 }
+        ensures small { length self.old.words ≤ 2 ^ 24 }
         ensures words { self.new.words ≡ slice_set self.old.words at word }
         ensures starts { self.new.starts ≡ self.old.starts }
         ensures touches { self.new.touches ≡ self.old.touches + 1 }

@@ -68,10 +68,10 @@ stays map name (heap.Release own) (heap.Got r) spares some = some
 stays map name (heap.Read own at n) answer spares some = some
 
 -- one call leaves it live
-call_spares : (h : HeapState) (call : heap.Call) (name : Name) → IsLawful h → IsLive h name → Spares name call (heap.answered h call).0 → IsLive (heap.answered h call).1 name
+call_spares : (h : HeapState) (call : heap.Call) (name : Name) → IsLawful h → IsLive h name → Spares name call (heap.answered 4 h call).0 → IsLive (heap.answered 4 h call).1 name
 call_spares h call name lawful is spares =
-    let some = stays (contents h) name call (heap.answered h call).0 spares ((live h name).0 is) in
-    (live (heap.answered h call).1 name).1 (subst (λ (o : Option (List ℕ)). IsSome o) (sym (change h call name lawful)) some)
+    let some = stays (contents h) name call (heap.answered 4 h call).0 spares ((live h name).0 is) in
+    (live (heap.answered 4 h call).1 name).1 (subst (λ (o : Option (List ℕ)). IsSome o) (sym (change h call name lawful)) some)
 
 -- ---- entries
 
@@ -79,8 +79,8 @@ call_spares h call name lawful is spares =
 abbrev pub SparesIn : ℕ → List (Option Name) → Name → Entry → Type 0
 SparesIn j made name e = e.worker ≡ j → (own : Name) → call_on_own made e.worker e.call e.reply ≡ Some (heap.Release own) → answer_told e.call e.reply ≡ Some (heap.Released (Ok tt)) → own ≢ name
 
-spares_call : (h : HeapState) (call : heap.Call) (name : Name) (a : Option heap.Answer) → handed_on (heap.answered h call).0 ∷ [] ≡ cons_option a []
-    → ((own : Name) → call ≡ heap.Release own → a ≡ Some (heap.Released (Ok tt)) → own ≢ name) → Spares name call (heap.answered h call).0
+spares_call : (h : HeapState) (call : heap.Call) (name : Name) (a : Option heap.Answer) → handed_on (heap.answered 4 h call).0 ∷ [] ≡ cons_option a []
+    → ((own : Name) → call ≡ heap.Release own → a ≡ Some (heap.Released (Ok tt)) → own ≢ name) → Spares name call (heap.answered 4 h call).0
 spares_call h (heap.Allocate len) name a told spares = tt
 spares_call h (heap.Write own at bytes) name a told spares = tt
 spares_call h (heap.Resize own len) name a told spares = tt

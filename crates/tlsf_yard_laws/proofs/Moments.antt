@@ -31,6 +31,7 @@ use Rattle.tlsf_yard_laws.specs.Moments.{OrdersHaveMoments, RaceSharedPoolServes
 use Rattle.tlsf_yard_laws.proofs.Few.{IsAmong, among_left, among_right, few, names_of, posted, still_among}
 use Rattle.tlsf_yard_laws.proofs.Shares.{allocate_asks, resize_asks}
 use Rattle.tlsf_yard_laws.proofs.Told.{noted_same, past_holds, race_serves}
+use Rattle.tlsf_class.proofs.TwoLevels.{level_4}
 
 -- ---- what is live is held, or its name is under way
 
@@ -113,13 +114,13 @@ all_noted l (call ∷ calls) (answer ∷ answers) = ap (λ (l : Ledger). ledger_
 past_agrees : (j words first : ℕ) (calls : List heap.Call) (answers : List heap.Answer) (g : HeapState) → RunsTo (heap.opened j words first) calls answers g → 4 ≤ words
     → Agrees g (ledger_after_all [] calls answers)
 past_agrees j words first calls answers g runs four =
-    let own : List heap.Answer = (heap.run (heap.opened j words first) calls).0 in
+    let own : List heap.Answer = (heap.run 4 (heap.opened j words first) calls).0 in
     let noted : ledger_after_all [] calls own ≡ ledger_after_all [] calls answers = sym (all_noted [] calls own) ∙ ap (ledger_after_all [] calls) runs.told in
     subst (λ (h : HeapState). Agrees h (ledger_after_all [] calls answers)) runs.left
-    (subst (Agrees (heap.run (heap.opened j words first) calls).1) noted (agrees_run (heap.opened j words first) calls [] (new_agrees j words first) (new_lawful j words first four)))
+    (subst (Agrees (heap.run 4 (heap.opened j words first) calls).1) noted (agrees_run (heap.opened j words first) calls [] (new_agrees j words first) (new_lawful j words first four)))
 
 as_many : (h g : HeapState) (calls : List heap.Call) (answers : List heap.Answer) → RunsTo h calls answers g → length calls ≡ length answers
-as_many h g calls answers r = sym (length_run h calls) ∙ (sym (length-map (heap.run h calls).0 handed_on) ∙ ap length r.told)
+as_many h g calls answers r = sym (length_run h calls) ∙ (sym (length-map (heap.run 4 h calls).0 handed_on) ∙ ap length r.told)
 
 -- ---- calls in turn
 
@@ -147,7 +148,7 @@ module _ (w v : World) (scripts : List (List Call)) (records : List (List Entry)
   all_answers es = answers ++ answers_on j es
 
   lawful : IsLawful (heap_in w j)
-  lawful = subst IsLawful past.since.left (lawful_run (heap.opened j words first) calls (new_lawful j words first four))
+  lawful = subst IsLawful past.since.left (lawful_run 4 level_4 (heap.opened j words first) calls (new_lawful j words first four))
 
   history : (before later : List Entry) → record_of records j ≡ before ++ later → (g : HeapState) × RunsTo (heap.opened j words first) (all_calls before) (all_answers before) g
   history before later whole =

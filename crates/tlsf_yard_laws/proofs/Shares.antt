@@ -126,8 +126,8 @@ still_waits : (j : ℕ) (lanes later : ℕ → List Post) (c : heap.Call) (name 
 still_waits j lanes later c name other leaves i ne a = elim (leaves i ne name a) [ inl x ↦ x | inr e ↦ absurd (other e) ]
 
 call_covers : (j n : ℕ) (h : HeapState) (l u : Ledger) (lanes later : ℕ → List Post) (c : heap.Call) → Agrees h l → h.tick < heap.last_tick → Covers j n l u lanes → Leaves j lanes later (Some c)
-    → Covers j n (ledger_after l c (heap.answered h c).0) (ledger_after u c (heap.answered h c).0) later
-call_covers j n h l u lanes later (heap.Allocate m) agrees fresh covers leaves name len found = at (heap.allocated h m).answer found
+    → Covers j n (ledger_after l c (heap.answered 4 h c).0) (ledger_after u c (heap.answered 4 h c).0) later
+call_covers j n h l u lanes later (heap.Allocate m) agrees fresh covers leaves name len found = at (heap.allocated 4 h m).answer found
   where
     differs : ◌≡◌ {A = Option heap.Call} (Some (heap.Allocate m)) (Some (heap.Release name)) → ⊥
     differs e = cc
@@ -323,7 +323,7 @@ module _ (words most len : ℕ) (region : want len ≤ 2 ^ 20) (enough : pool_wo
   own_next h g l u lanes later None (Some b) run shared leaves allows fresh = let e = run.told in absurd cc
   own_next h g l u lanes later (Some c) None run shared leaves allows fresh = let e = run.told in absurd cc
   own_next h g l u lanes later (Some c) (Some b) run shared leaves allows fresh =
-      let answer = (heap.answered h c).0 in
+      let answer = (heap.answered 4 h c).0 in
       let modest = is_modest h c allows in
       let same : handed_on answer ≡ b = let e = run.told in cc in
       let noted : ledger_after u c answer ≡ ledger_after u c b = sym (noted_same u c answer) ∙ ap (ledger_after u c) same in

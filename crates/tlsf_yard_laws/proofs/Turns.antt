@@ -29,6 +29,7 @@ use Rattle.tlsf_crew.proofs.lemmas.yard.OwnCalls.{Knows}
 use Rattle.tlsf_yard_laws.specs.Sharing.{SharedPoolServes}
 use Rattle.tlsf_yard_laws.proofs.Shares.{AllLead, all_served}
 use Rattle.tlsf_yard_laws.proofs.ShortLanes.{AreShort, StayShort, called_short}
+use Rattle.tlsf_class.proofs.TwoLevels.{level_4}
 
 -- ---- entries that post nothing for worker j
 
@@ -123,7 +124,7 @@ module _ (made : List (Option Name)) (n j capacity : ℕ) (j_in : j < n) where
         own = t.own;
         entries = t.entries;
         count = t.history.count;
-        lawful = subst IsLawful run.left (lawful_run (heap_in r.world j) (calls_on j made t.own) b.lawful);
+        lawful = subst IsLawful run.left (lawful_run 4 level_4 (heap_in r.world j) (calls_on j made t.own) b.lawful);
         stays = stays;
         lead = λ ys lead. quiet_lead t.own ys (heap_in r.world j) (heap_in s.world j) (λ i. r.world.waiting i j) (λ i. s.world.waiting i j) b.lawful
             (subst (λ (x : ℕ). All (HasItsAnswer made x) t.own) b.count t.history.each) quiet run
@@ -141,7 +142,7 @@ module _ (made : List (Option Name)) (n j capacity : ℕ) (j_in : j < n) where
         own = t.own;
         entries = t.entries;
         count = t.history.count;
-        lawful = subst IsLawful run.left (lawful_run (heap_in r.world j) (calls_on j made t.own) b.lawful);
+        lawful = subst IsLawful run.left (lawful_run 4 level_4 (heap_in r.world j) (calls_on j made t.own) b.lawful);
         stays = stays;
         lead = λ ys lead. subst (λ l. AllLead j n capacity made (heap_in r.world j) (λ i. r.world.waiting i j) (l ++ ys)) (sym whole) (
           heap_in s.world j,

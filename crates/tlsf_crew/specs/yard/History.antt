@@ -125,8 +125,8 @@ handed_on answer = answer
 
 -- the calls, in turn, are answered so by one heap, and leave the other
 pub record RunsTo (h : HeapState) (calls : List heap.Call) (answers : List heap.Answer) (g : HeapState) : Type 0 where
-  pub told : map handed_on (heap.run h calls).0 ≡ answers
-  pub left : (heap.run h calls).1 ≡ g
+  pub told : map handed_on (heap.run 4 h calls).0 ≡ answers
+  pub left : (heap.run 4 h calls).1 ≡ g
 
 -- the calls that some entries tell of heap j, run on it, give the answers that they tell and leave a lawful heap; those of
 -- the later entries lead from there to the last heap

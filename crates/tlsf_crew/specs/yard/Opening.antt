@@ -13,7 +13,7 @@ use Rattle.tlsf_crew.specs.yard.World.{World}
 
 -- the numbers of workers, of words of each heap and of posts in a lane that a yard may have
 abbrev pub AreSizes : ℕ → ℕ → ℕ → Type 0
-AreSizes n words capacity = ((1 ≤ n) × (n ≤ 8)) × IsRegion words × ((1 ≤ capacity) × (capacity ≤ 1024))
+AreSizes n words capacity = ((1 ≤ n) × (n ≤ 8)) × IsRegion 4 words × ((1 ≤ capacity) × (capacity ≤ 1024))
 
 abbrev pub opened_heaps : ℕ → ℕ → List HeapState
 opened_heaps n words = map (λ j. opened j words 0) (range_with_len 0 n)

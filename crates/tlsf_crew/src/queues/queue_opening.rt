@@ -101,7 +101,7 @@ fn open_queue_worker(
     words: u32,
     own: OwnerEnd,
 ) -> Result<QueueWorker, NoMemory>
-    requires { IsRegion words }
+    requires { IsRegion 4 words }
     ensures heap { IfOk result (λ worker. queue_heap worker ≡ opened id words 0) }
     ensures numbers { IfOk result (λ worker. (queue_id worker ≡ id) × (worker.own ≡ own)) }
     ensures posts { IfOk result (λ worker. worker.posts.items ≡ replicate n None) }

@@ -20,7 +20,7 @@ use tlsf_post::{OwnerEnd, Post, PosterEnd};
 /// the queue of each of them.
 #[derive(Drop)]
 pub struct QueueWorker {
-    pub(crate) heap: Heap,
+    pub(crate) heap: Heap<4>,
     pub(crate) id: u32,
     pub(crate) own: OwnerEnd,
     // The end to the queue of each other worker; none to its own.
@@ -117,11 +117,11 @@ impl QueueWorker {
     /// let name = worker.allocate(100)?; // a block of at least 100 bytes, all zero
     /// ```
     pub fn allocate(&mut self, len: u32) -> Result<Name, CrewRefusal>
-        ensures answer { result ≡ by_heap (allocated (queue_heap self.old) len).answer }
-        ensures heap { queue_heap self.new ≡ (allocated (queue_heap self.old) len).heap }
+        ensures answer { result ≡ by_heap (allocated 4 (queue_heap self.old) len).answer }
+        ensures heap { queue_heap self.new ≡ (allocated 4 (queue_heap self.old) len).heap }
         ensures same { SameButQueueHeap self.old self.new }
         ensures yard { KeepsQueueYards self.old self.new }
-        ensures touches { queue_touches self.new ≤ queue_touches self.old + 64 + payload_words_given (allocated (queue_heap self.old) len).answer (queue_heap self.new) }
+        ensures touches { queue_touches self.new ≤ queue_touches self.old + 64 + payload_words_given (allocated 4 (queue_heap self.old) len).answer (queue_heap self.new) }
         ensures touches_rise { queue_touches self.old ≤ queue_touches self.new }
     {
         own_calls::allocate(&mut self.heap, len)
@@ -199,7 +199,7 @@ impl QueueWorker {
     /// let live = worker.report().live_bytes;
     /// ```
     pub fn report(&mut self) -> Report
-        ensures report { result ≡ report_of (queue_heap self.old) }
+        ensures report { result ≡ report_of 4 (queue_heap self.old) }
         ensures heap { queue_heap self.new ≡ queue_heap self.old }
         ensures same { SameButQueueHeap self.old self.new }
         ensures yard { KeepsQueueYards self.old self.new }

@@ -87,7 +87,7 @@ fn open_worker(
     words: u32,
     capacity: u32,
 ) -> Result<Worker, NoMemory>
-    requires { IsRegion words }
+    requires { IsRegion 4 words }
     ensures heap { IfOk result (λ worker. heap_of worker ≡ opened id words 0) }
     ensures numbers { IfOk result (λ worker. id_and_capacity worker ≡ (id, capacity)) }
     ensures posts { IfOk result (λ worker. worker.posts.items ≡ replicate n None) }
@@ -106,8 +106,8 @@ fn open_worker(
 }
 
 /// Opens the heap of a worker.
-pub(crate) fn open_heap(alloc: Global, id: u32, words: u32) -> Result<Heap, NoMemory>
-    requires { IsRegion words }
+pub(crate) fn open_heap(alloc: Global, id: u32, words: u32) -> Result<Heap<4>, NoMemory>
+    requires { IsRegion 4 words }
     ensures { IfOk result (λ heap. heap.heap ≡ opened id words 0) }
 {
     match Heap::open(alloc, id, words, 0) {

@@ -19,17 +19,17 @@ fn as_crew<T>(answer: Result<T, Refusal>) -> Result<T, CrewRefusal>
 }
 
 /// Gives a block that holds `len` bytes of payload, all zero.
-pub(crate) fn allocate(heap: &mut Heap, len: u32) -> Result<Name, CrewRefusal>
-    ensures answer { result ≡ by_heap (allocated heap.old.heap len).answer }
-    ensures heap { heap.new.heap ≡ (allocated heap.old.heap len).heap }
-    ensures touches { heap.new.touches ≤ heap.old.touches + 64 + payload_words_given (allocated heap.old.heap len).answer heap.new.heap }
+pub(crate) fn allocate(heap: &mut Heap<4>, len: u32) -> Result<Name, CrewRefusal>
+    ensures answer { result ≡ by_heap (allocated 4 heap.old.heap len).answer }
+    ensures heap { heap.new.heap ≡ (allocated 4 heap.old.heap len).heap }
+    ensures touches { heap.new.touches ≤ heap.old.touches + 64 + payload_words_given (allocated 4 heap.old.heap len).answer heap.new.heap }
     ensures touches_rise { heap.old.touches ≤ heap.new.touches }
 {
     as_crew(heap.allocate(len))
 }
 
 /// Releases a block.
-pub(crate) fn release(heap: &mut Heap, name: Name) -> Result<(), CrewRefusal>
+pub(crate) fn release(heap: &mut Heap<4>, name: Name) -> Result<(), CrewRefusal>
     ensures answer { result ≡ by_heap (released heap.old.heap name).answer }
     ensures heap { heap.new.heap ≡ (released heap.old.heap name).heap }
     ensures touches { heap.new.touches ≤ heap.old.touches + 64 }
@@ -39,7 +39,12 @@ pub(crate) fn release(heap: &mut Heap, name: Name) -> Result<(), CrewRefusal>
 }
 
 /// Writes bytes into a block, from byte `at` of it on.
-pub(crate) fn write(heap: &mut Heap, name: Name, at: u32, bytes: &[u8]) -> Result<(), CrewRefusal>
+pub(crate) fn write(
+    heap: &mut Heap<4>,
+    name: Name,
+    at: u32,
+    bytes: &[u8],
+) -> Result<(), CrewRefusal>
     ensures answer { result ≡ by_heap (written heap.old.heap name at bytes.now).answer }
     ensures heap { heap.new.heap ≡ (written heap.old.heap name at bytes.now).heap }
     ensures touches { heap.new.touches ≤ heap.old.touches + 4 + 2 * (length bytes.now / 8 + 2) }
@@ -49,7 +54,12 @@ pub(crate) fn write(heap: &mut Heap, name: Name, at: u32, bytes: &[u8]) -> Resul
 }
 
 /// Reads bytes of a block, from byte `at` of it on, and fills `out` with them.
-pub(crate) fn read(heap: &mut Heap, name: Name, at: u32, out: &mut [u8]) -> Result<(), CrewRefusal>
+pub(crate) fn read(
+    heap: &mut Heap<4>,
+    name: Name,
+    at: u32,
+    out: &mut [u8],
+) -> Result<(), CrewRefusal>
     ensures answer { result ≡ by_heap (read_answer (read_of heap.old.heap name at (length out.old))) }
     ensures bytes { out.new ≡ result_unwrap_or (read_of heap.old.heap name at (length out.old)) out.old }
     ensures heap { heap.new.heap ≡ heap.old.heap }
@@ -60,7 +70,7 @@ pub(crate) fn read(heap: &mut Heap, name: Name, at: u32, out: &mut [u8]) -> Resu
 }
 
 /// Resizes a block where it stands, so that it holds `len` bytes.
-pub(crate) fn resize(heap: &mut Heap, name: Name, len: u32) -> Result<(), CrewRefusal>
+pub(crate) fn resize(heap: &mut Heap<4>, name: Name, len: u32) -> Result<(), CrewRefusal>
     ensures answer { result ≡ by_heap (resized heap.old.heap name len).answer }
     ensures heap { heap.new.heap ≡ (resized heap.old.heap name len).heap }
     ensures touches { heap.new.touches ≤ heap.old.touches + 64 + payload_words_left (resized heap.old.heap name len).answer heap.new.heap name }

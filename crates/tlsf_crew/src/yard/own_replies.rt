@@ -28,7 +28,7 @@ pub(crate) fn named(target: Target, made: &[Option<Name>]) -> Option<Name>
 }
 
 /// Allocates `len` bytes.
-pub(crate) fn reply_to_own_allocate(heap: &mut Heap, len: u32) -> Reply
+pub(crate) fn reply_to_own_allocate(heap: &mut Heap<4>, len: u32) -> Reply
     ensures reply { result ≡ (own_allocating heap.old.heap len).reply }
     ensures heap { heap.new.heap ≡ (own_allocating heap.old.heap len).heap }
 {
@@ -39,7 +39,7 @@ pub(crate) fn reply_to_own_allocate(heap: &mut Heap, len: u32) -> Reply
 }
 
 /// Releases the block of a name.
-pub(crate) fn reply_to_own_release(heap: &mut Heap, name: Name) -> Reply
+pub(crate) fn reply_to_own_release(heap: &mut Heap<4>, name: Name) -> Reply
     ensures reply { result ≡ (own_freeing heap.old.heap name).reply }
     ensures heap { heap.new.heap ≡ (own_freeing heap.old.heap name).heap }
 {
@@ -51,7 +51,7 @@ pub(crate) fn reply_to_own_release(heap: &mut Heap, name: Name) -> Reply
 
 /// Writes into the block that a target means, from byte `from` of it on.
 pub(crate) fn reply_to_own_write(
-    heap: &mut Heap,
+    heap: &mut Heap<4>,
     target: Target,
     from: u32,
     bytes: Chunk,
@@ -72,7 +72,7 @@ pub(crate) fn reply_to_own_write(
 
 /// Fills up to 64 bytes from a block.
 fn read_own_into(
-    heap: &mut Heap,
+    heap: &mut Heap<4>,
     name: Name,
     from: u32,
     out: &mut [u8],
@@ -92,7 +92,7 @@ fn read_own_into(
 }
 
 /// Reads up to 64 bytes of a block. More are refused as `Range`, where the heap doesn't refuse the name.
-fn read_own_chunk(heap: &mut Heap, name: Name, from: u32, n: u32) -> Result<Chunk, CrewRefusal>
+fn read_own_chunk(heap: &mut Heap<4>, name: Name, from: u32, n: u32) -> Result<Chunk, CrewRefusal>
     ensures answer { result ≡ by_heap (chunk_read heap.old.heap name from n) }
     ensures heap { heap.new.heap ≡ heap.old.heap }
 {
@@ -109,7 +109,7 @@ fn read_own_chunk(heap: &mut Heap, name: Name, from: u32, n: u32) -> Result<Chun
 
 /// Reads `n` bytes of the block that a target means, from byte `from` of it on. More than 64 are refused.
 pub(crate) fn reply_to_own_read(
-    heap: &mut Heap,
+    heap: &mut Heap<4>,
     target: Target,
     from: u32,
     n: u32,
@@ -129,7 +129,7 @@ pub(crate) fn reply_to_own_read(
 
 /// Resizes the block that a target means, where it stands.
 pub(crate) fn reply_to_own_resize(
-    heap: &mut Heap,
+    heap: &mut Heap<4>,
     target: Target,
     len: u32,
     made: &[Option<Name>],

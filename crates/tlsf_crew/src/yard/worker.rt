@@ -20,7 +20,7 @@ use tlsf_post::{Post, PostEnd, TakeEnd};
 /// A worker: the owner of one heap, with a lane to each other worker of its yard and a lane from each.
 #[derive(Drop)]
 pub struct Worker {
-    pub(crate) heap: Heap,
+    pub(crate) heap: Heap<4>,
     pub(crate) id: u32,
     // That of each lane of the yard.
     pub(crate) capacity: u32,
@@ -154,11 +154,11 @@ impl Worker {
     /// worker.write(name, 0, b"abc")?;
     /// ```
     pub fn allocate(&mut self, len: u32) -> Result<Name, CrewRefusal>
-        ensures answer { result ≡ by_heap (allocated (heap_of self.old) len).answer }
-        ensures heap { heap_of self.new ≡ (allocated (heap_of self.old) len).heap }
+        ensures answer { result ≡ by_heap (allocated 4 (heap_of self.old) len).answer }
+        ensures heap { heap_of self.new ≡ (allocated 4 (heap_of self.old) len).heap }
         ensures same { SameButHeap self.old self.new }
         ensures yard { KeepsYards self.old self.new }
-        ensures touches { touches_of self.new ≤ touches_of self.old + 64 + payload_words_given (allocated (heap_of self.old) len).answer (heap_of self.new) }
+        ensures touches { touches_of self.new ≤ touches_of self.old + 64 + payload_words_given (allocated 4 (heap_of self.old) len).answer (heap_of self.new) }
         ensures touches_rise { touches_of self.old ≤ touches_of self.new }
     {
         own_calls::allocate(&mut self.heap, len)
@@ -311,7 +311,7 @@ impl Worker {
     /// let live = worker.report().live_bytes;
     /// ```
     pub fn report(&mut self) -> Report
-        ensures report { result ≡ report_of (heap_of self.old) }
+        ensures report { result ≡ report_of 4 (heap_of self.old) }
         ensures heap { heap_of self.new ≡ heap_of self.old }
         ensures same { SameButHeap self.old self.new }
         ensures yard { KeepsYards self.old self.new }

@@ -13,8 +13,8 @@ use tlsf_words::Words;
 const ALONE: u64 = u64::MAX;
 
 /// A heap over so many words with so many blocks of 4 words, one behind the other from place 0 on, with the serials 1, 2, 3 ..
-fn with_blocks(alloc: Global, words: u32, blocks: u32) -> Result<Heap, Fail> {
-    let mut heap = Heap::open(alloc, 0, words, 0)?;
+fn with_blocks(alloc: Global, words: u32, blocks: u32) -> Result<Heap<4>, Fail> {
+    let mut heap = Heap::<4>::open(alloc, 0, words, 0)?;
     for _ in 0..blocks {
         heap.allocate(8)?;
     }
@@ -22,7 +22,7 @@ fn with_blocks(alloc: Global, words: u32, blocks: u32) -> Result<Heap, Fail> {
 }
 
 /// That heap after its blocks at these places were released in turn.
-fn after_releases(alloc: Global, words: u32, blocks: u32, places: &[u32]) -> Result<Heap, Fail> {
+fn after_releases(alloc: Global, words: u32, blocks: u32, places: &[u32]) -> Result<Heap<4>, Fail> {
     let mut heap = with_blocks(alloc, words, blocks)?;
     for at in places {
         heap.release(Name {
@@ -54,7 +54,7 @@ fn wanted_at(rows: &[[u64; 4]], starts: &[u32], at: u32) -> Option<(u64, bool)> 
 
 /// The region of the heap has these words, four in a row, and blocks start at these places and at no other. The regions of
 /// these tests have at most 32 words.
-fn check_image(rt: &impl Abort, heap: Heap, rows: &[[u64; 4]], starts: &[u32]) {
+fn check_image(rt: &impl Abort, heap: Heap<4>, rows: &[[u64; 4]], starts: &[u32]) {
     let Heap { region, .. } = heap;
     let Region { mut words, .. } = region;
     for at in 0..=32 {
@@ -73,7 +73,7 @@ fn image_of_a_small_region(rt: HostRuntime) -> Result<(), Fail> {
         [0, 0, 0, 0],
     ];
     check_image(&rt, with_blocks(alloc, 16, 0)?, &opened, &[0]);
-    let mut heap = Heap::open(alloc, 0, 16, 0)?;
+    let mut heap = Heap::<4>::open(alloc, 0, 16, 0)?;
     let name = heap.allocate(8)?;
     heap.write(name, 0, &[0x48, 0x69])?;
     let written = [
@@ -89,7 +89,7 @@ fn image_of_a_small_region(rt: HostRuntime) -> Result<(), Fail> {
 #[test]
 fn bytes_in_their_words(rt: HostRuntime) -> Result<(), Fail> {
     let alloc = rt.alloc();
-    let mut heap = Heap::open(alloc, 0, 8, 0)?;
+    let mut heap = Heap::<4>::open(alloc, 0, 8, 0)?;
     let name = heap.allocate(16)?;
     heap.write(name, 0, &[1, 2, 3, 4, 5, 6, 7, 8])?;
     heap.write(name, 7, &[0x80, 0x90])?;

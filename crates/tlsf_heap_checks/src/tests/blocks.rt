@@ -6,8 +6,8 @@ use tlsf_fixtures::same;
 use tlsf_heap::{Content, Heap, OpenFault, PlacedBlock};
 
 /// A heap of 64 words with two blocks, of which the first is free again.
-fn opened(alloc: Global) -> Result<Heap, OpenFault> {
-    let mut heap = Heap::open(alloc, 0, 64, 0)?;
+fn opened(alloc: Global) -> Result<Heap<4>, OpenFault> {
+    let mut heap = Heap::<4>::open(alloc, 0, 64, 0)?;
     let first = heap.allocate(8);
     let _ = heap.allocate(100);
     if let Ok(name) = first {

@@ -38,7 +38,7 @@ fn check_asks(
     first: u64,
     rows: &[(Ask, Answer)],
 ) -> Result<(), OpenFault> {
-    let mut heap = Heap::open(alloc, 0, 64, first)?;
+    let mut heap = Heap::<4>::open(alloc, 0, 64, first)?;
     for (i, (ask, wanted)) in rows.iter().enumerate() {
         let answer = match *ask {
             Ask::Allocate(len) => given(heap.allocate(len)),
@@ -88,7 +88,7 @@ fn worn_at_the_last_tick(rt: HostRuntime) -> Result<(), Fail> {
 // A block of the last serial can't be released, and stays a block: its bytes are written and read.
 #[test]
 fn worn_block_keeps_its_bytes(rt: HostRuntime) -> Result<(), Fail> {
-    let mut heap = Heap::open(rt.alloc(), 0, 64, u64::MAX - 2)?;
+    let mut heap = Heap::<4>::open(rt.alloc(), 0, 64, u64::MAX - 2)?;
     let last = heap.allocate(8)?;
     let refused = heap.release(last);
     let written = heap.write(last, 6, &[0x48, 0x69]);
@@ -116,9 +116,48 @@ fn open_refuses_in_order(rt: HostRuntime) {
         (4, 0, None),
         (1 << 20, 0, None),
     ] {
-        let refused = Heap::open(rt.alloc(), 0, words, first).err();
+        let refused = Heap::<4>::open(rt.alloc(), 0, words, first).err();
         same((words, first, refused), (words, first, fault)).expect(&rt, "differ");
     }
+}
+
+#[test]
+fn open_at_level_5_takes_greater_regions(rt: HostRuntime) {
+    for (words, first, fault) in [
+        (3, 0, Some(OpenFault::BadSize)),
+        ((1 << 24) + 1, u64::MAX, Some(OpenFault::BadSize)),
+        (64, u64::MAX, Some(OpenFault::Worn)),
+        ((1 << 20) + 1, 0, None),
+        (1 << 24, 0, None),
+    ] {
+        let refused = Heap::<5>::open(rt.alloc(), 0, words, first).err();
+        same((words, first, refused), (words, first, fault)).expect(&rt, "differ");
+    }
+}
+
+// 63 words are a class of their own at level 5, and at level 4 one with 62 words, which doesn't serve a request for 63.
+#[test]
+fn sixty_three_words_at_both_levels(rt: HostRuntime) -> Result<(), Fail> {
+    let mut coarse = Heap::<4>::open(rt.alloc(), 0, 63, 0)?;
+    let mut fine = Heap::<5>::open(rt.alloc(), 0, 63, 0)?;
+    let grants = (coarse.report().grant, fine.report().grant);
+    let found = (grants, coarse.allocate(480), fine.allocate(480));
+    let wanted = ((472, 480), Err(Refusal::NoFit), Ok(name(0, 0, 1)));
+    same(found, wanted).expect(&rt, "differ");
+    Ok(())
+}
+
+// A thousand times the greatest block is past 32 bits.
+#[test]
+fn report_on_the_greatest_region(rt: HostRuntime) -> Result<(), Fail> {
+    let mut heap = Heap::<5>::open(rt.alloc(), 0, 1 << 24, 0)?;
+    let half = heap.allocate(1 << 26)?;
+    heap.allocate(8)?;
+    heap.release(half)?;
+    let report = heap.report();
+    let found = (report.free_words, report.largest, report.fragmentation);
+    same(found, (16_777_212, 8_388_611, 500)).expect(&rt, "differ");
+    Ok(())
 }
 
 #[test]
@@ -143,7 +182,7 @@ fn refusals_have_their_numbers(rt: HostRuntime) -> Result<(), Fail> {
 
 /// The example of the README.
 fn first_block(alloc: Global) -> Result<u64, OpenFault> {
-    let mut heap = Heap::open(alloc, 0, 64, 0)?;
+    let mut heap = Heap::<4>::open(alloc, 0, 64, 0)?;
     match heap.allocate(100) {
         Ok(name) => {
             let _ = heap.release(name);

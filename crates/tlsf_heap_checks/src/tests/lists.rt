@@ -9,12 +9,12 @@ use tlsf_fixtures::same;
 use tlsf_words::{FreeLists, NoMemory, Words};
 
 /// Threads 0, 8 and 16 into the list of a class, so that 16 is the first.
-fn push_three(lists: &mut FreeLists, words: &mut Words, class: Class)
+fn push_three(lists: &mut FreeLists<4>, words: &mut Words, class: Class<4>)
     requires empty { (class : ℕ) → list_of lists.old.heads words.old.words class ≡ [] }
-    requires threaded { AreThreaded lists.old.heads lists.old.members words.old.words }
+    requires threaded { AreThreaded 4 lists.old.heads lists.old.members words.old.words }
     requires room { 18 < length words.old.words }
-    ensures list { list_of lists.new.heads words.new.words class ≡ 16 ∷ 8 ∷ 0 ∷ [] }
-    ensures threaded { AreThreaded lists.new.heads lists.new.members words.new.words }
+    ensures list { list_of lists.new.heads words.new.words class.entry ≡ 16 ∷ 8 ∷ 0 ∷ [] }
+    ensures threaded { AreThreaded 4 lists.new.heads lists.new.members words.new.words }
     ensures length { length words.new.words ≡ length words.old.words }
 {
     lists.push(words, class, 0);
@@ -44,7 +44,7 @@ fn without(alloc: Global, at: u32) -> Result<(Option<u32>, [u64; 3]), NoMemory>
     requires { Contains (16 ∷ 8 ∷ 0 ∷ []) at }
 {
     let mut words = Words::open(alloc, 24)?;
-    let mut lists = FreeLists::new();
+    let mut lists = FreeLists::<4>::new();
     let class = class_of(8);
     push_three(&mut lists, &mut words, class);
     lists.remove(&mut words, class, at);
@@ -84,7 +84,7 @@ fn removal_of_the_first_the_middle_and_the_last(rt: HostRuntime) {
 #[test]
 fn the_head_of_three(rt: HostRuntime) -> Result<(), Fail> {
     let mut words = Words::open(rt.alloc(), 24)?;
-    let mut lists = FreeLists::new();
+    let mut lists = FreeLists::<4>::new();
     let class = class_of(8);
     push_three(&mut lists, &mut words, class);
     let head = lists.pop_first(&mut words, class);

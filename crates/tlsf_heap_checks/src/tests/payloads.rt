@@ -4,14 +4,14 @@ use tlsf_fixtures::{name, same};
 use tlsf_heap::{Heap, Name, Refusal};
 
 /// What a read of the first `n` of 16 bytes answers, and what it leaves in them.
-fn read(heap: &mut Heap, block: Name, at: u32, n: usize) -> (Result<(), Refusal>, [u8; 16]) {
+fn read(heap: &mut Heap<4>, block: Name, at: u32, n: usize) -> (Result<(), Refusal>, [u8; 16]) {
     let mut out = [0xee; 16];
     let answer = heap.read(block, at, &mut out[..n.min(16)]);
     (answer, out)
 }
 
 /// What a write of `n` ones, of up to 16, answers.
-fn write(heap: &mut Heap, block: Name, at: u32, n: usize) -> Result<(), Refusal> {
+fn write(heap: &mut Heap<4>, block: Name, at: u32, n: usize) -> Result<(), Refusal> {
     let ones = [1; 16];
     heap.write(block, at, &ones[..n.min(16)])
 }
@@ -19,7 +19,7 @@ fn write(heap: &mut Heap, block: Name, at: u32, n: usize) -> Result<(), Refusal>
 // A write and a read are refused, and leave what they were given. No sum of an offset and a length wraps.
 #[test]
 fn refusals_in_their_order(rt: HostRuntime) -> Result<(), Fail> {
-    let mut heap = Heap::open(rt.alloc(), 0, 64, 0)?;
+    let mut heap = Heap::<4>::open(rt.alloc(), 0, 64, 0)?;
     let block = heap.allocate(8)?;
     for (block, at, n, why) in [
         (name(1, 0, 2), 0, 9, Refusal::Foreign),

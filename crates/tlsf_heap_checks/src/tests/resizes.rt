@@ -23,7 +23,7 @@ fn free(at: u32, size: u32, stamp: u64) -> Option<PlacedBlock> {
 }
 
 /// The block at a place, and the one behind it.
-fn two_blocks(heap: &mut Heap, at: u32) -> (Option<PlacedBlock>, Option<PlacedBlock>) {
+fn two_blocks(heap: &mut Heap<4>, at: u32) -> (Option<PlacedBlock>, Option<PlacedBlock>) {
     let first = heap.block_at(at);
     let end = match first {
         Some(block) => at.saturating_add(block.size),
@@ -33,12 +33,12 @@ fn two_blocks(heap: &mut Heap, at: u32) -> (Option<PlacedBlock>, Option<PlacedBl
 }
 
 /// What a resize answers, and the tick that it leaves.
-fn resize(heap: &mut Heap, block: Name, len: u32) -> (Result<(), Refusal>, u64) {
+fn resize(heap: &mut Heap<4>, block: Name, len: u32) -> (Result<(), Refusal>, u64) {
     (heap.resize(block, len), heap.tick())
 }
 
 /// Reads the first `n` bytes of a block of up to 16.
-fn bytes(rt: &impl Abort, heap: &mut Heap, block: Name, n: usize) -> [u8; 16] {
+fn bytes(rt: &impl Abort, heap: &mut Heap<4>, block: Name, n: usize) -> [u8; 16] {
     let mut out = [0xee; 16];
     same(heap.read(block, 0, &mut out[..n.min(16)]), Ok(())).expect(rt, "not read");
     out
@@ -46,7 +46,7 @@ fn bytes(rt: &impl Abort, heap: &mut Heap, block: Name, n: usize) -> [u8; 16] {
 
 #[test]
 fn tail_and_next_free_block_are_one(rt: HostRuntime) -> Result<(), Fail> {
-    let mut heap = Heap::open(rt.alloc(), 0, 64, 0)?;
+    let mut heap = Heap::<4>::open(rt.alloc(), 0, 64, 0)?;
     let block = heap.allocate(8)?;
     same(resize(&mut heap, block, 100), (Ok(()), 3)).expect(&rt, "not grown");
     same(
@@ -61,7 +61,7 @@ fn tail_and_next_free_block_are_one(rt: HostRuntime) -> Result<(), Fail> {
 
 #[test]
 fn short_rest_is_taken_or_kept(rt: HostRuntime) -> Result<(), Fail> {
-    let mut heap = Heap::open(rt.alloc(), 0, 8, 0)?;
+    let mut heap = Heap::<4>::open(rt.alloc(), 0, 8, 0)?;
     let block = heap.allocate(8)?;
     same(two_blocks(&mut heap, 0), (live(0, 4, 1, 8), free(4, 4, 1))).expect(&rt, "differ");
     same(resize(&mut heap, block, 16), (Ok(()), 3)).expect(&rt, "not grown");
@@ -75,7 +75,7 @@ fn short_rest_is_taken_or_kept(rt: HostRuntime) -> Result<(), Fail> {
 
 #[test]
 fn no_room_changes_nothing(rt: HostRuntime) -> Result<(), Fail> {
-    let mut heap = Heap::open(rt.alloc(), 0, 64, 0)?;
+    let mut heap = Heap::<4>::open(rt.alloc(), 0, 64, 0)?;
     let first = heap.allocate(8)?;
     same(
         resize(&mut heap, first, u32::MAX),
@@ -94,7 +94,7 @@ fn no_room_changes_nothing(rt: HostRuntime) -> Result<(), Fail> {
 
 #[test]
 fn new_bytes_are_zero(rt: HostRuntime) -> Result<(), Fail> {
-    let mut heap = Heap::open(rt.alloc(), 0, 64, 0)?;
+    let mut heap = Heap::<4>::open(rt.alloc(), 0, 64, 0)?;
     let block = heap.allocate(8)?;
     heap.write(block, 0, &[0xff; 8])?;
     heap.resize(block, 7)?;
@@ -115,7 +115,7 @@ fn new_bytes_are_zero(rt: HostRuntime) -> Result<(), Fail> {
 
 #[test]
 fn refusals_in_their_order(rt: HostRuntime) -> Result<(), Fail> {
-    let mut heap = Heap::open(rt.alloc(), 0, 64, u64::MAX - 2)?;
+    let mut heap = Heap::<4>::open(rt.alloc(), 0, 64, u64::MAX - 2)?;
     let block = heap.allocate(8)?;
     for (block, len, why) in [
         (name(1, 0, block.serial), 1000, Refusal::Foreign),

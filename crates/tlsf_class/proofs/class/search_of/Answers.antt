@@ -1,10 +1,22 @@
-use Rattle.tlsf_class.proofs.ClassByBits.{search_of-step}
+use Rattle.std.proofs.Common.{arith}
+use Rattle.tlsf_class.proofs.TwoLevels.{bounds_of}
+use Rattle.tlsf_class.proofs.ClassByBits.{search_of-step, doublings}
 use Rattle.tlsf_class.proofs.class.search_of.Goals as goal
 
+pub overflow_add-result-2 : goal.overflow_add-result-2
+overflow_add-result-2 g c =
+    let level = c.requires.level in
+    let is = (search_of-step g.row.SLI level c.args.words c.step_of-step.result c.requires.least c.requires.most c.step_of-step.ensures).0 in
+    omega (arith, doublings g.row.SLI level c.step_of-step.result c.step_of-step.ensures.most, is.most, (bounds_of g.row.SLI level).last_most)
+
 pub invariant_of-result : goal.invariant_of-result
-invariant_of-result c =
-    let is = (search_of-step c.args.words c.step_of-step.result c.requires.least c.requires.most c.step_of-step.ensures).0 in
-    (is.least, is.most)
+invariant_of-result g c =
+    let level = c.requires.level in
+    let is = (search_of-step g.row.SLI level c.args.words c.step_of-step.result c.requires.least c.requires.most c.step_of-step.ensures).0 in
+    rw (doublings g.row.SLI level c.step_of-step.result c.step_of-step.ensures.most) (level, is.least, is.most)
 
 pub returns : goal.returns
-returns c = (search_of-step c.args.words c.step_of-step.result c.requires.least c.requires.most c.step_of-step.ensures).1
+returns g c =
+    let level = c.requires.level in
+    rw (doublings g.row.SLI level c.step_of-step.result c.step_of-step.ensures.most)
+    (search_of-step g.row.SLI level c.args.words c.step_of-step.result c.requires.least c.requires.most c.step_of-step.ensures).1

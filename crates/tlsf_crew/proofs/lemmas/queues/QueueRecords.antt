@@ -24,6 +24,7 @@ use Rattle.tlsf_crew.proofs.lemmas.yard.Fronts.{runs_through}
 use Rattle.tlsf_crew.proofs.lemmas.yard.JoinedEntries.{HasItsAnswer, runs_then, told_nothing, told_own, told_then}
 use Rattle.tlsf_crew.proofs.lemmas.yard.OwnCalls.{Knows}
 use Rattle.tlsf_crew.proofs.lemmas.threads.RecordHistory.{knows_one, one_told}
+use Rattle.tlsf_class.proofs.TwoLevels.{level_4}
 
 -- ---- runs that entries tell
 
@@ -250,7 +251,7 @@ queue_race_posts w v scripts records race i j i_in j_in ne = (race.agree i j i_i
 pub queue_race_lawful : (w v : World) (scripts : List (List Call)) (records : List (List Entry)) → IsQueueRace w scripts records v → AreLawful w → AreLawful v
 queue_race_lawful w v scripts records race lawful j j_in =
     let k : j < length w.heaps = omega (arith, race.heaps) in
-    subst IsLawful (queue_race_runs w v scripts records race j k).left (lawful_run (heap_in w j) (calls_on j (race.made j) (record_of records j)) (lawful j k))
+    subst IsLawful (queue_race_runs w v scripts records race j k).left (lawful_run 4 level_4 (heap_in w j) (calls_on j (race.made j) (record_of records j)) (lawful j k))
 
 pub queue_race_always : (w v : World) (scripts : List (List Call)) (records : List (List Entry)) (race : IsQueueRace w scripts records v) (before later : List Entry) (j : ℕ) → AreLawful w → j < length w.heaps
     → record_of records j ≡ before ++ later → RunsThrough (heap_in w j) j (race.made j) before later (heap_in v j)

@@ -16,6 +16,7 @@ use Rattle.tlsf_crew.proofs.lemmas.yard.Fronts.{runs_through}
 use Rattle.tlsf_crew.proofs.lemmas.yard.JoinedEntries.{HasItsAnswer, runs_then, told_then}
 use Rattle.tlsf_crew.proofs.lemmas.yard.OwnCalls.{Knows}
 use Rattle.tlsf_crew.proofs.lemmas.threads.ScriptRuns.{tell_more}
+use Rattle.tlsf_class.proofs.TwoLevels.{level_4}
 
 -- the entries of some calls of a worker, and the names that they made; `made` has all names of its record
 record ToldCalls (made : List (Option Name)) (n at : ℕ) (s : Told) (calls : List Call) (t : Told) : Type 0 where
@@ -138,7 +139,7 @@ race_posts w v scripts records race i j i_in j_in ne = (race.agree i j i_in j_in
 pub race_lawful : (w v : World) (scripts : List (List Call)) (records : List (List Entry)) → IsRace w scripts records v → AreLawful w → AreLawful v
 race_lawful w v scripts records race lawful j j_in =
     let k : j < length w.heaps = omega (arith, race.heaps) in
-    subst IsLawful (race_runs w v scripts records race j k).left (lawful_run (heap_in w j) (calls_on j (race.made j) (record_of records j)) (lawful j k))
+    subst IsLawful (race_runs w v scripts records race j k).left (lawful_run 4 level_4 (heap_in w j) (calls_on j (race.made j) (record_of records j)) (lawful j k))
 
 pub race_always : (w v : World) (scripts : List (List Call)) (records : List (List Entry)) (race : IsRace w scripts records v) (before later : List Entry) (j : ℕ) → IsLawful (heap_in w j) → j < length w.heaps
     → record_of records j ≡ before ++ later → RunsThrough (heap_in w j) j (race.made j) before later (heap_in v j)

@@ -1,4 +1,5 @@
 -- A worker may go to another thread, with its job and with what it hands back.
+use denote.Param.{number}
 use denote.Param.Send.{sendable, recorded_send, struct_send, IsSend}
 use denote.Struct.Declared.{shape}
 use Rattle.std.proofs.Crossing.{Vec-send, crosses}
@@ -23,7 +24,7 @@ take_slot_send = search (sendable, crosses, take_end_send) depth 20
 pub worker_field_send : IsSend worker.the_field.row
 worker_field_send =
     struct_send (shape worker.the_type) (
-      heap_sends.the_send,
+      heap_sends.the_send (number 4),
       (search sendable, (search sendable, (Vec-send (option.the_row post_end.the_row) post_slot_send, (Vec-send (option.the_row take_end.the_row) take_slot_send, tt)))),
     )
 

@@ -22,6 +22,7 @@ use Rattle.tlsf_crew.proofs.lemmas.yard.LaneCalls.{release_told, take_told}
 use Rattle.tlsf_crew.proofs.lemmas.yard.OwnCalls.{Knows, allocate_told, read_told, resize_told, write_told}
 use Rattle.tlsf_crew.proofs.lemmas.yard.NamesMeant.{allocate_unmade, read_unmade, release_unmade, resize_unmade, take_unmade, write_unmade}
 use Rattle.tlsf_crew.proofs.lemmas.yard.JoinedEntries.{HasItsAnswer, IsHistory, history_none, history_then, quiet_posts, told_other}
+use Rattle.tlsf_class.proofs.TwoLevels.{level_4}
 
 -- ---- names that were made stay known
 
@@ -172,4 +173,4 @@ replies_lawful w es lawful j j_in =
     let t = (replies_tell w es).history in
     let k : j < length w.heaps = omega (arith, t.count) in
     let run = t.heaps j k in
-    subst IsLawful run.left (lawful_run (heap_in w j) (calls_on j (replies w es).made (replies w es).entries) (lawful j k))
+    subst IsLawful run.left (lawful_run 4 level_4 (heap_in w j) (calls_on j (replies w es).made (replies w es).entries) (lawful j k))

@@ -490,7 +490,7 @@ model r ws zs s =
     }
 
 nothing_run : (made : List (Option Name)) (own : List Entry) (j : ℕ) (h g : HeapState) → entries_of j own ≡ [] → RunsTo h (calls_on j made own) (answers_on j own) g → h ≡ g
-nothing_run made own j h g none run = sym (ap (λ (es : List Entry). (heap.run h (filter_map (λ e. call_on_own made e.worker e.call e.reply) es)).1) none) ∙ run.left
+nothing_run made own j h g none run = sym (ap (λ (es : List Entry). (heap.run 4 h (filter_map (λ e. call_on_own made e.worker e.call e.reply) es)).1) none) ∙ run.left
 
 heaps_stay : (r : Run) (s : Replayed) → Model r s → s.world.heaps ≡ (world_of (us_of r)).heaps
 unfolding world_of

@@ -15,6 +15,7 @@ use Rattle.tlsf_crew.specs.yard.History.{AreLawful, RunsThrough, RunsTo, answer_
 use Rattle.tlsf_crew.specs.yard.World.{World, heap_in, replies}
 use Rattle.tlsf_crew.proofs.lemmas.yard.AllEntries.{replies_tell}
 use Rattle.tlsf_crew.proofs.lemmas.yard.JoinedEntries.{HasItsAnswer, length_run, run_more, told_other, told_own, told_then}
+use Rattle.tlsf_class.proofs.TwoLevels.{level_4}
 
 -- so many calls on a heap are told as answers of it
 as_many : (made : List (Option Name)) (workers j : ℕ) (es : List Entry) → j < workers → All (HasItsAnswer made workers) es → length (calls_on j made es) ≡ length (answers_on j es)
@@ -36,14 +37,14 @@ as_many made workers j (e ∷ es) j_in each =
 
 -- a run of some calls and then of others
 run_split : (h last : HeapState) (cs ds : List heap.Call) (xs ys : List heap.Answer) → length cs ≡ length xs → RunsTo h (cs ++ ds) (xs ++ ys) last
-    → RunsTo h cs xs (heap.run h cs).1 × RunsTo (heap.run h cs).1 ds ys last
+    → RunsTo h cs xs (heap.run 4 h cs).1 × RunsTo (heap.run 4 h cs).1 ds ys last
 run_split h last cs ds xs ys even run =
     let more = run_more h cs ds in
-    let first = map handed_on (heap.run h cs).0 in
-    let rest = map handed_on (heap.run (heap.run h cs).1 ds).0 in
+    let first = map handed_on (heap.run 4 h cs).0 in
+    let rest = map handed_on (heap.run 4 (heap.run 4 h cs).1 ds).0 in
     let told : first ++ rest ≡ xs ++ ys
-    = sym (ap (λ x. map handed_on x.0) more ∙ map-append handed_on (heap.run h cs).0 (heap.run (heap.run h cs).1 ds).0) ∙ run.told in
-    let len : length first ≡ length xs = length-map (heap.run h cs).0 handed_on ∙ (length_run h cs ∙ even) in (
+    = sym (ap (λ x. map handed_on x.0) more ∙ map-append handed_on (heap.run 4 h cs).0 (heap.run 4 (heap.run 4 h cs).1 ds).0) ∙ run.told in
+    let len : length first ≡ length xs = length-map (heap.run 4 h cs).0 handed_on ∙ (length_run h cs ∙ even) in (
       record { told = sym (take-append_seam first rest) ∙ (ap (take (length first)) told ∙ (ap (λ n. take n (xs ++ ys)) len ∙ take-append_seam xs ys)); left = refl },
       record {
         told = sym (drop-append_seam first rest) ∙ (ap (drop (length first)) told ∙ (ap (λ n. drop n (xs ++ ys)) len ∙ drop-append_seam xs ys));
@@ -61,7 +62,7 @@ runs_through made workers j h last before later j_in lawful each run =
     let answers = told_then (λ e. answer_told e.call e.reply) j before later in
     let both = run_split h last (calls_on j made before) (calls_on j made later) (answers_on j before) (answers_on j later)
     (as_many made workers j before j_in front) (rw (calls, answers) at run) in
-    record { between = (heap.run h (calls_on j made before)).1; first = both.0; lawful = lawful_run h (calls_on j made before) lawful; rest = both.1 }
+    record { between = (heap.run 4 h (calls_on j made before)).1; first = both.0; lawful = lawful_run 4 level_4 h (calls_on j made before) lawful; rest = both.1 }
 
 pub replies_always : (w : World) (es : List Event) (before later : List Entry) (j : ℕ) → AreLawful w → j < length w.heaps → (replies w es).entries ≡ before ++ later
     → RunsThrough (heap_in w j) j (replies w es).made before later (heap_in (replies w es).world j)

@@ -22,19 +22,19 @@ given_at h len (Some s) = by_test (λ x. IsKnown x.answer) (is_worn h) (refused 
 
 pub allocated_known : (h : HeapState) (len : ℕ) → IsKnown (allocated h len).answer
 unfolding allocated
-allocated_known h len = given_at h len (choice (want len) h.blocks)
+allocated_known h len = given_at h len (choice 4 (want len) h.blocks)
 
 pub allocated_id : (h : HeapState) (len : ℕ) → (allocated h len).heap.id ≡ h.id
 unfolding allocated
-allocated_id h len = ids h (Allocate len)
+allocated_id h len = ids 4 h (Allocate len)
 
 pub allocated_stays : (h : HeapState) (len : ℕ) (m : Name) → IsLive h m → IsLive (allocated h len).heap m
 unfolding allocated
-allocated_stays h len m live = kept h m (Allocate len) (λ t. let e = t.0 in cc) live
+allocated_stays h len m live = kept 4 h m (Allocate len) (λ t. let e = t.0 in cc) live
 
 pub allocated_new : (h : HeapState) (len : ℕ) (name : Name) → (allocated h len).answer ≡ Ok name → IsLive (allocated h len).heap name
 unfolding allocated
-allocated_new h len name e = given h len name e
+allocated_new h len name e = given 4 h len name e
 
 pub released_known : (h : HeapState) (name : Name) → IsLive h name → IsKnown (released h name).answer
 unfolding released
@@ -42,18 +42,18 @@ released_known h name live = (known h name live).0
 
 pub released_id : (h : HeapState) (name : Name) → (released h name).heap.id ≡ h.id
 unfolding released
-released_id h name = ids h (Release name)
+released_id h name = ids 4 h (Release name)
 
 -- each other name stays live
 pub released_stays : (h : HeapState) (name m : Name) → (m ≡ name → ⊥) → IsLive h m → IsLive (released h name).heap m
 unfolding released
-released_stays h name m other live = kept h m (Release name) (λ t. other (let e = t.0 in cc)) live
+released_stays h name m other live = kept 4 h m (Release name) (λ t. other (let e = t.0 in cc)) live
 
 -- and so does the name itself where its release is refused
 pub refused_stays : (h : HeapState) (name m : Name) (why : Refusal) → (released h name).answer ≡ Err why → IsLive h m → IsLive (released h name).heap m
 unfolding released
 refused_stays h name m why e live =
-    kept h m (Release name) (λ t. let same : name ≡ m = let q = t.0 in cc in let ok = rw (sym same) at t.1 in cc) live
+    kept 4 h m (Release name) (λ t. let same : name ≡ m = let q = t.0 in cc in let ok = rw (sym same) at t.1 in cc) live
 
 -- a write or a read of a name of this heap that is live
 written_some : (h : HeapState) (from : ℕ) (bytes : List ℕ) (o : Option Site) → IsSome o → IsKnown (written_at h from bytes o).answer
@@ -67,11 +67,11 @@ written_known h name from bytes live =
 
 pub written_id : (h : HeapState) (name : Name) (from : ℕ) (bytes : List ℕ) → (written h name from bytes).heap.id ≡ h.id
 unfolding written
-written_id h name from bytes = ids h (Write name from bytes)
+written_id h name from bytes = ids 4 h (Write name from bytes)
 
 pub written_stays : (h : HeapState) (name : Name) (from : ℕ) (bytes : List ℕ) (m : Name) → IsLive h m → IsLive (written h name from bytes).heap m
 unfolding written
-written_stays h name from bytes m live = kept h m (Write name from bytes) (λ t. let e = t.0 in cc) live
+written_stays h name from bytes m live = kept 4 h m (Write name from bytes) (λ t. let e = t.0 in cc) live
 
 resized_some : (h : HeapState) (len : ℕ) (o : Option Site) → IsSome o → IsKnown (resized_at h len o).answer
 resized_some h len None some = absurd (false≢true some)
@@ -86,11 +86,11 @@ resized_known h name len live =
 
 pub resized_id : (h : HeapState) (name : Name) (len : ℕ) → (resized h name len).heap.id ≡ h.id
 unfolding resized
-resized_id h name len = ids h (Resize name len)
+resized_id h name len = ids 4 h (Resize name len)
 
 pub resized_stays : (h : HeapState) (name : Name) (len : ℕ) (m : Name) → IsLive h m → IsLive (resized h name len).heap m
 unfolding resized
-resized_stays h name len m live = kept h m (Resize name len) (λ t. let e = t.0 in cc) live
+resized_stays h name len m live = kept 4 h m (Resize name len) (λ t. let e = t.0 in cc) live
 
 read_some : (h : HeapState) (from n : ℕ) (o : Option Site) → IsSome o → IsKnown (read_at from n o)
 read_some h from n None some = absurd (false≢true some)

@@ -14,27 +14,27 @@ use Rattle.tlsf_crew.specs.yard.World.{World, heap_in}
 
 -- ---- runs in turn
 
-pub run_more : (h : HeapState) (cs ds : List heap.Call) → heap.run h (cs ++ ds) ≡ ((heap.run h cs).0 ++ (heap.run (heap.run h cs).1 ds).0, (heap.run (heap.run h cs).1 ds).1)
+pub run_more : (h : HeapState) (cs ds : List heap.Call) → heap.run 4 h (cs ++ ds) ≡ ((heap.run 4 h cs).0 ++ (heap.run 4 (heap.run 4 h cs).1 ds).0, (heap.run 4 (heap.run 4 h cs).1 ds).1)
 run_more h [] ds = refl
-run_more h (c ∷ cs) ds = let step = heap.answered h c in let a = run_more step.1 cs ds in ap (λ x. (step.0 ∷ x.0, x.1)) a
+run_more h (c ∷ cs) ds = let step = heap.answered 4 h c in let a = run_more step.1 cs ds in ap (λ x. (step.0 ∷ x.0, x.1)) a
 
 pub runs_then : (h g k : HeapState) (cs ds : List heap.Call) (xs ys : List heap.Answer) → RunsTo h cs xs g → RunsTo g ds ys k → RunsTo h (cs ++ ds) (xs ++ ys) k
 runs_then h g k cs ds xs ys a b =
     let e = run_more h cs ds in
-    let at : (heap.run (heap.run h cs).1 ds) ≡ heap.run g ds = ap (λ x. heap.run x ds) a.left in
+    let at : (heap.run 4 (heap.run 4 h cs).1 ds) ≡ heap.run 4 g ds = ap (λ x. heap.run 4 x ds) a.left in
     record {
-      told = ap (λ x. map handed_on x.0) e ∙ (map-append handed_on (heap.run h cs).0 (heap.run (heap.run h cs).1 ds).0
-          ∙ (ap (λ l. l ++ map handed_on (heap.run (heap.run h cs).1 ds).0) a.told ∙ ap (λ l. xs ++ l) (ap (λ x. map handed_on x.0) at ∙ b.told)));
+      told = ap (λ x. map handed_on x.0) e ∙ (map-append handed_on (heap.run 4 h cs).0 (heap.run 4 (heap.run 4 h cs).1 ds).0
+          ∙ (ap (λ l. l ++ map handed_on (heap.run 4 (heap.run 4 h cs).1 ds).0) a.told ∙ ap (λ l. xs ++ l) (ap (λ x. map handed_on x.0) at ∙ b.told)));
       left = ap (λ x. x.1) e ∙ (ap (λ x. x.1) at ∙ b.left);
     }
 
-pub length_run : (h : HeapState) (cs : List heap.Call) → length (heap.run h cs).0 ≡ length cs
+pub length_run : (h : HeapState) (cs : List heap.Call) → length (heap.run 4 h cs).0 ≡ length cs
 length_run h [] = refl
-length_run h (c ∷ cs) = ap suc (length_run (heap.answered h c).1 cs)
+length_run h (c ∷ cs) = ap suc (length_run (heap.answered 4 h c).1 cs)
 
 -- so many answers as calls
 length_told : (h g : HeapState) (cs : List heap.Call) (xs : List heap.Answer) → RunsTo h cs xs g → length cs ≡ length xs
-length_told h g cs xs r = sym (length_run h cs) ∙ (sym (length-map (heap.run h cs).0 handed_on) ∙ ap length r.told)
+length_told h g cs xs r = sym (length_run h cs) ∙ (sym (length-map (heap.run 4 h cs).0 handed_on) ∙ ap length r.told)
 
 -- ---- what is told by some entries and then by others, and by one
 

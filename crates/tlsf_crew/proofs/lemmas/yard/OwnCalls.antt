@@ -38,8 +38,8 @@ Knows later made = (target : Target) (name : Name) → name_of made target ≡ S
 -- ---- the own heap does the call
 
 -- one call on a heap
-once : (h : HeapState) (call : heap.Call) (told : Option heap.Call) (a : Option heap.Answer) → told ≡ Some call → a ≡ Some (handed_on (heap.answered h call).0)
-    → RunsTo h (cons_option told []) (cons_option a []) (heap.answered h call).1
+once : (h : HeapState) (call : heap.Call) (told : Option heap.Call) (a : Option heap.Answer) → told ≡ Some call → a ≡ Some (handed_on (heap.answered 4 h call).0)
+    → RunsTo h (cons_option told []) (cons_option a []) (heap.answered 4 h call).1
 once h call told a x y = rw (x, y) (record { told = refl; left = refl })
 
 never : (h : HeapState) (told : Option heap.Call) (a : Option heap.Answer) → told ≡ None → a ≡ None → RunsTo h (cons_option told []) (cons_option a []) h
@@ -47,10 +47,10 @@ never h told a x y = rw (x, y) (record { told = refl; left = refl })
 
 -- one call, with its answer, done by its worker's own heap
 pub done_here : (made : List (Option Name)) (w : World) (at : ℕ) (call : Call) (reply : Reply) (own : heap.Call) → at < length w.heaps
-    → call_on_own made at call reply ≡ Some own → answer_told call reply ≡ Some (handed_on (heap.answered (heap_in w at) own).0)
-    → IsOwnCall made w (record { worker = at; call = call; reply = reply }) (with_heap w at (heap.answered (heap_in w at) own).1)
+    → call_on_own made at call reply ≡ Some own → answer_told call reply ≡ Some (handed_on (heap.answered 4 (heap_in w at) own).0)
+    → IsOwnCall made w (record { worker = at; call = call; reply = reply }) (with_heap w at (heap.answered 4 (heap_in w at) own).1)
 done_here made w at call reply own at_in x y =
-    let g = (heap.answered (heap_in w at) own).1 in
+    let g = (heap.answered 4 (heap_in w at) own).1 in
     let same : heap_in (with_heap w at g) at ≡ g = get_or-set_same w.heaps at g no_heap at_in in
     record {
       own = rw same (once (heap_in w at) own (call_on_own made at call reply) (answer_told call reply) x y);
@@ -78,8 +78,8 @@ unfolding allocated
 allocate_told made w at len at_in =
     let a = allocating w at len in
     history_quiet made w a.world (record { worker = at; call = Allocate len; reply = a.reply })
-    (done_here made w at (Allocate len) a.reply (heap.Allocate len) at_in refl (made_told len (heap.allocated (heap_in w at) len).answer))
-    (record { made_none = λ j. refl; taken_none = λ i. refl }) refl (length-set w.heaps at (heap.allocated (heap_in w at) len).heap)
+    (done_here made w at (Allocate len) a.reply (heap.Allocate len) at_in refl (made_told len (heap.allocated 4 (heap_in w at) len).answer))
+    (record { made_none = λ j. refl; taken_none = λ i. refl }) refl (length-set w.heaps at (heap.allocated 4 (heap_in w at) len).heap)
 
 -- ---- write
 

@@ -12,6 +12,7 @@ use Rattle.tlsf_crew.specs.declared.yard.worker.Worker.{Worker}
 use Rattle.tlsf_crew.specs.yard.Workers.{heap_of}
 use Rattle.tlsf_crew.specs.yard.Yard.{yard_heap, no_heap, IsHeapOf}
 use Rattle.tlsf_crew.proofs.lemmas.yard.Slots.{get_set_same, get_set_other, heap_at}
+use Rattle.tlsf_class.proofs.TwoLevels.{level_4}
 
 -- the heap k has the number of h, and is lawful where h is
 abbrev pub KeepsHeap : HeapState → HeapState → Type 0
@@ -20,8 +21,8 @@ KeepsHeap h k = (k.id ≡ h.id) × (IsLawful h → IsLawful k)
 pub same_heap_keeps : (h k : HeapState) → k ≡ h → KeepsHeap h k
 same_heap_keeps h k e = (ap (λ x. x.id) e, λ lawful. subst IsLawful (sym e) lawful)
 
-pub call_keeps : (h k : HeapState) (call : Call) → k ≡ (answered h call).1 → KeepsHeap h k
-call_keeps h k call e = (ap (λ x. x.id) e ∙ ids h call, λ lawful. subst IsLawful (sym e) (lawful_run h (call ∷ []) lawful))
+pub call_keeps : (h k : HeapState) (call : Call) → k ≡ (answered 4 h call).1 → KeepsHeap h k
+call_keeps h k call e = (ap (λ x. x.id) e ∙ ids 4 h call, λ lawful. subst IsLawful (sym e) (lawful_run 4 level_4 h (call ∷ []) lawful))
 
 -- each worker has a lawful heap of its number
 abbrev pub OwnHeaps : List Worker → Type 0
@@ -45,7 +46,7 @@ heaps_set ws i a v is kept heaps x x_in =
           subst (IsHeapOf x) (sym e) h
     ]
 
-pub opened_lawful : (id words : ℕ) → IsRegion words → IsHeapOf id (opened id words 0)
+pub opened_lawful : (id words : ℕ) → IsRegion 4 words → IsHeapOf id (opened id words 0)
 opened_lawful id words region = (
   refl,
   record {

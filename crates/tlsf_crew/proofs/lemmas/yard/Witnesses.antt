@@ -99,21 +99,21 @@ made_idle : (at len : ℕ) (later : List (Option Name)) (a : Worker) (limits : L
 made_idle at len later a limits (Ok name) = made_quiet at len later a limits name
 made_idle at len later a limits (Err why) = refused_quiet at len later a limits why
 
-allocated_here : (n len : ℕ) (a v : Worker) → heap_of v ≡ (heap.allocated (heap_of a) len).heap → KnowsYard n a → (w : World) → HasHeap w n (id_of a) (heap_of a)
-    → ModelReplies (id_of a) v (reply_made (heap.allocated (heap_of a) len).answer) (allocating w (id_of a) len)
+allocated_here : (n len : ℕ) (a v : Worker) → heap_of v ≡ (heap.allocated 4 (heap_of a) len).heap → KnowsYard n a → (w : World) → HasHeap w n (id_of a) (heap_of a)
+    → ModelReplies (id_of a) v (reply_made (heap.allocated 4 (heap_of a) len).answer) (allocating w (id_of a) len)
 unfolding allocated
 allocated_here n len a v h k w has =
     let at = id_of a in
     record {
-      reply = ap (λ g. reply_made (heap.allocated g len).answer) (sym has.1);
-      left = h ∙ (ap (λ g. (heap.allocated g len).heap) (sym has.1) ∙ sym (heap_left n at w (heap_of a) (heap.allocated (heap_in w at) len).heap k.self has));
+      reply = ap (λ g. reply_made (heap.allocated 4 g len).answer) (sym has.1);
+      left = h ∙ (ap (λ g. (heap.allocated 4 g len).heap) (sym has.1) ∙ sym (heap_left n at w (heap_of a) (heap.allocated 4 (heap_in w at) len).heap k.self has));
     }
 
 pub allocate_answered : (made : List (Option Name)) (a v : Worker) (limits : List ℕ) (len : ℕ) (reply : Reply) → SameButHeap a v → KeepsYards a v
-    → reply ≡ reply_made (heap.allocated (heap_of a) len).answer → heap_of v ≡ (heap.allocated (heap_of a) len).heap
+    → reply ≡ reply_made (heap.allocated 4 (heap_of a) len).answer → heap_of v ≡ (heap.allocated 4 (heap_of a) len).heap
     → CallStep made a limits (Allocate len) v limits reply (λ w. allocating w (id_of a) len)
 allocate_answered made a v limits len reply same yard e h =
-    let o = (heap.allocated (heap_of a) len).answer in
+    let o = (heap.allocated 4 (heap_of a) len).answer in
     subst (λ r. CallStep made a limits (Allocate len) v limits r (λ w. allocating w (id_of a) len)) (sym e)
     (answered_quiet made a v limits (Allocate len) (reply_made o) (λ w. allocating w (id_of a) len) same yard (λ later. made_idle (id_of a) len later a limits o)
     (λ n k w has s. allocated_here n len a v h k w has))

@@ -1,10 +1,11 @@
+use Rattle.std.proofs.Common.{arith}
 use Rattle.tlsf_heap.specs.Regions.{list_in}
 use Rattle.tlsf_heap.proofs.Choosing.{none_above, best_class}
 use Rattle.tlsf_heap.proofs.fitting.choose.Goals as goal
 
-pub returns-then-words-gt-MOST_WORDS-clause-best : goal.returns-then-words-gt-MOST_WORDS-clause-best
-returns-then-words-gt-MOST_WORDS-clause-best c = none_above c.args.words c.args.region.now.blocks c.if-words-gt-MOST_WORDS.true
+pub returns-then-words-most_words-clause-best : goal.returns-then-words-most_words-clause-best
+returns-then-words-most_words-clause-best g c = none_above g.row.SLI c.requires.level c.args.words c.args.region.now.blocks (omega (arith, c.most_words.ensures, c.if-words-most_words.true))
 
 pub returns-clause-best : goal.returns-clause-best
-returns-clause-best c =
-    best_class c.args.words c.search_of.result (list_in c.args.region.now.lists) c.args.region.now.blocks c.search_of.ensures c.requires.sized c.requires.listed c.next_from.result c.next_from.ensures.least
+returns-clause-best g c =
+    best_class g.row.SLI c.requires.level c.args.words c.search_of.result (list_in c.args.region.now.lists) c.args.region.now.blocks c.search_of.ensures c.requires.sized c.requires.listed c.next_from.result c.next_from.ensures.least

@@ -1,4 +1,5 @@
 use Rattle.std.proofs.Common.{◌≡◌, ◌+◌, ◌-◌, suc, drop, refl, ap, ◌∙◌, arith}
+use Rattle.tlsf_class.proofs.TwoLevels.{most_words_any}
 use Rattle.tlsf_class.specs.Classes.{class_of}
 use Rattle.tlsf_heap.specs.Blocks.{size_of}
 use Rattle.tlsf_heap.specs.Calls.{first_free}
@@ -10,109 +11,126 @@ use Rattle.tlsf_heap.proofs.Forgetting.{is_between, forgets, end_within, next_re
 use Rattle.tlsf_heap.proofs.refitting.recut.Goals as goal
 
 pub overflow_add-at : goal.overflow_add-at
-overflow_add-at c =
+overflow_add-at g c =
     let live = c.requires.live in
     let is = c.requires.own live.0 live.1 in
-    let f = is_between (live.0, live.1, live.2.0) c.requires.sized c.requires.stamped c.requires.listed refl in
-    omega (arith, is.size, end_within f, c.requires.small)
+    let f = is_between g.row.SLI (live.0, live.1, live.2.0) c.requires.sized c.requires.stamped c.requires.listed refl in
+    omega (arith, is.size, end_within g.row.SLI f, c.requires.small, most_words_any g.row.SLI)
 
-pub forget-requires-clause-sized : goal.forget-requires-clause-sized
-forget-requires-clause-sized c some =
+pub forget-requires : goal.forget-requires
+forget-requires g c =
     let live = c.requires.live in
     let next = c.requires.next live.0 live.1 in
-    let f = is_between (live.0, live.1, live.2.0) c.requires.sized c.requires.stamped c.requires.listed refl in
-    rw next.size (next_region f (omega (arith, some, next.size)))
+    let f = is_between g.row.SLI (live.0, live.1, live.2.0) c.requires.sized c.requires.stamped c.requires.listed refl in
+    let is = c.requires.own live.0 live.1 in (
+      omega arith,
+      (
+        c.requires.level,
+        (
+          λ some. rw next.size (next_region g.row.SLI f (omega (arith, some, next.size))),
+          λ some. rw (is.size, next.size) (contains_next g.row.SLI f (omega (arith, some, next.size))),
+        ),
+      ),
+    )
 
-pub forget-requires-clause-listed : goal.forget-requires-clause-listed
-forget-requires-clause-listed c some =
-    let live = c.requires.live in
-    let is = c.requires.own live.0 live.1 in
-    let next = c.requires.next live.0 live.1 in
-    let f = is_between (live.0, live.1, live.2.0) c.requires.sized c.requires.stamped c.requires.listed refl in
-    rw (is.size, next.size) (contains_next f (omega (arith, some, next.size)))
-
-pub recut-rest-requires-clause-small : goal.recut-rest-requires-clause-small
-recut-rest-requires-clause-small c =
-    let live = c.requires.live in
-    let is = c.requires.own live.0 live.1 in
-    let next = c.requires.next live.0 live.1 in
-    let f = is_between (live.0, live.1, live.2.0) c.requires.sized c.requires.stamped c.requires.listed refl in
-    omega (arith, is.size, next.size, end_within f, c.requires.small)
-
-pub recut-rest-requires-clause-unlisted : goal.recut-rest-requires-clause-unlisted
-recut-rest-requires-clause-unlisted c k low high =
+pub recut-rest-requires : goal.recut-rest-requires
+recut-rest-requires g c =
     let live = c.requires.live in
     let is = c.requires.own live.0 live.1 in
     let next = c.requires.next live.0 live.1 in
-    let f = is_between (live.0, live.1, live.2.0) c.requires.sized c.requires.stamped c.requires.listed refl in
+    let f = is_between g.row.SLI (live.0, live.1, live.2.0) c.requires.sized c.requires.stamped c.requires.listed refl in
     let e = c.forget.ensures in
-    let out = forgets next.size (λ some. ap (λ n. c.args.at + n) is.size) e.list e.others e.none in
-    own_unlisted f out k low (omega (arith, high, is.size, next.size))
+    let out = forgets g.row.SLI next.size (λ some. ap (λ n. c.args.at + n) is.size) e.list e.others e.none in (
+      omega arith,
+      (
+        c.requires.least,
+        (
+          rw e.blocks c.requires.live,
+          (
+            rw (e.blocks, e.words) c.requires.own,
+            (
+              rw (e.blocks, e.words) c.requires.next,
+              (
+                c.requires.room,
+                (
+                  omega (arith, is.size, next.size, end_within g.row.SLI f, c.requires.small, most_words_any g.row.SLI),
+                  λ k low high. own_unlisted g.row.SLI f out k low (omega (arith, high, is.size, next.size)),
+                ),
+              ),
+            ),
+          ),
+        ),
+      ),
+    )
 
-pub class_of-requires-clause-most : goal.class_of-requires-clause-most
-class_of-requires-clause-most c =
+pub class_of-requires : goal.class_of-requires
+class_of-requires g c =
     let live = c.requires.live in
     let is = c.requires.own live.0 live.1 in
     let next = c.requires.next live.0 live.1 in
-    let f = is_between (live.0, live.1, live.2.0) c.requires.sized c.requires.stamped c.requires.listed refl in
-    let some = rest_some (c.args.own.size + c.args.next.size) c.args.words (omega (arith, c.if-rest-gt0.true, c.recut-rest.ensures.rest)) in
-    omega (arith, some.1, c.recut-rest.ensures.rest, is.size, next.size, end_within f, c.requires.small)
+    let f = is_between g.row.SLI (live.0, live.1, live.2.0) c.requires.sized c.requires.stamped c.requires.listed refl in
+    let some = rest_some (c.args.own.size + c.args.next.size) c.args.words (omega (arith, c.if-rest-gt0.true, c.recut-rest.ensures.rest)) in (
+      omega arith,
+      (
+        c.requires.level,
+        (
+          omega (arith, some.0, some.1, c.recut-rest.ensures.rest),
+          omega (arith, some.1, c.recut-rest.ensures.rest, is.size, next.size, end_within g.row.SLI f, c.requires.small, most_words_any g.row.SLI),
+        ),
+      ),
+    )
 
 pub overflow_add-at-then-rest-gt0 : goal.overflow_add-at-then-rest-gt0
-overflow_add-at-then-rest-gt0 c =
+overflow_add-at-then-rest-gt0 g c =
     let live = c.requires.live in
     let is = c.requires.own live.0 live.1 in
     let next = c.requires.next live.0 live.1 in
-    let f = is_between (live.0, live.1, live.2.0) c.requires.sized c.requires.stamped c.requires.listed refl in
-    omega (arith, is.size, next.size, end_within f, c.requires.room, c.requires.small)
+    let f = is_between g.row.SLI (live.0, live.1, live.2.0) c.requires.sized c.requires.stamped c.requires.listed refl in
+    omega (arith, is.size, next.size, end_within g.row.SLI f, c.requires.room, c.requires.small, most_words_any g.row.SLI)
 
-pub push-requires-clause-free : goal.push-requires-clause-free
-push-requires-clause-free c =
+pub push-requires : goal.push-requires
+push-requires g c =
     let live = c.requires.live in
     let is = c.requires.own live.0 live.1 in
     let next = c.requires.next live.0 live.1 in
-    let f = is_between (live.0, live.1, live.2.0) c.requires.sized c.requires.stamped c.requires.listed refl in
+    let f = is_between g.row.SLI (live.0, live.1, live.2.0) c.requires.sized c.requires.stamped c.requires.listed refl in
     let e = c.forget.ensures in
-    let out = forgets next.size (λ some. ap (λ n. c.args.at + n) is.size) e.list e.others e.none in
+    let out = forgets g.row.SLI next.size (λ some. ap (λ n. c.args.at + n) is.size) e.list e.others e.none in
     let change = (rw e.blocks at c.recut-rest.ensures.change) live.0 live.1 in
-    let some = rest_some (c.args.own.size + c.args.next.size) c.args.words (omega (arith, c.if-rest-gt0.true, c.recut-rest.ensures.rest)) in
-    cut_free f out c.args.words c.recut-rest.new.self.blocks change.blocks (list_in c.recut-rest.new.self.lists) change.lists c.requires.least (omega (arith, some.0, is.size, next.size))
-
-pub push-requires-clause-unlisted : goal.push-requires-clause-unlisted
-push-requires-clause-unlisted c =
-    let live = c.requires.live in
-    let is = c.requires.own live.0 live.1 in
-    let next = c.requires.next live.0 live.1 in
-    let f = is_between (live.0, live.1, live.2.0) c.requires.sized c.requires.stamped c.requires.listed refl in
-    let e = c.forget.ensures in
-    let out = forgets next.size (λ some. ap (λ n. c.args.at + n) is.size) e.list e.others e.none in
-    let change = (rw e.blocks at c.recut-rest.ensures.change) live.0 live.1 in
-    let some = rest_some (c.args.own.size + c.args.next.size) c.args.words (omega (arith, c.if-rest-gt0.true, c.recut-rest.ensures.rest)) in
-    cut_unlisted f out c.args.words c.recut-rest.new.self.blocks change.blocks (list_in c.recut-rest.new.self.lists) change.lists c.requires.least (omega (arith, some.0, is.size, next.size))
+    let some = rest_some (c.args.own.size + c.args.next.size) c.args.words (omega (arith, c.if-rest-gt0.true, c.recut-rest.ensures.rest)) in (
+      omega arith,
+      (
+        omega arith,
+        (
+          cut_free g.row.SLI f out c.args.words c.recut-rest.new.self.blocks change.blocks (list_in c.recut-rest.new.self.lists) change.lists c.requires.least (omega (arith, some.0, is.size, next.size)),
+          cut_unlisted g.row.SLI f out c.args.words c.recut-rest.new.self.blocks change.blocks (list_in c.recut-rest.new.self.lists) change.lists c.requires.least (omega (arith, some.0, is.size, next.size)),
+        ),
+      ),
+    )
 
 pub returns-then-rest-gt0-clause-listed : goal.returns-then-rest-gt0-clause-listed
-returns-then-rest-gt0-clause-listed c =
+returns-then-rest-gt0-clause-listed g c =
     let live = c.requires.live in
     let is = c.requires.own live.0 live.1 in
     let next = c.requires.next live.0 live.1 in
-    let f = is_between (live.0, live.1, live.2.0) c.requires.sized c.requires.stamped c.requires.listed refl in
+    let f = is_between g.row.SLI (live.0, live.1, live.2.0) c.requires.sized c.requires.stamped c.requires.listed refl in
     let e = c.forget.ensures in
-    let out = forgets next.size (λ some. ap (λ n. c.args.at + n) is.size) e.list e.others e.none in
+    let out = forgets g.row.SLI next.size (λ some. ap (λ n. c.args.at + n) is.size) e.list e.others e.none in
     let change = (rw e.blocks at c.recut-rest.ensures.change) live.0 live.1 in
     let some = rest_some (c.args.own.size + c.args.next.size) c.args.words (omega (arith, c.if-rest-gt0.true, c.recut-rest.ensures.rest)) in
     let rest : c.recut-rest.result ≡ size_of (block_at c.args.region.now.blocks live.0) + first_free (drop (suc live.0) c.args.region.now.blocks) - c.args.words =
     omega (arith, c.recut-rest.ensures.rest, some.1, is.size, next.size) in
-    cut_listed f out c.args.words c.recut-rest.new.self.blocks change.blocks (list_in c.recut-rest.new.self.lists) change.lists c.requires.least (omega (arith, some.0, is.size, next.size))
-    c.push.new.self.blocks c.push.ensures.blocks c.class_of.result (list_in c.push.new.self.lists) (c.class_of.ensures ∙ ap class_of rest) c.push.ensures.list c.push.ensures.others
+    cut_listed g.row.SLI f out c.args.words c.recut-rest.new.self.blocks change.blocks (list_in c.recut-rest.new.self.lists) change.lists c.requires.least (omega (arith, some.0, is.size, next.size))
+    c.push.new.self.blocks c.push.ensures.blocks c.class_of.result (list_in c.push.new.self.lists) (c.class_of.ensures ∙ ap (class_of g.row.SLI) rest) c.push.ensures.list c.push.ensures.others
 
 pub returns-else-rest-gt0-clause-listed : goal.returns-else-rest-gt0-clause-listed
-returns-else-rest-gt0-clause-listed c =
+returns-else-rest-gt0-clause-listed g c =
     let live = c.requires.live in
     let is = c.requires.own live.0 live.1 in
     let next = c.requires.next live.0 live.1 in
-    let f = is_between (live.0, live.1, live.2.0) c.requires.sized c.requires.stamped c.requires.listed refl in
+    let f = is_between g.row.SLI (live.0, live.1, live.2.0) c.requires.sized c.requires.stamped c.requires.listed refl in
     let e = c.forget.ensures in
-    let out = forgets next.size (λ some. ap (λ n. c.args.at + n) is.size) e.list e.others e.none in
+    let out = forgets g.row.SLI next.size (λ some. ap (λ n. c.args.at + n) is.size) e.list e.others e.none in
     let change = (rw e.blocks at c.recut-rest.ensures.change) live.0 live.1 in
     let none = rest_none (c.args.own.size + c.args.next.size) c.args.words (omega (arith, c.if-rest-gt0.false, c.recut-rest.ensures.rest)) in
-    wide_listed f out c.args.words c.recut-rest.new.self.blocks change.blocks (list_in c.recut-rest.new.self.lists) change.lists (omega (arith, none, is.size, next.size))
+    wide_listed g.row.SLI f out c.args.words c.recut-rest.new.self.blocks change.blocks (list_in c.recut-rest.new.self.lists) change.lists (omega (arith, none, is.size, next.size))

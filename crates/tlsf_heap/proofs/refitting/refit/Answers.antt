@@ -5,9 +5,10 @@ use Rattle.tlsf_heap.specs.Blocks.{Block, StandsAt, size_of, is_free, bytes_of, 
 use Rattle.tlsf_heap.specs.Calls.{first_free, with_bytes, fitted, recut}
 use Rattle.tlsf_heap.specs.GoodFit.{Site, block_at, site_at}
 use Rattle.tlsf_heap.specs.Regions.{AreRegions, EachAt, IsTagOf, IsTagBehind, list_in}
+use Rattle.tlsf_heap.proofs.Allocating.{regions_of}
 use Rattle.tlsf_heap.proofs.Fitted.{length-fitted}
 use Rattle.tlsf_heap.proofs.Payloads.{is_free-with_bytes}
-use Rattle.tlsf_heap.proofs.Refitted.{tag_rebytes, behind_rebytes, payload_room, bytes_of-with_bytes, rebytes_around, rebytes_site, rebytes_listed, rebytes_stamps, refitted_grown, refitted_cut, recut_stands, recut_takes, recut_rebytes}
+use Rattle.tlsf_heap.proofs.Refitted.{tag_rebytes, behind_rebytes, payload_room, bytes_of-with_bytes, rebytes_around, rebytes_site, rebytes_listed, rebytes_stamps, rebytes_words, refitted_grown, refitted_cut, recut_stands, recut_takes, recut_rebytes}
 use Rattle.tlsf_heap.proofs.Showing.{stands_once}
 use Rattle.tlsf_heap.proofs.Sizes.{one_index, stands_around, block_around}
 use Rattle.tlsf_heap.proofs.refitting.refit.Goals as goal
@@ -18,26 +19,55 @@ room_here : {bs : List Block} {at words n i : ℕ} {own next : Tag} → EachAt b
 room_here {i = i} is_own is_next room stands = omega (arith, (is_own i stands).size, (is_next i stands).size, room)
 
 -- a block that begins at a place is live where the one there is
-live_here : {bs : List Block} {at i : ℕ} → AreRegions bs → (live : (j : ℕ) × StandsAt bs at j × (is_free (block_at bs j) ≡ false)) → StandsAt bs at i → is_free (block_at bs i) ≡ false
-live_here {bs = bs} {at = at} {i = i} sized live stands = subst (λ (k : ℕ). is_free (block_at bs k) ≡ false) (one_index bs at live.0 i sized live.1 stands) live.2
+live_here : (sli : ℕ) {bs : List Block} {at i : ℕ} → AreRegions sli bs → (live : (j : ℕ) × StandsAt bs at j × (is_free (block_at bs j) ≡ false)) → StandsAt bs at i → is_free (block_at bs i) ≡ false
+live_here sli {bs = bs} {at = at} {i = i} sized live stands = subst (λ (k : ℕ). is_free (block_at bs k) ≡ false) (one_index sli bs at live.0 i sized live.1 stands) live.2
 
 -- ---- the block grows
 
-pub recut-requires-clause-live : goal.recut-requires-clause-live
-recut-requires-clause-live c =
-    let live = c.requires.live in
-    (live.0, live.1, (live.2, omega (arith, payload_room c.requires.rooms live.1 live.2, (c.requires.own live.0 live.1).size, c.if-words-own.true)))
+pub recut-requires : goal.recut-requires
+recut-requires g c =
+    let live = c.requires.live in (
+      omega arith,
+      (
+        c.requires.level,
+        (
+          c.requires.least,
+          (
+            (live.0, live.1, (live.2, omega (arith, payload_room c.requires.rooms live.1 live.2, (c.requires.own live.0 live.1).size, c.if-words-own.true))),
+            (
+              c.requires.own,
+              (
+                c.requires.next,
+                (
+                  c.requires.room,
+                  (
+                    c.requires.sized,
+                    (
+                      c.requires.small,
+                      (
+                        c.requires.listed,
+                        c.requires.stamped,
+                      ),
+                    ),
+                  ),
+                ),
+              ),
+            ),
+          ),
+        ),
+      ),
+    )
 
 pub set_payload-requires : goal.set_payload-requires
-set_payload-requires c =
+set_payload-requires g c =
     let live = c.requires.live in
     let room = room_here c.requires.own c.requires.next c.requires.room live.1 in
     let is = c.recut.ensures.blocks live.0 live.1 in
-    (live.0, recut_stands live.1 live.2 c.args.tick room is, recut_takes live.1 live.2 c.args.tick room is (words_for c.args.len) c.requires.payload)
+    (omega arith, (live.0, recut_stands live.1 live.2 c.args.tick room is, recut_takes live.1 live.2 c.args.tick room is (words_for c.args.len) c.requires.payload))
 
 pub returns-then-words-own-clause-blocks : goal.returns-then-words-own-clause-blocks
-returns-then-words-own-clause-blocks c i stands =
-    let live = live_here c.requires.sized c.requires.live stands in
+returns-then-words-own-clause-blocks g c i stands =
+    let live = live_here g.row.SLI c.requires.sized c.requires.live stands in
     let room = room_here c.requires.own c.requires.next c.requires.room stands in
     let is = c.recut.ensures.blocks i stands in
     let set = c.set_payload.ensures i (recut_stands stands live c.args.tick room is) in
@@ -45,15 +75,15 @@ returns-then-words-own-clause-blocks c i stands =
     ∙ ap (λ (l : List Block). take i c.args.region.now.blocks ++ l) (sym (refitted_grown c.args.tick c.args.words c.args.len (block_at c.args.region.now.blocks i) (drop (suc i) c.args.region.now.blocks) (omega (arith, (c.requires.own i stands).size, c.if-words-own.true))))
 
 pub returns-then-words-own-clause-listed : goal.returns-then-words-own-clause-listed
-returns-then-words-own-clause-listed c =
+returns-then-words-own-clause-listed g c =
     let live = c.requires.live in
     let room = room_here c.requires.own c.requires.next c.requires.room live.1 in
     let stands = recut_stands live.1 live.2 c.args.tick room (c.recut.ensures.blocks live.0 live.1) in
     let set = c.set_payload.ensures live.0 stands in
-    rebytes_listed stands (fitted (bytes_of (block_at c.recut.new.region.blocks live.0)) c.args.len) set.blocks (list_in c.recut.new.region.lists) (list_in c.set_payload.new.self.lists) set.lists c.recut.ensures.listed
+    rebytes_listed g.row.SLI stands (fitted (bytes_of (block_at c.recut.new.region.blocks live.0)) c.args.len) set.blocks (list_in c.recut.new.region.lists) (list_in c.set_payload.new.self.lists) set.lists c.recut.ensures.listed
 
 pub returns-then-words-own-clause-edits : goal.returns-then-words-own-clause-edits
-returns-then-words-own-clause-edits c =
+returns-then-words-own-clause-edits g c =
     let live = c.requires.live in
     let room = room_here c.requires.own c.requires.next c.requires.room live.1 in
     let set = (c.set_payload.ensures live.0 (recut_stands live.1 live.2 c.args.tick room (c.recut.ensures.blocks live.0 live.1))).edits in
@@ -62,64 +92,59 @@ returns-then-words-own-clause-edits c =
 
 -- ---- it is cut
 
-pub recut-requires-then-own-words-clause-live : goal.recut-requires-then-own-words-clause-live
-recut-requires-then-own-words-clause-live c =
+pub recut-requires-then-own-words : goal.recut-requires-then-own-words
+recut-requires-then-own-words g c =
     let live = c.requires.live in
     let b = block_at c.args.region.now.blocks live.0 in
     let new = fitted (bytes_of b) c.args.len in
-    let a = rebytes_around live.1 new (c.set_payload-2.ensures live.0 live.1).blocks in
+    let a = rebytes_around g.row.SLI live.1 new (c.set_payload-2.ensures live.0 live.1).blocks in
     let bytes = ap bytes_of (block_around a) ∙ bytes_of-with_bytes b new live.2 in
-    (live.0, stands_around a, (ap is_free (block_around a) ∙ is_free-with_bytes b new ∙ live.2, omega (arith, ap length bytes, length-fitted (bytes_of b) c.args.len, c.requires.payload)))
-
-pub recut-requires-then-own-words-clause-own : goal.recut-requires-then-own-words-clause-own
-recut-requires-then-own-words-clause-own c j there =
-    let live = c.requires.live in
     let bs = c.args.region.now.blocks in
-    let new = fitted (bytes_of (block_at bs live.0)) c.args.len in
     let set = c.set_payload-2.ensures live.0 live.1 in
     let now = c.set_payload-2.new.self.blocks in
-    let same = stands_once now c.args.at live.0 j set.edits.shows.rooms (stands_around (rebytes_around live.1 new set.blocks)) there in
-    subst (λ (k : ℕ). IsTagOf c.set_payload-2.new.self.words (site_at now k) c.args.own) same
-    (subst (λ (s : Site). IsTagOf c.set_payload-2.new.self.words s c.args.own) (sym (rebytes_site live.1 new set.blocks))
-    (subst (λ (n : ℕ). IsTagOf n (record { before = take live.0 bs; block = with_bytes (block_at bs live.0) new; after = drop (suc live.0) bs }) c.args.own) (sym set.edits.words)
-    (tag_rebytes new (c.requires.own live.0 live.1))))
-
-pub recut-requires-then-own-words-clause-next : goal.recut-requires-then-own-words-clause-next
-recut-requires-then-own-words-clause-next c j there =
-    let live = c.requires.live in
-    let bs = c.args.region.now.blocks in
-    let new = fitted (bytes_of (block_at bs live.0)) c.args.len in
-    let set = c.set_payload-2.ensures live.0 live.1 in
-    let now = c.set_payload-2.new.self.blocks in
-    let same = stands_once now c.args.at live.0 j set.edits.shows.rooms (stands_around (rebytes_around live.1 new set.blocks)) there in
-    subst (λ (k : ℕ). IsTagBehind c.set_payload-2.new.self.words (site_at now k) c.args.next) same
-    (subst (λ (s : Site). IsTagBehind c.set_payload-2.new.self.words s c.args.next) (sym (rebytes_site live.1 new set.blocks))
-    (subst (λ (n : ℕ). IsTagBehind n (record { before = take live.0 bs; block = with_bytes (block_at bs live.0) new; after = drop (suc live.0) bs }) c.args.next) (sym set.edits.words)
-    (behind_rebytes new (c.requires.next live.0 live.1))))
-
-pub recut-requires-then-own-words-clause-listed : goal.recut-requires-then-own-words-clause-listed
-recut-requires-then-own-words-clause-listed c =
-    let live = c.requires.live in
-    let set = c.set_payload-2.ensures live.0 live.1 in
-    rebytes_listed live.1 (fitted (bytes_of (block_at c.args.region.now.blocks live.0)) c.args.len) set.blocks (list_in c.args.region.now.lists) (list_in c.set_payload-2.new.self.lists) set.lists c.requires.listed
-
-pub recut-requires-then-own-words-clause-stamped : goal.recut-requires-then-own-words-clause-stamped
-recut-requires-then-own-words-clause-stamped c =
-    let live = c.requires.live in
-    let set = c.set_payload-2.ensures live.0 live.1 in
-    subst (AllByRecursion (λ (s : ℕ). s < c.args.tick)) (sym (rebytes_stamps live.1 (fitted (bytes_of (block_at c.args.region.now.blocks live.0)) c.args.len) set.blocks)) c.requires.stamped
+    let whole = rebytes_words g.row.SLI live.1 new set.blocks in (
+      omega arith,
+      (
+        c.requires.level,
+        (
+          c.requires.least,
+          (
+            (live.0, stands_around a, (ap is_free (block_around a) ∙ is_free-with_bytes b new ∙ live.2, omega (arith, ap length bytes, length-fitted (bytes_of b) c.args.len, c.requires.payload))),
+            (
+              λ j there. let same = stands_once now c.args.at live.0 j set.edits.shows.rooms (stands_around (rebytes_around g.row.SLI live.1 new set.blocks)) there in subst (λ (k : ℕ). IsTagOf c.set_payload-2.new.self.words (site_at now k) c.args.own) same (subst (λ (s : Site). IsTagOf c.set_payload-2.new.self.words s c.args.own) (sym (rebytes_site g.row.SLI live.1 new set.blocks)) (subst (λ (n : ℕ). IsTagOf n (record { before = take live.0 bs; block = with_bytes (block_at bs live.0) new; after = drop (suc live.0) bs }) c.args.own) (sym set.edits.words) (tag_rebytes new (c.requires.own live.0 live.1)))),
+              (
+                λ j there. let same = stands_once now c.args.at live.0 j set.edits.shows.rooms (stands_around (rebytes_around g.row.SLI live.1 new set.blocks)) there in subst (λ (k : ℕ). IsTagBehind c.set_payload-2.new.self.words (site_at now k) c.args.next) same (subst (λ (s : Site). IsTagBehind c.set_payload-2.new.self.words s c.args.next) (sym (rebytes_site g.row.SLI live.1 new set.blocks)) (subst (λ (n : ℕ). IsTagBehind n (record { before = take live.0 bs; block = with_bytes (block_at bs live.0) new; after = drop (suc live.0) bs }) c.args.next) (sym set.edits.words) (behind_rebytes new (c.requires.next live.0 live.1)))),
+                (
+                  c.requires.room,
+                  (
+                    regions_of g.row.SLI now set.edits.shows.rooms (omega (arith, whole, c.requires.small)),
+                    (
+                      omega (arith, whole, c.requires.small),
+                      (
+                        rebytes_listed g.row.SLI live.1 (fitted (bytes_of (block_at c.args.region.now.blocks live.0)) c.args.len) set.blocks (list_in c.args.region.now.lists) (list_in c.set_payload-2.new.self.lists) set.lists c.requires.listed,
+                        subst (AllByRecursion (λ (s : ℕ). s < c.args.tick)) (sym (rebytes_stamps g.row.SLI live.1 (fitted (bytes_of (block_at c.args.region.now.blocks live.0)) c.args.len) set.blocks)) c.requires.stamped,
+                      ),
+                    ),
+                  ),
+                ),
+              ),
+            ),
+          ),
+        ),
+      ),
+    )
 
 pub returns-then-own-words-clause-blocks : goal.returns-then-own-words-clause-blocks
-returns-then-own-words-clause-blocks c i stands =
+returns-then-own-words-clause-blocks g c i stands =
     let b = block_at c.args.region.now.blocks i in
     let new = fitted (bytes_of b) c.args.len in
     let set = c.set_payload-2.ensures i stands in
-    c.recut-then-own-words.ensures.blocks i (stands_around (rebytes_around stands new set.blocks))
-    ∙ ap (λ (s : Site). s.before ++ recut c.args.tick c.args.words s.block s.after) (rebytes_site stands new set.blocks)
+    c.recut-then-own-words.ensures.blocks i (stands_around (rebytes_around g.row.SLI stands new set.blocks))
+    ∙ ap (λ (s : Site). s.before ++ recut c.args.tick c.args.words s.block s.after) (rebytes_site g.row.SLI stands new set.blocks)
     ∙ ap (λ (l : List Block). take i c.args.region.now.blocks ++ l) (sym (refitted_cut c.args.tick c.args.words c.args.len b (drop (suc i) c.args.region.now.blocks) (omega (arith, (c.requires.own i stands).size, c.if-own-words.true))))
 
 pub returns-else-own-words-clause-listed : goal.returns-else-own-words-clause-listed
-returns-else-own-words-clause-listed c =
+returns-else-own-words-clause-listed g c =
     let live = c.requires.live in
     let set = c.set_payload-2.ensures live.0 live.1 in
-    rebytes_listed live.1 (fitted (bytes_of (block_at c.args.region.now.blocks live.0)) c.args.len) set.blocks (list_in c.args.region.now.lists) (list_in c.set_payload-2.new.self.lists) set.lists c.requires.listed
+    rebytes_listed g.row.SLI live.1 (fitted (bytes_of (block_at c.args.region.now.blocks live.0)) c.args.len) set.blocks (list_in c.args.region.now.lists) (list_in c.set_payload-2.new.self.lists) set.lists c.requires.listed

@@ -8,7 +8,7 @@ use Rattle.tlsf_pool.proofs.sizing.sure.Goals as goal
 
 -- what is returned is the least size of the search class
 least : (c : goal.After-low) → c.low.result ≡ sure c.args.words
-least c = c.low.ensures ∙ sym (ap (λ o. option_map_or low o 0) c.search_of.ensures)
+least c = c.low.ensures ∙ sym (ap (λ o. option_map_or (low 4) o 0) c.search_of.ensures)
 
 pub returns-clause-least : goal.returns-clause-least
 returns-clause-least c = omega (arith, least c, sure_enough c.args.words c.requires.most)

@@ -4,35 +4,35 @@ use Rattle.tlsf_class.proofs.BitmapWords.{next-same_level, next-later_level, nex
 use Rattle.tlsf_class.proofs.bitmaps.Bitmaps.next_from.Goals as goal
 
 pub returns-in-Some-clause-least : goal.returns-in-Some-clause-least
-returns-in-Some-clause-least c =
+returns-in-Some-clause-least g c =
     let word = sym c.second_word-word.ensures.value in
     let found = c.in-Some.ensures in
     rw (c.at.ensures, ← c.self.view_is)
-    (sym (next-same_level _ _ c.args.class c.first_level-first_level.result c.second_level.result c.in-Some.second_level c.self.invariant
+    (sym (next-same_level g.row.SLI c.self.invariant.level _ _ c.args.class c.first_level-first_level.result c.second_level.result c.in-Some.second_level c.self.invariant
     c.first_level-first_level.ensures.value c.second_level.ensures.value found.at_or_above
     (ap (λ w. bit_at w c.in-Some.second_level) word ∙ found.set)
     (λ k above below. ap (λ w. bit_at w k) word ∙ found.lowest k above below)))
 
 pub returns-in_err-first_level-clause-least : goal.returns-in_err-first_level-clause-least
-returns-in_err-first_level-clause-least c =
+returns-in_err-first_level-clause-least g c =
     let word = sym c.second_word-word.ensures.value in
     let first_word : c.self.inside.levels.first ≡ c.first_word-first_word.result =
     sym (c.first_word-first_word.ensures.value ∙ rw c.second_word-word.ensures.first refl)
     in
     rw (c.from_residual.ensures, ← c.self.view_is)
-    (sym (next-none _ _ c.args.class c.first_level-first_level.result c.second_level.result c.self.invariant c.first_level-first_level.ensures.value c.second_level.ensures.value
+    (sym (next-none g.row.SLI c.self.invariant.level _ _ c.args.class c.first_level-first_level.result c.second_level.result c.self.invariant c.first_level-first_level.ensures.value c.second_level.ensures.value
     (λ k above. ap (λ w. bit_at w k) word ∙ c.in_default.ensures.none k above)
     (λ k above. ap (λ w. bit_at w k) first_word ∙ c.in_err-first_level.ensures.none k above)))
 
 pub returns-clause-least : goal.returns-clause-least
-returns-clause-least c =
+returns-clause-least g c =
     let word = sym c.second_word-word.ensures.value in
     let first_word : c.self.inside.levels.first ≡ c.first_word-first_word.result =
     sym (c.first_word-first_word.ensures.value ∙ rw c.second_word-word.ensures.first refl)
     in
     let later = sym (c.second_word-word-2.ensures.value ∙ rw (c.first_word-first_word.ensures.second, c.second_word-word.ensures.second) refl) in
     rw (c.at-2.ensures, ← c.self.view_is)
-    (sym (next-later_level _ _ c.args.class c.first_level-first_level.result c.second_level.result c.in_ok-first_level.first_level c.lowest_bit.result c.self.invariant
+    (sym (next-later_level g.row.SLI c.self.invariant.level _ _ c.args.class c.first_level-first_level.result c.second_level.result c.in_ok-first_level.first_level c.lowest_bit.result c.self.invariant
     c.first_level-first_level.ensures.value c.second_level.ensures.value
     (λ k above. ap (λ w. bit_at w k) word ∙ c.in_default.ensures.none k above)
     c.in_ok-first_level.ensures.at_or_above

@@ -5,46 +5,47 @@ use Rattle.tlsf_heap.specs.Calls.{read_answer}
 use Rattle.tlsf_heap.specs.Stored.{state_of}
 use Rattle.tlsf_heap.proofs.Naming.{named_same, named_stands, named_live, named_inside}
 use Rattle.tlsf_heap.proofs.Writing.{Ranged, read_refused, range_past, range_within}
+use Rattle.tlsf_heap.proofs.heap.Heap.check_range.Given.{Over}
 use Rattle.tlsf_heap.proofs.heap.Heap.check_range.Goals as goal
 use Rattle.tlsf_heap.proofs.heap.Heap.check_range.Goals.{then-at-length-via-then-at-length, then-at-length-via-else-at-length+then-n-length}
 
 pub returns-in_err-check-clause-answer : goal.returns-in_err-check-clause-answer
-returns-in_err-check-clause-answer c =
+returns-in_err-check-clause-answer g c =
     let p = err_from_is_err_and c.from_residual.result c.from_residual.ensures.1 in
     rw (p.1, p.2) (sym (ap read_answer (read_refused c.args.self.now.heap c.args.name c.args.at c.args.n _ c.in_err-check.ensures.answer)))
 
 pub length-length-requires : goal.length-length-requires
-length-length-requires c =
-    let named = (named_same (state_of c.self.inside) c.args.self.now.heap c.args.name (ap (λ (s : Shown). s.heap) c.self.view_is ∙ c.in_ok-check.ensures.heap) c.in_ok-check.ensures.answer.0).1 in
-    (named.0, named_stands _ _ _ _ named.1, named_live _ _ _ _ named.1)
+length-length-requires g c =
+    let named = (named_same (state_of g.row.SLI c.self.inside) c.args.self.now.heap c.args.name (ap (λ (s : Shown). s.heap) c.self.view_is ∙ c.in_ok-check.ensures.heap) c.in_ok-check.ensures.answer.0).1 in
+    (omega arith, (named.0, named_stands _ _ _ _ named.1, named_live _ _ _ _ named.1))
 
 pub returns-then-at-length-clause-answer : goal.returns-then-at-length-clause-answer
-returns-then-at-length-clause-answer c =
+returns-then-at-length-clause-answer g c =
     let over : c.length-length.result < c.args.at + c.args.n = elim c.then-at-length.branch [ then-at-length-via-then-at-length w ↦ omega arith | then-at-length-via-else-at-length+then-n-length w ↦ omega arith ] in
-    range_past (state_of c.self.inside) c.args.self.now.heap c.args.name c.args.at c.args.n c.length-length.result (ap (λ (s : Shown). s.heap) c.self.view_is ∙ c.in_ok-check.ensures.heap) c.in_ok-check.ensures.answer.0
+    range_past (state_of g.row.SLI c.self.inside) c.args.self.now.heap c.args.name c.args.at c.args.n c.length-length.result (ap (λ (s : Shown). s.heap) c.self.view_is ∙ c.in_ok-check.ensures.heap) c.in_ok-check.ensures.answer.0
     c.length-length.ensures.value over
 
-within : (c : goal.Else-n-length) → Ranged c.args.self.now.heap c.args.name c.args.at c.args.n
-within c =
-    range_within (state_of c.self.inside) c.args.self.now.heap c.args.name c.args.at c.args.n c.length-length.result (ap (λ (s : Shown). s.heap) c.self.view_is ∙ c.in_ok-check.ensures.heap) c.in_ok-check.ensures.answer.0
+within : (g : Over) (c : goal.Else-n-length g) → Ranged c.args.self.now.heap c.args.name c.args.at c.args.n
+within g c =
+    range_within (state_of g.row.SLI c.self.inside) c.args.self.now.heap c.args.name c.args.at c.args.n c.length-length.result (ap (λ (s : Shown). s.heap) c.self.view_is ∙ c.in_ok-check.ensures.heap) c.in_ok-check.ensures.answer.0
     c.length-length.ensures.value (omega arith)
 
 pub returns-clause-answer : goal.returns-clause-answer
-returns-clause-answer c = (within c).is_answer
+returns-clause-answer g c = (within g c).is_answer
 
 pub returns-clause-place : goal.returns-clause-place
-returns-clause-place c = (within c).range
+returns-clause-place g c = (within g c).range
 
 -- ---- the name was not forged
 
 pub returns-then-at-length-clause-outside : goal.returns-then-at-length-clause-outside
-returns-then-at-length-clause-outside c past = absurd (omega (arith, past, named_inside c.args.self.now.heap c.args.name c.in_ok-check.ensures.lawful c.in_ok-check.ensures.answer.0.1.0 c.in_ok-check.ensures.answer.0.1.1))
+returns-then-at-length-clause-outside g c past = absurd (omega (arith, past, named_inside c.args.self.now.heap c.args.name c.in_ok-check.ensures.lawful c.in_ok-check.ensures.answer.0.1.0 c.in_ok-check.ensures.answer.0.1.1))
 
 pub returns-then-at-length-clause-nowhere : goal.returns-then-at-length-clause-nowhere
-returns-then-at-length-clause-nowhere c own inside none = absurd (none (c.in_ok-check.ensures.answer.0.1.0, named_stands c.args.name.at c.args.name.serial c.args.self.now.heap.blocks c.in_ok-check.ensures.answer.0.1.0 c.in_ok-check.ensures.answer.0.1.1))
+returns-then-at-length-clause-nowhere g c own inside none = absurd (none (c.in_ok-check.ensures.answer.0.1.0, named_stands c.args.name.at c.args.name.serial c.args.self.now.heap.blocks c.in_ok-check.ensures.answer.0.1.0 c.in_ok-check.ensures.answer.0.1.1))
 
 pub returns-clause-outside : goal.returns-clause-outside
-returns-clause-outside c past = absurd (omega (arith, past, named_inside c.args.self.now.heap c.args.name c.in_ok-check.ensures.lawful c.in_ok-check.ensures.answer.0.1.0 c.in_ok-check.ensures.answer.0.1.1))
+returns-clause-outside g c past = absurd (omega (arith, past, named_inside c.args.self.now.heap c.args.name c.in_ok-check.ensures.lawful c.in_ok-check.ensures.answer.0.1.0 c.in_ok-check.ensures.answer.0.1.1))
 
 pub returns-clause-nowhere : goal.returns-clause-nowhere
-returns-clause-nowhere c own inside none = absurd (none (c.in_ok-check.ensures.answer.0.1.0, named_stands c.args.name.at c.args.name.serial c.args.self.now.heap.blocks c.in_ok-check.ensures.answer.0.1.0 c.in_ok-check.ensures.answer.0.1.1))
+returns-clause-nowhere g c own inside none = absurd (none (c.in_ok-check.ensures.answer.0.1.0, named_stands c.args.name.at c.args.name.serial c.args.self.now.heap.blocks c.in_ok-check.ensures.answer.0.1.0 c.in_ok-check.ensures.answer.0.1.1))

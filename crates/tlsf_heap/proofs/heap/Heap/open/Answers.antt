@@ -16,18 +16,25 @@ opened_lawful id words first h = record {
   stamps_past = (omega arith, tt);
 }
 
-pub push-requires-clause-free : goal.push-requires-clause-free
-push-requires-clause-free c = rw c.in-Ok.ensures.blocks (0, record { within = omega arith; place = refl }, refl)
-
-pub push-requires-clause-unlisted : goal.push-requires-clause-unlisted
-push-requires-clause-unlisted c class listed = let none = listed.1 in absurd (omega (arith, ap length (c.in-Ok.ensures.lists class), none))
+pub push-requires : goal.push-requires
+push-requires g c = (
+  omega arith,
+  (
+    omega arith,
+    (
+      rw c.in-Ok.ensures.blocks (0, record { within = omega arith; place = refl }, refl),
+      λ class listed. let none = listed.1 in absurd (omega (arith, ap length (c.in-Ok.ensures.lists class), none)),
+    ),
+  ),
+)
 
 pub invariant_of-result : goal.invariant_of-result
-invariant_of-result c =
+invariant_of-result g c =
     let made = c.in-Ok.ensures in
     record {
       lawful = rw (c.push.ensures.edits.words, c.push.ensures.blocks, made.words, made.blocks) (opened_lawful c.args.id c.args.words c.args.first (omega arith));
       shows = c.push.ensures.edits.shows;
+      level = c.requires;
       small = omega (arith, c.push.ensures.edits.words, made.words);
-      listed = rw (c.push.ensures.blocks, made.blocks) (listed_first c.args.words c.args.first c.class_of.result (list_in c.in-Ok.region.lists) (list_in c.push.new.self.lists) made.lists c.class_of.ensures c.push.ensures.list c.push.ensures.others);
+      listed = rw (c.push.ensures.blocks, made.blocks) (listed_first g.row.SLI c.args.words c.args.first c.class_of.result (list_in c.in-Ok.region.lists) (list_in c.push.new.self.lists) made.lists c.class_of.ensures c.push.ensures.list c.push.ensures.others);
     }

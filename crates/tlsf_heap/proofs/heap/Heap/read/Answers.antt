@@ -7,22 +7,24 @@ use Rattle.tlsf_heap.proofs.Writing.{range_stands, reads, unread}
 use Rattle.tlsf_heap.proofs.heap.Heap.read.Goals as goal
 
 pub returns-in_err-check_range-clause-bytes : goal.returns-in_err-check_range-clause-bytes
-returns-in_err-check_range-clause-bytes c = unread (read_of c.args.self.now.heap c.args.name c.args.at (length c.args.out.now)) _ c.args.out.now c.in_err-check_range.ensures.answer
+returns-in_err-check_range-clause-bytes g c = unread (read_of c.args.self.now.heap c.args.name c.args.at (length c.args.out.now)) _ c.args.out.now c.in_err-check_range.ensures.answer
 
 pub read-requires : goal.read-requires
-read-requires c =
-    range_stands (state_of c.self.inside) c.args.self.now.heap c.args.name c.args.at (length c.args.out.now) (ap (λ (s : Shown). s.heap) c.self.view_is ∙ c.in_ok-check_range.ensures.heap)
-    c.in_ok-check_range.ensures.answer c.in_ok-check_range.ensures.place
+read-requires g c = (
+  omega arith,
+  range_stands (state_of g.row.SLI c.self.inside) c.args.self.now.heap c.args.name c.args.at (length c.args.out.now) (ap (λ (s : Shown). s.heap) c.self.view_is ∙ c.in_ok-check_range.ensures.heap)
+      c.in_ok-check_range.ensures.answer c.in_ok-check_range.ensures.place,
+)
 
 pub returns-clause-bytes : goal.returns-clause-bytes
-returns-clause-bytes c =
-    reads (state_of c.self.inside) c.args.self.now.heap c.args.name c.args.at (length c.args.out.now) (ap (λ (s : Shown). s.heap) c.self.view_is ∙ c.in_ok-check_range.ensures.heap)
+returns-clause-bytes g c =
+    reads (state_of g.row.SLI c.self.inside) c.args.self.now.heap c.args.name c.args.at (length c.args.out.now) (ap (λ (s : Shown). s.heap) c.self.view_is ∙ c.in_ok-check_range.ensures.heap)
     c.in_ok-check_range.ensures.answer c.in_ok-check_range.ensures.place c.args.out.now c.read.new.out c.read.ensures.bytes
 
 -- ---- the name was not forged
 
 pub returns-clause-outside : goal.returns-clause-outside
-returns-clause-outside c past = absurd (omega (arith, past, named_inside c.args.self.now.heap c.args.name c.in_ok-check_range.ensures.lawful c.in_ok-check_range.ensures.place.0 c.in_ok-check_range.ensures.place.1))
+returns-clause-outside g c past = absurd (omega (arith, past, named_inside c.args.self.now.heap c.args.name c.in_ok-check_range.ensures.lawful c.in_ok-check_range.ensures.place.0 c.in_ok-check_range.ensures.place.1))
 
 pub returns-clause-nowhere : goal.returns-clause-nowhere
-returns-clause-nowhere c own inside none = absurd (none (c.in_ok-check_range.ensures.place.0, named_stands c.args.name.at c.args.name.serial c.args.self.now.heap.blocks c.in_ok-check_range.ensures.place.0 c.in_ok-check_range.ensures.place.1))
+returns-clause-nowhere g c own inside none = absurd (none (c.in_ok-check_range.ensures.place.0, named_stands c.args.name.at c.args.name.serial c.args.self.now.heap.blocks c.in_ok-check_range.ensures.place.0 c.in_ok-check_range.ensures.place.1))

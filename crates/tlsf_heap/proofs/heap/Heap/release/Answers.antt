@@ -12,72 +12,88 @@ use Rattle.tlsf_heap.proofs.Lawfulness.{with_region}
 use Rattle.tlsf_heap.proofs.Naming.{named_same, named_stands, named_live, named_inside}
 use Rattle.tlsf_heap.proofs.Reading.{at_index}
 use Rattle.tlsf_heap.proofs.Releasing.{Releases, releases_refused, releases_worn, releases_block}
+use Rattle.tlsf_heap.proofs.heap.Heap.release.Given.{Over}
 use Rattle.tlsf_heap.proofs.heap.Heap.release.Goals as goal
 
 -- ---- the name is refused
 
 pub returns-in_err-own-clause-answer : goal.returns-in_err-own-clause-answer
-returns-in_err-own-clause-answer c =
+returns-in_err-own-clause-answer g c =
     let p = err_from_is_err_and c.from_residual.result c.from_residual.ensures.1 in
     rw (p.1, p.2) (releases_refused c.args.self.now.heap c.check.new.self.heap c.args.name c.in_err-own.ensures.lawful c.in_err-own.ensures.heap _ c.in_err-own.ensures.answer).is_answer
 
 pub returns-in_err-own-clause-heap : goal.returns-in_err-own-clause-heap
-returns-in_err-own-clause-heap c =
+returns-in_err-own-clause-heap g c =
     (releases_refused c.args.self.now.heap c.check.new.self.heap c.args.name c.in_err-own.ensures.lawful c.in_err-own.ensures.heap _ c.in_err-own.ensures.answer).is_heap
 
 -- ---- the tick is at its last value
 
-worn : (c : goal.Then-self) → Releases c.args.self.now.heap c.args.name (Err Worn) c.check.new.self.heap
-worn c =
-    let same : state_of c.self.inside ≡ c.args.self.now.heap = ap (λ (s : Shown). s.heap) c.self.view_is ∙ c.in_ok-own.ensures.heap in
+worn : (g : Over) (c : goal.Then-self g) → Releases c.args.self.now.heap c.args.name (Err Worn) c.check.new.self.heap
+worn g c =
+    let same : state_of g.row.SLI c.self.inside ≡ c.args.self.now.heap = ap (λ (s : Shown). s.heap) c.self.view_is ∙ c.in_ok-own.ensures.heap in
     releases_worn c.args.self.now.heap c.check.new.self.heap c.args.name c.in_ok-own.ensures.lawful c.in_ok-own.ensures.heap c.in_ok-own.ensures.answer.0
     (sym (ap (λ (s : HeapState). s.tick) same) ∙ c.if-self.true)
 
 pub returns-then-self-clause-answer : goal.returns-then-self-clause-answer
-returns-then-self-clause-answer c = (worn c).is_answer
+returns-then-self-clause-answer g c = (worn g c).is_answer
 
 pub returns-then-self-clause-heap : goal.returns-then-self-clause-heap
-returns-then-self-clause-heap c = (worn c).is_heap
+returns-then-self-clause-heap g c = (worn g c).is_heap
 
 -- ---- the block is released
 
-pub coalesce-requires-clause-live : goal.coalesce-requires-clause-live
-coalesce-requires-clause-live c =
-    let same : state_of c.self.inside ≡ c.args.self.now.heap = ap (λ (s : Shown). s.heap) c.self.view_is ∙ c.in_ok-own.ensures.heap in
-    let named = named_same (state_of c.self.inside) c.args.self.now.heap c.args.name same c.in_ok-own.ensures.answer.0 in
-    (named.1.0, named_stands _ _ _ _ named.1.1, named_live _ _ _ _ named.1.1)
+pub coalesce-requires : goal.coalesce-requires
+coalesce-requires g c =
+    let same : state_of g.row.SLI c.self.inside ≡ c.args.self.now.heap = ap (λ (s : Shown). s.heap) c.self.view_is ∙ c.in_ok-own.ensures.heap in
+    let named = named_same (state_of g.row.SLI c.self.inside) c.args.self.now.heap c.args.name same c.in_ok-own.ensures.answer.0 in
+    let checked = subst (λ (h : HeapState). IsNameCheck h c.args.name (Ok c.in_ok-own.own)) (sym same) c.in_ok-own.ensures.answer in (
+      omega arith,
+      (
+        c.self.invariant.level,
+        (
+          (named.1.0, named_stands _ _ _ _ named.1.1, named_live _ _ _ _ named.1.1),
+          (
+            λ i stands. at_index c.self.invariant.shows (λ (i : ℕ). IsTagOf c.self.inside.region.words (site_at c.self.inside.region.blocks i) c.in_ok-own.own) (checked.0.1.0, named_stands _ _ _ _ checked.0.1.1, checked.1) stands,
+            (
+              c.self.invariant.lawful.whole,
+              (
+                lawful_regions g.row.SLI (state_of g.row.SLI c.self.inside) c.self.invariant.lawful c.self.invariant.small,
+                (
+                  omega (arith, c.self.invariant.lawful.whole, c.self.invariant.small),
+                  (
+                    c.self.invariant.listed,
+                    c.self.invariant.lawful.stamps_past,
+                  ),
+                ),
+              ),
+            ),
+          ),
+        ),
+      ),
+    )
 
-pub coalesce-requires-clause-own : goal.coalesce-requires-clause-own
-coalesce-requires-clause-own c i stands =
-    let same : state_of c.self.inside ≡ c.args.self.now.heap = ap (λ (s : Shown). s.heap) c.self.view_is ∙ c.in_ok-own.ensures.heap in
-    let checked = subst (λ (h : HeapState). IsNameCheck h c.args.name (Ok c.in_ok-own.own)) (sym same) c.in_ok-own.ensures.answer in
-    at_index c.self.invariant.shows (λ (i : ℕ). IsTagOf c.self.inside.region.words (site_at c.self.inside.region.blocks i) c.in_ok-own.own)
-    (checked.0.1.0, named_stands _ _ _ _ checked.0.1.1, checked.1) stands
-
-pub coalesce-requires-clause-sized : goal.coalesce-requires-clause-sized
-coalesce-requires-clause-sized c = lawful_regions (state_of c.self.inside) c.self.invariant.lawful c.self.invariant.small
-
-freed : (c : goal.After-self-1) → Releases c.args.self.now.heap c.args.name (Ok tt) (with_region (state_of c.self.inside) (c.self.inside.tick + 1) c.coalesce.new.region)
-freed c =
-    let same : state_of c.self.inside ≡ c.args.self.now.heap = ap (λ (s : Shown). s.heap) c.self.view_is ∙ c.in_ok-own.ensures.heap in
-    let named = named_same (state_of c.self.inside) c.args.self.now.heap c.args.name same c.in_ok-own.ensures.answer.0 in
-    subst (λ (s : HeapState). Releases s c.args.name (Ok tt) (with_region (state_of c.self.inside) (c.self.inside.tick + 1) c.coalesce.new.region)) same
-    (releases_block (state_of c.self.inside) c.args.name c.coalesce.new.region named c.self.invariant.lawful c.coalesce.ensures.edits.words
+freed : (g : Over) (c : goal.After-self-1 g) → Releases c.args.self.now.heap c.args.name (Ok tt) (with_region (state_of g.row.SLI c.self.inside) (c.self.inside.tick + 1) c.coalesce.new.region)
+freed g c =
+    let same : state_of g.row.SLI c.self.inside ≡ c.args.self.now.heap = ap (λ (s : Shown). s.heap) c.self.view_is ∙ c.in_ok-own.ensures.heap in
+    let named = named_same (state_of g.row.SLI c.self.inside) c.args.self.now.heap c.args.name same c.in_ok-own.ensures.answer.0 in
+    subst (λ (s : HeapState). Releases s c.args.name (Ok tt) (with_region (state_of g.row.SLI c.self.inside) (c.self.inside.tick + 1) c.coalesce.new.region)) same
+    (releases_block (state_of g.row.SLI c.self.inside) c.args.name c.coalesce.new.region named c.self.invariant.lawful c.coalesce.ensures.edits.words
     (c.coalesce.ensures.blocks named.1.0 (named_stands _ _ _ _ named.1.1)) c.if-self.false)
 
 pub returns-clause-answer : goal.returns-clause-answer
-returns-clause-answer c = (freed c).is_answer
+returns-clause-answer g c = (freed g c).is_answer
 
 pub returns-clause-heap : goal.returns-clause-heap
-returns-clause-heap c = (freed c).is_heap
+returns-clause-heap g c = (freed g c).is_heap
 
 pub returns-clause-lawful : goal.returns-clause-lawful
-returns-clause-lawful c = (freed c).lawful
+returns-clause-lawful g c = (freed g c).lawful
 
 pub invariant_of-self : goal.invariant_of-self
-invariant_of-self c = record {
-  lawful = (freed c).lawful;
+invariant_of-self g c = record {
+  lawful = (freed g c).lawful;
   shows = c.coalesce.ensures.edits.shows;
+  level = c.self.invariant.level;
   small = omega (arith, c.coalesce.ensures.edits.words, c.self.invariant.small);
   listed = c.coalesce.ensures.listed;
 }
@@ -85,7 +101,7 @@ invariant_of-self c = record {
 -- ---- the name was not forged
 
 pub returns-clause-outside : goal.returns-clause-outside
-returns-clause-outside c past = absurd (omega (arith, past, named_inside c.args.self.now.heap c.args.name c.in_ok-own.ensures.lawful c.in_ok-own.ensures.answer.0.1.0 c.in_ok-own.ensures.answer.0.1.1))
+returns-clause-outside g c past = absurd (omega (arith, past, named_inside c.args.self.now.heap c.args.name c.in_ok-own.ensures.lawful c.in_ok-own.ensures.answer.0.1.0 c.in_ok-own.ensures.answer.0.1.1))
 
 pub returns-clause-nowhere : goal.returns-clause-nowhere
-returns-clause-nowhere c own inside none = absurd (none (c.in_ok-own.ensures.answer.0.1.0, named_stands c.args.name.at c.args.name.serial c.args.self.now.heap.blocks c.in_ok-own.ensures.answer.0.1.0 c.in_ok-own.ensures.answer.0.1.1))
+returns-clause-nowhere g c own inside none = absurd (none (c.in_ok-own.ensures.answer.0.1.0, named_stands c.args.name.at c.args.name.serial c.args.self.now.heap.blocks c.in_ok-own.ensures.answer.0.1.0 c.in_ok-own.ensures.answer.0.1.1))

@@ -1,6 +1,7 @@
 use Rattle.std.proofs.Common.{◌≡◌, ℕ, suc, ◌+◌, ◌≤◌, ◌++◌, take, drop, sym, ap, ◌∙◌, subst, Ok, Err, arith}
 use Rattle.std.proofs.lemmas.Result.{err_from_is_err_and}
-use Rattle.tlsf_heap.specs.Blocks.{HeapState, words_for, want}
+use Rattle.tlsf_class.proofs.TwoLevels.{most_words_any}
+use Rattle.tlsf_heap.specs.Blocks.{HeapState, words_in, words_for, want}
 use Rattle.tlsf_heap.specs.Calls.{refitted, named}
 use Rattle.tlsf_heap.specs.Given.{payload_words_at}
 use Rattle.tlsf_heap.specs.GoodFit.{block_at, site_at}
@@ -16,115 +17,144 @@ use Rattle.tlsf_heap.proofs.Left.{Found, found, room_small, resizes_short, resiz
 use Rattle.tlsf_heap.proofs.Naming.{named_same, named_stands, named_live, named_inside}
 use Rattle.tlsf_heap.proofs.Reading.{at_index}
 use Rattle.tlsf_heap.proofs.Resizing.{Resizes, resized_refused, resizes_refused}
+use Rattle.tlsf_heap.proofs.heap.Heap.resize.Given.{Over}
 use Rattle.tlsf_heap.proofs.heap.Heap.resize.Goals as goal
 
 -- ---- the name is refused
 
 pub returns-in_err-own-clause-answer : goal.returns-in_err-own-clause-answer
-returns-in_err-own-clause-answer c =
+returns-in_err-own-clause-answer g c =
     let p = err_from_is_err_and c.from_residual.result c.from_residual.ensures.1 in
     rw (p.1, p.2) (resizes_refused c.args.self.now.heap c.check.new.self.heap c.args.name c.args.len _ c.in_err-own.ensures.lawful c.in_err-own.ensures.heap (resized_refused c.args.self.now.heap c.args.name c.args.len _ c.in_err-own.ensures.answer)).is_answer
 
 pub returns-in_err-own-clause-heap : goal.returns-in_err-own-clause-heap
-returns-in_err-own-clause-heap c =
+returns-in_err-own-clause-heap g c =
     (resizes_refused c.args.self.now.heap c.check.new.self.heap c.args.name c.args.len _ c.in_err-own.ensures.lawful c.in_err-own.ensures.heap (resized_refused c.args.self.now.heap c.args.name c.args.len _ c.in_err-own.ensures.answer)).is_heap
 
 -- ---- the block behind
 
-pub look_behind-next-requires-clause-live : goal.look_behind-next-requires-clause-live
-look_behind-next-requires-clause-live c =
-    let same : state_of c.self.inside ≡ c.args.self.now.heap = ap (λ (s : Shown). s.heap) c.self.view_is ∙ c.in_ok-own.ensures.heap in
-    let named = named_same (state_of c.self.inside) c.args.self.now.heap c.args.name same c.in_ok-own.ensures.answer.0 in
-    (named.1.0, named_stands _ _ _ _ named.1.1, named_live _ _ _ _ named.1.1)
-
-pub look_behind-next-requires-clause-own : goal.look_behind-next-requires-clause-own
-look_behind-next-requires-clause-own c i stands =
-    let same : state_of c.self.inside ≡ c.args.self.now.heap = ap (λ (s : Shown). s.heap) c.self.view_is ∙ c.in_ok-own.ensures.heap in
-    let checked = subst (λ (h : HeapState). IsNameCheck h c.args.name (Ok c.in_ok-own.own)) (sym same) c.in_ok-own.ensures.answer in
-    at_index c.self.invariant.shows (λ (i : ℕ). IsTagOf c.self.inside.region.words (site_at c.self.inside.region.blocks i) c.in_ok-own.own)
-    (checked.0.1.0, named_stands _ _ _ _ checked.0.1.1, checked.1) stands
-
-pub look_behind-next-requires-clause-sized : goal.look_behind-next-requires-clause-sized
-look_behind-next-requires-clause-sized c = lawful_regions (state_of c.self.inside) c.self.invariant.lawful c.self.invariant.small
+pub look_behind-next-requires : goal.look_behind-next-requires
+look_behind-next-requires g c =
+    let same : state_of g.row.SLI c.self.inside ≡ c.args.self.now.heap = ap (λ (s : Shown). s.heap) c.self.view_is ∙ c.in_ok-own.ensures.heap in
+    let named = named_same (state_of g.row.SLI c.self.inside) c.args.self.now.heap c.args.name same c.in_ok-own.ensures.answer.0 in
+    let checked = subst (λ (h : HeapState). IsNameCheck h c.args.name (Ok c.in_ok-own.own)) (sym same) c.in_ok-own.ensures.answer in (
+      omega arith,
+      (
+        (named.1.0, named_stands _ _ _ _ named.1.1, named_live _ _ _ _ named.1.1),
+        (
+          λ i stands. at_index c.self.invariant.shows (λ (i : ℕ). IsTagOf c.self.inside.region.words (site_at c.self.inside.region.blocks i) c.in_ok-own.own) (checked.0.1.0, named_stands _ _ _ _ checked.0.1.1, checked.1) stands,
+          (
+            c.self.invariant.lawful.whole,
+            (
+              lawful_regions g.row.SLI (state_of g.row.SLI c.self.inside) c.self.invariant.lawful c.self.invariant.small,
+              omega (arith, c.self.invariant.lawful.whole, c.self.invariant.small),
+            ),
+          ),
+        ),
+      ),
+    )
 
 pub overflow_add-room : goal.overflow_add-room
-overflow_add-room c =
-    let same : state_of c.self.inside ≡ c.args.self.now.heap = ap (λ (s : Shown). s.heap) c.self.view_is ∙ c.in_ok-own.ensures.heap in
-    let f : Found (state_of c.self.inside) c.args.name c.in_ok-own.own c.look_behind-next.result = found same c.in_ok-own.ensures.answer c.look_behind-next.ensures.tag in
-    omega (arith, room_small f same c.self.invariant.lawful c.args.len, c.self.invariant.small)
+overflow_add-room g c =
+    let same : state_of g.row.SLI c.self.inside ≡ c.args.self.now.heap = ap (λ (s : Shown). s.heap) c.self.view_is ∙ c.in_ok-own.ensures.heap in
+    let f : Found (state_of g.row.SLI c.self.inside) c.args.name c.in_ok-own.own c.look_behind-next.result = found same c.in_ok-own.ensures.answer c.look_behind-next.ensures.tag in
+    omega (arith, room_small g.row.SLI f same c.self.invariant.lawful c.args.len, c.self.invariant.small, most_words_any g.row.SLI)
 
 -- ---- there is no room
 
-short : (c : goal.Then-room-words) → Resizes c.args.self.now.heap c.args.name c.args.len (Err NoRoom) (with_region (state_of c.self.inside) c.self.inside.tick c.look_behind-next.new.region)
-short c =
-    let same : state_of c.self.inside ≡ c.args.self.now.heap = ap (λ (s : Shown). s.heap) c.self.view_is ∙ c.in_ok-own.ensures.heap in
-    let f : Found (state_of c.self.inside) c.args.name c.in_ok-own.own c.look_behind-next.result = found same c.in_ok-own.ensures.answer c.look_behind-next.ensures.tag in
+short : (g : Over) (c : goal.Then-room-words g) → Resizes c.args.self.now.heap c.args.name c.args.len (Err NoRoom) (with_region (state_of g.row.SLI c.self.inside) c.self.inside.tick c.look_behind-next.new.region)
+short g c =
+    let same : state_of g.row.SLI c.self.inside ≡ c.args.self.now.heap = ap (λ (s : Shown). s.heap) c.self.view_is ∙ c.in_ok-own.ensures.heap in
+    let f : Found (state_of g.row.SLI c.self.inside) c.args.name c.in_ok-own.own c.look_behind-next.result = found same c.in_ok-own.ensures.answer c.look_behind-next.ensures.tag in
     let reads = c.look_behind-next.ensures.reads in
-    resizes_short f same c.self.invariant.lawful c.args.len c.look_behind-next.new.region reads.words reads.blocks (omega (arith, c.if-room-words.true, c.want-words.ensures))
+    resizes_short g.row.SLI f same c.self.invariant.lawful c.args.len c.look_behind-next.new.region reads.words reads.blocks (omega (arith, c.if-room-words.true, c.want-words.ensures))
 
 pub returns-then-room-words-clause-answer : goal.returns-then-room-words-clause-answer
-returns-then-room-words-clause-answer c = (short c).is_answer
+returns-then-room-words-clause-answer g c = (short g c).is_answer
 
 pub returns-then-room-words-clause-heap : goal.returns-then-room-words-clause-heap
-returns-then-room-words-clause-heap c = (short c).is_heap
+returns-then-room-words-clause-heap g c = (short g c).is_heap
 
 pub returns-then-room-words-clause-outside : goal.returns-then-room-words-clause-outside
-returns-then-room-words-clause-outside c past = absurd (omega (arith, past, named_inside c.args.self.now.heap c.args.name c.in_ok-own.ensures.lawful c.in_ok-own.ensures.answer.0.1.0 c.in_ok-own.ensures.answer.0.1.1))
+returns-then-room-words-clause-outside g c past = absurd (omega (arith, past, named_inside c.args.self.now.heap c.args.name c.in_ok-own.ensures.lawful c.in_ok-own.ensures.answer.0.1.0 c.in_ok-own.ensures.answer.0.1.1))
 
 pub returns-then-room-words-clause-nowhere : goal.returns-then-room-words-clause-nowhere
-returns-then-room-words-clause-nowhere c own inside none = absurd (none (c.in_ok-own.ensures.answer.0.1.0, named_stands c.args.name.at c.args.name.serial c.args.self.now.heap.blocks c.in_ok-own.ensures.answer.0.1.0 c.in_ok-own.ensures.answer.0.1.1))
+returns-then-room-words-clause-nowhere g c own inside none = absurd (none (c.in_ok-own.ensures.answer.0.1.0, named_stands c.args.name.at c.args.name.serial c.args.self.now.heap.blocks c.in_ok-own.ensures.answer.0.1.0 c.in_ok-own.ensures.answer.0.1.1))
 
 -- ---- the tick is at its last value
 
-worn : (c : goal.Then-self) → Resizes c.args.self.now.heap c.args.name c.args.len (Err Worn) (with_region (state_of c.self.inside) c.self.inside.tick c.look_behind-next.new.region)
-worn c =
-    let same : state_of c.self.inside ≡ c.args.self.now.heap = ap (λ (s : Shown). s.heap) c.self.view_is ∙ c.in_ok-own.ensures.heap in
-    let f : Found (state_of c.self.inside) c.args.name c.in_ok-own.own c.look_behind-next.result = found same c.in_ok-own.ensures.answer c.look_behind-next.ensures.tag in
+worn : (g : Over) (c : goal.Then-self g) → Resizes c.args.self.now.heap c.args.name c.args.len (Err Worn) (with_region (state_of g.row.SLI c.self.inside) c.self.inside.tick c.look_behind-next.new.region)
+worn g c =
+    let same : state_of g.row.SLI c.self.inside ≡ c.args.self.now.heap = ap (λ (s : Shown). s.heap) c.self.view_is ∙ c.in_ok-own.ensures.heap in
+    let f : Found (state_of g.row.SLI c.self.inside) c.args.name c.in_ok-own.own c.look_behind-next.result = found same c.in_ok-own.ensures.answer c.look_behind-next.ensures.tag in
     let reads = c.look_behind-next.ensures.reads in
-    resizes_worn f same c.self.invariant.lawful c.args.len c.look_behind-next.new.region reads.words reads.blocks (omega (arith, c.if-room-words.false, c.want-words.ensures)) c.if-self.true
+    resizes_worn g.row.SLI f same c.self.invariant.lawful c.args.len c.look_behind-next.new.region reads.words reads.blocks (omega (arith, c.if-room-words.false, c.want-words.ensures)) c.if-self.true
 
 pub returns-then-self-clause-answer : goal.returns-then-self-clause-answer
-returns-then-self-clause-answer c = (worn c).is_answer
+returns-then-self-clause-answer g c = (worn g c).is_answer
 
 pub returns-then-self-clause-heap : goal.returns-then-self-clause-heap
-returns-then-self-clause-heap c = (worn c).is_heap
+returns-then-self-clause-heap g c = (worn g c).is_heap
 
 pub returns-then-self-clause-outside : goal.returns-then-self-clause-outside
-returns-then-self-clause-outside c past = absurd (omega (arith, past, named_inside c.args.self.now.heap c.args.name c.in_ok-own.ensures.lawful c.in_ok-own.ensures.answer.0.1.0 c.in_ok-own.ensures.answer.0.1.1))
+returns-then-self-clause-outside g c past = absurd (omega (arith, past, named_inside c.args.self.now.heap c.args.name c.in_ok-own.ensures.lawful c.in_ok-own.ensures.answer.0.1.0 c.in_ok-own.ensures.answer.0.1.1))
 
 pub returns-then-self-clause-nowhere : goal.returns-then-self-clause-nowhere
-returns-then-self-clause-nowhere c own inside none = absurd (none (c.in_ok-own.ensures.answer.0.1.0, named_stands c.args.name.at c.args.name.serial c.args.self.now.heap.blocks c.in_ok-own.ensures.answer.0.1.0 c.in_ok-own.ensures.answer.0.1.1))
+returns-then-self-clause-nowhere g c own inside none = absurd (none (c.in_ok-own.ensures.answer.0.1.0, named_stands c.args.name.at c.args.name.serial c.args.self.now.heap.blocks c.in_ok-own.ensures.answer.0.1.0 c.in_ok-own.ensures.answer.0.1.1))
 
 -- ---- the block is resized
 
-pub refit-requires-clause-live : goal.refit-requires-clause-live
-refit-requires-clause-live c =
-    let same : state_of c.self.inside ≡ c.args.self.now.heap = ap (λ (s : Shown). s.heap) c.self.view_is ∙ c.in_ok-own.ensures.heap in
-    let named = named_same (state_of c.self.inside) c.args.self.now.heap c.args.name same c.in_ok-own.ensures.answer.0 in
-    rw c.look_behind-next.ensures.reads.blocks (named.1.0, named_stands _ _ _ _ named.1.1, named_live _ _ _ _ named.1.1)
-
-pub refit-requires-clause-own : goal.refit-requires-clause-own
-refit-requires-clause-own c =
-    let same : state_of c.self.inside ≡ c.args.self.now.heap = ap (λ (s : Shown). s.heap) c.self.view_is ∙ c.in_ok-own.ensures.heap in
+pub refit-requires : goal.refit-requires
+refit-requires g c =
+    let same : state_of g.row.SLI c.self.inside ≡ c.args.self.now.heap = ap (λ (s : Shown). s.heap) c.self.view_is ∙ c.in_ok-own.ensures.heap in
+    let named = named_same (state_of g.row.SLI c.self.inside) c.args.self.now.heap c.args.name same c.in_ok-own.ensures.answer.0 in
     let checked = subst (λ (h : HeapState). IsNameCheck h c.args.name (Ok c.in_ok-own.own)) (sym same) c.in_ok-own.ensures.answer in
-    rw (c.look_behind-next.ensures.reads.blocks, c.look_behind-next.ensures.reads.words)
-    (λ i stands. at_index c.self.invariant.shows (λ (i : ℕ). IsTagOf c.self.inside.region.words (site_at c.self.inside.region.blocks i) c.in_ok-own.own)
-    (checked.0.1.0, named_stands _ _ _ _ checked.0.1.1, checked.1) stands)
-
-pub refit-requires-clause-sized : goal.refit-requires-clause-sized
-refit-requires-clause-sized c = rw c.look_behind-next.ensures.reads.blocks (lawful_regions (state_of c.self.inside) c.self.invariant.lawful c.self.invariant.small)
-
-pub refit-requires-clause-stamped : goal.refit-requires-clause-stamped
-refit-requires-clause-stamped c = rw c.look_behind-next.ensures.reads.blocks c.self.invariant.lawful.stamps_past
+    let reads = c.look_behind-next.ensures.reads in (
+      omega arith,
+      (
+        c.self.invariant.level,
+        (
+          omega (arith, c.want-words.ensures),
+          (
+            omega (arith, c.want-words.ensures),
+            (
+              rw c.look_behind-next.ensures.reads.blocks (named.1.0, named_stands _ _ _ _ named.1.1, named_live _ _ _ _ named.1.1),
+              (
+                rw (c.look_behind-next.ensures.reads.blocks, c.look_behind-next.ensures.reads.words) (λ i stands. at_index c.self.invariant.shows (λ (i : ℕ). IsTagOf c.self.inside.region.words (site_at c.self.inside.region.blocks i) c.in_ok-own.own) (checked.0.1.0, named_stands _ _ _ _ checked.0.1.1, checked.1) stands),
+                (
+                  rw (reads.blocks, reads.words) c.look_behind-next.ensures.tag,
+                  (
+                    omega (arith, c.if-room-words.false),
+                    (
+                      rw reads.blocks c.self.invariant.lawful.rooms,
+                      (
+                        rw c.look_behind-next.ensures.reads.blocks (lawful_regions g.row.SLI (state_of g.row.SLI c.self.inside) c.self.invariant.lawful c.self.invariant.small),
+                        (
+                          omega (arith, ap words_in reads.blocks, c.self.invariant.lawful.whole, c.self.invariant.small),
+                          (
+                            rw (reads.blocks, reads.lists) c.self.invariant.listed,
+                            rw c.look_behind-next.ensures.reads.blocks c.self.invariant.lawful.stamps_past,
+                          ),
+                        ),
+                      ),
+                    ),
+                  ),
+                ),
+              ),
+            ),
+          ),
+        ),
+      ),
+    )
 
 -- what is left, and that the block has the words for its payload
 record Fitted (h k : HeapState) (name : Name) (len : ℕ) (region : RegionState) : Type 0 where
   resizes : Resizes k name len (Ok tt) (with_region h (h.tick + 1) region)
   payload : words_for len ≤ 3 + payload_words_at (named name region.blocks)
 
-fits : (c : goal.After-self-1) → Fitted (state_of c.self.inside) c.args.self.now.heap c.args.name c.args.len c.refit.new.region
-fits c =
-    let h = state_of c.self.inside in
+fits : (g : Over) (c : goal.After-self-1 g) → Fitted (state_of g.row.SLI c.self.inside) c.args.self.now.heap c.args.name c.args.len c.refit.new.region
+fits g c =
+    let h = state_of g.row.SLI c.self.inside in
     let same : h ≡ c.args.self.now.heap = ap (λ (s : Shown). s.heap) c.self.view_is ∙ c.in_ok-own.ensures.heap in
     let f : Found h c.args.name c.in_ok-own.own c.look_behind-next.result = found same c.in_ok-own.ensures.answer c.look_behind-next.ensures.tag in
     let i = f.named.1.0 in
@@ -134,40 +164,41 @@ fits c =
     let blocks = (rw reads.blocks at c.refit.ensures.blocks) i (named_stands _ _ _ _ f.named.1.1)
     ∙ ap (λ (n : ℕ). take i h.blocks ++ refitted h.tick n c.args.len (block_at h.blocks i) (drop (suc i) h.blocks)) c.want-words.ensures in
     record {
-      resizes = resizes_done f same c.self.invariant.lawful c.args.len room c.if-self.false c.refit.new.region words blocks;
-      payload = payload_left f same c.self.invariant.lawful c.args.len room c.if-self.false c.refit.new.region words blocks c.self.invariant.small;
+      resizes = resizes_done g.row.SLI f same c.self.invariant.lawful c.args.len room c.if-self.false c.refit.new.region words blocks;
+      payload = payload_left g.row.SLI f same c.self.invariant.lawful c.args.len room c.if-self.false c.refit.new.region words blocks c.self.invariant.small;
     }
 
 pub returns-clause-answer : goal.returns-clause-answer
-returns-clause-answer c = (fits c).resizes.is_answer
+returns-clause-answer g c = (fits g c).resizes.is_answer
 
 pub returns-clause-heap : goal.returns-clause-heap
-returns-clause-heap c = (fits c).resizes.is_heap
+returns-clause-heap g c = (fits g c).resizes.is_heap
 
 pub returns-clause-lawful : goal.returns-clause-lawful
-returns-clause-lawful c = (fits c).resizes.lawful
+returns-clause-lawful g c = (fits g c).resizes.lawful
 
 pub invariant_of-self-2 : goal.invariant_of-self-2
-invariant_of-self-2 c = record {
-  lawful = (fits c).resizes.lawful;
+invariant_of-self-2 g c = record {
+  lawful = (fits g c).resizes.lawful;
   shows = c.refit.ensures.edits.shows;
+  level = c.self.invariant.level;
   small = omega (arith, c.refit.ensures.edits.words, c.look_behind-next.ensures.reads.words, c.self.invariant.small);
   listed = c.refit.ensures.listed;
 }
 
 -- three to check the name, one for the tag behind, twenty to cut the block, and the payload
 pub returns-clause-touches : goal.returns-clause-touches
-returns-clause-touches c =
-    omega (arith, (fits c).payload, c.refit.ensures.edits.touches, c.look_behind-next.ensures.reads.touches, c.in_ok-own.ensures.touches, ap (λ (s : Shown). s.touches) c.self.view_is)
+returns-clause-touches g c =
+    omega (arith, (fits g c).payload, c.refit.ensures.edits.touches, c.look_behind-next.ensures.reads.touches, c.in_ok-own.ensures.touches, ap (λ (s : Shown). s.touches) c.self.view_is)
 
 pub returns-clause-most_touches : goal.returns-clause-most_touches
-returns-clause-most_touches c =
-    omega (arith, (fits c).payload, c.refit.ensures.edits.touches, c.look_behind-next.ensures.reads.touches, c.in_ok-own.ensures.touches, ap (λ (s : Shown). s.touches) c.self.view_is)
+returns-clause-most_touches g c =
+    omega (arith, (fits g c).payload, c.refit.ensures.edits.touches, c.look_behind-next.ensures.reads.touches, c.in_ok-own.ensures.touches, ap (λ (s : Shown). s.touches) c.self.view_is)
 
 -- ---- the name was not forged
 
 pub returns-clause-outside : goal.returns-clause-outside
-returns-clause-outside c past = absurd (omega (arith, past, named_inside c.args.self.now.heap c.args.name c.in_ok-own.ensures.lawful c.in_ok-own.ensures.answer.0.1.0 c.in_ok-own.ensures.answer.0.1.1))
+returns-clause-outside g c past = absurd (omega (arith, past, named_inside c.args.self.now.heap c.args.name c.in_ok-own.ensures.lawful c.in_ok-own.ensures.answer.0.1.0 c.in_ok-own.ensures.answer.0.1.1))
 
 pub returns-clause-nowhere : goal.returns-clause-nowhere
-returns-clause-nowhere c own inside none = absurd (none (c.in_ok-own.ensures.answer.0.1.0, named_stands c.args.name.at c.args.name.serial c.args.self.now.heap.blocks c.in_ok-own.ensures.answer.0.1.0 c.in_ok-own.ensures.answer.0.1.1))
+returns-clause-nowhere g c own inside none = absurd (none (c.in_ok-own.ensures.answer.0.1.0, named_stands c.args.name.at c.args.name.serial c.args.self.now.heap.blocks c.in_ok-own.ensures.answer.0.1.0 c.in_ok-own.ensures.answer.0.1.1))

@@ -11,71 +11,75 @@ use Rattle.tlsf_heap.proofs.Lawfulness.{with_region}
 use Rattle.tlsf_heap.proofs.Naming.{named_stands, named_inside}
 use Rattle.tlsf_heap.proofs.Writing.{range_stands, unwritten, Writes, writes}
 use Rattle.tlsf_heap.proofs.Standing.{behind_one}
+use Rattle.tlsf_heap.proofs.heap.Heap.write.Given.{Over}
 use Rattle.tlsf_heap.proofs.heap.Heap.write.Goals as goal
 
 pub returns-in_err-check_range-clause-answer : goal.returns-in_err-check_range-clause-answer
-returns-in_err-check_range-clause-answer c =
+returns-in_err-check_range-clause-answer g c =
     let p = err_from_is_err_and c.from_residual.result c.from_residual.ensures.1 in
     rw (p.1, p.2) (sym (ap (λ (o : Outcome (Unit {0})). o.answer) (unwritten c.args.self.now.heap c.args.name c.args.at c.args.bytes.now _ c.in_err-check_range.ensures.answer)))
 
 pub returns-in_err-check_range-clause-heap : goal.returns-in_err-check_range-clause-heap
-returns-in_err-check_range-clause-heap c =
+returns-in_err-check_range-clause-heap g c =
     c.in_err-check_range.ensures.heap
     ∙ sym (ap (λ (o : Outcome (Unit {0})). o.heap) (unwritten c.args.self.now.heap c.args.name c.args.at c.args.bytes.now _ c.in_err-check_range.ensures.answer))
 
 pub write-requires : goal.write-requires
-write-requires c =
-    range_stands (state_of c.self.inside) c.args.self.now.heap c.args.name c.args.at (length c.args.bytes.now) (ap (λ (s : Shown). s.heap) c.self.view_is ∙ c.in_ok-check_range.ensures.heap)
-    c.in_ok-check_range.ensures.answer c.in_ok-check_range.ensures.place
+write-requires g c = (
+  omega arith,
+  range_stands (state_of g.row.SLI c.self.inside) c.args.self.now.heap c.args.name c.args.at (length c.args.bytes.now) (ap (λ (s : Shown). s.heap) c.self.view_is ∙ c.in_ok-check_range.ensures.heap)
+      c.in_ok-check_range.ensures.answer c.in_ok-check_range.ensures.place,
+)
 
 -- the block stands there
-stood : (c : goal.After-write) → (i : ℕ) × StandsAt c.self.inside.region.blocks c.args.name.at i
-stood c =
-    let stands = range_stands (state_of c.self.inside) c.args.self.now.heap c.args.name c.args.at (length c.args.bytes.now) (ap (λ (s : Shown). s.heap) c.self.view_is ∙ c.in_ok-check_range.ensures.heap)
+stood : (g : Over) (c : goal.After-write g) → (i : ℕ) × StandsAt c.self.inside.region.blocks c.args.name.at i
+stood g c =
+    let stands = range_stands (state_of g.row.SLI c.self.inside) c.args.self.now.heap c.args.name c.args.at (length c.args.bytes.now) (ap (λ (s : Shown). s.heap) c.self.view_is ∙ c.in_ok-check_range.ensures.heap)
     c.in_ok-check_range.ensures.answer c.in_ok-check_range.ensures.place in
     (stands.0, stands.1)
 
-wrote : (c : goal.After-write) → Writes c.args.self.now.heap c.args.name c.args.at c.args.bytes.now (with_region (state_of c.self.inside) c.self.inside.tick c.write.new.self)
-wrote c =
-    writes (state_of c.self.inside) c.args.self.now.heap c.args.name c.args.at c.args.bytes.now (ap (λ (s : Shown). s.heap) c.self.view_is ∙ c.in_ok-check_range.ensures.heap)
-    c.in_ok-check_range.ensures.answer c.in_ok-check_range.ensures.place c.write.new.self c.self.invariant.lawful (c.write.ensures (stood c).0 (stood c).1).edits.words (λ i stands. (c.write.ensures i stands).blocks ∙ sym (behind_one i _ c.self.inside.region.blocks))
+wrote : (g : Over) (c : goal.After-write g) → Writes g.row.SLI c.args.self.now.heap c.args.name c.args.at c.args.bytes.now (with_region (state_of g.row.SLI c.self.inside) c.self.inside.tick c.write.new.self)
+wrote g c =
+    writes g.row.SLI (state_of g.row.SLI c.self.inside) c.args.self.now.heap c.args.name c.args.at c.args.bytes.now (ap (λ (s : Shown). s.heap) c.self.view_is ∙ c.in_ok-check_range.ensures.heap)
+    c.in_ok-check_range.ensures.answer c.in_ok-check_range.ensures.place c.write.new.self c.self.invariant.lawful (c.write.ensures (stood g c).0 (stood g c).1).edits.words (λ i stands. (c.write.ensures i stands).blocks ∙ sym (behind_one i _ c.self.inside.region.blocks))
 
 pub invariant_of-self : goal.invariant_of-self
-invariant_of-self c =
-    let same : state_of c.self.inside ≡ c.args.self.now.heap = ap (λ (s : Shown). s.heap) c.self.view_is ∙ c.in_ok-check_range.ensures.heap in
-    let places : free_places 0 c.write.new.self.blocks ≡ free_places 0 c.self.inside.region.blocks = (wrote c).places ∙ sym (ap (λ (h : HeapState). free_places 0 h.blocks) same) in
-    let change = c.write.ensures (stood c).0 (stood c).1 in
+invariant_of-self g c =
+    let same : state_of g.row.SLI c.self.inside ≡ c.args.self.now.heap = ap (λ (s : Shown). s.heap) c.self.view_is ∙ c.in_ok-check_range.ensures.heap in
+    let places : free_places g.row.SLI 0 c.write.new.self.blocks ≡ free_places g.row.SLI 0 c.self.inside.region.blocks = (wrote g c).places ∙ sym (ap (λ (h : HeapState). free_places g.row.SLI 0 h.blocks) same) in
+    let change = c.write.ensures (stood g c).0 (stood g c).1 in
     record {
-      lawful = (wrote c).lawful;
+      lawful = (wrote g c).lawful;
       shows = change.edits.shows;
+      level = c.self.invariant.level;
       small = omega (arith, change.edits.words, c.self.invariant.small);
-      listed = rw places (same_lists (free_places 0 c.self.inside.region.blocks) (list_in c.self.inside.region.lists) (list_in c.write.new.self.lists) change.lists c.self.invariant.listed);
+      listed = rw places (same_lists (free_places g.row.SLI 0 c.self.inside.region.blocks) (list_in c.self.inside.region.lists) (list_in c.write.new.self.lists) change.lists c.self.invariant.listed);
     }
 
 pub returns-clause-answer : goal.returns-clause-answer
-returns-clause-answer c = (wrote c).is_answer
+returns-clause-answer g c = (wrote g c).is_answer
 
 pub returns-clause-heap : goal.returns-clause-heap
-returns-clause-heap c = (wrote c).is_heap
+returns-clause-heap g c = (wrote g c).is_heap
 
 pub returns-clause-lawful : goal.returns-clause-lawful
-returns-clause-lawful c = (wrote c).lawful
+returns-clause-lawful g c = (wrote g c).lawful
 
 pub returns-clause-shows : goal.returns-clause-shows
-returns-clause-shows c = (c.write.ensures (stood c).0 (stood c).1).edits.shows
+returns-clause-shows g c = (c.write.ensures (stood g c).0 (stood g c).1).edits.shows
 
 pub returns-clause-touches : goal.returns-clause-touches
-returns-clause-touches c =
-    omega (arith, (c.write.ensures (stood c).0 (stood c).1).edits.touches, c.in_ok-check_range.ensures.touches, ap (λ (s : Shown). s.touches) c.self.view_is)
+returns-clause-touches g c =
+    omega (arith, (c.write.ensures (stood g c).0 (stood g c).1).edits.touches, c.in_ok-check_range.ensures.touches, ap (λ (s : Shown). s.touches) c.self.view_is)
 
 pub returns-clause-touches_rise : goal.returns-clause-touches_rise
-returns-clause-touches_rise c =
-    omega (arith, (c.write.ensures (stood c).0 (stood c).1).edits.rise, c.in_ok-check_range.ensures.rise, ap (λ (s : Shown). s.touches) c.self.view_is)
+returns-clause-touches_rise g c =
+    omega (arith, (c.write.ensures (stood g c).0 (stood g c).1).edits.rise, c.in_ok-check_range.ensures.rise, ap (λ (s : Shown). s.touches) c.self.view_is)
 
 -- ---- the name was not forged
 
 pub returns-clause-outside : goal.returns-clause-outside
-returns-clause-outside c past = absurd (omega (arith, past, named_inside c.args.self.now.heap c.args.name c.in_ok-check_range.ensures.lawful c.in_ok-check_range.ensures.place.0 c.in_ok-check_range.ensures.place.1))
+returns-clause-outside g c past = absurd (omega (arith, past, named_inside c.args.self.now.heap c.args.name c.in_ok-check_range.ensures.lawful c.in_ok-check_range.ensures.place.0 c.in_ok-check_range.ensures.place.1))
 
 pub returns-clause-nowhere : goal.returns-clause-nowhere
-returns-clause-nowhere c own inside none = absurd (none (c.in_ok-check_range.ensures.place.0, named_stands c.args.name.at c.args.name.serial c.args.self.now.heap.blocks c.in_ok-check_range.ensures.place.0 c.in_ok-check_range.ensures.place.1))
+returns-clause-nowhere g c own inside none = absurd (none (c.in_ok-check_range.ensures.place.0, named_stands c.args.name.at c.args.name.serial c.args.self.now.heap.blocks c.in_ok-check_range.ensures.place.0 c.in_ok-check_range.ensures.place.1))

@@ -3,10 +3,10 @@ use Rattle.tlsf_heap.proofs.Placing.{placed_found, placed_none, content-free, co
 use Rattle.tlsf_heap.proofs.region.Region.block_at.Goals as goal
 
 pub returns-then-not-begins-clause-answer : goal.returns-then-not-begins-clause-answer
-returns-then-not-begins-clause-answer c = sym (placed_none (c.begins.ensures.no c.if-not-begins.true))
+returns-then-not-begins-clause-answer g c = sym (placed_none (c.begins.ensures.no c.if-not-begins.true))
 
 pub returns-then-tag-clause-answer : goal.returns-then-tag-clause-answer
-returns-then-tag-clause-answer c =
+returns-then-tag-clause-answer g c =
     let place = c.begins.ensures.yes c.if-not-begins.false in
     let i = place.0 in
     let tag = (rw c.begins.ensures.reads.blocks at c.tag-tag.ensures.value) i place.1 in
@@ -14,10 +14,10 @@ returns-then-tag-clause-answer c =
     rw (tag.size, mark, sym (content-free _ (sym tag.free ∙ c.if-tag.true))) (sym (placed_found c.begins.ensures.rooms place.1))
 
 pub returns-then-tag-clause-outside : goal.returns-then-tag-clause-outside
-returns-then-tag-clause-outside c past = absurd (let inside = c.begins.ensures.inside c.if-not-begins.false in omega (arith, inside, past))
+returns-then-tag-clause-outside g c past = absurd (let inside = c.begins.ensures.inside c.if-not-begins.false in omega (arith, inside, past))
 
 pub returns-else-tag-clause-answer : goal.returns-else-tag-clause-answer
-returns-else-tag-clause-answer c =
+returns-else-tag-clause-answer g c =
     let place = c.begins.ensures.yes c.if-not-begins.false in
     let i = place.0 in
     let tag = (rw c.begins.ensures.reads.blocks at c.tag-tag.ensures.value) i place.1 in
@@ -26,4 +26,4 @@ returns-else-tag-clause-answer c =
     rw (tag.size, mark, held, sym (content-live _ (sym tag.free ∙ c.if-tag.false))) (sym (placed_found c.begins.ensures.rooms place.1))
 
 pub returns-else-tag-clause-outside : goal.returns-else-tag-clause-outside
-returns-else-tag-clause-outside c past = absurd (let inside = c.begins.ensures.inside c.if-not-begins.false in omega (arith, inside, past))
+returns-else-tag-clause-outside g c past = absurd (let inside = c.begins.ensures.inside c.if-not-begins.false in omega (arith, inside, past))

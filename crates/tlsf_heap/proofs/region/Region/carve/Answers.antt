@@ -10,48 +10,49 @@ use Rattle.tlsf_heap.proofs.Edits.{rest_small, rest_large}
 use Rattle.tlsf_heap.proofs.Linking.{Reshapes, holds_state}
 use Rattle.tlsf_heap.proofs.Splitting.{tag_size, left_whole, left_split}
 use Rattle.tlsf_heap.proofs.region.Region.carve.Goals.{After-split_header}
+use Rattle.tlsf_heap.proofs.region.Region.carve.Given.{Over}
 use Rattle.tlsf_heap.proofs.region.Region.carve.Goals as goal
 
 pub tag-tag-requires : goal.tag-tag-requires
-tag-tag-requires c = let says = says_here (shows_state c.self.invariant c.self.view_is) c.requires.room.1 in omega (arith, says.ends, says.least)
+tag-tag-requires g c = let says = says_here (shows_state g.row.SLI c.self.invariant c.self.view_is) c.requires.room.1 in omega (arith, says.ends, says.least)
 
 pub overflow_add-size : goal.overflow_add-size
-overflow_add-size c =
-    let says = says_here (shows_state c.self.invariant c.self.view_is) c.requires.room.1 in omega (arith, says.ends, c.requires.room.2, c.self.invariant.shows.small)
+overflow_add-size g c =
+    let says = says_here (shows_state g.row.SLI c.self.invariant c.self.view_is) c.requires.room.1 in omega (arith, says.ends, c.requires.room.2, c.self.invariant.shows.small)
 
 pub live_header-requires : goal.live_header-requires
-live_header-requires c =
-    let shows = shows_state c.self.invariant c.self.view_is in
+live_header-requires g c =
+    let shows = shows_state g.row.SLI c.self.invariant c.self.view_is in
     let says = says_here shows c.requires.room.1 in
     let size = c.tag-tag.ensures.size ∙ says.size in
     let long = ap length c.tag-tag.ensures.words in
     record { least = omega (arith, size, says.least); within = omega (arith, size, says.ends, long); small = omega (arith, shows.small, long) }
 
-wholes : (c : goal.After-live_header) → Wholes (image_of c.self.inside.words) (image_of c.live_header.new.words) c.args.at c.tag-tag.result c.args.serial c.args.len
-wholes c = rw (c.tag-tag.ensures.words, c.tag-tag.ensures.starts) at c.live_header.ensures.change
+wholes : (g : Over) (c : goal.After-live_header g) → Wholes (image_of c.self.inside.words) (image_of c.live_header.new.words) c.args.at c.tag-tag.result c.args.serial c.args.len
+wholes g c = rw (c.tag-tag.ensures.words, c.tag-tag.ensures.starts) at c.live_header.ensures.change
 
-whole : (c : goal.After-live_header) → (i : ℕ) → StandsAt c.args.self.now.blocks c.args.at i
-    → Reshapes (image_of c.live_header.new.words) c.self.inside.lists (take i c.args.self.now.blocks ++ carved (size_of (block_at c.args.self.now.blocks i)) c.args.size c.args.serial c.args.len ++ drop (suc i) c.args.self.now.blocks) c.args.self.now.lists
-whole c i stands =
-    let state = holds_state c.self.invariant c.self.view_is in
+whole : (g : Over) (c : goal.After-live_header g) → (i : ℕ) → StandsAt c.args.self.now.blocks c.args.at i
+    → Reshapes g.row.SLI (image_of c.live_header.new.words) c.self.inside.lists (take i c.args.self.now.blocks ++ carved (size_of (block_at c.args.self.now.blocks i)) c.args.size c.args.serial c.args.len ++ drop (suc i) c.args.self.now.blocks) c.args.self.now.lists
+whole g c i stands =
+    let state = holds_state g.row.SLI c.self.invariant c.self.view_is in
     let e = c.tag-tag.ensures in
     let is : IsTagIn (get_or c.self.inside.words.words c.args.at 0) c.tag-tag.result = record { size = e.size; last = e.last; back = e.back } in
     let room = at_index state.shows (λ i. c.args.size ≤ size_of (block_at c.args.self.now.blocks i)) c.requires.room stands in
-    left_whole state stands is c.args.size c.args.serial c.args.len (c.requires.unlisted i stands) (wholes c) (omega (arith, room, c.requires.payload, tag_size state.shows stands is)) c.if-tag-size.true
+    left_whole g.row.SLI state stands is c.args.size c.args.serial c.args.len (c.requires.unlisted i stands) (wholes g c) (omega (arith, room, c.requires.payload, tag_size state.shows stands is)) c.if-tag-size.true
 
 pub invariant_of-self : goal.invariant_of-self
-invariant_of-self c = (whole c c.requires.room.0 c.requires.room.1).holds
+invariant_of-self g c = (whole g c c.requires.room.0 c.requires.room.1).holds
 
 pub returns-then-tag-size-clause-rest : goal.returns-then-tag-size-clause-rest
-returns-then-tag-size-clause-rest c i stands =
-    let says = says_here (shows_state c.self.invariant c.self.view_is) stands in sym (rest_small _ _ (omega (arith, c.if-tag-size.true, c.tag-tag.ensures.size, says.size)))
+returns-then-tag-size-clause-rest g c i stands =
+    let says = says_here (shows_state g.row.SLI c.self.invariant c.self.view_is) stands in sym (rest_small _ _ (omega (arith, c.if-tag-size.true, c.tag-tag.ensures.size, says.size)))
 
 pub returns-then-tag-size-clause-change : goal.returns-then-tag-size-clause-change
-returns-then-tag-size-clause-change c i stands =
-    let left = whole c i stands in
+returns-then-tag-size-clause-change g c i stands =
+    let left = whole g c i stands in
     let touches = ap (λ (r : RegionState). r.touches) c.self.view_is in
     let words = ap (λ (r : RegionState). r.words) c.self.view_is in
-    let says = says_here (shows_state c.self.invariant c.self.view_is) stands in
+    let says = says_here (shows_state g.row.SLI c.self.invariant c.self.view_is) stands in
     let size = c.tag-tag.ensures.size ∙ says.size in
     record {
       blocks = left.blocks;
@@ -65,35 +66,35 @@ returns-then-tag-size-clause-change c i stands =
     }
 
 pub split_header-requires-clause-within : goal.split_header-requires-clause-within
-split_header-requires-clause-within c =
-    let says = says_here (shows_state c.self.invariant c.self.view_is) c.requires.room.1 in omega (arith, c.tag-tag.ensures.size ∙ says.size, says.ends, ap length c.tag-tag.ensures.words)
+split_header-requires-clause-within g c =
+    let says = says_here (shows_state g.row.SLI c.self.invariant c.self.view_is) c.requires.room.1 in omega (arith, c.tag-tag.ensures.size ∙ says.size, says.ends, ap length c.tag-tag.ensures.words)
 
-splits : (c : After-split_header) → Splits (image_of c.self.inside.words) (image_of c.split_header.new.words) c.args.at c.tag-tag.result c.args.size c.args.serial c.args.len
-splits c = rw (c.tag-tag.ensures.words, c.tag-tag.ensures.starts) at c.split_header.ensures.change
+splits : (g : Over) (c : After-split_header g) → Splits (image_of c.self.inside.words) (image_of c.split_header.new.words) c.args.at c.tag-tag.result c.args.size c.args.serial c.args.len
+splits g c = rw (c.tag-tag.ensures.words, c.tag-tag.ensures.starts) at c.split_header.ensures.change
 
-split : (c : After-split_header) → (i : ℕ) → StandsAt c.args.self.now.blocks c.args.at i
-    → Reshapes (image_of c.split_header.new.words) c.self.inside.lists (take i c.args.self.now.blocks ++ carved (size_of (block_at c.args.self.now.blocks i)) c.args.size c.args.serial c.args.len ++ drop (suc i) c.args.self.now.blocks) c.args.self.now.lists
-split c i stands =
-    let state = holds_state c.self.invariant c.self.view_is in
+split : (g : Over) (c : After-split_header g) → (i : ℕ) → StandsAt c.args.self.now.blocks c.args.at i
+    → Reshapes g.row.SLI (image_of c.split_header.new.words) c.self.inside.lists (take i c.args.self.now.blocks ++ carved (size_of (block_at c.args.self.now.blocks i)) c.args.size c.args.serial c.args.len ++ drop (suc i) c.args.self.now.blocks) c.args.self.now.lists
+split g c i stands =
+    let state = holds_state g.row.SLI c.self.invariant c.self.view_is in
     let e = c.tag-tag.ensures in
     let is : IsTagIn (get_or c.self.inside.words.words c.args.at 0) c.tag-tag.result = record { size = e.size; last = e.last; back = e.back } in
-    left_split state stands is c.args.size c.args.serial c.args.len (c.requires.unlisted i stands) (splits c) c.requires.least c.if-tag-size.false c.requires.payload
+    left_split g.row.SLI state stands is c.args.size c.args.serial c.args.len (c.requires.unlisted i stands) (splits g c) c.requires.least c.if-tag-size.false c.requires.payload
 
 pub invariant_of-self-2 : goal.invariant_of-self-2
-invariant_of-self-2 c = (split c c.requires.room.0 c.requires.room.1).holds
+invariant_of-self-2 g c = (split g c c.requires.room.0 c.requires.room.1).holds
 
 pub returns-clause-rest : goal.returns-clause-rest
-returns-clause-rest c i stands =
-    let says = says_here (shows_state c.self.invariant c.self.view_is) stands in
+returns-clause-rest g c i stands =
+    let says = says_here (shows_state g.row.SLI c.self.invariant c.self.view_is) stands in
     let size = c.tag-tag.ensures.size ∙ says.size in
     ap (λ (n : ℕ). n - c.args.size) size ∙ sym (rest_large _ _ (omega (arith, c.if-tag-size.false, size)))
 
 pub returns-clause-change : goal.returns-clause-change
-returns-clause-change c i stands =
-    let left = split c i stands in
+returns-clause-change g c i stands =
+    let left = split g c i stands in
     let touches = ap (λ (r : RegionState). r.touches) c.self.view_is in
     let words = ap (λ (r : RegionState). r.words) c.self.view_is in
-    let says = says_here (shows_state c.self.invariant c.self.view_is) stands in
+    let says = says_here (shows_state g.row.SLI c.self.invariant c.self.view_is) stands in
     let size = c.tag-tag.ensures.size ∙ says.size in
     record {
       blocks = left.blocks;

@@ -7,12 +7,12 @@ use Rattle.tlsf_heap.proofs.region.Region.find_live.Goals as goal
 use Rattle.tlsf_heap.proofs.region.Region.find_live.Goals.{then-tag-via-then-tag, then-tag-via-else-tag+then-mark-serial}
 
 pub returns-then-not-begins-clause-answer : goal.returns-then-not-begins-clause-answer
-returns-then-not-begins-clause-answer c = none_named c.args.at c.args.serial (λ i stands. absurd (c.begins.ensures.no c.if-not-begins.true (i, stands)))
+returns-then-not-begins-clause-answer g c = none_named c.args.at c.args.serial (λ i stands. absurd (c.begins.ensures.no c.if-not-begins.true (i, stands)))
 
 -- ---- a block begins there
 
 pub returns-then-tag-clause-answer : goal.returns-then-tag-clause-answer
-returns-then-tag-clause-answer c =
+returns-then-tag-clause-answer g c =
     let place = c.begins.ensures.yes c.if-not-begins.false in
     let tag = (rw c.begins.ensures.reads.blocks at c.tag-tag.ensures.value) place.0 place.1 in
     elim c.then-tag.branch [
@@ -24,10 +24,10 @@ returns-then-tag-clause-answer c =
     ]
 
 pub returns-then-tag-clause-nowhere : goal.returns-then-tag-clause-nowhere
-returns-then-tag-clause-nowhere c inside none = absurd (none (c.begins.ensures.yes c.if-not-begins.false))
+returns-then-tag-clause-nowhere g c inside none = absurd (none (c.begins.ensures.yes c.if-not-begins.false))
 
 pub returns-clause-answer : goal.returns-clause-answer
-returns-clause-answer c =
+returns-clause-answer g c =
     let place = c.begins.ensures.yes c.if-not-begins.false in
     let tag = (rw (c.begins.ensures.reads.blocks, c.begins.ensures.reads.words) at c.tag-tag.ensures.value) place.0 place.1 in
     let mark = (rw (c.tag-tag.ensures.reads.blocks ∙ c.begins.ensures.reads.blocks) at c.mark.ensures.value) place.0 place.1 in
@@ -35,4 +35,4 @@ returns-clause-answer c =
     ((place.0, named_here c.begins.ensures.rooms c.args.serial place.1 serial), tag)
 
 pub returns-clause-nowhere : goal.returns-clause-nowhere
-returns-clause-nowhere c inside none = absurd (none (c.begins.ensures.yes c.if-not-begins.false))
+returns-clause-nowhere g c inside none = absurd (none (c.begins.ensures.yes c.if-not-begins.false))

@@ -4,10 +4,10 @@ use Rattle.tlsf_heap.proofs.Payloads.{length_read}
 use Rattle.tlsf_heap.proofs.region.Region.length.Goals as goal
 
 pub length-requires : goal.length-requires
-length-requires c = omega (arith, in_region (shows_state c.self.invariant c.self.view_is) (c.requires.0, c.requires.1))
+length-requires g c = omega (arith, in_region (shows_state g.row.SLI c.self.invariant c.self.view_is) (c.requires.0, c.requires.1))
 
 pub invariant_of-self : goal.invariant_of-self
-invariant_of-self c = holds_read c.length.ensures.words c.length.ensures.starts c.self.invariant
+invariant_of-self g c = holds_read g.row.SLI c.length.ensures.words c.length.ensures.starts c.self.invariant
 
 pub returns-clause-value : goal.returns-clause-value
-returns-clause-value c i stands = c.length.ensures.value ∙ length_read (shows_state c.self.invariant c.self.view_is) stands c.requires
+returns-clause-value g c i stands = c.length.ensures.value ∙ length_read (shows_state g.row.SLI c.self.invariant c.self.view_is) stands c.requires

@@ -11,39 +11,40 @@ use Rattle.tlsf_heap.specs.Regions.{RegionState, AreNeighbours, AreUnlisted, lis
 use Rattle.tlsf_heap.specs.Headers.{Merges}
 use Rattle.tlsf_heap.specs.Image.{Image}
 use Rattle.tlsf_words.specs.Lists.{ListHeads}
+use Rattle.tlsf_heap.proofs.region.Region.merge.Given.{Over}
 use Rattle.tlsf_heap.proofs.region.Region.merge.Goals as goal
 
-neighbours : (c : goal.After-merge_headers-arg-1) → (i : ℕ) → StandsAt c.args.self.now.blocks c.args.at i → AreNeighbours (length c.self.inside.words.words) (site_at c.args.self.now.blocks i) c.args.around
-neighbours c i stands =
+neighbours : (g : Over) (c : goal.After-merge_headers-arg-1 g) → (i : ℕ) → StandsAt c.args.self.now.blocks c.args.at i → AreNeighbours (length c.self.inside.words.words) (site_at c.args.self.now.blocks i) c.args.around
+neighbours g c i stands =
     subst (λ (n : ℕ). AreNeighbours n (site_at c.args.self.now.blocks i) c.args.around) (sym (ap (λ (r : RegionState). r.words) c.self.view_is))
-    (at_index (shows_state c.self.invariant c.self.view_is) (λ i. AreNeighbours c.args.self.now.words (site_at c.args.self.now.blocks i) c.args.around) c.requires.around stands)
+    (at_index (shows_state g.row.SLI c.self.invariant c.self.view_is) (λ i. AreNeighbours c.args.self.now.words (site_at c.args.self.now.blocks i) c.args.around) c.requires.around stands)
 
 pub merge_headers-requires : goal.merge_headers-requires
-merge_headers-requires c =
-    let shows = shows_state c.self.invariant c.self.view_is in
+merge_headers-requires g c =
+    let shows = shows_state g.row.SLI c.self.invariant c.self.view_is in
     let stands = c.requires.around.1 in
-    let is = neighbours c c.requires.around.0 stands in
+    let is = neighbours g c c.requires.around.0 stands in
     record { before = merge_before shows stands is; after = merge_after shows stands is; within = merge_within shows stands is; small = shows.small }
 
 -- the blocks and the lists that a merge leaves
-merged : {m v : Image} {l : ListHeads} {r : RegionState} → HoldsState m l r → {at i stamp : ℕ} {around : Neighbours} → StandsAt r.blocks at i → AreNeighbours (length m.words) (site_at r.blocks i) around
-    → Merges m v at around stamp → AreUnlisted (list_in r.lists) (at - around.before) (at - around.before + around.tag.size) → Reshapes v l (coalesced stamp (site_at r.blocks i)) r.lists
-merged {v = v} {l = l} {r = r} state {i = i} {stamp = stamp} stands is merges unlisted =
+merged : (sli : ℕ) {m v : Image} {l : ListHeads} {r : RegionState} → HoldsState sli m l r → {at i stamp : ℕ} {around : Neighbours} → StandsAt r.blocks at i → AreNeighbours (length m.words) (site_at r.blocks i) around
+    → Merges m v at around stamp → AreUnlisted (list_in r.lists) (at - around.before) (at - around.before + around.tag.size) → Reshapes sli v l (coalesced stamp (site_at r.blocks i)) r.lists
+merged sli {v = v} {l = l} {r = r} state {i = i} {stamp = stamp} stands is merges unlisted =
     let shows = state.shows in
-    subst (λ (bs : List Block). Reshapes v l bs r.lists) (merge_is shows stands is merges)
-    (reshaped state v _ _ _ _ (merge_parts shows stands is merges) (merge_replaces shows stands is merges)
+    subst (λ (bs : List Block). Reshapes sli v l bs r.lists) (merge_is shows stands is merges)
+    (reshaped sli state v _ _ _ _ (merge_parts shows stands is merges) (merge_replaces shows stands is merges)
     (λ k low high. unlisted k (omega (arith, low, merge_begins shows stands is merges)) (omega (arith, high, merge_range shows stands is merges))))
 
-reshapes : (c : goal.After-merge_headers) → (i : ℕ) → StandsAt c.args.self.now.blocks c.args.at i
-    → Reshapes (image_of c.merge_headers.new.words) c.self.inside.lists (coalesced c.args.stamp (site_at c.args.self.now.blocks i)) c.args.self.now.lists
-reshapes c i stands = merged (holds_state c.self.invariant c.self.view_is) stands (neighbours c.before i stands) c.merge_headers.ensures.change c.requires.unlisted
+reshapes : (g : Over) (c : goal.After-merge_headers g) → (i : ℕ) → StandsAt c.args.self.now.blocks c.args.at i
+    → Reshapes g.row.SLI (image_of c.merge_headers.new.words) c.self.inside.lists (coalesced c.args.stamp (site_at c.args.self.now.blocks i)) c.args.self.now.lists
+reshapes g c i stands = merged g.row.SLI (holds_state g.row.SLI c.self.invariant c.self.view_is) stands (neighbours g c.before i stands) c.merge_headers.ensures.change c.requires.unlisted
 
 pub invariant_of-self : goal.invariant_of-self
-invariant_of-self c = (reshapes c c.requires.around.0 c.requires.around.1).holds
+invariant_of-self g c = (reshapes g c c.requires.around.0 c.requires.around.1).holds
 
 pub returns : goal.returns
-returns c i stands =
-    let left = reshapes c i stands in
+returns g c i stands =
+    let left = reshapes g c i stands in
     let touches = ap (λ (r : RegionState). r.touches) c.self.view_is in
     let words = ap (λ (r : RegionState). r.words) c.self.view_is in
     record {

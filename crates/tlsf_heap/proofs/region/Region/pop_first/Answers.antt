@@ -4,31 +4,41 @@ use Rattle.std.specs.Prelude.{slice_get}
 use Rattle.tlsf_words.specs.Lists.{without_place}
 use Rattle.tlsf_heap.proofs.Linking.{Relinks, holds_state, list_in-lists_of, relinked, free_removed}
 use Rattle.tlsf_heap.specs.Regions.{RegionState, image_of}
+use Rattle.tlsf_heap.proofs.region.Region.pop_first.Given.{Over}
 use Rattle.tlsf_heap.proofs.region.Region.pop_first.Goals as goal
 
-pub pop_first-requires-clause-some : goal.pop_first-requires-clause-some
-pop_first-requires-clause-some c none = c.requires.some ((holds_state c.self.invariant c.self.view_is).lists c.args.class ∙ none)
+pub pop_first-requires : goal.pop_first-requires
+pop_first-requires g c = (
+  omega arith,
+  (
+    omega arith,
+    (
+      c.self.invariant.threaded,
+      λ none. c.requires.some ((holds_state g.row.SLI c.self.invariant c.self.view_is).lists c.args.class ∙ none),
+    ),
+  ),
+)
 
-relinks : (c : goal.After-pop_first) → Relinks (image_of c.pop_first.new.words) c.pop_first.new.self c.args.self.now.blocks
-relinks c =
+relinks : (g : Over) (c : goal.After-pop_first g) → Relinks g.row.SLI (image_of c.pop_first.new.words) c.pop_first.new.self c.args.self.now.blocks
+relinks g c =
     let new = c.pop_first.ensures in
-    let state = holds_state c.self.invariant c.self.view_is in
-    relinked state new.threaded (free_removed state (image_of c.pop_first.new.words) c.pop_first.new.self c.args.class c.pop_first.result new.others new.list) new.words new.length new.starts
+    let state = holds_state g.row.SLI c.self.invariant c.self.view_is in
+    relinked g.row.SLI state new.threaded (free_removed g.row.SLI state (image_of c.pop_first.new.words) c.pop_first.new.self c.args.class c.pop_first.result new.others new.list) new.words new.length new.starts
 
 pub invariant_of-self : goal.invariant_of-self
-invariant_of-self c = (relinks c).holds
+invariant_of-self g c = (relinks g c).holds
 
 pub returns-clause-place : goal.returns-clause-place
-returns-clause-place c = ap (λ (places : List ℕ). slice_get places 0) ((holds_state c.self.invariant c.self.view_is).lists c.args.class ∙ c.pop_first.ensures.first)
+returns-clause-place g c = ap (λ (places : List ℕ). slice_get places 0) ((holds_state g.row.SLI c.self.invariant c.self.view_is).lists c.args.class ∙ c.pop_first.ensures.first)
 
 pub returns-clause-change : goal.returns-clause-change
-returns-clause-change c =
+returns-clause-change g c =
     let touches = ap (λ (r : RegionState). r.touches) c.self.view_is in
     let words = ap (λ (r : RegionState). r.words) c.self.view_is in
     record {
-      blocks = (relinks c).same;
+      blocks = (relinks g c).same;
       list = list_in-lists_of c.pop_first.new.self.heads c.pop_first.new.words.words c.args.class ∙ c.pop_first.ensures.list
-          ∙ ap (without_place c.pop_first.result) (sym ((holds_state c.self.invariant c.self.view_is).lists c.args.class));
-      others = λ other differs. list_in-lists_of c.pop_first.new.self.heads c.pop_first.new.words.words other ∙ c.pop_first.ensures.others other differs ∙ sym ((holds_state c.self.invariant c.self.view_is).lists other);
-      edits = record { words = c.pop_first.ensures.length ∙ words; shows = (relinks c).holds.shows; touches = omega (arith, c.pop_first.ensures.touches, touches); rise = omega (arith, c.pop_first.ensures.rise, c.pop_first.ensures.words_rise, touches) };
+          ∙ ap (without_place c.pop_first.result) (sym ((holds_state g.row.SLI c.self.invariant c.self.view_is).lists c.args.class));
+      others = λ other differs. list_in-lists_of c.pop_first.new.self.heads c.pop_first.new.words.words other ∙ c.pop_first.ensures.others other differs ∙ sym ((holds_state g.row.SLI c.self.invariant c.self.view_is).lists other);
+      edits = record { words = c.pop_first.ensures.length ∙ words; shows = (relinks g c).holds.shows; touches = omega (arith, c.pop_first.ensures.touches, touches); rise = omega (arith, c.pop_first.ensures.rise, c.pop_first.ensures.words_rise, touches) };
     }

@@ -4,32 +4,41 @@ use Rattle.std.specs.Prelude.{Contains}
 use Rattle.tlsf_heap.proofs.Reading.{shows_state, in_region}
 use Rattle.tlsf_heap.proofs.Linking.{Relinks, holds_state, list_in-lists_of, relinked, free_pushed}
 use Rattle.tlsf_heap.specs.Regions.{RegionState, image_of}
+use Rattle.tlsf_heap.proofs.region.Region.push.Given.{Over}
 use Rattle.tlsf_heap.proofs.region.Region.push.Goals as goal
 
-pub push-requires-clause-inside : goal.push-requires-clause-inside
-push-requires-clause-inside c = omega (arith, in_region (shows_state c.self.invariant c.self.view_is) (c.requires.free.0, c.requires.free.1))
+pub push-requires : goal.push-requires
+push-requires g c = (
+  omega arith,
+  (
+    omega arith,
+    (
+      c.self.invariant.threaded,
+      (
+        omega (arith, in_region (shows_state g.row.SLI c.self.invariant c.self.view_is) (c.requires.free.0, c.requires.free.1)),
+        λ class listed. c.requires.unlisted class (subst (λ (places : List ℕ). Contains places c.args.at) (sym ((holds_state g.row.SLI c.self.invariant c.self.view_is).lists class)) listed),
+      ),
+    ),
+  ),
+)
 
-pub push-requires-clause-unlisted : goal.push-requires-clause-unlisted
-push-requires-clause-unlisted c class listed =
-    c.requires.unlisted class (subst (λ (places : List ℕ). Contains places c.args.at) (sym ((holds_state c.self.invariant c.self.view_is).lists class)) listed)
-
-relinks : (c : goal.After-push) → Relinks (image_of c.push.new.words) c.push.new.self c.args.self.now.blocks
-relinks c =
+relinks : (g : Over) (c : goal.After-push g) → Relinks g.row.SLI (image_of c.push.new.words) c.push.new.self c.args.self.now.blocks
+relinks g c =
     let new = c.push.ensures in
-    let state = holds_state c.self.invariant c.self.view_is in
-    relinked state new.threaded (free_pushed state (image_of c.push.new.words) c.push.new.self c.args.class c.args.at new.others c.requires.free new.list) new.words new.length new.starts
+    let state = holds_state g.row.SLI c.self.invariant c.self.view_is in
+    relinked g.row.SLI state new.threaded (free_pushed g.row.SLI state (image_of c.push.new.words) c.push.new.self c.args.class c.args.at new.others c.requires.free new.list) new.words new.length new.starts
 
 pub invariant_of-self : goal.invariant_of-self
-invariant_of-self c = (relinks c).holds
+invariant_of-self g c = (relinks g c).holds
 
 pub returns : goal.returns
-returns c =
+returns g c =
     let touches = ap (λ (r : RegionState). r.touches) c.self.view_is in
     let words = ap (λ (r : RegionState). r.words) c.self.view_is in
     record {
-      blocks = (relinks c).same;
+      blocks = (relinks g c).same;
       list = list_in-lists_of c.push.new.self.heads c.push.new.words.words c.args.class ∙ c.push.ensures.list
-          ∙ ap (λ (places : List ℕ). c.args.at ∷ places) (sym ((holds_state c.self.invariant c.self.view_is).lists c.args.class));
-      others = λ other differs. list_in-lists_of c.push.new.self.heads c.push.new.words.words other ∙ c.push.ensures.others other differs ∙ sym ((holds_state c.self.invariant c.self.view_is).lists other);
-      edits = record { words = c.push.ensures.length ∙ words; shows = (relinks c).holds.shows; touches = omega (arith, c.push.ensures.touches, touches); rise = omega (arith, c.push.ensures.rise, c.push.ensures.words_rise, touches) };
+          ∙ ap (λ (places : List ℕ). c.args.at ∷ places) (sym ((holds_state g.row.SLI c.self.invariant c.self.view_is).lists c.args.class));
+      others = λ other differs. list_in-lists_of c.push.new.self.heads c.push.new.words.words other ∙ c.push.ensures.others other differs ∙ sym ((holds_state g.row.SLI c.self.invariant c.self.view_is).lists other);
+      edits = record { words = c.push.ensures.length ∙ words; shows = (relinks g c).holds.shows; touches = omega (arith, c.push.ensures.touches, touches); rise = omega (arith, c.push.ensures.rise, c.push.ensures.words_rise, touches) };
     }

@@ -7,31 +7,32 @@ use Rattle.tlsf_heap.proofs.Linking.{Reshapes, holds_state}
 use Rattle.tlsf_heap.proofs.Reading.{shows_state, at_index}
 use Rattle.tlsf_heap.proofs.Recutting.{whole_is, whole_ends, whole_least, left_wide, left_recut}
 use Rattle.tlsf_heap.proofs.region.Region.recut.Goals.{After-recut_header}
+use Rattle.tlsf_heap.proofs.region.Region.recut.Given.{Over}
 use Rattle.tlsf_heap.proofs.region.Region.recut.Goals as goal
 
 pub widen_header-requires : goal.widen_header-requires
-widen_header-requires c =
-    let shows = shows_state c.self.invariant c.self.view_is in
+widen_header-requires g c =
+    let shows = shows_state g.row.SLI c.self.invariant c.self.view_is in
     let live = c.requires.live in
     let is = whole_is (ap (λ (r : RegionState). r.words) c.self.view_is) (c.requires.own live.0 live.1) (c.requires.next live.0 live.1) in
     record { after = whole_least shows live.1 is; within = whole_ends shows live.1 is; small = shows.small }
 
 -- the block takes all
-wide : (c : goal.After-widen_header) → (i : ℕ) → StandsAt c.args.self.now.blocks c.args.at i
-    → Reshapes (image_of c.widen_header.new.words) c.self.inside.lists (take i c.args.self.now.blocks ++ recut c.args.stamp c.args.size (block_at c.args.self.now.blocks i) (drop (suc i) c.args.self.now.blocks)) c.args.self.now.lists
-wide c i stands =
-    let state = holds_state c.self.invariant c.self.view_is in
+wide : (g : Over) (c : goal.After-widen_header g) → (i : ℕ) → StandsAt c.args.self.now.blocks c.args.at i
+    → Reshapes g.row.SLI (image_of c.widen_header.new.words) c.self.inside.lists (take i c.args.self.now.blocks ++ recut c.args.stamp c.args.size (block_at c.args.self.now.blocks i) (drop (suc i) c.args.self.now.blocks)) c.args.self.now.lists
+wide g c i stands =
+    let state = holds_state g.row.SLI c.self.invariant c.self.view_is in
     let live = c.requires.live in
     let is = whole_is (ap (λ (r : RegionState). r.words) c.self.view_is) (c.requires.own i stands) (c.requires.next i stands) in
-    left_wide state stands is (at_index state.shows (λ (j : ℕ). is_free (block_at c.args.self.now.blocks j) ≡ false) (live.0, live.1, live.2.0) stands)
+    left_wide g.row.SLI state stands is (at_index state.shows (λ (j : ℕ). is_free (block_at c.args.self.now.blocks j) ≡ false) (live.0, live.1, live.2.0) stands)
     (λ k low high. c.requires.unlisted k low (omega (arith, high))) c.args.size c.args.stamp c.widen_header.ensures.change c.if-whole-size.true
 
 pub invariant_of-self : goal.invariant_of-self
-invariant_of-self c = (wide c c.requires.live.0 c.requires.live.1).holds
+invariant_of-self g c = (wide g c c.requires.live.0 c.requires.live.1).holds
 
 pub returns-then-whole-size-clause-change : goal.returns-then-whole-size-clause-change
-returns-then-whole-size-clause-change c i stands =
-    let left = wide c i stands in
+returns-then-whole-size-clause-change g c i stands =
+    let left = wide g c i stands in
     let touches = ap (λ (r : RegionState). r.touches) c.self.view_is in
     let words = ap (λ (r : RegionState). r.words) c.self.view_is in
     let rises = c.widen_header.ensures.touches in
@@ -42,27 +43,27 @@ returns-then-whole-size-clause-change c i stands =
     }
 
 pub recut_header-requires-clause-within : goal.recut_header-requires-clause-within
-recut_header-requires-clause-within c =
+recut_header-requires-clause-within g c =
     let live = c.requires.live in
-    whole_ends (shows_state c.self.invariant c.self.view_is) live.1 (whole_is (ap (λ (r : RegionState). r.words) c.self.view_is) (c.requires.own live.0 live.1) (c.requires.next live.0 live.1))
+    whole_ends (shows_state g.row.SLI c.self.invariant c.self.view_is) live.1 (whole_is (ap (λ (r : RegionState). r.words) c.self.view_is) (c.requires.own live.0 live.1) (c.requires.next live.0 live.1))
 
 -- it leaves a rest
-cut : (c : After-recut_header) → (i : ℕ) → StandsAt c.args.self.now.blocks c.args.at i
-    → Reshapes (image_of c.recut_header.new.words) c.self.inside.lists (take i c.args.self.now.blocks ++ recut c.args.stamp c.args.size (block_at c.args.self.now.blocks i) (drop (suc i) c.args.self.now.blocks)) c.args.self.now.lists
-cut c i stands =
-    let state = holds_state c.self.invariant c.self.view_is in
+cut : (g : Over) (c : After-recut_header g) → (i : ℕ) → StandsAt c.args.self.now.blocks c.args.at i
+    → Reshapes g.row.SLI (image_of c.recut_header.new.words) c.self.inside.lists (take i c.args.self.now.blocks ++ recut c.args.stamp c.args.size (block_at c.args.self.now.blocks i) (drop (suc i) c.args.self.now.blocks)) c.args.self.now.lists
+cut g c i stands =
+    let state = holds_state g.row.SLI c.self.invariant c.self.view_is in
     let live = c.requires.live in
     let is = whole_is (ap (λ (r : RegionState). r.words) c.self.view_is) (c.requires.own i stands) (c.requires.next i stands) in
-    left_recut state stands is (at_index state.shows (λ (j : ℕ). is_free (block_at c.args.self.now.blocks j) ≡ false) (live.0, live.1, live.2.0) stands)
+    left_recut g.row.SLI state stands is (at_index state.shows (λ (j : ℕ). is_free (block_at c.args.self.now.blocks j) ≡ false) (live.0, live.1, live.2.0) stands)
     (λ k low high. c.requires.unlisted k low (omega (arith, high))) c.args.size c.args.stamp c.recut_header.ensures.change c.requires.least c.if-whole-size.false
     (at_index state.shows (λ (j : ℕ). words_for (length (bytes_of (block_at c.args.self.now.blocks j))) ≤ c.args.size) (live.0, live.1, live.2.1) stands)
 
 pub invariant_of-self-2 : goal.invariant_of-self-2
-invariant_of-self-2 c = (cut c c.requires.live.0 c.requires.live.1).holds
+invariant_of-self-2 g c = (cut g c c.requires.live.0 c.requires.live.1).holds
 
 pub returns-clause-change : goal.returns-clause-change
-returns-clause-change c i stands =
-    let left = cut c i stands in
+returns-clause-change g c i stands =
+    let left = cut g c i stands in
     let touches = ap (λ (r : RegionState). r.touches) c.self.view_is in
     let words = ap (λ (r : RegionState). r.words) c.self.view_is in
     let rises = c.recut_header.ensures.touches in

@@ -4,29 +4,38 @@ use Rattle.std.specs.Prelude.{Contains}
 use Rattle.tlsf_words.specs.Lists.{without_place}
 use Rattle.tlsf_heap.proofs.Linking.{Relinks, holds_state, list_in-lists_of, relinked, free_removed}
 use Rattle.tlsf_heap.specs.Regions.{RegionState, image_of}
+use Rattle.tlsf_heap.proofs.region.Region.remove.Given.{Over}
 use Rattle.tlsf_heap.proofs.region.Region.remove.Goals as goal
 
-pub remove-requires-clause-listed : goal.remove-requires-clause-listed
-remove-requires-clause-listed c =
-    subst (λ (places : List ℕ). Contains places c.args.at) ((holds_state c.self.invariant c.self.view_is).lists c.args.class) c.requires.listed
+pub remove-requires : goal.remove-requires
+remove-requires g c = (
+  omega arith,
+  (
+    omega arith,
+    (
+      c.self.invariant.threaded,
+      subst (λ (places : List ℕ). Contains places c.args.at) ((holds_state g.row.SLI c.self.invariant c.self.view_is).lists c.args.class) c.requires.listed,
+    ),
+  ),
+)
 
-relinks : (c : goal.After-remove) → Relinks (image_of c.remove.new.words) c.remove.new.self c.args.self.now.blocks
-relinks c =
+relinks : (g : Over) (c : goal.After-remove g) → Relinks g.row.SLI (image_of c.remove.new.words) c.remove.new.self c.args.self.now.blocks
+relinks g c =
     let new = c.remove.ensures in
-    let state = holds_state c.self.invariant c.self.view_is in
-    relinked state new.threaded (free_removed state (image_of c.remove.new.words) c.remove.new.self c.args.class c.args.at new.others new.list) new.words new.length new.starts
+    let state = holds_state g.row.SLI c.self.invariant c.self.view_is in
+    relinked g.row.SLI state new.threaded (free_removed g.row.SLI state (image_of c.remove.new.words) c.remove.new.self c.args.class c.args.at new.others new.list) new.words new.length new.starts
 
 pub invariant_of-self : goal.invariant_of-self
-invariant_of-self c = (relinks c).holds
+invariant_of-self g c = (relinks g c).holds
 
 pub returns : goal.returns
-returns c =
+returns g c =
     let touches = ap (λ (r : RegionState). r.touches) c.self.view_is in
     let words = ap (λ (r : RegionState). r.words) c.self.view_is in
     record {
-      blocks = (relinks c).same;
+      blocks = (relinks g c).same;
       list = list_in-lists_of c.remove.new.self.heads c.remove.new.words.words c.args.class ∙ c.remove.ensures.list
-          ∙ ap (without_place c.args.at) (sym ((holds_state c.self.invariant c.self.view_is).lists c.args.class));
-      others = λ other differs. list_in-lists_of c.remove.new.self.heads c.remove.new.words.words other ∙ c.remove.ensures.others other differs ∙ sym ((holds_state c.self.invariant c.self.view_is).lists other);
-      edits = record { words = c.remove.ensures.length ∙ words; shows = (relinks c).holds.shows; touches = omega (arith, c.remove.ensures.touches, touches); rise = omega (arith, c.remove.ensures.rise, c.remove.ensures.words_rise, touches) };
+          ∙ ap (without_place c.args.at) (sym ((holds_state g.row.SLI c.self.invariant c.self.view_is).lists c.args.class));
+      others = λ other differs. list_in-lists_of c.remove.new.self.heads c.remove.new.words.words other ∙ c.remove.ensures.others other differs ∙ sym ((holds_state g.row.SLI c.self.invariant c.self.view_is).lists other);
+      edits = record { words = c.remove.ensures.length ∙ words; shows = (relinks g c).holds.shows; touches = omega (arith, c.remove.ensures.touches, touches); rise = omega (arith, c.remove.ensures.rise, c.remove.ensures.words_rise, touches) };
     }

@@ -6,11 +6,12 @@ use Rattle.tlsf_heap.proofs.Reading.{shows_state, says_here}
 use Rattle.tlsf_heap.proofs.Resized.{Refills, refilled, relisted_refill}
 use Rattle.tlsf_heap.proofs.Showing.{room_here}
 use Rattle.tlsf_heap.proofs.Standing.{behind_one}
+use Rattle.tlsf_heap.proofs.region.Region.set_payload.Given.{Over}
 use Rattle.tlsf_heap.proofs.region.Region.set_payload.Goals as goal
 
 pub set_payload-requires : goal.set_payload-requires
-set_payload-requires c =
-    let shows = shows_state c.self.invariant c.self.view_is in
+set_payload-requires g c =
+    let shows = shows_state g.row.SLI c.self.invariant c.self.view_is in
     let stands = c.requires.1 in
     let says = says_here shows stands in
     let held = held_within _ (room_here (image_of c.self.inside.words) c.args.self.now.blocks shows c.args.at c.requires.0 stands) in
@@ -20,23 +21,23 @@ set_payload-requires c =
       small = shows.small;
     }
 
-refills : (c : goal.After-set_payload) → Refills (image_of c.self.inside.words) (image_of c.set_payload.new.words) c.args.at c.args.len
-refills c = let new = c.set_payload.ensures in record { length = new.length; bytes = new.bytes; only = new.only; starts = new.starts }
+refills : (g : Over) (c : goal.After-set_payload g) → Refills (image_of c.self.inside.words) (image_of c.set_payload.new.words) c.args.at c.args.len
+refills g c = let new = c.set_payload.ensures in record { length = new.length; bytes = new.bytes; only = new.only; starts = new.starts }
 
-relists : (c : goal.After-set_payload) → Relists (image_of c.set_payload.new.words) c.self.inside.lists c.args.self.now.lists
-relists c = relisted_refill (holds_state c.self.invariant c.self.view_is) c.requires (refills c)
+relists : (g : Over) (c : goal.After-set_payload g) → Relists g.row.SLI (image_of c.set_payload.new.words) c.self.inside.lists c.args.self.now.lists
+relists g c = relisted_refill g.row.SLI (holds_state g.row.SLI c.self.invariant c.self.view_is) c.requires (refills g c)
 
 pub invariant_of-self : goal.invariant_of-self
-invariant_of-self c = (relists c).holds
+invariant_of-self g c = (relists g c).holds
 
 pub returns : goal.returns
-returns c i stands =
+returns g c i stands =
     let new = c.set_payload.ensures in
-    let left = refilled (shows_state c.self.invariant c.self.view_is) c.requires (refills c) in
+    let left = refilled (shows_state g.row.SLI c.self.invariant c.self.view_is) c.requires (refills g c) in
     let touches = ap (λ (r : RegionState). r.touches) c.self.view_is in
     let words = ap (λ (r : RegionState). r.words) c.self.view_is in
     record {
       blocks = left.blocks i stands ∙ behind_one i _ c.args.self.now.blocks;
-      lists = (relists c).same;
-      edits = record { words = new.only.length ∙ words; shows = (relists c).holds.shows; touches = omega (arith, new.touches.within, touches); rise = omega (arith, new.touches.rise, touches) };
+      lists = (relists g c).same;
+      edits = record { words = new.only.length ∙ words; shows = (relists g c).holds.shows; touches = omega (arith, new.touches.within, touches); rise = omega (arith, new.touches.rise, touches) };
     }

@@ -8,30 +8,31 @@ use Rattle.tlsf_heap.proofs.Linking.{Relists, holds_state}
 use Rattle.tlsf_heap.proofs.Relisting.{relisted_bytes}
 use Rattle.tlsf_heap.proofs.Standing.{behind_one}
 use Rattle.tlsf_heap.specs.Regions.{RegionState, image_of}
+use Rattle.tlsf_heap.proofs.region.Region.write.Given.{Over}
 use Rattle.tlsf_heap.proofs.region.Region.write.Goals as goal
 
 pub copy_in-requires : goal.copy_in-requires
-copy_in-requires c = omega (arith, payload_inside (shows_state c.self.invariant c.self.view_is) c.requires.1, c.requires.2)
+copy_in-requires g c = omega (arith, payload_inside (shows_state g.row.SLI c.self.invariant c.self.view_is) c.requires.1, c.requires.2)
 
-relists : (c : goal.After-copy_in) → Relists (image_of c.copy_in.new.self) c.self.inside.lists c.args.self.now.lists
-relists c =
+relists : (g : Over) (c : goal.After-copy_in g) → Relists g.row.SLI (image_of c.copy_in.new.self) c.self.inside.lists c.args.self.now.lists
+relists g c =
     let new = c.copy_in.ensures in
-    let state = holds_state c.self.invariant c.self.view_is in
-    relisted_bytes state c.args.offset (length c.args.bytes.now) (λ i. overwritten (bytes_of (block_at c.args.self.now.blocks i)) c.args.offset c.args.bytes.now) c.requires
+    let state = holds_state g.row.SLI c.self.invariant c.self.view_is in
+    relisted_bytes g.row.SLI state c.args.offset (length c.args.bytes.now) (λ i. overwritten (bytes_of (block_at c.args.self.now.blocks i)) c.args.offset c.args.bytes.now) c.requires
     new.words_before new.words_behind new.length
     (rewritten c.args.offset state.shows c.requires new.bytes new.before new.behind new.words_before new.words_behind new.length new.starts)
 
 pub invariant_of-self : goal.invariant_of-self
-invariant_of-self c = (relists c).holds
+invariant_of-self g c = (relists g c).holds
 
 pub returns : goal.returns
-returns c i stands =
+returns g c i stands =
     let new = c.copy_in.ensures in
-    let left = rewritten {v = image_of c.copy_in.new.self} c.args.offset (shows_state c.self.invariant c.self.view_is) c.requires new.bytes new.before new.behind new.words_before new.words_behind new.length new.starts in
+    let left = rewritten {v = image_of c.copy_in.new.self} c.args.offset (shows_state g.row.SLI c.self.invariant c.self.view_is) c.requires new.bytes new.before new.behind new.words_before new.words_behind new.length new.starts in
     let touches = ap (λ (r : RegionState). r.touches) c.self.view_is in
     let words = ap (λ (r : RegionState). r.words) c.self.view_is in
     record {
       blocks = left.blocks i stands ∙ behind_one i _ c.args.self.now.blocks;
-      lists = (relists c).same;
-      edits = record { words = new.length ∙ words; shows = (relists c).holds.shows; touches = omega (arith, new.touches, touches); rise = omega (arith, new.rise, touches) };
+      lists = (relists g c).same;
+      edits = record { words = new.length ∙ words; shows = (relists g c).holds.shows; touches = omega (arith, new.touches, touches); rise = omega (arith, new.rise, touches) };
     }

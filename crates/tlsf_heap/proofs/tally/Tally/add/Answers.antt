@@ -4,38 +4,38 @@ use Rattle.tlsf_heap.proofs.tally.Tally.add.Goals as goal
 use Rattle.tlsf_heap.proofs.tally.Tally.add.Goals.{then-tag, else-tag}
 
 pub add_free-requires-clause-blocks : goal.add_free-requires-clause-blocks
-add_free-requires-clause-blocks c =
+add_free-requires-clause-blocks g c =
     let here = stands c.requires.rooms c.requires.sums.1 c.requires.within in
     omega (arith, c.requires.small, (small c.requires.rooms c.requires.sums.1 here).free_blocks)
 
 pub add_free-requires-clause-words : goal.add_free-requires-clause-words
-add_free-requires-clause-words c =
+add_free-requires-clause-words g c =
     let here = stands c.requires.rooms c.requires.sums.1 c.requires.within in
     omega (arith, c.requires.small, (c.tag-tag.ensures.value c.requires.sums.1.index here).size, (small c.requires.rooms c.requires.sums.1 here).free_words)
 
 pub add_live-requires-clause-blocks : goal.add_live-requires-clause-blocks
-add_live-requires-clause-blocks c =
+add_live-requires-clause-blocks g c =
     let here = stands c.requires.rooms c.requires.sums.1 c.requires.within in
     omega (arith, c.requires.small, (small c.requires.rooms c.requires.sums.1 here).live_blocks)
 
 pub add_live-requires-clause-words : goal.add_live-requires-clause-words
-add_live-requires-clause-words c =
+add_live-requires-clause-words g c =
     let here = stands c.requires.rooms c.requires.sums.1 c.requires.within in
     omega (arith, c.requires.small, (c.tag-tag.ensures.value c.requires.sums.1.index here).size, (small c.requires.rooms c.requires.sums.1 here).live_words)
 
 pub add_live-requires-clause-bytes : goal.add_live-requires-clause-bytes
-add_live-requires-clause-bytes c =
+add_live-requires-clause-bytes g c =
     let here = stands c.requires.rooms c.requires.sums.1 c.requires.within in
     let unread = c.tag-tag.ensures.reads.blocks in
     omega (arith, c.requires.small, rw unread at c.length.ensures.value c.requires.sums.1.index here, (small c.requires.rooms c.requires.sums.1 here).live_bytes)
 
 pub overflow_add-result : goal.overflow_add-result
-overflow_add-result c =
+overflow_add-result g c =
     let here = stands c.requires.rooms c.requires.sums.1 c.requires.within in
     omega (arith, c.requires.small, (c.tag-tag.ensures.value c.requires.sums.1.index here).size, (ends c.requires.rooms c.requires.sums.1 here).1)
 
 pub returns-clause-sums : goal.returns-clause-sums
-returns-clause-sums c tick so_far =
+returns-clause-sums g c tick so_far =
     let here = stands c.requires.rooms so_far c.requires.within in
     let i = so_far.index in
     let is = c.tag-tag.ensures.value i here in

@@ -4,10 +4,10 @@ use Rattle.tlsf_heap.proofs.Tallying.{all_summed}
 use Rattle.tlsf_heap.proofs.tally.Tally.of.Goals as goal
 
 pub returns-clause-sums : goal.returns-clause-sums
-returns-clause-sums c = all_summed c.requires.rooms c.loop-at.invariant.sums (omega (arith, c.loop-at-test.false, c.loop-at.invariant.all, c.requires.whole))
+returns-clause-sums g c = all_summed c.requires.rooms c.loop-at.invariant.sums (omega (arith, c.loop-at-test.false, c.loop-at.invariant.all, c.requires.whole))
 
 pub returns-clause-reads : goal.returns-clause-reads
-returns-clause-reads c =
+returns-clause-reads g c =
     let reads = c.loop-at.invariant.reads in
     let sums = c.loop-at.invariant.sums in
     record {

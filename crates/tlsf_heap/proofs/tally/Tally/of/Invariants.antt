@@ -5,11 +5,11 @@ use Rattle.tlsf_heap.proofs.tally.Tally.of.Given as goal
 
 -- the region is as it was but for its touches, and the sums are those over the blocks so far
 abbrev pub invariant-loop-at : goal.invariant-loop-at
-invariant-loop-at l = record {
+invariant-loop-at g l = record {
   reads : OnlyReads l.fn.region l.region (3 * l.at);
   all : l.words ≡ l.fn.region.words;
   sums : IsTallyUpTo l.tick l.fn.region.blocks l.at l.tally;
 }
 
 abbrev pub decreases-loop-at : goal.decreases-loop-at
-decreases-loop-at l = l.words - l.at
+decreases-loop-at g l = l.words - l.at

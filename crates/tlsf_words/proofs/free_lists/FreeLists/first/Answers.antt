@@ -11,7 +11,7 @@ first_got [] at e some = absurd (some e)
 first_got (p ∷ places) at e some = ap Some (sym e)
 
 pub returns-clause-place : goal.returns-clause-place
-returns-clause-place c = λ words t.
+returns-clause-place g c = λ words t.
     let head : c.place-at.result ≡ get_or c.args.self.now.heads c.args.class nowhere = c.place-at.ensures.value ∙ ap (λ (f : ListHeads). get_or f.heads c.args.class nowhere) c.self.view_is in
     elim c.if-at.branch [
       | then-at w ↦ w.result-is ∙ ap (λ (ps : List ℕ). slice_get ps 0) (sym (list_of-nowhere c.args.self.now.heads words c.args.class (sym head ∙ w.if-at.true)))

@@ -6,6 +6,7 @@ use Rattle.tlsf_words.specs.Fields.{high_half}
 use Rattle.tlsf_words.specs.Ties.{AreTied}
 use Rattle.tlsf_words.proofs.Threads.{listed_within}
 use Rattle.tlsf_words.proofs.Remove.{RemoveWrites, next_within, head_member, head_previous, head_then_left, remove-threaded, remove-list, remove-others, remove-words}
+use Rattle.tlsf_words.proofs.free_lists.FreeLists.pop_first.Given.{Over}
 use Rattle.tlsf_words.proofs.free_lists.FreeLists.pop_first.Goals as goal
 
 -- a head, by what the lists show
@@ -13,33 +14,33 @@ abbrev head_of : ℕ → ListHeads → ℕ
 head_of class lists = get_or lists.heads class nowhere
 
 pub links-next-requires : goal.links-next-requires
-links-next-requires c = listed_within c.args.self.now.heads c.args.self.now.members c.args.words.now.words c.requires.threaded c.args.class c.place-head.result
-    (head_member c.args.self.now.heads c.args.self.now.members c.args.words.now.words c.args.class c.place-head.result c.requires.threaded c.requires.some (c.place-head.ensures.value ∙ ap (head_of c.args.class) c.self.view_is))
+links-next-requires g c = listed_within g.row.SLI c.args.self.now.heads c.args.self.now.members c.args.words.now.words c.requires.threaded c.args.class c.place-head.result
+    (head_member g.row.SLI c.args.self.now.heads c.args.self.now.members c.args.words.now.words c.args.class c.place-head.result c.requires.threaded c.requires.some (c.place-head.ensures.value ∙ ap (head_of c.args.class) c.self.view_is))
 
 pub tie-requires-clause-next : goal.tie-requires-clause-next
-tie-requires-clause-next c = λ some.
+tie-requires-clause-next g c = λ some.
     let head : c.place-head.result ≡ head_of c.args.class c.args.self.now = c.place-head.ensures.value ∙ ap (head_of c.args.class) c.self.view_is in
     subst (λ (w : List ℕ). c.links-next.result.next + 2 < length w) (sym c.links-next.ensures.words)
-    (next_within c.args.self.now.heads c.args.self.now.members c.args.words.now.words c.args.class c.place-head.result c.requires.threaded c.links-next.ensures.small (head_member c.args.self.now.heads c.args.self.now.members c.args.words.now.words c.args.class c.place-head.result c.requires.threaded c.requires.some head)
-    c.links-next.result.next nowhere c.links-next.ensures.next (head_previous c.args.self.now.heads c.args.self.now.members c.args.words.now.words c.args.class c.place-head.result c.requires.threaded c.requires.some head c.links-next.ensures.small) some)
+    (next_within g.row.SLI c.args.self.now.heads c.args.self.now.members c.args.words.now.words c.args.class c.place-head.result c.requires.threaded c.links-next.ensures.small (head_member g.row.SLI c.args.self.now.heads c.args.self.now.members c.args.words.now.words c.args.class c.place-head.result c.requires.threaded c.requires.some head)
+    c.links-next.result.next nowhere c.links-next.ensures.next (head_previous g.row.SLI c.args.self.now.heads c.args.self.now.members c.args.words.now.words c.args.class c.place-head.result c.requires.threaded c.requires.some head c.links-next.ensures.small) some)
 
 -- the place is the head
-is_head : (c : goal.After-begin_at) → c.place-head.result ≡ head_of c.args.class c.args.self.now
-is_head c = c.place-head.ensures.value ∙ ap (head_of c.args.class) c.self.view_is
+is_head : (g : Over) (c : goal.After-begin_at g) → c.place-head.result ≡ head_of c.args.class c.args.self.now
+is_head g c = c.place-head.ensures.value ∙ ap (head_of c.args.class) c.self.view_is
 
 -- so its list has it
-is_member : (c : goal.After-begin_at) → Contains (list_of c.args.self.now.heads c.args.words.now.words c.args.class) c.place-head.result
-is_member c = head_member c.args.self.now.heads c.args.self.now.members c.args.words.now.words c.args.class c.place-head.result c.requires.threaded c.requires.some (is_head c)
+is_member : (g : Over) (c : goal.After-begin_at g) → Contains (list_of c.args.self.now.heads c.args.words.now.words c.args.class) c.place-head.result
+is_member g c = head_member g.row.SLI c.args.self.now.heads c.args.self.now.members c.args.words.now.words c.args.class c.place-head.result c.requires.threaded c.requires.some (is_head g c)
 
 -- and none stands before it
-none_before : (c : goal.After-begin_at) → nowhere ≡ high_half (get_or c.args.words.now.words (c.place-head.result + 2) 0)
-none_before c = head_previous c.args.self.now.heads c.args.self.now.members c.args.words.now.words c.args.class c.place-head.result c.requires.threaded c.requires.some (is_head c) c.links-next.ensures.small
+none_before : (g : Over) (c : goal.After-begin_at g) → nowhere ≡ high_half (get_or c.args.words.now.words (c.place-head.result + 2) 0)
+none_before g c = head_previous g.row.SLI c.args.self.now.heads c.args.self.now.members c.args.words.now.words c.args.class c.place-head.result c.requires.threaded c.requires.some (is_head g c) c.links-next.ensures.small
 
 -- what is written
-writes : (c : goal.After-begin_at) → RemoveWrites c.args.self.now.heads c.args.self.now.members c.args.words.now.words c.args.class c.place-head.result c.links-next.result.next nowhere c.begin_at.new.self.heads c.begin_at.new.self.members c.tie.new.words.words
-writes c = record {
+writes : (g : Over) (c : goal.After-begin_at g) → RemoveWrites g.row.SLI c.args.self.now.heads c.args.self.now.members c.args.words.now.words c.args.class c.place-head.result c.links-next.result.next nowhere c.begin_at.new.self.heads c.begin_at.new.self.members c.tie.new.words.words
+writes g c = record {
   next_is = c.links-next.ensures.next;
-  previous_is = none_before c;
+  previous_is = none_before g c;
   long = c.tie.ensures.length ∙ ap length c.links-next.ensures.words;
   tied = subst (λ (w : List ℕ). AreTied w c.tie.new.words.words c.links-next.result.next nowhere) c.links-next.ensures.words c.tie.ensures.tied;
   first = λ _. c.begin_at.ensures.head;
@@ -50,18 +51,18 @@ writes c = record {
 }
 
 pub returns-clause-threaded : goal.returns-clause-threaded
-returns-clause-threaded c = remove-threaded c.args.self.now.heads c.args.self.now.members c.args.words.now.words c.args.class c.place-head.result c.requires.threaded c.links-next.ensures.small (is_member c) c.links-next.result.next nowhere c.begin_at.new.self.heads c.begin_at.new.self.members c.tie.new.words.words (writes c)
+returns-clause-threaded g c = remove-threaded g.row.SLI c.args.self.now.heads c.args.self.now.members c.args.words.now.words c.args.class c.place-head.result c.requires.threaded c.links-next.ensures.small (is_member g c) c.links-next.result.next nowhere c.begin_at.new.self.heads c.begin_at.new.self.members c.tie.new.words.words (writes g c)
 
 pub returns-clause-list : goal.returns-clause-list
-returns-clause-list c = remove-list c.args.self.now.heads c.args.self.now.members c.args.words.now.words c.args.class c.place-head.result c.requires.threaded c.links-next.ensures.small (is_member c) c.links-next.result.next nowhere c.begin_at.new.self.heads c.begin_at.new.self.members c.tie.new.words.words (writes c)
+returns-clause-list g c = remove-list g.row.SLI c.args.self.now.heads c.args.self.now.members c.args.words.now.words c.args.class c.place-head.result c.requires.threaded c.links-next.ensures.small (is_member g c) c.links-next.result.next nowhere c.begin_at.new.self.heads c.begin_at.new.self.members c.tie.new.words.words (writes g c)
 
 pub returns-clause-first : goal.returns-clause-first
-returns-clause-first c =
-    head_then_left c.args.self.now.heads c.args.self.now.members c.args.words.now.words c.args.class c.place-head.result c.requires.threaded c.requires.some (is_head c)
-    ∙ ap (λ (ps : List ℕ). c.place-head.result ∷ ps) (sym (returns-clause-list c))
+returns-clause-first g c =
+    head_then_left g.row.SLI c.args.self.now.heads c.args.self.now.members c.args.words.now.words c.args.class c.place-head.result c.requires.threaded c.requires.some (is_head g c)
+    ∙ ap (λ (ps : List ℕ). c.place-head.result ∷ ps) (sym (returns-clause-list g c))
 
 pub returns-clause-others : goal.returns-clause-others
-returns-clause-others c = remove-others c.args.self.now.heads c.args.self.now.members c.args.words.now.words c.args.class c.place-head.result c.requires.threaded c.links-next.ensures.small (is_member c) c.links-next.result.next nowhere c.begin_at.new.self.heads c.begin_at.new.self.members c.tie.new.words.words (writes c)
+returns-clause-others g c = remove-others g.row.SLI c.args.self.now.heads c.args.self.now.members c.args.words.now.words c.args.class c.place-head.result c.requires.threaded c.links-next.ensures.small (is_member g c) c.links-next.result.next nowhere c.begin_at.new.self.heads c.begin_at.new.self.members c.tie.new.words.words (writes g c)
 
 pub returns-clause-words : goal.returns-clause-words
-returns-clause-words c = remove-words c.args.self.now.heads c.args.self.now.members c.args.words.now.words c.args.class c.place-head.result c.requires.threaded c.links-next.ensures.small (is_member c) c.links-next.result.next nowhere c.begin_at.new.self.heads c.begin_at.new.self.members c.tie.new.words.words (writes c)
+returns-clause-words g c = remove-words g.row.SLI c.args.self.now.heads c.args.self.now.members c.args.words.now.words c.args.class c.place-head.result c.requires.threaded c.links-next.ensures.small (is_member g c) c.links-next.result.next nowhere c.begin_at.new.self.heads c.begin_at.new.self.members c.tie.new.words.words (writes g c)

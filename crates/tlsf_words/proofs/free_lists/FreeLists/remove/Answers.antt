@@ -3,26 +3,27 @@ use Rattle.tlsf_words.specs.Lists.{ListHeads, nowhere}
 use Rattle.tlsf_words.specs.Ties.{AreTied}
 use Rattle.tlsf_words.proofs.Threads.{listed_within}
 use Rattle.tlsf_words.proofs.Remove.{RemoveWrites, next_within, previous_within, neighbours_apart, remove-threaded, remove-list, remove-others, remove-words}
+use Rattle.tlsf_words.proofs.free_lists.FreeLists.remove.Given.{Over}
 use Rattle.tlsf_words.proofs.free_lists.FreeLists.remove.Goals as goal
 use Rattle.tlsf_words.proofs.free_lists.FreeLists.remove.Goals.{then-links, else-links}
 
 pub links-links-requires : goal.links-links-requires
-links-links-requires c = listed_within c.args.self.now.heads c.args.self.now.members c.args.words.now.words c.requires.threaded c.args.class c.args.at c.requires.listed
+links-links-requires g c = listed_within g.row.SLI c.args.self.now.heads c.args.self.now.members c.args.words.now.words c.requires.threaded c.args.class c.args.at c.requires.listed
 
 pub tie-requires-clause-next : goal.tie-requires-clause-next
-tie-requires-clause-next c = λ some.
+tie-requires-clause-next g c = λ some.
     subst (λ (w : List ℕ). c.links-links.result.next + 2 < length w) (sym c.links-links.ensures.words)
-    (next_within c.args.self.now.heads c.args.self.now.members c.args.words.now.words c.args.class c.args.at c.requires.threaded c.links-links.ensures.small c.requires.listed
+    (next_within g.row.SLI c.args.self.now.heads c.args.self.now.members c.args.words.now.words c.args.class c.args.at c.requires.threaded c.links-links.ensures.small c.requires.listed
     c.links-links.result.next c.links-links.result.previous c.links-links.ensures.next c.links-links.ensures.previous some)
 
 pub tie-requires-clause-previous : goal.tie-requires-clause-previous
-tie-requires-clause-previous c = λ some.
+tie-requires-clause-previous g c = λ some.
     subst (λ (w : List ℕ). c.links-links.result.previous + 2 < length w) (sym c.links-links.ensures.words)
-    (previous_within c.args.self.now.heads c.args.self.now.members c.args.words.now.words c.args.class c.args.at c.requires.threaded c.links-links.ensures.small c.requires.listed
+    (previous_within g.row.SLI c.args.self.now.heads c.args.self.now.members c.args.words.now.words c.args.class c.args.at c.requires.threaded c.links-links.ensures.small c.requires.listed
     c.links-links.result.next c.links-links.result.previous c.links-links.ensures.next c.links-links.ensures.previous some)
 
 pub tie-requires-clause-apart : goal.tie-requires-clause-apart
-tie-requires-clause-apart c = neighbours_apart c.args.self.now.heads c.args.self.now.members c.args.words.now.words c.args.class c.args.at c.requires.threaded c.links-links.ensures.small c.requires.listed
+tie-requires-clause-apart g c = neighbours_apart g.row.SLI c.args.self.now.heads c.args.self.now.members c.args.words.now.words c.args.class c.args.at c.requires.threaded c.links-links.ensures.small c.requires.listed
     c.links-links.result.next c.links-links.result.previous c.links-links.ensures.next c.links-links.ensures.previous
 
 -- a head, by what the lists show
@@ -30,8 +31,8 @@ abbrev head_of : ℕ → ListHeads → ℕ
 head_of class lists = get_or lists.heads class nowhere
 
 -- what is written
-writes : (c : goal.After-tie) → RemoveWrites c.args.self.now.heads c.args.self.now.members c.args.words.now.words c.args.class c.args.at c.links-links.result.next c.links-links.result.previous c.if-links.self.heads c.if-links.self.members c.tie.new.words.words
-writes c = elim c.if-links.branch [
+writes : (g : Over) (c : goal.After-tie g) → RemoveWrites g.row.SLI c.args.self.now.heads c.args.self.now.members c.args.words.now.words c.args.class c.args.at c.links-links.result.next c.links-links.result.previous c.if-links.self.heads c.if-links.self.members c.tie.new.words.words
+writes g c = elim c.if-links.branch [
   | then-links w ↦ record {
     next_is = c.links-links.ensures.next;
     previous_is = c.links-links.ensures.previous;
@@ -63,17 +64,17 @@ writes c = elim c.if-links.branch [
     tied = subst (λ (w : List ℕ). AreTied w c.tie.new.words.words c.links-links.result.next c.links-links.result.previous) c.links-links.ensures.words c.tie.ensures.tied
 
 pub returns-clause-threaded : goal.returns-clause-threaded
-returns-clause-threaded c = remove-threaded c.args.self.now.heads c.args.self.now.members c.args.words.now.words c.args.class c.args.at c.requires.threaded c.links-links.ensures.small c.requires.listed
-    c.links-links.result.next c.links-links.result.previous c.if-links.self.heads c.if-links.self.members c.tie.new.words.words (writes c)
+returns-clause-threaded g c = remove-threaded g.row.SLI c.args.self.now.heads c.args.self.now.members c.args.words.now.words c.args.class c.args.at c.requires.threaded c.links-links.ensures.small c.requires.listed
+    c.links-links.result.next c.links-links.result.previous c.if-links.self.heads c.if-links.self.members c.tie.new.words.words (writes g c)
 
 pub returns-clause-list : goal.returns-clause-list
-returns-clause-list c = remove-list c.args.self.now.heads c.args.self.now.members c.args.words.now.words c.args.class c.args.at c.requires.threaded c.links-links.ensures.small c.requires.listed
-    c.links-links.result.next c.links-links.result.previous c.if-links.self.heads c.if-links.self.members c.tie.new.words.words (writes c)
+returns-clause-list g c = remove-list g.row.SLI c.args.self.now.heads c.args.self.now.members c.args.words.now.words c.args.class c.args.at c.requires.threaded c.links-links.ensures.small c.requires.listed
+    c.links-links.result.next c.links-links.result.previous c.if-links.self.heads c.if-links.self.members c.tie.new.words.words (writes g c)
 
 pub returns-clause-others : goal.returns-clause-others
-returns-clause-others c = remove-others c.args.self.now.heads c.args.self.now.members c.args.words.now.words c.args.class c.args.at c.requires.threaded c.links-links.ensures.small c.requires.listed
-    c.links-links.result.next c.links-links.result.previous c.if-links.self.heads c.if-links.self.members c.tie.new.words.words (writes c)
+returns-clause-others g c = remove-others g.row.SLI c.args.self.now.heads c.args.self.now.members c.args.words.now.words c.args.class c.args.at c.requires.threaded c.links-links.ensures.small c.requires.listed
+    c.links-links.result.next c.links-links.result.previous c.if-links.self.heads c.if-links.self.members c.tie.new.words.words (writes g c)
 
 pub returns-clause-words : goal.returns-clause-words
-returns-clause-words c = remove-words c.args.self.now.heads c.args.self.now.members c.args.words.now.words c.args.class c.args.at c.requires.threaded c.links-links.ensures.small c.requires.listed
-    c.links-links.result.next c.links-links.result.previous c.if-links.self.heads c.if-links.self.members c.tie.new.words.words (writes c)
+returns-clause-words g c = remove-words g.row.SLI c.args.self.now.heads c.args.self.now.members c.args.words.now.words c.args.class c.args.at c.requires.threaded c.links-links.ensures.small c.requires.listed
+    c.links-links.result.next c.links-links.result.previous c.if-links.self.heads c.if-links.self.members c.tie.new.words.words (writes g c)
