@@ -2,10 +2,10 @@
 # bench/calls.sh [PATH/tlsf.c]
 #
 # Counts the instructions of one allocate and of one release, the mean of 100,000, payload made zero, in three workloads: pairs of
-# 64 bytes; 8 to 512 bytes with 1,000 blocks live; 48 to 1,008 bytes behind 1,000 holes that are too small. Beside them stand those
-# of the C library's calloc and free in the same workload and, where a C file of TLSF 2.4 is given, of its tlsf_calloc and
-# tlsf_free, each with the ratio of the heap's to it. On a copy of the repository, by valgrind's callgrind. Run by hand: the gate
-# doesn't.
+# 64 bytes; 8 to 512 bytes with 1,000 blocks live; 48 to 1,008 bytes behind 1,000 holes that are too small. The heap is of level 4.
+# Beside its counts stand those of a heap of level 5, of the C library's calloc and free and, where a C file of TLSF 2.4 is given, of
+# its tlsf_calloc and tlsf_free, in the same workload, each with the ratio of the heap's to it. On a copy of the repository, by
+# valgrind's callgrind. Run by hand: the gate doesn't.
 set -eu
 case ${1:-} in
 -h | --help)
@@ -25,14 +25,14 @@ if [ $# -gt 1 ] || { [ $# = 1 ] && [ ! -f "$1" ]; }; then
 fi
 . "$(dirname "$0")/own_program.sh"
 cc -O2 -fno-builtin -o "$work/library" "$top/bench/calls/library.c"
-others=library
+others='fine library'
 if [ $# = 1 ]; then
     cc -O2 -fno-builtin -w -DTLSF -DTLSF_USE_LOCKS=0 -DUSE_MMAP=0 -DUSE_SBRK=0 -I "$(dirname "$1")" \
         -o "$work/authors" "$top/bench/calls/library.c" "$1"
-    others='library authors'
+    others='fine library authors'
 fi
 
-own_program calls ': tlsf_heap anyhow' tlsf_class tlsf_words tlsf_heap
+own_program calls ': tlsf_class tlsf_heap anyhow' tlsf_class tlsf_words tlsf_heap
 (cd "$work/crates/calls_bench" && rt run > "$work/log" 2>&1) || {
     tail -n 20 "$work/log" >&2
     exit 1
@@ -62,12 +62,15 @@ mean() {
 }
 
 count() {
-    valgrind -q --tool=callgrind --callgrind-out-file="$work/counted" "$work/$1" "$2" > "$work/log" 2>&1 || {
+    program=$1
+    level=4
+    [ "$1" != fine ] || { program=heap level=5; }
+    valgrind -q --tool=callgrind --callgrind-out-file="$work/counted" "$work/$program" "$2" "$level" > "$work/log" 2>&1 || {
         cat "$work/log" >&2
         exit 1
     }
     case $1 in
-    heap) allocate=$(mean tlsf_heap::heap::Heap::allocate) release=$(mean tlsf_heap::heap::Heap::release) ;;
+    heap | fine) allocate=$(mean tlsf_heap::heap::Heap::allocate) release=$(mean tlsf_heap::heap::Heap::release) ;;
     library) allocate=$(mean calloc) release=$(mean free) ;;
     authors) allocate=$(mean tlsf_calloc) release=$(mean tlsf_free) ;;
     esac
@@ -83,6 +86,7 @@ for workload in pairs mixed holes; do
     line="$workload: allocate $allocate, release $release"
     for other in $others; do
         count "$other" $workload
+        [ "$other" != fine ] || other='level 5'
         line="$line; $other $allocate ($(ratio "$ours_allocate" "$allocate")), $release ($(ratio "$ours_release" "$release"))"
     done
     echo "$line"
