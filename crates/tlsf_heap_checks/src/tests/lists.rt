@@ -13,7 +13,7 @@ fn push_three(lists: &mut FreeLists<4>, words: &mut Words, class: Class<4>)
     requires empty { (class : ℕ) → list_of lists.old.heads words.old.words class ≡ [] }
     requires threaded { AreThreaded 4 lists.old.heads lists.old.members words.old.words }
     requires room { 18 < length words.old.words }
-    ensures list { list_of lists.new.heads words.new.words class.entry ≡ 16 ∷ 8 ∷ 0 ∷ [] }
+    ensures list { list_of lists.new.heads words.new.words class ≡ 16 ∷ 8 ∷ 0 ∷ [] }
     ensures threaded { AreThreaded 4 lists.new.heads lists.new.members words.new.words }
     ensures length { length words.new.words ≡ length words.old.words }
 {
