@@ -18,13 +18,13 @@ some_byte n = omega arith
 
 -- what is found is the greatest, and 0 stands for none
 pub longest_is : (most : ℕ) (found : Option ℕ) → 1 ≤ most
-    → IfSome found (λ len. (want len ≤ 2 ^ 20) × (pool_words most len ≤ 2 ^ 20))
-    → IfSome found (λ longest. (len : ℕ) → want len ≤ 2 ^ 20 → pool_words most len ≤ 2 ^ 20 → len ≤ longest)
-    → (found ≡ None → ¬ (pool_words most 0 ≤ 2 ^ 20))
+    → IfSome found (λ len. (want len ≤ 2 ^ 20) × (pool_words 4 most len ≤ 2 ^ 20))
+    → IfSome found (λ longest. (len : ℕ) → want len ≤ 2 ^ 20 → pool_words 4 most len ≤ 2 ^ 20 → len ≤ longest)
+    → (found ≡ None → ¬ (pool_words 4 most 0 ≤ 2 ^ 20))
     → IsGreatest (λ len. IsReached most len) (unwrap_or found 0)
 longest_is most None some reached greatest none = (
   inr refl,
-  λ k is. absurd (none refl (within (pool_words most 0) (pool_words most k) (2 ^ 20) (words_rise most 0 k (least k) is.2) is.3)),
+  λ k is. absurd (none refl (within (pool_words 4 most 0) (pool_words 4 most k) (2 ^ 20) (words_rise most 0 k (least k) is.2) is.3)),
 )
 longest_is most (Some zero) some reached greatest none = (inr refl, λ k is. greatest k is.2 is.3)
 longest_is most (Some (suc n)) some reached greatest none = (inl (some, some_byte n, reached.0, reached.1), λ k is. greatest k is.2 is.3)

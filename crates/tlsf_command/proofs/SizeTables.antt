@@ -52,7 +52,7 @@ servable_at (k ∷ kinds) zero d all within = all.0
 servable_at (k ∷ kinds) (suc i) d all within = servable_at kinds i d all.1 (omega arith)
 
 -- each has a class
-pub classes : (kinds : List Kind) → AllByRecursion IsServable kinds → AllByRecursion HasClass kinds
+pub classes : (kinds : List Kind) → AllByRecursion IsServable kinds → AllByRecursion (HasClass 4) kinds
 classes [] all = tt
 classes (k ∷ kinds) all = (all.0.2, classes kinds all.1)
 
@@ -72,11 +72,11 @@ all_join (k ∷ kinds) (suc i) d within one all = all_join kinds i d (omega arit
 products : (a b c d : ℕ) → a ≤ b → c ≤ d → a * c ≤ b * d
 products a b c d f g = mul-le-mul f g
 
-short : (k : Kind) → HasClass k → k.len ≤ 2 ^ 23
+short : (k : Kind) → HasClass 4 k → k.len ≤ 2 ^ 23
 short k class = omega (arith, class)
 
 -- the bytes of one kind
-pub bytes_small : (k : Kind) → k.most < 2 ^ 32 → HasClass k → k.most * k.len ≤ 2 ^ 55
+pub bytes_small : (k : Kind) → k.most < 2 ^ 32 → HasClass 4 k → k.most * k.len ≤ 2 ^ 55
 bytes_small k few class = omega (arith, products k.most (2 ^ 32) k.len (2 ^ 23) (omega (arith, few)) (short k class))
 
 one_byte : (a b c : ℕ) → 1 ≤ a → 1 ≤ b → 1 ≤ a * b + c

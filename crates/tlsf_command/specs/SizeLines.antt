@@ -9,15 +9,15 @@ use Rattle.tlsf_laws.specs.declared.kind.Kind.{Kind}
 
 -- some region has the words that the law asks for, for so many blocks of so many bytes
 abbrev pub IsReached : ℕ → ℕ → Type 0
-IsReached most len = (1 ≤ most) × (1 ≤ len) × (want len ≤ 2 ^ 20) × (pool_words most len ≤ 2 ^ 20)
+IsReached most len = (1 ≤ most) × (1 ≤ len) × (want len ≤ 2 ^ 20) × (pool_words 4 most len ≤ 2 ^ 20)
 
 -- a kind has a block and a byte, and a class for its requests
 abbrev pub IsServable : Kind → Type 0
-IsServable kind = (1 ≤ kind.most) × (1 ≤ kind.len) × HasClass kind
+IsServable kind = (1 ≤ kind.most) × (1 ≤ kind.len) × HasClass 4 kind
 
 -- some region has the words that the law asks for, for a table of such kinds
 abbrev pub AreReached : List Kind → Type 0
-AreReached kinds = AllByRecursion IsServable kinds × (kinds_words kinds ≤ 2 ^ 20)
+AreReached kinds = AllByRecursion IsServable kinds × (kinds_words 4 kinds ≤ 2 ^ 20)
 
 -- the greatest number of which this holds, 0 where it holds of none
 abbrev pub IsGreatest : (ℕ → Type 0) → ℕ → Type 0
@@ -45,9 +45,9 @@ ratio_end n = decimal (n / 100) ++ (codes "." ++ (decimal (n / 10 % 10) ++ (deci
 -- the words of the region, its bytes, and their ratio to the bytes asked for, as `words 13631 bytes 109048 ratio 2.13`
 abbrev pub size_line : List Kind → List ℕ
 size_line kinds =
-    codes "words " ++ (decimal (kinds_words kinds)
-    ++ (codes " bytes " ++ (decimal (8 * kinds_words kinds)
-    ++ (codes " ratio " ++ ratio_end (hundredths (8 * kinds_words kinds) (asked_bytes kinds))))))
+    codes "words " ++ (decimal (kinds_words 4 kinds)
+    ++ (codes " bytes " ++ (decimal (8 * kinds_words 4 kinds)
+    ++ (codes " ratio " ++ ratio_end (hundredths (8 * kinds_words 4 kinds) (asked_bytes kinds))))))
 
 -- the refusal, with the most blocks of this length and the most bytes for this many blocks
 abbrev pub unreached_line : (most len blocks bytes : ℕ) → List ℕ

@@ -41,7 +41,7 @@ fn are_servable(kinds: &[Kind]) -> bool
 /// ```
 pub fn words_for(kinds: &[Kind]) -> Option<u32>
     requires { length kinds.now ≤ 1024 }
-    ensures some { IfSome result (λ words. AreReached kinds.now × (words ≡ table.kinds_words kinds.now)) }
+    ensures some { IfSome result (λ words. AreReached kinds.now × (words ≡ table.kinds_words 4 kinds.now)) }
     ensures none { result ≡ None → ¬ (AreReached kinds.now) }
 {
     if !are_servable(kinds) {
@@ -85,7 +85,7 @@ fn line_of(kinds: &[Kind], words: u32) -> Result<ArrayString<96>, fmt::Error>
     requires some { 0 < length kinds.now }
     requires few { length kinds.now ≤ 64 }
     requires reached { AreReached kinds.now }
-    requires law { words ≡ table.kinds_words kinds.now }
+    requires law { words ≡ table.kinds_words 4 kinds.now }
     ensures { IfOk result (λ line. line.bytes ≡ size_line kinds.now) }
 {
     let bytes = 8 * words;
@@ -116,7 +116,7 @@ pub fn write_size_line<W: Write>(
     requires some { 0 < length kinds.now }
     requires few { length kinds.now ≤ 64 }
     requires reached { AreReached kinds.now }
-    requires law { words ≡ table.kinds_words kinds.now }
+    requires law { words ≡ table.kinds_words 4 kinds.now }
     ensures front { AppendsFront (W.contents writer.old) (W.contents writer.new)
         (size_line kinds.now) }
     ensures ok { OnOk result (Appends (W.contents writer.old) (W.contents writer.new)

@@ -15,16 +15,16 @@ use Rattle.tlsf_held.specs.Measures.{HeldWordsSuffice}
 -- a region that has the words is one for which the law speaks
 record HasWords (most len words : ℕ) : Type 0 where
   class : want len ≤ 2 ^ 20
-  enough : pool_words most len ≤ words
+  enough : pool_words 4 most len ≤ words
 
 words_by : (a b : Bool) (pool words : ℕ) → cond (a && b) (Some (max 4 pool)) None ≡ Some words → (a ≡ true) × (pool ≤ words)
 words_by true true pool words is = let same : max 4 pool ≡ words = cc in (refl, omega (arith, same))
 words_by true false pool words is = absurd cc
 words_by false b pool words is = absurd cc
 
-has_words : (most len words : ℕ) → pool_region most len ≡ Some words → HasWords most len words
+has_words : (most len words : ℕ) → pool_region 4 most len ≡ Some words → HasWords most len words
 has_words most len words is =
-    let by = words_by (nat_le (want len) (2 ^ 20)) (nat_le (pool_words most len) (2 ^ 20)) (pool_words most len) words is in
+    let by = words_by (nat_le (want len) (2 ^ 20)) (nat_le (pool_words 4 most len) (2 ^ 20)) (pool_words 4 most len) words is in
     record { class = leb-true (want len) (2 ^ 20) by.0; enough = by.1 }
 
 pub words_suffice : HeldWordsSuffice

@@ -12,7 +12,7 @@ words_text None = codes "none"
 abbrev pub held_line : (worker most len words : ℕ) → List ℕ
 held_line worker most len words =
     codes "held " ++ decimal worker ++ codes " blocks " ++ decimal most ++ codes " bytes " ++ decimal len
-    ++ codes " words " ++ words_text (pool_region most len) ++ codes " region " ++ decimal words ++ codes "\n"
+    ++ codes " words " ++ words_text (pool_region 4 most len) ++ codes " region " ++ decimal words ++ codes "\n"
 
 -- the lines of the workers below a number, whose heaps have so many words each
 abbrev pub held_text : ℕ → (most len : ℕ → ℕ) → ℕ → List ℕ

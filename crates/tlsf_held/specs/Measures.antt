@@ -36,5 +36,5 @@ IsMeasurement = IsRun Measures
 -- where the heaps of a trace have the words of a pool of these bounds, no request of the worker's is answered NoFit
 abbrev pub HeldWordsSuffice : Type 0
 HeldWordsSuffice = (trace : Trace) (j most len words : ℕ) → IsRegion 4 trace.header.words → j < trace.header.workers
-    → AreBoundsOf trace j most len → pool_region most len ≡ Some words → words ≤ trace.header.words
+    → AreBoundsOf trace j most len → pool_region 4 most len ≡ Some words → words ≤ trace.header.words
     → AllByRecursion HasRoomFor (answers_on j (run_of trace).entries)

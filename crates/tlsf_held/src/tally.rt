@@ -137,7 +137,7 @@ impl Tally {
     /// The words of the least region in which such calls are never refused for want of room, 4 to 2^20. None where no region has so
     /// many.
     pub fn region(&self) -> Option<u32>
-        ensures { result ≡ Pools.pool_region self.now.most self.now.longest }
+        ensures { result ≡ Pools.pool_region 4 self.now.most self.now.longest }
     {
         // A block has four words at least, so no region has room for more.
         if self.most > u32::MAX as usize {

@@ -26,16 +26,16 @@ module _ (P : Block → Type 0) where
       let b = all_right P s.before (s.block ∷ s.after) a in
       (all_left P s.before (s.block ∷ s.after) a, b.0, b.1)
 
-pub words_kept : (h : HeapState) (call : Call) → (answered 4 h call).1.words ≡ h.words
-words_kept h (Allocate n) = by_allocated 4 (λ o. o.heap.words ≡ h.words) h n (λ why. refl) (λ s site fit. refl)
-words_kept h (Release name) = by_released (λ o. o.heap.words ≡ h.words) h name (λ why. refl) (λ s own site is. refl)
-words_kept h (Write name at bytes) = by_written (λ o. o.heap.words ≡ h.words) h name at bytes (λ why. refl) (λ s site has. refl)
-words_kept h (Resize name len) = by_resize (λ o. o.heap.words ≡ h.words) h name len (λ why. refl) (λ s own e site is. refl)
-words_kept h (Read name at n) = refl
+pub words_kept : (sli : ℕ) (h : HeapState) (call : Call) → (answered sli h call).1.words ≡ h.words
+words_kept sli h (Allocate n) = by_allocated sli (λ o. o.heap.words ≡ h.words) h n (λ why. refl) (λ s site fit. refl)
+words_kept sli h (Release name) = by_released (λ o. o.heap.words ≡ h.words) h name (λ why. refl) (λ s own site is. refl)
+words_kept sli h (Write name at bytes) = by_written (λ o. o.heap.words ≡ h.words) h name at bytes (λ why. refl) (λ s site has. refl)
+words_kept sli h (Resize name len) = by_resize (λ o. o.heap.words ≡ h.words) h name len (λ why. refl) (λ s own e site is. refl)
+words_kept sli h (Read name at n) = refl
 
-pub words_run : (h : HeapState) (calls : List Call) → (run 4 h calls).1.words ≡ h.words
-words_run h [] = refl
-words_run h (call ∷ calls) = words_run (answered 4 h call).1 calls ∙ words_kept h call
+pub words_run : (sli : ℕ) (h : HeapState) (calls : List Call) → (run sli h calls).1.words ≡ h.words
+words_run sli h [] = refl
+words_run sli h (call ∷ calls) = words_run sli (answered sli h call).1 calls ∙ words_kept sli h call
 
 -- a new heap is lawful
 pub new_lawful : (id words first : ℕ) → 4 ≤ words → IsLawful (opened id words first)

@@ -2,7 +2,7 @@
 use Rattle.std.proofs.Common.{◌≡◌, ◌≢◌, ℕ, zero, suc, ◌+◌, ◌-◌, ◌*◌, ◌^◌, ◌<◌, ◌≤◌, false, List, [], ◌∷◌, length, refl, sym, ◌∙◌, inl, inr, arith}
 use Rattle.std.specs.List.{AllByRecursion}
 use Rattle.std.proofs.lemmas.Bool.{cases_lt, leb-true}
-use Rattle.tlsf_class.specs.Classes.{class_of}
+use Rattle.tlsf_class.specs.Classes.{IsLevel, class_of, most_words}
 use Rattle.tlsf_class.proofs.Lows.{low-rises_or_same}
 use Rattle.tlsf_class.proofs.ClassOfSize.{class_of-is, class_of-small, search_of-is, serves-from}
 use Rattle.tlsf_heap.specs.Blocks.{Block, Live, Free, words_in, serials, stamps, want}
@@ -18,16 +18,15 @@ use Rattle.tlsf_laws.specs.Room.{sure, RoomIsTight}
 use Rattle.tlsf_laws.specs.Pools.{OneBlockIsTight}
 use Rattle.tlsf_laws.proofs.FreeRoom.{sure_enough, sure_is}
 use Rattle.tlsf_heap.proofs.Served.{no_fit}
-use Rattle.tlsf_class.proofs.TwoLevels.{level_4}
 
 -- a free block below the least size of the search class doesn't serve
-too_small : (n m s : ℕ) → n ≤ 2 ^ 20 → m < sure n → is_fit 4 n (Free m s) ≡ false
-too_small n m s region below = not_true _ (λ fit.
-    let search = search_of-is 4 level_4 n region in
-    let under : search.0 ≤ class_of 4 m = leb-true search.0 (class_of 4 m) (sym (serves-from 4 level_4 n search.0 (class_of 4 m) search.1.found) ∙ fit) in
+too_small : (sli : ℕ) (level : IsLevel sli) (n m s : ℕ) → n ≤ most_words sli → m < sure sli n → is_fit sli n (Free m s) ≡ false
+too_small sli level n m s region below = not_true _ (λ fit.
+    let search = search_of-is sli level n region in
+    let under : search.0 ≤ class_of sli m = leb-true search.0 (class_of sli m) (sym (serves-from sli level n search.0 (class_of sli m) search.1.found) ∙ fit) in
     elim (cases_lt m 4) [
-      | inl small ↦ omega (arith, search.1.least, under, class_of-small 4 level_4 m small)
-      | inr large ↦ let own = class_of-is 4 level_4 m large in omega (arith, below, sure_is n search.0 search.1, own.reached, low-rises_or_same 4 level_4 search.0 (class_of 4 m) under (omega (arith, own.most)))
+      | inl small ↦ omega (arith, search.1.least, under, class_of-small sli level m small)
+      | inr large ↦ let own = class_of-is sli level m large in omega (arith, below, sure_is sli level n search.0 search.1, own.reached, low-rises_or_same sli level search.0 (class_of sli m) under (omega (arith, own.most)))
     ])
 
 -- free blocks of k words with a live one between each two, from the tick t on
@@ -77,16 +76,16 @@ free : (k n t : ℕ) → words_in (free_among (comb k n t)) ≡ (n + 1) * k
 free k zero t = omega arith
 free k (suc n) t = let e = free k n (t + 1) in omega arith
 
-none_fits : (w k n t : ℕ) → ((s : ℕ) → is_fit 4 w (Free k s) ≡ false) → NoneFits 4 w (comb k n t)
-none_fits w k zero t h zero l = h t
-none_fits w k zero t h (suc i) l = absurd (omega (arith, l))
-none_fits w k (suc n) t h zero l = h t
-none_fits w k (suc n) t h (suc zero) l = refl
-none_fits w k (suc n) t h (suc (suc i)) l = none_fits w k n (t + 1) h i (omega arith)
+none_fits : (sli w k n t : ℕ) → ((s : ℕ) → is_fit sli w (Free k s) ≡ false) → NoneFits sli w (comb k n t)
+none_fits sli w k zero t h zero l = h t
+none_fits sli w k zero t h (suc i) l = absurd (omega (arith, l))
+none_fits sli w k (suc n) t h zero l = h t
+none_fits sli w k (suc n) t h (suc zero) l = refl
+none_fits sli w k (suc n) t h (suc (suc i)) l = none_fits sli w k n (t + 1) h i (omega arith)
 
-pub room_tight : RoomIsTight
-room_tight count len region more =
-    let k : ℕ = sure (want len) - 1 in
+pub room_tight : (sli : ℕ) (level : IsLevel sli) → RoomIsTight sli
+room_tight sli level count len region more =
+    let k : ℕ = sure sli (want len) - 1 in
     let blocks : List Block = comb k count 0 in (
       record { id = 0; words = words_in blocks; tick = count + 1; blocks = blocks },
       record {
@@ -100,9 +99,9 @@ room_tight count len region more =
       },
       live k count 0,
       free k count 0,
-      fits_nothing 4 (want len) blocks (none_fits (want len) k count 0 (λ s. too_small (want len) k s region (omega (arith, more)))),
+      fits_nothing sli (want len) blocks (none_fits sli (want len) k count 0 (λ s. too_small sli level (want len) k s region (omega (arith, more)))),
     )
 
-pub one_block_tight : OneBlockIsTight
-one_block_tight id words first len region below =
-    (no_fit 4 (opened id words first) len).1 (fits_nothing 4 (want len) (Free words first ∷ []) (none_fits (want len) words 0 first (λ s. too_small (want len) words s region (omega (arith, below, sure_enough (want len) region)))))
+pub one_block_tight : (sli : ℕ) (level : IsLevel sli) → OneBlockIsTight sli
+one_block_tight sli level id words first len region below =
+    (no_fit sli (opened id words first) len).1 (fits_nothing sli (want len) (Free words first ∷ []) (none_fits sli (want len) words 0 first (λ s. too_small sli level (want len) words s region (omega (arith, below, sure_enough sli level (want len) region)))))

@@ -18,21 +18,21 @@ counted [] = refl
 counted (Live m s xs ∷ bs) = let e = counted bs in omega arith
 counted (Free m s ∷ bs) = counted bs
 
-pub held_is : (h : HeapState) (call : Call) → live_count (answered 4 h call).1 ≡ held_after (live_count h) call (answered 4 h call).0
-held_is h (Allocate n) = by_allocated 4 (λ o. live_count o.heap ≡ held_after (live_count h) (Allocate n) (Allocated o.answer)) h n (λ why. refl) (λ s site fit.
-    omega (arith, load_given one h s n site fit, counted h.blocks, counted (gives h n s).heap.blocks))
-held_is h (Release name) = by_released (λ o. live_count o.heap ≡ held_after (live_count h) (Release name) (Released o.answer)) h name (λ why. refl) (λ s own site is.
+pub held_is : (sli : ℕ) (h : HeapState) (call : Call) → live_count (answered sli h call).1 ≡ held_after (live_count h) call (answered sli h call).0
+held_is sli h (Allocate n) = by_allocated sli (λ o. live_count o.heap ≡ held_after (live_count h) (Allocate n) (Allocated o.answer)) h n (λ why. refl) (λ s site fit.
+    omega (arith, load_given sli one h s n site fit, counted h.blocks, counted (gives h n s).heap.blocks))
+held_is sli h (Release name) = by_released (λ o. live_count o.heap ≡ held_after (live_count h) (Release name) (Released o.answer)) h name (λ why. refl) (λ s own site is.
     omega (arith, load_taken one h s name.at name.serial site is, counted h.blocks, counted (takes h s).heap.blocks))
-held_is h (Write name at bytes) = by_written (λ o. live_count o.heap ≡ held_after (live_count h) (Write name at bytes) (Written o.answer)) h name at bytes (λ why. refl) (λ s site has.
+held_is sli h (Write name at bytes) = by_written (λ o. live_count o.heap ≡ held_after (live_count h) (Write name at bytes) (Written o.answer)) h name at bytes (λ why. refl) (λ s site has.
     omega (arith, load_written one h s at bytes site has, counted h.blocks, counted (writes h at bytes s).heap.blocks))
-held_is h (Resize name len) = by_resize (λ o. live_count o.heap ≡ held_after (live_count h) (Resize name len) (Resized o.answer)) h name len (λ why. refl) (λ s own e site is.
+held_is sli h (Resize name len) = by_resize (λ o. live_count o.heap ≡ held_after (live_count h) (Resize name len) (Resized o.answer)) h name len (λ why. refl) (λ s own e site is.
     omega (arith, load_resized one h s name.at name.serial len site is, counted h.blocks, counted (refits h len s).heap.blocks))
-held_is h (Read name at n) = refl
+held_is sli h (Read name at n) = refl
 
-held_through : (h : HeapState) (calls : List Call) → live_count (run 4 h calls).1 ≡ held_after_all (live_count h) calls (run 4 h calls).0
-held_through h [] = refl
-held_through h (call ∷ calls) =
-    held_through (answered 4 h call).1 calls ∙ ap (λ (held : ℕ). held_after_all held calls (run 4 (answered 4 h call).1 calls).0) (held_is h call)
+held_through : (sli : ℕ) (h : HeapState) (calls : List Call) → live_count (run sli h calls).1 ≡ held_after_all (live_count h) calls (run sli h calls).0
+held_through sli h [] = refl
+held_through sli h (call ∷ calls) =
+    held_through sli (answered sli h call).1 calls ∙ ap (λ (held : ℕ). held_after_all held calls (run sli (answered sli h call).1 calls).0) (held_is sli h call)
 
-pub holds : HoldsWhatIsLive
-holds id words first calls four = held_through (opened id words first) calls
+pub holds : (sli : ℕ) → HoldsWhatIsLive sli
+holds sli id words first calls four = held_through sli (opened id words first) calls

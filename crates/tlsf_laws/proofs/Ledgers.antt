@@ -4,6 +4,7 @@ use Rattle.std.specs.Prelude.{⊤}
 use Rattle.std.specs.Option.{option_map}
 use Rattle.std.proofs.lemmas.List.{length-replicate}
 use Rattle.std.proofs.lemmas.Bool.{eqb-true, false≢true}
+use Rattle.tlsf_class.specs.Classes.{IsLevel}
 use Rattle.tlsf_heap.specs.Blocks.{HeapState, bytes_of, want}
 use Rattle.tlsf_heap.specs.GoodFit.{Site, place_of, is_fit}
 use Rattle.tlsf_heap.specs.Lawful.{IsLawful}
@@ -21,7 +22,6 @@ use Rattle.tlsf_laws.proofs.Held.{one, counted}
 use Rattle.tlsf_laws.proofs.Looks.{found_bytes, given_name, taken_name, resized_name, written_name, fresh, new_empty}
 use Rattle.tlsf_laws.proofs.Around.{new_lawful}
 use Rattle.tlsf_laws.proofs.Refits.{by_resize, fitted_count, refits}
-use Rattle.tlsf_class.proofs.TwoLevels.{level_4}
 
 -- the sum of a number for each length
 abbrev pub sum_of : (ℕ → ℕ) → List ℕ → ℕ
@@ -186,14 +186,14 @@ mapped : (c : Bool) (new old : Option (List ℕ)) → option_map length (cond c 
 mapped true new old = refl
 mapped false new old = refl
 
-given : (h : HeapState) (n : ℕ) (s : Site) (l : Ledger) → Agrees h l → IsLawful h → IsSiteOf h.blocks s → is_fit 4 (want n) s.block ≡ true
+given : (sli : ℕ) (h : HeapState) (n : ℕ) (s : Site) (l : Ledger) → Agrees h l → IsLawful h → IsSiteOf h.blocks s → is_fit sli (want n) s.block ≡ true
     → Agrees (gives h n s).heap ((record { heap = h.id; at = place_of s; serial = h.tick }, n) ∷ l)
-given h n s l agrees lawful site fit = record {
-  totals = λ f. load_given f h s n site fit ∙ ap (λ (t : ℕ). f n + t) (agrees.totals f);
+given sli h n s l agrees lawful site fit = record {
+  totals = λ f. load_given sli f h s n site fit ∙ ap (λ (t : ℕ). f n + t) (agrees.totals f);
   found = λ other.
       ap (λ (o : Option ℕ). cond (is_same name other) (Some n) o) (agrees.found other)
       ∙ ap (λ (k : ℕ). cond (is_same name other) (Some k) (option_map length (contents h other))) (sym (length-replicate n 0))
-      ∙ sym (ap (option_map length) (given_name h n s other lawful site fit) ∙ mapped (is_same name other) (Some (replicate n 0)) (contents h other));
+      ∙ sym (ap (option_map length) (given_name sli h n s other lawful site fit) ∙ mapped (is_same name other) (Some (replicate n 0)) (contents h other));
   apart = (agrees.found name ∙ ap (option_map length) (fresh h (place_of s) lawful), agrees.apart);
 }
   where
@@ -271,28 +271,28 @@ Freed name l o = Agrees o.heap (ledger_after l (Release name) (Released o.answer
 abbrev Wrote : Name → ℕ → List ℕ → Ledger → Outcome (Unit {0}) → Type 0
 Wrote name at bytes l o = Agrees o.heap (ledger_after l (Write name at bytes) (Written o.answer))
 
-pub agrees_call : (h : HeapState) (call : Call) (l : Ledger) → Agrees h l → IsLawful h → Agrees (answered 4 h call).1 (ledger_after l call (answered 4 h call).0)
-agrees_call h (Allocate n) l agrees lawful =
-    by_allocated 4 (λ o. Agrees o.heap (ledger_after l (Allocate n) (Allocated o.answer))) h n (λ why. agrees) (λ s site fit. given h n s l agrees lawful site fit)
-agrees_call h (Release name) l agrees lawful =
+pub agrees_call : (sli : ℕ) (h : HeapState) (call : Call) (l : Ledger) → Agrees h l → IsLawful h → Agrees (answered sli h call).1 (ledger_after l call (answered sli h call).0)
+agrees_call sli h (Allocate n) l agrees lawful =
+    by_allocated sli (λ o. Agrees o.heap (ledger_after l (Allocate n) (Allocated o.answer))) h n (λ why. agrees) (λ s site fit. given sli h n s l agrees lawful site fit)
+agrees_call sli h (Release name) l agrees lawful =
     by_test (Freed name l) (eqb name.heap h.id) (released_at h (named name h.blocks)) (refused h Foreign) (λ own. at (eqb-true name.heap h.id own) (named name h.blocks) refl) agrees
   where
     at : name.heap ≡ h.id → (o : Option Site) → named name h.blocks ≡ o → Freed name l (released_at h o)
     at own None e = agrees
     at own (Some s) e = by_test (Freed name l) (is_worn h) (refused h Worn) (takes h s) (λ _. agrees) (taken h s name l agrees lawful own e)
-agrees_call h (Write name at bytes) l agrees lawful =
+agrees_call sli h (Write name at bytes) l agrees lawful =
     by_test (Wrote name at bytes l) (eqb name.heap h.id) (written_at h at bytes (named name h.blocks)) (refused h Foreign) (λ own. on (eqb-true name.heap h.id own) (named name h.blocks) refl) agrees
   where
     on : name.heap ≡ h.id → (o : Option Site) → named name h.blocks ≡ o → Wrote name at bytes l (written_at h at bytes o)
     on own None e = agrees
     on own (Some s) e = by_test (Wrote name at bytes l) (has_bytes s.block at (length bytes)) (writes h at bytes s) (refused h Range) (changed h s at bytes name l agrees lawful own e) agrees
-agrees_call h (Resize name len) l agrees lawful =
+agrees_call sli h (Resize name len) l agrees lawful =
     by_resize (λ o. Agrees o.heap (ledger_after l (Resize name len) (Resized o.answer))) h name len (λ why. agrees) (λ s own e site is. lengthened h s name len l agrees lawful own site e is)
-agrees_call h (Read name at n) l agrees lawful = agrees
+agrees_call sli h (Read name at n) l agrees lawful = agrees
 
-pub agrees_run : (h : HeapState) (calls : List Call) (l : Ledger) → Agrees h l → IsLawful h → Agrees (run 4 h calls).1 (ledger_after_all l calls (run 4 h calls).0)
-agrees_run h [] l agrees lawful = agrees
-agrees_run h (call ∷ calls) l agrees lawful = agrees_run (answered 4 h call).1 calls (ledger_after l call (answered 4 h call).0) (agrees_call h call l agrees lawful) (lawful_run 4 level_4 h (call ∷ []) lawful)
+pub agrees_run : (sli : ℕ) (level : IsLevel sli) (h : HeapState) (calls : List Call) (l : Ledger) → Agrees h l → IsLawful h → Agrees (run sli h calls).1 (ledger_after_all l calls (run sli h calls).0)
+agrees_run sli level h [] l agrees lawful = agrees
+agrees_run sli level h (call ∷ calls) l agrees lawful = agrees_run sli level (answered sli h call).1 calls (ledger_after l call (answered sli h call).0) (agrees_call sli h call l agrees lawful) (lawful_run sli level h (call ∷ []) lawful)
 
 pub new_agrees : (id words first : ℕ) → Agrees (opened id words first) []
 new_agrees id words first = record { totals = λ f. refl; found = λ name. sym (ap (option_map length) (new_empty id words first name)); apart = tt }
@@ -309,7 +309,7 @@ lengths_count (e ∷ l) = let same = lengths_count l in omega arith
 pub live_agrees : (h : HeapState) (l : Ledger) → Agrees h l → live_count h ≡ length l
 live_agrees h l agrees = counted h.blocks ∙ agrees.totals one ∙ sum_one (lengths l) ∙ lengths_count l
 
-pub ledger_holds : LedgerHoldsWhatIsLive
-ledger_holds id words first calls four =
+pub ledger_holds : (sli : ℕ) (level : IsLevel sli) → LedgerHoldsWhatIsLive sli
+ledger_holds sli level id words first calls four =
     let start : HeapState = opened id words first in
-    live_agrees (run 4 start calls).1 (ledger_after_all [] calls (run 4 start calls).0) (agrees_run start calls [] (new_agrees id words first) (new_lawful id words first four))
+    live_agrees (run sli start calls).1 (ledger_after_all [] calls (run sli start calls).0) (agrees_run sli level start calls [] (new_agrees id words first) (new_lawful id words first four))

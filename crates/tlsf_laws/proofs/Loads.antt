@@ -43,22 +43,12 @@ module _ (f : ℕ → ℕ) where
   load_with (Live m s ys) xs e = ap (λ (n : ℕ). f n + 0) e
   load_with (Free m s) xs e = refl
 
-  load_fit : (n : ℕ) (b : Block) → is_fit 4 n b ≡ true → load f (b ∷ []) ≡ 0
-  load_fit n (Live m s xs) fit = absurd (false≢true fit)
-  load_fit n (Free m s) fit = refl
-
   load_named : (serial : ℕ) (b : Block) → has_serial serial b ≡ true → load f (b ∷ []) ≡ f (length (bytes_of b))
   load_named serial (Live m s xs) e = add-zero _
   load_named serial (Free m s) e = absurd (false≢true e)
 
   load_site : (h : HeapState) (s : Site) → IsSiteOf h.blocks s → load f s.before + load f (s.block ∷ []) + load f s.after ≡ load f h.blocks
   load_site h s site = omega (arith, ap (load f) site, load-append s.before (s.block ∷ s.after), load-append (s.block ∷ []) s.after)
-
-  -- an accepted allocate adds the number for its length
-  pub load_given : (h : HeapState) (s : Site) (n : ℕ) → IsSiteOf h.blocks s → is_fit 4 (want n) s.block ≡ true → load f (gives h n s).heap.blocks ≡ f n + load f h.blocks
-  load_given h s n site fit =
-      let new : List Block = carved (size_of s.block) (want n) h.tick n in
-      omega (arith, load_site h s site, load_fit (want n) s.block fit, load-append (s.before ++ new) s.after, load-append s.before new, load_carved (size_of s.block) (want n) h.tick n)
 
   -- an accepted release takes the number for the length of its block
   pub load_taken : (h : HeapState) (s : Site) (at serial : ℕ) → IsSiteOf h.blocks s → is_named at serial s ≡ true → f (length (bytes_of s.block)) + load f (takes h s).heap.blocks ≡ load f h.blocks
@@ -89,3 +79,15 @@ module _ (f : ℕ → ℕ) where
       let new : Block = with_bytes s.block xs in
       let same = length-overwritten (bytes_of s.block) bytes at (range_fits s.block at (length bytes) has) in
       omega (arith, load_site h s site, load_with s.block xs same, load-append s.before (new ∷ s.after), load-append (new ∷ []) s.after)
+
+-- what a request adds
+module _ (sli : ℕ) (f : ℕ → ℕ) where
+  load_fit : (n : ℕ) (b : Block) → is_fit sli n b ≡ true → load f (b ∷ []) ≡ 0
+  load_fit n (Live m s xs) fit = absurd (false≢true fit)
+  load_fit n (Free m s) fit = refl
+
+  -- an accepted allocate adds the number for its length
+  pub load_given : (h : HeapState) (s : Site) (n : ℕ) → IsSiteOf h.blocks s → is_fit sli (want n) s.block ≡ true → load f (gives h n s).heap.blocks ≡ f n + load f h.blocks
+  load_given h s n site fit =
+      let new : List Block = carved (size_of s.block) (want n) h.tick n in
+      omega (arith, load_site f h s site, load_fit (want n) s.block fit, load-append f (s.before ++ new) s.after, load-append f s.before new, load_carved f (size_of s.block) (want n) h.tick n)

@@ -5,6 +5,7 @@ use Rattle.std.specs.List.{AllByRecursion}
 use Rattle.std.specs.Option.{option_map}
 use Rattle.std.specs.Option.{is_some}
 use Rattle.std.proofs.lemmas.List.{drop_at, take_at}
+use Rattle.tlsf_class.specs.Classes.{IsLevel}
 use Rattle.tlsf_heap.proofs.Writing.{length-overwritten}
 use Rattle.std.proofs.lemmas.Bool.{le-leb, lt-leb, eqb-true, false≢true, cases_lt, cases_eq, ne_eqb}
 use Rattle.tlsf_heap.specs.Blocks.{Block, Live, Free, HeapState, size_of, words_in, serials, bytes_of, want}
@@ -25,7 +26,6 @@ use Rattle.tlsf_laws.proofs.Around.{new_lawful}
 use Rattle.tlsf_laws.proofs.Names.{same_self}
 use Rattle.tlsf_laws.specs.Contents.{Contents, bytes_there, contents, is_same, with_contents, after, after_all, part_of, got, HasWhatIsLive, ChangesOneName, part, WritesIntoContents, ReadsBack, ReadsWhatWasWritten}
 use Rattle.tlsf_laws.proofs.Refits.{by_refit, by_resize, refits}
-use Rattle.tlsf_class.proofs.TwoLevels.{level_4}
 
 abbrev or_else : {X : Type 0} → Option X → Option X → Option X
 or_else None y = y
@@ -211,16 +211,16 @@ at_site : (h : HeapState) (s : Site) (at serial : ℕ) (c : Bool) (new bytes : O
 at_site h s at serial c new bytes site e = subst (λ (l : List Block). new ≡ cond c bytes (look at serial 0 l)) site e
 
 -- what a call changes, where it is done at a site
-pub given_name : (h : HeapState) (len : ℕ) (s : Site) (name : Name) → IsLawful h → IsSiteOf h.blocks s → is_fit 4 (want len) s.block ≡ true
+pub given_name : (sli : ℕ) (h : HeapState) (len : ℕ) (s : Site) (name : Name) → IsLawful h → IsSiteOf h.blocks s → is_fit sli (want len) s.block ≡ true
     → contents (gives h len s).heap name ≡ with_contents (contents h) (record { heap = h.id; at = place_of s; serial = h.tick }) (Some (replicate len 0)) name
-given_name h len s name lawful site fit =
+given_name sli h len s name lawful site fit =
     changes h (h.tick + 1) (s.before ++ carved (size_of s.block) (want len) h.tick len ++ s.after) (Some (replicate len 0)) (record { heap = h.id; at = place_of s; serial = h.tick }) name refl
     (at_site h s name.at name.serial _ _ (Some (replicate len 0)) site (by_block s.block fit))
   where
     others : AllByRecursion (λ y. y ≢ h.tick) (serials s.before)
     others = new_front h.tick s.before (s.block ∷ s.after) (subst (λ (l : List Block). AllByRecursion (λ x. x < h.tick) (serials l)) (sym site) lawful.serials_past)
 
-    by_block : (b : Block) → is_fit 4 (want len) b ≡ true
+    by_block : (b : Block) → is_fit sli (want len) b ≡ true
         → look name.at name.serial 0 (s.before ++ carved (size_of b) (want len) h.tick len ++ s.after)
         ≡ cond (eqb h.tick name.serial && eqb (place_of s) name.at) (Some (replicate len 0)) (look name.at name.serial 0 (s.before ++ b ∷ s.after))
     by_block (Live m t xs) fit = absurd (false≢true fit)
@@ -313,17 +313,17 @@ write_changes h own_name at bytes name lawful = elim (cases_eq own_name.heap h.i
         (λ t. written_name h s at bytes own_name name lawful own e
         ∙ ap (λ (o : Option (List ℕ)). with_contents (contents h) own_name (option_map (λ old. overwritten old at bytes) o) name) (sym (found_bytes h own_name s own e))) refl
 
-pub change : ChangesOneName
-change h (Allocate len) name lawful =
-    by_allocated 4 (λ o. contents o.heap name ≡ after (contents h) (Allocate len) (Allocated o.answer) name) h len (λ why. refl) (λ s site fit. given_name h len s name lawful site fit)
-change h (Release taken) name lawful =
+pub change : (sli : ℕ) → ChangesOneName sli
+change sli h (Allocate len) name lawful =
+    by_allocated sli (λ o. contents o.heap name ≡ after (contents h) (Allocate len) (Allocated o.answer) name) h len (λ why. refl) (λ s site fit. given_name sli h len s name lawful site fit)
+change sli h (Release taken) name lawful =
     by_released (λ o. contents o.heap name ≡ after (contents h) (Release taken) (Released o.answer) name) h taken (λ why. refl) (λ s own site is. taken_name h s taken name lawful own site is)
-change h (Write own_name at bytes) name lawful = write_changes h own_name at bytes name lawful
-change h (Resize own_name len) name lawful =
+change sli h (Write own_name at bytes) name lawful = write_changes h own_name at bytes name lawful
+change sli h (Resize own_name len) name lawful =
     by_resize (λ o. contents o.heap name ≡ after (contents h) (Resize own_name len) (Resized o.answer) name) h own_name len (λ why. refl) (λ s own e site is.
     resized_name h s own_name len name lawful own site is
     ∙ ap (λ (o : Option (List ℕ)). with_contents (contents h) own_name (option_map (λ old. fitted old len) o) name) (sym (found_bytes h own_name s own e)))
-change h (Read own_name at n) name lawful = refl
+change sli h (Read own_name at n) name lawful = refl
 
 -- equal maps stay equal
 after_same : (f g : Contents) → ((name : Name) → f name ≡ g name) → (call : Call) (answer : Answer) (name : Name) → after f call answer name ≡ after g call answer name
@@ -362,12 +362,12 @@ all_same f g e [] answers name = e name
 all_same f g e (call ∷ calls) [] name = e name
 all_same f g e (call ∷ calls) (answer ∷ answers) name = all_same (after f call answer) (after g call answer) (after_same f g e call answer) calls answers name
 
-told : (h : HeapState) (calls : List Call) (name : Name) → IsLawful h → contents (run 4 h calls).1 name ≡ after_all (contents h) calls (run 4 h calls).0 name
-told h [] name lawful = refl
-told h (call ∷ calls) name lawful =
-    let step = answered 4 h call in
-    told step.1 calls name (lawful_run 4 level_4 h (call ∷ []) lawful)
-    ∙ all_same (contents step.1) (after (contents h) call step.0) (λ other. change h call other lawful) calls (run 4 step.1 calls).0 name
+told : (sli : ℕ) (level : IsLevel sli) (h : HeapState) (calls : List Call) (name : Name) → IsLawful h → contents (run sli h calls).1 name ≡ after_all (contents h) calls (run sli h calls).0 name
+told sli level h [] name lawful = refl
+told sli level h (call ∷ calls) name lawful =
+    let step = answered sli h call in
+    told sli level step.1 calls name (lawful_run sli level h (call ∷ []) lawful)
+    ∙ all_same (contents step.1) (after (contents h) call step.0) (λ other. change sli h call other lawful) calls (run sli step.1 calls).0 name
 
 -- no block has the serial of the tick
 pub fresh : (h : HeapState) (at : ℕ) → IsLawful h → contents h (record { heap = h.id; at = at; serial = h.tick }) ≡ None
@@ -393,15 +393,15 @@ reads h name at n = at_name (eqb name.heap h.id) (named name h.blocks)
     at_name false o = refl
 
 -- the bytes under a name, after calls on a new heap
-pub told_new : (id words first : ℕ) (calls : List Call) (name : Name) → 4 ≤ words
-    → let end = run 4 (opened id words first) calls in contents end.1 name ≡ after_all (λ other. None) calls end.0 name
-told_new id words first calls name four =
-    told (opened id words first) calls name (new_lawful id words first four)
-    ∙ all_same (contents (opened id words first)) (λ other. None) (new_empty id words first) calls (run 4 (opened id words first) calls).0 name
+pub told_new : (sli : ℕ) (level : IsLevel sli) (id words first : ℕ) (calls : List Call) (name : Name) → 4 ≤ words
+    → let end = run sli (opened id words first) calls in contents end.1 name ≡ after_all (λ other. None) calls end.0 name
+told_new sli level id words first calls name four =
+    told sli level (opened id words first) calls name (new_lawful id words first four)
+    ∙ all_same (contents (opened id words first)) (λ other. None) (new_empty id words first) calls (run sli (opened id words first) calls).0 name
 
-pub history : ReadsWhatWasWritten
-history id words first calls name at n four =
-    reads (run 4 (opened id words first) calls).1 name at n ∙ ap (part_of at n) (told_new id words first calls name four)
+pub history : (sli : ℕ) (level : IsLevel sli) → ReadsWhatWasWritten sli
+history sli level id words first calls name at n four =
+    reads (run sli (opened id words first) calls).1 name at n ∙ ap (part_of at n) (told_new sli level id words first calls name four)
 
 pub live : HasWhatIsLive
 live h name = elim (cases_eq name.heap h.id) [
@@ -446,7 +446,7 @@ part_overwritten old new at h =
 pub back : ReadsBack
 back h name at bytes lawful done =
     got_is _ bytes (reads (written h name at bytes).heap name at (length bytes)
-    ∙ ap (part_of at (length bytes)) (change h (Write name at bytes) name lawful ∙ ap (λ (r : Result (Unit {0}) Refusal). after (contents h) (Write name at bytes) (Written r) name) done)
+    ∙ ap (part_of at (length bytes)) (write_changes h name at bytes name lawful ∙ ap (λ (r : Result (Unit {0}) Refusal). after (contents h) (Write name at bytes) (Written r) name) done)
     ∙ told_part (contents h name) ((write h name at bytes).0 done))
   where
     got_is : (r : Result (List ℕ) Refusal) (bytes : List ℕ) → got r ≡ Some bytes → r ≡ Ok bytes

@@ -3,6 +3,7 @@ use Rattle.std.proofs.Common.{◌≡◌, ◌≢◌, ℕ, ◌+◌, ◌-◌, ◌*�
 use Rattle.std.specs.List.{AllByRecursion}
 use Rattle.std.proofs.Math.Nat.{mul-le-mul, mul-le-mul_right}
 use Rattle.std.proofs.lemmas.Bool.{false≢true, cases_lt, ne_eqb}
+use Rattle.tlsf_class.specs.Classes.{IsLevel, most_words}
 use Rattle.tlsf_heap.specs.Blocks.{Block, Live, Free, HeapState, size_of, words_in, want}
 use Rattle.tlsf_heap.specs.GoodFit.{Site, choice}
 use Rattle.tlsf_heap.specs.Lawful.{IsLawful, IsRegion}
@@ -23,7 +24,6 @@ use Rattle.tlsf_laws.proofs.FreeRoom.{finds_room, sure_rises}
 use Rattle.tlsf_laws.proofs.Around.{past_all, before_all, around_site, words_kept, new_lawful}
 use Rattle.tlsf_laws.proofs.Held.{held_is}
 use Rattle.tlsf_laws.proofs.Refits.{by_refit, by_resize}
-use Rattle.tlsf_class.proofs.TwoLevels.{level_4}
 
 -- ---- live blocks of at most k words
 
@@ -58,12 +58,12 @@ pub record InPool (words k : ℕ) (h : HeapState) : Type 0 where
   pub words_are : h.words ≡ words
   pub small : AreSmall k h.blocks
 
-module _ (words most len : ℕ) (region : want len ≤ 2 ^ 20) (enough : pool_words most len ≤ words) where
+module _ (sli : ℕ) (level : IsLevel sli) (words most len : ℕ) (region : want len ≤ most_words sli) (enough : pool_words sli most len ≤ words) where
   abbrev k : ℕ
   k = want len + 3
 
-  small_kept : (h : HeapState) (call : Call) → AreSmall k h.blocks → IsModest most len (live_count h) call → AreSmall k (answered 4 h call).1.blocks
-  small_kept h (Allocate n) small modest = by_allocated 4 (λ o. AreSmall k o.heap.blocks) h n (λ why. small) (λ s site fit.
+  small_kept : (h : HeapState) (call : Call) → AreSmall k h.blocks → IsModest most len (live_count h) call → AreSmall k (answered sli h call).1.blocks
+  small_kept h (Allocate n) small modest = by_allocated sli (λ o. AreSmall k o.heap.blocks) h n (λ why. small) (λ s site fit.
       let a = around_site (IsSmall k) h s site small in
       all_append (IsSmall k) (s.before ++ carved (size_of s.block) (want n) h.tick n) s.after
       (all_append (IsSmall k) s.before (carved (size_of s.block) (want n) h.tick n) a.0 (small_carved k (size_of s.block) (want n) h.tick n (omega (arith, modest.0)))) a.2)
@@ -78,48 +78,48 @@ module _ (words most len : ℕ) (region : want len ≤ 2 ^ 20) (enough : pool_wo
       all_append (IsSmall k) s.before _ a.0 (small_refitted k h.tick (want n) n name.serial s.block s.after (omega (arith, modest)) (and_left _ _ is) a.2))
   small_kept h (Read name at n) small modest = small
 
-  pub kept : (h : HeapState) (call : Call) → InPool words k h → IsModest most len (live_count h) call → InPool words k (answered 4 h call).1
+  pub kept : (h : HeapState) (call : Call) → InPool words k h → IsModest most len (live_count h) call → InPool words k (answered sli h call).1
   kept h call pool modest = record {
-    lawful = lawful_run 4 level_4 h (call ∷ []) pool.lawful;
-    words_are = words_kept h call ∙ pool.words_are;
+    lawful = lawful_run sli level h (call ∷ []) pool.lawful;
+    words_are = words_kept sli h call ∙ pool.words_are;
     small = small_kept h call pool.small modest;
   }
 
   -- a modest request finds room
-  pub has_room : (h : HeapState) (n : ℕ) → InPool words k h → n ≤ len → live_count h < most → (allocated 4 h n).answer ≢ Err NoFit
+  pub has_room : (h : HeapState) (n : ℕ) → InPool words k h → n ≤ len → live_count h < most → (allocated sli h n).answer ≢ Err NoFit
   has_room h n pool short few e =
-      let rises = sure_rises (want n) (want len) (omega arith) region in
+      let rises = sure_rises sli level (want n) (want len) (omega arith) region in
       let live = live_small k h.blocks pool.small in
       let most_live : live_count h * k ≤ (most - 1) * k = mul-le-mul_right k (omega arith) in
-      let most_lost : (live_count h + 1) * (sure (want n) - 1) ≤ most * (sure (want len) - 1) = mul-le-mul (omega arith) (omega arith) in
-      finds_room h n pool.lawful (omega arith) (omega (arith, words_apart h.blocks, pool.lawful.whole, pool.words_are, live, most_live, most_lost, enough)) ((no_fit 4 h n).0 e)
+      let most_lost : (live_count h + 1) * (sure sli (want n) - 1) ≤ most * (sure sli (want len) - 1) = mul-le-mul (omega arith) (omega arith) in
+      finds_room sli level h n pool.lawful (omega arith) (omega (arith, words_apart h.blocks, pool.lawful.whole, pool.words_are, live, most_live, most_lost, enough)) ((no_fit sli h n).0 e)
 
-  not_refused : (h : HeapState) (call : Call) → InPool words k h → IsModest most len (live_count h) call → (answered 4 h call).0 ≢ Allocated (Err NoFit)
-  not_refused h (Allocate n) pool modest = λ e. let same : (allocated 4 h n).answer ≡ Err NoFit = cc in has_room h n pool modest.0 modest.1 same
+  not_refused : (h : HeapState) (call : Call) → InPool words k h → IsModest most len (live_count h) call → (answered sli h call).0 ≢ Allocated (Err NoFit)
+  not_refused h (Allocate n) pool modest = λ e. let same : (allocated sli h n).answer ≡ Err NoFit = cc in has_room h n pool modest.0 modest.1 same
   not_refused h (Release name) pool modest = λ e. cc
   not_refused h (Write name at bytes) pool modest = λ e. cc
   not_refused h (Resize name n) pool modest = λ e. cc
   not_refused h (Read name at n) pool modest = λ e. cc
 
-  next : (h : HeapState) (call : Call) (calls : List Call) → AreModest most len (held_after (live_count h) call (answered 4 h call).0) calls (run 4 (answered 4 h call).1 calls).0
-      → AreModest most len (live_count (answered 4 h call).1) calls (run 4 (answered 4 h call).1 calls).0
-  next h call calls modest = subst (λ (held : ℕ). AreModest most len held calls (run 4 (answered 4 h call).1 calls).0) (sym (held_is h call)) modest
+  next : (h : HeapState) (call : Call) (calls : List Call) → AreModest most len (held_after (live_count h) call (answered sli h call).0) calls (run sli (answered sli h call).1 calls).0
+      → AreModest most len (live_count (answered sli h call).1) calls (run sli (answered sli h call).1 calls).0
+  next h call calls modest = subst (λ (held : ℕ). AreModest most len held calls (run sli (answered sli h call).1 calls).0) (sym (held_is sli h call)) modest
 
-  none_refused : (h : HeapState) (calls : List Call) → InPool words k h → AreModest most len (live_count h) calls (run 4 h calls).0 → AllByRecursion HasRoomFor (run 4 h calls).0
+  none_refused : (h : HeapState) (calls : List Call) → InPool words k h → AreModest most len (live_count h) calls (run sli h calls).0 → AllByRecursion HasRoomFor (run sli h calls).0
   none_refused h [] pool modest = tt
-  none_refused h (call ∷ calls) pool modest = (not_refused h call pool modest.0, none_refused (answered 4 h call).1 calls (kept h call pool modest.0) (next h call calls modest.1))
+  none_refused h (call ∷ calls) pool modest = (not_refused h call pool modest.0, none_refused (answered sli h call).1 calls (kept h call pool modest.0) (next h call calls modest.1))
 
   -- ---- while the ticks last
 
-  pub tick_kept : (h : HeapState) (call : Call) → (answered 4 h call).1.tick ≤ h.tick + 1
-  tick_kept h (Allocate n) = by_allocated 4 (λ o. o.heap.tick ≤ h.tick + 1) h n (λ why. omega arith) (λ s site fit. omega arith)
+  pub tick_kept : (h : HeapState) (call : Call) → (answered sli h call).1.tick ≤ h.tick + 1
+  tick_kept h (Allocate n) = by_allocated sli (λ o. o.heap.tick ≤ h.tick + 1) h n (λ why. omega arith) (λ s site fit. omega arith)
   tick_kept h (Release name) = by_released (λ o. o.heap.tick ≤ h.tick + 1) h name (λ why. omega arith) (λ s own site is. omega arith)
   tick_kept h (Write name at bytes) = by_written (λ o. o.heap.tick ≤ h.tick + 1) h name at bytes (λ why. omega arith) (λ s site has. omega arith)
   tick_kept h (Resize name n) = by_resize (λ o. o.heap.tick ≤ h.tick + 1) h name n (λ why. omega arith) (λ s own e site is. omega arith)
   tick_kept h (Read name at n) = omega arith
 
-  pub is_served : (h : HeapState) (call : Call) → InPool words k h → IsModest most len (live_count h) call → h.tick < last_tick → IsServed (answered 4 h call).0
-  is_served h (Allocate n) pool modest fresh = at (choice 4 (want n) h.blocks) (has_room h n pool modest.0 modest.1)
+  pub is_served : (h : HeapState) (call : Call) → InPool words k h → IsModest most len (live_count h) call → h.tick < last_tick → IsServed (answered sli h call).0
+  is_served h (Allocate n) pool modest fresh = at (choice sli (want n) h.blocks) (has_room h n pool modest.0 modest.1)
     where
       at : (o : Option Site) → (allocated_at h n o).answer ≢ Err NoFit → IsServed (Allocated (allocated_at h n o).answer)
       at None room = absurd (room refl)
@@ -129,20 +129,20 @@ module _ (words most len : ℕ) (region : want len ≤ 2 ^ 20) (enough : pool_wo
   is_served h (Resize name n) pool modest fresh = tt
   is_served h (Read name at n) pool modest fresh = tt
 
-  all_served : (h : HeapState) (calls : List Call) → InPool words k h → AreModest most len (live_count h) calls (run 4 h calls).0 → h.tick + length calls ≤ last_tick → AllByRecursion IsServed (run 4 h calls).0
+  all_served : (h : HeapState) (calls : List Call) → InPool words k h → AreModest most len (live_count h) calls (run sli h calls).0 → h.tick + length calls ≤ last_tick → AllByRecursion IsServed (run sli h calls).0
   all_served h [] pool modest fresh = tt
   all_served h (call ∷ calls) pool modest fresh =
       let tick = tick_kept h call in (
         is_served h call pool modest.0 (omega arith),
-        all_served (answered 4 h call).1 calls (kept h call pool modest.0) (next h call calls modest.1) (omega (arith, tick, fresh)),
+        all_served (answered sli h call).1 calls (kept h call pool modest.0) (next h call calls modest.1) (omega (arith, tick, fresh)),
       )
 
 -- a new heap is a pool
-pub opens : (id words first k : ℕ) → IsRegion 4 words → InPool words k (opened id words first)
-opens id words first k region = record { lawful = new_lawful id words first region.0; words_are = refl; small = ((λ f. absurd (false≢true (sym f))), tt) }
+pub opens : (sli id words first k : ℕ) → IsRegion sli words → InPool words k (opened id words first)
+opens sli id words first k region = record { lawful = new_lawful id words first region.0; words_are = refl; small = ((λ f. absurd (false≢true (sym f))), tt) }
 
-pub suffices : PoolSuffices
-suffices id words first most len calls region upto enough modest = none_refused words most len upto enough (opened id words first) calls (opens id words first (want len + 3) region) modest
+pub suffices : (sli : ℕ) (level : IsLevel sli) → PoolSuffices sli
+suffices sli level id words first most len calls region upto enough modest = none_refused sli level words most len upto enough (opened id words first) calls (opens sli id words first (want len + 3) region) modest
 
-pub serves : PoolServes
-serves id words first most len calls region upto enough modest fresh = all_served words most len upto enough (opened id words first) calls (opens id words first (want len + 3) region) modest (omega arith)
+pub serves : (sli : ℕ) (level : IsLevel sli) → PoolServes sli
+serves sli level id words first most len calls region upto enough modest fresh = all_served sli level words most len upto enough (opened id words first) calls (opens sli id words first (want len + 3) region) modest (omega arith)

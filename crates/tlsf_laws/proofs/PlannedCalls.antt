@@ -2,6 +2,7 @@
 use Rattle.std.proofs.Common.{◌≡◌, ◌≢◌, ℕ, zero, suc, ◌+◌, ◌-◌, ◌*◌, ◌^◌, ◌<◌, ◌≤◌, List, [], ◌∷◌, length, Err, refl, ap, ◌∙◌, max, add-zero, arith}
 use Rattle.std.specs.List.{AllByRecursion}
 use Rattle.std.proofs.Math.Nat.{mul-le-mul}
+use Rattle.tlsf_class.specs.Classes.{IsLevel, most_words}
 use Rattle.tlsf_heap.specs.Blocks.{Block, Live, Free, HeapState, words_in, want}
 use Rattle.tlsf_heap.specs.Lawful.{IsLawful}
 use Rattle.tlsf_heap.specs.Calls.{Call, Allocate, Release, Write, Resize, Read, allocated, answered, opened, run}
@@ -21,7 +22,6 @@ use Rattle.tlsf_laws.proofs.Ledgers.{Agrees, agrees_call, new_agrees, sum_of, su
 use Rattle.tlsf_laws.proofs.Loads.{load}
 use Rattle.tlsf_laws.proofs.Snug.{snug_kept}
 use Rattle.tlsf_laws.proofs.Tables.{spend, HasKind, has_kind, counted_in, least_words, class_of_kind}
-use Rattle.tlsf_class.proofs.TwoLevels.{level_4}
 
 record InTable (words : ℕ) (h : HeapState) (l : Ledger) : Type 0 where
   lawful : IsLawful h
@@ -38,20 +38,20 @@ live_spent (Free m s ∷ bs) all = live_spent bs all.1
 enough : (live free words spent kind table lost least : ℕ) → live + free ≡ words → live ≤ spent → spent + kind ≤ table → table - kind + least + 1 ≤ words → lost ≤ least → lost < free
 enough live free words spent kind table lost least a b c d e = omega (arith, a, b, c, d, e)
 
-module _ (words : ℕ) (kinds : List Kind) (classes : AllByRecursion HasClass kinds) (large : kinds_words kinds ≤ words) where
-  has_room : (h : HeapState) (l : Ledger) (n : ℕ) → InTable words h l → AreOfKinds kinds (n ∷ lengths l) → (allocated 4 h n).answer ≢ Err NoFit
+module _ (sli : ℕ) (level : IsLevel sli) (words : ℕ) (kinds : List Kind) (classes : AllByRecursion (HasClass sli) kinds) (large : kinds_words sli kinds ≤ words) where
+  has_room : (h : HeapState) (l : Ledger) (n : ℕ) → InTable words h l → AreOfKinds kinds (n ∷ lengths l) → (allocated sli h n).answer ≢ Err NoFit
   has_room h l n table fit e =
       let has : HasKind kinds n (lengths l) = has_kind kinds n (lengths l) fit in
-      let region : want has.kind.len ≤ 2 ^ 20 = class_of_kind kinds has.kind has.of classes in
+      let region : want has.kind.len ≤ most_words sli = class_of_kind sli kinds has.kind has.of classes in
       let wanted : want n ≤ want has.kind.len = wants n has.kind.len has.short in
-      let rises : sure (want n) ≤ sure (want has.kind.len) = sure_rises (want n) (want has.kind.len) wanted region in
+      let rises : sure sli (want n) ≤ sure sli (want has.kind.len) = sure_rises sli level (want n) (want has.kind.len) wanted region in
       let count : live_count h ≡ length (lengths l) = counted h.blocks ∙ table.agrees.totals one ∙ sum_one (lengths l) in
-      let lost : (live_count h + 1) * (sure (want n) - 1) ≤ count_in kinds * (sure (want has.kind.len) - 1) =
+      let lost : (live_count h + 1) * (sure sli (want n) - 1) ≤ count_in kinds * (sure sli (want has.kind.len) - 1) =
       mul-le-mul (bounded _ _ _ count (counted_in kinds (n ∷ lengths l) fit)) (less _ _ rises) in
-      let least : words_with kinds has.kind ≤ words = under _ _ _ (least_words kinds kinds 0 has.kind has.of) large in
-      finds_room h n table.lawful (under _ _ _ wanted region) (enough (words_in (live_among h.blocks)) (free_words h) words (sum_of spend (lengths l)) (spend has.kind.len) (table_words kinds) _ _
+      let least : words_with sli kinds has.kind ≤ words = under _ _ _ (least_words sli kinds kinds 0 has.kind has.of) large in
+      finds_room sli level h n table.lawful (under _ _ _ wanted region) (enough (words_in (live_among h.blocks)) (free_words h) words (sum_of spend (lengths l)) (spend has.kind.len) (table_words kinds) _ _
       (words_apart h.blocks ∙ (table.lawful.whole ∙ table.words_are)) (under _ _ _ (live_spent h.blocks table.snug) (same _ _ (table.agrees.totals spend))) has.left least lost)
-      ((no_fit 4 h n).0 e)
+      ((no_fit sli h n).0 e)
     where
       wants : (a b : ℕ) → a ≤ b → want a ≤ want b
       wants a b f = omega (arith, f)
@@ -68,42 +68,42 @@ module _ (words : ℕ) (kinds : List Kind) (classes : AllByRecursion HasClass ki
       same : (a b : ℕ) → a ≡ b → a ≤ b
       same a b f = omega (arith, f)
 
-  kept : (h : HeapState) (l : Ledger) (call : Call) → InTable words h l → InTable words (answered 4 h call).1 (ledger_after l call (answered 4 h call).0)
+  kept : (h : HeapState) (l : Ledger) (call : Call) → InTable words h l → InTable words (answered sli h call).1 (ledger_after l call (answered sli h call).0)
   kept h l call table = record {
-    lawful = lawful_run 4 level_4 h (call ∷ []) table.lawful;
-    words_are = words_kept h call ∙ table.words_are;
-    snug = snug_kept h call table.snug;
-    agrees = agrees_call h call l table.agrees table.lawful;
+    lawful = lawful_run sli level h (call ∷ []) table.lawful;
+    words_are = words_kept sli h call ∙ table.words_are;
+    snug = snug_kept sli h call table.snug;
+    agrees = agrees_call sli h call l table.agrees table.lawful;
   }
 
-  not_refused : (h : HeapState) (l : Ledger) (call : Call) → InTable words h l → IsPlanned kinds l call → HasRoomFor (answered 4 h call).0
-  not_refused h l (Allocate n) table planned = λ e. let same : (allocated 4 h n).answer ≡ Err NoFit = cc in has_room h l n table planned same
+  not_refused : (h : HeapState) (l : Ledger) (call : Call) → InTable words h l → IsPlanned kinds l call → HasRoomFor (answered sli h call).0
+  not_refused h l (Allocate n) table planned = λ e. let same : (allocated sli h n).answer ≡ Err NoFit = cc in has_room h l n table planned same
   not_refused h l (Release name) table planned = λ e. cc
   not_refused h l (Write name at bytes) table planned = λ e. cc
   not_refused h l (Resize name n) table planned = λ e. cc
   not_refused h l (Read name at n) table planned = λ e. cc
 
-  none_refused : (h : HeapState) (l : Ledger) (calls : List Call) → InTable words h l → ArePlanned kinds l calls (run 4 h calls).0 → AllByRecursion HasRoomFor (run 4 h calls).0
+  none_refused : (h : HeapState) (l : Ledger) (calls : List Call) → InTable words h l → ArePlanned kinds l calls (run sli h calls).0 → AllByRecursion HasRoomFor (run sli h calls).0
   none_refused h l [] table planned = tt
   none_refused h l (call ∷ calls) table planned =
-      (not_refused h l call table planned.0, none_refused (answered 4 h call).1 (ledger_after l call (answered 4 h call).0) calls (kept h l call table) planned.1)
+      (not_refused h l call table planned.0, none_refused (answered sli h call).1 (ledger_after l call (answered sli h call).0) calls (kept h l call table) planned.1)
 
-pub kinds_suffice : KindsSuffice
-kinds_suffice id words first kinds calls region classes large planned =
-    none_refused words kinds classes large (opened id words first) [] calls
+pub kinds_suffice : (sli : ℕ) (level : IsLevel sli) → KindsSuffice sli
+kinds_suffice sli level id words first kinds calls region classes large planned =
+    none_refused sli level words kinds classes large (opened id words first) [] calls
     (record { lawful = new_lawful id words first region.0; words_are = refl; snug = (tt, tt); agrees = new_agrees id words first }) planned
 
 most_but_one : (m w : ℕ) → m * w - w ≡ (m - 1) * w
 most_but_one zero w = omega arith
 most_but_one (suc m) w = let less : suc m - 1 ≡ m = omega arith in rw less (omega arith)
 
-pub one_kind : OneKindIsAPool
-one_kind kind =
+pub one_kind : (sli : ℕ) → OneKindIsAPool sli
+one_kind sli kind =
     plain (kind.most * spend kind.len) ((kind.most - 1) * spend kind.len) (spend kind.len) ((kind.most + 0) * lost) (kind.most * lost)
     (most_but_one kind.most (spend kind.len)) (ap (λ (n : ℕ). n * lost) (add-zero kind.most))
   where
     lost : ℕ
-    lost = sure (want kind.len) - 1
+    lost = sure sli (want kind.len) - 1
 
     plain : (p q w t u : ℕ) → p - w ≡ q → t ≡ u → max 0 ((p + 0) - w + t + 1) ≡ q + u + 1
     plain p q w t u e f = omega (arith, e, f)

@@ -1,6 +1,7 @@
 -- Names by the sites of their blocks.
 use Rattle.std.proofs.Common.{◌≡◌, ℕ, ◌+◌, ◌<◌, ◌≤◌, true, List, [], ◌∷◌, length, take, refl, sym, ap, ◌∙◌, inl, inr, arith}
 use Rattle.std.proofs.lemmas.Bool.{eqb-true, cases_lt, false≢true}
+use Rattle.tlsf_class.specs.Classes.{IsLevel}
 use Rattle.tlsf_heap.specs.Blocks.{Block, Live, Free, HeapState, size_of, words_in}
 use Rattle.tlsf_heap.specs.GoodFit.{block_at}
 use Rattle.tlsf_heap.specs.Lawful.{IsLawful, AreApart}
@@ -16,7 +17,6 @@ use Rattle.tlsf_laws.specs.Places.{Spans, ShareNoWord, StayInside, NothingLeaks}
 use Rattle.tlsf_laws.proofs.Around.{new_lawful, words_run}
 use Rattle.tlsf_laws.proofs.Held.{holds}
 use Rattle.tlsf_laws.proofs.Names.{same_name}
-use Rattle.tlsf_class.proofs.TwoLevels.{level_4}
 
 alone : (bs : List Block) → AreApart bs → live_among bs ≡ [] → 0 < words_in bs → (stamp : ℕ) × (bs ≡ Free (words_in bs) stamp ∷ [])
 alone [] a e h = absurd (omega arith)
@@ -28,12 +28,12 @@ alone (Free m s ∷ Free n t ∷ bs) a e h = absurd a
 pub whole : (h : HeapState) → IsLawful h → 0 < h.words → live_among h.blocks ≡ [] → (stamp : ℕ) × (h.blocks ≡ Free h.words stamp ∷ [])
 whole h lawful some none = let is = alone h.blocks lawful.apart none (omega (arith, lawful.whole)) in rw lawful.whole at is
 
-pub no_leak : NothingLeaks
-no_leak id words first calls four none =
-    let end : HeapState = (run 4 (opened id words first) calls).1 in
-    let lawful : IsLawful end = lawful_run 4 level_4 (opened id words first) calls (new_lawful id words first four) in
-    let count : length (live_among end.blocks) ≡ 0 = holds id words first calls four ∙ none in
-    let words_same : end.words ≡ words = words_run (opened id words first) calls in
+pub no_leak : (sli : ℕ) (level : IsLevel sli) → NothingLeaks sli
+no_leak sli level id words first calls four none =
+    let end : HeapState = (run sli (opened id words first) calls).1 in
+    let lawful : IsLawful end = lawful_run sli level (opened id words first) calls (new_lawful id words first four) in
+    let count : length (live_among end.blocks) ≡ 0 = holds sli id words first calls four ∙ none in
+    let words_same : end.words ≡ words = words_run sli (opened id words first) calls in
     let is = whole end lawful (omega (arith, words_same, four)) (empty (live_among end.blocks) count) in
     (is.0, is.1 ∙ ap (λ (n : ℕ). Free n is.0 ∷ []) words_same)
   where

@@ -136,18 +136,18 @@ best_least : (best : ℕ) (xs : List ℕ) → best ≤ fold max best xs
 best_least best [] = omega arith
 best_least best (x ∷ xs) = let e = best_least (max best x) xs in omega arith
 
-pub least_words : (all kinds : List Kind) (best : ℕ) (kind : Kind) → IsOf kind kinds → words_with all kind ≤ fold max best (map (words_with all) kinds)
-least_words all [] best kind of = absurd of
-least_words all (k ∷ kinds) best kind of = elim of [
+pub least_words : (sli : ℕ) (all kinds : List Kind) (best : ℕ) (kind : Kind) → IsOf kind kinds → words_with sli all kind ≤ fold max best (map (words_with sli all) kinds)
+least_words sli all [] best kind of = absurd of
+least_words sli all (k ∷ kinds) best kind of = elim of [
   | inl same ↦
-      let e = best_least (max best (words_with all k)) (map (words_with all) kinds) in
-      through (words_with all kind) (max best (words_with all k)) _ (subst (λ (x : Kind). words_with all x ≤ max best (words_with all k)) same (top best (words_with all k))) e
-  | inr rest ↦ least_words all kinds (max best (words_with all k)) kind rest
+      let e = best_least (max best (words_with sli all k)) (map (words_with sli all) kinds) in
+      through (words_with sli all kind) (max best (words_with sli all k)) _ (subst (λ (x : Kind). words_with sli all x ≤ max best (words_with sli all k)) same (top best (words_with sli all k))) e
+  | inr rest ↦ least_words sli all kinds (max best (words_with sli all k)) kind rest
 ]
   where
     top : (a b : ℕ) → b ≤ max a b
     top a b = omega arith
 
-pub class_of_kind : (kinds : List Kind) (kind : Kind) → IsOf kind kinds → AllByRecursion HasClass kinds → HasClass kind
-class_of_kind [] kind of all = absurd of
-class_of_kind (k ∷ kinds) kind of all = elim of [ inl same ↦ subst HasClass same all.0 | inr rest ↦ class_of_kind kinds kind rest all.1 ]
+pub class_of_kind : (sli : ℕ) (kinds : List Kind) (kind : Kind) → IsOf kind kinds → AllByRecursion (HasClass sli) kinds → HasClass sli kind
+class_of_kind sli [] kind of all = absurd of
+class_of_kind sli (k ∷ kinds) kind of all = elim of [ inl same ↦ subst (HasClass sli) same all.0 | inr rest ↦ class_of_kind sli kinds kind rest all.1 ]

@@ -16,6 +16,6 @@ held_after_all held (call ∷ calls) [] = held
 held_after_all held (call ∷ calls) (answer ∷ answers) = held_after_all (held_after held call answer) calls answers
 
 -- as many blocks are live as are held: the accepted allocates less the accepted releases
-abbrev pub HoldsWhatIsLive : Type 0
-HoldsWhatIsLive = (id words first : ℕ) (calls : List Call) → 4 ≤ words
-    → let end = run 4 (opened id words first) calls in live_count end.1 ≡ held_after_all 0 calls end.0
+abbrev pub HoldsWhatIsLive : ℕ → Type 0
+HoldsWhatIsLive sli = (id words first : ℕ) (calls : List Call) → 4 ≤ words
+    → let end = run sli (opened id words first) calls in live_count end.1 ≡ held_after_all 0 calls end.0

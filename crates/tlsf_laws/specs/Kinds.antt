@@ -1,6 +1,7 @@
 -- How large a region must be for several kinds of request.
-use Rattle.std.specs.Prelude.{◌≡◌, ℕ, ◌+◌, ◌*◌, ◌-◌, ◌≤◌, ◌^◌, List, [], ◌∷◌, Ok, length, map, filter, fold, max, nat_le, nat_lt, not, if◌then◌else◌, ⊤}
+use Rattle.std.specs.Prelude.{◌≡◌, ℕ, ◌+◌, ◌*◌, ◌-◌, ◌≤◌, List, [], ◌∷◌, Ok, length, map, filter, fold, max, nat_le, nat_lt, not, if◌then◌else◌, ⊤}
 use Rattle.std.specs.List.{AllByRecursion}
+use Rattle.tlsf_class.specs.Classes.{most_words}
 use Rattle.tlsf_heap.specs.Blocks.{want}
 use Rattle.tlsf_heap.specs.Lawful.{IsRegion}
 use Rattle.tlsf_heap.specs.Calls.{Call, Allocate, Release, Write, Resize, Read, Answer, Allocated, Released, Resized, opened, run}
@@ -65,27 +66,27 @@ table_words [] = 0
 table_words (kind ∷ kinds) = kind.most * (want kind.len + 3) + table_words kinds
 
 -- the words with which a request of this kind finds room, where all others are held
-abbrev pub words_with : List Kind → Kind → ℕ
-words_with kinds kind = table_words kinds - (want kind.len + 3) + count_in kinds * (sure (want kind.len) - 1) + 1
+abbrev pub words_with : ℕ → List Kind → Kind → ℕ
+words_with sli kinds kind = table_words kinds - (want kind.len + 3) + count_in kinds * (sure sli (want kind.len) - 1) + 1
 
 -- the words of a region in which a request of each kind does
-abbrev pub kinds_words : List Kind → ℕ
-kinds_words kinds = fold max 0 (map (words_with kinds) kinds)
+abbrev pub kinds_words : ℕ → List Kind → ℕ
+kinds_words sli kinds = fold max 0 (map (words_with sli kinds) kinds)
 
 -- a request of this kind finds a class
-abbrev pub HasClass : Kind → Type 0
-HasClass kind = want kind.len ≤ 2 ^ 20
+abbrev pub HasClass : ℕ → Kind → Type 0
+HasClass sli kind = want kind.len ≤ most_words sli
 
 -- a program whose requests fit the table is never answered NoFit in a region of kinds_words
-abbrev pub KindsSuffice : Type 0
-KindsSuffice = (id words first : ℕ) (kinds : List Kind) (calls : List Call) → IsRegion 4 words → AllByRecursion HasClass kinds → kinds_words kinds ≤ words
-    → let answers = (run 4 (opened id words first) calls).0 in ArePlanned kinds [] calls answers → AllByRecursion HasRoomFor answers
+abbrev pub KindsSuffice : ℕ → Type 0
+KindsSuffice sli = (id words first : ℕ) (kinds : List Kind) (calls : List Call) → IsRegion sli words → AllByRecursion (HasClass sli) kinds → kinds_words sli kinds ≤ words
+    → let answers = (run sli (opened id words first) calls).0 in ArePlanned kinds [] calls answers → AllByRecursion HasRoomFor answers
 
 -- a table of one kind asks for the words of a pool
-abbrev pub OneKindIsAPool : Type 0
-OneKindIsAPool = (kind : Kind) → kinds_words (kind ∷ []) ≡ pool_words kind.most kind.len
+abbrev pub OneKindIsAPool : ℕ → Type 0
+OneKindIsAPool sli = (kind : Kind) → kinds_words sli (kind ∷ []) ≡ pool_words sli kind.most kind.len
 
 -- as many blocks are live as the ledger has entries
-abbrev pub LedgerHoldsWhatIsLive : Type 0
-LedgerHoldsWhatIsLive = (id words first : ℕ) (calls : List Call) → 4 ≤ words
-    → let end = run 4 (opened id words first) calls in live_count end.1 ≡ length (ledger_after_all [] calls end.0)
+abbrev pub LedgerHoldsWhatIsLive : ℕ → Type 0
+LedgerHoldsWhatIsLive sli = (id words first : ℕ) (calls : List Call) → 4 ≤ words
+    → let end = run sli (opened id words first) calls in live_count end.1 ≡ length (ledger_after_all [] calls end.0)

@@ -28,6 +28,6 @@ abbrev pub WholeAgain : Type 0
 WholeAgain = (h : HeapState) → IsLawful h → 0 < h.words → live_among h.blocks ≡ [] → (stamp : ℕ) × (h.blocks ≡ Free h.words stamp ∷ [])
 
 -- whatever a program did, once it released all that it was given, the region is one free block again
-abbrev pub NothingLeaks : Type 0
-NothingLeaks = (id words first : ℕ) (calls : List Call) → 4 ≤ words
-    → let end = run 4 (opened id words first) calls in held_after_all 0 calls end.0 ≡ 0 → (stamp : ℕ) × (end.1.blocks ≡ Free words stamp ∷ [])
+abbrev pub NothingLeaks : ℕ → Type 0
+NothingLeaks sli = (id words first : ℕ) (calls : List Call) → 4 ≤ words
+    → let end = run sli (opened id words first) calls in held_after_all 0 calls end.0 ≡ 0 → (stamp : ℕ) × (end.1.blocks ≡ Free words stamp ∷ [])

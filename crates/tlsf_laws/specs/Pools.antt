@@ -1,6 +1,7 @@
 -- How large a region must be, so that a program is never refused for want of room.
-use Rattle.std.specs.Prelude.{◌≡◌, ◌≢◌, ℕ, ◌+◌, ◌*◌, ◌-◌, ◌<◌, ◌≤◌, ◌^◌, ◌&&◌, List, [], ◌∷◌, Option, Some, None, Ok, Err, false, length, max, nat_le, if◌then◌else◌, ⊤}
+use Rattle.std.specs.Prelude.{◌≡◌, ◌≢◌, ℕ, ◌+◌, ◌*◌, ◌-◌, ◌<◌, ◌≤◌, ◌&&◌, List, [], ◌∷◌, Option, Some, None, Ok, Err, false, length, max, nat_le, if◌then◌else◌, ⊤}
 use Rattle.std.specs.List.{AllByRecursion}
+use Rattle.tlsf_class.specs.Classes.{most_words}
 use Rattle.tlsf_heap.specs.Blocks.{Block, is_free, size_of, want}
 use Rattle.tlsf_heap.specs.Lawful.{IsRegion}
 use Rattle.tlsf_heap.specs.Calls.{Call, Allocate, Release, Write, Resize, Read, Answer, Allocated, Released, Written, Resized, Got, allocated, opened, run, last_tick}
@@ -9,13 +10,13 @@ use Rattle.tlsf_laws.specs.Room.{sure}
 use Rattle.tlsf_laws.specs.Held.{held_after}
 
 -- the words of a region that has room for `most` live blocks of at most `len` bytes each, in whatever order they come and go
-abbrev pub pool_words : ℕ → ℕ → ℕ
-pool_words most len = (most - 1) * (want len + 3) + most * (sure (want len) - 1) + 1
+abbrev pub pool_words : ℕ → ℕ → ℕ → ℕ
+pool_words sli most len = (most - 1) * (want len + 3) + most * (sure sli (want len) - 1) + 1
 
 -- the words of the least region that has this room; None where a region can't have so many, or has no class for so long a request
-abbrev pub pool_region : ℕ → ℕ → Option ℕ
-pool_region most len =
-    if nat_le (want len) (2 ^ 20) && nat_le (pool_words most len) (2 ^ 20) then Some (max 4 (pool_words most len)) else None
+abbrev pub pool_region : ℕ → ℕ → ℕ → Option ℕ
+pool_region sli most len =
+    if nat_le (want len) (most_words sli) && nat_le (pool_words sli most len) (most_words sli) then Some (max 4 (pool_words sli most len)) else None
 
 -- a request is for at most `len` bytes, by a program that holds fewer than `most` blocks; and no block is resized to more than `len`
 abbrev pub IsModest : ℕ → ℕ → ℕ → Call → Type 0
@@ -40,9 +41,9 @@ abbrev pub HasRoomFor : Answer → Type 0
 HasRoomFor answer = answer ≢ Allocated (Err NoFit)
 
 -- a program that never holds more than `most` blocks, of at most `len` bytes each, is never answered NoFit in a region of pool_words
-abbrev pub PoolSuffices : Type 0
-PoolSuffices = (id words first most len : ℕ) (calls : List Call) → IsRegion 4 words → want len ≤ 2 ^ 20 → pool_words most len ≤ words
-    → let answers = (run 4 (opened id words first) calls).0 in AreModest most len 0 calls answers → AllByRecursion HasRoomFor answers
+abbrev pub PoolSuffices : ℕ → Type 0
+PoolSuffices sli = (id words first most len : ℕ) (calls : List Call) → IsRegion sli words → want len ≤ most_words sli → pool_words sli most len ≤ words
+    → let answers = (run sli (opened id words first) calls).0 in AreModest most len 0 calls answers → AllByRecursion HasRoomFor answers
 
 -- no request is refused
 abbrev pub IsServed : Answer → Type 0
@@ -54,15 +55,15 @@ IsServed (Resized result) = ⊤
 IsServed (Got result) = ⊤
 
 -- and each of its requests is served, while the ticks last
-abbrev pub PoolServes : Type 0
-PoolServes = (id words first most len : ℕ) (calls : List Call) → IsRegion 4 words → want len ≤ 2 ^ 20 → pool_words most len ≤ words
-    → let answers = (run 4 (opened id words first) calls).0 in AreModest most len 0 calls answers → first + length calls < last_tick
+abbrev pub PoolServes : ℕ → Type 0
+PoolServes sli = (id words first most len : ℕ) (calls : List Call) → IsRegion sli words → want len ≤ most_words sli → pool_words sli most len ≤ words
+    → let answers = (run sli (opened id words first) calls).0 in AreModest most len 0 calls answers → first + length calls < last_tick
     → AllByRecursion IsServed answers
 
 -- for one block no smaller region would do
-abbrev pub OneBlockIsTight : Type 0
-OneBlockIsTight = (id words first len : ℕ) → want len ≤ 2 ^ 20 → words < pool_words 1 len → (allocated 4 (opened id words first) len).answer ≡ Err NoFit
+abbrev pub OneBlockIsTight : ℕ → Type 0
+OneBlockIsTight sli = (id words first len : ℕ) → want len ≤ most_words sli → words < pool_words sli 1 len → (allocated sli (opened id words first) len).answer ≡ Err NoFit
 
--- 13,631 words are room for 100 blocks of up to 512 bytes
+-- at level 4, 13,631 words are room for 100 blocks of up to 512 bytes
 abbrev pub HundredBlocks : Type 0
-HundredBlocks = pool_words 100 512 ≡ 13631
+HundredBlocks = pool_words 4 100 512 ≡ 13631

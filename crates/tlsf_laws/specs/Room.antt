@@ -1,8 +1,8 @@
 -- How many free words are enough for a request, and how much of a region live blocks take.
-use Rattle.std.specs.Prelude.{◌≡◌, ◌≢◌, ℕ, ◌+◌, ◌*◌, ◌-◌, ◌<◌, ◌≤◌, ◌^◌, List, [], ◌∷◌, Err, length, ⊤}
+use Rattle.std.specs.Prelude.{◌≡◌, ◌≢◌, ℕ, ◌+◌, ◌*◌, ◌-◌, ◌<◌, ◌≤◌, List, [], ◌∷◌, Err, length, ⊤}
 use Rattle.std.specs.List.{AllByRecursion}
 use Rattle.std.specs.Option.{option_map_or}
-use Rattle.tlsf_class.specs.Classes.{low, search_of}
+use Rattle.tlsf_class.specs.Classes.{most_words, low, search_of}
 use Rattle.tlsf_heap.specs.Blocks.{Block, Live, Free, HeapState, words_in, want}
 use Rattle.tlsf_heap.specs.GoodFit.{fits}
 use Rattle.tlsf_heap.specs.Lawful.{IsLawful}
@@ -19,18 +19,18 @@ abbrev pub free_words : HeapState → ℕ
 free_words h = words_in (free_among h.blocks)
 
 -- each free block of at least so many words serves a request of n words: the least size of its search class
-abbrev pub sure : ℕ → ℕ
-sure n = option_map_or (low 4) (search_of 4 n) 0
+abbrev pub sure : ℕ → ℕ → ℕ
+sure sli n = option_map_or (low sli) (search_of sli n) 0
 
 -- a request finds room where more words are free than fit into blocks too small for it, one before each live block and one behind the last
-abbrev pub FindsRoom : Type 0
-FindsRoom = (h : HeapState) (len : ℕ) → IsLawful h → want len ≤ 2 ^ 20 → (live_count h + 1) * (sure (want len) - 1) < free_words h
-    → ¬ (fits 4 (want len) h.blocks ≡ [])
+abbrev pub FindsRoom : ℕ → Type 0
+FindsRoom sli = (h : HeapState) (len : ℕ) → IsLawful h → want len ≤ most_words sli → (live_count h + 1) * (sure sli (want len) - 1) < free_words h
+    → ¬ (fits sli (want len) h.blocks ≡ [])
 
 -- no fewer free words would do, however many blocks are live: with just so many, a lawful heap may have room for no such request
-abbrev pub RoomIsTight : Type 0
-RoomIsTight = (live len : ℕ) → want len ≤ 2 ^ 20 → 4 < sure (want len)
-    → (h : HeapState) × IsLawful h × (live_count h ≡ live) × (free_words h ≡ (live + 1) * (sure (want len) - 1)) × (fits 4 (want len) h.blocks ≡ [])
+abbrev pub RoomIsTight : ℕ → Type 0
+RoomIsTight sli = (live len : ℕ) → want len ≤ most_words sli → 4 < sure sli (want len)
+    → (h : HeapState) × IsLawful h × (live_count h ≡ live) × (free_words h ≡ (live + 1) * (sure sli (want len) - 1)) × (fits sli (want len) h.blocks ≡ [])
 
 -- a live block has at most three words more than were wanted
 abbrev pub IsSnug : Block → Type 0
@@ -38,8 +38,8 @@ IsSnug (Live size serial bytes) = size ≤ want (length bytes) + 3
 IsSnug (Free size stamp) = ⊤
 
 -- after any calls on a new heap each live block is so: a rest of four words or more is split off
-abbrev pub BlocksAreSnug : Type 0
-BlocksAreSnug = (id words first : ℕ) (calls : List Call) → 4 ≤ words → AllByRecursion IsSnug (run 4 (opened id words first) calls).1.blocks
+abbrev pub BlocksAreSnug : ℕ → Type 0
+BlocksAreSnug sli = (id words first : ℕ) (calls : List Call) → 4 ≤ words → AllByRecursion IsSnug (run sli (opened id words first) calls).1.blocks
 
 -- the words that were wanted for the live blocks
 abbrev pub wanted_words : List Block → ℕ
@@ -48,7 +48,7 @@ wanted_words (Live size serial bytes ∷ blocks) = want (length bytes) + wanted_
 wanted_words (Free size stamp ∷ blocks) = wanted_words blocks
 
 -- after any calls on a new heap, a request finds room by what the live blocks were asked for, and by how many they are
-abbrev pub SumSuffices : Type 0
-SumSuffices = (id words first len : ℕ) (calls : List Call) → 4 ≤ words → want len ≤ 2 ^ 20
-    → let h = (run 4 (opened id words first) calls).1 in wanted_words h.blocks + 3 * live_count h + (live_count h + 1) * (sure (want len) - 1) < words
-    → (allocated 4 h len).answer ≢ Err NoFit
+abbrev pub SumSuffices : ℕ → Type 0
+SumSuffices sli = (id words first len : ℕ) (calls : List Call) → 4 ≤ words → want len ≤ most_words sli
+    → let h = (run sli (opened id words first) calls).1 in wanted_words h.blocks + 3 * live_count h + (live_count h + 1) * (sure sli (want len) - 1) < words
+    → (allocated sli h len).answer ≢ Err NoFit

@@ -1,3 +1,5 @@
+ghost use Rattle.std.specs.Prelude.{ℕ};
+ghost use Rattle.tlsf_class.specs.Classes.{IsLevel};
 ghost use Rattle.tlsf_laws.specs.Contents.{ChangesOneName, HasWhatIsLive, ReadsBack, ReadsContents, ReadsWhatWasWritten, WritesIntoContents};
 
 /// To its user a heap is a map from live names to bytes.
@@ -16,7 +18,7 @@ ghost use Rattle.tlsf_laws.specs.Contents.{ChangesOneName, HasWhatIsLive, ReadsB
 /// ```
 pub fn heap_is_a_map()
     ensures live { HasWhatIsLive }
-    ensures change { ChangesOneName }
+    ensures change { (sli : ℕ) → ChangesOneName sli }
 
     // A read gets what the map has, a write is done exactly where the map has room for it, and what was written is read back.
     ensures read { ReadsContents }
@@ -24,5 +26,5 @@ pub fn heap_is_a_map()
     ensures back { ReadsBack }
 
     // So after any calls on a new heap: a program that keeps the map by its own answers knows what each read gets.
-    ensures history { ReadsWhatWasWritten }
+    ensures history { (sli : ℕ) → IsLevel sli → ReadsWhatWasWritten sli }
 {}

@@ -1,10 +1,12 @@
+ghost use Rattle.std.specs.Prelude.{ℕ};
+ghost use Rattle.tlsf_class.specs.Classes.{IsLevel};
 ghost use Rattle.tlsf_laws.specs.Kinds.{KindsSuffice, LedgerHoldsWhatIsLive, OneKindIsAPool};
 
 /// How large a region must be for several kinds of request, by a table of sizes with how many blocks of each may be held.
 ///
 /// A block counts for the first kind of the table that is long enough for it. A program that keeps a ledger of the names that
 /// it was given, with the bytes that it asked for last, and makes no request that would put more blocks on a kind than the table
-/// has, is never answered `NoFit` in a region of `kinds_words` of the table, 2^20 words at most.
+/// has, is never answered `NoFit` in a region of `kinds_words` of the table, 2^20 words at most at level 4 and 2^24 at level 5.
 ///
 /// For a table of one kind these are the words of [`pool_never_refuses`](crate::pool_never_refuses).
 ///
@@ -12,9 +14,9 @@ ghost use Rattle.tlsf_laws.specs.Kinds.{KindsSuffice, LedgerHoldsWhatIsLive, One
 /// 100 blocks of up to 64 bytes and 4 of up to 4096: 59,427 words, where 104 of up to 4096 would need 109,827
 /// ```
 pub fn kinds_suffice()
-    ensures room { KindsSuffice }
-    ensures one { OneKindIsAPool }
+    ensures room { (sli : ℕ) → IsLevel sli → KindsSuffice sli }
+    ensures one { (sli : ℕ) → OneKindIsAPool sli }
 
     // The ledger has as many entries as blocks are live.
-    ensures held { LedgerHoldsWhatIsLive }
+    ensures held { (sli : ℕ) → IsLevel sli → LedgerHoldsWhatIsLive sli }
 {}

@@ -1,3 +1,5 @@
+ghost use Rattle.std.specs.Prelude.{ℕ};
+ghost use Rattle.tlsf_class.specs.Classes.{IsLevel};
 ghost use Rattle.tlsf_laws.specs.Places.{NothingLeaks, ShareNoWord, StayInside, WholeAgain};
 
 /// No word lies in the blocks of two live names, and each block lies in the region.
@@ -17,5 +19,5 @@ pub fn names_share_no_word()
 /// ```
 pub fn whole_again()
     ensures whole { WholeAgain }
-    ensures history { NothingLeaks }
+    ensures history { (sli : ℕ) → IsLevel sli → NothingLeaks sli }
 {}

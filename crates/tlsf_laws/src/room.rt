@@ -1,3 +1,5 @@
+ghost use Rattle.std.specs.Prelude.{ℕ};
+ghost use Rattle.tlsf_class.specs.Classes.{IsLevel};
 ghost use Rattle.tlsf_laws.specs.Room.{BlocksAreSnug, FindsRoom, RoomIsTight, SumSuffices};
 
 /// Enough free words serve a request, however they are cut up.
@@ -11,8 +13,8 @@ ghost use Rattle.tlsf_laws.specs.Room.{BlocksAreSnug, FindsRoom, RoomIsTight, Su
 /// one of the at most three free blocks has 68: the request is served. Three free blocks of 67 words refuse it.
 /// ```
 pub fn enough_free_words_serve()
-    ensures room { FindsRoom }
-    ensures tight { RoomIsTight }
+    ensures room { (sli : ℕ) → IsLevel sli → FindsRoom sli }
+    ensures tight { (sli : ℕ) → IsLevel sli → RoomIsTight sli }
 {}
 
 /// A block has at most three words more than its request wants, so what the live blocks were asked for tells how many words
@@ -22,8 +24,8 @@ pub fn enough_free_words_serve()
 /// 100 bytes want 16 words: their block has 16 to 19
 /// ```
 pub fn blocks_are_snug()
-    ensures snug { BlocksAreSnug }
+    ensures snug { (sli : ℕ) → BlocksAreSnug sli }
 
     // Blocks of mixed sizes by their sum: what was wanted, three words for each, and a hole before each and behind the last.
-    ensures room { SumSuffices }
+    ensures room { (sli : ℕ) → IsLevel sli → SumSuffices sli }
 {}

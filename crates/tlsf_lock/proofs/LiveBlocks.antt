@@ -29,9 +29,9 @@ live_past (Free m s ∷ bs) = refl
 live_before : (bs : List Block) → live_in (before_free bs) ≡ live_in bs
 live_before bs = by_last (λ all k left. live_in left ≡ live_in all) bs refl (λ all m s xs. refl) (λ all m s. sym (live_append all (Free m s ∷ []) ∙ add-zero (live_in all)))
 
-live_fit : (n : ℕ) (b : Block) (bs : List Block) → is_fit 4 n b ≡ true → live_in (b ∷ bs) ≡ live_in bs
-live_fit n (Live m s xs) bs f = absurd (false≢true f)
-live_fit n (Free m s) bs f = refl
+live_fit : (sli n : ℕ) (b : Block) (bs : List Block) → is_fit sli n b ≡ true → live_in (b ∷ bs) ≡ live_in bs
+live_fit sli n (Live m s xs) bs f = absurd (false≢true f)
+live_fit sli n (Free m s) bs f = refl
 
 live_named : (serial : ℕ) (b : Block) (bs : List Block) → has_serial serial b ≡ true → live_in (b ∷ bs) ≡ live_in bs + 1
 live_named serial (Live m s xs) bs f = omega arith
@@ -56,11 +56,11 @@ Grows h o = (live_count o.heap ≡ live_count h + accepted o.answer) × (o.heap.
 abbrev pub Shrinks : {A : Type 0} → HeapState → Outcome A → Type 0
 Shrinks h o = (live_count o.heap + accepted o.answer ≡ live_count h) × (o.heap.tick ≡ h.tick + accepted o.answer)
 
-pub allocated_grows : (h : HeapState) (len : ℕ) → Grows h (allocated 4 h len)
-allocated_grows h len = by_allocated 4 (Grows h) h len (λ why. (sym (add-zero (live_count h)), sym (add-zero h.tick))) (λ s site fit.
+pub allocated_grows : (sli : ℕ) (h : HeapState) (len : ℕ) → Grows h (allocated sli h len)
+allocated_grows sli h len = by_allocated sli (Grows h) h len (λ why. (sym (add-zero (live_count h)), sym (add-zero h.tick))) (λ s site fit.
     let new : List Block = carved (size_of s.block) (want len) h.tick len in
     let more : live_in (s.before ++ new ++ s.after) ≡ live_in h.blocks + 1 =
-    omega (arith, live_site h.blocks s site, live_fit (want len) s.block s.after fit, live_append (s.before ++ new) s.after, live_append s.before new, live_carved (size_of s.block) (want len) h.tick len) in
+    omega (arith, live_site h.blocks s site, live_fit sli (want len) s.block s.after fit, live_append (s.before ++ new) s.after, live_append s.before new, live_carved (size_of s.block) (want len) h.tick len) in
     (more, refl))
 
 pub released_shrinks : (h : HeapState) (name : Name) → Shrinks h (released h name)
@@ -110,11 +110,11 @@ written_stays h name at bytes = by_written (Stays h) h name at bytes (λ why. (r
 -- ---- a counted heap
 
 -- after an allocate that gave a name
-pub granted_counted : (c : HeapCount) (len : ℕ) (name : Name) (left : HeapState) (touches : ℕ) → IsCounted c → Ok name ≡ (allocated 4 c.heap len).answer → left ≡ (allocated 4 c.heap len).heap → IsLawful left
+pub granted_counted : (sli : ℕ) (c : HeapCount) (len : ℕ) (name : Name) (left : HeapState) (touches : ℕ) → IsCounted c → Ok name ≡ (allocated sli c.heap len).answer → left ≡ (allocated sli c.heap len).heap → IsLawful left
     → IsCounted (record { heap = left; grants = c.grants + 1; returns = c.returns; touches = touches })
-granted_counted c len name left touches is answer heap lawful =
-    let one : accepted (allocated 4 c.heap len).answer ≡ 1 = ap accepted (sym answer) in
-    let grows = allocated_grows c.heap len in
+granted_counted sli c len name left touches is answer heap lawful =
+    let one : accepted (allocated sli c.heap len).answer ≡ 1 = ap accepted (sym answer) in
+    let grows = allocated_grows sli c.heap len in
     record {
       lawful = lawful;
       live = omega (arith, ap live_count heap, one, grows.0, is.live);

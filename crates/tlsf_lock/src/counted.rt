@@ -1,5 +1,6 @@
 ghost use Rattle.std.specs.Prelude.{◌≡◌, ◌+◌, ◌*◌, ◌/◌, ◌≤◌, ◌↔◌, [], length, IfOk, OnErr, IsOk, IsErrOf};
 ghost use Rattle.std.specs.Result.{result_unwrap_or};
+ghost use Rattle.tlsf_class.specs.Classes.{IsLevel};
 ghost use Rattle.tlsf_heap.specs.Blocks;
 ghost use Rattle.tlsf_heap.specs.Lawful.{IsRegion};
 ghost use Rattle.tlsf_heap.specs.GoodFit.{fits};
@@ -18,13 +19,13 @@ use tlsf_heap::{Heap, Name, OpenFault, PlacedBlock, Refusal, Report};
 /// Contracts see it as its heap, the two numbers and the heap's touches. Its live blocks are always the grants less the
 /// returns. Both together stay below the heap's tick, so neither number overflows.
 #[derive(Drop)]
-pub struct Counted {
-    heap: Heap<4>,
+pub struct Counted<const SLI: u32> {
+    heap: Heap<SLI>,
     grants: u64,
     returns: u64,
 }
 
-impl Model for Counted {
+impl<const SLI: u32> Model for Counted<SLI> {
     ghost use Rattle.tlsf_lock.specs.Grants.{HeapCount, IsCounted};
 
     ghost Value = { HeapCount };
@@ -34,13 +35,19 @@ impl Model for Counted {
     ghost invariant = { λ c. IsCounted (record { heap = c.heap.heap; grants = c.grants; returns = c.returns; touches = c.heap.touches }) };
 }
 
-impl Counted {
+impl<const SLI: u32> Counted<SLI> {
     /// Opens a heap of which nothing was granted. It is refused as `Heap::open` refuses.
-    pub(crate) fn open(alloc: Global, id: u32, words: u32, first: u64) -> Result<Counted, OpenFault>
+    pub(crate) fn open(
+        alloc: Global,
+        id: u32,
+        words: u32,
+        first: u64,
+    ) -> Result<Counted<SLI>, OpenFault>
+        requires { IsLevel SLI }
         ensures heap { IfOk result (λ c. c.heap ≡ opened id words first) }
         ensures none { IfOk result (λ c. (c.grants ≡ 0) × (c.returns ≡ 0)) }
-        ensures bad_size { IsErrOf result OpenFault.BadSize ↔ ¬ (IsRegion 4 words) }
-        ensures worn { IsRegion 4 words → (IsErrOf result OpenFault.Worn ↔ (first ≡ last_tick)) }
+        ensures bad_size { IsErrOf result OpenFault.BadSize ↔ ¬ (IsRegion SLI words) }
+        ensures worn { IsRegion SLI words → (IsErrOf result OpenFault.Worn ↔ (first ≡ last_tick)) }
     {
         let heap = Heap::open(alloc, id, words, first)?;
         Ok(Counted {
@@ -62,13 +69,13 @@ impl Counted {
     /// assert_eq!(guard.allocate(0), Err(Refusal::NoFit)); // nothing is free: counted as no grant
     /// ```
     pub fn allocate(&mut self, len: u32) -> Result<Name, Refusal>
-        ensures answer { result ≡ (allocated 4 self.old.heap len).answer }
-        ensures heap { self.new.heap ≡ (allocated 4 self.old.heap len).heap }
+        ensures answer { result ≡ (allocated SLI self.old.heap len).answer }
+        ensures heap { self.new.heap ≡ (allocated SLI self.old.heap len).heap }
         ensures counts { AreCounts self.old self.new (accepted result) 0 }
 
         // What that comes to: when it is NoFit, when it is a name, and that a refusal changes neither heap nor counts.
-        ensures no_fit { IsErrOf result Refusal.NoFit ↔ (fits 4 (Blocks.want len) self.old.heap.blocks ≡ []) }
-        ensures ok { IsOk result ↔ (¬ (fits 4 (Blocks.want len) self.old.heap.blocks ≡ []) × ¬ (self.old.heap.tick ≡ last_tick)) }
+        ensures no_fit { IsErrOf result Refusal.NoFit ↔ (fits SLI (Blocks.want len) self.old.heap.blocks ≡ []) }
+        ensures ok { IsOk result ↔ (¬ (fits SLI (Blocks.want len) self.old.heap.blocks ≡ []) × ¬ (self.old.heap.tick ≡ last_tick)) }
         ensures err { OnErr result (SameCount self.old self.new) }
         ensures was_counted { IsCounted self.old }
         ensures counted { IsCounted self.new }
@@ -197,10 +204,10 @@ impl Counted {
     /// assert_eq!((report.live_blocks, report.free_words), (0, 1024));
     /// ```
     pub fn report(&mut self) -> Report
-        ensures report { result ≡ report_of 4 self.old.heap }
+        ensures report { result ≡ report_of SLI self.old.heap }
 
         // What the grant comes to: no request for more is served, and one for so much is, unless nothing is free.
-        ensures grant { IsGrant 4 self.old.heap.blocks result.grant }
+        ensures grant { IsGrant SLI self.old.heap.blocks result.grant }
         ensures same { SameCount self.old self.new }
         ensures was_counted { IsCounted self.old }
         ensures touches { self.new.touches ≤ self.old.touches + 3 * self.old.heap.words }

@@ -1,5 +1,6 @@
 ghost use Rattle.std.specs.Prelude.{◌≡◌, ◌↔◌, IsErrOf};
 ghost use Rattle.std.specs.Sync.Mutex.{mutex_guard_value};
+ghost use Rattle.tlsf_class.specs.Classes.{IsLevel};
 ghost use Rattle.tlsf_heap.specs.Lawful.{IsRegion};
 ghost use Rattle.tlsf_heap.specs.Calls.{last_tick};
 ghost use Rattle.tlsf_lock.specs.Grants.{IsCounted};
@@ -11,23 +12,24 @@ use tlsf_heap::OpenFault;
 
 /// A heap without an owner, outside any yard: any thread that has a reference to it may lock it.
 #[derive(Drop)]
-pub struct LockedHeap {
-    counted: Mutex<Counted>,
+pub struct LockedHeap<const SLI: u32> {
+    counted: Mutex<Counted<SLI>>,
 }
 
-impl LockedHeap {
+impl<const SLI: u32> LockedHeap<SLI> {
     /// Opens a heap of number `id` over `words` words of 8 bytes, stamped with the tick `first`. Nothing of it was granted.
     ///
-    /// Refused as `Heap::open` refuses: `BadSize` where `words` is below 4 or above 2^20, else `Worn` where `first` is
+    /// Refused as `Heap::open` refuses: `BadSize` where `words` is below 4, or above 2^20 at level 4 and 2^24 at level 5, else `Worn` where `first` is
     /// the last tick, 2^64 - 1, else `NoMemory` where the memory was not granted. No later call takes memory.
     ///
     /// ```
-    /// let heap = LockedHeap::new(alloc, 0, 1024, 0)?; // heap 0, 1024 words, first tick 0
-    /// assert_eq!(LockedHeap::new(alloc, 0, 3, 0).err(), Some(OpenFault::BadSize));
+    /// let heap = LockedHeap::<4>::new(alloc, 0, 1024, 0)?; // heap 0, 1024 words, first tick 0
+    /// assert_eq!(LockedHeap::<4>::new(alloc, 0, 3, 0).err(), Some(OpenFault::BadSize));
     /// ```
-    pub fn new(alloc: Global, id: u32, words: u32, first: u64) -> Result<LockedHeap, OpenFault>
-        ensures bad_size { IsErrOf result OpenFault.BadSize ↔ ¬ (IsRegion 4 words) }
-        ensures worn { IsRegion 4 words → (IsErrOf result OpenFault.Worn ↔ (first ≡ last_tick)) }
+    pub fn new(alloc: Global, id: u32, words: u32, first: u64) -> Result<LockedHeap<SLI>, OpenFault>
+        requires { IsLevel SLI }
+        ensures bad_size { IsErrOf result OpenFault.BadSize ↔ ¬ (IsRegion SLI words) }
+        ensures worn { IsRegion SLI words → (IsErrOf result OpenFault.Worn ↔ (first ≡ last_tick)) }
     {
         let counted = Counted::open(alloc, id, words, first)?;
         Ok(LockedHeap {
@@ -46,7 +48,7 @@ impl LockedHeap {
     /// guard.write(name, 0, &[1, 2])?;
     /// guard.release(name)?;
     /// ```
-    pub fn lock<R: Wait>(&self, rt: &R) -> MutexGuard<'_, Counted>
+    pub fn lock<R: Wait>(&self, rt: &R) -> MutexGuard<'_, Counted<SLI>>
         ensures counted { IsCounted (mutex_guard_value result) }
     {
         let guard = self.counted.lock(rt);

@@ -6,6 +6,7 @@ use Rattle.tlsf_heap.specs.Blocks.{want}
 use Rattle.tlsf_laws.specs.Room.{sure}
 use Rattle.tlsf_laws.specs.Pools.{pool_words}
 use Rattle.tlsf_laws.proofs.FreeRoom.{sure_enough, sure_rises}
+use Rattle.tlsf_class.proofs.TwoLevels.{level_4}
 
 products : (a b c d : ℕ) → a ≤ b → c ≤ d → a * c ≤ b * d
 products a b c d f g = mul-le-mul f g
@@ -26,23 +27,23 @@ same : (a : ℕ) → a ≤ a
 same a = omega arith
 
 -- longer requests ask for no fewer words
-pub words_rise : (most a b : ℕ) → a ≤ b → want b ≤ 2 ^ 20 → pool_words most a ≤ pool_words most b
+pub words_rise : (most a b : ℕ) → a ≤ b → want b ≤ 2 ^ 20 → pool_words 4 most a ≤ pool_words 4 most b
 words_rise most a b f class =
     let w : want a ≤ want b = wants a b f in
-    sums ((most - 1) * (want a + 3)) ((most - 1) * (want b + 3)) (most * (sure (want a) - 1)) (most * (sure (want b) - 1))
+    sums ((most - 1) * (want a + 3)) ((most - 1) * (want b + 3)) (most * (sure 4 (want a) - 1)) (most * (sure 4 (want b) - 1))
     (products (most - 1) (most - 1) (want a + 3) (want b + 3) (same (most - 1)) (three (want a) (want b) w))
-    (products most most (sure (want a) - 1) (sure (want b) - 1) (same most) (less (sure (want a)) (sure (want b)) (sure_rises (want a) (want b) w class)))
+    (products most most (sure 4 (want a) - 1) (sure 4 (want b) - 1) (same most) (less (sure 4 (want a)) (sure 4 (want b)) (sure_rises 4 level_4 (want a) (want b) w class)))
 
 trans : (a b c : ℕ) → a ≤ b → b ≤ c → a ≤ c
 trans a b c f g = omega (arith, f, g)
 
 -- a length above the first that doesn't fit doesn't fit
-pub none_longer : (most longest above len : ℕ) → above ≤ longest + 1 → (above < 8388585 → ¬ (pool_words most above ≤ 2 ^ 20)) → want len ≤ 2 ^ 20 → pool_words most len ≤ 2 ^ 20 → len ≤ longest
+pub none_longer : (most longest above len : ℕ) → above ≤ longest + 1 → (above < 8388585 → ¬ (pool_words 4 most above ≤ 2 ^ 20)) → want len ≤ 2 ^ 20 → pool_words 4 most len ≤ 2 ^ 20 → len ≤ longest
 none_longer most longest above len next passed class fits = elim (cases_lt longest len) [
   | inl l ↦
       let under : above ≤ len = omega (arith, next, l) in
       let short : above < 8388585 = omega (arith, under, class) in
-      absurd (passed short (trans (pool_words most above) (pool_words most len) (2 ^ 20) (words_rise most above len under class) fits))
+      absurd (passed short (trans (pool_words 4 most above) (pool_words 4 most len) (2 ^ 20) (words_rise most above len under class) fits))
   | inr g ↦ g
 ]
 
@@ -79,16 +80,16 @@ divisor : (w s : ℕ) → 1 ≤ s → w + 2 + s ≡ w + 3 + (s - 1)
 divisor w s some = omega (arith, some)
 
 module _ (len : ℕ) (class : want len ≤ 2 ^ 20) where
-  some_words : 1 ≤ sure (want len)
-  some_words = omega (arith, sure_enough (want len) class)
+  some_words : 1 ≤ sure 4 (want len)
+  some_words = omega (arith, sure_enough 4 level_4 (want len) class)
 
-  pub most_reached : pool_words ((1048576 + want len + 2) / (want len + 2 + sure (want len))) len ≤ 2 ^ 20
+  pub most_reached : pool_words 4 ((1048576 + want len + 2) / (want len + 2 + sure 4 (want len))) len ≤ 2 ^ 20
   most_reached =
-      rw (divisor (want len) (sure (want len)) some_words)
-      (reached_by ((1048576 + want len + 2) / (want len + 3 + (sure (want len) - 1))) (want len) (sure (want len) - 1) (2 ^ 20)
-      (divided (1048576 + want len + 2) (want len + 3 + (sure (want len) - 1)) (omega arith)) (omega arith))
+      rw (divisor (want len) (sure 4 (want len)) some_words)
+      (reached_by ((1048576 + want len + 2) / (want len + 3 + (sure 4 (want len) - 1))) (want len) (sure 4 (want len) - 1) (2 ^ 20)
+      (divided (1048576 + want len + 2) (want len + 3 + (sure 4 (want len) - 1)) (omega arith)) (omega arith))
 
-  pub most_passed : (most : ℕ) → pool_words most len ≤ 2 ^ 20 → most ≤ (1048576 + want len + 2) / (want len + 2 + sure (want len))
+  pub most_passed : (most : ℕ) → pool_words 4 most len ≤ 2 ^ 20 → most ≤ (1048576 + want len + 2) / (want len + 2 + sure 4 (want len))
   most_passed most fits =
-      rw (divisor (want len) (sure (want len)) some_words)
-      (undivided (1048576 + want len + 2) (want len + 3 + (sure (want len) - 1)) most (omega arith) (passed_by most (want len) (sure (want len) - 1) (2 ^ 20) fits))
+      rw (divisor (want len) (sure 4 (want len)) some_words)
+      (undivided (1048576 + want len + 2) (want len + 3 + (sure 4 (want len) - 1)) most (omega arith) (passed_by most (want len) (sure 4 (want len) - 1) (2 ^ 20) fits))

@@ -4,6 +4,7 @@ use Rattle.std.specs.List.{AllByRecursion}
 use Rattle.std.proofs.lemmas.Bool.{false≢true}
 use Rattle.tlsf_heap.specs.Blocks.{Block, Live, Free, HeapState, is_free, want}
 use Rattle.tlsf_heap.specs.GoodFit.{Site, fits}
+use Rattle.tlsf_class.proofs.TwoLevels.{level_4}
 use Rattle.tlsf_heap.specs.Given.{payload_words_at, payload_words_given}
 use Rattle.tlsf_heap.specs.Calls.{Call, Allocate, Release, Write, Allocated, Released, allocated, released, written, answered, has_serial, named, last_tick}
 use Rattle.tlsf_heap.specs.declared.name.Name.{Name}
@@ -23,23 +24,23 @@ use Rattle.tlsf_pool.specs.Pools.{PoolState, IsPool}
 in_pool : (p : PoolState) → IsPool p → InPool p.heap.words (want p.longest + 3) p.heap
 in_pool p is = record { lawful = is.lawful; words_are = refl; small = is.small }
 
-enough : (p : PoolState) → IsPool p → pool_words p.most p.longest ≤ p.heap.words
+enough : (p : PoolState) → IsPool p → pool_words 4 p.most p.longest ≤ p.heap.words
 enough p is = omega (arith, is.words)
 
 -- a request within the bounds finds room
 pub room : (p : PoolState) (len : ℕ) → IsPool p → len ≤ p.longest → p.held < p.most → (allocated 4 p.heap len).answer ≢ Err NoFit
-room p len is short few = has_room p.heap.words p.most p.longest is.class (enough p is) p.heap len (in_pool p is) short (omega (arith, is.live, few))
+room p len is short few = has_room 4 level_4 p.heap.words p.most p.longest is.class (enough p is) p.heap len (in_pool p is) short (omega (arith, is.live, few))
 
 -- after a call within the bounds, with so many blocks held
 after : (p : PoolState) (call : Call) (held touches : ℕ) → IsPool p → IsModest p.most p.longest (live_count p.heap) call
     → held_after (live_count p.heap) call (answered 4 p.heap call).0 ≡ held → held ≤ p.most
     → IsPool (record { heap = (answered 4 p.heap call).1; most = p.most; longest = p.longest; held = held; touches = touches })
 after p call held touches is modest counts few =
-    let left = kept p.heap.words p.most p.longest is.class (enough p is) p.heap call (in_pool p is) modest in record {
+    let left = kept 4 level_4 p.heap.words p.most p.longest is.class (enough p is) p.heap call (in_pool p is) modest in record {
       lawful = left.lawful;
       words = left.words_are ∙ is.words;
       class = is.class;
-      live = held_is p.heap call ∙ counts;
+      live = held_is 4 p.heap call ∙ counts;
       few = few;
       small = left.small;
     }

@@ -7,15 +7,16 @@ use Rattle.tlsf_laws.specs.Room.{sure}
 use Rattle.tlsf_laws.specs.Kinds.{HasClass}
 use Rattle.tlsf_laws.specs.declared.kind.Kind.{Kind}
 use Rattle.tlsf_laws.proofs.FreeRoom.{sure_rises}
+use Rattle.tlsf_class.proofs.TwoLevels.{level_4}
 
-last_sure : sure (2 ^ 20) ≡ 2 ^ 20
+last_sure : sure 4 (2 ^ 20) ≡ 2 ^ 20
 unfolding low classes search_of
 last_sure = refl
 
-pub sure_most : (n : ℕ) → n ≤ 2 ^ 20 → sure n ≤ 2 ^ 20
-sure_most n region = omega (arith, sure_rises n (2 ^ 20) region (omega arith), last_sure)
+pub sure_most : (n : ℕ) → n ≤ 2 ^ 20 → sure 4 n ≤ 2 ^ 20
+sure_most n region = omega (arith, sure_rises 4 level_4 n (2 ^ 20) region (omega arith), last_sure)
 
-pub class_at : (kinds : List Kind) (i : ℕ) (kind : Kind) → AllByRecursion HasClass kinds → i < length kinds → HasClass (get_or kinds i kind)
+pub class_at : (kinds : List Kind) (i : ℕ) (kind : Kind) → AllByRecursion (HasClass 4) kinds → i < length kinds → HasClass 4 (get_or kinds i kind)
 class_at [] i kind all within = absurd (omega (arith, within))
 class_at (k ∷ kinds) zero kind all within = all.0
 class_at (k ∷ kinds) (suc i) kind all within = class_at kinds i kind all.1 (omega arith)

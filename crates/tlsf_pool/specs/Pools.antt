@@ -17,13 +17,13 @@ pub record PoolState : Type 0 where
 
 -- some class has blocks for a request of the longest length, and a region may have the words of the pool
 abbrev pub HasRegion : ℕ → ℕ → Type 0
-HasRegion most longest = (want longest ≤ 2 ^ 20) × IsRegion 4 (pool_words most longest)
+HasRegion most longest = (want longest ≤ 2 ^ 20) × IsRegion 4 (pool_words 4 most longest)
 
 -- the heap is lawful and has the words of the pool; as many blocks are live as are held, no more than may be, and none is longer
 -- than the longest request wants and three words more
 pub record IsPool (p : PoolState) : Type 0 where
   pub lawful : IsLawful p.heap
-  pub words : p.heap.words ≡ pool_words p.most p.longest
+  pub words : p.heap.words ≡ pool_words 4 p.most p.longest
   pub class : want p.longest ≤ 2 ^ 20
   pub live : live_count p.heap ≡ p.held
   pub few : p.held ≤ p.most

@@ -9,7 +9,7 @@ use tlsf_laws::Kind;
 /// Whether some region has the words of a pool of at most `most` blocks, of at most `len` bytes each.
 fn fits(most: u32, len: u32) -> bool
     requires { Blocks.want len ≤ 2 ^ 20 }
-    ensures { IsTrue result ↔ (Pools.pool_words most len ≤ 2 ^ 20) }
+    ensures { IsTrue result ↔ (Pools.pool_words 4 most len ≤ 2 ^ 20) }
 {
     kinds_words(&[Kind { most, len }]) <= u64::from(MOST_WORDS)
 }
@@ -21,8 +21,8 @@ fn fits(most: u32, len: u32) -> bool
 /// ```
 pub fn most_blocks(len: u32) -> u32
     requires { Blocks.want len ≤ 2 ^ 20 }
-    ensures reached { Pools.pool_words result len ≤ 2 ^ 20 }
-    ensures greatest { (most : ℕ) → Pools.pool_words most len ≤ 2 ^ 20 → most ≤ result }
+    ensures reached { Pools.pool_words 4 result len ≤ 2 ^ 20 }
+    ensures greatest { (most : ℕ) → Pools.pool_words 4 most len ≤ 2 ^ 20 → most ≤ result }
 {
     let wanted = want(len);
     (MOST_WORDS + wanted + 2) / (wanted + 2 + sure(wanted))
@@ -35,9 +35,9 @@ pub fn most_blocks(len: u32) -> u32
 /// let longest = longest_request(100);     // Some(41248): 100 blocks of up to 41,248 bytes
 /// ```
 pub fn longest_request(most: u32) -> Option<u32>
-    ensures reached { IfSome result (λ len. (Blocks.want len ≤ 2 ^ 20) × (Pools.pool_words most len ≤ 2 ^ 20)) }
-    ensures greatest { IfSome result (λ longest. (len : ℕ) → Blocks.want len ≤ 2 ^ 20 → Pools.pool_words most len ≤ 2 ^ 20 → len ≤ longest) }
-    ensures none { result ≡ None → ¬ (Pools.pool_words most 0 ≤ 2 ^ 20) }
+    ensures reached { IfSome result (λ len. (Blocks.want len ≤ 2 ^ 20) × (Pools.pool_words 4 most len ≤ 2 ^ 20)) }
+    ensures greatest { IfSome result (λ longest. (len : ℕ) → Blocks.want len ≤ 2 ^ 20 → Pools.pool_words 4 most len ≤ 2 ^ 20 → len ≤ longest) }
+    ensures none { result ≡ None → ¬ (Pools.pool_words 4 most 0 ≤ 2 ^ 20) }
 {
     if !fits(most, 0) {
         return None;

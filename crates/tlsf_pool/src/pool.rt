@@ -52,7 +52,7 @@ impl Pool {
         longest: u32,
         first: u64,
     ) -> Result<Pool, OpenFault>
-        ensures heap { IfOk result (λ pool. pool.heap ≡ opened id (pool_words most longest) first) }
+        ensures heap { IfOk result (λ pool. pool.heap ≡ opened id (pool_words 4 most longest) first) }
         ensures most { IfOk result (λ pool. pool.most ≡ most) }
         ensures longest { IfOk result (λ pool. pool.longest ≡ longest) }
         ensures none { IfOk result (λ pool. pool.held ≡ 0) }

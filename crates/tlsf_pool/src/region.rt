@@ -17,7 +17,7 @@ const LEAST_WORDS: u32 = 4;
 /// let none = pool_region(100_000, 512);   // None
 /// ```
 pub fn pool_region(most: u32, len: u32) -> Option<u32>
-    ensures { result ≡ Pools.pool_region most len }
+    ensures { result ≡ Pools.pool_region 4 most len }
 {
     if len > LONGEST {
         return None;

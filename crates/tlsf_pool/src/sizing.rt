@@ -26,7 +26,7 @@ pub(crate) fn want(len: u32) -> u32
 pub(crate) fn sure(words: u32) -> u32
     requires least { 4 ≤ words }
     requires most { words ≤ 2 ^ 20 }
-    ensures value { result ≡ Room.sure words }
+    ensures value { result ≡ Room.sure 4 words }
     ensures least { words ≤ result }
     ensures most { result ≤ 2 ^ 20 }
 {
@@ -42,7 +42,7 @@ struct Totals {
 
 /// The totals of a table of kinds.
 fn totals_of(kinds: &[Kind]) -> Totals
-    requires classes { AllByRecursion HasClass kinds.now }
+    requires classes { AllByRecursion (HasClass 4) kinds.now }
     requires few { length kinds.now ≤ 1024 }
     ensures count { result.count ≡ count_in kinds.now }
     ensures words { result.words ≡ table_words kinds.now }
@@ -64,7 +64,7 @@ fn words_beside(totals: Totals, kind: Kind) -> u64
     requires class { Blocks.want kind.len ≤ 2 ^ 20 }
     requires small_count { totals.count ≤ 2 ^ 42 }
     requires small_words { totals.words ≤ 2 ^ 63 }
-    ensures { result ≡ totals.words - (Blocks.want kind.len + 3) + totals.count * (Room.sure (Blocks.want kind.len) - 1) + 1 }
+    ensures { result ≡ totals.words - (Blocks.want kind.len + 3) + totals.count * (Room.sure 4 (Blocks.want kind.len) - 1) + 1 }
 {
     let wanted = want(kind.len);
     let lost = u64::from(sure(wanted) - 1);
@@ -79,9 +79,9 @@ fn words_beside(totals: Totals, kind: Kind) -> u64
 /// let words = kinds_words(&[Kind { most: 100, len: 512 }]);   // 13,631
 /// ```
 pub fn kinds_words(kinds: &[Kind]) -> u64
-    requires classes { AllByRecursion HasClass kinds.now }
+    requires classes { AllByRecursion (HasClass 4) kinds.now }
     requires few { length kinds.now ≤ 1024 }
-    ensures { result ≡ Kinds.kinds_words kinds.now }
+    ensures { result ≡ Kinds.kinds_words 4 kinds.now }
 {
     let totals = totals_of(kinds);
     let mut words = 0;

@@ -71,7 +71,7 @@ stays map name (heap.Read own at n) answer spares some = some
 call_spares : (h : HeapState) (call : heap.Call) (name : Name) → IsLawful h → IsLive h name → Spares name call (heap.answered 4 h call).0 → IsLive (heap.answered 4 h call).1 name
 call_spares h call name lawful is spares =
     let some = stays (contents h) name call (heap.answered 4 h call).0 spares ((live h name).0 is) in
-    (live (heap.answered 4 h call).1 name).1 (subst (λ (o : Option (List ℕ)). IsSome o) (sym (change h call name lawful)) some)
+    (live (heap.answered 4 h call).1 name).1 (subst (λ (o : Option (List ℕ)). IsSome o) (sym (change 4 h call name lawful)) some)
 
 -- ---- entries
 

@@ -117,7 +117,7 @@ past_agrees j words first calls answers g runs four =
     let own : List heap.Answer = (heap.run 4 (heap.opened j words first) calls).0 in
     let noted : ledger_after_all [] calls own ≡ ledger_after_all [] calls answers = sym (all_noted [] calls own) ∙ ap (ledger_after_all [] calls) runs.told in
     subst (λ (h : HeapState). Agrees h (ledger_after_all [] calls answers)) runs.left
-    (subst (Agrees (heap.run 4 (heap.opened j words first) calls).1) noted (agrees_run (heap.opened j words first) calls [] (new_agrees j words first) (new_lawful j words first four)))
+    (subst (Agrees (heap.run 4 (heap.opened j words first) calls).1) noted (agrees_run 4 level_4 (heap.opened j words first) calls [] (new_agrees j words first) (new_lawful j words first four)))
 
 as_many : (h g : HeapState) (calls : List heap.Call) (answers : List heap.Answer) → RunsTo h calls answers g → length calls ≡ length answers
 as_many h g calls answers r = sym (length_run h calls) ∙ (sym (length-map (heap.run 4 h calls).0 handed_on) ∙ ap length r.told)

@@ -33,6 +33,7 @@ use Rattle.tlsf_crew.proofs.lemmas.yard.JoinedEntries.{told_other, told_own, tol
 use Rattle.tlsf_yard_laws.specs.Sharing.{AreSparing, IsSparing, unreleased_after, with_call, without_post}
 use Rattle.tlsf_yard_laws.proofs.Told.{noted_same, served_on}
 use Rattle.tlsf_yard_laws.proofs.Few.{IsAmong, among_left, among_right, few, in_lanes, lane_names, lanes_few, names_of, posted, still_among}
+use Rattle.tlsf_class.proofs.TwoLevels.{level_4}
 
 -- ---- what covers a name
 
@@ -296,7 +297,7 @@ live_few j m capacity words k h l u lanes j_in short shared =
     let live = live_agrees h l shared.agrees in
     omega arith
 
-module _ (words most len : ℕ) (region : want len ≤ 2 ^ 20) (enough : pool_words most len ≤ words) (j n : ℕ) where
+module _ (words most len : ℕ) (region : want len ≤ 2 ^ 20) (enough : pool_words 4 most len ≤ words) (j n : ℕ) where
   -- a request that the entry tells is modest, and so is a resize
   abbrev Allows : HeapState → Option heap.Call → Type 0
   Allows h o = ((m : ℕ) → o ≡ Some (heap.Allocate m) → (m ≤ len) × (live_count h < most)) × ((name : Name) (m : ℕ) → o ≡ Some (heap.Resize name m) → m ≤ len)
@@ -330,12 +331,12 @@ module _ (words most len : ℕ) (region : want len ≤ 2 ^ 20) (enough : pool_wo
       record {
         live = ledger_after l c answer;
         shared = subst (λ (x : HeapState). IsShared j n words (want len + 3) x (ledger_after l c answer) (ledger_after u c b) later) run.left (record {
-          pool = kept words most len region enough h c shared.pool modest;
-          agrees = agrees_call h c l shared.agrees shared.pool.lawful;
+          pool = kept 4 level_4 words most len region enough h c shared.pool modest;
+          agrees = agrees_call 4 h c l shared.agrees shared.pool.lawful;
           covers = subst (λ (v : Ledger). Covers j n (ledger_after l c answer) v later) noted (call_covers j n h l u lanes later c shared.agrees fresh shared.covers leaves);
         });
-        tick = subst (λ (x : HeapState). x.tick ≤ h.tick + 1) run.left (tick_kept words most len region enough h c);
-        served = (subst IsServed same (served_on answer (is_served words most len region enough h c shared.pool modest fresh)), tt);
+        tick = subst (λ (x : HeapState). x.tick ≤ h.tick + 1) run.left (tick_kept 4 level_4 words most len region enough h c);
+        served = (subst IsServed same (served_on answer (is_served 4 level_4 words most len region enough h c shared.pool modest fresh)), tt);
       }
 
 -- ---- what waits, after an entry
@@ -398,7 +399,7 @@ other_covers j n capacity made h g l u lanes later e other leads covers name len
 
 -- ---- all entries
 
-module _ (words most len : ℕ) (region : want len ≤ 2 ^ 20) (capacity j m : ℕ) (j_in : j < m + 1) (enough : pool_words (most + m * capacity) len ≤ words) (made : List (Option Name)) where
+module _ (words most len : ℕ) (region : want len ≤ 2 ^ 20) (capacity j m : ℕ) (j_in : j < m + 1) (enough : pool_words 4 (most + m * capacity) len ≤ words) (made : List (Option Name)) where
   abbrev n : ℕ
   n = suc m
 

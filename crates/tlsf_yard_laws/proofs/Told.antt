@@ -21,6 +21,7 @@ use Rattle.tlsf_crew.proofs.lemmas.yard.JoinedEntries.{runs_then}
 use Rattle.tlsf_crew.proofs.lemmas.threads.RecordHistory.{race_runs}
 use Rattle.tlsf_yard_laws.specs.Races.{NewHasNoPast, RaceAddsToPast, RaceHoldsWhatIsLive, RaceKeepsBytes, RacePoolServes, RacePoolSuffices, ReplayAddsToPast}
 use Rattle.tlsf_yard_laws.specs.Yards.{IsNew, YardHoldsWhatIsLive, YardKeepsBytes, YardPoolServes, YardPoolSuffices}
+use Rattle.tlsf_class.proofs.TwoLevels.{level_4}
 
 held_same : (held : ℕ) (call : Call) (answer : Answer) → held_after held call (handed_on answer) ≡ held_after held call answer
 held_same held call (Allocated r) = refl
@@ -104,31 +105,31 @@ all_served_on (answer ∷ answers) all = (served_on answer all.0, all_served_on 
 -- ---- what a heap that was new once was asked, and what it answered
 
 pub past_suffices : (j words first most len : ℕ) (calls : List Call) (answers : List Answer) (g : HeapState) → RunsTo (opened j words first) calls answers g
-    → IsRegion 4 words → want len ≤ 2 ^ 20 → pool_words most len ≤ words → AreModest most len 0 calls answers → AllByRecursion HasRoomFor answers
+    → IsRegion 4 words → want len ≤ 2 ^ 20 → pool_words 4 most len ≤ words → AreModest most len 0 calls answers → AllByRecursion HasRoomFor answers
 past_suffices j words first most len calls answers g runs region class enough within =
     let own : List Answer = (run 4 (opened j words first) calls).0 in
     subst (AllByRecursion HasRoomFor) runs.told
-    (all_room own (suffices j words first most len calls region class enough (modest most len 0 calls own (subst (AreModest most len 0 calls) (sym runs.told) within))))
+    (all_room own (suffices 4 level_4 j words first most len calls region class enough (modest most len 0 calls own (subst (AreModest most len 0 calls) (sym runs.told) within))))
 
 pub past_serves : (j words first most len : ℕ) (calls : List Call) (answers : List Answer) (g : HeapState) → RunsTo (opened j words first) calls answers g
-    → IsRegion 4 words → want len ≤ 2 ^ 20 → pool_words most len ≤ words → AreModest most len 0 calls answers → first + length calls < last_tick → AllByRecursion IsServed answers
+    → IsRegion 4 words → want len ≤ 2 ^ 20 → pool_words 4 most len ≤ words → AreModest most len 0 calls answers → first + length calls < last_tick → AllByRecursion IsServed answers
 past_serves j words first most len calls answers g runs region class enough within fresh =
     let own : List Answer = (run 4 (opened j words first) calls).0 in
     subst (AllByRecursion IsServed) runs.told
-    (all_served_on own (serves j words first most len calls region class enough (modest most len 0 calls own (subst (AreModest most len 0 calls) (sym runs.told) within)) fresh))
+    (all_served_on own (serves 4 level_4 j words first most len calls region class enough (modest most len 0 calls own (subst (AreModest most len 0 calls) (sym runs.told) within)) fresh))
 
 pub past_holds : (j words first : ℕ) (calls : List Call) (answers : List Answer) (g : HeapState) → RunsTo (opened j words first) calls answers g → 4 ≤ words
     → live_count g ≡ held_after_all 0 calls answers
 past_holds j words first calls answers g runs four =
     let own : List Answer = (run 4 (opened j words first) calls).0 in
-    ap live_count (sym runs.left) ∙ (holds j words first calls four
+    ap live_count (sym runs.left) ∙ (holds 4 j words first calls four
     ∙ (sym (all_held 0 calls own) ∙ ap (λ (answers : List Answer). held_after_all 0 calls answers) runs.told))
 
 pub past_bytes : (j words first : ℕ) (calls : List Call) (answers : List Answer) (g : HeapState) (name : Name) → RunsTo (opened j words first) calls answers g → 4 ≤ words
     → contents g name ≡ after_all (λ other. None) calls answers name
 past_bytes j words first calls answers g name runs four =
     let own : List Answer = (run 4 (opened j words first) calls).0 in
-    ap (λ (h : HeapState). contents h name) (sym runs.left) ∙ (told_new j words first calls name four
+    ap (λ (h : HeapState). contents h name) (sym runs.left) ∙ (told_new 4 level_4 j words first calls name four
     ∙ (ap (λ (bytes : Contents). bytes name) (sym (all_after (λ other. None) calls own))
     ∙ ap (λ (answers : List Answer). after_all (λ other. None) calls answers name) runs.told))
 

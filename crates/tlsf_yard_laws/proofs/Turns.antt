@@ -251,7 +251,7 @@ pub shared_serves : SharedPoolServes
 shared_serves w es j words first most len is short region class enough fresh sparing = on (length w.heaps) refl
   where
     new : InPool words (want len + 3) (heap_in w j)
-    new = subst (InPool words (want len + 3)) (sym is.new) (opens j words first (want len + 3) region)
+    new = subst (InPool words (want len + 3)) (sym is.new) (opens 4 j words first (want len + 3) region)
 
     nothing : (size : ℕ) → ◌≡◌ {A = Option ℕ} None (Some size) → ⊥
     nothing size e = cc
@@ -261,7 +261,7 @@ shared_serves w es j words first most len is short region class enough fresh spa
     on (suc m) count =
         let tick : (heap_in w j).tick ≡ first + 1 = ap (λ (h : HeapState). h.tick) is.new in
         let few : length w.heaps - 1 ≡ m = omega (arith, count) in
-        let large : pool_words (most + m * w.capacity) len ≤ words = subst (λ (k : ℕ). pool_words (most + k * w.capacity) len ≤ words) few enough in
+        let large : pool_words 4 (most + m * w.capacity) len ≤ words = subst (λ (k : ℕ). pool_words 4 (most + k * w.capacity) len ≤ words) few enough in
         all_served words most len class w.capacity j m (omega (arith, is.within, count)) large (replies w es).made (replies w es).entries (heap_in w j) [] [] (λ i. w.waiting i j)
         (record { pool = new; agrees = subst (λ (h : HeapState). Agrees h []) (sym is.new) (new_agrees j words first); covers = λ name size found. absurd (nothing size found) })
         short (replies_lead w es (suc m) j (omega (arith, is.within, count)) count new.lawful short) sparing (omega (arith, tick, fresh))

@@ -72,6 +72,6 @@ AreSparingInRace w made records j most len calls answers = (before : List Entry)
 abbrev pub RaceSharedPoolServes : Type 0
 RaceSharedPoolServes = (w v : World) (scripts : List (List Call)) (records : List (List Entry)) (race : IsRace w scripts records v)
     → (j words first most len : ℕ) (calls : List heap.Call) (answers : List heap.Answer) → HasPast w j words first calls answers
-    → IsRegion 4 words → want len ≤ 2 ^ 20 → pool_words (most + most_under_way w) len ≤ words → AreModest (most + most_under_way w) len 0 calls answers
+    → IsRegion 4 words → want len ≤ 2 ^ 20 → pool_words 4 (most + most_under_way w) len ≤ words → AreModest (most + most_under_way w) len 0 calls answers
     → let now = calls ++ calls_on j (race.made j) (record_of records j) in let told = answers ++ answers_on j (record_of records j) in
     AreSparingInRace w race.made records j most len calls answers → first + length now < heap.last_tick → AllByRecursion IsServed told

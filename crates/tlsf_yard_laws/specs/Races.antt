@@ -42,7 +42,7 @@ RaceAddsToPast = (w v : World) (scripts : List (List Call)) (records : List (Lis
 abbrev pub RacePoolSuffices : Type 0
 RacePoolSuffices = (w v : World) (scripts : List (List Call)) (records : List (List Entry)) (race : IsRace w scripts records v)
     → (j words first most len : ℕ) (calls : List heap.Call) (answers : List heap.Answer) → HasPast w j words first calls answers
-    → IsRegion 4 words → want len ≤ 2 ^ 20 → pool_words most len ≤ words
+    → IsRegion 4 words → want len ≤ 2 ^ 20 → pool_words 4 most len ≤ words
     → let now = calls ++ calls_on j (race.made j) (record_of records j) in let told = answers ++ answers_on j (record_of records j) in
     AreModest most len 0 now told → AllByRecursion HasRoomFor told
 
@@ -50,7 +50,7 @@ RacePoolSuffices = (w v : World) (scripts : List (List Call)) (records : List (L
 abbrev pub RacePoolServes : Type 0
 RacePoolServes = (w v : World) (scripts : List (List Call)) (records : List (List Entry)) (race : IsRace w scripts records v)
     → (j words first most len : ℕ) (calls : List heap.Call) (answers : List heap.Answer) → HasPast w j words first calls answers
-    → IsRegion 4 words → want len ≤ 2 ^ 20 → pool_words most len ≤ words
+    → IsRegion 4 words → want len ≤ 2 ^ 20 → pool_words 4 most len ≤ words
     → let now = calls ++ calls_on j (race.made j) (record_of records j) in let told = answers ++ answers_on j (record_of records j) in
     AreModest most len 0 now told → first + length now < heap.last_tick → AllByRecursion IsServed told
 

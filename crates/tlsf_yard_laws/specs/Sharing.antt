@@ -53,5 +53,5 @@ most_under_way w = (length w.heaps - 1) * w.capacity
 -- a heap with room for what the programs hold and for what may be under way serves each request of its worker, while the ticks last
 abbrev pub SharedPoolServes : Type 0
 SharedPoolServes = (w : World) (es : List Event) (j words first most len : ℕ) → IsNew w j words first → ((i : ℕ) → length (w.waiting i j) ≤ w.capacity)
-    → IsRegion 4 words → want len ≤ 2 ^ 20 → pool_words (most + most_under_way w) len ≤ words
+    → IsRegion 4 words → want len ≤ 2 ^ 20 → pool_words 4 (most + most_under_way w) len ≤ words
     → let r = replies w es in first + length r.entries < heap.last_tick → AreSparing j most len r.made [] r.entries → AllByRecursion IsServed (answers_on j r.entries)

@@ -21,12 +21,12 @@ pub record IsNew (w : World) (j words first : ℕ) : Type 0 where
 -- a heap of pool_words whose calls stay within the bounds is never answered NoFit. Its calls are those that its own worker's
 -- entries tell; a block whose name waits in a lane counts as held until a drain releases it
 abbrev pub YardPoolSuffices : Type 0
-YardPoolSuffices = (w : World) (es : List Event) (j words first most len : ℕ) → IsNew w j words first → IsRegion 4 words → want len ≤ 2 ^ 20 → pool_words most len ≤ words
+YardPoolSuffices = (w : World) (es : List Event) (j words first most len : ℕ) → IsNew w j words first → IsRegion 4 words → want len ≤ 2 ^ 20 → pool_words 4 most len ≤ words
     → let r = replies w es in AreModest most len 0 (calls_on j r.made r.entries) (answers_on j r.entries) → AllByRecursion HasRoomFor (answers_on j r.entries)
 
 -- and each of its worker's requests is served, while the ticks last
 abbrev pub YardPoolServes : Type 0
-YardPoolServes = (w : World) (es : List Event) (j words first most len : ℕ) → IsNew w j words first → IsRegion 4 words → want len ≤ 2 ^ 20 → pool_words most len ≤ words
+YardPoolServes = (w : World) (es : List Event) (j words first most len : ℕ) → IsNew w j words first → IsRegion 4 words → want len ≤ 2 ^ 20 → pool_words 4 most len ≤ words
     → let r = replies w es in AreModest most len 0 (calls_on j r.made r.entries) (answers_on j r.entries) → first + length (calls_on j r.made r.entries) < last_tick
     → AllByRecursion IsServed (answers_on j r.entries)
 

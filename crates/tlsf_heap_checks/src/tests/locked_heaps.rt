@@ -11,7 +11,7 @@ use tlsf_lock::LockedHeap;
 /// live blocks.
 fn check_asks<R: Wait + Abort>(
     rt: &R,
-    heap: &LockedHeap,
+    heap: &LockedHeap<4>,
     rows: &[(Ask, Answer)],
     counts: (u64, u64, u32),
 ) {
@@ -30,7 +30,7 @@ fn check_asks<R: Wait + Abort>(
 
 #[test]
 fn refused_allocate_is_no_grant(rt: HostRuntime) -> Result<(), Fail> {
-    let heap = LockedHeap::new(rt.alloc(), 0, 4, 0)?;
+    let heap = LockedHeap::<4>::new(rt.alloc(), 0, 4, 0)?;
     let rows = [
         (Ask::Allocate(0), Ok(Some(name(0, 0, 1)))),
         (Ask::Allocate(0), Err(Refusal::NoFit)),
@@ -41,7 +41,7 @@ fn refused_allocate_is_no_grant(rt: HostRuntime) -> Result<(), Fail> {
 
 #[test]
 fn counts_agree_at_the_last_tick(rt: HostRuntime) -> Result<(), Fail> {
-    let heap = LockedHeap::new(rt.alloc(), 7, 64, u64::MAX - 2)?;
+    let heap = LockedHeap::<4>::new(rt.alloc(), 7, 64, u64::MAX - 2)?;
     let last = name(7, 0, u64::MAX - 1);
     let rows = [
         (Ask::Allocate(8), Ok(Some(last))),
@@ -55,7 +55,7 @@ fn counts_agree_at_the_last_tick(rt: HostRuntime) -> Result<(), Fail> {
 
 #[test]
 fn calls_behind_a_lock(rt: HostRuntime) -> Result<(), Fail> {
-    let heap = LockedHeap::new(rt.alloc(), 3, 64, 0)?;
+    let heap = LockedHeap::<4>::new(rt.alloc(), 3, 64, 0)?;
     let block = name(3, 0, 1);
     check_asks(
         &rt,
@@ -80,7 +80,7 @@ fn calls_behind_a_lock(rt: HostRuntime) -> Result<(), Fail> {
 // A resize is neither a grant nor a return. Where it is accepted the tick rises by one, as the serial of the next block shows.
 #[test]
 fn resizes_leave_the_counts(rt: HostRuntime) -> Result<(), Fail> {
-    let heap = LockedHeap::new(rt.alloc(), 0, 64, 0)?;
+    let heap = LockedHeap::<4>::new(rt.alloc(), 0, 64, 0)?;
     let block = name(0, 0, 1);
     let rows = [
         (Ask::Allocate(8), Ok(Some(block))),
@@ -99,14 +99,24 @@ fn resizes_leave_the_counts(rt: HostRuntime) -> Result<(), Fail> {
 #[test]
 fn refused_locked_heaps(rt: HostRuntime) {
     let found = [
-        LockedHeap::new(rt.alloc(), 0, 3, u64::MAX).err(),
-        LockedHeap::new(rt.alloc(), 0, 4, u64::MAX).err(),
+        LockedHeap::<4>::new(rt.alloc(), 0, 3, u64::MAX).err(),
+        LockedHeap::<4>::new(rt.alloc(), 0, 4, u64::MAX).err(),
     ];
     same(found, [Some(OpenFault::BadSize), Some(OpenFault::Worn)]).expect(&rt, "differ");
 }
 
+// At level 4 a region of 63 words doesn't serve a request that wants them all.
+#[test]
+fn whole_region_behind_a_lock_at_level_5(rt: HostRuntime) -> Result<(), Fail> {
+    let heap = LockedHeap::<5>::new(rt.alloc(), 0, 63, 0)?;
+    let mut guard = heap.lock(&rt);
+    let answer = given(guard.allocate(480));
+    same((answer, guard.grants()), (Ok(Some(name(0, 0, 1))), 1)).expect(&rt, "differ");
+    Ok(())
+}
+
 /// Allocates 8 bytes 100 times, and releases each of the first 60 blocks. Tells whether all of it was accepted.
-fn hundred_grants(rt: &impl Wait, heap: &LockedHeap) -> bool {
+fn hundred_grants(rt: &impl Wait, heap: &LockedHeap<4>) -> bool {
     for i in 0..100 {
         let Ok(name) = heap.lock(rt).allocate(8) else {
             return false;
@@ -120,7 +130,7 @@ fn hundred_grants(rt: &impl Wait, heap: &LockedHeap) -> bool {
 
 #[test]
 fn two_threads_share_a_heap(rt: HostRuntime) -> Result<(), Fail> {
-    let heap = LockedHeap::new(rt.alloc(), 0, 1024, 0)?;
+    let heap = LockedHeap::<4>::new(rt.alloc(), 0, 1024, 0)?;
     let accepted = join(
         &rt,
         || hundred_grants(&rt, &heap),

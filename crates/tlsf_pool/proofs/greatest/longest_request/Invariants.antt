@@ -6,8 +6,8 @@ abbrev pub invariant-loop-longest : goal.invariant-loop-longest
 invariant-loop-longest l = record {
   between : l.longest < l.above;
   within : l.above ≤ 8388585;
-  reached : pool_words l.most l.longest ≤ 2 ^ 20;
-  passed : l.above < 8388585 → ¬ (pool_words l.most l.above ≤ 2 ^ 20);
+  reached : pool_words 4 l.most l.longest ≤ 2 ^ 20;
+  passed : l.above < 8388585 → ¬ (pool_words 4 l.most l.above ≤ 2 ^ 20);
 }
 
 abbrev pub decreases-loop-longest : goal.decreases-loop-longest
