@@ -2,6 +2,7 @@
 use Rattle.std.proofs.Common.{◌≡◌, ◌≤◌, ◌^◌, ℕ, zero, suc, Option, Some, None, inl, inr, refl, arith}
 use Rattle.std.specs.Prelude.{IfSome}
 use Rattle.std.specs.Option.{unwrap_or}
+use Rattle.tlsf_class.proofs.TwoLevels.{level_4}
 use Rattle.tlsf_heap.specs.Blocks.{want}
 use Rattle.tlsf_laws.specs.Pools.{pool_words}
 use Rattle.tlsf_pool.proofs.Bounds.{words_rise}
@@ -24,7 +25,7 @@ pub longest_is : (most : ℕ) (found : Option ℕ) → 1 ≤ most
     → IsGreatest (λ len. IsReached most len) (unwrap_or found 0)
 longest_is most None some reached greatest none = (
   inr refl,
-  λ k is. absurd (none refl (within (pool_words 4 most 0) (pool_words 4 most k) (2 ^ 20) (words_rise most 0 k (least k) is.2) is.3)),
+  λ k is. absurd (none refl (within (pool_words 4 most 0) (pool_words 4 most k) (2 ^ 20) (words_rise 4 level_4 most 0 k (least k) is.2) is.3)),
 )
 longest_is most (Some zero) some reached greatest none = (inr refl, λ k is. greatest k is.2 is.3)
 longest_is most (Some (suc n)) some reached greatest none = (inl (some, some_byte n, reached.0, reached.1), λ k is. greatest k is.2 is.3)

@@ -47,7 +47,7 @@ pub fn words_for(kinds: &[Kind]) -> Option<u32>
     if !are_servable(kinds) {
         return None;
     }
-    let words = kinds_words(kinds);
+    let words = kinds_words::<4>(kinds);
     if words > u64::from(MOST_WORDS) {
         return None;
     }
@@ -136,7 +136,7 @@ fn blocks_of(len: u32) -> u32
     if len == 0 || len > LONGEST {
         return 0;
     }
-    most_blocks(len)
+    most_blocks::<4>(len)
 }
 
 // The most bytes that each of so many blocks may have, 0 where no region has room for so many.
@@ -146,7 +146,7 @@ fn bytes_for(most: u32) -> u32
     if most == 0 {
         return 0;
     }
-    longest_request(most).unwrap_or(0)
+    longest_request::<4>(most).unwrap_or(0)
 }
 
 // The line that says how far the greatest region goes.

@@ -143,6 +143,6 @@ impl Tally {
         if self.most > u32::MAX as usize {
             return None;
         }
-        pool_region(self.most as u32, self.longest)
+        pool_region::<4>(self.most as u32, self.longest)
     }
 }

@@ -1,12 +1,13 @@
 -- How far the greatest region goes.
-use Rattle.std.proofs.Common.{◌≡◌, ℕ, zero, suc, ◌+◌, ◌-◌, ◌*◌, ◌/◌, ◌^◌, ◌<◌, ◌≤◌, arith, inl, inr}
+use Rattle.std.proofs.Common.{◌≡◌, ℕ, zero, suc, ◌+◌, ◌-◌, ◌*◌, ◌/◌, ◌<◌, ◌≤◌, arith, inl, inr}
 use Rattle.std.proofs.Math.Nat.{mul-le-mul}
 use Rattle.std.proofs.lemmas.Bool.{cases_lt}
 use Rattle.tlsf_heap.specs.Blocks.{want}
 use Rattle.tlsf_laws.specs.Room.{sure}
 use Rattle.tlsf_laws.specs.Pools.{pool_words}
 use Rattle.tlsf_laws.proofs.FreeRoom.{sure_enough, sure_rises}
-use Rattle.tlsf_class.proofs.TwoLevels.{level_4}
+use Rattle.tlsf_class.specs.Classes.{IsLevel, most_words}
+use Rattle.tlsf_pool.proofs.Sizes.{some_words}
 
 products : (a b c d : ℕ) → a ≤ b → c ≤ d → a * c ≤ b * d
 products a b c d f g = mul-le-mul f g
@@ -27,23 +28,23 @@ same : (a : ℕ) → a ≤ a
 same a = omega arith
 
 -- longer requests ask for no fewer words
-pub words_rise : (most a b : ℕ) → a ≤ b → want b ≤ 2 ^ 20 → pool_words 4 most a ≤ pool_words 4 most b
-words_rise most a b f class =
+pub words_rise : (sli : ℕ) → IsLevel sli → (most a b : ℕ) → a ≤ b → want b ≤ most_words sli → pool_words sli most a ≤ pool_words sli most b
+words_rise sli level most a b f class =
     let w : want a ≤ want b = wants a b f in
-    sums ((most - 1) * (want a + 3)) ((most - 1) * (want b + 3)) (most * (sure 4 (want a) - 1)) (most * (sure 4 (want b) - 1))
+    sums ((most - 1) * (want a + 3)) ((most - 1) * (want b + 3)) (most * (sure sli (want a) - 1)) (most * (sure sli (want b) - 1))
     (products (most - 1) (most - 1) (want a + 3) (want b + 3) (same (most - 1)) (three (want a) (want b) w))
-    (products most most (sure 4 (want a) - 1) (sure 4 (want b) - 1) (same most) (less (sure 4 (want a)) (sure 4 (want b)) (sure_rises 4 level_4 (want a) (want b) w class)))
+    (products most most (sure sli (want a) - 1) (sure sli (want b) - 1) (same most) (less (sure sli (want a)) (sure sli (want b)) (sure_rises sli level (want a) (want b) w class)))
 
 trans : (a b c : ℕ) → a ≤ b → b ≤ c → a ≤ c
 trans a b c f g = omega (arith, f, g)
 
 -- a length above the first that doesn't fit doesn't fit
-pub none_longer : (most longest above len : ℕ) → above ≤ longest + 1 → (above < 8388585 → ¬ (pool_words 4 most above ≤ 2 ^ 20)) → want len ≤ 2 ^ 20 → pool_words 4 most len ≤ 2 ^ 20 → len ≤ longest
-none_longer most longest above len next passed class fits = elim (cases_lt longest len) [
+pub none_longer : (sli : ℕ) → IsLevel sli → (most longest above len : ℕ) → above ≤ longest + 1 → (above < 8 * (most_words sli - 3) + 1 → ¬ (pool_words sli most above ≤ most_words sli)) → want len ≤ most_words sli → pool_words sli most len ≤ most_words sli → len ≤ longest
+none_longer sli level most longest above len next passed class fits = elim (cases_lt longest len) [
   | inl l ↦
       let under : above ≤ len = omega (arith, next, l) in
-      let short : above < 8388585 = omega (arith, under, class) in
-      absurd (passed short (trans (pool_words 4 most above) (pool_words 4 most len) (2 ^ 20) (words_rise most above len under class) fits))
+      let short : above < 8 * (most_words sli - 3) + 1 = omega (arith, under, class) in
+      absurd (passed short (trans (pool_words sli most above) (pool_words sli most len) (most_words sli) (words_rise sli level most above len under class) fits))
   | inr g ↦ g
 ]
 
@@ -79,17 +80,17 @@ undivided x d m some h = elim (cases_lt (x / d) m) [
 divisor : (w s : ℕ) → 1 ≤ s → w + 2 + s ≡ w + 3 + (s - 1)
 divisor w s some = omega (arith, some)
 
-module _ (len : ℕ) (class : want len ≤ 2 ^ 20) where
-  some_words : 1 ≤ sure 4 (want len)
-  some_words = omega (arith, sure_enough 4 level_4 (want len) class)
+module _ (sli : ℕ) (level : IsLevel sli) (len : ℕ) (class : want len ≤ most_words sli) where
+  some_sure : 1 ≤ sure sli (want len)
+  some_sure = omega (arith, sure_enough sli level (want len) class)
 
-  pub most_reached : pool_words 4 ((1048576 + want len + 2) / (want len + 2 + sure 4 (want len))) len ≤ 2 ^ 20
+  pub most_reached : pool_words sli ((most_words sli + want len + 2) / (want len + 2 + sure sli (want len))) len ≤ most_words sli
   most_reached =
-      rw (divisor (want len) (sure 4 (want len)) some_words)
-      (reached_by ((1048576 + want len + 2) / (want len + 3 + (sure 4 (want len) - 1))) (want len) (sure 4 (want len) - 1) (2 ^ 20)
-      (divided (1048576 + want len + 2) (want len + 3 + (sure 4 (want len) - 1)) (omega arith)) (omega arith))
+      rw (divisor (want len) (sure sli (want len)) some_sure)
+      (reached_by ((most_words sli + want len + 2) / (want len + 3 + (sure sli (want len) - 1))) (want len) (sure sli (want len) - 1) (most_words sli)
+      (divided (most_words sli + want len + 2) (want len + 3 + (sure sli (want len) - 1)) (omega arith)) (omega (arith, some_words sli level)))
 
-  pub most_passed : (most : ℕ) → pool_words 4 most len ≤ 2 ^ 20 → most ≤ (1048576 + want len + 2) / (want len + 2 + sure 4 (want len))
+  pub most_passed : (most : ℕ) → pool_words sli most len ≤ most_words sli → most ≤ (most_words sli + want len + 2) / (want len + 2 + sure sli (want len))
   most_passed most fits =
-      rw (divisor (want len) (sure 4 (want len)) some_words)
-      (undivided (1048576 + want len + 2) (want len + 3 + (sure 4 (want len) - 1)) most (omega arith) (passed_by most (want len) (sure 4 (want len) - 1) (2 ^ 20) fits))
+      rw (divisor (want len) (sure sli (want len)) some_sure)
+      (undivided (most_words sli + want len + 2) (want len + 3 + (sure sli (want len) - 1)) most (omega arith) (passed_by most (want len) (sure sli (want len) - 1) (most_words sli) fits))

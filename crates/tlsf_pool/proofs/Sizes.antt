@@ -2,28 +2,84 @@
 use Rattle.std.proofs.Common.{◌≡◌, ℕ, zero, suc, ◌+◌, ◌*◌, ◌^◌, ◌<◌, ◌≤◌, List, [], ◌∷◌, length, get_or, refl, arith}
 use Rattle.std.specs.List.{AllByRecursion}
 use Rattle.std.proofs.Math.Nat.{mul-le-mul}
-use Rattle.tlsf_class.specs.Classes.{low, classes, search_of}
+use Rattle.tlsf_class.specs.Classes.{IsLevel, most_words, low, classes, search_of}
+use Rattle.tlsf_class.proofs.TwoLevels.{by_level}
+use Rattle.tlsf_heap.specs.Blocks.{want}
+use Rattle.tlsf_heap.specs.Lawful.{IsRegion}
 use Rattle.tlsf_laws.specs.Room.{sure}
 use Rattle.tlsf_laws.specs.Kinds.{HasClass}
+use Rattle.tlsf_laws.specs.Pools.{pool_words}
 use Rattle.tlsf_laws.specs.declared.kind.Kind.{Kind}
 use Rattle.tlsf_laws.proofs.FreeRoom.{sure_rises}
-use Rattle.tlsf_class.proofs.TwoLevels.{level_4}
+use Rattle.tlsf_pool.specs.Pools.{HasRegion, most_kinds}
 
-last_sure : sure 4 (2 ^ 20) ≡ 2 ^ 20
+last_4 : sure 4 (2 ^ 20) ≡ 2 ^ 20
 unfolding low classes search_of
-last_sure = refl
+last_4 = refl
 
-pub sure_most : (n : ℕ) → n ≤ 2 ^ 20 → sure 4 n ≤ 2 ^ 20
-sure_most n region = omega (arith, sure_rises 4 level_4 n (2 ^ 20) region (omega arith), last_sure)
+last_5 : sure 5 (2 ^ 24) ≡ 2 ^ 24
+unfolding low classes search_of
+last_5 = refl
 
-pub class_at : (kinds : List Kind) (i : ℕ) (kind : Kind) → AllByRecursion (HasClass 4) kinds → i < length kinds → HasClass 4 (get_or kinds i kind)
-class_at [] i kind all within = absurd (omega (arith, within))
-class_at (k ∷ kinds) zero kind all within = all.0
-class_at (k ∷ kinds) (suc i) kind all within = class_at kinds i kind all.1 (omega arith)
+last_sure : (sli : ℕ) → IsLevel sli → sure sli (most_words sli) ≡ most_words sli
+last_sure = by_level (λ sli. sure sli (most_words sli) ≡ most_words sli) last_4 last_5
+
+same : (a : ℕ) → a ≤ a
+same a = omega arith
+
+pub sure_most : (sli : ℕ) → IsLevel sli → (n : ℕ) → n ≤ most_words sli → sure sli n ≤ most_words sli
+sure_most sli level n region = omega (arith, sure_rises sli level n (most_words sli) region (same (most_words sli)), last_sure sli level)
+
+pub class_at : (sli : ℕ) (kinds : List Kind) (i : ℕ) (kind : Kind) → AllByRecursion (HasClass sli) kinds → i < length kinds → HasClass sli (get_or kinds i kind)
+class_at sli [] i kind all within = absurd (omega (arith, within))
+class_at sli (k ∷ kinds) zero kind all within = all.0
+class_at sli (k ∷ kinds) (suc i) kind all within = class_at sli kinds i kind all.1 (omega arith)
 
 products : (a b c d : ℕ) → a ≤ b → c ≤ d → a * c ≤ b * d
 products a b c d f g = mul-le-mul f g
 
--- the words of one kind
-pub kind_small : (most wanted : ℕ) → most < 2 ^ 32 → wanted ≤ 2 ^ 20 → most * (wanted + 3) ≤ 2 ^ 53
-kind_small most wanted few region = omega (arith, products most (2 ^ 32) (wanted + 3) (2 ^ 20 + 3) (omega arith) (omega arith))
+trans : (a b c : ℕ) → a ≤ b → b ≤ c → a ≤ c
+trans a b c f g = omega (arith, f, g)
+
+-- the words of one kind, at most
+abbrev pub kind_limit : ℕ → ℕ
+kind_limit sli = 2 ^ 32 * (most_words sli + 3)
+
+pub kind_small : (sli most wanted : ℕ) → most < 2 ^ 32 → wanted ≤ most_words sli → most * (wanted + 3) ≤ kind_limit sli
+kind_small sli most wanted few region = products most (2 ^ 32) (wanted + 3) (most_words sli + 3) (omega arith) (omega (arith, region))
+
+-- those of one kind more
+one_more : (a b i k : ℕ) → a ≤ i * k → b ≤ k → a + b ≤ (i + 1) * k
+one_more a b i k f g = omega (arith, f, g)
+
+-- how many kinds a table may have, and their words
+pub few_kinds : (sli : ℕ) → IsLevel sli → (1 ≤ most_kinds sli) × (most_kinds sli ≤ 1024)
+few_kinds = by_level (λ sli. (1 ≤ most_kinds sli) × (most_kinds sli ≤ 1024)) (omega arith, omega arith) (omega arith, omega arith)
+
+pub all_kinds : (sli : ℕ) → IsLevel sli → (n : ℕ) → n ≤ most_kinds sli → n * kind_limit sli ≤ 2 ^ 63
+all_kinds = by_level (λ sli. (n : ℕ) → n ≤ most_kinds sli → n * kind_limit sli ≤ 2 ^ 63) (λ n few. omega arith) (λ n few. omega arith)
+
+pub more_words : (sli a b i : ℕ) → a ≤ i * kind_limit sli → b ≤ kind_limit sli → a + b ≤ (i + 1) * kind_limit sli
+more_words sli a b i f g = one_more a b i (kind_limit sli) f g
+
+pub words_small : (sli : ℕ) → IsLevel sli → (a i : ℕ) → a ≤ i * kind_limit sli → i ≤ most_kinds sli → a ≤ 2 ^ 63
+words_small sli level a i f few = trans a (i * kind_limit sli) (2 ^ 63) f (all_kinds sli level i few)
+
+-- what is lost beside the blocks that are held
+lost_limit : (sli : ℕ) → IsLevel sli → most_kinds sli * 2 ^ 32 * most_words sli ≤ 2 ^ 62
+lost_limit = by_level (λ sli. most_kinds sli * 2 ^ 32 * most_words sli ≤ 2 ^ 62) (omega arith) (omega arith)
+
+pub lost_small : (sli : ℕ) → IsLevel sli → (count lost : ℕ) → count ≤ most_kinds sli * 2 ^ 32 → lost ≤ most_words sli → count * lost ≤ 2 ^ 62
+lost_small sli level count lost f g = trans (count * lost) (most_kinds sli * 2 ^ 32 * most_words sli) (2 ^ 62) (products count (most_kinds sli * 2 ^ 32) lost (most_words sli) f g) (lost_limit sli level)
+
+-- the largest region has words
+pub some_words : (sli : ℕ) → IsLevel sli → 4 ≤ most_words sli
+some_words = by_level (λ sli. 4 ≤ most_words sli) (omega arith) (omega arith)
+
+-- where a class has blocks for the longest request, a region has the words of a pool just where there is one for it
+pub region_words : (sli most longest words : ℕ) → words ≡ pool_words sli most longest → want longest ≤ most_words sli
+    → (IsRegion sli words → HasRegion sli most longest) × (HasRegion sli most longest → IsRegion sli words)
+region_words sli most longest words same class = (
+  λ region. (class, (omega (arith, same, region.0), omega (arith, same, region.1))),
+  λ has. (omega (arith, same, has.1.0), omega (arith, same, has.1.1)),
+)

@@ -1,6 +1,7 @@
 -- A pool: a heap of which a program holds at most so many blocks, of at most so many bytes each.
-use Rattle.std.specs.Prelude.{◌≡◌, ℕ, ◌+◌, ◌≤◌, ◌^◌}
+use Rattle.std.specs.Prelude.{◌≡◌, ℕ, ◌+◌, ◌≤◌, ◌==◌, if◌then◌else◌}
 use Rattle.std.specs.List.{AllByRecursion}
+use Rattle.tlsf_class.specs.Classes.{IsLevel, most_words}
 use Rattle.tlsf_heap.specs.Blocks.{HeapState, want}
 use Rattle.tlsf_heap.specs.Lawful.{IsLawful, IsRegion}
 use Rattle.tlsf_laws.specs.Room.{live_count}
@@ -16,15 +17,16 @@ pub record PoolState : Type 0 where
   pub touches : ℕ
 
 -- some class has blocks for a request of the longest length, and a region may have the words of the pool
-abbrev pub HasRegion : ℕ → ℕ → Type 0
-HasRegion most longest = (want longest ≤ 2 ^ 20) × IsRegion 4 (pool_words 4 most longest)
+abbrev pub HasRegion : ℕ → ℕ → ℕ → Type 0
+HasRegion sli most longest = (want longest ≤ most_words sli) × IsRegion sli (pool_words sli most longest)
 
--- the heap is lawful and has the words of the pool; as many blocks are live as are held, no more than may be, and none is longer
+-- the heap has a level, is lawful and has the words of the pool; as many blocks are live as are held, no more than may be, and none is longer
 -- than the longest request wants and three words more
-pub record IsPool (p : PoolState) : Type 0 where
+pub record IsPool (sli : ℕ) (p : PoolState) : Type 0 where
+  pub level : IsLevel sli
   pub lawful : IsLawful p.heap
-  pub words : p.heap.words ≡ pool_words 4 p.most p.longest
-  pub class : want p.longest ≤ 2 ^ 20
+  pub words : p.heap.words ≡ pool_words sli p.most p.longest
+  pub class : want p.longest ≤ most_words sli
   pub live : live_count p.heap ≡ p.held
   pub few : p.held ≤ p.most
   pub small : AllByRecursion (IsSmall (want p.longest + 3)) p.heap.blocks
@@ -40,3 +42,7 @@ pub record SamePool (old new : PoolState) : Type 0 where
   pub most : new.most ≡ old.most
   pub longest : new.longest ≡ old.longest
   pub held : new.held ≡ old.held
+
+-- the most kinds of a table whose words have a number of 64 bits, however many blocks of each there are
+abbrev pub most_kinds : ℕ → ℕ
+most_kinds sli = if sli == 4 then 1024 else 64

@@ -6,7 +6,7 @@
 //! its last value. No other refusal is left: `NoFit` is no answer that it has.
 //!
 //! ```text
-//! let mut pool = Pool::open(alloc, 0, 100, 512, 0)?;    // 100 blocks of up to 512 bytes: 13,631 words
+//! let mut pool = Pool::<4>::open(alloc, 0, 100, 512, 0)?;    // 100 blocks of up to 512 bytes: 13,631 words
 //! let name = pool.allocate(512)?;
 //! ```
 //!
@@ -24,5 +24,5 @@ pub use greatest::{longest_request, most_blocks};
 pub use pool::Pool;
 pub use pool_refusal::PoolRefusal;
 pub use region::pool_region;
-pub use sizing::{LONGEST, kinds_words};
+pub use sizing::{LONGEST, kinds_words, most_bytes};
 pub use tlsf_laws::Kind;

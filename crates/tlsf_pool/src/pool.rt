@@ -1,49 +1,52 @@
 ghost use Rattle.std.specs.Prelude.{◌≡◌, ◌≢◌, ◌+◌, ◌-◌, ◌*◌, ◌/◌, ◌<◌, ◌≤◌, ◌↔◌, Err, length, IfOk, OnOk, OnErr, IsOk, IsErrOf};
 ghost use Rattle.std.specs.Result.{result_unwrap_or};
+ghost use Rattle.tlsf_class.specs.Classes.{IsLevel};
 ghost use Rattle.tlsf_heap.specs.Blocks.{want};
 ghost use Rattle.tlsf_heap.specs.Calls.{opened, allocated, released, written, read_of, read_answer, last_tick};
 ghost use Rattle.tlsf_laws.specs.Pools.{pool_words};
 ghost use Rattle.tlsf_pool.specs.Pools.{HasRegion, IsPool, SameBounds, SamePool};
 
 use crate::pool_refusal::PoolRefusal;
-use crate::sizing::{LONGEST, kinds_words};
+use crate::sizing::{kinds_words, most_bytes};
 use std::alloc::Global;
 use std::marker::Model;
-use tlsf_heap::{Heap, MOST_WORDS, Name, OpenFault, Refusal};
+use tlsf_class::most_words;
+use tlsf_heap::{Heap, Name, OpenFault, Refusal};
 use tlsf_laws::Kind;
 
 /// A heap that never refuses for want of room: it is opened by the most blocks that are held at once and the longest request.
+/// Its level is that of its heap, 4 or 5.
 ///
 /// Contracts see it as its heap, the two bounds, how many blocks are held, and the heap's touches. Places and sizes are in
 /// words of 8 bytes, lengths in bytes.
 #[derive(Drop)]
-pub struct Pool {
-    heap: Heap<4>,
+pub struct Pool<const SLI: u32> {
+    heap: Heap<SLI>,
     most: u32,
     longest: u32,
     held: u32,
 }
 
-impl Model for Pool {
+impl<const SLI: u32> Model for Pool<SLI> {
     ghost use Rattle.tlsf_pool.specs.Pools.{IsPool, PoolState};
 
     ghost Value = { PoolState };
 
     ghost view = { λ p. record { heap = p.heap.heap; most = p.most; longest = p.longest; held = p.held; touches = p.heap.touches } };
 
-    ghost invariant = { λ p. IsPool (record { heap = p.heap.heap; most = p.most; longest = p.longest; held = p.held; touches = p.heap.touches }) };
+    ghost invariant = { λ p. IsPool SLI (record { heap = p.heap.heap; most = p.most; longest = p.longest; held = p.held; touches = p.heap.touches }) };
 }
 
-impl Pool {
+impl<const SLI: u32> Pool<SLI> {
     /// Opens a pool of number `id` for at most `most` blocks at once, of at most `longest` bytes each. Its region has
     /// `pool_words most longest` words, and it is one free block, stamped with the tick `first`.
     ///
-    /// Refused as `BadSize` where no region has so many words (4 to 2^20), else as `Worn` where `first` is the last tick,
+    /// Refused as `BadSize` where no region has so many words (4 to 2^20, or to 2^24 at level 5), else as `Worn` where `first` is the last tick,
     /// 2^64 - 1, else as `NoMemory` where the memory was not granted. No later call takes memory.
     ///
     /// ```text
-    /// let pool = Pool::open(alloc, 0, 100, 512, 0)?;                  // 13,631 words
-    /// Pool::open(alloc, 0, 100_000, 512, 0).err() == Some(OpenFault::BadSize)
+    /// let pool = Pool::<4>::open(alloc, 0, 100, 512, 0)?;                  // 13,631 words
+    /// Pool::<4>::open(alloc, 0, 100_000, 512, 0).err() == Some(OpenFault::BadSize)
     /// ```
     pub fn open(
         alloc: Global,
@@ -51,22 +54,23 @@ impl Pool {
         most: u32,
         longest: u32,
         first: u64,
-    ) -> Result<Pool, OpenFault>
-        ensures heap { IfOk result (λ pool. pool.heap ≡ opened id (pool_words 4 most longest) first) }
+    ) -> Result<Pool<SLI>, OpenFault>
+        requires { IsLevel SLI }
+        ensures heap { IfOk result (λ pool. pool.heap ≡ opened id (pool_words SLI most longest) first) }
         ensures most { IfOk result (λ pool. pool.most ≡ most) }
         ensures longest { IfOk result (λ pool. pool.longest ≡ longest) }
         ensures none { IfOk result (λ pool. pool.held ≡ 0) }
 
         // The refusals, in their order. Memory is refused only where no other refusal comes.
-        ensures bad_size { IsErrOf result OpenFault.BadSize ↔ ¬ (HasRegion most longest) }
-        ensures worn { HasRegion most longest → (IsErrOf result OpenFault.Worn ↔ (first ≡ last_tick)) }
+        ensures bad_size { IsErrOf result OpenFault.BadSize ↔ ¬ (HasRegion SLI most longest) }
+        ensures worn { HasRegion SLI most longest → (IsErrOf result OpenFault.Worn ↔ (first ≡ last_tick)) }
         ensures touches { IfOk result (λ pool. pool.touches ≤ 10) }
     {
-        if longest > LONGEST {
+        if longest > most_bytes::<SLI>() {
             return Err(OpenFault::BadSize);
         }
-        let words = kinds_words(&[Kind { most, len: longest }]);
-        if words > u64::from(MOST_WORDS) {
+        let words = kinds_words::<SLI>(&[Kind { most, len: longest }]);
+        if words > u64::from(most_words::<SLI>()) {
             return Err(OpenFault::BadSize);
         }
         let heap = Heap::open(alloc, id, words as u32, first)?;
@@ -84,7 +88,7 @@ impl Pool {
     /// its last value. Else it is refused as `TooLong`, `Full` or `Worn`, in this order. Takes no memory.
     ///
     /// ```text
-    /// let mut pool = Pool::open(alloc, 0, 1, 8, 0)?;          // one block of up to 8 bytes
+    /// let mut pool = Pool::<4>::open(alloc, 0, 1, 8, 0)?;          // one block of up to 8 bytes
     /// let name = pool.allocate(8)?;
     /// pool.allocate(8) == Err(PoolRefusal::Full)
     /// pool.allocate(9) == Err(PoolRefusal::TooLong)
@@ -95,16 +99,16 @@ impl Pool {
         // The refusals, in their order: there is none for want of room, since the heap has none.
         ensures too_long { IsErrOf result PoolRefusal.TooLong ↔ (self.old.longest < len) }
         ensures full { IsErrOf result PoolRefusal.Full ↔ ((len ≤ self.old.longest) × (self.old.held ≡ self.old.most)) }
-        ensures room { len ≤ self.old.longest → self.old.held < self.old.most → (allocated 4 self.old.heap len).answer ≢ Err Refusal.NoFit }
+        ensures room { len ≤ self.old.longest → self.old.held < self.old.most → (allocated SLI self.old.heap len).answer ≢ Err Refusal.NoFit }
 
         // An accepted request is the heap's, and one block more is held. A refusal changes nothing.
-        ensures answer { IfOk result (λ name. (allocated 4 self.old.heap len).answer ≡ Ok name) }
-        ensures heap { OnOk result (self.new.heap ≡ (allocated 4 self.old.heap len).heap) }
+        ensures answer { IfOk result (λ name. (allocated SLI self.old.heap len).answer ≡ Ok name) }
+        ensures heap { OnOk result (self.new.heap ≡ (allocated SLI self.old.heap len).heap) }
         ensures held { OnOk result (self.new.held ≡ self.old.held + 1) }
         ensures err { OnErr result (SamePool self.old self.new) }
         ensures bounds { SameBounds self.old self.new }
-        ensures was_pool { IsPool self.old }
-        ensures pool { IsPool self.new }
+        ensures was_pool { IsPool SLI self.old }
+        ensures pool { IsPool SLI self.new }
 
         // At most 64 touches, and one for each payload word of the block given: no more than the longest request wants.
         ensures touches { self.new.touches ≤ self.old.touches + 64 + want self.old.longest }
@@ -145,8 +149,8 @@ impl Pool {
         ensures held { OnOk result (self.new.held + 1 ≡ self.old.held) }
         ensures err { OnErr result (SamePool self.old self.new) }
         ensures bounds { SameBounds self.old self.new }
-        ensures was_pool { IsPool self.old }
-        ensures pool { IsPool self.new }
+        ensures was_pool { IsPool SLI self.old }
+        ensures pool { IsPool SLI self.new }
         ensures touches { self.new.touches ≤ self.old.touches + 64 }
         ensures touches_rise { self.old.touches ≤ self.new.touches }
     {
@@ -173,8 +177,8 @@ impl Pool {
         // A refusal changes nothing.
         ensures err { OnErr result (SamePool self.old self.new) }
         ensures bounds { SameBounds self.old self.new }
-        ensures was_pool { IsPool self.old }
-        ensures pool { IsPool self.new }
+        ensures was_pool { IsPool SLI self.old }
+        ensures pool { IsPool SLI self.new }
         ensures touches { self.new.touches ≤ self.old.touches + 4 + 2 * (length bytes.now / 8 + 2) }
         ensures touches_rise { self.old.touches ≤ self.new.touches }
     {
@@ -194,7 +198,7 @@ impl Pool {
         ensures answer { result ≡ read_answer (read_of self.old.heap name at (length out.old)) }
         ensures bytes { out.new ≡ result_unwrap_or (read_of self.old.heap name at (length out.old)) out.old }
         ensures same { SamePool self.old self.new }
-        ensures was_pool { IsPool self.old }
+        ensures was_pool { IsPool SLI self.old }
         ensures touches { self.new.touches ≤ self.old.touches + 4 + (length out.old / 8 + 2) }
         ensures touches_rise { self.old.touches ≤ self.new.touches }
     {
@@ -212,7 +216,7 @@ impl Pool {
 
         // No more than may be.
         ensures few { result ≤ self.now.most }
-        ensures pool { IsPool self.now }
+        ensures pool { IsPool SLI self.now }
     {
         self.held
     }

@@ -3,17 +3,33 @@ ghost use Rattle.std.specs.List.{AllByRecursion};
 ghost use Rattle.tlsf_heap.specs.Blocks;
 ghost use Rattle.tlsf_laws.specs.Room;
 ghost use Rattle.tlsf_laws.specs.Kinds;
+ghost use Rattle.tlsf_class.specs.Classes.{IsLevel, most_words};
 ghost use Rattle.tlsf_laws.specs.Kinds.{count_in, table_words, HasClass};
+ghost use Rattle.tlsf_pool.specs.Pools.{most_kinds};
 
-use tlsf_class::{low, search_of};
+use tlsf_class::{low, most_words, search_of};
 use tlsf_laws::Kind;
 
-/// The most bytes that a request may have so that some region serves it: 8,388,584, which want 2^20 words.
+/// The most bytes that a request may have so that some region of level 4 serves it: 8,388,584, which want 2^20 words.
+/// [`most_bytes`] answers it for each level.
 ///
 /// ```
 /// let kind = Kind { most: 1, len: LONGEST };
 /// ```
 pub const LONGEST: u32 = 8_388_584;
+
+/// The most bytes that a request may have so that some region serves it: 8,388,584 at level 4, which want 2^20 words, and
+/// 134,217,704 at level 5, which want 2^24.
+///
+/// ```
+/// let kind = Kind { most: 1, len: most_bytes::<5>() };
+/// ```
+pub fn most_bytes<const SLI: u32>() -> u32
+    requires { IsLevel SLI }
+    ensures { result ≡ 8 * (most_words SLI - 3) }
+{
+    8 * (most_words::<SLI>() - 3)
+}
 
 /// The words wanted for a request of `len` bytes.
 pub(crate) fn want(len: u32) -> u32
@@ -23,14 +39,15 @@ pub(crate) fn want(len: u32) -> u32
 }
 
 /// The least size from which each free block serves a request of so many words.
-pub(crate) fn sure(words: u32) -> u32
+pub(crate) fn sure<const SLI: u32>(words: u32) -> u32
+    requires level { IsLevel SLI }
     requires least { 4 ≤ words }
-    requires most { words ≤ 2 ^ 20 }
-    ensures value { result ≡ Room.sure 4 words }
+    requires most { words ≤ most_words SLI }
+    ensures value { result ≡ Room.sure SLI words }
     ensures least { words ≤ result }
-    ensures most { result ≤ 2 ^ 20 }
+    ensures most { result ≤ most_words SLI }
 {
-    low(search_of::<4>(words))
+    low(search_of::<SLI>(words))
 }
 
 /// How many blocks a table of kinds has, and the words that they take, at most.
@@ -41,12 +58,13 @@ struct Totals {
 }
 
 /// The totals of a table of kinds.
-fn totals_of(kinds: &[Kind]) -> Totals
-    requires classes { AllByRecursion (HasClass 4) kinds.now }
-    requires few { length kinds.now ≤ 1024 }
+fn totals_of<const SLI: u32>(kinds: &[Kind]) -> Totals
+    requires level { IsLevel SLI }
+    requires classes { AllByRecursion (HasClass SLI) kinds.now }
+    requires few { length kinds.now ≤ most_kinds SLI }
     ensures count { result.count ≡ count_in kinds.now }
     ensures words { result.words ≡ table_words kinds.now }
-    ensures small_count { result.count ≤ 2 ^ 42 }
+    ensures small_count { result.count ≤ most_kinds SLI * 2 ^ 32 }
     ensures small_words { result.words ≤ 2 ^ 63 }
 {
     let mut count = 0;
@@ -60,33 +78,36 @@ fn totals_of(kinds: &[Kind]) -> Totals
 }
 
 /// The words with which a request of this kind finds room, where all others of the table are held.
-fn words_beside(totals: Totals, kind: Kind) -> u64
-    requires class { Blocks.want kind.len ≤ 2 ^ 20 }
-    requires small_count { totals.count ≤ 2 ^ 42 }
+fn words_beside<const SLI: u32>(totals: Totals, kind: Kind) -> u64
+    requires level { IsLevel SLI }
+    requires class { HasClass SLI kind }
+    requires small_count { totals.count ≤ most_kinds SLI * 2 ^ 32 }
     requires small_words { totals.words ≤ 2 ^ 63 }
-    ensures { result ≡ totals.words - (Blocks.want kind.len + 3) + totals.count * (Room.sure 4 (Blocks.want kind.len) - 1) + 1 }
+    ensures { result ≡ totals.words - (Blocks.want kind.len + 3) + totals.count * (Room.sure SLI (Blocks.want kind.len) - 1) + 1 }
 {
     let wanted = want(kind.len);
-    let lost = u64::from(sure(wanted) - 1);
+    let lost = u64::from(sure::<SLI>(wanted) - 1);
     totals.words.saturating_sub(u64::from(wanted + 3)) + totals.count * lost + 1
 }
 
 /// The words of a region in which no request of these kinds is ever refused for want of room, by
-/// [`kinds_suffice`](tlsf_laws::kinds_suffice): at most so many blocks of each kind held at once, 1,024 kinds at most, none
-/// longer than [`LONGEST`]. No region has more than 2^20 words, so there is one where the answer is at most that.
+/// [`kinds_suffice`](tlsf_laws::kinds_suffice): at most so many blocks of each kind held at once, 1,024 kinds at most or
+/// 64 at level 5, none longer than [`most_bytes`]. No region has more than 2^20 words, or 2^24 at level 5, so there is one where
+/// the answer is at most that.
 ///
 /// ```
-/// let words = kinds_words(&[Kind { most: 100, len: 512 }]);   // 13,631
+/// let words = kinds_words::<4>(&[Kind { most: 100, len: 512 }]);   // 13,631
 /// ```
-pub fn kinds_words(kinds: &[Kind]) -> u64
-    requires classes { AllByRecursion (HasClass 4) kinds.now }
-    requires few { length kinds.now ≤ 1024 }
-    ensures { result ≡ Kinds.kinds_words 4 kinds.now }
+pub fn kinds_words<const SLI: u32>(kinds: &[Kind]) -> u64
+    requires level { IsLevel SLI }
+    requires classes { AllByRecursion (HasClass SLI) kinds.now }
+    requires few { length kinds.now ≤ most_kinds SLI }
+    ensures { result ≡ Kinds.kinds_words SLI kinds.now }
 {
-    let totals = totals_of(kinds);
+    let totals = totals_of::<SLI>(kinds);
     let mut words = 0;
     for kind in kinds {
-        words = words.max(words_beside(totals, *kind));
+        words = words.max(words_beside::<SLI>(totals, *kind));
     }
     words
 }

@@ -3,10 +3,13 @@
 use std::test::Fail;
 use tlsf_fixtures::{name, same};
 use tlsf_heap::{Name, OpenFault, Refusal};
-use tlsf_pool::{Kind, LONGEST, Pool, PoolRefusal, kinds_words, longest_request, most_blocks};
+use tlsf_pool::{
+    Kind, LONGEST, Pool, PoolRefusal, kinds_words, longest_request, most_blocks, most_bytes,
+    pool_region,
+};
 
 /// What the last two of the first eight bytes of a block are, once they were written.
-fn two_bytes(pool: &mut Pool, block: Name) -> Result<[u8; 2], Refusal> {
+fn two_bytes(pool: &mut Pool<4>, block: Name) -> Result<[u8; 2], Refusal> {
     let mut out = [0; 2];
     pool.write(block, 6, &[0x48, 0x69])?;
     pool.read(block, 6, &mut out)?;
@@ -15,7 +18,7 @@ fn two_bytes(pool: &mut Pool, block: Name) -> Result<[u8; 2], Refusal> {
 
 #[test]
 fn pool_is_filled_and_emptied(rt: HostRuntime) -> Result<(), Fail> {
-    let mut pool = Pool::open(rt.alloc(), 3, 2, 8, 0)?;
+    let mut pool = Pool::<4>::open(rt.alloc(), 3, 2, 8, 0)?;
     let first = name(3, 0, 1);
     for (len, wanted) in [
         (8, Ok(first)),
@@ -42,7 +45,7 @@ fn pools_open_by_their_words(rt: HostRuntime) -> Result<(), Fail> {
         (7655, 512, Some(OpenFault::BadSize)),
         (7654, 512, None),
     ] {
-        let found = Pool::open(rt.alloc(), 0, most, longest, 0).err();
+        let found = Pool::<4>::open(rt.alloc(), 0, most, longest, 0).err();
         same((most, longest, found), (most, longest, wanted)).expect(&rt, "differ");
     }
     Ok(())
@@ -57,22 +60,35 @@ fn words_of_tables(rt: HostRuntime) {
     let small = Kind { most: 100, len: 64 };
     let large = Kind { most: 4, len: 4096 };
     let found = [
-        kinds_words(&[]),
-        kinds_words(&[hundred]),
-        kinds_words(&[small, large]),
-        kinds_words(&[large, small]),
+        kinds_words::<4>(&[]),
+        kinds_words::<4>(&[hundred]),
+        kinds_words::<4>(&[small, large]),
+        kinds_words::<4>(&[large, small]),
     ];
     same(found, [0, 13_631, 59_427, 59_427]).expect(&rt, "differ");
 }
 
 #[test]
 fn how_far_the_greatest_region_goes(rt: HostRuntime) {
-    let blocks = [most_blocks(512), most_blocks(LONGEST)];
+    let blocks = [most_blocks::<4>(512), most_blocks::<4>(LONGEST)];
     same(blocks, [7654, 1]).expect(&rt, "differ");
     let lengths = [
-        longest_request(1),
-        longest_request(100),
-        longest_request(u32::MAX),
+        longest_request::<4>(1),
+        longest_request::<4>(100),
+        longest_request::<4>(u32::MAX),
     ];
     same(lengths, [Some(LONGEST), Some(41_248), None]).expect(&rt, "differ");
+}
+
+// A request of 480 bytes wants 63 words, which have a class of their own at level 5: at level 4 the least region has one word more.
+#[test]
+fn pool_of_one_block_at_level_5(rt: HostRuntime) -> Result<(), Fail> {
+    let regions = [pool_region::<4>(1, 480), pool_region::<5>(1, 480)];
+    same(regions, [Some(64), Some(63)]).expect(&rt, "differ");
+    let mut pool = Pool::<5>::open(rt.alloc(), 0, 1, 480, 0)?;
+    same(pool.allocate(480), Ok(name(0, 0, 1))).expect(&rt, "differ");
+    let lengths = [most_bytes::<4>(), most_bytes::<5>()];
+    same(lengths, [LONGEST, 134_217_704]).expect(&rt, "differ");
+    same(longest_request::<5>(1), Some(134_217_704)).expect(&rt, "differ");
+    Ok(())
 }

@@ -3,4 +3,4 @@ use Rattle.tlsf_laws.specs.Kinds.{words_with, kinds_words}
 use Rattle.tlsf_pool.proofs.sizing.kinds_words.Given as goal
 
 abbrev pub invariant-loop-kind : goal.invariant-loop-kind
-invariant-loop-kind l = fold max l.words (map (words_with 4 l.kinds) (drop l.kind-index l.kinds)) ≡ kinds_words 4 l.kinds
+invariant-loop-kind g l = fold max l.words (map (words_with g.row.SLI l.kinds) (drop l.kind-index l.kinds)) ≡ kinds_words g.row.SLI l.kinds

@@ -6,23 +6,23 @@ use Rattle.tlsf_pool.proofs.Kept.{given_pool, given_small, room, worn}
 use Rattle.tlsf_pool.proofs.pool.Pool.allocate.Goals as goal
 
 pub invariant_of-self : goal.invariant_of-self
-invariant_of-self c = given_pool _ c.args.len c.in-Ok.name _ _ c.self.invariant c.if-len-self.false c.if-self.false c.in-Ok.ensures.answer c.in-Ok.ensures.heap
+invariant_of-self g c = given_pool g.row.SLI _ c.args.len c.in-Ok.name _ _ c.self.invariant c.if-len-self.false c.if-self.false c.in-Ok.ensures.answer c.in-Ok.ensures.heap
 
 pub returns-in-Ok-clause-pool : goal.returns-in-Ok-clause-pool
-returns-in-Ok-clause-pool c = given_pool _ c.args.len c.in-Ok.name _ _ c.self.invariant c.if-len-self.false c.if-self.false c.in-Ok.ensures.answer c.in-Ok.ensures.heap
+returns-in-Ok-clause-pool g c = given_pool g.row.SLI _ c.args.len c.in-Ok.name _ _ c.self.invariant c.if-len-self.false c.if-self.false c.in-Ok.ensures.answer c.in-Ok.ensures.heap
 
 pub returns-in-Ok-clause-touches : goal.returns-in-Ok-clause-touches
-returns-in-Ok-clause-touches c =
-    let left = given_pool _ c.args.len c.in-Ok.name c.allocate.new.self.heap 0 c.self.invariant c.if-len-self.false c.if-self.false c.in-Ok.ensures.answer c.in-Ok.ensures.heap in
-    let given = given_small (want c.self.inside.longest) c.in-Ok.name c.allocate.new.self.heap left.small in
+returns-in-Ok-clause-touches g c =
+    let left = given_pool g.row.SLI _ c.args.len c.in-Ok.name c.allocate.new.self.heap 0 c.self.invariant c.if-len-self.false c.if-self.false c.in-Ok.ensures.answer c.in-Ok.ensures.heap in
+    let given = given_small g.row.SLI (want c.self.inside.longest) c.in-Ok.name c.allocate.new.self.heap left.small in
     let touches = ap (λ (p : PoolState). p.touches) c.self.view_is in
     let bound = ap (λ (p : PoolState). want p.longest) c.self.view_is in
     omega (arith, given, c.in-Ok.ensures.touches, touches, bound)
 
 pub returns-in-Err-clause-ok : goal.returns-in-Err-clause-ok
-returns-in-Err-clause-ok c = (λ e. absurd (false≢true e), worn _ c.args.self.now c.args.len (sym c.self.view_is) c.self.invariant c.in-Err.ensures.ok.1)
+returns-in-Err-clause-ok g c = (λ e. absurd (false≢true e), worn g.row.SLI _ c.args.self.now c.args.len (sym c.self.view_is) c.self.invariant c.in-Err.ensures.ok.1)
 
 pub returns-in-Err-clause-room : goal.returns-in-Err-clause-room
-returns-in-Err-clause-room c =
-    let is : IsPool c.args.self.now = search rules in
-    λ short few. room c.args.self.now c.args.len is short few
+returns-in-Err-clause-room g c =
+    let is : IsPool g.row.SLI c.args.self.now = search rules in
+    λ short few. room g.row.SLI c.args.self.now c.args.len is short few
