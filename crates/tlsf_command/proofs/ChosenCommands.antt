@@ -1,27 +1,24 @@
 -- What the words ask for, by what `clap` answers of them.
-use Rattle.std.proofs.Common.{◌≡◌, ◌∙◌, ◌^◌, ℕ, Bool, false, true, true≢false, List, [], Option, Some, None, Result, Ok, codes, option_map, inl, inr, refl, sym, ap, subst, arith}
+use Rattle.std.proofs.Common.{◌≡◌, ◌∙◌, Bool, false, true, true≢false, List, [], Option, Some, None, codes, option_map, inl, inr, refl, sym, ap, subst}
 use Rattle.std.specs.Option.{option_map_or, unwrap_or}
-use Rattle.std.specs.Prelude.{option_and_then, pos}
+use Rattle.std.specs.Prelude.{option_and_then}
 use Rattle.std.specs.Str.{bytes_eq}
 use Rattle.std.proofs.lemmas.Bool.{false≢true}
-use Rattle.std.specs.Str.Parse.{ParsesUnsigned}
-use Rattle.clap.specs.Lexer.{without_minus}
-use Rattle.clap.specs.Matches.{ReadsOne, found_of, matched_of, one_text, raw_values, subcommand_name_of}
+use Rattle.clap.specs.Matches.{found_of, matched_of, one_text, raw_values, subcommand_name_of}
 use Rattle.clap.specs.Walk.{Row, Text, all_of, one_of, rows_of}
 use Rattle.clap.specs.Words.{subcommand_of, subcommand_rows_of}
-use Rattle.clap.specs.declared.builder.value_parser.ValueParser.TheVariants.{Signed}
 use Rattle.clap.specs.declared.parser.matches.ArgMatches.{ArgMatches}
-use Rattle.clap.proofs.CallerReads.{signed_reads}
-use Rattle.clap.proofs.ValueTestLemmas.{accepts-Accepts}
 use Rattle.clap.proofs.WalkLemmas.{one_text-rows, raw_values-rows}
-use Rattle.tlsf_command.specs.CommandLine.{Answers, Asks, HasFlag, IsAnswerable, LacksFlag, command_in, flag_given, name_of, number_in, texts_given, tlsf_app}
+use Rattle.tlsf_command.specs.CommandLine.{Answers, Asks, HasFlag, IsAnswerable, LacksFlag, command_in, flag_given, name_of, texts_given, tlsf_app}
+use Rattle.tlsf_command.specs.ClassQuestions.{HasClasses, IsClassQuestion}
 use Rattle.tlsf_command.specs.SizeQuestions.{IsQuestion}
+use Rattle.tlsf_command.specs.declared.class_question.ClassQuestion.{ClassQuestion}
+use Rattle.tlsf_command.specs.declared.class_question.ClassQuestion.TheVariants.{Coarse, Fine, NoClass}
 use Rattle.tlsf_command.specs.declared.size_question.SizeQuestion.{SizeQuestion}
 use Rattle.tlsf_command.specs.declared.command_line.Choice.{Choice}
 use Rattle.tlsf_command.specs.declared.command_line.Choice.TheVariants.{Replay, Held, Race, Map, MapText, Classes, Size}
 use Rattle.tlsf_command.proofs.NamedCommands.{faultless_named, subcommand_name-rows}
 use Rattle.tlsf_command.proofs.SizeTables.{has_table}
-use Rattle.tlsf_command.proofs.SizeWords.{IsSized}
 
 abbrev label : Option (Text × List Row) → Option Text
 label = option_map (λ (named : Text × List Row). named.0)
@@ -46,7 +43,7 @@ only_replay words Held is flag asks = absurd (asks.sized.0 flag)
 only_replay words Race is flag asks = absurd (other_name words Race _ asks is refl refl)
 only_replay words Map is flag asks = absurd (other_name words Map _ asks is refl refl)
 only_replay words MapText is flag asks = absurd (other_name words MapText _ asks is refl refl)
-only_replay words (Classes n) is flag asks = absurd (other_name words (Classes n) _ asks is refl refl)
+only_replay words (Classes question) is flag asks = absurd (other_name words (Classes question) _ asks is refl refl)
 only_replay words (Size question) is flag asks = absurd (other_name words (Size question) _ asks is refl refl)
 
 pub only_held : (words : List Text) (choice : Choice) → command_in words ≡ Some (codes "replay") → flag_given (codes "held") words ≡ Some (codes "true") → Asks words choice → choice ≡ Held
@@ -55,7 +52,7 @@ only_held words Held is flag asks = refl
 only_held words Race is flag asks = absurd (other_name words Race _ asks is refl refl)
 only_held words Map is flag asks = absurd (other_name words Map _ asks is refl refl)
 only_held words MapText is flag asks = absurd (other_name words MapText _ asks is refl refl)
-only_held words (Classes n) is flag asks = absurd (other_name words (Classes n) _ asks is refl refl)
+only_held words (Classes question) is flag asks = absurd (other_name words (Classes question) _ asks is refl refl)
 only_held words (Size question) is flag asks = absurd (other_name words (Size question) _ asks is refl refl)
 
 pub only_race : (words : List Text) (choice : Choice) → command_in words ≡ Some (codes "race") → Asks words choice → choice ≡ Race
@@ -64,7 +61,7 @@ only_race words Held is asks = absurd (other_name words Held _ asks is refl refl
 only_race words Race is asks = refl
 only_race words Map is asks = absurd (other_name words Map _ asks is refl refl)
 only_race words MapText is asks = absurd (other_name words MapText _ asks is refl refl)
-only_race words (Classes n) is asks = absurd (other_name words (Classes n) _ asks is refl refl)
+only_race words (Classes question) is asks = absurd (other_name words (Classes question) _ asks is refl refl)
 only_race words (Size question) is asks = absurd (other_name words (Size question) _ asks is refl refl)
 
 pub only_map : (words : List Text) (choice : Choice) → command_in words ≡ Some (codes "map") → flag_given (codes "text") words ≡ Some (codes "false") → Asks words choice → choice ≡ Map
@@ -73,7 +70,7 @@ only_map words Held is flag asks = absurd (other_name words Held _ asks is refl 
 only_map words Race is flag asks = absurd (other_name words Race _ asks is refl refl)
 only_map words Map is flag asks = refl
 only_map words MapText is flag asks = absurd (asks.sized.0 flag)
-only_map words (Classes n) is flag asks = absurd (other_name words (Classes n) _ asks is refl refl)
+only_map words (Classes question) is flag asks = absurd (other_name words (Classes question) _ asks is refl refl)
 only_map words (Size question) is flag asks = absurd (other_name words (Size question) _ asks is refl refl)
 
 pub only_map_text : (words : List Text) (choice : Choice) → command_in words ≡ Some (codes "map") → flag_given (codes "text") words ≡ Some (codes "true") → Asks words choice → choice ≡ MapText
@@ -82,7 +79,7 @@ only_map_text words Held is flag asks = absurd (other_name words Held _ asks is 
 only_map_text words Race is flag asks = absurd (other_name words Race _ asks is refl refl)
 only_map_text words Map is flag asks = absurd (asks.sized flag)
 only_map_text words MapText is flag asks = refl
-only_map_text words (Classes n) is flag asks = absurd (other_name words (Classes n) _ asks is refl refl)
+only_map_text words (Classes question) is flag asks = absurd (other_name words (Classes question) _ asks is refl refl)
 only_map_text words (Size question) is flag asks = absurd (other_name words (Size question) _ asks is refl refl)
 
 pub only_size : (words : List Text) (choice : Choice) → command_in words ≡ Some (codes "size") → Asks words choice → (question : SizeQuestion) × (choice ≡ Size question)
@@ -91,8 +88,14 @@ only_size words Held is asks = absurd (other_name words Held _ asks is refl refl
 only_size words Race is asks = absurd (other_name words Race _ asks is refl refl)
 only_size words Map is asks = absurd (other_name words Map _ asks is refl refl)
 only_size words MapText is asks = absurd (other_name words MapText _ asks is refl refl)
-only_size words (Classes n) is asks = absurd (other_name words (Classes n) _ asks is refl refl)
+only_size words (Classes question) is asks = absurd (other_name words (Classes question) _ asks is refl refl)
 only_size words (Size question) is asks = (question, refl)
+
+-- a size that is asked about has a class
+has_classes : (sizes levels : List Text) (question : ClassQuestion) → IsClassQuestion sizes levels question → HasClasses question
+has_classes sizes levels (Coarse n) is = is.2
+has_classes sizes levels (Fine n) is = is.2
+has_classes sizes levels NoClass is = tt
 
 -- what is asked for can be answered
 pub answerable : (words : List Text) (choice : Choice) → Asks words choice → IsAnswerable choice
@@ -101,7 +104,7 @@ answerable words Held asks = tt
 answerable words Race asks = tt
 answerable words Map asks = tt
 answerable words MapText asks = tt
-answerable words (Classes n) asks = (asks.sized.1, asks.sized.2)
+answerable words (Classes question) asks = has_classes (texts_given (codes "N") words) (texts_given (codes "sli") words) question asks.sized
 answerable words (Size question) asks = has_table _ _ question asks.sized
 
 -- ---- by what `clap` answers
@@ -188,22 +191,6 @@ module _ (words : List Text) (matches given : ArgMatches) (flag : Bool) (answers
   asks_map_text called clear none set =
       record { faultless = answers.0; named = sym (label_of_words words matches answers) ∙ called; sized = flag_has words matches given (codes "text") flag answers entered clear none set }
 
--- where it is `classes` its one row is that of a size
-sized_rows : (words : List Text) (matches : ArgMatches) → Answers words matches → subcommand_name_of matches ≡ Some (codes "classes")
-    → (rows : List Row) × (subcommand_of tlsf_app words ≡ Some (codes "classes", rows)) × IsSized rows
-sized_rows words matches answers called = elim (faultless_named words answers.0) [
-  | inl is ↦ absurd (other (codes "replay") (ap label is.1) refl)
-  | inr (inl is) ↦ absurd (other (codes "race") (ap label is.1) refl)
-  | inr (inr (inl is)) ↦ is
-  | inr (inr (inr (inl is))) ↦ absurd (other (codes "size") (ap label is.1) refl)
-  | inr (inr (inr (inr is))) ↦ absurd (other (codes "map") (ap label is.1) refl)
-]
-  where
-    other : (name : Text) → label (subcommand_of tlsf_app words) ≡ Some name → bytes_eq name (codes "classes") ≡ false → ⊥
-    other name is differs =
-        let one : Some name ≡ Some (codes "classes") = sym is ∙ (sym (label_of_words words matches answers) ∙ called) in
-        false≢true (sym differs ∙ ap (λ (o : Option Text). option_map_or (λ text. bytes_eq text (codes "classes")) o true) one)
-
 -- the texts that the words give under an id, by the matches of the command that was entered
 texts_entered : (words : List Text) (matches given : ArgMatches) (id : Text) → Answers words matches
     → option_map (λ (entered : Text × List Row). entered.1) (subcommand_rows_of matches) ≡ Some (rows_of (found_of given))
@@ -228,34 +215,18 @@ asks_size words matches given question answers called entered made = record {
       (texts_entered words matches given (codes "B") answers entered) made);
 }
 
--- the number that is read of the text of the size
-module _ (E : Type 0) (G : List ℕ → Result ℕ E → Type 0) (only : (text : List ℕ) (r : Result ℕ E) → G text r → ParsesUnsigned 32 10 text r) where
-  number_read : (text : Text) (n : ℕ) (r : Option ℕ) → r ≡ Some n → ReadsOne G text r → n ≡ number_in text
-  number_read text n r is reads = (only text (Ok n) (subst (λ (o : Option ℕ). ReadsOne G text o) is reads)).1
-
-  -- the size is read, and the words ask for its classes
-  pub asks_classes : (words : List Text) (matches given : ArgMatches) (r : Option ℕ) → Answers words matches
-      → subcommand_name_of matches ≡ Some (codes "classes")
-      → option_map (λ (entered : Text × List Row). entered.1) (subcommand_rows_of matches) ≡ Some (rows_of (found_of given))
-      → ((text : List ℕ) → one_text (found_of given) (codes "N") ≡ Some text → ReadsOne G text r)
-      → (n : ℕ) × (r ≡ Some n) × Asks words (Classes n)
-  asks_classes words matches given r answers called entered reads =
-      let found = sized_rows words matches answers called in
-      let text = found.2.0 in
-      let row : one_of (codes "N") found.0 ≡ Some (without_minus text) = ap (one_of (codes "N")) found.2.1 in
-      let same : found.0 ≡ rows_of (found_of given) =
-      ap (λ (rows : Option (List Row)). unwrap_or rows [])
-      (sym (ap (option_map (λ (e : Text × List Row). e.1)) (answers.1 ∙ found.1)) ∙ entered) in
-      let read = reads (without_minus text) (one_text-rows (found_of given) (codes "N") ∙ (sym (ap (one_of (codes "N")) same) ∙ row)) in
-      let number = signed_reads E G 32 4 (2 ^ 20) text r read only (omega arith)
-      (accepts-Accepts false (Signed (pos 4) (pos (2 ^ 20))) text found.2.2) in
-      let spelled = number_read (without_minus text) number.0 r number.1 read in
-      let given_text = ap (option_and_then (λ (e : Text × List Row). one_of (codes "N") e.1)) found.1 ∙ row in (
-        number.0,
-        number.1,
-        record {
-          faultless = answers.0;
-          named = ap label found.1;
-          sized = (ap (option_map number_in) given_text ∙ sym (ap (λ (n : ℕ). Some n) spelled), number.2, number.3);
-        },
-      )
+-- and where it is `classes`
+pub asks_classes : (words : List Text) (matches given : ArgMatches) (question : ClassQuestion) → Answers words matches
+    → subcommand_name_of matches ≡ Some (codes "classes")
+    → option_map (λ (entered : Text × List Row). entered.1) (subcommand_rows_of matches) ≡ Some (rows_of (found_of given))
+    → IsClassQuestion (unwrap_or (option_map raw_values (matched_of (found_of given) (codes "N"))) [])
+    (unwrap_or (option_map raw_values (matched_of (found_of given) (codes "sli"))) []) question
+    → Asks words (Classes question)
+asks_classes words matches given question answers called entered made = record {
+  faultless = answers.0;
+  named = sym (label_of_words words matches answers) ∙ called;
+  sized = subst (λ (texts : List Text). IsClassQuestion (texts_given (codes "N") words) texts question)
+      (texts_entered words matches given (codes "sli") answers entered)
+      (subst (λ (texts : List Text). IsClassQuestion texts (unwrap_or (option_map raw_values (matched_of (found_of given) (codes "sli"))) []) question)
+      (texts_entered words matches given (codes "N") answers entered) made);
+}

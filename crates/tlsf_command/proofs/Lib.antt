@@ -1,7 +1,7 @@
 -- Lemmas, a line for each file.
 pub mod ClassLines  -- the line on a size, piece by piece
 pub mod NamedCommands  -- a command line that comes to no fault names a command of the program
-pub mod SizeWords  -- the words after `classes`: where they come to no fault, they are one size
+pub mod Faultless  -- steps in a row that come to no fault
 pub mod ChosenCommands  -- what the words ask for, by what `clap` answers of them
 pub mod RunEnds  -- how a run ends, by what its words name
 pub mod Greatest  -- the most bytes for so many blocks

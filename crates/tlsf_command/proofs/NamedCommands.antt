@@ -17,7 +17,7 @@ use Rattle.clap.specs.Kinds.{FailsBy}
 use Rattle.clap.specs.declared.error.Error.{Error}
 use Rattle.clap.proofs.OnLiterals.{clap_on_literals}
 use Rattle.tlsf_command.specs.CommandLine.{command_in, faults_of, flag_given, tlsf_app}
-use Rattle.tlsf_command.proofs.SizeWords.{IsSized, nothing_first, nothing_second, size_found, steps_pass}
+use Rattle.tlsf_command.proofs.Faultless.{nothing_first, nothing_second, steps_pass}
 
 abbrev program : App
 program = built tlsf_app
@@ -147,27 +147,25 @@ walk_allowed w (word ∷ words) allowed none =
 
 -- ---- the command that was entered
 
--- the command that was entered is `replay`, `race`, `classes` with one size, `size`, or `map`
+-- the command that was entered is `replay`, `race`, `classes`, `size`, or `map`
 abbrev pub IsNamed : Option (Text × List Row) → Type 0
 IsNamed named = ((rows : List Row) × (named ≡ Some (replay_name, rows)))
     ⊎ (((rows : List Row) × (named ≡ Some (race_name, rows)))
-    ⊎ (((rows : List Row) × (named ≡ Some (classes_name, rows)) × IsSized rows)
+    ⊎ (((rows : List Row) × (named ≡ Some (classes_name, rows)))
     ⊎ (((rows : List Row) × (named ≡ Some (size_name, rows)))
     ⊎ ((rows : List Row) × (named ≡ Some (map_name, rows))))))
 
-own_entered : (stop : Text × List Text) → IsOwn stop.0 → entered_fault program (Some stop) ≡ [] → IsNamed (entered program (Some stop))
-own_entered stop (inl is) none = inl (_, ap (λ (name : Text). entered program (Some (name, stop.1))) is)
-own_entered stop (inr (inl is)) none = inr (inl (_, ap (λ (name : Text). entered program (Some (name, stop.1))) is))
-own_entered stop (inr (inr (inr (inl is)))) none = inr (inr (inr (inl (_, ap (λ (name : Text). entered program (Some (name, stop.1))) is))))
-own_entered stop (inr (inr (inr (inr is)))) none = inr (inr (inr (inr (_, ap (λ (name : Text). entered program (Some (name, stop.1))) is))))
-own_entered stop (inr (inr (inl is))) none =
-    let level = subst (λ (name : Text). entered_fault program (Some (name, stop.1)) ≡ []) is none in
-    inr (inr (inl (_, ap (λ (name : Text). entered program (Some (name, stop.1))) is, size_found stop.1 level)))
+own_entered : (stop : Text × List Text) → IsOwn stop.0 → IsNamed (entered program (Some stop))
+own_entered stop (inl is) = inl (_, ap (λ (name : Text). entered program (Some (name, stop.1))) is)
+own_entered stop (inr (inl is)) = inr (inl (_, ap (λ (name : Text). entered program (Some (name, stop.1))) is))
+own_entered stop (inr (inr (inr (inl is)))) = inr (inr (inr (inl (_, ap (λ (name : Text). entered program (Some (name, stop.1))) is))))
+own_entered stop (inr (inr (inr (inr is)))) = inr (inr (inr (inr (_, ap (λ (name : Text). entered program (Some (name, stop.1))) is))))
+own_entered stop (inr (inr (inl is))) = inr (inr (inl (_, ap (λ (name : Text). entered program (Some (name, stop.1))) is)))
 
-stop_named : (stop : Option (Text × List Text)) (rows : List Row) → StopsAllowed stop → entered_fault program stop ≡ []
+stop_named : (stop : Option (Text × List Text)) (rows : List Row) → StopsAllowed stop
     → check_fault program.top rows (is_some (entered program stop)) ≡ [] → IsNamed (entered program stop)
-stop_named None rows allowed enters none = let counted : 1 ≡ 0 = ap length none in absurd (omega (arith, counted))
-stop_named (Some stop) rows allowed enters none = own_entered stop allowed enters
+stop_named None rows allowed none = let counted : 1 ≡ 0 = ap length none in absurd (omega (arith, counted))
+stop_named (Some stop) rows allowed none = own_entered stop allowed
 
 -- one of the commands, where there is no fault
 pub faultless_named : (words : List Text) → faults_of words ≡ [] → IsNamed (subcommand_of tlsf_app words)
@@ -179,7 +177,7 @@ faultless_named words none =
     (defaults_fault (settled program.top.rules end.held).rows program.top.rules)
     (check_fault program.top (finished program.top.rules end.held) (is_some (entered program end.stopped))) none in
     stop_named end.stopped (finished program.top.rules end.held)
-    (walk_allowed (walk_from nothing_held) given tt passed.0) passed.1 passed.3
+    (walk_allowed (walk_from nothing_held) given tt passed.0) passed.3
 
 -- ---- words that are written out
 

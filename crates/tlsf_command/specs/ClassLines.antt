@@ -5,10 +5,14 @@ use Rattle.std.specs.Option.{option_map_or}
 use Rattle.tlsf_class.specs.Classes.{class_of, low, search_of}
 
 -- a class and its least size, as `92 low 448`
-abbrev pub class_text : ℕ → List ℕ
-class_text class = decimal class ++ (codes " low " ++ decimal (low 4 class))
+abbrev pub class_text : ℕ → ℕ → List ℕ
+class_text sli class = decimal class ++ (codes " low " ++ decimal (low sli class))
 
--- the class of n words and their search class, as `class 92 low 448 search 93 low 464`
-abbrev pub class_line : ℕ → List ℕ
-class_line n = codes "class " ++ (class_text (class_of 4 n)
-    ++ (codes " search " ++ (option_map_or class_text (search_of 4 n) [] ++ codes "\n")))
+-- the class of n words and their search class, as `class 92 low 448 search 93 low 464` at level 4
+abbrev pub class_line : ℕ → ℕ → List ℕ
+class_line sli n = codes "class " ++ (class_text sli (class_of sli n)
+    ++ (codes " search " ++ (option_map_or (class_text sli) (search_of sli n) [] ++ codes "\n")))
+
+-- the refusal of a size that no class of its level has
+abbrev pub no_class_line : List ℕ
+no_class_line = codes "tlsf: a size has 4 to 1048576 words, and up to 16777216 with --sli 5\n"

@@ -1,25 +1,33 @@
 -- The command line, by the definitions of `clap`.
-use Rattle.std.specs.Prelude.{◌≡◌, ◌≢◌, ◌≤◌, ◌^◌, ⊤, ℕ, true, pos, List, [], Option, Some, None, codes, option_and_then, option_map, unwrap_or}
-use Rattle.std.specs.Str.Parse.{digits_value, without_leading_plus}
+use Rattle.std.specs.Prelude.{◌≡◌, ◌≢◌, ◌^◌, ⊤, true, pos, List, [], Option, Some, None, codes, option_and_then, option_map, unwrap_or}
 use Rattle.clap.specs.Words.{App, Kinds, Rule, Text, all_of, fault_of, new_app, new_rule, one_of, subcommand_of, subcommand_rows_of, with_rule, with_subcommand}
 use Rattle.clap.specs.declared.builder.action.ArgAction.TheVariants.{Append, Set, SetTrue}
 use Rattle.clap.specs.declared.builder.value_parser.ValueParser.TheVariants.{Signed}
 use Rattle.clap.specs.declared.parser.matches.ArgMatches.{ArgMatches}
+use Rattle.tlsf_command.specs.ClassQuestions.{HasClasses, IsClassQuestion}
 use Rattle.tlsf_command.specs.SizeQuestions.{HasTable, IsQuestion}
 use Rattle.tlsf_command.specs.declared.command_line.Choice.{Choice}
 use Rattle.tlsf_command.specs.declared.command_line.Choice.TheVariants.{Replay, Held, Race, Map, MapText, Classes, Size}
 
--- the size that `classes` asks for, a number from 4 to 2^20
+-- the size that `classes` asks for, a number from 4 to 2^24
 abbrev pub size_rule : Rule
 size_rule = record (new_rule (codes "N")) {
   required = true;
   action = Some Set;
-  parser = Some (Signed (pos 4) (pos (2 ^ 20)));
+  parser = Some (Signed (pos 4) (pos (2 ^ 24)));
+}
+
+-- its level, 4 or 5, which needn't be given
+abbrev pub level_rule : Rule
+level_rule = record (new_rule (codes "sli")) {
+  long = Some (codes "sli");
+  action = Some Set;
+  parser = Some (Signed (pos 4) (pos 5));
 }
 
 -- the command `classes`
 abbrev pub classes_app : App
-classes_app = with_rule (new_app (codes "classes")) size_rule
+classes_app = with_rule (with_rule (new_app (codes "classes")) size_rule) level_rule
 
 -- an option of `size` that is given once or more, each time with a number from 1 to 2^32 - 1
 abbrev pub count_rule : Text → Text → Rule
@@ -73,18 +81,9 @@ command_in words = option_map (λ named. named.0) (subcommand_of tlsf_app words)
 abbrev pub Answers : List Text → ArgMatches → Type 0
 Answers words matches = (faults_of words ≡ []) × (subcommand_rows_of matches ≡ subcommand_of tlsf_app words)
 
--- the text that the words give for the size of `classes`
-abbrev pub size_text : List Text → Option Text
-size_text words =
-    option_and_then (λ named. one_of (codes "N") named.1) (subcommand_of tlsf_app words)
-
 -- what the words give for a flag of the command that they name: `true` where it stands among them, `false` where it doesn't
 abbrev pub flag_given : Text → List Text → Option Text
 flag_given name words = option_and_then (λ named. one_of name named.1) (subcommand_of tlsf_app words)
-
--- the number that a text of digits spells, behind a plus sign if there is one
-abbrev pub number_in : Text → ℕ
-number_in text = digits_value 10 (without_leading_plus text)
 
 -- the texts that the words give under this id to the command that they name, in their order
 abbrev pub texts_given : Text → List Text → List Text
@@ -98,7 +97,7 @@ name_of Held = codes "replay"
 name_of Race = codes "race"
 name_of Map = codes "map"
 name_of MapText = codes "map"
-name_of (Classes n) = codes "classes"
+name_of (Classes question) = codes "classes"
 name_of (Size question) = codes "size"
 
 -- the words give this flag, as far as `clap` tells it; and they don't
@@ -108,21 +107,19 @@ HasFlag name words = (flag_given name words ≢ Some (codes "false")) × (flag_g
 abbrev pub LacksFlag : Text → List Text → Type 0
 LacksFlag name words = flag_given name words ≢ Some (codes "true")
 
--- the size of the choice, where it has one, is the number that the words give, from 4 to 2^20, its question that of the texts that they give,
--- and it is that of the flags that they give
+-- the question of the choice, where it has one, is that of the texts that the words give, and it is that of the flags that they give
 abbrev pub HasSize : List Text → Choice → Type 0
 HasSize words Replay = LacksFlag (codes "held") words
 HasSize words Held = HasFlag (codes "held") words
 HasSize words Race = ⊤
 HasSize words Map = LacksFlag (codes "text") words
 HasSize words MapText = HasFlag (codes "text") words
-HasSize words (Classes n) =
-    (option_map number_in (size_text words) ≡ Some n) × (4 ≤ n) × (n ≤ 2 ^ 20)
+HasSize words (Classes question) = IsClassQuestion (texts_given (codes "N") words) (texts_given (codes "sli") words) question
 HasSize words (Size question) = IsQuestion (texts_given (codes "B") words) (texts_given (codes "N") words) question
 
--- the size of the choice, where it has one, is in its range, and a table has 1 to 64 kinds
+-- the size of the choice, where it has one, has a class, and a table has 1 to 64 kinds
 abbrev pub IsAnswerable : Choice → Type 0
-IsAnswerable (Classes n) = (4 ≤ n) × (n ≤ 2 ^ 20)
+IsAnswerable (Classes question) = HasClasses question
 IsAnswerable (Size question) = HasTable question
 IsAnswerable choice = ⊤
 

@@ -1,5 +1,6 @@
 pub mod FaultLines
 pub mod ClassLines
+pub mod ClassQuestions
 pub mod SizeLines
 pub mod SizeQuestions
 pub mod CommandLine

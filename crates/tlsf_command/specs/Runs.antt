@@ -4,11 +4,13 @@ use Rattle.std.specs.Io.KnownBytes.{Appends, Keeps}
 use Rattle.clap.specs.Words.{IsAmong, Text}
 use Rattle.clap.specs.declared.error.kind.ErrorKind.{ErrorKind}
 use Rattle.clap.specs.declared.error.kind.ErrorKind.TheVariants.{DisplayHelp, DisplayVersion, OutOfMemory}
-use Rattle.tlsf_command.specs.ClassLines.{class_line}
+use Rattle.tlsf_command.specs.ClassLines.{class_line, no_class_line}
 use Rattle.tlsf_command.specs.CommandLine.{Asks, faults_of}
 use Rattle.tlsf_command.specs.FaultLines.{fault_line, status_of_fault}
 use Rattle.tlsf_command.specs.SizeLines.{size_line, unpaired_line, unreached_line, unreached_table_line, AreReached, IsFirstUnreached, IsGreatest, IsReached}
 use Rattle.tlsf_command.specs.SizeQuestions.{blocks_in, blocks_of, bytes_in, bytes_of, IsQuestion, Pair, SizeOption}
+use Rattle.tlsf_command.specs.declared.class_question.ClassQuestion.{ClassQuestion}
+use Rattle.tlsf_command.specs.declared.class_question.ClassQuestion.TheVariants.{Coarse, Fine, NoClass}
 use Rattle.tlsf_command.specs.declared.size_question.SizeQuestion.{SizeQuestion}
 use Rattle.tlsf_command.specs.declared.size_question.SizeQuestion.TheVariants.{Table, Unpaired}
 use Rattle.tlsf_laws.specs.declared.kind.Kind.{Kind}
@@ -76,11 +78,24 @@ pub record LacksMemory (status : ℕ) (old new : Streams) : Type 0 where
   pub reported : AppendsFront old.errors new.errors (fault_line no_memory_fault)
 
 -- the line on a size of n words was written, or a prefix of it, where a write failed and was reported; nothing was read
-pub record ShowsClasses (n status : ℕ) (old new : Streams) : Type 0 where
+pub record ShowsClasses (sli n status : ℕ) (old new : Streams) : Type 0 where
   pub left : new.left ≡ old.left
-  pub front : AppendsFront old.written new.written (class_line n)
-  pub ended : ((status ≡ 0) × Appends old.written new.written (class_line n) × (new.errors ≡ old.errors))
+  pub front : AppendsFront old.written new.written (class_line sli n)
+  pub ended : ((status ≡ 0) × Appends old.written new.written (class_line sli n) × (new.errors ≡ old.errors))
       ⊎ ((status ≡ 1) × AppendsFront old.errors new.errors (fault_line write_fault))
+
+-- a size that no class of its level has was refused: nothing was read or written
+pub record ShowsNoClass (status : ℕ) (old new : Streams) : Type 0 where
+  pub left : new.left ≡ old.left
+  pub written : new.written ≡ old.written
+  pub status_is : status ≡ 2
+  pub reported : AppendsFront old.errors new.errors no_class_line
+
+-- the question about the classes of a size was answered
+abbrev pub AnswersClasses : ClassQuestion → ℕ → Streams → Streams → Type 0
+AnswersClasses (Coarse n) = ShowsClasses 4 n
+AnswersClasses (Fine n) = ShowsClasses 5 n
+AnswersClasses NoClass = ShowsNoClass
 
 -- the line on the kinds of a table was written, or a prefix of it, where a write failed and was reported
 pub record ShowsWords (kinds : List Kind) (status : ℕ) (old new : Streams) : Type 0 where
@@ -149,7 +164,7 @@ Does Held = RunsHeld
 Does Race = RunsRace
 Does Map = RunsMap
 Does MapText = RunsMapText
-Does (Classes n) = ShowsClasses n
+Does (Classes question) = AnswersClasses question
 Does (Size question) = ShowsSize question
 
 -- how a run ends, by its words: it does what they ask for, it answers by one of their faults, or it lacks memory

@@ -2,8 +2,9 @@ ghost use Rattle.std.specs.Prelude.{◌≡◌, List, false, map, IfOk};
 ghost use Rattle.clap.specs.declared.builder.command.Command.{Command};
 ghost use Rattle.clap.specs.Words.{app_of, new_app, rule_of, subcommand_of, subcommand_rows_of, with_subcommand, FailsBy, Text};
 ghost use Rattle.clap.specs.declared.builder.command.Command.TheViews.{out-Command};
-ghost use Rattle.tlsf_command.specs.CommandLine.{bare_app, classes_app, count_rule, flag_rule, map_app, replay_app, size_app, size_rule, tlsf_app, faults_of, Answers, Asks};
+ghost use Rattle.tlsf_command.specs.CommandLine.{bare_app, classes_app, count_rule, flag_rule, level_rule, map_app, replay_app, size_app, size_rule, tlsf_app, faults_of, Answers, Asks};
 
+use crate::class_question::ClassQuestion;
 use crate::size_question::SizeQuestion;
 use clap::{Arg, ArgAction, ArgMatches, Command, Error};
 use std::alloc::{AllocError, Global};
@@ -27,8 +28,8 @@ pub enum Choice {
     /// `tlsf map --text`: write that picture in the characters of a terminal.
     MapText,
     /// `tlsf classes N`: write the class and the search class of a size of N words, 4 to 2^20, to
-    /// standard output.
-    Classes(u32),
+    /// standard output. With `--sli 5` those at level 5, of 4 to 2^24 words.
+    Classes(ClassQuestion),
     /// `tlsf size --blocks B --bytes N ..`: write the words of the least region that never refuses a
     /// program of at most B blocks of at most N bytes each at once, for each pair, to standard output.
     Size(SizeQuestion),
@@ -171,7 +172,15 @@ Nothing is read. Standard output is one line. For 460 words it is
 
 Free blocks of 460 words are kept in class 92, whose least size is 448 words.
 A request for 460 words is served from class 93 on, the least class in which
-no block is too small, as it begins at 464 words.";
+no block is too small, as it begins at 464 words.
+
+With --sli 5 the classes are those of level 5: 32 between two powers of two, in
+place of 16, for sizes up to 16777216 words in place of 1048576. For 460 words
+it is
+
+  class 153 low 456 search 154 low 464
+
+The exit status is 2 where the level has no class of so many words.";
 
 const SIZE_HELP: &str = "\
 Nothing is read. Standard output is one line. For '--blocks 100 --bytes 512'
@@ -222,7 +231,19 @@ fn size_argument<'a>(alloc: Global) -> Arg<'a>
         .help("A size in words")
         .required(true)
         .action(ArgAction::Set)
-        .value_parser(clap::value_parser!(u32).range(4..=1_048_576))
+        .value_parser(clap::value_parser!(u32).range(4..=16_777_216))
+}
+
+// The level of the classes.
+fn level_argument<'a>(alloc: Global) -> Arg<'a>
+    ensures rule { rule_of result ≡ level_rule }
+    ensures local { result.global ≡ false }
+{
+    Arg::new(alloc, "sli")
+        .long("sli")
+        .help("How fine the classes are: 4, as where it isn't given, or 5")
+        .action(ArgAction::Set)
+        .value_parser(clap::value_parser!(u32).range(4..=5))
 }
 
 // The command `classes`.
@@ -231,7 +252,8 @@ fn classes_command<'a>(alloc: Global) -> Result<Command<'a>, AllocError>
     ensures local { IfOk result (λ command. (out-Command command).has_globals ≡ false) }
 {
     let about = "Write the class and the search class of a size, each with its least size in words";
-    described(alloc, "classes", about, CLASSES_HELP).arg(size_argument(alloc))
+    let command = described(alloc, "classes", about, CLASSES_HELP).arg(size_argument(alloc))?;
+    command.arg(level_argument(alloc))
 }
 
 // An option of `size`, which takes a number each time it is given.
@@ -345,11 +367,7 @@ fn chosen(alloc: Global, matches: &ArgMatches<'_>) -> Result<Choice, AllocError>
     ensures { (words : List Text) → Answers words matches.now → IfOk result (Asks words) }
 {
     if let Some(given) = matches.subcommand_matches("classes") {
-        return match given.get_one::<u32>("N") {
-            Some(size) => Ok(Choice::Classes(size)),
-            // The size is required, so words without one came to an error before.
-            None => unreachable!(),
-        };
+        return Ok(Choice::Classes(ClassQuestion::given(given)));
     }
     if matches.subcommand_matches("race").is_some() {
         return Ok(Choice::Race);
@@ -382,7 +400,7 @@ fn chosen(alloc: Global, matches: &ArgMatches<'_>) -> Result<Choice, AllocError>
 ///
 /// ```
 /// let choice = choose(alloc, &["tlsf", "classes", "460"])?;
-/// // choice is Choice::Classes(460)
+/// // choice is Choice::Classes(ClassQuestion::Coarse(460))
 /// ```
 pub fn choose<'a, S: AsStr>(alloc: Global, words: &'a [S]) -> Result<Choice, Error>
     ensures asked { IfOk result (Asks (map S.text words.entry.now)) }

@@ -1,12 +1,12 @@
-ghost use Rattle.std.specs.Prelude.{◌≡◌, ◌≤◌, ◌^◌, ℕ, List, [], ◌∷◌, Option, codes, map};
+ghost use Rattle.std.specs.Prelude.{◌≡◌, ℕ, List, [], ◌∷◌, Option, codes, map};
 ghost use Rattle.clap.specs.Words.{kind_of};
 ghost use Rattle.tlsf_command.specs.FaultLines.{fault_line, status_of_fault};
 ghost use Rattle.tlsf_command.specs.CommandLine.{IsAnswerable};
-ghost use Rattle.tlsf_command.specs.Runs.{streams, status_of, Does, DoesOrLacksMemory, Ends, RacesOrLacksMemory, ReplaysOrLacksMemory, Reports, RunsHeld, RunsMap, RunsMapText, RunsRace, RunsReplay, ShowsAnswer, ShowsClasses, ShowsOptionsOrLacksMemory, ShowsPairsOrLacksMemory};
+ghost use Rattle.tlsf_command.specs.Runs.{streams, status_of, Does, DoesOrLacksMemory, Ends, RacesOrLacksMemory, ReplaysOrLacksMemory, Reports, RunsHeld, RunsMap, RunsMapText, RunsRace, RunsReplay, ShowsAnswer, ShowsOptionsOrLacksMemory, ShowsPairsOrLacksMemory};
 ghost use Rattle.tlsf_command.specs.SizeQuestions.{option_words, pair_words, AreOptions, ArePairs, Pair, SizeOption};
 ghost use Rattle.tlsf_lines.specs.Prefixes.{AppendsFront};
 
-use crate::class_line::write_class_line;
+use crate::class_run::run_classes;
 use crate::command_line::{Choice, choose};
 use crate::fault_report::FaultReport;
 use crate::size_run::run_size;
@@ -115,20 +115,6 @@ fn run_map_text<R: Read, W: Write, E: Write>(
     ended(draw_trace_as_text(alloc, reader, writer), errors)
 }
 
-// Writes the line on a size of `words`, and reports a write that fails.
-fn run_classes<W: Write, E: Write>(words: u32, writer: &mut W, errors: &mut E) -> u8
-    requires least { 4 ≤ words }
-    requires most { words ≤ 2 ^ 20 }
-    ensures { (left : Option (List ℕ)) → ShowsClasses words result
-        (streams left (W.contents writer.old) (E.contents errors.old))
-        (streams left (W.contents writer.new) (E.contents errors.new)) }
-{
-    match write_class_line(words, writer) {
-        Ok(()) => 0,
-        Err(fault) => report(TraceFault::from(fault), errors),
-    }
-}
-
 // Writes the text of `clap`, and flushes.
 fn show<W: Write>(error: &clap::Error, writer: &mut W) -> Result<(), WriteError> {
     let written = write!(writer, "{error}").and_then(|()| writer.flush());
@@ -175,7 +161,7 @@ fn act<T: Threads + Wait + Sync, R: Read, W: Write, E: Write, G: Gate>(
         Choice::Race => run_race(rt, alloc, reader, writer, errors, gate),
         Choice::Map => run_map(alloc, reader, writer, errors),
         Choice::MapText => run_map_text(alloc, reader, writer, errors),
-        Choice::Classes(words) => run_classes(words, writer, errors),
+        Choice::Classes(question) => run_classes(question, writer, errors),
         Choice::Size(question) => run_size(question, writer, errors),
     }
 }

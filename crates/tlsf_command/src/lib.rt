@@ -4,7 +4,7 @@
 //! [`run`] does what the words ask for. `replay` reads a trace, runs it, and writes the reply lines and a report on each
 //! heap; `replay --held` writes what each worker asks of its heap, and how large that must be for it. `race` replays with each
 //! phase run in threads, one for each worker. `map` writes a picture of the heaps that a trace leaves. `classes N` writes the size
-//! class and the search class of N words. `size --blocks B --bytes N ..` writes the words of a region that never refuses B blocks of N
+//! class and the search class of N words, at level 4 or, with `--sli 5`, at level 5. `size --blocks B --bytes N ..` writes the words of a region that never refuses B blocks of N
 //! bytes, for each pair. Help and version texts are written, and words that are refused are answered on the error stream. A
 //! [`RaceNotice`] shows that a long race is alive.
 //!
@@ -12,13 +12,15 @@
 //! |---|---|
 //! | 0 | the run is done, or the class line, the size line, the picture, the help or the version text is written |
 //! | 1 | a fault of the trace, a read or a write ended the run; its line is on the error stream |
-//! | 2 | the words of the command line are refused, and the usage is on the error stream; or no region is large enough or the options are no pairs, and that line is there |
+//! | 2 | the words of the command line are refused, and the usage is on the error stream; or a size has no class of its level, no region is large enough or the options are no pairs, and that line is there |
 //! | 3 | memory ran out; the line `tlsf: out of memory (6)` is on the error stream |
 //!
 //! A write to the error stream that fails changes nothing. [`FaultReport`] is the line of a fault, and its status.
 #![tactic(auto)]
 
 mod class_line;
+mod class_question;
+mod class_run;
 mod command_line;
 mod commands;
 mod fault_report;

@@ -20,8 +20,8 @@ pub enum SizeQuestion {
     Unpaired(usize, usize),
 }
 
-// The number that the text spells, 0 where it spells none of 32 bits.
-fn number_of(text: &str) -> u32
+/// The number that the text spells, 0 where it spells none of 32 bits.
+pub fn number_of(text: &str) -> u32
     ensures { result ≡ SizeQuestions.number_of text.now }
 {
     text.parse().unwrap_or(0)

@@ -40,6 +40,26 @@ fn writes_classes(rt: HostRuntime) {
             ),
             ("tlsf,classes,+5", 0, "class 5 low 5 search 5 low 5\n"),
             (",classes,--,0033", 0, "class 32 low 32 search 33 low 34\n"),
+            (
+                "tlsf,classes,460,--sli,4",
+                0,
+                "class 92 low 448 search 93 low 464\n",
+            ),
+            (
+                "tlsf,classes,460,--sli,5",
+                0,
+                "class 153 low 456 search 154 low 464\n",
+            ),
+            (
+                "tlsf,classes,--sli=5,1048577",
+                0,
+                "class 512 low 1048576 search 513 low 1081344\n",
+            ),
+            (
+                "tlsf,classes,16777216,--sli,5",
+                0,
+                "class 640 low 16777216 search 640 low 16777216\n",
+            ),
         ],
     );
 }
@@ -200,9 +220,13 @@ fn shows_help_and_version(rt: HostRuntime) {
                 0,
                 "  tlsf 1 2 64 4\n  a 0 1 8\n  phase\n  f 1 1\n\n  0 a 1 at 0 serial 1\n",
             ),
-            ("tlsf,classes,--help", 0, "Usage: tlsf classes <N>"),
+            (
+                "tlsf,classes,--help",
+                0,
+                "Usage: tlsf classes [OPTIONS] <N>",
+            ),
             ("tlsf,classes,-h", 0, "A size in words"),
-            ("tlsf,help,classes", 0, "Usage: tlsf classes <N>"),
+            ("tlsf,help,classes", 0, "Usage: tlsf classes [OPTIONS] <N>"),
             ("tlsf,--version", 0, "tlsf 0.1.0\n"),
             ("tlsf,-V", 0, "tlsf 0.1.0\n"),
         ],
@@ -250,9 +274,19 @@ fn refuses_other_words(rt: HostRuntime) {
             (
                 "tlsf,classes,3",
                 2,
-                "invalid value '3' for '<N>': 3 is not in 4..=1048576",
+                "invalid value '3' for '<N>': 3 is not in 4..=16777216",
             ),
-            ("tlsf,classes,1048577", 2, "1048577 is not in 4..=1048576"),
+            (
+                "tlsf,classes,1048577",
+                2,
+                "tlsf: a size has 4 to 1048576 words, and up to 16777216 with --sli 5\n",
+            ),
+            ("tlsf,classes,460,--sli,6", 2, "6 is not in 4..=5"),
+            (
+                "tlsf,classes,16777217,--sli,5",
+                2,
+                "16777217 is not in 4..=16777216",
+            ),
             ("tlsf,classes,x", 2, "invalid value 'x' for '<N>'"),
             ("tlsf,classes, 5", 2, "invalid value ' 5' for '<N>'"),
             ("tlsf,classes,,", 2, "for '<N>'"),

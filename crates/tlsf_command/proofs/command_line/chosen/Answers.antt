@@ -1,28 +1,13 @@
-use Rattle.std.proofs.Common.{◌≡◌, ◌∙◌, ℕ, false, true, Option, Some, None, refl, sym, ap, subst, true≢false}
+use Rattle.std.proofs.Common.{◌≡◌, ◌∙◌, Option, Some, None, refl, sym, true≢false}
 use Rattle.std.specs.Prelude.{IsSome}
-use Rattle.std.specs.Option.{is_some, unwrap_or}
-use Rattle.std.specs.Str.Parse.{ParsesUnsigned, ExplainsUnsignedError, HasUnsignedDigitsIfOk}
-use Rattle.tlsf_command.specs.CommandLine.{Asks}
-use Rattle.tlsf_command.specs.declared.command_line.Choice.TheVariants.{Classes}
 use Rattle.tlsf_command.proofs.ChosenCommands.{asks_classes, asks_held, asks_map, asks_map_text, asks_replay, asks_size, some_named}
 use Rattle.tlsf_command.proofs.command_line.chosen.Goals.{then-get_flag, else-get_flag, then-get_flag-2, else-get_flag-2}
 use Rattle.tlsf_command.proofs.command_line.chosen.Goals as goal
 
 pub returns-in-Some : goal.returns-in-Some
 returns-in-Some c = λ words answers.
-    let asks = asks_classes _ (λ text r. ParsesUnsigned 32 10 text r × ExplainsUnsignedError 10 text r × HasUnsignedDigitsIfOk text r)
-    (λ text r gives. gives.0) words c.args.matches.now c.in-Some.given.now c.get_one.result
-    answers (c.in-Some.ensures.found.0 refl) c.in-Some.ensures.rows c.get_one.ensures.value in
-    let same = ap (λ (size : Option ℕ). unwrap_or size 0) (sym asks.1 ∙ c.in-Some-get_one.is) in
-    subst (λ (n : ℕ). Asks words (Classes n)) same asks.2
-
-pub unreachable-requires : goal.unreachable-requires
-unreachable-requires c =
-    let asks = asks_classes _ (λ text r. ParsesUnsigned 32 10 text r × ExplainsUnsignedError 10 text r × HasUnsignedDigitsIfOk text r)
-    (λ text r gives. gives.0) c.requires.0 c.args.matches.now c.in-Some.given.now c.get_one.result
-    c.requires.1 (c.in-Some.ensures.found.0 refl) c.in-Some.ensures.rows c.get_one.ensures.value in
-    let bad : false ≡ true = ap is_some (sym c.in-None.is ∙ asks.1) in
-    true≢false (sym bad)
+    asks_classes words c.args.matches.now c.in-Some.given.now c.given.result
+    answers (c.in-Some.ensures.found.0 refl) c.in-Some.ensures.rows c.given.ensures
 
 pub returns-in-Some-subcommand_matches : goal.returns-in-Some-subcommand_matches
 returns-in-Some-subcommand_matches c = λ words answers.
@@ -45,14 +30,14 @@ not_some : {X : Type 0} (o : Option X) → ((x : X) → o ≡ Some x → ⊥) �
 not_some None other is = true≢false (sym is)
 not_some (Some x) other is = other x refl
 
-pub unreachable-requires-in-None-subcommand_matches : goal.unreachable-requires-in-None-subcommand_matches
-unreachable-requires-in-None-subcommand_matches c =
+pub unreachable-requires : goal.unreachable-requires
+unreachable-requires c =
     some_named c.requires.0 c.args.matches.now c.requires.1
     (λ called. not_some c.subcommand_matches.result c.in_default.not-Some (c.subcommand_matches.ensures.found.1 called))
     (λ called. true≢false (sym (c.subcommand_matches-2.ensures.found.1 called) ∙ (sym c.is_some.ensures ∙ c.if-is_some.false)))
     (λ called. not_some c.subcommand_matches-3.result c.in_default-subcommand_matches.not-Some (c.subcommand_matches-3.ensures.found.1 called))
     (λ called. not_some c.subcommand_matches-4.result c.in_default-subcommand_matches-2.not-Some (c.subcommand_matches-4.ensures.found.1 called))
-    (λ called. true≢false (sym (rw c.in-None-subcommand_matches.is at (c.subcommand_matches-5.ensures.found.1 called))))
+    (λ called. true≢false (sym (rw c.in-None.is at (c.subcommand_matches-5.ensures.found.1 called))))
 
 pub returns : goal.returns
 returns c = λ words answers.

@@ -15,8 +15,8 @@ some_text c =
 
 pub returns-clause-rule : goal.returns-clause-rule
 returns-clause-rule c =
-    let number : c.value_parser-2.result.value_parser ≡ Some (Signed (pos 4) (pos (2 ^ 20))) = search rules in
-    ap rule_of c.value_parser-2.ensures.others ∙ rw number (ap (λ (rule : Rule). record rule { parser = Some (Signed (pos 4) (pos (2 ^ 20))) }) (some_text c))
+    let number : c.value_parser-2.result.value_parser ≡ Some (Signed (pos 4) (pos (2 ^ 24))) = search rules in
+    ap rule_of c.value_parser-2.ensures.others ∙ rw number (ap (λ (rule : Rule). record rule { parser = Some (Signed (pos 4) (pos (2 ^ 24))) }) (some_text c))
 
 pub returns-clause-local : goal.returns-clause-local
 returns-clause-local c =

@@ -1,0 +1,32 @@
+-- What `tlsf classes` is asked for, by the texts that give the size and that stand behind `--sli`.
+use Rattle.std.specs.Prelude.{◌≡◌, ◌≤◌, ⊤, ℕ, List, [], ◌∷◌}
+use Rattle.clap.specs.Words.{Text}
+use Rattle.tlsf_class.specs.Classes.{IsLevel, most_words}
+use Rattle.tlsf_command.specs.SizeQuestions.{number_of}
+use Rattle.tlsf_command.specs.declared.class_question.ClassQuestion.{ClassQuestion}
+use Rattle.tlsf_command.specs.declared.class_question.ClassQuestion.TheVariants.{Coarse, Fine, NoClass}
+
+-- the number that the first text spells, and another one where there is no text
+abbrev pub first_number : ℕ → List Text → ℕ
+first_number none [] = none
+first_number none (text ∷ texts) = number_of text
+
+-- so many words have a class at this level
+abbrev pub HasClassAt : (level words : ℕ) → Type 0
+HasClassAt level words = IsLevel level × (4 ≤ words) × (words ≤ most_words level)
+
+-- the question about so many words at a level
+abbrev pub IsOfNumbers : (words level : ℕ) → ClassQuestion → Type 0
+IsOfNumbers words level (Coarse n) = (level ≡ 4) × (n ≡ words) × HasClassAt 4 n
+IsOfNumbers words level (Fine n) = (level ≡ 5) × (n ≡ words) × HasClassAt 5 n
+IsOfNumbers words level NoClass = ¬ (HasClassAt level words)
+
+-- the question that these texts make: the size is the first number of those, and the level that of these, 4 where there is none
+abbrev pub IsClassQuestion : (sizes levels : List Text) → ClassQuestion → Type 0
+IsClassQuestion sizes levels = IsOfNumbers (first_number 0 sizes) (first_number 4 levels)
+
+-- its size, if it has one, has a class
+abbrev pub HasClasses : ClassQuestion → Type 0
+HasClasses (Coarse n) = HasClassAt 4 n
+HasClasses (Fine n) = HasClassAt 5 n
+HasClasses NoClass = ⊤

@@ -1,0 +1,70 @@
+ghost use Rattle.std.specs.Prelude.{◌≡◌, [], codes, map, option_map};
+ghost use Rattle.std.specs.Option.{unwrap_or};
+ghost use Rattle.clap.specs.Words.{found_of, matched_of, raw_values};
+ghost use Rattle.tlsf_command.specs.ClassQuestions;
+ghost use Rattle.tlsf_command.specs.ClassQuestions.{IsClassQuestion, IsOfNumbers};
+
+use crate::size_question::number_of;
+use clap::ArgMatches;
+use tlsf_class::most_words;
+
+/// What `tlsf classes` is asked for.
+#[derive(Clone, Copy)]
+pub enum ClassQuestion {
+    /// The class and the search class of so many words at level 4, 4 to 2^20.
+    Coarse(u32),
+    /// Those at level 5, of 4 to 2^24 words.
+    Fine(u32),
+    /// None: no class of the level has so many words.
+    NoClass,
+}
+
+// The number that the first text spells, and another one where there is no text.
+fn first_number(texts: &[&str], none: u32) -> u32
+    ensures { result ≡ ClassQuestions.first_number none (map (λ text. text.now) texts.now) }
+{
+    match texts.first() {
+        Some(text) => number_of(text),
+        None => none,
+    }
+}
+
+impl ClassQuestion {
+    // The question about so many words at a level.
+    fn of_numbers(words: u32, level: u32) -> ClassQuestion
+        ensures { IsOfNumbers words level result }
+    {
+        if words < 4 {
+            return ClassQuestion::NoClass;
+        }
+        if level == 4 && words <= most_words::<4>() {
+            return ClassQuestion::Coarse(words);
+        }
+        if level == 5 && words <= most_words::<5>() {
+            return ClassQuestion::Fine(words);
+        }
+        ClassQuestion::NoClass
+    }
+
+    /// The question of what the matches of `classes` give: a size, and the level behind `--sli`, 4 where it isn't given.
+    ///
+    /// ```
+    /// // of "460 --sli 5"
+    /// let question = ClassQuestion::given(&matches);     // ClassQuestion::Fine(460)
+    /// ```
+    pub fn given(given: &ArgMatches<'_>) -> ClassQuestion
+        ensures { IsClassQuestion
+            (unwrap_or (option_map raw_values (matched_of (found_of given.now) (codes "N"))) [])
+            (unwrap_or (option_map raw_values (matched_of (found_of given.now) (codes "sli"))) []) result }
+    {
+        let words = match given.get_raw("N") {
+            Some(texts) => first_number(texts, 0),
+            None => 0,
+        };
+        let level = match given.get_raw("sli") {
+            Some(texts) => first_number(texts, 4),
+            None => 4,
+        };
+        ClassQuestion::of_numbers(words, level)
+    }
+}
