@@ -6,4 +6,4 @@ pub mod WholeReplay  -- a replay that is done
 -- Races.
 pub mod OneText  -- a trace without `d` lines gives one text
 pub mod RaceTold  -- what the text of a raced trace tells of each heap
-pub mod RacedPhases  -- phases that are raced one after another
+pub mod RacedPhases  -- phases that are raced one after another, over lanes or over queues

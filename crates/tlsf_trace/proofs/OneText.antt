@@ -5,6 +5,7 @@ use Rattle.tlsf_heap.specs.declared.name.Name.{Name}
 use Rattle.tlsf_calls.specs.declared.entry.Entry.{Entry}
 use Rattle.tlsf_crew.specs.yard.World.{World}
 use Rattle.tlsf_crew.specs.threads.Alone.{OnlyLastDrains, TakesNoPost}
+use Rattle.tlsf_crew.specs.threads.Race.{IsRace}
 use Rattle.tlsf_crew.proofs.lemmas.threads.OneRace.{race_is_one}
 use Rattle.tlsf_lines.specs.Phases.{call_in, calls_from, in_first, is_line_of, known_below, none_known, own_lines, phases_of, script_in, scripts_in}
 use Rattle.tlsf_lines.specs.Records.{records_text}
@@ -63,13 +64,13 @@ free_scripts known phase all (w ∷ workers) (suc j) = free_scripts known phase 
 -- ---- phase after phase
 
 same_text : (n : ℕ) (phases : List (List Line)) (w : World) (known : ℕ → Option Name) (text other : List ℕ) → AllByRecursion HasNone phases
-    → IsRaceText n w known phases text → IsRaceText n w known phases other → text ≡ other
+    → IsRaceText IsRace n w known phases text → IsRaceText IsRace n w known phases other → text ≡ other
 same_text n [] w known text other all is was = is ∙ sym was
 same_text n (phase ∷ phases) w known text other all (records, v, tail, race, text_is, more) (others, u, end, again, other_is, later) =
     let free : OnlyLastDrains (scripts_in n known phase) = λ j. free_scripts known phase all.0 _ j in
     let one = race_is_one w v u (scripts_in n known phase) records others free race again in
-    let told : IsRaceText n v (known_below known phase others n) phases tail = subst (λ (rs : List (List Entry)). IsRaceText n v (known_below known phase rs n) phases tail) one.0 more in
-    let moved : IsRaceText n u (known_below known phase others n) phases tail = subst (λ (x : World). IsRaceText n x (known_below known phase others n) phases tail) one.1 told in
+    let told : IsRaceText IsRace n v (known_below known phase others n) phases tail = subst (λ (rs : List (List Entry)). IsRaceText IsRace n v (known_below known phase rs n) phases tail) one.0 more in
+    let moved : IsRaceText IsRace n u (known_below known phase others n) phases tail = subst (λ (x : World). IsRaceText IsRace n x (known_below known phase others n) phases tail) one.1 told in
     let rest = same_text n phases u (known_below known phase others n) tail end all.1 moved later in
     text_is ∙ (ap (λ rs. records_text phase rs n ++ tail) one.0 ∙ (ap (λ t. records_text phase others n ++ t) rest ∙ sym other_is))
 

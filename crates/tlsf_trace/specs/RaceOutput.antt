@@ -2,6 +2,8 @@
 use Rattle.std.specs.Prelude.{◌≡◌, ℕ, List, [], ◌∷◌, ◌++◌, Option}
 use Rattle.tlsf_heap.specs.declared.name.Name.{Name}
 use Rattle.tlsf_calls.specs.declared.entry.Entry.{Entry}
+use Rattle.tlsf_calls.specs.declared.call.Call.{Call}
+use Rattle.tlsf_crew.specs.queues.QueueRace.{IsQueueRace}
 use Rattle.tlsf_crew.specs.threads.Race.{IsRace}
 use Rattle.tlsf_crew.specs.yard.World.{World}
 use Rattle.tlsf_lines.specs.declared.line.Line.{Line}
@@ -11,18 +13,30 @@ use Rattle.tlsf_lines.specs.Phases.{known_below, none_known, phases_of, scripts_
 use Rattle.tlsf_trace.specs.ReportLines.{report_text}
 use Rattle.tlsf_lines.specs.Trace.{Trace}
 
+-- what a race of scripts may leave of a world, with these records: over lanes, or over queues
+abbrev pub Racing : Type 1
+Racing = World → List (List Call) → List (List Entry) → World → Type 0
+
 -- a race of one phase leads from one world to the other, with these records
-abbrev pub IsPhase : ℕ → World → (ℕ → Option Name) → List Line → List (List Entry) → World → Type 0
-IsPhase workers w known phase records v = IsRace w (scripts_in workers known phase) records v
+abbrev pub IsPhase : Racing → ℕ → World → (ℕ → Option Name) → List Line → List (List Entry) → World → Type 0
+IsPhase Races workers w known phase records v = Races w (scripts_in workers known phase) records v
 
 -- from this world on, the phases are raced one after another, and the text is the lines of their records, and then those
 -- of the heaps that they leave
-abbrev pub IsRaceText : ℕ → World → (ℕ → Option Name) → List (List Line) → List ℕ → Type 0
-IsRaceText workers w known [] text = text ≡ report_text w.heaps
-IsRaceText workers w known (phase ∷ phases) text =
-    (records : List (List Entry)) × (v : World) × (rest : List ℕ) × IsPhase workers w known phase records v
-    × (text ≡ records_text phase records workers ++ rest) × IsRaceText workers v (known_below known phase records workers) phases rest
+abbrev pub IsRaceText : Racing → ℕ → World → (ℕ → Option Name) → List (List Line) → List ℕ → Type 0
+IsRaceText Races workers w known [] text = text ≡ report_text w.heaps
+IsRaceText Races workers w known (phase ∷ phases) text =
+    (records : List (List Entry)) × (v : World) × (rest : List ℕ) × IsPhase Races workers w known phase records v
+    × (text ≡ records_text phase records workers ++ rest) × IsRaceText Races workers v (known_below known phase records workers) phases rest
 
--- a text that the trace may put out when it is raced
+-- a text that the trace may put out when it is so raced
+abbrev pub IsOutputBy : Racing → Trace → List ℕ → Type 0
+IsOutputBy Races trace text = IsRaceText Races trace.header.workers (yard_of trace.header) none_known (phases_of trace.lines) text
+
+-- when it is raced over lanes
 abbrev pub IsRaceOutput : Trace → List ℕ → Type 0
-IsRaceOutput trace text = IsRaceText trace.header.workers (yard_of trace.header) none_known (phases_of trace.lines) text
+IsRaceOutput trace text = IsOutputBy IsRace trace text
+
+-- when it is raced over queues
+abbrev pub IsQueueRaceOutput : Trace → List ℕ → Type 0
+IsQueueRaceOutput trace text = IsOutputBy IsQueueRace trace text

@@ -2,7 +2,7 @@
 use Rattle.std.specs.Prelude.{◌≡◌, ◌⊎◌, ℕ, List, Option, Some, Result, Ok, IfOk, IfErr, IfSome, OnOk, length}
 use Rattle.std.specs.Io.KnownBytes.{Appends, IsAtEnd, Keeps}
 use Rattle.tlsf_trace.specs.Output.{output_of}
-use Rattle.tlsf_trace.specs.RaceOutput.{IsRaceOutput}
+use Rattle.tlsf_trace.specs.RaceOutput.{IsQueueRaceOutput, IsRaceOutput}
 use Rattle.tlsf_lines.specs.Prefixes.{AppendsFront}
 use Rattle.tlsf_lines.specs.Limits.{IsWithinLimits, IsTooLong}
 use Rattle.tlsf_lines.specs.Trace.{Trace, trace_of, calls_of}
@@ -21,6 +21,9 @@ Replays trace output = output ≡ output_of trace
 
 abbrev pub Races : Outputs
 Races trace output = IsRaceOutput trace output
+
+abbrev pub RacesQueues : Outputs
+RacesQueues trace output = IsQueueRaceOutput trace output
 
 -- the text spells a trace that may put out this, and makes so many calls
 pub record AsksFor (Puts : Outputs) (text output : List ℕ) (calls : ℕ) : Type 0 where
@@ -75,3 +78,6 @@ IsReplay = IsRun Replays
 
 abbrev pub IsRaceOfTrace : Result Summary TraceFault → Option (List ℕ) → Option (List ℕ) → Option (List ℕ) → Option (List ℕ) → Type 0
 IsRaceOfTrace = IsRun Races
+
+abbrev pub IsQueueRaceOfTrace : Result Summary TraceFault → Option (List ℕ) → Option (List ℕ) → Option (List ℕ) → Option (List ℕ) → Type 0
+IsQueueRaceOfTrace = IsRun RacesQueues

@@ -1,7 +1,7 @@
 ghost use Rattle.std.specs.Prelude.{ℕ, List};
 ghost use Rattle.tlsf_trace.specs.OneText.{RaceGivesOneText};
 ghost use Rattle.tlsf_trace.specs.RaceHistory.{HasHistory};
-ghost use Rattle.tlsf_trace.specs.RaceOutput.{IsRaceOutput};
+ghost use Rattle.tlsf_trace.specs.RaceOutput.{IsQueueRaceOutput, IsRaceOutput};
 ghost use Rattle.tlsf_lines.specs.Trace.{Trace};
 
 /// What [`race_trace`](crate::race_trace) may write tells one history of each heap, over all phases: the calls that its
@@ -12,6 +12,14 @@ ghost use Rattle.tlsf_lines.specs.Trace.{Trace};
 /// phase and, by the line `0 take 1 at 0 serial 1 freed`, a release of that block in the second.
 pub fn one_history_of_a_raced_trace()
     ensures { (trace : Trace) (text : List ℕ) → IsRaceOutput trace text → HasHistory trace text }
+{}
+
+/// The same of what [`race_trace_over_queues`](crate::race_trace_over_queues) may write, in the same words.
+///
+/// The text of `tlsf 1 3 64 4`, `a 0 1 8`, `a 0 2 8`, `phase`, `f 2 1`, `f 1 2`, for one, tells of heap 0 two allocates in the first phase,
+/// and in the second two releases, in the order of the two lines `0 take 2 at 0 serial 1 freed` and `0 take 1 at 4 serial 2 freed`, which is up to the schedule.
+pub fn one_history_of_a_trace_raced_over_queues()
+    ensures { (trace : Trace) (text : List ℕ) → IsQueueRaceOutput trace text → HasHistory trace text }
 {}
 
 /// A trace without `d` lines gives one text when it is raced, whatever the schedule of the threads: all that

@@ -1,7 +1,7 @@
 //! Traces: the text of a run on a yard of workers, checked whole before a line runs.
 //!
 //! [`replay`] reads a trace, runs it line by line and writes what it was answered; [`race_trace`] runs each phase in threads,
-//! one for each worker; [`run_to_end`] runs it and hands out its workers. The lines of a trace, and those of its replies, are `tlsf_lines`'; here they are run, and the heaps
+//! one for each worker, and [`race_trace_over_queues`] does so over queues; [`run_to_end`] runs it and hands out its workers. The lines of a trace, and those of its replies, are `tlsf_lines`'; here they are run, and the heaps
 //! that they leave are told in report lines.
 //!
 //! Contracts see the trace that a text spells, or its first fault, as `trace_of`, and what it asks for as `AsksFor`.
@@ -11,13 +11,17 @@
 mod ended;
 mod laws;
 mod output;
+mod queue_output;
 mod race_output;
 mod report_lines;
 mod stages;
 mod summary;
 
 pub use ended::{EndedTrace, run_to_end};
-pub use laws::{one_history_of_a_raced_trace, trace_without_drains_gives_one_text};
-pub use stages::{finish, race_trace, replay};
+pub use laws::{
+    one_history_of_a_raced_trace, one_history_of_a_trace_raced_over_queues,
+    trace_without_drains_gives_one_text,
+};
+pub use stages::{finish, race_trace, race_trace_over_queues, replay};
 pub use summary::Summary;
 pub use tlsf_lines::{TraceFault, WriteError, first_fault, pieces_join, write_out};

@@ -1,6 +1,7 @@
 //! The text of a trace that is raced.
-ghost use Rattle.std.specs.Prelude.{ℕ, [], Option, ◌≤◌, length, vec_len, string_bytes, IfOk};
+ghost use Rattle.std.specs.Prelude.{◌≡◌, ℕ, [], Option, ◌≤◌, length, vec_len, string_bytes, IfOk};
 ghost use Rattle.tlsf_heap.specs.declared.name.Name.{Name};
+ghost use Rattle.tlsf_crew.specs.threads.Race.{IsRace};
 ghost use Rattle.tlsf_crew.specs.yard.World.{world_of};
 ghost use Rattle.tlsf_crew.specs.yard.Yard.{IsYard};
 ghost use Rattle.tlsf_lines.specs.Phases.{known_in, none_known, phases_of};
@@ -29,7 +30,9 @@ fn race_phase<R: Threads + Wait + Sync, G: Gate>(
 ) -> Result<Vec<Worker>, AllocError>
     requires yard { IsYard workers.items }
     requires few { length phase.now ≤ 32768 }
-    ensures { IfOk result (λ vs. IsPhaseRaced workers.items (known_in names.old) phase.now (string_bytes text.old) vs.items (known_in names.new) (string_bytes text.new)) }
+    ensures yard { IfOk result (λ vs. IsYard vs.items) }
+    ensures count { IfOk result (λ vs. vec_len vs ≡ vec_len workers) }
+    ensures raced { IfOk result (λ vs. IsPhaseRaced IsRace (vec_len workers) (world_of workers.items) (known_in names.old) phase.now (string_bytes text.old) (world_of vs.items) (known_in names.new) (string_bytes text.new)) }
 {
     let count = workers.len() as u32;
     let scripts = PhaseScripts::of(alloc, count, names, phase)?;
@@ -52,7 +55,9 @@ fn race_lines<R: Threads + Wait + Sync, G: Gate>(
 ) -> Result<Vec<Worker>, AllocError>
     requires yard { IsYard workers.items }
     requires few { length lines.now ≤ 32768 }
-    ensures { IfOk result (λ vs. (learnt : ℕ → Option Name) × IsRaceSoFar (vec_len workers) (world_of workers.items) none_known (phases_of lines.now) (string_bytes text.old) vs.items learnt [] (string_bytes text.new)) }
+    ensures yard { IfOk result (λ vs. IsYard vs.items) }
+    ensures count { IfOk result (λ vs. vec_len vs ≡ vec_len workers) }
+    ensures raced { IfOk result (λ vs. (learnt : ℕ → Option Name) × IsRaceSoFar IsRace (vec_len workers) (world_of workers.items) none_known (phases_of lines.now) (string_bytes text.old) (world_of vs.items) learnt [] (string_bytes text.new)) }
 {
     let mut workers = workers;
     let mut names = Names::new(alloc);

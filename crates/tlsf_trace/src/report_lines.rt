@@ -1,10 +1,11 @@
 //! The report lines of heaps.
 ghost use Rattle.std.specs.Prelude.{◌≡◌, ◌++◌, ◌≤◌, length, map, OnOk, string_bytes};
+ghost use Rattle.tlsf_crew.specs.queues.QueueWorkers.{queue_heap};
 ghost use Rattle.tlsf_crew.specs.yard.Workers.{heap_of};
 ghost use Rattle.tlsf_trace.specs.ReportLines.{live_part, free_part, room_part, rest_part, report_line, report_text};
 
 use std::alloc::AllocError;
-use tlsf_crew::Worker;
+use tlsf_crew::{QueueWorker, Worker};
 use tlsf_heap::Report;
 
 // Adds the live blocks, words and bytes.
@@ -64,6 +65,21 @@ fn write_line(text: &mut String, heap: u32, report: &Report) -> Result<(), Alloc
 pub fn write_reports(text: &mut String, workers: &mut [Worker]) -> Result<(), AllocError>
     requires { length workers.old ≤ 8 }
     ensures { OnOk result (string_bytes text.new ≡ string_bytes text.old ++ report_text (map heap_of workers.old)) }
+{
+    for number in 0..workers.len() {
+        let report = workers[number].report();
+        write_line(text, number as u32, &report)?;
+    }
+    Ok(())
+}
+
+/// Adds the lines of the heaps of workers over queues.
+pub(crate) fn write_queue_reports(
+    text: &mut String,
+    workers: &mut [QueueWorker],
+) -> Result<(), AllocError>
+    requires { length workers.old ≤ 8 }
+    ensures { OnOk result (string_bytes text.new ≡ string_bytes text.old ++ report_text (map queue_heap workers.old)) }
 {
     for number in 0..workers.len() {
         let report = workers[number].report();

@@ -1,7 +1,8 @@
-ghost use Rattle.tlsf_trace.specs.Replay.{IsReplay, IsRaceOfTrace};
+ghost use Rattle.tlsf_trace.specs.Replay.{IsReplay, IsQueueRaceOfTrace, IsRaceOfTrace};
 ghost use Rattle.tlsf_trace.specs.Finish.{Finishes};
 
 use crate::output::output;
+use crate::queue_output::queue_output;
 use crate::race_output::race_output;
 use crate::summary::Summary;
 use std::alloc::Global;
@@ -95,5 +96,37 @@ pub fn race_trace<T: Threads + Wait + Sync, R: Read, W: Write, G: Gate>(
     let bytes = read_all(alloc, reader)?;
     let trace = trace_in(alloc, &bytes)?;
     let output = race_output(rt, alloc, &trace, gate)?;
+    finish(writer, trace.count_calls() as u32, &output)
+}
+
+/// Reads a whole trace, races it on a new yard over queues, and writes the reply lines and the report lines.
+///
+/// As [`race_trace`], but each worker has one queue for the posts of all others
+/// ([`race_queues`](tlsf_crew::race_queues)), of as many posts as the header says of a lane. So a post is refused as full by
+/// what all others have posted, and a drain takes posts in the queue's order: the reply lines of its takes may come in
+/// another order of posters on each run.
+///
+/// ```
+/// // reader gives "tlsf 1 2 64 1\na 0 1 8\nphase\nf 1 1\n"
+/// let summary = race_trace_over_queues(rt, alloc, &mut reader, &mut writer, &OpenGate)?;
+/// // summary.calls is 2; writer holds, behind the first phase, "0 take 1 at 0 serial 1 freed\n0 d drained 1\n1 f 1 posted\n"
+/// ```
+///
+/// # Errors
+///
+/// Those of [`race_trace`].
+pub fn race_trace_over_queues<T: Threads + Wait + Sync, R: Read, W: Write, G: Gate>(
+    rt: &T,
+    alloc: Global,
+    reader: &mut R,
+    writer: &mut W,
+    gate: &G,
+) -> Result<Summary, TraceFault>
+    ensures { IsQueueRaceOfTrace result (R.remaining reader.old) (R.remaining reader.new)
+        (W.contents writer.old) (W.contents writer.new) }
+{
+    let bytes = read_all(alloc, reader)?;
+    let trace = trace_in(alloc, &bytes)?;
+    let output = queue_output(rt, alloc, &trace, gate)?;
     finish(writer, trace.count_calls() as u32, &output)
 }

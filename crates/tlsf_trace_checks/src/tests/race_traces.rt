@@ -1,5 +1,5 @@
 //! Traces that are raced.
-use crate::tests::streams::Streams;
+use crate::tests::streams::{Mode, Streams};
 use std::alloc::Global;
 use std::marker::Sync;
 use std::process::Abort;
@@ -22,7 +22,8 @@ const REFUSED_LABEL: &[u8] =
 const REFUSED_LABEL_TEXT: &str =
     "0 a 1 at 0 serial 1\n0 a 2 refused 1\n0 f 2 refused 18\n0 d drained 0\n1 d drained 0\n0 take 1 at 0 serial 1 freed\n0 d drained 1\n1 f 2 refused 18\n1 f 1 posted\n1 d drained 0\nheap 0 live 0 0 0 free 1 16 largest 16 grant 104 fragmentation 0 waste 0 age 1\nheap 1 live 0 0 0 free 1 16 largest 16 grant 104 fragmentation 0 waste 0 age 1\n";
 
-/// What a race of the text answers and writes, where the writer takes so many bytes.
+/// What a race of the text answers and writes, over lanes and over queues, where the writer takes so many bytes. Each worker
+/// is posted to by one other alone.
 fn check_raced<T: Threads + Wait + Abort + Sync>(
     rt: &T,
     alloc: Global,
@@ -30,10 +31,12 @@ fn check_raced<T: Threads + Wait + Abort + Sync>(
     room: usize,
     wanted: (Result<Summary, TraceFault>, &str),
 ) {
-    let mut streams = Streams::new(alloc, text);
-    streams.writer.room = room;
-    let answer = streams.race(rt, alloc);
-    same((answer, streams.writer.text()), wanted).expect(rt, "differ");
+    for mode in [Mode::Race, Mode::RaceQueues] {
+        let mut streams = Streams::new(alloc, text);
+        streams.writer.room = room;
+        let answer = streams.answer(rt, alloc, mode);
+        same((answer, streams.writer.text()), wanted).expect(rt, "differ");
+    }
 }
 
 #[test]

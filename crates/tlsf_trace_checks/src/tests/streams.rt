@@ -7,16 +7,17 @@ use std::sync::Wait;
 use std::thread::Threads;
 use tlsf_command::run;
 use tlsf_crew::OpenGate;
-use tlsf_trace::{Summary, TraceFault, race_trace, replay};
+use tlsf_trace::{Summary, TraceFault, race_trace, race_trace_over_queues, replay};
 
 /// How a trace is run.
 #[derive(Clone, Copy, Debug, PartialEq, Eq)]
 pub enum Mode {
     Replay,
     Race,
+    RaceQueues,
 }
 
-pub const MODES: [Mode; 2] = [Mode::Replay, Mode::Race];
+pub const MODES: [Mode; 3] = [Mode::Replay, Mode::Race, Mode::RaceQueues];
 
 /// What a run reads, and where it writes and reports.
 #[derive(Drop)]
@@ -49,6 +50,15 @@ impl<'a> Streams<'a> {
         race_trace(rt, alloc, &mut self.reader, &mut self.writer, &OpenGate)
     }
 
+    /// What the race of the text over queues answers.
+    pub fn race_queues<R: Threads + Wait + Sync>(
+        &mut self,
+        rt: &R,
+        alloc: Global,
+    ) -> Result<Summary, TraceFault> {
+        race_trace_over_queues(rt, alloc, &mut self.reader, &mut self.writer, &OpenGate)
+    }
+
     /// What the run of the text answers.
     pub fn answer<R: Threads + Wait + Sync>(
         &mut self,
@@ -59,6 +69,7 @@ impl<'a> Streams<'a> {
         match mode {
             Mode::Replay => self.replay(alloc),
             Mode::Race => self.race(rt, alloc),
+            Mode::RaceQueues => self.race_queues(rt, alloc),
         }
     }
 

@@ -1,4 +1,4 @@
-use Rattle.std.proofs.Common.{◌≡◌, ◌++◌, ℕ, List, length, map, string_bytes, sym, ap, subst, ◌∙◌, arith}
+use Rattle.std.proofs.Common.{◌≡◌, ◌++◌, ℕ, List, length, map, string_bytes, vec_len, sym, ap, subst, ◌∙◌, arith}
 use Rattle.std.specs.List.{range_with_len}
 use Rattle.std.proofs.lemmas.List.{length-map}
 use Rattle.std.specs.declared.vec.Vec.{Vec}
@@ -7,10 +7,10 @@ use Rattle.tlsf_calls.specs.declared.call.Call.{Call}
 use Rattle.tlsf_calls.specs.declared.entry.Entry.{Entry}
 use Rattle.tlsf_crew.specs.threads.Race.{IsRace}
 use Rattle.tlsf_crew.specs.yard.World.{world_of}
-use Rattle.tlsf_lines.specs.Phases.{known_below, known_in, own_lines}
+use Rattle.tlsf_lines.specs.Phases.{known_below, known_in, own_lines, scripts_in}
 use Rattle.tlsf_lines.specs.Records.{records_text}
 use Rattle.tlsf_lines.specs.declared.line.Line.{Line}
-use Rattle.tlsf_trace.proofs.RacedPhases.{heap_count, phase_raced}
+use Rattle.tlsf_trace.proofs.RacedPhases.{heap_count}
 use Rattle.tlsf_trace.proofs.race_output.race_phase.Goals as goal
 
 pub race-requires-clause-count : goal.race-requires-clause-count
@@ -24,25 +24,36 @@ write_phase-requires g c =
     let heaps = heap_count c.args.workers.items in
     omega (arith, many, all, heaps, c.deref.ensures.len, c.in_ok-scripts.ensures.counts.0, c.len-count.ensures)
 
-pub returns : goal.returns
-returns g c =
-    let ws = c.args.workers.items in
-    let vs = c.in-Ok.outcome.workers.items in
+pub returns-clause-count : goal.returns-clause-count
+returns-clause-count g c =
+    let before = heap_count c.args.workers.items in
+    let after = heap_count c.in-Ok.outcome.workers.items in
+    omega (arith, before, after, c.in-Ok.ensures.race.heaps)
+
+pub returns-clause-raced : goal.returns-clause-raced
+returns-clause-raced g c =
+    let w = world_of c.args.workers.items in
+    let v = world_of c.in-Ok.outcome.workers.items in
     let phase = c.args.phase.now in
     let known = known_in c.args.names.now in
-    let n = c.len-count.result in
+    let n = vec_len c.args.workers in
     let records = map (λ (r : Vec Entry Global). r.items) c.in-Ok.outcome.records.items in
     let old = string_bytes c.args.text.now in
     let new = string_bytes c.write_phase.new.text in
     let learnt = known_in c.write_phase.new.names in
-    let many : length c.deref.result.now ≡ n = omega (arith, c.deref.ensures.len, c.in_ok-scripts.ensures.counts.0) in
+    let count : length c.deref.result.now ≡ c.len-count.result = omega (arith, c.deref.ensures.len, c.in_ok-scripts.ensures.counts.0) in
+    let many : length c.deref.result.now ≡ n = omega (arith, count, c.len-count.ensures) in
     let lines : map (λ (l : Vec Line Global). l.items) c.deref.result.now ≡ map (λ w. own_lines w phase) (range_with_len 0 (length c.deref.result.now))
-    = ap (map (λ (l : Vec Line Global). l.items)) c.deref.ensures.value ∙ (c.in_ok-scripts.ensures.lines ∙ ap (λ (k : ℕ). map (λ w. own_lines w phase) (range_with_len 0 k)) (sym many)) in
+    = ap (map (λ (l : Vec Line Global). l.items)) c.deref.ensures.value ∙ (c.in_ok-scripts.ensures.lines ∙ ap (λ (k : ℕ). map (λ w. own_lines w phase) (range_with_len 0 k)) (sym count)) in
     let told = map (λ (r : Vec Entry Global). r.items) c.deref-2.result.now in
     let told_is : told ≡ records = ap (map (λ (r : Vec Entry Global). r.items)) c.deref-2.ensures.value in
     let text : new ≡ old ++ records_text phase told (length c.deref.result.now) = c.in_ok-write_phase.ensures.text phase lines in
     let names : learnt ≡ known_below known phase told (length c.deref.result.now) = c.in_ok-write_phase.ensures.known phase lines in
-    phase_raced ws vs n known learnt phase records old new (omega (arith, c.len-count.ensures)) c.in-Ok.ensures.yard
-    (subst (λ (s : List (List Call)). IsRace (world_of ws) s records (world_of vs)) c.in_ok-scripts.ensures.calls c.in-Ok.ensures.race)
-    (names ∙ (ap (λ t. known_below known phase t (length c.deref.result.now)) told_is ∙ ap (λ (k : ℕ). known_below known phase records k) many))
-    (text ∙ (ap (λ t. old ++ records_text phase t (length c.deref.result.now)) told_is ∙ ap (λ (k : ℕ). old ++ records_text phase records k) many))
+    let raced : IsRace w (scripts_in c.len-count.result known phase) records v
+    = subst (λ (s : List (List Call)). IsRace w s records v) c.in_ok-scripts.ensures.calls c.in-Ok.ensures.race in
+    record {
+      records = records;
+      raced = subst (λ (k : ℕ). IsRace w (scripts_in k known phase) records v) (sym count ∙ many) raced;
+      known_are = names ∙ (ap (λ t. known_below known phase t (length c.deref.result.now)) told_is ∙ ap (λ (k : ℕ). known_below known phase records k) many);
+      text_is = text ∙ (ap (λ t. old ++ records_text phase t (length c.deref.result.now)) told_is ∙ ap (λ (k : ℕ). old ++ records_text phase records k) many);
+    }

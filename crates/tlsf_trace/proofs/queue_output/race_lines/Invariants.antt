@@ -1,0 +1,19 @@
+use Rattle.std.proofs.Common.{◌≡◌, ◌≤◌, IfSome, length, vec_len, string_bytes}
+use Rattle.tlsf_crew.specs.queues.QueueRace.{IsQueueRace}
+use Rattle.tlsf_crew.specs.queues.QueueYard.{IsQueueYard, queue_world_of}
+use Rattle.tlsf_lines.specs.Phases.{known_in, none_known, phases_of}
+use Rattle.tlsf_trace.specs.RaceSoFar.{IsRaceSoFar}
+use Rattle.tlsf_trace.proofs.RacedPhases.{lines_left, phases_left}
+use Rattle.tlsf_trace.proofs.queue_output.race_lines.Given as goal
+
+-- the phases so far were raced
+abbrev pub invariant-loop-rest : goal.invariant-loop-rest
+invariant-loop-rest g l = record {
+  yard : IsQueueYard l.workers.items;
+  count : vec_len l.workers ≡ vec_len l.fn.workers;
+  raced : IsRaceSoFar IsQueueRace (vec_len l.fn.workers) (queue_world_of l.fn.workers.items) none_known (phases_of l.fn.lines) (string_bytes l.fn.text) (queue_world_of l.workers.items) (known_in l.names) (phases_left l.rest) (string_bytes l.text);
+  few : IfSome l.rest (λ lines. length lines.now ≤ 32768);
+}
+
+abbrev pub decreases-loop-rest : goal.decreases-loop-rest
+decreases-loop-rest g l = lines_left l.rest

@@ -1,0 +1,28 @@
+use Rattle.std.proofs.Common.{◌≡◌, ◌<◌, ◌++◌, map, length, get_or, string_bytes, sym, ap, ◌∙◌, arith}
+use Rattle.std.proofs.lemmas.List.{length-map}
+use Rattle.std.proofs.Math.ListN.{get_or-map}
+use Rattle.std.proofs.Math.Seq.{map-set_same}
+use Rattle.tlsf_heap.specs.declared.report.Report.{Report}
+use Rattle.tlsf_heap.specs.Reports.{report_of}
+use Rattle.tlsf_crew.specs.queues.QueueWorkers.{queue_heap}
+use Rattle.tlsf_trace.specs.ReportLines.{report_line}
+use Rattle.tlsf_trace.proofs.ReportSteps.{goes_on}
+use Rattle.tlsf_trace.proofs.report_lines.write_queue_reports.Goals as goal
+
+pub loop-number-preserved : goal.loop-number-preserved
+loop-number-preserved c =
+    let ws = c.loop-number.workers in
+    let i = c.loop-number.number in
+    let found = c.index-workers-number.result in
+    let a = get_or ws i found in
+    let inv = c.loop-number.invariant in
+    let heaps = map queue_heap c.args.workers.now in
+    let len : length heaps ≡ length ws = ap length (sym inv.heaps) ∙ length-map ws queue_heap in
+    let within : i < length heaps = omega (arith, len) in
+    let here : get_or heaps i (queue_heap found) ≡ queue_heap a = ap (λ l. get_or l i (queue_heap found)) (sym inv.heaps) ∙ get_or-map queue_heap ws i found in
+    let line : string_bytes c.write_line.new.text ≡ string_bytes c.loop-number.text ++ report_line i (report_of 4 (queue_heap a)) =
+    c.in_ok-write_line.ensures ∙ ap (λ (r : Report). string_bytes c.loop-number.text ++ report_line i r) c.report-report.ensures.report in
+    record {
+      heaps = map-set_same queue_heap ws i c.report-report.new.self found c.report-report.ensures.heap ∙ inv.heaps;
+      so_far = rw line (goes_on _ _ heaps i (queue_heap found) (queue_heap a) within here inv.so_far);
+    }

@@ -1,0 +1,11 @@
+use Rattle.std.proofs.Common.{◌≡◌, ◌++◌, map, string_bytes, drop}
+use Rattle.tlsf_crew.specs.queues.QueueWorkers.{queue_heap}
+use Rattle.tlsf_trace.specs.ReportLines.{report_text, report_text_from}
+use Rattle.tlsf_trace.proofs.report_lines.write_queue_reports.Given as goal
+
+-- the heaps stay, and the lines so far and those of the heaps that are left are the lines of all
+abbrev pub invariant-loop-number : goal.invariant-loop-number
+invariant-loop-number l = record {
+  heaps : map queue_heap l.workers ≡ map queue_heap l.fn.workers;
+  so_far : string_bytes l.text ++ report_text_from l.number (drop l.number (map queue_heap l.fn.workers)) ≡ string_bytes l.fn.text ++ report_text (map queue_heap l.fn.workers);
+}

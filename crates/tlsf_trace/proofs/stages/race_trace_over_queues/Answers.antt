@@ -1,0 +1,16 @@
+use Rattle.std.proofs.Common.{arith, string_bytes}
+use Rattle.std.proofs.lemmas.List.Sums.{count_by-le-length}
+use Rattle.tlsf_lines.specs.Lines.{is_call}
+use Rattle.tlsf_trace.specs.Replay.{RacesQueues}
+use Rattle.tlsf_lines.specs.Views.{view_trace}
+use Rattle.tlsf_trace.proofs.WholeReplay.{run_is_done}
+use Rattle.tlsf_trace.proofs.stages.race_trace_over_queues.Goals as goal
+
+pub returns : goal.returns
+returns g c =
+    run_is_done RacesQueues _ _ _ _ c.in_ok-bytes.bytes.items c.in_ok-bytes.ensures.whole c.in_ok-bytes.ensures.end c.in_ok-bytes.ensures.limits
+    (view_trace c.in_ok-trace.trace) (rw c.deref.ensures.value at c.in_ok-trace.ensures.ok) _ c.count_calls.ensures (string_bytes c.in_ok-output.output) c.in_ok-output.ensures
+    c.finish.result (rw c.deref-2.ensures at c.finish.ensures)
+
+pub overflow_cast-count_calls : goal.overflow_cast-count_calls
+overflow_cast-count_calls g c = omega (arith, c.in_ok-trace.ensures.lines, c.count_calls.ensures, count_by-le-length is_call c.in_ok-trace.trace.lines.items)
