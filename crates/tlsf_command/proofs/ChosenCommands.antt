@@ -16,7 +16,7 @@ use Rattle.tlsf_command.specs.declared.class_question.ClassQuestion.{ClassQuesti
 use Rattle.tlsf_command.specs.declared.class_question.ClassQuestion.TheVariants.{Coarse, Fine, NoClass}
 use Rattle.tlsf_command.specs.declared.size_question.SizeQuestion.{SizeQuestion}
 use Rattle.tlsf_command.specs.declared.command_line.Choice.{Choice}
-use Rattle.tlsf_command.specs.declared.command_line.Choice.TheVariants.{Replay, Held, Race, Map, MapText, Classes, Size}
+use Rattle.tlsf_command.specs.declared.command_line.Choice.TheVariants.{Replay, Held, Race, RaceQueues, Map, MapText, Classes, Size}
 use Rattle.tlsf_command.proofs.NamedCommands.{faultless_named, subcommand_name-rows}
 use Rattle.tlsf_command.proofs.SizeTables.{has_table}
 
@@ -41,6 +41,7 @@ pub only_replay : (words : List Text) (choice : Choice) → command_in words ≡
 only_replay words Replay is flag asks = refl
 only_replay words Held is flag asks = absurd (asks.sized.0 flag)
 only_replay words Race is flag asks = absurd (other_name words Race _ asks is refl refl)
+only_replay words RaceQueues is flag asks = absurd (other_name words RaceQueues _ asks is refl refl)
 only_replay words Map is flag asks = absurd (other_name words Map _ asks is refl refl)
 only_replay words MapText is flag asks = absurd (other_name words MapText _ asks is refl refl)
 only_replay words (Classes question) is flag asks = absurd (other_name words (Classes question) _ asks is refl refl)
@@ -50,24 +51,37 @@ pub only_held : (words : List Text) (choice : Choice) → command_in words ≡ S
 only_held words Replay is flag asks = absurd (asks.sized flag)
 only_held words Held is flag asks = refl
 only_held words Race is flag asks = absurd (other_name words Race _ asks is refl refl)
+only_held words RaceQueues is flag asks = absurd (other_name words RaceQueues _ asks is refl refl)
 only_held words Map is flag asks = absurd (other_name words Map _ asks is refl refl)
 only_held words MapText is flag asks = absurd (other_name words MapText _ asks is refl refl)
 only_held words (Classes question) is flag asks = absurd (other_name words (Classes question) _ asks is refl refl)
 only_held words (Size question) is flag asks = absurd (other_name words (Size question) _ asks is refl refl)
 
-pub only_race : (words : List Text) (choice : Choice) → command_in words ≡ Some (codes "race") → Asks words choice → choice ≡ Race
-only_race words Replay is asks = absurd (other_name words Replay _ asks is refl refl)
-only_race words Held is asks = absurd (other_name words Held _ asks is refl refl)
-only_race words Race is asks = refl
-only_race words Map is asks = absurd (other_name words Map _ asks is refl refl)
-only_race words MapText is asks = absurd (other_name words MapText _ asks is refl refl)
-only_race words (Classes question) is asks = absurd (other_name words (Classes question) _ asks is refl refl)
-only_race words (Size question) is asks = absurd (other_name words (Size question) _ asks is refl refl)
+pub only_race : (words : List Text) (choice : Choice) → command_in words ≡ Some (codes "race") → flag_given (codes "queues") words ≡ Some (codes "false") → Asks words choice → choice ≡ Race
+only_race words Replay is flag asks = absurd (other_name words Replay _ asks is refl refl)
+only_race words Held is flag asks = absurd (other_name words Held _ asks is refl refl)
+only_race words Race is flag asks = refl
+only_race words RaceQueues is flag asks = absurd (asks.sized.0 flag)
+only_race words Map is flag asks = absurd (other_name words Map _ asks is refl refl)
+only_race words MapText is flag asks = absurd (other_name words MapText _ asks is refl refl)
+only_race words (Classes question) is flag asks = absurd (other_name words (Classes question) _ asks is refl refl)
+only_race words (Size question) is flag asks = absurd (other_name words (Size question) _ asks is refl refl)
+
+pub only_race_queues : (words : List Text) (choice : Choice) → command_in words ≡ Some (codes "race") → flag_given (codes "queues") words ≡ Some (codes "true") → Asks words choice → choice ≡ RaceQueues
+only_race_queues words Replay is flag asks = absurd (other_name words Replay _ asks is refl refl)
+only_race_queues words Held is flag asks = absurd (other_name words Held _ asks is refl refl)
+only_race_queues words Race is flag asks = absurd (asks.sized flag)
+only_race_queues words RaceQueues is flag asks = refl
+only_race_queues words Map is flag asks = absurd (other_name words Map _ asks is refl refl)
+only_race_queues words MapText is flag asks = absurd (other_name words MapText _ asks is refl refl)
+only_race_queues words (Classes question) is flag asks = absurd (other_name words (Classes question) _ asks is refl refl)
+only_race_queues words (Size question) is flag asks = absurd (other_name words (Size question) _ asks is refl refl)
 
 pub only_map : (words : List Text) (choice : Choice) → command_in words ≡ Some (codes "map") → flag_given (codes "text") words ≡ Some (codes "false") → Asks words choice → choice ≡ Map
 only_map words Replay is flag asks = absurd (other_name words Replay _ asks is refl refl)
 only_map words Held is flag asks = absurd (other_name words Held _ asks is refl refl)
 only_map words Race is flag asks = absurd (other_name words Race _ asks is refl refl)
+only_map words RaceQueues is flag asks = absurd (other_name words RaceQueues _ asks is refl refl)
 only_map words Map is flag asks = refl
 only_map words MapText is flag asks = absurd (asks.sized.0 flag)
 only_map words (Classes question) is flag asks = absurd (other_name words (Classes question) _ asks is refl refl)
@@ -77,6 +91,7 @@ pub only_map_text : (words : List Text) (choice : Choice) → command_in words �
 only_map_text words Replay is flag asks = absurd (other_name words Replay _ asks is refl refl)
 only_map_text words Held is flag asks = absurd (other_name words Held _ asks is refl refl)
 only_map_text words Race is flag asks = absurd (other_name words Race _ asks is refl refl)
+only_map_text words RaceQueues is flag asks = absurd (other_name words RaceQueues _ asks is refl refl)
 only_map_text words Map is flag asks = absurd (asks.sized flag)
 only_map_text words MapText is flag asks = refl
 only_map_text words (Classes question) is flag asks = absurd (other_name words (Classes question) _ asks is refl refl)
@@ -86,6 +101,7 @@ pub only_size : (words : List Text) (choice : Choice) → command_in words ≡ S
 only_size words Replay is asks = absurd (other_name words Replay _ asks is refl refl)
 only_size words Held is asks = absurd (other_name words Held _ asks is refl refl)
 only_size words Race is asks = absurd (other_name words Race _ asks is refl refl)
+only_size words RaceQueues is asks = absurd (other_name words RaceQueues _ asks is refl refl)
 only_size words Map is asks = absurd (other_name words Map _ asks is refl refl)
 only_size words MapText is asks = absurd (other_name words MapText _ asks is refl refl)
 only_size words (Classes question) is asks = absurd (other_name words (Classes question) _ asks is refl refl)
@@ -102,6 +118,7 @@ pub answerable : (words : List Text) (choice : Choice) → Asks words choice →
 answerable words Replay asks = tt
 answerable words Held asks = tt
 answerable words Race asks = tt
+answerable words RaceQueues asks = tt
 answerable words Map asks = tt
 answerable words MapText asks = tt
 answerable words (Classes question) asks = has_classes (texts_given (codes "N") words) (texts_given (codes "sli") words) question asks.sized
@@ -123,15 +140,6 @@ some_named words matches answers no_classes no_race no_size no_map no_replay =
       | inr (inr (inr (inl is))) ↦ no_size (called ∙ ap label is.1)
       | inr (inr (inr (inr is))) ↦ no_map (called ∙ ap label is.1)
     ]
-
--- where it is `race` the words ask for a race
-pub asks_race : (words : List Text) (matches : ArgMatches) → Answers words matches
-    → subcommand_name_of matches ≡ Some (codes "race") → Asks words Race
-asks_race words matches answers called = record {
-  faultless = answers.0;
-  named = sym (label_of_words words matches answers) ∙ called;
-  sized = tt;
-}
 
 -- what is read of the command that was entered
 through : {A : Type 0} (f : List Row → Option A) (o : Option (Text × List Row)) → option_and_then f (option_map (λ (e : Text × List Row). e.1) o)
@@ -177,6 +185,19 @@ module _ (words : List Text) (matches given : ArgMatches) (flag : Bool) (answers
       → flag ≡ true → Asks words Held
   asks_held called clear none set =
       record { faultless = answers.0; named = sym (label_of_words words matches answers) ∙ called; sized = flag_has words matches given (codes "held") flag answers entered clear none set }
+
+  -- where it is `race` and its flag isn't set, for a race over lanes
+  pub asks_race : subcommand_name_of matches ≡ Some (codes "race")
+      → (one_text (found_of given) (codes "queues") ≡ Some (codes "true") → flag ≡ true) → flag ≡ false → Asks words Race
+  asks_race called set clear =
+      record { faultless = answers.0; named = sym (label_of_words words matches answers) ∙ called; sized = flag_lacks words matches given (codes "queues") flag answers entered set clear }
+
+  -- and where it is set, for one over queues
+  pub asks_race_queues : subcommand_name_of matches ≡ Some (codes "race")
+      → (one_text (found_of given) (codes "queues") ≡ Some (codes "false") → flag ≡ false) → (one_text (found_of given) (codes "queues") ≡ None → flag ≡ false)
+      → flag ≡ true → Asks words RaceQueues
+  asks_race_queues called clear none set =
+      record { faultless = answers.0; named = sym (label_of_words words matches answers) ∙ called; sized = flag_has words matches given (codes "queues") flag answers entered clear none set }
 
   -- where it is `map` and its flag isn't set, for a map
   pub asks_map : subcommand_name_of matches ≡ Some (codes "map")

@@ -204,10 +204,22 @@ pub held_flagged : (called : Text) → flag_given (codes "held") (called ∷ rep
 unfolding clap_on_literals
 held_flagged called = refl
 
--- `race`
+-- `race`, and `race --queues`
 pub race_named : (called : Text) → AreNamed (called ∷ race_name ∷ []) race_name
 unfolding clap_on_literals
 race_named called = record { faultless = refl; named = refl }
+
+pub race_unflagged : (called : Text) → flag_given (codes "queues") (called ∷ race_name ∷ []) ≡ Some (codes "false")
+unfolding clap_on_literals
+race_unflagged called = refl
+
+pub race_queues_named : (called : Text) → AreNamed (called ∷ race_name ∷ codes "--queues" ∷ []) race_name
+unfolding clap_on_literals
+race_queues_named called = record { faultless = refl; named = refl }
+
+pub race_queues_flagged : (called : Text) → flag_given (codes "queues") (called ∷ race_name ∷ codes "--queues" ∷ []) ≡ Some (codes "true")
+unfolding clap_on_literals
+race_queues_flagged called = refl
 
 -- `map`, and `map --text`
 pub map_named : (called : Text) → AreNamed (called ∷ map_name ∷ []) map_name

@@ -7,9 +7,9 @@ use Rattle.tlsf_command.specs.CommandLine.{Asks, command_in, faults_of, flag_giv
 use Rattle.tlsf_command.specs.Runs.{Streams, Does, DoesOrLacksMemory, Ends, LacksMemory, ShowsAnswer, ShowsOptionsOrLacksMemory, ShowsPairsOrLacksMemory}
 use Rattle.tlsf_command.specs.SizeQuestions.{blocks_of, bytes_in, option_words, pair_words, AreOptions, ArePairs, IsQuestion, Pair, SizeOption}
 use Rattle.tlsf_command.specs.declared.command_line.Choice.{Choice}
-use Rattle.tlsf_command.specs.declared.command_line.Choice.TheVariants.{Held, Map, MapText, Race, Replay}
-use Rattle.tlsf_command.proofs.ChosenCommands.{only_held, only_map, only_map_text, only_race, only_replay, only_size}
-use Rattle.tlsf_command.proofs.NamedCommands.{held_flagged, held_named, map_named, map_text_flagged, map_text_named, map_unflagged, race_named, replay_named, replay_unflagged}
+use Rattle.tlsf_command.specs.declared.command_line.Choice.TheVariants.{Held, Map, MapText, Race, RaceQueues, Replay}
+use Rattle.tlsf_command.proofs.ChosenCommands.{only_held, only_map, only_map_text, only_race, only_race_queues, only_replay, only_size}
+use Rattle.tlsf_command.proofs.NamedCommands.{held_flagged, held_named, map_named, map_text_flagged, map_text_named, map_unflagged, race_named, race_queues_flagged, race_queues_named, race_unflagged, replay_named, replay_unflagged}
 use Rattle.tlsf_command.proofs.SizeOptions.{are_options, options_faultless, options_named, options_of, options_question, pair_blocks, pair_bytes, pair_words_are}
 
 -- ---- where `clap` ends it by an error
@@ -50,7 +50,11 @@ module _ (words : List Text) (called : Text) (status : ℕ) (old new : Streams) 
 
   pub ends_race : words ≡ called ∷ codes "race" ∷ [] → DoesOrLacksMemory Race status old new
   ends_race is = one_choice words _ Race status old new is (race_named called).faultless
-      (λ other asks. only_race words other (ap command_in is ∙ (race_named called).named) asks) run
+      (λ other asks. only_race words other (ap command_in is ∙ (race_named called).named) (ap (flag_given (codes "queues")) is ∙ race_unflagged called) asks) run
+
+  pub ends_race_queues : words ≡ called ∷ codes "race" ∷ codes "--queues" ∷ [] → DoesOrLacksMemory RaceQueues status old new
+  ends_race_queues is = one_choice words _ RaceQueues status old new is (race_queues_named called).faultless
+      (λ other asks. only_race_queues words other (ap command_in is ∙ (race_queues_named called).named) (ap (flag_given (codes "queues")) is ∙ race_queues_flagged called) asks) run
 
   pub ends_map : words ≡ called ∷ codes "map" ∷ [] → DoesOrLacksMemory Map status old new
   ends_map is = one_choice words _ Map status old new is (map_named called).faultless

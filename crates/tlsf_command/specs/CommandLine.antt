@@ -7,7 +7,7 @@ use Rattle.clap.specs.declared.parser.matches.ArgMatches.{ArgMatches}
 use Rattle.tlsf_command.specs.ClassQuestions.{HasClasses, IsClassQuestion}
 use Rattle.tlsf_command.specs.SizeQuestions.{HasTable, IsQuestion}
 use Rattle.tlsf_command.specs.declared.command_line.Choice.{Choice}
-use Rattle.tlsf_command.specs.declared.command_line.Choice.TheVariants.{Replay, Held, Race, Map, MapText, Classes, Size}
+use Rattle.tlsf_command.specs.declared.command_line.Choice.TheVariants.{Replay, Held, Race, RaceQueues, Map, MapText, Classes, Size}
 
 -- the size that `classes` asks for, a number from 4 to 2^24
 abbrev pub size_rule : Rule
@@ -51,6 +51,10 @@ flag_rule name = record (new_rule name) { long = Some name; action = Some SetTru
 abbrev pub replay_app : App
 replay_app = with_rule (new_app (codes "replay")) (flag_rule (codes "held"))
 
+-- the command `race`, with the flag by which it goes over queues
+abbrev pub race_app : App
+race_app = with_rule (new_app (codes "race")) (flag_rule (codes "queues"))
+
 -- the command `map`, with the flag by which the heaps are drawn in characters
 abbrev pub map_app : App
 map_app = with_rule (new_app (codes "map")) (flag_rule (codes "text"))
@@ -65,7 +69,7 @@ bare_app =
 abbrev pub tlsf_app : App
 tlsf_app =
     let replaying = with_subcommand bare_app replay_app.top in
-    let racing = with_subcommand replaying (new_app (codes "race")).top in
+    let racing = with_subcommand replaying race_app.top in
     let sizing = with_subcommand (with_subcommand racing classes_app.top) size_app.top in
     with_subcommand sizing map_app.top
 
@@ -95,6 +99,7 @@ abbrev pub name_of : Choice → Text
 name_of Replay = codes "replay"
 name_of Held = codes "replay"
 name_of Race = codes "race"
+name_of RaceQueues = codes "race"
 name_of Map = codes "map"
 name_of MapText = codes "map"
 name_of (Classes question) = codes "classes"
@@ -111,7 +116,8 @@ LacksFlag name words = flag_given name words ≢ Some (codes "true")
 abbrev pub HasSize : List Text → Choice → Type 0
 HasSize words Replay = LacksFlag (codes "held") words
 HasSize words Held = HasFlag (codes "held") words
-HasSize words Race = ⊤
+HasSize words Race = LacksFlag (codes "queues") words
+HasSize words RaceQueues = HasFlag (codes "queues") words
 HasSize words Map = LacksFlag (codes "text") words
 HasSize words MapText = HasFlag (codes "text") words
 HasSize words (Classes question) = IsClassQuestion (texts_given (codes "N") words) (texts_given (codes "sli") words) question

@@ -15,11 +15,11 @@ use Rattle.tlsf_command.specs.declared.size_question.SizeQuestion.{SizeQuestion}
 use Rattle.tlsf_command.specs.declared.size_question.SizeQuestion.TheVariants.{Table, Unpaired}
 use Rattle.tlsf_laws.specs.declared.kind.Kind.{Kind}
 use Rattle.tlsf_command.specs.declared.command_line.Choice.{Choice}
-use Rattle.tlsf_command.specs.declared.command_line.Choice.TheVariants.{Classes, Held, Map, MapText, Race, Replay, Size}
+use Rattle.tlsf_command.specs.declared.command_line.Choice.TheVariants.{Classes, Held, Map, MapText, Race, RaceQueues, Replay, Size}
 use Rattle.tlsf_held.specs.Measures.{Measures}
 use Rattle.tlsf_picture.specs.Drawn.{Draws, DrawsText}
 use Rattle.tlsf_lines.specs.Prefixes.{AppendsFront}
-use Rattle.tlsf_trace.specs.Replay.{IsRun, Outputs, Races, Replays}
+use Rattle.tlsf_trace.specs.Replay.{IsRun, Outputs, Races, RacesQueues, Replays}
 use Rattle.tlsf_lines.specs.TraceFaults.{no_memory_fault, write_fault}
 use Rattle.tlsf_trace.specs.declared.summary.Summary.{Summary}
 use Rattle.tlsf_lines.specs.declared.trace_fault.TraceFault.{TraceFault}
@@ -61,6 +61,10 @@ RunsHeld = RunsTrace Measures
 -- the run is a race, each phase in threads
 abbrev pub RunsRace : ℕ → Streams → Streams → Type 0
 RunsRace = RunsTrace Races
+
+-- or over queues
+abbrev pub RunsRaceQueues : ℕ → Streams → Streams → Type 0
+RunsRaceQueues = RunsTrace RacesQueues
 
 -- the run draws the heaps that the trace leaves, as an SVG file
 abbrev pub RunsMap : ℕ → Streams → Streams → Type 0
@@ -156,12 +160,13 @@ ShowsAnswer DisplayVersion status old new = ShowsText status old new
 ShowsAnswer OutOfMemory status old new = LacksMemory status old new
 ShowsAnswer _ status old new = ShowsUsage status old new
 
--- the run does what was chosen: it replays, or measures a replay; it races; it draws the heaps of a trace as an SVG file or in
+-- the run does what was chosen: it replays, or measures a replay; it races, over lanes or over queues; it draws the heaps of a trace as an SVG file or in
 -- characters; it shows the classes of a size, or the words of a region
 abbrev pub Does : Choice → ℕ → Streams → Streams → Type 0
 Does Replay = RunsReplay
 Does Held = RunsHeld
 Does Race = RunsRace
+Does RaceQueues = RunsRaceQueues
 Does Map = RunsMap
 Does MapText = RunsMapText
 Does (Classes question) = AnswersClasses question

@@ -2,7 +2,7 @@ ghost use Rattle.std.specs.Prelude.{◌≡◌, List, false, map, IfOk};
 ghost use Rattle.clap.specs.declared.builder.command.Command.{Command};
 ghost use Rattle.clap.specs.Words.{app_of, new_app, rule_of, subcommand_of, subcommand_rows_of, with_subcommand, FailsBy, Text};
 ghost use Rattle.clap.specs.declared.builder.command.Command.TheViews.{out-Command};
-ghost use Rattle.tlsf_command.specs.CommandLine.{bare_app, classes_app, count_rule, flag_rule, level_rule, map_app, replay_app, size_app, size_rule, tlsf_app, faults_of, Answers, Asks};
+ghost use Rattle.tlsf_command.specs.CommandLine.{bare_app, classes_app, count_rule, flag_rule, level_rule, map_app, race_app, replay_app, size_app, size_rule, tlsf_app, faults_of, Answers, Asks};
 
 use crate::class_question::ClassQuestion;
 use crate::size_question::SizeQuestion;
@@ -22,6 +22,8 @@ pub enum Choice {
     /// `tlsf race`: read a trace from standard input, run each phase in threads, one for each worker,
     /// and write its replies and reports to standard output.
     Race,
+    /// `tlsf race --queues`: do so over queues, one for each worker, in place of lanes.
+    RaceQueues,
     /// `tlsf map`: read a trace from standard input, and write a picture of the heaps that it leaves to
     /// standard output, as an SVG file.
     Map,
@@ -47,7 +49,8 @@ and frees the first block:
   f 0 1
 
 'tlsf replay --held' writes how large the heaps must be for the calls of a trace.
-'tlsf race' replays with the workers of each phase in threads of their own.
+'tlsf race' replays with the workers of each phase in threads of their own;
+'tlsf race --queues' does so with one queue for the posts to each worker.
 'tlsf map' draws the heaps that a trace leaves, as an SVG file; 'tlsf map --text'
 draws them in the characters of a terminal.
 'tlsf classes N' and 'tlsf size' read nothing and write one line.
@@ -130,6 +133,11 @@ a trace, and this is what it comes to:
   1 d drained 0
   heap 0 live 0 0 0 free 1 64 largest 64 grant 488 fragmentation 0 waste 0 age 1
   heap 1 live 0 0 0 free 1 64 largest 64 grant 488 fragmentation 0 waste 0 age 1
+
+With --queues each worker has one queue for the posts of all others, in place
+of a lane from each. It holds C posts, so a post is refused as full by what all
+others have posted, and posts of several workers are taken in the order in
+which they came, which is up to the schedule.
 
 The exit status is 0 where the replies are written, 1 where a fault of the
 trace, of a read or of a write ends the run, and 3 where memory runs out, or no
@@ -290,6 +298,17 @@ fn replay_command<'a>(alloc: Global) -> Result<Command<'a>, AllocError>
     described(alloc, "replay", about, REPLAY_HELP).arg(flag(alloc, "held", help))
 }
 
+// The command `race`.
+fn race_command<'a>(alloc: Global) -> Result<Command<'a>, AllocError>
+    ensures app { IfOk result (λ command. app_of command ≡ race_app) }
+    ensures local { IfOk result (λ command. (out-Command command).has_globals ≡ false) }
+{
+    let about =
+        "Read a trace from standard input and run each phase in threads, one for each worker";
+    let help = "Post into one queue for each worker, in place of lanes";
+    described(alloc, "race", about, RACE_HELP).arg(flag(alloc, "queues", help))
+}
+
 // The command `map`.
 fn map_command<'a>(alloc: Global) -> Result<Command<'a>, AllocError>
     ensures app { IfOk result (λ command. app_of command ≡ map_app) }
@@ -343,10 +362,8 @@ fn with_command<'a>(
 fn tlsf_command<'a>(alloc: Global) -> Result<Command<'a>, AllocError>
     ensures { IfOk result (λ command. app_of command ≡ tlsf_app) }
 {
-    let race =
-        "Read a trace from standard input and run each phase in threads, one for each worker";
     let replaying = with_command(bare_command(alloc), replay_command(alloc))?;
-    let racing = replaying.subcommand(described(alloc, "race", race, RACE_HELP))?;
+    let racing = with_command(replaying, race_command(alloc))?;
     let counting = with_command(racing, classes_command(alloc))?;
     let sizing = with_command(counting, size_command(alloc))?;
     with_command(sizing, map_command(alloc))?.bin_name("tlsf")
@@ -369,8 +386,12 @@ fn chosen(alloc: Global, matches: &ArgMatches<'_>) -> Result<Choice, AllocError>
     if let Some(given) = matches.subcommand_matches("classes") {
         return Ok(Choice::Classes(ClassQuestion::given(given)));
     }
-    if matches.subcommand_matches("race").is_some() {
-        return Ok(Choice::Race);
+    if let Some(given) = matches.subcommand_matches("race") {
+        return Ok(if given.get_flag("queues") {
+            Choice::RaceQueues
+        } else {
+            Choice::Race
+        });
     }
     if let Some(given) = matches.subcommand_matches("size") {
         return Ok(Choice::Size(SizeQuestion::given(alloc, given)?));

@@ -2,7 +2,7 @@ ghost use Rattle.std.specs.Prelude.{◌≡◌, ℕ, List, [], ◌∷◌, Option,
 ghost use Rattle.clap.specs.Words.{kind_of};
 ghost use Rattle.tlsf_command.specs.FaultLines.{fault_line, status_of_fault};
 ghost use Rattle.tlsf_command.specs.CommandLine.{IsAnswerable};
-ghost use Rattle.tlsf_command.specs.Runs.{streams, status_of, Does, DoesOrLacksMemory, Ends, RacesOrLacksMemory, ReplaysOrLacksMemory, Reports, RunsHeld, RunsMap, RunsMapText, RunsRace, RunsReplay, ShowsAnswer, ShowsOptionsOrLacksMemory, ShowsPairsOrLacksMemory};
+ghost use Rattle.tlsf_command.specs.Runs.{streams, status_of, Does, DoesOrLacksMemory, Ends, RacesOrLacksMemory, ReplaysOrLacksMemory, Reports, RunsHeld, RunsMap, RunsMapText, RunsRace, RunsRaceQueues, RunsReplay, ShowsAnswer, ShowsOptionsOrLacksMemory, ShowsPairsOrLacksMemory};
 ghost use Rattle.tlsf_command.specs.SizeQuestions.{option_words, pair_words, AreOptions, ArePairs, Pair, SizeOption};
 ghost use Rattle.tlsf_lines.specs.Prefixes.{AppendsFront};
 
@@ -20,7 +20,7 @@ use std::thread::Threads;
 use tlsf_crew::Gate;
 use tlsf_held::measure_trace;
 use tlsf_picture::{draw_trace, draw_trace_as_text};
-use tlsf_trace::{Summary, TraceFault, WriteError, race_trace, replay};
+use tlsf_trace::{Summary, TraceFault, WriteError, race_trace, race_trace_over_queues, replay};
 
 // Reports the fault, and gives its exit status, which a fault in writing does not change.
 pub(crate) fn report<E: Write>(fault: TraceFault, errors: &mut E) -> u8
@@ -85,6 +85,25 @@ fn run_race<T: Threads + Wait + Sync, R: Read, W: Write, E: Write, G: Gate>(
         (streams (R.remaining reader.new) (W.contents writer.new) (E.contents errors.new)) }
 {
     ended(race_trace(rt, alloc, reader, writer, gate), errors)
+}
+
+// Does so over queues, and reports the fault that ended it.
+fn run_race_queues<T: Threads + Wait + Sync, R: Read, W: Write, E: Write, G: Gate>(
+    rt: &T,
+    alloc: Global,
+    reader: &mut R,
+    writer: &mut W,
+    errors: &mut E,
+    gate: &G,
+) -> u8
+    ensures { RunsRaceQueues result
+        (streams (R.remaining reader.old) (W.contents writer.old) (E.contents errors.old))
+        (streams (R.remaining reader.new) (W.contents writer.new) (E.contents errors.new)) }
+{
+    ended(
+        race_trace_over_queues(rt, alloc, reader, writer, gate),
+        errors,
+    )
 }
 
 // Draws the heaps that a trace leaves, and reports the fault that ended it.
@@ -159,6 +178,7 @@ fn act<T: Threads + Wait + Sync, R: Read, W: Write, E: Write, G: Gate>(
         Choice::Replay => run_replay(alloc, reader, writer, errors),
         Choice::Held => run_held(alloc, reader, writer, errors),
         Choice::Race => run_race(rt, alloc, reader, writer, errors, gate),
+        Choice::RaceQueues => run_race_queues(rt, alloc, reader, writer, errors, gate),
         Choice::Map => run_map(alloc, reader, writer, errors),
         Choice::MapText => run_map_text(alloc, reader, writer, errors),
         Choice::Classes(question) => run_classes(question, writer, errors),
@@ -201,6 +221,12 @@ pub fn run<T: Threads + Wait + Sync, S: AsStr, R: Read, W: Write, E: Write, G: G
     // Where they are the program's name and `race`.
     ensures race { (program : List ℕ) → map S.text words.now ≡ program ∷ codes "race" ∷ []
         → RacesOrLacksMemory result
+        (streams (R.remaining reader.old) (W.contents writer.old) (E.contents errors.old))
+        (streams (R.remaining reader.new) (W.contents writer.new) (E.contents errors.new)) }
+
+    // Where they are the program's name and `race --queues`.
+    ensures race_queues { (program : List ℕ) → map S.text words.now ≡ program ∷ codes "race" ∷ codes "--queues" ∷ []
+        → DoesOrLacksMemory Choice.RaceQueues result
         (streams (R.remaining reader.old) (W.contents writer.old) (E.contents errors.old))
         (streams (R.remaining reader.new) (W.contents writer.new) (E.contents errors.new)) }
 

@@ -120,6 +120,7 @@ fn reports_a_read_that_fails(rt: HostRuntime) {
         ("tlsf,replay", 4, 1, "tlsf"),
         ("tlsf,replay,--held", 4, 1, "tlsf"),
         ("tlsf,race", usize::MAX, 1, "tlsf: read failed (16)\n"),
+        ("tlsf,race,--queues", 4, 1, "tlsf"),
         ("tlsf,nothing", 0, 2, ""),
         ("tlsf,nothing", 4, 2, "erro"),
     ];
@@ -161,6 +162,7 @@ fn reports_a_fault_of_the_writer(rt: HostRuntime) {
         ("tlsf,replay", "0 d d"),
         ("tlsf,replay,--held", "held "),
         ("tlsf,race", "0 d d"),
+        ("tlsf,race,--queues", "0 d d"),
         ("tlsf,--help", "Prove"),
         ("tlsf,--version", "tlsf "),
         ("tlsf,classes,460", "class"),

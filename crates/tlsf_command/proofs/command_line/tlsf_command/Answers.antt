@@ -1,11 +1,11 @@
-use Rattle.std.proofs.Common.{◌≡◌, ◌∙◌, false, Result, Ok, ap, ap₂}
+use Rattle.std.proofs.Common.{◌≡◌, ◌∙◌, false, Result, Ok, ap}
 use Rattle.std.proofs.lemmas.Result.{IfOk-weaker}
 use Rattle.std.specs.Prelude.{IfOk}
 use Rattle.clap.specs.Simple.{app_of_fields}
 use Rattle.clap.specs.Words.{App, app_of, with_subcommand}
 use Rattle.clap.specs.declared.builder.command.Command.{Command}
 use Rattle.clap.specs.declared.builder.command.Command.TheViews.{out-Command}
-use Rattle.tlsf_command.specs.CommandLine.{classes_app, map_app, replay_app, size_app}
+use Rattle.tlsf_command.specs.CommandLine.{classes_app, map_app, race_app, replay_app, size_app}
 use Rattle.tlsf_command.proofs.command_line.tlsf_command.Goals as goal
 
 -- the program with a command that could be made
@@ -21,8 +21,9 @@ returns c =
     let first = joined c.replay_command.result c.in_ok-replaying.ensures.0 c.in_ok-replaying.replaying (app_of c.bare_command.result) replay_app
     c.replay_command.ensures.app c.replay_command.ensures.local c.in_ok-replaying.ensures.1 c.in_ok-replaying.ensures.2
     ∙ ap (λ (a : App). with_subcommand a replay_app.top) c.bare_command.ensures in
-    let second = c.in_ok-racing.ensures.shape c.described.ensures.local
-    ∙ ap₂ with_subcommand first (ap (λ (a : App). a.top) c.described.ensures.app) in
+    let second = joined c.race_command.result c.in_ok-racing.ensures.0 c.in_ok-racing.racing (app_of c.in_ok-replaying.replaying) race_app
+    c.race_command.ensures.app c.race_command.ensures.local c.in_ok-racing.ensures.1 c.in_ok-racing.ensures.2
+    ∙ ap (λ (a : App). with_subcommand a race_app.top) first in
     let third = joined c.classes_command.result c.in_ok-counting.ensures.0 c.in_ok-counting.counting (app_of c.in_ok-racing.racing) classes_app
     c.classes_command.ensures.app c.classes_command.ensures.local c.in_ok-counting.ensures.1 c.in_ok-counting.ensures.2
     ∙ ap (λ (a : App). with_subcommand a classes_app.top) second in

@@ -9,6 +9,9 @@ returns-in-Held g c = rw c.in-Held.is c.run_held.ensures
 pub returns-in-Race : goal.returns-in-Race
 returns-in-Race g c = rw c.in-Race.is c.run_race.ensures
 
+pub returns-in-RaceQueues : goal.returns-in-RaceQueues
+returns-in-RaceQueues g c = rw c.in-RaceQueues.is c.run_race_queues.ensures
+
 pub returns-in-Map : goal.returns-in-Map
 returns-in-Map g c = rw c.in-Map.is c.run_map.ensures
 

@@ -1,7 +1,7 @@
 use Rattle.std.proofs.Common.{rules, map, inl, inr}
 use Rattle.tlsf_command.specs.Runs.{streams}
 use Rattle.tlsf_command.proofs.ChosenCommands.{answerable}
-use Rattle.tlsf_command.proofs.RunEnds.{Run, answer_ends, does, ends_held, ends_map, ends_map_text, ends_options, ends_pairs, ends_race, ends_replay, fails}
+use Rattle.tlsf_command.proofs.RunEnds.{Run, answer_ends, does, ends_held, ends_map, ends_map_text, ends_options, ends_pairs, ends_race, ends_race_queues, ends_replay, fails}
 use Rattle.tlsf_command.proofs.commands.run.Goals as goal
 
 pub act-requires : goal.act-requires
@@ -17,6 +17,7 @@ returns-in-Ok g c =
       ends = inr (inl (c.in-Ok.choice, c.in-Ok.ensures.asked, c.act.ensures));
       replay = λ called is. ends_replay words called status old new run is;
       race = λ called is. ends_race words called status old new run is;
+      race_queues = λ called is. ends_race_queues words called status old new run is;
       size = λ called pairs are is. ends_pairs words called status old new run pairs are is;
       options = λ called options are is. ends_options words called status old new run options are is;
       held = λ called is. ends_held words called status old new run is;
@@ -35,6 +36,7 @@ returns-in-Err g c =
       ends = answer_ends words _ status old new shows c.in-Err.ensures.kinds;
       replay = λ called is. ends_replay words called status old new run is;
       race = λ called is. ends_race words called status old new run is;
+      race_queues = λ called is. ends_race_queues words called status old new run is;
       size = λ called pairs are is. ends_pairs words called status old new run pairs are is;
       options = λ called options are is. ends_options words called status old new run options are is;
       held = λ called is. ends_held words called status old new run is;
