@@ -122,7 +122,7 @@ answerable words RaceQueues asks = tt
 answerable words Map asks = tt
 answerable words MapText asks = tt
 answerable words (Classes question) asks = has_classes (texts_given (codes "N") words) (texts_given (codes "sli") words) question asks.sized
-answerable words (Size question) asks = has_table _ _ question asks.sized
+answerable words (Size question) asks = has_table (texts_given (codes "B") words) (texts_given (codes "N") words) (texts_given (codes "sli") words) question asks.sized
 
 -- ---- by what `clap` answers
 
@@ -220,20 +220,25 @@ texts_entered words matches given id answers entered =
     ap (λ (o : Option (List Text)). unwrap_or o []) (raw_values-rows (found_of given) id ∙ (sym (ap (option_and_then (all_of id)) entered)
     ∙ (through (all_of id) (subcommand_rows_of matches) ∙ ap (option_and_then (λ (e : Text × List Row). all_of id e.1)) answers.1)))
 
+-- the texts that the matches have under an id
+abbrev texts_read : Text → ArgMatches → List Text
+texts_read id given = unwrap_or (option_map raw_values (matched_of (found_of given) id)) []
+
 -- where the command is `size` the words ask the question that is made of the matches
 pub asks_size : (words : List Text) (matches given : ArgMatches) (question : SizeQuestion) → Answers words matches
     → subcommand_name_of matches ≡ Some (codes "size")
     → option_map (λ (entered : Text × List Row). entered.1) (subcommand_rows_of matches) ≡ Some (rows_of (found_of given))
-    → IsQuestion (unwrap_or (option_map raw_values (matched_of (found_of given) (codes "B"))) [])
-    (unwrap_or (option_map raw_values (matched_of (found_of given) (codes "N"))) []) question
+    → IsQuestion (texts_read (codes "B") given) (texts_read (codes "N") given) (texts_read (codes "sli") given) question
     → Asks words (Size question)
 asks_size words matches given question answers called entered made = record {
   faultless = answers.0;
   named = sym (label_of_words words matches answers) ∙ called;
-  sized = subst (λ (texts : List Text). IsQuestion (texts_given (codes "B") words) texts question)
+  sized = subst (λ (texts : List Text). IsQuestion (texts_given (codes "B") words) (texts_given (codes "N") words) texts question)
+      (texts_entered words matches given (codes "sli") answers entered)
+      (subst (λ (texts : List Text). IsQuestion (texts_given (codes "B") words) texts (texts_read (codes "sli") given) question)
       (texts_entered words matches given (codes "N") answers entered)
-      (subst (λ (texts : List Text). IsQuestion texts (unwrap_or (option_map raw_values (matched_of (found_of given) (codes "N"))) []) question)
-      (texts_entered words matches given (codes "B") answers entered) made);
+      (subst (λ (texts : List Text). IsQuestion texts (texts_read (codes "N") given) (texts_read (codes "sli") given) question)
+      (texts_entered words matches given (codes "B") answers entered) made));
 }
 
 -- and where it is `classes`

@@ -1,8 +1,8 @@
 -- The most bytes for so many blocks.
-use Rattle.std.proofs.Common.{◌≡◌, ◌≤◌, ◌^◌, ℕ, zero, suc, Option, Some, None, inl, inr, refl, arith}
+use Rattle.std.proofs.Common.{◌≡◌, ◌≤◌, ℕ, zero, suc, Option, Some, None, inl, inr, refl, arith}
 use Rattle.std.specs.Prelude.{IfSome}
 use Rattle.std.specs.Option.{unwrap_or}
-use Rattle.tlsf_class.proofs.TwoLevels.{level_4}
+use Rattle.tlsf_class.specs.Classes.{IsLevel, most_words}
 use Rattle.tlsf_heap.specs.Blocks.{want}
 use Rattle.tlsf_laws.specs.Pools.{pool_words}
 use Rattle.tlsf_pool.proofs.Bounds.{words_rise}
@@ -18,14 +18,14 @@ some_byte : (n : ℕ) → 1 ≤ suc n
 some_byte n = omega arith
 
 -- what is found is the greatest, and 0 stands for none
-pub longest_is : (most : ℕ) (found : Option ℕ) → 1 ≤ most
-    → IfSome found (λ len. (want len ≤ 2 ^ 20) × (pool_words 4 most len ≤ 2 ^ 20))
-    → IfSome found (λ longest. (len : ℕ) → want len ≤ 2 ^ 20 → pool_words 4 most len ≤ 2 ^ 20 → len ≤ longest)
-    → (found ≡ None → ¬ (pool_words 4 most 0 ≤ 2 ^ 20))
-    → IsGreatest (λ len. IsReached most len) (unwrap_or found 0)
-longest_is most None some reached greatest none = (
+pub longest_is : (sli : ℕ) → IsLevel sli → (most : ℕ) (found : Option ℕ) → 1 ≤ most
+    → IfSome found (λ len. (want len ≤ most_words sli) × (pool_words sli most len ≤ most_words sli))
+    → IfSome found (λ longest. (len : ℕ) → want len ≤ most_words sli → pool_words sli most len ≤ most_words sli → len ≤ longest)
+    → (found ≡ None → ¬ (pool_words sli most 0 ≤ most_words sli))
+    → IsGreatest (λ len. IsReached sli most len) (unwrap_or found 0)
+longest_is sli level most None some reached greatest none = (
   inr refl,
-  λ k is. absurd (none refl (within (pool_words 4 most 0) (pool_words 4 most k) (2 ^ 20) (words_rise 4 level_4 most 0 k (least k) is.2) is.3)),
+  λ k is. absurd (none refl (within (pool_words sli most 0) (pool_words sli most k) (most_words sli) (words_rise sli level most 0 k (least k) is.2) is.3)),
 )
-longest_is most (Some zero) some reached greatest none = (inr refl, λ k is. greatest k is.2 is.3)
-longest_is most (Some (suc n)) some reached greatest none = (inl (some, some_byte n, reached.0, reached.1), λ k is. greatest k is.2 is.3)
+longest_is sli level most (Some zero) some reached greatest none = (inr refl, λ k is. greatest k is.2 is.3)
+longest_is sli level most (Some (suc n)) some reached greatest none = (inl (some, some_byte n, reached.0, reached.1), λ k is. greatest k is.2 is.3)

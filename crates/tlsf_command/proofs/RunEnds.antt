@@ -78,6 +78,6 @@ module _ (words : List Text) (called : Text) (status : ℕ) (old new : Streams) 
       let options = ends_options (options_of pairs) (are_options pairs are) (is ∙ ap (λ (given : List Text). called ∷ codes "size" ∷ given) (pair_words_are pairs)) in
       elim options [
         | inl shown ↦
-            inl (shown.0, subst (λ (texts : List Text). IsQuestion (blocks_of pairs) texts shown.0) (pair_bytes pairs) (subst (λ (texts : List Text). IsQuestion texts (bytes_in (options_of pairs)) shown.0) (pair_blocks pairs) shown.1), shown.2)
+            inl (shown.0, subst (λ (texts : List Text). IsQuestion (blocks_of pairs) texts [] shown.0) (pair_bytes pairs) (subst (λ (texts : List Text). IsQuestion texts (bytes_in (options_of pairs)) [] shown.0) (pair_blocks pairs) shown.1), shown.2)
         | inr lacks ↦ inr lacks
       ]

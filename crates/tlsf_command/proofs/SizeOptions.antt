@@ -412,17 +412,25 @@ bytes_read (m ∷ ms) [] first some_blocks some_bytes = absurd (omega (arith, so
 bytes_read (m ∷ ms) (n ∷ ns) true some_blocks some_bytes = refl
 bytes_read (m ∷ ms) (n ∷ ns) false some_blocks some_bytes = refl
 
--- and the question that they ask is that of the options
+levels_read : (blocks bytes : List Text) (first : Bool) → 1 ≤ length blocks → 1 ≤ length bytes → unwrap_or (all_of (codes "sli") (rows_for blocks bytes first)) [] ≡ []
+levels_read [] bytes first some_blocks some_bytes = absurd (omega (arith, some_blocks))
+levels_read (m ∷ ms) [] first some_blocks some_bytes = absurd (omega (arith, some_bytes))
+levels_read (m ∷ ms) (n ∷ ns) true some_blocks some_bytes = refl
+levels_read (m ∷ ms) (n ∷ ns) false some_blocks some_bytes = refl
+
+-- and the question that they ask is that of the options, which give no level
 pub options_question : (words : List Text) (called : Text) (options : List SizeOption) (question : SizeQuestion) → Asks words (Size question) → AreOptions options
-    → words ≡ called ∷ codes "size" ∷ option_words options → IsQuestion (blocks_in options) (bytes_in options) question
+    → words ≡ called ∷ codes "size" ∷ option_words options → IsQuestion (blocks_in options) (bytes_in options) [] question
 options_question words called options question asks are is =
     let given = ap (subcommand_of tlsf_app) is ∙ options_entered called options are in
     let texts = λ (id : Text). ap (λ (named : Option (Text × List Row)). unwrap_or (option_and_then (λ (n : Text × List Row). all_of id n.1) named) []) given in
     let first = (options_whole options are).first in
     let blocks = texts (codes "B") ∙ blocks_read (blocks_in options) (bytes_in options) first are.blocks are.bytes in
     let bytes = texts (codes "N") ∙ bytes_read (blocks_in options) (bytes_in options) first are.blocks are.bytes in
-    subst (λ (texts : List Text). IsQuestion (blocks_in options) texts question) bytes
-    (subst (λ (texts : List Text). IsQuestion texts (texts_given (codes "N") words) question) blocks asks.sized)
+    let levels = texts (codes "sli") ∙ levels_read (blocks_in options) (bytes_in options) first are.blocks are.bytes in
+    subst (λ (texts : List Text). IsQuestion (blocks_in options) (bytes_in options) texts question) levels
+    (subst (λ (texts : List Text). IsQuestion (blocks_in options) texts (texts_given (codes "sli") words) question) bytes
+    (subst (λ (texts : List Text). IsQuestion texts (texts_given (codes "N") words) (texts_given (codes "sli") words) question) blocks asks.sized))
 
 -- ---- pairs
 

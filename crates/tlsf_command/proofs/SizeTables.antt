@@ -1,5 +1,5 @@
 -- Tables of kinds, and the numbers of texts.
-use Rattle.std.proofs.Common.{◌≡◌, ◌≤◌, ◌<◌, ◌+◌, ◌*◌, ◌^◌, ℕ, zero, suc, Bool, true, false, cond, List, [], ◌∷◌, Some, Result, Ok, Err, get_or, ◌∙◌, length, drop, refl, sym, ap, arith}
+use Rattle.std.proofs.Common.{◌≡◌, ◌≤◌, ◌<◌, ◌+◌, ◌*◌, ◌^◌, ℕ, zero, suc, Bool, true, false, cond, List, [], ◌∷◌, Some, Result, Ok, Err, fold, map, max, get_or, ◌∙◌, length, drop, refl, sym, ap, arith}
 use Rattle.std.proofs.Math.Nat.{mul-le-mul}
 use Rattle.std.specs.Prelude.{slice_get}
 use Rattle.std.specs.List.{AllByRecursion}
@@ -12,8 +12,11 @@ use Rattle.tlsf_command.specs.SizeLines.{asked_bytes, AreReached, IsServable}
 use Rattle.clap.specs.Words.{Text}
 use Rattle.tlsf_command.specs.SizeQuestions.{kinds_in, number_of, HasTable, IsQuestion}
 use Rattle.tlsf_command.specs.declared.size_question.SizeQuestion.{SizeQuestion}
-use Rattle.tlsf_command.specs.declared.size_question.SizeQuestion.TheVariants.{Table, Unpaired}
-use Rattle.tlsf_laws.specs.Kinds.{HasClass}
+use Rattle.tlsf_command.specs.declared.size_question.SizeQuestion.TheVariants.{Table, FineTable, Unpaired}
+use Rattle.tlsf_class.specs.Classes.{most_words}
+use Rattle.tlsf_class.proofs.TwoLevels.{most_words_any}
+use Rattle.tlsf_heap.specs.Blocks.{want}
+use Rattle.tlsf_laws.specs.Kinds.{table_words, words_with, HasClass}
 use Rattle.tlsf_laws.specs.declared.kind.Kind.{Kind}
 
 -- ---- numbers
@@ -46,50 +49,72 @@ number_read text (Err e) is =
 
 -- ---- kinds of a table
 
-pub servable_at : (kinds : List Kind) (i : ℕ) (d : Kind) → AllByRecursion IsServable kinds → i < length kinds → IsServable (get_or kinds i d)
-servable_at [] i d all within = absurd (omega (arith, within))
-servable_at (k ∷ kinds) zero d all within = all.0
-servable_at (k ∷ kinds) (suc i) d all within = servable_at kinds i d all.1 (omega arith)
+pub servable_at : (sli : ℕ) (kinds : List Kind) (i : ℕ) (d : Kind) → AllByRecursion (IsServable sli) kinds → i < length kinds → IsServable sli (get_or kinds i d)
+servable_at sli [] i d all within = absurd (omega (arith, within))
+servable_at sli (k ∷ kinds) zero d all within = all.0
+servable_at sli (k ∷ kinds) (suc i) d all within = servable_at sli kinds i d all.1 (omega arith)
 
 -- each has a class
-pub classes : (kinds : List Kind) → AllByRecursion IsServable kinds → AllByRecursion (HasClass 4) kinds
-classes [] all = tt
-classes (k ∷ kinds) all = (all.0.2, classes kinds all.1)
+pub classes : (sli : ℕ) (kinds : List Kind) → AllByRecursion (IsServable sli) kinds → AllByRecursion (HasClass sli) kinds
+classes sli [] all = tt
+classes sli (k ∷ kinds) all = (all.0.2, classes sli kinds all.1)
 
 -- all that are left, by the next one and those behind it
-pub all_split : (kinds : List Kind) (i : ℕ) (d : Kind) → i < length kinds → AllByRecursion IsServable (drop i kinds)
-    → IsServable (get_or kinds i d) × AllByRecursion IsServable (drop (suc i) kinds)
-all_split [] i d within all = absurd (omega (arith, within))
-all_split (k ∷ kinds) zero d within all = all
-all_split (k ∷ kinds) (suc i) d within all = all_split kinds i d (omega arith) all
+pub all_split : (sli : ℕ) (kinds : List Kind) (i : ℕ) (d : Kind) → i < length kinds → AllByRecursion (IsServable sli) (drop i kinds)
+    → IsServable sli (get_or kinds i d) × AllByRecursion (IsServable sli) (drop (suc i) kinds)
+all_split sli [] i d within all = absurd (omega (arith, within))
+all_split sli (k ∷ kinds) zero d within all = all
+all_split sli (k ∷ kinds) (suc i) d within all = all_split sli kinds i d (omega arith) all
 
-pub all_join : (kinds : List Kind) (i : ℕ) (d : Kind) → i < length kinds → IsServable (get_or kinds i d)
-    → AllByRecursion IsServable (drop (suc i) kinds) → AllByRecursion IsServable (drop i kinds)
-all_join [] i d within one all = absurd (omega (arith, within))
-all_join (k ∷ kinds) zero d within one all = (one, all)
-all_join (k ∷ kinds) (suc i) d within one all = all_join kinds i d (omega arith) one all
+pub all_join : (sli : ℕ) (kinds : List Kind) (i : ℕ) (d : Kind) → i < length kinds → IsServable sli (get_or kinds i d)
+    → AllByRecursion (IsServable sli) (drop (suc i) kinds) → AllByRecursion (IsServable sli) (drop i kinds)
+all_join sli [] i d within one all = absurd (omega (arith, within))
+all_join sli (k ∷ kinds) zero d within one all = (one, all)
+all_join sli (k ∷ kinds) (suc i) d within one all = all_join sli kinds i d (omega arith) one all
+
+same : (a : ℕ) → a ≤ a
+same a = omega arith
+
+moved : (a b : ℕ) → a * (8 * b) ≡ 8 * (a * b)
+moved a b = omega arith
 
 products : (a b c d : ℕ) → a ≤ b → c ≤ d → a * c ≤ b * d
 products a b c d f g = mul-le-mul f g
 
-short : (k : Kind) → HasClass 4 k → k.len ≤ 2 ^ 23
-short k class = omega (arith, class)
+-- the bytes of one kind fit into the words of its blocks
+bytes_fit : (k : Kind) → k.most * k.len ≤ 8 * (k.most * (want k.len + 3))
+bytes_fit k =
+    let short : k.len ≤ 8 * (want k.len + 3) = omega arith in
+    let more = products k.most k.most k.len (8 * (want k.len + 3)) (same k.most) short in
+    omega (arith, more, moved k.most (want k.len + 3))
 
--- the bytes of one kind
-pub bytes_small : (k : Kind) → k.most < 2 ^ 32 → HasClass 4 k → k.most * k.len ≤ 2 ^ 55
-bytes_small k few class = omega (arith, products k.most (2 ^ 32) k.len (2 ^ 23) (omega (arith, few)) (short k class))
+-- and so do those of a table
+table_fits : (kinds : List Kind) → asked_bytes kinds ≤ 8 * table_words kinds
+table_fits [] = omega arith
+table_fits (k ∷ kinds) = omega (arith, bytes_fit k, table_fits kinds)
+
+max_least : (a : ℕ) (xs : List ℕ) → a ≤ fold max a xs
+max_least a [] = omega arith
+max_least a (x ∷ xs) = omega (arith, max_least (max a x) xs)
+
+-- a table that is reached asks for few bytes
+pub few_bytes : (sli : ℕ) (kinds : List Kind) → AreReached sli kinds → asked_bytes kinds ≤ 2 ^ 32
+few_bytes sli [] reached = omega arith
+few_bytes sli (k ∷ kinds) reached =
+    let first = max_least (max 0 (words_with sli (k ∷ kinds) k)) (map (words_with sli (k ∷ kinds)) kinds) in
+    omega (arith, table_fits (k ∷ kinds), first, reached.1, reached.0.0.2, most_words_any sli)
 
 one_byte : (a b c : ℕ) → 1 ≤ a → 1 ≤ b → 1 ≤ a * b + c
 one_byte a b c f g = omega (arith, products 1 a 1 b f g)
 
 -- a table of such kinds asks for a byte
-pub some_byte : (kinds : List Kind) → 0 < length kinds → AllByRecursion IsServable kinds → 1 ≤ asked_bytes kinds
-some_byte [] some all = absurd (omega (arith, some))
-some_byte (k ∷ kinds) some all = one_byte k.most k.len (asked_bytes kinds) all.0.0 all.0.1
+pub some_byte : (sli : ℕ) (kinds : List Kind) → 0 < length kinds → AllByRecursion (IsServable sli) kinds → 1 ≤ asked_bytes kinds
+some_byte sli [] some all = absurd (omega (arith, some))
+some_byte sli (k ∷ kinds) some all = one_byte k.most k.len (asked_bytes kinds) all.0.0 all.0.1
 
 -- no kind at all is reached
-pub none_reached : AreReached []
-none_reached = (tt, least (2 ^ 20))
+pub none_reached : (sli : ℕ) → AreReached sli []
+none_reached sli = (tt, least (most_words sli))
 
 -- the kind at a place within the table
 pub found_at : (kinds : List Kind) (i : ℕ) → i < length kinds → (k : Kind) × (slice_get kinds i ≡ Some k)
@@ -104,8 +129,11 @@ kinds_count (most ∷ blocks) [] same = sym same
 kinds_count (most ∷ blocks) (len ∷ bytes) same = let fewer : length blocks ≡ length bytes = omega (arith, same) in ap (λ n. suc n) (kinds_count blocks bytes fewer)
 
 -- the table of a question has 1 to 64 kinds
-pub has_table : (blocks bytes : List Text) (question : SizeQuestion) → IsQuestion blocks bytes question → HasTable question
-has_table blocks bytes (Table kinds) is =
+pub has_table : (blocks bytes levels : List Text) (question : SizeQuestion) → IsQuestion blocks bytes levels question → HasTable question
+has_table blocks bytes levels (Table kinds) is =
     let count : length kinds.items ≡ length blocks = ap (λ (ks : List Kind). length ks) is.1 ∙ kinds_count blocks bytes is.0.0 in
     (omega (arith, count, is.0.1), omega (arith, count, is.0.2))
-has_table blocks bytes (Unpaired m n) is = tt
+has_table blocks bytes levels (FineTable kinds) is =
+    let count : length kinds.items ≡ length blocks = ap (λ (ks : List Kind). length ks) is.1 ∙ kinds_count blocks bytes is.0.0 in
+    (omega (arith, count, is.0.1), omega (arith, count, is.0.2))
+has_table blocks bytes levels (Unpaired m n) is = tt

@@ -1,15 +1,10 @@
 -- What `tlsf classes` is asked for, by the texts that give the size and that stand behind `--sli`.
-use Rattle.std.specs.Prelude.{◌≡◌, ◌≤◌, ⊤, ℕ, List, [], ◌∷◌}
+use Rattle.std.specs.Prelude.{◌≡◌, ◌≤◌, ⊤, ℕ, List}
 use Rattle.clap.specs.Words.{Text}
 use Rattle.tlsf_class.specs.Classes.{IsLevel, most_words}
-use Rattle.tlsf_command.specs.SizeQuestions.{number_of}
+use Rattle.tlsf_command.specs.SizeQuestions.{first_number}
 use Rattle.tlsf_command.specs.declared.class_question.ClassQuestion.{ClassQuestion}
 use Rattle.tlsf_command.specs.declared.class_question.ClassQuestion.TheVariants.{Coarse, Fine, NoClass}
-
--- the number that the first text spells, and another one where there is no text
-abbrev pub first_number : ℕ → List Text → ℕ
-first_number none [] = none
-first_number none (text ∷ texts) = number_of text
 
 -- so many words have a class at this level
 abbrev pub HasClassAt : (level words : ℕ) → Type 0

@@ -17,7 +17,7 @@ size_rule = record (new_rule (codes "N")) {
   parser = Some (Signed (pos 4) (pos (2 ^ 24)));
 }
 
--- its level, 4 or 5, which needn't be given
+-- the level, 4 or 5, which needn't be given
 abbrev pub level_rule : Rule
 level_rule = record (new_rule (codes "sli")) {
   long = Some (codes "sli");
@@ -40,8 +40,8 @@ count_rule id name = record (new_rule id) {
 
 -- the command `size`
 abbrev pub size_app : App
-size_app = with_rule (with_rule (new_app (codes "size")) (count_rule (codes "B") (codes "blocks")))
-    (count_rule (codes "N") (codes "bytes"))
+size_app = with_rule (with_rule (with_rule (new_app (codes "size")) (count_rule (codes "B") (codes "blocks")))
+    (count_rule (codes "N") (codes "bytes"))) level_rule
 
 -- a flag, which is given or not
 abbrev pub flag_rule : Text → Rule
@@ -121,7 +121,7 @@ HasSize words RaceQueues = HasFlag (codes "queues") words
 HasSize words Map = LacksFlag (codes "text") words
 HasSize words MapText = HasFlag (codes "text") words
 HasSize words (Classes question) = IsClassQuestion (texts_given (codes "N") words) (texts_given (codes "sli") words) question
-HasSize words (Size question) = IsQuestion (texts_given (codes "B") words) (texts_given (codes "N") words) question
+HasSize words (Size question) = IsQuestion (texts_given (codes "B") words) (texts_given (codes "N") words) (texts_given (codes "sli") words) question
 
 -- the size of the choice, where it has one, has a class, and a table has 1 to 64 kinds
 abbrev pub IsAnswerable : Choice → Type 0

@@ -12,7 +12,7 @@ use Rattle.tlsf_command.specs.SizeQuestions.{blocks_in, blocks_of, bytes_in, byt
 use Rattle.tlsf_command.specs.declared.class_question.ClassQuestion.{ClassQuestion}
 use Rattle.tlsf_command.specs.declared.class_question.ClassQuestion.TheVariants.{Coarse, Fine, NoClass}
 use Rattle.tlsf_command.specs.declared.size_question.SizeQuestion.{SizeQuestion}
-use Rattle.tlsf_command.specs.declared.size_question.SizeQuestion.TheVariants.{Table, Unpaired}
+use Rattle.tlsf_command.specs.declared.size_question.SizeQuestion.TheVariants.{Table, FineTable, Unpaired}
 use Rattle.tlsf_laws.specs.declared.kind.Kind.{Kind}
 use Rattle.tlsf_command.specs.declared.command_line.Choice.{Choice}
 use Rattle.tlsf_command.specs.declared.command_line.Choice.TheVariants.{Classes, Held, Map, MapText, Race, RaceQueues, Replay, Size}
@@ -102,32 +102,32 @@ AnswersClasses (Fine n) = ShowsClasses 5 n
 AnswersClasses NoClass = ShowsNoClass
 
 -- the line on the kinds of a table was written, or a prefix of it, where a write failed and was reported
-pub record ShowsWords (kinds : List Kind) (status : ℕ) (old new : Streams) : Type 0 where
-  pub reached : AreReached kinds
-  pub front : AppendsFront old.written new.written (size_line kinds)
-  pub ended : ((status ≡ 0) × Appends old.written new.written (size_line kinds) × (new.errors ≡ old.errors))
+pub record ShowsWords (sli : ℕ) (kinds : List Kind) (status : ℕ) (old new : Streams) : Type 0 where
+  pub reached : AreReached sli kinds
+  pub front : AppendsFront old.written new.written (size_line sli kinds)
+  pub ended : ((status ≡ 0) × Appends old.written new.written (size_line sli kinds) × (new.errors ≡ old.errors))
       ⊎ ((status ≡ 1) × AppendsFront old.errors new.errors (fault_line write_fault))
 
 -- the line that says how far a region does reach was reported: of one kind, the most blocks and the most bytes; of several, how
 -- many of the table a region has room for, and the next one
-abbrev pub ReportsUnreached : List Kind → Option (List ℕ) → Option (List ℕ) → Type 0
-ReportsUnreached (kind ∷ []) old new = (blocks : ℕ) × IsGreatest (λ most. IsReached most kind.len) blocks
-    × ((bytes : ℕ) × IsGreatest (λ len. IsReached kind.most len) bytes
+abbrev pub ReportsUnreached : ℕ → List Kind → Option (List ℕ) → Option (List ℕ) → Type 0
+ReportsUnreached sli (kind ∷ []) old new = (blocks : ℕ) × IsGreatest (λ most. IsReached sli most kind.len) blocks
+    × ((bytes : ℕ) × IsGreatest (λ len. IsReached sli kind.most len) bytes
     × AppendsFront old new (unreached_line kind.most kind.len blocks bytes))
-ReportsUnreached kinds old new =
-    (n : ℕ) × (next : Kind) × IsFirstUnreached kinds n next × AppendsFront old new (unreached_table_line n next)
+ReportsUnreached sli kinds old new =
+    (n : ℕ) × (next : Kind) × IsFirstUnreached sli kinds n next × AppendsFront old new (unreached_table_line n next)
 
 -- no region reaches so far: nothing was written, and the status is 2
-pub record ShowsUnreached (kinds : List Kind) (status : ℕ) (old new : Streams) : Type 0 where
-  pub unreached : ¬ (AreReached kinds)
+pub record ShowsUnreached (sli : ℕ) (kinds : List Kind) (status : ℕ) (old new : Streams) : Type 0 where
+  pub unreached : ¬ (AreReached sli kinds)
   pub written : new.written ≡ old.written
   pub status_is : status ≡ 2
-  pub reported : ReportsUnreached kinds old.errors new.errors
+  pub reported : ReportsUnreached sli kinds old.errors new.errors
 
--- the words of a region for a table of kinds were shown, or it was refused; nothing was read
-pub record ShowsKinds (kinds : List Kind) (status : ℕ) (old new : Streams) : Type 0 where
+-- the words of a region of the level for a table of kinds were shown, or it was refused; nothing was read
+pub record ShowsKinds (sli : ℕ) (kinds : List Kind) (status : ℕ) (old new : Streams) : Type 0 where
   pub left : new.left ≡ old.left
-  pub shown : ShowsWords kinds status old new ⊎ ShowsUnreached kinds status old new
+  pub shown : ShowsWords sli kinds status old new ⊎ ShowsUnreached sli kinds status old new
 
 -- options that are no pairs were refused: nothing was read or written
 pub record ShowsUnpaired (blocks bytes status : ℕ) (old new : Streams) : Type 0 where
@@ -138,7 +138,8 @@ pub record ShowsUnpaired (blocks bytes status : ℕ) (old new : Streams) : Type 
 
 -- the question was answered
 abbrev pub ShowsSize : SizeQuestion → ℕ → Streams → Streams → Type 0
-ShowsSize (Table kinds) = ShowsKinds kinds.items
+ShowsSize (Table kinds) = ShowsKinds 4 kinds.items
+ShowsSize (FineTable kinds) = ShowsKinds 5 kinds.items
 ShowsSize (Unpaired blocks bytes) = ShowsUnpaired blocks bytes
 
 -- a text was shown, or a write failed and was reported
@@ -193,11 +194,11 @@ DoesOrLacksMemory choice status old new = Does choice status old new ⊎ LacksMe
 -- the question that the pairs make was answered, unless memory ran out before
 abbrev pub ShowsPairsOrLacksMemory : List Pair → ℕ → Streams → Streams → Type 0
 ShowsPairsOrLacksMemory pairs status old new =
-    ((question : SizeQuestion) × IsQuestion (blocks_of pairs) (bytes_of pairs) question × ShowsSize question status old new)
+    ((question : SizeQuestion) × IsQuestion (blocks_of pairs) (bytes_of pairs) [] question × ShowsSize question status old new)
     ⊎ LacksMemory status old new
 
 -- the question that the options make was answered, unless memory ran out before
 abbrev pub ShowsOptionsOrLacksMemory : List SizeOption → ℕ → Streams → Streams → Type 0
 ShowsOptionsOrLacksMemory options status old new =
-    ((question : SizeQuestion) × IsQuestion (blocks_in options) (bytes_in options) question × ShowsSize question status old new)
+    ((question : SizeQuestion) × IsQuestion (blocks_in options) (bytes_in options) [] question × ShowsSize question status old new)
     ⊎ LacksMemory status old new

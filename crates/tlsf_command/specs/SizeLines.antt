@@ -1,33 +1,34 @@
 -- The lines that `tlsf size` writes and reports.
-use Rattle.std.specs.Prelude.{◌≡◌, ◌⊎◌, ◌≤◌, ◌+◌, ◌*◌, ◌/◌, ◌%◌, ◌^◌, ℕ, List, [], ◌∷◌, ◌++◌, Some, codes, slice_get, take}
+use Rattle.std.specs.Prelude.{◌≡◌, ◌⊎◌, ◌≤◌, ◌+◌, ◌*◌, ◌/◌, ◌%◌, ℕ, List, [], ◌∷◌, ◌++◌, Some, codes, slice_get, take}
 use Rattle.std.specs.List.{AllByRecursion}
 use Rattle.std.specs.Fmt.{decimal}
+use Rattle.tlsf_class.specs.Classes.{most_words}
 use Rattle.tlsf_heap.specs.Blocks.{want}
 use Rattle.tlsf_laws.specs.Kinds.{kinds_words, HasClass}
 use Rattle.tlsf_laws.specs.Pools.{pool_words}
 use Rattle.tlsf_laws.specs.declared.kind.Kind.{Kind}
 
--- some region has the words that the law asks for, for so many blocks of so many bytes
-abbrev pub IsReached : ℕ → ℕ → Type 0
-IsReached most len = (1 ≤ most) × (1 ≤ len) × (want len ≤ 2 ^ 20) × (pool_words 4 most len ≤ 2 ^ 20)
+-- some region of the level has the words that the law asks for, for so many blocks of so many bytes
+abbrev pub IsReached : ℕ → ℕ → ℕ → Type 0
+IsReached sli most len = (1 ≤ most) × (1 ≤ len) × (want len ≤ most_words sli) × (pool_words sli most len ≤ most_words sli)
 
 -- a kind has a block and a byte, and a class for its requests
-abbrev pub IsServable : Kind → Type 0
-IsServable kind = (1 ≤ kind.most) × (1 ≤ kind.len) × HasClass 4 kind
+abbrev pub IsServable : ℕ → Kind → Type 0
+IsServable sli kind = (1 ≤ kind.most) × (1 ≤ kind.len) × HasClass sli kind
 
--- some region has the words that the law asks for, for a table of such kinds
-abbrev pub AreReached : List Kind → Type 0
-AreReached kinds = AllByRecursion IsServable kinds × (kinds_words 4 kinds ≤ 2 ^ 20)
+-- some region of the level has the words that the law asks for, for a table of such kinds
+abbrev pub AreReached : ℕ → List Kind → Type 0
+AreReached sli kinds = AllByRecursion (IsServable sli) kinds × (kinds_words sli kinds ≤ most_words sli)
 
 -- the greatest number of which this holds, 0 where it holds of none
 abbrev pub IsGreatest : (ℕ → Type 0) → ℕ → Type 0
 IsGreatest Holds n = (Holds n ⊎ (n ≡ 0)) × ((k : ℕ) → Holds k → k ≤ n)
 
 -- the first n kinds of the table are reached, and with the next one, which this is, they are not
-pub record IsFirstUnreached (kinds : List Kind) (n : ℕ) (next : Kind) : Type 0 where
-  pub reached : AreReached (take n kinds)
+pub record IsFirstUnreached (sli : ℕ) (kinds : List Kind) (n : ℕ) (next : Kind) : Type 0 where
+  pub reached : AreReached sli (take n kinds)
   pub found : slice_get kinds n ≡ Some next
-  pub unreached : ¬ (AreReached (take (n + 1) kinds))
+  pub unreached : ¬ (AreReached sli (take (n + 1) kinds))
 
 -- the bytes of all blocks of a table
 abbrev pub asked_bytes : List Kind → ℕ
@@ -43,11 +44,11 @@ abbrev pub ratio_end : ℕ → List ℕ
 ratio_end n = decimal (n / 100) ++ (codes "." ++ (decimal (n / 10 % 10) ++ (decimal (n % 10) ++ codes "\n")))
 
 -- the words of the region, its bytes, and their ratio to the bytes asked for, as `words 13631 bytes 109048 ratio 2.13`
-abbrev pub size_line : List Kind → List ℕ
-size_line kinds =
-    codes "words " ++ (decimal (kinds_words 4 kinds)
-    ++ (codes " bytes " ++ (decimal (8 * kinds_words 4 kinds)
-    ++ (codes " ratio " ++ ratio_end (hundredths (8 * kinds_words 4 kinds) (asked_bytes kinds))))))
+abbrev pub size_line : ℕ → List Kind → List ℕ
+size_line sli kinds =
+    codes "words " ++ (decimal (kinds_words sli kinds)
+    ++ (codes " bytes " ++ (decimal (8 * kinds_words sli kinds)
+    ++ (codes " ratio " ++ ratio_end (hundredths (8 * kinds_words sli kinds) (asked_bytes kinds))))))
 
 -- the refusal, with the most blocks of this length and the most bytes for this many blocks
 abbrev pub unreached_line : (most len blocks bytes : ℕ) → List ℕ

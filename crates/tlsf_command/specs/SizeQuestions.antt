@@ -1,16 +1,21 @@
--- What `tlsf size` is asked for: a table of kinds of request, of the texts behind `--blocks` and `--bytes`.
-use Rattle.std.specs.Prelude.{◌≡◌, ◌≤◌, ◌<◌, ⊤, ℕ, List, [], ◌∷◌, codes, length, map, if◌then◌else◌}
+-- What `tlsf size` is asked for: a table of kinds of request, of the texts behind `--blocks` and `--bytes`, at the level behind `--sli`.
+use Rattle.std.specs.Prelude.{◌≡◌, ◌≢◌, ◌≤◌, ◌<◌, ⊤, ℕ, List, [], ◌∷◌, codes, length, map, if◌then◌else◌}
 use Rattle.std.specs.List.{AllByRecursion}
 use Rattle.std.specs.Str.Parse.{digits_value, without_leading_plus, IsNumeral}
 use Rattle.clap.specs.ValueTests.{is_unsigned_in}
 use Rattle.clap.specs.Words.{Text}
 use Rattle.tlsf_laws.specs.declared.kind.Kind.{Kind}
 use Rattle.tlsf_command.specs.declared.size_question.SizeQuestion.{SizeQuestion}
-use Rattle.tlsf_command.specs.declared.size_question.SizeQuestion.TheVariants.{Table, Unpaired}
+use Rattle.tlsf_command.specs.declared.size_question.SizeQuestion.TheVariants.{Table, FineTable, Unpaired}
 
 -- the number of 32 bits that the text spells, behind a plus sign if there is one; 0 where it spells none
 abbrev pub number_of : Text → ℕ
 number_of text = if is_unsigned_in 0 4294967295 text then digits_value 10 (without_leading_plus text) else 0
+
+-- the number that the first text spells, and another one where there is no text
+abbrev pub first_number : ℕ → List Text → ℕ
+first_number none [] = none
+first_number none (text ∷ texts) = number_of text
 
 -- a kind for each pair: the first number of blocks with the first number of bytes, and so on
 abbrev pub kinds_in : (blocks bytes : List Text) → List Kind
@@ -22,14 +27,21 @@ kinds_in (most ∷ blocks) (len ∷ bytes) = record { most = number_of most; len
 abbrev pub MakesTable : (blocks bytes : ℕ) → Type 0
 MakesTable blocks bytes = (blocks ≡ bytes) × (1 ≤ blocks) × (blocks ≤ 64)
 
--- the question that these texts make: about the table of their pairs, or about none
-abbrev pub IsQuestion : (blocks bytes : List Text) → SizeQuestion → Type 0
-IsQuestion blocks bytes (Table kinds) = MakesTable (length blocks) (length bytes) × (kinds.items ≡ kinds_in blocks bytes)
-IsQuestion blocks bytes (Unpaired m n) = ¬ (MakesTable (length blocks) (length bytes)) × (m ≡ length blocks) × (n ≡ length bytes)
+-- the question about the pairs of these texts at a level: about their table at level 5 or at another, which is 4 since `clap` refuses the rest,
+-- or about none
+abbrev pub IsOfTexts : (blocks bytes : List Text) → ℕ → SizeQuestion → Type 0
+IsOfTexts blocks bytes level (Table kinds) = MakesTable (length blocks) (length bytes) × (kinds.items ≡ kinds_in blocks bytes) × (level ≢ 5)
+IsOfTexts blocks bytes level (FineTable kinds) = MakesTable (length blocks) (length bytes) × (kinds.items ≡ kinds_in blocks bytes) × (level ≡ 5)
+IsOfTexts blocks bytes level (Unpaired m n) = ¬ (MakesTable (length blocks) (length bytes)) × (m ≡ length blocks) × (n ≡ length bytes)
+
+-- the question that these texts make, with the level that the last ones give, 4 where there is none
+abbrev pub IsQuestion : (blocks bytes levels : List Text) → SizeQuestion → Type 0
+IsQuestion blocks bytes levels = IsOfTexts blocks bytes (first_number 4 levels)
 
 -- its table, if it has one, has 1 to 64 kinds
 abbrev pub HasTable : SizeQuestion → Type 0
 HasTable (Table kinds) = (0 < length kinds.items) × (length kinds.items ≤ 64)
+HasTable (FineTable kinds) = (0 < length kinds.items) × (length kinds.items ≤ 64)
 HasTable (Unpaired m n) = ⊤
 
 -- digits that spell a number from 1 to 2^32 - 1

@@ -1,10 +1,9 @@
-ghost use Rattle.std.specs.Prelude.{◌≡◌, [], codes, map, option_map};
+ghost use Rattle.std.specs.Prelude.{◌≡◌, [], codes, option_map};
 ghost use Rattle.std.specs.Option.{unwrap_or};
 ghost use Rattle.clap.specs.Words.{found_of, matched_of, raw_values};
-ghost use Rattle.tlsf_command.specs.ClassQuestions;
 ghost use Rattle.tlsf_command.specs.ClassQuestions.{IsClassQuestion, IsOfNumbers};
 
-use crate::size_question::number_of;
+use crate::size_question::{first_number, level_given};
 use clap::ArgMatches;
 use tlsf_class::most_words;
 
@@ -17,16 +16,6 @@ pub enum ClassQuestion {
     Fine(u32),
     /// None: no class of the level has so many words.
     NoClass,
-}
-
-// The number that the first text spells, and another one where there is no text.
-fn first_number(texts: &[&str], none: u32) -> u32
-    ensures { result ≡ ClassQuestions.first_number none (map (λ text. text.now) texts.now) }
-{
-    match texts.first() {
-        Some(text) => number_of(text),
-        None => none,
-    }
 }
 
 impl ClassQuestion {
@@ -61,10 +50,6 @@ impl ClassQuestion {
             Some(texts) => first_number(texts, 0),
             None => 0,
         };
-        let level = match given.get_raw("sli") {
-            Some(texts) => first_number(texts, 4),
-            None => 4,
-        };
-        ClassQuestion::of_numbers(words, level)
+        ClassQuestion::of_numbers(words, level_given(given))
     }
 }

@@ -211,15 +211,25 @@ belongs to the first --bytes, and so on. For '--blocks 100 --bytes 64 --blocks
 A block counts for the first pair that is long enough for it, so short ones
 come first.
 
+With --sli 5 the heap is one of level 5: it has 32 classes between two powers of
+two, in place of 16, and 16777216 words at most. For '--blocks 100 --bytes 600
+--sli 5' the line is
+
+  words 15720 bytes 125760 ratio 2.10
+
+where at level 4 it is
+
+  words 15920 bytes 127360 ratio 2.12
+
 Not promised: an allocate or a free is refused as Worn (2) once the ticks of the
 heap have ended, and a request above these bounds may find room or not. Each
 heap has words of its own.
 
 The exit status is 0 where the line is written, 1 where a write fails, and 2
-where no region, of 1048576 words at most, is large enough. Standard error then
-has the most blocks of N bytes, and the most bytes for each of B blocks; 0 says
-that there is none. Of several pairs it has how many a region has room for, and
-the next one. Where --blocks and --bytes are not given as often as each other,
+where no region, of 1048576 words at most, or 16777216 with --sli 5, is large
+enough. Standard error then has the most blocks of N bytes, and the most bytes
+for each of B blocks; 0 says that there is none. Of several pairs it has how
+many a region has room for, and the next one. Where --blocks and --bytes are not given as often as each other,
 the status is 2, and standard error has how often each is given.";
 
 // A command of this name with its texts: one line, and the whole help.
@@ -242,7 +252,7 @@ fn size_argument<'a>(alloc: Global) -> Arg<'a>
         .value_parser(clap::value_parser!(u32).range(4..=16_777_216))
 }
 
-// The level of the classes.
+// The level of the classes, or of the heap.
 fn level_argument<'a>(alloc: Global) -> Arg<'a>
     ensures rule { rule_of result ≡ level_rule }
     ensures local { result.global ≡ false }
@@ -333,7 +343,8 @@ fn size_command<'a>(alloc: Global) -> Result<Command<'a>, AllocError>
         "blocks",
         blocks_help,
     ))?;
-    command.arg(count_option(alloc, "N", "bytes", bytes_help))
+    let paired = command.arg(count_option(alloc, "N", "bytes", bytes_help))?;
+    paired.arg(level_argument(alloc))
 }
 
 // The program's version and texts, with no command yet.

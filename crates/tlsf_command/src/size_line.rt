@@ -1,54 +1,59 @@
 ghost use Rattle.std.specs.Prelude.{◌≡◌, ◌≤◌, ◌<◌, ◌*◌, ◌^◌, ◌↔◌, ℕ, length, IfOk, IfSome, IsTrue, None, OnOk};
 ghost use Rattle.std.specs.List.{AllByRecursion};
 ghost use Rattle.std.specs.Io.KnownBytes.{Appends};
+ghost use Rattle.tlsf_class.specs.Classes.{IsLevel, most_words};
 ghost use Rattle.tlsf_command.specs.SizeLines.{hundredths, size_line, unreached_line, AreReached, IsGreatest, IsReached, IsServable};
 ghost use Rattle.tlsf_command.specs.SizeLines as spelled;
 ghost use Rattle.tlsf_laws.specs.Kinds as table;
+ghost use Rattle.tlsf_pool.specs.Pools.{most_kinds};
 ghost use Rattle.tlsf_lines.specs.Prefixes.{AppendsFront};
 
 use arrayvec::ArrayString;
 use std::fmt;
 use std::fmt::Write as _;
 use std::io::Write;
-use tlsf_class::MOST_WORDS;
-use tlsf_pool::{Kind, LONGEST, kinds_words, longest_request, most_blocks};
+use tlsf_class::most_words;
+use tlsf_pool::{Kind, kinds_words, longest_request, most_blocks, most_bytes};
 use tlsf_trace::{WriteError, write_out};
 
 // Whether the kind has a block and a byte, and a class for its requests.
-fn is_servable(kind: Kind) -> bool
-    ensures { IsTrue result ↔ IsServable kind }
+fn is_servable<const SLI: u32>(kind: Kind) -> bool
+    requires { IsLevel SLI }
+    ensures { IsTrue result ↔ IsServable SLI kind }
 {
-    kind.most != 0 && kind.len != 0 && kind.len <= LONGEST
+    kind.most != 0 && kind.len != 0 && kind.len <= most_bytes::<SLI>()
 }
 
 // Whether each kind of the table is such.
-fn are_servable(kinds: &[Kind]) -> bool
-    ensures { IsTrue result ↔ AllByRecursion IsServable kinds.now }
+fn are_servable<const SLI: u32>(kinds: &[Kind]) -> bool
+    requires { IsLevel SLI }
+    ensures { IsTrue result ↔ AllByRecursion (IsServable SLI) kinds.now }
 {
     for kind in kinds {
-        if !is_servable(*kind) {
+        if !is_servable::<SLI>(*kind) {
             return false;
         }
     }
     true
 }
 
-/// The words of the least region that the law admits for a table of kinds, 1,024 at most; None where no region has so
-/// many, or where a kind has no block or no byte.
+/// The words of the least region of the level that the law admits for a table of kinds, 1,024 at most or 64 at level 5; None
+/// where no region has so many, or where a kind has no block or no byte.
 ///
 /// ```
-/// let words = words_for(&[Kind { most: 100, len: 512 }]);        // Some(13631)
+/// let words = words_for::<4>(&[Kind { most: 100, len: 512 }]);   // Some(13631)
 /// ```
-pub fn words_for(kinds: &[Kind]) -> Option<u32>
-    requires { length kinds.now ≤ 1024 }
-    ensures some { IfSome result (λ words. AreReached kinds.now × (words ≡ table.kinds_words 4 kinds.now)) }
-    ensures none { result ≡ None → ¬ (AreReached kinds.now) }
+pub fn words_for<const SLI: u32>(kinds: &[Kind]) -> Option<u32>
+    requires level { IsLevel SLI }
+    requires few { length kinds.now ≤ most_kinds SLI }
+    ensures some { IfSome result (λ words. AreReached SLI kinds.now × (words ≡ table.kinds_words SLI kinds.now)) }
+    ensures none { result ≡ None → ¬ (AreReached SLI kinds.now) }
 {
-    if !are_servable(kinds) {
+    if !are_servable::<SLI>(kinds) {
         return None;
     }
-    let words = kinds_words::<4>(kinds);
-    if words > u64::from(MOST_WORDS) {
+    let words = kinds_words::<SLI>(kinds);
+    if words > u64::from(most_words::<SLI>()) {
         return None;
     }
     Some(words as u32)
@@ -56,10 +61,8 @@ pub fn words_for(kinds: &[Kind]) -> Option<u32>
 
 // The bytes of all blocks of a table.
 fn asked_bytes(kinds: &[Kind]) -> u64
-    requires few { length kinds.now ≤ 64 }
-    requires reached { AllByRecursion IsServable kinds.now }
-    ensures value { result ≡ spelled.asked_bytes kinds.now }
-    ensures small { result ≤ 2 ^ 62 }
+    requires { spelled.asked_bytes kinds.now ≤ 2 ^ 32 }
+    ensures { result ≡ spelled.asked_bytes kinds.now }
 {
     let mut bytes = 0;
     for kind in kinds {
@@ -70,10 +73,9 @@ fn asked_bytes(kinds: &[Kind]) -> u64
 
 // How many hundredths of the bytes asked for there are in `words` words, to the nearest.
 fn ratio_of(kinds: &[Kind], words: u32) -> u64
-    requires some { 0 < length kinds.now }
-    requires few { length kinds.now ≤ 64 }
-    requires reached { AllByRecursion IsServable kinds.now }
-    requires most { words ≤ 2 ^ 20 }
+    requires some { 1 ≤ spelled.asked_bytes kinds.now }
+    requires small { spelled.asked_bytes kinds.now ≤ 2 ^ 32 }
+    requires most { words ≤ 2 ^ 24 }
     ensures { result ≡ hundredths (8 * words) (spelled.asked_bytes kinds.now) }
 {
     let asked = asked_bytes(kinds);
@@ -81,12 +83,12 @@ fn ratio_of(kinds: &[Kind], words: u32) -> u64
 }
 
 // The line on a region of `words` for these kinds, as `words 13631 bytes 109048 ratio 2.13`.
-fn line_of(kinds: &[Kind], words: u32) -> Result<ArrayString<96>, fmt::Error>
+fn line_of<const SLI: u32>(kinds: &[Kind], words: u32) -> Result<ArrayString<96>, fmt::Error>
+    requires level { IsLevel SLI }
     requires some { 0 < length kinds.now }
-    requires few { length kinds.now ≤ 64 }
-    requires reached { AreReached kinds.now }
-    requires law { words ≡ table.kinds_words 4 kinds.now }
-    ensures { IfOk result (λ line. line.bytes ≡ size_line kinds.now) }
+    requires reached { AreReached SLI kinds.now }
+    requires law { words ≡ table.kinds_words SLI kinds.now }
+    ensures { IfOk result (λ line. line.bytes ≡ size_line SLI kinds.now) }
 {
     let bytes = 8 * words;
     let ratio = ratio_of(kinds, words);
@@ -101,28 +103,28 @@ fn line_of(kinds: &[Kind], words: u32) -> Result<ArrayString<96>, fmt::Error>
     Ok(line)
 }
 
-/// Writes the line on a region of `words` for a table of 1 to 64 kinds, and flushes: its words, its bytes, and how many
+/// Writes the line on a region of `words` for a table of one kind or more, and flushes: its words, its bytes, and how many
 /// times the bytes asked for these are. After an `Err` a prefix of the line was written.
 ///
 /// ```
-/// write_size_line(&[Kind { most: 100, len: 512 }], 13631, &mut writer)?;
+/// write_size_line::<4, _>(&[Kind { most: 100, len: 512 }], 13631, &mut writer)?;
 /// // writer holds "words 13631 bytes 109048 ratio 2.13\n" more
 /// ```
-pub fn write_size_line<W: Write>(
+pub fn write_size_line<const SLI: u32, W: Write>(
     kinds: &[Kind],
     words: u32,
     writer: &mut W,
 ) -> Result<(), WriteError>
+    requires level { IsLevel SLI }
     requires some { 0 < length kinds.now }
-    requires few { length kinds.now ≤ 64 }
-    requires reached { AreReached kinds.now }
-    requires law { words ≡ table.kinds_words 4 kinds.now }
+    requires reached { AreReached SLI kinds.now }
+    requires law { words ≡ table.kinds_words SLI kinds.now }
     ensures front { AppendsFront (W.contents writer.old) (W.contents writer.new)
-        (size_line kinds.now) }
+        (size_line SLI kinds.now) }
     ensures ok { OnOk result (Appends (W.contents writer.old) (W.contents writer.new)
-        (size_line kinds.now)) }
+        (size_line SLI kinds.now)) }
 {
-    match line_of(kinds, words) {
+    match line_of::<SLI>(kinds, words) {
         Ok(line) => write_out(writer, line.as_bytes()),
         // The line has at most 60 bytes and 96 have room, but no clause of the line says so.
         Err(_) => Err(WriteError),
@@ -130,23 +132,25 @@ pub fn write_size_line<W: Write>(
 }
 
 // The most blocks of so many bytes for which some region has room, 0 where there are none.
-fn blocks_of(len: u32) -> u32
-    ensures { IsGreatest (λ most. IsReached most len) result }
+fn blocks_of<const SLI: u32>(len: u32) -> u32
+    requires { IsLevel SLI }
+    ensures { IsGreatest (λ most. IsReached SLI most len) result }
 {
-    if len == 0 || len > LONGEST {
+    if len == 0 || len > most_bytes::<SLI>() {
         return 0;
     }
-    most_blocks::<4>(len)
+    most_blocks::<SLI>(len)
 }
 
 // The most bytes that each of so many blocks may have, 0 where no region has room for so many.
-fn bytes_for(most: u32) -> u32
-    ensures { IsGreatest (λ len. IsReached most len) result }
+fn bytes_for<const SLI: u32>(most: u32) -> u32
+    requires { IsLevel SLI }
+    ensures { IsGreatest (λ len. IsReached SLI most len) result }
 {
     if most == 0 {
         return 0;
     }
-    longest_request::<4>(most).unwrap_or(0)
+    longest_request::<SLI>(most).unwrap_or(0)
 }
 
 // The line that says how far the greatest region goes.
@@ -167,15 +171,21 @@ fn unreached_line_of(kind: Kind, blocks: u32, bytes: u32) -> Result<ArrayString<
 /// so many blocks, each 0 where there is none. After an `Err` a prefix of the line was written.
 ///
 /// ```
-/// let _ = write_unreached_line(Kind { most: 7655, len: 512 }, &mut errors);
+/// let _ = write_unreached_line::<4, _>(Kind { most: 7655, len: 512 }, &mut errors);
 /// ```
-pub fn write_unreached_line<E: Write>(kind: Kind, errors: &mut E) -> Result<(), WriteError>
-    ensures { (blocks : ℕ) × IsGreatest (λ most. IsReached most kind.len) blocks
-        × ((bytes : ℕ) × IsGreatest (λ len. IsReached kind.most len) bytes
+pub fn write_unreached_line<const SLI: u32, E: Write>(
+    kind: Kind,
+    errors: &mut E,
+) -> Result<(), WriteError>
+    requires { IsLevel SLI }
+    ensures { (blocks : ℕ) × IsGreatest (λ most. IsReached SLI most kind.len) blocks
+        × ((bytes : ℕ) × IsGreatest (λ len. IsReached SLI kind.most len) bytes
         × AppendsFront (E.contents errors.old) (E.contents errors.new)
         (unreached_line kind.most kind.len blocks bytes)) }
 {
-    match unreached_line_of(kind, blocks_of(kind.len), bytes_for(kind.most)) {
+    let blocks = blocks_of::<SLI>(kind.len);
+    let bytes = bytes_for::<SLI>(kind.most);
+    match unreached_line_of(kind, blocks, bytes) {
         Ok(line) => write_out(errors, line.as_bytes()),
         // The line has at most 130 bytes and 160 have room, but no clause of the line says so.
         Err(_) => Err(WriteError),

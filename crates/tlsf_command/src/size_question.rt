@@ -2,7 +2,7 @@ ghost use Rattle.std.specs.Prelude.{◌≡◌, [], codes, length, map, option_ma
 ghost use Rattle.std.specs.Option.{option_map_or, unwrap_or};
 ghost use Rattle.clap.specs.Words.{found_of, matched_of, raw_values};
 ghost use Rattle.tlsf_command.specs.SizeQuestions;
-ghost use Rattle.tlsf_command.specs.SizeQuestions.{kinds_in, IsQuestion};
+ghost use Rattle.tlsf_command.specs.SizeQuestions.{kinds_in, IsOfTexts, IsQuestion};
 
 use clap::ArgMatches;
 use std::alloc::{AllocError, Global};
@@ -14,8 +14,11 @@ pub const MOST_KINDS: usize = 64;
 /// What `tlsf size` is asked for.
 #[derive(Drop)]
 pub enum SizeQuestion {
-    /// The words for these kinds of request, 1 to [`MOST_KINDS`]: one for each pair of `--blocks` and `--bytes`, in their order.
+    /// The words at level 4 for these kinds of request, 1 to [`MOST_KINDS`]: one for each pair of `--blocks` and `--bytes`, in
+    /// their order.
     Table(Vec<Kind>),
+    /// Those at level 5.
+    FineTable(Vec<Kind>),
     /// No table: so many times `--blocks`, and so many times `--bytes`.
     Unpaired(usize, usize),
 }
@@ -25,6 +28,27 @@ pub fn number_of(text: &str) -> u32
     ensures { result ≡ SizeQuestions.number_of text.now }
 {
     text.parse().unwrap_or(0)
+}
+
+/// The number that the first text spells, and another one where there is no text.
+pub fn first_number(texts: &[&str], none: u32) -> u32
+    ensures { result ≡ SizeQuestions.first_number none (map (λ text. text.now) texts.now) }
+{
+    match texts.first() {
+        Some(text) => number_of(text),
+        None => none,
+    }
+}
+
+/// The level behind `--sli`, 4 where none is given.
+pub fn level_given(given: &ArgMatches<'_>) -> u32
+    ensures { result ≡ SizeQuestions.first_number 4
+        (unwrap_or (option_map raw_values (matched_of (found_of given.now) (codes "sli"))) []) }
+{
+    match given.get_raw("sli") {
+        Some(texts) => first_number(texts, 4),
+        None => 4,
+    }
 }
 
 // The kinds of as many numbers of blocks as of bytes, the i-th of these with the i-th of those.
@@ -53,12 +77,22 @@ fn count_of(texts: Option<&[&str]>) -> usize
 }
 
 impl SizeQuestion {
-    // The question of so many texts behind `--blocks` and behind `--bytes`.
-    fn of_texts(alloc: Global, blocks: &[&str], bytes: &[&str]) -> Result<SizeQuestion, AllocError>
-        ensures { IfOk result (IsQuestion (map (λ text. text.now) blocks.now) (map (λ text. text.now) bytes.now)) }
+    // The question of so many texts behind `--blocks` and behind `--bytes` at a level.
+    fn of_texts(
+        alloc: Global,
+        blocks: &[&str],
+        bytes: &[&str],
+        level: u32,
+    ) -> Result<SizeQuestion, AllocError>
+        ensures { IfOk result (IsOfTexts (map (λ text. text.now) blocks.now) (map (λ text. text.now) bytes.now) level) }
     {
         if blocks.len() == bytes.len() && !blocks.is_empty() && blocks.len() <= MOST_KINDS {
-            return Ok(SizeQuestion::Table(kinds_of(alloc, blocks, bytes)?));
+            let kinds = kinds_of(alloc, blocks, bytes)?;
+            return Ok(if level == 5 {
+                SizeQuestion::FineTable(kinds)
+            } else {
+                SizeQuestion::Table(kinds)
+            });
         }
         Ok(SizeQuestion::Unpaired(blocks.len(), bytes.len()))
     }
@@ -68,15 +102,18 @@ impl SizeQuestion {
     /// ```
     /// // of "--blocks 100 --bytes 64 --blocks 4 --bytes 4096"
     /// let question = SizeQuestion::given(alloc, &matches)?;
-    /// // question is about the table of 100 blocks of 64 bytes and 4 of 4096
+    /// // question is about the table of 100 blocks of 64 bytes and 4 of 4096, at level 4
     /// ```
     pub fn given(alloc: Global, given: &ArgMatches<'_>) -> Result<SizeQuestion, AllocError>
         ensures { IfOk result (IsQuestion
             (unwrap_or (option_map raw_values (matched_of (found_of given.now) (codes "B"))) [])
-            (unwrap_or (option_map raw_values (matched_of (found_of given.now) (codes "N"))) [])) }
+            (unwrap_or (option_map raw_values (matched_of (found_of given.now) (codes "N"))) [])
+            (unwrap_or (option_map raw_values (matched_of (found_of given.now) (codes "sli"))) [])) }
     {
         match (given.get_raw("B"), given.get_raw("N")) {
-            (Some(blocks), Some(bytes)) => SizeQuestion::of_texts(alloc, blocks, bytes),
+            (Some(blocks), Some(bytes)) => {
+                SizeQuestion::of_texts(alloc, blocks, bytes, level_given(given))
+            }
             (blocks, bytes) => Ok(SizeQuestion::Unpaired(count_of(blocks), count_of(bytes))),
         }
     }

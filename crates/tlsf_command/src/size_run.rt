@@ -1,7 +1,9 @@
 ghost use Rattle.std.specs.Prelude.{◌≤◌, ◌<◌, ℕ, List, Option, length};
+ghost use Rattle.tlsf_class.specs.Classes.{IsLevel};
 ghost use Rattle.tlsf_command.specs.Runs.{streams, ReportsUnreached, ShowsKinds, ShowsSize};
 ghost use Rattle.tlsf_command.specs.SizeLines.{AreReached};
 ghost use Rattle.tlsf_command.specs.SizeQuestions.{HasTable};
+ghost use Rattle.tlsf_pool.specs.Pools.{most_kinds};
 
 use crate::commands::report;
 use crate::size_line::{words_for, write_size_line, write_unreached_line};
@@ -12,33 +14,39 @@ use tlsf_pool::Kind;
 use tlsf_trace::TraceFault;
 
 // Reports that no region reaches so far. A write that fails changes nothing.
-fn report_unreached<E: Write>(kinds: &[Kind], errors: &mut E)
-    requires few { length kinds.now ≤ 64 }
-    requires unreached { ¬ (AreReached kinds.now) }
-    ensures { ReportsUnreached kinds.now (E.contents errors.old) (E.contents errors.new) }
+fn report_unreached<const SLI: u32, E: Write>(kinds: &[Kind], errors: &mut E)
+    requires level { IsLevel SLI }
+    requires few { length kinds.now ≤ most_kinds SLI }
+    requires unreached { ¬ (AreReached SLI kinds.now) }
+    ensures { ReportsUnreached SLI kinds.now (E.contents errors.old) (E.contents errors.new) }
 {
     if kinds.len() == 1 {
-        let _ = write_unreached_line(kinds[0], errors);
+        let _ = write_unreached_line::<SLI, E>(kinds[0], errors);
     } else {
-        let _ = write_unreached_table_line(kinds, errors);
+        let _ = write_unreached_table_line::<SLI, E>(kinds, errors);
     }
 }
 
 // Writes the line on a region for these kinds, and reports a write that fails, or that no region is large enough.
-fn show_kinds<W: Write, E: Write>(kinds: &[Kind], writer: &mut W, errors: &mut E) -> u8
+fn show_kinds<const SLI: u32, W: Write, E: Write>(
+    kinds: &[Kind],
+    writer: &mut W,
+    errors: &mut E,
+) -> u8
+    requires level { IsLevel SLI }
     requires some { 0 < length kinds.now }
-    requires few { length kinds.now ≤ 64 }
-    ensures { (left : Option (List ℕ)) → ShowsKinds kinds.now result
+    requires few { length kinds.now ≤ most_kinds SLI }
+    ensures { (left : Option (List ℕ)) → ShowsKinds SLI kinds.now result
         (streams left (W.contents writer.old) (E.contents errors.old))
         (streams left (W.contents writer.new) (E.contents errors.new)) }
 {
-    match words_for(kinds) {
-        Some(words) => match write_size_line(kinds, words, writer) {
+    match words_for::<SLI>(kinds) {
+        Some(words) => match write_size_line::<SLI, W>(kinds, words, writer) {
             Ok(()) => 0,
             Err(fault) => report(TraceFault::from(fault), errors),
         },
         None => {
-            report_unreached(kinds, errors);
+            report_unreached::<SLI, E>(kinds, errors);
             2
         }
     }
@@ -57,7 +65,8 @@ pub fn run_size<W: Write, E: Write>(question: SizeQuestion, writer: &mut W, erro
         (streams left (W.contents writer.new) (E.contents errors.new)) }
 {
     match question {
-        SizeQuestion::Table(kinds) => show_kinds(&kinds, writer, errors),
+        SizeQuestion::Table(kinds) => show_kinds::<4, W, E>(&kinds, writer, errors),
+        SizeQuestion::FineTable(kinds) => show_kinds::<5, W, E>(&kinds, writer, errors),
         SizeQuestion::Unpaired(blocks, bytes) => {
             let _ = write_unpaired_line(blocks, bytes, errors);
             2

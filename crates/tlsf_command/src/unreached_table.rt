@@ -1,6 +1,8 @@
 ghost use Rattle.std.specs.Prelude.{◌≡◌, ◌≤◌, ◌<◌, ℕ, Some, length, slice_get, IfOk};
+ghost use Rattle.tlsf_class.specs.Classes.{IsLevel};
 ghost use Rattle.tlsf_command.specs.SizeLines.{unpaired_line, unreached_table_line, AreReached, IsFirstUnreached};
 ghost use Rattle.tlsf_laws.specs.declared.kind.Kind.{Kind};
+ghost use Rattle.tlsf_pool.specs.Pools.{most_kinds};
 ghost use Rattle.tlsf_lines.specs.Prefixes.{AppendsFront};
 
 use crate::size_line::words_for;
@@ -12,14 +14,15 @@ use tlsf_pool::Kind;
 use tlsf_trace::{WriteError, write_out};
 
 // How many kinds at the front of the table are reached, where the table is not.
-fn reached_kinds(kinds: &[Kind]) -> usize
-    requires few { length kinds.now ≤ 64 }
-    requires unreached { ¬ (AreReached kinds.now) }
+fn reached_kinds<const SLI: u32>(kinds: &[Kind]) -> usize
+    requires level { IsLevel SLI }
+    requires few { length kinds.now ≤ most_kinds SLI }
+    requires unreached { ¬ (AreReached SLI kinds.now) }
     ensures below { result < length kinds.now }
-    ensures first { (next : Kind) → slice_get kinds.now result ≡ Some next → IsFirstUnreached kinds.now result next }
+    ensures first { (next : Kind) → slice_get kinds.now result ≡ Some next → IsFirstUnreached SLI kinds.now result next }
 {
     let mut reached = 0;
-    while reached + 1 < kinds.len() && words_for(&kinds[..reached + 1]).is_some() {
+    while reached + 1 < kinds.len() && words_for::<SLI>(&kinds[..reached + 1]).is_some() {
         reached += 1;
     }
     reached
@@ -39,22 +42,23 @@ fn table_line_of(pairs: usize, next: Kind) -> Result<ArrayString<160>, fmt::Erro
     Ok(line)
 }
 
-/// Writes the line that refuses a table of kinds, 64 at most, and flushes: how many pairs at its front a region has room for,
+/// Writes the line that refuses a table of kinds, 1,024 at most or 64 at level 5, and flushes: how many pairs at its front a region has room for,
 /// and the next one. After an `Err` a prefix of the line was written.
 ///
 /// ```
-/// let _ = write_unreached_table_line(&[Kind { most: 1, len: 8 }, Kind { most: 7655, len: 512 }], &mut errors);
+/// let _ = write_unreached_table_line::<4, _>(&[Kind { most: 1, len: 8 }, Kind { most: 7655, len: 512 }], &mut errors);
 /// ```
-pub fn write_unreached_table_line<E: Write>(
+pub fn write_unreached_table_line<const SLI: u32, E: Write>(
     kinds: &[Kind],
     errors: &mut E,
 ) -> Result<(), WriteError>
-    requires few { length kinds.now ≤ 64 }
-    requires unreached { ¬ (AreReached kinds.now) }
-    ensures { (pairs : ℕ) × (next : Kind) × IsFirstUnreached kinds.now pairs next
+    requires level { IsLevel SLI }
+    requires few { length kinds.now ≤ most_kinds SLI }
+    requires unreached { ¬ (AreReached SLI kinds.now) }
+    ensures { (pairs : ℕ) × (next : Kind) × IsFirstUnreached SLI kinds.now pairs next
         × AppendsFront (E.contents errors.old) (E.contents errors.new) (unreached_table_line pairs next) }
 {
-    let pairs = reached_kinds(kinds);
+    let pairs = reached_kinds::<SLI>(kinds);
     match table_line_of(pairs, kinds[pairs]) {
         Ok(line) => write_out(errors, line.as_bytes()),
         // The line has at most 130 bytes and 160 have room, but no clause of the line says so.

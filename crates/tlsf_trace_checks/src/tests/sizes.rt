@@ -33,6 +33,21 @@ fn writes_the_words_of_a_region(rt: HostRuntime) {
                 0,
                 "words 4 bytes 32 ratio 32.00\n",
             ),
+            (
+                "tlsf,size,--blocks,100,--bytes,600,--sli,4",
+                0,
+                "words 15920 bytes 127360 ratio 2.12\n",
+            ),
+            (
+                "tlsf,size,--sli,5,--blocks,100,--bytes,600",
+                0,
+                "words 15720 bytes 125760 ratio 2.10\n",
+            ),
+            (
+                "tlsf,size,--blocks,1,--sli=5,--bytes,134217704",
+                0,
+                "words 16777216 bytes 134217728 ratio 1.00\n",
+            ),
         ],
     );
 }
@@ -52,6 +67,11 @@ fn says_how_far_a_region_reaches(rt: HostRuntime) {
                 "tlsf,size,--blocks,1,--bytes,8388585",
                 2,
                 "tlsf: no region has so many words: at most 0 blocks of 8388585 bytes, or 1 blocks of at most 8388584 bytes\n",
+            ),
+            (
+                "tlsf,size,--blocks,1,--bytes,134217705,--sli,5",
+                2,
+                "tlsf: no region has so many words: at most 0 blocks of 134217705 bytes, or 1 blocks of at most 134217704 bytes\n",
             ),
             (
                 "tlsf,size,--blocks,4294967295,--bytes,4294967295",
@@ -82,6 +102,11 @@ fn tells_what_a_size_is(rt: HostRuntime) {
             ("tlsf,size,--blocks,1", 2, "--bytes <N>"),
             ("tlsf,size,--bytes,1", 2, "--blocks <B>"),
             (
+                "tlsf,size,--blocks,1,--bytes,8,--sli,3",
+                2,
+                "3 is not in 4..=5",
+            ),
+            (
                 "tlsf,size,--blocks,0,--bytes,8",
                 2,
                 "invalid value '0' for '--blocks <B>': 0 is not in 1..=4294967295",
@@ -104,7 +129,7 @@ fn tells_what_a_size_is(rt: HostRuntime) {
             (
                 "tlsf,size,--help",
                 0,
-                "Usage: tlsf size --blocks <B> --bytes <N>",
+                "Usage: tlsf size [OPTIONS] --blocks <B> --bytes <N>",
             ),
             ("tlsf,help,size", 0, "never answered NoFit (1)"),
             ("tlsf,size,-h", 0, "The most blocks that are held at once"),

@@ -1,4 +1,4 @@
-use Rattle.std.proofs.Common.{◌≡◌, ◌∙◌, Option, Some, None, refl, sym, true≢false}
+use Rattle.std.proofs.Common.{◌≡◌, Option, Some, None, refl, sym, true≢false}
 use Rattle.std.specs.Prelude.{IsSome}
 use Rattle.tlsf_command.proofs.ChosenCommands.{asks_classes, asks_held, asks_map, asks_map_text, asks_race, asks_race_queues, asks_replay, asks_size, some_named}
 use Rattle.tlsf_command.proofs.command_line.chosen.Goals.{then-get_flag, else-get_flag, then-get_flag-2, else-get_flag-2, then-get_flag-3, else-get_flag-3}

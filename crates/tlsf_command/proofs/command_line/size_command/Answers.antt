@@ -7,11 +7,14 @@ use Rattle.tlsf_command.proofs.command_line.size_command.Goals as goal
 pub returns-clause-app : goal.returns-clause-app
 returns-clause-app c =
     let first = c.in_ok-command.ensures.shape c.count_option.ensures.local ∙ ap₂ with_rule c.described.ensures.app c.count_option.ensures.rule in
-    IfOk-weaker c.arg-2.result _ _ (λ command added.
-    added.shape c.count_option-2.ensures.local ∙ ap₂ with_rule first c.count_option-2.ensures.rule) c.arg-2.ensures
+    let second = c.in_ok-paired.ensures.shape c.count_option-2.ensures.local ∙ ap₂ with_rule first c.count_option-2.ensures.rule in
+    IfOk-weaker c.arg-3.result _ _ (λ command added.
+    added.shape c.level_argument.ensures.local ∙ ap₂ with_rule second c.level_argument.ensures.rule) c.arg-3.ensures
 
 pub returns-clause-local : goal.returns-clause-local
 returns-clause-local c =
     let first : (out-Command c.in_ok-command.command).has_globals ≡ false =
     c.in_ok-command.ensures.globals ∙ rw (c.described.ensures.local, c.count_option.ensures.local) in
-    IfOk-weaker c.arg-2.result _ _ (λ command added. added.globals ∙ rw (first, c.count_option-2.ensures.local)) c.arg-2.ensures
+    let second : (out-Command c.in_ok-paired.paired).has_globals ≡ false =
+    c.in_ok-paired.ensures.globals ∙ rw (first, c.count_option-2.ensures.local) in
+    IfOk-weaker c.arg-3.result _ _ (λ command added. added.globals ∙ rw (second, c.level_argument.ensures.local)) c.arg-3.ensures

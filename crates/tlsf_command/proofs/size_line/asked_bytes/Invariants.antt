@@ -1,9 +1,6 @@
-use Rattle.std.proofs.Common.{◌≡◌, ◌+◌, ◌*◌, ◌≤◌, ◌^◌, drop}
+use Rattle.std.proofs.Common.{◌≡◌, ◌+◌, drop}
 use Rattle.tlsf_command.specs.SizeLines.{asked_bytes}
 use Rattle.tlsf_command.proofs.size_line.asked_bytes.Given as goal
 
 abbrev pub invariant-loop-kind : goal.invariant-loop-kind
-invariant-loop-kind l = record {
-  so_far : l.bytes + asked_bytes (drop l.kind-index l.kinds) ≡ asked_bytes l.kinds;
-  small : l.bytes ≤ l.kind-index * 2 ^ 55;
-}
+invariant-loop-kind l = l.bytes + asked_bytes (drop l.kind-index l.kinds) ≡ asked_bytes l.kinds

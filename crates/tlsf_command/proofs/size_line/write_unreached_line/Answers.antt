@@ -4,8 +4,8 @@ use Rattle.tlsf_command.proofs.size_line.write_unreached_line.Goals as goal
 pub returns-in-Ok : goal.returns-in-Ok
 returns-in-Ok g c =
     let written = rw (c.as_bytes.ensures.value, c.deref.ensures.0, c.in-Ok.ensures) at c.write_out.ensures.front in
-    (c.blocks_of.result, c.blocks_of.ensures, (c.bytes_for.result, c.bytes_for.ensures, written))
+    (c.blocks_of-blocks.result, c.blocks_of-blocks.ensures, (c.bytes_for-bytes.result, c.bytes_for-bytes.ensures, written))
 
 pub returns-in-Err : goal.returns-in-Err
 returns-in-Err g c =
-    (c.blocks_of.result, c.blocks_of.ensures, (c.bytes_for.result, c.bytes_for.ensures, (0, Appends-nil (g.E.Write.contents c.args.errors.now))))
+    (c.blocks_of-blocks.result, c.blocks_of-blocks.ensures, (c.bytes_for-bytes.result, c.bytes_for-bytes.ensures, (0, Appends-nil (g.E.Write.contents c.args.errors.now))))

@@ -3,10 +3,10 @@ use Rattle.tlsf_command.specs.SizeLines.{AreReached}
 use Rattle.tlsf_command.proofs.unreached_table.reached_kinds.Given as goal
 
 abbrev pub invariant-loop-reached : goal.invariant-loop-reached
-invariant-loop-reached l = record {
+invariant-loop-reached g l = record {
   below : l.reached < length l.kinds;
-  front : AreReached (take l.reached l.kinds);
+  front : AreReached g.row.SLI (take l.reached l.kinds);
 }
 
 abbrev pub decreases-loop-reached : goal.decreases-loop-reached
-decreases-loop-reached l = length l.kinds - l.reached
+decreases-loop-reached g l = length l.kinds - l.reached
