@@ -40,6 +40,7 @@ COMMANDS = [
     (["replay"], TRACE),
     (["replay", "--held"], TRACE),
     (["race"], RACED),
+    (["race", "--queues"], RACED),
     (["map"], TRACE),
     (["classes", "460"], b""),
     (["size", "--blocks", "100", "--bytes", "512"], b""),
@@ -49,6 +50,7 @@ COMMANDS = [
     (["replay"], TRACE + b"x\n"),
     (["replay", "--held"], TRACE + b"x\n"),
     (["race"], RACED + b"a 0 1 1\n"),
+    (["race", "--queues"], RACED + b"a 0 1 1\n"),
     (["map"], TRACE + b"x\n"),
 ]
 
@@ -119,12 +121,13 @@ def judge_growths(tally):
 
 
 def judge_threads(tally):
-    count = refuse_in_turn(tally, ["race"], RACED, [NO_MEMORY], "refuse_thread")
-    print(f"tlsf race: {count} starts of threads refused in turn")
+    for words in [["race"], ["race", "--queues"]]:
+        count = refuse_in_turn(tally, words, RACED, [NO_MEMORY], "refuse_thread")
+        print(f"tlsf {' '.join(words)}: {count} starts of threads refused in turn")
 
 
 def judge_reads(tally):
-    for words in [["replay"], ["replay", "--held"], ["race"], ["map"]]:
+    for words in [["replay"], ["replay", "--held"], ["race"], ["race", "--queues"], ["map"]]:
         for bytes_each in [1, 7]:
             count = refuse_in_turn(tally, words, TRACE, [READ_FAILED], "refuse_read", read_bytes=bytes_each)
             print(f"tlsf {' '.join(words)}: {count} reads of at most {bytes_each} bytes refused in turn")
@@ -149,7 +152,8 @@ def judge_lengths(tally):
 
 def judge_writes(tally):
     """Standard output takes so many bytes, and then a write fails or takes no byte."""
-    for words, text in [(["replay"], SHORT_TRACE), (["replay", "--held"], SHORT_TRACE), (["race"], SHORT_TRACE), (["map"], SHORT_TRACE), (["classes", "460"], b""), (["--help"], b"")]:
+    traces = [["replay"], ["replay", "--held"], ["race"], ["race", "--queues"], ["map"]]
+    for words, text in [*((words, SHORT_TRACE) for words in traces), (["classes", "460"], b""), (["--help"], b"")]:
         (status, whole, _), _ = run(words, text)
         assert status == 0
         for takes in range(len(whole)):
