@@ -62,7 +62,8 @@ memory runs out. Faults go to standard error.";
 const REPLAY_HELP: &str = "\
 Standard input is a trace. Its first line is 'tlsf 1 N W C': N workers, 1 to 8,
 each with a heap of W words, 4 to 1048576, and lanes between them for C posts
-each, 1 to 1024. Each line after it is one of these:
+each, 1 to 1024; or 'tlsf 2 N W C', for heaps of level 5, whose classes are
+finer, of 4 to 16777216 words. Each line after it is one of these:
 
   a w L len    worker w allocates len bytes and makes the label L
   f w L        worker w frees the block of L, or posts its name to its owner

@@ -4,6 +4,9 @@
 //! allocates, writes and reads on its own heap alone. A name of another's heap it posts into the lane to that owner, who
 //! takes it and releases the block.
 //!
+//! A yard is of level 4 or 5, as its heaps are: [`open_yard`] is asked for a level, and all else has that of the workers which it
+//! is given. Definitions have the level of the world or the workers that they are about, a `World sli` or a `Worker sli`.
+//!
 //! Contracts see a whole yard (`IsYard`) as a `World`: the heaps, what waits in each lane, and the lanes' capacity.
 //! [`replay_events`] runs a list of events on it, one after another, and answers what the definition `replies` says. It
 //! tells both ends of a lane all before and after each call that concerns it, so a lane is full exactly where its

@@ -26,7 +26,7 @@ use Rattle.tlsf_crew.proofs.lemmas.yard.JoinedEntries.{HasItsAnswer}
 use Rattle.tlsf_lines.specs.Events.{events_of}
 use Rattle.tlsf_lines.specs.Trace.{Trace}
 use Rattle.tlsf_lines.specs.declared.header.Header.{Header}
-use Rattle.tlsf_trace.specs.Output.{run_of, yard_of}
+use Rattle.tlsf_trace.specs.Output.{level_in, run_at, yard_of}
 use Rattle.tlsf_held.specs.HeldLines.{held_text}
 use Rattle.tlsf_held.specs.Measures.{AreLeastBounds, Measures}
 use Rattle.tlsf_held.specs.Tallies.{no_calls, noted, tally_of, with_length, with_release}
@@ -248,7 +248,7 @@ least calls answers m n =
     ((λ modest. calls_keep m n no_calls calls answers modest (omega arith, omega arith)), (λ within. (calls_kept m n no_calls calls answers within).0))
 
 -- what the entries of a run tell of a heap comes to its least bounds
-pub tally_bounds : (w : World) (es : List Event) (j : ℕ) → j < length w.heaps
+pub tally_bounds : {sli : ℕ} (w : World sli) (es : List Event) (j : ℕ) → j < length w.heaps
     → let r = replies w es in AreLeastBounds (calls_on j r.made r.entries) (answers_on j r.entries) (tally_of j r.entries).most (tally_of j r.entries).longest
 tally_bounds w es j inside =
     let r = replies w es in
@@ -258,18 +258,20 @@ tally_bounds w es j inside =
     (sym (entries_tallied r.made (length w.heaps) j inside no_calls r.entries (replies_tell w es).history.each)) (least calls answers)
 
 -- the lines of a run's tallies are those of the trace
-pub tallies_measure : (trace : Trace) (header : Header) (w : World) (events : List Event) (entries : List Entry) (text : List ℕ)
-    → header ≡ trace.header → w ≡ yard_of header → events ≡ events_of trace → entries ≡ (replies w events).entries
-    → text ≡ held_text header.words (λ j. (tally_of j entries).most) (λ j. (tally_of j entries).longest) header.workers → Measures trace text
-tallies_measure trace header w events entries text header_is world_is events_are entries_are text_is =
-    let run = run_of trace in
+pub tallies_measure : {sli : ℕ} (trace : Trace) (header : Header) (w : World sli) (events : List Event) (entries : List Entry) (text : List ℕ)
+    → level_in trace.header ≡ sli → header ≡ trace.header → w ≡ yard_of header → events ≡ events_of trace → entries ≡ (replies w events).entries
+    → text ≡ held_text sli header.words (λ j. (tally_of j entries).most) (λ j. (tally_of j entries).longest) header.workers → Measures trace text
+tallies_measure {sli} trace header w events entries text level_is header_is world_is events_are entries_are text_is =
+    let run = run_at sli trace in
     let yard : w ≡ yard_of trace.header = world_is ∙ ap yard_of header_is in
-    let same : entries ≡ run.entries = entries_are ∙ ap₂ (λ (v : World) (es : List Event). (replies v es).entries) yard events_are in
+    let same : entries ≡ run.entries = entries_are ∙ ap₂ (λ (v : World sli) (es : List Event). (replies v es).entries) yard events_are in
     let count = length-map-range_with_len (λ (i : ℕ). heap.opened i trace.header.words 0) 0 trace.header.workers in
-    let lines = λ (h : Header) (es : List Entry). held_text h.words (λ j. (tally_of j es).most) (λ j. (tally_of j es).longest) h.workers in
+    let lines = λ (h : Header) (es : List Entry). held_text sli h.words (λ j. (tally_of j es).most) (λ j. (tally_of j es).longest) h.workers in
     record {
       most = λ j. (tally_of j run.entries).most;
       len = λ j. (tally_of j run.entries).longest;
-      bounds = λ j inside. tally_bounds (yard_of trace.header) (events_of trace) j (omega (arith, count, inside));
-      written = text_is ∙ ap₂ lines header_is same;
+      bounds = λ j inside. subst (λ (n : ℕ). let r = run_at n trace in AreLeastBounds (calls_on j r.made r.entries) (answers_on j r.entries) (tally_of j run.entries).most (tally_of j run.entries).longest) (sym level_is)
+          (tally_bounds (yard_of {sli = sli} trace.header) (events_of trace) j (omega (arith, count, inside)));
+      written = subst (λ (n : ℕ). text ≡ held_text n trace.header.words (λ j. (tally_of j run.entries).most) (λ j. (tally_of j run.entries).longest) trace.header.workers) (sym level_is)
+          (text_is ∙ ap₂ lines header_is same);
     }

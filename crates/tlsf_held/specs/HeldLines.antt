@@ -8,13 +8,13 @@ abbrev pub words_text : Option ℕ → List ℕ
 words_text (Some words) = decimal words
 words_text None = codes "none"
 
--- held J blocks B bytes N words W region R
-abbrev pub held_line : (worker most len words : ℕ) → List ℕ
-held_line worker most len words =
+-- held J blocks B bytes N words W region R, at a level
+abbrev pub held_line : ℕ → (worker most len words : ℕ) → List ℕ
+held_line sli worker most len words =
     codes "held " ++ decimal worker ++ codes " blocks " ++ decimal most ++ codes " bytes " ++ decimal len
-    ++ codes " words " ++ words_text (pool_region 4 most len) ++ codes " region " ++ decimal words ++ codes "\n"
+    ++ codes " words " ++ words_text (pool_region sli most len) ++ codes " region " ++ decimal words ++ codes "\n"
 
 -- the lines of the workers below a number, whose heaps have so many words each
-abbrev pub held_text : ℕ → (most len : ℕ → ℕ) → ℕ → List ℕ
-held_text words most len zero = []
-held_text words most len (suc j) = held_text words most len j ++ held_line j (most j) (len j) words
+abbrev pub held_text : ℕ → ℕ → (most len : ℕ → ℕ) → ℕ → List ℕ
+held_text sli words most len zero = []
+held_text sli words most len (suc j) = held_text sli words most len j ++ held_line sli j (most j) (len j) words

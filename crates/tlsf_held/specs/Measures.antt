@@ -8,7 +8,7 @@ use Rattle.tlsf_crew.specs.yard.History.{answers_on, calls_on}
 use Rattle.tlsf_held.specs.HeldLines.{held_text}
 use Rattle.tlsf_lines.specs.Trace.{Trace}
 use Rattle.tlsf_lines.specs.declared.trace_fault.TraceFault.{TraceFault}
-use Rattle.tlsf_trace.specs.Output.{run_of}
+use Rattle.tlsf_trace.specs.Output.{level_in, run_of}
 use Rattle.tlsf_trace.specs.Replay.{IsRun}
 use Rattle.tlsf_trace.specs.declared.summary.Summary.{Summary}
 
@@ -27,7 +27,7 @@ pub record Measures (trace : Trace) (text : List ℕ) : Type 0 where
   pub most : ℕ → ℕ
   pub len : ℕ → ℕ
   pub bounds : (j : ℕ) → j < trace.header.workers → AreBoundsOf trace j (most j) (len j)
-  pub written : text ≡ held_text trace.header.words most len trace.header.workers
+  pub written : text ≡ held_text (level_in trace.header) trace.header.words most len trace.header.workers
 
 -- a run of a trace that puts out what its workers asked of their heaps
 abbrev pub IsMeasurement : Result Summary TraceFault → Option (List ℕ) → Option (List ℕ) → Option (List ℕ) → Option (List ℕ) → Type 0
@@ -35,6 +35,6 @@ IsMeasurement = IsRun Measures
 
 -- where the heaps of a trace have the words of a pool of these bounds, no request of the worker's is answered NoFit
 abbrev pub HeldWordsSuffice : Type 0
-HeldWordsSuffice = (trace : Trace) (j most len words : ℕ) → IsRegion 4 trace.header.words → j < trace.header.workers
-    → AreBoundsOf trace j most len → pool_region 4 most len ≡ Some words → words ≤ trace.header.words
+HeldWordsSuffice = (trace : Trace) (j most len words : ℕ) → IsRegion (level_in trace.header) trace.header.words → j < trace.header.workers
+    → AreBoundsOf trace j most len → pool_region (level_in trace.header) most len ≡ Some words → words ≤ trace.header.words
     → AllByRecursion HasRoomFor (answers_on j (run_of trace).entries)

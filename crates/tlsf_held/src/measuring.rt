@@ -1,33 +1,48 @@
 //! A trace whose run is measured.
-ghost use Rattle.std.specs.Prelude.{IfOk, string_bytes};
+ghost use Rattle.std.specs.Prelude.{◌≡◌, IfOk, string_bytes};
+ghost use Rattle.tlsf_class.specs.Classes.{IsLevel};
 ghost use Rattle.tlsf_held.specs.Measures.{IsMeasurement, Measures};
 ghost use Rattle.tlsf_lines.specs.Ranges.{IsHeaderInRange};
 ghost use Rattle.tlsf_lines.specs.ScriptSoFar.{IsScript};
 ghost use Rattle.tlsf_lines.specs.Trace.{Trace};
+ghost use Rattle.tlsf_trace.specs.Output.{level_in};
 
 use crate::lines::write_held_lines;
 use std::alloc::{AllocError, Global};
 use std::io::{Read, Write};
 use tlsf_crew::{open_yard, replay_events};
-use tlsf_lines::{Script, read_all, script_in};
+use tlsf_lines::{Script, Version, read_all, script_in};
 use tlsf_trace::{Summary, TraceFault, finish};
 
-// The lines on a script that is run on a new yard.
-fn lines_of(alloc: Global, script: &Script) -> Result<String, AllocError>
-    requires { IsHeaderInRange script.now.header }
-    ensures { (trace : Trace) → IsScript script.now trace → IfOk result (λ text. Measures trace (string_bytes text)) }
+// The lines on a script that is run on a new yard of this level, that of its version.
+fn lines_at<const SLI: u32>(alloc: Global, script: &Script) -> Result<String, AllocError>
+    requires level { IsLevel SLI }
+    requires header { IsHeaderInRange script.now.header }
+    ensures { (trace : Trace) → level_in trace.header ≡ SLI → IsScript script.now trace → IfOk result (λ text. Measures trace (string_bytes text)) }
 {
     let header = script.header;
     // A header in its ranges is not of a bad size, so what is refused here is memory.
-    let Ok(mut workers) = open_yard(alloc, header.workers, header.words, header.capacity) else {
+    let Ok(mut workers) = open_yard::<SLI>(alloc, header.workers, header.words, header.capacity)
+    else {
         return Err(AllocError);
     };
     let Ok(entries) = replay_events(alloc, &mut workers, &script.events) else {
         return Err(AllocError);
     };
     let mut text = String::new(alloc);
-    write_held_lines(&mut text, header.workers, header.words, &entries)?;
+    write_held_lines::<SLI>(&mut text, header.workers, header.words, &entries)?;
     Ok(text)
+}
+
+// The lines on a script that is run on a new yard of the level of its version.
+fn lines_of(alloc: Global, script: &Script) -> Result<String, AllocError>
+    requires { IsHeaderInRange script.now.header }
+    ensures { (trace : Trace) → IsScript script.now trace → IfOk result (λ text. Measures trace (string_bytes text)) }
+{
+    match script.header.version {
+        Version::One => lines_at::<4>(alloc, script),
+        Version::Two => lines_at::<5>(alloc, script),
+    }
 }
 
 /// Reads a whole trace, runs it on a new yard of workers, and writes for each worker what its calls asked of its heap.

@@ -1,3 +1,4 @@
+ghost use Rattle.tlsf_class.specs.Classes.{IsLevel};
 ghost use Rattle.std.specs.Prelude.{◌≡◌};
 ghost use Rattle.tlsf_held.specs.Replies as told;
 
@@ -134,15 +135,16 @@ impl Tally {
         }
     }
 
-    /// The words of the least region in which such calls are never refused for want of room, 4 to 2^20. None where no region has so
+    /// The words of the least region in which such calls are never refused for want of room, 4 to 2^20, at level 5 to 2^24. None where no region has so
     /// many.
-    pub fn region(&self) -> Option<u32>
-        ensures { result ≡ Pools.pool_region 4 self.now.most self.now.longest }
+    pub fn region<const SLI: u32>(&self) -> Option<u32>
+        requires { IsLevel SLI }
+        ensures { result ≡ Pools.pool_region SLI self.now.most self.now.longest }
     {
         // A block has four words at least, so no region has room for more.
         if self.most > u32::MAX as usize {
             return None;
         }
-        pool_region::<4>(self.most as u32, self.longest)
+        pool_region::<SLI>(self.most as u32, self.longest)
     }
 }

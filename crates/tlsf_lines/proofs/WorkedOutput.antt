@@ -10,11 +10,12 @@ use Rattle.tlsf_lines.specs.Events.{events_of, labels_of}
 use Rattle.tlsf_lines.specs.ReplyLines.{reply_line}
 use Rattle.tlsf_lines.specs.Trace.{Trace}
 use Rattle.tlsf_lines.specs.declared.line.Line.TheVariants.{Allocate, Release, Phase}
+use Rattle.tlsf_lines.specs.declared.version.Version.TheVariants.{One}
 
 -- two workers, and a label on either side of a phase's end
 two_phases : Trace
 two_phases = record {
-  header = record { workers = 2; words = 64; capacity = 1 };
+  header = record { version = One; workers = 2; words = 64; capacity = 1 };
   lines = Allocate 0 7 8 ∷ Phase ∷ Allocate 1 5 8 ∷ Release 1 7 ∷ Release 1 5 ∷ [];
 }
 

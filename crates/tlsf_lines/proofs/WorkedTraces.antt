@@ -4,6 +4,7 @@ use Rattle.std.specs.Prelude.{codes}
 use Rattle.hex.proofs.OnLiterals.{hex_on_literals}
 use Rattle.tlsf_calls.specs.Bytes.{chunk_of}
 use Rattle.tlsf_lines.specs.declared.header.Header.{Header}
+use Rattle.tlsf_lines.specs.declared.version.Version.TheVariants.{One, Two}
 use Rattle.tlsf_lines.specs.declared.line.Line.TheVariants.{Allocate, Release, Write, Read, Resize, Drain, Phase}
 use Rattle.tlsf_lines.specs.declared.line_fault.LineFault.{LineFault}
 use Rattle.tlsf_lines.specs.declared.line_fault.LineFault.TheVariants.{BadHeader, BadLine, LabelOrder}
@@ -22,11 +23,11 @@ first_line line = trace_of (text (line ∷ []))
 
 -- one worker, 64 words and one post a lane
 abbrev heap_of_64 : Header
-heap_of_64 = record { workers = 1; words = 64; capacity = 1 }
+heap_of_64 = record { version = One; workers = 1; words = 64; capacity = 1 }
 
 -- two workers, 64 words each and four posts a lane
 abbrev two_of_64 : Header
-two_of_64 = record { workers = 2; words = 64; capacity = 4 }
+two_of_64 = record { version = One; workers = 2; words = 64; capacity = 4 }
 
 -- two blocks are made, and the first is released
 two_blocks : trace_of (text (codes "tlsf 1 1 64 1" ∷ codes "a 0 1 8" ∷ codes "a 0 2 100" ∷ codes "f 0 1" ∷ [])) ≡
@@ -90,13 +91,13 @@ used_by_its_maker = refl
 
 -- each number at its greatest
 greatest_numbers : trace_of (text (codes "tlsf 1 8 1048576 1024" ∷ codes "a 7 65535 4294967295" ∷ codes "g 7 65535 4294967295 64" ∷ [])) ≡
-    Ok (record { header = record { workers = 8; words = 1048576; capacity = 1024 }; lines = Allocate 7 65535 4294967295 ∷ Read 7 65535 4294967295 64 ∷ [] })
+    Ok (record { header = record { version = One; workers = 8; words = 1048576; capacity = 1024 }; lines = Allocate 7 65535 4294967295 ∷ Read 7 65535 4294967295 64 ∷ [] })
 unfolding trace_of lines_in line_in line_from header_in header_from
 greatest_numbers = refl
 
 -- each number at its least
 least_numbers : trace_of (text (codes "tlsf 1 1 4 1" ∷ codes "a 0 0 0" ∷ codes "g 0 0 0 1" ∷ codes "d 0 1" ∷ [])) ≡
-    Ok (record { header = record { workers = 1; words = 4; capacity = 1 }; lines = Allocate 0 0 0 ∷ Read 0 0 0 1 ∷ Drain 0 1 ∷ [] })
+    Ok (record { header = record { version = One; workers = 1; words = 4; capacity = 1 }; lines = Allocate 0 0 0 ∷ Read 0 0 0 1 ∷ Drain 0 1 ∷ [] })
 unfolding trace_of lines_in line_in line_from header_in header_from
 least_numbers = refl
 
@@ -140,10 +141,20 @@ too_much_capacity : first_line (codes "tlsf 1 1 64 1025") ≡ Err (BadHeader, 1)
 unfolding trace_of lines_in line_in line_from header_in header_from
 too_much_capacity = refl
 
--- version 1 alone
-version_2 : first_line (codes "tlsf 2 1 64 1") ≡ Err (BadHeader, 1)
+-- version 2, with a heap as large as version 1 has none
+version_2 : first_line (codes "tlsf 2 8 16777216 1024") ≡ Ok (record { header = record { version = Two; workers = 8; words = 16777216; capacity = 1024 }; lines = [] })
 unfolding trace_of lines_in line_in line_from header_in header_from
 version_2 = refl
+
+-- at most 16777216 words in version 2
+too_many_words_of_version_2 : first_line (codes "tlsf 2 1 16777217 1") ≡ Err (BadHeader, 1)
+unfolding trace_of lines_in line_in line_from header_in header_from
+too_many_words_of_version_2 = refl
+
+-- versions 1 and 2 alone
+version_3 : first_line (codes "tlsf 3 1 64 1") ≡ Err (BadHeader, 1)
+unfolding trace_of lines_in line_in line_from header_in header_from
+version_3 = refl
 
 -- a number of the header has one spelling
 workers_with_leading_zero : first_line (codes "tlsf 1 01 64 1") ≡ Err (BadHeader, 1)

@@ -4,6 +4,7 @@ pub mod Values
 pub mod Fields
 pub mod Lines
 pub mod Labels
+pub mod Versions
 pub mod Header
 pub mod Pieces
 pub mod Trace

@@ -5,7 +5,7 @@ ghost use Rattle.tlsf_lines.specs.Ranges.{IsHeaderInRange};
 
 use crate::fields::{cut_field, line_of};
 use crate::numbers::digits_in;
-use tlsf_heap::MOST_WORDS;
+use crate::version::Version;
 
 /// The most workers that a header may name.
 const MOST_WORKERS: u32 = 8;
@@ -19,13 +19,15 @@ const MOST_CAPACITY: u32 = 1024;
 /// What the first line of a trace says.
 ///
 /// ```
-/// // "tlsf 1 2 64 4\n" is Header { workers: 2, words: 64, capacity: 4 }
+/// // "tlsf 1 2 64 4\n" is Header { version: Version::One, workers: 2, words: 64, capacity: 4 }
 /// ```
 #[derive(Clone, Copy)]
 pub struct Header {
+    /// The version, by which the heaps are of level 4 or 5.
+    pub version: Version,
     /// How many workers there are, each with a heap of its own, from 1 to 8.
     pub workers: u32,
-    /// The words of each heap, from 4 to 1048576.
+    /// The words of each heap, from 4 to 1048576, in version 2 to 16777216.
     pub words: u32,
     /// How many posts a lane holds, from 1 to 1024.
     pub capacity: u32,
@@ -40,14 +42,15 @@ fn number_in(field: &[u8], least: u32, most: u32) -> Option<u32>
 }
 
 #[tactic(auto, unfolding(crate::specs::Header::header_from))]
-fn header_from(workers: &[u8], words: &[u8], capacity: &[u8]) -> Option<Header>
-    ensures header { result ≡ spelled.header_from workers.now words.now capacity.now }
+fn header_from(version: Version, workers: &[u8], words: &[u8], capacity: &[u8]) -> Option<Header>
+    ensures header { result ≡ spelled.header_from version workers.now words.now capacity.now }
     ensures ranges { IfSome result IsHeaderInRange }
 {
     let workers = number_in(workers, 1, MOST_WORKERS)?;
-    let words = number_in(words, LEAST_WORDS, MOST_WORDS)?;
+    let words = number_in(words, LEAST_WORDS, version.most_words())?;
     let capacity = number_in(capacity, 1, MOST_CAPACITY)?;
     Some(Header {
+        version,
         workers,
         words,
         capacity,
@@ -78,8 +81,8 @@ pub fn header_in(piece: &[u8]) -> Option<Header>
     ensures ranges { IfSome result IsHeaderInRange }
 {
     let (name, version, workers, words, capacity) = five_fields(line_of(piece)?)?;
-    if name != b"tlsf".as_slice() || version != b"1".as_slice() {
+    if name != b"tlsf".as_slice() {
         return None;
     }
-    header_from(workers, words, capacity)
+    header_from(Version::spelled_by(version)?, workers, words, capacity)
 }

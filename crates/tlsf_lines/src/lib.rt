@@ -1,6 +1,6 @@
 //! The lines of a trace: what is read, checked whole, and the reply lines that tell what a run answered.
 //!
-//! A trace is a header, `tlsf 1 N W C`, and then lines, each with its line feed:
+//! A trace is a header, `tlsf 1 N W C` or `tlsf 2 N W C`, and then lines, each with its line feed:
 //!
 //! | Line | Says |
 //! |---|---|
@@ -47,6 +47,7 @@ mod sink;
 mod texts;
 mod trace;
 mod trace_fault;
+mod version;
 mod word;
 
 pub use header::Header;
@@ -65,3 +66,4 @@ pub use sink::{WriteError, write_out};
 pub use texts::{script_in, trace_in};
 pub use trace::Trace;
 pub use trace_fault::TraceFault;
+pub use version::Version;

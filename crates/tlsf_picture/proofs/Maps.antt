@@ -10,7 +10,7 @@ use Rattle.tlsf_picture.specs.Drawn.{AreMaps, IsMap, IsMapBy}
 use Rattle.tlsf_picture.specs.Labelled.{label_of}
 use Rattle.tlsf_trace.specs.Ended.{IsEnd}
 use Rattle.tlsf_lines.specs.Events.{labels_of}
-use Rattle.tlsf_trace.specs.Output.{run_of}
+use Rattle.tlsf_trace.specs.Output.{level_in, run_at, run_of}
 use Rattle.tlsf_lines.specs.Trace.{Trace}
 use Rattle.tlsf_trace.specs.declared.ended.EndedTrace.{EndedTrace}
 use Rattle.tlsf_trace.proofs.WholeOutput.{heaps_in}
@@ -29,21 +29,22 @@ as_many R (a ∷ xs) [] all = absurd all
 as_many R (a ∷ xs) (b ∷ ys) all = let e = as_many R xs ys all.1 in omega (arith, e)
 
 -- the map of this heap behind those of the heaps before
-pub map_more : (made : List (Option Name)) (labels : List (Option ℕ)) (heaps : List HeapState) (i : ℕ) (d heap : HeapState) (maps : List MappedHeap) (known : ℕ → Option ℕ) (mapped : MappedHeap)
-    → i < length heaps → get_or heaps i d ≡ heap → heap.id ≡ i → known ≡ label_of i made labels → IsMapBy known heap mapped
-    → AreMaps made labels (take i heaps) maps → AreMaps made labels (take (i + 1) heaps) (maps ++ mapped ∷ [])
-map_more made labels heaps i d heap maps known mapped lt here id knows is so_far =
-    let own : IsMap made labels heap mapped =
-    subst (λ (n : ℕ). IsMapBy (label_of n made labels) heap mapped) (sym id) (subst (λ (f : ℕ → Option ℕ). IsMapBy f heap mapped) knows is) in
-    subst (λ (l : List HeapState). AreMaps made labels l (maps ++ mapped ∷ [])) (sym (take_more heaps i d lt))
-    (push_both (IsMap made labels) (take i heaps) maps (get_or heaps i d) mapped so_far (subst (λ (h : HeapState). IsMap made labels h mapped) (sym here) own))
+pub map_more : (sli : ℕ) (made : List (Option Name)) (labels : List (Option ℕ)) (heaps : List HeapState) (i : ℕ) (d heap : HeapState) (maps : List MappedHeap) (known : ℕ → Option ℕ) (mapped : MappedHeap)
+    → i < length heaps → get_or heaps i d ≡ heap → heap.id ≡ i → known ≡ label_of i made labels → IsMapBy sli known heap mapped
+    → AreMaps sli made labels (take i heaps) maps → AreMaps sli made labels (take (i + 1) heaps) (maps ++ mapped ∷ [])
+map_more sli made labels heaps i d heap maps known mapped lt here id knows is so_far =
+    let own : IsMap sli made labels heap mapped =
+    subst (λ (n : ℕ). IsMapBy sli (label_of n made labels) heap mapped) (sym id) (subst (λ (f : ℕ → Option ℕ). IsMapBy sli f heap mapped) knows is) in
+    subst (λ (l : List HeapState). AreMaps sli made labels l (maps ++ mapped ∷ [])) (sym (take_more heaps i d lt))
+    (push_both (IsMap sli made labels) (take i heaps) maps (get_or heaps i d) mapped so_far (subst (λ (h : HeapState). IsMap sli made labels h mapped) (sym here) own))
 
 -- maps of the heaps of a trace's end are maps of the heaps of its world
-pub maps_of_end : (trace : Trace) (ended : EndedTrace) (maps : List MappedHeap) → IsEnd trace ended
-    → AreMaps ended.made.items ended.labels.items (map heap_of ended.workers.items) maps
-    → AreMaps (run_of trace).made (labels_of trace) (run_of trace).world.heaps maps
-maps_of_end trace ended maps is mapped =
+pub maps_of_end : {sli : ℕ} (trace : Trace) (ended : EndedTrace sli) (maps : List MappedHeap) → level_in trace.header ≡ sli → IsEnd trace ended
+    → AreMaps sli ended.made.items ended.labels.items (map heap_of ended.workers.items) maps
+    → AreMaps (level_in trace.header) (run_of trace).made (labels_of trace) (run_of trace).world.heaps maps
+maps_of_end {sli} trace ended maps level is mapped =
     let heaps = map heap_of ended.workers.items in
-    subst (λ (hs : List HeapState). AreMaps (run_of trace).made (labels_of trace) hs maps) (heaps_in ended.workers.items _ is.world)
-    (subst (λ (ls : List (Option ℕ)). AreMaps (run_of trace).made ls heaps maps) is.labels
-    (subst (λ (names : List (Option Name)). AreMaps names ended.labels.items heaps maps) is.made mapped))
+    subst (λ (n : ℕ). AreMaps n (run_at n trace).made (labels_of trace) (run_at n trace).world.heaps maps) (sym level)
+    (subst (λ (hs : List HeapState). AreMaps sli (run_at sli trace).made (labels_of trace) hs maps) (heaps_in ended.workers.items _ is.world)
+    (subst (λ (ls : List (Option ℕ)). AreMaps sli (run_at sli trace).made ls heaps maps) is.labels
+    (subst (λ (names : List (Option Name)). AreMaps sli names ended.labels.items heaps maps) is.made mapped)))

@@ -10,31 +10,31 @@ use Rattle.tlsf_map.specs.Text.{text_of}
 use Rattle.tlsf_map.specs.declared.mapped_heap.MappedHeap.{MappedHeap}
 use Rattle.tlsf_picture.specs.Labelled.{label_of, labelled}
 use Rattle.tlsf_lines.specs.Events.{labels_of}
-use Rattle.tlsf_trace.specs.Output.{run_of}
+use Rattle.tlsf_trace.specs.Output.{level_in, run_of}
 use Rattle.tlsf_trace.specs.Replay.{IsRun}
 use Rattle.tlsf_lines.specs.Trace.{Trace}
 use Rattle.tlsf_trace.specs.declared.summary.Summary.{Summary}
 use Rattle.tlsf_lines.specs.declared.trace_fault.TraceFault.{TraceFault}
 
 -- the map of a heap: its number, its tick, its report, and each of its blocks in the order of their places, with these labels
-pub record IsMapBy (known : ℕ → Option ℕ) (heap : HeapState) (mapped : MappedHeap) : Type 0 where
+pub record IsMapBy (sli : ℕ) (known : ℕ → Option ℕ) (heap : HeapState) (mapped : MappedHeap) : Type 0 where
   pub id : mapped.id ≡ heap.id
   pub tick : mapped.tick ≡ heap.tick
-  pub report : mapped.report ≡ report_of 4 heap
+  pub report : mapped.report ≡ report_of sli heap
   pub blocks : mapped.blocks.items ≡ map (labelled known) (placed_blocks heap.blocks)
 
--- the map of a heap, by what each event made and the label of each
-abbrev pub IsMap : List (Option Name) → List (Option ℕ) → HeapState → MappedHeap → Type 0
-IsMap made labels heap = IsMapBy (label_of heap.id made labels) heap
+-- the map of a heap of a level, by what each event made and the label of each
+abbrev pub IsMap : ℕ → List (Option Name) → List (Option ℕ) → HeapState → MappedHeap → Type 0
+IsMap sli made labels heap = IsMapBy sli (label_of heap.id made labels) heap
 
 -- a map for each heap, in their order
-abbrev pub AreMaps : List (Option Name) → List (Option ℕ) → List HeapState → List MappedHeap → Type 0
-AreMaps made labels heaps maps = AllZip (IsMap made labels) heaps maps
+abbrev pub AreMaps : ℕ → List (Option Name) → List (Option ℕ) → List HeapState → List MappedHeap → Type 0
+AreMaps sli made labels heaps maps = AllZip (IsMap sli made labels) heaps maps
 
 -- the text is the picture, by this definition of one, of maps of the heaps that the trace leaves
 pub record DrawsBy (picture : ℕ → List MappedHeap → List ℕ) (trace : Trace) (text : List ℕ) : Type 0 where
   pub maps : List MappedHeap
-  pub mapped : AreMaps (run_of trace).made (labels_of trace) (run_of trace).world.heaps maps
+  pub mapped : AreMaps (level_in trace.header) (run_of trace).made (labels_of trace) (run_of trace).world.heaps maps
   pub drawn : text ≡ picture trace.header.words maps
 
 -- as an SVG file, or in the characters of a terminal

@@ -13,9 +13,9 @@ use tlsf_heap::Name;
 use tlsf_map::{LabelledBlock, MappedHeap};
 
 // The blocks of a worker's heap, in the order of their places, each with its label.
-fn blocks_of(
+fn blocks_of<const SLI: u32>(
     alloc: Global,
-    worker: &mut Worker,
+    worker: &mut Worker<SLI>,
     labels: &BlockLabels,
 ) -> Result<Vec<LabelledBlock>, AllocError>
     ensures heap { heap_of worker.new ≡ heap_of worker.old }
@@ -32,15 +32,15 @@ fn blocks_of(
 }
 
 // What a picture of a worker's heap of this number is made of.
-fn map_heap(
+fn map_heap<const SLI: u32>(
     alloc: Global,
     id: u32,
-    worker: &mut Worker,
+    worker: &mut Worker<SLI>,
     labels: &BlockLabels,
 ) -> Result<MappedHeap, AllocError>
     requires { (heap_of worker.old).id ≡ id }
     ensures heap { heap_of worker.new ≡ heap_of worker.old }
-    ensures mapped { IfOk result (IsMapBy (known_in labels.now) (heap_of worker.old)) }
+    ensures mapped { IfOk result (IsMapBy SLI (known_in labels.now) (heap_of worker.old)) }
 {
     let report = worker.report();
     let blocks = blocks_of(alloc, worker, labels)?;
@@ -53,14 +53,14 @@ fn map_heap(
 }
 
 /// What a picture of the workers' heaps is made of, by the name that each event made and the label of each.
-pub fn map_heaps(
+pub fn map_heaps<const SLI: u32>(
     alloc: Global,
-    workers: &mut [Worker],
+    workers: &mut [Worker<SLI>],
     made: &[Option<Name>],
     labels: &[Option<u32>],
 ) -> Result<Vec<MappedHeap>, AllocError>
     requires { IsYard workers.old }
-    ensures { IfOk result (λ maps. AreMaps made.now labels.now (map heap_of workers.old) maps.items) }
+    ensures { IfOk result (λ maps. AreMaps SLI made.now labels.now (map heap_of workers.old) maps.items) }
 {
     let mut maps = Vec::new(alloc);
     for number in 0..workers.len() {

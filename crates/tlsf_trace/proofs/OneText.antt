@@ -12,7 +12,7 @@ use Rattle.tlsf_lines.specs.Records.{records_text}
 use Rattle.tlsf_lines.specs.declared.line.Line.{Line}
 use Rattle.tlsf_lines.specs.declared.line.Line.TheVariants.{Allocate, Release, Write, Read, Resize, Drain, Phase}
 use Rattle.tlsf_trace.specs.OneText.{IsNoDrain, RaceGivesOneText}
-use Rattle.tlsf_trace.specs.Output.{yard_of}
+use Rattle.tlsf_trace.specs.Output.{level_in, yard_of}
 use Rattle.tlsf_trace.specs.RaceOutput.{IsRaceText}
 
 -- ---- a phase without `d` lines
@@ -63,16 +63,16 @@ free_scripts known phase all (w ∷ workers) (suc j) = free_scripts known phase 
 
 -- ---- phase after phase
 
-same_text : (n : ℕ) (phases : List (List Line)) (w : World) (known : ℕ → Option Name) (text other : List ℕ) → AllByRecursion HasNone phases
+same_text : {sli : ℕ} → (n : ℕ) (phases : List (List Line)) (w : World sli) (known : ℕ → Option Name) (text other : List ℕ) → AllByRecursion HasNone phases
     → IsRaceText IsRace n w known phases text → IsRaceText IsRace n w known phases other → text ≡ other
-same_text n [] w known text other all is was = is ∙ sym was
-same_text n (phase ∷ phases) w known text other all (records, v, tail, race, text_is, more) (others, u, end, again, other_is, later) =
+same_text {sli} n [] w known text other all is was = is ∙ sym was
+same_text {sli} n (phase ∷ phases) w known text other all (records, v, tail, race, text_is, more) (others, u, end, again, other_is, later) =
     let free : OnlyLastDrains (scripts_in n known phase) = λ j. free_scripts known phase all.0 _ j in
-    let one = race_is_one w v u (scripts_in n known phase) records others free race again in
+    let one = race_is_one sli w v u (scripts_in n known phase) records others free race again in
     let told : IsRaceText IsRace n v (known_below known phase others n) phases tail = subst (λ (rs : List (List Entry)). IsRaceText IsRace n v (known_below known phase rs n) phases tail) one.0 more in
-    let moved : IsRaceText IsRace n u (known_below known phase others n) phases tail = subst (λ (x : World). IsRaceText IsRace n x (known_below known phase others n) phases tail) one.1 told in
+    let moved : IsRaceText IsRace n u (known_below known phase others n) phases tail = subst (λ (x : World sli). IsRaceText IsRace n x (known_below known phase others n) phases tail) one.1 told in
     let rest = same_text n phases u (known_below known phase others n) tail end all.1 moved later in
     text_is ∙ (ap (λ rs. records_text phase rs n ++ tail) one.0 ∙ (ap (λ t. records_text phase others n ++ t) rest ∙ sym other_is))
 
 pub one_text : RaceGivesOneText
-one_text trace text other none is was = same_text trace.header.workers (phases_of trace.lines) (yard_of trace.header) none_known text other (phases_none trace.lines none) is was
+one_text trace text other none is was = same_text {sli = level_in trace.header} trace.header.workers (phases_of trace.lines) (yard_of trace.header) none_known text other (phases_none trace.lines none) is was

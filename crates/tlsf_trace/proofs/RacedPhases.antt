@@ -31,25 +31,25 @@ lines_left None = 0
 lines_left (Some lines) = suc (length lines.now)
 
 -- the heaps that a yard shows are those of its workers
-pub heaps_are : (ws : List Worker) → (world_of ws).heaps ≡ map heap_of ws
+pub heaps_are : {sli : ℕ} → (ws : List (Worker sli)) → (world_of ws).heaps ≡ map heap_of ws
 unfolding world_of
 heaps_are ws = refl
 
-pub queue_heaps_are : (ws : List QueueWorker) → (queue_world_of ws).heaps ≡ map queue_heap ws
+pub queue_heaps_are : {sli : ℕ} → (ws : List (QueueWorker sli)) → (queue_world_of ws).heaps ≡ map queue_heap ws
 unfolding queue_world_of
 queue_heaps_are ws = refl
 
 -- as many as workers
-pub heap_count : (ws : List Worker) → length (world_of ws).heaps ≡ length ws
+pub heap_count : {sli : ℕ} → (ws : List (Worker sli)) → length (world_of ws).heaps ≡ length ws
 heap_count ws = ap length (heaps_are ws) ∙ length-map ws heap_of
 
-pub queue_heap_count : (ws : List QueueWorker) → length (queue_world_of ws).heaps ≡ length ws
+pub queue_heap_count : {sli : ℕ} → (ws : List (QueueWorker sli)) → length (queue_world_of ws).heaps ≡ length ws
 queue_heap_count ws = ap length (queue_heaps_are ws) ∙ length-map ws queue_heap
 
-pub none_raced : (Races : Racing) (n : ℕ) (w : World) (known : ℕ → Option Name) (phases : List (List Line)) (old : List ℕ) → IsRaceSoFar Races n w known phases old w known phases old
+pub none_raced : {sli : ℕ} → (Races : Racing sli) (n : ℕ) (w : World sli) (known : ℕ → Option Name) (phases : List (List Line)) (old : List ℕ) → IsRaceSoFar Races n w known phases old w known phases old
 none_raced Races n w known phases old = record { told = []; text_is = sym (append-nil old); rest = λ tail t. t }
 
-pub one_raced : (Races : Racing) (n : ℕ) (w : World) (known learnt more : ℕ → Option Name) (phases left : List (List Line)) (phase : List Line) (old new newer : List ℕ) (v u : World)
+pub one_raced : {sli : ℕ} → (Races : Racing sli) (n : ℕ) (w : World sli) (known learnt more : ℕ → Option Name) (phases left : List (List Line)) (phase : List Line) (old new newer : List ℕ) (v u : World sli)
     → IsRaceSoFar Races n w known phases old v learnt (phase ∷ left) new → IsPhaseRaced Races n v learnt phase new u more newer → IsRaceSoFar Races n w known phases old u more left newer
 one_raced Races n w known learnt more phases left phase old new newer v u before one =
     let records = one.records in
@@ -73,7 +73,7 @@ pub few_behind : (behind : Option (Bor (List Line))) (n : ℕ) → IfSome behind
 few_behind None n shorter few = tt
 few_behind (Some rest) n shorter few = omega (arith, shorter, few)
 
-pub more_raced : (Races : Racing) (n : ℕ) (w : World) (known learnt more : ℕ → Option Name) (phases : List (List Line)) (rest behind : Option (Bor (List Line))) (lines : Bor (List Line)) (phase : List Line) (old new newer : List ℕ) (v u : World)
+pub more_raced : {sli : ℕ} → (Races : Racing sli) (n : ℕ) (w : World sli) (known learnt more : ℕ → Option Name) (phases : List (List Line)) (rest behind : Option (Bor (List Line))) (lines : Bor (List Line)) (phase : List Line) (old new newer : List ℕ) (v u : World sli)
     → rest ≡ Some lines → phases_of lines.now ≡ phase ∷ phases_left behind
     → IsRaceSoFar Races n w known phases old v learnt (phases_left rest) new → IsPhaseRaced Races n v learnt phase new u more newer → IsRaceSoFar Races n w known phases old u more (phases_left behind) newer
 more_raced Races n w known learnt more phases rest behind lines phase old new newer v u is first before one =
@@ -81,17 +81,17 @@ more_raced Races n w known learnt more phases rest behind lines phase old new ne
     (subst (λ left. IsRaceSoFar Races n w known phases old v learnt left new) (ap phases_left is ∙ first) before) one
 
 -- the lines of the heaps behind those of all phases
-pub all_raced : (Races : Racing) (header : Header) (lines : List Line) (w v : World) (n : ℕ) (learnt : ℕ → Option Name) (old new out : List ℕ) → n ≡ header.workers → w ≡ yard_of header → old ≡ []
-    → IsRaceSoFar Races n w none_known (phases_of lines) old v learnt [] new → out ≡ new ++ report_text v.heaps → IsOutputBy Races (record { header = header; lines = lines }) out
-all_raced Races header lines w v n learnt old new out count yard empty raced out_is =
-    let reports = report_text v.heaps in
+pub all_raced : {sli : ℕ} → (Races : Racing sli) (header : Header) (lines : List Line) (w v : World sli) (n : ℕ) (learnt : ℕ → Option Name) (old new out : List ℕ) → n ≡ header.workers → w ≡ yard_of header → old ≡ []
+    → IsRaceSoFar Races n w none_known (phases_of lines) old v learnt [] new → out ≡ new ++ report_text sli v.heaps → IsOutputBy Races (record { header = header; lines = lines }) out
+all_raced {sli} Races header lines w v n learnt old new out count yard empty raced out_is =
+    let reports = report_text sli v.heaps in
     let text : IsRaceText Races n w none_known (phases_of lines) (raced.told ++ reports) = raced.rest reports refl in
     let said : out ≡ raced.told ++ reports = out_is ∙ ap (λ t. t ++ reports) (raced.text_is ∙ ap (λ t. t ++ raced.told) empty) in
     subst (λ (k : ℕ). IsRaceText Races k (yard_of header) none_known (phases_of lines) out) count
-    (subst (λ (x : World). IsRaceText Races n x none_known (phases_of lines) out) yard
+    (subst (λ (x : World sli). IsRaceText Races n x none_known (phases_of lines) out) yard
     (subst (IsRaceText Races n w none_known (phases_of lines)) (sym said) text))
 
 -- a new yard has as many workers as its header says
-pub opened_count : (w : World) (n : ℕ) (header : Header) → length w.heaps ≡ n → w ≡ yard_of header → n ≡ header.workers
-opened_count w n header many yard =
-    sym many ∙ (ap (λ (x : World). length x.heaps) yard ∙ length-map-range_with_len (λ j. opened j header.words 0) 0 header.workers)
+pub opened_count : {sli : ℕ} → (w : World sli) (n : ℕ) (header : Header) → length w.heaps ≡ n → w ≡ yard_of header → n ≡ header.workers
+opened_count {sli} w n header many yard =
+    sym many ∙ (ap (λ (x : World sli). length x.heaps) yard ∙ length-map-range_with_len (λ j. opened j header.words 0) 0 header.workers)

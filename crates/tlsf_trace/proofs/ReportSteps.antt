@@ -6,10 +6,10 @@ use Rattle.tlsf_heap.specs.Reports.{report_of}
 use Rattle.tlsf_trace.specs.ReportLines.{report_line, report_text_from}
 
 -- the line of this heap, and then those of the heaps behind it
-pub goes_on : (text whole : List ℕ) (heaps : List HeapState) (i : ℕ) (d heap : HeapState) → i < length heaps → get_or heaps i d ≡ heap
-    → text ++ report_text_from i (drop i heaps) ≡ whole
-    → (text ++ report_line i (report_of 4 heap)) ++ report_text_from (i + 1) (drop (i + 1) heaps) ≡ whole
-goes_on text whole heaps i d heap lt is so_far =
-    append_assoc text (report_line i (report_of 4 heap)) _
-    ∙ (ap (λ (h : HeapState). text ++ report_text_from i (h ∷ drop (i + 1) heaps)) (sym is)
-    ∙ (sym (at_drop_more (λ (l : List HeapState). text ++ report_text_from i l) heaps i d lt) ∙ so_far))
+pub goes_on : (sli : ℕ) (text whole : List ℕ) (heaps : List HeapState) (i : ℕ) (d heap : HeapState) → i < length heaps → get_or heaps i d ≡ heap
+    → text ++ report_text_from sli i (drop i heaps) ≡ whole
+    → (text ++ report_line i (report_of sli heap)) ++ report_text_from sli (i + 1) (drop (i + 1) heaps) ≡ whole
+goes_on sli text whole heaps i d heap lt is so_far =
+    append_assoc text (report_line i (report_of sli heap)) _
+    ∙ (ap (λ (h : HeapState). text ++ report_text_from sli i (h ∷ drop (i + 1) heaps)) (sym is)
+    ∙ (sym (at_drop_more (λ (l : List HeapState). text ++ report_text_from sli i l) heaps i d lt) ∙ so_far))

@@ -6,7 +6,7 @@ use Rattle.tlsf_calls.specs.declared.entry.Entry.{Entry}
 use Rattle.tlsf_calls.specs.Entries.{record_of}
 use Rattle.tlsf_crew.specs.yard.History.{RunsTo, answers_on, calls_on}
 use Rattle.tlsf_crew.specs.yard.World.{World, heap_in}
-use Rattle.tlsf_trace.specs.Output.{yard_of}
+use Rattle.tlsf_trace.specs.Output.{level_in, yard_of}
 use Rattle.tlsf_lines.specs.Phases.{phases_of}
 use Rattle.tlsf_lines.specs.Records.{records_text}
 use Rattle.tlsf_trace.specs.ReportLines.{report_text}
@@ -34,13 +34,13 @@ phases_text workers [] = []
 phases_text workers (p ∷ ps) = records_text p.lines p.records workers ++ phases_text workers ps
 
 -- the text is that of some records, whose calls lead each heap of the one world to that of the other, which is reported
-pub record TellsHistory (workers : ℕ) (w : World) (phases : List (List Line)) (text : List ℕ) : Type 0 where
+pub record TellsHistory {sli : ℕ} (workers : ℕ) (w : World sli) (phases : List (List Line)) (text : List ℕ) : Type 0 where
   pub told : List PhaseTold
-  pub world : World
+  pub world : World sli
   pub phases_are : map (λ p. p.lines) told ≡ phases
-  pub text_is : text ≡ phases_text workers told ++ report_text world.heaps
-  pub heaps : (j : ℕ) → j < length w.heaps → RunsTo (heap_in w j) (calls_told j told) (answers_told j told) (heap_in world j)
+  pub text_is : text ≡ phases_text workers told ++ report_text sli world.heaps
+  pub heaps : (j : ℕ) → j < length w.heaps → RunsTo sli (heap_in w j) (calls_told j told) (answers_told j told) (heap_in world j)
 
 -- the same of a trace, on the yard that its header names
 abbrev pub HasHistory : Trace → List ℕ → Type 0
-HasHistory trace text = TellsHistory trace.header.workers (yard_of trace.header) (phases_of trace.lines) text
+HasHistory trace text = TellsHistory {sli = level_in trace.header} trace.header.workers (yard_of trace.header) (phases_of trace.lines) text

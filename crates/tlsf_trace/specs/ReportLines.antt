@@ -24,10 +24,10 @@ rest_part report = codes " waste " ++ decimal report.waste ++ codes " age " ++ d
 abbrev pub report_line : ℕ → Report → List ℕ
 report_line heap report = codes "heap " ++ decimal heap ++ live_part report ++ free_part report ++ room_part report ++ rest_part report ++ codes "\n"
 
--- the lines of heaps, from this number on
-abbrev pub report_text_from : ℕ → List HeapState → List ℕ
-report_text_from number [] = []
-report_text_from number (heap ∷ heaps) = report_line number (report_of 4 heap) ++ report_text_from (number + 1) heaps
+-- the lines of heaps of a level, from this number on
+abbrev pub report_text_from : ℕ → ℕ → List HeapState → List ℕ
+report_text_from sli number [] = []
+report_text_from sli number (heap ∷ heaps) = report_line number (report_of sli heap) ++ report_text_from sli (number + 1) heaps
 
-abbrev pub report_text : List HeapState → List ℕ
-report_text heaps = report_text_from 0 heaps
+abbrev pub report_text : ℕ → List HeapState → List ℕ
+report_text sli heaps = report_text_from sli 0 heaps

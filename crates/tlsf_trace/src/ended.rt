@@ -1,6 +1,7 @@
 //! A trace that has run to its end, for those who look at what it leaves.
-ghost use Rattle.std.specs.Prelude.{IfOk};
-ghost use Rattle.tlsf_trace.specs.Ended.{Ends, IsEnd};
+ghost use Rattle.std.specs.Prelude.{◌≡◌, IfOk};
+ghost use Rattle.tlsf_class.specs.Classes.{IsLevel};
+ghost use Rattle.tlsf_trace.specs.Ended.{calls_in, Ends, IsEnd};
 ghost use Rattle.tlsf_lines.specs.Ranges.{IsHeaderInRange};
 ghost use Rattle.tlsf_lines.specs.ScriptSoFar.{IsScript};
 ghost use Rattle.tlsf_lines.specs.Trace.{Trace};
@@ -10,18 +11,20 @@ use std::alloc::{AllocError, Global};
 use std::io::Read;
 use tlsf_crew::{Worker, open_yard};
 use tlsf_heap::Name;
-use tlsf_lines::{Script, TraceFault, read_all, script_in};
+use tlsf_lines::{Script, TraceFault, Version, read_all, script_in};
 
 /// What a trace leaves: its workers behind their last drains, and how its labels stand for blocks.
 ///
 /// ```
-/// let EndedTrace { workers, .. } = run_to_end(alloc, &mut reader)?;
+/// if let Ended::AtLevel4(EndedTrace { workers, .. }) = run_to_end(alloc, &mut reader)? {
+///     // the trace is of version 1
+/// }
 /// ```
 #[derive(Drop)]
-pub struct EndedTrace {
+pub struct EndedTrace<const SLI: u32> {
     /// The workers, 1 to 8, in rising number.
-    pub workers: Vec<Worker>,
-    /// The words of each heap, 4 to 2^20.
+    pub workers: Vec<Worker<SLI>>,
+    /// The words of each heap, 4 to 2^20, at level 5 to 2^24.
     pub words: u32,
     /// The name that each event made, None where it made none. A line is one event, a phase and the end of the trace as many as
     /// there are workers.
@@ -32,14 +35,37 @@ pub struct EndedTrace {
     pub calls: u32,
 }
 
-// Runs a script on a new yard. Its reply lines are let go: one function runs the events of a trace, and writes them as it goes.
-fn ended(alloc: Global, script: Script) -> Result<EndedTrace, AllocError>
-    requires { IsHeaderInRange script.header }
+/// A trace that has run to its end, at the level of its version.
+#[derive(Drop)]
+pub enum Ended {
+    /// Of version 1.
+    AtLevel4(EndedTrace<4>),
+    /// Of version 2.
+    AtLevel5(EndedTrace<5>),
+}
+
+impl Ended {
+    /// How many lines are calls, 0 to 32,767.
+    pub fn calls(&self) -> u32
+        ensures { result ≡ calls_in self.now }
+    {
+        match self {
+            Ended::AtLevel4(ended) => ended.calls,
+            Ended::AtLevel5(ended) => ended.calls,
+        }
+    }
+}
+
+// Runs a script on a new yard of this level. Its reply lines are let go: one function runs the events of a trace, and writes them as it goes.
+fn run_script<const SLI: u32>(alloc: Global, script: Script) -> Result<EndedTrace<SLI>, AllocError>
+    requires level { IsLevel SLI }
+    requires header { IsHeaderInRange script.header }
     ensures { (trace : Trace) → IsScript script trace → IfOk result (IsEnd trace) }
 {
     let header = script.header;
     // A header in its ranges is not of a bad size, so what is refused here is memory.
-    let Ok(mut workers) = open_yard(alloc, header.workers, header.words, header.capacity) else {
+    let Ok(mut workers) = open_yard::<SLI>(alloc, header.workers, header.words, header.capacity)
+    else {
         return Err(AllocError);
     };
     let mut replies = String::new(alloc);
@@ -64,11 +90,14 @@ fn ended(alloc: Global, script: Script) -> Result<EndedTrace, AllocError>
 /// # Errors
 ///
 /// Those of [`replay`](crate::replay) but 17, since nothing is written.
-pub fn run_to_end<R: Read>(alloc: Global, reader: &mut R) -> Result<EndedTrace, TraceFault>
+pub fn run_to_end<R: Read>(alloc: Global, reader: &mut R) -> Result<Ended, TraceFault>
     ensures { Ends result (R.remaining reader.old) (R.remaining reader.new) }
 {
     let text = read_all(alloc, reader)?;
     let script = script_in(alloc, &text)?;
     drop(text);
-    Ok(ended(alloc, script)?)
+    Ok(match script.header.version {
+        Version::One => Ended::AtLevel4(run_script(alloc, script)?),
+        Version::Two => Ended::AtLevel5(run_script(alloc, script)?),
+    })
 }

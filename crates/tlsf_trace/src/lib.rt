@@ -17,7 +17,7 @@ mod report_lines;
 mod stages;
 mod summary;
 
-pub use ended::{EndedTrace, run_to_end};
+pub use ended::{Ended, EndedTrace, run_to_end};
 pub use laws::{
     one_history_of_a_raced_trace, one_history_of_a_trace_raced_over_queues,
     trace_without_drains_gives_one_text,

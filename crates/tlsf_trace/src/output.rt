@@ -2,7 +2,8 @@ ghost use Rattle.std.specs.Prelude.{◌≡◌, ◌++◌, IfOk, OnOk, string_byte
 ghost use Rattle.tlsf_crew.specs.yard.World.{world_of, replies};
 ghost use Rattle.tlsf_crew.specs.yard.Yard.{IsYard};
 ghost use Rattle.tlsf_lines.specs.Ranges.{IsHeaderInRange};
-ghost use Rattle.tlsf_trace.specs.Output.{output_of};
+ghost use Rattle.tlsf_class.specs.Classes.{IsLevel};
+ghost use Rattle.tlsf_trace.specs.Output.{output_at, output_of};
 ghost use Rattle.tlsf_lines.specs.ReplyLines.{reply_text};
 ghost use Rattle.tlsf_lines.specs.ScriptSoFar.{IsScript};
 ghost use Rattle.tlsf_lines.specs.Trace.{Trace};
@@ -11,7 +12,7 @@ use crate::report_lines::write_reports;
 use std::alloc::{AllocError, Global};
 use tlsf_crew::{Event, Worker, open_yard, replay_behind};
 use tlsf_heap::Name;
-use tlsf_lines::{Script, write_replies};
+use tlsf_lines::{Script, Version, write_replies};
 
 /// How many events run before their lines are written. An entry has 200 bytes, so few are held at a time.
 const PART: usize = 1024;
@@ -20,10 +21,10 @@ const PART: usize = 1024;
 const REPLY_BYTES: usize = 32;
 
 // Runs the events of a script, part by part, and adds the lines of what they are answered. Answers the name that each made.
-pub(crate) fn write_run(
+pub(crate) fn write_run<const SLI: u32>(
     alloc: Global,
     text: &mut String,
-    workers: &mut [Worker],
+    workers: &mut [Worker<SLI>],
     script: &Script,
 ) -> Result<Vec<Option<Name>>, AllocError>
     requires { IsYard workers.old }
@@ -48,18 +49,31 @@ pub(crate) fn write_run(
     Ok(made)
 }
 
-/// The reply lines of a script, run on a new yard, and a report line for each heap that it leaves.
-pub(crate) fn output(alloc: Global, script: &Script) -> Result<String, AllocError>
-    requires { IsHeaderInRange script.now.header }
-    ensures { (trace : Trace) → IsScript script.now trace → IfOk result (λ text. string_bytes text ≡ output_of trace) }
+// The reply lines of a script, run on a new yard of this level, and a report line for each heap that it leaves.
+fn output_by<const SLI: u32>(alloc: Global, script: &Script) -> Result<String, AllocError>
+    requires level { IsLevel SLI }
+    requires header { IsHeaderInRange script.now.header }
+    ensures { (trace : Trace) → IsScript script.now trace → IfOk result (λ text. string_bytes text ≡ output_at SLI trace) }
 {
     let header = script.header;
     // A header in its ranges is not of a bad size, so what is refused here is memory.
-    let Ok(mut workers) = open_yard(alloc, header.workers, header.words, header.capacity) else {
+    let Ok(mut workers) = open_yard::<SLI>(alloc, header.workers, header.words, header.capacity)
+    else {
         return Err(AllocError);
     };
     let mut text = String::with_capacity(alloc, script.events.len().saturating_mul(REPLY_BYTES))?;
     write_run(alloc, &mut text, &mut workers, script)?;
     write_reports(&mut text, &mut workers)?;
     Ok(text)
+}
+
+/// The same at the level of the script's version.
+pub(crate) fn output(alloc: Global, script: &Script) -> Result<String, AllocError>
+    requires { IsHeaderInRange script.now.header }
+    ensures { (trace : Trace) → IsScript script.now trace → IfOk result (λ text. string_bytes text ≡ output_of trace) }
+{
+    match script.header.version {
+        Version::One => output_by::<4>(alloc, script),
+        Version::Two => output_by::<5>(alloc, script),
+    }
 }

@@ -5,7 +5,8 @@ ghost use Rattle.tlsf_crew.specs.threads.Race.{IsRace};
 ghost use Rattle.tlsf_crew.specs.yard.World.{world_of};
 ghost use Rattle.tlsf_crew.specs.yard.Yard.{IsYard};
 ghost use Rattle.tlsf_lines.specs.Phases.{known_in, none_known, phases_of};
-ghost use Rattle.tlsf_trace.specs.RaceOutput.{IsRaceOutput};
+ghost use Rattle.tlsf_class.specs.Classes.{IsLevel};
+ghost use Rattle.tlsf_trace.specs.RaceOutput.{IsRaceOutput, IsOutputBy};
 ghost use Rattle.tlsf_trace.specs.RaceSoFar.{IsPhaseRaced, IsRaceSoFar};
 ghost use Rattle.tlsf_lines.specs.Ranges.{IsHeaderInRange};
 ghost use Rattle.tlsf_lines.specs.Views.{view_trace};
@@ -16,23 +17,23 @@ use std::marker::Sync;
 use std::sync::Wait;
 use std::thread::Threads;
 use tlsf_crew::{Gate, Worker, open_yard, race};
-use tlsf_lines::{Line, Names, PhaseScripts, Trace, cut_phase, write_phase};
+use tlsf_lines::{Line, Names, PhaseScripts, Trace, Version, cut_phase, write_phase};
 
 // Races one phase.
-fn race_phase<R: Threads + Wait + Sync, G: Gate>(
+fn race_phase<const SLI: u32, R: Threads + Wait + Sync, G: Gate>(
     rt: &R,
     alloc: Global,
-    workers: Vec<Worker>,
+    workers: Vec<Worker<SLI>>,
     phase: &[Line],
     names: &mut Names,
     text: &mut String,
     gate: &G,
-) -> Result<Vec<Worker>, AllocError>
+) -> Result<Vec<Worker<SLI>>, AllocError>
     requires yard { IsYard workers.items }
     requires few { length phase.now ≤ 32768 }
     ensures yard { IfOk result (λ vs. IsYard vs.items) }
-    ensures count { IfOk result (λ vs. vec_len vs ≡ vec_len workers) }
-    ensures raced { IfOk result (λ vs. IsPhaseRaced IsRace (vec_len workers) (world_of workers.items) (known_in names.old) phase.now (string_bytes text.old) (world_of vs.items) (known_in names.new) (string_bytes text.new)) }
+    ensures count { IfOk result (λ vs. vec_len vs ≡ vec_len workers.entry) }
+    ensures raced { IfOk result (λ vs. IsPhaseRaced IsRace (vec_len workers.entry) (world_of workers.entry.items) (known_in names.old) phase.now (string_bytes text.old) (world_of vs.items) (known_in names.new) (string_bytes text.new)) }
 {
     let count = workers.len() as u32;
     let scripts = PhaseScripts::of(alloc, count, names, phase)?;
@@ -45,19 +46,19 @@ fn race_phase<R: Threads + Wait + Sync, G: Gate>(
 }
 
 // Races the phases of these lines, one after another.
-fn race_lines<R: Threads + Wait + Sync, G: Gate>(
+fn race_lines<const SLI: u32, R: Threads + Wait + Sync, G: Gate>(
     rt: &R,
     alloc: Global,
-    workers: Vec<Worker>,
+    workers: Vec<Worker<SLI>>,
     lines: &[Line],
     text: &mut String,
     gate: &G,
-) -> Result<Vec<Worker>, AllocError>
+) -> Result<Vec<Worker<SLI>>, AllocError>
     requires yard { IsYard workers.items }
     requires few { length lines.now ≤ 32768 }
     ensures yard { IfOk result (λ vs. IsYard vs.items) }
-    ensures count { IfOk result (λ vs. vec_len vs ≡ vec_len workers) }
-    ensures raced { IfOk result (λ vs. (learnt : ℕ → Option Name) × IsRaceSoFar IsRace (vec_len workers) (world_of workers.items) none_known (phases_of lines.now) (string_bytes text.old) (world_of vs.items) learnt [] (string_bytes text.new)) }
+    ensures count { IfOk result (λ vs. vec_len vs ≡ vec_len workers.entry) }
+    ensures raced { IfOk result (λ vs. (learnt : ℕ → Option Name) × IsRaceSoFar IsRace (vec_len workers.entry) (world_of workers.entry.items) none_known (phases_of lines.now) (string_bytes text.old) (world_of vs.items) learnt [] (string_bytes text.new)) }
 {
     let mut workers = workers;
     let mut names = Names::new(alloc);
@@ -70,7 +71,30 @@ fn race_lines<R: Threads + Wait + Sync, G: Gate>(
     Ok(workers)
 }
 
-/// The reply lines of a trace, raced phase by phase on a new yard, and a report line for each heap that the last leaves.
+// The reply lines of a trace, raced phase by phase on a new yard of this level, and a report line for each heap that the last leaves.
+fn race_output_by<const SLI: u32, R: Threads + Wait + Sync, G: Gate>(
+    rt: &R,
+    alloc: Global,
+    trace: &Trace,
+    gate: &G,
+) -> Result<String, AllocError>
+    requires level { IsLevel SLI }
+    requires header { IsHeaderInRange trace.now.header }
+    requires lines { vec_len trace.now.lines ≤ 32768 }
+    ensures { IfOk result (λ text. IsOutputBy {sli = SLI} IsRace (view_trace trace.now) (string_bytes text)) }
+{
+    let header = trace.header;
+    // A header in its ranges is not of a bad size, so what is refused here is memory.
+    let Ok(workers) = open_yard::<SLI>(alloc, header.workers, header.words, header.capacity) else {
+        return Err(AllocError);
+    };
+    let mut text = String::new(alloc);
+    let mut workers = race_lines(rt, alloc, workers, &trace.lines, &mut text, gate)?;
+    write_reports(&mut text, &mut workers)?;
+    Ok(text)
+}
+
+/// The same at the level of the trace's version.
 pub(crate) fn race_output<R: Threads + Wait + Sync, G: Gate>(
     rt: &R,
     alloc: Global,
@@ -81,13 +105,8 @@ pub(crate) fn race_output<R: Threads + Wait + Sync, G: Gate>(
     requires lines { vec_len trace.now.lines ≤ 32768 }
     ensures { IfOk result (λ text. IsRaceOutput (view_trace trace.now) (string_bytes text)) }
 {
-    let header = trace.header;
-    // A header in its ranges is not of a bad size, so what is refused here is memory.
-    let Ok(workers) = open_yard(alloc, header.workers, header.words, header.capacity) else {
-        return Err(AllocError);
-    };
-    let mut text = String::new(alloc);
-    let mut workers = race_lines(rt, alloc, workers, &trace.lines, &mut text, gate)?;
-    write_reports(&mut text, &mut workers)?;
-    Ok(text)
+    match trace.header.version {
+        Version::One => race_output_by::<4, R, G>(rt, alloc, trace, gate),
+        Version::Two => race_output_by::<5, R, G>(rt, alloc, trace, gate),
+    }
 }

@@ -62,9 +62,12 @@ fn write_line(text: &mut String, heap: u32, report: &Report) -> Result<(), Alloc
 }
 
 /// Adds the lines of the workers' heaps.
-pub fn write_reports(text: &mut String, workers: &mut [Worker]) -> Result<(), AllocError>
+pub fn write_reports<const SLI: u32>(
+    text: &mut String,
+    workers: &mut [Worker<SLI>],
+) -> Result<(), AllocError>
     requires { length workers.old ≤ 8 }
-    ensures { OnOk result (string_bytes text.new ≡ string_bytes text.old ++ report_text (map heap_of workers.old)) }
+    ensures { OnOk result (string_bytes text.new ≡ string_bytes text.old ++ report_text SLI (map heap_of workers.old)) }
 {
     for number in 0..workers.len() {
         let report = workers[number].report();
@@ -74,12 +77,12 @@ pub fn write_reports(text: &mut String, workers: &mut [Worker]) -> Result<(), Al
 }
 
 /// Adds the lines of the heaps of workers over queues.
-pub(crate) fn write_queue_reports(
+pub(crate) fn write_queue_reports<const SLI: u32>(
     text: &mut String,
-    workers: &mut [QueueWorker],
+    workers: &mut [QueueWorker<SLI>],
 ) -> Result<(), AllocError>
     requires { length workers.old ≤ 8 }
-    ensures { OnOk result (string_bytes text.new ≡ string_bytes text.old ++ report_text (map queue_heap workers.old)) }
+    ensures { OnOk result (string_bytes text.new ≡ string_bytes text.old ++ report_text SLI (map queue_heap workers.old)) }
 {
     for number in 0..workers.len() {
         let report = workers[number].report();

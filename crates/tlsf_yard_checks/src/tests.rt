@@ -1,5 +1,6 @@
 //! Tests of public calls: what no contract says, and no stored case shows.
 
+mod levels;
 mod queue_races;
 mod queue_workers;
 mod races;

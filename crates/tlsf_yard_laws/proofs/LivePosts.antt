@@ -5,6 +5,7 @@ use Rattle.std.specs.List.{AllByRecursion, cons_option}
 use Rattle.std.specs.Option.{option_map}
 use Rattle.std.proofs.lemmas.Bool.{cases_eq}
 use Rattle.std.proofs.lemmas.List.Elements.{All-tail}
+use Rattle.tlsf_class.specs.Classes.{IsLevel}
 use Rattle.tlsf_heap.specs.Blocks.{HeapState}
 use Rattle.tlsf_heap.specs.Calls as heap
 use Rattle.tlsf_heap.specs.Lawful.{IsLawful}
@@ -68,10 +69,10 @@ stays map name (heap.Release own) (heap.Got r) spares some = some
 stays map name (heap.Read own at n) answer spares some = some
 
 -- one call leaves it live
-call_spares : (h : HeapState) (call : heap.Call) (name : Name) → IsLawful h → IsLive h name → Spares name call (heap.answered 4 h call).0 → IsLive (heap.answered 4 h call).1 name
-call_spares h call name lawful is spares =
-    let some = stays (contents h) name call (heap.answered 4 h call).0 spares ((live h name).0 is) in
-    (live (heap.answered 4 h call).1 name).1 (subst (λ (o : Option (List ℕ)). IsSome o) (sym (change 4 h call name lawful)) some)
+call_spares : (sli : ℕ) (h : HeapState) (call : heap.Call) (name : Name) → IsLawful h → IsLive h name → Spares name call (heap.answered sli h call).0 → IsLive (heap.answered sli h call).1 name
+call_spares sli h call name lawful is spares =
+    let some = stays (contents h) name call (heap.answered sli h call).0 spares ((live h name).0 is) in
+    (live (heap.answered sli h call).1 name).1 (subst (λ (o : Option (List ℕ)). IsSome o) (sym (change sli h call name lawful)) some)
 
 -- ---- entries
 
@@ -79,14 +80,14 @@ call_spares h call name lawful is spares =
 abbrev pub SparesIn : ℕ → List (Option Name) → Name → Entry → Type 0
 SparesIn j made name e = e.worker ≡ j → (own : Name) → call_on_own made e.worker e.call e.reply ≡ Some (heap.Release own) → answer_told e.call e.reply ≡ Some (heap.Released (Ok tt)) → own ≢ name
 
-spares_call : (h : HeapState) (call : heap.Call) (name : Name) (a : Option heap.Answer) → handed_on (heap.answered 4 h call).0 ∷ [] ≡ cons_option a []
-    → ((own : Name) → call ≡ heap.Release own → a ≡ Some (heap.Released (Ok tt)) → own ≢ name) → Spares name call (heap.answered 4 h call).0
-spares_call h (heap.Allocate len) name a told spares = tt
-spares_call h (heap.Write own at bytes) name a told spares = tt
-spares_call h (heap.Resize own len) name a told spares = tt
-spares_call h (heap.Read own at n) name a told spares = tt
-spares_call h (heap.Release own) name None told spares = let e : ◌≡◌ {A = List heap.Answer} (heap.Released (heap.released h own).answer ∷ []) [] = told in cc
-spares_call h (heap.Release own) name (Some x) told spares =
+spares_call : (sli : ℕ) (h : HeapState) (call : heap.Call) (name : Name) (a : Option heap.Answer) → handed_on (heap.answered sli h call).0 ∷ [] ≡ cons_option a []
+    → ((own : Name) → call ≡ heap.Release own → a ≡ Some (heap.Released (Ok tt)) → own ≢ name) → Spares name call (heap.answered sli h call).0
+spares_call sli h (heap.Allocate len) name a told spares = tt
+spares_call sli h (heap.Write own at bytes) name a told spares = tt
+spares_call sli h (heap.Resize own len) name a told spares = tt
+spares_call sli h (heap.Read own at n) name a told spares = tt
+spares_call sli h (heap.Release own) name None told spares = let e : ◌≡◌ {A = List heap.Answer} (heap.Released (heap.released h own).answer ∷ []) [] = told in cc
+spares_call sli h (heap.Release own) name (Some x) told spares =
     let e : heap.Released (heap.released h own).answer ∷ [] ≡ x ∷ [] = told in
     let same : heap.Released (heap.released h own).answer ≡ x = cc in
     on (heap.released h own).answer (λ ok. spares own refl (ap Some (sym same ∙ ap heap.Released ok)))
@@ -95,28 +96,28 @@ spares_call h (heap.Release own) name (Some x) told spares =
     on (Ok done) ne = ne refl
     on (Err why) ne = tt
 
-one_live : (j : ℕ) (made : List (Option Name)) (name : Name) (h g : HeapState) (call : Option heap.Call) (a : Option heap.Answer) → IsLawful h → IsLive h name
-    → ((own : Name) → call ≡ Some (heap.Release own) → a ≡ Some (heap.Released (Ok tt)) → own ≢ name) → RunsTo h (cons_option call []) (cons_option a []) g → IsLive g name
-one_live j made name h g None a lawful is spares run = subst (λ (x : HeapState). IsLive x name) run.left is
-one_live j made name h g (Some call) a lawful is spares run =
-    subst (λ (x : HeapState). IsLive x name) run.left (call_spares h call name lawful is (spares_call h call name a run.told (λ own e. spares own (ap Some e))))
+one_live : {sli : ℕ} (j : ℕ) (made : List (Option Name)) (name : Name) (h g : HeapState) (call : Option heap.Call) (a : Option heap.Answer) → IsLawful h → IsLive h name
+    → ((own : Name) → call ≡ Some (heap.Release own) → a ≡ Some (heap.Released (Ok tt)) → own ≢ name) → RunsTo sli h (cons_option call []) (cons_option a []) g → IsLive g name
+one_live {sli} j made name h g None a lawful is spares run = subst (λ (x : HeapState). IsLive x name) run.left is
+one_live {sli} j made name h g (Some call) a lawful is spares run =
+    subst (λ (x : HeapState). IsLive x name) run.left (call_spares sli h call name lawful is (spares_call sli h call name a run.told (λ own e. spares own (ap Some e))))
 
-entry_live : (j : ℕ) (made : List (Option Name)) (name : Name) (h g : HeapState) (e : Entry) → IsLawful h → IsLive h name → SparesIn j made name e
-    → RunsTo h (calls_on j made (e ∷ [])) (answers_on j (e ∷ [])) g → IsLive g name
-entry_live j made name h g e lawful is spares run =
+entry_live : {sli : ℕ} (j : ℕ) (made : List (Option Name)) (name : Name) (h g : HeapState) (e : Entry) → IsLawful h → IsLive h name → SparesIn j made name e
+    → RunsTo sli h (calls_on j made (e ∷ [])) (answers_on j (e ∷ [])) g → IsLive g name
+entry_live {sli} j made name h g e lawful is spares run =
     let f : Entry → Option heap.Call = λ e. call_on_own made e.worker e.call e.reply in
     let k : Entry → Option heap.Answer = λ e. answer_told e.call e.reply in
     elim (cases_eq e.worker j) [
       | inl own ↦ one_live j made name h g (f e) (k e) lawful is (spares own)
-          (subst (λ a. RunsTo h (cons_option (f e) []) a g) (told_own k j e own) (subst (λ c. RunsTo h c (answers_on j (e ∷ [])) g) (told_own f j e own) run))
+          (subst (λ a. RunsTo sli h (cons_option (f e) []) a g) (told_own k j e own) (subst (λ c. RunsTo sli h c (answers_on j (e ∷ [])) g) (told_own f j e own) run))
       | inr ne ↦ one_live j made name h g None None lawful is (λ own e. cc)
-          (subst (λ a. RunsTo h [] a g) (told_other k j e ne) (subst (λ c. RunsTo h c (answers_on j (e ∷ [])) g) (told_other f j e ne) run))
+          (subst (λ a. RunsTo sli h [] a g) (told_other k j e ne) (subst (λ c. RunsTo sli h c (answers_on j (e ∷ [])) g) (told_other f j e ne) run))
     ]
 
 -- all of them leave it live
-pub entries_live : (n j : ℕ) (made : List (Option Name)) (name : Name) (es : List Entry) (h g : HeapState) → j < n → IsLawful h → IsLive h name → All (HasItsAnswer made n) es
-    → AllByRecursion (SparesIn j made name) es → RunsTo h (calls_on j made es) (answers_on j es) g → IsLive g name
-entries_live n j made name [] h g j_in lawful is each spares run = subst (λ (x : HeapState). IsLive x name) run.left is
-entries_live n j made name (e ∷ es) h g j_in lawful is each spares run =
-    let t = runs_through made n j h g (e ∷ []) es j_in lawful each run in
-    entries_live n j made name es t.between g j_in t.lawful (entry_live j made name h t.between e lawful is spares.0 t.first) (All-tail (HasItsAnswer made n) e es each) spares.1 t.rest
+pub entries_live : {sli : ℕ} (level : IsLevel sli) (n j : ℕ) (made : List (Option Name)) (name : Name) (es : List Entry) (h g : HeapState) → j < n → IsLawful h → IsLive h name → All (HasItsAnswer made n) es
+    → AllByRecursion (SparesIn j made name) es → RunsTo sli h (calls_on j made es) (answers_on j es) g → IsLive g name
+entries_live level n j made name [] h g j_in lawful is each spares run = subst (λ (x : HeapState). IsLive x name) run.left is
+entries_live level n j made name (e ∷ es) h g j_in lawful is each spares run =
+    let t = runs_through made n j h g (e ∷ []) es j_in level lawful each run in
+    entries_live level n j made name es t.between g j_in t.lawful (entry_live j made name h t.between e lawful is spares.0 t.first) (All-tail (HasItsAnswer made n) e es each) spares.1 t.rest

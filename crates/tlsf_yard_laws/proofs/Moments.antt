@@ -5,6 +5,7 @@ use mathlib.Core.List.{IsPrefix}
 use Rattle.std.proofs.lemmas.Bool.{cases_eq, false≢true}
 use Rattle.std.proofs.lemmas.List.{length-map}
 use Rattle.std.proofs.lemmas.List.Elements.{filter-append}
+use Rattle.tlsf_class.specs.Classes.{IsLevel}
 use Rattle.tlsf_heap.specs.Blocks.{HeapState}
 use Rattle.tlsf_heap.specs.Calls as heap
 use Rattle.tlsf_heap.specs.Lawful.{IsLawful}
@@ -31,7 +32,6 @@ use Rattle.tlsf_yard_laws.specs.Moments.{OrdersHaveMoments, RaceSharedPoolServes
 use Rattle.tlsf_yard_laws.proofs.Few.{IsAmong, among_left, among_right, few, names_of, posted, still_among}
 use Rattle.tlsf_yard_laws.proofs.Shares.{allocate_asks, resize_asks}
 use Rattle.tlsf_yard_laws.proofs.Told.{noted_same, past_holds, race_serves}
-use Rattle.tlsf_class.proofs.TwoLevels.{level_4}
 
 -- ---- what is live is held, or its name is under way
 
@@ -111,16 +111,16 @@ all_noted l [] answers = refl
 all_noted l (call ∷ calls) [] = refl
 all_noted l (call ∷ calls) (answer ∷ answers) = ap (λ (l : Ledger). ledger_after_all l calls (map handed_on answers)) (noted_same l call answer) ∙ all_noted (ledger_after l call answer) calls answers
 
-past_agrees : (j words first : ℕ) (calls : List heap.Call) (answers : List heap.Answer) (g : HeapState) → RunsTo (heap.opened j words first) calls answers g → 4 ≤ words
+past_agrees : {sli : ℕ} (level : IsLevel sli) (j words first : ℕ) (calls : List heap.Call) (answers : List heap.Answer) (g : HeapState) → RunsTo sli (heap.opened j words first) calls answers g → 4 ≤ words
     → Agrees g (ledger_after_all [] calls answers)
-past_agrees j words first calls answers g runs four =
-    let own : List heap.Answer = (heap.run 4 (heap.opened j words first) calls).0 in
+past_agrees {sli} level j words first calls answers g runs four =
+    let own : List heap.Answer = (heap.run sli (heap.opened j words first) calls).0 in
     let noted : ledger_after_all [] calls own ≡ ledger_after_all [] calls answers = sym (all_noted [] calls own) ∙ ap (ledger_after_all [] calls) runs.told in
     subst (λ (h : HeapState). Agrees h (ledger_after_all [] calls answers)) runs.left
-    (subst (Agrees (heap.run 4 (heap.opened j words first) calls).1) noted (agrees_run 4 level_4 (heap.opened j words first) calls [] (new_agrees j words first) (new_lawful j words first four)))
+    (subst (Agrees (heap.run sli (heap.opened j words first) calls).1) noted (agrees_run sli level (heap.opened j words first) calls [] (new_agrees j words first) (new_lawful j words first four)))
 
-as_many : (h g : HeapState) (calls : List heap.Call) (answers : List heap.Answer) → RunsTo h calls answers g → length calls ≡ length answers
-as_many h g calls answers r = sym (length_run h calls) ∙ (sym (length-map (heap.run 4 h calls).0 handed_on) ∙ ap length r.told)
+as_many : {sli : ℕ} (h g : HeapState) (calls : List heap.Call) (answers : List heap.Answer) → RunsTo sli h calls answers g → length calls ≡ length answers
+as_many {sli} h g calls answers r = sym (length_run sli h calls) ∙ (sym (length-map (heap.run sli h calls).0 handed_on) ∙ ap length r.told)
 
 -- ---- calls in turn
 
@@ -139,7 +139,7 @@ modest_more most len held (x ∷ xs) ys (a ∷ zs) bs e m n = (m.0, modest_more 
 
 -- ---- a race
 
-module _ (w v : World) (scripts : List (List Call)) (records : List (List Entry)) (race : IsRace w scripts records v) (j words first most len : ℕ) (calls : List heap.Call) (answers : List heap.Answer)
+module _ {sli : ℕ} (level : IsLevel sli) (w v : World sli) (scripts : List (List Call)) (records : List (List Entry)) (race : IsRace w scripts records v) (j words first most len : ℕ) (calls : List heap.Call) (answers : List heap.Answer)
     (past : HasPast w j words first calls answers) (four : 4 ≤ words) (sparing : AreSparingInRace w race.made records j most len calls answers) where
   abbrev all_calls : List Entry → List heap.Call
   all_calls es = calls ++ calls_on j (race.made j) es
@@ -148,11 +148,11 @@ module _ (w v : World) (scripts : List (List Call)) (records : List (List Entry)
   all_answers es = answers ++ answers_on j es
 
   lawful : IsLawful (heap_in w j)
-  lawful = subst IsLawful past.since.left (lawful_run 4 level_4 (heap.opened j words first) calls (new_lawful j words first four))
+  lawful = subst IsLawful past.since.left (lawful_run sli level (heap.opened j words first) calls (new_lawful j words first four))
 
-  history : (before later : List Entry) → record_of records j ≡ before ++ later → (g : HeapState) × RunsTo (heap.opened j words first) (all_calls before) (all_answers before) g
+  history : (before later : List Entry) → record_of records j ≡ before ++ later → (g : HeapState) × RunsTo sli (heap.opened j words first) (all_calls before) (all_answers before) g
   history before later whole =
-      let t = race_always w v scripts records race before later j lawful past.within whole in
+      let t = race_always w v scripts records race before later j level lawful past.within whole in
       (t.between, runs_then (heap.opened j words first) (heap_in w j) t.between calls (calls_on j (race.made j) before) answers (answers_on j before) past.since t.first)
 
   -- a request is made where less is held than the programs hold and the lanes have
@@ -162,7 +162,7 @@ module _ (w v : World) (scripts : List (List Call)) (records : List (List Entry)
       let s = (sparing before e (later, whole)).0 n (allocate_asks (race.made j) e.worker e.call e.reply n is) in
       let now = history before (e ∷ later) whole in
       let live = ledger_after_all [] (all_calls before) (all_answers before) in
-      let agrees : Agrees now.0 live = past_agrees j words first (all_calls before) (all_answers before) now.0 now.1 four in
+      let agrees : Agrees now.0 live = past_agrees level j words first (all_calls before) (all_answers before) now.0 now.1 four in
       let held = sym (past_holds j words first (all_calls before) (all_answers before) now.0 now.1 four) ∙ live_agrees now.0 live agrees in
       let ps = all_under_way j s.moment.under_way (length w.heaps) in
       let count : length live ≤ length (unreleased live ps) + length ps = unreleased_few now.0 live ps agrees in
@@ -236,10 +236,10 @@ module _ (w v : World) (scripts : List (List Call)) (records : List (List Entry)
       (as_many (heap.opened j words first) (heap_in w j) calls answers past.since) within
       (subst (λ (k : ℕ). AreModest (most + most_under_way w) len k (calls_on j (race.made j) (record_of records j)) (answers_on j (record_of records j))) before (record_modest [] (record_of records j) refl))
 
-pub race_shares : RaceSharedPoolServes
-race_shares w v scripts records race j words first most len calls answers past region class enough within sparing fresh =
-    race_serves w v scripts records race j words first (most + most_under_way w) len calls answers past region class enough
-    (all_modest w v scripts records race j words first most len calls answers past region.0 sparing within) fresh
+pub race_shares : (sli : ℕ) → IsLevel sli → RaceSharedPoolServes sli
+race_shares sli level w v scripts records race j words first most len calls answers past region class enough within sparing fresh =
+    race_serves sli level w v scripts records race j words first (most + most_under_way w) len calls answers past region class enough
+    (all_modest level w v scripts records race j words first most len calls answers past region.0 sparing within) fresh
 
 -- ---- an order of all entries
 
@@ -251,8 +251,8 @@ entries_twice : (i : ℕ) (es : List Entry) → entries_of i (entries_of i es) �
 entries_twice i [] = refl
 entries_twice i (e ∷ es) = once_more i e (e.worker == i) (entries_of i es) refl (entries_twice i es)
 
-pub order_moments : OrdersHaveMoments
-order_moments w made records order is before prefix j j_in = (
+pub order_moments : (sli : ℕ) → OrdersHaveMoments sli
+order_moments sli w made records order is before prefix j j_in = (
   record {
     told = λ i. entries_of i before;
     under_way = λ i. is.waits before i j;

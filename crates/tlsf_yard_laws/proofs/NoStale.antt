@@ -93,7 +93,7 @@ all_standing P (x ∷ es) each = (each [] x (es, refl), all_standing P es (λ b 
 
 -- ---- no worker takes from itself, or from one that isn't there
 
-refused_take : (x : World) (at k from : ℕ) (e : Entry) → (k ≢ at → length x.heaps ≤ k) → e ≡ record { worker = at; call = Take from; reply = (taking x at from).reply } → post_of_take k e.call e.reply ≡ None
+refused_take : {sli : ℕ} (x : World sli) (at k from : ℕ) (e : Entry) → (k ≢ at → length x.heaps ≤ k) → e ≡ record { worker = at; call = Take from; reply = (taking x at from).reply } → post_of_take k e.call e.reply ≡ None
 refused_take x at k from e far is = ap (λ (y : Entry). post_of_take k y.call y.reply) is ∙ elim (cases_eq from k) [
   | inl same ↦ elim (cases_eq from at) [
     | inl own ↦ rw (taking_own x at from own) refl
@@ -121,16 +121,16 @@ Away n at k = k ≢ at → n ≤ k
 behind_none : (k at : ℕ) (before own after : List Entry) → after ≡ before ++ own → posts_taken k at before ≡ [] → posts_taken k at own ≡ [] → posts_taken k at after ≡ []
 behind_none k at before own after e none own_none = ap (posts_taken k at) e ∙ (taken_then k at before own ∙ (ap (λ l. l ++ posts_taken k at own) none ∙ own_none))
 
-quiet_away : (n at k : ℕ) (s t : Told) (call : Call) → at < n → TakesNoPost call → MayTell n at s call t → posts_taken k at s.entries ≡ [] → posts_taken k at t.entries ≡ []
-quiet_away n at k s t call at_in free m none =
-    let r : Replayed = record { made = s.made; entries = s.entries; world = m.0 } in
+quiet_away : (sli : ℕ) (n at k : ℕ) (s t : Told) (call : Call) → at < n → TakesNoPost call → MayTell sli n at s call t → posts_taken k at s.entries ≡ [] → posts_taken k at t.entries ≡ []
+quiet_away sli n at k s t call at_in free m none =
+    let r : Replayed sli = record { made = s.made; entries = s.entries; world = m.0 } in
     let c = called_told (called r at call).made r at call (omega (arith, at_in, m.1.0)) (called_knows r at call) in
     behind_none k at s.entries c.own t.entries (sym (ap (λ (t : Told). t.entries) m.2) ∙ c.entries) none (takes_none k at at s.made call c.name c.own free c.tells)
 
-drain_away : (n at k most : ℕ) (s t : Told) → at < n → Away n at k → MayTell n at s (Drain most) t → posts_taken k at s.entries ≡ [] → posts_taken k at t.entries ≡ []
-drain_away n at k most s t at_in far m none =
+drain_away : (sli : ℕ) (n at k most : ℕ) (s t : Told) → at < n → Away n at k → MayTell sli n at s (Drain most) t → posts_taken k at s.entries ≡ [] → posts_taken k at t.entries ≡ []
+drain_away sli n at k most s t at_in far m none =
     let x = m.0 in
-    let r : Replayed = record { made = s.made; entries = s.entries; world = x } in
+    let r : Replayed sli = record { made = s.made; entries = s.entries; world = x } in
     let c = drain_told s.made r at most (omega (arith, at_in, m.1.0)) in
     let v = draining r at most in
     let same : v.world.waiting k at ≡ x.waiting k at = drain_apart r at most k (λ ne. let le = far ne in omega (arith, le, m.1.0)) in
@@ -138,31 +138,31 @@ drain_away n at k most s t at_in far m none =
     (sym (append-nil (x.waiting k at)) ∙ (sym (ap (λ l. x.waiting k at ++ l) (drain_makes k at at most s.made c.own c.tells.1)) ∙ (c.history.posts k at ∙ ap (λ l. posts_taken k at c.own ++ l) same))) in
     behind_none k at s.entries c.own t.entries (sym (ap (λ (t : Told). t.entries) m.2) ∙ c.entries) none own
 
-take_away : (n at k from : ℕ) (s t : Told) → Away n at k → MayTell n at s (Take from) t → posts_taken k at s.entries ≡ [] → posts_taken k at t.entries ≡ []
-take_away n at k from s t far m none =
+take_away : (sli : ℕ) (n at k from : ℕ) (s t : Told) → Away n at k → MayTell sli n at s (Take from) t → posts_taken k at s.entries ≡ [] → posts_taken k at t.entries ≡ []
+take_away sli n at k from s t far m none =
     let e : Entry = record { worker = at; call = Take from; reply = (taking m.0 at from).reply } in
     behind_none k at s.entries (e ∷ []) t.entries (sym (ap (λ (t : Told). t.entries) m.2)) none
     (told_nothing (λ e. post_of_take k e.call e.reply) at e (refused_take m.0 at k from e (λ ne. let le = far ne in omega (arith, le, m.1.0)) refl))
 
-one_away : (n at k : ℕ) (s t : Told) (call : Call) → at < n → Away n at k → MayTell n at s call t → posts_taken k at s.entries ≡ [] → posts_taken k at t.entries ≡ []
-one_away n at k s t (Allocate len) at_in far m none = quiet_away n at k s t (Allocate len) at_in tt m none
-one_away n at k s t (Release target) at_in far m none = quiet_away n at k s t (Release target) at_in tt m none
-one_away n at k s t (Write target from bytes) at_in far m none = quiet_away n at k s t (Write target from bytes) at_in tt m none
-one_away n at k s t (Read target from count) at_in far m none = quiet_away n at k s t (Read target from count) at_in tt m none
-one_away n at k s t (Resize target len) at_in far m none = quiet_away n at k s t (Resize target len) at_in tt m none
-one_away n at k s t (Take from) at_in far m none = take_away n at k from s t far m none
-one_away n at k s t (Drain most) at_in far m none = drain_away n at k most s t at_in far m none
+one_away : (sli : ℕ) (n at k : ℕ) (s t : Told) (call : Call) → at < n → Away n at k → MayTell sli n at s call t → posts_taken k at s.entries ≡ [] → posts_taken k at t.entries ≡ []
+one_away sli n at k s t (Allocate len) at_in far m none = quiet_away sli n at k s t (Allocate len) at_in tt m none
+one_away sli n at k s t (Release target) at_in far m none = quiet_away sli n at k s t (Release target) at_in tt m none
+one_away sli n at k s t (Write target from bytes) at_in far m none = quiet_away sli n at k s t (Write target from bytes) at_in tt m none
+one_away sli n at k s t (Read target from count) at_in far m none = quiet_away sli n at k s t (Read target from count) at_in tt m none
+one_away sli n at k s t (Resize target len) at_in far m none = quiet_away sli n at k s t (Resize target len) at_in tt m none
+one_away sli n at k s t (Take from) at_in far m none = take_away sli n at k from s t far m none
+one_away sli n at k s t (Drain most) at_in far m none = drain_away sli n at k most s t at_in far m none
 
-all_away : (n at k : ℕ) (s t : Told) (calls : List Call) → at < n → Away n at k → MayTellAll n at s calls t → posts_taken k at s.entries ≡ [] → posts_taken k at t.entries ≡ []
-all_away n at k s t [] at_in far m none = ap (λ (t : Told). posts_taken k at t.entries) m ∙ none
-all_away n at k s t (call ∷ calls) at_in far m none = all_away n at k m.0 t calls at_in far m.2 (one_away n at k s m.0 call at_in far m.1 none)
+all_away : (sli : ℕ) (n at k : ℕ) (s t : Told) (calls : List Call) → at < n → Away n at k → MayTellAll sli n at s calls t → posts_taken k at s.entries ≡ [] → posts_taken k at t.entries ≡ []
+all_away sli n at k s t [] at_in far m none = ap (λ (t : Told). posts_taken k at t.entries) m ∙ none
+all_away sli n at k s t (call ∷ calls) at_in far m none = all_away sli n at k m.0 t calls at_in far m.2 (one_away sli n at k s m.0 call at_in far m.1 none)
 
-race_away : (w v : World) (scripts : List (List Call)) (records : List (List Entry)) (race : IsRace w scripts records v) (j k : ℕ) → j < length w.heaps → Away (length w.heaps) j k → posts_taken k j (record_of records j) ≡ []
-race_away w v scripts records race j k j_in far =
+race_away : {sli : ℕ} (w v : World sli) (scripts : List (List Call)) (records : List (List Entry)) (race : IsRace w scripts records v) (j k : ℕ) → j < length w.heaps → Away (length w.heaps) j k → posts_taken k j (record_of records j) ≡ []
+race_away {sli} w v scripts records race j k j_in far =
     let l = race.legal j j_in in
     let end : Told = record { made = race.made j; entries = record_of records j; heap = heap_in v j } in
-    all_away (length w.heaps) j k (untold (heap_in w j)) end (script_of scripts j ++ last_call ∷ []) j_in far
-    (tell_more (length w.heaps) j (untold (heap_in w j)) l.between end (script_of scripts j) last_call l.script l.last) refl
+    all_away sli (length w.heaps) j k (untold (heap_in w j)) end (script_of scripts j ++ last_call ∷ []) j_in far
+    (tell_more sli (length w.heaps) j (untold (heap_in w j)) l.between end (script_of scripts j) last_call l.script l.last) refl
 
 -- ---- who posted what was taken
 
@@ -205,7 +205,7 @@ post_gives j made e p (Take from) reply c r is = cc
 post_gives j made e p (Drain most) reply c r is = cc
 
 -- the post that a take of worker j took, in its poster's record
-record Poster (w : World) (made : ℕ → List (Option Name)) (records : List (List Entry)) (j from : ℕ) (b : List Entry) (name : Name) : Type 0 where
+record Poster {sli : ℕ} (w : World sli) (made : ℕ → List (Option Name)) (records : List (List Entry)) (j from : ℕ) (b : List Entry) (name : Name) : Type 0 where
   near : from < length w.heaps
   apart : from ≢ j
   before : List Entry
@@ -218,7 +218,7 @@ no_post : (p : Post) (first later : List Post) → first ++ p ∷ later ≡ [] �
 no_post p [] later e = cc
 no_post p (x ∷ first) later e = cc
 
-poster : (w v : World) (scripts : List (List Call)) (records : List (List Entry)) (race : IsRace w scripts records v) → ((i j : ℕ) → w.waiting i j ≡ []) → (j : ℕ) (b : List Entry) (from : ℕ) (t : Took) → j < length w.heaps
+poster : {sli : ℕ} (w v : World sli) (scripts : List (List Call)) (records : List (List Entry)) (race : IsRace w scripts records v) → ((i j : ℕ) → w.waiting i j ≡ []) → (j : ℕ) (b : List Entry) (from : ℕ) (t : Took) → j < length w.heaps
     → StandsBehind (record_of records j) b (take_entry j from t) → Poster w race.made records j from b t.name
 poster w v scripts records race empty j b from t j_in stands =
     let p : Post = record { from = t.from; name = t.name } in
@@ -298,7 +298,7 @@ longer k j b c t rest e same =
     absurd (omega (arith, n, m, q))
 
 -- nobody let the name go before
-spared : (w v : World) (scripts : List (List Call)) (records : List (List Entry)) (race : IsRace w scripts records v) → ((i j : ℕ) → w.waiting i j ≡ []) → GiveBackOnce race.made records
+spared : {sli : ℕ} (w v : World sli) (scripts : List (List Call)) (records : List (List Entry)) (race : IsRace w scripts records v) → ((i j : ℕ) → w.waiting i j ≡ []) → GiveBackOnce race.made records
     → (j : ℕ) (b : List Entry) (from : ℕ) (t : Took) → j < length w.heaps → (stands : StandsBehind (record_of records j) b (take_entry j from t)) → (c : List Entry) (e : Entry) → StandsBehind b c e → SparesIn j (race.made j) t.name e
 spared w v scripts records race empty once j b from t j_in stands c e inside here own call answer is =
     let first = poster w v scripts records race empty j b from t j_in stands in
@@ -322,16 +322,16 @@ spared w v scripts records race empty once j b from t j_in stands c e inside her
           longer k j b c u inside.0 (inside.1 ∙ ap (λ x. c ++ x ∷ inside.0) entry) posts
     ]
 
-pub none_stale : NoPostIsStale
-none_stale w v scripts records race lawful empty alive once j b from t j_in stands stale =
+pub none_stale : (sli : ℕ) → NoPostIsStale sli
+none_stale sli w v scripts records race lawful empty alive once j b from t j_in stands stale =
     let made = race.made j in
     let p = poster w v scripts records race empty j b from t j_in stands in
     let start : IsLive (heap_in w j) t.name = subst (λ (k : ℕ). IsLive (heap_in w k) t.name) (p.posts).heap (alive from p.before p.e t.name p.stands (p.posts).gives (p.posts).reply) in
-    let through = race_always w v scripts records race b (take_entry j from t ∷ stands.0) j (lawful j j_in) j_in stands.1 in
+    let through = race_always w v scripts records race b (take_entry j from t ∷ stands.0) j lawful.0 (lawful.1 j j_in) j_in stands.1 in
     let each : All (HasItsAnswer made (length w.heaps)) b
     = subst (All (HasItsAnswer made (length w.heaps))) (take-append_seam b (take_entry j from t ∷ stands.0))
     (All-take (HasItsAnswer made (length w.heaps)) (length b) (b ++ take_entry j from t ∷ stands.0) (subst (All (HasItsAnswer made (length w.heaps))) stands.1 (race_answered w v scripts records race j j_in))) in
     let spares = all_standing (SparesIn j made t.name) b (spared w v scripts records race empty once j b from t j_in stands) in
-    let now : IsLive through.between t.name = entries_live (length w.heaps) j made t.name b (heap_in w j) through.between j_in (lawful j j_in) start each spares through.first in
+    let now : IsLive through.between t.name = entries_live lawful.0 (length w.heaps) j made t.name b (heap_in w j) through.between j_in (lawful.1 j j_in) start each spares through.first in
     let ran = ran_take through.between (heap_in v j) j from made t stands.0 through.rest in
     (known through.between t.name now).0 (sym ran.answer ∙ stale)

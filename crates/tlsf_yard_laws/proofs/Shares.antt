@@ -1,10 +1,11 @@
 -- Entry by entry: what is live in a heap is held by the programs, or its name waits in a lane. So each request finds room.
-use Rattle.std.proofs.Common.{◌==◌, ◌≡◌, ◌≢◌, ℕ, suc, ◌+◌, ◌*◌, ◌^◌, ◌<◌, ◌≤◌, ◌⊎◌, Bool, true, false, cond, eqb, List, [], ◌∷◌, ◌++◌, length, Option, Some, None, Result, Ok, Err, refl, sym, ap, ◌∙◌, subst, inl, inr, arith, length-append, eq-eqb, append-nil}
+use Rattle.std.proofs.Common.{◌==◌, ◌≡◌, ◌≢◌, ℕ, suc, ◌+◌, ◌*◌, ◌<◌, ◌≤◌, ◌⊎◌, Bool, true, false, cond, eqb, List, [], ◌∷◌, ◌++◌, length, Option, Some, None, Result, Ok, Err, refl, sym, ap, ◌∙◌, subst, inl, inr, arith, length-append, eq-eqb, append-nil}
 use Rattle.std.specs.Prelude.{⊤}
 use Rattle.std.specs.List.{AllByRecursion, cons_option}
 use Rattle.std.specs.Option.{option_map}
 use Rattle.std.proofs.lemmas.Bool.{cases_eq, false≢true, ne_eqb}
 use Rattle.std.proofs.lemmas.List.{length-map}
+use Rattle.tlsf_class.specs.Classes.{IsLevel, most_words}
 use Rattle.tlsf_heap.specs.Blocks.{HeapState, want}
 use Rattle.tlsf_heap.specs.GoodFit.{Site}
 use Rattle.tlsf_heap.specs.Calls as heap
@@ -33,7 +34,6 @@ use Rattle.tlsf_crew.proofs.lemmas.yard.JoinedEntries.{told_other, told_own, tol
 use Rattle.tlsf_yard_laws.specs.Sharing.{AreSparing, IsSparing, unreleased_after, with_call, without_post}
 use Rattle.tlsf_yard_laws.proofs.Told.{noted_same, served_on}
 use Rattle.tlsf_yard_laws.proofs.Few.{IsAmong, among_left, among_right, few, in_lanes, lane_names, lanes_few, names_of, posted, still_among}
-use Rattle.tlsf_class.proofs.TwoLevels.{level_4}
 
 -- ---- what covers a name
 
@@ -126,9 +126,9 @@ still_waits : (j : ℕ) (lanes later : ℕ → List Post) (c : heap.Call) (name 
     → (i : ℕ) → i ≢ j → IsAmong name (posted (lanes i)) → IsAmong name (posted (later i))
 still_waits j lanes later c name other leaves i ne a = elim (leaves i ne name a) [ inl x ↦ x | inr e ↦ absurd (other e) ]
 
-call_covers : (j n : ℕ) (h : HeapState) (l u : Ledger) (lanes later : ℕ → List Post) (c : heap.Call) → Agrees h l → h.tick < heap.last_tick → Covers j n l u lanes → Leaves j lanes later (Some c)
-    → Covers j n (ledger_after l c (heap.answered 4 h c).0) (ledger_after u c (heap.answered 4 h c).0) later
-call_covers j n h l u lanes later (heap.Allocate m) agrees fresh covers leaves name len found = at (heap.allocated 4 h m).answer found
+call_covers : (sli : ℕ) (j n : ℕ) (h : HeapState) (l u : Ledger) (lanes later : ℕ → List Post) (c : heap.Call) → Agrees h l → h.tick < heap.last_tick → Covers j n l u lanes → Leaves j lanes later (Some c)
+    → Covers j n (ledger_after l c (heap.answered sli h c).0) (ledger_after u c (heap.answered sli h c).0) later
+call_covers sli j n h l u lanes later (heap.Allocate m) agrees fresh covers leaves name len found = at (heap.allocated sli h m).answer found
   where
     differs : ◌≡◌ {A = Option heap.Call} (Some (heap.Allocate m)) (Some (heap.Release name)) → ⊥
     differs e = cc
@@ -140,17 +140,17 @@ call_covers j n h l u lanes later (heap.Allocate m) agrees fresh covers leaves n
     at : (r : Result Name Refusal) → lookup name (ledger_after l (heap.Allocate m) (heap.Allocated r)) ≡ Some len → IsCovered j n (ledger_after u (heap.Allocate m) (heap.Allocated r)) later name
     at (Ok made) e = new made (is_same made name) refl e
     at (Err why) e = stay_covered j n u u lanes later name (λ a. a) (still_waits j lanes later (heap.Allocate m) name differs leaves) (covers name len e)
-call_covers j n h l u lanes later (heap.Release m) agrees fresh covers leaves name len found =
+call_covers sli j n h l u lanes later (heap.Release m) agrees fresh covers leaves name len found =
     let r = (heap.released h m).answer in
     let other = other_name h m name l len r agrees fresh refl found in
     stay_covered j n u (ledger_after u (heap.Release m) (heap.Released r)) lanes later name (still_held m name u r other.0)
     (still_waits j lanes later (heap.Release m) name (λ e. let same : m ≡ name = cc in other.0 same) leaves) (covers name len other.1)
-call_covers j n h l u lanes later (heap.Write m at bytes) agrees fresh covers leaves name len found =
+call_covers sli j n h l u lanes later (heap.Write m at bytes) agrees fresh covers leaves name len found =
     stay_covered j n u u lanes later name (λ a. a) (still_waits j lanes later (heap.Write m at bytes) name differs leaves) (covers name len found)
   where
     differs : ◌≡◌ {A = Option heap.Call} (Some (heap.Write m at bytes)) (Some (heap.Release name)) → ⊥
     differs e = cc
-call_covers j n h l u lanes later (heap.Resize m k) agrees fresh covers leaves name len found = on (heap.resized h m k).answer found
+call_covers sli j n h l u lanes later (heap.Resize m k) agrees fresh covers leaves name len found = on (heap.resized h m k).answer found
   where
     differs : ◌≡◌ {A = Option heap.Call} (Some (heap.Resize m k)) (Some (heap.Release name)) → ⊥
     differs e = cc
@@ -160,7 +160,7 @@ call_covers j n h l u lanes later (heap.Resize m k) agrees fresh covers leaves n
         let old = resize_finds m name k len l e in
         stay_covered j n u (with_length u m k) lanes later name (resize_keeps m name k u) (still_waits j lanes later (heap.Resize m k) name differs leaves) (covers name old.0 old.1)
     on (Err why) e = stay_covered j n u u lanes later name (λ a. a) (still_waits j lanes later (heap.Resize m k) name differs leaves) (covers name len e)
-call_covers j n h l u lanes later (heap.Read m at k) agrees fresh covers leaves name len found =
+call_covers sli j n h l u lanes later (heap.Read m at k) agrees fresh covers leaves name len found =
     stay_covered j n u u lanes later name (λ a. a) (still_waits j lanes later (heap.Read m at k) name differs leaves) (covers name len found)
   where
     differs : ◌≡◌ {A = Option heap.Call} (Some (heap.Read m at k)) (Some (heap.Release name)) → ⊥
@@ -258,16 +258,16 @@ resize_asks made at (Drain most) reply name m e = absurd cc
 -- ---- one entry after another
 
 -- an entry leads from a heap, and what waits for its worker, to another
-pub record Leads (j n capacity : ℕ) (made : List (Option Name)) (h : HeapState) (lanes : ℕ → List Post) (e : Entry) (g : HeapState) (later : ℕ → List Post) : Type 0 where
-  pub run : RunsTo h (calls_on j made (e ∷ [])) (answers_on j (e ∷ [])) g
+pub record Leads (sli : ℕ) (j n capacity : ℕ) (made : List (Option Name)) (h : HeapState) (lanes : ℕ → List Post) (e : Entry) (g : HeapState) (later : ℕ → List Post) : Type 0 where
+  pub run : RunsTo sli h (calls_on j made (e ∷ [])) (answers_on j (e ∷ [])) g
   pub posts : (i : ℕ) → lanes i ++ posts_made i j made (e ∷ []) ≡ posts_taken i j (e ∷ []) ++ later i
   pub short : (i : ℕ) → length (later i) ≤ capacity
   pub near : (p : Post) → post_of_release j made e.worker e.call e.reply ≡ Some p → e.worker < n
 
 -- and so does each of some entries
-abbrev pub AllLead : (j n capacity : ℕ) → List (Option Name) → HeapState → (ℕ → List Post) → List Entry → Type 0
-AllLead j n capacity made h lanes [] = ⊤
-AllLead j n capacity made h lanes (e ∷ es) = (g : HeapState) × (later : ℕ → List Post) × Leads j n capacity made h lanes e g later × AllLead j n capacity made g later es
+abbrev pub AllLead : (sli : ℕ) (j n capacity : ℕ) → List (Option Name) → HeapState → (ℕ → List Post) → List Entry → Type 0
+AllLead sli j n capacity made h lanes [] = ⊤
+AllLead sli j n capacity made h lanes (e ∷ es) = (g : HeapState) × (later : ℕ → List Post) × Leads sli j n capacity made h lanes e g later × AllLead sli j n capacity made g later es
 
 -- what holds of the heap on the way. The first ledger is of what is live, the second of what the programs hold
 pub record IsShared (j n words k : ℕ) (h : HeapState) (l u : Ledger) (lanes : ℕ → List Post) : Type 0 where
@@ -297,7 +297,7 @@ live_few j m capacity words k h l u lanes j_in short shared =
     let live = live_agrees h l shared.agrees in
     omega arith
 
-module _ (words most len : ℕ) (region : want len ≤ 2 ^ 20) (enough : pool_words 4 most len ≤ words) (j n : ℕ) where
+module _ (sli : ℕ) (level : IsLevel sli) (words most len : ℕ) (region : want len ≤ most_words sli) (enough : pool_words sli most len ≤ words) (j n : ℕ) where
   -- a request that the entry tells is modest, and so is a resize
   abbrev Allows : HeapState → Option heap.Call → Type 0
   Allows h o = ((m : ℕ) → o ≡ Some (heap.Allocate m) → (m ≤ len) × (live_count h < most)) × ((name : Name) (m : ℕ) → o ≡ Some (heap.Resize name m) → m ≤ len)
@@ -309,7 +309,7 @@ module _ (words most len : ℕ) (region : want len ≤ 2 ^ 20) (enough : pool_wo
   is_modest h (heap.Resize name m) allows = allows.1 name m refl
   is_modest h (heap.Read name at m) allows = tt
 
-  own_next : (h g : HeapState) (l u : Ledger) (lanes later : ℕ → List Post) (o : Option heap.Call) (a : Option heap.Answer) → RunsTo h (cons_option o []) (cons_option a []) g
+  own_next : (h g : HeapState) (l u : Ledger) (lanes later : ℕ → List Post) (o : Option heap.Call) (a : Option heap.Answer) → RunsTo sli h (cons_option o []) (cons_option a []) g
       → IsShared j n words (want len + 3) h l u lanes → Leaves j lanes later o → Allows h o → h.tick < heap.last_tick → Next j n words (want len + 3) h (with_call u o a) g later (cons_option a [])
   own_next h g l u lanes later None None run shared leaves allows fresh = record {
     live = l;
@@ -324,19 +324,19 @@ module _ (words most len : ℕ) (region : want len ≤ 2 ^ 20) (enough : pool_wo
   own_next h g l u lanes later None (Some b) run shared leaves allows fresh = let e = run.told in absurd cc
   own_next h g l u lanes later (Some c) None run shared leaves allows fresh = let e = run.told in absurd cc
   own_next h g l u lanes later (Some c) (Some b) run shared leaves allows fresh =
-      let answer = (heap.answered 4 h c).0 in
+      let answer = (heap.answered sli h c).0 in
       let modest = is_modest h c allows in
       let same : handed_on answer ≡ b = let e = run.told in cc in
       let noted : ledger_after u c answer ≡ ledger_after u c b = sym (noted_same u c answer) ∙ ap (ledger_after u c) same in
       record {
         live = ledger_after l c answer;
         shared = subst (λ (x : HeapState). IsShared j n words (want len + 3) x (ledger_after l c answer) (ledger_after u c b) later) run.left (record {
-          pool = kept 4 level_4 words most len region enough h c shared.pool modest;
-          agrees = agrees_call 4 h c l shared.agrees shared.pool.lawful;
-          covers = subst (λ (v : Ledger). Covers j n (ledger_after l c answer) v later) noted (call_covers j n h l u lanes later c shared.agrees fresh shared.covers leaves);
+          pool = kept sli level words most len region enough h c shared.pool modest;
+          agrees = agrees_call sli h c l shared.agrees shared.pool.lawful;
+          covers = subst (λ (v : Ledger). Covers j n (ledger_after l c answer) v later) noted (call_covers sli j n h l u lanes later c shared.agrees fresh shared.covers leaves);
         });
-        tick = subst (λ (x : HeapState). x.tick ≤ h.tick + 1) run.left (tick_kept 4 level_4 words most len region enough h c);
-        served = (subst IsServed same (served_on answer (is_served 4 level_4 words most len region enough h c shared.pool modest fresh)), tt);
+        tick = subst (λ (x : HeapState). x.tick ≤ h.tick + 1) run.left (tick_kept sli level words most len region enough h c);
+        served = (subst IsServed same (served_on answer (is_served sli level words most len region enough h c shared.pool modest fresh)), tt);
       }
 
 -- ---- what waits, after an entry
@@ -350,7 +350,7 @@ posted_right name [] qs a = a
 posted_right name (p ∷ ps) qs a = inr (posted_right name ps qs a)
 
 -- an entry of the heap's own worker takes no name out of a lane but that which it releases
-own_leaves : (j n capacity : ℕ) (made : List (Option Name)) (h g : HeapState) (lanes later : ℕ → List Post) (e : Entry) → e.worker ≡ j → Leads j n capacity made h lanes e g later
+own_leaves : {sli : ℕ} (j n capacity : ℕ) (made : List (Option Name)) (h g : HeapState) (lanes later : ℕ → List Post) (e : Entry) → e.worker ≡ j → Leads sli j n capacity made h lanes e g later
     → Leaves j lanes later (call_on_own made e.worker e.call e.reply)
 own_leaves j n capacity made h g lanes later e own leads i ne name among =
     let none : posts_made i j made (e ∷ []) ≡ [] = told_other (λ e. post_of_release j made e.worker e.call e.reply) i e (λ q. ne (sym q ∙ own)) in
@@ -368,13 +368,13 @@ own_leaves j n capacity made h g lanes later e own leads i ne name among =
     ]
 
 -- an entry of another worker takes no name out of a lane
-other_waits : (j n capacity : ℕ) (made : List (Option Name)) (h g : HeapState) (lanes later : ℕ → List Post) (e : Entry) → e.worker ≢ j → Leads j n capacity made h lanes e g later
+other_waits : {sli : ℕ} (j n capacity : ℕ) (made : List (Option Name)) (h g : HeapState) (lanes later : ℕ → List Post) (e : Entry) → e.worker ≢ j → Leads sli j n capacity made h lanes e g later
     → (i : ℕ) → later i ≡ lanes i ++ posts_made i j made (e ∷ [])
 other_waits j n capacity made h g lanes later e other leads i =
     sym (leads.posts i ∙ ap (λ l. l ++ later i) (told_other (λ e. post_of_take i e.call e.reply) j e other))
 
 -- and what it posts waits
-other_covers : (j n capacity : ℕ) (made : List (Option Name)) (h g : HeapState) (l u : Ledger) (lanes later : ℕ → List Post) (e : Entry) → e.worker ≢ j → Leads j n capacity made h lanes e g later
+other_covers : {sli : ℕ} (j n capacity : ℕ) (made : List (Option Name)) (h g : HeapState) (l u : Ledger) (lanes later : ℕ → List Post) (e : Entry) → e.worker ≢ j → Leads sli j n capacity made h lanes e g later
     → Covers j n l u lanes → Covers j n l (without_post u (post_of_release j made e.worker e.call e.reply)) later
 other_covers j n capacity made h g l u lanes later e other leads covers name len found = at (post_of_release j made e.worker e.call e.reply) refl (covers name len found)
   where
@@ -399,19 +399,19 @@ other_covers j n capacity made h g l u lanes later e other leads covers name len
 
 -- ---- all entries
 
-module _ (words most len : ℕ) (region : want len ≤ 2 ^ 20) (capacity j m : ℕ) (j_in : j < m + 1) (enough : pool_words 4 (most + m * capacity) len ≤ words) (made : List (Option Name)) where
+module _ (sli : ℕ) (level : IsLevel sli) (words most len : ℕ) (region : want len ≤ most_words sli) (capacity j m : ℕ) (j_in : j < m + 1) (enough : pool_words sli (most + m * capacity) len ≤ words) (made : List (Option Name)) where
   abbrev n : ℕ
   n = suc m
 
   next : (h g : HeapState) (l u : Ledger) (lanes later : ℕ → List Post) (e : Entry) → IsShared j n words (want len + 3) h l u lanes → ((i : ℕ) → length (lanes i) ≤ capacity)
-      → Leads j n capacity made h lanes e g later → IsSparing j most len u e → h.tick < heap.last_tick → Next j n words (want len + 3) h (unreleased_after j made u e) g later (answers_on j (e ∷ []))
+      → Leads sli j n capacity made h lanes e g later → IsSparing j most len u e → h.tick < heap.last_tick → Next j n words (want len + 3) h (unreleased_after j made u e) g later (answers_on j (e ∷ []))
   next h g l u lanes later e shared short leads sparing fresh = elim (cases_eq e.worker j) [
     | inl own ↦
         let o = call_on_own made e.worker e.call e.reply in
         let a = answer_told e.call e.reply in
         let calls : calls_on j made (e ∷ []) ≡ cons_option o [] = told_own (λ e. call_on_own made e.worker e.call e.reply) j e own in
         let answers : answers_on j (e ∷ []) ≡ cons_option a [] = told_own (λ e. answer_told e.call e.reply) j e own in
-        let run : RunsTo h (cons_option o []) (cons_option a []) g = subst (λ c. RunsTo h c (cons_option a []) g) calls (subst (λ x. RunsTo h (calls_on j made (e ∷ [])) x g) answers leads.run) in
+        let run : RunsTo sli h (cons_option o []) (cons_option a []) g = subst (λ c. RunsTo sli h c (cons_option a []) g) calls (subst (λ x. RunsTo sli h (calls_on j made (e ∷ [])) x g) answers leads.run) in
         let few = live_few j m capacity words (want len + 3) h l u lanes j_in short shared in
         let allocates : (x : ℕ) → o ≡ Some (heap.Allocate x) → (x ≤ len) × (live_count h < most + m * capacity)
         = λ x is. let s = (sparing own).0 x (allocate_asks made e.worker e.call e.reply x is) in (s.0, omega (arith, s.1, few)) in
@@ -420,11 +420,11 @@ module _ (words most len : ℕ) (region : want len ≤ 2 ^ 20) (capacity j m : �
         let test : unreleased_after j made u e ≡ with_call u o a = ap (λ (c : Bool). cond c (with_call u o a) (without_post u (post_of_release j made e.worker e.call e.reply))) (eq-eqb e.worker j own) in
         subst (λ (v : Ledger). Next j n words (want len + 3) h v g later (answers_on j (e ∷ []))) (sym test)
         (subst (λ x. Next j n words (want len + 3) h (with_call u o a) g later x) (sym answers)
-        (own_next words (most + m * capacity) len region enough j n h g l u lanes later o a run shared (own_leaves j n capacity made h g lanes later e own leads) (allocates, resizes) fresh))
+        (own_next sli level words (most + m * capacity) len region enough j n h g l u lanes later o a run shared (own_leaves j n capacity made h g lanes later e own leads) (allocates, resizes) fresh))
     | inr other ↦
         let calls : calls_on j made (e ∷ []) ≡ [] = told_other (λ e. call_on_own made e.worker e.call e.reply) j e other in
         let answers : answers_on j (e ∷ []) ≡ [] = told_other (λ e. answer_told e.call e.reply) j e other in
-        let same : h ≡ g = (subst (λ c. RunsTo h c (answers_on j (e ∷ [])) g) calls leads.run).left in
+        let same : h ≡ g = (subst (λ c. RunsTo sli h c (answers_on j (e ∷ [])) g) calls leads.run).left in
         let p = post_of_release j made e.worker e.call e.reply in
         let test : unreleased_after j made u e ≡ without_post u p = ap (λ (c : Bool). cond c (with_call u (call_on_own made e.worker e.call e.reply) (answer_told e.call e.reply)) (without_post u p)) (ne_eqb e.worker j other) in
         record {
@@ -440,7 +440,7 @@ module _ (words most len : ℕ) (region : want len ≤ 2 ^ 20) (capacity j m : �
   ]
 
   pub all_served : (es : List Entry) (h : HeapState) (l u : Ledger) (lanes : ℕ → List Post) → IsShared j n words (want len + 3) h l u lanes → ((i : ℕ) → length (lanes i) ≤ capacity)
-      → AllLead j n capacity made h lanes es → AreSparing j most len made u es → h.tick + length es ≤ heap.last_tick → AllByRecursion IsServed (answers_on j es)
+      → AllLead sli j n capacity made h lanes es → AreSparing j most len made u es → h.tick + length es ≤ heap.last_tick → AllByRecursion IsServed (answers_on j es)
   all_served [] h l u lanes shared short lead sparing fresh = tt
   all_served (e ∷ es) h l u lanes shared short lead sparing fresh =
       let x = next h lead.0 l u lanes lead.1 e shared short lead.2 sparing.0 (omega arith) in

@@ -14,21 +14,21 @@ use Rattle.tlsf_crew.proofs.lemmas.yard.LaneChanges.{edited_other, edited_same}
 use Rattle.tlsf_crew.proofs.lemmas.yard.OneEvent.{from_other, from_own, releasing_far, releasing_post, taking_far, taking_lane, taking_own}
 
 -- the lanes to worker j hold no more than their capacity
-abbrev pub AreShort : ℕ → World → Type 0
+abbrev pub AreShort : {sli : ℕ} → ℕ → World sli → Type 0
 AreShort j w = (i : ℕ) → length (w.waiting i j) ≤ w.capacity
 
-pub record StayShort (j : ℕ) (w v : World) : Type 0 where
+pub record StayShort {sli : ℕ} (j : ℕ) (w v : World sli) : Type 0 where
   pub capacity : v.capacity ≡ w.capacity
   pub short : AreShort j w → AreShort j v
 
-stay : (j : ℕ) (w : World) → StayShort j w w
+stay : {sli : ℕ} (j : ℕ) (w : World sli) → StayShort j w w
 stay j w = record { capacity = refl; short = λ s. s }
 
-then : (j : ℕ) (w v u : World) → StayShort j w v → StayShort j v u → StayShort j w u
+then : {sli : ℕ} (j : ℕ) (w v u : World sli) → StayShort j w v → StayShort j v u → StayShort j w u
 then j w v u a b = record { capacity = b.capacity ∙ a.capacity; short = λ s. b.short (a.short s) }
 
 -- one lane has other posts
-lane_short : (j : ℕ) (w : World) (x y : ℕ) (ps : List Post) → (length (w.waiting x y) ≤ w.capacity → length ps ≤ w.capacity) → AreShort j w → (i : ℕ) → length ((with_waiting w x y ps).waiting i j) ≤ w.capacity
+lane_short : {sli : ℕ} (j : ℕ) (w : World sli) (x y : ℕ) (ps : List Post) → (length (w.waiting x y) ≤ w.capacity → length ps ≤ w.capacity) → AreShort j w → (i : ℕ) → length ((with_waiting w x y ps).waiting i j) ≤ w.capacity
 lane_short j w x y ps few short i = elim (cases_eq i x) [
   | inl a ↦ elim (cases_eq j y) [
     | inl b ↦
@@ -40,7 +40,7 @@ lane_short j w x y ps few short i = elim (cases_eq i x) [
   | inr a ↦ rw (edited_other w.waiting x y i j ps (λ q _. a q)) (short i)
 ]
 
-posting_short : (j : ℕ) (w : World) (at : ℕ) (name : Name) → StayShort j w (posting w at name).world
+posting_short : {sli : ℕ} (j : ℕ) (w : World sli) (at : ℕ) (name : Name) → StayShort j w (posting w at name).world
 unfolding posting
 posting_short j w at name =
     let ps = w.waiting at name.heap in
@@ -52,7 +52,7 @@ posting_short j w at name =
           rw b (record { capacity = refl; short = lane_short j w at name.heap (ps ++ record { from = at; name = name } ∷ []) (λ le. omega arith) })
     ]
 
-release_short : (j : ℕ) (w : World) (at : ℕ) (o : Option Name) → StayShort j w (releasing_named w at o).world
+release_short : {sli : ℕ} (j : ℕ) (w : World sli) (at : ℕ) (o : Option Name) → StayShort j w (releasing_named w at o).world
 release_short j w at None = stay j w
 release_short j w at (Some name) = elim (cases_eq name.heap at) [
   | inl own ↦ let b : (name.heap == at) ≡ true = grind (arith, nat_tests) in rw b (record { capacity = refl; short = λ s. s })
@@ -62,15 +62,15 @@ release_short j w at (Some name) = elim (cases_eq name.heap at) [
   ]
 ]
 
-first_short : (j : ℕ) (w : World) (at from : ℕ) (ps : List Post) → w.waiting from at ≡ ps → StayShort j w (took_first w at from ps).world
+first_short : {sli : ℕ} (j : ℕ) (w : World sli) (at from : ℕ) (ps : List Post) → w.waiting from at ≡ ps → StayShort j w (took_first w at from ps).world
 first_short j w at from [] e = stay j w
 first_short j w at from (p ∷ rest) e = record { capacity = refl; short = lane_short j w from at rest (λ le. let n = ap length e in omega arith) }
 
-next_short : (j : ℕ) (w : World) (at from : ℕ) → StayShort j w (taking_next w at from).world
+next_short : {sli : ℕ} (j : ℕ) (w : World sli) (at from : ℕ) → StayShort j w (taking_next w at from).world
 unfolding taking_next
 next_short j w at from = first_short j w at from (w.waiting from at) refl
 
-take_short : (j : ℕ) (w : World) (at from : ℕ) → StayShort j w (taking w at from).world
+take_short : {sli : ℕ} (j : ℕ) (w : World sli) (at from : ℕ) → StayShort j w (taking w at from).world
 take_short j w at from = elim (cases_eq from at) [
   | inl own ↦ rw (taking_own w at from own) (stay j w)
   | inr ne ↦ elim (cases_lt from (length w.heaps)) [
@@ -79,21 +79,21 @@ take_short j w at from = elim (cases_eq from at) [
   ]
 ]
 
-write_short : (j : ℕ) (w : World) (at : ℕ) (o : Option Name) (from : ℕ) (bytes : List ℕ) → StayShort j w (writing_named w at o from bytes).world
+write_short : {sli : ℕ} (j : ℕ) (w : World sli) (at : ℕ) (o : Option Name) (from : ℕ) (bytes : List ℕ) → StayShort j w (writing_named w at o from bytes).world
 write_short j w at None from bytes = stay j w
 write_short j w at (Some name) from bytes = record { capacity = refl; short = λ s. s }
 
-read_short : (j : ℕ) (w : World) (at : ℕ) (o : Option Name) (from n : ℕ) → StayShort j w (reading_named w at o from n).world
+read_short : {sli : ℕ} (j : ℕ) (w : World sli) (at : ℕ) (o : Option Name) (from n : ℕ) → StayShort j w (reading_named w at o from n).world
 read_short j w at None from n = stay j w
 read_short j w at (Some name) from n = record { capacity = refl; short = λ s. s }
 
-resize_short : (j : ℕ) (w : World) (at : ℕ) (o : Option Name) (len : ℕ) → StayShort j w (resizing_named w at o len).world
+resize_short : {sli : ℕ} (j : ℕ) (w : World sli) (at : ℕ) (o : Option Name) (len : ℕ) → StayShort j w (resizing_named w at o len).world
 resize_short j w at None len = stay j w
 resize_short j w at (Some name) len = record { capacity = refl; short = λ s. s }
 
 -- ---- a drain
 
-more_short : (j at from : ℕ) (ps : List Post) (d : Draining) → StayShort j d.world (fold (took_more at from) d ps).world
+more_short : {sli : ℕ} (j at from : ℕ) (ps : List Post) (d : Draining sli) → StayShort j d.world (fold (took_more at from) d ps).world
 more_short j at from [] d = stay j d.world
 more_short j at from (p ∷ ps) d =
     let rest = drop 1 (d.world.waiting from at) in
@@ -101,11 +101,11 @@ more_short j at from (p ∷ ps) d =
     = record { capacity = refl; short = lane_short j d.world from at rest (λ le. let n = length-drop 1 (d.world.waiting from at) in omega arith) } in
     then j d.world (took_more at from d p).world _ one (more_short j at from ps (took_more at from d p))
 
-one_lane_short : (j at most from : ℕ) (d : Draining) → StayShort j d.world (drained_lane at most from d).world
+one_lane_short : {sli : ℕ} (j at most from : ℕ) (d : Draining sli) → StayShort j d.world (drained_lane at most from d).world
 unfolding drained_lane
 one_lane_short j at most from d = more_short j at from (take (most - d.taken) (d.world.waiting from at)) d
 
-below_short : (j at most : ℕ) (d : Draining) (k : ℕ) → StayShort j d.world (drained_below at most d k).world
+below_short : {sli : ℕ} (j at most : ℕ) (d : Draining sli) (k : ℕ) → StayShort j d.world (drained_below at most d k).world
 below_short j at most d zero = stay j d.world
 below_short j at most d (suc k) =
     let b = drained_below at most d k in
@@ -115,16 +115,16 @@ below_short j at most d (suc k) =
       | inr ne ↦ rw (from_other at most b k ne) (then j d.world b.world (drained_lane at most k b).world rest (one_lane_short j at most k b))
     ]
 
-all_short : (j at most : ℕ) (d : Draining) → StayShort j d.world (after_drain at most d).world
+all_short : {sli : ℕ} (j at most : ℕ) (d : Draining sli) → StayShort j d.world (after_drain at most d).world
 unfolding after_drain
 all_short j at most d = below_short j at most d (length d.world.heaps)
 
-drain_short : (j : ℕ) (r : Replayed) (at most : ℕ) → StayShort j r.world (draining r at most).world
+drain_short : {sli : ℕ} (j : ℕ) (r : Replayed sli) (at most : ℕ) → StayShort j r.world (draining r at most).world
 unfolding draining
 drain_short j r at most = all_short j at most (record { entries = r.entries; world = r.world; taken = 0 })
 
 -- any call
-pub called_short : (j : ℕ) (r : Replayed) (at : ℕ) (call : Call) → StayShort j r.world (called r at call).world
+pub called_short : {sli : ℕ} (j : ℕ) (r : Replayed sli) (at : ℕ) (call : Call) → StayShort j r.world (called r at call).world
 called_short j r at (Allocate len) = record { capacity = refl; short = λ s. s }
 called_short j r at (Release target) = release_short j r.world at (name_of r.made target)
 called_short j r at (Write target from bytes) = write_short j r.world at (name_of r.made target) from (bytes_of bytes)

@@ -1,6 +1,7 @@
 -- Answers as they are handed on tell the same of what is held and of bytes.
-use Rattle.std.proofs.Common.{◌≡◌, ℕ, ◌+◌, ◌<◌, ◌≤◌, ◌^◌, List, [], ◌∷◌, length, map, None, Ok, Err, refl, sym, ap, ◌∙◌, subst, arith}
+use Rattle.std.proofs.Common.{◌≡◌, ℕ, ◌+◌, ◌<◌, ◌≤◌, List, [], ◌∷◌, length, map, None, Ok, Err, refl, sym, ap, ◌∙◌, subst, arith}
 use Rattle.std.specs.List.{AllByRecursion}
+use Rattle.tlsf_class.specs.Classes.{IsLevel, most_words}
 use Rattle.tlsf_heap.specs.Blocks.{HeapState, want}
 use Rattle.tlsf_heap.specs.Lawful.{IsRegion}
 use Rattle.tlsf_heap.specs.Calls.{Call, Allocate, Release, Write, Resize, Read, Answer, Allocated, Released, Written, Resized, Got, last_tick, opened, run}
@@ -21,7 +22,6 @@ use Rattle.tlsf_crew.proofs.lemmas.yard.JoinedEntries.{runs_then}
 use Rattle.tlsf_crew.proofs.lemmas.threads.RecordHistory.{race_runs}
 use Rattle.tlsf_yard_laws.specs.Races.{NewHasNoPast, RaceAddsToPast, RaceHoldsWhatIsLive, RaceKeepsBytes, RacePoolServes, RacePoolSuffices, ReplayAddsToPast}
 use Rattle.tlsf_yard_laws.specs.Yards.{IsNew, YardHoldsWhatIsLive, YardKeepsBytes, YardPoolServes, YardPoolSuffices}
-use Rattle.tlsf_class.proofs.TwoLevels.{level_4}
 
 held_same : (held : ℕ) (call : Call) (answer : Answer) → held_after held call (handed_on answer) ≡ held_after held call answer
 held_same held call (Allocated r) = refl
@@ -104,85 +104,85 @@ all_served_on (answer ∷ answers) all = (served_on answer all.0, all_served_on 
 
 -- ---- what a heap that was new once was asked, and what it answered
 
-pub past_suffices : (j words first most len : ℕ) (calls : List Call) (answers : List Answer) (g : HeapState) → RunsTo (opened j words first) calls answers g
-    → IsRegion 4 words → want len ≤ 2 ^ 20 → pool_words 4 most len ≤ words → AreModest most len 0 calls answers → AllByRecursion HasRoomFor answers
-past_suffices j words first most len calls answers g runs region class enough within =
-    let own : List Answer = (run 4 (opened j words first) calls).0 in
+pub past_suffices : {sli : ℕ} (level : IsLevel sli) (j words first most len : ℕ) (calls : List Call) (answers : List Answer) (g : HeapState) → RunsTo sli (opened j words first) calls answers g
+    → IsRegion sli words → want len ≤ most_words sli → pool_words sli most len ≤ words → AreModest most len 0 calls answers → AllByRecursion HasRoomFor answers
+past_suffices {sli} level j words first most len calls answers g runs region class enough within =
+    let own : List Answer = (run sli (opened j words first) calls).0 in
     subst (AllByRecursion HasRoomFor) runs.told
-    (all_room own (suffices 4 level_4 j words first most len calls region class enough (modest most len 0 calls own (subst (AreModest most len 0 calls) (sym runs.told) within))))
+    (all_room own (suffices sli level j words first most len calls region class enough (modest most len 0 calls own (subst (AreModest most len 0 calls) (sym runs.told) within))))
 
-pub past_serves : (j words first most len : ℕ) (calls : List Call) (answers : List Answer) (g : HeapState) → RunsTo (opened j words first) calls answers g
-    → IsRegion 4 words → want len ≤ 2 ^ 20 → pool_words 4 most len ≤ words → AreModest most len 0 calls answers → first + length calls < last_tick → AllByRecursion IsServed answers
-past_serves j words first most len calls answers g runs region class enough within fresh =
-    let own : List Answer = (run 4 (opened j words first) calls).0 in
+pub past_serves : {sli : ℕ} (level : IsLevel sli) (j words first most len : ℕ) (calls : List Call) (answers : List Answer) (g : HeapState) → RunsTo sli (opened j words first) calls answers g
+    → IsRegion sli words → want len ≤ most_words sli → pool_words sli most len ≤ words → AreModest most len 0 calls answers → first + length calls < last_tick → AllByRecursion IsServed answers
+past_serves {sli} level j words first most len calls answers g runs region class enough within fresh =
+    let own : List Answer = (run sli (opened j words first) calls).0 in
     subst (AllByRecursion IsServed) runs.told
-    (all_served_on own (serves 4 level_4 j words first most len calls region class enough (modest most len 0 calls own (subst (AreModest most len 0 calls) (sym runs.told) within)) fresh))
+    (all_served_on own (serves sli level j words first most len calls region class enough (modest most len 0 calls own (subst (AreModest most len 0 calls) (sym runs.told) within)) fresh))
 
-pub past_holds : (j words first : ℕ) (calls : List Call) (answers : List Answer) (g : HeapState) → RunsTo (opened j words first) calls answers g → 4 ≤ words
+pub past_holds : {sli : ℕ} (j words first : ℕ) (calls : List Call) (answers : List Answer) (g : HeapState) → RunsTo sli (opened j words first) calls answers g → 4 ≤ words
     → live_count g ≡ held_after_all 0 calls answers
-past_holds j words first calls answers g runs four =
-    let own : List Answer = (run 4 (opened j words first) calls).0 in
-    ap live_count (sym runs.left) ∙ (holds 4 j words first calls four
+past_holds {sli} j words first calls answers g runs four =
+    let own : List Answer = (run sli (opened j words first) calls).0 in
+    ap live_count (sym runs.left) ∙ (holds sli j words first calls four
     ∙ (sym (all_held 0 calls own) ∙ ap (λ (answers : List Answer). held_after_all 0 calls answers) runs.told))
 
-pub past_bytes : (j words first : ℕ) (calls : List Call) (answers : List Answer) (g : HeapState) (name : Name) → RunsTo (opened j words first) calls answers g → 4 ≤ words
+pub past_bytes : {sli : ℕ} (level : IsLevel sli) (j words first : ℕ) (calls : List Call) (answers : List Answer) (g : HeapState) (name : Name) → RunsTo sli (opened j words first) calls answers g → 4 ≤ words
     → contents g name ≡ after_all (λ other. None) calls answers name
-past_bytes j words first calls answers g name runs four =
-    let own : List Answer = (run 4 (opened j words first) calls).0 in
-    ap (λ (h : HeapState). contents h name) (sym runs.left) ∙ (told_new 4 level_4 j words first calls name four
+past_bytes {sli} level j words first calls answers g name runs four =
+    let own : List Answer = (run sli (opened j words first) calls).0 in
+    ap (λ (h : HeapState). contents h name) (sym runs.left) ∙ (told_new sli level j words first calls name four
     ∙ (ap (λ (bytes : Contents). bytes name) (sym (all_after (λ other. None) calls own))
     ∙ ap (λ (answers : List Answer). after_all (λ other. None) calls answers name) runs.told))
 
 -- ---- lists of events
 
 -- the history of a new heap of a yard
-history : (w : World) (es : List Event) (j words first : ℕ) → IsNew w j words first
-    → let r = replies w es in RunsTo (opened j words first) (calls_on j r.made r.entries) (answers_on j r.entries) (heap_in r.world j)
-history w es j words first is =
+history : {sli : ℕ} (w : World sli) (es : List Event) (j words first : ℕ) → IsNew w j words first
+    → let r = replies w es in RunsTo sli (opened j words first) (calls_on j r.made r.entries) (answers_on j r.entries) (heap_in r.world j)
+history {sli} w es j words first is =
     let r = replies w es in
-    subst (λ (h : HeapState). RunsTo h (calls_on j r.made r.entries) (answers_on j r.entries) (heap_in r.world j)) is.new ((replies_tell w es).history.heaps j is.within)
+    subst (λ (h : HeapState). RunsTo sli h (calls_on j r.made r.entries) (answers_on j r.entries) (heap_in r.world j)) is.new ((replies_tell w es).history.heaps j is.within)
 
-pub never_refuses : YardPoolSuffices
-never_refuses w es j words first most len is region class enough within =
-    past_suffices j words first most len _ _ _ (history w es j words first is) region class enough within
+pub never_refuses : (sli : ℕ) → IsLevel sli → YardPoolSuffices sli
+never_refuses sli level w es j words first most len is region class enough within =
+    past_suffices level j words first most len _ _ _ (history w es j words first is) region class enough within
 
-pub yard_serves : YardPoolServes
-yard_serves w es j words first most len is region class enough within fresh =
-    past_serves j words first most len _ _ _ (history w es j words first is) region class enough within fresh
+pub yard_serves : (sli : ℕ) → IsLevel sli → YardPoolServes sli
+yard_serves sli level w es j words first most len is region class enough within fresh =
+    past_serves level j words first most len _ _ _ (history w es j words first is) region class enough within fresh
 
-pub holds_live : YardHoldsWhatIsLive
-holds_live w es j words first is four = past_holds j words first _ _ _ (history w es j words first is) four
+pub holds_live : (sli : ℕ) → YardHoldsWhatIsLive sli
+holds_live sli w es j words first is four = past_holds j words first _ _ _ (history w es j words first is) four
 
-pub keeps_bytes : YardKeepsBytes
-keeps_bytes w es j words first name is four = past_bytes j words first _ _ _ name (history w es j words first is) four
+pub keeps_bytes : (sli : ℕ) → IsLevel sli → YardKeepsBytes sli
+keeps_bytes sli level w es j words first name is four = past_bytes level j words first _ _ _ name (history w es j words first is) four
 
 -- ---- races
 
-pub new_past : NewHasNoPast
-new_past w j words first is = record { within = is.within; since = record { told = refl; left = sym is.new } }
+pub new_past : (sli : ℕ) → NewHasNoPast sli
+new_past sli w j words first is = record { within = is.within; since = record { told = refl; left = sym is.new } }
 
-pub replay_past : ReplayAddsToPast
-replay_past w es j words first calls answers past =
+pub replay_past : (sli : ℕ) → ReplayAddsToPast sli
+replay_past sli w es j words first calls answers past =
     let r = replies w es in
     let history = (replies_tell w es).history in
     record { within = omega (arith, past.within, history.count); since = runs_then _ _ _ calls _ answers _ past.since (history.heaps j past.within) }
 
-pub race_past : RaceAddsToPast
-race_past w v scripts records race j words first calls answers past =
+pub race_past : (sli : ℕ) → RaceAddsToPast sli
+race_past sli w v scripts records race j words first calls answers past =
     record { within = omega (arith, past.within, race.heaps); since = runs_then _ _ _ calls _ answers _ past.since (race_runs w v scripts records race j past.within) }
 
-pub race_suffices : RacePoolSuffices
-race_suffices w v scripts records race j words first most len calls answers past region class enough within =
-    past_suffices j words first most len _ _ _ (race_past w v scripts records race j words first calls answers past).since region class enough within
+pub race_suffices : (sli : ℕ) → IsLevel sli → RacePoolSuffices sli
+race_suffices sli level w v scripts records race j words first most len calls answers past region class enough within =
+    past_suffices level j words first most len _ _ _ (race_past sli w v scripts records race j words first calls answers past).since region class enough within
 
-pub race_serves : RacePoolServes
-race_serves w v scripts records race j words first most len calls answers past region class enough within fresh =
-    past_serves j words first most len _ _ _ (race_past w v scripts records race j words first calls answers past).since region class enough within fresh
+pub race_serves : (sli : ℕ) → IsLevel sli → RacePoolServes sli
+race_serves sli level w v scripts records race j words first most len calls answers past region class enough within fresh =
+    past_serves level j words first most len _ _ _ (race_past sli w v scripts records race j words first calls answers past).since region class enough within fresh
 
-pub race_holds : RaceHoldsWhatIsLive
-race_holds w v scripts records race j words first calls answers past four =
-    past_holds j words first _ _ _ (race_past w v scripts records race j words first calls answers past).since four
+pub race_holds : (sli : ℕ) → RaceHoldsWhatIsLive sli
+race_holds sli w v scripts records race j words first calls answers past four =
+    past_holds j words first _ _ _ (race_past sli w v scripts records race j words first calls answers past).since four
 
-pub race_bytes : RaceKeepsBytes
-race_bytes w v scripts records race j words first calls answers name past four =
-    past_bytes j words first _ _ _ name (race_past w v scripts records race j words first calls answers past).since four
+pub race_bytes : (sli : ℕ) → IsLevel sli → RaceKeepsBytes sli
+race_bytes sli level w v scripts records race j words first calls answers name past four =
+    past_bytes level j words first _ _ _ name (race_past sli w v scripts records race j words first calls answers past).since four

@@ -3,6 +3,7 @@ use Rattle.std.proofs.Common.{zero, suc, [], ◌∷◌, ◌++◌, ◌≡◌, ◌
 use Rattle.std.specs.List.{AllByRecursion, fold}
 use Rattle.std.proofs.lemmas.Bool.{cases_lt}
 use Rattle.std.proofs.lemmas.List.Elements.{All-tail}
+use Rattle.tlsf_class.specs.Classes.{IsLevel}
 use Rattle.tlsf_heap.specs.Blocks.{HeapState, want}
 use Rattle.tlsf_heap.specs.Lawful.{IsLawful}
 use Rattle.tlsf_heap.specs.declared.name.Name.{Name}
@@ -29,14 +30,13 @@ use Rattle.tlsf_crew.proofs.lemmas.yard.OwnCalls.{Knows}
 use Rattle.tlsf_yard_laws.specs.Sharing.{SharedPoolServes}
 use Rattle.tlsf_yard_laws.proofs.Shares.{AllLead, all_served}
 use Rattle.tlsf_yard_laws.proofs.ShortLanes.{AreShort, StayShort, called_short}
-use Rattle.tlsf_class.proofs.TwoLevels.{level_4}
 
 -- ---- entries that post nothing for worker j
 
 abbrev IsQuiet : List (Option Name) → ℕ → Entry → Type 0
 IsQuiet made j e = post_of_release j made e.worker e.call e.reply ≡ None
 
-module _ (made : List (Option Name)) (n j capacity : ℕ) (j_in : j < n) where
+module _ (sli : ℕ) (level : IsLevel sli) (made : List (Option Name)) (n j capacity : ℕ) (j_in : j < n) where
   quiet_one : (i : ℕ) (e : Entry) → IsQuiet made j e → posts_made i j made (e ∷ []) ≡ []
   quiet_one i e quiet = told_nothing (λ e. post_of_release j made e.worker e.call e.reply) i e quiet
 
@@ -48,13 +48,13 @@ module _ (made : List (Option Name)) (n j capacity : ℕ) (j_in : j < n) where
 
   -- the same heap and the same posts lead on
   same_lead : (h g : HeapState) (lanes later : ℕ → List Post) (ys : List Entry) → h ≡ g → ((i : ℕ) → lanes i ≡ later i)
-      → AllLead j n capacity made g later ys → AllLead j n capacity made h lanes ys
+      → AllLead sli j n capacity made g later ys → AllLead sli j n capacity made h lanes ys
   same_lead h g lanes later [] heap same lead = tt
   same_lead h g lanes later (y ∷ ys) heap same lead = (
     lead.0,
     lead.1,
     record {
-      run = subst (λ (x : HeapState). RunsTo x (calls_on j made (y ∷ [])) (answers_on j (y ∷ [])) lead.0) (sym heap) lead.2.run;
+      run = subst (λ (x : HeapState). RunsTo sli x (calls_on j made (y ∷ [])) (answers_on j (y ∷ [])) lead.0) (sym heap) lead.2.run;
       posts = λ i. ap (λ l. l ++ posts_made i j made (y ∷ [])) (same i) ∙ lead.2.posts i;
       short = lead.2.short;
       near = lead.2.near;
@@ -64,11 +64,11 @@ module _ (made : List (Option Name)) (n j capacity : ℕ) (j_in : j < n) where
 
   -- entries that are told together lead one by one
   quiet_lead : (xs ys : List Entry) (h g : HeapState) (lanes later : ℕ → List Post) → IsLawful h → All (HasItsAnswer made n) xs → AllByRecursion (IsQuiet made j) xs
-      → RunsTo h (calls_on j made xs) (answers_on j xs) g → ((i : ℕ) → lanes i ≡ posts_taken i j xs ++ later i) → ((i : ℕ) → length (lanes i) ≤ capacity)
-      → AllLead j n capacity made g later ys → AllLead j n capacity made h lanes (xs ++ ys)
+      → RunsTo sli h (calls_on j made xs) (answers_on j xs) g → ((i : ℕ) → lanes i ≡ posts_taken i j xs ++ later i) → ((i : ℕ) → length (lanes i) ≤ capacity)
+      → AllLead sli j n capacity made g later ys → AllLead sli j n capacity made h lanes (xs ++ ys)
   quiet_lead [] ys h g lanes later lawful each quiet run posts short lead = same_lead h g lanes later ys run.left posts lead
   quiet_lead (x ∷ xs) ys h g lanes later lawful each quiet run posts short lead =
-      let t = runs_through made n j h g (x ∷ []) xs j_in lawful each run in
+      let t = runs_through made n j h g (x ∷ []) xs j_in level lawful each run in
       let middle : ℕ → List Post = λ i. posts_taken i j xs ++ later i in
       let split : (i : ℕ) → lanes i ≡ posts_taken i j (x ∷ []) ++ (posts_taken i j xs ++ later i)
       = λ i. posts i ∙ (ap (λ l. l ++ later i) (told_then (λ e. post_of_take i e.call e.reply) j (x ∷ []) xs) ∙ append_assoc (posts_taken i j (x ∷ [])) (posts_taken i j xs) (later i)) in
@@ -90,23 +90,23 @@ module _ (made : List (Option Name)) (n j capacity : ℕ) (j_in : j < n) where
 
   -- ---- one event
 
-  record Turn (r s : Replayed) : Type 0 where
+  record Turn (r s : Replayed sli) : Type 0 where
     own : List Entry
     entries : s.entries ≡ r.entries ++ own
     count : length s.world.heaps ≡ length r.world.heaps
     lawful : IsLawful (heap_in s.world j)
     stays : StayShort j r.world s.world
-    lead : (ys : List Entry) → AllLead j n capacity made (heap_in s.world j) (λ i. s.world.waiting i j) ys
-        → AllLead j n capacity made (heap_in r.world j) (λ i. r.world.waiting i j) (own ++ ys)
+    lead : (ys : List Entry) → AllLead sli j n capacity made (heap_in s.world j) (λ i. s.world.waiting i j) ys
+        → AllLead sli j n capacity made (heap_in r.world j) (λ i. r.world.waiting i j) (own ++ ys)
 
   -- what holds of the world before an event
-  record Before (r : Replayed) : Type 0 where
+  record Before (r : Replayed sli) : Type 0 where
     count : length r.world.heaps ≡ n
     lawful : IsLawful (heap_in r.world j)
     room : r.world.capacity ≡ capacity
     short : AreShort j r.world
 
-  few : (r : Replayed) → Before r → (i : ℕ) → length (r.world.waiting i j) ≤ capacity
+  few : (r : Replayed sli) → Before r → (i : ℕ) → length (r.world.waiting i j) ≤ capacity
   few r b i = subst (λ (c : ℕ). length (r.world.waiting i j) ≤ c) b.room (b.short i)
 
   takes_quiet : (at low most : ℕ) (es : List Entry) → AreTakes at low es → AllByRecursion (IsQuiet made j) (es ++ record { worker = at; call = Drain most; reply = Drained (length es) } ∷ [])
@@ -116,7 +116,7 @@ module _ (made : List (Option Name)) (n j capacity : ℕ) (j_in : j < n) where
       on [] k low takes = (refl, tt)
       on (e ∷ es) k low takes = (subst (IsQuiet made j) (sym takes.2) refl, on es k takes.0 takes.4)
 
-  quiet_turn : (r s : Replayed) (at : ℕ) (call : Call) (t : ToldOnce made r s (TellsCall at r.made call)) → Before r → StayShort j r.world s.world → AllByRecursion (IsQuiet made j) t.own → Turn r s
+  quiet_turn : (r s : Replayed sli) (at : ℕ) (call : Call) (t : ToldOnce made r s (TellsCall at r.made call)) → Before r → StayShort j r.world s.world → AllByRecursion (IsQuiet made j) t.own → Turn r s
   quiet_turn r s at call t b stays quiet =
       let j_here : j < length r.world.heaps = omega (arith, b.count) in
       let run = t.history.heaps j j_here in
@@ -124,7 +124,7 @@ module _ (made : List (Option Name)) (n j capacity : ℕ) (j_in : j < n) where
         own = t.own;
         entries = t.entries;
         count = t.history.count;
-        lawful = subst IsLawful run.left (lawful_run 4 level_4 (heap_in r.world j) (calls_on j made t.own) b.lawful);
+        lawful = subst IsLawful run.left (lawful_run sli level (heap_in r.world j) (calls_on j made t.own) b.lawful);
         stays = stays;
         lead = λ ys lead. quiet_lead t.own ys (heap_in r.world j) (heap_in s.world j) (λ i. r.world.waiting i j) (λ i. s.world.waiting i j) b.lawful
             (subst (λ (x : ℕ). All (HasItsAnswer made x) t.own) b.count t.history.each) quiet run
@@ -132,7 +132,7 @@ module _ (made : List (Option Name)) (n j capacity : ℕ) (j_in : j < n) where
       }
 
   -- a release may post: it leads by itself
-  release_turn : (r s : Replayed) (at : ℕ) (target : Target) (t : ToldOnce made r s (TellsCall at r.made (Release target))) → at < n → Before r → StayShort j r.world s.world → Turn r s
+  release_turn : (r s : Replayed sli) (at : ℕ) (target : Target) (t : ToldOnce made r s (TellsCall at r.made (Release target))) → at < n → Before r → StayShort j r.world s.world → Turn r s
   release_turn r s at target t at_in b stays =
       let j_here : j < length r.world.heaps = omega (arith, b.count) in
       let run = t.history.heaps j j_here in
@@ -142,13 +142,13 @@ module _ (made : List (Option Name)) (n j capacity : ℕ) (j_in : j < n) where
         own = t.own;
         entries = t.entries;
         count = t.history.count;
-        lawful = subst IsLawful run.left (lawful_run 4 level_4 (heap_in r.world j) (calls_on j made t.own) b.lawful);
+        lawful = subst IsLawful run.left (lawful_run sli level (heap_in r.world j) (calls_on j made t.own) b.lawful);
         stays = stays;
-        lead = λ ys lead. subst (λ l. AllLead j n capacity made (heap_in r.world j) (λ i. r.world.waiting i j) (l ++ ys)) (sym whole) (
+        lead = λ ys lead. subst (λ l. AllLead sli j n capacity made (heap_in r.world j) (λ i. r.world.waiting i j) (l ++ ys)) (sym whole) (
           heap_in s.world j,
           (λ i. s.world.waiting i j),
           record {
-            run = subst (λ l. RunsTo (heap_in r.world j) (calls_on j made l) (answers_on j l) (heap_in s.world j)) whole run;
+            run = subst (λ l. RunsTo sli (heap_in r.world j) (calls_on j made l) (answers_on j l) (heap_in s.world j)) whole run;
             posts = λ i. subst (λ l. r.world.waiting i j ++ posts_made i j made l ≡ posts_taken i j l ++ s.world.waiting i j) whole (t.history.posts i j);
             short = λ i. subst (λ (c : ℕ). length (s.world.waiting i j) ≤ c) (stays.capacity ∙ b.room) (stays.short b.short i);
             near = λ p is. at_in;
@@ -157,7 +157,7 @@ module _ (made : List (Option Name)) (n j capacity : ℕ) (j_in : j < n) where
         );
       }
 
-  called_turn : (r : Replayed) (at : ℕ) (call : Call) → at < n → Before r → Knows made r.made → Turn r (called r at call)
+  called_turn : (r : Replayed sli) (at : ℕ) (call : Call) → at < n → Before r → Knows made r.made → Turn r (called r at call)
   called_turn r at call at_in b known = on call (called_told made r at call (omega (arith, at_in, b.count)) known)
     where
       on : (call : Call) → ToldOnce made r (called r at call) (TellsCall at r.made call) → Turn r (called r at call)
@@ -171,7 +171,7 @@ module _ (made : List (Option Name)) (n j capacity : ℕ) (j_in : j < n) where
           (subst (AllByRecursion (IsQuiet made j)) (sym t.tells.1.whole) (takes_quiet at 0 most t.tells.1.takes t.tells.1.are_takes))
 
   -- an event of no worker
-  far_turn : (r : Replayed) (e : Event) → n ≤ e.worker → Before r → Turn r (answered r e.worker e.call (record { reply = Refused Stranger; world = r.world }))
+  far_turn : (r : Replayed sli) (e : Event) → n ≤ e.worker → Before r → Turn r (answered r e.worker e.call (record { reply = Refused Stranger; world = r.world }))
   far_turn r e far b =
       let x : Entry = record { worker = e.worker; call = e.call; reply = Refused Stranger } in
       let away : e.worker ≢ j = λ q. absurd (omega (arith, q, far, j_in)) in
@@ -189,7 +189,7 @@ module _ (made : List (Option Name)) (n j capacity : ℕ) (j_in : j < n) where
           h,
           (λ i. r.world.waiting i j),
           record {
-            run = subst (λ c. RunsTo h c (answers_on j (x ∷ [])) h) (sym calls) (subst (λ a. RunsTo h [] a h) (sym answers) (record { told = refl; left = refl }));
+            run = subst (λ c. RunsTo sli h c (answers_on j (x ∷ [])) h) (sym calls) (subst (λ a. RunsTo sli h [] a h) (sym answers) (record { told = refl; left = refl }));
             posts = λ i. ap (λ l. r.world.waiting i j ++ l) (quiet_one i x quiet) ∙ (append-nil (r.world.waiting i j)
                 ∙ sym (ap (λ l. l ++ r.world.waiting i j) (told_other (λ e. post_of_take i e.call e.reply) j x away)));
             short = few r b;
@@ -211,7 +211,7 @@ module _ (made : List (Option Name)) (n j capacity : ℕ) (j_in : j < n) where
       quiet_far at (Take from) = refl
       quiet_far at (Drain most) = refl
 
-  turn : (r : Replayed) (e : Event) → Before r → Knows made r.made → Turn r (after r e)
+  turn : (r : Replayed sli) (e : Event) → Before r → Knows made r.made → Turn r (after r e)
   turn r e b known = elim (cases_lt e.worker (length r.world.heaps)) [
     | inl lt ↦ rw (after_near r e e.call lt refl) (called_turn r e.worker e.call (omega (arith, lt, b.count)) b known)
     | inr ge ↦ rw (after_far r e ge) (far_turn r e (omega (arith, ge, b.count)) b)
@@ -219,18 +219,18 @@ module _ (made : List (Option Name)) (n j capacity : ℕ) (j_in : j < n) where
 
   -- ---- all events
 
-  after_knows : (r : Replayed) (e : Event) → Knows (after r e).made r.made
+  after_knows : (r : Replayed sli) (e : Event) → Knows (after r e).made r.made
   after_knows r e = elim (cases_lt e.worker (length r.world.heaps)) [
     | inl lt ↦ rw (after_near r e e.call lt refl) (called_knows r e.worker e.call)
     | inr ge ↦ rw (after_far r e ge) (more_knows r.made (None ∷ []))
   ]
 
-  all_know : (es : List Event) (r : Replayed) → Knows (fold after r es).made r.made
+  all_know : (es : List Event) (r : Replayed sli) → Knows (fold after r es).made r.made
   all_know [] r target name e = e
   all_know (x ∷ es) r target name e = all_know es (after r x) target name (after_knows r x target name e)
 
-  turns : (es : List Event) (r : Replayed) → Before r → Knows made (fold after r es).made
-      → (own : List Entry) × ((fold after r es).entries ≡ r.entries ++ own) × AllLead j n capacity made (heap_in r.world j) (λ i. r.world.waiting i j) own
+  turns : (es : List Event) (r : Replayed sli) → Before r → Knows made (fold after r es).made
+      → (own : List Entry) × ((fold after r es).entries ≡ r.entries ++ own) × AllLead sli j n capacity made (heap_in r.world j) (λ i. r.world.waiting i j) own
   turns [] r b known = ([], sym (append-nil r.entries), tt)
   turns (e ∷ es) r b known =
       let first = turn r e b (λ target name q. known target name (all_know (e ∷ es) r target name q)) in
@@ -239,19 +239,19 @@ module _ (made : List (Option Name)) (n j capacity : ℕ) (j_in : j < n) where
       (first.own ++ rest.0, rest.1 ∙ (ap (λ l. l ++ rest.0) first.entries ∙ append_assoc r.entries first.own rest.0), first.lead rest.0 rest.2)
 
 -- the entries of a replay lead from its first world
-replies_lead : (w : World) (es : List Event) (n j : ℕ) → j < n → length w.heaps ≡ n → IsLawful (heap_in w j) → AreShort j w
-    → AllLead j n w.capacity (replies w es).made (heap_in w j) (λ i. w.waiting i j) (replies w es).entries
+replies_lead : {sli : ℕ} (level : IsLevel sli) (w : World sli) (es : List Event) (n j : ℕ) → j < n → length w.heaps ≡ n → IsLawful (heap_in w j) → AreShort j w
+    → AllLead sli j n w.capacity (replies w es).made (heap_in w j) (λ i. w.waiting i j) (replies w es).entries
 unfolding replies
-replies_lead w es n j j_in count lawful short =
+replies_lead {sli} level w es n j j_in count lawful short =
     let z = fold after (begun w) es in
-    let t = turns z.made n j w.capacity j_in es (begun w) (record { count = count; lawful = lawful; room = refl; short = short }) (λ target name e. e) in
-    subst (AllLead j n w.capacity z.made (heap_in w j) (λ i. w.waiting i j)) (sym t.1) t.2
+    let t = turns sli level z.made n j w.capacity j_in es (begun w) (record { count = count; lawful = lawful; room = refl; short = short }) (λ target name e. e) in
+    subst (AllLead sli j n w.capacity z.made (heap_in w j) (λ i. w.waiting i j)) (sym t.1) t.2
 
-pub shared_serves : SharedPoolServes
-shared_serves w es j words first most len is short region class enough fresh sparing = on (length w.heaps) refl
+pub shared_serves : (sli : ℕ) → IsLevel sli → SharedPoolServes sli
+shared_serves sli level w es j words first most len is short region class enough fresh sparing = on (length w.heaps) refl
   where
     new : InPool words (want len + 3) (heap_in w j)
-    new = subst (InPool words (want len + 3)) (sym is.new) (opens 4 j words first (want len + 3) region)
+    new = subst (InPool words (want len + 3)) (sym is.new) (opens sli j words first (want len + 3) region)
 
     nothing : (size : ℕ) → ◌≡◌ {A = Option ℕ} None (Some size) → ⊥
     nothing size e = cc
@@ -261,7 +261,7 @@ shared_serves w es j words first most len is short region class enough fresh spa
     on (suc m) count =
         let tick : (heap_in w j).tick ≡ first + 1 = ap (λ (h : HeapState). h.tick) is.new in
         let few : length w.heaps - 1 ≡ m = omega (arith, count) in
-        let large : pool_words 4 (most + m * w.capacity) len ≤ words = subst (λ (k : ℕ). pool_words 4 (most + k * w.capacity) len ≤ words) few enough in
-        all_served words most len class w.capacity j m (omega (arith, is.within, count)) large (replies w es).made (replies w es).entries (heap_in w j) [] [] (λ i. w.waiting i j)
+        let large : pool_words sli (most + m * w.capacity) len ≤ words = subst (λ (k : ℕ). pool_words sli (most + k * w.capacity) len ≤ words) few enough in
+        all_served sli level words most len class w.capacity j m (omega (arith, is.within, count)) large (replies w es).made (replies w es).entries (heap_in w j) [] [] (λ i. w.waiting i j)
         (record { pool = new; agrees = subst (λ (h : HeapState). Agrees h []) (sym is.new) (new_agrees j words first); covers = λ name size found. absurd (nothing size found) })
-        short (replies_lead w es (suc m) j (omega (arith, is.within, count)) count new.lawful short) sparing (omega (arith, tick, fresh))
+        short (replies_lead level w es (suc m) j (omega (arith, is.within, count)) count new.lawful short) sparing (omega (arith, tick, fresh))

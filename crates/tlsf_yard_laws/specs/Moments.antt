@@ -1,7 +1,8 @@
 -- How large the heap of a worker must be in a race, by what the programs hold at its requests and by how much its lanes hold.
-use Rattle.std.specs.Prelude.{◌≡◌, ◌≢◌, ℕ, zero, suc, ◌+◌, ◌<◌, ◌≤◌, ◌^◌, ◌==◌, List, [], ◌++◌, Option, Some, fold, length, if◌then◌else◌}
+use Rattle.std.specs.Prelude.{◌≡◌, ◌≢◌, ℕ, zero, suc, ◌+◌, ◌<◌, ◌≤◌, ◌==◌, List, [], ◌++◌, Option, Some, fold, length, if◌then◌else◌}
 use Rattle.std.specs.List.{AllByRecursion}
 use mathlib.Core.List.{IsPrefix}
+use Rattle.tlsf_class.specs.Classes.{most_words}
 use Rattle.tlsf_heap.specs.Blocks.{want}
 use Rattle.tlsf_heap.specs.Lawful.{IsRegion}
 use Rattle.tlsf_heap.specs.Calls as heap
@@ -21,7 +22,7 @@ use Rattle.tlsf_yard_laws.specs.Sharing.{most_under_way, without_post}
 
 -- how far the others had come when worker j had been told the entries `before`: any part of their records that fits, and no lane
 -- holds more than its capacity
-pub record Moment (w : World) (made : ℕ → List (Option Name)) (records : List (List Entry)) (j : ℕ) (before : List Entry) : Type 0 where
+pub record Moment {sli : ℕ} (w : World sli) (made : ℕ → List (Option Name)) (records : List (List Entry)) (j : ℕ) (before : List Entry) : Type 0 where
   pub told : ℕ → List Entry
   -- the posts that are under way to j, from each worker
   pub under_way : ℕ → List Post
@@ -31,7 +32,7 @@ pub record Moment (w : World) (made : ℕ → List (Option Name)) (records : Lis
   pub short : (i : ℕ) → i < length w.heaps → i ≢ j → length (under_way i) ≤ w.capacity
 
 -- one order of the entries of all records, in which each post is taken after it was made and no lane ever holds more than its capacity
-pub record IsOrder (w : World) (made : ℕ → List (Option Name)) (records : List (List Entry)) (order : List Entry) : Type 0 where
+pub record IsOrder {sli : ℕ} (w : World sli) (made : ℕ → List (Option Name)) (records : List (List Entry)) (order : List Entry) : Type 0 where
   pub each : (i : ℕ) → i < length w.heaps → entries_of i order ≡ record_of records i
   -- what waits in a lane behind some of them
   pub waits : List Entry → ℕ → ℕ → List Post
@@ -40,8 +41,8 @@ pub record IsOrder (w : World) (made : ℕ → List (Option Name)) (records : Li
   pub short : (before : List Entry) (i j : ℕ) → IsPrefix before order → i < length w.heaps → j < length w.heaps → i ≢ j → length (waits before i j) ≤ w.capacity
 
 -- how far each worker has come anywhere in such an order is a moment, with what waits there under way
-abbrev pub OrdersHaveMoments : Type 0
-OrdersHaveMoments = (w : World) (made : ℕ → List (Option Name)) (records : List (List Entry)) (order : List Entry) (is : IsOrder w made records order)
+abbrev pub OrdersHaveMoments : ℕ → Type 0
+OrdersHaveMoments sli = (w : World sli) (made : ℕ → List (Option Name)) (records : List (List Entry)) (order : List Entry) (is : IsOrder w made records order)
     → (before : List Entry) → IsPrefix before order → (j : ℕ) → j < length w.heaps
     → (m : Moment w made records j (entries_of j before)) × ((i : ℕ) → m.told i ≡ entries_of i before) × ((i : ℕ) → m.under_way i ≡ is.waits before i j)
 
@@ -56,22 +57,22 @@ unreleased live posts = fold (λ ledger post. without_post ledger (Some post)) l
 
 -- a request of worker j, of n bytes where these blocks of its heap are live, is for at most `len`, and fewer than `most` of them are
 -- held by the programs at some moment that the records admit
-pub record IsSparingNow (w : World) (made : ℕ → List (Option Name)) (records : List (List Entry)) (j most len : ℕ) (before : List Entry) (live : Ledger) (n : ℕ) : Type 0 where
+pub record IsSparingNow {sli : ℕ} (w : World sli) (made : ℕ → List (Option Name)) (records : List (List Entry)) (j most len : ℕ) (before : List Entry) (live : Ledger) (n : ℕ) : Type 0 where
   pub short : n ≤ len
   pub moment : Moment w made records j before
   pub few : length (unreleased live (all_under_way j moment.under_way (length w.heaps))) < most
 
 -- so is each request in its record, behind earlier calls on its heap; and it resizes blocks to at most `len` bytes
-abbrev pub AreSparingInRace : (w : World) → (ℕ → List (Option Name)) → List (List Entry) → (j most len : ℕ) → List heap.Call → List heap.Answer → Type 0
+abbrev pub AreSparingInRace : {sli : ℕ} (w : World sli) → (ℕ → List (Option Name)) → List (List Entry) → (j most len : ℕ) → List heap.Call → List heap.Answer → Type 0
 AreSparingInRace w made records j most len calls answers = (before : List Entry) (e : Entry) → StandsBehind (record_of records j) before e
     → ((n : ℕ) → e.call ≡ Allocate n
     → IsSparingNow w made records j most len before (ledger_after_all [] (calls ++ calls_on j (made j) before) (answers ++ answers_on j before)) n)
     × ((target : Target) (n : ℕ) → e.call ≡ Resize target n → n ≤ len)
 
 -- a heap with room for what the programs hold and for what may be under way serves each request of its worker, while the ticks last
-abbrev pub RaceSharedPoolServes : Type 0
-RaceSharedPoolServes = (w v : World) (scripts : List (List Call)) (records : List (List Entry)) (race : IsRace w scripts records v)
+abbrev pub RaceSharedPoolServes : ℕ → Type 0
+RaceSharedPoolServes sli = (w v : World sli) (scripts : List (List Call)) (records : List (List Entry)) (race : IsRace w scripts records v)
     → (j words first most len : ℕ) (calls : List heap.Call) (answers : List heap.Answer) → HasPast w j words first calls answers
-    → IsRegion 4 words → want len ≤ 2 ^ 20 → pool_words 4 (most + most_under_way w) len ≤ words → AreModest (most + most_under_way w) len 0 calls answers
+    → IsRegion sli words → want len ≤ most_words sli → pool_words sli (most + most_under_way w) len ≤ words → AreModest (most + most_under_way w) len 0 calls answers
     → let now = calls ++ calls_on j (race.made j) (record_of records j) in let told = answers ++ answers_on j (record_of records j) in
     AreSparingInRace w race.made records j most len calls answers → first + length now < heap.last_tick → AllByRecursion IsServed told

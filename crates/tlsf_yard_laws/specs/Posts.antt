@@ -26,12 +26,12 @@ GiveBackOnce made records = (i k : ℕ) (b c : List Entry) (e f : Entry) (name :
     → GivesBack (made i) e name → GivesBack (made k) f name → (i ≡ k) × (b ≡ c)
 
 -- each name that is posted was live before the race
-abbrev pub PostWhatWasLive : World → (ℕ → List (Option Name)) → List (List Entry) → Type 0
+abbrev pub PostWhatWasLive : {sli : ℕ} → World sli → (ℕ → List (Option Name)) → List (List Entry) → Type 0
 PostWhatWasLive w made records = (i : ℕ) (b : List Entry) (e : Entry) (name : Name) → StandsBehind (record_of records i) b e → GivesBack (made i) e name → e.reply ≡ Posted
     → IsLive (heap_in w name.heap) name
 
 -- where nothing waits before such a race, no post that is taken is stale
-abbrev pub NoPostIsStale : Type 0
-NoPostIsStale = (w v : World) (scripts : List (List Call)) (records : List (List Entry)) (race : IsRace w scripts records v) → AreLawful w → ((i j : ℕ) → w.waiting i j ≡ [])
+abbrev pub NoPostIsStale : ℕ → Type 0
+NoPostIsStale sli = (w v : World sli) (scripts : List (List Call)) (records : List (List Entry)) (race : IsRace w scripts records v) → AreLawful w → ((i j : ℕ) → w.waiting i j ≡ [])
     → PostWhatWasLive w race.made records → GiveBackOnce race.made records
     → (j : ℕ) (b : List Entry) (from : ℕ) (t : Took) → j < length w.heaps → StandsBehind (record_of records j) b (record { worker = j; call = Take from; reply = Taken t }) → t.answer ≢ Err Stale

@@ -1,6 +1,7 @@
 -- How large the heap of a worker must be, by what the programs hold and by how much its lanes hold.
-use Rattle.std.specs.Prelude.{◌≡◌, ℕ, ◌+◌, ◌*◌, ◌-◌, ◌<◌, ◌≤◌, ◌^◌, List, [], ◌∷◌, Option, Some, None, length, filter, not, ◌==◌, if◌then◌else◌, ⊤}
+use Rattle.std.specs.Prelude.{◌≡◌, ℕ, ◌+◌, ◌*◌, ◌-◌, ◌<◌, ◌≤◌, List, [], ◌∷◌, Option, Some, None, length, filter, not, ◌==◌, if◌then◌else◌, ⊤}
 use Rattle.std.specs.List.{AllByRecursion}
+use Rattle.tlsf_class.specs.Classes.{most_words}
 use Rattle.tlsf_heap.specs.Blocks.{want}
 use Rattle.tlsf_heap.specs.Lawful.{IsRegion}
 use Rattle.tlsf_heap.specs.Calls as heap
@@ -47,11 +48,11 @@ AreSparing j most len made ledger [] = ⊤
 AreSparing j most len made ledger (e ∷ es) = IsSparing j most len ledger e × AreSparing j most len made (unreleased_after j made ledger e) es
 
 -- the posts that may be under way to one worker: all that the lanes from each other worker hold
-abbrev pub most_under_way : World → ℕ
+abbrev pub most_under_way : {sli : ℕ} → World sli → ℕ
 most_under_way w = (length w.heaps - 1) * w.capacity
 
 -- a heap with room for what the programs hold and for what may be under way serves each request of its worker, while the ticks last
-abbrev pub SharedPoolServes : Type 0
-SharedPoolServes = (w : World) (es : List Event) (j words first most len : ℕ) → IsNew w j words first → ((i : ℕ) → length (w.waiting i j) ≤ w.capacity)
-    → IsRegion 4 words → want len ≤ 2 ^ 20 → pool_words 4 (most + most_under_way w) len ≤ words
+abbrev pub SharedPoolServes : ℕ → Type 0
+SharedPoolServes sli = (w : World sli) (es : List Event) (j words first most len : ℕ) → IsNew w j words first → ((i : ℕ) → length (w.waiting i j) ≤ w.capacity)
+    → IsRegion sli words → want len ≤ most_words sli → pool_words sli (most + most_under_way w) len ≤ words
     → let r = replies w es in first + length r.entries < heap.last_tick → AreSparing j most len r.made [] r.entries → AllByRecursion IsServed (answers_on j r.entries)

@@ -1,3 +1,4 @@
+ghost use Rattle.std.specs.Prelude.{ℕ};
 ghost use Rattle.tlsf_yard_laws.specs.Posts.{NoPostIsStale};
 
 /// Programs that give each block back once never see a stale post, whatever the schedule of the threads.
@@ -10,5 +11,5 @@ ghost use Rattle.tlsf_yard_laws.specs.Posts.{NoPostIsStale};
 /// worker 0: Take(1): Took(x, Ok), before or behind any calls of its own
 /// ```
 pub fn no_post_is_stale()
-    ensures { NoPostIsStale }
+    ensures { (sli : ℕ) → NoPostIsStale sli }
 {}

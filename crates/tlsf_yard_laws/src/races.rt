@@ -1,3 +1,5 @@
+ghost use Rattle.std.specs.Prelude.{ℕ};
+ghost use Rattle.tlsf_class.specs.Classes.{IsLevel};
 ghost use Rattle.tlsf_yard_laws.specs.Races.{NewHasNoPast, RaceAddsToPast, RaceHoldsWhatIsLive, RaceKeepsBytes, RacePoolServes, RacePoolSuffices, ReplayAddsToPast};
 
 /// The past of a heap is one list of calls, through replays and races: what its own worker was told since it was new.
@@ -9,9 +11,9 @@ ghost use Rattle.tlsf_yard_laws.specs.Races.{NewHasNoPast, RaceAddsToPast, RaceH
 /// race:    0 Take(1): Took(x, Ok)           the past of heap 0: Allocate(8), Release(x)
 /// ```
 pub fn past_goes_on()
-    ensures new { NewHasNoPast }
-    ensures replay { ReplayAddsToPast }
-    ensures race { RaceAddsToPast }
+    ensures new { (sli : ℕ) → NewHasNoPast sli }
+    ensures replay { (sli : ℕ) → ReplayAddsToPast sli }
+    ensures race { (sli : ℕ) → RaceAddsToPast sli }
 {}
 
 /// How large the heap of a worker must be, so that none of its requests in a race is ever refused for want of room, whatever
@@ -26,11 +28,11 @@ pub fn past_goes_on()
 /// worker 1: releases blocks of worker 0 as it learns their names; none of worker 0's requests is answered NoFit
 /// ```
 pub fn race_never_refuses()
-    ensures room { RacePoolSuffices }
-    ensures served { RacePoolServes }
+    ensures room { (sli : ℕ) → IsLevel sli → RacePoolSuffices sli }
+    ensures served { (sli : ℕ) → IsLevel sli → RacePoolServes sli }
 
     // As many blocks are live after the race as the worker was told to be held.
-    ensures held { RaceHoldsWhatIsLive }
+    ensures held { (sli : ℕ) → RaceHoldsWhatIsLive sli }
 {}
 
 /// A worker's blocks keep their bytes in a race, whatever the threads of the others do.
@@ -41,5 +43,5 @@ pub fn race_never_refuses()
 /// worker 0 has 07 in x, worker 1 releases x: x still has 07 for worker 0, until it takes that post
 /// ```
 pub fn race_keeps_bytes()
-    ensures { RaceKeepsBytes }
+    ensures { (sli : ℕ) → IsLevel sli → RaceKeepsBytes sli }
 {}

@@ -1,3 +1,5 @@
+ghost use Rattle.std.specs.Prelude.{ℕ};
+ghost use Rattle.tlsf_class.specs.Classes.{IsLevel};
 ghost use Rattle.tlsf_yard_laws.specs.Moments.{OrdersHaveMoments, RaceSharedPoolServes};
 ghost use Rattle.tlsf_yard_laws.specs.Sharing.{SharedPoolServes};
 
@@ -15,7 +17,7 @@ ghost use Rattle.tlsf_yard_laws.specs.Sharing.{SharedPoolServes};
 /// the words of a pool of 108 blocks, 14,727
 /// ```
 pub fn lanes_add_their_capacity()
-    ensures { SharedPoolServes }
+    ensures { (sli : ℕ) → IsLevel sli → SharedPoolServes sli }
 {}
 
 /// The same in a race, at the moments of its owner's requests.
@@ -35,9 +37,9 @@ pub fn lanes_add_their_capacity()
 /// at worker 0's second request x is held where worker 1 has told nothing yet, and under way where it has told its release
 /// ```
 pub fn race_adds_its_lanes()
-    ensures served { RaceSharedPoolServes }
+    ensures served { (sli : ℕ) → IsLevel sli → RaceSharedPoolServes sli }
 
     // In any one order of all calls in which each post is taken after it was made and no lane is ever overfull, there is a moment
     // before each request: what waits is under way.
-    ensures moments { OrdersHaveMoments }
+    ensures moments { (sli : ℕ) → OrdersHaveMoments sli }
 {}

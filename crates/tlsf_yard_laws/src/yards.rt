@@ -1,3 +1,5 @@
+ghost use Rattle.std.specs.Prelude.{ℕ};
+ghost use Rattle.tlsf_class.specs.Classes.{IsLevel};
 ghost use Rattle.tlsf_yard_laws.specs.Yards.{YardHoldsWhatIsLive, YardKeepsBytes, YardPoolServes, YardPoolSuffices};
 
 /// How large the heap of a worker must be, so that none of its requests is ever refused for want of room.
@@ -12,9 +14,9 @@ ghost use Rattle.tlsf_yard_laws.specs.Yards.{YardHoldsWhatIsLive, YardKeepsBytes
 /// worker 0 drains: none held
 /// ```
 pub fn yard_never_refuses()
-    ensures room { YardPoolSuffices }
-    ensures served { YardPoolServes }
-    ensures held { YardHoldsWhatIsLive }
+    ensures room { (sli : ℕ) → IsLevel sli → YardPoolSuffices sli }
+    ensures served { (sli : ℕ) → IsLevel sli → YardPoolServes sli }
+    ensures held { (sli : ℕ) → YardHoldsWhatIsLive sli }
 {}
 
 /// A worker's blocks keep their bytes, whatever the other workers do.
@@ -27,5 +29,5 @@ pub fn yard_never_refuses()
 /// worker 0 drains: x has no bytes any more
 /// ```
 pub fn yard_keeps_bytes()
-    ensures { YardKeepsBytes }
+    ensures { (sli : ℕ) → IsLevel sli → YardKeepsBytes sli }
 {}

@@ -8,6 +8,8 @@ pub mod AloneRuns
 pub mod LastDrains
 -- Two races of the same scripts, which take no post, are the same.
 pub mod OneRace
+-- A list that was taken from its end, and stands in another in the reverse order.
+pub mod Popped
 -- A record tells the calls of its script and the history of its worker's heap.
 pub mod RecordHistory
 -- The room that the records of a race have when they come back is that which was made for what waited and for the scripts.

@@ -16,34 +16,34 @@ put_answer name (Ok done) = Ok done
 put_answer name (Err back) = Err (Full name)
 
 -- the name was put into the queue of the worker of its heap
-pub record PostedInQueue (a v : QueueWorker) (name : Name) (answer : Result (Unit {0}) CrewRefusal) : Type 0 where
+pub record PostedInQueue {sli : ℕ} (a v : QueueWorker sli) (name : Name) (answer : Result (Unit {0}) CrewRefusal) : Type 0 where
   pub put : Result (Unit {0}) Name
   pub queue : PutToQueue a v name.heap name put
   pub answer_is : answer ≡ put_answer name put
 
 -- after a take the post's block is released on the own heap
-abbrev pub AfterQueueTake : QueueWorker → QueueWorker → Option Post → Option Took → Type 0
+abbrev pub AfterQueueTake : {sli : ℕ} → QueueWorker sli → QueueWorker sli → Option Post → Option Took → Type 0
 AfterQueueTake a v None answer = (answer ≡ None) × (v ≡ a)
 AfterQueueTake a v (Some post) answer =
     (answer ≡ Some (record { from = post.from; name = post.name; answer = (released (queue_heap a) post.name).answer }))
     × (queue_heap v ≡ (released (queue_heap a) post.name).heap) × SameButQueueHeap a v
 
 -- the own queue was asked for its next post
-pub record TakenFromQueue (a v : QueueWorker) (answer : Option Took) : Type 0 where
-  pub between : QueueWorker
+pub record TakenFromQueue {sli : ℕ} (a v : QueueWorker sli) (answer : Option Took) : Type 0 where
+  pub between : QueueWorker sli
   pub post : Option Post
   pub queue : TookFromQueue a between post
   pub then : AfterQueueTake between v post answer
 
 -- worker a becomes worker v by takes, which answered these one after another
-abbrev pub QueueTakesInTurn : QueueWorker → QueueWorker → List Took → Type 0
-QueueTakesInTurn a v [] = v ≡ a
-QueueTakesInTurn a v (took ∷ tooks) = (b : QueueWorker) × TakenFromQueue a b (Some took) × QueueTakesInTurn b v tooks
+abbrev pub QueueTakesInTurn : {sli : ℕ} → QueueWorker sli → QueueWorker sli → List Took → Type 0
+QueueTakesInTurn {sli} a v [] = v ≡ a
+QueueTakesInTurn {sli} a v (took ∷ tooks) = (b : QueueWorker sli) × TakenFromQueue a b (Some took) × QueueTakesInTurn b v tooks
 
 -- a drain of the own queue: it ends where `most` posts were taken, or with a take that shows no post
-pub record DrainedQueue (a v : QueueWorker) (most : ℕ) (answer : Drained) : Type 0 where
+pub record DrainedQueue {sli : ℕ} (a v : QueueWorker sli) (most : ℕ) (answer : Drained) : Type 0 where
   pub tooks : List Took
-  pub last : QueueWorker
+  pub last : QueueWorker sli
   pub takes : QueueTakesInTurn a last tooks
   pub end : ((length tooks ≡ most) × (v ≡ last)) ⊎ ((length tooks < most) × TakenFromQueue last v None)
   pub heap : queue_heap v ≡ heap_after (queue_heap a) tooks

@@ -27,15 +27,15 @@ entry_by at call reply = record { worker = at; call = call; reply = reply }
 -- ---- a call on a heap
 
 -- a heap answers the call so and becomes the other, whoever its worker is
-abbrev pub TellsOwn : List (Option Name) → HeapState → Call → HeapState → Reply → Type 0
-TellsOwn made h call g reply =
+abbrev pub TellsOwn : ℕ → List (Option Name) → HeapState → Call → HeapState → Reply → Type 0
+TellsOwn sli made h call g reply =
     (n at : ℕ) (entries : List Entry) → at < n
-    → MayTell n at (told_of made entries h) call (told_of (made ++ made_by reply ∷ []) (entries ++ entry_by at call reply ∷ []) g)
+    → MayTell sli n at (told_of made entries h) call (told_of (made ++ made_by reply ∷ []) (entries ++ entry_by at call reply ∷ []) g)
 
 -- ---- what entries tell of the ends
 
 -- worker a, of number `at`, has become v by these calls, as the entries tell. It might take so many posts, and may take what is left
-pub record QueueMoved (at : ℕ) (made : List (Option Name)) (a : QueueWorker) (limit : ℕ) (calls : List Call) (entries : List Entry) (v : QueueWorker) (left : ℕ) : Type 0 where
+pub record QueueMoved {sli : ℕ} (at : ℕ) (made : List (Option Name)) (a : QueueWorker sli) (limit : ℕ) (calls : List Call) (entries : List Entry) (v : QueueWorker sli) (left : ℕ) : Type 0 where
   pub yard : KeepsQueueYards a v
   -- each end put the posts that the entries tell
   pub sent : (j : ℕ) (p q : PosterEnd) → queue_end_to a j ≡ Some p → queue_end_to v j ≡ Some q → put_by q ≡ put_by p ++ posts_made at j made entries
@@ -47,26 +47,26 @@ pub record QueueMoved (at : ℕ) (made : List (Option Name)) (a : QueueWorker) (
   pub room : length entries + left ≤ length calls + limit
 
 -- the call was answered so; the entries got longer by those of a drain's takes, and have not its own yet
-pub record QueueStepped (n : ℕ) (a : QueueWorker) (limit : ℕ) (call : Call) (made : List (Option Name)) (entries : List Entry) (v : QueueWorker) (left : ℕ) (longer : List Entry) (reply : Reply) : Type 0 where
+pub record QueueStepped {sli : ℕ} (n : ℕ) (a : QueueWorker sli) (limit : ℕ) (call : Call) (made : List (Option Name)) (entries : List Entry) (v : QueueWorker sli) (left : ℕ) (longer : List Entry) (reply : Reply) : Type 0 where
   pub own : List Entry
   pub entries_are : longer ≡ entries ++ own
-  pub told : MayTellQueue n (queue_id a) (told_of made entries (queue_heap a)) call
+  pub told : MayTellQueue sli n (queue_id a) (told_of made entries (queue_heap a)) call
       (told_of (made ++ made_by reply ∷ []) (longer ++ entry_by (queue_id a) call reply ∷ []) (queue_heap v))
   pub moved : (rest : List (Option Name)) → QueueMoved (queue_id a) (made ++ rest) a limit (call ∷ []) (own ++ entry_by (queue_id a) call reply ∷ []) v left
 
 -- the call was made, and told in full
-pub record QueueCalled (n : ℕ) (a : QueueWorker) (limit : ℕ) (call : Call) (made : List (Option Name)) (entries : List Entry) (v : QueueWorker) (left : ℕ) (more : List (Option Name)) (longer : List Entry) : Type 0 where
+pub record QueueCalled {sli : ℕ} (n : ℕ) (a : QueueWorker sli) (limit : ℕ) (call : Call) (made : List (Option Name)) (entries : List Entry) (v : QueueWorker sli) (left : ℕ) (more : List (Option Name)) (longer : List Entry) : Type 0 where
   pub name : Option Name
   pub made_are : more ≡ made ++ name ∷ []
   pub own : List Entry
   pub entries_are : longer ≡ entries ++ own
-  pub told : MayTellQueue n (queue_id a) (told_of made entries (queue_heap a)) call (told_of more longer (queue_heap v))
+  pub told : MayTellQueue sli n (queue_id a) (told_of made entries (queue_heap a)) call (told_of more longer (queue_heap v))
   pub moved : (rest : List (Option Name)) → QueueMoved (queue_id a) (made ++ rest) a limit (call ∷ []) own v left
 
 -- ---- a script
 
 -- a worker has made these calls of its script
-pub record QueueScriptRun (n : ℕ) (a : QueueWorker) (limit : ℕ) (calls : List Call) (made : List (Option Name)) (entries : List Entry) (v : QueueWorker) (left : ℕ) : Type 0 where
-  pub told : MayTellQueueAll n (queue_id a) (untold (queue_heap a)) calls (told_of made entries (queue_heap v))
+pub record QueueScriptRun {sli : ℕ} (n : ℕ) (a : QueueWorker sli) (limit : ℕ) (calls : List Call) (made : List (Option Name)) (entries : List Entry) (v : QueueWorker sli) (left : ℕ) : Type 0 where
+  pub told : MayTellQueueAll sli n (queue_id a) (untold (queue_heap a)) calls (told_of made entries (queue_heap v))
   pub names : length made ≡ length calls
   pub moved : (rest : List (Option Name)) → QueueMoved (queue_id a) (made ++ rest) a limit calls entries v left

@@ -11,15 +11,15 @@ use Rattle.tlsf_crew.specs.queues.QueueWorkers.{queue_id}
 use Rattle.tlsf_crew.specs.queues.QueueCalls.{TakenFromQueue}
 
 -- worker a becomes v by takes, which answered these one after another, and notes x become y
-abbrev pub QueueNotedInTurn : {N : Type 0} → (N → ℕ → Took → N → Type 0) → QueueWorker → QueueWorker → N → N → List Took → Type 0
-QueueNotedInTurn noted a v x y [] = (v ≡ a) × (y ≡ x)
-QueueNotedInTurn {N} noted a v x y (took ∷ tooks) =
-    (b : QueueWorker) × (z : N) × TakenFromQueue a b (Some took) × noted x (queue_id b) took z × QueueNotedInTurn noted b v z y tooks
+abbrev pub QueueNotedInTurn : {sli : ℕ} {N : Type 0} → (N → ℕ → Took → N → Type 0) → QueueWorker sli → QueueWorker sli → N → N → List Took → Type 0
+QueueNotedInTurn {sli} noted a v x y [] = (v ≡ a) × (y ≡ x)
+QueueNotedInTurn {sli} {N} noted a v x y (took ∷ tooks) =
+    (b : QueueWorker sli) × (z : N) × TakenFromQueue a b (Some took) × noted x (queue_id b) took z × QueueNotedInTurn noted b v z y tooks
 
 -- a drain ends where `most` posts were taken, or with a take that shows no post
-pub record QueueNoted {N : Type 0} (noted : N → ℕ → Took → N → Type 0) (a v : QueueWorker) (x y : N) (most : ℕ) (answer : Drained) : Type 0 where
+pub record QueueNoted {sli : ℕ} {N : Type 0} (noted : N → ℕ → Took → N → Type 0) (a v : QueueWorker sli) (x y : N) (most : ℕ) (answer : Drained) : Type 0 where
   pub tooks : List Took
-  pub last : QueueWorker
+  pub last : QueueWorker sli
   pub takes : QueueNotedInTurn noted a last x y tooks
   pub end : ((length tooks ≡ most) × (v ≡ last)) ⊎ ((length tooks < most) × TakenFromQueue last v None)
   pub count : IsCountOf answer tooks

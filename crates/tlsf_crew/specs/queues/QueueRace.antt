@@ -15,8 +15,8 @@ use Rattle.tlsf_crew.specs.threads.Race.{last_call, record_of, script_of}
 use Rattle.tlsf_crew.specs.queues.QueueTold.{MayTellQueueAll}
 
 -- the worker made the calls of its script and then the last one, and was told so
-abbrev pub IsLegalQueue : ℕ → ℕ → HeapState → List Call → Told → Type 0
-IsLegalQueue n at start calls end = MayTellQueueAll n at (untold start) (calls ++ last_call ∷ []) end
+abbrev pub IsLegalQueue : ℕ → ℕ → ℕ → HeapState → List Call → Told → Type 0
+IsLegalQueue sli n at start calls end = MayTellQueueAll sli n at (untold start) (calls ++ last_call ∷ []) end
 
 -- the record of worker i and that of worker j fit together, where these posts of i waited for j
 pub record AgreeQueue (i j : ℕ) (waited : List Post) (made : List (Option Name)) (sender taker : List Entry) : Type 0 where
@@ -28,13 +28,13 @@ pub record AgreeQueue (i j : ℕ) (waited : List Post) (made : List (Option Name
       → IsPrefix waited (posts_taken i j before)
 
 -- from a world the workers ran these scripts at once over queues, were told these records, and left the other world
-pub record IsQueueRace (w : World) (scripts : List (List Call)) (told : List (List Entry)) (v : World) : Type 0 where
+pub record IsQueueRace {sli : ℕ} (w : World sli) (scripts : List (List Call)) (told : List (List Entry)) (v : World sli) : Type 0 where
   -- the names that the calls of each worker made
   pub made : ℕ → List (Option Name)
   pub heaps : length v.heaps ≡ length w.heaps
   pub records : length told ≡ length w.heaps
   pub capacity : v.capacity ≡ w.capacity
-  pub legal : (j : ℕ) → j < length w.heaps → IsLegalQueue (length w.heaps) j (heap_in w j) (script_of scripts j)
+  pub legal : (j : ℕ) → j < length w.heaps → IsLegalQueue sli (length w.heaps) j (heap_in w j) (script_of scripts j)
       (record { made = made j; entries = record_of told j; heap = heap_in v j })
   pub agree : (i j : ℕ) → i < length w.heaps → j < length w.heaps → i ≢ j
       → AgreeQueue i j (w.waiting i j) (made i) (record_of told i) (record_of told j)

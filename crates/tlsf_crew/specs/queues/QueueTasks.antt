@@ -20,11 +20,11 @@ use Rattle.tlsf_crew.specs.queues.QueueSettle.{QueuesSettled}
 -- ---- one worker
 
 -- the worker is one of some yard
-abbrev pub KnowsSomeYard : QueueWorker → Type 0
+abbrev pub KnowsSomeYard : {sli : ℕ} → QueueWorker sli → Type 0
 KnowsSomeYard a = (n : ℕ) × KnowsQueueYard n a
 
 -- a task is ready to run: nothing is recorded, and there is room for an entry of each call, for one of each post that may be taken, and for one more
-pub record IsQueueReady (task : QueueTask) : Type 0 where
+pub record IsQueueReady {sli : ℕ} (task : QueueTask sli) : Type 0 where
   pub yard : KnowsSomeYard task.worker
   pub fresh : (task.made.items ≡ []) × (task.entries.items ≡ [])
   pub short : vec_len task.script < 2 ^ 32
@@ -32,7 +32,7 @@ pub record IsQueueReady (task : QueueTask) : Type 0 where
   pub room : vec_len task.script + task.limit + 1 ≤ vec_capacity task.entries
 
 -- worker a of n has made the calls of a script, and has become v
-pub record QueueRan (n : ℕ) (a : QueueWorker) (script : List Call) (made : List (Option Name)) (entries : List Entry) (v : QueueWorker) : Type 0 where
+pub record QueueRan {sli : ℕ} (n : ℕ) (a : QueueWorker sli) (script : List Call) (made : List (Option Name)) (entries : List Entry) (v : QueueWorker sli) : Type 0 where
   pub limit : ℕ
   pub left : ℕ
   pub run : QueueScriptRun n a limit script made entries v left
@@ -42,27 +42,27 @@ abbrev pub HasPlace : Vec Entry Global → Type 0
 HasPlace entries = vec_len entries < vec_capacity entries
 
 -- what a thread that was given this task hands back
-pub record IsQueueDone (task : QueueTask) (d : QueueDone) : Type 0 where
+pub record IsQueueDone {sli : ℕ} (task : QueueTask sli) (d : QueueDone sli) : Type 0 where
   pub ran : (n : ℕ) → KnowsQueueYard n task.worker → QueueRan n task.worker task.script.items d.made.items d.entries.items d.worker
   pub place : HasPlace d.entries
 
 -- ---- all workers
 
 -- the workers ws ran the scripts and became the workers vs
-pub record HaveQueuesRun (ws : List QueueWorker) (scripts : List (List Call)) (records : List (List Entry)) (vs : List QueueWorker) : Type 0 where
+pub record HaveQueuesRun {sli : ℕ} (ws : List (QueueWorker sli)) (scripts : List (List Call)) (records : List (List Entry)) (vs : List (QueueWorker sli)) : Type 0 where
   pub made : ℕ → List (Option Name)
   pub worker_count : length vs ≡ length ws
   pub record_count : length records ≡ length ws
-  pub ran : (j : ℕ) (a : QueueWorker) → slice_get ws j ≡ Some a
-      → (v : QueueWorker) × (slice_get vs j ≡ Some v) × ((n : ℕ) → KnowsQueueYard n a → QueueRan n a (script_of scripts j) (made j) (record_of records j) v)
+  pub ran : (j : ℕ) (a : QueueWorker sli) → slice_get ws j ≡ Some a
+      → (v : QueueWorker sli) × (slice_get vs j ≡ Some v) × ((n : ℕ) → KnowsQueueYard n a → QueueRan n a (script_of scripts j) (made j) (record_of records j) v)
 
 -- ---- the last drains
 
 -- worker a has taken all that was known to have been put, and has become v
-pub record DrainedLast (n : ℕ) (a v : QueueWorker) (before after : List Entry) : Type 0 where
+pub record DrainedLast {sli : ℕ} (n : ℕ) (a v : QueueWorker sli) (before after : List Entry) : Type 0 where
   pub own : List Entry
   pub entries_are : after ≡ before ++ own
-  pub told : (made : List (Option Name)) → MayTellQueue n (queue_id a) (told_of made before (queue_heap a)) last_call (told_of (made ++ None ∷ []) after (queue_heap v))
+  pub told : (made : List (Option Name)) → MayTellQueue sli n (queue_id a) (told_of made before (queue_heap a)) last_call (told_of (made ++ None ∷ []) after (queue_heap v))
   pub limit : ℕ
   pub left : ℕ
   pub moved : (made : List (Option Name)) → QueueMoved (queue_id a) made a limit (last_call ∷ []) own v left
@@ -70,17 +70,17 @@ pub record DrainedLast (n : ℕ) (a v : QueueWorker) (before after : List Entry)
   pub ends : queue_end_to v ≡ queue_end_to a
 
 -- so has each worker below k; the others are as they were
-pub record QueuesDrained (ws : List QueueWorker) (rs ss : List (List Entry)) (vs : List QueueWorker) (k : ℕ) : Type 0 where
+pub record QueuesDrained {sli : ℕ} (ws : List (QueueWorker sli)) (rs ss : List (List Entry)) (vs : List (QueueWorker sli)) (k : ℕ) : Type 0 where
   pub worker_count : length vs ≡ length ws
   pub record_count : length ss ≡ length rs
-  pub drained : (j : ℕ) (a : QueueWorker) → j < k → slice_get ws j ≡ Some a
-      → (v : QueueWorker) × (slice_get vs j ≡ Some v) × ((n : ℕ) → KnowsQueueYard n a → DrainedLast n a v (record_of rs j) (record_of ss j))
+  pub drained : (j : ℕ) (a : QueueWorker sli) → j < k → slice_get ws j ≡ Some a
+      → (v : QueueWorker sli) × (slice_get vs j ≡ Some v) × ((n : ℕ) → KnowsQueueYard n a → DrainedLast n a v (record_of rs j) (record_of ss j))
   pub later_workers : (j : ℕ) → k ≤ j → slice_get vs j ≡ slice_get ws j
 
 -- the queues were settled, drained, and settled again
-pub record Finished (ws : List QueueWorker) (rs ss : List (List Entry)) (xs : List QueueWorker) : Type 0 where
-  pub met : List QueueWorker
-  pub emptied : List QueueWorker
+pub record Finished {sli : ℕ} (ws : List (QueueWorker sli)) (rs ss : List (List Entry)) (xs : List (QueueWorker sli)) : Type 0 where
+  pub met : List (QueueWorker sli)
+  pub emptied : List (QueueWorker sli)
   pub first : QueuesSettled ws (length ws) met
   pub drained : QueuesDrained met rs ss emptied (length met)
   pub last : QueuesSettled emptied (length emptied) xs

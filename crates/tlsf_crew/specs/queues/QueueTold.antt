@@ -43,14 +43,14 @@ told_reply at s call reply = record {
 
 -- one call more over queues of n workers. A take is refused, since a queue has no single poster; a drain takes some posts of
 -- others, in whatever order they come; all else is answered as over lanes
-abbrev pub MayTellQueue : ℕ → ℕ → Told → Call → Told → Type 0
-MayTellQueue n at s (Take from) t = t ≡ told_reply at s (Take from) (Refused Stranger)
-MayTellQueue n at s (Drain most) t =
+abbrev pub MayTellQueue : ℕ → ℕ → ℕ → Told → Call → Told → Type 0
+MayTellQueue sli n at s (Take from) t = t ≡ told_reply at s (Take from) (Refused Stranger)
+MayTellQueue sli n at s (Drain most) t =
     (posts : List Post) × All (IsOfOther n at) posts × (length posts ≤ most)
     × (t ≡ told_reply at (told_takes at s posts) (Drain most) (Drained (length posts)))
-MayTellQueue n at s call t = MayTell n at s call t
+MayTellQueue sli n at s call t = MayTell sli n at s call t
 
 -- the calls of a script, one after another
-abbrev pub MayTellQueueAll : ℕ → ℕ → Told → List Call → Told → Type 0
-MayTellQueueAll n at s [] t = t ≡ s
-MayTellQueueAll n at s (call ∷ calls) t = (u : Told) × MayTellQueue n at s call u × MayTellQueueAll n at u calls t
+abbrev pub MayTellQueueAll : ℕ → ℕ → ℕ → Told → List Call → Told → Type 0
+MayTellQueueAll sli n at s [] t = t ≡ s
+MayTellQueueAll sli n at s (call ∷ calls) t = (u : Told) × MayTellQueue sli n at s call u × MayTellQueueAll sli n at u calls t

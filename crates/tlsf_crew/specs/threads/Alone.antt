@@ -19,23 +19,23 @@ abbrev pub OnlyLastDrains : List (List Call) → Type 0
 OnlyLastDrains scripts = (j : ℕ) → AllByRecursion TakesNoPost (script_of scripts j)
 
 -- two races of the same scripts from the same world tell the same records and leave the same world
-abbrev pub RaceIsOne : Type 0
-RaceIsOne = (w v u : World) (scripts : List (List Call)) (records others : List (List Entry)) → OnlyLastDrains scripts
+abbrev pub RaceIsOne : ℕ → Type 0
+RaceIsOne sli = (w v u : World sli) (scripts : List (List Call)) (records others : List (List Entry)) → OnlyLastDrains scripts
     → IsRace w scripts records v → IsRace w scripts others u → (records ≡ others) × (v ≡ u)
 
 -- the script of worker j, run as if no other worker did anything
-abbrev pub alone : World → List (List Call) → ℕ → Replayed
+abbrev pub alone : {sli : ℕ} → World sli → List (List Call) → ℕ → Replayed sli
 alone w scripts j = replies w (events_by j (script_of scripts j))
 
 -- where each worker ran so: what each lane holds
-abbrev pub posted_alone : World → List (List Call) → World → World
+abbrev pub posted_alone : {sli : ℕ} → World sli → List (List Call) → World sli → World sli
 posted_alone w scripts x = record { heaps = x.heaps; waiting = λ i k. (alone w scripts i).world.waiting i k; capacity = x.capacity }
 
 -- and then the last drain of worker j
-abbrev pub drained_alone : World → List (List Call) → ℕ → Replayed
+abbrev pub drained_alone : {sli : ℕ} → World sli → List (List Call) → ℕ → Replayed sli
 drained_alone w scripts j = let r = alone w scripts j in called (record { made = r.made; entries = r.entries; world = posted_alone w scripts r.world }) j last_call
 
 -- each worker of a race makes the names, has the entries and leaves the heap that it would alone
-abbrev pub RaceRunsAlone : Type 0
-RaceRunsAlone = (w v : World) (scripts : List (List Call)) (records : List (List Entry)) (race : IsRace w scripts records v) → OnlyLastDrains scripts
+abbrev pub RaceRunsAlone : ℕ → Type 0
+RaceRunsAlone sli = (w v : World sli) (scripts : List (List Call)) (records : List (List Entry)) (race : IsRace w scripts records v) → OnlyLastDrains scripts
     → (j : ℕ) → j < length w.heaps → record { made = race.made j; entries = record_of records j; heap = heap_in v j } ≡ told_by j (drained_alone w scripts j)

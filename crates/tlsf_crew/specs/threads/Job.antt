@@ -21,7 +21,7 @@ use Rattle.tlsf_crew.specs.declared.threads.done.Done.{Done}
 
 -- a job is ready to run: nothing is recorded, and there is room for an entry of each call and for one of each post that may be
 -- taken, which are no fewer than those that are known to be ready
-pub record IsReady (job : Job) : Type 0 where
+pub record IsReady {sli : ℕ} (job : Job sli) : Type 0 where
   pub yard : KnowsYard job.count job.worker
   pub fresh : (job.made.items ≡ []) × (job.entries.items ≡ [])
   pub short : vec_len job.script < 2 ^ 32
@@ -30,21 +30,21 @@ pub record IsReady (job : Job) : Type 0 where
   pub room : vec_len job.script + sum_of job.limits ≤ vec_capacity job.entries
 
 -- the end to j sent the posts that the entries tell
-pub record HasSent (a v : Worker) (j : ℕ) (made : List (Option Name)) (entries : List Entry) (p : PostEnd) : Type 0 where
+pub record HasSent {sli : ℕ} (a v : Worker sli) (j : ℕ) (made : List (Option Name)) (entries : List Entry) (p : PostEnd) : Type 0 where
   pub end : PostEnd
   pub end_is : end_to v j ≡ Some end
   pub sent : posts_sent end ≡ posts_sent p ++ posts_made (id_of a) j made entries
 
 -- the end from i took the posts that the entries tell
-pub record HasTaken (a v : Worker) (i : ℕ) (entries : List Entry) (t : TakeEnd) : Type 0 where
+pub record HasTaken {sli : ℕ} (a v : Worker sli) (i : ℕ) (entries : List Entry) (t : TakeEnd) : Type 0 where
   pub end : TakeEnd
   pub end_is : end_from v i ≡ Some end
   pub waited : waited end ≡ waited t
   pub taken : taken end ≡ taken t ++ posts_taken i (id_of a) entries
 
 -- worker v is a after the calls of a script
-pub record Ran (n : ℕ) (a : Worker) (script : List Call) (made : List (Option Name)) (entries : List Entry) (v : Worker) : Type 0 where
-  pub told : MayTellAll n (id_of a) (untold (heap_of a)) script (record { made = made; entries = entries; heap = heap_of v })
+pub record Ran {sli : ℕ} (n : ℕ) (a : Worker sli) (script : List Call) (made : List (Option Name)) (entries : List Entry) (v : Worker sli) : Type 0 where
+  pub told : MayTellAll sli n (id_of a) (untold (heap_of a)) script (record { made = made; entries = entries; heap = heap_of v })
   pub yard : KeepsYards a v
   pub numbers : id_and_capacity v ≡ id_and_capacity a
   pub sent : (j : ℕ) (p : PostEnd) → end_to a j ≡ Some p → HasSent a v j made entries p
@@ -62,6 +62,6 @@ pub record Ran (n : ℕ) (a : Worker) (script : List Call) (made : List (Option 
   pub few_entries : length entries ≤ length script + sum_below 8 (λ i. length (posts_taken i (id_of a) entries))
 
 -- what a thread that was given this job hands back
-pub record IsDone (job : Job) (d : Done) : Type 0 where
+pub record IsDone {sli : ℕ} (job : Job sli) (d : Done sli) : Type 0 where
   pub ran : Ran job.count job.worker job.script.items d.made.items d.entries.items d.worker
   pub room : vec_capacity d.entries ≡ vec_capacity job.entries

@@ -22,11 +22,11 @@ abbrev pub last_call : Call
 last_call = Drain 8192
 
 -- the worker made the calls of its script and then the last one, and was told so; `scripted` are the entries of its script
-pub record IsLegal (n at : ℕ) (start : HeapState) (calls : List Call) (scripted : List Entry) (end : Told) : Type 0 where
+pub record IsLegal (sli : ℕ) (n at : ℕ) (start : HeapState) (calls : List Call) (scripted : List Entry) (end : Told) : Type 0 where
   pub between : Told
   pub entries : between.entries ≡ scripted
-  pub script : MayTellAll n at (untold start) calls between
-  pub last : MayTell n at between last_call end
+  pub script : MayTellAll sli n at (untold start) calls between
+  pub last : MayTell sli n at between last_call end
 
 -- ---- two records
 
@@ -58,14 +58,14 @@ abbrev pub events_of_race : List (List Call) → ℕ → List Event
 events_of_race scripts j = events_by j (script_of scripts j ++ last_call ∷ [])
 
 -- from a world the workers ran these scripts at once, were told these records, and left the other world
-pub record IsRace (w : World) (scripts : List (List Call)) (told : List (List Entry)) (v : World) : Type 0 where
+pub record IsRace {sli : ℕ} (w : World sli) (scripts : List (List Call)) (told : List (List Entry)) (v : World sli) : Type 0 where
   -- the names that the calls of each worker made, and the entries of its script
   pub made : ℕ → List (Option Name)
   pub scripted : ℕ → List Entry
   pub heaps : length v.heaps ≡ length w.heaps
   pub records : length told ≡ length w.heaps
   pub capacity : v.capacity ≡ w.capacity
-  pub legal : (j : ℕ) → j < length w.heaps → IsLegal (length w.heaps) j (heap_in w j) (script_of scripts j) (scripted j)
+  pub legal : (j : ℕ) → j < length w.heaps → IsLegal sli (length w.heaps) j (heap_in w j) (script_of scripts j) (scripted j)
       (record { made = made j; entries = record_of told j; heap = heap_in v j })
   pub agree : (i j : ℕ) → i < length w.heaps → j < length w.heaps → i ≢ j
       → Agree w.capacity i j (w.waiting i j) (made i) (record_of told i) (scripted j) (record_of told j)

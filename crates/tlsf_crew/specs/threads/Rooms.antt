@@ -10,9 +10,9 @@ use Rattle.tlsf_crew.specs.threads.Race.{script_of}
 
 -- the room for the record of worker j: one entry for each call of its script, one for each post that waits for it, one for each
 -- release of any script, whose post it may take, and one for its last drain
-abbrev pub record_room : World → List (List Call) → ℕ → ℕ
+abbrev pub record_room : {sli : ℕ} → World sli → List (List Call) → ℕ → ℕ
 record_room w scripts j = length (script_of scripts j) + sum_below 8 (λ i. length (w.waiting i j) + releases_of (script_of scripts i)) + 1
 
 -- each record has just that room
-abbrev pub HaveRecordRooms : World → List (List Call) → List (Vec Entry Global) → Type 0
+abbrev pub HaveRecordRooms : {sli : ℕ} → World sli → List (List Call) → List (Vec Entry Global) → Type 0
 HaveRecordRooms w scripts records = (j : ℕ) (r : Vec Entry Global) → slice_get records j ≡ Some r → vec_capacity r ≡ record_room w scripts j

@@ -21,7 +21,7 @@ abbrev pub lanes_sum : ℕ → (ℕ → ℕ → ℕ) → ℕ
 lanes_sum n f = sum_below n (λ j. sum_below n (λ i. f i j))
 
 -- how many posts wait in a world
-unfoldable pub waiting_in : World → ℕ
+unfoldable pub waiting_in : {sli : ℕ} → World sli → ℕ
 waiting_in w = lanes_sum (length w.heaps) (λ i j. length (w.waiting i j))
 
 -- how many posts an end knows to be ready; none where there is no end
@@ -30,14 +30,14 @@ count_of None = 0
 count_of (Some t) = length (ready t)
 
 -- how many are ready for a worker from worker i
-abbrev pub ready_from : Worker → ℕ → ℕ
+abbrev pub ready_from : {sli : ℕ} → Worker sli → ℕ → ℕ
 ready_from w i = count_of (end_from w i)
 
 -- how many are ready for the workers below k, and in a whole yard
-abbrev pub ready_below : List Worker → ℕ → ℕ
+abbrev pub ready_below : {sli : ℕ} → List (Worker sli) → ℕ → ℕ
 ready_below ws k = sum_below k (λ j. sum_below (length ws) (λ i. count_of (take_at ws i j)))
 
-unfoldable pub ready_in : List Worker → ℕ
+unfoldable pub ready_in : {sli : ℕ} → List (Worker sli) → ℕ
 ready_in ws = ready_below ws (length ws)
 
 abbrev pub is_release : Call → Bool
@@ -55,7 +55,7 @@ releases_in es = count_by (λ e. is_release e.call) es
 
 -- the room for the entries of events: one for each event, one for each release among them, whose post a drain may take, and one for
 -- each post that waits
-abbrev pub entry_room : World → List Event → ℕ
+abbrev pub entry_room : {sli : ℕ} → World sli → List Event → ℕ
 entry_room w es = length es + releases_in es + waiting_in w
 
 -- a sum over the workers

@@ -15,18 +15,18 @@ use Rattle.tlsf_calls.specs.declared.crew_refusal.CrewRefusal.TheVariants.{Heap}
 use Rattle.tlsf_crew.specs.yard.World.{World, Replayed, heap_in, name_of, after, begun}
 
 -- heap j has id j
-abbrev pub HasIds : World → Type 0
+abbrev pub HasIds : {sli : ℕ} → World sli → Type 0
 HasIds w = (j : ℕ) → j < length w.heaps → (heap_in w j).id ≡ j
 
-abbrev pub NothingWaits : World → Type 0
+abbrev pub NothingWaits : {sli : ℕ} → World sli → Type 0
 NothingWaits w = (i j : ℕ) → w.waiting i j ≡ []
 
 -- the heap of the name is of the world, and the name is live in it
-abbrev pub IsLiveIn : World → Name → Type 0
+abbrev pub IsLiveIn : {sli : ℕ} → World sli → Name → Type 0
 IsLiveIn w name = (name.heap < length w.heaps) × IsLive (heap_in w name.heap) name
 
 -- each post that waits for worker j names a live block of heap j
-abbrev pub WaitLive : World → Type 0
+abbrev pub WaitLive : {sli : ℕ} → World sli → Type 0
 WaitLive w = (i j : ℕ) → All (λ post. (post.name.heap ≡ j) × IsLiveIn w post.name) (w.waiting i j)
 
 -- neither the call nor the release of the post that it took was refused as stale
@@ -37,12 +37,12 @@ abbrev pub NoneStale : List Entry → Type 0
 NoneStale entries = All (λ entry. IsNotStale entry.reply) entries
 
 -- a name that an earlier event made, and that is not gone
-abbrev pub IsUsable : Replayed → (Name → Type 0) → Option Name → Type 0
+abbrev pub IsUsable : {sli : ℕ} → Replayed sli → (Name → Type 0) → Option Name → Type 0
 IsUsable r gone None = ⊥
 IsUsable r gone (Some name) = Contains r.made (Some name) × ¬ (gone name)
 
 -- so is the target of a call that has one
-abbrev pub IsFairCall : Replayed → (Name → Type 0) → Call → Type 0
+abbrev pub IsFairCall : {sli : ℕ} → Replayed sli → (Name → Type 0) → Call → Type 0
 IsFairCall r gone (Allocate len) = ⊤
 IsFairCall r gone (Release target) = IsUsable r gone (name_of r.made target)
 IsFairCall r gone (Write target from bytes) = IsUsable r gone (name_of r.made target)
@@ -52,20 +52,20 @@ IsFairCall r gone (Take from) = ⊤
 IsFairCall r gone (Drain most) = ⊤
 
 -- after the events so far, this one has one entry, of this reply
-abbrev pub IsAnswered : Replayed → Event → Reply → Type 0
+abbrev pub IsAnswered : {sli : ℕ} → Replayed sli → Event → Reply → Type 0
 IsAnswered r event reply = (after r event).entries ≡ r.entries ++ record { worker = event.worker; call = event.call; reply = reply } ∷ []
 
 -- the event is a Release of this name, and answered Freed or Posted
-abbrev pub Releases : Replayed → Event → Name → Type 0
+abbrev pub Releases : {sli : ℕ} → Replayed sli → Event → Name → Type 0
 Releases r event name =
     (target : Target) × (event.call ≡ Release target) × (name_of r.made target ≡ Some name) × (IsAnswered r event Freed ⊎ IsAnswered r event Posted)
 
 -- each event has only a target that was made before it and is not gone. Gone are some names at first, and each name from its release on
-abbrev pub IsFair : Replayed → (Name → Type 0) → List Event → Type 0
+abbrev pub IsFair : {sli : ℕ} → Replayed sli → (Name → Type 0) → List Event → Type 0
 IsFair r gone [] = ⊤
 IsFair r gone (event ∷ events) = IsFairCall r gone event.call × IsFair (after r event) (λ name. gone name ⊎ Releases r event name) events
 
 -- a run from a world where nothing waits, in which each target was made before and not yet released
-pub record IsFairRun (w : World) (events : List Event) : Type 0 where
+pub record IsFairRun {sli : ℕ} (w : World sli) (events : List Event) : Type 0 where
   pub empty : NothingWaits w
   pub fair : IsFair (begun w) (λ name. ⊥) events

@@ -10,8 +10,8 @@ use Rattle.tlsf_heap.specs.declared.name.Name.{Name}
 use Rattle.tlsf_heap.specs.declared.refusal.Refusal.{Refusal}
 use Rattle.tlsf_heap.specs.declared.refusal.Refusal.TheVariants.{Range}
 
-unfoldable pub allocated : HeapState → ℕ → Outcome Name
-allocated h len = heap.allocated 4 h len
+unfoldable pub allocated : ℕ → HeapState → ℕ → Outcome Name
+allocated sli h len = heap.allocated sli h len
 
 unfoldable pub released : HeapState → Name → Outcome (Unit {0})
 released h name = heap.released h name

@@ -2,6 +2,7 @@
 use Rattle.std.specs.Prelude.{◌≡◌, ◌↔◌, ℕ, ◌<◌, ◌≤◌, List, [], ◌∷◌, ◌++◌, length, map, Option, Some, None, Ok, Err, ⊤, ◌==◌, nat_le, if◌then◌else◌}
 use Rattle.std.specs.List.{filter, filter_map}
 use Rattle.std.specs.Option.{option_map}
+use Rattle.tlsf_class.specs.Classes.{IsLevel}
 use Rattle.tlsf_post.specs.declared.post.Post.{Post}
 use Rattle.tlsf_heap.specs.declared.name.Name.{Name}
 use Rattle.tlsf_heap.specs.declared.refusal.Refusal.TheVariants.{Range}
@@ -124,17 +125,17 @@ handed_on (heap.Got (Ok bytes)) = heap.Got (if nat_le (length bytes) 64 then Ok 
 handed_on answer = answer
 
 -- the calls, in turn, are answered so by one heap, and leave the other
-pub record RunsTo (h : HeapState) (calls : List heap.Call) (answers : List heap.Answer) (g : HeapState) : Type 0 where
-  pub told : map handed_on (heap.run 4 h calls).0 ≡ answers
-  pub left : (heap.run 4 h calls).1 ≡ g
+pub record RunsTo (sli : ℕ) (h : HeapState) (calls : List heap.Call) (answers : List heap.Answer) (g : HeapState) : Type 0 where
+  pub told : map handed_on (heap.run sli h calls).0 ≡ answers
+  pub left : (heap.run sli h calls).1 ≡ g
 
 -- the calls that some entries tell of heap j, run on it, give the answers that they tell and leave a lawful heap; those of
 -- the later entries lead from there to the last heap
-pub record RunsThrough (h : HeapState) (j : ℕ) (made : List (Option Name)) (before later : List Entry) (last : HeapState) : Type 0 where
+pub record RunsThrough (sli : ℕ) (h : HeapState) (j : ℕ) (made : List (Option Name)) (before later : List Entry) (last : HeapState) : Type 0 where
   pub between : HeapState
-  pub first : RunsTo h (calls_on j made before) (answers_on j before) between
+  pub first : RunsTo sli h (calls_on j made before) (answers_on j before) between
   pub lawful : IsLawful between
-  pub rest : RunsTo between (calls_on j made later) (answers_on j later) last
+  pub rest : RunsTo sli between (calls_on j made later) (answers_on j later) last
 
 -- ---- the posts of a lane
 
@@ -157,8 +158,9 @@ posts_taken i j entries = filter_map (λ e. post_of_take i e.call e.reply) (entr
 
 -- ---- the worlds
 
-abbrev pub AreLawful : World → Type 0
-AreLawful w = (j : ℕ) → j < length w.heaps → IsLawful (heap_in w j)
+-- the heaps of a level that there is, each lawful
+abbrev pub AreLawful : {sli : ℕ} → World sli → Type 0
+AreLawful {sli} w = IsLevel sli × ((j : ℕ) → j < length w.heaps → IsLawful (heap_in w j))
 
 -- an entry of a record, and the entries before it
 abbrev pub StandsBehind : List Entry → List Entry → Entry → Type 0

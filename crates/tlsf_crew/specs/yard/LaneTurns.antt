@@ -10,26 +10,26 @@ use Rattle.tlsf_crew.specs.yard.Workers.{heap_of, HasTake, lane_places}
 use Rattle.tlsf_crew.specs.yard.Calls.{TakenFrom}
 
 -- worker a becomes worker v by takes from one lane, which answered these one after another
-abbrev pub TakesInTurn : Worker → Worker → ℕ → List Took → Type 0
-TakesInTurn a v from [] = v ≡ a
-TakesInTurn a v from (took ∷ tooks) = (b : Worker) × TakenFrom a b from (Ok (Some took)) × TakesInTurn b v from tooks
+abbrev pub TakesInTurn : {sli : ℕ} → Worker sli → Worker sli → ℕ → List Took → Type 0
+TakesInTurn {sli} a v from [] = v ≡ a
+TakesInTurn {sli} a v from (took ∷ tooks) = (b : Worker sli) × TakenFrom a b from (Ok (Some took)) × TakesInTurn b v from tooks
 
 -- a drain of one lane: it ends where `most` posts were taken, or with a take that shows no post
-pub record LaneDrained (a v : Worker) (from most : ℕ) (tooks : List Took) : Type 0 where
-  pub last : Worker
+pub record LaneDrained {sli : ℕ} (a v : Worker sli) (from most : ℕ) (tooks : List Took) : Type 0 where
+  pub last : Worker sli
   pub takes : TakesInTurn a last from tooks
   pub end : ((length tooks ≡ most) × (v ≡ last)) ⊎ ((length tooks < most) × TakenFrom last v from (Ok None))
 
 -- the turn of one worker: the lane from it is drained; where there is none, nothing happens
-pub record TurnDrained (a v : Worker) (from most : ℕ) (tooks : List Took) : Type 0 where
+pub record TurnDrained {sli : ℕ} (a v : Worker sli) (from most : ℕ) (tooks : List Took) : Type 0 where
   pub lane : HasTake a from → LaneDrained a v from most tooks
   pub nowhere : ¬ (HasTake a from) → (tooks ≡ []) × (v ≡ a)
 
 -- the turns of the workers below k, in rising order; each may take what `most` leaves
-abbrev pub EachLaneDrained : Worker → Worker → ℕ → ℕ → List Took → Type 0
-EachLaneDrained a v most zero tooks = (tooks ≡ []) × (v ≡ a)
-EachLaneDrained a v most (suc k) tooks =
-    (b : Worker) × (before : List Took) × (here : List Took)
+abbrev pub EachLaneDrained : {sli : ℕ} → Worker sli → Worker sli → ℕ → ℕ → List Took → Type 0
+EachLaneDrained {sli} a v most zero tooks = (tooks ≡ []) × (v ≡ a)
+EachLaneDrained {sli} a v most (suc k) tooks =
+    (b : Worker sli) × (before : List Took) × (here : List Took)
     × (tooks ≡ before ++ here) × EachLaneDrained a b most k before × TurnDrained b v k (most - length before) here
 
 abbrev pub is_freed : Took → Bool
@@ -43,7 +43,7 @@ abbrev pub IsCountOf : Drained → List Took → Type 0
 IsCountOf answer tooks = (answer.taken ≡ length tooks) × (answer.freed ≡ count_by is_freed tooks)
 
 -- a drain of all lanes
-pub record DrainedAll (a v : Worker) (most : ℕ) (answer : Drained) : Type 0 where
+pub record DrainedAll {sli : ℕ} (a v : Worker sli) (most : ℕ) (answer : Drained) : Type 0 where
   pub tooks : List Took
   pub lanes : EachLaneDrained a v most (lane_places a) tooks
   pub heap : heap_of v ≡ heap_after (heap_of a) tooks

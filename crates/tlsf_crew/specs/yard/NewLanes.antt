@@ -14,11 +14,11 @@ abbrev pub IsBefore : ℕ → ℕ → ℕ → ℕ → Type 0
 IsBefore i j x y = (x < i) ⊎ ((x ≡ i) × (y < j))
 
 -- n workers with new heaps, and with all lanes before lane (i, j)
-pub record IsLaid (ws : List Worker) (n words capacity i j : ℕ) : Type 0 where
+pub record IsLaid {sli : ℕ} (ws : List (Worker sli)) (n words capacity i j : ℕ) : Type 0 where
   pub len : length ws ≡ n
   pub heaps : map heap_of ws ≡ opened_heaps n words
   pub numbers : map id_and_capacity ws ≡ opened_numbers n capacity
-  pub slots : (x : ℕ) (a : Worker) → slice_get ws x ≡ Some a → (length a.posts.items ≡ n) × (length a.takes.items ≡ n)
+  pub slots : (x : ℕ) (a : Worker sli) → slice_get ws x ≡ Some a → (length a.posts.items ≡ n) × (length a.takes.items ≡ n)
   pub empty : (x y : ℕ) → lane_waits (post_at ws x y) (take_at ws x y) ≡ []
   pub free : KnowFree ws capacity
   pub fresh : AreFresh ws

@@ -12,35 +12,35 @@ use Rattle.tlsf_crew.specs.yard.LaneTurns.{IsCountOf}
 use Rattle.tlsf_crew.specs.yard.Counts.{sum_of}
 
 -- worker a becomes v by takes from one lane, which answered these one after another, and notes x become y
-abbrev pub NotedInTurn : {N : Type 0} → (N → ℕ → ℕ → Took → N → Type 0) → Worker → Worker → N → N → ℕ → List Took → Type 0
-NotedInTurn noted a v x y from [] = (v ≡ a) × (y ≡ x)
-NotedInTurn {N} noted a v x y from (took ∷ tooks) =
-    (b : Worker) × (z : N) × TakenFrom a b from (Ok (Some took)) × noted x (id_of b) from took z × NotedInTurn noted b v z y from tooks
+abbrev pub NotedInTurn : {sli : ℕ} {N : Type 0} → (N → ℕ → ℕ → Took → N → Type 0) → Worker sli → Worker sli → N → N → ℕ → List Took → Type 0
+NotedInTurn {sli} noted a v x y from [] = (v ≡ a) × (y ≡ x)
+NotedInTurn {sli} {N} noted a v x y from (took ∷ tooks) =
+    (b : Worker sli) × (z : N) × TakenFrom a b from (Ok (Some took)) × noted x (id_of b) from took z × NotedInTurn noted b v z y from tooks
 
 -- a drain of one lane ends where `most` posts were taken, where the notes admit no more, or with a take that shows no post
-abbrev pub LaneEnds : {N : Type 0} → (N → ℕ → Type 0) → Worker → Worker → N → ℕ → ℕ → ℕ → Type 0
+abbrev pub LaneEnds : {sli : ℕ} {N : Type 0} → (N → ℕ → Type 0) → Worker sli → Worker sli → N → ℕ → ℕ → ℕ → Type 0
 LaneEnds admitted last v y from most count =
     ((count ≡ most) × (v ≡ last)) ⊎ ((count < most) × (((¬ (admitted y from)) × (v ≡ last)) ⊎ TakenFrom last v from (Ok None)))
 
-pub record LaneNoted {N : Type 0} (noted : N → ℕ → ℕ → Took → N → Type 0) (admitted : N → ℕ → Type 0) (a v : Worker) (x y : N) (from most : ℕ) (tooks : List Took) : Type 0 where
-  pub last : Worker
+pub record LaneNoted {sli : ℕ} {N : Type 0} (noted : N → ℕ → ℕ → Took → N → Type 0) (admitted : N → ℕ → Type 0) (a v : Worker sli) (x y : N) (from most : ℕ) (tooks : List Took) : Type 0 where
+  pub last : Worker sli
   pub takes : NotedInTurn noted a last x y from tooks
   pub end : LaneEnds admitted last v y from most (length tooks)
 
 -- the turn of one worker: the lane from it is drained; where there is none, nothing happens
-pub record TurnNoted {N : Type 0} (noted : N → ℕ → ℕ → Took → N → Type 0) (admitted : N → ℕ → Type 0) (a v : Worker) (x y : N) (from most : ℕ) (tooks : List Took) : Type 0 where
+pub record TurnNoted {sli : ℕ} {N : Type 0} (noted : N → ℕ → ℕ → Took → N → Type 0) (admitted : N → ℕ → Type 0) (a v : Worker sli) (x y : N) (from most : ℕ) (tooks : List Took) : Type 0 where
   pub lane : HasTake a from → LaneNoted noted admitted a v x y from most tooks
   pub nowhere : ¬ (HasTake a from) → (tooks ≡ []) × (v ≡ a) × (y ≡ x)
 
 -- the turns of the workers below k, in rising order; each may take what `most` leaves
-abbrev pub EachLaneNoted : {N : Type 0} → (N → ℕ → ℕ → Took → N → Type 0) → (N → ℕ → Type 0) → Worker → Worker → N → N → ℕ → ℕ → List Took → Type 0
-EachLaneNoted noted admitted a v x y most zero tooks = (tooks ≡ []) × (v ≡ a) × (y ≡ x)
-EachLaneNoted {N} noted admitted a v x y most (suc k) tooks =
-    (b : Worker) × (z : N) × (before : List Took) × (here : List Took)
+abbrev pub EachLaneNoted : {sli : ℕ} {N : Type 0} → (N → ℕ → ℕ → Took → N → Type 0) → (N → ℕ → Type 0) → Worker sli → Worker sli → N → N → ℕ → ℕ → List Took → Type 0
+EachLaneNoted {sli} noted admitted a v x y most zero tooks = (tooks ≡ []) × (v ≡ a) × (y ≡ x)
+EachLaneNoted {sli} {N} noted admitted a v x y most (suc k) tooks =
+    (b : Worker sli) × (z : N) × (before : List Took) × (here : List Took)
     × (tooks ≡ before ++ here) × EachLaneNoted noted admitted a b x z most k before × TurnNoted noted admitted b v z y k (most - length before) here
 
 -- a drain of all lanes
-pub record AllNoted {N : Type 0} (noted : N → ℕ → ℕ → Took → N → Type 0) (admitted : N → ℕ → Type 0) (a v : Worker) (x y : N) (most : ℕ) (answer : Drained) : Type 0 where
+pub record AllNoted {sli : ℕ} {N : Type 0} (noted : N → ℕ → ℕ → Took → N → Type 0) (admitted : N → ℕ → Type 0) (a v : Worker sli) (x y : N) (most : ℕ) (answer : Drained) : Type 0 where
   pub tooks : List Took
   pub lanes : EachLaneNoted noted admitted a v x y most (lane_places a) tooks
   pub count : IsCountOf answer tooks

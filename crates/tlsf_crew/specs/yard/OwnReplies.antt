@@ -16,8 +16,8 @@ pub record OwnReplied : Type 0 where
 abbrev pub own_unmade : HeapState → OwnReplied
 own_unmade h = record { reply = Refused Unmade; heap = h }
 
-abbrev pub own_allocating : HeapState → ℕ → OwnReplied
-own_allocating h len = record { reply = reply_made (allocated h len).answer; heap = (allocated h len).heap }
+abbrev pub own_allocating : ℕ → HeapState → ℕ → OwnReplied
+own_allocating sli h len = record { reply = reply_made (allocated sli h len).answer; heap = (allocated sli h len).heap }
 
 abbrev pub own_freeing : HeapState → Name → OwnReplied
 own_freeing h name = record { reply = reply_freed (released h name).answer; heap = (released h name).heap }

@@ -18,14 +18,14 @@ abbrev pub reply_took : Option Took → Reply
 reply_took None = Empty
 reply_took (Some t) = Taken t
 
-abbrev pub drain_of : List Entry → List Worker → ℕ → Draining
+abbrev pub drain_of : {sli : ℕ} → List Entry → List (Worker sli) → ℕ → Draining sli
 drain_of entries ws taken = record { entries = entries; world = world_of ws; taken = taken }
 
-abbrev pub replay_of : List (Option Name) → List Entry → List Worker → Replayed
+abbrev pub replay_of : {sli : ℕ} → List (Option Name) → List Entry → List (Worker sli) → Replayed sli
 replay_of made entries ws = record { made = made; entries = entries; world = world_of ws }
 
 -- the call of an event was answered, and only the event's own entry is still to come
-pub record IsReplied (r : Replayed) (event : Event) (entries : List Entry) (vs : List Worker) (reply : Reply) : Type 0 where
+pub record IsReplied {sli : ℕ} (r : Replayed sli) (event : Event) (entries : List Entry) (vs : List (Worker sli)) (reply : Reply) : Type 0 where
   pub yard : IsYard vs
   pub after : after r event ≡ replay_of (r.made ++ made_by reply ∷ []) (entries ++ record { worker = event.worker; call = event.call; reply = reply } ∷ []) vs
 
@@ -52,6 +52,6 @@ MayTake (Take from) = ⊤
 MayTake (Drain most) = ⊤
 
 -- so many posts an event may take from each worker: no more than wait, and all that are ready, where it takes any
-pub record AreLimits (ws : List Worker) (e : Event) (limits : List ℕ) : Type 0 where
+pub record AreLimits {sli : ℕ} (ws : List (Worker sli)) (e : Event) (limits : List ℕ) : Type 0 where
   pub few : (i : ℕ) → i < 8 → slice_index limits i ≤ length (waits_in ws i e.worker)
   pub all : MayTake e.call → (i : ℕ) (t : TakeEnd) → i < 8 → take_at ws i e.worker ≡ Some t → length (ready t) ≤ slice_index limits i

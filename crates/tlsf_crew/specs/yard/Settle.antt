@@ -6,7 +6,7 @@ use Rattle.tlsf_crew.specs.declared.yard.worker.Worker.{Worker}
 use Rattle.tlsf_crew.specs.yard.Yard.{post_at, take_at, Meets}
 
 -- the two ends of the lane from i to j were side by side between the two yards
-pub record MetIn (ws vs : List Worker) (i j : ℕ) : Type 0 where
+pub record MetIn {sli : ℕ} (ws vs : List (Worker sli)) (i j : ℕ) : Type 0 where
   pub post : PostEnd
   pub take : TakeEnd
   pub new_post : PostEnd
@@ -18,5 +18,5 @@ pub record MetIn (ws vs : List Worker) (i j : ℕ) : Type 0 where
   pub meets : Meets post take new_post new_take
 
 -- the two ends of each lane between two workers were side by side between the two yards
-abbrev pub HaveMet : List Worker → List Worker → Type 0
+abbrev pub HaveMet : {sli : ℕ} → List (Worker sli) → List (Worker sli) → Type 0
 HaveMet ws vs = (i j : ℕ) → i < length ws → j < length ws → i ≢ j → MetIn ws vs i j

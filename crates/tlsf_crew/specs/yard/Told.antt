@@ -17,19 +17,19 @@ abbrev pub untold : HeapState → Told
 untold h = record { made = []; entries = []; heap = h }
 
 -- what worker `at` was told by the model
-abbrev pub told_by : ℕ → Replayed → Told
+abbrev pub told_by : {sli : ℕ} → ℕ → Replayed sli → Told
 told_by at r = record { made = r.made; entries = r.entries; heap = heap_in r.world at }
 
 -- a world of n workers in which worker `at` has this heap
-abbrev pub HasHeap : World → ℕ → ℕ → HeapState → Type 0
+abbrev pub HasHeap : {sli : ℕ} → World sli → ℕ → ℕ → HeapState → Type 0
 HasHeap w n at h = (length w.heaps ≡ n) × (heap_in w at ≡ h)
 
 -- one call more, answered as in some world in which the worker has its heap: what waits in the lanes is free to choose
-abbrev pub MayTell : ℕ → ℕ → Told → Call → Told → Type 0
-MayTell n at s call t =
-    (w : World) × HasHeap w n at s.heap × (told_by at (called (record { made = s.made; entries = s.entries; world = w }) at call) ≡ t)
+abbrev pub MayTell : ℕ → ℕ → ℕ → Told → Call → Told → Type 0
+MayTell sli n at s call t =
+    (w : World sli) × HasHeap w n at s.heap × (told_by at (called (record { made = s.made; entries = s.entries; world = w }) at call) ≡ t)
 
 -- the calls of a script, one after another
-abbrev pub MayTellAll : ℕ → ℕ → Told → List Call → Told → Type 0
-MayTellAll n at s [] t = t ≡ s
-MayTellAll n at s (call ∷ calls) t = (u : Told) × MayTell n at s call u × MayTellAll n at u calls t
+abbrev pub MayTellAll : ℕ → ℕ → ℕ → Told → List Call → Told → Type 0
+MayTellAll sli n at s [] t = t ≡ s
+MayTellAll sli n at s (call ∷ calls) t = (u : Told) × MayTell sli n at s call u × MayTellAll sli n at u calls t

@@ -22,33 +22,33 @@ pub use Rattle.tlsf_calls.specs.Entries.{made_by}
 use Rattle.tlsf_crew.specs.yard.Workers.{heap_of}
 use Rattle.tlsf_crew.specs.yard.Yard.{post_at, take_at, lane_waits, capacity_in, no_heap}
 
-pub record World : Type 0 where
+pub record World (sli : ℕ) : Type 0 where
   pub heaps : List HeapState
   pub waiting : ℕ → ℕ → List Post
   pub capacity : ℕ
 
 -- what a yard shows
-unfoldable pub world_of : List Worker → World
+unfoldable pub world_of : {sli : ℕ} → List (Worker sli) → World sli
 world_of ws = record { heaps = map heap_of ws; waiting = λ i j. lane_waits (post_at ws i j) (take_at ws i j); capacity = capacity_in ws }
 
 -- the same but for the posts from i to j
 abbrev pub edited : (ℕ → ℕ → List Post) → ℕ → ℕ → List Post → ℕ → ℕ → List Post
 edited f i j posts x y = if x == i && y == j then posts else f x y
 
-abbrev pub with_waiting : World → ℕ → ℕ → List Post → World
+abbrev pub with_waiting : {sli : ℕ} → World sli → ℕ → ℕ → List Post → World sli
 with_waiting w i j posts = record { heaps = w.heaps; waiting = edited w.waiting i j posts; capacity = w.capacity }
 
 -- the same but for the heap of worker i
-abbrev pub with_heap : World → ℕ → HeapState → World
+abbrev pub with_heap : {sli : ℕ} → World sli → ℕ → HeapState → World sli
 with_heap w i h = record { heaps = set w.heaps i h; waiting = w.waiting; capacity = w.capacity }
 
-abbrev pub heap_in : World → ℕ → HeapState
+abbrev pub heap_in : {sli : ℕ} → World sli → ℕ → HeapState
 heap_in w i = get_or w.heaps i no_heap
 
 -- a reply and the world that it leaves
-pub record Replied : Type 0 where
+pub record Replied (sli : ℕ) : Type 0 where
   pub reply : Reply
-  pub world : World
+  pub world : World sli
 
 abbrev pub reply_made : Result Name Refusal → Reply
 reply_made (Ok name) = Made name
@@ -58,10 +58,10 @@ abbrev pub reply_freed : Result (Unit {0}) Refusal → Reply
 reply_freed (Ok done) = Freed
 reply_freed (Err why) = Refused (Heap why)
 
-abbrev pub allocating : World → ℕ → ℕ → Replied
-allocating w at len = record { reply = reply_made (allocated (heap_in w at) len).answer; world = with_heap w at (allocated (heap_in w at) len).heap }
+abbrev pub allocating : {sli : ℕ} → World sli → ℕ → ℕ → Replied sli
+allocating {sli} w at len = record { reply = reply_made (allocated sli (heap_in w at) len).answer; world = with_heap w at (allocated sli (heap_in w at) len).heap }
 
-abbrev pub freeing : World → ℕ → Name → Replied
+abbrev pub freeing : {sli : ℕ} → World sli → ℕ → Name → Replied sli
 freeing w at name = record { reply = reply_freed (released (heap_in w at) name).answer; world = with_heap w at (released (heap_in w at) name).heap }
 
 abbrev pub reply_wrote : ℕ → Result (Unit {0}) Refusal → Reply
@@ -72,78 +72,78 @@ abbrev pub reply_got : Result Chunk Refusal → Reply
 reply_got (Ok bytes) = Got bytes
 reply_got (Err why) = Refused (Heap why)
 
-abbrev pub writing : World → ℕ → Name → ℕ → List ℕ → Replied
+abbrev pub writing : {sli : ℕ} → World sli → ℕ → Name → ℕ → List ℕ → Replied sli
 writing w at name from bytes = record {
   reply = reply_wrote (length bytes) (written (heap_in w at) name from bytes).answer;
   world = with_heap w at (written (heap_in w at) name from bytes).heap;
 }
 
-abbrev pub reading : World → ℕ → Name → ℕ → ℕ → Replied
+abbrev pub reading : {sli : ℕ} → World sli → ℕ → Name → ℕ → ℕ → Replied sli
 reading w at name from n = record { reply = reply_got (chunk_read (heap_in w at) name from n); world = w }
 
 abbrev pub reply_resized : Result (Unit {0}) Refusal → Reply
 reply_resized (Ok done) = Resized
 reply_resized (Err why) = Refused (Heap why)
 
-abbrev pub resizing : World → ℕ → Name → ℕ → Replied
+abbrev pub resizing : {sli : ℕ} → World sli → ℕ → Name → ℕ → Replied sli
 resizing w at name len = record { reply = reply_resized (resized (heap_in w at) name len).answer; world = with_heap w at (resized (heap_in w at) name len).heap }
 
 -- a post into the lane from `at` to another worker
-unfoldable pub posting : World → ℕ → Name → Replied
+unfoldable pub posting : {sli : ℕ} → World sli → ℕ → Name → Replied sli
 posting w at name =
     if length (w.waiting at name.heap) == w.capacity
     then record { reply = Refused (Full name); world = w }
     else record { reply = Posted; world = with_waiting w at name.heap (w.waiting at name.heap ++ record { from = at; name = name } ∷ []) }
 
-abbrev pub releasing : World → ℕ → Name → Replied
+abbrev pub releasing : {sli : ℕ} → World sli → ℕ → Name → Replied sli
 releasing w at name =
     if name.heap == at then freeing w at name
     else (if nat_lt name.heap (length w.heaps) then posting w at name else record { reply = Refused Stranger; world = w })
 
 -- the first post from another worker is taken and released
-abbrev pub took : World → ℕ → ℕ → Post → List Post → Replied
+abbrev pub took : {sli : ℕ} → World sli → ℕ → ℕ → Post → List Post → Replied sli
 took w at from p rest = record {
   reply = Taken (record { from = p.from; name = p.name; answer = (released (heap_in w at) p.name).answer });
   world = with_heap (with_waiting w from at rest) at (released (heap_in w at) p.name).heap;
 }
 
-abbrev pub took_first : World → ℕ → ℕ → List Post → Replied
+abbrev pub took_first : {sli : ℕ} → World sli → ℕ → ℕ → List Post → Replied sli
 took_first w at from [] = record { reply = Empty; world = w }
 took_first w at from (p ∷ rest) = took w at from p rest
 
-unfoldable pub taking_next : World → ℕ → ℕ → Replied
+unfoldable pub taking_next : {sli : ℕ} → World sli → ℕ → ℕ → Replied sli
 taking_next w at from = took_first w at from (w.waiting from at)
 
-abbrev pub taking : World → ℕ → ℕ → Replied
+abbrev pub taking : {sli : ℕ} → World sli → ℕ → ℕ → Replied sli
 taking w at from =
     if from == at then record { reply = Refused Stranger; world = w }
     else (if nat_lt from (length w.heaps) then taking_next w at from else record { reply = Refused Stranger; world = w })
 
 -- a drain under way
-pub record Draining : Type 0 where
+pub record Draining (sli : ℕ) : Type 0 where
   pub entries : List Entry
-  pub world : World
+  pub world : World sli
   pub taken : ℕ
 
 -- one post more
-abbrev pub took_more : ℕ → ℕ → Draining → Post → Draining
+abbrev pub took_more : {sli : ℕ} → ℕ → ℕ → Draining sli → Post → Draining sli
 took_more at from d p =
     let r = took d.world at from p (drop 1 (d.world.waiting from at)) in
     record { entries = d.entries ++ record { worker = at; call = Take from; reply = r.reply } ∷ []; world = r.world; taken = d.taken + 1 }
 
 -- all that waits from one worker, while fewer than `most` were taken
-unfoldable pub drained_lane : ℕ → ℕ → ℕ → Draining → Draining
+unfoldable pub drained_lane : {sli : ℕ} → ℕ → ℕ → ℕ → Draining sli → Draining sli
 drained_lane at most from d = fold (took_more at from) d (take (most - d.taken) (d.world.waiting from at))
 
-abbrev pub drained_from : ℕ → ℕ → Draining → ℕ → Draining
+abbrev pub drained_from : {sli : ℕ} → ℕ → ℕ → Draining sli → ℕ → Draining sli
 drained_from at most d from = if from == at then d else drained_lane at most from d
 
 -- the lanes from the workers below a number, in rising order
-abbrev pub drained_below : ℕ → ℕ → Draining → ℕ → Draining
+abbrev pub drained_below : {sli : ℕ} → ℕ → ℕ → Draining sli → ℕ → Draining sli
 drained_below at most d zero = d
 drained_below at most d (suc from) = drained_from at most (drained_below at most d from) from
 
-unfoldable pub after_drain : ℕ → ℕ → Draining → Draining
+unfoldable pub after_drain : {sli : ℕ} → ℕ → ℕ → Draining sli → Draining sli
 after_drain at most d = drained_below at most d (length d.world.heaps)
 
 -- the name that a target means, by what the events so far made
@@ -152,30 +152,30 @@ name_of made (Named name) = Some name
 name_of made (MadeBy k) = get_or made k None
 name_of made Absent = None
 
-abbrev pub releasing_named : World → ℕ → Option Name → Replied
+abbrev pub releasing_named : {sli : ℕ} → World sli → ℕ → Option Name → Replied sli
 releasing_named w at None = record { reply = Refused Unmade; world = w }
 releasing_named w at (Some name) = releasing w at name
 
-abbrev pub writing_named : World → ℕ → Option Name → ℕ → List ℕ → Replied
+abbrev pub writing_named : {sli : ℕ} → World sli → ℕ → Option Name → ℕ → List ℕ → Replied sli
 writing_named w at None from bytes = record { reply = Refused Unmade; world = w }
 writing_named w at (Some name) from bytes = writing w at name from bytes
 
-abbrev pub reading_named : World → ℕ → Option Name → ℕ → ℕ → Replied
+abbrev pub reading_named : {sli : ℕ} → World sli → ℕ → Option Name → ℕ → ℕ → Replied sli
 reading_named w at None from n = record { reply = Refused Unmade; world = w }
 reading_named w at (Some name) from n = reading w at name from n
 
-abbrev pub resizing_named : World → ℕ → Option Name → ℕ → Replied
+abbrev pub resizing_named : {sli : ℕ} → World sli → ℕ → Option Name → ℕ → Replied sli
 resizing_named w at None len = record { reply = Refused Unmade; world = w }
 resizing_named w at (Some name) len = resizing w at name len
 
 -- the events so far: what each made, what was answered, and the world
-pub record Replayed : Type 0 where
+pub record Replayed (sli : ℕ) : Type 0 where
   pub made : List (Option Name)
   pub entries : List Entry
-  pub world : World
+  pub world : World sli
 
 -- one answer more
-abbrev pub answered : Replayed → ℕ → Call → Replied → Replayed
+abbrev pub answered : {sli : ℕ} → Replayed sli → ℕ → Call → Replied sli → Replayed sli
 answered r at call a = record {
   made = r.made ++ made_by a.reply ∷ [];
   entries = r.entries ++ record { worker = at; call = call; reply = a.reply } ∷ [];
@@ -183,7 +183,7 @@ answered r at call a = record {
 }
 
 -- the drain's entries, and then its own
-unfoldable pub draining : Replayed → ℕ → ℕ → Replayed
+unfoldable pub draining : {sli : ℕ} → Replayed sli → ℕ → ℕ → Replayed sli
 draining r at most =
     let d = after_drain at most (record { entries = r.entries; world = r.world; taken = 0 }) in
     record {
@@ -192,7 +192,7 @@ draining r at most =
       world = d.world;
     }
 
-abbrev pub called : Replayed → ℕ → Call → Replayed
+abbrev pub called : {sli : ℕ} → Replayed sli → ℕ → Call → Replayed sli
 called r at (Allocate len) = answered r at (Allocate len) (allocating r.world at len)
 called r at (Release target) = answered r at (Release target) (releasing_named r.world at (name_of r.made target))
 called r at (Write target from bytes) = answered r at (Write target from bytes) (writing_named r.world at (name_of r.made target) from (bytes_of bytes))
@@ -202,22 +202,22 @@ called r at (Take from) = answered r at (Take from) (taking r.world at from)
 called r at (Drain most) = draining r at most
 
 -- one event
-unfoldable pub after : Replayed → Event → Replayed
+unfoldable pub after : {sli : ℕ} → Replayed sli → Event → Replayed sli
 after r e =
     if nat_lt e.worker (length r.world.heaps) then called r e.worker e.call
     else answered r e.worker e.call (record { reply = Refused Stranger; world = r.world })
 
-abbrev pub begun : World → Replayed
+abbrev pub begun : {sli : ℕ} → World sli → Replayed sli
 begun w = record { made = []; entries = []; world = w }
 
 -- every event in order
-unfoldable pub replies : World → List Event → Replayed
+unfoldable pub replies : {sli : ℕ} → World sli → List Event → Replayed sli
 replies w es = fold after (begun w) es
 
 -- a world in which earlier events made these names; what they were answered is told elsewhere
-abbrev pub resumed : World → List (Option Name) → Replayed
+abbrev pub resumed : {sli : ℕ} → World sli → List (Option Name) → Replayed sli
 resumed w made = record { made = made; entries = []; world = w }
 
 -- every event in order, behind events that made these names
-unfoldable pub replies_behind : World → List (Option Name) → List Event → Replayed
+unfoldable pub replies_behind : {sli : ℕ} → World sli → List (Option Name) → List Event → Replayed sli
 replies_behind w made es = fold after (resumed w made) es

@@ -19,9 +19,9 @@ use tlsf_calls::{Call, CrewRefusal, Event, Reply, Target};
 use tlsf_heap::Name;
 
 /// Releases what a target means: a block of the own heap, or by a post another's.
-fn reply_to_queue_release<R: Wait>(
+fn reply_to_queue_release<const SLI: u32, R: Wait>(
     rt: &R,
-    worker: &mut QueueWorker,
+    worker: &mut QueueWorker<SLI>,
     target: Target,
     made: &[Option<Name>],
 ) -> Reply
@@ -41,9 +41,9 @@ fn reply_to_queue_release<R: Wait>(
 }
 
 /// Takes from the own queue, each post with an entry, until `most` were taken or the queue is empty. Answers how many.
-pub(crate) fn drain_into_queue_journal<R: Wait>(
+pub(crate) fn drain_into_queue_journal<const SLI: u32, R: Wait>(
     rt: &R,
-    worker: &mut QueueWorker,
+    worker: &mut QueueWorker<SLI>,
     journal: &mut QueueJournal,
     most: u32,
 ) -> u32
@@ -58,9 +58,9 @@ pub(crate) fn drain_into_queue_journal<R: Wait>(
 }
 
 /// Makes one call, and answers the reply. A drain's takes get their entries here, the call gets its own later.
-fn reply_over_queues<R: Wait>(
+fn reply_over_queues<const SLI: u32, R: Wait>(
     rt: &R,
-    worker: &mut QueueWorker,
+    worker: &mut QueueWorker<SLI>,
     journal: &mut QueueJournal,
     call: Call,
     made: &[Option<Name>],
@@ -87,9 +87,9 @@ fn reply_over_queues<R: Wait>(
 }
 
 /// Makes one call of a worker of some yard, with its entries and the name that it made.
-pub(crate) fn run_queue_call<R: Wait>(
+pub(crate) fn run_queue_call<const SLI: u32, R: Wait>(
     rt: &R,
-    worker: &mut QueueWorker,
+    worker: &mut QueueWorker<SLI>,
     journal: &mut QueueJournal,
     call: Call,
     made: &mut Vec<Option<Name>>,

@@ -21,14 +21,14 @@ ghost use Rattle.tlsf_calls.specs.declared.entry.Entry.{Entry};
 /// ```
 pub fn queues_join_the_yard()
     // Worker i has the number i, and a lawful heap of that number.
-    ensures ids { (ws : List QueueWorker) (i : ℕ) (a : QueueWorker) → IsQueueYard ws → slice_get ws i ≡ Some a → queue_id a ≡ i }
-    ensures heaps { (ws : List QueueWorker) (i : ℕ) (a : QueueWorker) → IsQueueYard ws → slice_get ws i ≡ Some a → IsHeapOf i (queue_heap a) }
+    ensures ids { (sli : ℕ) (ws : List (QueueWorker sli)) (i : ℕ) (a : QueueWorker sli) → IsQueueYard ws → slice_get ws i ≡ Some a → queue_id a ≡ i }
+    ensures heaps { (sli : ℕ) (ws : List (QueueWorker sli)) (i : ℕ) (a : QueueWorker sli) → IsQueueYard ws → slice_get ws i ≡ Some a → IsHeapOf i (queue_heap a) }
 
     // Its ends.
-    ensures to { (ws : List QueueWorker) (i j : ℕ) (a : QueueWorker) → IsQueueYard ws → slice_get ws i ≡ Some a → (HasQueueEnd a j ↔ IsOtherOf (length ws) i j) }
+    ensures to { (sli : ℕ) (ws : List (QueueWorker sli)) (i j : ℕ) (a : QueueWorker sli) → IsQueueYard ws → slice_get ws i ≡ Some a → (HasQueueEnd a j ↔ IsOtherOf (length ws) i j) }
 
     // What each call's clause `yard` says of a worker keeps the yard whole.
-    ensures kept { (ws : List QueueWorker) (i : ℕ) (a v : QueueWorker) → IsQueueYard ws → slice_get ws i ≡ Some a → KeepsQueueYards a v → IsQueueYard (slice_set ws i v) }
+    ensures kept { (sli : ℕ) (ws : List (QueueWorker sli)) (i : ℕ) (a v : QueueWorker sli) → IsQueueYard ws → slice_get ws i ≡ Some a → KeepsQueueYards a v → IsQueueYard (slice_set ws i v) }
 {}
 
 /// In a race over queues each heap has one history too, in the words of [`crate::one_history`]: each call made on it and
@@ -47,23 +47,23 @@ pub fn queues_join_the_yard()
 pub fn one_history_of_a_queue_race()
     // A record tells the calls of its worker's script and then the last drain, each once and in order, and the name that
     // each made.
-    ensures told { (w v : World) (scripts : List (List Call)) (records : List (List Entry)) (race : IsQueueRace w scripts records v) (j : ℕ) → j < length w.heaps →
+    ensures told { (sli : ℕ) (w v : World sli) (scripts : List (List Call)) (records : List (List Entry)) (race : IsQueueRace w scripts records v) (j : ℕ) → j < length w.heaps →
         TellsQueue (length w.heaps) j [] (script_of scripts j ++ last_call ∷ []) (race.made j) (record_of records j) }
 
     // The calls that it tells of its worker's heap, run on it in turn, give the answers that it tells, and the heap that
     // comes back.
-    ensures heaps { (w v : World) (scripts : List (List Call)) (records : List (List Entry)) (race : IsQueueRace w scripts records v) (j : ℕ) → j < length w.heaps →
-        RunsTo (heap_in w j) (calls_on j (race.made j) (record_of records j)) (answers_on j (record_of records j)) (heap_in v j) }
+    ensures heaps { (sli : ℕ) (w v : World sli) (scripts : List (List Call)) (records : List (List Entry)) (race : IsQueueRace w scripts records v) (j : ℕ) → j < length w.heaps →
+        RunsTo sli (heap_in w j) (calls_on j (race.made j) (record_of records j)) (answers_on j (record_of records j)) (heap_in v j) }
 
     // What waited of a worker in a queue, and then what it posted, is what was taken. So no post is lost, doubled or
     // overtaken by another of its poster.
-    ensures posts { (w v : World) (scripts : List (List Call)) (records : List (List Entry)) (race : IsQueueRace w scripts records v) (i j : ℕ) → i < length w.heaps → j < length w.heaps → i ≢ j →
+    ensures posts { (sli : ℕ) (w v : World sli) (scripts : List (List Call)) (records : List (List Entry)) (race : IsQueueRace w scripts records v) (i j : ℕ) → i < length w.heaps → j < length w.heaps → i ≢ j →
         w.waiting i j ++ posts_made i j (race.made i) (record_of records i) ≡ posts_taken i j (record_of records j) }
 
     // Live blocks never overlap and free blocks never touch.
-    ensures lawful { (w v : World) (scripts : List (List Call)) (records : List (List Entry)) → IsQueueRace w scripts records v → AreLawful w → AreLawful v }
+    ensures lawful { (sli : ℕ) (w v : World sli) (scripts : List (List Call)) (records : List (List Entry)) → IsQueueRace w scripts records v → AreLawful w → AreLawful v }
 
     // So it is after each entry: each heap is what the calls that its record has told so far leave, and lawful.
-    ensures always_lawful { (w v : World) (scripts : List (List Call)) (records : List (List Entry)) (race : IsQueueRace w scripts records v) (before later : List Entry) (j : ℕ) → AreLawful w → j < length w.heaps →
-        record_of records j ≡ before ++ later → RunsThrough (heap_in w j) j (race.made j) before later (heap_in v j) }
+    ensures always_lawful { (sli : ℕ) (w v : World sli) (scripts : List (List Call)) (records : List (List Entry)) (race : IsQueueRace w scripts records v) (before later : List Entry) (j : ℕ) → AreLawful w → j < length w.heaps →
+        record_of records j ≡ before ++ later → RunsThrough sli (heap_in w j) j (race.made j) before later (heap_in v j) }
 {}

@@ -1,50 +1,53 @@
 //! How a yard over queues is opened.
 ghost use Rattle.std.specs.Prelude.{◌≡◌, ◌≢◌, ◌↔◌, ℕ, ◌<◌, ◌≤◌, Some, None, length, map, vec_len, vec_capacity, slice_get, slice_set, replicate, IfOk, IsErrOf};
+ghost use Rattle.tlsf_class.specs.Classes.{IsLevel};
 ghost use Rattle.tlsf_heap.specs.Calls.{opened};
 ghost use Rattle.tlsf_heap.specs.Lawful.{IsRegion};
 ghost use Rattle.tlsf_post.specs.Mailboxes.{number_of, below_but};
-ghost use Rattle.tlsf_crew.specs.declared.queues.queue_worker.QueueWorker.{QueueWorker};
 ghost use Rattle.tlsf_crew.specs.yard.Opening.{AreSizes, opened_world};
 ghost use Rattle.tlsf_crew.specs.queues.QueueWorkers.{queue_heap, queue_id};
 ghost use Rattle.tlsf_crew.specs.queues.QueueYard.{IsQueueYard, queue_world_of};
-ghost use Rattle.tlsf_crew.specs.queues.QueueOpening.{AreFreshQueues, AreGiven, AreEnds, GaveEnds};
+ghost use Rattle.tlsf_crew.specs.queues.QueueOpening.{AreFreshQueues, AreGiven, AreEnds, GaveEnds, HaveSlotsFor};
 
 use crate::queues::queue_worker::QueueWorker;
 use crate::yard::opening::{MOST_CAPACITY, MOST_WORKERS, no_ends, open_heap};
 use std::alloc::Global;
-use tlsf_heap::{MOST_WORDS, OpenFault};
+use tlsf_class::most_words;
+use tlsf_heap::OpenFault;
 use tlsf_post::{NoMemory, OwnerEnd, PosterEnd, mailbox};
 
-/// Opens a yard over queues of `n` workers, 1 to 8, numbered from 0: each owns a heap of its number over `words` words,
-/// 4 to 2^20, and a queue into which all others post, of up to `capacity` posts, 1 to 1,024.
+/// Opens a yard over queues of level 4 or 5, of `n` workers, 1 to 8, numbered from 0: each owns a heap of its number over
+/// `words` words, 4 to 2^20 at level 4 and to 2^24 at level 5, and a queue into which all others post, of up to `capacity`
+/// posts, 1 to 1,024.
 ///
 /// Refused as `BadSize` where a number is out of range, else as `NoMemory` where memory was not granted.
 ///
 /// - `fresh`: nothing was put into a queue or taken out of one.
 ///
 /// ```
-/// let mut workers = open_queue_yard(alloc, 3, 1024, 16)?; // three heaps of 8 KiB, and three queues of up to 16 posts
-/// let name = workers[0].allocate(100)?;                   // a block of worker 0
-/// workers[1].post(rt, name)?;                             // its name waits in the queue of worker 0
+/// let mut workers = open_queue_yard::<4>(alloc, 3, 1024, 16)?; // three heaps of 8 KiB, and three queues of up to 16 posts
+/// let name = workers[0].allocate(100)?;                        // a block of worker 0
+/// workers[1].post(rt, name)?;                                  // its name waits in the queue of worker 0
 /// ```
-pub fn open_queue_yard(
+pub fn open_queue_yard<const SLI: u32>(
     alloc: Global,
     n: u32,
     words: u32,
     capacity: u32,
-) -> Result<Vec<QueueWorker>, OpenFault>
+) -> Result<Vec<QueueWorker<SLI>>, OpenFault>
+    requires { IsLevel SLI }
     ensures yard { IfOk result (λ workers. IsQueueYard workers.items) }
     ensures world { IfOk result (λ workers. queue_world_of workers.items ≡ opened_world n words capacity) }
     ensures fresh { IfOk result (λ workers. AreFreshQueues workers.items) }
 
     // The refusals.
-    ensures bad_size { IsErrOf result OpenFault.BadSize ↔ ¬ (AreSizes n words capacity) }
+    ensures bad_size { IsErrOf result OpenFault.BadSize ↔ ¬ (AreSizes SLI n words capacity) }
     ensures never_worn { ¬ (IsErrOf result OpenFault.Worn) }
 {
     if n < 1
         || n > MOST_WORKERS
         || words < 4
-        || words > MOST_WORDS
+        || words > most_words::<SLI>()
         || capacity < 1
         || capacity > MOST_CAPACITY
     {
@@ -56,13 +59,14 @@ pub fn open_queue_yard(
     }
 }
 
-fn open_queue_workers(
+fn open_queue_workers<const SLI: u32>(
     alloc: Global,
     n: u32,
     words: u32,
     capacity: u32,
-) -> Result<Vec<QueueWorker>, NoMemory>
-    requires { AreSizes n words capacity }
+) -> Result<Vec<QueueWorker<SLI>>, NoMemory>
+    requires level { IsLevel SLI }
+    requires sizes { AreSizes SLI n words capacity }
     ensures yard { IfOk result (λ workers. IsQueueYard workers.items) }
     ensures world { IfOk result (λ workers. queue_world_of workers.items ≡ opened_world n words capacity) }
     ensures fresh { IfOk result (λ workers. AreFreshQueues workers.items) }
@@ -73,13 +77,14 @@ fn open_queue_workers(
 }
 
 /// Opens workers with no ends to others' queues, and answers these ends apart, queue by queue.
-fn open_without_ends(
+fn open_without_ends<const SLI: u32>(
     alloc: Global,
     n: u32,
     words: u32,
     capacity: u32,
-) -> Result<(Vec<QueueWorker>, Vec<Vec<PosterEnd>>), NoMemory>
-    requires { AreSizes n words capacity }
+) -> Result<(Vec<QueueWorker<SLI>>, Vec<Vec<PosterEnd>>), NoMemory>
+    requires level { IsLevel SLI }
+    requires sizes { AreSizes SLI n words capacity }
     ensures given { IfOk result (λ r. AreGiven n words capacity n r.0.items) }
     ensures ends { IfOk result (λ r. AreEnds r.0.items r.1.items × (vec_len r.1 ≡ n)) }
 {
@@ -94,14 +99,15 @@ fn open_without_ends(
 }
 
 /// Opens a worker with room for ends to `n` queues.
-fn open_queue_worker(
+fn open_queue_worker<const SLI: u32>(
     alloc: Global,
     id: u32,
     n: u32,
     words: u32,
     own: OwnerEnd,
-) -> Result<QueueWorker, NoMemory>
-    requires { IsRegion 4 words }
+) -> Result<QueueWorker<SLI>, NoMemory>
+    requires level { IsLevel SLI }
+    requires region { IsRegion SLI words }
     ensures heap { IfOk result (λ worker. queue_heap worker ≡ opened id words 0) }
     ensures numbers { IfOk result (λ worker. (queue_id worker ≡ id) × (worker.own ≡ own)) }
     ensures posts { IfOk result (λ worker. worker.posts.items ≡ replicate n None) }
@@ -117,51 +123,47 @@ fn open_queue_worker(
 }
 
 /// Gives each worker its end to each other queue, the last one first.
-fn give_all(workers: &mut [QueueWorker], ends: &mut Vec<Vec<PosterEnd>>)
+fn give_all<const SLI: u32>(workers: &mut [QueueWorker<SLI>], ends: &mut Vec<Vec<PosterEnd>>)
     requires given { (words : ℕ) × (capacity : ℕ) × AreGiven (length workers.old) words capacity (vec_len ends.old) workers.old }
     requires ends { AreEnds workers.old ends.old.items × (vec_len ends.old ≤ length workers.old) }
     ensures { (words capacity : ℕ) → AreGiven (length workers.old) words capacity (vec_len ends.old) workers.old
         → AreGiven (length workers.old) words capacity 0 workers.new }
 {
-    let Some(mut posters) = ends.pop() else {
-        return;
-    };
-    let k = workers.len();
-    give_ends(workers, ends.len(), k, &mut posters);
-    give_all(workers, ends);
+    while let Some(mut posters) = ends.pop() {
+        let k = workers.len();
+        give_ends(workers, ends.len(), k, &mut posters);
+    }
 }
 
 /// Gives each worker below `k` its end to queue `j`, the last one first.
-pub(crate) fn give_ends(
-    workers: &mut [QueueWorker],
+pub(crate) fn give_ends<const SLI: u32>(
+    workers: &mut [QueueWorker<SLI>],
     j: usize,
     k: usize,
     posters: &mut Vec<PosterEnd>,
 )
     requires inside { k ≤ length workers.old }
-    requires slots { (i : ℕ) (a : QueueWorker) → i ≢ j → slice_get workers.old i ≡ Some a → j < length a.posts.items }
+    requires slots { HaveSlotsFor j workers.old }
     requires numbers { map number_of posters.old.items ≡ below_but j k }
     ensures gave { GaveEnds workers.old j k posters.old.items workers.new }
     ensures capacity { vec_capacity posters.new ≡ vec_capacity posters.old }
 {
-    if k == 0 {
-        return;
-    }
-    let i = k - 1;
-    if i == j {
+    let mut i = k;
+    while i > 0 {
+        i -= 1;
         // The owner has no end to its own queue.
-        give_ends(workers, j, i, posters);
-        return;
+        if i == j {
+            continue;
+        }
+        let Some(end) = posters.pop() else {
+            unreachable!()
+        };
+        put_end(&mut workers[i], j, end);
     }
-    let Some(end) = posters.pop() else {
-        unreachable!()
-    };
-    put_end(&mut workers[i], j, end);
-    give_ends(workers, j, i, posters);
 }
 
 /// Puts an end into its slot.
-fn put_end(worker: &mut QueueWorker, j: usize, end: PosterEnd)
+fn put_end<const SLI: u32>(worker: &mut QueueWorker<SLI>, j: usize, end: PosterEnd)
     requires { j < vec_len worker.old.posts }
     ensures posts { worker.new.posts.items ≡ slice_set worker.old.posts.items j (Some end) }
     ensures same { (worker.new.heap ≡ worker.old.heap) × (worker.new.id ≡ worker.old.id) × (worker.new.own ≡ worker.old.own) }

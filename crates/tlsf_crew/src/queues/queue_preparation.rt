@@ -29,16 +29,16 @@ fn count_all_releases(scripts: &[Vec<Call>]) -> usize
 
 /// A worker with its script, and the room for its record: one entry for each call, one for each post that it may take, and
 /// one for the last drain.
-fn make_task(
+fn make_task<const SLI: u32>(
     alloc: Global,
-    worker: QueueWorker,
+    worker: QueueWorker<SLI>,
     script: Vec<Call>,
     limit: usize,
-) -> Result<QueueTask, NoMemory>
+) -> Result<QueueTask<SLI>, NoMemory>
     requires yard { KnowsSomeYard worker }
     requires short { vec_len script < 2 ^ 32 }
     requires few { limit ≤ 2 ^ 36 }
-    ensures { IfOk result (λ task. (task.worker ≡ worker) × (task.script ≡ script) × IsQueueReady task) }
+    ensures { IfOk result (λ task. (task.worker ≡ worker.entry) × (task.script ≡ script) × IsQueueReady task) }
 {
     let made = Vec::with_capacity(alloc, script.len())?;
     let entries = Vec::with_capacity(alloc, script.len() + limit + 1)?;
@@ -52,12 +52,12 @@ fn make_task(
 }
 
 /// Pairs each worker with its script, in order, and makes the room for its record.
-fn add_tasks(
+fn add_tasks<const SLI: u32>(
     alloc: Global,
-    workers: &mut Vec<QueueWorker>,
+    workers: &mut Vec<QueueWorker<SLI>>,
     scripts: &mut Vec<Vec<Call>>,
     limit: usize,
-    tasks: &mut Vec<QueueTask>,
+    tasks: &mut Vec<QueueTask<SLI>>,
 ) -> Result<(), NoMemory>
     requires same { vec_len scripts.old ≡ vec_len workers.old }
     requires yard { All KnowsSomeYard workers.old.items }
@@ -70,32 +70,31 @@ fn add_tasks(
     ensures len { OnOk result (vec_len tasks.new ≡ vec_len workers.old) }
     ensures capacity { vec_capacity tasks.new ≡ vec_capacity tasks.old }
 {
-    let Some(script) = scripts.pop() else {
-        return Ok(());
-    };
-    let Some(worker) = workers.pop() else {
-        return Ok(());
-    };
-    let task = make_task(alloc, worker, script, limit)?;
-    add_tasks(alloc, workers, scripts, limit, tasks)?;
-    tasks.push_reserved(task);
+    while let Some(worker) = workers.pop() {
+        let Some(script) = scripts.pop() else {
+            unreachable!()
+        };
+        let task = make_task(alloc, worker, script, limit)?;
+        tasks.push_reserved(task);
+    }
+    tasks.reverse();
     Ok(())
 }
 
 /// A task for each worker of a whole yard, in order. Each may take the posts that wait in its queue, and one for each
 /// release of any script: no more can come.
-pub(crate) fn prepare_tasks(
+pub(crate) fn prepare_tasks<const SLI: u32>(
     alloc: Global,
-    workers: Vec<QueueWorker>,
+    workers: Vec<QueueWorker<SLI>>,
     scripts: Vec<Vec<Call>>,
-) -> Result<Vec<QueueTask>, NoMemory>
+) -> Result<Vec<QueueTask<SLI>>, NoMemory>
     requires yard { IsQueueYard workers.items }
     requires count { vec_len scripts ≡ vec_len workers }
     requires short { All (λ s. vec_len s < 2 ^ 32) scripts.items }
-    ensures workers { IfOk result (λ tasks. map (λ t. t.worker) tasks.items ≡ workers.items) }
+    ensures workers { IfOk result (λ tasks. map (λ t. t.worker) tasks.items ≡ workers.entry.items) }
     ensures scripts { IfOk result (λ tasks. map (λ t. t.script) tasks.items ≡ scripts.items) }
     ensures ready { IfOk result (λ tasks. All IsQueueReady tasks.items) }
-    ensures len { IfOk result (λ tasks. vec_len tasks ≡ vec_len workers) }
+    ensures len { IfOk result (λ tasks. vec_len tasks ≡ vec_len workers.entry) }
 {
     let mut workers = workers;
     let mut scripts = scripts;

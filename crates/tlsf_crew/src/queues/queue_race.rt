@@ -42,17 +42,17 @@ use tlsf_post::{NoMemory, PosterEnd};
 /// let outcome = race_queues(rt, alloc, workers, vec![in alloc; first, second]?, &OpenGate)?;
 /// let record = &outcome.records[0]; // the release: Posted; the take of `ours` from worker 1; the last drain: Drained(1)
 /// ```
-pub fn race_queues<R: Threads + Wait + Sync, G: Gate>(
+pub fn race_queues<const SLI: u32, R: Threads + Wait + Sync, G: Gate>(
     rt: &R,
     alloc: Global,
-    workers: Vec<QueueWorker>,
+    workers: Vec<QueueWorker<SLI>>,
     scripts: Vec<Vec<Call>>,
     gate: &G,
-) -> Result<QueueOutcome, NoMemory>
+) -> Result<QueueOutcome<SLI>, NoMemory>
     requires yard { IsQueueYard workers.items }
     requires count { vec_len scripts ≡ vec_len workers }
     requires short { All (λ s. vec_len s < 2 ^ 32) scripts.items }
-    ensures race { IfOk result (λ o. IsQueueRace (queue_world_of workers.items) (map (λ s. s.items) scripts.items)
+    ensures race { IfOk result (λ o. IsQueueRace (queue_world_of workers.entry.items) (map (λ s. s.items) scripts.items)
         (map (λ r. r.items) o.records.items) (queue_world_of o.workers.items)) }
     ensures yard { IfOk result (λ o. IsQueueYard o.workers.items) }
 {
@@ -71,7 +71,10 @@ pub fn race_queues<R: Threads + Wait + Sync, G: Gate>(
 }
 
 /// Room for what so many workers hand back.
-fn room_for_outcome(alloc: Global, count: usize) -> Result<QueueOutcome, NoMemory>
+fn room_for_outcome<const SLI: u32>(
+    alloc: Global,
+    count: usize,
+) -> Result<QueueOutcome<SLI>, NoMemory>
     ensures empty { IfOk result (λ out. (out.workers.items ≡ []) × (out.records.items ≡ [])) }
     ensures room { IfOk result (λ out. (count ≤ vec_capacity out.workers) × (count ≤ vec_capacity out.records)) }
 {
@@ -81,7 +84,7 @@ fn room_for_outcome(alloc: Global, count: usize) -> Result<QueueOutcome, NoMemor
 }
 
 /// Takes apart what was done.
-fn take_apart(done: &mut Vec<QueueDone>, out: &mut QueueOutcome)
+fn take_apart<const SLI: u32>(done: &mut Vec<QueueDone<SLI>>, out: &mut QueueOutcome<SLI>)
     requires empty { (out.old.workers.items ≡ []) × (out.old.records.items ≡ []) }
     requires room { (vec_len done.old ≤ vec_capacity out.old.workers) × (vec_len done.old ≤ vec_capacity out.old.records) }
     ensures parts { (out.new.workers.items ≡ map (λ d. d.worker) done.old.items) × (out.new.records.items ≡ map (λ d. d.entries) done.old.items) }
@@ -104,17 +107,17 @@ fn take_apart(done: &mut Vec<QueueDone>, out: &mut QueueOutcome)
 }
 
 /// Makes all room, and runs each script in a thread of its own.
-fn run_scripts<R: Threads + Wait + Sync, G: Gate>(
+fn run_scripts<const SLI: u32, R: Threads + Wait + Sync, G: Gate>(
     rt: &R,
     alloc: Global,
-    workers: Vec<QueueWorker>,
+    workers: Vec<QueueWorker<SLI>>,
     scripts: Vec<Vec<Call>>,
     gate: &G,
-) -> Result<QueueOutcome, NoMemory>
+) -> Result<QueueOutcome<SLI>, NoMemory>
     requires yard { IsQueueYard workers.items }
     requires count { vec_len scripts ≡ vec_len workers }
     requires short { All (λ s. vec_len s < 2 ^ 32) scripts.items }
-    ensures run { IfOk result (λ o. HaveQueuesRun workers.items (map (λ s. s.items) scripts.items) (map (λ r. r.items) o.records.items) o.workers.items) }
+    ensures run { IfOk result (λ o. HaveQueuesRun workers.entry.items (map (λ s. s.items) scripts.items) (map (λ r. r.items) o.records.items) o.workers.items) }
     ensures places { IfOk result (λ o. All HasPlace o.records.items) }
 {
     let tasks = prepare_tasks(alloc, workers, scripts)?;
@@ -125,10 +128,10 @@ fn run_scripts<R: Threads + Wait + Sync, G: Gate>(
 }
 
 /// Settles the queues, drains each worker, and settles them again.
-fn finish<R: Wait>(
+fn finish<const SLI: u32, R: Wait>(
     rt: &R,
     alloc: Global,
-    workers: &mut [QueueWorker],
+    workers: &mut [QueueWorker<SLI>],
     records: &mut [Vec<Entry>],
     posters: &mut Vec<PosterEnd>,
 )
@@ -144,10 +147,10 @@ fn finish<R: Wait>(
 }
 
 /// Drains each worker, in rising number.
-fn drain_all<R: Wait>(
+fn drain_all<const SLI: u32, R: Wait>(
     rt: &R,
     alloc: Global,
-    workers: &mut [QueueWorker],
+    workers: &mut [QueueWorker<SLI>],
     records: &mut [Vec<Entry>],
 )
     requires yard { All KnowsSomeYard workers.old }
@@ -162,7 +165,12 @@ fn drain_all<R: Wait>(
 
 /// Takes all that waits for a worker. Nobody posts any more, and there is room for an entry of each post: so the queue is
 /// empty at the end, and the drain doesn't wait for long.
-fn drain_last<R: Wait>(rt: &R, alloc: Global, worker: &mut QueueWorker, entries: &mut Vec<Entry>)
+fn drain_last<const SLI: u32, R: Wait>(
+    rt: &R,
+    alloc: Global,
+    worker: &mut QueueWorker<SLI>,
+    entries: &mut Vec<Entry>,
+)
     requires yard { KnowsSomeYard worker.old }
     requires place { HasPlace entries.old }
     ensures { (n : ℕ) → KnowsQueueYard n worker.old → DrainedLast n worker.old worker.new entries.old.items entries.new.items }

@@ -11,7 +11,7 @@ use crate::queues::queue_worker::QueueWorker;
 use tlsf_post::{PosterEnd, meet};
 
 /// Takes an end out of its slot, if there is one.
-fn take_end(worker: &mut QueueWorker, j: usize) -> Option<PosterEnd>
+fn take_end<const SLI: u32>(worker: &mut QueueWorker<SLI>, j: usize) -> Option<PosterEnd>
     requires { j < vec_len worker.old.posts }
     ensures end { result ≡ queue_end_to worker.old j }
     ensures gave { GaveUpEnd worker.old worker.new j }
@@ -20,7 +20,7 @@ fn take_end(worker: &mut QueueWorker, j: usize) -> Option<PosterEnd>
 }
 
 /// Takes an end out of its slot, if there is one, and adds it to others.
-fn gather_end(worker: &mut QueueWorker, j: usize, posters: &mut Vec<PosterEnd>)
+fn gather_end<const SLI: u32>(worker: &mut QueueWorker<SLI>, j: usize, posters: &mut Vec<PosterEnd>)
     requires slot { j < vec_len worker.old.posts }
     requires room { vec_len posters.old < vec_capacity posters.old }
     ensures ends { posters.new.items ≡ posters.old.items ++ option_to_list (queue_end_to worker.old j) }
@@ -34,7 +34,11 @@ fn gather_end(worker: &mut QueueWorker, j: usize, posters: &mut Vec<PosterEnd>)
 }
 
 /// Takes each other worker's end to queue `j`, by rising number.
-fn gather_ends(workers: &mut [QueueWorker], j: usize, posters: &mut Vec<PosterEnd>)
+fn gather_ends<const SLI: u32>(
+    workers: &mut [QueueWorker<SLI>],
+    j: usize,
+    posters: &mut Vec<PosterEnd>,
+)
     requires yard { IsQueueYard workers.old }
     requires inside { j < length workers.old }
     requires room { (posters.old.items ≡ []) × (length workers.old ≤ vec_capacity posters.old) }
@@ -49,7 +53,7 @@ fn gather_ends(workers: &mut [QueueWorker], j: usize, posters: &mut Vec<PosterEn
 }
 
 /// Tells the owner all that was put into its queue, with all ends to it at hand.
-fn meet_owner(worker: &mut QueueWorker, posters: &mut Vec<PosterEnd>)
+fn meet_owner<const SLI: u32>(worker: &mut QueueWorker<SLI>, posters: &mut Vec<PosterEnd>)
     requires { IsWhole worker.old.own posters.old.items }
     ensures met { HaveMet worker.old.own posters.old.items worker.new.own posters.new.items }
     ensures same { (worker.new.heap ≡ worker.old.heap) × (worker.new.id ≡ worker.old.id) × (worker.new.posts ≡ worker.old.posts) }
@@ -59,7 +63,11 @@ fn meet_owner(worker: &mut QueueWorker, posters: &mut Vec<PosterEnd>)
 }
 
 /// Tells the owner of queue `j` all that was put into it. `posters` has room for the ends meanwhile.
-fn settle_queue(workers: &mut [QueueWorker], j: usize, posters: &mut Vec<PosterEnd>)
+fn settle_queue<const SLI: u32>(
+    workers: &mut [QueueWorker<SLI>],
+    j: usize,
+    posters: &mut Vec<PosterEnd>,
+)
     requires yard { IsQueueYard workers.old }
     requires inside { j < length workers.old }
     requires room { length workers.old ≤ vec_capacity posters.old }
@@ -74,7 +82,10 @@ fn settle_queue(workers: &mut [QueueWorker], j: usize, posters: &mut Vec<PosterE
 }
 
 /// Tells each owner all that was put into its queue. `posters` has room for the ends to one queue meanwhile.
-pub(crate) fn settle_queues(workers: &mut [QueueWorker], posters: &mut Vec<PosterEnd>)
+pub(crate) fn settle_queues<const SLI: u32>(
+    workers: &mut [QueueWorker<SLI>],
+    posters: &mut Vec<PosterEnd>,
+)
     requires yard { IsQueueYard workers.old }
     requires room { length workers.old ≤ vec_capacity posters.old }
     ensures settled { QueuesSettled workers.old (length workers.old) workers.new }

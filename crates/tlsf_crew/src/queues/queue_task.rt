@@ -12,8 +12,8 @@ use tlsf_heap::Name;
 
 /// What the thread of one worker of a race over queues is given.
 #[derive(Drop)]
-pub(crate) struct QueueTask {
-    pub(crate) worker: QueueWorker,
+pub(crate) struct QueueTask<const SLI: u32> {
+    pub(crate) worker: QueueWorker<SLI>,
     pub(crate) script: Vec<Call>,
     // How many posts it may take.
     pub(crate) limit: usize,
@@ -23,15 +23,15 @@ pub(crate) struct QueueTask {
     pub(crate) entries: Vec<Entry>,
 }
 
-impl Work for QueueTask {
-    type Done = QueueDone;
+impl<const SLI: u32> Work for QueueTask<SLI> {
+    type Done = QueueDone<SLI>;
 
     ghost is_ready = { λ task. IsQueueReady task };
 
     ghost is_done = { λ task done. IsQueueDone task done };
 
     /// Runs the script. The gate is passed before each call, and once after the last.
-    fn run<R: Wait, G: Gate>(self, rt: &R, gate: &G) -> QueueDone {
+    fn run<R: Wait, G: Gate>(self, rt: &R, gate: &G) -> QueueDone<SLI> {
         let QueueTask {
             mut worker,
             script,

@@ -17,10 +17,10 @@ use tlsf_heap::{Heap, Name, Refusal, Report};
 use tlsf_post::{OwnerEnd, Post, PosterEnd};
 
 /// A worker over queues: the owner of one heap and of one queue, into which all others of its yard post, with an end to
-/// the queue of each of them.
+/// the queue of each of them. `SLI` is the level of the yard's heaps, 4 or 5.
 #[derive(Drop)]
-pub struct QueueWorker {
-    pub(crate) heap: Heap<4>,
+pub struct QueueWorker<const SLI: u32> {
+    pub(crate) heap: Heap<SLI>,
     pub(crate) id: u32,
     pub(crate) own: OwnerEnd,
     // The end to the queue of each other worker; none to its own.
@@ -28,7 +28,7 @@ pub struct QueueWorker {
 }
 
 /// Whether the worker has an end to the queue of worker j.
-fn has_queue_end(worker: &QueueWorker, j: usize) -> bool
+fn has_queue_end<const SLI: u32>(worker: &QueueWorker<SLI>, j: usize) -> bool
     ensures yes { result ≡ true → HasQueueEnd worker.now j }
     ensures no { result ≡ false → ¬ (HasQueueEnd worker.now j) }
 {
@@ -40,7 +40,12 @@ fn has_queue_end(worker: &QueueWorker, j: usize) -> bool
 }
 
 /// Puts a name through the own end.
-fn put_to_queue<R: Wait>(rt: &R, poster: &mut QueueWorker, j: usize, name: Name) -> Result<(), Name>
+fn put_to_queue<const SLI: u32, R: Wait>(
+    rt: &R,
+    poster: &mut QueueWorker<SLI>,
+    j: usize,
+    name: Name,
+) -> Result<(), Name>
     requires { HasQueueEnd poster.old j }
     ensures put { PutToQueue poster.old poster.new j name result }
     ensures heap { poster.new.heap ≡ poster.old.heap }
@@ -52,7 +57,7 @@ fn put_to_queue<R: Wait>(rt: &R, poster: &mut QueueWorker, j: usize, name: Name)
 }
 
 /// Takes from the own queue.
-fn take_from_queue<R: Wait>(rt: &R, taker: &mut QueueWorker) -> Option<Post>
+fn take_from_queue<const SLI: u32, R: Wait>(rt: &R, taker: &mut QueueWorker<SLI>) -> Option<Post>
     ensures took { TookFromQueue taker.old taker.new result }
     ensures heap { taker.new.heap ≡ taker.old.heap }
 {
@@ -60,7 +65,10 @@ fn take_from_queue<R: Wait>(rt: &R, taker: &mut QueueWorker) -> Option<Post>
 }
 
 /// Takes from the own queue, and releases the block that the post names.
-fn take_next_in_queue<R: Wait>(rt: &R, worker: &mut QueueWorker) -> Option<Took>
+fn take_next_in_queue<const SLI: u32, R: Wait>(
+    rt: &R,
+    worker: &mut QueueWorker<SLI>,
+) -> Option<Took>
     ensures taken { TakenFromQueue worker.old worker.new result }
     ensures yard { KeepsQueueYards worker.old worker.new }
     ensures touches { OnSome result (queue_touches worker.new ≤ queue_touches worker.old + 64) }
@@ -78,9 +86,9 @@ fn take_next_in_queue<R: Wait>(rt: &R, worker: &mut QueueWorker) -> Option<Took>
 
 /// Takes from the own queue until `most` posts were taken or it is empty, and notes each take. Where the notes admit no
 /// more, all that may come was taken, and it waits for the queue to be seen empty.
-pub(crate) fn drain_queue<R: Wait, N: QueueNotes>(
+pub(crate) fn drain_queue<const SLI: u32, R: Wait, N: QueueNotes>(
     rt: &R,
-    worker: &mut QueueWorker,
+    worker: &mut QueueWorker<SLI>,
     most: u32,
     notes: &mut N,
 ) -> Drained
@@ -110,18 +118,18 @@ pub(crate) fn drain_queue<R: Wait, N: QueueNotes>(
     drained
 }
 
-impl QueueWorker {
+impl<const SLI: u32> QueueWorker<SLI> {
     /// Gives a block of the own heap that holds `len` bytes of payload, all zero. As [`crate::Worker::allocate`].
     ///
     /// ```
     /// let name = worker.allocate(100)?; // a block of at least 100 bytes, all zero
     /// ```
     pub fn allocate(&mut self, len: u32) -> Result<Name, CrewRefusal>
-        ensures answer { result ≡ by_heap (allocated 4 (queue_heap self.old) len).answer }
-        ensures heap { queue_heap self.new ≡ (allocated 4 (queue_heap self.old) len).heap }
+        ensures answer { result ≡ by_heap (allocated SLI (queue_heap self.old) len).answer }
+        ensures heap { queue_heap self.new ≡ (allocated SLI (queue_heap self.old) len).heap }
         ensures same { SameButQueueHeap self.old self.new }
         ensures yard { KeepsQueueYards self.old self.new }
-        ensures touches { queue_touches self.new ≤ queue_touches self.old + 64 + payload_words_given (allocated 4 (queue_heap self.old) len).answer (queue_heap self.new) }
+        ensures touches { queue_touches self.new ≤ queue_touches self.old + 64 + payload_words_given (allocated SLI (queue_heap self.old) len).answer (queue_heap self.new) }
         ensures touches_rise { queue_touches self.old ≤ queue_touches self.new }
     {
         own_calls::allocate(&mut self.heap, len)
@@ -199,7 +207,7 @@ impl QueueWorker {
     /// let live = worker.report().live_bytes;
     /// ```
     pub fn report(&mut self) -> Report
-        ensures report { result ≡ report_of 4 (queue_heap self.old) }
+        ensures report { result ≡ report_of SLI (queue_heap self.old) }
         ensures heap { queue_heap self.new ≡ queue_heap self.old }
         ensures same { SameButQueueHeap self.old self.new }
         ensures yard { KeepsQueueYards self.old self.new }

@@ -1,3 +1,4 @@
+ghost use Rattle.std.specs.Prelude.{ℕ};
 ghost use Rattle.tlsf_crew.specs.threads.Alone.{RaceIsOne, RaceRunsAlone};
 
 /// Where no script has a take or a drain, a race comes to one thing, whatever the schedule of its threads: its records and the
@@ -11,8 +12,8 @@ ghost use Rattle.tlsf_crew.specs.threads.Alone.{RaceIsOne, RaceRunsAlone};
 /// in every schedule: 0 Made(y), 0 Take(1): Took(x, Ok), 0 Drained(1); 1 Posted, 1 Drained(0)
 /// ```
 pub fn race_without_takes()
-    ensures one { RaceIsOne }
+    ensures one { (sli : ℕ) → RaceIsOne sli }
 
     // What it comes to: each script is answered as if it ran alone, and then each worker drains what the others left for it.
-    ensures alone { RaceRunsAlone }
+    ensures alone { (sli : ℕ) → RaceRunsAlone sli }
 {}

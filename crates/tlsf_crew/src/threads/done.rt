@@ -4,8 +4,8 @@ use tlsf_heap::Name;
 
 /// What the thread of one worker of a race hands back.
 #[derive(Drop)]
-pub(crate) struct Done {
-    pub(crate) worker: Worker,
+pub(crate) struct Done<const SLI: u32> {
+    pub(crate) worker: Worker<SLI>,
     pub(crate) made: Vec<Option<Name>>,
     pub(crate) entries: Vec<Entry>,
 }

@@ -79,7 +79,7 @@ where
 }
 
 /// Takes apart what was done.
-pub(crate) fn take_apart(done: &mut Vec<Done>, out: &mut Outcome)
+pub(crate) fn take_apart<const SLI: u32>(done: &mut Vec<Done<SLI>>, out: &mut Outcome<SLI>)
     requires empty { (out.old.workers.items ≡ []) × (out.old.records.items ≡ []) }
     requires room { (vec_len done.old ≤ vec_capacity out.old.workers) × (vec_len done.old ≤ vec_capacity out.old.records) }
     ensures parts { (out.new.workers.items ≡ map (λ d. d.worker) done.old.items) × (out.new.records.items ≡ map (λ d. d.entries) done.old.items) }

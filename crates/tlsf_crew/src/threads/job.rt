@@ -12,8 +12,8 @@ use tlsf_heap::Name;
 
 /// What the thread of one worker of a race is given.
 #[derive(Drop)]
-pub(crate) struct Job {
-    pub(crate) worker: Worker,
+pub(crate) struct Job<const SLI: u32> {
+    pub(crate) worker: Worker<SLI>,
     // How many workers race, 1 to 8.
     pub(crate) count: u32,
     pub(crate) script: Vec<Call>,
@@ -25,15 +25,15 @@ pub(crate) struct Job {
     pub(crate) entries: Vec<Entry>,
 }
 
-impl Work for Job {
-    type Done = Done;
+impl<const SLI: u32> Work for Job<SLI> {
+    type Done = Done<SLI>;
 
     ghost is_ready = { λ job. IsReady job };
 
     ghost is_done = { λ job done. IsDone job done };
 
     /// Runs the script. The gate is passed before each call, and once after the last.
-    fn run<R: Wait, G: Gate>(self, _rt: &R, gate: &G) -> Done {
+    fn run<R: Wait, G: Gate>(self, _rt: &R, gate: &G) -> Done<SLI> {
         let Job {
             mut worker,
             count,

@@ -20,22 +20,22 @@ ghost use Rattle.tlsf_calls.specs.declared.entry.Entry.{Entry};
 pub fn one_history_of_a_race()
     // A record tells the calls of its worker's script and then the last drain, each once and in order, and the name that
     // each made.
-    ensures told { (w v : World) (scripts : List (List Call)) (records : List (List Entry)) (race : IsRace w scripts records v) (j : ℕ) → j < length w.heaps →
+    ensures told { (sli : ℕ) (w v : World sli) (scripts : List (List Call)) (records : List (List Entry)) (race : IsRace w scripts records v) (j : ℕ) → j < length w.heaps →
         Tells (length w.heaps) [] (events_of_race scripts j) (race.made j) (record_of records j) }
 
     // The calls that it tells of its worker's heap, run on it in turn, give the answers that it tells, and the heap that
     // comes back.
-    ensures heaps { (w v : World) (scripts : List (List Call)) (records : List (List Entry)) (race : IsRace w scripts records v) (j : ℕ) → j < length w.heaps →
-        RunsTo (heap_in w j) (calls_on j (race.made j) (record_of records j)) (answers_on j (record_of records j)) (heap_in v j) }
+    ensures heaps { (sli : ℕ) (w v : World sli) (scripts : List (List Call)) (records : List (List Entry)) (race : IsRace w scripts records v) (j : ℕ) → j < length w.heaps →
+        RunsTo sli (heap_in w j) (calls_on j (race.made j) (record_of records j)) (answers_on j (record_of records j)) (heap_in v j) }
 
     // What waited in a lane, and then what was posted, is what was taken. So no post is lost, doubled or overtaken.
-    ensures posts { (w v : World) (scripts : List (List Call)) (records : List (List Entry)) (race : IsRace w scripts records v) (i j : ℕ) → i < length w.heaps → j < length w.heaps → i ≢ j →
+    ensures posts { (sli : ℕ) (w v : World sli) (scripts : List (List Call)) (records : List (List Entry)) (race : IsRace w scripts records v) (i j : ℕ) → i < length w.heaps → j < length w.heaps → i ≢ j →
         w.waiting i j ++ posts_made i j (race.made i) (record_of records i) ≡ posts_taken i j (record_of records j) }
 
     // Live blocks never overlap and free blocks never touch.
-    ensures lawful { (w v : World) (scripts : List (List Call)) (records : List (List Entry)) → IsRace w scripts records v → AreLawful w → AreLawful v }
+    ensures lawful { (sli : ℕ) (w v : World sli) (scripts : List (List Call)) (records : List (List Entry)) → IsRace w scripts records v → AreLawful w → AreLawful v }
 
     // So it is after each entry: each heap is what the calls that its record has told so far leave, and lawful.
-    ensures always_lawful { (w v : World) (scripts : List (List Call)) (records : List (List Entry)) (race : IsRace w scripts records v) (before later : List Entry) (j : ℕ) → AreLawful w → j < length w.heaps →
-        record_of records j ≡ before ++ later → RunsThrough (heap_in w j) j (race.made j) before later (heap_in v j) }
+    ensures always_lawful { (sli : ℕ) (w v : World sli) (scripts : List (List Call)) (records : List (List Entry)) (race : IsRace w scripts records v) (before later : List Entry) (j : ℕ) → AreLawful w → j < length w.heaps →
+        record_of records j ≡ before ++ later → RunsThrough sli (heap_in w j) j (race.made j) before later (heap_in v j) }
 {}

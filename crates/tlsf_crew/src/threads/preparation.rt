@@ -40,7 +40,7 @@ pub(crate) fn count_all(scripts: &[Vec<Call>]) -> [u32; 8]
 
 /// How many posts a worker may take from each other one: those that are ready, and one for each release of the other's
 /// script.
-fn limits_for(worker: &Worker, releases: &[u32; 8]) -> [u32; 8]
+fn limits_for<const SLI: u32>(worker: &Worker<SLI>, releases: &[u32; 8]) -> [u32; 8]
     ensures least { (i : ℕ) → i < 8 → ready_from worker.now i ≤ slice_index result i }
     ensures most { (i : ℕ) → i < 8 → slice_index result i ≤ most_from releases.now worker.now i }
     ensures reach { (i : ℕ) → i < 8 → min (most_from releases.now worker.now i) (2 ^ 32 - 1) ≤ slice_index result i }
@@ -53,7 +53,7 @@ fn limits_for(worker: &Worker, releases: &[u32; 8]) -> [u32; 8]
 }
 
 /// Room for the entries of a worker: one for each call, one for each post that it may take, and one for the last drain.
-fn room_for_record(worker: &Worker, releases: &[u32; 8], calls: usize) -> usize
+fn room_for_record<const SLI: u32>(worker: &Worker<SLI>, releases: &[u32; 8], calls: usize) -> usize
     requires { calls < 2 ^ 32 }
     ensures { result ≡ calls + sum_below 8 (most_from releases.now worker.now) + 1 }
 {
@@ -65,9 +65,9 @@ fn room_for_record(worker: &Worker, releases: &[u32; 8], calls: usize) -> usize
 }
 
 /// Room for the names that so many calls make, and for the record of the worker that makes them.
-fn room_for_job(
+fn room_for_job<const SLI: u32>(
     alloc: Global,
-    worker: &Worker,
+    worker: &Worker<SLI>,
     releases: &[u32; 8],
     calls: usize,
 ) -> Result<(Vec<Option<Name>>, Vec<Entry>), NoMemory>
@@ -82,16 +82,16 @@ fn room_for_job(
 }
 
 /// A worker with its script, and the room for its record.
-fn make_job(
+fn make_job<const SLI: u32>(
     alloc: Global,
-    worker: Worker,
+    worker: Worker<SLI>,
     script: Vec<Call>,
     count: u32,
     releases: &[u32; 8],
-) -> Result<Job, NoMemory>
+) -> Result<Job<SLI>, NoMemory>
     requires yard { KnowsYard count worker }
     requires short { vec_len script < 2 ^ 32 }
-    ensures { IfOk result (λ job. (job.worker ≡ worker) × (job.script ≡ script) × IsPrepared count releases.now job) }
+    ensures { IfOk result (λ job. (job.worker ≡ worker.entry) × (job.script ≡ script) × IsPrepared count releases.now job) }
 {
     let limits = limits_for(&worker, releases);
     let (made, entries) = room_for_job(alloc, &worker, releases, script.len())?;
@@ -106,13 +106,13 @@ fn make_job(
 }
 
 /// Pairs each worker with its script, in order, and makes the room for its record.
-fn add_jobs(
+fn add_jobs<const SLI: u32>(
     alloc: Global,
-    workers: &mut Vec<Worker>,
+    workers: &mut Vec<Worker<SLI>>,
     scripts: &mut Vec<Vec<Call>>,
     count: u32,
     releases: &[u32; 8],
-    jobs: &mut Vec<Job>,
+    jobs: &mut Vec<Job<SLI>>,
 ) -> Result<(), NoMemory>
     requires same { vec_len scripts.old ≡ vec_len workers.old }
     requires yard { All (KnowsYard count) workers.old.items }
@@ -124,32 +124,31 @@ fn add_jobs(
     ensures len { OnOk result (vec_len jobs.new ≡ vec_len workers.old) }
     ensures capacity { vec_capacity jobs.new ≡ vec_capacity jobs.old }
 {
-    let Some(script) = scripts.pop() else {
-        return Ok(());
-    };
-    let Some(worker) = workers.pop() else {
-        return Ok(());
-    };
-    let job = make_job(alloc, worker, script, count, releases)?;
-    add_jobs(alloc, workers, scripts, count, releases, jobs)?;
-    jobs.push_reserved(job);
+    while let Some(worker) = workers.pop() {
+        let Some(script) = scripts.pop() else {
+            unreachable!()
+        };
+        let job = make_job(alloc, worker, script, count, releases)?;
+        jobs.push_reserved(job);
+    }
+    jobs.reverse();
     Ok(())
 }
 
 /// A job for each worker of a whole yard, in order.
-pub(crate) fn prepare(
+pub(crate) fn prepare<const SLI: u32>(
     alloc: Global,
-    workers: Vec<Worker>,
+    workers: Vec<Worker<SLI>>,
     scripts: Vec<Vec<Call>>,
     releases: &[u32; 8],
-) -> Result<Vec<Job>, NoMemory>
+) -> Result<Vec<Job<SLI>>, NoMemory>
     requires yard { IsYard workers.items }
     requires count { vec_len scripts ≡ vec_len workers }
     requires short { All (λ s. vec_len s < 2 ^ 32) scripts.items }
-    ensures workers { IfOk result (λ jobs. map (λ j. j.worker) jobs.items ≡ workers.items) }
+    ensures workers { IfOk result (λ jobs. map (λ j. j.worker) jobs.items ≡ workers.entry.items) }
     ensures scripts { IfOk result (λ jobs. map (λ j. j.script) jobs.items ≡ scripts.items) }
-    ensures ready { IfOk result (λ jobs. All (IsPrepared (vec_len workers) releases.now) jobs.items) }
-    ensures len { IfOk result (λ jobs. vec_len jobs ≡ vec_len workers) }
+    ensures ready { IfOk result (λ jobs. All (IsPrepared (vec_len workers.entry) releases.now) jobs.items) }
+    ensures len { IfOk result (λ jobs. vec_len jobs ≡ vec_len workers.entry) }
 {
     let mut workers = workers;
     let mut scripts = scripts;

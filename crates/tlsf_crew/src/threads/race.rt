@@ -48,20 +48,20 @@ use tlsf_post::NoMemory;
 /// let outcome = race(rt, alloc, workers, vec![in alloc; first, second]?, &OpenGate)?;
 /// let record = &outcome.records[0]; // the release: Posted; the take of `ours` from worker 1; the last drain: Drained(1)
 /// ```
-pub fn race<R: Threads + Wait + Sync, G: Gate>(
+pub fn race<const SLI: u32, R: Threads + Wait + Sync, G: Gate>(
     rt: &R,
     alloc: Global,
-    workers: Vec<Worker>,
+    workers: Vec<Worker<SLI>>,
     scripts: Vec<Vec<Call>>,
     gate: &G,
-) -> Result<Outcome, NoMemory>
+) -> Result<Outcome<SLI>, NoMemory>
     requires yard { IsYard workers.items }
     requires count { vec_len scripts ≡ vec_len workers }
     requires short { All (λ s. vec_len s < 2 ^ 32) scripts.items }
-    ensures race { IfOk result (λ o. IsRace (world_of workers.items) (map (λ s. s.items) scripts.items)
+    ensures race { IfOk result (λ o. IsRace (world_of workers.entry.items) (map (λ s. s.items) scripts.items)
         (map (λ r. r.items) o.records.items) (world_of o.workers.items)) }
     ensures yard { IfOk result (λ o. IsYard o.workers.items) }
-    ensures room { IfOk result (λ o. HaveRecordRooms (world_of workers.items) (map (λ s. s.items) scripts.items) o.records.items) }
+    ensures room { IfOk result (λ o. HaveRecordRooms (world_of workers.entry.items) (map (λ s. s.items) scripts.items) o.records.items) }
 {
     let mut workers = workers;
     settle(&mut workers);
@@ -72,7 +72,7 @@ pub fn race<R: Threads + Wait + Sync, G: Gate>(
 }
 
 /// Room for what so many workers hand back.
-fn room_for_outcome(alloc: Global, count: usize) -> Result<Outcome, NoMemory>
+fn room_for_outcome<const SLI: u32>(alloc: Global, count: usize) -> Result<Outcome<SLI>, NoMemory>
     ensures empty { IfOk result (λ out. (out.workers.items ≡ []) × (out.records.items ≡ [])) }
     ensures room { IfOk result (λ out. (count ≤ vec_capacity out.workers) × (count ≤ vec_capacity out.records)) }
 {
@@ -82,18 +82,18 @@ fn room_for_outcome(alloc: Global, count: usize) -> Result<Outcome, NoMemory>
 }
 
 /// Makes all room, and runs each script in a thread of its own.
-fn run_scripts<R: Threads + Wait + Sync, G: Gate>(
+fn run_scripts<const SLI: u32, R: Threads + Wait + Sync, G: Gate>(
     rt: &R,
     alloc: Global,
-    workers: Vec<Worker>,
+    workers: Vec<Worker<SLI>>,
     scripts: Vec<Vec<Call>>,
     gate: &G,
-) -> Result<Outcome, NoMemory>
+) -> Result<Outcome<SLI>, NoMemory>
     requires yard { IsYard workers.items }
     requires count { vec_len scripts ≡ vec_len workers }
     requires short { All (λ s. vec_len s < 2 ^ 32) scripts.items }
-    ensures run { IfOk result (λ o. HaveRun workers.items (map (λ s. s.items) scripts.items) (map (λ r. r.items) o.records.items) o.workers.items) }
-    ensures rooms { IfOk result (λ o. HaveRooms workers.items (map (λ s. s.items) scripts.items) o.records.items) }
+    ensures run { IfOk result (λ o. HaveRun workers.entry.items (map (λ s. s.items) scripts.items) (map (λ r. r.items) o.records.items) o.workers.items) }
+    ensures rooms { IfOk result (λ o. HaveRooms workers.entry.items (map (λ s. s.items) scripts.items) o.records.items) }
 {
     let releases = count_all(&scripts);
     let jobs = prepare(alloc, workers, scripts, &releases)?;
@@ -104,7 +104,11 @@ fn run_scripts<R: Threads + Wait + Sync, G: Gate>(
 }
 
 /// Drains each worker, in rising number.
-fn drain_last(alloc: Global, workers: &mut [Worker], records: &mut [Vec<Entry>])
+fn drain_last<const SLI: u32>(
+    alloc: Global,
+    workers: &mut [Worker<SLI>],
+    records: &mut [Vec<Entry>],
+)
     requires yard { IsYard workers.old }
     requires count { length records.old ≡ length workers.old }
     requires few { (j : ℕ) → HasFew workers.old j }
@@ -118,7 +122,12 @@ fn drain_last(alloc: Global, workers: &mut [Worker], records: &mut [Vec<Entry>])
 }
 
 /// Takes all that waits for a worker.
-fn drain_one(alloc: Global, workers: &mut [Worker], at: u32, entries: &mut Vec<Entry>)
+fn drain_one<const SLI: u32>(
+    alloc: Global,
+    workers: &mut [Worker<SLI>],
+    at: u32,
+    entries: &mut Vec<Entry>,
+)
     requires yard { IsYard workers.old }
     requires inside { at < length workers.old }
     requires few { HasFew workers.old at }

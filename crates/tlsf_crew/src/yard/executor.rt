@@ -49,14 +49,18 @@ pub(crate) fn answer(
 }
 
 /// Allocates `len` bytes on the own heap.
-fn reply_to_allocate(worker: &mut Worker, len: u32) -> Reply
+fn reply_to_allocate<const SLI: u32>(worker: &mut Worker<SLI>, len: u32) -> Reply
     ensures { (made : List (Option Name)) (limits : List ℕ) → CallStep made worker.old limits (Allocate len) worker.new limits result (λ w. allocating w (id_of worker.old) len) }
 {
     reply_to_own_allocate(&mut worker.heap, len)
 }
 
 /// Releases what a target means: a block of the own heap, or by a post another's.
-fn reply_to_release(worker: &mut Worker, target: Target, made: &[Option<Name>]) -> Reply
+fn reply_to_release<const SLI: u32>(
+    worker: &mut Worker<SLI>,
+    target: Target,
+    made: &[Option<Name>],
+) -> Reply
     ensures { (limits : List ℕ) → CallStep made.now worker.old limits (Release target) worker.new limits result (λ w. releasing_named w (id_of worker.old) (name_of made.now target)) }
 {
     let Some(name) = named(target, made) else {
@@ -70,8 +74,8 @@ fn reply_to_release(worker: &mut Worker, target: Target, made: &[Option<Name>]) 
 }
 
 /// Writes into the own block that a target means, from byte `from` of it on.
-fn reply_to_write(
-    worker: &mut Worker,
+fn reply_to_write<const SLI: u32>(
+    worker: &mut Worker<SLI>,
     target: Target,
     from: u32,
     bytes: Chunk,
@@ -83,8 +87,8 @@ fn reply_to_write(
 }
 
 /// Reads `n` bytes of the own block that a target means, from byte `from` of it on. More than 64 are refused.
-fn reply_to_read(
-    worker: &mut Worker,
+fn reply_to_read<const SLI: u32>(
+    worker: &mut Worker<SLI>,
     target: Target,
     from: u32,
     n: u32,
@@ -96,14 +100,23 @@ fn reply_to_read(
 }
 
 /// Resizes the own block that a target means, where it stands.
-fn reply_to_resize(worker: &mut Worker, target: Target, len: u32, made: &[Option<Name>]) -> Reply
+fn reply_to_resize<const SLI: u32>(
+    worker: &mut Worker<SLI>,
+    target: Target,
+    len: u32,
+    made: &[Option<Name>],
+) -> Reply
     ensures { (limits : List ℕ) → CallStep made.now worker.old limits (Resize target len) worker.new limits result (λ w. resizing_named w (id_of worker.old) (name_of made.now target) len) }
 {
     reply_to_own_resize(&mut worker.heap, target, len, made)
 }
 
 /// Takes the next post from another worker, and counts its limit down. At a limit of 0 the lane isn't asked.
-fn take_within(worker: &mut Worker, limits: &mut [u32; 8], from: u32) -> Option<Took>
+fn take_within<const SLI: u32>(
+    worker: &mut Worker<SLI>,
+    limits: &mut [u32; 8],
+    from: u32,
+) -> Option<Took>
     requires near { from < 8 }
     requires lane { HasTake worker.old from }
     ensures { TookWithin worker.old limits.old from worker.new limits.new result }
@@ -120,7 +133,12 @@ fn take_within(worker: &mut Worker, limits: &mut [u32; 8], from: u32) -> Option<
 }
 
 /// Takes the next post from a worker. It is `Stranger` where that is itself or none of `count`.
-fn reply_to_take(worker: &mut Worker, count: u32, limits: &mut [u32; 8], from: u32) -> Reply
+fn reply_to_take<const SLI: u32>(
+    worker: &mut Worker<SLI>,
+    count: u32,
+    limits: &mut [u32; 8],
+    from: u32,
+) -> Reply
     requires { KnowsYard count worker.old }
     ensures { (made : List (Option Name)) → CallStep made worker.old limits.old (Take from) worker.new limits.new result (λ w. taking w (id_of worker.old) from) }
 {
@@ -134,7 +152,12 @@ fn reply_to_take(worker: &mut Worker, count: u32, limits: &mut [u32; 8], from: u
 }
 
 /// Takes from the other workers, in rising number, until `most` posts were taken, each with an entry. Answers how many.
-fn drain_into_journal(worker: &mut Worker, count: u32, journal: &mut Journal, most: u32) -> u32
+fn drain_into_journal<const SLI: u32>(
+    worker: &mut Worker<SLI>,
+    count: u32,
+    journal: &mut Journal,
+    most: u32,
+) -> u32
     requires knows { KnowsYard count worker.old }
     requires room { HasRoom journal.old }
     ensures spent { EachLaneSpent worker.old journal.old.limits count most journal.old.entries.items worker.new journal.new.limits journal.new.entries.items result }
@@ -145,8 +168,8 @@ fn drain_into_journal(worker: &mut Worker, count: u32, journal: &mut Journal, mo
 
 /// Makes one call, and answers the reply. A drain's takes get their entries here, the call gets its own later.
 #[inline(always)]
-pub(crate) fn reply_to(
-    worker: &mut Worker,
+pub(crate) fn reply_to<const SLI: u32>(
+    worker: &mut Worker<SLI>,
     count: u32,
     journal: &mut Journal,
     call: Call,
@@ -169,8 +192,8 @@ pub(crate) fn reply_to(
 }
 
 /// Makes one call, with its entries and the name that it made.
-pub(crate) fn run_call(
-    worker: &mut Worker,
+pub(crate) fn run_call<const SLI: u32>(
+    worker: &mut Worker<SLI>,
     count: u32,
     journal: &mut Journal,
     call: Call,

@@ -16,24 +16,24 @@ ghost use Rattle.tlsf_calls.specs.declared.entry.Entry.{Entry};
 /// ```
 pub fn one_history()
     // The entries tell the events, each once and in order, and the name that each made.
-    ensures told { (w : World) (es : List Event) → let r = replies w es in Tells (length w.heaps) [] es r.made r.entries }
+    ensures told { (sli : ℕ) (w : World sli) (es : List Event) → let r = replies w es in Tells (length w.heaps) [] es r.made r.entries }
 
     // The calls that they tell of a heap, run on it in turn, give the answers that they tell, and the heap of the last world.
-    ensures heaps { (w : World) (es : List Event) (j : ℕ) → j < length w.heaps →
+    ensures heaps { (sli : ℕ) (w : World sli) (es : List Event) (j : ℕ) → j < length w.heaps →
         let r = replies w es in
-        RunsTo (heap_in w j) (calls_on j r.made r.entries) (answers_on j r.entries) (heap_in r.world j) }
+        RunsTo sli (heap_in w j) (calls_on j r.made r.entries) (answers_on j r.entries) (heap_in r.world j) }
 
     // What waited in a lane, and then what was posted, is what was taken, and then what waits. So no post is lost,
     // doubled or overtaken.
-    ensures posts { (w : World) (es : List Event) (i j : ℕ) →
+    ensures posts { (sli : ℕ) (w : World sli) (es : List Event) (i j : ℕ) →
         let r = replies w es in
         w.waiting i j ++ posts_made i j r.made r.entries ≡ posts_taken i j r.entries ++ r.world.waiting i j }
 
     // Live blocks never overlap and free blocks never touch.
-    ensures lawful { (w : World) (es : List Event) → AreLawful w → AreLawful (replies w es).world }
+    ensures lawful { (sli : ℕ) (w : World sli) (es : List Event) → AreLawful w → AreLawful (replies w es).world }
 
     // So it is after each entry, each take of a drain included: each heap is what the calls told so far leave, and lawful.
-    ensures always_lawful { (w : World) (es : List Event) (before later : List Entry) (j : ℕ) → AreLawful w → j < length w.heaps →
+    ensures always_lawful { (sli : ℕ) (w : World sli) (es : List Event) (before later : List Entry) (j : ℕ) → AreLawful w → j < length w.heaps →
         let r = replies w es in
-        r.entries ≡ before ++ later → RunsThrough (heap_in w j) j r.made before later (heap_in r.world j) }
+        r.entries ≡ before ++ later → RunsThrough sli (heap_in w j) j r.made before later (heap_in r.world j) }
 {}

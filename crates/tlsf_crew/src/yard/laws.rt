@@ -7,16 +7,16 @@ ghost use Rattle.tlsf_crew.specs.yard.Yard.{IsYard, IsHeapOf, IsOther};
 /// [`crate::Worker::take`] answer `Stranger` exactly where a number is the worker's own or that of no worker.
 ///
 /// ```
-/// let mut workers = open_yard(alloc, 3, 1024, 8)?;
+/// let mut workers = open_yard::<4>(alloc, 3, 1024, 8)?;
 /// let from_other = workers[1].take(2); // Ok(None): that lane is empty
 /// let from_own = workers[1].take(1);   // Err(CrewRefusal::Stranger), as for 3 and above
 /// ```
 pub fn lanes_join_the_yard()
     // Worker i has the number i, and a lawful heap of that number.
-    ensures ids { (ws : List Worker) (i : ℕ) (a : Worker) → IsYard ws → slice_get ws i ≡ Some a → id_of a ≡ i }
-    ensures heaps { (ws : List Worker) (i : ℕ) (a : Worker) → IsYard ws → slice_get ws i ≡ Some a → IsHeapOf i (heap_of a) }
+    ensures ids { (sli : ℕ) (ws : List (Worker sli)) (i : ℕ) (a : Worker sli) → IsYard ws → slice_get ws i ≡ Some a → id_of a ≡ i }
+    ensures heaps { (sli : ℕ) (ws : List (Worker sli)) (i : ℕ) (a : Worker sli) → IsYard ws → slice_get ws i ≡ Some a → IsHeapOf i (heap_of a) }
 
     // Its lanes.
-    ensures to { (ws : List Worker) (i j : ℕ) (a : Worker) → IsYard ws → slice_get ws i ≡ Some a → (HasPost a j ↔ IsOther ws i j) }
-    ensures from { (ws : List Worker) (i j : ℕ) (a : Worker) → IsYard ws → slice_get ws i ≡ Some a → (HasTake a j ↔ IsOther ws i j) }
+    ensures to { (sli : ℕ) (ws : List (Worker sli)) (i j : ℕ) (a : Worker sli) → IsYard ws → slice_get ws i ≡ Some a → (HasPost a j ↔ IsOther ws i j) }
+    ensures from { (sli : ℕ) (ws : List (Worker sli)) (i j : ℕ) (a : Worker sli) → IsYard ws → slice_get ws i ≡ Some a → (HasTake a j ↔ IsOther ws i j) }
 {}

@@ -1,4 +1,5 @@
 ghost use Rattle.std.specs.Prelude.{◌≡◌, ◌≢◌, ◌↔◌, ℕ, ◌+◌, ◌<◌, ◌≤◌, Some, None, length, vec_len, slice_set, replicate, IfOk, OnOk, IsErrOf};
+ghost use Rattle.tlsf_class.specs.Classes.{IsLevel};
 ghost use Rattle.tlsf_heap.specs.Calls.{opened};
 ghost use Rattle.tlsf_heap.specs.Lawful.{IsRegion};
 ghost use Rattle.tlsf_crew.specs.yard.Opening.{AreSizes, opened_world, KnowFree, AreFresh};
@@ -9,7 +10,8 @@ ghost use Rattle.tlsf_crew.specs.yard.Workers.{heap_of, id_and_capacity};
 
 use crate::yard::worker::Worker;
 use std::alloc::Global;
-use tlsf_heap::{Heap, MOST_WORDS, OpenFault};
+use tlsf_class::most_words;
+use tlsf_heap::{Heap, OpenFault};
 use tlsf_post::{NoMemory, PostEnd, TakeEnd, lane};
 
 // The most workers of a yard.
@@ -18,32 +20,38 @@ pub(crate) const MOST_WORKERS: u32 = 8;
 // The most posts that a lane, or the queue of an owner, holds.
 pub(crate) const MOST_CAPACITY: u32 = 1024;
 
-/// Opens a yard of `n` workers, 1 to 8, numbered from 0: each owns a heap of its number over `words` words, 4 to 2^20,
-/// and from each to each other goes a lane that holds up to `capacity` posts, 1 to 1,024. Each end that posts knows all
-/// its slots to be free, so the first `capacity` posts into a lane are never refused as `Full`. No end has sent or taken
-/// a post, so what it has sent or taken later is all since the yard was opened.
+/// Opens a yard of level 4 or 5, of `n` workers, 1 to 8, numbered from 0: each owns a heap of its number over `words` words,
+/// 4 to 2^20 at level 4 and to 2^24 at level 5, and from each to each other goes a lane that holds up to `capacity` posts, 1
+/// to 1,024. Each end that posts knows all its slots to be free, so the first `capacity` posts into a lane are never refused
+/// as `Full`. No end has sent or taken a post, so what it has sent or taken later is all since the yard was opened.
 ///
 /// Refused as `BadSize` where a number is out of range, else as `NoMemory` where memory was not granted.
 ///
 /// ```
-/// let mut workers = open_yard(alloc, 2, 1024, 8)?; // two heaps of 8 KiB, and two lanes of up to 8 posts
-/// let name = workers[0].allocate(100)?;            // a block of worker 0
-/// let freed = workers[1].release(name);            // Ok(Released::Posted): its name waits for worker 0
+/// let mut workers = open_yard::<4>(alloc, 2, 1024, 8)?; // two heaps of 8 KiB, and two lanes of up to 8 posts
+/// let name = workers[0].allocate(100)?;                 // a block of worker 0
+/// let freed = workers[1].release(name);                 // Ok(Released::Posted): its name waits for worker 0
 /// ```
-pub fn open_yard(alloc: Global, n: u32, words: u32, capacity: u32) -> Result<Vec<Worker>, OpenFault>
+pub fn open_yard<const SLI: u32>(
+    alloc: Global,
+    n: u32,
+    words: u32,
+    capacity: u32,
+) -> Result<Vec<Worker<SLI>>, OpenFault>
+    requires { IsLevel SLI }
     ensures yard { IfOk result (λ workers. IsYard workers.items) }
     ensures world { IfOk result (λ workers. world_of workers.items ≡ opened_world n words capacity) }
     ensures free { IfOk result (λ workers. KnowFree workers.items capacity) }
     ensures fresh { IfOk result (λ workers. AreFresh workers.items) }
 
     // The refusals.
-    ensures bad_size { IsErrOf result OpenFault.BadSize ↔ ¬ (AreSizes n words capacity) }
+    ensures bad_size { IsErrOf result OpenFault.BadSize ↔ ¬ (AreSizes SLI n words capacity) }
     ensures never_worn { ¬ (IsErrOf result OpenFault.Worn) }
 {
     if n < 1
         || n > MOST_WORKERS
         || words < 4
-        || words > MOST_WORDS
+        || words > most_words::<SLI>()
         || capacity < 1
         || capacity > MOST_CAPACITY
     {
@@ -55,8 +63,14 @@ pub fn open_yard(alloc: Global, n: u32, words: u32, capacity: u32) -> Result<Vec
     }
 }
 
-fn open_workers(alloc: Global, n: u32, words: u32, capacity: u32) -> Result<Vec<Worker>, NoMemory>
-    requires { AreSizes n words capacity }
+fn open_workers<const SLI: u32>(
+    alloc: Global,
+    n: u32,
+    words: u32,
+    capacity: u32,
+) -> Result<Vec<Worker<SLI>>, NoMemory>
+    requires level { IsLevel SLI }
+    requires sizes { AreSizes SLI n words capacity }
     ensures yard { IfOk result (λ workers. IsYard workers.items) }
     ensures world { IfOk result (λ workers. world_of workers.items ≡ opened_world n words capacity) }
     ensures free { IfOk result (λ workers. KnowFree workers.items capacity) }
@@ -68,8 +82,14 @@ fn open_workers(alloc: Global, n: u32, words: u32, capacity: u32) -> Result<Vec<
 }
 
 /// Opens workers with no lanes.
-fn open_alone(alloc: Global, n: u32, words: u32, capacity: u32) -> Result<Vec<Worker>, NoMemory>
-    requires { AreSizes n words capacity }
+fn open_alone<const SLI: u32>(
+    alloc: Global,
+    n: u32,
+    words: u32,
+    capacity: u32,
+) -> Result<Vec<Worker<SLI>>, NoMemory>
+    requires level { IsLevel SLI }
+    requires sizes { AreSizes SLI n words capacity }
     ensures { IfOk result (λ workers. IsLaid workers.items n words capacity 0 0) }
 {
     let mut workers = Vec::with_capacity(alloc, n as usize)?;
@@ -80,14 +100,15 @@ fn open_alone(alloc: Global, n: u32, words: u32, capacity: u32) -> Result<Vec<Wo
 }
 
 /// Opens a worker with room for lanes to `n` workers.
-fn open_worker(
+fn open_worker<const SLI: u32>(
     alloc: Global,
     id: u32,
     n: u32,
     words: u32,
     capacity: u32,
-) -> Result<Worker, NoMemory>
-    requires { IsRegion 4 words }
+) -> Result<Worker<SLI>, NoMemory>
+    requires level { IsLevel SLI }
+    requires region { IsRegion SLI words }
     ensures heap { IfOk result (λ worker. heap_of worker ≡ opened id words 0) }
     ensures numbers { IfOk result (λ worker. id_and_capacity worker ≡ (id, capacity)) }
     ensures posts { IfOk result (λ worker. worker.posts.items ≡ replicate n None) }
@@ -106,8 +127,13 @@ fn open_worker(
 }
 
 /// Opens the heap of a worker.
-pub(crate) fn open_heap(alloc: Global, id: u32, words: u32) -> Result<Heap<4>, NoMemory>
-    requires { IsRegion 4 words }
+pub(crate) fn open_heap<const SLI: u32>(
+    alloc: Global,
+    id: u32,
+    words: u32,
+) -> Result<Heap<SLI>, NoMemory>
+    requires level { IsLevel SLI }
+    requires region { IsRegion SLI words }
     ensures { IfOk result (λ heap. heap.heap ≡ opened id words 0) }
 {
     match Heap::open(alloc, id, words, 0) {
@@ -129,13 +155,13 @@ pub(crate) fn no_ends<E: Drop>(alloc: Global, n: u32) -> Result<Vec<Option<E>>, 
 }
 
 /// Lays all lanes.
-fn lay_lanes(
+fn lay_lanes<const SLI: u32>(
     alloc: Global,
-    workers: &mut [Worker],
+    workers: &mut [Worker<SLI>],
     words: u32,
     capacity: u32,
 ) -> Result<(), NoMemory>
-    requires sizes { AreSizes (length workers.old) words capacity }
+    requires sizes { AreSizes SLI (length workers.old) words capacity }
     requires laid { IsLaid workers.old (length workers.old) words capacity 0 0 }
     ensures { OnOk result (IsLaid workers.new (length workers.old) words capacity (length workers.old) 0) }
 {
@@ -146,14 +172,14 @@ fn lay_lanes(
 }
 
 /// Lays the lanes from worker i.
-fn lay_row(
+fn lay_row<const SLI: u32>(
     alloc: Global,
-    workers: &mut [Worker],
+    workers: &mut [Worker<SLI>],
     i: usize,
     words: u32,
     capacity: u32,
 ) -> Result<(), NoMemory>
-    requires sizes { AreSizes (length workers.old) words capacity }
+    requires sizes { AreSizes SLI (length workers.old) words capacity }
     requires inside { i < length workers.old }
     requires laid { IsLaid workers.old (length workers.old) words capacity i 0 }
     ensures { OnOk result (IsLaid workers.new (length workers.old) words capacity (i + 1) 0) }
@@ -167,15 +193,15 @@ fn lay_row(
 }
 
 /// Lays the lane from worker i to worker j.
-fn lay_lane(
+fn lay_lane<const SLI: u32>(
     alloc: Global,
-    workers: &mut [Worker],
+    workers: &mut [Worker<SLI>],
     i: usize,
     j: usize,
     words: u32,
     capacity: u32,
 ) -> Result<(), NoMemory>
-    requires sizes { AreSizes (length workers.old) words capacity }
+    requires sizes { AreSizes SLI (length workers.old) words capacity }
     requires inside { (i < length workers.old) × (j < length workers.old) }
     requires apart { i ≢ j }
     requires laid { IsLaid workers.old (length workers.old) words capacity i j }
@@ -187,7 +213,7 @@ fn lay_lane(
     Ok(())
 }
 
-fn put_post_end(worker: &mut Worker, j: usize, end: PostEnd)
+fn put_post_end<const SLI: u32>(worker: &mut Worker<SLI>, j: usize, end: PostEnd)
     requires { j < vec_len worker.old.posts }
     ensures posts { worker.new.posts.items ≡ slice_set worker.old.posts.items j (Some end) }
     ensures same { (worker.new.heap ≡ worker.old.heap) × (id_and_capacity worker.new ≡ id_and_capacity worker.old) × (worker.new.takes ≡ worker.old.takes) }
@@ -195,7 +221,7 @@ fn put_post_end(worker: &mut Worker, j: usize, end: PostEnd)
     worker.posts[j] = Some(end);
 }
 
-fn put_take_end(worker: &mut Worker, i: usize, end: TakeEnd)
+fn put_take_end<const SLI: u32>(worker: &mut Worker<SLI>, i: usize, end: TakeEnd)
     requires { i < vec_len worker.old.takes }
     ensures takes { worker.new.takes.items ≡ slice_set worker.old.takes.items i (Some end) }
     ensures same { (worker.new.heap ≡ worker.old.heap) × (id_and_capacity worker.new ≡ id_and_capacity worker.old) × (worker.new.posts ≡ worker.old.posts) }

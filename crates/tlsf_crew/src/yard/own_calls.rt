@@ -3,6 +3,7 @@ ghost use Rattle.std.specs.Prelude.{◌≡◌, ◌+◌, ◌*◌, ◌/◌, ◌≤
 ghost use Rattle.std.specs.Result.{result_unwrap_or};
 ghost use Rattle.tlsf_heap.specs.Calls.{allocated, released, written, read_of, read_answer, resized};
 ghost use Rattle.tlsf_heap.specs.Given.{payload_words_given, payload_words_left};
+ghost use Rattle.tlsf_heap.specs.Lawful.{IsLawful};
 ghost use Rattle.tlsf_crew.specs.yard.Calls.{by_heap};
 
 use tlsf_calls::CrewRefusal;
@@ -19,17 +20,18 @@ fn as_crew<T>(answer: Result<T, Refusal>) -> Result<T, CrewRefusal>
 }
 
 /// Gives a block that holds `len` bytes of payload, all zero.
-pub(crate) fn allocate(heap: &mut Heap<4>, len: u32) -> Result<Name, CrewRefusal>
-    ensures answer { result ≡ by_heap (allocated 4 heap.old.heap len).answer }
-    ensures heap { heap.new.heap ≡ (allocated 4 heap.old.heap len).heap }
-    ensures touches { heap.new.touches ≤ heap.old.touches + 64 + payload_words_given (allocated 4 heap.old.heap len).answer heap.new.heap }
+pub(crate) fn allocate<const SLI: u32>(heap: &mut Heap<SLI>, len: u32) -> Result<Name, CrewRefusal>
+    ensures answer { result ≡ by_heap (allocated SLI heap.old.heap len).answer }
+    ensures heap { heap.new.heap ≡ (allocated SLI heap.old.heap len).heap }
+    ensures lawful { IsLawful heap.new.heap }
+    ensures touches { heap.new.touches ≤ heap.old.touches + 64 + payload_words_given (allocated SLI heap.old.heap len).answer heap.new.heap }
     ensures touches_rise { heap.old.touches ≤ heap.new.touches }
 {
     as_crew(heap.allocate(len))
 }
 
 /// Releases a block.
-pub(crate) fn release(heap: &mut Heap<4>, name: Name) -> Result<(), CrewRefusal>
+pub(crate) fn release<const SLI: u32>(heap: &mut Heap<SLI>, name: Name) -> Result<(), CrewRefusal>
     ensures answer { result ≡ by_heap (released heap.old.heap name).answer }
     ensures heap { heap.new.heap ≡ (released heap.old.heap name).heap }
     ensures touches { heap.new.touches ≤ heap.old.touches + 64 }
@@ -39,8 +41,8 @@ pub(crate) fn release(heap: &mut Heap<4>, name: Name) -> Result<(), CrewRefusal>
 }
 
 /// Writes bytes into a block, from byte `at` of it on.
-pub(crate) fn write(
-    heap: &mut Heap<4>,
+pub(crate) fn write<const SLI: u32>(
+    heap: &mut Heap<SLI>,
     name: Name,
     at: u32,
     bytes: &[u8],
@@ -54,8 +56,8 @@ pub(crate) fn write(
 }
 
 /// Reads bytes of a block, from byte `at` of it on, and fills `out` with them.
-pub(crate) fn read(
-    heap: &mut Heap<4>,
+pub(crate) fn read<const SLI: u32>(
+    heap: &mut Heap<SLI>,
     name: Name,
     at: u32,
     out: &mut [u8],
@@ -70,7 +72,11 @@ pub(crate) fn read(
 }
 
 /// Resizes a block where it stands, so that it holds `len` bytes.
-pub(crate) fn resize(heap: &mut Heap<4>, name: Name, len: u32) -> Result<(), CrewRefusal>
+pub(crate) fn resize<const SLI: u32>(
+    heap: &mut Heap<SLI>,
+    name: Name,
+    len: u32,
+) -> Result<(), CrewRefusal>
     ensures answer { result ≡ by_heap (resized heap.old.heap name len).answer }
     ensures heap { heap.new.heap ≡ (resized heap.old.heap name len).heap }
     ensures touches { heap.new.touches ≤ heap.old.touches + 64 + payload_words_left (resized heap.old.heap name len).answer heap.new.heap name }

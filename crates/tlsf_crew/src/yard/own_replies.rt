@@ -1,6 +1,7 @@
 //! Replies of a worker's own heap to the calls of a script. Both kinds of worker give them.
 ghost use Rattle.std.specs.Prelude.{◌≡◌, ◌≤◌, length};
 ghost use Rattle.tlsf_heap.specs.Calls.{read_of};
+ghost use Rattle.tlsf_heap.specs.Lawful.{IsLawful};
 ghost use Rattle.tlsf_calls.specs.Bytes.{bytes_of};
 ghost use Rattle.tlsf_crew.specs.yard.Calls.{by_heap};
 ghost use Rattle.tlsf_crew.specs.yard.Heaps.{as_chunk, chunk_read};
@@ -28,9 +29,10 @@ pub(crate) fn named(target: Target, made: &[Option<Name>]) -> Option<Name>
 }
 
 /// Allocates `len` bytes.
-pub(crate) fn reply_to_own_allocate(heap: &mut Heap<4>, len: u32) -> Reply
-    ensures reply { result ≡ (own_allocating heap.old.heap len).reply }
-    ensures heap { heap.new.heap ≡ (own_allocating heap.old.heap len).heap }
+pub(crate) fn reply_to_own_allocate<const SLI: u32>(heap: &mut Heap<SLI>, len: u32) -> Reply
+    ensures reply { result ≡ (own_allocating SLI heap.old.heap len).reply }
+    ensures heap { heap.new.heap ≡ (own_allocating SLI heap.old.heap len).heap }
+    ensures lawful { IsLawful heap.new.heap }
 {
     match own_calls::allocate(heap, len) {
         Ok(name) => Reply::Made(name),
@@ -39,7 +41,7 @@ pub(crate) fn reply_to_own_allocate(heap: &mut Heap<4>, len: u32) -> Reply
 }
 
 /// Releases the block of a name.
-pub(crate) fn reply_to_own_release(heap: &mut Heap<4>, name: Name) -> Reply
+pub(crate) fn reply_to_own_release<const SLI: u32>(heap: &mut Heap<SLI>, name: Name) -> Reply
     ensures reply { result ≡ (own_freeing heap.old.heap name).reply }
     ensures heap { heap.new.heap ≡ (own_freeing heap.old.heap name).heap }
 {
@@ -50,8 +52,8 @@ pub(crate) fn reply_to_own_release(heap: &mut Heap<4>, name: Name) -> Reply
 }
 
 /// Writes into the block that a target means, from byte `from` of it on.
-pub(crate) fn reply_to_own_write(
-    heap: &mut Heap<4>,
+pub(crate) fn reply_to_own_write<const SLI: u32>(
+    heap: &mut Heap<SLI>,
     target: Target,
     from: u32,
     bytes: Chunk,
@@ -71,8 +73,8 @@ pub(crate) fn reply_to_own_write(
 }
 
 /// Fills up to 64 bytes from a block.
-fn read_own_into(
-    heap: &mut Heap<4>,
+fn read_own_into<const SLI: u32>(
+    heap: &mut Heap<SLI>,
     name: Name,
     from: u32,
     out: &mut [u8],
@@ -92,7 +94,12 @@ fn read_own_into(
 }
 
 /// Reads up to 64 bytes of a block. More are refused as `Range`, where the heap doesn't refuse the name.
-fn read_own_chunk(heap: &mut Heap<4>, name: Name, from: u32, n: u32) -> Result<Chunk, CrewRefusal>
+fn read_own_chunk<const SLI: u32>(
+    heap: &mut Heap<SLI>,
+    name: Name,
+    from: u32,
+    n: u32,
+) -> Result<Chunk, CrewRefusal>
     ensures answer { result ≡ by_heap (chunk_read heap.old.heap name from n) }
     ensures heap { heap.new.heap ≡ heap.old.heap }
 {
@@ -108,8 +115,8 @@ fn read_own_chunk(heap: &mut Heap<4>, name: Name, from: u32, n: u32) -> Result<C
 }
 
 /// Reads `n` bytes of the block that a target means, from byte `from` of it on. More than 64 are refused.
-pub(crate) fn reply_to_own_read(
-    heap: &mut Heap<4>,
+pub(crate) fn reply_to_own_read<const SLI: u32>(
+    heap: &mut Heap<SLI>,
     target: Target,
     from: u32,
     n: u32,
@@ -128,8 +135,8 @@ pub(crate) fn reply_to_own_read(
 }
 
 /// Resizes the block that a target means, where it stands.
-pub(crate) fn reply_to_own_resize(
-    heap: &mut Heap<4>,
+pub(crate) fn reply_to_own_resize<const SLI: u32>(
+    heap: &mut Heap<SLI>,
     target: Target,
     len: u32,
     made: &[Option<Name>],

@@ -8,7 +8,12 @@ use crate::yard::worker::Worker;
 use tlsf_post::{Post, beside};
 
 /// The lane from one worker to another.
-fn settle_pair(poster: &mut Worker, taker: &mut Worker, i: usize, j: usize)
+fn settle_pair<const SLI: u32>(
+    poster: &mut Worker<SLI>,
+    taker: &mut Worker<SLI>,
+    i: usize,
+    j: usize,
+)
     requires { HasLane i j poster.old taker.old }
     ensures { LaneMet i j poster.old taker.old poster.new taker.new }
 {
@@ -22,7 +27,7 @@ fn settle_pair(poster: &mut Worker, taker: &mut Worker, i: usize, j: usize)
 }
 
 /// The lane from worker i to worker j.
-pub(crate) fn settle_lane(workers: &mut [Worker], i: usize, j: usize)
+pub(crate) fn settle_lane<const SLI: u32>(workers: &mut [Worker<SLI>], i: usize, j: usize)
     requires apart { i ≢ j }
     requires inside { (i < length workers.old) × (j < length workers.old) }
     requires lane { HasEnds workers.old i j }

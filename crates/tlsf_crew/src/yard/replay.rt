@@ -21,7 +21,7 @@ use tlsf_heap::Name;
 use tlsf_post::NoMemory;
 
 /// Settles the lane between two workers, where there is one.
-fn settle_between(workers: &mut [Worker], i: usize, j: usize)
+fn settle_between<const SLI: u32>(workers: &mut [Worker<SLI>], i: usize, j: usize)
     requires yard { IsYard workers.old }
     ensures met { i < length workers.old → j < length workers.old → i ≢ j → MetIn workers.old workers.new i j }
     ensures yard { IsYard workers.new }
@@ -34,7 +34,7 @@ fn settle_between(workers: &mut [Worker], i: usize, j: usize)
 }
 
 /// Settles the lane from a worker to that of a name's heap, where there is one.
-fn settle_named(workers: &mut [Worker], at: usize, name: Option<Name>)
+fn settle_named<const SLI: u32>(workers: &mut [Worker<SLI>], at: usize, name: Option<Name>)
     requires yard { IsYard workers.old }
     ensures met { (k : Name) → name ≡ Some k → at < length workers.old → k.heap < length workers.old → at ≢ k.heap → MetIn workers.old workers.new at k.heap }
     ensures yard { IsYard workers.new }
@@ -50,7 +50,11 @@ fn settle_named(workers: &mut [Worker], at: usize, name: Option<Name>)
 /// Settles the lanes that an event concerns. Answers how many posts the worker may take then from each other one: all
 /// that wait, where it takes any.
 #[inline(always)]
-fn settle_for(workers: &mut [Worker], event: Event, made: &[Option<Name>]) -> [u32; 8]
+fn settle_for<const SLI: u32>(
+    workers: &mut [Worker<SLI>],
+    event: Event,
+    made: &[Option<Name>],
+) -> [u32; 8]
     requires yard { IsYard workers.old }
     requires inside { event.worker < length workers.old }
     ensures met { (i j : ℕ) → i < length workers.old → j < length workers.old → i ≢ j → Concerns made.now event i j → MetIn workers.old workers.new i j }
@@ -78,8 +82,8 @@ fn settle_for(workers: &mut [Worker], event: Event, made: &[Option<Name>]) -> [u
 
 /// Makes the call of an event by a worker of the yard, with the lanes settled before and after. A drain writes its
 /// takes; the event's own entry is still to come.
-pub(crate) fn reply_in_yard(
-    workers: &mut [Worker],
+pub(crate) fn reply_in_yard<const SLI: u32>(
+    workers: &mut [Worker<SLI>],
     event: Event,
     made: &[Option<Name>],
     journal: &mut Journal,
@@ -99,8 +103,8 @@ pub(crate) fn reply_in_yard(
 }
 
 /// Runs one event.
-fn run_event(
-    workers: &mut [Worker],
+fn run_event<const SLI: u32>(
+    workers: &mut [Worker<SLI>],
     event: Event,
     made: &mut Vec<Option<Name>>,
     journal: &mut Journal,
@@ -135,9 +139,9 @@ fn run_event(
 ///
 /// - `room`: the room for all entries is made first, one for each event, for each release among them and for each post that waits at the
 ///   start. Where it answers `NoMemory`, no event has run.
-pub fn replay_events(
+pub fn replay_events<const SLI: u32>(
     alloc: Global,
-    workers: &mut [Worker],
+    workers: &mut [Worker<SLI>],
     events: &[Event],
 ) -> Result<Vec<Entry>, NoMemory>
     requires { IsYard workers.old }
@@ -165,9 +169,9 @@ pub fn replay_events(
 /// let rest = replay_behind(alloc, &mut workers, &mut made, &events[100..])?;
 /// // the entries of both are those that `replay_events` gives for all events
 /// ```
-pub fn replay_behind(
+pub fn replay_behind<const SLI: u32>(
     alloc: Global,
-    workers: &mut [Worker],
+    workers: &mut [Worker<SLI>],
     made: &mut Vec<Option<Name>>,
     events: &[Event],
 ) -> Result<Vec<Entry>, NoMemory>
@@ -185,9 +189,9 @@ pub fn replay_behind(
 }
 
 /// Runs every event in order, behind those that made the names, with room for all entries.
-fn replay_within(
+fn replay_within<const SLI: u32>(
     alloc: Global,
-    workers: &mut [Worker],
+    workers: &mut [Worker<SLI>],
     made: &mut Vec<Option<Name>>,
     events: &[Event],
     room: usize,

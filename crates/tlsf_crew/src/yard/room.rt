@@ -7,7 +7,7 @@ use tlsf_calls::{Call, Event};
 
 /// Room for all entries that events can make: one for each event, one for each post that a release makes, and one for
 /// each post that is ready.
-pub(crate) fn room_for(workers: &[Worker], events: &[Event]) -> usize
+pub(crate) fn room_for<const SLI: u32>(workers: &[Worker<SLI>], events: &[Event]) -> usize
     requires { length workers.now ≤ 8 }
     ensures { result ≡ length events.now + releases_in events.now + ready_in workers.now }
 {
@@ -25,7 +25,7 @@ fn count_releases(events: &[Event]) -> usize
 }
 
 /// How many posts are ready in the yard.
-fn count_ready(workers: &[Worker]) -> usize
+fn count_ready<const SLI: u32>(workers: &[Worker<SLI>]) -> usize
     requires { length workers.now ≤ 8 }
     ensures count { result ≡ ready_in workers.now }
     ensures most { result ≤ 64 * u32.MAX }
@@ -38,7 +38,7 @@ fn count_ready(workers: &[Worker]) -> usize
 }
 
 /// How many posts are ready for a worker from the workers below n.
-fn count_for(worker: &Worker, n: usize) -> usize
+fn count_for<const SLI: u32>(worker: &Worker<SLI>, n: usize) -> usize
     requires { n ≤ 8 }
     ensures count { result ≡ sum_below n (ready_from worker.now) }
     ensures most { result ≤ 8 * u32.MAX }
@@ -51,7 +51,7 @@ fn count_for(worker: &Worker, n: usize) -> usize
 }
 
 /// How many posts are ready for a worker from worker i.
-pub(crate) fn count_from(worker: &Worker, i: usize) -> u32
+pub(crate) fn count_from<const SLI: u32>(worker: &Worker<SLI>, i: usize) -> u32
     ensures { result ≡ ready_from worker.now i }
 {
     match worker.takes.get(i) {
@@ -62,7 +62,7 @@ pub(crate) fn count_from(worker: &Worker, i: usize) -> u32
 }
 
 /// How many posts are ready for a worker from each other one.
-pub(crate) fn count_each(worker: &Worker) -> [u32; 8]
+pub(crate) fn count_each<const SLI: u32>(worker: &Worker<SLI>) -> [u32; 8]
     ensures { (i : ℕ) → i < 8 → slice_index result i ≡ ready_from worker.now i }
 {
     let mut counts = [0; 8];

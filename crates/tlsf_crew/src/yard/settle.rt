@@ -19,7 +19,7 @@ use crate::yard::worker::Worker;
 /// settle(&mut workers);                 // that post is known to be ready for worker 0
 /// let took = workers[0].take(1);        // Ok(Some(..)): so the take answers it, and releases the block
 /// ```
-pub fn settle(workers: &mut [Worker])
+pub fn settle<const SLI: u32>(workers: &mut [Worker<SLI>])
     requires { IsYard workers.old }
     ensures met { HaveMet workers.old workers.new }
     ensures yard { IsYard workers.new }
@@ -32,7 +32,7 @@ pub fn settle(workers: &mut [Worker])
 }
 
 /// Settles the lanes from one worker.
-fn settle_row(workers: &mut [Worker], i: usize)
+fn settle_row<const SLI: u32>(workers: &mut [Worker<SLI>], i: usize)
     requires yard { IsYard workers.old }
     requires inside { i < length workers.old }
     ensures met { RowMet workers.old workers.new i (length workers.old) }
@@ -47,7 +47,7 @@ fn settle_row(workers: &mut [Worker], i: usize)
 }
 
 /// Settles the lanes to one worker.
-pub(crate) fn settle_column(workers: &mut [Worker], j: usize)
+pub(crate) fn settle_column<const SLI: u32>(workers: &mut [Worker<SLI>], j: usize)
     requires yard { IsYard workers.old }
     requires inside { j < length workers.old }
     ensures met { (i : ℕ) → i < length workers.old → i ≢ j → MetIn workers.old workers.new i j }

@@ -1,5 +1,6 @@
-ghost use Rattle.std.specs.Prelude.{◌≡◌, ◌≢◌, ◌+◌, ◌*◌, ◌/◌, ◌≤◌, ◌^◌, List, length, true, false, Ok, Err, OnSome, IfNone};
+ghost use Rattle.std.specs.Prelude.{◌≡◌, ◌≢◌, ◌+◌, ◌*◌, ◌/◌, ◌≤◌, List, length, true, false, Ok, Err, OnSome, IfNone};
 ghost use Rattle.std.specs.Result.{result_unwrap_or};
+ghost use Rattle.tlsf_class.specs.Classes.{most_words};
 ghost use Rattle.tlsf_heap.specs.Calls.{allocated, written, read_of, read_answer, resized};
 ghost use Rattle.tlsf_heap.specs.Given.{payload_words_given, payload_words_left};
 ghost use Rattle.tlsf_heap.specs.Lawful.{IsLawful};
@@ -17,10 +18,11 @@ use tlsf_calls::{CrewRefusal, Drained, Released, Took};
 use tlsf_heap::{Heap, Name, PlacedBlock, Report};
 use tlsf_post::{Post, PostEnd, TakeEnd};
 
-/// A worker: the owner of one heap, with a lane to each other worker of its yard and a lane from each.
+/// A worker: the owner of one heap, with a lane to each other worker of its yard and a lane from each. `SLI` is the level of
+/// the yard's heaps, 4 or 5.
 #[derive(Drop)]
-pub struct Worker {
-    pub(crate) heap: Heap<4>,
+pub struct Worker<const SLI: u32> {
+    pub(crate) heap: Heap<SLI>,
     pub(crate) id: u32,
     // That of each lane of the yard.
     pub(crate) capacity: u32,
@@ -31,7 +33,7 @@ pub struct Worker {
 }
 
 /// Whether the worker has a lane from worker i.
-pub(crate) fn has_take(worker: &Worker, i: usize) -> bool
+pub(crate) fn has_take<const SLI: u32>(worker: &Worker<SLI>, i: usize) -> bool
     ensures yes { result ≡ true → HasTake worker.now i }
     ensures no { result ≡ false → ¬ (HasTake worker.now i) }
 {
@@ -43,7 +45,7 @@ pub(crate) fn has_take(worker: &Worker, i: usize) -> bool
 }
 
 /// Whether the worker has a lane to worker j.
-fn has_post(worker: &Worker, j: usize) -> bool
+fn has_post<const SLI: u32>(worker: &Worker<SLI>, j: usize) -> bool
     ensures yes { result ≡ true → HasPost worker.now j }
     ensures no { result ≡ false → ¬ (HasPost worker.now j) }
 {
@@ -55,7 +57,11 @@ fn has_post(worker: &Worker, j: usize) -> bool
 }
 
 /// Posts on the own end.
-pub(crate) fn put_to(poster: &mut Worker, j: usize, post: Post) -> Result<(), Post>
+pub(crate) fn put_to<const SLI: u32>(
+    poster: &mut Worker<SLI>,
+    j: usize,
+    post: Post,
+) -> Result<(), Post>
     requires { HasPost poster.old j }
     ensures put { PutTo poster.old poster.new j post result }
     ensures heap { poster.new.heap ≡ poster.old.heap }
@@ -67,7 +73,7 @@ pub(crate) fn put_to(poster: &mut Worker, j: usize, post: Post) -> Result<(), Po
 }
 
 /// Takes from the own end.
-pub(crate) fn take_from(taker: &mut Worker, i: usize) -> Option<Post>
+pub(crate) fn take_from<const SLI: u32>(taker: &mut Worker<SLI>, i: usize) -> Option<Post>
     requires { HasTake taker.old i }
     ensures took { TookFrom taker.old taker.new i result }
     ensures heap { taker.new.heap ≡ taker.old.heap }
@@ -79,7 +85,7 @@ pub(crate) fn take_from(taker: &mut Worker, i: usize) -> Option<Post>
 }
 
 /// Takes from a lane that is there, and releases the block that the post names.
-pub(crate) fn take_next(worker: &mut Worker, from: usize) -> Option<Took>
+pub(crate) fn take_next<const SLI: u32>(worker: &mut Worker<SLI>, from: usize) -> Option<Took>
     requires { HasTake worker.old from }
     ensures taken { TakenFrom worker.old worker.new from (Ok result) }
     ensures yard { KeepsYards worker.old worker.new }
@@ -97,7 +103,12 @@ pub(crate) fn take_next(worker: &mut Worker, from: usize) -> Option<Took>
 }
 
 /// Takes from one lane, and releases, until `most` were taken, the notes admit no more, or it shows no post.
-fn drain_lane<N: Notes>(worker: &mut Worker, from: usize, most: u32, notes: &mut N) -> Drained
+fn drain_lane<const SLI: u32, N: Notes>(
+    worker: &mut Worker<SLI>,
+    from: usize,
+    most: u32,
+    notes: &mut N,
+) -> Drained
     requires lane { HasTake worker.old from }
     requires room { N.has_room notes.old }
     ensures drained { (tooks : List Took) × LaneNoted N.noted N.admitted worker.old worker.new notes.old notes.new from most tooks × IsCountOf result tooks }
@@ -125,7 +136,11 @@ fn drain_lane<N: Notes>(worker: &mut Worker, from: usize, most: u32, notes: &mut
 }
 
 /// Takes from all lanes, in the rising order of their numbers, and notes each take.
-pub(crate) fn drain_noting<N: Notes>(worker: &mut Worker, most: u32, notes: &mut N) -> Drained
+pub(crate) fn drain_noting<const SLI: u32, N: Notes>(
+    worker: &mut Worker<SLI>,
+    most: u32,
+    notes: &mut N,
+) -> Drained
     requires room { N.has_room notes.old }
     ensures drained { AllNoted N.noted N.admitted worker.old worker.new notes.old notes.new most result }
     ensures most { result.taken ≤ most }
@@ -144,7 +159,7 @@ pub(crate) fn drain_noting<N: Notes>(worker: &mut Worker, most: u32, notes: &mut
     drained
 }
 
-impl Worker {
+impl<const SLI: u32> Worker<SLI> {
     /// Gives a block of the own heap that holds `len` bytes of payload, all zero.
     ///
     /// - `touches`: at most 64 touches of the heap's memory, and one more for each payload word of the block given.
@@ -154,11 +169,11 @@ impl Worker {
     /// worker.write(name, 0, b"abc")?;
     /// ```
     pub fn allocate(&mut self, len: u32) -> Result<Name, CrewRefusal>
-        ensures answer { result ≡ by_heap (allocated 4 (heap_of self.old) len).answer }
-        ensures heap { heap_of self.new ≡ (allocated 4 (heap_of self.old) len).heap }
+        ensures answer { result ≡ by_heap (allocated SLI (heap_of self.old) len).answer }
+        ensures heap { heap_of self.new ≡ (allocated SLI (heap_of self.old) len).heap }
         ensures same { SameButHeap self.old self.new }
         ensures yard { KeepsYards self.old self.new }
-        ensures touches { touches_of self.new ≤ touches_of self.old + 64 + payload_words_given (allocated 4 (heap_of self.old) len).answer (heap_of self.new) }
+        ensures touches { touches_of self.new ≤ touches_of self.old + 64 + payload_words_given (allocated SLI (heap_of self.old) len).answer (heap_of self.new) }
         ensures touches_rise { touches_of self.old ≤ touches_of self.new }
     {
         own_calls::allocate(&mut self.heap, len)
@@ -311,7 +326,7 @@ impl Worker {
     /// let live = worker.report().live_bytes;
     /// ```
     pub fn report(&mut self) -> Report
-        ensures report { result ≡ report_of 4 (heap_of self.old) }
+        ensures report { result ≡ report_of SLI (heap_of self.old) }
         ensures heap { heap_of self.new ≡ heap_of self.old }
         ensures same { SameButHeap self.old self.new }
         ensures yard { KeepsYards self.old self.new }
@@ -339,7 +354,7 @@ impl Worker {
         ensures block { result ≡ placed_at (heap_of self.old).blocks at }
         ensures heap { heap_of self.new ≡ heap_of self.old }
         ensures was_lawful { IsLawful (heap_of self.old) }
-        ensures most { (heap_of self.old).words ≤ 2 ^ 20 }
+        ensures most { (heap_of self.old).words ≤ most_words SLI }
         ensures same { SameButHeap self.old self.new }
         ensures yard { KeepsYards self.old self.new }
         ensures touches { touches_of self.new ≤ touches_of self.old + 4 }

@@ -85,7 +85,7 @@ fn check_run<R: Threads + Wait + Abort + Sync>(
 }
 
 const FAULTS: [(&[u8], &str); 4] = [
-    (b"tlsf 2 1 64 1\n", "tlsf: line 1: bad header (11)\n"),
+    (b"tlsf 3 1 64 1\n", "tlsf: line 1: bad header (11)\n"),
     (b"tlsf 1 2 64 4\na 0 1", "tlsf: line 2: bad line (12)\n"),
     (
         b"tlsf 1 1 64 4\na 0 1 8\nf 1 1\n",
@@ -96,6 +96,19 @@ const FAULTS: [(&[u8], &str); 4] = [
         "tlsf: line 3: label out of order (14)\n",
     ),
 ];
+
+// A fresh region of 63 words holds a block of 480 bytes at level 5, where 63 words are a class of their own.
+#[test]
+fn runs_a_trace_of_version_2(rt: HostRuntime) {
+    let trace = b"tlsf 2 1 63 1\na 0 1 480\n";
+    let lines =
+        "0 a 1 at 0 serial 1\n0 d drained 0\nheap 0 live 1 63 480 free 0 0 largest 0 grant 0 fragmentation 0 waste 24 age 0\n";
+    for words in ["tlsf,replay", "tlsf,race", "tlsf,race,--queues"] {
+        check_run(&rt, rt.alloc(), words, trace, (0, lines, ""));
+    }
+    let held = "held 0 blocks 1 bytes 480 words 63 region 63\n";
+    check_run(&rt, rt.alloc(), "tlsf,replay,--held", trace, (0, held, ""));
+}
 
 // The fault line and the status of a faulty trace. Nothing is written.
 #[test]

@@ -24,7 +24,7 @@ fn check_faults(rt: &impl Abort, alloc: Global, rows: &[Row]) {
     }
 }
 
-const HEADERS: [Row; 21] = [
+const HEADERS: [Row; 25] = [
     (b"", (11, 1)),
     (b"\n", (11, 1)),
     (b"tlsf 1 1 64 1", (11, 1)),
@@ -36,7 +36,10 @@ const HEADERS: [Row; 21] = [
     (b"tlsf 1 1 1048577 1\n", (11, 1)),
     (b"tlsf 1 1 64 0\n", (11, 1)),
     (b"tlsf 1 1 64 1025\n", (11, 1)),
-    (b"tlsf 2 1 64 1\n", (11, 1)),
+    (b"tlsf 2 1 3 1\n", (11, 1)),
+    (b"tlsf 2 1 16777217 1\n", (11, 1)),
+    (b"tlsf 3 1 64 1\n", (11, 1)),
+    (b"tlsf 02 1 64 1\n", (11, 1)),
     (b"tlsf 1 01 64 1\n", (11, 1)),
     (b"tlsf 1 1 64\n", (11, 1)),
     (b"tlsf 1 1 64 1 1\n", (11, 1)),
@@ -46,6 +49,7 @@ const HEADERS: [Row; 21] = [
     (b"a 0 1 8\n", (11, 1)),
     (b"\ntlsf 1 1 64 1\n", (11, 1)),
     (b"tlsf 1 1 64 1\n", (0, 0)),
+    (b"tlsf 2 1 64 1\n", (0, 0)),
 ];
 
 const SECOND_LINES: [Row; 35] = [

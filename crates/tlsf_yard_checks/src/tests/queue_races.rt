@@ -27,11 +27,11 @@ fn yard_with_blocks(
     n: u32,
     capacity: u32,
     owners: &[usize],
-) -> Result<Vec<QueueWorker>, Fail>
+) -> Result<Vec<QueueWorker<4>>, Fail>
     ensures { IfOk result (λ workers. IsQueueYard workers.items) }
 {
     queues_join_the_yard();
-    let mut workers = open_queue_yard(alloc, n, 64, capacity)?;
+    let mut workers = open_queue_yard::<4>(alloc, n, 64, capacity)?;
     for owner in owners {
         let at = *owner;
         assert!(rt; at < workers.len());
@@ -43,10 +43,10 @@ fn yard_with_blocks(
 /// Posts a name so many times as worker 1.
 fn post_often<R: Abort + Wait>(
     rt: &R,
-    workers: Vec<QueueWorker>,
+    workers: Vec<QueueWorker<4>>,
     name: Name,
     count: u32,
-) -> Result<Vec<QueueWorker>, Fail>
+) -> Result<Vec<QueueWorker<4>>, Fail>
     requires { IsQueueYard workers.items }
     ensures { IfOk result (λ workers. IsQueueYard workers.items) }
 {
@@ -63,7 +63,7 @@ fn post_often<R: Abort + Wait>(
 fn check_race<R: Threads + Wait + Abort + Sync, G: Gate>(
     rt: &R,
     alloc: Global,
-    workers: Vec<QueueWorker>,
+    workers: Vec<QueueWorker<4>>,
     first: &[Call],
     second: &[Call],
     gate: &G,
@@ -197,7 +197,7 @@ fn are_records(records: &[Vec<Entry>], wanted: [&[Entry]; 3]) -> bool {
 
 /// Whether all of so many workers met at the gate, and each has a record of its one call and its last drain.
 fn all_meet<R: Threads + Wait + Sync>(rt: &R, alloc: Global, count: u32) -> Result<bool, Fail> {
-    let workers = open_queue_yard(alloc, count, 64, 1)?;
+    let workers = open_queue_yard::<4>(alloc, count, 64, 1)?;
     let scripts = one_call_each(alloc, workers.len())?;
     let gate = AllHere::new(workers.len());
     let outcome = race_queues(rt, alloc, workers, scripts, &gate)?;

@@ -12,7 +12,7 @@ use tlsf_fixtures::{name, same};
 use tlsf_heap::{Name, OpenFault, Refusal};
 
 /// The answer to a read of up to 64 bytes.
-fn read(worker: &mut QueueWorker, name: Name, at: u32, n: u32) -> Result<Reply, CrewRefusal> {
+fn read(worker: &mut QueueWorker<4>, name: Name, at: u32, n: u32) -> Result<Reply, CrewRefusal> {
     let mut out = [0; 64];
     let Some(part) = out.get_mut(..n as usize) else {
         return Err(CrewRefusal::Unmade);
@@ -24,7 +24,7 @@ fn read(worker: &mut QueueWorker, name: Name, at: u32, n: u32) -> Result<Reply, 
 /// Frees a name of the own heap, and posts another's.
 fn let_go<R: Wait>(
     rt: &R,
-    worker: &mut QueueWorker,
+    worker: &mut QueueWorker<4>,
     at: u32,
     name: Name,
 ) -> Result<Reply, CrewRefusal> {
@@ -37,7 +37,11 @@ fn let_go<R: Wait>(
 }
 
 /// What a worker answers to one of its calls, as a reply of an event would say it.
-fn reply<R: Wait>(rt: &R, worker: &mut QueueWorker, event: &Event) -> Result<Reply, CrewRefusal> {
+fn reply<R: Wait>(
+    rt: &R,
+    worker: &mut QueueWorker<4>,
+    event: &Event,
+) -> Result<Reply, CrewRefusal> {
     match event.call {
         Call::Allocate { len } => Ok(Reply::Made(worker.allocate(len)?)),
         Call::Release {
@@ -70,7 +74,7 @@ fn reply<R: Wait>(rt: &R, worker: &mut QueueWorker, event: &Event) -> Result<Rep
 }
 
 /// Has workers make calls, and holds each answer to the one that is wanted.
-fn check_calls<R: Abort + Wait>(rt: &R, workers: &mut [QueueWorker], rows: &[(Event, Reply)]) {
+fn check_calls<R: Abort + Wait>(rt: &R, workers: &mut [QueueWorker<4>], rows: &[(Event, Reply)]) {
     for (i, (event, wanted)) in rows.iter().enumerate() {
         if let Some(worker) = workers.get_mut(event.worker as usize) {
             let found = reply(rt, worker, event).unwrap_or_else(Reply::Refused);
@@ -82,7 +86,7 @@ fn check_calls<R: Abort + Wait>(rt: &R, workers: &mut [QueueWorker], rows: &[(Ev
 // Workers 1 and 2 share the one place of worker 0's queue.
 #[test]
 fn calls_of_a_queue_worker(rt: HostRuntime) -> Result<(), Fail> {
-    let mut workers = open_queue_yard(rt.alloc(), 3, 64, 1)?;
+    let mut workers = open_queue_yard::<4>(rt.alloc(), 3, 64, 1)?;
     let block = name(0, 0, 1);
     let bytes = Chunk::new(b"ab").ok_or("up to 64 bytes")?;
     let read = Chunk::new(b"\0ab").ok_or("up to 64 bytes")?;
@@ -115,7 +119,7 @@ fn calls_of_a_queue_worker(rt: HostRuntime) -> Result<(), Fail> {
 // A worker frees its own names alone, and posts those of others alone.
 #[test]
 fn names_of_the_wrong_heap(rt: HostRuntime) -> Result<(), Fail> {
-    let mut workers = open_queue_yard(rt.alloc(), 2, 64, 4)?;
+    let mut workers = open_queue_yard::<4>(rt.alloc(), 2, 64, 4)?;
     let worker = workers.first_mut().ok_or("two workers")?;
     let block = worker.allocate(8)?;
     let found = (worker.post(&rt, block), worker.free(name(1, 0, 1)));
@@ -137,7 +141,7 @@ fn sizes_out_of_range_of_queues(rt: HostRuntime) {
         (2, 64, 1025, Some(OpenFault::BadSize)),
         (8, 4, 1024, None),
     ] {
-        let refused = open_queue_yard(rt.alloc(), n, words, capacity).err();
+        let refused = open_queue_yard::<4>(rt.alloc(), n, words, capacity).err();
         same((n, words, capacity, refused), (n, words, capacity, fault)).expect(&rt, "differ");
     }
 }
@@ -145,10 +149,10 @@ fn sizes_out_of_range_of_queues(rt: HostRuntime) {
 /// Moves two workers into threads of their own, where each posts the name of a block, and takes them back.
 fn post_away<R: Threads + Wait + Sync>(
     rt: &R,
-    one: QueueWorker,
-    two: QueueWorker,
+    one: QueueWorker<4>,
+    two: QueueWorker<4>,
     blocks: (Name, Name),
-) -> Result<(QueueWorker, QueueWorker), AllocError> {
+) -> Result<(QueueWorker<4>, QueueWorker<4>), AllocError> {
     thread::scope(thread::scope_env(), rt, move |scope| {
         let first = scope.spawn(move || {
             let mut worker = one;
@@ -166,7 +170,7 @@ fn post_away<R: Threads + Wait + Sync>(
 
 #[test]
 fn queue_workers_come_back_from_threads(rt: HostRuntime) -> Result<(), Fail> {
-    let mut workers = open_queue_yard(rt.alloc(), 3, 64, 2)?;
+    let mut workers = open_queue_yard::<4>(rt.alloc(), 3, 64, 2)?;
     let blocks = (name(0, 0, 1), name(0, 4, 2));
     let rows = [
         (allocate(0, 8), Reply::Made(blocks.0)),

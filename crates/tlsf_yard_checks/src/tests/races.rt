@@ -46,10 +46,10 @@ pub(crate) fn last(worker: u32, taken: u32) -> Entry {
 }
 
 /// A yard of two workers whose heaps have 64 words, after some events.
-fn two_workers(alloc: Global, capacity: u32, events: &[Event]) -> Result<Vec<Worker>, Fail>
+fn two_workers(alloc: Global, capacity: u32, events: &[Event]) -> Result<Vec<Worker<4>>, Fail>
     ensures { IfOk result (λ workers. IsYard workers.items) }
 {
-    let mut workers = open_yard(alloc, 2, 64, capacity)?;
+    let mut workers = open_yard::<4>(alloc, 2, 64, capacity)?;
     let _ = replay_events(alloc, &mut workers, events)?;
     Ok(workers)
 }
@@ -82,7 +82,7 @@ pub(crate) fn check_records(rt: &impl Abort, records: &[Vec<Entry>], wanted: [&[
 fn check_race<R: Threads + Wait + Abort + Sync, G: Gate>(
     rt: &R,
     alloc: Global,
-    workers: Vec<Worker>,
+    workers: Vec<Worker<4>>,
     first: &[Call],
     second: &[Call],
     gate: &G,
@@ -250,7 +250,7 @@ pub(crate) fn have_two(records: &[Vec<Entry>]) -> bool {
 
 /// Whether all of so many workers met at the gate, and each has a record of its one call and its last drain.
 fn all_meet<R: Threads + Wait + Sync>(rt: &R, alloc: Global, count: u32) -> Result<bool, Fail> {
-    let workers = open_yard(alloc, count, 64, 1)?;
+    let workers = open_yard::<4>(alloc, count, 64, 1)?;
     let scripts = one_call_each(alloc, workers.len())?;
     let gate = AllHere::new(workers.len());
     let outcome = race(rt, alloc, workers, scripts, &gate)?;
@@ -338,7 +338,7 @@ fn slot_comes_back_while_workers_run(rt: HostRuntime) -> Result<(), Fail> {
 /// Has each of the first two workers release a name, in threads of their own. Tells what they were answered.
 fn release_at_once<R: Threads>(
     rt: &R,
-    workers: &mut [Worker],
+    workers: &mut [Worker<4>],
     names: [Name; 2],
 ) -> (Result<Released, CrewRefusal>, Result<Released, CrewRefusal>)
     requires two { length workers.old ≡ 2 }

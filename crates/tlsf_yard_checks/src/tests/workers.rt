@@ -14,7 +14,7 @@ use tlsf_fixtures::{name, same};
 use tlsf_heap::{Name, Refusal};
 
 /// The answer to a read of up to 64 bytes.
-fn read(worker: &mut Worker, name: Name, at: u32, n: u32) -> Result<Reply, CrewRefusal> {
+fn read(worker: &mut Worker<4>, name: Name, at: u32, n: u32) -> Result<Reply, CrewRefusal> {
     let mut out = [0; 64];
     let Some(part) = out.get_mut(..n as usize) else {
         return Err(CrewRefusal::Unmade);
@@ -24,7 +24,7 @@ fn read(worker: &mut Worker, name: Name, at: u32, n: u32) -> Result<Reply, CrewR
 }
 
 /// What a worker answers to one of its calls, as a reply of an event would say it.
-fn reply(worker: &mut Worker, call: &Call) -> Result<Reply, CrewRefusal> {
+fn reply(worker: &mut Worker<4>, call: &Call) -> Result<Reply, CrewRefusal> {
     match *call {
         Call::Allocate { len } => Ok(Reply::Made(worker.allocate(len)?)),
         Call::Release {
@@ -63,7 +63,7 @@ fn reply(worker: &mut Worker, call: &Call) -> Result<Reply, CrewRefusal> {
 }
 
 /// Has workers make calls, and holds each answer to the one that is wanted.
-fn check_calls(rt: &impl Abort, workers: &mut [Worker], rows: &[(Event, Reply)]) {
+fn check_calls(rt: &impl Abort, workers: &mut [Worker<4>], rows: &[(Event, Reply)]) {
     for (i, (event, wanted)) in rows.iter().enumerate() {
         if let Some(worker) = workers.get_mut(event.worker as usize) {
             let found = reply(worker, &event.call).unwrap_or_else(Reply::Refused);
@@ -110,7 +110,7 @@ pub const STRANGER: Reply = Reply::Refused(CrewRefusal::Stranger);
 
 #[test]
 fn calls_of_a_worker(rt: HostRuntime) -> Result<(), Fail> {
-    let mut workers = open_yard(rt.alloc(), 2, 64, 1)?;
+    let mut workers = open_yard::<4>(rt.alloc(), 2, 64, 1)?;
     let block = name(0, 0, 1);
     let bytes = Chunk::new(b"ab").ok_or("up to 64 bytes")?;
     let read = Chunk::new(b"\0ab").ok_or("up to 64 bytes")?;
@@ -138,7 +138,7 @@ fn calls_of_a_worker(rt: HostRuntime) -> Result<(), Fail> {
 // A block grows into the free words behind it, up to the next live block, and other workers don't resize it.
 #[test]
 fn resizes_of_a_worker(rt: HostRuntime) -> Result<(), Fail> {
-    let mut workers = open_yard(rt.alloc(), 2, 64, 1)?;
+    let mut workers = open_yard::<4>(rt.alloc(), 2, 64, 1)?;
     let block = name(0, 0, 1);
     let bytes = Chunk::new(b"ab").ok_or("up to 64 bytes")?;
     let read = Chunk::new(b"ab\0").ok_or("up to 64 bytes")?;
@@ -161,7 +161,7 @@ fn resizes_of_a_worker(rt: HostRuntime) -> Result<(), Fail> {
 
 /// What the first of two workers answers to a drain of no post and to one of up to 8, once the second has posted a name.
 fn drained(alloc: Global, posted: Name) -> Result<[Drained; 2], Fail> {
-    let mut workers = open_yard(alloc, 2, 64, 4)?;
+    let mut workers = open_yard::<4>(alloc, 2, 64, 4)?;
     let _ = replay_events(alloc, &mut workers, &[release_of(1, posted)])?;
     settle(&mut workers);
     let first = workers.first_mut().ok_or("two workers")?;
@@ -179,9 +179,9 @@ fn drain_counts_a_forged_name_as_taken(rt: HostRuntime) -> Result<(), Fail> {
 /// Moves the worker into a thread, where it releases a block, and takes it back.
 fn release_away<R: Threads + Wait + Sync>(
     rt: &R,
-    worker: Worker,
+    worker: Worker<4>,
     block: Name,
-) -> Result<Worker, AllocError> {
+) -> Result<Worker<4>, AllocError> {
     thread::scope(thread::scope_env(), rt, move |scope| {
         let child = scope.spawn(move || {
             let mut worker = worker;
@@ -194,7 +194,7 @@ fn release_away<R: Threads + Wait + Sync>(
 
 #[test]
 fn worker_comes_back_from_a_thread(rt: HostRuntime) -> Result<(), Fail> {
-    let mut workers = open_yard(rt.alloc(), 2, 64, 1)?;
+    let mut workers = open_yard::<4>(rt.alloc(), 2, 64, 1)?;
     let block = name(0, 0, 1);
     check_calls(&rt, &mut workers, &[(allocate(0, 8), Reply::Made(block))]);
     let second = workers.pop().ok_or("the second of two workers")?;

@@ -48,7 +48,7 @@ pub fn took(from: u32, name: Name, answer: Result<(), Refusal>) -> Reply {
 /// The replies of a new yard of two workers, whose heaps have 64 words and whose lanes have one slot, are those that are
 /// wanted.
 fn check_replies(rt: &impl Abort, alloc: Global, rows: &[(Event, Reply)]) -> Result<(), Fail> {
-    let mut workers = open_yard(alloc, 2, 64, 1)?;
+    let mut workers = open_yard::<4>(alloc, 2, 64, 1)?;
     let mut events = Vec::new(alloc);
     for (event, _) in rows {
         events.push(*event)?;
@@ -95,7 +95,7 @@ fn events_that_a_worker_refuses_change_nothing(rt: HostRuntime) -> Result<(), Fa
 #[test]
 fn forged_post_is_stale(rt: HostRuntime) -> Result<(), Fail> {
     let forged = name(0, 5, 2);
-    let mut workers = open_yard(rt.alloc(), 2, 64, 4)?;
+    let mut workers = open_yard::<4>(rt.alloc(), 2, 64, 4)?;
     let events = [
         allocate(0, 8),
         allocate(0, 100),
@@ -128,7 +128,7 @@ fn sizes_out_of_range(rt: HostRuntime) {
         (2, 64, 1025, Some(OpenFault::BadSize)),
         (8, 4, 1024, None),
     ] {
-        let refused = open_yard(rt.alloc(), n, words, capacity).err();
+        let refused = open_yard::<4>(rt.alloc(), n, words, capacity).err();
         same((n, words, capacity, refused), (n, words, capacity, fault)).expect(&rt, "differ");
     }
 }

@@ -21,36 +21,36 @@ use Rattle.tlsf_crew.proofs.lemmas.yard.OwnAnswers.{own_name, posted_world, full
 use Rattle.tlsf_crew.proofs.lemmas.yard.Witnesses.{a_world, world_has, heap_left}
 
 -- one answer, as it is told
-told_answer : (at : ℕ) (made : List (Option Name)) (entries : List Entry) (w : World) (call : Call) (reply : Reply) (g : HeapState) (x : Replied) → reply ≡ x.reply → heap_in x.world at ≡ g
+told_answer : {sli : ℕ} (at : ℕ) (made : List (Option Name)) (entries : List Entry) (w : World sli) (call : Call) (reply : Reply) (g : HeapState) (x : Replied sli) → reply ≡ x.reply → heap_in x.world at ≡ g
     → told_by at (answered (record { made = made; entries = entries; world = w }) at call x) ≡ told_of (made ++ made_by reply ∷ []) (entries ++ entry_by at call reply ∷ []) g
 told_answer at made entries w call reply g x e f = rw (e, ← f) refl
 
 -- what the model answers in a world in which a worker has a heap, by that heap
-record AnswersBy (at : ℕ) (x : Replied) (reply : Reply) (g : HeapState) : Type 0 where
+record AnswersBy {sli : ℕ} (at : ℕ) (x : Replied sli) (reply : Reply) (g : HeapState) : Type 0 where
   same : reply ≡ x.reply
   left : heap_in x.world at ≡ g
 
 -- a world of n workers in which one has a heap, and nothing waits
-abbrev quiet_world : ℕ → ℕ → HeapState → World
+abbrev quiet_world : {sli : ℕ} → ℕ → ℕ → HeapState → World sli
 quiet_world n at h = a_world n at h (λ i. []) 1
 
-told_where : (n at : ℕ) (h g : HeapState) (made : List (Option Name)) (entries : List Entry) (call : Call) (reply : Reply) (w : World) (x : Replied) → HasHeap w n at h
+told_where : {sli : ℕ} (n at : ℕ) (h g : HeapState) (made : List (Option Name)) (entries : List Entry) (call : Call) (reply : Reply) (w : World sli) (x : Replied sli) → HasHeap w n at h
     → called (record { made = made; entries = entries; world = w }) at call ≡ answered (record { made = made; entries = entries; world = w }) at call x
-    → AnswersBy at x reply g → MayTell n at (told_of made entries h) call (told_of (made ++ made_by reply ∷ []) (entries ++ entry_by at call reply ∷ []) g)
+    → AnswersBy at x reply g → MayTell sli n at (told_of made entries h) call (told_of (made ++ made_by reply ∷ []) (entries ++ entry_by at call reply ∷ []) g)
 told_where n at h g made entries call reply w x has is a = (w, has, ap (told_by at) is ∙ told_answer at made entries w call reply g x a.same a.left)
 
 -- ---- allocate, write, read, resize
 
-pub allocate_tells : (made : List (Option Name)) (h g : HeapState) (len : ℕ) (reply : Reply) → reply ≡ (own_allocating h len).reply → g ≡ (own_allocating h len).heap → TellsOwn made h (Allocate len) g reply
-allocate_tells made h g len reply e f n at entries lt =
-    let w = quiet_world n at h in
-    let has = world_has n at h (λ i. []) 1 lt in
+pub allocate_tells : (sli : ℕ) (made : List (Option Name)) (h g : HeapState) (len : ℕ) (reply : Reply) → reply ≡ (own_allocating sli h len).reply → g ≡ (own_allocating sli h len).heap → TellsOwn sli made h (Allocate len) g reply
+allocate_tells sli made h g len reply e f n at entries lt =
+    let w = quiet_world {sli = sli} n at h in
+    let has = world_has sli n at h (λ i. []) 1 lt in
     told_where n at h g made entries (Allocate len) reply w (allocating w at len) has refl (record {
-      same = e ∙ ap (λ (x : HeapState). reply_made (allocated x len).answer) (sym has.1);
-      left = heap_left n at w h (allocated (heap_in w at) len).heap lt has ∙ (ap (λ (x : HeapState). (allocated x len).heap) has.1 ∙ sym f);
+      same = e ∙ ap (λ (x : HeapState). reply_made (allocated sli x len).answer) (sym has.1);
+      left = heap_left n at w h (allocated sli (heap_in w at) len).heap lt has ∙ (ap (λ (x : HeapState). (allocated sli x len).heap) has.1 ∙ sym f);
     })
 
-writing_here : (n at : ℕ) (w : World) (h : HeapState) (o : Option Name) (from : ℕ) (bytes : List ℕ) → at < n → HasHeap w n at h
+writing_here : {sli : ℕ} (n at : ℕ) (w : World sli) (h : HeapState) (o : Option Name) (from : ℕ) (bytes : List ℕ) → at < n → HasHeap w n at h
     → ((own_writing h o from bytes).reply ≡ (writing_named w at o from bytes).reply) × (heap_in (writing_named w at o from bytes).world at ≡ (own_writing h o from bytes).heap)
 writing_here n at w h None from bytes lt has = (refl, has.1)
 writing_here n at w h (Some name) from bytes lt has = (
@@ -58,28 +58,28 @@ writing_here n at w h (Some name) from bytes lt has = (
   heap_left n at w h (written (heap_in w at) name from bytes).heap lt has ∙ ap (λ (x : HeapState). (written x name from bytes).heap) has.1,
 )
 
-pub write_tells : (made : List (Option Name)) (h g : HeapState) (target : Target) (from : ℕ) (bytes : Chunk) (reply : Reply)
-    → reply ≡ (own_writing h (name_of made target) from (bytes_of bytes)).reply → g ≡ (own_writing h (name_of made target) from (bytes_of bytes)).heap → TellsOwn made h (Write target from bytes) g reply
-write_tells made h g target from bytes reply e f n at entries lt =
-    let w = quiet_world n at h in
-    let has = world_has n at h (λ i. []) 1 lt in
+pub write_tells : (sli : ℕ) (made : List (Option Name)) (h g : HeapState) (target : Target) (from : ℕ) (bytes : Chunk) (reply : Reply)
+    → reply ≡ (own_writing h (name_of made target) from (bytes_of bytes)).reply → g ≡ (own_writing h (name_of made target) from (bytes_of bytes)).heap → TellsOwn sli made h (Write target from bytes) g reply
+write_tells sli made h g target from bytes reply e f n at entries lt =
+    let w = quiet_world {sli = sli} n at h in
+    let has = world_has sli n at h (λ i. []) 1 lt in
     let x = writing_here n at w h (name_of made target) from (bytes_of bytes) lt has in
     told_where n at h g made entries (Write target from bytes) reply w (writing_named w at (name_of made target) from (bytes_of bytes)) has refl (record { same = e ∙ x.0; left = x.1 ∙ sym f })
 
-reading_here : (n at : ℕ) (w : World) (h : HeapState) (o : Option Name) (from k : ℕ) → HasHeap w n at h
+reading_here : {sli : ℕ} (n at : ℕ) (w : World sli) (h : HeapState) (o : Option Name) (from k : ℕ) → HasHeap w n at h
     → ((own_reading h o from k).reply ≡ (reading_named w at o from k).reply) × (heap_in (reading_named w at o from k).world at ≡ (own_reading h o from k).heap)
 reading_here n at w h None from k has = (refl, has.1)
 reading_here n at w h (Some name) from k has = (ap (λ (x : HeapState). reply_got (chunk_read x name from k)) (sym has.1), has.1)
 
-pub read_tells : (made : List (Option Name)) (h g : HeapState) (target : Target) (from k : ℕ) (reply : Reply)
-    → reply ≡ (own_reading h (name_of made target) from k).reply → g ≡ (own_reading h (name_of made target) from k).heap → TellsOwn made h (Read target from k) g reply
-read_tells made h g target from k reply e f n at entries lt =
-    let w = quiet_world n at h in
-    let has = world_has n at h (λ i. []) 1 lt in
+pub read_tells : (sli : ℕ) (made : List (Option Name)) (h g : HeapState) (target : Target) (from k : ℕ) (reply : Reply)
+    → reply ≡ (own_reading h (name_of made target) from k).reply → g ≡ (own_reading h (name_of made target) from k).heap → TellsOwn sli made h (Read target from k) g reply
+read_tells sli made h g target from k reply e f n at entries lt =
+    let w = quiet_world {sli = sli} n at h in
+    let has = world_has sli n at h (λ i. []) 1 lt in
     let x = reading_here n at w h (name_of made target) from k has in
     told_where n at h g made entries (Read target from k) reply w (reading_named w at (name_of made target) from k) has refl (record { same = e ∙ x.0; left = x.1 ∙ sym f })
 
-resizing_here : (n at : ℕ) (w : World) (h : HeapState) (o : Option Name) (len : ℕ) → at < n → HasHeap w n at h
+resizing_here : {sli : ℕ} (n at : ℕ) (w : World sli) (h : HeapState) (o : Option Name) (len : ℕ) → at < n → HasHeap w n at h
     → ((own_resizing h o len).reply ≡ (resizing_named w at o len).reply) × (heap_in (resizing_named w at o len).world at ≡ (own_resizing h o len).heap)
 resizing_here n at w h None len lt has = (refl, has.1)
 resizing_here n at w h (Some name) len lt has = (
@@ -87,89 +87,89 @@ resizing_here n at w h (Some name) len lt has = (
   heap_left n at w h (resized (heap_in w at) name len).heap lt has ∙ ap (λ (x : HeapState). (resized x name len).heap) has.1,
 )
 
-pub resize_tells : (made : List (Option Name)) (h g : HeapState) (target : Target) (len : ℕ) (reply : Reply)
-    → reply ≡ (own_resizing h (name_of made target) len).reply → g ≡ (own_resizing h (name_of made target) len).heap → TellsOwn made h (Resize target len) g reply
-resize_tells made h g target len reply e f n at entries lt =
-    let w = quiet_world n at h in
-    let has = world_has n at h (λ i. []) 1 lt in
+pub resize_tells : (sli : ℕ) (made : List (Option Name)) (h g : HeapState) (target : Target) (len : ℕ) (reply : Reply)
+    → reply ≡ (own_resizing h (name_of made target) len).reply → g ≡ (own_resizing h (name_of made target) len).heap → TellsOwn sli made h (Resize target len) g reply
+resize_tells sli made h g target len reply e f n at entries lt =
+    let w = quiet_world {sli = sli} n at h in
+    let has = world_has sli n at h (λ i. []) 1 lt in
     let x = resizing_here n at w h (name_of made target) len lt has in
     told_where n at h g made entries (Resize target len) reply w (resizing_named w at (name_of made target) len) has refl (record { same = e ∙ x.0; left = x.1 ∙ sym f })
 
 -- ---- release
 
 -- what the model answers to a release of this name, in some world in which the worker has the heap
-record ReleaseTold (n at : ℕ) (h : HeapState) (name : Name) (reply : Reply) (g : HeapState) : Type 0 where
-  world : World
+record ReleaseTold (sli : ℕ) (n at : ℕ) (h : HeapState) (name : Name) (reply : Reply) (g : HeapState) : Type 0 where
+  world : World sli
   has : HasHeap world n at h
   answers : AnswersBy at (releasing world at name) reply g
 
-release_told_named : (n at : ℕ) (h g : HeapState) (made : List (Option Name)) (entries : List Entry) (target : Target) (name : Name) (reply : Reply) → name_of made target ≡ Some name
-    → ReleaseTold n at h name reply g → MayTell n at (told_of made entries h) (Release target) (told_of (made ++ made_by reply ∷ []) (entries ++ entry_by at (Release target) reply ∷ []) g)
+release_told_named : {sli : ℕ} (n at : ℕ) (h g : HeapState) (made : List (Option Name)) (entries : List Entry) (target : Target) (name : Name) (reply : Reply) → name_of made target ≡ Some name
+    → ReleaseTold sli n at h name reply g → MayTell sli n at (told_of made entries h) (Release target) (told_of (made ++ made_by reply ∷ []) (entries ++ entry_by at (Release target) reply ∷ []) g)
 release_told_named n at h g made entries target name reply known t =
     told_where n at h g made entries (Release target) reply t.world (releasing t.world at name) t.has
     (ap (λ (o : Option Name). answered (record { made = made; entries = entries; world = t.world }) at (Release target) (releasing_named t.world at o)) known) t.answers
 
-pub unmade_tells : (n at : ℕ) (h : HeapState) (made : List (Option Name)) (entries : List Entry) (target : Target) → at < n → name_of made target ≡ None
-    → MayTell n at (told_of made entries h) (Release target) (told_of (made ++ None ∷ []) (entries ++ entry_by at (Release target) (Refused Unmade) ∷ []) h)
-unmade_tells n at h made entries target lt none =
-    let w = quiet_world n at h in
-    let has = world_has n at h (λ i. []) 1 lt in
+pub unmade_tells : (sli : ℕ) (n at : ℕ) (h : HeapState) (made : List (Option Name)) (entries : List Entry) (target : Target) → at < n → name_of made target ≡ None
+    → MayTell sli n at (told_of made entries h) (Release target) (told_of (made ++ None ∷ []) (entries ++ entry_by at (Release target) (Refused Unmade) ∷ []) h)
+unmade_tells sli n at h made entries target lt none =
+    let w = quiet_world {sli = sli} n at h in
+    let has = world_has sli n at h (λ i. []) 1 lt in
     told_where n at h h made entries (Release target) (Refused Unmade) w (record { reply = Refused Unmade; world = w }) has
     (ap (λ (o : Option Name). answered (record { made = made; entries = entries; world = w }) at (Release target) (releasing_named w at o)) none) (record { same = refl; left = has.1 })
 
-pub free_tells : (n at : ℕ) (h g : HeapState) (made : List (Option Name)) (entries : List Entry) (target : Target) (name : Name) (reply : Reply) → at < n → name_of made target ≡ Some name → name.heap ≡ at
+pub free_tells : (sli : ℕ) (n at : ℕ) (h g : HeapState) (made : List (Option Name)) (entries : List Entry) (target : Target) (name : Name) (reply : Reply) → at < n → name_of made target ≡ Some name → name.heap ≡ at
     → reply ≡ (own_freeing h name).reply → g ≡ (own_freeing h name).heap
-    → MayTell n at (told_of made entries h) (Release target) (told_of (made ++ made_by reply ∷ []) (entries ++ entry_by at (Release target) reply ∷ []) g)
-free_tells n at h g made entries target name reply lt known own e f =
-    let w = quiet_world n at h in
-    let has = world_has n at h (λ i. []) 1 lt in
+    → MayTell sli n at (told_of made entries h) (Release target) (told_of (made ++ made_by reply ∷ []) (entries ++ entry_by at (Release target) reply ∷ []) g)
+free_tells sli n at h g made entries target name reply lt known own e f =
+    let w = quiet_world {sli = sli} n at h in
+    let has = world_has sli n at h (λ i. []) 1 lt in
     let is = own_name w at name own in
     release_told_named n at h g made entries target name reply known (record {
       world = w;
       has = has;
       answers = record {
-        same = e ∙ (ap (λ (x : HeapState). reply_freed (released x name).answer) (sym has.1) ∙ ap (λ (r : Replied). r.reply) (sym is));
-        left = ap (λ (r : Replied). heap_in r.world at) is ∙ (heap_left n at w h (released (heap_in w at) name).heap lt has ∙ (ap (λ (x : HeapState). (released x name).heap) has.1 ∙ sym f));
+        same = e ∙ (ap (λ (x : HeapState). reply_freed (released x name).answer) (sym has.1) ∙ ap (λ (r : Replied sli). r.reply) (sym is));
+        left = ap (λ (r : Replied sli). heap_in r.world at) is ∙ (heap_left n at w h (released (heap_in w at) name).heap lt has ∙ (ap (λ (x : HeapState). (released x name).heap) has.1 ∙ sym f));
       };
     })
 
 -- a world in which a lane holds one post and no more, or none at all
-abbrev world_of_room : ℕ → ℕ → HeapState → ℕ → World
+abbrev world_of_room : {sli : ℕ} → ℕ → ℕ → HeapState → ℕ → World sli
 world_of_room n at h capacity = a_world n at h (λ i. []) capacity
 
-pub posted_tells : (n at : ℕ) (h : HeapState) (made : List (Option Name)) (entries : List Entry) (target : Target) (name : Name) → at < n → name_of made target ≡ Some name → name.heap ≢ at → name.heap < n
-    → MayTell n at (told_of made entries h) (Release target) (told_of (made ++ None ∷ []) (entries ++ entry_by at (Release target) Posted ∷ []) h)
-posted_tells n at h made entries target name lt known ne near =
-    let w = world_of_room n at h 1 in
-    let has = world_has n at h (λ i. []) 1 lt in
+pub posted_tells : (sli : ℕ) (n at : ℕ) (h : HeapState) (made : List (Option Name)) (entries : List Entry) (target : Target) (name : Name) → at < n → name_of made target ≡ Some name → name.heap ≢ at → name.heap < n
+    → MayTell sli n at (told_of made entries h) (Release target) (told_of (made ++ None ∷ []) (entries ++ entry_by at (Release target) Posted ∷ []) h)
+posted_tells sli n at h made entries target name lt known ne near =
+    let w = world_of_room {sli = sli} n at h 1 in
+    let has = world_has sli n at h (λ i. []) 1 lt in
     let is = releasing_post w at name ne (omega (arith, has.0)) in
     let p = posted_world w at name (λ e. let q : 0 ≡ 1 = e in omega arith) in
     release_told_named n at h h made entries target name Posted known (record {
       world = w;
       has = has;
-      answers = record { same = sym (ap (λ (r : Replied). r.reply) is ∙ p.0); left = ap (λ (r : Replied). heap_in r.world at) is ∙ (p.1 ∙ has.1) };
+      answers = record { same = sym (ap (λ (r : Replied sli). r.reply) is ∙ p.0); left = ap (λ (r : Replied sli). heap_in r.world at) is ∙ (p.1 ∙ has.1) };
     })
 
-pub full_tells : (n at : ℕ) (h : HeapState) (made : List (Option Name)) (entries : List Entry) (target : Target) (name : Name) → at < n → name_of made target ≡ Some name → name.heap ≢ at → name.heap < n
-    → MayTell n at (told_of made entries h) (Release target) (told_of (made ++ None ∷ []) (entries ++ entry_by at (Release target) (Refused (Full name)) ∷ []) h)
-full_tells n at h made entries target name lt known ne near =
-    let w = world_of_room n at h 0 in
-    let has = world_has n at h (λ i. []) 0 lt in
+pub full_tells : (sli : ℕ) (n at : ℕ) (h : HeapState) (made : List (Option Name)) (entries : List Entry) (target : Target) (name : Name) → at < n → name_of made target ≡ Some name → name.heap ≢ at → name.heap < n
+    → MayTell sli n at (told_of made entries h) (Release target) (told_of (made ++ None ∷ []) (entries ++ entry_by at (Release target) (Refused (Full name)) ∷ []) h)
+full_tells sli n at h made entries target name lt known ne near =
+    let w = world_of_room {sli = sli} n at h 0 in
+    let has = world_has sli n at h (λ i. []) 0 lt in
     let is = releasing_post w at name ne (omega (arith, has.0)) ∙ full_world w at name refl in
     release_told_named n at h h made entries target name (Refused (Full name)) known (record {
       world = w;
       has = has;
-      answers = record { same = sym (ap (λ (r : Replied). r.reply) is); left = ap (λ (r : Replied). heap_in r.world at) is ∙ has.1 };
+      answers = record { same = sym (ap (λ (r : Replied sli). r.reply) is); left = ap (λ (r : Replied sli). heap_in r.world at) is ∙ has.1 };
     })
 
-pub far_tells : (n at : ℕ) (h : HeapState) (made : List (Option Name)) (entries : List Entry) (target : Target) (name : Name) → at < n → name_of made target ≡ Some name → name.heap ≢ at → n ≤ name.heap
-    → MayTell n at (told_of made entries h) (Release target) (told_of (made ++ None ∷ []) (entries ++ entry_by at (Release target) (Refused Stranger) ∷ []) h)
-far_tells n at h made entries target name lt known ne far =
-    let w = quiet_world n at h in
-    let has = world_has n at h (λ i. []) 1 lt in
+pub far_tells : (sli : ℕ) (n at : ℕ) (h : HeapState) (made : List (Option Name)) (entries : List Entry) (target : Target) (name : Name) → at < n → name_of made target ≡ Some name → name.heap ≢ at → n ≤ name.heap
+    → MayTell sli n at (told_of made entries h) (Release target) (told_of (made ++ None ∷ []) (entries ++ entry_by at (Release target) (Refused Stranger) ∷ []) h)
+far_tells sli n at h made entries target name lt known ne far =
+    let w = quiet_world {sli = sli} n at h in
+    let has = world_has sli n at h (λ i. []) 1 lt in
     let is = releasing_far w at name ne (omega (arith, has.0)) in
     release_told_named n at h h made entries target name (Refused Stranger) known (record {
       world = w;
       has = has;
-      answers = record { same = sym (ap (λ (r : Replied). r.reply) is); left = ap (λ (r : Replied). heap_in r.world at) is ∙ has.1 };
+      answers = record { same = sym (ap (λ (r : Replied sli). r.reply) is); left = ap (λ (r : Replied sli). heap_in r.world at) is ∙ has.1 };
     })

@@ -47,7 +47,7 @@ slot_none (Some p) s k e = absurd cc
 
 -- ---- places in a yard
 
-pub keeps_heap : (a v : QueueWorker) → SameButQueueHeap a v → KeepsHeap (queue_heap a) (queue_heap v) → KeepsQueueYards a v
+pub keeps_heap : {sli : ℕ} (a v : QueueWorker sli) → SameButQueueHeap a v → KeepsHeap (queue_heap a) (queue_heap v) → KeepsQueueYards a v
 keeps_heap a v same kept = record {
   number = same.0;
   heap = kept;
@@ -55,10 +55,10 @@ keeps_heap a v same kept = record {
   posts = λ j. slot_is (queue_end_to a j) (queue_end_to v j) (ap (λ f. f j) same.2);
 }
 
-pub keeps_all : (a : QueueWorker) → KeepsQueueYards a a
+pub keeps_all : {sli : ℕ} (a : QueueWorker sli) → KeepsQueueYards a a
 keeps_all a = keeps_heap a a (refl, refl, refl) (same_heap_keeps (queue_heap a) (queue_heap a) refl)
 
-pub keeps_put : (a v : QueueWorker) (j : ℕ) (name : Name) (answer : Result (Unit {0}) Name) → PutToQueue a v j name answer → KeepsQueueYards a v
+pub keeps_put : {sli : ℕ} (a v : QueueWorker sli) (j : ℕ) (name : Name) (answer : Result (Unit {0}) Name) → PutToQueue a v j name answer → KeepsQueueYards a v
 keeps_put a v j name answer put = record {
   number = put.same.1;
   heap = same_heap_keeps (queue_heap a) (queue_heap v) put.same.0;
@@ -69,7 +69,7 @@ keeps_put a v j name answer put = record {
   ];
 }
 
-pub keeps_take : (a v : QueueWorker) (answer : Option Post) → TookFromQueue a v answer → KeepsQueueYards a v
+pub keeps_take : {sli : ℕ} (a v : QueueWorker sli) (answer : Option Post) → TookFromQueue a v answer → KeepsQueueYards a v
 keeps_take a v answer took = record {
   number = took.same.1;
   heap = same_heap_keeps (queue_heap a) (queue_heap v) took.same.0;
@@ -77,7 +77,7 @@ keeps_take a v answer took = record {
   posts = λ k. slot_is (queue_end_to a k) (queue_end_to v k) (ap (λ f. f k) took.same.2);
 }
 
-pub keeps_then : (a b v : QueueWorker) → KeepsQueueYards a b → KeepsQueueYards b v → KeepsQueueYards a v
+pub keeps_then : {sli : ℕ} (a b v : QueueWorker sli) → KeepsQueueYards a b → KeepsQueueYards b v → KeepsQueueYards a v
 keeps_then a b v x y = record {
   number = y.number ∙ x.number;
   heap = (y.heap.0 ∙ x.heap.0, λ lawful. y.heap.1 (x.heap.1 lawful));
@@ -86,7 +86,7 @@ keeps_then a b v x y = record {
 }
 
 -- a worker that knows its yard goes on knowing it
-pub knows_kept : (n : ℕ) (a v : QueueWorker) → KeepsQueueYards a v → KnowsQueueYard n a → KnowsQueueYard n v
+pub knows_kept : {sli : ℕ} (n : ℕ) (a v : QueueWorker sli) → KeepsQueueYards a v → KnowsQueueYard n a → KnowsQueueYard n v
 knows_kept n a v keeps k = record {
   few = k.few;
   self = omega (arith, keeps.number, k.self);

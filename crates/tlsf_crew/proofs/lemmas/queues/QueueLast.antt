@@ -28,7 +28,7 @@ use Rattle.tlsf_crew.proofs.lemmas.queues.QueueYards.{all_kept}
 
 -- ---- one worker
 
-pub drained_last : (n : ℕ) (a v : QueueWorker) (limit left at taken : ℕ) (entries between longer : List Entry) → taken ≤ limit → limit < 8192 → at ≡ queue_id v
+pub drained_last : {sli : ℕ} (n : ℕ) (a v : QueueWorker sli) (limit left at taken : ℕ) (entries between longer : List Entry) → taken ≤ limit → limit < 8192 → at ≡ queue_id v
     → ((made : List (Option Name)) → QueueStepped n a limit last_call made entries v left between (Drained taken)) → queue_end_to v ≡ queue_end_to a
     → longer ≡ between ++ record { worker = at; call = last_call; reply = Drained taken } ∷ [] → DrainedLast n a v entries longer
 drained_last n a v limit left at taken entries between longer few less is step ends more =
@@ -55,12 +55,12 @@ drained_last n a v limit left at taken entries between longer few less is step e
 
 -- ---- all workers
 
-pub drained_none : (ws : List QueueWorker) (rs : List (List Entry)) → QueuesDrained ws rs rs ws 0
+pub drained_none : {sli : ℕ} (ws : List (QueueWorker sli)) (rs : List (List Entry)) → QueuesDrained ws rs rs ws 0
 drained_none ws rs = record { worker_count = refl; record_count = refl; drained = λ j a lt. absurd (omega arith); later_workers = λ j le. refl }
 
-pub drained_next : (ws us : List QueueWorker) (rs ss : List (Vec Entry Global)) (j : ℕ) (u w : QueueWorker) (r s : Vec Entry Global) → QueuesDrained ws (items_of rs) (items_of ss) us j → slice_get us j ≡ Some u
+pub drained_next : {sli : ℕ} (ws us : List (QueueWorker sli)) (rs ss : List (Vec Entry Global)) (j : ℕ) (u w : QueueWorker sli) (r s : Vec Entry Global) → QueuesDrained ws (items_of rs) (items_of ss) us j → slice_get us j ≡ Some u
     → slice_get ss j ≡ Some r → slice_get rs j ≡ Some r → ((n : ℕ) → KnowsQueueYard n u → DrainedLast n u w r.items s.items) → QueuesDrained ws (items_of rs) (items_of (set ss j s)) (set us j w) (j + 1)
-drained_next ws us rs ss j u w r s x at here there step =
+drained_next {sli} ws us rs ss j u w r s x at here there step =
     let j_in = slice_get_within us j u at in
     let le : j ≤ j = omega arith in
     let was : slice_get ws j ≡ Some u = sym (x.later_workers j le) ∙ at in
@@ -75,7 +75,7 @@ drained_next ws us rs ss j u w r s x at here there step =
             let after : s.items ≡ record_of (items_of (set ss j s)) k = sym (ap (record_of (items_of (set ss j s))) e ∙ record_items (set ss j s) j s (get_set_same ss j s s_in)) in (
               w,
               ap (slice_get (set us j w)) e ∙ get_set_same us j w j_in,
-              λ n known. subst (λ (z : QueueWorker × List Entry × List Entry). DrainedLast n z.0 w z.1 z.2) (λ t. (a_is t, before t, after t)) (step n (subst (KnowsQueueYard n) (sym a_is) known)),
+              λ n known. subst (λ (z : QueueWorker sli × List Entry × List Entry). DrainedLast n z.0 w z.1 z.2) (λ t. (a_is t, before t, after t)) (step n (subst (KnowsQueueYard n) (sym a_is) known)),
             )
         | inr ne ↦
             let below : k < j = omega arith in
@@ -88,11 +88,11 @@ drained_next ws us rs ss j u w r s x at here there step =
     }
 
 -- the yard is whole then
-pub drained_yard : (ws : List QueueWorker) (rs ss : List (List Entry)) (vs : List QueueWorker) → IsQueueYard ws → QueuesDrained ws rs ss vs (length ws) → IsQueueYard vs
-drained_yard ws rs ss vs yard x = all_kept ws vs yard x.worker_count (λ j v is.
+pub drained_yard : {sli : ℕ} (ws : List (QueueWorker sli)) (rs ss : List (List Entry)) (vs : List (QueueWorker sli)) → IsQueueYard ws → QueuesDrained ws rs ss vs (length ws) → IsQueueYard vs
+drained_yard {sli} ws rs ss vs yard x = all_kept ws vs yard x.worker_count (λ j v is.
     let a = some_at ws j (omega (arith, slice_get_within vs j v is, x.worker_count)) in
     let o = x.drained j a.0 (slice_get_within ws j a.0 a.1) a.1 in
     let w = yard.workers j a.0 a.1 in
     let d = o.2 (length ws) w.knows in
     let m = d.moved [] in
-    record { old = a.0; is = a.1; keeps = subst (λ (z : QueueWorker). KeepsQueueYards a.0 z) (some_same o.0 v (sym o.1 ∙ is)) m.yard })
+    record { old = a.0; is = a.1; keeps = subst (λ (z : QueueWorker sli). KeepsQueueYards a.0 z) (some_same o.0 v (sym o.1 ∙ is)) m.yard })

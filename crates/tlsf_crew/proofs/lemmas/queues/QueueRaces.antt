@@ -43,27 +43,27 @@ use Rattle.tlsf_crew.proofs.lemmas.queues.QueueYards.{all_kept}
 -- ---- the yard
 
 -- the yard stays whole while the scripts run
-pub ran_yard : (ws : List QueueWorker) (scripts : List (List Call)) (rs : List (List Entry)) (vs : List QueueWorker) → IsQueueYard ws → HaveQueuesRun ws scripts rs vs → IsQueueYard vs
-ran_yard ws scripts rs vs yard x = all_kept ws vs yard x.worker_count (λ j v is.
+pub ran_yard : {sli : ℕ} (ws : List (QueueWorker sli)) (scripts : List (List Call)) (rs : List (List Entry)) (vs : List (QueueWorker sli)) → IsQueueYard ws → HaveQueuesRun ws scripts rs vs → IsQueueYard vs
+ran_yard {sli} ws scripts rs vs yard x = all_kept ws vs yard x.worker_count (λ j v is.
     let a = some_at ws j (omega (arith, slice_get_within vs j v is, x.worker_count)) in
     let o = x.ran j a.0 a.1 in
     let w = yard.workers j a.0 a.1 in
     let d = o.2 (length ws) w.knows in
     let m = d.run.moved [] in
-    record { old = a.0; is = a.1; keeps = subst (λ (z : QueueWorker). KeepsQueueYards a.0 z) (some_same o.0 v (sym o.1 ∙ is)) m.yard })
+    record { old = a.0; is = a.1; keeps = subst (λ (z : QueueWorker sli). KeepsQueueYards a.0 z) (some_same o.0 v (sym o.1 ∙ is)) m.yard })
 
 -- ---- one worker on its way
 
-record Way (n : ℕ) (zs ws us ts : List QueueWorker) (j : ℕ) (script : List Call) (made : List (Option Name)) (rs ss : List Entry) : Type 0 where
-  given : QueueWorker
+record Way {sli : ℕ} (n : ℕ) (zs ws us ts : List (QueueWorker sli)) (j : ℕ) (script : List Call) (made : List (Option Name)) (rs ss : List Entry) : Type 0 where
+  given : QueueWorker sli
   given_is : slice_get zs j ≡ Some given
-  start : QueueWorker
+  start : QueueWorker sli
   start_is : slice_get ws j ≡ Some start
-  ran : QueueWorker
-  met : QueueWorker
+  ran : QueueWorker sli
+  met : QueueWorker sli
   met_is : slice_get us j ≡ Some met
-  empty : QueueWorker
-  back : QueueWorker
+  empty : QueueWorker sli
+  back : QueueWorker sli
   back_is : slice_get ts j ≡ Some back
   number : queue_id start ≡ j
   later_number : queue_id met ≡ j
@@ -73,10 +73,10 @@ record Way (n : ℕ) (zs ws us ts : List QueueWorker) (j : ℕ) (script : List C
   last : DrainedLast n met empty rs ss
   third : StaysPut empty back
 
-abbrev WayIn : (zs ws : List QueueWorker) (vs ts : List QueueWorker) (scripts : List (List Call)) (rs ss : List (List Entry)) → HaveQueuesRun ws scripts rs vs → Finished vs rs ss ts → ℕ → Type 0
+abbrev WayIn : {sli : ℕ} (zs ws : List (QueueWorker sli)) (vs ts : List (QueueWorker sli)) (scripts : List (List Call)) (rs ss : List (List Entry)) → HaveQueuesRun ws scripts rs vs → Finished vs rs ss ts → ℕ → Type 0
 WayIn zs ws vs ts scripts rs ss run done j = Way (length zs) zs ws done.met ts j (script_of scripts j) (run.made j) (record_of rs j) (record_of ss j)
 
-way : (zs ws vs ts : List QueueWorker) (scripts : List (List Call)) (rs ss : List (List Entry)) → QueuesSettled zs (length zs) ws → (run : HaveQueuesRun ws scripts rs vs) → (done : Finished vs rs ss ts)
+way : {sli : ℕ} (zs ws vs ts : List (QueueWorker sli)) (scripts : List (List Call)) (rs ss : List (List Entry)) → QueuesSettled zs (length zs) ws → (run : HaveQueuesRun ws scripts rs vs) → (done : Finished vs rs ss ts)
     → (j : ℕ) → j < length zs → WayIn zs ws vs ts scripts rs ss run done j
 way zs ws vs ts scripts rs ss s run done j j_in =
     let f = done.first in
@@ -117,7 +117,7 @@ way zs ws vs ts scripts rs ss s run done j j_in =
 -- ---- what one worker has put for another
 
 -- worker i's end to queue j, at the beginning, when the queues were settled, and at the end
-record SentOn (zs : List QueueWorker) (i j : ℕ) (start met back : QueueWorker) (made : List Post) : Type 0 where
+record SentOn {sli : ℕ} (zs : List (QueueWorker sli)) (i j : ℕ) (start met back : QueueWorker sli) (made : List Post) : Type 0 where
   put : List Post
   given : PosterEnd
   given_is : end_at zs i j ≡ Some given
@@ -135,7 +135,7 @@ record SentOn (zs : List QueueWorker) (i j : ℕ) (start met back : QueueWorker)
   third_number : number_of third ≡ i
 
 -- an end of a worker of a whole yard to another
-yard_end : (ws : List QueueWorker) (i j : ℕ) (a : QueueWorker) → IsQueueYard ws → slice_get ws i ≡ Some a → j < length ws → i ≢ j → (p : PosterEnd) × (queue_end_to a j ≡ Some p) × (number_of p ≡ i)
+yard_end : {sli : ℕ} (ws : List (QueueWorker sli)) (i j : ℕ) (a : QueueWorker sli) → IsQueueYard ws → slice_get ws i ≡ Some a → j < length ws → i ≢ j → (p : PosterEnd) × (queue_end_to a j ≡ Some p) × (number_of p ≡ i)
 yard_end ws i j a yard is j_in ne =
     let w = yard.workers i a is in
     let k = w.knows in
@@ -145,7 +145,7 @@ yard_end ws i j a yard is j_in ne =
 none_more : {X : Type 0} (xs ys : List X) → xs ≡ xs ++ ys → ys ≡ []
 none_more xs ys e = nil_from_length ys (omega (arith, ap length e, length-append xs ys))
 
-sent_on : (zs ws vs ts : List QueueWorker) (scripts : List (List Call)) (rs ss : List (List Entry)) → IsQueueYard zs → (s : QueuesSettled zs (length zs) ws) → (run : HaveQueuesRun ws scripts rs vs)
+sent_on : {sli : ℕ} (zs ws vs ts : List (QueueWorker sli)) (scripts : List (List Call)) (rs ss : List (List Entry)) → IsQueueYard zs → (s : QueuesSettled zs (length zs) ws) → (run : HaveQueuesRun ws scripts rs vs)
     → (done : Finished vs rs ss ts) → (i j : ℕ) → j < length zs → i ≢ j → (x : WayIn zs ws vs ts scripts rs ss run done i)
     → SentOn zs i j x.start x.met x.back (posts_made i j (run.made i ++ None ∷ []) (record_of ss i))
 sent_on zs ws vs ts scripts rs ss yard s run done i j j_in ne x =
@@ -198,7 +198,7 @@ record TookOf (i j : ℕ) (got met empty : List Post) (rs own ss : List Entry) :
   script : posts_of i met ≡ posts_of i got ++ posts_taken i j rs
   all : posts_of i empty ≡ posts_of i got ++ posts_taken i j ss
 
-took_of : (n : ℕ) (zs ws us ts : List QueueWorker) (i j : ℕ) (script : List Call) (made : List (Option Name)) (rs ss : List Entry) → (y : Way n zs ws us ts j script made rs ss)
+took_of : {sli : ℕ} (n : ℕ) (zs ws us ts : List (QueueWorker sli)) (i j : ℕ) (script : List Call) (made : List (Option Name)) (rs ss : List Entry) → (y : Way n zs ws us ts j script made rs ss)
     → TookOf i j (got_by y.given.own) (got_by y.met.own) (got_by y.empty.own) rs y.last.own ss
 took_of n zs ws us ts i j script made rs ss y =
     let got = posts_of i (got_by y.given.own) in
@@ -231,7 +231,7 @@ all_behind P (x ∷ xs) ys all = all_behind P xs ys (All-tail P x (xs ++ ys) all
 
 -- ---- what waits
 
-waits_are : (ws : List QueueWorker) (i j : ℕ) (b : QueueWorker) (p : PosterEnd) → slice_get ws j ≡ Some b → end_at ws i j ≡ Some p → number_of p ≡ i
+waits_are : {sli : ℕ} (ws : List (QueueWorker sli)) (i j : ℕ) (b : QueueWorker sli) (p : PosterEnd) → slice_get ws j ≡ Some b → end_at ws i j ≡ Some p → number_of p ≡ i
     → queue_waits_in ws i j ≡ drop (length (posts_of i (got_by b.own))) (put_by p)
 waits_are ws i j b p b_is p_is number = (λ t. waits_of (b_is t) (p_is t)) ∙ ap (λ (k : ℕ). drop (length (posts_of k (got_by b.own))) (put_by p)) number
 
@@ -240,7 +240,7 @@ record Seen (i : ℕ) (got put : List Post) : Type 0 where
   waiting : List Post
   is : put ≡ posts_of i (got ++ waiting)
 
-seen : (vs : List QueueWorker) (i j : ℕ) (v b : QueueWorker) (q : PosterEnd) (got put : List Post) → QueueKnown vs j → slice_get vs i ≡ Some v → slice_get vs j ≡ Some b → queue_end_to v j ≡ Some q
+seen : {sli : ℕ} (vs : List (QueueWorker sli)) (i j : ℕ) (v b : QueueWorker sli) (q : PosterEnd) (got put : List Post) → QueueKnown vs j → slice_get vs i ≡ Some v → slice_get vs j ≡ Some b → queue_end_to v j ≡ Some q
     → got_by b.own ≡ got → put_by q ≡ put → Seen i got put
 seen vs i j v b q got put k v_is b_is q_is got_is put_is =
     let o = k.order b b_is in
@@ -256,7 +256,7 @@ record Pair (i j : ℕ) (got empty put whole : List Post) (made : List Post) (ss
   whole_is : whole ≡ put ++ made
   took : posts_of i empty ≡ posts_of i got ++ posts_taken i j ss
 
-pair : (zs ws vs ts : List QueueWorker) (scripts : List (List Call)) (rs ss : List (List Entry)) → (s : QueuesSettled zs (length zs) ws) → (run : HaveQueuesRun ws scripts rs vs) → (done : Finished vs rs ss ts)
+pair : {sli : ℕ} (zs ws vs ts : List (QueueWorker sli)) (scripts : List (List Call)) (rs ss : List (List Entry)) → (s : QueuesSettled zs (length zs) ws) → (run : HaveQueuesRun ws scripts rs vs) → (done : Finished vs rs ss ts)
     → (i j : ℕ) → j < length zs → (x : WayIn zs ws vs ts scripts rs ss run done i) → (y : WayIn zs ws vs ts scripts rs ss run done j) → (made : List Post) → (t : SentOn zs i j x.start x.met x.back made)
     → Pair i j (got_by y.given.own) (got_by y.empty.own) t.put (t.put ++ made) made (record_of ss j)
 pair zs ws vs ts scripts rs ss s run done i j j_in x y made t =
@@ -277,7 +277,7 @@ pair zs ws vs ts scripts rs ss s run done i j j_in x y made t =
     }
 
 -- a drain that ended early
-early_drain : (zs ws vs ts : List QueueWorker) (scripts : List (List Call)) (rs ss : List (List Entry)) → (s : QueuesSettled zs (length zs) ws) → (run : HaveQueuesRun ws scripts rs vs) → (done : Finished vs rs ss ts)
+early_drain : {sli : ℕ} (zs ws vs ts : List (QueueWorker sli)) (scripts : List (List Call)) (rs ss : List (List Entry)) → (s : QueuesSettled zs (length zs) ws) → (run : HaveQueuesRun ws scripts rs vs) → (done : Finished vs rs ss ts)
     → (i j : ℕ) → j < length zs → (x : WayIn zs ws vs ts scripts rs ss run done i) → (y : WayIn zs ws vs ts scripts rs ss run done j) → (made : List Post) → (t : SentOn zs i j x.start x.met x.back made)
     → (before : List Entry) (e : Entry) (most k : ℕ) → StandsBehind (record_of ss j) before e → e.call ≡ Drain most → e.reply ≡ Drained k → k < most
     → IsPrefix t.put (posts_of i (got_by y.given.own) ++ posts_taken i j before)
@@ -305,7 +305,7 @@ early_drain zs ws vs ts scripts rs ss s run done i j j_in x y made t before e mo
           prefix_then t.put (t.put ++ made) (got ++ posts_taken i j before) (made, refl) (subst (IsPrefix (t.put ++ made)) there p)
     ]
 
-queues_agree : (zs ws vs ts : List QueueWorker) (scripts : List (List Call)) (rs ss : List (List Entry)) → IsQueueYard zs → (s : QueuesSettled zs (length zs) ws) → (run : HaveQueuesRun ws scripts rs vs)
+queues_agree : {sli : ℕ} (zs ws vs ts : List (QueueWorker sli)) (scripts : List (List Call)) (rs ss : List (List Entry)) → IsQueueYard zs → (s : QueuesSettled zs (length zs) ws) → (run : HaveQueuesRun ws scripts rs vs)
     → (done : Finished vs rs ss ts) → (i j : ℕ) → i < length zs → j < length zs → i ≢ j → AgreeQueue i j (queue_waits_in zs i j) (run.made i ++ None ∷ []) (record_of ss i) (record_of ss j)
 queues_agree zs ws vs ts scripts rs ss yard s run done i j i_in j_in ne =
     let x = way zs ws vs ts scripts rs ss s run done i i_in in
@@ -327,31 +327,31 @@ queues_agree zs ws vs ts scripts rs ss yard s run done i j i_in j_in ne =
 
 -- ---- one record
 
-all_told_as : (n m i j : ℕ) (h g x y : HeapState) (calls : List Call) (made : List (Option Name)) (es : List Entry) → n ≡ m → i ≡ j → h ≡ g → x ≡ y → MayTellQueueAll n i (untold h) calls (told_of made es x)
-    → MayTellQueueAll m j (untold g) calls (told_of made es y)
-all_told_as n m i j h g x y calls made es a b c d t = rw (sym a, sym b, sym c, sym d) t
+all_told_as : (sli : ℕ) (n m i j : ℕ) (h g x y : HeapState) (calls : List Call) (made : List (Option Name)) (es : List Entry) → n ≡ m → i ≡ j → h ≡ g → x ≡ y → MayTellQueueAll sli n i (untold h) calls (told_of made es x)
+    → MayTellQueueAll sli m j (untold g) calls (told_of made es y)
+all_told_as sli n m i j h g x y calls made es a b c d t = rw (sym a, sym b, sym c, sym d) t
 
-last_told_as : (n i j : ℕ) (h g x y : HeapState) (made more : List (Option Name)) (es fs : List Entry) → i ≡ j → h ≡ g → x ≡ y → MayTellQueue n i (told_of made es h) last_call (told_of more fs x)
-    → MayTellQueue n j (told_of made es g) last_call (told_of more fs y)
-last_told_as n i j h g x y made more es fs a b c t = rw (sym a, sym b, sym c) t
+last_told_as : (sli : ℕ) (n i j : ℕ) (h g x y : HeapState) (made more : List (Option Name)) (es fs : List Entry) → i ≡ j → h ≡ g → x ≡ y → MayTellQueue sli n i (told_of made es h) last_call (told_of more fs x)
+    → MayTellQueue sli n j (told_of made es g) last_call (told_of more fs y)
+last_told_as sli n i j h g x y made more es fs a b c t = rw (sym a, sym b, sym c) t
 
-heap_of_heap : (a v : QueueWorker) → v.heap ≡ a.heap → queue_heap v ≡ queue_heap a
+heap_of_heap : {sli : ℕ} (a v : QueueWorker sli) → v.heap ≡ a.heap → queue_heap v ≡ queue_heap a
 heap_of_heap a v e = ap (λ h. h.heap) e
 
-way_legal : (n : ℕ) (zs ws us ts : List QueueWorker) (j : ℕ) (script : List Call) (made : List (Option Name)) (rs ss : List Entry) → (y : Way n zs ws us ts j script made rs ss)
-    → IsLegalQueue n j (queue_heap y.given) script (told_of (made ++ None ∷ []) ss (queue_heap y.back))
-way_legal n zs ws us ts j script made rs ss y =
+way_legal : {sli : ℕ} (n : ℕ) (zs ws us ts : List (QueueWorker sli)) (j : ℕ) (script : List Call) (made : List (Option Name)) (rs ss : List Entry) → (y : Way n zs ws us ts j script made rs ss)
+    → IsLegalQueue sli n j (queue_heap y.given) script (told_of (made ++ None ∷ []) ss (queue_heap y.back))
+way_legal {sli} n zs ws us ts j script made rs ss y =
     let run = y.run.run in
     let first = heap_of_heap y.given y.start y.first.heap in
     let second = heap_of_heap y.ran y.met y.second.heap in
     let third = heap_of_heap y.empty y.back y.third.heap in
-    tell_queue_more n j (untold (queue_heap y.given)) (told_of made rs (queue_heap y.ran)) (told_of (made ++ None ∷ []) ss (queue_heap y.back)) script last_call
-    (all_told_as n n (queue_id y.start) j (queue_heap y.start) (queue_heap y.given) (queue_heap y.ran) (queue_heap y.ran) script made rs refl y.number first refl run.told)
-    (last_told_as n (queue_id y.met) j (queue_heap y.met) (queue_heap y.ran) (queue_heap y.empty) (queue_heap y.back) made (made ++ None ∷ []) rs ss y.later_number second (sym third) (y.last.told made))
+    tell_queue_more sli n j (untold (queue_heap y.given)) (told_of made rs (queue_heap y.ran)) (told_of (made ++ None ∷ []) ss (queue_heap y.back)) script last_call
+    (all_told_as sli n n (queue_id y.start) j (queue_heap y.start) (queue_heap y.given) (queue_heap y.ran) (queue_heap y.ran) script made rs refl y.number first refl run.told)
+    (last_told_as sli n (queue_id y.met) j (queue_heap y.met) (queue_heap y.ran) (queue_heap y.empty) (queue_heap y.back) made (made ++ None ∷ []) rs ss y.later_number second (sym third) (y.last.told made))
 
 -- ---- nothing waits
 
-nothing_waits : (zs ws vs ts : List QueueWorker) (scripts : List (List Call)) (rs ss : List (List Entry)) → IsQueueYard zs → (s : QueuesSettled zs (length zs) ws) → (run : HaveQueuesRun ws scripts rs vs)
+nothing_waits : {sli : ℕ} (zs ws vs ts : List (QueueWorker sli)) (scripts : List (List Call)) (rs ss : List (List Entry)) → IsQueueYard zs → (s : QueuesSettled zs (length zs) ws) → (run : HaveQueuesRun ws scripts rs vs)
     → (done : Finished vs rs ss ts) → length ts ≡ length zs → (i j : ℕ) → queue_waits_in ts i j ≡ []
 nothing_waits zs ws vs ts scripts rs ss yard s run done count i j =
     let l = done.last in
@@ -381,13 +381,13 @@ nothing_waits zs ws vs ts scripts rs ss yard s run done count i j =
 
 -- ---- the whole race
 
-way_capacity : (n : ℕ) (zs ws us ts : List QueueWorker) (j : ℕ) (script : List Call) (made : List (Option Name)) (rs ss : List Entry) → (y : Way n zs ws us ts j script made rs ss) → most_of y.back.own ≡ most_of y.given.own
+way_capacity : {sli : ℕ} (n : ℕ) (zs ws us ts : List (QueueWorker sli)) (j : ℕ) (script : List Call) (made : List (Option Name)) (rs ss : List Entry) → (y : Way n zs ws us ts j script made rs ss) → most_of y.back.own ≡ most_of y.given.own
 way_capacity n zs ws us ts j script made rs ss y =
     let m = y.run.run.moved [] in
     let l = y.last.moved [] in
     y.third.own.1 ∙ (l.yard.own.3 ∙ (y.second.own.1 ∙ (m.yard.own.3 ∙ y.first.own.1)))
 
-same_capacity : (zs ws vs ts : List QueueWorker) (scripts : List (List Call)) (rs ss : List (List Entry)) → (s : QueuesSettled zs (length zs) ws) → (run : HaveQueuesRun ws scripts rs vs) → (done : Finished vs rs ss ts)
+same_capacity : {sli : ℕ} (zs ws vs ts : List (QueueWorker sli)) (scripts : List (List Call)) (rs ss : List (List Entry)) → (s : QueuesSettled zs (length zs) ws) → (run : HaveQueuesRun ws scripts rs vs) → (done : Finished vs rs ss ts)
     → length ts ≡ length zs → queue_capacity_in ts ≡ queue_capacity_in zs
 same_capacity zs ws vs ts scripts rs ss s run done count = elim (cases_lt 0 (length zs)) [
   | inl lt ↦
@@ -396,14 +396,14 @@ same_capacity zs ws vs ts scripts rs ss s run done count = elim (cases_lt 0 (len
   | inr ge ↦ ap first_capacity (slice_get_past ts 0 (omega (arith, count))) ∙ sym (ap first_capacity (slice_get_past zs 0 ge))
 ]
 
-heap_there : (ws : List QueueWorker) (j : ℕ) (a : QueueWorker) → slice_get ws j ≡ Some a → heap_in (queue_world_of ws) j ≡ queue_heap a
+heap_there : {sli : ℕ} (ws : List (QueueWorker sli)) (j : ℕ) (a : QueueWorker sli) → slice_get ws j ≡ Some a → heap_in (queue_world_of ws) j ≡ queue_heap a
 unfolding queue_world_of
 heap_there ws j a is = get_or_from_slice_get (map queue_heap ws) j (queue_heap a) no_heap (map_at queue_heap ws j a is)
 
-pub queue_race_is : (zs ws vs ts : List QueueWorker) (scripts : List (List Call)) (rs ss : List (List Entry)) → IsQueueYard zs → QueuesSettled zs (length zs) ws → HaveQueuesRun ws scripts rs vs → Finished vs rs ss ts
+pub queue_race_is : {sli : ℕ} (zs ws vs ts : List (QueueWorker sli)) (scripts : List (List Call)) (rs ss : List (List Entry)) → IsQueueYard zs → QueuesSettled zs (length zs) ws → HaveQueuesRun ws scripts rs vs → Finished vs rs ss ts
     → IsQueueRace (queue_world_of zs) scripts ss (queue_world_of ts)
 unfolding queue_world_of
-queue_race_is zs ws vs ts scripts rs ss yard s run done =
+queue_race_is {sli} zs ws vs ts scripts rs ss yard s run done =
     let f = done.first in
     let d = done.drained in
     let l = done.last in
@@ -418,7 +418,7 @@ queue_race_is zs ws vs ts scripts rs ss yard s run done =
           let y = way zs ws vs ts scripts rs ss s run done j (omega (arith, n)) in
           let first = heap_there zs j y.given y.given_is in
           let last = heap_there ts j y.back y.back_is in
-          subst (λ (z : ℕ × HeapState × HeapState). IsLegalQueue z.0 j z.1 (script_of scripts j) (told_of (run.made j ++ None ∷ []) (record_of ss j) z.2)) (λ a. (sym n a, sym first a, sym last a))
+          subst (λ (z : ℕ × HeapState × HeapState). IsLegalQueue sli z.0 j z.1 (script_of scripts j) (told_of (run.made j ++ None ∷ []) (record_of ss j) z.2)) (λ a. (sym n a, sym first a, sym last a))
           (way_legal (length zs) zs ws done.met ts j (script_of scripts j) (run.made j) (record_of rs j) (record_of ss j) y);
       agree = λ i j i_in j_in ne. queues_agree zs ws vs ts scripts rs ss yard s run done i j (omega (arith, n)) (omega (arith, n)) ne;
       taken = nothing_waits zs ws vs ts scripts rs ss yard s run done count;

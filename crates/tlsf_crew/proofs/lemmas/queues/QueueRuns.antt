@@ -18,13 +18,13 @@ use Rattle.tlsf_crew.proofs.lemmas.yard.OneEntry.{no_entry}
 use Rattle.tlsf_crew.proofs.lemmas.queues.QueueKept.{keeps_all, keeps_then, knows_kept, slot_kept}
 use Rattle.tlsf_crew.proofs.lemmas.yard.Slots.{some_same}
 
-pub tell_queue_more : (n at : ℕ) (s u t : Told) (calls : List Call) (call : Call) → MayTellQueueAll n at s calls u → MayTellQueue n at u call t → MayTellQueueAll n at s (calls ++ call ∷ []) t
-tell_queue_more n at s u t [] call all more = (t, subst (λ (x : Told). MayTellQueue n at x call t) all more, refl)
-tell_queue_more n at s u t (first ∷ calls) call all more = (all.0, all.1, tell_queue_more n at all.0 u t calls call all.2 more)
+pub tell_queue_more : (sli : ℕ) (n at : ℕ) (s u t : Told) (calls : List Call) (call : Call) → MayTellQueueAll sli n at s calls u → MayTellQueue sli n at u call t → MayTellQueueAll sli n at s (calls ++ call ∷ []) t
+tell_queue_more sli n at s u t [] call all more = (t, subst (λ (x : Told). MayTellQueue sli n at x call t) all more, refl)
+tell_queue_more sli n at s u t (first ∷ calls) call all more = (all.0, all.1, tell_queue_more sli n at all.0 u t calls call all.2 more)
 
 -- ---- what calls leave
 
-queue_moved_none : (at : ℕ) (made : List (Option Name)) (a : QueueWorker) (limit : ℕ) → QueueMoved at made a limit [] [] a limit
+queue_moved_none : {sli : ℕ} (at : ℕ) (made : List (Option Name)) (a : QueueWorker sli) (limit : ℕ) → QueueMoved at made a limit [] [] a limit
 queue_moved_none at made a limit = record {
   yard = keeps_all a;
   sent = λ j p q is_p is_q. ap put_by (some_same q p (sym is_q ∙ is_p)) ∙ sym (append-nil (put_by p));
@@ -33,7 +33,7 @@ queue_moved_none at made a limit = record {
   room = omega arith;
 }
 
-pub queue_moved_then : (at : ℕ) (made : List (Option Name)) (a b v : QueueWorker) (limit mid left : ℕ) (calls ds : List Call) (xs ys : List Entry) → QueueMoved at made a limit calls xs b mid
+pub queue_moved_then : {sli : ℕ} (at : ℕ) (made : List (Option Name)) (a b v : QueueWorker sli) (limit mid left : ℕ) (calls ds : List Call) (xs ys : List Entry) → QueueMoved at made a limit calls xs b mid
     → QueueMoved at made b mid ds ys v left → QueueMoved at made a limit (calls ++ ds) (xs ++ ys) v left
 queue_moved_then at made a b v limit mid left calls ds xs ys x y =
     let got_of : (i : ℕ) (zs : List Entry) → posts_of i (got_by b.own) ++ posts_taken i at zs ≡ posts_of i (got_by a.own) ++ posts_taken i at (xs ++ zs) =
@@ -58,18 +58,18 @@ queue_moved_then at made a b v limit mid left calls ds xs ys x y =
 
 -- ---- a script
 
-pub queue_script_none : (n : ℕ) (a : QueueWorker) (limit : ℕ) (made : List (Option Name)) (entries : List Entry) → made ≡ [] → entries ≡ [] → QueueScriptRun n a limit [] made entries a limit
+pub queue_script_none : {sli : ℕ} (n : ℕ) (a : QueueWorker sli) (limit : ℕ) (made : List (Option Name)) (entries : List Entry) → made ≡ [] → entries ≡ [] → QueueScriptRun n a limit [] made entries a limit
 queue_script_none n a limit made entries e f = rw (e, f) (record { told = refl; names = refl; moved = λ rest. queue_moved_none (queue_id a) rest a limit })
 
-queue_script_more : (n : ℕ) (a b v : QueueWorker) (limit mid left : ℕ) (calls : List Call) (call : Call) (made more : List (Option Name)) (entries longer : List Entry) → QueueScriptRun n a limit calls made entries b mid
+queue_script_more : {sli : ℕ} (n : ℕ) (a b v : QueueWorker sli) (limit mid left : ℕ) (calls : List Call) (call : Call) (made more : List (Option Name)) (entries longer : List Entry) → QueueScriptRun n a limit calls made entries b mid
     → QueueCalled n b mid call made entries v left more longer → QueueScriptRun n a limit (calls ++ call ∷ []) more longer v left
-queue_script_more n a b v limit mid left calls call made more entries longer x y =
+queue_script_more {sli} n a b v limit mid left calls call made more entries longer x y =
     let at = queue_id a in
     let m = x.moved [] in
     let q : queue_id b ≡ at = m.yard.number in
     record {
-      told = tell_queue_more n at (untold (queue_heap a)) _ _ calls call x.told
-          (subst (λ i. MayTellQueue n i (told_of made entries (queue_heap b)) call (told_of more longer (queue_heap v))) q y.told);
+      told = tell_queue_more sli n at (untold (queue_heap a)) _ _ calls call x.told
+          (subst (λ i. MayTellQueue sli n i (told_of made entries (queue_heap b)) call (told_of more longer (queue_heap v))) q y.told);
       names = ap length y.made_are ∙ omega (arith, length-append made (y.name ∷ []), length-append calls (call ∷ []), x.names);
       moved = λ rest.
           let later = made ++ y.name ∷ rest in
@@ -79,16 +79,16 @@ queue_script_more n a b v limit mid left calls call made more entries longer x y
           rw (← e, y.entries_are) both;
     }
 
-pub queue_script_next : (n : ℕ) (a b v : QueueWorker) (limit mid left : ℕ) (script : List Call) (k : ℕ) (d : Call) (made more : List (Option Name)) (entries longer : List Entry) → k < length script
+pub queue_script_next : {sli : ℕ} (n : ℕ) (a b v : QueueWorker sli) (limit mid left : ℕ) (script : List Call) (k : ℕ) (d : Call) (made more : List (Option Name)) (entries longer : List Entry) → k < length script
     → QueueScriptRun n a limit (take k script) made entries b mid → QueueCalled n b mid (get_or script k d) made entries v left more longer → QueueScriptRun n a limit (take (k + 1) script) more longer v left
 queue_script_next n a b v limit mid left script k d made more entries longer lt x y =
     subst (λ calls. QueueScriptRun n a limit calls more longer v left) (sym (take_more script k d lt))
     (queue_script_more n a b v limit mid left (take k script) (get_or script k d) made more entries longer x y)
 
-pub queue_script_room : (n : ℕ) (a v : QueueWorker) (limit left : ℕ) (calls : List Call) (made : List (Option Name)) (entries : List Entry) → QueueScriptRun n a limit calls made entries v left
+pub queue_script_room : {sli : ℕ} (n : ℕ) (a v : QueueWorker sli) (limit left : ℕ) (calls : List Call) (made : List (Option Name)) (entries : List Entry) → QueueScriptRun n a limit calls made entries v left
     → length entries + left ≤ length calls + limit
 queue_script_room n a v limit left calls made entries x = let m = x.moved [] in m.room
 
-pub queue_script_knows : (n : ℕ) (a v : QueueWorker) (limit left : ℕ) (calls : List Call) (made : List (Option Name)) (entries : List Entry) → QueueScriptRun n a limit calls made entries v left
+pub queue_script_knows : {sli : ℕ} (n : ℕ) (a v : QueueWorker sli) (limit left : ℕ) (calls : List Call) (made : List (Option Name)) (entries : List Entry) → QueueScriptRun n a limit calls made entries v left
     → KnowsQueueYard n a → KnowsQueueYard n v
 queue_script_knows n a v limit left calls made entries x k = let m = x.moved [] in knows_kept n a v m.yard k

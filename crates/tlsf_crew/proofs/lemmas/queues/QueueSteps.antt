@@ -6,6 +6,7 @@ use Rattle.std.specs.Prelude.{vec_capacity}
 use Rattle.std.proofs.lemmas.Bool.{cases_eq, cases_lt}
 use Rattle.std.proofs.lemmas.Bool.Decides.{nat_tests}
 use Rattle.std.proofs.lemmas.List.Elements.{All-nil, All-cons}
+use Rattle.tlsf_heap.specs.Lawful.{IsLawful}
 use Rattle.tlsf_heap.specs.Blocks.{HeapState}
 use Rattle.tlsf_heap.specs.Calls as heap
 use Rattle.tlsf_heap.specs.declared.name.Name.{Name}
@@ -45,7 +46,7 @@ use Rattle.tlsf_crew.proofs.lemmas.yard.JoinedEntries.{IsNoPost, told_nothing, t
 use Rattle.tlsf_crew.proofs.lemmas.yard.LaneMoves.{posted_same, release_posts_elsewhere}
 use Rattle.tlsf_crew.proofs.lemmas.yard.ManyEntries.{made_then, taken_then, stands_split}
 use Rattle.tlsf_crew.proofs.lemmas.yard.OneEntry.{no_entry, the_one, stands_last}
-use Rattle.tlsf_crew.proofs.lemmas.yard.OwnHeaps.{KeepsHeap, call_keeps, same_heap_keeps}
+use Rattle.tlsf_crew.proofs.lemmas.yard.OwnHeaps.{KeepsHeap, call_keeps, same_heap_keeps, allocate_keeps}
 use Rattle.tlsf_crew.proofs.lemmas.yard.OwnReplied.{read_keeps, resize_keeps, write_keeps}
 use Rattle.tlsf_crew.proofs.lemmas.yard.Slots.{some_same}
 use Rattle.tlsf_crew.proofs.lemmas.queues.QueueKept.{keeps_all, keeps_heap, keeps_put, keeps_take, keeps_then, knows_kept}
@@ -65,10 +66,10 @@ no_takes : (i at : ℕ) (e : Entry) → IsQuiet e → posts_taken i at (e ∷ []
 no_takes i at e q = let n = q.posts [] in told_nothing (λ e. post_of_take i e.call e.reply) at e (n.taken_none i)
 
 -- the same end of a worker whose ends are the same
-same_end : (a v : QueueWorker) (j : ℕ) (p q : PosterEnd) → queue_end_to v j ≡ queue_end_to a j → queue_end_to a j ≡ Some p → queue_end_to v j ≡ Some q → q ≡ p
+same_end : {sli : ℕ} (a v : QueueWorker sli) (j : ℕ) (p q : PosterEnd) → queue_end_to v j ≡ queue_end_to a j → queue_end_to a j ≡ Some p → queue_end_to v j ≡ Some q → q ≡ p
 same_end a v j p q same is_p is_q = some_same q p (sym is_q ∙ (same ∙ is_p))
 
-quiet_moved : (at : ℕ) (made : List (Option Name)) (a v : QueueWorker) (limit : ℕ) (call : Call) (e : Entry) → SameButQueueHeap a v → KeepsHeap (queue_heap a) (queue_heap v) → IsQuiet e
+quiet_moved : {sli : ℕ} (at : ℕ) (made : List (Option Name)) (a v : QueueWorker sli) (limit : ℕ) (call : Call) (e : Entry) → SameButQueueHeap a v → KeepsHeap (queue_heap a) (queue_heap v) → IsQuiet e
     → QueueMoved at made a limit (call ∷ []) (e ∷ []) v limit
 quiet_moved at made a v limit call e same kept quiet = record {
   yard = keeps_heap a v same kept;
@@ -78,9 +79,9 @@ quiet_moved at made a v limit call e same kept quiet = record {
   room = omega arith;
 }
 
-pub quiet_stepped : (n : ℕ) (a v : QueueWorker) (limit : ℕ) (call : Call) (made : List (Option Name)) (entries : List Entry) (reply : Reply) → SameButQueueHeap a v → KeepsHeap (queue_heap a) (queue_heap v)
+pub quiet_stepped : {sli : ℕ} (n : ℕ) (a v : QueueWorker sli) (limit : ℕ) (call : Call) (made : List (Option Name)) (entries : List Entry) (reply : Reply) → SameButQueueHeap a v → KeepsHeap (queue_heap a) (queue_heap v)
     → IsQuiet (entry_by (queue_id a) call reply)
-    → MayTellQueue n (queue_id a) (told_of made entries (queue_heap a)) call (told_of (made ++ made_by reply ∷ []) (entries ++ entry_by (queue_id a) call reply ∷ []) (queue_heap v))
+    → MayTellQueue sli n (queue_id a) (told_of made entries (queue_heap a)) call (told_of (made ++ made_by reply ∷ []) (entries ++ entry_by (queue_id a) call reply ∷ []) (queue_heap v))
     → QueueStepped n a limit call made entries v limit entries reply
 quiet_stepped n a v limit call made entries reply same kept quiet told = record {
   own = [];
@@ -92,7 +93,7 @@ quiet_stepped n a v limit call made entries reply same kept quiet told = record 
 -- ---- a post
 
 -- an end leads to another worker
-pub ends_are : (n : ℕ) (a : QueueWorker) → KnowsQueueYard n a → (j : ℕ) (p : PosterEnd) → queue_end_to a j ≡ Some p → IsOtherOf n (queue_id a) j
+pub ends_are : {sli : ℕ} (n : ℕ) (a : QueueWorker sli) → KnowsQueueYard n a → (j : ℕ) (p : PosterEnd) → queue_end_to a j ≡ Some p → IsOtherOf n (queue_id a) j
 ends_are n a k j p is = elim (cases_lt j n) [
   | inl lt ↦ elim (cases_eq j (queue_id a)) [
     | inl e ↦ let none = k.none j (λ other. other.1 e) in absurd cc
@@ -101,7 +102,7 @@ ends_are n a k j p is = elim (cases_lt j n) [
   | inr ge ↦ let none = k.none j (λ other. let lt = other.0 in omega arith) in absurd cc
 ]
 
-put_sent : (a v : QueueWorker) (target : Target) (name : Name) (done : Unit {0}) (made : List (Option Name)) (n : ℕ) → KnowsQueueYard n a → name_of made target ≡ Some name
+put_sent : {sli : ℕ} (a v : QueueWorker sli) (target : Target) (name : Name) (done : Unit {0}) (made : List (Option Name)) (n : ℕ) → KnowsQueueYard n a → name_of made target ≡ Some name
     → PutToQueue a v name.heap name (Ok done) → (j : ℕ) (p q : PosterEnd) → queue_end_to a j ≡ Some p → queue_end_to v j ≡ Some q
     → put_by q ≡ put_by p ++ posts_made (queue_id a) j made (entry_by (queue_id a) (Release target) Posted ∷ [])
 put_sent a v target name done made n k known put j p q is_p is_q =
@@ -117,7 +118,7 @@ put_sent a v target name done made n k known put j p q is_p is_q =
       | inr e ↦ rw (release_posts_elsewhere at j made target name known e) (ap put_by (same_end a v j p q (put.others j e) is_p is_q) ∙ sym (append-nil (put_by p)))
     ]
 
-posted_moved : (n : ℕ) (made : List (Option Name)) (a v : QueueWorker) (limit : ℕ) (target : Target) (name : Name) (done : Unit {0}) → KnowsQueueYard n a → name_of made target ≡ Some name
+posted_moved : {sli : ℕ} (n : ℕ) (made : List (Option Name)) (a v : QueueWorker sli) (limit : ℕ) (target : Target) (name : Name) (done : Unit {0}) → KnowsQueueYard n a → name_of made target ≡ Some name
     → PutToQueue a v name.heap name (Ok done) → QueueMoved (queue_id a) made a limit (Release target ∷ []) (entry_by (queue_id a) (Release target) Posted ∷ []) v limit
 posted_moved n made a v limit target name done k known put =
     let e = entry_by (queue_id a) (Release target) Posted in
@@ -130,7 +131,7 @@ posted_moved n made a v limit target name done k known put =
       room = omega arith;
     }
 
-full_moved : (made : List (Option Name)) (a v : QueueWorker) (limit : ℕ) (target : Target) (name back : Name)
+full_moved : {sli : ℕ} (made : List (Option Name)) (a v : QueueWorker sli) (limit : ℕ) (target : Target) (name back : Name)
     → PutToQueue a v name.heap name (Err back) → QueueMoved (queue_id a) made a limit (Release target ∷ []) (entry_by (queue_id a) (Release target) (Refused (Full name)) ∷ []) v limit
 full_moved made a v limit target name back put =
     let e = entry_by (queue_id a) (Release target) (Refused (Full name)) in
@@ -156,28 +157,28 @@ abbrev pub reply_put : Result (Unit {0}) CrewRefusal → Reply
 reply_put (Ok done) = Posted
 reply_put (Err why) = Refused why
 
-put_stepped : (n : ℕ) (a v : QueueWorker) (limit : ℕ) (target : Target) (name : Name) (made : List (Option Name)) (entries : List Entry) (put : Result (Unit {0}) Name) → KnowsQueueYard n a
+put_stepped : {sli : ℕ} (n : ℕ) (a v : QueueWorker sli) (limit : ℕ) (target : Target) (name : Name) (made : List (Option Name)) (entries : List Entry) (put : Result (Unit {0}) Name) → KnowsQueueYard n a
     → name_of made target ≡ Some name → name.heap ≢ queue_id a → name.heap < n → PutToQueue a v name.heap name put
     → QueueStepped n a limit (Release target) made entries v limit entries (reply_put (put_answer name put))
-put_stepped n a v limit target name made entries (Ok done) k known ne near put =
+put_stepped {sli} n a v limit target name made entries (Ok done) k known ne near put =
     let at = queue_id a in
     record {
       own = [];
       entries_are = sym (append-nil entries);
-      told = rw put.same.0 (posted_tells n at (queue_heap a) made entries target name k.self known ne near);
+      told = rw put.same.0 (posted_tells sli n at (queue_heap a) made entries target name k.self known ne near);
       moved = λ rest. posted_moved n (made ++ rest) a v limit target name done k (more_knows made rest target name known) put;
     }
-put_stepped n a v limit target name made entries (Err back) k known ne near put =
+put_stepped {sli} n a v limit target name made entries (Err back) k known ne near put =
     let at = queue_id a in
     record {
       own = [];
       entries_are = sym (append-nil entries);
-      told = rw put.same.0 (full_tells n at (queue_heap a) made entries target name k.self known ne near);
+      told = rw put.same.0 (full_tells sli n at (queue_heap a) made entries target name k.self known ne near);
       moved = λ rest. full_moved (made ++ rest) a v limit target name back put;
     }
 
 -- what a post promises
-pub record IsPost (a v : QueueWorker) (name : Name) (answer : Result (Unit {0}) CrewRefusal) : Type 0 where
+pub record IsPost {sli : ℕ} (a v : QueueWorker sli) (name : Name) (answer : Result (Unit {0}) CrewRefusal) : Type 0 where
   pub there : HasQueueEnd a name.heap → PostedInQueue a v name answer
   pub nowhere : ¬ (HasQueueEnd a name.heap) → (answer ≡ Err Stranger) × (v ≡ a)
 
@@ -188,18 +189,18 @@ end_or : (o : Option PosterEnd) → ((p : PosterEnd) × (o ≡ Some p)) ⊎ ¬ (
 end_or None = inr (λ h. let e = h.1 in cc)
 end_or (Some p) = inl (p, refl)
 
-far_stepped : (n : ℕ) (a : QueueWorker) (limit : ℕ) (target : Target) (name : Name) (made : List (Option Name)) (entries : List Entry) → KnowsQueueYard n a → name_of made target ≡ Some name
+far_stepped : {sli : ℕ} (n : ℕ) (a : QueueWorker sli) (limit : ℕ) (target : Target) (name : Name) (made : List (Option Name)) (entries : List Entry) → KnowsQueueYard n a → name_of made target ≡ Some name
     → name.heap ≢ queue_id a → ¬ (HasQueueEnd a name.heap) → QueueStepped n a limit (Release target) made entries a limit entries (Refused Stranger)
-far_stepped n a limit target name made entries k known ne none =
+far_stepped {sli} n a limit target name made entries k known ne none =
     let at = queue_id a in
     let far : n ≤ name.heap = elim (cases_lt name.heap n) [
       | inl lt ↦ let known_end = k.to name.heap (lt, ne) in absurd (none (known_end.0, known_end.1))
       | inr ge ↦ ge
     ] in
     quiet_stepped n a a limit (Release target) made entries (Refused Stranger) (refl, refl, refl) (same_heap_keeps (queue_heap a) (queue_heap a) refl) (stranger_quiet at target)
-    (far_tells n at (queue_heap a) made entries target name k.self known ne far)
+    (far_tells sli n at (queue_heap a) made entries target name k.self known ne far)
 
-pub post_stepped : (n : ℕ) (a v : QueueWorker) (limit : ℕ) (target : Target) (name : Name) (made : List (Option Name)) (entries : List Entry) (answer : Result (Unit {0}) CrewRefusal) → KnowsQueueYard n a
+pub post_stepped : {sli : ℕ} (n : ℕ) (a v : QueueWorker sli) (limit : ℕ) (target : Target) (name : Name) (made : List (Option Name)) (entries : List Entry) (answer : Result (Unit {0}) CrewRefusal) → KnowsQueueYard n a
     → name_of made target ≡ Some name → name.heap ≢ queue_id a → IsPost a v name answer
     → QueueStepped n a limit (Release target) made entries v limit entries (reply_put answer)
 post_stepped n a v limit target name made entries answer k known ne post =
@@ -223,7 +224,7 @@ abbrev post_in : Took → Post
 post_in took = record { from = took.from; name = took.name }
 
 -- one post was taken and released
-record OneTaken (n : ℕ) (a b : QueueWorker) (took : Took) : Type 0 where
+record OneTaken {sli : ℕ} (n : ℕ) (a b : QueueWorker sli) (took : Took) : Type 0 where
   post : Post
   other : IsOfOther n (queue_id a) post
   told : took ≡ took_of post (released (queue_heap a) post.name).answer
@@ -232,7 +233,7 @@ record OneTaken (n : ℕ) (a b : QueueWorker) (took : Took) : Type 0 where
   ends : queue_end_to b ≡ queue_end_to a
   keeps : KeepsQueueYards a b
 
-taken_by : (n : ℕ) (a c b : QueueWorker) (post : Option Post) (took : Took) → KnowsQueueYard n a → TookFromQueue a c post → AfterQueueTake c b post (Some took) → OneTaken n a b took
+taken_by : {sli : ℕ} (n : ℕ) (a c b : QueueWorker sli) (post : Option Post) (took : Took) → KnowsQueueYard n a → TookFromQueue a c post → AfterQueueTake c b post (Some took) → OneTaken n a b took
 unfolding released
 taken_by n a c b None took k q after = let e = after.0 in absurd cc
 taken_by n a c b (Some p) took k q after =
@@ -247,7 +248,7 @@ taken_by n a c b (Some p) took k q after =
       keeps = keeps_then a c b (keeps_take a c (Some p) q) (keeps_heap c b after.2 (call_keeps (queue_heap c) (queue_heap b) (heap.Release p.name) after.1));
     }
 
-one_taken : (n : ℕ) (a b : QueueWorker) (took : Took) → KnowsQueueYard n a → TakenFromQueue a b (Some took) → OneTaken n a b took
+one_taken : {sli : ℕ} (n : ℕ) (a b : QueueWorker sli) (took : Took) → KnowsQueueYard n a → TakenFromQueue a b (Some took) → OneTaken n a b took
 one_taken n a b took k t = taken_by n a t.between b t.post took k t.queue t.then
 
 -- what the entry of a take tells
@@ -270,7 +271,7 @@ take_tells i at took =
     ]
 
 -- the takes of a drain, one after another, by worker `at`, and what its journal notes of them
-record TakenAll (n at : ℕ) (a v : QueueWorker) (x y : QueueJournal) (count : ℕ) : Type 0 where
+record TakenAll {sli : ℕ} (n at : ℕ) (a v : QueueWorker sli) (x y : QueueJournal) (count : ℕ) : Type 0 where
   posts : List Post
   own : List Entry
   others : All (IsOfOther n at) posts
@@ -285,7 +286,7 @@ record TakenAll (n at : ℕ) (a v : QueueWorker) (x y : QueueJournal) (count : �
   no_drain : (before : List Entry) (e : Entry) (most : ℕ) → StandsBehind own before e → e.call ≡ Drain most → ⊥
   left : y.limit + length own ≡ x.limit
 
-taken_all : (n at : ℕ) (a v : QueueWorker) (x y : QueueJournal) (tooks : List Took) → queue_id a ≡ at → KnowsQueueYard n a → QueueNotedInTurn IsQueueNoted a v x y tooks → TakenAll n at a v x y (length tooks)
+taken_all : {sli : ℕ} (n at : ℕ) (a v : QueueWorker sli) (x y : QueueJournal) (tooks : List Took) → queue_id a ≡ at → KnowsQueueYard n a → QueueNotedInTurn IsQueueNoted a v x y tooks → TakenAll n at a v x y (length tooks)
 taken_all n at a v x y [] is k t =
     rw (t.0, t.1) (record {
       posts = [];
@@ -343,22 +344,22 @@ taken_all n at a v x y (took ∷ tooks) is k t =
 
 -- ---- the end of a drain
 
-record EndSeen (a v : QueueWorker) (most count : ℕ) : Type 0 where
+record EndSeen {sli : ℕ} (a v : QueueWorker sli) (most count : ℕ) : Type 0 where
   keeps : KeepsQueueYards a v
   heap : queue_heap v ≡ queue_heap a
   got : got_by v.own ≡ got_by a.own
   ends : queue_end_to v ≡ queue_end_to a
   early : count < most → IsAllTaken v.own
 
-none_by : (a c v : QueueWorker) (post : Option Post) (most count : ℕ) → TookFromQueue a c post → AfterQueueTake c v post None → EndSeen a v most count
+none_by : {sli : ℕ} (a c v : QueueWorker sli) (post : Option Post) (most count : ℕ) → TookFromQueue a c post → AfterQueueTake c v post None → EndSeen a v most count
 none_by a c v None most count q after = rw after.1 (record { keeps = keeps_take a c None q; heap = q.same.0; got = q.none.0; ends = q.same.2; early = λ lt. q.none.1 })
 none_by a c v (Some p) most count q after = let e = after.0 in absurd cc
 
-end_seen : (a v : QueueWorker) (most count : ℕ) → ((count ≡ most) × (v ≡ a)) ⊎ ((count < most) × TakenFromQueue a v None) → EndSeen a v most count
+end_seen : {sli : ℕ} (a v : QueueWorker sli) (most count : ℕ) → ((count ≡ most) × (v ≡ a)) ⊎ ((count < most) × TakenFromQueue a v None) → EndSeen a v most count
 end_seen a v most count (inl e) = rw e.1 (record { keeps = keeps_all a; heap = refl; got = refl; ends = refl; early = λ lt. absurd (omega (arith, e.0)) })
 end_seen a v most count (inr e) = let t = e.1 in none_by a t.between v t.post most count t.queue t.then
 
-drained_queue_moved : (n : ℕ) (a last v : QueueWorker) (x y : QueueJournal) (most count : ℕ) (made : List (Option Name)) → EndSeen last v most count
+drained_queue_moved : {sli : ℕ} (n : ℕ) (a last v : QueueWorker sli) (x y : QueueJournal) (most count : ℕ) (made : List (Option Name)) → EndSeen last v most count
     → (t : TakenAll n (queue_id a) a last x y count) → QueueMoved (queue_id a) made a x.limit (Drain most ∷ []) (t.own ++ entry_by (queue_id a) (Drain most) (Drained count) ∷ []) v y.limit
 drained_queue_moved n a last v x y most count made seen t =
     let at = queue_id a in
@@ -393,7 +394,7 @@ drained_queue_moved n a last v x y most count made seen t =
       room = omega (arith, length-append t.own (z ∷ []), t.left);
     }
 
-pub drain_stepped : (n : ℕ) (a v : QueueWorker) (x y : QueueJournal) (most : ℕ) (made : List (Option Name)) (d : WasDrained) → KnowsQueueYard n a → QueueNoted IsQueueNoted a v x y most d
+pub drain_stepped : {sli : ℕ} (n : ℕ) (a v : QueueWorker sli) (x y : QueueJournal) (most : ℕ) (made : List (Option Name)) (d : WasDrained) → KnowsQueueYard n a → QueueNoted IsQueueNoted a v x y most d
     → QueueStepped n a x.limit (Drain most) made x.entries.items v y.limit y.entries.items (Drained d.taken)
 drain_stepped n a v x y most made d k noted =
     let at = queue_id a in
@@ -422,23 +423,23 @@ drain_stepped n a v x y most made d k noted =
     })
 
 -- the room for entries stays
-turns_capacity : (a v : QueueWorker) (x y : QueueJournal) (tooks : List Took) → QueueNotedInTurn IsQueueNoted a v x y tooks → vec_capacity y.entries ≡ vec_capacity x.entries
+turns_capacity : {sli : ℕ} (a v : QueueWorker sli) (x y : QueueJournal) (tooks : List Took) → QueueNotedInTurn IsQueueNoted a v x y tooks → vec_capacity y.entries ≡ vec_capacity x.entries
 turns_capacity a v x y [] t = ap (λ (z : QueueJournal). vec_capacity z.entries) t.1
 turns_capacity a v x y (took ∷ tooks) t = turns_capacity t.0 v t.1 y tooks t.4 ∙ (let noted = t.3 in noted.capacity)
 
-pub drain_capacity : (a v : QueueWorker) (x y : QueueJournal) (most : ℕ) (d : WasDrained) → QueueNoted IsQueueNoted a v x y most d → vec_capacity y.entries ≡ vec_capacity x.entries
+pub drain_capacity : {sli : ℕ} (a v : QueueWorker sli) (x y : QueueJournal) (most : ℕ) (d : WasDrained) → QueueNoted IsQueueNoted a v x y most d → vec_capacity y.entries ≡ vec_capacity x.entries
 drain_capacity a v x y most d n = turns_capacity a n.last x y n.tooks n.takes
 
 -- each post that was taken counts the limit down
-turns_left : (a v : QueueWorker) (x y : QueueJournal) (tooks : List Took) → QueueNotedInTurn IsQueueNoted a v x y tooks → y.limit + length tooks ≡ x.limit
+turns_left : {sli : ℕ} (a v : QueueWorker sli) (x y : QueueJournal) (tooks : List Took) → QueueNotedInTurn IsQueueNoted a v x y tooks → y.limit + length tooks ≡ x.limit
 turns_left a v x y [] t = omega (arith, ap (λ (z : QueueJournal). z.limit) t.1)
 turns_left a v x y (took ∷ tooks) t = let noted = t.3 in omega (arith, turns_left t.0 v t.1 y tooks t.4, noted.fewer)
 
-pub drain_few : (a v : QueueWorker) (x y : QueueJournal) (most : ℕ) (d : WasDrained) → QueueNoted IsQueueNoted a v x y most d → d.taken ≤ x.limit
+pub drain_few : {sli : ℕ} (a v : QueueWorker sli) (x y : QueueJournal) (most : ℕ) (d : WasDrained) → QueueNoted IsQueueNoted a v x y most d → d.taken ≤ x.limit
 drain_few a v x y most d n = omega (arith, turns_left a n.last x y n.tooks n.takes, n.count.0)
 
 -- a drain leaves the ends to other queues
-pub drain_ends : (n : ℕ) (a v : QueueWorker) (x y : QueueJournal) (most : ℕ) (d : WasDrained) → KnowsQueueYard n a → QueueNoted IsQueueNoted a v x y most d → queue_end_to v ≡ queue_end_to a
+pub drain_ends : {sli : ℕ} (n : ℕ) (a v : QueueWorker sli) (x y : QueueJournal) (most : ℕ) (d : WasDrained) → KnowsQueueYard n a → QueueNoted IsQueueNoted a v x y most d → queue_end_to v ≡ queue_end_to a
 drain_ends n a v x y most d k noted =
     let t = taken_all n (queue_id a) a noted.last x y noted.tooks refl k noted.takes in
     let seen = end_seen noted.last v most (length noted.tooks) noted.end in
@@ -462,68 +463,68 @@ read_quiet target from k at reply = record { posts = λ made. record { made_none
 resize_quiet : (target : Target) (len : ℕ) → IsOwnCall (Resize target len)
 resize_quiet target len at reply = record { posts = λ made. record { made_none = λ j. refl; taken_none = λ i. refl }; drain = λ most k c r. cc }
 
-pub allocate_stepped : (n : ℕ) (a v : QueueWorker) (limit len : ℕ) (made : List (Option Name)) (entries : List Entry) (reply : Reply) → KnowsQueueYard n a → SameButQueueHeap a v
-    → reply ≡ (own_allocating (queue_heap a) len).reply → queue_heap v ≡ (own_allocating (queue_heap a) len).heap → QueueStepped n a limit (Allocate len) made entries v limit entries reply
+pub allocate_stepped : {sli : ℕ} (n : ℕ) (a v : QueueWorker sli) (limit len : ℕ) (made : List (Option Name)) (entries : List Entry) (reply : Reply) → KnowsQueueYard n a → SameButQueueHeap a v
+    → reply ≡ (own_allocating sli (queue_heap a) len).reply → queue_heap v ≡ (own_allocating sli (queue_heap a) len).heap → IsLawful (queue_heap v) → QueueStepped n a limit (Allocate len) made entries v limit entries reply
 unfolding allocated
-allocate_stepped n a v limit len made entries reply k same e f =
-    quiet_stepped n a v limit (Allocate len) made entries reply same (call_keeps (queue_heap a) (queue_heap v) (heap.Allocate len) f) (allocate_quiet len (queue_id a) reply)
-    (allocate_tells made (queue_heap a) (queue_heap v) len reply e f n (queue_id a) entries k.self)
+allocate_stepped {sli} n a v limit len made entries reply k same e f lawful =
+    quiet_stepped n a v limit (Allocate len) made entries reply same (allocate_keeps sli (queue_heap a) (queue_heap v) len f lawful) (allocate_quiet len (queue_id a) reply)
+    (allocate_tells sli made (queue_heap a) (queue_heap v) len reply e f n (queue_id a) entries k.self)
 
-pub write_stepped : (n : ℕ) (a v : QueueWorker) (limit : ℕ) (target : Target) (from : ℕ) (bytes : Chunk) (made : List (Option Name)) (entries : List Entry) (reply : Reply) → KnowsQueueYard n a → SameButQueueHeap a v
+pub write_stepped : {sli : ℕ} (n : ℕ) (a v : QueueWorker sli) (limit : ℕ) (target : Target) (from : ℕ) (bytes : Chunk) (made : List (Option Name)) (entries : List Entry) (reply : Reply) → KnowsQueueYard n a → SameButQueueHeap a v
     → reply ≡ (own_writing (queue_heap a) (name_of made target) from (bytes_of bytes)).reply → queue_heap v ≡ (own_writing (queue_heap a) (name_of made target) from (bytes_of bytes)).heap
     → QueueStepped n a limit (Write target from bytes) made entries v limit entries reply
-write_stepped n a v limit target from bytes made entries reply k same e f =
+write_stepped {sli} n a v limit target from bytes made entries reply k same e f =
     quiet_stepped n a v limit (Write target from bytes) made entries reply same (write_keeps (queue_heap a) (queue_heap v) (name_of made target) from (bytes_of bytes) f) (write_quiet target from bytes (queue_id a) reply)
-    (write_tells made (queue_heap a) (queue_heap v) target from bytes reply e f n (queue_id a) entries k.self)
+    (write_tells sli made (queue_heap a) (queue_heap v) target from bytes reply e f n (queue_id a) entries k.self)
 
-pub read_stepped : (n : ℕ) (a v : QueueWorker) (limit : ℕ) (target : Target) (from k : ℕ) (made : List (Option Name)) (entries : List Entry) (reply : Reply) → KnowsQueueYard n a → SameButQueueHeap a v
+pub read_stepped : {sli : ℕ} (n : ℕ) (a v : QueueWorker sli) (limit : ℕ) (target : Target) (from k : ℕ) (made : List (Option Name)) (entries : List Entry) (reply : Reply) → KnowsQueueYard n a → SameButQueueHeap a v
     → reply ≡ (own_reading (queue_heap a) (name_of made target) from k).reply → queue_heap v ≡ (own_reading (queue_heap a) (name_of made target) from k).heap
     → QueueStepped n a limit (Read target from k) made entries v limit entries reply
-read_stepped n a v limit target from k made entries reply knows same e f =
+read_stepped {sli} n a v limit target from k made entries reply knows same e f =
     quiet_stepped n a v limit (Read target from k) made entries reply same (read_keeps (queue_heap a) (queue_heap v) (name_of made target) from k f) (read_quiet target from k (queue_id a) reply)
-    (read_tells made (queue_heap a) (queue_heap v) target from k reply e f n (queue_id a) entries knows.self)
+    (read_tells sli made (queue_heap a) (queue_heap v) target from k reply e f n (queue_id a) entries knows.self)
 
-pub resize_stepped : (n : ℕ) (a v : QueueWorker) (limit : ℕ) (target : Target) (len : ℕ) (made : List (Option Name)) (entries : List Entry) (reply : Reply) → KnowsQueueYard n a → SameButQueueHeap a v
+pub resize_stepped : {sli : ℕ} (n : ℕ) (a v : QueueWorker sli) (limit : ℕ) (target : Target) (len : ℕ) (made : List (Option Name)) (entries : List Entry) (reply : Reply) → KnowsQueueYard n a → SameButQueueHeap a v
     → reply ≡ (own_resizing (queue_heap a) (name_of made target) len).reply → queue_heap v ≡ (own_resizing (queue_heap a) (name_of made target) len).heap
     → QueueStepped n a limit (Resize target len) made entries v limit entries reply
-resize_stepped n a v limit target len made entries reply k same e f =
+resize_stepped {sli} n a v limit target len made entries reply k same e f =
     quiet_stepped n a v limit (Resize target len) made entries reply same (resize_keeps (queue_heap a) (queue_heap v) (name_of made target) len f) (resize_quiet target len (queue_id a) reply)
-    (resize_tells made (queue_heap a) (queue_heap v) target len reply e f n (queue_id a) entries k.self)
+    (resize_tells sli made (queue_heap a) (queue_heap v) target len reply e f n (queue_id a) entries k.self)
 
 -- ---- a take, and releases of own names
 
 take_quiet : (at from : ℕ) → IsQuiet (entry_by at (Take from) (Refused Stranger))
 take_quiet at from = record { posts = λ made. record { made_none = λ j. refl; taken_none = λ i. refl }; drain = λ most k c r. cc }
 
-pub take_stepped : (n : ℕ) (a : QueueWorker) (limit from : ℕ) (made : List (Option Name)) (entries : List Entry) → QueueStepped n a limit (Take from) made entries a limit entries (Refused Stranger)
+pub take_stepped : {sli : ℕ} (n : ℕ) (a : QueueWorker sli) (limit from : ℕ) (made : List (Option Name)) (entries : List Entry) → QueueStepped n a limit (Take from) made entries a limit entries (Refused Stranger)
 take_stepped n a limit from made entries =
     quiet_stepped n a a limit (Take from) made entries (Refused Stranger) (refl, refl, refl) (same_heap_keeps (queue_heap a) (queue_heap a) refl) (take_quiet (queue_id a) from) refl
 
 unmade_quiet : (at : ℕ) (target : Target) → IsQuiet (entry_by at (Release target) (Refused Unmade))
 unmade_quiet at target = record { posts = λ made. record { made_none = λ j. refl; taken_none = λ i. refl }; drain = λ most k c r. cc }
 
-pub unmade_stepped : (n : ℕ) (a : QueueWorker) (limit : ℕ) (target : Target) (made : List (Option Name)) (entries : List Entry) → KnowsQueueYard n a → name_of made target ≡ None
+pub unmade_stepped : {sli : ℕ} (n : ℕ) (a : QueueWorker sli) (limit : ℕ) (target : Target) (made : List (Option Name)) (entries : List Entry) → KnowsQueueYard n a → name_of made target ≡ None
     → QueueStepped n a limit (Release target) made entries a limit entries (Refused Unmade)
-unmade_stepped n a limit target made entries k none =
+unmade_stepped {sli} n a limit target made entries k none =
     quiet_stepped n a a limit (Release target) made entries (Refused Unmade) (refl, refl, refl) (same_heap_keeps (queue_heap a) (queue_heap a) refl) (unmade_quiet (queue_id a) target)
-    (unmade_tells n (queue_id a) (queue_heap a) made entries target k.self none)
+    (unmade_tells sli n (queue_id a) (queue_heap a) made entries target k.self none)
 
 freed_quiet : (at : ℕ) (target : Target) (r : Result (Unit {0}) Refusal) → IsQuiet (entry_by at (Release target) (reply_freed r))
 freed_quiet at target (Ok done) = record { posts = λ made. record { made_none = λ j. refl; taken_none = λ i. refl }; drain = λ most k c r. cc }
 freed_quiet at target (Err why) = record { posts = λ made. record { made_none = λ j. refl; taken_none = λ i. refl }; drain = λ most k c r. cc }
 
-pub free_stepped : (n : ℕ) (a v : QueueWorker) (limit : ℕ) (target : Target) (name : Name) (made : List (Option Name)) (entries : List Entry) (reply : Reply) → KnowsQueueYard n a → SameButQueueHeap a v
+pub free_stepped : {sli : ℕ} (n : ℕ) (a v : QueueWorker sli) (limit : ℕ) (target : Target) (name : Name) (made : List (Option Name)) (entries : List Entry) (reply : Reply) → KnowsQueueYard n a → SameButQueueHeap a v
     → name_of made target ≡ Some name → name.heap ≡ queue_id a → reply ≡ (own_freeing (queue_heap a) name).reply → queue_heap v ≡ (own_freeing (queue_heap a) name).heap
     → QueueStepped n a limit (Release target) made entries v limit entries reply
 unfolding released
-free_stepped n a v limit target name made entries reply k same known own e f =
+free_stepped {sli} n a v limit target name made entries reply k same known own e f =
     quiet_stepped n a v limit (Release target) made entries reply same (call_keeps (queue_heap a) (queue_heap v) (heap.Release name) f)
     (subst (λ r. IsQuiet (entry_by (queue_id a) (Release target) r)) (sym e) (freed_quiet (queue_id a) target (heap.released (queue_heap a) name).answer))
-    (free_tells n (queue_id a) (queue_heap a) (queue_heap v) made entries target name reply k.self known own e f)
+    (free_tells sli n (queue_id a) (queue_heap a) (queue_heap v) made entries target name reply k.self known own e f)
 
 -- ---- the own entry
 
-pub queue_step_called : (n : ℕ) (a v : QueueWorker) (limit left : ℕ) (call : Call) (made more : List (Option Name)) (entries between longer : List Entry) (at : ℕ) (reply : Reply)
+pub queue_step_called : {sli : ℕ} (n : ℕ) (a v : QueueWorker sli) (limit left : ℕ) (call : Call) (made more : List (Option Name)) (entries between longer : List Entry) (at : ℕ) (reply : Reply)
     → QueueStepped n a limit call made entries v left between reply → at ≡ queue_id v → more ≡ made ++ made_by reply ∷ []
     → longer ≡ between ++ record { worker = at; call = call; reply = reply } ∷ [] → QueueCalled n a limit call made entries v left more longer
 queue_step_called n a v limit left call made more entries between longer at reply x is e f =
@@ -541,7 +542,7 @@ queue_step_called n a v limit left call made more entries between longer at repl
     }
 
 -- there is room for the own entry
-pub queue_step_room : (n : ℕ) (a v : QueueWorker) (limit left : ℕ) (call : Call) (made : List (Option Name)) (entries longer : List Entry) (reply : Reply) → QueueStepped n a limit call made entries v left longer reply
+pub queue_step_room : {sli : ℕ} (n : ℕ) (a v : QueueWorker sli) (limit left : ℕ) (call : Call) (made : List (Option Name)) (entries longer : List Entry) (reply : Reply) → QueueStepped n a limit call made entries v left longer reply
     → length longer + 1 + left ≤ length entries + 1 + limit
 queue_step_room n a v limit left call made entries longer reply x =
     let m = x.moved [] in

@@ -17,13 +17,13 @@ use Rattle.tlsf_crew.proofs.lemmas.queues.QueueOpened.{some_at}
 
 -- ---- one worker
 
-pub queue_number : (ws : List QueueWorker) (i : ℕ) (a : QueueWorker) → IsQueueYard ws → slice_get ws i ≡ Some a → queue_id a ≡ i
+pub queue_number : {sli : ℕ} (ws : List (QueueWorker sli)) (i : ℕ) (a : QueueWorker sli) → IsQueueYard ws → slice_get ws i ≡ Some a → queue_id a ≡ i
 queue_number ws i a yard is = let w = yard.workers i a is in w.number
 
-pub own_queue_heap : (ws : List QueueWorker) (i : ℕ) (a : QueueWorker) → IsQueueYard ws → slice_get ws i ≡ Some a → IsHeapOf i (queue_heap a)
+pub own_queue_heap : {sli : ℕ} (ws : List (QueueWorker sli)) (i : ℕ) (a : QueueWorker sli) → IsQueueYard ws → slice_get ws i ≡ Some a → IsHeapOf i (queue_heap a)
 own_queue_heap ws i a yard is = let w = yard.workers i a is in w.heap
 
-pub queues_joined : (ws : List QueueWorker) (i j : ℕ) (a : QueueWorker) → IsQueueYard ws → slice_get ws i ≡ Some a → HasQueueEnd a j ↔ IsOtherOf (length ws) i j
+pub queues_joined : {sli : ℕ} (ws : List (QueueWorker sli)) (i j : ℕ) (a : QueueWorker sli) → IsQueueYard ws → slice_get ws i ≡ Some a → HasQueueEnd a j ↔ IsOtherOf (length ws) i j
 queues_joined ws i j a yard is =
     let w = yard.workers i a is in
     let k = w.knows in (
@@ -47,12 +47,12 @@ slot_was (Some p) None q k e = absurd k
 slot_was (Some p) (Some r) q k e = (p, refl, subst (λ (z : PosterEnd). KeepsPoster p z) (some_same r q e) k)
 
 -- the worker that was in a place, and what has stayed of it
-pub record Was (ws : List QueueWorker) (x : ℕ) (b : QueueWorker) : Type 0 where
-  pub old : QueueWorker
+pub record Was {sli : ℕ} (ws : List (QueueWorker sli)) (x : ℕ) (b : QueueWorker sli) : Type 0 where
+  pub old : QueueWorker sli
   pub is : slice_get ws x ≡ Some old
   pub keeps : KeepsQueueYards old b
 
-same_capacity : (ws vs : List QueueWorker) → length vs ≡ length ws → ((x : ℕ) (b : QueueWorker) → slice_get vs x ≡ Some b → Was ws x b) → queue_capacity_in vs ≡ queue_capacity_in ws
+same_capacity : {sli : ℕ} (ws vs : List (QueueWorker sli)) → length vs ≡ length ws → ((x : ℕ) (b : QueueWorker sli) → slice_get vs x ≡ Some b → Was ws x b) → queue_capacity_in vs ≡ queue_capacity_in ws
 same_capacity ws vs len was = elim (cases_lt 0 (length vs)) [
   | inl lt ↦
       let b = some_at vs 0 lt in
@@ -62,10 +62,11 @@ same_capacity ws vs len was = elim (cases_lt 0 (length vs)) [
 ]
 
 -- each worker has stayed in its place
-pub all_kept : (ws vs : List QueueWorker) → IsQueueYard ws → length vs ≡ length ws → ((x : ℕ) (b : QueueWorker) → slice_get vs x ≡ Some b → Was ws x b) → IsQueueYard vs
+pub all_kept : {sli : ℕ} (ws vs : List (QueueWorker sli)) → IsQueueYard ws → length vs ≡ length ws → ((x : ℕ) (b : QueueWorker sli) → slice_get vs x ≡ Some b → Was ws x b) → IsQueueYard vs
 all_kept ws vs yard len was =
     let room = same_capacity ws vs len was in
     record {
+      level = yard.level;
       few = omega (arith, len, yard.few);
       small = omega (arith, room, yard.small);
       workers = λ x b at.
@@ -85,7 +86,7 @@ all_kept ws vs yard len was =
     }
 
 -- one worker has, and the others are the same
-one_was : (ws : List QueueWorker) (i : ℕ) (a v : QueueWorker) → slice_get ws i ≡ Some a → KeepsQueueYards a v → (x : ℕ) (b : QueueWorker) → slice_get (set ws i v) x ≡ Some b → Was ws x b
+one_was : {sli : ℕ} (ws : List (QueueWorker sli)) (i : ℕ) (a v : QueueWorker sli) → slice_get ws i ≡ Some a → KeepsQueueYards a v → (x : ℕ) (b : QueueWorker sli) → slice_get (set ws i v) x ≡ Some b → Was ws x b
 one_was ws i a v is keeps x b at = elim (cases_eq x i) [
   | inl e ↦
       let b_is : v ≡ b = some_same v b (sym (get_set_same ws i v (slice_get_within ws i a is)) ∙ (sym (ap (slice_get (set ws i v)) e) ∙ at)) in
@@ -93,5 +94,5 @@ one_was ws i a v is keeps x b at = elim (cases_eq x i) [
   | inr ne ↦ record { old = b; is = sym (get_set_other ws i x v ne) ∙ at; keeps = keeps_all b }
 ]
 
-pub queue_yard_kept : (ws : List QueueWorker) (i : ℕ) (a v : QueueWorker) → IsQueueYard ws → slice_get ws i ≡ Some a → KeepsQueueYards a v → IsQueueYard (set ws i v)
+pub queue_yard_kept : {sli : ℕ} (ws : List (QueueWorker sli)) (i : ℕ) (a v : QueueWorker sli) → IsQueueYard ws → slice_get ws i ≡ Some a → KeepsQueueYards a v → IsQueueYard (set ws i v)
 queue_yard_kept ws i a v yard is keeps = all_kept ws (set ws i v) yard (length-set ws i v) (one_was ws i a v is keeps)

@@ -47,20 +47,20 @@ sum_taken n at low (e ∷ es) a =
 
 -- ---- a drain that may take all takes all
 
-lane_left : (at from : ℕ) (rest ps : List Post) (d : Draining) → d.world.waiting from at ≡ ps ++ rest → (fold (took_more at from) d ps).world.waiting from at ≡ rest
+lane_left : {sli : ℕ} (at from : ℕ) (rest ps : List Post) (d : Draining sli) → d.world.waiting from at ≡ ps ++ rest → (fold (took_more at from) d ps).world.waiting from at ≡ rest
 lane_left at from rest [] d e = e
 lane_left at from rest (p ∷ ps) d e = lane_left at from rest ps (took_more at from d p) (edited_same d.world.waiting from at (drop 1 (d.world.waiting from at)) ∙ ap (drop 1) e)
 
-lane_count : (at from : ℕ) (ps : List Post) (d : Draining) → (fold (took_more at from) d ps).taken ≡ d.taken + length ps
+lane_count : {sli : ℕ} (at from : ℕ) (ps : List Post) (d : Draining sli) → (fold (took_more at from) d ps).taken ≡ d.taken + length ps
 lane_count at from [] d = omega arith
 lane_count at from (p ∷ ps) d = let a = lane_count at from ps (took_more at from d p) in omega arith
 
 -- the lane from one worker is empty, and so many posts were taken
-record LaneOut (at from : ℕ) (d b : Draining) : Type 0 where
+record LaneOut {sli : ℕ} (at from : ℕ) (d b : Draining sli) : Type 0 where
   empty : b.world.waiting from at ≡ []
   taken : b.taken ≡ d.taken + length (d.world.waiting from at)
 
-lane_out : (at most from : ℕ) (d : Draining) → d.taken + length (d.world.waiting from at) ≤ most → LaneOut at from d (drained_lane at most from d)
+lane_out : {sli : ℕ} (at most from : ℕ) (d : Draining sli) → d.taken + length (d.world.waiting from at) ≤ most → LaneOut at from d (drained_lane at most from d)
 unfolding drained_lane
 lane_out at most from d le =
     let waits = d.world.waiting from at in
@@ -68,12 +68,12 @@ lane_out at most from d le =
     rw all (record { empty = lane_left at from [] waits d (sym (append-nil waits)); taken = lane_count at from waits d })
 
 -- the lanes from the other workers below k are empty, and no more was taken than these bounds
-record OthersOut (at k : ℕ) (bound : ℕ → ℕ) (d b : Draining) : Type 0 where
+record OthersOut {sli : ℕ} (at k : ℕ) (bound : ℕ → ℕ) (d b : Draining sli) : Type 0 where
   empty : (x : ℕ) → x < k → x ≢ at → b.world.waiting x at ≡ []
   later : (x : ℕ) → k ≤ x → b.world.waiting x at ≡ d.world.waiting x at
   taken : b.taken ≤ d.taken + sum_below k bound
 
-others_out : (at most : ℕ) (bound : ℕ → ℕ) (d : Draining) (k : ℕ) → ((x : ℕ) → x < k → x ≢ at → length (d.world.waiting x at) ≤ bound x) → d.taken + sum_below k bound ≤ most
+others_out : {sli : ℕ} (at most : ℕ) (bound : ℕ → ℕ) (d : Draining sli) (k : ℕ) → ((x : ℕ) → x < k → x ≢ at → length (d.world.waiting x at) ≤ bound x) → d.taken + sum_below k bound ≤ most
     → OthersOut at k bound d (drained_below at most d k)
 others_out at most bound d zero few le = record { empty = λ x lt ne. absurd (omega arith); later = λ x le. refl; taken = omega arith }
 others_out at most bound d (suc k) few le =
@@ -97,7 +97,7 @@ others_out at most bound d (suc k) few le =
           })
     ]
 
-drain_out : (r : Replayed) (at x : ℕ) (bound : ℕ → ℕ) → ((y : ℕ) → y < length r.world.heaps → y ≢ at → length (r.world.waiting y at) ≤ bound y) → sum_below (length r.world.heaps) bound ≤ 8192
+drain_out : {sli : ℕ} (r : Replayed sli) (at x : ℕ) (bound : ℕ → ℕ) → ((y : ℕ) → y < length r.world.heaps → y ≢ at → length (r.world.waiting y at) ≤ bound y) → sum_below (length r.world.heaps) bound ≤ 8192
     → x < length r.world.heaps → x ≢ at → (draining r at 8192).world.waiting x at ≡ []
 unfolding draining after_drain
 drain_out r at x bound few le lt ne = (others_out at 8192 bound (record { entries = r.entries; world = r.world; taken = 0 }) (length r.world.heaps) few (omega (arith, le))).empty x lt ne
@@ -105,8 +105,8 @@ drain_out r at x bound few le lt ne = (others_out at 8192 bound (record { entrie
 -- ---- a race
 
 -- what worker j is told alone, behind what its script was told in the race
-may_tell_alone : (w v : World) (scripts : List (List Call)) (records : List (List Entry)) (race : IsRace w scripts records v) → OnlyLastDrains scripts → (j : ℕ) (j_in : j < length w.heaps)
-    → MayTell (length w.heaps) j (turn_of w v scripts records race j j_in).between last_call (told_by j (drained_alone w scripts j))
+may_tell_alone : {sli : ℕ} (w v : World sli) (scripts : List (List Call)) (records : List (List Entry)) (race : IsRace w scripts records v) → OnlyLastDrains scripts → (j : ℕ) (j_in : j < length w.heaps)
+    → MayTell sli (length w.heaps) j (turn_of w v scripts records race j j_in).between last_call (told_by j (drained_alone w scripts j))
 may_tell_alone w v scripts records race free j j_in =
     let a = told_alone w v scripts records race free j j_in in
     let r = alone w scripts j in
@@ -117,14 +117,14 @@ may_tell_alone w v scripts records race free j j_in =
       λ k. told_by j (called (record { made = sym names k; entries = sym entries k; world = posted_alone w scripts r.world }) j last_call),
     )
 
-pub race_runs_alone : RaceRunsAlone
+pub race_runs_alone : (sli : ℕ) → RaceRunsAlone sli
 unfolding may_tell_alone
-race_runs_alone w v scripts records race free j j_in =
+race_runs_alone sli w v scripts records race free j j_in =
     let n = length w.heaps in
     let t = turn_of w v scripts records race j j_in in
     let z = t.between in
     let end = told_by j (drained_alone w scripts j) in
-    let m : MayTell n j z last_call end = may_tell_alone w v scripts records race free j j_in in
+    let m : MayTell sli n j z last_call end = may_tell_alone w v scripts records race free j j_in in
     let count : length ((m.0).heaps) ≡ n = m.1.0 in
     let d = (t.last).is_drain in
     let bound : ℕ → ℕ = λ x. length (posts_taken x j d.takes) in
@@ -133,9 +133,9 @@ race_runs_alone w v scripts records race free j j_in =
     let few : (x : ℕ) → x < length ((m.0).heaps) → x ≢ j → length ((m.0).waiting x j) ≤ bound x
     = λ x lt ne. let e = ap length (lane x (omega (arith, lt, count)) ne) in let f = ap length (drain_takes x j j 8192 (t.last).own d) in omega (arith, e, f) in
     let le : sum_below (length ((m.0).heaps)) bound ≤ 8192 = let s = sum_taken (length ((m.0).heaps)) j 0 d.takes d.are_takes in let k = d.few in omega (arith, s, k) in
-    let r : Replayed = record { made = z.made; entries = z.entries; world = m.0 } in
+    let r : Replayed sli = record { made = z.made; entries = z.entries; world = m.0 } in
     let other = last_drain n j z end j_in m in
     same_last n j z (told_in w v scripts records race j) end t.last other
     (λ x x_in ne.
     let left = drain_out r j x bound few le (omega (arith, x_in, count)) ne in
-    sym (lane x x_in ne) ∙ (last_posts n j z end j_in m x ∙ (ap (λ l. posts_taken x j other.own ++ l) left ∙ append-nil (posts_taken x j other.own))))
+    sym (lane x x_in ne) ∙ (last_posts sli n j z end j_in m x ∙ (ap (λ l. posts_taken x j other.own ++ l) left ∙ append-nil (posts_taken x j other.own))))

@@ -33,7 +33,7 @@ use Rattle.tlsf_crew.specs.threads.Alone.{TakesNoPost}
 -- ---- one call
 
 -- the reply to a call that takes no post
-abbrev reply_to : List (Option Name) → World → ℕ → Call → Replied
+abbrev reply_to : {sli : ℕ} → List (Option Name) → World sli → ℕ → Call → Replied sli
 reply_to made w at (Allocate len) = allocating w at len
 reply_to made w at (Release target) = releasing_named w at (name_of made target)
 reply_to made w at (Write target from bytes) = writing_named w at (name_of made target) from (bytes_of bytes)
@@ -41,7 +41,7 @@ reply_to made w at (Read target from n) = reading_named w at (name_of made targe
 reply_to made w at (Resize target len) = resizing_named w at (name_of made target) len
 reply_to made w at call = record { reply = Empty; world = w }
 
-called_is : (r : Replayed) (at : ℕ) (call : Call) → TakesNoPost call → called r at call ≡ answered r at call (reply_to r.made r.world at call)
+called_is : {sli : ℕ} (r : Replayed sli) (at : ℕ) (call : Call) → TakesNoPost call → called r at call ≡ answered r at call (reply_to r.made r.world at call)
 called_is r at (Allocate len) none = refl
 called_is r at (Release target) none = refl
 called_is r at (Write target from bytes) none = refl
@@ -51,10 +51,10 @@ called_is r at (Take from) none = absurd none
 called_is r at (Drain most) none = absurd none
 
 -- the same reply, and the same heap behind it
-abbrev SameReply : ℕ → Replied → Replied → Type 0
+abbrev SameReply : {sli : ℕ} → ℕ → Replied sli → Replied sli → Type 0
 SameReply at a b = (a.reply ≡ b.reply) × (heap_in a.world at ≡ heap_in b.world at)
 
-same_told : (r q : Replayed) (at : ℕ) (call : Call) (a b : Replied) → r.made ≡ q.made → r.entries ≡ q.entries → SameReply at a b → told_by at (answered r at call a) ≡ told_by at (answered q at call b)
+same_told : {sli : ℕ} (r q : Replayed sli) (at : ℕ) (call : Call) (a b : Replied sli) → r.made ≡ q.made → r.entries ≡ q.entries → SameReply at a b → told_by at (answered r at call a) ≡ told_by at (answered q at call b)
 same_told r q at call a b made entries same = λ k. record {
   made = made k ++ made_by (same.0 k) ∷ [];
   entries = entries k ++ record { worker = at; call = call; reply = same.0 k } ∷ [];
@@ -64,56 +64,56 @@ same_told r q at call a b made entries same = λ k. record {
 -- ---- the answers of the own heap
 
 -- two worlds of n workers in which worker `at` has the same heap
-record Alike (n at : ℕ) (x y : World) : Type 0 where
+record Alike {sli : ℕ} (n at : ℕ) (x y : World sli) : Type 0 where
   at_in : at < n
   here : length x.heaps ≡ n
   there : length y.heaps ≡ n
   heap : heap_in x at ≡ heap_in y at
 
-left : (n at : ℕ) (x : World) (h : HeapState) → at < n → length x.heaps ≡ n → heap_in (with_heap x at h) at ≡ h
+left : {sli : ℕ} (n at : ℕ) (x : World sli) (h : HeapState) → at < n → length x.heaps ≡ n → heap_in (with_heap x at h) at ≡ h
 left n at x h at_in count = let near : at < length x.heaps = omega (arith, count) in get_or-set_same x.heaps at h no_heap near
 
 -- a call on the heap, whose reply is told by its answer
-by_heap : (n at : ℕ) (x y : World) (reply : HeapState → Reply) (next : HeapState → HeapState) → Alike n at x y
+by_heap : {sli : ℕ} (n at : ℕ) (x y : World sli) (reply : HeapState → Reply) (next : HeapState → HeapState) → Alike n at x y
     → SameReply at (record { reply = reply (heap_in x at); world = with_heap x at (next (heap_in x at)) }) (record { reply = reply (heap_in y at); world = with_heap y at (next (heap_in y at)) })
 by_heap n at x y reply next a = (
   ap reply a.heap,
   left n at x (next (heap_in x at)) a.at_in a.here ∙ (ap next a.heap ∙ sym (left n at y (next (heap_in y at)) a.at_in a.there)),
 )
 
-same_write : (n at from : ℕ) (bytes : List ℕ) (x y : World) (o : Option Name) → Alike n at x y → SameReply at (writing_named x at o from bytes) (writing_named y at o from bytes)
+same_write : {sli : ℕ} (n at from : ℕ) (bytes : List ℕ) (x y : World sli) (o : Option Name) → Alike n at x y → SameReply at (writing_named x at o from bytes) (writing_named y at o from bytes)
 same_write n at from bytes x y None a = (refl, a.heap)
 same_write n at from bytes x y (Some name) a = by_heap n at x y (λ h. reply_wrote (length bytes) (written h name from bytes).answer) (λ h. (written h name from bytes).heap) a
 
-same_read : (n at from k : ℕ) (x y : World) (o : Option Name) → Alike n at x y → SameReply at (reading_named x at o from k) (reading_named y at o from k)
+same_read : {sli : ℕ} (n at from k : ℕ) (x y : World sli) (o : Option Name) → Alike n at x y → SameReply at (reading_named x at o from k) (reading_named y at o from k)
 same_read n at from k x y None a = (refl, a.heap)
 same_read n at from k x y (Some name) a = (ap (λ h. reply_got (chunk_read h name from k)) a.heap, a.heap)
 
-same_resize : (n at len : ℕ) (x y : World) (o : Option Name) → Alike n at x y → SameReply at (resizing_named x at o len) (resizing_named y at o len)
+same_resize : {sli : ℕ} (n at len : ℕ) (x y : World sli) (o : Option Name) → Alike n at x y → SameReply at (resizing_named x at o len) (resizing_named y at o len)
 same_resize n at len x y None a = (refl, a.heap)
 same_resize n at len x y (Some name) a = by_heap n at x y (λ h. reply_resized (resized h name len).answer) (λ h. (resized h name len).heap) a
 
 -- ---- posts
 
 -- the reply to a post, where the lane is full and where it isn't
-full_reply : (w : World) (at : ℕ) (name : Name) → length (w.waiting at name.heap) ≡ w.capacity → ((posting w at name).reply ≡ Refused (Full name)) × (heap_in (posting w at name).world at ≡ heap_in w at)
+full_reply : {sli : ℕ} (w : World sli) (at : ℕ) (name : Name) → length (w.waiting at name.heap) ≡ w.capacity → ((posting w at name).reply ≡ Refused (Full name)) × (heap_in (posting w at name).world at ≡ heap_in w at)
 unfolding posting
 full_reply w at name e = let b : (length (w.waiting at name.heap) == w.capacity) ≡ true = grind (arith, nat_tests) in rw b (refl, refl)
 
-posted_reply : (w : World) (at : ℕ) (name : Name) → length (w.waiting at name.heap) ≢ w.capacity → ((posting w at name).reply ≡ Posted) × (heap_in (posting w at name).world at ≡ heap_in w at)
+posted_reply : {sli : ℕ} (w : World sli) (at : ℕ) (name : Name) → length (w.waiting at name.heap) ≢ w.capacity → ((posting w at name).reply ≡ Posted) × (heap_in (posting w at name).world at ≡ heap_in w at)
 unfolding posting
 posted_reply w at name ne = let b : (length (w.waiting at name.heap) == w.capacity) ≡ false = grind (arith, nat_tests) in rw b (refl, refl)
 
-own_release : (w : World) (at : ℕ) (name : Name) → name.heap ≡ at → releasing w at name ≡ freeing w at name
+own_release : {sli : ℕ} (w : World sli) (at : ℕ) (name : Name) → name.heap ≡ at → releasing w at name ≡ freeing w at name
 own_release w at name e = let b : (name.heap == at) ≡ true = grind (arith, nat_tests) in rw b refl
 
 -- what two worlds owe each other where a name of another worker's heap is posted
-abbrev SameRoom : ℕ → World → World → Name → Type 0
+abbrev SameRoom : {sli : ℕ} → ℕ → World sli → World sli → Name → Type 0
 SameRoom at x y name =
     ((posting x at name).reply ≡ Refused (Full name) → length (y.waiting at name.heap) ≡ y.capacity)
     × ((posting x at name).reply ≡ Posted → length (y.waiting at name.heap) ≢ y.capacity)
 
-same_post : (at : ℕ) (x y : World) (name : Name) → heap_in x at ≡ heap_in y at → SameRoom at x y name → SameReply at (posting x at name) (posting y at name)
+same_post : {sli : ℕ} (at : ℕ) (x y : World sli) (name : Name) → heap_in x at ≡ heap_in y at → SameRoom at x y name → SameReply at (posting x at name) (posting y at name)
 same_post at x y name heap room = elim (cases_eq (length (x.waiting at name.heap)) x.capacity) [
   | inl e ↦
       let a = full_reply x at name e in
@@ -125,7 +125,7 @@ same_post at x y name heap room = elim (cases_eq (length (x.waiting at name.heap
       (a.0 ∙ sym b.0, a.1 ∙ (heap ∙ sym b.1))
 ]
 
-same_release : (n at : ℕ) (x y : World) (o : Option Name) → Alike n at x y → ((name : Name) → o ≡ Some name → name.heap ≢ at → name.heap < n → SameRoom at x y name)
+same_release : {sli : ℕ} (n at : ℕ) (x y : World sli) (o : Option Name) → Alike n at x y → ((name : Name) → o ≡ Some name → name.heap ≢ at → name.heap < n → SameRoom at x y name)
     → SameReply at (releasing_named x at o) (releasing_named y at o)
 same_release n at x y None a room = (refl, a.heap)
 same_release n at x y (Some name) a room = elim (cases_eq name.heap at) [
@@ -145,30 +145,30 @@ same_release n at x y (Some name) a room = elim (cases_eq name.heap at) [
 ]
 
 -- what two worlds owe each other at a call
-abbrev RoomFor : List (Option Name) → ℕ → ℕ → World → World → Call → Type 0
+abbrev RoomFor : {sli : ℕ} → List (Option Name) → ℕ → ℕ → World sli → World sli → Call → Type 0
 RoomFor made n at x y (Release target) = (name : Name) → name_of made target ≡ Some name → name.heap ≢ at → name.heap < n → SameRoom at x y name
 RoomFor made n at x y call = Unit {0}
 
-same_reply : (n at : ℕ) (made : List (Option Name)) (x y : World) (call : Call) → TakesNoPost call → Alike n at x y → RoomFor made n at x y call
+same_reply : {sli : ℕ} (n at : ℕ) (made : List (Option Name)) (x y : World sli) (call : Call) → TakesNoPost call → Alike n at x y → RoomFor made n at x y call
     → SameReply at (reply_to made x at call) (reply_to made y at call)
-same_reply n at made x y (Allocate len) none a room = by_heap n at x y (λ h. reply_made (allocated h len).answer) (λ h. (allocated h len).heap) a
-same_reply n at made x y (Release target) none a room = same_release n at x y (name_of made target) a room
-same_reply n at made x y (Write target from bytes) none a room = same_write n at from (bytes_of bytes) x y (name_of made target) a
-same_reply n at made x y (Read target from k) none a room = same_read n at from k x y (name_of made target) a
-same_reply n at made x y (Resize target len) none a room = same_resize n at len x y (name_of made target) a
-same_reply n at made x y (Take from) none a room = absurd none
-same_reply n at made x y (Drain most) none a room = absurd none
+same_reply {sli} n at made x y (Allocate len) none a room = by_heap n at x y (λ h. reply_made (allocated sli h len).answer) (λ h. (allocated sli h len).heap) a
+same_reply {sli} n at made x y (Release target) none a room = same_release n at x y (name_of made target) a room
+same_reply {sli} n at made x y (Write target from bytes) none a room = same_write n at from (bytes_of bytes) x y (name_of made target) a
+same_reply {sli} n at made x y (Read target from k) none a room = same_read n at from k x y (name_of made target) a
+same_reply {sli} n at made x y (Resize target len) none a room = same_resize n at len x y (name_of made target) a
+same_reply {sli} n at made x y (Take from) none a room = absurd none
+same_reply {sli} n at made x y (Drain most) none a room = absurd none
 
 -- ---- the capacity of the lanes
 
-post_capacity : (w : World) (at : ℕ) (name : Name) → ((posting w at name).world).capacity ≡ w.capacity
+post_capacity : {sli : ℕ} (w : World sli) (at : ℕ) (name : Name) → ((posting w at name).world).capacity ≡ w.capacity
 unfolding posting
 post_capacity w at name = elim (cases_eq (length (w.waiting at name.heap)) w.capacity) [
   | inl e ↦ let b : (length (w.waiting at name.heap) == w.capacity) ≡ true = grind (arith, nat_tests) in rw b refl
   | inr ne ↦ let b : (length (w.waiting at name.heap) == w.capacity) ≡ false = grind (arith, nat_tests) in rw b refl
 ]
 
-release_capacity : (w : World) (at : ℕ) (o : Option Name) → ((releasing_named w at o).world).capacity ≡ w.capacity
+release_capacity : {sli : ℕ} (w : World sli) (at : ℕ) (o : Option Name) → ((releasing_named w at o).world).capacity ≡ w.capacity
 release_capacity w at None = refl
 release_capacity w at (Some name) = elim (cases_eq name.heap at) [
   | inl own ↦ rw (own_release w at name own) refl
@@ -178,19 +178,19 @@ release_capacity w at (Some name) = elim (cases_eq name.heap at) [
   ]
 ]
 
-write_capacity : (w : World) (at from : ℕ) (bytes : List ℕ) (o : Option Name) → ((writing_named w at o from bytes).world).capacity ≡ w.capacity
+write_capacity : {sli : ℕ} (w : World sli) (at from : ℕ) (bytes : List ℕ) (o : Option Name) → ((writing_named w at o from bytes).world).capacity ≡ w.capacity
 write_capacity w at from bytes None = refl
 write_capacity w at from bytes (Some name) = refl
 
-read_capacity : (w : World) (at from n : ℕ) (o : Option Name) → ((reading_named w at o from n).world).capacity ≡ w.capacity
+read_capacity : {sli : ℕ} (w : World sli) (at from n : ℕ) (o : Option Name) → ((reading_named w at o from n).world).capacity ≡ w.capacity
 read_capacity w at from n None = refl
 read_capacity w at from n (Some name) = refl
 
-resize_capacity : (w : World) (at len : ℕ) (o : Option Name) → ((resizing_named w at o len).world).capacity ≡ w.capacity
+resize_capacity : {sli : ℕ} (w : World sli) (at len : ℕ) (o : Option Name) → ((resizing_named w at o len).world).capacity ≡ w.capacity
 resize_capacity w at len None = refl
 resize_capacity w at len (Some name) = refl
 
-same_capacity : (r : Replayed) (at : ℕ) (call : Call) → TakesNoPost call → ((called r at call).world).capacity ≡ (r.world).capacity
+same_capacity : {sli : ℕ} (r : Replayed sli) (at : ℕ) (call : Call) → TakesNoPost call → ((called r at call).world).capacity ≡ (r.world).capacity
 same_capacity r at (Allocate len) none = refl
 same_capacity r at (Release target) none = release_capacity r.world at (name_of r.made target)
 same_capacity r at (Write target from bytes) none = write_capacity r.world at from (bytes_of bytes) (name_of r.made target)
@@ -212,46 +212,46 @@ takes_none i j at made (Take from) name own none t = absurd none
 takes_none i j at made (Drain most) name own none t = absurd none
 
 -- the worker's own state before a call
-abbrev at_call : Told → World → Replayed
+abbrev at_call : {sli : ℕ} → Told → World sli → Replayed sli
 at_call s x = record { made = s.made; entries = s.entries; world = x }
 
-knows_one : (n at : ℕ) (s t : Told) (call : Call) → MayTell n at s call t → Knows t.made s.made
-knows_one n at s t call m = subst (λ (made : List (Option Name)). Knows made s.made) (ap (λ (t : Told). t.made) m.2) (called_knows (at_call s m.0) at call)
+knows_one : (sli : ℕ) (n at : ℕ) (s t : Told) (call : Call) → MayTell sli n at s call t → Knows t.made s.made
+knows_one sli n at s t call m = subst (λ (made : List (Option Name)). Knows made s.made) (ap (λ (t : Told). t.made) m.2) (called_knows (at_call s m.0) at call)
 
-knows_all : (n at : ℕ) (s t : Told) (calls : List Call) → MayTellAll n at s calls t → Knows t.made s.made
-knows_all n at s t [] m = rw m (λ target name e. e)
-knows_all n at s t (call ∷ calls) m = λ target name e. knows_all n at m.0 t calls m.2 target name (knows_one n at s m.0 call m.1 target name e)
+knows_all : (sli : ℕ) (n at : ℕ) (s t : Told) (calls : List Call) → MayTellAll sli n at s calls t → Knows t.made s.made
+knows_all sli n at s t [] m = rw m (λ target name e. e)
+knows_all sli n at s t (call ∷ calls) m = λ target name e. knows_all sli n at m.0 t calls m.2 target name (knows_one sli n at s m.0 call m.1 target name e)
 
 -- later calls add entries behind
-grown : (n at : ℕ) (s t : Told) (calls : List Call) → at < n → MayTellAll n at s calls t → (rest : List Entry) × (t.entries ≡ s.entries ++ rest)
-grown n at s t [] at_in m = ([], ap (λ (t : Told). t.entries) m ∙ sym (append-nil s.entries))
-grown n at s t (call ∷ calls) at_in m =
+grown : (sli : ℕ) (n at : ℕ) (s t : Told) (calls : List Call) → at < n → MayTellAll sli n at s calls t → (rest : List Entry) × (t.entries ≡ s.entries ++ rest)
+grown sli n at s t [] at_in m = ([], ap (λ (t : Told). t.entries) m ∙ sym (append-nil s.entries))
+grown sli n at s t (call ∷ calls) at_in m =
     let x = m.1.0 in
     let c = called_told (called (at_call s x) at call).made (at_call s x) at call (omega (arith, m.1.1.0)) (called_knows (at_call s x) at call) in
     let first : m.0.entries ≡ s.entries ++ c.own = sym (ap (λ (t : Told). t.entries) m.1.2) ∙ c.entries in
-    let later = grown n at m.0 t calls at_in m.2 in
+    let later = grown sli n at m.0 t calls at_in m.2 in
     (c.own ++ later.0, later.1 ∙ (ap (λ l. l ++ later.0) first ∙ append_assoc s.entries c.own later.0))
 
 -- the entries of a script that takes none tell of no post that was taken
-pub none_taken : (n i j at : ℕ) (s t : Told) (calls : List Call) → at < n → AllByRecursion TakesNoPost calls → MayTellAll n at s calls t → posts_taken i j s.entries ≡ [] → posts_taken i j t.entries ≡ []
-none_taken n i j at s t [] at_in free m none = ap (λ (t : Told). posts_taken i j t.entries) m ∙ none
-none_taken n i j at s t (call ∷ calls) at_in free m none =
+pub none_taken : (sli : ℕ) (n i j at : ℕ) (s t : Told) (calls : List Call) → at < n → AllByRecursion TakesNoPost calls → MayTellAll sli n at s calls t → posts_taken i j s.entries ≡ [] → posts_taken i j t.entries ≡ []
+none_taken sli n i j at s t [] at_in free m none = ap (λ (t : Told). posts_taken i j t.entries) m ∙ none
+none_taken sli n i j at s t (call ∷ calls) at_in free m none =
     let x = m.1.0 in
     let c = called_told (called (at_call s x) at call).made (at_call s x) at call (omega (arith, m.1.1.0)) (called_knows (at_call s x) at call) in
     let first : m.0.entries ≡ s.entries ++ c.own = sym (ap (λ (t : Told). t.entries) m.1.2) ∙ c.entries in
-    none_taken n i j at m.0 t calls at_in free.1 m.2
+    none_taken sli n i j at m.0 t calls at_in free.1 m.2
     (ap (posts_taken i j) first ∙ (taken_then i j s.entries c.own ∙ (ap (λ l. l ++ posts_taken i j c.own) none ∙ takes_none i j at s.made call c.name c.own free.0 c.tells)))
 
 -- ---- the script alone
 
 -- what the lanes of worker i hold for all that it was told to have posted, in a race
-pub record HasLanes (w : World) (i : ℕ) (made : List (Option Name)) (scripted : List Entry) : Type 0 where
+pub record HasLanes {sli : ℕ} (w : World sli) (i : ℕ) (made : List (Option Name)) (scripted : List Entry) : Type 0 where
   pub room : (j : ℕ) → j < length w.heaps → i ≢ j → length (w.waiting i j) + length (posts_made i j made scripted) ≤ w.capacity
   pub full : (j : ℕ) → j < length w.heaps → i ≢ j → (before : List Entry) (e : Entry) (name : Name) → StandsBehind scripted before e → e.reply ≡ Refused (Full name) → name.heap ≡ j
       → w.capacity ≤ length (w.waiting i j) + length (posts_made i j made before)
 
 -- what it was told so far is what it was told alone
-pub record IsAlone (w : World) (i : ℕ) (made : List (Option Name)) (s : Told) (r : Replayed) : Type 0 where
+pub record IsAlone {sli : ℕ} (w : World sli) (i : ℕ) (made : List (Option Name)) (s : Told) (r : Replayed sli) : Type 0 where
   pub names : r.made ≡ s.made
   pub entries : r.entries ≡ s.entries
   pub heap : heap_in r.world i ≡ s.heap
@@ -269,18 +269,18 @@ one_post i made target name e is known =
     rw (is, told_own f i x refl, post) refl
 
 -- the entry that a call adds, as it stands in the script's record
-abbrev next_entry : ℕ → List (Option Name) → World → Call → Entry
+abbrev next_entry : {sli : ℕ} → ℕ → List (Option Name) → World sli → Call → Entry
 next_entry i made x call = record { worker = i; call = call; reply = (reply_to made x i call).reply }
 
 -- the lane is full in the race where it is full alone
-same_room : (w : World) (i : ℕ) (z s : Told) (x y : World) (target : Target) (name : Name) (rest : List Entry) → HasLanes w i z.made z.entries
+same_room : {sli : ℕ} (w : World sli) (i : ℕ) (z s : Told) (x y : World sli) (target : Target) (name : Name) (rest : List Entry) → HasLanes w i z.made z.entries
     → y.capacity ≡ w.capacity → ((j : ℕ) → y.waiting i j ≡ w.waiting i j ++ posts_made i j z.made s.entries)
     → name_of s.made target ≡ Some name → name_of z.made target ≡ Some name → name.heap ≢ i → name.heap < length w.heaps → name.heap < length x.heaps
     → z.entries ≡ s.entries ++ (next_entry i s.made x (Release target) ∷ rest) → SameRoom i x y name
-same_room w i z s x y target name rest lanes capacity waits known later ne lt near whole =
+same_room {sli} w i z s x y target name rest lanes capacity waits known later ne lt near whole =
     let j = name.heap in
     let e = next_entry i s.made x (Release target) in
-    let replied : e.reply ≡ (posting x i name).reply = ap (λ o. (releasing_named x i o).reply) known ∙ ap (λ (r : Replied). r.reply) (releasing_post x i name ne near) in
+    let replied : e.reply ≡ (posting x i name).reply = ap (λ o. (releasing_named x i o).reply) known ∙ ap (λ (r : Replied sli). r.reply) (releasing_post x i name ne near) in
     let apart : i ≢ j = λ q. ne (sym q) in
     let made = posts_made i j z.made in
     let held : length (y.waiting i j) ≡ length (w.waiting i j) + length (made s.entries) = ap length (waits j) ∙ length-append (w.waiting i j) (made s.entries) in
@@ -297,20 +297,20 @@ same_room w i z s x y target name rest lanes capacity waits known later ne lt ne
           absurd (omega (arith, held, count, most, one, capacity, q)),
     )
 
-alone_step : (w : World) (i : ℕ) (z s u : Told) (call : Call) (calls : List Call) (r : Replayed) → HasLanes w i z.made z.entries → i < length w.heaps → TakesNoPost call
-    → MayTell (length w.heaps) i s call u → MayTellAll (length w.heaps) i u calls z → IsAlone w i z.made s r → IsAlone w i z.made u (called r i call)
-alone_step w i z s u call calls r lanes i_in free m later a =
+alone_step : {sli : ℕ} (w : World sli) (i : ℕ) (z s u : Told) (call : Call) (calls : List Call) (r : Replayed sli) → HasLanes w i z.made z.entries → i < length w.heaps → TakesNoPost call
+    → MayTell sli (length w.heaps) i s call u → MayTellAll sli (length w.heaps) i u calls z → IsAlone w i z.made s r → IsAlone w i z.made u (called r i call)
+alone_step {sli} w i z s u call calls r lanes i_in free m later a =
     let n = length w.heaps in
     let x = m.0 in
     let q = at_call s x in
     let first = called_is r i call free in
     let second = called_is q i call free in
-    let rest = grown n i u z calls i_in later in
+    let rest = grown sli n i u z calls i_in later in
     let e = next_entry i s.made x call in
-    let told_entries : u.entries ≡ s.entries ++ e ∷ [] = sym (ap (λ (t : Told). t.entries) m.2) ∙ ap (λ (v : Replayed). v.entries) second in
+    let told_entries : u.entries ≡ s.entries ++ e ∷ [] = sym (ap (λ (t : Told). t.entries) m.2) ∙ ap (λ (v : Replayed sli). v.entries) second in
     let whole : z.entries ≡ s.entries ++ (e ∷ rest.0) = rest.1 ∙ (ap (λ l. l ++ rest.0) told_entries ∙ append_assoc s.entries (e ∷ []) rest.0) in
-    let known = knows_all n i u z calls later in
-    let before : (target : Target) (name : Name) → name_of s.made target ≡ Some name → name_of z.made target ≡ Some name = λ target name found. known target name (knows_one n i s u call m target name found) in
+    let known = knows_all sli n i u z calls later in
+    let before : (target : Target) (name : Name) → name_of s.made target ≡ Some name → name_of z.made target ≡ Some name = λ target name found. known target name (knows_one sli n i s u call m target name found) in
     let alike : Alike n i x r.world = record { at_in = i_in; here = m.1.0; there = a.count; heap = m.1.1 ∙ sym a.heap } in
     let room = room_for w i z s x r call rest.0 lanes i_in m.1.0 a before whole in
     let same = same_reply n i s.made x r.world call free alike room in
@@ -334,7 +334,7 @@ alone_step w i z s u call calls r lanes i_in free m later a =
           ∙ ap (λ l. w.waiting i j ++ l) (sym (ap (posts_made i j z.made) added ∙ made_then i j z.made s.entries c.own))));
     }
   where
-    room_for : (w : World) (i : ℕ) (z s : Told) (x : World) (r : Replayed) (call : Call) (rest : List Entry) → HasLanes w i z.made z.entries → i < length w.heaps → length x.heaps ≡ length w.heaps
+    room_for : (w : World sli) (i : ℕ) (z s : Told) (x : World sli) (r : Replayed sli) (call : Call) (rest : List Entry) → HasLanes w i z.made z.entries → i < length w.heaps → length x.heaps ≡ length w.heaps
         → IsAlone w i z.made s r → ((target : Target) (name : Name) → name_of s.made target ≡ Some name → name_of z.made target ≡ Some name)
         → z.entries ≡ s.entries ++ (next_entry i s.made x call ∷ rest) → RoomFor s.made (length w.heaps) i x r.world call
     room_for w i z s x r (Allocate len) rest lanes i_in count a known whole = tt
@@ -347,8 +347,8 @@ alone_step w i z s u call calls r lanes i_in free m later a =
     room_for w i z s x r (Drain most) rest lanes i_in count a known whole = tt
 
 -- a whole script
-pub alone_runs : (w : World) (i : ℕ) (z s : Told) (calls : List Call) (r : Replayed) → HasLanes w i z.made z.entries → i < length w.heaps → AllByRecursion TakesNoPost calls
-    → MayTellAll (length w.heaps) i s calls z → IsAlone w i z.made s r → IsAlone w i z.made z (fold after r (events_by i calls))
+pub alone_runs : {sli : ℕ} (w : World sli) (i : ℕ) (z s : Told) (calls : List Call) (r : Replayed sli) → HasLanes w i z.made z.entries → i < length w.heaps → AllByRecursion TakesNoPost calls
+    → MayTellAll sli (length w.heaps) i s calls z → IsAlone w i z.made s r → IsAlone w i z.made z (fold after r (events_by i calls))
 alone_runs w i z s [] r lanes i_in free m a = subst (λ t. IsAlone w i z.made t r) (sym m) a
 alone_runs w i z s (call ∷ calls) r lanes i_in free m a =
     subst (λ v. IsAlone w i z.made z (fold after v (events_by i calls))) (sym (after_near r (record { worker = i; call = call }) call (omega (arith, i_in, a.count)) refl))

@@ -33,7 +33,7 @@ use Rattle.tlsf_crew.proofs.lemmas.threads.TwoRecords.{drain_makes}
 use Rattle.tlsf_crew.proofs.lemmas.yard.Pending.{same_sum}
 
 -- what such a drain leaves
-pub last_out : (ws : List Worker) (es : List Entry) (at : ℕ) → IsYard ws → HasFew ws at
+pub last_out : {sli : ℕ} (ws : List (Worker sli)) (es : List Entry) (at : ℕ) → IsYard ws → HasFew ws at
     → LanesOut at (length ws) (drain_of es ws 0) (after_drain at 8192 (drain_of es ws 0))
 unfolding world_of
 last_out ws es at yard few =
@@ -43,7 +43,7 @@ last_out ws es at yard few =
     let le : waits_below at d (length ws) ≤ 8192 = omega (arith, yard.few) in
     subst (λ (m : ℕ). LanesOut at m d (after_drain at 8192 d)) n (all_out at 8192 d (rw n (omega arith)))
 
-pub last_drain_fits : (ws : List Worker) (es : List Entry) (at : ℕ) → IsYard ws → HasFew ws at
+pub last_drain_fits : {sli : ℕ} (ws : List (Worker sli)) (es : List Entry) (at : ℕ) → IsYard ws → HasFew ws at
     → length (after_drain at 8192 (drain_of es ws 0)).entries ≤ length es + sum_below 8 (λ i. length (waits_in ws i at))
 unfolding world_of
 last_drain_fits ws es at yard few =
@@ -52,7 +52,7 @@ last_drain_fits ws es at yard few =
     omega arith
 
 -- the event of the last drain, and what it is told
-last_replied : (ws vs : List Worker) (made : List (Option Name)) (es fs : List Entry) (at : ℕ) (reply : Reply) → at < length ws
+last_replied : {sli : ℕ} (ws vs : List (Worker sli)) (made : List (Option Name)) (es fs : List Entry) (at : ℕ) (reply : Reply) → at < length ws
     → IsReplied (replay_of made es ws) (record { worker = at; call = last_call }) fs vs reply
     → draining (replay_of made es ws) at 8192 ≡ replay_of (made ++ made_by reply ∷ []) (fs ++ record { worker = at; call = last_call; reply = reply } ∷ []) vs
 last_replied ws vs made es fs at reply lt told =
@@ -60,34 +60,34 @@ last_replied ws vs made es fs at reply lt told =
     let event : Event = record { worker = at; call = last_call } in
     sym (after_near (replay_of made es ws) event last_call (omega arith) refl) ∙ told.after
 
-pub last_fits : (ws vs : List Worker) (made : List (Option Name)) (es fs : List Entry) (at : ℕ) (reply : Reply) → IsYard ws → HasFew ws at → at < length ws
+pub last_fits : {sli : ℕ} (ws vs : List (Worker sli)) (made : List (Option Name)) (es fs : List Entry) (at : ℕ) (reply : Reply) → IsYard ws → HasFew ws at → at < length ws
     → IsReplied (replay_of made es ws) (record { worker = at; call = last_call }) fs vs reply → length fs ≤ length es + sum_below 8 (λ i. length (waits_in ws i at))
 unfolding draining
-last_fits ws vs made es fs at reply yard few lt told =
+last_fits {sli} ws vs made es fs at reply yard few lt told =
     let d = after_drain at 8192 (drain_of es ws 0) in
     let last : Entry = record { worker = at; call = last_call; reply = Drained d.taken } in
     let entry : Entry = record { worker = at; call = last_call; reply = reply } in
-    let e : d.entries ++ last ∷ [] ≡ fs ++ entry ∷ [] = ap (λ (x : Replayed). x.entries) (last_replied ws vs made es fs at reply lt told) in
+    let e : d.entries ++ last ∷ [] ≡ fs ++ entry ∷ [] = ap (λ (x : Replayed sli). x.entries) (last_replied ws vs made es fs at reply lt told) in
     let a = sym (length-append d.entries (last ∷ [])) ∙ (ap length e ∙ length-append fs (entry ∷ [])) in
     let b = last_drain_fits ws es at yard few in
     omega arith
 
-pub last_told : (ws vs : List Worker) (es fs : List Entry) (at : ℕ) (reply : Reply) → at < length ws → IsReplied (replay_of [] es ws) (record { worker = at; call = last_call }) fs vs reply
+pub last_told : {sli : ℕ} (ws vs : List (Worker sli)) (es fs : List Entry) (at : ℕ) (reply : Reply) → at < length ws → IsReplied (replay_of [] es ws) (record { worker = at; call = last_call }) fs vs reply
     → (made : List (Option Name)) → replay_of (made ++ None ∷ []) (fs ++ record { worker = at; call = last_call; reply = reply } ∷ []) vs ≡ called (replay_of made es ws) at last_call
 unfolding draining
-last_told ws vs es fs at reply lt told made =
+last_told {sli} ws vs es fs at reply lt told made =
     let d = after_drain at 8192 (drain_of es ws 0) in
     let last : Entry = record { worker = at; call = last_call; reply = Drained d.taken } in
     let entry : Entry = record { worker = at; call = last_call; reply = reply } in
     let all = last_replied ws vs [] es fs at reply lt told in
-    let e : d.entries ++ last ∷ [] ≡ fs ++ entry ∷ [] = ap (λ (x : Replayed). x.entries) all in
-    let w : d.world ≡ world_of vs = ap (λ (x : Replayed). x.world) all in
+    let e : d.entries ++ last ∷ [] ≡ fs ++ entry ∷ [] = ap (λ (x : Replayed sli). x.entries) all in
+    let w : d.world ≡ world_of vs = ap (λ (x : Replayed sli). x.world) all in
     sym (λ k. record { made = made ++ None ∷ []; entries = e k; world = w k })
 
 -- ---- one drain
 
 -- worker j took all, and nothing else changed
-pub record OneDrained (ws vs : List Worker) (j : ℕ) (es fs : List Entry) : Type 0 where
+pub record OneDrained {sli : ℕ} (ws vs : List (Worker sli)) (j : ℕ) (es fs : List Entry) : Type 0 where
   pub last : LastTold ws vs j es fs
   pub yard : IsYard vs
   pub count : length vs ≡ length ws
@@ -96,26 +96,26 @@ pub record OneDrained (ws vs : List Worker) (j : ℕ) (es fs : List Entry) : Typ
   pub waits : (i y : ℕ) → y ≢ j → waits_in vs i y ≡ waits_in ws i y
   pub heaps : (y : ℕ) → y ≢ j → yard_heap vs y ≡ yard_heap ws y
 
-abbrev TellsLast : List Worker → List Worker → ℕ → List Entry → List Entry → Type 0
+abbrev TellsLast : {sli : ℕ} → List (Worker sli) → List (Worker sli) → ℕ → List Entry → List Entry → Type 0
 TellsLast ws vs j es fs = (made : List (Option Name)) → replay_of (made ++ None ∷ []) fs vs ≡ draining (replay_of made es ws) j 8192
 
-waits_of : (w : World) (vs : List Worker) → world_of vs ≡ w → (i j : ℕ) → waits_in vs i j ≡ w.waiting i j
+waits_of : {sli : ℕ} (w : World sli) (vs : List (Worker sli)) → world_of vs ≡ w → (i j : ℕ) → waits_in vs i j ≡ w.waiting i j
 unfolding world_of
-waits_of w vs e i j = ap (λ (x : World). x.waiting i j) e
+waits_of {sli} w vs e i j = ap (λ (x : World sli). x.waiting i j) e
 
-heap_of_world : (w : World) (vs : List Worker) → world_of vs ≡ w → (j : ℕ) → yard_heap vs j ≡ get_or w.heaps j (yard_heap [] 0)
+heap_of_world : {sli : ℕ} (w : World sli) (vs : List (Worker sli)) → world_of vs ≡ w → (j : ℕ) → yard_heap vs j ≡ get_or w.heaps j (yard_heap {sli = sli} [] 0)
 unfolding world_of
-heap_of_world w vs e j = ap (λ (x : World). get_or x.heaps j (yard_heap [] 0)) e
+heap_of_world {sli} w vs e j = ap (λ (x : World sli). get_or x.heaps j (yard_heap {sli = sli} [] 0)) e
 
-capacity_of_world : (w : World) (vs : List Worker) → world_of vs ≡ w → capacity_in vs ≡ w.capacity
+capacity_of_world : {sli : ℕ} (w : World sli) (vs : List (Worker sli)) → world_of vs ≡ w → capacity_in vs ≡ w.capacity
 unfolding world_of
-capacity_of_world w vs e = ap (λ (x : World). x.capacity) e
+capacity_of_world {sli} w vs e = ap (λ (x : World sli). x.capacity) e
 
-may_tell_last : (ws vs : List Worker) (j : ℕ) (es fs : List Entry) (made : List (Option Name)) → replay_of (made ++ None ∷ []) fs vs ≡ draining (replay_of made es ws) j 8192
-    → MayTell (length ws) j (record { made = made; entries = es; heap = yard_heap ws j }) last_call (record { made = made ++ None ∷ []; entries = fs; heap = yard_heap vs j })
+may_tell_last : {sli : ℕ} (ws vs : List (Worker sli)) (j : ℕ) (es fs : List Entry) (made : List (Option Name)) → replay_of (made ++ None ∷ []) fs vs ≡ draining (replay_of made es ws) j 8192
+    → MayTell sli (length ws) j (record { made = made; entries = es; heap = yard_heap ws j }) last_call (record { made = made ++ None ∷ []; entries = fs; heap = yard_heap vs j })
 unfolding world_of
-may_tell_last ws vs j es fs made e =
-    (world_of ws, (heaps_count ws, refl), ap (λ (r : Replayed). record { made = r.made; entries = r.entries; heap = get_or r.world.heaps j (yard_heap [] 0) }) (sym e))
+may_tell_last {sli} ws vs j es fs made e =
+    (world_of ws, (heaps_count ws, refl), ap (λ (r : Replayed sli). record { made = r.made; entries = r.entries; heap = get_or r.world.heaps j (yard_heap {sli = sli} [] 0) }) (sym e))
 
 nobody_takes : (o : Option PostEnd) (t : Option TakeEnd) → t ≡ None → lane_waits o t ≡ []
 nobody_takes None t e = refl
@@ -125,28 +125,28 @@ nothing_left : (ps qs ms : List Post) (waits : List Post) → waits ++ ms ≡ ps
 nothing_left ps qs ms waits e m q = sym (append-nil ps) ∙ (ap (λ l. ps ++ l) (sym q) ∙ (sym e ∙ (ap (λ l. waits ++ l) m ∙ append-nil waits)))
 
 -- no lane goes from a worker to itself, or from one that isn't there
-pub none_wait : (ws : List Worker) (i j : ℕ) → IsYard ws → (i ≢ j → length ws ≤ i) → waits_in ws i j ≡ []
+pub none_wait : {sli : ℕ} (ws : List (Worker sli)) (i j : ℕ) → IsYard ws → (i ≢ j → length ws ≤ i) → waits_in ws i j ≡ []
 none_wait ws i j yard far =
     elim (cases_eq i j) [
       | inl e ↦ rw (e, (yard.alone j).0) refl
       | inr ne ↦ nobody_takes (post_at ws i j) (take_at ws i j) (yard.outside j i (far ne)).1
     ]
 
-pub none_for : (ws : List Worker) (i j : ℕ) → IsYard ws → length ws ≤ j → waits_in ws i j ≡ []
+pub none_for : {sli : ℕ} (ws : List (Worker sli)) (i j : ℕ) → IsYard ws → length ws ≤ j → waits_in ws i j ≡ []
 none_for ws i j yard far = rw (yard.outside i j far).0 refl
 
-pub one_drained : (ws vs : List Worker) (j : ℕ) (es fs : List Entry) → IsYard ws → j < length ws → HasFew ws j → IsYard vs → TellsLast ws vs j es fs → OneDrained ws vs j es fs
+pub one_drained : {sli : ℕ} (ws vs : List (Worker sli)) (j : ℕ) (es fs : List Entry) → IsYard ws → j < length ws → HasFew ws j → IsYard vs → TellsLast ws vs j es fs → OneDrained ws vs j es fs
 unfolding world_of draining
-one_drained ws vs j es fs yard j_in few after tells =
+one_drained {sli} ws vs j es fs yard j_in few after tells =
     let d = drain_of es ws 0 in
     let b = after_drain j 8192 d in
-    let r : Replayed = replay_of [] es ws in
+    let r : Replayed sli = replay_of [] es ws in
     let n = heaps_count ws in
     let out = last_out ws es j yard few in
-    let world : world_of vs ≡ b.world = ap (λ (x : Replayed). x.world) (tells []) in
+    let world : world_of vs ≡ b.world = ap (λ (x : Replayed sli). x.world) (tells []) in
     let told = drain_told [] r j 8192 (omega arith) in
     let h = told.history in
-    let len : length vs ≡ length ws = sym (heaps_count vs) ∙ (ap (λ (x : World). length x.heaps) world ∙ (h.count ∙ n)) in
+    let len : length vs ≡ length ws = sym (heaps_count vs) ∙ (ap (λ (x : World sli). length x.heaps) world ∙ (h.count ∙ n)) in
     let empty : (i : ℕ) → waits_in vs i j ≡ [] = λ i. elim (cases_lt i (length ws)) [
       | inl lt ↦ elim (cases_eq i j) [ inl e ↦ none_wait vs i j after (λ ne. absurd (ne e)) | inr ne ↦ waits_of b.world vs world i j ∙ out.empty i lt ne ]
       | inr ge ↦ none_wait vs i j after (λ _. omega arith)
@@ -154,7 +154,7 @@ one_drained ws vs j es fs yard j_in few after tells =
     record {
       last = record {
         own = told.own;
-        entries = ap (λ (x : Replayed). x.entries) (tells []) ∙ told.entries;
+        entries = ap (λ (x : Replayed sli). x.entries) (tells []) ∙ told.entries;
         is_drain = told.tells.1;
         posts = λ i. nothing_left (posts_taken i j told.own) (b.world.waiting i j) (posts_made i j [] told.own) (waits_in ws i j) (h.posts i j)
             (drain_makes i j j 8192 [] told.own told.tells.1) (sym (waits_of b.world vs world i j) ∙ empty i);
@@ -170,7 +170,7 @@ one_drained ws vs j es fs yard j_in few after tells =
 
 -- ---- drain after drain
 
-told_along : (ws vs us : List Worker) (j : ℕ) (es fs : List Entry) → yard_heap us j ≡ yard_heap vs j → LastTold ws vs j es fs → LastTold ws us j es fs
+told_along : {sli : ℕ} (ws vs us : List (Worker sli)) (j : ℕ) (es fs : List Entry) → yard_heap us j ≡ yard_heap vs j → LastTold ws vs j es fs → LastTold ws us j es fs
 told_along ws vs us j es fs e t = record {
   own = t.own;
   entries = t.entries;
@@ -179,7 +179,7 @@ told_along ws vs us j es fs e t = record {
   told = λ made. rw e (t.told made);
 }
 
-told_first : (ws vs us : List Worker) (j : ℕ) (es fs : List Entry) → length vs ≡ length ws → yard_heap vs j ≡ yard_heap ws j → ((i : ℕ) → waits_in vs i j ≡ waits_in ws i j)
+told_first : {sli : ℕ} (ws vs us : List (Worker sli)) (j : ℕ) (es fs : List Entry) → length vs ≡ length ws → yard_heap vs j ≡ yard_heap ws j → ((i : ℕ) → waits_in vs i j ≡ waits_in ws i j)
     → LastTold vs us j es fs → LastTold ws us j es fs
 told_first ws vs us j es fs len heap waits t = record {
   own = t.own;
@@ -189,7 +189,7 @@ told_first ws vs us j es fs len heap waits t = record {
   told = λ made. rw (sym len, sym heap) (t.told made);
 }
 
-pub last_step : (ws vs us : List Worker) (rs ss : List (List Entry)) (j : ℕ) (fs : List Entry) → LastDrained ws rs ss vs j → j < length ss
+pub last_step : {sli : ℕ} (ws vs us : List (Worker sli)) (rs ss : List (List Entry)) (j : ℕ) (fs : List Entry) → LastDrained ws rs ss vs j → j < length ss
     → record_of ss j ≡ record_of rs j → OneDrained vs us j (record_of ss j) fs → LastDrained ws rs (set ss j fs) us (j + 1)
 last_step ws vs us rs ss j fs a j_in same one = record {
   yard = one.yard;
@@ -220,7 +220,7 @@ pub record_items : (rs : List (Vec Entry Global)) (j : ℕ) (r : Vec Entry Globa
 record_items rs j r e = get_or_from_slice_get (items_of rs) j r.items [] (slice_get-map (λ (x : Vec Entry Global). x.items) rs j ∙ ap (option_map (λ (x : Vec Entry Global). x.items)) e)
 
 -- the next worker is drained
-pub drain_next : (ws vs us : List Worker) (rs ss : List (Vec Entry Global)) (j : ℕ) (r new : Vec Entry Global) → LastDrained ws (items_of rs) (items_of ss) vs j
+pub drain_next : {sli : ℕ} (ws vs us : List (Worker sli)) (rs ss : List (Vec Entry Global)) (j : ℕ) (r new : Vec Entry Global) → LastDrained ws (items_of rs) (items_of ss) vs j
     → HasFew ws j → j < length ws → slice_get ss j ≡ Some r → slice_get rs j ≡ Some r → IsYard us → TellsLast vs us j r.items new.items
     → LastDrained ws (items_of rs) (items_of (set ss j new)) us (j + 1)
 drain_next ws vs us rs ss j r new a few j_in here there after tells =
@@ -233,7 +233,7 @@ drain_next ws vs us rs ss j r new a few j_in here there after tells =
     (last_step ws vs us (items_of rs) (items_of ss) j new.items a within (at ∙ sym before) (rw at one))
 
 -- it has the room for it
-pub room_next : (ws vs : List Worker) (rs ss : List (List Entry)) (j : ℕ) (r : Vec Entry Global) → LastDrained ws rs ss vs j → HasLastRoom ws j r → HasLastRoom vs j r
+pub room_next : {sli : ℕ} (ws vs : List (Worker sli)) (rs ss : List (List Entry)) (j : ℕ) (r : Vec Entry Global) → LastDrained ws rs ss vs j → HasLastRoom ws j r → HasLastRoom vs j r
 room_next ws vs rs ss j r a room =
     let s = same_sum 8 (λ i. length (waits_in ws i j)) (λ i. length (waits_in vs i j)) (λ i _. ap length (a.later_waits i j (omega arith))) in
     omega arith

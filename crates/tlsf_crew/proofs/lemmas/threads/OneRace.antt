@@ -21,23 +21,23 @@ use Rattle.tlsf_crew.specs.threads.Alone.{OnlyLastDrains, alone, RaceIsOne, Take
 -- ---- what one worker was told
 
 -- its script, and then its last drain
-pub record Turn (w : World) (i : ℕ) (script : List Call) (end : Told) : Type 0 where
+pub record Turn {sli : ℕ} (w : World sli) (i : ℕ) (script : List Call) (end : Told) : Type 0 where
   pub between : Told
-  pub ran : MayTellAll (length w.heaps) i (untold (heap_in w i)) script between
-  pub last : LastDrain (length w.heaps) i between end
+  pub ran : MayTellAll sli (length w.heaps) i (untold (heap_in w i)) script between
+  pub last : LastDrain sli (length w.heaps) i between end
 
 -- what worker j was told at the end of a race
-abbrev pub told_in : (w v : World) (scripts : List (List Call)) (records : List (List Entry)) → IsRace w scripts records v → ℕ → Told
+abbrev pub told_in : {sli : ℕ} (w v : World sli) (scripts : List (List Call)) (records : List (List Entry)) → IsRace w scripts records v → ℕ → Told
 told_in w v scripts records race j = record { made = race.made j; entries = record_of records j; heap = heap_in v j }
 
-pub turn_of : (w v : World) (scripts : List (List Call)) (records : List (List Entry)) (race : IsRace w scripts records v) (j : ℕ) → j < length w.heaps
+pub turn_of : {sli : ℕ} (w v : World sli) (scripts : List (List Call)) (records : List (List Entry)) (race : IsRace w scripts records v) (j : ℕ) → j < length w.heaps
     → Turn w j (script_of scripts j) (told_in w v scripts records race j)
 turn_of w v scripts records race j j_in =
     let l = race.legal j j_in in
     record { between = l.between; ran = l.script; last = last_drain (length w.heaps) j l.between (told_in w v scripts records race j) j_in l.last }
 
 -- its posts are those of its script
-own_posts : (w : World) (i j : ℕ) (script : List Call) (end : Told) (t : Turn w i script end) → posts_made i j end.made end.entries ≡ posts_made i j (t.between).made (t.between).entries
+own_posts : {sli : ℕ} (w : World sli) (i j : ℕ) (script : List Call) (end : Told) (t : Turn w i script end) → posts_made i j end.made end.entries ≡ posts_made i j (t.between).made (t.between).entries
 own_posts w i j script end t =
     let z = t.between in
     let d = t.last in
@@ -46,17 +46,17 @@ own_posts w i j script end t =
     ∙ (ap (λ l. posts_made i j longer z.entries ++ l) (drain_makes i j i 8192 longer d.own d.is_drain) ∙ (append-nil (posts_made i j longer z.entries) ∙ each_post_same i j z.made z.entries))))
 
 -- what it took, it took in its last drain
-last_takes : (w : World) (i j : ℕ) (script : List Call) (end : Told) (t : Turn w j script end) → j < length w.heaps → AllByRecursion TakesNoPost script
+last_takes : {sli : ℕ} (w : World sli) (i j : ℕ) (script : List Call) (end : Told) (t : Turn w j script end) → j < length w.heaps → AllByRecursion TakesNoPost script
     → posts_taken i j end.entries ≡ posts_taken i j (t.last).own
-last_takes w i j script end t j_in free =
+last_takes {sli} w i j script end t j_in free =
     let z = t.between in
-    let none = none_taken (length w.heaps) i j j (untold (heap_in w j)) z script j_in free t.ran refl in
+    let none = none_taken sli (length w.heaps) i j j (untold (heap_in w j)) z script j_in free t.ran refl in
     ap (posts_taken i j) (t.last).entries ∙ (taken_then i j z.entries (t.last).own ∙ ap (λ l. l ++ posts_taken i j (t.last).own) none)
 
 -- ---- one race
 
 -- what worker j took from worker i in its last drain: all that had waited, and all that i posted
-pub drained : (w v : World) (scripts : List (List Call)) (records : List (List Entry)) (race : IsRace w scripts records v) → OnlyLastDrains scripts → (i j : ℕ) (i_in : i < length w.heaps) (j_in : j < length w.heaps) → i ≢ j
+pub drained : {sli : ℕ} (w v : World sli) (scripts : List (List Call)) (records : List (List Entry)) (race : IsRace w scripts records v) → OnlyLastDrains scripts → (i j : ℕ) (i_in : i < length w.heaps) (j_in : j < length w.heaps) → i ≢ j
     → posts_taken i j ((turn_of w v scripts records race j j_in).last).own
     ≡ w.waiting i j ++ posts_made i j ((turn_of w v scripts records race i i_in).between).made ((turn_of w v scripts records race i i_in).between).entries
 drained w v scripts records race free i j i_in j_in ne =
@@ -65,7 +65,7 @@ drained w v scripts records race free i j i_in j_in ne =
     sym (last_takes w i j (script_of scripts j) (told_in w v scripts records race j) u j_in (free j)) ∙ (sym (race.agree i j i_in j_in ne).posts
     ∙ ap (λ l. w.waiting i j ++ l) (own_posts w i j (script_of scripts i) (told_in w v scripts records race i) t))
 
-lanes_of : (w v : World) (scripts : List (List Call)) (records : List (List Entry)) (race : IsRace w scripts records v) → OnlyLastDrains scripts → (i : ℕ) (i_in : i < length w.heaps)
+lanes_of : {sli : ℕ} (w v : World sli) (scripts : List (List Call)) (records : List (List Entry)) (race : IsRace w scripts records v) → OnlyLastDrains scripts → (i : ℕ) (i_in : i < length w.heaps)
     → HasLanes w i ((turn_of w v scripts records race i i_in).between).made ((turn_of w v scripts records race i i_in).between).entries
 unfolding turn_of
 lanes_of w v scripts records race free i i_in =
@@ -91,7 +91,7 @@ lanes_of w v scripts records race free i i_in =
           omega arith;
     }
 
-pub told_alone : (w v : World) (scripts : List (List Call)) (records : List (List Entry)) (race : IsRace w scripts records v) → OnlyLastDrains scripts → (i : ℕ) (i_in : i < length w.heaps)
+pub told_alone : {sli : ℕ} (w v : World sli) (scripts : List (List Call)) (records : List (List Entry)) (race : IsRace w scripts records v) → OnlyLastDrains scripts → (i : ℕ) (i_in : i < length w.heaps)
     → IsAlone w i ((turn_of w v scripts records race i i_in).between).made (turn_of w v scripts records race i i_in).between (alone w scripts i)
 unfolding replies
 told_alone w v scripts records race free i i_in =
@@ -99,7 +99,7 @@ told_alone w v scripts records race free i i_in =
     alone_runs w i t.between (untold (heap_in w i)) (script_of scripts i) (begun w) (lanes_of w v scripts records race free i i_in) i_in (free i) t.ran
     (record { names = refl; entries = refl; heap = refl; count = refl; capacity = refl; waits = λ j. sym (append-nil (w.waiting i j)) })
 
-alone_is : (w v : World) (scripts : List (List Call)) (records : List (List Entry)) (race : IsRace w scripts records v) → OnlyLastDrains scripts → (i : ℕ) (i_in : i < length w.heaps)
+alone_is : {sli : ℕ} (w v : World sli) (scripts : List (List Call)) (records : List (List Entry)) (race : IsRace w scripts records v) → OnlyLastDrains scripts → (i : ℕ) (i_in : i < length w.heaps)
     → told_by i (alone w scripts i) ≡ (turn_of w v scripts records race i i_in).between
 alone_is w v scripts records race free i i_in =
     let a = told_alone w v scripts records race free i i_in in
@@ -110,7 +110,7 @@ alone_is w v scripts records race free i i_in =
 
 -- ---- two races
 
-told_same : (w v u : World) (scripts : List (List Call)) (records others : List (List Entry)) (race : IsRace w scripts records v) (other : IsRace w scripts others u) → OnlyLastDrains scripts → (j : ℕ) → j < length w.heaps
+told_same : {sli : ℕ} (w v u : World sli) (scripts : List (List Call)) (records others : List (List Entry)) (race : IsRace w scripts records v) (other : IsRace w scripts others u) → OnlyLastDrains scripts → (j : ℕ) → j < length w.heaps
     → told_in w v scripts records race j ≡ told_in w u scripts others other j
 told_same w v u scripts records others race other free j j_in =
     let n = length w.heaps in
@@ -123,8 +123,8 @@ told_same w v u scripts records others race other free j j_in =
     (λ i i_in ne. drained w v scripts records race free i j i_in j_in ne
     ∙ (ap (λ (t : Told). w.waiting i j ++ posts_made i j t.made t.entries) (same i i_in) ∙ sym (drained w u scripts others other free i j i_in j_in ne)))
 
-pub race_is_one : RaceIsOne
-race_is_one w v u scripts records others free race other =
+pub race_is_one : (sli : ℕ) → RaceIsOne sli
+race_is_one sli w v u scripts records others free race other =
     let same = told_same w v u scripts records others race other free in (
       ext_get_or [] records others (race.records ∙ sym other.records) (λ j lt. ap (λ (t : Told). t.entries) (same j (omega (arith, lt, race.records)))),
       same_world v u

@@ -33,7 +33,7 @@ keeps_set rs ss j r s keep lt is same k v there =
     ]
 
 -- what is ready for worker j in a settled yard is what waits for it
-known_from : (ws vs : List Worker) (i j : ℕ) (a : Worker) → length vs ≡ length ws → HaveMet ws vs → IsYard vs → slice_get vs j ≡ Some a
+known_from : {sli : ℕ} (ws vs : List (Worker sli)) (i j : ℕ) (a : Worker sli) → length vs ≡ length ws → HaveMet ws vs → IsYard vs → slice_get vs j ≡ Some a
     → ready_from a i ≡ length ((world_of vs).waiting i j)
 unfolding world_of
 known_from ws vs i j a len met yard is =
@@ -47,14 +47,14 @@ known_from ws vs i j a len met yard is =
           omega arith
     ]
 
-pub record_rooms : (zs ws : List Worker) (scripts : List (List Call)) (records ss : List (Vec Entry Global)) → length ws ≡ length zs → HaveMet zs ws → IsYard ws → world_of ws ≡ world_of zs
+pub record_rooms : {sli : ℕ} (zs ws : List (Worker sli)) (scripts : List (List Call)) (records ss : List (Vec Entry Global)) → length ws ≡ length zs → HaveMet zs ws → IsYard ws → world_of ws ≡ world_of zs
     → length records ≡ length ws → HaveRooms ws scripts records → KeepRooms records ss → HaveRecordRooms (world_of zs) scripts ss
-record_rooms zs ws scripts records ss len met yard same count rooms keep j s there =
+record_rooms {sli} zs ws scripts records ss len met yard same count rooms keep j s there =
     let k = keep j s there in
     let j_in : j < length ws = let n = slice_get_within records j k.0 k.1 in omega arith in
     let found = found_at ws j j_in in
     let room = rooms j found.0 k.0 found.1 k.1 in
     let sums = same_sum 8 (λ i. length ((world_of zs).waiting i j) + releases_of (script_of scripts i)) (λ i. ready_from found.0 i + releases_of (script_of scripts i))
-    (λ i _. let e = known_from zs ws i j found.0 len met yard found.1 in let w = ap (λ (x : World). length (x.waiting i j)) same in omega arith) in
+    (λ i _. let e = known_from zs ws i j found.0 len met yard found.1 in let w = ap (λ (x : World sli). length (x.waiting i j)) same in omega arith) in
     let c = k.2 in
     omega arith

@@ -68,17 +68,17 @@ own_answer at from t es =
     told_then f at (take_entry at from t ∷ []) es ∙ ap (λ l. l ++ answers_on at es) (told_own f at (take_entry at from t) refl)
 
 -- a take and the rest, run on a heap
-pub record RanTake (h : HeapState) (at : ℕ) (made : List (Option Name)) (t : Took) (es : List Entry) (g : HeapState) : Type 0 where
+pub record RanTake (sli : ℕ) (h : HeapState) (at : ℕ) (made : List (Option Name)) (t : Took) (es : List Entry) (g : HeapState) : Type 0 where
   pub answer : t.answer ≡ (heap.released h t.name).answer
-  pub rest : RunsTo (heap.released h t.name).heap (calls_on at made es) (answers_on at es) g
+  pub rest : RunsTo sli (heap.released h t.name).heap (calls_on at made es) (answers_on at es) g
 
-pub ran_take : (h g : HeapState) (at from : ℕ) (made : List (Option Name)) (t : Took) (es : List Entry)
-    → RunsTo h (calls_on at made (take_entry at from t ∷ es)) (answers_on at (take_entry at from t ∷ es)) g → RanTake h at made t es g
-ran_take h g at from made t es run =
+pub ran_take : {sli : ℕ} (h g : HeapState) (at from : ℕ) (made : List (Option Name)) (t : Took) (es : List Entry)
+    → RunsTo sli h (calls_on at made (take_entry at from t ∷ es)) (answers_on at (take_entry at from t ∷ es)) g → RanTake sli h at made t es g
+ran_take {sli} h g at from made t es run =
     let calls = own_call at from made t es in
     let answers = own_answer at from t es in
-    let one : RunsTo h (heap.Release t.name ∷ calls_on at made es) (heap.Released t.answer ∷ answers_on at es) g
-    = subst (λ a. RunsTo h (heap.Release t.name ∷ calls_on at made es) a g) answers (subst (λ c. RunsTo h c (answers_on at (take_entry at from t ∷ es)) g) calls run) in
+    let one : RunsTo sli h (heap.Release t.name ∷ calls_on at made es) (heap.Released t.answer ∷ answers_on at es) g
+    = subst (λ a. RunsTo sli h (heap.Release t.name ∷ calls_on at made es) a g) answers (subst (λ c. RunsTo sli h c (answers_on at (take_entry at from t ∷ es)) g) calls run) in
     let told = one.told in
     record { answer = cc; rest = record { told = cc; left = one.left } }
 
@@ -92,17 +92,17 @@ record SameTakes (xs ys : List Entry) (g k : HeapState) : Type 0 where
   entries : xs ≡ ys
   left : g ≡ k
 
-abbrev Ran : HeapState → ℕ → List (Option Name) → List Entry → HeapState → Type 0
-Ran h at made es g = RunsTo h (calls_on at made es) (answers_on at es) g
+abbrev Ran : ℕ → HeapState → ℕ → List (Option Name) → List Entry → HeapState → Type 0
+Ran sli h at made es g = RunsTo sli h (calls_on at made es) (answers_on at es) g
 
-same_takes : (at low high : ℕ) (made : List (Option Name)) (h g k : HeapState) (xs ys : List Entry) → AreTakes at low xs → AreTakes at high ys
-    → ((i : ℕ) → posts_taken i at xs ≡ posts_taken i at ys) → Ran h at made xs g → Ran h at made ys k → SameTakes xs ys g k
-same_takes at low high made h g k [] [] a b same p q = record { entries = refl; left = sym p.left ∙ q.left }
-same_takes at low high made h g k [] (y ∷ ys) a b same p q =
+same_takes : (sli : ℕ) (at low high : ℕ) (made : List (Option Name)) (h g k : HeapState) (xs ys : List Entry) → AreTakes at low xs → AreTakes at high ys
+    → ((i : ℕ) → posts_taken i at xs ≡ posts_taken i at ys) → Ran sli h at made xs g → Ran sli h at made ys k → SameTakes xs ys g k
+same_takes sli at low high made h g k [] [] a b same p q = record { entries = refl; left = sym p.left ∙ q.left }
+same_takes sli at low high made h g k [] (y ∷ ys) a b same p q =
     absurd (some_post (post_of b.1) (posts_taken b.0 at ys) (same b.0 ∙ (ap (λ e. posts_taken b.0 at (e ∷ ys)) b.2 ∙ own_post at b.0 b.1 ys)))
-same_takes at low high made h g k (x ∷ xs) [] a b same p q =
+same_takes sli at low high made h g k (x ∷ xs) [] a b same p q =
     absurd (some_post (post_of a.1) (posts_taken a.0 at xs) (sym (same a.0) ∙ (ap (λ e. posts_taken a.0 at (e ∷ xs)) a.2 ∙ own_post at a.0 a.1 xs)))
-same_takes at low high made h g k (x ∷ xs) (y ∷ ys) a b same p q =
+same_takes sli at low high made h g k (x ∷ xs) (y ∷ ys) a b same p q =
     let first : (i : ℕ) → posts_taken i at (take_entry at a.0 a.1 ∷ xs) ≡ posts_taken i at (take_entry at b.0 b.1 ∷ ys)
     = λ i. sym (ap (λ e. posts_taken i at (e ∷ xs)) a.2) ∙ (same i ∙ ap (λ e. posts_taken i at (e ∷ ys)) b.2) in
     elim (cases_eq a.0 b.0) [
@@ -110,16 +110,16 @@ same_takes at low high made h g k (x ∷ xs) (y ∷ ys) a b same p q =
           let n = subst (λ (m : ℕ). posts_taken a.0 at (take_entry at a.0 a.1 ∷ xs) ≡ posts_taken a.0 at (take_entry at m b.1 ∷ ys)) (sym e) (first a.0) in
           let lists : post_of a.1 ∷ posts_taken a.0 at xs ≡ post_of b.1 ∷ posts_taken a.0 at ys = sym (own_post at a.0 a.1 xs) ∙ (n ∙ own_post at a.0 b.1 ys) in
           let post : post_of a.1 ≡ post_of b.1 = cc in
-          let c = ran_take h g at a.0 made a.1 xs (subst (λ e. Ran h at made (e ∷ xs) g) a.2 p) in
-          let d = ran_take h k at b.0 made b.1 ys (subst (λ e. Ran h at made (e ∷ ys) k) b.2 q) in
+          let c = ran_take h g at a.0 made a.1 xs (subst (λ e. Ran sli h at made (e ∷ xs) g) a.2 p) in
+          let d = ran_take h k at b.0 made b.1 ys (subst (λ e. Ran sli h at made (e ∷ ys) k) b.2 q) in
           let name : (a.1).name ≡ (b.1).name = ap (λ (p : Post). p.name) post in
           let took : a.1 ≡ b.1 = same_took a.1 b.1 post (c.answer ∙ (ap (λ n. (heap.released h n).answer) name ∙ sym d.answer)) in
           let rest : (i : ℕ) → posts_taken i at xs ≡ posts_taken i at ys = λ i. elim (cases_eq a.0 i) [
             | inl here ↦ let tails : posts_taken a.0 at xs ≡ posts_taken a.0 at ys = cc in subst (λ (m : ℕ). posts_taken m at xs ≡ posts_taken m at ys) here tails
             | inr ne ↦ sym (other_post at i a.0 a.1 xs ne) ∙ (first i ∙ other_post at i b.0 b.1 ys (λ f. ne (e ∙ f)))
           ] in
-          let more = same_takes at a.0 b.0 made (heap.released h (a.1).name).heap g k xs ys a.4 b.4 rest c.rest
-          (subst (λ (n : Name). Ran (heap.released h n).heap at made ys k) (sym name) d.rest) in
+          let more = same_takes sli at a.0 b.0 made (heap.released h (a.1).name).heap g k xs ys a.4 b.4 rest c.rest
+          (subst (λ (n : Name). Ran sli (heap.released h n).heap at made ys k) (sym name) d.rest) in
           record {
             entries = (λ z. a.2 z ∷ xs) ∙ ((λ z. take_entry at (e z) (took z) ∷ more.entries z) ∙ sym (λ z. b.2 z ∷ ys));
             left = more.left;
@@ -139,16 +139,16 @@ same_takes at low high made h g k (x ∷ xs) (y ∷ ys) a b same p q =
 
 -- ---- the lanes that a drain leaves alone
 
-more_apart : (at from x : ℕ) (ps : List Post) (d : Draining) → x ≢ from → (fold (took_more at from) d ps).world.waiting x at ≡ d.world.waiting x at
+more_apart : {sli : ℕ} (at from x : ℕ) (ps : List Post) (d : Draining sli) → x ≢ from → (fold (took_more at from) d ps).world.waiting x at ≡ d.world.waiting x at
 more_apart at from x [] d ne = refl
 more_apart at from x (p ∷ ps) d ne = more_apart at from x ps (took_more at from d p) ne ∙ edited_other d.world.waiting from at x at _ (λ e _. ne e)
 
-pub lane_apart : (at most from x : ℕ) (d : Draining) → x ≢ from → (drained_lane at most from d).world.waiting x at ≡ d.world.waiting x at
+pub lane_apart : {sli : ℕ} (at most from x : ℕ) (d : Draining sli) → x ≢ from → (drained_lane at most from d).world.waiting x at ≡ d.world.waiting x at
 unfolding drained_lane
 lane_apart at most from x d ne = more_apart at from x (take (most - d.taken) (d.world.waiting from at)) d ne
 
 -- its own lane, and those from workers past the last
-below_apart : (at most x : ℕ) (d : Draining) (k : ℕ) → (x ≢ at → k ≤ x) → (drained_below at most d k).world.waiting x at ≡ d.world.waiting x at
+below_apart : {sli : ℕ} (at most x : ℕ) (d : Draining sli) (k : ℕ) → (x ≢ at → k ≤ x) → (drained_below at most d k).world.waiting x at ≡ d.world.waiting x at
 below_apart at most x d zero far = refl
 below_apart at most x d (suc k) far =
     let b = drained_below at most d k in
@@ -158,7 +158,7 @@ below_apart at most x d (suc k) far =
       | inr ne ↦ rw (from_other at most b k ne) (lane_apart at most k x b (λ e. let le = far (λ f. ne (sym e ∙ f)) in absurd (omega arith)) ∙ below_apart at most x d k low)
     ]
 
-pub drain_apart : (r : Replayed) (at most x : ℕ) → (x ≢ at → length r.world.heaps ≤ x) → (draining r at most).world.waiting x at ≡ r.world.waiting x at
+pub drain_apart : {sli : ℕ} (r : Replayed sli) (at most x : ℕ) → (x ≢ at → length r.world.heaps ≤ x) → (draining r at most).world.waiting x at ≡ r.world.waiting x at
 unfolding draining after_drain
 drain_apart r at most x far = below_apart at most x (record { entries = r.entries; world = r.world; taken = 0 }) (length r.world.heaps) far
 
@@ -169,19 +169,19 @@ nothing_before (x ∷ xs) ys e = let n = ap length e in let m = length-append xs
 
 -- ---- the last drain of a worker
 
-pub record LastDrain (n at : ℕ) (z end : Told) : Type 0 where
+pub record LastDrain (sli : ℕ) (n at : ℕ) (z end : Told) : Type 0 where
   pub own : List Entry
   pub entries : end.entries ≡ z.entries ++ own
   pub names : end.made ≡ z.made ++ None ∷ []
   pub is_drain : IsDrain at 8192 own
-  pub run : Ran z.heap at z.made own end.heap
+  pub run : Ran sli z.heap at z.made own end.heap
   pub apart : (x : ℕ) → (x ≢ at → n ≤ x) → posts_taken x at own ≡ []
 
-pub last_drain : (n at : ℕ) (z end : Told) → at < n → MayTell n at z last_call end → LastDrain n at z end
-last_drain n at z end at_in m =
+pub last_drain : {sli : ℕ} (n at : ℕ) (z end : Told) → at < n → MayTell sli n at z last_call end → LastDrain sli n at z end
+last_drain {sli} n at z end at_in m =
     let x = m.0 in
     let count : length x.heaps ≡ n = m.1.0 in
-    let r : Replayed = record { made = z.made; entries = z.entries; world = x } in
+    let r : Replayed sli = record { made = z.made; entries = z.entries; world = x } in
     let c = drain_told z.made r at 8192 (omega (arith, at_in, count)) in
     let v = draining r at 8192 in
     record {
@@ -189,8 +189,8 @@ last_drain n at z end at_in m =
       entries = sym (ap (λ (t : Told). t.entries) m.2) ∙ c.entries;
       names = sym (ap (λ (t : Told). t.made) m.2) ∙ (c.names ∙ ap (λ name. z.made ++ name ∷ []) c.tells.0);
       is_drain = c.tells.1;
-      run = subst (λ h. Ran z.heap at z.made c.own h) (ap (λ (t : Told). t.heap) m.2)
-          (subst (λ h. Ran h at z.made c.own (heap_in v.world at)) m.1.1 (c.history.heaps at (omega (arith, at_in, count))));
+      run = subst (λ h. Ran sli z.heap at z.made c.own h) (ap (λ (t : Told). t.heap) m.2)
+          (subst (λ h. Ran sli h at z.made c.own (heap_in v.world at)) m.1.1 (c.history.heaps at (omega (arith, at_in, count))));
       apart = λ k far.
           let posts = c.history.posts k at in
           let same : v.world.waiting k at ≡ x.waiting k at = drain_apart r at 8192 k (λ ne. let le = far ne in omega (arith, le, count)) in
@@ -199,29 +199,29 @@ last_drain n at z end at_in m =
     }
 
 -- what had waited is what it took and what still waits
-pub last_posts : (n at : ℕ) (z end : Told) (at_in : at < n) (m : MayTell n at z last_call end) (x : ℕ)
+pub last_posts : (sli : ℕ) (n at : ℕ) (z end : Told) (at_in : at < n) (m : MayTell sli n at z last_call end) (x : ℕ)
     → (m.0).waiting x at ≡ posts_taken x at (last_drain n at z end at_in m).own ++ ((draining (record { made = z.made; entries = z.entries; world = m.0 }) at 8192).world).waiting x at
 unfolding last_drain
-last_posts n at z end at_in m x =
-    let r : Replayed = record { made = z.made; entries = z.entries; world = m.0 } in
+last_posts sli n at z end at_in m x =
+    let r : Replayed sli = record { made = z.made; entries = z.entries; world = m.0 } in
     let c = drain_told z.made r at 8192 (omega (arith, at_in, m.1.0)) in
     let waits = (m.0).waiting x at in
     sym (append-nil waits) ∙ (sym (ap (λ l. waits ++ l) (drain_makes x at at 8192 z.made c.own c.tells.1)) ∙ c.history.posts x at)
 
 -- the same behind what is the same
-abbrev pub drain_along : (n at : ℕ) (z y end : Told) → z ≡ y → LastDrain n at z end → LastDrain n at y end
-drain_along n at z y end e a = record {
+abbrev pub drain_along : {sli : ℕ} (n at : ℕ) (z y end : Told) → z ≡ y → LastDrain sli n at z end → LastDrain sli n at y end
+drain_along {sli} n at z y end e a = record {
   own = a.own;
   entries = a.entries ∙ ap (λ (t : Told). t.entries ++ a.own) e;
   names = a.names ∙ ap (λ (t : Told). t.made ++ None ∷ []) e;
   is_drain = a.is_drain;
-  run = subst (λ (t : Told). Ran t.heap at t.made a.own end.heap) e a.run;
+  run = subst (λ (t : Told). Ran sli t.heap at t.made a.own end.heap) e a.run;
   apart = a.apart;
 }
 
 -- the calls of a drain's takes are all that it makes
-drain_ran : (at : ℕ) (made : List (Option Name)) (h g : HeapState) (own : List Entry) (d : IsDrain at 8192 own) → Ran h at made own g → Ran h at made d.takes g
-drain_ran at made h g own d run =
+drain_ran : (sli : ℕ) (at : ℕ) (made : List (Option Name)) (h g : HeapState) (own : List Entry) (d : IsDrain at 8192 own) → Ran sli h at made own g → Ran sli h at made d.takes g
+drain_ran sli at made h g own d run =
     let last : Entry = record { worker = at; call = Drain 8192; reply = Drained (length d.takes) } in
     let f : Entry → Option heap.Call = λ e. call_on_own made e.worker e.call e.reply in
     let k : Entry → Option heap.Answer = λ e. answer_told e.call e.reply in
@@ -229,19 +229,19 @@ drain_ran at made h g own d run =
     = ap (calls_on at made) d.whole ∙ (told_then f at d.takes (last ∷ []) ∙ (ap (λ l. calls_on at made d.takes ++ l) (told_nothing f at last refl) ∙ append-nil (calls_on at made d.takes))) in
     let answers : answers_on at own ≡ answers_on at d.takes
     = ap (answers_on at) d.whole ∙ (told_then k at d.takes (last ∷ []) ∙ (ap (λ l. answers_on at d.takes ++ l) (told_nothing k at last refl) ∙ append-nil (answers_on at d.takes))) in
-    subst (λ a. RunsTo h (calls_on at made d.takes) a g) answers (subst (λ c. RunsTo h c (answers_on at own) g) calls run)
+    subst (λ a. RunsTo sli h (calls_on at made d.takes) a g) answers (subst (λ c. RunsTo sli h c (answers_on at own) g) calls run)
 
 -- two last drains behind the same, which took the same from each other worker
-pub same_last : (n at : ℕ) (z end other : Told) (a : LastDrain n at z end) (b : LastDrain n at z other) → ((x : ℕ) → x < n → x ≢ at → posts_taken x at a.own ≡ posts_taken x at b.own) → end ≡ other
-same_last n at z end other a b same =
+pub same_last : {sli : ℕ} (n at : ℕ) (z end other : Told) (a : LastDrain sli n at z end) (b : LastDrain sli n at z other) → ((x : ℕ) → x < n → x ≢ at → posts_taken x at a.own ≡ posts_taken x at b.own) → end ≡ other
+same_last {sli} n at z end other a b same =
     let all : (x : ℕ) → posts_taken x at a.own ≡ posts_taken x at b.own = λ x. elim (cases_lt x n) [
       | inl lt ↦ elim (cases_eq x at) [ inl e ↦ a.apart x (λ ne. absurd (ne e)) ∙ sym (b.apart x (λ ne. absurd (ne e))) | inr ne ↦ same x lt ne ]
       | inr ge ↦ a.apart x (λ _. ge) ∙ sym (b.apart x (λ _. ge))
     ] in
     let takes : (x : ℕ) → posts_taken x at (a.is_drain).takes ≡ posts_taken x at (b.is_drain).takes
     = λ x. drain_takes x at at 8192 a.own a.is_drain ∙ (all x ∙ sym (drain_takes x at at 8192 b.own b.is_drain)) in
-    let t = same_takes at 0 0 z.made z.heap end.heap other.heap (a.is_drain).takes (b.is_drain).takes (a.is_drain).are_takes (b.is_drain).are_takes takes
-    (drain_ran at z.made z.heap end.heap a.own a.is_drain a.run) (drain_ran at z.made z.heap other.heap b.own b.is_drain b.run) in
+    let t = same_takes sli at 0 0 z.made z.heap end.heap other.heap (a.is_drain).takes (b.is_drain).takes (a.is_drain).are_takes (b.is_drain).are_takes takes
+    (drain_ran sli at z.made z.heap end.heap a.own a.is_drain a.run) (drain_ran sli at z.made z.heap other.heap b.own b.is_drain b.run) in
     let own : a.own ≡ b.own
     = (a.is_drain).whole ∙ (ap (λ l. l ++ record { worker = at; call = Drain 8192; reply = Drained (length l) } ∷ []) t.entries ∙ sym (b.is_drain).whole) in
     let entries : end.entries ≡ other.entries = a.entries ∙ (ap (λ l. z.entries ++ l) own ∙ sym b.entries) in

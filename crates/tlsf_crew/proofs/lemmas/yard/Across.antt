@@ -21,11 +21,11 @@ pub waits_before : (p : PostEnd) (t : TakeEnd) (q : PostEnd) (u : TakeEnd) → M
 waits_before p t q u m = rw (← m.order) (drop_at (taken t) (waited u) (length (taken t)) refl)
 
 -- and each post of it was posted by the worker at the lane's other end
-signed_before : (ws : List Worker) (i j : ℕ) (p : PostEnd) (t : TakeEnd) (q : PostEnd) (u : TakeEnd) → post_at ws i j ≡ Some p → take_at ws i j ≡ Some t
+signed_before : {sli : ℕ} (ws : List (Worker sli)) (i j : ℕ) (p : PostEnd) (t : TakeEnd) (q : PostEnd) (u : TakeEnd) → post_at ws i j ≡ Some p → take_at ws i j ≡ Some t
     → Meets p t q u → IsYard ws → AreFrom i (waited u)
 signed_before ws i j p t q u a b m yard = subst (AreFrom i) (waits_before p t q u m) (rw (a, b) at (yard.signed i j))
 
-pub settled_world : (ws vs : List Worker) (i j : ℕ) → i ≢ j → LaneStep ws i j vs → world_of vs ≡ world_of ws
+pub settled_world : {sli : ℕ} (ws vs : List (Worker sli)) (i j : ℕ) → i ≢ j → LaneStep ws i j vs → world_of vs ≡ world_of ws
 settled_world ws vs i j ne s =
     let m = s.met.meets in
     let c = settled ws vs i j ne s in
@@ -33,7 +33,7 @@ settled_world ws vs i j ne s =
     let w = waits_between ws i j _ _ c.post_is c.take_is ∙ waits_before _ _ _ _ m in
     e ∙ with_same (world_of ws) i j (waited s.met.new_take) w
 
-pub settled_yard : (ws vs : List Worker) (i j : ℕ) → i ≢ j → LaneStep ws i j vs → IsYard ws → IsYard vs
+pub settled_yard : {sli : ℕ} (ws vs : List (Worker sli)) (i j : ℕ) → i ≢ j → LaneStep ws i j vs → IsYard ws → IsYard vs
 settled_yard ws vs i j ne s yard =
     let m = s.met.meets in
     let c = settled ws vs i j ne s in

@@ -22,7 +22,6 @@ use Rattle.tlsf_crew.proofs.lemmas.yard.LaneCalls.{release_told, take_told}
 use Rattle.tlsf_crew.proofs.lemmas.yard.OwnCalls.{Knows, allocate_told, read_told, resize_told, write_told}
 use Rattle.tlsf_crew.proofs.lemmas.yard.NamesMeant.{allocate_unmade, read_unmade, release_unmade, resize_unmade, take_unmade, write_unmade}
 use Rattle.tlsf_crew.proofs.lemmas.yard.JoinedEntries.{HasItsAnswer, IsHistory, history_none, history_then, quiet_posts, told_other}
-use Rattle.tlsf_class.proofs.TwoLevels.{level_4}
 
 -- ---- names that were made stay known
 
@@ -36,11 +35,11 @@ more_knows xs ys (Named name) n e = e
 more_knows xs ys (MadeBy k) n e = name_stays xs ys k n e
 more_knows xs ys Absent n e = e
 
-drain_knows : (r : Replayed) (at most : ℕ) → Knows (draining r at most).made r.made
+drain_knows : {sli : ℕ} (r : Replayed sli) (at most : ℕ) → Knows (draining r at most).made r.made
 unfolding draining
 drain_knows r at most = more_knows r.made (None ∷ [])
 
-pub called_knows : (r : Replayed) (at : ℕ) (call : Call) → Knows (called r at call).made r.made
+pub called_knows : {sli : ℕ} (r : Replayed sli) (at : ℕ) (call : Call) → Knows (called r at call).made r.made
 called_knows r at (Allocate len) = more_knows r.made _
 called_knows r at (Release target) = more_knows r.made _
 called_knows r at (Write target from bytes) = more_knows r.made _
@@ -49,20 +48,20 @@ called_knows r at (Resize target len) = more_knows r.made _
 called_knows r at (Take from) = more_knows r.made _
 called_knows r at (Drain most) = drain_knows r at most
 
-after_knows : (r : Replayed) (e : Event) → Knows (after r e).made r.made
+after_knows : {sli : ℕ} (r : Replayed sli) (e : Event) → Knows (after r e).made r.made
 after_knows r e =
     elim (cases_lt e.worker (length r.world.heaps)) [
       | inl lt ↦ rw (after_near r e e.call lt refl) (called_knows r e.worker e.call)
       | inr ge ↦ rw (after_far r e ge) (more_knows r.made (None ∷ []))
     ]
 
-rest_knows : (es : List Event) (r : Replayed) → Knows (fold after r es).made r.made
+rest_knows : {sli : ℕ} (es : List Event) (r : Replayed sli) → Knows (fold after r es).made r.made
 rest_knows [] r target name e = e
 rest_knows (x ∷ es) r target name e = rest_knows es (after r x) target name (after_knows r x target name e)
 
 -- ---- one event
 
-pub called_told : (made : List (Option Name)) (r : Replayed) (at : ℕ) (call : Call) → at < length r.world.heaps → Knows made r.made → ToldOnce made r (called r at call) (TellsCall at r.made call)
+pub called_told : {sli : ℕ} (made : List (Option Name)) (r : Replayed sli) (at : ℕ) (call : Call) → at < length r.world.heaps → Knows made r.made → ToldOnce made r (called r at call) (TellsCall at r.made call)
 called_told made r at (Allocate len) at_in known =
     record { own = _; name = _; entries = refl; names = refl; tells = record { reply = _; name_is = refl; unmade = allocate_unmade r.world at len; whole = refl }; history = allocate_told made r.world at len at_in }
 called_told made r at (Release target) at_in known =
@@ -96,7 +95,7 @@ no_take i (Take from) = refl
 no_take i (Drain most) = refl
 
 -- a call of no worker concerns no heap and no lane
-far_told : (made : List (Option Name)) (w : World) (at : ℕ) (call : Call) → length w.heaps ≤ at → IsHistory made w (record { worker = at; call = call; reply = Refused Stranger } ∷ []) w
+far_told : {sli : ℕ} (made : List (Option Name)) (w : World sli) (at : ℕ) (call : Call) → length w.heaps ≤ at → IsHistory made w (record { worker = at; call = call; reply = Refused Stranger } ∷ []) w
 far_told made w at call ge =
     let e : Entry = record { worker = at; call = call; reply = Refused Stranger } in
     record {
@@ -110,7 +109,7 @@ far_told made w at call ge =
       each = All-cons (HasItsAnswer made (length w.heaps)) e [] (λ lt. absurd (omega arith)) (All-nil (HasItsAnswer made (length w.heaps)));
     }
 
-after_told : (made : List (Option Name)) (r : Replayed) (e : Event) → Knows made r.made → ToldOnce made r (after r e) (TellsEvent (length r.world.heaps) r.made e)
+after_told : {sli : ℕ} (made : List (Option Name)) (r : Replayed sli) (e : Event) → Knows made r.made → ToldOnce made r (after r e) (TellsEvent (length r.world.heaps) r.made e)
 after_told made r e known =
     elim (cases_lt e.worker (length r.world.heaps)) [
       | inl lt ↦
@@ -125,7 +124,7 @@ after_told made r e known =
 -- ---- all events
 
 -- the entries of all events, and the names that they made
-record ToldAll (made : List (Option Name)) (es : List Event) (r s : Replayed) : Type 0 where
+record ToldAll {sli : ℕ} (made : List (Option Name)) (es : List Event) (r s : Replayed sli) : Type 0 where
   own : List Entry
   later : List (Option Name)
   entries : s.entries ≡ r.entries ++ own
@@ -133,7 +132,7 @@ record ToldAll (made : List (Option Name)) (es : List Event) (r s : Replayed) : 
   tells : Tells (length r.world.heaps) r.made es later own
   history : IsHistory made r.world own s.world
 
-all_told : (made : List (Option Name)) (es : List Event) (r : Replayed) → Knows made (fold after r es).made → ToldAll made es r (fold after r es)
+all_told : {sli : ℕ} (made : List (Option Name)) (es : List Event) (r : Replayed sli) → Knows made (fold after r es).made → ToldAll made es r (fold after r es)
 all_told made [] r known = record { own = []; later = []; entries = sym (append-nil r.entries); names = sym (append-nil r.made); tells = refl; history = history_none made r.world }
 all_told made (e ∷ es) r known =
     let v = after r e in
@@ -152,25 +151,28 @@ all_told made (e ∷ es) r known =
     }
 
 -- the entries of the replay tell the events and the history
-pub record RepliesTell (w : World) (es : List Event) : Type 0 where
+pub record RepliesTell {sli : ℕ} (w : World sli) (es : List Event) : Type 0 where
   pub told : Tells (length w.heaps) [] es (replies w es).made (replies w es).entries
   pub history : IsHistory (replies w es).made w (replies w es).entries (replies w es).world
 
-told_from_start : (w : World) (es : List Event) (z : Replayed) → ToldAll z.made es (begun w) z → Tells (length w.heaps) [] es z.made z.entries × IsHistory z.made w z.entries z.world
+told_from_start : {sli : ℕ} (w : World sli) (es : List Event) (z : Replayed sli) → ToldAll z.made es (begun w) z → Tells (length w.heaps) [] es z.made z.entries × IsHistory z.made w z.entries z.world
 told_from_start w es z t =
     let names : z.made ≡ t.later = t.names in
     (subst (λ made. Tells (length w.heaps) [] es made z.entries) (sym names) (rw t.entries t.tells), rw t.entries t.history)
 
-pub replies_tell : (w : World) (es : List Event) → RepliesTell w es
+pub replies_tell : {sli : ℕ} (w : World sli) (es : List Event) → RepliesTell w es
 unfolding replies
 replies_tell w es =
     let z = fold after (begun w) es in
     let t = told_from_start w es z (all_told z.made es (begun w) (λ target name e. e)) in
     record { told = t.0; history = t.1 }
 
-pub replies_lawful : (w : World) (es : List Event) → AreLawful w → AreLawful (replies w es).world
-replies_lawful w es lawful j j_in =
-    let t = (replies_tell w es).history in
-    let k : j < length w.heaps = omega (arith, t.count) in
-    let run = t.heaps j k in
-    subst IsLawful run.left (lawful_run 4 level_4 (heap_in w j) (calls_on j (replies w es).made (replies w es).entries) (lawful j k))
+pub replies_lawful : {sli : ℕ} (w : World sli) (es : List Event) → AreLawful w → AreLawful (replies w es).world
+replies_lawful {sli} w es lawful = (
+  lawful.0,
+  λ j j_in.
+      let t = (replies_tell w es).history in
+      let k : j < length w.heaps = omega (arith, t.count) in
+      let run = t.heaps j k in
+      subst IsLawful run.left (lawful_run sli lawful.0 (heap_in w j) (calls_on j (replies w es).made (replies w es).entries) (lawful.1 j k)),
+)

@@ -35,14 +35,14 @@ within_then at low mid high [] ys le a b = within_lower at low mid high ys a b
 within_then at low mid high (e ∷ es) ys le a b = let c = a.4 in (a.0, a.1, a.2, a.3, omega arith, within_then at a.0 mid high es ys le a.5 b)
 
 -- takes that lead from one state of a drain to the other
-record TookSome (made : List (Option Name)) (at low high : ℕ) (d b : Draining) : Type 0 where
+record TookSome {sli : ℕ} (made : List (Option Name)) (at low high : ℕ) (d b : Draining sli) : Type 0 where
   takes : List Entry
   entries : b.entries ≡ d.entries ++ takes
   taken : b.taken ≡ d.taken + length takes
   within : Within at low high takes
   history : IsHistory made d.world takes b.world
 
-took_none : (made : List (Option Name)) (at low high : ℕ) (d : Draining) → low ≤ high → TookSome made at low high d d
+took_none : {sli : ℕ} (made : List (Option Name)) (at low high : ℕ) (d : Draining sli) → low ≤ high → TookSome made at low high d d
 took_none made at low high d le = record {
   takes = [];
   entries = sym (append-nil d.entries);
@@ -51,7 +51,7 @@ took_none made at low high d le = record {
   history = history_none made d.world;
 }
 
-took_then : (made : List (Option Name)) (at low mid high : ℕ) (d b c : Draining) → mid ≤ high → TookSome made at low mid d b → TookSome made at mid high b c → TookSome made at low high d c
+took_then : {sli : ℕ} (made : List (Option Name)) (at low mid high : ℕ) (d b c : Draining sli) → mid ≤ high → TookSome made at low mid d b → TookSome made at mid high b c → TookSome made at low high d c
 took_then made at low mid high d b c le x y = record {
   takes = x.takes ++ y.takes;
   entries = y.entries ∙ (ap (λ l. l ++ y.takes) x.entries ∙ append_assoc d.entries x.takes y.takes);
@@ -61,7 +61,7 @@ took_then made at low mid high d b c le x y = record {
 }
 
 -- one post more
-one_more : (made : List (Option Name)) (at from : ℕ) (d : Draining) (p : Post) → at < length d.world.heaps → d.world.waiting from at ≡ p ∷ drop 1 (d.world.waiting from at)
+one_more : {sli : ℕ} (made : List (Option Name)) (at from : ℕ) (d : Draining sli) (p : Post) → at < length d.world.heaps → d.world.waiting from at ≡ p ∷ drop 1 (d.world.waiting from at)
     → TookSome made at from from d (took_more at from d p)
 one_more made at from d p at_in full =
     let a = took d.world at from p (drop 1 (d.world.waiting from at)) in
@@ -74,7 +74,7 @@ one_more made at from d p at_in full =
     }
 
 -- the posts of one lane, and how many they are
-lane_took : (made : List (Option Name)) (at from : ℕ) (rest ps : List Post) (d : Draining) → at < length d.world.heaps → d.world.waiting from at ≡ ps ++ rest
+lane_took : {sli : ℕ} (made : List (Option Name)) (at from : ℕ) (rest ps : List Post) (d : Draining sli) → at < length d.world.heaps → d.world.waiting from at ≡ ps ++ rest
     → TookSome made at from from d (fold (took_more at from) d ps)
 lane_took made at from rest [] d at_in e = took_none made at from from d (omega arith)
 lane_took made at from rest (p ∷ ps) d at_in e =
@@ -85,11 +85,11 @@ lane_took made at from rest (p ∷ ps) d at_in e =
     let more = lane_took made at from rest ps b (let n = one.history.count in omega arith) (edited_same d.world.waiting from at (drop 1 (d.world.waiting from at)) ∙ next) in
     took_then made at from from from d b (fold (took_more at from) b ps) (omega arith) one more
 
-lane_count : (at from : ℕ) (ps : List Post) (d : Draining) → (fold (took_more at from) d ps).taken ≡ d.taken + length ps
+lane_count : {sli : ℕ} (at from : ℕ) (ps : List Post) (d : Draining sli) → (fold (took_more at from) d ps).taken ≡ d.taken + length ps
 lane_count at from [] d = omega arith
 lane_count at from (p ∷ ps) d = let a = lane_count at from ps (took_more at from d p) in omega arith
 
-drained_took : (made : List (Option Name)) (at most from : ℕ) (d : Draining) → at < length d.world.heaps → d.taken ≤ most
+drained_took : {sli : ℕ} (made : List (Option Name)) (at most from : ℕ) (d : Draining sli) → at < length d.world.heaps → d.taken ≤ most
     → TookSome made at from from d (drained_lane at most from d) × ((drained_lane at most from d).taken ≤ most)
 unfolding drained_lane
 drained_took made at most from d at_in le =
@@ -100,7 +100,7 @@ drained_took made at most from d at_in le =
     (lane_took made at from (drop m waits) (take m waits) d at_in (sym (take-append-drop m waits)), omega arith)
 
 -- the lanes from the workers below k
-below_took : (made : List (Option Name)) (at most : ℕ) (d : Draining) (k : ℕ) → at < length d.world.heaps → d.taken ≤ most
+below_took : {sli : ℕ} (made : List (Option Name)) (at most : ℕ) (d : Draining sli) (k : ℕ) → at < length d.world.heaps → d.taken ≤ most
     → TookSome made at 0 k d (drained_below at most d k) × ((drained_below at most d k).taken ≤ most)
 below_took made at most d zero at_in le = (took_none made at 0 0 d (omega arith), le)
 below_took made at most d (suc k) at_in le =
@@ -116,13 +116,13 @@ below_took made at most d (suc k) at_in le =
           rw (from_other at most b k e) (took_then made at 0 k (suc k) d c c (omega arith) this (took_none made at k (suc k) c (omega arith)), lane.1)
     ]
 
-all_took : (made : List (Option Name)) (at most : ℕ) (d : Draining) → at < length d.world.heaps → d.taken ≤ most
+all_took : {sli : ℕ} (made : List (Option Name)) (at most : ℕ) (d : Draining sli) → at < length d.world.heaps → d.taken ≤ most
     → TookSome made at 0 (length d.world.heaps) d (after_drain at most d) × ((after_drain at most d).taken ≤ most)
 unfolding after_drain
 all_took made at most d at_in le = below_took made at most d (length d.world.heaps) at_in le
 
 -- the entries of one call, which lead from one state of a replay to the other, and the name that it made
-pub record ToldOnce (made : List (Option Name)) (r s : Replayed) (P : Option Name → List Entry → Type 0) : Type 0 where
+pub record ToldOnce {sli : ℕ} (made : List (Option Name)) (r s : Replayed sli) (P : Option Name → List Entry → Type 0) : Type 0 where
   pub own : List Entry
   pub name : Option Name
   pub entries : s.entries ≡ r.entries ++ own
@@ -130,10 +130,10 @@ pub record ToldOnce (made : List (Option Name)) (r s : Replayed) (P : Option Nam
   pub tells : P name own
   pub history : IsHistory made r.world own s.world
 
-pub drain_told : (made : List (Option Name)) (r : Replayed) (at most : ℕ) → at < length r.world.heaps → ToldOnce made r (draining r at most) (TellsCall at r.made (Drain most))
+pub drain_told : {sli : ℕ} (made : List (Option Name)) (r : Replayed sli) (at most : ℕ) → at < length r.world.heaps → ToldOnce made r (draining r at most) (TellsCall at r.made (Drain most))
 unfolding draining
-drain_told made r at most at_in =
-    let d : Draining = record { entries = r.entries; world = r.world; taken = 0 } in
+drain_told {sli} made r at most at_in =
+    let d : Draining sli = record { entries = r.entries; world = r.world; taken = 0 } in
     let b = after_drain at most d in
     let t = all_took made at most d at_in (omega arith) in
     let last : Entry = record { worker = at; call = Drain most; reply = Drained b.taken } in

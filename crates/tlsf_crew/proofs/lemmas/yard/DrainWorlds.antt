@@ -27,16 +27,16 @@ use Rattle.tlsf_crew.proofs.lemmas.yard.Witnesses.{a_world, world_has}
 use Rattle.tlsf_crew.proofs.lemmas.yard.LaneChanges.{edited_other}
 
 -- what its worker sees of a drain
-abbrev own_of : ℕ → Draining → OwnDrain
+abbrev own_of : {sli : ℕ} → ℕ → Draining sli → OwnDrain
 own_of at d = record { entries = d.entries; heap = heap_in d.world at; taken = d.taken }
 
 -- takes from one lane leave the heaps' count and the other lanes
-record LaneWorld (at from : ℕ) (posts : List Post) (d c : Draining) : Type 0 where
+record LaneWorld {sli : ℕ} (at from : ℕ) (posts : List Post) (d c : Draining sli) : Type 0 where
   own : own_of at c ≡ lane_own at from (own_of at d) posts
   count : length c.world.heaps ≡ length d.world.heaps
   waits : (x : ℕ) → x ≢ from → c.world.waiting x at ≡ d.world.waiting x at
 
-one_world : (at from : ℕ) (p : Post) (d : Draining) → at < length d.world.heaps → LaneWorld at from (p ∷ []) d (took_more at from d p)
+one_world : {sli : ℕ} (at from : ℕ) (p : Post) (d : Draining sli) → at < length d.world.heaps → LaneWorld at from (p ∷ []) d (took_more at from d p)
 one_world at from p d lt =
     let h = (released (heap_in d.world at) p.name).heap in
     let c = took_more at from d p in
@@ -46,7 +46,7 @@ one_world at from p d lt =
       waits = λ x ne. edited_other d.world.waiting from at x at (drop 1 (d.world.waiting from at)) (λ e _. ne e);
     }
 
-lane_world : (at from : ℕ) (posts : List Post) (d : Draining) → at < length d.world.heaps → LaneWorld at from posts d (fold (took_more at from) d posts)
+lane_world : {sli : ℕ} (at from : ℕ) (posts : List Post) (d : Draining sli) → at < length d.world.heaps → LaneWorld at from posts d (fold (took_more at from) d posts)
 lane_world at from [] d lt = record { own = refl; count = refl; waits = λ x ne. refl }
 lane_world at from (p ∷ posts) d lt =
     let x = one_world at from p d lt in
@@ -58,13 +58,13 @@ lane_world at from (p ∷ posts) d lt =
     }
 
 -- the lanes below a number
-record WorldBelow (at : ℕ) (posts : ℕ → List Post) (k : ℕ) (d c : Draining) : Type 0 where
+record WorldBelow {sli : ℕ} (at : ℕ) (posts : ℕ → List Post) (k : ℕ) (d c : Draining sli) : Type 0 where
   own : own_of at c ≡ each_lane_own at posts (own_of at d) k
   count : length c.world.heaps ≡ length d.world.heaps
   waits : (x : ℕ) → k ≤ x → c.world.waiting x at ≡ d.world.waiting x at
 
 -- one lane more, of which these posts are taken
-next_lane : (at most k : ℕ) (posts : ℕ → List Post) (d c : Draining) → at < length d.world.heaps → WorldBelow at posts k d c → take (most - c.taken) (c.world.waiting k at) ≡ posts k → k ≢ at
+next_lane : {sli : ℕ} (at most k : ℕ) (posts : ℕ → List Post) (d c : Draining sli) → at < length d.world.heaps → WorldBelow at posts k d c → take (most - c.taken) (c.world.waiting k at) ≡ posts k → k ≢ at
     → WorldBelow at posts (k + 1) d (drained_lane at most k c)
 unfolding drained_lane
 next_lane at most k posts d c lt w all ne =
@@ -76,7 +76,7 @@ next_lane at most k posts d c lt w all ne =
     } in
     subst (λ l. WorldBelow at posts (k + 1) d (fold (took_more at k) c l)) (sym all) y
 
-own_lane : (at k : ℕ) (posts : ℕ → List Post) (d c : Draining) → WorldBelow at posts k d c → k ≡ at → WorldBelow at posts (k + 1) d c
+own_lane : {sli : ℕ} (at k : ℕ) (posts : ℕ → List Post) (d c : Draining sli) → WorldBelow at posts k d c → k ≡ at → WorldBelow at posts (k + 1) d c
 own_lane at k posts d c w e = record {
   own = w.own ∙ sym (each_lane_own_turn at posts (own_of at d) k e);
   count = w.count;
@@ -98,7 +98,7 @@ take_first posts most k taken waits e le w =
       | inr none ↦ ap (λ r. take m (posts k ++ r)) none ∙ (ap (take m) (append-nil (posts k)) ∙ take_all m (posts k) (omega arith))
     ]
 
-world_below : (at most n : ℕ) (posts : ℕ → List Post) (d : Draining) (k : ℕ) → k ≤ n → at < length d.world.heaps → d.taken ≡ 0 → ((i : ℕ) → i ≡ at → posts i ≡ [])
+world_below : {sli : ℕ} (at most n : ℕ) (posts : ℕ → List Post) (d : Draining sli) (k : ℕ) → k ≤ n → at < length d.world.heaps → d.taken ≡ 0 → ((i : ℕ) → i ≡ at → posts i ≡ [])
     → ((x : ℕ) → x < n → x ≢ at → WaitsFirst posts most x (d.world.waiting x at)) → sum_below n (λ i. length (posts i)) ≤ most → WorldBelow at posts k d (drained_below at most d k)
 world_below at most n posts d zero le lt start none waits few = record { own = refl; count = refl; waits = λ x le. refl }
 world_below at most n posts d (suc k) le lt start none waits few =
@@ -116,7 +116,7 @@ world_below at most n posts d (suc k) le lt start none waits few =
           rw (from_other at most c k ne) (subst (λ n. WorldBelow at posts n d (drained_lane at most k c)) next (next_lane at most k posts d c lt w all ne))
     ]
 
-all_world : (at most n : ℕ) (posts : ℕ → List Post) (d : Draining) → length d.world.heaps ≡ n → at < n → d.taken ≡ 0 → ((i : ℕ) → i ≡ at → posts i ≡ [])
+all_world : {sli : ℕ} (at most n : ℕ) (posts : ℕ → List Post) (d : Draining sli) → length d.world.heaps ≡ n → at < n → d.taken ≡ 0 → ((i : ℕ) → i ≡ at → posts i ≡ [])
     → ((x : ℕ) → x < n → x ≢ at → WaitsFirst posts most x (d.world.waiting x at)) → sum_below n (λ i. length (posts i)) ≤ most → own_of at (after_drain at most d) ≡ each_lane_own at posts (own_of at d) n
 unfolding after_drain
 all_world at most n posts d len lt start none waits few =
@@ -124,19 +124,19 @@ all_world at most n posts d len lt start none waits few =
     ap (λ k. own_of at (drained_below at most d k)) len ∙ w.own
 
 -- what a drain tells, as its worker sees it
-drain_tells : (made : List (Option Name)) (at most : ℕ) (es : List Entry) (w : World) (o : OwnDrain) → own_of at (after_drain at most (record { entries = es; world = w; taken = 0 })) ≡ o
+drain_tells : {sli : ℕ} (made : List (Option Name)) (at most : ℕ) (es : List Entry) (w : World sli) (o : OwnDrain) → own_of at (after_drain at most (record { entries = es; world = w; taken = 0 })) ≡ o
     → told_by at (called (record { made = made; entries = es; world = w }) at (Drain most))
     ≡ record { made = made ++ None ∷ []; entries = o.entries ++ one at (Drain most) (Drained o.taken); heap = o.heap }
 unfolding draining
 drain_tells made at most es w o e = ap (λ x. record { made = made ++ None ∷ []; entries = x.entries ++ one at (Drain most) (Drained x.taken); heap = x.heap }) e
 
-drain_exact : (n : ℕ) (a v : Worker) (limits left : List ℕ) (most : ℕ) (made : List (Option Name)) (es longer : List Entry) (count : ℕ) → KnowsYard n a → count ≤ most
-    → (x : EachLaneTaken a limits n es v left longer count) → (w : World) → HasHeap w n (id_of a) (heap_of a) → SuitsDrain w n (id_of a) most x.own
+drain_exact : {sli : ℕ} (n : ℕ) (a v : Worker sli) (limits left : List ℕ) (most : ℕ) (made : List (Option Name)) (es longer : List Entry) (count : ℕ) → KnowsYard n a → count ≤ most
+    → (x : EachLaneTaken a limits n es v left longer count) → (w : World sli) → HasHeap w n (id_of a) (heap_of a) → SuitsDrain w n (id_of a) most x.own
     → told_by (id_of a) (called (record { made = made; entries = es; world = w }) (id_of a) (Drain most))
     ≡ record { made = made ++ None ∷ []; entries = longer ++ one (id_of a) (Drain most) (Drained count); heap = heap_of v }
-drain_exact n a v limits left most made es longer count k few x w has suits =
+drain_exact {sli} n a v limits left most made es longer count k few x w has suits =
     let at = id_of a in
-    let d : Draining = record { entries = es; world = w; taken = 0 } in
+    let d : Draining sli = record { entries = es; world = w; taken = 0 } in
     let start : own_of at d ≡ own_drain es a 0 = ap (λ h. record { entries = es; heap = h; taken = 0 }) has.1 in
     let told : each_lane_own at x.posts (own_of at d) n ≡ own_drain longer v count = ap (λ o. each_lane_own at x.posts o n) start ∙ sym x.told in
     let none : (i : ℕ) → i ≡ at → x.posts i ≡ [] = λ i own. x.only i (λ _ h. let y = (k.from i).0 h in y.1 own) in
@@ -149,16 +149,16 @@ drain_exact n a v limits left most made es longer count k few x w has suits =
     drain_tells made at most es w (own_drain longer v count) (all ∙ told)
 
 -- there is a world that suits
-drain_told : (n : ℕ) (a v : Worker) (limits left : List ℕ) (most : ℕ) (made : List (Option Name)) (es longer : List Entry) (count : ℕ) → KnowsYard n a → count ≤ most → EachLaneTaken a limits n es v left longer count
-    → MayTell n (id_of a) (record { made = made; entries = es; heap = heap_of a }) (Drain most)
+drain_told : {sli : ℕ} (n : ℕ) (a v : Worker sli) (limits left : List ℕ) (most : ℕ) (made : List (Option Name)) (es longer : List Entry) (count : ℕ) → KnowsYard n a → count ≤ most → EachLaneTaken a limits n es v left longer count
+    → MayTell sli n (id_of a) (record { made = made; entries = es; heap = heap_of a }) (Drain most)
     (record { made = made ++ None ∷ []; entries = longer ++ one (id_of a) (Drain most) (Drained count); heap = heap_of v })
-drain_told n a v limits left most made es longer count k few x =
+drain_told {sli} n a v limits left most made es longer count k few x =
     let at = id_of a in
-    let w = a_world n at (heap_of a) (λ i. posts_taken i at x.own) 1 in
-    let has = world_has n at (heap_of a) (λ i. posts_taken i at x.own) 1 k.self in
+    let w = a_world {sli = sli} n at (heap_of a) (λ i. posts_taken i at x.own) 1 in
+    let has = world_has sli n at (heap_of a) (λ i. posts_taken i at x.own) 1 k.self in
     (w, has, drain_exact n a v limits left most made es longer count k few x w has (λ i lt ne. ([], sym (append-nil (posts_taken i at x.own)), inr refl)))
 
-drain_idle : (n : ℕ) (a : Worker) (limits : List ℕ) (most count : ℕ) (later : List (Option Name)) (own : List Entry) → KnowsYard n a → (count < most → (i : ℕ) → i < n → Spent a limits (id_of a) i own)
+drain_idle : {sli : ℕ} (n : ℕ) (a : Worker sli) (limits : List ℕ) (most count : ℕ) (later : List (Option Name)) (own : List Entry) → KnowsYard n a → (count < most → (i : ℕ) → i < n → Spent a limits (id_of a) i own)
     → IsIdle (id_of a) later a limits own (record { worker = id_of a; call = Drain most; reply = Drained count })
 drain_idle n a limits most count later own k spent = record {
   posts = record { made_none = λ j. refl; taken_none = λ i. refl };
@@ -170,7 +170,7 @@ drain_idle n a limits most count later own k spent = record {
       λ t is. let x = (k.from i).0 (t, is) in spent (omega arith) i x.0 t is;
 }
 
-pub drain_stepped : (n : ℕ) (a v : Worker) (limits left : List ℕ) (most : ℕ) (made : List (Option Name)) (es longer : List Entry) (count : ℕ) → KnowsYard n a → EachLaneSpent a limits n most es v left longer count
+pub drain_stepped : {sli : ℕ} (n : ℕ) (a v : Worker sli) (limits left : List ℕ) (most : ℕ) (made : List (Option Name)) (es longer : List Entry) (count : ℕ) → KnowsYard n a → EachLaneSpent a limits n most es v left longer count
     → Stepped n a limits (Drain most) made es v left longer (Drained count)
 drain_stepped n a v limits left most made es longer count k x =
     let t = x.takes in

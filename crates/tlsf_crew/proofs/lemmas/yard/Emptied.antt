@@ -13,30 +13,30 @@ use Rattle.tlsf_crew.proofs.lemmas.yard.OneEvent.{from_other, from_own}
 use Rattle.tlsf_crew.proofs.lemmas.yard.LaneChanges.{edited_same, edited_other}
 
 -- two states of a drain that differ in no lane to another worker, and in no other heap
-record SameAway (at : ℕ) (d b : Draining) : Type 0 where
+record SameAway {sli : ℕ} (at : ℕ) (d b : Draining sli) : Type 0 where
   waiting : (x y : ℕ) → y ≢ at → b.world.waiting x y ≡ d.world.waiting x y
   heaps : (y : ℕ) → y ≢ at → heap_in b.world y ≡ heap_in d.world y
   capacity : b.world.capacity ≡ d.world.capacity
 
-away_then : (at : ℕ) (d b c : Draining) → SameAway at d b → SameAway at b c → SameAway at d c
+away_then : {sli : ℕ} (at : ℕ) (d b c : Draining sli) → SameAway at d b → SameAway at b c → SameAway at d c
 away_then at d b c p q = record {
   waiting = λ x y ne. q.waiting x y ne ∙ p.waiting x y ne;
   heaps = λ y ne. q.heaps y ne ∙ p.heaps y ne;
   capacity = q.capacity ∙ p.capacity;
 }
 
-away_same : (at : ℕ) (d : Draining) → SameAway at d d
+away_same : {sli : ℕ} (at : ℕ) (d : Draining sli) → SameAway at d d
 away_same at d = record { waiting = λ x y ne. refl; heaps = λ y ne. refl; capacity = refl }
 
 -- so many posts were taken out of one lane, and these are left in it
-record TookOut (at from : ℕ) (rest : List Post) (n : ℕ) (d b : Draining) : Type 0 where
+record TookOut {sli : ℕ} (at from : ℕ) (rest : List Post) (n : ℕ) (d b : Draining sli) : Type 0 where
   here : b.world.waiting from at ≡ rest
   others : (x : ℕ) → x ≢ from → b.world.waiting x at ≡ d.world.waiting x at
   away : SameAway at d b
   taken : b.taken ≡ d.taken + n
   entries : length b.entries ≡ length d.entries + n
 
-one_out : (at from : ℕ) (d : Draining) (p : Post) → TookOut at from (drop 1 (d.world.waiting from at)) 1 d (took_more at from d p)
+one_out : {sli : ℕ} (at from : ℕ) (d : Draining sli) (p : Post) → TookOut at from (drop 1 (d.world.waiting from at)) 1 d (took_more at from d p)
 one_out at from d p =
     let w = d.world in
     let rest = drop 1 (w.waiting from at) in
@@ -52,7 +52,7 @@ one_out at from d p =
       entries = length_push d.entries (record { worker = at; call = Take from; reply = (took w at from p rest).reply });
     }
 
-some_out : (at from : ℕ) (rest ps : List Post) (d : Draining) → d.world.waiting from at ≡ ps ++ rest → TookOut at from rest (length ps) d (fold (took_more at from) d ps)
+some_out : {sli : ℕ} (at from : ℕ) (rest ps : List Post) (d : Draining sli) → d.world.waiting from at ≡ ps ++ rest → TookOut at from rest (length ps) d (fold (took_more at from) d ps)
 some_out at from rest [] d e = record { here = e; others = λ x ne. refl; away = away_same at d; taken = omega arith; entries = omega arith }
 some_out at from rest (p ∷ ps) d e =
     let b = took_more at from d p in
@@ -66,7 +66,7 @@ some_out at from rest (p ∷ ps) d e =
       entries = let x = one.entries in let y = more.entries in omega arith;
     }
 
-one_emptied : (at most from : ℕ) (d : Draining) → d.taken + length (d.world.waiting from at) ≤ most
+one_emptied : {sli : ℕ} (at most from : ℕ) (d : Draining sli) → d.taken + length (d.world.waiting from at) ≤ most
     → TookOut at from [] (length (d.world.waiting from at)) d (drained_lane at most from d)
 unfolding drained_lane
 one_emptied at most from d le =
@@ -75,11 +75,11 @@ one_emptied at most from d le =
     rw all (some_out at from [] waits d (sym (append-nil waits)))
 
 -- how many posts wait for a worker from those below k
-abbrev pub waits_below : ℕ → Draining → ℕ → ℕ
+abbrev pub waits_below : {sli : ℕ} → ℕ → Draining sli → ℕ → ℕ
 waits_below at d k = sum_below k (λ x. length (d.world.waiting x at))
 
 -- the lanes from the workers below k were emptied
-pub record LanesOut (at k : ℕ) (d b : Draining) : Type 0 where
+pub record LanesOut {sli : ℕ} (at k : ℕ) (d b : Draining sli) : Type 0 where
   pub empty : (x : ℕ) → x < k → x ≢ at → b.world.waiting x at ≡ []
   pub later : (x : ℕ) → k ≤ x → b.world.waiting x at ≡ d.world.waiting x at
   pub own : b.world.waiting at at ≡ d.world.waiting at at
@@ -89,7 +89,7 @@ pub record LanesOut (at k : ℕ) (d b : Draining) : Type 0 where
   pub taken : b.taken ≤ d.taken + waits_below at d k
   pub entries : length b.entries ≤ length d.entries + waits_below at d k
 
-none_out : (at : ℕ) (d : Draining) → LanesOut at 0 d d
+none_out : {sli : ℕ} (at : ℕ) (d : Draining sli) → LanesOut at 0 d d
 none_out at d = record {
   empty = λ x lt _. absurd (omega arith);
   later = λ x le. refl;
@@ -101,7 +101,7 @@ none_out at d = record {
   entries = omega arith;
 }
 
-skip_out : (at k : ℕ) (d b : Draining) → k ≡ at → LanesOut at k d b → LanesOut at (suc k) d b
+skip_out : {sli : ℕ} (at k : ℕ) (d b : Draining sli) → k ≡ at → LanesOut at k d b → LanesOut at (suc k) d b
 skip_out at k d b e f = record {
   empty = λ x lt ne. let apart : x ≢ k = λ q. ne (q ∙ e) in f.empty x (omega arith) ne;
   later = λ x le. f.later x (omega arith);
@@ -113,7 +113,7 @@ skip_out at k d b e f = record {
   entries = let n = f.entries in omega arith;
 }
 
-more_out : (at k : ℕ) (d b c : Draining) → k ≢ at → LanesOut at k d b → TookOut at k [] (length (b.world.waiting k at)) b c → LanesOut at (suc k) d c
+more_out : {sli : ℕ} (at k : ℕ) (d b c : Draining sli) → k ≢ at → LanesOut at k d b → TookOut at k [] (length (b.world.waiting k at)) b c → LanesOut at (suc k) d c
 more_out at k d b c ne f lane =
     let here = ap length (f.later k (omega arith)) in
     record {
@@ -127,7 +127,7 @@ more_out at k d b c ne f lane =
       entries = let x = f.entries in let y = lane.entries in omega arith;
     }
 
-below_out : (at most : ℕ) (d : Draining) (k : ℕ) → d.taken + waits_below at d k ≤ most → LanesOut at k d (drained_below at most d k)
+below_out : {sli : ℕ} (at most : ℕ) (d : Draining sli) (k : ℕ) → d.taken + waits_below at d k ≤ most → LanesOut at k d (drained_below at most d k)
 below_out at most d zero le = none_out at d
 below_out at most d (suc k) le =
     let b = drained_below at most d k in
@@ -141,6 +141,6 @@ below_out at most d (suc k) le =
     ]
 
 -- all of them were
-pub all_out : (at most : ℕ) (d : Draining) → d.taken + waits_below at d (length d.world.heaps) ≤ most → LanesOut at (length d.world.heaps) d (after_drain at most d)
+pub all_out : {sli : ℕ} (at most : ℕ) (d : Draining sli) → d.taken + waits_below at d (length d.world.heaps) ≤ most → LanesOut at (length d.world.heaps) d (after_drain at most d)
 unfolding after_drain
 all_out at most d le = below_out at most d (length d.world.heaps) le

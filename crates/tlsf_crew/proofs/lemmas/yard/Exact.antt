@@ -49,10 +49,10 @@ use Rattle.tlsf_crew.proofs.lemmas.yard.JoinedEntries.{IsHistory, told_nothing}
 use Rattle.tlsf_crew.proofs.lemmas.yard.LaneChanges.{same_world, edited_other, heap_in_is}
 
 -- one worker of a yard made a call, as the executor promises
-pub record Run : Type 0 where
-  pub vs : List Worker
-  pub a : Worker
-  pub v : Worker
+pub record Run (sli : ℕ) : Type 0 where
+  pub vs : List (Worker sli)
+  pub a : Worker sli
+  pub v : Worker sli
   pub made : List (Option Name)
   pub es : List Entry
   pub longer : List Entry
@@ -65,21 +65,21 @@ pub record Run : Type 0 where
   pub knows : KnowsYard (length vs) a
   pub step : Stepped (length vs) a limits call made es v left longer reply
 
-abbrev pub at_of : Run → ℕ
+abbrev pub at_of : {sli : ℕ} → Run sli → ℕ
 at_of r = id_of r.a
 
-abbrev pub own_of : Run → List Entry
+abbrev pub own_of : {sli : ℕ} → Run sli → List Entry
 own_of r = r.step.own ++ one (at_of r) r.call r.reply
 
 -- the yard with the worker as the call left it
-abbrev pub us_of : Run → List Worker
+abbrev pub us_of : {sli : ℕ} → Run sli → List (Worker sli)
 us_of r = set r.vs (at_of r) r.v
 
-moved_of : (r : Run) → Moved (at_of r) (r.made ++ []) r.a r.limits (r.call ∷ []) (own_of r) r.v r.left
+moved_of : {sli : ℕ} (r : Run sli) → Moved (at_of r) (r.made ++ []) r.a r.limits (r.call ∷ []) (own_of r) r.v r.left
 moved_of r = r.step.moved []
 
 -- the lanes that the call concerns were settled before and after it
-pub record Settles (r : Run) (ws zs : List Worker) : Type 0 where
+pub record Settles {sli : ℕ} (r : Run sli) (ws zs : List (Worker sli)) : Type 0 where
   pub before : (i j : ℕ) → i < length r.vs → j < length r.vs → i ≢ j → ConcernsCall r.made (at_of r) r.call i j → MetIn ws r.vs i j
   pub after : (i j : ℕ) → i < length r.vs → j < length r.vs → i ≢ j → ConcernsCall r.made (at_of r) r.call i j → MetIn (us_of r) zs i j
   pub limits : MayTake r.call → (i : ℕ) (t : TakeEnd) → i < 8 → end_from r.a i ≡ Some t → length (ready t) ≤ slice_index r.limits i
@@ -89,39 +89,39 @@ pub record Settles (r : Run) (ws zs : List Worker) : Type 0 where
 
 -- ---- the ends after the call
 
-pub us_yard : (r : Run) → IsYard (us_of r)
+pub us_yard : {sli : ℕ} (r : Run sli) → IsYard (us_of r)
 us_yard r = let m = moved_of r in m.yard r.vs (at_of r) r.is r.yard
 
-at_in : (r : Run) → at_of r < length r.vs
+at_in : {sli : ℕ} (r : Run sli) → at_of r < length r.vs
 at_in r = slice_get_within r.vs (at_of r) r.a r.is
 
-at_us : (r : Run) → slice_get (us_of r) (at_of r) ≡ Some r.v
+at_us : {sli : ℕ} (r : Run sli) → slice_get (us_of r) (at_of r) ≡ Some r.v
 at_us r = get_set_same r.vs (at_of r) r.v (at_in r)
 
-us_capacity : (r : Run) → capacity_in (us_of r) ≡ capacity_in r.vs
+us_capacity : {sli : ℕ} (r : Run sli) → capacity_in (us_of r) ≡ capacity_in r.vs
 us_capacity r = let m = moved_of r in ap (λ (l : List (ℕ × ℕ)). (get_or l 0 (0, 0)).1) (map_same id_and_capacity r.vs (at_of r) r.a r.v r.is m.numbers)
 
-post_other : (r : Run) (i j : ℕ) → i ≢ at_of r → post_at (us_of r) i j ≡ post_at r.vs i j
+post_other : {sli : ℕ} (r : Run sli) (i j : ℕ) → i ≢ at_of r → post_at (us_of r) i j ≡ post_at r.vs i j
 post_other r i j ne = ap (λ o. end_to_in o j) (get_set_other r.vs (at_of r) i r.v ne)
 
-take_other : (r : Run) (i j : ℕ) → j ≢ at_of r → take_at (us_of r) i j ≡ take_at r.vs i j
+take_other : {sli : ℕ} (r : Run sli) (i j : ℕ) → j ≢ at_of r → take_at (us_of r) i j ≡ take_at r.vs i j
 take_other r i j ne = ap (λ o. end_from_in o i) (get_set_other r.vs (at_of r) j r.v ne)
 
-post_own : (r : Run) (j : ℕ) → post_at (us_of r) (at_of r) j ≡ end_to r.v j
+post_own : {sli : ℕ} (r : Run sli) (j : ℕ) → post_at (us_of r) (at_of r) j ≡ end_to r.v j
 post_own r j = ap (λ o. end_to_in o j) (at_us r)
 
-own_end : (r : Run) (i : ℕ) → take_at (us_of r) i (at_of r) ≡ end_from r.v i
+own_end : {sli : ℕ} (r : Run sli) (i : ℕ) → take_at (us_of r) i (at_of r) ≡ end_from r.v i
 own_end r i = ap (λ o. end_from_in o i) (at_us r)
 
-post_was : (r : Run) (j : ℕ) → end_to r.a j ≡ post_at r.vs (at_of r) j
+post_was : {sli : ℕ} (r : Run sli) (j : ℕ) → end_to r.a j ≡ post_at r.vs (at_of r) j
 post_was r j = sym (ap (λ o. end_to_in o j) r.is)
 
-take_was : (r : Run) (i : ℕ) → end_from r.a i ≡ take_at r.vs i (at_of r)
+take_was : {sli : ℕ} (r : Run sli) (i : ℕ) → end_from r.a i ≡ take_at r.vs i (at_of r)
 take_was r i = sym (ap (λ o. end_from_in o i) r.is)
 
 -- ---- one lane, settled before and after
 
-lane_took : (r : Run) (ws zs : List Worker) (i : ℕ) → i ≢ at_of r → MetIn ws r.vs i (at_of r) → (n : MetIn (us_of r) zs i (at_of r))
+lane_took : {sli : ℕ} (r : Run sli) (ws zs : List (Worker sli)) (i : ℕ) → i ≢ at_of r → MetIn ws r.vs i (at_of r) → (n : MetIn (us_of r) zs i (at_of r))
     → waits_in r.vs i (at_of r) ≡ posts_taken i (at_of r) (own_of r) ++ waited n.new_take
 lane_took r ws zs i ne m n =
     let at = at_of r in
@@ -136,7 +136,7 @@ lane_took r ws zs i ne m n =
     let all : waited n.take ++ posts_sent n.post ≡ waited m.new_take = ap (λ l. waited n.take ++ l) sent ∙ (append-nil (waited n.take) ∙ had) in
     met_waits ws r.vs i at m ∙ (sym all ∙ (sym n.meets.order ∙ ap (λ l. l ++ waited n.new_take) gone))
 
-lane_sent : (r : Run) (ws zs : List Worker) → Settles r ws zs → (j : ℕ) → j < length r.vs → at_of r ≢ j → MetIn ws r.vs (at_of r) j → MetIn (us_of r) zs (at_of r) j
+lane_sent : {sli : ℕ} (r : Run sli) (ws zs : List (Worker sli)) → Settles r ws zs → (j : ℕ) → j < length r.vs → at_of r ≢ j → MetIn ws r.vs (at_of r) j → MetIn (us_of r) zs (at_of r) j
     → length (waits_in r.vs (at_of r) j) + length (posts_made (at_of r) j (r.made ++ []) (own_of r)) ≤ capacity_in r.vs
 lane_sent r ws zs s j j_in ne m n =
     let at = at_of r in
@@ -164,7 +164,7 @@ no_rest waits took rest e p =
     let b = sym (length-append waits p.0) ∙ ap length p.1 in
     nil_from_length rest (omega arith)
 
-spent_all : (r : Run) (ws : List Worker) (i : ℕ) (own : List Entry) → (m : MetIn ws r.vs i (at_of r)) → length (ready m.new_take) ≤ slice_index r.limits i → Spent r.a r.limits (at_of r) i own
+spent_all : {sli : ℕ} (r : Run sli) (ws : List (Worker sli)) (i : ℕ) (own : List Entry) → (m : MetIn ws r.vs i (at_of r)) → length (ready m.new_take) ≤ slice_index r.limits i → Spent r.a r.limits (at_of r) i own
     → IsPrefix (waits_in r.vs i (at_of r)) (posts_taken i (at_of r) own)
 spent_all r ws i own m le spent =
     let known : ready m.new_take ≡ waits_in r.vs i (at_of r) = m.meets.fresh.2 ∙ sym (met_waits ws r.vs i (at_of r) m) in
@@ -172,10 +172,10 @@ spent_all r ws i own m le spent =
 
 -- ---- the world suits
 
-single_of : (r : Run) → ((most : ℕ) → r.call ≡ Drain most → ⊥) → own_of r ≡ one (at_of r) r.call r.reply
+single_of : {sli : ℕ} (r : Run sli) → ((most : ℕ) → r.call ≡ Drain most → ⊥) → own_of r ≡ one (at_of r) r.call r.reply
 single_of r single = ap (λ o. o ++ one (at_of r) r.call r.reply) (r.step.single single)
 
-room_in : (r : Run) (ws zs : List Worker) → Settles r ws zs → (target : Target) (name : Name) → r.call ≡ Release target → name_of r.made target ≡ Some name → name.heap ≢ at_of r → name.heap < length r.vs
+room_in : {sli : ℕ} (r : Run sli) (ws zs : List (Worker sli)) → Settles r ws zs → (target : Target) (name : Name) → r.call ≡ Release target → name_of r.made target ≡ Some name → name.heap ≢ at_of r → name.heap < length r.vs
     → r.reply ≡ Posted → length (waits_in r.vs (at_of r) name.heap) ≢ capacity_in r.vs
 room_in r ws zs s target name c known ne lt e full =
     let at = at_of r in
@@ -192,7 +192,7 @@ room_in r ws zs s target name c known ne lt e full =
     let p = ap length posted in
     absurd (omega arith)
 
-full_in : (r : Run) (ws zs : List Worker) → Settles r ws zs → (target : Target) (name : Name) → r.call ≡ Release target → name_of r.made target ≡ Some name → name.heap ≢ at_of r → name.heap < length r.vs
+full_in : {sli : ℕ} (r : Run sli) (ws zs : List (Worker sli)) → Settles r ws zs → (target : Target) (name : Name) → r.call ≡ Release target → name_of r.made target ≡ Some name → name.heap ≢ at_of r → name.heap < length r.vs
     → r.reply ≡ Refused (Full name) → length (waits_in r.vs (at_of r) name.heap) ≡ capacity_in r.vs
 full_in r ws zs s target name c known ne lt e =
     let at = at_of r in
@@ -207,10 +207,10 @@ full_in r ws zs s target name c known ne lt e =
     let room = met_room ws r.vs at j (at_in r) lt apart r.yard m in
     omega arith
 
-take_concern : (r : Run) (from i : ℕ) → r.call ≡ Take from → ConcernsCall r.made (at_of r) r.call i (at_of r)
+take_concern : {sli : ℕ} (r : Run sli) (from i : ℕ) → r.call ≡ Take from → ConcernsCall r.made (at_of r) r.call i (at_of r)
 take_concern r from i c = subst (λ x. ConcernsCall r.made (at_of r) x i (at_of r)) (sym c) refl
 
-first_in : (r : Run) (ws zs : List Worker) → Settles r ws zs → (from : ℕ) (t : Took) → r.call ≡ Take from → from ≢ at_of r → from < length r.vs → r.reply ≡ Taken t
+first_in : {sli : ℕ} (r : Run sli) (ws zs : List (Worker sli)) → Settles r ws zs → (from : ℕ) (t : Took) → r.call ≡ Take from → from ≢ at_of r → from < length r.vs → r.reply ≡ Taken t
     → (rest : List Post) × (waits_in r.vs from (at_of r) ≡ record { from = t.from; name = t.name } ∷ rest)
 first_in r ws zs s from t c ne lt e =
     let at = at_of r in
@@ -221,7 +221,7 @@ first_in r ws zs s from t c ne lt e =
     ap (posts_taken from at) (own ∙ (ap (λ x. one at x r.reply) c ∙ ap (λ y. one at (Take from) y) e)) ∙ taken_same at from t in
     (waited n.new_take, lane_took r ws zs from ne m n ∙ ap (λ l. l ++ waited n.new_take) took)
 
-empty_in : (r : Run) (ws zs : List Worker) → Settles r ws zs → (from : ℕ) → r.call ≡ Take from → from ≢ at_of r → from < length r.vs → r.reply ≡ Empty → waits_in r.vs from (at_of r) ≡ []
+empty_in : {sli : ℕ} (r : Run sli) (ws zs : List (Worker sli)) → Settles r ws zs → (from : ℕ) → r.call ≡ Take from → from ≢ at_of r → from < length r.vs → r.reply ≡ Empty → waits_in r.vs from (at_of r) ≡ []
 empty_in r ws zs s from c ne lt e =
     let at = at_of r in
     let m = s.before from at lt (at_in r) ne (take_concern r from from c) in
@@ -235,7 +235,7 @@ empty_in r ws zs s from c ne lt e =
     let k = sym (length-append (waits_in r.vs from at) p.0) ∙ ap length p.1 in
     nil_from_length (waits_in r.vs from at) (omega arith)
 
-drain_in : (r : Run) (ws zs : List Worker) → Settles r ws zs → (most : ℕ) → r.call ≡ Drain most → (k : ℕ) → k < length r.vs → k ≢ at_of r
+drain_in : {sli : ℕ} (r : Run sli) (ws zs : List (Worker sli)) → Settles r ws zs → (most : ℕ) → r.call ≡ Drain most → (k : ℕ) → k < length r.vs → k ≢ at_of r
     → (rest : List Post) × (waits_in r.vs k (at_of r) ≡ posts_taken k (at_of r) r.step.own ++ rest) × ((sum_below (suc k) (λ i. length (posts_taken i (at_of r) r.step.own)) ≡ most) ⊎ (rest ≡ []))
 drain_in r ws zs s most c k lt ne =
     let at = at_of r in
@@ -257,7 +257,7 @@ drain_in r ws zs s most c k lt ne =
       ],
     )
 
-suits : (r : Run) (ws zs : List Worker) → Settles r ws zs → SuitsCall (world_of r.vs) (length r.vs) (at_of r) r.made r.call r.reply r.step.own
+suits : {sli : ℕ} (r : Run sli) (ws zs : List (Worker sli)) → Settles r ws zs → SuitsCall (world_of r.vs) (length r.vs) (at_of r) r.made r.call r.reply r.step.own
 unfolding world_of
 suits r ws zs s =
     let n = heaps_count r.vs in
@@ -331,7 +331,7 @@ posts_or at j made later (Take from) name own t = inl (ap (posts_made at j later
 
 -- ---- what a release leaves in a lane that isn't there
 
-posting_far : (w : World) (at : ℕ) (name : Name) (j : ℕ) → name.heap ≢ j → (posting w at name).world.waiting at j ≡ w.waiting at j
+posting_far : {sli : ℕ} (w : World sli) (at : ℕ) (name : Name) (j : ℕ) → name.heap ≢ j → (posting w at name).world.waiting at j ≡ w.waiting at j
 unfolding posting
 posting_far w at name j ne = elim (cases_eq (length (w.waiting at name.heap)) w.capacity) [
   | inl e ↦ let b : (length (w.waiting at name.heap) == w.capacity) ≡ true = grind (arith, nat_tests) in rw b refl
@@ -340,7 +340,7 @@ posting_far w at name j ne = elim (cases_eq (length (w.waiting at name.heap)) w.
       rw b (edited_other w.waiting at name.heap at j (w.waiting at name.heap ++ record { from = at; name = name } ∷ []) (λ _ q. ne (sym q)))
 ]
 
-far_lane_waits : (w : World) (at j : ℕ) (o : Option Name) → (j ≡ at) ⊎ (length w.heaps ≤ j) → (releasing_named w at o).world.waiting at j ≡ w.waiting at j
+far_lane_waits : {sli : ℕ} (w : World sli) (at j : ℕ) (o : Option Name) → (j ≡ at) ⊎ (length w.heaps ≤ j) → (releasing_named w at o).world.waiting at j ≡ w.waiting at j
 far_lane_waits w at j None far = refl
 far_lane_waits w at j (Some name) far = elim (cases_eq name.heap at) [
   | inl own ↦ let b : (name.heap == at) ≡ true = grind (arith, nat_tests) in rw b refl
@@ -354,14 +354,14 @@ far_lane_waits w at j (Some name) far = elim (cases_eq name.heap at) [
 
 -- ---- the capacity of a world
 
-posting_capacity : (w : World) (at : ℕ) (name : Name) → (posting w at name).world.capacity ≡ w.capacity
+posting_capacity : {sli : ℕ} (w : World sli) (at : ℕ) (name : Name) → (posting w at name).world.capacity ≡ w.capacity
 unfolding posting
 posting_capacity w at name = elim (cases_eq (length (w.waiting at name.heap)) w.capacity) [
   | inl e ↦ let b : (length (w.waiting at name.heap) == w.capacity) ≡ true = grind (arith, nat_tests) in rw b refl
   | inr e ↦ let b : (length (w.waiting at name.heap) == w.capacity) ≡ false = grind (arith, nat_tests) in rw b refl
 ]
 
-release_capacity : (w : World) (at : ℕ) (o : Option Name) → (releasing_named w at o).world.capacity ≡ w.capacity
+release_capacity : {sli : ℕ} (w : World sli) (at : ℕ) (o : Option Name) → (releasing_named w at o).world.capacity ≡ w.capacity
 release_capacity w at None = refl
 release_capacity w at (Some name) = elim (cases_eq name.heap at) [
   | inl own ↦ let b : (name.heap == at) ≡ true = grind (arith, nat_tests) in rw b refl
@@ -371,15 +371,15 @@ release_capacity w at (Some name) = elim (cases_eq name.heap at) [
   ]
 ]
 
-first_capacity : (w : World) (at from : ℕ) (ps : List Post) → (took_first w at from ps).world.capacity ≡ w.capacity
+first_capacity : {sli : ℕ} (w : World sli) (at from : ℕ) (ps : List Post) → (took_first w at from ps).world.capacity ≡ w.capacity
 first_capacity w at from [] = refl
 first_capacity w at from (p ∷ rest) = refl
 
-next_capacity : (w : World) (at from : ℕ) → (taking_next w at from).world.capacity ≡ w.capacity
+next_capacity : {sli : ℕ} (w : World sli) (at from : ℕ) → (taking_next w at from).world.capacity ≡ w.capacity
 unfolding taking_next
 next_capacity w at from = first_capacity w at from (w.waiting from at)
 
-take_capacity : (w : World) (at from : ℕ) → (taking w at from).world.capacity ≡ w.capacity
+take_capacity : {sli : ℕ} (w : World sli) (at from : ℕ) → (taking w at from).world.capacity ≡ w.capacity
 take_capacity w at from = elim (cases_eq from at) [
   | inl own ↦ rw (taking_own w at from own) refl
   | inr ne ↦ elim (cases_lt from (length w.heaps)) [
@@ -388,27 +388,27 @@ take_capacity w at from = elim (cases_eq from at) [
   ]
 ]
 
-write_capacity : (w : World) (at : ℕ) (o : Option Name) (from : ℕ) (bytes : List ℕ) → (writing_named w at o from bytes).world.capacity ≡ w.capacity
+write_capacity : {sli : ℕ} (w : World sli) (at : ℕ) (o : Option Name) (from : ℕ) (bytes : List ℕ) → (writing_named w at o from bytes).world.capacity ≡ w.capacity
 write_capacity w at None from bytes = refl
 write_capacity w at (Some name) from bytes = refl
 
-read_capacity : (w : World) (at : ℕ) (o : Option Name) (from n : ℕ) → (reading_named w at o from n).world.capacity ≡ w.capacity
+read_capacity : {sli : ℕ} (w : World sli) (at : ℕ) (o : Option Name) (from n : ℕ) → (reading_named w at o from n).world.capacity ≡ w.capacity
 read_capacity w at None from n = refl
 read_capacity w at (Some name) from n = refl
 
-resize_capacity : (w : World) (at : ℕ) (o : Option Name) (len : ℕ) → (resizing_named w at o len).world.capacity ≡ w.capacity
+resize_capacity : {sli : ℕ} (w : World sli) (at : ℕ) (o : Option Name) (len : ℕ) → (resizing_named w at o len).world.capacity ≡ w.capacity
 resize_capacity w at None len = refl
 resize_capacity w at (Some name) len = refl
 
-lane_capacity : (at from : ℕ) (ps : List Post) (d : Draining) → (fold (took_more at from) d ps).world.capacity ≡ d.world.capacity
+lane_capacity : {sli : ℕ} (at from : ℕ) (ps : List Post) (d : Draining sli) → (fold (took_more at from) d ps).world.capacity ≡ d.world.capacity
 lane_capacity at from [] d = refl
 lane_capacity at from (p ∷ ps) d = lane_capacity at from ps (took_more at from d p)
 
-drained_capacity : (at most from : ℕ) (d : Draining) → (drained_lane at most from d).world.capacity ≡ d.world.capacity
+drained_capacity : {sli : ℕ} (at most from : ℕ) (d : Draining sli) → (drained_lane at most from d).world.capacity ≡ d.world.capacity
 unfolding drained_lane
 drained_capacity at most from d = lane_capacity at from (take (most - d.taken) (d.world.waiting from at)) d
 
-below_capacity : (at most : ℕ) (d : Draining) (k : ℕ) → (drained_below at most d k).world.capacity ≡ d.world.capacity
+below_capacity : {sli : ℕ} (at most : ℕ) (d : Draining sli) (k : ℕ) → (drained_below at most d k).world.capacity ≡ d.world.capacity
 below_capacity at most d zero = refl
 below_capacity at most d (suc k) =
     let b = drained_below at most d k in
@@ -417,11 +417,11 @@ below_capacity at most d (suc k) =
       | inr ne ↦ rw (from_other at most b k ne) (drained_capacity at most k b ∙ below_capacity at most d k)
     ]
 
-drain_capacity : (r : Replayed) (at most : ℕ) → (draining r at most).world.capacity ≡ r.world.capacity
+drain_capacity : {sli : ℕ} (r : Replayed sli) (at most : ℕ) → (draining r at most).world.capacity ≡ r.world.capacity
 unfolding draining after_drain
 drain_capacity r at most = below_capacity at most (record { entries = r.entries; world = r.world; taken = 0 }) (length r.world.heaps)
 
-called_capacity : (r : Replayed) (at : ℕ) (call : Call) → (called r at call).world.capacity ≡ r.world.capacity
+called_capacity : {sli : ℕ} (r : Replayed sli) (at : ℕ) (call : Call) → (called r at call).world.capacity ≡ r.world.capacity
 called_capacity r at (Allocate len) = refl
 called_capacity r at (Release target) = release_capacity r.world at (name_of r.made target)
 called_capacity r at (Write target from bytes) = write_capacity r.world at (name_of r.made target) from (bytes_of bytes)
@@ -459,7 +459,7 @@ same_set d h (x ∷ xs) (y ∷ ys) (suc at) len lt here others =
     cc
 
 -- what the model answers and leaves
-record Model (r : Run) (s : Replayed) : Type 0 where
+record Model {sli : ℕ} (r : Run sli) (s : Replayed sli) : Type 0 where
   name : Option Name
   tells : TellsCall (at_of r) r.made r.call name (own_of r)
   history : IsHistory (r.made ++ []) (world_of r.vs) (own_of r) s.world
@@ -467,10 +467,10 @@ record Model (r : Run) (s : Replayed) : Type 0 where
   entries : s.entries ≡ r.longer ++ one (at_of r) r.call r.reply
   heap : heap_in s.world (at_of r) ≡ heap_of r.v
 
-abbrev begun_of : Run → Replayed
+abbrev begun_of : {sli : ℕ} → Run sli → Replayed sli
 begun_of r = replay_of r.made r.es r.vs
 
-model : (r : Run) (ws zs : List Worker) → Settles r ws zs → Model r (called (begun_of r) (at_of r) r.call)
+model : {sli : ℕ} (r : Run sli) (ws zs : List (Worker sli)) → Settles r ws zs → Model r (called (begun_of r) (at_of r) r.call)
 model r ws zs s =
     let at = at_of r in
     let n = heaps_count r.vs in
@@ -489,10 +489,10 @@ model r ws zs s =
       heap = ap (λ x. x.heap) told;
     }
 
-nothing_run : (made : List (Option Name)) (own : List Entry) (j : ℕ) (h g : HeapState) → entries_of j own ≡ [] → RunsTo h (calls_on j made own) (answers_on j own) g → h ≡ g
-nothing_run made own j h g none run = sym (ap (λ (es : List Entry). (heap.run 4 h (filter_map (λ e. call_on_own made e.worker e.call e.reply) es)).1) none) ∙ run.left
+nothing_run : {sli : ℕ} (made : List (Option Name)) (own : List Entry) (j : ℕ) (h g : HeapState) → entries_of j own ≡ [] → RunsTo sli h (calls_on j made own) (answers_on j own) g → h ≡ g
+nothing_run {sli} made own j h g none run = sym (ap (λ (es : List Entry). (heap.run sli h (filter_map (λ e. call_on_own made e.worker e.call e.reply) es)).1) none) ∙ run.left
 
-heaps_stay : (r : Run) (s : Replayed) → Model r s → s.world.heaps ≡ (world_of (us_of r)).heaps
+heaps_stay : {sli : ℕ} (r : Run sli) (s : Replayed sli) → Model r s → s.world.heaps ≡ (world_of (us_of r)).heaps
 unfolding world_of
 heaps_stay r s m =
     let at = at_of r in
@@ -508,7 +508,7 @@ lane_of : (o : Option PostEnd) (u : Option TakeEnd) (p : PostEnd) (t : TakeEnd) 
 lane_of o u p t a b = rw (a, b) refl
 
 -- the model after the call
-abbrev after_of : Run → Replayed
+abbrev after_of : {sli : ℕ} → Run sli → Replayed sli
 after_of r = called (begun_of r) (at_of r) r.call
 
 none_made : (i j : ℕ) (made : List (Option Name)) (own : List Entry) → entries_of i own ≡ [] → posts_made i j made own ≡ []
@@ -521,7 +521,7 @@ nil_end : (xs ys : List Post) → [] ≡ xs ++ ys → ys ≡ []
 nil_end xs ys e = let a = ap length e ∙ length-append xs ys in nil_from_length ys (omega arith)
 
 -- a lane that isn't there
-nowhere_same : (r : Run) → Model r (after_of r) → (j : ℕ) → (j ≡ at_of r) ⊎ (length r.vs ≤ j) → waits_in r.vs (at_of r) j ≡ [] → waits_in (us_of r) (at_of r) j ≡ []
+nowhere_same : {sli : ℕ} (r : Run sli) → Model r (after_of r) → (j : ℕ) → (j ≡ at_of r) ⊎ (length r.vs ≤ j) → waits_in r.vs (at_of r) j ≡ [] → waits_in (us_of r) (at_of r) j ≡ []
     → (after_of r).world.waiting (at_of r) j ≡ waits_in (us_of r) (at_of r) j
 unfolding world_of
 nowhere_same r m j far before now =
@@ -537,7 +537,7 @@ nowhere_same r m j far before now =
           ap (λ (c : Call). (called (begun_of r) at c).world.waiting at j) p.2 ∙ (far_lane_waits (world_of r.vs) at j (name_of r.made p.0) away ∙ (before ∙ sym now))
     ]
 
-sent_same : (r : Run) (ws zs : List Worker) → Settles r ws zs → Model r (after_of r) → (j : ℕ) → j < length r.vs → j ≢ at_of r → (after_of r).world.waiting (at_of r) j ≡ waits_in (us_of r) (at_of r) j
+sent_same : {sli : ℕ} (r : Run sli) (ws zs : List (Worker sli)) → Settles r ws zs → Model r (after_of r) → (j : ℕ) → j < length r.vs → j ≢ at_of r → (after_of r).world.waiting (at_of r) j ≡ waits_in (us_of r) (at_of r) j
 unfolding world_of
 sent_same r ws zs s m j lt ne =
     let at = at_of r in
@@ -567,7 +567,7 @@ sent_same r ws zs s m j lt ne =
           ap (λ l. l ++ posts) (was ∙ whole (waited t ++ posts_sent h.0)) ∙ (append_assoc (waited t) (posts_sent h.0) posts ∙ (sym (whole (waited t ++ (posts_sent h.0 ++ posts))) ∙ sym now))
     ]
 
-taken_same_lane : (r : Run) → Model r (after_of r) → (i : ℕ) → i < length r.vs → i ≢ at_of r → (after_of r).world.waiting i (at_of r) ≡ waits_in (us_of r) i (at_of r)
+taken_same_lane : {sli : ℕ} (r : Run sli) → Model r (after_of r) → (i : ℕ) → i < length r.vs → i ≢ at_of r → (after_of r).world.waiting i (at_of r) ≡ waits_in (us_of r) i (at_of r)
 unfolding world_of
 taken_same_lane r m i lt ne =
     let at = at_of r in
@@ -587,7 +587,7 @@ taken_same_lane r m i lt ne =
     lane_of (post_at (us_of r) i at) (take_at (us_of r) i at) h.0 e.end post_is take_is ∙ (ap (λ n. drop n (waited e.end ++ posts_sent h.0)) count ∙ ap (λ l. drop (length (taken t) + length took) (l ++ posts_sent h.0)) e.waited) in
     sym (drop_at took left (length took) refl) ∙ (ap (drop (length took)) (sym model ∙ was) ∙ (drop-drop (length took) (length (taken t)) (waited t ++ posts_sent h.0) ∙ sym now))
 
-lanes_same : (r : Run) (ws zs : List Worker) → Settles r ws zs → Model r (after_of r) → (i j : ℕ) → (after_of r).world.waiting i j ≡ waits_in (us_of r) i j
+lanes_same : {sli : ℕ} (r : Run sli) (ws zs : List (Worker sli)) → Settles r ws zs → Model r (after_of r) → (i j : ℕ) → (after_of r).world.waiting i j ≡ waits_in (us_of r) i j
 unfolding world_of
 lanes_same r ws zs s m i j =
     let at = at_of r in
@@ -622,40 +622,40 @@ lanes_same r ws zs s m i j =
       ]
     ]
 
-world_same : (r : Run) (ws zs : List Worker) → Settles r ws zs → Model r (after_of r) → (after_of r).world ≡ world_of (us_of r)
+world_same : {sli : ℕ} (r : Run sli) (ws zs : List (Worker sli)) → Settles r ws zs → Model r (after_of r) → (after_of r).world ≡ world_of (us_of r)
 unfolding world_of
 world_same r ws zs s m =
     same_world (after_of r).world (world_of (us_of r)) (heaps_stay r (after_of r) m) (lanes_same r ws zs s m) (called_capacity (begun_of r) (at_of r) r.call ∙ sym (us_capacity r))
 
 -- the call leaves what the model says
-ran : (r : Run) (ws zs : List Worker) → Settles r ws zs → after_of r ≡ replay_of (r.made ++ made_by r.reply ∷ []) (r.longer ++ one (at_of r) r.call r.reply) zs
+ran : {sli : ℕ} (r : Run sli) (ws zs : List (Worker sli)) → Settles r ws zs → after_of r ≡ replay_of (r.made ++ made_by r.reply ∷ []) (r.longer ++ one (at_of r) r.call r.reply) zs
 ran r ws zs s =
     let m = model r ws zs s in
     let w : (after_of r).world ≡ world_of zs = world_same r ws zs s m ∙ sym s.world in
     λ k. record { made = m.made k; entries = m.entries k; world = w k }
 
-pub replied : (r : Run) (ws zs : List Worker) (event : Event) → Settles r ws zs → world_of r.vs ≡ world_of ws → event.worker ≡ at_of r → event.call ≡ r.call
+pub replied : {sli : ℕ} (r : Run sli) (ws zs : List (Worker sli)) (event : Event) → Settles r ws zs → world_of r.vs ≡ world_of ws → event.worker ≡ at_of r → event.call ≡ r.call
     → IsReplied (replay_of r.made r.es ws) event r.longer zs r.reply
-replied r ws zs event s world at_is call_is =
+replied {sli} r ws zs event s world at_is call_is =
     let at = at_of r in
-    let start : Replayed = replay_of r.made r.es ws in
+    let start : Replayed sli = replay_of r.made r.es ws in
     let n = heaps_count r.vs in
     let inside = at_in r in
-    let same = ap (λ (w : World). length w.heaps) world in
+    let same = ap (λ (w : World sli). length w.heaps) world in
     let first : Entry = record { worker = at; call = r.call; reply = r.reply } in
     let last : Entry = record { worker = event.worker; call = event.call; reply = r.reply } in
     let entry : first ≡ last = λ k. record { worker = (sym at_is) k; call = (sym call_is) k; reply = r.reply } in
     record {
       yard = s.yard;
       after = after_near start event r.call (omega arith) call_is ∙ (ap (λ (k : ℕ). called start k r.call) at_is
-          ∙ (ap (λ (w : World). called (record { made = r.made; entries = r.es; world = w }) at r.call) (sym world) ∙ (ran r ws zs s
+          ∙ (ap (λ (w : World sli). called (record { made = r.made; entries = r.es; world = w }) at r.call) (sym world) ∙ (ran r ws zs s
           ∙ ap (λ (e : Entry). replay_of (r.made ++ made_by r.reply ∷ []) (r.longer ++ e ∷ []) zs) entry)));
     }
 
 -- ---- before and after the call
 
 -- the facts of both settlings, where the worker goes by the event's number
-pub settles : (r : Run) (ws zs : List Worker) (at : ℕ) → at_of r ≡ at → length r.vs ≡ length ws
+pub settles : {sli : ℕ} (r : Run sli) (ws zs : List (Worker sli)) (at : ℕ) → at_of r ≡ at → length r.vs ≡ length ws
     → ((i j : ℕ) → i < length ws → j < length ws → i ≢ j → ConcernsCall r.made at r.call i j → MetIn ws r.vs i j)
     → ((i j : ℕ) → i < length (set r.vs at r.v) → j < length (set r.vs at r.v) → i ≢ j → ConcernsCall r.made at r.call i j → MetIn (set r.vs at r.v) zs i j)
     → (MayTake r.call → (i : ℕ) (t : TakeEnd) → i < 8 → take_at r.vs i at ≡ Some t → length (ready t) ≤ slice_index r.limits i)
@@ -672,7 +672,7 @@ settles r ws zs at e len first second limits yard count world =
     }
 
 -- what is ready after the lanes to a worker were settled is all that waits
-pub limits_are : (ws vs : List Worker) (e : Event) (counts : List ℕ) (a : Worker) → IsYard vs → length vs ≡ length ws → slice_get vs e.worker ≡ Some a
+pub limits_are : {sli : ℕ} (ws vs : List (Worker sli)) (e : Event) (counts : List ℕ) (a : Worker sli) → IsYard vs → length vs ≡ length ws → slice_get vs e.worker ≡ Some a
     → ((i : ℕ) → i < length ws → i ≢ e.worker → MetIn ws vs i e.worker) → ((i : ℕ) → i < 8 → slice_index counts i ≡ ready_from a i) → AreLimits vs e counts
 limits_are ws vs e counts a yard len is met counted =
     let at = e.worker in
@@ -697,9 +697,9 @@ limits_are ws vs e counts a yard len is met counted =
     }
 
 -- where nothing may be taken, no limits are enough
-pub zero_limits : (ws : List Worker) (e : Event) → (MayTake e.call → ⊥) → AreLimits ws e (replicate 8 0)
+pub zero_limits : {sli : ℕ} (ws : List (Worker sli)) (e : Event) → (MayTake e.call → ⊥) → AreLimits ws e (replicate 8 0)
 zero_limits ws e none = record { few = λ i lt. let z : slice_index (replicate 8 0) i ≡ 0 = get_or-replicate 8 i 0 0 lt in omega (arith, z); all = λ may. absurd (none may) }
 
-pub limit_room : (ws vs : List Worker) (e : Event) (limits : List ℕ) → AreLimits vs e limits → world_of vs ≡ world_of ws → sum_of limits ≤ sum_below 8 (λ i. length (waits_in ws i e.worker))
+pub limit_room : {sli : ℕ} (ws vs : List (Worker sli)) (e : Event) (limits : List ℕ) → AreLimits vs e limits → world_of vs ≡ world_of ws → sum_of limits ≤ sum_below 8 (λ i. length (waits_in ws i e.worker))
 limit_room ws vs e limits l same =
     least_sum 8 (slice_index limits) (λ i. length (waits_in ws i e.worker)) (λ i lt. let w = ap length (waits_same ws vs same i e.worker) in omega (arith, l.few i lt))

@@ -32,20 +32,20 @@ only_one x y (suc k) lt e = absurd (omega (arith, lt))
 made_push : (names : List (Option Name)) (x : Option Name) (n : Name) → IsMade (names ++ x ∷ []) n → IsMade names n ⊎ (x ≡ Some n)
 made_push names x n has = elim (Contains-append_cases names (x ∷ []) (Some n) has) [ inl a ↦ inl a | inr b ↦ inr (only_one x (Some n) b.0 b.1 b.2) ]
 
-module _ (r : Replayed) (gone gone2 : Name → Type 0) (more : (n : Name) → gone n → gone2 n) where
+module _ {sli : ℕ} (r : Replayed sli) (gone gone2 : Name → Type 0) (more : (n : Name) → gone n → gone2 n) where
   abbrev pub Before : Type 0
   Before = IsKept (IsMade r.made) gone r.world
 
   -- one answer more
-  abbrev pub After : Replied → Type 0
+  abbrev pub After : Replied sli → Type 0
   After x = IsKept (IsMade (r.made ++ made_by x.reply ∷ [])) gone2 x.world × IsNotStale x.reply
 
   -- with no name more
-  pub same_made : (w : World) → IsKept (IsMade r.made) gone2 w → IsKept (IsMade (r.made ++ None ∷ [])) gone2 w
+  pub same_made : (w : World sli) → IsKept (IsMade r.made) gone2 w → IsKept (IsMade (r.made ++ None ∷ [])) gone2 w
   same_made w kept = kept_by (IsMade r.made) (IsMade (r.made ++ None ∷ [])) gone2 gone2 w
       (λ n a. elim (made_push r.made None n a) [ inl b ↦ b | inr b ↦ cc ]) (λ n g. g) kept
 
-  pub more_gone : (w : World) → IsKept (IsMade r.made) gone w → IsKept (IsMade r.made) gone2 w
+  pub more_gone : (w : World sli) → IsKept (IsMade r.made) gone w → IsKept (IsMade r.made) gone2 w
   more_gone w kept = kept_by (IsMade r.made) (IsMade r.made) gone gone2 w (λ n a. a) more kept
 
   -- nothing done
@@ -61,15 +61,15 @@ module _ (r : Replayed) (gone gone2 : Name → Type 0) (more : (n : Name) → go
   stays_kept at h at_in same stays kept =
       heap_kept (IsMade r.made) gone2 (λ m. ⊤) r.world at h at_in same (λ m _ live. stays m live) (λ m a b. tt) (λ i j k p e. tt) (more_gone r.world kept)
 
-  pub allocate_kept : (at len : ℕ) → at < length r.world.heaps → Before → (answer : Result Name Refusal) → (allocated (heap_in r.world at) len).answer ≡ answer
-      → After (record { reply = reply_made answer; world = with_heap r.world at (allocated (heap_in r.world at) len).heap })
+  pub allocate_kept : (at len : ℕ) → at < length r.world.heaps → Before → (answer : Result Name Refusal) → (allocated sli (heap_in r.world at) len).answer ≡ answer
+      → After (record { reply = reply_made answer; world = with_heap r.world at (allocated sli (heap_in r.world at) len).heap })
   allocate_kept at len at_in kept (Ok n) e =
       let h = heap_in r.world at in
-      let g = (allocated h len).heap in
+      let g = (allocated sli h len).heap in
       let v = with_heap r.world at g in
-      let live = allocated_new h len n e in
-      let here : n.heap ≡ at = live.0 ∙ (allocated_id h len ∙ kept.ids at at_in) in
-      let all = stays_kept at g at_in (allocated_id h len) (λ m l. allocated_stays h len m l) kept in
+      let live = allocated_new sli h len n e in
+      let here : n.heap ≡ at = live.0 ∙ (allocated_id sli h len ∙ kept.ids at at_in) in
+      let all = stays_kept at g at_in (allocated_id sli h len) (λ m l. allocated_stays sli h len m l) kept in
       let new = more_kept (IsMade r.made) gone2 v n (live_here r.world at g n at_in here live) all in (
         kept_by (λ m. (m ≡ n) ⊎ IsMade r.made m) (IsMade (r.made ++ Some n ∷ [])) gone2 gone2 v
             (λ m a. elim (made_push r.made (Some n) m a) [ inl b ↦ inr b | inr b ↦ inl (sym (some_same n m b)) ]) (λ m x. x) new,
@@ -77,9 +77,9 @@ module _ (r : Replayed) (gone gone2 : Name → Type 0) (more : (n : Name) → go
       )
   allocate_kept at len at_in kept (Err why) e =
       let h = heap_in r.world at in
-      let g = (allocated h len).heap in (
-        same_made (with_heap r.world at g) (stays_kept at g at_in (allocated_id h len) (λ m l. allocated_stays h len m l) kept),
-        (λ f. allocated_known h len (e ∙ (let same : why ≡ Stale = cc in ap Err same)), λ t f. cc),
+      let g = (allocated sli h len).heap in (
+        same_made (with_heap r.world at g) (stays_kept at g at_in (allocated_id sli h len) (λ m l. allocated_stays sli h len m l) kept),
+        (λ f. allocated_known sli h len (e ∙ (let same : why ≡ Stale = cc in ap Err same)), λ t f. cc),
       )
 
   -- a release of an own name

@@ -19,11 +19,11 @@ events = allocates ∷ record { worker = 1; call = Release (MadeBy 0) } ∷ reco
 abbrev pub first_name : Name
 first_name = record { heap = 0; at = 0; serial = 1 }
 
-first_made : (after (begun (opened_world 2 64 4)) allocates).made ≡ Some first_name ∷ []
+first_made : (after (begun (opened_world {sli = 4} 2 64 4)) allocates).made ≡ Some first_name ∷ []
 unfolding after allocated search_of classes low class_of
 first_made = refl
 
-pub is_fair : IsFairRun (opened_world 2 64 4) events
+pub is_fair : IsFairRun (opened_world {sli = 4} 2 64 4) events
 is_fair = record {
   empty = λ i j. refl;
   fair = (tt, (rw first_made ((0, omega arith, refl), λ g. elim g [ inl none ↦ none | inr x ↦ let e = x.1 in cc ]), (tt, tt)));

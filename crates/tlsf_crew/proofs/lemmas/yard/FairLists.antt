@@ -27,8 +27,8 @@ use Rattle.tlsf_crew.proofs.lemmas.yard.NamesKept.{IsKept}
 use Rattle.tlsf_crew.proofs.lemmas.yard.PostsKept.{took_kept, none_push, all_kept}
 use Rattle.tlsf_crew.proofs.lemmas.yard.FairEvents.{IsMade, After, same_made, more_gone, idle, refused_kept, stays_kept, allocate_kept, release_kept}
 
-module _ (r : Replayed) (gone gone2 : Name → Type 0) (more : (n : Name) → gone n → gone2 n) (kept : IsKept (IsMade r.made) gone r.world) where
-  abbrev Next : Replied → Type 0
+module _ {sli : ℕ} (r : Replayed sli) (gone gone2 : Name → Type 0) (more : (n : Name) → gone n → gone2 n) (kept : IsKept (IsMade r.made) gone r.world) where
+  abbrev Next : Replied sli → Type 0
   Next x = After r gone gone2 more x
 
   -- a usable name of the own heap is live in it
@@ -40,7 +40,7 @@ module _ (r : Replayed) (gone gone2 : Name → Type 0) (more : (n : Name) → go
   released_kept at None at_in usable now = absurd usable
   released_kept at (Some n) at_in usable now = release_kept r gone gone2 more at n at_in usable.0 usable.1 kept (now n refl)
 
-  wrote_kept : (n : ℕ) (v : World) → IsKept (IsMade (r.made ++ None ∷ [])) gone2 v → (answer : Result (Unit {0}) Refusal) → answer ≢ Err Stale
+  wrote_kept : (n : ℕ) (v : World sli) → IsKept (IsMade (r.made ++ None ∷ [])) gone2 v → (answer : Result (Unit {0}) Refusal) → answer ≢ Err Stale
       → Next (record { reply = reply_wrote n answer; world = v })
   wrote_kept n v after (Ok done) known = (after, (λ f. cc, λ t f. cc))
   wrote_kept n v after (Err why) known = (after, (λ f. known (let same : why ≡ Stale = cc in ap Err same), λ t f. cc))
@@ -63,7 +63,7 @@ module _ (r : Replayed) (gone gone2 : Name → Type 0) (more : (n : Name) → go
   read_kept at (Some name) from n at_in usable =
       got_kept (chunk_read (heap_in r.world at) name from n) (chunk_known (heap_in r.world at) name from n (own_live at name at_in usable.0 usable.1))
 
-  resize_answer_kept : (v : World) → IsKept (IsMade (r.made ++ None ∷ [])) gone2 v → (answer : Result (Unit {0}) Refusal) → answer ≢ Err Stale
+  resize_answer_kept : (v : World sli) → IsKept (IsMade (r.made ++ None ∷ [])) gone2 v → (answer : Result (Unit {0}) Refusal) → answer ≢ Err Stale
       → Next (record { reply = reply_resized answer; world = v })
   resize_answer_kept v after (Ok done) known = (after, (λ f. cc, λ t f. cc))
   resize_answer_kept v after (Err why) known = (after, (λ f. known (let same : why ≡ Stale = cc in ap Err same), λ t f. cc))
@@ -101,7 +101,7 @@ module _ (r : Replayed) (gone gone2 : Name → Type 0) (more : (n : Name) → go
       ]
 
   -- names are kept, and no answer so far is Stale
-  abbrev IsWell : Replayed → Type 0
+  abbrev IsWell : Replayed sli → Type 0
   IsWell s = IsKept (IsMade s.made) gone2 s.world × NoneStale s.entries
 
   drain_kept : (at most : ℕ) → NoneStale r.entries → IsWell (draining r at most)
@@ -118,7 +118,7 @@ module _ (r : Replayed) (gone gone2 : Name → Type 0) (more : (n : Name) → go
 
   called_kept : (at : ℕ) (call : Call) → at < length r.world.heaps → IsFairCall r gone call → IsGoneAfter at call → NoneStale r.entries → IsWell (called r at call)
   called_kept at (Allocate len) at_in fair now none =
-      let a = allocate_kept r gone gone2 more at len at_in kept (allocated (heap_in r.world at) len).answer refl in (a.0, none_push r.entries _ none a.1)
+      let a = allocate_kept r gone gone2 more at len at_in kept (allocated sli (heap_in r.world at) len).answer refl in (a.0, none_push r.entries _ none a.1)
   called_kept at (Release target) at_in fair now none = let a = released_kept at (name_of r.made target) at_in fair (now target refl) in (a.0, none_push r.entries _ none a.1)
   called_kept at (Write target from bytes) at_in fair now none = let a = write_kept at (name_of r.made target) from (bytes_of bytes) at_in fair in (a.0, none_push r.entries _ none a.1)
   called_kept at (Read target from n) at_in fair now none = let a = read_kept at (name_of r.made target) from n at_in fair in (a.0, none_push r.entries _ none a.1)
@@ -134,13 +134,13 @@ module _ (r : Replayed) (gone gone2 : Name → Type 0) (more : (n : Name) → go
       ]
 
 -- the entry of a release by a worker of the world
-near_answer : (r : Replayed) (e : Event) (target : Target) (n : Name) (reply : Reply) → e.worker < length r.world.heaps → e.call ≡ Release target → name_of r.made target ≡ Some n
+near_answer : {sli : ℕ} (r : Replayed sli) (e : Event) (target : Target) (n : Name) (reply : Reply) → e.worker < length r.world.heaps → e.call ≡ Release target → name_of r.made target ≡ Some n
     → (releasing r.world e.worker n).reply ≡ reply → IsAnswered r e reply
 near_answer r e target n reply lt is meant answer =
     let got : (releasing_named r.world e.worker (name_of r.made target)).reply ≡ reply = ap (λ o. (releasing_named r.world e.worker o).reply) meant ∙ answer in
     ap (λ s. s.entries) (after_near r e (Release target) lt is) ∙ (λ k. r.entries ++ record { worker = e.worker; call = sym is k; reply = got k } ∷ [])
 
-list_kept : (es : List Event) (r : Replayed) (gone : Name → Type 0) → IsFair r gone es → IsKept (IsMade r.made) gone r.world → NoneStale r.entries
+list_kept : {sli : ℕ} (es : List Event) (r : Replayed sli) (gone : Name → Type 0) → IsFair r gone es → IsKept (IsMade r.made) gone r.world → NoneStale r.entries
     → NoneStale (fold after r es).entries × WaitLive (fold after r es).world
 list_kept [] r gone fair kept none =
     (none, λ i j k d k_in. let o = kept.waits i j k (get_or (r.world.waiting i j) k d) (slice_get-get_or (r.world.waiting i j) k d k_in) in (o.0, o.1))
@@ -157,7 +157,7 @@ list_kept (e ∷ es) r gone fair kept none =
     )) none in
     list_kept es (after r e) gone2 fair.1 a.0 a.1
 
-pub no_stale : (w : World) (es : List Event) → HasIds w → IsFairRun w es → NoneStale (replies w es).entries × WaitLive (replies w es).world
+pub no_stale : {sli : ℕ} (w : World sli) (es : List Event) → HasIds w → IsFairRun w es → NoneStale (replies w es).entries × WaitLive (replies w es).world
 no_stale w es ids run =
     let a = list_kept es (begun w) (λ n. ⊥) run.fair (record {
       ids = ids;

@@ -4,6 +4,7 @@ use Rattle.std.proofs.Math.Seq.{take-append_seam, drop-append_seam}
 use Rattle.std.proofs.lemmas.Bool.{cases_eq}
 use Rattle.std.proofs.lemmas.List.{length-map, map-append}
 use Rattle.std.proofs.lemmas.List.Elements.{All-head, All-tail, All-take}
+use Rattle.tlsf_class.specs.Classes.{IsLevel}
 use Rattle.tlsf_heap.specs.Blocks.{HeapState}
 use Rattle.tlsf_heap.specs.Calls as heap
 use Rattle.tlsf_heap.specs.Lawful.{IsLawful}
@@ -15,7 +16,6 @@ use Rattle.tlsf_crew.specs.yard.History.{AreLawful, RunsThrough, RunsTo, answer_
 use Rattle.tlsf_crew.specs.yard.World.{World, heap_in, replies}
 use Rattle.tlsf_crew.proofs.lemmas.yard.AllEntries.{replies_tell}
 use Rattle.tlsf_crew.proofs.lemmas.yard.JoinedEntries.{HasItsAnswer, length_run, run_more, told_other, told_own, told_then}
-use Rattle.tlsf_class.proofs.TwoLevels.{level_4}
 
 -- so many calls on a heap are told as answers of it
 as_many : (made : List (Option Name)) (workers j : ℕ) (es : List Entry) → j < workers → All (HasItsAnswer made workers) es → length (calls_on j made es) ≡ length (answers_on j es)
@@ -36,15 +36,15 @@ as_many made workers j (e ∷ es) j_in each =
     omega arith
 
 -- a run of some calls and then of others
-run_split : (h last : HeapState) (cs ds : List heap.Call) (xs ys : List heap.Answer) → length cs ≡ length xs → RunsTo h (cs ++ ds) (xs ++ ys) last
-    → RunsTo h cs xs (heap.run 4 h cs).1 × RunsTo (heap.run 4 h cs).1 ds ys last
-run_split h last cs ds xs ys even run =
-    let more = run_more h cs ds in
-    let first = map handed_on (heap.run 4 h cs).0 in
-    let rest = map handed_on (heap.run 4 (heap.run 4 h cs).1 ds).0 in
+run_split : {sli : ℕ} (h last : HeapState) (cs ds : List heap.Call) (xs ys : List heap.Answer) → length cs ≡ length xs → RunsTo sli h (cs ++ ds) (xs ++ ys) last
+    → RunsTo sli h cs xs (heap.run sli h cs).1 × RunsTo sli (heap.run sli h cs).1 ds ys last
+run_split {sli} h last cs ds xs ys even run =
+    let more = run_more sli h cs ds in
+    let first = map handed_on (heap.run sli h cs).0 in
+    let rest = map handed_on (heap.run sli (heap.run sli h cs).1 ds).0 in
     let told : first ++ rest ≡ xs ++ ys
-    = sym (ap (λ x. map handed_on x.0) more ∙ map-append handed_on (heap.run 4 h cs).0 (heap.run 4 (heap.run 4 h cs).1 ds).0) ∙ run.told in
-    let len : length first ≡ length xs = length-map (heap.run 4 h cs).0 handed_on ∙ (length_run h cs ∙ even) in (
+    = sym (ap (λ x. map handed_on x.0) more ∙ map-append handed_on (heap.run sli h cs).0 (heap.run sli (heap.run sli h cs).1 ds).0) ∙ run.told in
+    let len : length first ≡ length xs = length-map (heap.run sli h cs).0 handed_on ∙ (length_run sli h cs ∙ even) in (
       record { told = sym (take-append_seam first rest) ∙ (ap (take (length first)) told ∙ (ap (λ n. take n (xs ++ ys)) len ∙ take-append_seam xs ys)); left = refl },
       record {
         told = sym (drop-append_seam first rest) ∙ (ap (drop (length first)) told ∙ (ap (λ n. drop n (xs ++ ys)) len ∙ drop-append_seam xs ys));
@@ -53,23 +53,23 @@ run_split h last cs ds xs ys even run =
     )
 
 -- where all entries are told by a run, some of them leave a lawful heap, behind which the others are told
-pub runs_through : (made : List (Option Name)) (workers j : ℕ) (h last : HeapState) (before later : List Entry) → j < workers → IsLawful h → All (HasItsAnswer made workers) (before ++ later)
-    → RunsTo h (calls_on j made (before ++ later)) (answers_on j (before ++ later)) last → RunsThrough h j made before later last
-runs_through made workers j h last before later j_in lawful each run =
+pub runs_through : {sli : ℕ} (made : List (Option Name)) (workers j : ℕ) (h last : HeapState) (before later : List Entry) → j < workers → IsLevel sli → IsLawful h → All (HasItsAnswer made workers) (before ++ later)
+    → RunsTo sli h (calls_on j made (before ++ later)) (answers_on j (before ++ later)) last → RunsThrough sli h j made before later last
+runs_through {sli} made workers j h last before later j_in level lawful each run =
     let front : All (HasItsAnswer made workers) before
     = subst (All (HasItsAnswer made workers)) (take-append_seam before later) (All-take (HasItsAnswer made workers) (length before) (before ++ later) each) in
     let calls = told_then (λ e. call_on_own made e.worker e.call e.reply) j before later in
     let answers = told_then (λ e. answer_told e.call e.reply) j before later in
     let both = run_split h last (calls_on j made before) (calls_on j made later) (answers_on j before) (answers_on j later)
     (as_many made workers j before j_in front) (rw (calls, answers) at run) in
-    record { between = (heap.run 4 h (calls_on j made before)).1; first = both.0; lawful = lawful_run 4 level_4 h (calls_on j made before) lawful; rest = both.1 }
+    record { between = (heap.run sli h (calls_on j made before)).1; first = both.0; lawful = lawful_run sli level h (calls_on j made before) lawful; rest = both.1 }
 
-pub replies_always : (w : World) (es : List Event) (before later : List Entry) (j : ℕ) → AreLawful w → j < length w.heaps → (replies w es).entries ≡ before ++ later
-    → RunsThrough (heap_in w j) j (replies w es).made before later (heap_in (replies w es).world j)
-replies_always w es before later j lawful j_in whole =
+pub replies_always : {sli : ℕ} (w : World sli) (es : List Event) (before later : List Entry) (j : ℕ) → AreLawful w → j < length w.heaps → (replies w es).entries ≡ before ++ later
+    → RunsThrough sli (heap_in w j) j (replies w es).made before later (heap_in (replies w es).world j)
+replies_always {sli} w es before later j lawful j_in whole =
     let made = (replies w es).made in
     let last = heap_in (replies w es).world j in
     let history = (replies_tell w es).history in
-    runs_through made (length w.heaps) j (heap_in w j) last before later j_in (lawful j j_in)
+    runs_through made (length w.heaps) j (heap_in w j) last before later j_in lawful.0 (lawful.1 j j_in)
     (subst (All (HasItsAnswer made (length w.heaps))) whole history.each)
-    (subst (λ l. RunsTo (heap_in w j) (calls_on j made l) (answers_on j l) last) whole (history.heaps j j_in))
+    (subst (λ l. RunsTo sli (heap_in w j) (calls_on j made l) (answers_on j l) last) whole (history.heaps j j_in))

@@ -20,21 +20,21 @@ given_at : (h : HeapState) (len : ℕ) (o : Option Site) → IsKnown (allocated_
 given_at h len None = λ e. cc
 given_at h len (Some s) = by_test (λ x. IsKnown x.answer) (is_worn h) (refused h Worn) (gives h len s) (λ _ e. cc) (λ e. cc)
 
-pub allocated_known : (h : HeapState) (len : ℕ) → IsKnown (allocated h len).answer
+pub allocated_known : (sli : ℕ) (h : HeapState) (len : ℕ) → IsKnown (allocated sli h len).answer
 unfolding allocated
-allocated_known h len = given_at h len (choice 4 (want len) h.blocks)
+allocated_known sli h len = given_at h len (choice sli (want len) h.blocks)
 
-pub allocated_id : (h : HeapState) (len : ℕ) → (allocated h len).heap.id ≡ h.id
+pub allocated_id : (sli : ℕ) (h : HeapState) (len : ℕ) → (allocated sli h len).heap.id ≡ h.id
 unfolding allocated
-allocated_id h len = ids 4 h (Allocate len)
+allocated_id sli h len = ids sli h (Allocate len)
 
-pub allocated_stays : (h : HeapState) (len : ℕ) (m : Name) → IsLive h m → IsLive (allocated h len).heap m
+pub allocated_stays : (sli : ℕ) (h : HeapState) (len : ℕ) (m : Name) → IsLive h m → IsLive (allocated sli h len).heap m
 unfolding allocated
-allocated_stays h len m live = kept 4 h m (Allocate len) (λ t. let e = t.0 in cc) live
+allocated_stays sli h len m live = kept sli h m (Allocate len) (λ t. let e = t.0 in cc) live
 
-pub allocated_new : (h : HeapState) (len : ℕ) (name : Name) → (allocated h len).answer ≡ Ok name → IsLive (allocated h len).heap name
+pub allocated_new : (sli : ℕ) (h : HeapState) (len : ℕ) (name : Name) → (allocated sli h len).answer ≡ Ok name → IsLive (allocated sli h len).heap name
 unfolding allocated
-allocated_new h len name e = given 4 h len name e
+allocated_new sli h len name e = given sli h len name e
 
 pub released_known : (h : HeapState) (name : Name) → IsLive h name → IsKnown (released h name).answer
 unfolding released

@@ -42,7 +42,7 @@ freed_made : (made : List (Option Name)) (j at : ℕ) (target : Target) (r : Res
 freed_made made j at target (Ok done) = refl
 freed_made made j at target (Err why) = refl
 
-own_release_told : (made : List (Option Name)) (w : World) (at : ℕ) (target : Target) (name : Name) → at < length w.heaps → name.heap ≡ at → name_of made target ≡ Some name
+own_release_told : {sli : ℕ} (made : List (Option Name)) (w : World sli) (at : ℕ) (target : Target) (name : Name) → at < length w.heaps → name.heap ≡ at → name_of made target ≡ Some name
     → Tells1 made w at (Release target) (freeing w at name)
 unfolding released
 own_release_told made w at target name at_in own known =
@@ -56,14 +56,14 @@ own_release_told made w at target name at_in own known =
 -- ---- release of another's name
 
 -- a refusal by the worker itself
-refused_told : (made : List (Option Name)) (w : World) (at : ℕ) (target : Target) (reply : Reply) → call_on_own made at (Release target) reply ≡ None → answer_told (Release target) reply ≡ None
+refused_told : {sli : ℕ} (made : List (Option Name)) (w : World sli) (at : ℕ) (target : Target) (reply : Reply) → call_on_own made at (Release target) reply ≡ None → answer_told (Release target) reply ≡ None
     → ((j : ℕ) → post_of_release j made at (Release target) reply ≡ None) → Tells1 made w at (Release target) (record { reply = reply; world = w })
 refused_told made w at target reply a b c =
     history_quiet made w w (record { worker = at; call = Release target; reply = reply }) (none_done made w w at (Release target) reply a b refl)
     (record { made_none = c; taken_none = λ i. refl }) refl refl
 
 -- one post more in one lane
-posted_here : (made : List (Option Name)) (w : World) (at : ℕ) (target : Target) (name : Name) → name_of made target ≡ Some name
+posted_here : {sli : ℕ} (made : List (Option Name)) (w : World sli) (at : ℕ) (target : Target) (name : Name) → name_of made target ≡ Some name
     → let x : Post = record { from = at; name = name } in let e : Entry = record { worker = at; call = Release target; reply = Posted } in
     w.waiting at name.heap ++ posts_made at name.heap made (e ∷ []) ≡ posts_taken at name.heap (e ∷ []) ++ (with_waiting w at name.heap (w.waiting at name.heap ++ x ∷ [])).waiting at name.heap
 posted_here made w at target name known =
@@ -74,7 +74,7 @@ posted_here made w at target name known =
     let no_take = told_nothing (λ e. post_of_take at e.call e.reply) name.heap e refl in
     rw (one, no_take, known, of_same name.heap name refl) (sym (edited_same w.waiting at name.heap posts))
 
-posted_away : (made : List (Option Name)) (w : World) (at to i j : ℕ) (target : Target) (posts : List Post)
+posted_away : {sli : ℕ} (made : List (Option Name)) (w : World sli) (at to i j : ℕ) (target : Target) (posts : List Post)
     → let e : Entry = record { worker = at; call = Release target; reply = Posted } in posts_made i j made (e ∷ []) ≡ [] → (i ≡ at → j ≡ to → ⊥)
     → w.waiting i j ++ posts_made i j made (e ∷ []) ≡ posts_taken i j (e ∷ []) ++ (with_waiting w at to posts).waiting i j
 posted_away made w at to i j target posts none away =
@@ -82,7 +82,7 @@ posted_away made w at to i j target posts none away =
     let no_take = told_nothing (λ e. post_of_take i e.call e.reply) j e refl in
     rw (none, no_take) (append-nil (w.waiting i j) ∙ sym (edited_other w.waiting at to i j posts away))
 
-posted_lanes : (made : List (Option Name)) (w : World) (at : ℕ) (target : Target) (name : Name) → name_of made target ≡ Some name → (i j : ℕ)
+posted_lanes : {sli : ℕ} (made : List (Option Name)) (w : World sli) (at : ℕ) (target : Target) (name : Name) → name_of made target ≡ Some name → (i j : ℕ)
     → let x : Post = record { from = at; name = name } in let e : Entry = record { worker = at; call = Release target; reply = Posted } in
     w.waiting i j ++ posts_made i j made (e ∷ []) ≡ posts_taken i j (e ∷ []) ++ (with_waiting w at name.heap (w.waiting at name.heap ++ x ∷ [])).waiting i j
 posted_lanes made w at target name known i j =
@@ -99,7 +99,7 @@ posted_lanes made w at target name known i j =
       | inr a ↦ posted_away made w at name.heap i j target posts (told_other f i e (λ q. a (sym q))) (λ q _. a q)
     ]
 
-post_told : (made : List (Option Name)) (w : World) (at : ℕ) (target : Target) (name : Name) → name.heap ≢ at → name_of made target ≡ Some name
+post_told : {sli : ℕ} (made : List (Option Name)) (w : World sli) (at : ℕ) (target : Target) (name : Name) → name.heap ≢ at → name_of made target ≡ Some name
     → Tells1 made w at (Release target) (posting w at name)
 unfolding posting
 post_told made w at target name ne known =
@@ -117,7 +117,7 @@ post_told made w at target name ne known =
           rw b (record { heaps = λ j j_in. heap_of_own_call made w v entry own j; posts = posted_lanes made w at target name known; count = refl; each = own_each made w v entry (length w.heaps) own })
     ]
 
-pub release_told : (made : List (Option Name)) (w : World) (at : ℕ) (target : Target) (o : Option Name) → at < length w.heaps
+pub release_told : {sli : ℕ} (made : List (Option Name)) (w : World sli) (at : ℕ) (target : Target) (o : Option Name) → at < length w.heaps
     → ((name : Name) → o ≡ Some name → name_of made target ≡ Some name) → Tells1 made w at (Release target) (releasing_named w at o)
 release_told made w at target None at_in known = refused_told made w at target (Refused Unmade) refl refl (λ j. refl)
 release_told made w at target (Some name) at_in known =
@@ -133,7 +133,7 @@ release_told made w at target (Some name) at_in known =
 -- ---- take
 
 -- one post fewer in one lane
-took_here : (made : List (Option Name)) (w : World) (at from : ℕ) (p : Post) (rest : List Post) → w.waiting from at ≡ p ∷ rest
+took_here : {sli : ℕ} (made : List (Option Name)) (w : World sli) (at from : ℕ) (p : Post) (rest : List Post) → w.waiting from at ≡ p ∷ rest
     → let a = took w at from p rest in let e : Entry = record { worker = at; call = Take from; reply = a.reply } in
     w.waiting from at ++ posts_made from at made (e ∷ []) ≡ posts_taken from at (e ∷ []) ++ a.world.waiting from at
 took_here made w at from p rest waits =
@@ -144,7 +144,7 @@ took_here made w at from p rest waits =
     let one : posts_taken from at (e ∷ []) ≡ p ∷ [] = told_own (λ e. post_of_take from e.call e.reply) at e refl ∙ ap (λ o. cons_option o []) this in
     rw (no_post, one) (append-nil (w.waiting from at) ∙ (waits ∙ ap (λ l. p ∷ l) (sym (edited_same w.waiting from at rest))))
 
-took_away : (made : List (Option Name)) (w : World) (at from : ℕ) (p : Post) (rest : List Post) (i j : ℕ) → (i ≡ from → j ≡ at → ⊥)
+took_away : {sli : ℕ} (made : List (Option Name)) (w : World sli) (at from : ℕ) (p : Post) (rest : List Post) (i j : ℕ) → (i ≡ from → j ≡ at → ⊥)
     → let a = took w at from p rest in let e : Entry = record { worker = at; call = Take from; reply = a.reply } in
     posts_taken i j (e ∷ []) ≡ [] → w.waiting i j ++ posts_made i j made (e ∷ []) ≡ posts_taken i j (e ∷ []) ++ a.world.waiting i j
 took_away made w at from p rest i j away none =
@@ -152,7 +152,7 @@ took_away made w at from p rest i j away none =
     let no_post = told_nothing (λ e. post_of_release j made e.worker e.call e.reply) i e refl in
     rw (no_post, none) (append-nil (w.waiting i j) ∙ sym (edited_other w.waiting from at i j rest away))
 
-took_lanes : (made : List (Option Name)) (w : World) (at from : ℕ) (p : Post) (rest : List Post) → w.waiting from at ≡ p ∷ rest → (i j : ℕ)
+took_lanes : {sli : ℕ} (made : List (Option Name)) (w : World sli) (at from : ℕ) (p : Post) (rest : List Post) → w.waiting from at ≡ p ∷ rest → (i j : ℕ)
     → let a = took w at from p rest in let e : Entry = record { worker = at; call = Take from; reply = a.reply } in
     w.waiting i j ++ posts_made i j made (e ∷ []) ≡ posts_taken i j (e ∷ []) ++ a.world.waiting i j
 took_lanes made w at from p rest waits i j =
@@ -169,7 +169,7 @@ took_lanes made w at from p rest waits i j =
           took_away made w at from p rest i j (λ q _. a q) (told_nothing f j e none)
     ]
 
-pub took_told : (made : List (Option Name)) (w : World) (at from : ℕ) (p : Post) (rest : List Post) → at < length w.heaps → w.waiting from at ≡ p ∷ rest
+pub took_told : {sli : ℕ} (made : List (Option Name)) (w : World sli) (at from : ℕ) (p : Post) (rest : List Post) → at < length w.heaps → w.waiting from at ≡ p ∷ rest
     → Tells1 made w at (Take from) (took w at from p rest)
 unfolding released
 took_told made w at from p rest at_in waits =
@@ -183,21 +183,21 @@ took_told made w at from p rest at_in waits =
       each = own_each made w (with_heap w at g) (record { worker = at; call = Take from; reply = a.reply }) (length w.heaps) own;
     }
 
-untaken_told : (made : List (Option Name)) (w : World) (at from : ℕ) (reply : Reply) → call_on_own made at (Take from) reply ≡ None → answer_told (Take from) reply ≡ None
+untaken_told : {sli : ℕ} (made : List (Option Name)) (w : World sli) (at from : ℕ) (reply : Reply) → call_on_own made at (Take from) reply ≡ None → answer_told (Take from) reply ≡ None
     → ((i : ℕ) → post_of_take i (Take from) reply ≡ None) → Tells1 made w at (Take from) (record { reply = reply; world = w })
 untaken_told made w at from reply a b c =
     history_quiet made w w (record { worker = at; call = Take from; reply = reply }) (none_done made w w at (Take from) reply a b refl)
     (record { made_none = λ j. refl; taken_none = c }) refl refl
 
-first_told : (made : List (Option Name)) (w : World) (at from : ℕ) (ps : List Post) → at < length w.heaps → w.waiting from at ≡ ps → Tells1 made w at (Take from) (took_first w at from ps)
+first_told : {sli : ℕ} (made : List (Option Name)) (w : World sli) (at from : ℕ) (ps : List Post) → at < length w.heaps → w.waiting from at ≡ ps → Tells1 made w at (Take from) (took_first w at from ps)
 first_told made w at from [] at_in waits = untaken_told made w at from Empty refl refl (λ i. refl)
 first_told made w at from (p ∷ rest) at_in waits = took_told made w at from p rest at_in waits
 
-next_told : (made : List (Option Name)) (w : World) (at from : ℕ) → at < length w.heaps → Tells1 made w at (Take from) (taking_next w at from)
+next_told : {sli : ℕ} (made : List (Option Name)) (w : World sli) (at from : ℕ) → at < length w.heaps → Tells1 made w at (Take from) (taking_next w at from)
 unfolding taking_next
 next_told made w at from at_in = first_told made w at from (w.waiting from at) at_in refl
 
-pub take_told : (made : List (Option Name)) (w : World) (at from : ℕ) → at < length w.heaps → Tells1 made w at (Take from) (taking w at from)
+pub take_told : {sli : ℕ} (made : List (Option Name)) (w : World sli) (at from : ℕ) → at < length w.heaps → Tells1 made w at (Take from) (taking w at from)
 take_told made w at from at_in =
     elim (cases_eq from at) [
       | inl e ↦ rw (taking_own w at from e) (untaken_told made w at from (Refused Stranger) refl refl (λ i. refl))

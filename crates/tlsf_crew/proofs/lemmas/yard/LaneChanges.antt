@@ -19,7 +19,7 @@ use Rattle.tlsf_crew.proofs.lemmas.yard.OwnHeaps.{KeepsHeap, heaps_along, heaps_
 use Rattle.tlsf_crew.proofs.lemmas.yard.Signed.{AreFrom, same_signed, changed_signed}
 
 -- worlds are equal by heaps, by what waits in each pair, and by capacity
-pub same_world : (v w : World) → v.heaps ≡ w.heaps → ((i j : ℕ) → v.waiting i j ≡ w.waiting i j) → v.capacity ≡ w.capacity → v ≡ w
+pub same_world : {sli : ℕ} (v w : World sli) → v.heaps ≡ w.heaps → ((i j : ℕ) → v.waiting i j ≡ w.waiting i j) → v.capacity ≡ w.capacity → v ≡ w
 same_world v w a b c = λ k. record { heaps = a k; waiting = λ i j. b i j k; capacity = c k }
 
 pub edited_same : (f : ℕ → ℕ → List Post) (i j : ℕ) (ps : List Post) → edited f i j ps i j ≡ ps
@@ -36,7 +36,7 @@ edited_other f i j x y ps away =
     ]
 
 -- what is written back changes nothing
-pub with_same : (w : World) (i j : ℕ) (ps : List Post) → w.waiting i j ≡ ps → with_waiting w i j ps ≡ w
+pub with_same : {sli : ℕ} (w : World sli) (i j : ℕ) (ps : List Post) → w.waiting i j ≡ ps → with_waiting w i j ps ≡ w
 with_same w i j ps e =
     same_world (with_waiting w i j ps) w refl (λ x y.
     elim (cases_eq x i) [
@@ -48,7 +48,7 @@ with_same w i j ps e =
     ]) refl
 
 -- one lane changed
-pub changed_world : (ws vs : List Worker) (i j : ℕ) (p : PostEnd) (t : TakeEnd) (q : PostEnd) (u : TakeEnd) (ps : List Post)
+pub changed_world : {sli : ℕ} (ws vs : List (Worker sli)) (i j : ℕ) (p : PostEnd) (t : TakeEnd) (q : PostEnd) (u : TakeEnd) (ps : List Post)
     → LaneChange ws vs i j p t q u → lane_waits (Some q) (Some u) ≡ ps → world_of vs ≡ with_waiting (world_of ws) i j ps
 unfolding world_of
 changed_world ws vs i j p t q u ps c e =
@@ -61,12 +61,12 @@ changed_world ws vs i j p t q u ps c e =
       | inr xi ↦ let s = c.same x y (λ f _. xi f) in rw (s.0, s.1) (sym (edited_other (world_of ws).waiting i j x y ps (λ f _. xi f)))
     ]) (ap (λ (l : List (ℕ × ℕ)). (get_or l 0 (0, 0)).1) c.numbers)
 
-pub waits_between : (ws : List Worker) (i j : ℕ) (p : PostEnd) (t : TakeEnd) → post_at ws i j ≡ Some p → take_at ws i j ≡ Some t
+pub waits_between : {sli : ℕ} (ws : List (Worker sli)) (i j : ℕ) (p : PostEnd) (t : TakeEnd) → post_at ws i j ≡ Some p → take_at ws i j ≡ Some t
     → (world_of ws).waiting i j ≡ drop (length (taken t)) (waited t ++ posts_sent p)
 unfolding world_of
 waits_between ws i j p t a b = rw (a, b) refl
 
-changed_lanes : (ws vs : List Worker) (i j : ℕ) (p : PostEnd) (t : TakeEnd) (q : PostEnd) (u : TakeEnd)
+changed_lanes : {sli : ℕ} (ws vs : List (Worker sli)) (i j : ℕ) (p : PostEnd) (t : TakeEnd) (q : PostEnd) (u : TakeEnd)
     → LaneChange ws vs i j p t q u → IsYard ws → (x y : ℕ) → x < length vs → y < length vs → x ≢ y → HasEnds vs x y
 changed_lanes ws vs i j p t q u c yard x y x_in y_in ne =
     let same_capacity : capacity_in vs ≡ capacity_in ws = ap (λ (l : List (ℕ × ℕ)). (get_or l 0 (0, 0)).1) c.numbers in
@@ -85,7 +85,7 @@ changed_lanes ws vs i j p t q u c yard x y x_in y_in ne =
       | inr xi ↦ let s = c.same x y (λ f _. xi f) in (h.0, h.1, s.0 ∙ h.2, s.1 ∙ h.3, h.4, h.5 ∙ sym same_capacity)
     ]
 
-changed_outside : (ws vs : List Worker) (i j : ℕ) (p : PostEnd) (t : TakeEnd) (q : PostEnd) (u : TakeEnd)
+changed_outside : {sli : ℕ} (ws vs : List (Worker sli)) (i j : ℕ) (p : PostEnd) (t : TakeEnd) (q : PostEnd) (u : TakeEnd)
     → LaneChange ws vs i j p t q u → IsYard ws → (x y : ℕ) → length vs ≤ y → (post_at vs x y ≡ None) × (take_at vs y x ≡ None)
 changed_outside ws vs i j p t q u c yard x y far =
     let none = yard.outside x y (omega (arith, c.len)) in
@@ -94,9 +94,10 @@ changed_outside ws vs i j p t q u c yard x y far =
     (a.0 ∙ none.0, b.1 ∙ none.1)
 
 -- a yard stays whole
-pub changed_yard : (ws vs : List Worker) (i j : ℕ) (p : PostEnd) (t : TakeEnd) (q : PostEnd) (u : TakeEnd)
+pub changed_yard : {sli : ℕ} (ws vs : List (Worker sli)) (i j : ℕ) (p : PostEnd) (t : TakeEnd) (q : PostEnd) (u : TakeEnd)
     → i ≢ j → LaneChange ws vs i j p t q u → AreFrom i (lane_waits (Some q) (Some u)) → IsYard ws → IsYard vs
 changed_yard ws vs i j p t q u ne c new yard = record {
+  level = yard.level;
   few = omega (arith, c.len, yard.few);
   ids = λ x x_in. ap (λ (l : List (ℕ × ℕ)). (get_or l x (0, 0)).0) c.numbers ∙ yard.ids x (omega (arith, c.len));
   heaps = heaps_along ws vs c.heaps c.len yard.heaps;
@@ -107,7 +108,7 @@ changed_yard ws vs i j p t q u ne c new yard = record {
   signed = changed_signed ws vs i j p t q u c new yard.signed;
 }
 
-pub heap_lanes : (ws : List Worker) (i : ℕ) (a v : Worker) → slice_get ws i ≡ Some a → SameButHeap a v → (x y : ℕ) → SameLane ws (set ws i v) x y
+pub heap_lanes : {sli : ℕ} (ws : List (Worker sli)) (i : ℕ) (a v : Worker sli) → slice_get ws i ≡ Some a → SameButHeap a v → (x y : ℕ) → SameLane ws (set ws i v) x y
 heap_lanes ws i a v is same x y =
     let i_in : i < length ws = slice_get_within ws i a is in
     let at_i : slice_get (set ws i v) i ≡ Some v = get_set_same ws i v i_in in (
@@ -121,7 +122,7 @@ heap_lanes ws i a v is same x y =
       ],
     )
 
-heap_ends : (ws : List Worker) (i : ℕ) (a v : Worker) → slice_get ws i ≡ Some a → SameButHeap a v → IsYard ws → (x y : ℕ) → x < length (set ws i v) → y < length (set ws i v) → x ≢ y → HasEnds (set ws i v) x y
+heap_ends : {sli : ℕ} (ws : List (Worker sli)) (i : ℕ) (a v : Worker sli) → slice_get ws i ≡ Some a → SameButHeap a v → IsYard ws → (x y : ℕ) → x < length (set ws i v) → y < length (set ws i v) → x ≢ y → HasEnds (set ws i v) x y
 heap_ends ws i a v is same yard x y x_in y_in ne =
     let n = length-set ws i v in
     let xi : x < length ws = omega arith in
@@ -130,7 +131,7 @@ heap_ends ws i a v is same yard x y x_in y_in ne =
     let s = heap_lanes ws i a v is same x y in
     (h.0, h.1, s.0 ∙ h.2, s.1 ∙ h.3, h.4, h.5 ∙ sym (ap (λ (l : List (ℕ × ℕ)). (get_or l 0 (0, 0)).1) (map_same id_and_capacity ws i a v is same.0)))
 
-pub heap_yard : (ws : List Worker) (i : ℕ) (a v : Worker) → slice_get ws i ≡ Some a → SameButHeap a v → KeepsHeap (heap_of a) (heap_of v) → IsYard ws → IsYard (set ws i v)
+pub heap_yard : {sli : ℕ} (ws : List (Worker sli)) (i : ℕ) (a v : Worker sli) → slice_get ws i ≡ Some a → SameButHeap a v → KeepsHeap (heap_of a) (heap_of v) → IsYard ws → IsYard (set ws i v)
 heap_yard ws i a v is same kept yard = record {
   few = omega (arith, length-set ws i v, yard.few);
   ids = λ x x_in. ap (λ (l : List (ℕ × ℕ)). (get_or l x (0, 0)).0) (map_same id_and_capacity ws i a v is same.0) ∙ yard.ids x (omega (arith, length-set ws i v));
@@ -143,9 +144,10 @@ heap_yard ws i a v is same kept yard = record {
   small =
       let e : capacity_in (set ws i v) ≡ capacity_in ws = ap (λ (l : List (ℕ × ℕ)). (get_or l 0 (0, 0)).1) (map_same id_and_capacity ws i a v is same.0) in
       omega (arith, yard.small);
+  level = yard.level;
   signed = same_signed ws (set ws i v) (heap_lanes ws i a v is same) yard.signed;
 }
 
-pub heap_in_is : (ws : List Worker) (i : ℕ) (a : Worker) → slice_get ws i ≡ Some a → heap_in (world_of ws) i ≡ heap_of a
+pub heap_in_is : {sli : ℕ} (ws : List (Worker sli)) (i : ℕ) (a : Worker sli) → slice_get ws i ≡ Some a → heap_in (world_of ws) i ≡ heap_of a
 unfolding world_of
 heap_in_is ws i a is = heap_at ws i a is

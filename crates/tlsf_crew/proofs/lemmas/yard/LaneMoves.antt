@@ -29,7 +29,7 @@ use Rattle.tlsf_crew.proofs.lemmas.yard.JoinedEntries.{told_nothing, told_own}
 
 -- ---- a put
 
-put_lanes : (a v : Worker) (j : ℕ) (post : Post) (answer : Result (Unit {0}) Post) → PutTo a v j post answer → EachLaneSame a v
+put_lanes : {sli : ℕ} (a v : Worker sli) (j : ℕ) (post : Post) (answer : Result (Unit {0}) Post) → PutTo a v j post answer → EachLaneSame a v
 put_lanes a v j post answer put = record {
   numbers = put.same.1;
   to = λ k. elim (cases_eq k j) [
@@ -40,7 +40,7 @@ put_lanes a v j post answer put = record {
 }
 
 -- the takes of a worker whose ends from others are the same
-pub same_takes : (at : ℕ) (a v : Worker) (i : ℕ) (t : TakeEnd) (entries : List Entry) → end_from v ≡ end_from a → posts_taken i at entries ≡ [] → end_from a i ≡ Some t → Takes at v i entries t
+pub same_takes : {sli : ℕ} (at : ℕ) (a v : Worker sli) (i : ℕ) (t : TakeEnd) (entries : List Entry) → end_from v ≡ end_from a → posts_taken i at entries ≡ [] → end_from a i ≡ Some t → Takes at v i entries t
 same_takes at a v i t entries same none is = record {
   end = t;
   end_is = ap (λ f. f i) same ∙ is;
@@ -49,7 +49,7 @@ same_takes at a v i t entries same none is = record {
   ready = rw none ([], append-nil (ready t));
 }
 
-pub still_full : (at : ℕ) (a v : Worker) (j : ℕ) (post back : Post) → post.from ≡ id_of a → PutTo a v j post (Err back) → Still at a v
+pub still_full : {sli : ℕ} (at : ℕ) (a v : Worker sli) (j : ℕ) (post back : Post) → post.from ≡ id_of a → PutTo a v j post (Err back) → Still at a v
 still_full at a v j post back own put = record {
   lanes = put_lanes a v j post (Err back) put;
   yard = put_keeps a v j post (Err back) own put;
@@ -68,7 +68,7 @@ still_full at a v j post back own put = record {
 }
 
 -- the lane was full
-pub none_free : (a v : Worker) (j : ℕ) (post back : Post) (p : PostEnd) → PutTo a v j post (Err back) → end_to a j ≡ Some p → free_slots p ≤ 0
+pub none_free : {sli : ℕ} (a v : Worker sli) (j : ℕ) (post back : Post) (p : PostEnd) → PutTo a v j post (Err back) → end_to a j ≡ Some p → free_slots p ≤ 0
 none_free a v j post back p put is =
     let q : p ≡ put.end = some_same p put.end (sym is ∙ put.end_is) in
     elim (cases_lt 0 (free_slots put.end)) [
@@ -98,7 +98,7 @@ posted_few at j made target name known = elim (cases_eq j name.heap) [
   | inr e ↦ omega (arith, ap length (release_posts_elsewhere at j made target name known e))
 ]
 
-post_sends : (at : ℕ) (made : List (Option Name)) (a v : Worker) (target : Target) (name : Name) (done : Unit {0}) → name_of made target ≡ Some name
+post_sends : {sli : ℕ} (at : ℕ) (made : List (Option Name)) (a v : Worker sli) (target : Target) (name : Name) (done : Unit {0}) → name_of made target ≡ Some name
     → PutTo a v name.heap (record { from = at; name = name }) (Ok done) → (j : ℕ) (p : PostEnd) → end_to a j ≡ Some p → Sends at made v j (one at (Release target) Posted) p
 post_sends at made a v target name done known put j p is = elim (cases_eq j name.heap) [
   | inl e ↦
@@ -120,7 +120,7 @@ post_sends at made a v target name done known put j p is = elim (cases_eq j name
       }
 ]
 
-pub moved_post : (at : ℕ) (made : List (Option Name)) (a v : Worker) (limits : List ℕ) (target : Target) (name : Name) (done : Unit {0}) → name_of made target ≡ Some name
+pub moved_post : {sli : ℕ} (at : ℕ) (made : List (Option Name)) (a v : Worker sli) (limits : List ℕ) (target : Target) (name : Name) (done : Unit {0}) → name_of made target ≡ Some name
     → at ≡ id_of a → PutTo a v name.heap (record { from = at; name = name }) (Ok done) → Moved at made a limits (Release target ∷ []) (one at (Release target) Posted) v limits
 moved_post at made a v limits target name done known own put =
     let e : Entry = record { worker = at; call = Release target; reply = Posted } in
@@ -142,7 +142,7 @@ moved_post at made a v limits target name done known own put =
 
 -- ---- a take
 
-same_after_take : (a v : Worker) (i : ℕ) (answer : Option Post) → TookFrom a v i answer → EachLaneSame a v
+same_after_take : {sli : ℕ} (a v : Worker sli) (i : ℕ) (answer : Option Post) → TookFrom a v i answer → EachLaneSame a v
 same_after_take a v i answer took = record {
   numbers = took.same.1;
   to = λ j. ((λ h. (h.0, ap (λ f. f j) (sym took.same.2) ∙ h.1)), (λ h. (h.0, ap (λ f. f j) took.same.2 ∙ h.1)));
@@ -153,7 +153,7 @@ same_after_take a v i answer took = record {
 }
 
 -- the sends of a worker whose ends to others are the same
-same_sends : (at : ℕ) (made : List (Option Name)) (a v : Worker) (j : ℕ) (p : PostEnd) (entries : List Entry) → end_to v ≡ end_to a → posts_made at j made entries ≡ [] → end_to a j ≡ Some p
+same_sends : {sli : ℕ} (at : ℕ) (made : List (Option Name)) (a v : Worker sli) (j : ℕ) (p : PostEnd) (entries : List Entry) → end_to v ≡ end_to a → posts_made at j made entries ≡ [] → end_to a j ≡ Some p
     → Sends at made v j entries p
 same_sends at made a v j p entries same none is = record {
   end = p;
@@ -167,13 +167,13 @@ none_long [] le = refl
 none_long (x ∷ xs) le = absurd (omega arith)
 
 -- the end knew none to be ready
-pub none_ready : (a v : Worker) (i : ℕ) → (took : TookFrom a v i None) → ready took.end ≡ []
+pub none_ready : {sli : ℕ} (a v : Worker sli) (i : ℕ) → (took : TookFrom a v i None) → ready took.end ≡ []
 none_ready a v i took = elim (cases_lt 0 (length (ready took.end))) [
   | inl lt ↦ let e = took.succeeds lt in absurd cc
   | inr le ↦ none_long (ready took.end) le
 ]
 
-pub spent_none : (at : ℕ) (a v : Worker) (limits : List ℕ) (i : ℕ) → TookFrom a v i None → Spent a limits at i []
+pub spent_none : {sli : ℕ} (at : ℕ) (a v : Worker sli) (limits : List ℕ) (i : ℕ) → TookFrom a v i None → Spent a limits at i []
 spent_none at a v limits i took t is =
     let q : t ≡ took.end = some_same t took.end (sym is ∙ took.end_is) in
     let r : ready t ≡ [] = ap ready q ∙ none_ready a v i took in
@@ -183,7 +183,7 @@ spent_none at a v limits i took t is =
     none_of zero = ([], refl)
     none_of (suc n) = ([], refl)
 
-pub still_empty : (at : ℕ) (a v : Worker) (i : ℕ) → TookFrom a v i None → Still at a v
+pub still_empty : {sli : ℕ} (at : ℕ) (a v : Worker sli) (i : ℕ) → TookFrom a v i None → Still at a v
 still_empty at a v i took = record {
   lanes = same_after_take a v i None took;
   yard = take_keeps a v i None took;
@@ -217,7 +217,7 @@ taken_elsewhere at i k t ne =
     let none : f e ≡ None = rw other refl in
     told_nothing f at e none
 
-take_takes : (at : ℕ) (a v : Worker) (i : ℕ) (t : Took) → TookFrom a v i (Some (record { from = t.from; name = t.name })) → (k : ℕ) (end : TakeEnd) → end_from a k ≡ Some end
+take_takes : {sli : ℕ} (at : ℕ) (a v : Worker sli) (i : ℕ) (t : Took) → TookFrom a v i (Some (record { from = t.from; name = t.name })) → (k : ℕ) (end : TakeEnd) → end_from a k ≡ Some end
     → Takes at v k (one at (Take i) (Taken t)) end
 take_takes at a v i t took k end is = elim (cases_eq k i) [
   | inl e ↦
@@ -248,7 +248,7 @@ sum_has (suc n) f i lt = elim (cases_eq i n) [
   | inr e ↦ omega (arith, sum_has n f i (omega arith))
 ]
 
-pub moved_take : (at : ℕ) (made : List (Option Name)) (a v : Worker) (limits left : List ℕ) (i : ℕ) (t : Took) → i < 8 → OneFewer limits i left
+pub moved_take : {sli : ℕ} (at : ℕ) (made : List (Option Name)) (a v : Worker sli) (limits left : List ℕ) (i : ℕ) (t : Took) → i < 8 → OneFewer limits i left
     → TookFrom a v i (Some (record { from = t.from; name = t.name })) → Moved at made a limits [] (one at (Take i) (Taken t)) v left
 moved_take at made a v limits left i t near fewer took =
     let e : Entry = record { worker = at; call = Take i; reply = Taken t } in

@@ -31,10 +31,10 @@ use Rattle.tlsf_crew.proofs.lemmas.yard.OneEntry.{moved_still, still_heap}
 
 -- ---- one lane
 
-pub moved_none : (made : List (Option Name)) (a : Worker) (limits : List ℕ) → Moved (id_of a) made a limits [] [] a limits
+pub moved_none : {sli : ℕ} (made : List (Option Name)) (a : Worker sli) (limits : List ℕ) → Moved (id_of a) made a limits [] [] a limits
 moved_none made a limits = moved_still (id_of a) made a a limits (still_heap (id_of a) a a (refl, refl, refl) (same_keeps a))
 
-pub lane_none : (a : Worker) (limits : List ℕ) (from : ℕ) (entries : List Entry) → LaneTaken a limits from entries a limits entries 0
+pub lane_none : {sli : ℕ} (a : Worker sli) (limits : List ℕ) (from : ℕ) (entries : List Entry) → LaneTaken a limits from entries a limits entries 0
 lane_none a limits from entries = record {
   own = [];
   entries_are = sym (append-nil entries);
@@ -47,14 +47,14 @@ lane_none a limits from entries = record {
 }
 
 -- moves of a worker of that number, by the number that it had
-moved_at : (at : ℕ) (made : List (Option Name)) (b v : Worker) (mid left : List ℕ) (own : ℕ → List Entry) → id_of b ≡ at → Moved (id_of b) made b mid [] (own (id_of b)) v left → Moved at made b mid [] (own at) v left
+moved_at : {sli : ℕ} (at : ℕ) (made : List (Option Name)) (b v : Worker sli) (mid left : List ℕ) (own : ℕ → List Entry) → id_of b ≡ at → Moved (id_of b) made b mid [] (own (id_of b)) v left → Moved at made b mid [] (own at) v left
 moved_at at made b v mid left own e m = subst (λ x. Moved x made b mid [] (own x) v left) e m
 
-pub lane_id : (a v : Worker) (limits left : List ℕ) (from : ℕ) (entries longer : List Entry) (count : ℕ) → LaneTaken a limits from entries v left longer count → id_of v ≡ id_of a
+pub lane_id : {sli : ℕ} (a v : Worker sli) (limits left : List ℕ) (from : ℕ) (entries longer : List Entry) (count : ℕ) → LaneTaken a limits from entries v left longer count → id_of v ≡ id_of a
 lane_id a v limits left from entries longer count x = let m = x.moved [] in ap (λ n. n.0) m.numbers
 
 -- entries and what may still be taken don't get more
-pub lane_room : (a v : Worker) (limits left : List ℕ) (from : ℕ) (entries longer : List Entry) (count : ℕ) → LaneTaken a limits from entries v left longer count
+pub lane_room : {sli : ℕ} (a v : Worker sli) (limits left : List ℕ) (from : ℕ) (entries longer : List Entry) (count : ℕ) → LaneTaken a limits from entries v left longer count
     → length longer + sum_of left ≤ length entries + sum_of limits
 lane_room a v limits left from entries longer count x =
     let m = moved_room (id_of a) [] a v limits left [] x.own (x.moved []) in
@@ -62,9 +62,9 @@ lane_room a v limits left from entries longer count x =
     omega arith
 
 -- one take more
-pub lane_more : (a b v : Worker) (limits mid left : List ℕ) (from : ℕ) (entries longer : List Entry) (count : ℕ) (took : Took) → (x : LaneTaken a limits from entries b mid longer count)
+pub lane_more : {sli : ℕ} (a b v : Worker sli) (limits mid left : List ℕ) (from : ℕ) (entries longer : List Entry) (count : ℕ) (took : Took) → (x : LaneTaken a limits from entries b mid longer count)
     → TookWithin b mid from v left (Some took) → LaneTaken a limits from entries v left (longer ++ one (id_of v) (Take from) (Taken took)) (count + 1)
-lane_more a b v limits mid left from entries longer count took x t =
+lane_more {sli} a b v limits mid left from entries longer count took x t =
     let at = id_of a in
     let q : id_of b ≡ at = lane_id a b limits mid from entries longer count x in
     let r : id_of v ≡ at = let m = t.0 [] in ap (λ n. n.0) m.numbers ∙ q in
@@ -87,12 +87,12 @@ lane_more a b v limits mid left from entries longer count took x t =
           (moved_at at made b v mid left (λ i. one i (Take from) (Taken took)) q (t.0 made));
     }
   where
-    lane_step : (at from : ℕ) (longer : List Entry) (b v : Worker) (n : ℕ) (p : Post) (took : Took) → took ≡ took_by (heap_of b) p → heap_of v ≡ (released (heap_of b) p.name).heap
+    lane_step : (at from : ℕ) (longer : List Entry) (b v : Worker sli) (n : ℕ) (p : Post) (took : Took) → took ≡ took_by (heap_of b) p → heap_of v ≡ (released (heap_of b) p.name).heap
         → own_drain (longer ++ one at (Take from) (Taken took)) v (n + 1) ≡ took_own at from (own_drain longer b n) p
     lane_step at from longer b v n p took e h = rw (e, h) refl
 
 -- the lane showed no more, or no more might be taken
-pub lane_end : (a b v : Worker) (limits mid left : List ℕ) (from most : ℕ) (entries longer : List Entry) (count : ℕ) → LaneTaken a limits from entries b mid longer count → count ≤ most
+pub lane_end : {sli : ℕ} (a b v : Worker sli) (limits mid left : List ℕ) (from most : ℕ) (entries longer : List Entry) (count : ℕ) → LaneTaken a limits from entries b mid longer count → count ≤ most
     → TookWithin b mid from v left None → LaneSpent a limits from most entries v left longer count
 lane_end a b v limits mid left from most entries longer count x few t =
     let at = id_of a in
@@ -112,13 +112,13 @@ lane_end a b v limits mid left from most entries longer count x few t =
       spent = λ _. spent_then at [] a b limits mid [] x.own [] from (x.moved []) (subst (λ i. Spent b mid i from []) q t.2);
     }
 
-pub lane_most : (a v : Worker) (limits left : List ℕ) (from most : ℕ) (entries longer : List Entry) (count : ℕ) → LaneTaken a limits from entries v left longer count → count ≤ most → most ≤ count
+pub lane_most : {sli : ℕ} (a v : Worker sli) (limits left : List ℕ) (from most : ℕ) (entries longer : List Entry) (count : ℕ) → LaneTaken a limits from entries v left longer count → count ≤ most → most ≤ count
     → LaneSpent a limits from most entries v left longer count
 lane_most a v limits left from most entries longer count x few all = record { takes = x; few = few; spent = λ lt. absurd (omega arith) }
 
 -- ---- one lane after another
 
-pub nothing_below : (a : Worker) (limits : List ℕ) (entries : List Entry) → EachLaneTaken a limits 0 entries a limits entries 0
+pub nothing_below : {sli : ℕ} (a : Worker sli) (limits : List ℕ) (entries : List Entry) → EachLaneTaken a limits 0 entries a limits entries 0
 nothing_below a limits entries = record {
   own = [];
   entries_are = sym (append-nil entries);
@@ -129,10 +129,10 @@ nothing_below a limits entries = record {
   moved = λ made. moved_none made a limits;
 }
 
-pub id_below : (a v : Worker) (limits left : List ℕ) (below : ℕ) (entries longer : List Entry) (count : ℕ) → EachLaneTaken a limits below entries v left longer count → id_of v ≡ id_of a
+pub id_below : {sli : ℕ} (a v : Worker sli) (limits left : List ℕ) (below : ℕ) (entries longer : List Entry) (count : ℕ) → EachLaneTaken a limits below entries v left longer count → id_of v ≡ id_of a
 id_below a v limits left below entries longer count x = let m = x.moved [] in ap (λ n. n.0) m.numbers
 
-pub lanes_knows : (n : ℕ) (a v : Worker) (limits left : List ℕ) (below : ℕ) (entries longer : List Entry) (count : ℕ) → EachLaneTaken a limits below entries v left longer count → KnowsYard n a → KnowsYard n v
+pub lanes_knows : {sli : ℕ} (n : ℕ) (a v : Worker sli) (limits left : List ℕ) (below : ℕ) (entries longer : List Entry) (count : ℕ) → EachLaneTaken a limits below entries v left longer count → KnowsYard n a → KnowsYard n v
 lanes_knows n a v limits left below entries longer count x k = let m = x.moved [] in m.knows n k
 
 -- what the lanes below a number tell rests on their posts alone
@@ -165,7 +165,7 @@ with_lane_below : (f : ℕ → List Post) (k : ℕ) (posts : List Post) (i : ℕ
 with_lane_below f k posts i lt = let b : (i == k) ≡ false = grind (arith, nat_tests) in rw b refl
 
 -- the turn of another worker
-after_other_lane : (a b v : Worker) (limits mid left : List ℕ) (from : ℕ) (entries between longer : List Entry) (n count : ℕ) → from ≢ id_of a → HasTake a from → EachLaneTaken a limits from entries b mid between n
+after_other_lane : {sli : ℕ} (a b v : Worker sli) (limits mid left : List ℕ) (from : ℕ) (entries between longer : List Entry) (n count : ℕ) → from ≢ id_of a → HasTake a from → EachLaneTaken a limits from entries b mid between n
     → LaneTaken b mid from between v left longer count → EachLaneTaken a limits (from + 1) entries v left longer (n + count)
 after_other_lane a b v limits mid left from entries between longer n count ne has x y =
     let at = id_of a in
@@ -217,14 +217,14 @@ count_below at posts d (suc k) none =
           omega arith
     ]
 
-pub lanes_taken_count : (n : ℕ) (a v : Worker) (limits left : List ℕ) (below : ℕ) (entries longer : List Entry) (count : ℕ) → KnowsYard n a → (x : EachLaneTaken a limits below entries v left longer count)
+pub lanes_taken_count : {sli : ℕ} (n : ℕ) (a v : Worker sli) (limits left : List ℕ) (below : ℕ) (entries longer : List Entry) (count : ℕ) → KnowsYard n a → (x : EachLaneTaken a limits below entries v left longer count)
     → count ≡ sum_below below (λ i. length (x.posts i))
 lanes_taken_count n a v limits left below entries longer count k x =
     let c = count_below (id_of a) x.posts (own_drain entries a 0) below (λ i own. x.only i (λ _ has. let y = (k.from i).0 has in y.1 own)) in
     let t = ap (λ o. o.taken) x.told in
     omega arith
 
-pub other_turn : (m : ℕ) (a b v : Worker) (limits mid left : List ℕ) (from most : ℕ) (entries between longer : List Entry) (n count : ℕ) → KnowsYard m a → HasTake a from → EachLaneSpent a limits from most entries b mid between n
+pub other_turn : {sli : ℕ} (m : ℕ) (a b v : Worker sli) (limits mid left : List ℕ) (from most : ℕ) (entries between longer : List Entry) (n count : ℕ) → KnowsYard m a → HasTake a from → EachLaneSpent a limits from most entries b mid between n
     → LaneSpent b mid from (most - n) between v left longer count → EachLaneSpent a limits (from + 1) most entries v left longer (n + count)
 unfolding after_other_lane
 other_turn m a b v limits mid left from most entries between longer n count known has x y =
@@ -262,7 +262,7 @@ other_turn m a b v limits mid left from most entries between longer n count know
     }
 
 -- no turn: there is no lane
-pub no_turn : (a v : Worker) (limits left : List ℕ) (from most : ℕ) (entries longer : List Entry) (count : ℕ) → ¬ (HasTake a from)
+pub no_turn : {sli : ℕ} (a v : Worker sli) (limits left : List ℕ) (from most : ℕ) (entries longer : List Entry) (count : ℕ) → ¬ (HasTake a from)
     → EachLaneSpent a limits from most entries v left longer count → EachLaneSpent a limits (from + 1) most entries v left longer count
 no_turn a v limits left from most entries longer count none x =
     let t = x.takes in
@@ -299,7 +299,7 @@ no_turn a v limits left from most entries longer count none x =
 
 -- ---- a drain, by its notes
 
-takes_in_lane : (a b v : Worker) (limits : List ℕ) (x y : Journal) (from : ℕ) (entries : List Entry) (count : ℕ) (tooks : List Took) → LaneTaken a limits from entries b x.limits x.entries.items count
+takes_in_lane : {sli : ℕ} (a b v : Worker sli) (limits : List ℕ) (x y : Journal) (from : ℕ) (entries : List Entry) (count : ℕ) (tooks : List Took) → LaneTaken a limits from entries b x.limits x.entries.items count
     → NotedInTurn IsNoted b v x y from tooks → LaneTaken a limits from entries v y.limits y.entries.items (count + length tooks)
 takes_in_lane a b v limits x y from entries count [] acc t =
     let e : count ≡ count + 0 = omega arith in
@@ -313,7 +313,7 @@ takes_in_lane a b v limits x y from entries count (took ∷ tooks) acc t =
     let e : count + 1 + length tooks ≡ count + length (took ∷ tooks) = omega arith in
     subst (LaneTaken a limits from entries v y.limits y.entries.items) e (takes_in_lane a b' v limits z y from entries (count + 1) tooks one_more t.4)
 
-spent_in_lane : (a v : Worker) (x y : Journal) (from most : ℕ) (tooks : List Took) → from < 8 → LaneNoted IsNoted IsAdmitted a v x y from most tooks
+spent_in_lane : {sli : ℕ} (a v : Worker sli) (x y : Journal) (from most : ℕ) (tooks : List Took) → from < 8 → LaneNoted IsNoted IsAdmitted a v x y from most tooks
     → LaneSpent a x.limits from most x.entries.items v y.limits y.entries.items (length tooks)
 spent_in_lane a v x y from most tooks near l =
     let start = lane_none a x.limits from x.entries.items in
@@ -331,23 +331,23 @@ spent_in_lane a v x y from most tooks near l =
           ]
     ]
 
-noted_capacity : (a v : Worker) (x y : Journal) (from : ℕ) (tooks : List Took) → NotedInTurn IsNoted a v x y from tooks → vec_capacity y.entries ≡ vec_capacity x.entries
+noted_capacity : {sli : ℕ} (a v : Worker sli) (x y : Journal) (from : ℕ) (tooks : List Took) → NotedInTurn IsNoted a v x y from tooks → vec_capacity y.entries ≡ vec_capacity x.entries
 noted_capacity a v x y from [] t = ap (λ j. vec_capacity j.entries) t.1
 noted_capacity a v x y from (took ∷ tooks) t = noted_capacity t.0 v t.1 y from tooks t.4 ∙ t.3.capacity
 
 -- the journal of a drain tells it
-pub record Drains (n : ℕ) (a v : Worker) (x y : Journal) (below most count : ℕ) : Type 0 where
+pub record Drains {sli : ℕ} (n : ℕ) (a v : Worker sli) (x y : Journal) (below most count : ℕ) : Type 0 where
   pub spent : EachLaneSpent a x.limits below most x.entries.items v y.limits y.entries.items count
   pub capacity : vec_capacity y.entries ≡ vec_capacity x.entries
 
-each_lane_drains : (n : ℕ) (a v : Worker) (x y : Journal) (most k : ℕ) (tooks : List Took) → KnowsYard n a → EachLaneNoted IsNoted IsAdmitted a v x y most k tooks → Drains n a v x y k most (length tooks)
-each_lane_drains n a v x y most zero tooks known l =
+each_lane_drains : {sli : ℕ} (n : ℕ) (a v : Worker sli) (x y : Journal) (most k : ℕ) (tooks : List Took) → KnowsYard n a → EachLaneNoted IsNoted IsAdmitted a v x y most k tooks → Drains n a v x y k most (length tooks)
+each_lane_drains {sli} n a v x y most zero tooks known l =
     let e : length tooks ≡ 0 = ap length l.0 in
     rw (l.1, l.2, e) (record {
       spent = record { takes = nothing_below a x.limits x.entries.items; few = omega arith; spent = λ lt i below. absurd (omega arith); each = λ i below. absurd (omega arith) };
       capacity = refl;
     })
-each_lane_drains n a v x y most (suc k) tooks known l =
+each_lane_drains {sli} n a v x y most (suc k) tooks known l =
     let b = l.0 in
     let z = l.1 in
     let before = each_lane_drains n a b x z most k l.2 known l.5 in
@@ -379,7 +379,7 @@ each_lane_drains n a v x y most (suc k) tooks known l =
           })
     ]
   where
-    lane_capacity : (b v : Worker) (z y : Journal) (k m : ℕ) (ts : List Took) → LaneNoted IsNoted IsAdmitted b v z y k m ts → vec_capacity y.entries ≡ vec_capacity z.entries
+    lane_capacity : (b v : Worker sli) (z y : Journal) (k m : ℕ) (ts : List Took) → LaneNoted IsNoted IsAdmitted b v z y k m ts → vec_capacity y.entries ≡ vec_capacity z.entries
     lane_capacity b v z y k m ts l = noted_capacity b l.last z y k ts l.takes
 
 -- the lanes above the last one tell nothing
@@ -393,11 +393,11 @@ lanes_past at posts d m (suc e) none =
     ] in
     ap (each_lane_own at posts d) q ∙ (step ∙ lanes_past at posts d m e none)
 
-has_place : (a : Worker) (k : ℕ) → HasTake a k → k < lane_places a
+has_place : {sli : ℕ} (a : Worker sli) (k : ℕ) → HasTake a k → k < lane_places a
 has_place a k h = slice_get_within a.takes.items k (Some h.0) (from_slot (slice_get a.takes.items k) h.0 h.1)
 
 -- a drain of all places is one of the lanes from all workers
-pub all_spent : (n : ℕ) (a v : Worker) (x y : Journal) (most : ℕ) (answer : Drained) → KnowsYard n a → AllNoted IsNoted IsAdmitted a v x y most answer → Drains n a v x y n most answer.taken
+pub all_spent : {sli : ℕ} (n : ℕ) (a v : Worker sli) (x y : Journal) (most : ℕ) (answer : Drained) → KnowsYard n a → AllNoted IsNoted IsAdmitted a v x y most answer → Drains n a v x y n most answer.taken
 all_spent n a v x y most answer known d =
     let places = lane_places a in
     let c = d.count.0 in

@@ -14,14 +14,14 @@ use Rattle.tlsf_crew.proofs.lemmas.yard.Slots.{some_same}
 use Rattle.tlsf_crew.proofs.lemmas.yard.LaneChanges.{edited_same, edited_other}
 
 -- of the names made so far all are live but those that are gone; a name that waits is gone, but live still, and waits once
-pub record IsKept (made gone : Name → Type 0) (w : World) : Type 0 where
+pub record IsKept {sli : ℕ} (made gone : Name → Type 0) (w : World sli) : Type 0 where
   pub ids : HasIds w
   pub live : (n : Name) → made n → ¬ (gone n) → IsLiveIn w n
   pub waits : (i j k : ℕ) (p : Post) → slice_get (w.waiting i j) k ≡ Some p → (p.name.heap ≡ j) × IsLiveIn w p.name × gone p.name
   pub once : (i j k x y z : ℕ) (p q : Post) → slice_get (w.waiting i j) k ≡ Some p → slice_get (w.waiting x y) z ≡ Some q → p.name ≡ q.name → (i ≡ x) × (j ≡ y) × (k ≡ z)
 
 -- fewer names may be made, and more gone
-pub kept_by : (made made2 gone gone2 : Name → Type 0) (w : World) → ((n : Name) → made2 n → made n) → ((n : Name) → gone n → gone2 n)
+pub kept_by : {sli : ℕ} (made made2 gone gone2 : Name → Type 0) (w : World sli) → ((n : Name) → made2 n → made n) → ((n : Name) → gone n → gone2 n)
     → IsKept made gone w → IsKept made2 gone2 w
 kept_by made made2 gone gone2 w fewer more kept = record {
   ids = kept.ids;
@@ -32,14 +32,14 @@ kept_by made made2 gone gone2 w fewer more kept = record {
 
 -- ---- one heap becomes another
 
-heap_same : (w : World) (at : ℕ) (h : HeapState) → at < length w.heaps → heap_in (with_heap w at h) at ≡ h
+heap_same : {sli : ℕ} (w : World sli) (at : ℕ) (h : HeapState) → at < length w.heaps → heap_in (with_heap w at h) at ≡ h
 heap_same w at h at_in = get_or-set_same w.heaps at h no_heap at_in
 
-heap_other : (w : World) (at j : ℕ) (h : HeapState) → j ≢ at → heap_in (with_heap w at h) j ≡ heap_in w j
+heap_other : {sli : ℕ} (w : World sli) (at j : ℕ) (h : HeapState) → j ≢ at → heap_in (with_heap w at h) j ≡ heap_in w j
 heap_other w at j h ne = get_or-set_other w.heaps at j h no_heap ne
 
 -- a name that is live in the new heap, where it was in the old, is so in the world
-live_after : (w : World) (at : ℕ) (h : HeapState) (m : Name) → at < length w.heaps → (IsLive (heap_in w at) m → IsLive h m) → IsLiveIn w m → IsLiveIn (with_heap w at h) m
+live_after : {sli : ℕ} (w : World sli) (at : ℕ) (h : HeapState) (m : Name) → at < length w.heaps → (IsLive (heap_in w at) m → IsLive h m) → IsLiveIn w m → IsLiveIn (with_heap w at h) m
 live_after w at h m at_in stays live =
     let v = with_heap w at h in
     let within : m.heap < length v.heaps = omega (arith, length-set w.heaps at h, live.0) in
@@ -50,7 +50,7 @@ live_after w at h m at_in stays live =
       | inr e ↦ (within, subst (λ (z : HeapState). IsLive z m) (sym (heap_other w at m.heap h e)) live.1)
     ]
 
-ids_after : (w : World) (at : ℕ) (h : HeapState) → at < length w.heaps → h.id ≡ (heap_in w at).id → HasIds w → HasIds (with_heap w at h)
+ids_after : {sli : ℕ} (w : World sli) (at : ℕ) (h : HeapState) → at < length w.heaps → h.id ≡ (heap_in w at).id → HasIds w → HasIds (with_heap w at h)
 ids_after w at h at_in same ids j j_in =
     let v = with_heap w at h in
     let j_was : j < length w.heaps = omega (arith, length-set w.heaps at h, j_in) in
@@ -60,7 +60,7 @@ ids_after w at h at_in same ids j j_in =
     ]
 
 -- the heap keeps these names live, of which is each that waits or isn't gone
-pub heap_kept : (made gone keeps : Name → Type 0) (w : World) (at : ℕ) (h : HeapState) → at < length w.heaps → h.id ≡ (heap_in w at).id
+pub heap_kept : {sli : ℕ} (made gone keeps : Name → Type 0) (w : World sli) (at : ℕ) (h : HeapState) → at < length w.heaps → h.id ≡ (heap_in w at).id
     → ((m : Name) → keeps m → IsLive (heap_in w at) m → IsLive h m) → ((m : Name) → made m → ¬ (gone m) → keeps m)
     → ((i j k : ℕ) (p : Post) → slice_get (w.waiting i j) k ≡ Some p → keeps p.name) → IsKept made gone w → IsKept made gone (with_heap w at h)
 heap_kept made gone keeps w at h at_in same stays if_live if_waits kept = record {
@@ -71,7 +71,7 @@ heap_kept made gone keeps w at h at_in same stays if_live if_waits kept = record
 }
 
 -- a live name more
-pub more_kept : (made gone : Name → Type 0) (w : World) (n : Name) → IsLiveIn w n → IsKept made gone w → IsKept (λ m. (m ≡ n) ⊎ made m) gone w
+pub more_kept : {sli : ℕ} (made gone : Name → Type 0) (w : World sli) (n : Name) → IsLiveIn w n → IsKept made gone w → IsKept (λ m. (m ≡ n) ⊎ made m) gone w
 more_kept made gone w n new kept = record {
   ids = kept.ids;
   live = λ m a b. elim a [ inl e ↦ subst (IsLiveIn w) (sym e) new | inr c ↦ kept.live m c b ];
@@ -79,7 +79,7 @@ more_kept made gone w n new kept = record {
   once = kept.once;
 }
 
-pub live_here : (w : World) (at : ℕ) (h : HeapState) (n : Name) → at < length w.heaps → n.heap ≡ at → IsLive h n → IsLiveIn (with_heap w at h) n
+pub live_here : {sli : ℕ} (w : World sli) (at : ℕ) (h : HeapState) (n : Name) → at < length w.heaps → n.heap ≡ at → IsLive h n → IsLiveIn (with_heap w at h) n
 live_here w at h n at_in here live =
     (omega (arith, length-set w.heaps at h), subst (λ (z : HeapState). IsLive z n) (sym (ap (heap_in (with_heap w at h)) here ∙ heap_same w at h at_in)) live)
 
@@ -91,7 +91,7 @@ push_at [] x p (suc k) e = cc
 push_at (y ∷ ys) x p zero e = inl e
 push_at (y ∷ ys) x p (suc k) e = elim (push_at ys x p k e) [ inl a ↦ inl a | inr a ↦ inr (ap suc a.0, a.1) ]
 
-seen_pushed : (w : World) (at to : ℕ) (x : Post) (i j k : ℕ) (p : Post) → slice_get ((with_waiting w at to (w.waiting at to ++ x ∷ [])).waiting i j) k ≡ Some p
+seen_pushed : {sli : ℕ} (w : World sli) (at to : ℕ) (x : Post) (i j k : ℕ) (p : Post) → slice_get ((with_waiting w at to (w.waiting at to ++ x ∷ [])).waiting i j) k ≡ Some p
     → (slice_get (w.waiting i j) k ≡ Some p) ⊎ ((i ≡ at) × (j ≡ to) × (k ≡ length (w.waiting at to)) × (p ≡ x))
 seen_pushed w at to x i j k p e =
     let all = w.waiting at to ++ x ∷ [] in
@@ -109,7 +109,7 @@ seen_pushed w at to x i j k p e =
     ]
 
 -- a name that is not gone is posted, and then is
-pub posted_kept : (made gone gone2 : Name → Type 0) (w : World) (at : ℕ) (n : Name) → made n → ¬ (gone n) → ((m : Name) → gone m → gone2 m) → gone2 n
+pub posted_kept : {sli : ℕ} (made gone gone2 : Name → Type 0) (w : World sli) (at : ℕ) (n : Name) → made n → ¬ (gone n) → ((m : Name) → gone m → gone2 m) → gone2 n
     → IsKept made gone w → IsKept made gone2 (with_waiting w at n.heap (w.waiting at n.heap ++ record { from = at; name = n } ∷ []))
 posted_kept made gone gone2 w at n mine fresh more now kept =
     let x : Post = record { from = at; name = n } in

@@ -34,7 +34,7 @@ resize_known : (r : Result (Unit {0}) Refusal) → reply_resized r ≢ Refused U
 resize_known (Ok done) e = cc
 resize_known (Err why) e = cc
 
-post_known : (w : World) (at : ℕ) (name : Name) → (posting w at name).reply ≢ Refused Unmade
+post_known : {sli : ℕ} (w : World sli) (at : ℕ) (name : Name) → (posting w at name).reply ≢ Refused Unmade
 unfolding posting
 post_known w at name =
     elim (cases_eq (length (w.waiting at name.heap)) w.capacity) [
@@ -42,7 +42,7 @@ post_known w at name =
       | inr e ↦ let b : (length (w.waiting at name.heap) == w.capacity) ≡ false = grind (arith, nat_tests) in rw b (λ q. cc)
     ]
 
-release_meant : (w : World) (at : ℕ) (name : Name) → (releasing w at name).reply ≢ Refused Unmade
+release_meant : {sli : ℕ} (w : World sli) (at : ℕ) (name : Name) → (releasing w at name).reply ≢ Refused Unmade
 release_meant w at name =
     elim (cases_eq name.heap at) [
       | inl own ↦ let b : (name.heap == at) ≡ true = grind (arith, nat_tests) in rw b (freed_known (released (heap_in w at) name).answer)
@@ -52,15 +52,15 @@ release_meant w at name =
       ]
     ]
 
-first_known : (w : World) (at from : ℕ) (ps : List Post) → (took_first w at from ps).reply ≢ Refused Unmade
+first_known : {sli : ℕ} (w : World sli) (at from : ℕ) (ps : List Post) → (took_first w at from ps).reply ≢ Refused Unmade
 first_known w at from [] e = cc
 first_known w at from (p ∷ rest) e = cc
 
-next_known : (w : World) (at from : ℕ) → (taking_next w at from).reply ≢ Refused Unmade
+next_known : {sli : ℕ} (w : World sli) (at from : ℕ) → (taking_next w at from).reply ≢ Refused Unmade
 unfolding taking_next
 next_known w at from = first_known w at from (w.waiting from at)
 
-take_known : (w : World) (at from : ℕ) → (taking w at from).reply ≢ Refused Unmade
+take_known : {sli : ℕ} (w : World sli) (at from : ℕ) → (taking w at from).reply ≢ Refused Unmade
 take_known w at from =
     elim (cases_eq from at) [
       | inl e ↦ rw (taking_own w at from e) (λ q. cc)
@@ -73,24 +73,24 @@ take_known w at from =
 some_named : (name : Name) (reply : Reply) → reply ≢ Refused Unmade → (reply ≡ Refused Unmade) ↔ (Some name ≡ None)
 some_named name reply known = ((λ e. absurd (known e)), (λ e. cc))
 
-pub allocate_unmade : (w : World) (at len : ℕ) → ((allocating w at len).reply ≡ Refused Unmade) ↔ ⊥
-allocate_unmade w at len = (made_known (allocated (heap_in w at) len).answer, (λ e. absurd e))
+pub allocate_unmade : {sli : ℕ} (w : World sli) (at len : ℕ) → ((allocating w at len).reply ≡ Refused Unmade) ↔ ⊥
+allocate_unmade {sli} w at len = (made_known (allocated sli (heap_in w at) len).answer, (λ e. absurd e))
 
-pub take_unmade : (w : World) (at from : ℕ) → ((taking w at from).reply ≡ Refused Unmade) ↔ ⊥
+pub take_unmade : {sli : ℕ} (w : World sli) (at from : ℕ) → ((taking w at from).reply ≡ Refused Unmade) ↔ ⊥
 take_unmade w at from = (take_known w at from, (λ e. absurd e))
 
-pub release_unmade : (w : World) (at : ℕ) (o : Option Name) → ((releasing_named w at o).reply ≡ Refused Unmade) ↔ (o ≡ None)
+pub release_unmade : {sli : ℕ} (w : World sli) (at : ℕ) (o : Option Name) → ((releasing_named w at o).reply ≡ Refused Unmade) ↔ (o ≡ None)
 release_unmade w at None = ((λ e. refl), (λ e. refl))
 release_unmade w at (Some name) = some_named name (releasing w at name).reply (release_meant w at name)
 
-pub write_unmade : (w : World) (at from : ℕ) (bytes : List ℕ) (o : Option Name) → ((writing_named w at o from bytes).reply ≡ Refused Unmade) ↔ (o ≡ None)
+pub write_unmade : {sli : ℕ} (w : World sli) (at from : ℕ) (bytes : List ℕ) (o : Option Name) → ((writing_named w at o from bytes).reply ≡ Refused Unmade) ↔ (o ≡ None)
 write_unmade w at from bytes None = ((λ e. refl), (λ e. refl))
 write_unmade w at from bytes (Some name) = some_named name _ (wrote_known (length bytes) (written (heap_in w at) name from bytes).answer)
 
-pub read_unmade : (w : World) (at from n : ℕ) (o : Option Name) → ((reading_named w at o from n).reply ≡ Refused Unmade) ↔ (o ≡ None)
+pub read_unmade : {sli : ℕ} (w : World sli) (at from n : ℕ) (o : Option Name) → ((reading_named w at o from n).reply ≡ Refused Unmade) ↔ (o ≡ None)
 read_unmade w at from n None = ((λ e. refl), (λ e. refl))
 read_unmade w at from n (Some name) = some_named name _ (got_known (chunk_read (heap_in w at) name from n))
 
-pub resize_unmade : (w : World) (at len : ℕ) (o : Option Name) → ((resizing_named w at o len).reply ≡ Refused Unmade) ↔ (o ≡ None)
+pub resize_unmade : {sli : ℕ} (w : World sli) (at len : ℕ) (o : Option Name) → ((resizing_named w at o len).reply ≡ Refused Unmade) ↔ (o ≡ None)
 resize_unmade w at len None = ((λ e. refl), (λ e. refl))
 resize_unmade w at len (Some name) = some_named name _ (resize_known (resized (heap_in w at) name len).answer)

@@ -35,16 +35,16 @@ none_more i at es e none silent =
 
 -- ---- drains
 
-lane_none : (i at from : ℕ) (ps : List Post) (d : Draining) → from ≢ i → posts_taken i at d.entries ≡ [] → posts_taken i at (fold (took_more at from) d ps).entries ≡ []
+lane_none : {sli : ℕ} (i at from : ℕ) (ps : List Post) (d : Draining sli) → from ≢ i → posts_taken i at d.entries ≡ [] → posts_taken i at (fold (took_more at from) d ps).entries ≡ []
 lane_none i at from [] d ne none = none
 lane_none i at from (p ∷ ps) d ne none =
     lane_none i at from ps (took_more at from d p) ne (none_more i at d.entries _ none (other_take i from (took d.world at from p (drop 1 (d.world.waiting from at))).reply ne))
 
-drained_none : (i at most from : ℕ) (d : Draining) → from ≢ i → posts_taken i at d.entries ≡ [] → posts_taken i at (drained_lane at most from d).entries ≡ []
+drained_none : {sli : ℕ} (i at most from : ℕ) (d : Draining sli) → from ≢ i → posts_taken i at d.entries ≡ [] → posts_taken i at (drained_lane at most from d).entries ≡ []
 unfolding drained_lane
 drained_none i at most from d ne none = lane_none i at from (take (most - d.taken) (d.world.waiting from at)) d ne none
 
-below_none : (i at most n : ℕ) (d : Draining) (k : ℕ) → (i ≢ at → n ≤ i) → k ≤ n → posts_taken i at d.entries ≡ [] → posts_taken i at (drained_below at most d k).entries ≡ []
+below_none : {sli : ℕ} (i at most n : ℕ) (d : Draining sli) (k : ℕ) → (i ≢ at → n ≤ i) → k ≤ n → posts_taken i at d.entries ≡ [] → posts_taken i at (drained_below at most d k).entries ≡ []
 below_none i at most n d zero far le none = none
 below_none i at most n d (suc k) far le none =
     let b = drained_below at most d k in
@@ -56,15 +56,15 @@ below_none i at most n d (suc k) far le none =
           rw (from_other at most b k e) (drained_none i at most k b apart first)
     ]
 
-drain_none : (i at most : ℕ) (r : Replayed) → (i ≢ at → length r.world.heaps ≤ i) → posts_taken i at r.entries ≡ [] → posts_taken i at (draining r at most).entries ≡ []
+drain_none : {sli : ℕ} (i at most : ℕ) (r : Replayed sli) → (i ≢ at → length r.world.heaps ≤ i) → posts_taken i at r.entries ≡ [] → posts_taken i at (draining r at most).entries ≡ []
 unfolding draining after_drain
-drain_none i at most r far none =
-    let d : Draining = record { entries = r.entries; world = r.world; taken = 0 } in
+drain_none {sli} i at most r far none =
+    let d : Draining sli = record { entries = r.entries; world = r.world; taken = 0 } in
     none_more i at (drained_below at most d (length r.world.heaps)).entries _ (below_none i at most (length r.world.heaps) d (length r.world.heaps) far (omega arith) none) refl
 
 -- ---- calls
 
-take_none : (i at from : ℕ) (w : World) → (i ≢ at → length w.heaps ≤ i) → post_of_take i (Take from) (taking w at from).reply ≡ None
+take_none : {sli : ℕ} (i at from : ℕ) (w : World sli) → (i ≢ at → length w.heaps ≤ i) → post_of_take i (Take from) (taking w at from).reply ≡ None
 take_none i at from w far =
     elim (cases_eq from i) [
       | inl e ↦ elim (cases_eq from at) [
@@ -74,7 +74,7 @@ take_none i at from w far =
       | inr ne ↦ other_take i from (taking w at from).reply ne
     ]
 
-call_none : (i at : ℕ) (r : Replayed) (call : Call) → (i ≢ at → length r.world.heaps ≤ i) → posts_taken i at r.entries ≡ [] → posts_taken i at (called r at call).entries ≡ []
+call_none : {sli : ℕ} (i at : ℕ) (r : Replayed sli) (call : Call) → (i ≢ at → length r.world.heaps ≤ i) → posts_taken i at r.entries ≡ [] → posts_taken i at (called r at call).entries ≡ []
 call_none i at r (Allocate len) far none = none_more i at r.entries _ none refl
 call_none i at r (Release target) far none = none_more i at r.entries _ none refl
 call_none i at r (Write target from bytes) far none = none_more i at r.entries _ none refl
@@ -83,13 +83,13 @@ call_none i at r (Resize target len) far none = none_more i at r.entries _ none 
 call_none i at r (Take from) far none = none_more i at r.entries _ none (take_none i at from r.world far)
 call_none i at r (Drain most) far none = drain_none i at most r far none
 
-none_after_one : (n i at : ℕ) (s t : Told) (call : Call) → (i ≢ at → n ≤ i) → MayTell n at s call t → posts_taken i at s.entries ≡ [] → posts_taken i at t.entries ≡ []
-none_after_one n i at s t call far may none =
-    let r : Replayed = record { made = s.made; entries = s.entries; world = may.0 } in
+none_after_one : (sli : ℕ) (n i at : ℕ) (s t : Told) (call : Call) → (i ≢ at → n ≤ i) → MayTell sli n at s call t → posts_taken i at s.entries ≡ [] → posts_taken i at t.entries ≡ []
+none_after_one sli n i at s t call far may none =
+    let r : Replayed sli = record { made = s.made; entries = s.entries; world = may.0 } in
     let same : (called r at call).entries ≡ t.entries = ap (λ (x : Told). x.entries) may.2 in
     let here : i ≢ at → length may.0.heaps ≤ i = λ ne. let h : n ≤ i = far ne in omega (arith, may.1.0) in
     subst (λ (es : List Entry). posts_taken i at es ≡ []) same (call_none i at r call here none)
 
-pub tells_none : (n i at : ℕ) (s t : Told) (calls : List Call) → (i ≢ at → n ≤ i) → MayTellAll n at s calls t → posts_taken i at s.entries ≡ [] → posts_taken i at t.entries ≡ []
-tells_none n i at s t [] far may none = rw may none
-tells_none n i at s t (call ∷ calls) far may none = tells_none n i at may.0 t calls far may.2 (none_after_one n i at s may.0 call far may.1 none)
+pub tells_none : (sli : ℕ) (n i at : ℕ) (s t : Told) (calls : List Call) → (i ≢ at → n ≤ i) → MayTellAll sli n at s calls t → posts_taken i at s.entries ≡ [] → posts_taken i at t.entries ≡ []
+tells_none sli n i at s t [] far may none = rw may none
+tells_none sli n i at s t (call ∷ calls) far may none = tells_none sli n i at may.0 t calls far may.2 (none_after_one sli n i at s may.0 call far may.1 none)

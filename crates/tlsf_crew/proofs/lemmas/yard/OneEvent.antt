@@ -13,35 +13,35 @@ use Rattle.tlsf_crew.specs.yard.World.{World, world_of, with_heap, posting, taki
 use Rattle.tlsf_crew.specs.yard.Workers.{heap_of}
 use Rattle.tlsf_crew.specs.yard.Yard.{no_heap}
 
-pub heaps_count : (ws : List Worker) → length (world_of ws).heaps ≡ length ws
+pub heaps_count : {sli : ℕ} (ws : List (Worker sli)) → length (world_of ws).heaps ≡ length ws
 unfolding world_of
 heaps_count ws = length-map ws heap_of
 
-pub same_heap : (w : World) (at : ℕ) (h : HeapState) → h ≡ heap_in w at → with_heap w at h ≡ w
+pub same_heap : {sli : ℕ} (w : World sli) (at : ℕ) (h : HeapState) → h ≡ heap_in w at → with_heap w at h ≡ w
 same_heap w at h e = rw e (ap (λ l. record { heaps = l; waiting = w.waiting; capacity = w.capacity }) (set-get_or w.heaps at no_heap))
 
-pub releasing_post : (w : World) (at : ℕ) (name : Name) → name.heap ≢ at → name.heap < length w.heaps → releasing w at name ≡ posting w at name
+pub releasing_post : {sli : ℕ} (w : World sli) (at : ℕ) (name : Name) → name.heap ≢ at → name.heap < length w.heaps → releasing w at name ≡ posting w at name
 releasing_post w at name ne lt =
     let a : (name.heap == at) ≡ false = grind (arith, nat_tests) in
     let b : nat_lt name.heap (length w.heaps) ≡ true = grind (arith, nat_tests) in
     rw (a, b) refl
 
-pub releasing_far : (w : World) (at : ℕ) (name : Name) → name.heap ≢ at → length w.heaps ≤ name.heap → releasing w at name ≡ record { reply = Refused Stranger; world = w }
+pub releasing_far : {sli : ℕ} (w : World sli) (at : ℕ) (name : Name) → name.heap ≢ at → length w.heaps ≤ name.heap → releasing w at name ≡ record { reply = Refused Stranger; world = w }
 releasing_far w at name ne le =
     let a : (name.heap == at) ≡ false = grind (arith, nat_tests) in
     let b : nat_lt name.heap (length w.heaps) ≡ false = grind (arith, nat_tests) in
     rw (a, b) refl
 
-pub taking_lane : (w : World) (at from : ℕ) → from ≢ at → from < length w.heaps → taking w at from ≡ taking_next w at from
+pub taking_lane : {sli : ℕ} (w : World sli) (at from : ℕ) → from ≢ at → from < length w.heaps → taking w at from ≡ taking_next w at from
 taking_lane w at from ne lt =
     let a : (from == at) ≡ false = grind (arith, nat_tests) in
     let b : nat_lt from (length w.heaps) ≡ true = grind (arith, nat_tests) in
     rw (a, b) refl
 
-pub taking_own : (w : World) (at from : ℕ) → from ≡ at → taking w at from ≡ record { reply = Refused Stranger; world = w }
+pub taking_own : {sli : ℕ} (w : World sli) (at from : ℕ) → from ≡ at → taking w at from ≡ record { reply = Refused Stranger; world = w }
 taking_own w at from e = let a : (from == at) ≡ true = grind (arith, nat_tests) in rw a refl
 
-pub taking_far : (w : World) (at from : ℕ) → length w.heaps ≤ from → taking w at from ≡ record { reply = Refused Stranger; world = w }
+pub taking_far : {sli : ℕ} (w : World sli) (at from : ℕ) → length w.heaps ≤ from → taking w at from ≡ record { reply = Refused Stranger; world = w }
 taking_far w at from le =
     let b : nat_lt from (length w.heaps) ≡ false = grind (arith, nat_tests) in
     elim (cases_eq from at) [
@@ -49,8 +49,8 @@ taking_far w at from le =
       | inr n ↦ let a : (from == at) ≡ false = grind (arith, nat_tests) in rw (a, b) refl
     ]
 
-pub from_other : (at most : ℕ) (d : Draining) (from : ℕ) → from ≢ at → drained_from at most d from ≡ drained_lane at most from d
+pub from_other : {sli : ℕ} (at most : ℕ) (d : Draining sli) (from : ℕ) → from ≢ at → drained_from at most d from ≡ drained_lane at most from d
 from_other at most d from ne = let b : (from == at) ≡ false = grind (arith, nat_tests) in rw b refl
 
-pub from_own : (at most : ℕ) (d : Draining) (from : ℕ) → from ≡ at → drained_from at most d from ≡ d
+pub from_own : {sli : ℕ} (at most : ℕ) (d : Draining sli) (from : ℕ) → from ≡ at → drained_from at most d from ≡ d
 from_own at most d from e = let b : (from == at) ≡ true = grind (arith, nat_tests) in rw b refl

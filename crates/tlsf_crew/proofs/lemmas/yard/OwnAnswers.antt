@@ -37,7 +37,7 @@ use Rattle.tlsf_crew.proofs.lemmas.yard.Witnesses.{heap_left, answered_quiet}
 -- ---- what refuses
 
 -- the worker itself refuses, and nothing changes
-itself_told : (n : ℕ) (a : Worker) (reply : Reply) (by : World → Replied) (w : World) → HasHeap w n (id_of a) (heap_of a)
+itself_told : {sli : ℕ} (n : ℕ) (a : Worker sli) (reply : Reply) (by : World sli → Replied sli) (w : World sli) → HasHeap w n (id_of a) (heap_of a)
     → (length w.heaps ≡ n → by w ≡ record { reply = reply; world = w }) → ModelReplies (id_of a) a reply (by w)
 itself_told n a reply by w has is =
     let e = is has.0 in
@@ -46,13 +46,13 @@ itself_told n a reply by w has is =
       left = sym has.1 ∙ ap (λ r. heap_in r.world (id_of a)) (sym e);
     }
 
-pub itself_answered : (made : List (Option Name)) (a : Worker) (limits : List ℕ) (call : Call) (reply : Reply) (by : World → Replied)
+pub itself_answered : {sli : ℕ} (made : List (Option Name)) (a : Worker sli) (limits : List ℕ) (call : Call) (reply : Reply) (by : World sli → Replied sli)
     → ((later : List (Option Name)) → IsIdle (id_of a) later a limits [] (record { worker = id_of a; call = call; reply = reply }))
-    → ((n : ℕ) → KnowsYard n a → (w : World) → length w.heaps ≡ n → by w ≡ record { reply = reply; world = w }) → CallStep made a limits call a limits reply by
+    → ((n : ℕ) → KnowsYard n a → (w : World sli) → length w.heaps ≡ n → by w ≡ record { reply = reply; world = w }) → CallStep made a limits call a limits reply by
 itself_answered made a limits call reply by idle is =
     answered_quiet made a a limits call reply by (refl, refl, refl) (same_keeps a) idle (λ n k w has s. itself_told n a reply by w has (is n k w))
 
-refused_release : (at : ℕ) (later : List (Option Name)) (a : Worker) (limits : List ℕ) (target : Target) (why : CrewRefusal) → ((name : Name) → why ≢ Full name)
+refused_release : {sli : ℕ} (at : ℕ) (later : List (Option Name)) (a : Worker sli) (limits : List ℕ) (target : Target) (why : CrewRefusal) → ((name : Name) → why ≢ Full name)
     → IsIdle at later a limits [] (record { worker = at; call = Release target; reply = Refused why })
 refused_release at later a limits target why other = record {
   posts = record { made_none = λ j. refl; taken_none = λ i. refl };
@@ -61,7 +61,7 @@ refused_release at later a limits target why other = record {
   drained = λ most k i e. cc;
 }
 
-pub release_unmade : (made : List (Option Name)) (a : Worker) (limits : List ℕ) (target : Target) → None ≡ name_of made target
+pub release_unmade : {sli : ℕ} (made : List (Option Name)) (a : Worker sli) (limits : List ℕ) (target : Target) → None ≡ name_of made target
     → CallStep made a limits (Release target) a limits (Refused Unmade) (λ w. releasing_named w (id_of a) (name_of made target))
 release_unmade made a limits target none =
     subst (λ o. CallStep made a limits (Release target) a limits (Refused Unmade) (λ w. releasing_named w (id_of a) o)) none
@@ -71,7 +71,7 @@ release_unmade made a limits target none =
 -- ---- release
 
 -- The reply stands here as a constructor: where it has to be computed from a result, `cc` takes seconds.
-freed_quiet : (at : ℕ) (later : List (Option Name)) (a : Worker) (limits : List ℕ) (target : Target)
+freed_quiet : {sli : ℕ} (at : ℕ) (later : List (Option Name)) (a : Worker sli) (limits : List ℕ) (target : Target)
     → IsIdle at later a limits [] (record { worker = at; call = Release target; reply = Freed })
 freed_quiet at later a limits target = record {
   posts = record { made_none = λ j. refl; taken_none = λ i. refl };
@@ -80,15 +80,15 @@ freed_quiet at later a limits target = record {
   drained = λ most k i e. cc;
 }
 
-freed_idle : (at : ℕ) (later : List (Option Name)) (a : Worker) (limits : List ℕ) (target : Target) (r : Result (Unit {0}) Refusal)
+freed_idle : {sli : ℕ} (at : ℕ) (later : List (Option Name)) (a : Worker sli) (limits : List ℕ) (target : Target) (r : Result (Unit {0}) Refusal)
     → IsIdle at later a limits [] (record { worker = at; call = Release target; reply = reply_freed r })
 freed_idle at later a limits target (Ok done) = freed_quiet at later a limits target
 freed_idle at later a limits target (Err why) = refused_release at later a limits target (Heap why) (λ name e. cc)
 
-pub own_name : (w : World) (at : ℕ) (name : Name) → name.heap ≡ at → releasing w at name ≡ freeing w at name
+pub own_name : {sli : ℕ} (w : World sli) (at : ℕ) (name : Name) → name.heap ≡ at → releasing w at name ≡ freeing w at name
 own_name w at name e = let b : (name.heap == at) ≡ true = grind (arith, nat_tests) in rw b refl
 
-freed_here : (n : ℕ) (a v : Worker) (name : Name) → heap_of v ≡ (heap.released (heap_of a) name).heap → name.heap ≡ id_of a → KnowsYard n a → (w : World) → HasHeap w n (id_of a) (heap_of a)
+freed_here : {sli : ℕ} (n : ℕ) (a v : Worker sli) (name : Name) → heap_of v ≡ (heap.released (heap_of a) name).heap → name.heap ≡ id_of a → KnowsYard n a → (w : World sli) → HasHeap w n (id_of a) (heap_of a)
     → ModelReplies (id_of a) v (reply_freed (heap.released (heap_of a) name).answer) (releasing w (id_of a) name)
 unfolding released
 freed_here n a v name h own k w has =
@@ -100,15 +100,15 @@ freed_here n a v name h own k w has =
           ∙ ap (λ r. heap_in r.world at) (sym e)));
     }
 
-pub posted_world : (w : World) (at : ℕ) (name : Name) → length (w.waiting at name.heap) ≢ w.capacity → ((posting w at name).reply ≡ Posted) × (heap_in (posting w at name).world at ≡ heap_in w at)
+pub posted_world : {sli : ℕ} (w : World sli) (at : ℕ) (name : Name) → length (w.waiting at name.heap) ≢ w.capacity → ((posting w at name).reply ≡ Posted) × (heap_in (posting w at name).world at ≡ heap_in w at)
 unfolding posting
 posted_world w at name ne = let b : (length (w.waiting at name.heap) == w.capacity) ≡ false = grind (arith, nat_tests) in (rw b refl, rw b refl)
 
-pub full_world : (w : World) (at : ℕ) (name : Name) → length (w.waiting at name.heap) ≡ w.capacity → posting w at name ≡ record { reply = Refused (Full name); world = w }
+pub full_world : {sli : ℕ} (w : World sli) (at : ℕ) (name : Name) → length (w.waiting at name.heap) ≡ w.capacity → posting w at name ≡ record { reply = Refused (Full name); world = w }
 unfolding posting
 full_world w at name e = let b : (length (w.waiting at name.heap) == w.capacity) ≡ true = grind (arith, nat_tests) in rw b refl
 
-posted_there : (n : ℕ) (a v : Worker) (name : Name) → heap_of v ≡ heap_of a → name.heap ≢ id_of a → name.heap < n → (w : World) → HasHeap w n (id_of a) (heap_of a)
+posted_there : {sli : ℕ} (n : ℕ) (a v : Worker sli) (name : Name) → heap_of v ≡ heap_of a → name.heap ≢ id_of a → name.heap < n → (w : World sli) → HasHeap w n (id_of a) (heap_of a)
     → length (w.waiting (id_of a) name.heap) ≢ w.capacity → ModelReplies (id_of a) v Posted (releasing w (id_of a) name)
 posted_there n a v name h ne lt w has room =
     let at = id_of a in
@@ -119,7 +119,7 @@ posted_there n a v name h ne lt w has room =
       left = h ∙ (sym has.1 ∙ (sym p.1 ∙ ap (λ r. heap_in r.world at) (sym e)));
     }
 
-full_there : (n : ℕ) (a v : Worker) (name : Name) → heap_of v ≡ heap_of a → name.heap ≢ id_of a → name.heap < n → (w : World) → HasHeap w n (id_of a) (heap_of a)
+full_there : {sli : ℕ} (n : ℕ) (a v : Worker sli) (name : Name) → heap_of v ≡ heap_of a → name.heap ≢ id_of a → name.heap < n → (w : World sli) → HasHeap w n (id_of a) (heap_of a)
     → length (w.waiting (id_of a) name.heap) ≡ w.capacity → ModelReplies (id_of a) v (Refused (Full name)) (releasing w (id_of a) name)
 full_there n a v name h ne lt w has full =
     let at = id_of a in
@@ -138,7 +138,7 @@ freed_reply : (r : Result (Unit {0}) Refusal) → reply_released (freed_by r) �
 freed_reply (Ok done) = refl
 freed_reply (Err why) = refl
 
-here_answered : (made : List (Option Name)) (a v : Worker) (limits : List ℕ) (target : Target) (name : Name) (answer : Result Released CrewRefusal) → KeepsYards a v
+here_answered : {sli : ℕ} (made : List (Option Name)) (a v : Worker sli) (limits : List ℕ) (target : Target) (name : Name) (answer : Result Released CrewRefusal) → KeepsYards a v
     → name.heap ≡ id_of a → ReleasedHere a v name answer → CallStep made a limits (Release target) v limits (reply_released answer) (λ w. releasing w (id_of a) name)
 here_answered made a v limits target name answer yard own here =
     let o = (heap.released (heap_of a) name).answer in
@@ -147,7 +147,7 @@ here_answered made a v limits target name answer yard own here =
     (answered_quiet made a v limits (Release target) (reply_freed o) (λ w. releasing w (id_of a) name) here.same yard (λ later. freed_idle (id_of a) later a limits target o)
     (λ n k w has s. freed_here n a v name here.heap own k w has))
 
-full_idle : (at : ℕ) (later : List (Option Name)) (a v : Worker) (limits : List ℕ) (target : Target) (name : Name) (post back : Post) → PutTo a v name.heap post (Err back)
+full_idle : {sli : ℕ} (at : ℕ) (later : List (Option Name)) (a v : Worker sli) (limits : List ℕ) (target : Target) (name : Name) (post back : Post) → PutTo a v name.heap post (Err back)
     → IsIdle at later a limits [] (record { worker = at; call = Release target; reply = Refused (Full name) })
 full_idle at later a v limits target name post back put = record {
   posts = record { made_none = λ j. refl; taken_none = λ i. refl };
@@ -156,7 +156,7 @@ full_idle at later a v limits target name post back put = record {
   drained = λ most k i e. cc;
 }
 
-put_answered : (made : List (Option Name)) (a v : Worker) (limits : List ℕ) (target : Target) (name : Name) (put : Result (Unit {0}) Post) → name_of made target ≡ Some name
+put_answered : {sli : ℕ} (made : List (Option Name)) (a v : Worker sli) (limits : List ℕ) (target : Target) (name : Name) (put : Result (Unit {0}) Post) → name_of made target ≡ Some name
     → name.heap ≢ id_of a → PutTo a v name.heap (record { from = id_of a; name = name }) put
     → CallStep made a limits (Release target) v limits (reply_released (posted_by name put)) (λ w. releasing w (id_of a) name)
 put_answered made a v limits target name (Ok done) known ne put = record {
@@ -172,13 +172,13 @@ put_answered made a v limits target name (Err back) known ne put = record {
       (full_idle (id_of a) (made ++ rest) a v limits target name post back put);
 }
 
-there_answered : (made : List (Option Name)) (a v : Worker) (limits : List ℕ) (target : Target) (name : Name) (answer : Result Released CrewRefusal) → name_of made target ≡ Some name
+there_answered : {sli : ℕ} (made : List (Option Name)) (a v : Worker sli) (limits : List ℕ) (target : Target) (name : Name) (answer : Result Released CrewRefusal) → name_of made target ≡ Some name
     → name.heap ≢ id_of a → ReleasedThere a v name answer → CallStep made a limits (Release target) v limits (reply_released answer) (λ w. releasing w (id_of a) name)
 there_answered made a v limits target name answer known ne there =
     subst (λ r. CallStep made a limits (Release target) v limits (reply_released r) (λ w. releasing w (id_of a) name)) (sym there.answer_is)
     (put_answered made a v limits target name there.put known ne there.lane)
 
-nowhere_answered : (made : List (Option Name)) (a : Worker) (limits : List ℕ) (target : Target) (name : Name) → name.heap ≢ id_of a → ¬ (HasPost a name.heap)
+nowhere_answered : {sli : ℕ} (made : List (Option Name)) (a : Worker sli) (limits : List ℕ) (target : Target) (name : Name) → name.heap ≢ id_of a → ¬ (HasPost a name.heap)
     → CallStep made a limits (Release target) a limits (Refused Stranger) (λ w. releasing w (id_of a) name)
 nowhere_answered made a limits target name ne none =
     itself_answered made a limits (Release target) (Refused Stranger) (λ w. releasing w (id_of a) name)
@@ -193,13 +193,13 @@ has_post_or None = inr (λ h. let e = h.1 in cc)
 has_post_or (Some p) = inl (p, refl)
 
 -- what a release promises
-pub record IsRelease (a v : Worker) (name : Name) (answer : Result Released CrewRefusal) : Type 0 where
+pub record IsRelease {sli : ℕ} (a v : Worker sli) (name : Name) (answer : Result Released CrewRefusal) : Type 0 where
   pub here : name.heap ≡ id_of a → ReleasedHere a v name answer
   pub there : name.heap ≢ id_of a → HasPost a name.heap → ReleasedThere a v name answer
   pub nowhere : name.heap ≢ id_of a → ¬ (HasPost a name.heap) → (answer ≡ Err Stranger) × (v ≡ a)
   pub yard : KeepsYards a v
 
-release_by_name : (made : List (Option Name)) (a v : Worker) (limits : List ℕ) (target : Target) (name : Name) (answer : Result Released CrewRefusal) → name_of made target ≡ Some name
+release_by_name : {sli : ℕ} (made : List (Option Name)) (a v : Worker sli) (limits : List ℕ) (target : Target) (name : Name) (answer : Result Released CrewRefusal) → name_of made target ≡ Some name
     → IsRelease a v name answer → CallStep made a limits (Release target) v limits (reply_released answer) (λ w. releasing w (id_of a) name)
 release_by_name made a v limits target name answer known r =
     elim (cases_eq name.heap (id_of a)) [
@@ -214,7 +214,7 @@ release_by_name made a v limits target name answer known r =
       ]
     ]
 
-pub release_answered : (made : List (Option Name)) (a v : Worker) (limits : List ℕ) (target : Target) (name : Name) (answer : Result Released CrewRefusal) (reply : Reply) → Some name ≡ name_of made target
+pub release_answered : {sli : ℕ} (made : List (Option Name)) (a v : Worker sli) (limits : List ℕ) (target : Target) (name : Name) (answer : Result Released CrewRefusal) (reply : Reply) → Some name ≡ name_of made target
     → IsRelease a v name answer → reply_released answer ≡ reply → CallStep made a limits (Release target) v limits reply (λ w. releasing_named w (id_of a) (name_of made target))
 release_answered made a v limits target name answer reply known r e =
     subst (λ o. CallStep made a limits (Release target) v limits reply (λ w. releasing_named w (id_of a) o)) known
@@ -223,7 +223,7 @@ release_answered made a v limits target name answer reply known r e =
 
 -- ---- write
 
-refused_write : (at from : ℕ) (bytes : Chunk) (later : List (Option Name)) (a : Worker) (limits : List ℕ) (target : Target) (why : CrewRefusal) → ((name : Name) → why ≢ Full name)
+refused_write : {sli : ℕ} (at from : ℕ) (bytes : Chunk) (later : List (Option Name)) (a : Worker sli) (limits : List ℕ) (target : Target) (why : CrewRefusal) → ((name : Name) → why ≢ Full name)
     → IsIdle at later a limits [] (record { worker = at; call = Write target from bytes; reply = Refused why })
 refused_write at from bytes later a limits target why other = record {
   posts = record { made_none = λ j. refl; taken_none = λ i. refl };
@@ -232,7 +232,7 @@ refused_write at from bytes later a limits target why other = record {
   drained = λ most k i e. cc;
 }
 
-wrote_quiet : (at from count : ℕ) (bytes : Chunk) (later : List (Option Name)) (a : Worker) (limits : List ℕ) (target : Target)
+wrote_quiet : {sli : ℕ} (at from count : ℕ) (bytes : Chunk) (later : List (Option Name)) (a : Worker sli) (limits : List ℕ) (target : Target)
     → IsIdle at later a limits [] (record { worker = at; call = Write target from bytes; reply = Wrote count })
 wrote_quiet at from count bytes later a limits target = record {
   posts = record { made_none = λ j. refl; taken_none = λ i. refl };
@@ -241,13 +241,13 @@ wrote_quiet at from count bytes later a limits target = record {
   drained = λ most k i e. cc;
 }
 
-wrote_idle : (at from count : ℕ) (bytes : Chunk) (later : List (Option Name)) (a : Worker) (limits : List ℕ) (target : Target) (r : Result (Unit {0}) Refusal)
+wrote_idle : {sli : ℕ} (at from count : ℕ) (bytes : Chunk) (later : List (Option Name)) (a : Worker sli) (limits : List ℕ) (target : Target) (r : Result (Unit {0}) Refusal)
     → IsIdle at later a limits [] (record { worker = at; call = Write target from bytes; reply = reply_wrote count r })
 wrote_idle at from count bytes later a limits target (Ok done) = wrote_quiet at from count bytes later a limits target
 wrote_idle at from count bytes later a limits target (Err why) = refused_write at from bytes later a limits target (Heap why) (λ name e. cc)
 
-written_here : (n : ℕ) (a v : Worker) (name : Name) (from : ℕ) (bytes : List ℕ) → heap_of v ≡ (heap.written (heap_of a) name from bytes).heap → KnowsYard n a
-    → (w : World) → HasHeap w n (id_of a) (heap_of a)
+written_here : {sli : ℕ} (n : ℕ) (a v : Worker sli) (name : Name) (from : ℕ) (bytes : List ℕ) → heap_of v ≡ (heap.written (heap_of a) name from bytes).heap → KnowsYard n a
+    → (w : World sli) → HasHeap w n (id_of a) (heap_of a)
     → ModelReplies (id_of a) v (reply_wrote (length bytes) (heap.written (heap_of a) name from bytes).answer) (writing w (id_of a) name from bytes)
 unfolding written
 written_here n a v name from bytes h k w has =
@@ -257,7 +257,7 @@ written_here n a v name from bytes h k w has =
       left = h ∙ (ap (λ g. (heap.written g name from bytes).heap) (sym has.1) ∙ sym (heap_left n at w (heap_of a) (heap.written (heap_in w at) name from bytes).heap k.self has));
     }
 
-pub write_answered : (made : List (Option Name)) (a v : Worker) (limits : List ℕ) (target : Target) (name : Name) (from : ℕ) (bytes : Chunk) (list : List ℕ) (reply : Reply)
+pub write_answered : {sli : ℕ} (made : List (Option Name)) (a v : Worker sli) (limits : List ℕ) (target : Target) (name : Name) (from : ℕ) (bytes : Chunk) (list : List ℕ) (reply : Reply)
     → Some name ≡ name_of made target → list ≡ bytes_of bytes → SameButHeap a v → KeepsYards a v
     → reply ≡ reply_wrote (length list) (heap.written (heap_of a) name from list).answer → heap_of v ≡ (heap.written (heap_of a) name from list).heap
     → CallStep made a limits (Write target from bytes) v limits reply (λ w. writing_named w (id_of a) (name_of made target) from (bytes_of bytes))
@@ -279,7 +279,7 @@ wrote_err (Err x) why n e = let q : why ≡ Heap x = cc in ap Refused q
 
 -- ---- resize
 
-refused_resize : (at len : ℕ) (later : List (Option Name)) (a : Worker) (limits : List ℕ) (target : Target) (why : CrewRefusal) → ((name : Name) → why ≢ Full name)
+refused_resize : {sli : ℕ} (at len : ℕ) (later : List (Option Name)) (a : Worker sli) (limits : List ℕ) (target : Target) (why : CrewRefusal) → ((name : Name) → why ≢ Full name)
     → IsIdle at later a limits [] (record { worker = at; call = Resize target len; reply = Refused why })
 refused_resize at len later a limits target why other = record {
   posts = record { made_none = λ j. refl; taken_none = λ i. refl };
@@ -288,7 +288,7 @@ refused_resize at len later a limits target why other = record {
   drained = λ most k i e. cc;
 }
 
-resize_quiet : (at len : ℕ) (later : List (Option Name)) (a : Worker) (limits : List ℕ) (target : Target)
+resize_quiet : {sli : ℕ} (at len : ℕ) (later : List (Option Name)) (a : Worker sli) (limits : List ℕ) (target : Target)
     → IsIdle at later a limits [] (record { worker = at; call = Resize target len; reply = Resized })
 resize_quiet at len later a limits target = record {
   posts = record { made_none = λ j. refl; taken_none = λ i. refl };
@@ -297,13 +297,13 @@ resize_quiet at len later a limits target = record {
   drained = λ most k i e. cc;
 }
 
-resize_idle : (at len : ℕ) (later : List (Option Name)) (a : Worker) (limits : List ℕ) (target : Target) (r : Result (Unit {0}) Refusal)
+resize_idle : {sli : ℕ} (at len : ℕ) (later : List (Option Name)) (a : Worker sli) (limits : List ℕ) (target : Target) (r : Result (Unit {0}) Refusal)
     → IsIdle at later a limits [] (record { worker = at; call = Resize target len; reply = reply_resized r })
 resize_idle at len later a limits target (Ok done) = resize_quiet at len later a limits target
 resize_idle at len later a limits target (Err why) = refused_resize at len later a limits target (Heap why) (λ name e. cc)
 
-resize_here : (n : ℕ) (a v : Worker) (name : Name) (len : ℕ) → heap_of v ≡ (heap.resized (heap_of a) name len).heap → KnowsYard n a
-    → (w : World) → HasHeap w n (id_of a) (heap_of a)
+resize_here : {sli : ℕ} (n : ℕ) (a v : Worker sli) (name : Name) (len : ℕ) → heap_of v ≡ (heap.resized (heap_of a) name len).heap → KnowsYard n a
+    → (w : World sli) → HasHeap w n (id_of a) (heap_of a)
     → ModelReplies (id_of a) v (reply_resized (heap.resized (heap_of a) name len).answer) (resizing w (id_of a) name len)
 unfolding resized
 resize_here n a v name len h k w has =
@@ -313,7 +313,7 @@ resize_here n a v name len h k w has =
       left = h ∙ (ap (λ g. (heap.resized g name len).heap) (sym has.1) ∙ sym (heap_left n at w (heap_of a) (heap.resized (heap_in w at) name len).heap k.self has));
     }
 
-pub resize_answered : (made : List (Option Name)) (a v : Worker) (limits : List ℕ) (target : Target) (name : Name) (len : ℕ) (reply : Reply)
+pub resize_answered : {sli : ℕ} (made : List (Option Name)) (a v : Worker sli) (limits : List ℕ) (target : Target) (name : Name) (len : ℕ) (reply : Reply)
     → Some name ≡ name_of made target → SameButHeap a v → KeepsYards a v
     → reply ≡ reply_resized (heap.resized (heap_of a) name len).answer → heap_of v ≡ (heap.resized (heap_of a) name len).heap
     → CallStep made a limits (Resize target len) v limits reply (λ w. resizing_named w (id_of a) (name_of made target) len)
@@ -334,7 +334,7 @@ resize_err (Err x) why e = let q : why ≡ Heap x = cc in ap Refused q
 
 -- ---- read
 
-refused_read : (at from n : ℕ) (later : List (Option Name)) (a : Worker) (limits : List ℕ) (target : Target) (why : CrewRefusal) → ((name : Name) → why ≢ Full name)
+refused_read : {sli : ℕ} (at from n : ℕ) (later : List (Option Name)) (a : Worker sli) (limits : List ℕ) (target : Target) (why : CrewRefusal) → ((name : Name) → why ≢ Full name)
     → IsIdle at later a limits [] (record { worker = at; call = Read target from n; reply = Refused why })
 refused_read at from n later a limits target why other = record {
   posts = record { made_none = λ j. refl; taken_none = λ i. refl };
@@ -343,7 +343,7 @@ refused_read at from n later a limits target why other = record {
   drained = λ most k i e. cc;
 }
 
-got_quiet : (at from n : ℕ) (later : List (Option Name)) (a : Worker) (limits : List ℕ) (target : Target) (bytes : Chunk)
+got_quiet : {sli : ℕ} (at from n : ℕ) (later : List (Option Name)) (a : Worker sli) (limits : List ℕ) (target : Target) (bytes : Chunk)
     → IsIdle at later a limits [] (record { worker = at; call = Read target from n; reply = Got bytes })
 got_quiet at from n later a limits target bytes = record {
   posts = record { made_none = λ j. refl; taken_none = λ i. refl };
@@ -352,12 +352,12 @@ got_quiet at from n later a limits target bytes = record {
   drained = λ most k i e. cc;
 }
 
-got_idle : (at from n : ℕ) (later : List (Option Name)) (a : Worker) (limits : List ℕ) (target : Target) (r : Result Chunk Refusal)
+got_idle : {sli : ℕ} (at from n : ℕ) (later : List (Option Name)) (a : Worker sli) (limits : List ℕ) (target : Target) (r : Result Chunk Refusal)
     → IsIdle at later a limits [] (record { worker = at; call = Read target from n; reply = reply_got r })
 got_idle at from n later a limits target (Ok bytes) = got_quiet at from n later a limits target bytes
 got_idle at from n later a limits target (Err why) = refused_read at from n later a limits target (Heap why) (λ name e. cc)
 
-read_here : (m : ℕ) (a v : Worker) (name : Name) (from n : ℕ) → heap_of v ≡ heap_of a → (w : World) → HasHeap w m (id_of a) (heap_of a)
+read_here : {sli : ℕ} (m : ℕ) (a v : Worker sli) (name : Name) (from n : ℕ) → heap_of v ≡ heap_of a → (w : World sli) → HasHeap w m (id_of a) (heap_of a)
     → ModelReplies (id_of a) v (reply_got (chunk_read (heap_of a) name from n)) (reading w (id_of a) name from n)
 read_here m a v name from n h w has =
     record {
@@ -365,7 +365,7 @@ read_here m a v name from n h w has =
       left = h ∙ sym has.1;
     }
 
-pub read_answered : (made : List (Option Name)) (a v : Worker) (limits : List ℕ) (target : Target) (name : Name) (from n : ℕ) (reply : Reply) → Some name ≡ name_of made target
+pub read_answered : {sli : ℕ} (made : List (Option Name)) (a v : Worker sli) (limits : List ℕ) (target : Target) (name : Name) (from n : ℕ) (reply : Reply) → Some name ≡ name_of made target
     → SameButHeap a v → KeepsYards a v → reply ≡ reply_got (chunk_read (heap_of a) name from n) → heap_of v ≡ heap_of a
     → CallStep made a limits (Read target from n) v limits reply (λ w. reading_named w (id_of a) (name_of made target) from n)
 read_answered made a v limits target name from n reply known same yard e h =
@@ -385,10 +385,10 @@ got_err (Err x) why e = let q : why ≡ Heap x = cc in ap Refused q
 
 -- ---- whatever a target means
 
-unmade_here : (n : ℕ) (a v : Worker) → heap_of v ≡ heap_of a → (w : World) → HasHeap w n (id_of a) (heap_of a) → ModelReplies (id_of a) v (Refused Unmade) (record { reply = Refused Unmade; world = w })
+unmade_here : {sli : ℕ} (n : ℕ) (a v : Worker sli) → heap_of v ≡ heap_of a → (w : World sli) → HasHeap w n (id_of a) (heap_of a) → ModelReplies (id_of a) v (Refused Unmade) (record { reply = Refused Unmade; world = w })
 unmade_here n a v h w has = record { reply = refl; left = h ∙ sym has.1 }
 
-pub write_by_target : (made : List (Option Name)) (a v : Worker) (limits : List ℕ) (target : Target) (from : ℕ) (bytes : Chunk) (reply : Reply) (o : Option Name) → o ≡ name_of made target → SameButHeap a v
+pub write_by_target : {sli : ℕ} (made : List (Option Name)) (a v : Worker sli) (limits : List ℕ) (target : Target) (from : ℕ) (bytes : Chunk) (reply : Reply) (o : Option Name) → o ≡ name_of made target → SameButHeap a v
     → reply ≡ (own_writing (heap_of a) o from (bytes_of bytes)).reply → heap_of v ≡ (own_writing (heap_of a) o from (bytes_of bytes)).heap
     → CallStep made a limits (Write target from bytes) v limits reply (λ w. writing_named w (id_of a) (name_of made target) from (bytes_of bytes))
 unfolding written
@@ -400,7 +400,7 @@ write_by_target made a v limits target from bytes reply None known same e h =
 write_by_target made a v limits target from bytes reply (Some name) known same e h =
     write_answered made a v limits target name from bytes (bytes_of bytes) reply known refl same (heap_keeps a v same (write_keeps (heap_of a) (heap_of v) (Some name) from (bytes_of bytes) h)) e h
 
-pub resize_by_target : (made : List (Option Name)) (a v : Worker) (limits : List ℕ) (target : Target) (len : ℕ) (reply : Reply) (o : Option Name) → o ≡ name_of made target → SameButHeap a v
+pub resize_by_target : {sli : ℕ} (made : List (Option Name)) (a v : Worker sli) (limits : List ℕ) (target : Target) (len : ℕ) (reply : Reply) (o : Option Name) → o ≡ name_of made target → SameButHeap a v
     → reply ≡ (own_resizing (heap_of a) o len).reply → heap_of v ≡ (own_resizing (heap_of a) o len).heap
     → CallStep made a limits (Resize target len) v limits reply (λ w. resizing_named w (id_of a) (name_of made target) len)
 unfolding resized
@@ -412,7 +412,7 @@ resize_by_target made a v limits target len reply None known same e h =
 resize_by_target made a v limits target len reply (Some name) known same e h =
     resize_answered made a v limits target name len reply known same (heap_keeps a v same (resize_keeps (heap_of a) (heap_of v) (Some name) len h)) e h
 
-pub read_by_target : (made : List (Option Name)) (a v : Worker) (limits : List ℕ) (target : Target) (from n : ℕ) (reply : Reply) (o : Option Name) → o ≡ name_of made target → SameButHeap a v
+pub read_by_target : {sli : ℕ} (made : List (Option Name)) (a v : Worker sli) (limits : List ℕ) (target : Target) (from n : ℕ) (reply : Reply) (o : Option Name) → o ≡ name_of made target → SameButHeap a v
     → reply ≡ (own_reading (heap_of a) o from n).reply → heap_of v ≡ (own_reading (heap_of a) o from n).heap
     → CallStep made a limits (Read target from n) v limits reply (λ w. reading_named w (id_of a) (name_of made target) from n)
 read_by_target made a v limits target from n reply None known same e h =

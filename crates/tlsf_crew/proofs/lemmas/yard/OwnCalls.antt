@@ -28,7 +28,7 @@ use Rattle.tlsf_crew.proofs.lemmas.yard.ChunkReads.{read_few, read_many}
 use Rattle.tlsf_crew.proofs.lemmas.yard.JoinedEntries.{IsHistory, IsOwnCall, history_quiet}
 
 -- the entry of a call that was answered so tells what it did
-abbrev pub Tells1 : List (Option Name) → World → ℕ → Call → Replied → Type 0
+abbrev pub Tells1 : {sli : ℕ} → List (Option Name) → World sli → ℕ → Call → Replied sli → Type 0
 Tells1 made w at call a = IsHistory made w (record { worker = at; call = call; reply = a.reply } ∷ []) a.world
 
 -- names that earlier events made are known later on
@@ -38,19 +38,19 @@ Knows later made = (target : Target) (name : Name) → name_of made target ≡ S
 -- ---- the own heap does the call
 
 -- one call on a heap
-once : (h : HeapState) (call : heap.Call) (told : Option heap.Call) (a : Option heap.Answer) → told ≡ Some call → a ≡ Some (handed_on (heap.answered 4 h call).0)
-    → RunsTo h (cons_option told []) (cons_option a []) (heap.answered 4 h call).1
+once : {sli : ℕ} (h : HeapState) (call : heap.Call) (told : Option heap.Call) (a : Option heap.Answer) → told ≡ Some call → a ≡ Some (handed_on (heap.answered sli h call).0)
+    → RunsTo sli h (cons_option told []) (cons_option a []) (heap.answered sli h call).1
 once h call told a x y = rw (x, y) (record { told = refl; left = refl })
 
-never : (h : HeapState) (told : Option heap.Call) (a : Option heap.Answer) → told ≡ None → a ≡ None → RunsTo h (cons_option told []) (cons_option a []) h
+never : {sli : ℕ} (h : HeapState) (told : Option heap.Call) (a : Option heap.Answer) → told ≡ None → a ≡ None → RunsTo sli h (cons_option told []) (cons_option a []) h
 never h told a x y = rw (x, y) (record { told = refl; left = refl })
 
 -- one call, with its answer, done by its worker's own heap
-pub done_here : (made : List (Option Name)) (w : World) (at : ℕ) (call : Call) (reply : Reply) (own : heap.Call) → at < length w.heaps
-    → call_on_own made at call reply ≡ Some own → answer_told call reply ≡ Some (handed_on (heap.answered 4 (heap_in w at) own).0)
-    → IsOwnCall made w (record { worker = at; call = call; reply = reply }) (with_heap w at (heap.answered 4 (heap_in w at) own).1)
-done_here made w at call reply own at_in x y =
-    let g = (heap.answered 4 (heap_in w at) own).1 in
+pub done_here : {sli : ℕ} (made : List (Option Name)) (w : World sli) (at : ℕ) (call : Call) (reply : Reply) (own : heap.Call) → at < length w.heaps
+    → call_on_own made at call reply ≡ Some own → answer_told call reply ≡ Some (handed_on (heap.answered sli (heap_in w at) own).0)
+    → IsOwnCall made w (record { worker = at; call = call; reply = reply }) (with_heap w at (heap.answered sli (heap_in w at) own).1)
+done_here {sli} made w at call reply own at_in x y =
+    let g = (heap.answered sli (heap_in w at) own).1 in
     let same : heap_in (with_heap w at g) at ≡ g = get_or-set_same w.heaps at g no_heap at_in in
     record {
       own = rw same (once (heap_in w at) own (call_on_own made at call reply) (answer_told call reply) x y);
@@ -58,10 +58,10 @@ done_here made w at call reply own at_in x y =
     }
 
 -- nothing was done on a heap
-pub none_done : (made : List (Option Name)) (w v : World) (at : ℕ) (call : Call) (reply : Reply) → call_on_own made at call reply ≡ None → answer_told call reply ≡ None
+pub none_done : {sli : ℕ} (made : List (Option Name)) (w v : World sli) (at : ℕ) (call : Call) (reply : Reply) → call_on_own made at call reply ≡ None → answer_told call reply ≡ None
     → v.heaps ≡ w.heaps → IsOwnCall made w (record { worker = at; call = call; reply = reply }) v
-none_done made w v at call reply x y same =
-    let as_was : (j : ℕ) → heap_in v j ≡ heap_in w j = λ j. ap (λ hs. heap_in (record { heaps = hs; waiting = w.waiting; capacity = w.capacity }) j) same in
+none_done {sli} made w v at call reply x y same =
+    let as_was : (j : ℕ) → heap_in v j ≡ heap_in w j = λ j. ap (λ hs. heap_in {sli = sli} (record { heaps = hs; waiting = w.waiting; capacity = w.capacity }) j) same in
     record {
       own = rw (as_was at) (never (heap_in w at) (call_on_own made at call reply) (answer_told call reply) x y);
       others = λ j ne. as_was j;
@@ -73,13 +73,13 @@ made_told : (len : ℕ) (r : Result Name Refusal) → answer_told (Allocate len)
 made_told len (Ok name) = refl
 made_told len (Err why) = refl
 
-pub allocate_told : (made : List (Option Name)) (w : World) (at len : ℕ) → at < length w.heaps → Tells1 made w at (Allocate len) (allocating w at len)
+pub allocate_told : {sli : ℕ} (made : List (Option Name)) (w : World sli) (at len : ℕ) → at < length w.heaps → Tells1 made w at (Allocate len) (allocating w at len)
 unfolding allocated
-allocate_told made w at len at_in =
+allocate_told {sli} made w at len at_in =
     let a = allocating w at len in
     history_quiet made w a.world (record { worker = at; call = Allocate len; reply = a.reply })
-    (done_here made w at (Allocate len) a.reply (heap.Allocate len) at_in refl (made_told len (heap.allocated 4 (heap_in w at) len).answer))
-    (record { made_none = λ j. refl; taken_none = λ i. refl }) refl (length-set w.heaps at (heap.allocated 4 (heap_in w at) len).heap)
+    (done_here made w at (Allocate len) a.reply (heap.Allocate len) at_in refl (made_told len (heap.allocated sli (heap_in w at) len).answer))
+    (record { made_none = λ j. refl; taken_none = λ i. refl }) refl (length-set w.heaps at (heap.allocated sli (heap_in w at) len).heap)
 
 -- ---- write
 
@@ -94,7 +94,7 @@ wrote_meant : (made : List (Option Name)) (target : Target) (n : ℕ) (r : Resul
 wrote_meant made target n (Ok done) = refl
 wrote_meant made target n (Err why) = refl
 
-pub write_told : (made : List (Option Name)) (w : World) (at from : ℕ) (target : Target) (chunk : Chunk) (o : Option Name) → at < length w.heaps
+pub write_told : {sli : ℕ} (made : List (Option Name)) (w : World sli) (at from : ℕ) (target : Target) (chunk : Chunk) (o : Option Name) → at < length w.heaps
     → ((name : Name) → o ≡ Some name → name_of made target ≡ Some name) → Tells1 made w at (Write target from chunk) (writing_named w at o from (bytes_of chunk))
 unfolding written
 write_told made w at from target chunk None at_in known =
@@ -120,7 +120,7 @@ resize_meant : (made : List (Option Name)) (target : Target) (r : Result (Unit {
 resize_meant made target (Ok done) = refl
 resize_meant made target (Err why) = refl
 
-pub resize_told : (made : List (Option Name)) (w : World) (at len : ℕ) (target : Target) (o : Option Name) → at < length w.heaps
+pub resize_told : {sli : ℕ} (made : List (Option Name)) (w : World sli) (at len : ℕ) (target : Target) (o : Option Name) → at < length w.heaps
     → ((name : Name) → o ≡ Some name → name_of made target ≡ Some name) → Tells1 made w at (Resize target len) (resizing_named w at o len)
 unfolding resized
 resize_told made w at len target None at_in known =
@@ -203,7 +203,7 @@ read_handed h name at n =
       | inr le ↦ rw (read_few h name at n le) (by_id_few h name at n (name.heap == h.id) le)
     ]
 
-pub read_told : (made : List (Option Name)) (w : World) (at from n : ℕ) (target : Target) (o : Option Name) → at < length w.heaps
+pub read_told : {sli : ℕ} (made : List (Option Name)) (w : World sli) (at from n : ℕ) (target : Target) (o : Option Name) → at < length w.heaps
     → ((name : Name) → o ≡ Some name → name_of made target ≡ Some name) → Tells1 made w at (Read target from n) (reading_named w at o from n)
 read_told made w at from n target None at_in known =
     let a = reading_named w at None from n in

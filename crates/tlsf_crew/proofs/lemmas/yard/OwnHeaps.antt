@@ -6,7 +6,7 @@ use Rattle.std.proofs.lemmas.Bool.{cases_eq}
 use Rattle.std.proofs.Math.ListN.{length-set}
 use Rattle.tlsf_heap.specs.Blocks.{HeapState}
 use Rattle.tlsf_heap.specs.Lawful.{IsLawful, IsRegion}
-use Rattle.tlsf_heap.specs.Calls.{Call, answered, opened}
+use Rattle.tlsf_heap.specs.Calls.{Call, answered, opened, Allocate}
 use Rattle.tlsf_heap.proofs.Outcomes.{ids, lawful_run}
 use Rattle.tlsf_crew.specs.declared.yard.worker.Worker.{Worker}
 use Rattle.tlsf_crew.specs.yard.Workers.{heap_of}
@@ -21,17 +21,21 @@ KeepsHeap h k = (k.id ≡ h.id) × (IsLawful h → IsLawful k)
 pub same_heap_keeps : (h k : HeapState) → k ≡ h → KeepsHeap h k
 same_heap_keeps h k e = (ap (λ x. x.id) e, λ lawful. subst IsLawful (sym e) lawful)
 
+pub allocate_keeps : (sli : ℕ) (h k : HeapState) (len : ℕ) → k ≡ (answered sli h (Allocate len)).1 → IsLawful k → KeepsHeap h k
+allocate_keeps sli h k len e lawful = (ap (λ x. x.id) e ∙ ids sli h (Allocate len), λ old. lawful)
+
+-- no other call asks for the level
 pub call_keeps : (h k : HeapState) (call : Call) → k ≡ (answered 4 h call).1 → KeepsHeap h k
 call_keeps h k call e = (ap (λ x. x.id) e ∙ ids 4 h call, λ lawful. subst IsLawful (sym e) (lawful_run 4 level_4 h (call ∷ []) lawful))
 
 -- each worker has a lawful heap of its number
-abbrev pub OwnHeaps : List Worker → Type 0
+abbrev pub OwnHeaps : {sli : ℕ} → List (Worker sli) → Type 0
 OwnHeaps ws = (i : ℕ) → i < length ws → IsHeapOf i (yard_heap ws i)
 
-pub heaps_along : (ws vs : List Worker) → map heap_of vs ≡ map heap_of ws → length vs ≡ length ws → OwnHeaps ws → OwnHeaps vs
+pub heaps_along : {sli : ℕ} (ws vs : List (Worker sli)) → map heap_of vs ≡ map heap_of ws → length vs ≡ length ws → OwnHeaps ws → OwnHeaps vs
 heaps_along ws vs e len heaps i i_in = subst (λ (l : List HeapState). IsHeapOf i (get_or l i no_heap)) (sym e) (heaps i (omega (arith, len)))
 
-pub heaps_set : (ws : List Worker) (i : ℕ) (a v : Worker) → slice_get ws i ≡ Some a → KeepsHeap (heap_of a) (heap_of v) → OwnHeaps ws → OwnHeaps (set ws i v)
+pub heaps_set : {sli : ℕ} (ws : List (Worker sli)) (i : ℕ) (a v : Worker sli) → slice_get ws i ≡ Some a → KeepsHeap (heap_of a) (heap_of v) → OwnHeaps ws → OwnHeaps (set ws i v)
 heaps_set ws i a v is kept heaps x x_in =
     let x_old : x < length ws = omega (arith, length-set ws i v) in
     let h = heaps x x_old in
@@ -46,8 +50,8 @@ heaps_set ws i a v is kept heaps x x_in =
           subst (IsHeapOf x) (sym e) h
     ]
 
-pub opened_lawful : (id words : ℕ) → IsRegion 4 words → IsHeapOf id (opened id words 0)
-opened_lawful id words region = (
+pub opened_lawful : (sli : ℕ) (id words : ℕ) → IsRegion sli words → IsHeapOf id (opened id words 0)
+opened_lawful sli id words region = (
   refl,
   record {
     rooms = (region.0, tt);

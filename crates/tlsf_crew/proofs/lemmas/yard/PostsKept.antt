@@ -21,7 +21,7 @@ use Rattle.tlsf_crew.proofs.lemmas.yard.NamesKept.{IsKept, heap_kept}
 abbrev IsNext : (from at i j k z : ℕ) → Type 0
 IsNext from at i j k z = ((i ≡ from) × (j ≡ at) × (z ≡ suc k)) ⊎ ((i ≡ from → j ≡ at → ⊥) × (z ≡ k))
 
-seen_taken : (w : World) (from at : ℕ) (p : Post) (rest : List Post) → w.waiting from at ≡ p ∷ rest → (i j k : ℕ) (q : Post)
+seen_taken : {sli : ℕ} (w : World sli) (from at : ℕ) (p : Post) (rest : List Post) → w.waiting from at ≡ p ∷ rest → (i j k : ℕ) (q : Post)
     → slice_get ((with_waiting w from at rest).waiting i j) k ≡ Some q → (z : ℕ) × (slice_get (w.waiting i j) z ≡ Some q) × IsNext from at i j k z
 seen_taken w from at p rest waits i j k q e =
     elim (cases_eq i from) [
@@ -44,7 +44,7 @@ places i j x y from at k z s t a b ix jy st =
     ]
 
 -- the first post of a lane is taken out
-shift_kept : (made gone : Name → Type 0) (w : World) (from at : ℕ) (p : Post) (rest : List Post) → w.waiting from at ≡ p ∷ rest
+shift_kept : {sli : ℕ} (made gone : Name → Type 0) (w : World sli) (from at : ℕ) (p : Post) (rest : List Post) → w.waiting from at ≡ p ∷ rest
     → IsKept made gone w → IsKept made gone (with_waiting w from at rest)
 shift_kept made gone w from at p rest waits kept = record {
   ids = kept.ids;
@@ -58,7 +58,7 @@ shift_kept made gone w from at p rest waits kept = record {
 }
 
 -- and the block that it names is released
-pub took_kept : (made gone : Name → Type 0) (w : World) (at from : ℕ) (p : Post) (rest : List Post) → w.waiting from at ≡ p ∷ rest → IsKept made gone w
+pub took_kept : {sli : ℕ} (made gone : Name → Type 0) (w : World sli) (at from : ℕ) (p : Post) (rest : List Post) → w.waiting from at ≡ p ∷ rest → IsKept made gone w
     → IsNotStale (took w at from p rest).reply × IsKept made gone (took w at from p rest).world
 took_kept made gone w at from p rest waits kept =
     let v = with_waiting w from at rest in
@@ -80,13 +80,13 @@ took_kept made gone w at from p rest waits kept =
 
 -- ---- a drain
 
-abbrev IsDrainKept : (made gone : Name → Type 0) → Draining → Type 0
+abbrev IsDrainKept : {sli : ℕ} (made gone : Name → Type 0) → Draining sli → Type 0
 IsDrainKept made gone d = IsKept made gone d.world × NoneStale d.entries
 
 pub none_push : (es : List Entry) (e : Entry) → NoneStale es → IsNotStale e.reply → NoneStale (es ++ e ∷ [])
 none_push es e none not = All-push (λ entry. IsNotStale entry.reply) es e none not
 
-lane_kept : (made gone : Name → Type 0) (at from : ℕ) (rest ps : List Post) (d : Draining) → d.world.waiting from at ≡ ps ++ rest
+lane_kept : {sli : ℕ} (made gone : Name → Type 0) (at from : ℕ) (rest ps : List Post) (d : Draining sli) → d.world.waiting from at ≡ ps ++ rest
     → IsDrainKept made gone d → IsDrainKept made gone (fold (took_more at from) d ps)
 lane_kept made gone at from rest [] d e k = k
 lane_kept made gone at from rest (p ∷ ps) d e k =
@@ -96,13 +96,13 @@ lane_kept made gone at from rest (p ∷ ps) d e k =
     lane_kept made gone at from rest ps (took_more at from d p)
     (edited_same d.world.waiting from at (drop 1 (d.world.waiting from at)) ∙ next) (t.1, none_push d.entries _ k.1 t.0)
 
-drained_kept : (made gone : Name → Type 0) (at most from : ℕ) (d : Draining) → IsDrainKept made gone d → IsDrainKept made gone (drained_lane at most from d)
+drained_kept : {sli : ℕ} (made gone : Name → Type 0) (at most from : ℕ) (d : Draining sli) → IsDrainKept made gone d → IsDrainKept made gone (drained_lane at most from d)
 unfolding drained_lane
 drained_kept made gone at most from d k =
     let m = most - d.taken in
     lane_kept made gone at from (drop m (d.world.waiting from at)) (take m (d.world.waiting from at)) d (sym (take-append-drop m (d.world.waiting from at))) k
 
-below_kept : (made gone : Name → Type 0) (at most : ℕ) (d : Draining) (j : ℕ) → IsDrainKept made gone d → IsDrainKept made gone (drained_below at most d j)
+below_kept : {sli : ℕ} (made gone : Name → Type 0) (at most : ℕ) (d : Draining sli) (j : ℕ) → IsDrainKept made gone d → IsDrainKept made gone (drained_below at most d j)
 below_kept made gone at most d zero k = k
 below_kept made gone at most d (suc j) k =
     let b = below_kept made gone at most d j k in
@@ -111,6 +111,6 @@ below_kept made gone at most d (suc j) k =
       | inr e ↦ rw (from_other at most (drained_below at most d j) j e) (drained_kept made gone at most j (drained_below at most d j) b)
     ]
 
-pub all_kept : (made gone : Name → Type 0) (at most : ℕ) (d : Draining) → IsDrainKept made gone d → IsDrainKept made gone (after_drain at most d)
+pub all_kept : {sli : ℕ} (made gone : Name → Type 0) (at most : ℕ) (d : Draining sli) → IsDrainKept made gone d → IsDrainKept made gone (after_drain at most d)
 unfolding after_drain
 all_kept made gone at most d k = below_kept made gone at most d (length d.world.heaps) k

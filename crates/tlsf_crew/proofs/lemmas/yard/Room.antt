@@ -26,15 +26,15 @@ use Rattle.tlsf_crew.proofs.lemmas.yard.LaneMoves.{sum_has}
 use Rattle.tlsf_crew.proofs.lemmas.threads.LastDrains.{none_wait, none_for}
 use Rattle.tlsf_crew.proofs.lemmas.yard.Pending.{edited_sum}
 
-heap_waits : (w : World) (at : ℕ) (h : HeapState) → waiting_in (with_heap w at h) ≡ waiting_in w
+heap_waits : {sli : ℕ} (w : World sli) (at : ℕ) (h : HeapState) → waiting_in (with_heap w at h) ≡ waiting_in w
 unfolding waiting_in
 heap_waits w at h = rw (length-set w.heaps at h) refl
 
-lane_waits : (w : World) (i j : ℕ) (ps : List Post) → i < length w.heaps → j < length w.heaps → waiting_in (with_waiting w i j ps) + length (w.waiting i j) ≡ waiting_in w + length ps
+lane_waits : {sli : ℕ} (w : World sli) (i j : ℕ) (ps : List Post) → i < length w.heaps → j < length w.heaps → waiting_in (with_waiting w i j ps) + length (w.waiting i j) ≡ waiting_in w + length ps
 unfolding waiting_in
 lane_waits w i j ps i_in j_in = edited_sum (length w.heaps) w.waiting i j ps i_in j_in
 
-post_waits : (w : World) (at : ℕ) (name : Name) → at < length w.heaps → name.heap < length w.heaps → waiting_in (posting w at name).world ≤ waiting_in w + 1
+post_waits : {sli : ℕ} (w : World sli) (at : ℕ) (name : Name) → at < length w.heaps → name.heap < length w.heaps → waiting_in (posting w at name).world ≤ waiting_in w + 1
 unfolding posting
 post_waits w at name at_in to_in =
     elim (cases_eq (length (w.waiting at name.heap)) w.capacity) [
@@ -47,7 +47,7 @@ post_waits w at name at_in to_in =
           rw b (omega arith)
     ]
 
-release_waits : (w : World) (at : ℕ) (name : Name) → at < length w.heaps → waiting_in (releasing w at name).world ≤ waiting_in w + 1
+release_waits : {sli : ℕ} (w : World sli) (at : ℕ) (name : Name) → at < length w.heaps → waiting_in (releasing w at name).world ≤ waiting_in w + 1
 release_waits w at name at_in =
     elim (cases_eq name.heap at) [
       | inl e ↦
@@ -60,24 +60,24 @@ release_waits w at name at_in =
       ]
     ]
 
-named_waits : (w : World) (at : ℕ) (name : Option Name) → at < length w.heaps → waiting_in (releasing_named w at name).world ≤ waiting_in w + 1
+named_waits : {sli : ℕ} (w : World sli) (at : ℕ) (name : Option Name) → at < length w.heaps → waiting_in (releasing_named w at name).world ≤ waiting_in w + 1
 named_waits w at None at_in = omega arith
 named_waits w at (Some name) at_in = release_waits w at name at_in
 
-write_waits : (w : World) (at : ℕ) (name : Option Name) (from : ℕ) (bytes : List ℕ) → waiting_in (writing_named w at name from bytes).world ≤ waiting_in w
+write_waits : {sli : ℕ} (w : World sli) (at : ℕ) (name : Option Name) (from : ℕ) (bytes : List ℕ) → waiting_in (writing_named w at name from bytes).world ≤ waiting_in w
 write_waits w at None from bytes = omega arith
 write_waits w at (Some name) from bytes = let h = heap_waits w at (written (heap_in w at) name from bytes).heap in omega arith
 
-read_waits : (w : World) (at : ℕ) (name : Option Name) (from n : ℕ) → waiting_in (reading_named w at name from n).world ≤ waiting_in w
+read_waits : {sli : ℕ} (w : World sli) (at : ℕ) (name : Option Name) (from n : ℕ) → waiting_in (reading_named w at name from n).world ≤ waiting_in w
 read_waits w at None from n = omega arith
 read_waits w at (Some name) from n = omega arith
 
-resize_waits : (w : World) (at : ℕ) (name : Option Name) (len : ℕ) → waiting_in (resizing_named w at name len).world ≤ waiting_in w
+resize_waits : {sli : ℕ} (w : World sli) (at : ℕ) (name : Option Name) (len : ℕ) → waiting_in (resizing_named w at name len).world ≤ waiting_in w
 resize_waits w at None len = omega arith
 resize_waits w at (Some name) len = let h = heap_waits w at (resized (heap_in w at) name len).heap in omega arith
 
 -- a take takes one post out
-took_waits : (w : World) (at from : ℕ) (p : Post) (rest : List Post) → at < length w.heaps → from < length w.heaps → w.waiting from at ≡ p ∷ rest
+took_waits : {sli : ℕ} (w : World sli) (at from : ℕ) (p : Post) (rest : List Post) → at < length w.heaps → from < length w.heaps → w.waiting from at ≡ p ∷ rest
     → waiting_in (took w at from p rest).world + 1 ≡ waiting_in w
 took_waits w at from p rest at_in from_in e =
     let h = heap_waits (with_waiting w from at rest) at (released (heap_in w at) p.name).heap in
@@ -85,15 +85,15 @@ took_waits w at from p rest at_in from_in e =
     let n : length (w.waiting from at) ≡ length rest + 1 = ap length e ∙ omega arith in
     omega arith
 
-first_waits : (w : World) (at from : ℕ) (ps : List Post) → at < length w.heaps → from < length w.heaps → w.waiting from at ≡ ps → waiting_in (took_first w at from ps).world ≤ waiting_in w
+first_waits : {sli : ℕ} (w : World sli) (at from : ℕ) (ps : List Post) → at < length w.heaps → from < length w.heaps → w.waiting from at ≡ ps → waiting_in (took_first w at from ps).world ≤ waiting_in w
 first_waits w at from [] at_in from_in e = omega arith
 first_waits w at from (p ∷ rest) at_in from_in e = let a = took_waits w at from p rest at_in from_in e in omega arith
 
-next_waits : (w : World) (at from : ℕ) → at < length w.heaps → from < length w.heaps → waiting_in (taking_next w at from).world ≤ waiting_in w
+next_waits : {sli : ℕ} (w : World sli) (at from : ℕ) → at < length w.heaps → from < length w.heaps → waiting_in (taking_next w at from).world ≤ waiting_in w
 unfolding taking_next
 next_waits w at from at_in from_in = first_waits w at from (w.waiting from at) at_in from_in refl
 
-take_waits : (w : World) (at from : ℕ) → at < length w.heaps → waiting_in (taking w at from).world ≤ waiting_in w
+take_waits : {sli : ℕ} (w : World sli) (at from : ℕ) → at < length w.heaps → waiting_in (taking w at from).world ≤ waiting_in w
 take_waits w at from at_in =
     elim (cases_eq from at) [
       | inl e ↦ rw (taking_own w at from e) (omega arith)
@@ -104,13 +104,13 @@ take_waits w at from at_in =
     ]
 
 -- each post that a drain takes makes one entry
-abbrev IsEven : Draining → Draining → Type 0
+abbrev IsEven : {sli : ℕ} → Draining sli → Draining sli → Type 0
 IsEven d b = (length b.entries + waiting_in b.world ≡ length d.entries + waiting_in d.world) × (length b.world.heaps ≡ length d.world.heaps)
 
-even_then : (d b e : Draining) → IsEven d b → IsEven b e → IsEven d e
+even_then : {sli : ℕ} (d b e : Draining sli) → IsEven d b → IsEven b e → IsEven d e
 even_then d b e x y = (y.0 ∙ x.0, y.1 ∙ x.1)
 
-lane_even : (at from : ℕ) (rest ps : List Post) (d : Draining) → at < length d.world.heaps → from < length d.world.heaps → d.world.waiting from at ≡ ps ++ rest
+lane_even : {sli : ℕ} (at from : ℕ) (rest ps : List Post) (d : Draining sli) → at < length d.world.heaps → from < length d.world.heaps → d.world.waiting from at ≡ ps ++ rest
     → IsEven d (fold (took_more at from) d ps)
 lane_even at from rest [] d at_in from_in e = (refl, refl)
 lane_even at from rest (p ∷ ps) d at_in from_in e =
@@ -123,13 +123,13 @@ lane_even at from rest (p ∷ ps) d at_in from_in e =
     even_then d (took_more at from d p) (fold (took_more at from) (took_more at from d p) ps) step (lane_even at from rest ps (took_more at from d p) (omega arith) (omega arith)
     (edited_same d.world.waiting from at (drop 1 (d.world.waiting from at)) ∙ next))
 
-drained_even : (at most from : ℕ) (d : Draining) → at < length d.world.heaps → from < length d.world.heaps → IsEven d (drained_lane at most from d)
+drained_even : {sli : ℕ} (at most from : ℕ) (d : Draining sli) → at < length d.world.heaps → from < length d.world.heaps → IsEven d (drained_lane at most from d)
 unfolding drained_lane
 drained_even at most from d at_in from_in =
     let m = most - d.taken in
     lane_even at from (drop m (d.world.waiting from at)) (take m (d.world.waiting from at)) d at_in from_in (sym (take-append-drop m (d.world.waiting from at)))
 
-below_even : (at most : ℕ) (d : Draining) (k : ℕ) → at < length d.world.heaps → k ≤ length d.world.heaps → IsEven d (drained_below at most d k)
+below_even : {sli : ℕ} (at most : ℕ) (d : Draining sli) (k : ℕ) → at < length d.world.heaps → k ≤ length d.world.heaps → IsEven d (drained_below at most d k)
 below_even at most d zero at_in le = (refl, refl)
 below_even at most d (suc k) at_in le =
     let b = drained_below at most d k in
@@ -140,14 +140,14 @@ below_even at most d (suc k) at_in le =
       | inr e ↦ rw (from_other at most b k e) (even_then d b (drained_lane at most k b) h (drained_even at most k b (omega arith) (omega arith)))
     ]
 
-all_even : (at most : ℕ) (d : Draining) → at < length d.world.heaps → IsEven d (after_drain at most d)
+all_even : {sli : ℕ} (at most : ℕ) (d : Draining sli) → at < length d.world.heaps → IsEven d (after_drain at most d)
 unfolding after_drain
 all_even at most d at_in = below_even at most d (length d.world.heaps) at_in (omega arith)
 
-drain_even : (r : Replayed) (at most : ℕ) → at < length r.world.heaps → length (draining r at most).entries + waiting_in (draining r at most).world ≡ length r.entries + waiting_in r.world + 1
+drain_even : {sli : ℕ} (r : Replayed sli) (at most : ℕ) → at < length r.world.heaps → length (draining r at most).entries + waiting_in (draining r at most).world ≡ length r.entries + waiting_in r.world + 1
 unfolding draining
-drain_even r at most at_in =
-    let d : Draining = record { entries = r.entries; world = r.world; taken = 0 } in
+drain_even {sli} r at most at_in =
+    let d : Draining sli = record { entries = r.entries; world = r.world; taken = 0 } in
     let a = (all_even at most d at_in).0 in
     let n = length_push (after_drain at most d).entries (record { worker = at; call = Drain most; reply = Drained (after_drain at most d).taken }) in
     omega arith
@@ -156,28 +156,28 @@ drain_even r at most at_in =
 abbrev later : Call → ℕ
 later call = cond (is_release call) 1 0
 
-answered_room : (r : Replayed) (at : ℕ) (call : Call) (a : Replied) → waiting_in a.world ≤ waiting_in r.world + later call
+answered_room : {sli : ℕ} (r : Replayed sli) (at : ℕ) (call : Call) (a : Replied sli) → waiting_in a.world ≤ waiting_in r.world + later call
     → length (answered r at call a).entries + waiting_in (answered r at call a).world ≤ length r.entries + waiting_in r.world + 1 + later call
 answered_room r at call a le = let n = length_push r.entries (record { worker = at; call = call; reply = a.reply }) in omega arith
 
-called_room : (r : Replayed) (at : ℕ) (call : Call) → at < length r.world.heaps
+called_room : {sli : ℕ} (r : Replayed sli) (at : ℕ) (call : Call) → at < length r.world.heaps
     → length (called r at call).entries + waiting_in (called r at call).world ≤ length r.entries + waiting_in r.world + 1 + later call
-called_room r at (Allocate len) at_in = answered_room r at (Allocate len) _ (let h = heap_waits r.world at (allocated (heap_in r.world at) len).heap in omega arith)
-called_room r at (Release target) at_in = answered_room r at (Release target) _ (named_waits r.world at (name_of r.made target) at_in)
-called_room r at (Write target from bytes) at_in = answered_room r at (Write target from bytes) _ (let h = write_waits r.world at (name_of r.made target) from (bytes_of bytes) in omega arith)
-called_room r at (Read target from n) at_in = answered_room r at (Read target from n) _ (let h = read_waits r.world at (name_of r.made target) from n in omega arith)
-called_room r at (Resize target len) at_in = answered_room r at (Resize target len) _ (let h = resize_waits r.world at (name_of r.made target) len in omega arith)
-called_room r at (Take from) at_in = answered_room r at (Take from) _ (let h = take_waits r.world at from at_in in omega arith)
-called_room r at (Drain most) at_in = let a = drain_even r at most at_in in omega arith
+called_room {sli} r at (Allocate len) at_in = answered_room r at (Allocate len) _ (let h = heap_waits r.world at (allocated sli (heap_in r.world at) len).heap in omega arith)
+called_room {sli} r at (Release target) at_in = answered_room r at (Release target) _ (named_waits r.world at (name_of r.made target) at_in)
+called_room {sli} r at (Write target from bytes) at_in = answered_room r at (Write target from bytes) _ (let h = write_waits r.world at (name_of r.made target) from (bytes_of bytes) in omega arith)
+called_room {sli} r at (Read target from n) at_in = answered_room r at (Read target from n) _ (let h = read_waits r.world at (name_of r.made target) from n in omega arith)
+called_room {sli} r at (Resize target len) at_in = answered_room r at (Resize target len) _ (let h = resize_waits r.world at (name_of r.made target) len in omega arith)
+called_room {sli} r at (Take from) at_in = answered_room r at (Take from) _ (let h = take_waits r.world at from at_in in omega arith)
+called_room {sli} r at (Drain most) at_in = let a = drain_even r at most at_in in omega arith
 
-after_room : (r : Replayed) (e : Event) → length (after r e).entries + waiting_in (after r e).world ≤ length r.entries + waiting_in r.world + 1 + later e.call
+after_room : {sli : ℕ} (r : Replayed sli) (e : Event) → length (after r e).entries + waiting_in (after r e).world ≤ length r.entries + waiting_in r.world + 1 + later e.call
 after_room r e =
     elim (cases_lt e.worker (length r.world.heaps)) [
       | inl lt ↦ rw (after_near r e e.call lt refl) (called_room r e.worker e.call lt)
       | inr ge ↦ rw (after_far r e ge) (answered_room r e.worker e.call (record { reply = Refused Stranger; world = r.world }) (omega arith))
     ]
 
-all_room : (k : ℕ) (es : List Event) (r : Replayed) → k ≤ length es
+all_room : {sli : ℕ} (k : ℕ) (es : List Event) (r : Replayed sli) → k ≤ length es
     → length (fold after r (take k es)).entries + waiting_in (fold after r (take k es)).world ≤ length r.entries + waiting_in r.world + k + releases_in es
 all_room zero es r le = omega arith
 all_room (suc k) [] r le = absurd (omega arith)
@@ -188,12 +188,12 @@ all_room (suc k) (e ∷ es) r le =
     omega arith
 
 -- the entries of the first events, and what waits then
-pub so_far : (k : ℕ) (es : List Event) (w : World) (made : List (Option Name)) → k ≤ length es
+pub so_far : {sli : ℕ} (k : ℕ) (es : List Event) (w : World sli) (made : List (Option Name)) → k ≤ length es
     → length (fold after (resumed w made) (take k es)).entries + waiting_in (fold after (resumed w made) (take k es)).world ≤ k + releases_in es + waiting_in w
 so_far k es w made le = let a = all_room k es (resumed w made) le in omega arith
 
 -- what waits for one worker is no more than what waits in the yard
-pub worker_waits : (ws : List Worker) (at : ℕ) → IsYard ws → sum_below 8 (λ i. length (waits_in ws i at)) ≤ waiting_in (world_of ws)
+pub worker_waits : {sli : ℕ} (ws : List (Worker sli)) (at : ℕ) → IsYard ws → sum_below 8 (λ i. length (waits_in ws i at)) ≤ waiting_in (world_of ws)
 unfolding world_of waiting_in
 worker_waits ws at yard =
     let n = heaps_count ws in

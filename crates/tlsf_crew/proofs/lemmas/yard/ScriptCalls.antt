@@ -16,15 +16,15 @@ use Rattle.tlsf_crew.specs.yard.Moves.{one, Suits, CallStep, Stepped, Called}
 use Rattle.tlsf_crew.proofs.lemmas.yard.ManyEntries.{moved_room}
 
 -- one answer, as it is told
-answer_told : (at : ℕ) (made : List (Option Name)) (es : List Entry) (w : World) (call : Call) (reply : Reply) (h : HeapState) (x : Replied) → reply ≡ x.reply → h ≡ heap_in x.world at
+answer_told : {sli : ℕ} (at : ℕ) (made : List (Option Name)) (es : List Entry) (w : World sli) (call : Call) (reply : Reply) (h : HeapState) (x : Replied sli) → reply ≡ x.reply → h ≡ heap_in x.world at
     → told_by at (answered (record { made = made; entries = es; world = w }) at call x) ≡ record { made = made ++ made_by reply ∷ []; entries = es ++ one at call reply; heap = h }
 answer_told at made es w call reply h x e g = rw (e, g) refl
 
-pub single_stepped : (n : ℕ) (a v : Worker) (limits left : List ℕ) (call : Call) (made : List (Option Name)) (es : List Entry) (reply : Reply) (by : World → Replied) → KnowsYard n a
-    → ((most : ℕ) → call ≡ Drain most → ⊥) → ((w : World) → called (record { made = made; entries = es; world = w }) (id_of a) call ≡ answered (record { made = made; entries = es; world = w }) (id_of a) call (by w))
+pub single_stepped : {sli : ℕ} (n : ℕ) (a v : Worker sli) (limits left : List ℕ) (call : Call) (made : List (Option Name)) (es : List Entry) (reply : Reply) (by : World sli → Replied sli) → KnowsYard n a
+    → ((most : ℕ) → call ≡ Drain most → ⊥) → ((w : World sli) → called (record { made = made; entries = es; world = w }) (id_of a) call ≡ answered (record { made = made; entries = es; world = w }) (id_of a) call (by w))
     → CallStep made a limits call v left reply by → Stepped n a limits call made es v left es reply
-single_stepped n a v limits left call made es reply by k single is x =
-    let told_in : (w : World) → HasHeap w n (id_of a) (heap_of a) → Suits w (id_of a) made call reply
+single_stepped {sli} n a v limits left call made es reply by k single is x =
+    let told_in : (w : World sli) → HasHeap w n (id_of a) (heap_of a) → Suits w (id_of a) made call reply
     → told_by (id_of a) (called (record { made = made; entries = es; world = w }) (id_of a) call) ≡ record { made = made ++ made_by reply ∷ []; entries = es ++ one (id_of a) call reply; heap = heap_of v } =
     λ w has s. let t = x.told n k w has s in ap (told_by (id_of a)) (is w) ∙ answer_told (id_of a) made es w call reply (heap_of v) (by w) t.reply t.left in
     let some = a_suit n a made call reply k.self in
@@ -39,7 +39,7 @@ single_stepped n a v limits left call made es reply by k single is x =
     }
 
 -- the answer told
-pub step_called : (n : ℕ) (a v : Worker) (limits left : List ℕ) (call : Call) (made more : List (Option Name)) (es between longer : List Entry) (at : ℕ) (reply : Reply) → Stepped n a limits call made es v left between reply
+pub step_called : {sli : ℕ} (n : ℕ) (a v : Worker sli) (limits left : List ℕ) (call : Call) (made more : List (Option Name)) (es between longer : List Entry) (at : ℕ) (reply : Reply) → Stepped n a limits call made es v left between reply
     → at ≡ id_of v → more ≡ made ++ made_by reply ∷ [] → longer ≡ between ++ record { worker = at; call = call; reply = reply } ∷ [] → Called n a limits call made es v left more longer
 step_called n a v limits left call made more es between longer at reply x is e f =
     let m = x.moved [] in
@@ -55,7 +55,7 @@ step_called n a v limits left call made more es between longer at reply x is e f
     }
 
 -- there is room for the own entry
-pub step_room : (n : ℕ) (a v : Worker) (limits left : List ℕ) (call : Call) (made : List (Option Name)) (es longer : List Entry) (reply : Reply) → Stepped n a limits call made es v left longer reply
+pub step_room : {sli : ℕ} (n : ℕ) (a v : Worker sli) (limits left : List ℕ) (call : Call) (made : List (Option Name)) (es longer : List Entry) (reply : Reply) → Stepped n a limits call made es v left longer reply
     → length longer + 1 + sum_of left ≤ length es + 1 + sum_of limits
 step_room n a v limits left call made es longer reply x =
     let last = one (id_of a) call reply in

@@ -18,15 +18,15 @@ abbrev pub AreFrom : ℕ → List Post → Type 0
 AreFrom i posts = All (λ (post : Post). post.from ≡ i) posts
 
 -- so was each that waits in a lane from it
-abbrev pub AreSigned : List Worker → Type 0
+abbrev pub AreSigned : {sli : ℕ} → List (Worker sli) → Type 0
 AreSigned ws = (i j : ℕ) → AreFrom i (lane_waits (post_at ws i j) (take_at ws i j))
 
 -- the same lanes
-pub same_signed : (ws vs : List Worker) → ((x y : ℕ) → SameLane ws vs x y) → AreSigned ws → AreSigned vs
+pub same_signed : {sli : ℕ} (ws vs : List (Worker sli)) → ((x y : ℕ) → SameLane ws vs x y) → AreSigned ws → AreSigned vs
 same_signed ws vs same signed i j = let s = same i j in rw (s.0, s.1) (signed i j)
 
 -- one lane changed
-pub changed_signed : (ws vs : List Worker) (i j : ℕ) (p : PostEnd) (t : TakeEnd) (q : PostEnd) (u : TakeEnd)
+pub changed_signed : {sli : ℕ} (ws vs : List (Worker sli)) (i j : ℕ) (p : PostEnd) (t : TakeEnd) (q : PostEnd) (u : TakeEnd)
     → LaneChange ws vs i j p t q u → AreFrom i (lane_waits (Some q) (Some u)) → AreSigned ws → AreSigned vs
 changed_signed ws vs i j p t q u c new signed x y =
     elim (cases_eq x i) [
@@ -43,7 +43,7 @@ from_push i (suc n) [] p e all = All-drop (λ (post : Post). post.from ≡ i) n 
 from_push i (suc n) (q ∷ ps) p e all = from_push i n ps p e all
 
 -- after a put
-pub put_signed : (i j : ℕ) (a v : Worker) (post : Post) (answer : Result (Unit {0}) Post) → post.from ≡ i → (put : PutTo a v j post answer) → (o : Option TakeEnd)
+pub put_signed : {sli : ℕ} (i j : ℕ) (a v : Worker sli) (post : Post) (answer : Result (Unit {0}) Post) → post.from ≡ i → (put : PutTo a v j post answer) → (o : Option TakeEnd)
     → AreFrom i (lane_waits (Some put.end) o) → AreFrom i (lane_waits (Some put.new_end) o)
 put_signed i j a v post answer own put None all = all
 put_signed i j a v post (Ok done) own put (Some t) all =
@@ -53,7 +53,7 @@ put_signed i j a v post (Ok done) own put (Some t) all =
 put_signed i j a v post (Err back) own put (Some t) all = rw put.full.1 all
 
 -- after a take
-pub take_signed : (i k : ℕ) (a v : Worker) (answer : Option Post) (got : TookFrom a v i answer) → (o : Option PostEnd)
+pub take_signed : {sli : ℕ} (i k : ℕ) (a v : Worker sli) (answer : Option Post) (got : TookFrom a v i answer) → (o : Option PostEnd)
     → AreFrom k (lane_waits o (Some got.end)) → AreFrom k (lane_waits o (Some got.new_end))
 take_signed i k a v answer got None all = all
 take_signed i k a v (Some p) got (Some q) all =

@@ -49,14 +49,14 @@ pub got_second : {X : Type 0} (ws : List X) (i j : ℕ) (v w : X) → j < length
 got_second ws i j v w lt = let m : j < length (set ws i v) = omega (arith, length-set ws i v) in get_set_same (set ws i v) j w m
 
 -- a field of the workers that a write leaves
-pub map_same : {X : Type 0} (f : Worker → X) (ws : List Worker) (i : ℕ) (a v : Worker) → slice_get ws i ≡ Some a → f v ≡ f a → map f (set ws i v) ≡ map f ws
+pub map_same : {sli : ℕ} {X : Type 0} (f : Worker sli → X) (ws : List (Worker sli)) (i : ℕ) (a v : Worker sli) → slice_get ws i ≡ Some a → f v ≡ f a → map f (set ws i v) ≡ map f ws
 map_same f ws i a v is e = map-set_same f ws i v a (e ∙ ap f (sym (get_or_from_slice_get ws i a a is)))
 
-pub same_then : (ws vs us : List Worker) (i j : ℕ) → SameLane ws vs i j → SameLane vs us i j → SameLane ws us i j
+pub same_then : {sli : ℕ} (ws vs us : List (Worker sli)) (i j : ℕ) → SameLane ws vs i j → SameLane vs us i j → SameLane ws us i j
 same_then ws vs us i j a b = (b.0 ∙ a.0, b.1 ∙ a.1)
 
 -- every other lane
-pub step_same : (ws vs : List Worker) (i j x y : ℕ) → i ≢ j → LaneStep ws i j vs → (x ≡ i → y ≡ j → ⊥) → SameLane ws vs x y
+pub step_same : {sli : ℕ} (ws vs : List (Worker sli)) (i j x y : ℕ) → i ≢ j → LaneStep ws i j vs → (x ≡ i → y ≡ j → ⊥) → SameLane ws vs x y
 step_same ws vs i j x y ne s away =
     let m = s.met in
     let i_in : i < length ws = slice_get_within ws i s.a s.a_is in
@@ -83,25 +83,25 @@ pub from_slot : {X : Type 0} (s : Option (Option X)) (p : X) → slot_of s ≡ S
 from_slot None p h = cc
 from_slot (Some o) p h = ap Some h
 
-pub from_post : (o : Option Worker) (j : ℕ) (p : PostEnd) → end_to_in o j ≡ Some p
-    → (a : Worker) × (o ≡ Some a) × (slice_get a.posts.items j ≡ Some (Some p))
+pub from_post : {sli : ℕ} (o : Option (Worker sli)) (j : ℕ) (p : PostEnd) → end_to_in o j ≡ Some p
+    → (a : Worker sli) × (o ≡ Some a) × (slice_get a.posts.items j ≡ Some (Some p))
 from_post None j p h = cc
 from_post (Some w) j p h = (w, refl, from_slot (slice_get w.posts.items j) p h)
 
-pub from_take : (o : Option Worker) (i : ℕ) (t : TakeEnd) → end_from_in o i ≡ Some t
-    → (a : Worker) × (o ≡ Some a) × (slice_get a.takes.items i ≡ Some (Some t))
+pub from_take : {sli : ℕ} (o : Option (Worker sli)) (i : ℕ) (t : TakeEnd) → end_from_in o i ≡ Some t
+    → (a : Worker sli) × (o ≡ Some a) × (slice_get a.takes.items i ≡ Some (Some t))
 from_take None i t h = cc
 from_take (Some w) i t h = (w, refl, from_slot (slice_get w.takes.items i) t h)
 
 -- both ends stand in the yard
-pub in_yard : (ws : List Worker) (i j : ℕ) → HasEnds ws i j → InYard ws i j
+pub in_yard : {sli : ℕ} (ws : List (Worker sli)) (i j : ℕ) → HasEnds ws i j → InYard ws i j
 in_yard ws i j h =
     let a = from_post (slice_get ws i) j h.0 h.2 in
     let b = from_take (slice_get ws j) i h.1 h.3 in
     (a.0, b.0, a.1, b.1, (h.0, h.1, a.2, b.2, h.4))
 
 -- settling one lane
-pub settled : (ws vs : List Worker) (i j : ℕ) → i ≢ j → (s : LaneStep ws i j vs) → LaneChange ws vs i j s.met.post s.met.take s.met.new_post s.met.new_take
+pub settled : {sli : ℕ} (ws vs : List (Worker sli)) (i j : ℕ) → i ≢ j → (s : LaneStep ws i j vs) → LaneChange ws vs i j s.met.post s.met.take s.met.new_post s.met.new_take
 settled ws vs i j ne s =
     let m = s.met in
     let i_in : i < length ws = slice_get_within ws i s.a s.a_is in
@@ -130,7 +130,7 @@ some_same x y e = cc
 pub none_or_some : {X : Type 0} (o : Option X) (x : X) → o ≡ None → o ≡ Some x → ⊥
 none_or_some o x a b = let e = sym a ∙ b in cc
 
-pub heap_at : (ws : List Worker) (i : ℕ) (a : Worker) → slice_get ws i ≡ Some a → yard_heap ws i ≡ heap_of a
+pub heap_at : {sli : ℕ} (ws : List (Worker sli)) (i : ℕ) (a : Worker sli) → slice_get ws i ≡ Some a → yard_heap ws i ≡ heap_of a
 heap_at [] i a e = cc
 heap_at (w ∷ ws) zero a e = ap heap_of (some_same w a e)
 heap_at (w ∷ ws) (suc i) a e = heap_at ws i a e

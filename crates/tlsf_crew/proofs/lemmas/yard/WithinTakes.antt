@@ -44,14 +44,14 @@ no_limit : {A : Type 0} (n : ℕ) (xs : List A) → n ≡ 0 → IsPrefix (take n
 no_limit n xs e = rw e ([], refl)
 
 -- none may be taken any more
-pub within_none : (a : Worker) (limits : List ℕ) (from : ℕ) → slice_index limits from ≡ 0 → TookWithin a limits from a limits None
+pub within_none : {sli : ℕ} (a : Worker sli) (limits : List ℕ) (from : ℕ) → slice_index limits from ≡ 0 → TookWithin a limits from a limits None
 within_none a limits from e = (
   λ made. moved_still (id_of a) made a a limits (still_heap (id_of a) a a (refl, refl, refl) (same_keeps a)),
   refl,
   λ t is. no_limit (slice_index limits from) (ready t) e,
 )
 
-none_case : (a b v : Worker) (limits : List ℕ) (from : ℕ) (post : Option Post) → TookFrom a b from post → AfterTake b v post (Ok None) → TookWithin a limits from v limits None
+none_case : {sli : ℕ} (a b v : Worker sli) (limits : List ℕ) (from : ℕ) (post : Option Post) → TookFrom a b from post → AfterTake b v post (Ok None) → TookWithin a limits from v limits None
 none_case a b v limits from None lane then = (
   λ made. moved_still (id_of a) made a v limits (subst (Still (id_of a) a) (sym then.1) (still_empty (id_of a) a b from lane)),
   ap heap_of then.1 ∙ lane.same.0,
@@ -60,10 +60,10 @@ none_case a b v limits from None lane then = (
 none_case a b v limits from (Some p) lane then = let e = then.0 in absurd cc
 
 -- the lane showed none
-pub within_empty : (a v : Worker) (limits : List ℕ) (from : ℕ) → TakenFrom a v from (Ok None) → TookWithin a limits from v limits None
+pub within_empty : {sli : ℕ} (a v : Worker sli) (limits : List ℕ) (from : ℕ) → TakenFrom a v from (Ok None) → TookWithin a limits from v limits None
 within_empty a v limits from t = none_case a t.between v limits from t.post t.lane t.then
 
-some_case : (a b v : Worker) (limits left : List ℕ) (from : ℕ) (post : Option Post) (took : Took) → from < 8 → OneFewer limits from left → TookFrom a b from post → AfterTake b v post (Ok (Some took))
+some_case : {sli : ℕ} (a b v : Worker sli) (limits left : List ℕ) (from : ℕ) (post : Option Post) (took : Took) → from < 8 → OneFewer limits from left → TookFrom a b from post → AfterTake b v post (Ok (Some took))
     → TookWithin a limits from v left (Some took)
 unfolding released
 some_case a b v limits left from None took near fewer lane then = let e = then.0 in absurd cc
@@ -81,12 +81,12 @@ some_case a b v limits left from (Some p) took near fewer lane then =
       then.1 ∙ ap (λ h. (heap.released h p.name).heap) lane.same.0,
     )
 
-pub within_some : (a v : Worker) (limits left : List ℕ) (from : ℕ) (took : Took) → from < 8 → OneFewer limits from left → TakenFrom a v from (Ok (Some took)) → TookWithin a limits from v left (Some took)
+pub within_some : {sli : ℕ} (a v : Worker sli) (limits left : List ℕ) (from : ℕ) (took : Took) → from < 8 → OneFewer limits from left → TakenFrom a v from (Ok (Some took)) → TookWithin a limits from v left (Some took)
 within_some a v limits left from took near fewer t = some_case a t.between v limits left from t.post took near fewer t.lane t.then
 
 -- ---- a take of its own
 
-refused_take : (at from : ℕ) (later : List (Option Name)) (a : Worker) (limits : List ℕ) → IsIdle at later a limits [] (record { worker = at; call = Take from; reply = Refused Stranger })
+refused_take : {sli : ℕ} (at from : ℕ) (later : List (Option Name)) (a : Worker sli) (limits : List ℕ) → IsIdle at later a limits [] (record { worker = at; call = Take from; reply = Refused Stranger })
 refused_take at from later a limits = record {
   posts = record { made_none = λ j. refl; taken_none = λ i. refl };
   full = λ name p e. cc;
@@ -94,7 +94,7 @@ refused_take at from later a limits = record {
   drained = λ most k i e. cc;
 }
 
-pub take_stranger : (made : List (Option Name)) (n : ℕ) (a : Worker) (limits : List ℕ) (from : ℕ) → KnowsYard n a → (from ≡ id_of a) ⊎ (n ≤ from)
+pub take_stranger : {sli : ℕ} (made : List (Option Name)) (n : ℕ) (a : Worker sli) (limits : List ℕ) (from : ℕ) → KnowsYard n a → (from ≡ id_of a) ⊎ (n ≤ from)
     → CallStep made a limits (Take from) a limits (Refused Stranger) (λ w. taking w (id_of a) from)
 take_stranger made n a limits from known away =
     itself_answered made a limits (Take from) (Refused Stranger) (λ w. taking w (id_of a) from) (λ later. refused_take (id_of a) from later a limits)
@@ -109,7 +109,7 @@ take_stranger made n a limits from known away =
       ]
     ])
 
-empty_idle : (at from : ℕ) (later : List (Option Name)) (a : Worker) (limits : List ℕ) → Spent a limits at from [] → IsIdle at later a limits [] (record { worker = at; call = Take from; reply = Empty })
+empty_idle : {sli : ℕ} (at from : ℕ) (later : List (Option Name)) (a : Worker sli) (limits : List ℕ) → Spent a limits at from [] → IsIdle at later a limits [] (record { worker = at; call = Take from; reply = Empty })
 empty_idle at from later a limits spent = record {
   posts = record { made_none = λ j. refl; taken_none = λ i. refl };
   full = λ name p e. cc;
@@ -118,7 +118,7 @@ empty_idle at from later a limits spent = record {
 }
 
 -- one call more than what the entries tell
-more_calls : (at : ℕ) (made : List (Option Name)) (a v : Worker) (limits left : List ℕ) (call : Call) (entries : List Entry) → Moved at made a limits [] entries v left → Moved at made a limits (call ∷ []) entries v left
+more_calls : {sli : ℕ} (at : ℕ) (made : List (Option Name)) (a v : Worker sli) (limits left : List ℕ) (call : Call) (entries : List Entry) → Moved at made a limits [] entries v left → Moved at made a limits (call ∷ []) entries v left
 more_calls at made a v limits left call entries m = record {
   yard = m.yard;
   numbers = m.numbers;
@@ -133,22 +133,22 @@ more_calls at made a v limits left call entries m = record {
   few_entries = omega (arith, m.few_entries);
 }
 
-first_world : (w : World) (at from : ℕ) (posts : List Post) → w.waiting from at ≡ posts → taking_next w at from ≡ took_first w at from posts
+first_world : {sli : ℕ} (w : World sli) (at from : ℕ) (posts : List Post) → w.waiting from at ≡ posts → taking_next w at from ≡ took_first w at from posts
 unfolding taking_next
 first_world w at from posts e = ap (took_first w at from) e
 
 -- a lane that is there for one count of workers is there for the other
-is_near : (n m : ℕ) (a : Worker) (from : ℕ) → KnowsYard n a → KnowsYard m a → from ≢ id_of a → from < n → from < m
+is_near : {sli : ℕ} (n m : ℕ) (a : Worker sli) (from : ℕ) → KnowsYard n a → KnowsYard m a → from ≢ id_of a → from < n → from < m
 is_near n m a from known k ne lt = let x = (k.from from).0 ((known.from from).1 (lt, ne)) in x.0
 
-took_world : (n : ℕ) (a v : Worker) (from : ℕ) (p : Post) (rest : List Post) (w : World) → heap_of v ≡ (released (heap_of a) p.name).heap → id_of a < n → HasHeap w n (id_of a) (heap_of a)
+took_world : {sli : ℕ} (n : ℕ) (a v : Worker sli) (from : ℕ) (p : Post) (rest : List Post) (w : World sli) → heap_of v ≡ (released (heap_of a) p.name).heap → id_of a < n → HasHeap w n (id_of a) (heap_of a)
     → ModelReplies (id_of a) v (Taken (took_by (heap_of a) p)) (took w (id_of a) from p rest)
 took_world n a v from p rest w h lt has = record {
   reply = ap (λ g. Taken (took_by g p)) (sym has.1);
   left = h ∙ (ap (λ g. (released g p.name).heap) (sym has.1) ∙ sym (heap_left n (id_of a) w (heap_of a) (released (heap_in w (id_of a)) p.name).heap lt has));
 }
 
-pub take_answered : (made : List (Option Name)) (n : ℕ) (a v : Worker) (limits left : List ℕ) (from : ℕ) (answer : Option Took) → KnowsYard n a → from ≢ id_of a → from < n → TookWithin a limits from v left answer
+pub take_answered : {sli : ℕ} (made : List (Option Name)) (n : ℕ) (a v : Worker sli) (limits left : List ℕ) (from : ℕ) (answer : Option Took) → KnowsYard n a → from ≢ id_of a → from < n → TookWithin a limits from v left answer
     → CallStep made a limits (Take from) v left (reply_took answer) (λ w. taking w (id_of a) from)
 take_answered made n a v limits left from None known ne lt t = record {
   told = λ m k w has s.

@@ -23,17 +23,17 @@ use Rattle.tlsf_crew.specs.yard.Moves.{Suits, ModelReplies, RepliesAsModel, Call
 use Rattle.tlsf_crew.proofs.lemmas.yard.OneEntry.{IsIdle, moved_still, moved_idle, still_heap}
 
 -- n workers, one of whom has this heap; these posts wait in all lanes from each
-abbrev pub a_world : ℕ → ℕ → HeapState → (ℕ → List Post) → ℕ → World
+abbrev pub a_world : {sli : ℕ} → ℕ → ℕ → HeapState → (ℕ → List Post) → ℕ → World sli
 a_world n at h posts capacity = record { heaps = set (replicate n no_heap) at h; waiting = λ i j. posts i; capacity = capacity }
 
-pub world_has : (n at : ℕ) (h : HeapState) (posts : ℕ → List Post) (capacity : ℕ) → at < n → HasHeap (a_world n at h posts capacity) n at h
-world_has n at h posts capacity lt =
+pub world_has : (sli : ℕ) (n at : ℕ) (h : HeapState) (posts : ℕ → List Post) (capacity : ℕ) → at < n → HasHeap (a_world {sli = sli} n at h posts capacity) n at h
+world_has sli n at h posts capacity lt =
     let len : length (replicate n no_heap) ≡ n = length-replicate n no_heap in
     let m : at < length (replicate n no_heap) = omega arith in
     (length-set (replicate n no_heap) at h ∙ len, get_or-set_same (replicate n no_heap) at h no_heap m)
 
 -- the heap that a call leaves there
-pub heap_left : (n at : ℕ) (w : World) (h g : HeapState) → at < n → HasHeap w n at h → heap_in (with_heap w at g) at ≡ g
+pub heap_left : {sli : ℕ} (n at : ℕ) (w : World sli) (h g : HeapState) → at < n → HasHeap w n at h → heap_in (with_heap w at g) at ≡ g
 heap_left n at w h g lt has = let m : at < length w.heaps = omega (arith, has.0) in get_or-set_same w.heaps at g no_heap m
 
 -- the post that a reply tells of, and how many a lane holds where it is answered so
@@ -46,11 +46,11 @@ room_of (Refused (Full name)) = 0
 room_of reply = 1
 
 -- a world that suits
-pub a_suit : (n : ℕ) (a : Worker) (made : List (Option Name)) (call : Call) (reply : Reply) → id_of a < n → (w : World) × HasHeap w n (id_of a) (heap_of a) × Suits w (id_of a) made call reply
+pub a_suit : {sli : ℕ} (n : ℕ) (a : Worker sli) (made : List (Option Name)) (call : Call) (reply : Reply) → id_of a < n → (w : World sli) × HasHeap w n (id_of a) (heap_of a) × Suits w (id_of a) made call reply
 unfolding posts_of room_of
-a_suit n a made call reply lt = (
+a_suit {sli} n a made call reply lt = (
   a_world n (id_of a) (heap_of a) (λ i. posts_of reply) (room_of reply),
-  world_has n (id_of a) (heap_of a) (λ i. posts_of reply) (room_of reply) lt,
+  world_has sli n (id_of a) (heap_of a) (λ i. posts_of reply) (room_of reply) lt,
   record {
     room = λ target name c known ne lt e full.
         let p = ap (λ r. length (posts_of r)) e in
@@ -65,7 +65,7 @@ a_suit n a made call reply lt = (
 -- ---- a call on the own heap
 
 -- an entry that tells of no lane, by a worker whose heap alone may have changed
-pub answered_quiet : (made : List (Option Name)) (a v : Worker) (limits : List ℕ) (call : Call) (reply : Reply) (by : World → Replied) → SameButHeap a v → KeepsYards a v
+pub answered_quiet : {sli : ℕ} (made : List (Option Name)) (a v : Worker sli) (limits : List ℕ) (call : Call) (reply : Reply) (by : World sli → Replied sli) → SameButHeap a v → KeepsYards a v
     → ((later : List (Option Name)) → IsIdle (id_of a) later a limits [] (record { worker = id_of a; call = call; reply = reply }))
     → RepliesAsModel made a call v reply by → CallStep made a limits call v limits reply by
 answered_quiet made a v limits call reply by same yard idle told = record {
@@ -76,7 +76,7 @@ answered_quiet made a v limits call reply by same yard idle told = record {
 -- ---- allocate
 
 -- The replies stand here as constructors: where one has to be computed from a result, `cc` takes seconds.
-made_quiet : (at len : ℕ) (later : List (Option Name)) (a : Worker) (limits : List ℕ) (name : Name)
+made_quiet : {sli : ℕ} (at len : ℕ) (later : List (Option Name)) (a : Worker sli) (limits : List ℕ) (name : Name)
     → IsIdle at later a limits [] (record { worker = at; call = Allocate len; reply = Made name })
 made_quiet at len later a limits name = record {
   posts = record { made_none = λ j. refl; taken_none = λ i. refl };
@@ -85,7 +85,7 @@ made_quiet at len later a limits name = record {
   drained = λ most k i e. cc;
 }
 
-refused_quiet : (at len : ℕ) (later : List (Option Name)) (a : Worker) (limits : List ℕ) (why : Refusal)
+refused_quiet : {sli : ℕ} (at len : ℕ) (later : List (Option Name)) (a : Worker sli) (limits : List ℕ) (why : Refusal)
     → IsIdle at later a limits [] (record { worker = at; call = Allocate len; reply = Refused (Heap why) })
 refused_quiet at len later a limits why = record {
   posts = record { made_none = λ j. refl; taken_none = λ i. refl };
@@ -94,26 +94,26 @@ refused_quiet at len later a limits why = record {
   drained = λ most k i e. cc;
 }
 
-made_idle : (at len : ℕ) (later : List (Option Name)) (a : Worker) (limits : List ℕ) (r : Result Name Refusal)
+made_idle : {sli : ℕ} (at len : ℕ) (later : List (Option Name)) (a : Worker sli) (limits : List ℕ) (r : Result Name Refusal)
     → IsIdle at later a limits [] (record { worker = at; call = Allocate len; reply = reply_made r })
 made_idle at len later a limits (Ok name) = made_quiet at len later a limits name
 made_idle at len later a limits (Err why) = refused_quiet at len later a limits why
 
-allocated_here : (n len : ℕ) (a v : Worker) → heap_of v ≡ (heap.allocated 4 (heap_of a) len).heap → KnowsYard n a → (w : World) → HasHeap w n (id_of a) (heap_of a)
-    → ModelReplies (id_of a) v (reply_made (heap.allocated 4 (heap_of a) len).answer) (allocating w (id_of a) len)
+allocated_here : {sli : ℕ} (n len : ℕ) (a v : Worker sli) → heap_of v ≡ (heap.allocated sli (heap_of a) len).heap → KnowsYard n a → (w : World sli) → HasHeap w n (id_of a) (heap_of a)
+    → ModelReplies (id_of a) v (reply_made (heap.allocated sli (heap_of a) len).answer) (allocating w (id_of a) len)
 unfolding allocated
-allocated_here n len a v h k w has =
+allocated_here {sli} n len a v h k w has =
     let at = id_of a in
     record {
-      reply = ap (λ g. reply_made (heap.allocated 4 g len).answer) (sym has.1);
-      left = h ∙ (ap (λ g. (heap.allocated 4 g len).heap) (sym has.1) ∙ sym (heap_left n at w (heap_of a) (heap.allocated 4 (heap_in w at) len).heap k.self has));
+      reply = ap (λ g. reply_made (heap.allocated sli g len).answer) (sym has.1);
+      left = h ∙ (ap (λ g. (heap.allocated sli g len).heap) (sym has.1) ∙ sym (heap_left n at w (heap_of a) (heap.allocated sli (heap_in w at) len).heap k.self has));
     }
 
-pub allocate_answered : (made : List (Option Name)) (a v : Worker) (limits : List ℕ) (len : ℕ) (reply : Reply) → SameButHeap a v → KeepsYards a v
-    → reply ≡ reply_made (heap.allocated 4 (heap_of a) len).answer → heap_of v ≡ (heap.allocated 4 (heap_of a) len).heap
+pub allocate_answered : {sli : ℕ} (made : List (Option Name)) (a v : Worker sli) (limits : List ℕ) (len : ℕ) (reply : Reply) → SameButHeap a v → KeepsYards a v
+    → reply ≡ reply_made (heap.allocated sli (heap_of a) len).answer → heap_of v ≡ (heap.allocated sli (heap_of a) len).heap
     → CallStep made a limits (Allocate len) v limits reply (λ w. allocating w (id_of a) len)
-allocate_answered made a v limits len reply same yard e h =
-    let o = (heap.allocated 4 (heap_of a) len).answer in
+allocate_answered {sli} made a v limits len reply same yard e h =
+    let o = (heap.allocated sli (heap_of a) len).answer in
     subst (λ r. CallStep made a limits (Allocate len) v limits r (λ w. allocating w (id_of a) len)) (sym e)
     (answered_quiet made a v limits (Allocate len) (reply_made o) (λ w. allocating w (id_of a) len) same yard (λ later. made_idle (id_of a) len later a limits o)
     (λ n k w has s. allocated_here n len a v h k w has))

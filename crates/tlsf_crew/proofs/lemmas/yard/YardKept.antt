@@ -19,19 +19,19 @@ use Rattle.tlsf_crew.proofs.lemmas.yard.OwnHeaps.{KeepsHeap, heaps_set, same_hea
 use Rattle.tlsf_crew.proofs.lemmas.yard.Signed.{AreSigned, put_signed, take_signed}
 use Rattle.tlsf_crew.proofs.lemmas.yard.LanesOfOne.{own_number}
 
-pub heap_keeps : (a v : Worker) → SameButHeap a v → KeepsHeap (heap_of a) (heap_of v) → KeepsYards a v
+pub heap_keeps : {sli : ℕ} (a v : Worker sli) → SameButHeap a v → KeepsHeap (heap_of a) (heap_of v) → KeepsYards a v
 heap_keeps a v same kept ws i is yard = heap_yard ws i a v is same kept yard
 
 -- nothing changes
-pub same_keeps : (a : Worker) → KeepsYards a a
+pub same_keeps : {sli : ℕ} (a : Worker sli) → KeepsYards a a
 same_keeps a = heap_keeps a a (refl, refl, refl) (same_heap_keeps (heap_of a) (heap_of a) refl)
 
-set_twice : (ws : List Worker) (i : ℕ) (b v : Worker) → set (set ws i b) i v ≡ set ws i v
+set_twice : {sli : ℕ} (ws : List (Worker sli)) (i : ℕ) (b v : Worker sli) → set (set ws i b) i v ≡ set ws i v
 set_twice [] i b v = refl
 set_twice (w ∷ ws) zero b v = refl
 set_twice (w ∷ ws) (suc i) b v = ap (λ l. w ∷ l) (set_twice ws i b v)
 
-put_ends : (ws : List Worker) (i j : ℕ) (a v : Worker) (post : Post) (answer : Result (Unit {0}) Post) → slice_get ws i ≡ Some a → (put : PutTo a v j post answer)
+put_ends : {sli : ℕ} (ws : List (Worker sli)) (i j : ℕ) (a v : Worker sli) (post : Post) (answer : Result (Unit {0}) Post) → slice_get ws i ≡ Some a → (put : PutTo a v j post answer)
     → post_at ws i j ≡ Some put.end → PostSet ws (set ws i v) i j put.new_end → IsYard ws → (x y : ℕ) → x < length ws → y < length ws → x ≢ y → HasEnds (set ws i v) x y
 put_ends ws i j a v post answer is put here there yard x y x_in y_in apart =
     let h = yard.lanes x y x_in y_in apart in
@@ -48,7 +48,7 @@ put_ends ws i j a v post answer is put here there yard x y x_in y_in apart =
       | inr xi ↦ (h.0, h.1, there.others x y (λ f _. xi f) ∙ h.2, there.takes x y ∙ h.3, h.4, h.5 ∙ sym same)
     ]
 
-put_signed_in : (ws : List Worker) (i j : ℕ) (a v : Worker) (post : Post) (answer : Result (Unit {0}) Post) → post.from ≡ i → (put : PutTo a v j post answer)
+put_signed_in : {sli : ℕ} (ws : List (Worker sli)) (i j : ℕ) (a v : Worker sli) (post : Post) (answer : Result (Unit {0}) Post) → post.from ≡ i → (put : PutTo a v j post answer)
     → post_at ws i j ≡ Some put.end → PostSet ws (set ws i v) i j put.new_end → AreSigned ws → AreSigned (set ws i v)
 put_signed_in ws i j a v post answer own put here there signed x y =
     elim (cases_eq x i) [
@@ -60,7 +60,7 @@ put_signed_in ws i j a v post answer own put here there signed x y =
     ]
 
 -- a worker who posts in its own name
-pub put_keeps : (a v : Worker) (j : ℕ) (post : Post) (answer : Result (Unit {0}) Post) → post.from ≡ id_of a → PutTo a v j post answer → KeepsYards a v
+pub put_keeps : {sli : ℕ} (a v : Worker sli) (j : ℕ) (post : Post) (answer : Result (Unit {0}) Post) → post.from ≡ id_of a → PutTo a v j post answer → KeepsYards a v
 put_keeps a v j post answer own put ws i is yard =
     let here : post_at ws i j ≡ Some put.end = rw (is, put.end_is) refl in
     let there = posts_set ws i j a v put.new_end is put.new_end_is put.others put.same.2 in
@@ -77,10 +77,11 @@ put_keeps a v j post answer own put ws i is yard =
       small =
           let e : capacity_in (set ws i v) ≡ capacity_in ws = ap (λ (l : List (ℕ × ℕ)). (get_or l 0 (0, 0)).1) (map_same id_and_capacity ws i a v is put.same.1) in
           omega (arith, yard.small);
+      level = yard.level;
       signed = put_signed_in ws i j a v post answer (own ∙ own_number ws i a yard is) put here there yard.signed;
     }
 
-take_ends : (ws : List Worker) (i j : ℕ) (a v : Worker) (post : Option Post) → slice_get ws j ≡ Some a → (got : TookFrom a v i post)
+take_ends : {sli : ℕ} (ws : List (Worker sli)) (i j : ℕ) (a v : Worker sli) (post : Option Post) → slice_get ws j ≡ Some a → (got : TookFrom a v i post)
     → take_at ws i j ≡ Some got.end → TakeSet ws (set ws j v) i j got.new_end → IsYard ws → (x y : ℕ) → x < length ws → y < length ws → x ≢ y → HasEnds (set ws j v) x y
 take_ends ws i j a v post is got here there yard x y x_in y_in apart =
     let h = yard.lanes x y x_in y_in apart in
@@ -97,7 +98,7 @@ take_ends ws i j a v post is got here there yard x y x_in y_in apart =
       | inr xi ↦ (h.0, h.1, there.posts x y ∙ h.2, there.others x y (λ f _. xi f) ∙ h.3, h.4, h.5 ∙ sym same)
     ]
 
-take_signed_in : (ws : List Worker) (i j : ℕ) (a v : Worker) (post : Option Post) → (got : TookFrom a v i post)
+take_signed_in : {sli : ℕ} (ws : List (Worker sli)) (i j : ℕ) (a v : Worker sli) (post : Option Post) → (got : TookFrom a v i post)
     → take_at ws i j ≡ Some got.end → TakeSet ws (set ws j v) i j got.new_end → AreSigned ws → AreSigned (set ws j v)
 take_signed_in ws i j a v post got here there signed x y =
     elim (cases_eq x i) [
@@ -108,7 +109,7 @@ take_signed_in ws i j a v post got here there signed x y =
       | inr xi ↦ rw (there.others x y (λ f _. xi f), there.posts x y) (signed x y)
     ]
 
-pub take_keeps : (a v : Worker) (i : ℕ) (post : Option Post) → TookFrom a v i post → KeepsYards a v
+pub take_keeps : {sli : ℕ} (a v : Worker sli) (i : ℕ) (post : Option Post) → TookFrom a v i post → KeepsYards a v
 take_keeps a v i post got ws j is yard =
     let here : take_at ws i j ≡ Some got.end = rw (is, got.end_is) refl in
     let there = takes_set ws i j a v got.new_end is got.new_end_is got.others got.same.2 in
@@ -125,11 +126,12 @@ take_keeps a v i post got ws j is yard =
       small =
           let e : capacity_in (set ws j v) ≡ capacity_in ws = ap (λ (l : List (ℕ × ℕ)). (get_or l 0 (0, 0)).1) (map_same id_and_capacity ws j a v is got.same.1) in
           omega (arith, yard.small);
+      level = yard.level;
       signed = take_signed_in ws i j a v post got here there yard.signed;
     }
 
 -- one after the other
-pub keeps_then : (a b v : Worker) → KeepsYards a b → KeepsYards b v → KeepsYards a v
+pub keeps_then : {sli : ℕ} (a b v : Worker sli) → KeepsYards a b → KeepsYards b v → KeepsYards a v
 keeps_then a b v x y ws i is yard =
     let at : slice_get (set ws i b) i ≡ Some b = get_set_same ws i b (slice_get_within ws i a is) in
     subst IsYard (set_twice ws i b v) (y (set ws i b) i at (x ws i is yard))

@@ -4,5 +4,5 @@ use Rattle.tlsf_held.specs.Tallies.{tally_of}
 use Rattle.tlsf_held.proofs.lines.write_held_lines.Given as goal
 
 abbrev pub invariant-loop-worker : goal.invariant-loop-worker
-invariant-loop-worker l = string_bytes l.text
-    ≡ string_bytes l.fn.text ++ held_text l.words (λ j. (tally_of j l.entries).most) (λ j. (tally_of j l.entries).longest) l.worker
+invariant-loop-worker g l = string_bytes l.text
+    ≡ string_bytes l.fn.text ++ held_text g.row.SLI l.words (λ j. (tally_of j l.entries).most) (λ j. (tally_of j l.entries).longest) l.worker

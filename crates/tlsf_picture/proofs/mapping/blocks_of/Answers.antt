@@ -1,3 +1,4 @@
+use Rattle.tlsf_class.proofs.TwoLevels.{most_words_any}
 use Rattle.std.proofs.Common.{◌≡◌, ◌+◌, ◌∷◌, ◌++◌, [], Some, None, sym, ap, ◌∙◌, subst, arith}
 use Rattle.tlsf_crew.specs.yard.Workers.{heap_of}
 use Rattle.tlsf_heap.specs.Blocks.{HeapState}
@@ -9,17 +10,17 @@ use Rattle.tlsf_picture.proofs.Walking.{HasWalked, walk_ends, walk_on}
 use Rattle.tlsf_picture.proofs.mapping.blocks_of.Goals as goal
 
 pub overflow_add-at : goal.overflow_add-at
-overflow_add-at c =
+overflow_add-at g c =
     let h = heap_of c.args.worker.now in
     let same = c.loop-block.invariant.heap in
     let lawful : IsLawful h = subst IsLawful same c.in-Some.ensures.was_lawful in
     let found : placed_at h.blocks c.loop-block.at ≡ Some c.in-Some.block = ap (λ (x : HeapState). placed_at x.blocks c.loop-block.at) (sym same) ∙ sym c.in-Some.ensures.block in
     let goes = walk_on (labelled (known_in c.args.labels.now)) h.blocks c.loop-block.at c.loop-block.blocks.items lawful.rooms c.loop-block.invariant.walked c.in-Some.block found in
     let words = ap (λ (x : HeapState). x.words) same in
-    omega (arith, goes.inside, lawful.whole, words, c.in-Some.ensures.most)
+    omega (arith, goes.inside, lawful.whole, words, c.in-Some.ensures.most, most_words_any g.row.SLI)
 
 pub loop-block-smaller : goal.loop-block-smaller
-loop-block-smaller c =
+loop-block-smaller g c =
     let h = heap_of c.args.worker.now in
     let same = c.loop-block.invariant.heap in
     let lawful : IsLawful h = subst IsLawful same c.in-Some.ensures.was_lawful in
@@ -28,7 +29,7 @@ loop-block-smaller c =
     omega (arith, goes.inside, goes.long, lawful.whole)
 
 pub loop-block-preserved : goal.loop-block-preserved
-loop-block-preserved c =
+loop-block-preserved g c =
     let h = heap_of c.args.worker.now in
     let same = c.loop-block.invariant.heap in
     let lawful : IsLawful h = subst IsLawful same c.in-Some.ensures.was_lawful in
@@ -43,7 +44,7 @@ loop-block-preserved c =
     }
 
 pub returns-clause-blocks : goal.returns-clause-blocks
-returns-clause-blocks c =
+returns-clause-blocks g c =
     let h = heap_of c.args.worker.now in
     let same = c.loop-block.invariant.heap in
     let lawful : IsLawful h = subst IsLawful same c.block_at.ensures.was_lawful in

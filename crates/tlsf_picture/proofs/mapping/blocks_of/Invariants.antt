@@ -6,10 +6,10 @@ use Rattle.tlsf_picture.proofs.mapping.blocks_of.Given as goal
 
 -- the heap stays, and the blocks up to this place are met
 abbrev pub invariant-loop-block : goal.invariant-loop-block
-invariant-loop-block l = record {
+invariant-loop-block g l = record {
   heap : heap_of l.worker ≡ heap_of l.fn.worker;
   walked : HasWalked (labelled (known_in l.labels)) (heap_of l.fn.worker).blocks l.at l.blocks.items;
 }
 
 abbrev pub decreases-loop-block : goal.decreases-loop-block
-decreases-loop-block l = (heap_of l.fn.worker).words - l.at
+decreases-loop-block g l = (heap_of l.fn.worker).words - l.at

@@ -10,7 +10,7 @@ use Rattle.tlsf_picture.proofs.Maps.{map_more}
 use Rattle.tlsf_picture.proofs.mapping.map_heaps.Goals as goal
 
 pub map_heap-requires : goal.map_heap-requires
-map_heap-requires c =
+map_heap-requires g c =
     let ws = c.loop-number.workers in
     let i = c.loop-number.number in
     let found = c.index-workers-number.result in
@@ -21,10 +21,10 @@ map_heap-requires c =
     let within : i < length heaps = omega (arith, len, c.loop-number-test.true) in
     let here : get_or heaps i no_heap ≡ heap_of (get_or ws i found) =
     get_or_default heaps i no_heap (heap_of found) within ∙ (ap (λ (l : List HeapState). get_or l i (heap_of found)) (sym inv.heaps) ∙ get_or-map heap_of ws i found) in
-    ap (λ (h : HeapState). h.id) (sym here) ∙ (c.requires.heaps i (omega (arith, within, count))).0
+    (omega arith, ap (λ (h : HeapState). h.id) (sym here) ∙ (c.requires.heaps i (omega (arith, within, count))).0)
 
 pub loop-number-preserved : goal.loop-number-preserved
-loop-number-preserved c =
+loop-number-preserved g c =
     let ws = c.loop-number.workers in
     let i = c.loop-number.number in
     let found = c.index-workers-number.result in
@@ -38,7 +38,7 @@ loop-number-preserved c =
     let id = ap (λ (h : HeapState). h.id) (sym here) ∙ (c.requires.heaps i (omega (arith, within, count))).0 in
     record {
       heaps = map-set_same heap_of ws i c.map_heap.new.worker found c.map_heap.ensures.heap ∙ inv.heaps;
-      so_far = subst (AreMaps c.args.made.now c.args.labels.now (take (i + 1) heaps)) (sym c.in_ok-push.ensures.items)
-          (map_more c.args.made.now c.args.labels.now heaps i no_heap (heap_of (get_or ws i found)) c.loop-number.maps.items _ c.in_ok-map_heap.field-0
+      so_far = subst (AreMaps g.row.SLI c.args.made.now c.args.labels.now (take (i + 1) heaps)) (sym c.in_ok-push.ensures.items)
+          (map_more g.row.SLI c.args.made.now c.args.labels.now heaps i no_heap (heap_of (get_or ws i found)) c.loop-number.maps.items _ c.in_ok-map_heap.field-0
           within here id c.in_ok-known.ensures c.in_ok-map_heap.ensures.mapped inv.so_far);
     }

@@ -5,7 +5,7 @@ use Rattle.tlsf_picture.proofs.mapping.map_heaps.Given as goal
 
 -- the heaps stay, and those below this number have their maps
 abbrev pub invariant-loop-number : goal.invariant-loop-number
-invariant-loop-number l = record {
+invariant-loop-number g l = record {
   heaps : map heap_of l.workers ≡ map heap_of l.fn.workers;
-  so_far : AreMaps l.made l.labels (take l.number (map heap_of l.fn.workers)) l.maps.items;
+  so_far : AreMaps g.row.SLI l.made l.labels (take l.number (map heap_of l.fn.workers)) l.maps.items;
 }

@@ -6,7 +6,7 @@ use Rattle.tlsf_trace.proofs.PartByPart.{all_left, all_made, all_told, part_left
 use Rattle.tlsf_trace.proofs.output.write_run.Goals as goal
 
 pub loop-events-init : goal.loop-events-init
-loop-events-init c =
+loop-events-init g c =
     let alone = replies_alone (world_of c.args.workers.now) c.args.script.now.events.items in
     record {
       yard = c.requires;
@@ -16,7 +16,7 @@ loop-events-init c =
     }
 
 pub loop-events-preserved : goal.loop-events-preserved
-loop-events-preserved c =
+loop-events-preserved g c =
     let inv = c.loop-events.invariant in
     let w = world_of c.loop-events.workers in
     let u = world_of c.replay_behind.new.workers in
@@ -37,16 +37,16 @@ loop-events-preserved c =
     }
 
 pub returns-clause-text : goal.returns-clause-text
-returns-clause-text c =
+returns-clause-text g c =
     let none : c.loop-events.events.now ≡ [] = nil_from_length _ (search rules) in
     all_told (world_of c.loop-events.workers) c.loop-events.made.items c.loop-events.labels.now (string_bytes c.loop-events.text) ∙ (rw none at c.loop-events.invariant.so_far)
 
 pub returns-clause-world : goal.returns-clause-world
-returns-clause-world c =
+returns-clause-world g c =
     let none : c.loop-events.events.now ≡ [] = nil_from_length _ (search rules) in
     all_left (world_of c.loop-events.workers) c.loop-events.made.items ∙ (rw none at c.loop-events.invariant.world)
 
 pub returns-clause-made : goal.returns-clause-made
-returns-clause-made c =
+returns-clause-made g c =
     let none : c.loop-events.events.now ≡ [] = nil_from_length _ (search rules) in
     all_made (world_of c.loop-events.workers) c.loop-events.made.items ∙ (rw none at c.loop-events.invariant.made)

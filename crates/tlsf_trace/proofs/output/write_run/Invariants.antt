@@ -6,7 +6,7 @@ use Rattle.tlsf_trace.proofs.output.write_run.Given as goal
 
 -- the lines so far and those of the events that are left are the lines of all, and these leave the world and the names that all leave
 abbrev pub invariant-loop-events : goal.invariant-loop-events
-invariant-loop-events l = record {
+invariant-loop-events g l = record {
   yard : IsYard l.workers;
   so_far : string_bytes l.text ++ reply_text (replies_behind (world_of l.workers) l.made.items l.events).entries l.labels
       ≡ string_bytes l.fn.text ++ reply_text (replies (world_of l.fn.workers) l.script.events.items).entries l.script.labels.items;
@@ -15,4 +15,4 @@ invariant-loop-events l = record {
 }
 
 abbrev pub decreases-loop-events : goal.decreases-loop-events
-decreases-loop-events l = length l.events
+decreases-loop-events g l = length l.events

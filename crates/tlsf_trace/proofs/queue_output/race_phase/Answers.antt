@@ -1,3 +1,4 @@
+use denote.Param.Send.{sendable}
 use Rattle.std.proofs.Common.{◌≡◌, ◌++◌, ℕ, List, length, map, string_bytes, vec_len, sym, ap, subst, ◌∙◌, arith}
 use Rattle.std.specs.List.{range_with_len}
 use Rattle.std.proofs.lemmas.List.{length-map}
@@ -13,8 +14,9 @@ use Rattle.tlsf_lines.specs.declared.line.Line.{Line}
 use Rattle.tlsf_trace.proofs.RacedPhases.{queue_heap_count}
 use Rattle.tlsf_trace.proofs.queue_output.race_phase.Goals as goal
 
-pub race_queues-requires-clause-count : goal.race_queues-requires-clause-count
-race_queues-requires-clause-count g c κs within = omega (arith, c.in_ok-scripts.ensures.counts.1, c.len-count.ensures)
+pub race_queues-requires : goal.race_queues-requires
+race_queues-requires g c =
+    (search sendable, (search sendable, (omega arith, (omega arith, (c.requires.yard, (omega (arith, c.in_ok-scripts.ensures.counts.1, c.len-count.ensures), c.in_ok-scripts.ensures.short))))))
 
 pub write_phase-requires : goal.write_phase-requires
 write_phase-requires g c =

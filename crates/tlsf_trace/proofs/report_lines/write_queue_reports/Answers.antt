@@ -10,7 +10,7 @@ use Rattle.tlsf_trace.proofs.ReportSteps.{goes_on}
 use Rattle.tlsf_trace.proofs.report_lines.write_queue_reports.Goals as goal
 
 pub loop-number-preserved : goal.loop-number-preserved
-loop-number-preserved c =
+loop-number-preserved g c =
     let ws = c.loop-number.workers in
     let i = c.loop-number.number in
     let found = c.index-workers-number.result in
@@ -20,9 +20,9 @@ loop-number-preserved c =
     let len : length heaps ≡ length ws = ap length (sym inv.heaps) ∙ length-map ws queue_heap in
     let within : i < length heaps = omega (arith, len) in
     let here : get_or heaps i (queue_heap found) ≡ queue_heap a = ap (λ l. get_or l i (queue_heap found)) (sym inv.heaps) ∙ get_or-map queue_heap ws i found in
-    let line : string_bytes c.write_line.new.text ≡ string_bytes c.loop-number.text ++ report_line i (report_of 4 (queue_heap a)) =
+    let line : string_bytes c.write_line.new.text ≡ string_bytes c.loop-number.text ++ report_line i (report_of g.row.SLI (queue_heap a)) =
     c.in_ok-write_line.ensures ∙ ap (λ (r : Report). string_bytes c.loop-number.text ++ report_line i r) c.report-report.ensures.report in
     record {
       heaps = map-set_same queue_heap ws i c.report-report.new.self found c.report-report.ensures.heap ∙ inv.heaps;
-      so_far = rw line (goes_on _ _ heaps i (queue_heap found) (queue_heap a) within here inv.so_far);
+      so_far = rw line (goes_on g.row.SLI _ _ heaps i (queue_heap found) (queue_heap a) within here inv.so_far);
     }

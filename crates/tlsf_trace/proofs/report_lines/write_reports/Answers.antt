@@ -10,7 +10,7 @@ use Rattle.tlsf_trace.proofs.ReportSteps.{goes_on}
 use Rattle.tlsf_trace.proofs.report_lines.write_reports.Goals as goal
 
 pub loop-number-preserved : goal.loop-number-preserved
-loop-number-preserved c =
+loop-number-preserved g c =
     let ws = c.loop-number.workers in
     let i = c.loop-number.number in
     let found = c.index-workers-number.result in
@@ -20,9 +20,9 @@ loop-number-preserved c =
     let len : length heaps ≡ length ws = ap length (sym inv.heaps) ∙ length-map ws heap_of in
     let within : i < length heaps = omega (arith, len) in
     let here : get_or heaps i (heap_of found) ≡ heap_of a = ap (λ l. get_or l i (heap_of found)) (sym inv.heaps) ∙ get_or-map heap_of ws i found in
-    let line : string_bytes c.write_line.new.text ≡ string_bytes c.loop-number.text ++ report_line i (report_of 4 (heap_of a)) =
+    let line : string_bytes c.write_line.new.text ≡ string_bytes c.loop-number.text ++ report_line i (report_of g.row.SLI (heap_of a)) =
     c.in_ok-write_line.ensures ∙ ap (λ (r : Report). string_bytes c.loop-number.text ++ report_line i r) c.report-report.ensures.report in
     record {
       heaps = map-set_same heap_of ws i c.report-report.new.self found c.report-report.ensures.heap ∙ inv.heaps;
-      so_far = rw line (goes_on _ _ heaps i (heap_of found) (heap_of a) within here inv.so_far);
+      so_far = rw line (goes_on g.row.SLI _ _ heaps i (heap_of found) (heap_of a) within here inv.so_far);
     }

@@ -5,7 +5,7 @@ use Rattle.tlsf_crew.proofs.queues.queue_executor.reply_over_queues.Goals as goa
 pub returns-in-Allocate-clause-stepped : goal.returns-in-Allocate-clause-stepped
 returns-in-Allocate-clause-stepped g c = λ n k.
     rw c.in-Allocate.is
-    (allocate_stepped n c.args.worker.now _ c.args.journal.now.limit c.in-Allocate.len c.args.made.now c.args.journal.now.entries.items _ k (refl, refl, refl) c.reply_to_own_allocate.ensures.reply c.reply_to_own_allocate.ensures.heap)
+    (allocate_stepped n c.args.worker.now _ c.args.journal.now.limit c.in-Allocate.len c.args.made.now c.args.journal.now.entries.items _ k (refl, refl, refl) c.reply_to_own_allocate.ensures.reply c.reply_to_own_allocate.ensures.heap c.reply_to_own_allocate.ensures.lawful)
 
 pub returns-in-Release-clause-stepped : goal.returns-in-Release-clause-stepped
 returns-in-Release-clause-stepped g c = λ n k. rw c.in-Release.is (c.reply_to_queue_release.ensures n c.args.journal.now.limit c.args.journal.now.entries.items k)

@@ -2,4 +2,4 @@ use Rattle.tlsf_crew.proofs.lemmas.queues.QueueRecords.{queue_race_tells, queue_
 use Rattle.tlsf_crew.proofs.queues.queue_laws.one_history_of_a_queue_race.Goals as goal
 
 pub returns : goal.returns
-returns c = record { told = queue_race_tells; heaps = queue_race_runs; posts = queue_race_posts; lawful = queue_race_lawful; always_lawful = queue_race_always }
+returns c = record { told = λ sli. queue_race_tells; heaps = λ sli. queue_race_runs; posts = λ sli. queue_race_posts; lawful = λ sli. queue_race_lawful; always_lawful = λ sli. queue_race_always }

@@ -5,22 +5,23 @@ use Rattle.tlsf_crew.proofs.lemmas.queues.QueueLast.{drained_next}
 use Rattle.tlsf_crew.proofs.lemmas.yard.Slots.{get_set_other, some_same}
 use Rattle.tlsf_crew.proofs.queues.queue_race.drain_all.Goals as goal
 
-pub drain_last-requires-clause-yard : goal.drain_last-requires-clause-yard
-drain_last-requires-clause-yard g c =
+pub drain_last-requires : goal.drain_last-requires
+drain_last-requires g c = (
+  omega arith,
+  (
     let d = c.index-workers-j.result in
-    let x = c.loop-j.invariant.drained in
-    let le : c.loop-j.j ≤ c.loop-j.j = omega arith in
-    let here = slice_get-get_or c.loop-j.workers c.loop-j.j d (omega (arith, x.worker_count)) in
-    let there = slice_get-get_or c.args.workers.now c.loop-j.j d (omega arith) in
-    subst KnowsSomeYard (some_same (get_or c.args.workers.now c.loop-j.j d) (get_or c.loop-j.workers c.loop-j.j d) (sym there ∙ (sym (x.later_workers c.loop-j.j le) ∙ here))) (c.requires.yard c.loop-j.j d (omega arith))
-
-pub drain_last-requires-clause-place : goal.drain_last-requires-clause-place
-drain_last-requires-clause-place g c =
+        let x = c.loop-j.invariant.drained in
+        let le : c.loop-j.j ≤ c.loop-j.j = omega arith in
+        let here = slice_get-get_or c.loop-j.workers c.loop-j.j d (omega (arith, x.worker_count)) in
+        let there = slice_get-get_or c.args.workers.now c.loop-j.j d (omega arith) in
+        subst KnowsSomeYard (some_same (get_or c.args.workers.now c.loop-j.j d) (get_or c.loop-j.workers c.loop-j.j d) (sym there ∙ (sym (x.later_workers c.loop-j.j le) ∙ here))) (c.requires.yard c.loop-j.j d (omega arith)),
     let d = c.index-records-j.result in
-    let le : c.loop-j.j ≤ c.loop-j.j = omega arith in
-    let here = slice_get-get_or c.loop-j.records c.loop-j.j d (omega arith) in
-    let there = slice_get-get_or c.args.records.now c.loop-j.j d (omega (arith, c.requires.count)) in
-    subst HasPlace (some_same (get_or c.args.records.now c.loop-j.j d) (get_or c.loop-j.records c.loop-j.j d) (sym there ∙ (sym (c.loop-j.invariant.later c.loop-j.j le) ∙ here))) (c.requires.places c.loop-j.j d (omega (arith, c.requires.count)))
+        let le : c.loop-j.j ≤ c.loop-j.j = omega arith in
+        let here = slice_get-get_or c.loop-j.records c.loop-j.j d (omega arith) in
+        let there = slice_get-get_or c.args.records.now c.loop-j.j d (omega (arith, c.requires.count)) in
+        subst HasPlace (some_same (get_or c.args.records.now c.loop-j.j d) (get_or c.loop-j.records c.loop-j.j d) (sym there ∙ (sym (c.loop-j.invariant.later c.loop-j.j le) ∙ here))) (c.requires.places c.loop-j.j d (omega (arith, c.requires.count))),
+  ),
+)
 
 pub loop-j-preserved : goal.loop-j-preserved
 loop-j-preserved g c =

@@ -8,7 +8,8 @@ use Rattle.tlsf_crew.proofs.lemmas.queues.QueueSteps.{queue_step_room}
 use Rattle.tlsf_crew.proofs.queues.queue_race.drain_last.Goals as goal
 
 pub drain_into_queue_journal-taken-requires : goal.drain_into_queue_journal-taken-requires
-drain_into_queue_journal-taken-requires g c = record { room = rw c.replace.ensures.value (omega (arith, c.last_limit.ensures.room)) }
+drain_into_queue_journal-taken-requires g c =
+    (omega arith, rw c.replace.ensures.value (omega (arith, c.last_limit.ensures.room)))
 
 pub push_reserved-requires : goal.push_reserved-requires
 push_reserved-requires g c =

@@ -7,13 +7,29 @@ use Rattle.tlsf_crew.proofs.lemmas.threads.WholeRace.{written_back}
 use Rattle.tlsf_crew.proofs.lemmas.queues.QueueRaces.{queue_race_is, ran_yard}
 use Rattle.tlsf_crew.proofs.queues.queue_race.race_queues.Goals as goal
 
-pub finish-requires-clause-yard : goal.finish-requires-clause-yard
-finish-requires-clause-yard g c =
+pub finish-requires : goal.finish-requires
+finish-requires g c =
     let ws = c.settle_queues.new.workers in
+    let out = c.in_ok-outcome.outcome in
     let settled = c.settle_queues.ensures.settled in
     let first = written_back c.args.workers.len ws c.args.workers.items (omega (arith, settled.count, c.deref_mut.ensures.len)) in
     let run = rw first at c.in_ok-outcome.ensures.run in
-    rw c.deref_mut-2.ensures.value (ran_yard ws _ _ c.in_ok-outcome.outcome.workers.items settled.yard run)
+    let told = length-map out.records.items (λ (r : Vec Entry Global). r.items) in
+    let count = run.worker_count in
+    let records = run.record_count in
+    rw (c.deref_mut-2.ensures.value, c.deref_mut-3.ensures.value) (
+      omega arith,
+      (
+        ran_yard ws _ _ out.workers.items settled.yard run,
+        (
+          omega (arith, count, records, told),
+          (
+            c.in_ok-outcome.ensures.places,
+            omega (arith, count, settled.count, c.settle_queues.ensures.capacity, c.deref_mut.ensures.len, c.in_ok-posters.ensures.capacity, out.workers.ok, c.args.workers.ok),
+          ),
+        ),
+      ),
+    )
 
 pub returns : goal.returns
 returns g c =

@@ -11,16 +11,23 @@ returns-clause-run g c =
 pub returns-clause-places : goal.returns-clause-places
 returns-clause-places g c = queue_places c.in_ok-tasks.tasks.items c.in_ok-done.done.items c.take_apart.new.out.records.items c.take_apart.ensures.parts.1 c.in_ok-done.ensures.done
 
-pub prepare_tasks-requires-clause-yard : goal.prepare_tasks-requires-clause-yard
-prepare_tasks-requires-clause-yard g c = c.requires.yard
+pub prepare_tasks-requires : goal.prepare_tasks-requires
+prepare_tasks-requires g c =
+    (omega arith, (omega arith, (c.requires.yard, (c.requires.count, c.requires.short))))
 
-pub take_apart-requires-clause-empty : goal.take_apart-requires-clause-empty
-take_apart-requires-clause-empty g c = c.in_ok-outcome.ensures.empty
-
-pub take_apart-requires-clause-room : goal.take_apart-requires-clause-room
-take_apart-requires-clause-room g c = (
-  omega (arith, c.in_ok-done.ensures.len, c.len.ensures, c.in_ok-outcome.ensures.room.0),
-  omega (arith, c.in_ok-done.ensures.len, c.len.ensures, c.in_ok-outcome.ensures.room.1),
+pub take_apart-requires : goal.take_apart-requires
+take_apart-requires g c = (
+  omega arith,
+  (
+    omega arith,
+    (
+      c.in_ok-outcome.ensures.empty,
+      (
+        omega (arith, c.in_ok-done.ensures.len, c.len.ensures, c.in_ok-outcome.ensures.room.0),
+        omega (arith, c.in_ok-done.ensures.len, c.len.ensures, c.in_ok-outcome.ensures.room.1),
+      ),
+    ),
+  ),
 )
 
 pub run_all-requires-clause-ready : goal.run_all-requires-clause-ready

@@ -9,22 +9,24 @@ use Rattle.tlsf_crew.proofs.queues.queue_settle.gather_ends.Goals as goal
 use Rattle.tlsf_crew.proofs.queues.queue_settle.gather_ends.Goals.{then-i-j, else-i-j}
 
 pub loop-i-init : goal.loop-i-init
-loop-i-init c = record { gathered = gathered_none _ _ _ c.requires.room.0; few = omega (arith, c.args.posters.now.ok, ap length c.requires.room.0); capacity = refl }
+loop-i-init g c = record { gathered = gathered_none _ _ _ c.requires.room.0; few = omega (arith, c.args.posters.now.ok, ap length c.requires.room.0); capacity = refl }
 
-pub gather_end-requires-clause-slot : goal.gather_end-requires-clause-slot
-gather_end-requires-clause-slot c =
-    let g = c.loop-i.invariant.gathered in
-    let inside : c.loop-i.i < length c.loop-i.workers = omega (arith, g.count) in
-    let a : QueueWorker = get_or c.loop-i.workers c.loop-i.i c.index-workers-i.result in
-    let le : c.loop-i.i ≤ c.loop-i.i = omega arith in
-    let at : slice_get c.args.workers.now c.loop-i.i ≡ Some a = sym (g.same c.loop-i.i (inl le)) ∙ slice_get-get_or c.loop-i.workers c.loop-i.i c.index-workers-i.result inside in
-    omega (arith, a.posts.ok, slot_there c.args.workers.now c.loop-i.i c.args.j a c.requires.yard at c.requires.inside c.if-i-j.true)
-
-pub gather_end-requires-clause-room : goal.gather_end-requires-clause-room
-gather_end-requires-clause-room c = omega (arith, c.loop-i.invariant.few, c.loop-i.invariant.capacity, c.requires.room.1)
+pub gather_end-requires : goal.gather_end-requires
+gather_end-requires g c = (
+  omega arith,
+  (
+    let whole = c.loop-i.invariant.gathered in
+        let inside : c.loop-i.i < length c.loop-i.workers = omega (arith, whole.count) in
+        let a : QueueWorker g.row.SLI = get_or c.loop-i.workers c.loop-i.i c.index-workers-i.result in
+        let le : c.loop-i.i ≤ c.loop-i.i = omega arith in
+        let at : slice_get c.args.workers.now c.loop-i.i ≡ Some a = sym (whole.same c.loop-i.i (inl le)) ∙ slice_get-get_or c.loop-i.workers c.loop-i.i c.index-workers-i.result inside in
+        omega (arith, a.posts.ok, slot_there c.args.workers.now c.loop-i.i c.args.j a c.requires.yard at c.requires.inside c.if-i-j.true),
+    omega (arith, c.loop-i.invariant.few, c.loop-i.invariant.capacity, c.requires.room.1),
+  ),
+)
 
 pub loop-i-preserved : goal.loop-i-preserved
-loop-i-preserved c =
+loop-i-preserved g c =
     let i = c.loop-i.invariant in
     elim c.if-i-j.branch [
       | then-i-j w ↦
@@ -46,6 +48,6 @@ loop-i-preserved c =
     ]
 
 pub returns-clause-gathered : goal.returns-clause-gathered
-returns-clause-gathered c =
+returns-clause-gathered g c =
     let e : c.loop-i.i ≡ length c.args.workers.now = omega arith in
     subst (λ (k : ℕ). Gathered c.args.workers.now c.args.j k c.loop-i.workers c.loop-i.posters.items) e c.loop-i.invariant.gathered

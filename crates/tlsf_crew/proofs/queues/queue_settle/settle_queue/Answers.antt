@@ -6,38 +6,46 @@ use Rattle.tlsf_crew.specs.queues.QueueOpening.{GaveEnds}
 use Rattle.tlsf_crew.proofs.lemmas.queues.QueueSettled.{ends_whole, numbers_still, owner_there, queue_settled, slots_still}
 use Rattle.tlsf_crew.proofs.queues.queue_settle.settle_queue.Goals as goal
 
-pub gather_ends-requires-clause-room : goal.gather_ends-requires-clause-room
-gather_ends-requires-clause-room c = (c.clear.ensures.items, omega (arith, c.clear.ensures.capacity, c.requires.room))
+pub gather_ends-requires : goal.gather_ends-requires
+gather_ends-requires g c =
+    (omega arith, (c.requires.yard, (c.requires.inside, (c.clear.ensures.items, omega (arith, c.clear.ensures.capacity, c.requires.room)))))
 
 pub meet_owner-requires : goal.meet_owner-requires
-meet_owner-requires c =
-    let g = c.gather_ends.ensures.gathered in
-    let b : QueueWorker = get_or c.gather_ends.new.workers c.args.j c.index-workers-j.result in
-    subst (IsWhole b.own) (sym g.ends) (ends_whole c.args.workers.now c.args.j b c.requires.yard (owner_there _ _ _ _ c.index-workers-j.result g c.requires.inside))
+meet_owner-requires g c = (
+  omega arith,
+  let whole = c.gather_ends.ensures.gathered in
+      let b : QueueWorker g.row.SLI = get_or c.gather_ends.new.workers c.args.j c.index-workers-j.result in
+      subst (IsWhole b.own) (sym whole.ends) (ends_whole c.args.workers.now c.args.j b c.requires.yard (owner_there _ _ _ _ c.index-workers-j.result whole c.requires.inside)),
+)
 
-pub give_ends-requires-clause-slots : goal.give_ends-requires-clause-slots
-give_ends-requires-clause-slots c = slots_still c.args.workers.now c.gather_ends.new.workers c.args.j c.meet_owner.new.worker _ c.requires.yard c.requires.inside c.gather_ends.ensures.gathered
-
-pub give_ends-requires-clause-numbers : goal.give_ends-requires-clause-numbers
-give_ends-requires-clause-numbers c =
-    let us = c.gather_ends.new.workers in
-    let g = c.gather_ends.ensures.gathered in
-    let b : QueueWorker = get_or us c.args.j c.index-workers-j.result in
-    let len = sym (length-set us c.args.j c.meet_owner.new.worker ∙ g.count) in
-    numbers_still c.args.workers.now c.args.j b c.meet_owner.new.worker _ _ c.requires.yard (owner_there _ _ _ _ c.index-workers-j.result g c.requires.inside) c.meet_owner.ensures.met ∙ (λ t. below_but c.args.j (len t))
+pub give_ends-requires : goal.give_ends-requires
+give_ends-requires g c = (
+  omega arith,
+  (
+    omega arith,
+    (
+      slots_still c.args.workers.now c.gather_ends.new.workers c.args.j c.meet_owner.new.worker _ c.requires.yard c.requires.inside c.gather_ends.ensures.gathered,
+      let us = c.gather_ends.new.workers in
+          let whole = c.gather_ends.ensures.gathered in
+          let b : QueueWorker g.row.SLI = get_or us c.args.j c.index-workers-j.result in
+          let len = sym (length-set us c.args.j c.meet_owner.new.worker ∙ whole.count) in
+          numbers_still c.args.workers.now c.args.j b c.meet_owner.new.worker _ _ c.requires.yard (owner_there _ _ _ _ c.index-workers-j.result whole c.requires.inside) c.meet_owner.ensures.met ∙ (λ t. below_but c.args.j (len t)),
+    ),
+  ),
+)
 
 pub returns-clause-settled : goal.returns-clause-settled
-returns-clause-settled c =
+returns-clause-settled g c =
     let us = c.gather_ends.new.workers in
     let w = c.meet_owner.new.worker in
     let qs = c.meet_owner.new.posters.items in
-    let g = c.gather_ends.ensures.gathered in
-    let b : QueueWorker = get_or us c.args.j c.index-workers-j.result in
-    let len = length-set us c.args.j w ∙ g.count in
+    let whole = c.gather_ends.ensures.gathered in
+    let b : QueueWorker g.row.SLI = get_or us c.args.j c.index-workers-j.result in
+    let len = length-set us c.args.j w ∙ whole.count in
     queue_settled c.args.workers.now us c.args.j b w c.gather_ends.new.posters.items qs c.give_ends.new.workers (record {
       yard = c.requires.yard;
-      owner = owner_there _ _ _ _ c.index-workers-j.result g c.requires.inside;
-      gathered = g;
+      owner = owner_there _ _ _ _ c.index-workers-j.result whole c.requires.inside;
+      gathered = whole;
       met = c.meet_owner.ensures.met;
       same = c.meet_owner.ensures.same;
       gave = subst (λ (k : ℕ). GaveEnds (set us c.args.j w) c.args.j k qs c.give_ends.new.workers) len c.give_ends.ensures.gave;

@@ -2,4 +2,4 @@ use Rattle.tlsf_crew.proofs.lemmas.threads.RecordHistory.{race_tells, race_runs,
 use Rattle.tlsf_crew.proofs.threads.laws.one_history_of_a_race.Goals as goal
 
 pub returns : goal.returns
-returns c = record { told = race_tells; heaps = race_runs; posts = race_posts; lawful = race_lawful; always_lawful = λ w v scripts records race before later j lawful j_in. race_always w v scripts records race before later j (lawful j j_in) j_in }
+returns c = record { told = λ sli. race_tells; heaps = λ sli. race_runs; posts = λ sli. race_posts; lawful = λ sli. race_lawful; always_lawful = λ sli w v scripts records race before later j lawful j_in. race_always w v scripts records race before later j lawful.0 (lawful.1 j j_in) j_in }

@@ -3,7 +3,7 @@ use Rattle.tlsf_crew.proofs.lemmas.yard.Gathering.{prepared}
 use Rattle.tlsf_crew.proofs.threads.preparation.make_job.Goals as goal
 
 pub returns : goal.returns
-returns c = (
+returns g c = (
   refl,
   refl,
   prepared c.args.count c.args.releases.now c.limits_for-limits.result c.args.worker c.args.script c.in_ok-made.made c.in_ok-made.entries

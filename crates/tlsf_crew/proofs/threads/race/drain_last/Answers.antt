@@ -5,16 +5,27 @@ use Rattle.tlsf_crew.proofs.lemmas.threads.RecordRooms.{keeps_set}
 use Rattle.tlsf_crew.proofs.lemmas.yard.Slots.{get_set_other}
 use Rattle.tlsf_crew.proofs.threads.race.drain_last.Goals as goal
 
-pub drain_one-requires-clause-room : goal.drain_one-requires-clause-room
-drain_one-requires-clause-room c =
-    let r = c.index-records-j.result in
-    let j = c.loop-j.j in
-    let here : slice_get c.loop-j.records j ≡ Some r = slice_get-get_or c.loop-j.records j r (omega arith) ∙ ap Some (sym c.index-records-j.is) in
-    let there : slice_get c.args.records.now j ≡ Some r = sym (c.loop-j.invariant.later j (omega arith)) ∙ here in
-    rw (sym c.index-records-j.is) (room_next _ _ _ _ j r c.loop-j.invariant.last (c.requires.room j r there))
+pub drain_one-requires : goal.drain_one-requires
+drain_one-requires g c = (
+  omega arith,
+  (
+    c.loop-j.invariant.last.yard,
+    (
+      omega (arith, c.loop-j.invariant.last.worker_count),
+      (
+        λ i. rw (c.loop-j.invariant.last.later_waits i c.loop-j.j (omega arith)) (c.requires.few c.loop-j.j i),
+        let r = c.index-records-j.result in
+            let j = c.loop-j.j in
+            let here : slice_get c.loop-j.records j ≡ Some r = slice_get-get_or c.loop-j.records j r (omega arith) ∙ ap Some (sym c.index-records-j.is) in
+            let there : slice_get c.args.records.now j ≡ Some r = sym (c.loop-j.invariant.later j (omega arith)) ∙ here in
+            rw (sym c.index-records-j.is) (room_next _ _ _ _ j r c.loop-j.invariant.last (c.requires.room j r there)),
+      ),
+    ),
+  ),
+)
 
 pub loop-j-init : goal.loop-j-init
-loop-j-init c = record {
+loop-j-init g c = record {
   last = record {
     yard = c.requires.yard;
     worker_count = refl;
@@ -30,7 +41,7 @@ loop-j-init c = record {
 }
 
 pub loop-j-preserved : goal.loop-j-preserved
-loop-j-preserved c =
+loop-j-preserved g c =
     let r = c.index-records-j.result in
     let j = c.loop-j.j in
     let here : slice_get c.loop-j.records j ≡ Some r = slice_get-get_or c.loop-j.records j r (omega arith) ∙ ap Some (sym c.index-records-j.is) in
@@ -41,12 +52,3 @@ loop-j-preserved c =
       rooms = keeps_set _ _ j r c.drain_one.new.entries c.loop-j.invariant.rooms (omega arith) here (rw (sym c.index-records-j.is) at c.drain_one.ensures.capacity);
       later = λ k le. get_set_other c.loop-j.records j k c.drain_one.new.entries (λ e. omega arith) ∙ c.loop-j.invariant.later k (omega arith);
     }
-
-pub drain_one-requires-clause-yard : goal.drain_one-requires-clause-yard
-drain_one-requires-clause-yard c = c.loop-j.invariant.last.yard
-
-pub drain_one-requires-clause-inside : goal.drain_one-requires-clause-inside
-drain_one-requires-clause-inside c = omega (arith, c.loop-j.invariant.last.worker_count)
-
-pub drain_one-requires-clause-few : goal.drain_one-requires-clause-few
-drain_one-requires-clause-few c = λ i. rw (c.loop-j.invariant.last.later_waits i c.loop-j.j (omega arith)) (c.requires.few c.loop-j.j i)

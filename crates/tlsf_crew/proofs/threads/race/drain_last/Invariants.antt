@@ -3,7 +3,7 @@ use Rattle.tlsf_crew.specs.threads.Parts.{LastDrained, KeepRooms}
 use Rattle.tlsf_crew.proofs.threads.race.drain_last.Given as goal
 
 abbrev pub invariant-loop-j : goal.invariant-loop-j
-invariant-loop-j l = record {
+invariant-loop-j g l = record {
   last : LastDrained l.fn.workers (map (λ r. r.items) l.fn.records) (map (λ r. r.items) l.records) l.workers l.j;
   rooms : KeepRooms l.fn.records l.records;
   later : (k : ℕ) → l.j ≤ k → slice_get l.records k ≡ slice_get l.fn.records k;

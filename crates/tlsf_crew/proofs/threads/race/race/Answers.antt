@@ -1,3 +1,4 @@
+use denote.Param.Send.{sendable}
 use Rattle.std.proofs.Common.{◌++◌, ap, length, map, take, drop, sym, arith}
 use Rattle.std.specs.declared.vec.Vec.{Vec}
 use Rattle.std.specs.declared.alloc.Global.{Global}
@@ -7,22 +8,36 @@ use Rattle.tlsf_crew.proofs.lemmas.threads.WholeRace.{met_few, last_rooms, race_
 use Rattle.tlsf_crew.proofs.lemmas.threads.RecordRooms.{record_rooms}
 use Rattle.tlsf_crew.proofs.threads.race.race.Goals as goal
 
-pub drain_last-requires-clause-few : goal.drain_last-requires-clause-few
-drain_last-requires-clause-few g c =
+pub drain_last-requires : goal.drain_last-requires
+drain_last-requires g c = (
+  omega arith,
+  (
     let us = c.settle-2.new.workers in
-    let back = written_back c.in_ok-outcome.outcome.workers.len us c.in_ok-outcome.outcome.workers.items (omega (arith, c.settle-2.ensures.count, c.deref_mut-2.ensures.len)) in
-    rw (c.deref_mut-3.ensures.value, back) (met_few _ us c.settle-2.ensures.count c.settle-2.ensures.met c.settle-2.ensures.yard)
-
-pub drain_last-requires-clause-room : goal.drain_last-requires-clause-room
-drain_last-requires-clause-room g c =
-    let ws = c.settle.new.workers in
-    let us = c.settle-2.new.workers in
-    let first = written_back c.args.workers.len ws c.args.workers.items (omega (arith, c.settle.ensures.count, c.deref_mut.ensures.len)) in
-    let back = written_back c.in_ok-outcome.outcome.workers.len us c.in_ok-outcome.outcome.workers.items (omega (arith, c.settle-2.ensures.count, c.deref_mut-2.ensures.len)) in
-    let run = rw (first, sym c.deref_mut-2.ensures.value) at c.in_ok-outcome.ensures.run in
-    let rooms = rw first at c.in_ok-outcome.ensures.rooms in
-    rw (c.deref_mut-3.ensures.value, back, c.deref_mut-4.ensures.value) (last_rooms c.deref_mut.result.now ws c.deref_mut-2.result.now us (map (λ s. s.items) c.args.scripts.items) c.in_ok-outcome.outcome.records.items
-    c.settle.ensures.count c.settle.ensures.met c.settle.ensures.yard run rooms c.settle-2.ensures.count c.settle-2.ensures.met c.settle-2.ensures.yard c.settle-2.ensures.world)
+        let back = written_back c.in_ok-outcome.outcome.workers.len us c.in_ok-outcome.outcome.workers.items (omega (arith, c.settle-2.ensures.count, c.deref_mut-2.ensures.len)) in
+        rw (c.deref_mut-3.ensures.value, back) c.settle-2.ensures.yard,
+    (
+      let us = c.settle-2.new.workers in
+          let out = c.in_ok-outcome.outcome in
+          let run = c.in_ok-outcome.ensures.run in
+          let records = length-map out.records.items (λ (r : Vec Entry Global). r.items) in
+          let workers = ap length c.deref_mut-2.ensures.value in
+          let back = written_back out.workers.len us out.workers.items (omega (arith, c.settle-2.ensures.count, c.deref_mut-2.ensures.len)) in
+          rw (c.deref_mut-3.ensures.value, back, c.deref_mut-4.ensures.value) (omega (arith, run.worker_count, run.record_count, records, workers, c.settle-2.ensures.count)),
+      (
+        let us = c.settle-2.new.workers in
+            let back = written_back c.in_ok-outcome.outcome.workers.len us c.in_ok-outcome.outcome.workers.items (omega (arith, c.settle-2.ensures.count, c.deref_mut-2.ensures.len)) in
+            rw (c.deref_mut-3.ensures.value, back) (met_few _ us c.settle-2.ensures.count c.settle-2.ensures.met c.settle-2.ensures.yard),
+        let ws = c.settle.new.workers in
+            let us = c.settle-2.new.workers in
+            let first = written_back c.args.workers.len ws c.args.workers.items (omega (arith, c.settle.ensures.count, c.deref_mut.ensures.len)) in
+            let back = written_back c.in_ok-outcome.outcome.workers.len us c.in_ok-outcome.outcome.workers.items (omega (arith, c.settle-2.ensures.count, c.deref_mut-2.ensures.len)) in
+            let run = rw (first, sym c.deref_mut-2.ensures.value) at c.in_ok-outcome.ensures.run in
+            let rooms = rw first at c.in_ok-outcome.ensures.rooms in
+            rw (c.deref_mut-3.ensures.value, back, c.deref_mut-4.ensures.value) (last_rooms c.deref_mut.result.now ws c.deref_mut-2.result.now us (map (λ s. s.items) c.args.scripts.items) c.in_ok-outcome.outcome.records.items c.settle.ensures.count c.settle.ensures.met c.settle.ensures.yard run rooms c.settle-2.ensures.count c.settle-2.ensures.met c.settle-2.ensures.yard c.settle-2.ensures.world),
+      ),
+    ),
+  ),
+)
 
 pub returns : goal.returns
 returns g c =
@@ -53,33 +68,27 @@ returns g c =
     }
 
 pub settle-requires : goal.settle-requires
-settle-requires g c = rw c.deref_mut.ensures.value c.requires.yard
+settle-requires g c =
+    (omega arith, rw c.deref_mut.ensures.value c.requires.yard)
 
-pub run_scripts-requires-clause-yard : goal.run_scripts-requires-clause-yard
-run_scripts-requires-clause-yard g c κs within =
-    rw (written_back c.args.workers.len c.settle.new.workers c.args.workers.items (omega (arith, c.settle.ensures.count, c.deref_mut.ensures.len))) c.settle.ensures.yard
-
-pub run_scripts-requires-clause-count : goal.run_scripts-requires-clause-count
-run_scripts-requires-clause-count g c κs within = c.requires.count
-
-pub run_scripts-requires-clause-short : goal.run_scripts-requires-clause-short
-run_scripts-requires-clause-short g c κs within = c.requires.short
+pub run_scripts-requires : goal.run_scripts-requires
+run_scripts-requires g c = (
+  search sendable,
+  (
+    search sendable,
+    (
+      omega arith,
+      (
+        omega arith,
+        (
+          rw (written_back c.args.workers.len c.settle.new.workers c.args.workers.items (omega (arith, c.settle.ensures.count, c.deref_mut.ensures.len))) c.settle.ensures.yard,
+          (c.requires.count, c.requires.short),
+        ),
+      ),
+    ),
+  ),
+)
 
 pub settle-requires-2 : goal.settle-requires-2
-settle-requires-2 g c = rw c.deref_mut-2.ensures.value c.in_ok-outcome.ensures.run.yard
-
-pub drain_last-requires-clause-yard : goal.drain_last-requires-clause-yard
-drain_last-requires-clause-yard g c =
-    let us = c.settle-2.new.workers in
-    let back = written_back c.in_ok-outcome.outcome.workers.len us c.in_ok-outcome.outcome.workers.items (omega (arith, c.settle-2.ensures.count, c.deref_mut-2.ensures.len)) in
-    rw (c.deref_mut-3.ensures.value, back) c.settle-2.ensures.yard
-
-pub drain_last-requires-clause-count : goal.drain_last-requires-clause-count
-drain_last-requires-clause-count g c =
-    let us = c.settle-2.new.workers in
-    let out = c.in_ok-outcome.outcome in
-    let run = c.in_ok-outcome.ensures.run in
-    let records = length-map out.records.items (λ (r : Vec Entry Global). r.items) in
-    let workers = ap length c.deref_mut-2.ensures.value in
-    let back = written_back out.workers.len us out.workers.items (omega (arith, c.settle-2.ensures.count, c.deref_mut-2.ensures.len)) in
-    rw (c.deref_mut-3.ensures.value, back, c.deref_mut-4.ensures.value) (omega (arith, run.worker_count, run.record_count, records, workers, c.settle-2.ensures.count))
+settle-requires-2 g c =
+    (omega arith, rw c.deref_mut-2.ensures.value c.in_ok-outcome.ensures.run.yard)

@@ -24,25 +24,26 @@ returns-clause-rooms g c =
     c.take_apart.new.out.records.items c.in_ok-jobs.ensures.workers c.in_ok-jobs.ensures.scripts
     c.take_apart.ensures.parts.1 (rw c.deref.ensures.value at c.count_all-releases.ensures) c.in_ok-jobs.ensures.ready c.in_ok-done.ensures.done
 
-pub prepare-requires-clause-yard : goal.prepare-requires-clause-yard
-prepare-requires-clause-yard g c = c.requires.yard
-
-pub prepare-requires-clause-count : goal.prepare-requires-clause-count
-prepare-requires-clause-count g c = c.requires.count
-
-pub prepare-requires-clause-short : goal.prepare-requires-clause-short
-prepare-requires-clause-short g c = c.requires.short
+pub prepare-requires : goal.prepare-requires
+prepare-requires g c =
+    (omega arith, (omega arith, (c.requires.yard, (c.requires.count, c.requires.short))))
 
 pub count_all-releases-requires-clause-short : goal.count_all-releases-requires-clause-short
 count_all-releases-requires-clause-short g c = rw c.deref.ensures.value c.requires.short
 
-pub take_apart-requires-clause-empty : goal.take_apart-requires-clause-empty
-take_apart-requires-clause-empty g c = c.in_ok-outcome.ensures.empty
-
-pub take_apart-requires-clause-room : goal.take_apart-requires-clause-room
-take_apart-requires-clause-room g c = (
-  omega (arith, c.in_ok-done.ensures.len, c.len.ensures, c.in_ok-outcome.ensures.room.0),
-  omega (arith, c.in_ok-done.ensures.len, c.len.ensures, c.in_ok-outcome.ensures.room.1),
+pub take_apart-requires : goal.take_apart-requires
+take_apart-requires g c = (
+  omega arith,
+  (
+    omega arith,
+    (
+      c.in_ok-outcome.ensures.empty,
+      (
+        omega (arith, c.in_ok-done.ensures.len, c.len.ensures, c.in_ok-outcome.ensures.room.0),
+        omega (arith, c.in_ok-done.ensures.len, c.len.ensures, c.in_ok-outcome.ensures.room.1),
+      ),
+    ),
+  ),
 )
 
 pub count_all-releases-requires-clause-few : goal.count_all-releases-requires-clause-few

@@ -4,13 +4,13 @@ use Rattle.tlsf_crew.proofs.lemmas.yard.ScriptCalls.{step_called, step_room}
 use Rattle.tlsf_crew.proofs.yard.executor.run_call.Goals as goal
 
 pub answer-requires-clause-room : goal.answer-requires-clause-room
-answer-requires-clause-room c =
+answer-requires-clause-room g c =
     let r = step_room _ _ _ _ _ _ _ _ _ _ c.reply_to-reply.ensures.stepped in
     let capacity = c.reply_to-reply.ensures.capacity in
     omega (arith, c.requires.room)
 
 pub returns-clause-called : goal.returns-clause-called
-returns-clause-called c =
+returns-clause-called g c =
     let v = c.reply_to-reply.new.worker in
     let left = c.reply_to-reply.new.journal.limits in
     let between = c.reply_to-reply.new.journal.entries.items in

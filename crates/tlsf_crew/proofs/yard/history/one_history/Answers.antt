@@ -4,9 +4,9 @@ use Rattle.tlsf_crew.proofs.yard.history.one_history.Goals as goal
 
 pub returns : goal.returns
 returns c = record {
-  told = λ w es. (replies_tell w es).told;
-  heaps = λ w es j j_in. (replies_tell w es).history.heaps j j_in;
-  posts = λ w es i j. (replies_tell w es).history.posts i j;
-  lawful = replies_lawful;
-  always_lawful = replies_always;
+  told = λ sli w es. (replies_tell w es).told;
+  heaps = λ sli w es j j_in. (replies_tell w es).history.heaps j j_in;
+  posts = λ sli w es i j. (replies_tell w es).history.posts i j;
+  lawful = λ sli. replies_lawful;
+  always_lawful = λ sli. replies_always;
 }

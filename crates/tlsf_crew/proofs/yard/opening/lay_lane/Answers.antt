@@ -6,7 +6,7 @@ use Rattle.tlsf_crew.proofs.lemmas.yard.NewLanes.{lane_laid}
 use Rattle.tlsf_crew.proofs.yard.opening.lay_lane.Goals as goal
 
 pub returns : goal.returns
-returns c =
+returns g c =
     let us = set c.args.workers.now c.args.i c.put_post_end.new.worker in
     let n = length-set c.args.workers.now c.args.i c.put_post_end.new.worker in
     let j_in : c.args.j < length us = omega (arith, c.requires.inside.1) in
@@ -16,16 +16,20 @@ returns c =
     c.in_ok-post.ensures.lane c.in_ok-post.ensures.post.2 c.in_ok-post.ensures.post.1 c.in_ok-post.ensures.post.0 c.in_ok-post.ensures.take
 
 pub put_post_end-requires : goal.put_post_end-requires
-put_post_end-requires c =
-    let ws = c.args.workers.now in
-    let a : Worker = get_or ws c.args.i c.index-workers-i.result in
-    let s = c.requires.laid.slots c.args.i a (slice_get-get_or ws c.args.i c.index-workers-i.result c.requires.inside.0) in
-    omega (arith, a.posts.ok, s.0, c.requires.inside.1)
+put_post_end-requires g c = (
+  omega arith,
+  let ws = c.args.workers.now in
+      let a : Worker g.row.SLI = get_or ws c.args.i c.index-workers-i.result in
+      let s = c.requires.laid.slots c.args.i a (slice_get-get_or ws c.args.i c.index-workers-i.result c.requires.inside.0) in
+      omega (arith, a.posts.ok, s.0, c.requires.inside.1),
+)
 
 pub put_take_end-requires : goal.put_take_end-requires
-put_take_end-requires c =
-    let ws = c.args.workers.now in
-    let d = c.index-workers-j.result in
-    let a : Worker = get_or ws c.args.j d in
-    let s = c.requires.laid.slots c.args.j a (slice_get-get_or ws c.args.j d c.requires.inside.1) in
-    rw (get_or-set_other ws c.args.i c.args.j c.put_post_end.new.worker d (λ e. c.requires.apart (sym e))) (omega (arith, a.takes.ok, s.1, c.requires.inside.0))
+put_take_end-requires g c = (
+  omega arith,
+  let ws = c.args.workers.now in
+      let d = c.index-workers-j.result in
+      let a : Worker g.row.SLI = get_or ws c.args.j d in
+      let s = c.requires.laid.slots c.args.j a (slice_get-get_or ws c.args.j d c.requires.inside.1) in
+      rw (get_or-set_other ws c.args.i c.args.j c.put_post_end.new.worker d (λ e. c.requires.apart (sym e))) (omega (arith, a.takes.ok, s.1, c.requires.inside.0)),
+)

@@ -3,10 +3,10 @@ use Rattle.tlsf_crew.specs.yard.NewLanes.{IsLaid}
 use Rattle.tlsf_crew.proofs.yard.opening.lay_lanes.Goals as goal
 
 pub loop-i-preserved : goal.loop-i-preserved
-loop-i-preserved c = rw (← c.loop-i.invariant.len) c.in_ok-lay_row.ensures
+loop-i-preserved g c = rw (← c.loop-i.invariant.len) c.in_ok-lay_row.ensures
 
 pub returns : goal.returns
-returns c =
+returns g c =
     let n = length c.args.workers.now in
     let i = c.loop-i.invariant in
     let e : c.loop-i.i ≡ n = omega (arith, i.len) in

@@ -3,4 +3,4 @@ use Rattle.tlsf_crew.specs.yard.NewLanes.{IsLaid}
 use Rattle.tlsf_crew.proofs.yard.opening.lay_lanes.Given as goal
 
 abbrev pub invariant-loop-i : goal.invariant-loop-i
-invariant-loop-i l = IsLaid l.workers (length l.fn.workers) l.words l.capacity l.i 0
+invariant-loop-i g l = IsLaid l.workers (length l.fn.workers) l.words l.capacity l.i 0

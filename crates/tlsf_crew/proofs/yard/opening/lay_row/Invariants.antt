@@ -3,4 +3,4 @@ use Rattle.tlsf_crew.specs.yard.NewLanes.{IsLaid}
 use Rattle.tlsf_crew.proofs.yard.opening.lay_row.Given as goal
 
 abbrev pub invariant-loop-j : goal.invariant-loop-j
-invariant-loop-j l = IsLaid l.workers (length l.fn.workers) l.words l.capacity l.i l.j
+invariant-loop-j g l = IsLaid l.workers (length l.fn.workers) l.words l.capacity l.i l.j

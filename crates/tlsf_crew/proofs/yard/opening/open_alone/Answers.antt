@@ -7,7 +7,7 @@ use Rattle.tlsf_crew.proofs.lemmas.yard.NewLanes.{map_push, alone_push, alone_la
 use Rattle.tlsf_crew.proofs.yard.opening.open_alone.Goals as goal
 
 pub loop-id-preserved : goal.loop-id-preserved
-loop-id-preserved c =
+loop-id-preserved g c =
     let i = c.loop-id.invariant in
     let own = c.in_ok-open_worker.ensures in
     let e = c.push_reserved.ensures.items in
@@ -20,7 +20,7 @@ loop-id-preserved c =
     }
 
 pub returns : goal.returns
-returns c =
+returns g c =
     let i = c.loop-id.invariant in
     let e : c.loop-id.id ≡ c.args.n = omega arith in
     let len : length c.loop-id.workers.items ≡ c.args.n = search rules in

@@ -6,7 +6,7 @@ use Rattle.tlsf_crew.proofs.lemmas.yard.NewLanes.{AreAlone}
 use Rattle.tlsf_crew.proofs.yard.opening.open_alone.Given as goal
 
 abbrev pub invariant-loop-id : goal.invariant-loop-id
-invariant-loop-id l = record {
+invariant-loop-id g l = record {
   count : vec_len l.workers ≡ l.id;
   room : l.n ≤ vec_capacity l.workers;
   heaps : map heap_of l.workers.items ≡ opened_heaps l.id l.words;

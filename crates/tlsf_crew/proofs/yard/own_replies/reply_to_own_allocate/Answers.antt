@@ -4,16 +4,16 @@ use Rattle.tlsf_crew.proofs.yard.own_replies.reply_to_own_allocate.Goals as goal
 
 pub returns-in-Ok-clause-reply : goal.returns-in-Ok-clause-reply
 unfolding allocated
-returns-in-Ok-clause-reply c = made_ok _ c.in-Ok.name c.in-Ok.ensures.answer
+returns-in-Ok-clause-reply g c = made_ok _ c.in-Ok.name c.in-Ok.ensures.answer
 
 pub returns-in-Ok-clause-heap : goal.returns-in-Ok-clause-heap
 unfolding allocated
-returns-in-Ok-clause-heap c = c.in-Ok.ensures.heap
+returns-in-Ok-clause-heap g c = c.in-Ok.ensures.heap
 
 pub returns-in-Err-clause-reply : goal.returns-in-Err-clause-reply
 unfolding allocated
-returns-in-Err-clause-reply c = made_err _ c.in-Err.why c.in-Err.ensures.answer
+returns-in-Err-clause-reply g c = made_err _ c.in-Err.why c.in-Err.ensures.answer
 
 pub returns-in-Err-clause-heap : goal.returns-in-Err-clause-heap
 unfolding allocated
-returns-in-Err-clause-heap c = c.in-Err.ensures.heap
+returns-in-Err-clause-heap g c = c.in-Err.ensures.heap

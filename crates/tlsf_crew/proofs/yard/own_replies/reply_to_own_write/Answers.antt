@@ -6,19 +6,19 @@ use Rattle.tlsf_crew.proofs.lemmas.yard.OwnReplied.{none_replied, write_replied}
 use Rattle.tlsf_crew.proofs.yard.own_replies.reply_to_own_write.Goals as goal
 
 pub returns-in_default-clause-reply : goal.returns-in_default-clause-reply
-returns-in_default-clause-reply c = let x = none_replied c.args.heap.now.heap _ (λ o. own_writing c.args.heap.now.heap o c.args.from (bytes_of c.args.bytes)) c.in_default.ensures refl in x.same
+returns-in_default-clause-reply g c = let x = none_replied c.args.heap.now.heap _ (λ o. own_writing c.args.heap.now.heap o c.args.from (bytes_of c.args.bytes)) c.in_default.ensures refl in x.same
 
 pub returns-in_default-clause-heap : goal.returns-in_default-clause-heap
-returns-in_default-clause-heap c = let x = none_replied c.args.heap.now.heap _ (λ o. own_writing c.args.heap.now.heap o c.args.from (bytes_of c.args.bytes)) c.in_default.ensures refl in x.left
+returns-in_default-clause-heap g c = let x = none_replied c.args.heap.now.heap _ (λ o. own_writing c.args.heap.now.heap o c.args.from (bytes_of c.args.bytes)) c.in_default.ensures refl in x.left
 
 pub returns-in-Ok-clause-reply : goal.returns-in-Ok-clause-reply
-returns-in-Ok-clause-reply c = let x = write_replied c.args.heap.now.heap _ _ c.in-Some.name c.args.from c.as_slice-list.result.now _ _ c.in-Some.ensures c.as_slice-list.ensures.bytes (wrote_ok _ c.in-Ok.field-0 (length c.as_slice-list.result.now) c.in-Ok.ensures.answer) c.in-Ok.ensures.heap in x.same
+returns-in-Ok-clause-reply g c = let x = write_replied c.args.heap.now.heap _ _ c.in-Some.name c.args.from c.as_slice-list.result.now _ _ c.in-Some.ensures c.as_slice-list.ensures.bytes (wrote_ok _ c.in-Ok.field-0 (length c.as_slice-list.result.now) c.in-Ok.ensures.answer) c.in-Ok.ensures.heap in x.same
 
 pub returns-in-Ok-clause-heap : goal.returns-in-Ok-clause-heap
-returns-in-Ok-clause-heap c = let x = write_replied c.args.heap.now.heap _ _ c.in-Some.name c.args.from c.as_slice-list.result.now _ _ c.in-Some.ensures c.as_slice-list.ensures.bytes (wrote_ok _ c.in-Ok.field-0 (length c.as_slice-list.result.now) c.in-Ok.ensures.answer) c.in-Ok.ensures.heap in x.left
+returns-in-Ok-clause-heap g c = let x = write_replied c.args.heap.now.heap _ _ c.in-Some.name c.args.from c.as_slice-list.result.now _ _ c.in-Some.ensures c.as_slice-list.ensures.bytes (wrote_ok _ c.in-Ok.field-0 (length c.as_slice-list.result.now) c.in-Ok.ensures.answer) c.in-Ok.ensures.heap in x.left
 
 pub returns-in-Err-clause-reply : goal.returns-in-Err-clause-reply
-returns-in-Err-clause-reply c = let x = write_replied c.args.heap.now.heap _ _ c.in-Some.name c.args.from c.as_slice-list.result.now _ _ c.in-Some.ensures c.as_slice-list.ensures.bytes (wrote_err _ c.in-Err.why (length c.as_slice-list.result.now) c.in-Err.ensures.answer) c.in-Err.ensures.heap in x.same
+returns-in-Err-clause-reply g c = let x = write_replied c.args.heap.now.heap _ _ c.in-Some.name c.args.from c.as_slice-list.result.now _ _ c.in-Some.ensures c.as_slice-list.ensures.bytes (wrote_err _ c.in-Err.why (length c.as_slice-list.result.now) c.in-Err.ensures.answer) c.in-Err.ensures.heap in x.same
 
 pub returns-in-Err-clause-heap : goal.returns-in-Err-clause-heap
-returns-in-Err-clause-heap c = let x = write_replied c.args.heap.now.heap _ _ c.in-Some.name c.args.from c.as_slice-list.result.now _ _ c.in-Some.ensures c.as_slice-list.ensures.bytes (wrote_err _ c.in-Err.why (length c.as_slice-list.result.now) c.in-Err.ensures.answer) c.in-Err.ensures.heap in x.left
+returns-in-Err-clause-heap g c = let x = write_replied c.args.heap.now.heap _ _ c.in-Some.name c.args.from c.as_slice-list.result.now _ _ c.in-Some.ensures c.as_slice-list.ensures.bytes (wrote_err _ c.in-Err.why (length c.as_slice-list.result.now) c.in-Err.ensures.answer) c.in-Err.ensures.heap in x.left

@@ -4,24 +4,22 @@ use Rattle.tlsf_crew.proofs.lemmas.yard.Halves.{low_is, high_is, low_first, high
 use Rattle.tlsf_crew.proofs.yard.pairs.settle_lane.Goals as goal
 
 pub settle_pair-requires : goal.settle_pair-requires
-settle_pair-requires c =
-    let r = in_yard c.args.workers.now c.args.i c.args.j c.requires.lane in
-    rw (
-      low_is c.args.workers.now c.split_at_mut-low.result.0.now c.args.i c.args.j r.0 c.index-low-i.result c.split_at_mut-low.ensures.front c.if-i-j.true r.2,
-      high_is c.args.workers.now c.split_at_mut-low.result.1.now c.args.j r.1 c.index-high-0.result c.split_at_mut-low.ensures.back r.3,
-    ) r.4
+settle_pair-requires g c = (
+  omega arith,
+  let r = in_yard c.args.workers.now c.args.i c.args.j c.requires.lane in
+      rw (low_is c.args.workers.now c.split_at_mut-low.result.0.now c.args.i c.args.j r.0 c.index-low-i.result c.split_at_mut-low.ensures.front c.if-i-j.true r.2, high_is c.args.workers.now c.split_at_mut-low.result.1.now c.args.j r.1 c.index-high-0.result c.split_at_mut-low.ensures.back r.3) r.4,
+)
 
 pub settle_pair-requires-else-i-j : goal.settle_pair-requires-else-i-j
-settle_pair-requires-else-i-j c =
-    let r = in_yard c.args.workers.now c.args.i c.args.j c.requires.lane in
-    let lt : c.args.j < c.args.i = grind (arith) in
-    rw (
-      high_is c.args.workers.now c.split_at_mut-low-else-i-j.result.1.now c.args.i r.0 c.index-high-0-else-i-j.result c.split_at_mut-low-else-i-j.ensures.back r.2,
-      low_is c.args.workers.now c.split_at_mut-low-else-i-j.result.0.now c.args.j c.args.i r.1 c.index-low-j.result c.split_at_mut-low-else-i-j.ensures.front lt r.3,
-    ) r.4
+settle_pair-requires-else-i-j g c = (
+  omega arith,
+  let r = in_yard c.args.workers.now c.args.i c.args.j c.requires.lane in
+      let lt : c.args.j < c.args.i = grind (arith) in
+      rw (high_is c.args.workers.now c.split_at_mut-low-else-i-j.result.1.now c.args.i r.0 c.index-high-0-else-i-j.result c.split_at_mut-low-else-i-j.ensures.back r.2, low_is c.args.workers.now c.split_at_mut-low-else-i-j.result.0.now c.args.j c.args.i r.1 c.index-low-j.result c.split_at_mut-low-else-i-j.ensures.front lt r.3) r.4,
+)
 
 pub returns-then-i-j : goal.returns-then-i-j
-returns-then-i-j c =
+returns-then-i-j g c =
     let r = in_yard c.args.workers.now c.args.i c.args.j c.requires.lane in
     let s = c.split_at_mut-low in
     record {
@@ -40,7 +38,7 @@ returns-then-i-j c =
     }
 
 pub returns-else-i-j : goal.returns-else-i-j
-returns-else-i-j c =
+returns-else-i-j g c =
     let r = in_yard c.args.workers.now c.args.i c.args.j c.requires.lane in
     let s = c.split_at_mut-low-else-i-j in
     let lt : c.args.j < c.args.i = grind (arith) in

@@ -4,15 +4,20 @@ use Rattle.tlsf_crew.specs.yard.Counts.{waiting_in, entry_room}
 use Rattle.tlsf_crew.proofs.lemmas.yard.Pending.{all_ready}
 use Rattle.tlsf_crew.proofs.yard.replay.replay_behind.Goals as goal
 
-pub replay_within-requires-clause-room : goal.replay_within-requires-clause-room
-replay_within-requires-clause-room c =
+pub replay_within-requires : goal.replay_within-requires
+replay_within-requires g c = (
+  omega arith,
+  (
+    c.settle.ensures.yard,
     let vs = c.settle.new.workers in
-    let s = c.settle.ensures in
-    let b = all_ready c.args.workers.now vs s.count s.met s.yard in
-    omega (arith, c.room_for-room.ensures)
+        let s = c.settle.ensures in
+        let b = all_ready c.args.workers.now vs s.count s.met s.yard in
+        omega (arith, c.room_for-room.ensures),
+  ),
+)
 
 pub returns-clause-room : goal.returns-clause-room
-returns-clause-room c =
+returns-clause-room g c =
     let vs = c.settle.new.workers in
     let s = c.settle.ensures in
     let b = all_ready c.args.workers.now vs s.count s.met s.yard in

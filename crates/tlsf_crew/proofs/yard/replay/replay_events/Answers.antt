@@ -1,4 +1,4 @@
-use Rattle.std.proofs.Common.{◌≡◌, List, arith, Result, Ok, Err, IfOk, OnOk}
+use Rattle.std.proofs.Common.{ℕ, ◌≡◌, List, arith, Result, Ok, Err, IfOk, OnOk}
 use Rattle.tlsf_crew.specs.yard.World.{world_of, replies}
 use Rattle.tlsf_crew.specs.declared.yard.worker.Worker.{Worker}
 use Rattle.tlsf_crew.specs.yard.Yard.{IsYard}
@@ -9,7 +9,7 @@ use Rattle.tlsf_crew.proofs.lemmas.yard.FairLists.{no_stale}
 use Rattle.tlsf_crew.proofs.yard.replay.replay_events.Goals as goal
 
 -- in a whole yard each heap has the number of its worker
-yard_ids : (ws : List Worker) → IsYard ws → HasIds (world_of ws)
+yard_ids : {sli : ℕ} (ws : List (Worker sli)) → IsYard ws → HasIds (world_of ws)
 unfolding world_of
 yard_ids ws yard =
     let n = heaps_count ws in
@@ -20,7 +20,7 @@ both_of (Ok x) P Q R f p q = f x p q
 both_of (Err y) P Q R f p q = tt
 
 pub returns-clause-no_stale : goal.returns-clause-no_stale
-returns-clause-no_stale c =
+returns-clause-no_stale g c =
     λ run.
     let a = no_stale (world_of c.args.workers.now) c.args.events.now (yard_ids c.args.workers.now c.requires) run in
     let w = world_of c.args.workers.now in
@@ -31,7 +31,7 @@ returns-clause-no_stale c =
     (λ es e left. rw (e, left) a) entries world
 
 pub returns-clause-entries : goal.returns-clause-entries
-returns-clause-entries c = rw (c.new-made.ensures.items, replies_alone (world_of c.args.workers.now) c.args.events.now) at c.replay_behind.ensures.entries
+returns-clause-entries g c = rw (c.new-made.ensures.items, replies_alone (world_of c.args.workers.now) c.args.events.now) at c.replay_behind.ensures.entries
 
 pub returns-clause-world : goal.returns-clause-world
-returns-clause-world c = rw (c.new-made.ensures.items, replies_alone (world_of c.args.workers.now) c.args.events.now) at c.replay_behind.ensures.world
+returns-clause-world g c = rw (c.new-made.ensures.items, replies_alone (world_of c.args.workers.now) c.args.events.now) at c.replay_behind.ensures.world

@@ -10,43 +10,47 @@ use Rattle.tlsf_crew.proofs.lemmas.yard.InParts.{replies_behind_is}
 use Rattle.tlsf_crew.proofs.lemmas.yard.Room.{so_far, worker_waits}
 use Rattle.tlsf_crew.proofs.yard.replay.replay_within.Goals as goal
 
-pub run_event-requires-clause-room : goal.run_event-requires-clause-room
-run_event-requires-clause-room c =
-    let w = world_of c.args.workers.now in
-    let made = c.args.made.now.items in
-    let i = c.loop-event.event-index in
-    let d0 : Event = record { worker = 0; call = Allocate 0 } in
-    let a = fold_more after (resumed w made) c.args.events.now i d0 (omega arith) in
-    let b = so_far (i + 1) c.args.events.now w made (omega arith) in
-    rw (c.loop-event.invariant.replayed, ← a) (omega (arith, b, c.requires.room, c.loop-event.invariant.room))
-
-pub run_event-requires-clause-takes : goal.run_event-requires-clause-takes
-run_event-requires-clause-takes c =
-    let w = world_of c.args.workers.now in
-    let made = c.args.made.now.items in
-    let i = c.loop-event.event-index in
-    let replayed = c.loop-event.invariant.replayed in
-    let b = so_far i c.args.events.now w made (omega arith) in
-    let entries = ap (λ r. length r.entries) replayed in
-    let waits = ap (λ r. waiting_in r.world) replayed in
-    let d0 : Event = record { worker = 0; call = Allocate 0 } in
-    let e : Event = get_or c.args.events.now i d0 in
-    let most = worker_waits c.loop-event.workers e.worker c.loop-event.invariant.yard in
-    omega (arith, c.requires.room, c.loop-event.invariant.room)
+pub run_event-requires : goal.run_event-requires
+run_event-requires g c = (
+  omega arith,
+  (
+    c.loop-event.invariant.yard,
+    (
+      omega arith,
+      (
+        let w = world_of c.args.workers.now in
+            let made = c.args.made.now.items in
+            let i = c.loop-event.event-index in
+            let replayed = c.loop-event.invariant.replayed in
+            let b = so_far i c.args.events.now w made (omega arith) in
+            let entries = ap (λ r. length r.entries) replayed in
+            let waits = ap (λ r. waiting_in r.world) replayed in
+            let d0 : Event = record { worker = 0; call = Allocate 0 } in
+            let e : Event = get_or c.args.events.now i d0 in
+            let most = worker_waits c.loop-event.workers e.worker c.loop-event.invariant.yard in
+            omega (arith, c.requires.room, c.loop-event.invariant.room),
+        let w = world_of c.args.workers.now in
+            let made = c.args.made.now.items in
+            let i = c.loop-event.event-index in
+            let d0 : Event = record { worker = 0; call = Allocate 0 } in
+            let a = fold_more after (resumed w made) c.args.events.now i d0 (omega arith) in
+            let b = so_far (i + 1) c.args.events.now w made (omega arith) in
+            rw (c.loop-event.invariant.replayed, ← a) (omega (arith, b, c.requires.room, c.loop-event.invariant.room)),
+      ),
+    ),
+  ),
+)
 
 pub returns-clause-replies : goal.returns-clause-replies
-returns-clause-replies c =
+returns-clause-replies g c =
     let w = world_of c.args.workers.now in
     let made = c.args.made.now.items in
     let t = take_all c.loop-event.event-index c.args.events.now (omega arith) in
     let e = c.loop-event.invariant.replayed ∙ (ap (fold after (resumed w made)) t ∙ sym (replies_behind_is w made c.args.events.now)) in
     e
 
-pub run_event-requires-clause-yard : goal.run_event-requires-clause-yard
-run_event-requires-clause-yard c = c.loop-event.invariant.yard
-
 pub loop-event-preserved : goal.loop-event-preserved
-loop-event-preserved c =
+loop-event-preserved g c =
     let w = world_of c.args.workers.now in
     let made = c.args.made.now.items in
     let n = c.loop-event.event-index in
@@ -65,7 +69,7 @@ loop-event-preserved c =
     }
 
 pub loop-event-init : goal.loop-event-init
-loop-event-init c = record {
+loop-event-init g c = record {
   yard = c.requires.yard;
   count = refl;
   made = omega (arith, c.reserve.ensures.len);
@@ -75,4 +79,4 @@ loop-event-init c = record {
 }
 
 pub returns-clause-yard : goal.returns-clause-yard
-returns-clause-yard c = c.loop-event.invariant.yard
+returns-clause-yard g c = c.loop-event.invariant.yard

@@ -6,7 +6,7 @@ use Rattle.tlsf_crew.specs.yard.ReplaySteps.{replay_of}
 use Rattle.tlsf_crew.proofs.yard.replay.replay_within.Given as goal
 
 abbrev pub invariant-loop-event : goal.invariant-loop-event
-invariant-loop-event l = record {
+invariant-loop-event g l = record {
   yard : IsYard l.workers;
   count : length l.workers ≡ length l.fn.workers;
   made : vec_len l.made ≡ vec_len l.fn.made + l.event-index;

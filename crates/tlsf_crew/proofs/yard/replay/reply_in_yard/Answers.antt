@@ -1,3 +1,4 @@
+use Rattle.std.proofs.lemmas.List.{length-set}
 use Rattle.std.proofs.Common.{[], ◌≡◌, ◌∙◌, ◌<◌, ap, sym, arith, length, refl, Some, get_or, slice_get}
 use Rattle.std.proofs.lemmas.Option.{slice_get-get_or}
 use Rattle.tlsf_crew.specs.declared.yard.worker.Worker.{Worker}
@@ -5,30 +6,32 @@ use Rattle.tlsf_crew.specs.yard.Workers.{id_of}
 use Rattle.tlsf_crew.proofs.lemmas.yard.Exact.{Run, settles, limit_room, replied}
 use Rattle.tlsf_crew.proofs.lemmas.yard.Gathering.{each_knows}
 use Rattle.tlsf_crew.proofs.lemmas.yard.LanesOfOne.{own_number}
+use Rattle.tlsf_crew.proofs.yard.replay.reply_in_yard.Given.{Over}
 use Rattle.tlsf_crew.proofs.yard.replay.reply_in_yard.Goals as goal
 
-pub reply_to-reply-requires-clause-knows : goal.reply_to-reply-requires-clause-knows
-reply_to-reply-requires-clause-knows c =
+pub reply_to-reply-requires : goal.reply_to-reply-requires
+reply_to-reply-requires g c = (
+  omega arith,
+  (
     let vs = c.settle_for-journal.new.workers in
-    let n = c.settle_for-journal.ensures.count in
-    let p = c.requires.inside in
-    each_knows (length vs) vs refl c.settle_for-journal.ensures.yard c.args.event.worker c.index-workers-event.result (omega arith)
-
-pub reply_to-reply-requires-clause-room : goal.reply_to-reply-requires-clause-room
-reply_to-reply-requires-clause-room c =
+        let n = c.settle_for-journal.ensures.count in
+        let p = c.requires.inside in
+        each_knows (length vs) vs refl c.settle_for-journal.ensures.yard c.args.event.worker c.index-workers-event.result (omega arith),
     let e = c.settle_for-journal.ensures in
-    let r = limit_room c.args.workers.now c.settle_for-journal.new.workers c.args.event c.settle_for-journal.result e.limits e.world in
-    let room = c.requires.room in
-    omega arith
+        let r = limit_room c.args.workers.now c.settle_for-journal.new.workers c.args.event c.settle_for-journal.result e.limits e.world in
+        let room = c.requires.room in
+        omega arith,
+  ),
+)
 
-run_of : goal.After-workers-2-1 → Run
-run_of c =
+run_of : (g : Over) → goal.After-workers-2-1 g → Run g.row.SLI
+run_of g c =
     let vs = c.settle_for-journal.new.workers in
     let e = c.settle_for-journal.ensures in
     let n = e.count in
     let p = c.requires.inside in
     let lt : c.args.event.worker < length vs = omega arith in
-    let a : Worker = get_or vs c.args.event.worker c.index-workers-event.result in
+    let a : Worker g.row.SLI = get_or vs c.args.event.worker c.index-workers-event.result in
     let is : slice_get vs c.args.event.worker ≡ Some a = slice_get-get_or vs c.args.event.worker c.index-workers-event.result lt in
     let own : id_of a ≡ c.args.event.worker = own_number vs c.args.event.worker a e.yard is in
     record {
@@ -48,41 +51,47 @@ run_of c =
       step = c.reply_to-reply.ensures.stepped;
     }
 
-pub settle_for-requires-clause-yard : goal.settle_for-requires-clause-yard
-settle_for-requires-clause-yard c =
+pub settle_for-requires : goal.settle_for-requires
+settle_for-requires g c = (
+  omega arith,
+  (
     let vs = c.settle_for-journal.new.workers in
-    let e = c.settle_for-journal.ensures in
-    let n = e.count in
-    let p = c.requires.inside in
-    let lt : c.args.event.worker < length vs = omega arith in
-    let a : Worker = get_or vs c.args.event.worker c.index-workers-event.result in
-    let is : slice_get vs c.args.event.worker ≡ Some a = slice_get-get_or vs c.args.event.worker c.index-workers-event.result lt in
-    let m = c.reply_to-reply.ensures.stepped.moved [] in
-    m.yard vs c.args.event.worker is e.yard
+        let e = c.settle_for-journal.ensures in
+        let n = e.count in
+        let p = c.requires.inside in
+        let lt : c.args.event.worker < length vs = omega arith in
+        let a : Worker g.row.SLI = get_or vs c.args.event.worker c.index-workers-event.result in
+        let is : slice_get vs c.args.event.worker ≡ Some a = slice_get-get_or vs c.args.event.worker c.index-workers-event.result lt in
+        let m = c.reply_to-reply.ensures.stepped.moved [] in
+        m.yard vs c.args.event.worker is e.yard,
+    let vs = c.settle_for-journal.new.workers in
+        let n = c.settle_for-journal.ensures.count in
+        let p = c.requires.inside in
+        omega (arith, length-set vs c.args.event.worker c.reply_to-reply.new.worker),
+  ),
+)
 
 pub returns-clause-replied : goal.returns-clause-replied
 unfolding run_of
-returns-clause-replied c =
+returns-clause-replied g c =
     let vs = c.settle_for-journal.new.workers in
     let e = c.settle_for-journal.ensures in
     let f = c.settle_for.ensures in
     let n = e.count in
     let p = c.requires.inside in
     let lt : c.args.event.worker < length vs = omega arith in
-    let a : Worker = get_or vs c.args.event.worker c.index-workers-event.result in
+    let a : Worker g.row.SLI = get_or vs c.args.event.worker c.index-workers-event.result in
     let is : slice_get vs c.args.event.worker ≡ Some a = slice_get-get_or vs c.args.event.worker c.index-workers-event.result lt in
     let own : id_of a ≡ c.args.event.worker = own_number vs c.args.event.worker a e.yard is in
-    let s = settles (run_of c) c.args.workers.now c.settle_for.new.workers c.args.event.worker own e.count e.met f.met (λ may i t near q. e.limits.all may i t near q) f.yard f.count f.world in
-    replied (run_of c) c.args.workers.now c.settle_for.new.workers c.args.event s e.world (sym own) refl
+    let s = settles (run_of g c) c.args.workers.now c.settle_for.new.workers c.args.event.worker own e.count e.met f.met (λ may i t near q. e.limits.all may i t near q) f.yard f.count f.world in
+    replied (run_of g c) c.args.workers.now c.settle_for.new.workers c.args.event s e.world (sym own) refl
 
-pub settle_for-journal-requires-clause-yard : goal.settle_for-journal-requires-clause-yard
-settle_for-journal-requires-clause-yard c = c.requires.yard
-
-pub settle_for-journal-requires-clause-inside : goal.settle_for-journal-requires-clause-inside
-settle_for-journal-requires-clause-inside c = c.requires.inside
+pub settle_for-journal-requires : goal.settle_for-journal-requires
+settle_for-journal-requires g c =
+    (omega arith, (c.requires.yard, c.requires.inside))
 
 pub overflow_cast-count : goal.overflow_cast-count
-overflow_cast-count c = omega (arith, c.settle_for-journal.ensures.yard.few)
+overflow_cast-count g c = omega (arith, c.settle_for-journal.ensures.yard.few)
 
 pub returns-clause-capacity : goal.returns-clause-capacity
-returns-clause-capacity c = c.reply_to-reply.ensures.capacity
+returns-clause-capacity g c = c.reply_to-reply.ensures.capacity

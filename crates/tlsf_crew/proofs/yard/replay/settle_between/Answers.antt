@@ -3,10 +3,10 @@ use Rattle.tlsf_crew.proofs.lemmas.yard.LaneByLane.{step_meets}
 use Rattle.tlsf_crew.proofs.yard.replay.settle_between.Goals as goal
 
 pub returns-then-j-workers-clause-met : goal.returns-then-j-workers-clause-met
-returns-then-j-workers-clause-met c = λ i_in j_in ne. step_meets _ _ _ _ ne c.settle_lane.ensures
+returns-then-j-workers-clause-met g c = λ i_in j_in ne. step_meets _ _ _ _ ne c.settle_lane.ensures
 
 pub returns-then-j-workers-clause-yard : goal.returns-then-j-workers-clause-yard
-returns-then-j-workers-clause-yard c = settled_yard _ _ _ _ c.if-i-j.true c.settle_lane.ensures c.requires.yard
+returns-then-j-workers-clause-yard g c = settled_yard _ _ _ _ c.if-i-j.true c.settle_lane.ensures c.requires.yard
 
 pub returns-then-j-workers-clause-world : goal.returns-then-j-workers-clause-world
-returns-then-j-workers-clause-world c = settled_world _ _ _ _ c.if-i-j.true c.settle_lane.ensures
+returns-then-j-workers-clause-world g c = settled_world _ _ _ _ c.if-i-j.true c.settle_lane.ensures

@@ -5,7 +5,7 @@ use Rattle.tlsf_crew.proofs.lemmas.yard.Pending.{worker_ready}
 use Rattle.tlsf_crew.proofs.yard.room.count_ready.Goals as goal
 
 pub loop-worker-preserved : goal.loop-worker-preserved
-loop-worker-preserved c =
+loop-worker-preserved g c =
     let i = c.loop-worker.invariant in
     let r = c.count_for-count.ensures in
     let got = slice_get-get_or c.args.workers.now c.loop-worker.worker-index c.worker-item.result c.loop-worker-test.true ∙ ap Some (sym c.worker-item.is) in
@@ -14,5 +14,5 @@ loop-worker-preserved c =
 
 pub returns-clause-count : goal.returns-clause-count
 unfolding ready_in
-returns-clause-count c =
+returns-clause-count g c =
     c.loop-worker.invariant.count ∙ ap (ready_below c.args.workers.now) (omega arith)

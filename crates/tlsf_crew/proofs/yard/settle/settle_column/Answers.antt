@@ -5,15 +5,23 @@ use Rattle.tlsf_crew.proofs.yard.settle.settle_column.Goals as goal
 use Rattle.tlsf_crew.proofs.yard.settle.settle_column.Goals.{then-i-j, else-i-j}
 
 pub loop-i-init : goal.loop-i-init
-loop-i-init c = record { met = column_first _ _; yard = c.requires.yard; world = refl }
+loop-i-init g c = record { met = column_first _ _; yard = c.requires.yard; world = refl }
 
-pub settle_lane-requires-clause-lane : goal.settle_lane-requires-clause-lane
-settle_lane-requires-clause-lane c =
-    let n = c.loop-i.invariant.met.len in
-    c.loop-i.invariant.yard.lanes c.loop-i.i c.args.j (omega arith) (omega arith) c.if-i-j.true
+pub settle_lane-requires : goal.settle_lane-requires
+settle_lane-requires g c = (
+  omega arith,
+  (
+    omega arith,
+    (
+      omega arith,
+      let n = c.loop-i.invariant.met.len in
+          c.loop-i.invariant.yard.lanes c.loop-i.i c.args.j (omega arith) (omega arith) c.if-i-j.true,
+    ),
+  ),
+)
 
 pub loop-i-preserved : goal.loop-i-preserved
-loop-i-preserved c =
+loop-i-preserved g c =
     let i = c.loop-i.invariant in
     elim c.if-i-j.branch [
       | then-i-j w ↦ record {
@@ -29,6 +37,6 @@ loop-i-preserved c =
     ]
 
 pub returns-clause-met : goal.returns-clause-met
-returns-clause-met c =
+returns-clause-met g c =
     let i = c.loop-i.invariant.met in
     λ x x_in ne. i.done x (omega (arith, i.len)) ne

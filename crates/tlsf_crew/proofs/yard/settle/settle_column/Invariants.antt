@@ -5,7 +5,7 @@ use Rattle.tlsf_crew.specs.yard.LaneSteps.{ColumnMet}
 use Rattle.tlsf_crew.proofs.yard.settle.settle_column.Given as goal
 
 abbrev pub invariant-loop-i : goal.invariant-loop-i
-invariant-loop-i l = record {
+invariant-loop-i g l = record {
   met : ColumnMet l.fn.workers l.workers l.i l.j;
   yard : IsYard l.workers;
   world : world_of l.workers ≡ world_of l.fn.workers;

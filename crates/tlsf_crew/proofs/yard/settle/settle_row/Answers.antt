@@ -6,15 +6,23 @@ use Rattle.tlsf_crew.proofs.yard.settle.settle_row.Goals as goal
 use Rattle.tlsf_crew.proofs.yard.settle.settle_row.Goals.{then-i-j, else-i-j}
 
 pub loop-j-init : goal.loop-j-init
-loop-j-init c = record { met = row_first _ _; yard = c.requires.yard; world = refl }
+loop-j-init g c = record { met = row_first _ _; yard = c.requires.yard; world = refl }
 
-pub settle_lane-requires-clause-lane : goal.settle_lane-requires-clause-lane
-settle_lane-requires-clause-lane c =
-    let n = c.loop-j.invariant.met.len in
-    c.loop-j.invariant.yard.lanes c.args.i c.loop-j.j (omega arith) (omega arith) c.if-i-j.true
+pub settle_lane-requires : goal.settle_lane-requires
+settle_lane-requires g c = (
+  omega arith,
+  (
+    omega arith,
+    (
+      omega arith,
+      let n = c.loop-j.invariant.met.len in
+          c.loop-j.invariant.yard.lanes c.args.i c.loop-j.j (omega arith) (omega arith) c.if-i-j.true,
+    ),
+  ),
+)
 
 pub loop-j-preserved : goal.loop-j-preserved
-loop-j-preserved c =
+loop-j-preserved g c =
     let i = c.loop-j.invariant in
     elim c.if-i-j.branch [
       | then-i-j w ↦ record {
@@ -30,7 +38,7 @@ loop-j-preserved c =
     ]
 
 pub returns-clause-met : goal.returns-clause-met
-returns-clause-met c =
+returns-clause-met g c =
     let i = c.loop-j.invariant.met in
     let e : c.loop-j.j ≡ length c.args.workers.now = omega (arith, i.len) in
     subst (λ (k : ℕ). RowMet c.args.workers.now c.loop-j.workers c.args.i k) e i

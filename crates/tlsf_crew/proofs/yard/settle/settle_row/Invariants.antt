@@ -5,7 +5,7 @@ use Rattle.tlsf_crew.specs.yard.LaneSteps.{RowMet}
 use Rattle.tlsf_crew.proofs.yard.settle.settle_row.Given as goal
 
 abbrev pub invariant-loop-j : goal.invariant-loop-j
-invariant-loop-j l = record {
+invariant-loop-j g l = record {
   met : RowMet l.fn.workers l.workers l.i l.j;
   yard : IsYard l.workers;
   world : world_of l.workers ≡ world_of l.fn.workers;

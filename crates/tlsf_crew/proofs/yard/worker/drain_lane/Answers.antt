@@ -71,7 +71,8 @@ returns-in_default-clause-drained g c =
     (i.takes.0, record { last = c.loop-drained.worker; takes = i.takes.1; end = inr (omega (arith, i.takes.2.0), inr c.in_default.ensures.taken) }, i.takes.2)
 
 pub take_next-requires : goal.take_next-requires
-take_next-requires g c = c.loop-drained.invariant.lane
+take_next-requires g c =
+    (omega arith, c.loop-drained.invariant.lane)
 
 pub note-requires-clause-admitted : goal.note-requires-clause-admitted
 note-requires-clause-admitted g c = c.admits.ensures.yes c.if-not-admits.false

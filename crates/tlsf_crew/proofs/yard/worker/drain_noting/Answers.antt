@@ -14,8 +14,9 @@ loop-from-init g c = record {
   rise = omega arith;
 }
 
-pub drain_lane-here-requires-clause-lane : goal.drain_lane-here-requires-clause-lane
-drain_lane-here-requires-clause-lane g c = c.has_take.ensures.yes c.if-has_take.true
+pub drain_lane-here-requires : goal.drain_lane-here-requires
+drain_lane-here-requires g c =
+    (omega arith, (c.has_take.ensures.yes c.if-has_take.true, c.loop-from.invariant.room))
 
 pub loop-from-preserved : goal.loop-from-preserved
 loop-from-preserved g c =
@@ -76,9 +77,6 @@ returns-clause-touches_rise g c = c.loop-from.invariant.rise
 
 pub overflow_sub-most : goal.overflow_sub-most
 overflow_sub-most g c = c.loop-from.invariant.few
-
-pub drain_lane-here-requires-clause-room : goal.drain_lane-here-requires-clause-room
-drain_lane-here-requires-clause-room g c = c.loop-from.invariant.room
 
 pub overflow_add-drained : goal.overflow_add-drained
 overflow_add-drained g c = omega (arith, c.drain_lane-here.ensures.most, c.loop-from.invariant.few)

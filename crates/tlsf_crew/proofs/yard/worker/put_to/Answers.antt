@@ -6,7 +6,7 @@ use Rattle.tlsf_crew.proofs.lemmas.yard.Slots.{from_slot, slot_new, slot_other}
 use Rattle.tlsf_crew.proofs.yard.worker.put_to.Goals as goal
 
 pub returns-clause-put : goal.returns-clause-put
-returns-clause-put c =
+returns-clause-put g c =
     let e = c.put.ensures in
     let p = c.requires.0 in
     let xs = c.args.poster.now.posts.items in
@@ -27,15 +27,15 @@ returns-clause-put c =
     }
 
 pub index_mut-requires : goal.index_mut-requires
-index_mut-requires c =
+index_mut-requires g c =
     let xs = c.args.poster.now.posts in
     let l = xs.ok in
     omega (arith, slice_get_within xs.items c.args.j (Some c.requires.0) (from_slot _ c.requires.0 c.requires.1))
 
 pub unreachable-requires : goal.unreachable-requires
-unreachable-requires c =
+unreachable-requires g c =
     let none : None ≡ c.index_mut.result.now = sym (ap option_copied_mut c.in_default.is) ∙ c.as_mut.ensures.value in
     absurd (end_stands _ c.args.poster.now.posts.items c.args.j _ c.index_mut.ensures.value (from_slot _ c.requires.0 c.requires.1) none)
 
 pub returns-clause-heap : goal.returns-clause-heap
-returns-clause-heap c = refl
+returns-clause-heap g c = refl

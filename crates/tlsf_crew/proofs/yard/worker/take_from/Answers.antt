@@ -6,7 +6,7 @@ use Rattle.tlsf_crew.proofs.lemmas.yard.Slots.{from_slot, slot_new, slot_other}
 use Rattle.tlsf_crew.proofs.yard.worker.take_from.Goals as goal
 
 pub returns-clause-took : goal.returns-clause-took
-returns-clause-took c =
+returns-clause-took g c =
     let e = c.take.ensures in
     let p = c.requires.0 in
     let xs = c.args.taker.now.takes.items in
@@ -28,15 +28,15 @@ returns-clause-took c =
     }
 
 pub index_mut-requires : goal.index_mut-requires
-index_mut-requires c =
+index_mut-requires g c =
     let xs = c.args.taker.now.takes in
     let l = xs.ok in
     omega (arith, slice_get_within xs.items c.args.i (Some c.requires.0) (from_slot _ c.requires.0 c.requires.1))
 
 pub unreachable-requires : goal.unreachable-requires
-unreachable-requires c =
+unreachable-requires g c =
     let none : None ≡ c.index_mut.result.now = sym (ap option_copied_mut c.in_default.is) ∙ c.as_mut.ensures.value in
     absurd (end_stands _ c.args.taker.now.takes.items c.args.i _ c.index_mut.ensures.value (from_slot _ c.requires.0 c.requires.1) none)
 
 pub returns-clause-heap : goal.returns-clause-heap
-returns-clause-heap c = refl
+returns-clause-heap g c = refl

@@ -5,13 +5,13 @@ use Rattle.tlsf_crew.proofs.lemmas.yard.YardKept.{heap_keeps, take_keeps, keeps_
 use Rattle.tlsf_crew.proofs.yard.worker.take_next.Goals as goal
 
 pub returns-in_err-post-clause-yard : goal.returns-in_err-post-clause-yard
-returns-in_err-post-clause-yard c = take_keeps _ _ _ _ c.take_from.ensures.took
+returns-in_err-post-clause-yard g c = take_keeps _ _ _ _ c.take_from.ensures.took
 
 pub returns-clause-yard : goal.returns-clause-yard
-returns-clause-yard c = keeps_then _ c.take_from.new.taker _ (take_keeps _ _ _ _ c.take_from.ensures.took) (heap_keeps _ _ (refl, refl, refl) (call_keeps _ _ (Release c.in_ok-post.post.name) c.release-answer.ensures.heap))
+returns-clause-yard g c = keeps_then _ c.take_from.new.taker _ (take_keeps _ _ _ _ c.take_from.ensures.took) (heap_keeps _ _ (refl, refl, refl) (call_keeps _ _ (Release c.in_ok-post.post.name) c.release-answer.ensures.heap))
 
 pub returns-clause-taken : goal.returns-clause-taken
-returns-clause-taken c =
+returns-clause-taken g c =
     record {
       between = c.take_from.new.taker;
       post = Some c.in_ok-post.post;

@@ -10,4 +10,4 @@ loop-preserved g c =
     let l = c.loop.workers.ok in
     let inside : 1 < length ws = omega arith in
     let is : slice_get ws 1 ≡ Some a = slice_get-get_or ws 1 a inside ∙ ap Some (sym c.index_mut.ensures.value) in
-    c.queues_join_the_yard.ensures.kept ws 1 a c.post.new.self c.loop.invariant is c.post.ensures.yard
+    c.queues_join_the_yard.ensures.kept 4 ws 1 a c.post.new.self c.loop.invariant is c.post.ensures.yard

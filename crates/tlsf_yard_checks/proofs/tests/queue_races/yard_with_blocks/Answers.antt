@@ -11,4 +11,4 @@ loop-owner-preserved g c =
     let l = c.loop-owner.workers.ok in
     let inside : at < length ws = omega arith in
     let is : slice_get ws at ≡ Some a = slice_get-get_or ws at a inside ∙ ap Some (sym c.index_mut.ensures.value) in
-    c.queues_join_the_yard.ensures.kept ws at a c.allocate.new.self c.loop-owner.invariant is c.allocate.ensures.yard
+    c.queues_join_the_yard.ensures.kept 4 ws at a c.allocate.new.self c.loop-owner.invariant is c.allocate.ensures.yard

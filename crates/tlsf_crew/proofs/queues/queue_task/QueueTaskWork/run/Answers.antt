@@ -12,27 +12,27 @@ loop-call-init g c = record {
   room = refl;
 }
 
-pub run_queue_call-requires-clause-knows : goal.run_queue_call-requires-clause-knows
-run_queue_call-requires-clause-knows g c =
+pub run_queue_call-requires : goal.run_queue_call-requires
+run_queue_call-requires g c = (
+  omega arith,
+  (
     let y = c.requires.yard in
-    (y.0, queue_script_knows _ _ _ _ _ _ _ _ (c.loop-call.invariant.run y.0 y.1) y.1)
-
-pub run_queue_call-requires-clause-names : goal.run_queue_call-requires-clause-names
-run_queue_call-requires-clause-names g c =
-    let i = c.loop-call.invariant in
-    let y = c.requires.yard in
-    let run = i.run y.0 y.1 in
-    let n = length-take c.loop-call.call-index c.deref-call-items.result.now in
-    let names = run.names in
-    omega (arith, c.requires.names, c.deref-call-items.ensures.len)
-
-pub run_queue_call-requires-clause-room : goal.run_queue_call-requires-clause-room
-run_queue_call-requires-clause-room g c =
-    let i = c.loop-call.invariant in
-    let y = c.requires.yard in
-    let r = queue_script_room _ _ _ _ _ _ _ _ (i.run y.0 y.1) in
-    let n = length-take c.loop-call.call-index c.deref-call-items.result.now in
-    omega (arith, c.requires.room, c.deref-call-items.ensures.len)
+        (y.0, queue_script_knows _ _ _ _ _ _ _ _ (c.loop-call.invariant.run y.0 y.1) y.1),
+    (
+      let i = c.loop-call.invariant in
+          let y = c.requires.yard in
+          let run = i.run y.0 y.1 in
+          let n = length-take c.loop-call.call-index c.deref-call-items.result.now in
+          let names = run.names in
+          omega (arith, c.requires.names, c.deref-call-items.ensures.len),
+      let i = c.loop-call.invariant in
+          let y = c.requires.yard in
+          let r = queue_script_room _ _ _ _ _ _ _ _ (i.run y.0 y.1) in
+          let n = length-take c.loop-call.call-index c.deref-call-items.result.now in
+          omega (arith, c.requires.room, c.deref-call-items.ensures.len),
+    ),
+  ),
+)
 
 pub loop-call-preserved : goal.loop-call-preserved
 loop-call-preserved g c =

@@ -5,13 +5,13 @@ use Rattle.tlsf_crew.proofs.lemmas.queues.QueueKept.{keeps_heap}
 use Rattle.tlsf_crew.proofs.queues.queue_worker.QueueWorker.free.Goals as goal
 
 pub returns-clause-yard : goal.returns-clause-yard
-returns-clause-yard c = keeps_heap _ _ (refl, refl, refl) (call_keeps _ _ (Release c.args.name) c.release.ensures.heap)
+returns-clause-yard g c = keeps_heap _ _ (refl, refl, refl) (call_keeps _ _ (Release c.args.name) c.release.ensures.heap)
 
 pub returns-clause-heap : goal.returns-clause-heap
-returns-clause-heap c = c.release.ensures.heap
+returns-clause-heap g c = c.release.ensures.heap
 
 pub returns-clause-same : goal.returns-clause-same
-returns-clause-same c = (refl, refl, refl)
+returns-clause-same g c = (refl, refl, refl)
 
 pub returns-clause-touches_rise : goal.returns-clause-touches_rise
-returns-clause-touches_rise c = c.release.ensures.touches_rise
+returns-clause-touches_rise g c = c.release.ensures.touches_rise

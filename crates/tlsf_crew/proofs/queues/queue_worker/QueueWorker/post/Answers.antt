@@ -1,9 +1,10 @@
-use Rattle.std.proofs.Common.{Ok, Err, refl}
+use Rattle.std.proofs.Common.{Ok, Err, refl, arith}
 use Rattle.tlsf_crew.proofs.lemmas.queues.QueueKept.{keeps_all, keeps_put}
 use Rattle.tlsf_crew.proofs.queues.queue_worker.QueueWorker.post.Goals as goal
 
 pub put_to_queue-requires : goal.put_to_queue-requires
-put_to_queue-requires g c = c.has_queue_end.ensures.yes c.if-not-has_queue_end.false
+put_to_queue-requires g c =
+    (omega arith, c.has_queue_end.ensures.yes c.if-not-has_queue_end.false)
 
 pub returns-then-name-self-clause-own : goal.returns-then-name-self-clause-own
 returns-then-name-self-clause-own g c = λ own. (refl, refl)

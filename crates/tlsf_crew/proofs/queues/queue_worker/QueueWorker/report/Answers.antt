@@ -4,4 +4,4 @@ use Rattle.tlsf_crew.proofs.lemmas.queues.QueueKept.{keeps_heap}
 use Rattle.tlsf_crew.proofs.queues.queue_worker.QueueWorker.report.Goals as goal
 
 pub returns-clause-yard : goal.returns-clause-yard
-returns-clause-yard c = keeps_heap _ _ (refl, refl, refl) (same_heap_keeps _ _ c.report.ensures.heap)
+returns-clause-yard g c = keeps_heap _ _ (refl, refl, refl) (same_heap_keeps _ _ c.report.ensures.heap)

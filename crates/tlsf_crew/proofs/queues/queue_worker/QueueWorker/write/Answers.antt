@@ -5,16 +5,16 @@ use Rattle.tlsf_crew.proofs.lemmas.queues.QueueKept.{keeps_heap}
 use Rattle.tlsf_crew.proofs.queues.queue_worker.QueueWorker.write.Goals as goal
 
 pub returns-clause-yard : goal.returns-clause-yard
-returns-clause-yard c = keeps_heap _ _ (refl, refl, refl) (call_keeps _ _ (Write c.args.name c.args.at c.args.bytes.now) c.write.ensures.heap)
+returns-clause-yard g c = keeps_heap _ _ (refl, refl, refl) (call_keeps _ _ (Write c.args.name c.args.at c.args.bytes.now) c.write.ensures.heap)
 
 pub returns-clause-heap : goal.returns-clause-heap
-returns-clause-heap c = c.write.ensures.heap
+returns-clause-heap g c = c.write.ensures.heap
 
 pub returns-clause-same : goal.returns-clause-same
-returns-clause-same c = (refl, refl, refl)
+returns-clause-same g c = (refl, refl, refl)
 
 pub returns-clause-touches_rise : goal.returns-clause-touches_rise
-returns-clause-touches_rise c = c.write.ensures.touches_rise
+returns-clause-touches_rise g c = c.write.ensures.touches_rise
 
 pub returns-clause-touches : goal.returns-clause-touches
-returns-clause-touches c = c.write.ensures.touches
+returns-clause-touches g c = c.write.ensures.touches

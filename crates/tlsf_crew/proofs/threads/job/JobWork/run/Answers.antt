@@ -11,23 +11,24 @@ loop-call-init g c = record {
   room = refl;
 }
 
-pub run_call-requires-clause-knows : goal.run_call-requires-clause-knows
-run_call-requires-clause-knows g c = script_knows _ _ _ _ _ _ _ _ c.loop-call.invariant.run c.requires.yard
-
-pub run_call-requires-clause-names : goal.run_call-requires-clause-names
-run_call-requires-clause-names g c =
-    let i = c.loop-call.invariant in
-    let run = i.run in
-    let n = length-take c.loop-call.call-index c.deref-call-items.result.now in
-    let names = run.names in
-    omega (arith, c.requires.names, c.deref-call-items.ensures.len)
-
-pub run_call-requires-clause-room : goal.run_call-requires-clause-room
-run_call-requires-clause-room g c =
-    let i = c.loop-call.invariant in
-    let r = script_room _ _ _ _ _ _ _ _ i.run in
-    let n = length-take c.loop-call.call-index c.deref-call-items.result.now in
-    omega (arith, c.requires.room, c.deref-call-items.ensures.len)
+pub run_call-requires : goal.run_call-requires
+run_call-requires g c = (
+  omega arith,
+  (
+    script_knows _ _ _ _ _ _ _ _ c.loop-call.invariant.run c.requires.yard,
+    (
+      let i = c.loop-call.invariant in
+          let run = i.run in
+          let n = length-take c.loop-call.call-index c.deref-call-items.result.now in
+          let names = run.names in
+          omega (arith, c.requires.names, c.deref-call-items.ensures.len),
+      let i = c.loop-call.invariant in
+          let r = script_room _ _ _ _ _ _ _ _ i.run in
+          let n = length-take c.loop-call.call-index c.deref-call-items.result.now in
+          omega (arith, c.requires.room, c.deref-call-items.ensures.len),
+    ),
+  ),
+)
 
 pub loop-call-preserved : goal.loop-call-preserved
 loop-call-preserved g c =

@@ -1,17 +1,16 @@
 use Rattle.std.proofs.Common.{refl}
-use Rattle.tlsf_heap.specs.Calls.{Allocate}
-use Rattle.tlsf_crew.proofs.lemmas.yard.OwnHeaps.{call_keeps}
+use Rattle.tlsf_crew.proofs.lemmas.yard.OwnHeaps.{allocate_keeps}
 use Rattle.tlsf_crew.proofs.lemmas.yard.YardKept.{heap_keeps}
 use Rattle.tlsf_crew.proofs.yard.worker.Worker.allocate.Goals as goal
 
 pub returns-clause-yard : goal.returns-clause-yard
-returns-clause-yard c = heap_keeps _ _ (refl, refl, refl) (call_keeps _ _ (Allocate c.args.len) c.allocate.ensures.heap)
+returns-clause-yard g c = heap_keeps _ _ (refl, refl, refl) (allocate_keeps g.row.SLI _ _ c.args.len c.allocate.ensures.heap c.allocate.ensures.lawful)
 
 pub returns-clause-heap : goal.returns-clause-heap
-returns-clause-heap c = c.allocate.ensures.heap
+returns-clause-heap g c = c.allocate.ensures.heap
 
 pub returns-clause-same : goal.returns-clause-same
-returns-clause-same c = (refl, refl, refl)
+returns-clause-same g c = (refl, refl, refl)
 
 pub returns-clause-touches_rise : goal.returns-clause-touches_rise
-returns-clause-touches_rise c = c.allocate.ensures.touches_rise
+returns-clause-touches_rise g c = c.allocate.ensures.touches_rise

@@ -4,19 +4,19 @@ use Rattle.tlsf_crew.proofs.lemmas.yard.YardKept.{heap_keeps}
 use Rattle.tlsf_crew.proofs.yard.worker.Worker.read.Goals as goal
 
 pub returns-clause-yard : goal.returns-clause-yard
-returns-clause-yard c = heap_keeps _ _ (refl, refl, refl) (same_heap_keeps _ _ c.read.ensures.heap)
+returns-clause-yard g c = heap_keeps _ _ (refl, refl, refl) (same_heap_keeps _ _ c.read.ensures.heap)
 
 pub returns-clause-bytes : goal.returns-clause-bytes
-returns-clause-bytes c = c.read.ensures.bytes
+returns-clause-bytes g c = c.read.ensures.bytes
 
 pub returns-clause-heap : goal.returns-clause-heap
-returns-clause-heap c = c.read.ensures.heap
+returns-clause-heap g c = c.read.ensures.heap
 
 pub returns-clause-same : goal.returns-clause-same
-returns-clause-same c = (refl, refl, refl)
+returns-clause-same g c = (refl, refl, refl)
 
 pub returns-clause-touches : goal.returns-clause-touches
-returns-clause-touches c = c.read.ensures.touches
+returns-clause-touches g c = c.read.ensures.touches
 
 pub returns-clause-touches_rise : goal.returns-clause-touches_rise
-returns-clause-touches_rise c = c.read.ensures.touches_rise
+returns-clause-touches_rise g c = c.read.ensures.touches_rise

@@ -4,4 +4,4 @@ use Rattle.tlsf_crew.proofs.lemmas.yard.YardKept.{heap_keeps}
 use Rattle.tlsf_crew.proofs.yard.worker.Worker.report.Goals as goal
 
 pub returns-clause-yard : goal.returns-clause-yard
-returns-clause-yard c = heap_keeps _ _ (refl, refl, refl) (same_heap_keeps _ _ c.report.ensures.heap)
+returns-clause-yard g c = heap_keeps _ _ (refl, refl, refl) (same_heap_keeps _ _ c.report.ensures.heap)

@@ -5,13 +5,13 @@ use Rattle.tlsf_crew.proofs.lemmas.yard.YardKept.{heap_keeps}
 use Rattle.tlsf_crew.proofs.yard.worker.Worker.resize.Goals as goal
 
 pub returns-clause-yard : goal.returns-clause-yard
-returns-clause-yard c = heap_keeps _ _ (refl, refl, refl) (call_keeps _ _ (Resize c.args.name c.args.len) c.resize.ensures.heap)
+returns-clause-yard g c = heap_keeps _ _ (refl, refl, refl) (call_keeps _ _ (Resize c.args.name c.args.len) c.resize.ensures.heap)
 
 pub returns-clause-heap : goal.returns-clause-heap
-returns-clause-heap c = c.resize.ensures.heap
+returns-clause-heap g c = c.resize.ensures.heap
 
 pub returns-clause-same : goal.returns-clause-same
-returns-clause-same c = (refl, refl, refl)
+returns-clause-same g c = (refl, refl, refl)
 
 pub returns-clause-touches_rise : goal.returns-clause-touches_rise
-returns-clause-touches_rise c = c.resize.ensures.touches_rise
+returns-clause-touches_rise g c = c.resize.ensures.touches_rise
