@@ -1,5 +1,7 @@
 -- Yards over queues: one queue for each owner, into which all others post; their workers, and races over them.
 
+-- What a race over queues comes to where no script takes posts, no queue was full, and each has one poster.
+pub mod QueueAlone
 -- What the calls of a worker over queues answer and leave.
 pub mod QueueCalls
 -- What the record of a worker over queues tells: its calls, and what its drains took.

@@ -24,7 +24,8 @@
 //! [`open_queue_yard`] opens a yard of another kind, with one queue for each owner, into which all others post. Each
 //! [`QueueWorker`] takes from its own. Such a yard (`IsQueueYard`) shows a `World` too; `post`, `take` and `drain` may wait
 //! for another thread's half of a step, and so are passed a runtime. [`race_queues`] races such workers (`IsQueueRace`): each
-//! two records agree on what was posted and taken, poster by poster.
+//! two records agree on what was posted and taken, poster by poster. [`queue_race_without_takes`] says when every schedule
+//! leads to the same.
 //!
 //! A [`LockedHeap`] is a heap without an owner, outside any yard; it is `tlsf_lock`'s.
 #![tactic(auto)]
@@ -33,7 +34,9 @@ mod queues;
 mod threads;
 mod yard;
 
-pub use queues::queue_laws::{one_history_of_a_queue_race, queues_join_the_yard};
+pub use queues::queue_laws::{
+    one_history_of_a_queue_race, queue_race_without_takes, queues_join_the_yard,
+};
 pub use queues::queue_opening::open_queue_yard;
 pub use queues::queue_outcome::QueueOutcome;
 pub use queues::queue_race::race_queues;

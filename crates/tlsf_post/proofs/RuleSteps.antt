@@ -15,10 +15,10 @@ use Rattle.tlsf_post.specs.Rule.{posts_of, posts_but, poster, keeper, idle, IsIn
 
 -- ---- lists
 
-of_own : (p : ℕ) (x : Post) (xs : List Post) → x.from ≡ p → posts_of p (x ∷ xs) ≡ x ∷ posts_of p xs
+pub of_own : (p : ℕ) (x : Post) (xs : List Post) → x.from ≡ p → posts_of p (x ∷ xs) ≡ x ∷ posts_of p xs
 of_own p x xs e = cond-true (eqb x.from p) (x ∷ posts_of p xs) (posts_of p xs) (eq-eqb x.from p e)
 
-of_other : (p : ℕ) (x : Post) (xs : List Post) → x.from ≢ p → posts_of p (x ∷ xs) ≡ posts_of p xs
+pub of_other : (p : ℕ) (x : Post) (xs : List Post) → x.from ≢ p → posts_of p (x ∷ xs) ≡ posts_of p xs
 of_other p x xs n = cond-false (eqb x.from p) (x ∷ posts_of p xs) (posts_of p xs) (ne_eqb x.from p n)
 
 others_own : (p : ℕ) (x : Post) (xs : List Post) → x.from ≡ p → posts_but p (x ∷ xs) ≡ posts_but p xs

@@ -2,18 +2,23 @@
 use Rattle.std.proofs.Common.{Bool, true, false, ◌==◌, ◌≡◌, ◌∷◌, ◌++◌, [], ℕ, zero, suc, List, Option, map, get_or, refl, sym, ap, ◌∙◌, subst}
 use Rattle.std.specs.List.{AllByRecursion}
 use Rattle.tlsf_heap.specs.declared.name.Name.{Name}
+use Rattle.tlsf_calls.specs.declared.call.Call.{Call}
 use Rattle.tlsf_calls.specs.declared.entry.Entry.{Entry}
 use Rattle.tlsf_crew.specs.yard.World.{World}
 use Rattle.tlsf_crew.specs.threads.Alone.{OnlyLastDrains, TakesNoPost}
 use Rattle.tlsf_crew.specs.threads.Race.{IsRace}
+use Rattle.tlsf_crew.specs.queues.QueueAlone.{IsUncontendedRace}
+use Rattle.tlsf_crew.specs.queues.QueueRace.{IsQueueRace}
+use Rattle.tlsf_crew.proofs.lemmas.queues.QueueAlone.{queue_race_is_one}
 use Rattle.tlsf_crew.proofs.lemmas.threads.OneRace.{race_is_one}
 use Rattle.tlsf_lines.specs.Phases.{call_in, calls_from, in_first, is_line_of, known_below, none_known, own_lines, phases_of, script_in, scripts_in}
 use Rattle.tlsf_lines.specs.Records.{records_text}
+use Rattle.tlsf_lines.specs.Trace.{Trace}
 use Rattle.tlsf_lines.specs.declared.line.Line.{Line}
 use Rattle.tlsf_lines.specs.declared.line.Line.TheVariants.{Allocate, Release, Write, Read, Resize, Drain, Phase}
-use Rattle.tlsf_trace.specs.OneText.{IsNoDrain, RaceGivesOneText}
+use Rattle.tlsf_trace.specs.OneText.{HasNoDrain, IsNoDrain, IsUncontendedOutput, RaceGivesOneText}
 use Rattle.tlsf_trace.specs.Output.{level_in, yard_of}
-use Rattle.tlsf_trace.specs.RaceOutput.{IsRaceText}
+use Rattle.tlsf_trace.specs.RaceOutput.{IsOutputBy, IsQueueRaceOutput, IsRaceText, Racing}
 
 -- ---- a phase without `d` lines
 
@@ -63,16 +68,38 @@ free_scripts known phase all (w ∷ workers) (suc j) = free_scripts known phase 
 
 -- ---- phase after phase
 
-same_text : {sli : ℕ} → (n : ℕ) (phases : List (List Line)) (w : World sli) (known : ℕ → Option Name) (text other : List ℕ) → AllByRecursion HasNone phases
-    → IsRaceText IsRace n w known phases text → IsRaceText IsRace n w known phases other → text ≡ other
-same_text {sli} n [] w known text other all is was = is ∙ sym was
-same_text {sli} n (phase ∷ phases) w known text other all (records, v, tail, race, text_is, more) (others, u, end, again, other_is, later) =
+-- two races of the same scripts, which take no post, from the same world tell the same records and leave the same world
+abbrev AreOne : {sli : ℕ} → Racing sli → Type 0
+AreOne {sli} Races = (w v u : World sli) (scripts : List (List Call)) (records others : List (List Entry)) → OnlyLastDrains scripts
+    → Races w scripts records v → Races w scripts others u → (records ≡ others) × (v ≡ u)
+
+same_text : {sli : ℕ} → (Races : Racing sli) → AreOne Races → (n : ℕ) (phases : List (List Line)) (w : World sli) (known : ℕ → Option Name) (text other : List ℕ) → AllByRecursion HasNone phases
+    → IsRaceText Races n w known phases text → IsRaceText Races n w known phases other → text ≡ other
+same_text {sli} Races are_one n [] w known text other all is was = is ∙ sym was
+same_text {sli} Races are_one n (phase ∷ phases) w known text other all (records, v, tail, race, text_is, more) (others, u, end, again, other_is, later) =
     let free : OnlyLastDrains (scripts_in n known phase) = λ j. free_scripts known phase all.0 _ j in
-    let one = race_is_one sli w v u (scripts_in n known phase) records others free race again in
-    let told : IsRaceText IsRace n v (known_below known phase others n) phases tail = subst (λ (rs : List (List Entry)). IsRaceText IsRace n v (known_below known phase rs n) phases tail) one.0 more in
-    let moved : IsRaceText IsRace n u (known_below known phase others n) phases tail = subst (λ (x : World sli). IsRaceText IsRace n x (known_below known phase others n) phases tail) one.1 told in
-    let rest = same_text n phases u (known_below known phase others n) tail end all.1 moved later in
+    let one = are_one w v u (scripts_in n known phase) records others free race again in
+    let told : IsRaceText Races n v (known_below known phase others n) phases tail = subst (λ (rs : List (List Entry)). IsRaceText Races n v (known_below known phase rs n) phases tail) one.0 more in
+    let moved : IsRaceText Races n u (known_below known phase others n) phases tail = subst (λ (x : World sli). IsRaceText Races n x (known_below known phase others n) phases tail) one.1 told in
+    let rest = same_text Races are_one n phases u (known_below known phase others n) tail end all.1 moved later in
     text_is ∙ (ap (λ rs. records_text phase rs n ++ tail) one.0 ∙ (ap (λ t. records_text phase others n ++ t) rest ∙ sym other_is))
 
+-- a whole trace
+output_is_one : {sli : ℕ} → (Races : Racing sli) → AreOne Races → (trace : Trace) (text other : List ℕ) → HasNoDrain trace → IsOutputBy Races trace text → IsOutputBy Races trace other → text ≡ other
+output_is_one Races are_one trace text other none is was = same_text Races are_one trace.header.workers (phases_of trace.lines) (yard_of trace.header) none_known text other (phases_none trace.lines none) is was
+
 pub one_text : RaceGivesOneText
-one_text trace text other none is was = same_text {sli = level_in trace.header} trace.header.workers (phases_of trace.lines) (yard_of trace.header) none_known text other (phases_none trace.lines none) is was
+one_text trace = output_is_one {sli = level_in trace.header} IsRace (race_is_one (level_in trace.header)) trace
+
+pub one_text_over_queues : (trace : Trace) (text other : List ℕ) → HasNoDrain trace → IsUncontendedOutput trace text → IsUncontendedOutput trace other → text ≡ other
+one_text_over_queues trace = output_is_one {sli = level_in trace.header} IsUncontendedRace (queue_race_is_one (level_in trace.header)) trace
+
+-- ---- among all races over queues
+
+over_queues : {sli : ℕ} → (n : ℕ) (phases : List (List Line)) (w : World sli) (known : ℕ → Option Name) (text : List ℕ) → IsRaceText IsUncontendedRace n w known phases text → IsRaceText IsQueueRace n w known phases text
+over_queues n [] w known text is = is
+over_queues n (phase ∷ phases) w known text (records, v, tail, uncontended, text_is, more) =
+    (records, v, tail, uncontended.race, text_is, over_queues n phases v (known_below known phase records n) tail more)
+
+pub one_of_queue_outputs : (trace : Trace) (text : List ℕ) → IsUncontendedOutput trace text → IsQueueRaceOutput trace text
+one_of_queue_outputs trace text is = over_queues {sli = level_in trace.header} trace.header.workers (phases_of trace.lines) (yard_of trace.header) none_known text is

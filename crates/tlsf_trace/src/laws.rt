@@ -1,5 +1,5 @@
-ghost use Rattle.std.specs.Prelude.{ℕ, List};
-ghost use Rattle.tlsf_trace.specs.OneText.{RaceGivesOneText};
+ghost use Rattle.std.specs.Prelude.{◌≡◌, ℕ, List};
+ghost use Rattle.tlsf_trace.specs.OneText.{HasNoDrain, IsUncontendedOutput, RaceGivesOneText};
 ghost use Rattle.tlsf_trace.specs.RaceHistory.{HasHistory};
 ghost use Rattle.tlsf_trace.specs.RaceOutput.{IsQueueRaceOutput, IsRaceOutput};
 ghost use Rattle.tlsf_lines.specs.Trace.{Trace};
@@ -29,4 +29,16 @@ pub fn one_history_of_a_trace_raced_over_queues()
 /// `tlsf 1 2 64 4`, `a 0 1 8`, `phase`, `f 1 1`.
 pub fn trace_without_drains_gives_one_text()
     ensures { RaceGivesOneText }
+{}
+
+/// So it gives one text when it is raced over queues, where in each phase no post is refused for a full queue and each worker takes
+/// posts of one other alone.
+///
+/// Where two workers post to one, as `tlsf 1 3 64 4`, `a 0 1 8`, `a 0 2 8`, `phase`, `f 2 1`, `f 1 2`, the order in which it takes their
+/// posts is up to the schedule (`tlsf_crew::queue_race_without_takes`).
+pub fn trace_without_drains_gives_one_text_over_queues()
+    ensures one { (trace : Trace) (text other : List ℕ) → HasNoDrain trace → IsUncontendedOutput trace text → IsUncontendedOutput trace other → text ≡ other }
+
+    // It is among the texts that `race_trace_over_queues` may write.
+    ensures among { (trace : Trace) (text : List ℕ) → IsUncontendedOutput trace text → IsQueueRaceOutput trace text }
 {}

@@ -20,7 +20,7 @@ mod summary;
 pub use ended::{Ended, EndedTrace, run_to_end};
 pub use laws::{
     one_history_of_a_raced_trace, one_history_of_a_trace_raced_over_queues,
-    trace_without_drains_gives_one_text,
+    trace_without_drains_gives_one_text, trace_without_drains_gives_one_text_over_queues,
 };
 pub use stages::{finish, race_trace, race_trace_over_queues, replay};
 pub use summary::Summary;

@@ -4,6 +4,8 @@
 pub mod OwnTold
 -- Two records over queues agree: what one worker was answered to have posted is what the other took of it.
 pub mod QueueAgree
+-- Two races over queues of the same scripts, which take no post, are the same where no worker met a full queue and each queue has one poster.
+pub mod QueueAlone
 -- Takes one after another from a queue make up a drain.
 pub mod QueueDrains
 -- Where each task was ready and done, the workers over queues ran their scripts, and each record has a place left.
@@ -24,5 +26,7 @@ pub mod QueueRuns
 pub mod QueueSettled
 -- One call of a worker over queues, and the entries that tell of it.
 pub mod QueueSteps
+-- The takes of a drain over queues: what they add to a record, and when two drains took the same posts.
+pub mod QueueTakes
 -- Each worker of a whole yard over queues has an end to each other queue, and the yard stays whole where one takes the place of the one that it was.
 pub mod QueueYards

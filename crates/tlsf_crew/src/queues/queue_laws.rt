@@ -7,6 +7,7 @@ ghost use Rattle.tlsf_crew.specs.declared.queues.queue_worker.QueueWorker.{Queue
 ghost use Rattle.tlsf_crew.specs.queues.QueueWorkers.{queue_heap, queue_id, HasQueueEnd, IsOtherOf, KeepsQueueYards};
 ghost use Rattle.tlsf_crew.specs.queues.QueueYard.{IsQueueYard};
 ghost use Rattle.tlsf_crew.specs.queues.QueueHistory.{TellsQueue};
+ghost use Rattle.tlsf_crew.specs.queues.QueueAlone.{QueueRaceIsOne};
 ghost use Rattle.tlsf_crew.specs.queues.QueueRace.{IsQueueRace};
 ghost use Rattle.tlsf_calls.specs.declared.call.Call.{Call};
 ghost use Rattle.tlsf_calls.specs.declared.entry.Entry.{Entry};
@@ -66,4 +67,19 @@ pub fn one_history_of_a_queue_race()
     // So it is after each entry: each heap is what the calls that its record has told so far leave, and lawful.
     ensures always_lawful { (sli : ℕ) (w v : World sli) (scripts : List (List Call)) (records : List (List Entry)) (race : IsQueueRace w scripts records v) (before later : List Entry) (j : ℕ) → AreLawful w → j < length w.heaps →
         record_of records j ≡ before ++ later → RunsThrough sli (heap_in w j) j (race.made j) before later (heap_in v j) }
+{}
+
+/// Where no script has a take or a drain, no worker meets a full queue, and what each worker takes one other had posted, a race over
+/// queues comes to one thing, whatever the schedule of its threads: its records and the world that it leaves are the same each
+/// time.
+///
+/// Over lanes no more is wanted than scripts without takes ([`crate::race_without_takes`]). A queue hands on the posts of several
+/// posters in the order in which they came, and no clause says when it is full.
+///
+/// ```text
+/// worker 0: Allocate(8), worker 1: Release(x) of worker 0's block x, worker 2: nothing
+/// in every schedule: 0 Made(y), 0 Take(1): Took(x, Ok), 0 Drained(1); 1 Posted, 1 Drained(0); 2 Drained(0)
+/// ```
+pub fn queue_race_without_takes()
+    ensures { (sli : ℕ) → QueueRaceIsOne sli }
 {}

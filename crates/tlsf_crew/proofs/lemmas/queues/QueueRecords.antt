@@ -24,6 +24,7 @@ use Rattle.tlsf_crew.proofs.lemmas.yard.Fronts.{runs_through}
 use Rattle.tlsf_crew.proofs.lemmas.yard.JoinedEntries.{HasItsAnswer, runs_then, told_nothing, told_own, told_then}
 use Rattle.tlsf_crew.proofs.lemmas.yard.OwnCalls.{Knows}
 use Rattle.tlsf_crew.proofs.lemmas.threads.RecordHistory.{knows_one, one_told}
+use Rattle.tlsf_crew.proofs.lemmas.queues.QueueTakes.{takes_name}
 
 -- ---- runs that entries tell
 
@@ -159,10 +160,6 @@ queue_call_told made n at s t (Drain most) at_in known m = drained_queue made n 
 -- ---- all calls
 
 -- names that were made stay known
-queue_knows_takes : (at : ℕ) (posts : List Post) (s : Told) → (told_takes at s posts).made ≡ s.made
-queue_knows_takes at [] s = refl
-queue_knows_takes at (post ∷ posts) s = queue_knows_takes at posts (told_take at s post)
-
 queue_knows_one : (sli : ℕ) (n at : ℕ) (s t : Told) (call : Call) → MayTellQueue sli n at s call t → Knows t.made s.made
 queue_knows_one sli n at s t (Allocate len) m = knows_one sli n at s t (Allocate len) m
 queue_knows_one sli n at s t (Release target) m = knows_one sli n at s t (Release target) m
@@ -171,7 +168,7 @@ queue_knows_one sli n at s t (Read target from k) m = knows_one sli n at s t (Re
 queue_knows_one sli n at s t (Resize target len) m = knows_one sli n at s t (Resize target len) m
 queue_knows_one sli n at s t (Take from) m = subst (λ (made : List (Option Name)). Knows made s.made) (sym (ap (λ (u : Told). u.made) m)) (more_knows s.made (None ∷ []))
 queue_knows_one sli n at s t (Drain most) m =
-    subst (λ (made : List (Option Name)). Knows made s.made) (ap (λ l. l ++ None ∷ []) (sym (queue_knows_takes at m.0 s)) ∙ sym (ap (λ (u : Told). u.made) m.3)) (more_knows s.made (None ∷ []))
+    subst (λ (made : List (Option Name)). Knows made s.made) (ap (λ l. l ++ None ∷ []) (sym (takes_name at m.0 s)) ∙ sym (ap (λ (u : Told). u.made) m.3)) (more_knows s.made (None ∷ []))
 
 queue_knows_all : (sli : ℕ) (n at : ℕ) (s t : Told) (calls : List Call) → MayTellQueueAll sli n at s calls t → Knows t.made s.made
 queue_knows_all sli n at s t [] m = rw m (λ target name e. e)

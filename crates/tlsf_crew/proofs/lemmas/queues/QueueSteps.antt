@@ -252,7 +252,7 @@ one_taken : {sli : ℕ} (n : ℕ) (a b : QueueWorker sli) (took : Took) → Know
 one_taken n a b took k t = taken_by n a t.between b t.post took k t.queue t.then
 
 -- what the entry of a take tells
-take_tells : (i at : ℕ) (took : Took) → posts_taken i at (entry_by at (Take took.from) (Taken took) ∷ []) ≡ posts_of i (post_in took ∷ [])
+pub take_tells : (i at : ℕ) (took : Took) → posts_taken i at (entry_by at (Take took.from) (Taken took) ∷ []) ≡ posts_of i (post_in took ∷ [])
 take_tells i at took =
     let x = entry_by at (Take took.from) (Taken took) in
     let post = post_in took in

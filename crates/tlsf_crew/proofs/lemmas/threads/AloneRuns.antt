@@ -259,6 +259,13 @@ pub record IsAlone {sli : ℕ} (w : World sli) (i : ℕ) (made : List (Option Na
   pub capacity : r.world.capacity ≡ w.capacity
   pub waits : (j : ℕ) → r.world.waiting i j ≡ w.waiting i j ++ posts_made i j made s.entries
 
+pub alone_told : {sli : ℕ} (w : World sli) (i : ℕ) (made : List (Option Name)) (s : Told) (r : Replayed sli) → IsAlone w i made s r → told_by i r ≡ s
+alone_told w i made s r a =
+    let names = a.names in
+    let entries = a.entries in
+    let heap = a.heap in
+    λ k. record { made = names k; entries = entries k; heap = heap k }
+
 -- the post of an entry that tells of one
 one_post : (i : ℕ) (made : List (Option Name)) (target : Target) (name : Name) (e : Entry) → e ≡ record { worker = i; call = Release target; reply = Posted } → name_of made target ≡ Some name
     → length (posts_made i name.heap made (e ∷ [])) ≡ 1

@@ -14,7 +14,7 @@ use Rattle.tlsf_crew.specs.threads.Race.{IsRace, record_of, script_of}
 use Rattle.tlsf_crew.proofs.lemmas.threads.TwoRecords.{drain_makes, each_post_same}
 use Rattle.tlsf_crew.proofs.lemmas.yard.LaneChanges.{same_world}
 use Rattle.tlsf_crew.proofs.lemmas.yard.ManyEntries.{made_then, taken_then}
-use Rattle.tlsf_crew.proofs.lemmas.threads.AloneRuns.{HasLanes, IsAlone, alone_runs, none_taken}
+use Rattle.tlsf_crew.proofs.lemmas.threads.AloneRuns.{HasLanes, IsAlone, alone_runs, alone_told, none_taken}
 use Rattle.tlsf_crew.proofs.lemmas.threads.SameDrains.{LastDrain, drain_along, last_drain, same_last}
 use Rattle.tlsf_crew.specs.threads.Alone.{OnlyLastDrains, alone, RaceIsOne, TakesNoPost}
 
@@ -102,11 +102,8 @@ told_alone w v scripts records race free i i_in =
 alone_is : {sli : ℕ} (w v : World sli) (scripts : List (List Call)) (records : List (List Entry)) (race : IsRace w scripts records v) → OnlyLastDrains scripts → (i : ℕ) (i_in : i < length w.heaps)
     → told_by i (alone w scripts i) ≡ (turn_of w v scripts records race i i_in).between
 alone_is w v scripts records race free i i_in =
-    let a = told_alone w v scripts records race free i i_in in
-    let names = a.names in
-    let entries = a.entries in
-    let heap = a.heap in
-    λ k. record { made = names k; entries = entries k; heap = heap k }
+    let z = (turn_of w v scripts records race i i_in).between in
+    alone_told w i z.made z (alone w scripts i) (told_alone w v scripts records race free i i_in)
 
 -- ---- two races
 

@@ -65,7 +65,7 @@ made_then at j made xs ys = told_then (λ e. post_of_release j made e.worker e.c
 pub taken_then : (i at : ℕ) (xs ys : List Entry) → posts_taken i at (xs ++ ys) ≡ posts_taken i at xs ++ posts_taken i at ys
 taken_then i at xs ys = told_then (λ e. post_of_take i e.call e.reply) at xs ys
 
-count_made : (at j : ℕ) (made : List (Option Name)) (xs ys : List Entry) → length (posts_made at j made (xs ++ ys)) ≡ length (posts_made at j made xs) + length (posts_made at j made ys)
+pub count_made : (at j : ℕ) (made : List (Option Name)) (xs ys : List Entry) → length (posts_made at j made (xs ++ ys)) ≡ length (posts_made at j made xs) + length (posts_made at j made ys)
 count_made at j made xs ys = ap length (made_then at j made xs ys) ∙ length-append (posts_made at j made xs) (posts_made at j made ys)
 
 count_taken : (i at : ℕ) (xs ys : List Entry) → length (posts_taken i at (xs ++ ys)) ≡ length (posts_taken i at xs) + length (posts_taken i at ys)
