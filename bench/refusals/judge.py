@@ -5,6 +5,7 @@ Usage: judge.py PROGRAM REFUSE.so WORK_FOLDER. The last line is 'N refused, M an
 
 import itertools
 import os
+import resource
 import subprocess
 import sys
 
@@ -36,13 +37,20 @@ d 0 8
 # Without drains a race has one text, whatever the schedule.
 RACED = b"".join(line for line in TRACE.splitlines(True) if not line.startswith(b"d"))
 
+# The largest yard: eight regions of 2^24 words, a gigabyte.
+LARGEST = b"tlsf 2 8 16777216 4\n"
+REGION_BYTES = 1 << 27
+
 COMMANDS = [
     (["replay"], TRACE),
     (["replay", "--held"], TRACE),
     (["race"], RACED),
     (["race", "--queues"], RACED),
     (["map"], TRACE),
+    (["replay"], TRACE.replace(b"tlsf 1", b"tlsf 2")),
+    (["race"], RACED.replace(b"tlsf 1", b"tlsf 2")),
     (["classes", "460"], b""),
+    (["classes", "460", "--sli", "5"], b""),
     (["size", "--blocks", "100", "--bytes", "512"], b""),
     (["--help"], b""),
     (["replay", "--help"], b""),
@@ -120,6 +128,20 @@ def judge_growths(tally):
         print(f"tlsf {' '.join(words)}: {count} growths refused in turn")
 
 
+def judge_regions(tally):
+    """The largest yard, where the process may have memory for some of its regions alone, and where it may have all."""
+    for words in [["replay"], ["replay", "--held"], ["race"], ["race", "--queues"], ["map"]]:
+        for regions in range(9):
+            most = (regions + 1) * REGION_BYTES
+            limit = lambda most=most: resource.setrlimit(resource.RLIMIT_AS, (most, most))
+            ran = subprocess.run([PROGRAM, *words], input=LARGEST, capture_output=True, preexec_fn=limit, timeout=60)
+            if regions < 8:
+                tally.judge(f"{' '.join(words)}: memory for {regions} regions", (ran.returncode, ran.stdout, ran.stderr), [NO_MEMORY])
+            else:
+                tally.judge(f"{' '.join(words)}: memory for all regions", (ran.returncode, ran.stderr), [(0, b"")])
+        print(f"tlsf {' '.join(words)}: regions of a gigabyte in all, with memory for 0 to 7 of the eight, and for all")
+
+
 def judge_threads(tally):
     for words in [["race"], ["race", "--queues"]]:
         count = refuse_in_turn(tally, words, RACED, [NO_MEMORY], "refuse_thread")
@@ -187,7 +209,7 @@ def judge_streams(tally):
 
 def main():
     tally = Tally()
-    for judge in [judge_growths, judge_threads, judge_reads, judge_lengths, judge_writes, judge_streams]:
+    for judge in [judge_growths, judge_regions, judge_threads, judge_reads, judge_lengths, judge_writes, judge_streams]:
         judge(tally)
     print(f"{tally.refused} refused, {tally.wrong} answered wrongly")
     sys.exit(1 if tally.wrong else 0)
