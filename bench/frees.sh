@@ -3,12 +3,6 @@
 # owner, who drains meanwhile; a free that is refused as Full is made again. Eleven times by turns, on a copy of the repository; then
 # the median of each. Run by hand: the gate doesn't.
 set -eu
-case ${1:-} in
--h | --help)
-    sed -n '2,4s/^# \{0,1\}//p' "$0"
-    exit 0
-    ;;
-esac
 . "$(dirname "$0")/own_program.sh"
 own_program frees ' may_wait=3: tlsf_heap tlsf_crew anyhow' \
     tlsf_class tlsf_words tlsf_heap tlsf_calls tlsf_post tlsf_lock tlsf_crew

@@ -3,12 +3,6 @@
 # first refusal and in the mean of 100,000 requests, for each of which blocks are released at random until it is granted. On a copy of the
 # repository. Run by hand: the gate doesn't. What the levels cost in instructions is counted by bench/calls.sh.
 set -eu
-case ${1:-} in
--h | --help)
-    sed -n '2,4s/^# \{0,1\}//p' "$0"
-    exit 0
-    ;;
-esac
 . "$(dirname "$0")/own_program.sh"
 own_program levels ': tlsf_class tlsf_heap anyhow' tlsf_class tlsf_words tlsf_heap
 (cd "$work/crates/levels_bench" && rt run)
