@@ -1,10 +1,12 @@
 #!/usr/bin/env python3
-"""How many words a region needs at least: forces `NoFit` in `tlsf replay`, by programs that keep within the bounds of a pool.
+"""usage: bench/adversary.py [B N]..
+
+How many words a region needs at least: forces `NoFit` in `tlsf replay`, by programs that keep within the bounds of a pool.
 
 For each B and N this makes two traces of one worker that never holds more than B blocks and never asks for more than N bytes,
 replays them in smaller and smaller regions, from the words of `tlsf size --blocks B --bytes N` on, and prints the greatest region
 in which a request of theirs is answered NoFit. So what is needed lies above that, and no higher than the law's words. The calls
-are the same in each region: they follow no answer. Run by hand: the gate doesn't. Arguments: pairs B N; with none, four pairs.
+are the same in each region: they follow no answer. Run by hand: the gate doesn't. With no pair B N there are four pairs.
 The variable TLSF names another program than the launcher.
 """
 import os
@@ -109,6 +111,13 @@ def report(most, length):
 
 
 if __name__ == "__main__":
-    numbers = [int(word) for word in sys.argv[1:]] or [1, 512, 2, 512, 10, 512, 100, 512]
+    given = sys.argv[1:]
+    if given[:1] in (["-h"], ["--help"]):
+        print(__doc__.strip())
+        sys.exit(0)
+    if len(given) % 2 or not all(word.isdecimal() for word in given):
+        print(__doc__.strip(), file=sys.stderr)
+        sys.exit(2)
+    numbers = [int(word) for word in given] or [1, 512, 2, 512, 10, 512, 100, 512]
     for most, length in zip(numbers[0::2], numbers[1::2]):
         report(most, length)
