@@ -7,21 +7,29 @@ For each B and N this makes two traces of one worker that never holds more than 
 replays them in smaller and smaller regions, from the words of `tlsf size --blocks B --bytes N` on, and prints the greatest region
 in which a request of theirs is answered NoFit. So what is needed lies above that, and no higher than the law's words. The calls
 are the same in each region: they follow no answer. Run by hand: the gate doesn't. With no pair B N there are four pairs.
-The variable TLSF names another program than the launcher.
+The variable TLSF names another program than that of this tree.
 """
+import functools
 import os
 import pathlib
 import subprocess
 import sys
 
-PROGRAM = os.environ.get("TLSF", str(pathlib.Path(__file__).resolve().parent.parent / "tlsf"))
+LAUNCHER = pathlib.Path(__file__).resolve().parent.parent / "tlsf"
 NO_FIT = "refused 1"
 LEAST_TO_WIDEN = 5      # a round of wide blocks needs as many places
 
 
+@functools.cache
+def program():
+    """The path of the program, built first where need be."""
+    named = os.environ.get("TLSF")
+    return named or subprocess.run([LAUNCHER, "--program"], stdout=subprocess.PIPE, text=True, check=True).stdout.strip()
+
+
 def tlsf(*words, text=""):
     """What the program writes, given these words and this text."""
-    done = subprocess.run([PROGRAM, *words], input=text, capture_output=True, text=True, check=True)
+    done = subprocess.run([program(), *words], input=text, capture_output=True, text=True, check=True)
     return done.stdout
 
 

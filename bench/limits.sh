@@ -108,8 +108,7 @@ ratio() {
     awk -v a="$1" -v b="$2" 'BEGIN { printf "%.2f", a / b }'
 }
 
-"$top/tlsf" --version > "$work/version"
-program=$top/crates/tlsf_tool/out/tlsf_tool
+program=$("$top/tlsf" --program)
 generate 65536 > "$work/trace"
 head -n 16384 "$work/trace" > "$work/half"
 echo "the trace has $(wc -c < "$work/trace") bytes and $(wc -l < "$work/trace") lines"

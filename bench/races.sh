@@ -31,9 +31,9 @@ if [ "$(nproc)" -lt 4 ]; then
     echo "races: four processors are wanted, and $(nproc) are there" >&2
     exit 2
 fi
-"$top/tlsf" --version > "$work/version"
+built=$("$top/tlsf" --program)
 program=$work/tlsf
-cp "$top/crates/tlsf_tool/out/tlsf_tool" "$program"
+cp "$built" "$program"
 python3 "$top/bench/races/make_trace.py" > "$work/trace"
 echo "the trace has $(grep -c -v '^phase' "$work/trace") lines of calls and $(grep -c '^phase' "$work/trace") phase lines"
 

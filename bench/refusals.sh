@@ -20,9 +20,8 @@ for tool in cc python3; do
     command -v "$tool" > /dev/null || { echo "refusals: $tool is wanted, and isn't there" >&2; exit 2; }
 done
 
-program=${1:-$top/crates/tlsf_tool/out/tlsf_tool}
+program=${1:-$("$top/tlsf" --program)}
 # The program is called from other folders too.
 case $program in /*) ;; *) program=$(pwd)/$program ;; esac
-[ $# -gt 0 ] || "$top/tlsf" --version > "$work/version"
 cc -shared -fPIC -O1 -o "$work/refuse.so" "$top/bench/refusals/refuse.c" -ldl
 python3 "$top/bench/refusals/judge.py" "$program" "$work/refuse.so" "$work"

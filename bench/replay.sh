@@ -30,13 +30,13 @@ gaps() {
 measure() {
     "$1" "$2" > "$work/trace"
     start=$(date +%s%N)
-    "$top/tlsf" replay < "$work/trace" > "$work/replies"
+    "$program" replay < "$work/trace" > "$work/replies"
     end=$(date +%s%N)
     milliseconds=$(((end - start) / 1000000))
     echo "$1: $2 calls in $milliseconds ms, $(($2 * 1000 / (milliseconds + 1))) calls a second"
 }
 
-"$top/tlsf" --version > "$work/version"
+program=$("$top/tlsf" --program)
 for shape in grow gaps; do
     measure "$shape" 4095
     measure "$shape" 32767

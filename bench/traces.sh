@@ -14,7 +14,6 @@ most_words=4
 top=$(cd "$(dirname "$0")/.." && pwd)
 work=$(mktemp -d)
 trap 'rm -rf "$work"' EXIT
-program=${4:-$top/crates/tlsf_tool/out/tlsf_tool}
-[ $# -ge 4 ] || "$top/tlsf" --version > "$work/version"
+program=${4:-$("$top/tlsf" --program)}
 c++ -std=c++20 -O2 -Wall -Wextra -o "$work/compare" "$top/tools/second_reading/compare.cpp"
 "$work/compare" "$program" "${1:-100000}" "${2:-1}" "${3:-1}"
