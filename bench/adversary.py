@@ -1,25 +1,35 @@
 #!/usr/bin/env python3
-"""How many words a region needs at least: forces `NoFit` in `tlsf replay`, by programs that keep within the bounds of a pool.
+"""usage: bench/adversary.py [B N]..
+
+How many words a region needs at least: forces `NoFit` in `tlsf replay`, by programs that keep within the bounds of a pool.
 
 For each B and N this makes two traces of one worker that never holds more than B blocks and never asks for more than N bytes,
 replays them in smaller and smaller regions, from the words of `tlsf size --blocks B --bytes N` on, and prints the greatest region
 in which a request of theirs is answered NoFit. So what is needed lies above that, and no higher than the law's words. The calls
-are the same in each region: they follow no answer. Run by hand: the gate doesn't. Arguments: pairs B N; with none, four pairs.
-The variable TLSF names another program than the launcher.
+are the same in each region: they follow no answer. Run by hand: the gate doesn't. With no pair B N there are four pairs.
+The variable TLSF names another program than that of this tree.
 """
+import functools
 import os
 import pathlib
 import subprocess
 import sys
 
-PROGRAM = os.environ.get("TLSF", str(pathlib.Path(__file__).resolve().parent.parent / "tlsf"))
+LAUNCHER = pathlib.Path(__file__).resolve().parent.parent / "tlsf"
 NO_FIT = "refused 1"
 LEAST_TO_WIDEN = 5      # a round of wide blocks needs as many places
 
 
+@functools.cache
+def program():
+    """The path of the program, built first where need be."""
+    named = os.environ.get("TLSF")
+    return named or subprocess.run([LAUNCHER, "--program"], stdout=subprocess.PIPE, text=True, check=True).stdout.strip()
+
+
 def tlsf(*words, text=""):
     """What the program writes, given these words and this text."""
-    done = subprocess.run([PROGRAM, *words], input=text, capture_output=True, text=True, check=True)
+    done = subprocess.run([program(), *words], input=text, capture_output=True, text=True, check=True)
     return done.stdout
 
 
@@ -109,6 +119,13 @@ def report(most, length):
 
 
 if __name__ == "__main__":
-    numbers = [int(word) for word in sys.argv[1:]] or [1, 512, 2, 512, 10, 512, 100, 512]
+    given = sys.argv[1:]
+    if given[:1] in (["-h"], ["--help"]):
+        print(__doc__.strip())
+        sys.exit(0)
+    if len(given) % 2 or not all(word.isdecimal() for word in given):
+        print(__doc__.strip(), file=sys.stderr)
+        sys.exit(2)
+    numbers = [int(word) for word in given] or [1, 512, 2, 512, 10, 512, 100, 512]
     for most, length in zip(numbers[0::2], numbers[1::2]):
         report(most, length)

@@ -1,5 +1,5 @@
 #!/bin/sh
-# bench/calls.sh [PATH/tlsf.c]
+# usage: bench/calls.sh [PATH/tlsf.c]
 #
 # Counts the instructions of one allocate and of one release, the mean of 100,000, payload made zero, in three workloads: pairs of
 # 64 bytes; 8 to 512 bytes with 1,000 blocks live; 48 to 1,008 bytes behind 1,000 holes that are too small. The heap is of level 4.
@@ -7,20 +7,16 @@
 # its tlsf_calloc and tlsf_free, in the same workload, each with the ratio of the heap's to it. On a copy of the repository, by
 # valgrind's callgrind. Run by hand: the gate doesn't.
 set -eu
-case ${1:-} in
--h | --help)
-    sed -n '2,8s/^# \{0,1\}//p' "$0"
-    exit 0
-    ;;
-esac
+most_words=1
+. "$(dirname "$0")/help.sh"
 for tool in rt valgrind cc awk; do
     command -v "$tool" > /dev/null || {
         echo "calls.sh: $tool is missing" >&2
         exit 1
     }
 done
-if [ $# -gt 1 ] || { [ $# = 1 ] && [ ! -f "$1" ]; }; then
-    echo 'calls.sh: at most one argument, the path of a C file (see calls.sh --help)' >&2
+if [ $# = 1 ] && [ ! -f "$1" ]; then
+    echo "calls.sh: there is no file $1" >&2
     exit 1
 fi
 . "$(dirname "$0")/own_program.sh"

@@ -1,4 +1,6 @@
 #!/bin/sh
+# usage: bench/frees.sh
+#
 # Remote frees a second, over lanes and over queues: two, four and seven posters, each in a thread of its own, free 20,000 blocks each of one
 # owner, who drains meanwhile; a free that is refused as Full is made again. Eleven times by turns, on a copy of the repository; then
 # the median of each. Run by hand: the gate doesn't.

@@ -1,4 +1,6 @@
 #!/bin/sh
+# usage: bench/lanes.sh
+#
 # Times posts through a lane, by one thread and between two, on a copy of the repository. Run by hand: the gate doesn't.
 set -eu
 . "$(dirname "$0")/own_program.sh"

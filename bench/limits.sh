@@ -1,4 +1,6 @@
 #!/bin/sh
+# usage: bench/limits.sh
+#
 # Measures `tlsf replay` on a trace at the limits of the format: 2^20 bytes and 32,768 lines, eight workers. Run by hand: the
 # gate doesn't. Each figure is a ratio in one run; instructions are counted by valgrind's callgrind or, where that isn't
 # there, by `perf stat`, and times are the best of nine:
@@ -8,6 +10,7 @@
 # - to the trace's first half, which shows growth;
 # - and, for regions of 2^20 words, what opening the yard alone costs.
 set -eu
+. "$(dirname "$0")/help.sh"
 top=$(cd "$(dirname "$0")/.." && pwd)
 work=$(mktemp -d)
 trap 'rm -rf "$work"' EXIT
@@ -105,8 +108,7 @@ ratio() {
     awk -v a="$1" -v b="$2" 'BEGIN { printf "%.2f", a / b }'
 }
 
-"$top/tlsf" --version > "$work/version"
-program=$top/crates/tlsf_tool/out/tlsf_tool
+program=$("$top/tlsf" --program)
 generate 65536 > "$work/trace"
 head -n 16384 "$work/trace" > "$work/half"
 echo "the trace has $(wc -c < "$work/trace") bytes and $(wc -l < "$work/trace") lines"

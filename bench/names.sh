@@ -1,4 +1,6 @@
 #!/bin/sh
+# usage: bench/names.sh
+#
 # Gives names by the million to a heap of 64 words with live and free blocks, on a copy of the repository. Run by hand, and by no gate.
 #
 # From the name of each live block, and from the place and the stamp of each free one, every value of one field in turn: each place

@@ -1,12 +1,6 @@
 # Sourced by the scripts that measure a program of their own, which stands in bench/NAME/main.source. It makes $top, the repository, and
 # $work, a folder that is removed at the end.
-# Asked for help, the script that sources it shows the lines of its own head.
-case ${1:-} in
--h | --help)
-    sed -n '2,/^[^#]/s/^# \{0,1\}//p' "$0"
-    exit 0
-    ;;
-esac
+. "$(dirname "$0")/help.sh"
 top=$(cd "$(dirname "$0")/.." && pwd)
 work=$(mktemp -d)
 trap 'rm -rf "$work"' EXIT

@@ -1,4 +1,6 @@
 #!/bin/sh
+# usage: bench/payload.sh
+#
 # Times writes and reads of 8, 64 and 4,096 payload bytes, on a copy of the repository. Run by hand: the gate doesn't.
 set -eu
 . "$(dirname "$0")/own_program.sh"

@@ -1,5 +1,7 @@
 #!/bin/sh
-# Races one trace a thousand times under load, on four processors and on two, and has each text judged by
+# usage: bench/races.sh [RUNS]
+#
+# Races one trace RUNS times, or a thousand, under load, on four processors and on two, and has each text judged by
 # bench/races/judge.py, from the trace and the text alone. Run by hand: the gate doesn't. Needs python3 and taskset.
 #
 # Under load means: beside each race runs a busy loop for each processor that it may use. The judge also damages a text in
@@ -7,6 +9,8 @@
 # same trace without its `d` lines is raced as often, and has to give one text. The exit status is 0 where none was refused
 # and the last texts are one.
 set -eu
+most_words=1
+. "$(dirname "$0")/help.sh"
 export PYTHONDONTWRITEBYTECODE=1
 top=$(cd "$(dirname "$0")/.." && pwd)
 runs=${1:-1000}
@@ -27,9 +31,9 @@ if [ "$(nproc)" -lt 4 ]; then
     echo "races: four processors are wanted, and $(nproc) are there" >&2
     exit 2
 fi
-"$top/tlsf" --version > "$work/version"
+built=$("$top/tlsf" --program)
 program=$work/tlsf
-cp "$top/crates/tlsf_tool/out/tlsf_tool" "$program"
+cp "$built" "$program"
 python3 "$top/bench/races/make_trace.py" > "$work/trace"
 echo "the trace has $(grep -c -v '^phase' "$work/trace") lines of calls and $(grep -c '^phase' "$work/trace") phase lines"
 

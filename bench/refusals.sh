@@ -1,5 +1,6 @@
 #!/bin/sh
 # usage: bench/refusals.sh [PROGRAM]
+#
 # Refuses memory, reads, writes and threads to a built program, one after another, and judges each answer: status, standard
 # output and standard error. The program is that of this tree, where none is named. The gate doesn't run this; ./attack does.
 # Needs cc and python3.
@@ -9,6 +10,8 @@
 # program's standard input is closed, its output is a full disk, and the reader of its output is gone. The last line is
 # 'N refused, M answered wrongly'; the exit status is 0 where M is 0.
 set -eu
+most_words=1
+. "$(dirname "$0")/help.sh"
 export PYTHONDONTWRITEBYTECODE=1
 top=$(cd "$(dirname "$0")/.." && pwd)
 work=$(mktemp -d)
@@ -17,9 +20,8 @@ for tool in cc python3; do
     command -v "$tool" > /dev/null || { echo "refusals: $tool is wanted, and isn't there" >&2; exit 2; }
 done
 
-program=${1:-$top/crates/tlsf_tool/out/tlsf_tool}
+program=${1:-$("$top/tlsf" --program)}
 # The program is called from other folders too.
 case $program in /*) ;; *) program=$(pwd)/$program ;; esac
-[ $# -gt 0 ] || "$top/tlsf" --version > "$work/version"
 cc -shared -fPIC -O1 -o "$work/refuse.so" "$top/bench/refusals/refuse.c" -ldl
 python3 "$top/bench/refusals/judge.py" "$program" "$work/refuse.so" "$work"

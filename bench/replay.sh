@@ -1,7 +1,10 @@
 #!/bin/sh
+# usage: bench/replay.sh
+#
 # Times `tlsf replay` on traces of 32,767 calls, the most that a trace has, and on their first eighths, so that growth
 # with the number of calls is seen. Run by hand: the gate doesn't.
 set -eu
+. "$(dirname "$0")/help.sh"
 top=$(cd "$(dirname "$0")/.." && pwd)
 work=$(mktemp -d)
 trap 'rm -rf "$work"' EXIT
@@ -27,13 +30,13 @@ gaps() {
 measure() {
     "$1" "$2" > "$work/trace"
     start=$(date +%s%N)
-    "$top/tlsf" replay < "$work/trace" > "$work/replies"
+    "$program" replay < "$work/trace" > "$work/replies"
     end=$(date +%s%N)
     milliseconds=$(((end - start) / 1000000))
     echo "$1: $2 calls in $milliseconds ms, $(($2 * 1000 / (milliseconds + 1))) calls a second"
 }
 
-"$top/tlsf" --version > "$work/version"
+program=$("$top/tlsf" --program)
 for shape in grow gaps; do
     measure "$shape" 4095
     measure "$shape" 32767

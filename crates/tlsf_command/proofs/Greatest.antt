@@ -1,5 +1,5 @@
 -- The most bytes for so many blocks.
-use Rattle.std.proofs.Common.{◌≡◌, ◌≤◌, ℕ, zero, suc, Option, Some, None, inl, inr, refl, arith}
+use Rattle.std.proofs.Common.{◌≡◌, ◌≤◌, ℕ, zero, suc, Option, Some, None, inl, inr, refl, arith, le_trans}
 use Rattle.std.specs.Prelude.{IfSome}
 use Rattle.std.specs.Option.{unwrap_or}
 use Rattle.tlsf_class.specs.Classes.{IsLevel, most_words}
@@ -7,9 +7,6 @@ use Rattle.tlsf_heap.specs.Blocks.{want}
 use Rattle.tlsf_laws.specs.Pools.{pool_words}
 use Rattle.tlsf_pool.proofs.Bounds.{words_rise}
 use Rattle.tlsf_command.specs.SizeLines.{IsGreatest, IsReached}
-
-within : (a b c : ℕ) → a ≤ b → b ≤ c → a ≤ c
-within a b c f g = omega (arith, f, g)
 
 least : (k : ℕ) → 0 ≤ k
 least k = omega arith
@@ -25,7 +22,7 @@ pub longest_is : (sli : ℕ) → IsLevel sli → (most : ℕ) (found : Option �
     → IsGreatest (λ len. IsReached sli most len) (unwrap_or found 0)
 longest_is sli level most None some reached greatest none = (
   inr refl,
-  λ k is. absurd (none refl (within (pool_words sli most 0) (pool_words sli most k) (most_words sli) (words_rise sli level most 0 k (least k) is.2) is.3)),
+  λ k is. absurd (none refl (le_trans (words_rise sli level most 0 k (least k) is.2) is.3)),
 )
 longest_is sli level most (Some zero) some reached greatest none = (inr refl, λ k is. greatest k is.2 is.3)
 longest_is sli level most (Some (suc n)) some reached greatest none = (inl (some, some_byte n, reached.0, reached.1), λ k is. greatest k is.2 is.3)

@@ -49,28 +49,10 @@ number_read text (Err e) is =
 
 -- ---- kinds of a table
 
-pub servable_at : (sli : ℕ) (kinds : List Kind) (i : ℕ) (d : Kind) → AllByRecursion (IsServable sli) kinds → i < length kinds → IsServable sli (get_or kinds i d)
-servable_at sli [] i d all within = absurd (omega (arith, within))
-servable_at sli (k ∷ kinds) zero d all within = all.0
-servable_at sli (k ∷ kinds) (suc i) d all within = servable_at sli kinds i d all.1 (omega arith)
-
 -- each has a class
 pub classes : (sli : ℕ) (kinds : List Kind) → AllByRecursion (IsServable sli) kinds → AllByRecursion (HasClass sli) kinds
 classes sli [] all = tt
 classes sli (k ∷ kinds) all = (all.0.2, classes sli kinds all.1)
-
--- all that are left, by the next one and those behind it
-pub all_split : (sli : ℕ) (kinds : List Kind) (i : ℕ) (d : Kind) → i < length kinds → AllByRecursion (IsServable sli) (drop i kinds)
-    → IsServable sli (get_or kinds i d) × AllByRecursion (IsServable sli) (drop (suc i) kinds)
-all_split sli [] i d within all = absurd (omega (arith, within))
-all_split sli (k ∷ kinds) zero d within all = all
-all_split sli (k ∷ kinds) (suc i) d within all = all_split sli kinds i d (omega arith) all
-
-pub all_join : (sli : ℕ) (kinds : List Kind) (i : ℕ) (d : Kind) → i < length kinds → IsServable sli (get_or kinds i d)
-    → AllByRecursion (IsServable sli) (drop (suc i) kinds) → AllByRecursion (IsServable sli) (drop i kinds)
-all_join sli [] i d within one all = absurd (omega (arith, within))
-all_join sli (k ∷ kinds) zero d within one all = (one, all)
-all_join sli (k ∷ kinds) (suc i) d within one all = all_join sli kinds i d (omega arith) one all
 
 same : (a : ℕ) → a ≤ a
 same a = omega arith
@@ -111,10 +93,6 @@ one_byte a b c f g = omega (arith, products 1 a 1 b f g)
 pub some_byte : (sli : ℕ) (kinds : List Kind) → 0 < length kinds → AllByRecursion (IsServable sli) kinds → 1 ≤ asked_bytes kinds
 some_byte sli [] some all = absurd (omega (arith, some))
 some_byte sli (k ∷ kinds) some all = one_byte k.most k.len (asked_bytes kinds) all.0.0 all.0.1
-
--- no kind at all is reached
-pub none_reached : (sli : ℕ) → AreReached sli []
-none_reached sli = (tt, least (most_words sli))
 
 -- the kind at a place within the table
 pub found_at : (kinds : List Kind) (i : ℕ) → i < length kinds → (k : Kind) × (slice_get kinds i ≡ Some k)

@@ -6,7 +6,8 @@ use Rattle.tlsf_heap.specs.Lawful.{IsLawful, HasRoom, AreApart}
 use Rattle.tlsf_words.specs.Lists.{AreDistinct}
 use Rattle.tlsf_heap.specs.Calls.{with_blocks, ticked, first_free, past_free, last_free, before_free}
 use Rattle.tlsf_heap.proofs.Ends.{ends_free, ends_live}
-use Rattle.tlsf_heap.proofs.Lawfulness.{all_append, all_left, all_right, all_weaker, all_without, all_insert, serials-append, stamps-append, words_in-append, distinct_insert, distinct_without}
+use Rattle.tlsf_words.proofs.PlaceLists.{distinct_without}
+use Rattle.tlsf_heap.proofs.Lawfulness.{all_append, all_left, all_right, all_weaker, all_without, all_insert, serials-append, stamps-append, words_in-append, distinct_insert}
 
 -- all that is lawful but that free blocks are apart
 record IsSound (words tick : ℕ) (bs : List Block) : Type 0 where

@@ -6,7 +6,8 @@ use Rattle.tlsf_heap.specs.Blocks.{Block, Live, Free, HeapState, words_in, seria
 use Rattle.tlsf_heap.specs.Lawful.{IsLawful, HasRoom, AreApart}
 use Rattle.tlsf_words.specs.Lists.{AreDistinct}
 use Rattle.tlsf_heap.specs.Regions.{RegionState}
-use Rattle.tlsf_heap.specs.Calls.{with_blocks, ticked}
+use Rattle.tlsf_heap.specs.Calls.{opened, with_blocks, ticked}
+use Rattle.tlsf_words.proofs.PlaceLists.{distinct_without}
 
 module _ {X : Type 0} (P : X → Type 0) where
   pub all_append : (xs ys : List X) → AllByRecursion P xs → AllByRecursion P ys → AllByRecursion P (xs ++ ys)
@@ -45,13 +46,6 @@ distinct_insert t [] ys d a = (all_weaker (λ y. y < t) (λ y. t ≢ y) (λ y h 
 distinct_insert t (x ∷ xs) ys d a = (
   all_append (λ y. x ≢ y) xs (t ∷ ys) (all_left (λ y. x ≢ y) xs ys d.0) ((λ e. omega (arith, a.0, e)), all_right (λ y. x ≢ y) xs ys d.0),
   distinct_insert t xs ys d.1 a.1,
-)
-
-pub distinct_without : (s : ℕ) (xs ys : List ℕ) → AreDistinct (xs ++ s ∷ ys) → AreDistinct (xs ++ ys)
-distinct_without s [] ys d = d.1
-distinct_without s (x ∷ xs) ys d = (
-  all_append (λ y. x ≢ y) xs ys (all_left (λ y. x ≢ y) xs (s ∷ ys) d.0) (all_right (λ y. x ≢ y) xs (s ∷ ys) d.0).1,
-  distinct_without s xs ys d.1,
 )
 
 pub all_without : (P : ℕ → Type 0) (s : ℕ) (xs ys : List ℕ) → AllByRecursion P (xs ++ s ∷ ys) → AllByRecursion P (xs ++ ys)
@@ -142,3 +136,15 @@ module _ (h : HeapState) (front back : List Block) (m s n len : ℕ) (wanted : n
     serials_past = subst (AllByRecursion (λ x. x < h.tick + 1)) (sym (serials-append front _)) new_serials_past;
     stamps_past = subst (AllByRecursion (λ x. x < h.tick + 1)) (sym (stamps-append front _)) (all_weaker (λ x. x < h.tick) (λ x. x < h.tick + 1) later _ old_stamps_past);
   })
+
+-- a new heap is lawful
+pub opened_lawful : (id words first : ℕ) → 4 ≤ words → IsLawful (opened id words first)
+opened_lawful id words first h = record {
+  rooms = (h, tt);
+  whole = omega arith;
+  apart = tt;
+  serials_differ = tt;
+  stamps_differ = (tt, tt);
+  serials_past = tt;
+  stamps_past = (omega arith, tt);
+}

@@ -1,4 +1,5 @@
 -- The list of the free blocks of a class, as free blocks come and go.
+use Rattle.std.proofs.lemmas.List.{map-append}
 use Rattle.std.proofs.Common.{◌≡◌, ◌≢◌, ℕ, zero, suc, ◌<◌, ◌⊎◌, inl, inr, Bool, true, false, cond, eqb, not, List, [], ◌∷◌, ◌++◌, length, get_or, filter, map, refl, sym, ap, ◌∙◌, subst, arith}
 use Rattle.std.specs.Prelude.{Contains, IsPermutation}
 use Rattle.std.specs.List.{AllByRecursion}
@@ -87,10 +88,6 @@ from_map f (x ∷ xs) y c = elim (first_or_later (f x) (map f xs) y c) [
   | inl same ↦ (x, first_of x xs, same)
   | inr rest ↦ let old = from_map f xs y rest in (old.0, later x xs old.0 old.1, old.2)
 ]
-
-map-append : {X Y : Type 0} (f : X → Y) (xs ys : List X) → map f (xs ++ ys) ≡ map f xs ++ map f ys
-map-append f [] ys = refl
-map-append {Y = Y} f (x ∷ xs) ys = ap (λ (l : List Y). f x ∷ l) (map-append f xs ys)
 
 -- none of these free blocks begins at this place
 abbrev pub IsFresh : ℕ → List FreePlace → Type 0

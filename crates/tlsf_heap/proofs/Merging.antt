@@ -94,10 +94,6 @@ module _ {m : Image} {bs : List Block} (shows : Shows m bs) {at i : ℕ} (stands
       }
 
   module _ {around : Neighbours} (is : AreNeighbours (length m.words) (site_at bs i) around) where
-    -- all of them lie in the region
-    pub merge_size : around.tag.size ≤ length m.words
-    merge_size = omega (arith, lies.ends, lies.within, is.size)
-
     -- what the writes of a merge ask for
     pub merge_within : at - around.before + around.tag.size ≤ length m.words
     merge_within = omega (arith, lies.ends, lies.within, is.before, is.size)

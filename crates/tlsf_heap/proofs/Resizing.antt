@@ -17,7 +17,8 @@ use Rattle.tlsf_heap.proofs.Allocating.{split_at}
 use Rattle.tlsf_heap.proofs.Coalescing.{free_first}
 use Rattle.tlsf_heap.proofs.Finding.{and_left, not_true}
 use Rattle.tlsf_heap.proofs.Fitted.{length-fitted}
-use Rattle.tlsf_heap.proofs.Lawfulness.{all_append, all_left, all_right, all_weaker, all_without, all_insert, serials-append, stamps-append, words_in-append, distinct_insert, distinct_without, with_region, region_is}
+use Rattle.tlsf_words.proofs.PlaceLists.{distinct_without}
+use Rattle.tlsf_heap.proofs.Lawfulness.{all_append, all_left, all_right, all_weaker, all_without, all_insert, serials-append, stamps-append, words_in-append, distinct_insert, with_region, region_is}
 use Rattle.tlsf_heap.proofs.Naming.{refused_name, at_name}
 use Rattle.tlsf_heap.proofs.Recutting.{cut_small, cut_large}
 use Rattle.tlsf_heap.proofs.Refitted.{refitted_grown, refitted_cut, refitted_kept}

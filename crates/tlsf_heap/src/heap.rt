@@ -8,6 +8,7 @@ ghost use Rattle.tlsf_heap.specs.Lawful.{IsLawful, IsRegion};
 ghost use Rattle.tlsf_heap.specs.GoodFit.{fits, block_at};
 ghost use Rattle.tlsf_heap.specs.Named.{IsFirst, IsNameCheck};
 ghost use Rattle.tlsf_heap.specs.Placed.{placed_at};
+ghost use Rattle.tlsf_heap.specs.Regions.{image_of};
 ghost use Rattle.tlsf_heap.specs.Reports.{report_of, IsGrant};
 ghost use Rattle.tlsf_heap.specs.Given.{payload_words_given, payload_words_left};
 ghost use Rattle.tlsf_heap.specs.Calls.{opened, allocated, released, resized, written, read_of, read_answer, has_bytes, last_tick};
@@ -24,10 +25,7 @@ use crate::tally::Tally;
 use std::alloc::Global;
 use std::marker::Model;
 use tlsf_class::{class_of, most_words};
-use tlsf_words::Tag;
-
-#[cfg(test)]
-mod image_tests;
+use tlsf_words::{Tag, Words};
 
 /// A heap over a region of words, kept by two-level segregated fit (ECRTS 2004, section 3).
 ///
@@ -377,6 +375,20 @@ impl<const SLI: u32> Heap<SLI> {
         ensures { result ≡ self.now.heap.tick }
     {
         self.tick
+    }
+
+    /// Ends the heap, and gives the words of its region and the map of the places where its blocks begin, as they stand: for whoever prints,
+    /// keeps or compares them. Takes no memory.
+    ///
+    /// ```text
+    /// let mut words = Heap::<4>::open(alloc, 0, 64, 0)?.into_words();
+    /// words.tag(0)                                     // Tag { size: 64, free: true, last: true, back: NO_PLACE }
+    /// ```
+    pub fn into_words(self) -> Words
+        ensures stored { image_of result ≡ self.entry.stored }
+        ensures shows { Shows self.entry.stored self.entry.heap.blocks }
+    {
+        self.region.into_words()
     }
 
     /// The tag of the live block of this heap that has that name. Where none has, `Foreign` or else `Stale`.

@@ -10,7 +10,7 @@ ghost use Rattle.tlsf_heap.specs.Image.{mark_of};
 ghost use Rattle.tlsf_heap.specs.Lawful.{HasRoom};
 ghost use Rattle.tlsf_heap.specs.Named.{IsNameTest};
 ghost use Rattle.tlsf_heap.specs.Placed.{placed_at};
-ghost use Rattle.tlsf_heap.specs.Regions.{list_in, AreUnlisted, EachAt, HasAt, IsTagOf, IsTagBehind, AreNeighbours, rest_of, OnlyReads, Rewrites, PutInFront, TakenOut, IsOpened};
+ghost use Rattle.tlsf_heap.specs.Regions.{list_in, AreUnlisted, EachAt, HasAt, IsTagOf, IsTagBehind, AreNeighbours, rest_of, image_of, OnlyReads, Rewrites, PutInFront, TakenOut, IsOpened};
 
 use crate::headers::{
     first_header, live_header, merge_headers, recut_header, split_header, widen_header,
@@ -28,8 +28,7 @@ use tlsf_words::{FreeLists, NoMemory, Tag, Words};
 /// Its touches are those of the words and of the lists together.
 #[derive(Drop)]
 pub struct Region<const SLI: u32> {
-    // Open to the crate for the tests of what stands in the words.
-    pub(crate) words: Words,
+    words: Words,
     lists: FreeLists<SLI>,
 }
 
@@ -67,6 +66,13 @@ impl<const SLI: u32> Region<SLI> {
         ensures value { result ≡ self.now.words }
     {
         self.words.len()
+    }
+
+    /// The words and the start bits as they stand.
+    pub fn into_words(self) -> Words
+        ensures stored { image_of result ≡ self.entry.stored }
+    {
+        self.words
     }
 
     /// The serial of the live block at a place, or the stamp of the free one.

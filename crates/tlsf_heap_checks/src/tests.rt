@@ -3,6 +3,7 @@
 mod blocks;
 mod classes;
 mod heaps;
+mod images;
 mod lane_threads;
 mod lanes;
 mod lists;

@@ -157,9 +157,6 @@ one_more t (Some call) None calls answers even = absurd (true≢false even)
 one_more t (Some call) (Some answer) calls answers even = refl
 
 module _ (made : List (Option Name)) (workers j : ℕ) (inside : j < workers) where
-  call_of : Entry → Option heap.Call
-  call_of e = call_on_own made e.worker e.call e.reply
-
   entries_tallied : (t : Tally) (es : List Entry) → All (HasItsAnswer made workers) es
       → fold with_entry t (entries_of j es) ≡ tally_after_all t (calls_on j made es) (answers_on j es)
   entries_tallied t [] each = refl

@@ -1,5 +1,5 @@
 -- A table of kinds that never refuses: what each call leaves of its bounds.
-use Rattle.std.proofs.Common.{◌≡◌, ◌≢◌, ℕ, zero, suc, ◌+◌, ◌-◌, ◌*◌, ◌^◌, ◌<◌, ◌≤◌, List, [], ◌∷◌, length, Err, refl, ap, ◌∙◌, max, add-zero, arith}
+use Rattle.std.proofs.Common.{◌≡◌, ◌≢◌, ℕ, zero, suc, ◌+◌, ◌-◌, ◌*◌, ◌^◌, ◌<◌, ◌≤◌, List, [], ◌∷◌, length, Err, refl, ap, ◌∙◌, max, add-zero, arith, le_trans}
 use Rattle.std.specs.List.{AllByRecursion}
 use Rattle.std.proofs.Math.Nat.{mul-le-mul}
 use Rattle.tlsf_class.specs.Classes.{IsLevel, most_words}
@@ -48,9 +48,9 @@ module _ (sli : ℕ) (level : IsLevel sli) (words : ℕ) (kinds : List Kind) (cl
       let count : live_count h ≡ length (lengths l) = counted h.blocks ∙ table.agrees.totals one ∙ sum_one (lengths l) in
       let lost : (live_count h + 1) * (sure sli (want n) - 1) ≤ count_in kinds * (sure sli (want has.kind.len) - 1) =
       mul-le-mul (bounded _ _ _ count (counted_in kinds (n ∷ lengths l) fit)) (less _ _ rises) in
-      let least : words_with sli kinds has.kind ≤ words = under _ _ _ (least_words sli kinds kinds 0 has.kind has.of) large in
-      finds_room sli level h n table.lawful (under _ _ _ wanted region) (enough (words_in (live_among h.blocks)) (free_words h) words (sum_of spend (lengths l)) (spend has.kind.len) (table_words kinds) _ _
-      (words_apart h.blocks ∙ (table.lawful.whole ∙ table.words_are)) (under _ _ _ (live_spent h.blocks table.snug) (same _ _ (table.agrees.totals spend))) has.left least lost)
+      let least : words_with sli kinds has.kind ≤ words = le_trans (least_words sli kinds kinds 0 has.kind has.of) large in
+      finds_room sli level h n table.lawful (le_trans wanted region) (enough (words_in (live_among h.blocks)) (free_words h) words (sum_of spend (lengths l)) (spend has.kind.len) (table_words kinds) _ _
+      (words_apart h.blocks ∙ (table.lawful.whole ∙ table.words_are)) (le_trans (live_spent h.blocks table.snug) (same _ _ (table.agrees.totals spend))) has.left least lost)
       ((no_fit sli h n).0 e)
     where
       wants : (a b : ℕ) → a ≤ b → want a ≤ want b
@@ -61,9 +61,6 @@ module _ (sli : ℕ) (level : IsLevel sli) (words : ℕ) (kinds : List Kind) (cl
 
       less : (a b : ℕ) → a ≤ b → a - 1 ≤ b - 1
       less a b f = omega (arith, f)
-
-      under : (a b c : ℕ) → a ≤ b → b ≤ c → a ≤ c
-      under a b c f g = omega (arith, f, g)
 
       same : (a b : ℕ) → a ≡ b → a ≤ b
       same a b f = omega (arith, f)

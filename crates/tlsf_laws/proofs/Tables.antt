@@ -1,5 +1,5 @@
 -- Blocks that fit a table of kinds: how many they are, and how many words they take.
-use Rattle.std.proofs.Common.{◌≡◌, ℕ, ◌+◌, ◌*◌, ◌<◌, ◌≤◌, ◌⊎◌, suc, Bool, true, false, cond, List, [], ◌∷◌, length, map, filter, fold, max, nat_le, nat_lt, refl, sym, ap, ◌∙◌, subst, inl, inr, arith}
+use Rattle.std.proofs.Common.{◌≡◌, ℕ, ◌+◌, ◌*◌, ◌<◌, ◌≤◌, ◌⊎◌, suc, Bool, true, false, cond, List, [], ◌∷◌, length, map, filter, fold, max, nat_le, nat_lt, refl, sym, ap, ◌∙◌, subst, inl, inr, arith, le_trans}
 use Rattle.std.specs.List.{AllByRecursion}
 use Rattle.std.proofs.Math.Nat.{mul-le-mul_right}
 use Rattle.std.proofs.lemmas.Bool.{cases_lt, lt-ltb, le-ltb, le-leb, lt-leb}
@@ -65,15 +65,12 @@ short_spent k (n ∷ lens) = elim (parted k n) [
 within : (a b c d e : ℕ) → a ≡ b + c → b ≤ d → c ≤ e → a ≤ d + e
 within a b c d e f g h = omega (arith, f, g, h)
 
-through : (a b c : ℕ) → a ≤ b → b ≤ c → a ≤ c
-through a b c f g = omega (arith, f, g)
-
 -- blocks that fit the table take at most its words
 pub spent : (kinds : List Kind) (lens : List ℕ) → AreOfKinds kinds lens → sum_of spend lens ≤ table_words kinds
 spent [] lens none = subst (λ (l : List ℕ). sum_of spend l ≤ 0) (sym none) (omega arith)
 spent (kind ∷ kinds) lens fit =
     within (sum_of spend lens) (sum_of spend (short kind.len lens)) (sum_of spend (long kind.len lens)) (kind.most * spend kind.len) (table_words kinds) (split spend kind.len lens)
-    (through _ _ _ (short_spent kind.len lens) (mul-le-mul_right (spend kind.len) fit.0)) (spent kinds (long kind.len lens) fit.1)
+    (le_trans (short_spent kind.len lens) (mul-le-mul_right (spend kind.len) fit.0)) (spent kinds (long kind.len lens) fit.1)
 
 sum_one : (lens : List ℕ) → sum_of one lens ≡ length lens
 sum_one [] = refl
@@ -126,7 +123,7 @@ has_kind (kind ∷ kinds) n lens fit = elim (parted kind.len n) [
         of = inr has.of;
         short = has.short;
         left = behind (sum_of spend lens) (sum_of spend (short kind.len lens)) (sum_of spend (long kind.len lens)) (spend has.kind.len) (kind.most * spend kind.len) (table_words kinds)
-            (split spend kind.len lens) (through _ _ _ (short_spent kind.len lens) (mul-le-mul_right (spend kind.len) most)) has.left;
+            (split spend kind.len lens) (le_trans (short_spent kind.len lens) (mul-le-mul_right (spend kind.len) most)) has.left;
       }
 ]
 
@@ -141,7 +138,7 @@ least_words sli all [] best kind of = absurd of
 least_words sli all (k ∷ kinds) best kind of = elim of [
   | inl same ↦
       let e = best_least (max best (words_with sli all k)) (map (words_with sli all) kinds) in
-      through (words_with sli all kind) (max best (words_with sli all k)) _ (subst (λ (x : Kind). words_with sli all x ≤ max best (words_with sli all k)) same (top best (words_with sli all k))) e
+      le_trans (subst (λ (x : Kind). words_with sli all x ≤ max best (words_with sli all k)) same (top best (words_with sli all k))) e
   | inr rest ↦ least_words sli all kinds (max best (words_with sli all k)) kind rest
 ]
   where

@@ -79,10 +79,6 @@ one_pair_more s out i worst h l v w fits room ha hb ev ew inv = (
       ],
 )
 
--- no pair is read yet
-pub none_read : (s out : List ℕ) → IsReadSoFar s out 0 0
-none_read s out = (λ good. decode_start s out, λ bad. absurd (omega arith))
-
 -- every pair is read
 pub all_read : (s out : List ℕ) (i worst : ℕ) → length s ≡ 2 * length out → length out ≤ i → IsReadSoFar s out i worst
     → result_ok (decode_of s) ≡ (if nat_lt worst 16 then Some out else None)

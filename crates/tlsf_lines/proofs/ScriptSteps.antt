@@ -87,9 +87,3 @@ script_of_text text rest header old new heads has header_is events labels calls 
     calls = calls ∙ has.holds.calls;
   };
 }
-
--- a fault behind the header is that of the text
-pub fails_behind : (error : ParseError) (header : Header) (said : Result (List Line) (LineFault × ℕ)) (whole : Result Trace (LineFault × ℕ))
-    → whole ≡ (said >>= λ lines. Ok (record { header = header; lines = lines })) → FailsAt error said → FailsAt error whole
-fails_behind parsing.NoMemory header said whole is fails = tt
-fails_behind (parsing.At fault n) header said whole is fails = is ∙ rw fails refl

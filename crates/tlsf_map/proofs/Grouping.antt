@@ -24,20 +24,6 @@ both true true c is = (refl, refl)
 both true false c is = absurd (true≢false (sym is))
 both false b c is = absurd (true≢false (sym is))
 
--- at first: the first block begins the first group
-pub first_written : (grid : Grid) (heap : MappedHeap) (blocks : List LabelledBlock) (text : List ℕ) (d drawn : LabelledBlock) (group : Group) → 0 < length blocks → get_or blocks 0 d ≡ drawn
-    → IsGroup grid (drawn ∷ []) group → HasWritten grid heap blocks text text 1 group 0
-first_written grid heap blocks text d drawn group some first is =
-    let begins : groups_of grid blocks ≡ groups_from grid (drawn ∷ []) (drop 1 blocks) =
-    at_drop_more (groups_of grid) blocks 0 d some ∙ ap (λ (b : LabelledBlock). groups_of grid (b ∷ drop 1 blocks)) first in
-    record {
-      before = drawn ∷ [];
-      is = is;
-      so_far = ap (λ (gs : List (List LabelledBlock)). text ++ groups_text grid heap gs) (sym begins);
-      counted = omega (arith, ap joined_of (sym begins));
-      few = omega (arith, is.count);
-    }
-
 module _ (grid : Grid) (heap : MappedHeap) (blocks : List LabelledBlock) (begun text : List ℕ) (index : ℕ) (group : Group) (joined : ℕ) (w : HasWritten grid heap blocks begun text index group joined) where
   -- whether the next block joins, by the numbers of the group
   pub joins_by : (next : LabelledBlock) → (group.narrow && is_narrow grid next && nat_lt group.words 256) ≡ joins grid w.before next
@@ -96,17 +82,6 @@ module _ (grid : Grid) (heap : MappedHeap) (blocks : List LabelledBlock) (begun 
         counted = both_counts ∙ (ap (λ (gs : List (List LabelledBlock)). joined + joined_of gs) (sym on) ∙ w.counted);
         few = omega (arith, is.count, least, w.few);
       }
-
-  -- behind the last block the last group is written
-  pub written_all : (longer : List ℕ) → length blocks ≤ index → longer ≡ text ++ group_text grid heap w.before → longer ≡ begun ++ groups_text grid heap (groups_of grid blocks)
-  written_all longer all writes =
-      writes ∙ (ap (λ (t : List ℕ). text ++ t) (sym (append-nil (group_text grid heap w.before)))
-      ∙ (sym (at_drop_all (λ (l : List LabelledBlock). text ++ groups_text grid heap (groups_from grid w.before l)) blocks index all) ∙ w.so_far))
-
-  pub counted_all : (more : ℕ) → length blocks ≤ index → more ≡ joined_in w.before → joined + more ≡ joined_of (groups_of grid blocks)
-  counted_all more all counts =
-      let last : joined + more ≡ joined + (joined_in w.before + 0) = omega (arith, counts) in
-      last ∙ (sym (at_drop_all (λ (l : List LabelledBlock). joined + joined_of (groups_from grid w.before l)) blocks index all) ∙ w.counted)
 
 -- ---- the laws of groups
 

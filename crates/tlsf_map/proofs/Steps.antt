@@ -17,15 +17,6 @@ piece_more grid text whole rows counter at words here lt is so_far =
     subst (λ (h : ℕ). (text ++ piece_text grid (record { at = at; words = h })) ++ pieces_text grid (cut (rows - (counter + 1)) grid (at + h) (words - h)) ≡ whole) (sym is)
     (append_assoc text _ _ ∙ ap (λ (n : ℕ). text ++ pieces_text grid (cut n grid at words)) (sym more) ∙ so_far)
 
--- the part of this heap, and then those of the heaps behind it
-pub heap_more : (grid : Grid) (words : ℕ) (text whole : List ℕ) (heaps : List MappedHeap) (i : ℕ) (d heap : MappedHeap) → i < length heaps → get_or heaps i d ≡ heap
-    → text ++ heaps_text grid words i (drop i heaps) ≡ whole
-    → (text ++ heap_text grid (768 + i * heap_height grid words) words heap) ++ heaps_text grid words (i + 1) (drop (i + 1) heaps) ≡ whole
-heap_more grid words text whole heaps i d heap lt is so_far =
-    append_assoc text (heap_text grid (768 + i * heap_height grid words) words heap) _
-    ∙ (ap (λ (h : MappedHeap). text ++ heaps_text grid words i (h ∷ drop (i + 1) heaps)) (sym is)
-    ∙ (sym (at_drop_more (λ (l : List MappedHeap). text ++ heaps_text grid words i l) heaps i d lt) ∙ so_far))
-
 -- this character, and then those behind it
 pub mark_more : (span number end : ℕ) (mark text whole : List ℕ) → number < end → text ++ up_to span number end mark ≡ whole
     → ((text ++ row_begin span number) ++ mark) ++ up_to span (number + 1) end mark ≡ whole

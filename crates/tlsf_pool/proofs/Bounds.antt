@@ -1,5 +1,5 @@
 -- How far the greatest region goes.
-use Rattle.std.proofs.Common.{◌≡◌, ℕ, zero, suc, ◌+◌, ◌-◌, ◌*◌, ◌/◌, ◌<◌, ◌≤◌, arith, inl, inr}
+use Rattle.std.proofs.Common.{◌≡◌, ℕ, zero, suc, ◌+◌, ◌-◌, ◌*◌, ◌/◌, ◌<◌, ◌≤◌, arith, inl, inr, le_trans}
 use Rattle.std.proofs.Math.Nat.{mul-le-mul}
 use Rattle.std.proofs.lemmas.Bool.{cases_lt}
 use Rattle.tlsf_heap.specs.Blocks.{want}
@@ -35,16 +35,13 @@ words_rise sli level most a b f class =
     (products (most - 1) (most - 1) (want a + 3) (want b + 3) (same (most - 1)) (three (want a) (want b) w))
     (products most most (sure sli (want a) - 1) (sure sli (want b) - 1) (same most) (less (sure sli (want a)) (sure sli (want b)) (sure_rises sli level (want a) (want b) w class)))
 
-trans : (a b c : ℕ) → a ≤ b → b ≤ c → a ≤ c
-trans a b c f g = omega (arith, f, g)
-
 -- a length above the first that doesn't fit doesn't fit
 pub none_longer : (sli : ℕ) → IsLevel sli → (most longest above len : ℕ) → above ≤ longest + 1 → (above < 8 * (most_words sli - 3) + 1 → ¬ (pool_words sli most above ≤ most_words sli)) → want len ≤ most_words sli → pool_words sli most len ≤ most_words sli → len ≤ longest
 none_longer sli level most longest above len next passed class fits = elim (cases_lt longest len) [
   | inl l ↦
       let under : above ≤ len = omega (arith, next, l) in
       let short : above < 8 * (most_words sli - 3) + 1 = omega (arith, under, class) in
-      absurd (passed short (trans (pool_words sli most above) (pool_words sli most len) (most_words sli) (words_rise sli level most above len under class) fits))
+      absurd (passed short (le_trans (words_rise sli level most above len under class) fits))
   | inr g ↦ g
 ]
 

@@ -1,5 +1,5 @@
 -- Sizes of regions by sums, and how large they get.
-use Rattle.std.proofs.Common.{◌≡◌, ℕ, zero, suc, ◌+◌, ◌*◌, ◌^◌, ◌<◌, ◌≤◌, List, [], ◌∷◌, length, get_or, refl, arith}
+use Rattle.std.proofs.Common.{◌≡◌, ℕ, zero, suc, ◌+◌, ◌*◌, ◌^◌, ◌<◌, ◌≤◌, List, [], ◌∷◌, length, get_or, refl, arith, le_trans}
 use Rattle.std.specs.List.{AllByRecursion}
 use Rattle.std.proofs.Math.Nat.{mul-le-mul}
 use Rattle.tlsf_class.specs.Classes.{IsLevel, most_words, low, classes, search_of}
@@ -38,9 +38,6 @@ class_at sli (k ∷ kinds) (suc i) kind all within = class_at sli kinds i kind a
 products : (a b c d : ℕ) → a ≤ b → c ≤ d → a * c ≤ b * d
 products a b c d f g = mul-le-mul f g
 
-trans : (a b c : ℕ) → a ≤ b → b ≤ c → a ≤ c
-trans a b c f g = omega (arith, f, g)
-
 -- the words of one kind, at most
 abbrev pub kind_limit : ℕ → ℕ
 kind_limit sli = 2 ^ 32 * (most_words sli + 3)
@@ -63,14 +60,14 @@ pub more_words : (sli a b i : ℕ) → a ≤ i * kind_limit sli → b ≤ kind_l
 more_words sli a b i f g = one_more a b i (kind_limit sli) f g
 
 pub words_small : (sli : ℕ) → IsLevel sli → (a i : ℕ) → a ≤ i * kind_limit sli → i ≤ most_kinds sli → a ≤ 2 ^ 63
-words_small sli level a i f few = trans a (i * kind_limit sli) (2 ^ 63) f (all_kinds sli level i few)
+words_small sli level a i f few = le_trans f (all_kinds sli level i few)
 
 -- what is lost beside the blocks that are held
 lost_limit : (sli : ℕ) → IsLevel sli → most_kinds sli * 2 ^ 32 * most_words sli ≤ 2 ^ 62
 lost_limit = by_level (λ sli. most_kinds sli * 2 ^ 32 * most_words sli ≤ 2 ^ 62) (omega arith) (omega arith)
 
 pub lost_small : (sli : ℕ) → IsLevel sli → (count lost : ℕ) → count ≤ most_kinds sli * 2 ^ 32 → lost ≤ most_words sli → count * lost ≤ 2 ^ 62
-lost_small sli level count lost f g = trans (count * lost) (most_kinds sli * 2 ^ 32 * most_words sli) (2 ^ 62) (products count (most_kinds sli * 2 ^ 32) lost (most_words sli) f g) (lost_limit sli level)
+lost_small sli level count lost f g = le_trans (products count (most_kinds sli * 2 ^ 32) lost (most_words sli) f g) (lost_limit sli level)
 
 -- the largest region has words
 pub some_words : (sli : ℕ) → IsLevel sli → 4 ≤ most_words sli

@@ -274,9 +274,6 @@ none_taken (Some x) v w Q m = tt
 
 -- ---- one poster's posts are all its own
 
-pub signed_push : (p : ℕ) (put : List Post) (x : Post) → posts_of p put ≡ put → x.from ≡ p → posts_of p (put ++ x ∷ []) ≡ put ++ x ∷ []
-signed_push p put x e own = of_append p put (x ∷ []) ∙ ap (λ l. l ++ posts_of p (x ∷ [])) e ∙ ap (λ l. put ++ l) (of_own p x [] own)
-
 -- ---- for the calls
 
 pub not_own : (v : Hand) (own from : ℕ) → v.own ≡ own ∷ [] → v.number ≡ from → from ≢ own → v.own ≢ v.number ∷ []

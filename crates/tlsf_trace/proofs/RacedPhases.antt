@@ -46,9 +46,6 @@ heap_count ws = ap length (heaps_are ws) ∙ length-map ws heap_of
 pub queue_heap_count : {sli : ℕ} → (ws : List (QueueWorker sli)) → length (queue_world_of ws).heaps ≡ length ws
 queue_heap_count ws = ap length (queue_heaps_are ws) ∙ length-map ws queue_heap
 
-pub none_raced : {sli : ℕ} → (Races : Racing sli) (n : ℕ) (w : World sli) (known : ℕ → Option Name) (phases : List (List Line)) (old : List ℕ) → IsRaceSoFar Races n w known phases old w known phases old
-none_raced Races n w known phases old = record { told = []; text_is = sym (append-nil old); rest = λ tail t. t }
-
 pub one_raced : {sli : ℕ} → (Races : Racing sli) (n : ℕ) (w : World sli) (known learnt more : ℕ → Option Name) (phases left : List (List Line)) (phase : List Line) (old new newer : List ℕ) (v u : World sli)
     → IsRaceSoFar Races n w known phases old v learnt (phase ∷ left) new → IsPhaseRaced Races n v learnt phase new u more newer → IsRaceSoFar Races n w known phases old u more left newer
 one_raced Races n w known learnt more phases left phase old new newer v u before one =

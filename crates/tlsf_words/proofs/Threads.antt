@@ -6,9 +6,9 @@ use Rattle.std.proofs.lemmas.List.Elements.{filter_agree}
 use Rattle.tlsf_class.specs.Classes.{IsLevel, classes}
 use Rattle.tlsf_class.proofs.TwoLevels.{by_level}
 use Rattle.tlsf_words.specs.Fields.{low_half}
-use Rattle.tlsf_words.specs.Lists.{nowhere, places_from, list_of, first_of, LinkedFrom, AreDistinct, listed_classes, without_place, AreThreaded, IsUnlisted}
+use Rattle.tlsf_words.specs.Lists.{nowhere, places_from, list_of, first_of, LinkedFrom, AreDistinct, listed_classes, AreThreaded}
 use Rattle.tlsf_words.proofs.FieldLaws.{low_half-links_word}
-use Rattle.tlsf_words.proofs.PlaceLists.{member_here, member_behind, first_member, all_member, all_weaker, distinct_few, without_apart}
+use Rattle.tlsf_words.proofs.PlaceLists.{member_here, member_behind, first_member, all_member, all_weaker, distinct_few}
 
 -- a list that a head begins begins there
 pub head-list_of : (heads words : List ℕ) (class : ℕ) → get_or heads class nowhere ≡ first_of (list_of heads words class)
@@ -127,14 +127,6 @@ kept sli heads members w v t long same = (
 -- a listed place has its links inside
 pub listed_within : (sli : ℕ) → (heads members w : List ℕ) → AreThreaded sli heads members w → (class at : ℕ) → Contains (list_of heads w class) at → at + 2 < length w
 listed_within sli heads members w t class at m = all_member (λ p. p + 2 < length w) (list_of heads w class) at (linked_within w nowhere (list_of heads w class) (t.linked class)) m
-
--- a place that has been taken out of its list is in no list
-pub remove-unlisted : (sli : ℕ) → (heads members w : List ℕ) (class at : ℕ) (new : ℕ → List ℕ) → AreThreaded sli heads members w → Contains (list_of heads w class) at
-    → new class ≡ without_place at (list_of heads w class) → ((other : ℕ) → other ≢ class → new other ≡ list_of heads w other) → IsUnlisted new at
-remove-unlisted sli heads members w class at new t listed list others c m = elim (cases_eq c class) [
-  | inl e ↦ without_apart at (list_of heads w class) (subst (λ (ps : List ℕ). Contains ps at) (ap new e ∙ list) m)
-  | inr n ↦ n (t.apart c class at (subst (λ (ps : List ℕ). Contains ps at) (others c n) m) listed)
-]
 
 -- lists of which one has become these places
 abbrev pub with_list : (ℕ → List ℕ) → ℕ → List ℕ → ℕ → List ℕ

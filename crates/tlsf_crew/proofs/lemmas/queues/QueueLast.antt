@@ -55,9 +55,6 @@ drained_last n a v limit left at taken entries between longer few less is step e
 
 -- ---- all workers
 
-pub drained_none : {sli : ℕ} (ws : List (QueueWorker sli)) (rs : List (List Entry)) → QueuesDrained ws rs rs ws 0
-drained_none ws rs = record { worker_count = refl; record_count = refl; drained = λ j a lt. absurd (omega arith); later_workers = λ j le. refl }
-
 pub drained_next : {sli : ℕ} (ws us : List (QueueWorker sli)) (rs ss : List (Vec Entry Global)) (j : ℕ) (u w : QueueWorker sli) (r s : Vec Entry Global) → QueuesDrained ws (items_of rs) (items_of ss) us j → slice_get us j ≡ Some u
     → slice_get ss j ≡ Some r → slice_get rs j ≡ Some r → ((n : ℕ) → KnowsQueueYard n u → DrainedLast n u w r.items s.items) → QueuesDrained ws (items_of rs) (items_of (set ss j s)) (set us j w) (j + 1)
 drained_next {sli} ws us rs ss j u w r s x at here there step =

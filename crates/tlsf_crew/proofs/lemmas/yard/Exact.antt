@@ -5,7 +5,7 @@ use Rattle.std.specs.Prelude.{slice_index}
 use Rattle.std.specs.List.{fold, filter_map}
 use Rattle.std.proofs.lemmas.Bool.{cases_eq, cases_lt}
 use Rattle.std.proofs.lemmas.Bool.Decides.{nat_tests}
-use Rattle.std.proofs.lemmas.List.{get_or-replicate, length-set, map-set, drop_at, drop-drop, nil_from_length, take_all}
+use Rattle.std.proofs.lemmas.List.{get_or-replicate, length-set, map-set, drop_at, drop-drop, nil_from_length, take_all, append_cancel_left}
 use Rattle.std.proofs.lemmas.List.Elements.{filter-append}
 use Rattle.std.proofs.lemmas.Option.{slice_get_within}
 use Rattle.tlsf_heap.specs.Blocks.{HeapState}
@@ -432,10 +432,6 @@ called_capacity r at (Drain most) = drain_capacity r at most
 
 -- ---- the model's world is the yard's
 
-cancel : {X : Type 0} (xs ys zs : List X) → xs ++ ys ≡ xs ++ zs → ys ≡ zs
-cancel [] ys zs e = e
-cancel (x ∷ xs) ys zs e = let f : xs ++ ys ≡ xs ++ zs = cc in cancel xs ys zs f
-
 -- a list that differs at one place
 same_set : {X : Type 0} (d h : X) (xs ys : List X) (at : ℕ) → length ys ≡ length xs → at < length xs → get_or ys at d ≡ h → ((j : ℕ) → j < length xs → j ≢ at → get_or ys j d ≡ get_or xs j d) → ys ≡ set xs at h
 same_set d h [] ys at len lt here others = absurd (omega arith)
@@ -479,7 +475,7 @@ model r ws zs s =
     let t = called_told (r.made ++ []) (begun_of r) at r.call (omega arith) (more_knows r.made []) in
     let entries = ap (λ x. x.entries) told in
     let all : r.longer ++ one at r.call r.reply ≡ r.es ++ own_of r = ap (λ l. l ++ one at r.call r.reply) r.step.entries_are ∙ append_assoc r.es r.step.own (one at r.call r.reply) in
-    let own : t.own ≡ own_of r = cancel r.es t.own (own_of r) (sym t.entries ∙ (entries ∙ all)) in
+    let own : t.own ≡ own_of r = append_cancel_left r.es t.own (own_of r) (sym t.entries ∙ (entries ∙ all)) in
     record {
       name = t.name;
       tells = subst (TellsCall at r.made r.call t.name) own t.tells;

@@ -53,14 +53,6 @@ moved_at at made b v mid left own e m = subst (λ x. Moved x made b mid [] (own 
 pub lane_id : {sli : ℕ} (a v : Worker sli) (limits left : List ℕ) (from : ℕ) (entries longer : List Entry) (count : ℕ) → LaneTaken a limits from entries v left longer count → id_of v ≡ id_of a
 lane_id a v limits left from entries longer count x = let m = x.moved [] in ap (λ n. n.0) m.numbers
 
--- entries and what may still be taken don't get more
-pub lane_room : {sli : ℕ} (a v : Worker sli) (limits left : List ℕ) (from : ℕ) (entries longer : List Entry) (count : ℕ) → LaneTaken a limits from entries v left longer count
-    → length longer + sum_of left ≤ length entries + sum_of limits
-lane_room a v limits left from entries longer count x =
-    let m = moved_room (id_of a) [] a v limits left [] x.own (x.moved []) in
-    let n = ap length x.entries_are ∙ length-append entries x.own in
-    omega arith
-
 -- one take more
 pub lane_more : {sli : ℕ} (a b v : Worker sli) (limits mid left : List ℕ) (from : ℕ) (entries longer : List Entry) (count : ℕ) (took : Took) → (x : LaneTaken a limits from entries b mid longer count)
     → TookWithin b mid from v left (Some took) → LaneTaken a limits from entries v left (longer ++ one (id_of v) (Take from) (Taken took)) (count + 1)

@@ -1,20 +1,8 @@
 use Rattle.std.proofs.Common.{ℕ, ◌≤◌, length, refl, ap, arith}
-use Rattle.tlsf_heap.specs.Lawful.{IsLawful}
-use Rattle.tlsf_heap.specs.Calls.{opened}
 use Rattle.tlsf_heap.specs.Regions.{list_in}
+use Rattle.tlsf_heap.proofs.Lawfulness.{opened_lawful}
 use Rattle.tlsf_heap.proofs.Listing.{listed_first}
 use Rattle.tlsf_heap.proofs.heap.Heap.open.Goals as goal
-
-opened_lawful : (id words first : ℕ) → 4 ≤ words → IsLawful (opened id words first)
-opened_lawful id words first h = record {
-  rooms = (h, tt);
-  whole = omega arith;
-  apart = tt;
-  serials_differ = tt;
-  stamps_differ = (tt, tt);
-  serials_past = tt;
-  stamps_past = (omega arith, tt);
-}
 
 pub push-requires : goal.push-requires
 push-requires g c = (

@@ -1,12 +1,9 @@
 //! What stands in the words of a region, word for word.
-ghost use Rattle.std.specs.Prelude.{◌≡◌};
-
-use crate::heap::Heap;
-use crate::name::Name;
-use crate::region::Region;
 use std::alloc::Global;
 use std::process::Abort;
 use std::test::Fail;
+use tlsf_fixtures::{name, same};
+use tlsf_heap::Heap;
 use tlsf_words::Words;
 
 /// Neither next nor previous in a list.
@@ -25,20 +22,13 @@ fn with_blocks(alloc: Global, words: u32, blocks: u32) -> Result<Heap<4>, Fail> 
 fn after_releases(alloc: Global, words: u32, blocks: u32, places: &[u32]) -> Result<Heap<4>, Fail> {
     let mut heap = with_blocks(alloc, words, blocks)?;
     for at in places {
-        heap.release(Name {
-            heap: 0,
-            at: *at,
-            serial: u64::from(*at / 4) + 1,
-        })?;
+        heap.release(name(0, *at, u64::from(*at / 4) + 1))?;
     }
     Ok(heap)
 }
 
 /// The word at a place of the region, and whether a block starts there; None outside the region.
-fn found_at(words: &mut Words, at: u32) -> Option<(u64, bool)>
-    ensures words { words.new.words ≡ words.old.words }
-    ensures starts { words.new.starts ≡ words.old.starts }
-{
+fn found_at(words: &mut Words, at: u32) -> Option<(u64, bool)> {
     if at < words.len() {
         Some((words.word(at), words.starts(at)))
     } else {
@@ -55,11 +45,10 @@ fn wanted_at(rows: &[[u64; 4]], starts: &[u32], at: u32) -> Option<(u64, bool)> 
 /// The region of the heap has these words, four in a row, and blocks start at these places and at no other. The regions of
 /// these tests have at most 32 words.
 fn check_image(rt: &impl Abort, heap: Heap<4>, rows: &[[u64; 4]], starts: &[u32]) {
-    let Heap { region, .. } = heap;
-    let Region { mut words, .. } = region;
+    let mut words = heap.into_words();
     for at in 0..=32 {
         let wanted = wanted_at(rows, starts, at);
-        assert_eq!(rt; (at, found_at(&mut words, at)), (at, wanted));
+        same((at, found_at(&mut words, at)), (at, wanted)).expect(rt, "differ");
     }
 }
 
@@ -74,8 +63,8 @@ fn image_of_a_small_region(rt: HostRuntime) -> Result<(), Fail> {
     ];
     check_image(&rt, with_blocks(alloc, 16, 0)?, &opened, &[0]);
     let mut heap = Heap::<4>::open(alloc, 0, 16, 0)?;
-    let name = heap.allocate(8)?;
-    heap.write(name, 0, &[0x48, 0x69])?;
+    let block = heap.allocate(8)?;
+    heap.write(block, 0, &[0x48, 0x69])?;
     let written = [
         [0xffff_ffff_0000_0010, 1, 8, 0x6948],
         [0x0000_0000_0000_0033, 1, ALONE, 0],
@@ -90,9 +79,9 @@ fn image_of_a_small_region(rt: HostRuntime) -> Result<(), Fail> {
 fn bytes_in_their_words(rt: HostRuntime) -> Result<(), Fail> {
     let alloc = rt.alloc();
     let mut heap = Heap::<4>::open(alloc, 0, 8, 0)?;
-    let name = heap.allocate(16)?;
-    heap.write(name, 0, &[1, 2, 3, 4, 5, 6, 7, 8])?;
-    heap.write(name, 7, &[0x80, 0x90])?;
+    let block = heap.allocate(16)?;
+    heap.write(block, 0, &[1, 2, 3, 4, 5, 6, 7, 8])?;
+    heap.write(block, 7, &[0x80, 0x90])?;
     let words = [
         [0xffff_ffff_0000_0022, 1, 16, 0x8007_0605_0403_0201],
         [0x90, 0, 0, 0],

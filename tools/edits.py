@@ -1,0 +1,82 @@
+"""What the tools of the wrong bodies share: the edits of a crate, what they change, and the functions of its sources.
+
+A crate's edits stand in its folders must-fail/, which the gate tries, and attack/, which ./attack tries besides.
+"""
+import dataclasses
+import hashlib
+import pathlib
+import re
+
+TOP = pathlib.Path(__file__).resolve().parent.parent
+FOLDERS = ("must-fail", "attack")
+PARTS = ("src", "specs", "proofs")
+HEADER = re.compile(r"( *)(?:pub(?:\([a-z]+\))? )?(?:(?:const|unsafe|final) )*fn (\w+)")
+
+
+def crates(top=TOP):
+    """The folders of the crates, by their names in order."""
+    return sorted(it for it in (top / "crates").iterdir() if it.is_dir())
+
+
+def edits_of(crate):
+    """The edits of a crate's folder: its own, and those beside the gate."""
+    return sorted(it for folder in FOLDERS for it in (crate / folder).glob("*.edit"))
+
+
+def changes_in(text):
+    """The file, the old text and the new one of each change of an edit."""
+    file = old = None
+    for line in text.split("\n"):
+        if line.startswith("file: "):
+            file = line[len("file: ") :].strip()
+        elif line.startswith("old: "):
+            old = line[len("old: ") :]
+        elif line.startswith("new:"):
+            yield file, old, line[len("new:") :].removeprefix(" ")
+
+
+def text_sum(crate):
+    """Seven digits that tell the text of a crate from another: of its sources, its proofs and its edits, whose folder is no matter."""
+    told = hashlib.sha256()
+    files = [(it.relative_to(crate).as_posix(), it) for part in PARTS for it in (crate / part).rglob("*") if it.is_file()]
+    for name, file in sorted(files) + sorted((it.name, it) for it in edits_of(crate)):
+        told.update(f"{name}\n{file.stat().st_size}\n".encode() + file.read_bytes())
+    return told.hexdigest()[:7]
+
+
+@dataclasses.dataclass(frozen=True)
+class Body:
+    """A function of a source file, by the numbers of its lines from 0: the first, which is that of its first attribute or comment, the
+    one that opens its body, and the last."""
+
+    file: str
+    name: str
+    first: int
+    opens: int
+    last: int
+
+
+def bodies_in(file, text):
+    """The functions of a source file as `rt fmt` sets it, with their bodies."""
+    lines = text.split("\n")
+    at = first = 0
+    while at < len(lines):
+        header = HEADER.match(lines[at])
+        opens, at = at, at + 1
+        if not lines[opens]:
+            first = at
+        if not header:
+            continue
+        indent = header[1]
+        while opens < len(lines) and not (
+            lines[opens] == indent + "{" or lines[opens].endswith("{") and (opens == at - 1 or lines[opens].startswith(indent + ")"))
+        ):
+            if lines[opens].endswith(("{}", ";")) and not lines[opens].startswith(indent + "    "):
+                break
+            opens += 1
+        last = opens
+        while last < len(lines) and lines[last] != indent + "}":
+            last += 1
+        if last < len(lines) and lines[opens].endswith("{"):
+            yield Body(file, header[2], first, opens, last)
+            at = first = last + 1
