@@ -10,8 +10,6 @@ own_program frees ' may_wait=3: tlsf_heap tlsf_crew anyhow' \
     tlsf_class tlsf_words tlsf_heap tlsf_calls tlsf_post tlsf_lock tlsf_crew
 mkdir -p "$work/crates/frees_bench/proofs/+run_all"
 cp "$top/bench/frees/Invariants.source" "$work/crates/frees_bench/proofs/+run_all/Invariants.antt"
-mkdir -p "$work/crates/frees_bench/proofs/over_lanes"
-cp "$top/bench/frees/Answers.source" "$work/crates/frees_bench/proofs/over_lanes/Answers.antt"
 (cd "$work/crates/frees_bench" && rt run > "$work/log")
 grep ' posters: ' "$work/log"
 

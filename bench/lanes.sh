@@ -5,6 +5,4 @@
 set -eu
 . "$(dirname "$0")/own_program.sh"
 own_program lanes ' may_wait=1: tlsf_heap tlsf_post anyhow' tlsf_class tlsf_words tlsf_heap tlsf_post
-mkdir -p "$work/crates/lanes_bench/proofs/main"
-cp "$top/bench/lanes/Answers.source" "$work/crates/lanes_bench/proofs/main/Answers.antt"
 (cd "$work/crates/lanes_bench" && rt run)

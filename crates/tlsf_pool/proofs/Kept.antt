@@ -5,6 +5,7 @@ use Rattle.std.proofs.lemmas.Bool.{false≢true}
 use Rattle.tlsf_heap.specs.Blocks.{Block, Live, Free, HeapState, is_free, want}
 use Rattle.tlsf_heap.specs.GoodFit.{Site, fits}
 use Rattle.tlsf_heap.specs.Given.{payload_words_at, payload_words_given}
+use Rattle.tlsf_heap.specs.Reports.{IsGrant}
 use Rattle.tlsf_heap.specs.Calls.{Call, Allocate, Release, Write, Allocated, Released, allocated, released, written, answered, has_serial, named, last_tick}
 use Rattle.tlsf_heap.specs.declared.name.Name.{Name}
 use Rattle.tlsf_heap.specs.declared.refusal.Refusal.{Refusal}
@@ -30,6 +31,10 @@ module _ (sli : ℕ) where
   -- a request within the bounds finds room
   pub room : (p : PoolState) (len : ℕ) → IsPool sli p → len ≤ p.longest → p.held < p.most → (allocated sli p.heap len).answer ≢ Err NoFit
   room p len is short few = has_room sli is.level p.heap.words p.most p.longest is.class (enough p is) p.heap len (in_pool p is) short (omega (arith, is.live, few))
+
+  -- while fewer blocks are held than may be, the longest request would be served
+  pub granted : (p : PoolState) (grant : ℕ) → IsPool sli p → IsGrant sli p.heap.blocks grant → p.held < p.most → p.longest ≤ grant
+  granted p grant is served few = served.greatest p.longest (λ empty. room p p.longest is (omega arith) few ((no_fit sli p.heap p.longest).1 empty))
 
   -- after a call within the bounds, with so many blocks held
   after : (p : PoolState) (call : Call) (held touches : ℕ) → IsPool sli p → IsModest p.most p.longest (live_count p.heap) call

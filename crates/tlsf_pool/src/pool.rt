@@ -3,6 +3,8 @@ ghost use Rattle.std.specs.Result.{result_unwrap_or};
 ghost use Rattle.tlsf_class.specs.Classes.{IsLevel};
 ghost use Rattle.tlsf_heap.specs.Blocks.{want};
 ghost use Rattle.tlsf_heap.specs.Calls.{opened, allocated, released, written, read_of, read_answer, last_tick};
+ghost use Rattle.tlsf_heap.specs.Placed.{placed_at};
+ghost use Rattle.tlsf_heap.specs.Reports.{report_of};
 ghost use Rattle.tlsf_laws.specs.Pools.{pool_words};
 ghost use Rattle.tlsf_pool.specs.Pools.{HasRegion, IsPool, SameBounds, SamePool};
 
@@ -11,7 +13,7 @@ use crate::sizing::{kinds_words, most_bytes};
 use std::alloc::Global;
 use std::marker::Model;
 use tlsf_class::most_words;
-use tlsf_heap::{Heap, Name, OpenFault, Refusal};
+use tlsf_heap::{Heap, Name, OpenFault, PlacedBlock, Refusal, Report};
 use tlsf_laws::Kind;
 
 /// A heap that never refuses for want of room: it is opened by the most blocks that are held at once and the longest request.
@@ -203,6 +205,61 @@ impl<const SLI: u32> Pool<SLI> {
         ensures touches_rise { self.old.touches ≤ self.new.touches }
     {
         self.heap.read(name, at, out)
+    }
+
+    /// What the pool's heap holds, and how well it serves: a walk over all its blocks. It is never refused, and takes no memory.
+    ///
+    /// As many blocks are live as are held. While fewer are held than may be, the grant is no less than the longest request.
+    ///
+    /// ```text
+    /// let report = pool.report();             // of a new pool of 100 blocks of up to 512 bytes
+    /// (report.live_blocks, report.free_words) == (0, 13_631)
+    /// ```
+    pub fn report(&mut self) -> Report
+        ensures report { result ≡ report_of SLI self.old.heap }
+
+        // What that comes to: the blocks that are held, and whether the longest request would be served now.
+        ensures held { result.live_blocks ≡ self.old.held }
+        ensures grant { self.old.held < self.old.most → self.old.longest ≤ result.grant }
+        ensures same { SamePool self.old self.new }
+        ensures was_pool { IsPool SLI self.old }
+
+        // Three for each block, and no block has less than a word.
+        ensures touches { self.new.touches ≤ self.old.touches + 3 * self.old.heap.words }
+        ensures touches_rise { self.old.touches ≤ self.new.touches }
+    {
+        self.heap.report()
+    }
+
+    /// The block that begins at a place, None where none does: a number from outside is not followed. The next begins at its end,
+    /// `at + size`, so that a walk from place 0 meets all blocks. Takes no memory.
+    ///
+    /// ```text
+    /// let name = pool.allocate(8)?;           // of a new pool: a block of 4 words at place 0
+    /// pool.block_at(0)                        // Some(PlacedBlock { at: 0, size: 4, content: Content::Live { serial: 1, length: 8 } })
+    /// pool.block_at(1) == None
+    /// ```
+    pub fn block_at(&mut self, at: u32) -> Option<PlacedBlock>
+        ensures block { result ≡ placed_at self.old.heap.blocks at }
+        ensures same { SamePool self.old self.new }
+        ensures was_pool { IsPool SLI self.old }
+        ensures touches { self.new.touches ≤ self.old.touches + 4 }
+        ensures touches_rise { self.old.touches ≤ self.new.touches }
+    {
+        self.heap.block_at(at)
+    }
+
+    /// The tick of the pool's heap: that which the next accepted allocate or release stamps, 1 to 2^64 - 1. A block that is free
+    /// since tick s has been free for `tick - s` ticks.
+    ///
+    /// ```text
+    /// pool.tick()                             // of a pool opened at 0: 1, and 2 behind an accepted allocate
+    /// ```
+    pub fn tick(&self) -> u64
+        ensures tick { result ≡ self.now.heap.tick }
+        ensures pool { IsPool SLI self.now }
+    {
+        self.heap.tick()
     }
 
     /// How many blocks are held: the accepted allocates less the accepted releases.

@@ -3,11 +3,11 @@
 ghost use Rattle.std.specs.Prelude.{◌≡◌, ◌+◌, ◌<◌, ◌≤◌, [], ◌++◌, length, IfOk};
 ghost use Rattle.tlsf_post.specs.Lanes.{posts_sent, free_slots, capacity_of, waited, taken, ready, IsLane};
 
+use crate::mark::Mark;
 use crate::post_end::PostEnd;
 use crate::take_end::TakeEnd;
 use rtrb::RingBuffer;
 use std::alloc::Global;
-use std::snapshot::Snapshot;
 use tlsf_words::NoMemory;
 
 /// Opens a lane that holds up to `capacity` posts, 1 to 1,024, and answers its two ends. It fails only for want of
@@ -31,8 +31,8 @@ pub fn lane(alloc: Global, capacity: u32) -> Result<(PostEnd, TakeEnd), NoMemory
 {
     let (producer, consumer) = RingBuffer::new(alloc, capacity as usize)?;
     // The marks have no bytes. Contracts read off them what was sent and taken since.
-    let post_mark = Snapshot::of(&producer);
-    let take_mark = Snapshot::of(&consumer);
+    let post_mark = Mark::of(&producer);
+    let take_mark = Mark::of(&consumer);
     let post = PostEnd {
         ring: producer,
         mark: post_mark,
@@ -67,7 +67,7 @@ pub fn beside(post: &mut PostEnd, take: &mut TakeEnd)
     ensures room { free_slots post.new + length (waited take.new) ≡ capacity_of post.new }
 {
     post.ring.slots_beside(&mut take.ring);
-    post.mark = Snapshot::of(&post.ring);
+    post.mark = Mark::of(&post.ring);
     take.ring.slots_beside(&mut post.ring);
-    take.mark = Snapshot::of(&take.ring);
+    take.mark = Mark::of(&take.ring);
 }

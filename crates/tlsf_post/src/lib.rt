@@ -24,6 +24,7 @@
 mod hand;
 mod lanes;
 mod mailboxes;
+mod mark;
 mod owner_end;
 mod post;
 mod post_end;

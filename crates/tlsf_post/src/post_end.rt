@@ -1,9 +1,9 @@
 ghost use Rattle.std.specs.Prelude.{◌≡◌, ◌+◌, ◌≤◌, length, take};
 ghost use Rattle.rtrb.specs.Ring.{sent, known_free};
 
+use crate::mark::Mark;
 use crate::post::Post;
 use rtrb::Producer;
-use std::snapshot::Snapshot;
 
 /// The end of a lane that sends posts. It may go into a thread of its own.
 ///
@@ -15,7 +15,7 @@ pub struct PostEnd {
     // A post that goes in here may be taken at once.
     pub(crate) ring: Producer<Post>,
     // The ring as the last `beside` left it. It has no bytes.
-    pub(crate) mark: Snapshot<Producer<Post>>,
+    pub(crate) mark: Mark<Producer<Post>>,
     ghost marked: { length (sent mark.value) ≤ length (sent ring) },
     ghost before: { take (length (sent mark.value)) (sent ring) ≡ sent mark.value },
     ghost free: { known_free mark.value + length (sent mark.value) ≤ known_free ring + length (sent ring) },

@@ -1,9 +1,9 @@
 ghost use Rattle.std.specs.Prelude.{◌≤◌, length};
 ghost use Rattle.rtrb.specs.Ring.{received, consumer_capacity};
 
+use crate::mark::Mark;
 use crate::post::Post;
 use rtrb::Consumer;
-use std::snapshot::Snapshot;
 
 /// The end of a lane that takes posts, in the order in which they were sent. It may go into a thread of its own.
 ///
@@ -14,7 +14,7 @@ use std::snapshot::Snapshot;
 pub struct TakeEnd {
     pub(crate) ring: Consumer<Post>,
     // The ring as the last `beside` left it. It has no bytes.
-    pub(crate) mark: Snapshot<Consumer<Post>>,
+    pub(crate) mark: Mark<Consumer<Post>>,
     ghost marked: { length (received mark.value) ≤ length (received ring) },
     ghost few: { consumer_capacity ring ≤ 1024 },
 }

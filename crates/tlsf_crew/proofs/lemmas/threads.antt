@@ -18,8 +18,6 @@ pub mod RecordRooms
 pub mod SameDrains
 -- The calls of a script, one after another.
 pub mod ScriptRuns
--- A worker may go to another thread, with its job and with what it hands back.
-pub mod Sends
 -- Two records agree: what one worker was answered to have posted is what the other took, in order and each once.
 pub mod TwoRecords
 -- A race leads from the yard that was handed in to the one that comes back: each record is legal, and each two agree.

@@ -6,7 +6,10 @@ use Rattle.tlsf_post.specs.declared.post.Post.{Post}
 use Rattle.tlsf_calls.specs.declared.crew_refusal.CrewRefusal.{CrewRefusal}
 use Rattle.tlsf_calls.specs.declared.crew_refusal.CrewRefusal.TheVariants.{Full}
 use Rattle.tlsf_calls.specs.declared.drained.Drained.{Drained}
+use Rattle.tlsf_calls.specs.declared.released.Released.{Released}
+use Rattle.tlsf_calls.specs.declared.released.Released.TheVariants.{Posted}
 use Rattle.tlsf_calls.specs.declared.took.Took.{Took}
+use Rattle.tlsf_crew.specs.yard.Calls.{freed_by}
 use Rattle.tlsf_crew.specs.yard.LaneTurns.{heap_after, IsCountOf}
 use Rattle.tlsf_crew.specs.declared.queues.queue_worker.QueueWorker.{QueueWorker}
 use Rattle.tlsf_crew.specs.queues.QueueWorkers.{queue_heap, SameButQueueHeap, PutToQueue, TookFromQueue}
@@ -20,6 +23,23 @@ pub record PostedInQueue {sli : ℕ} (a v : QueueWorker sli) (name : Name) (answ
   pub put : Result (Unit {0}) Name
   pub queue : PutToQueue a v name.heap name put
   pub answer_is : answer ≡ put_answer name put
+
+-- the own block of that name was released
+pub record ReleasedInOwnHeap {sli : ℕ} (a v : QueueWorker sli) (name : Name) (answer : Result Released CrewRefusal) : Type 0 where
+  pub answer_is : answer ≡ freed_by (released (queue_heap a) name).answer
+  pub heap : queue_heap v ≡ (released (queue_heap a) name).heap
+  pub same : SameButQueueHeap a v
+
+-- what a release answers whose post was answered so
+abbrev pub posted_as : Result (Unit {0}) CrewRefusal → Result Released CrewRefusal
+posted_as (Ok done) = Ok Posted
+posted_as (Err why) = Err why
+
+-- the name was posted into the queue of the worker of its heap
+pub record ReleasedIntoQueue {sli : ℕ} (a v : QueueWorker sli) (name : Name) (answer : Result Released CrewRefusal) : Type 0 where
+  pub posted : Result (Unit {0}) CrewRefusal
+  pub post : PostedInQueue a v name posted
+  pub answer_is : answer ≡ posted_as posted
 
 -- after a take the post's block is released on the own heap
 abbrev pub AfterQueueTake : {sli : ℕ} → QueueWorker sli → QueueWorker sli → Option Post → Option Took → Type 0

@@ -11,11 +11,10 @@ use crate::queues::queue_journal::QueueJournal;
 use crate::queues::queue_worker::{QueueWorker, drain_queue};
 use crate::yard::executor::answer;
 use crate::yard::own_replies::{
-    named, reply_to_own_allocate, reply_to_own_read, reply_to_own_release, reply_to_own_resize,
-    reply_to_own_write,
+    named, reply_to_own_allocate, reply_to_own_read, reply_to_own_resize, reply_to_own_write,
 };
 use std::sync::Wait;
-use tlsf_calls::{Call, CrewRefusal, Event, Reply, Target};
+use tlsf_calls::{Call, CrewRefusal, Event, Released, Reply, Target};
 use tlsf_heap::Name;
 
 /// Releases what a target means: a block of the own heap, or by a post another's.
@@ -31,11 +30,9 @@ fn reply_to_queue_release<const SLI: u32, R: Wait>(
     let Some(name) = named(target, made) else {
         return Reply::Refused(CrewRefusal::Unmade);
     };
-    if name.heap == worker.id {
-        return reply_to_own_release(&mut worker.heap, name);
-    }
-    match worker.post(rt, name) {
-        Ok(()) => Reply::Posted,
+    match worker.release(rt, name) {
+        Ok(Released::Freed) => Reply::Freed,
+        Ok(Released::Posted) => Reply::Posted,
         Err(why) => Reply::Refused(why),
     }
 }

@@ -1,19 +1,22 @@
 ghost use Rattle.std.specs.Prelude.{◌≡◌, ◌≢◌, ◌+◌, ◌*◌, ◌/◌, ◌≤◌, length, true, false, Err, OnSome, IfNone};
 ghost use Rattle.std.specs.Result.{result_unwrap_or};
+ghost use Rattle.tlsf_class.specs.Classes.{most_words};
 ghost use Rattle.tlsf_heap.specs.Calls.{allocated, released, written, read_of, read_answer, resized};
 ghost use Rattle.tlsf_heap.specs.Given.{payload_words_given, payload_words_left};
+ghost use Rattle.tlsf_heap.specs.Lawful.{IsLawful};
+ghost use Rattle.tlsf_heap.specs.Placed.{placed_at};
 ghost use Rattle.tlsf_heap.specs.Reports.{report_of};
 ghost use Rattle.tlsf_crew.specs.yard.Calls.{by_heap};
 ghost use Rattle.tlsf_crew.specs.queues.QueueWorkers.{queue_heap, queue_touches, queue_id, HasQueueEnd, SameButQueueHeap, KeepsQueueYards, PutToQueue, TookFromQueue};
-ghost use Rattle.tlsf_crew.specs.queues.QueueCalls.{PostedInQueue, TakenFromQueue, DrainedQueue};
+ghost use Rattle.tlsf_crew.specs.queues.QueueCalls.{PostedInQueue, ReleasedInOwnHeap, ReleasedIntoQueue, TakenFromQueue, DrainedQueue};
 ghost use Rattle.tlsf_crew.specs.queues.QueueNotes.{QueueNoted};
 
 use crate::queues::queue_notes::QueueNotes;
 use crate::yard::notes::NoNotes;
 use crate::yard::own_calls;
 use std::sync::Wait;
-use tlsf_calls::{CrewRefusal, Drained, Took};
-use tlsf_heap::{Heap, Name, Refusal, Report};
+use tlsf_calls::{CrewRefusal, Drained, Released, Took};
+use tlsf_heap::{Heap, Name, PlacedBlock, Refusal, Report};
 use tlsf_post::{OwnerEnd, Post, PosterEnd};
 
 /// A worker over queues: the owner of one heap and of one queue, into which all others of its yard post, with an end to
@@ -215,6 +218,34 @@ impl<const SLI: u32> QueueWorker<SLI> {
         self.heap.report()
     }
 
+    /// The tick of the own heap: that which the next accepted allocate or release stamps.
+    ///
+    /// ```
+    /// let tick = worker.tick(); // 1 where nothing was allocated yet
+    /// ```
+    pub fn tick(&self) -> u64
+        ensures { result ≡ (queue_heap self.now).tick }
+    {
+        self.heap.tick()
+    }
+
+    /// The block of the own heap that begins at a place, None where none does. As [`crate::Worker::block_at`].
+    ///
+    /// ```
+    /// let first = worker.block_at(0); // each heap has a block at place 0
+    /// ```
+    pub fn block_at(&mut self, at: u32) -> Option<PlacedBlock>
+        ensures block { result ≡ placed_at (queue_heap self.old).blocks at }
+        ensures heap { queue_heap self.new ≡ queue_heap self.old }
+        ensures was_lawful { IsLawful (queue_heap self.old) }
+        ensures most { (queue_heap self.old).words ≤ most_words SLI }
+        ensures same { SameButQueueHeap self.old self.new }
+        ensures yard { KeepsQueueYards self.old self.new }
+        ensures touches { queue_touches self.new ≤ queue_touches self.old + 4 }
+    {
+        self.heap.block_at(at)
+    }
+
     /// Posts the name of another worker's block into the queue of its owner, unread. It may spin while a post is half put
     /// or taken by another thread, and so needs `Wait`.
     ///
@@ -243,6 +274,36 @@ impl<const SLI: u32> QueueWorker<SLI> {
         match put_to_queue(rt, self, name.heap as usize, name) {
             Ok(()) => Ok(()),
             Err(_) => Err(CrewRefusal::Full(name)),
+        }
+    }
+
+    /// Releases a block of the own heap, or posts the name of another worker's block into the queue of its owner, unread. As
+    /// [`crate::Worker::release`]; where the name is known to be the own one or another's, [`QueueWorker::free`] or
+    /// [`QueueWorker::post`] says which. It may spin as [`QueueWorker::post`] does.
+    ///
+    /// - `here`: a name of the own heap is answered as the heap answers it.
+    /// - `there`: a name of another worker's heap is posted.
+    /// - `nowhere`: a name of no worker is a `Stranger`, and nothing changes.
+    /// - `touches`: at most 64 touches of the own heap's memory.
+    ///
+    /// ```
+    /// let here = workers[0].release(rt, name);  // Ok(Released::Freed), where worker 0 allocated it
+    /// let there = workers[1].release(rt, name); // Ok(Released::Posted): worker 0 will take and release it
+    /// ```
+    pub fn release<R: Wait>(&mut self, rt: &R, name: Name) -> Result<Released, CrewRefusal>
+        ensures here { name.heap ≡ queue_id self.old → ReleasedInOwnHeap self.old self.new name result }
+        ensures there { name.heap ≢ queue_id self.old → HasQueueEnd self.old name.heap → ReleasedIntoQueue self.old self.new name result }
+        ensures nowhere { name.heap ≢ queue_id self.old → ¬ (HasQueueEnd self.old name.heap) → (result ≡ Err CrewRefusal.Stranger) × (self.new ≡ self.old) }
+        ensures yard { KeepsQueueYards self.old self.new }
+        ensures touches { queue_touches self.new ≤ queue_touches self.old + 64 }
+        ensures touches_rise { queue_touches self.old ≤ queue_touches self.new }
+    {
+        if name.heap == self.id {
+            return own_calls::release_here(&mut self.heap, name);
+        }
+        match self.post(rt, name) {
+            Ok(()) => Ok(Released::Posted),
+            Err(why) => Err(why),
         }
     }
 

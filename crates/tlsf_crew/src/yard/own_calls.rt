@@ -4,9 +4,9 @@ ghost use Rattle.std.specs.Result.{result_unwrap_or};
 ghost use Rattle.tlsf_heap.specs.Calls.{allocated, released, written, read_of, read_answer, resized};
 ghost use Rattle.tlsf_heap.specs.Given.{payload_words_given, payload_words_left};
 ghost use Rattle.tlsf_heap.specs.Lawful.{IsLawful};
-ghost use Rattle.tlsf_crew.specs.yard.Calls.{by_heap};
+ghost use Rattle.tlsf_crew.specs.yard.Calls.{by_heap, freed_by};
 
-use tlsf_calls::CrewRefusal;
+use tlsf_calls::{CrewRefusal, Released};
 use tlsf_heap::{Heap, Name, Refusal};
 
 /// The heap's answer as the worker's.
@@ -38,6 +38,22 @@ pub(crate) fn release<const SLI: u32>(heap: &mut Heap<SLI>, name: Name) -> Resul
     ensures touches_rise { heap.old.touches ≤ heap.new.touches }
 {
     as_crew(heap.release(name))
+}
+
+/// Releases a block for a call that might as well have posted a name.
+pub(crate) fn release_here<const SLI: u32>(
+    heap: &mut Heap<SLI>,
+    name: Name,
+) -> Result<Released, CrewRefusal>
+    ensures answer { result ≡ freed_by (released heap.old.heap name).answer }
+    ensures heap { heap.new.heap ≡ (released heap.old.heap name).heap }
+    ensures touches { heap.new.touches ≤ heap.old.touches + 64 }
+    ensures touches_rise { heap.old.touches ≤ heap.new.touches }
+{
+    match heap.release(name) {
+        Ok(()) => Ok(Released::Freed),
+        Err(why) => Err(CrewRefusal::Heap(why)),
+    }
 }
 
 /// Writes bytes into a block, from byte `at` of it on.

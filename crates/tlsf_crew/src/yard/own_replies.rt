@@ -6,7 +6,7 @@ ghost use Rattle.tlsf_calls.specs.Bytes.{bytes_of};
 ghost use Rattle.tlsf_crew.specs.yard.Calls.{by_heap};
 ghost use Rattle.tlsf_crew.specs.yard.Heaps.{as_chunk, chunk_read};
 ghost use Rattle.tlsf_crew.specs.yard.World.{name_of};
-ghost use Rattle.tlsf_crew.specs.yard.OwnReplies.{own_allocating, own_freeing, own_writing, own_reading, own_resizing};
+ghost use Rattle.tlsf_crew.specs.yard.OwnReplies.{own_allocating, own_writing, own_reading, own_resizing};
 
 use crate::yard::own_calls;
 use tlsf_calls::{Chunk, CrewRefusal, Reply, Target};
@@ -36,17 +36,6 @@ pub(crate) fn reply_to_own_allocate<const SLI: u32>(heap: &mut Heap<SLI>, len: u
 {
     match own_calls::allocate(heap, len) {
         Ok(name) => Reply::Made(name),
-        Err(why) => Reply::Refused(why),
-    }
-}
-
-/// Releases the block of a name.
-pub(crate) fn reply_to_own_release<const SLI: u32>(heap: &mut Heap<SLI>, name: Name) -> Reply
-    ensures reply { result ≡ (own_freeing heap.old.heap name).reply }
-    ensures heap { heap.new.heap ≡ (own_freeing heap.old.heap name).heap }
-{
-    match own_calls::release(heap, name) {
-        Ok(()) => Reply::Freed,
         Err(why) => Reply::Refused(why),
     }
 }

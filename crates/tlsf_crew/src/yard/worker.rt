@@ -257,10 +257,7 @@ impl<const SLI: u32> Worker<SLI> {
         ensures touches_rise { touches_of self.old ≤ touches_of self.new }
     {
         if name.heap == self.id {
-            return match self.heap.release(name) {
-                Ok(()) => Ok(Released::Freed),
-                Err(why) => Err(CrewRefusal::Heap(why)),
-            };
+            return own_calls::release_here(&mut self.heap, name);
         }
         if !has_post(self, name.heap as usize) {
             return Err(CrewRefusal::Stranger);

@@ -23,6 +23,7 @@ use Rattle.tlsf_calls.specs.declared.call.Call.TheVariants.{Allocate, Release, W
 use Rattle.tlsf_calls.specs.declared.entry.Entry.{Entry}
 use Rattle.tlsf_calls.specs.declared.target.Target.{Target}
 use Rattle.tlsf_calls.specs.declared.drained.Drained.{Drained as WasDrained}
+use Rattle.tlsf_calls.specs.declared.released.Released.{Released}
 use Rattle.tlsf_calls.specs.declared.took.Took.{Took}
 use Rattle.tlsf_calls.specs.declared.crew_refusal.CrewRefusal.{CrewRefusal}
 use Rattle.tlsf_calls.specs.declared.crew_refusal.CrewRefusal.TheVariants.{Full, Stranger, Unmade}
@@ -36,7 +37,7 @@ use Rattle.tlsf_crew.specs.yard.World.{made_by, name_of, reply_freed}
 use Rattle.tlsf_crew.specs.declared.queues.queue_worker.QueueWorker.{QueueWorker}
 use Rattle.tlsf_crew.specs.declared.queues.queue_journal.QueueJournal.{QueueJournal}
 use Rattle.tlsf_crew.specs.queues.QueueWorkers.{queue_heap, queue_id, queue_end_to, HasQueueEnd, IsOtherOf, KnowsQueueYard, KeepsQueueYards, SameButQueueHeap, PutToQueue, TookFromQueue}
-use Rattle.tlsf_crew.specs.queues.QueueCalls.{AfterQueueTake, PostedInQueue, TakenFromQueue, put_answer}
+use Rattle.tlsf_crew.specs.queues.QueueCalls.{AfterQueueTake, ReleasedInOwnHeap, ReleasedIntoQueue, TakenFromQueue, posted_as, put_answer}
 use Rattle.tlsf_crew.specs.queues.QueueNotes.{QueueNotedInTurn, QueueNoted, IsQueueNoted}
 use Rattle.tlsf_crew.specs.queues.QueueTold.{IsOfOther, MayTellQueue, take_entry, told_reply, told_take, told_takes}
 use Rattle.tlsf_crew.specs.queues.QueueMoves.{QueueMoved, QueueStepped, QueueCalled, entry_by, told_of}
@@ -46,6 +47,7 @@ use Rattle.tlsf_crew.proofs.lemmas.yard.JoinedEntries.{IsNoPost, told_nothing, t
 use Rattle.tlsf_crew.proofs.lemmas.yard.LaneMoves.{posted_same, release_posts_elsewhere}
 use Rattle.tlsf_crew.proofs.lemmas.yard.ManyEntries.{made_then, taken_then, stands_split}
 use Rattle.tlsf_crew.proofs.lemmas.yard.OneEntry.{no_entry, the_one, stands_last}
+use Rattle.tlsf_crew.proofs.lemmas.yard.OwnAnswers.{freed_reply, reply_released}
 use Rattle.tlsf_crew.proofs.lemmas.yard.OwnHeaps.{KeepsHeap, call_keeps, same_heap_keeps, allocate_keeps}
 use Rattle.tlsf_crew.proofs.lemmas.yard.OwnReplied.{read_keeps, resize_keeps, write_keeps}
 use Rattle.tlsf_crew.proofs.lemmas.yard.Slots.{some_same}
@@ -152,14 +154,9 @@ full_moved made a v limit target name back put =
       room = omega arith;
     }
 
--- the reply to a post that was tried
-abbrev pub reply_put : Result (Unit {0}) CrewRefusal → Reply
-reply_put (Ok done) = Posted
-reply_put (Err why) = Refused why
-
 put_stepped : {sli : ℕ} (n : ℕ) (a v : QueueWorker sli) (limit : ℕ) (target : Target) (name : Name) (made : List (Option Name)) (entries : List Entry) (put : Result (Unit {0}) Name) → KnowsQueueYard n a
     → name_of made target ≡ Some name → name.heap ≢ queue_id a → name.heap < n → PutToQueue a v name.heap name put
-    → QueueStepped n a limit (Release target) made entries v limit entries (reply_put (put_answer name put))
+    → QueueStepped n a limit (Release target) made entries v limit entries (reply_released (posted_as (put_answer name put)))
 put_stepped {sli} n a v limit target name made entries (Ok done) k known ne near put =
     let at = queue_id a in
     record {
@@ -176,11 +173,6 @@ put_stepped {sli} n a v limit target name made entries (Err back) k known ne nea
       told = rw put.same.0 (full_tells sli n at (queue_heap a) made entries target name k.self known ne near);
       moved = λ rest. full_moved (made ++ rest) a v limit target name back put;
     }
-
--- what a post promises
-pub record IsPost {sli : ℕ} (a v : QueueWorker sli) (name : Name) (answer : Result (Unit {0}) CrewRefusal) : Type 0 where
-  pub there : HasQueueEnd a name.heap → PostedInQueue a v name answer
-  pub nowhere : ¬ (HasQueueEnd a name.heap) → (answer ≡ Err Stranger) × (v ≡ a)
 
 stranger_quiet : (at : ℕ) (target : Target) → IsQuiet (entry_by at (Release target) (Refused Stranger))
 stranger_quiet at target = record { posts = λ made. record { made_none = λ j. refl; taken_none = λ i. refl }; drain = λ most k c r. cc }
@@ -199,20 +191,6 @@ far_stepped {sli} n a limit target name made entries k known ne none =
     ] in
     quiet_stepped n a a limit (Release target) made entries (Refused Stranger) (refl, refl, refl) (same_heap_keeps (queue_heap a) (queue_heap a) refl) (stranger_quiet at target)
     (far_tells sli n at (queue_heap a) made entries target name k.self known ne far)
-
-pub post_stepped : {sli : ℕ} (n : ℕ) (a v : QueueWorker sli) (limit : ℕ) (target : Target) (name : Name) (made : List (Option Name)) (entries : List Entry) (answer : Result (Unit {0}) CrewRefusal) → KnowsQueueYard n a
-    → name_of made target ≡ Some name → name.heap ≢ queue_id a → IsPost a v name answer
-    → QueueStepped n a limit (Release target) made entries v limit entries (reply_put answer)
-post_stepped n a v limit target name made entries answer k known ne post =
-    elim (end_or (queue_end_to a name.heap)) [
-      | inl has ↦
-          let there = post.there has in
-          let other = ends_are n a k name.heap has.0 has.1 in
-          rw there.answer_is (put_stepped n a v limit target name made entries there.put k known ne other.0 there.queue)
-      | inr none ↦
-          let e = post.nowhere none in
-          rw (e.0, e.1) (far_stepped n a limit target name made entries k known ne none)
-    ]
 
 -- ---- takes
 
@@ -513,7 +491,7 @@ freed_quiet : (at : ℕ) (target : Target) (r : Result (Unit {0}) Refusal) → I
 freed_quiet at target (Ok done) = record { posts = λ made. record { made_none = λ j. refl; taken_none = λ i. refl }; drain = λ most k c r. cc }
 freed_quiet at target (Err why) = record { posts = λ made. record { made_none = λ j. refl; taken_none = λ i. refl }; drain = λ most k c r. cc }
 
-pub free_stepped : {sli : ℕ} (n : ℕ) (a v : QueueWorker sli) (limit : ℕ) (target : Target) (name : Name) (made : List (Option Name)) (entries : List Entry) (reply : Reply) → KnowsQueueYard n a → SameButQueueHeap a v
+free_stepped : {sli : ℕ} (n : ℕ) (a v : QueueWorker sli) (limit : ℕ) (target : Target) (name : Name) (made : List (Option Name)) (entries : List Entry) (reply : Reply) → KnowsQueueYard n a → SameButQueueHeap a v
     → name_of made target ≡ Some name → name.heap ≡ queue_id a → reply ≡ (own_freeing (queue_heap a) name).reply → queue_heap v ≡ (own_freeing (queue_heap a) name).heap
     → QueueStepped n a limit (Release target) made entries v limit entries reply
 unfolding released
@@ -521,6 +499,46 @@ free_stepped {sli} n a v limit target name made entries reply k same known own e
     quiet_stepped n a v limit (Release target) made entries reply same (call_keeps (queue_heap a) (queue_heap v) (heap.Release name) f)
     (subst (λ r. IsQuiet (entry_by (queue_id a) (Release target) r)) (sym e) (freed_quiet (queue_id a) target (heap.released (queue_heap a) name).answer))
     (free_tells sli n (queue_id a) (queue_heap a) (queue_heap v) made entries target name reply k.self known own e f)
+
+-- ---- releases
+
+-- what a release promises
+pub record IsQueueRelease {sli : ℕ} (a v : QueueWorker sli) (name : Name) (answer : Result Released CrewRefusal) : Type 0 where
+  pub here : name.heap ≡ queue_id a → ReleasedInOwnHeap a v name answer
+  pub there : name.heap ≢ queue_id a → HasQueueEnd a name.heap → ReleasedIntoQueue a v name answer
+  pub nowhere : name.heap ≢ queue_id a → ¬ (HasQueueEnd a name.heap) → (answer ≡ Err Stranger) × (v ≡ a)
+
+here_stepped : {sli : ℕ} (n : ℕ) (a v : QueueWorker sli) (limit : ℕ) (target : Target) (name : Name) (made : List (Option Name)) (entries : List Entry) (answer : Result Released CrewRefusal) → KnowsQueueYard n a
+    → name_of made target ≡ Some name → name.heap ≡ queue_id a → ReleasedInOwnHeap a v name answer
+    → QueueStepped n a limit (Release target) made entries v limit entries (reply_released answer)
+unfolding released
+here_stepped n a v limit target name made entries answer k known own here =
+    free_stepped n a v limit target name made entries (reply_released answer) k here.same known own
+    (ap reply_released here.answer_is ∙ freed_reply (heap.released (queue_heap a) name).answer) here.heap
+
+there_stepped : {sli : ℕ} (n : ℕ) (a v : QueueWorker sli) (limit : ℕ) (target : Target) (name : Name) (made : List (Option Name)) (entries : List Entry) (answer : Result Released CrewRefusal) → KnowsQueueYard n a
+    → name_of made target ≡ Some name → name.heap ≢ queue_id a → HasQueueEnd a name.heap → ReleasedIntoQueue a v name answer
+    → QueueStepped n a limit (Release target) made entries v limit entries (reply_released answer)
+there_stepped n a v limit target name made entries answer k known ne has there =
+    let other = ends_are n a k name.heap has.0 has.1 in
+    let e : answer ≡ posted_as (put_answer name there.post.put) = there.answer_is ∙ ap posted_as there.post.answer_is in
+    subst (λ r. QueueStepped n a limit (Release target) made entries v limit entries (reply_released r)) (sym e)
+    (put_stepped n a v limit target name made entries there.post.put k known ne other.0 there.post.queue)
+
+pub release_stepped : {sli : ℕ} (n : ℕ) (a v : QueueWorker sli) (limit : ℕ) (target : Target) (name : Name) (made : List (Option Name)) (entries : List Entry) (answer : Result Released CrewRefusal) (reply : Reply) → KnowsQueueYard n a
+    → name_of made target ≡ Some name → IsQueueRelease a v name answer → reply_released answer ≡ reply
+    → QueueStepped n a limit (Release target) made entries v limit entries reply
+release_stepped n a v limit target name made entries answer reply k known release is =
+    subst (λ r. QueueStepped n a limit (Release target) made entries v limit entries r) is
+    (elim (cases_eq name.heap (queue_id a)) [
+      | inl own ↦ here_stepped n a v limit target name made entries answer k known own (release.here own)
+      | inr ne ↦ elim (end_or (queue_end_to a name.heap)) [
+        | inl has ↦ there_stepped n a v limit target name made entries answer k known ne has (release.there ne has)
+        | inr none ↦
+            let e = release.nowhere ne none in
+            rw (e.0, e.1) (far_stepped n a limit target name made entries k known ne none)
+      ]
+    ])
 
 -- ---- the own entry
 

@@ -134,7 +134,7 @@ reply_released (Ok WasFreed) = Freed
 reply_released (Ok WasPosted) = Posted
 reply_released (Err why) = Refused why
 
-freed_reply : (r : Result (Unit {0}) Refusal) → reply_released (freed_by r) ≡ reply_freed r
+pub freed_reply : (r : Result (Unit {0}) Refusal) → reply_released (freed_by r) ≡ reply_freed r
 freed_reply (Ok done) = refl
 freed_reply (Err why) = refl
 

@@ -1,18 +1,15 @@
 -- What a heap answers is what its worker replies: where the call's target means a name, and where it means none.
-use Rattle.std.proofs.Common.{◌≡◌, ℕ, List, Option, Some, None, Result, Ok, Err, length, ap, refl, sym, subst}
+use Rattle.std.proofs.Common.{◌≡◌, ℕ, List, Option, Some, None, length, ap, refl, sym, subst}
 use Rattle.tlsf_heap.specs.Blocks.{HeapState}
 use Rattle.tlsf_heap.specs.Calls as heap
 use Rattle.tlsf_heap.specs.declared.name.Name.{Name}
-use Rattle.tlsf_heap.specs.declared.refusal.Refusal.{Refusal}
 use Rattle.tlsf_calls.specs.declared.reply.Reply.{Reply}
-use Rattle.tlsf_calls.specs.declared.reply.Reply.TheVariants.{Freed, Refused}
-use Rattle.tlsf_calls.specs.declared.crew_refusal.CrewRefusal.{CrewRefusal}
-use Rattle.tlsf_calls.specs.declared.crew_refusal.CrewRefusal.TheVariants.{Heap, Unmade}
-use Rattle.tlsf_crew.specs.yard.Calls.{by_heap}
+use Rattle.tlsf_calls.specs.declared.reply.Reply.TheVariants.{Refused}
+use Rattle.tlsf_calls.specs.declared.crew_refusal.CrewRefusal.TheVariants.{Unmade}
 use Rattle.tlsf_crew.specs.yard.Heaps.{written, resized, chunk_read}
 use Rattle.tlsf_crew.specs.yard.OwnReplies.{OwnReplied, own_writing, own_reading, own_resizing, own_unmade}
 use Rattle.tlsf_crew.proofs.lemmas.yard.OwnHeaps.{KeepsHeap, call_keeps, same_heap_keeps}
-use Rattle.tlsf_crew.specs.yard.World.{reply_freed, reply_wrote, reply_got, reply_resized}
+use Rattle.tlsf_crew.specs.yard.World.{reply_wrote, reply_got, reply_resized}
 
 -- the reply and the heap that is left
 pub record IsReplied (reply : Reply) (g : HeapState) (x : OwnReplied) : Type 0 where
@@ -37,14 +34,6 @@ pub resize_replied : (h g : HeapState) (o : Option Name) (name : Name) (len : �
     → reply ≡ reply_resized (heap.resized h name len).answer → g ≡ (heap.resized h name len).heap → IsReplied reply g (own_resizing h o len)
 unfolding resized
 resize_replied h g o name len reply known e f = subst (λ o. IsReplied reply g (own_resizing h o len)) known (record { same = e; left = f })
-
-pub freed_ok : (o : Result (Unit {0}) Refusal) (done : Unit {0}) → Ok done ≡ by_heap o → Freed ≡ reply_freed o
-freed_ok (Ok x) done e = refl
-freed_ok (Err why) done e = cc
-
-pub freed_err : (o : Result (Unit {0}) Refusal) (why : CrewRefusal) → Err why ≡ by_heap o → Refused why ≡ reply_freed o
-freed_err (Ok x) why e = cc
-freed_err (Err x) why e = let q : why ≡ Heap x = cc in ap Refused q
 
 -- ---- the heap that is left keeps its number, and stays lawful
 

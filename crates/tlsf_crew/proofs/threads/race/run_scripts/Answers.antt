@@ -1,15 +1,6 @@
-use denote.Param.Send.{sendable}
 use Rattle.std.proofs.Common.{arith}
-use Rattle.std.proofs.Crossing.{crosses}
 use Rattle.tlsf_crew.proofs.lemmas.yard.Gathering.{gathered, gathered_rooms}
-use Rattle.tlsf_crew.proofs.lemmas.threads.Sends.{job_send, done_send}
 use Rattle.tlsf_crew.proofs.threads.race.run_scripts.Goals as goal
-
-pub run_all-requires-send-W : goal.run_all-requires-send-W
-run_all-requires-send-W g c κs within = search (sendable, crosses, job_send) depth 20
-
-pub run_all-requires-send-W-Done : goal.run_all-requires-send-W-Done
-run_all-requires-send-W-Done g c κs within = search (sendable, crosses, done_send) depth 20
 
 pub returns-clause-run : goal.returns-clause-run
 returns-clause-run g c =

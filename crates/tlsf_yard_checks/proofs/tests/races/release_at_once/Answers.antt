@@ -1,5 +1,3 @@
-use denote.Param.Send.{sendable}
-use Rattle.std.proofs.Crossing.{crosses}
 use Rattle.std.proofs.Common.{◌≡◌, ◌≢◌, ◌∙◌, ◌<◌, ◌≤◌, ℕ, Some, get_or, set, arith, rules, subst}
 use Rattle.std.specs.List.{slice_get}
 use Rattle.std.proofs.lemmas.Option.{slice_get-get_or}
@@ -8,7 +6,6 @@ use Rattle.tlsf_crew.specs.yard.Calls.{KeepsYards}
 use Rattle.tlsf_crew.specs.yard.Yard.{IsYard}
 use Rattle.tlsf_crew.proofs.lemmas.yard.Halves.{low_is, high_is, low_first}
 use Rattle.tlsf_crew.proofs.lemmas.yard.Slots.{get_set_other}
-use Rattle.tlsf_crew.proofs.lemmas.threads.Sends.{worker_field_send}
 use Rattle.tlsf_yard_checks.proofs.tests.races.release_at_once.Goals as goal
 
 first_in : (n : ℕ) → n ≡ 2 → 0 < n
@@ -25,9 +22,6 @@ second_apart = omega arith
 
 first_below : 0 < 1
 first_below = omega arith
-
-pub join_mut-requires-send-F : goal.join_mut-requires-send-F
-join_mut-requires-send-F g c = search (sendable, crosses, worker_field_send) depth 20
 
 pub returns : goal.returns
 returns g c =

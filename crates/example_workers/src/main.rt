@@ -1,0 +1,79 @@
+//! Two workers in threads of their own. The first makes frames in blocks of its heap and hands their names over a
+//! ring. The second shows each and then releases it: its name is posted to its owner, who drains the posts.
+//!
+//! What is a block in another worker's hands good for? Its bytes are its owner's to read and write, but who has the
+//! name says when it is given back, and nobody gets its place before. So a name lends space: its place may number a
+//! part of something that both threads reach in other ways, as a device's memory, a file or a shared buffer.
+#![tactic(auto)]
+
+use anyhow::{Error, bail};
+use rtrb::{Consumer, Producer, RingBuffer};
+use std::sync::Wait;
+use std::thread::{join, yield_now};
+use tlsf_crew::{Worker, open_yard};
+use tlsf_heap::Name;
+
+/// How many frames are made.
+const FRAMES: u32 = 500;
+
+/// Makes all frames, and ends once their blocks came back.
+fn make<R: Wait>(rt: &R, mut worker: Worker<4>, mut ring: Producer<Name>) -> Worker<4> {
+    let mut made = 0;
+    let mut back = 0;
+    for _ in rt.forever() {
+        if back >= FRAMES {
+            break;
+        }
+        // At most four posts at once: a bound on the time that it takes.
+        back += worker.drain(4).freed;
+        // An allocate is refused while too many frames are under way, and goes well once some came back.
+        if made < FRAMES
+            && !ring.is_full()
+            && let Ok(frame) = worker.allocate(256)
+        {
+            let _ = ring.push(frame);
+            made += 1;
+        }
+        yield_now();
+    }
+    worker
+}
+
+/// Shows all frames, and gives each back. Answers how many.
+fn show<R: Wait>(rt: &R, mut worker: Worker<4>, mut ring: Consumer<Name>) -> u32 {
+    let mut shown = 0;
+    for _ in rt.forever() {
+        if shown >= FRAMES {
+            break;
+        }
+        if let Ok(frame) = ring.pop() {
+            give_back(rt, &mut worker, frame);
+            shown += 1;
+        }
+        yield_now();
+    }
+    shown
+}
+
+/// Posts a name to its owner. Where the lane is full, the name is posted again a little later.
+fn give_back<R: Wait>(rt: &R, worker: &mut Worker<4>, name: Name) {
+    for _ in rt.forever() {
+        if worker.release(name).is_ok() {
+            return;
+        }
+        yield_now();
+    }
+}
+
+fn main(rt: HostRuntime) -> Result<(), Error> {
+    let rt = &rt;
+    let mut workers = open_yard::<4>(rt.alloc(), 2, 1024, 8)?;
+    let (Some(two), Some(one)) = (workers.pop(), workers.pop()) else {
+        bail!("a yard of two has two workers");
+    };
+    let (to, from) = RingBuffer::new(rt.alloc(), 4)?;
+    let (mut one, shown) = join(rt, move || make(rt, one, to), move || show(rt, two, from));
+    let free = one.report().free_words;
+    println!(rt; "{shown} frames shown, {free} words free")?;
+    Ok(())
+}
