@@ -31,13 +31,17 @@ libraries_of() {
     crate_lines "$1" "$2" | sed -e 's/^[^:]*://'
 }
 
-# order_of TREE SECONDS CRATE..: prints a line for each crate that these stand on, and for these: its name, how much it gives way to
-# others (a niceness), and the tree's libraries that it names. By the seconds in that file, what lies on a longest way from the lowest
-# crate to the highest gives way to nothing, and what would have to be four times as slow to lie on one, to all.
+# order_of TREE SECONDS CRATE..: prints a line for each of these crates and of those that they stand on: its name, how
+# much it gives way to others (a niceness), and the tree's libraries that it names. By the seconds in that file, what
+# lies on a longest way from the lowest crate to the highest gives way to nothing, and the farther from one, the more.
 order_of() {
     tree_of=$1 seconds_file=$2
     shift 2
-    { sed -e 's/#.*//' "$seconds_file" | awk 'NF == 2 { print "seconds " $0 }'; crate_lines "$tree_of" $(crates_below "$tree_of" "$@"); } | awk '
+    {
+        sed -e 's/#.*//' "$seconds_file" | awk 'NF == 2 { print "seconds", $1, $2 }'
+        # shellcheck disable=SC2046
+        crate_lines "$tree_of" $(crates_below "$tree_of" "$@")
+    } | awk '
         $1 == "seconds" && NF == 3 { seconds[$2] = $3; next }
         NF { name = $1; sub(/:.*/, "", name); sub(/^[^:]*:/, ""); listed[++count] = name; below[name] = $0 }
         END {
@@ -66,8 +70,8 @@ order_of() {
         }'
 }
 
-# jobs_for NICENESS MEGABYTES: prints how many processes are to prove a crate side by side, each of so much memory: four on a longest way, else
-# two, where there are as many processors and as much free memory.
+# jobs_for NICENESS MEGABYTES: prints how many processes are to prove a crate side by side: four on a longest way, else
+# two, where there are as many processors, and so much free memory for each.
 jobs_for() {
     most=$(nproc)
     [ "$most" -le 4 ] || most=4
@@ -88,8 +92,8 @@ free_megabytes() {
     echo "$free"
 }
 
-# in_order FOLDER CALL: runs CALL NAME NICENESS LIBRARY.. for each line of order_of that standard input has, as soon as it has ended well for
-# each library on the line, and waits for all. FOLDER/NAME.built and FOLDER/NAME.failed say how each ended.
+# in_order FOLDER CALL: runs CALL NAME NICENESS LIBRARY.. for each line of order_of that standard input has, as soon as
+# it has ended well for each library on the line, and waits for all. FOLDER/NAME.built and .failed say how each ended.
 in_order() {
     folder=$1 call=$2
     runners=
@@ -106,7 +110,7 @@ in_order() {
     return $all_well
 }
 
-# Runs the call for one crate once the libraries that it names are built; where one of them failed, it ends without a word.
+# Runs the call for one crate once the libraries that it names are built; where one failed, it ends without a word.
 once_built() {
     own_name=$1
     own_niceness=$2

@@ -1,7 +1,8 @@
-# Sourced, with $top, the repository, and tools/crates.sh: where the proved program of a text lies, and how far its build is.
+# Sourced, with $top, the repository, and tools/crates.sh: where the proved program lies, and how far its build is.
 #
-# Builds lie outside the repository, in a folder of this user's own, $builds: `rt ci` reads the whole checkout, and refuses a builder's tree
-# there. Each text of the sources has a folder, named by the checksum of all that the program is proved from:
+# Builds lie outside the repository, in a folder of this user's own, $builds: `rt ci` reads the whole checkout, and
+# refuses a builder's tree there. Each text of the sources has a folder, named by the checksum of all that the program
+# is proved from:
 #
 #     KEY/tlsf       the proved program, there once it is whole
 #     KEY/log        what the last build said
@@ -11,15 +12,17 @@
 #     KEY/origin     the repository that asked for it
 #     KEY/builder    its process, which leads a group of its own; KEY/lock is locked as long as one of that group lives
 #     KEY/work       what is being made; removed at the end
-#     rlibs/         libraries that were proved, each named by the checksum of all that it is made from, for the next build
+#     rlibs/         proved libraries for the next build, each named by the checksum of all that it is made from
 #     seen/SUM       names the text of a checkout, by the checksum of its files' places, sizes and times
 #     lock           locked by the build that runs: one at a time
 
 # Sets $builds, and makes that folder. One that is another user's, or can't be written, is passed over.
 find_builds() {
-    for builds in "${XDG_CACHE_HOME:+$XDG_CACHE_HOME/peachanchor}" "${HOME:+$HOME/.cache/peachanchor}" "${TMPDIR:-/tmp}/peachanchor-$(id -u)"; do
+    for builds in "${XDG_CACHE_HOME:+$XDG_CACHE_HOME/peachanchor}" "${HOME:+$HOME/.cache/peachanchor}" \
+        "${TMPDIR:-/tmp}/peachanchor-$(id -u)"; do
         case $builds in /*) ;; *) continue ;; esac
-        { [ -d "$builds" ] || (umask 077 && mkdir -p "$builds"); } 2>/dev/null && [ -O "$builds" ] && [ -w "$builds" ] && return
+        [ -d "$builds" ] || (umask 077 && mkdir -p "$builds") 2>/dev/null
+        [ ! -O "$builds" ] || [ ! -w "$builds" ] || return 0
     done
     return 1
 }
@@ -42,7 +45,7 @@ source_sums() {
     done | LC_ALL=C sort
 }
 
-# places_sum TREE: prints a checksum that changes with each write to a source, in a few milliseconds; nothing where `find` can't tell.
+# places_sum TREE: prints, in milliseconds, a checksum that changes with each write to a source; nothing if `find` can't.
 places_sum() {
     listed=$(find "$1/crates.txt" "$1/HANDLES" "$1"/crates/*/src "$1"/crates/*/specs "$1"/crates/*/proofs \
         ! -type d -printf '%p %i %s %T@ %C@\n' 2>/dev/null) && echo "$listed" | sha256sum | cut -c 1-40
