@@ -20,4 +20,5 @@ own_program() {
     cp "$top/bench/$name/main.source" "$work/crates/${name}_bench/src/main.rt"
     echo "${name}_bench$line" >> "$work/crates.txt"
     echo "$name.sh: proving and building a copy, which takes some minutes" >&2
+    "$top/tools/libraries" "$work" "$work/libraries" "${name}_bench"
 }

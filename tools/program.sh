@@ -1,0 +1,98 @@
+# Sourced, with $top, the repository, and tools/crates.sh: where the proved program lies, and how far its build is.
+#
+# Builds lie outside the repository, in a folder of this user's own, $builds: `rt ci` reads the whole checkout, and
+# refuses a builder's tree there. Each text of the sources has a folder, named by the checksum of all that the program
+# is proved from:
+#
+#     KEY/tlsf       the proved program, there once it is whole
+#     KEY/log        what the last build said
+#     KEY/start      when that build began, in seconds since 1970
+#     KEY/all, done  the crates to prove, and those proved so far, a line each
+#     KEY/failed     why that build failed, in one line; not there after one that was interrupted
+#     KEY/origin     the repository that asked for it
+#     KEY/builder    its process, which leads a group of its own; KEY/lock is locked as long as one of that group lives
+#     KEY/work       what is being made; removed at the end
+#     rlibs/         proved libraries for the next build, each named by the checksum of all that it is made from
+#     seen/SUM       names the text of a checkout, by the checksum of its files' places, sizes and times
+#     lock           locked by the build that runs: one at a time
+
+# Sets $builds, and makes that folder. One that is another user's, or can't be written, is passed over.
+find_builds() {
+    for builds in "${XDG_CACHE_HOME:+$XDG_CACHE_HOME/peachanchor}" "${HOME:+$HOME/.cache/peachanchor}" \
+        "${TMPDIR:-/tmp}/peachanchor-$(id -u)"; do
+        case $builds in /*) ;; *) continue ;; esac
+        [ -d "$builds" ] || (umask 077 && mkdir -p "$builds") 2>/dev/null
+        [ ! -O "$builds" ] || [ ! -w "$builds" ] || return 0
+    done
+    return 1
+}
+
+# text_sum TREE: prints the checksum of all that the program of a tree is proved from.
+text_sum() (
+    cd "$1" || exit 1
+    crates=$(crates_below . tlsf_tool)
+    [ -n "$crates" ] || exit 1
+    # shellcheck disable=SC2086
+    { crate_lines . $crates && cat HANDLES && source_sums $crates; } | sha256sum | cut -c 1-40
+)
+
+# source_sums CRATE..: prints the checksum of each source of these crates, in the tree that is the current folder.
+source_sums() {
+    for crate in "$@"; do
+        for part in src specs proofs; do
+            [ ! -d "crates/$crate/$part" ] || find "crates/$crate/$part" ! -type d -exec sha256sum {} + || return 1
+        done
+    done | LC_ALL=C sort
+}
+
+# places_sum TREE: prints, in milliseconds, a checksum that changes with each write to a source; nothing if `find` can't.
+places_sum() {
+    listed=$(find "$1/crates.txt" "$1/HANDLES" "$1"/crates/*/src "$1"/crates/*/specs "$1"/crates/*/proofs \
+        ! -type d -printf '%p %i %s %T@ %C@\n' 2>/dev/null) && echo "$listed" | sha256sum | cut -c 1-40
+}
+
+# Sets $key, the checksum of the text in the repository, $build, its folder, and $program, the proved program.
+find_key() {
+    key=
+    places=$(places_sum "$top")
+    [ -z "$places" ] || [ ! -f "$builds/seen/$places" ] || read -r key < "$builds/seen/$places"
+    if [ -z "$key" ]; then
+        key=$(text_sum "$top")
+        [ -n "$key" ] || return 1
+        # Only what nobody wrote to meanwhile is known again by its places.
+        if [ -n "$places" ] && [ "$places" = "$(places_sum "$top")" ] && mkdir -p "$builds/seen"; then
+            echo "$key" > "$builds/seen/$places"
+        fi 2>/dev/null
+    fi
+    build=$builds/$key
+    program=$build/tlsf
+}
+
+# Whether a process that builds in this folder lives; those whose leader was killed don't count.
+is_building() {
+    [ -e "$1/lock" ] && ! flock -n -s "$1/lock" true && [ -s "$1/builder" ] && is_alive "$(cat "$1/builder")"
+}
+
+is_alive() {
+    case $(sed -n 's/^State:[[:space:]]*//p' "/proc/$1/status" 2>/dev/null) in Z* | X* | '') return 1 ;; esac
+}
+
+# Ends what builds in this folder, with all that it started.
+end_build() {
+    [ ! -s "$1/builder" ] || kill -9 "-$(cat "$1/builder")" 2>/dev/null
+}
+
+# Sets $state: proved, building, failed, interrupted, or none.
+find_state() {
+    if [ -x "$program" ]; then
+        state=proved
+    elif is_building "$build"; then
+        state=building
+    elif [ -s "$build/failed" ]; then
+        state=failed
+    elif [ -e "$build/start" ]; then
+        state=interrupted
+    else
+        state=none
+    fi
+}
