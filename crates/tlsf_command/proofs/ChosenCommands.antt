@@ -1,7 +1,7 @@
 -- What the words ask for, by what `clap` answers of them.
-use Rattle.std.proofs.Common.{◌≡◌, ◌∙◌, Bool, false, true, true≢false, List, [], Option, Some, None, codes, option_map, inl, inr, refl, sym, ap, subst}
+use Rattle.std.proofs.Common.{◌≡◌, ◌∙◌, ℕ, Bool, false, true, true≢false, List, [], ◌∷◌, Option, Some, None, codes, length, option_map, inl, inr, refl, sym, ap, subst, arith}
 use Rattle.std.specs.Option.{option_map_or, unwrap_or}
-use Rattle.std.specs.Prelude.{option_and_then}
+use Rattle.std.specs.Prelude.{option_and_then, string_bytes}
 use Rattle.std.specs.Str.{bytes_eq}
 use Rattle.std.proofs.lemmas.Bool.{false≢true}
 use Rattle.clap.specs.Matches.{found_of, matched_of, one_text, raw_values, subcommand_name_of}
@@ -9,15 +9,19 @@ use Rattle.clap.specs.Walk.{Row, Text, all_of, one_of, rows_of}
 use Rattle.clap.specs.Words.{subcommand_of, subcommand_rows_of}
 use Rattle.clap.specs.declared.parser.matches.ArgMatches.{ArgMatches}
 use Rattle.clap.proofs.WalkLemmas.{one_text-rows, raw_values-rows}
-use Rattle.tlsf_command.specs.CommandLine.{Answers, Asks, HasFlag, IsAnswerable, LacksFlag, command_in, flag_given, name_of, texts_given, tlsf_app}
+use Rattle.tlsf_command.specs.CommandLine.{Answers, Asks, HasFlag, HasForm, IsAnswerable, IsRunOn, IsTip, LacksFlag, command_in, command_of, flag_given, name_of, texts_given, tip_line, tlsf_app}
 use Rattle.tlsf_command.specs.ClassQuestions.{HasClasses, IsClassQuestion}
 use Rattle.tlsf_command.specs.SizeQuestions.{IsQuestion}
 use Rattle.tlsf_command.specs.declared.class_question.ClassQuestion.{ClassQuestion}
 use Rattle.tlsf_command.specs.declared.class_question.ClassQuestion.TheVariants.{Coarse, Fine, NoClass}
 use Rattle.tlsf_command.specs.declared.size_question.SizeQuestion.{SizeQuestion}
 use Rattle.tlsf_command.specs.declared.command_line.Choice.{Choice}
-use Rattle.tlsf_command.specs.declared.command_line.Choice.TheVariants.{Replay, Held, Race, RaceQueues, Map, MapText, Classes, Size}
+use Rattle.tlsf_command.specs.declared.command_line.Choice.TheVariants.{Trace, File, Classes, Size}
+use Rattle.tlsf_command.specs.declared.trace_run.TraceRun.{TraceRun}
+use Rattle.tlsf_command.specs.declared.trace_run.TraceRun.TheVariants.{Replay, Held, Race, RaceQueues, Map, MapText}
+use Rattle.tlsf_command.specs.Runs.{Does, Refuses, Streams}
 use Rattle.tlsf_command.proofs.NamedCommands.{faultless_named, subcommand_name-rows}
+use Rattle.tlsf_command.proofs.NamedRuns.{GivesForm}
 use Rattle.tlsf_command.proofs.SizeTables.{has_table}
 
 abbrev label : Option (Text × List Row) → Option Text
@@ -30,81 +34,81 @@ label_of_words words matches answers = subcommand_name-rows matches ∙ ap label
 
 -- ---- what words ask for that name a command
 
--- another name than that which the words name isn't asked for
-other_name : (words : List Text) (choice : Choice) (name : Text) → Asks words choice → command_in words ≡ Some name
-    → bytes_eq (name_of choice) name ≡ false → bytes_eq name name ≡ true → ⊥
-other_name words choice name asks is differs same =
-    let one : Some (name_of choice) ≡ Some name = sym asks.named ∙ is in
-    false≢true (sym differs ∙ (ap (λ (o : Option Text). option_map_or (λ text. bytes_eq text name) o true) one ∙ same))
+-- two names of commands that are the same
+no_other : (a b : Text) → a ≡ b → bytes_eq a b ≡ false → bytes_eq b b ≡ true → ⊥
+no_other a b is differs same = false≢true (sym differs ∙ (ap (λ (text : Text). bytes_eq text b) is ∙ same))
 
-pub only_replay : (words : List Text) (choice : Choice) → command_in words ≡ Some (codes "replay") → flag_given (codes "held") words ≡ Some (codes "false") → Asks words choice → choice ≡ Replay
-only_replay words Replay is flag asks = refl
-only_replay words Held is flag asks = absurd (asks.sized.0 flag)
-only_replay words Race is flag asks = absurd (other_name words Race _ asks is refl refl)
-only_replay words RaceQueues is flag asks = absurd (other_name words RaceQueues _ asks is refl refl)
-only_replay words Map is flag asks = absurd (other_name words Map _ asks is refl refl)
-only_replay words MapText is flag asks = absurd (other_name words MapText _ asks is refl refl)
-only_replay words (Classes question) is flag asks = absurd (other_name words (Classes question) _ asks is refl refl)
-only_replay words (Size question) is flag asks = absurd (other_name words (Size question) _ asks is refl refl)
+-- the name of a choice that the words ask for is that which they name
+same_name : (words : List Text) (choice : Choice) (name : Text) → Asks words choice → command_in words ≡ Some name → name_of choice ≡ name
+same_name words choice name asks is = ap (λ (o : Option Text). unwrap_or o []) (sym asks.named ∙ is)
 
-pub only_held : (words : List Text) (choice : Choice) → command_in words ≡ Some (codes "replay") → flag_given (codes "held") words ≡ Some (codes "true") → Asks words choice → choice ≡ Held
-only_held words Replay is flag asks = absurd (asks.sized flag)
-only_held words Held is flag asks = refl
-only_held words Race is flag asks = absurd (other_name words Race _ asks is refl refl)
-only_held words RaceQueues is flag asks = absurd (other_name words RaceQueues _ asks is refl refl)
-only_held words Map is flag asks = absurd (other_name words Map _ asks is refl refl)
-only_held words MapText is flag asks = absurd (other_name words MapText _ asks is refl refl)
-only_held words (Classes question) is flag asks = absurd (other_name words (Classes question) _ asks is refl refl)
-only_held words (Size question) is flag asks = absurd (other_name words (Size question) _ asks is refl refl)
+-- no command that reads a trace is `classes` or `size`
+no_classes : (run : TraceRun) → bytes_eq (codes "classes") (command_of run) ≡ false
+no_classes Replay = refl
+no_classes Held = refl
+no_classes Race = refl
+no_classes RaceQueues = refl
+no_classes Map = refl
+no_classes MapText = refl
 
-pub only_race : (words : List Text) (choice : Choice) → command_in words ≡ Some (codes "race") → flag_given (codes "queues") words ≡ Some (codes "false") → Asks words choice → choice ≡ Race
-only_race words Replay is flag asks = absurd (other_name words Replay _ asks is refl refl)
-only_race words Held is flag asks = absurd (other_name words Held _ asks is refl refl)
-only_race words Race is flag asks = refl
-only_race words RaceQueues is flag asks = absurd (asks.sized.0 flag)
-only_race words Map is flag asks = absurd (other_name words Map _ asks is refl refl)
-only_race words MapText is flag asks = absurd (other_name words MapText _ asks is refl refl)
-only_race words (Classes question) is flag asks = absurd (other_name words (Classes question) _ asks is refl refl)
-only_race words (Size question) is flag asks = absurd (other_name words (Size question) _ asks is refl refl)
+no_size : (run : TraceRun) → bytes_eq (codes "size") (command_of run) ≡ false
+no_size Replay = refl
+no_size Held = refl
+no_size Race = refl
+no_size RaceQueues = refl
+no_size Map = refl
+no_size MapText = refl
 
-pub only_race_queues : (words : List Text) (choice : Choice) → command_in words ≡ Some (codes "race") → flag_given (codes "queues") words ≡ Some (codes "true") → Asks words choice → choice ≡ RaceQueues
-only_race_queues words Replay is flag asks = absurd (other_name words Replay _ asks is refl refl)
-only_race_queues words Held is flag asks = absurd (other_name words Held _ asks is refl refl)
-only_race_queues words Race is flag asks = absurd (asks.sized flag)
-only_race_queues words RaceQueues is flag asks = refl
-only_race_queues words Map is flag asks = absurd (other_name words Map _ asks is refl refl)
-only_race_queues words MapText is flag asks = absurd (other_name words MapText _ asks is refl refl)
-only_race_queues words (Classes question) is flag asks = absurd (other_name words (Classes question) _ asks is refl refl)
-only_race_queues words (Size question) is flag asks = absurd (other_name words (Size question) _ asks is refl refl)
+itself : (run : TraceRun) → bytes_eq (command_of run) (command_of run) ≡ true
+itself Replay = refl
+itself Held = refl
+itself Race = refl
+itself RaceQueues = refl
+itself Map = refl
+itself MapText = refl
 
-pub only_map : (words : List Text) (choice : Choice) → command_in words ≡ Some (codes "map") → flag_given (codes "text") words ≡ Some (codes "false") → Asks words choice → choice ≡ Map
-only_map words Replay is flag asks = absurd (other_name words Replay _ asks is refl refl)
-only_map words Held is flag asks = absurd (other_name words Held _ asks is refl refl)
-only_map words Race is flag asks = absurd (other_name words Race _ asks is refl refl)
-only_map words RaceQueues is flag asks = absurd (other_name words RaceQueues _ asks is refl refl)
-only_map words Map is flag asks = refl
-only_map words MapText is flag asks = absurd (asks.sized.0 flag)
-only_map words (Classes question) is flag asks = absurd (other_name words (Classes question) _ asks is refl refl)
-only_map words (Size question) is flag asks = absurd (other_name words (Size question) _ asks is refl refl)
+-- a run is told by its command and its flag
+same_run : (words : List Text) (run other : TraceRun) → command_of other ≡ command_of run → GivesForm run words → HasForm other words → other ≡ run
+same_run words Replay Replay is gives has = refl
+same_run words Replay Held is gives has = absurd (has.0 gives)
+same_run words Held Replay is gives has = absurd (has gives)
+same_run words Held Held is gives has = refl
+same_run words Race Race is gives has = refl
+same_run words Race RaceQueues is gives has = absurd (has.0 gives)
+same_run words RaceQueues Race is gives has = absurd (has gives)
+same_run words RaceQueues RaceQueues is gives has = refl
+same_run words Map Map is gives has = refl
+same_run words Map MapText is gives has = absurd (has.0 gives)
+same_run words MapText Map is gives has = absurd (has gives)
+same_run words MapText MapText is gives has = refl
+same_run words run other is gives has = absurd (no_other (command_of other) (command_of run) is refl refl)
 
-pub only_map_text : (words : List Text) (choice : Choice) → command_in words ≡ Some (codes "map") → flag_given (codes "text") words ≡ Some (codes "true") → Asks words choice → choice ≡ MapText
-only_map_text words Replay is flag asks = absurd (other_name words Replay _ asks is refl refl)
-only_map_text words Held is flag asks = absurd (other_name words Held _ asks is refl refl)
-only_map_text words Race is flag asks = absurd (other_name words Race _ asks is refl refl)
-only_map_text words RaceQueues is flag asks = absurd (other_name words RaceQueues _ asks is refl refl)
-only_map_text words Map is flag asks = absurd (asks.sized flag)
-only_map_text words MapText is flag asks = refl
-only_map_text words (Classes question) is flag asks = absurd (other_name words (Classes question) _ asks is refl refl)
-only_map_text words (Size question) is flag asks = absurd (other_name words (Size question) _ asks is refl refl)
+-- words that name a run, give its flag and no file ask for it alone
+pub only_run : (words : List Text) (run : TraceRun) (choice : Choice) → command_in words ≡ Some (command_of run) → GivesForm run words
+    → texts_given (codes "FILE") words ≡ [] → Asks words choice → choice ≡ Trace run
+only_run words run (Trace other) is gives none asks = ap (λ (r : TraceRun). Trace r) (same_run words run other (same_name words (Trace other) _ asks is) gives asks.parts.0)
+only_run words run (File other tip) is gives none asks = absurd (subst (λ (files : List Text). IsTip other files (string_bytes tip)) none asks.parts.1)
+only_run words run (Classes question) is gives none asks = absurd (no_other _ _ (same_name words (Classes question) _ asks is) (no_classes run) (itself run))
+only_run words run (Size question) is gives none asks = absurd (no_other _ _ (same_name words (Size question) _ asks is) (no_size run) (itself run))
+
+some_file : (file : Text) → file ∷ [] ≡ [] → ⊥
+some_file file is = let count : 1 ≡ 0 = ap (λ (files : List Text). length files) is in absurd (omega (arith, count))
+
+-- and where they give a file, what they ask for is its tip
+pub only_tip : (words : List Text) (run : TraceRun) (file : Text) (choice : Choice) (status : ℕ) (old new : Streams) → command_in words ≡ Some (command_of run) → GivesForm run words
+    → texts_given (codes "FILE") words ≡ file ∷ [] → Asks words choice → Does choice status old new → Refuses (tip_line run file) status old new
+only_tip words run file (Trace other) status old new is gives given asks done = absurd (some_file file (sym given ∙ asks.parts.1))
+only_tip words run file (File other tip) status old new is gives given asks done =
+    let tips : string_bytes tip ≡ tip_line other file = subst (λ (files : List Text). IsTip other files (string_bytes tip)) given asks.parts.1 in
+    let same = same_run words run other (same_name words (File other tip) _ asks is) gives asks.parts.0 in
+    subst (λ (line : Text). Refuses line status old new) (tips ∙ ap (λ (r : TraceRun). tip_line r file) same) done
+only_tip words run file (Classes question) status old new is gives given asks done = absurd (no_other _ _ (same_name words (Classes question) _ asks is) (no_classes run) (itself run))
+only_tip words run file (Size question) status old new is gives given asks done = absurd (no_other _ _ (same_name words (Size question) _ asks is) (no_size run) (itself run))
 
 pub only_size : (words : List Text) (choice : Choice) → command_in words ≡ Some (codes "size") → Asks words choice → (question : SizeQuestion) × (choice ≡ Size question)
-only_size words Replay is asks = absurd (other_name words Replay _ asks is refl refl)
-only_size words Held is asks = absurd (other_name words Held _ asks is refl refl)
-only_size words Race is asks = absurd (other_name words Race _ asks is refl refl)
-only_size words RaceQueues is asks = absurd (other_name words RaceQueues _ asks is refl refl)
-only_size words Map is asks = absurd (other_name words Map _ asks is refl refl)
-only_size words MapText is asks = absurd (other_name words MapText _ asks is refl refl)
-only_size words (Classes question) is asks = absurd (other_name words (Classes question) _ asks is refl refl)
+only_size words (Trace run) is asks = absurd (no_other _ _ (sym (same_name words (Trace run) _ asks is)) (no_size run) (itself run))
+only_size words (File run tip) is asks = absurd (no_other _ _ (sym (same_name words (File run tip) _ asks is)) (no_size run) (itself run))
+only_size words (Classes question) is asks = absurd (no_other _ _ (same_name words (Classes question) _ asks is) refl refl)
 only_size words (Size question) is asks = (question, refl)
 
 -- a size that is asked about has a class
@@ -115,14 +119,10 @@ has_classes sizes levels NoClass is = tt
 
 -- what is asked for can be answered
 pub answerable : (words : List Text) (choice : Choice) → Asks words choice → IsAnswerable choice
-answerable words Replay asks = tt
-answerable words Held asks = tt
-answerable words Race asks = tt
-answerable words RaceQueues asks = tt
-answerable words Map asks = tt
-answerable words MapText asks = tt
-answerable words (Classes question) asks = has_classes (texts_given (codes "N") words) (texts_given (codes "sli") words) question asks.sized
-answerable words (Size question) asks = has_table (texts_given (codes "B") words) (texts_given (codes "N") words) (texts_given (codes "sli") words) question asks.sized
+answerable words (Trace run) asks = tt
+answerable words (File run tip) asks = tt
+answerable words (Classes question) asks = has_classes (texts_given (codes "N") words) (texts_given (codes "sli") words) question asks.parts
+answerable words (Size question) asks = has_table (texts_given (codes "B") words) (texts_given (codes "N") words) (texts_given (codes "sli") words) question asks.parts
 
 -- ---- by what `clap` answers
 
@@ -156,61 +156,20 @@ flag_entered words matches given name answers entered =
     ∙ (through (one_of name) (subcommand_rows_of matches) ∙ ap (option_and_then (λ (e : Text × List Row). one_of name e.1)) answers.1))
 
 -- a flag that isn't set isn't given
-flag_lacks : (words : List Text) (matches given : ArgMatches) (name : Text) (flag : Bool) → Answers words matches
+pub flag_lacks : (words : List Text) (matches given : ArgMatches) (name : Text) (flag : Bool) → Answers words matches
     → option_map (λ (entered : Text × List Row). entered.1) (subcommand_rows_of matches) ≡ Some (rows_of (found_of given))
     → (one_text (found_of given) name ≡ Some (codes "true") → flag ≡ true) → flag ≡ false → LacksFlag name words
 flag_lacks words matches given name flag answers entered set clear =
     λ is. true≢false (sym (set (flag_entered words matches given name answers entered ∙ is)) ∙ clear)
 
 -- and one that is set is given
-flag_has : (words : List Text) (matches given : ArgMatches) (name : Text) (flag : Bool) → Answers words matches
+pub flag_has : (words : List Text) (matches given : ArgMatches) (name : Text) (flag : Bool) → Answers words matches
     → option_map (λ (entered : Text × List Row). entered.1) (subcommand_rows_of matches) ≡ Some (rows_of (found_of given))
     → (one_text (found_of given) name ≡ Some (codes "false") → flag ≡ false) → (one_text (found_of given) name ≡ None → flag ≡ false)
     → flag ≡ true → HasFlag name words
 flag_has words matches given name flag answers entered clear none set =
     let read = flag_entered words matches given name answers entered in
     ((λ is. true≢false (sym set ∙ clear (read ∙ is))), (λ is. true≢false (sym set ∙ none (read ∙ is))))
-
-module _ (words : List Text) (matches given : ArgMatches) (flag : Bool) (answers : Answers words matches)
-    (entered : option_map (λ (entered : Text × List Row). entered.1) (subcommand_rows_of matches) ≡ Some (rows_of (found_of given))) where
-  -- where the command is `replay` and its flag isn't set the words ask for a replay
-  pub asks_replay : subcommand_name_of matches ≡ Some (codes "replay")
-      → (one_text (found_of given) (codes "held") ≡ Some (codes "true") → flag ≡ true) → flag ≡ false → Asks words Replay
-  asks_replay called set clear =
-      record { faultless = answers.0; named = sym (label_of_words words matches answers) ∙ called; sized = flag_lacks words matches given (codes "held") flag answers entered set clear }
-
-  -- where it is set, for what the workers ask of their heaps
-  pub asks_held : subcommand_name_of matches ≡ Some (codes "replay")
-      → (one_text (found_of given) (codes "held") ≡ Some (codes "false") → flag ≡ false) → (one_text (found_of given) (codes "held") ≡ None → flag ≡ false)
-      → flag ≡ true → Asks words Held
-  asks_held called clear none set =
-      record { faultless = answers.0; named = sym (label_of_words words matches answers) ∙ called; sized = flag_has words matches given (codes "held") flag answers entered clear none set }
-
-  -- where it is `race` and its flag isn't set, for a race over lanes
-  pub asks_race : subcommand_name_of matches ≡ Some (codes "race")
-      → (one_text (found_of given) (codes "queues") ≡ Some (codes "true") → flag ≡ true) → flag ≡ false → Asks words Race
-  asks_race called set clear =
-      record { faultless = answers.0; named = sym (label_of_words words matches answers) ∙ called; sized = flag_lacks words matches given (codes "queues") flag answers entered set clear }
-
-  -- and where it is set, for one over queues
-  pub asks_race_queues : subcommand_name_of matches ≡ Some (codes "race")
-      → (one_text (found_of given) (codes "queues") ≡ Some (codes "false") → flag ≡ false) → (one_text (found_of given) (codes "queues") ≡ None → flag ≡ false)
-      → flag ≡ true → Asks words RaceQueues
-  asks_race_queues called clear none set =
-      record { faultless = answers.0; named = sym (label_of_words words matches answers) ∙ called; sized = flag_has words matches given (codes "queues") flag answers entered clear none set }
-
-  -- where it is `map` and its flag isn't set, for a map
-  pub asks_map : subcommand_name_of matches ≡ Some (codes "map")
-      → (one_text (found_of given) (codes "text") ≡ Some (codes "true") → flag ≡ true) → flag ≡ false → Asks words Map
-  asks_map called set clear =
-      record { faultless = answers.0; named = sym (label_of_words words matches answers) ∙ called; sized = flag_lacks words matches given (codes "text") flag answers entered set clear }
-
-  -- and where it is set, for one in characters
-  pub asks_map_text : subcommand_name_of matches ≡ Some (codes "map")
-      → (one_text (found_of given) (codes "text") ≡ Some (codes "false") → flag ≡ false) → (one_text (found_of given) (codes "text") ≡ None → flag ≡ false)
-      → flag ≡ true → Asks words MapText
-  asks_map_text called clear none set =
-      record { faultless = answers.0; named = sym (label_of_words words matches answers) ∙ called; sized = flag_has words matches given (codes "text") flag answers entered clear none set }
 
 -- the texts that the words give under an id, by the matches of the command that was entered
 texts_entered : (words : List Text) (matches given : ArgMatches) (id : Text) → Answers words matches
@@ -224,6 +183,30 @@ texts_entered words matches given id answers entered =
 abbrev texts_read : Text → ArgMatches → List Text
 texts_read id given = unwrap_or (option_map raw_values (matched_of (found_of given) id)) []
 
+-- where the command is that of a run, whose flag the words give, they ask for what the words behind it make of it
+pub asks_run : (words : List Text) (matches given : ArgMatches) (run : TraceRun) (choice : Choice) → Answers words matches
+    → subcommand_name_of matches ≡ Some (command_of run)
+    → option_map (λ (entered : Text × List Row). entered.1) (subcommand_rows_of matches) ≡ Some (rows_of (found_of given))
+    → HasForm run words → IsRunOn run (texts_read (codes "FILE") given) choice → Asks words choice
+asks_run words matches given run (Trace other) answers called entered form on =
+    let same = sym on.0 in record {
+      faultless = answers.0;
+      named = sym (label_of_words words matches answers) ∙ (called ∙ ap (λ (r : TraceRun). Some (command_of r)) same);
+      parts = (subst (λ (r : TraceRun). HasForm r words) same form, sym (texts_entered words matches given (codes "FILE") answers entered) ∙ on.1);
+    }
+asks_run words matches given run (File other tip) answers called entered form on =
+    let same = sym on.0 in record {
+      faultless = answers.0;
+      named = sym (label_of_words words matches answers) ∙ (called ∙ ap (λ (r : TraceRun). Some (command_of r)) same);
+      parts = (
+        subst (λ (r : TraceRun). HasForm r words) same form,
+        subst (λ (r : TraceRun). IsTip r (texts_given (codes "FILE") words) (string_bytes tip)) same
+            (subst (λ (files : List Text). IsTip run files (string_bytes tip)) (texts_entered words matches given (codes "FILE") answers entered) on.1),
+      );
+    }
+asks_run words matches given run (Classes question) answers called entered form on = absurd on
+asks_run words matches given run (Size question) answers called entered form on = absurd on
+
 -- where the command is `size` the words ask the question that is made of the matches
 pub asks_size : (words : List Text) (matches given : ArgMatches) (question : SizeQuestion) → Answers words matches
     → subcommand_name_of matches ≡ Some (codes "size")
@@ -233,7 +216,7 @@ pub asks_size : (words : List Text) (matches given : ArgMatches) (question : Siz
 asks_size words matches given question answers called entered made = record {
   faultless = answers.0;
   named = sym (label_of_words words matches answers) ∙ called;
-  sized = subst (λ (texts : List Text). IsQuestion (texts_given (codes "B") words) (texts_given (codes "N") words) texts question)
+  parts = subst (λ (texts : List Text). IsQuestion (texts_given (codes "B") words) (texts_given (codes "N") words) texts question)
       (texts_entered words matches given (codes "sli") answers entered)
       (subst (λ (texts : List Text). IsQuestion (texts_given (codes "B") words) texts (texts_read (codes "sli") given) question)
       (texts_entered words matches given (codes "N") answers entered)
@@ -251,7 +234,7 @@ pub asks_classes : (words : List Text) (matches given : ArgMatches) (question : 
 asks_classes words matches given question answers called entered made = record {
   faultless = answers.0;
   named = sym (label_of_words words matches answers) ∙ called;
-  sized = subst (λ (texts : List Text). IsClassQuestion (texts_given (codes "N") words) texts question)
+  parts = subst (λ (texts : List Text). IsClassQuestion (texts_given (codes "N") words) texts question)
       (texts_entered words matches given (codes "sli") answers entered)
       (subst (λ (texts : List Text). IsClassQuestion texts (unwrap_or (option_map raw_values (matched_of (found_of given) (codes "sli"))) []) question)
       (texts_entered words matches given (codes "N") answers entered) made);

@@ -1,6 +1,7 @@
 -- Lemmas, a line for each file.
 pub mod ClassLines  -- the line on a size, piece by piece
 pub mod NamedCommands  -- a command line that comes to no fault names a command of the program
+pub mod NamedRuns  -- words that are written out, and name a run of a trace
 pub mod Faultless  -- steps in a row that come to no fault
 pub mod ChosenCommands  -- what the words ask for, by what `clap` answers of them
 pub mod RunEnds  -- how a run ends, by what its words name

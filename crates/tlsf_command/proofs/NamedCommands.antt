@@ -15,8 +15,7 @@ use Rattle.clap.specs.declared.parser.matches.ArgMatches.{ArgMatches}
 use Rattle.clap.specs.declared.parser.matches.ArgMatches.TheViews.{out-ArgMatches, out-SubCommand}
 use Rattle.clap.specs.Kinds.{FailsBy}
 use Rattle.clap.specs.declared.error.Error.{Error}
-use Rattle.clap.proofs.OnLiterals.{clap_on_literals}
-use Rattle.tlsf_command.specs.CommandLine.{command_in, faults_of, flag_given, tlsf_app}
+use Rattle.tlsf_command.specs.CommandLine.{faults_of, tlsf_app}
 use Rattle.tlsf_command.proofs.Faultless.{nothing_first, nothing_second, steps_pass}
 
 abbrev program : App
@@ -179,64 +178,7 @@ faultless_named words none =
     stop_named end.stopped (finished program.top.rules end.held)
     (walk_allowed (walk_from nothing_held) given tt passed.0) passed.3
 
--- ---- words that are written out
-
--- the words come to no fault, and name this command
-pub record AreNamed (words : List Text) (name : Text) : Type 0 where
-  pub faultless : faults_of words ≡ []
-  pub named : command_in words ≡ Some name
-
--- the program's name, whatever that is, and `replay`
-pub replay_named : (called : Text) → AreNamed (called ∷ replay_name ∷ []) replay_name
-unfolding clap_on_literals
-replay_named called = record { faultless = refl; named = refl }
-
-pub replay_unflagged : (called : Text) → flag_given (codes "held") (called ∷ replay_name ∷ []) ≡ Some (codes "false")
-unfolding clap_on_literals
-replay_unflagged called = refl
-
--- `replay --held`
-pub held_named : (called : Text) → AreNamed (called ∷ replay_name ∷ codes "--held" ∷ []) replay_name
-unfolding clap_on_literals
-held_named called = record { faultless = refl; named = refl }
-
-pub held_flagged : (called : Text) → flag_given (codes "held") (called ∷ replay_name ∷ codes "--held" ∷ []) ≡ Some (codes "true")
-unfolding clap_on_literals
-held_flagged called = refl
-
--- `race`, and `race --queues`
-pub race_named : (called : Text) → AreNamed (called ∷ race_name ∷ []) race_name
-unfolding clap_on_literals
-race_named called = record { faultless = refl; named = refl }
-
-pub race_unflagged : (called : Text) → flag_given (codes "queues") (called ∷ race_name ∷ []) ≡ Some (codes "false")
-unfolding clap_on_literals
-race_unflagged called = refl
-
-pub race_queues_named : (called : Text) → AreNamed (called ∷ race_name ∷ codes "--queues" ∷ []) race_name
-unfolding clap_on_literals
-race_queues_named called = record { faultless = refl; named = refl }
-
-pub race_queues_flagged : (called : Text) → flag_given (codes "queues") (called ∷ race_name ∷ codes "--queues" ∷ []) ≡ Some (codes "true")
-unfolding clap_on_literals
-race_queues_flagged called = refl
-
--- `map`, and `map --text`
-pub map_named : (called : Text) → AreNamed (called ∷ map_name ∷ []) map_name
-unfolding clap_on_literals
-map_named called = record { faultless = refl; named = refl }
-
-pub map_unflagged : (called : Text) → flag_given (codes "text") (called ∷ map_name ∷ []) ≡ Some (codes "false")
-unfolding clap_on_literals
-map_unflagged called = refl
-
-pub map_text_named : (called : Text) → AreNamed (called ∷ map_name ∷ codes "--text" ∷ []) map_name
-unfolding clap_on_literals
-map_text_named called = record { faultless = refl; named = refl }
-
-pub map_text_flagged : (called : Text) → flag_given (codes "text") (called ∷ map_name ∷ codes "--text" ∷ []) ≡ Some (codes "true")
-unfolding clap_on_literals
-map_text_flagged called = refl
+-- ---- by what `clap` answers
 
 -- the name that matches give is that of the subcommand's rows
 pub subcommand_name-rows : (m : ArgMatches) → subcommand_name_of m ≡ option_map (λ (named : Text × List Row). named.0) (subcommand_rows_of m)

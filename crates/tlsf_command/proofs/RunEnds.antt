@@ -1,15 +1,15 @@
 -- How a run ends, by what its words name.
-use Rattle.std.proofs.Common.{◌≡◌, ◌⊎◌, ◌∷◌, ◌∙◌, ℕ, List, [], codes, inl, inr, ap, subst}
+use Rattle.std.proofs.Common.{◌≡◌, ◌⊎◌, ◌∷◌, ◌++◌, ◌∙◌, ℕ, List, [], codes, inl, inr, ap, subst, sym}
 use Rattle.clap.specs.Words.{IsAmong, Text}
 use Rattle.clap.specs.declared.error.kind.ErrorKind.{ErrorKind}
 use Rattle.clap.specs.declared.error.kind.ErrorKind.TheVariants.{OutOfMemory}
-use Rattle.tlsf_command.specs.CommandLine.{Asks, command_in, faults_of, flag_given}
-use Rattle.tlsf_command.specs.Runs.{Streams, Does, DoesOrLacksMemory, Ends, LacksMemory, ShowsAnswer, ShowsOptionsOrLacksMemory, ShowsPairsOrLacksMemory}
+use Rattle.tlsf_command.specs.CommandLine.{Asks, command_in, faults_of, words_of, IsPlainWord}
+use Rattle.tlsf_command.specs.Runs.{Streams, Does, Ends, LacksMemory, RunsOrLacksMemory, ShowsAnswer, ShowsOptionsOrLacksMemory, ShowsPairsOrLacksMemory, TipsOrLacksMemory}
 use Rattle.tlsf_command.specs.SizeQuestions.{blocks_of, bytes_in, option_words, pair_words, AreOptions, ArePairs, IsQuestion, Pair, SizeOption}
 use Rattle.tlsf_command.specs.declared.command_line.Choice.{Choice}
-use Rattle.tlsf_command.specs.declared.command_line.Choice.TheVariants.{Held, Map, MapText, Race, RaceQueues, Replay}
-use Rattle.tlsf_command.proofs.ChosenCommands.{only_held, only_map, only_map_text, only_race, only_race_queues, only_replay, only_size}
-use Rattle.tlsf_command.proofs.NamedCommands.{held_flagged, held_named, map_named, map_text_flagged, map_text_named, map_unflagged, race_named, race_queues_flagged, race_queues_named, race_unflagged, replay_named, replay_unflagged}
+use Rattle.tlsf_command.specs.declared.trace_run.TraceRun.{TraceRun}
+use Rattle.tlsf_command.proofs.ChosenCommands.{only_run, only_size, only_tip}
+use Rattle.tlsf_command.proofs.NamedRuns.{file_named, run_named, NameRun}
 use Rattle.tlsf_command.proofs.SizeOptions.{are_options, options_faultless, options_named, options_of, options_question, pair_blocks, pair_bytes, pair_words_are}
 
 -- ---- where `clap` ends it by an error
@@ -33,36 +33,24 @@ pub data Run (words : List Text) (status : ℕ) (old new : Streams) : Type 0 whe
 
 -- ---- what words that are written out come to
 
--- where they ask for one choice alone
-one_choice : (words named : List Text) (choice : Choice) (status : ℕ) (old new : Streams) → words ≡ named → faults_of named ≡ []
-    → ((other : Choice) → Asks words other → other ≡ choice) → Run words status old new → DoesOrLacksMemory choice status old new
-one_choice words named choice status old new same none only (does other asks done) = inl (subst (λ (c : Choice). Does c status old new) (only other asks) done)
-one_choice words named choice status old new same none only (fails kind among shows) = inr (answer_lacks words named kind status old new shows among same none)
-
 module _ (words : List Text) (called : Text) (status : ℕ) (old new : Streams) (run : Run words status old new) where
-  pub ends_replay : words ≡ called ∷ codes "replay" ∷ [] → DoesOrLacksMemory Replay status old new
-  ends_replay is = one_choice words _ Replay status old new is (replay_named called).faultless
-      (λ other asks. only_replay words other (ap command_in is ∙ (replay_named called).named) (ap (flag_given (codes "held")) is ∙ replay_unflagged called) asks) run
+  by_run : (wanted : TraceRun) → words ≡ called ∷ words_of wanted → Run words status old new → RunsOrLacksMemory wanted status old new
+  by_run wanted is (does choice asks done) =
+      let names = subst (λ (given : List Text). NameRun given wanted []) (sym is) (run_named called wanted) in
+      inl (subst (λ (c : Choice). Does c status old new) (only_run words wanted choice names.named names.form names.given asks) done)
+  by_run wanted is (fails kind among shows) = inr (answer_lacks words _ kind status old new shows among is (run_named called wanted).faultless)
 
-  pub ends_held : words ≡ called ∷ codes "replay" ∷ codes "--held" ∷ [] → DoesOrLacksMemory Held status old new
-  ends_held is = one_choice words _ Held status old new is (held_named called).faultless
-      (λ other asks. only_held words other (ap command_in is ∙ (held_named called).named) (ap (flag_given (codes "held")) is ∙ held_flagged called) asks) run
+  pub ends_run : (wanted : TraceRun) → words ≡ called ∷ words_of wanted → RunsOrLacksMemory wanted status old new
+  ends_run wanted is = by_run wanted is run
 
-  pub ends_race : words ≡ called ∷ codes "race" ∷ [] → DoesOrLacksMemory Race status old new
-  ends_race is = one_choice words _ Race status old new is (race_named called).faultless
-      (λ other asks. only_race words other (ap command_in is ∙ (race_named called).named) (ap (flag_given (codes "queues")) is ∙ race_unflagged called) asks) run
+  by_file : (wanted : TraceRun) (file : Text) → IsPlainWord file → words ≡ called ∷ (words_of wanted ++ file ∷ []) → Run words status old new → TipsOrLacksMemory wanted file status old new
+  by_file wanted file plain is (does choice asks done) =
+      let names = subst (λ (given : List Text). NameRun given wanted (file ∷ [])) (sym is) (file_named called wanted file plain) in
+      inl (only_tip words wanted file choice status old new names.named names.form names.given asks done)
+  by_file wanted file plain is (fails kind among shows) = inr (answer_lacks words _ kind status old new shows among is (file_named called wanted file plain).faultless)
 
-  pub ends_race_queues : words ≡ called ∷ codes "race" ∷ codes "--queues" ∷ [] → DoesOrLacksMemory RaceQueues status old new
-  ends_race_queues is = one_choice words _ RaceQueues status old new is (race_queues_named called).faultless
-      (λ other asks. only_race_queues words other (ap command_in is ∙ (race_queues_named called).named) (ap (flag_given (codes "queues")) is ∙ race_queues_flagged called) asks) run
-
-  pub ends_map : words ≡ called ∷ codes "map" ∷ [] → DoesOrLacksMemory Map status old new
-  ends_map is = one_choice words _ Map status old new is (map_named called).faultless
-      (λ other asks. only_map words other (ap command_in is ∙ (map_named called).named) (ap (flag_given (codes "text")) is ∙ map_unflagged called) asks) run
-
-  pub ends_map_text : words ≡ called ∷ codes "map" ∷ codes "--text" ∷ [] → DoesOrLacksMemory MapText status old new
-  ends_map_text is = one_choice words _ MapText status old new is (map_text_named called).faultless
-      (λ other asks. only_map_text words other (ap command_in is ∙ (map_text_named called).named) (ap (flag_given (codes "text")) is ∙ map_text_flagged called) asks) run
+  pub ends_file : (wanted : TraceRun) (file : Text) → IsPlainWord file → words ≡ called ∷ (words_of wanted ++ file ∷ []) → TipsOrLacksMemory wanted file status old new
+  ends_file wanted file plain is = by_file wanted file plain is run
 
   by_options : (options : List SizeOption) → AreOptions options → words ≡ called ∷ codes "size" ∷ option_words options → Run words status old new → ShowsOptionsOrLacksMemory options status old new
   by_options options are is (does choice asks done) =

@@ -22,6 +22,7 @@ use Rattle.clap.proofs.OnLiterals.{clap_on_literals}
 use Rattle.clap.proofs.WalkLemmas.{walk_stopped}
 use Rattle.tlsf_command.specs.CommandLine.{command_in, faults_of, size_app, texts_given, tlsf_app, Asks}
 use Rattle.tlsf_command.specs.SizeQuestions.{blocks_in, blocks_of, bytes_in, bytes_of, option_words, pair_words, AreOptions, ArePairs, IsCount, IsOption, IsPair, IsQuestion, Pair, SizeOption, Blocks, Bytes}
+use Rattle.tlsf_command.proofs.NamedRuns.{IsPlain}
 use Rattle.tlsf_command.specs.declared.command_line.Choice.TheVariants.{Size}
 use Rattle.tlsf_command.specs.declared.size_question.SizeQuestion.{SizeQuestion}
 
@@ -47,10 +48,6 @@ no_hyphen d digit = false_if (d == 45) (λ e. let bad : 36 < 10 = digit_is d 45 
 
 no_plus : (d : ℕ) → digit_value d < 10 → (d == 43) ≡ false
 no_plus d digit = false_if (d == 43) (λ e. let bad : 36 < 10 = digit_is d 43 digit e in absurd (omega (arith, bad)))
-
--- no text of a flag
-abbrev IsPlain : Text → Type 0
-IsPlain text = (bytes_eq text (45 ∷ 45 ∷ []) ≡ false) × (long_of text ≡ None) × (short_of text ≡ None)
 
 plain_text : (text : Text) → IsCount text → IsPlain text
 plain_text [] count = absurd (omega (arith, count.0.0))
@@ -430,7 +427,7 @@ options_question words called options question asks are is =
     let levels = texts (codes "sli") ∙ levels_read (blocks_in options) (bytes_in options) first are.blocks are.bytes in
     subst (λ (texts : List Text). IsQuestion (blocks_in options) (bytes_in options) texts question) levels
     (subst (λ (texts : List Text). IsQuestion (blocks_in options) texts (texts_given (codes "sli") words) question) bytes
-    (subst (λ (texts : List Text). IsQuestion texts (texts_given (codes "N") words) (texts_given (codes "sli") words) question) blocks asks.sized))
+    (subst (λ (texts : List Text). IsQuestion texts (texts_given (codes "N") words) (texts_given (codes "sli") words) question) blocks asks.parts))
 
 -- ---- pairs
 

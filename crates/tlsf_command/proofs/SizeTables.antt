@@ -1,14 +1,14 @@
 -- Tables of kinds, and the numbers of texts.
-use Rattle.std.proofs.Common.{◌≡◌, ◌≤◌, ◌<◌, ◌+◌, ◌*◌, ◌^◌, ℕ, zero, suc, Bool, true, false, cond, List, [], ◌∷◌, Some, Result, Ok, Err, fold, map, max, get_or, ◌∙◌, length, drop, refl, sym, ap, arith}
+use Rattle.std.proofs.Common.{◌≡◌, ◌≤◌, ◌<◌, ◌+◌, ◌*◌, ◌^◌, ℕ, zero, suc, Bool, true, false, cond, List, [], ◌∷◌, Option, Some, None, Result, Ok, Err, fold, map, max, get_or, ◌∙◌, length, drop, refl, sym, ap, arith}
 use Rattle.std.proofs.Math.Nat.{mul-le-mul}
-use Rattle.std.specs.Prelude.{slice_get}
+use Rattle.std.specs.Prelude.{IfSome}
 use Rattle.std.specs.List.{AllByRecursion}
 use Rattle.std.specs.Result.{result_unwrap_or}
 use Rattle.std.specs.Str.Parse.{ParsesUnsigned, digits_value, without_leading_plus}
 use Rattle.clap.specs.ValueTests.{accepts}
 use Rattle.clap.specs.declared.builder.value_parser.ValueParser.TheVariants.{Unsigned}
 use Rattle.clap.proofs.ValueTestLemmas.{accepts-Accepts, Accepts-accepts}
-use Rattle.tlsf_command.specs.SizeLines.{asked_bytes, AreReached, IsServable}
+use Rattle.tlsf_command.specs.SizeLines.{asked_bytes, AreReached, IsFiner, IsServable}
 use Rattle.clap.specs.Words.{Text}
 use Rattle.tlsf_command.specs.SizeQuestions.{kinds_in, number_of, HasTable, IsQuestion}
 use Rattle.tlsf_command.specs.declared.size_question.SizeQuestion.{SizeQuestion}
@@ -16,7 +16,7 @@ use Rattle.tlsf_command.specs.declared.size_question.SizeQuestion.TheVariants.{T
 use Rattle.tlsf_class.specs.Classes.{most_words}
 use Rattle.tlsf_class.proofs.TwoLevels.{most_words_any}
 use Rattle.tlsf_heap.specs.Blocks.{want}
-use Rattle.tlsf_laws.specs.Kinds.{table_words, words_with, HasClass}
+use Rattle.tlsf_laws.specs.Kinds.{kinds_words, table_words, words_with, HasClass}
 use Rattle.tlsf_laws.specs.declared.kind.Kind.{Kind}
 
 -- ---- numbers
@@ -94,11 +94,11 @@ pub some_byte : (sli : ℕ) (kinds : List Kind) → 0 < length kinds → AllByRe
 some_byte sli [] some all = absurd (omega (arith, some))
 some_byte sli (k ∷ kinds) some all = one_byte k.most k.len (asked_bytes kinds) all.0.0 all.0.1
 
--- the kind at a place within the table
-pub found_at : (kinds : List Kind) (i : ℕ) → i < length kinds → (k : Kind) × (slice_get kinds i ≡ Some k)
-found_at [] i within = absurd (omega (arith, within))
-found_at (k ∷ kinds) zero within = (k, refl)
-found_at (k ∷ kinds) (suc i) within = found_at kinds i (omega arith)
+-- what is found at level 5 is the hint
+pub finer_of : (kinds : List Kind) (found : Option ℕ) → IfSome found (λ words. AreReached 5 kinds × (words ≡ kinds_words 5 kinds))
+    → (found ≡ None → ¬ (AreReached 5 kinds)) → IsFiner kinds found
+finer_of kinds None some none = none refl
+finer_of kinds (Some words) some none = some
 
 -- as many kinds as pairs
 kinds_count : (blocks bytes : List Text) → length blocks ≡ length bytes → length (kinds_in blocks bytes) ≡ length blocks

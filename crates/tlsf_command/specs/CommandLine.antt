@@ -1,5 +1,5 @@
 -- The command line, by the definitions of `clap`.
-use Rattle.std.specs.Prelude.{◌≡◌, ◌≢◌, ◌^◌, ⊤, true, pos, List, [], Option, Some, None, codes, option_and_then, option_map, unwrap_or}
+use Rattle.std.specs.Prelude.{◌≡◌, ◌≢◌, ◌^◌, ⊤, true, pos, List, [], ◌∷◌, ◌++◌, Option, Some, None, codes, option_and_then, option_map, string_bytes, unwrap_or}
 use Rattle.clap.specs.Words.{App, Kinds, Rule, Text, all_of, fault_of, new_app, new_rule, one_of, subcommand_of, subcommand_rows_of, with_rule, with_subcommand}
 use Rattle.clap.specs.declared.builder.action.ArgAction.TheVariants.{Append, Set, SetTrue}
 use Rattle.clap.specs.declared.builder.value_parser.ValueParser.TheVariants.{Signed}
@@ -7,7 +7,9 @@ use Rattle.clap.specs.declared.parser.matches.ArgMatches.{ArgMatches}
 use Rattle.tlsf_command.specs.ClassQuestions.{HasClasses, IsClassQuestion}
 use Rattle.tlsf_command.specs.SizeQuestions.{HasTable, IsQuestion}
 use Rattle.tlsf_command.specs.declared.command_line.Choice.{Choice}
-use Rattle.tlsf_command.specs.declared.command_line.Choice.TheVariants.{Replay, Held, Race, RaceQueues, Map, MapText, Classes, Size}
+use Rattle.tlsf_command.specs.declared.command_line.Choice.TheVariants.{Trace, File, Classes, Size}
+use Rattle.tlsf_command.specs.declared.trace_run.TraceRun.{TraceRun}
+use Rattle.tlsf_command.specs.declared.trace_run.TraceRun.TheVariants.{Replay, Held, Race, RaceQueues, Map, MapText}
 
 -- the size that `classes` asks for, a number from 4 to 2^24
 abbrev pub size_rule : Rule
@@ -47,17 +49,25 @@ size_app = with_rule (with_rule (with_rule (new_app (codes "size")) (count_rule 
 abbrev pub flag_rule : Text → Rule
 flag_rule name = record (new_rule name) { long = Some name; action = Some SetTrue }
 
+-- words behind a command that reads a trace from standard input, as the names of files
+abbrev pub file_rule : Rule
+file_rule = record (new_rule (codes "FILE")) { action = Some Append }
+
+-- a command of this name that reads a trace, with a flag
+abbrev pub trace_app : Text → Text → App
+trace_app name flag = with_rule (with_rule (new_app name) (flag_rule flag)) file_rule
+
 -- the command `replay`, with the flag by which it writes what the workers ask of their heaps
 abbrev pub replay_app : App
-replay_app = with_rule (new_app (codes "replay")) (flag_rule (codes "held"))
+replay_app = trace_app (codes "replay") (codes "held")
 
 -- the command `race`, with the flag by which it goes over queues
 abbrev pub race_app : App
-race_app = with_rule (new_app (codes "race")) (flag_rule (codes "queues"))
+race_app = trace_app (codes "race") (codes "queues")
 
 -- the command `map`, with the flag by which the heaps are drawn in characters
 abbrev pub map_app : App
-map_app = with_rule (new_app (codes "map")) (flag_rule (codes "text"))
+map_app = trace_app (codes "map") (codes "text")
 
 -- the program with its version and no command yet, of which a command must be named
 abbrev pub bare_app : App
@@ -94,14 +104,46 @@ abbrev pub texts_given : Text → List Text → List Text
 texts_given id words =
     unwrap_or (option_and_then (λ named. all_of id named.1) (subcommand_of tlsf_app words)) []
 
+-- the command that a run of a trace is named by
+abbrev pub command_of : TraceRun → Text
+command_of Replay = codes "replay"
+command_of Held = codes "replay"
+command_of Race = codes "race"
+command_of RaceQueues = codes "race"
+command_of Map = codes "map"
+command_of MapText = codes "map"
+
+-- the words that ask for it, behind the program's name
+abbrev pub words_of : TraceRun → List Text
+words_of Replay = codes "replay" ∷ []
+words_of Held = codes "replay" ∷ codes "--held" ∷ []
+words_of Race = codes "race" ∷ []
+words_of RaceQueues = codes "race" ∷ codes "--queues" ∷ []
+words_of Map = codes "map" ∷ []
+words_of MapText = codes "map" ∷ codes "--text" ∷ []
+
+-- these words in one text
+abbrev pub spelled : TraceRun → Text
+spelled Replay = codes "replay"
+spelled Held = codes "replay --held"
+spelled Race = codes "race"
+spelled RaceQueues = codes "race --queues"
+spelled Map = codes "map"
+spelled MapText = codes "map --text"
+
+-- how a trace is read from this file, as `tlsf: a trace is read from standard input: tlsf replay < first.trace`
+abbrev pub tip_line : TraceRun → Text → Text
+tip_line run file = codes "tlsf: a trace is read from standard input: tlsf " ++ (spelled run ++ (codes " < " ++ (file ++ codes "\n")))
+
+-- a text is that line, about the first of these words
+abbrev pub IsTip : TraceRun → (files : List Text) → Text → Type 0
+IsTip run [] text = ⊥
+IsTip run (file ∷ files) text = text ≡ tip_line run file
+
 -- how a command line names the choice
 abbrev pub name_of : Choice → Text
-name_of Replay = codes "replay"
-name_of Held = codes "replay"
-name_of Race = codes "race"
-name_of RaceQueues = codes "race"
-name_of Map = codes "map"
-name_of MapText = codes "map"
+name_of (Trace run) = command_of run
+name_of (File run tip) = command_of run
 name_of (Classes question) = codes "classes"
 name_of (Size question) = codes "size"
 
@@ -112,16 +154,21 @@ HasFlag name words = (flag_given name words ≢ Some (codes "false")) × (flag_g
 abbrev pub LacksFlag : Text → List Text → Type 0
 LacksFlag name words = flag_given name words ≢ Some (codes "true")
 
--- the question of the choice, where it has one, is that of the texts that the words give, and it is that of the flags that they give
-abbrev pub HasSize : List Text → Choice → Type 0
-HasSize words Replay = LacksFlag (codes "held") words
-HasSize words Held = HasFlag (codes "held") words
-HasSize words Race = LacksFlag (codes "queues") words
-HasSize words RaceQueues = HasFlag (codes "queues") words
-HasSize words Map = LacksFlag (codes "text") words
-HasSize words MapText = HasFlag (codes "text") words
-HasSize words (Classes question) = IsClassQuestion (texts_given (codes "N") words) (texts_given (codes "sli") words) question
-HasSize words (Size question) = IsQuestion (texts_given (codes "B") words) (texts_given (codes "N") words) (texts_given (codes "sli") words) question
+-- the words give the flag by which the run is asked for, or lack that by which another one is
+abbrev pub HasForm : TraceRun → List Text → Type 0
+HasForm Replay = LacksFlag (codes "held")
+HasForm Held = HasFlag (codes "held")
+HasForm Race = LacksFlag (codes "queues")
+HasForm RaceQueues = HasFlag (codes "queues")
+HasForm Map = LacksFlag (codes "text")
+HasForm MapText = HasFlag (codes "text")
+
+-- what the choice holds is of the flags and the texts that the words give: a run is asked for where no file is named, and else its tip is due
+abbrev pub HasParts : List Text → Choice → Type 0
+HasParts words (Trace run) = HasForm run words × (texts_given (codes "FILE") words ≡ [])
+HasParts words (File run tip) = HasForm run words × IsTip run (texts_given (codes "FILE") words) (string_bytes tip)
+HasParts words (Classes question) = IsClassQuestion (texts_given (codes "N") words) (texts_given (codes "sli") words) question
+HasParts words (Size question) = IsQuestion (texts_given (codes "B") words) (texts_given (codes "N") words) (texts_given (codes "sli") words) question
 
 -- the size of the choice, where it has one, has a class, and a table has 1 to 64 kinds
 abbrev pub IsAnswerable : Choice → Type 0
@@ -129,8 +176,19 @@ IsAnswerable (Classes question) = HasClasses question
 IsAnswerable (Size question) = HasTable question
 IsAnswerable choice = ⊤
 
+-- the choice of a run, where these words stand behind its command
+abbrev pub IsRunOn : TraceRun → (files : List Text) → Choice → Type 0
+IsRunOn run files (Trace other) = (other ≡ run) × (files ≡ [])
+IsRunOn run files (File other tip) = (other ≡ run) × IsTip run files (string_bytes tip)
+IsRunOn run files choice = ⊥
+
 -- the words ask for this and nothing else
 pub record Asks (words : List Text) (choice : Choice) : Type 0 where
   pub faultless : faults_of words ≡ []
   pub named : command_in words ≡ Some (name_of choice)
-  pub sized : HasSize words choice
+  pub parts : HasParts words choice
+
+-- a word that begins with no hyphen
+abbrev pub IsPlainWord : Text → Type 0
+IsPlainWord [] = ⊤
+IsPlainWord (code ∷ codes) = code ≢ 45

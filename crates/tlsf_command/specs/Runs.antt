@@ -1,13 +1,13 @@
 -- What a run of the program does.
-use Rattle.std.specs.Prelude.{◌≡◌, ◌⊎◌, ℕ, List, [], ◌∷◌, Option, Result, Ok, Err}
+use Rattle.std.specs.Prelude.{◌≡◌, ◌⊎◌, ◌++◌, ℕ, List, [], ◌∷◌, Option, Result, Ok, Err, string_bytes}
 use Rattle.std.specs.Io.KnownBytes.{Appends, Keeps}
 use Rattle.clap.specs.Words.{IsAmong, Text}
 use Rattle.clap.specs.declared.error.kind.ErrorKind.{ErrorKind}
 use Rattle.clap.specs.declared.error.kind.ErrorKind.TheVariants.{DisplayHelp, DisplayVersion, OutOfMemory}
 use Rattle.tlsf_command.specs.ClassLines.{class_line, no_class_line}
-use Rattle.tlsf_command.specs.CommandLine.{Asks, faults_of}
+use Rattle.tlsf_command.specs.CommandLine.{Asks, faults_of, tip_line}
 use Rattle.tlsf_command.specs.FaultLines.{fault_line, status_of_fault}
-use Rattle.tlsf_command.specs.SizeLines.{size_line, unpaired_line, unreached_line, unreached_table_line, AreReached, IsFirstUnreached, IsGreatest, IsReached}
+use Rattle.tlsf_command.specs.SizeLines.{size_line, unpaired_line, unreached_line, unreached_table_line, AreReached, IsFiner, IsFirstUnreached, IsGreatest, IsReached}
 use Rattle.tlsf_command.specs.SizeQuestions.{blocks_in, blocks_of, bytes_in, bytes_of, IsQuestion, Pair, SizeOption}
 use Rattle.tlsf_command.specs.declared.class_question.ClassQuestion.{ClassQuestion}
 use Rattle.tlsf_command.specs.declared.class_question.ClassQuestion.TheVariants.{Coarse, Fine, NoClass}
@@ -15,7 +15,9 @@ use Rattle.tlsf_command.specs.declared.size_question.SizeQuestion.{SizeQuestion}
 use Rattle.tlsf_command.specs.declared.size_question.SizeQuestion.TheVariants.{Table, FineTable, Unpaired}
 use Rattle.tlsf_laws.specs.declared.kind.Kind.{Kind}
 use Rattle.tlsf_command.specs.declared.command_line.Choice.{Choice}
-use Rattle.tlsf_command.specs.declared.command_line.Choice.TheVariants.{Classes, Held, Map, MapText, Race, RaceQueues, Replay, Size}
+use Rattle.tlsf_command.specs.declared.command_line.Choice.TheVariants.{Trace, File, Classes, Size}
+use Rattle.tlsf_command.specs.declared.trace_run.TraceRun.{TraceRun}
+use Rattle.tlsf_command.specs.declared.trace_run.TraceRun.TheVariants.{Replay, Held, Race, RaceQueues, Map, MapText}
 use Rattle.tlsf_held.specs.Measures.{Measures}
 use Rattle.tlsf_picture.specs.Drawn.{Draws, DrawsText}
 use Rattle.tlsf_lines.specs.Prefixes.{AppendsFront}
@@ -50,29 +52,19 @@ pub record RunsTrace (Puts : Outputs) (status : ℕ) (old new : Streams) : Type 
   pub status_is : status ≡ status_of answer
   pub reported : Reports answer old.errors new.errors
 
--- the run is a replay
-abbrev pub RunsReplay : ℕ → Streams → Streams → Type 0
-RunsReplay = RunsTrace Replays
+-- what a run may put out: what a replay does, or what its workers asked of their heaps; what a race does, each phase in threads, over lanes or over
+-- queues; or the heaps that the trace leaves, as an SVG file or in the characters of a terminal
+abbrev pub puts_of : TraceRun → Outputs
+puts_of Replay = Replays
+puts_of Held = Measures
+puts_of Race = Races
+puts_of RaceQueues = RacesQueues
+puts_of Map = Draws
+puts_of MapText = DrawsText
 
--- the run is a replay that puts out what the workers ask of their heaps
-abbrev pub RunsHeld : ℕ → Streams → Streams → Type 0
-RunsHeld = RunsTrace Measures
-
--- the run is a race, each phase in threads
-abbrev pub RunsRace : ℕ → Streams → Streams → Type 0
-RunsRace = RunsTrace Races
-
--- or over queues
-abbrev pub RunsRaceQueues : ℕ → Streams → Streams → Type 0
-RunsRaceQueues = RunsTrace RacesQueues
-
--- the run draws the heaps that the trace leaves, as an SVG file
-abbrev pub RunsMap : ℕ → Streams → Streams → Type 0
-RunsMap = RunsTrace Draws
-
--- or in the characters of a terminal
-abbrev pub RunsMapText : ℕ → Streams → Streams → Type 0
-RunsMapText = RunsTrace DrawsText
+-- the trace is run in this way
+abbrev pub RunsAs : TraceRun → ℕ → Streams → Streams → Type 0
+RunsAs run = RunsTrace (puts_of run)
 
 -- memory ran out before anything was read or written
 pub record LacksMemory (status : ℕ) (old new : Streams) : Type 0 where
@@ -81,6 +73,13 @@ pub record LacksMemory (status : ℕ) (old new : Streams) : Type 0 where
   pub written : new.written ≡ old.written
   pub reported : AppendsFront old.errors new.errors (fault_line no_memory_fault)
 
+-- the words were refused by this line: nothing was read or written
+pub record Refuses (line : List ℕ) (status : ℕ) (old new : Streams) : Type 0 where
+  pub left : new.left ≡ old.left
+  pub written : new.written ≡ old.written
+  pub status_is : status ≡ 2
+  pub reported : AppendsFront old.errors new.errors line
+
 -- the line on a size of n words was written, or a prefix of it, where a write failed and was reported; nothing was read
 pub record ShowsClasses (sli n status : ℕ) (old new : Streams) : Type 0 where
   pub left : new.left ≡ old.left
@@ -88,18 +87,11 @@ pub record ShowsClasses (sli n status : ℕ) (old new : Streams) : Type 0 where
   pub ended : ((status ≡ 0) × Appends old.written new.written (class_line sli n) × (new.errors ≡ old.errors))
       ⊎ ((status ≡ 1) × AppendsFront old.errors new.errors (fault_line write_fault))
 
--- a size that no class of its level has was refused: nothing was read or written
-pub record ShowsNoClass (status : ℕ) (old new : Streams) : Type 0 where
-  pub left : new.left ≡ old.left
-  pub written : new.written ≡ old.written
-  pub status_is : status ≡ 2
-  pub reported : AppendsFront old.errors new.errors no_class_line
-
 -- the question about the classes of a size was answered
 abbrev pub AnswersClasses : ClassQuestion → ℕ → Streams → Streams → Type 0
 AnswersClasses (Coarse n) = ShowsClasses 4 n
 AnswersClasses (Fine n) = ShowsClasses 5 n
-AnswersClasses NoClass = ShowsNoClass
+AnswersClasses NoClass = Refuses no_class_line
 
 -- the line on the kinds of a table was written, or a prefix of it, where a write failed and was reported
 pub record ShowsWords (sli : ℕ) (kinds : List Kind) (status : ℕ) (old new : Streams) : Type 0 where
@@ -109,13 +101,14 @@ pub record ShowsWords (sli : ℕ) (kinds : List Kind) (status : ℕ) (old new : 
       ⊎ ((status ≡ 1) × AppendsFront old.errors new.errors (fault_line write_fault))
 
 -- the line that says how far a region does reach was reported: of one kind, the most blocks and the most bytes; of several, how
--- many of the table a region has room for, and the next one
+-- many of the table a region has room for, and the next one; and the hint at level 5 exactly where a region of it has the words
 abbrev pub ReportsUnreached : ℕ → List Kind → Option (List ℕ) → Option (List ℕ) → Type 0
 ReportsUnreached sli (kind ∷ []) old new = (blocks : ℕ) × IsGreatest (λ most. IsReached sli most kind.len) blocks
     × ((bytes : ℕ) × IsGreatest (λ len. IsReached sli kind.most len) bytes
-    × AppendsFront old new (unreached_line kind.most kind.len blocks bytes))
-ReportsUnreached sli kinds old new =
-    (n : ℕ) × (next : Kind) × IsFirstUnreached sli kinds n next × AppendsFront old new (unreached_table_line n next)
+    × ((finer : Option ℕ) × IsFiner (kind ∷ []) finer
+    × AppendsFront old new (unreached_line kind.most kind.len blocks bytes finer)))
+ReportsUnreached sli kinds old new = (n : ℕ) × (next : Kind) × (finer : Option ℕ) × IsFirstUnreached sli kinds n next × IsFiner kinds finer
+    × AppendsFront old new (unreached_table_line n next finer)
 
 -- no region reaches so far: nothing was written, and the status is 2
 pub record ShowsUnreached (sli : ℕ) (kinds : List Kind) (status : ℕ) (old new : Streams) : Type 0 where
@@ -129,18 +122,11 @@ pub record ShowsKinds (sli : ℕ) (kinds : List Kind) (status : ℕ) (old new : 
   pub left : new.left ≡ old.left
   pub shown : ShowsWords sli kinds status old new ⊎ ShowsUnreached sli kinds status old new
 
--- options that are no pairs were refused: nothing was read or written
-pub record ShowsUnpaired (blocks bytes status : ℕ) (old new : Streams) : Type 0 where
-  pub left : new.left ≡ old.left
-  pub written : new.written ≡ old.written
-  pub status_is : status ≡ 2
-  pub reported : AppendsFront old.errors new.errors (unpaired_line blocks bytes)
-
 -- the question was answered
 abbrev pub ShowsSize : SizeQuestion → ℕ → Streams → Streams → Type 0
 ShowsSize (Table kinds) = ShowsKinds 4 kinds.items
 ShowsSize (FineTable kinds) = ShowsKinds 5 kinds.items
-ShowsSize (Unpaired blocks bytes) = ShowsUnpaired blocks bytes
+ShowsSize (Unpaired blocks bytes) = Refuses (unpaired_line blocks bytes)
 
 -- a text was shown, or a write failed and was reported
 pub record ShowsText (status : ℕ) (old new : Streams) : Type 0 where
@@ -161,15 +147,10 @@ ShowsAnswer DisplayVersion status old new = ShowsText status old new
 ShowsAnswer OutOfMemory status old new = LacksMemory status old new
 ShowsAnswer _ status old new = ShowsUsage status old new
 
--- the run does what was chosen: it replays, or measures a replay; it races, over lanes or over queues; it draws the heaps of a trace as an SVG file or in
--- characters; it shows the classes of a size, or the words of a region
+-- what was chosen is done: a run of a trace, or its tip where a file is named, the classes of a size, or the words of a region
 abbrev pub Does : Choice → ℕ → Streams → Streams → Type 0
-Does Replay = RunsReplay
-Does Held = RunsHeld
-Does Race = RunsRace
-Does RaceQueues = RunsRaceQueues
-Does Map = RunsMap
-Does MapText = RunsMapText
+Does (Trace run) = RunsAs run
+Does (File run tip) = Refuses (string_bytes tip)
 Does (Classes question) = AnswersClasses question
 Does (Size question) = ShowsSize question
 
@@ -179,17 +160,13 @@ Ends words status old new = LacksMemory status old new
     ⊎ (((choice : Choice) × Asks words choice × Does choice status old new)
     ⊎ ((kind : ErrorKind) × IsAmong kind (faults_of words) × ShowsAnswer kind status old new))
 
--- the run is a replay, unless memory ran out before
-abbrev pub ReplaysOrLacksMemory : ℕ → Streams → Streams → Type 0
-ReplaysOrLacksMemory status old new = RunsReplay status old new ⊎ LacksMemory status old new
+-- the trace is run in this way, unless memory ran out before
+abbrev pub RunsOrLacksMemory : TraceRun → ℕ → Streams → Streams → Type 0
+RunsOrLacksMemory run status old new = RunsAs run status old new ⊎ LacksMemory status old new
 
--- the run is a race, unless memory ran out before
-abbrev pub RacesOrLacksMemory : ℕ → Streams → Streams → Type 0
-RacesOrLacksMemory status old new = RunsRace status old new ⊎ LacksMemory status old new
-
--- what was chosen is done, unless memory ran out before
-abbrev pub DoesOrLacksMemory : Choice → ℕ → Streams → Streams → Type 0
-DoesOrLacksMemory choice status old new = Does choice status old new ⊎ LacksMemory status old new
+-- the tip about this file was reported, unless memory ran out before
+abbrev pub TipsOrLacksMemory : TraceRun → Text → ℕ → Streams → Streams → Type 0
+TipsOrLacksMemory run file status old new = Refuses (tip_line run file) status old new ⊎ LacksMemory status old new
 
 -- the question that the pairs make was answered, unless memory ran out before
 abbrev pub ShowsPairsOrLacksMemory : List Pair → ℕ → Streams → Streams → Type 0

@@ -1,5 +1,5 @@
 -- The lines that `tlsf size` writes and reports.
-use Rattle.std.specs.Prelude.{◌≡◌, ◌⊎◌, ◌≤◌, ◌+◌, ◌*◌, ◌/◌, ◌%◌, ℕ, List, [], ◌∷◌, ◌++◌, Some, codes, slice_get, take}
+use Rattle.std.specs.Prelude.{◌≡◌, ◌⊎◌, ◌≤◌, ◌+◌, ◌*◌, ◌/◌, ◌%◌, ◌==◌, ℕ, List, [], ◌∷◌, ◌++◌, Option, Some, None, codes, slice_get, take, if◌then◌else◌}
 use Rattle.std.specs.List.{AllByRecursion}
 use Rattle.std.specs.Fmt.{decimal}
 use Rattle.tlsf_class.specs.Classes.{most_words}
@@ -50,23 +50,37 @@ size_line sli kinds =
     ++ (codes " bytes " ++ (decimal (8 * kinds_words sli kinds)
     ++ (codes " ratio " ++ ratio_end (hundredths (8 * kinds_words sli kinds) (asked_bytes kinds))))))
 
--- the refusal, with the most blocks of this length and the most bytes for this many blocks
-abbrev pub unreached_line : (most len blocks bytes : ℕ) → List ℕ
-unreached_line most len blocks bytes =
-    codes "tlsf: no region has so many words: at most " ++ (decimal blocks
-    ++ (codes " blocks of " ++ (decimal len
-    ++ (codes " bytes, or " ++ (decimal most
-    ++ (codes " blocks of at most " ++ (decimal bytes ++ codes " bytes\n")))))))
+-- so many of them, as `1 block` and `2 blocks`
+abbrev pub counted : ℕ → List ℕ → List ℕ
+counted n name = decimal n ++ (codes " " ++ (name ++ (if n == 1 then [] else codes "s")))
 
--- the refusal of a table, with the number of pairs for which a region has room, and the kind of the next one
-abbrev pub unreached_table_line : ℕ → Kind → List ℕ
-unreached_table_line n kind =
-    codes "tlsf: no region has so many words: one has room for the first " ++ (decimal n
-    ++ (codes " pairs, but not for " ++ (decimal kind.most
-    ++ (codes " blocks of " ++ (decimal kind.len ++ codes " bytes beside them\n")))))
+-- the words of the least region of level 5 for such a table, if one has so many
+abbrev pub IsFiner : List Kind → Option ℕ → Type 0
+IsFiner kinds None = ¬ (AreReached 5 kinds)
+IsFiner kinds (Some words) = AreReached 5 kinds × (words ≡ kinds_words 5 kinds)
+
+-- the hint at that level, where it helps
+abbrev pub hint_text : Option ℕ → List ℕ
+hint_text None = []
+hint_text (Some words) = codes "; with --sli 5 a region of " ++ (decimal words ++ codes " words is enough")
+
+-- the refusal, with the most blocks of this length, the most bytes for this many blocks, and that hint
+abbrev pub unreached_line : (most len blocks bytes : ℕ) → (finer : Option ℕ) → List ℕ
+unreached_line most len blocks bytes finer =
+    codes "tlsf: no region has so many words: at most " ++ (counted blocks (codes "block")
+    ++ (codes " of " ++ (counted len (codes "byte")
+    ++ (codes ", or " ++ (counted most (codes "block")
+    ++ (codes " of at most " ++ (counted bytes (codes "byte") ++ (hint_text finer ++ codes "\n"))))))))
+
+-- the refusal of a table, with the number of pairs for which a region has room, the kind of the next one, and that hint
+abbrev pub unreached_table_line : ℕ → Kind → (finer : Option ℕ) → List ℕ
+unreached_table_line n kind finer =
+    codes "tlsf: no region has so many words: one has room for " ++ (counted n (codes "leading pair")
+    ++ (codes ", but not for " ++ (counted kind.most (codes "block")
+    ++ (codes " of " ++ (counted kind.len (codes "byte") ++ (codes " besides" ++ (hint_text finer ++ codes "\n")))))))
 
 -- the refusal of options that are no pairs
 abbrev pub unpaired_line : (blocks bytes : ℕ) → List ℕ
 unpaired_line blocks bytes =
-    codes "tlsf: --blocks is given " ++ (decimal blocks
-    ++ (codes " times and --bytes " ++ (decimal bytes ++ codes " times: give 1 to 64 pairs of both\n")))
+    codes "tlsf: --blocks is given " ++ (counted blocks (codes "time")
+    ++ (codes " and --bytes " ++ (counted bytes (codes "time") ++ codes ": give 1 to 64 pairs of both\n")))

@@ -1,15 +1,18 @@
-ghost use Rattle.std.specs.Prelude.{◌≡◌, ℕ, List, [], ◌∷◌, Option, codes, map};
+ghost use Rattle.std.specs.Prelude.{◌≡◌, ◌++◌, ℕ, List, [], ◌∷◌, Option, codes, map};
 ghost use Rattle.clap.specs.Words.{kind_of};
 ghost use Rattle.tlsf_command.specs.FaultLines.{fault_line, status_of_fault};
-ghost use Rattle.tlsf_command.specs.CommandLine.{IsAnswerable};
-ghost use Rattle.tlsf_command.specs.Runs.{streams, status_of, Does, DoesOrLacksMemory, Ends, RacesOrLacksMemory, ReplaysOrLacksMemory, Reports, RunsHeld, RunsMap, RunsMapText, RunsRace, RunsRaceQueues, RunsReplay, ShowsAnswer, ShowsOptionsOrLacksMemory, ShowsPairsOrLacksMemory};
+ghost use Rattle.tlsf_command.specs.CommandLine.{words_of, IsAnswerable, IsPlainWord};
+ghost use Rattle.tlsf_command.specs.Runs.{puts_of, streams, status_of, Does, Ends, Reports, RunsAs, RunsOrLacksMemory, ShowsAnswer, ShowsOptionsOrLacksMemory, ShowsPairsOrLacksMemory, TipsOrLacksMemory};
 ghost use Rattle.tlsf_command.specs.SizeQuestions.{option_words, pair_words, AreOptions, ArePairs, Pair, SizeOption};
+ghost use Rattle.tlsf_command.specs.declared.trace_run.TraceRun.{TraceRun};
 ghost use Rattle.tlsf_lines.specs.Prefixes.{AppendsFront};
+ghost use Rattle.tlsf_trace.specs.Replay.{IsRun};
 
 use crate::class_run::run_classes;
 use crate::command_line::{Choice, choose};
 use crate::fault_report::FaultReport;
 use crate::size_run::run_size;
+use crate::trace_run::TraceRun;
 use clap::error::ErrorKind;
 use std::alloc::Global;
 use std::convert::AsStr;
@@ -20,7 +23,9 @@ use std::thread::Threads;
 use tlsf_crew::Gate;
 use tlsf_held::measure_trace;
 use tlsf_picture::{draw_trace, draw_trace_as_text};
-use tlsf_trace::{Summary, TraceFault, WriteError, race_trace, race_trace_over_queues, replay};
+use tlsf_trace::{
+    Summary, TraceFault, WriteError, race_trace, race_trace_over_queues, replay, write_out,
+};
 
 // Reports the fault, and gives its exit status, which a fault in writing does not change.
 pub(crate) fn report<E: Write>(fault: TraceFault, errors: &mut E) -> u8
@@ -43,95 +48,52 @@ fn ended<E: Write>(answer: Result<Summary, TraceFault>, errors: &mut E) -> u8
     }
 }
 
-// Replays, and reports the fault that ended it.
-fn run_replay<R: Read, W: Write, E: Write>(
-    alloc: Global,
-    reader: &mut R,
-    writer: &mut W,
-    errors: &mut E,
-) -> u8
-    ensures { RunsReplay result
-        (streams (R.remaining reader.old) (W.contents writer.old) (E.contents errors.old))
-        (streams (R.remaining reader.new) (W.contents writer.new) (E.contents errors.new)) }
-{
-    ended(replay(alloc, reader, writer), errors)
-}
-
-// Measures a replay, and reports the fault that ended it.
-fn run_held<R: Read, W: Write, E: Write>(
-    alloc: Global,
-    reader: &mut R,
-    writer: &mut W,
-    errors: &mut E,
-) -> u8
-    ensures { RunsHeld result
-        (streams (R.remaining reader.old) (W.contents writer.old) (E.contents errors.old))
-        (streams (R.remaining reader.new) (W.contents writer.new) (E.contents errors.new)) }
-{
-    ended(measure_trace(alloc, reader, writer), errors)
-}
-
-// Runs each phase in threads, and reports the fault that ended it.
-fn run_race<T: Threads + Wait + Sync, R: Read, W: Write, E: Write, G: Gate>(
+// Runs the trace that the reader gives.
+fn traced<T: Threads + Wait + Sync, R: Read, W: Write, G: Gate>(
     rt: &T,
     alloc: Global,
+    run: TraceRun,
+    reader: &mut R,
+    writer: &mut W,
+    gate: &G,
+) -> Result<Summary, TraceFault>
+    ensures { IsRun (puts_of run) result (R.remaining reader.old) (R.remaining reader.new)
+        (W.contents writer.old) (W.contents writer.new) }
+{
+    match run {
+        TraceRun::Replay => replay(alloc, reader, writer),
+        TraceRun::Held => measure_trace(alloc, reader, writer),
+        TraceRun::Race => race_trace(rt, alloc, reader, writer, gate),
+        TraceRun::RaceQueues => race_trace_over_queues(rt, alloc, reader, writer, gate),
+        TraceRun::Map => draw_trace(alloc, reader, writer),
+        TraceRun::MapText => draw_trace_as_text(alloc, reader, writer),
+    }
+}
+
+// Runs it, and reports the fault that ended it.
+fn run_trace<T: Threads + Wait + Sync, R: Read, W: Write, E: Write, G: Gate>(
+    rt: &T,
+    alloc: Global,
+    run: TraceRun,
     reader: &mut R,
     writer: &mut W,
     errors: &mut E,
     gate: &G,
 ) -> u8
-    ensures { RunsRace result
+    ensures { RunsAs run result
         (streams (R.remaining reader.old) (W.contents writer.old) (E.contents errors.old))
         (streams (R.remaining reader.new) (W.contents writer.new) (E.contents errors.new)) }
 {
-    ended(race_trace(rt, alloc, reader, writer, gate), errors)
+    ended(traced(rt, alloc, run, reader, writer, gate), errors)
 }
 
-// Does so over queues, and reports the fault that ended it.
-fn run_race_queues<T: Threads + Wait + Sync, R: Read, W: Write, E: Write, G: Gate>(
-    rt: &T,
-    alloc: Global,
-    reader: &mut R,
-    writer: &mut W,
-    errors: &mut E,
-    gate: &G,
-) -> u8
-    ensures { RunsRaceQueues result
-        (streams (R.remaining reader.old) (W.contents writer.old) (E.contents errors.old))
-        (streams (R.remaining reader.new) (W.contents writer.new) (E.contents errors.new)) }
+// Says how a trace is read from a file that was named. A write that fails changes nothing.
+fn tell<E: Write>(tip: &str, errors: &mut E) -> u8
+    ensures status { result ≡ 2 }
+    ensures line { AppendsFront (E.contents errors.old) (E.contents errors.new) tip.now }
 {
-    ended(
-        race_trace_over_queues(rt, alloc, reader, writer, gate),
-        errors,
-    )
-}
-
-// Draws the heaps that a trace leaves, and reports the fault that ended it.
-fn run_map<R: Read, W: Write, E: Write>(
-    alloc: Global,
-    reader: &mut R,
-    writer: &mut W,
-    errors: &mut E,
-) -> u8
-    ensures { RunsMap result
-        (streams (R.remaining reader.old) (W.contents writer.old) (E.contents errors.old))
-        (streams (R.remaining reader.new) (W.contents writer.new) (E.contents errors.new)) }
-{
-    ended(draw_trace(alloc, reader, writer), errors)
-}
-
-// Draws them in characters.
-fn run_map_text<R: Read, W: Write, E: Write>(
-    alloc: Global,
-    reader: &mut R,
-    writer: &mut W,
-    errors: &mut E,
-) -> u8
-    ensures { RunsMapText result
-        (streams (R.remaining reader.old) (W.contents writer.old) (E.contents errors.old))
-        (streams (R.remaining reader.new) (W.contents writer.new) (E.contents errors.new)) }
-{
-    ended(draw_trace_as_text(alloc, reader, writer), errors)
+    let _ = write_out(errors, tip.as_bytes());
+    2
 }
 
 // Writes the text of `clap`, and flushes.
@@ -175,12 +137,8 @@ fn act<T: Threads + Wait + Sync, R: Read, W: Write, E: Write, G: Gate>(
         (streams (R.remaining reader.new) (W.contents writer.new) (E.contents errors.new)) }
 {
     match choice {
-        Choice::Replay => run_replay(alloc, reader, writer, errors),
-        Choice::Held => run_held(alloc, reader, writer, errors),
-        Choice::Race => run_race(rt, alloc, reader, writer, errors, gate),
-        Choice::RaceQueues => run_race_queues(rt, alloc, reader, writer, errors, gate),
-        Choice::Map => run_map(alloc, reader, writer, errors),
-        Choice::MapText => run_map_text(alloc, reader, writer, errors),
+        Choice::Trace(run) => run_trace(rt, alloc, run, reader, writer, errors, gate),
+        Choice::File(_, tip) => tell(&tip, errors),
         Choice::Classes(question) => run_classes(question, writer, errors),
         Choice::Size(question) => run_size(question, writer, errors),
     }
@@ -212,21 +170,16 @@ pub fn run<T: Threads + Wait + Sync, S: AsStr, R: Read, W: Write, E: Write, G: G
         (streams (R.remaining reader.old) (W.contents writer.old) (E.contents errors.old))
         (streams (R.remaining reader.new) (W.contents writer.new) (E.contents errors.new)) }
 
-    // Where the words are the program's name, whatever that is, and `replay`.
-    ensures replay { (program : List ℕ) → map S.text words.now ≡ program ∷ codes "replay" ∷ []
-        → ReplaysOrLacksMemory result
+    // Where the words are the program's name, whatever that is, and those that ask for a run of a trace.
+    ensures trace { (program : List ℕ) (run : TraceRun) → map S.text words.now ≡ program ∷ words_of run
+        → RunsOrLacksMemory run result
         (streams (R.remaining reader.old) (W.contents writer.old) (E.contents errors.old))
         (streams (R.remaining reader.new) (W.contents writer.new) (E.contents errors.new)) }
 
-    // Where they are the program's name and `race`.
-    ensures race { (program : List ℕ) → map S.text words.now ≡ program ∷ codes "race" ∷ []
-        → RacesOrLacksMemory result
-        (streams (R.remaining reader.old) (W.contents writer.old) (E.contents errors.old))
-        (streams (R.remaining reader.new) (W.contents writer.new) (E.contents errors.new)) }
-
-    // Where they are the program's name and `race --queues`.
-    ensures race_queues { (program : List ℕ) → map S.text words.now ≡ program ∷ codes "race" ∷ codes "--queues" ∷ []
-        → DoesOrLacksMemory Choice.RaceQueues result
+    // Where a word behind these names a file, and begins with no hyphen: nothing is read or written, and the tip is reported.
+    ensures file { (program file : List ℕ) (run : TraceRun) → IsPlainWord file
+        → map S.text words.now ≡ program ∷ (words_of run ++ file ∷ [])
+        → TipsOrLacksMemory run file result
         (streams (R.remaining reader.old) (W.contents writer.old) (E.contents errors.old))
         (streams (R.remaining reader.new) (W.contents writer.new) (E.contents errors.new)) }
 
@@ -241,22 +194,6 @@ pub fn run<T: Threads + Wait + Sync, S: AsStr, R: Read, W: Write, E: Write, G: G
     ensures options { (program : List ℕ) (options : List SizeOption) → AreOptions options
         → map S.text words.now ≡ program ∷ codes "size" ∷ option_words options
         → ShowsOptionsOrLacksMemory options result
-        (streams (R.remaining reader.old) (W.contents writer.old) (E.contents errors.old))
-        (streams (R.remaining reader.new) (W.contents writer.new) (E.contents errors.new)) }
-
-    // Where they are the program's name and `replay --held`.
-    ensures held { (program : List ℕ) → map S.text words.now ≡ program ∷ codes "replay" ∷ codes "--held" ∷ []
-        → DoesOrLacksMemory Choice.Held result
-        (streams (R.remaining reader.old) (W.contents writer.old) (E.contents errors.old))
-        (streams (R.remaining reader.new) (W.contents writer.new) (E.contents errors.new)) }
-
-    // Where they are the program's name and `map`, and where `--text` stands behind it.
-    ensures map_svg { (program : List ℕ) → map S.text words.now ≡ program ∷ codes "map" ∷ []
-        → DoesOrLacksMemory Choice.Map result
-        (streams (R.remaining reader.old) (W.contents writer.old) (E.contents errors.old))
-        (streams (R.remaining reader.new) (W.contents writer.new) (E.contents errors.new)) }
-    ensures map_text { (program : List ℕ) → map S.text words.now ≡ program ∷ codes "map" ∷ codes "--text" ∷ []
-        → DoesOrLacksMemory Choice.MapText result
         (streams (R.remaining reader.old) (W.contents writer.old) (E.contents errors.old))
         (streams (R.remaining reader.new) (W.contents writer.new) (E.contents errors.new)) }
 {

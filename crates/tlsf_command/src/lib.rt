@@ -3,8 +3,8 @@
 //!
 //! [`run`] does what the words ask for. `replay` reads a trace, runs it, and writes the reply lines and a report on each
 //! heap; `replay --held` writes what each worker asks of its heap, and how large that must be for it. `race` replays with each
-//! phase run in threads, one for each worker. `map` writes a picture of the heaps that a trace leaves. `classes N` writes the size
-//! class and the search class of N words, and `size --blocks B --bytes N ..` the words of a region that never refuses B blocks of N
+//! phase run in threads, one for each worker. `map` writes a picture of the heaps that a trace leaves. A file that is named behind one
+//! of these isn't read: a line tells how it is given as standard input. `classes N` writes the size class and the search class of N words, and `size --blocks B --bytes N ..` the words of a region that never refuses B blocks of N
 //! bytes, for each pair; both at level 4 or, with `--sli 5`, at level 5. Help and version texts are written, and words that are refused are answered on the error stream. A
 //! [`RaceNotice`] shows that a long race is alive.
 //!
@@ -12,7 +12,7 @@
 //! |---|---|
 //! | 0 | the run is done, or the class line, the size line, the picture, the help or the version text is written |
 //! | 1 | a fault of the trace, a read or a write ended the run; its line is on the error stream |
-//! | 2 | the words of the command line are refused, and the usage is on the error stream; or a size has no class of its level, no region is large enough or the options are no pairs, and that line is there |
+//! | 2 | the words of the command line are refused, and the usage is on the error stream; or a file is named, a size has no class of its level, no region is large enough or the options are no pairs, and that line is there |
 //! | 3 | memory ran out; the line `tlsf: out of memory (6)` is on the error stream |
 //!
 //! A write to the error stream that fails changes nothing. [`FaultReport`] is the line of a fault, and its status.
@@ -23,13 +23,20 @@ mod class_question;
 mod class_run;
 mod command_line;
 mod commands;
+mod counted;
 mod fault_report;
+mod finer_hint;
+mod help;
 mod race_notice;
 mod size_line;
 mod size_question;
 mod size_run;
+mod trace_run;
 mod unreached_table;
 
 pub use commands::run;
 pub use fault_report::FaultReport;
 pub use race_notice::RaceNotice;
+
+/// The version of the program, which `tlsf --version` writes.
+pub const VERSION: &str = "0.1.0";

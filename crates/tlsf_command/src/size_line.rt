@@ -1,13 +1,15 @@
-ghost use Rattle.std.specs.Prelude.{◌≡◌, ◌≤◌, ◌<◌, ◌*◌, ◌^◌, ◌↔◌, ℕ, length, IfOk, IfSome, IsTrue, None, OnOk};
+ghost use Rattle.std.specs.Prelude.{◌≡◌, ◌≤◌, ◌<◌, ◌*◌, ◌^◌, ◌↔◌, ℕ, [], ◌∷◌, length, IfOk, IfSome, IsTrue, Option, None, OnOk};
 ghost use Rattle.std.specs.List.{AllByRecursion};
 ghost use Rattle.std.specs.Io.KnownBytes.{Appends};
 ghost use Rattle.tlsf_class.specs.Classes.{IsLevel, most_words};
-ghost use Rattle.tlsf_command.specs.SizeLines.{hundredths, size_line, unreached_line, AreReached, IsGreatest, IsReached, IsServable};
+ghost use Rattle.tlsf_command.specs.SizeLines.{hundredths, size_line, unreached_line, AreReached, IsFiner, IsGreatest, IsReached, IsServable};
 ghost use Rattle.tlsf_command.specs.SizeLines as spelled;
 ghost use Rattle.tlsf_laws.specs.Kinds as table;
 ghost use Rattle.tlsf_pool.specs.Pools.{most_kinds};
 ghost use Rattle.tlsf_lines.specs.Prefixes.{AppendsFront};
 
+use crate::counted::Counted;
+use crate::finer_hint::FinerHint;
 use arrayvec::ArrayString;
 use std::fmt;
 use std::fmt::Write as _;
@@ -154,21 +156,30 @@ fn bytes_for<const SLI: u32>(most: u32) -> u32
 }
 
 // The line that says how far the greatest region goes.
-fn unreached_line_of(kind: Kind, blocks: u32, bytes: u32) -> Result<ArrayString<160>, fmt::Error>
-    ensures { IfOk result (λ line. line.bytes ≡ unreached_line kind.most kind.len blocks bytes) }
+fn unreached_line_of(
+    kind: Kind,
+    blocks: u32,
+    bytes: u32,
+    finer: Option<u32>,
+) -> Result<ArrayString<256>, fmt::Error>
+    ensures { IfOk result (λ line. line.bytes ≡ unreached_line kind.most kind.len blocks bytes finer) }
 {
-    let most = kind.most;
-    let len = kind.len;
+    let blocks_reached = Counted::new(blocks as usize, "block");
+    let len = Counted::new(kind.len as usize, "byte");
+    let most = Counted::new(kind.most as usize, "block");
+    let bytes_reached = Counted::new(bytes as usize, "byte");
+    let hint = FinerHint { words: finer };
     let mut line = ArrayString::new();
     writeln!(
         line,
-        "tlsf: no region has so many words: at most {blocks} blocks of {len} bytes, or {most} blocks of at most {bytes} bytes"
+        "tlsf: no region has so many words: at most {blocks_reached} of {len}, or {most} of at most {bytes_reached}{hint}"
     )?;
     Ok(line)
 }
 
 /// Writes the line that refuses blocks of this kind, and flushes: the most blocks of this length, and the most bytes for
-/// so many blocks, each 0 where there is none. After an `Err` a prefix of the line was written.
+/// so many blocks, each 0 where there is none; and the words of a region of level 5 that is large enough, where there is one.
+/// After an `Err` a prefix of the line was written.
 ///
 /// ```
 /// let _ = write_unreached_line::<4, _>(Kind { most: 7655, len: 512 }, &mut errors);
@@ -180,14 +191,16 @@ pub fn write_unreached_line<const SLI: u32, E: Write>(
     requires { IsLevel SLI }
     ensures { (blocks : ℕ) × IsGreatest (λ most. IsReached SLI most kind.len) blocks
         × ((bytes : ℕ) × IsGreatest (λ len. IsReached SLI kind.most len) bytes
+        × ((finer : Option ℕ) × IsFiner (kind ∷ []) finer
         × AppendsFront (E.contents errors.old) (E.contents errors.new)
-        (unreached_line kind.most kind.len blocks bytes)) }
+        (unreached_line kind.most kind.len blocks bytes finer))) }
 {
     let blocks = blocks_of::<SLI>(kind.len);
     let bytes = bytes_for::<SLI>(kind.most);
-    match unreached_line_of(kind, blocks, bytes) {
+    let finer = words_for::<5>(&[kind]);
+    match unreached_line_of(kind, blocks, bytes, finer) {
         Ok(line) => write_out(errors, line.as_bytes()),
-        // The line has at most 130 bytes and 160 have room, but no clause of the line says so.
+        // The line has at most 170 bytes and 256 have room, but no clause of the line says so.
         Err(_) => Err(WriteError),
     }
 }

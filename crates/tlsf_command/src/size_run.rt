@@ -17,6 +17,7 @@ use tlsf_trace::TraceFault;
 fn report_unreached<const SLI: u32, E: Write>(kinds: &[Kind], errors: &mut E)
     requires level { IsLevel SLI }
     requires few { length kinds.now ≤ most_kinds SLI }
+    requires pairs { length kinds.now ≤ most_kinds 5 }
     requires unreached { ¬ (AreReached SLI kinds.now) }
     ensures { ReportsUnreached SLI kinds.now (E.contents errors.old) (E.contents errors.new) }
 {
@@ -36,6 +37,7 @@ fn show_kinds<const SLI: u32, W: Write, E: Write>(
     requires level { IsLevel SLI }
     requires some { 0 < length kinds.now }
     requires few { length kinds.now ≤ most_kinds SLI }
+    requires pairs { length kinds.now ≤ most_kinds 5 }
     ensures { (left : Option (List ℕ)) → ShowsKinds SLI kinds.now result
         (streams left (W.contents writer.old) (E.contents errors.old))
         (streams left (W.contents writer.new) (E.contents errors.new)) }

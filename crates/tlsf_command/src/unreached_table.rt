@@ -1,10 +1,12 @@
-ghost use Rattle.std.specs.Prelude.{◌≡◌, ◌≤◌, ◌<◌, ℕ, Some, length, slice_get, IfOk};
+ghost use Rattle.std.specs.Prelude.{◌≡◌, ◌≤◌, ◌<◌, ℕ, Option, Some, length, slice_get, IfOk};
 ghost use Rattle.tlsf_class.specs.Classes.{IsLevel};
-ghost use Rattle.tlsf_command.specs.SizeLines.{unpaired_line, unreached_table_line, AreReached, IsFirstUnreached};
+ghost use Rattle.tlsf_command.specs.SizeLines.{unpaired_line, unreached_table_line, AreReached, IsFiner, IsFirstUnreached};
 ghost use Rattle.tlsf_laws.specs.declared.kind.Kind.{Kind};
 ghost use Rattle.tlsf_pool.specs.Pools.{most_kinds};
 ghost use Rattle.tlsf_lines.specs.Prefixes.{AppendsFront};
 
+use crate::counted::Counted;
+use crate::finer_hint::FinerHint;
 use crate::size_line::words_for;
 use arrayvec::ArrayString;
 use std::fmt;
@@ -28,22 +30,37 @@ fn reached_kinds<const SLI: u32>(kinds: &[Kind]) -> usize
     reached
 }
 
-// The line that says for how many pairs a region has room, and for which one no more.
-fn table_line_of(pairs: usize, next: Kind) -> Result<ArrayString<160>, fmt::Error>
-    ensures { IfOk result (λ line. line.bytes ≡ unreached_table_line pairs next) }
+// The kind at a place within the table.
+fn kind_at(kinds: &[Kind], place: usize) -> Kind
+    requires { place < length kinds.now }
+    ensures { slice_get kinds.now place ≡ Some result }
 {
-    let most = next.most;
-    let len = next.len;
+    kinds[place]
+}
+
+// The line that says for how many pairs a region has room, and for which one no more.
+fn table_line_of(
+    pairs: usize,
+    next: Kind,
+    finer: Option<u32>,
+) -> Result<ArrayString<256>, fmt::Error>
+    ensures { IfOk result (λ line. line.bytes ≡ unreached_table_line pairs next finer) }
+{
+    let reached = Counted::new(pairs, "leading pair");
+    let most = Counted::new(next.most as usize, "block");
+    let len = Counted::new(next.len as usize, "byte");
+    let hint = FinerHint { words: finer };
     let mut line = ArrayString::new();
     writeln!(
         line,
-        "tlsf: no region has so many words: one has room for the first {pairs} pairs, but not for {most} blocks of {len} bytes beside them"
+        "tlsf: no region has so many words: one has room for {reached}, but not for {most} of {len} besides{hint}"
     )?;
     Ok(line)
 }
 
-/// Writes the line that refuses a table of kinds, 1,024 at most or 64 at level 5, and flushes: how many pairs at its front a region has room for,
-/// and the next one. After an `Err` a prefix of the line was written.
+/// Writes the line that refuses a table of kinds, 64 at most, and flushes: how many pairs at its front a region has room for,
+/// and the next one; and the words of a region of level 5 that is large enough for all, where there is one. After an `Err` a prefix
+/// of the line was written.
 ///
 /// ```
 /// let _ = write_unreached_table_line::<4, _>(&[Kind { most: 1, len: 8 }, Kind { most: 7655, len: 512 }], &mut errors);
@@ -54,14 +71,17 @@ pub fn write_unreached_table_line<const SLI: u32, E: Write>(
 ) -> Result<(), WriteError>
     requires level { IsLevel SLI }
     requires few { length kinds.now ≤ most_kinds SLI }
+    requires pairs { length kinds.now ≤ most_kinds 5 }
     requires unreached { ¬ (AreReached SLI kinds.now) }
-    ensures { (pairs : ℕ) × (next : Kind) × IsFirstUnreached SLI kinds.now pairs next
-        × AppendsFront (E.contents errors.old) (E.contents errors.new) (unreached_table_line pairs next) }
+    ensures { (pairs : ℕ) × (next : Kind) × (finer : Option ℕ) × IsFirstUnreached SLI kinds.now pairs next × IsFiner kinds.now finer
+        × AppendsFront (E.contents errors.old) (E.contents errors.new) (unreached_table_line pairs next finer) }
 {
     let pairs = reached_kinds::<SLI>(kinds);
-    match table_line_of(pairs, kinds[pairs]) {
+    let finer = words_for::<5>(kinds);
+    let next = kind_at(kinds, pairs);
+    match table_line_of(pairs, next, finer) {
         Ok(line) => write_out(errors, line.as_bytes()),
-        // The line has at most 130 bytes and 160 have room, but no clause of the line says so.
+        // The line has at most 180 bytes and 256 have room, but no clause of the line says so.
         Err(_) => Err(WriteError),
     }
 }
@@ -70,10 +90,12 @@ pub fn write_unreached_table_line<const SLI: u32, E: Write>(
 fn unpaired_line_of(blocks: usize, bytes: usize) -> Result<ArrayString<160>, fmt::Error>
     ensures { IfOk result (λ line. line.bytes ≡ unpaired_line blocks bytes) }
 {
+    let blocks_given = Counted::new(blocks, "time");
+    let bytes_given = Counted::new(bytes, "time");
     let mut line = ArrayString::new();
     writeln!(
         line,
-        "tlsf: --blocks is given {blocks} times and --bytes {bytes} times: give 1 to 64 pairs of both"
+        "tlsf: --blocks is given {blocks_given} and --bytes {bytes_given}: give 1 to 64 pairs of both"
     )?;
     Ok(line)
 }

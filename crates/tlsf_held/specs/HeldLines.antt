@@ -1,5 +1,5 @@
 -- The lines on what workers asked of their heaps.
-use Rattle.std.specs.Prelude.{ℕ, zero, suc, List, [], ◌++◌, Option, Some, None, codes}
+use Rattle.std.specs.Prelude.{ℕ, zero, suc, List, [], ◌++◌, ◌==◌, Option, Some, None, codes, if◌then◌else◌}
 use Rattle.std.specs.Fmt.{decimal}
 use Rattle.tlsf_laws.specs.Pools.{pool_region}
 
@@ -8,11 +8,15 @@ abbrev pub words_text : Option ℕ → List ℕ
 words_text (Some words) = decimal words
 words_text None = codes "none"
 
+-- the words of the least region in which calls of these bounds are never refused for want of room: the least of all where no block is asked for
+unfoldable pub held_region : ℕ → (most len : ℕ) → Option ℕ
+held_region sli most len = if most == 0 then Some 4 else pool_region sli most len
+
 -- held J blocks B bytes N words W region R, at a level
 abbrev pub held_line : ℕ → (worker most len words : ℕ) → List ℕ
 held_line sli worker most len words =
     codes "held " ++ decimal worker ++ codes " blocks " ++ decimal most ++ codes " bytes " ++ decimal len
-    ++ codes " words " ++ words_text (pool_region sli most len) ++ codes " region " ++ decimal words ++ codes "\n"
+    ++ codes " words " ++ words_text (held_region sli most len) ++ codes " region " ++ decimal words ++ codes "\n"
 
 -- the lines of the workers below a number, whose heaps have so many words each
 abbrev pub held_text : ℕ → ℕ → (most len : ℕ → ℕ) → ℕ → List ℕ

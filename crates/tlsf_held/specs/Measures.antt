@@ -3,9 +3,9 @@ use Rattle.std.specs.Prelude.{◌≡◌, ◌↔◌, ℕ, ◌<◌, ◌≤◌, Lis
 use Rattle.std.specs.List.{AllByRecursion}
 use Rattle.tlsf_heap.specs.Calls.{Call, Answer}
 use Rattle.tlsf_heap.specs.Lawful.{IsRegion}
-use Rattle.tlsf_laws.specs.Pools.{pool_region, AreModest, HasRoomFor}
+use Rattle.tlsf_laws.specs.Pools.{AreModest, HasRoomFor}
 use Rattle.tlsf_crew.specs.yard.History.{answers_on, calls_on}
-use Rattle.tlsf_held.specs.HeldLines.{held_text}
+use Rattle.tlsf_held.specs.HeldLines.{held_region, held_text}
 use Rattle.tlsf_lines.specs.Trace.{Trace}
 use Rattle.tlsf_lines.specs.declared.trace_fault.TraceFault.{TraceFault}
 use Rattle.tlsf_trace.specs.Output.{level_in, run_of}
@@ -33,8 +33,8 @@ pub record Measures (trace : Trace) (text : List ℕ) : Type 0 where
 abbrev pub IsMeasurement : Result Summary TraceFault → Option (List ℕ) → Option (List ℕ) → Option (List ℕ) → Option (List ℕ) → Type 0
 IsMeasurement = IsRun Measures
 
--- where the heaps of a trace have the words of a pool of these bounds, no request of the worker's is answered NoFit
+-- where the heaps of a trace have the words that a line names for these bounds, no request of the worker's is answered NoFit
 abbrev pub HeldWordsSuffice : Type 0
 HeldWordsSuffice = (trace : Trace) (j most len words : ℕ) → IsRegion (level_in trace.header) trace.header.words → j < trace.header.workers
-    → AreBoundsOf trace j most len → pool_region (level_in trace.header) most len ≡ Some words → words ≤ trace.header.words
+    → AreBoundsOf trace j most len → held_region (level_in trace.header) most len ≡ Some words → words ≤ trace.header.words
     → AllByRecursion HasRoomFor (answers_on j (run_of trace).entries)

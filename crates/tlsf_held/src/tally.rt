@@ -60,7 +60,7 @@ fn is_judged(reply: Reply) -> bool
 
 impl Tally {
     ghost use Rattle.std.specs.Prelude.{◌+◌, ◌<◌, ◌≤◌, ◌^◌};
-    ghost use Rattle.tlsf_laws.specs.Pools;
+    ghost use Rattle.tlsf_held.specs.HeldLines.{held_region};
     ghost use Rattle.tlsf_held.specs.Tallies.{no_calls, with_length, with_release, with_request, noted, tally_of};
 
     // Of no call.
@@ -136,11 +136,15 @@ impl Tally {
     }
 
     /// The words of the least region in which such calls are never refused for want of room, 4 to 2^20, at level 5 to 2^24. None where no region has so
-    /// many.
+    /// many. Calls that ask for no block are served by the least region of all, however long a resize among them is.
+    #[tactic(auto, unfolding(crate::specs::HeldLines::held_region))]
     pub fn region<const SLI: u32>(&self) -> Option<u32>
         requires { IsLevel SLI }
-        ensures { result ≡ Pools.pool_region SLI self.now.most self.now.longest }
+        ensures { result ≡ held_region SLI self.now.most self.now.longest }
     {
+        if self.most == 0 {
+            return Some(4);
+        }
         // A block has four words at least, so no region has room for more.
         if self.most > u32::MAX as usize {
             return None;

@@ -4,15 +4,16 @@
 //! standard output. The whole trace is read and checked before a line runs, and the whole text is made before a byte is
 //! written. `tlsf race` does so with each phase run in threads, one for each worker; where it is long, it says on standard
 //! error about every ten seconds that it still runs. `tlsf map` writes a picture of the heaps that a trace leaves,
-//! with `--text` in the characters of a terminal. `tlsf classes N` writes the size class and the search class of N
-//! words. `tlsf --help` and `tlsf --version` say the rest. What it does with words and streams is [`tlsf_command::run`];
-//! `main` gives it those of the process.
+//! with `--text` in the characters of a terminal. A file that is named behind one of these isn't read: a line says how it
+//! is given as standard input. `tlsf classes N` writes the size class and the search class of N words, and `tlsf size` the words
+//! of a region that never refuses. `tlsf --help` and `tlsf --version` say the rest. What it does with words and streams is
+//! [`tlsf_command::run`]; `main` gives it those of the process.
 //!
 //! | Exit status | When |
 //! |---|---|
-//! | 0 | the run is done, or the class line, the help or the version text is written |
+//! | 0 | the run is done, or the class line, the size line, the help or the version text is written |
 //! | 1 | a fault of the trace, a read or a write ended the run; its line is on standard error |
-//! | 2 | the words of the command line are refused; the usage is on standard error |
+//! | 2 | the words of the command line are refused; the usage, or one line that says why, is on standard error |
 //! | 3 | memory ran out; the line `tlsf: out of memory (6)` is on standard error |
 //!
 //! A write to standard error that fails changes nothing.

@@ -61,17 +61,17 @@ fn says_how_far_a_region_reaches(rt: HostRuntime) {
             (
                 "tlsf,size,--blocks,7655,--bytes,512",
                 2,
-                "tlsf: no region has so many words: at most 7654 blocks of 512 bytes, or 7655 blocks of at most 504 bytes\n",
+                "tlsf: no region has so many words: at most 7654 blocks of 512 bytes, or 7655 blocks of at most 504 bytes; with --sli 5 a region of 1048666 words is enough\n",
             ),
             (
                 "tlsf,size,--blocks,1,--bytes,8388585",
                 2,
-                "tlsf: no region has so many words: at most 0 blocks of 8388585 bytes, or 1 blocks of at most 8388584 bytes\n",
+                "tlsf: no region has so many words: at most 0 blocks of 8388585 bytes, or 1 block of at most 8388584 bytes; with --sli 5 a region of 1081344 words is enough\n",
             ),
             (
                 "tlsf,size,--blocks,1,--bytes,134217705,--sli,5",
                 2,
-                "tlsf: no region has so many words: at most 0 blocks of 134217705 bytes, or 1 blocks of at most 134217704 bytes\n",
+                "tlsf: no region has so many words: at most 0 blocks of 134217705 bytes, or 1 block of at most 134217704 bytes\n",
             ),
             (
                 "tlsf,size,--blocks,4294967295,--bytes,4294967295",
@@ -81,12 +81,17 @@ fn says_how_far_a_region_reaches(rt: HostRuntime) {
             (
                 "tlsf,size,--blocks,1,--bytes,8,--blocks,8000,--bytes,512",
                 2,
-                "tlsf: no region has so many words: one has room for the first 1 pairs, but not for 8000 blocks of 512 bytes beside them\n",
+                "tlsf: no region has so many words: one has room for 1 leading pair, but not for 8000 blocks of 512 bytes besides; with --sli 5 a region of 1096005 words is enough\n",
+            ),
+            (
+                "tlsf,size,--blocks,9,--bytes,134217704,--blocks,1,--bytes,8",
+                2,
+                "tlsf: no region has so many words: one has room for 0 leading pairs, but not for 9 blocks of 134217704 bytes besides\n",
             ),
             (
                 "tlsf,size,--blocks,1,--blocks,2,--bytes,8",
                 2,
-                "tlsf: --blocks is given 2 times and --bytes 1 times: give 1 to 64 pairs of both\n",
+                "tlsf: --blocks is given 2 times and --bytes 1 time: give 1 to 64 pairs of both\n",
             ),
         ],
     );

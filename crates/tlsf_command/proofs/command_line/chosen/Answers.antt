@@ -1,6 +1,8 @@
-use Rattle.std.proofs.Common.{◌≡◌, Option, Some, None, refl, sym, true≢false}
+use Rattle.std.proofs.Common.{◌≡◌, Option, Some, None, codes, refl, sym, true≢false}
 use Rattle.std.specs.Prelude.{IsSome}
-use Rattle.tlsf_command.proofs.ChosenCommands.{asks_classes, asks_held, asks_map, asks_map_text, asks_race, asks_race_queues, asks_replay, asks_size, some_named}
+use Rattle.std.proofs.lemmas.Result.{IfOk-weaker}
+use Rattle.tlsf_command.specs.declared.trace_run.TraceRun.TheVariants.{Replay, Held, Race, RaceQueues, Map, MapText}
+use Rattle.tlsf_command.proofs.ChosenCommands.{asks_classes, asks_run, asks_size, flag_has, flag_lacks, some_named}
 use Rattle.tlsf_command.proofs.command_line.chosen.Goals.{then-get_flag, else-get_flag, then-get_flag-2, else-get_flag-2, then-get_flag-3, else-get_flag-3}
 use Rattle.tlsf_command.proofs.command_line.chosen.Goals as goal
 
@@ -12,12 +14,13 @@ returns-in-Some c = λ words answers.
 pub returns-in-Some-subcommand_matches : goal.returns-in-Some-subcommand_matches
 returns-in-Some-subcommand_matches c = λ words answers.
     let race = c.in-Some-subcommand_matches in
-    elim c.if-get_flag.branch [
-      | then-get_flag w ↦ rw w.result-is (asks_race_queues words c.args.matches.now race.given.now c.get_flag.result
-          answers race.ensures.rows (race.ensures.found.0 refl) c.get_flag.ensures.other c.get_flag.ensures.none w.if-get_flag.true)
-      | else-get_flag w ↦ rw w.result-is (asks_race words c.args.matches.now race.given.now c.get_flag.result
-          answers race.ensures.rows (race.ensures.found.0 refl) c.get_flag.ensures.value w.if-get_flag.false)
-    ]
+    let flag = c.get_flag in
+    IfOk-weaker c.run_given.result _ _ (λ choice on. elim c.if-get_flag.branch [
+      | then-get_flag w ↦ asks_run words c.args.matches.now race.given.now RaceQueues choice answers (race.ensures.found.0 refl) race.ensures.rows
+          (flag_has words c.args.matches.now race.given.now (codes "queues") flag.result answers race.ensures.rows flag.ensures.other flag.ensures.none w.if-get_flag.true) (rw w.run-is at on)
+      | else-get_flag w ↦ asks_run words c.args.matches.now race.given.now Race choice answers (race.ensures.found.0 refl) race.ensures.rows
+          (flag_lacks words c.args.matches.now race.given.now (codes "queues") flag.result answers race.ensures.rows flag.ensures.value w.if-get_flag.false) (rw w.run-is at on)
+    ]) c.run_given.ensures
 
 pub returns-in-Some-subcommand_matches-2 : goal.returns-in-Some-subcommand_matches-2
 returns-in-Some-subcommand_matches-2 c = λ words answers.
@@ -29,12 +32,12 @@ pub returns-in-Some-subcommand_matches-3 : goal.returns-in-Some-subcommand_match
 returns-in-Some-subcommand_matches-3 c = λ words answers.
     let map = c.in-Some-subcommand_matches-3 in
     let flag = c.get_flag-in-Some-subcommand_matches-3 in
-    elim c.if-get_flag-2.branch [
-      | then-get_flag-2 w ↦ rw w.result-is (asks_map_text words c.args.matches.now map.given.now flag.result
-          answers map.ensures.rows (map.ensures.found.0 refl) flag.ensures.other flag.ensures.none w.if-get_flag-2.true)
-      | else-get_flag-2 w ↦ rw w.result-is (asks_map words c.args.matches.now map.given.now flag.result
-          answers map.ensures.rows (map.ensures.found.0 refl) flag.ensures.value w.if-get_flag-2.false)
-    ]
+    IfOk-weaker c.run_given-in-Some-subcommand_matches-3.result _ _ (λ choice on. elim c.if-get_flag-2.branch [
+      | then-get_flag-2 w ↦ asks_run words c.args.matches.now map.given.now MapText choice answers (map.ensures.found.0 refl) map.ensures.rows
+          (flag_has words c.args.matches.now map.given.now (codes "text") flag.result answers map.ensures.rows flag.ensures.other flag.ensures.none w.if-get_flag-2.true) (rw w.run-is at on)
+      | else-get_flag-2 w ↦ asks_run words c.args.matches.now map.given.now Map choice answers (map.ensures.found.0 refl) map.ensures.rows
+          (flag_lacks words c.args.matches.now map.given.now (codes "text") flag.result answers map.ensures.rows flag.ensures.value w.if-get_flag-2.false) (rw w.run-is at on)
+    ]) c.run_given-in-Some-subcommand_matches-3.ensures
 
 -- a value that is no `Some` is none
 not_some : {X : Type 0} (o : Option X) → ((x : X) → o ≡ Some x → ⊥) → IsSome o → ⊥
@@ -54,9 +57,9 @@ pub returns : goal.returns
 returns c = λ words answers.
     let replay = c.in-Some-subcommand_matches-4 in
     let flag = c.get_flag-in-Some-subcommand_matches-4 in
-    elim c.if-get_flag-3.branch [
-      | then-get_flag-3 w ↦ rw w.result-is (asks_held words c.args.matches.now replay.given.now flag.result
-          answers replay.ensures.rows (replay.ensures.found.0 refl) flag.ensures.other flag.ensures.none w.if-get_flag-3.true)
-      | else-get_flag-3 w ↦ rw w.result-is (asks_replay words c.args.matches.now replay.given.now flag.result
-          answers replay.ensures.rows (replay.ensures.found.0 refl) flag.ensures.value w.if-get_flag-3.false)
-    ]
+    IfOk-weaker c.run_given-in-Some-subcommand_matches-4.result _ _ (λ choice on. elim c.if-get_flag-3.branch [
+      | then-get_flag-3 w ↦ asks_run words c.args.matches.now replay.given.now Held choice answers (replay.ensures.found.0 refl) replay.ensures.rows
+          (flag_has words c.args.matches.now replay.given.now (codes "held") flag.result answers replay.ensures.rows flag.ensures.other flag.ensures.none w.if-get_flag-3.true) (rw w.run-is at on)
+      | else-get_flag-3 w ↦ asks_run words c.args.matches.now replay.given.now Replay choice answers (replay.ensures.found.0 refl) replay.ensures.rows
+          (flag_lacks words c.args.matches.now replay.given.now (codes "held") flag.result answers replay.ensures.rows flag.ensures.value w.if-get_flag-3.false) (rw w.run-is at on)
+    ]) c.run_given-in-Some-subcommand_matches-4.ensures

@@ -1,7 +1,7 @@
 use Rattle.std.proofs.Common.{rules, map, inl, inr}
 use Rattle.tlsf_command.specs.Runs.{streams}
 use Rattle.tlsf_command.proofs.ChosenCommands.{answerable}
-use Rattle.tlsf_command.proofs.RunEnds.{Run, answer_ends, does, ends_held, ends_map, ends_map_text, ends_options, ends_pairs, ends_race, ends_race_queues, ends_replay, fails}
+use Rattle.tlsf_command.proofs.RunEnds.{Run, answer_ends, does, ends_file, ends_options, ends_pairs, ends_run, fails}
 use Rattle.tlsf_command.proofs.commands.run.Goals as goal
 
 pub act-requires : goal.act-requires
@@ -15,14 +15,10 @@ returns-in-Ok g c =
     let new = streams (g.R.Read.remaining c.act.new.reader) (g.W.Write.contents c.act.new.writer) (g.E.Write.contents c.act.new.errors) in
     let run : Run words status old new = does c.in-Ok.choice c.in-Ok.ensures.asked c.act.ensures in record {
       ends = inr (inl (c.in-Ok.choice, c.in-Ok.ensures.asked, c.act.ensures));
-      replay = λ called is. ends_replay words called status old new run is;
-      race = λ called is. ends_race words called status old new run is;
-      race_queues = λ called is. ends_race_queues words called status old new run is;
+      trace = λ called wanted is. ends_run words called status old new run wanted is;
+      file = λ called file wanted plain is. ends_file words called status old new run wanted file plain is;
       size = λ called pairs are is. ends_pairs words called status old new run pairs are is;
       options = λ called options are is. ends_options words called status old new run options are is;
-      held = λ called is. ends_held words called status old new run is;
-      map_svg = λ called is. ends_map words called status old new run is;
-      map_text = λ called is. ends_map_text words called status old new run is;
     }
 
 pub returns-in-Err : goal.returns-in-Err
@@ -34,12 +30,8 @@ returns-in-Err g c =
     let shows = c.answer.ensures (g.R.Read.remaining c.args.reader.now) in
     let run : Run words status old new = fails _ c.in-Err.ensures.kinds shows in record {
       ends = answer_ends words _ status old new shows c.in-Err.ensures.kinds;
-      replay = λ called is. ends_replay words called status old new run is;
-      race = λ called is. ends_race words called status old new run is;
-      race_queues = λ called is. ends_race_queues words called status old new run is;
+      trace = λ called wanted is. ends_run words called status old new run wanted is;
+      file = λ called file wanted plain is. ends_file words called status old new run wanted file plain is;
       size = λ called pairs are is. ends_pairs words called status old new run pairs are is;
       options = λ called options are is. ends_options words called status old new run options are is;
-      held = λ called is. ends_held words called status old new run is;
-      map_svg = λ called is. ends_map words called status old new run is;
-      map_text = λ called is. ends_map_text words called status old new run is;
     }

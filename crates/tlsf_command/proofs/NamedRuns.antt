@@ -1,0 +1,60 @@
+-- Words that are written out, and name a run of a trace.
+use Rattle.std.proofs.Common.{◌≡◌, ◌≢◌, ◌==◌, ◌++◌, ℕ, true, false, List, [], ◌∷◌, None, Some, codes, refl, arith}
+use Rattle.std.proofs.lemmas.Bool.Decides.{nat_tests}
+use Rattle.std.specs.Str.{bytes_eq}
+use Rattle.clap.specs.Lexer.{long_of, short_of}
+use Rattle.clap.specs.Words.{Text}
+use Rattle.clap.proofs.OnLiterals.{clap_on_literals}
+use Rattle.tlsf_command.specs.CommandLine.{command_in, command_of, faults_of, flag_given, texts_given, words_of, IsPlainWord}
+use Rattle.tlsf_command.specs.declared.trace_run.TraceRun.{TraceRun}
+use Rattle.tlsf_command.specs.declared.trace_run.TraceRun.TheVariants.{Replay, Held, Race, RaceQueues, Map, MapText}
+
+-- the words give the flag of a run, or don't give it
+abbrev pub GivesForm : TraceRun → List Text → Type 0
+GivesForm Replay words = flag_given (codes "held") words ≡ Some (codes "false")
+GivesForm Held words = flag_given (codes "held") words ≡ Some (codes "true")
+GivesForm Race words = flag_given (codes "queues") words ≡ Some (codes "false")
+GivesForm RaceQueues words = flag_given (codes "queues") words ≡ Some (codes "true")
+GivesForm Map words = flag_given (codes "text") words ≡ Some (codes "false")
+GivesForm MapText words = flag_given (codes "text") words ≡ Some (codes "true")
+
+-- the words name the command of a run, give its flag or don't, and give these words besides
+pub record NameRun (words : List Text) (run : TraceRun) (files : List Text) : Type 0 where
+  pub faultless : faults_of words ≡ []
+  pub named : command_in words ≡ Some (command_of run)
+  pub form : GivesForm run words
+  pub given : texts_given (codes "FILE") words ≡ files
+
+-- the program's name, whatever that is, and the words of a run
+pub run_named : (called : Text) (run : TraceRun) → NameRun (called ∷ words_of run) run []
+unfolding clap_on_literals
+run_named called Replay = record { faultless = refl; named = refl; form = refl; given = refl }
+run_named called Held = record { faultless = refl; named = refl; form = refl; given = refl }
+run_named called Race = record { faultless = refl; named = refl; form = refl; given = refl }
+run_named called RaceQueues = record { faultless = refl; named = refl; form = refl; given = refl }
+run_named called Map = record { faultless = refl; named = refl; form = refl; given = refl }
+run_named called MapText = record { faultless = refl; named = refl; form = refl; given = refl }
+
+no_hyphen : (code : ℕ) → code ≢ 45 → (code == 45) ≡ false
+no_hyphen code ne = grind (arith, nat_tests)
+
+-- no text of a flag
+abbrev pub IsPlain : Text → Type 0
+IsPlain text = (bytes_eq text (45 ∷ 45 ∷ []) ≡ false) × (long_of text ≡ None) × (short_of text ≡ None)
+
+plain_word : (text : Text) → IsPlainWord text → IsPlain text
+plain_word [] plain = (refl, refl, refl)
+plain_word (code ∷ rest) plain = let no = no_hyphen code plain in (rw no refl, rw no refl, rw no refl)
+
+by_plain : (called : Text) (run : TraceRun) (file : Text) → IsPlain file → NameRun (called ∷ (words_of run ++ file ∷ [])) run (file ∷ [])
+unfolding clap_on_literals
+by_plain called Replay file plain = record { faultless = rw (plain.0, plain.1, plain.2) refl; named = refl; form = rw (plain.0, plain.1, plain.2) refl; given = rw (plain.0, plain.1, plain.2) refl }
+by_plain called Held file plain = record { faultless = rw (plain.0, plain.1, plain.2) refl; named = refl; form = rw (plain.0, plain.1, plain.2) refl; given = rw (plain.0, plain.1, plain.2) refl }
+by_plain called Race file plain = record { faultless = rw (plain.0, plain.1, plain.2) refl; named = refl; form = rw (plain.0, plain.1, plain.2) refl; given = rw (plain.0, plain.1, plain.2) refl }
+by_plain called RaceQueues file plain = record { faultless = rw (plain.0, plain.1, plain.2) refl; named = refl; form = rw (plain.0, plain.1, plain.2) refl; given = rw (plain.0, plain.1, plain.2) refl }
+by_plain called Map file plain = record { faultless = rw (plain.0, plain.1, plain.2) refl; named = refl; form = rw (plain.0, plain.1, plain.2) refl; given = rw (plain.0, plain.1, plain.2) refl }
+by_plain called MapText file plain = record { faultless = rw (plain.0, plain.1, plain.2) refl; named = refl; form = rw (plain.0, plain.1, plain.2) refl; given = rw (plain.0, plain.1, plain.2) refl }
+
+-- and a word behind them that begins with no hyphen
+pub file_named : (called : Text) (run : TraceRun) (file : Text) → IsPlainWord file → NameRun (called ∷ (words_of run ++ file ∷ [])) run (file ∷ [])
+file_named called run file plain = by_plain called run file (plain_word file plain)

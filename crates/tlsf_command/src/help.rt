@@ -1,0 +1,207 @@
+//! The texts of the help, behind what `clap` writes of options. Lines have at most 80 characters; no contract says so.
+
+/// What `tlsf --help` says behind its options.
+pub const PROGRAM_HELP: &str = "\
+'tlsf replay' reads a trace from standard input and writes to standard output
+what each of its lines was answered, and a report on each heap. This is a trace
+of one worker, whose heap has 64 words; it asks for 8 bytes and for 100 bytes
+and frees the first block:
+
+  tlsf 1 1 64 1
+  a 0 1 8
+  a 0 2 100
+  f 0 1
+
+In a file, as first.trace, it is run by 'tlsf replay < first.trace'.
+
+'tlsf replay --held' writes how large the heaps must be for a trace's calls.
+'tlsf race' replays with the workers of each phase in threads of their own;
+'tlsf race --queues' does so with one queue for the posts to each worker.
+'tlsf map' draws the heaps that a trace leaves, as an SVG file, and
+'tlsf map --text' in the characters of a terminal.
+'tlsf classes N' and 'tlsf size' read nothing and write one line.
+
+The exit status is 0 where the run is done, 1 where a fault of the trace, of a
+read or of a write ends it, 2 where the command line is refused, and 3 where
+memory runs out. Faults go to standard error.";
+
+/// What `tlsf replay --help` says behind its options.
+pub const REPLAY_HELP: &str = "\
+Standard input is a trace. Its first line is 'tlsf 1 N W C': N workers, 1 to 8,
+each with a heap of W words, 4 to 1048576, and lanes between them for C posts
+each, 1 to 1024; or 'tlsf 2 N W C', for heaps of level 5, whose classes are
+finer, of 4 to 16777216 words. Each line after it is one of these:
+
+  a w L len    worker w allocates len bytes and makes the label L
+  f w L        worker w frees the block of L, or posts its name to its owner
+  p w L at HEX worker w writes 1 to 64 bytes at byte 'at' of the block of L
+  g w L at n   worker w reads n bytes, 1 to 64, at byte 'at' of the block of L
+  r w L len    worker w resizes the block of L to len bytes, where it stands
+  d w n        worker w takes at most n posts, 1 to 8192, and frees their blocks
+  phase        each worker takes its posts, and labels may go to other workers
+
+A label is a number from 0 to 65535, and is made once. Only its maker uses it
+before the next 'phase'. Workers are counted from 0. Fields are parted by one
+space, and each line ends with a line feed.
+
+Standard output is one reply line for each call and each post taken, once all
+have run, and then a report on each heap. At the end each worker takes its
+posts. This is a trace, and this is what it comes to:
+
+  tlsf 1 2 64 4
+  a 0 1 8
+  phase
+  f 1 1
+
+  0 a 1 at 0 serial 1
+  0 d drained 0
+  1 d drained 0
+  1 f 1 posted
+  0 take 1 at 0 serial 1 freed
+  0 d drained 1
+  1 d drained 0
+  heap 0 live 0 0 0 free 1 64 largest 64 grant 488 fragmentation 0 waste 0 age 1
+  heap 1 live 0 0 0 free 1 64 largest 64 grant 488 fragmentation 0 waste 0 age 1
+
+With --held it is one line for each worker instead, as
+
+  held 0 blocks 3 bytes 512 words 342 region 64
+
+Worker 0 held at most 3 blocks of its heap at once, the one that it asked for
+included, and asked for at most 512 bytes. A heap of 342 words never answers
+NoFit (1) to such calls; 'none' says that no heap is so large. The heaps of the
+trace have 64 words. A block that another worker frees is held until its owner
+takes the post.
+
+The exit status is 0 where the lines are written, 1 where a fault of the
+trace, of a read or of a write ends the run, and 3 where memory runs out. A
+fault is one line on standard error, as 'tlsf: line 2: bad number (13)'.";
+
+/// What `tlsf race --help` says behind its options.
+pub const RACE_HELP: &str = "\
+Standard input is a trace, as 'tlsf replay --help' tells. Each phase is run by
+threads, one for each worker, which run its lines in their order. Once all have
+ended, each worker makes a last drain, which takes all posts that wait.
+
+Standard output is the reply lines of each phase, worker by worker, and then a
+report on each heap. A trace without 'd' lines gives the same bytes on every
+run. With them it depends on the schedule how many posts a drain takes. This is
+a trace, and this is what it comes to:
+
+  tlsf 1 2 64 4
+  a 0 1 8
+  phase
+  f 1 1
+
+  0 a 1 at 0 serial 1
+  0 d drained 0
+  1 d drained 0
+  0 take 1 at 0 serial 1 freed
+  0 d drained 1
+  1 f 1 posted
+  1 d drained 0
+  heap 0 live 0 0 0 free 1 64 largest 64 grant 488 fragmentation 0 waste 0 age 1
+  heap 1 live 0 0 0 free 1 64 largest 64 grant 488 fragmentation 0 waste 0 age 1
+
+With --queues each worker has one queue for the posts of all others, in place
+of a lane from each. It holds C posts, so a post is refused as full by what all
+others have posted, and posts of several workers are taken in the order in
+which they came, which is up to the schedule.
+
+The exit status is 0 where the replies are written, 1 where a fault of the
+trace, of a read or of a write ends the run, and 3 where memory runs out, or no
+thread can be started. Faults are those of 'tlsf replay'.";
+
+/// What `tlsf map --help` says behind its options.
+pub const MAP_HELP: &str = "\
+Standard input is a trace, as 'tlsf replay --help' tells. It is run to its end,
+with the drains there, and no reply is written.
+
+Standard output is an SVG file, for a browser: each heap as rows of words, read
+as a text is. A block is a rectangle in each row that it touches, as wide as its
+words there. A live block shows its header and what its payload leaves empty,
+and where there is room its label and its bytes. The green of a free block is
+the stronger, the longer it is free, and the largest ones are framed. Above each
+heap stand the numbers of its report, and each block tells its own where the
+pointer rests on it. Neighbours under 4 pixels wide are drawn as one, in a
+violet that is the stronger, the more of their words are live, and the heap says
+how many there are.
+
+  tlsf map < two_workers.trace > heaps.svg
+
+With --text it is rows of 64 characters for a terminal of 80 columns. Each row
+begins with the place of its first word, and each character shows the first of
+so many words, 1 where a heap has at most 1024:
+
+  [ and a label   a live block        (   a free block
+  #   its header                      *   one of the largest free blocks
+  =   its payload                     .   words freed lately
+  -   words that it leaves empty      :   words free for longer than half as
+                                          long as the oldest
+
+The exit status is 0 where the picture is written, 1 where a fault of the
+trace, of a read or of a write ends the run, and 3 where memory runs out. Faults
+are those of 'tlsf replay'.";
+
+/// What `tlsf classes --help` says behind its options.
+pub const CLASSES_HELP: &str = "\
+Nothing is read. Standard output is one line. For 460 words it is
+
+  class 92 low 448 search 93 low 464
+
+Free blocks of 460 words are kept in class 92, whose least size is 448 words.
+A request for 460 words is served from class 93 on, the least class in which
+no block is too small, as it begins at 464 words.
+
+With --sli 5 the classes are those of level 5: 32 between two powers of two, in
+place of 16, for sizes up to 16777216 words in place of 1048576. For 460 words
+it is
+
+  class 153 low 456 search 154 low 464
+
+The exit status is 2 where the level has no class of so many words.";
+
+/// What `tlsf size --help` says behind its options.
+pub const SIZE_HELP: &str = "\
+Nothing is read. Standard output is one line. For '--blocks 100 --bytes 512'
+it is
+
+  words 13631 bytes 109048 ratio 2.13
+
+A heap of 13631 words takes 109048 bytes, 2.13 times the 100 times 512 bytes
+that are asked for. A program that never holds more than 100 blocks, of at most
+512 bytes each, is then never answered NoFit (1), in whatever order it
+allocates and frees. The block that is being asked for counts as held, and so
+does one whose name waits in a lane until its owner takes it.
+
+Several kinds of request are given as pairs, 64 at most: the first --blocks
+belongs to the first --bytes, and so on. For '--blocks 100 --bytes 64 --blocks
+4 --bytes 4096' the line is
+
+  words 59427 bytes 475416 ratio 20.87
+
+A block counts for the first pair that is long enough for it, so short ones
+come first.
+
+With --sli 5 the heap is one of level 5: it has 32 classes between two powers of
+two, in place of 16, and 16777216 words at most. For '--blocks 100 --bytes 600
+--sli 5' the line is
+
+  words 15720 bytes 125760 ratio 2.10
+
+where at level 4 it is
+
+  words 15920 bytes 127360 ratio 2.12
+
+Not promised: an allocate or a free is refused as Worn (2) once the ticks of the
+heap have ended, and a request above these bounds may find room or not. Each
+heap has words of its own.
+
+The exit status is 0 where the line is written, 1 where a write fails, and 2
+where no region, of 1048576 words at most, or 16777216 with --sli 5, is large
+enough. Standard error then has the most blocks of N bytes, and the most bytes
+for each of B blocks; 0 says that there is none. Of several pairs it has how
+many a region has room for, and the next one. Where a region of level 5 is large
+enough, it has the words of that one too. Where --blocks and --bytes are not
+given as often as each other, the status is 2, and standard error has how often
+each is given.";

@@ -1,0 +1,50 @@
+use std::alloc::{AllocError, Global};
+
+/// What a command does with the trace that it reads from standard input.
+#[derive(Clone, Copy)]
+pub enum TraceRun {
+    /// `tlsf replay`: write its replies and a report on each heap.
+    Replay,
+    /// `tlsf replay --held`: write what each worker asks of its heap, and the words of a pool for that.
+    Held,
+    /// `tlsf race`: run each phase in threads, one for each worker, and write its replies and reports.
+    Race,
+    /// `tlsf race --queues`: do so over queues, one for each worker, in place of lanes.
+    RaceQueues,
+    /// `tlsf map`: write a picture of the heaps that it leaves, as an SVG file.
+    Map,
+    /// `tlsf map --text`: write that picture in the characters of a terminal.
+    MapText,
+}
+
+impl TraceRun {
+    ghost use Rattle.std.specs.Prelude.{◌≡◌, IfOk, string_bytes};
+    ghost use Rattle.tlsf_command.specs.CommandLine as asked;
+
+    // The words that ask for it.
+    fn spelled(self) -> &'static str
+        ensures { result.now ≡ asked.spelled self }
+    {
+        match self {
+            TraceRun::Replay => "replay",
+            TraceRun::Held => "replay --held",
+            TraceRun::Race => "race",
+            TraceRun::RaceQueues => "race --queues",
+            TraceRun::Map => "map",
+            TraceRun::MapText => "map --text",
+        }
+    }
+
+    /// The line that says how a trace is read from this file. An `Err` says that memory ran out.
+    ///
+    /// ```
+    /// let line = TraceRun::Replay.tip(alloc, "first.trace")?;
+    /// // line is "tlsf: a trace is read from standard input: tlsf replay < first.trace\n"
+    /// ```
+    pub fn tip(self, alloc: Global, file: &str) -> Result<String, AllocError>
+        ensures { IfOk result (λ line. string_bytes line ≡ asked.tip_line self file.now) }
+    {
+        let words = self.spelled();
+        format!(in alloc; "tlsf: a trace is read from standard input: tlsf {words} < {file}\n")
+    }
+}
