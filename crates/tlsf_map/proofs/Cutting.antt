@@ -17,7 +17,7 @@ in_row row offset words below = omega (arith, below)
 in_rows : (rows : ℕ) (grid : Grid) (at words : ℕ) → 1 ≤ grid.row → AreInRows grid (cut rows grid at words)
 in_rows zero grid at words some = tt
 in_rows (suc rows) grid at words some =
-    (in_row grid.row (at % grid.row) words (mod-lt at some), in_rows rows grid (at + words_here grid at words) (words - words_here grid at words) some)
+    (inl (in_row grid.row (at % grid.row) words (mod-lt at some)), in_rows rows grid (at + words_here grid at words) (words - words_here grid at words) some)
 
 -- the next row begins where this one ends
 next_row : (row at : ℕ) → 1 ≤ row → (at + (row - at % row)) % row ≡ 0
@@ -52,7 +52,7 @@ all_cut (suc rows) grid at words some enough =
     let rest = all_cut rows grid (at + words_here grid at words) (words - words_here grid at words) some (left_fits rows grid.row at words some enough) in
     ap (λ (n : ℕ). words_here grid at words + n) rest ∙ omega arith
 
-enough_rows : (row n : ℕ) → 1 ≤ row → n ≤ (n + row - 1) / row * row
+pub enough_rows : (row n : ℕ) → 1 ≤ row → n ≤ (n + row - 1) / row * row
 enough_rows row n some = let above = lt-div-mul-add {a = n + row - 1} some in omega (arith, above, some)
 
 -- what holds of the pieces of no words and of those that are cut holds of all

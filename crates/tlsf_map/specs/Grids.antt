@@ -1,28 +1,61 @@
 -- How the words of a heap are laid out in rows.
-use Rattle.std.specs.Prelude.{◌≡◌, ℕ, zero, suc, ◌+◌, ◌*◌, ◌-◌, ◌/◌, ◌%◌, ◌≤◌, List, [], ◌∷◌, ◌==◌, nat_le, min, if◌then◌else◌, ⊤}
+use Rattle.std.specs.Prelude.{◌≡◌, ℕ, zero, suc, ◌+◌, ◌*◌, ◌-◌, ◌/◌, ◌%◌, ◌≤◌, ◌^◌, ◌⊎◌, List, [], ◌∷◌, ◌++◌, ◌==◌, nat_le, min, if◌then◌else◌, ⊤}
+use Rattle.tlsf_heap.specs.declared.placed_block.PlacedBlock.{PlacedBlock}
+use Rattle.tlsf_map.specs.Folds.{fold_of, hidden_in, shown_rows}
+use Rattle.tlsf_map.specs.declared.fold.Fold.{Fold}
 use Rattle.tlsf_map.specs.declared.grid.Grid.{Grid}
+use Rattle.tlsf_map.specs.declared.mapped_heap.LabelledBlock.{LabelledBlock}
 
--- rows of 64, 1,024 or 16,384 words, so that a heap has at most 64 rows; each row is 16,384 sixteenths of a pixel wide
-abbrev pub grid_of : ℕ → Grid
-grid_of words =
-    if nat_le words 4096 then record { row = 64; unit = 256 }
-    else (if nat_le words 65536 then record { row = 1024; unit = 16 } else record { row = 16384; unit = 1 })
-
--- what each grid is
+-- what each grid is: a row has up to 262,144 words
 pub record IsGrid (grid : Grid) : Type 0 where
   pub some : 1 ≤ grid.row
-  pub wide : grid.row ≤ 16384
-  pub narrow : grid.unit ≤ 256
+  pub most : grid.row ≤ 2 ^ 18
+  pub few : grid.hidden ≤ 2 ^ 32
 
--- how many rows some words fill
+-- how many rows some words fill, and how many of them are drawn where these blocks lie in them
 abbrev pub rows_in : Grid → ℕ → ℕ
 rows_in grid words = (words + grid.row - 1) / grid.row
 
--- the height of a heap with so many words, in sixteenths of a pixel: 80 pixels for its numbers, and 40 for each row
-abbrev pub heap_height : Grid → ℕ → ℕ
-heap_height grid words = 1280 + 640 * rows_in grid words
+abbrev pub drawn_rows : Grid → ℕ → List LabelledBlock → ℕ
+drawn_rows grid words blocks = shown_rows grid.row blocks (rows_in grid words)
 
--- a piece of some words that lies in one row: its first place, and its words
+-- rows of twice as many words
+abbrev pub coarser : Grid → Grid
+coarser grid = record grid { row = min (2 * grid.row) (2 ^ 18) }
+
+-- the first grid from this one on, of so many coarser ones, with which at most 64 rows are drawn, and else the last
+abbrev pub first_fitting : ℕ → ℕ → List LabelledBlock → Grid → Grid
+first_fitting zero words blocks grid = grid
+first_fitting (suc more) words blocks grid =
+    if nat_le (drawn_rows grid words blocks) 64 then grid else first_fitting more words blocks (coarser grid)
+
+-- the grid of a heap with so many words: rows of 64, or else of twice as many up to 262,144
+unfoldable pub grid_of : ℕ → List LabelledBlock → Grid
+grid_of words blocks = first_fitting 12 words blocks (record { row = 64; hidden = 0 })
+
+-- the height of a heap, in sixteenths of a pixel: 80 pixels for its numbers, and 40 for each row that is drawn
+abbrev pub heap_height : Grid → ℕ → List LabelledBlock → ℕ
+heap_height grid words blocks = 1280 + 640 * drawn_rows grid words blocks
+
+-- the grid below so many rows that are not drawn, and below a block
+unfoldable pub below : Grid → ℕ → Grid
+below grid rows = record grid { hidden = min (grid.hidden + rows) (2 ^ 32) }
+
+abbrev pub below_block : Grid → LabelledBlock → Grid
+below_block grid drawn = below grid (hidden_in (fold_of grid.row drawn.block))
+
+-- where a place is drawn, from the left and from above, and how wide so many words from it on are; a row is 1,024 pixels wide, 35 high,
+-- and 40 below the one before it
+unfoldable pub left_of : Grid → ℕ → ℕ
+left_of grid at = at % grid.row * 16384 / grid.row
+
+unfoldable pub top_of : Grid → ℕ → ℕ
+top_of grid at = 800 + 640 * (at / grid.row - grid.hidden)
+
+unfoldable pub width_of : Grid → ℕ → ℕ → ℕ
+width_of grid at words = (at % grid.row + words) * 16384 / grid.row - at % grid.row * 16384 / grid.row
+
+-- a piece of some words that is drawn as one: its first place, and its words
 pub record Piece : Type 0 where
   pub at : ℕ
   pub words : ℕ
@@ -41,6 +74,16 @@ cut (suc rows) grid at words =
 abbrev pub pieces : Grid → ℕ → ℕ → List Piece
 pieces grid at words = if words == 0 then [] else cut (rows_in grid (at % grid.row + words)) grid at words
 
+-- the pieces of so many words with these rows among them, of which one is drawn for all where there are three or more
+abbrev pub folded_pieces : Grid → Fold → ℕ → ℕ → List Piece
+folded_pieces grid fold at words =
+    if hidden_in fold == 0 then pieces grid at words
+    else pieces grid at (fold.at - at) ++ record { at = fold.at; words = fold.end - fold.at } ∷ pieces grid fold.end (at + words - fold.end)
+
+-- the pieces of a block
+abbrev pub block_pieces : Grid → PlacedBlock → List Piece
+block_pieces grid block = folded_pieces grid (fold_of grid.row block) block.at block.size
+
 -- the words of some pieces
 abbrev pub words_of : List Piece → ℕ
 words_of [] = 0
@@ -51,7 +94,14 @@ abbrev pub AreOnward : ℕ → List Piece → Type 0
 AreOnward at [] = ⊤
 AreOnward at (piece ∷ others) = (piece.at ≡ at) × AreOnward (at + piece.words) others
 
--- each piece lies in one row
+-- a piece lies in one row, or is whole rows
+abbrev pub IsInRow : Grid → Piece → Type 0
+IsInRow grid piece = piece.at % grid.row + piece.words ≤ grid.row
+
+pub record IsWholeRows (grid : Grid) (piece : Piece) : Type 0 where
+  pub begins : piece.at % grid.row ≡ 0
+  pub ends : piece.words % grid.row ≡ 0
+
 abbrev pub AreInRows : Grid → List Piece → Type 0
 AreInRows grid [] = ⊤
-AreInRows grid (piece ∷ others) = (piece.at % grid.row + piece.words ≤ grid.row) × AreInRows grid others
+AreInRows grid (piece ∷ others) = (IsInRow grid piece ⊎ IsWholeRows grid piece) × AreInRows grid others

@@ -4,15 +4,16 @@ use Rattle.std.specs.Fmt.{decimal}
 use Rattle.std.specs.List.{list_all}
 use Rattle.tlsf_heap.specs.declared.placed_block.Content.{Content}
 use Rattle.tlsf_heap.specs.declared.placed_block.Content.TheVariants.{Free, Live}
+use Rattle.tlsf_map.specs.Grids.{below_block}
 use Rattle.tlsf_map.specs.Svg.{block_text, spread_text}
 use Rattle.tlsf_map.specs.declared.grid.Grid.{Grid}
 use Rattle.tlsf_map.specs.declared.group.Group.{Group}
 use Rattle.tlsf_map.specs.declared.mapped_heap.LabelledBlock.{LabelledBlock}
 use Rattle.tlsf_map.specs.declared.mapped_heap.MappedHeap.{MappedHeap}
 
--- whether a block is less than 4 pixels wide; lengths are in sixteenths of a pixel
+-- whether a block is less than 4 of the 1,024 pixels of a row wide
 abbrev pub is_narrow : Grid → LabelledBlock → Bool
-is_narrow grid drawn = nat_lt (drawn.block.size * grid.unit) 64
+is_narrow grid drawn = nat_lt (drawn.block.size * 256) grid.row
 
 -- the words of some blocks, and those of the live ones among them
 abbrev pub words_of_all : List LabelledBlock → ℕ
@@ -25,9 +26,9 @@ live_size size (Live serial length) = size
 abbrev pub words_of_live : List LabelledBlock → ℕ
 words_of_live blocks = sum_by (λ drawn. live_size drawn.block.size drawn.block.content) blocks
 
--- whether a block is drawn as one with those right before it: all are narrow, and those before it have less than 256 words
+-- whether a block is drawn as one with those right before it: all are narrow, and those before it are less than 16 pixels wide together
 abbrev pub joins : Grid → List LabelledBlock → LabelledBlock → Bool
-joins grid before drawn = list_all (is_narrow grid) before && is_narrow grid drawn && nat_lt (words_of_all before) 256
+joins grid before drawn = list_all (is_narrow grid) before && is_narrow grid drawn && nat_lt (words_of_all before * 64) grid.row
 
 -- a group of neighbours and the blocks behind it, in groups: each block in the group right before it where it joins that, and else in a new one
 abbrev pub groups_from : Grid → List LabelledBlock → List LabelledBlock → List (List LabelledBlock)
@@ -90,7 +91,7 @@ joined_title count at words live =
 
 -- so many narrow neighbours from a place on, as one rectangle in each row that they touch
 unfoldable pub joined_text : Grid → ℕ → ℕ → ℕ → ℕ → List ℕ
-joined_text grid count at words live = joined_title count at words live ++ spread_text grid at words ++ codes "</g>\n"
+joined_text grid count at words live = joined_title count at words live ++ spread_text grid true at words ++ codes "</g>\n"
 
 -- a group: its block where it has one, and else all as one, from the place of the first on
 abbrev pub group_text : Grid → MappedHeap → List LabelledBlock → List ℕ
@@ -99,10 +100,16 @@ group_text grid heap (drawn ∷ []) = block_text grid heap drawn
 group_text grid heap (drawn ∷ next ∷ others) =
     joined_text grid (length (drawn ∷ next ∷ others)) drawn.block.at (words_of_all (drawn ∷ next ∷ others)) (words_of_live (drawn ∷ next ∷ others))
 
+-- the grid below a group: narrow blocks alone have no row of their own
+abbrev pub below_group : Grid → List LabelledBlock → Grid
+below_group grid [] = grid
+below_group grid (drawn ∷ []) = below_block grid drawn
+below_group grid (drawn ∷ next ∷ others) = grid
+
 -- groups, in their order
 abbrev pub groups_text : Grid → MappedHeap → List (List LabelledBlock) → List ℕ
 groups_text grid heap [] = []
-groups_text grid heap (group ∷ groups) = group_text grid heap group ++ groups_text grid heap groups
+groups_text grid heap (group ∷ groups) = group_text grid heap group ++ groups_text (below_group grid group) heap groups
 
 -- the legend's line on so many blocks that are drawn as one with others, where there are any
 unfoldable pub note_line : ℕ → List ℕ

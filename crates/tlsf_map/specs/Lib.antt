@@ -1,4 +1,6 @@
+pub mod Folds
 pub mod Grids
+pub mod Numbers
 pub mod Svg
 pub mod Groups
 pub mod Page

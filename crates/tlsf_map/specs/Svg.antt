@@ -1,28 +1,61 @@
 -- The picture of some heaps, as the text of an SVG file. Lengths are in sixteenths of a pixel.
-use Rattle.std.specs.Prelude.{ℕ, ◌+◌, ◌*◌, ◌-◌, ◌/◌, ◌%◌, ◌==◌, List, [], ◌∷◌, ◌++◌, Option, Some, None, min, nat_lt, length, codes, if◌then◌else◌}
+use Rattle.std.specs.Prelude.{ℕ, ◌+◌, ◌*◌, ◌-◌, ◌/◌, ◌%◌, ◌==◌, ◌&&◌, Bool, true, false, List, [], ◌∷◌, ◌++◌, Option, Some, None, min, nat_lt, length, codes, if◌then◌else◌}
 use Rattle.std.specs.Fmt.{decimal}
 use Rattle.tlsf_heap.specs.declared.placed_block.PlacedBlock.{PlacedBlock}
 use Rattle.tlsf_heap.specs.declared.placed_block.Content.{Content}
 use Rattle.tlsf_heap.specs.declared.placed_block.Content.TheVariants.{Free, Live}
-use Rattle.tlsf_map.specs.Grids.{Piece, words_here, pieces}
+use Rattle.tlsf_map.specs.Folds.{fold_of, hidden_in, used_words}
+use Rattle.tlsf_map.specs.Grids.{Piece, below, left_of, pieces, top_of, width_of, words_here}
+use Rattle.tlsf_map.specs.Numbers.{plural_of}
+use Rattle.tlsf_map.specs.declared.fold.Fold.{Fold}
 use Rattle.tlsf_map.specs.declared.grid.Grid.{Grid}
 use Rattle.tlsf_map.specs.declared.mapped_heap.LabelledBlock.{LabelledBlock}
 use Rattle.tlsf_map.specs.declared.mapped_heap.MappedHeap.{MappedHeap}
 
--- the rectangle of a piece: 35 pixels high, in the row of its place, as wide as its words
-abbrev pub piece_text : Grid → Piece → List ℕ
-piece_text grid piece =
-    codes "<rect x='" ++ (decimal (piece.at % grid.row * grid.unit)
-    ++ (codes "' y='" ++ (decimal (800 + 640 * (piece.at / grid.row))
-    ++ (codes "' width='" ++ (decimal (piece.words * grid.unit) ++ codes "' height='560'/>")))))
+-- the place of the first word of a row, left of it
+unfoldable pub place_text : Grid → ℕ → List ℕ
+place_text grid at = codes "<text class='place' x='-96' y='" ++ (decimal (top_of grid at + 328) ++ (codes "'>" ++ (decimal at ++ codes "</text>")))
 
-abbrev pub pieces_text : Grid → List Piece → List ℕ
-pieces_text grid [] = []
-pieces_text grid (piece ∷ pieces) = piece_text grid piece ++ pieces_text grid pieces
+-- the place, where a row begins there and it is wanted
+unfoldable pub begun_text : Grid → Bool → ℕ → List ℕ
+begun_text grid wanted at = if wanted && at % grid.row == 0 then place_text grid at else []
 
--- the rectangles of so many words from a place on
-unfoldable pub spread_text : Grid → ℕ → ℕ → List ℕ
-spread_text grid at words = pieces_text grid (pieces grid at words)
+-- the rectangle of a piece: in the row of its place, as wide as its words
+unfoldable pub rectangle_text : Grid → ℕ → ℕ → List ℕ
+rectangle_text grid at words =
+    codes "<rect x='" ++ (decimal (left_of grid at) ++ (codes "' y='" ++ (decimal (top_of grid at) ++ (codes "' width='" ++ (decimal (width_of grid at words) ++ codes "' height='560'/>")))))
+
+abbrev pub piece_text : Grid → Bool → Piece → List ℕ
+piece_text grid wanted piece = begun_text grid wanted piece.at ++ rectangle_text grid piece.at piece.words
+
+abbrev pub pieces_text : Grid → Bool → List Piece → List ℕ
+pieces_text grid wanted [] = []
+pieces_text grid wanted (piece ∷ pieces) = piece_text grid wanted piece ++ pieces_text grid wanted pieces
+
+-- the rectangles of so many words from a place on, and the places of the rows that begin among them where these are wanted
+unfoldable pub spread_text : Grid → Bool → ℕ → ℕ → List ℕ
+spread_text grid wanted at words = pieces_text grid wanted (pieces grid at words)
+
+-- the row that is drawn for all of some, and what it stands for
+unfoldable pub bar_text : ℕ → ℕ → ℕ → List ℕ
+bar_text y rows words =
+    codes "<rect class='fold' y='" ++ (decimal y ++ (codes "' width='16384' height='560'/><g class='caption'><text class='fold' x='8192' y='" ++ (decimal (y + 336)
+    ++ (codes "'>" ++ (decimal rows ++ (codes " rows, " ++ (decimal words ++ codes " words</text></g>")))))))
+
+unfoldable pub fold_text : Grid → Fold → List ℕ
+fold_text grid fold = place_text grid fold.at ++ bar_text (top_of grid fold.at) fold.rows (fold.end - fold.at)
+
+-- the words of a block with these rows among them, of which one is drawn for all where there are three or more
+unfoldable pub folded_text : Grid → Fold → ℕ → ℕ → List ℕ
+folded_text grid fold at words =
+    spread_text grid true at (fold.at - at) ++ fold_text grid fold ++ spread_text (below grid (hidden_in fold)) true fold.end (at + words - fold.end)
+
+unfoldable pub rows_text : Grid → Fold → ℕ → ℕ → List ℕ
+rows_text grid fold at words = if hidden_in fold == 0 then spread_text grid true at words else folded_text grid fold at words
+
+-- all words of a block
+unfoldable pub block_rows : Grid → PlacedBlock → List ℕ
+block_rows grid block = rows_text grid (fold_of grid.row block) block.at block.size
 
 -- a label, or a name where there is none
 abbrev pub label_text : Option ℕ → List ℕ → List ℕ
@@ -40,9 +73,9 @@ lower_text x y amount unit =
 -- two lines on a block, where its first piece is at least 80 pixels wide
 unfoldable pub caption_text : Grid → ℕ → ℕ → Option ℕ → List ℕ → ℕ → List ℕ → List ℕ
 caption_text grid at words label name amount unit =
-    if nat_lt (words_here grid at words * grid.unit) 1280 then []
-    else upper_text (at % grid.row * grid.unit + 64) (1040 + 640 * (at / grid.row)) ++ label_text label name
-    ++ lower_text (at % grid.row * grid.unit + 64) (1040 + 640 * (at / grid.row) + 224) amount unit
+    if nat_lt (width_of grid at (words_here grid at words)) 1280 then []
+    else upper_text (left_of grid at + 64) (top_of grid at + 240) ++ label_text label name
+    ++ lower_text (left_of grid at + 64) (top_of grid at + 240 + 224) amount unit
 
 -- how dark a free block is, in hundredths: 15 to 85, by its age and that of the oldest
 abbrev pub shade_of : ℕ → ℕ → ℕ
@@ -65,24 +98,22 @@ class_of_free size largest = if size == largest then codes "free largest" else c
 unfoldable pub free_text : Grid → MappedHeap → PlacedBlock → ℕ → List ℕ
 free_text grid heap block stamp =
     free_title block stamp (class_of_free block.size heap.report.largest) (shade_of (heap.tick - stamp) heap.report.age)
-    ++ spread_text grid block.at block.size ++ end_text grid block None (codes "free") block.size (codes "words")
+    ++ block_rows grid block ++ end_text grid block None (codes "free") block.size (codes "words")
 
 unfoldable pub live_title : PlacedBlock → ℕ → ℕ → List ℕ
 live_title block serial length =
-    codes ", place " ++ (decimal block.at ++ (codes ", " ++ (decimal block.size ++ (codes " words, " ++ (decimal length ++ (codes " bytes, serial " ++ (decimal serial ++ codes "</title>")))))))
-
--- the words of a block that its header and its payload take
-abbrev pub used_words : ℕ → ℕ
-used_words length = 3 + (length + 7) / 8
+    codes ", place " ++ (decimal block.at ++ (codes ", " ++ (decimal block.size ++ (codes " words, " ++ (decimal length ++ (codes " " ++ (plural_of length (codes "byte") (codes "bytes")
+    ++ (codes ", serial " ++ (decimal serial ++ codes "</title>")))))))))
 
 -- some words of a live block that hold no payload
 unfoldable pub part_text : List ℕ → Grid → ℕ → ℕ → List ℕ
-part_text class grid at words = codes "<g class='" ++ class ++ codes "'>" ++ spread_text grid at words ++ codes "</g>"
+part_text class grid at words = codes "<g class='" ++ class ++ codes "'>" ++ spread_text grid false at words ++ codes "</g>"
 
 -- all words of a live block, and over them its header and those that its payload leaves empty
-unfoldable pub fill_text : Grid → ℕ → ℕ → ℕ → List ℕ
-fill_text grid at size length =
-    spread_text grid at size ++ part_text (codes "head") grid at 3 ++ part_text (codes "slack") grid (at + used_words length) (size - used_words length)
+unfoldable pub fill_text : Grid → Fold → ℕ → ℕ → ℕ → List ℕ
+fill_text grid fold at size length =
+    rows_text grid fold at size ++ part_text (codes "head") grid at 3
+    ++ part_text (codes "slack") (below grid (hidden_in fold)) (at + used_words length) (size - used_words length)
 
 -- the begin of the group of a live block, with what is told of it
 unfoldable pub live_begin : PlacedBlock → Option ℕ → ℕ → ℕ → List ℕ
@@ -91,7 +122,8 @@ live_begin block label serial length = codes "<g class='live'><title>" ++ label_
 -- a live block
 unfoldable pub live_text : Grid → PlacedBlock → Option ℕ → ℕ → ℕ → List ℕ
 live_text grid block label serial length =
-    live_begin block label serial length ++ fill_text grid block.at block.size length ++ end_text grid block label (codes "live") length (codes "bytes")
+    live_begin block label serial length ++ fill_text grid (fold_of grid.row block) block.at block.size length
+    ++ end_text grid block label (codes "live") length (plural_of length (codes "byte") (codes "bytes"))
 
 -- a block of a heap
 abbrev pub content_text : Grid → MappedHeap → PlacedBlock → Option ℕ → Content → List ℕ

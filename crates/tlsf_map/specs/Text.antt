@@ -4,15 +4,16 @@ use Rattle.std.specs.Fmt.{decimal}
 use Rattle.tlsf_heap.specs.declared.placed_block.PlacedBlock.{PlacedBlock}
 use Rattle.tlsf_heap.specs.declared.placed_block.Content.{Content}
 use Rattle.tlsf_heap.specs.declared.placed_block.Content.TheVariants.{Free, Live}
-use Rattle.tlsf_heap.specs.declared.report.Report.{Report}
-use Rattle.tlsf_map.specs.Columns.{columns_before, gap_of, span_of}
-use Rattle.tlsf_map.specs.Svg.{used_words}
+use Rattle.tlsf_map.specs.Columns.{columns_before, gap_of, space_of, span_of}
+use Rattle.tlsf_map.specs.Folds.{fold_between, hidden_in, used_words}
+use Rattle.tlsf_map.specs.Numbers.{age_numbers, free_numbers, live_numbers, plural_of}
+use Rattle.tlsf_map.specs.declared.fold.Fold.{Fold}
 use Rattle.tlsf_map.specs.declared.mapped_heap.LabelledBlock.{LabelledBlock}
 use Rattle.tlsf_map.specs.declared.mapped_heap.MappedHeap.{MappedHeap}
 
 -- the begin of a row: the place of its first word
 unfoldable pub line_begin : ℕ → List ℕ
-line_begin place = codes "\n" ++ (gap_of place ++ (decimal place ++ codes " |"))
+line_begin place = codes "\n" ++ (gap_of place ++ (decimal place ++ (space_of place ++ codes "|")))
 
 -- the character of this number, in a new row behind each 64
 unfoldable pub row_begin : ℕ → ℕ → List ℕ
@@ -27,6 +28,24 @@ marks_text span number (suc count) mark = row_begin span number ++ mark ++ marks
 abbrev pub up_to : ℕ → ℕ → ℕ → List ℕ → List ℕ
 up_to span from end mark = marks_text span from (end - from) mark
 
+-- the line that is written for all of some rows of characters alike, and what it stands for
+unfoldable pub fold_line : ℕ → ℕ → ℕ → List ℕ → List ℕ
+fold_line place rows words mark =
+    codes "\n" ++ (gap_of place ++ (decimal place ++ (space_of place ++ (codes "~ " ++ (decimal rows ++ (codes " rows of " ++ (mark ++ (codes " alone, " ++ (decimal words ++ codes " words")))))))))
+
+unfoldable pub lines_text : ℕ → Fold → List ℕ → List ℕ
+lines_text span lines mark = fold_line (lines.at * span) lines.rows ((lines.end - lines.at) * span) mark
+
+-- characters alike from this number up to that with these rows among them, of which one is written for all where there are three or more
+unfoldable pub folded_marks : ℕ → Fold → ℕ → ℕ → List ℕ → List ℕ
+folded_marks span lines from end mark = up_to span from lines.at mark ++ lines_text span lines mark ++ up_to span lines.end end mark
+
+unfoldable pub rows_marks : ℕ → Fold → ℕ → ℕ → List ℕ → List ℕ
+rows_marks span lines from end mark = if hidden_in lines == 0 then up_to span from end mark else folded_marks span lines from end mark
+
+unfoldable pub alike_text : ℕ → ℕ → ℕ → List ℕ → List ℕ
+alike_text span from end mark = rows_marks span (fold_between 64 from end) from end mark
+
 -- whether a text of this width fits behind the first character of a block, in its row and in the characters of the block
 abbrev pub fits_behind : ℕ → ℕ → ℕ → Bool
 fits_behind first end width = nat_le (first % 64 + 1 + width) 64 && nat_le (first + 1 + width) end
@@ -39,7 +58,7 @@ label_marks first end (Some label) = if fits_behind first end (length (decimal l
 -- the header of a block up to its end, then its payload up to its end, and then what that leaves empty
 unfoldable pub fill_marks : ℕ → ℕ → ℕ → ℕ → ℕ → List ℕ
 fill_marks span from header payload end =
-    up_to span from header (codes "#") ++ up_to span (max from header) payload (codes "=") ++ up_to span (max (max from header) payload) end (codes "-")
+    up_to span from header (codes "#") ++ alike_text span (max from header) payload (codes "=") ++ up_to span (max (max from header) payload) end (codes "-")
 
 -- a live block with characters from this one up to that: a bracket, its label, and what it holds
 unfoldable pub live_marks : ℕ → PlacedBlock → Option ℕ → ℕ → ℕ → ℕ → List ℕ
@@ -57,7 +76,7 @@ age_mark age oldest = if nat_lt (oldest / 2) age then codes ":" else codes "."
 
 unfoldable pub free_marks : ℕ → MappedHeap → PlacedBlock → ℕ → ℕ → ℕ → List ℕ
 free_marks span heap block stamp first end =
-    up_to span first (first + 1) (free_mark block.size heap.report.largest) ++ up_to span (first + 1) end (age_mark (heap.tick - stamp) heap.report.age)
+    up_to span first (first + 1) (free_mark block.size heap.report.largest) ++ alike_text span (first + 1) end (age_mark (heap.tick - stamp) heap.report.age)
 
 abbrev pub content_marks : ℕ → MappedHeap → PlacedBlock → Option ℕ → ℕ → ℕ → Content → List ℕ
 content_marks span heap block label first end (Free stamp) = free_marks span heap block stamp first end
@@ -84,37 +103,29 @@ name_line span words heap =
     codes "\nheap " ++ (decimal heap.id ++ (codes ": " ++ (decimal words ++ (codes " words at tick " ++ (decimal heap.tick
     ++ (codes ", words a character: " ++ (decimal span ++ codes "\n")))))))
 
-unfoldable pub live_line : Report → List ℕ
-live_line report =
-    codes "live " ++ (decimal report.live_blocks ++ (codes " blocks, " ++ (decimal report.live_words
-    ++ (codes " words, " ++ (decimal report.live_bytes ++ (codes " bytes; waste " ++ (decimal report.waste ++ codes " bytes\n")))))))
-
-unfoldable pub free_line : Report → List ℕ
-free_line report =
-    codes "free " ++ (decimal report.free_blocks ++ (codes " blocks, " ++ (decimal report.free_words ++ (codes " words; largest " ++ (decimal report.largest
-    ++ (codes " words, grant " ++ (decimal report.grant ++ codes " bytes\n")))))))
-
-unfoldable pub age_line : Report → List ℕ
-age_line report = codes "fragmentation " ++ (decimal report.fragmentation ++ (codes "/1000; age " ++ (decimal report.age ++ codes " ticks")))
-
 unfoldable pub head_lines : ℕ → ℕ → MappedHeap → List ℕ
-head_lines span words heap = name_line span words heap ++ live_line heap.report ++ free_line heap.report ++ age_line heap.report
+head_lines span words heap =
+    name_line span words heap ++ live_numbers heap.report ++ codes "\n" ++ free_numbers heap.report ++ codes "\n" ++ age_numbers heap.report
 
 -- the line below them on so many blocks in which no character begins, where there are any
 unfoldable pub unseen_line : ℕ → List ℕ
-unseen_line count = codes "\n" ++ (decimal count ++ codes " blocks are not shown: none of them has the first word of a character")
+unseen_line count =
+    codes "\n" ++ (decimal count ++ plural_of count (codes " block is not shown: it has the first word of no character") (codes " blocks are not shown: none of them has the first word of a character"))
 
 unfoldable pub unseen_text : ℕ → List ℕ
 unseen_text count = if count == 0 then [] else unseen_line count
 
--- a heap
-unfoldable pub heap_lines : ℕ → ℕ → MappedHeap → List ℕ
-heap_lines span words heap =
+-- a heap, with so many words a character
+unfoldable pub heap_with : ℕ → ℕ → MappedHeap → List ℕ
+heap_with span words heap =
     head_lines span words heap ++ blocks_marks span heap heap.blocks.items ++ unseen_text (count_by (is_unseen span) heap.blocks.items) ++ codes "\n"
 
-abbrev pub heaps_lines : ℕ → ℕ → List MappedHeap → List ℕ
-heaps_lines span words [] = []
-heaps_lines span words (heap ∷ heaps) = heap_lines span words heap ++ heaps_lines span words heaps
+unfoldable pub heap_lines : ℕ → MappedHeap → List ℕ
+heap_lines words heap = heap_with (span_of words heap.blocks.items) words heap
+
+abbrev pub heaps_lines : ℕ → List MappedHeap → List ℕ
+heaps_lines words [] = []
+heaps_lines words (heap ∷ heaps) = heap_lines words heap ++ heaps_lines words heaps
 
 -- what each character is
 unfoldable pub key_line : List ℕ
@@ -122,4 +133,4 @@ key_line = codes "[ live block  # header  = payload  - empty  ( free  * largest 
 
 -- the picture of heaps with so many words each
 unfoldable pub text_of : ℕ → List MappedHeap → List ℕ
-text_of words heaps = key_line ++ heaps_lines (span_of words) words heaps
+text_of words heaps = key_line ++ heaps_lines words heaps

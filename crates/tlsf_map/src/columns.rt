@@ -1,25 +1,30 @@
 //! How words are laid out in characters.
 ghost use Rattle.std.specs.Prelude.{◌≡◌, ◌≤◌, ◌^◌};
-ghost use Rattle.tlsf_map.specs.Columns.{columns_before, gap_of, span_of, IsSpan};
+ghost use Rattle.tlsf_map.specs.Columns as layout;
+ghost use Rattle.tlsf_map.specs.Columns.{columns_before, gap_of, space_of, span_of, IsSpan};
 
-/// The words of a character in a picture of a heap with so many words: at most 16 rows of 64 characters for up to 2^20 words.
-pub fn span(words: u32) -> u64
-    ensures span { result ≡ span_of words }
+use crate::fold::{Fold, used_words};
+use crate::mapped_heap::LabelledBlock;
+use tlsf_heap::{Content, PlacedBlock};
+
+const MOST_WORDS_A_CHARACTER: u64 = 16_384;
+
+const MOST_LINES: u64 = 16;
+
+/// The words of a character in a picture of a heap with so many words and these blocks: as few as may be, from 1 up to 16,384 by
+/// powers of two, where at most 16 rows are written with them.
+pub fn span(words: u32, blocks: &[LabelledBlock]) -> u64
+    ensures span { result ≡ span_of words blocks.now }
     ensures sane { IsSpan result }
 {
-    if words <= 1024 {
-        1
-    } else if words <= 4096 {
-        4
-    } else if words <= 16384 {
-        16
-    } else if words <= 65536 {
-        64
-    } else if words <= 262_144 {
-        256
-    } else {
-        1024
+    let mut span = 1;
+    for _ in 0..14u64 {
+        if written_lines(span, words, blocks) <= MOST_LINES {
+            return span;
+        }
+        span = (2 * span).min(MOST_WORDS_A_CHARACTER);
     }
+    span
 }
 
 /// How many characters begin before a place.
@@ -30,6 +35,37 @@ pub fn columns(span: u64, place: u64) -> u64
     ensures most { result ≤ 2 ^ 35 }
 {
     (place + span - 1) / span
+}
+
+// The rows of a block that show its payload alone, or free words behind the first.
+fn lines(span: u64, block: PlacedBlock) -> Fold
+    requires { IsSpan span }
+    ensures { result ≡ layout.lines_of span block }
+{
+    let at = u64::from(block.at);
+    let from = columns(span, at) + 1;
+    match block.content {
+        Content::Free { .. } => {
+            Fold::between(64, from, columns(span, at + u64::from(block.size)))
+        }
+        Content::Live { length, .. } => Fold::between(
+            64,
+            from.max(columns(span, at + 3)),
+            columns(span, at + used_words(length)),
+        ),
+    }
+}
+
+// Those of the rows of so many words that are written where these blocks lie in them.
+fn written_lines(span: u64, words: u32, blocks: &[LabelledBlock]) -> u64
+    requires { IsSpan span }
+    ensures { result ≡ layout.written_lines span words blocks.now }
+{
+    let mut left = (columns(span, u64::from(words)) + 63) / 64;
+    for index in 0..blocks.len() {
+        left = left.saturating_sub(lines(span, blocks[index].block).hidden());
+    }
+    left
 }
 
 /// The spaces before a place, so that all places of up to seven digits end in one column.
@@ -51,4 +87,12 @@ pub fn gap(place: u64) -> &'static str
     } else {
         ""
     }
+}
+
+/// The space behind a place of up to seven digits.
+#[tactic(auto, unfolding(crate::specs::Columns::space_of))]
+pub fn space(place: u64) -> &'static str
+    ensures { result.now ≡ space_of place }
+{
+    if place < 10_000_000 { " " } else { "" }
 }

@@ -1,11 +1,13 @@
 //! The parts of a picture that show a block.
 ghost use Rattle.std.specs.Prelude.{◌≡◌, ◌++◌, ◌≤◌, ◌^◌, OnOk, string_bytes};
 ghost use Rattle.tlsf_map.specs.Grids.{IsGrid};
-ghost use Rattle.tlsf_map.specs.Svg.{shade_of, free_title, class_of_free, end_text, free_text, live_title, live_begin, part_text, fill_text, live_text, block_text};
+ghost use Rattle.tlsf_map.specs.Svg.{block_rows, shade_of, free_title, class_of_free, end_text, free_text, live_title, live_begin, part_text, fill_text, live_text, block_text};
 
+use crate::fold::{Fold, used_words};
 use crate::grid::Grid;
 use crate::mapped_heap::{LabelledBlock, MappedHeap};
-use crate::rectangles::{Caption, write_caption, write_label, write_spread};
+use crate::numbers::plural;
+use crate::rectangles::{Caption, write_caption, write_label, write_rows, write_spread};
 use std::alloc::AllocError;
 use tlsf_heap::{Content, PlacedBlock};
 
@@ -65,6 +67,21 @@ fn free_class(size: u32, largest: u32) -> &'static str
     }
 }
 
+// Adds all words of a block.
+#[tactic(auto, unfolding(crate::specs::Svg::block_rows))]
+fn write_block_rows(text: &mut String, grid: Grid, block: PlacedBlock) -> Result<(), AllocError>
+    requires { IsGrid grid }
+    ensures { OnOk result (string_bytes text.new ≡ string_bytes text.old ++ block_rows grid block) }
+{
+    write_rows(
+        text,
+        grid,
+        Fold::of(grid.row, block),
+        u64::from(block.at),
+        u64::from(block.size),
+    )
+}
+
 // Adds a free block of a heap.
 #[tactic(auto, unfolding(crate::specs::Svg::free_text))]
 fn write_free(
@@ -86,7 +103,7 @@ fn write_free(
         unit: "words",
     };
     write_free_title(text, block, stamp, class, shade)?;
-    write_spread(text, grid, u64::from(block.at), u64::from(block.size))?;
+    write_block_rows(text, grid, block)?;
     write_end(text, grid, block, &caption)
 }
 
@@ -100,9 +117,10 @@ fn write_live_title(
 {
     let at = block.at;
     let size = block.size;
+    let name = plural(length as u64, "byte", "bytes");
     write!(
         text,
-        ", place {at}, {size} words, {length} bytes, serial {serial}</title>"
+        ", place {at}, {size} words, {length} {name}, serial {serial}</title>"
     )
 }
 
@@ -121,7 +139,7 @@ fn write_part(
     ensures { OnOk result (string_bytes text.new ≡ string_bytes text.old ++ part_text class.now grid at words) }
 {
     write!(text, "<g class='{class}'>")?;
-    write_spread(text, grid, at, words)?;
+    write_spread(text, grid, false, at, words)?;
     text.push_str("</g>")
 }
 
@@ -130,19 +148,24 @@ fn write_part(
 fn write_fill(
     text: &mut String,
     grid: Grid,
+    fold: Fold,
     at: u64,
     size: u64,
     length: u32,
 ) -> Result<(), AllocError>
     requires grid { IsGrid grid }
+    requires begins { fold.at ≤ 2 ^ 33 }
+    requires ends { fold.end ≤ 2 ^ 33 }
+    requires rows { fold.rows ≤ 2 ^ 33 }
     requires place { at ≤ 2 ^ 32 }
     requires few { size ≤ 2 ^ 32 }
-    ensures { OnOk result (string_bytes text.new ≡ string_bytes text.old ++ fill_text grid at size length) }
+    ensures { OnOk result (string_bytes text.new ≡ string_bytes text.old ++ fill_text grid fold at size length) }
 {
-    let used = 3 + (u64::from(length) + 7) / 8;
-    write_spread(text, grid, at, size)?;
+    let used = used_words(length);
+    let below = grid.below(fold.hidden());
+    write_rows(text, grid, fold, at, size)?;
     write_part(text, "head", grid, at, 3)?;
-    write_part(text, "slack", grid, at + used, size.saturating_sub(used))
+    write_part(text, "slack", below, at + used, size.saturating_sub(used))
 }
 
 // Begins the group of a live block, with what is told of it.
@@ -178,12 +201,14 @@ fn write_live(
         label,
         name: "live",
         amount: length,
-        unit: "bytes",
+        unit: plural(length as u64, "byte", "bytes"),
     };
+    let fold = Fold::of(grid.row, block);
     write_live_begin(text, block, label, serial, length)?;
     write_fill(
         text,
         grid,
+        fold,
         u64::from(block.at),
         u64::from(block.size),
         length,

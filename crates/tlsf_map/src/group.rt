@@ -1,6 +1,6 @@
 ghost use Rattle.std.specs.Prelude.{◌≡◌, ◌++◌, ◌+◌, ◌≤◌, ◌<◌, ◌*◌, ◌^◌, ◌&&◌, [], ◌∷◌, ℕ, List, OnOk, true, nat_lt, string_bytes};
 ghost use Rattle.tlsf_map.specs.Grids.{IsGrid};
-ghost use Rattle.tlsf_map.specs.Groups.{is_narrow, live_size, joined_in, share_of, joined_title, joined_text, group_text, IsGroup};
+ghost use Rattle.tlsf_map.specs.Groups.{below_group, is_narrow, live_size, joined_in, share_of, joined_title, joined_text, group_text, IsGroup};
 ghost use Rattle.tlsf_map.specs.declared.mapped_heap.LabelledBlock.{LabelledBlock};
 
 use crate::drawn_blocks::write_block;
@@ -25,12 +25,12 @@ pub struct Group {
     pub narrow: bool,
 }
 
-// Whether a block is less than 4 pixels wide.
+// Whether a block is less than 4 of the 1,024 pixels of a row wide.
 fn is_narrow_in(grid: Grid, drawn: LabelledBlock) -> bool
     requires { IsGrid grid }
     ensures { result ≡ is_narrow grid drawn }
 {
-    u64::from(drawn.block.size) * grid.unit < 64
+    u64::from(drawn.block.size) * 256 < grid.row
 }
 
 // The words of a block where it is live.
@@ -78,7 +78,7 @@ fn write_joined(text: &mut String, grid: Grid, group: Group) -> Result<(), Alloc
 {
     let at = group.first.block.at;
     write_joined_title(text, group.count, at, group.words, group.live)?;
-    write_spread(text, grid, u64::from(at), group.words)?;
+    write_spread(text, grid, true, u64::from(at), group.words)?;
     text.push_str("</g>\n")
 }
 
@@ -99,17 +99,18 @@ impl Group {
 
     /// Whether the next block is drawn as one with this group.
     pub fn joins(self, grid: Grid, next: LabelledBlock) -> bool
-        requires { IsGrid grid }
-        ensures few { result ≡ true → self.words < 256 }
-        ensures joins { result ≡ (self.narrow && is_narrow grid next && nat_lt self.words 256) }
+        requires grid { IsGrid grid }
+        requires words { self.words ≤ 2 ^ 33 }
+        ensures few { result ≡ true → self.words < 2 ^ 12 }
+        ensures joins { result ≡ (self.narrow && is_narrow grid next && nat_lt (self.words * 64) grid.row) }
     {
-        self.narrow && is_narrow_in(grid, next) && self.words < 256
+        self.narrow && is_narrow_in(grid, next) && self.words * 64 < grid.row
     }
 
     /// The group with the next block.
     pub fn with(self, next: LabelledBlock) -> Group
         requires count { self.count + 1 < 2 ^ 64 }
-        requires words { self.words < 256 }
+        requires words { self.words < 2 ^ 12 }
         requires live { self.live ≤ self.words }
         ensures few { result.words ≤ 2 ^ 33 }
         ensures live { result.live ≤ result.words }
@@ -136,12 +137,25 @@ impl Group {
         if self.count == 1 { 0 } else { self.count }
     }
 
+    /// The grid below the group in this one.
+    pub fn below(self, grid: Grid) -> Grid
+        requires { IsGrid grid }
+        ensures grid { (base : Grid) (blocks : List LabelledBlock) → IsGroup base blocks self → result ≡ below_group grid blocks }
+        ensures sane { IsGrid result }
+    {
+        if self.count == 1 {
+            grid.below_block(self.first)
+        } else {
+            grid
+        }
+    }
+
     /// Adds the group to a picture.
     pub fn write(self, text: &mut String, grid: Grid, heap: &MappedHeap) -> Result<(), AllocError>
         requires grid { IsGrid grid }
         requires few { self.words ≤ 2 ^ 33 }
         requires live { self.live ≤ 2 ^ 33 }
-        ensures { (blocks : List LabelledBlock) → IsGroup grid blocks self
+        ensures { (base : Grid) (blocks : List LabelledBlock) → IsGroup base blocks self
             → OnOk result (string_bytes text.new ≡ string_bytes text.old ++ group_text grid heap.now blocks) }
     {
         if self.count == 1 {

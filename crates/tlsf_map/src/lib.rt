@@ -1,25 +1,28 @@
 //! Pictures of heaps: where each block lies, what it holds, and how well the free words serve.
 //!
-//! [`write_svg`] makes one picture of some heaps with equally many words. A heap is rows of words, read as a text is; a block is a
-//! rectangle in each row that it touches, as wide as its words in that row. A live block shows its header and what its payload
+//! [`write_svg`] makes one picture of some heaps with equally many words. A heap is rows of words, read as a text is, each with the
+//! place of its first word; a block is a rectangle in each row that it touches, as wide as its words in that row. Of three or more
+//! rows that show words of one block alone, all alike, one is drawn for all. A live block shows its header and what its payload
 //! leaves empty, and its label and its bytes where there is room; a free one is the darker, the longer it is free, and the greatest
-//! are framed. Above each heap stand the numbers of its [`Report`](tlsf_heap::Report). Neighbours that are too narrow to be seen are
-//! drawn as one.
+//! are framed. Above each heap stand the words of a row and the numbers of its [`Report`](tlsf_heap::Report). Neighbours that are
+//! too narrow to be seen are drawn as one.
 //!
 //! [`write_text`] makes one in the characters of a terminal, each for as many words as the picture says.
 //!
 //! Contracts see the pictures as the texts that `svg_text` of `specs/Page.antt` and `text_of` of `specs/Text.antt` spell. Rows and
-//! pieces are those of `specs/Grids.antt`, neighbours that are drawn as one those of `specs/Groups.antt`, and characters those of
-//! `specs/Columns.antt`.
+//! pieces are those of `specs/Grids.antt`, rows of which one is drawn for all those of `specs/Folds.antt`, neighbours that are drawn
+//! as one those of `specs/Groups.antt`, and characters those of `specs/Columns.antt`.
 #![tactic(auto)]
 
 mod columns;
 mod drawn_blocks;
+mod fold;
 mod grid;
 mod group;
 mod laws;
 mod mapped_heap;
 mod marks;
+mod numbers;
 mod page;
 mod rectangles;
 mod text_page;

@@ -1,11 +1,11 @@
 //! The characters that show a block.
 ghost use Rattle.std.specs.Prelude.{◌≡◌, ◌++◌, ◌+◌, ◌≤◌, ◌^◌, decimal, length, IfOk, OnOk, string_bytes};
 ghost use Rattle.tlsf_map.specs.Columns.{columns_before, IsSpan};
-ghost use Rattle.tlsf_map.specs.Svg.{used_words};
 ghost use Rattle.tlsf_map.specs.Text as lines;
-ghost use Rattle.tlsf_map.specs.Text.{age_mark, block_marks, content_marks, fill_marks, fits_behind, free_marks, is_unseen, label_marks, line_begin, live_marks, row_begin, up_to};
+ghost use Rattle.tlsf_map.specs.Text.{age_mark, alike_text, block_marks, content_marks, fill_marks, fits_behind, fold_line, folded_marks, free_marks, is_unseen, label_marks, line_begin, lines_text, live_marks, row_begin, rows_marks, up_to};
 
-use crate::columns::{columns, gap};
+use crate::columns::{columns, gap, space};
+use crate::fold::{Fold, used_words};
 use crate::mapped_heap::{LabelledBlock, MappedHeap};
 use std::alloc::AllocError;
 use tlsf_heap::{Content, PlacedBlock};
@@ -14,14 +14,15 @@ fn write_line_begin(text: &mut String, place: u64) -> Result<(), AllocError>
     ensures { OnOk result (string_bytes text.new ≡ string_bytes text.old ++ line_begin place) }
 {
     let gap = gap(place);
-    write!(text, "\n{gap}{place} |")
+    let space = space(place);
+    write!(text, "\n{gap}{place}{space}|")
 }
 
 // Begins a row where the character of this number is the first of one.
 #[tactic(auto, unfolding(crate::specs::Text::row_begin))]
 fn write_row_begin(text: &mut String, span: u64, number: u64) -> Result<(), AllocError>
     requires span { IsSpan span }
-    requires number { number ≤ 2 ^ 36 }
+    requires number { number ≤ 2 ^ 37 }
     ensures { OnOk result (string_bytes text.new ≡ string_bytes text.old ++ row_begin span number) }
 {
     if number % 64 == 0 {
@@ -39,7 +40,7 @@ fn write_up_to(
     mark: &str,
 ) -> Result<(), AllocError>
     requires span { IsSpan span }
-    requires end { end ≤ 2 ^ 36 }
+    requires end { end ≤ 2 ^ 37 }
     ensures { OnOk result (string_bytes text.new ≡ string_bytes text.old ++ up_to span from end mark.now) }
 {
     for number in from..end {
@@ -47,6 +48,99 @@ fn write_up_to(
         text.push_str(mark)?;
     }
     Ok(())
+}
+
+fn write_fold_line(
+    text: &mut String,
+    place: u64,
+    rows: u64,
+    words: u64,
+    mark: &str,
+) -> Result<(), AllocError>
+    ensures { OnOk result (string_bytes text.new ≡ string_bytes text.old ++ fold_line place rows words mark.now) }
+{
+    let gap = gap(place);
+    let space = space(place);
+    write!(
+        text,
+        "\n{gap}{place}{space}~ {rows} rows of {mark} alone, {words} words"
+    )
+}
+
+// Adds the line that is written for all of some rows of characters alike.
+#[tactic(auto, unfolding(crate::specs::Text::lines_text))]
+fn write_lines(text: &mut String, span: u64, lines: Fold, mark: &str) -> Result<(), AllocError>
+    requires span { IsSpan span }
+    requires begins { lines.at ≤ 2 ^ 37 }
+    requires ends { lines.end ≤ 2 ^ 37 }
+    ensures { OnOk result (string_bytes text.new ≡ string_bytes text.old ++ lines_text span lines mark.now) }
+{
+    write_fold_line(
+        text,
+        lines.at * span,
+        lines.rows,
+        lines.end.saturating_sub(lines.at) * span,
+        mark,
+    )
+}
+
+#[tactic(auto, unfolding(crate::specs::Text::folded_marks))]
+fn write_folded(
+    text: &mut String,
+    span: u64,
+    lines: Fold,
+    from: u64,
+    end: u64,
+    mark: &str,
+) -> Result<(), AllocError>
+    requires span { IsSpan span }
+    requires begins { lines.at ≤ 2 ^ 37 }
+    requires ends { lines.end ≤ 2 ^ 37 }
+    requires end { end ≤ 2 ^ 37 }
+    ensures { OnOk result (string_bytes text.new ≡ string_bytes text.old ++ folded_marks span lines from end mark.now) }
+{
+    write_up_to(text, span, from, lines.at, mark)?;
+    write_lines(text, span, lines, mark)?;
+    write_up_to(text, span, lines.end, end, mark)
+}
+
+#[tactic(auto, unfolding(crate::specs::Text::rows_marks))]
+fn write_rows_of(
+    text: &mut String,
+    span: u64,
+    lines: Fold,
+    from: u64,
+    end: u64,
+    mark: &str,
+) -> Result<(), AllocError>
+    requires span { IsSpan span }
+    requires begins { lines.at ≤ 2 ^ 37 }
+    requires ends { lines.end ≤ 2 ^ 37 }
+    requires end { end ≤ 2 ^ 37 }
+    ensures { OnOk result (string_bytes text.new ≡ string_bytes text.old ++ rows_marks span lines from end mark.now) }
+{
+    if lines.hidden() == 0 {
+        write_up_to(text, span, from, end, mark)
+    } else {
+        write_folded(text, span, lines, from, end, mark)
+    }
+}
+
+// Adds characters alike, from a number up to another; where they fill three rows or more, a line stands for these.
+#[tactic(auto, unfolding(crate::specs::Text::alike_text))]
+fn write_alike(
+    text: &mut String,
+    span: u64,
+    from: u64,
+    end: u64,
+    mark: &str,
+) -> Result<(), AllocError>
+    requires span { IsSpan span }
+    requires from { from ≤ 2 ^ 36 }
+    requires end { end ≤ 2 ^ 36 }
+    ensures { OnOk result (string_bytes text.new ≡ string_bytes text.old ++ alike_text span from end mark.now) }
+{
+    write_rows_of(text, span, Fold::between(64, from, end), from, end, mark)
 }
 
 // How many digits a number has.
@@ -106,6 +200,7 @@ fn write_fill_marks(
     end: u64,
 ) -> Result<(), AllocError>
     requires span { IsSpan span }
+    requires from { from ≤ 2 ^ 36 }
     requires header { header ≤ 2 ^ 35 }
     requires payload { payload ≤ 2 ^ 35 }
     requires end { end ≤ 2 ^ 35 }
@@ -113,7 +208,7 @@ fn write_fill_marks(
 {
     write_up_to(text, span, from, header, "#")?;
     let filled = from.max(header);
-    write_up_to(text, span, filled, payload, "=")?;
+    write_alike(text, span, filled, payload, "=")?;
     write_up_to(text, span, filled.max(payload), end, "-")
 }
 
@@ -135,7 +230,7 @@ fn write_live_marks(
 {
     let at = u64::from(block.at);
     let header = columns(span, at + 3);
-    let payload = columns(span, at + (3 + (u64::from(length) + 7) / 8));
+    let payload = columns(span, at + used_words(length));
     write_up_to(text, span, first, first + 1, "[")?;
     let width = write_label_marks(text, first, end, label)?;
     write_fill_marks(text, span, first + 1 + width, header, payload, end)
@@ -174,7 +269,7 @@ fn write_free_marks(
     let mark = free_mark(block.size, heap.report.largest);
     let age = mark_of_age(heap.tick.saturating_sub(stamp), heap.report.age);
     write_up_to(text, span, first, first + 1, mark)?;
-    write_up_to(text, span, first + 1, end, age)
+    write_alike(text, span, first + 1, end, age)
 }
 
 // Adds a block with characters from this one up to that.

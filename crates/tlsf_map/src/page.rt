@@ -2,79 +2,69 @@
 ghost use Rattle.std.specs.Prelude.{◌≡◌, ◌++◌, ◌≤◌, ◌^◌, ◌*◌, ◌+◌, length, IfOk, OnOk, string_bytes};
 ghost use Rattle.tlsf_map.specs.Grids.{IsGrid};
 ghost use Rattle.tlsf_map.specs.Groups.{groups_of, groups_text, joined_of, note_line, note_text};
-ghost use Rattle.tlsf_map.specs.Page.{begin_text, blocks_text, live_numbers, free_numbers, room_numbers, heap_head, heap_text, heaps_text, page_begin, key_text, svg_text};
+ghost use Rattle.tlsf_map.specs.Page.{begin_text, blocks_text, heap_head, heap_in, heap_text, heaps_end, heaps_text, height_of, key_text, numbers_text, page_begin, svg_text};
 
 use crate::grid::Grid;
 use crate::group::Group;
 use crate::mapped_heap::MappedHeap;
+use crate::numbers::{write_age_numbers, write_free_numbers, write_live_numbers};
 use std::alloc::AllocError;
 use tlsf_heap::Report;
 
 // Colours by the reader's scheme: dark blue, blue and orange for header, payload and what it leaves empty, green for free words,
 // violet for neighbours that are drawn as one.
 const STYLE: &str =
-    "<style>text{font:176px ui-monospace,Menlo,Consolas,monospace;fill:#1f2328}.name{font-size:208px;font-weight:600}.numbers{font-size:144px}.page{fill:#fff}.live{fill:#4f83cc}.head{fill:#2b4f86}.slack{fill:#e3a04f}.free{fill:#2e9e6b}.joined{fill:#8257c9}.largest rect{stroke:#b4232a;stroke-width:32}.caption text{fill:#fff;fill-opacity:1}.free .caption text{fill:#1f2328}rect{stroke:#fff;stroke-width:16}@media(prefers-color-scheme:dark){text,.free .caption text{fill:#e6edf3}.page{fill:#0d1117}rect{stroke:#0d1117}.live{fill:#3f6fb5}.head{fill:#1d3c6b}.slack{fill:#b97a2e}.joined{fill:#9d7be0}.largest rect{stroke:#ff7b72}}</style><rect class='page' width='100%' height='100%'/>\n";
+    "<style>text{font:176px ui-monospace,Menlo,Consolas,monospace;fill:#1f2328}.name{font-size:208px;font-weight:600}.numbers,.place{font-size:144px}.place{text-anchor:end;fill-opacity:1}.page{fill:#fff}.live{fill:#4f83cc}.head{fill:#2b4f86}.slack{fill:#e3a04f}.free{fill:#2e9e6b}.joined{fill:#8257c9}.caption text{fill:#fff;fill-opacity:1}.free .caption text{fill:#1f2328}text.fold{text-anchor:middle}rect{stroke:#fff;stroke-width:8}.free rect,rect.free{stroke:#2e9e6b}.joined rect,rect.joined{stroke:#8257c9}rect.fold{stroke-width:40;stroke-dasharray:96 96}.largest rect{stroke:#b4232a;stroke-width:32}@media(prefers-color-scheme:dark){text,.free .caption text{fill:#e6edf3}.page{fill:#0d1117}rect{stroke:#0d1117}.live{fill:#3f6fb5}.head{fill:#1d3c6b}.slack{fill:#b97a2e}.joined{fill:#9d7be0}.joined rect,rect.joined{stroke:#9d7be0}.largest rect{stroke:#ff7b72}}</style><rect class='page' width='100%' height='100%'/>\n";
 
 // What each colour is.
 const KEY: &str =
-    "<g transform='translate(256 128)'><rect class='head' width='256' height='256'/><text x='352' y='200'>header</text><rect class='live' x='1792' width='256' height='256'/><text x='2144' y='200'>payload</text><rect class='slack' x='3584' width='256' height='256'/><text x='3936' y='200'>left empty</text><rect class='free' x='5888' width='256' height='256' fill-opacity='.15'/><text x='6240' y='200'>just freed</text><rect class='free' x='8192' width='256' height='256' fill-opacity='.85'/><text x='8544' y='200'>free longest</text><g class='largest'><rect class='free' x='10880' width='256' height='256' fill-opacity='.5'/></g><text x='11232' y='200'>largest free</text><rect class='joined' x='13184' width='256' height='256' fill-opacity='.5'/><text x='13536' y='200'>drawn as one</text></g>\n";
+    "<g transform='translate(1024 128)'><rect class='head' width='256' height='256'/><text x='352' y='200'>header</text><rect class='live' x='2048' width='256' height='256'/><text x='2400' y='200'>payload</text><rect class='slack' x='4096' width='256' height='256'/><text x='4448' y='200'>left empty</text><g class='largest'><rect class='free' x='6656' width='256' height='256' fill-opacity='.50'/></g><text x='7008' y='200'>largest free</text><rect class='live fold' x='9728' width='1024' height='256'/><text x='10848' y='200'>one row for many alike</text><rect class='free' y='384' width='256' height='256' fill-opacity='.15'/><rect class='free' x='256' y='384' width='256' height='256' fill-opacity='.33'/><rect class='free' x='512' y='384' width='256' height='256' fill-opacity='.50'/><rect class='free' x='768' y='384' width='256' height='256' fill-opacity='.67'/><rect class='free' x='1024' y='384' width='256' height='256' fill-opacity='.85'/><text x='1376' y='584'>free: just now to longest</text><rect class='joined' x='6656' y='384' width='256' height='256' fill-opacity='.15'/><rect class='joined' x='6912' y='384' width='256' height='256' fill-opacity='.33'/><rect class='joined' x='7168' y='384' width='256' height='256' fill-opacity='.50'/><rect class='joined' x='7424' y='384' width='256' height='256' fill-opacity='.67'/><rect class='joined' x='7680' y='384' width='256' height='256' fill-opacity='.85'/><text x='8032' y='584'>drawn as one: all free to all live</text></g>\n";
 
-fn write_begin(text: &mut String, y: u64, words: u32, heap: &MappedHeap) -> Result<(), AllocError>
-    ensures { OnOk result (string_bytes text.new ≡ string_bytes text.old ++ begin_text y words heap.now) }
+// The height at which the first heap begins, below the key.
+const TOP: u64 = 1088;
+
+fn write_begin(
+    text: &mut String,
+    y: u64,
+    words: u32,
+    row: u64,
+    heap: &MappedHeap,
+) -> Result<(), AllocError>
+    ensures { OnOk result (string_bytes text.new ≡ string_bytes text.old ++ begin_text y words row heap.now) }
 {
     let id = heap.id;
     let tick = heap.tick;
     write!(
         text,
-        "<g transform='translate(256 {y})'><text class='name' y='320'>heap {id}: {words} words at tick {tick}</text>\n"
+        "<g transform='translate(1024 {y})'><text class='name' y='320'>heap {id}: {words} words at tick {tick}, {row} words a row</text>\n"
     )
 }
 
-fn write_live_numbers(text: &mut String, report: &Report) -> Result<(), AllocError>
-    ensures { OnOk result (string_bytes text.new ≡ string_bytes text.old ++ live_numbers report.now) }
+#[tactic(auto, unfolding(crate::specs::Page::numbers_text))]
+fn write_numbers(text: &mut String, report: &Report) -> Result<(), AllocError>
+    ensures { OnOk result (string_bytes text.new ≡ string_bytes text.old ++ numbers_text report.now) }
 {
-    let blocks = report.live_blocks;
-    let words = report.live_words;
-    let bytes = report.live_bytes;
-    let waste = report.waste;
-    write!(
-        text,
-        "<text class='numbers' y='608'>live {blocks} blocks, {words} words, {bytes} bytes; waste {waste} bytes; "
-    )
-}
-
-fn write_free_numbers(text: &mut String, report: &Report) -> Result<(), AllocError>
-    ensures { OnOk result (string_bytes text.new ≡ string_bytes text.old ++ free_numbers report.now) }
-{
-    let blocks = report.free_blocks;
-    let words = report.free_words;
-    let largest = report.largest;
-    write!(
-        text,
-        "free {blocks} blocks, {words} words; largest {largest} words"
-    )
-}
-
-fn write_room_numbers(text: &mut String, report: &Report) -> Result<(), AllocError>
-    ensures { OnOk result (string_bytes text.new ≡ string_bytes text.old ++ room_numbers report.now) }
-{
-    let grant = report.grant;
-    let fragmentation = report.fragmentation;
-    let age = report.age;
-    write!(
-        text,
-        ", grant {grant} bytes; fragmentation {fragmentation}/1000; age {age} ticks</text>\n"
-    )
+    text.push_str("<text class='numbers' y='608'>")?;
+    write_live_numbers(text, report)?;
+    text.push_str("; ")?;
+    write_free_numbers(text, report)?;
+    text.push_str("; ")?;
+    write_age_numbers(text, report)?;
+    text.push_str("</text>\n")
 }
 
 #[tactic(auto, unfolding(crate::specs::Page::heap_head))]
-fn write_head(text: &mut String, y: u64, words: u32, heap: &MappedHeap) -> Result<(), AllocError>
-    ensures { OnOk result (string_bytes text.new ≡ string_bytes text.old ++ heap_head y words heap.now) }
+fn write_head(
+    text: &mut String,
+    y: u64,
+    words: u32,
+    row: u64,
+    heap: &MappedHeap,
+) -> Result<(), AllocError>
+    ensures { OnOk result (string_bytes text.new ≡ string_bytes text.old ++ heap_head y words row heap.now) }
 {
-    write_begin(text, y, words, heap)?;
-    write_live_numbers(text, &heap.report)?;
-    write_free_numbers(text, &heap.report)?;
-    write_room_numbers(text, &heap.report)
+    write_begin(text, y, words, row, heap)?;
+    write_numbers(text, &heap.report)
 }
 
 // Adds the groups of a heap's blocks, and says how many blocks are drawn as one with others.
@@ -87,6 +77,7 @@ fn write_groups(text: &mut String, grid: Grid, heap: &MappedHeap) -> Result<u64,
         return Ok(0);
     }
     let mut group = Group::of(grid, heap.blocks[0]);
+    let mut here = grid;
     let mut joined = 0;
     for index in 1..heap.blocks.len() {
         let next = heap.blocks[index];
@@ -94,11 +85,12 @@ fn write_groups(text: &mut String, grid: Grid, heap: &MappedHeap) -> Result<u64,
             group = group.with(next);
         } else {
             joined += group.joined();
-            group.write(text, grid, heap)?;
+            group.write(text, here, heap)?;
+            here = group.below(here);
             group = Group::of(grid, next);
         }
     }
-    group.write(text, grid, heap)?;
+    group.write(text, here, heap)?;
     Ok(joined + group.joined())
 }
 
@@ -131,9 +123,9 @@ fn write_blocks(text: &mut String, grid: Grid, heap: &MappedHeap) -> Result<(), 
     write_note(text, joined)
 }
 
-// Adds a heap, with its numbers above it.
-#[tactic(auto, unfolding(crate::specs::Page::heap_text))]
-fn write_heap(
+// Adds a heap in a grid, with its numbers above it.
+#[tactic(auto, unfolding(crate::specs::Page::heap_in))]
+fn write_heap_in(
     text: &mut String,
     grid: Grid,
     y: u64,
@@ -141,32 +133,50 @@ fn write_heap(
     heap: &MappedHeap,
 ) -> Result<(), AllocError>
     requires { IsGrid grid }
-    ensures { OnOk result (string_bytes text.new ≡ string_bytes text.old ++ heap_text grid y words heap.now) }
+    ensures { OnOk result (string_bytes text.new ≡ string_bytes text.old ++ heap_in grid y words heap.now) }
 {
-    write_head(text, y, words, heap)?;
+    write_head(text, y, words, grid.row, heap)?;
     write_blocks(text, grid, heap)?;
     text.push_str("</g>\n")
 }
 
-fn write_heaps(
-    text: &mut String,
-    grid: Grid,
-    words: u32,
-    heaps: &[MappedHeap],
-) -> Result<(), AllocError>
-    requires grid { IsGrid grid }
-    requires few { length heaps.now ≤ 8 }
-    ensures { OnOk result (string_bytes text.new ≡ string_bytes text.old ++ heaps_text grid words 0 heaps.now) }
+// Adds a heap in its own grid.
+#[tactic(auto, unfolding(crate::specs::Page::heap_text))]
+fn write_heap(text: &mut String, y: u64, words: u32, heap: &MappedHeap) -> Result<(), AllocError>
+    ensures { OnOk result (string_bytes text.new ≡ string_bytes text.old ++ heap_text y words heap.now) }
 {
-    let height = grid.height(words);
+    write_heap_in(text, Grid::of(words, &heap.blocks), y, words, heap)
+}
+
+// The height of a heap with so many words.
+#[tactic(auto, unfolding(crate::specs::Page::height_of))]
+fn height(words: u32, heap: &MappedHeap) -> u64
+    ensures height { result ≡ height_of words heap.now }
+    ensures most { result ≤ 2 ^ 46 }
+{
+    Grid::of(words, &heap.blocks).height(words, &heap.blocks)
+}
+
+// The height at which the last of some heaps ends.
+fn end_of(words: u32, heaps: &[MappedHeap]) -> u64
+    requires { length heaps.now ≤ 8 }
+    ensures { result ≡ heaps_end 1088 words heaps.now }
+{
+    let mut y = TOP;
     for number in 0..heaps.len() {
-        write_heap(
-            text,
-            grid,
-            768 + number as u64 * height,
-            words,
-            &heaps[number],
-        )?;
+        y += height(words, &heaps[number]);
+    }
+    y
+}
+
+fn write_heaps(text: &mut String, words: u32, heaps: &[MappedHeap]) -> Result<(), AllocError>
+    requires { length heaps.now ≤ 8 }
+    ensures { OnOk result (string_bytes text.new ≡ string_bytes text.old ++ heaps_text 1088 words heaps.now) }
+{
+    let mut y = TOP;
+    for number in 0..heaps.len() {
+        write_heap(text, y, words, &heaps[number])?;
+        y += height(words, &heaps[number]);
     }
     Ok(())
 }
@@ -177,7 +187,7 @@ fn write_page_begin(text: &mut String, height: u64) -> Result<(), AllocError>
     let pixels = height / 16;
     write!(
         text,
-        "<svg xmlns='http://www.w3.org/2000/svg' width='1056' height='{pixels}' viewBox='0 0 16896 {height}'>\n"
+        "<svg xmlns='http://www.w3.org/2000/svg' width='1104' height='{pixels}' viewBox='0 0 17664 {height}'>\n"
     )
 }
 
@@ -193,7 +203,7 @@ fn write_key(text: &mut String) -> Result<(), AllocError>
 ///
 /// ```text
 /// let mut text = String::new(alloc);
-/// write_svg(&mut text, 64, &heaps)?;      // "<svg xmlns='http://www.w3.org/2000/svg' width='1056' .."
+/// write_svg(&mut text, 64, &heaps)?;      // "<svg xmlns='http://www.w3.org/2000/svg' width='1104' .."
 /// ```
 ///
 /// # Errors
@@ -204,9 +214,8 @@ pub fn write_svg(text: &mut String, words: u32, heaps: &[MappedHeap]) -> Result<
     requires { length heaps.now ≤ 8 }
     ensures { OnOk result (string_bytes text.new ≡ string_bytes text.old ++ svg_text words heaps.now) }
 {
-    let grid = Grid::of(words);
-    write_page_begin(text, 768 + heaps.len() as u64 * grid.height(words))?;
+    write_page_begin(text, end_of(words, heaps))?;
     write_key(text)?;
-    write_heaps(text, grid, words, heaps)?;
+    write_heaps(text, words, heaps)?;
     text.push_str("</svg>\n")
 }

@@ -2,13 +2,13 @@
 ghost use Rattle.std.specs.Prelude.{◌≡◌, ◌++◌, count_by, IfOk, OnOk, string_bytes};
 ghost use Rattle.tlsf_map.specs.Columns.{IsSpan};
 ghost use Rattle.tlsf_map.specs.Text as lines;
-ghost use Rattle.tlsf_map.specs.Text.{age_line, blocks_marks, free_line, head_lines, heap_lines, heaps_lines, is_unseen, key_line, live_line, name_line, text_of, unseen_text};
+ghost use Rattle.tlsf_map.specs.Text.{blocks_marks, head_lines, heap_lines, heap_with, heaps_lines, is_unseen, key_line, name_line, text_of, unseen_text};
 
 use crate::columns::span;
 use crate::mapped_heap::MappedHeap;
 use crate::marks::write_block_marks;
+use crate::numbers::{plural, write_age_numbers, write_free_numbers, write_live_numbers};
 use std::alloc::AllocError;
-use tlsf_heap::Report;
 
 // What each character is.
 const KEY: &str = "[ live block  # header  = payload  - empty  ( free  * largest  . young  : old\n";
@@ -29,40 +29,6 @@ fn write_name_line(
     )
 }
 
-fn write_live_line(text: &mut String, report: &Report) -> Result<(), AllocError>
-    ensures { OnOk result (string_bytes text.new ≡ string_bytes text.old ++ live_line report.now) }
-{
-    let blocks = report.live_blocks;
-    let words = report.live_words;
-    let bytes = report.live_bytes;
-    let waste = report.waste;
-    write!(
-        text,
-        "live {blocks} blocks, {words} words, {bytes} bytes; waste {waste} bytes\n"
-    )
-}
-
-fn write_free_line(text: &mut String, report: &Report) -> Result<(), AllocError>
-    ensures { OnOk result (string_bytes text.new ≡ string_bytes text.old ++ free_line report.now) }
-{
-    let blocks = report.free_blocks;
-    let words = report.free_words;
-    let largest = report.largest;
-    let grant = report.grant;
-    write!(
-        text,
-        "free {blocks} blocks, {words} words; largest {largest} words, grant {grant} bytes\n"
-    )
-}
-
-fn write_age_line(text: &mut String, report: &Report) -> Result<(), AllocError>
-    ensures { OnOk result (string_bytes text.new ≡ string_bytes text.old ++ age_line report.now) }
-{
-    let fragmentation = report.fragmentation;
-    let age = report.age;
-    write!(text, "fragmentation {fragmentation}/1000; age {age} ticks")
-}
-
 #[tactic(auto, unfolding(crate::specs::Text::head_lines))]
 fn write_head_lines(
     text: &mut String,
@@ -73,9 +39,11 @@ fn write_head_lines(
     ensures { OnOk result (string_bytes text.new ≡ string_bytes text.old ++ head_lines span words heap.now) }
 {
     write_name_line(text, span, words, heap)?;
-    write_live_line(text, &heap.report)?;
-    write_free_line(text, &heap.report)?;
-    write_age_line(text, &heap.report)
+    write_live_numbers(text, &heap.report)?;
+    text.push_str("\n")?;
+    write_free_numbers(text, &heap.report)?;
+    text.push_str("\n")?;
+    write_age_numbers(text, &heap.report)
 }
 
 // Adds the blocks of a heap, and says in how many no character begins.
@@ -96,10 +64,12 @@ fn write_rows(text: &mut String, span: u64, heap: &MappedHeap) -> Result<u64, Al
 fn write_unseen_line(text: &mut String, count: u64) -> Result<(), AllocError>
     ensures { OnOk result (string_bytes text.new ≡ string_bytes text.old ++ lines.unseen_line count) }
 {
-    write!(
-        text,
-        "\n{count} blocks are not shown: none of them has the first word of a character"
-    )
+    let are = plural(
+        count,
+        " block is not shown: it has the first word of no character",
+        " blocks are not shown: none of them has the first word of a character",
+    );
+    write!(text, "\n{count}{are}")
 }
 
 // Adds the line on so many blocks that aren't shown, where there are any.
@@ -113,15 +83,16 @@ fn write_unseen(text: &mut String, count: u64) -> Result<(), AllocError>
     write_unseen_line(text, count)
 }
 
-#[tactic(auto, unfolding(crate::specs::Text::heap_lines))]
-fn write_heap_lines(
+// Adds a heap, with so many words a character.
+#[tactic(auto, unfolding(crate::specs::Text::heap_with))]
+fn write_heap_with(
     text: &mut String,
     span: u64,
     words: u32,
     heap: &MappedHeap,
 ) -> Result<(), AllocError>
     requires { IsSpan span }
-    ensures { OnOk result (string_bytes text.new ≡ string_bytes text.old ++ heap_lines span words heap.now) }
+    ensures { OnOk result (string_bytes text.new ≡ string_bytes text.old ++ heap_with span words heap.now) }
 {
     write_head_lines(text, span, words, heap)?;
     let unseen = write_rows(text, span, heap)?;
@@ -129,17 +100,18 @@ fn write_heap_lines(
     text.push_str("\n")
 }
 
-fn write_heaps_lines(
-    text: &mut String,
-    span: u64,
-    words: u32,
-    heaps: &[MappedHeap],
-) -> Result<(), AllocError>
-    requires { IsSpan span }
-    ensures { OnOk result (string_bytes text.new ≡ string_bytes text.old ++ heaps_lines span words heaps.now) }
+#[tactic(auto, unfolding(crate::specs::Text::heap_lines))]
+fn write_heap_lines(text: &mut String, words: u32, heap: &MappedHeap) -> Result<(), AllocError>
+    ensures { OnOk result (string_bytes text.new ≡ string_bytes text.old ++ heap_lines words heap.now) }
+{
+    write_heap_with(text, span(words, &heap.blocks), words, heap)
+}
+
+fn write_heaps_lines(text: &mut String, words: u32, heaps: &[MappedHeap]) -> Result<(), AllocError>
+    ensures { OnOk result (string_bytes text.new ≡ string_bytes text.old ++ heaps_lines words heaps.now) }
 {
     for number in 0..heaps.len() {
-        write_heap_lines(text, span, words, &heaps[number])?;
+        write_heap_lines(text, words, &heaps[number])?;
     }
     Ok(())
 }
@@ -166,5 +138,5 @@ pub fn write_text(text: &mut String, words: u32, heaps: &[MappedHeap]) -> Result
     ensures { OnOk result (string_bytes text.new ≡ string_bytes text.old ++ text_of words heaps.now) }
 {
     write_key_line(text)?;
-    write_heaps_lines(text, span(words), words, heaps)
+    write_heaps_lines(text, words, heaps)
 }

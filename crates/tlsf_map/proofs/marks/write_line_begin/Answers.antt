@@ -4,4 +4,4 @@ use Rattle.tlsf_map.proofs.marks.write_line_begin.Goals as goal
 
 pub returns : goal.returns
 unfolding line_begin
-returns c = rw (sym c.gap-gap.ensures) c.write.ensures.bytes
+returns c = rw (sym c.gap-gap.ensures, sym c.space-space.ensures) c.write.ensures.bytes

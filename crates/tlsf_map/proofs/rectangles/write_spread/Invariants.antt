@@ -7,5 +7,5 @@ use Rattle.tlsf_map.proofs.rectangles.write_spread.Given as goal
 abbrev pub invariant-loop : goal.invariant-loop
 invariant-loop l = record {
   left : l.place + l.left ≡ l.fn.at + l.fn.words;
-  so_far : string_bytes l.text ++ pieces_text l.grid (cut (l.rows - l.counter) l.grid l.place l.left) ≡ string_bytes l.fn.text ++ spread_text l.grid l.fn.at l.fn.words;
+  so_far : string_bytes l.text ++ pieces_text l.grid l.wanted (cut (l.rows - l.counter) l.grid l.place l.left) ≡ string_bytes l.fn.text ++ spread_text l.grid l.wanted l.fn.at l.fn.words;
 }
