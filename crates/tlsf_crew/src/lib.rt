@@ -19,11 +19,12 @@
 //! (`IsRace`). A [`Gate`] is passed before each call, where a test can have the threads meet. Where no script takes posts,
 //! [`race_without_takes`] says which records and which world each schedule leads to.
 //!
-//! Each call of a `Worker` takes no memory and doesn't wait, and keeps its yard whole.
+//! Each call of a `Worker` takes no memory and doesn't wait, and keeps its yard whole. A worker of either kind is `Send`, at each
+//! level: a `move` closure takes it into a thread, and its caller proves nothing of that.
 //!
 //! [`open_queue_yard`] opens a yard of another kind, with one queue for each owner, into which all others post. Each
-//! [`QueueWorker`] takes from its own. Such a yard (`IsQueueYard`) shows a `World` too; `post`, `take` and `drain` may wait
-//! for another thread's half of a step, and so are passed a runtime. [`race_queues`] races such workers (`IsQueueRace`): each
+//! [`QueueWorker`] takes from its own. Such a yard (`IsQueueYard`) shows a `World` too; `post`, `release`, `take` and `drain` may
+//! wait for another thread's half of a step, and so are passed a runtime. [`race_queues`] races such workers (`IsQueueRace`): each
 //! two records agree on what was posted and taken, poster by poster. [`queue_race_without_takes`] says when every schedule
 //! leads to the same.
 //!
