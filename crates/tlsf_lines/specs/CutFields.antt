@@ -1,4 +1,4 @@
--- The fields of a line as they are cut off, one after another. This serves the contracts of private functions alone.
+-- The fields of a line as they are cut off, one after another.
 use Rattle.std.specs.Prelude.{ℕ, ◌==◌, List, [], ◌∷◌, Option, Some, None, option_map}
 use Rattle.std.specs.Borrow.{Bor}
 use Rattle.std.specs.List.{slice_split}

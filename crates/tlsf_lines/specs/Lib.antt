@@ -24,8 +24,8 @@ pub mod Laws
 pub use Rattle.tlsf_calls.specs.Bytes
 pub use Rattle.tlsf_calls.specs.Entries
 pub use Rattle.tlsf_calls.specs.Numbers
--- What the clauses of private functions cite besides.
 pub mod CutFields
+-- What the clauses of private functions cite besides.
 pub mod LabelMemory
 pub mod CallsByLabel
 pub mod OpenLines

@@ -16,6 +16,9 @@
 //! with the first fault of a text that spells no trace. [`write_replies`] writes what the events were answered, and
 //! [`write_out`] hands a text on. No worker stands here: who runs the events is `tlsf_trace`.
 //!
+//! Who tells more of a faulty line reads it by the same steps: [`cut_piece`] and [`line_of`] cut a line off a text, [`cut_field`]
+//! its fields, and [`header_in`], [`word_of`], [`digits_in`] and [`chunk_in`] say what a line or a field spells.
+//!
 //! Contracts see the trace that a text spells, or its first fault, as `trace_of`, its events as `events_of`, and reply lines
 //! as `reply_text`.
 #![tactic(auto)]
@@ -50,13 +53,17 @@ mod trace_fault;
 mod version;
 mod word;
 
-pub use header::Header;
+pub use fields::{cut_field, line_of};
+pub use header::{Header, header_in};
 pub use input::{read_all, read_counted};
 pub use last_read::LastRead;
 pub use laws::{first_fault, pieces_join};
 pub use line::Line;
 pub use names::Names;
+pub use numbers::digits_in;
+pub use payload::chunk_in;
 pub use phases::{PhaseScripts, cut_phase};
+pub use pieces::cut_piece;
 pub use read_count::{MOST_READS, ReadCount};
 pub use read_error::ReadError;
 pub use records::write_phase;
@@ -67,3 +74,4 @@ pub use texts::{script_in, trace_in};
 pub use trace::Trace;
 pub use trace_fault::TraceFault;
 pub use version::Version;
+pub use word::{Word, word_of};

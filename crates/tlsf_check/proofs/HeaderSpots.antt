@@ -1,0 +1,152 @@
+-- The field by which a first line is no header.
+use Rattle.std.proofs.Common.{◌≡◌, inl, inr, ℕ, suc, ◌+◌, ◌==◌, ◌&&◌, Bool, true, false, cond, is_some, List, [], ◌∷◌, ◌++◌, length, take, drop, map, codes, Option, Some, None, refl, sym, ap, ◌∙◌, arith}
+use Rattle.std.proofs.lemmas.Bool.{ne_eqb}
+use Rattle.std.specs.Str.{bytes_eq}
+use Rattle.tlsf_lines.specs.Fields.{◌>>=◌, field, fields_in}
+use Rattle.tlsf_lines.specs.Header.{header_from, header_in, header_of, number_in}
+use Rattle.tlsf_lines.specs.Versions.{most_words_of, version_in}
+use Rattle.tlsf_lines.specs.declared.header.Header.{Header}
+use Rattle.tlsf_lines.specs.declared.version.Version.{Version}
+use Rattle.tlsf_lines.specs.declared.version.Version.TheVariants.{One, Two}
+use Rattle.hex.proofs.OnLiterals.{hex_on_literals}
+use Rattle.tlsf_check.specs.FieldFaults.{CanBegin, GoAstrayAt, is_header}
+use Rattle.tlsf_check.specs.Kinds.{header_kinds, passes}
+use Rattle.tlsf_check.specs.Passing.{passing_count}
+use Rattle.tlsf_check.specs.declared.judge.Judge.TheVariants as judge
+use Rattle.tlsf_check.specs.declared.kind.Kind.{Kind}
+use Rattle.tlsf_check.specs.declared.kind.Kind.TheVariants.{Worker, Label, Length, Offset, Payload, Count, Most, Workers, Words, Capacity}
+use Rattle.tlsf_check.proofs.Astray.{astray_at, never}
+use Rattle.tlsf_check.proofs.PassingSteps.{all_pass, front_passes, next_fails}
+
+abbrev pub good : Kind → List ℕ → Bool
+good kind field = passes (judge.Number 0) kind field
+
+-- a good field of each kind
+abbrev sample : Kind → List ℕ
+sample Worker = codes "0"
+sample Payload = codes "00"
+sample (Words version) = codes "4"
+sample _ = codes "1"
+
+words_pass : (version : Version) → good (Words version) (codes "4") ≡ true
+words_pass One = refl
+words_pass Two = refl
+
+sample_passes : (kind : Kind) → good kind (sample kind) ≡ true
+unfolding hex_on_literals
+sample_passes Worker = refl
+sample_passes Label = refl
+sample_passes Length = refl
+sample_passes Offset = refl
+sample_passes Payload = refl
+sample_passes Count = refl
+sample_passes Most = refl
+sample_passes Workers = refl
+sample_passes (Words version) = words_pass version
+sample_passes Capacity = refl
+
+-- ---- whether fields are a header, by the first of them
+
+guarded : (five named : Bool) (found : Option Header) → named ≡ false → is_some (cond (five && named) found None) ≡ false
+guarded true true found other = cc
+guarded true false found other = refl
+guarded false named found other = refl
+
+unknown : (both : Bool) (version : Option Version) (next : Version → Option Header) → version ≡ None → is_some (cond both (version >>= next) None) ≡ false
+unknown true None next none = refl
+unknown true (Some version) next none = cc
+unknown false version next none = refl
+
+known : (five named : Bool) (found : Option Version) (next : Version → Option Header) (version : Version) → named ≡ true → found ≡ Some version
+    → is_some (cond (five && named) (found >>= next) None) ≡ is_some (cond five (next version) None)
+known true true None next version is same = cc
+known true true (Some v) next version is same = let one : v ≡ version = cc in ap (λ x. is_some (next x)) one
+known true false found next version is same = cc
+known false named found next version is same = refl
+
+neither : (b : Bool) → false ≡ cond b false false
+neither true = refl
+neither false = refl
+
+nor : (a b : Bool) → false ≡ cond a (cond b false false) false
+nor true b = neither b
+nor false b = refl
+
+nor_third : (a b c : Bool) → false ≡ cond a (cond b (cond c false false) false) false
+nor_third true b c = nor b c
+nor_third false b c = refl
+
+three_found : (version : Version) (a b c : Option ℕ) → is_some {T = Header} (a >>= λ workers. (b >>= λ words. (c >>= λ capacity. Some (record { version = version; workers = workers; words = words; capacity = capacity }))))
+    ≡ cond (is_some a) (cond (is_some b) (cond (is_some c) true false) false) false
+three_found version None b c = refl
+three_found version (Some a) None c = refl
+three_found version (Some a) (Some b) None = refl
+three_found version (Some a) (Some b) (Some c) = refl
+
+three : (version : Version) (a b c : List ℕ) → is_some (header_from version a b c) ≡ all_pass good (header_kinds version) (a ∷ b ∷ c ∷ [])
+unfolding header_from
+three version a b c = three_found version (number_in (1, 8) a) (number_in (4, most_words_of version) b) (number_in (1, 1024) c)
+
+too_many : (five : Bool) (found : Option Header) → five ≡ false → is_some (cond five found None) ≡ false
+too_many true found over = cc
+too_many false found over = refl
+
+module _ (name second : List ℕ) (version : Version) where
+  counted : (fields : List (List ℕ)) → is_some (cond (length (name ∷ second ∷ fields) == 5)
+      (header_from version (field (name ∷ second ∷ fields) 2) (field (name ∷ second ∷ fields) 3) (field (name ∷ second ∷ fields) 4)) None) ≡ all_pass good (header_kinds version) fields
+  counted [] = refl
+  counted (a ∷ []) = neither (good Workers a)
+  counted (a ∷ b ∷ []) = nor (good Workers a) (good (Words version) b)
+  counted (a ∷ b ∷ c ∷ []) = three version a b c
+  counted (a ∷ b ∷ c ∷ d ∷ more) =
+      too_many (length (name ∷ second ∷ a ∷ b ∷ c ∷ d ∷ more) == 5) _ (ne_eqb (length (name ∷ second ∷ a ∷ b ∷ c ∷ d ∷ more)) 5 (λ same. absurd (omega (arith, same))))
+      ∙ nor_third (good Workers a) (good (Words version) b) (good Capacity c)
+
+  header_told : (fields : List (List ℕ)) → bytes_eq name (codes "tlsf") ≡ true → version_in second ≡ Some version
+      → is_header (name ∷ second ∷ fields) ≡ all_pass good (header_kinds version) fields
+  header_told fields named is =
+      known (length (name ∷ second ∷ fields) == 5) (bytes_eq name (codes "tlsf")) (version_in second) _ version named is ∙ counted fields
+
+-- ---- the field by which they are none
+
+-- another name
+pub bad_name : (name : List ℕ) (fields : List (List ℕ)) → bytes_eq name (codes "tlsf") ≡ false → GoAstrayAt is_header (name ∷ fields) 1
+unfolding header_from
+bad_name name fields other =
+    astray_at is_header (name ∷ fields) 0 1 refl (codes "tlsf" ∷ codes "1" ∷ codes "1" ∷ codes "4" ∷ codes "1" ∷ [], refl)
+    (inl (never is_header (name ∷ []) (λ more. guarded (length (name ∷ more) == 5) (bytes_eq name (codes "tlsf")) _ other)))
+
+-- the name can begin a header
+named_begins : (name : List ℕ) → bytes_eq name (codes "tlsf") ≡ true → CanBegin is_header (name ∷ [])
+unfolding header_from
+named_begins name named = (codes "1" ∷ codes "1" ∷ codes "4" ∷ codes "1" ∷ [], rw named refl)
+
+-- no version, and none that is known
+pub no_version : (name : List ℕ) → bytes_eq name (codes "tlsf") ≡ true → GoAstrayAt is_header (name ∷ []) 2
+no_version name named = astray_at is_header (name ∷ []) 1 2 refl (named_begins name named) (inr refl)
+
+pub bad_version : (name second : List ℕ) (fields : List (List ℕ)) → bytes_eq name (codes "tlsf") ≡ true → version_in second ≡ None
+    → GoAstrayAt is_header (name ∷ second ∷ fields) 2
+bad_version name second fields named none =
+    astray_at is_header (name ∷ second ∷ fields) 1 2 refl (named_begins name named)
+    (inl (never is_header (name ∷ second ∷ []) (λ more. unknown (length (name ∷ second ∷ more) == 5 && bytes_eq name (codes "tlsf")) (version_in second) _ none)))
+
+-- a number behind the version
+pub bad_number : (name second : List ℕ) (version : Version) (fields : List (List ℕ)) (n : ℕ) → bytes_eq name (codes "tlsf") ≡ true → version_in second ≡ Some version
+    → is_header (name ∷ second ∷ fields) ≡ false → n ≡ passing_count good (header_kinds version) fields + 3 → GoAstrayAt is_header (name ∷ second ∷ fields) n
+bad_number name second version fields n named is none at =
+    let kinds = header_kinds version in
+    let count = passing_count good kinds fields in
+    let fails : all_pass good kinds fields ≡ false = sym (header_told name second version fields named is) ∙ none in
+    let begun = header_told name second version (take count fields ++ map sample (drop count kinds)) named is ∙ front_passes good sample sample_passes kinds fields in
+    astray_at is_header (name ∷ second ∷ fields) (suc (suc count)) n (omega (arith, at)) (map sample (drop count kinds), begun)
+    (elim (next_fails good kinds fields fails) [
+      | inl refused ↦ inl (never is_header (name ∷ second ∷ take (suc count) fields)
+          (λ more. header_told name second version (take (suc count) fields ++ more) named is ∙ refused more))
+      | inr ends ↦ inr (ap (λ k. suc (suc k)) ends)
+    ])
+
+-- the fields of a piece that is no header are none
+pub fields_are_none : (piece : List ℕ) (fields : List (List ℕ)) → fields_in piece ≡ Some fields → header_in piece ≡ None → is_header fields ≡ false
+unfolding header_in
+fields_are_none piece fields are none = let none_is : header_of fields ≡ None = rw are at none in ap (λ (h : Option Header). is_some h) none_is

@@ -1,0 +1,323 @@
+-- The field of a line's fault.
+use Rattle.std.proofs.Common.{◌≡◌, ◌≢◌, ◌⊎◌, inl, inr, ℕ, zero, suc, ◌+◌, ◌-◌, ◌<◌, ◌==◌, count_by, Bool, true, false, cond, is_some, List, [], ◌∷◌, ◌++◌, take, drop, map, codes, slice_get, Option, Some, None, option_map, Err, refl, sym, ap, subst, ◌∙◌, arith}
+use Rattle.hex.proofs.OnLiterals.{hex_on_literals}
+use Rattle.tlsf_calls.specs.declared.chunk.Chunk.{Chunk}
+use Rattle.tlsf_lines.specs.CutFields.{line_behind}
+use Rattle.tlsf_lines.specs.Fields.{◌>>=◌, fields_in, is_digits, value_in, values_in}
+use Rattle.tlsf_lines.specs.Header.{number_of_value}
+use Rattle.tlsf_lines.specs.Lines.{kinds_of, line_from, word_of, words}
+use Rattle.tlsf_lines.specs.Payloads.{chunk_in}
+use Rattle.tlsf_lines.specs.Trace.{line_in}
+use Rattle.tlsf_lines.specs.Values.{Value, Number, BadNumber, Bytes}
+use Rattle.tlsf_lines.specs.Values as spelled
+use Rattle.tlsf_lines.specs.declared.line.Line.{Line}
+use Rattle.tlsf_lines.specs.declared.line_fault.LineFault.TheVariants as fault
+use Rattle.tlsf_lines.specs.declared.word.Word.{Word}
+use Rattle.tlsf_lines.specs.declared.word.Word.TheVariants as word
+use Rattle.tlsf_lines.proofs.CutSteps.{fields_count}
+use Rattle.tlsf_lines.proofs.LineJudged.{with_word, without_feed, without_word}
+use Rattle.tlsf_check.specs.FieldFaults.{GoAstrayAt, GoesAstrayAt, HasFirstBadNumberAt, IsFieldOf, IsFirstBad, is_shaped}
+use Rattle.tlsf_check.specs.Kinds.{kinds_behind, passes}
+use Rattle.tlsf_check.specs.Passing.{passing_count}
+use Rattle.tlsf_check.specs.declared.judge.Judge.TheVariants as judge
+use Rattle.tlsf_check.specs.declared.kind.Kind.{Kind}
+use Rattle.tlsf_check.specs.declared.kind.Kind.TheVariants.{Worker, Label, Length, Offset, Payload, Count, Most, Workers, Words, Capacity}
+use Rattle.tlsf_check.proofs.Astray.{astray_at, never}
+use Rattle.tlsf_check.proofs.Refusals.{bad_values, no_values}
+use Rattle.tlsf_check.proofs.PassingSteps.{all_pass, front_passes, next_fails}
+
+-- ---- the kinds of a line's fields, as `tlsf_lines` has them
+
+abbrev kind_of : Kind → spelled.Kind
+kind_of Worker = spelled.Worker
+kind_of Label = spelled.Label
+kind_of Length = spelled.Length
+kind_of Offset = spelled.Offset
+kind_of Payload = spelled.Hex
+kind_of Count = spelled.Count
+kind_of Most = spelled.Most
+kind_of _ = spelled.Label  -- in no line behind the header
+
+kinds_told : (w : Word) → map kind_of (kinds_behind w) ≡ kinds_of w
+kinds_told word.Allocate = refl
+kinds_told word.Release = refl
+kinds_told word.Write = refl
+kinds_told word.Read = refl
+kinds_told word.Resize = refl
+kinds_told word.Drain = refl
+kinds_told word.Phase = refl
+
+-- ---- shapes
+
+abbrev shape : Kind → List ℕ → Bool
+shape kind field = passes judge.Shape kind field
+
+digits_shown : (b : Bool) (value : Value) → is_some (cond b (Some value) None) ≡ b
+digits_shown true value = refl
+digits_shown false value = refl
+
+payload_shown : (chunk : Option Chunk) → is_some (option_map (λ c. Bytes c) chunk) ≡ is_some chunk
+payload_shown None = refl
+payload_shown (Some chunk) = refl
+
+shape_told : (workers : ℕ) (kind : Kind) (field : List ℕ) → is_some (value_in workers (kind_of kind) field) ≡ shape kind field
+shape_told workers Worker field = digits_shown (is_digits field) _
+shape_told workers Label field = digits_shown (is_digits field) _
+shape_told workers Length field = digits_shown (is_digits field) _
+shape_told workers Offset field = digits_shown (is_digits field) _
+shape_told workers Payload field = payload_shown (chunk_in field)
+shape_told workers Count field = digits_shown (is_digits field) _
+shape_told workers Most field = digits_shown (is_digits field) _
+shape_told workers Workers field = digits_shown (is_digits field) _
+shape_told workers (Words version) field = digits_shown (is_digits field) _
+shape_told workers Capacity field = digits_shown (is_digits field) _
+
+both : (value : Option Value) (values : Option (List Value)) → is_some (value >>= λ v. (values >>= λ vs. Some (v ∷ vs))) ≡ cond (is_some value) (is_some values) false
+both None values = refl
+both (Some v) None = refl
+both (Some v) (Some vs) = refl
+
+shapes_told : (workers : ℕ) (kinds : List Kind) (fields : List (List ℕ)) → is_some (values_in workers (map kind_of kinds) fields) ≡ all_pass shape kinds fields
+shapes_told workers [] [] = refl
+shapes_told workers [] (field ∷ fields) = refl
+shapes_told workers (kind ∷ kinds) [] = refl
+shapes_told workers (kind ∷ kinds) (field ∷ fields) =
+    both (value_in workers (kind_of kind) field) (values_in workers (map kind_of kinds) fields)
+    ∙ (ap (λ b. cond b (is_some (values_in workers (map kind_of kinds) fields)) false) (shape_told workers kind field)
+    ∙ ap (λ b. cond (shape kind field) b false) (shapes_told workers kinds fields))
+
+-- a field of each kind
+abbrev sample : Kind → List ℕ
+sample Payload = codes "00"
+sample _ = codes "1"
+
+sample_passes : (kind : Kind) → shape kind (sample kind) ≡ true
+unfolding hex_on_literals
+sample_passes Worker = refl
+sample_passes Label = refl
+sample_passes Length = refl
+sample_passes Offset = refl
+sample_passes Payload = refl
+sample_passes Count = refl
+sample_passes Most = refl
+sample_passes Workers = refl
+sample_passes (Words version) = refl
+sample_passes Capacity = refl
+
+-- behind a word a line has its shape where its fields pass
+shaped_line : (workers : ℕ) (first : List ℕ) (w : Word) (fields : List (List ℕ)) → word_of words first ≡ Some w → is_shaped workers (first ∷ fields) ≡ all_pass shape (kinds_behind w) fields
+shaped_line workers first w fields is =
+    let as_kinds : is_some (values_in workers (kinds_of w) fields) ≡ all_pass shape (kinds_behind w) fields =
+    ap (λ kinds. is_some (values_in workers kinds fields)) (sym (kinds_told w)) ∙ shapes_told workers (kinds_behind w) fields in
+    rw is as_kinds
+
+module _ (workers : ℕ) (first : List ℕ) (fields : List (List ℕ)) where
+  -- no word
+  pub no_word : word_of words first ≡ None → GoAstrayAt (is_shaped workers) (first ∷ fields) 1
+  no_word none = astray_at (is_shaped workers) (first ∷ fields) 0 1 refl (codes "phase" ∷ [], refl) (inl (never (is_shaped workers) (first ∷ []) (λ more. rw none refl)))
+
+  -- a word, and fields behind it that have not its shape
+  module _ (w : Word) (is : word_of words first ≡ Some w) where
+    astray_behind : (n m : ℕ) → m ≡ passing_count shape (kinds_behind w) fields → all_pass shape (kinds_behind w) fields ≡ false → n ≡ m + 2 → GoAstrayAt (is_shaped workers) (first ∷ fields) n
+    astray_behind n m count fails at =
+        let kinds = kinds_behind w in
+        let begun = shaped_line workers first w (take (passing_count shape kinds fields) fields ++ map sample (drop (passing_count shape kinds fields) kinds)) is
+        ∙ front_passes shape sample sample_passes kinds fields in
+        astray_at (is_shaped workers) (first ∷ fields) (suc (passing_count shape kinds fields)) n (omega (arith, count, at))
+        (map sample (drop (passing_count shape kinds fields) kinds), begun)
+        (elim (next_fails shape kinds fields fails) [
+          | inl refused ↦ inl (never (is_shaped workers) (first ∷ take (suc (passing_count shape kinds fields)) fields)
+              (λ more. shaped_line workers first w (take (suc (passing_count shape kinds fields)) fields ++ more) is ∙ refused more))
+          | inr ends ↦ inr (ap (λ k. suc k) ends)
+        ])
+
+    pub no_shape : (n : ℕ) → values_in workers (kinds_of w) fields ≡ None → n ≡ passing_count shape (kinds_behind w) fields + 2 → GoAstrayAt (is_shaped workers) (first ∷ fields) n
+    no_shape n none at =
+        let fails : all_pass shape (kinds_behind w) fields ≡ false =
+        sym (shapes_told workers (kinds_behind w) fields) ∙ (ap (λ kinds. is_some (values_in workers kinds fields)) (kinds_told w) ∙ ap (λ (o : Option (List Value)). is_some o) none) in
+        astray_behind n _ refl fails at
+
+-- ---- numbers
+
+abbrev good : ℕ → Kind → List ℕ → Bool
+good workers kind field = passes (judge.Number workers) kind field
+
+-- a value of its kind that is no bad number
+abbrev is_good : spelled.Kind → Value → Bool
+is_good spelled.Hex (Bytes bytes) = true
+is_good spelled.Hex (Number n) = false
+is_good spelled.Hex BadNumber = false
+is_good kind (Number n) = true
+is_good kind _ = false
+
+-- a kind of a line's fields
+abbrev IsOfLine : Kind → Type 0
+IsOfLine Workers = ⊥
+IsOfLine (Words version) = ⊥
+IsOfLine Capacity = ⊥
+IsOfLine kind = Unit {0}
+
+abbrev AreOfLine : List Kind → Type 0
+AreOfLine [] = Unit {0}
+AreOfLine (kind ∷ kinds) = IsOfLine kind × AreOfLine kinds
+
+are_of_line : (w : Word) → AreOfLine (kinds_behind w)
+are_of_line word.Allocate = (tt, (tt, (tt, tt)))
+are_of_line word.Release = (tt, (tt, tt))
+are_of_line word.Write = (tt, (tt, (tt, (tt, tt))))
+are_of_line word.Read = (tt, (tt, (tt, (tt, tt))))
+are_of_line word.Resize = (tt, (tt, (tt, tt)))
+are_of_line word.Drain = (tt, (tt, tt))
+are_of_line word.Phase = tt
+
+-- a value passes and is good, or it doesn't and is a bad number
+abbrev IsTold : Bool → spelled.Kind → Value → Type 0
+IsTold passed kind value = ((passed ≡ true) × (is_good kind value ≡ true)) ⊎ ((passed ≡ false) × (value ≡ BadNumber))
+
+number_told : (b within : Bool) (n : ℕ) (value : Value) → cond b (Some (cond within (Number n) BadNumber)) None ≡ Some value
+    → IsTold (is_some (cond b (Some (cond within (Number n) BadNumber)) None >>= number_of_value)) spelled.Label value
+number_told true true n (Number k) is = inl (refl, refl)
+number_told true true n BadNumber is = cc
+number_told true true n (Bytes bytes) is = cc
+number_told true false n (Number k) is = cc
+number_told true false n BadNumber is = inr (refl, refl)
+number_told true false n (Bytes bytes) is = cc
+number_told false within n value is = cc
+
+payload_told : (chunk : Option Chunk) (value : Value) → option_map (λ c. Bytes c) chunk ≡ Some value → IsTold (is_some chunk) spelled.Hex value
+payload_told None value is = cc
+payload_told (Some chunk) (Bytes bytes) is = inl (refl, refl)
+payload_told (Some chunk) (Number n) is = cc
+payload_told (Some chunk) BadNumber is = cc
+
+value_told : (workers : ℕ) (kind : Kind) (field : List ℕ) (value : Value) → IsOfLine kind → value_in workers (kind_of kind) field ≡ Some value → IsTold (good workers kind field) (kind_of kind) value
+value_told workers Worker field value of is = number_told _ _ _ value is
+value_told workers Label field value of is = number_told _ _ _ value is
+value_told workers Length field value of is = number_told _ _ _ value is
+value_told workers Offset field value of is = number_told _ _ _ value is
+value_told workers Payload field value of is = payload_told (chunk_in field) value is
+value_told workers Count field value of is = number_told _ _ _ value is
+value_told workers Most field value of is = number_told _ _ _ value is
+value_told workers Workers field value of is = absurd of
+value_told workers (Words version) field value of is = absurd of
+value_told workers Capacity field value of is = absurd of
+
+-- the values are good, one for each kind
+abbrev are_good : List spelled.Kind → List Value → Bool
+are_good [] [] = true
+are_good (kind ∷ kinds) (value ∷ values) = cond (is_good kind value) (are_good kinds values) false
+are_good _ _ = false
+
+abbrev IsJudged : List spelled.Kind → List Value → ℕ → Type 0
+IsJudged kinds values i = IsFirstBad values i ⊎ (are_good kinds values ≡ true)
+
+not_good : (kind : spelled.Kind) → is_good kind BadNumber ≡ false
+not_good spelled.Worker = refl
+not_good spelled.Label = refl
+not_good spelled.Length = refl
+not_good spelled.Offset = refl
+not_good spelled.Hex = refl
+not_good spelled.Count = refl
+not_good spelled.Most = refl
+
+good_is : (kind : spelled.Kind) (value : Value) → is_good kind value ≡ true → value ≡ BadNumber → ⊥
+good_is kind value is bad = let no = not_good kind in cc (ap (λ v. is_good kind v) bad)
+
+same_value : (a b : Value) → Some a ≡ Some b → a ≡ b
+same_value a b is = cc
+
+one_later : (kind : spelled.Kind) (value : Value) (values : List Value) (i : ℕ) → is_good kind value ≡ true → IsFirstBad values i
+    → (k : ℕ) → k < suc i → slice_get (value ∷ values) k ≢ Some BadNumber
+one_later kind value values i is bad zero lt same = good_is kind value is (same_value value BadNumber same)
+one_later kind value values i is bad (suc k) lt same = bad.before k (omega (arith, lt)) same
+
+step : (kind : spelled.Kind) (kinds : List spelled.Kind) (value : Value) (values : List Value) (i : ℕ) (passed : Bool) → IsTold passed kind value
+    → IsJudged kinds values i → IsJudged (kind ∷ kinds) (value ∷ values) (cond passed (suc i) 0)
+step kind kinds value values i true (inl is) (inl bad) = inl (record { here = bad.here; before = one_later kind value values i is.1 bad })
+step kind kinds value values i true (inl is) (inr goods) = inr (rw is.1 goods)
+step kind kinds value values i true (inr is) rest = let no = is.0 in cc
+step kind kinds value values i false (inl is) rest = let no = is.0 in cc
+step kind kinds value values i false (inr is) rest = inl (record { here = ap (λ (v : Value). Some v) is.1; before = λ k lt. absurd (omega (arith, lt)) })
+
+-- the values of the first field and of those behind it
+parted : {P : Type 0} (first : Option Value) (rest : Option (List Value)) (values : List Value) → (first >>= λ v. (rest >>= λ vs. Some (v ∷ vs))) ≡ Some values
+    → ((v : Value) (vs : List Value) → first ≡ Some v → rest ≡ Some vs → v ∷ vs ≡ values → P) → P
+parted None rest values is then = cc
+parted (Some v) None values is then = cc
+parted (Some v) (Some vs) values is then = then v vs refl refl cc
+
+judged_from : (kinds : List spelled.Kind) (i : ℕ) (made values : List Value) → made ≡ values → IsJudged kinds made i → IsJudged kinds values i
+judged_from kinds i made values same is = subst (λ (vs : List Value). IsJudged kinds vs i) same is
+
+values_judged : (workers : ℕ) (kinds : List Kind) (fields : List (List ℕ)) (values : List Value) → AreOfLine kinds → values_in workers (map kind_of kinds) fields ≡ Some values
+    → IsJudged (map kind_of kinds) values (passing_count (λ k f. good workers k f) kinds fields)
+values_judged workers [] [] values of is = judged_from [] 0 [] values (let same = is in cc) (inr refl)
+values_judged workers [] (field ∷ fields) values of is = cc
+values_judged workers (kind ∷ kinds) [] values of is = cc
+values_judged workers (kind ∷ kinds) (field ∷ fields) values of is =
+    parted (value_in workers (kind_of kind) field) (values_in workers (map kind_of kinds) fields) values is
+    (λ v vs first rest same. judged_from (map kind_of (kind ∷ kinds)) (passing_count (λ k f. good workers k f) (kind ∷ kinds) (field ∷ fields)) (v ∷ vs) values same
+    (step (kind_of kind) (map kind_of kinds) v vs (passing_count (λ k f. good workers k f) kinds fields) (good workers kind field) (value_told workers kind field v of.0 first)
+    (values_judged workers kinds fields vs of.1 rest)))
+
+-- where all values are good, they make a line
+good_line : (w : Word) (values : List Value) → are_good (kinds_of w) values ≡ true → line_from w values ≡ None → ⊥
+unfolding line_from
+good_line word.Allocate (Number a ∷ Number b ∷ Number c ∷ []) is none = cc
+good_line word.Release (Number a ∷ Number b ∷ []) is none = cc
+good_line word.Write (Number a ∷ Number b ∷ Number c ∷ Bytes d ∷ []) is none = cc
+good_line word.Read (Number a ∷ Number b ∷ Number c ∷ Number d ∷ []) is none = cc
+good_line word.Resize (Number a ∷ Number b ∷ Number c ∷ []) is none = cc
+good_line word.Drain (Number a ∷ Number b ∷ []) is none = cc
+good_line word.Phase [] is none = cc
+good_line w values is none = cc
+
+-- so where they make none, one is bad
+pub first_bad : (workers : ℕ) (w : Word) (fields : List (List ℕ)) (values : List Value) → values_in workers (kinds_of w) fields ≡ Some values → line_from w values ≡ None
+    → IsFirstBad values (passing_count (λ k f. good workers k f) (kinds_behind w) fields)
+first_bad workers w fields values say none =
+    let by_kinds : values_in workers (map kind_of (kinds_behind w)) fields ≡ Some values = rw (kinds_told w) say in
+    elim (values_judged workers (kinds_behind w) fields values (are_of_line w) by_kinds) [
+      | inl bad ↦ bad
+      | inr goods ↦ absurd (good_line w values (rw (kinds_told w) at goods) none)
+    ]
+
+-- ---- the field of a line as it stands
+
+pub without_feed_at : (is_whole : List (List ℕ) → Bool) (piece : List ℕ) (n : ℕ) → fields_in piece ≡ None → n ≡ count_by (λ byte. byte == 32) piece + 1
+    → GoesAstrayAt is_whole piece n
+without_feed_at is_whole piece n none at = rw none (at ∙ sym (fields_count piece))
+
+pub with_fields_at : (is_whole : List (List ℕ) → Bool) (piece : List ℕ) (fields : List (List ℕ)) (n : ℕ) → fields_in piece ≡ Some fields → GoAstrayAt is_whole fields n
+    → GoesAstrayAt is_whole piece n
+with_fields_at is_whole piece fields n are at = rw are at
+
+module _ (workers : ℕ) (before : List Line) (piece first : List ℕ) (fields : List (List ℕ)) (w : Word) (are : fields_in piece ≡ Some (first ∷ fields)) (is : word_of words first ≡ Some w) where
+  pub shape_at : (n : ℕ) → line_in workers before piece ≡ Err fault.BadLine → n ≡ passing_count shape (kinds_behind w) fields + 2 → IsFieldOf workers fault.BadLine piece n
+  shape_at n refused at =
+      let by_values = sym (with_word workers before piece first fields w (line_behind workers w fields) are is refl) ∙ refused in
+      with_fields_at (is_shaped workers) piece (first ∷ fields) n are
+      (no_shape workers first fields w is n (no_values before w (values_in workers (kinds_of w) fields) by_values) at)
+
+  pub number_at : (n : ℕ) → line_in workers before piece ≡ Err fault.BadNumber → n ≡ passing_count (λ k f. good workers k f) (kinds_behind w) fields + 2
+      → IsFieldOf workers fault.BadNumber piece n
+  number_at n refused at =
+      let by_values = sym (with_word workers before piece first fields w (line_behind workers w fields) are is refl) ∙ refused in
+      let bad = bad_values before w (values_in workers (kinds_of w) fields) by_values in
+      let behind : passing_count (λ k f. good workers k f) (kinds_behind w) fields ≡ n - 2 = omega (arith, at) in
+      let found : HasFirstBadNumberAt workers (first ∷ fields) n = record {
+        word = w;
+        values = bad.0;
+        word_is = is;
+        say = bad.1;
+        first = subst (λ (i : ℕ). IsFirstBad bad.0 i) behind (first_bad workers w fields bad.0 bad.1 bad.2);
+      } in
+      rw are found
+
+-- a line without a line feed, or with an unknown word, has no bad number
+pub number_without_feed : (workers : ℕ) (before : List Line) (piece : List ℕ) → fields_in piece ≡ None → line_in workers before piece ≡ Err fault.BadNumber → ⊥
+number_without_feed workers before piece none refused = let bad = without_feed workers before piece none in cc (bad, refused)
+
+pub number_without_word : (workers : ℕ) (before : List Line) (piece first : List ℕ) (fields : List (List ℕ)) → fields_in piece ≡ Some (first ∷ fields) → word_of words first ≡ None
+    → line_in workers before piece ≡ Err fault.BadNumber → ⊥
+number_without_word workers before piece first fields are none refused = let bad = without_word workers before piece first fields are none in cc (bad, refused)

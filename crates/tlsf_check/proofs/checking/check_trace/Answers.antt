@@ -1,0 +1,16 @@
+use Rattle.std.proofs.Common.{arith, string_bytes}
+use Rattle.std.proofs.lemmas.List.Sums.{count_by-le-length}
+use Rattle.tlsf_lines.specs.Lines.{is_call}
+use Rattle.tlsf_lines.specs.Views.{view_trace}
+use Rattle.tlsf_trace.proofs.WholeReplay.{run_is_done}
+use Rattle.tlsf_check.specs.Checks.{Checks}
+use Rattle.tlsf_check.proofs.checking.check_trace.Goals as goal
+
+pub returns-clause-run : goal.returns-clause-run
+returns-clause-run g c =
+    run_is_done Checks _ _ _ _ c.in_ok-text.text.items c.in_ok-text.ensures.whole c.in_ok-text.ensures.end c.in_ok-text.ensures.limits
+    (view_trace c.in-Ok.trace) (rw c.deref.ensures.value at c.in-Ok.ensures.ok) _ c.count_calls.ensures (string_bytes c.in_ok-line.line) c.in_ok-line.ensures
+    c.finish.result (rw c.deref-2.ensures at c.finish.ensures)
+
+pub overflow_cast-count_calls : goal.overflow_cast-count_calls
+overflow_cast-count_calls g c = omega (arith, c.in-Ok.ensures.lines, c.count_calls.ensures, count_by-le-length is_call c.in-Ok.trace.lines.items)

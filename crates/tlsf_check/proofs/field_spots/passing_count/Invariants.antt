@@ -1,0 +1,10 @@
+use Rattle.std.proofs.Common.{◌≡◌, ◌+◌, drop}
+use Rattle.tlsf_check.specs.Kinds.{passes}
+use Rattle.tlsf_check.specs.Passing as counted
+use Rattle.tlsf_lines.specs.CutFields.{fields_left}
+use Rattle.tlsf_check.proofs.field_spots.passing_count.Given as goal
+
+-- those before pass
+abbrev pub invariant-loop-i : goal.invariant-loop-i
+invariant-loop-i l = counted.passing_count (λ k f. passes l.judge k f) l.kinds (fields_left l.fields)
+    ≡ l.i + counted.passing_count (λ k f. passes l.judge k f) (drop l.i l.kinds) (fields_left l.left)

@@ -1,0 +1,7 @@
+use Rattle.std.proofs.Common.{◌≡◌, drop}
+use Rattle.tlsf_lines.specs.Pieces.{pieces_of}
+use Rattle.tlsf_check.proofs.field_spots.piece_at.Given as goal
+
+-- the pieces that are left
+abbrev pub invariant-loop-i : goal.invariant-loop-i
+invariant-loop-i l = drop l._i (pieces_of l.text) ≡ pieces_of l.rest

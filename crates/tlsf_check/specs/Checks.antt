@@ -1,0 +1,35 @@
+-- What a check of a trace writes and notes.
+use Rattle.std.specs.Prelude.{◌≡◌, ℕ, List, ◌++◌, codes}
+use Rattle.std.specs.Fmt.{decimal}
+use Rattle.tlsf_lines.specs.TraceFaults.{IsLineFault}
+use Rattle.tlsf_lines.specs.declared.trace_fault.TraceFault.{TraceFault}
+use Rattle.tlsf_trace.specs.Replay.{Outputs}
+use Rattle.tlsf_check.specs.CheckLines.{check_line}
+use Rattle.tlsf_check.specs.FieldFaults.{IsFoundIn}
+
+-- of a good trace one line is put out
+abbrev pub Checks : Outputs
+Checks trace output = output ≡ check_line trace
+
+-- the number of a field, and words on it
+abbrev pub field_text : ℕ → List ℕ → List ℕ
+field_text n words = codes "  field " ++ decimal n ++ words ++ codes "\n"
+
+-- a note names a field, behind the line that it shows
+pub record NamesField (n : ℕ) (note : List ℕ) : Type 0 where
+  pub shown : List ℕ
+  pub words : List ℕ
+  pub note_is : note ≡ shown ++ field_text n words
+
+-- a note was added that names the field in which the fault of a text is found
+pub record NotesField (text : List ℕ) (fault : TraceFault) (old new : List ℕ) : Type 0 where
+  pub n : ℕ
+  pub note : List ℕ
+  pub found : IsFoundIn text fault n
+  pub named : NamesField n note
+  pub added : new ≡ old ++ note
+
+-- so where a line is at fault; else nothing was added
+pub record Notes (text : List ℕ) (fault : TraceFault) (old new : List ℕ) : Type 0 where
+  pub line : IsLineFault fault → NotesField text fault old new
+  pub else : (IsLineFault fault → ⊥) → new ≡ old

@@ -1,0 +1,27 @@
+//! What is wrong with a trace, told so that it can be mended.
+//!
+//! [`check_trace`] reads a trace and checks it. Of a good one it writes a line that counts its workers, calls and phases; of a faulty
+//! one it answers the fault of a replay, and notes the line as it stands with a mark under the byte, which field it is, and what was
+//! expected there.
+//!
+//! [`field_of_fault`] finds the field of a text's fault, and [`explain`] makes the note. Both read a line by the steps of `tlsf_lines`: what a
+//! word, a number and payload bytes are is told there alone.
+//!
+//! Contracts see the fault of a text as `fault_of` of `tlsf_lines`, and its field as `IsFoundIn` of `specs/FieldFaults.antt`. The words of a
+//! note, and where its mark stands, are shown by tests.
+#![tactic(auto)]
+
+mod checking;
+mod count_line;
+mod field_spots;
+mod findings;
+mod judge;
+mod kind;
+mod labels;
+mod line_view;
+mod notes;
+mod places;
+
+pub use checking::check_trace;
+pub use field_spots::field_of_fault;
+pub use notes::explain;
