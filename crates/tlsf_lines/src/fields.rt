@@ -10,6 +10,10 @@ use crate::payload::chunk_in;
 use tlsf_calls::Chunk;
 
 /// The line that a piece has in front of its line feed; `None` for a piece without one.
+///
+/// ```
+/// // of "f 0 1\n" it is "f 0 1", of "f 0 1" none
+/// ```
 pub fn line_of(piece: &[u8]) -> Option<&[u8]>
     ensures { option_map (λ line. fields_of line.now) result ≡ spelled.fields_in piece.now }
 {
@@ -21,6 +25,10 @@ pub fn line_of(piece: &[u8]) -> Option<&[u8]>
 
 /// The first field, and what stands behind its space, if there is one. Most fields have a few bytes, where a plain loop is
 /// sooner done than a search.
+///
+/// ```
+/// // of "a 0 1" they are "a" and "0 1", of "phase" they are "phase" and none
+/// ```
 #[tactic(auto, using(crate::proofs::CutSteps::cut_at, crate::proofs::CutSteps::not_cut))]
 pub fn cut_field(line: &[u8]) -> (&[u8], Option<&[u8]>)
     ensures { fields_of line.now ≡ result.0.now ∷ fields_left result.1 }

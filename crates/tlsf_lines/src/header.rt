@@ -75,6 +75,10 @@ fn five_fields(line: &[u8]) -> Option<(&[u8], &[u8], &[u8], &[u8], &[u8])>
 }
 
 /// The header that a piece says, or `None` where it says none.
+///
+/// ```
+/// // of "tlsf 1 2 64 4\n" it has version One, 2 workers, 64 words and capacity 4, of "tlsf 3 2 64 4\n" none
+/// ```
 #[tactic(auto, unfolding(crate::specs::Header::header_in))]
 pub fn header_in(piece: &[u8]) -> Option<Header>
     ensures header { result ≡ spelled.header_in piece.now }

@@ -7,6 +7,10 @@ const TOO_GREAT: u64 = 4_294_967_296;
 
 /// The number from `least` to `most` that a field of digits spells, or `None` inside where it has a leading zero or is out
 /// of that range; `None` where the field is empty or has another byte than a digit.
+///
+/// ```
+/// // from 0 to 64, "8" is Some(Some(8)), "08" and "65" are Some(None), and "8x" is None
+/// ```
 pub fn digits_in(field: &[u8], least: u32, most: u32) -> Option<Option<u32>>
     ensures { option_map value_of result ≡ spelled.digits_in (least, most) field.now }
 {

@@ -39,6 +39,10 @@ fn read_pairs(digits: &[u8], bytes: &mut [u8]) -> bool
 
 /// The bytes that a field spells in 2 to 128 hexadecimal digits of either case; `None` where it
 /// spells none.
+///
+/// ```
+/// // of "4869" it is the bytes 48 69 (hexadecimal), of "486" none
+/// ```
 pub fn chunk_in(field: &[u8]) -> Option<Chunk>
     ensures { result ≡ Payloads.chunk_in field.now }
 {

@@ -5,6 +5,10 @@ use memchr::memchr;
 
 /// The text up to its first line feed, that byte included, and what follows; a text without a
 /// line feed is one piece.
+///
+/// ```
+/// // of "ab\nc" they are "ab\n" and "c"
+/// ```
 pub fn cut_piece(text: &[u8]) -> (&[u8], &[u8])
     requires { 0 < length text.now }
     ensures pieces { pieces_of text.now ≡ result.0.now ∷ pieces_of result.1.now }

@@ -18,6 +18,10 @@ pub enum Version {
 
 impl Version {
     /// The version that a field spells; `None` where it spells none.
+    ///
+    /// ```
+    /// // "2" spells Version::Two, and "3" none
+    /// ```
     pub fn spelled_by(field: &[u8]) -> Option<Version>
         ensures { result ≡ spelled.version_in field.now }
     {

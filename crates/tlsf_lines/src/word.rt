@@ -21,6 +21,10 @@ pub enum Word {
 }
 
 /// The word that a first field spells, or `None` where it spells none.
+///
+/// ```
+/// // of "a" it is Word::Allocate, of "free" none
+/// ```
 pub fn word_of(field: &[u8]) -> Option<Word>
     ensures { result ≡ Lines.word_of Lines.words field.now }
 {
