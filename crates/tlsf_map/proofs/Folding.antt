@@ -1,5 +1,5 @@
 -- The rows of a block of which one is drawn for all, and the pieces of the block with them.
-use Rattle.std.proofs.Common.{◌≡◌, ℕ, ◌+◌, ◌-◌, ◌/◌, ◌%◌, ◌*◌, ◌<◌, ◌≤◌, inl, inr, Bool, true, false, cond, List, [], ◌∷◌, ◌++◌, min, refl, sym, ap, ◌∙◌, subst, arith, true≢false}
+use Rattle.std.proofs.Common.{◌≡◌, ℕ, ◌+◌, ◌-◌, ◌/◌, ◌%◌, ◌*◌, ◌≤◌, inl, inr, Bool, true, false, cond, List, [], ◌∷◌, ◌++◌, min, refl, sym, ap, ◌∙◌, subst, arith, true≢false}
 use Rattle.std.specs.Prelude.{◌==◌, nat_lt}
 use Rattle.std.proofs.Math.Nat.{div-mul-le_self, mul-mod_left}
 use Rattle.std.proofs.lemmas.Bool.{cases_lt, lt-ltb}
@@ -7,7 +7,7 @@ use Rattle.tlsf_heap.specs.declared.placed_block.PlacedBlock.{PlacedBlock}
 use Rattle.tlsf_heap.specs.declared.placed_block.Content.{Content}
 use Rattle.tlsf_heap.specs.declared.placed_block.Content.TheVariants.{Free, Live}
 use Rattle.tlsf_map.specs.Folds.{content_fold, fold_between, fold_of, hidden_in, used_words}
-use Rattle.tlsf_map.specs.Grids.{AreInRows, AreOnward, IsGrid, IsWholeRows, Piece, block_pieces, folded_pieces, pieces, words_of}
+use Rattle.tlsf_map.specs.Grids.{AreInRows, AreOnward, IsGrid, Piece, block_pieces, folded_pieces, pieces, words_of}
 use Rattle.tlsf_map.specs.declared.fold.Fold.{Fold}
 use Rattle.tlsf_map.specs.declared.grid.Grid.{Grid}
 use Rattle.tlsf_map.proofs.Cutting.{all_in_rows, all_onward, all_words, enough_rows}

@@ -1,5 +1,5 @@
 -- The picture as a whole, as the text of an SVG file. Lengths are in sixteenths of a pixel.
-use Rattle.std.specs.Prelude.{ℕ, ◌+◌, ◌*◌, ◌/◌, List, [], ◌∷◌, ◌++◌, codes}
+use Rattle.std.specs.Prelude.{ℕ, ◌+◌, ◌/◌, List, [], ◌∷◌, ◌++◌, codes}
 use Rattle.std.specs.Fmt.{decimal}
 use Rattle.tlsf_heap.specs.declared.report.Report.{Report}
 use Rattle.tlsf_map.specs.Grids.{grid_of, heap_height}

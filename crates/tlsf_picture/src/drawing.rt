@@ -43,7 +43,7 @@ fn picture_of(alloc: Global, ended: Ended) -> Result<String, AllocError>
 /// ```
 /// // reader gives "tlsf 1 1 64 1\na 0 7 8\n"
 /// let summary = draw_trace(alloc, &mut reader, &mut writer)?;
-/// // writer holds "<svg xmlns='http://www.w3.org/2000/svg' width='1056' ..", with a block of label 7 and a free one
+/// // writer holds "<svg xmlns='http://www.w3.org/2000/svg' width='1104' ..", with a block of label 7 and a free one
 /// ```
 ///
 /// # Errors

@@ -1,4 +1,4 @@
-use Rattle.std.proofs.Common.{◌≡◌, ℕ, ◌+◌, ◌-◌, ◌<◌, refl, sym, ap, ◌∙◌, arith}
+use Rattle.std.proofs.Common.{ℕ, ◌+◌, ◌-◌, ◌<◌, refl, sym, ap, ◌∙◌, arith}
 use Rattle.tlsf_map.specs.Columns.{first_short, span_of, written_lines}
 use Rattle.tlsf_map.proofs.Fitting.{span_too_short}
 use Rattle.tlsf_map.proofs.columns.span.Goals as goal
