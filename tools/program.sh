@@ -45,7 +45,7 @@ source_sums() {
     done | LC_ALL=C sort
 }
 
-# places_sum TREE: prints, in milliseconds, a checksum that changes with each write to a source; nothing if `find` can't.
+# places_sum TREE: prints, in milliseconds, a checksum that changes with each write to a source; else nothing.
 places_sum() {
     listed=$(find "$1/crates.txt" "$1/HANDLES" "$1"/crates/*/src "$1"/crates/*/specs "$1"/crates/*/proofs \
         ! -type d -printf '%p %i %s %T@ %C@\n' 2>/dev/null) && echo "$listed" | sha256sum | cut -c 1-40
