@@ -1,5 +1,6 @@
 //! Tests of public calls: what no contract says, and no stored case shows.
 
+mod check_notes;
 mod commands;
 mod fakes;
 mod fronts;

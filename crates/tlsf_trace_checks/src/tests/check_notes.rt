@@ -1,4 +1,4 @@
-//! Each row is a trace, and the note on its fault.
+//! The words of notes on faulty traces, and where their marks stand: no contract says them. Each row is a trace, and the note on its fault.
 use std::alloc::{AllocError, Global};
 use std::process::Abort;
 use std::test::Fail;
