@@ -18,7 +18,7 @@ use Rattle.tlsf_command.specs.declared.size_question.SizeQuestion.{SizeQuestion}
 use Rattle.tlsf_command.specs.declared.command_line.Choice.{Choice}
 use Rattle.tlsf_command.specs.declared.command_line.Choice.TheVariants.{Trace, File, Classes, Size}
 use Rattle.tlsf_command.specs.declared.trace_run.TraceRun.{TraceRun}
-use Rattle.tlsf_command.specs.declared.trace_run.TraceRun.TheVariants.{Replay, Held, Race, RaceQueues, Map, MapText}
+use Rattle.tlsf_command.specs.declared.trace_run.TraceRun.TheVariants.{Replay, Held, Race, RaceQueues, Map, MapText, Check}
 use Rattle.tlsf_command.specs.Runs.{Does, Refuses, Streams}
 use Rattle.tlsf_command.proofs.NamedCommands.{faultless_named, subcommand_name-rows}
 use Rattle.tlsf_command.proofs.NamedRuns.{GivesForm}
@@ -50,6 +50,7 @@ no_classes Race = refl
 no_classes RaceQueues = refl
 no_classes Map = refl
 no_classes MapText = refl
+no_classes Check = refl
 
 no_size : (run : TraceRun) → bytes_eq (codes "size") (command_of run) ≡ false
 no_size Replay = refl
@@ -58,6 +59,7 @@ no_size Race = refl
 no_size RaceQueues = refl
 no_size Map = refl
 no_size MapText = refl
+no_size Check = refl
 
 itself : (run : TraceRun) → bytes_eq (command_of run) (command_of run) ≡ true
 itself Replay = refl
@@ -66,6 +68,7 @@ itself Race = refl
 itself RaceQueues = refl
 itself Map = refl
 itself MapText = refl
+itself Check = refl
 
 -- a run is told by its command and its flag
 same_run : (words : List Text) (run other : TraceRun) → command_of other ≡ command_of run → GivesForm run words → HasForm other words → other ≡ run
@@ -81,6 +84,7 @@ same_run words Map Map is gives has = refl
 same_run words Map MapText is gives has = absurd (has.0 gives)
 same_run words MapText Map is gives has = absurd (has gives)
 same_run words MapText MapText is gives has = refl
+same_run words Check Check is gives has = refl
 same_run words run other is gives has = absurd (no_other (command_of other) (command_of run) is refl refl)
 
 -- words that name a run, give its flag and no file ask for it alone
@@ -130,15 +134,16 @@ answerable words (Size question) asks = has_table (texts_given (codes "B") words
 pub some_named : (words : List Text) (matches : ArgMatches) → Answers words matches
     → (subcommand_name_of matches ≡ Some (codes "classes") → ⊥) → (subcommand_name_of matches ≡ Some (codes "race") → ⊥)
     → (subcommand_name_of matches ≡ Some (codes "size") → ⊥) → (subcommand_name_of matches ≡ Some (codes "map") → ⊥)
-    → (subcommand_name_of matches ≡ Some (codes "replay") → ⊥) → ⊥
-some_named words matches answers no_classes no_race no_size no_map no_replay =
+    → (subcommand_name_of matches ≡ Some (codes "check") → ⊥) → (subcommand_name_of matches ≡ Some (codes "replay") → ⊥) → ⊥
+some_named words matches answers no_classes no_race no_size no_map no_check no_replay =
     let called = label_of_words words matches answers in
     elim (faultless_named words answers.0) [
       | inl is ↦ no_replay (called ∙ ap label is.1)
       | inr (inl is) ↦ no_race (called ∙ ap label is.1)
       | inr (inr (inl is)) ↦ no_classes (called ∙ ap label is.1)
       | inr (inr (inr (inl is))) ↦ no_size (called ∙ ap label is.1)
-      | inr (inr (inr (inr is))) ↦ no_map (called ∙ ap label is.1)
+      | inr (inr (inr (inr (inl is)))) ↦ no_map (called ∙ ap label is.1)
+      | inr (inr (inr (inr (inr is)))) ↦ no_check (called ∙ ap label is.1)
     ]
 
 -- what is read of the command that was entered

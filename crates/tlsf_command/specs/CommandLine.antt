@@ -9,7 +9,7 @@ use Rattle.tlsf_command.specs.SizeQuestions.{HasTable, IsQuestion}
 use Rattle.tlsf_command.specs.declared.command_line.Choice.{Choice}
 use Rattle.tlsf_command.specs.declared.command_line.Choice.TheVariants.{Trace, File, Classes, Size}
 use Rattle.tlsf_command.specs.declared.trace_run.TraceRun.{TraceRun}
-use Rattle.tlsf_command.specs.declared.trace_run.TraceRun.TheVariants.{Replay, Held, Race, RaceQueues, Map, MapText}
+use Rattle.tlsf_command.specs.declared.trace_run.TraceRun.TheVariants.{Replay, Held, Race, RaceQueues, Map, MapText, Check}
 
 -- the size that `classes` asks for, a number from 4 to 2^24
 abbrev pub size_rule : Rule
@@ -69,6 +69,10 @@ race_app = trace_app (codes "race") (codes "queues")
 abbrev pub map_app : App
 map_app = trace_app (codes "map") (codes "text")
 
+-- the command `check`
+abbrev pub check_app : App
+check_app = with_rule (new_app (codes "check")) file_rule
+
 -- the program with its version and no command yet, of which a command must be named
 abbrev pub bare_app : App
 bare_app =
@@ -81,7 +85,7 @@ tlsf_app =
     let replaying = with_subcommand bare_app replay_app.top in
     let racing = with_subcommand replaying race_app.top in
     let sizing = with_subcommand (with_subcommand racing classes_app.top) size_app.top in
-    with_subcommand sizing map_app.top
+    with_subcommand (with_subcommand sizing map_app.top) check_app.top
 
 -- the kinds of error that the words may come to, none where they name a command
 abbrev pub faults_of : List Text → Kinds
@@ -112,6 +116,7 @@ command_of Race = codes "race"
 command_of RaceQueues = codes "race"
 command_of Map = codes "map"
 command_of MapText = codes "map"
+command_of Check = codes "check"
 
 -- the words that ask for it, behind the program's name
 abbrev pub words_of : TraceRun → List Text
@@ -121,6 +126,7 @@ words_of Race = codes "race" ∷ []
 words_of RaceQueues = codes "race" ∷ codes "--queues" ∷ []
 words_of Map = codes "map" ∷ []
 words_of MapText = codes "map" ∷ codes "--text" ∷ []
+words_of Check = codes "check" ∷ []
 
 -- these words in one text
 abbrev pub spelled : TraceRun → Text
@@ -130,6 +136,7 @@ spelled Race = codes "race"
 spelled RaceQueues = codes "race --queues"
 spelled Map = codes "map"
 spelled MapText = codes "map --text"
+spelled Check = codes "check"
 
 -- how a trace is read from this file, as `tlsf: a trace is read from standard input: tlsf replay < first.trace`
 abbrev pub tip_line : TraceRun → Text → Text
@@ -156,12 +163,13 @@ LacksFlag name words = flag_given name words ≢ Some (codes "true")
 
 -- the words give the flag by which the run is asked for, or lack that by which another one is
 abbrev pub HasForm : TraceRun → List Text → Type 0
-HasForm Replay = LacksFlag (codes "held")
-HasForm Held = HasFlag (codes "held")
-HasForm Race = LacksFlag (codes "queues")
-HasForm RaceQueues = HasFlag (codes "queues")
-HasForm Map = LacksFlag (codes "text")
-HasForm MapText = HasFlag (codes "text")
+HasForm Replay words = LacksFlag (codes "held") words
+HasForm Held words = HasFlag (codes "held") words
+HasForm Race words = LacksFlag (codes "queues") words
+HasForm RaceQueues words = HasFlag (codes "queues") words
+HasForm Map words = LacksFlag (codes "text") words
+HasForm MapText words = HasFlag (codes "text") words
+HasForm Check words = ⊤
 
 -- what the choice holds is of the flags and the texts that the words give: a run is asked for where no file is named, and else its tip is due
 abbrev pub HasParts : List Text → Choice → Type 0

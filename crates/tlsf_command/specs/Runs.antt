@@ -1,5 +1,5 @@
 -- What a run of the program does.
-use Rattle.std.specs.Prelude.{◌≡◌, ◌⊎◌, ◌++◌, ℕ, List, [], ◌∷◌, Option, Result, Ok, Err, string_bytes}
+use Rattle.std.specs.Prelude.{◌≡◌, ◌⊎◌, ◌++◌, ℕ, List, [], ◌∷◌, Option, Result, Ok, Err, IfSome, string_bytes}
 use Rattle.std.specs.Io.KnownBytes.{Appends, Keeps}
 use Rattle.clap.specs.Words.{IsAmong, Text}
 use Rattle.clap.specs.declared.error.kind.ErrorKind.{ErrorKind}
@@ -17,7 +17,8 @@ use Rattle.tlsf_laws.specs.declared.kind.Kind.{Kind}
 use Rattle.tlsf_command.specs.declared.command_line.Choice.{Choice}
 use Rattle.tlsf_command.specs.declared.command_line.Choice.TheVariants.{Trace, File, Classes, Size}
 use Rattle.tlsf_command.specs.declared.trace_run.TraceRun.{TraceRun}
-use Rattle.tlsf_command.specs.declared.trace_run.TraceRun.TheVariants.{Replay, Held, Race, RaceQueues, Map, MapText}
+use Rattle.tlsf_command.specs.declared.trace_run.TraceRun.TheVariants.{Replay, Held, Race, RaceQueues, Map, MapText, Check}
+use Rattle.tlsf_check.specs.Checks.{Checks, Notes}
 use Rattle.tlsf_held.specs.Measures.{Measures}
 use Rattle.tlsf_picture.specs.Drawn.{Draws, DrawsText}
 use Rattle.tlsf_lines.specs.Prefixes.{AppendsFront}
@@ -40,20 +41,18 @@ abbrev pub status_of : Result Summary TraceFault → ℕ
 status_of (Ok summary) = 0
 status_of (Err fault) = status_of_fault fault
 
--- only a fault is reported, by its line or a prefix of it
-abbrev pub Reports : Result Summary TraceFault → Option (List ℕ) → Option (List ℕ) → Type 0
-Reports (Ok summary) old new = Keeps old new
-Reports (Err fault) old new = AppendsFront old new (fault_line fault)
+-- only a fault is reported, by its line and what is noted of it, or a prefix of these
+abbrev pub Reports : Result Summary TraceFault → (note : List ℕ) → Option (List ℕ) → Option (List ℕ) → Type 0
+Reports (Ok summary) note old new = Keeps old new
+Reports (Err fault) note old new = AppendsFront old new (fault_line fault ++ note)
 
--- the run is that of a trace that may put out these texts, and its answer gives the status and the report
-pub record RunsTrace (Puts : Outputs) (status : ℕ) (old new : Streams) : Type 0 where
-  pub answer : Result Summary TraceFault
-  pub run : IsRun Puts answer old.left new.left old.written new.written
-  pub status_is : status ≡ status_of answer
-  pub reported : Reports answer old.errors new.errors
+-- what is noted of a fault in a text: by a check, where it is and what was expected there, and else nothing
+abbrev pub IsNote : TraceRun → (text : Option (List ℕ)) → Result Summary TraceFault → (note : List ℕ) → Type 0
+IsNote Check text (Err fault) note = IfSome text (λ bytes. Notes bytes fault [] note)
+IsNote run text answer note = note ≡ []
 
 -- what a run may put out: what a replay does, or what its workers asked of their heaps; what a race does, each phase in threads, over lanes or over
--- queues; or the heaps that the trace leaves, as an SVG file or in the characters of a terminal
+-- queues; the heaps that the trace leaves, as an SVG file or in the characters of a terminal; or what a check says of it
 abbrev pub puts_of : TraceRun → Outputs
 puts_of Replay = Replays
 puts_of Held = Measures
@@ -61,10 +60,16 @@ puts_of Race = Races
 puts_of RaceQueues = RacesQueues
 puts_of Map = Draws
 puts_of MapText = DrawsText
+puts_of Check = Checks
 
--- the trace is run in this way
-abbrev pub RunsAs : TraceRun → ℕ → Streams → Streams → Type 0
-RunsAs run = RunsTrace (puts_of run)
+-- the trace is run in this way, and the answer gives the status and the report
+pub record RunsAs (run : TraceRun) (status : ℕ) (old new : Streams) : Type 0 where
+  pub answer : Result Summary TraceFault
+  pub note : List ℕ
+  pub ran : IsRun (puts_of run) answer old.left new.left old.written new.written
+  pub noted : IsNote run old.left answer note
+  pub status_is : status ≡ status_of answer
+  pub reported : Reports answer note old.errors new.errors
 
 -- memory ran out before anything was read or written
 pub record LacksMemory (status : ℕ) (old new : Streams) : Type 0 where

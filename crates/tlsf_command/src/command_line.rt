@@ -3,11 +3,13 @@ ghost use Rattle.std.specs.Option.{unwrap_or};
 ghost use Rattle.clap.specs.declared.builder.command.Command.{Command};
 ghost use Rattle.clap.specs.Words.{app_of, found_of, matched_of, new_app, raw_values, rule_of, subcommand_of, subcommand_rows_of, with_subcommand, FailsBy, Text};
 ghost use Rattle.clap.specs.declared.builder.command.Command.TheViews.{out-Command};
-ghost use Rattle.tlsf_command.specs.CommandLine.{bare_app, classes_app, count_rule, file_rule, flag_rule, level_rule, map_app, race_app, replay_app, size_app, size_rule, tlsf_app, trace_app, faults_of, Answers, Asks, IsRunOn};
+ghost use Rattle.tlsf_command.specs.CommandLine.{bare_app, check_app, classes_app, count_rule, file_rule, flag_rule, level_rule, map_app, race_app, replay_app, size_app, size_rule, tlsf_app, trace_app, faults_of, Answers, Asks, IsRunOn};
 
 use crate::VERSION;
 use crate::class_question::ClassQuestion;
-use crate::help::{CLASSES_HELP, MAP_HELP, PROGRAM_HELP, RACE_HELP, REPLAY_HELP, SIZE_HELP};
+use crate::help::{
+    CHECK_HELP, CLASSES_HELP, MAP_HELP, PROGRAM_HELP, RACE_HELP, REPLAY_HELP, SIZE_HELP,
+};
 use crate::size_question::SizeQuestion;
 use crate::trace_run::TraceRun;
 use clap::{Arg, ArgAction, ArgMatches, Command, Error};
@@ -162,6 +164,18 @@ fn map_command<'a>(alloc: Global) -> Result<Command<'a>, AllocError>
     trace_command(alloc, "map", usage, about, MAP_HELP, "text", flag_help)
 }
 
+// The command `check`.
+fn check_command<'a>(alloc: Global) -> Result<Command<'a>, AllocError>
+    ensures app { IfOk result (λ command. app_of command ≡ check_app) }
+    ensures local { IfOk result (λ command. (out-Command command).has_globals ≡ false) }
+{
+    let about = "Say what is wrong with the trace on standard input, and where";
+    let plain = described(alloc, "check", about, CHECK_HELP);
+    plain
+        .override_usage("tlsf check < TRACE")
+        .arg(file_argument(alloc))
+}
+
 // The command `size`.
 fn size_command<'a>(alloc: Global) -> Result<Command<'a>, AllocError>
     ensures app { IfOk result (λ command. app_of command ≡ size_app) }
@@ -210,7 +224,8 @@ fn tlsf_command<'a>(alloc: Global) -> Result<Command<'a>, AllocError>
     let racing = with_command(replaying, race_command(alloc))?;
     let counting = with_command(racing, classes_command(alloc))?;
     let sizing = with_command(counting, size_command(alloc))?;
-    with_command(sizing, map_command(alloc))?.bin_name("tlsf")
+    let mapping = with_command(sizing, map_command(alloc))?;
+    with_command(mapping, check_command(alloc))?.bin_name("tlsf")
 }
 
 // What `clap` makes of the words.
@@ -269,6 +284,9 @@ fn chosen(alloc: Global, matches: &ArgMatches<'_>) -> Result<Choice, AllocError>
             TraceRun::Map
         };
         return run_given(alloc, run, given);
+    }
+    if let Some(given) = matches.subcommand_matches("check") {
+        return run_given(alloc, TraceRun::Check, given);
     }
     match matches.subcommand_matches("replay") {
         Some(given) => {

@@ -1,8 +1,8 @@
-ghost use Rattle.std.specs.Prelude.{◌≡◌, ◌++◌, ℕ, List, [], ◌∷◌, Option, codes, map};
+ghost use Rattle.std.specs.Prelude.{◌≡◌, ◌++◌, ℕ, List, [], ◌∷◌, Option, codes, map, string_bytes};
 ghost use Rattle.clap.specs.Words.{kind_of};
 ghost use Rattle.tlsf_command.specs.FaultLines.{fault_line, status_of_fault};
 ghost use Rattle.tlsf_command.specs.CommandLine.{words_of, IsAnswerable, IsPlainWord};
-ghost use Rattle.tlsf_command.specs.Runs.{puts_of, streams, status_of, Does, Ends, Reports, RunsAs, RunsOrLacksMemory, ShowsAnswer, ShowsOptionsOrLacksMemory, ShowsPairsOrLacksMemory, TipsOrLacksMemory};
+ghost use Rattle.tlsf_command.specs.Runs.{puts_of, streams, status_of, Does, Ends, IsNote, Reports, RunsAs, RunsOrLacksMemory, ShowsAnswer, ShowsOptionsOrLacksMemory, ShowsPairsOrLacksMemory, TipsOrLacksMemory};
 ghost use Rattle.tlsf_command.specs.SizeQuestions.{option_words, pair_words, AreOptions, ArePairs, Pair, SizeOption};
 ghost use Rattle.tlsf_command.specs.declared.trace_run.TraceRun.{TraceRun};
 ghost use Rattle.tlsf_lines.specs.Prefixes.{AppendsFront};
@@ -20,6 +20,7 @@ use std::io::{Read, Write};
 use std::marker::Sync;
 use std::sync::Wait;
 use std::thread::Threads;
+use tlsf_check::check_trace;
 use tlsf_crew::Gate;
 use tlsf_held::measure_trace;
 use tlsf_picture::{draw_trace, draw_trace_as_text};
@@ -37,18 +38,36 @@ pub(crate) fn report<E: Write>(fault: TraceFault, errors: &mut E) -> u8
     report.status()
 }
 
+// Writes the line that reports the fault, and what is noted of it behind that.
+fn write_noted<E: Write>(report: FaultReport, note: &str, errors: &mut E) -> Result<(), WriteError>
+    ensures { AppendsFront (E.contents errors.old) (E.contents errors.new) (fault_line report.fault ++ note.now) }
+{
+    report.write_to(errors)?;
+    write_out(errors, note.as_bytes())
+}
+
+// Reports the fault with what is noted of it, and gives its exit status, which a fault in writing does not change.
+fn report_noted<E: Write>(fault: TraceFault, note: &str, errors: &mut E) -> u8
+    ensures status { result ≡ status_of_fault fault }
+    ensures lines { AppendsFront (E.contents errors.old) (E.contents errors.new) (fault_line fault ++ note.now) }
+{
+    let report = FaultReport { fault };
+    let _ = write_noted(report, note, errors);
+    report.status()
+}
+
 // The exit status of a run of a trace by its answer. Reports the fault that ended it, if one did.
-fn ended<E: Write>(answer: Result<Summary, TraceFault>, errors: &mut E) -> u8
+fn ended<E: Write>(answer: Result<Summary, TraceFault>, note: &str, errors: &mut E) -> u8
     ensures status { result ≡ status_of answer }
-    ensures reported { Reports answer (E.contents errors.old) (E.contents errors.new) }
+    ensures reported { Reports answer note.now (E.contents errors.old) (E.contents errors.new) }
 {
     match answer {
         Ok(_) => 0,
-        Err(fault) => report(fault, errors),
+        Err(fault) => report_noted(fault, note, errors),
     }
 }
 
-// Runs the trace that the reader gives.
+// Runs the trace that the reader gives. Where that is to check it, what explains a fault is noted.
 fn traced<T: Threads + Wait + Sync, R: Read, W: Write, G: Gate>(
     rt: &T,
     alloc: Global,
@@ -56,9 +75,12 @@ fn traced<T: Threads + Wait + Sync, R: Read, W: Write, G: Gate>(
     reader: &mut R,
     writer: &mut W,
     gate: &G,
+    note: &mut String,
 ) -> Result<Summary, TraceFault>
-    ensures { IsRun (puts_of run) result (R.remaining reader.old) (R.remaining reader.new)
+    requires { string_bytes note.old ≡ [] }
+    ensures ran { IsRun (puts_of run) result (R.remaining reader.old) (R.remaining reader.new)
         (W.contents writer.old) (W.contents writer.new) }
+    ensures noted { IsNote run (R.remaining reader.old) result (string_bytes note.new) }
 {
     match run {
         TraceRun::Replay => replay(alloc, reader, writer),
@@ -67,6 +89,7 @@ fn traced<T: Threads + Wait + Sync, R: Read, W: Write, G: Gate>(
         TraceRun::RaceQueues => race_trace_over_queues(rt, alloc, reader, writer, gate),
         TraceRun::Map => draw_trace(alloc, reader, writer),
         TraceRun::MapText => draw_trace_as_text(alloc, reader, writer),
+        TraceRun::Check => check_trace(alloc, reader, writer, note),
     }
 }
 
@@ -84,7 +107,9 @@ fn run_trace<T: Threads + Wait + Sync, R: Read, W: Write, E: Write, G: Gate>(
         (streams (R.remaining reader.old) (W.contents writer.old) (E.contents errors.old))
         (streams (R.remaining reader.new) (W.contents writer.new) (E.contents errors.new)) }
 {
-    ended(traced(rt, alloc, run, reader, writer, gate), errors)
+    let mut note = String::new(alloc);
+    let answer = traced(rt, alloc, run, reader, writer, gate, &mut note);
+    ended(answer, &note, errors)
 }
 
 // Says how a trace is read from a file that was named. A write that fails changes nothing.

@@ -19,6 +19,8 @@ In a file, as first.trace, it is run by 'tlsf replay < first.trace'.
 'tlsf race --queues' does so with one queue for the posts to each worker.
 'tlsf map' draws the heaps that a trace leaves, as an SVG file, and
 'tlsf map --text' in the characters of a terminal.
+'tlsf check' says where a trace that is refused is faulty, and what was expected
+there.
 'tlsf classes N' and 'tlsf size' read nothing and write one line.
 
 The exit status is 0 where the run is done, 1 where a fault of the trace, of a
@@ -75,7 +77,8 @@ takes the post.
 
 The exit status is 0 where the lines are written, 1 where a fault of the
 trace, of a read or of a write ends the run, and 3 where memory runs out. A
-fault is one line on standard error, as 'tlsf: line 2: bad number (13)'.";
+fault is one line on standard error, as 'tlsf: line 2: bad number (13)'; for
+a trace that is refused 'tlsf check < TRACE' says more.";
 
 /// What `tlsf race --help` says behind its options.
 pub const RACE_HELP: &str = "\
@@ -142,6 +145,26 @@ so many words, 1 where a heap has at most 1024:
 The exit status is 0 where the picture is written, 1 where a fault of the
 trace, of a read or of a write ends the run, and 3 where memory runs out. Faults
 are those of 'tlsf replay'.";
+
+/// What `tlsf check --help` says behind its options.
+pub const CHECK_HELP: &str = "\
+Standard input is a trace, as 'tlsf replay --help' tells. It is read and not
+run. Where it is a good one, standard output is one line, as
+
+  trace of version 1: 2 workers of 64 words, 7 calls, 2 phases
+
+Where a line is faulty, standard error has the fault as 'tlsf replay' has it,
+and behind it the line as it stands, a mark under the byte where the fault is,
+which field that is, and what was expected there:
+
+  tlsf: line 2: label out of order (14)
+    f 0 9
+        ^
+    field 3, the label: one that a line before made; found `9`, which none made
+
+The exit status is that of 'tlsf replay': 0 where the trace is a good one, 1
+where a fault of it, of a read or of a write ends the check, and 3 where memory
+runs out.";
 
 /// What `tlsf classes --help` says behind its options.
 pub const CLASSES_HELP: &str = "\

@@ -3,10 +3,12 @@
 //!
 //! [`run`] does what the words ask for. `replay` reads a trace, runs it, and writes the reply lines and a report on each
 //! heap; `replay --held` writes what each worker asks of its heap, and how large that must be for it. `race` replays with each
-//! phase run in threads, one for each worker. `map` writes a picture of the heaps that a trace leaves. A file that is named behind one
-//! of these isn't read: a line tells how it is given as standard input. `classes N` writes the size class and the search class of N words, and `size --blocks B --bytes N ..` the words of a region that never refuses B blocks of N
-//! bytes, for each pair; both at level 4 or, with `--sli 5`, at level 5. Help and version texts are written, and words that are refused are answered on the error stream. A
-//! [`RaceNotice`] shows that a long race is alive.
+//! phase run in threads, one for each worker. `map` writes a picture of the heaps that a trace leaves. `check` says what a
+//! trace is, or where its first fault is and what was expected there. A file that is named behind one of these isn't read: a
+//! line tells how it is given as standard input. `classes N` writes the size class and the search class of N words, and
+//! `size --blocks B --bytes N ..` the words of a region that never refuses B blocks of N bytes, for each pair; both at level 4
+//! or, with `--sli 5`, at level 5. Help and version texts are written, and words that are refused are answered on the error
+//! stream. A [`RaceNotice`] shows that a long race is alive.
 //!
 //! | Exit status | When |
 //! |---|---|

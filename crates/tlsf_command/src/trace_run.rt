@@ -15,6 +15,8 @@ pub enum TraceRun {
     Map,
     /// `tlsf map --text`: write that picture in the characters of a terminal.
     MapText,
+    /// `tlsf check`: say what it is, or where its first fault is and what was expected there.
+    Check,
 }
 
 impl TraceRun {
@@ -32,6 +34,7 @@ impl TraceRun {
             TraceRun::RaceQueues => "race --queues",
             TraceRun::Map => "map",
             TraceRun::MapText => "map --text",
+            TraceRun::Check => "check",
         }
     }
 

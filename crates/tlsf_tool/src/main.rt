@@ -4,10 +4,11 @@
 //! standard output. The whole trace is read and checked before a line runs, and the whole text is made before a byte is
 //! written. `tlsf race` does so with each phase run in threads, one for each worker; where it is long, it says on standard
 //! error about every ten seconds that it still runs. `tlsf map` writes a picture of the heaps that a trace leaves,
-//! with `--text` in the characters of a terminal. A file that is named behind one of these isn't read: a line says how it
-//! is given as standard input. `tlsf classes N` writes the size class and the search class of N words, and `tlsf size` the words
-//! of a region that never refuses. `tlsf --help` and `tlsf --version` say the rest. What it does with words and streams is
-//! [`tlsf_command::run`]; `main` gives it those of the process.
+//! with `--text` in the characters of a terminal. `tlsf check` says what a trace is, or where its first fault is and what was
+//! expected there. A file that is named behind one of these isn't read: a line says how it is given as standard input.
+//! `tlsf classes N` writes the size class and the search class of N words, and `tlsf size` the words of a region that never
+//! refuses. `tlsf --help` and `tlsf --version` say the rest. What it does with words and streams is [`tlsf_command::run`];
+//! `main` gives it those of the process.
 //!
 //! | Exit status | When |
 //! |---|---|

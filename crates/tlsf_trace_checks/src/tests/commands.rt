@@ -134,6 +134,7 @@ fn reports_a_read_that_fails(rt: HostRuntime) {
         ("tlsf,replay,--held", 4, 1, "tlsf"),
         ("tlsf,race", usize::MAX, 1, "tlsf: read failed (16)\n"),
         ("tlsf,race,--queues", 4, 1, "tlsf"),
+        ("tlsf,check", 4, 1, "tlsf"),
         ("tlsf,nothing", 0, 2, ""),
         ("tlsf,nothing", 4, 2, "erro"),
     ];
@@ -145,6 +146,25 @@ fn reports_a_read_that_fails(rt: HostRuntime) {
         let found = streams.run(&rt, rt.alloc(), words);
         let texts = (streams.writer.text(), streams.errors.text());
         same((words, found, texts), (words, status, ("", reported))).expect(&rt, "differ");
+    }
+}
+
+// Of a good trace `tlsf check` writes a line. Of a faulty one it reports the fault, and what is noted of it behind that; where the errors
+// take a part alone, that is a prefix of both, and the status is the same.
+#[test]
+fn checks_a_trace(rt: HostRuntime) {
+    let good = "trace of version 1: 1 worker of 64 words, 0 calls, 1 phase\n";
+    check_run(&rt, rt.alloc(), "tlsf,check", TRACE, (0, good, ""));
+    let faulty = b"tlsf 1 1 64 1\nf 0 9\n";
+    let told =
+        "tlsf: line 2: label out of order (14)\n  f 0 9\n      ^\n  field 3, the label: one that a line before made; found `9`, which none made\n";
+    check_run(&rt, rt.alloc(), "tlsf,check", faulty, (1, "", told));
+    for room in [10, 37, 38, 50] {
+        let mut streams = Streams::new(rt.alloc(), faulty);
+        streams.errors.room = room;
+        let status = streams.run(&rt, rt.alloc(), "tlsf,check");
+        let found = (status, streams.writer.text(), streams.errors.text());
+        same((room, found), (room, (1, "", &told[..room]))).expect(&rt, "differ");
     }
 }
 
@@ -176,6 +196,7 @@ fn reports_a_fault_of_the_writer(rt: HostRuntime) {
         ("tlsf,replay,--held", "held "),
         ("tlsf,race", "0 d d"),
         ("tlsf,race,--queues", "0 d d"),
+        ("tlsf,check", "trace"),
         ("tlsf,--help", "Prove"),
         ("tlsf,--version", "tlsf "),
         ("tlsf,classes,460", "class"),
@@ -319,6 +340,7 @@ fn tells_how_a_file_is_read(rt: HostRuntime) {
         ("tlsf,race,now", "race < now"),
         ("tlsf,race,--queues,a,b,c", "race --queues < a"),
         ("tlsf,map,help", "map < help"),
+        ("tlsf,check,x", "check < x"),
         ("tlsf,map,--text,--,-x", "map --text < -x"),
     ] {
         let mut streams = Streams::new(rt.alloc(), TRACE);

@@ -1,7 +1,7 @@
 use Rattle.std.proofs.Common.{◌≡◌, Option, Some, None, codes, refl, sym, true≢false}
 use Rattle.std.specs.Prelude.{IsSome}
 use Rattle.std.proofs.lemmas.Result.{IfOk-weaker}
-use Rattle.tlsf_command.specs.declared.trace_run.TraceRun.TheVariants.{Replay, Held, Race, RaceQueues, Map, MapText}
+use Rattle.tlsf_command.specs.declared.trace_run.TraceRun.TheVariants.{Replay, Held, Race, RaceQueues, Map, MapText, Check}
 use Rattle.tlsf_command.proofs.ChosenCommands.{asks_classes, asks_run, asks_size, flag_has, flag_lacks, some_named}
 use Rattle.tlsf_command.proofs.command_line.chosen.Goals.{then-get_flag, else-get_flag, then-get_flag-2, else-get_flag-2, then-get_flag-3, else-get_flag-3}
 use Rattle.tlsf_command.proofs.command_line.chosen.Goals as goal
@@ -39,6 +39,12 @@ returns-in-Some-subcommand_matches-3 c = λ words answers.
           (flag_lacks words c.args.matches.now map.given.now (codes "text") flag.result answers map.ensures.rows flag.ensures.value w.if-get_flag-2.false) (rw w.run-is at on)
     ]) c.run_given-in-Some-subcommand_matches-3.ensures
 
+pub returns-in-Some-subcommand_matches-4 : goal.returns-in-Some-subcommand_matches-4
+returns-in-Some-subcommand_matches-4 c = λ words answers.
+    let check = c.in-Some-subcommand_matches-4 in
+    IfOk-weaker c.run_given-in-Some-subcommand_matches-4.result _ _ (λ choice on. asks_run words c.args.matches.now check.given.now Check choice answers (check.ensures.found.0 refl) check.ensures.rows tt on)
+    c.run_given-in-Some-subcommand_matches-4.ensures
+
 -- a value that is no `Some` is none
 not_some : {X : Type 0} (o : Option X) → ((x : X) → o ≡ Some x → ⊥) → IsSome o → ⊥
 not_some None other is = true≢false (sym is)
@@ -51,15 +57,16 @@ unreachable-requires c =
     (λ called. not_some c.subcommand_matches-2.result c.in_default-subcommand_matches.not-Some (c.subcommand_matches-2.ensures.found.1 called))
     (λ called. not_some c.subcommand_matches-3.result c.in_default-subcommand_matches-2.not-Some (c.subcommand_matches-3.ensures.found.1 called))
     (λ called. not_some c.subcommand_matches-4.result c.in_default-subcommand_matches-3.not-Some (c.subcommand_matches-4.ensures.found.1 called))
-    (λ called. true≢false (sym (rw c.in-None.is at (c.subcommand_matches-5.ensures.found.1 called))))
+    (λ called. not_some c.subcommand_matches-5.result c.in_default-subcommand_matches-4.not-Some (c.subcommand_matches-5.ensures.found.1 called))
+    (λ called. true≢false (sym (rw c.in-None.is at (c.subcommand_matches-6.ensures.found.1 called))))
 
 pub returns : goal.returns
 returns c = λ words answers.
-    let replay = c.in-Some-subcommand_matches-4 in
-    let flag = c.get_flag-in-Some-subcommand_matches-4 in
-    IfOk-weaker c.run_given-in-Some-subcommand_matches-4.result _ _ (λ choice on. elim c.if-get_flag-3.branch [
+    let replay = c.in-Some-subcommand_matches-5 in
+    let flag = c.get_flag-in-Some-subcommand_matches-5 in
+    IfOk-weaker c.run_given-in-Some-subcommand_matches-5.result _ _ (λ choice on. elim c.if-get_flag-3.branch [
       | then-get_flag-3 w ↦ asks_run words c.args.matches.now replay.given.now Held choice answers (replay.ensures.found.0 refl) replay.ensures.rows
           (flag_has words c.args.matches.now replay.given.now (codes "held") flag.result answers replay.ensures.rows flag.ensures.other flag.ensures.none w.if-get_flag-3.true) (rw w.run-is at on)
       | else-get_flag-3 w ↦ asks_run words c.args.matches.now replay.given.now Replay choice answers (replay.ensures.found.0 refl) replay.ensures.rows
           (flag_lacks words c.args.matches.now replay.given.now (codes "held") flag.result answers replay.ensures.rows flag.ensures.value w.if-get_flag-3.false) (rw w.run-is at on)
-    ]) c.run_given-in-Some-subcommand_matches-4.ensures
+    ]) c.run_given-in-Some-subcommand_matches-5.ensures

@@ -1,19 +1,46 @@
+use Rattle.std.proofs.Common.{string_bytes}
+use Rattle.tlsf_command.proofs.Notes.{check_notes}
 use Rattle.tlsf_command.proofs.commands.traced.Goals as goal
 
-pub returns-in-Replay : goal.returns-in-Replay
-returns-in-Replay g c = rw c.in-Replay.is c.replay.ensures
+pub returns-in-Replay-clause-ran : goal.returns-in-Replay-clause-ran
+returns-in-Replay-clause-ran g c = rw c.in-Replay.is c.replay.ensures
 
-pub returns-in-Held : goal.returns-in-Held
-returns-in-Held g c = rw c.in-Held.is c.measure_trace.ensures
+pub returns-in-Replay-clause-noted : goal.returns-in-Replay-clause-noted
+returns-in-Replay-clause-noted g c = rw c.in-Replay.is c.requires
 
-pub returns-in-Race : goal.returns-in-Race
-returns-in-Race g c = rw c.in-Race.is c.race_trace.ensures
+pub returns-in-Held-clause-ran : goal.returns-in-Held-clause-ran
+returns-in-Held-clause-ran g c = rw c.in-Held.is c.measure_trace.ensures
 
-pub returns-in-RaceQueues : goal.returns-in-RaceQueues
-returns-in-RaceQueues g c = rw c.in-RaceQueues.is c.race_trace_over_queues.ensures
+pub returns-in-Held-clause-noted : goal.returns-in-Held-clause-noted
+returns-in-Held-clause-noted g c = rw c.in-Held.is c.requires
 
-pub returns-in-Map : goal.returns-in-Map
-returns-in-Map g c = rw c.in-Map.is c.draw_trace.ensures
+pub returns-in-Race-clause-ran : goal.returns-in-Race-clause-ran
+returns-in-Race-clause-ran g c = rw c.in-Race.is c.race_trace.ensures
 
-pub returns-in-MapText : goal.returns-in-MapText
-returns-in-MapText g c = rw c.in-MapText.is c.draw_trace_as_text.ensures
+pub returns-in-Race-clause-noted : goal.returns-in-Race-clause-noted
+returns-in-Race-clause-noted g c = rw c.in-Race.is c.requires
+
+pub returns-in-RaceQueues-clause-ran : goal.returns-in-RaceQueues-clause-ran
+returns-in-RaceQueues-clause-ran g c = rw c.in-RaceQueues.is c.race_trace_over_queues.ensures
+
+pub returns-in-RaceQueues-clause-noted : goal.returns-in-RaceQueues-clause-noted
+returns-in-RaceQueues-clause-noted g c = rw c.in-RaceQueues.is c.requires
+
+pub returns-in-Map-clause-ran : goal.returns-in-Map-clause-ran
+returns-in-Map-clause-ran g c = rw c.in-Map.is c.draw_trace.ensures
+
+pub returns-in-Map-clause-noted : goal.returns-in-Map-clause-noted
+returns-in-Map-clause-noted g c = rw c.in-Map.is c.requires
+
+pub returns-in-MapText-clause-ran : goal.returns-in-MapText-clause-ran
+returns-in-MapText-clause-ran g c = rw c.in-MapText.is c.draw_trace_as_text.ensures
+
+pub returns-in-MapText-clause-noted : goal.returns-in-MapText-clause-noted
+returns-in-MapText-clause-noted g c = rw c.in-MapText.is c.requires
+
+pub returns-in-Check-clause-ran : goal.returns-in-Check-clause-ran
+returns-in-Check-clause-ran g c = rw c.in-Check.is c.check_trace.ensures.run
+
+pub returns-in-Check-clause-noted : goal.returns-in-Check-clause-noted
+returns-in-Check-clause-noted g c = rw c.in-Check.is (check_notes c.check_trace.result (g.R.Read.remaining c.args.reader.now) (string_bytes c.args.note.now)
+    (string_bytes c.check_trace.new.note) c.requires c.check_trace.ensures.noted c.check_trace.ensures.kept)
