@@ -1,6 +1,6 @@
 -- What the words ask for, by what `clap` answers of them.
 use Rattle.std.proofs.Common.{◌≡◌, ◌∙◌, ℕ, Bool, false, true, true≢false, List, [], ◌∷◌, Option, Some, None, codes, length, option_map, inl, inr, refl, sym, ap, subst, arith}
-use Rattle.std.specs.Option.{option_map_or, unwrap_or}
+use Rattle.std.specs.Option.{unwrap_or}
 use Rattle.std.specs.Prelude.{option_and_then, string_bytes}
 use Rattle.std.specs.Str.{bytes_eq}
 use Rattle.std.proofs.lemmas.Bool.{false≢true}

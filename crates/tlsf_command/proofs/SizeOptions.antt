@@ -9,7 +9,7 @@ use Rattle.std.specs.Str.{bytes_eq}
 use Rattle.std.specs.Str.Parse.{digits_value, AllDigits}
 use Rattle.clap.specs.Faults.{bundle_fault, check_fault, defaults_fault, entered_fault, flag_word_fault, level_fault, settle_fault, step_fault, turn_fault, walk_fault}
 use Rattle.clap.specs.Kinds.{Kinds, or_else}
-use Rattle.clap.specs.Lexer.{long_of, short_of}
+use Rattle.clap.specs.Lexer.{long_of}
 use Rattle.clap.specs.Simple.{App, Shape, built, built_leaf, entered, names_of}
 use Rattle.clap.specs.ValueTests.{accepts, fits_i64, is_numeral}
 use Rattle.clap.specs.Walk.{Held, Row, Rule, Step, Text, Waiting, Walk, all_of, idle, option, trailing}
