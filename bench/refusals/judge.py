@@ -60,6 +60,10 @@ COMMANDS = [
     (["race"], RACED + b"a 0 1 1\n"),
     (["race", "--queues"], RACED + b"a 0 1 1\n"),
     (["map"], TRACE + b"x\n"),
+    (["check"], TRACE),
+    (["check"], TRACE + b"x\n"),
+    (["check"], RACED + b"a 0 1 1\n"),
+    (["replay", "first.trace"], b""),
 ]
 
 # `clap` looks for a word that is like the wrong one, and goes without it where its memory is refused.
@@ -149,7 +153,7 @@ def judge_threads(tally):
 
 
 def judge_reads(tally):
-    for words in [["replay"], ["replay", "--held"], ["race"], ["race", "--queues"], ["map"]]:
+    for words in [["replay"], ["replay", "--held"], ["race"], ["race", "--queues"], ["map"], ["check"]]:
         for bytes_each in [1, 7]:
             count = refuse_in_turn(tally, words, TRACE, [READ_FAILED], "refuse_read", read_bytes=bytes_each)
             print(f"tlsf {' '.join(words)}: {count} reads of at most {bytes_each} bytes refused in turn")
@@ -174,7 +178,7 @@ def judge_lengths(tally):
 
 def judge_writes(tally):
     """Standard output takes so many bytes, and then a write fails or takes no byte."""
-    traces = [["replay"], ["replay", "--held"], ["race"], ["race", "--queues"], ["map"]]
+    traces = [["replay"], ["replay", "--held"], ["race"], ["race", "--queues"], ["map"], ["check"]]
     for words, text in [*((words, SHORT_TRACE) for words in traces), (["classes", "460"], b""), (["--help"], b"")]:
         (status, whole, _), _ = run(words, text)
         assert status == 0
