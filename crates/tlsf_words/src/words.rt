@@ -1,3 +1,4 @@
+ghost use Rattle.std.specs.Fn.{FnOnceReturnsAt, FnOnceReturnsAtMut, FnOnceTakesAt, FnOnceTakesAtMut};
 ghost use Rattle.std.specs.Prelude.{◌≡◌, ℕ, ◌+◌, ◌*◌, ◌/◌, ◌<◌, ◌≤◌, ◌≢◌, ◌^◌, ◌++◌, false, length, take, drop, replicate, slice_index, slice_index_or, slice_set, IfOk};
 ghost use Rattle.tlsf_words.specs.Bytes.{byte_in, bytes_in, payload_byte};
 ghost use Rattle.tlsf_words.specs.Fields.{tag_word, size_in, last_in, free_in, back_in, length_word, links_word, low_half, high_half};
@@ -270,6 +271,54 @@ impl Words {
         self.words.zero(at as usize, n as usize);
     }
 
+    /// Hands `n` words behind the header at a place to `f`, as one slice that it may change, and answers what it answers. What it
+    /// reads and writes there makes no touch.
+    ///
+    /// ```
+    /// let first = words.alter(at, 2, |payload| {
+    ///     payload[1] = 7;     // the second payload word
+    ///     payload[0]
+    /// });
+    /// ```
+    pub fn alter<R, F: FnOnce(&mut [u64]) -> R>(&mut self, at: u32, n: u32, f: F) -> R
+        requires within { at + 3 + n ≤ length self.old.words }
+        requires calls { FnOnceTakesAtMut F.FnOnce f (take n (drop (at + 3) self.old.words)) }
+        ensures called { FnOnceReturnsAtMut F.FnOnce f (take n (drop (at + 3) self.old.words)) result (take n (drop (at + 3) self.new.words)) }
+        ensures before { (k : ℕ) → k < at + 3 → slice_index self.new.words k ≡ slice_index self.old.words k }
+        ensures behind { (k : ℕ) → at + 3 + n ≤ k → slice_index self.new.words k ≡ slice_index self.old.words k }
+        ensures length { length self.new.words ≡ length self.old.words }
+        ensures starts { self.new.starts ≡ self.old.starts }
+        ensures touches { self.new.touches ≡ self.old.touches }
+    {
+        self.words.alter(at as usize + 3, n as usize, f)
+    }
+
+    /// Shows `n` words behind the header at a place to `f`, as one slice, and answers what it answers. What it reads there makes no
+    /// touch.
+    ///
+    /// ```
+    /// let first = words.inspect(at, 2, |payload| payload[0]);
+    /// ```
+    pub fn inspect<R, F: FnOnce(&[u64]) -> R>(&self, at: u32, n: u32, f: F) -> R
+        requires within { at + 3 + n ≤ length self.now.words }
+        requires calls { FnOnceTakesAt F.FnOnce f (take n (drop (at + 3) self.now.words)) }
+        ensures { FnOnceReturnsAt F.FnOnce f (take n (drop (at + 3) self.now.words)) result }
+    {
+        self.words.inspect(at as usize + 3, n as usize, f)
+    }
+
+    /// The address of the first word, aligned to 8 bytes. It stays while the region does. No touch.
+    ///
+    /// ```
+    /// let base = words.base();     // the payload of the block at a place begins 8 * (at + 3) bytes from there
+    /// ```
+    #[inline]
+    pub fn base(&mut self) -> *mut u64
+        ensures { self.new ≡ self.old }
+    {
+        self.words.base()
+    }
+
     /// Writes bytes into the payload behind the header at a place, from a byte offset of it on. Each word that has one of them
     /// is read and written once, and its other bytes stay.
     ///
@@ -344,6 +393,56 @@ impl Words {
                 &mut out[piece.from..piece.from + piece.len],
             );
         }
+    }
+
+    /// Copies the first `len` payload bytes behind the header at a place, `from`, to those behind another, `to`. Each word that has
+    /// one of them is read and written once, and the other bytes stay.
+    ///
+    /// ```
+    /// words.copy_payload(0, 16, 13);     // a whole word and five bytes of the next, from place 3 on, to place 19 and the next
+    /// ```
+    pub fn copy_payload(&mut self, from: u32, to: u32, len: u32)
+        requires from { payload_byte from len ≤ 8 * length self.old.words }
+        requires to { payload_byte to len ≤ 8 * length self.old.words }
+        ensures bytes { bytes_in self.new.words (payload_byte to 0) len ≡ bytes_in self.old.words (payload_byte from 0) len }
+        ensures before { (k : ℕ) → k < payload_byte to 0 → byte_in self.new.words k ≡ byte_in self.old.words k }
+        ensures behind { (k : ℕ) → payload_byte to len ≤ k → byte_in self.new.words k ≡ byte_in self.old.words k }
+        ensures words_before { (k : ℕ) → k < to + 3 → slice_index self.new.words k ≡ slice_index self.old.words k }
+        ensures words_behind { (k : ℕ) → payload_byte to len ≤ 8 * k → slice_index self.new.words k ≡ slice_index self.old.words k }
+        ensures length { length self.new.words ≡ length self.old.words }
+        ensures starts { self.new.starts ≡ self.old.starts }
+        ensures touches { self.new.touches ≤ self.old.touches + 2 * (len / 8) + 3 }
+        ensures rise { self.old.touches ≤ self.new.touches }
+    {
+        let source = from as usize + 3;
+        let target = to as usize + 3;
+        let whole = len as usize / 8;
+        let rest = len as usize % 8;
+        if rest == 0 {
+            self.copy_words(source, target, whole);
+            return;
+        }
+        // Read first: the words that are copied may come to lie over it.
+        let last = self.read(source + whole).to_le_bytes();
+        self.copy_words(source, target, whole);
+        self.write_piece(target + whole, 0, &last[..rest]);
+    }
+
+    /// Copies `n` words from one place to another. It says of each byte of the region what becomes of it.
+    #[inline]
+    fn copy_words(&mut self, from: usize, to: usize, n: usize)
+        requires from { from + n ≤ length self.old.words }
+        requires to { to + n ≤ length self.old.words }
+        ensures copied { (k : ℕ) → k < 8 * n → byte_in self.new.words (8 * to + k) ≡ byte_in self.old.words (8 * from + k) }
+        ensures before { (k : ℕ) → k < 8 * to → byte_in self.new.words k ≡ byte_in self.old.words k }
+        ensures behind { (k : ℕ) → 8 * (to + n) ≤ k → byte_in self.new.words k ≡ byte_in self.old.words k }
+        ensures words_before { (k : ℕ) → k < to → slice_index self.new.words k ≡ slice_index self.old.words k }
+        ensures words_behind { (k : ℕ) → to + n ≤ k → slice_index self.new.words k ≡ slice_index self.old.words k }
+        ensures length { length self.new.words ≡ length self.old.words }
+        ensures starts { self.new.starts ≡ self.old.starts }
+        ensures touches { self.new.touches ≡ self.old.touches + 2 * n }
+    {
+        self.words.copy(from, to, n);
     }
 
     /// Writes bytes into one word, from byte `first` of it on. Its other bytes stay. It says of each byte of the region what
