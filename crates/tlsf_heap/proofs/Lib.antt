@@ -46,3 +46,5 @@ pub mod Gone
 pub mod Giving
 pub mod Left
 pub mod Served
+pub mod Alterings
+pub mod Moves

@@ -124,12 +124,12 @@ mark_of-with_bytes (Live size serial old) bytes = refl
 mark_of-with_bytes (Free size stamp) bytes = refl
 
 -- as many bytes have room too
-room-with_bytes : (b : Block) (bytes : List ℕ) → length bytes ≡ length (bytes_of b) → HasRoom b → HasRoom (with_bytes b bytes)
+pub room-with_bytes : (b : Block) (bytes : List ℕ) → length bytes ≡ length (bytes_of b) → HasRoom b → HasRoom (with_bytes b bytes)
 room-with_bytes (Live size serial old) bytes same room = (room.0, omega (arith, room.1))
 room-with_bytes (Free size stamp) bytes same room = room
 
 -- and are held by words that have them, under the same length
-holds-with_bytes : (xs ys : List ℕ) (at : ℕ) (b : Block) (bytes : List ℕ) → length bytes ≡ length (bytes_of b) → get_or ys (at + 2) 0 ≡ get_or xs (at + 2) 0
+pub holds-with_bytes : (xs ys : List ℕ) (at : ℕ) (b : Block) (bytes : List ℕ) → length bytes ≡ length (bytes_of b) → get_or ys (at + 2) 0 ≡ get_or xs (at + 2) 0
     → bytes_in ys (8 * (at + 3)) (length (bytes_of b)) ≡ bytes → HoldsPayload xs at b → HoldsPayload ys at (with_bytes b bytes)
 holds-with_bytes xs ys at (Live size serial old) bytes same word held h = (word ∙ h.0 ∙ ap length_word (sym same), rw same held)
 holds-with_bytes xs ys at (Free size stamp) bytes same word held h = tt

@@ -72,6 +72,10 @@ module _ (h : HeapState) (name : Name) (at n : ℕ) where
       at_name h name (read_at at n) (λ why. Err why) is_named.0 is_named.1.0 is_named.1.1
       ∙ ap (λ (c : Bool). cond c (Ok (take n (drop at (bytes_of (block_at h.blocks is_named.1.0))))) (Err Range)) e
 
+-- no bytes of a live block are there to be read
+pub read_none : (h : HeapState) (name : Name) (is_named : IsNamed h name) → read_of h name 0 0 ≡ Ok []
+read_none h name is_named = read_if h name 0 0 is_named true (let has : has_bytes (block_at h.blocks is_named.1.0) 0 0 ≡ true = grind (arith, nat_tests) in has)
+
 -- a live block of this name has n bytes from number `at` on
 abbrev pub HasRange : HeapState → Name → ℕ → ℕ → Type 0
 HasRange h name at n = (i : ℕ) × IsFirst name.at name.serial h.blocks i × (has_bytes (block_at h.blocks i) at n ≡ true)
@@ -86,7 +90,7 @@ pub record Ranged (h : HeapState) (name : Name) (at n : ℕ) : Type 0 where
 
 -- a block of this name in the heap k, and its length as it is read in the heap h, which is the same
 module _ (h k : HeapState) (name : Name) (at n len : ℕ) (same : h ≡ k) (is_named : IsNamed k name) (value : (i : ℕ) → StandsAt h.blocks name.at i → len ≡ length (bytes_of (block_at h.blocks i))) where
-  length_is : len ≡ length (bytes_of (block_at k.blocks is_named.1.0))
+  pub length_is : len ≡ length (bytes_of (block_at k.blocks is_named.1.0))
   length_is =
       subst (λ (s : HeapState). (i : ℕ) → StandsAt s.blocks name.at i → len ≡ length (bytes_of (block_at s.blocks i))) same value is_named.1.0 (named_stands _ _ _ _ is_named.1.1)
 
@@ -98,6 +102,12 @@ module _ (h k : HeapState) (name : Name) (at n len : ℕ) (same : h ≡ k) (is_n
       let e = length_is in
       let has : has_bytes (block_at k.blocks is_named.1.0) at n ≡ true = grind (arith, nat_tests) in
       record { is_answer = sym (ap read_answer (read_if k name at n is_named true has)); range = (is_named.1.0, is_named.1.1, has) }
+
+-- so many bytes are there, of a block that has them
+pub range_is : (k : HeapState) (name : Name) (at n : ℕ) (is_named : IsNamed k name) → at + n ≤ length (bytes_of (block_at k.blocks is_named.1.0)) → Ranged k name at n
+range_is k name at n is_named le =
+    let has : has_bytes (block_at k.blocks is_named.1.0) at n ≡ true = grind (arith, nat_tests) in
+    record { is_answer = sym (ap read_answer (read_if k name at n is_named true has)); range = (is_named.1.0, is_named.1.1, has) }
 
 own_if : (b : Bool) (r : Result (List ℕ) Refusal) → Ok tt ≡ read_answer (cond b r (Err Foreign)) → b ≡ true
 own_if true r e = refl

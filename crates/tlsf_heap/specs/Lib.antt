@@ -19,3 +19,5 @@ pub mod Placed
 pub mod Reports
 pub mod Tallies
 pub mod Laws
+pub mod InPlace
+pub mod Moved

@@ -1,10 +1,14 @@
-ghost use Rattle.std.specs.Prelude.{◌≡◌, ◌≢◌, ℕ, ◌+◌, ◌*◌, ◌/◌, ◌-◌, ◌<◌, ◌≤◌, ◌^◌, ◌↔◌, [], true, length, IfOk, OnOk, OnErr, IsOk, IsErrOf};
+ghost use Rattle.std.specs.Fn.{FnOnceTakesAt, FnOnceTakesAtMut};
+ghost use Rattle.std.specs.Prelude.{◌≡◌, ◌≢◌, ℕ, List, ◌+◌, ◌*◌, ◌/◌, ◌-◌, ◌<◌, ◌≤◌, ◌^◌, ◌↔◌, [], true, length, take, IfOk, OnOk, OnErr, IsOk, IsErrOf, MatchResult, Ok, Err};
 ghost use Rattle.std.specs.Result.{result_unwrap_or};
 ghost use Rattle.tlsf_class.specs.Classes.{IsLevel, most_words};
 ghost use Rattle.tlsf_heap.specs.Blocks;
 ghost use Rattle.tlsf_heap.specs.Blocks.{IsPlace};
 ghost use Rattle.tlsf_heap.specs.Image.{Shows};
+ghost use Rattle.tlsf_heap.specs.InPlace.{payload_of, ArePayload, Alters, Inspects, IsPayloadCheck, IsRefusedAsRead};
 ghost use Rattle.tlsf_heap.specs.Lawful.{IsLawful, IsRegion};
+ghost use Rattle.tlsf_heap.specs.Laws.{IsLive};
+ghost use Rattle.tlsf_heap.specs.Moved.{moved, payload_words_moved, resized_or_moved};
 ghost use Rattle.tlsf_heap.specs.GoodFit.{fits, block_at};
 ghost use Rattle.tlsf_heap.specs.Named.{IsFirst, IsNameCheck};
 ghost use Rattle.tlsf_heap.specs.Placed.{placed_at};
@@ -253,6 +257,45 @@ impl<const SLI: u32> Heap<SLI> {
         Ok(())
     }
 
+    /// Makes the payload of the block of that name `len` bytes long: where the block stands, as `resize`, and where there is no room in
+    /// another block, which gets the payload's bytes and zeros behind them, and the old one is released. The answer is the name
+    /// that the payload has from then on; where it isn't the old one, the old one is stale.
+    ///
+    /// Refused as `Foreign` where the name is of another heap, else as `Stale` where no live block has that place and serial. Where there
+    /// is room at its place it is refused as `Worn` where the tick is at its last value. Where there is none, as `Worn` where fewer
+    /// than two ticks are left, since a move takes two, else as `NoFit` where `allocate` finds no block. Never as `NoRoom`. A refusal
+    /// changes nothing. Takes no memory.
+    ///
+    /// ```text
+    /// let name = heap.allocate(8)?;            // of a new heap of 64 words: 4 of them
+    /// let wall = heap.allocate(8)?;            // right behind it
+    /// let moved = heap.resize_or_move(name, 100)?;          // at place 8
+    /// heap.release(name) == Err(Refusal::Stale)
+    /// ```
+    pub fn resize_or_move(&mut self, name: Name, len: u32) -> Result<Name, Refusal>
+        ensures answer { result ≡ (resized_or_moved SLI self.old.heap name len).answer }
+        ensures heap { self.new.heap ≡ (resized_or_moved SLI self.old.heap name len).heap }
+
+        // A refusal changes nothing.
+        ensures err { OnErr result (self.new.heap ≡ self.old.heap) }
+        ensures stored { OnErr result (self.new.stored ≡ self.old.stored) }
+        ensures was_lawful { IsLawful self.old.heap }
+        ensures lawful { IsLawful self.new.heap }
+        ensures shows { Shows self.new.stored self.new.heap.blocks }
+
+        // Accepted or refused, and whatever the region holds: at most 128 touches, one for each payload word of the block resized where
+        // it stands, and three for each of that which it moves to.
+        ensures touches { self.new.touches ≤ self.old.touches + 128 + payload_words_left (resized self.old.heap name len).answer (resized self.old.heap name len).heap name
+            + 3 * payload_words_moved SLI self.old.heap len }
+        ensures touches_rise { self.old.touches ≤ self.new.touches }
+    {
+        match self.resize(name, len) {
+            Ok(()) => Ok(name),
+            Err(Refusal::NoRoom) => self.relocate(name, len),
+            Err(why) => Err(why),
+        }
+    }
+
     /// Writes bytes into the payload of the block of that name, from byte `at` of it on.
     ///
     /// Refused as `Foreign` where the name is of another heap, else as `Stale` where no live block has that place and
@@ -315,6 +358,95 @@ impl<const SLI: u32> Heap<SLI> {
         self.check_range(name, at, out.len())?;
         self.region.read(name.at, at, out);
         Ok(())
+    }
+
+    /// Hands the payload of the block of that name to `f`, which reads and writes it where it stands, and gives back what `f` answers.
+    ///
+    /// `f` gets the words that hold the payload: as many as its bytes need, eight in each, the lowest bits first. What it leaves in the
+    /// last word past the payload's end means nothing. What it reads and writes is not counted in the touches, and takes the time that it takes.
+    ///
+    /// Refused as `Foreign` where the name is of another heap, else as `Stale` where no live block has that place and
+    /// serial; `f` is then not called. Takes no memory.
+    ///
+    /// ```text
+    /// let name = heap.allocate(16)?;
+    /// heap.alter(name, |words| words[1] = 0x6948) == Ok(())          // bytes 8 and 9 are 0x48 and 0x69
+    /// ```
+    pub fn alter<R, F: FnOnce(&mut [u64]) -> R>(&mut self, name: Name, f: F) -> Result<R, Refusal>
+        requires { IsLive self.old.heap name → (words : List ℕ) → ArePayload self.old.heap name words → FnOnceTakesAtMut F.FnOnce f words }
+        ensures answer { IsRefusedAsRead self.old.heap name result }
+
+        // What `f` was handed and what it left: the heap is as a write of those bytes makes it, so it has the same blocks, and other names their bytes.
+        ensures altered { IfOk result (λ r. Alters F.FnOnce f self.old.heap name r self.new.heap) }
+
+        // A refusal changes nothing.
+        ensures err { OnErr result (self.new.heap ≡ self.old.heap) }
+        ensures stored { OnErr result (self.new.stored ≡ self.old.stored) }
+        ensures was_lawful { IsLawful self.old.heap }
+        ensures lawful { IsLawful self.new.heap }
+        ensures shows { Shows self.new.stored self.new.heap.blocks }
+        ensures touches { self.new.touches ≤ self.old.touches + 4 }
+        ensures touches_rise { self.old.touches ≤ self.new.touches }
+
+        // A forged name is not followed: not even a start bit is read unless the place lies in the region, and no word unless a block begins there.
+        ensures foreign { name.heap ≢ self.old.heap.id → self.new.touches ≡ self.old.touches }
+        ensures outside { self.old.heap.words ≤ name.at → self.new.touches ≡ self.old.touches }
+        ensures nowhere { name.heap ≡ self.old.heap.id → name.at < self.old.heap.words → ¬ (IsPlace self.old.heap.blocks name.at)
+            → self.new.touches ≡ self.old.touches + 1 }
+    {
+        let len = self.check_payload(name)?;
+        Ok(self.region.alter(name.at, len, f))
+    }
+
+    /// Shows the payload of the block of that name to `f`, where it stands, and gives back what `f` answers.
+    ///
+    /// `f` gets the words that hold the payload: as many as its bytes need, eight in each, the lowest bits first. Bits of the last word past
+    /// the payload's end mean nothing. What `f` reads is not counted in the touches, and takes the time that it takes.
+    ///
+    /// Refused as `Foreign` where the name is of another heap, else as `Stale` where no live block has that place and
+    /// serial; `f` is then not called. Takes no memory.
+    ///
+    /// ```text
+    /// heap.inspect(name, |words| words[1]) == Ok(0x6948)              // after the alter above
+    /// ```
+    pub fn inspect<R, F: FnOnce(&[u64]) -> R>(&mut self, name: Name, f: F) -> Result<R, Refusal>
+        requires { IsLive self.old.heap name → (words : List ℕ) → ArePayload self.old.heap name words → FnOnceTakesAt F.FnOnce f words }
+        ensures answer { IsRefusedAsRead self.old.heap name result }
+        ensures inspected { IfOk result (λ r. Inspects F.FnOnce f self.old.heap name r) }
+        ensures heap { self.new.heap ≡ self.old.heap }
+        ensures stored { self.new.stored ≡ self.old.stored }
+        ensures was_lawful { IsLawful self.old.heap }
+        ensures touches { self.new.touches ≤ self.old.touches + 4 }
+        ensures touches_rise { self.old.touches ≤ self.new.touches }
+
+        // A forged name is not followed: not even a start bit is read unless the place lies in the region, and no word unless a block begins there.
+        ensures foreign { name.heap ≢ self.old.heap.id → self.new.touches ≡ self.old.touches }
+        ensures outside { self.old.heap.words ≤ name.at → self.new.touches ≡ self.old.touches }
+        ensures nowhere { name.heap ≡ self.old.heap.id → name.at < self.old.heap.words → ¬ (IsPlace self.old.heap.blocks name.at)
+            → self.new.touches ≡ self.old.touches + 1 }
+    {
+        let len = self.check_payload(name)?;
+        Ok(self.region.inspect(name.at, len, f))
+    }
+
+    /// The address of the region's first word, and how many bytes of payload the block of that name has. Its payload begins
+    /// at byte `8 * (name.at + 3)` from that address, until the block is released.
+    ///
+    /// Refused as `Foreign` where the name is of another heap, else as `Stale` where no live block has that place and
+    /// serial. Takes no memory.
+    ///
+    /// ```text
+    /// let (base, len) = heap.payload(name)?;          // 16 bytes, from `base + 8 * (name.at + 3)` on
+    /// ```
+    pub fn payload(&mut self, name: Name) -> Result<(*mut u64, u32), Refusal>
+        ensures payload { MatchResult result (λ p. IsPayloadCheck self.old.heap name (Ok p.1)) (λ why. IsPayloadCheck self.old.heap name (Err why)) }
+        ensures heap { self.new.heap ≡ self.old.heap }
+        ensures stored { self.new.stored ≡ self.old.stored }
+        ensures touches { self.new.touches ≤ self.old.touches + 5 }
+    {
+        let len = self.check_payload(name)?;
+        let base = self.region.base();
+        Ok((base, len))
     }
 
     /// What the heap holds, and how well it serves: a walk over all its blocks. Takes no memory.
@@ -414,6 +546,24 @@ impl<const SLI: u32> Heap<SLI> {
         Ok(tag)
     }
 
+    /// The payload length in bytes of the live block of that name. Where none has it, `Foreign` or else `Stale`.
+    fn check_payload(&mut self, name: Name) -> Result<u32, Refusal>
+        ensures answer { IsPayloadCheck self.old.heap name result }
+        ensures heap { self.new.heap ≡ self.old.heap }
+        ensures stored { self.new.stored ≡ self.old.stored }
+        ensures shows { Shows self.new.stored self.new.heap.blocks }
+        ensures lawful { IsLawful self.old.heap }
+        ensures touches { self.new.touches ≤ self.old.touches + 4 }
+        ensures rise { self.old.touches ≤ self.new.touches }
+        ensures foreign { name.heap ≢ self.old.heap.id → self.new.touches ≡ self.old.touches }
+        ensures outside { self.old.heap.words ≤ name.at → self.new.touches ≡ self.old.touches }
+        ensures nowhere { name.heap ≡ self.old.heap.id → name.at < self.old.heap.words → ¬ (IsPlace self.old.heap.blocks name.at)
+            → self.new.touches ≡ self.old.touches + 1 }
+    {
+        self.check(name)?;
+        Ok(self.region.length(name.at))
+    }
+
     /// Whether `n` bytes from number `at` on are payload bytes of the block of that name.
     fn check_range(&mut self, name: Name, at: u32, n: usize) -> Result<(), Refusal>
         ensures answer { result ≡ read_answer (read_of self.old.heap name at n) }
@@ -435,5 +585,54 @@ impl<const SLI: u32> Heap<SLI> {
             return Err(Refusal::Range);
         }
         Ok(())
+    }
+
+    /// Moves the live block of that name to one of `len` bytes. Two ticks pass, so it is `Worn` where fewer are left.
+    fn relocate(&mut self, name: Name, len: u32) -> Result<Name, Refusal>
+        requires { IsLive self.old.heap name }
+        ensures answer { result ≡ (moved SLI self.old.heap name len).answer }
+        ensures heap { self.new.heap ≡ (moved SLI self.old.heap name len).heap }
+        ensures err { OnErr result (self.new.heap ≡ self.old.heap) }
+        ensures stored { OnErr result (self.new.stored ≡ self.old.stored) }
+        ensures lawful { IsLawful self.new.heap }
+        ensures shows { Shows self.new.stored self.new.heap.blocks }
+        ensures touches { self.new.touches ≤ self.old.touches + 61 + 3 * payload_words_moved SLI self.old.heap len }
+        ensures rise { self.old.touches ≤ self.new.touches }
+    {
+        if self.tick >= u64::MAX - 1 {
+            return Err(Refusal::Worn);
+        }
+        let new = self.allocate(len)?;
+        let len = self.length(name).min(self.length(new));
+        self.copy(name, new, len);
+        self.release(name)?;
+        Ok(new)
+    }
+
+    /// The payload length in bytes of the live block of that name.
+    fn length(&mut self, name: Name) -> u32
+        requires { IsLive self.old.heap name }
+        ensures value { result ≡ length (payload_of self.old.heap name) }
+        ensures heap { self.new.heap ≡ self.old.heap }
+        ensures lawful { IsLawful self.new.heap }
+        ensures touches { self.new.touches ≤ self.old.touches + 1 }
+        ensures rise { self.old.touches ≤ self.new.touches }
+    {
+        self.region.length(name.at)
+    }
+
+    /// Copies the first `len` payload bytes of one live block to the first of another.
+    fn copy(&mut self, from: Name, to: Name, len: u32)
+        requires from { IsLive self.old.heap from }
+        requires to { IsLive self.old.heap to }
+        requires least { len ≤ length (payload_of self.old.heap from) }
+        requires room { len ≤ length (payload_of self.old.heap to) }
+        ensures heap { self.new.heap ≡ (written self.old.heap to 0 (take len (payload_of self.old.heap from))).heap }
+        ensures lawful { IsLawful self.new.heap }
+        ensures shows { Shows self.new.stored self.new.heap.blocks }
+        ensures touches { self.new.touches ≤ self.old.touches + 2 * (len / 8) + 3 }
+        ensures rise { self.old.touches ≤ self.new.touches }
+    {
+        self.region.copy(from.at, to.at, len);
     }
 }

@@ -1,12 +1,15 @@
+ghost use Rattle.std.specs.Fn.{FnOnceReturnsAt, FnOnceReturnsAtMut, FnOnceTakesAt, FnOnceTakesAtMut};
 ghost use Rattle.std.specs.Prelude.{◌≡◌, ℕ, ◌+◌, ◌*◌, ◌/◌, ◌-◌, ◌<◌, ◌≤◌, ◌^◌, [], ◌∷◌, ◌++◌, false, true, length, take, drop, Some, slice_get, Contains, IfOk};
 ghost use Rattle.std.specs.List.{AllByRecursion};
 ghost use Rattle.tlsf_class.specs.Classes.{IsLevel, most_words};
 ghost use Rattle.tlsf_class.specs.Members.{next_member};
+ghost use Rattle.tlsf_words.specs.Bytes.{bytes_in, payload_byte};
 ghost use Rattle.tlsf_words.specs.Lists.{listed_classes, IsUnlisted};
 ghost use Rattle.tlsf_heap.specs.Blocks.{size_of, is_free, bytes_of, words_for, StandsAt, IsPlace};
 ghost use Rattle.tlsf_heap.specs.GoodFit.{block_at};
 ghost use Rattle.tlsf_heap.specs.Calls;
 ghost use Rattle.tlsf_heap.specs.Image.{mark_of};
+ghost use Rattle.tlsf_heap.specs.InPlace.{payload_at};
 ghost use Rattle.tlsf_heap.specs.Lawful.{HasRoom};
 ghost use Rattle.tlsf_heap.specs.Named.{IsNameTest};
 ghost use Rattle.tlsf_heap.specs.Placed.{placed_at};
@@ -177,6 +180,44 @@ impl<const SLI: u32> Region<SLI> {
             (s.before ++ (Calls.with_bytes s.block (Calls.overwritten (bytes_of s.block) offset bytes.now) ∷ []) ++ s.after) (2 * (length bytes.now / 8 + 2))) }
     {
         self.words.copy_in(at, offset, bytes);
+    }
+
+    /// Hands the words that hold the payload of the live block at a place, of `len` bytes, to `f`, which may change them, and answers
+    /// what it answers.
+    pub fn alter<R, F: FnOnce(&mut [u64]) -> R>(&mut self, at: u32, len: u32, f: F) -> R
+        requires live { (i : ℕ) × StandsAt self.old.blocks at i × (len ≡ length (bytes_of (block_at self.old.blocks i))) }
+        requires calls { FnOnceTakesAtMut F.FnOnce f (payload_at self.old.stored at len) }
+        ensures called { FnOnceReturnsAtMut F.FnOnce f (payload_at self.old.stored at len) result (payload_at self.new.stored at len) }
+        ensures change { EachAt self.old.blocks at (λ s. Rewrites self.old self.new
+            (s.before ++ (Calls.with_bytes s.block (Calls.overwritten (bytes_of s.block) 0 (bytes_in self.new.stored.words (payload_byte at 0) len)) ∷ []) ++ s.after) 0) }
+    {
+        self.words.alter(at, len.div_ceil(8), f)
+    }
+
+    /// Shows the words that hold the payload of the live block at a place, of `len` bytes, to `f`, and answers what it answers.
+    pub fn inspect<R, F: FnOnce(&[u64]) -> R>(&self, at: u32, len: u32, f: F) -> R
+        requires live { (i : ℕ) × StandsAt self.now.blocks at i × (len ≡ length (bytes_of (block_at self.now.blocks i))) }
+        requires calls { FnOnceTakesAt F.FnOnce f (payload_at self.now.stored at len) }
+        ensures { FnOnceReturnsAt F.FnOnce f (payload_at self.now.stored at len) result }
+    {
+        self.words.inspect(at, len.div_ceil(8), f)
+    }
+
+    /// The address of the first word.
+    pub fn base(&mut self) -> *mut u64
+        ensures { self.new ≡ self.old }
+    {
+        self.words.base()
+    }
+
+    /// Copies the first `len` payload bytes of the live block at a place, `from`, to the first of that at another, `to`.
+    pub fn copy(&mut self, from: u32, to: u32, len: u32)
+        requires from { (i : ℕ) × StandsAt self.old.blocks from i × (len ≤ length (bytes_of (block_at self.old.blocks i))) }
+        requires to { (i : ℕ) × StandsAt self.old.blocks to i × (len ≤ length (bytes_of (block_at self.old.blocks i))) }
+        ensures { EachAt self.old.blocks to (λ s. Rewrites self.old self.new
+            (s.before ++ (Calls.with_bytes s.block (Calls.overwritten (bytes_of s.block) 0 (bytes_in self.old.stored.words (payload_byte from 0) len)) ∷ []) ++ s.after) (2 * (len / 8) + 3)) }
+    {
+        self.words.copy_payload(from, to, len);
     }
 
     /// Makes the payload of the live block at a place `len` bytes long, for which the block has room. The bytes up to the smaller

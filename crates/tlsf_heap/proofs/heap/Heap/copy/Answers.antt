@@ -1,0 +1,73 @@
+use Rattle.std.proofs.Common.{◌≡◌, ℕ, ◌≤◌, List, length, sym, ap, ◌∙◌, arith}
+use Rattle.tlsf_words.specs.Bytes.{bytes_in, payload_byte}
+use Rattle.tlsf_heap.specs.Blocks.{HeapState, StandsAt, bytes_of}
+use Rattle.tlsf_heap.specs.GoodFit.{block_at}
+use Rattle.tlsf_heap.specs.Shown.{Shown}
+use Rattle.tlsf_heap.specs.Calls.{written}
+use Rattle.tlsf_heap.specs.FreePlaces.{free_places}
+use Rattle.tlsf_heap.specs.Regions.{list_in}
+use Rattle.tlsf_heap.specs.Stored.{state_of}
+use Rattle.tlsf_heap.proofs.Alterings.{first_bytes, named_of, payload_is, room_in}
+use Rattle.tlsf_heap.proofs.Listing.{same_lists}
+use Rattle.tlsf_heap.proofs.Lawfulness.{with_region}
+use Rattle.tlsf_heap.proofs.Payloads.{length-bytes_in}
+use Rattle.tlsf_heap.proofs.Writing.{Writes, writes, range_is}
+use Rattle.tlsf_heap.proofs.Standing.{behind_one}
+use Rattle.tlsf_heap.proofs.heap.Heap.copy.Given.{Over}
+use Rattle.tlsf_heap.proofs.heap.Heap.copy.Goals as goal
+
+pub copy-requires : goal.copy-requires
+copy-requires g c =
+    let h = state_of g.row.SLI c.self.inside in
+    let same : h ≡ c.args.self.now.heap = ap (λ (s : Shown). s.heap) c.self.view_is in
+    (omega arith, (room_in h _ c.args.from c.args.len same c.requires.from c.requires.least, room_in h _ c.args.to c.args.len same c.requires.to c.requires.room))
+
+-- the block that is written stands there
+stood : (g : Over) (c : goal.After-copy g) → (i : ℕ) × StandsAt c.self.inside.region.blocks c.args.to.at i × (c.args.len ≤ length (bytes_of (block_at c.self.inside.region.blocks i)))
+stood g c = room_in (state_of g.row.SLI c.self.inside) c.args.self.now.heap c.args.to c.args.len (ap (λ (s : Shown). s.heap) c.self.view_is) c.requires.to c.requires.room
+
+-- the bytes that are copied
+abbrev source : (g : Over) → goal.After-copy g → List ℕ
+source g c = bytes_in c.self.inside.region.stored.words (payload_byte c.args.from.at 0) c.args.len
+
+wrote : (g : Over) (c : goal.After-copy g) → Writes g.row.SLI c.args.self.now.heap c.args.to 0 (source g c) (with_region (state_of g.row.SLI c.self.inside) c.self.inside.tick c.copy.new.self)
+wrote g c =
+    let k = c.args.self.now.heap in
+    let is_named = named_of k c.args.to c.requires.to in
+    let many = length-bytes_in c.self.inside.region.stored.words (payload_byte c.args.from.at 0) c.args.len in
+    let ranged = range_is k c.args.to 0 (length (source g c)) is_named (omega (arith, many, c.requires.room, ap length (payload_is k c.args.to is_named))) in
+    writes g.row.SLI (state_of g.row.SLI c.self.inside) k c.args.to 0 (source g c) (ap (λ (s : Shown). s.heap) c.self.view_is)
+    ranged.is_answer ranged.range c.copy.new.self c.self.invariant.lawful (c.copy.ensures (stood g c).0 (stood g c).1).edits.words
+    (λ i stands. (c.copy.ensures i stands).blocks ∙ sym (behind_one i _ c.self.inside.region.blocks))
+
+pub invariant_of-self : goal.invariant_of-self
+invariant_of-self g c =
+    let same : state_of g.row.SLI c.self.inside ≡ c.args.self.now.heap = ap (λ (s : Shown). s.heap) c.self.view_is in
+    let places : free_places g.row.SLI 0 c.copy.new.self.blocks ≡ free_places g.row.SLI 0 c.self.inside.region.blocks = (wrote g c).places ∙ sym (ap (λ (h : HeapState). free_places g.row.SLI 0 h.blocks) same) in
+    let change = c.copy.ensures (stood g c).0 (stood g c).1 in
+    record {
+      lawful = (wrote g c).lawful;
+      shows = change.edits.shows;
+      level = c.self.invariant.level;
+      small = omega (arith, change.edits.words, c.self.invariant.small);
+      listed = rw places (same_lists (free_places g.row.SLI 0 c.self.inside.region.blocks) (list_in c.self.inside.region.lists) (list_in c.copy.new.self.lists) change.lists c.self.invariant.listed);
+    }
+
+pub returns-clause-heap : goal.returns-clause-heap
+returns-clause-heap g c =
+    let h = state_of g.row.SLI c.self.inside in
+    let k = c.args.self.now.heap in
+    (wrote g c).is_heap
+    ∙ ap (λ (bytes : List ℕ). (written k c.args.to 0 bytes).heap) (first_bytes h k c.args.from c.args.len (ap (λ (s : Shown). s.heap) c.self.view_is) c.self.invariant.shows c.requires.from c.requires.least)
+
+pub returns-clause-lawful : goal.returns-clause-lawful
+returns-clause-lawful g c = (wrote g c).lawful
+
+pub returns-clause-shows : goal.returns-clause-shows
+returns-clause-shows g c = (c.copy.ensures (stood g c).0 (stood g c).1).edits.shows
+
+pub returns-clause-touches : goal.returns-clause-touches
+returns-clause-touches g c = omega (arith, (c.copy.ensures (stood g c).0 (stood g c).1).edits.touches, ap (λ (s : Shown). s.touches) c.self.view_is)
+
+pub returns-clause-rise : goal.returns-clause-rise
+returns-clause-rise g c = omega (arith, (c.copy.ensures (stood g c).0 (stood g c).1).edits.rise, ap (λ (s : Shown). s.touches) c.self.view_is)

@@ -1,0 +1,48 @@
+use Rattle.std.proofs.Common.{◌≡◌, ap, ◌∙◌, arith}
+use Rattle.std.proofs.lemmas.Result.{err_from_is_err_and}
+use Rattle.tlsf_heap.specs.InPlace.{payload_at}
+use Rattle.tlsf_heap.specs.Shown.{Shown}
+use Rattle.tlsf_heap.specs.Stored.{state_of}
+use Rattle.tlsf_heap.proofs.Alterings.{are_payload, live_is, stood_in}
+use Rattle.tlsf_heap.proofs.Naming.{named_inside, named_stands}
+use Rattle.tlsf_heap.proofs.Writing.{read_none, read_refused}
+use Rattle.tlsf_heap.proofs.heap.Heap.inspect.Goals as goal
+
+pub returns-in_err-len-clause-answer : goal.returns-in_err-len-clause-answer
+returns-in_err-len-clause-answer g c =
+    let p = err_from_is_err_and c.from_residual.result c.from_residual.ensures.1 in
+    rw (p.1, p.2) (read_refused c.args.self.now.heap c.args.name 0 0 _ c.in_err-len.ensures.answer)
+
+pub inspect-requires : goal.inspect-requires
+inspect-requires g c =
+    let h = state_of g.row.SLI c.self.inside in
+    let k = c.args.self.now.heap in
+    let same : h ≡ k = ap (λ (s : Shown). s.heap) c.self.view_is ∙ c.in_ok-len.ensures.heap in
+    let is_named = c.in_ok-len.ensures.answer.0 in
+    let long = c.in_ok-len.ensures.answer.1 in (
+      omega arith,
+      (
+        stood_in h k c.args.name c.in_ok-len.len same is_named long,
+        c.requires (live_is k c.args.name is_named) _ (are_payload h k c.args.name c.in_ok-len.len same c.self.invariant.shows is_named long),
+      ),
+    )
+
+pub returns-clause-answer : goal.returns-clause-answer
+returns-clause-answer g c = read_none c.args.self.now.heap c.args.name c.in_ok-len.ensures.answer.0
+
+pub returns-clause-inspected : goal.returns-clause-inspected
+returns-clause-inspected g c =
+    let same : state_of g.row.SLI c.self.inside ≡ c.args.self.now.heap = ap (λ (s : Shown). s.heap) c.self.view_is ∙ c.in_ok-len.ensures.heap in
+    record {
+      shown = payload_at c.self.inside.region.stored c.args.name.at c.in_ok-len.len;
+      payload = are_payload (state_of g.row.SLI c.self.inside) c.args.self.now.heap c.args.name c.in_ok-len.len same c.self.invariant.shows c.in_ok-len.ensures.answer.0 c.in_ok-len.ensures.answer.1;
+      called = c.inspect.ensures;
+    }
+
+-- ---- the name was not forged
+
+pub returns-clause-outside : goal.returns-clause-outside
+returns-clause-outside g c past = absurd (omega (arith, past, named_inside c.args.self.now.heap c.args.name c.in_ok-len.ensures.lawful c.in_ok-len.ensures.answer.0.1.0 c.in_ok-len.ensures.answer.0.1.1))
+
+pub returns-clause-nowhere : goal.returns-clause-nowhere
+returns-clause-nowhere g c own inside none = absurd (none (c.in_ok-len.ensures.answer.0.1.0, named_stands c.args.name.at c.args.name.serial c.args.self.now.heap.blocks c.in_ok-len.ensures.answer.0.1.0 c.in_ok-len.ensures.answer.0.1.1))

@@ -1,0 +1,60 @@
+use Rattle.std.proofs.Common.{◌≡◌, ◌≤◌, ◌+◌, ℕ, List, ◌∷◌, [], ◌++◌, length, take, drop, arith, ap, ◌∙◌}
+use Rattle.tlsf_words.specs.Bytes.{bytes_in, payload_byte}
+use Rattle.tlsf_heap.specs.Blocks.{bytes_of, StandsAt}
+use Rattle.tlsf_heap.specs.Calls.{overwritten, with_bytes}
+use Rattle.tlsf_heap.specs.GoodFit.{block_at}
+use Rattle.tlsf_heap.proofs.Reading.{shows_state}
+use Rattle.tlsf_heap.proofs.Payloads.{length-bytes_in, payload_inside, rewritten}
+use Rattle.tlsf_heap.proofs.Linking.{Relists, holds_state}
+use Rattle.tlsf_heap.proofs.Relisting.{relisted_bytes}
+use Rattle.tlsf_heap.proofs.Standing.{behind_one}
+use Rattle.tlsf_heap.proofs.Edited.{Leaves}
+use Rattle.tlsf_heap.specs.Regions.{RegionState, image_of}
+use Rattle.tlsf_heap.proofs.region.Region.copy.Given.{Over}
+use Rattle.tlsf_heap.proofs.region.Region.copy.Goals as goal
+
+pub copy_payload-requires-clause-from : goal.copy_payload-requires-clause-from
+copy_payload-requires-clause-from g c = omega (arith, payload_inside (shows_state g.row.SLI c.self.invariant c.self.view_is) c.requires.from.1, c.requires.from.2)
+
+pub copy_payload-requires-clause-to : goal.copy_payload-requires-clause-to
+copy_payload-requires-clause-to g c = omega (arith, payload_inside (shows_state g.row.SLI c.self.invariant c.self.view_is) c.requires.to.1, c.requires.to.2)
+
+-- the bytes that are copied
+abbrev source : (g : Over) → goal.After-copy_payload g → List ℕ
+source g c = bytes_in c.args.self.now.stored.words (payload_byte c.args.from 0) c.args.len
+
+many : (g : Over) (c : goal.After-copy_payload g) → length (source g c) ≡ c.args.len
+many g c = length-bytes_in c.args.self.now.stored.words (payload_byte c.args.from 0) c.args.len
+
+-- the block that they are copied to
+target : (g : Over) (c : goal.After-copy_payload g) → (i : ℕ) × StandsAt c.args.self.now.blocks c.args.to i × (0 + length (source g c) ≤ length (bytes_of (block_at c.args.self.now.blocks i)))
+target g c = (c.requires.to.0, c.requires.to.1, omega (arith, many g c, c.requires.to.2))
+
+left : (g : Over) (c : goal.After-copy_payload g)
+    → Leaves (image_of c.copy_payload.new.self) c.args.self.now.blocks c.args.to (λ i. take i c.args.self.now.blocks ++ (with_bytes (block_at c.args.self.now.blocks i) (overwritten (bytes_of (block_at c.args.self.now.blocks i)) 0 (source g c)) ∷ []) ++ drop (i + 1) c.args.self.now.blocks)
+left g c =
+    let new = c.copy_payload.ensures in
+    let was : c.self.inside.words.words ≡ c.args.self.now.stored.words = ap (λ (r : RegionState). r.stored.words) c.self.view_is in
+    rewritten {v = image_of c.copy_payload.new.self} 0 (shows_state g.row.SLI c.self.invariant c.self.view_is) (target g c)
+    (ap (bytes_in c.copy_payload.new.self.words (payload_byte c.args.to 0)) (many g c) ∙ new.bytes ∙ ap (λ (ws : List ℕ). bytes_in ws (payload_byte c.args.from 0) c.args.len) was)
+    new.before (λ k h. new.behind k (omega (arith, many g c))) (λ k h. new.words_before k (omega arith)) (λ k h. new.words_behind k (omega (arith, many g c))) new.length new.starts
+
+relists : (g : Over) (c : goal.After-copy_payload g) → Relists g.row.SLI (image_of c.copy_payload.new.self) c.self.inside.lists c.args.self.now.lists
+relists g c =
+    let new = c.copy_payload.ensures in
+    relisted_bytes g.row.SLI (holds_state g.row.SLI c.self.invariant c.self.view_is) 0 (length (source g c)) (λ i. overwritten (bytes_of (block_at c.args.self.now.blocks i)) 0 (source g c)) (target g c)
+    (λ k h. new.words_before k (omega arith)) (λ k h. new.words_behind k (omega (arith, many g c))) new.length (left g c)
+
+pub invariant_of-self : goal.invariant_of-self
+invariant_of-self g c = (relists g c).holds
+
+pub returns : goal.returns
+returns g c i stands =
+    let new = c.copy_payload.ensures in
+    let touches = ap (λ (r : RegionState). r.touches) c.self.view_is in
+    let words = ap (λ (r : RegionState). r.words) c.self.view_is in
+    record {
+      blocks = (left g c).blocks i stands ∙ behind_one i _ c.args.self.now.blocks;
+      lists = (relists g c).same;
+      edits = record { words = new.length ∙ words; shows = (relists g c).holds.shows; touches = omega (arith, new.touches, touches); rise = omega (arith, new.rise, touches) };
+    }
