@@ -1,8 +1,11 @@
-ghost use Rattle.std.specs.Prelude.{◌≡◌, ◌+◌, ◌*◌, ◌/◌, ◌≤◌, ◌↔◌, [], length, IfOk, OnErr, IsOk, IsErrOf};
+ghost use Rattle.std.specs.Fn.{FnOnceTakesAt, FnOnceTakesAtMut};
+ghost use Rattle.std.specs.Prelude.{◌≡◌, ℕ, List, ◌+◌, ◌*◌, ◌/◌, ◌≤◌, ◌↔◌, [], length, IfOk, OnErr, IsOk, IsErrOf};
 ghost use Rattle.std.specs.Result.{result_unwrap_or};
 ghost use Rattle.tlsf_class.specs.Classes.{IsLevel};
 ghost use Rattle.tlsf_heap.specs.Blocks;
+ghost use Rattle.tlsf_heap.specs.InPlace.{ArePayload, Alters, Inspects, IsRefusedAsRead};
 ghost use Rattle.tlsf_heap.specs.Lawful.{IsRegion};
+ghost use Rattle.tlsf_heap.specs.Laws.{IsLive};
 ghost use Rattle.tlsf_heap.specs.GoodFit.{fits};
 ghost use Rattle.tlsf_heap.specs.Placed.{placed_at};
 ghost use Rattle.tlsf_heap.specs.Reports.{report_of, IsGrant};
@@ -194,6 +197,55 @@ impl<const SLI: u32> Counted<SLI> {
         ensures touches_rise { self.old.touches ≤ self.new.touches }
     {
         self.heap.read(name, at, out)
+    }
+
+    /// Hands the payload of the block of that name to `f`, which reads and writes it where it stands, and gives back what `f` answers.
+    /// `f` gets the words that hold it, as [`Heap::alter`] hands them out. It runs behind the lock, so others wait for it; what it
+    /// does there is counted neither as a touch nor as a grant or return.
+    ///
+    /// Refused as `Heap::alter` refuses: `Foreign` where the name is of another heap, else `Stale` where no live block has that
+    /// place and serial; `f` is then not called. Takes no memory.
+    ///
+    /// ```
+    /// let name = guard.allocate(8)?;
+    /// guard.alter(name, |words| words[0] = 0x6948)?; // bytes 0 and 1 of the payload are 0x48 and 0x69
+    /// ```
+    pub fn alter<R, F: FnOnce(&mut [u64]) -> R>(&mut self, name: Name, f: F) -> Result<R, Refusal>
+        requires { IsLive self.old.heap name → (words : List ℕ) → ArePayload self.old.heap name words → FnOnceTakesAtMut F.FnOnce f words }
+        ensures answer { IsRefusedAsRead self.old.heap name result }
+        ensures altered { IfOk result (λ r. Alters F.FnOnce f self.old.heap name r self.new.heap) }
+        ensures counts { AreCounts self.old self.new 0 0 }
+
+        // A refusal changes neither heap nor counts.
+        ensures err { OnErr result (SameCount self.old self.new) }
+        ensures was_counted { IsCounted self.old }
+        ensures counted { IsCounted self.new }
+        ensures touches { self.new.touches ≤ self.old.touches + 4 }
+        ensures touches_rise { self.old.touches ≤ self.new.touches }
+    {
+        self.heap.alter(name, f)
+    }
+
+    /// Shows the payload of the block of that name to `f`, where it stands, and gives back what `f` answers. `f` gets the words that
+    /// hold it, as [`Heap::inspect`] shows them. It runs behind the lock, so others wait for it; what it reads is counted in no touch.
+    ///
+    /// Refused as `Heap::inspect` refuses: `Foreign` where the name is of another heap, else `Stale` where no live block has that
+    /// place and serial; `f` is then not called. Takes no memory.
+    ///
+    /// ```
+    /// let first = guard.inspect(name, |words| words[0])?; // after the alter above
+    /// assert_eq!(first, 0x6948);
+    /// ```
+    pub fn inspect<R, F: FnOnce(&[u64]) -> R>(&mut self, name: Name, f: F) -> Result<R, Refusal>
+        requires { IsLive self.old.heap name → (words : List ℕ) → ArePayload self.old.heap name words → FnOnceTakesAt F.FnOnce f words }
+        ensures answer { IsRefusedAsRead self.old.heap name result }
+        ensures inspected { IfOk result (λ r. Inspects F.FnOnce f self.old.heap name r) }
+        ensures same { SameCount self.old self.new }
+        ensures was_counted { IsCounted self.old }
+        ensures touches { self.new.touches ≤ self.old.touches + 4 }
+        ensures touches_rise { self.old.touches ≤ self.new.touches }
+    {
+        self.heap.inspect(name, f)
     }
 
     /// What the heap holds, and how well it serves: blocks, words of 8 bytes, payload bytes. It goes over all blocks, is

@@ -1,8 +1,11 @@
-ghost use Rattle.std.specs.Prelude.{◌≡◌, ◌≢◌, ◌+◌, ◌-◌, ◌*◌, ◌/◌, ◌<◌, ◌≤◌, ◌↔◌, Err, length, IfOk, OnOk, OnErr, IsOk, IsErrOf};
+ghost use Rattle.std.specs.Fn.{FnOnceTakesAt, FnOnceTakesAtMut};
+ghost use Rattle.std.specs.Prelude.{◌≡◌, ◌≢◌, ℕ, List, ◌+◌, ◌-◌, ◌*◌, ◌/◌, ◌<◌, ◌≤◌, ◌↔◌, Err, length, IfOk, OnOk, OnErr, IsOk, IsErrOf};
 ghost use Rattle.std.specs.Result.{result_unwrap_or};
 ghost use Rattle.tlsf_class.specs.Classes.{IsLevel};
 ghost use Rattle.tlsf_heap.specs.Blocks.{want};
 ghost use Rattle.tlsf_heap.specs.Calls.{opened, allocated, released, written, read_of, read_answer, last_tick};
+ghost use Rattle.tlsf_heap.specs.InPlace.{ArePayload, Alters, Inspects, IsRefusedAsRead};
+ghost use Rattle.tlsf_heap.specs.Laws.{IsLive};
 ghost use Rattle.tlsf_heap.specs.Placed.{placed_at};
 ghost use Rattle.tlsf_heap.specs.Reports.{report_of};
 ghost use Rattle.tlsf_laws.specs.Pools.{pool_words};
@@ -205,6 +208,52 @@ impl<const SLI: u32> Pool<SLI> {
         ensures touches_rise { self.old.touches ≤ self.new.touches }
     {
         self.heap.read(name, at, out)
+    }
+
+    /// Hands the payload of the block of that name to `f`, which reads and writes it where it stands, and gives back what `f` answers.
+    /// `f` gets the words that hold it, as [`Heap::alter`] hands them out; what it does there is counted in no touch.
+    ///
+    /// Refused as `Heap::alter` refuses: `Foreign`, else `Stale`; `f` is then not called. Takes no memory.
+    ///
+    /// ```text
+    /// let name = pool.allocate(8)?;
+    /// pool.alter(name, |words| words[0] = 0x6948) == Ok(())         // bytes 0 and 1 are 0x48 and 0x69
+    /// ```
+    pub fn alter<R, F: FnOnce(&mut [u64]) -> R>(&mut self, name: Name, f: F) -> Result<R, Refusal>
+        requires { IsLive self.old.heap name → (words : List ℕ) → ArePayload self.old.heap name words → FnOnceTakesAtMut F.FnOnce f words }
+        ensures answer { IsRefusedAsRead self.old.heap name result }
+        ensures altered { IfOk result (λ r. Alters F.FnOnce f self.old.heap name r self.new.heap) }
+        ensures held { self.new.held ≡ self.old.held }
+
+        // A refusal changes nothing.
+        ensures err { OnErr result (SamePool self.old self.new) }
+        ensures bounds { SameBounds self.old self.new }
+        ensures was_pool { IsPool SLI self.old }
+        ensures pool { IsPool SLI self.new }
+        ensures touches { self.new.touches ≤ self.old.touches + 4 }
+        ensures touches_rise { self.old.touches ≤ self.new.touches }
+    {
+        self.heap.alter(name, f)
+    }
+
+    /// Shows the payload of the block of that name to `f`, where it stands, and gives back what `f` answers. `f` gets the words that
+    /// hold it, as [`Heap::inspect`] shows them; what it reads there is counted in no touch.
+    ///
+    /// Refused as `Heap::inspect` refuses: `Foreign`, else `Stale`; `f` is then not called. Takes no memory.
+    ///
+    /// ```text
+    /// pool.inspect(name, |words| words[0]) == Ok(0x6948)             // after the alter above
+    /// ```
+    pub fn inspect<R, F: FnOnce(&[u64]) -> R>(&mut self, name: Name, f: F) -> Result<R, Refusal>
+        requires { IsLive self.old.heap name → (words : List ℕ) → ArePayload self.old.heap name words → FnOnceTakesAt F.FnOnce f words }
+        ensures answer { IsRefusedAsRead self.old.heap name result }
+        ensures inspected { IfOk result (λ r. Inspects F.FnOnce f self.old.heap name r) }
+        ensures same { SamePool self.old self.new }
+        ensures was_pool { IsPool SLI self.old }
+        ensures touches { self.new.touches ≤ self.old.touches + 4 }
+        ensures touches_rise { self.old.touches ≤ self.new.touches }
+    {
+        self.heap.inspect(name, f)
     }
 
     /// What the pool's heap holds, and how well it serves: a walk over all its blocks. It is never refused, and takes no memory.
