@@ -1,6 +1,8 @@
 -- What a worker's own calls answer and leave.
 use Rattle.std.specs.Prelude.{◌≡◌, ℕ, List, Option, Some, None, Result, Ok, Err, slice_get, slice_set}
+use Rattle.tlsf_heap.specs.Blocks.{HeapState}
 use Rattle.tlsf_heap.specs.Calls.{released}
+use Rattle.tlsf_heap.specs.InPlace.{IsRefusedAsRead}
 use Rattle.tlsf_heap.specs.declared.name.Name.{Name}
 use Rattle.tlsf_heap.specs.declared.refusal.Refusal.{Refusal}
 use Rattle.tlsf_post.specs.declared.post.Post.{Post}
@@ -21,6 +23,10 @@ KeepsYards {sli} a v = (ws : List (Worker sli)) (i : ℕ) → slice_get ws i ≡
 abbrev pub by_heap : {A : Type 0} → Result A Refusal → Result A CrewRefusal
 by_heap (Ok x) = Ok x
 by_heap (Err why) = Err (Heap why)
+
+-- a call with this name is refused as the heap refuses a read of no bytes of its payload
+abbrev pub IsRefusedByHeap : {R : Type 0} → HeapState → Name → Result R CrewRefusal → Type 0
+IsRefusedByHeap {R} h name answer = (by : Result R Refusal) × IsRefusedAsRead h name by × (answer ≡ by_heap by)
 
 abbrev pub freed_by : Result (Unit {0}) Refusal → Result Released CrewRefusal
 freed_by (Ok done) = Ok Freed

@@ -1,12 +1,15 @@
-ghost use Rattle.std.specs.Prelude.{◌≡◌, ◌≢◌, ◌+◌, ◌*◌, ◌/◌, ◌≤◌, length, true, false, Err, OnSome, IfNone};
+ghost use Rattle.std.specs.Fn.{FnOnceTakesAt, FnOnceTakesAtMut};
+ghost use Rattle.std.specs.Prelude.{◌≡◌, ◌≢◌, ℕ, List, ◌+◌, ◌*◌, ◌/◌, ◌≤◌, length, true, false, Err, OnSome, IfNone, IfOk, OnErr};
 ghost use Rattle.std.specs.Result.{result_unwrap_or};
 ghost use Rattle.tlsf_class.specs.Classes.{most_words};
 ghost use Rattle.tlsf_heap.specs.Calls.{allocated, released, written, read_of, read_answer, resized};
 ghost use Rattle.tlsf_heap.specs.Given.{payload_words_given, payload_words_left};
+ghost use Rattle.tlsf_heap.specs.InPlace.{ArePayload, Alters, Inspects};
 ghost use Rattle.tlsf_heap.specs.Lawful.{IsLawful};
+ghost use Rattle.tlsf_heap.specs.Laws.{IsLive};
 ghost use Rattle.tlsf_heap.specs.Placed.{placed_at};
 ghost use Rattle.tlsf_heap.specs.Reports.{report_of};
-ghost use Rattle.tlsf_crew.specs.yard.Calls.{by_heap};
+ghost use Rattle.tlsf_crew.specs.yard.Calls.{by_heap, IsRefusedByHeap};
 ghost use Rattle.tlsf_crew.specs.queues.QueueWorkers.{queue_heap, queue_touches, queue_id, HasQueueEnd, SameButQueueHeap, KeepsQueueYards, PutToQueue, TookFromQueue};
 ghost use Rattle.tlsf_crew.specs.queues.QueueCalls.{PostedInQueue, ReleasedInOwnHeap, ReleasedIntoQueue, TakenFromQueue, DrainedQueue};
 ghost use Rattle.tlsf_crew.specs.queues.QueueNotes.{QueueNoted};
@@ -186,6 +189,46 @@ impl<const SLI: u32> QueueWorker<SLI> {
         ensures touches_rise { queue_touches self.old ≤ queue_touches self.new }
     {
         own_calls::read(&mut self.heap, name, at, out)
+    }
+
+    /// Hands the payload of a block of the own heap to `f`, which reads and writes it where it stands. As [`crate::Worker::alter`].
+    ///
+    /// ```
+    /// worker.alter(name, |words| words[0] = 7)?; // the first eight bytes of the block
+    /// ```
+    pub fn alter<R, F: FnOnce(&mut [u64]) -> R>(
+        &mut self,
+        name: Name,
+        f: F,
+    ) -> Result<R, CrewRefusal>
+        requires { IsLive (queue_heap self.old) name → (words : List ℕ) → ArePayload (queue_heap self.old) name words → FnOnceTakesAtMut F.FnOnce f words }
+        ensures answer { IsRefusedByHeap (queue_heap self.old) name result }
+        ensures altered { IfOk result (λ r. Alters F.FnOnce f (queue_heap self.old) name r (queue_heap self.new)) }
+        ensures err { OnErr result (queue_heap self.new ≡ queue_heap self.old) }
+        ensures same { SameButQueueHeap self.old self.new }
+        ensures yard { KeepsQueueYards self.old self.new }
+        ensures touches { queue_touches self.new ≤ queue_touches self.old + 4 }
+        ensures touches_rise { queue_touches self.old ≤ queue_touches self.new }
+    {
+        own_calls::alter(&mut self.heap, name, f)
+    }
+
+    /// Shows the payload of a block of the own heap to `f`, where it stands. As [`crate::Worker::inspect`].
+    ///
+    /// ```
+    /// let first = worker.inspect(name, |words| words[0])?; // the first eight bytes of the block
+    /// ```
+    pub fn inspect<R, F: FnOnce(&[u64]) -> R>(&mut self, name: Name, f: F) -> Result<R, CrewRefusal>
+        requires { IsLive (queue_heap self.old) name → (words : List ℕ) → ArePayload (queue_heap self.old) name words → FnOnceTakesAt F.FnOnce f words }
+        ensures answer { IsRefusedByHeap (queue_heap self.old) name result }
+        ensures inspected { IfOk result (λ r. Inspects F.FnOnce f (queue_heap self.old) name r) }
+        ensures heap { queue_heap self.new ≡ queue_heap self.old }
+        ensures same { SameButQueueHeap self.old self.new }
+        ensures yard { KeepsQueueYards self.old self.new }
+        ensures touches { queue_touches self.new ≤ queue_touches self.old + 4 }
+        ensures touches_rise { queue_touches self.old ≤ queue_touches self.new }
+    {
+        own_calls::inspect(&mut self.heap, name, f)
     }
 
     /// Resizes a block of the own heap where it stands, so that it holds `len` bytes. As [`crate::Worker::resize`].

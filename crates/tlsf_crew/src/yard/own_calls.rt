@@ -1,10 +1,13 @@
 //! The calls of a worker on its own heap. A worker of a yard with lanes and one of a yard over queues answer them alike.
-ghost use Rattle.std.specs.Prelude.{◌≡◌, ◌+◌, ◌*◌, ◌/◌, ◌≤◌, length};
+ghost use Rattle.std.specs.Fn.{FnOnceTakesAt, FnOnceTakesAtMut};
+ghost use Rattle.std.specs.Prelude.{◌≡◌, ℕ, List, ◌+◌, ◌*◌, ◌/◌, ◌≤◌, length, IfOk, OnErr};
 ghost use Rattle.std.specs.Result.{result_unwrap_or};
 ghost use Rattle.tlsf_heap.specs.Calls.{allocated, released, written, read_of, read_answer, resized};
 ghost use Rattle.tlsf_heap.specs.Given.{payload_words_given, payload_words_left};
+ghost use Rattle.tlsf_heap.specs.InPlace.{ArePayload, Alters, Inspects};
 ghost use Rattle.tlsf_heap.specs.Lawful.{IsLawful};
-ghost use Rattle.tlsf_crew.specs.yard.Calls.{by_heap, freed_by};
+ghost use Rattle.tlsf_heap.specs.Laws.{IsLive};
+ghost use Rattle.tlsf_crew.specs.yard.Calls.{by_heap, freed_by, IsRefusedByHeap};
 
 use tlsf_calls::{CrewRefusal, Released};
 use tlsf_heap::{Heap, Name, Refusal};
@@ -85,6 +88,38 @@ pub(crate) fn read<const SLI: u32>(
     ensures touches_rise { heap.old.touches ≤ heap.new.touches }
 {
     as_crew(heap.read(name, at, out))
+}
+
+/// Hands the payload of a block to `f`, which may change it, and answers what it answers.
+pub(crate) fn alter<const SLI: u32, R, F: FnOnce(&mut [u64]) -> R>(
+    heap: &mut Heap<SLI>,
+    name: Name,
+    f: F,
+) -> Result<R, CrewRefusal>
+    requires { IsLive heap.old.heap name → (words : List ℕ) → ArePayload heap.old.heap name words → FnOnceTakesAtMut F.FnOnce f words }
+    ensures answer { IsRefusedByHeap heap.old.heap name result }
+    ensures altered { IfOk result (λ r. Alters F.FnOnce f heap.old.heap name r heap.new.heap) }
+    ensures err { OnErr result (heap.new.heap ≡ heap.old.heap) }
+    ensures touches { heap.new.touches ≤ heap.old.touches + 4 }
+    ensures touches_rise { heap.old.touches ≤ heap.new.touches }
+{
+    as_crew(heap.alter(name, f))
+}
+
+/// Shows the payload of a block to `f`, and answers what it answers.
+pub(crate) fn inspect<const SLI: u32, R, F: FnOnce(&[u64]) -> R>(
+    heap: &mut Heap<SLI>,
+    name: Name,
+    f: F,
+) -> Result<R, CrewRefusal>
+    requires { IsLive heap.old.heap name → (words : List ℕ) → ArePayload heap.old.heap name words → FnOnceTakesAt F.FnOnce f words }
+    ensures answer { IsRefusedByHeap heap.old.heap name result }
+    ensures inspected { IfOk result (λ r. Inspects F.FnOnce f heap.old.heap name r) }
+    ensures heap { heap.new.heap ≡ heap.old.heap }
+    ensures touches { heap.new.touches ≤ heap.old.touches + 4 }
+    ensures touches_rise { heap.old.touches ≤ heap.new.touches }
+{
+    as_crew(heap.inspect(name, f))
 }
 
 /// Resizes a block where it stands, so that it holds `len` bytes.

@@ -1,14 +1,17 @@
-ghost use Rattle.std.specs.Prelude.{◌≡◌, ◌≢◌, ◌+◌, ◌*◌, ◌/◌, ◌≤◌, List, length, true, false, Ok, Err, OnSome, IfNone};
+ghost use Rattle.std.specs.Fn.{FnOnceTakesAt, FnOnceTakesAtMut};
+ghost use Rattle.std.specs.Prelude.{◌≡◌, ◌≢◌, ℕ, ◌+◌, ◌*◌, ◌/◌, ◌≤◌, List, length, true, false, Ok, Err, OnSome, IfNone, IfOk, OnErr};
 ghost use Rattle.std.specs.Result.{result_unwrap_or};
 ghost use Rattle.tlsf_class.specs.Classes.{most_words};
 ghost use Rattle.tlsf_heap.specs.Calls.{allocated, written, read_of, read_answer, resized};
 ghost use Rattle.tlsf_heap.specs.Given.{payload_words_given, payload_words_left};
+ghost use Rattle.tlsf_heap.specs.InPlace.{ArePayload, Alters, Inspects};
 ghost use Rattle.tlsf_heap.specs.Lawful.{IsLawful};
+ghost use Rattle.tlsf_heap.specs.Laws.{IsLive};
 ghost use Rattle.tlsf_heap.specs.Placed.{placed_at};
 ghost use Rattle.tlsf_heap.specs.Reports.{report_of};
 ghost use Rattle.tlsf_calls.specs.declared.took.Took.{Took};
 ghost use Rattle.tlsf_crew.specs.yard.Workers.{heap_of, touches_of, id_of, SameButHeap, HasPost, HasTake, PutTo, TookFrom};
-ghost use Rattle.tlsf_crew.specs.yard.Calls.{KeepsYards, by_heap, ReleasedHere, ReleasedThere, TakenFrom};
+ghost use Rattle.tlsf_crew.specs.yard.Calls.{KeepsYards, by_heap, IsRefusedByHeap, ReleasedHere, ReleasedThere, TakenFrom};
 ghost use Rattle.tlsf_crew.specs.yard.LaneTurns.{IsCountOf, DrainedAll};
 ghost use Rattle.tlsf_crew.specs.yard.Notes.{LaneNoted, AllNoted};
 
@@ -211,6 +214,56 @@ impl<const SLI: u32> Worker<SLI> {
         ensures touches_rise { touches_of self.old ≤ touches_of self.new }
     {
         own_calls::read(&mut self.heap, name, at, out)
+    }
+
+    /// Hands the payload of a block of the own heap to `f`, which reads and writes it where it stands, and gives back what `f` answers.
+    /// `f` gets the words that hold it, as `Heap::alter` hands them out. No call of a list of events and no line of a trace says it.
+    ///
+    /// Refused as the own heap refuses it: `Foreign` where the name is of another worker's heap, else `Stale`; `f` is then not called.
+    ///
+    /// - `touches`: at most four touches of the heap's memory; what `f` does there is not counted.
+    ///
+    /// ```
+    /// worker.alter(name, |words| words[0] = 7)?; // the first eight bytes of the block
+    /// ```
+    pub fn alter<R, F: FnOnce(&mut [u64]) -> R>(
+        &mut self,
+        name: Name,
+        f: F,
+    ) -> Result<R, CrewRefusal>
+        requires { IsLive (heap_of self.old) name → (words : List ℕ) → ArePayload (heap_of self.old) name words → FnOnceTakesAtMut F.FnOnce f words }
+        ensures answer { IsRefusedByHeap (heap_of self.old) name result }
+        ensures altered { IfOk result (λ r. Alters F.FnOnce f (heap_of self.old) name r (heap_of self.new)) }
+        ensures err { OnErr result (heap_of self.new ≡ heap_of self.old) }
+        ensures same { SameButHeap self.old self.new }
+        ensures yard { KeepsYards self.old self.new }
+        ensures touches { touches_of self.new ≤ touches_of self.old + 4 }
+        ensures touches_rise { touches_of self.old ≤ touches_of self.new }
+    {
+        own_calls::alter(&mut self.heap, name, f)
+    }
+
+    /// Shows the payload of a block of the own heap to `f`, where it stands, and gives back what `f` answers. `f` gets the words that hold
+    /// it, as `Heap::inspect` shows them. No call of a list of events and no line of a trace says it.
+    ///
+    /// Refused as the own heap refuses it: `Foreign` where the name is of another worker's heap, else `Stale`; `f` is then not called.
+    ///
+    /// - `touches`: at most four touches of the heap's memory; what `f` reads there is not counted.
+    ///
+    /// ```
+    /// let first = worker.inspect(name, |words| words[0])?; // the first eight bytes of the block
+    /// ```
+    pub fn inspect<R, F: FnOnce(&[u64]) -> R>(&mut self, name: Name, f: F) -> Result<R, CrewRefusal>
+        requires { IsLive (heap_of self.old) name → (words : List ℕ) → ArePayload (heap_of self.old) name words → FnOnceTakesAt F.FnOnce f words }
+        ensures answer { IsRefusedByHeap (heap_of self.old) name result }
+        ensures inspected { IfOk result (λ r. Inspects F.FnOnce f (heap_of self.old) name r) }
+        ensures heap { heap_of self.new ≡ heap_of self.old }
+        ensures same { SameButHeap self.old self.new }
+        ensures yard { KeepsYards self.old self.new }
+        ensures touches { touches_of self.new ≤ touches_of self.old + 4 }
+        ensures touches_rise { touches_of self.old ≤ touches_of self.new }
+    {
+        own_calls::inspect(&mut self.heap, name, f)
     }
 
     /// Resizes a block of the own heap where it stands, so that it holds `len` bytes. Its name stays, and so do its bytes up to the

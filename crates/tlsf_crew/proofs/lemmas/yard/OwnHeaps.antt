@@ -1,12 +1,18 @@
 -- A call leaves a heap its number, and leaves it lawful.
 use Rattle.std.proofs.Common.{◌≡◌, ℕ, ◌<◌, List, [], ◌∷◌, Some, length, get_or, set, sym, ◌∙◌, ap, map, subst, refl, inl, inr, arith}
+use Rattle.std.specs.Borrow.{MutBor}
+use Rattle.std.specs.Fn.{Once}
 use Rattle.std.specs.List.{slice_get}
+use Rattle.std.specs.Prelude.{Result, Ok, Err, IfOk, OnErr}
 use Rattle.std.proofs.lemmas.Option.{slice_get_within, slice_get-get_or}
 use Rattle.std.proofs.lemmas.Bool.{cases_eq}
 use Rattle.std.proofs.Math.ListN.{length-set}
 use Rattle.tlsf_heap.specs.Blocks.{HeapState}
 use Rattle.tlsf_heap.specs.Lawful.{IsLawful, IsRegion}
-use Rattle.tlsf_heap.specs.Calls.{Call, answered, opened, Allocate}
+use Rattle.tlsf_heap.specs.Calls.{Call, answered, opened, Allocate, Write}
+use Rattle.tlsf_heap.specs.InPlace.{Alters}
+use Rattle.tlsf_heap.specs.declared.name.Name.{Name}
+use Rattle.tlsf_calls.specs.declared.crew_refusal.CrewRefusal.{CrewRefusal}
 use Rattle.tlsf_heap.proofs.Outcomes.{ids, lawful_run}
 use Rattle.tlsf_crew.specs.declared.yard.worker.Worker.{Worker}
 use Rattle.tlsf_crew.specs.yard.Workers.{heap_of}
@@ -27,6 +33,12 @@ allocate_keeps sli h k len e lawful = (ap (λ x. x.id) e ∙ ids sli h (Allocate
 -- no other call asks for the level
 pub call_keeps : (h k : HeapState) (call : Call) → k ≡ (answered 4 h call).1 → KeepsHeap h k
 call_keeps h k call e = (ap (λ x. x.id) e ∙ ids 4 h call, λ lawful. subst IsLawful (sym e) (lawful_run 4 level_4 h (call ∷ []) lawful))
+
+-- nor does an alter, done or refused
+pub alter_keeps : {F R : Type 0} (g : Once F (MutBor (List ℕ) × Unit {0}) (R × (MutBor (List ℕ) × Unit {0}))) (f : F) (h k : HeapState) (name : Name) (answer : Result R CrewRefusal)
+    → IfOk answer (λ r. Alters g f h name r k) → OnErr answer (k ≡ h) → KeepsHeap h k
+alter_keeps g f h k name (Ok r) altered err = call_keeps h k (Write name 0 _) altered.writes
+alter_keeps g f h k name (Err why) altered err = same_heap_keeps h k err
 
 -- each worker has a lawful heap of its number
 abbrev pub OwnHeaps : {sli : ℕ} → List (Worker sli) → Type 0

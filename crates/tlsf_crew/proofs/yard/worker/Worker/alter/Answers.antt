@@ -1,0 +1,25 @@
+use Rattle.std.proofs.Common.{refl}
+use Rattle.tlsf_crew.proofs.lemmas.yard.OwnHeaps.{alter_keeps}
+use Rattle.tlsf_crew.proofs.lemmas.yard.YardKept.{heap_keeps}
+use Rattle.tlsf_crew.proofs.yard.worker.Worker.alter.Goals as goal
+
+pub returns-clause-yard : goal.returns-clause-yard
+returns-clause-yard g c = heap_keeps _ _ (refl, refl, refl) (alter_keeps g.F.FnOnce c.args.f _ _ c.args.name c.alter.result c.alter.ensures.altered c.alter.ensures.err)
+
+pub returns-clause-answer : goal.returns-clause-answer
+returns-clause-answer g c = c.alter.ensures.answer
+
+pub returns-clause-altered : goal.returns-clause-altered
+returns-clause-altered g c = c.alter.ensures.altered
+
+pub returns-clause-err : goal.returns-clause-err
+returns-clause-err g c = c.alter.ensures.err
+
+pub returns-clause-same : goal.returns-clause-same
+returns-clause-same g c = (refl, refl, refl)
+
+pub returns-clause-touches : goal.returns-clause-touches
+returns-clause-touches g c = c.alter.ensures.touches
+
+pub returns-clause-touches_rise : goal.returns-clause-touches_rise
+returns-clause-touches_rise g c = c.alter.ensures.touches_rise
