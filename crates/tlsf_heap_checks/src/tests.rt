@@ -4,6 +4,7 @@ mod blocks;
 mod classes;
 mod heaps;
 mod images;
+mod in_place;
 mod lane_threads;
 mod lanes;
 mod lists;

@@ -127,3 +127,34 @@ fn refusals_in_their_order(rt: HostRuntime) -> Result<(), Fail> {
     }
     Ok(())
 }
+
+#[test]
+fn block_moves_where_it_has_no_room(rt: HostRuntime) -> Result<(), Fail> {
+    let mut heap = Heap::<4>::open(rt.alloc(), 0, 64, 0)?;
+    let block = heap.allocate(13)?;
+    let wall = heap.allocate(8)?;
+    same(heap.write(block, 0, b"thirteen byte"), Ok(())).expect(&rt, "not written");
+    let moved = name(0, 9, 3);
+    same(heap.resize_or_move(block, 100), Ok(moved)).expect(&rt, "not moved");
+    same(bytes(&rt, &mut heap, moved, 16), *b"thirteen byte\0\0\0").expect(&rt, "differ");
+    same(two_blocks(&mut heap, 0), (free(0, 5, 4), live(5, 4, 2, 8))).expect(&rt, "differ");
+    same(heap.release(block), Err(Refusal::Stale)).expect(&rt, "still live");
+    same(heap.resize_or_move(moved, 200), Ok(moved)).expect(&rt, "not grown where it stands");
+    same(heap.resize_or_move(wall, 400), Err(Refusal::NoFit)).expect(&rt, "moved");
+    same((heap.tick(), heap.report().live_bytes), (6, 208)).expect(&rt, "differ");
+    Ok(())
+}
+
+#[test]
+fn move_takes_two_ticks(rt: HostRuntime) -> Result<(), Fail> {
+    for (first, wanted) in [
+        (u64::MAX - 5, Ok(name(0, 8, u64::MAX - 2))),
+        (u64::MAX - 4, Err(Refusal::Worn)),
+    ] {
+        let mut heap = Heap::<4>::open(rt.alloc(), 0, 64, first)?;
+        let block = heap.allocate(8)?;
+        heap.allocate(8)?;
+        same(heap.resize_or_move(block, 100), wanted).expect(&rt, "differ");
+    }
+    Ok(())
+}

@@ -1,5 +1,7 @@
 //! The calls of workers over queues.
-use crate::tests::workers::{STRANGER, heap_refuses, read_of, release_of, resize_of, write};
+use crate::tests::workers::{
+    STRANGER, doubled, heap_refuses, read_of, release_of, resize_of, write,
+};
 use crate::tests::yards::{allocate, drain, take, took};
 use std::alloc::AllocError;
 use std::process::Abort;
@@ -117,6 +119,22 @@ fn calls_of_a_queue_worker(rt: HostRuntime) -> Result<(), Fail> {
 }
 
 // A worker frees its own names alone, and posts those of others alone.
+#[test]
+fn payloads_of_a_queue_worker(rt: HostRuntime) -> Result<(), Fail> {
+    let mut workers = open_queue_yard::<4>(rt.alloc(), 2, 64, 4)?;
+    let worker = workers.first_mut().ok_or("two workers")?;
+    let block = worker.allocate(8)?;
+    worker.write(block, 0, b"ab")?;
+    same(
+        worker.alter(block, |words| doubled(words)),
+        Ok(Some(0xc4c2)),
+    )
+    .expect(&rt, "differ");
+    let found = worker.inspect(block, |words| words.first().copied());
+    same(found, Ok(Some(0xc4c2))).expect(&rt, "differ");
+    Ok(())
+}
+
 #[test]
 fn names_of_the_wrong_heap(rt: HostRuntime) -> Result<(), Fail> {
     let mut workers = open_queue_yard::<4>(rt.alloc(), 2, 64, 4)?;

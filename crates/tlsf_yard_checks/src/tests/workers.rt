@@ -136,6 +136,36 @@ fn calls_of_a_worker(rt: HostRuntime) -> Result<(), Fail> {
 }
 
 // A block grows into the free words behind it, up to the next live block, and other workers don't resize it.
+/// Doubles each word of a payload, and tells the first.
+pub fn doubled(words: &mut [u64]) -> Option<u64> {
+    for i in 0..words.len() {
+        words[i] = words[i].wrapping_mul(2);
+    }
+    words.first().copied()
+}
+
+#[test]
+fn payloads_of_a_worker(rt: HostRuntime) -> Result<(), Fail> {
+    let mut workers = open_yard::<4>(rt.alloc(), 2, 64, 1)?;
+    let worker = workers.first_mut().ok_or("two workers")?;
+    let block = worker.allocate(8)?;
+    worker.write(block, 0, b"ab")?;
+    same(
+        worker.alter(block, |words| doubled(words)),
+        Ok(Some(0xc4c2)),
+    )
+    .expect(&rt, "differ");
+    let found = worker.inspect(block, |words| words.first().copied());
+    same(found, Ok(Some(0xc4c2))).expect(&rt, "differ");
+    let foreign = Err(CrewRefusal::Heap(Refusal::Foreign));
+    let other = name(1, 0, 1);
+    same(worker.alter(other, |words| doubled(words)), foreign).expect(&rt, "altered");
+    let stale = Err(CrewRefusal::Heap(Refusal::Stale));
+    let gone = name(0, 0, 2);
+    same(worker.inspect(gone, |words| words.len()), stale).expect(&rt, "inspected");
+    Ok(())
+}
+
 #[test]
 fn resizes_of_a_worker(rt: HostRuntime) -> Result<(), Fail> {
     let mut workers = open_yard::<4>(rt.alloc(), 2, 64, 1)?;
