@@ -1,0 +1,5 @@
+pub mod HeapBox
+pub mod PostBox
+pub mod TakeBox
+pub mod Unwrapping
+mod Draining

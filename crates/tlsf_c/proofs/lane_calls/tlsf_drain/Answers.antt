@@ -1,0 +1,31 @@
+use Rattle.std.proofs.Common.{◌≡◌, ◌∷◌, ◌++◌, [], arith, ◌∙◌}
+use Rattle.tlsf_post.specs.declared.post.Post.{Post}
+use Rattle.tlsf_c.specs.Handles.{heap_in, taken_in, ready_in}
+use Rattle.tlsf_c.specs.Names.{name_of}
+use Rattle.tlsf_c.proofs.Draining.{taken_more, released_more, one_more, still_ready}
+use Rattle.tlsf_c.proofs.lane_calls.tlsf_drain.Goals as goal
+
+pub loop-count-preserved : goal.loop-count-preserved
+loop-count-preserved c =
+    let i = c.loop-count.invariant in
+    let done : c.tlsf_take.result ≡ 0 = omega (arith, c.if-tlsf_take-ne0.false) in
+    let came = c.tlsf_take.ensures.taken i.take done in
+    let post : Post = record { from = came.0; name = name_of c.tlsf_take.new.name } in
+    let still = still_ready (ready_in c.loop-count.take) (ready_in c.tlsf_take.new.take) post came.2 in
+    let open_still = c.tlsf_release.ensures.open i.heap in
+    let touches = c.tlsf_release.ensures.touches i.heap in
+    record {
+      heap = open_still.0;
+      take = c.tlsf_take.ensures.open i.take;
+      level = open_still.1 ∙ i.level;
+      few = omega (arith, c.loop-count-test.true);
+      posts = (
+        i.posts.0 ++ post ∷ [],
+        taken_more (taken_in c.args.take.now) (taken_in c.loop-count.take) (taken_in c.tlsf_take.new.take) i.posts.0 post i.posts.1 came.1,
+        released_more (heap_in c.args.heap.now) (heap_in c.loop-count.heap) (heap_in c.tlsf_release.new.heap) i.posts.0 post i.posts.2 (c.tlsf_release.ensures.heap i.heap),
+        one_more i.posts.0 post c.loop-count.count i.posts.3,
+      );
+      ready = omega (arith, i.ready, still);
+      lane = λ p is. c.tlsf_take.ensures.lane p (i.lane p is);
+      touches = omega (arith, i.touches, touches);
+    }

@@ -1,0 +1,9 @@
+pub mod Levels
+pub mod LevelOf
+pub mod HeapOwned
+pub mod PostOwned
+pub mod TakeOwned
+pub mod Handles
+pub mod Refusals
+pub mod Names
+pub mod Drains

@@ -1,0 +1,48 @@
+-- The numbers that C's calls answer.
+use Rattle.std.specs.Prelude.{ℕ, Result, Ok, Err}
+use Rattle.tlsf_heap.specs.Numbers.{number_of}
+use Rattle.tlsf_heap.specs.declared.refusal.Refusal.{Refusal}
+use Rattle.tlsf_c.specs.declared.call_fault.CallFault.{CallFault}
+use Rattle.tlsf_c.specs.declared.call_fault.CallFault.TheVariants as fault
+
+-- 0, or why a heap refuses
+abbrev pub status_of : {A : Type 0} → Result A Refusal → ℕ
+status_of (Ok answer) = 0
+status_of (Err why) = number_of why
+
+-- what was given doesn't fit: a region's words, a lane's capacity
+abbrev pub bad_size : ℕ
+bad_size = 5
+
+-- the memory was not granted
+abbrev pub no_memory : ℕ
+no_memory = 6
+
+-- the handle isn't open
+abbrev pub closed : ℕ
+closed = 8
+
+-- the handle is open already
+abbrev pub in_use : ℕ
+in_use = 9
+
+-- no heap has that level
+abbrev pub bad_level : ℕ
+bad_level = 11
+
+-- the lane is full, as far as its end knows
+abbrev pub full : ℕ
+full = 12
+
+-- the lane has nothing to take, as far as its end knows
+abbrev pub empty : ℕ
+empty = 13
+
+abbrev pub call_number_of : CallFault → ℕ
+call_number_of fault.BadSize = bad_size
+call_number_of fault.NoMemory = no_memory
+call_number_of fault.Closed = closed
+call_number_of fault.InUse = in_use
+call_number_of fault.BadLevel = bad_level
+call_number_of fault.Full = full
+call_number_of fault.Empty = empty

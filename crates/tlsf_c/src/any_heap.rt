@@ -1,0 +1,153 @@
+//! A heap whose level is told when it is opened.
+ghost use Rattle.std.specs.Prelude.{◌≡◌, ◌+◌, ◌*◌, ◌/◌, ◌≤◌, ◌↔◌, length, IfOk, IfErr, IsErrOf, MatchResult, Ok, Err};
+ghost use Rattle.std.specs.Result.{result_unwrap_or};
+ghost use Rattle.tlsf_class.specs.Classes.{IsLevel};
+ghost use Rattle.tlsf_heap.specs.Lawful.{IsLawful, IsRegion};
+ghost use Rattle.tlsf_heap.specs.Calls.{opened, allocated, released, resized, written, read_of, read_answer};
+ghost use Rattle.tlsf_heap.specs.InPlace.{IsPayloadCheck};
+ghost use Rattle.tlsf_heap.specs.Given.{payload_words_given, payload_words_left};
+ghost use Rattle.tlsf_heap.specs.Reports.{report_of};
+
+use std::alloc::Global;
+use std::marker::Model;
+use tlsf_heap::{Heap, Name, OpenFault, Refusal, Report};
+
+/// A heap of one of the two levels.
+#[derive(Drop)]
+pub enum OfLevel {
+    Four(Heap<4>),
+    Five(Heap<5>),
+}
+
+/// A heap whose level, 4 or 5, is told when it is opened. Contracts see it as its level, the sequential heap and its touches.
+#[derive(Drop)]
+pub struct AnyHeap {
+    of_level: OfLevel,
+}
+
+impl Model for AnyHeap {
+    ghost use Rattle.tlsf_c.specs.Levels.{LevelHeap};
+
+    ghost Value = { LevelHeap };
+
+    ghost use Rattle.tlsf_c.specs.LevelOf.{shown};
+
+    ghost view = { λ a. shown a.of_level };
+}
+
+impl AnyHeap {
+    /// Opens a heap of a level, 4 or 5, over `words` words: number `id`, tick 0.
+    pub fn open(alloc: Global, level: u32, id: u32, words: u32) -> Result<AnyHeap, OpenFault>
+        requires least { 4 ≤ level }
+        requires most { level ≤ 5 }
+        ensures heap { IfOk result (λ heap. heap.heap ≡ opened id words 0) }
+        ensures level { IfOk result (λ heap. heap.level ≡ level) }
+        ensures bad_size { IsErrOf result OpenFault.BadSize ↔ ¬ (IsRegion level words) }
+        ensures no_memory { IsRegion level words → IfErr result (λ why. why ≡ OpenFault.NoMemory) }
+        ensures touches { IfOk result (λ heap. heap.touches ≤ 10) }
+    {
+        if level == 4 {
+            let heap = Heap::<4>::open(alloc, id, words, 0)?;
+            Ok(AnyHeap {
+                of_level: OfLevel::Four(heap),
+            })
+        } else {
+            let heap = Heap::<5>::open(alloc, id, words, 0)?;
+            Ok(AnyHeap {
+                of_level: OfLevel::Five(heap),
+            })
+        }
+    }
+
+    /// `Heap::allocate`.
+    pub fn allocate(&mut self, len: u32) -> Result<Name, Refusal>
+        ensures answer { result ≡ (allocated self.old.level self.old.heap len).answer }
+        ensures heap { self.new.heap ≡ (allocated self.old.level self.old.heap len).heap }
+        ensures level { self.new.level ≡ self.old.level }
+        ensures touches { self.new.touches ≤ self.old.touches + 64 + payload_words_given result self.new.heap }
+    {
+        match &mut self.of_level {
+            OfLevel::Four(heap) => heap.allocate(len),
+            OfLevel::Five(heap) => heap.allocate(len),
+        }
+    }
+
+    /// `Heap::release`.
+    pub fn release(&mut self, name: Name) -> Result<(), Refusal>
+        ensures answer { result ≡ (released self.old.heap name).answer }
+        ensures heap { self.new.heap ≡ (released self.old.heap name).heap }
+        ensures level { self.new.level ≡ self.old.level }
+        ensures touches { self.new.touches ≤ self.old.touches + 64 }
+    {
+        match &mut self.of_level {
+            OfLevel::Four(heap) => heap.release(name),
+            OfLevel::Five(heap) => heap.release(name),
+        }
+    }
+
+    /// `Heap::resize`.
+    pub fn resize(&mut self, name: Name, len: u32) -> Result<(), Refusal>
+        ensures answer { result ≡ (resized self.old.heap name len).answer }
+        ensures heap { self.new.heap ≡ (resized self.old.heap name len).heap }
+        ensures level { self.new.level ≡ self.old.level }
+        ensures touches { self.new.touches ≤ self.old.touches + 64 + payload_words_left result self.new.heap name }
+    {
+        match &mut self.of_level {
+            OfLevel::Four(heap) => heap.resize(name, len),
+            OfLevel::Five(heap) => heap.resize(name, len),
+        }
+    }
+
+    /// `Heap::write`.
+    pub fn write(&mut self, name: Name, at: u32, bytes: &[u8]) -> Result<(), Refusal>
+        ensures answer { result ≡ (written self.old.heap name at bytes.now).answer }
+        ensures heap { self.new.heap ≡ (written self.old.heap name at bytes.now).heap }
+        ensures level { self.new.level ≡ self.old.level }
+        ensures touches { self.new.touches ≤ self.old.touches + 4 + 2 * (length bytes.now / 8 + 2) }
+    {
+        match &mut self.of_level {
+            OfLevel::Four(heap) => heap.write(name, at, bytes),
+            OfLevel::Five(heap) => heap.write(name, at, bytes),
+        }
+    }
+
+    /// `Heap::read`.
+    pub fn read(&mut self, name: Name, at: u32, out: &mut [u8]) -> Result<(), Refusal>
+        ensures answer { result ≡ read_answer (read_of self.old.heap name at (length out.old)) }
+        ensures bytes { out.new ≡ result_unwrap_or (read_of self.old.heap name at (length out.old)) out.old }
+        ensures heap { self.new.heap ≡ self.old.heap }
+        ensures level { self.new.level ≡ self.old.level }
+        ensures touches { self.new.touches ≤ self.old.touches + 4 + (length out.old / 8 + 2) }
+    {
+        match &mut self.of_level {
+            OfLevel::Four(heap) => heap.read(name, at, out),
+            OfLevel::Five(heap) => heap.read(name, at, out),
+        }
+    }
+
+    /// `Heap::payload`.
+    pub fn payload(&mut self, name: Name) -> Result<(*mut u64, u32), Refusal>
+        ensures payload { MatchResult result (λ p. IsPayloadCheck self.old.heap name (Ok p.1)) (λ why. IsPayloadCheck self.old.heap name (Err why)) }
+        ensures heap { self.new.heap ≡ self.old.heap }
+        ensures level { self.new.level ≡ self.old.level }
+        ensures touches { self.new.touches ≤ self.old.touches + 5 }
+    {
+        match &mut self.of_level {
+            OfLevel::Four(heap) => heap.payload(name),
+            OfLevel::Five(heap) => heap.payload(name),
+        }
+    }
+
+    /// `Heap::report`.
+    pub fn report(&mut self) -> Report
+        ensures report { result ≡ report_of self.old.level self.old.heap }
+        ensures heap { self.new.heap ≡ self.old.heap }
+        ensures level { self.new.level ≡ self.old.level }
+        ensures touches { self.new.touches ≤ self.old.touches + 3 * self.old.heap.words }
+    {
+        match &mut self.of_level {
+            OfLevel::Four(heap) => heap.report(),
+            OfLevel::Five(heap) => heap.report(),
+        }
+    }
+}

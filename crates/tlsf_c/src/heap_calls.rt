@@ -1,0 +1,324 @@
+//! C's calls of a heap.
+ghost use Rattle.std.specs.Prelude.{◌≡◌, ℕ, true, false, ◌<◌, ◌≤◌, ◌+◌, ◌*◌, ◌/◌, length, Result, Ok, Err, Some, None};
+ghost use Rattle.std.specs.Result.{result_unwrap_or};
+ghost use Rattle.tlsf_heap.specs.Lawful.{IsRegion};
+ghost use Rattle.tlsf_laws.specs.Pools.{pool_region};
+ghost use Rattle.tlsf_heap.specs.Calls.{opened, allocated, released, resized, written, read_of, read_answer};
+ghost use Rattle.tlsf_heap.specs.InPlace.{IsPayloadCheck};
+ghost use Rattle.tlsf_heap.specs.Given.{payload_words_given, payload_words_left};
+ghost use Rattle.tlsf_heap.specs.Numbers.{number_of};
+ghost use Rattle.tlsf_heap.specs.Reports.{report_of};
+ghost use Rattle.tlsf_heap.specs.declared.refusal.Refusal.{Refusal};
+ghost use Rattle.tlsf_c.specs.Names.{name_of, report_in};
+ghost use Rattle.tlsf_c.specs.Handles.{heap_in, level_in, touches_in, StaysOpen};
+ghost use Rattle.tlsf_c.specs.Refusals.{status_of, bad_size, no_memory, closed, in_use, bad_level};
+
+use crate::any_heap::AnyHeap;
+use crate::call_fault::{CallFault, status};
+use crate::heap_slot::HeapSlot;
+use crate::names::{BlockName, HeapReport};
+use std::alloc::Global;
+
+/// Opens a heap of a level, 4 or 5, and number `id` over `words` words of 8 bytes, at tick 0, in a closed handle.
+///
+/// Refused as InUse where the handle is open, else as BadLevel where there is no such level, else as BadSize where `words` is below 4, or
+/// above 2^20 at level 4 and 2^24 at level 5, else as NoMemory where the memory was not granted. No later call on the heap takes memory.
+///
+/// ```text
+/// struct tlsf_heap heap = TLSF_CLOSED;
+/// tlsf_open(&heap, 4, 0, 64) == TLSF_OK        // heap 0: 512 bytes
+/// tlsf_open(&heap, 4, 0, 64) == TLSF_IN_USE
+/// ```
+#[unsafe(no_mangle)]
+pub extern "C" fn tlsf_open(
+    alloc: Global,
+    heap: &mut HeapSlot,
+    level: u32,
+    id: u32,
+    words: u32,
+) -> u32
+    ensures in_use { heap.old.is_open ≡ true → result ≡ in_use }
+    ensures bad_level { heap.old.is_open ≡ false → ¬ (level ≡ 4) → ¬ (level ≡ 5) → result ≡ bad_level }
+    ensures bad_size { heap.old.is_open ≡ false → 4 ≤ level → level ≤ 5 → ¬ (IsRegion level words) → result ≡ bad_size }
+    ensures no_memory { heap.old.is_open ≡ false → 4 ≤ level → level ≤ 5 → IsRegion level words → ¬ (result ≡ 0) → result ≡ no_memory }
+    ensures refused { ¬ (result ≡ 0) → heap.new ≡ heap.old }
+    ensures open { result ≡ 0 → heap.new.is_open ≡ true }
+    ensures heap { result ≡ 0 → (level_in heap.new ≡ level) × (heap_in heap.new ≡ opened id words 0) }
+    ensures touches { result ≡ 0 → touches_in heap.new ≤ 10 }
+{
+    if heap.is_open {
+        return CallFault::InUse.number();
+    }
+    if level < 4 || level > 5 {
+        return CallFault::BadLevel.number();
+    }
+    match AnyHeap::open(alloc, level, id, words) {
+        Err(fault) => fault.number(),
+        Ok(opened) => match Box::new(alloc, opened) {
+            Err(_) => CallFault::NoMemory.number(),
+            Ok(owned) => {
+                heap.put_in(owned);
+                0
+            }
+        },
+    }
+}
+
+/// The words of the least region in which a program of at most `most` blocks at once, of at most `len` bytes each, is never refused for want
+/// of room. They go to `words`.
+///
+/// Refused as BadLevel where `level` is neither 4 nor 5, else as BadSize where no region of that level is so large.
+///
+/// ```text
+/// tlsf_words(4, 100, 256, &words) == TLSF_OK   // then tlsf_open(&heap, 4, 0, words)
+/// ```
+#[unsafe(no_mangle)]
+pub extern "C" fn tlsf_words(level: u32, most: u32, len: u32, words: &mut u32) -> u32
+    ensures bad_level { ¬ (level ≡ 4) → ¬ (level ≡ 5) → result ≡ bad_level }
+    ensures words { result ≡ 0 → pool_region level most len ≡ Some words.new }
+    ensures none { 4 ≤ level → level ≤ 5 → ¬ (result ≡ 0) → (result ≡ bad_size) × (pool_region level most len ≡ None) }
+    ensures no_words { ¬ (result ≡ 0) → words.new ≡ words.old }
+{
+    let found = match level {
+        4 => tlsf_pool::pool_region::<4>(most, len),
+        5 => tlsf_pool::pool_region::<5>(most, len),
+        _ => return CallFault::BadLevel.number(),
+    };
+    match found {
+        Some(n) => {
+            *words = n;
+            0
+        }
+        None => CallFault::BadSize.number(),
+    }
+}
+
+/// Closes a heap, and gives its memory back. No name of its blocks is of use from then on.
+///
+/// Refused as Closed where the handle isn't open.
+///
+/// ```text
+/// tlsf_close(&heap) == TLSF_OK
+/// tlsf_close(&heap) == TLSF_IS_CLOSED
+/// ```
+#[unsafe(no_mangle)]
+pub extern "C" fn tlsf_close(alloc: Global, heap: &mut HeapSlot) -> u32
+    ensures after { heap.new.is_open ≡ false }
+    ensures closed { heap.old.is_open ≡ false → result ≡ closed }
+    ensures open { heap.old.is_open ≡ true → result ≡ 0 }
+{
+    match heap.take_out(alloc) {
+        None => CallFault::Closed.number(),
+        Some(owned) => {
+            drop(owned);
+            0
+        }
+    }
+}
+
+/// Gives a block that holds `len` bytes of payload, all zero. Its name goes to `name`.
+///
+/// Refused as Closed where the handle isn't open, else as `Heap::allocate` refuses: NoFit, Worn.
+///
+/// ```text
+/// tlsf_allocate(&heap, 100, &name) == TLSF_OK  // 16 words of the region
+/// ```
+#[unsafe(no_mangle)]
+pub extern "C" fn tlsf_allocate(
+    alloc: Global,
+    heap: &mut HeapSlot,
+    len: u32,
+    name: &mut BlockName,
+) -> u32
+    ensures closed { heap.old.is_open ≡ false → (result ≡ closed) × (heap.new.is_open ≡ false) }
+    ensures open { heap.old.is_open ≡ true → StaysOpen heap.old heap.new }
+    ensures status { heap.old.is_open ≡ true → result ≡ status_of (allocated (level_in heap.old) (heap_in heap.old) len).answer }
+    ensures name { heap.old.is_open ≡ true → result ≡ 0 → (allocated (level_in heap.old) (heap_in heap.old) len).answer ≡ Ok (name_of name.new) }
+    ensures no_name { ¬ (result ≡ 0) → name.new ≡ name.old }
+    ensures heap { heap.old.is_open ≡ true → heap_in heap.new ≡ (allocated (level_in heap.old) (heap_in heap.old) len).heap }
+    ensures touches { heap.old.is_open ≡ true → touches_in heap.new ≤ touches_in heap.old + 64 + payload_words_given (allocated (level_in heap.old) (heap_in heap.old) len).answer (heap_in heap.new) }
+{
+    let Some(mut owned) = heap.take_out(alloc) else {
+        return CallFault::Closed.number();
+    };
+    let answer = owned.allocate(len);
+    heap.put_in(owned);
+    match answer {
+        Ok(new) => {
+            *name = BlockName::of(new);
+            0
+        }
+        Err(why) => why.number(),
+    }
+}
+
+/// Takes back the block of that name.
+///
+/// Refused as Closed where the handle isn't open, else as `Heap::release` refuses: Foreign, Stale, Worn.
+///
+/// ```text
+/// tlsf_release(&heap, &name) == TLSF_OK
+/// tlsf_release(&heap, &name) == TLSF_STALE
+/// ```
+#[unsafe(no_mangle)]
+pub extern "C" fn tlsf_release(alloc: Global, heap: &mut HeapSlot, name: &BlockName) -> u32
+    ensures closed { heap.old.is_open ≡ false → (result ≡ closed) × (heap.new.is_open ≡ false) }
+    ensures open { heap.old.is_open ≡ true → StaysOpen heap.old heap.new }
+    ensures status { heap.old.is_open ≡ true → result ≡ status_of (released (heap_in heap.old) (name_of name.now)).answer }
+    ensures heap { heap.old.is_open ≡ true → heap_in heap.new ≡ (released (heap_in heap.old) (name_of name.now)).heap }
+    ensures touches { heap.old.is_open ≡ true → touches_in heap.new ≤ touches_in heap.old + 64 }
+{
+    let Some(mut owned) = heap.take_out(alloc) else {
+        return CallFault::Closed.number();
+    };
+    let answer = owned.release(name.name());
+    heap.put_in(owned);
+    status(answer)
+}
+
+/// Makes the payload of the block of that name `len` bytes long, where the block stands. The name stays.
+///
+/// Refused as Closed where the handle isn't open, else as `Heap::resize` refuses: Foreign, Stale, NoRoom, Worn.
+///
+/// ```text
+/// tlsf_resize(&heap, &name, 200) == TLSF_OK    // bytes 100 to 199 are zero
+/// ```
+#[unsafe(no_mangle)]
+pub extern "C" fn tlsf_resize(alloc: Global, heap: &mut HeapSlot, name: &BlockName, len: u32) -> u32
+    ensures closed { heap.old.is_open ≡ false → (result ≡ closed) × (heap.new.is_open ≡ false) }
+    ensures open { heap.old.is_open ≡ true → StaysOpen heap.old heap.new }
+    ensures status { heap.old.is_open ≡ true → result ≡ status_of (resized (heap_in heap.old) (name_of name.now) len).answer }
+    ensures heap { heap.old.is_open ≡ true → heap_in heap.new ≡ (resized (heap_in heap.old) (name_of name.now) len).heap }
+    ensures touches { heap.old.is_open ≡ true → touches_in heap.new ≤ touches_in heap.old + 64 + payload_words_left (resized (heap_in heap.old) (name_of name.now) len).answer (heap_in heap.new) (name_of name.now) }
+{
+    let Some(mut owned) = heap.take_out(alloc) else {
+        return CallFault::Closed.number();
+    };
+    let answer = owned.resize(name.name(), len);
+    heap.put_in(owned);
+    status(answer)
+}
+
+/// Writes bytes into the payload of the block of that name, from byte `at` of it on.
+///
+/// Refused as Closed where the handle isn't open, else as `Heap::write` refuses: Foreign, Stale, Range.
+///
+/// ```text
+/// tlsf_write(&heap, &name, 98, bytes, 2) == TLSF_OK
+/// tlsf_write(&heap, &name, 99, bytes, 2) == TLSF_RANGE
+/// ```
+#[unsafe(no_mangle)]
+pub extern "C" fn tlsf_write(
+    alloc: Global,
+    heap: &mut HeapSlot,
+    name: &BlockName,
+    at: u32,
+    bytes: &[u8],
+) -> u32
+    ensures closed { heap.old.is_open ≡ false → (result ≡ closed) × (heap.new.is_open ≡ false) }
+    ensures open { heap.old.is_open ≡ true → StaysOpen heap.old heap.new }
+    ensures status { heap.old.is_open ≡ true → result ≡ status_of (written (heap_in heap.old) (name_of name.now) at bytes.now).answer }
+    ensures heap { heap.old.is_open ≡ true → heap_in heap.new ≡ (written (heap_in heap.old) (name_of name.now) at bytes.now).heap }
+    ensures touches { heap.old.is_open ≡ true → touches_in heap.new ≤ touches_in heap.old + 4 + 2 * (length bytes.now / 8 + 2) }
+{
+    let Some(mut owned) = heap.take_out(alloc) else {
+        return CallFault::Closed.number();
+    };
+    let answer = owned.write(name.name(), at, bytes);
+    heap.put_in(owned);
+    status(answer)
+}
+
+/// Reads bytes of the payload of the block of that name, from byte `at` of it on, and fills `out` with them.
+///
+/// Refused as Closed where the handle isn't open, else as `Heap::read` refuses: Foreign, Stale, Range. `out` is then as before.
+///
+/// ```text
+/// tlsf_read(&heap, &name, 98, out, 2) == TLSF_OK
+/// ```
+#[unsafe(no_mangle)]
+pub extern "C" fn tlsf_read(
+    alloc: Global,
+    heap: &mut HeapSlot,
+    name: &BlockName,
+    at: u32,
+    out: &mut [u8],
+) -> u32
+    ensures closed { heap.old.is_open ≡ false → (result ≡ closed) × (heap.new.is_open ≡ false) × (out.new ≡ out.old) }
+    ensures open { heap.old.is_open ≡ true → StaysOpen heap.old heap.new }
+    ensures status { heap.old.is_open ≡ true → result ≡ status_of (read_answer (read_of (heap_in heap.old) (name_of name.now) at (length out.old))) }
+    ensures bytes { heap.old.is_open ≡ true → out.new ≡ result_unwrap_or (read_of (heap_in heap.old) (name_of name.now) at (length out.old)) out.old }
+    ensures heap { heap.old.is_open ≡ true → heap_in heap.new ≡ heap_in heap.old }
+    ensures touches { heap.old.is_open ≡ true → touches_in heap.new ≤ touches_in heap.old + 4 + (length out.old / 8 + 2) }
+{
+    let Some(mut owned) = heap.take_out(alloc) else {
+        return CallFault::Closed.number();
+    };
+    let answer = owned.read(name.name(), at, out);
+    heap.put_in(owned);
+    status(answer)
+}
+
+/// Where the payload of the block of that name lies: the address of the region's first word goes to `base`, and the payload's length in bytes
+/// to `len`. The payload begins at byte `8 * (at + 3)` from there.
+///
+/// Refused as Closed where the handle isn't open, else as Foreign where the name is of another heap, else as Stale where no live block has
+/// that place and serial.
+///
+/// ```text
+/// tlsf_locate(&heap, &name, &base, &len) == TLSF_OK
+/// ```
+#[unsafe(no_mangle)]
+pub extern "C" fn tlsf_locate(
+    alloc: Global,
+    heap: &mut HeapSlot,
+    name: &BlockName,
+    base: &mut *mut u64,
+    len: &mut u32,
+) -> u32
+    ensures closed { heap.old.is_open ≡ false → (result ≡ closed) × (heap.new.is_open ≡ false) }
+    ensures open { heap.old.is_open ≡ true → StaysOpen heap.old heap.new }
+    ensures len { heap.old.is_open ≡ true → result ≡ 0 → IsPayloadCheck (heap_in heap.old) (name_of name.now) (Ok len.new) }
+    ensures refused { heap.old.is_open ≡ true → ¬ (result ≡ 0) → (why : Refusal)
+        × IsPayloadCheck (heap_in heap.old) (name_of name.now) (Err why) × (result ≡ number_of why) }
+    ensures heap { heap.old.is_open ≡ true → heap_in heap.new ≡ heap_in heap.old }
+    ensures kept { ¬ (result ≡ 0) → (base.new ≡ base.old) × (len.new ≡ len.old) }
+    ensures touches { heap.old.is_open ≡ true → touches_in heap.new ≤ touches_in heap.old + 5 }
+{
+    let Some(mut owned) = heap.take_out(alloc) else {
+        return CallFault::Closed.number();
+    };
+    let answer = owned.payload(name.name());
+    heap.put_in(owned);
+    match answer {
+        Ok((at, n)) => {
+            *base = at;
+            *len = n;
+            0
+        }
+        Err(why) => why.number(),
+    }
+}
+
+/// What the heap holds, and how well it serves, goes to `report`: words, bytes and blocks. It walks over all blocks.
+///
+/// Refused as Closed where the handle isn't open.
+///
+/// ```text
+/// tlsf_report(&heap, &report) == TLSF_OK       // of a new heap of 64 words: report.free_words == 64
+/// ```
+#[unsafe(no_mangle)]
+pub extern "C" fn tlsf_report(alloc: Global, heap: &mut HeapSlot, report: &mut HeapReport) -> u32
+    ensures closed { heap.old.is_open ≡ false → (result ≡ closed) × (heap.new.is_open ≡ false) × (report.new ≡ report.old) }
+    ensures open { heap.old.is_open ≡ true → (result ≡ 0) × StaysOpen heap.old heap.new }
+    ensures report { heap.old.is_open ≡ true → report_in report.new ≡ report_of (level_in heap.old) (heap_in heap.old) }
+    ensures heap { heap.old.is_open ≡ true → heap_in heap.new ≡ heap_in heap.old }
+    ensures touches { heap.old.is_open ≡ true → touches_in heap.new ≤ touches_in heap.old + 3 * (heap_in heap.old).words }
+{
+    let Some(mut owned) = heap.take_out(alloc) else {
+        return CallFault::Closed.number();
+    };
+    *report = HeapReport::of(owned.report());
+    heap.put_in(owned);
+    0
+}

@@ -1,0 +1,31 @@
+//! The heap for C and C++: one export for each call.
+//!
+//! What a call works on lies behind a handle in the caller's memory, which is open or closed. No call requires anything of a
+//! handle beyond what its type says: a closed one is refused, and so is opening one twice.
+#![tactic(auto)]
+
+mod any_heap;
+mod call_fault;
+mod heap_calls;
+mod heap_slot;
+mod held_heap;
+mod held_post_end;
+mod held_take_end;
+mod lane_calls;
+mod names;
+mod parts;
+mod post_slot;
+mod take_slot;
+
+use crate::heap_slot::HeapSlot;
+use crate::post_slot::PostSlot;
+use crate::take_slot::TakeSlot;
+
+fn asks_send<T: Send>() {}
+
+/// Open handles may go to other threads.
+pub fn handles_may_cross() {
+    asks_send::<HeapSlot>();
+    asks_send::<PostSlot>();
+    asks_send::<TakeSlot>();
+}

@@ -1,0 +1,48 @@
+//! A place for a take end in C's memory.
+ghost use Rattle.std.specs.Prelude.{◌≡◌, true, false, is_some, None, Some};
+
+use crate::held_take_end::HeldTakeEnd;
+use std::alloc::Global;
+use std::{mem, ptr};
+use tlsf_post::TakeEnd;
+
+/// A place for a take end in C's memory: open with one, or closed. All zero, it is closed.
+#[repr(C)]
+#[derive(Drop)]
+pub struct TakeSlot {
+    pub held: HeldTakeEnd,
+    pub is_open: bool,
+    ghost tied: { is_open ≡ is_some held.value },
+}
+
+impl TakeSlot {
+    /// Takes out what is there, and leaves the place closed.
+    pub fn take_out(&mut self, alloc: Global) -> Option<Box<TakeEnd, Global>>
+        ensures closed { self.new.is_open ≡ false }
+        ensures none { result ≡ None → self.old.is_open ≡ false }
+        ensures some { (b : _) → result ≡ Some b → (self.old.is_open ≡ true) × (self.old.held.value ≡ Some b.value) }
+    {
+        let nowhere: *mut u8 = ptr::null_mut();
+        let held = HeldTakeEnd::empty(alloc, nowhere);
+        let TakeSlot { held, is_open } = mem::replace(
+            self,
+            TakeSlot {
+                held,
+                is_open: false,
+            },
+        );
+        if is_open { Some(held.into_box()) } else { None }
+    }
+
+    /// Puts something into a closed place.
+    pub fn put_in(&mut self, boxed: Box<TakeEnd, Global>)
+        requires { self.old.is_open ≡ false }
+        ensures open { self.new.is_open ≡ true }
+        ensures value { self.new.held.value ≡ Some boxed.value }
+    {
+        *self = TakeSlot {
+            held: HeldTakeEnd::new(boxed),
+            is_open: true,
+        };
+    }
+}
