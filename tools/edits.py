@@ -10,7 +10,7 @@ import re
 TOP = pathlib.Path(__file__).resolve().parent.parent
 FOLDERS = ("must-fail", "attack")
 PARTS = ("src", "specs", "proofs")
-HEADER = re.compile(r"( *)(?:pub(?:\([a-z]+\))? )?(?:(?:const|unsafe|final) )*fn (\w+)")
+HEADER = re.compile(r'( *)(?:pub(?:\([a-z]+\))? )?(?:(?:const|unsafe|final|extern "C") )*fn (\w+)')
 
 
 def crates(top=TOP):

@@ -1,20 +1,27 @@
-# Sourced, with $top, the repository, and tools/crates.sh: where the proved program lies, and how far its build is.
+# Sourced, with $top, the repository, and tools/crates.sh: where what is proved and built lies, and how far its build is.
+# $goal names the crate that it is built of: tlsf_tool, the program, if nothing else was set, or tlsf_c, C's library.
 #
 # Builds lie outside the repository, in a folder of this user's own, $builds: `rt ci` reads the whole checkout, and
-# refuses a builder's tree there. Each text of the sources has a folder, named by the checksum of all that the program
+# refuses a builder's tree there. Each text of the sources has a folder, named by the checksum of all that the goal
 # is proved from:
 #
-#     KEY/tlsf       the proved program, there once it is whole
+#     KEY/tlsf       the proved program, there once it is whole; or KEY/libtlsf.a, the library
 #     KEY/log        what the last build said
 #     KEY/start      when that build began, in seconds since 1970
-#     KEY/all, done  the crates to prove, and those proved so far, a line each
+#     KEY/all, done  the crates to prove, of which the goal is the last, and those proved so far, a line each
 #     KEY/failed     why that build failed, in one line; not there after one that was interrupted
 #     KEY/origin     the repository that asked for it
 #     KEY/builder    its process, which leads a group of its own; KEY/lock is locked as long as one of that group lives
 #     KEY/work       what is being made; removed at the end
 #     rlibs/         proved libraries for the next build, each named by the checksum of all that it is made from
-#     seen/SUM       names the text of a checkout, by the checksum of its files' places, sizes and times
+#     seen/GOAL-SUM  names the text of a checkout, by the checksum of its files' places, sizes and times
 #     lock           locked by the build that runs: one at a time
+
+goal=${goal:-tlsf_tool}
+case $goal in
+tlsf_c) product=libtlsf.a what="the library" caller=library waits="./library PREFIX" no_answer=1 ;;
+*) product=tlsf what="the program" caller=tlsf waits="./tlsf --prove" no_answer=70 ;;
+esac
 
 # Sets $builds, and makes that folder. One that is another user's, or can't be written, is passed over.
 find_builds() {
@@ -27,10 +34,10 @@ find_builds() {
     return 1
 }
 
-# text_sum TREE: prints the checksum of all that the program of a tree is proved from.
+# text_sum TREE: prints the checksum of all that the goal is proved from in a tree.
 text_sum() (
     cd "$1" || exit 1
-    crates=$(crates_below . tlsf_tool)
+    crates=$(crates_below . "$goal")
     [ -n "$crates" ] || exit 1
     # shellcheck disable=SC2086
     { crate_lines . $crates && cat HANDLES && source_sums $crates; } | sha256sum | cut -c 1-40
@@ -51,21 +58,22 @@ places_sum() {
         ! -type d -printf '%p %i %s %T@ %C@\n' 2>/dev/null) && echo "$listed" | sha256sum | cut -c 1-40
 }
 
-# Sets $key, the checksum of the text in the repository, $build, its folder, and $program, the proved program.
+# Sets $key, the checksum of the text in the repository, $build, its folder, and $program, what is proved and built.
 find_key() {
     key=
     places=$(places_sum "$top")
-    [ -z "$places" ] || [ ! -f "$builds/seen/$places" ] || read -r key < "$builds/seen/$places"
+    seen=$builds/seen/$goal-$places
+    [ -z "$places" ] || [ ! -f "$seen" ] || read -r key < "$seen"
     if [ -z "$key" ]; then
         key=$(text_sum "$top")
         [ -n "$key" ] || return 1
         # Only what nobody wrote to meanwhile is known again by its places.
         if [ -n "$places" ] && [ "$places" = "$(places_sum "$top")" ] && mkdir -p "$builds/seen"; then
-            echo "$key" > "$builds/seen/$places"
+            echo "$key" > "$seen"
         fi 2>/dev/null
     fi
     build=$builds/$key
-    program=$build/tlsf
+    program=$build/$product
 }
 
 # Whether a process that builds in this folder lives; those whose leader was killed don't count.
@@ -84,7 +92,7 @@ end_build() {
 
 # Sets $state: proved, building, failed, interrupted, or none.
 find_state() {
-    if [ -x "$program" ]; then
+    if [ -s "$program" ]; then
         state=proved
     elif is_building "$build"; then
         state=building
@@ -95,4 +103,43 @@ find_state() {
     else
         state=none
     fi
+}
+
+# Waits for the build, with `say` and `stop` of the caller's, and shows how far it is. One that was interrupted is begun
+# once more.
+await_program() {
+    await_end
+    if [ "$state" = interrupted ]; then
+        "$top/tools/first_build" "$goal" || exit "$no_answer"
+        await_end
+    fi
+    case $state in
+    proved) return ;;
+    failed) stop "$what is not proved: $(cat "$build/failed"); the log is $build/log" ;;
+    none) stop "$what is not proved, and no build of it runs" ;;
+    *) stop "the build was interrupted; $waits goes on with it" ;;
+    esac
+}
+
+await_end() {
+    shown='' shown_at=0
+    while find_state && [ "$state" = building ]; do
+        show_progress
+        sleep 1
+    done
+}
+
+# A line for each crate that is proved, and every half minute.
+show_progress() {
+    find_progress
+    [ "$proved" != "$shown" ] || [ "$seconds" -ge $((shown_at + 30)) ] || return 0
+    shown=$proved shown_at=$seconds
+    say "$progress"
+}
+
+# Sets $progress, how far the build is, with the count of crates that are proved and the seconds since it began.
+find_progress() {
+    proved=$(($(wc -l < "$build/done")))
+    seconds=$(($(date +%s) - $(cat "$build/start")))
+    progress="$proved of $(($(wc -l < "$build/all"))) crates proved, after $seconds seconds"
 }

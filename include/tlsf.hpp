@@ -1,0 +1,338 @@
+// tlsf.h for C++17 and later: heaps and lane ends that close themselves, blocks that release themselves, and the heap
+// under the containers of std, as a std::pmr::memory_resource and as an allocator.
+//
+// Header-only; libtlsf.a is all that is linked. What the caller owes is said in tlsf.h. Constructors throw std::bad_alloc
+// where malloc says no, std::invalid_argument where no region or lane is of that size; resource and allocator throw
+// std::bad_alloc where there is no room. All else is noexcept. Where exceptions are off, what would throw aborts.
+#ifndef TLSF_HPP
+#define TLSF_HPP
+
+#include "tlsf.h"
+
+#include <cstddef>
+#include <cstdint>
+#include <cstdlib>
+#include <limits>
+#include <memory>
+#include <memory_resource>
+#include <new>
+#include <optional>
+#include <stdexcept>
+#include <utility>
+
+namespace tlsf {
+
+enum class level : std::uint32_t { four = 4, five = 5 };
+
+namespace detail {
+
+#if defined(__cpp_exceptions) || defined(_CPPUNWIND)
+[[noreturn]] inline void no_room() { throw std::bad_alloc(); }
+[[noreturn]] inline void bad_size(const char *what) { throw std::invalid_argument(what); }
+#else
+[[noreturn]] inline void no_room() { std::abort(); }
+[[noreturn]] inline void bad_size(const char *) { std::abort(); }
+#endif
+
+// What a heap is to those who refer to it: its handle, its number, and where its region begins, once that is known.
+struct heap_state {
+    tlsf_heap raw = TLSF_CLOSED;
+    std::uint32_t number = 0;
+    std::uint64_t *base = nullptr;
+
+    heap_state() noexcept = default;
+    heap_state(const heap_state &) = delete;
+    heap_state &operator=(const heap_state &) = delete;
+    ~heap_state() { tlsf_close(&raw); }
+};
+
+// The end of a lane that is closed at the end of its life. It lies still, whoever holds it.
+template <typename End, std::uint32_t (*Close)(End *)>
+struct end_state {
+    End raw = TLSF_CLOSED;
+
+    end_state() noexcept = default;
+    end_state(const end_state &) = delete;
+    end_state &operator=(const end_state &) = delete;
+    ~end_state() { Close(&raw); }
+};
+using post_state = end_state<tlsf_post_end, tlsf_post_close>;
+using take_state = end_state<tlsf_take_end, tlsf_take_close>;
+
+constexpr std::uint32_t closed = TLSF_IS_CLOSED;
+constexpr std::size_t word = sizeof(std::uint64_t);
+constexpr std::size_t header = 3;
+constexpr std::size_t most_bytes = std::numeric_limits<std::uint32_t>::max();
+
+// A block for objects of any alignment, or null where there is no room. A payload is aligned to 8 bytes. The word in front
+// of what is given holds the block's serial, by which it is released; where more alignment is asked for, the two words in
+// front hold its place and its serial, and the block is longer by what aligning may take.
+inline void *give(heap_state &heap, std::size_t bytes, std::size_t align) noexcept {
+    const std::size_t more = align <= word ? word : word + align;
+    if (more > most_bytes || bytes > most_bytes - more) return nullptr;
+    tlsf_name name{};
+    std::uint32_t len = 0;
+    if (tlsf_allocate(&heap.raw, static_cast<std::uint32_t>(bytes + more), &name) != TLSF_OK ||
+        tlsf_locate(&heap.raw, &name, &heap.base, &len) != TLSF_OK)
+        return nullptr;
+    std::uint64_t *payload = heap.base + name.at + header;
+    if (align <= word) {
+        payload[0] = name.serial;
+        return payload + 1;
+    }
+    const auto from = reinterpret_cast<std::uintptr_t>(payload + 2);
+    std::uint64_t *at = payload + 2 + ((0 - from) & (align - 1)) / word;
+    at[-2] = name.at;
+    at[-1] = name.serial;
+    return at;
+}
+
+// Releases what `give` gave for that alignment.
+inline void take_back(heap_state &heap, void *p, std::size_t align) noexcept {
+    auto *at = static_cast<std::uint64_t *>(p);
+    tlsf_name name{heap.number, 0, at[-1]};
+    name.at = static_cast<std::uint32_t>(align <= word ? static_cast<std::size_t>(at - 1 - heap.base) - header : at[-2]);
+    tlsf_release(&heap.raw, &name);
+}
+
+} // namespace detail
+
+class block;
+
+// A heap that is closed at the end of its life. It can be moved, and not copied; blocks, resources and allocators refer to
+// the same heap afterwards, and must not outlive it. One that isn't open, or was moved from, refuses as TLSF_IS_CLOSED.
+class heap {
+    std::unique_ptr<detail::heap_state> state_;
+    friend class block;
+    friend class resource;
+    template <typename T>
+    friend class allocator;
+
+public:
+    heap() noexcept = default;
+    heap(level l, std::uint32_t number, std::uint32_t words) {
+        const std::uint32_t answer = open(l, number, words);
+        if (answer == TLSF_NO_MEMORY) detail::no_room();
+        if (answer != TLSF_OK) detail::bad_size("tlsf: no region has so many words");
+    }
+
+    // A heap that never lacks room for at most `blocks` blocks at once of at most `len` bytes each, by tlsf_words.
+    static heap for_blocks(level l, std::uint32_t number, std::uint32_t blocks, std::uint32_t len) {
+        std::uint32_t words = 0;
+        if (tlsf_words(static_cast<std::uint32_t>(l), blocks, len, &words) != TLSF_OK)
+            detail::bad_size("tlsf: no region serves so many blocks of so many bytes");
+        return heap(l, number, words);
+    }
+
+    // As tlsf_open, for a heap that isn't open; nothing is thrown.
+    [[nodiscard]] std::uint32_t open(level l, std::uint32_t number, std::uint32_t words) noexcept {
+        if (is_open()) return TLSF_IN_USE;
+        std::unique_ptr<detail::heap_state> state(new (std::nothrow) detail::heap_state);
+        if (!state) return TLSF_NO_MEMORY;
+        const std::uint32_t answer = tlsf_open(&state->raw, static_cast<std::uint32_t>(l), number, words);
+        if (answer != TLSF_OK) return answer;
+        state->number = number;
+        state_ = std::move(state);
+        return TLSF_OK;
+    }
+    void close() noexcept { state_.reset(); }
+    bool is_open() const noexcept { return state_ != nullptr; }
+
+    // The handle for the calls of tlsf.h, or null where it isn't open. It is closed by this object alone.
+    tlsf_heap *get() noexcept { return state_ ? &state_->raw : nullptr; }
+    std::uint32_t number() const noexcept { return state_ ? state_->number : 0; }
+
+    // The calls of tlsf.h by their names.
+    [[nodiscard]] std::uint32_t allocate(std::uint32_t len, tlsf_name &name) noexcept {
+        return state_ ? tlsf_allocate(get(), len, &name) : detail::closed;
+    }
+    std::uint32_t release(const tlsf_name &name) noexcept { return state_ ? tlsf_release(get(), &name) : detail::closed; }
+    [[nodiscard]] std::uint32_t resize(const tlsf_name &name, std::uint32_t len) noexcept {
+        return state_ ? tlsf_resize(get(), &name, len) : detail::closed;
+    }
+    [[nodiscard]] std::uint32_t reallocate(tlsf_name &name, std::uint32_t len) noexcept {
+        return state_ ? tlsf_reallocate(get(), &name, len) : detail::closed;
+    }
+    void *payload(const tlsf_name &name, std::uint32_t *len = nullptr) noexcept {
+        return state_ ? tlsf_payload(get(), &name, len) : nullptr;
+    }
+    tlsf_heap_report report() noexcept {
+        tlsf_heap_report sums{};
+        if (state_) tlsf_report(get(), &sums);
+        return sums;
+    }
+
+    // A block of `len` bytes, all zero, that releases itself; empty where it is refused.
+    [[nodiscard]] block make(std::uint32_t len) noexcept;
+};
+
+// A live block, which is released at the end of its life; or none. It can be moved, and not copied. It stays in the thread
+// of its heap: to another thread goes its name, by `detach` and a lane.
+class block {
+    detail::heap_state *heap_ = nullptr;
+    tlsf_name name_{};
+
+public:
+    block() noexcept = default;
+    // Takes over a live block of that heap.
+    block(heap &owner, const tlsf_name &name) noexcept : heap_(owner.state_.get()), name_(name) {}
+    block(block &&other) noexcept : heap_(std::exchange(other.heap_, nullptr)), name_(other.name_) {}
+    block &operator=(block &&other) noexcept {
+        block(std::move(other)).swap(*this);
+        return *this;
+    }
+    block(const block &) = delete;
+    block &operator=(const block &) = delete;
+    ~block() { reset(); }
+
+    void swap(block &other) noexcept {
+        std::swap(heap_, other.heap_);
+        std::swap(name_, other.name_);
+    }
+    explicit operator bool() const noexcept { return heap_ != nullptr; }
+    const tlsf_name &name() const noexcept { return name_; }
+
+    // Its payload, aligned to 8 bytes, and the bytes of it; null and 0 where there is no block.
+    void *data() noexcept { return heap_ ? tlsf_payload(&heap_->raw, &name_, nullptr) : nullptr; }
+    std::uint32_t size() noexcept {
+        std::uint32_t len = 0;
+        if (heap_) (void)tlsf_payload(&heap_->raw, &name_, &len);
+        return len;
+    }
+    [[nodiscard]] std::uint32_t resize(std::uint32_t len) noexcept {
+        return heap_ ? tlsf_resize(&heap_->raw, &name_, len) : detail::closed;
+    }
+    [[nodiscard]] std::uint32_t reallocate(std::uint32_t len) noexcept {
+        return heap_ ? tlsf_reallocate(&heap_->raw, &name_, len) : detail::closed;
+    }
+    void reset() noexcept {
+        if (heap_) tlsf_release(&heap_->raw, &name_);
+        heap_ = nullptr;
+    }
+    // Gives the name out of its hands: the block stays live until somebody releases it.
+    tlsf_name detach() noexcept {
+        heap_ = nullptr;
+        return name_;
+    }
+};
+
+inline block heap::make(std::uint32_t len) noexcept {
+    tlsf_name name{};
+    return allocate(len, name) == TLSF_OK ? block(*this, name) : block();
+}
+
+// The ends of a lane. Each can be moved, and not copied, and is closed at the end of its life.
+class post_end {
+    std::unique_ptr<detail::post_state> state_;
+    friend struct lane;
+
+public:
+    post_end() noexcept = default;
+    tlsf_post_end *get() noexcept { return state_ ? &state_->raw : nullptr; }
+    // Whether it was put: false where the lane is full or the end closed.
+    [[nodiscard]] bool put(const tlsf_name &name) noexcept { return state_ && tlsf_put(get(), &name) == TLSF_OK; }
+    // The block's name goes, and the block is empty then; where it can't be put, the block stays as it is.
+    [[nodiscard]] bool put(block &&sent) noexcept {
+        if (!sent || !put(sent.name())) return false;
+        sent.detach();
+        return true;
+    }
+};
+
+class take_end {
+    std::unique_ptr<detail::take_state> state_;
+    friend struct lane;
+
+public:
+    take_end() noexcept = default;
+    tlsf_take_end *get() noexcept { return state_ ? &state_->raw : nullptr; }
+    // The first name, or none where the lane is empty or the end closed.
+    [[nodiscard]] std::optional<tlsf_name> take() noexcept {
+        tlsf_name name{};
+        if (!state_ || tlsf_take(get(), &name) != TLSF_OK) return std::nullopt;
+        return name;
+    }
+    // Releases the blocks whose names came, at most `most`, and says how many came.
+    std::uint32_t drain(heap &owner, std::uint32_t most) noexcept {
+        std::uint32_t came = 0;
+        if (state_ && owner.is_open()) (void)tlsf_drain(owner.get(), get(), most, &came);
+        return came;
+    }
+};
+
+// auto [post, take] = tlsf::lane(64);
+struct lane {
+    post_end post;
+    take_end take;
+
+    explicit lane(std::uint32_t capacity) {
+        post.state_.reset(new (std::nothrow) detail::post_state);
+        take.state_.reset(new (std::nothrow) detail::take_state);
+        if (!post.state_ || !take.state_) detail::no_room();
+        const std::uint32_t answer = tlsf_lane_open(post.get(), take.get(), capacity);
+        if (answer == TLSF_NO_MEMORY) detail::no_room();
+        if (answer != TLSF_OK) detail::bad_size("tlsf: a lane has 1 to 1,024 names");
+    }
+};
+
+// The heap under what takes a std::pmr::memory_resource, in one thread at a time. Any alignment; std::bad_alloc where there
+// is no room. Two resources over one heap are equal.
+class resource : public std::pmr::memory_resource {
+    detail::heap_state *heap_;
+
+    void *do_allocate(std::size_t bytes, std::size_t align) override {
+        void *p = heap_ ? detail::give(*heap_, bytes, align) : nullptr;
+        if (!p) detail::no_room();
+        return p;
+    }
+    void do_deallocate(void *p, std::size_t, std::size_t align) override { detail::take_back(*heap_, p, align); }
+    bool do_is_equal(const std::pmr::memory_resource &other) const noexcept override { return is_over_one_heap(&other); }
+
+    bool is_over_one_heap(const std::pmr::memory_resource *other) const noexcept {
+#if defined(__cpp_rtti)
+        const auto *same = dynamic_cast<const resource *>(other);
+        return same && same->heap_ == heap_;
+#else
+        return other == this;
+#endif
+    }
+
+public:
+    explicit resource(heap &owner) noexcept : heap_(owner.state_.get()) {}
+};
+
+// The heap under a container's own allocator: std::vector<float, tlsf::allocator<float>> samples(heap);
+template <typename T>
+class allocator {
+    detail::heap_state *heap_;
+    template <typename U>
+    friend class allocator;
+
+public:
+    using value_type = T;
+
+    allocator(heap &owner) noexcept : heap_(owner.state_.get()) {}
+    template <typename U>
+    allocator(const allocator<U> &other) noexcept : heap_(other.heap_) {}
+
+    [[nodiscard]] T *allocate(std::size_t n) {
+        void *p = nullptr;
+        if (heap_ && n <= std::numeric_limits<std::size_t>::max() / sizeof(T))
+            p = detail::give(*heap_, n * sizeof(T), alignof(T));
+        if (!p) detail::no_room();
+        return static_cast<T *>(p);
+    }
+    void deallocate(T *p, std::size_t) noexcept { detail::take_back(*heap_, p, alignof(T)); }
+
+    template <typename U>
+    bool operator==(const allocator<U> &other) const noexcept {
+        return heap_ == other.heap_;
+    }
+    template <typename U>
+    bool operator!=(const allocator<U> &other) const noexcept {
+        return heap_ != other.heap_;
+    }
+};
+
+} // namespace tlsf
+#endif

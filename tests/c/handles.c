@@ -1,0 +1,139 @@
+/* What each call answers of a handle that is closed, zeroed, opened twice or closed twice, at both levels, and what the
+ * header's own calls answer. */
+#include "tlsf.h"
+
+#include <stdio.h>
+#include <string.h>
+
+static void said(const char *what, uint32_t answer) { printf("  %-22s %2u %s\n", what, (unsigned)answer, tlsf_text_of(answer)); }
+
+static void closed_heap(struct tlsf_heap *heap) {
+    struct tlsf_name name = {7, 0, 1}, kept = {7, 0, 1};
+    struct tlsf_heap_report report;
+    uint64_t *base = NULL;
+    uint8_t byte = 0;
+    uint32_t len = 5;
+    said("close", tlsf_close(heap));
+    said("allocate", tlsf_allocate(heap, 8, &name));
+    said("release", tlsf_release(heap, &name));
+    said("resize", tlsf_resize(heap, &name, 8));
+    said("reallocate", tlsf_reallocate(heap, &name, 8));
+    said("write", tlsf_write(heap, &name, 0, &byte, 1));
+    said("read", tlsf_read(heap, &name, 0, &byte, 1));
+    said("locate", tlsf_locate(heap, &name, &base, &len));
+    said("report", tlsf_report(heap, &report));
+    printf("  no payload %d, nothing written %d\n", tlsf_payload(heap, &name, &len) == NULL,
+           !memcmp(&name, &kept, sizeof name) && !base && len == 5);
+}
+
+static void open_heap(uint32_t level) {
+    struct tlsf_heap heap = TLSF_CLOSED;
+    struct tlsf_name name = {0, 0, 0}, second = {0, 0, 0};
+    struct tlsf_heap_report report;
+    uint8_t in[5] = "abcd", out[5] = {0};
+    uint32_t len = 0;
+    printf("level %u\n", (unsigned)level);
+    said("open", tlsf_open(&heap, level, 7, 128));
+    said("open again", tlsf_open(&heap, level, 8, 256));
+    said("allocate", tlsf_allocate(&heap, 100, &name));
+    printf("  name %u:%u:%u\n", (unsigned)name.heap, (unsigned)name.at, (unsigned)name.serial);
+    said("write", tlsf_write(&heap, &name, 3, in, sizeof in));
+    said("write past", tlsf_write(&heap, &name, 96, in, sizeof in));
+    said("write nothing at end", tlsf_write(&heap, &name, 100, in, 0));
+    said("read", tlsf_read(&heap, &name, 3, out, sizeof out));
+    printf("  the same bytes %d\n", !memcmp(in, out, sizeof in));
+    uint8_t *payload = tlsf_payload(&heap, &name, &len);
+    printf("  payload of %u bytes, at 8 bytes %d, byte 3 is %c\n", (unsigned)len, (uintptr_t)payload % 8 == 0, payload[3]);
+    memset(payload, 'z', len);
+    said("resize", tlsf_resize(&heap, &name, 200));
+    payload = tlsf_payload(&heap, &name, NULL);
+    printf("  byte 99 is %c, byte 100 is %d\n", payload[99], payload[100]);
+    said("allocate", tlsf_allocate(&heap, 40, &second));
+    said("resize", tlsf_resize(&heap, &name, 400));
+    said("reallocate", tlsf_reallocate(&heap, &name, 400));
+    payload = tlsf_payload(&heap, &name, &len);
+    printf("  moved to %u, %u bytes, byte 99 is %c, byte 200 is %d\n", (unsigned)name.at, (unsigned)len, payload[99], payload[200]);
+    said("reallocate", tlsf_reallocate(&heap, &name, 100000));
+    said("allocate too much", tlsf_allocate(&heap, UINT32_MAX, &second));
+    said("report", tlsf_report(&heap, &report));
+    printf("  live %u blocks of %u words and %u bytes, free %u of %u words, largest %u, grant %u\n", (unsigned)report.live_blocks,
+           (unsigned)report.live_words, (unsigned)report.live_bytes, (unsigned)report.free_blocks, (unsigned)report.free_words,
+           (unsigned)report.largest, (unsigned)report.grant);
+    said("release", tlsf_release(&heap, &name));
+    said("read a stale name", tlsf_read(&heap, &name, 3, out, sizeof out));
+    second.heap = 8;
+    said("release a foreign name", tlsf_release(&heap, &second));
+    said("close", tlsf_close(&heap));
+    printf("closed again\n");
+    closed_heap(&heap);
+    said("open anew", tlsf_open(&heap, level, 7, 4));
+    said("allocate", tlsf_allocate(&heap, 8, &name));
+    said("close", tlsf_close(&heap));
+}
+
+static void sizes(void) {
+    struct tlsf_heap heap = TLSF_CLOSED;
+    uint32_t words = 0;
+    printf("sizes\n");
+    said("level 3", tlsf_open(&heap, 3, 0, 1024));
+    said("level 6", tlsf_open(&heap, 6, 0, 1024));
+    said("3 words", tlsf_open(&heap, 4, 0, 3));
+    said("2^20 + 1 words", tlsf_open(&heap, 4, 0, (1u << 20) + 1));
+    said("the same at level 5", tlsf_open(&heap, 5, 0, (1u << 20) + 1));
+    said("close", tlsf_close(&heap));
+    said("2^24 + 1 words", tlsf_open(&heap, 5, 0, (1u << 24) + 1));
+    said("words", tlsf_words(4, 100, 512, &words));
+    printf("  100 blocks of 512 bytes take %u words\n", (unsigned)words);
+    said("words, too many", tlsf_words(4, 100000, 512, &words));
+    said("words, level 3", tlsf_words(3, 100, 512, &words));
+    printf("  words as before %d\n", words == 13631);
+}
+
+static void lanes(void) {
+    struct tlsf_heap heap = TLSF_CLOSED;
+    struct tlsf_post_end post = TLSF_CLOSED, other = TLSF_CLOSED;
+    struct tlsf_take_end take = TLSF_CLOSED;
+    struct tlsf_name name = {1, 2, 3}, got = {0, 0, 0};
+    uint32_t came = 77;
+    printf("a lane\n");
+    said("put", tlsf_put(&post, &name));
+    said("take", tlsf_take(&take, &got));
+    said("drain", tlsf_drain(&heap, &take, 9, &came));
+    said("close", tlsf_post_close(&post));
+    said("close", tlsf_take_close(&take));
+    said("open for 0", tlsf_lane_open(&post, &take, 0));
+    said("open for 1,025", tlsf_lane_open(&post, &take, 1025));
+    said("open for 2", tlsf_lane_open(&post, &take, 2));
+    said("open again", tlsf_lane_open(&post, &take, 2));
+    said("an open end", tlsf_lane_open(&other, &take, 2));
+    said("take", tlsf_take(&take, &got));
+    said("put", tlsf_put(&post, &name));
+    name.serial = 4;
+    said("put", tlsf_put(&post, &name));
+    said("put", tlsf_put(&post, &name));
+    said("take", tlsf_take(&take, &got));
+    printf("  took %u:%u:%u\n", (unsigned)got.heap, (unsigned)got.at, (unsigned)got.serial);
+    said("drain, heap closed", tlsf_drain(&heap, &take, 9, &came));
+    printf("  count as before %d\n", came == 77);
+    said("open a heap", tlsf_open(&heap, 4, 1, 64));
+    said("drain", tlsf_drain(&heap, &take, 9, &came));
+    printf("  %u came\n", (unsigned)came);
+    said("close one end", tlsf_post_close(&post));
+    said("put", tlsf_put(&post, &name));
+    said("take", tlsf_take(&take, &got));
+    said("close the other", tlsf_take_close(&take));
+    said("close again", tlsf_take_close(&take));
+    said("close the heap", tlsf_close(&heap));
+}
+
+int main(void) {
+    struct tlsf_heap zeroed;
+    memset(&zeroed, 0, sizeof zeroed);
+    printf("zeroed\n");
+    closed_heap(&zeroed);
+    open_heap(4);
+    open_heap(5);
+    sizes();
+    lanes();
+    return 0;
+}

@@ -1,0 +1,116 @@
+/* Counts the instructions of each call, one by one: a second process makes calls by chance, in heaps that are full of holes,
+ * and this one stops it behind every instruction. What fills or copies payload isn't counted. Prints for each call the most
+ * that one took. STEPS [CALLS] [SEED] */
+#define _GNU_SOURCE
+#include "tlsf.h"
+
+#include <signal.h>
+#include <stdio.h>
+#include <stdlib.h>
+#include <sys/ptrace.h>
+#include <sys/user.h>
+#include <sys/wait.h>
+#include <unistd.h>
+
+/* Those that fill and copy payload, in place of the C library's, between addresses that are known. */
+#ifdef __clang__
+#define FILLS __attribute__((section("fills"), noinline, used, no_builtin))
+#else
+#define FILLS __attribute__((section("fills"), noinline, used, optimize("no-tree-loop-distribute-patterns")))
+#endif
+extern char __start_fills[], __stop_fills[];
+FILLS void *memset(void *to, int byte, size_t n) {
+    for (char *p = to; n--; p++) *p = (char)byte;
+    return to;
+}
+FILLS void *memcpy(void *restrict to, const void *restrict from, size_t n) {
+    const char *q = from;
+    for (char *p = to; n--; p++) *p = *q++;
+    return to;
+}
+
+static struct {
+    const char *name;
+    uintptr_t at;
+    unsigned calls, most;
+} counted[] = {
+    {"tlsf_allocate", (uintptr_t)tlsf_allocate, 0, 0}, {"tlsf_release", (uintptr_t)tlsf_release, 0, 0},
+    {"tlsf_resize", (uintptr_t)tlsf_resize, 0, 0},     {"tlsf_locate", (uintptr_t)tlsf_locate, 0, 0},
+    {"tlsf_put", (uintptr_t)tlsf_put, 0, 0},           {"tlsf_take", (uintptr_t)tlsf_take, 0, 0},
+};
+enum { COUNT = sizeof counted / sizeof *counted, MOST = 200 };
+
+static uint64_t state;
+
+static uint32_t below(uint32_t n) {
+    state ^= state << 13;
+    state ^= state >> 7;
+    state ^= state << 17;
+    return (uint32_t)((state >> 16) % n);
+}
+
+/* The calls: sizes of all classes, names that are live and names that aren't, and a lane that is full and empty. */
+static int make_calls(long calls) {
+    static struct tlsf_name names[MOST];
+    struct tlsf_heap heap = TLSF_CLOSED;
+    struct tlsf_post_end post = TLSF_CLOSED;
+    struct tlsf_take_end take = TLSF_CLOSED;
+    struct tlsf_name name = {0, 0, 0};
+    uint64_t *base = NULL;
+    uint32_t len = 0, live = 0;
+    if (tlsf_open(&heap, 4 + below(2), 1, 1u << 15) || tlsf_lane_open(&post, &take, 8)) return 1;
+    raise(SIGSTOP); /* from here on each instruction is counted */
+    for (long i = 0; i < calls; i++) {
+        const uint32_t kind = below(10), k = live ? below(live) : 0, size = below(3) ? below(64) : below(256);
+        if (kind < 4 && live < MOST) {
+            if (!tlsf_allocate(&heap, size, &names[live])) live++;
+        } else if (kind < 7 && live) {
+            if (!tlsf_release(&heap, &names[k])) names[k] = names[--live];
+        } else if (kind == 7 && live) {
+            (void)tlsf_resize(&heap, &names[k], size);
+        } else if (kind == 8) {
+            name.serial = (uint64_t)below(1000);
+            (void)(below(2) ? tlsf_release(&heap, &name) : tlsf_locate(&heap, live ? &names[k] : &name, &base, &len));
+        } else {
+            (void)(below(2) ? tlsf_put(&post, &name) : tlsf_take(&take, &name));
+        }
+    }
+    return 0;
+}
+
+static int refused(const char *what) {
+    printf("steps: not counted, since %s is refused\n", what);
+    return 77;
+}
+
+int main(int argc, char **argv) {
+    const long calls = argc > 1 ? atol(argv[1]) : 5000;
+    state = 88172645463325252ull + (argc > 2 ? strtoull(argv[2], NULL, 10) : 1) * 2654435761u;
+    struct user_regs_struct regs;
+    unsigned long long back_at = 0;
+    int status = 0, in = -1;
+    unsigned steps = 0;
+    const pid_t child = fork();
+    if (child < 0) return refused("fork");
+    if (!child) {
+        if (ptrace(PTRACE_TRACEME, 0, NULL, NULL)) _exit(77);
+        _exit(make_calls(calls));
+    }
+    if (waitpid(child, &status, 0) != child || !WIFSTOPPED(status)) return refused("ptrace");
+    while (!ptrace(PTRACE_SINGLESTEP, child, NULL, NULL) && waitpid(child, &status, 0) == child && WIFSTOPPED(status)) {
+        if (WSTOPSIG(status) != SIGTRAP || ptrace(PTRACE_GETREGS, child, NULL, &regs)) return refused("single stepping");
+        if (in < 0) {
+            for (int k = 0; k < COUNT; k++)
+                if (regs.rip == counted[k].at) in = k;
+            back_at = regs.rsp + 8;
+            steps = 0;
+        } else if (regs.rsp == back_at) {
+            counted[in].calls++;
+            if (steps > counted[in].most) counted[in].most = steps;
+            in = -1;
+        }
+        if (in >= 0 && (regs.rip < (uintptr_t)__start_fills || regs.rip >= (uintptr_t)__stop_fills)) steps++;
+    }
+    for (int k = 0; k < COUNT; k++) printf("%s %u in %u calls\n", counted[k].name, counted[k].most, counted[k].calls);
+    return WIFEXITED(status) ? WEXITSTATUS(status) : 1;
+}
