@@ -97,6 +97,10 @@ module _ (sli : ℕ) (level : IsLevel sli) where
       within : first_level < length second
       within = omega (arith, sets.first_levels, sets.first_is, first_inside sli level c sets.most)
 
+  -- the bit of a first level is set where its word isn't zero
+  pub first_bit-set : (first : ℕ) (second : List ℕ) (first_level : ℕ) → AreLevels sli first second → 0 < get_or second first_level 0 → bit_at first first_level ≡ 1
+  first_bit-set first second first_level levels some = levels.first_bits first_level ∙ omega arith
+
   -- the word of the first level of c, with the bit of c cleared
   pub record ClearsBit (second : List ℕ) (c first_level second_level word : ℕ) : Type 0 where
     pub first_levels : length second ≡ 21
@@ -198,20 +202,24 @@ module _ (sli : ℕ) (level : IsLevel sli) where
       next_member-filter sli level (is_set sli second) c (level_classes sli * first_level + second_level) least most next.above passes
       (λ d _ l h. ap (λ b. eqb b 1) (next.before d l h))
 
+  -- n classes further on the first level of c, by its two levels
+  pub further : (c first_level from n : ℕ) → first_level ≡ c / level_classes sli → from ≡ c % level_classes sli → level_classes sli * first_level + (from + n) ≡ c + n
+  further c first_level from n first_is from_is = let s = split sli c in rw (first_is, from_is) (omega arith)
+
   -- it is in the first level of c
-  pub next-same_level : (first : ℕ) (second : List ℕ) (c first_level from second_level : ℕ) → AreLevels sli first second → first_level ≡ c / level_classes sli → from ≡ c % level_classes sli → from ≤ second_level → bit_at (get_or second first_level 0) second_level ≡ 1 → ((k : ℕ) → from ≤ k → k < second_level → bit_at (get_or second first_level 0) k ≡ 0) → next_member (members_of sli second) c ≡ Some (level_classes sli * first_level + second_level)
-  next-same_level first second c first_level from second_level levels first_is from_is above here lowest =
-      let inside = (levels.in_use first_level second_level here).0 in
-      next_is first second c first_level second_level levels record {
-        above = let s = split sli c in rw first_is (omega arith);
+  pub next-same_level : (first : ℕ) (second : List ℕ) (c first_level from n : ℕ) → AreLevels sli first second → first_level ≡ c / level_classes sli → from ≡ c % level_classes sli → bit_at (get_or second first_level 0) (from + n) ≡ 1 → ((k : ℕ) → from ≤ k → k < from + n → bit_at (get_or second first_level 0) k ≡ 0) → next_member (members_of sli second) c ≡ Some (c + n)
+  next-same_level first second c first_level from n levels first_is from_is here lowest =
+      let inside = (levels.in_use first_level (from + n) here).0 in
+      next_is first second c first_level (from + n) levels record {
+        above = omega (arith, further c first_level from n first_is from_is);
         here = here;
         before = λ d l h.
             let rises = first_rises sli level c d l in
-            let under = first_below sli level d first_level second_level inside h in
+            let under = first_below sli level d first_level (from + n) inside h in
             let e : d / level_classes sli ≡ first_level = omega arith in
             let from_d = second_rises sli c d first_level l (sym first_is) e in
-            rw e (lowest (d % level_classes sli) (omega arith) (second_less sli d first_level second_level h e));
-      }
+            rw e (lowest (d % level_classes sli) (omega arith) (second_less sli d first_level (from + n) h e));
+      } ∙ ap Some (further c first_level from n first_is from_is)
 
   -- it is the least of the next first level that has a member
   pub next-later_level : (first : ℕ) (second : List ℕ) (c first_level from later second_level : ℕ) → AreLevels sli first second → first_level ≡ c / level_classes sli → from ≡ c % level_classes sli → ((k : ℕ) → from ≤ k → bit_at (get_or second first_level 0) k ≡ 0) → first_level + 1 ≤ later → ((k : ℕ) → first_level + 1 ≤ k → k < later → bit_at first k ≡ 0) → bit_at (get_or second later 0) second_level ≡ 1 → ((k : ℕ) → k < second_level → bit_at (get_or second later 0) k ≡ 0) → next_member (members_of sli second) c ≡ Some (level_classes sli * later + second_level)

@@ -2,7 +2,7 @@ ghost use Rattle.std.specs.Prelude.{◌≡◌, ◌↔◌, ◌+◌, ◌≤◌, []
 ghost use Rattle.tlsf_class.specs.Classes.{IsLevel};
 ghost use Rattle.tlsf_class.specs.Members.{with_member, without_member, next_member};
 
-use crate::bits::{is_bit_set, lowest_bit, lowest_bit_from, with_bit, without_bit};
+use crate::bits::{is_bit_set, lowest_bit, lowest_bit_from, steps_to_bit, with_bit, without_bit};
 use crate::class::Class;
 use crate::levels::Levels;
 use std::marker::Model;
@@ -48,7 +48,7 @@ impl<const SLI: u32> Bitmaps<SLI> {
         }
     }
 
-    /// Makes a class a member, if it isn't one. Four touches.
+    /// Makes a class a member, if it isn't one. Two touches where its first level has a member, else four.
     ///
     /// ```
     /// bitmaps.set(class_of(20));
@@ -60,11 +60,14 @@ impl<const SLI: u32> Bitmaps<SLI> {
         ensures rise { self.old.touches ≤ self.new.touches }
     {
         let first_level = class.first_level();
-        let word = with_bit(self.levels.second_word(first_level), class.second_level());
-        self.levels.set_second_word(first_level, word);
-        let first_word = self.levels.first_word();
-        self.levels
-            .set_first_word(with_bit(first_word, first_level));
+        let word = self.levels.second_word(first_level);
+        let wider = with_bit(word, class.second_level());
+        self.levels.set_second_word(first_level, wider);
+        if word == 0 {
+            let first_word = self.levels.first_word();
+            self.levels
+                .set_first_word(with_bit(first_word, first_level));
+        }
     }
 
     /// Takes a class out, if it is a member. Two touches where its first level keeps another member, else four.
@@ -117,8 +120,8 @@ impl<const SLI: u32> Bitmaps<SLI> {
     {
         let first_level = class.first_level();
         let word = self.levels.second_word(first_level);
-        if let Some(second_level) = lowest_bit_from(word, class.second_level()) {
-            return Some(Class::at(first_level, second_level));
+        if let Some(n) = steps_to_bit(word, class.second_level()) {
+            return Some(class.plus(n));
         }
         let first_word = self.levels.first_word();
         let first_level = lowest_bit_from(first_word, first_level + 1)?;

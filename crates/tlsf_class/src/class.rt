@@ -51,6 +51,16 @@ impl<const SLI: u32> Class<SLI> {
         }
     }
 
+    /// The class whose number is `n` greater.
+    pub(crate) fn plus(self, n: u32) -> Class<SLI>
+        requires { self + n ≤ last_class SLI }
+        ensures { result ≡ self.entry + n }
+    {
+        Class {
+            number: self.number + n,
+        }
+    }
+
     /// The number of the class, from 4 on: 16 times its first level, or 32 times at level 5, and its second level.
     ///
     /// ```

@@ -1,16 +1,21 @@
-use Rattle.std.proofs.Common.{◌≡◌, sym, ap, refl, ◌∙◌}
+use Rattle.std.proofs.Common.{◌≡◌, ◌+◌, sym, ap, refl, ◌∙◌, arith}
 use Rattle.std.specs.Int.{bit_at}
-use Rattle.tlsf_class.proofs.BitmapWords.{next-same_level, next-later_level, next-none}
+use Rattle.tlsf_class.proofs.BitmapWords.{further, next-same_level, next-later_level, next-none}
 use Rattle.tlsf_class.proofs.bitmaps.Bitmaps.next_from.Goals as goal
+
+pub plus-requires : goal.plus-requires
+plus-requires g c =
+    let used = c.self.invariant.in_use c.first_level-first_level.result (c.second_level.result + c.in-Some.n) (ap (λ w. bit_at w (c.second_level.result + c.in-Some.n)) (sym c.second_word-word.ensures.value) ∙ c.in-Some.ensures.set) in
+    omega (arith, used.2, further g.row.SLI c.self.invariant.level c.args.class c.first_level-first_level.result c.second_level.result c.in-Some.n c.first_level-first_level.ensures.value c.second_level.ensures.value)
 
 pub returns-in-Some-clause-least : goal.returns-in-Some-clause-least
 returns-in-Some-clause-least g c =
     let word = sym c.second_word-word.ensures.value in
     let found = c.in-Some.ensures in
-    rw (c.at.ensures, ← c.self.view_is)
-    (sym (next-same_level g.row.SLI c.self.invariant.level _ _ c.args.class c.first_level-first_level.result c.second_level.result c.in-Some.second_level c.self.invariant
-    c.first_level-first_level.ensures.value c.second_level.ensures.value found.at_or_above
-    (ap (λ w. bit_at w c.in-Some.second_level) word ∙ found.set)
+    rw (c.plus.ensures, ← c.self.view_is)
+    (sym (next-same_level g.row.SLI c.self.invariant.level _ _ c.args.class c.first_level-first_level.result c.second_level.result c.in-Some.n c.self.invariant
+    c.first_level-first_level.ensures.value c.second_level.ensures.value
+    (ap (λ w. bit_at w (c.second_level.result + c.in-Some.n)) word ∙ found.set)
     (λ k above below. ap (λ w. bit_at w k) word ∙ found.lowest k above below)))
 
 pub returns-in_err-first_level-clause-least : goal.returns-in_err-first_level-clause-least
@@ -31,7 +36,7 @@ returns-clause-least g c =
     sym (c.first_word-first_word.ensures.value ∙ rw c.second_word-word.ensures.first refl)
     in
     let later = sym (c.second_word-word-2.ensures.value ∙ rw (c.first_word-first_word.ensures.second, c.second_word-word.ensures.second) refl) in
-    rw (c.at-2.ensures, ← c.self.view_is)
+    rw (c.at.ensures, ← c.self.view_is)
     (sym (next-later_level g.row.SLI c.self.invariant.level _ _ c.args.class c.first_level-first_level.result c.second_level.result c.in_ok-first_level.first_level c.lowest_bit.result c.self.invariant
     c.first_level-first_level.ensures.value c.second_level.ensures.value
     (λ k above. ap (λ w. bit_at w k) word ∙ c.in_default.ensures.none k above)
