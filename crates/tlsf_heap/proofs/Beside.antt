@@ -1,67 +1,73 @@
 -- The blocks on either side of one, and what their tags say of them.
-use Rattle.std.proofs.Common.{◌≡◌, ℕ, zero, suc, ◌+◌, ◌^◌, ◌-◌, ◌<◌, ◌≤◌, inl, inr, true, false, eqb, List, [], ◌∷◌, ◌++◌, length, take, drop, refl, sym, ap, ◌∙◌, subst, arith}
-use Rattle.std.proofs.lemmas.List.{drop_more, drop_all, take_all, take_more}
-use Rattle.std.proofs.lemmas.Bool.{cases_lt}
+use Rattle.std.proofs.Common.{◌≡◌, ◌≢◌, ℕ, zero, suc, ◌+◌, ◌^◌, ◌-◌, ◌<◌, ◌≤◌, inl, inr, true, false, eqb, List, [], ◌∷◌, ◌++◌, length, take, drop, refl, sym, ap, ◌∙◌, subst, arith, eq-eqb}
+use Rattle.std.proofs.lemmas.List.{drop_more, take_all, take_more}
+use Rattle.std.proofs.lemmas.Bool.{false≢true, cases_lt, cases_eq, eqb-true, ne_eqb}
 use Rattle.tlsf_words.specs.Lists.{nowhere}
 use Rattle.tlsf_words.specs.declared.tag.Tag.{Tag}
 use Rattle.tlsf_heap.specs.Blocks.{Block, Live, Free, size_of, words_in, is_free, StandsAt, IsPlace}
 use Rattle.tlsf_heap.specs.Calls.{first_free, last_free, before_free}
-use Rattle.tlsf_heap.specs.GoodFit.{block_at, site_at}
+use Rattle.tlsf_heap.specs.GoodFit.{Site, block_at, site_at, place_of}
 use Rattle.tlsf_heap.specs.Image.{back_behind}
-use Rattle.tlsf_heap.specs.Regions.{AreNeighbours, AreRegions, IsTagOf, IsTakenTag, IsTagBehind}
+use Rattle.tlsf_heap.specs.Regions.{AreRegions, EachAt, IsTagOf, IsNextTag, IsPreviousTag, IsTagBehind}
+use Rattle.tlsf_heap.proofs.Edits.{first_free-words}
 use Rattle.tlsf_heap.proofs.Ends.{ends_free, ends_live}
-use Rattle.tlsf_heap.proofs.Sizes.{around, one_index, region_around, words_around, free_as, last_is, last_words}
+use Rattle.tlsf_heap.proofs.Lawfulness.{words_in-append}
+use Rattle.tlsf_heap.proofs.Sizes.{around, one_index, region_around, words_around, last_is, last_words}
 use Rattle.tlsf_heap.proofs.Standing.{words_up_to, stands_next, back_next, back_behind-last}
 
--- what a tag says of the block at a place, where that is free
-record TagSays (b : Block) (end long to : ℕ) (none tag : Tag) : Type 0 where
-  size : is_free b ≡ true → tag.size ≡ size_of b
-  last : is_free b ≡ true → tag.last ≡ eqb end long
-  back : is_free b ≡ true → tag.back ≡ to
-  live : is_free b ≡ false → tag ≡ none
+-- where no two blocks begin at one place, a tag of the block there is that of each
+pub tag_at : (sli : ℕ) {bs : List Block} {words at i : ℕ} (own : Tag) → AreRegions sli bs → (has : (j : ℕ) × StandsAt bs at j × IsTagOf words (site_at bs j) own) → StandsAt bs at i → IsTagOf words (site_at bs i) own
+tag_at sli {bs = bs} {words = words} {at = at} {i = i} own sized has stands = subst (λ (k : ℕ). IsTagOf words (site_at bs k) own) (one_index sli bs at has.0 i sized has.1 stands) has.2
 
--- what a tag says of the blocks behind a block that ends at a place, in so many words
-record TagBehind (blocks : List Block) (at long : ℕ) (tag : Tag) : Type 0 where
-  size : tag.size ≡ first_free blocks
-  last : tag.last ≡ eqb (at + first_free blocks) long
-
--- and of the blocks before a block
-record TagBefore (blocks : List Block) (tag : Tag) : Type 0 where
-  size : tag.size ≡ last_free blocks
-  back : tag.back ≡ back_behind 0 nowhere (before_free blocks)
-
-none_behind : (blocks : List Block) (at long : ℕ) (none tag : Tag) → first_free blocks ≡ 0 → none.size ≡ 0 → none.last ≡ eqb at long → tag ≡ none → TagBehind blocks at long tag
-none_behind blocks at long none tag empty size last e = record {
-  size = ap (λ (t : Tag). t.size) e ∙ size ∙ sym empty;
-  last = ap (λ (t : Tag). t.last) e ∙ last ∙ ap (λ (n : ℕ). eqb n long) (let same : at ≡ at + first_free blocks = omega (arith, empty) in same);
+-- the tag of a live block says that no free one is there
+pub live_next : {words : ℕ} {s : Site} {tag : Tag} → first_free s.after ≡ 0 → tag.free ≡ false → IsNextTag words s tag
+live_next none live = record {
+  live = λ e. none;
+  some = λ e. absurd (false≢true (sym live ∙ e));
+  size = λ e. absurd (false≢true (sym live ∙ e));
+  last = λ e. absurd (false≢true (sym live ∙ e));
 }
 
-says_behind : (b : Block) (blocks : List Block) (at long back : ℕ) (none tag : Tag) → none.size ≡ 0 → none.last ≡ eqb at long → TagSays b (at + size_of b) long back none tag → TagBehind (b ∷ blocks) at long tag
-says_behind (Live m s xs) blocks at long back none tag size last says = none_behind (Live m s xs ∷ blocks) at long none tag refl size last (says.live refl)
-says_behind (Free m s) blocks at long back none tag size last says = record { size = says.size refl; last = says.last refl }
+pub live_previous : {s : Site} {tag : Tag} → last_free s.before ≡ 0 → tag.free ≡ false → IsPreviousTag s tag
+live_previous none live = record {
+  live = λ e. none;
+  some = λ e. absurd (false≢true (sym live ∙ e));
+  size = λ e. absurd (false≢true (sym live ∙ e));
+  last = λ e. absurd (false≢true (sym live ∙ e));
+  back = λ e. absurd (false≢true (sym live ∙ e));
+}
 
-says_before : (b : Block) (blocks : List Block) (at long : ℕ) (none tag : Tag) → none.size ≡ 0 → none.back ≡ back_behind 0 nowhere (blocks ++ b ∷ []) → TagSays b (at + size_of b) long (back_behind 0 nowhere blocks) none tag
-    → TagBefore (blocks ++ b ∷ []) tag
-says_before (Live m s xs) blocks at long none tag size back says =
-    let ends = ends_live blocks m s xs in
+-- a tag of no words stands for the free block behind a block where there is none
+pub none_is : {words : ℕ} {s : Site} {own tag : Tag} → IsTagOf words s own → first_free s.after ≡ 0 → tag.size ≡ 0 → tag.last ≡ own.last → IsTagBehind words s tag
+none_is {words = words} {s = s} is none size last = record {
+  size = size ∙ sym none;
+  last = last ∙ is.last ∙ ap (λ (n : ℕ). eqb n words) (let sum : place_of s + size_of s.block ≡ place_of s + size_of s.block + first_free s.after = omega (arith, none) in sum);
+}
+
+-- the tag of the block behind a block, by what it is
+says_next : (before : List Block) (block b : Block) (blocks : List Block) (words : ℕ) (tag : Tag) → 0 < size_of b → tag.size ≡ size_of b → tag.free ≡ is_free b
+    → tag.last ≡ eqb (words_in before + size_of block + size_of b) words → IsNextTag words (record { before = before; block = block; after = b ∷ blocks }) tag
+says_next before block (Live m s xs) blocks words tag some size free last = live_next refl free
+says_next before block (Free m s) blocks words tag some size free last = record {
+  live = λ e. absurd (false≢true (sym e ∙ free));
+  some = λ e. some;
+  size = λ e. size;
+  last = λ e. last;
+}
+
+-- and that of the block before one
+says_previous : (before : List Block) (b block : Block) (blocks : List Block) (tag : Tag) → 0 < size_of b → tag.size ≡ size_of b → tag.free ≡ is_free b → tag.last ≡ false
+    → tag.back ≡ back_behind 0 nowhere before → IsPreviousTag (record { before = before ++ b ∷ []; block = block; after = blocks }) tag
+says_previous before (Live m s xs) block blocks tag some size free last back = live_previous (ends_live before m s xs).0 free
+says_previous before (Free m s) block blocks tag some size free last back =
+    let ends = ends_free before m s in
     record {
-      size = ap (λ (t : Tag). t.size) (says.live refl) ∙ size ∙ sym ends.0;
-      back = ap (λ (t : Tag). t.back) (says.live refl) ∙ back ∙ ap (back_behind 0 nowhere) (sym ends.1);
+      live = λ e. absurd (false≢true (sym e ∙ free));
+      some = λ e. omega (arith, ends.0, some);
+      size = λ e. size ∙ sym ends.0;
+      last = λ e. last;
+      back = λ e. back ∙ ap (back_behind 0 nowhere) (sym ends.1);
     }
-says_before (Free m s) blocks at long none tag size back says =
-    let ends = ends_free blocks m s in record { size = says.size refl ∙ sym ends.0; back = says.back refl ∙ ap (back_behind 0 nowhere) (sym ends.1) }
-
--- the free block that blocks begin with, or end with
-begins_free : (b : Block) (blocks : List Block) → is_free b ≡ true → first_free (b ∷ blocks) ≡ size_of b
-begins_free b blocks free = ap (λ (x : Block). first_free (x ∷ blocks)) (free_as b free)
-
-ends_with : (b : Block) (blocks : List Block) → is_free b ≡ true → last_free (blocks ++ b ∷ []) ≡ size_of b
-ends_with b blocks free = ap (λ (x : Block). last_free (blocks ++ x ∷ [])) (free_as b free) ∙ (ends_free blocks (size_of b) _).0
-
--- a tag that was taken says the same where blocks and words are called otherwise
-pub same_tag : {bs new : List Block} {words long at : ℕ} {none tag : Tag} → new ≡ bs → long ≡ words → IsTakenTag new long at none tag → IsTakenTag bs words at none tag
-same_tag {bs = bs} {new = new} {words = words} {long = long} {at = at} {none = none} {tag = tag} blocks words_same taken =
-    subst (λ (n : ℕ). IsTakenTag bs n at none tag) words_same (subst (λ (l : List Block). IsTakenTag l long at none tag) blocks taken)
 
 -- where the free block before a block begins
 pub back_free : {bs : List Block} {at i : ℕ} → StandsAt bs at i → 0 < last_free (take i bs) → back_behind 0 nowhere (take i bs) ≡ at - last_free (take i bs)
@@ -70,14 +76,6 @@ back_free {bs = bs} {at = at} {i = i} stands some =
     ap (back_behind 0 nowhere) ends.1 ∙ back_behind-last 0 nowhere (before_free (take i bs)) (Free (last_free (take i bs)) ends.0) ∙ omega (arith, last_words (take i bs), stands.place)
 
 module _ {bs : List Block} {words : ℕ} (whole : words_in bs ≡ words) where
-  tag_here : {at i : ℕ} {none tag : Tag} → StandsAt bs at i → IsTakenTag bs words at none tag → TagSays (block_at bs i) (at + size_of (block_at bs i)) words (back_behind 0 nowhere (take i bs)) none tag
-  tag_here {at = at} {i = i} stands taken = record {
-    size = λ e. (taken.free i stands e).size;
-    last = λ e. (taken.free i stands e).last ∙ ap (λ (n : ℕ). eqb (n + size_of (block_at bs i)) words) stands.place;
-    back = λ e. (taken.free i stands e).back;
-    live = taken.live i stands;
-  }
-
   module _ {at i : ℕ} (stands : StandsAt bs at i) where
     abbrev end : ℕ
     end = at + size_of (block_at bs i)
@@ -87,37 +85,34 @@ module _ {bs : List Block} {words : ℕ} (whole : words_in bs ≡ words) where
     ends_last none = let all = ap words_in (take_all (i + 1) bs none) in omega (arith, words_up_to stands, all, whole)
 
     -- a block begins where it ends, unless the region does
+    pub behind_within : end < words → i + 1 < length bs
+    behind_within short = elim (cases_lt (i + 1) (length bs)) [ inl within ↦ within | inr past ↦ absurd (omega (arith, ends_last past, short)) ]
+
     pub place_behind : end < words → IsPlace bs end
-    place_behind short = elim (cases_lt (i + 1) (length bs)) [
-      | inl within ↦ (i + 1, stands_next stands within)
-      | inr past ↦ absurd (omega (arith, ends_last past, short))
+    place_behind short = (i + 1, stands_next stands (behind_within short))
+
+    -- it ends within the region
+    pub ends_within : end ≤ words
+    ends_within = omega (arith, words_around (around bs at i stands), whole)
+
+    -- and its tag says whether there
+    pub end_is : {tag : Tag} → IsTagOf words (site_at bs i) tag → tag.last ≡ true → end ≡ words
+    end_is is last = omega (arith, eqb-true (words_in (take i bs) + size_of (block_at bs i)) words (sym is.last ∙ last), stands.place)
+
+    pub short_end : {tag : Tag} → IsTagOf words (site_at bs i) tag → tag.last ≡ false → end < words
+    short_end is inner = elim (cases_eq (words_in (take i bs) + size_of (block_at bs i)) words) [
+      | inl same ↦ absurd (false≢true (sym inner ∙ is.last ∙ eq-eqb (words_in (take i bs) + size_of (block_at bs i)) words same))
+      | inr other ↦ omega (arith, ends_within, other, stands.place)
     ]
 
-    tag_behind : {none tag : Tag} → none.size ≡ 0 → none.last ≡ eqb end words → IsTakenTag bs words end none tag → TagBehind (drop (suc i) bs) end words tag
-    tag_behind {none = none} {tag = tag} size last taken =
-        let more : suc i ≡ i + 1 = omega arith in
-        elim (cases_lt (i + 1) (length bs)) [
-          | inl within ↦
-              subst (λ (blocks : List Block). TagBehind blocks end words tag) (sym (ap (λ (k : ℕ). drop k bs) more ∙ drop_more bs (i + 1) (Free 0 0) within))
-              (says_behind (block_at bs (i + 1)) (drop (i + 1 + 1) bs) end words (back_behind 0 nowhere (take (i + 1) bs)) none tag size last (tag_here (stands_next stands within) taken))
-          | inr past ↦ none_behind (drop (suc i) bs) end words none tag (ap first_free (drop_all (suc i) bs (omega (arith, past)))) size last (taken.outside (omega (arith, ends_last past)))
-        ]
+    -- nothing is behind the last block
+    pub none_behind : end ≡ words → first_free (drop (suc i) bs) ≡ 0
+    none_behind e = omega (arith, words_around (around bs at i stands), first_free-words (drop (suc i) bs), whole, e)
 
-    behind_taken : {own next : Tag} → IsTagOf words (site_at bs i) own → IsTakenTag bs words (at + own.size) (record { size = 0; free = own.free; last = own.last; back = own.back }) next → TagBehind (drop (suc i) bs) end words next
-    behind_taken {own = own} {next = next} is taken =
-        let none : Tag = record { size = 0; free = own.free; last = own.last; back = own.back } in
-        tag_behind {none = none} refl (is.last ∙ ap (λ (n : ℕ). eqb (n + size_of (block_at bs i)) words) stands.place)
-        (subst (λ (n : ℕ). IsTakenTag bs words (at + n) none next) is.size taken)
-
-    -- the tag taken behind a block is that of the free block there
-    pub is_behind : {own next : Tag} → IsTagOf words (site_at bs i) own → IsTakenTag bs words (at + own.size) (record { size = 0; free = own.free; last = own.last; back = own.back }) next → IsTagBehind words (site_at bs i) next
-    is_behind is taken =
-        let behind = behind_taken is taken in
-        record { size = behind.size; last = behind.last ∙ ap (λ (n : ℕ). eqb (n + size_of (block_at bs i) + first_free (drop (suc i) bs)) words) (sym stands.place) }
-
-    -- the tag taken behind a block has the size of the free block there
-    pub size_behind : {own next : Tag} → IsTagOf words (site_at bs i) own → IsTakenTag bs words (at + own.size) (record { size = 0; free = own.free; last = own.last; back = own.back }) next → next.size ≡ first_free (drop (suc i) bs)
-    size_behind {own = own} {next = next} is taken = (behind_taken is taken).size
+    -- before a free block it isn't the last
+    pub inner_is : {tag : Tag} → IsTagOf words (site_at bs i) tag → 0 < first_free (drop (suc i) bs) → tag.last ≡ false
+    inner_is is some =
+        is.last ∙ ne_eqb (words_in (take i bs) + size_of (block_at bs i)) words (λ e. omega (arith, e, some, words_around (around bs at i stands), first_free-words (drop (suc i) bs), whole, stands.place))
 
   -- the block before one, at its place, and the blocks before that one which ends with it
   before_here : {at j : ℕ} → StandsAt bs at (suc j) → StandsAt bs (words_in (take j bs)) j × (take (suc j) bs ≡ take j bs ++ block_at bs j ∷ []) × (back_behind 0 nowhere (take (suc j) bs) ≡ words_in (take j bs))
@@ -130,61 +125,37 @@ module _ {bs : List Block} {words : ℕ} (whole : words_in bs ≡ words) where
         ap (λ (k : ℕ). back_behind 0 nowhere (take k bs)) (sym more) ∙ back_next before,
       )
 
-  -- a block begins where the block before does, unless there is none
-  pub place_before : words_in bs ≤ 2 ^ 24 → {at i : ℕ} → StandsAt bs at i → back_behind 0 nowhere (take i bs) < words → IsPlace bs (back_behind 0 nowhere (take i bs))
-  place_before small {i = zero} stands short = absurd (omega (arith, small, short, whole))
-  place_before small {i = suc j} stands short = let b = before_here stands in (j, subst (λ (k : ℕ). StandsAt bs k j) (sym b.2) b.0)
+  -- where a tag names none before, none is
+  pub none_before : words_in bs ≤ 2 ^ 24 → {at i : ℕ} → StandsAt bs at i → back_behind 0 nowhere (take i bs) ≡ nowhere → last_free (take i bs) ≡ 0
+  none_before small {i = zero} stands none = refl
+  none_before small {i = suc j} stands none = let b = before_here stands in absurd (omega (arith, b.2, none, small, words_around (around bs _ j b.0)))
 
-  tag_before : words_in bs ≤ 2 ^ 24 → {at i : ℕ} {none tag : Tag} → StandsAt bs at i → none.size ≡ 0 → none.back ≡ back_behind 0 nowhere (take i bs)
-      → IsTakenTag bs words (back_behind 0 nowhere (take i bs)) none tag → TagBefore (take i bs) tag
-  tag_before small {i = zero} stands size back taken =
-      let same = taken.outside (omega (arith, small, whole)) in record { size = ap (λ (t : Tag). t.size) same ∙ size; back = ap (λ (t : Tag). t.back) same ∙ back }
-  tag_before small {i = suc j} {none = none} {tag = tag} stands size back taken =
-      let b = before_here stands in
-      subst (λ (blocks : List Block). TagBefore blocks tag) (sym b.1)
-      (says_before (block_at bs j) (take j bs) (words_in (take j bs)) words none tag size (back ∙ ap (back_behind 0 nowhere) b.1)
-      (tag_here b.0 (subst (λ (k : ℕ). IsTakenTag bs words k none tag) b.2 taken)))
+  -- else a block begins there
+  pub place_before : {at i : ℕ} → StandsAt bs at i → back_behind 0 nowhere (take i bs) ≢ nowhere → IsPlace bs (back_behind 0 nowhere (take i bs))
+  place_before {i = zero} stands some = absurd (some refl)
+  place_before {i = suc j} stands some = let b = before_here stands in (j, subst (λ (k : ℕ). StandsAt bs k j) (sym b.2) b.0)
 
-  -- what the tags of a block and of its free neighbours say
-  pub neighbours_are : words_in bs ≤ 2 ^ 24 → {at i : ℕ} {own next previous : Tag} → StandsAt bs at i → IsTagOf words (site_at bs i) own
-      → IsTakenTag bs words (at + own.size) (record { size = 0; free = own.free; last = own.last; back = own.back }) next
-      → IsTakenTag bs words own.back (record { size = 0; free = own.free; last = own.last; back = own.back }) previous
-      → AreNeighbours words (site_at bs i)
-      (record { before = previous.size; after = next.size; tag = record { size = previous.size + own.size + next.size; free = true; last = next.last; back = previous.back } })
-  neighbours_are small {at = at} {i = i} {own = own} {next = next} {previous = previous} stands is next_taken previous_taken =
-      let none : Tag = record { size = 0; free = own.free; last = own.last; back = own.back } in
-      let place = stands.place in
-      let behind = behind_taken stands is next_taken in
-      let ahead : TagBefore (take i bs) previous = tag_before small {none = none} stands refl is.back (subst (λ (n : ℕ). IsTakenTag bs words n none previous) is.back previous_taken) in
-      record {
-        before = ahead.size;
-        after = behind.size;
-        size = omega (arith, ahead.size, behind.size, is.size);
-        last = behind.last ∙ rw place refl;
-        back = ahead.back;
-      }
-
--- where each size is one that a region may have, no two blocks begin at one place
-module _ (sli : ℕ) {bs : List Block} {words : ℕ} (whole : words_in bs ≡ words) where
-  -- a place is one of the region
-  pub inside : AreRegions sli bs → {at i : ℕ} → StandsAt bs at i → at < words
-  inside sized {at = at} {i = i} stands = let a = around bs at i stands in omega (arith, words_around a, (region_around sli a sized).0, whole)
-
-  -- the block there is the first of those behind
-  pub free_behind : {at i : ℕ} → StandsAt bs at i → AreRegions sli bs → (j : ℕ) → StandsAt bs (at + size_of (block_at bs i)) j → is_free (block_at bs j) ≡ true → first_free (drop (suc i) bs) ≡ size_of (block_at bs j)
-  free_behind {at = at} {i = i} stands sized j there free = elim (cases_lt (i + 1) (length bs)) [
-    | inl within ↦
+  module _ (sli : ℕ) (sized : AreRegions sli bs) where
+    -- what the tag of the block behind a block says
+    pub next_is : {at i : ℕ} {tag : Tag} → StandsAt bs at i → at + size_of (block_at bs i) < words → EachAt bs (at + size_of (block_at bs i)) (λ s. IsTagOf words s tag) → IsNextTag words (site_at bs i) tag
+    next_is {at = at} {i = i} {tag = tag} stands short each =
         let more : suc i ≡ i + 1 = omega arith in
-        let same : i + 1 ≡ j = one_index sli bs (at + size_of (block_at bs i)) (i + 1) j sized (stands_next stands within) there in
-        ap (λ (k : ℕ). first_free (drop k bs)) (more ∙ same) ∙ ap first_free (drop_more bs j (Free 0 0) there.within) ∙ begins_free (block_at bs j) (drop (j + 1) bs) free
-    | inr past ↦ absurd (omega (arith, ends_last whole stands past, inside sized there))
-  ]
+        let within = behind_within stands short in
+        let there = stands_next stands within in
+        let is = each (i + 1) there in
+        subst (λ (blocks : List Block). IsNextTag words (record { before = take i bs; block = block_at bs i; after = blocks }) tag)
+        (sym (ap (λ (k : ℕ). drop k bs) more ∙ drop_more bs (i + 1) (Free 0 0) within))
+        (says_next (take i bs) (block_at bs i) (block_at bs (i + 1)) (drop (i + 1 + 1) bs) words tag (omega (arith, (region_around sli (around bs _ (i + 1) there) sized).0)) is.size is.free
+        (is.last ∙ ap (λ (n : ℕ). eqb (n + size_of (block_at bs (i + 1))) words) (there.place ∙ ap (λ (n : ℕ). n + size_of (block_at bs i)) (sym stands.place))))
 
-  -- the block there is the last of those before
-  pub free_before : words_in bs ≤ 2 ^ 24 → AreRegions sli bs → {at i : ℕ} → StandsAt bs at i → (j : ℕ) → StandsAt bs (back_behind 0 nowhere (take i bs)) j → is_free (block_at bs j) ≡ true
-      → last_free (take i bs) ≡ size_of (block_at bs j)
-  free_before small sized {i = zero} stands k there free = absurd (omega (arith, small, inside sized there, whole))
-  free_before small sized {at = at} {i = suc j} stands k there free =
-      let b = before_here whole stands in
-      let same : j ≡ k = one_index sli bs (words_in (take j bs)) j k sized b.0 (subst (λ (n : ℕ). StandsAt bs n k) b.2 there) in
-      ap last_free (b.1 ∙ ap (λ (n : ℕ). take j bs ++ block_at bs n ∷ []) same) ∙ ends_with (block_at bs k) (take j bs) free
+    -- and that of the block before it
+    pub previous_is : {at i : ℕ} {tag : Tag} → StandsAt bs at i → back_behind 0 nowhere (take i bs) ≢ nowhere → EachAt bs (back_behind 0 nowhere (take i bs)) (λ s. IsTagOf words s tag) → IsPreviousTag (site_at bs i) tag
+    previous_is {i = zero} stands some each = absurd (some refl)
+    previous_is {at = at} {i = suc j} {tag = tag} stands some each =
+        let b = before_here stands in
+        let is = each j (subst (λ (k : ℕ). StandsAt bs k j) (sym b.2) b.0) in
+        let here = around bs at (suc j) stands in
+        let ends : words_in (take j bs) + size_of (block_at bs j) ≡ at = omega (arith, ap words_in b.1, words_in-append (take j bs) (block_at bs j ∷ []), stands.place) in
+        subst (λ (blocks : List Block). IsPreviousTag (record { before = blocks; block = block_at bs (suc j); after = drop (suc (suc j)) bs }) tag) (sym b.1)
+        (says_previous (take j bs) (block_at bs j) (block_at bs (suc j)) (drop (suc (suc j)) bs) tag (omega (arith, (region_around sli (around bs _ j b.0) sized).0)) is.size is.free
+        (is.last ∙ ne_eqb _ words (λ e. omega (arith, e, ends, words_around here, (region_around sli here sized).0, whole))) is.back)

@@ -1,20 +1,18 @@
 -- The lists of the free blocks when a live block becomes one with its free neighbours.
-use Rattle.std.proofs.Common.{◌≡◌, ◌≢◌, ℕ, zero, suc, ◌+◌, ◌-◌, ◌^◌, ◌<◌, ◌≤◌, true, false, List, [], ◌∷◌, ◌++◌, length, take, drop, refl, sym, ap, ◌∙◌, subst, arith, append_assoc}
+use Rattle.std.proofs.Common.{◌≡◌, ◌≢◌, ℕ, zero, suc, ◌+◌, ◌-◌, ◌<◌, ◌≤◌, true, false, List, [], ◌∷◌, ◌++◌, length, take, drop, refl, sym, ap, ◌∙◌, subst, arith, append_assoc}
 use Rattle.std.specs.Prelude.{Contains}
 use Rattle.std.proofs.lemmas.Bool.{false≢true}
 use Rattle.tlsf_class.specs.Classes.{class_of}
 use Rattle.tlsf_heap.specs.Blocks.{Block, Live, Free, size_of, words_in, is_free, StandsAt}
 use Rattle.tlsf_heap.specs.Lawful.{IsRegion}
-use Rattle.tlsf_heap.specs.Regions.{AreRegions, AreUnlisted, SameLists, list_in}
+use Rattle.tlsf_heap.specs.Regions.{AreRegions, AreUnlisted, SameLists, list_in, withheld}
 use Rattle.tlsf_heap.specs.GoodFit.{block_at, site_at}
-use Rattle.tlsf_words.specs.Lists.{nowhere, without_place}
+use Rattle.tlsf_words.specs.Lists.{without_place}
 use Rattle.tlsf_heap.specs.Calls.{coalesced, first_free, past_free, last_free, before_free}
 use Rattle.tlsf_heap.specs.FreePlaces.{FreePlace, free_places, AreFreeLists}
-use Rattle.tlsf_heap.specs.Image.{back_behind}
-use Rattle.tlsf_heap.proofs.Beside.{back_free, free_behind, free_before}
 use Rattle.tlsf_heap.proofs.Edits.{first_free-words}
 use Rattle.tlsf_heap.proofs.Listing.{AreListed, IsFresh, fresh_both, contains_own, not_listed, same_lists, taken, given}
-use Rattle.tlsf_heap.proofs.Sizes.{Around, around, around_first, block_around, stands_around, words_around, region_around, regions_front, regions_back, next_is, next_none, last_is, last_none, last_words, past_regions, before_regions, place, places_behind, fresh_front, fresh_back, ArePast, past_around, newest, past_past, before_past}
+use Rattle.tlsf_heap.proofs.Sizes.{Around, around, around_first, around_last, one_index, block_around, stands_around, words_around, region_around, regions_front, regions_back, next_is, next_none, last_is, last_none, last_words, past_regions, before_regions, place, places_behind, fresh_front, fresh_back, ArePast, past_around, newest, past_past, before_past}
 
 -- ---- a free block that is taken out of the list of its class where there is one
 
@@ -34,6 +32,18 @@ forgets sli {size = size} {read = read} {at = at} {old = old} {new = new} is_siz
       others = others;
       none = λ e class. ap (λ (l : List (List ℕ)). list_in l class) (none e);
     })
+
+-- a free block that was taken out, and where there is none to take
+pub taken_out : (sli : ℕ) {size to class at : ℕ} {old new : ℕ → List ℕ} → 0 < size → class ≡ class_of sli size → to ≡ at → new class ≡ without_place to (old class) → ((other : ℕ) → other ≢ class → new other ≡ old other)
+    → Forgets sli size at old new
+taken_out sli some is_class same list others = record {
+  out = λ h. rw (sym is_class, sym same) list;
+  others = rw (sym is_class) others;
+  none = λ e. absurd (omega (arith, some, e));
+}
+
+pub nothing_out : (sli : ℕ) {size at : ℕ} {old : ℕ → List ℕ} → size ≡ 0 → Forgets sli size at old old
+nothing_out sli none = record { out = λ h. absurd (omega (arith, none, h)); others = λ other n. refl; none = λ e class. refl }
 
 forgotten : (sli : ℕ) {size at : ℕ} {old new : ℕ → List ℕ} → Forgets sli size at old new → (front back : List FreePlace) → (0 < size → IsFresh at (front ++ back))
     → (0 < size → (stamp : ℕ) × AreListed (front ++ place sli size at stamp ∷ back) old) → (size ≡ 0 → AreListed (front ++ back) old) → AreListed (front ++ back) new
@@ -158,17 +168,30 @@ module _ (sli : ℕ) {bs : List Block} {at i before size after tick : ℕ} {list
       subst (λ (n : ℕ). AreListed (ahead ++ free_places sli (at + size + n) (past_free back)) lists) (sym f.is_after)
       (subst (λ (l : List FreePlace). AreListed (ahead ++ l) lists) (next_no_places sli back (at + size) (regions_back sli between f.sized) (omega (arith, e, f.is_after))) listed_between)
 
+  -- where no free block is before it, all blocks there are
+  pub none_ahead : last_free front ≡ 0 → before_free front ≡ front
+  none_ahead e = last_none sli front (regions_front sli between f.sized) e
+
   pub next_region : 0 < after → IsRegion sli after
   next_region h = rw f.is_after (region_around sli (around_first between (omega (arith, h, f.is_after))) f.sized)
+
+  pub previous_region : 0 < before → IsRegion sli before
+  previous_region h = rw f.is_before (region_around sli (around_last between (omega (arith, h, f.is_before))) f.sized)
 
   pub contains_next : 0 < after → Contains (lists (class_of sli after)) (at + size)
   contains_next h = let listed = listed_next h in contains_own (place sli after (at + size) listed.0) ahead behind (lists (class_of sli after)) (listed.1 (class_of sli after))
 
-  -- a free block that begins where the block ends is listed
-  pub contains_behind : {words : ℕ} → words_in bs ≡ words → (j : ℕ) → StandsAt bs (at + size) j → is_free (block_at bs j) ≡ true → Contains (lists (class_of sli (size_of (block_at bs j)))) (at + size)
-  contains_behind whole j there free =
-      let same = f.is_after ∙ free_behind sli whole f.stands f.sized j (subst (λ (n : ℕ). StandsAt bs (at + n) j) f.is_size there) free in
-      subst (λ (n : ℕ). Contains (lists (class_of sli n)) (at + size)) same (contains_next (omega (arith, same, (region_around sli (around bs (at + size) j there) f.sized).0)))
+  abbrev total : ℕ
+  total = before + size + after
+
+  -- the free blocks, while the block and its neighbours are in no list
+  withheld_places : free_places sli 0 (withheld (site_at bs i)) ≡ first ++ behind
+  withheld_places =
+      let sum : last_free front + size_of (block_at bs i) + first_free back ≡ total = omega (arith, f.is_before, f.is_size, f.is_after) in
+      let ends : at - before + total ≡ at + size + after = omega (arith, before_within) in
+      ap (λ (n : ℕ). free_places sli 0 (before_free front ++ Live n 0 [] ∷ past_free back)) sum
+      ∙ places_behind sli (before_free front) (Live total 0 [] ∷ past_free back) (at - before) begins
+      ∙ ap (λ (n : ℕ). first ++ free_places sli n (past_free back)) ends
 
   -- once the block behind is out
   module _ {left : ℕ → List ℕ} (out : Forgets sli after (at + size) lists left) where
@@ -194,28 +217,27 @@ module _ (sli : ℕ) {bs : List Block} {at i before size after tick : ℕ} {list
     contains_previous h =
         let listed = listed_previous h in contains_own (place sli before (at - before) listed.0) first behind (left (class_of sli before)) (listed.1 (class_of sli before))
 
-    -- and so is one where the block before begins
-    pub contains_before : {words : ℕ} → words_in bs ≡ words → words_in bs ≤ 2 ^ 24 → (j : ℕ) → StandsAt bs (back_behind 0 nowhere front) j → is_free (block_at bs j) ≡ true
-        → Contains (left (class_of sli (size_of (block_at bs j)))) (back_behind 0 nowhere front)
-    contains_before whole small j there free =
-        let same = f.is_before ∙ free_before sli whole small f.sized f.stands j there free in
-        let some : 0 < before = omega (arith, same, (region_around sli (around bs (back_behind 0 nowhere front) j there) f.sized).0) in
-        let begins_there : at - before ≡ back_behind 0 nowhere front = ap (λ (n : ℕ). at - n) f.is_before ∙ sym (back_free f.stands (omega (arith, some, f.is_before))) in
-        subst (λ (k : ℕ). Contains (left (class_of sli (size_of (block_at bs j)))) k) begins_there (subst (λ (n : ℕ). Contains (left (class_of sli n)) (at - before)) same (contains_previous some))
-
     -- once that before it is out too
     module _ {rest : ℕ → List ℕ} (out_too : Forgets sli before (at - before) left rest) where
-      rest_listed : AreListed (first ++ behind) rest
+      pub rest_listed : AreListed (first ++ behind) rest
       rest_listed = forgotten sli out_too first behind (λ h. fresh_merged (at - before) (omega arith) (omega (arith, size_region.0))) listed_previous kept_previous
+
+      -- the lists are of the other blocks
+      pub withheld_listed : {kept : ℕ → List ℕ} → SameLists kept rest → (j : ℕ) → StandsAt bs at j → AreFreeLists sli (withheld (site_at bs j)) kept
+      withheld_listed {kept = kept} same j there =
+          subst (λ (k : ℕ). AreFreeLists sli (withheld (site_at bs k)) kept) (one_index sli bs at i j f.sized f.stands there)
+          (subst (λ (l : List FreePlace). AreListed l kept) (sym withheld_places) (same_lists (first ++ behind) rest kept same rest_listed))
+
+  module _ {rest : ℕ → List ℕ} where
+    module _ (others_listed : AreFreeLists sli (withheld (site_at bs i)) rest) where
+      listed_others : AreListed (first ++ behind) rest
+      listed_others = subst (λ (l : List FreePlace). AreListed l rest) withheld_places others_listed
 
       -- no place in their words is listed
       pub rest_unlisted : AreUnlisted rest (at - before) (at + size + after)
-      rest_unlisted k low high = not_listed (first ++ behind) rest k rest_listed (fresh_merged k low high)
+      rest_unlisted k low high = not_listed (first ++ behind) rest k listed_others (fresh_merged k low high)
 
       module _ (new : List Block) (is_new : new ≡ coalesced tick (site_at bs i)) where
-        abbrev total : ℕ
-        total = before + size + after
-
         is_merged : new ≡ before_free front ++ Free total tick ∷ past_free back
         is_merged =
             let sum : last_free front + size_of (block_at bs i) + first_free back ≡ total = omega (arith, f.is_before, f.is_size, f.is_after) in
@@ -235,7 +257,7 @@ module _ (sli : ℕ) {bs : List Block} {at i before size after tick : ℕ} {list
             let past = past_around between tick f.past in
             let listed : AreListed (first ++ e ∷ behind) all =
             given e first behind kept all others (newest sli tick (at + size + after) (before_free front) (past_free back) (before_past tick front past.0) (past_past tick back past.1)) came
-            (same_lists (first ++ behind) rest kept stay rest_listed) in
+            (same_lists (first ++ behind) rest kept stay listed_others) in
             subst (λ (l : List FreePlace). AreListed l all) (sym (ap (free_places sli 0) is_merged ∙ places_behind sli (before_free front) (Free total tick ∷ past_free back) (at - before) begins))
             (subst (λ (n : ℕ). AreListed (first ++ place sli total (at - before) tick ∷ free_places sli n (past_free back)) all) ends
             (subst (λ (n : ℕ). AreListed (first ++ record { class = n; at = at - before; stamp = tick } ∷ behind) all) is_class listed))

@@ -25,6 +25,7 @@ pub mod Resized
 pub mod Edited
 pub mod Splitting
 pub mod Merging
+pub mod Freeing
 pub mod Recutting
 pub mod Sizes
 pub mod Carving

@@ -9,7 +9,7 @@ use Rattle.tlsf_heap.specs.Calls.{first_free, past_free, last_free, before_free,
 use Rattle.tlsf_heap.specs.GoodFit.{block_at, site_at}
 use Rattle.tlsf_heap.specs.Headers.{Merges, without_start}
 use Rattle.tlsf_heap.specs.Regions.{AreNeighbours}
-use Rattle.tlsf_heap.specs.declared.neighbours.Neighbours.{Neighbours}
+use Rattle.tlsf_words.specs.declared.tag.Tag.{Tag}
 use Rattle.tlsf_heap.proofs.Lawfulness.{words_in-append}
 use Rattle.tlsf_heap.proofs.Showing.{Replaces, start_at}
 use Rattle.tlsf_heap.proofs.Reading.{says_here}
@@ -93,36 +93,36 @@ module _ {m : Image} {bs : List Block} (shows : Shows m bs) {at i : ℕ} (stands
         ends = elim (cases_lt 0 (first_free back)) [ inl some ↦ (next_starts some).0 | inr none ↦ omega (arith, none, says.ends) ];
       }
 
-  module _ {around : Neighbours} (is : AreNeighbours (length m.words) (site_at bs i) around) where
+  module _ {before after : ℕ} {tag : Tag} (is : AreNeighbours (length m.words) (site_at bs i) before after tag) where
     -- what the writes of a merge ask for
-    pub merge_within : at - around.before + around.tag.size ≤ length m.words
+    pub merge_within : at - before + tag.size ≤ length m.words
     merge_within = omega (arith, lies.ends, lies.within, is.before, is.size)
 
-    pub merge_before : around.before ≤ at
+    pub merge_before : before ≤ at
     merge_before = omega (arith, lies.within, is.before)
 
-    pub merge_after : around.before + around.after + 4 ≤ around.tag.size
+    pub merge_after : before + after + 4 ≤ tag.size
     merge_after = omega (arith, lies.least, is.before, is.after, is.size)
 
-    module _ {v : Image} {stamp : ℕ} (merges : Merges m v at around stamp) where
+    module _ {v : Image} {stamp : ℕ} (merges : Merges m v at before after tag stamp) where
       abbrev place : ℕ
-      place = at - around.before
+      place = at - before
 
       abbrev end : ℕ
-      end = place + around.tag.size
+      end = place + tag.size
 
-      one : Cleared m.starts (without_start m.starts at around.before) at around.before
-      one = cleared m.starts at around.before
+      one : Cleared m.starts (without_start m.starts at before) at before
+      one = cleared m.starts at before
 
-      two : Cleared (without_start m.starts at around.before) v.starts (end - around.after) around.after
-      two = subst (λ (s : List Bool). Cleared (without_start m.starts at around.before) s (end - around.after) around.after) (sym merges.starts)
-          (cleared (without_start m.starts at around.before) (end - around.after) around.after)
+      two : Cleared (without_start m.starts at before) v.starts (end - after) after
+      two = subst (λ (s : List Bool). Cleared (without_start m.starts at before) s (end - after) after) (sym merges.starts)
+          (cleared (without_start m.starts at before) (end - after) after)
 
-      start_kept : (k : ℕ) → (k ≡ at → around.before ≡ 0) → (k ≡ end - around.after → around.after ≡ 0) → start_at v k ≡ start_at m k
+      start_kept : (k : ℕ) → (k ≡ at → before ≡ 0) → (k ≡ end - after → after ≡ 0) → start_at v k ≡ start_at m k
       start_kept k f g = two.others k g ∙ one.others k f
 
       -- the place behind the block
-      middle : end - around.after ≡ at + size_of block
+      middle : end - after ≡ at + size_of block
       middle = omega (arith, lies.within, is.before, is.after, is.size)
 
       no_start : (k : ℕ) → place < k → k < end → start_at v k ≡ false
@@ -138,10 +138,10 @@ module _ {m : Image} {bs : List Block} (shows : Shows m bs) {at i : ℕ} (stands
         ]
       ]
 
-      merged_shown : BlockAt v place (back_behind 0 nowhere (before_free front)) (Free around.tag.size stamp)
+      merged_shown : BlockAt v place (back_behind 0 nowhere (before_free front)) (Free tag.size stamp)
       merged_shown =
           let joined : words_in front + size_of block + first_free back ≡ end = omega (arith, stands.place, lies.within, is.before, is.size) in
-          let last : around.tag.last ≡ eqb end (length v.words) = is.last ∙ rw (joined, merges.only.length) refl in
+          let last : tag.last ≡ eqb end (length v.words) = is.last ∙ rw (joined, merges.only.length) refl in
           record {
             tag = merges.free.tag ∙ rw (last, is.back) refl;
             mark = merges.free.mark;
@@ -157,7 +157,7 @@ module _ {m : Image} {bs : List Block} (shows : Shows m bs) {at i : ℕ} (stands
       abbrev old : List Block
       old = (last_part front).0 ++ block ∷ (first_part back).0
 
-      words_old : words_in old ≡ around.tag.size
+      words_old : words_in old ≡ tag.size
       words_old = omega (arith, words_in-append (last_part front).0 (block ∷ (first_part back).0), (last_part front).2, (first_part back).2, is.size)
 
       begins : words_in (before_free front) ≡ place
@@ -174,7 +174,7 @@ module _ {m : Image} {bs : List Block} (shows : Shows m bs) {at i : ℕ} (stands
           ∙ ap (λ (l : List Block). front ++ block ∷ l) (sym (first_part back).1)
           ∙ sym here.is
 
-      pub merge_replaces : Replaces m v (before_free front) old (Free around.tag.size stamp ∷ [])
+      pub merge_replaces : Replaces m v (before_free front) old (Free tag.size stamp ∷ [])
       merge_replaces = record {
         as_many = omega (arith, words_old);
         as_long = merges.only.length;
@@ -195,5 +195,5 @@ module _ {m : Image} {bs : List Block} (shows : Shows m bs) {at i : ℕ} (stands
       pub merge_begins : words_in (before_free front) ≡ place
       merge_begins = begins
 
-      pub merge_is : before_free front ++ (Free around.tag.size stamp ∷ []) ++ past_free back ≡ coalesced stamp (site_at bs i)
-      merge_is = append_assoc (before_free front) (Free around.tag.size stamp ∷ []) (past_free back) ∙ ap (λ (n : ℕ). before_free front ++ Free n stamp ∷ past_free back) is.size
+      pub merge_is : before_free front ++ (Free tag.size stamp ∷ []) ++ past_free back ≡ coalesced stamp (site_at bs i)
+      merge_is = append_assoc (before_free front) (Free tag.size stamp ∷ []) (past_free back) ∙ ap (λ (n : ℕ). before_free front ++ Free n stamp ∷ past_free back) is.size

@@ -40,13 +40,13 @@ pub record IsWhole (words : ℕ) (s : Site) (tag : Tag) (after : ℕ) : Type 0 w
   pub last : tag.last ≡ eqb (place_of s + size_of s.block + first_free s.after) words
   pub back : tag.back ≡ back_behind 0 nowhere s.before
 
-pub whole_is : {words long : ℕ} {s : Site} {own next : Tag} → long ≡ words → IsTagOf words s own → IsTagBehind words s next
-    → IsWhole long s (record { size = own.size + next.size; free = own.free; last = next.last; back = own.back }) next.size
-whole_is {s = s} {next = next} same own behind = record {
-  size = omega (arith, own.size);
-  behind = behind.size;
-  last = behind.last ∙ ap (eqb (place_of s + size_of s.block + first_free s.after)) (sym same);
-  back = own.back;
+pub whole_is : {words long after : ℕ} {s : Site} {own next : Tag} (tag : Tag) → long ≡ words → IsTagOf words s own → IsTagBehind words s next → after ≡ next.size → tag.size ≡ own.size + after → tag.last ≡ next.last → tag.back ≡ own.back
+    → IsWhole long s tag after
+whole_is {s = s} {next = next} tag same own behind read size last back = record {
+  size = omega (arith, size, own.size);
+  behind = read ∙ behind.size;
+  last = last ∙ behind.last ∙ ap (eqb (place_of s + size_of s.block + first_free s.after)) (sym same);
+  back = back ∙ own.back;
 }
 
 module _ {m : Image} {bs : List Block} (shows : Shows m bs) {at i : ℕ} (stands : StandsAt bs at i) {tag : Tag} {after : ℕ} (is : IsWhole (length m.words) (site_at bs i) tag after) where

@@ -3,7 +3,6 @@ use Rattle.std.specs.Prelude.{◌≡◌, ℕ, ◌+◌, ◌-◌, ◌<◌, ◌≤�
 use Rattle.tlsf_words.specs.Fields.{tag_word, length_word, size_in, last_in, free_in, back_in}
 use Rattle.tlsf_words.specs.declared.tag.Tag.{Tag}
 use Rattle.tlsf_heap.specs.Image.{Image}
-use Rattle.tlsf_heap.specs.declared.neighbours.Neighbours.{Neighbours}
 
 -- the first word of a header with another place before
 unfoldable pub with_back : ℕ → ℕ → ℕ
@@ -64,12 +63,12 @@ pub record Splits (old new : Image) (at : ℕ) (tag : Tag) (size serial len : �
   pub only : OnlyFrom old.words new.words at (at + tag.size + 1)
   pub starts : new.starts ≡ slice_set old.starts (at + size) true
 
--- the block at a place and its free neighbours become one free block
-pub record Merges (old new : Image) (at : ℕ) (around : Neighbours) (stamp : ℕ) : Type 0 where
-  pub free : HasFree new.words (at - around.before) around.tag.size around.tag.last around.tag.back stamp
-  pub next : NamesBefore old.words new.words (at - around.before + around.tag.size) (at - around.before)
-  pub only : OnlyFrom old.words new.words (at - around.before) (at - around.before + around.tag.size + 1)
-  pub starts : new.starts ≡ without_start (without_start old.starts at around.before) (at - around.before + around.tag.size - around.after) around.after
+-- the block at a place, the `before` free words before it and the `after` ones behind it become one free block of this tag
+pub record Merges (old new : Image) (at before after : ℕ) (tag : Tag) (stamp : ℕ) : Type 0 where
+  pub free : HasFree new.words (at - before) tag.size tag.last tag.back stamp
+  pub next : NamesBefore old.words new.words (at - before + tag.size) (at - before)
+  pub only : OnlyFrom old.words new.words (at - before) (at - before + tag.size + 1)
+  pub starts : new.starts ≡ without_start (without_start old.starts at before) (at - before + tag.size - after) after
 
 -- a live block and the `after` free words behind it become a live block of this tag
 pub record Widens (old new : Image) (at : ℕ) (tag : Tag) (after : ℕ) : Type 0 where

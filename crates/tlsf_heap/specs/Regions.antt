@@ -1,14 +1,13 @@
 -- A region as its blocks and the lists of its free blocks.
-use Rattle.std.specs.Prelude.{◌≡◌, ◌≢◌, ℕ, ◌+◌, ◌-◌, ◌<◌, ◌≤◌, ◌==◌, List, [], ◌∷◌, nat_le, if◌then◌else◌, slice_index_or, true, false}
+use Rattle.std.specs.Prelude.{◌≡◌, ◌≢◌, ℕ, ◌+◌, ◌-◌, ◌<◌, ◌≤◌, ◌==◌, List, [], ◌∷◌, ◌++◌, nat_le, if◌then◌else◌, slice_index_or, true, false}
 use Rattle.std.specs.List.{AllByRecursion}
 use Rattle.tlsf_words.specs.Memory.{Memory}
 use Rattle.tlsf_words.specs.Lists.{nowhere, without_place, IsUnlisted}
 use Rattle.tlsf_words.specs.declared.tag.Tag.{Tag}
-use Rattle.tlsf_heap.specs.Blocks.{Block, Free, size_of, is_free, StandsAt}
-use Rattle.tlsf_heap.specs.Calls.{first_free, last_free, before_free}
+use Rattle.tlsf_heap.specs.Blocks.{Block, Live, Free, size_of, is_free, StandsAt}
+use Rattle.tlsf_heap.specs.Calls.{first_free, past_free, last_free, before_free}
 use Rattle.tlsf_heap.specs.GoodFit.{Site, site_at, place_of}
 use Rattle.tlsf_heap.specs.Image.{Image, back_behind, Shows}
-use Rattle.tlsf_heap.specs.declared.neighbours.Neighbours.{Neighbours}
 use Rattle.tlsf_heap.specs.Lawful.{IsRegion}
 
 -- what a region shows: how many words it has, its blocks, for each class the places in its free list, from the head, what is stored in it, and its touches
@@ -42,19 +41,39 @@ pub record IsTagOf (words : ℕ) (s : Site) (tag : Tag) : Type 0 where
   pub last : tag.last ≡ (place_of s + size_of s.block == words)
   pub back : tag.back ≡ back_behind 0 nowhere s.before
 
--- the tag of the free block at a place in a region of so many words; `none` where the block there is live or the region ends
-pub record IsTakenTag (blocks : List Block) (words at : ℕ) (none tag : Tag) : Type 0 where
-  pub free : EachAt blocks at (λ s. is_free s.block ≡ true → IsTagOf words s tag)
-  pub live : EachAt blocks at (λ s. is_free s.block ≡ false → tag ≡ none)
-  pub outside : words ≤ at → tag ≡ none
+-- the tag of the block behind a block in a region of so many words, if that is free; else a live one
+pub record IsNextTag (words : ℕ) (s : Site) (tag : Tag) : Type 0 where
+  pub live : tag.free ≡ false → first_free s.after ≡ 0
+  pub some : tag.free ≡ true → 0 < first_free s.after
+  pub size : tag.free ≡ true → tag.size ≡ first_free s.after
+  pub last : tag.free ≡ true → tag.last ≡ (place_of s + size_of s.block + first_free s.after == words)
 
--- a block and its free neighbours in a region of so many words: how many words are before and behind, and the tag of them all as one block
-pub record AreNeighbours (words : ℕ) (s : Site) (around : Neighbours) : Type 0 where
-  pub before : around.before ≡ last_free s.before
-  pub after : around.after ≡ first_free s.after
-  pub size : around.tag.size ≡ last_free s.before + size_of s.block + first_free s.after
-  pub last : around.tag.last ≡ (place_of s + size_of s.block + first_free s.after == words)
-  pub back : around.tag.back ≡ back_behind 0 nowhere (before_free s.before)
+-- the tag of the block before a block, if that is free; else a live one
+pub record IsPreviousTag (s : Site) (tag : Tag) : Type 0 where
+  pub live : tag.free ≡ false → last_free s.before ≡ 0
+  pub some : tag.free ≡ true → 0 < last_free s.before
+  pub size : tag.free ≡ true → tag.size ≡ last_free s.before
+  pub last : tag.free ≡ true → tag.last ≡ false
+  pub back : tag.free ≡ true → tag.back ≡ back_behind 0 nowhere (before_free s.before)
+
+-- the tags of a block and of its neighbours
+pub record AreTagsAround (words : ℕ) (s : Site) (own next previous : Tag) : Type 0 where
+  pub is_own : IsTagOf words s own
+  pub is_next : IsNextTag words s next
+  pub is_previous : IsPreviousTag s previous
+
+-- a block and its free neighbours in a region of so many words: how many words are ahead and behind, and the tag of them all as one block
+pub record AreNeighbours (words : ℕ) (s : Site) (ahead behind : ℕ) (tag : Tag) : Type 0 where
+  pub before : ahead ≡ last_free s.before
+  pub after : behind ≡ first_free s.after
+  pub size : tag.size ≡ last_free s.before + size_of s.block + first_free s.after
+  pub free : tag.free ≡ true
+  pub last : tag.last ≡ (place_of s + size_of s.block + first_free s.after == words)
+  pub back : tag.back ≡ back_behind 0 nowhere (before_free s.before)
+
+-- the blocks of a region, were a block and its free neighbours a live one: while these are in no list, the lists are of the others
+abbrev pub withheld : Site → List Block
+withheld s = before_free s.before ++ Live (last_free s.before + size_of s.block + first_free s.after) 0 [] ∷ past_free s.after
 
 -- the tag of the free block behind a block in a region of so many words; of size 0 where there is none
 pub record IsTagBehind (words : ℕ) (s : Site) (tag : Tag) : Type 0 where

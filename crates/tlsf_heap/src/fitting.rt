@@ -1,19 +1,17 @@
 //! Good fit, splitting and coalescing over a region and the lists of its free blocks. Sizes and places are in words.
-ghost use Rattle.std.specs.Prelude.{◌≡◌, ◌≢◌, ℕ, ◌+◌, ◌<◌, ◌≤◌, ◌++◌, true, false, Some, slice_get, Contains};
+ghost use Rattle.std.specs.Prelude.{◌≡◌, ℕ, ◌+◌, ◌-◌, ◌<◌, ◌≤◌, ◌++◌, true, false, Some, slice_get};
 ghost use Rattle.std.specs.List.{AllByRecursion};
-ghost use Rattle.tlsf_heap.specs.Blocks.{size_of, words_in, payload_words, is_free, stamps, words_for, StandsAt, IsPlace};
-ghost use Rattle.tlsf_class.specs.Classes.{IsLevel, most_words, class_of};
-ghost use Rattle.tlsf_heap.specs.Regions.{AreRegions, EachAt, HasAt, IsTagOf, IsTakenTag, list_in, OnlyReads, Edits};
+ghost use Rattle.tlsf_heap.specs.Blocks.{size_of, words_in, payload_words, is_free, stamps, words_for, StandsAt};
+ghost use Rattle.tlsf_class.specs.Classes.{IsLevel, most_words};
+ghost use Rattle.tlsf_heap.specs.Regions.{AreRegions, EachAt, HasAt, IsTagOf, IsNextTag, IsPreviousTag, AreTagsAround, withheld, list_in, OnlyReads, Edits};
 ghost use Rattle.tlsf_heap.specs.GoodFit.{block_at};
 ghost use Rattle.tlsf_heap.specs.Chosen.{IsHead, IsBestClass};
-ghost use Rattle.tlsf_heap.specs.Calls.{carved, coalesced};
+ghost use Rattle.tlsf_heap.specs.Calls.{carved, coalesced, first_free, last_free};
 ghost use Rattle.tlsf_heap.specs.FreePlaces.{AreFreeLists};
-ghost use Rattle.tlsf_words.specs.Lists.{without_place};
 
-use crate::neighbours::Neighbours;
 use crate::region::Region;
 use tlsf_class::{Class, class_of, most_words, search_of};
-use tlsf_words::Tag;
+use tlsf_words::{NO_PLACE, Tag};
 
 /// The class whose list has the block that serves a request of `words` words as its head.
 pub fn choose<const SLI: u32>(region: &mut Region<SLI>, words: u32) -> Option<Class<SLI>>
@@ -61,7 +59,8 @@ pub fn carve<const SLI: u32>(
 }
 
 /// Makes the live block at a place, of this tag, and its free neighbours one free block.
-// Always inline: behind a call the tag is taken apart for all releases, and not where a merge needs a part of it.
+// Where neither neighbour is free, most often, a release is this alone. Always inline: behind a call the tag is taken apart for all
+// releases, and not where a merge needs a part of it.
 #[inline(always)]
 pub fn coalesce<const SLI: u32>(region: &mut Region<SLI>, at: u32, own: Tag, tick: u64)
     requires level { IsLevel SLI }
@@ -76,52 +75,119 @@ pub fn coalesce<const SLI: u32>(region: &mut Region<SLI>, at: u32, own: Tag, tic
     ensures listed { AreFreeLists SLI region.new.blocks (list_in region.new.lists) }
     ensures edits { Edits region.old region.new 27 }
 {
-    let none = Tag { size: 0, ..own };
-    let next = take_free(region, at + own.size, none);
-    let previous = take_free(region, own.back, none);
-    let around = Neighbours {
-        before: previous.size,
-        after: next.size,
-        tag: Tag {
-            size: previous.size + own.size + next.size,
-            free: true,
-            last: next.last,
-            back: previous.back,
-        },
-    };
-    let place = at - around.before;
-    region.merge(at, around, tick);
-    region.push(class_of(around.tag.size), place);
+    let next = next_tag(region, at, own);
+    let previous = previous_tag(region, at, own);
+    if next.is_free() || previous.is_free() {
+        merge(region, at, own, next, previous, tick);
+        return;
+    }
+    region.free(at, own, tick);
+    region.push(class_of(own.size()), at);
 }
 
-/// Takes the free block at a place out of the list of its class, and answers its tag; `none` where the block there is live or the
-/// region ends.
-// The tag is used in the branch that has the removal, so that a release pays for free neighbours alone. Inline, since two calls
-// that pass tags through memory cost as much as the removals.
+/// The tag of the block behind the one at a place, of this tag; that of a live block where the region ends.
 #[inline]
-fn take_free<const SLI: u32>(region: &mut Region<SLI>, at: u32, none: Tag) -> Tag
-    requires level { IsLevel SLI }
-    requires within { at < region.old.words → IsPlace region.old.blocks at }
+pub fn next_tag<const SLI: u32>(region: &mut Region<SLI>, at: u32, own: Tag) -> Tag
+    requires own { HasAt region.old.blocks at (λ s. IsTagOf region.old.words s own) }
     requires whole { words_in region.old.blocks ≡ region.old.words }
     requires sized { AreRegions SLI region.old.blocks }
-    requires listed { EachAt region.old.blocks at (λ s. is_free s.block ≡ true → Contains (list_in region.old.lists (class_of SLI (size_of s.block))) at) }
-    requires nothing { none.size ≡ 0 }
-    ensures tag { IsTakenTag region.old.blocks region.old.words at none result }
-    ensures list { 0 < result.size → list_in region.new.lists (class_of SLI result.size) ≡ without_place at (list_in region.old.lists (class_of SLI result.size)) }
-    ensures others { (other : ℕ) → other ≢ class_of SLI result.size → list_in region.new.lists other ≡ list_in region.old.lists other }
-    ensures none { result.size ≡ 0 → region.new.lists ≡ region.old.lists }
-    ensures blocks { region.new.blocks ≡ region.old.blocks }
-    ensures words { region.new.words ≡ region.old.words }
-    ensures touches { region.new.touches ≤ region.old.touches + 7 }
-    ensures rise { region.old.touches ≤ region.new.touches }
+    requires small { words_in region.old.blocks ≤ most_words SLI }
+    ensures tag { EachAt region.old.blocks at (λ s. IsNextTag region.old.words s result) }
+    ensures reads { OnlyReads region.old region.new 1 }
 {
-    if at >= region.len() {
-        return none;
+    if own.is_last() {
+        return Tag::new(0, false, false, 0);
     }
-    let tag = region.tag(at);
-    if !tag.free {
-        return none;
+    region.tag(at + own.size())
+}
+
+/// The tag of the block before the one at a place, of this tag; that of a live block where the region begins.
+#[inline]
+fn previous_tag<const SLI: u32>(region: &mut Region<SLI>, at: u32, own: Tag) -> Tag
+    requires own { HasAt region.old.blocks at (λ s. IsTagOf region.old.words s own) }
+    requires whole { words_in region.old.blocks ≡ region.old.words }
+    requires sized { AreRegions SLI region.old.blocks }
+    requires small { words_in region.old.blocks ≤ most_words SLI }
+    ensures tag { EachAt region.old.blocks at (λ s. IsPreviousTag s result) }
+    ensures reads { OnlyReads region.old region.new 1 }
+{
+    if own.back() == NO_PLACE {
+        return Tag::new(0, false, false, 0);
     }
-    region.remove(class_of(tag.size), at);
-    tag
+    region.tag(own.back())
+}
+
+/// Makes the live block at a place and its free neighbours, of which there is one at least, one free block. The tags are theirs.
+// Always inline: out of line it costs the releases that merge three times what it saves the others.
+#[inline(always)]
+fn merge<const SLI: u32>(
+    region: &mut Region<SLI>,
+    at: u32,
+    own: Tag,
+    next: Tag,
+    previous: Tag,
+    tick: u64,
+)
+    requires level { IsLevel SLI }
+    requires live { HasAt region.old.blocks at (λ s. is_free s.block ≡ false) }
+    requires tags { EachAt region.old.blocks at (λ s. AreTagsAround region.old.words s own next previous) }
+    requires some { next.free ≡ false → previous.free ≡ true }
+    requires whole { words_in region.old.blocks ≡ region.old.words }
+    requires sized { AreRegions SLI region.old.blocks }
+    requires small { words_in region.old.blocks ≤ most_words SLI }
+    requires listed { AreFreeLists SLI region.old.blocks (list_in region.old.lists) }
+    requires stamped { AllByRecursion (λ s. s < tick) (stamps region.old.blocks) }
+    ensures blocks { EachAt region.old.blocks at (λ s. region.new.blocks ≡ coalesced tick s) }
+    ensures listed { AreFreeLists SLI region.new.blocks (list_in region.new.lists) }
+    ensures edits { Edits region.old region.new 25 }
+{
+    let (place, size) = join(region, at, own, next, previous, tick);
+    region.push(class_of(size), place);
+}
+
+/// Takes the free neighbours of the live block at a place, of which there is one at least, out of their lists, and makes it and them
+/// one free block, which is in no list. The tags are theirs. Answers its place and its size.
+// Each case stands for itself, so that no flag and no size is tested again where the header and the start bits are written.
+#[inline(always)]
+fn join<const SLI: u32>(
+    region: &mut Region<SLI>,
+    at: u32,
+    own: Tag,
+    next: Tag,
+    previous: Tag,
+    tick: u64,
+) -> (u32, u32)
+    requires level { IsLevel SLI }
+    requires live { HasAt region.old.blocks at (λ s. is_free s.block ≡ false) }
+    requires tags { EachAt region.old.blocks at (λ s. AreTagsAround region.old.words s own next previous) }
+    requires some { next.free ≡ false → previous.free ≡ true }
+    requires whole { words_in region.old.blocks ≡ region.old.words }
+    requires sized { AreRegions SLI region.old.blocks }
+    requires small { words_in region.old.blocks ≤ most_words SLI }
+    requires listed { AreFreeLists SLI region.old.blocks (list_in region.old.lists) }
+    requires stamped { AllByRecursion (λ s. s < tick) (stamps region.old.blocks) }
+    ensures place { EachAt region.old.blocks at (λ s. result.0 ≡ at - last_free s.before) }
+    ensures size { EachAt region.old.blocks at (λ s. result.1 ≡ last_free s.before + size_of s.block + first_free s.after) }
+    ensures blocks { EachAt region.old.blocks at (λ s. region.new.blocks ≡ coalesced tick s) }
+    ensures listed { EachAt region.old.blocks at (λ s. AreFreeLists SLI (withheld s) (list_in region.new.lists)) }
+    ensures edits { Edits region.old region.new 18 }
+{
+    let before = previous.size();
+    let after = next.size();
+    if !next.is_free() {
+        region.remove(class_of(before), at - before);
+        let whole = own.as_free().with_previous(previous);
+        region.merge(at, before, 0, whole, tick);
+        return (at - before, whole.size());
+    }
+    region.remove(class_of(after), at + own.size());
+    let behind = own.with_next(next);
+    if !previous.is_free() {
+        region.merge(at, 0, after, behind, tick);
+        return (at, behind.size());
+    }
+    region.remove(class_of(before), at - before);
+    let whole = behind.with_previous(previous);
+    region.merge(at, before, after, whole, tick);
+    (at - before, whole.size())
 }

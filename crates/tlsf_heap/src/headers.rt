@@ -5,7 +5,6 @@ ghost use Rattle.tlsf_heap.specs.Headers.{HasFree, HasLive, NamesBefore, OnlyFro
 ghost use Rattle.tlsf_heap.specs.Regions.{image_of};
 ghost use Rattle.tlsf_words.specs.Lists.{nowhere};
 
-use crate::neighbours::Neighbours;
 use tlsf_words::{NO_PLACE, Tag, Words};
 
 /// Writes the place of the block before into the header at a place, unless the region ends there.
@@ -18,20 +17,20 @@ fn set_back(words: &mut Words, at: u32, back: u32)
 {
     if at < words.len() {
         let tag = words.tag(at);
-        words.set_tag(at, Tag { back, ..tag });
+        words.set_tag(at, tag.with_back(back));
     }
 }
 
-/// Writes the tag and the mark of a free block.
-fn write_free(words: &mut Words, at: u32, tag: Tag, stamp: u64)
+/// Writes the tag and the mark of a free block. No neighbour's header says otherwise where its size stays.
+pub fn free_header(words: &mut Words, at: u32, tag: Tag, stamp: u64)
     requires within { at + 1 < length words.old.words }
-    requires size { tag.size < 2 ^ 30 }
+    requires free { tag.free ≡ true }
     ensures header { HasFree words.new.words at tag.size tag.last tag.back stamp }
     ensures only { OnlyFrom words.old.words words.new.words at (at + 2) }
     ensures starts { words.new.starts ≡ words.old.starts }
     ensures touches { words.new.touches ≡ words.old.touches + 2 }
 {
-    words.set_tag(at, Tag { free: true, ..tag });
+    words.set_tag(at, tag);
     words.set_mark(at, stamp);
 }
 
@@ -42,13 +41,8 @@ pub fn first_header(words: &mut Words, stamp: u64)
     ensures starts { words.new.starts ≡ slice_set words.old.starts 0 true }
     ensures touches { words.new.touches ≡ words.old.touches + 3 }
 {
-    let tag = Tag {
-        size: words.len(),
-        free: true,
-        last: true,
-        back: NO_PLACE,
-    };
-    write_free(words, 0, tag, stamp);
+    let tag = Tag::new(words.len(), true, true, NO_PLACE);
+    free_header(words, 0, tag, stamp);
     words.set_start(0, true);
 }
 
@@ -61,15 +55,16 @@ pub fn live_header(words: &mut Words, at: u32, tag: Tag, serial: u64, len: u32)
     ensures change { Wholes (image_of words.old) (image_of words.new) at tag serial len }
     ensures touches { words.new.touches ≡ words.old.touches + 3 + (tag.size - 3) }
 {
-    words.set_tag(at, Tag { free: false, ..tag });
+    words.set_tag(at, tag.as_live());
     words.set_mark(at, serial);
     words.set_length(at, len);
-    words.zero(at + 3, tag.size - 3);
+    words.zero(at + 3, tag.size() - 3);
 }
 
-/// Makes the block at a place, of this tag, a live one of `size` words with `len` bytes of payload, all zero, and a free rest. The
-/// serial of the first is the stamp of the rest.
+/// Makes the free block at a place, of this tag, a live one of `size` words with `len` bytes of payload, all zero, and a free rest.
+/// The serial of the first is the stamp of the rest.
 pub fn split_header(words: &mut Words, at: u32, tag: Tag, size: u32, serial: u64, len: u32)
+    requires free { tag.free ≡ true }
     requires least { 4 ≤ size }
     requires room { size + 4 ≤ tag.size }
     requires within { at + tag.size ≤ length words.old.words }
@@ -77,36 +72,30 @@ pub fn split_header(words: &mut Words, at: u32, tag: Tag, size: u32, serial: u64
     ensures change { Splits (image_of words.old) (image_of words.new) at tag size serial len }
     ensures touches { RisesBy words.old.touches words.new.touches (8 + (size - 3)) }
 {
-    let rest = Tag {
-        size: tag.size - size,
-        back: at,
-        ..tag
-    };
-    write_free(words, at + size, rest, serial);
+    let rest = tag.rest(size, at);
+    free_header(words, at + size, rest, serial);
     words.set_start(at + size, true);
-    set_back(words, at + tag.size, at + size);
-    let front = Tag {
-        size,
-        last: false,
-        ..tag
-    };
-    live_header(words, at, front, serial, len);
+    set_back(words, at + tag.size(), at + size);
+    live_header(words, at, tag.without(rest), serial, len);
 }
 
-/// Writes the header of the free block that a block at a place becomes with its free neighbours.
-pub fn merge_headers(words: &mut Words, at: u32, around: Neighbours, stamp: u64)
-    requires before { around.before ≤ at }
-    requires after { around.before + around.after + 4 ≤ around.tag.size }
-    requires within { at - around.before + around.tag.size ≤ length words.old.words }
+/// Writes the header of the free block of this tag that a block at a place becomes with the free one of `before` words before it and
+/// the one of `after` words behind it. Where there is none, that is 0.
+#[inline(always)]
+pub fn merge_headers(words: &mut Words, at: u32, before: u32, after: u32, tag: Tag, stamp: u64)
+    requires free { tag.free ≡ true }
+    requires before { before ≤ at }
+    requires after { before + after + 4 ≤ tag.size }
+    requires within { at - before + tag.size ≤ length words.old.words }
     requires small { length words.old.words ≤ 2 ^ 24 }
-    ensures change { Merges (image_of words.old) (image_of words.new) at around stamp }
+    ensures change { Merges (image_of words.old) (image_of words.new) at before after tag stamp }
     ensures touches { RisesBy words.old.touches words.new.touches 6 }
 {
-    let place = at - around.before;
-    let end = place + around.tag.size;
-    clear_start(words, at, around.before);
-    clear_start(words, end - around.after, around.after);
-    write_free(words, place, around.tag, stamp);
+    let place = at - before;
+    let end = place + tag.size();
+    clear_start(words, at, before);
+    clear_start(words, end - after, after);
+    free_header(words, place, tag, stamp);
     set_back(words, end, place);
 }
 
@@ -119,15 +108,17 @@ pub fn widen_header(words: &mut Words, at: u32, tag: Tag, after: u32)
     ensures change { Widens (image_of words.old) (image_of words.new) at tag after }
     ensures touches { RisesBy words.old.touches words.new.touches 4 }
 {
-    clear_start(words, at + tag.size - after, after);
-    set_back(words, at + tag.size, at);
-    let live = Tag { free: false, ..tag };
+    let end = at + tag.size();
+    clear_start(words, end - after, after);
+    set_back(words, end, at);
+    let live = tag.as_live();
     words.set_tag(at, live);
 }
 
-/// Makes the live block at a place and the `after` free words behind it, which have this tag together, a live block of `size` words
-/// and a free rest. The mark, the length and the payload of the first stay.
+/// Makes the live block at a place and the `after` free words behind it, which have this free tag together, a live block of `size`
+/// words and a free rest. The mark, the length and the payload of the first stay.
 pub fn recut_header(words: &mut Words, at: u32, tag: Tag, after: u32, size: u32, stamp: u64)
+    requires free { tag.free ≡ true }
     requires least { 4 ≤ size }
     requires room { size + 4 ≤ tag.size }
     requires after { after + 4 ≤ tag.size }
@@ -136,24 +127,14 @@ pub fn recut_header(words: &mut Words, at: u32, tag: Tag, after: u32, size: u32,
     ensures change { Recuts (image_of words.old) (image_of words.new) at tag after size stamp }
     ensures touches { RisesBy words.old.touches words.new.touches 7 }
 {
-    clear_start(words, at + tag.size - after, after);
+    let behind = at + tag.size();
+    clear_start(words, behind - after, after);
     let place = at + size;
-    let left = tag.size - size;
-    let rest = Tag {
-        size: left,
-        back: at,
-        ..tag
-    };
-    write_free(words, place, rest, stamp);
+    let rest = tag.rest(size, at);
+    free_header(words, place, rest, stamp);
     words.set_start(place, true);
-    set_back(words, place + left, place);
-    let front = Tag {
-        size,
-        last: false,
-        free: false,
-        ..tag
-    };
-    words.set_tag(at, front);
+    set_back(words, behind, place);
+    words.set_tag(at, tag.without(rest));
 }
 
 /// Says that no block starts at a place where a block is merged with `size` words of a neighbour. Where that is 0 there is none.

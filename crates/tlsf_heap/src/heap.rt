@@ -193,11 +193,12 @@ impl<const SLI: u32> Heap<SLI> {
             → self.new.touches ≡ self.old.touches + 1 }
     {
         let own = self.check(name)?;
-        if self.tick == u64::MAX {
+        let tick = self.tick;
+        if tick == u64::MAX {
             return Err(Refusal::Worn);
         }
-        coalesce(&mut self.region, name.at, own, self.tick);
-        self.tick += 1;
+        self.tick = tick + 1;
+        coalesce(&mut self.region, name.at, own, tick);
         Ok(())
     }
 
@@ -245,7 +246,7 @@ impl<const SLI: u32> Heap<SLI> {
         let own = self.check(name)?;
         let words = want(len);
         let next = look_behind(&mut self.region, name.at, own);
-        let room = own.size + next.size;
+        let room = own.size() + next.size();
         if room < words {
             return Err(Refusal::NoRoom);
         }
@@ -514,7 +515,7 @@ impl<const SLI: u32> Heap<SLI> {
     ///
     /// ```text
     /// let mut words = Heap::<4>::open(alloc, 0, 64, 0)?.into_words();
-    /// words.tag(0)                                     // Tag { size: 64, free: true, last: true, back: NO_PLACE }
+    /// words.tag(0)                                     // Tag::new(64, true, true, NO_PLACE)
     /// ```
     pub fn into_words(self) -> Words
         ensures stored { image_of result ≡ self.entry.stored }

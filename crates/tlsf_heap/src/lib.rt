@@ -26,7 +26,6 @@ mod headers;
 mod heap;
 mod laws;
 mod name;
-mod neighbours;
 mod open_fault;
 mod payload;
 mod placed_block;

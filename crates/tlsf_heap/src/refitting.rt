@@ -9,6 +9,7 @@ ghost use Rattle.tlsf_heap.specs.Calls;
 ghost use Rattle.tlsf_heap.specs.FreePlaces.{AreFreeLists};
 ghost use Rattle.tlsf_heap.specs.Regions.{AreRegions, EachAt, HasAt, IsTagOf, IsTagBehind, list_in, OnlyReads, Edits};
 
+use crate::fitting::next_tag;
 use crate::region::Region;
 use tlsf_class::class_of;
 use tlsf_words::Tag;
@@ -16,21 +17,19 @@ use tlsf_words::Tag;
 /// The tag of the free block behind the block at a place, of this tag. Its size is 0 where the block behind is live or the region
 /// ends.
 pub fn look_behind<const SLI: u32>(region: &mut Region<SLI>, at: u32, own: Tag) -> Tag
-    requires live { HasAt region.old.blocks at (λ s. is_free s.block ≡ false) }
-    requires own { EachAt region.old.blocks at (λ s. IsTagOf region.old.words s own) }
+    requires own { HasAt region.old.blocks at (λ s. IsTagOf region.old.words s own) }
     requires whole { words_in region.old.blocks ≡ region.old.words }
     requires sized { AreRegions SLI region.old.blocks }
     requires small { words_in region.old.blocks ≤ most_words SLI }
     ensures tag { EachAt region.old.blocks at (λ s. IsTagBehind region.old.words s result) }
     ensures reads { OnlyReads region.old region.new 1 }
 {
-    let none = Tag { size: 0, ..own };
-    let end = at + own.size;
-    if end >= region.len() {
-        return none;
+    let next = next_tag(region, at, own);
+    if next.is_free() {
+        next
+    } else {
+        Tag::new(0, false, own.is_last(), own.back())
     }
-    let tag = region.tag(end);
-    if tag.free { tag } else { none }
 }
 
 /// Takes the free block of this size at a place out of the list of its class. Where the size is 0 there is none.
@@ -75,7 +74,7 @@ fn recut<const SLI: u32>(
     ensures listed { AreFreeLists SLI region.new.blocks (list_in region.new.lists) }
     ensures edits { Edits region.old region.new 20 }
 {
-    forget(region, at + own.size, next.size);
+    forget(region, at + own.size(), next.size());
     let rest = region.recut(at, own, next, words, tick);
     if rest > 0 {
         region.push(class_of(rest), at + words);
@@ -109,13 +108,14 @@ pub fn refit<const SLI: u32>(
     ensures listed { AreFreeLists SLI region.new.blocks (list_in region.new.lists) }
     ensures edits { Edits region.old region.new (20 + words_for len) }
 {
-    if words > own.size {
+    let held = own.size();
+    if words > held {
         recut(region, at, own, next, words, tick);
         region.set_payload(at, len);
         return;
     }
     region.set_payload(at, len);
-    if own.size >= words + 4 {
+    if held >= words + 4 {
         recut(region, at, own, next, words, tick);
     }
 }

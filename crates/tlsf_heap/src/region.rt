@@ -8,6 +8,7 @@ ghost use Rattle.tlsf_words.specs.Lists.{listed_classes, IsUnlisted};
 ghost use Rattle.tlsf_heap.specs.Blocks.{size_of, is_free, bytes_of, words_for, StandsAt, IsPlace};
 ghost use Rattle.tlsf_heap.specs.GoodFit.{block_at};
 ghost use Rattle.tlsf_heap.specs.Calls;
+ghost use Rattle.tlsf_heap.specs.Calls.{first_free, last_free};
 ghost use Rattle.tlsf_heap.specs.Image.{mark_of};
 ghost use Rattle.tlsf_heap.specs.InPlace.{payload_at};
 ghost use Rattle.tlsf_heap.specs.Lawful.{HasRoom};
@@ -16,9 +17,8 @@ ghost use Rattle.tlsf_heap.specs.Placed.{placed_at};
 ghost use Rattle.tlsf_heap.specs.Regions.{list_in, AreUnlisted, EachAt, HasAt, IsTagOf, IsTagBehind, AreNeighbours, rest_of, image_of, OnlyReads, Rewrites, PutInFront, TakenOut, IsOpened};
 
 use crate::headers::{
-    first_header, live_header, merge_headers, recut_header, split_header, widen_header,
+    first_header, free_header, live_header, merge_headers, recut_header, split_header, widen_header,
 };
-use crate::neighbours::Neighbours;
 use crate::payload::set_payload;
 use crate::placed_block::{Content, PlacedBlock};
 use std::alloc::Global;
@@ -99,7 +99,7 @@ impl<const SLI: u32> Region<SLI> {
             return None;
         }
         let tag = self.tag(at);
-        if tag.free || self.mark(at) != serial {
+        if tag.is_free() || self.mark(at) != serial {
             return None;
         }
         Some(tag)
@@ -130,8 +130,9 @@ impl<const SLI: u32> Region<SLI> {
             return None;
         }
         let tag = self.tag(at);
+        let size = tag.size();
         let mark = self.mark(at);
-        let content = if tag.free {
+        let content = if tag.is_free() {
             Content::Free { stamp: mark }
         } else {
             Content::Live {
@@ -139,11 +140,7 @@ impl<const SLI: u32> Region<SLI> {
                 length: self.length(at),
             }
         };
-        Some(PlacedBlock {
-            at,
-            size: tag.size,
-            content,
-        })
+        Some(PlacedBlock { at, size, content })
     }
 
     /// The tag of the block at a place.
@@ -243,48 +240,57 @@ impl<const SLI: u32> Region<SLI> {
         ensures rest { result ≡ rest_of (own.size + next.size) size }
         ensures change { EachAt self.old.blocks at (λ s. Rewrites self.old self.new (s.before ++ Calls.recut stamp size s.block s.after) 7) }
     {
-        let whole = Tag {
-            size: own.size + next.size,
-            last: next.last,
-            ..own
-        };
-        if whole.size < size + 4 {
-            widen_header(&mut self.words, at, whole, next.size);
+        let after = next.size();
+        let both = own.size() + after;
+        let whole = Tag::new(both, true, next.is_last(), own.back());
+        if both < size + 4 {
+            widen_header(&mut self.words, at, whole, after);
             return 0;
         }
-        let left = whole.size - size;
-        recut_header(&mut self.words, at, whole, next.size, size, stamp);
-        left
+        recut_header(&mut self.words, at, whole, after, size, stamp);
+        both - size
     }
 
-    /// Makes the block at a place, which is in no list, a live one of `size` words with `len` bytes of payload, all zero, and a free
-    /// rest; all of it where the rest would have fewer than four words. Answers the size of the rest, or 0.
+    /// Makes the free block at a place, which is in no list, a live one of `size` words with `len` bytes of payload, all zero, and a
+    /// free rest; all of it where the rest would have fewer than four words. Answers the size of the rest, or 0.
     pub fn carve(&mut self, at: u32, size: u32, serial: u64, len: u32) -> u32
         requires least { 4 ≤ size }
         requires payload { words_for len ≤ size }
-        requires room { HasAt self.old.blocks at (λ s. size ≤ size_of s.block) }
+        requires room { HasAt self.old.blocks at (λ s. (is_free s.block ≡ true) × (size ≤ size_of s.block)) }
         requires unlisted { EachAt self.old.blocks at (λ s. AreUnlisted (list_in self.old.lists) at (at + size_of s.block)) }
         ensures rest { EachAt self.old.blocks at (λ s. result ≡ rest_of (size_of s.block) size) }
         ensures change { EachAt self.old.blocks at (λ s. Rewrites self.old self.new
             (s.before ++ Calls.carved (size_of s.block) size serial len ++ s.after) (9 + (size_of s.block - result - 3))) }
     {
         let tag = self.words.tag(at);
-        if tag.size < size + 4 {
+        let all = tag.size();
+        if all < size + 4 {
             live_header(&mut self.words, at, tag, serial, len);
             return 0;
         }
-        let rest = tag.size - size;
         split_header(&mut self.words, at, tag, size, serial, len);
-        rest
+        all - size
     }
 
-    /// Makes the block at a place and its free neighbours, none of which is in a list, one free block.
-    pub fn merge(&mut self, at: u32, around: Neighbours, stamp: u64)
-        requires around { HasAt self.old.blocks at (λ s. AreNeighbours self.old.words s around) }
-        requires unlisted { AreUnlisted (list_in self.old.lists) (at - around.before) (at - around.before + around.tag.size) }
+    /// Makes the live block at a place, of this tag, neither of whose neighbours is free, a free one.
+    pub fn free(&mut self, at: u32, own: Tag, stamp: u64)
+        requires own { HasAt self.old.blocks at (λ s. IsTagOf self.old.words s own) }
+        requires alone { EachAt self.old.blocks at (λ s. (last_free s.before ≡ 0) × (first_free s.after ≡ 0)) }
+        requires unlisted { EachAt self.old.blocks at (λ s. AreUnlisted (list_in self.old.lists) at (at + size_of s.block)) }
+        ensures { EachAt self.old.blocks at (λ s. Rewrites self.old self.new (Calls.coalesced stamp s) 2) }
+    {
+        free_header(&mut self.words, at, own.as_free(), stamp);
+    }
+
+    /// Makes the block at a place, the free one of `before` words before it and the one of `after` words behind it, none of which is in
+    /// a list, one free block of this tag. Where there is none, that is 0.
+    #[inline(always)]
+    pub fn merge(&mut self, at: u32, before: u32, after: u32, tag: Tag, stamp: u64)
+        requires around { HasAt self.old.blocks at (λ s. AreNeighbours self.old.words s before after tag) }
+        requires unlisted { AreUnlisted (list_in self.old.lists) (at - before) (at - before + tag.size) }
         ensures { EachAt self.old.blocks at (λ s. Rewrites self.old self.new (Calls.coalesced stamp s) 6) }
     {
-        merge_headers(&mut self.words, at, around, stamp);
+        merge_headers(&mut self.words, at, before, after, tag, stamp);
     }
 
     /// Puts a free block that is in no list in front of the list of a class.

@@ -70,12 +70,13 @@ impl Tally {
         ensures reads { OnlyReads region.old region.new 3 }
     {
         let tag = region.tag(at);
-        if tag.free {
-            self.add_free(tag.size, region.mark(at));
+        let size = tag.size();
+        if tag.is_free() {
+            self.add_free(size, region.mark(at));
         } else {
-            self.add_live(tag.size, region.length(at));
+            self.add_live(size, region.length(at));
         }
-        at + tag.size
+        at + size
     }
 
     /// Adds a live block.

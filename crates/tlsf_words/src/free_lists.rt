@@ -1,4 +1,4 @@
-ghost use Rattle.std.specs.Prelude.{◌≡◌, ◌≢◌, ℕ, ◌+◌, ◌<◌, ◌≤◌, [], ◌∷◌, List, length, Contains, slice_get, slice_index, slice_index_or, slice_set};
+ghost use Rattle.std.specs.Prelude.{◌≡◌, ◌≢◌, ℕ, ◌+◌, ◌^◌, ◌<◌, ◌≤◌, true, false, [], ◌∷◌, List, length, Contains, slice_get, slice_index, slice_index_or, slice_set};
 ghost use Rattle.tlsf_class.specs.Classes.{IsLevel};
 ghost use Rattle.tlsf_class.specs.Members.{next_member, without_member};
 ghost use Rattle.tlsf_words.specs.Fields.{links_word, low_half, high_half};
@@ -85,10 +85,10 @@ impl<const SLI: u32> FreeLists<SLI> {
             },
         );
         self.heads.set_place(class, at);
-        if next == NO_PLACE {
-            self.bitmaps.set(class);
-        } else {
+        if is_place(next) {
             set_previous(words, next, at);
+        } else {
+            self.bitmaps.set(class);
         }
     }
 
@@ -112,10 +112,11 @@ impl<const SLI: u32> FreeLists<SLI> {
         ensures words_rise { words.old.touches ≤ words.new.touches }
     {
         let links = words.links(at);
-        if links.previous == NO_PLACE {
-            self.begin_at(class, links.next);
+        if is_place(links.previous) {
+            tie(words, links);
+        } else {
+            self.begin_at(words, class, links.next);
         }
-        tie(words, links);
     }
 
     /// Takes out the place at the head of the list of a class, the one that was put in last, and answers it, in seven touches at
@@ -142,14 +143,7 @@ impl<const SLI: u32> FreeLists<SLI> {
     {
         let head = self.heads.place(class);
         let next = words.links(head).next;
-        tie(
-            words,
-            Links {
-                next,
-                previous: NO_PLACE,
-            },
-        );
-        self.begin_at(class, next);
+        self.begin_at(words, class, next);
         head
     }
 
@@ -184,40 +178,55 @@ impl<const SLI: u32> FreeLists<SLI> {
         self.bitmaps.next_from(class)
     }
 
-    /// Makes the list of a class begin at a place. The class is no member where that is `NO_PLACE`. It stands apart from
-    /// `remove`, and so does `tie`, since the proof of each has few cases then.
-    fn begin_at(&mut self, class: Class<SLI>, first: u32)
-        ensures head { slice_index_or self.new.heads class.entry nowhere ≡ first }
+    /// Makes the list of a class begin at the place behind its head, with none before it. The class is no member where that is
+    /// `NO_PLACE`. A head goes so, and `tie` takes out what has a place before it: the proof of each has few cases.
+    fn begin_at(&mut self, words: &mut Words, class: Class<SLI>, next: u32)
+        requires { next ≢ nowhere → next + 2 < length words.old.words }
+        ensures head { slice_index_or self.new.heads class.entry nowhere ≡ next }
         ensures heads { (other : ℕ) → other ≢ class.entry → slice_index_or self.new.heads other nowhere ≡ slice_index_or self.old.heads other nowhere }
-        ensures emptied { first ≡ nowhere → self.new.members ≡ without_member self.old.members class.entry }
-        ensures members { first ≢ nowhere → self.new.members ≡ self.old.members }
-        ensures touches { self.new.touches ≤ self.old.touches + 5 }
-        ensures kept { first ≢ nowhere → self.new.touches ≡ self.old.touches + 1 }
+        ensures emptied { next ≡ nowhere → self.new.members ≡ without_member self.old.members class.entry }
+        ensures members { next ≢ nowhere → self.new.members ≡ self.old.members }
+        ensures tied { AreTied words.old.words words.new.words next nowhere }
+        ensures length { length words.new.words ≡ length words.old.words }
+        ensures starts { words.new.starts ≡ words.old.starts }
+        ensures touches { self.new.touches + words.new.touches ≤ self.old.touches + words.old.touches + 5 }
         ensures rise { self.old.touches ≤ self.new.touches }
+        ensures words_rise { words.old.touches ≤ words.new.touches }
     {
-        self.heads.set_place(class, first);
-        if first == NO_PLACE {
+        if next == NO_PLACE {
+            self.heads.set_place(class, NO_PLACE);
             self.bitmaps.clear(class);
+        } else {
+            set_previous(words, next, NO_PLACE);
+            self.heads.set_place(class, next);
         }
     }
 }
 
-/// Ties two places, each of which may be `NO_PLACE`, to each other.
+/// Whether this is a place, and not `NO_PLACE`. A place is below 2^24, so the highest bit tells, which takes no constant to compare
+/// with.
+#[inline]
+fn is_place(at: u32) -> bool
+    requires { at ≢ nowhere → at < 2 ^ 24 }
+    ensures yes { result ≡ true → at ≢ nowhere }
+    ensures no { result ≡ false → at ≡ nowhere }
+{
+    at < 1 << 31
+}
+
+/// Ties a place and the one that comes next, which may be `NO_PLACE`, to each other.
 fn tie(words: &mut Words, links: Links)
     requires next { links.next ≢ nowhere → links.next + 2 < length words.old.words }
-    requires previous { links.previous ≢ nowhere → links.previous + 2 < length words.old.words }
+    requires some { links.previous ≢ nowhere }
+    requires previous { links.previous + 2 < length words.old.words }
     requires apart { links.next ≢ nowhere → links.next ≢ links.previous }
     ensures tied { AreTied words.old.words words.new.words links.next links.previous }
     ensures length { length words.new.words ≡ length words.old.words }
     ensures starts { words.new.starts ≡ words.old.starts }
     ensures touches { words.new.touches ≤ words.old.touches + 4 }
-    ensures one { links.previous ≡ nowhere → words.new.touches ≤ words.old.touches + 2 }
-    ensures none { links.previous ≡ nowhere → links.next ≡ nowhere → words.new.touches ≡ words.old.touches }
     ensures rise { words.old.touches ≤ words.new.touches }
 {
-    if links.previous != NO_PLACE {
-        set_next(words, links.previous, links.next);
-    }
+    set_next(words, links.previous, links.next);
     if links.next != NO_PLACE {
         set_previous(words, links.next, links.previous);
     }

@@ -1,5 +1,5 @@
 ghost use Rattle.std.specs.Fn.{FnOnceReturnsAt, FnOnceReturnsAtMut, FnOnceTakesAt, FnOnceTakesAtMut};
-ghost use Rattle.std.specs.Prelude.{◌≡◌, ℕ, ◌+◌, ◌*◌, ◌/◌, ◌<◌, ◌≤◌, ◌≢◌, ◌^◌, ◌++◌, false, length, take, drop, replicate, slice_index, slice_index_or, slice_set, IfOk};
+ghost use Rattle.std.specs.Prelude.{◌≡◌, ℕ, ◌+◌, ◌-◌, ◌*◌, ◌/◌, ◌<◌, ◌≤◌, ◌≢◌, ◌^◌, ◌++◌, false, length, take, drop, replicate, slice_index, slice_index_or, slice_set, IfOk};
 ghost use Rattle.tlsf_words.specs.Bytes.{byte_in, bytes_in, payload_byte};
 ghost use Rattle.tlsf_words.specs.Fields.{tag_word, size_in, last_in, free_in, back_in, length_word, links_word, low_half, high_half};
 
@@ -7,7 +7,8 @@ use crate::cells::Cells;
 use crate::halves::low_half;
 use crate::links::Links;
 use crate::no_memory::NoMemory;
-use crate::piece::Piece;
+use crate::run::Run;
+use crate::splice::{drop_bytes, first_word, join_bytes};
 use crate::start_map::StartMap;
 use crate::tag::Tag;
 use std::alloc::Global;
@@ -20,7 +21,7 @@ use std::marker::Model;
 ///
 /// ```
 /// let mut words = Words::open(alloc, 64)?;
-/// words.set_tag(0, Tag { size: 64, free: true, last: true, back: NO_PLACE });
+/// words.set_tag(0, Tag::new(64, true, true, NO_PLACE));
 /// words.set_start(0, true);     // one free block of 64 words
 /// ```
 #[derive(Drop)]
@@ -93,7 +94,7 @@ impl Words {
     /// The tag of the header at a place, its first word.
     ///
     /// ```
-    /// let size = words.tag(at).size;     // in words, with the header
+    /// let size = words.tag(at).size();     // in words, with the header
     /// ```
     #[inline]
     pub fn tag(&mut self, at: u32) -> Tag
@@ -110,16 +111,15 @@ impl Words {
         Tag::of_word(self.read(at as usize))
     }
 
-    /// Writes the tag of the header at a place. The size is below 2^30 words.
+    /// Writes the tag of the header at a place.
     ///
     /// ```
     /// let tag = words.tag(at);
-    /// words.set_tag(at, Tag { free: true, ..tag });
+    /// words.set_tag(at, tag.as_free());
     /// ```
     #[inline]
     pub fn set_tag(&mut self, at: u32, tag: Tag)
-        requires inside { at < length self.old.words }
-        requires size { tag.size < 2 ^ 30 }
+        requires { at < length self.old.words }
         ensures words { self.new.words ≡ slice_set self.old.words at (tag_word tag.size tag.last tag.free tag.back) }
         ensures starts { self.new.starts ≡ self.old.starts }
         ensures touches { self.new.touches ≡ self.old.touches + 1 }
@@ -320,7 +320,7 @@ impl Words {
     }
 
     /// Writes bytes into the payload behind the header at a place, from a byte offset of it on. Each word that has one of them
-    /// is read and written once, and its other bytes stay.
+    /// is written once. The first and the last, where they have other bytes too, are read before, and those bytes stay.
     ///
     /// ```
     /// words.copy_in(at, 6, b"abcd");     // bytes 6 to 9 of the payload: the last two of one word, the first two of the next
@@ -338,17 +338,15 @@ impl Words {
         ensures rise { self.old.touches ≤ self.new.touches }
     {
         let start = 8 * (at as usize + 3) + offset as usize;
-        let skip = start % 8;
-        for i in 0..(skip + bytes.len()).div_ceil(8) {
-            let piece = Piece::of(skip, bytes.len(), i);
-            self.write_piece(
-                start / 8 + i,
-                piece.first,
-                &bytes[piece.from..piece.from + piece.len],
-            );
+        if bytes.len() < 8 {
+            self.write_few(start, bytes);
+            return;
         }
+        let run = Run::of(start, bytes.len());
+        self.write_head(start / 8, start % 8, bytes);
+        self.write_whole(run.first, run.whole, &bytes[run.head..run.tail]);
+        self.write_tail(run.first + run.whole, bytes.len() - run.tail, bytes);
     }
-
     /// Makes bytes of the payload behind the header at a place zero: that at an offset, and those behind it in the same word.
     ///
     /// ```
@@ -384,15 +382,14 @@ impl Words {
         ensures rise { self.old.touches ≤ self.new.touches }
     {
         let start = 8 * (at as usize + 3) + offset as usize;
-        let skip = start % 8;
-        for i in 0..(skip + out.len()).div_ceil(8) {
-            let piece = Piece::of(skip, out.len(), i);
-            self.read_piece(
-                start / 8 + i,
-                piece.first,
-                &mut out[piece.from..piece.from + piece.len],
-            );
+        if out.len() < 8 {
+            self.read_few(start, out);
+            return;
         }
+        let run = Run::of(start, out.len());
+        self.read_head(start / 8, start % 8, out);
+        self.read_whole(run.first, run.whole, &mut out[run.head..run.tail]);
+        self.read_tail(run.first + run.whole, out.len() - run.tail, out);
     }
 
     /// Copies the first `len` payload bytes behind the header at a place, `from`, to those behind another, `to`. Each word that has
@@ -446,7 +443,7 @@ impl Words {
     }
 
     /// Writes bytes into one word, from byte `first` of it on. Its other bytes stay. It says of each byte of the region what
-    /// becomes of it, for the invariant of the loop in `copy_in`.
+    /// becomes of it.
     #[inline]
     fn write_piece(&mut self, place: usize, first: usize, bytes: &[u8])
         requires inside { place < length self.old.words }
@@ -476,6 +473,195 @@ impl Words {
     {
         let word = self.read(place).to_le_bytes();
         out.copy_from_slice(&word[first..first + out.len()]);
+    }
+
+    /// Writes bytes into one word, as `write_piece`, or none at all: then there need not be such a word.
+    #[inline]
+    fn write_edge(&mut self, place: usize, first: usize, bytes: &[u8])
+        requires inside { 0 < length bytes.now → place < length self.old.words }
+        requires within { first + length bytes.now ≤ 8 }
+        ensures bytes { (k : ℕ) → k < length bytes.now → byte_in self.new.words (8 * place + first + k) ≡ slice_index bytes.now k }
+        ensures before { (k : ℕ) → k < 8 * place + first → byte_in self.new.words k ≡ byte_in self.old.words k }
+        ensures behind { (k : ℕ) → 8 * place + first + length bytes.now ≤ k → byte_in self.new.words k ≡ byte_in self.old.words k }
+        ensures words_before { (k : ℕ) → k < place → slice_index self.new.words k ≡ slice_index self.old.words k }
+        ensures words_behind { (k : ℕ) → 8 * place + first + length bytes.now ≤ 8 * k → slice_index self.new.words k ≡ slice_index self.old.words k }
+        ensures length { length self.new.words ≡ length self.old.words }
+        ensures starts { self.new.starts ≡ self.old.starts }
+        ensures touches { self.new.touches ≤ self.old.touches + 2 }
+        ensures rise { self.old.touches ≤ self.new.touches }
+    {
+        if !bytes.is_empty() {
+            self.write_piece(place, first, bytes);
+        }
+    }
+
+    /// Reads bytes of one word, as `read_piece`, or none at all: then there need not be such a word.
+    #[inline]
+    fn read_edge(&mut self, place: usize, first: usize, out: &mut [u8])
+        requires inside { 0 < length out.old → place < length self.old.words }
+        requires within { first + length out.old ≤ 8 }
+        ensures bytes { (k : ℕ) → k < length out.old → slice_index out.new k ≡ byte_in self.old.words (8 * place + first + k) }
+        ensures words { self.new.words ≡ self.old.words }
+        ensures starts { self.new.starts ≡ self.old.starts }
+        ensures touches { self.new.touches ≤ self.old.touches + 1 }
+        ensures rise { self.old.touches ≤ self.new.touches }
+    {
+        if !out.is_empty() {
+            self.read_piece(place, first, out);
+        }
+    }
+
+    /// Writes fewer than eight bytes, from a byte of the words on: they stand in one word or two.
+    #[inline(never)]
+    fn write_few(&mut self, start: usize, bytes: &[u8])
+        requires few { length bytes.now < 8 }
+        requires inside { start + length bytes.now ≤ 8 * length self.old.words }
+        ensures bytes { bytes_in self.new.words start (length bytes.now) ≡ bytes.now }
+        ensures before { (k : ℕ) → k < start → byte_in self.new.words k ≡ byte_in self.old.words k }
+        ensures behind { (k : ℕ) → start + length bytes.now ≤ k → byte_in self.new.words k ≡ byte_in self.old.words k }
+        ensures words_before { (k : ℕ) → 8 * k + 8 ≤ start → slice_index self.new.words k ≡ slice_index self.old.words k }
+        ensures words_behind { (k : ℕ) → start + length bytes.now ≤ 8 * k → slice_index self.new.words k ≡ slice_index self.old.words k }
+        ensures length { length self.new.words ≡ length self.old.words }
+        ensures starts { self.new.starts ≡ self.old.starts }
+        ensures touches { self.new.touches ≤ self.old.touches + 4 }
+        ensures rise { self.old.touches ≤ self.new.touches }
+    {
+        let first = bytes.len().min(8 - start % 8);
+        self.write_edge(start / 8, start % 8, &bytes[..first]);
+        self.write_edge(start / 8 + 1, 0, &bytes[first..]);
+    }
+
+    /// Reads fewer than eight bytes, from a byte of the words on: they stand in one word or two.
+    #[inline(never)]
+    fn read_few(&mut self, start: usize, out: &mut [u8])
+        requires few { length out.old < 8 }
+        requires inside { start + length out.old ≤ 8 * length self.old.words }
+        ensures bytes { out.new ≡ bytes_in self.old.words start (length out.old) }
+        ensures words { self.new.words ≡ self.old.words }
+        ensures starts { self.new.starts ≡ self.old.starts }
+        ensures touches { self.new.touches ≤ self.old.touches + 2 }
+        ensures rise { self.old.touches ≤ self.new.touches }
+    {
+        let first = out.len().min(8 - start % 8);
+        self.read_edge(start / 8, start % 8, &mut out[..first]);
+        self.read_edge(start / 8 + 1, 0, &mut out[first..]);
+    }
+
+    /// Writes the first of eight bytes or more into one word, from byte `first` of it on, where it isn't to be written whole.
+    #[inline]
+    fn write_head(&mut self, place: usize, first: usize, bytes: &[u8])
+        requires inside { 0 < first → place < length self.old.words }
+        requires within { first < 8 }
+        requires enough { 8 ≤ length bytes.now }
+        ensures bytes { (k : ℕ) → 0 < first → first + k < 8 → byte_in self.new.words (8 * place + first + k) ≡ slice_index bytes.now k }
+        ensures before { (k : ℕ) → k < 8 * place + first → byte_in self.new.words k ≡ byte_in self.old.words k }
+        ensures behind { (k : ℕ) → 8 * place + 8 ≤ k → byte_in self.new.words k ≡ byte_in self.old.words k }
+        ensures words { (k : ℕ) → k ≢ place → slice_index self.new.words k ≡ slice_index self.old.words k }
+        ensures length { length self.new.words ≡ length self.old.words }
+        ensures starts { self.new.starts ≡ self.old.starts }
+        ensures touches { self.new.touches ≤ self.old.touches + 2 }
+        ensures rise { self.old.touches ≤ self.new.touches }
+    {
+        if first == 0 {
+            return;
+        }
+        let word = self.read(place);
+        self.write(place, join_bytes(word, first_word(bytes), first));
+    }
+
+    /// Writes the last `n` of eight bytes or more into one word, from its first byte on, where it isn't to be written whole.
+    #[inline]
+    fn write_tail(&mut self, place: usize, n: usize, bytes: &[u8])
+        requires inside { 0 < n → place < length self.old.words }
+        requires within { n < 8 }
+        requires enough { 8 ≤ length bytes.now }
+        ensures bytes { (k : ℕ) → k < n → byte_in self.new.words (8 * place + k) ≡ slice_index bytes.now (length bytes.now - n + k) }
+        ensures before { (k : ℕ) → k < 8 * place → byte_in self.new.words k ≡ byte_in self.old.words k }
+        ensures behind { (k : ℕ) → 8 * place + n ≤ k → byte_in self.new.words k ≡ byte_in self.old.words k }
+        ensures words_before { (k : ℕ) → k < place → slice_index self.new.words k ≡ slice_index self.old.words k }
+        ensures words_behind { (k : ℕ) → 8 * place + n ≤ 8 * k → slice_index self.new.words k ≡ slice_index self.old.words k }
+        ensures length { length self.new.words ≡ length self.old.words }
+        ensures starts { self.new.starts ≡ self.old.starts }
+        ensures touches { self.new.touches ≤ self.old.touches + 2 }
+        ensures rise { self.old.touches ≤ self.new.touches }
+    {
+        if n == 0 {
+            return;
+        }
+        let last = drop_bytes(first_word(&bytes[bytes.len() - 8..]), 8 - n);
+        let rest = drop_bytes(self.read(place), n);
+        self.write(place, join_bytes(last, rest, n));
+    }
+
+    /// Reads bytes of one word, from byte `first` of it on, into the first of eight bytes or more, where it isn't to be read whole.
+    #[inline]
+    fn read_head(&mut self, place: usize, first: usize, out: &mut [u8])
+        requires inside { 0 < first → place < length self.old.words }
+        requires within { first < 8 }
+        requires enough { 8 ≤ length out.old }
+        ensures bytes { (k : ℕ) → 0 < first → first + k < 8 → slice_index out.new k ≡ byte_in self.old.words (8 * place + first + k) }
+        ensures words { self.new.words ≡ self.old.words }
+        ensures starts { self.new.starts ≡ self.old.starts }
+        ensures touches { self.new.touches ≤ self.old.touches + 1 }
+        ensures rise { self.old.touches ≤ self.new.touches }
+    {
+        if first == 0 {
+            return;
+        }
+        let word = drop_bytes(self.read(place), first);
+        out[..8].copy_from_slice(&word.to_le_bytes());
+    }
+
+    /// Reads the first `n` bytes of one word into the last of eight bytes or more, where it isn't to be read whole.
+    #[inline]
+    fn read_tail(&mut self, place: usize, n: usize, out: &mut [u8])
+        requires inside { 0 < n → place < length self.old.words }
+        requires within { n < 8 }
+        requires enough { 8 ≤ length out.old }
+        ensures bytes { (k : ℕ) → k < n → slice_index out.new (length out.old - n + k) ≡ byte_in self.old.words (8 * place + k) }
+        ensures before { (k : ℕ) → k < length out.old - n → slice_index out.new k ≡ slice_index out.old k }
+        ensures words { self.new.words ≡ self.old.words }
+        ensures starts { self.new.starts ≡ self.old.starts }
+        ensures touches { self.new.touches ≤ self.old.touches + 1 }
+        ensures rise { self.old.touches ≤ self.new.touches }
+    {
+        if n == 0 {
+            return;
+        }
+        let from = out.len() - 8;
+        let word = self.read(place);
+        let last = join_bytes(first_word(&out[from..]), word, 8 - n);
+        out[from..].copy_from_slice(&last.to_le_bytes());
+    }
+
+    /// Writes `n` whole words, from a place on. It says of each byte of the region what becomes of it.
+    #[inline]
+    fn write_whole(&mut self, place: usize, n: usize, bytes: &[u8])
+        requires inside { place + n ≤ length self.old.words }
+        requires whole { length bytes.now ≡ 8 * n }
+        ensures bytes { (k : ℕ) → k < 8 * n → byte_in self.new.words (8 * place + k) ≡ slice_index bytes.now k }
+        ensures before { (k : ℕ) → k < 8 * place → byte_in self.new.words k ≡ byte_in self.old.words k }
+        ensures behind { (k : ℕ) → 8 * (place + n) ≤ k → byte_in self.new.words k ≡ byte_in self.old.words k }
+        ensures words_before { (k : ℕ) → k < place → slice_index self.new.words k ≡ slice_index self.old.words k }
+        ensures words_behind { (k : ℕ) → place + n ≤ k → slice_index self.new.words k ≡ slice_index self.old.words k }
+        ensures length { length self.new.words ≡ length self.old.words }
+        ensures starts { self.new.starts ≡ self.old.starts }
+        ensures touches { self.new.touches ≡ self.old.touches + n }
+    {
+        self.words.write_bytes(place, n, bytes);
+    }
+
+    /// Reads `n` whole words, from a place on.
+    #[inline]
+    fn read_whole(&mut self, place: usize, n: usize, out: &mut [u8])
+        requires inside { place + n ≤ length self.old.words }
+        requires whole { length out.old ≡ 8 * n }
+        ensures bytes { (k : ℕ) → k < 8 * n → slice_index out.new k ≡ byte_in self.old.words (8 * place + k) }
+        ensures words { self.new.words ≡ self.old.words }
+        ensures starts { self.new.starts ≡ self.old.starts }
+        ensures touches { self.new.touches ≡ self.old.touches + n }
+    {
+        self.words.read_bytes(place, n, out);
     }
 
     /// Reads a word. The calls above read through here, since `small` comes from the model's invariant, once.

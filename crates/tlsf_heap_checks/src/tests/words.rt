@@ -31,31 +31,32 @@ fn image(words: &mut Words) -> [u64; 16] {
     image
 }
 
-const LIVE: Tag = Tag {
-    size: 4,
-    free: false,
-    last: false,
-    back: u32::MAX,
-};
+/// The tag of a live block.
+fn live() -> Tag {
+    Tag::new(4, false, false, u32::MAX)
+}
 
-const FREE: Tag = Tag {
-    size: 12,
-    free: true,
-    last: true,
-    back: 5,
-};
+/// The tag of a free block.
+fn free() -> Tag {
+    Tag::new(12, true, true, 5)
+}
 
 const LINKS: Links = Links {
     next: 9,
     previous: u32::MAX,
 };
 
+/// What the header of a free block says.
+fn free_fields() -> (Tag, u64, Links) {
+    (free(), u64::MAX, LINKS)
+}
+
 /// Writes the header of a free block, and reads it.
 fn free_header(words: &mut Words, at: u32) -> (Tag, u64, Links)
     requires { at + 2 < length words.old.words }
     ensures { length words.new.words ≡ length words.old.words }
 {
-    words.set_tag(at, FREE);
+    words.set_tag(at, free());
     words.set_mark(at, u64::MAX);
     words.set_links(at, LINKS);
     (words.tag(at), words.mark(at), words.links(at))
@@ -66,7 +67,7 @@ fn live_header(words: &mut Words, at: u32) -> (Tag, u64, u32)
     requires { at + 2 < length words.old.words }
     ensures { length words.new.words ≡ length words.old.words }
 {
-    words.set_tag(at, LIVE);
+    words.set_tag(at, live());
     words.set_mark(at, 3);
     words.set_length(at, 7);
     (words.tag(at), words.mark(at), words.length(at))
@@ -80,8 +81,7 @@ fn words_of_headers(rt: HostRuntime) -> Result<(), Fail> {
         free_header(&mut words, 4),
         live_header(&mut words, 8),
     );
-    let free = (FREE, u64::MAX, LINKS);
-    same(found, (free, free, (LIVE, 3, 7))).expect(&rt, "differ");
+    same(found, (free_fields(), free_fields(), (live(), 3, 7))).expect(&rt, "differ");
     words.zero(2, 2);
     let mut wanted = [0; 16];
     wanted[1] = 0x0000_0005_0000_0033;
@@ -106,30 +106,37 @@ fn words_of(bytes: &[u8; 128]) -> [u64; 16] {
 
 /// Writes bytes into the payload behind the header at 2 and reads them, and compares the region with plain bytes.
 fn check_copies(rt: &impl Abort, words: &mut Words, offset: u32, len: usize)
-    requires offset { offset ≤ 16 }
-    requires len { len ≤ 17 }
+    requires offset { offset ≤ 48 }
+    requires len { len ≤ 40 }
 {
-    let bytes: [u8; 17] = [1, 2, 3, 4, 5, 6, 7, 8, 9, 10, 11, 12, 13, 14, 15, 16, 17];
+    let mut bytes = [0; 40];
+    for i in 0..40 {
+        bytes[i] = i as u8 + 1;
+    }
     let start = 40 + offset as usize;
     let mut plain = [0xa5; 128];
     plain[..8].fill(0);
     plain[start..start + len].copy_from_slice(&bytes[..len]);
-    let mut copy = [0; 17];
+    let mut copy = [0; 40];
     copy[..len].copy_from_slice(&bytes[..len]);
     fill(rt, words);
     words.copy_in(2, offset, &bytes[..len]);
-    let mut out = [0; 17];
+    let mut out = [0; 40];
     words.copy_out(2, offset, &mut out[..len]);
     same((image(words), out), (words_of(&plain), copy)).expect(rt, "differ");
 }
 
+// The last bytes of all, 40 from the offset 48 on, end with the region.
 #[test]
 fn bytes_and_their_neighbours(rt: HostRuntime) -> Result<(), Fail> {
     let mut words = Words::open(rt.alloc(), 16)?;
     for offset in 0..=16 {
-        for len in 0..=17 {
+        for len in 0..=40 {
             check_copies(&rt, &mut words, offset, len);
         }
+    }
+    for len in 0..=40 {
+        check_copies(&rt, &mut words, 48, len);
     }
     Ok(())
 }

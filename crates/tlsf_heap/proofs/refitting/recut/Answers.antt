@@ -15,7 +15,7 @@ overflow_add-at g c =
     let live = c.requires.live in
     let is = c.requires.own live.0 live.1 in
     let f = is_between g.row.SLI (live.0, live.1, live.2.0) c.requires.sized c.requires.stamped c.requires.listed refl in
-    omega (arith, is.size, end_within g.row.SLI f, c.requires.small, most_words_any g.row.SLI)
+    omega (arith, c.size.ensures.value, is.size, end_within g.row.SLI f, c.requires.small, most_words_any g.row.SLI)
 
 pub forget-requires : goal.forget-requires
 forget-requires g c =
@@ -27,8 +27,8 @@ forget-requires g c =
       (
         c.requires.level,
         (
-          λ some. rw next.size (next_region g.row.SLI f (omega (arith, some, next.size))),
-          λ some. rw (is.size, next.size) (contains_next g.row.SLI f (omega (arith, some, next.size))),
+          λ some. rw (c.size-2.ensures.value, next.size) (next_region g.row.SLI f (omega (arith, some, c.size-2.ensures.value, next.size))),
+          λ some. rw (c.size.ensures.value, is.size, c.size-2.ensures.value, next.size) (contains_next g.row.SLI f (omega (arith, some, c.size-2.ensures.value, next.size))),
         ),
       ),
     )
@@ -40,7 +40,7 @@ recut-rest-requires g c =
     let next = c.requires.next live.0 live.1 in
     let f = is_between g.row.SLI (live.0, live.1, live.2.0) c.requires.sized c.requires.stamped c.requires.listed refl in
     let e = c.forget.ensures in
-    let out = forgets g.row.SLI next.size (λ some. ap (λ n. c.args.at + n) is.size) e.list e.others e.none in (
+    let out = forgets g.row.SLI (c.size-2.ensures.value ∙ next.size) (λ some. ap (λ n. c.args.at + n) (c.size.ensures.value ∙ is.size)) e.list e.others e.none in (
       omega arith,
       (
         c.requires.least,
@@ -95,7 +95,7 @@ push-requires g c =
     let next = c.requires.next live.0 live.1 in
     let f = is_between g.row.SLI (live.0, live.1, live.2.0) c.requires.sized c.requires.stamped c.requires.listed refl in
     let e = c.forget.ensures in
-    let out = forgets g.row.SLI next.size (λ some. ap (λ n. c.args.at + n) is.size) e.list e.others e.none in
+    let out = forgets g.row.SLI (c.size-2.ensures.value ∙ next.size) (λ some. ap (λ n. c.args.at + n) (c.size.ensures.value ∙ is.size)) e.list e.others e.none in
     let change = (rw e.blocks at c.recut-rest.ensures.change) live.0 live.1 in
     let some = rest_some (c.args.own.size + c.args.next.size) c.args.words (omega (arith, c.if-rest-gt0.true, c.recut-rest.ensures.rest)) in (
       omega arith,
@@ -115,7 +115,7 @@ returns-then-rest-gt0-clause-listed g c =
     let next = c.requires.next live.0 live.1 in
     let f = is_between g.row.SLI (live.0, live.1, live.2.0) c.requires.sized c.requires.stamped c.requires.listed refl in
     let e = c.forget.ensures in
-    let out = forgets g.row.SLI next.size (λ some. ap (λ n. c.args.at + n) is.size) e.list e.others e.none in
+    let out = forgets g.row.SLI (c.size-2.ensures.value ∙ next.size) (λ some. ap (λ n. c.args.at + n) (c.size.ensures.value ∙ is.size)) e.list e.others e.none in
     let change = (rw e.blocks at c.recut-rest.ensures.change) live.0 live.1 in
     let some = rest_some (c.args.own.size + c.args.next.size) c.args.words (omega (arith, c.if-rest-gt0.true, c.recut-rest.ensures.rest)) in
     let rest : c.recut-rest.result ≡ size_of (block_at c.args.region.now.blocks live.0) + first_free (drop (suc live.0) c.args.region.now.blocks) - c.args.words =
@@ -130,7 +130,7 @@ returns-else-rest-gt0-clause-listed g c =
     let next = c.requires.next live.0 live.1 in
     let f = is_between g.row.SLI (live.0, live.1, live.2.0) c.requires.sized c.requires.stamped c.requires.listed refl in
     let e = c.forget.ensures in
-    let out = forgets g.row.SLI next.size (λ some. ap (λ n. c.args.at + n) is.size) e.list e.others e.none in
+    let out = forgets g.row.SLI (c.size-2.ensures.value ∙ next.size) (λ some. ap (λ n. c.args.at + n) (c.size.ensures.value ∙ is.size)) e.list e.others e.none in
     let change = (rw e.blocks at c.recut-rest.ensures.change) live.0 live.1 in
     let none = rest_none (c.args.own.size + c.args.next.size) c.args.words (omega (arith, c.if-rest-gt0.false, c.recut-rest.ensures.rest)) in
     wide_listed g.row.SLI f out c.args.words c.recut-rest.new.self.blocks change.blocks (list_in c.recut-rest.new.self.lists) change.lists (omega (arith, none, is.size, next.size))

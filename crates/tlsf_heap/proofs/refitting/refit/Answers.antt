@@ -33,7 +33,7 @@ recut-requires g c =
         (
           c.requires.least,
           (
-            (live.0, live.1, (live.2, omega (arith, payload_room c.requires.rooms live.1 live.2, (c.requires.own live.0 live.1).size, c.if-words-own.true))),
+            (live.0, live.1, (live.2, omega (arith, payload_room c.requires.rooms live.1 live.2, (c.requires.own live.0 live.1).size, c.size-held.ensures.value, c.if-words-held.true))),
             (
               c.requires.own,
               (
@@ -65,25 +65,25 @@ set_payload-requires g c =
     let is = c.recut.ensures.blocks live.0 live.1 in
     (omega arith, (live.0, recut_stands live.1 live.2 c.args.tick room is, recut_takes live.1 live.2 c.args.tick room is (words_for c.args.len) c.requires.payload))
 
-pub returns-then-words-own-clause-blocks : goal.returns-then-words-own-clause-blocks
-returns-then-words-own-clause-blocks g c i stands =
+pub returns-then-words-held-clause-blocks : goal.returns-then-words-held-clause-blocks
+returns-then-words-held-clause-blocks g c i stands =
     let live = live_here g.row.SLI c.requires.sized c.requires.live stands in
     let room = room_here c.requires.own c.requires.next c.requires.room stands in
     let is = c.recut.ensures.blocks i stands in
     let set = c.set_payload.ensures i (recut_stands stands live c.args.tick room is) in
     recut_rebytes stands live c.args.tick room is c.args.len c.set_payload.new.self.blocks set.blocks
-    ∙ ap (λ (l : List Block). take i c.args.region.now.blocks ++ l) (sym (refitted_grown c.args.tick c.args.words c.args.len (block_at c.args.region.now.blocks i) (drop (suc i) c.args.region.now.blocks) (omega (arith, (c.requires.own i stands).size, c.if-words-own.true))))
+    ∙ ap (λ (l : List Block). take i c.args.region.now.blocks ++ l) (sym (refitted_grown c.args.tick c.args.words c.args.len (block_at c.args.region.now.blocks i) (drop (suc i) c.args.region.now.blocks) (omega (arith, (c.requires.own i stands).size, c.size-held.ensures.value, c.if-words-held.true))))
 
-pub returns-then-words-own-clause-listed : goal.returns-then-words-own-clause-listed
-returns-then-words-own-clause-listed g c =
+pub returns-then-words-held-clause-listed : goal.returns-then-words-held-clause-listed
+returns-then-words-held-clause-listed g c =
     let live = c.requires.live in
     let room = room_here c.requires.own c.requires.next c.requires.room live.1 in
     let stands = recut_stands live.1 live.2 c.args.tick room (c.recut.ensures.blocks live.0 live.1) in
     let set = c.set_payload.ensures live.0 stands in
     rebytes_listed g.row.SLI stands (fitted (bytes_of (block_at c.recut.new.region.blocks live.0)) c.args.len) set.blocks (list_in c.recut.new.region.lists) (list_in c.set_payload.new.self.lists) set.lists c.recut.ensures.listed
 
-pub returns-then-words-own-clause-edits : goal.returns-then-words-own-clause-edits
-returns-then-words-own-clause-edits g c =
+pub returns-then-words-held-clause-edits : goal.returns-then-words-held-clause-edits
+returns-then-words-held-clause-edits g c =
     let live = c.requires.live in
     let room = room_here c.requires.own c.requires.next c.requires.room live.1 in
     let set = (c.set_payload.ensures live.0 (recut_stands live.1 live.2 c.args.tick room (c.recut.ensures.blocks live.0 live.1))).edits in
@@ -92,8 +92,8 @@ returns-then-words-own-clause-edits g c =
 
 -- ---- it is cut
 
-pub recut-requires-then-own-words : goal.recut-requires-then-own-words
-recut-requires-then-own-words g c =
+pub recut-requires-then-held-words : goal.recut-requires-then-held-words
+recut-requires-then-held-words g c =
     let live = c.requires.live in
     let b = block_at c.args.region.now.blocks live.0 in
     let new = fitted (bytes_of b) c.args.len in
@@ -134,17 +134,17 @@ recut-requires-then-own-words g c =
       ),
     )
 
-pub returns-then-own-words-clause-blocks : goal.returns-then-own-words-clause-blocks
-returns-then-own-words-clause-blocks g c i stands =
+pub returns-then-held-words-clause-blocks : goal.returns-then-held-words-clause-blocks
+returns-then-held-words-clause-blocks g c i stands =
     let b = block_at c.args.region.now.blocks i in
     let new = fitted (bytes_of b) c.args.len in
     let set = c.set_payload-2.ensures i stands in
-    c.recut-then-own-words.ensures.blocks i (stands_around (rebytes_around g.row.SLI stands new set.blocks))
+    c.recut-then-held-words.ensures.blocks i (stands_around (rebytes_around g.row.SLI stands new set.blocks))
     ∙ ap (λ (s : Site). s.before ++ recut c.args.tick c.args.words s.block s.after) (rebytes_site g.row.SLI stands new set.blocks)
-    ∙ ap (λ (l : List Block). take i c.args.region.now.blocks ++ l) (sym (refitted_cut c.args.tick c.args.words c.args.len b (drop (suc i) c.args.region.now.blocks) (omega (arith, (c.requires.own i stands).size, c.if-own-words.true))))
+    ∙ ap (λ (l : List Block). take i c.args.region.now.blocks ++ l) (sym (refitted_cut c.args.tick c.args.words c.args.len b (drop (suc i) c.args.region.now.blocks) (omega (arith, (c.requires.own i stands).size, c.size-held.ensures.value, c.if-held-words.true))))
 
-pub returns-else-own-words-clause-listed : goal.returns-else-own-words-clause-listed
-returns-else-own-words-clause-listed g c =
+pub returns-else-held-words-clause-listed : goal.returns-else-held-words-clause-listed
+returns-else-held-words-clause-listed g c =
     let live = c.requires.live in
     let set = c.set_payload-2.ensures live.0 live.1 in
     rebytes_listed g.row.SLI live.1 (fitted (bytes_of (block_at c.args.region.now.blocks live.0)) c.args.len) set.blocks (list_in c.args.region.now.lists) (list_in c.set_payload-2.new.self.lists) set.lists c.requires.listed

@@ -28,17 +28,17 @@ returns-in_err-own-clause-heap g c =
 
 -- ---- the tick is at its last value
 
-worn : (g : Over) (c : goal.Then-self g) → Releases c.args.self.now.heap c.args.name (Err Worn) c.check.new.self.heap
+worn : (g : Over) (c : goal.Then-tick g) → Releases c.args.self.now.heap c.args.name (Err Worn) c.check.new.self.heap
 worn g c =
     let same : state_of g.row.SLI c.self.inside ≡ c.args.self.now.heap = ap (λ (s : Shown). s.heap) c.self.view_is ∙ c.in_ok-own.ensures.heap in
     releases_worn c.args.self.now.heap c.check.new.self.heap c.args.name c.in_ok-own.ensures.lawful c.in_ok-own.ensures.heap c.in_ok-own.ensures.answer.0
-    (sym (ap (λ (s : HeapState). s.tick) same) ∙ c.if-self.true)
+    (sym (ap (λ (s : HeapState). s.tick) same) ∙ c.if-tick.true)
 
-pub returns-then-self-clause-answer : goal.returns-then-self-clause-answer
-returns-then-self-clause-answer g c = (worn g c).is_answer
+pub returns-then-tick-clause-answer : goal.returns-then-tick-clause-answer
+returns-then-tick-clause-answer g c = (worn g c).is_answer
 
-pub returns-then-self-clause-heap : goal.returns-then-self-clause-heap
-returns-then-self-clause-heap g c = (worn g c).is_heap
+pub returns-then-tick-clause-heap : goal.returns-then-tick-clause-heap
+returns-then-tick-clause-heap g c = (worn g c).is_heap
 
 -- ---- the block is released
 
@@ -72,13 +72,13 @@ coalesce-requires g c =
       ),
     )
 
-freed : (g : Over) (c : goal.After-self-1 g) → Releases c.args.self.now.heap c.args.name (Ok tt) (with_region (state_of g.row.SLI c.self.inside) (c.self.inside.tick + 1) c.coalesce.new.region)
+freed : (g : Over) (c : goal.After-coalesce g) → Releases c.args.self.now.heap c.args.name (Ok tt) (with_region (state_of g.row.SLI c.self.inside) (c.self.inside.tick + 1) c.coalesce.new.region)
 freed g c =
     let same : state_of g.row.SLI c.self.inside ≡ c.args.self.now.heap = ap (λ (s : Shown). s.heap) c.self.view_is ∙ c.in_ok-own.ensures.heap in
     let named = named_same (state_of g.row.SLI c.self.inside) c.args.self.now.heap c.args.name same c.in_ok-own.ensures.answer.0 in
     subst (λ (s : HeapState). Releases s c.args.name (Ok tt) (with_region (state_of g.row.SLI c.self.inside) (c.self.inside.tick + 1) c.coalesce.new.region)) same
     (releases_block (state_of g.row.SLI c.self.inside) c.args.name c.coalesce.new.region named c.self.invariant.lawful c.coalesce.ensures.edits.words
-    (c.coalesce.ensures.blocks named.1.0 (named_stands _ _ _ _ named.1.1)) c.if-self.false)
+    (c.coalesce.ensures.blocks named.1.0 (named_stands _ _ _ _ named.1.1)) c.if-tick.false)
 
 pub returns-clause-answer : goal.returns-clause-answer
 returns-clause-answer g c = (freed g c).is_answer

@@ -36,19 +36,15 @@ returns-in_err-own-clause-heap g c =
 pub look_behind-next-requires : goal.look_behind-next-requires
 look_behind-next-requires g c =
     let same : state_of g.row.SLI c.self.inside ≡ c.args.self.now.heap = ap (λ (s : Shown). s.heap) c.self.view_is ∙ c.in_ok-own.ensures.heap in
-    let named = named_same (state_of g.row.SLI c.self.inside) c.args.self.now.heap c.args.name same c.in_ok-own.ensures.answer.0 in
     let checked = subst (λ (h : HeapState). IsNameCheck h c.args.name (Ok c.in_ok-own.own)) (sym same) c.in_ok-own.ensures.answer in (
       omega arith,
       (
-        (named.1.0, named_stands _ _ _ _ named.1.1, named_live _ _ _ _ named.1.1),
+        (checked.0.1.0, named_stands _ _ _ _ checked.0.1.1, checked.1),
         (
-          λ i stands. at_index c.self.invariant.shows (λ (i : ℕ). IsTagOf c.self.inside.region.words (site_at c.self.inside.region.blocks i) c.in_ok-own.own) (checked.0.1.0, named_stands _ _ _ _ checked.0.1.1, checked.1) stands,
+          c.self.invariant.lawful.whole,
           (
-            c.self.invariant.lawful.whole,
-            (
-              lawful_regions g.row.SLI (state_of g.row.SLI c.self.inside) c.self.invariant.lawful c.self.invariant.small,
-              omega (arith, c.self.invariant.lawful.whole, c.self.invariant.small),
-            ),
+            lawful_regions g.row.SLI (state_of g.row.SLI c.self.inside) c.self.invariant.lawful c.self.invariant.small,
+            omega (arith, c.self.invariant.lawful.whole, c.self.invariant.small),
           ),
         ),
       ),
@@ -58,7 +54,7 @@ pub overflow_add-room : goal.overflow_add-room
 overflow_add-room g c =
     let same : state_of g.row.SLI c.self.inside ≡ c.args.self.now.heap = ap (λ (s : Shown). s.heap) c.self.view_is ∙ c.in_ok-own.ensures.heap in
     let f : Found (state_of g.row.SLI c.self.inside) c.args.name c.in_ok-own.own c.look_behind-next.result = found same c.in_ok-own.ensures.answer c.look_behind-next.ensures.tag in
-    omega (arith, room_small g.row.SLI f same c.self.invariant.lawful c.args.len, c.self.invariant.small, most_words_any g.row.SLI)
+    omega (arith, c.size.ensures.value, c.size-2.ensures.value, room_small g.row.SLI f same c.self.invariant.lawful c.args.len, c.self.invariant.small, most_words_any g.row.SLI)
 
 -- ---- there is no room
 
@@ -67,7 +63,7 @@ short g c =
     let same : state_of g.row.SLI c.self.inside ≡ c.args.self.now.heap = ap (λ (s : Shown). s.heap) c.self.view_is ∙ c.in_ok-own.ensures.heap in
     let f : Found (state_of g.row.SLI c.self.inside) c.args.name c.in_ok-own.own c.look_behind-next.result = found same c.in_ok-own.ensures.answer c.look_behind-next.ensures.tag in
     let reads = c.look_behind-next.ensures.reads in
-    resizes_short g.row.SLI f same c.self.invariant.lawful c.args.len c.look_behind-next.new.region reads.words reads.blocks (omega (arith, c.if-room-words.true, c.want-words.ensures))
+    resizes_short g.row.SLI f same c.self.invariant.lawful c.args.len c.look_behind-next.new.region reads.words reads.blocks (omega (arith, c.if-room-words.true, c.want-words.ensures, c.size.ensures.value, c.size-2.ensures.value))
 
 pub returns-then-room-words-clause-answer : goal.returns-then-room-words-clause-answer
 returns-then-room-words-clause-answer g c = (short g c).is_answer
@@ -88,7 +84,7 @@ worn g c =
     let same : state_of g.row.SLI c.self.inside ≡ c.args.self.now.heap = ap (λ (s : Shown). s.heap) c.self.view_is ∙ c.in_ok-own.ensures.heap in
     let f : Found (state_of g.row.SLI c.self.inside) c.args.name c.in_ok-own.own c.look_behind-next.result = found same c.in_ok-own.ensures.answer c.look_behind-next.ensures.tag in
     let reads = c.look_behind-next.ensures.reads in
-    resizes_worn g.row.SLI f same c.self.invariant.lawful c.args.len c.look_behind-next.new.region reads.words reads.blocks (omega (arith, c.if-room-words.false, c.want-words.ensures)) c.if-self.true
+    resizes_worn g.row.SLI f same c.self.invariant.lawful c.args.len c.look_behind-next.new.region reads.words reads.blocks (omega (arith, c.if-room-words.false, c.want-words.ensures, c.size.ensures.value, c.size-2.ensures.value)) c.if-self.true
 
 pub returns-then-self-clause-answer : goal.returns-then-self-clause-answer
 returns-then-self-clause-answer g c = (worn g c).is_answer
@@ -124,7 +120,7 @@ refit-requires g c =
                 (
                   rw (reads.blocks, reads.words) c.look_behind-next.ensures.tag,
                   (
-                    omega (arith, c.if-room-words.false),
+                    omega (arith, c.if-room-words.false, c.size.ensures.value, c.size-2.ensures.value),
                     (
                       rw reads.blocks c.self.invariant.lawful.rooms,
                       (
@@ -159,7 +155,7 @@ fits g c =
     let f : Found h c.args.name c.in_ok-own.own c.look_behind-next.result = found same c.in_ok-own.ensures.answer c.look_behind-next.ensures.tag in
     let i = f.named.1.0 in
     let reads = c.look_behind-next.ensures.reads in
-    let room : want c.args.len ≤ c.in_ok-own.own.size + c.look_behind-next.result.size = omega (arith, c.if-room-words.false, c.want-words.ensures) in
+    let room : want c.args.len ≤ c.in_ok-own.own.size + c.look_behind-next.result.size = omega (arith, c.if-room-words.false, c.want-words.ensures, c.size.ensures.value, c.size-2.ensures.value) in
     let words = c.refit.ensures.edits.words ∙ reads.words in
     let blocks = (rw reads.blocks at c.refit.ensures.blocks) i (named_stands _ _ _ _ f.named.1.1)
     ∙ ap (λ (n : ℕ). take i h.blocks ++ refitted h.tick n c.args.len (block_at h.blocks i) (drop (suc i) h.blocks)) c.want-words.ensures in

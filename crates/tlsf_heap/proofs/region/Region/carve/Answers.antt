@@ -18,7 +18,7 @@ tag-tag-requires g c = let says = says_here (shows_state g.row.SLI c.self.invari
 
 pub overflow_add-size : goal.overflow_add-size
 overflow_add-size g c =
-    let says = says_here (shows_state g.row.SLI c.self.invariant c.self.view_is) c.requires.room.1 in omega (arith, says.ends, c.requires.room.2, c.self.invariant.shows.small)
+    let says = says_here (shows_state g.row.SLI c.self.invariant c.self.view_is) c.requires.room.1 in omega (arith, says.ends, c.requires.room.2.1, c.self.invariant.shows.small)
 
 pub live_header-requires : goal.live_header-requires
 live_header-requires g c =
@@ -37,18 +37,18 @@ whole g c i stands =
     let state = holds_state g.row.SLI c.self.invariant c.self.view_is in
     let e = c.tag-tag.ensures in
     let is : IsTagIn (get_or c.self.inside.words.words c.args.at 0) c.tag-tag.result = record { size = e.size; last = e.last; back = e.back } in
-    let room = at_index state.shows (λ i. c.args.size ≤ size_of (block_at c.args.self.now.blocks i)) c.requires.room stands in
-    left_whole g.row.SLI state stands is c.args.size c.args.serial c.args.len (c.requires.unlisted i stands) (wholes g c) (omega (arith, room, c.requires.payload, tag_size state.shows stands is)) c.if-tag-size.true
+    let room = at_index state.shows (λ i. c.args.size ≤ size_of (block_at c.args.self.now.blocks i)) (c.requires.room.0, c.requires.room.1, c.requires.room.2.1) stands in
+    left_whole g.row.SLI state stands is c.args.size c.args.serial c.args.len (c.requires.unlisted i stands) (wholes g c) (omega (arith, room, c.requires.payload, tag_size state.shows stands is)) (omega (arith, c.if-all-size.true, c.size-all.ensures.value))
 
 pub invariant_of-self : goal.invariant_of-self
 invariant_of-self g c = (whole g c c.requires.room.0 c.requires.room.1).holds
 
-pub returns-then-tag-size-clause-rest : goal.returns-then-tag-size-clause-rest
-returns-then-tag-size-clause-rest g c i stands =
-    let says = says_here (shows_state g.row.SLI c.self.invariant c.self.view_is) stands in sym (rest_small _ _ (omega (arith, c.if-tag-size.true, c.tag-tag.ensures.size, says.size)))
+pub returns-then-all-size-clause-rest : goal.returns-then-all-size-clause-rest
+returns-then-all-size-clause-rest g c i stands =
+    let says = says_here (shows_state g.row.SLI c.self.invariant c.self.view_is) stands in sym (rest_small _ _ (omega (arith, c.if-all-size.true, c.size-all.ensures.value, c.tag-tag.ensures.size, says.size)))
 
-pub returns-then-tag-size-clause-change : goal.returns-then-tag-size-clause-change
-returns-then-tag-size-clause-change g c i stands =
+pub returns-then-all-size-clause-change : goal.returns-then-all-size-clause-change
+returns-then-all-size-clause-change g c i stands =
     let left = whole g c i stands in
     let touches = ap (λ (r : RegionState). r.touches) c.self.view_is in
     let words = ap (λ (r : RegionState). r.words) c.self.view_is in
@@ -65,6 +65,10 @@ returns-then-tag-size-clause-change g c i stands =
       };
     }
 
+pub split_header-requires-clause-free : goal.split_header-requires-clause-free
+split_header-requires-clause-free g c =
+    let says = says_here (shows_state g.row.SLI c.self.invariant c.self.view_is) c.requires.room.1 in c.tag-tag.ensures.free ∙ says.free ∙ c.requires.room.2.0
+
 pub split_header-requires-clause-within : goal.split_header-requires-clause-within
 split_header-requires-clause-within g c =
     let says = says_here (shows_state g.row.SLI c.self.invariant c.self.view_is) c.requires.room.1 in omega (arith, c.tag-tag.ensures.size ∙ says.size, says.ends, ap length c.tag-tag.ensures.words)
@@ -78,7 +82,7 @@ split g c i stands =
     let state = holds_state g.row.SLI c.self.invariant c.self.view_is in
     let e = c.tag-tag.ensures in
     let is : IsTagIn (get_or c.self.inside.words.words c.args.at 0) c.tag-tag.result = record { size = e.size; last = e.last; back = e.back } in
-    left_split g.row.SLI state stands is c.args.size c.args.serial c.args.len (c.requires.unlisted i stands) (splits g c) c.requires.least c.if-tag-size.false c.requires.payload
+    left_split g.row.SLI state stands is c.args.size c.args.serial c.args.len (c.requires.unlisted i stands) (splits g c) c.requires.least (omega (arith, c.if-all-size.false, c.size-all.ensures.value)) c.requires.payload
 
 pub invariant_of-self-2 : goal.invariant_of-self-2
 invariant_of-self-2 g c = (split g c c.requires.room.0 c.requires.room.1).holds
@@ -86,8 +90,8 @@ invariant_of-self-2 g c = (split g c c.requires.room.0 c.requires.room.1).holds
 pub returns-clause-rest : goal.returns-clause-rest
 returns-clause-rest g c i stands =
     let says = says_here (shows_state g.row.SLI c.self.invariant c.self.view_is) stands in
-    let size = c.tag-tag.ensures.size ∙ says.size in
-    ap (λ (n : ℕ). n - c.args.size) size ∙ sym (rest_large _ _ (omega (arith, c.if-tag-size.false, size)))
+    let size = c.size-all.ensures.value ∙ c.tag-tag.ensures.size ∙ says.size in
+    ap (λ (n : ℕ). n - c.args.size) size ∙ sym (rest_large _ _ (omega (arith, c.if-all-size.false, size)))
 
 pub returns-clause-change : goal.returns-clause-change
 returns-clause-change g c i stands =
@@ -102,7 +106,7 @@ returns-clause-change g c i stands =
       edits = record {
         words = c.split_header.ensures.change.only.length ∙ ap length c.tag-tag.ensures.words ∙ words;
         shows = left.holds.shows;
-        touches = omega (arith, c.split_header.ensures.touches.within, c.tag-tag.ensures.touches, touches, size, c.if-tag-size.false, c.requires.least);
+        touches = omega (arith, c.split_header.ensures.touches.within, c.tag-tag.ensures.touches, touches, size, c.if-all-size.false, c.size-all.ensures.value, c.requires.least);
         rise = omega (arith, c.split_header.ensures.touches.rise, c.tag-tag.ensures.touches, touches);
       };
     }

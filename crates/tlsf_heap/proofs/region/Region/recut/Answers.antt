@@ -1,4 +1,4 @@
-use Rattle.std.proofs.Common.{◌≡◌, ℕ, suc, ◌++◌, ◌≤◌, take, drop, length, false, ap, ◌∙◌, arith}
+use Rattle.std.proofs.Common.{◌≡◌, ℕ, suc, ◌+◌, ◌++◌, ◌≤◌, take, drop, length, false, ap, ◌∙◌, arith}
 use Rattle.tlsf_heap.specs.Blocks.{StandsAt, is_free, bytes_of, words_for}
 use Rattle.tlsf_heap.specs.Calls.{recut}
 use Rattle.tlsf_heap.specs.GoodFit.{block_at}
@@ -14,7 +14,7 @@ pub widen_header-requires : goal.widen_header-requires
 widen_header-requires g c =
     let shows = shows_state g.row.SLI c.self.invariant c.self.view_is in
     let live = c.requires.live in
-    let is = whole_is (ap (λ (r : RegionState). r.words) c.self.view_is) (c.requires.own live.0 live.1) (c.requires.next live.0 live.1) in
+    let is = whole_is c.new-whole.result (ap (λ (r : RegionState). r.words) c.self.view_is) (c.requires.own live.0 live.1) (c.requires.next live.0 live.1) c.size-after.ensures.value (c.new-whole.ensures.size ∙ ap (λ n. n + c.size-after.result) c.size.ensures.value) (c.new-whole.ensures.last ∙ c.is_last.ensures) (c.new-whole.ensures.back ∙ c.back.ensures) in
     record { after = whole_least shows live.1 is; within = whole_ends shows live.1 is; small = shows.small }
 
 -- the block takes all
@@ -23,15 +23,15 @@ wide : (g : Over) (c : goal.After-widen_header g) → (i : ℕ) → StandsAt c.a
 wide g c i stands =
     let state = holds_state g.row.SLI c.self.invariant c.self.view_is in
     let live = c.requires.live in
-    let is = whole_is (ap (λ (r : RegionState). r.words) c.self.view_is) (c.requires.own i stands) (c.requires.next i stands) in
+    let is = whole_is c.new-whole.result (ap (λ (r : RegionState). r.words) c.self.view_is) (c.requires.own i stands) (c.requires.next i stands) c.size-after.ensures.value (c.new-whole.ensures.size ∙ ap (λ n. n + c.size-after.result) c.size.ensures.value) (c.new-whole.ensures.last ∙ c.is_last.ensures) (c.new-whole.ensures.back ∙ c.back.ensures) in
     left_wide g.row.SLI state stands is (at_index state.shows (λ (j : ℕ). is_free (block_at c.args.self.now.blocks j) ≡ false) (live.0, live.1, live.2.0) stands)
-    (λ k low high. c.requires.unlisted k low (omega (arith, high))) c.args.size c.args.stamp c.widen_header.ensures.change c.if-whole-size.true
+    (λ k low high. c.requires.unlisted k low (omega (arith, high, c.new-whole.ensures.size, c.size.ensures.value, c.size-after.ensures.value))) c.args.size c.args.stamp c.widen_header.ensures.change (omega (arith, c.if-both-size.true, c.new-whole.ensures.size))
 
 pub invariant_of-self : goal.invariant_of-self
 invariant_of-self g c = (wide g c c.requires.live.0 c.requires.live.1).holds
 
-pub returns-then-whole-size-clause-change : goal.returns-then-whole-size-clause-change
-returns-then-whole-size-clause-change g c i stands =
+pub returns-then-both-size-clause-change : goal.returns-then-both-size-clause-change
+returns-then-both-size-clause-change g c i stands =
     let left = wide g c i stands in
     let touches = ap (λ (r : RegionState). r.touches) c.self.view_is in
     let words = ap (λ (r : RegionState). r.words) c.self.view_is in
@@ -45,7 +45,7 @@ returns-then-whole-size-clause-change g c i stands =
 pub recut_header-requires-clause-within : goal.recut_header-requires-clause-within
 recut_header-requires-clause-within g c =
     let live = c.requires.live in
-    whole_ends (shows_state g.row.SLI c.self.invariant c.self.view_is) live.1 (whole_is (ap (λ (r : RegionState). r.words) c.self.view_is) (c.requires.own live.0 live.1) (c.requires.next live.0 live.1))
+    whole_ends (shows_state g.row.SLI c.self.invariant c.self.view_is) live.1 (whole_is c.new-whole.result (ap (λ (r : RegionState). r.words) c.self.view_is) (c.requires.own live.0 live.1) (c.requires.next live.0 live.1) c.size-after.ensures.value (c.new-whole.ensures.size ∙ ap (λ n. n + c.size-after.result) c.size.ensures.value) (c.new-whole.ensures.last ∙ c.is_last.ensures) (c.new-whole.ensures.back ∙ c.back.ensures))
 
 -- it leaves a rest
 cut : (g : Over) (c : After-recut_header g) → (i : ℕ) → StandsAt c.args.self.now.blocks c.args.at i
@@ -53,9 +53,9 @@ cut : (g : Over) (c : After-recut_header g) → (i : ℕ) → StandsAt c.args.se
 cut g c i stands =
     let state = holds_state g.row.SLI c.self.invariant c.self.view_is in
     let live = c.requires.live in
-    let is = whole_is (ap (λ (r : RegionState). r.words) c.self.view_is) (c.requires.own i stands) (c.requires.next i stands) in
+    let is = whole_is c.new-whole.result (ap (λ (r : RegionState). r.words) c.self.view_is) (c.requires.own i stands) (c.requires.next i stands) c.size-after.ensures.value (c.new-whole.ensures.size ∙ ap (λ n. n + c.size-after.result) c.size.ensures.value) (c.new-whole.ensures.last ∙ c.is_last.ensures) (c.new-whole.ensures.back ∙ c.back.ensures) in
     left_recut g.row.SLI state stands is (at_index state.shows (λ (j : ℕ). is_free (block_at c.args.self.now.blocks j) ≡ false) (live.0, live.1, live.2.0) stands)
-    (λ k low high. c.requires.unlisted k low (omega (arith, high))) c.args.size c.args.stamp c.recut_header.ensures.change c.requires.least c.if-whole-size.false
+    (λ k low high. c.requires.unlisted k low (omega (arith, high, c.new-whole.ensures.size, c.size.ensures.value, c.size-after.ensures.value))) c.args.size c.args.stamp c.recut_header.ensures.change c.requires.least (omega (arith, c.if-both-size.false, c.new-whole.ensures.size))
     (at_index state.shows (λ (j : ℕ). words_for (length (bytes_of (block_at c.args.self.now.blocks j))) ≤ c.args.size) (live.0, live.1, live.2.1) stands)
 
 pub invariant_of-self-2 : goal.invariant_of-self-2

@@ -1,7 +1,7 @@
 use Rattle.std.proofs.Common.{arith, sym, ◌∙◌}
 use Rattle.tlsf_heap.proofs.Tallying.{stands, ends, small, next_live, next_free}
 use Rattle.tlsf_heap.proofs.tally.Tally.add.Goals as goal
-use Rattle.tlsf_heap.proofs.tally.Tally.add.Goals.{then-tag, else-tag}
+use Rattle.tlsf_heap.proofs.tally.Tally.add.Goals.{then-is_free, else-is_free}
 
 pub add_free-requires-clause-blocks : goal.add_free-requires-clause-blocks
 add_free-requires-clause-blocks g c =
@@ -11,7 +11,7 @@ add_free-requires-clause-blocks g c =
 pub add_free-requires-clause-words : goal.add_free-requires-clause-words
 add_free-requires-clause-words g c =
     let here = stands c.requires.rooms c.requires.sums.1 c.requires.within in
-    omega (arith, c.requires.small, (c.tag-tag.ensures.value c.requires.sums.1.index here).size, (small c.requires.rooms c.requires.sums.1 here).free_words)
+    omega (arith, c.requires.small, c.size-size.ensures.value, (c.tag-tag.ensures.value c.requires.sums.1.index here).size, (small c.requires.rooms c.requires.sums.1 here).free_words)
 
 pub add_live-requires-clause-blocks : goal.add_live-requires-clause-blocks
 add_live-requires-clause-blocks g c =
@@ -21,7 +21,7 @@ add_live-requires-clause-blocks g c =
 pub add_live-requires-clause-words : goal.add_live-requires-clause-words
 add_live-requires-clause-words g c =
     let here = stands c.requires.rooms c.requires.sums.1 c.requires.within in
-    omega (arith, c.requires.small, (c.tag-tag.ensures.value c.requires.sums.1.index here).size, (small c.requires.rooms c.requires.sums.1 here).live_words)
+    omega (arith, c.requires.small, c.size-size.ensures.value, (c.tag-tag.ensures.value c.requires.sums.1.index here).size, (small c.requires.rooms c.requires.sums.1 here).live_words)
 
 pub add_live-requires-clause-bytes : goal.add_live-requires-clause-bytes
 add_live-requires-clause-bytes g c =
@@ -32,7 +32,7 @@ add_live-requires-clause-bytes g c =
 pub overflow_add-result : goal.overflow_add-result
 overflow_add-result g c =
     let here = stands c.requires.rooms c.requires.sums.1 c.requires.within in
-    omega (arith, c.requires.small, (c.tag-tag.ensures.value c.requires.sums.1.index here).size, (ends c.requires.rooms c.requires.sums.1 here).1)
+    omega (arith, c.requires.small, c.size-size.ensures.value, (c.tag-tag.ensures.value c.requires.sums.1.index here).size, (ends c.requires.rooms c.requires.sums.1 here).1)
 
 pub returns-clause-sums : goal.returns-clause-sums
 returns-clause-sums g c tick so_far =
@@ -40,13 +40,13 @@ returns-clause-sums g c tick so_far =
     let i = so_far.index in
     let is = c.tag-tag.ensures.value i here in
     let unread = c.tag-tag.ensures.reads.blocks in
-    elim c.if-tag.branch [
-      | then-tag w ↦
+    elim c.if-is_free.branch [
+      | then-is_free w ↦
           let stamp = (rw unread at w.mark.ensures.value) i here in
-          let free = sym is.free ∙ w.if-tag.true in
-          rw (w.self-is, w.add_free.ensures, is.size, stamp) (next_free c.requires.rooms so_far here free)
-      | else-tag w ↦
+          let free = sym is.free ∙ sym c.is_free.ensures ∙ w.if-is_free.true in
+          rw (w.self-is, w.add_free.ensures, c.size-size.ensures.value, is.size, stamp) (next_free c.requires.rooms so_far here free)
+      | else-is_free w ↦
           let held = (rw unread at w.length.ensures.value) i here in
-          let live = sym is.free ∙ w.if-tag.false in
-          rw (w.self-is, w.add_live.ensures, is.size, held) (next_live c.requires.rooms so_far here live)
+          let live = sym is.free ∙ sym c.is_free.ensures ∙ w.if-is_free.false in
+          rw (w.self-is, w.add_live.ensures, c.size-size.ensures.value, is.size, held) (next_live c.requires.rooms so_far here live)
     ]

@@ -1,4 +1,4 @@
-use Rattle.std.proofs.Common.{◌≡◌, ◌<◌, ◌+◌, ◌∷◌, ℕ, List, length, get_or, refl, ap, ◌∙◌, sym, subst}
+use Rattle.std.proofs.Common.{◌≡◌, ◌<◌, ◌+◌, ◌∷◌, ℕ, List, length, get_or, refl, ap, ◌∙◌, sym, subst, arith}
 use Rattle.std.specs.List.{Contains}
 use Rattle.tlsf_class.specs.Members.{without_member}
 use Rattle.tlsf_words.specs.Lists.{ListHeads, nowhere, list_of}
@@ -17,12 +17,18 @@ pub links-next-requires : goal.links-next-requires
 links-next-requires g c = listed_within g.row.SLI c.args.self.now.heads c.args.self.now.members c.args.words.now.words c.requires.threaded c.args.class c.place-head.result
     (head_member g.row.SLI c.args.self.now.heads c.args.self.now.members c.args.words.now.words c.args.class c.place-head.result c.requires.threaded c.requires.some (c.place-head.ensures.value ∙ ap (head_of c.args.class) c.self.view_is))
 
-pub tie-requires-clause-next : goal.tie-requires-clause-next
-tie-requires-clause-next g c = λ some.
-    let head : c.place-head.result ≡ head_of c.args.class c.args.self.now = c.place-head.ensures.value ∙ ap (head_of c.args.class) c.self.view_is in
-    subst (λ (w : List ℕ). c.links-next.result.next + 2 < length w) (sym c.links-next.ensures.words)
-    (next_within g.row.SLI c.args.self.now.heads c.args.self.now.members c.args.words.now.words c.args.class c.place-head.result c.requires.threaded c.links-next.ensures.small (head_member g.row.SLI c.args.self.now.heads c.args.self.now.members c.args.words.now.words c.args.class c.place-head.result c.requires.threaded c.requires.some head)
-    c.links-next.result.next nowhere c.links-next.ensures.next (head_previous g.row.SLI c.args.self.now.heads c.args.self.now.members c.args.words.now.words c.args.class c.place-head.result c.requires.threaded c.requires.some head c.links-next.ensures.small) some)
+pub begin_at-requires : goal.begin_at-requires
+begin_at-requires g c = (
+  omega arith,
+  (
+    omega arith,
+    λ some.
+        let head : c.place-head.result ≡ head_of c.args.class c.args.self.now = c.place-head.ensures.value ∙ ap (head_of c.args.class) c.self.view_is in
+        subst (λ (w : List ℕ). c.links-next.result.next + 2 < length w) (sym c.links-next.ensures.words)
+        (next_within g.row.SLI c.args.self.now.heads c.args.self.now.members c.args.words.now.words c.args.class c.place-head.result c.requires.threaded c.links-next.ensures.small (head_member g.row.SLI c.args.self.now.heads c.args.self.now.members c.args.words.now.words c.args.class c.place-head.result c.requires.threaded c.requires.some head)
+        c.links-next.result.next nowhere c.links-next.ensures.next (head_previous g.row.SLI c.args.self.now.heads c.args.self.now.members c.args.words.now.words c.args.class c.place-head.result c.requires.threaded c.requires.some head c.links-next.ensures.small) some),
+  ),
+)
 
 -- the place is the head
 is_head : (g : Over) (c : goal.After-begin_at g) → c.place-head.result ≡ head_of c.args.class c.args.self.now
@@ -37,12 +43,12 @@ none_before : (g : Over) (c : goal.After-begin_at g) → nowhere ≡ high_half (
 none_before g c = head_previous g.row.SLI c.args.self.now.heads c.args.self.now.members c.args.words.now.words c.args.class c.place-head.result c.requires.threaded c.requires.some (is_head g c) c.links-next.ensures.small
 
 -- what is written
-writes : (g : Over) (c : goal.After-begin_at g) → RemoveWrites g.row.SLI c.args.self.now.heads c.args.self.now.members c.args.words.now.words c.args.class c.place-head.result c.links-next.result.next nowhere c.begin_at.new.self.heads c.begin_at.new.self.members c.tie.new.words.words
+writes : (g : Over) (c : goal.After-begin_at g) → RemoveWrites g.row.SLI c.args.self.now.heads c.args.self.now.members c.args.words.now.words c.args.class c.place-head.result c.links-next.result.next nowhere c.begin_at.new.self.heads c.begin_at.new.self.members c.begin_at.new.words.words
 writes g c = record {
   next_is = c.links-next.ensures.next;
   previous_is = none_before g c;
-  long = c.tie.ensures.length ∙ ap length c.links-next.ensures.words;
-  tied = subst (λ (w : List ℕ). AreTied w c.tie.new.words.words c.links-next.result.next nowhere) c.links-next.ensures.words c.tie.ensures.tied;
+  long = c.begin_at.ensures.length ∙ ap length c.links-next.ensures.words;
+  tied = subst (λ (w : List ℕ). AreTied w c.begin_at.new.words.words c.links-next.result.next nowhere) c.links-next.ensures.words c.begin_at.ensures.tied;
   first = λ _. c.begin_at.ensures.head;
   later = λ some. absurd (some refl);
   heads_kept = λ k n. c.begin_at.ensures.heads k n ∙ ap (λ (ps : List ℕ). get_or ps k nowhere) c.place-head.ensures.places ∙ ap (head_of k) c.self.view_is;
@@ -51,10 +57,10 @@ writes g c = record {
 }
 
 pub returns-clause-threaded : goal.returns-clause-threaded
-returns-clause-threaded g c = remove-threaded g.row.SLI c.args.self.now.heads c.args.self.now.members c.args.words.now.words c.args.class c.place-head.result c.requires.threaded c.links-next.ensures.small (is_member g c) c.links-next.result.next nowhere c.begin_at.new.self.heads c.begin_at.new.self.members c.tie.new.words.words (writes g c)
+returns-clause-threaded g c = remove-threaded g.row.SLI c.args.self.now.heads c.args.self.now.members c.args.words.now.words c.args.class c.place-head.result c.requires.threaded c.links-next.ensures.small (is_member g c) c.links-next.result.next nowhere c.begin_at.new.self.heads c.begin_at.new.self.members c.begin_at.new.words.words (writes g c)
 
 pub returns-clause-list : goal.returns-clause-list
-returns-clause-list g c = remove-list g.row.SLI c.args.self.now.heads c.args.self.now.members c.args.words.now.words c.args.class c.place-head.result c.requires.threaded c.links-next.ensures.small (is_member g c) c.links-next.result.next nowhere c.begin_at.new.self.heads c.begin_at.new.self.members c.tie.new.words.words (writes g c)
+returns-clause-list g c = remove-list g.row.SLI c.args.self.now.heads c.args.self.now.members c.args.words.now.words c.args.class c.place-head.result c.requires.threaded c.links-next.ensures.small (is_member g c) c.links-next.result.next nowhere c.begin_at.new.self.heads c.begin_at.new.self.members c.begin_at.new.words.words (writes g c)
 
 pub returns-clause-first : goal.returns-clause-first
 returns-clause-first g c =
@@ -62,7 +68,7 @@ returns-clause-first g c =
     ∙ ap (λ (ps : List ℕ). c.place-head.result ∷ ps) (sym (returns-clause-list g c))
 
 pub returns-clause-others : goal.returns-clause-others
-returns-clause-others g c = remove-others g.row.SLI c.args.self.now.heads c.args.self.now.members c.args.words.now.words c.args.class c.place-head.result c.requires.threaded c.links-next.ensures.small (is_member g c) c.links-next.result.next nowhere c.begin_at.new.self.heads c.begin_at.new.self.members c.tie.new.words.words (writes g c)
+returns-clause-others g c = remove-others g.row.SLI c.args.self.now.heads c.args.self.now.members c.args.words.now.words c.args.class c.place-head.result c.requires.threaded c.links-next.ensures.small (is_member g c) c.links-next.result.next nowhere c.begin_at.new.self.heads c.begin_at.new.self.members c.begin_at.new.words.words (writes g c)
 
 pub returns-clause-words : goal.returns-clause-words
-returns-clause-words g c = remove-words g.row.SLI c.args.self.now.heads c.args.self.now.members c.args.words.now.words c.args.class c.place-head.result c.requires.threaded c.links-next.ensures.small (is_member g c) c.links-next.result.next nowhere c.begin_at.new.self.heads c.begin_at.new.self.members c.tie.new.words.words (writes g c)
+returns-clause-words g c = remove-words g.row.SLI c.args.self.now.heads c.args.self.now.members c.args.words.now.words c.args.class c.place-head.result c.requires.threaded c.links-next.ensures.small (is_member g c) c.links-next.result.next nowhere c.begin_at.new.self.heads c.begin_at.new.self.members c.begin_at.new.words.words (writes g c)

@@ -1,0 +1,30 @@
+use Rattle.std.proofs.Common.{◌≡◌, ◌+◌, ◌<◌, ◌^◌, true, ap, sym, ◌∙◌, arith, subst}
+use Rattle.tlsf_words.specs.Fields.{size_in, free_in, last_in, back_in, low_half}
+use Rattle.tlsf_words.proofs.TagSums.{Says, says_next, next_fits}
+use Rattle.tlsf_words.proofs.tag.Tag.with_next.Goals as goal
+
+pub overflow_add-result : goal.overflow_add-result
+overflow_add-result c = omega (
+  arith,
+  c.from.ensures,
+  c.low_half.ensures,
+  next_fits c.self.inside.word c.next.inside.word (omega arith) (ap (λ t. t.free) c.self.view_is ∙ c.requires.live) (ap (λ t. t.last) c.self.view_is ∙ c.requires.inner)
+      (ap (λ t. t.free) c.next.view_is ∙ c.requires.free) (omega (arith, c.requires.fits, ap (λ t. t.size) c.self.view_is, ap (λ t. t.size) c.next.view_is)),
+)
+
+says : (c : goal.After-struct_known-1) → Says (c.self.inside.word + c.from.result) (size_in c.self.inside.word + size_in c.next.inside.word) true (last_in c.next.inside.word) (back_in c.self.inside.word)
+says c = rw (c.from.ensures, c.low_half.ensures)
+    (says_next c.self.inside.word c.next.inside.word (ap (λ t. t.free) c.self.view_is ∙ c.requires.live) (ap (λ t. t.last) c.self.view_is ∙ c.requires.inner) (ap (λ t. t.free) c.next.view_is ∙ c.requires.free)
+    (omega (arith, c.requires.fits, ap (λ t. t.size) c.self.view_is, ap (λ t. t.size) c.next.view_is)))
+
+pub returns-clause-size : goal.returns-clause-size
+returns-clause-size c = (says c).size ∙ omega (arith, ap (λ t. t.size) c.self.view_is, ap (λ t. t.size) c.next.view_is)
+
+pub returns-clause-free : goal.returns-clause-free
+returns-clause-free c = (says c).free
+
+pub returns-clause-last : goal.returns-clause-last
+returns-clause-last c = (says c).last ∙ ap (λ t. t.last) c.next.view_is
+
+pub returns-clause-back : goal.returns-clause-back
+returns-clause-back c = (says c).back ∙ ap (λ t. t.back) c.self.view_is

@@ -1,0 +1,26 @@
+use Rattle.std.proofs.Common.{◌≡◌, ◌+◌, ◌-◌, ◌<◌, ◌≤◌, ◌^◌, false, ap, sym, ◌∙◌, arith, subst}
+use Rattle.tlsf_words.specs.Fields.{size_in, free_in, last_in, back_in, low_half}
+use Rattle.tlsf_words.proofs.TagSums.{Says, says_without, without_fits}
+use Rattle.tlsf_words.proofs.tag.Tag.without.Goals as goal
+
+pub overflow_sub-result : goal.overflow_sub-result
+overflow_sub-result c = rw (c.from.ensures, c.low_half.ensures)
+    (without_fits c.self.inside.word c.rest.inside.word (omega (arith, c.requires.size, ap (λ t. t.size) c.self.view_is, ap (λ t. t.size) c.rest.view_is))
+    (ap (λ t. t.free) c.rest.view_is ∙ c.requires.free ∙ sym (ap (λ t. t.free) c.self.view_is)) (ap (λ t. t.last) c.rest.view_is ∙ c.requires.last ∙ sym (ap (λ t. t.last) c.self.view_is)))
+
+says : (c : goal.After-struct_known-1) → Says (c.self.inside.word - c.from.result) (size_in c.self.inside.word - size_in c.rest.inside.word) false false (back_in c.self.inside.word)
+says c = rw (c.from.ensures, c.low_half.ensures)
+    (says_without c.self.inside.word c.rest.inside.word (omega (arith, c.requires.size, ap (λ t. t.size) c.self.view_is, ap (λ t. t.size) c.rest.view_is))
+    (ap (λ t. t.free) c.rest.view_is ∙ c.requires.free ∙ sym (ap (λ t. t.free) c.self.view_is)) (ap (λ t. t.last) c.rest.view_is ∙ c.requires.last ∙ sym (ap (λ t. t.last) c.self.view_is)))
+
+pub returns-clause-size : goal.returns-clause-size
+returns-clause-size c = (says c).size ∙ omega (arith, ap (λ t. t.size) c.self.view_is, ap (λ t. t.size) c.rest.view_is)
+
+pub returns-clause-free : goal.returns-clause-free
+returns-clause-free c = (says c).free
+
+pub returns-clause-last : goal.returns-clause-last
+returns-clause-last c = (says c).last
+
+pub returns-clause-back : goal.returns-clause-back
+returns-clause-back c = (says c).back ∙ ap (λ t. t.back) c.self.view_is

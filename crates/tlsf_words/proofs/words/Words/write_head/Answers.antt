@@ -1,0 +1,41 @@
+use Rattle.std.proofs.Common.{◌≡◌, ℕ, ◌+◌, ◌-◌, ◌*◌, List, ◌++◌, take, w64, get_or, set, length, ap, ◌∙◌, arith, length-take-le}
+use Rattle.std.specs.Int.{to_le_bytes}
+use Rattle.std.proofs.lemmas.List.{get_or-take}
+use Rattle.tlsf_words.specs.Bytes.{byte_in}
+use Rattle.tlsf_words.proofs.Bytes.{with_piece_at_end, HasPiece, byte_in-piece, byte_in-before_piece, byte_in-behind_piece}
+use Rattle.tlsf_words.proofs.words.Words.write_head.Goals as goal
+
+abbrev piece : (c : goal.After-write) → List ℕ
+piece c = take (8 - c.args.first) (to_le_bytes w64 c.first_word.result)
+
+-- as many bytes as the word has from there on
+long : (c : goal.After-write) → length (piece c) ≡ 8 - c.args.first
+long c = length-take-le (8 - c.args.first) (to_le_bytes w64 c.first_word.result) (omega arith)
+
+has_piece : (c : goal.After-write) → HasPiece c.args.self.now.words c.args.place c.args.first (piece c) c.join_bytes.result
+has_piece c = record {
+  inside = c.requires.inside (omega arith);
+  within = omega (arith, long c, c.requires.within);
+  is =
+      c.join_bytes.ensures
+      ∙ ap (λ word. take c.args.first (to_le_bytes w64 word) ++ piece c) c.read-word.ensures.value
+      ∙ with_piece_at_end (to_le_bytes w64 (get_or c.args.self.now.words c.args.place 0)) c.args.first (piece c) (omega (arith, long c, c.requires.within));
+}
+
+-- the words after it
+written : (c : goal.After-write) → c.write.new.self.words ≡ set c.args.self.now.words c.args.place c.join_bytes.result
+written c = c.write.ensures.words ∙ ap (λ words. set words c.args.place c.join_bytes.result) c.read-word.ensures.words
+
+pub returns-clause-bytes : goal.returns-clause-bytes
+returns-clause-bytes c k some h =
+    ap (λ words. byte_in words (8 * c.args.place + c.args.first + k)) (written c)
+    ∙ byte_in-piece _ _ _ _ _ k (has_piece c) (omega (arith, long c))
+    ∙ get_or-take (8 - c.args.first) (to_le_bytes w64 c.first_word.result) k 0 (omega arith)
+    ∙ ap (λ bytes. get_or bytes k 0) c.first_word.ensures
+    ∙ get_or-take 8 c.args.bytes.now k 0 (omega arith)
+
+pub returns-clause-before : goal.returns-clause-before
+returns-clause-before c = λ k h. ap (λ words. byte_in words k) (written c) ∙ byte_in-before_piece _ _ _ _ _ k (has_piece c) h
+
+pub returns-clause-behind : goal.returns-clause-behind
+returns-clause-behind c = λ k h. ap (λ words. byte_in words k) (written c) ∙ byte_in-behind_piece _ _ _ _ _ k (has_piece c) (omega (arith, long c, c.requires.within))

@@ -1,0 +1,14 @@
+use Rattle.std.proofs.Common.{◌≡◌, ℕ, ◌/◌, List, get_or, ap, ◌∙◌, arith}
+use Rattle.tlsf_words.specs.Memory.{Memory}
+use Rattle.tlsf_words.proofs.Bytes.{byte_in-same}
+use Rattle.tlsf_words.proofs.words.Words.write_whole.Goals as goal
+
+pub returns-clause-before : goal.returns-clause-before
+returns-clause-before c k low =
+    let was : c.self.inside.words.words ≡ c.args.self.now.words = ap (λ (m : Memory). m.words) c.self.view_is in
+    byte_in-same _ _ k (c.write_bytes.ensures.before (k / 8) (omega arith) ∙ ap (λ (l : List ℕ). get_or l (k / 8) 0) was)
+
+pub returns-clause-behind : goal.returns-clause-behind
+returns-clause-behind c k past =
+    let was : c.self.inside.words.words ≡ c.args.self.now.words = ap (λ (m : Memory). m.words) c.self.view_is in
+    byte_in-same _ _ k (c.write_bytes.ensures.behind (k / 8) (omega arith) ∙ ap (λ (l : List ℕ). get_or l (k / 8) 0) was)
