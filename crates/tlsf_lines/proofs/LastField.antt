@@ -34,7 +34,7 @@ nothing say line none = joined say line (fields_of line) (join_with_byte-slice_s
 
 -- ---- digits
 
-digit_is : (byte : ℕ) → is_ascii_digit byte ≡ true → (byte == 32) ≡ false
+pub digit_is : (byte : ℕ) → is_ascii_digit byte ≡ true → (byte == 32) ≡ false
 digit_is byte digit = grind (arith, nat_tests)
 
 digits_free : (line : List ℕ) → all_ascii_digits line ≡ true → HasNoSpace line

@@ -5,7 +5,7 @@ ghost use Rattle.tlsf_lines.specs.Fields as spelled;
 ghost use Rattle.tlsf_lines.specs.Payloads;
 ghost use Rattle.tlsf_lines.specs.Values.{Bytes};
 
-use crate::numbers::digits_in;
+use crate::numbers::{digits_in, first_digits_in};
 use crate::payload::chunk_in;
 use tlsf_calls::Chunk;
 
@@ -51,8 +51,7 @@ pub fn next_number(
     ensures { MatchOption result (first_by (λ f. spelled.digits_in (least, most) f) (fields_left fields.entry) ≡ None)
         (λ found. first_by (λ f. spelled.digits_in (least, most) f) (fields_left fields.entry) ≡ Some (value_of found.0, fields_left found.1)) }
 {
-    let (field, rest) = cut_field(fields?);
-    Some((digits_in(field, least, most)?, rest))
+    first_digits_in(fields?, least, most)
 }
 
 /// The number that the one field left spells, as [`next_number`] has it; `None` too where there is another.

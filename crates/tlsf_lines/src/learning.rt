@@ -26,7 +26,7 @@ fn made_by(reply: Reply) -> Option<Name>
 pub fn names_in(alloc: Global, entries: &[Entry]) -> Result<Vec<Option<Name>>, AllocError>
     ensures { IfOk result (λ names. names.items ≡ spelled.names_in entries.now) }
 {
-    let mut names = Vec::new(alloc);
+    let mut names = Vec::with_capacity(alloc, entries.len())?;
     for entry in entries {
         if !is_taken(entry.call) {
             names.push(made_by(entry.reply))?;

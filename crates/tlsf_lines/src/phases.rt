@@ -42,7 +42,8 @@ fn own_lines(alloc: Global, worker: u32, phase: &[Line]) -> Result<Vec<Line>, Al
     ensures lines { IfOk result (λ lines. lines.items ≡ spelled.own_lines worker phase.now) }
     ensures few { IfOk result (λ lines. vec_len lines ≤ length phase.now) }
 {
-    let mut own = Vec::new(alloc);
+    // With eight workers that call alike this list does not grow.
+    let mut own = Vec::with_capacity(alloc, phase.len() / 8)?;
     for line in phase {
         if line.is_of(worker) {
             own.push(*line)?;
@@ -118,7 +119,7 @@ fn own_calls(alloc: Global, names: &Names, lines: &[Line]) -> Result<Vec<Call>, 
     ensures len { IfOk result (λ calls. vec_len calls ≡ length lines.now) }
 {
     let mut by_label = CallsByLabel::new(alloc);
-    let mut calls = Vec::new(alloc);
+    let mut calls = Vec::with_capacity(alloc, lines.len())?;
     for line in lines {
         let call = call_of(&by_label, names, *line);
         remember(&mut by_label, *line, calls.len() as u32)?;
@@ -131,7 +132,7 @@ fn own_calls(alloc: Global, names: &Names, lines: &[Line]) -> Result<Vec<Call>, 
 pub fn labels_of(alloc: Global, lines: &[Line]) -> Result<Vec<Option<u32>>, AllocError>
     ensures { IfOk result (λ labels. labels.items ≡ map told.label_in lines.now) }
 {
-    let mut labels = Vec::new(alloc);
+    let mut labels = Vec::with_capacity(alloc, lines.len())?;
     for line in lines {
         labels.push(line.label())?;
     }

@@ -95,18 +95,18 @@ fn write_bytes(text: &mut String, bytes: &Chunk) -> Result<(), AllocError>
 }
 
 // Adds what a worker was answered.
-fn write_answer(text: &mut String, reply: Reply) -> Result<(), AllocError>
-    ensures { OnOk result (string_bytes text.new ≡ string_bytes text.old ++ answer_part reply) }
+fn write_answer(text: &mut String, reply: &Reply) -> Result<(), AllocError>
+    ensures { OnOk result (string_bytes text.new ≡ string_bytes text.old ++ answer_part reply.now) }
 {
     match reply {
-        Reply::Made(name) => write_place(text, name),
+        Reply::Made(name) => write_place(text, *name),
         Reply::Freed => text.push_str(" freed"),
         Reply::Posted => text.push_str(" posted"),
         Reply::Wrote(n) => {
             text.push_str(" wrote ")?;
-            write_number(text, u64::from(n))
+            write_number(text, u64::from(*n))
         }
-        Reply::Got(bytes) => write_bytes(text, &bytes),
+        Reply::Got(bytes) => write_bytes(text, bytes),
         Reply::Resized => text.push_str(" resized"),
         Reply::Took(took) => {
             write_place(text, took.name)?;
@@ -115,7 +115,7 @@ fn write_answer(text: &mut String, reply: Reply) -> Result<(), AllocError>
         Reply::Empty => text.push_str(" empty"),
         Reply::Drained(taken) => {
             text.push_str(" drained ")?;
-            write_number(text, u64::from(taken))
+            write_number(text, u64::from(*taken))
         }
         Reply::Refused(refusal) => {
             text.push_str(" refused ")?;
@@ -131,7 +131,7 @@ fn write_line(text: &mut String, entry: &Entry, label: Option<u32>) -> Result<()
     write_number(text, u64::from(entry.worker))?;
     write_call(text, entry.call)?;
     write_label(text, label)?;
-    write_answer(text, entry.reply)?;
+    write_answer(text, &entry.reply)?;
     text.push('\n')
 }
 

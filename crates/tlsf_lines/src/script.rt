@@ -9,17 +9,13 @@ ghost use Rattle.tlsf_lines.specs.Views.{FailsAt};
 ghost use Rattle.tlsf_lines.specs.declared.line.Line.{Line as ALine};
 
 use crate::header::Header;
-use crate::input::MOST_LINES;
 use crate::labels::Labels;
 use crate::line::{Line, line_in};
 use crate::parse_error::ParseError;
 use crate::pieces::cut_piece;
-use crate::trace::cut_header;
+use crate::trace::{cut_header, room_for_lines};
 use std::alloc::{AllocError, Global};
 use tlsf_calls::{Call, Event, MOST_DRAINED};
-
-/// The fewest bytes of a line, as those of `d 0 1` with its line feed.
-const LEAST_LINE: usize = 6;
 
 /// What a trace asks for: its header, the events that its lines stand for, and the label of each, where it has one.
 ///
@@ -51,8 +47,7 @@ impl Script {
         ensures err { IfErr result (λ error. FailsAt error (spelled.trace_of text.now)) }
     {
         let (header, rest) = cut_header(text)?;
-        // Room for as many lines as the text can have, so that most traces grow no list.
-        let room = (rest.len() / LEAST_LINE).min(MOST_LINES);
+        let room = room_for_lines(rest);
         let mut script = Script {
             header,
             events: Vec::with_capacity(alloc, room)?,

@@ -5,6 +5,7 @@ ghost use Rattle.tlsf_lines.specs.Ranges.{IsHeaderInRange};
 ghost use Rattle.tlsf_lines.specs.Views.{FailsAt, GivesAt, Heads, view_trace};
 
 use crate::header::{Header, header_in};
+use crate::input::MOST_LINES;
 use crate::labels::Labels;
 use crate::line::{Line, line_in};
 use crate::line_fault::LineFault;
@@ -46,6 +47,16 @@ impl Trace {
     }
 }
 
+/// The fewest bytes of a line, as those of `d 0 1` with its line feed.
+const LEAST_LINE: usize = 6;
+
+/// Room for as many lines as a text can have, so that most traces grow no list.
+pub fn room_for_lines(text: &[u8]) -> usize
+    ensures { result ≤ 32768 }
+{
+    (text.len() / LEAST_LINE).min(MOST_LINES)
+}
+
 /// The lines of the text behind the header, or the first that is none.
 fn lines_in(alloc: Global, workers: u32, text: &[u8]) -> Result<Vec<Line>, ParseError>
     requires workers { 0 < workers }
@@ -54,7 +65,7 @@ fn lines_in(alloc: Global, workers: u32, text: &[u8]) -> Result<Vec<Line>, Parse
         (spelled.lines_in workers [] 2 (pieces_of text.now)) }
     ensures count { IfOk result (λ lines. vec_len lines ≡ length (pieces_of text.now)) }
 {
-    let mut lines = Vec::new(alloc);
+    let mut lines = Vec::with_capacity(alloc, room_for_lines(text))?;
     let mut labels = Labels::new(alloc);
     let mut rest = text;
     let mut number = 2;

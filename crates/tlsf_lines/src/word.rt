@@ -28,21 +28,14 @@ pub enum Word {
 pub fn word_of(field: &[u8]) -> Option<Word>
     ensures { result ≡ Lines.word_of Lines.words field.now }
 {
-    if field == b"a".as_slice() {
-        Some(Word::Allocate)
-    } else if field == b"f".as_slice() {
-        Some(Word::Release)
-    } else if field == b"p".as_slice() {
-        Some(Word::Write)
-    } else if field == b"g".as_slice() {
-        Some(Word::Read)
-    } else if field == b"d".as_slice() {
-        Some(Word::Drain)
-    } else if field == b"phase".as_slice() {
-        Some(Word::Phase)
-    } else if field == b"r".as_slice() {
-        Some(Word::Resize)
-    } else {
-        None
+    match field {
+        b"a" => Some(Word::Allocate),
+        b"f" => Some(Word::Release),
+        b"p" => Some(Word::Write),
+        b"g" => Some(Word::Read),
+        b"d" => Some(Word::Drain),
+        b"phase" => Some(Word::Phase),
+        b"r" => Some(Word::Resize),
+        _ => None,
     }
 }

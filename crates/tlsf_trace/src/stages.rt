@@ -95,6 +95,7 @@ pub fn race_trace<T: Threads + Wait + Sync, R: Read, W: Write, G: Gate>(
 {
     let bytes = read_all(alloc, reader)?;
     let trace = trace_in(alloc, &bytes)?;
+    drop(bytes);
     let output = race_output(rt, alloc, &trace, gate)?;
     finish(writer, trace.count_calls() as u32, &output)
 }
@@ -127,6 +128,7 @@ pub fn race_trace_over_queues<T: Threads + Wait + Sync, R: Read, W: Write, G: Ga
 {
     let bytes = read_all(alloc, reader)?;
     let trace = trace_in(alloc, &bytes)?;
+    drop(bytes);
     let output = queue_output(rt, alloc, &trace, gate)?;
     finish(writer, trace.count_calls() as u32, &output)
 }
