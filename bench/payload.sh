@@ -1,8 +1,13 @@
 #!/bin/sh
 # usage: bench/payload.sh
 #
-# Times writes and reads of 8, 64 and 4,096 payload bytes, on a copy of the repository. Run by hand: the gate doesn't.
+# Times writes and reads of 8 to 4,096 payload bytes, at a word's start and 3 bytes behind it, and memcpy of as many, by the C library
+# of ./library, which is built first. Run by hand: the gate doesn't. Needs cc.
 set -eu
-. "$(dirname "$0")/own_program.sh"
-own_program payload ': tlsf_heap anyhow' tlsf_class tlsf_words tlsf_heap
-(cd "$work/crates/payload_bench" && rt run)
+. "$(dirname "$0")/help.sh"
+top=$(cd "$(dirname "$0")/.." && pwd)
+work=$(mktemp -d)
+trap 'rm -rf "$work"' EXIT
+"$top/library" "$work" >&2
+cc -O2 -Wall -Wextra -I "$work/include" -o "$work/payload" "$top/bench/payload/payload.c" "$work/lib/libtlsf.a"
+"$work/payload"
