@@ -4,14 +4,6 @@ ghost use Rattle.tlsf_class.specs.Steps.{IsStep};
 
 use std::marker::Model;
 
-/// The most words that a region of level 4 may have, 2^20: 8 MiB in words of 64 bits. [`most_words`] answers it for each level.
-///
-/// ```
-/// let class = class_of::<4>(MOST_WORDS);     // class 272, the last
-/// let least = low(class);                    // MOST_WORDS again
-/// ```
-pub const MOST_WORDS: u32 = 1 << 20;
-
 /// A size class: a range of sizes in words, by its number, 4 to 272 at level 4 and 4 to 640 at level 5. Classes are ordered as
 /// their sizes are (ECRTS 2004, section 3). There is no class of another level than these.
 ///

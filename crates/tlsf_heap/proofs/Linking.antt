@@ -6,7 +6,7 @@ use Rattle.std.proofs.Math.ListN.{get_or-map}
 use Rattle.std.proofs.lemmas.Bool.{false≢true, cases_eq, cases_order}
 use Rattle.tlsf_words.specs.Fields.{tag_word}
 use Rattle.tlsf_heap.specs.Image.{Image, HoldsPayload, StartsOnce, BlockAt, ShowsFrom, Shows}
-use Rattle.tlsf_words.specs.Lists.{ListHeads, nowhere, places_from, list_of, without_place, AreThreaded, OnlyLinksChange}
+use Rattle.tlsf_words.specs.Lists.{ListHeads, nowhere, places_from, list_of, without_place, LinkedFrom, AreThreaded, OnlyLinksChange}
 use Rattle.tlsf_words.proofs.PlaceLists.{member_cases, without_within}
 use Rattle.tlsf_words.proofs.Threads.{kept}
 use Rattle.tlsf_heap.specs.Blocks.{Block, Live, Free, size_of, words_in, is_free, StandsAt}
@@ -14,7 +14,7 @@ use Rattle.tlsf_heap.specs.GoodFit.{block_at}
 use Rattle.tlsf_heap.specs.Read.{blocks_of}
 use Rattle.tlsf_heap.specs.Lawful.{HasRoom}
 use Rattle.tlsf_heap.specs.Listed.{AreFreeBlocks, lists_of, HoldsLists}
-use Rattle.tlsf_heap.specs.Regions.{RegionState, SameLists, AreUnlisted, list_in}
+use Rattle.tlsf_heap.specs.Regions.{RegionState, SameLists, AreUnlisted, AreLinked, list_in}
 use Rattle.tlsf_heap.proofs.Lying.{ends_before}
 use Rattle.tlsf_heap.proofs.Showing.{Replaces, word_at, least, same_payload, four_here, blocks_of-shown, blocks_replaced}
 use Rattle.tlsf_heap.proofs.Lawfulness.{all_left, all_right}
@@ -25,6 +25,10 @@ use Rattle.tlsf_heap.proofs.Lawfulness.{all_left, all_right}
 pub list_in-lists_of : (heads words : List ℕ) (class : ℕ) → list_in (lists_of heads words) class ≡ list_of heads words class
 unfolding lists_of list_of places_from
 list_in-lists_of heads words class = get_or-map (places_from (suc (length words)) words) heads class nowhere
+
+-- the links of a region that holds lists thread them
+pub linked_lists : (sli : ℕ) (m : Image) (l : ListHeads) → HoldsLists sli m l → AreLinked (list_in (lists_of l.heads m.words)) m.words
+linked_lists sli m l holds class = subst (LinkedFrom m.words nowhere) (sym (list_in-lists_of l.heads m.words class)) (holds.threaded.linked class)
 
 -- the words of a region hold the blocks and the lists that it shows
 pub record HoldsState (sli : ℕ) (m : Image) (l : ListHeads) (r : RegionState) : Type 0 where

@@ -9,8 +9,10 @@ use Rattle.std.proofs.lemmas.List.Sorted.{IsPermutation-refl, IsPermutation-sym,
 use Rattle.tlsf_class.specs.Classes.{class_of}
 use Rattle.tlsf_heap.specs.Blocks.{Free}
 use Rattle.tlsf_words.specs.Lists.{without_place, IsUnlisted}
-use Rattle.tlsf_heap.specs.Regions.{SameLists}
-use Rattle.tlsf_heap.specs.FreePlaces.{FreePlace, of_class, AreFalling, IsFreeList, AreFreeLists}
+use Rattle.tlsf_heap.specs.Regions.{SameLists, list_in}
+use Rattle.tlsf_heap.specs.FreePlaces.{FreePlace, of_class, AreFalling, IsFreeList, AreFreeLists, ShowsLists}
+use Rattle.tlsf_heap.specs.Stored.{IsStored}
+use Rattle.tlsf_heap.specs.declared.heap.Heap.TheInside.{Inside}
 use Rattle.tlsf_heap.proofs.Finding.{not_true}
 use Rattle.tlsf_heap.proofs.Lawfulness.{all_append, all_left, all_right}
 use Rattle.tlsf_heap.proofs.Permuting.{Parted, parted, taken_out}
@@ -247,3 +249,8 @@ listed_first sli words first class old new empty is_class came others =
     let nothing : AreListed [] old = λ other. record { order = []; same = IsPermutation-refl []; falling = tt; are = empty other } in
     let e : FreePlace = record { class = class; at = 0; stamp = first } in
     subst (λ (n : ℕ). AreListed (record { class = n; at = 0; stamp = first } ∷ []) new) is_class (given e [] [] old new others (λ place c. absurd (omega (arith, c.1))) came nothing)
+
+-- ---- what a heap shows of its lists
+
+pub stored_lists : (sli : ℕ) (h : Inside sli) → IsStored sli h → ShowsLists sli h.region.stored h.region.blocks
+stored_lists sli h is = record { places = list_in h.region.lists; are = is.listed; linked = is.linked }

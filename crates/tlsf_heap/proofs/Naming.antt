@@ -6,6 +6,7 @@ use Rattle.tlsf_heap.specs.Lawful.{IsLawful}
 use Rattle.tlsf_heap.specs.GoodFit.{Site, sites, block_at, site_at}
 use Rattle.tlsf_heap.specs.Calls.{is_named, has_serial, named}
 use Rattle.tlsf_heap.specs.Named.{NoneNamed, IsFirst, IsNamed, RefusesName}
+use Rattle.tlsf_heap.specs.Touched.{FollowsNoForgery}
 use Rattle.tlsf_heap.specs.declared.name.Name.{Name}
 use Rattle.tlsf_heap.specs.declared.refusal.Refusal.{Refusal}
 use Rattle.tlsf_heap.specs.declared.refusal.Refusal.TheVariants.{NoFit, Worn, Foreign, Stale, Range, NoRoom}
@@ -65,3 +66,11 @@ pub named_inside : (h : HeapState) (name : Name) → IsLawful h → (i : ℕ) �
 named_inside h name lawful i first =
     let stands = named_stands name.at name.serial h.blocks i first in
     omega (arith, words_up_to stands, words_in-take h.blocks (i + 1), four_words h.blocks lawful.rooms i stands.within, lawful.whole)
+
+-- so it was not forged, whatever a call with it touches
+pub not_forged : (h : HeapState) (name : Name) → IsLawful h → IsNamed h name → (before behind : ℕ) → FollowsNoForgery h name before behind
+not_forged h name lawful is_named before behind = record {
+  foreign = λ other. absurd (other is_named.0);
+  outside = λ past. absurd (omega (arith, past, named_inside h name lawful is_named.1.0 is_named.1.1));
+  nowhere = λ own inside none. absurd (none (is_named.1.0, named_stands name.at name.serial h.blocks is_named.1.0 is_named.1.1));
+}

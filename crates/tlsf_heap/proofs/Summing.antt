@@ -57,10 +57,16 @@ words_apart [] = refl
 words_apart (Live size serial bytes ∷ bs) = let e = words_apart bs in omega arith
 words_apart (Free size stamp ∷ bs) = let e = words_apart bs in omega arith
 
-pub counts_small : (bs : List Block) → AllByRecursion HasRoom bs → length (live_among bs) + length (free_among bs) ≤ words_in bs
-counts_small [] rooms = omega arith
-counts_small (Live size serial bytes ∷ bs) rooms = let e = counts_small bs rooms.1 in omega (arith, rooms.0.0)
-counts_small (Free size stamp ∷ bs) rooms = let e = counts_small bs rooms.1 in omega (arith, rooms.0)
+pub counts_apart : (bs : List Block) → length (live_among bs) + length (free_among bs) ≡ length bs
+counts_apart [] = refl
+counts_apart (Live size serial bytes ∷ bs) = let e = counts_apart bs in omega arith
+counts_apart (Free size stamp ∷ bs) = let e = counts_apart bs in omega arith
+
+-- no block has fewer than four words
+pub four_each : (bs : List Block) → AllByRecursion HasRoom bs → 4 * length bs ≤ words_in bs
+four_each [] rooms = omega arith
+four_each (Live size serial bytes ∷ bs) rooms = let e = four_each bs rooms.1 in omega (arith, rooms.0.0)
+four_each (Free size stamp ∷ bs) rooms = let e = four_each bs rooms.1 in omega (arith, rooms.0)
 
 pub payload_small : (bs : List Block) → AllByRecursion HasRoom bs → payload_in (live_among bs) ≤ 8 * words_in (live_among bs)
 payload_small [] rooms = omega arith

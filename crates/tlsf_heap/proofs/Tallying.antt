@@ -14,7 +14,7 @@ use Rattle.tlsf_heap.proofs.Lawfulness.{all_left, all_right}
 use Rattle.tlsf_heap.proofs.Edits.{words_in-take}
 use Rattle.tlsf_heap.proofs.Showing.{parted}
 use Rattle.tlsf_heap.proofs.Standing.{words_up_to}
-use Rattle.tlsf_heap.proofs.Summing.{with_live, with_free, tally-live, tally-free, words_apart, counts_small, payload_small}
+use Rattle.tlsf_heap.proofs.Summing.{with_live, with_free, tally-live, tally-free, words_apart, counts_apart, four_each, payload_small}
 
 -- the sums with a block more, live or free
 more_live : (tick : ℕ) (bs : List Block) (b : Block) → is_free b ≡ false → tally_of tick (bs ++ b ∷ []) ≡ with_live (tally_of tick bs) (size_of b) (length (bytes_of b))
@@ -75,7 +75,8 @@ module _ {tick at : ℕ} {bs : List Block} {t : Tally} (rooms : AllByRecursion H
   small here =
       let end = ends here in
       let apart = words_apart front in
-      let counts = counts_small front (rooms_before here) in
+      let counts = counts_apart front in
+      let few = four_each front (rooms_before here) in
       let held = payload_small front (rooms_before here) in
       let room = roomy next (room_at here) in
       let place = so_far.place in

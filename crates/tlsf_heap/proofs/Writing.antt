@@ -113,12 +113,16 @@ own_if : (b : Bool) (r : Result (List ℕ) Refusal) → Ok tt ≡ read_answer (c
 own_if true r e = refl
 own_if false r e = cc
 
+-- a range of which a read is done is that of a block of this name
+pub range_named : (k : HeapState) (name : Name) (at n : ℕ) → Ok tt ≡ read_answer (read_of k name at n) → HasRange k name at n → IsNamed k name
+range_named k name at n is_read range = (eqb-true name.heap k.id (own_if (eqb name.heap k.id) (read_at at n (named name k.blocks)) is_read), (range.0, range.1))
+
 -- a range of which a read is done, in a heap h that is the same as k
 module _ (h k : HeapState) (name : Name) (at n : ℕ) (same : h ≡ k) (is_read : Ok tt ≡ read_answer (read_of k name at n)) (range : HasRange k name at n) where
   found : (name.heap ≡ h.id) × HasRange h name at n
   found =
       subst (λ (s : HeapState). (name.heap ≡ s.id) × HasRange s name at n) (sym same)
-      (eqb-true name.heap k.id (own_if (eqb name.heap k.id) (read_at at n (named name k.blocks)) is_read), range)
+      ((range_named k name at n is_read range).0, range)
 
   pub range_stands : (i : ℕ) × StandsAt h.blocks name.at i × (at + n ≤ length (bytes_of (block_at h.blocks i)))
   range_stands = let i = found.1.0 in (i, named_stands _ _ _ _ found.1.1, range_fits (block_at h.blocks i) at n found.1.2)

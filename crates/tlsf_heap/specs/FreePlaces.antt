@@ -1,8 +1,10 @@
--- The free blocks by their places, and the list of those of a class.
+-- The free blocks by their places, the list of those of a class, and the links that the words of a region have for it.
 use Rattle.std.specs.Prelude.{◌≡◌, ℕ, ◌+◌, ◌<◌, List, [], ◌∷◌, ◌==◌, filter, map, IsPermutation, ⊤}
 use Rattle.std.specs.List.{AllByRecursion}
 use Rattle.tlsf_class.specs.Classes.{class_of}
+use Rattle.tlsf_words.specs.Lists.{nowhere, LinkedFrom}
 use Rattle.tlsf_heap.specs.Blocks.{Block, Live, Free}
+use Rattle.tlsf_heap.specs.Image.{Image}
 
 -- a free block: its class, the place where it begins, and the tick at which it became free
 pub record FreePlace : Type 0 where
@@ -35,3 +37,10 @@ pub record IsFreeList (class : ℕ) (free : List FreePlace) (places : List ℕ) 
 -- each class has the list of its free blocks
 abbrev pub AreFreeLists : ℕ → List Block → (ℕ → List ℕ) → Type 0
 AreFreeLists sli blocks lists = (class : ℕ) → IsFreeList class (free_places sli 0 blocks) (lists class)
+
+-- the third word of each free block names the next and the previous one of its class, in the order in which they became free, the last
+-- first; where there is none, it names nowhere
+pub record ShowsLists (sli : ℕ) (m : Image) (blocks : List Block) : Type 0 where
+  pub places : ℕ → List ℕ
+  pub are : AreFreeLists sli blocks places
+  pub linked : (class : ℕ) → LinkedFrom m.words nowhere (places class)

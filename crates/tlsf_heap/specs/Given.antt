@@ -12,7 +12,7 @@ payload_words_at None = 0
 payload_words_at (Some s) = payload_words s.block
 
 -- the payload words of the live block that an allocate gave, in the heap that it left; 0 where it was refused
-abbrev pub payload_words_given : Result Name Refusal → HeapState → ℕ
+abbrev pub payload_words_given : {E : Type 0} → Result Name E → HeapState → ℕ
 payload_words_given (Err why) h = 0
 payload_words_given (Ok name) h = payload_words_at (named name h.blocks)
 

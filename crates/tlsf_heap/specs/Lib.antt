@@ -5,6 +5,7 @@ pub mod GoodFit
 pub mod Chosen
 pub mod Calls
 pub mod Given
+pub mod Touched
 pub mod Headers
 pub mod Image
 pub mod Shown

@@ -2,7 +2,7 @@
 use Rattle.std.specs.Prelude.{◌≡◌, ◌≢◌, ℕ, ◌+◌, ◌-◌, ◌<◌, ◌≤◌, ◌==◌, List, [], ◌∷◌, ◌++◌, nat_le, if◌then◌else◌, slice_index_or, true, false}
 use Rattle.std.specs.List.{AllByRecursion}
 use Rattle.tlsf_words.specs.Memory.{Memory}
-use Rattle.tlsf_words.specs.Lists.{nowhere, without_place, IsUnlisted}
+use Rattle.tlsf_words.specs.Lists.{nowhere, without_place, LinkedFrom, IsUnlisted}
 use Rattle.tlsf_words.specs.declared.tag.Tag.{Tag}
 use Rattle.tlsf_heap.specs.Blocks.{Block, Live, Free, size_of, is_free, StandsAt}
 use Rattle.tlsf_heap.specs.Calls.{first_free, past_free, last_free, before_free}
@@ -92,6 +92,10 @@ SameLists new old = (class : ℕ) → new class ≡ old class
 abbrev pub AreUnlisted : (ℕ → List ℕ) → ℕ → ℕ → Type 0
 AreUnlisted lists from end = (k : ℕ) → from ≤ k → k < end → IsUnlisted lists k
 
+-- the links in the words thread the lists
+abbrev pub AreLinked : (ℕ → List ℕ) → List ℕ → Type 0
+AreLinked lists words = (class : ℕ) → LinkedFrom words nowhere (lists class)
+
 -- what is stored in the words of a region, without their touches
 abbrev pub image_of : Memory → Image
 image_of m = record { words = m.words; starts = m.starts }
@@ -112,10 +116,11 @@ pub record OnlyReads (old new : RegionState) (most : ℕ) : Type 0 where
   pub touches : new.touches ≤ old.touches + most
   pub rise : old.touches ≤ new.touches
 
--- the words show the blocks, are as many as they were, and the touches rise by `most` at most
+-- the words show the blocks and thread the lists, are as many as they were, and the touches rise by `most` at most
 pub record Edits (old new : RegionState) (most : ℕ) : Type 0 where
   pub words : new.words ≡ old.words
   pub shows : Shows new.stored new.blocks
+  pub linked : AreLinked (list_in new.lists) new.stored.words
   pub touches : new.touches ≤ old.touches + most
   pub rise : old.touches ≤ new.touches
 

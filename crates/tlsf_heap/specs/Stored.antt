@@ -5,17 +5,18 @@ use Rattle.tlsf_heap.specs.Blocks.{HeapState}
 use Rattle.tlsf_heap.specs.Lawful.{IsLawful}
 use Rattle.tlsf_heap.specs.Image.{Shows}
 use Rattle.tlsf_heap.specs.FreePlaces.{AreFreeLists}
-use Rattle.tlsf_heap.specs.Regions.{list_in}
+use Rattle.tlsf_heap.specs.Regions.{list_in, AreLinked}
 use Rattle.tlsf_heap.specs.declared.heap.Heap.TheInside.{Inside}
 
 -- the heap that is stored so
 abbrev pub state_of : (sli : ℕ) → Inside sli → HeapState
 state_of sli h = record { id = h.id; words = h.region.words; tick = h.tick; blocks = h.region.blocks }
 
--- the heap has a level and is lawful, its words show its blocks, and each class has the list of its free blocks
+-- the heap has a level and is lawful, its words show its blocks, each class has the list of its free blocks, and the words thread it
 pub record IsStored (sli : ℕ) (h : Inside sli) : Type 0 where
   pub level : IsLevel sli
   pub lawful : IsLawful (state_of sli h)
   pub shows : Shows h.region.stored h.region.blocks
   pub small : h.region.words ≤ most_words sli
   pub listed : AreFreeLists sli h.region.blocks (list_in h.region.lists)
+  pub linked : AreLinked (list_in h.region.lists) h.region.stored.words

@@ -30,8 +30,7 @@ pub fn free_header(words: &mut Words, at: u32, tag: Tag, stamp: u64)
     ensures starts { words.new.starts ≡ words.old.starts }
     ensures touches { words.new.touches ≡ words.old.touches + 2 }
 {
-    words.set_tag(at, tag);
-    words.set_mark(at, stamp);
+    words.set_tag_and_mark(at, tag, stamp);
 }
 
 /// Writes the header of the one free block of a region.
@@ -55,10 +54,8 @@ pub fn live_header(words: &mut Words, at: u32, tag: Tag, serial: u64, len: u32)
     ensures change { Wholes (image_of words.old) (image_of words.new) at tag serial len }
     ensures touches { words.new.touches ≡ words.old.touches + 3 + (tag.size - 3) }
 {
-    words.set_tag(at, tag.as_live());
-    words.set_mark(at, serial);
-    words.set_length(at, len);
-    words.zero(at + 3, tag.size() - 3);
+    words.set_header(at, tag.as_live(), serial, len);
+    words.zero(at + 4, tag.size() - 4);
 }
 
 /// Makes the free block at a place, of this tag, a live one of `size` words with `len` bytes of payload, all zero, and a free rest.

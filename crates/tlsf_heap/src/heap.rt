@@ -4,6 +4,7 @@ ghost use Rattle.std.specs.Result.{result_unwrap_or};
 ghost use Rattle.tlsf_class.specs.Classes.{IsLevel, most_words};
 ghost use Rattle.tlsf_heap.specs.Blocks;
 ghost use Rattle.tlsf_heap.specs.Blocks.{IsPlace};
+ghost use Rattle.tlsf_heap.specs.FreePlaces.{ShowsLists};
 ghost use Rattle.tlsf_heap.specs.Image.{Shows};
 ghost use Rattle.tlsf_heap.specs.InPlace.{payload_of, ArePayload, Alters, Inspects, IsPayloadCheck, IsRefusedAsRead};
 ghost use Rattle.tlsf_heap.specs.Lawful.{IsLawful, IsRegion};
@@ -15,6 +16,7 @@ ghost use Rattle.tlsf_heap.specs.Placed.{placed_at};
 ghost use Rattle.tlsf_heap.specs.Regions.{image_of};
 ghost use Rattle.tlsf_heap.specs.Reports.{report_of, IsGrant};
 ghost use Rattle.tlsf_heap.specs.Given.{payload_words_given, payload_words_left};
+ghost use Rattle.tlsf_heap.specs.Touched.{FollowsNoForgery, allocate_touches, release_touches, resize_touches};
 ghost use Rattle.tlsf_heap.specs.Calls.{opened, allocated, released, resized, written, read_of, read_answer, has_bytes, last_tick};
 
 use crate::fitting::{carve, choose, coalesce};
@@ -61,11 +63,18 @@ impl<const SLI: u32> Model for Heap<SLI> {
     ghost invariant = { IsStored SLI };
 }
 
-/// The words wanted for a request of `len` bytes.
-fn want(len: u32) -> u32
+/// The words wanted for a request of `len` bytes: three for the header and one for each eight bytes or part of them, and no
+/// fewer than four. A block that is given for it has so many words, or up to three more.
+///
+/// ```
+/// let words = want(100);          // 16
+/// let least = want(0);            // 4
+/// ```
+pub fn want(len: u32) -> u32
     ensures { result ≡ Blocks.want len }
 {
-    ((u64::from(len) + 31) / 8).max(4) as u32
+    // A byte for the payload of none, so that the words aren't compared with the least.
+    ((u64::from(len) + 31 + u64::from(len == 0)) / 8) as u32
 }
 
 impl<const SLI: u32> Heap<SLI> {
@@ -83,6 +92,7 @@ impl<const SLI: u32> Heap<SLI> {
         ensures heap { IfOk result (λ heap. heap.heap ≡ opened id words first) }
         ensures lawful { IfOk result (λ heap. IsLawful heap.heap) }
         ensures shows { IfOk result (λ heap. Shows heap.stored heap.heap.blocks) }
+        ensures lists { IfOk result (λ heap. ShowsLists SLI heap.stored heap.heap.blocks) }
 
         // The refusals, in their order. Memory is refused only where no other refusal comes.
         ensures bad_size { IsErrOf result OpenFault.BadSize ↔ ¬ (IsRegion SLI words) }
@@ -131,12 +141,11 @@ impl<const SLI: u32> Heap<SLI> {
         ensures was_lawful { IsLawful self.old.heap }
         ensures lawful { IsLawful self.new.heap }
         ensures shows { Shows self.new.stored self.new.heap.blocks }
+        ensures lists { ShowsLists SLI self.new.stored self.new.heap.blocks }
 
         // Accepted or refused, and whatever the region holds: at most 64 touches, and one for each payload word of the block given.
         ensures touches { self.new.touches ≤ self.old.touches + 64 + payload_words_given result self.new.heap }
-
-        // The count of this code: 3 to find the class, 7 to take its head out, 9 for the headers, and 7 to list the rest.
-        ensures most_touches { self.new.touches ≤ self.old.touches + 26 + payload_words_given result self.new.heap }
+        ensures most_touches { self.new.touches ≤ self.old.touches + allocate_touches result self.new.heap }
         ensures touches_rise { self.old.touches ≤ self.new.touches }
     {
         let words = want(len);
@@ -177,20 +186,13 @@ impl<const SLI: u32> Heap<SLI> {
         ensures was_lawful { IsLawful self.old.heap }
         ensures lawful { IsLawful self.new.heap }
         ensures shows { Shows self.new.stored self.new.heap.blocks }
+        ensures lists { ShowsLists SLI self.new.stored self.new.heap.blocks }
 
         // Accepted or refused, and whatever the region holds: at most 64 touches.
         ensures touches { self.new.touches ≤ self.old.touches + 64 }
-
-        // The count of this code: 3 to check the name, 2 for the tags of the neighbours, 12 to take these out of their lists, 6 for the
-        // headers, and 7 to list what is left.
-        ensures most_touches { self.new.touches ≤ self.old.touches + 30 }
+        ensures most_touches { self.new.touches ≤ self.old.touches + release_touches }
         ensures touches_rise { self.old.touches ≤ self.new.touches }
-
-        // A forged name is not followed: not even a start bit is read unless the place lies in the region, and no word unless a block begins there.
-        ensures foreign { name.heap ≢ self.old.heap.id → self.new.touches ≡ self.old.touches }
-        ensures outside { self.old.heap.words ≤ name.at → self.new.touches ≡ self.old.touches }
-        ensures nowhere { name.heap ≡ self.old.heap.id → name.at < self.old.heap.words → ¬ (IsPlace self.old.heap.blocks name.at)
-            → self.new.touches ≡ self.old.touches + 1 }
+        ensures forged { FollowsNoForgery self.old.heap name self.old.touches self.new.touches }
     {
         let own = self.check(name)?;
         let tick = self.tick;
@@ -228,20 +230,13 @@ impl<const SLI: u32> Heap<SLI> {
         ensures was_lawful { IsLawful self.old.heap }
         ensures lawful { IsLawful self.new.heap }
         ensures shows { Shows self.new.stored self.new.heap.blocks }
+        ensures lists { ShowsLists SLI self.new.stored self.new.heap.blocks }
 
         // Accepted or refused, and whatever the region holds: at most 64 touches, and one for each payload word of the block that is left.
         ensures touches { self.new.touches ≤ self.old.touches + 64 + payload_words_left result self.new.heap name }
-
-        // The count of this code: 3 to check the name, 1 for the tag behind, 6 to take that block out of its list, 7 for the headers, 7 to list
-        // the rest, and 3 for the payload besides its words.
-        ensures most_touches { self.new.touches ≤ self.old.touches + 27 + payload_words_left result self.new.heap name }
+        ensures most_touches { self.new.touches ≤ self.old.touches + resize_touches result self.new.heap name }
         ensures touches_rise { self.old.touches ≤ self.new.touches }
-
-        // A forged name is not followed: not even a start bit is read unless the place lies in the region, and no word unless a block begins there.
-        ensures foreign { name.heap ≢ self.old.heap.id → self.new.touches ≡ self.old.touches }
-        ensures outside { self.old.heap.words ≤ name.at → self.new.touches ≡ self.old.touches }
-        ensures nowhere { name.heap ≡ self.old.heap.id → name.at < self.old.heap.words → ¬ (IsPlace self.old.heap.blocks name.at)
-            → self.new.touches ≡ self.old.touches + 1 }
+        ensures forged { FollowsNoForgery self.old.heap name self.old.touches self.new.touches }
     {
         let own = self.check(name)?;
         let words = want(len);
@@ -283,12 +278,14 @@ impl<const SLI: u32> Heap<SLI> {
         ensures was_lawful { IsLawful self.old.heap }
         ensures lawful { IsLawful self.new.heap }
         ensures shows { Shows self.new.stored self.new.heap.blocks }
+        ensures lists { ShowsLists SLI self.new.stored self.new.heap.blocks }
 
         // Accepted or refused, and whatever the region holds: at most 128 touches, one for each payload word of the block resized where
         // it stands, and three for each of that which it moves to.
         ensures touches { self.new.touches ≤ self.old.touches + 128 + payload_words_left (resized self.old.heap name len).answer (resized self.old.heap name len).heap name
             + 3 * payload_words_moved SLI self.old.heap len }
         ensures touches_rise { self.old.touches ≤ self.new.touches }
+        ensures forged { FollowsNoForgery self.old.heap name self.old.touches self.new.touches }
     {
         match self.resize(name, len) {
             Ok(()) => Ok(name),
@@ -317,14 +314,10 @@ impl<const SLI: u32> Heap<SLI> {
         ensures was_lawful { IsLawful self.old.heap }
         ensures lawful { IsLawful self.new.heap }
         ensures shows { Shows self.new.stored self.new.heap.blocks }
+        ensures lists { ShowsLists SLI self.new.stored self.new.heap.blocks }
         ensures touches { self.new.touches ≤ self.old.touches + 4 + 2 * (length bytes.now / 8 + 2) }
         ensures touches_rise { self.old.touches ≤ self.new.touches }
-
-        // A forged name is not followed: not even a start bit is read unless the place lies in the region, and no word unless a block begins there.
-        ensures foreign { name.heap ≢ self.old.heap.id → self.new.touches ≡ self.old.touches }
-        ensures outside { self.old.heap.words ≤ name.at → self.new.touches ≡ self.old.touches }
-        ensures nowhere { name.heap ≡ self.old.heap.id → name.at < self.old.heap.words → ¬ (IsPlace self.old.heap.blocks name.at)
-            → self.new.touches ≡ self.old.touches + 1 }
+        ensures forged { FollowsNoForgery self.old.heap name self.old.touches self.new.touches }
     {
         self.check_range(name, at, bytes.len())?;
         self.region.write(name.at, at, bytes);
@@ -349,12 +342,7 @@ impl<const SLI: u32> Heap<SLI> {
         ensures was_lawful { IsLawful self.old.heap }
         ensures touches { self.new.touches ≤ self.old.touches + 4 + (length out.old / 8 + 2) }
         ensures touches_rise { self.old.touches ≤ self.new.touches }
-
-        // A forged name is not followed: not even a start bit is read unless the place lies in the region, and no word unless a block begins there.
-        ensures foreign { name.heap ≢ self.old.heap.id → self.new.touches ≡ self.old.touches }
-        ensures outside { self.old.heap.words ≤ name.at → self.new.touches ≡ self.old.touches }
-        ensures nowhere { name.heap ≡ self.old.heap.id → name.at < self.old.heap.words → ¬ (IsPlace self.old.heap.blocks name.at)
-            → self.new.touches ≡ self.old.touches + 1 }
+        ensures forged { FollowsNoForgery self.old.heap name self.old.touches self.new.touches }
     {
         self.check_range(name, at, out.len())?;
         self.region.read(name.at, at, out);
@@ -386,14 +374,10 @@ impl<const SLI: u32> Heap<SLI> {
         ensures was_lawful { IsLawful self.old.heap }
         ensures lawful { IsLawful self.new.heap }
         ensures shows { Shows self.new.stored self.new.heap.blocks }
+        ensures lists { ShowsLists SLI self.new.stored self.new.heap.blocks }
         ensures touches { self.new.touches ≤ self.old.touches + 4 }
         ensures touches_rise { self.old.touches ≤ self.new.touches }
-
-        // A forged name is not followed: not even a start bit is read unless the place lies in the region, and no word unless a block begins there.
-        ensures foreign { name.heap ≢ self.old.heap.id → self.new.touches ≡ self.old.touches }
-        ensures outside { self.old.heap.words ≤ name.at → self.new.touches ≡ self.old.touches }
-        ensures nowhere { name.heap ≡ self.old.heap.id → name.at < self.old.heap.words → ¬ (IsPlace self.old.heap.blocks name.at)
-            → self.new.touches ≡ self.old.touches + 1 }
+        ensures forged { FollowsNoForgery self.old.heap name self.old.touches self.new.touches }
     {
         let len = self.check_payload(name)?;
         Ok(self.region.alter(name.at, len, f))
@@ -419,12 +403,7 @@ impl<const SLI: u32> Heap<SLI> {
         ensures was_lawful { IsLawful self.old.heap }
         ensures touches { self.new.touches ≤ self.old.touches + 4 }
         ensures touches_rise { self.old.touches ≤ self.new.touches }
-
-        // A forged name is not followed: not even a start bit is read unless the place lies in the region, and no word unless a block begins there.
-        ensures foreign { name.heap ≢ self.old.heap.id → self.new.touches ≡ self.old.touches }
-        ensures outside { self.old.heap.words ≤ name.at → self.new.touches ≡ self.old.touches }
-        ensures nowhere { name.heap ≡ self.old.heap.id → name.at < self.old.heap.words → ¬ (IsPlace self.old.heap.blocks name.at)
-            → self.new.touches ≡ self.old.touches + 1 }
+        ensures forged { FollowsNoForgery self.old.heap name self.old.touches self.new.touches }
     {
         let len = self.check_payload(name)?;
         Ok(self.region.inspect(name.at, len, f))
@@ -443,7 +422,10 @@ impl<const SLI: u32> Heap<SLI> {
         ensures payload { MatchResult result (λ p. IsPayloadCheck self.old.heap name (Ok p.1)) (λ why. IsPayloadCheck self.old.heap name (Err why)) }
         ensures heap { self.new.heap ≡ self.old.heap }
         ensures stored { self.new.stored ≡ self.old.stored }
-        ensures touches { self.new.touches ≤ self.old.touches + 5 }
+        ensures was_lawful { IsLawful self.old.heap }
+        ensures touches { self.new.touches ≤ self.old.touches + 4 }
+        ensures touches_rise { self.old.touches ≤ self.new.touches }
+        ensures forged { FollowsNoForgery self.old.heap name self.old.touches self.new.touches }
     {
         let len = self.check_payload(name)?;
         let base = self.region.base();
@@ -465,8 +447,9 @@ impl<const SLI: u32> Heap<SLI> {
         ensures stored { self.new.stored ≡ self.old.stored }
         ensures was_lawful { IsLawful self.old.heap }
 
-        // Three for each block, and no block has less than a word.
-        ensures touches { self.new.touches ≤ self.old.touches + 3 * self.old.heap.words }
+        // Two for each block, and no block has fewer than four words.
+        ensures touches { self.new.touches ≤ self.old.touches + 2 * length self.old.heap.blocks }
+        ensures few { 4 * length self.old.heap.blocks ≤ self.old.heap.words }
         ensures touches_rise { self.old.touches ≤ self.new.touches }
     {
         let tick = self.tick;
@@ -520,6 +503,9 @@ impl<const SLI: u32> Heap<SLI> {
     pub fn into_words(self) -> Words
         ensures stored { image_of result ≡ self.entry.stored }
         ensures shows { Shows self.entry.stored self.entry.heap.blocks }
+
+        // The links of the free blocks: each class has one list, that which became free last first.
+        ensures lists { ShowsLists SLI self.entry.stored self.entry.heap.blocks }
     {
         self.region.into_words()
     }
@@ -530,13 +516,11 @@ impl<const SLI: u32> Heap<SLI> {
         ensures heap { self.new.heap ≡ self.old.heap }
         ensures stored { self.new.stored ≡ self.old.stored }
         ensures shows { Shows self.new.stored self.new.heap.blocks }
+        ensures lists { ShowsLists SLI self.new.stored self.new.heap.blocks }
         ensures lawful { IsLawful self.old.heap }
         ensures touches { self.new.touches ≤ self.old.touches + 3 }
         ensures rise { self.old.touches ≤ self.new.touches }
-        ensures foreign { name.heap ≢ self.old.heap.id → self.new.touches ≡ self.old.touches }
-        ensures outside { self.old.heap.words ≤ name.at → self.new.touches ≡ self.old.touches }
-        ensures nowhere { name.heap ≡ self.old.heap.id → name.at < self.old.heap.words → ¬ (IsPlace self.old.heap.blocks name.at)
-            → self.new.touches ≡ self.old.touches + 1 }
+        ensures forged { FollowsNoForgery self.old.heap name self.old.touches self.new.touches }
     {
         if name.heap != self.id {
             return Err(Refusal::Foreign);
@@ -553,13 +537,11 @@ impl<const SLI: u32> Heap<SLI> {
         ensures heap { self.new.heap ≡ self.old.heap }
         ensures stored { self.new.stored ≡ self.old.stored }
         ensures shows { Shows self.new.stored self.new.heap.blocks }
+        ensures lists { ShowsLists SLI self.new.stored self.new.heap.blocks }
         ensures lawful { IsLawful self.old.heap }
         ensures touches { self.new.touches ≤ self.old.touches + 4 }
         ensures rise { self.old.touches ≤ self.new.touches }
-        ensures foreign { name.heap ≢ self.old.heap.id → self.new.touches ≡ self.old.touches }
-        ensures outside { self.old.heap.words ≤ name.at → self.new.touches ≡ self.old.touches }
-        ensures nowhere { name.heap ≡ self.old.heap.id → name.at < self.old.heap.words → ¬ (IsPlace self.old.heap.blocks name.at)
-            → self.new.touches ≡ self.old.touches + 1 }
+        ensures forged { FollowsNoForgery self.old.heap name self.old.touches self.new.touches }
     {
         self.check(name)?;
         Ok(self.region.length(name.at))
@@ -572,13 +554,11 @@ impl<const SLI: u32> Heap<SLI> {
         ensures heap { self.new.heap ≡ self.old.heap }
         ensures stored { self.new.stored ≡ self.old.stored }
         ensures shows { Shows self.new.stored self.new.heap.blocks }
+        ensures lists { ShowsLists SLI self.new.stored self.new.heap.blocks }
         ensures lawful { IsLawful self.old.heap }
         ensures touches { self.new.touches ≤ self.old.touches + 4 }
         ensures rise { self.old.touches ≤ self.new.touches }
-        ensures foreign { name.heap ≢ self.old.heap.id → self.new.touches ≡ self.old.touches }
-        ensures outside { self.old.heap.words ≤ name.at → self.new.touches ≡ self.old.touches }
-        ensures nowhere { name.heap ≡ self.old.heap.id → name.at < self.old.heap.words → ¬ (IsPlace self.old.heap.blocks name.at)
-            → self.new.touches ≡ self.old.touches + 1 }
+        ensures forged { FollowsNoForgery self.old.heap name self.old.touches self.new.touches }
     {
         self.check(name)?;
         let length = self.region.length(name.at) as usize;
@@ -597,6 +577,7 @@ impl<const SLI: u32> Heap<SLI> {
         ensures stored { OnErr result (self.new.stored ≡ self.old.stored) }
         ensures lawful { IsLawful self.new.heap }
         ensures shows { Shows self.new.stored self.new.heap.blocks }
+        ensures lists { ShowsLists SLI self.new.stored self.new.heap.blocks }
         ensures touches { self.new.touches ≤ self.old.touches + 61 + 3 * payload_words_moved SLI self.old.heap len }
         ensures rise { self.old.touches ≤ self.new.touches }
     {
@@ -631,6 +612,7 @@ impl<const SLI: u32> Heap<SLI> {
         ensures heap { self.new.heap ≡ (written self.old.heap to 0 (take len (payload_of self.old.heap from))).heap }
         ensures lawful { IsLawful self.new.heap }
         ensures shows { Shows self.new.stored self.new.heap.blocks }
+        ensures lists { ShowsLists SLI self.new.stored self.new.heap.blocks }
         ensures touches { self.new.touches ≤ self.old.touches + 2 * (len / 8) + 3 }
         ensures rise { self.old.touches ≤ self.new.touches }
     {

@@ -35,7 +35,7 @@ mod region;
 mod report;
 mod tally;
 
-pub use heap::Heap;
+pub use heap::{Heap, want};
 pub use laws::{
     blocks_never_overlap, grant_is_greatest, names_live_until_released,
     refused_only_where_nothing_fits,
@@ -45,4 +45,4 @@ pub use open_fault::OpenFault;
 pub use placed_block::{Content, PlacedBlock};
 pub use refusal::Refusal;
 pub use report::Report;
-pub use tlsf_class::{MOST_WORDS, most_words};
+pub use tlsf_class::most_words;

@@ -3,7 +3,7 @@
 pub struct PlacedBlock {
     /// The place of its first word.
     pub at: u32,
-    /// Its words, header and all: 4 to 2^20. The next block begins at `at + size`.
+    /// Its words, header and all: 4 to 2^20, or to 2^24 at level 5. The next block begins at `at + size`.
     pub size: u32,
     /// What it holds.
     pub content: Content,

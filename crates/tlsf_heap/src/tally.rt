@@ -1,5 +1,5 @@
 //! The sums that a report is made of. Sizes and places are in words.
-ghost use Rattle.std.specs.Prelude.{◌≡◌, ℕ, ◌*◌, ◌+◌, ◌<◌, ◌≤◌, ◌^◌, [], max, min};
+ghost use Rattle.std.specs.Prelude.{◌≡◌, ℕ, ◌*◌, ◌+◌, ◌<◌, ◌≤◌, ◌^◌, [], length, max, min};
 ghost use Rattle.std.specs.List.{AllByRecursion};
 ghost use Rattle.tlsf_class.specs.Classes.{IsLevel};
 ghost use Rattle.tlsf_heap.specs.Blocks.{words_in};
@@ -33,7 +33,7 @@ impl Tally {
         requires small { words_in region.old.blocks ≤ 2 ^ 24 }
         requires whole { words_in region.old.blocks ≡ region.old.words }
         ensures sums { result ≡ tally_of tick region.old.blocks }
-        ensures reads { OnlyReads region.old region.new (3 * region.old.words) }
+        ensures reads { OnlyReads region.old region.new (2 * length region.old.blocks) }
     {
         let words = region.len();
         let mut tally = Tally::new(tick);
@@ -66,8 +66,9 @@ impl Tally {
         requires within { at < words_in region.old.blocks }
         requires sums { (tick : ℕ) × IsTallyUpTo tick region.old.blocks at self.old }
         ensures sums { (tick : ℕ) → IsTallyUpTo tick region.old.blocks at self.old → IsTallyUpTo tick region.old.blocks result self.new }
+        ensures one { self.new.live_blocks + self.new.free_blocks ≡ self.old.live_blocks + self.old.free_blocks + 1 }
         ensures behind { at < result }
-        ensures reads { OnlyReads region.old region.new 3 }
+        ensures reads { OnlyReads region.old region.new 2 }
     {
         let tag = region.tag(at);
         let size = tag.size();

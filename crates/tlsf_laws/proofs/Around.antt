@@ -1,10 +1,9 @@
 -- What a call leaves of a fact about each block, of the words of a region, and of a new heap.
-use Rattle.std.proofs.Common.{◌≡◌, ℕ, ◌≤◌, List, [], ◌∷◌, ◌++◌, refl, sym, ◌∙◌, subst, arith}
+use Rattle.std.proofs.Common.{◌≡◌, ℕ, List, [], ◌∷◌, ◌++◌, refl, sym, ◌∙◌, subst}
 use Rattle.std.specs.List.{AllByRecursion}
 use Rattle.tlsf_heap.specs.Blocks.{Block, Live, Free, HeapState}
 use Rattle.tlsf_heap.specs.GoodFit.{Site}
-use Rattle.tlsf_heap.specs.Lawful.{IsLawful}
-use Rattle.tlsf_heap.specs.Calls.{Call, Allocate, Release, Write, Resize, Read, past_free, before_free, answered, opened, run}
+use Rattle.tlsf_heap.specs.Calls.{Call, Allocate, Release, Write, Resize, Read, past_free, before_free, answered, run}
 use Rattle.tlsf_heap.proofs.Lawfulness.{all_left, all_right}
 use Rattle.tlsf_heap.proofs.Coalescing.{by_last}
 use Rattle.tlsf_heap.proofs.Outcomes.{by_allocated, by_released, by_written}
@@ -36,15 +35,3 @@ words_kept sli h (Read name at n) = refl
 pub words_run : (sli : ℕ) (h : HeapState) (calls : List Call) → (run sli h calls).1.words ≡ h.words
 words_run sli h [] = refl
 words_run sli h (call ∷ calls) = words_run sli (answered sli h call).1 calls ∙ words_kept sli h call
-
--- a new heap is lawful
-pub new_lawful : (id words first : ℕ) → 4 ≤ words → IsLawful (opened id words first)
-new_lawful id words first four = record {
-  rooms = (four, tt);
-  whole = omega arith;
-  apart = tt;
-  serials_differ = tt;
-  stamps_differ = (tt, tt);
-  serials_past = tt;
-  stamps_past = (omega arith, tt);
-}

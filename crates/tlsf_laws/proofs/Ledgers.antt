@@ -13,6 +13,8 @@ use Rattle.tlsf_heap.specs.declared.name.Name.{Name}
 use Rattle.tlsf_heap.specs.declared.refusal.Refusal.TheVariants.{Worn, Foreign, Range}
 use Rattle.tlsf_heap.proofs.Writing.{length-overwritten, range_fits}
 use Rattle.tlsf_heap.proofs.Outcomes.{by_test, IsSiteOf, named_site, gives, by_allocated, takes, writes, lawful_run}
+use Rattle.tlsf_heap.proofs.Lawfulness.{opened_lawful}
+use Rattle.tlsf_heap.proofs.Fitted.{length-fitted}
 use Rattle.tlsf_laws.specs.Room.{live_count}
 use Rattle.tlsf_laws.specs.Contents.{contents, is_same}
 use Rattle.tlsf_laws.specs.Kinds.{Ledger, lengths, with_length, ledger_after, ledger_after_all, LedgerHoldsWhatIsLive}
@@ -20,8 +22,7 @@ use Rattle.tlsf_laws.proofs.Names.{same_is, same_flip}
 use Rattle.tlsf_laws.proofs.Loads.{load, load_given, load_taken, load_resized, load_written}
 use Rattle.tlsf_laws.proofs.Held.{one, counted}
 use Rattle.tlsf_laws.proofs.Looks.{found_bytes, given_name, taken_name, resized_name, written_name, fresh, new_empty}
-use Rattle.tlsf_laws.proofs.Around.{new_lawful}
-use Rattle.tlsf_laws.proofs.Refits.{by_resize, fitted_count, refits}
+use Rattle.tlsf_laws.proofs.Refits.{by_resize, refits}
 
 -- the sum of a number for each length
 abbrev pub sum_of : (ℕ → ℕ) → List ℕ → ℕ
@@ -246,7 +247,7 @@ lengthened h s name len l agrees lawful own site e is = record {
   found = λ other.
       lookup_with name other len l
       ∙ new_length other (is_same name other) refl
-      ∙ ap (λ (k : ℕ). cond (is_same name other) (Some k) (option_map length (contents h other))) (sym (fitted_count (bytes_of s.block) len))
+      ∙ ap (λ (k : ℕ). cond (is_same name other) (Some k) (option_map length (contents h other))) (sym (length-fitted (bytes_of s.block) len))
       ∙ sym (ap (option_map length) (resized_name h s name len other lawful own site is) ∙ mapped (is_same name other) (Some (fitted (bytes_of s.block) len)) (contents h other));
   apart = apart_with name len l agrees.apart;
 }
@@ -312,4 +313,4 @@ live_agrees h l agrees = counted h.blocks ∙ agrees.totals one ∙ sum_one (len
 pub ledger_holds : (sli : ℕ) (level : IsLevel sli) → LedgerHoldsWhatIsLive sli
 ledger_holds sli level id words first calls four =
     let start : HeapState = opened id words first in
-    live_agrees (run sli start calls).1 (ledger_after_all [] calls (run sli start calls).0) (agrees_run sli level start calls [] (new_agrees id words first) (new_lawful id words first four))
+    live_agrees (run sli start calls).1 (ledger_after_all [] calls (run sli start calls).0) (agrees_run sli level start calls [] (new_agrees id words first) (opened_lawful id words first four))

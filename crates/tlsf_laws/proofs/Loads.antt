@@ -10,7 +10,8 @@ use Rattle.tlsf_heap.proofs.Edits.{carved_small, carved_large}
 use Rattle.tlsf_heap.proofs.Coalescing.{by_last}
 use Rattle.tlsf_heap.proofs.Writing.{length-overwritten, range_fits}
 use Rattle.tlsf_heap.proofs.Outcomes.{IsSiteOf, gives, takes, writes}
-use Rattle.tlsf_laws.proofs.Refits.{by_refit, fitted_count, refits}
+use Rattle.tlsf_heap.proofs.Fitted.{length-fitted}
+use Rattle.tlsf_laws.proofs.Refits.{by_refit, refits}
 
 abbrev pub load : (ℕ → ℕ) → List Block → ℕ
 load f [] = 0
@@ -59,7 +60,7 @@ module _ (f : ℕ → ℕ) where
   load_refitted : (tick n len serial : ℕ) (b : Block) (bs : List Block) → has_serial serial b ≡ true → load f (refitted tick n len b bs) ≡ f len + load f bs
   load_refitted tick n len serial (Free m s) bs e = absurd (false≢true e)
   load_refitted tick n len serial (Live m s xs) bs e =
-      let many : f (length (fitted xs len)) ≡ f len = ap f (fitted_count xs len) in
+      let many : f (length (fitted xs len)) ≡ f len = ap f (length-fitted xs len) in
       let past = load_past bs in
       by_refit (λ l. load f l ≡ f len + load f bs) tick n len m s xs bs (λ enough few. omega (arith, many)) (λ large. omega (arith, many, past)) (λ small. omega (arith, many, past))
 

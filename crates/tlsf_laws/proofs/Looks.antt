@@ -17,12 +17,11 @@ use Rattle.tlsf_heap.specs.declared.name.Name.{Name}
 use Rattle.tlsf_heap.specs.declared.refusal.Refusal.{Refusal}
 use Rattle.tlsf_heap.specs.declared.refusal.Refusal.TheVariants.{Foreign, Range}
 use Rattle.tlsf_heap.proofs.Finding.{and_left, and_right}
-use Rattle.tlsf_heap.proofs.Lawfulness.{all_left, all_right, all_weaker, words_in-append, serials-append}
+use Rattle.tlsf_heap.proofs.Lawfulness.{all_left, all_right, all_weaker, words_in-append, serials-append, opened_lawful}
 use Rattle.tlsf_heap.proofs.Edits.{carved_small, carved_large}
 use Rattle.tlsf_heap.proofs.Coalescing.{by_last}
 use Rattle.tlsf_heap.proofs.Sizes.{last_words}
 use Rattle.tlsf_heap.proofs.Outcomes.{by_test, IsSiteOf, named_site, gives, by_allocated, takes, by_released, writes, lawful_run}
-use Rattle.tlsf_laws.proofs.Around.{new_lawful}
 use Rattle.tlsf_laws.proofs.Names.{same_self}
 use Rattle.tlsf_laws.specs.Contents.{Contents, bytes_there, contents, is_same, with_contents, after, after_all, part_of, got, HasWhatIsLive, ChangesOneName, part, WritesIntoContents, ReadsBack, ReadsWhatWasWritten}
 use Rattle.tlsf_laws.proofs.Refits.{by_refit, by_resize, refits}
@@ -396,7 +395,7 @@ reads h name at n = at_name (eqb name.heap h.id) (named name h.blocks)
 pub told_new : (sli : ℕ) (level : IsLevel sli) (id words first : ℕ) (calls : List Call) (name : Name) → 4 ≤ words
     → let end = run sli (opened id words first) calls in contents end.1 name ≡ after_all (λ other. None) calls end.0 name
 told_new sli level id words first calls name four =
-    told sli level (opened id words first) calls name (new_lawful id words first four)
+    told sli level (opened id words first) calls name (opened_lawful id words first four)
     ∙ all_same (contents (opened id words first)) (λ other. None) (new_empty id words first) calls (run sli (opened id words first) calls).0 name
 
 pub history : (sli : ℕ) (level : IsLevel sli) → ReadsWhatWasWritten sli

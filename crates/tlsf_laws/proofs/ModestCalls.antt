@@ -12,7 +12,7 @@ use Rattle.tlsf_heap.specs.Reports.{live_among}
 use Rattle.tlsf_heap.specs.declared.name.Name.{Name}
 use Rattle.tlsf_heap.specs.declared.refusal.Refusal.TheVariants.{NoFit, Worn}
 use Rattle.tlsf_heap.proofs.Finding.{and_left}
-use Rattle.tlsf_heap.proofs.Lawfulness.{all_append}
+use Rattle.tlsf_heap.proofs.Lawfulness.{all_append, opened_lawful}
 use Rattle.tlsf_heap.proofs.Edits.{carved_small, carved_large}
 use Rattle.tlsf_heap.proofs.Summing.{words_apart}
 use Rattle.tlsf_heap.proofs.Outcomes.{by_test, gives, by_allocated, by_released, by_written, lawful_run}
@@ -21,7 +21,7 @@ use Rattle.tlsf_laws.specs.Room.{live_count, sure}
 use Rattle.tlsf_laws.specs.Held.{held_after}
 use Rattle.tlsf_laws.specs.Pools.{pool_words, IsSmall, IsModest, AreModest, HasRoomFor, IsServed, PoolSuffices, PoolServes}
 use Rattle.tlsf_laws.proofs.FreeRoom.{finds_room, sure_rises}
-use Rattle.tlsf_laws.proofs.Around.{past_all, before_all, around_site, words_kept, new_lawful}
+use Rattle.tlsf_laws.proofs.Around.{past_all, before_all, around_site, words_kept}
 use Rattle.tlsf_laws.proofs.Held.{held_is}
 use Rattle.tlsf_laws.proofs.Refits.{by_refit, by_resize}
 
@@ -139,7 +139,7 @@ module _ (sli : ℕ) (level : IsLevel sli) (words most len : ℕ) (region : want
 
 -- a new heap is a pool
 pub opens : (sli id words first k : ℕ) → IsRegion sli words → InPool words k (opened id words first)
-opens sli id words first k region = record { lawful = new_lawful id words first region.0; words_are = refl; small = ((λ f. absurd (false≢true (sym f))), tt) }
+opens sli id words first k region = record { lawful = opened_lawful id words first region.0; words_are = refl; small = ((λ f. absurd (false≢true (sym f))), tt) }
 
 pub suffices : (sli : ℕ) (level : IsLevel sli) → PoolSuffices sli
 suffices sli level id words first most len calls region upto enough modest = none_refused sli level words most len upto enough (opened id words first) calls (opens sli id words first (want len + 3) region) modest

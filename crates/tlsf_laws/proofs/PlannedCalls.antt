@@ -11,11 +11,12 @@ use Rattle.tlsf_heap.specs.declared.refusal.Refusal.TheVariants.{NoFit}
 use Rattle.tlsf_heap.proofs.Summing.{words_apart}
 use Rattle.tlsf_heap.proofs.Outcomes.{lawful_run}
 use Rattle.tlsf_heap.proofs.Served.{no_fit}
+use Rattle.tlsf_heap.proofs.Lawfulness.{opened_lawful}
 use Rattle.tlsf_laws.specs.Room.{live_count, free_words, sure, IsSnug}
 use Rattle.tlsf_laws.specs.Pools.{HasRoomFor}
 use Rattle.tlsf_laws.specs.Kinds.{Ledger, lengths, ledger_after, AreOfKinds, IsPlanned, ArePlanned, count_in, table_words, words_with, kinds_words, HasClass, KindsSuffice, OneKindIsAPool}
 use Rattle.tlsf_laws.specs.declared.kind.Kind.{Kind}
-use Rattle.tlsf_laws.proofs.Around.{words_kept, new_lawful}
+use Rattle.tlsf_laws.proofs.Around.{words_kept}
 use Rattle.tlsf_laws.proofs.FreeRoom.{finds_room, sure_rises}
 use Rattle.tlsf_laws.proofs.Held.{one, counted}
 use Rattle.tlsf_laws.proofs.Ledgers.{Agrees, agrees_call, new_agrees, sum_of, sum_one}
@@ -88,7 +89,7 @@ module _ (sli : ℕ) (level : IsLevel sli) (words : ℕ) (kinds : List Kind) (cl
 pub kinds_suffice : (sli : ℕ) (level : IsLevel sli) → KindsSuffice sli
 kinds_suffice sli level id words first kinds calls region classes large planned =
     none_refused sli level words kinds classes large (opened id words first) [] calls
-    (record { lawful = new_lawful id words first region.0; words_are = refl; snug = (tt, tt); agrees = new_agrees id words first }) planned
+    (record { lawful = opened_lawful id words first region.0; words_are = refl; snug = (tt, tt); agrees = new_agrees id words first }) planned
 
 most_but_one : (m w : ℕ) → m * w - w ≡ (m - 1) * w
 most_but_one zero w = omega arith

@@ -1,8 +1,7 @@
 -- What a resize comes to, by its cases: a refusal, or one of three edits of a live block and those behind it.
-use Rattle.std.proofs.Common.{◌≡◌, ℕ, ◌+◌, ◌-◌, ◌<◌, ◌≤◌, ◌&&◌, Bool, true, false, cond, eqb, nat_le, nat_lt, List, [], ◌∷◌, ◌++◌, length, take, replicate, Option, Some, None, Ok, refl, arith, length-append}
+use Rattle.std.proofs.Common.{◌≡◌, ℕ, ◌+◌, ◌-◌, ◌<◌, ◌≤◌, ◌&&◌, Bool, true, false, cond, eqb, nat_le, nat_lt, List, [], ◌∷◌, ◌++◌, Option, Some, None, Ok, refl, arith}
 use Rattle.std.proofs.lemmas.Bool.{eqb-true}
 use Rattle.std.proofs.lemmas.Bool.Decides.{nat_tests}
-use Rattle.std.proofs.lemmas.List.{length-replicate, length-take}
 use Rattle.tlsf_heap.specs.Blocks.{Block, Live, Free, HeapState, want}
 use Rattle.tlsf_heap.specs.GoodFit.{Site}
 use Rattle.tlsf_heap.specs.Calls.{Outcome, refused, is_worn, is_named, named, first_free, past_free, room_of, fitted, refitted, resized, resized_at, ticked}
@@ -10,10 +9,6 @@ use Rattle.tlsf_heap.specs.declared.name.Name.{Name}
 use Rattle.tlsf_heap.specs.declared.refusal.Refusal.{Refusal}
 use Rattle.tlsf_heap.specs.declared.refusal.Refusal.TheVariants.{Foreign, Stale, Worn, NoRoom}
 use Rattle.tlsf_heap.proofs.Outcomes.{by_test, IsSiteOf, named_site}
-
-pub fitted_count : (bytes : List ℕ) (len : ℕ) → length (fitted bytes len) ≡ len
-fitted_count bytes len =
-    omega (arith, length-append (take len bytes) (replicate (len - length bytes) 0), length-take len bytes, length-replicate {A = ℕ} (len - length bytes) 0)
 
 whether : {X : Type 0} (P : X → Type 0) (b : Bool) (x y : X) → (b ≡ true → P x) → (b ≡ false → P y) → P (cond b x y)
 whether P true x y f g = f refl

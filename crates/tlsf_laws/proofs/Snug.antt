@@ -9,16 +9,17 @@ use Rattle.tlsf_heap.specs.Calls.{Call, Allocate, Release, Write, Resize, Read, 
 use Rattle.tlsf_heap.specs.Lawful.{IsLawful}
 use Rattle.tlsf_heap.specs.Reports.{live_among}
 use Rattle.tlsf_heap.proofs.Edits.{carved_small, carved_large}
-use Rattle.tlsf_heap.proofs.Lawfulness.{all_append}
+use Rattle.tlsf_heap.proofs.Lawfulness.{all_append, opened_lawful}
 use Rattle.tlsf_heap.proofs.Summing.{words_apart}
 use Rattle.tlsf_heap.proofs.Finding.{and_left}
 use Rattle.tlsf_heap.proofs.Writing.{length-overwritten, range_fits}
 use Rattle.tlsf_heap.proofs.Outcomes.{by_allocated, by_released, by_written, lawful_run}
 use Rattle.tlsf_laws.specs.Room.{IsSnug, BlocksAreSnug, wanted_words, SumSuffices}
 use Rattle.tlsf_heap.proofs.Served.{no_fit}
+use Rattle.tlsf_heap.proofs.Fitted.{length-fitted}
 use Rattle.tlsf_laws.proofs.FreeRoom.{finds_room}
-use Rattle.tlsf_laws.proofs.Around.{around_site, past_all, before_all, new_lawful, words_run}
-use Rattle.tlsf_laws.proofs.Refits.{by_refit, by_resize, fitted_count}
+use Rattle.tlsf_laws.proofs.Around.{around_site, past_all, before_all, words_run}
+use Rattle.tlsf_laws.proofs.Refits.{by_refit, by_resize}
 
 snug_carved : (size tick len : ℕ) → AllByRecursion IsSnug (carved size (want len) tick len)
 snug_carved size tick len =
@@ -35,7 +36,7 @@ snug_with (Free m s) xs e h = tt
 snug_refitted : (tick len serial : ℕ) (b : Block) (bs : List Block) → has_serial serial b ≡ true → AllByRecursion IsSnug bs → AllByRecursion IsSnug (refitted tick (want len) len b bs)
 snug_refitted tick len serial (Free m s) bs e all = absurd (false≢true e)
 snug_refitted tick len serial (Live m s xs) bs e all =
-    let many = fitted_count xs len in
+    let many = length-fitted xs len in
     let past = past_all IsSnug bs all in
     by_refit (AllByRecursion IsSnug) tick (want len) len m s xs bs (λ enough few. (rw many (omega arith), all)) (λ large. (rw many (omega arith), (tt, past))) (λ small. (rw many (omega arith), past))
 
@@ -69,6 +70,6 @@ live_wanted (Free m s ∷ bs) all = live_wanted bs all.1
 pub sum_suffices : (sli : ℕ) (level : IsLevel sli) → SumSuffices sli
 sum_suffices sli level id words first len calls four region enough none =
     let h : HeapState = (run sli (opened id words first) calls).1 in
-    let lawful : IsLawful h = lawful_run sli level (opened id words first) calls (new_lawful id words first four) in
+    let lawful : IsLawful h = lawful_run sli level (opened id words first) calls (opened_lawful id words first four) in
     let live = live_wanted h.blocks (snug sli id words first calls four) in
     finds_room sli level h len lawful region (omega (arith, enough, live, words_apart h.blocks, lawful.whole, words_run sli (opened id words first) calls)) ((no_fit sli h len).0 none)

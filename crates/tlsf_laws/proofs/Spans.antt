@@ -13,8 +13,9 @@ use Rattle.tlsf_heap.proofs.Sizes.{Around, block_around, stands_around}
 use Rattle.tlsf_heap.proofs.Lying.{ends_before}
 use Rattle.tlsf_heap.proofs.Lying as lying
 use Rattle.tlsf_heap.proofs.Outcomes.{named_site, lawful_run}
+use Rattle.tlsf_heap.proofs.Lawfulness.{opened_lawful}
 use Rattle.tlsf_laws.specs.Places.{Spans, ShareNoWord, StayInside, NothingLeaks}
-use Rattle.tlsf_laws.proofs.Around.{new_lawful, words_run}
+use Rattle.tlsf_laws.proofs.Around.{words_run}
 use Rattle.tlsf_laws.proofs.Held.{holds}
 use Rattle.tlsf_laws.proofs.Names.{same_name}
 
@@ -31,7 +32,7 @@ whole h lawful some none = let is = alone h.blocks lawful.apart none (omega (ari
 pub no_leak : (sli : ℕ) (level : IsLevel sli) → NothingLeaks sli
 no_leak sli level id words first calls four none =
     let end : HeapState = (run sli (opened id words first) calls).1 in
-    let lawful : IsLawful end = lawful_run sli level (opened id words first) calls (new_lawful id words first four) in
+    let lawful : IsLawful end = lawful_run sli level (opened id words first) calls (opened_lawful id words first four) in
     let count : length (live_among end.blocks) ≡ 0 = holds sli id words first calls four ∙ none in
     let words_same : end.words ≡ words = words_run sli (opened id words first) calls in
     let is = whole end lawful (omega (arith, words_same, four)) (empty (live_among end.blocks) count) in

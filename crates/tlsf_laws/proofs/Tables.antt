@@ -6,7 +6,7 @@ use Rattle.std.proofs.lemmas.Bool.{cases_lt, lt-ltb, le-ltb, le-leb, lt-leb}
 use Rattle.tlsf_heap.specs.Blocks.{want}
 use Rattle.tlsf_laws.specs.Kinds.{AreOfKinds, count_in, table_words, words_with, HasClass}
 use Rattle.tlsf_laws.specs.declared.kind.Kind.{Kind}
-use Rattle.tlsf_laws.proofs.Ledgers.{sum_of}
+use Rattle.tlsf_laws.proofs.Ledgers.{sum_of, sum_one}
 use Rattle.tlsf_laws.proofs.Held.{one}
 
 -- the words that a block takes at most
@@ -71,10 +71,6 @@ spent [] lens none = subst (λ (l : List ℕ). sum_of spend l ≤ 0) (sym none) 
 spent (kind ∷ kinds) lens fit =
     within (sum_of spend lens) (sum_of spend (short kind.len lens)) (sum_of spend (long kind.len lens)) (kind.most * spend kind.len) (table_words kinds) (split spend kind.len lens)
     (le_trans (short_spent kind.len lens) (mul-le-mul_right (spend kind.len) fit.0)) (spent kinds (long kind.len lens) fit.1)
-
-sum_one : (lens : List ℕ) → sum_of one lens ≡ length lens
-sum_one [] = refl
-sum_one (n ∷ lens) = let e = sum_one lens in omega arith
 
 -- and are at most as many
 pub counted_in : (kinds : List Kind) (lens : List ℕ) → AreOfKinds kinds lens → length lens ≤ count_in kinds

@@ -77,18 +77,26 @@ impl<const SLI: u32> FreeLists<SLI> {
         ensures words_rise { words.old.touches ≤ words.new.touches }
     {
         let next = self.heads.place(class);
-        words.set_links(
-            at,
-            Links {
-                next,
-                previous: NO_PLACE,
-            },
-        );
         self.heads.set_place(class, at);
-        if is_place(next) {
-            set_previous(words, next, at);
-        } else {
+        // Each case writes its own links: those of a place that is alone are a constant.
+        if next == NO_PLACE {
+            words.set_links(
+                at,
+                Links {
+                    next: NO_PLACE,
+                    previous: NO_PLACE,
+                },
+            );
             self.bitmaps.set(class);
+        } else {
+            words.set_links(
+                at,
+                Links {
+                    next,
+                    previous: NO_PLACE,
+                },
+            );
+            set_previous(words, next, at);
         }
     }
 

@@ -158,6 +158,39 @@ impl Words {
         self.write(at as usize + 1, mark);
     }
 
+    /// Writes the tag and the mark of the header at a place, at once. Two touches.
+    ///
+    /// ```
+    /// words.set_tag_and_mark(at, tag.as_free(), tick);     // a free block, stamped
+    /// ```
+    #[inline]
+    pub fn set_tag_and_mark(&mut self, at: u32, tag: Tag, mark: u64)
+        requires { at + 1 < length self.old.words }
+        ensures words { self.new.words ≡ slice_set (slice_set self.old.words at (tag_word tag.size tag.last tag.free tag.back)) (at + 1) mark }
+        ensures starts { self.new.starts ≡ self.old.starts }
+        ensures touches { self.new.touches ≡ self.old.touches + 2 }
+    {
+        self.words.write_two(at as usize, tag.to_word(), mark);
+    }
+
+    /// Writes the header of a live block at a place, its tag, its mark and its payload length in bytes, and makes its first payload
+    /// word zero, which each block has. Four touches.
+    ///
+    /// ```
+    /// words.set_header(at, tag.as_live(), serial, 8);     // of a block of 4 words: its payload is zero
+    /// ```
+    #[inline]
+    #[tactic(auto, unfolding(crate::specs::Fields::length_word))]
+    pub fn set_header(&mut self, at: u32, tag: Tag, mark: u64, bytes: u32)
+        requires { at + 3 < length self.old.words }
+        ensures words { self.new.words ≡ slice_set (slice_set (slice_set (slice_set self.old.words at (tag_word tag.size tag.last tag.free tag.back)) (at + 1) mark) (at + 2) (length_word bytes)) (at + 3) 0 }
+        ensures starts { self.new.starts ≡ self.old.starts }
+        ensures touches { self.new.touches ≡ self.old.touches + 4 }
+    {
+        self.words
+            .write_four(at as usize, tag.to_word(), mark, u64::from(bytes), 0);
+    }
+
     /// The payload length in bytes of the live block at a place, from the third word of its header. Of a free block it would
     /// be a place.
     ///
@@ -388,8 +421,9 @@ impl Words {
         }
         let run = Run::of(start, out.len());
         self.read_head(start / 8, start % 8, out);
-        self.read_whole(run.first, run.whole, &mut out[run.head..run.tail]);
+        // The whole words last: no register has to outlive the loop.
         self.read_tail(run.first + run.whole, out.len() - run.tail, out);
+        self.read_whole(run.first, run.whole, &mut out[run.head..run.tail]);
     }
 
     /// Copies the first `len` payload bytes behind the header at a place, `from`, to those behind another, `to`. Each word that has

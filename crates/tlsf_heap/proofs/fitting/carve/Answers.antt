@@ -103,6 +103,7 @@ returns-then-rest-gt0-clause-edits g c i stands =
     record {
       words = push.edits.words ∙ here.edits.words ∙ pop.edits.words;
       shows = push.edits.shows;
+      linked = push.edits.linked;
       touches = omega (arith, push.edits.touches, here.edits.touches, pop.edits.touches, given, same);
       rise = omega (arith, push.edits.rise, here.edits.rise, pop.edits.rise);
     }
@@ -118,6 +119,7 @@ returns-else-rest-gt0-clause-edits g c i stands =
     record {
       words = here.edits.words ∙ pop.edits.words;
       shows = here.edits.shows;
+      linked = here.edits.linked;
       touches = omega (arith, here.edits.touches, pop.edits.touches, given);
       rise = omega (arith, here.edits.rise, pop.edits.rise);
     }

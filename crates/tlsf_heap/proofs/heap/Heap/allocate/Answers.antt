@@ -8,12 +8,14 @@ use Rattle.tlsf_heap.specs.GoodFit.{block_at}
 use Rattle.tlsf_heap.specs.Laws.{IsLive}
 use Rattle.tlsf_heap.specs.declared.name.Name.{Name}
 use Rattle.tlsf_heap.specs.Stored.{state_of}
+use Rattle.tlsf_heap.specs.declared.refusal.Refusal.{Refusal}
 use Rattle.tlsf_heap.specs.declared.refusal.Refusal.TheVariants.{NoFit, Worn}
 use Rattle.tlsf_heap.proofs.Allocating.{Allocates, allocates_none, allocates_worn, allocates_some, lawful_regions, fits_size}
 use Rattle.tlsf_heap.proofs.Lawfulness.{with_region}
 use Rattle.tlsf_heap.proofs.Finding.{and_left}
 use Rattle.tlsf_heap.proofs.Giving.{carved_stands, named_payload}
 use Rattle.tlsf_heap.proofs.Living as living
+use Rattle.tlsf_heap.proofs.Listing.{stored_lists}
 use Rattle.tlsf_heap.proofs.heap.Heap.allocate.Given.{Over}
 use Rattle.tlsf_heap.proofs.heap.Heap.allocate.Goals as goal
 
@@ -136,13 +138,14 @@ pub invariant_of-self-2 : goal.invariant_of-self-2
 invariant_of-self-2 g c = record {
   lawful = (given g c).lawful;
   shows = (carved g c).shows;
+  linked = (carved g c).linked;
   level = c.self.invariant.level;
   small = omega (arith, (carved g c).words, c.choose.ensures.reads.words, c.self.invariant.small);
   listed = c.carve-at.ensures.listed;
 }
 
 -- the name that is given names the block at its place, whose payload was made zero
-touched : (g : Over) (c : goal.After-self-1 g) → c.carve-at.new.region.touches ≤ c.self.inside.region.touches + 26 + payload_words_given (Ok (record { heap = c.self.inside.id; at = c.carve-at.result; serial = c.self.inside.tick }))
+touched : (g : Over) (c : goal.After-self-1 g) → c.carve-at.new.region.touches ≤ c.self.inside.region.touches + 26 + payload_words_given {E = Refusal} (Ok (record { heap = c.self.inside.id; at = c.carve-at.result; serial = c.self.inside.tick }))
     (with_region (state_of g.row.SLI c.self.inside) (c.self.inside.tick + 1) c.carve-at.new.region)
 touched g c =
     let best = c.in-Some.ensures.best in
@@ -160,3 +163,14 @@ returns-clause-touches g c = omega (arith, touched g c, ap (λ (s : Shown). s.to
 
 pub returns-clause-most_touches : goal.returns-clause-most_touches
 returns-clause-most_touches g c = omega (arith, touched g c, ap (λ (s : Shown). s.touches) c.self.view_is)
+
+-- ---- the lists
+
+pub returns-clause-lists : goal.returns-clause-lists
+returns-clause-lists g c = stored_lists g.row.SLI _ (invariant_of-self-2 g c)
+
+pub returns-in_default-clause-lists : goal.returns-in_default-clause-lists
+returns-in_default-clause-lists g c = let reads = c.choose.ensures.reads in rw (reads.stored, reads.blocks) (stored_lists g.row.SLI c.self.inside c.self.invariant)
+
+pub returns-then-self-clause-lists : goal.returns-then-self-clause-lists
+returns-then-self-clause-lists g c = let reads = c.choose.ensures.reads in rw (reads.stored, reads.blocks) (stored_lists g.row.SLI c.self.inside c.self.invariant)

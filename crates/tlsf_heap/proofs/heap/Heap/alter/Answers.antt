@@ -10,9 +10,9 @@ use Rattle.tlsf_heap.specs.FreePlaces.{free_places}
 use Rattle.tlsf_heap.specs.Regions.{list_in}
 use Rattle.tlsf_heap.specs.Stored.{state_of}
 use Rattle.tlsf_heap.proofs.Alterings.{are_payload, bytes_there, live_is, payload_is, stood_in}
-use Rattle.tlsf_heap.proofs.Listing.{same_lists}
+use Rattle.tlsf_heap.proofs.Listing.{stored_lists, same_lists}
 use Rattle.tlsf_heap.proofs.Lawfulness.{with_region}
-use Rattle.tlsf_heap.proofs.Naming.{named_inside, named_stands}
+use Rattle.tlsf_heap.proofs.Naming.{not_forged}
 use Rattle.tlsf_heap.proofs.Payloads.{length-bytes_in}
 use Rattle.tlsf_heap.proofs.Writing.{Writes, writes, read_none, read_refused, range_is}
 use Rattle.tlsf_heap.proofs.Standing.{behind_one}
@@ -70,6 +70,7 @@ invariant_of-self g c =
     record {
       lawful = (wrote g c).lawful;
       shows = change.edits.shows;
+      linked = change.edits.linked;
       level = c.self.invariant.level;
       small = omega (arith, change.edits.words, c.self.invariant.small);
       listed = rw places (same_lists (free_places g.row.SLI 0 c.self.inside.region.blocks) (list_in c.self.inside.region.lists) (list_in c.alter.new.self.lists) change.lists c.self.invariant.listed);
@@ -110,8 +111,10 @@ returns-clause-touches_rise g c =
 
 -- ---- the name was not forged
 
-pub returns-clause-outside : goal.returns-clause-outside
-returns-clause-outside g c past = absurd (omega (arith, past, named_inside c.args.self.now.heap c.args.name c.in_ok-len.ensures.lawful c.in_ok-len.ensures.answer.0.1.0 c.in_ok-len.ensures.answer.0.1.1))
+pub returns-clause-forged : goal.returns-clause-forged
+returns-clause-forged g c = not_forged c.args.self.now.heap c.args.name c.in_ok-len.ensures.lawful c.in_ok-len.ensures.answer.0 _ _
 
-pub returns-clause-nowhere : goal.returns-clause-nowhere
-returns-clause-nowhere g c own inside none = absurd (none (c.in_ok-len.ensures.answer.0.1.0, named_stands c.args.name.at c.args.name.serial c.args.self.now.heap.blocks c.in_ok-len.ensures.answer.0.1.0 c.in_ok-len.ensures.answer.0.1.1))
+-- ---- the lists
+
+pub returns-clause-lists : goal.returns-clause-lists
+returns-clause-lists g c = stored_lists g.row.SLI _ (invariant_of-self g c)

@@ -3,7 +3,7 @@ use Rattle.std.proofs.lemmas.Result.{err_from_is_err_and}
 use Rattle.tlsf_heap.specs.Shown.{Shown}
 use Rattle.tlsf_heap.specs.Calls.{read_answer}
 use Rattle.tlsf_heap.specs.Stored.{state_of}
-use Rattle.tlsf_heap.proofs.Naming.{named_same, named_stands, named_live, named_inside}
+use Rattle.tlsf_heap.proofs.Naming.{named_same, named_stands, named_live, not_forged}
 use Rattle.tlsf_heap.proofs.Writing.{Ranged, read_refused, range_past, range_within}
 use Rattle.tlsf_heap.proofs.heap.Heap.check_range.Given.{Over}
 use Rattle.tlsf_heap.proofs.heap.Heap.check_range.Goals as goal
@@ -38,14 +38,8 @@ returns-clause-place g c = (within g c).range
 
 -- ---- the name was not forged
 
-pub returns-then-at-length-clause-outside : goal.returns-then-at-length-clause-outside
-returns-then-at-length-clause-outside g c past = absurd (omega (arith, past, named_inside c.args.self.now.heap c.args.name c.in_ok-check.ensures.lawful c.in_ok-check.ensures.answer.0.1.0 c.in_ok-check.ensures.answer.0.1.1))
+pub returns-then-at-length-clause-forged : goal.returns-then-at-length-clause-forged
+returns-then-at-length-clause-forged g c = not_forged c.args.self.now.heap c.args.name c.in_ok-check.ensures.lawful c.in_ok-check.ensures.answer.0 _ _
 
-pub returns-then-at-length-clause-nowhere : goal.returns-then-at-length-clause-nowhere
-returns-then-at-length-clause-nowhere g c own inside none = absurd (none (c.in_ok-check.ensures.answer.0.1.0, named_stands c.args.name.at c.args.name.serial c.args.self.now.heap.blocks c.in_ok-check.ensures.answer.0.1.0 c.in_ok-check.ensures.answer.0.1.1))
-
-pub returns-clause-outside : goal.returns-clause-outside
-returns-clause-outside g c past = absurd (omega (arith, past, named_inside c.args.self.now.heap c.args.name c.in_ok-check.ensures.lawful c.in_ok-check.ensures.answer.0.1.0 c.in_ok-check.ensures.answer.0.1.1))
-
-pub returns-clause-nowhere : goal.returns-clause-nowhere
-returns-clause-nowhere g c own inside none = absurd (none (c.in_ok-check.ensures.answer.0.1.0, named_stands c.args.name.at c.args.name.serial c.args.self.now.heap.blocks c.in_ok-check.ensures.answer.0.1.0 c.in_ok-check.ensures.answer.0.1.1))
+pub returns-clause-forged : goal.returns-clause-forged
+returns-clause-forged g c = not_forged c.args.self.now.heap c.args.name c.in_ok-check.ensures.lawful c.in_ok-check.ensures.answer.0 _ _

@@ -8,7 +8,7 @@ use Rattle.tlsf_heap.specs.FreePlaces.{free_places}
 use Rattle.tlsf_heap.specs.Regions.{list_in}
 use Rattle.tlsf_heap.specs.Stored.{state_of}
 use Rattle.tlsf_heap.proofs.Alterings.{first_bytes, named_of, payload_is, room_in}
-use Rattle.tlsf_heap.proofs.Listing.{same_lists}
+use Rattle.tlsf_heap.proofs.Listing.{stored_lists, same_lists}
 use Rattle.tlsf_heap.proofs.Lawfulness.{with_region}
 use Rattle.tlsf_heap.proofs.Payloads.{length-bytes_in}
 use Rattle.tlsf_heap.proofs.Writing.{Writes, writes, range_is}
@@ -48,6 +48,7 @@ invariant_of-self g c =
     record {
       lawful = (wrote g c).lawful;
       shows = change.edits.shows;
+      linked = change.edits.linked;
       level = c.self.invariant.level;
       small = omega (arith, change.edits.words, c.self.invariant.small);
       listed = rw places (same_lists (free_places g.row.SLI 0 c.self.inside.region.blocks) (list_in c.self.inside.region.lists) (list_in c.copy.new.self.lists) change.lists c.self.invariant.listed);
@@ -71,3 +72,8 @@ returns-clause-touches g c = omega (arith, (c.copy.ensures (stood g c).0 (stood 
 
 pub returns-clause-rise : goal.returns-clause-rise
 returns-clause-rise g c = omega (arith, (c.copy.ensures (stood g c).0 (stood g c).1).edits.rise, ap (λ (s : Shown). s.touches) c.self.view_is)
+
+-- ---- the lists
+
+pub returns-clause-lists : goal.returns-clause-lists
+returns-clause-lists g c = stored_lists g.row.SLI _ (invariant_of-self g c)

@@ -4,7 +4,7 @@ use Rattle.tlsf_heap.specs.InPlace.{payload_at}
 use Rattle.tlsf_heap.specs.Shown.{Shown}
 use Rattle.tlsf_heap.specs.Stored.{state_of}
 use Rattle.tlsf_heap.proofs.Alterings.{are_payload, live_is, stood_in}
-use Rattle.tlsf_heap.proofs.Naming.{named_inside, named_stands}
+use Rattle.tlsf_heap.proofs.Naming.{not_forged}
 use Rattle.tlsf_heap.proofs.Writing.{read_none, read_refused}
 use Rattle.tlsf_heap.proofs.heap.Heap.inspect.Goals as goal
 
@@ -41,8 +41,5 @@ returns-clause-inspected g c =
 
 -- ---- the name was not forged
 
-pub returns-clause-outside : goal.returns-clause-outside
-returns-clause-outside g c past = absurd (omega (arith, past, named_inside c.args.self.now.heap c.args.name c.in_ok-len.ensures.lawful c.in_ok-len.ensures.answer.0.1.0 c.in_ok-len.ensures.answer.0.1.1))
-
-pub returns-clause-nowhere : goal.returns-clause-nowhere
-returns-clause-nowhere g c own inside none = absurd (none (c.in_ok-len.ensures.answer.0.1.0, named_stands c.args.name.at c.args.name.serial c.args.self.now.heap.blocks c.in_ok-len.ensures.answer.0.1.0 c.in_ok-len.ensures.answer.0.1.1))
+pub returns-clause-forged : goal.returns-clause-forged
+returns-clause-forged g c = not_forged c.args.self.now.heap c.args.name c.in_ok-len.ensures.lawful c.in_ok-len.ensures.answer.0 _ _

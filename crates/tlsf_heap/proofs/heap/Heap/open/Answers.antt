@@ -1,7 +1,7 @@
 use Rattle.std.proofs.Common.{length, refl, ap, arith}
 use Rattle.tlsf_heap.specs.Regions.{list_in}
 use Rattle.tlsf_heap.proofs.Lawfulness.{opened_lawful}
-use Rattle.tlsf_heap.proofs.Listing.{listed_first}
+use Rattle.tlsf_heap.proofs.Listing.{stored_lists, listed_first}
 use Rattle.tlsf_heap.proofs.heap.Heap.open.Goals as goal
 
 pub push-requires : goal.push-requires
@@ -22,7 +22,13 @@ invariant_of-result g c =
     record {
       lawful = rw (c.push.ensures.edits.words, c.push.ensures.blocks, made.words, made.blocks) (opened_lawful c.args.id c.args.words c.args.first (omega arith));
       shows = c.push.ensures.edits.shows;
+      linked = c.push.ensures.edits.linked;
       level = c.requires;
       small = omega (arith, c.push.ensures.edits.words, made.words);
       listed = rw (c.push.ensures.blocks, made.blocks) (listed_first g.row.SLI c.args.words c.args.first c.class_of.result (list_in c.in-Ok.region.lists) (list_in c.push.new.self.lists) made.lists c.class_of.ensures c.push.ensures.list c.push.ensures.others);
     }
+
+-- ---- the lists
+
+pub returns-clause-lists : goal.returns-clause-lists
+returns-clause-lists g c = stored_lists g.row.SLI _ (invariant_of-result g c)

@@ -2,8 +2,8 @@ use Rattle.std.proofs.Common.{length, ap, ◌∙◌, arith}
 use Rattle.tlsf_heap.specs.Shown.{Shown}
 use Rattle.tlsf_heap.specs.Calls.{read_of}
 use Rattle.tlsf_heap.specs.Stored.{state_of}
-use Rattle.tlsf_heap.proofs.Naming.{named_stands, named_inside}
-use Rattle.tlsf_heap.proofs.Writing.{range_stands, reads, unread}
+use Rattle.tlsf_heap.proofs.Naming.{not_forged}
+use Rattle.tlsf_heap.proofs.Writing.{range_named, range_stands, reads, unread}
 use Rattle.tlsf_heap.proofs.heap.Heap.read.Goals as goal
 
 pub returns-in_err-check_range-clause-bytes : goal.returns-in_err-check_range-clause-bytes
@@ -23,8 +23,5 @@ returns-clause-bytes g c =
 
 -- ---- the name was not forged
 
-pub returns-clause-outside : goal.returns-clause-outside
-returns-clause-outside g c past = absurd (omega (arith, past, named_inside c.args.self.now.heap c.args.name c.in_ok-check_range.ensures.lawful c.in_ok-check_range.ensures.place.0 c.in_ok-check_range.ensures.place.1))
-
-pub returns-clause-nowhere : goal.returns-clause-nowhere
-returns-clause-nowhere g c own inside none = absurd (none (c.in_ok-check_range.ensures.place.0, named_stands c.args.name.at c.args.name.serial c.args.self.now.heap.blocks c.in_ok-check_range.ensures.place.0 c.in_ok-check_range.ensures.place.1))
+pub returns-clause-forged : goal.returns-clause-forged
+returns-clause-forged g c = not_forged c.args.self.now.heap c.args.name c.in_ok-check_range.ensures.lawful (range_named c.args.self.now.heap c.args.name c.args.at (length c.args.out.now) c.in_ok-check_range.ensures.answer c.in_ok-check_range.ensures.place) _ _

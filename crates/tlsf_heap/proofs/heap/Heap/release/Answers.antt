@@ -9,9 +9,10 @@ use Rattle.tlsf_heap.specs.Stored.{state_of}
 use Rattle.tlsf_heap.specs.declared.refusal.Refusal.TheVariants.{Worn}
 use Rattle.tlsf_heap.proofs.Allocating.{lawful_regions}
 use Rattle.tlsf_heap.proofs.Lawfulness.{with_region}
-use Rattle.tlsf_heap.proofs.Naming.{named_same, named_stands, named_live, named_inside}
+use Rattle.tlsf_heap.proofs.Naming.{named_same, named_stands, named_live, not_forged}
 use Rattle.tlsf_heap.proofs.Reading.{at_index}
 use Rattle.tlsf_heap.proofs.Releasing.{Releases, releases_refused, releases_worn, releases_block}
+use Rattle.tlsf_heap.proofs.Listing.{stored_lists}
 use Rattle.tlsf_heap.proofs.heap.Heap.release.Given.{Over}
 use Rattle.tlsf_heap.proofs.heap.Heap.release.Goals as goal
 
@@ -93,6 +94,7 @@ pub invariant_of-self : goal.invariant_of-self
 invariant_of-self g c = record {
   lawful = (freed g c).lawful;
   shows = c.coalesce.ensures.edits.shows;
+  linked = c.coalesce.ensures.edits.linked;
   level = c.self.invariant.level;
   small = omega (arith, c.coalesce.ensures.edits.words, c.self.invariant.small);
   listed = c.coalesce.ensures.listed;
@@ -100,8 +102,13 @@ invariant_of-self g c = record {
 
 -- ---- the name was not forged
 
-pub returns-clause-outside : goal.returns-clause-outside
-returns-clause-outside g c past = absurd (omega (arith, past, named_inside c.args.self.now.heap c.args.name c.in_ok-own.ensures.lawful c.in_ok-own.ensures.answer.0.1.0 c.in_ok-own.ensures.answer.0.1.1))
+pub returns-then-tick-clause-forged : goal.returns-then-tick-clause-forged
+returns-then-tick-clause-forged g c = not_forged c.args.self.now.heap c.args.name c.in_ok-own.ensures.lawful c.in_ok-own.ensures.answer.0 _ _
 
-pub returns-clause-nowhere : goal.returns-clause-nowhere
-returns-clause-nowhere g c own inside none = absurd (none (c.in_ok-own.ensures.answer.0.1.0, named_stands c.args.name.at c.args.name.serial c.args.self.now.heap.blocks c.in_ok-own.ensures.answer.0.1.0 c.in_ok-own.ensures.answer.0.1.1))
+pub returns-clause-forged : goal.returns-clause-forged
+returns-clause-forged g c = not_forged c.args.self.now.heap c.args.name c.in_ok-own.ensures.lawful c.in_ok-own.ensures.answer.0 _ _
+
+-- ---- the lists
+
+pub returns-clause-lists : goal.returns-clause-lists
+returns-clause-lists g c = stored_lists g.row.SLI _ (invariant_of-self g c)

@@ -8,6 +8,8 @@ use Rattle.tlsf_heap.specs.Shown.{Shown}
 use Rattle.tlsf_heap.specs.declared.name.Name.{Name}
 use Rattle.tlsf_heap.specs.declared.refusal.Refusal.{Refusal}
 use Rattle.tlsf_heap.proofs.Moves.{new_lives, old_lives, payload_fits, release_done}
+use Rattle.tlsf_heap.specs.FreePlaces.{ShowsLists}
+use Rattle.tlsf_heap.proofs.Listing.{stored_lists}
 use Rattle.tlsf_heap.proofs.heap.Heap.relocate.Given.{Over}
 use Rattle.tlsf_heap.proofs.heap.Heap.relocate.Goals as goal
 
@@ -85,3 +87,8 @@ returns-clause-touches g c =
     let fits = payload_fits c.allocate.new.self.heap new c.in_ok-new.ensures.lawful lives in
     let room = ap (λ (s : HeapState). length (payload_of s new)) c.length.ensures.heap in
     omega (arith, words, fits, room, c.min-len.ensures, c.length.ensures.value, c.length-2.ensures.value, c.in_ok-new.ensures.most_touches, c.length.ensures.touches, c.length-2.ensures.touches, c.copy.ensures.touches, c.release.ensures.most_touches)
+
+-- ---- the lists are as they were
+
+pub returns-then-self-clause-lists : goal.returns-then-self-clause-lists
+returns-then-self-clause-lists g c = subst (λ (s : Shown). ShowsLists g.row.SLI s.stored s.heap.blocks) c.self.view_is (stored_lists g.row.SLI c.self.inside c.self.invariant)

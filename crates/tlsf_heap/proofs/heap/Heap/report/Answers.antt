@@ -1,9 +1,10 @@
-use Rattle.std.proofs.Common.{◌≡◌, ap, sym, ◌∙◌, subst}
+use Rattle.std.proofs.Common.{◌≡◌, ◌*◌, ◌≤◌, length, ap, sym, ◌∙◌, subst, arith}
 use Rattle.tlsf_heap.specs.Blocks.{HeapState}
 use Rattle.tlsf_heap.specs.Shown.{Shown}
 use Rattle.tlsf_heap.specs.Reports.{report_of, IsGrant}
 use Rattle.tlsf_heap.specs.Stored.{state_of}
 use Rattle.tlsf_heap.specs.declared.report.Report.{Report}
+use Rattle.tlsf_heap.proofs.Summing.{four_each}
 use Rattle.tlsf_heap.proofs.Reporting.{AreSums, sums_are, told_is, greatest_length}
 use Rattle.tlsf_heap.proofs.heap.Heap.report.Given.{Over}
 use Rattle.tlsf_heap.proofs.heap.Heap.report.Goals as goal
@@ -47,3 +48,10 @@ pub returns-clause-grant : goal.returns-clause-grant
 returns-clause-grant g c =
     let h = c.args.self.now.heap in
     subst (λ (r : Report). IsGrant g.row.SLI h.blocks r.grant) (sym (is g c)) (subst (λ (s : HeapState). IsGrant g.row.SLI s.blocks (report_of g.row.SLI s).grant) (shown g c) (greatest_length g.row.SLI c.self.invariant.level (state_of g.row.SLI c.self.inside) c.self.invariant.lawful))
+
+-- ---- two touches for each block
+
+pub returns-clause-few : goal.returns-clause-few
+returns-clause-few g c =
+    subst (λ (s : HeapState). 4 * length s.blocks ≤ s.words) (shown g c)
+    (let lawful = c.self.invariant.lawful in omega (arith, four_each c.self.inside.region.blocks lawful.rooms, lawful.whole))

@@ -14,9 +14,10 @@ use Rattle.tlsf_heap.specs.declared.refusal.Refusal.TheVariants.{Worn, NoRoom}
 use Rattle.tlsf_heap.proofs.Allocating.{lawful_regions}
 use Rattle.tlsf_heap.proofs.Lawfulness.{with_region}
 use Rattle.tlsf_heap.proofs.Left.{Found, found, room_small, resizes_short, resizes_worn, resizes_done, payload_left}
-use Rattle.tlsf_heap.proofs.Naming.{named_same, named_stands, named_live, named_inside}
+use Rattle.tlsf_heap.proofs.Naming.{named_same, named_stands, named_live, not_forged}
 use Rattle.tlsf_heap.proofs.Reading.{at_index}
 use Rattle.tlsf_heap.proofs.Resizing.{Resizes, resized_refused, resizes_refused}
+use Rattle.tlsf_heap.proofs.Listing.{stored_lists}
 use Rattle.tlsf_heap.proofs.heap.Heap.resize.Given.{Over}
 use Rattle.tlsf_heap.proofs.heap.Heap.resize.Goals as goal
 
@@ -71,12 +72,6 @@ returns-then-room-words-clause-answer g c = (short g c).is_answer
 pub returns-then-room-words-clause-heap : goal.returns-then-room-words-clause-heap
 returns-then-room-words-clause-heap g c = (short g c).is_heap
 
-pub returns-then-room-words-clause-outside : goal.returns-then-room-words-clause-outside
-returns-then-room-words-clause-outside g c past = absurd (omega (arith, past, named_inside c.args.self.now.heap c.args.name c.in_ok-own.ensures.lawful c.in_ok-own.ensures.answer.0.1.0 c.in_ok-own.ensures.answer.0.1.1))
-
-pub returns-then-room-words-clause-nowhere : goal.returns-then-room-words-clause-nowhere
-returns-then-room-words-clause-nowhere g c own inside none = absurd (none (c.in_ok-own.ensures.answer.0.1.0, named_stands c.args.name.at c.args.name.serial c.args.self.now.heap.blocks c.in_ok-own.ensures.answer.0.1.0 c.in_ok-own.ensures.answer.0.1.1))
-
 -- ---- the tick is at its last value
 
 worn : (g : Over) (c : goal.Then-self g) → Resizes c.args.self.now.heap c.args.name c.args.len (Err Worn) (with_region (state_of g.row.SLI c.self.inside) c.self.inside.tick c.look_behind-next.new.region)
@@ -91,12 +86,6 @@ returns-then-self-clause-answer g c = (worn g c).is_answer
 
 pub returns-then-self-clause-heap : goal.returns-then-self-clause-heap
 returns-then-self-clause-heap g c = (worn g c).is_heap
-
-pub returns-then-self-clause-outside : goal.returns-then-self-clause-outside
-returns-then-self-clause-outside g c past = absurd (omega (arith, past, named_inside c.args.self.now.heap c.args.name c.in_ok-own.ensures.lawful c.in_ok-own.ensures.answer.0.1.0 c.in_ok-own.ensures.answer.0.1.1))
-
-pub returns-then-self-clause-nowhere : goal.returns-then-self-clause-nowhere
-returns-then-self-clause-nowhere g c own inside none = absurd (none (c.in_ok-own.ensures.answer.0.1.0, named_stands c.args.name.at c.args.name.serial c.args.self.now.heap.blocks c.in_ok-own.ensures.answer.0.1.0 c.in_ok-own.ensures.answer.0.1.1))
 
 -- ---- the block is resized
 
@@ -177,6 +166,7 @@ pub invariant_of-self-2 : goal.invariant_of-self-2
 invariant_of-self-2 g c = record {
   lawful = (fits g c).resizes.lawful;
   shows = c.refit.ensures.edits.shows;
+  linked = c.refit.ensures.edits.linked;
   level = c.self.invariant.level;
   small = omega (arith, c.refit.ensures.edits.words, c.look_behind-next.ensures.reads.words, c.self.invariant.small);
   listed = c.refit.ensures.listed;
@@ -193,8 +183,16 @@ returns-clause-most_touches g c =
 
 -- ---- the name was not forged
 
-pub returns-clause-outside : goal.returns-clause-outside
-returns-clause-outside g c past = absurd (omega (arith, past, named_inside c.args.self.now.heap c.args.name c.in_ok-own.ensures.lawful c.in_ok-own.ensures.answer.0.1.0 c.in_ok-own.ensures.answer.0.1.1))
+pub returns-then-room-words-clause-forged : goal.returns-then-room-words-clause-forged
+returns-then-room-words-clause-forged g c = not_forged c.args.self.now.heap c.args.name c.in_ok-own.ensures.lawful c.in_ok-own.ensures.answer.0 _ _
 
-pub returns-clause-nowhere : goal.returns-clause-nowhere
-returns-clause-nowhere g c own inside none = absurd (none (c.in_ok-own.ensures.answer.0.1.0, named_stands c.args.name.at c.args.name.serial c.args.self.now.heap.blocks c.in_ok-own.ensures.answer.0.1.0 c.in_ok-own.ensures.answer.0.1.1))
+pub returns-then-self-clause-forged : goal.returns-then-self-clause-forged
+returns-then-self-clause-forged g c = not_forged c.args.self.now.heap c.args.name c.in_ok-own.ensures.lawful c.in_ok-own.ensures.answer.0 _ _
+
+pub returns-clause-forged : goal.returns-clause-forged
+returns-clause-forged g c = not_forged c.args.self.now.heap c.args.name c.in_ok-own.ensures.lawful c.in_ok-own.ensures.answer.0 _ _
+
+-- ---- the lists
+
+pub returns-clause-lists : goal.returns-clause-lists
+returns-clause-lists g c = stored_lists g.row.SLI _ (invariant_of-self-2 g c)

@@ -6,10 +6,10 @@ use Rattle.tlsf_heap.specs.Calls.{Outcome}
 use Rattle.tlsf_heap.specs.FreePlaces.{free_places}
 use Rattle.tlsf_heap.specs.Regions.{list_in}
 use Rattle.tlsf_heap.specs.Stored.{state_of}
-use Rattle.tlsf_heap.proofs.Listing.{same_lists}
+use Rattle.tlsf_heap.proofs.Listing.{stored_lists, same_lists}
 use Rattle.tlsf_heap.proofs.Lawfulness.{with_region}
-use Rattle.tlsf_heap.proofs.Naming.{named_stands, named_inside}
-use Rattle.tlsf_heap.proofs.Writing.{range_stands, unwritten, Writes, writes}
+use Rattle.tlsf_heap.proofs.Naming.{not_forged}
+use Rattle.tlsf_heap.proofs.Writing.{range_named, range_stands, unwritten, Writes, writes}
 use Rattle.tlsf_heap.proofs.Standing.{behind_one}
 use Rattle.tlsf_heap.proofs.heap.Heap.write.Given.{Over}
 use Rattle.tlsf_heap.proofs.heap.Heap.write.Goals as goal
@@ -51,6 +51,7 @@ invariant_of-self g c =
     record {
       lawful = (wrote g c).lawful;
       shows = change.edits.shows;
+      linked = change.edits.linked;
       level = c.self.invariant.level;
       small = omega (arith, change.edits.words, c.self.invariant.small);
       listed = rw places (same_lists (free_places g.row.SLI 0 c.self.inside.region.blocks) (list_in c.self.inside.region.lists) (list_in c.write.new.self.lists) change.lists c.self.invariant.listed);
@@ -78,8 +79,10 @@ returns-clause-touches_rise g c =
 
 -- ---- the name was not forged
 
-pub returns-clause-outside : goal.returns-clause-outside
-returns-clause-outside g c past = absurd (omega (arith, past, named_inside c.args.self.now.heap c.args.name c.in_ok-check_range.ensures.lawful c.in_ok-check_range.ensures.place.0 c.in_ok-check_range.ensures.place.1))
+pub returns-clause-forged : goal.returns-clause-forged
+returns-clause-forged g c = not_forged c.args.self.now.heap c.args.name c.in_ok-check_range.ensures.lawful (range_named c.args.self.now.heap c.args.name c.args.at (length c.args.bytes.now) c.in_ok-check_range.ensures.answer c.in_ok-check_range.ensures.place) _ _
 
-pub returns-clause-nowhere : goal.returns-clause-nowhere
-returns-clause-nowhere g c own inside none = absurd (none (c.in_ok-check_range.ensures.place.0, named_stands c.args.name.at c.args.name.serial c.args.self.now.heap.blocks c.in_ok-check_range.ensures.place.0 c.in_ok-check_range.ensures.place.1))
+-- ---- the lists
+
+pub returns-clause-lists : goal.returns-clause-lists
+returns-clause-lists g c = stored_lists g.row.SLI _ (invariant_of-self g c)

@@ -7,7 +7,7 @@ use Rattle.tlsf_heap.specs.Headers.{IsTagIn, Splits, Wholes}
 use Rattle.tlsf_heap.specs.Regions.{RegionState, image_of}
 use Rattle.tlsf_heap.proofs.Reading.{shows_state, says_here, at_index}
 use Rattle.tlsf_heap.proofs.Edits.{rest_small, rest_large}
-use Rattle.tlsf_heap.proofs.Linking.{Reshapes, holds_state}
+use Rattle.tlsf_heap.proofs.Linking.{linked_lists, Reshapes, holds_state}
 use Rattle.tlsf_heap.proofs.Splitting.{tag_size, left_whole, left_split}
 use Rattle.tlsf_heap.proofs.region.Region.carve.Goals.{After-split_header}
 use Rattle.tlsf_heap.proofs.region.Region.carve.Given.{Over}
@@ -60,6 +60,7 @@ returns-then-all-size-clause-change g c i stands =
       edits = record {
         words = c.live_header.ensures.change.only.length ∙ ap length c.tag-tag.ensures.words ∙ words;
         shows = left.holds.shows;
+        linked = linked_lists g.row.SLI _ _ left.holds;
         touches = omega (arith, c.live_header.ensures.touches, c.tag-tag.ensures.touches, touches, size);
         rise = omega (arith, c.live_header.ensures.touches, c.tag-tag.ensures.touches, touches);
       };
@@ -106,6 +107,7 @@ returns-clause-change g c i stands =
       edits = record {
         words = c.split_header.ensures.change.only.length ∙ ap length c.tag-tag.ensures.words ∙ words;
         shows = left.holds.shows;
+        linked = linked_lists g.row.SLI _ _ left.holds;
         touches = omega (arith, c.split_header.ensures.touches.within, c.tag-tag.ensures.touches, touches, size, c.if-all-size.false, c.size-all.ensures.value, c.requires.least);
         rise = omega (arith, c.split_header.ensures.touches.rise, c.tag-tag.ensures.touches, touches);
       };

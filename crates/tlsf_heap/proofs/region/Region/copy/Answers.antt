@@ -5,7 +5,7 @@ use Rattle.tlsf_heap.specs.Calls.{overwritten, with_bytes}
 use Rattle.tlsf_heap.specs.GoodFit.{block_at}
 use Rattle.tlsf_heap.proofs.Reading.{shows_state}
 use Rattle.tlsf_heap.proofs.Payloads.{length-bytes_in, payload_inside, rewritten}
-use Rattle.tlsf_heap.proofs.Linking.{Relists, holds_state}
+use Rattle.tlsf_heap.proofs.Linking.{linked_lists, Relists, holds_state}
 use Rattle.tlsf_heap.proofs.Relisting.{relisted_bytes}
 use Rattle.tlsf_heap.proofs.Standing.{behind_one}
 use Rattle.tlsf_heap.proofs.Edited.{Leaves}
@@ -56,5 +56,5 @@ returns g c i stands =
     record {
       blocks = (left g c).blocks i stands ∙ behind_one i _ c.args.self.now.blocks;
       lists = (relists g c).same;
-      edits = record { words = new.length ∙ words; shows = (relists g c).holds.shows; touches = omega (arith, new.touches, touches); rise = omega (arith, new.rise, touches) };
+      edits = record { words = new.length ∙ words; shows = (relists g c).holds.shows; linked = linked_lists g.row.SLI _ _ (relists g c).holds; touches = omega (arith, new.touches, touches); rise = omega (arith, new.rise, touches) };
     }

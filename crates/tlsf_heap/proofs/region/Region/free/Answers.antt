@@ -5,7 +5,7 @@ use Rattle.tlsf_heap.specs.Calls.{coalesced}
 use Rattle.tlsf_heap.specs.GoodFit.{site_at}
 use Rattle.tlsf_heap.specs.Regions.{RegionState, AreNeighbours, IsTagOf, image_of}
 use Rattle.tlsf_heap.proofs.Freeing.{merged, alone_are, merges_alone}
-use Rattle.tlsf_heap.proofs.Linking.{Reshapes, holds_state}
+use Rattle.tlsf_heap.proofs.Linking.{linked_lists, Reshapes, holds_state}
 use Rattle.tlsf_heap.proofs.Reading.{shows_state, at_index, in_region}
 use Rattle.tlsf_heap.proofs.region.Region.free.Given.{Over}
 use Rattle.tlsf_heap.proofs.region.Region.free.Goals as goal
@@ -42,5 +42,5 @@ returns g c i stands =
     record {
       blocks = left.blocks;
       lists = left.same;
-      edits = record { words = c.free_header.ensures.only.length ∙ words; shows = left.holds.shows; touches = omega (arith, c.free_header.ensures.touches, touches); rise = omega (arith, c.free_header.ensures.touches, touches) };
+      edits = record { words = c.free_header.ensures.only.length ∙ words; shows = left.holds.shows; linked = linked_lists g.row.SLI _ _ left.holds; touches = omega (arith, c.free_header.ensures.touches, touches); rise = omega (arith, c.free_header.ensures.touches, touches) };
     }

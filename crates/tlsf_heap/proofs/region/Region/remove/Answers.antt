@@ -2,7 +2,7 @@
 use Rattle.std.proofs.Common.{ℕ, List, sym, ap, ◌∙◌, subst, arith}
 use Rattle.std.specs.Prelude.{Contains}
 use Rattle.tlsf_words.specs.Lists.{without_place}
-use Rattle.tlsf_heap.proofs.Linking.{Relinks, holds_state, list_in-lists_of, relinked, free_removed}
+use Rattle.tlsf_heap.proofs.Linking.{linked_lists, Relinks, holds_state, list_in-lists_of, relinked, free_removed}
 use Rattle.tlsf_heap.specs.Regions.{RegionState, image_of}
 use Rattle.tlsf_heap.proofs.region.Region.remove.Given.{Over}
 use Rattle.tlsf_heap.proofs.region.Region.remove.Goals as goal
@@ -37,5 +37,5 @@ returns g c =
       list = list_in-lists_of c.remove.new.self.heads c.remove.new.words.words c.args.class ∙ c.remove.ensures.list
           ∙ ap (without_place c.args.at) (sym ((holds_state g.row.SLI c.self.invariant c.self.view_is).lists c.args.class));
       others = λ other differs. list_in-lists_of c.remove.new.self.heads c.remove.new.words.words other ∙ c.remove.ensures.others other differs ∙ sym ((holds_state g.row.SLI c.self.invariant c.self.view_is).lists other);
-      edits = record { words = c.remove.ensures.length ∙ words; shows = (relinks g c).holds.shows; touches = omega (arith, c.remove.ensures.touches, touches); rise = omega (arith, c.remove.ensures.rise, c.remove.ensures.words_rise, touches) };
+      edits = record { words = c.remove.ensures.length ∙ words; shows = (relinks g c).holds.shows; linked = linked_lists g.row.SLI _ _ (relinks g c).holds; touches = omega (arith, c.remove.ensures.touches, touches); rise = omega (arith, c.remove.ensures.rise, c.remove.ensures.words_rise, touches) };
     }

@@ -1,6 +1,6 @@
 use Rattle.std.proofs.Common.{ap, ◌∙◌, arith}
 use Rattle.tlsf_heap.specs.Regions.{RegionState, image_of}
-use Rattle.tlsf_heap.proofs.Linking.{Relists, holds_state}
+use Rattle.tlsf_heap.proofs.Linking.{linked_lists, Relists, holds_state}
 use Rattle.tlsf_heap.proofs.Payloads.{held_within, length_read}
 use Rattle.tlsf_heap.proofs.Reading.{shows_state, says_here}
 use Rattle.tlsf_heap.proofs.Resized.{Refills, refilled, relisted_refill}
@@ -39,5 +39,5 @@ returns g c i stands =
     record {
       blocks = left.blocks i stands ∙ behind_one i _ c.args.self.now.blocks;
       lists = (relists g c).same;
-      edits = record { words = new.only.length ∙ words; shows = (relists g c).holds.shows; touches = omega (arith, new.touches.within, touches); rise = omega (arith, new.touches.rise, touches) };
+      edits = record { words = new.only.length ∙ words; shows = (relists g c).holds.shows; linked = linked_lists g.row.SLI _ _ (relists g c).holds; touches = omega (arith, new.touches.within, touches); rise = omega (arith, new.touches.rise, touches) };
     }

@@ -1,4 +1,5 @@
-use Rattle.std.proofs.Common.{arith, sym, ◌∙◌}
+use Rattle.std.proofs.Common.{◌+◌, arith, sym, ap, ◌∙◌}
+use Rattle.tlsf_heap.specs.declared.tally.Tally.{Tally}
 use Rattle.tlsf_heap.proofs.Tallying.{stands, ends, small, next_live, next_free}
 use Rattle.tlsf_heap.proofs.tally.Tally.add.Goals as goal
 use Rattle.tlsf_heap.proofs.tally.Tally.add.Goals.{then-is_free, else-is_free}
@@ -50,3 +51,9 @@ returns-clause-sums g c tick so_far =
           let live = sym is.free ∙ sym c.is_free.ensures ∙ w.if-is_free.false in
           rw (w.self-is, w.add_live.ensures, c.size-size.ensures.value, is.size, held) (next_live c.requires.rooms so_far here live)
     ]
+
+pub returns-clause-one : goal.returns-clause-one
+returns-clause-one g c = elim c.if-is_free.branch [
+  | then-is_free w ↦ omega (arith, ap (λ (t : Tally). t.live_blocks + t.free_blocks) (w.self-is ∙ w.add_free.ensures))
+  | else-is_free w ↦ omega (arith, ap (λ (t : Tally). t.live_blocks + t.free_blocks) (w.self-is ∙ w.add_live.ensures))
+]

@@ -1,20 +1,25 @@
-use Rattle.std.proofs.Common.{arith}
-use Rattle.tlsf_heap.proofs.Edits.{words_in-take}
+use Rattle.std.proofs.Common.{◌≡◌, ◌+◌, ap, arith}
+use Rattle.tlsf_heap.specs.Tallies.{tally_of}
+use Rattle.tlsf_heap.specs.declared.tally.Tally.{Tally}
+use Rattle.tlsf_heap.proofs.Summing.{counts_apart}
 use Rattle.tlsf_heap.proofs.Tallying.{all_summed}
+use Rattle.tlsf_heap.proofs.tally.Tally.of.Given.{Over}
 use Rattle.tlsf_heap.proofs.tally.Tally.of.Goals as goal
 
+summed : (g : Over) (c : goal.After-loop-at g) → c.loop-at.tally ≡ tally_of c.args.tick c.args.region.now.blocks
+summed g c = all_summed c.requires.rooms c.loop-at.invariant.sums (omega (arith, c.loop-at-test.false, c.loop-at.invariant.all, c.requires.whole))
+
 pub returns-clause-sums : goal.returns-clause-sums
-returns-clause-sums g c = all_summed c.requires.rooms c.loop-at.invariant.sums (omega (arith, c.loop-at-test.false, c.loop-at.invariant.all, c.requires.whole))
+returns-clause-sums g c = summed g c
 
 pub returns-clause-reads : goal.returns-clause-reads
 returns-clause-reads g c =
     let reads = c.loop-at.invariant.reads in
-    let sums = c.loop-at.invariant.sums in
     record {
       words = reads.words;
       blocks = reads.blocks;
       lists = reads.lists;
       stored = reads.stored;
-      touches = omega (arith, reads.touches, sums.place, words_in-take c.args.region.now.blocks sums.index, c.requires.whole);
+      touches = omega (arith, reads.touches, ap (λ (t : Tally). t.live_blocks + t.free_blocks) (summed g c), counts_apart c.args.region.now.blocks);
       rise = reads.rise;
     }

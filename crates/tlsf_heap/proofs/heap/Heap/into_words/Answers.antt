@@ -1,0 +1,8 @@
+use Rattle.std.proofs.Common.{subst}
+use Rattle.tlsf_heap.specs.FreePlaces.{ShowsLists}
+use Rattle.tlsf_heap.specs.Shown.{Shown}
+use Rattle.tlsf_heap.proofs.Listing.{stored_lists}
+use Rattle.tlsf_heap.proofs.heap.Heap.into_words.Goals as goal
+
+pub returns-clause-lists : goal.returns-clause-lists
+returns-clause-lists g c = subst (λ (s : Shown). ShowsLists g.row.SLI s.stored s.heap.blocks) c.self.view_is (stored_lists g.row.SLI c.self.inside c.self.invariant)

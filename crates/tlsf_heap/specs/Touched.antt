@@ -1,0 +1,28 @@
+-- What the calls of a heap may touch.
+use Rattle.std.specs.Prelude.{◌≡◌, ◌≢◌, ℕ, ◌+◌, ◌<◌, ◌≤◌, Result}
+use Rattle.tlsf_heap.specs.Blocks.{HeapState, IsPlace}
+use Rattle.tlsf_heap.specs.Given.{payload_words_given, payload_words_left}
+use Rattle.tlsf_heap.specs.declared.name.Name.{Name}
+use Rattle.tlsf_heap.specs.declared.refusal.Refusal.{Refusal}
+
+-- a forged name is not followed, as the touches before a call and behind it show: not even a start bit is read unless its place lies in
+-- the region, and no word unless a block begins there
+pub record FollowsNoForgery (h : HeapState) (name : Name) (before behind : ℕ) : Type 0 where
+  pub foreign : name.heap ≢ h.id → behind ≡ before
+  pub outside : h.words ≤ name.at → behind ≡ before
+  pub nowhere : name.heap ≡ h.id → name.at < h.words → ¬ (IsPlace h.blocks name.at) → behind ≡ before + 1
+
+-- the most touches of an allocate: 3 to find the class, 7 to take its head out, 9 for the headers, 7 to list the rest, and one for each
+-- payload word of the block given
+abbrev pub allocate_touches : {E : Type 0} → Result Name E → HeapState → ℕ
+allocate_touches answer left = 26 + payload_words_given answer left
+
+-- the most touches of a release: 3 to check the name, 2 for the tags of the neighbours, 12 to take these out of their lists, 6 for the
+-- headers, and 7 to list what is left
+abbrev pub release_touches : ℕ
+release_touches = 30
+
+-- the most touches of a resize: 3 to check the name, 1 for the tag behind, 6 to take that block out of its list, 7 for the headers, 7 to
+-- list the rest, and for the payload of the block left 3 and one for each word
+abbrev pub resize_touches : Result (Unit {0}) Refusal → HeapState → Name → ℕ
+resize_touches answer left name = 27 + payload_words_left answer left name
