@@ -143,7 +143,7 @@ impl AnyHeap {
         ensures report { result ≡ report_of self.old.level self.old.heap }
         ensures heap { self.new.heap ≡ self.old.heap }
         ensures level { self.new.level ≡ self.old.level }
-        ensures touches { self.new.touches ≤ self.old.touches + 3 * self.old.heap.words }
+        ensures touches { self.new.touches ≤ self.old.touches + 2 * length self.old.heap.blocks }
     {
         match &mut self.of_level {
             OfLevel::Four(heap) => heap.report(),

@@ -313,7 +313,7 @@ pub extern "C" fn tlsf_report(alloc: Global, heap: &mut HeapSlot, report: &mut H
     ensures open { heap.old.is_open ≡ true → (result ≡ 0) × StaysOpen heap.old heap.new }
     ensures report { heap.old.is_open ≡ true → report_in report.new ≡ report_of (level_in heap.old) (heap_in heap.old) }
     ensures heap { heap.old.is_open ≡ true → heap_in heap.new ≡ heap_in heap.old }
-    ensures touches { heap.old.is_open ≡ true → touches_in heap.new ≤ touches_in heap.old + 3 * (heap_in heap.old).words }
+    ensures touches { heap.old.is_open ≡ true → touches_in heap.new ≤ touches_in heap.old + 2 * length (heap_in heap.old).blocks }
 {
     let Some(mut owned) = heap.take_out(alloc) else {
         return CallFault::Closed.number();

@@ -10,6 +10,7 @@ ghost use Rattle.tlsf_heap.specs.GoodFit.{fits};
 ghost use Rattle.tlsf_heap.specs.Placed.{placed_at};
 ghost use Rattle.tlsf_heap.specs.Reports.{report_of, IsGrant};
 ghost use Rattle.tlsf_heap.specs.Given.{payload_words_given, payload_words_left};
+ghost use Rattle.tlsf_heap.specs.Touched.{FollowsNoForgery, allocate_touches, release_touches, resize_touches};
 ghost use Rattle.tlsf_heap.specs.Calls.{opened, allocated, released, resized, written, read_of, read_answer, last_tick};
 ghost use Rattle.tlsf_lock.specs.Grants.{IsCounted, AreCounts, SameCount, accepted};
 
@@ -85,6 +86,7 @@ impl<const SLI: u32> Counted<SLI> {
 
         // Accepted or refused, and whatever the region holds: at most 64 touches, and one for each payload word of the block given.
         ensures touches { self.new.touches ≤ self.old.touches + 64 + payload_words_given result self.new.heap }
+        ensures most_touches { self.new.touches ≤ self.old.touches + allocate_touches result self.new.heap }
         ensures touches_rise { self.old.touches ≤ self.new.touches }
     {
         let name = self.heap.allocate(len)?;
@@ -115,7 +117,9 @@ impl<const SLI: u32> Counted<SLI> {
 
         // Accepted or refused, and whatever the region holds: at most 64 touches.
         ensures touches { self.new.touches ≤ self.old.touches + 64 }
+        ensures most_touches { self.new.touches ≤ self.old.touches + release_touches }
         ensures touches_rise { self.old.touches ≤ self.new.touches }
+        ensures forged { FollowsNoForgery self.old.heap name self.old.touches self.new.touches }
     {
         self.heap.release(name)?;
         self.returns += 1;
@@ -145,7 +149,9 @@ impl<const SLI: u32> Counted<SLI> {
 
         // Accepted or refused, and whatever the region holds: at most 64 touches, and one for each payload word of the block that is left.
         ensures touches { self.new.touches ≤ self.old.touches + 64 + payload_words_left result self.new.heap name }
+        ensures most_touches { self.new.touches ≤ self.old.touches + resize_touches result self.new.heap name }
         ensures touches_rise { self.old.touches ≤ self.new.touches }
+        ensures forged { FollowsNoForgery self.old.heap name self.old.touches self.new.touches }
     {
         self.heap.resize(name, len)
     }
@@ -172,6 +178,7 @@ impl<const SLI: u32> Counted<SLI> {
         ensures counted { IsCounted self.new }
         ensures touches { self.new.touches ≤ self.old.touches + 4 + 2 * (length bytes.now / 8 + 2) }
         ensures touches_rise { self.old.touches ≤ self.new.touches }
+        ensures forged { FollowsNoForgery self.old.heap name self.old.touches self.new.touches }
     {
         self.heap.write(name, at, bytes)
     }
@@ -195,6 +202,7 @@ impl<const SLI: u32> Counted<SLI> {
         ensures was_counted { IsCounted self.old }
         ensures touches { self.new.touches ≤ self.old.touches + 4 + (length out.old / 8 + 2) }
         ensures touches_rise { self.old.touches ≤ self.new.touches }
+        ensures forged { FollowsNoForgery self.old.heap name self.old.touches self.new.touches }
     {
         self.heap.read(name, at, out)
     }
@@ -222,6 +230,7 @@ impl<const SLI: u32> Counted<SLI> {
         ensures counted { IsCounted self.new }
         ensures touches { self.new.touches ≤ self.old.touches + 4 }
         ensures touches_rise { self.old.touches ≤ self.new.touches }
+        ensures forged { FollowsNoForgery self.old.heap name self.old.touches self.new.touches }
     {
         self.heap.alter(name, f)
     }
@@ -244,6 +253,7 @@ impl<const SLI: u32> Counted<SLI> {
         ensures was_counted { IsCounted self.old }
         ensures touches { self.new.touches ≤ self.old.touches + 4 }
         ensures touches_rise { self.old.touches ≤ self.new.touches }
+        ensures forged { FollowsNoForgery self.old.heap name self.old.touches self.new.touches }
     {
         self.heap.inspect(name, f)
     }
@@ -262,7 +272,10 @@ impl<const SLI: u32> Counted<SLI> {
         ensures grant { IsGrant SLI self.old.heap.blocks result.grant }
         ensures same { SameCount self.old self.new }
         ensures was_counted { IsCounted self.old }
-        ensures touches { self.new.touches ≤ self.old.touches + 3 * self.old.heap.words }
+
+        // Two for each block, and no block has fewer than four words.
+        ensures touches { self.new.touches ≤ self.old.touches + 2 * length self.old.heap.blocks }
+        ensures few { 4 * length self.old.heap.blocks ≤ self.old.heap.words }
         ensures touches_rise { self.old.touches ≤ self.new.touches }
     {
         self.heap.report()

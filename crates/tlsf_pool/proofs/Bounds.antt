@@ -1,16 +1,12 @@
 -- How far the greatest region goes.
 use Rattle.std.proofs.Common.{◌≡◌, ℕ, zero, suc, ◌+◌, ◌-◌, ◌*◌, ◌/◌, ◌<◌, ◌≤◌, arith, inl, inr, le_trans}
-use Rattle.std.proofs.Math.Nat.{mul-le-mul}
 use Rattle.std.proofs.lemmas.Bool.{cases_lt}
 use Rattle.tlsf_heap.specs.Blocks.{want}
 use Rattle.tlsf_laws.specs.Room.{sure}
 use Rattle.tlsf_laws.specs.Pools.{pool_words}
 use Rattle.tlsf_laws.proofs.FreeRoom.{sure_enough, sure_rises}
 use Rattle.tlsf_class.specs.Classes.{IsLevel, most_words}
-use Rattle.tlsf_pool.proofs.Sizes.{some_words}
-
-products : (a b c d : ℕ) → a ≤ b → c ≤ d → a * c ≤ b * d
-products a b c d f g = mul-le-mul f g
+use Rattle.tlsf_pool.proofs.Sizes.{products, some_words}
 
 wants : (a b : ℕ) → a ≤ b → want a ≤ want b
 wants a b f = omega (arith, f)

@@ -4,7 +4,7 @@ use Rattle.std.specs.List.{AllByRecursion}
 use Rattle.std.proofs.lemmas.Bool.{false≢true}
 use Rattle.tlsf_heap.specs.Blocks.{Block, Live, Free, HeapState, is_free, want}
 use Rattle.tlsf_heap.specs.GoodFit.{Site, fits}
-use Rattle.tlsf_heap.specs.Given.{payload_words_at, payload_words_given}
+use Rattle.tlsf_heap.specs.Given.{payload_words_at}
 use Rattle.tlsf_heap.specs.Reports.{IsGrant}
 use Rattle.tlsf_heap.specs.Calls.{Call, Allocate, Release, Write, Allocated, Released, allocated, released, written, answered, has_serial, named, last_tick}
 use Rattle.tlsf_heap.specs.declared.name.Name.{Name}
@@ -79,7 +79,7 @@ module _ (sli : ℕ) where
       on p (written p.heap name at bytes).heap left p.held touches heap (after p (Write name at bytes) p.held touches is tt is.live is.few)
 
   -- the block that was given has no more payload words than the longest request wants
-  pub given_small : (k : ℕ) (name : Name) (h : HeapState) → AllByRecursion (IsSmall (k + 3)) h.blocks → payload_words_given (Ok name) h ≤ k
+  pub given_small : (k : ℕ) (name : Name) (h : HeapState) → AllByRecursion (IsSmall (k + 3)) h.blocks → payload_words_at (named name h.blocks) ≤ k
   given_small k name h small = at (named name h.blocks) refl
     where
       free_not : (b : Block) → has_serial name.serial b ≡ true → is_free b ≡ false

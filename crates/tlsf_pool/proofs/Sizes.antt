@@ -35,7 +35,7 @@ class_at sli [] i kind all within = absurd (omega (arith, within))
 class_at sli (k ∷ kinds) zero kind all within = all.0
 class_at sli (k ∷ kinds) (suc i) kind all within = class_at sli kinds i kind all.1 (omega arith)
 
-products : (a b c d : ℕ) → a ≤ b → c ≤ d → a * c ≤ b * d
+pub products : (a b c d : ℕ) → a ≤ b → c ≤ d → a * c ≤ b * d
 products a b c d f g = mul-le-mul f g
 
 -- the words of one kind, at most

@@ -3,8 +3,9 @@ ghost use Rattle.tlsf_class.specs.Classes.{IsLevel, most_words};
 ghost use Rattle.tlsf_heap.specs.Blocks;
 ghost use Rattle.tlsf_laws.specs.Pools;
 
-use crate::sizing::{kinds_words, most_bytes, sure, want};
+use crate::sizing::{kinds_words, most_bytes, sure};
 use tlsf_class::most_words;
+use tlsf_heap::want;
 use tlsf_laws::Kind;
 
 /// Whether some region has the words of a pool of at most `most` blocks, of at most `len` bytes each.

@@ -24,5 +24,5 @@ pub use greatest::{longest_request, most_blocks};
 pub use pool::Pool;
 pub use pool_refusal::PoolRefusal;
 pub use region::pool_region;
-pub use sizing::{LONGEST, kinds_words, most_bytes};
+pub use sizing::{kinds_words, most_bytes};
 pub use tlsf_laws::Kind;

@@ -3,6 +3,8 @@ ghost use Rattle.std.specs.Prelude.{◌≡◌, ◌≢◌, ℕ, List, ◌+◌, �
 ghost use Rattle.std.specs.Result.{result_unwrap_or};
 ghost use Rattle.tlsf_class.specs.Classes.{IsLevel};
 ghost use Rattle.tlsf_heap.specs.Blocks.{want};
+ghost use Rattle.tlsf_heap.specs.Given.{payload_words_given};
+ghost use Rattle.tlsf_heap.specs.Touched.{FollowsNoForgery, allocate_touches, release_touches};
 ghost use Rattle.tlsf_heap.specs.Calls.{opened, allocated, released, written, read_of, read_answer, last_tick};
 ghost use Rattle.tlsf_heap.specs.InPlace.{ArePayload, Alters, Inspects, IsRefusedAsRead};
 ghost use Rattle.tlsf_heap.specs.Laws.{IsLive};
@@ -115,8 +117,12 @@ impl<const SLI: u32> Pool<SLI> {
         ensures was_pool { IsPool SLI self.old }
         ensures pool { IsPool SLI self.new }
 
-        // At most 64 touches, and one for each payload word of the block given: no more than the longest request wants.
-        ensures touches { self.new.touches ≤ self.old.touches + 64 + want self.old.longest }
+        // Accepted or refused, and whatever the region holds: at most 64 touches, and one for each payload word of the block given.
+        ensures touches { self.new.touches ≤ self.old.touches + 64 + payload_words_given result self.new.heap }
+        ensures most_touches { self.new.touches ≤ self.old.touches + allocate_touches result self.new.heap }
+
+        // These words are no more than the longest request wants.
+        ensures given { payload_words_given result self.new.heap ≤ want self.old.longest }
         ensures touches_rise { self.old.touches ≤ self.new.touches }
     {
         if len > self.longest {
@@ -157,7 +163,9 @@ impl<const SLI: u32> Pool<SLI> {
         ensures was_pool { IsPool SLI self.old }
         ensures pool { IsPool SLI self.new }
         ensures touches { self.new.touches ≤ self.old.touches + 64 }
+        ensures most_touches { self.new.touches ≤ self.old.touches + release_touches }
         ensures touches_rise { self.old.touches ≤ self.new.touches }
+        ensures forged { FollowsNoForgery self.old.heap name self.old.touches self.new.touches }
     {
         self.heap.release(name)?;
         self.held -= 1;
@@ -186,6 +194,7 @@ impl<const SLI: u32> Pool<SLI> {
         ensures pool { IsPool SLI self.new }
         ensures touches { self.new.touches ≤ self.old.touches + 4 + 2 * (length bytes.now / 8 + 2) }
         ensures touches_rise { self.old.touches ≤ self.new.touches }
+        ensures forged { FollowsNoForgery self.old.heap name self.old.touches self.new.touches }
     {
         self.heap.write(name, at, bytes)
     }
@@ -206,6 +215,7 @@ impl<const SLI: u32> Pool<SLI> {
         ensures was_pool { IsPool SLI self.old }
         ensures touches { self.new.touches ≤ self.old.touches + 4 + (length out.old / 8 + 2) }
         ensures touches_rise { self.old.touches ≤ self.new.touches }
+        ensures forged { FollowsNoForgery self.old.heap name self.old.touches self.new.touches }
     {
         self.heap.read(name, at, out)
     }
@@ -232,6 +242,7 @@ impl<const SLI: u32> Pool<SLI> {
         ensures pool { IsPool SLI self.new }
         ensures touches { self.new.touches ≤ self.old.touches + 4 }
         ensures touches_rise { self.old.touches ≤ self.new.touches }
+        ensures forged { FollowsNoForgery self.old.heap name self.old.touches self.new.touches }
     {
         self.heap.alter(name, f)
     }
@@ -252,6 +263,7 @@ impl<const SLI: u32> Pool<SLI> {
         ensures was_pool { IsPool SLI self.old }
         ensures touches { self.new.touches ≤ self.old.touches + 4 }
         ensures touches_rise { self.old.touches ≤ self.new.touches }
+        ensures forged { FollowsNoForgery self.old.heap name self.old.touches self.new.touches }
     {
         self.heap.inspect(name, f)
     }
@@ -273,8 +285,9 @@ impl<const SLI: u32> Pool<SLI> {
         ensures same { SamePool self.old self.new }
         ensures was_pool { IsPool SLI self.old }
 
-        // Three for each block, and no block has less than a word.
-        ensures touches { self.new.touches ≤ self.old.touches + 3 * self.old.heap.words }
+        // Two for each block, and no block has fewer than four words.
+        ensures touches { self.new.touches ≤ self.old.touches + 2 * length self.old.heap.blocks }
+        ensures few { 4 * length self.old.heap.blocks ≤ self.old.heap.words }
         ensures touches_rise { self.old.touches ≤ self.new.touches }
     {
         self.heap.report()

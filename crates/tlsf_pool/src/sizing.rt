@@ -8,15 +8,8 @@ ghost use Rattle.tlsf_laws.specs.Kinds.{count_in, table_words, HasClass};
 ghost use Rattle.tlsf_pool.specs.Pools.{most_kinds};
 
 use tlsf_class::{low, most_words, search_of};
+use tlsf_heap::want;
 use tlsf_laws::Kind;
-
-/// The most bytes that a request may have so that some region of level 4 serves it: 8,388,584, which want 2^20 words.
-/// [`most_bytes`] answers it for each level.
-///
-/// ```
-/// let kind = Kind { most: 1, len: LONGEST };
-/// ```
-pub const LONGEST: u32 = 8_388_584;
 
 /// The most bytes that a request may have so that some region serves it: 8,388,584 at level 4, which want 2^20 words, and
 /// 134,217,704 at level 5, which want 2^24.
@@ -29,13 +22,6 @@ pub fn most_bytes<const SLI: u32>() -> u32
     ensures { result ≡ 8 * (most_words SLI - 3) }
 {
     8 * (most_words::<SLI>() - 3)
-}
-
-/// The words wanted for a request of `len` bytes.
-pub(crate) fn want(len: u32) -> u32
-    ensures { result ≡ Blocks.want len }
-{
-    (3 + len / 8 + u32::from(len % 8 != 0)).max(4)
 }
 
 /// The least size from which each free block serves a request of so many words.

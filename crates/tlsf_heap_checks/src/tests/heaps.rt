@@ -2,7 +2,7 @@ use std::alloc::Global;
 use std::process::Abort;
 use std::test::Fail;
 use tlsf_fixtures::{name, same};
-use tlsf_heap::{Heap, Name, OpenFault, Refusal};
+use tlsf_heap::{Heap, Name, OpenFault, Refusal, want};
 
 /// What a heap is asked for.
 #[derive(Clone, Copy)]
@@ -195,4 +195,10 @@ fn first_block(alloc: Global) -> Result<u64, OpenFault> {
 #[test]
 fn example_of_the_readme(rt: HostRuntime) {
     same(first_block(rt.alloc()), Ok(1)).expect(&rt, "differ");
+}
+
+#[test]
+fn words_wanted(rt: HostRuntime) {
+    let found = [want(0), want(8), want(9), want(100), want(u32::MAX)];
+    same(found, [4, 4, 5, 16, 536_870_915]).expect(&rt, "differ");
 }

@@ -4,9 +4,11 @@ use std::test::Fail;
 use tlsf_fixtures::{name, same};
 use tlsf_heap::{Name, OpenFault, Refusal};
 use tlsf_pool::{
-    Kind, LONGEST, Pool, PoolRefusal, kinds_words, longest_request, most_blocks, most_bytes,
-    pool_region,
+    Kind, Pool, PoolRefusal, kinds_words, longest_request, most_blocks, most_bytes, pool_region,
 };
+
+/// The most bytes of a request that some region of level 4 serves.
+const LONGEST: u32 = 8_388_584;
 
 /// What the last two of the first eight bytes of a block are, once they were written.
 fn two_bytes(pool: &mut Pool<4>, block: Name) -> Result<[u8; 2], Refusal> {

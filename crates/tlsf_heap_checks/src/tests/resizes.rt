@@ -23,7 +23,10 @@ fn free(at: u32, size: u32, stamp: u64) -> Option<PlacedBlock> {
 }
 
 /// The block at a place, and the one behind it.
-fn two_blocks(heap: &mut Heap<4>, at: u32) -> (Option<PlacedBlock>, Option<PlacedBlock>) {
+fn two_blocks<const SLI: u32>(
+    heap: &mut Heap<SLI>,
+    at: u32,
+) -> (Option<PlacedBlock>, Option<PlacedBlock>) {
     let first = heap.block_at(at);
     let end = match first {
         Some(block) => at.saturating_add(block.size),
@@ -33,7 +36,11 @@ fn two_blocks(heap: &mut Heap<4>, at: u32) -> (Option<PlacedBlock>, Option<Place
 }
 
 /// What a resize answers, and the tick that it leaves.
-fn resize(heap: &mut Heap<4>, block: Name, len: u32) -> (Result<(), Refusal>, u64) {
+fn resize<const SLI: u32>(
+    heap: &mut Heap<SLI>,
+    block: Name,
+    len: u32,
+) -> (Result<(), Refusal>, u64) {
     (heap.resize(block, len), heap.tick())
 }
 
@@ -156,5 +163,47 @@ fn move_takes_two_ticks(rt: HostRuntime) -> Result<(), Fail> {
         heap.allocate(8)?;
         same(heap.resize_or_move(block, 100), wanted).expect(&rt, "differ");
     }
+    Ok(())
+}
+
+// 8 MiB of payload want 2^20 words and three, more than a region of level 4 has.
+#[test]
+fn block_of_level_5_grows_past_level_4(rt: HostRuntime) -> Result<(), Fail> {
+    let mut heap = Heap::<5>::open(rt.alloc(), 0, 1 << 21, 0)?;
+    let block = heap.allocate(8)?;
+    same(resize(&mut heap, block, 1 << 23), (Ok(()), 3)).expect(&rt, "not grown");
+    same(
+        two_blocks(&mut heap, 0),
+        (
+            live(0, 1_048_579, 1, 1 << 23),
+            free(1_048_579, 1_048_573, 2),
+        ),
+    )
+    .expect(&rt, "differ");
+    same(resize(&mut heap, block, 1 << 24), (Err(Refusal::NoRoom), 3)).expect(&rt, "grown");
+    same(resize(&mut heap, block, 8), (Ok(()), 4)).expect(&rt, "not shrunk");
+    same(
+        two_blocks(&mut heap, 0),
+        (live(0, 4, 1, 8), free(4, 2_097_148, 3)),
+    )
+    .expect(&rt, "differ");
+    Ok(())
+}
+
+/// What `resize_or_move` answers for a block with a live one behind it.
+fn moved_from_a_wall<const SLI: u32>(heap: &mut Heap<SLI>, len: u32) -> Result<Name, Refusal> {
+    let block = heap.allocate(8)?;
+    heap.allocate(8)?;
+    heap.resize_or_move(block, len)
+}
+
+// 66 words are left behind both blocks, and wanted: at level 5 a class begins there, at level 4 the next one begins at 68.
+#[test]
+fn level_5_moves_where_level_4_finds_none(rt: HostRuntime) -> Result<(), Fail> {
+    let mut heap = Heap::<4>::open(rt.alloc(), 0, 74, 0)?;
+    same(moved_from_a_wall(&mut heap, 504), Err(Refusal::NoFit)).expect(&rt, "moved");
+    let mut heap = Heap::<5>::open(rt.alloc(), 0, 74, 0)?;
+    same(moved_from_a_wall(&mut heap, 504), Ok(name(0, 8, 3))).expect(&rt, "not moved");
+    same(two_blocks(&mut heap, 0), (free(0, 4, 4), live(4, 4, 2, 8))).expect(&rt, "differ");
     Ok(())
 }

@@ -11,13 +11,11 @@ invariant_of-self g c = given_pool g.row.SLI _ c.args.len c.in-Ok.name _ _ c.sel
 pub returns-in-Ok-clause-pool : goal.returns-in-Ok-clause-pool
 returns-in-Ok-clause-pool g c = given_pool g.row.SLI _ c.args.len c.in-Ok.name _ _ c.self.invariant c.if-len-self.false c.if-self.false c.in-Ok.ensures.answer c.in-Ok.ensures.heap
 
-pub returns-in-Ok-clause-touches : goal.returns-in-Ok-clause-touches
-returns-in-Ok-clause-touches g c =
+pub returns-in-Ok-clause-given : goal.returns-in-Ok-clause-given
+returns-in-Ok-clause-given g c =
     let left = given_pool g.row.SLI _ c.args.len c.in-Ok.name c.allocate.new.self.heap 0 c.self.invariant c.if-len-self.false c.if-self.false c.in-Ok.ensures.answer c.in-Ok.ensures.heap in
     let given = given_small g.row.SLI (want c.self.inside.longest) c.in-Ok.name c.allocate.new.self.heap left.small in
-    let touches = ap (λ (p : PoolState). p.touches) c.self.view_is in
-    let bound = ap (λ (p : PoolState). want p.longest) c.self.view_is in
-    omega (arith, given, c.in-Ok.ensures.touches, touches, bound)
+    omega (arith, given, ap (λ (p : PoolState). want p.longest) c.self.view_is)
 
 pub returns-in-Err-clause-ok : goal.returns-in-Err-clause-ok
 returns-in-Err-clause-ok g c = (λ e. absurd (false≢true e), worn g.row.SLI _ c.args.self.now c.args.len (sym c.self.view_is) c.self.invariant c.in-Err.ensures.ok.1)
