@@ -19,6 +19,11 @@ run_push from to le =
 pub all_pushed : {X : Type 0} (P : X → Type 0) (xs ys : List X) (x : X) → ys ≡ xs ++ x ∷ [] → All P xs → P x → All P ys
 all_pushed P xs ys x e a b = subst (λ l. All P l) (sym e) (All-push P xs x a b)
 
+-- a number of a run is not one that lies past it or before it
+pub apart_from : (own from to number : ℕ) → (to ≤ own) ⊎ (own < from) → from ≤ number → number < to → own ≢ number
+apart_from own from to number (inl le) low high = λ e. omega arith
+apart_from own from to number (inr lt) low high = λ e. omega arith
+
 -- ---- the numbers below k but one
 
 pub but_skip : (own : ℕ) → below_but own (suc own) ≡ below_but own own

@@ -1,10 +1,11 @@
 -- What a contract sees of the ends of a mailbox.
-use Rattle.std.specs.Prelude.{◌≡◌, ℕ, zero, suc, List, [], ◌∷◌, ◌++◌, ◌==◌, if◌then◌else◌, map, All}
+use Rattle.std.specs.Prelude.{◌≡◌, ℕ, zero, suc, ◌+◌, ◌≤◌, List, [], ◌∷◌, ◌++◌, ◌==◌, if◌then◌else◌, map, length, All}
 use Rattle.std.specs.Arc.{arc_value}
 use mathlib.Core.List.{IsPrefix}
 use Rattle.crossbeam_queue.specs.Passes.{view, ruled_capacity}
-use Rattle.tlsf_post.specs.Rule.{posts_of}
+use Rattle.tlsf_post.specs.Rule.{posts_of, plan_for, AreOfPosters}
 use Rattle.tlsf_post.specs.declared.post.Post.{Post}
+use Rattle.tlsf_post.specs.declared.plan.Plan.{Plan}
 use Rattle.tlsf_post.specs.declared.poster_end.PosterEnd.{PosterEnd}
 use Rattle.tlsf_post.specs.declared.owner_end.OwnerEnd.{OwnerEnd}
 
@@ -17,6 +18,14 @@ number_of p = p.from
 -- all that was ever put through the end
 abbrev pub put_by : PosterEnd → List Post
 put_by p = (view p.pass).put
+
+-- what it knows to have been taken of that: all that was taken up to the last `meet`
+abbrev pub gone_from : PosterEnd → List Post
+gone_from p = (view p.pass).got
+
+-- whose mailbox it puts into, of how many workers, and how many posts that holds
+abbrev pub plan_of : PosterEnd → Plan
+plan_of p = (view p.pass).plan
 
 -- the number of the worker that takes through the end
 abbrev pub owner_of : OwnerEnd → ℕ
@@ -38,15 +47,45 @@ known_to o = (view o.pass).put
 abbrev pub most_of : OwnerEnd → ℕ
 most_of o = ruled_capacity (arc_value o.queue)
 
+-- what its mailbox is laid out for
+abbrev pub plan_at : OwnerEnd → Plan
+plan_at o = plan_for (owner_of o) (out_of o) (most_of o)
+
 -- of each poster all was taken that the owner knows to have been put
 abbrev pub IsAllTaken : OwnerEnd → Type 0
 IsAllTaken o = (p : ℕ) → IsPrefix (posts_of p (known_to o)) (posts_of p (got_by o))
+
+-- ---- what waited
+
+-- what the end can say of the posts that waited at one moment: no more than the mailbox holds, each of a poster of it. Those of
+-- the end are the last that it has put; all that it has put before them was taken, and that begins with what it knew to be
+pub record PosterSaw (p : PosterEnd) (waiting : List Post) : Type 0 where
+  pub few : length waiting ≤ (plan_of p).capacity
+  pub from : AreOfPosters (plan_of p) waiting
+  pub taken : List Post
+  pub own : put_by p ≡ taken ++ posts_of (number_of p) waiting
+  pub known : IsPrefix (gone_from p) taken
+
+-- nobody else puts into the mailbox
+abbrev pub IsOnlyPoster : PosterEnd → Type 0
+IsOnlyPoster p = (plan_of p).workers ≡ 2
+
+-- besides those that it knows to have been taken, the end has put as many posts as the mailbox holds
+abbrev pub HasFilled : PosterEnd → Type 0
+HasFilled p = length (gone_from p) + (plan_of p).capacity ≤ length (put_by p)
+
+-- what the owner can say of them: no more than the mailbox holds, each of a poster of it. Of each poster, what was taken and
+-- then they begin with what the owner knows to have been put
+pub record OwnerSaw (o : OwnerEnd) (waiting : List Post) : Type 0 where
+  pub few : length waiting ≤ most_of o
+  pub from : AreOfPosters (plan_at o) waiting
+  pub known : (p : ℕ) → IsPrefix (posts_of p (known_to o)) (posts_of p (got_by o ++ waiting))
 
 -- ---- ends that fit each other
 
 -- the two are ends of one mailbox
 abbrev pub IsMailbox : OwnerEnd → PosterEnd → Type 0
-IsMailbox o p = p.pass.table_id ≡ o.pass.table_id
+IsMailbox o p = (p.pass.table_id ≡ o.pass.table_id) × (plan_of p ≡ plan_at o)
 
 -- the numbers below k but one, rising
 abbrev pub below_but : ℕ → ℕ → List ℕ
@@ -59,9 +98,10 @@ IsWhole o ps = All (IsMailbox o) ps × (map number_of ps ≡ below_but (owner_of
 
 -- ---- what a call changes
 
--- the new end is of the old one's mailbox, with its number
+-- the new end is of the old one's mailbox, with its number, and knows as much to have been taken
 abbrev pub KeepsPoster : PosterEnd → PosterEnd → Type 0
-KeepsPoster old new = (new.pass.table_id ≡ old.pass.table_id) × (number_of new ≡ number_of old)
+KeepsPoster old new =
+    (new.pass.table_id ≡ old.pass.table_id) × (number_of new ≡ number_of old) × (plan_of new ≡ plan_of old) × (gone_from new ≡ gone_from old)
 
 -- the new end is of the old one's mailbox, with its numbers, and knows as much to have been put
 abbrev pub KeepsOwner : OwnerEnd → OwnerEnd → Type 0
@@ -80,4 +120,6 @@ pub record HaveMet (o : OwnerEnd) (ps : List PosterEnd) (n : OwnerEnd) (qs : Lis
   -- the owner knows what each has put
   pub known : All (λ q. posts_of (number_of q) (known_to n) ≡ put_by q) qs
   -- and that is, of each, what was taken and then what waits
-  pub order : (waiting : List Post) × ((p : ℕ) → posts_of p (known_to n) ≡ posts_of p (got_by n ++ waiting))
+  pub order : (waiting : List Post) × OwnerSaw n waiting × ((p : ℕ) → posts_of p (known_to n) ≡ posts_of p (got_by n ++ waiting))
+  -- each knows what was taken of it
+  pub gone : All (λ q. gone_from q ≡ posts_of (number_of q) (got_by n)) qs

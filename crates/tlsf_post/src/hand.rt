@@ -1,3 +1,4 @@
+use crate::plan::Plan;
 use crate::post::Post;
 use std::collections::LinkedList;
 
@@ -7,12 +8,12 @@ pub struct Hand {
     pub posts: bool,
     /// Whether it is the owner's.
     pub takes: bool,
+    /// What the mailbox is laid out for.
+    pub plan: Plan,
     /// A poster's number. Of the owner, the number below which the posters are out.
     pub number: u32,
-    /// The owner's own number, by which nobody posts, once it was passed over.
-    pub own: LinkedList<u32>,
     /// What a poster has put. Of the owner, what it knows that the posters had put.
     pub put: LinkedList<Post>,
-    /// What the owner has taken.
+    /// What the owner has taken. Of a poster, what it knows to have been taken of its posts.
     pub got: LinkedList<Post>,
 }

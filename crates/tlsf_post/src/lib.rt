@@ -13,9 +13,11 @@
 //! A mailbox is one queue for each owner, into which all others post. [`mailbox`] answers the [`OwnerEnd`] that takes, and
 //! a [`PosterEnd`] for each other worker. Where all ends are at hand, [`meet`] tells the owner what was put.
 //!
-//! Contracts see a `PosterEnd` as its number (`number_of`) and all that was put through it (`put_by`). They see an
-//! `OwnerEnd` as its number (`owner_of`), all that was taken through it (`got_by`), and what it knows to have been put
-//! (`known_to`), of which `posts_of` are the posts of one worker. That ends are all those of one mailbox is `IsWhole`.
+//! Contracts see a `PosterEnd` as its number (`number_of`), all that was put through it (`put_by`), what it knows to have
+//! been taken of that (`gone_from`), and the mailbox's owner, workers and capacity (`plan_of`). They see an `OwnerEnd` as its
+//! number (`owner_of`), all that was taken through it (`got_by`), and what it knows to have been put (`known_to`), of which
+//! `posts_of` are the posts of one worker. What an end can say of the posts that waited at one moment of its call is
+//! `PosterSaw` and `OwnerSaw`. That ends are all those of one mailbox is `IsWhole`.
 //!
 //! Nothing but `lane` and `mailbox` takes memory. A lane's ends never wait; those of a mailbox may wait for one another's
 //! half of a step.
@@ -26,6 +28,7 @@ mod lanes;
 mod mailboxes;
 mod mark;
 mod owner_end;
+mod plan;
 mod post;
 mod post_end;
 mod poster_end;

@@ -1,7 +1,7 @@
-ghost use Rattle.std.specs.Prelude.{◌≡◌, ◌≢◌, ℕ, ◌+◌, ◌-◌, ◌<◌, ◌≤◌, true, false, [], ◌∷◌, ◌++◌, map, length, IfOk, OnOk, All, vec_len, vec_capacity};
+ghost use Rattle.std.specs.Prelude.{◌≡◌, ◌≢◌, ◌⊎◌, ◌+◌, ◌-◌, ◌<◌, ◌≤◌, true, false, [], ◌++◌, map, IfOk, OnOk, All, vec_len, vec_capacity};
 ghost use Rattle.std.specs.Arc.{arc_value};
-ghost use Rattle.crossbeam_queue.specs.Passes.{view, IsPassOf};
-ghost use Rattle.tlsf_post.specs.Rule.{keeper, poster, posts_of};
+ghost use Rattle.crossbeam_queue.specs.Passes.{view, ruled_capacity, IsPassOf};
+ghost use Rattle.tlsf_post.specs.Rule.{keeper, poster, posts_of, plan_for, no_plan};
 ghost use Rattle.tlsf_post.specs.Mailboxes.{number_of, put_by, owner_of, out_of, most_of, got_by, known_to, below_but, IsWhole, HaveMet};
 ghost use Rattle.tlsf_post.specs.Meetings.{run, next_but, IsFreshAt, IsOfPass, Meeting};
 
@@ -9,7 +9,7 @@ use crate::hand::Hand;
 use crate::owner_end::OwnerEnd;
 use crate::post::Post;
 use crate::poster_end::PosterEnd;
-use crate::rule::{OneTake, OwnNumber, PosterBack, PosterOut, Queue};
+use crate::rule::{OneSlot, OneTake, OneWorker, OwnNumber, OwnerOn, PosterBack, PosterOut, Queue};
 use crossbeam_queue::Pass;
 use std::alloc::Global;
 use std::sync::Arc;
@@ -44,6 +44,7 @@ pub fn mailbox(
 {
     let mut posters = Vec::with_capacity(alloc, n as usize - 1)?;
     let (queue, mut pass) = Queue::ruled(alloc, capacity as usize)?;
+    lay_out(&queue, &mut pass, owner, n, capacity);
     let Ok(queue) = Arc::new(alloc, queue) else {
         return Err(NoMemory);
     };
@@ -58,6 +59,22 @@ pub fn mailbox(
     Ok((end, posters))
 }
 
+/// Tells the pass what the mailbox is laid out for. A rule knows no number of the program, so it counts: each step is one load.
+fn lay_out(queue: &Queue, pass: &mut Pass<Post, Hand>, owner: u32, n: u32, capacity: u32)
+    requires pass { IsPassOf queue.now pass.old × (view pass.old ≡ keeper no_plan 0 [] []) }
+    ensures pass { IsPassOf queue.now pass.new × (view pass.new ≡ keeper (plan_for owner n capacity) 0 [] []) }
+{
+    for _k in 0..owner {
+        queue.another::<OwnerOn>(pass);
+    }
+    for _k in 0..n {
+        queue.another::<OneWorker>(pass);
+    }
+    for _k in 0..capacity {
+        queue.another::<OneSlot>(pass);
+    }
+}
+
 /// Makes the posters' ends of the numbers from `from` up to `to`.
 fn send_out(
     queue: &Arc<Queue, Global>,
@@ -66,15 +83,17 @@ fn send_out(
     to: u32,
     posters: &mut Vec<PosterEnd>,
 ) -> Result<(), NoMemory>
-    requires pass { IsPassOf (arc_value queue.now) pass.old × (view pass.old ≡ keeper from (view pass.old).own [] []) × (from ≤ to) }
-    requires own { (k : ℕ) → from ≤ k → (view pass.old).own ≢ k ∷ [] }
+    requires pass { IsPassOf (arc_value queue.now) pass.old × (view pass.old ≡ keeper (view pass.old).plan from [] []) × (from ≤ to) }
+    requires room { (view pass.old).plan.capacity ≡ ruled_capacity (arc_value queue.now) }
+    requires owned { (view pass.old).plan.owner < (view pass.old).plan.workers }
+    requires numbers { (to ≤ (view pass.old).plan.workers) × ((to ≤ (view pass.old).plan.owner) ⊎ ((view pass.old).plan.owner < from)) }
     requires posters { All (IsFreshAt pass.old) posters.old.items }
-    requires room { vec_len posters.old + (to - from) ≤ vec_capacity posters.old }
+    requires places { vec_len posters.old + (to - from) ≤ vec_capacity posters.old }
     ensures pass { OnOk result (IsPassOf (arc_value queue.now) pass.new × (pass.new.table_id ≡ pass.old.table_id)
-        × (view pass.new ≡ keeper to (view pass.old).own [] [])) }
+        × (view pass.new ≡ keeper (view pass.old).plan to [] [])) }
     ensures posters { OnOk result (All (IsFreshAt pass.old) posters.new.items) }
     ensures numbers { OnOk result (map number_of posters.new.items ≡ map number_of posters.old.items ++ run from (to - from)) }
-    ensures room { OnOk result ((vec_capacity posters.new ≡ vec_capacity posters.old) × (vec_len posters.new ≡ vec_len posters.old + (to - from))) }
+    ensures places { OnOk result ((vec_capacity posters.new ≡ vec_capacity posters.old) × (vec_len posters.new ≡ vec_len posters.old + (to - from))) }
 {
     for number in from..to {
         let queue = Arc::try_clone(queue)?;
@@ -93,7 +112,8 @@ fn send_out(
 /// - It requires that the ends are all those of one mailbox, in the order in which [`mailbox`] answered them. `put`,
 ///   `take` and `meet` keep it.
 /// - `met`: nothing is put or taken. Of each poster, what was taken and then what waits is what it has put, and from now
-///   on the owner's end knows that. So no post is lost, doubled, or overtaken by another of its poster.
+///   on the owner's end knows that, and the poster's what was taken. So no post is lost, doubled, or overtaken by another of
+///   its poster. No more posts wait in all than the mailbox holds.
 /// - `capacity`: the list of the ends keeps its room.
 ///
 /// ```
@@ -112,7 +132,7 @@ pub fn meet(owner: &mut OwnerEnd, posters: &mut Vec<PosterEnd>)
 /// The posters come back, the last one first, and go out again with all that they have put.
 fn meet_from(queue: &Queue, pass: &mut Pass<Post, Hand>, own: u32, posters: &mut Vec<PosterEnd>)
     requires pass { IsPassOf queue.now pass.old × ((view pass.old).takes ≡ true) × ((view pass.old).posts ≡ false) }
-    requires own { ((view pass.old).own ≡ own ∷ []) × ((view pass.old).number ≢ own) }
+    requires own { ((view pass.old).plan.owner ≡ own) × ((view pass.old).number ≢ own) }
     requires posters { All (IsOfPass pass.old) posters.old.items }
     requires numbers { map number_of posters.old.items ≡ below_but own (view pass.old).number }
     ensures pass { IsPassOf queue.now pass.new × (pass.new.table_id ≡ pass.old.table_id) }
@@ -144,10 +164,11 @@ fn meet_from(queue: &Queue, pass: &mut Pass<Post, Hand>, own: u32, posters: &mut
 /// A poster goes out again, and the owner's own number behind it is passed over.
 fn send_back(queue: &Queue, pass: &mut Pass<Post, Hand>, own: u32, from: u32) -> Pass<Post, Hand>
     requires pass { IsPassOf queue.now pass.old × ((view pass.old).takes ≡ true) × ((view pass.old).posts ≡ false) }
-    requires number { ((view pass.old).own ≡ own ∷ []) × ((view pass.old).number ≡ from) × (from ≢ own) }
+    requires number { ((view pass.old).plan.owner ≡ own) × ((view pass.old).number ≡ from) × (from ≢ own) }
     ensures pass { IsPassOf queue.now pass.new × (pass.new.table_id ≡ pass.old.table_id) }
-    ensures next { view pass.new ≡ keeper (next_but own from) (own ∷ []) (view pass.old).put (view pass.old).got }
-    ensures back { IsPassOf queue.now result × (view result ≡ poster from (posts_of from (view pass.old).put)) }
+    ensures next { view pass.new ≡ keeper (view pass.old).plan (next_but own from) (view pass.old).put (view pass.old).got }
+    ensures back { IsPassOf queue.now result
+        × (view result ≡ poster (view pass.old).plan from (posts_of from (view pass.old).put) (posts_of from (view pass.old).got)) }
 {
     let back = queue.another::<PosterOut>(pass);
     if from < own && own - from == 1 {

@@ -1,7 +1,7 @@
-ghost use Rattle.std.specs.Prelude.{◌≡◌, ℕ, ◌<◌, [], ◌∷◌, true, false};
+ghost use Rattle.std.specs.Prelude.{◌≡◌, ◌<◌, [], true, false};
 ghost use Rattle.std.specs.Arc.{arc_value};
-ghost use Rattle.crossbeam_queue.specs.Passes.{view};
-ghost use Rattle.tlsf_post.specs.Rule.{posts_of, IsIn};
+ghost use Rattle.crossbeam_queue.specs.Passes.{view, ruled_capacity};
+ghost use Rattle.tlsf_post.specs.Rule.{plan_for};
 
 use crate::hand::Hand;
 use crate::post::Post;
@@ -26,23 +26,21 @@ pub struct OwnerEnd {
     ghost whole: { pass.me.1 ≡ [] },
     ghost takes: { (view pass).takes ≡ true },
     ghost posts: { (view pass).posts ≡ false },
-    ghost own: { (view pass).own ≡ number ∷ [] },
+    ghost plan: { (view pass).plan ≡ plan_for number (view pass).number (ruled_capacity (arc_value queue)) },
     ghost past: { number < (view pass).number },
-    ghost nobody: { (p : ℕ) → IsIn (view pass) p → posts_of p (view pass).put ≡ [] },
 }
 
 impl OwnerEnd {
-    ghost use Rattle.std.specs.Prelude.{◌≡◌, ◌≢◌, ℕ, ◌<◌, ◌≤◌, List, [], ◌∷◌, ◌++◌, length, IfSome, IfNone, IsTrue};
-    ghost use mathlib.Core.List.{IsPrefix};
+    ghost use Rattle.std.specs.Prelude.{◌≡◌, ◌≢◌, ◌<◌, ◌≤◌, List, [], ◌∷◌, ◌++◌, length, IfSome, IfNone, IsTrue};
     ghost use Rattle.tlsf_post.specs.declared.post.Post.{Post};
-    ghost use Rattle.tlsf_post.specs.Rule.{posts_of};
-    ghost use Rattle.tlsf_post.specs.Mailboxes.{owner_of, out_of, most_of, got_by, known_to, KeepsOwner, IsAllTaken};
+    ghost use Rattle.tlsf_post.specs.Mailboxes.{owner_of, out_of, most_of, got_by, KeepsOwner, OwnerSaw, IsAllTaken};
 
     /// Takes the post that has waited longest, or answers `None` where the mailbox was empty at one moment of the call.
     /// It may spin while a post is half put or taken by another thread, and so needs `Wait`.
     ///
     /// - `mailbox`: it stays the owner's end of its mailbox.
     /// - `some`: the post stands behind those taken before.
+    /// - `waited`: no more posts waited than the mailbox holds, and it before the others.
     /// - `from`: it is of another worker, for which the mailbox has an end.
     /// - `none`: nothing was taken, and of each poster all was taken that was known to have been put.
     ///
@@ -54,6 +52,7 @@ impl OwnerEnd {
     pub fn take<R: Wait>(&mut self, rt: &R) -> Option<Post>
         ensures mailbox { KeepsOwner self.old self.new }
         ensures some { IfSome result (λ p. got_by self.new ≡ got_by self.old ++ p ∷ []) }
+        ensures waited { IfSome result (λ p. (others : List Post) × OwnerSaw self.old (p ∷ others)) }
         ensures from { IfSome result (λ p. (p.from < out_of self.old) × (p.from ≢ owner_of self.old)) }
         ensures none { IfNone result ((got_by self.new ≡ got_by self.old) × IsAllTaken self.new) }
     {
@@ -103,7 +102,8 @@ impl OwnerEnd {
     ///
     /// - `mailbox`, `same`: it stays the owner's end of its mailbox, and nothing is taken.
     /// - `most`: no more than the mailbox holds.
-    /// - `count`: so many that, of each poster, what was taken and they begin with what was known to have been put.
+    /// - `count`: so many that, of each poster, what was taken and they begin with what was known to have been put, and each is
+    ///   of a poster.
     ///
     /// ```
     /// let waiting = owner_end.count(rt);       // 0 right after `mailbox`
@@ -112,8 +112,7 @@ impl OwnerEnd {
         ensures mailbox { KeepsOwner self.old self.new }
         ensures same { got_by self.new ≡ got_by self.old }
         ensures most { result ≤ most_of self.old }
-        ensures count { (waiting : List Post) × (length waiting ≡ result)
-            × ((p : ℕ) → IsPrefix (posts_of p (known_to self.new)) (posts_of p (got_by self.new ++ waiting))) }
+        ensures count { (waiting : List Post) × (length waiting ≡ result) × OwnerSaw self.new waiting }
     {
         self.queue.len_as::<OneTake, R>(rt, &mut self.pass)
     }

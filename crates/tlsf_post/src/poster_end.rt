@@ -1,7 +1,7 @@
-ghost use Rattle.std.specs.Prelude.{◌≡◌, [], true, false};
+ghost use Rattle.std.specs.Prelude.{◌≡◌, ◌<◌, [], true, false};
 ghost use Rattle.std.specs.Arc.{arc_value};
-ghost use Rattle.crossbeam_queue.specs.Passes.{view};
-ghost use Rattle.tlsf_post.specs.Rule.{posts_of};
+ghost use Rattle.crossbeam_queue.specs.Passes.{view, ruled_capacity};
+ghost use Rattle.tlsf_post.specs.Rule.{posts_of, MayPut};
 
 use crate::hand::Hand;
 use crate::post::Post;
@@ -27,12 +27,16 @@ pub struct PosterEnd {
     ghost posts: { (view pass).posts ≡ true },
     ghost takes: { (view pass).takes ≡ false },
     ghost number: { (view pass).number ≡ from },
+    ghost room: { (view pass).plan.capacity ≡ ruled_capacity (arc_value queue) },
+    ghost may_put: { MayPut (view pass).plan (view pass).number },
+    ghost owned: { (view pass).plan.owner < (view pass).plan.workers },
     ghost signed: { posts_of from (view pass).put ≡ (view pass).put },
 }
 
 impl PosterEnd {
-    ghost use Rattle.std.specs.Prelude.{◌≡◌, [], ◌∷◌, ◌++◌, OnOk, IfErr};
-    ghost use Rattle.tlsf_post.specs.Mailboxes.{number_of, put_by, KeepsPoster};
+    ghost use Rattle.std.specs.Prelude.{◌≡◌, List, [], ◌∷◌, ◌++◌, length, OnOk, IfErr};
+    ghost use Rattle.tlsf_post.specs.declared.post.Post.{Post};
+    ghost use Rattle.tlsf_post.specs.Mailboxes.{number_of, put_by, plan_of, PosterSaw, IsOnlyPoster, HasFilled, KeepsPoster};
 
     /// Puts a post that names a block, or gives the name back where the mailbox was full at one moment of the call. The
     /// owner may take the post at once. It may spin while a post is half put or taken by another thread, and so needs
@@ -40,7 +44,11 @@ impl PosterEnd {
     ///
     /// - `mailbox`: it stays an end of its mailbox, with its number.
     /// - `ok`: on Ok a post of this end's number, with the name, stands behind those put before.
+    /// - `waits`: no more posts waited with it than the mailbox holds, each of a poster of it, and it behind the others.
     /// - `full`: on Err the name is given back, and what was put doesn't change.
+    /// - `was_full`: so many posts waited as the mailbox holds, each of a poster of it; this end's were the last that it had put.
+    /// - `alone`: where nobody else puts into the mailbox they were all this end's. So it had put as many, besides those that it
+    ///   knows to have been taken.
     ///
     /// ```
     /// match poster_end.put(rt, name) {
@@ -51,7 +59,10 @@ impl PosterEnd {
     pub fn put<R: Wait>(&mut self, rt: &R, name: Name) -> Result<(), Name>
         ensures mailbox { KeepsPoster self.old self.new }
         ensures ok { OnOk result (put_by self.new ≡ put_by self.old ++ record { from = number_of self.old; name = name } ∷ []) }
+        ensures waits { OnOk result ((others : List Post) × PosterSaw self.new (others ++ record { from = number_of self.old; name = name } ∷ [])) }
         ensures full { IfErr result (λ back. (back ≡ name) × (put_by self.new ≡ put_by self.old)) }
+        ensures was_full { IfErr result (λ _. (waiting : List Post) × (length waiting ≡ (plan_of self.old).capacity) × PosterSaw self.old waiting) }
+        ensures alone { IfErr result (λ _. IsOnlyPoster self.old → HasFilled self.old) }
     {
         let post = Post {
             from: self.from,

@@ -8,38 +8,74 @@ use crossbeam_queue::protocol::{Join, Lesson, Outcome, Protocol, Split};
 /// The queue of a mailbox.
 pub(crate) type Queue = RuledArrayQueue<Post, Hand, InOrder>;
 
-/// Of each poster, what was taken and then what waits is what it has put, in order.
+/// Of each poster, what was taken and then what waits is what it has put, in order. No more waits than the mailbox holds.
 pub(crate) struct InOrder;
 
 impl Protocol<Post, Hand> for InOrder {
     ghost use Rattle.std.specs.Prelude.{[]};
-    ghost use Rattle.tlsf_post.specs.Rule.{Kept, keeper};
+    ghost use Rattle.tlsf_post.specs.Rule.{Kept, keeper, no_plan};
 
     ghost holds = { Kept };
 
-    ghost first = { keeper 0 [] [] [] };
+    ghost first = { keeper no_plan 0 [] [] };
 }
 
-/// The next poster goes out, with all that it had put.
+/// The owner's number is one more.
+pub(crate) struct OwnerOn;
+
+impl Split<Hand> for OwnerOn {
+    ghost use Rattle.std.specs.Prelude.{◌+◌};
+    ghost use Rattle.tlsf_post.specs.Rule.{keeper, plan_for, idle};
+
+    ghost left = { λ v. keeper (plan_for (v.plan.owner + 1) v.plan.workers v.plan.capacity) v.number v.put v.got };
+
+    ghost right = { λ v. idle };
+}
+
+/// There is one worker more.
+pub(crate) struct OneWorker;
+
+impl Split<Hand> for OneWorker {
+    ghost use Rattle.std.specs.Prelude.{◌+◌};
+    ghost use Rattle.tlsf_post.specs.Rule.{keeper, plan_for, idle};
+
+    ghost left = { λ v. keeper (plan_for v.plan.owner (v.plan.workers + 1) v.plan.capacity) v.number v.put v.got };
+
+    ghost right = { λ v. idle };
+}
+
+/// The mailbox holds one post more.
+pub(crate) struct OneSlot;
+
+impl Split<Hand> for OneSlot {
+    ghost use Rattle.std.specs.Prelude.{◌+◌};
+    ghost use Rattle.tlsf_post.specs.Rule.{keeper, plan_for, idle};
+
+    ghost left = { λ v. keeper (plan_for v.plan.owner v.plan.workers (v.plan.capacity + 1)) v.number v.put v.got };
+
+    ghost right = { λ v. idle };
+}
+
+/// The next poster goes out, with all that it had put and all that was taken of it.
 pub(crate) struct PosterOut;
 
 impl Split<Hand> for PosterOut {
     ghost use Rattle.std.specs.Prelude.{◌+◌};
     ghost use Rattle.tlsf_post.specs.Rule.{keeper, poster, posts_of};
 
-    ghost left = { λ v. keeper (v.number + 1) v.own v.put v.got };
+    ghost left = { λ v. keeper v.plan (v.number + 1) v.put v.got };
 
-    ghost right = { λ v. poster v.number (posts_of v.number v.put) };
+    ghost right = { λ v. poster v.plan v.number (posts_of v.number v.put) (posts_of v.number v.got) };
 }
 
 /// The next number is passed over: it is the owner's own. Its pass is let go, and nobody posts by it.
 pub(crate) struct OwnNumber;
 
 impl Split<Hand> for OwnNumber {
-    ghost use Rattle.std.specs.Prelude.{◌+◌, [], ◌∷◌};
+    ghost use Rattle.std.specs.Prelude.{◌+◌};
     ghost use Rattle.tlsf_post.specs.Rule.{keeper, idle};
 
-    ghost left = { λ v. keeper (v.number + 1) (v.number ∷ []) v.put v.got };
+    ghost left = { λ v. keeper v.plan (v.number + 1) v.put v.got };
 
     ghost right = { λ v. idle };
 }
@@ -51,7 +87,7 @@ impl Join<Hand> for PosterBack {
     ghost use Rattle.std.specs.Prelude.{◌++◌};
     ghost use Rattle.tlsf_post.specs.Rule.{keeper, posts_but, idle};
 
-    ghost both = { λ v w. keeper w.number v.own (posts_but w.number v.put ++ w.put) v.got };
+    ghost both = { λ v w. keeper v.plan w.number (posts_but w.number v.put ++ w.put) v.got };
 
     ghost spent = { idle };
 }
@@ -60,27 +96,24 @@ impl Join<Hand> for PosterBack {
 pub(crate) struct OnePut;
 
 impl Outcome<Post, Hand> for OnePut {
-    ghost use Rattle.std.specs.Prelude.{◌≡◌, [], ◌∷◌, ◌++◌};
-    ghost use Rattle.tlsf_post.specs.Rule.{poster};
+    ghost use Rattle.tlsf_post.specs.Rule.{HasPut};
 
-    ghost then = { λ v x w. w ≡ poster v.number (v.put ++ x ∷ []) };
+    ghost then = { HasPut };
 }
 
 impl Lesson<Post, Hand> for OnePut {
-    ghost use Rattle.std.specs.Prelude.{⊤};
+    ghost use Rattle.tlsf_post.specs.Rule.{ShowsOwn};
 
-    ghost fact = { λ v items. ⊤ };
+    ghost fact = { ShowsOwn };
 }
 
 /// A post comes out.
 pub(crate) struct OneTake;
 
 impl Outcome<Post, Hand> for OneTake {
-    ghost use Rattle.std.specs.Prelude.{◌≡◌, List, [], ◌∷◌, ◌++◌};
-    ghost use Rattle.tlsf_post.specs.declared.post.Post.{Post};
-    ghost use Rattle.tlsf_post.specs.Rule.{keeper, Shows};
+    ghost use Rattle.tlsf_post.specs.Rule.{HasTaken};
 
-    ghost then = { λ v x w. (w ≡ keeper v.number v.own v.put (v.got ++ x ∷ [])) × (rest : List Post) × Shows v (x ∷ rest) };
+    ghost then = { HasTaken };
 }
 
 impl Lesson<Post, Hand> for OneTake {

@@ -1,15 +1,16 @@
-use Rattle.std.proofs.Common.{arith, ap, sym, refl, ◌∙◌, ◌≡◌, ◌++◌, ℕ, ◌<◌, Some, length}
+use Rattle.std.proofs.Common.{arith, ap, sym, refl, subst, ◌∙◌, ◌≡◌, ◌++◌, ℕ, ◌<◌, Some, length}
 use Rattle.std.proofs.lemmas.Grind.{common_steps}
 use Rattle.std.proofs.lemmas.List.{append-nil}
-use Rattle.std.proofs.lemmas.List.Elements.{All-pop, All-weaker}
+use Rattle.std.proofs.lemmas.List.Elements.{All-pop}
 use Rattle.crossbeam_queue.specs.Passes.{view}
 use Rattle.tlsf_post.specs.declared.hand.Hand.{Hand}
-use Rattle.tlsf_post.specs.Rule.{posts_but, keeper}
+use Rattle.tlsf_post.specs.declared.plan.Plan.{Plan}
+use Rattle.tlsf_post.specs.Rule.{posts_but, keeper, MayPut}
 use Rattle.tlsf_post.specs.Mailboxes.{put_by, below_but}
 use Rattle.tlsf_post.specs.Meetings.{IsOfPass}
 use Rattle.tlsf_post.proofs.RuleSteps.{learns, merges, signed_of}
 use Rattle.tlsf_post.proofs.Numbers.{all_pushed}
-use Rattle.tlsf_post.proofs.Meetings.{meets_none, meets_some, last_of, gap, no_items}
+use Rattle.tlsf_post.proofs.Meetings.{ends_still, meets_none, meets_some, last_of, gap, no_items}
 use Rattle.tlsf_post.proofs.mailboxes.+meet_from.Goals as goal
 
 pub learn_as-requires-clause-rule : goal.learn_as-requires-clause-rule
@@ -24,7 +25,7 @@ pub absorb-requires-clause-rule : goal.absorb-requires-clause-rule
 absorb-requires-clause-rule t c =
     let p = c.in-Some.field-0 in
     let l = last_of (view c.args.pass.now) _ _ p c.args.own c.requires.own.1 c.in-Some.ensures.items c.requires.numbers in
-    merges _ _ _ _ c.requires.pass.1 c.requires.pass.2 p.posts
+    merges _ _ _ _ c.requires.pass.1 p.posts
     (λ q lt. let less : p.from < q = omega (arith, p.number, lt) in gap (view c.args.pass.now) c.args.own p.from q c.requires.own.0 l.2 less)
 
 pub meet_from-requires : goal.meet_from-requires
@@ -39,9 +40,9 @@ meet_from-requires t c =
       (
         ((queue.0 ∙ c.requires.pass.0.0, queue.2 ∙ c.requires.pass.0.1), ap (λ (v : Hand). v.takes) rule, ap (λ (v : Hand). v.posts) rule),
         (
-          (ap (λ (v : Hand). v.own) rule ∙ c.requires.own.0, λ e. l.1 (sym number ∙ e)),
+          (ap (λ (v : Hand). v.plan.owner) rule ∙ c.requires.own.0, λ e. l.1 (sym number ∙ e)),
           (
-            All-weaker (IsOfPass c.args.pass.now) (IsOfPass c.absorb.new.pass) (λ x h. h ∙ sym queue.0) _ rest,
+            ends_still c.args.pass.now c.absorb.new.pass _ queue.0 (ap (λ (v : Hand). v.plan) rule) rest,
             l.0 ∙ ap (below_but c.args.own) (sym number),
           ),
         ),
@@ -54,7 +55,7 @@ send_back-back-requires-clause-number t c =
     let l = last_of (view c.args.pass.now) _ _ p c.args.own c.requires.own.1 c.in-Some.ensures.items c.requires.numbers in
     let rule = c.absorb.ensures.rule in
     let same = c.meet_from.ensures.met.same in (
-      ap (λ (v : Hand). v.own) same ∙ ap (λ (v : Hand). v.own) rule ∙ c.requires.own.0,
+      ap (λ (v : Hand). v.plan.owner) same ∙ ap (λ (v : Hand). v.plan.owner) rule ∙ c.requires.own.0,
       ap (λ (v : Hand). v.number) same ∙ ap (λ (v : Hand). v.number) rule ∙ p.number,
       l.1,
     )
@@ -64,13 +65,19 @@ invariant_of-push_reserved t c =
     let p = c.in-Some.field-0 in
     let back = c.send_back-back.ensures.back in
     let mine = (All-pop (IsOfPass c.args.pass.now) _ _ (Some p) c.in-Some.ensures.items c.requires.posters).1 in
+    let plan : (view c.send_back-back.result).plan ≡ (view p.pass).plan
+    = ap (λ (v : Hand). v.plan) back.1 ∙ ap (λ (v : Hand). v.plan) c.meet_from.ensures.met.same ∙ ap (λ (v : Hand). v.plan) c.absorb.ensures.rule ∙ sym mine.1 in
+    let number : (view c.send_back-back.result).number ≡ (view p.pass).number = ap (λ (v : Hand). v.number) back.1 ∙ sym p.number in
     record {
-      place = back.0.0 ∙ sym c.requires.pass.0.0 ∙ sym mine ∙ p.place;
+      place = back.0.0 ∙ sym c.requires.pass.0.0 ∙ sym mine.0 ∙ p.place;
       whole = back.0.1;
       posts = ap (λ (v : Hand). v.posts) back.1;
       takes = ap (λ (v : Hand). v.takes) back.1;
       number = ap (λ (v : Hand). v.number) back.1;
-      signed = signed_of _ p.from _ back.1;
+      room = ap (λ (plan : Plan). plan.capacity) plan ∙ p.room;
+      may_put = subst (λ (z : Plan × ℕ). MayPut z.0 z.1) (λ i. (sym plan i, sym number i)) p.may_put;
+      owned = subst (λ (plan : Plan). plan.owner < plan.workers) (sym plan) p.owned;
+      signed = signed_of _ _ p.from _ _ back.1;
     }
 
 pub returns-clause-met : goal.returns-clause-met
@@ -78,12 +85,14 @@ returns-clause-met t c =
     let p = c.in-Some.field-0 in
     let v = view c.args.pass.now in
     meets_some v (view c.absorb.new.pass) (view c.meet_from.new.pass) (view c.send_back-back.new.pass) _ _ _ _ p _ c.args.own c.requires.own.0 c.requires.own.1 c.in-Some.ensures.items c.requires.numbers p.signed
-    (c.absorb.ensures.rule ∙ ap (λ (n : ℕ). keeper n v.own (posts_but n v.put ++ put_by p) v.got) p.number)
-    c.meet_from.ensures.met c.send_back-back.ensures.next refl (ap (λ (u : Hand). u.put) c.send_back-back.ensures.back.1) c.push_reserved.ensures.items
+    (c.absorb.ensures.rule ∙ ap (λ (n : ℕ). keeper v.plan n (posts_but n v.put ++ put_by p) v.got) p.number)
+    c.meet_from.ensures.met c.send_back-back.ensures.next refl (ap (λ (u : Hand). u.put) c.send_back-back.ensures.back.1) (ap (λ (u : Hand). u.got) c.send_back-back.ensures.back.1)
+    c.push_reserved.ensures.items
 
 pub returns-clause-posters : goal.returns-clause-posters
 returns-clause-posters t c =
     let back = c.send_back-back.ensures.back in
+    let laid : (view c.absorb.new.pass).plan ≡ (view c.args.pass.now).plan = ap (λ (v : Hand). v.plan) c.absorb.ensures.rule in
     all_pushed (IsOfPass c.args.pass.now) _ _ _ c.push_reserved.ensures.items
-    (All-weaker (IsOfPass c.absorb.new.pass) (IsOfPass c.args.pass.now) (λ x h. h ∙ c.absorb.ensures.queue.0) _ c.meet_from.ensures.posters)
-    (back.0.0 ∙ sym c.requires.pass.0.0)
+    (ends_still c.absorb.new.pass c.args.pass.now _ (sym c.absorb.ensures.queue.0) (sym laid) c.meet_from.ensures.posters)
+    (back.0.0 ∙ sym c.requires.pass.0.0, ap (λ (v : Hand). v.plan) back.1 ∙ ap (λ (v : Hand). v.plan) c.meet_from.ensures.met.same ∙ laid)

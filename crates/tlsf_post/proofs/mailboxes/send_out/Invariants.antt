@@ -10,7 +10,7 @@ abbrev pub invariant-loop-number : goal.invariant-loop-number
 invariant-loop-number l = record {
   pass : IsPassOf (arc_value l.queue) l.pass;
   table : l.pass.table_id ≡ l.fn.pass.table_id;
-  view : view l.pass ≡ keeper l.number (view l.fn.pass).own [] [];
+  view : view l.pass ≡ keeper (view l.fn.pass).plan l.number [] [];
   posters : All (IsFreshAt l.fn.pass) l.posters.items;
   numbers : map number_of l.posters.items ≡ map number_of l.fn.posters.items ++ run l.from (l.number - l.from);
   len : vec_len l.posters ≡ vec_len l.fn.posters + (l.number - l.from);
