@@ -14,7 +14,7 @@ pub mod QueueNotes
 pub mod QueueOpening
 -- What the workers of a race over queues are answered: each record by itself, and how the records fit together.
 pub mod QueueRace
--- What is known of the queues of a yard once all ends of each were side by side. For private functions alone.
+-- What is known of the queues of a yard once all ends of each were side by side.
 pub mod QueueSettle
 -- What the parts of a race over queues give one another. For private functions alone.
 pub mod QueueTasks

@@ -5,7 +5,7 @@
 //! takes it and releases the block.
 //!
 //! A yard is of level 4 or 5, as its heaps are: [`open_yard`] is asked for a level, and all else has that of the workers which it
-//! is given. Definitions have the level of the world or the workers that they are about, a `World sli` or a `Worker sli`.
+//! is given. Definitions have the level of the world or the workers that they are about, a `World sli` or a `Worker sli Lanes`.
 //!
 //! Contracts see a whole yard (`IsYard`) as a `World`: the heaps, what waits in each lane, and the lanes' capacity.
 //! [`replay_events`] runs a list of events on it, one after another, and answers what the definition `replies` says. It
@@ -19,11 +19,12 @@
 //! (`IsRace`). A [`Gate`] is passed before each call, where a test can have the threads meet. Where no script takes posts,
 //! [`race_without_takes`] says which records and which world each schedule leads to.
 //!
-//! Each call of a `Worker` takes no memory and doesn't wait, and keeps its yard whole. A worker of either kind is `Send`, at each
-//! level: a `move` closure takes it into a thread, and its caller proves nothing of that.
+//! Each call of a `Worker` over lanes takes no memory and doesn't wait, and keeps its yard whole. A worker of either kind is `Send`,
+//! at each level: a `move` closure takes it into a thread, and its caller proves nothing of that.
 //!
-//! [`open_queue_yard`] opens a yard of another kind, with one queue for each owner, into which all others post. Each
-//! [`QueueWorker`] takes from its own. Such a yard (`IsQueueYard`) shows a `World` too; `post`, `release`, `take` and `drain` may
+//! [`open_queue_yard`] opens a yard of another kind, with one queue for each owner, into which all others post. A worker is a heap
+//! with ports, [`Lanes`] where nothing else is said; a [`QueueWorker`] has [`Queues`] in their place, and takes from its own one. Its
+//! calls on the own heap are those of every worker. Such a yard (`IsQueueYard`) shows a `World` too; `post`, `release`, `take` and `drain` may
 //! wait for another thread's half of a step, and so are passed a runtime. [`race_queues`] races such workers (`IsQueueRace`): each
 //! two records agree on what was posted and taken, poster by poster. [`queue_race_without_takes`] says when every schedule
 //! leads to the same.
@@ -31,29 +32,33 @@
 //! A [`LockedHeap`] is a heap without an owner, outside any yard; it is `tlsf_lock`'s.
 #![tactic(auto)]
 
+mod ports;
 mod queues;
 mod threads;
+mod worker;
 mod yard;
 
+pub use ports::{Exchange, Ports};
 pub use queues::queue_laws::{
     one_history_of_a_queue_race, queue_race_without_takes, queues_join_the_yard,
 };
 pub use queues::queue_opening::open_queue_yard;
-pub use queues::queue_outcome::QueueOutcome;
 pub use queues::queue_race::race_queues;
-pub use queues::queue_worker::QueueWorker;
+pub use queues::queue_settle::settle_queues;
+pub use queues::queues::{QueueWorker, Queues};
 pub use threads::alone::race_without_takes;
 pub use threads::gate::{Gate, OpenGate};
 pub use threads::laws::one_history_of_a_race;
-pub use threads::outcome::Outcome;
+pub use threads::outcome::{Outcome, QueueOutcome};
 pub use threads::race::race;
 pub use tlsf_calls::{
     Call, Chunk, CrewRefusal, Drained, Entry, Event, MOST_DRAINED, Released, Reply, Target, Took,
 };
 pub use tlsf_lock::{Counted, LockedHeap};
+pub use worker::Worker;
 pub use yard::history::one_history;
+pub use yard::lanes::Lanes;
 pub use yard::laws::lanes_join_the_yard;
 pub use yard::opening::open_yard;
 pub use yard::replay::{replay_behind, replay_events};
 pub use yard::settle::settle;
-pub use yard::worker::Worker;

@@ -94,7 +94,7 @@ in_lanes j lanes (suc k) i name lt ne a = elim (cases_eq i k) [
   | inr less ↦ among_left name (lane_names j lanes k) _ (in_lanes j lanes k i name (omega arith) ne a)
 ]
 
-one_more : (k capacity x y : ℕ) → x ≤ k * capacity → y ≤ capacity → x + y ≤ (k + 1) * capacity
+pub one_more : (k capacity x y : ℕ) → x ≤ k * capacity → y ≤ capacity → x + y ≤ (k + 1) * capacity
 one_more k capacity x y a b = omega arith
 
 -- all lanes, and all but that of j itself

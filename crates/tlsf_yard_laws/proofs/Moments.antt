@@ -11,13 +11,13 @@ use Rattle.tlsf_heap.specs.Calls as heap
 use Rattle.tlsf_heap.specs.Lawful.{IsLawful}
 use Rattle.tlsf_heap.specs.declared.name.Name.{Name}
 use Rattle.tlsf_heap.proofs.Outcomes.{lawful_run}
+use Rattle.tlsf_heap.proofs.Lawfulness.{opened_lawful}
 use Rattle.tlsf_post.specs.declared.post.Post.{Post}
 use Rattle.tlsf_laws.specs.Held.{held_after, held_after_all}
 use Rattle.tlsf_laws.specs.Pools.{AreModest, IsModest}
 use Rattle.tlsf_laws.specs.Contents.{is_same}
 use Rattle.tlsf_laws.specs.Kinds.{Ledger, ledger_after, ledger_after_all}
 use Rattle.tlsf_laws.proofs.Names.{same_is, same_self}
-use Rattle.tlsf_laws.proofs.Around.{new_lawful}
 use Rattle.tlsf_laws.proofs.Ledgers.{Agrees, agrees_run, live_agrees, lookup, new_agrees}
 use Rattle.tlsf_crew.specs.yard.World.{World, heap_in}
 use Rattle.tlsf_crew.specs.yard.History.{RunsTo, answer_told, answers_on, call_on_own, calls_on, entries_of, handed_on, post_of_release, post_of_take}
@@ -25,11 +25,11 @@ use Rattle.tlsf_crew.specs.threads.Race.{IsRace, record_of}
 use Rattle.tlsf_calls.specs.declared.call.Call.{Call}
 use Rattle.tlsf_calls.specs.declared.entry.Entry.{Entry}
 use Rattle.tlsf_crew.proofs.lemmas.threads.RecordHistory.{race_always}
-use Rattle.tlsf_crew.proofs.lemmas.yard.JoinedEntries.{length_run, runs_then, told_other, told_own, told_then}
+use Rattle.tlsf_crew.proofs.lemmas.yard.JoinedEntries.{runs_then, told_other, told_own, told_then, length_told}
 use Rattle.tlsf_yard_laws.specs.Races.{HasPast}
 use Rattle.tlsf_yard_laws.specs.Sharing.{most_under_way, without_post}
 use Rattle.tlsf_yard_laws.specs.Moments.{OrdersHaveMoments, RaceSharedPoolServes, all_under_way, unreleased, AreSparingInRace}
-use Rattle.tlsf_yard_laws.proofs.Few.{IsAmong, among_left, among_right, few, names_of, posted, still_among}
+use Rattle.tlsf_yard_laws.proofs.Few.{IsAmong, among_left, among_right, few, names_of, posted, still_among, one_more}
 use Rattle.tlsf_yard_laws.proofs.Shares.{allocate_asks, resize_asks}
 use Rattle.tlsf_yard_laws.proofs.Told.{noted_same, past_holds, race_serves}
 
@@ -68,9 +68,6 @@ unreleased_few h l ps agrees =
     omega (arith, count, length-append (names_of u) (posted ps), length-map u (λ entry. entry.0), length-map ps (λ post. post.name))
 
 -- ---- no more is under way than the lanes hold
-
-one_more : (k capacity x y : ℕ) → x ≤ k * capacity → y ≤ capacity → x + y ≤ (k + 1) * capacity
-one_more k capacity x y a b = omega arith
 
 lane_part : (c : Bool) (capacity : ℕ) (ps : List Post) → (c ≡ false → length ps ≤ capacity) → length (cond {A = List Post} c [] ps) ≤ capacity
 lane_part true capacity ps le = omega arith
@@ -117,10 +114,7 @@ past_agrees {sli} level j words first calls answers g runs four =
     let own : List heap.Answer = (heap.run sli (heap.opened j words first) calls).0 in
     let noted : ledger_after_all [] calls own ≡ ledger_after_all [] calls answers = sym (all_noted [] calls own) ∙ ap (ledger_after_all [] calls) runs.told in
     subst (λ (h : HeapState). Agrees h (ledger_after_all [] calls answers)) runs.left
-    (subst (Agrees (heap.run sli (heap.opened j words first) calls).1) noted (agrees_run sli level (heap.opened j words first) calls [] (new_agrees j words first) (new_lawful j words first four)))
-
-as_many : {sli : ℕ} (h g : HeapState) (calls : List heap.Call) (answers : List heap.Answer) → RunsTo sli h calls answers g → length calls ≡ length answers
-as_many {sli} h g calls answers r = sym (length_run sli h calls) ∙ (sym (length-map (heap.run sli h calls).0 handed_on) ∙ ap length r.told)
+    (subst (Agrees (heap.run sli (heap.opened j words first) calls).1) noted (agrees_run sli level (heap.opened j words first) calls [] (new_agrees j words first) (opened_lawful j words first four)))
 
 -- ---- calls in turn
 
@@ -148,7 +142,7 @@ module _ {sli : ℕ} (level : IsLevel sli) (w v : World sli) (scripts : List (Li
   all_answers es = answers ++ answers_on j es
 
   lawful : IsLawful (heap_in w j)
-  lawful = subst IsLawful past.since.left (lawful_run sli level (heap.opened j words first) calls (new_lawful j words first four))
+  lawful = subst IsLawful past.since.left (lawful_run sli level (heap.opened j words first) calls (opened_lawful j words first four))
 
   history : (before later : List Entry) → record_of records j ≡ before ++ later → (g : HeapState) × RunsTo sli (heap.opened j words first) (all_calls before) (all_answers before) g
   history before later whole =
@@ -197,8 +191,8 @@ module _ {sli : ℕ} (level : IsLevel sli) (w v : World sli) (scripts : List (Li
       ap (λ l. calls ++ l) (told_then (λ e. call_on_own (race.made j) e.worker e.call e.reply) j before (e ∷ [])) ∙ sym (append_assoc calls (calls_on j (race.made j) before) xs) in
       let answers_are : all_answers (before ++ e ∷ []) ≡ all_answers before ++ zs =
       ap (λ l. answers ++ l) (told_then (λ e. answer_told e.call e.reply) j before (e ∷ [])) ∙ sym (append_assoc answers (answers_on j before) zs) in
-      let even = as_many (heap.opened j words first) now.0 (all_calls before) (all_answers before) now.1 in
-      let even_then = as_many (heap.opened j words first) then.0 (all_calls (before ++ e ∷ [])) (all_answers (before ++ e ∷ [])) then.1 in
+      let even = length_told (heap.opened j words first) now.0 (all_calls before) (all_answers before) now.1 in
+      let even_then = length_told (heap.opened j words first) then.0 (all_calls (before ++ e ∷ [])) (all_answers (before ++ e ∷ [])) then.1 in
       let one : length xs ≡ length zs =
       omega (arith, even, even_then, ap length calls_are, ap length answers_are, length-append (all_calls before) xs, length-append (all_answers before) zs) in
       let held : held_after_all 0 (all_calls (before ++ e ∷ [])) (all_answers (before ++ e ∷ [])) ≡ held_after_all (held_after_all 0 (all_calls before) (all_answers before)) xs zs =
@@ -233,7 +227,7 @@ module _ {sli : ℕ} (level : IsLevel sli) (w v : World sli) (scripts : List (Li
   all_modest within =
       let before : held_after_all 0 (all_calls []) (all_answers []) ≡ held_after_all 0 calls answers = rw (append-nil calls, append-nil answers) refl in
       modest_more (most + most_under_way w) len 0 calls (calls_on j (race.made j) (record_of records j)) answers (answers_on j (record_of records j))
-      (as_many (heap.opened j words first) (heap_in w j) calls answers past.since) within
+      (length_told (heap.opened j words first) (heap_in w j) calls answers past.since) within
       (subst (λ (k : ℕ). AreModest (most + most_under_way w) len k (calls_on j (race.made j) (record_of records j)) (answers_on j (record_of records j))) before (record_modest [] (record_of records j) refl))
 
 pub race_shares : (sli : ℕ) → IsLevel sli → RaceSharedPoolServes sli

@@ -4,12 +4,14 @@ use Rattle.std.specs.List.{fold}
 use Rattle.std.proofs.lemmas.Bool.{cases_eq, cases_lt}
 use Rattle.std.proofs.lemmas.Bool.Decides.{nat_tests}
 use Rattle.std.proofs.lemmas.List.{length-drop, length_push}
+use Rattle.tlsf_heap.specs.Blocks.{HeapState}
 use Rattle.tlsf_heap.specs.declared.name.Name.{Name}
 use Rattle.tlsf_post.specs.declared.post.Post.{Post}
 use Rattle.tlsf_calls.specs.Bytes.{bytes_of}
 use Rattle.tlsf_calls.specs.declared.call.Call.{Call}
 use Rattle.tlsf_calls.specs.declared.call.Call.TheVariants.{Allocate, Release, Write, Read, Resize, Take, Drain}
-use Rattle.tlsf_crew.specs.yard.World.{World, Replayed, Draining, called, draining, after_drain, drained_below, drained_lane, name_of, posting, reading_named, releasing_named, resizing_named, taking, taking_next, took_first, took_more, with_waiting, writing_named}
+use Rattle.tlsf_crew.specs.yard.OwnReplies.{OwnReplied, own_reading, own_resizing, own_writing}
+use Rattle.tlsf_crew.specs.yard.World.{World, Replayed, Draining, by_own, called, draining, after_drain, drained_below, drained_lane, name_of, posting, releasing_named, taking, taking_next, took_first, took_more, with_waiting}
 use Rattle.tlsf_crew.proofs.lemmas.yard.LaneChanges.{edited_other, edited_same}
 use Rattle.tlsf_crew.proofs.lemmas.yard.OneEvent.{from_other, from_own, releasing_far, releasing_post, taking_far, taking_lane, taking_own}
 
@@ -79,17 +81,8 @@ take_short j w at from = elim (cases_eq from at) [
   ]
 ]
 
-write_short : {sli : ℕ} (j : ℕ) (w : World sli) (at : ℕ) (o : Option Name) (from : ℕ) (bytes : List ℕ) → StayShort j w (writing_named w at o from bytes).world
-write_short j w at None from bytes = stay j w
-write_short j w at (Some name) from bytes = record { capacity = refl; short = λ s. s }
-
-read_short : {sli : ℕ} (j : ℕ) (w : World sli) (at : ℕ) (o : Option Name) (from n : ℕ) → StayShort j w (reading_named w at o from n).world
-read_short j w at None from n = stay j w
-read_short j w at (Some name) from n = record { capacity = refl; short = λ s. s }
-
-resize_short : {sli : ℕ} (j : ℕ) (w : World sli) (at : ℕ) (o : Option Name) (len : ℕ) → StayShort j w (resizing_named w at o len).world
-resize_short j w at None len = stay j w
-resize_short j w at (Some name) len = record { capacity = refl; short = λ s. s }
+own_short : {sli : ℕ} (j : ℕ) (w : World sli) (at : ℕ) (by : HeapState → OwnReplied) → StayShort j w (by_own w at by).world
+own_short j w at by = record { capacity = refl; short = λ s. s }
 
 -- ---- a drain
 
@@ -127,8 +120,8 @@ drain_short j r at most = all_short j at most (record { entries = r.entries; wor
 pub called_short : {sli : ℕ} (j : ℕ) (r : Replayed sli) (at : ℕ) (call : Call) → StayShort j r.world (called r at call).world
 called_short j r at (Allocate len) = record { capacity = refl; short = λ s. s }
 called_short j r at (Release target) = release_short j r.world at (name_of r.made target)
-called_short j r at (Write target from bytes) = write_short j r.world at (name_of r.made target) from (bytes_of bytes)
-called_short j r at (Read target from n) = read_short j r.world at (name_of r.made target) from n
-called_short j r at (Resize target len) = resize_short j r.world at (name_of r.made target) len
+called_short j r at (Write target from bytes) = own_short j r.world at (λ h. own_writing h (name_of r.made target) from (bytes_of bytes))
+called_short j r at (Read target from n) = own_short j r.world at (λ h. own_reading h (name_of r.made target) from n)
+called_short j r at (Resize target len) = own_short j r.world at (λ h. own_resizing h (name_of r.made target) len)
 called_short j r at (Take from) = take_short j r.world at from
 called_short j r at (Drain most) = drain_short j r at most

@@ -28,5 +28,7 @@ pub mod QueueSettled
 pub mod QueueSteps
 -- The takes of a drain over queues: what they add to a record, and when two drains took the same posts.
 pub mod QueueTakes
+-- Settling the queues of a yard leaves the world that it shows.
+pub mod QueueWorlds
 -- Each worker of a whole yard over queues has an end to each other queue, and the yard stays whole where one takes the place of the one that it was.
 pub mod QueueYards

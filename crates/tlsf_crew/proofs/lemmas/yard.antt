@@ -18,8 +18,6 @@ pub mod EventSteps
 pub mod Exact
 -- A fair event is not answered Stale, and keeps the names.
 pub mod FairEvents
--- A small run that is fair: a worker allocates, the other releases the block's name, and the first drains it.
-pub mod FairExample
 -- No answer to a fair list of events is Stale.
 pub mod FairLists
 -- What some of the entries of a replay leave, behind which the others come.
@@ -87,6 +85,9 @@ pub mod Slots
 -- An end that is read from a slot is the one that stands there.
 pub mod StandingEnd
 -- The sum of two sums, the bound of a sum by its greatest part, and the sum over more numbers.
+pub mod PortsKept
+pub mod SameParts
+pub mod SourceTurns
 pub mod Sums
 -- A take of a worker in a race, where a limit says how many it may take.
 pub mod WithinTakes

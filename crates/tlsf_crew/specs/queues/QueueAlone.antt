@@ -1,5 +1,5 @@
--- What a race over queues comes to where no script takes posts, no queue was full, and each has one poster: the schedule of the threads
--- decides nothing.
+-- What a race over queues comes to where no script takes posts, each queue has one poster, and none was full but where no other worker
+-- could fill it: the schedule of the threads decides nothing.
 use Rattle.std.specs.Prelude.{◌≡◌, ◌≢◌, ℕ, ◌<◌, List, [], length}
 use Rattle.tlsf_heap.specs.declared.name.Name.{Name}
 use Rattle.tlsf_calls.specs.declared.call.Call.{Call}
@@ -20,10 +20,10 @@ MeetsNoFull entries = (before : List Entry) (e : Entry) (name : Name) → Stands
 abbrev pub HasOnePoster : ℕ → ℕ → List Entry → Type 0
 HasOnePoster n j entries = (poster : ℕ) × ((i : ℕ) → i < n → i ≢ j → i ≢ poster → posts_taken i j entries ≡ [])
 
--- a race over queues in which no worker met a full queue, and each queue has one poster
+-- a race over queues in which each queue has one poster, and of more than two workers none met a full queue
 pub record IsUncontendedRace {sli : ℕ} (w : World sli) (scripts : List (List Call)) (told : List (List Entry)) (v : World sli) : Type 0 where
   pub race : IsQueueRace w scripts told v
-  pub posted : (j : ℕ) → j < length w.heaps → MeetsNoFull (record_of told j)
+  pub posted : 2 < length w.heaps → (j : ℕ) → j < length w.heaps → MeetsNoFull (record_of told j)
   pub alone : (j : ℕ) → j < length w.heaps → HasOnePoster (length w.heaps) j (record_of told j)
 
 -- two such races of the same scripts from the same world tell the same records and leave the same world

@@ -2,7 +2,7 @@
 use Rattle.std.specs.Prelude.{◌≡◌, ℕ, ◌+◌, ◌<◌, ◌≤◌, List, [], ◌∷◌, ◌++◌, length, Option, Some}
 use mathlib.Core.List.{IsPrefix}
 use Rattle.tlsf_post.specs.Rule.{posts_of}
-use Rattle.tlsf_post.specs.Mailboxes.{put_by, got_by, known_to}
+use Rattle.tlsf_post.specs.Mailboxes.{put_by, gone_from, plan_of, got_by, known_to, IsOnlyPoster}
 use Rattle.tlsf_post.specs.declared.poster_end.PosterEnd.{PosterEnd}
 use Rattle.tlsf_heap.specs.Blocks.{HeapState}
 use Rattle.tlsf_heap.specs.declared.name.Name.{Name}
@@ -10,12 +10,15 @@ use Rattle.tlsf_calls.specs.declared.entry.Entry.{Entry}
 use Rattle.tlsf_calls.specs.declared.call.Call.{Call}
 use Rattle.tlsf_calls.specs.declared.call.Call.TheVariants.{Drain}
 use Rattle.tlsf_calls.specs.declared.reply.Reply.{Reply}
-use Rattle.tlsf_calls.specs.declared.reply.Reply.TheVariants.{Drained}
+use Rattle.tlsf_calls.specs.declared.crew_refusal.CrewRefusal.TheVariants.{Full}
+use Rattle.tlsf_calls.specs.declared.reply.Reply.TheVariants.{Drained, Refused}
 use Rattle.tlsf_crew.specs.yard.History.{posts_made, posts_taken, StandsBehind}
 use Rattle.tlsf_crew.specs.yard.Told.{Told, MayTell, untold}
 use Rattle.tlsf_crew.specs.yard.World.{made_by}
-use Rattle.tlsf_crew.specs.declared.queues.queue_worker.QueueWorker.{QueueWorker}
-use Rattle.tlsf_crew.specs.queues.QueueWorkers.{queue_heap, queue_id, queue_end_to, KeepsQueueYards}
+use Rattle.tlsf_crew.specs.declared.worker.Worker.{Worker}
+use Rattle.tlsf_crew.specs.declared.queues.queues.Queues.{Queues}
+use Rattle.tlsf_crew.specs.yard.Workers.{heap_of, id_of}
+use Rattle.tlsf_crew.specs.queues.QueueWorkers.{queue_end_to, KeepsQueueYards}
 use Rattle.tlsf_crew.specs.queues.QueueTold.{MayTellQueue, MayTellQueueAll}
 
 abbrev pub told_of : List (Option Name) → List Entry → HeapState → Told
@@ -35,38 +38,41 @@ TellsOwn sli made h call g reply =
 -- ---- what entries tell of the ends
 
 -- worker a, of number `at`, has become v by these calls, as the entries tell. It might take so many posts, and may take what is left
-pub record QueueMoved {sli : ℕ} (at : ℕ) (made : List (Option Name)) (a : QueueWorker sli) (limit : ℕ) (calls : List Call) (entries : List Entry) (v : QueueWorker sli) (left : ℕ) : Type 0 where
+pub record QueueMoved {sli : ℕ} (at : ℕ) (made : List (Option Name)) (a : Worker sli Queues) (limit : ℕ) (calls : List Call) (entries : List Entry) (v : Worker sli Queues) (left : ℕ) : Type 0 where
   pub yard : KeepsQueueYards a v
   -- each end put the posts that the entries tell
   pub sent : (j : ℕ) (p q : PosterEnd) → queue_end_to a j ≡ Some p → queue_end_to v j ≡ Some q → put_by q ≡ put_by p ++ posts_made at j made entries
   -- and of each worker those were taken that they tell
-  pub taken : (i : ℕ) → posts_of i (got_by v.own) ≡ posts_of i (got_by a.own) ++ posts_taken i at entries
+  pub taken : (i : ℕ) → posts_of i (got_by v.ports.own) ≡ posts_of i (got_by a.ports.own) ++ posts_taken i at entries
   -- a drain ended early only where all was taken that was known to have been put
   pub drained : (before : List Entry) (e : Entry) (most k : ℕ) → StandsBehind entries before e → e.call ≡ Drain most → e.reply ≡ Drained k → k < most
-      → (i : ℕ) → IsPrefix (posts_of i (known_to a.own)) (posts_of i (got_by a.own) ++ posts_taken i at before)
+      → (i : ℕ) → IsPrefix (posts_of i (known_to a.ports.own)) (posts_of i (got_by a.ports.own) ++ posts_taken i at before)
+  -- a queue into which nobody else posts was full only where as many posts had been put as it holds, besides those known to be taken
+  pub full : (before : List Entry) (e : Entry) (name : Name) (p : PosterEnd) → StandsBehind entries before e → e.reply ≡ Refused (Full name) → queue_end_to a name.heap ≡ Some p → IsOnlyPoster p
+      → length (gone_from p) + (plan_of p).capacity ≤ length (put_by p) + length (posts_made at name.heap made before)
   pub room : length entries + left ≤ length calls + limit
 
 -- the call was answered so; the entries got longer by those of a drain's takes, and have not its own yet
-pub record QueueStepped {sli : ℕ} (n : ℕ) (a : QueueWorker sli) (limit : ℕ) (call : Call) (made : List (Option Name)) (entries : List Entry) (v : QueueWorker sli) (left : ℕ) (longer : List Entry) (reply : Reply) : Type 0 where
+pub record QueueStepped {sli : ℕ} (n : ℕ) (a : Worker sli Queues) (limit : ℕ) (call : Call) (made : List (Option Name)) (entries : List Entry) (v : Worker sli Queues) (left : ℕ) (longer : List Entry) (reply : Reply) : Type 0 where
   pub own : List Entry
   pub entries_are : longer ≡ entries ++ own
-  pub told : MayTellQueue sli n (queue_id a) (told_of made entries (queue_heap a)) call
-      (told_of (made ++ made_by reply ∷ []) (longer ++ entry_by (queue_id a) call reply ∷ []) (queue_heap v))
-  pub moved : (rest : List (Option Name)) → QueueMoved (queue_id a) (made ++ rest) a limit (call ∷ []) (own ++ entry_by (queue_id a) call reply ∷ []) v left
+  pub told : MayTellQueue sli n (id_of a) (told_of made entries (heap_of a)) call
+      (told_of (made ++ made_by reply ∷ []) (longer ++ entry_by (id_of a) call reply ∷ []) (heap_of v))
+  pub moved : (rest : List (Option Name)) → QueueMoved (id_of a) (made ++ rest) a limit (call ∷ []) (own ++ entry_by (id_of a) call reply ∷ []) v left
 
 -- the call was made, and told in full
-pub record QueueCalled {sli : ℕ} (n : ℕ) (a : QueueWorker sli) (limit : ℕ) (call : Call) (made : List (Option Name)) (entries : List Entry) (v : QueueWorker sli) (left : ℕ) (more : List (Option Name)) (longer : List Entry) : Type 0 where
+pub record QueueCalled {sli : ℕ} (n : ℕ) (a : Worker sli Queues) (limit : ℕ) (call : Call) (made : List (Option Name)) (entries : List Entry) (v : Worker sli Queues) (left : ℕ) (more : List (Option Name)) (longer : List Entry) : Type 0 where
   pub name : Option Name
   pub made_are : more ≡ made ++ name ∷ []
   pub own : List Entry
   pub entries_are : longer ≡ entries ++ own
-  pub told : MayTellQueue sli n (queue_id a) (told_of made entries (queue_heap a)) call (told_of more longer (queue_heap v))
-  pub moved : (rest : List (Option Name)) → QueueMoved (queue_id a) (made ++ rest) a limit (call ∷ []) own v left
+  pub told : MayTellQueue sli n (id_of a) (told_of made entries (heap_of a)) call (told_of more longer (heap_of v))
+  pub moved : (rest : List (Option Name)) → QueueMoved (id_of a) (made ++ rest) a limit (call ∷ []) own v left
 
 -- ---- a script
 
 -- a worker has made these calls of its script
-pub record QueueScriptRun {sli : ℕ} (n : ℕ) (a : QueueWorker sli) (limit : ℕ) (calls : List Call) (made : List (Option Name)) (entries : List Entry) (v : QueueWorker sli) (left : ℕ) : Type 0 where
-  pub told : MayTellQueueAll sli n (queue_id a) (untold (queue_heap a)) calls (told_of made entries (queue_heap v))
+pub record QueueScriptRun {sli : ℕ} (n : ℕ) (a : Worker sli Queues) (limit : ℕ) (calls : List Call) (made : List (Option Name)) (entries : List Entry) (v : Worker sli Queues) (left : ℕ) : Type 0 where
+  pub told : MayTellQueueAll sli n (id_of a) (untold (heap_of a)) calls (told_of made entries (heap_of v))
   pub names : length made ≡ length calls
-  pub moved : (rest : List (Option Name)) → QueueMoved (queue_id a) (made ++ rest) a limit calls entries v left
+  pub moved : (rest : List (Option Name)) → QueueMoved (id_of a) (made ++ rest) a limit calls entries v left

@@ -9,10 +9,12 @@ use Rattle.tlsf_heap.specs.declared.name.Name.{Name}
 use Rattle.tlsf_calls.specs.declared.entry.Entry.{Entry}
 use Rattle.tlsf_calls.specs.declared.call.Call.{Call}
 use Rattle.tlsf_crew.specs.threads.Race.{last_call, record_of, script_of}
-use Rattle.tlsf_crew.specs.declared.queues.queue_worker.QueueWorker.{QueueWorker}
+use Rattle.tlsf_crew.specs.declared.worker.Worker.{Worker}
+use Rattle.tlsf_crew.specs.declared.queues.queues.Queues.{Queues}
 use Rattle.tlsf_crew.specs.declared.queues.queue_task.QueueTask.{QueueTask}
-use Rattle.tlsf_crew.specs.declared.queues.queue_done.QueueDone.{QueueDone}
-use Rattle.tlsf_crew.specs.queues.QueueWorkers.{queue_heap, queue_id, queue_end_to, KnowsQueueYard}
+use Rattle.tlsf_crew.specs.declared.threads.done.Done.{Done}
+use Rattle.tlsf_crew.specs.yard.Workers.{heap_of, id_of}
+use Rattle.tlsf_crew.specs.queues.QueueWorkers.{queue_end_to, KnowsQueueYard}
 use Rattle.tlsf_crew.specs.queues.QueueTold.{MayTellQueue}
 use Rattle.tlsf_crew.specs.queues.QueueMoves.{QueueMoved, QueueScriptRun, told_of}
 use Rattle.tlsf_crew.specs.queues.QueueSettle.{QueuesSettled}
@@ -20,7 +22,7 @@ use Rattle.tlsf_crew.specs.queues.QueueSettle.{QueuesSettled}
 -- ---- one worker
 
 -- the worker is one of some yard
-abbrev pub KnowsSomeYard : {sli : ℕ} → QueueWorker sli → Type 0
+abbrev pub KnowsSomeYard : {sli : ℕ} → Worker sli Queues → Type 0
 KnowsSomeYard a = (n : ℕ) × KnowsQueueYard n a
 
 -- a task is ready to run: nothing is recorded, and there is room for an entry of each call, for one of each post that may be taken, and for one more
@@ -32,7 +34,7 @@ pub record IsQueueReady {sli : ℕ} (task : QueueTask sli) : Type 0 where
   pub room : vec_len task.script + task.limit + 1 ≤ vec_capacity task.entries
 
 -- worker a of n has made the calls of a script, and has become v
-pub record QueueRan {sli : ℕ} (n : ℕ) (a : QueueWorker sli) (script : List Call) (made : List (Option Name)) (entries : List Entry) (v : QueueWorker sli) : Type 0 where
+pub record QueueRan {sli : ℕ} (n : ℕ) (a : Worker sli Queues) (script : List Call) (made : List (Option Name)) (entries : List Entry) (v : Worker sli Queues) : Type 0 where
   pub limit : ℕ
   pub left : ℕ
   pub run : QueueScriptRun n a limit script made entries v left
@@ -42,45 +44,45 @@ abbrev pub HasPlace : Vec Entry Global → Type 0
 HasPlace entries = vec_len entries < vec_capacity entries
 
 -- what a thread that was given this task hands back
-pub record IsQueueDone {sli : ℕ} (task : QueueTask sli) (d : QueueDone sli) : Type 0 where
+pub record IsQueueDone {sli : ℕ} (task : QueueTask sli) (d : Done sli Queues) : Type 0 where
   pub ran : (n : ℕ) → KnowsQueueYard n task.worker → QueueRan n task.worker task.script.items d.made.items d.entries.items d.worker
   pub place : HasPlace d.entries
 
 -- ---- all workers
 
 -- the workers ws ran the scripts and became the workers vs
-pub record HaveQueuesRun {sli : ℕ} (ws : List (QueueWorker sli)) (scripts : List (List Call)) (records : List (List Entry)) (vs : List (QueueWorker sli)) : Type 0 where
+pub record HaveQueuesRun {sli : ℕ} (ws : List (Worker sli Queues)) (scripts : List (List Call)) (records : List (List Entry)) (vs : List (Worker sli Queues)) : Type 0 where
   pub made : ℕ → List (Option Name)
   pub worker_count : length vs ≡ length ws
   pub record_count : length records ≡ length ws
-  pub ran : (j : ℕ) (a : QueueWorker sli) → slice_get ws j ≡ Some a
-      → (v : QueueWorker sli) × (slice_get vs j ≡ Some v) × ((n : ℕ) → KnowsQueueYard n a → QueueRan n a (script_of scripts j) (made j) (record_of records j) v)
+  pub ran : (j : ℕ) (a : Worker sli Queues) → slice_get ws j ≡ Some a
+      → (v : Worker sli Queues) × (slice_get vs j ≡ Some v) × ((n : ℕ) → KnowsQueueYard n a → QueueRan n a (script_of scripts j) (made j) (record_of records j) v)
 
 -- ---- the last drains
 
 -- worker a has taken all that was known to have been put, and has become v
-pub record DrainedLast {sli : ℕ} (n : ℕ) (a v : QueueWorker sli) (before after : List Entry) : Type 0 where
+pub record DrainedLast {sli : ℕ} (n : ℕ) (a v : Worker sli Queues) (before after : List Entry) : Type 0 where
   pub own : List Entry
   pub entries_are : after ≡ before ++ own
-  pub told : (made : List (Option Name)) → MayTellQueue sli n (queue_id a) (told_of made before (queue_heap a)) last_call (told_of (made ++ None ∷ []) after (queue_heap v))
+  pub told : (made : List (Option Name)) → MayTellQueue sli n (id_of a) (told_of made before (heap_of a)) last_call (told_of (made ++ None ∷ []) after (heap_of v))
   pub limit : ℕ
   pub left : ℕ
-  pub moved : (made : List (Option Name)) → QueueMoved (queue_id a) made a limit (last_call ∷ []) own v left
-  pub all : (i : ℕ) → IsPrefix (posts_of i (known_to a.own)) (posts_of i (got_by v.own))
+  pub moved : (made : List (Option Name)) → QueueMoved (id_of a) made a limit (last_call ∷ []) own v left
+  pub all : (i : ℕ) → IsPrefix (posts_of i (known_to a.ports.own)) (posts_of i (got_by v.ports.own))
   pub ends : queue_end_to v ≡ queue_end_to a
 
 -- so has each worker below k; the others are as they were
-pub record QueuesDrained {sli : ℕ} (ws : List (QueueWorker sli)) (rs ss : List (List Entry)) (vs : List (QueueWorker sli)) (k : ℕ) : Type 0 where
+pub record QueuesDrained {sli : ℕ} (ws : List (Worker sli Queues)) (rs ss : List (List Entry)) (vs : List (Worker sli Queues)) (k : ℕ) : Type 0 where
   pub worker_count : length vs ≡ length ws
   pub record_count : length ss ≡ length rs
-  pub drained : (j : ℕ) (a : QueueWorker sli) → j < k → slice_get ws j ≡ Some a
-      → (v : QueueWorker sli) × (slice_get vs j ≡ Some v) × ((n : ℕ) → KnowsQueueYard n a → DrainedLast n a v (record_of rs j) (record_of ss j))
+  pub drained : (j : ℕ) (a : Worker sli Queues) → j < k → slice_get ws j ≡ Some a
+      → (v : Worker sli Queues) × (slice_get vs j ≡ Some v) × ((n : ℕ) → KnowsQueueYard n a → DrainedLast n a v (record_of rs j) (record_of ss j))
   pub later_workers : (j : ℕ) → k ≤ j → slice_get vs j ≡ slice_get ws j
 
 -- the queues were settled, drained, and settled again
-pub record Finished {sli : ℕ} (ws : List (QueueWorker sli)) (rs ss : List (List Entry)) (xs : List (QueueWorker sli)) : Type 0 where
-  pub met : List (QueueWorker sli)
-  pub emptied : List (QueueWorker sli)
+pub record Finished {sli : ℕ} (ws : List (Worker sli Queues)) (rs ss : List (List Entry)) (xs : List (Worker sli Queues)) : Type 0 where
+  pub met : List (Worker sli Queues)
+  pub emptied : List (Worker sli Queues)
   pub first : QueuesSettled ws (length ws) met
   pub drained : QueuesDrained met rs ss emptied (length met)
   pub last : QueuesSettled emptied (length emptied) xs

@@ -5,7 +5,8 @@ use Rattle.tlsf_post.specs.declared.post_end.PostEnd.{PostEnd}
 use Rattle.tlsf_post.specs.declared.take_end.TakeEnd.{TakeEnd}
 use Rattle.tlsf_post.specs.Lanes.{posts_sent, free_slots, waited, taken, ready}
 use Rattle.tlsf_heap.specs.declared.name.Name.{Name}
-use Rattle.tlsf_crew.specs.declared.yard.worker.Worker.{Worker}
+use Rattle.tlsf_crew.specs.declared.worker.Worker.{Worker}
+use Rattle.tlsf_crew.specs.declared.yard.lanes.Lanes.{Lanes}
 use Rattle.tlsf_calls.specs.declared.entry.Entry.{Entry}
 use Rattle.tlsf_calls.specs.declared.call.Call.{Call}
 use Rattle.tlsf_calls.specs.declared.call.Call.TheVariants.{Take, Drain}
@@ -30,20 +31,20 @@ pub record IsReady {sli : ℕ} (job : Job sli) : Type 0 where
   pub room : vec_len job.script + sum_of job.limits ≤ vec_capacity job.entries
 
 -- the end to j sent the posts that the entries tell
-pub record HasSent {sli : ℕ} (a v : Worker sli) (j : ℕ) (made : List (Option Name)) (entries : List Entry) (p : PostEnd) : Type 0 where
+pub record HasSent {sli : ℕ} (a v : Worker sli Lanes) (j : ℕ) (made : List (Option Name)) (entries : List Entry) (p : PostEnd) : Type 0 where
   pub end : PostEnd
   pub end_is : end_to v j ≡ Some end
   pub sent : posts_sent end ≡ posts_sent p ++ posts_made (id_of a) j made entries
 
 -- the end from i took the posts that the entries tell
-pub record HasTaken {sli : ℕ} (a v : Worker sli) (i : ℕ) (entries : List Entry) (t : TakeEnd) : Type 0 where
+pub record HasTaken {sli : ℕ} (a v : Worker sli Lanes) (i : ℕ) (entries : List Entry) (t : TakeEnd) : Type 0 where
   pub end : TakeEnd
   pub end_is : end_from v i ≡ Some end
   pub waited : waited end ≡ waited t
   pub taken : taken end ≡ taken t ++ posts_taken i (id_of a) entries
 
 -- worker v is a after the calls of a script
-pub record Ran {sli : ℕ} (n : ℕ) (a : Worker sli) (script : List Call) (made : List (Option Name)) (entries : List Entry) (v : Worker sli) : Type 0 where
+pub record Ran {sli : ℕ} (n : ℕ) (a : Worker sli Lanes) (script : List Call) (made : List (Option Name)) (entries : List Entry) (v : Worker sli Lanes) : Type 0 where
   pub told : MayTellAll sli n (id_of a) (untold (heap_of a)) script (record { made = made; entries = entries; heap = heap_of v })
   pub yard : KeepsYards a v
   pub numbers : id_and_capacity v ≡ id_and_capacity a
@@ -62,6 +63,6 @@ pub record Ran {sli : ℕ} (n : ℕ) (a : Worker sli) (script : List Call) (made
   pub few_entries : length entries ≤ length script + sum_below 8 (λ i. length (posts_taken i (id_of a) entries))
 
 -- what a thread that was given this job hands back
-pub record IsDone {sli : ℕ} (job : Job sli) (d : Done sli) : Type 0 where
+pub record IsDone {sli : ℕ} (job : Job sli) (d : Done sli Lanes) : Type 0 where
   pub ran : Ran job.count job.worker job.script.items d.made.items d.entries.items d.worker
   pub room : vec_capacity d.entries ≡ vec_capacity job.entries

@@ -3,7 +3,8 @@ use Rattle.std.specs.Prelude.{◌≡◌, ℕ, ◌+◌, ◌-◌, ◌^◌, ◌<◌
 use Rattle.std.specs.declared.vec.Vec.{Vec}
 use Rattle.std.specs.declared.alloc.Global.{Global}
 use Rattle.tlsf_heap.specs.declared.name.Name.{Name}
-use Rattle.tlsf_crew.specs.declared.yard.worker.Worker.{Worker}
+use Rattle.tlsf_crew.specs.declared.worker.Worker.{Worker}
+use Rattle.tlsf_crew.specs.declared.yard.lanes.Lanes.{Lanes}
 use Rattle.tlsf_calls.specs.declared.entry.Entry.{Entry}
 use Rattle.tlsf_calls.specs.declared.call.Call.{Call}
 use Rattle.tlsf_crew.specs.declared.threads.job.Job.{Job}
@@ -15,7 +16,7 @@ use Rattle.tlsf_crew.specs.yard.Told.{MayTell}
 use Rattle.tlsf_crew.specs.threads.Job.{IsReady, Ran}
 
 -- how many posts a worker may take from worker i: those that are ready, and one for each release of i's script
-abbrev pub most_from : {sli : ℕ} → List ℕ → Worker sli → ℕ → ℕ
+abbrev pub most_from : {sli : ℕ} → List ℕ → Worker sli Lanes → ℕ → ℕ
 most_from releases a i = ready_from a i + slice_index releases i
 
 -- a job of one of n workers that is ready to run, with the room for all entries of its record. It may take what is ready, and
@@ -34,17 +35,17 @@ AllDone P (j ∷ js) [] = ⊥
 AllDone P (j ∷ js) (d ∷ ds) = P j d × AllDone P js ds
 
 -- the workers ws ran the scripts and became the workers vs
-pub record HaveRun {sli : ℕ} (ws : List (Worker sli)) (scripts : List (List Call)) (records : List (List Entry)) (vs : List (Worker sli)) : Type 0 where
+pub record HaveRun {sli : ℕ} (ws : List (Worker sli Lanes)) (scripts : List (List Call)) (records : List (List Entry)) (vs : List (Worker sli Lanes)) : Type 0 where
   pub made : ℕ → List (Option Name)
   pub worker_count : length vs ≡ length ws
   pub record_count : length records ≡ length ws
   pub yard : IsYard vs
-  pub ran : (j : ℕ) (a : Worker sli) → slice_get ws j ≡ Some a
-      → (v : Worker sli) × (slice_get vs j ≡ Some v) × Ran (length ws) a (script_of scripts j) (made j) (record_of records j) v
+  pub ran : (j : ℕ) (a : Worker sli Lanes) → slice_get ws j ≡ Some a
+      → (v : Worker sli Lanes) × (slice_get vs j ≡ Some v) × Ran (length ws) a (script_of scripts j) (made j) (record_of records j) v
 
 -- each record has room for the calls of the script, for each post that may be taken, and for the last drain
-abbrev pub HaveRooms : {sli : ℕ} → List (Worker sli) → List (List Call) → List (Vec Entry Global) → Type 0
-HaveRooms {sli} ws scripts records = (j : ℕ) (a : Worker sli) (r : Vec Entry Global) → slice_get ws j ≡ Some a → slice_get records j ≡ Some r
+abbrev pub HaveRooms : {sli : ℕ} → List (Worker sli Lanes) → List (List Call) → List (Vec Entry Global) → Type 0
+HaveRooms {sli} ws scripts records = (j : ℕ) (a : Worker sli Lanes) (r : Vec Entry Global) → slice_get ws j ≡ Some a → slice_get records j ≡ Some r
     → vec_capacity r ≡ length (script_of scripts j) + sum_below 8 (λ i. ready_from a i + releases_of (script_of scripts i)) + 1
 
 -- each record of the later ones has the room that it had
@@ -52,18 +53,18 @@ abbrev pub KeepRooms : List (Vec Entry Global) → List (Vec Entry Global) → T
 KeepRooms rs ss = (k : ℕ) (s : Vec Entry Global) → slice_get ss k ≡ Some s → (r : Vec Entry Global) × (slice_get rs k ≡ Some r) × (vec_capacity s ≡ vec_capacity r)
 
 -- a record has room for all that waits for worker j, and for one entry more
-abbrev pub HasLastRoom : {sli : ℕ} → List (Worker sli) → ℕ → Vec Entry Global → Type 0
+abbrev pub HasLastRoom : {sli : ℕ} → List (Worker sli Lanes) → ℕ → Vec Entry Global → Type 0
 HasLastRoom ws j r = vec_len r + sum_below 8 (λ i. length (waits_in ws i j)) + 1 ≤ vec_capacity r
 
-abbrev pub HaveLastRooms : {sli : ℕ} → List (Worker sli) → List (Vec Entry Global) → Type 0
+abbrev pub HaveLastRooms : {sli : ℕ} → List (Worker sli Lanes) → List (Vec Entry Global) → Type 0
 HaveLastRooms ws records = (j : ℕ) (r : Vec Entry Global) → slice_get records j ≡ Some r → HasLastRoom ws j r
 
 -- no more posts wait for worker j in a lane than any lane holds
-abbrev pub HasFew : {sli : ℕ} → List (Worker sli) → ℕ → Type 0
+abbrev pub HasFew : {sli : ℕ} → List (Worker sli Lanes) → ℕ → Type 0
 HasFew ws j = (i : ℕ) → length (waits_in ws i j) ≤ 1024
 
 -- worker j took all that waited for it, and was told so behind the earlier entries
-pub record LastTold {sli : ℕ} (ws vs : List (Worker sli)) (j : ℕ) (before after : List Entry) : Type 0 where
+pub record LastTold {sli : ℕ} (ws vs : List (Worker sli Lanes)) (j : ℕ) (before after : List Entry) : Type 0 where
   pub own : List Entry
   pub entries : after ≡ before ++ own
   pub is_drain : IsDrain j 8192 own
@@ -72,7 +73,7 @@ pub record LastTold {sli : ℕ} (ws vs : List (Worker sli)) (j : ℕ) (before af
       (record { made = made ++ None ∷ []; entries = after; heap = yard_heap vs j })
 
 -- so did each worker below k; the others are as they were
-pub record LastDrained {sli : ℕ} (ws : List (Worker sli)) (rs ss : List (List Entry)) (vs : List (Worker sli)) (k : ℕ) : Type 0 where
+pub record LastDrained {sli : ℕ} (ws : List (Worker sli Lanes)) (rs ss : List (List Entry)) (vs : List (Worker sli Lanes)) (k : ℕ) : Type 0 where
   pub yard : IsYard vs
   pub worker_count : length vs ≡ length ws
   pub record_count : length ss ≡ length rs

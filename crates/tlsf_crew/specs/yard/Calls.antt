@@ -1,5 +1,5 @@
 -- What a worker's own calls answer and leave.
-use Rattle.std.specs.Prelude.{◌≡◌, ℕ, List, Option, Some, None, Result, Ok, Err, slice_get, slice_set}
+use Rattle.std.specs.Prelude.{◌≡◌, ℕ, List, [], ◌∷◌, Option, Some, None, Result, Ok, Err, slice_get, slice_set}
 use Rattle.tlsf_heap.specs.Blocks.{HeapState}
 use Rattle.tlsf_heap.specs.Calls.{released}
 use Rattle.tlsf_heap.specs.InPlace.{IsRefusedAsRead}
@@ -11,13 +11,14 @@ use Rattle.tlsf_calls.specs.declared.crew_refusal.CrewRefusal.TheVariants.{Heap,
 use Rattle.tlsf_calls.specs.declared.released.Released.{Released}
 use Rattle.tlsf_calls.specs.declared.released.Released.TheVariants.{Freed, Posted}
 use Rattle.tlsf_calls.specs.declared.took.Took.{Took}
-use Rattle.tlsf_crew.specs.declared.yard.worker.Worker.{Worker}
-use Rattle.tlsf_crew.specs.yard.Workers.{heap_of, id_of, SameButHeap, PutTo, TookFrom}
+use Rattle.tlsf_crew.specs.declared.worker.Worker.{Worker}
+use Rattle.tlsf_crew.specs.declared.yard.lanes.Lanes.{Lanes}
+use Rattle.tlsf_crew.specs.yard.Workers.{heap_of, id_of, SameButHeap, SameButPorts, PutThrough, TookThrough}
 use Rattle.tlsf_crew.specs.yard.Yard.{IsYard}
 
--- a yard stays whole where the one worker takes the other's place
-abbrev pub KeepsYards : {sli : ℕ} → Worker sli → Worker sli → Type 0
-KeepsYards {sli} a v = (ws : List (Worker sli)) (i : ℕ) → slice_get ws i ≡ Some a → IsYard ws → IsYard (slice_set ws i v)
+-- a yard with lanes stays whole where the one worker takes the other's place
+abbrev pub KeepsYards : {sli : ℕ} → Worker sli Lanes → Worker sli Lanes → Type 0
+KeepsYards {sli} a v = (ws : List (Worker sli Lanes)) (i : ℕ) → slice_get ws i ≡ Some a → IsYard ws → IsYard (slice_set ws i v)
 
 -- the heap's answer as the worker's
 abbrev pub by_heap : {A : Type 0} → Result A Refusal → Result A CrewRefusal
@@ -32,32 +33,68 @@ abbrev pub freed_by : Result (Unit {0}) Refusal → Result Released CrewRefusal
 freed_by (Ok done) = Ok Freed
 freed_by (Err why) = Err (Heap why)
 
-abbrev pub posted_by : Name → Result (Unit {0}) Post → Result Released CrewRefusal
-posted_by name (Ok done) = Ok Posted
-posted_by name (Err back) = Err (Full name)
+-- what a post answers whose put was answered so
+abbrev pub put_answer : Name → Result (Unit {0}) Name → Result (Unit {0}) CrewRefusal
+put_answer name (Ok done) = Ok done
+put_answer name (Err back) = Err (Full name)
+
+-- what a release answers whose post was answered so
+abbrev pub posted_as : Result (Unit {0}) CrewRefusal → Result Released CrewRefusal
+posted_as (Ok done) = Ok Posted
+posted_as (Err why) = Err why
 
 -- the own block of that name was released
-pub record ReleasedHere {sli : ℕ} (a v : Worker sli) (name : Name) (answer : Result Released CrewRefusal) : Type 0 where
+pub record ReleasedHere {sli : ℕ} {P : Type 0} (a v : Worker sli P) (name : Name) (answer : Result Released CrewRefusal) : Type 0 where
   pub answer_is : answer ≡ freed_by (released (heap_of a) name).answer
   pub heap : heap_of v ≡ (released (heap_of a) name).heap
   pub same : SameButHeap a v
 
--- the name was put into the lane to the worker of its heap
-pub record ReleasedThere {sli : ℕ} (a v : Worker sli) (name : Name) (answer : Result Released CrewRefusal) : Type 0 where
-  pub put : Result (Unit {0}) Post
-  pub lane : PutTo a v name.heap (record { from = id_of a; name = name }) put
-  pub answer_is : answer ≡ posted_by name put
+-- the name was put through the port to the worker of its heap, by what such a put may leave and answer
+pub record PostedThere {sli : ℕ} {P : Type 0} (puts : ℕ → P → P → Name → Result (Unit {0}) Name → Type 0) (a v : Worker sli P) (name : Name) (answer : Result (Unit {0}) CrewRefusal) : Type 0 where
+  pub put : Result (Unit {0}) Name
+  pub through : puts (id_of a) a.ports v.ports name put
+  pub same : SameButPorts a v
+  pub answer_is : answer ≡ put_answer name put
+
+pub record ReleasedThere {sli : ℕ} {P : Type 0} (puts : ℕ → P → P → Name → Result (Unit {0}) Name → Type 0) (a v : Worker sli P) (name : Name) (answer : Result Released CrewRefusal) : Type 0 where
+  pub posted : Result (Unit {0}) CrewRefusal
+  pub post : PostedThere puts a v name posted
+  pub answer_is : answer ≡ posted_as posted
+
+-- ---- takes
 
 -- after a take the post's block is released on the own heap
-abbrev pub AfterTake : {sli : ℕ} → Worker sli → Worker sli → Option Post → Result (Option Took) CrewRefusal → Type 0
-AfterTake a v None answer = (answer ≡ Ok None) × (v ≡ a)
+abbrev pub AfterTake : {sli : ℕ} {P : Type 0} → Worker sli P → Worker sli P → Option Post → Option Took → Type 0
+AfterTake a v None answer = (answer ≡ None) × (v ≡ a)
 AfterTake a v (Some post) answer =
-    (answer ≡ Ok (Some (record { from = post.from; name = post.name; answer = (released (heap_of a) post.name).answer })))
+    (answer ≡ Some (record { from = post.from; name = post.name; answer = (released (heap_of a) post.name).answer }))
     × (heap_of v ≡ (released (heap_of a) post.name).heap) × SameButHeap a v
 
--- the lane from a worker was asked for its next post
-pub record TakenFrom {sli : ℕ} (a v : Worker sli) (from : ℕ) (answer : Result (Option Took) CrewRefusal) : Type 0 where
-  pub between : Worker sli
+-- a source of posts, by its number, was asked for its next one, by what such a take may leave and answer
+pub record TakenFrom {sli : ℕ} {P : Type 0} (takes : P → P → ℕ → Option Post → Type 0) (a v : Worker sli P) (source : ℕ) (answer : Option Took) : Type 0 where
+  pub between : Worker sli P
   pub post : Option Post
-  pub lane : TookFrom a between from post
+  pub took : SameButPorts a between × takes a.ports between.ports source post
   pub then : AfterTake between v post answer
+
+-- worker a becomes worker v by takes from one source, which answered these one after another
+abbrev pub TakesInTurn : {sli : ℕ} {P : Type 0} → (P → P → ℕ → Option Post → Type 0) → Worker sli P → Worker sli P → ℕ → List Took → Type 0
+TakesInTurn {sli} {P} takes a v source [] = v ≡ a
+TakesInTurn {sli} {P} takes a v source (took ∷ tooks) =
+    (b : Worker sli P) × TakenFrom takes a b source (Some took) × TakesInTurn takes b v source tooks
+
+-- ---- over lanes
+
+-- the name a lane gave back, where it gave back a post
+abbrev pub name_back : Result (Unit {0}) Post → Result (Unit {0}) Name
+name_back (Ok done) = Ok done
+name_back (Err post) = Err post.name
+
+-- a post of that name, from the worker of number `from`, was put into the lane to the worker of its heap
+abbrev pub PutsIntoLane : ℕ → Lanes → Lanes → Name → Result (Unit {0}) Name → Type 0
+PutsIntoLane from p q name answer =
+    (put : Result (Unit {0}) Post) × PutThrough p q name.heap (record { from = from; name = name }) put × (answer ≡ name_back put)
+
+-- the lane from a worker was asked for its next post
+abbrev pub TakenFromLane : {sli : ℕ} → Worker sli Lanes → Worker sli Lanes → ℕ → Option Took → Type 0
+TakenFromLane a v from answer = TakenFrom TookThrough a v from answer

@@ -3,7 +3,8 @@ use Rattle.std.specs.Prelude.{zero, suc, ℕ, ◌+◌, List, length, Option, Som
 use Rattle.std.specs.List.{count_by}
 use Rattle.tlsf_post.specs.declared.take_end.TakeEnd.{TakeEnd}
 use Rattle.tlsf_post.specs.Lanes.{ready}
-use Rattle.tlsf_crew.specs.declared.yard.worker.Worker.{Worker}
+use Rattle.tlsf_crew.specs.declared.worker.Worker.{Worker}
+use Rattle.tlsf_crew.specs.declared.yard.lanes.Lanes.{Lanes}
 use Rattle.tlsf_calls.specs.declared.call.Call.{Call}
 use Rattle.tlsf_calls.specs.declared.call.Call.TheVariants.{Allocate, Release, Write, Read, Resize, Take, Drain}
 use Rattle.tlsf_calls.specs.declared.event.Event.{Event}
@@ -30,14 +31,14 @@ count_of None = 0
 count_of (Some t) = length (ready t)
 
 -- how many are ready for a worker from worker i
-abbrev pub ready_from : {sli : ℕ} → Worker sli → ℕ → ℕ
+abbrev pub ready_from : {sli : ℕ} → Worker sli Lanes → ℕ → ℕ
 ready_from w i = count_of (end_from w i)
 
 -- how many are ready for the workers below k, and in a whole yard
-abbrev pub ready_below : {sli : ℕ} → List (Worker sli) → ℕ → ℕ
+abbrev pub ready_below : {sli : ℕ} → List (Worker sli Lanes) → ℕ → ℕ
 ready_below ws k = sum_below k (λ j. sum_below (length ws) (λ i. count_of (take_at ws i j)))
 
-unfoldable pub ready_in : {sli : ℕ} → List (Worker sli) → ℕ
+unfoldable pub ready_in : {sli : ℕ} → List (Worker sli Lanes) → ℕ
 ready_in ws = ready_below ws (length ws)
 
 abbrev pub is_release : Call → Bool

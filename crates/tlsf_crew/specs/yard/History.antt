@@ -1,5 +1,5 @@
 -- What a list of entries tells: the events that made it, the calls on each heap, and the posts of each lane.
-use Rattle.std.specs.Prelude.{◌≡◌, ◌↔◌, ℕ, ◌<◌, ◌≤◌, List, [], ◌∷◌, ◌++◌, length, map, Option, Some, None, Ok, Err, ⊤, ◌==◌, nat_le, if◌then◌else◌}
+use Rattle.std.specs.Prelude.{◌≡◌, ◌≢◌, ◌↔◌, ◌⊎◌, ℕ, ◌<◌, ◌≤◌, List, [], ◌∷◌, ◌++◌, length, map, Option, Some, None, Ok, Err, ⊤, All, ◌==◌, nat_le, if◌then◌else◌}
 use Rattle.std.specs.List.{filter, filter_map}
 use Rattle.std.specs.Option.{option_map}
 use Rattle.tlsf_class.specs.Classes.{IsLevel}
@@ -18,7 +18,7 @@ use Rattle.tlsf_calls.specs.declared.target.Target.{Target}
 use Rattle.tlsf_calls.specs.declared.reply.Reply.{Reply}
 use Rattle.tlsf_calls.specs.declared.took.Took.{Took}
 use Rattle.tlsf_calls.specs.declared.reply.Reply.TheVariants.{Made, Freed, Posted, Wrote, Got, Resized, Took as Taken, Drained, Refused}
-use Rattle.tlsf_calls.specs.declared.crew_refusal.CrewRefusal.TheVariants.{Heap, Stranger, Unmade}
+use Rattle.tlsf_calls.specs.declared.crew_refusal.CrewRefusal.TheVariants.{Heap, Full, Stranger, Unmade}
 use Rattle.tlsf_crew.specs.yard.World.{World, heap_in, made_by, name_of}
 
 -- ---- the events
@@ -31,11 +31,21 @@ LacksName made (Read target from n) = name_of made target ≡ None
 LacksName made (Resize target len) = name_of made target ≡ None
 LacksName made call = ⊥
 
+-- the name of a block of another's heap was posted, or came back since no more could wait, or no worker has that heap
+abbrev pub AnswersPost : Name → Reply → Type 0
+AnswersPost name reply = (reply ≡ Posted) ⊎ ((reply ≡ Refused (Full name)) ⊎ (reply ≡ Refused Stranger))
+
+-- a release of a block of another's heap is answered so
+abbrev pub IsPostReply : ℕ → List (Option Name) → Call → Reply → Type 0
+IsPostReply at made (Release target) reply = (name : Name) → name_of made target ≡ Some name → name.heap ≢ at → AnswersPost name reply
+IsPostReply at made call reply = ⊤
+
 -- one entry of the call, and the name that it made. It is refused as Unmade exactly where its target means none
 pub record IsOne (at : ℕ) (made : List (Option Name)) (call : Call) (name : Option Name) (entries : List Entry) : Type 0 where
   pub reply : Reply
   pub name_is : name ≡ made_by reply
   pub unmade : (reply ≡ Refused Unmade) ↔ LacksName made call
+  pub post : IsPostReply at made call reply
   pub whole : entries ≡ record { worker = at; call = call; reply = reply } ∷ []
 
 -- takes of a worker that each took a post, from workers whose numbers don't fall from `low` on
@@ -55,9 +65,14 @@ abbrev pub TellsCall : ℕ → List (Option Name) → Call → Option Name → L
 TellsCall at made (Drain most) name entries = (name ≡ None) × IsDrain at most entries
 TellsCall at made call name entries = IsOne at made call name entries
 
+-- a post that was taken came from another of so many workers
+abbrev pub TookFromOther : ℕ → Entry → Type 0
+TookFromOther workers e = (from : ℕ) (t : Took) → e.call ≡ Take from → e.reply ≡ Taken t → (from < workers) × (from ≢ e.worker)
+
 -- the entries of an event, where so many workers are; that of no worker is refused
 pub record TellsEvent (workers : ℕ) (made : List (Option Name)) (e : Event) (name : Option Name) (entries : List Entry) : Type 0 where
   pub near : e.worker < workers → TellsCall e.worker made e.call name entries
+  pub others : All (TookFromOther workers) entries
   pub far : workers ≤ e.worker → (name ≡ None) × (entries ≡ record { worker = e.worker; call = e.call; reply = Refused Stranger } ∷ [])
 
 -- the entries tell the events, each once and in order, and the name that each made, behind what earlier ones made

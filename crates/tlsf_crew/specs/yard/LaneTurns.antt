@@ -1,35 +1,31 @@
 -- What a worker's drain takes and leaves.
-use Rattle.std.specs.Prelude.{◌≡◌, ℕ, zero, suc, ◌-◌, ◌<◌, List, [], ◌∷◌, ◌++◌, length, Bool, is_ok, Some, None, Ok, ◌⊎◌}
+use Rattle.std.specs.Prelude.{◌≡◌, ℕ, zero, suc, ◌-◌, ◌<◌, List, [], ◌∷◌, ◌++◌, length, Bool, is_ok, None, ◌⊎◌}
 use Rattle.std.specs.List.{fold, count_by}
 use Rattle.tlsf_heap.specs.Blocks.{HeapState}
 use Rattle.tlsf_heap.specs.Calls.{released}
 use Rattle.tlsf_calls.specs.declared.drained.Drained.{Drained}
 use Rattle.tlsf_calls.specs.declared.took.Took.{Took}
-use Rattle.tlsf_crew.specs.declared.yard.worker.Worker.{Worker}
-use Rattle.tlsf_crew.specs.yard.Workers.{heap_of, HasTake, lane_places}
-use Rattle.tlsf_crew.specs.yard.Calls.{TakenFrom}
-
--- worker a becomes worker v by takes from one lane, which answered these one after another
-abbrev pub TakesInTurn : {sli : ℕ} → Worker sli → Worker sli → ℕ → List Took → Type 0
-TakesInTurn {sli} a v from [] = v ≡ a
-TakesInTurn {sli} a v from (took ∷ tooks) = (b : Worker sli) × TakenFrom a b from (Ok (Some took)) × TakesInTurn b v from tooks
+use Rattle.tlsf_crew.specs.declared.worker.Worker.{Worker}
+use Rattle.tlsf_crew.specs.declared.yard.lanes.Lanes.{Lanes}
+use Rattle.tlsf_crew.specs.yard.Workers.{heap_of, HasTake, TookThrough, lane_places}
+use Rattle.tlsf_crew.specs.yard.Calls.{TakesInTurn, TakenFromLane}
 
 -- a drain of one lane: it ends where `most` posts were taken, or with a take that shows no post
-pub record LaneDrained {sli : ℕ} (a v : Worker sli) (from most : ℕ) (tooks : List Took) : Type 0 where
-  pub last : Worker sli
-  pub takes : TakesInTurn a last from tooks
-  pub end : ((length tooks ≡ most) × (v ≡ last)) ⊎ ((length tooks < most) × TakenFrom last v from (Ok None))
+pub record LaneDrained {sli : ℕ} (a v : Worker sli Lanes) (from most : ℕ) (tooks : List Took) : Type 0 where
+  pub last : Worker sli Lanes
+  pub takes : TakesInTurn TookThrough a last from tooks
+  pub end : ((length tooks ≡ most) × (v ≡ last)) ⊎ ((length tooks < most) × TakenFromLane last v from None)
 
 -- the turn of one worker: the lane from it is drained; where there is none, nothing happens
-pub record TurnDrained {sli : ℕ} (a v : Worker sli) (from most : ℕ) (tooks : List Took) : Type 0 where
+pub record TurnDrained {sli : ℕ} (a v : Worker sli Lanes) (from most : ℕ) (tooks : List Took) : Type 0 where
   pub lane : HasTake a from → LaneDrained a v from most tooks
   pub nowhere : ¬ (HasTake a from) → (tooks ≡ []) × (v ≡ a)
 
 -- the turns of the workers below k, in rising order; each may take what `most` leaves
-abbrev pub EachLaneDrained : {sli : ℕ} → Worker sli → Worker sli → ℕ → ℕ → List Took → Type 0
+abbrev pub EachLaneDrained : {sli : ℕ} → Worker sli Lanes → Worker sli Lanes → ℕ → ℕ → List Took → Type 0
 EachLaneDrained {sli} a v most zero tooks = (tooks ≡ []) × (v ≡ a)
 EachLaneDrained {sli} a v most (suc k) tooks =
-    (b : Worker sli) × (before : List Took) × (here : List Took)
+    (b : Worker sli Lanes) × (before : List Took) × (here : List Took)
     × (tooks ≡ before ++ here) × EachLaneDrained a b most k before × TurnDrained b v k (most - length before) here
 
 abbrev pub is_freed : Took → Bool
@@ -43,7 +39,7 @@ abbrev pub IsCountOf : Drained → List Took → Type 0
 IsCountOf answer tooks = (answer.taken ≡ length tooks) × (answer.freed ≡ count_by is_freed tooks)
 
 -- a drain of all lanes
-pub record DrainedAll {sli : ℕ} (a v : Worker sli) (most : ℕ) (answer : Drained) : Type 0 where
+pub record DrainedAll {sli : ℕ} (a v : Worker sli Lanes) (most : ℕ) (answer : Drained) : Type 0 where
   pub tooks : List Took
   pub lanes : EachLaneDrained a v most (lane_places a) tooks
   pub heap : heap_of v ≡ heap_after (heap_of a) tooks

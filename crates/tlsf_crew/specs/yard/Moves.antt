@@ -8,7 +8,8 @@ use Rattle.tlsf_post.specs.declared.take_end.TakeEnd.{TakeEnd}
 use Rattle.tlsf_post.specs.Lanes.{posts_sent, free_slots, waited, taken, ready}
 use Rattle.tlsf_heap.specs.Blocks.{HeapState}
 use Rattle.tlsf_heap.specs.declared.name.Name.{Name}
-use Rattle.tlsf_crew.specs.declared.yard.worker.Worker.{Worker}
+use Rattle.tlsf_crew.specs.declared.worker.Worker.{Worker}
+use Rattle.tlsf_crew.specs.declared.yard.lanes.Lanes.{Lanes}
 use Rattle.tlsf_calls.specs.declared.entry.Entry.{Entry}
 use Rattle.tlsf_calls.specs.declared.took.Took.{Took}
 use Rattle.tlsf_calls.specs.declared.call.Call.{Call}
@@ -31,14 +32,14 @@ one at call reply = record { worker = at; call = call; reply = reply } ∷ []
 -- ---- what entries tell of the ends
 
 -- the end to j sent the posts that the entries tell, and lost no more free slots
-pub record Sends {sli : ℕ} (at : ℕ) (made : List (Option Name)) (v : Worker sli) (j : ℕ) (entries : List Entry) (p : PostEnd) : Type 0 where
+pub record Sends {sli : ℕ} (at : ℕ) (made : List (Option Name)) (v : Worker sli Lanes) (j : ℕ) (entries : List Entry) (p : PostEnd) : Type 0 where
   pub end : PostEnd
   pub end_is : end_to v j ≡ Some end
   pub sent : posts_sent end ≡ posts_sent p ++ posts_made at j made entries
   pub free : free_slots p ≤ free_slots end + length (posts_made at j made entries)
 
 -- the end from i took the posts that the entries tell, those that were known to be ready first
-pub record Takes {sli : ℕ} (at : ℕ) (v : Worker sli) (i : ℕ) (entries : List Entry) (t : TakeEnd) : Type 0 where
+pub record Takes {sli : ℕ} (at : ℕ) (v : Worker sli Lanes) (i : ℕ) (entries : List Entry) (t : TakeEnd) : Type 0 where
   pub end : TakeEnd
   pub end_is : end_from v i ≡ Some end
   pub waited : waited end ≡ waited t
@@ -46,12 +47,12 @@ pub record Takes {sli : ℕ} (at : ℕ) (v : Worker sli) (i : ℕ) (entries : Li
   pub ready : IsPrefix (ready t) (posts_taken i at entries ++ ready end)
 
 -- of the posts from i that were known to be ready, as many as may be taken were taken
-abbrev pub Spent : {sli : ℕ} → Worker sli → List ℕ → ℕ → ℕ → List Entry → Type 0
+abbrev pub Spent : {sli : ℕ} → Worker sli Lanes → List ℕ → ℕ → ℕ → List Entry → Type 0
 Spent a limits at i entries = (t : TakeEnd) → end_from a i ≡ Some t → IsPrefix (take (slice_index limits i) (ready t)) (posts_taken i at entries)
 
 -- worker a, of number `at`, has become v by these calls, as the entries tell. It might take so many posts from each other
 -- worker, and may take what is left
-pub record Moved {sli : ℕ} (at : ℕ) (made : List (Option Name)) (a : Worker sli) (limits : List ℕ) (calls : List Call) (entries : List Entry) (v : Worker sli) (left : List ℕ) : Type 0 where
+pub record Moved {sli : ℕ} (at : ℕ) (made : List (Option Name)) (a : Worker sli Lanes) (limits : List ℕ) (calls : List Call) (entries : List Entry) (v : Worker sli Lanes) (left : List ℕ) : Type 0 where
   pub yard : KeepsYards a v
   pub numbers : id_and_capacity v ≡ id_and_capacity a
   pub knows : (n : ℕ) → KnowsYard n a → KnowsYard n v
@@ -79,16 +80,16 @@ pub record Suits {sli : ℕ} (w : World sli) (at : ℕ) (made : List (Option Nam
   pub empty : (from : ℕ) → call ≡ Take from → from ≢ at → from < length w.heaps → answer ≡ Empty → w.waiting from at ≡ []
 
 -- the model answers so, and leaves this heap
-pub record ModelReplies {sli : ℕ} (at : ℕ) (v : Worker sli) (answer : Reply) (r : Replied sli) : Type 0 where
+pub record ModelReplies {sli : ℕ} (at : ℕ) (v : Worker sli Lanes) (answer : Reply) (r : Replied sli) : Type 0 where
   pub reply : answer ≡ r.reply
   pub left : heap_of v ≡ heap_in r.world at
 
 -- so it does in each world that suits
-abbrev pub RepliesAsModel : {sli : ℕ} → List (Option Name) → Worker sli → Call → Worker sli → Reply → (World sli → Replied sli) → Type 0
+abbrev pub RepliesAsModel : {sli : ℕ} → List (Option Name) → Worker sli Lanes → Call → Worker sli Lanes → Reply → (World sli → Replied sli) → Type 0
 RepliesAsModel {sli} made a call v reply by =
     (n : ℕ) → KnowsYard n a → (w : World sli) → HasHeap w n (id_of a) (heap_of a) → Suits w (id_of a) made call reply → ModelReplies (id_of a) v reply (by w)
 
-pub record CallStep {sli : ℕ} (made : List (Option Name)) (a : Worker sli) (limits : List ℕ) (call : Call) (v : Worker sli) (left : List ℕ) (reply : Reply) (by : World sli → Replied sli) : Type 0 where
+pub record CallStep {sli : ℕ} (made : List (Option Name)) (a : Worker sli Lanes) (limits : List ℕ) (call : Call) (v : Worker sli Lanes) (left : List ℕ) (reply : Reply) (by : World sli → Replied sli) : Type 0 where
   pub told : RepliesAsModel made a call v reply by
   pub moved : (rest : List (Option Name)) → Moved (id_of a) (made ++ rest) a limits (call ∷ []) (one (id_of a) call reply) v left
 
@@ -99,7 +100,7 @@ abbrev pub took_by : HeapState → Post → Took
 took_by h p = record { from = p.from; name = p.name; answer = (released h p.name).answer }
 
 -- one post was taken, or no more might be
-abbrev pub TookWithin : {sli : ℕ} → Worker sli → List ℕ → ℕ → Worker sli → List ℕ → Option Took → Type 0
+abbrev pub TookWithin : {sli : ℕ} → Worker sli Lanes → List ℕ → ℕ → Worker sli Lanes → List ℕ → Option Took → Type 0
 TookWithin a limits from v left None =
     ((made : List (Option Name)) → Moved (id_of a) made a limits [] [] v left) × (heap_of v ≡ heap_of a) × Spent a limits (id_of a) from []
 TookWithin a limits from v left (Some took) =
@@ -128,11 +129,11 @@ abbrev pub each_lane_own : ℕ → (ℕ → List Post) → OwnDrain → ℕ → 
 each_lane_own at posts d zero = d
 each_lane_own at posts d (suc from) = if from == at then each_lane_own at posts d from else lane_own at from (each_lane_own at posts d from) (posts from)
 
-abbrev pub own_drain : {sli : ℕ} → List Entry → Worker sli → ℕ → OwnDrain
+abbrev pub own_drain : {sli : ℕ} → List Entry → Worker sli Lanes → ℕ → OwnDrain
 own_drain entries a taken = record { entries = entries; heap = heap_of a; taken = taken }
 
 -- takes from one lane, after any count of them from others
-pub record LaneTaken {sli : ℕ} (a : Worker sli) (limits : List ℕ) (from : ℕ) (entries : List Entry) (v : Worker sli) (left : List ℕ) (longer : List Entry) (count : ℕ) : Type 0 where
+pub record LaneTaken {sli : ℕ} (a : Worker sli Lanes) (limits : List ℕ) (from : ℕ) (entries : List Entry) (v : Worker sli Lanes) (left : List ℕ) (longer : List Entry) (count : ℕ) : Type 0 where
   pub own : List Entry
   pub entries_are : longer ≡ entries ++ own
   pub posts : List Post
@@ -143,13 +144,13 @@ pub record LaneTaken {sli : ℕ} (a : Worker sli) (limits : List ℕ) (from : �
   pub moved : (made : List (Option Name)) → Moved (id_of a) made a limits [] own v left
 
 -- a drain of one lane
-pub record LaneSpent {sli : ℕ} (a : Worker sli) (limits : List ℕ) (from most : ℕ) (entries : List Entry) (v : Worker sli) (left : List ℕ) (longer : List Entry) (count : ℕ) : Type 0 where
+pub record LaneSpent {sli : ℕ} (a : Worker sli Lanes) (limits : List ℕ) (from most : ℕ) (entries : List Entry) (v : Worker sli Lanes) (left : List ℕ) (longer : List Entry) (count : ℕ) : Type 0 where
   pub takes : LaneTaken a limits from entries v left longer count
   pub few : count ≤ most
   pub spent : count < most → Spent a limits (id_of a) from takes.own
 
 -- takes from the lanes from the workers below a number
-pub record EachLaneTaken {sli : ℕ} (a : Worker sli) (limits : List ℕ) (below : ℕ) (entries : List Entry) (v : Worker sli) (left : List ℕ) (longer : List Entry) (count : ℕ) : Type 0 where
+pub record EachLaneTaken {sli : ℕ} (a : Worker sli Lanes) (limits : List ℕ) (below : ℕ) (entries : List Entry) (v : Worker sli Lanes) (left : List ℕ) (longer : List Entry) (count : ℕ) : Type 0 where
   pub own : List Entry
   pub entries_are : longer ≡ entries ++ own
   pub posts : ℕ → List Post
@@ -159,7 +160,7 @@ pub record EachLaneTaken {sli : ℕ} (a : Worker sli) (limits : List ℕ) (below
   pub moved : (made : List (Option Name)) → Moved (id_of a) made a limits [] own v left
 
 -- a drain of those lanes
-pub record EachLaneSpent {sli : ℕ} (a : Worker sli) (limits : List ℕ) (below most : ℕ) (entries : List Entry) (v : Worker sli) (left : List ℕ) (longer : List Entry) (count : ℕ) : Type 0 where
+pub record EachLaneSpent {sli : ℕ} (a : Worker sli Lanes) (limits : List ℕ) (below most : ℕ) (entries : List Entry) (v : Worker sli Lanes) (left : List ℕ) (longer : List Entry) (count : ℕ) : Type 0 where
   pub takes : EachLaneTaken a limits below entries v left longer count
   pub few : count ≤ most
   pub spent : count < most → (i : ℕ) → i < below → Spent a limits (id_of a) i takes.own
@@ -179,7 +180,7 @@ pub record SuitsCall {sli : ℕ} (w : World sli) (n at : ℕ) (made : List (Opti
   pub drain : (most : ℕ) → call ≡ Drain most → SuitsDrain w n at most own
 
 -- the call was answered so; the entries got longer by those of a drain, and have not its own yet
-pub record Stepped {sli : ℕ} (n : ℕ) (a : Worker sli) (limits : List ℕ) (call : Call) (made : List (Option Name)) (entries : List Entry) (v : Worker sli) (left : List ℕ) (longer : List Entry) (reply : Reply) : Type 0 where
+pub record Stepped {sli : ℕ} (n : ℕ) (a : Worker sli Lanes) (limits : List ℕ) (call : Call) (made : List (Option Name)) (entries : List Entry) (v : Worker sli Lanes) (left : List ℕ) (longer : List Entry) (reply : Reply) : Type 0 where
   pub own : List Entry
   pub entries_are : longer ≡ entries ++ own
   pub told : MayTell sli n (id_of a) (record { made = made; entries = entries; heap = heap_of a }) call
@@ -192,7 +193,7 @@ pub record Stepped {sli : ℕ} (n : ℕ) (a : Worker sli) (limits : List ℕ) (c
   pub moved : (rest : List (Option Name)) → Moved (id_of a) (made ++ rest) a limits (call ∷ []) (own ++ one (id_of a) call reply) v left
 
 -- the call was made, and told in full
-pub record Called {sli : ℕ} (n : ℕ) (a : Worker sli) (limits : List ℕ) (call : Call) (made : List (Option Name)) (entries : List Entry) (v : Worker sli) (left : List ℕ) (more : List (Option Name)) (longer : List Entry) : Type 0 where
+pub record Called {sli : ℕ} (n : ℕ) (a : Worker sli Lanes) (limits : List ℕ) (call : Call) (made : List (Option Name)) (entries : List Entry) (v : Worker sli Lanes) (left : List ℕ) (more : List (Option Name)) (longer : List Entry) : Type 0 where
   pub name : Option Name
   pub made_are : more ≡ made ++ name ∷ []
   pub own : List Entry

@@ -1,7 +1,8 @@
 -- A yard whose lanes are being laid. This serves the contracts and proofs of private functions alone.
 use Rattle.std.specs.Prelude.{◌≡◌, ◌≢◌, ℕ, ◌<◌, ◌⊎◌, List, [], length, map, Some, None, slice_get}
 use Rattle.std.specs.List.{range_with_len}
-use Rattle.tlsf_crew.specs.declared.yard.worker.Worker.{Worker}
+use Rattle.tlsf_crew.specs.declared.worker.Worker.{Worker}
+use Rattle.tlsf_crew.specs.declared.yard.lanes.Lanes.{Lanes}
 use Rattle.tlsf_crew.specs.yard.Workers.{heap_of, id_and_capacity}
 use Rattle.tlsf_crew.specs.yard.Yard.{post_at, take_at, lane_waits, HasPair}
 use Rattle.tlsf_crew.specs.yard.Opening.{opened_heaps, KnowFree, AreFresh}
@@ -14,11 +15,11 @@ abbrev pub IsBefore : ℕ → ℕ → ℕ → ℕ → Type 0
 IsBefore i j x y = (x < i) ⊎ ((x ≡ i) × (y < j))
 
 -- n workers with new heaps, and with all lanes before lane (i, j)
-pub record IsLaid {sli : ℕ} (ws : List (Worker sli)) (n words capacity i j : ℕ) : Type 0 where
+pub record IsLaid {sli : ℕ} (ws : List (Worker sli Lanes)) (n words capacity i j : ℕ) : Type 0 where
   pub len : length ws ≡ n
   pub heaps : map heap_of ws ≡ opened_heaps n words
   pub numbers : map id_and_capacity ws ≡ opened_numbers n capacity
-  pub slots : (x : ℕ) (a : Worker sli) → slice_get ws x ≡ Some a → (length a.posts.items ≡ n) × (length a.takes.items ≡ n)
+  pub slots : (x : ℕ) (a : Worker sli Lanes) → slice_get ws x ≡ Some a → (length a.ports.posts.items ≡ n) × (length a.ports.takes.items ≡ n)
   pub empty : (x y : ℕ) → lane_waits (post_at ws x y) (take_at ws x y) ≡ []
   pub free : KnowFree ws capacity
   pub fresh : AreFresh ws

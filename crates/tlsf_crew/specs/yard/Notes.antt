@@ -1,46 +1,58 @@
 -- What a drain notes of the posts that it takes. This serves the contracts and proofs of private functions alone.
-use Rattle.std.specs.Prelude.{◌≡◌, ◌≢◌, ℕ, zero, suc, ◌+◌, ◌-◌, ◌<◌, ◌≤◌, ◌⊎◌, List, [], ◌∷◌, ◌++◌, length, slice_index, Some, None, Ok, vec_len, vec_capacity}
+use Rattle.std.specs.Prelude.{◌≡◌, ◌≢◌, ℕ, zero, suc, ◌+◌, ◌-◌, ◌<◌, ◌≤◌, ◌⊎◌, List, [], ◌∷◌, ◌++◌, length, slice_index, Option, Some, None, vec_len, vec_capacity}
 use Rattle.tlsf_calls.specs.declared.drained.Drained.{Drained}
 use Rattle.tlsf_crew.specs.declared.yard.journal.Journal.{Journal}
 use Rattle.tlsf_calls.specs.declared.took.Took.{Took}
-use Rattle.tlsf_crew.specs.declared.yard.worker.Worker.{Worker}
+use Rattle.tlsf_post.specs.declared.post.Post.{Post}
+use Rattle.tlsf_crew.specs.declared.worker.Worker.{Worker}
+use Rattle.tlsf_crew.specs.declared.yard.lanes.Lanes.{Lanes}
 use Rattle.tlsf_calls.specs.declared.call.Call.TheVariants.{Take}
 use Rattle.tlsf_calls.specs.declared.reply.Reply.TheVariants.{Took as Taken}
-use Rattle.tlsf_crew.specs.yard.Workers.{id_of, HasTake, lane_places}
+use Rattle.tlsf_crew.specs.yard.Workers.{id_of, HasTake, SameButPorts, TookThrough, lane_places}
 use Rattle.tlsf_crew.specs.yard.Calls.{TakenFrom}
 use Rattle.tlsf_crew.specs.yard.LaneTurns.{IsCountOf}
 use Rattle.tlsf_crew.specs.yard.Counts.{sum_of}
 
--- worker a becomes v by takes from one lane, which answered these one after another, and notes x become y
-abbrev pub NotedInTurn : {sli : ℕ} {N : Type 0} → (N → ℕ → ℕ → Took → N → Type 0) → Worker sli → Worker sli → N → N → ℕ → List Took → Type 0
-NotedInTurn {sli} noted a v x y from [] = (v ≡ a) × (y ≡ x)
-NotedInTurn {sli} {N} noted a v x y from (took ∷ tooks) =
-    (b : Worker sli) × (z : N) × TakenFrom a b from (Ok (Some took)) × noted x (id_of b) from took z × NotedInTurn noted b v z y from tooks
+-- worker a becomes v by takes from one source, which answered these one after another, and notes x become y
+abbrev pub NotedInTurn : {sli : ℕ} {P N : Type 0} → (P → P → ℕ → Option Post → Type 0) → (N → ℕ → ℕ → Took → N → Type 0) → Worker sli P → Worker sli P → N → N → ℕ → List Took → Type 0
+NotedInTurn {sli} {P} {N} takes noted a v x y source [] = (v ≡ a) × (y ≡ x)
+NotedInTurn {sli} {P} {N} takes noted a v x y source (took ∷ tooks) =
+    (b : Worker sli P) × (z : N) × TakenFrom takes a b source (Some took) × noted x (id_of b) source took z × NotedInTurn takes noted b v z y source tooks
 
--- a drain of one lane ends where `most` posts were taken, where the notes admit no more, or with a take that shows no post
-abbrev pub LaneEnds : {sli : ℕ} {N : Type 0} → (N → ℕ → Type 0) → Worker sli → Worker sli → N → ℕ → ℕ → ℕ → Type 0
-LaneEnds admitted last v y from most count =
-    ((count ≡ most) × (v ≡ last)) ⊎ ((count < most) × (((¬ (admitted y from)) × (v ≡ last)) ⊎ TakenFrom last v from (Ok None)))
+-- a drain of one source ends where `most` posts were taken, where it stopped since the notes admit no more, or with a take that shows no post
+abbrev pub SourceEnds : {sli : ℕ} {P N : Type 0} → (P → P → ℕ → Option Post → Type 0) → (P → P → ℕ → Type 0) → (N → ℕ → Type 0) → Worker sli P → Worker sli P → N → ℕ → ℕ → ℕ → Type 0
+SourceEnds takes stops admitted last v y source most count =
+    ((count ≡ most) × (v ≡ last))
+    ⊎ ((count < most) × (((¬ (admitted y source)) × SameButPorts last v × stops last.ports v.ports source) ⊎ TakenFrom takes last v source None))
 
-pub record LaneNoted {sli : ℕ} {N : Type 0} (noted : N → ℕ → ℕ → Took → N → Type 0) (admitted : N → ℕ → Type 0) (a v : Worker sli) (x y : N) (from most : ℕ) (tooks : List Took) : Type 0 where
-  pub last : Worker sli
-  pub takes : NotedInTurn noted a last x y from tooks
-  pub end : LaneEnds admitted last v y from most (length tooks)
+pub record SourceNoted {sli : ℕ} {P N : Type 0} (takes : P → P → ℕ → Option Post → Type 0) (stops : P → P → ℕ → Type 0) (noted : N → ℕ → ℕ → Took → N → Type 0) (admitted : N → ℕ → Type 0) (a v : Worker sli P) (x y : N) (source most : ℕ) (tooks : List Took) : Type 0 where
+  pub last : Worker sli P
+  pub turns : NotedInTurn takes noted a last x y source tooks
+  pub end : SourceEnds takes stops admitted last v y source most (length tooks)
+
+-- ---- over lanes
+
+-- a drain leaves a lane at once where the notes admit no more
+abbrev pub StopsAtLane : Lanes → Lanes → ℕ → Type 0
+StopsAtLane p q from = q ≡ p
+
+abbrev pub LaneNoted : {sli : ℕ} {N : Type 0} → (N → ℕ → ℕ → Took → N → Type 0) → (N → ℕ → Type 0) → Worker sli Lanes → Worker sli Lanes → N → N → ℕ → ℕ → List Took → Type 0
+LaneNoted noted admitted a v x y from most tooks = SourceNoted TookThrough StopsAtLane noted admitted a v x y from most tooks
 
 -- the turn of one worker: the lane from it is drained; where there is none, nothing happens
-pub record TurnNoted {sli : ℕ} {N : Type 0} (noted : N → ℕ → ℕ → Took → N → Type 0) (admitted : N → ℕ → Type 0) (a v : Worker sli) (x y : N) (from most : ℕ) (tooks : List Took) : Type 0 where
+pub record TurnNoted {sli : ℕ} {N : Type 0} (noted : N → ℕ → ℕ → Took → N → Type 0) (admitted : N → ℕ → Type 0) (a v : Worker sli Lanes) (x y : N) (from most : ℕ) (tooks : List Took) : Type 0 where
   pub lane : HasTake a from → LaneNoted noted admitted a v x y from most tooks
   pub nowhere : ¬ (HasTake a from) → (tooks ≡ []) × (v ≡ a) × (y ≡ x)
 
 -- the turns of the workers below k, in rising order; each may take what `most` leaves
-abbrev pub EachLaneNoted : {sli : ℕ} {N : Type 0} → (N → ℕ → ℕ → Took → N → Type 0) → (N → ℕ → Type 0) → Worker sli → Worker sli → N → N → ℕ → ℕ → List Took → Type 0
+abbrev pub EachLaneNoted : {sli : ℕ} {N : Type 0} → (N → ℕ → ℕ → Took → N → Type 0) → (N → ℕ → Type 0) → Worker sli Lanes → Worker sli Lanes → N → N → ℕ → ℕ → List Took → Type 0
 EachLaneNoted {sli} noted admitted a v x y most zero tooks = (tooks ≡ []) × (v ≡ a) × (y ≡ x)
 EachLaneNoted {sli} {N} noted admitted a v x y most (suc k) tooks =
-    (b : Worker sli) × (z : N) × (before : List Took) × (here : List Took)
+    (b : Worker sli Lanes) × (z : N) × (before : List Took) × (here : List Took)
     × (tooks ≡ before ++ here) × EachLaneNoted noted admitted a b x z most k before × TurnNoted noted admitted b v z y k (most - length before) here
 
 -- a drain of all lanes
-pub record AllNoted {sli : ℕ} {N : Type 0} (noted : N → ℕ → ℕ → Took → N → Type 0) (admitted : N → ℕ → Type 0) (a v : Worker sli) (x y : N) (most : ℕ) (answer : Drained) : Type 0 where
+pub record AllNoted {sli : ℕ} {N : Type 0} (noted : N → ℕ → ℕ → Took → N → Type 0) (admitted : N → ℕ → Type 0) (a v : Worker sli Lanes) (x y : N) (most : ℕ) (answer : Drained) : Type 0 where
   pub tooks : List Took
   pub lanes : EachLaneNoted noted admitted a v x y most (lane_places a) tooks
   pub count : IsCountOf answer tooks

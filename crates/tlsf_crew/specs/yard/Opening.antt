@@ -7,7 +7,8 @@ use Rattle.tlsf_heap.specs.Lawful.{IsRegion}
 use Rattle.tlsf_post.specs.declared.post_end.PostEnd.{PostEnd}
 use Rattle.tlsf_post.specs.declared.take_end.TakeEnd.{TakeEnd}
 use Rattle.tlsf_post.specs.Lanes.{posts_sent, free_slots, waited, taken, ready}
-use Rattle.tlsf_crew.specs.declared.yard.worker.Worker.{Worker}
+use Rattle.tlsf_crew.specs.declared.worker.Worker.{Worker}
+use Rattle.tlsf_crew.specs.declared.yard.lanes.Lanes.{Lanes}
 use Rattle.tlsf_crew.specs.yard.Yard.{post_at, take_at}
 use Rattle.tlsf_crew.specs.yard.World.{World}
 
@@ -23,10 +24,10 @@ abbrev pub opened_world : {sli : ℕ} → ℕ → ℕ → ℕ → World sli
 opened_world n words capacity = record { heaps = opened_heaps n words; waiting = λ i j. []; capacity = capacity }
 
 -- each end that posts knows so many free slots
-abbrev pub KnowFree : {sli : ℕ} → List (Worker sli) → ℕ → Type 0
+abbrev pub KnowFree : {sli : ℕ} → List (Worker sli Lanes) → ℕ → Type 0
 KnowFree ws capacity = (i j : ℕ) (p : PostEnd) → post_at ws i j ≡ Some p → free_slots p ≡ capacity
 
 -- no end has sent or taken a post, and none waited or is ready for it to take
-pub record AreFresh {sli : ℕ} (ws : List (Worker sli)) : Type 0 where
+pub record AreFresh {sli : ℕ} (ws : List (Worker sli Lanes)) : Type 0 where
   pub sent : (i j : ℕ) (p : PostEnd) → post_at ws i j ≡ Some p → posts_sent p ≡ []
   pub taken : (i j : ℕ) (t : TakeEnd) → take_at ws i j ≡ Some t → (waited t ≡ []) × (taken t ≡ []) × (ready t ≡ [])

@@ -1,13 +1,39 @@
 -- What a worker's own heap replies to a call of a script, and what it leaves.
-use Rattle.std.specs.Prelude.{ℕ, List, length, Option, Some, None}
+use Rattle.std.specs.Prelude.{ℕ, List, length, Option, Some, None, Result, Ok, Err}
 use Rattle.tlsf_heap.specs.Blocks.{HeapState}
 use Rattle.tlsf_heap.specs.declared.name.Name.{Name}
+use Rattle.tlsf_heap.specs.declared.refusal.Refusal.{Refusal}
+use Rattle.tlsf_calls.specs.declared.chunk.Chunk.{Chunk}
 use Rattle.tlsf_calls.specs.declared.reply.Reply.{Reply}
-use Rattle.tlsf_calls.specs.declared.reply.Reply.TheVariants.{Refused}
-use Rattle.tlsf_calls.specs.declared.crew_refusal.CrewRefusal.TheVariants.{Unmade}
+use Rattle.tlsf_calls.specs.declared.reply.Reply.TheVariants.{Made, Freed, Wrote, Got, Resized, Refused}
+use Rattle.tlsf_calls.specs.declared.crew_refusal.CrewRefusal.TheVariants.{Heap, Unmade}
 use Rattle.tlsf_crew.specs.yard.Heaps.{allocated, released, written, resized, chunk_read}
-use Rattle.tlsf_crew.specs.yard.World.{reply_made, reply_freed, reply_wrote, reply_got, reply_resized}
 
+-- ---- replies by what the heap answers
+
+abbrev pub reply_made : Result Name Refusal → Reply
+reply_made (Ok name) = Made name
+reply_made (Err why) = Refused (Heap why)
+
+abbrev pub reply_freed : Result (Unit {0}) Refusal → Reply
+reply_freed (Ok done) = Freed
+reply_freed (Err why) = Refused (Heap why)
+
+abbrev pub reply_wrote : ℕ → Result (Unit {0}) Refusal → Reply
+reply_wrote n (Ok done) = Wrote n
+reply_wrote n (Err why) = Refused (Heap why)
+
+abbrev pub reply_got : Result Chunk Refusal → Reply
+reply_got (Ok bytes) = Got bytes
+reply_got (Err why) = Refused (Heap why)
+
+abbrev pub reply_resized : Result (Unit {0}) Refusal → Reply
+reply_resized (Ok done) = Resized
+reply_resized (Err why) = Refused (Heap why)
+
+-- ---- calls
+
+-- a reply and the heap that it leaves
 pub record OwnReplied : Type 0 where
   pub reply : Reply
   pub heap : HeapState

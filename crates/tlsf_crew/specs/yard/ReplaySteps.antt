@@ -3,7 +3,8 @@ use Rattle.std.specs.Prelude.{◌≡◌, ℕ, ◌<◌, ◌≤◌, List, [], ◌�
 use Rattle.tlsf_post.specs.declared.take_end.TakeEnd.{TakeEnd}
 use Rattle.tlsf_post.specs.Lanes.{ready}
 use Rattle.tlsf_heap.specs.declared.name.Name.{Name}
-use Rattle.tlsf_crew.specs.declared.yard.worker.Worker.{Worker}
+use Rattle.tlsf_crew.specs.declared.worker.Worker.{Worker}
+use Rattle.tlsf_crew.specs.declared.yard.lanes.Lanes.{Lanes}
 use Rattle.tlsf_calls.specs.declared.entry.Entry.{Entry}
 use Rattle.tlsf_calls.specs.declared.event.Event.{Event}
 use Rattle.tlsf_calls.specs.declared.call.Call.{Call}
@@ -18,14 +19,14 @@ abbrev pub reply_took : Option Took → Reply
 reply_took None = Empty
 reply_took (Some t) = Taken t
 
-abbrev pub drain_of : {sli : ℕ} → List Entry → List (Worker sli) → ℕ → Draining sli
+abbrev pub drain_of : {sli : ℕ} → List Entry → List (Worker sli Lanes) → ℕ → Draining sli
 drain_of entries ws taken = record { entries = entries; world = world_of ws; taken = taken }
 
-abbrev pub replay_of : {sli : ℕ} → List (Option Name) → List Entry → List (Worker sli) → Replayed sli
+abbrev pub replay_of : {sli : ℕ} → List (Option Name) → List Entry → List (Worker sli Lanes) → Replayed sli
 replay_of made entries ws = record { made = made; entries = entries; world = world_of ws }
 
 -- the call of an event was answered, and only the event's own entry is still to come
-pub record IsReplied {sli : ℕ} (r : Replayed sli) (event : Event) (entries : List Entry) (vs : List (Worker sli)) (reply : Reply) : Type 0 where
+pub record IsReplied {sli : ℕ} (r : Replayed sli) (event : Event) (entries : List Entry) (vs : List (Worker sli Lanes)) (reply : Reply) : Type 0 where
   pub yard : IsYard vs
   pub after : after r event ≡ replay_of (r.made ++ made_by reply ∷ []) (entries ++ record { worker = event.worker; call = event.call; reply = reply } ∷ []) vs
 
@@ -52,6 +53,6 @@ MayTake (Take from) = ⊤
 MayTake (Drain most) = ⊤
 
 -- so many posts an event may take from each worker: no more than wait, and all that are ready, where it takes any
-pub record AreLimits {sli : ℕ} (ws : List (Worker sli)) (e : Event) (limits : List ℕ) : Type 0 where
+pub record AreLimits {sli : ℕ} (ws : List (Worker sli Lanes)) (e : Event) (limits : List ℕ) : Type 0 where
   pub few : (i : ℕ) → i < 8 → slice_index limits i ≤ length (waits_in ws i e.worker)
   pub all : MayTake e.call → (i : ℕ) (t : TakeEnd) → i < 8 → take_at ws i e.worker ≡ Some t → length (ready t) ≤ slice_index limits i

@@ -1,14 +1,14 @@
 -- The world that a yard shows, and one step of it.
-use Rattle.std.specs.Prelude.{zero, suc, ℕ, ◌+◌, ◌-◌, List, [], ◌∷◌, ◌++◌, length, map, take, drop, get_or, set, Option, Some, None, Result, Ok, Err, ◌&&◌, ◌==◌, nat_lt, if◌then◌else◌}
+use Rattle.std.specs.Prelude.{zero, suc, ℕ, ◌+◌, ◌-◌, List, [], ◌∷◌, ◌++◌, length, map, take, drop, get_or, set, Option, Some, None, ◌&&◌, ◌==◌, nat_lt, if◌then◌else◌}
 use Rattle.std.specs.List.{fold}
 use Rattle.tlsf_post.specs.declared.post.Post.{Post}
 use Rattle.tlsf_heap.specs.declared.name.Name.{Name}
 use Rattle.tlsf_heap.specs.Blocks.{HeapState}
 use Rattle.tlsf_calls.specs.Bytes.{bytes_of}
-use Rattle.tlsf_calls.specs.declared.chunk.Chunk.{Chunk}
-use Rattle.tlsf_crew.specs.yard.Heaps.{allocated, released, written, resized, chunk_read}
-use Rattle.tlsf_heap.specs.declared.refusal.Refusal.{Refusal}
-use Rattle.tlsf_crew.specs.declared.yard.worker.Worker.{Worker}
+use Rattle.tlsf_crew.specs.yard.Heaps.{released}
+use Rattle.tlsf_crew.specs.yard.OwnReplies.{OwnReplied, own_allocating, own_freeing, own_writing, own_reading, own_resizing}
+use Rattle.tlsf_crew.specs.declared.worker.Worker.{Worker}
+use Rattle.tlsf_crew.specs.declared.yard.lanes.Lanes.{Lanes}
 use Rattle.tlsf_calls.specs.declared.event.Event.{Event}
 use Rattle.tlsf_calls.specs.declared.entry.Entry.{Entry}
 use Rattle.tlsf_calls.specs.declared.call.Call.{Call}
@@ -16,9 +16,10 @@ use Rattle.tlsf_calls.specs.declared.call.Call.TheVariants.{Allocate, Release, W
 use Rattle.tlsf_calls.specs.declared.target.Target.{Target}
 use Rattle.tlsf_calls.specs.declared.target.Target.TheVariants.{Named, Made as MadeBy, Absent}
 use Rattle.tlsf_calls.specs.declared.reply.Reply.{Reply}
-use Rattle.tlsf_calls.specs.declared.reply.Reply.TheVariants.{Made, Freed, Posted, Wrote, Got, Resized, Took as Taken, Empty, Drained, Refused}
-use Rattle.tlsf_calls.specs.declared.crew_refusal.CrewRefusal.TheVariants.{Heap, Full, Stranger, Unmade}
+use Rattle.tlsf_calls.specs.declared.reply.Reply.TheVariants.{Posted, Took as Taken, Empty, Drained, Refused}
+use Rattle.tlsf_calls.specs.declared.crew_refusal.CrewRefusal.TheVariants.{Full, Stranger, Unmade}
 pub use Rattle.tlsf_calls.specs.Entries.{made_by}
+pub use Rattle.tlsf_crew.specs.yard.OwnReplies.{reply_made, reply_freed, reply_wrote, reply_got, reply_resized}
 use Rattle.tlsf_crew.specs.yard.Workers.{heap_of}
 use Rattle.tlsf_crew.specs.yard.Yard.{post_at, take_at, lane_waits, capacity_in, no_heap}
 
@@ -28,7 +29,7 @@ pub record World (sli : ℕ) : Type 0 where
   pub capacity : ℕ
 
 -- what a yard shows
-unfoldable pub world_of : {sli : ℕ} → List (Worker sli) → World sli
+unfoldable pub world_of : {sli : ℕ} → List (Worker sli Lanes) → World sli
 world_of ws = record { heaps = map heap_of ws; waiting = λ i j. lane_waits (post_at ws i j) (take_at ws i j); capacity = capacity_in ws }
 
 -- the same but for the posts from i to j
@@ -50,43 +51,24 @@ pub record Replied (sli : ℕ) : Type 0 where
   pub reply : Reply
   pub world : World sli
 
-abbrev pub reply_made : Result Name Refusal → Reply
-reply_made (Ok name) = Made name
-reply_made (Err why) = Refused (Heap why)
-
-abbrev pub reply_freed : Result (Unit {0}) Refusal → Reply
-reply_freed (Ok done) = Freed
-reply_freed (Err why) = Refused (Heap why)
+-- what the heap of worker `at` replies to a call, and the world with what the call leaves there
+abbrev pub by_own : {sli : ℕ} → World sli → ℕ → (HeapState → OwnReplied) → Replied sli
+by_own w at call = let own = call (heap_in w at) in record { reply = own.reply; world = with_heap w at own.heap }
 
 abbrev pub allocating : {sli : ℕ} → World sli → ℕ → ℕ → Replied sli
-allocating {sli} w at len = record { reply = reply_made (allocated sli (heap_in w at) len).answer; world = with_heap w at (allocated sli (heap_in w at) len).heap }
+allocating {sli} w at len = by_own w at (λ h. own_allocating sli h len)
 
 abbrev pub freeing : {sli : ℕ} → World sli → ℕ → Name → Replied sli
-freeing w at name = record { reply = reply_freed (released (heap_in w at) name).answer; world = with_heap w at (released (heap_in w at) name).heap }
+freeing w at name = by_own w at (λ h. own_freeing h name)
 
-abbrev pub reply_wrote : ℕ → Result (Unit {0}) Refusal → Reply
-reply_wrote n (Ok done) = Wrote n
-reply_wrote n (Err why) = Refused (Heap why)
+abbrev pub writing_named : {sli : ℕ} → World sli → ℕ → Option Name → ℕ → List ℕ → Replied sli
+writing_named w at name from bytes = by_own w at (λ h. own_writing h name from bytes)
 
-abbrev pub reply_got : Result Chunk Refusal → Reply
-reply_got (Ok bytes) = Got bytes
-reply_got (Err why) = Refused (Heap why)
+abbrev pub reading_named : {sli : ℕ} → World sli → ℕ → Option Name → ℕ → ℕ → Replied sli
+reading_named w at name from n = by_own w at (λ h. own_reading h name from n)
 
-abbrev pub writing : {sli : ℕ} → World sli → ℕ → Name → ℕ → List ℕ → Replied sli
-writing w at name from bytes = record {
-  reply = reply_wrote (length bytes) (written (heap_in w at) name from bytes).answer;
-  world = with_heap w at (written (heap_in w at) name from bytes).heap;
-}
-
-abbrev pub reading : {sli : ℕ} → World sli → ℕ → Name → ℕ → ℕ → Replied sli
-reading w at name from n = record { reply = reply_got (chunk_read (heap_in w at) name from n); world = w }
-
-abbrev pub reply_resized : Result (Unit {0}) Refusal → Reply
-reply_resized (Ok done) = Resized
-reply_resized (Err why) = Refused (Heap why)
-
-abbrev pub resizing : {sli : ℕ} → World sli → ℕ → Name → ℕ → Replied sli
-resizing w at name len = record { reply = reply_resized (resized (heap_in w at) name len).answer; world = with_heap w at (resized (heap_in w at) name len).heap }
+abbrev pub resizing_named : {sli : ℕ} → World sli → ℕ → Option Name → ℕ → Replied sli
+resizing_named w at name len = by_own w at (λ h. own_resizing h name len)
 
 -- a post into the lane from `at` to another worker
 unfoldable pub posting : {sli : ℕ} → World sli → ℕ → Name → Replied sli
@@ -155,18 +137,6 @@ name_of made Absent = None
 abbrev pub releasing_named : {sli : ℕ} → World sli → ℕ → Option Name → Replied sli
 releasing_named w at None = record { reply = Refused Unmade; world = w }
 releasing_named w at (Some name) = releasing w at name
-
-abbrev pub writing_named : {sli : ℕ} → World sli → ℕ → Option Name → ℕ → List ℕ → Replied sli
-writing_named w at None from bytes = record { reply = Refused Unmade; world = w }
-writing_named w at (Some name) from bytes = writing w at name from bytes
-
-abbrev pub reading_named : {sli : ℕ} → World sli → ℕ → Option Name → ℕ → ℕ → Replied sli
-reading_named w at None from n = record { reply = Refused Unmade; world = w }
-reading_named w at (Some name) from n = reading w at name from n
-
-abbrev pub resizing_named : {sli : ℕ} → World sli → ℕ → Option Name → ℕ → Replied sli
-resizing_named w at None len = record { reply = Refused Unmade; world = w }
-resizing_named w at (Some name) len = resizing w at name len
 
 -- the events so far: what each made, what was answered, and the world
 pub record Replayed (sli : ℕ) : Type 0 where

@@ -7,22 +7,23 @@ use Rattle.tlsf_post.specs.declared.take_end.TakeEnd.{TakeEnd}
 use Rattle.tlsf_post.specs.Lanes.{posts_sent, free_slots, capacity_of, waited, taken, ready, IsLane}
 use Rattle.tlsf_heap.specs.Blocks.{HeapState}
 use Rattle.tlsf_heap.specs.Lawful.{IsLawful}
-use Rattle.tlsf_crew.specs.declared.yard.worker.Worker.{Worker}
+use Rattle.tlsf_crew.specs.declared.worker.Worker.{Worker}
+use Rattle.tlsf_crew.specs.declared.yard.lanes.Lanes.{Lanes}
 use Rattle.tlsf_crew.specs.yard.Workers.{heap_of, id_and_capacity, end_to, end_from}
 
-abbrev pub end_to_in : {sli : ℕ} → Option (Worker sli) → ℕ → Option PostEnd
+abbrev pub end_to_in : {sli : ℕ} → Option (Worker sli Lanes) → ℕ → Option PostEnd
 end_to_in None j = None
 end_to_in (Some a) j = end_to a j
 
-abbrev pub end_from_in : {sli : ℕ} → Option (Worker sli) → ℕ → Option TakeEnd
+abbrev pub end_from_in : {sli : ℕ} → Option (Worker sli Lanes) → ℕ → Option TakeEnd
 end_from_in None i = None
 end_from_in (Some a) i = end_from a i
 
 -- the end of worker i that posts to worker j, and the end of worker j that takes from worker i
-abbrev pub post_at : {sli : ℕ} → List (Worker sli) → ℕ → ℕ → Option PostEnd
+abbrev pub post_at : {sli : ℕ} → List (Worker sli Lanes) → ℕ → ℕ → Option PostEnd
 post_at ws i j = end_to_in (slice_get ws i) j
 
-abbrev pub take_at : {sli : ℕ} → List (Worker sli) → ℕ → ℕ → Option TakeEnd
+abbrev pub take_at : {sli : ℕ} → List (Worker sli Lanes) → ℕ → ℕ → Option TakeEnd
 take_at ws i j = end_from_in (slice_get ws j) i
 
 -- what stands for the heap of a worker that isn't there
@@ -30,15 +31,15 @@ abbrev pub no_heap : HeapState
 no_heap = record { id = 0; words = 0; tick = 0; blocks = [] }
 
 -- the heap of worker i
-abbrev pub yard_heap : {sli : ℕ} → List (Worker sli) → ℕ → HeapState
+abbrev pub yard_heap : {sli : ℕ} → List (Worker sli Lanes) → ℕ → HeapState
 yard_heap ws i = get_or (map heap_of ws) i no_heap
 
 -- the number of worker i
-abbrev pub id_in : {sli : ℕ} → List (Worker sli) → ℕ → ℕ
+abbrev pub id_in : {sli : ℕ} → List (Worker sli Lanes) → ℕ → ℕ
 id_in ws i = (get_or (map id_and_capacity ws) i (0, 0)).0
 
 -- the capacity of every lane, as the first worker knows it
-abbrev pub capacity_in : {sli : ℕ} → List (Worker sli) → ℕ
+abbrev pub capacity_in : {sli : ℕ} → List (Worker sli Lanes) → ℕ
 capacity_in ws = (get_or (map id_and_capacity ws) 0 (0, 0)).1
 
 -- what waits between two ends: what had waited less what was taken, then what was sent
@@ -56,14 +57,14 @@ pub record Meets (p : PostEnd) (t : TakeEnd) (q : PostEnd) (u : TakeEnd) : Type 
   pub room : free_slots q + length (waited u) ≡ capacity_of q
 
 -- both ends of the lane from i to j are there, and it has this capacity
-abbrev pub HasPair : {sli : ℕ} → List (Worker sli) → ℕ → ℕ → ℕ → Type 0
+abbrev pub HasPair : {sli : ℕ} → List (Worker sli Lanes) → ℕ → ℕ → ℕ → Type 0
 HasPair ws i j capacity = (p : PostEnd) × (t : TakeEnd) × (post_at ws i j ≡ Some p) × (take_at ws i j ≡ Some t) × IsLane p t × (capacity_of p ≡ capacity)
 
-abbrev pub HasEnds : {sli : ℕ} → List (Worker sli) → ℕ → ℕ → Type 0
+abbrev pub HasEnds : {sli : ℕ} → List (Worker sli Lanes) → ℕ → ℕ → Type 0
 HasEnds ws i j = HasPair ws i j (capacity_in ws)
 
 -- j is a worker of the yard other than i
-abbrev pub IsOther : {sli : ℕ} → List (Worker sli) → ℕ → ℕ → Type 0
+abbrev pub IsOther : {sli : ℕ} → List (Worker sli Lanes) → ℕ → ℕ → Type 0
 IsOther ws i j = (j < length ws) × (j ≢ i)
 
 -- a lawful heap of that number
@@ -73,7 +74,7 @@ IsHeapOf i h = (h.id ≡ i) × IsLawful h
 -- a whole yard of a level that there is: at most eight workers, numbered from 0 in their order, each with a lawful heap of its number. From each to
 -- each other goes a lane that has both ends, of the yard's capacity, at most 1,024 posts; none has an end to or from itself, or
 -- to or from a worker that isn't there. Each post that waits was posted by the worker at its lane's other end
-pub record IsYard {sli : ℕ} (ws : List (Worker sli)) : Type 0 where
+pub record IsYard {sli : ℕ} (ws : List (Worker sli Lanes)) : Type 0 where
   pub level : IsLevel sli
   pub few : length ws ≤ 8
   pub ids : (i : ℕ) → i < length ws → id_in ws i ≡ i
@@ -85,5 +86,5 @@ pub record IsYard {sli : ℕ} (ws : List (Worker sli)) : Type 0 where
   pub signed : (i j : ℕ) → All (λ post. post.from ≡ i) (lane_waits (post_at ws i j) (take_at ws i j))
 
 -- what waits in the lane from i to j
-abbrev pub waits_in : {sli : ℕ} → List (Worker sli) → ℕ → ℕ → List Post
+abbrev pub waits_in : {sli : ℕ} → List (Worker sli Lanes) → ℕ → ℕ → List Post
 waits_in ws i j = lane_waits (post_at ws i j) (take_at ws i j)

@@ -8,7 +8,8 @@ ghost use Rattle.tlsf_crew.specs.queues.QueueMoves.{QueueStepped, QueueCalled};
 ghost use Rattle.tlsf_crew.specs.queues.QueueNotes.{HasQueueRoom};
 
 use crate::queues::queue_journal::QueueJournal;
-use crate::queues::queue_worker::{QueueWorker, drain_queue};
+use crate::queues::queues::QueueWorker;
+use crate::worker::drain_source;
 use crate::yard::executor::answer;
 use crate::yard::own_replies::{
     named, reply_to_own_allocate, reply_to_own_read, reply_to_own_resize, reply_to_own_write,
@@ -51,7 +52,7 @@ pub(crate) fn drain_into_queue_journal<const SLI: u32, R: Wait>(
     ensures ends { (n : ℕ) → KnowsQueueYard n worker.old → queue_end_to worker.new ≡ queue_end_to worker.old }
     ensures capacity { vec_capacity journal.new.entries ≡ vec_capacity journal.old.entries }
 {
-    drain_queue(rt, worker, most, journal).taken
+    drain_source(worker, rt, 0, most, journal).taken
 }
 
 /// Makes one call, and answers the reply. A drain's takes get their entries here, the call gets its own later.
@@ -68,13 +69,11 @@ fn reply_over_queues<const SLI: u32, R: Wait>(
     ensures capacity { vec_capacity journal.new.entries ≡ vec_capacity journal.old.entries }
 {
     match call {
-        Call::Allocate { len } => reply_to_own_allocate(&mut worker.heap, len),
+        Call::Allocate { len } => reply_to_own_allocate(worker, len),
         Call::Release { target } => reply_to_queue_release(rt, worker, target, made),
-        Call::Write { target, at, bytes } => {
-            reply_to_own_write(&mut worker.heap, target, at, bytes, made)
-        }
-        Call::Read { target, at, n } => reply_to_own_read(&mut worker.heap, target, at, n, made),
-        Call::Resize { target, len } => reply_to_own_resize(&mut worker.heap, target, len, made),
+        Call::Write { target, at, bytes } => { reply_to_own_write(worker, target, at, bytes, made) }
+        Call::Read { target, at, n } => reply_to_own_read(worker, target, at, n, made),
+        Call::Resize { target, len } => reply_to_own_resize(worker, target, len, made),
         // A queue has no single poster.
         Call::Take { .. } => Reply::Refused(CrewRefusal::Stranger),
         Call::Drain { most } => {

@@ -1,13 +1,15 @@
-ghost use Rattle.std.specs.Prelude.{◌≡◌, ◌≢◌, ◌↔◌, ℕ, ◌<◌, ◌++◌, List, [], ◌∷◌, length, Some, slice_get, slice_set};
+ghost use Rattle.std.specs.Prelude.{◌≡◌, ◌≢◌, ◌↔◌, ℕ, ◌<◌, ◌≤◌, ◌++◌, List, [], ◌∷◌, length, Some, slice_get, slice_set};
 ghost use Rattle.tlsf_crew.specs.yard.History.{AreLawful, RunsThrough, RunsTo, answers_on, calls_on, posts_made, posts_taken};
 ghost use Rattle.tlsf_crew.specs.yard.World.{World, heap_in};
 ghost use Rattle.tlsf_crew.specs.threads.Race.{last_call, record_of, script_of};
 ghost use Rattle.tlsf_crew.specs.yard.Yard.{IsHeapOf};
-ghost use Rattle.tlsf_crew.specs.declared.queues.queue_worker.QueueWorker.{QueueWorker};
-ghost use Rattle.tlsf_crew.specs.queues.QueueWorkers.{queue_heap, queue_id, HasQueueEnd, IsOtherOf, KeepsQueueYards};
+ghost use Rattle.tlsf_crew.specs.declared.worker.Worker.{Worker};
+ghost use Rattle.tlsf_crew.specs.declared.queues.queues.Queues.{Queues};
+ghost use Rattle.tlsf_crew.specs.yard.Workers.{heap_of, id_of};
+ghost use Rattle.tlsf_crew.specs.queues.QueueWorkers.{HasQueueEnd, IsOtherOf, KeepsQueueYards};
 ghost use Rattle.tlsf_crew.specs.queues.QueueYard.{IsQueueYard};
 ghost use Rattle.tlsf_crew.specs.queues.QueueHistory.{TellsQueue};
-ghost use Rattle.tlsf_crew.specs.queues.QueueAlone.{QueueRaceIsOne};
+ghost use Rattle.tlsf_crew.specs.queues.QueueAlone.{IsUncontendedRace, QueueRaceIsOne};
 ghost use Rattle.tlsf_crew.specs.queues.QueueRace.{IsQueueRace};
 ghost use Rattle.tlsf_calls.specs.declared.call.Call.{Call};
 ghost use Rattle.tlsf_calls.specs.declared.entry.Entry.{Entry};
@@ -22,14 +24,14 @@ ghost use Rattle.tlsf_calls.specs.declared.entry.Entry.{Entry};
 /// ```
 pub fn queues_join_the_yard()
     // Worker i has the number i, and a lawful heap of that number.
-    ensures ids { (sli : ℕ) (ws : List (QueueWorker sli)) (i : ℕ) (a : QueueWorker sli) → IsQueueYard ws → slice_get ws i ≡ Some a → queue_id a ≡ i }
-    ensures heaps { (sli : ℕ) (ws : List (QueueWorker sli)) (i : ℕ) (a : QueueWorker sli) → IsQueueYard ws → slice_get ws i ≡ Some a → IsHeapOf i (queue_heap a) }
+    ensures ids { (sli : ℕ) (ws : List (Worker sli Queues)) (i : ℕ) (a : Worker sli Queues) → IsQueueYard ws → slice_get ws i ≡ Some a → id_of a ≡ i }
+    ensures heaps { (sli : ℕ) (ws : List (Worker sli Queues)) (i : ℕ) (a : Worker sli Queues) → IsQueueYard ws → slice_get ws i ≡ Some a → IsHeapOf i (heap_of a) }
 
     // Its ends.
-    ensures to { (sli : ℕ) (ws : List (QueueWorker sli)) (i j : ℕ) (a : QueueWorker sli) → IsQueueYard ws → slice_get ws i ≡ Some a → (HasQueueEnd a j ↔ IsOtherOf (length ws) i j) }
+    ensures to { (sli : ℕ) (ws : List (Worker sli Queues)) (i j : ℕ) (a : Worker sli Queues) → IsQueueYard ws → slice_get ws i ≡ Some a → (HasQueueEnd a j ↔ IsOtherOf (length ws) i j) }
 
     // What each call's clause `yard` says of a worker keeps the yard whole.
-    ensures kept { (sli : ℕ) (ws : List (QueueWorker sli)) (i : ℕ) (a v : QueueWorker sli) → IsQueueYard ws → slice_get ws i ≡ Some a → KeepsQueueYards a v → IsQueueYard (slice_set ws i v) }
+    ensures kept { (sli : ℕ) (ws : List (Worker sli Queues)) (i : ℕ) (a v : Worker sli Queues) → IsQueueYard ws → slice_get ws i ≡ Some a → KeepsQueueYards a v → IsQueueYard (slice_set ws i v) }
 {}
 
 /// In a race over queues each heap has one history too, in the words of [`crate::one_history`]: each call made on it and
@@ -69,17 +71,21 @@ pub fn one_history_of_a_queue_race()
         record_of records j ≡ before ++ later → RunsThrough sli (heap_in w j) j (race.made j) before later (heap_in v j) }
 {}
 
-/// Where no script has a take or a drain, no worker meets a full queue, and what each worker takes one other had posted, a race over
-/// queues comes to one thing, whatever the schedule of its threads: its records and the world that it leaves are the same each
-/// time.
+/// Where no script has a take or a drain, what each worker takes one other had posted, and of more than two workers none meets a full
+/// queue, a race over queues comes to one thing, whatever the schedule of its threads: its records and the world that it leaves are
+/// the same each time.
 ///
-/// Over lanes no more is wanted than scripts without takes ([`crate::race_without_takes`]). A queue hands on the posts of several
-/// posters in the order in which they came, and no clause says when it is full.
+/// Of two workers no more is wanted than scripts without takes, as over lanes ([`crate::race_without_takes`]). A queue hands on the
+/// posts of several posters in the order in which they came, and is full whoever filled it.
 ///
 /// ```text
 /// worker 0: Allocate(8), worker 1: Release(x) of worker 0's block x, worker 2: nothing
 /// in every schedule: 0 Made(y), 0 Take(1): Took(x, Ok), 0 Drained(1); 1 Posted, 1 Drained(0); 2 Drained(0)
 /// ```
 pub fn queue_race_without_takes()
-    ensures { (sli : ℕ) → QueueRaceIsOne sli }
+    ensures one { (sli : ℕ) → QueueRaceIsOne sli }
+
+    // Each race of two workers is such a one.
+    ensures two { (sli : ℕ) (w v : World sli) (scripts : List (List Call)) (records : List (List Entry)) → length w.heaps ≤ 2 → IsQueueRace w scripts records v →
+        IsUncontendedRace w scripts records v }
 {}

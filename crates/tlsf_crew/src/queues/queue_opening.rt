@@ -5,11 +5,12 @@ ghost use Rattle.tlsf_heap.specs.Calls.{opened};
 ghost use Rattle.tlsf_heap.specs.Lawful.{IsRegion};
 ghost use Rattle.tlsf_post.specs.Mailboxes.{number_of, below_but};
 ghost use Rattle.tlsf_crew.specs.yard.Opening.{AreSizes, opened_world};
-ghost use Rattle.tlsf_crew.specs.queues.QueueWorkers.{queue_heap, queue_id};
+ghost use Rattle.tlsf_crew.specs.yard.Workers.{heap_of, id_of};
 ghost use Rattle.tlsf_crew.specs.queues.QueueYard.{IsQueueYard, queue_world_of};
 ghost use Rattle.tlsf_crew.specs.queues.QueueOpening.{AreFreshQueues, AreGiven, AreEnds, GaveEnds, HaveSlotsFor};
 
-use crate::queues::queue_worker::QueueWorker;
+use crate::queues::queues::{QueueWorker, Queues};
+use crate::worker::Worker;
 use crate::yard::opening::{MOST_CAPACITY, MOST_WORKERS, no_ends, open_heap};
 use std::alloc::Global;
 use tlsf_class::most_words;
@@ -108,18 +109,14 @@ fn open_queue_worker<const SLI: u32>(
 ) -> Result<QueueWorker<SLI>, NoMemory>
     requires level { IsLevel SLI }
     requires region { IsRegion SLI words }
-    ensures heap { IfOk result (λ worker. queue_heap worker ≡ opened id words 0) }
-    ensures numbers { IfOk result (λ worker. (queue_id worker ≡ id) × (worker.own ≡ own)) }
-    ensures posts { IfOk result (λ worker. worker.posts.items ≡ replicate n None) }
+    ensures heap { IfOk result (λ worker. heap_of worker ≡ opened id words 0) }
+    ensures numbers { IfOk result (λ worker. (id_of worker ≡ id) × (worker.ports.own ≡ own)) }
+    ensures posts { IfOk result (λ worker. worker.ports.posts.items ≡ replicate n None) }
 {
     let posts = no_ends(alloc, n)?;
     let heap = open_heap(alloc, id, words)?;
-    Ok(QueueWorker {
-        heap,
-        id,
-        own,
-        posts,
-    })
+    let ports = Queues { own, posts };
+    Ok(Worker { heap, id, ports })
 }
 
 /// Gives each worker its end to each other queue, the last one first.
@@ -164,9 +161,9 @@ pub(crate) fn give_ends<const SLI: u32>(
 
 /// Puts an end into its slot.
 fn put_end<const SLI: u32>(worker: &mut QueueWorker<SLI>, j: usize, end: PosterEnd)
-    requires { j < vec_len worker.old.posts }
-    ensures posts { worker.new.posts.items ≡ slice_set worker.old.posts.items j (Some end) }
-    ensures same { (worker.new.heap ≡ worker.old.heap) × (worker.new.id ≡ worker.old.id) × (worker.new.own ≡ worker.old.own) }
+    requires { j < vec_len worker.old.ports.posts }
+    ensures posts { worker.new.ports.posts.items ≡ slice_set worker.old.ports.posts.items j (Some end) }
+    ensures same { (worker.new.heap ≡ worker.old.heap) × (worker.new.id ≡ worker.old.id) × (worker.new.ports.own ≡ worker.old.ports.own) }
 {
-    worker.posts[j] = Some(end);
+    worker.ports.posts[j] = Some(end);
 }

@@ -6,7 +6,7 @@ ghost use Rattle.tlsf_crew.specs.queues.QueueYard.{IsQueueYard};
 ghost use Rattle.tlsf_crew.specs.queues.QueueTasks.{IsQueueReady, KnowsSomeYard};
 
 use crate::queues::queue_task::QueueTask;
-use crate::queues::queue_worker::QueueWorker;
+use crate::queues::queues::QueueWorker;
 use crate::threads::preparation::count_releases;
 use crate::yard::opening::MOST_CAPACITY;
 use std::alloc::Global;

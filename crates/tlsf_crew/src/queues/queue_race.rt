@@ -5,15 +5,14 @@ ghost use Rattle.tlsf_crew.specs.queues.QueueRace.{IsQueueRace};
 ghost use Rattle.tlsf_crew.specs.queues.QueueWorkers.{KnowsQueueYard};
 ghost use Rattle.tlsf_crew.specs.queues.QueueTasks.{DrainedLast, Finished, HasPlace, HaveQueuesRun, KnowsSomeYard, QueuesDrained};
 
-use crate::queues::queue_done::QueueDone;
 use crate::queues::queue_executor::drain_into_queue_journal;
 use crate::queues::queue_journal::QueueJournal;
-use crate::queues::queue_outcome::QueueOutcome;
 use crate::queues::queue_preparation::prepare_tasks;
-use crate::queues::queue_settle::settle_queues;
-use crate::queues::queue_worker::QueueWorker;
-use crate::threads::fan_out::run_all;
+use crate::queues::queue_settle::settle_each_queue;
+use crate::queues::queues::QueueWorker;
+use crate::threads::fan_out::{run_all, take_apart};
 use crate::threads::gate::Gate;
+use crate::threads::outcome::{Outcome, QueueOutcome};
 use std::alloc::Global;
 use std::marker::Sync;
 use std::mem;
@@ -58,7 +57,7 @@ pub fn race_queues<const SLI: u32, R: Threads + Wait + Sync, G: Gate>(
 {
     let mut workers = workers;
     let mut posters = Vec::with_capacity(alloc, workers.len())?;
-    settle_queues(&mut workers, &mut posters);
+    settle_each_queue(&mut workers, &mut posters);
     let mut outcome = run_scripts(rt, alloc, workers, scripts, gate)?;
     finish(
         rt,
@@ -68,42 +67,6 @@ pub fn race_queues<const SLI: u32, R: Threads + Wait + Sync, G: Gate>(
         &mut posters,
     );
     Ok(outcome)
-}
-
-/// Room for what so many workers hand back.
-fn room_for_outcome<const SLI: u32>(
-    alloc: Global,
-    count: usize,
-) -> Result<QueueOutcome<SLI>, NoMemory>
-    ensures empty { IfOk result (λ out. (out.workers.items ≡ []) × (out.records.items ≡ [])) }
-    ensures room { IfOk result (λ out. (count ≤ vec_capacity out.workers) × (count ≤ vec_capacity out.records)) }
-{
-    let workers = Vec::with_capacity(alloc, count)?;
-    let records = Vec::with_capacity(alloc, count)?;
-    Ok(QueueOutcome { workers, records })
-}
-
-/// Takes apart what was done.
-fn take_apart<const SLI: u32>(done: &mut Vec<QueueDone<SLI>>, out: &mut QueueOutcome<SLI>)
-    requires empty { (out.old.workers.items ≡ []) × (out.old.records.items ≡ []) }
-    requires room { (vec_len done.old ≤ vec_capacity out.old.workers) × (vec_len done.old ≤ vec_capacity out.old.records) }
-    ensures parts { (out.new.workers.items ≡ map (λ d. d.worker) done.old.items) × (out.new.records.items ≡ map (λ d. d.entries) done.old.items) }
-    ensures len { (vec_len out.new.workers ≡ vec_len done.old) × (vec_len out.new.records ≡ vec_len done.old) }
-    ensures capacity { (vec_capacity out.new.workers ≡ vec_capacity out.old.workers) × (vec_capacity out.new.records ≡ vec_capacity out.old.records) }
-{
-    let Some(
-        QueueDone {
-            worker,
-            made: _,
-            entries,
-        },
-    ) = done.pop()
-    else {
-        return;
-    };
-    take_apart(done, out);
-    out.workers.push_reserved(worker);
-    out.records.push_reserved(entries);
 }
 
 /// Makes all room, and runs each script in a thread of its own.
@@ -121,7 +84,7 @@ fn run_scripts<const SLI: u32, R: Threads + Wait + Sync, G: Gate>(
     ensures places { IfOk result (λ o. All HasPlace o.records.items) }
 {
     let tasks = prepare_tasks(alloc, workers, scripts)?;
-    let mut outcome = room_for_outcome(alloc, tasks.len())?;
+    let mut outcome = Outcome::with_room(alloc, tasks.len())?;
     let mut done = run_all(rt, alloc, tasks, gate)?;
     take_apart(&mut done, &mut outcome);
     Ok(outcome)
@@ -141,9 +104,9 @@ fn finish<const SLI: u32, R: Wait>(
     requires room { length workers.old ≤ vec_capacity posters.old }
     ensures { Finished workers.old (map (λ r. r.items) records.old) (map (λ r. r.items) records.new) workers.new }
 {
-    settle_queues(workers, posters);
+    settle_each_queue(workers, posters);
     drain_all(rt, alloc, workers, records);
-    settle_queues(workers, posters);
+    settle_each_queue(workers, posters);
 }
 
 /// Drains each worker, in rising number.

@@ -1,27 +1,28 @@
 //! Settling of queues: each owner learns all that was put into its queue.
-ghost use Rattle.std.specs.Prelude.{◌≡◌, ◌+◌, ◌++◌, ◌<◌, ◌≤◌, [], length, vec_len, vec_capacity};
+ghost use Rattle.std.specs.Prelude.{◌≡◌, ◌+◌, ◌++◌, ◌<◌, ◌≤◌, [], length, vec_len, vec_capacity, OnOk, OnErr};
 ghost use Rattle.std.specs.Option.{option_to_list};
 ghost use Rattle.tlsf_post.specs.Mailboxes.{IsWhole, HaveMet};
 ghost use Rattle.tlsf_crew.specs.queues.QueueWorkers.{queue_end_to};
-ghost use Rattle.tlsf_crew.specs.queues.QueueYard.{IsQueueYard};
-ghost use Rattle.tlsf_crew.specs.queues.QueueSettle.{GaveUpEnd, Gathered, QueueSettled, QueuesSettled};
+ghost use Rattle.tlsf_crew.specs.queues.QueueYard.{IsQueueYard, queue_world_of};
+ghost use Rattle.tlsf_crew.specs.queues.QueueSettle.{AllKnown, GaveUpEnd, Gathered, QueueSettled, QueuesSettled};
 
 use crate::queues::queue_opening::give_ends;
-use crate::queues::queue_worker::QueueWorker;
-use tlsf_post::{PosterEnd, meet};
+use crate::queues::queues::QueueWorker;
+use std::alloc::Global;
+use tlsf_post::{NoMemory, PosterEnd, meet};
 
 /// Takes an end out of its slot, if there is one.
 fn take_end<const SLI: u32>(worker: &mut QueueWorker<SLI>, j: usize) -> Option<PosterEnd>
-    requires { j < vec_len worker.old.posts }
+    requires { j < vec_len worker.old.ports.posts }
     ensures end { result ≡ queue_end_to worker.old j }
     ensures gave { GaveUpEnd worker.old worker.new j }
 {
-    worker.posts[j].take()
+    worker.ports.posts[j].take()
 }
 
 /// Takes an end out of its slot, if there is one, and adds it to others.
 fn gather_end<const SLI: u32>(worker: &mut QueueWorker<SLI>, j: usize, posters: &mut Vec<PosterEnd>)
-    requires slot { j < vec_len worker.old.posts }
+    requires slot { j < vec_len worker.old.ports.posts }
     requires room { vec_len posters.old < vec_capacity posters.old }
     ensures ends { posters.new.items ≡ posters.old.items ++ option_to_list (queue_end_to worker.old j) }
     ensures gave { GaveUpEnd worker.old worker.new j }
@@ -54,12 +55,12 @@ fn gather_ends<const SLI: u32>(
 
 /// Tells the owner all that was put into its queue, with all ends to it at hand.
 fn meet_owner<const SLI: u32>(worker: &mut QueueWorker<SLI>, posters: &mut Vec<PosterEnd>)
-    requires { IsWhole worker.old.own posters.old.items }
-    ensures met { HaveMet worker.old.own posters.old.items worker.new.own posters.new.items }
-    ensures same { (worker.new.heap ≡ worker.old.heap) × (worker.new.id ≡ worker.old.id) × (worker.new.posts ≡ worker.old.posts) }
+    requires { IsWhole worker.old.ports.own posters.old.items }
+    ensures met { HaveMet worker.old.ports.own posters.old.items worker.new.ports.own posters.new.items }
+    ensures same { (worker.new.heap ≡ worker.old.heap) × (worker.new.id ≡ worker.old.id) × (worker.new.ports.posts ≡ worker.old.ports.posts) }
     ensures capacity { vec_capacity posters.new ≡ vec_capacity posters.old }
 {
-    meet(&mut worker.own, posters);
+    meet(&mut worker.ports.own, posters);
 }
 
 /// Tells the owner of queue `j` all that was put into it. `posters` has room for the ends meanwhile.
@@ -82,7 +83,7 @@ fn settle_queue<const SLI: u32>(
 }
 
 /// Tells each owner all that was put into its queue. `posters` has room for the ends to one queue meanwhile.
-pub(crate) fn settle_queues<const SLI: u32>(
+pub(crate) fn settle_each_queue<const SLI: u32>(
     workers: &mut [QueueWorker<SLI>],
     posters: &mut Vec<PosterEnd>,
 )
@@ -94,4 +95,33 @@ pub(crate) fn settle_queues<const SLI: u32>(
     for j in 0..workers.len() {
         settle_queue(workers, j, posters);
     }
+}
+
+/// Settles each queue of a whole yard: its owner learns all that was put into it. So the `None` of its next take, and a drain of it
+/// that takes fewer than it may, then say that all that was put before was taken.
+///
+/// - `known`: each owner knows, of each other worker, all that this has ever put into its queue.
+/// - `world`: what the yard shows stays the same. No heap changes, and in each queue the same posts wait.
+///
+/// Refused as `NoMemory` where room for the ends to one queue was refused. Nothing has changed then.
+///
+/// ```
+/// workers[1].post(rt, name)?;            // the name of a block of worker 0
+/// settle_queues(alloc, &mut workers)?;   // worker 0 knows of it
+/// let took = workers[0].take(rt);        // Some(..): so the take answers it, and releases the block
+/// ```
+pub fn settle_queues<const SLI: u32>(
+    alloc: Global,
+    workers: &mut [QueueWorker<SLI>],
+) -> Result<(), NoMemory>
+    requires { IsQueueYard workers.old }
+    ensures known { OnOk result (AllKnown workers.new) }
+    ensures yard { IsQueueYard workers.new }
+    ensures count { length workers.new ≡ length workers.old }
+    ensures world { queue_world_of workers.new ≡ queue_world_of workers.old }
+    ensures no_memory { OnErr result (workers.new ≡ workers.old) }
+{
+    let mut posters = Vec::with_capacity(alloc, workers.len())?;
+    settle_each_queue(workers, &mut posters);
+    Ok(())
 }

@@ -1,9 +1,9 @@
 ghost use Rattle.tlsf_crew.specs.queues.QueueTasks.{IsQueueReady, IsQueueDone};
 
-use crate::queues::queue_done::QueueDone;
 use crate::queues::queue_executor::run_queue_call;
 use crate::queues::queue_journal::QueueJournal;
-use crate::queues::queue_worker::QueueWorker;
+use crate::queues::queues::{QueueWorker, Queues};
+use crate::threads::done::Done;
 use crate::threads::gate::Gate;
 use crate::threads::work::Work;
 use std::sync::Wait;
@@ -24,14 +24,14 @@ pub(crate) struct QueueTask<const SLI: u32> {
 }
 
 impl<const SLI: u32> Work for QueueTask<SLI> {
-    type Done = QueueDone<SLI>;
+    type Done = Done<SLI, Queues>;
 
     ghost is_ready = { λ task. IsQueueReady task };
 
     ghost is_done = { λ task done. IsQueueDone task done };
 
     /// Runs the script. The gate is passed before each call, and once after the last.
-    fn run<R: Wait, G: Gate>(self, rt: &R, gate: &G) -> QueueDone<SLI> {
+    fn run<R: Wait, G: Gate>(self, rt: &R, gate: &G) -> Done<SLI, Queues> {
         let QueueTask {
             mut worker,
             script,
@@ -47,7 +47,7 @@ impl<const SLI: u32> Work for QueueTask<SLI> {
             index += 1;
         }
         gate.pass(worker.id, index);
-        QueueDone {
+        Done {
             worker,
             made,
             entries: journal.entries,

@@ -79,7 +79,10 @@ where
 }
 
 /// Takes apart what was done.
-pub(crate) fn take_apart<const SLI: u32>(done: &mut Vec<Done<SLI>>, out: &mut Outcome<SLI>)
+pub(crate) fn take_apart<const SLI: u32, P: Drop>(
+    done: &mut Vec<Done<SLI, P>>,
+    out: &mut Outcome<SLI, P>,
+)
     requires empty { (out.old.workers.items ≡ []) × (out.old.records.items ≡ []) }
     requires room { (vec_len done.old ≤ vec_capacity out.old.workers) × (vec_len done.old ≤ vec_capacity out.old.records) }
     ensures parts { (out.new.workers.items ≡ map (λ d. d.worker) done.old.items) × (out.new.records.items ≡ map (λ d. d.entries) done.old.items) }

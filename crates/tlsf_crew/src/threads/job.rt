@@ -3,9 +3,10 @@ ghost use Rattle.tlsf_crew.specs.threads.Job.{IsReady, IsDone};
 use crate::threads::done::Done;
 use crate::threads::gate::Gate;
 use crate::threads::work::Work;
+use crate::worker::Worker;
 use crate::yard::executor::run_call;
 use crate::yard::journal::Journal;
-use crate::yard::worker::Worker;
+use crate::yard::lanes::Lanes;
 use std::sync::Wait;
 use tlsf_calls::{Call, Entry};
 use tlsf_heap::Name;
@@ -26,14 +27,14 @@ pub(crate) struct Job<const SLI: u32> {
 }
 
 impl<const SLI: u32> Work for Job<SLI> {
-    type Done = Done<SLI>;
+    type Done = Done<SLI, Lanes>;
 
     ghost is_ready = { λ job. IsReady job };
 
     ghost is_done = { λ job done. IsDone job done };
 
     /// Runs the script. The gate is passed before each call, and once after the last.
-    fn run<R: Wait, G: Gate>(self, _rt: &R, gate: &G) -> Done<SLI> {
+    fn run<R: Wait, G: Gate>(self, _rt: &R, gate: &G) -> Done<SLI, Lanes> {
         let Job {
             mut worker,
             count,

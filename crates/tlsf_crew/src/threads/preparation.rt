@@ -7,8 +7,8 @@ ghost use Rattle.tlsf_crew.specs.yard.Yard.{IsYard};
 ghost use Rattle.tlsf_crew.specs.threads.Parts.{most_from, IsPrepared};
 
 use crate::threads::job::Job;
+use crate::worker::Worker;
 use crate::yard::room::count_from;
-use crate::yard::worker::Worker;
 use std::alloc::Global;
 use tlsf_calls::{Call, Entry};
 use tlsf_heap::Name;

@@ -13,10 +13,10 @@ use crate::threads::fan_out::{run_all, take_apart};
 use crate::threads::gate::Gate;
 use crate::threads::outcome::Outcome;
 use crate::threads::preparation::{count_all, prepare};
+use crate::worker::Worker;
 use crate::yard::journal::Journal;
 use crate::yard::replay::reply_in_yard;
 use crate::yard::settle::settle;
-use crate::yard::worker::Worker;
 use std::alloc::Global;
 use std::marker::Sync;
 use std::mem;
@@ -71,16 +71,6 @@ pub fn race<const SLI: u32, R: Threads + Wait + Sync, G: Gate>(
     Ok(outcome)
 }
 
-/// Room for what so many workers hand back.
-fn room_for_outcome<const SLI: u32>(alloc: Global, count: usize) -> Result<Outcome<SLI>, NoMemory>
-    ensures empty { IfOk result (λ out. (out.workers.items ≡ []) × (out.records.items ≡ [])) }
-    ensures room { IfOk result (λ out. (count ≤ vec_capacity out.workers) × (count ≤ vec_capacity out.records)) }
-{
-    let workers = Vec::with_capacity(alloc, count)?;
-    let records = Vec::with_capacity(alloc, count)?;
-    Ok(Outcome { workers, records })
-}
-
 /// Makes all room, and runs each script in a thread of its own.
 fn run_scripts<const SLI: u32, R: Threads + Wait + Sync, G: Gate>(
     rt: &R,
@@ -97,7 +87,7 @@ fn run_scripts<const SLI: u32, R: Threads + Wait + Sync, G: Gate>(
 {
     let releases = count_all(&scripts);
     let jobs = prepare(alloc, workers, scripts, &releases)?;
-    let mut outcome = room_for_outcome(alloc, jobs.len())?;
+    let mut outcome = Outcome::with_room(alloc, jobs.len())?;
     let mut done = run_all(rt, alloc, jobs, gate)?;
     take_apart(&mut done, &mut outcome);
     Ok(outcome)

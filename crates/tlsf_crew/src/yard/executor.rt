@@ -9,11 +9,12 @@ ghost use Rattle.tlsf_crew.specs.yard.Counts.{sum_of};
 ghost use Rattle.tlsf_crew.specs.yard.Moves.{CallStep, TookWithin, EachLaneSpent, Stepped, Called};
 ghost use Rattle.tlsf_crew.specs.yard.Notes.{HasRoom};
 
+use crate::worker::{Worker, take_next};
 use crate::yard::journal::Journal;
+use crate::yard::lanes::drain_noting;
 use crate::yard::own_replies::{
     named, reply_to_own_allocate, reply_to_own_read, reply_to_own_resize, reply_to_own_write,
 };
-use crate::yard::worker::{Worker, drain_noting, take_next};
 use tlsf_calls::{Call, Chunk, CrewRefusal, Entry, Event, Released, Reply, Target, Took};
 use tlsf_heap::Name;
 
@@ -52,7 +53,7 @@ pub(crate) fn answer(
 fn reply_to_allocate<const SLI: u32>(worker: &mut Worker<SLI>, len: u32) -> Reply
     ensures { (made : List (Option Name)) (limits : List ℕ) → CallStep made worker.old limits (Allocate len) worker.new limits result (λ w. allocating w (id_of worker.old) len) }
 {
-    reply_to_own_allocate(&mut worker.heap, len)
+    reply_to_own_allocate(worker, len)
 }
 
 /// Releases what a target means: a block of the own heap, or by a post another's.
@@ -83,7 +84,7 @@ fn reply_to_write<const SLI: u32>(
 ) -> Reply
     ensures { (limits : List ℕ) → CallStep made.now worker.old limits (Write target from bytes) worker.new limits result (λ w. writing_named w (id_of worker.old) (name_of made.now target) from (bytes_of bytes)) }
 {
-    reply_to_own_write(&mut worker.heap, target, from, bytes, made)
+    reply_to_own_write(worker, target, from, bytes, made)
 }
 
 /// Reads `n` bytes of the own block that a target means, from byte `from` of it on. More than 64 are refused.
@@ -96,7 +97,7 @@ fn reply_to_read<const SLI: u32>(
 ) -> Reply
     ensures { (limits : List ℕ) → CallStep made.now worker.old limits (Read target from n) worker.new limits result (λ w. reading_named w (id_of worker.old) (name_of made.now target) from n) }
 {
-    reply_to_own_read(&mut worker.heap, target, from, n, made)
+    reply_to_own_read(worker, target, from, n, made)
 }
 
 /// Resizes the own block that a target means, where it stands.
@@ -108,7 +109,7 @@ fn reply_to_resize<const SLI: u32>(
 ) -> Reply
     ensures { (limits : List ℕ) → CallStep made.now worker.old limits (Resize target len) worker.new limits result (λ w. resizing_named w (id_of worker.old) (name_of made.now target) len) }
 {
-    reply_to_own_resize(&mut worker.heap, target, len, made)
+    reply_to_own_resize(worker, target, len, made)
 }
 
 /// Takes the next post from another worker, and counts its limit down. At a limit of 0 the lane isn't asked.
@@ -125,7 +126,7 @@ fn take_within<const SLI: u32>(
     if limits[i] == 0 {
         return None;
     }
-    let Some(took) = take_next(worker, i) else {
+    let Some(took) = take_next(worker, &(), i) else {
         return None;
     };
     limits[i] -= 1;

@@ -1,5 +1,6 @@
 ghost use Rattle.std.specs.Prelude.{◌≡◌, ◌↔◌, ℕ, List, Some, slice_get};
-ghost use Rattle.tlsf_crew.specs.declared.yard.worker.Worker.{Worker};
+ghost use Rattle.tlsf_crew.specs.declared.worker.Worker.{Worker};
+ghost use Rattle.tlsf_crew.specs.declared.yard.lanes.Lanes.{Lanes};
 ghost use Rattle.tlsf_crew.specs.yard.Workers.{heap_of, id_of, HasPost, HasTake};
 ghost use Rattle.tlsf_crew.specs.yard.Yard.{IsYard, IsHeapOf, IsOther};
 
@@ -13,10 +14,10 @@ ghost use Rattle.tlsf_crew.specs.yard.Yard.{IsYard, IsHeapOf, IsOther};
 /// ```
 pub fn lanes_join_the_yard()
     // Worker i has the number i, and a lawful heap of that number.
-    ensures ids { (sli : ℕ) (ws : List (Worker sli)) (i : ℕ) (a : Worker sli) → IsYard ws → slice_get ws i ≡ Some a → id_of a ≡ i }
-    ensures heaps { (sli : ℕ) (ws : List (Worker sli)) (i : ℕ) (a : Worker sli) → IsYard ws → slice_get ws i ≡ Some a → IsHeapOf i (heap_of a) }
+    ensures ids { (sli : ℕ) (ws : List (Worker sli Lanes)) (i : ℕ) (a : Worker sli Lanes) → IsYard ws → slice_get ws i ≡ Some a → id_of a ≡ i }
+    ensures heaps { (sli : ℕ) (ws : List (Worker sli Lanes)) (i : ℕ) (a : Worker sli Lanes) → IsYard ws → slice_get ws i ≡ Some a → IsHeapOf i (heap_of a) }
 
     // Its lanes.
-    ensures to { (sli : ℕ) (ws : List (Worker sli)) (i j : ℕ) (a : Worker sli) → IsYard ws → slice_get ws i ≡ Some a → (HasPost a j ↔ IsOther ws i j) }
-    ensures from { (sli : ℕ) (ws : List (Worker sli)) (i j : ℕ) (a : Worker sli) → IsYard ws → slice_get ws i ≡ Some a → (HasTake a j ↔ IsOther ws i j) }
+    ensures to { (sli : ℕ) (ws : List (Worker sli Lanes)) (i j : ℕ) (a : Worker sli Lanes) → IsYard ws → slice_get ws i ≡ Some a → (HasPost a j ↔ IsOther ws i j) }
+    ensures from { (sli : ℕ) (ws : List (Worker sli Lanes)) (i j : ℕ) (a : Worker sli Lanes) → IsYard ws → slice_get ws i ≡ Some a → (HasTake a j ↔ IsOther ws i j) }
 {}

@@ -8,7 +8,8 @@ ghost use Rattle.tlsf_crew.specs.yard.Yard.{IsYard};
 ghost use Rattle.tlsf_crew.specs.yard.NewLanes.{IsLaid};
 ghost use Rattle.tlsf_crew.specs.yard.Workers.{heap_of, id_and_capacity};
 
-use crate::yard::worker::Worker;
+use crate::worker::Worker;
+use crate::yard::lanes::Lanes;
 use std::alloc::Global;
 use tlsf_class::most_words;
 use tlsf_heap::{Heap, OpenFault};
@@ -111,19 +112,18 @@ fn open_worker<const SLI: u32>(
     requires region { IsRegion SLI words }
     ensures heap { IfOk result (λ worker. heap_of worker ≡ opened id words 0) }
     ensures numbers { IfOk result (λ worker. id_and_capacity worker ≡ (id, capacity)) }
-    ensures posts { IfOk result (λ worker. worker.posts.items ≡ replicate n None) }
-    ensures takes { IfOk result (λ worker. worker.takes.items ≡ replicate n None) }
+    ensures posts { IfOk result (λ worker. worker.ports.posts.items ≡ replicate n None) }
+    ensures takes { IfOk result (λ worker. worker.ports.takes.items ≡ replicate n None) }
 {
     let posts = no_ends(alloc, n)?;
     let takes = no_ends(alloc, n)?;
     let heap = open_heap(alloc, id, words)?;
-    Ok(Worker {
-        heap,
-        id,
+    let ports = Lanes {
         capacity,
         posts,
         takes,
-    })
+    };
+    Ok(Worker { heap, id, ports })
 }
 
 /// Opens the heap of a worker.
@@ -214,17 +214,17 @@ fn lay_lane<const SLI: u32>(
 }
 
 fn put_post_end<const SLI: u32>(worker: &mut Worker<SLI>, j: usize, end: PostEnd)
-    requires { j < vec_len worker.old.posts }
-    ensures posts { worker.new.posts.items ≡ slice_set worker.old.posts.items j (Some end) }
-    ensures same { (worker.new.heap ≡ worker.old.heap) × (id_and_capacity worker.new ≡ id_and_capacity worker.old) × (worker.new.takes ≡ worker.old.takes) }
+    requires { j < vec_len worker.old.ports.posts }
+    ensures posts { worker.new.ports.posts.items ≡ slice_set worker.old.ports.posts.items j (Some end) }
+    ensures same { (worker.new.heap ≡ worker.old.heap) × (id_and_capacity worker.new ≡ id_and_capacity worker.old) × (worker.new.ports.takes ≡ worker.old.ports.takes) }
 {
-    worker.posts[j] = Some(end);
+    worker.ports.posts[j] = Some(end);
 }
 
 fn put_take_end<const SLI: u32>(worker: &mut Worker<SLI>, i: usize, end: TakeEnd)
-    requires { i < vec_len worker.old.takes }
-    ensures takes { worker.new.takes.items ≡ slice_set worker.old.takes.items i (Some end) }
-    ensures same { (worker.new.heap ≡ worker.old.heap) × (id_and_capacity worker.new ≡ id_and_capacity worker.old) × (worker.new.posts ≡ worker.old.posts) }
+    requires { i < vec_len worker.old.ports.takes }
+    ensures takes { worker.new.ports.takes.items ≡ slice_set worker.old.ports.takes.items i (Some end) }
+    ensures same { (worker.new.heap ≡ worker.old.heap) × (id_and_capacity worker.new ≡ id_and_capacity worker.old) × (worker.new.ports.posts ≡ worker.old.ports.posts) }
 {
-    worker.takes[i] = Some(end);
+    worker.ports.takes[i] = Some(end);
 }

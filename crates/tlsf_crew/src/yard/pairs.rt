@@ -4,7 +4,7 @@ ghost use Rattle.tlsf_crew.specs.yard.Yard.{HasEnds, IsYard};
 ghost use Rattle.tlsf_crew.specs.yard.LaneSteps.{HasLane, LaneMet, InYard, LaneStep};
 ghost use Rattle.tlsf_crew.specs.yard.Workers.{HasPost, HasTake, PutTo, TookFrom};
 
-use crate::yard::worker::Worker;
+use crate::worker::Worker;
 use tlsf_post::{Post, beside};
 
 /// The lane from one worker to another.
@@ -17,10 +17,10 @@ fn settle_pair<const SLI: u32>(
     requires { HasLane i j poster.old taker.old }
     ensures { LaneMet i j poster.old taker.old poster.new taker.new }
 {
-    let Some(post) = poster.posts[j].as_mut() else {
+    let Some(post) = poster.ports.posts[j].as_mut() else {
         unreachable!()
     };
-    let Some(take) = taker.takes[i].as_mut() else {
+    let Some(take) = taker.ports.takes[i].as_mut() else {
         unreachable!()
     };
     beside(post, take);

@@ -8,13 +8,13 @@ ghost use Rattle.tlsf_crew.specs.yard.FairRuns.{IsFairRun, NoneStale, WaitLive};
 ghost use Rattle.tlsf_crew.specs.yard.Settle.{MetIn};
 ghost use Rattle.tlsf_crew.specs.yard.ReplaySteps.{replay_of, Concerns, AreLimits, IsReplied};
 
+use crate::worker::Worker;
 use crate::yard::executor::{answer, reply_to};
 use crate::yard::journal::Journal;
 use crate::yard::own_replies::named;
 use crate::yard::pairs::settle_lane;
 use crate::yard::room::{count_each, room_for};
 use crate::yard::settle::{settle, settle_column};
-use crate::yard::worker::Worker;
 use std::alloc::Global;
 use tlsf_calls::{Call, CrewRefusal, Entry, Event, Reply};
 use tlsf_heap::Name;

@@ -2,7 +2,7 @@
 ghost use Rattle.std.specs.Prelude.{◌≡◌, ℕ, ◌+◌, ◌*◌, ◌<◌, ◌≤◌, length, slice_index};
 ghost use Rattle.tlsf_crew.specs.yard.Counts.{sum_below, releases_in, ready_from, ready_in};
 
-use crate::yard::worker::Worker;
+use crate::worker::Worker;
 use tlsf_calls::{Call, Event};
 
 /// Room for all entries that events can make: one for each event, one for each post that a release makes, and one for
@@ -54,7 +54,7 @@ fn count_for<const SLI: u32>(worker: &Worker<SLI>, n: usize) -> usize
 pub(crate) fn count_from<const SLI: u32>(worker: &Worker<SLI>, i: usize) -> u32
     ensures { result ≡ ready_from worker.now i }
 {
-    match worker.takes.get(i) {
+    match worker.ports.takes.get(i) {
         Some(Some(end)) => end.count_ready(),
         Some(None) => 0,
         None => 0,

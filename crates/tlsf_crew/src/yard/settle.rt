@@ -4,8 +4,8 @@ ghost use Rattle.tlsf_crew.specs.yard.World.{world_of};
 ghost use Rattle.tlsf_crew.specs.yard.Settle.{HaveMet, MetIn};
 ghost use Rattle.tlsf_crew.specs.yard.LaneSteps.{RowMet};
 
+use crate::worker::Worker;
 use crate::yard::pairs::settle_lane;
-use crate::yard::worker::Worker;
 
 /// Settles each lane of a whole yard: its two ends tell each other what they did since they last met. All that was
 /// posted then waits at the end that takes, and the end that posts knows each free slot.

@@ -3,19 +3,20 @@ ghost use Rattle.std.specs.Prelude.{◌≡◌, ◌<◌, ◌^◌, length, vec_len
 ghost use Rattle.tlsf_crew.specs.queues.QueueYard.{IsQueueYard};
 
 use crate::tests::races::{
-    AllHere, InTurn, check_records, entry, have_two, last, one_call_each, posted, release, taken,
-    two_scripts,
+    AllHere, InTurn, check_records, entry, have_two, is_set_in_time, last, one_call_each, posted,
+    release, taken, two_scripts,
 };
 use crate::tests::yards::took;
 use std::alloc::Global;
 use std::marker::Sync;
 use std::process::Abort;
 use std::sync::Wait;
+use std::sync::atomic::{AtomicU64, Ordering};
 use std::test::Fail;
 use std::thread::Threads;
 use tlsf_crew::{
     Call, CrewRefusal, Entry, Gate, OpenGate, QueueWorker, Reply, open_queue_yard,
-    queues_join_the_yard, race_queues,
+    queues_join_the_yard, race_queues, settle_queues,
 };
 use tlsf_fixtures::{name, same};
 use tlsf_heap::{Name, Refusal};
@@ -57,6 +58,18 @@ fn post_often<R: Abort + Wait>(
         workers[1].post(rt, name)?;
     }
     Ok(workers)
+}
+
+// What was posted before the queues were settled is taken behind it.
+#[test]
+fn settled_queues_are_taken_from(rt: HostRuntime) -> Result<(), Fail> {
+    let workers = yard_with_blocks(&rt, rt.alloc(), 2, 4, &[0])?;
+    let mut workers = post_often(&rt, workers, name(0, 0, 1), 1)?;
+    settle_queues(rt.alloc(), &mut workers)?;
+    let owner = workers.first_mut().ok_or("two workers")?;
+    let found = (owner.take(&rt).is_some(), owner.take(&rt).is_some());
+    same(found, (true, false)).expect(&rt, "differ");
+    Ok(())
 }
 
 /// Two workers run a script each over queues, and their records are those that are wanted.
@@ -238,6 +251,67 @@ fn full_queue_is_drained(rt: HostRuntime) -> Result<(), Fail> {
         Some(taken(0, 1, block)),
         Some(stale),
         Some(last(0, 1024)),
+        Some(last(0, 0)),
+    );
+    same(found, wanted).expect(&rt, "differ");
+    Ok(())
+}
+
+/// A gate at which worker 1 waits for the first drain of worker 0, and its second drain for a post.
+#[derive(Drop)]
+struct PostBetween {
+    drained: AtomicU64,
+    posted: AtomicU64,
+}
+
+impl Gate for PostBetween {
+    fn pass(&self, worker: u32, index: u32) {
+        match (worker, index) {
+            (1, 0) => {
+                let _ = is_set_in_time(&self.drained);
+            }
+            (1, 1) => self.posted.store(1, Ordering::SeqCst),
+            (0, 1) => {
+                self.drained.store(1, Ordering::SeqCst);
+                let _ = is_set_in_time(&self.posted);
+            }
+            _ => {}
+        }
+    }
+}
+
+// A script takes one post more than a queue holds. Where its limit were that, its second drain would wait for ever.
+#[test]
+fn script_takes_more_than_a_queue_holds(rt: HostRuntime) -> Result<(), Fail> {
+    let block = name(0, 0, 1);
+    let workers = yard_with_blocks(&rt, rt.alloc(), 2, 1024, &[0])?;
+    let workers = post_often(&rt, workers, block, 1024)?;
+    assert!(rt; workers.len() == 2);
+    let drains = [Call::Drain { most: 1024 }, Call::Drain { most: 8192 }];
+    let scripts = two_scripts(rt.alloc(), &drains, &[release(block)])?;
+    let gate = PostBetween {
+        drained: AtomicU64::new(0),
+        posted: AtomicU64::new(0),
+    };
+    let outcome = race_queues(&rt, rt.alloc(), workers, scripts, &gate)?;
+    let record = outcome.records.first().ok_or("two records")?;
+    let stale = entry(
+        0,
+        Call::Take { from: 1 },
+        took(1, block, Err(Refusal::Stale)),
+    );
+    let found = (
+        record.len(),
+        record.get(1024).copied(),
+        record.get(1025).copied(),
+        record.get(1026).copied(),
+        record.get(1027).copied(),
+    );
+    let wanted = (
+        1028,
+        Some(entry(0, drains[0], Reply::Drained(1024))),
+        Some(stale),
+        Some(entry(0, drains[1], Reply::Drained(1))),
         Some(last(0, 0)),
     );
     same(found, wanted).expect(&rt, "differ");

@@ -289,13 +289,20 @@ impl InTurn {
 
     /// Turns until a flag is set.
     fn wait_for(&self, flag: &AtomicU64) {
-        for _ in 0..TURNS {
-            if flag.load(Ordering::SeqCst) == 1 {
-                return;
-            }
+        if !is_set_in_time(flag) {
+            self.missed.store(1, Ordering::SeqCst);
         }
-        self.missed.store(1, Ordering::SeqCst);
     }
+}
+
+/// Turns until a flag is set, and says whether it was.
+pub(crate) fn is_set_in_time(flag: &AtomicU64) -> bool {
+    for _ in 0..TURNS {
+        if flag.load(Ordering::SeqCst) == 1 {
+            return true;
+        }
+    }
+    false
 }
 
 impl Gate for InTurn {

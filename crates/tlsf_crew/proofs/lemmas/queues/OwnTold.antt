@@ -1,5 +1,5 @@
 -- A call that a worker's own heap replied to is told as in a world in which the worker has that heap.
-use Rattle.std.proofs.Common.{[], ◌∷◌, ◌++◌, ◌≡◌, ◌≢◌, ℕ, ◌<◌, ◌≤◌, List, Option, Some, None, length, sym, ◌∙◌, ap, arith, refl}
+use Rattle.std.proofs.Common.{[], ◌∷◌, ◌++◌, ◌≡◌, ◌≢◌, ℕ, ◌<◌, ◌≤◌, List, Option, Some, None, sym, ◌∙◌, ap, arith, refl}
 use Rattle.tlsf_heap.specs.Blocks.{HeapState}
 use Rattle.tlsf_heap.specs.declared.name.Name.{Name}
 use Rattle.tlsf_calls.specs.Bytes.{bytes_of}
@@ -11,10 +11,9 @@ use Rattle.tlsf_calls.specs.declared.target.Target.{Target}
 use Rattle.tlsf_calls.specs.declared.reply.Reply.{Reply}
 use Rattle.tlsf_calls.specs.declared.reply.Reply.TheVariants.{Posted, Refused}
 use Rattle.tlsf_calls.specs.declared.crew_refusal.CrewRefusal.TheVariants.{Full, Stranger, Unmade}
-use Rattle.tlsf_crew.specs.yard.Heaps.{allocated, released, written, resized, chunk_read}
-use Rattle.tlsf_crew.specs.yard.OwnReplies.{own_allocating, own_freeing, own_writing, own_reading, own_resizing}
+use Rattle.tlsf_crew.specs.yard.OwnReplies.{OwnReplied, own_allocating, own_freeing, own_writing, own_reading, own_resizing}
 use Rattle.tlsf_crew.specs.yard.Told.{HasHeap, MayTell, told_by}
-use Rattle.tlsf_crew.specs.yard.World.{World, Replied, allocating, answered, called, heap_in, made_by, name_of, reading_named, releasing, releasing_named, reply_freed, reply_got, reply_made, reply_resized, reply_wrote, resizing_named, writing_named}
+use Rattle.tlsf_crew.specs.yard.World.{World, Replied, answered, by_own, called, heap_in, made_by, name_of, releasing, releasing_named}
 use Rattle.tlsf_crew.specs.queues.QueueMoves.{TellsOwn, entry_by, told_of}
 use Rattle.tlsf_crew.proofs.lemmas.yard.OneEvent.{releasing_post, releasing_far}
 use Rattle.tlsf_crew.proofs.lemmas.yard.OwnAnswers.{own_name, posted_world, full_world}
@@ -41,59 +40,36 @@ told_where n at h g made entries call reply w x has is a = (w, has, ap (told_by 
 
 -- ---- allocate, write, read, resize
 
-pub allocate_tells : (sli : ℕ) (made : List (Option Name)) (h g : HeapState) (len : ℕ) (reply : Reply) → reply ≡ (own_allocating sli h len).reply → g ≡ (own_allocating sli h len).heap → TellsOwn sli made h (Allocate len) g reply
-allocate_tells sli made h g len reply e f n at entries lt =
+-- what the own heap replies
+answers_by_own : {sli : ℕ} (n at : ℕ) (w : World sli) (h : HeapState) (by : HeapState → OwnReplied) → at < n → HasHeap w n at h → AnswersBy at (by_own w at by) (by h).reply (by h).heap
+answers_by_own n at w h by lt has = record {
+  same = ap (λ (x : HeapState). (by x).reply) (sym has.1);
+  left = heap_left n at w h (by (heap_in w at)).heap lt has ∙ ap (λ (x : HeapState). (by x).heap) has.1;
+}
+
+own_tells : (sli : ℕ) (made : List (Option Name)) (h g : HeapState) (call : Call) (reply : Reply) (by : HeapState → OwnReplied)
+    → ((at : ℕ) (entries : List Entry) (w : World sli) → called (record { made = made; entries = entries; world = w }) at call ≡ answered (record { made = made; entries = entries; world = w }) at call (by_own w at by))
+    → reply ≡ (by h).reply → g ≡ (by h).heap → TellsOwn sli made h call g reply
+own_tells sli made h g call reply by is e f n at entries lt =
     let w = quiet_world {sli = sli} n at h in
     let has = world_has sli n at h (λ i. []) 1 lt in
-    told_where n at h g made entries (Allocate len) reply w (allocating w at len) has refl (record {
-      same = e ∙ ap (λ (x : HeapState). reply_made (allocated sli x len).answer) (sym has.1);
-      left = heap_left n at w h (allocated sli (heap_in w at) len).heap lt has ∙ (ap (λ (x : HeapState). (allocated sli x len).heap) has.1 ∙ sym f);
-    })
+    let a = answers_by_own n at w h by lt has in
+    told_where n at h g made entries call reply w (by_own w at by) has (is at entries w) (record { same = e ∙ a.same; left = a.left ∙ sym f })
 
-writing_here : {sli : ℕ} (n at : ℕ) (w : World sli) (h : HeapState) (o : Option Name) (from : ℕ) (bytes : List ℕ) → at < n → HasHeap w n at h
-    → ((own_writing h o from bytes).reply ≡ (writing_named w at o from bytes).reply) × (heap_in (writing_named w at o from bytes).world at ≡ (own_writing h o from bytes).heap)
-writing_here n at w h None from bytes lt has = (refl, has.1)
-writing_here n at w h (Some name) from bytes lt has = (
-  ap (λ (x : HeapState). reply_wrote (length bytes) (written x name from bytes).answer) (sym has.1),
-  heap_left n at w h (written (heap_in w at) name from bytes).heap lt has ∙ ap (λ (x : HeapState). (written x name from bytes).heap) has.1,
-)
+pub allocate_tells : (sli : ℕ) (made : List (Option Name)) (h g : HeapState) (len : ℕ) (reply : Reply) → reply ≡ (own_allocating sli h len).reply → g ≡ (own_allocating sli h len).heap → TellsOwn sli made h (Allocate len) g reply
+allocate_tells sli made h g len reply = own_tells sli made h g (Allocate len) reply (λ x. own_allocating sli x len) (λ at entries w. refl)
 
 pub write_tells : (sli : ℕ) (made : List (Option Name)) (h g : HeapState) (target : Target) (from : ℕ) (bytes : Chunk) (reply : Reply)
     → reply ≡ (own_writing h (name_of made target) from (bytes_of bytes)).reply → g ≡ (own_writing h (name_of made target) from (bytes_of bytes)).heap → TellsOwn sli made h (Write target from bytes) g reply
-write_tells sli made h g target from bytes reply e f n at entries lt =
-    let w = quiet_world {sli = sli} n at h in
-    let has = world_has sli n at h (λ i. []) 1 lt in
-    let x = writing_here n at w h (name_of made target) from (bytes_of bytes) lt has in
-    told_where n at h g made entries (Write target from bytes) reply w (writing_named w at (name_of made target) from (bytes_of bytes)) has refl (record { same = e ∙ x.0; left = x.1 ∙ sym f })
-
-reading_here : {sli : ℕ} (n at : ℕ) (w : World sli) (h : HeapState) (o : Option Name) (from k : ℕ) → HasHeap w n at h
-    → ((own_reading h o from k).reply ≡ (reading_named w at o from k).reply) × (heap_in (reading_named w at o from k).world at ≡ (own_reading h o from k).heap)
-reading_here n at w h None from k has = (refl, has.1)
-reading_here n at w h (Some name) from k has = (ap (λ (x : HeapState). reply_got (chunk_read x name from k)) (sym has.1), has.1)
+write_tells sli made h g target from bytes reply = own_tells sli made h g (Write target from bytes) reply (λ x. own_writing x (name_of made target) from (bytes_of bytes)) (λ at entries w. refl)
 
 pub read_tells : (sli : ℕ) (made : List (Option Name)) (h g : HeapState) (target : Target) (from k : ℕ) (reply : Reply)
     → reply ≡ (own_reading h (name_of made target) from k).reply → g ≡ (own_reading h (name_of made target) from k).heap → TellsOwn sli made h (Read target from k) g reply
-read_tells sli made h g target from k reply e f n at entries lt =
-    let w = quiet_world {sli = sli} n at h in
-    let has = world_has sli n at h (λ i. []) 1 lt in
-    let x = reading_here n at w h (name_of made target) from k has in
-    told_where n at h g made entries (Read target from k) reply w (reading_named w at (name_of made target) from k) has refl (record { same = e ∙ x.0; left = x.1 ∙ sym f })
-
-resizing_here : {sli : ℕ} (n at : ℕ) (w : World sli) (h : HeapState) (o : Option Name) (len : ℕ) → at < n → HasHeap w n at h
-    → ((own_resizing h o len).reply ≡ (resizing_named w at o len).reply) × (heap_in (resizing_named w at o len).world at ≡ (own_resizing h o len).heap)
-resizing_here n at w h None len lt has = (refl, has.1)
-resizing_here n at w h (Some name) len lt has = (
-  ap (λ (x : HeapState). reply_resized (resized x name len).answer) (sym has.1),
-  heap_left n at w h (resized (heap_in w at) name len).heap lt has ∙ ap (λ (x : HeapState). (resized x name len).heap) has.1,
-)
+read_tells sli made h g target from k reply = own_tells sli made h g (Read target from k) reply (λ x. own_reading x (name_of made target) from k) (λ at entries w. refl)
 
 pub resize_tells : (sli : ℕ) (made : List (Option Name)) (h g : HeapState) (target : Target) (len : ℕ) (reply : Reply)
     → reply ≡ (own_resizing h (name_of made target) len).reply → g ≡ (own_resizing h (name_of made target) len).heap → TellsOwn sli made h (Resize target len) g reply
-resize_tells sli made h g target len reply e f n at entries lt =
-    let w = quiet_world {sli = sli} n at h in
-    let has = world_has sli n at h (λ i. []) 1 lt in
-    let x = resizing_here n at w h (name_of made target) len lt has in
-    told_where n at h g made entries (Resize target len) reply w (resizing_named w at (name_of made target) len) has refl (record { same = e ∙ x.0; left = x.1 ∙ sym f })
+resize_tells sli made h g target len reply = own_tells sli made h g (Resize target len) reply (λ x. own_resizing x (name_of made target) len) (λ at entries w. refl)
 
 -- ---- release
 
@@ -124,12 +100,13 @@ free_tells sli n at h g made entries target name reply lt known own e f =
     let w = quiet_world {sli = sli} n at h in
     let has = world_has sli n at h (λ i. []) 1 lt in
     let is = own_name w at name own in
+    let a = answers_by_own n at w h (λ x. own_freeing x name) lt has in
     release_told_named n at h g made entries target name reply known (record {
       world = w;
       has = has;
       answers = record {
-        same = e ∙ (ap (λ (x : HeapState). reply_freed (released x name).answer) (sym has.1) ∙ ap (λ (r : Replied sli). r.reply) (sym is));
-        left = ap (λ (r : Replied sli). heap_in r.world at) is ∙ (heap_left n at w h (released (heap_in w at) name).heap lt has ∙ (ap (λ (x : HeapState). (released x name).heap) has.1 ∙ sym f));
+        same = e ∙ (a.same ∙ ap (λ (r : Replied sli). r.reply) (sym is));
+        left = ap (λ (r : Replied sli). heap_in r.world at) is ∙ (a.left ∙ sym f);
       };
     })
 

@@ -1,11 +1,13 @@
--- Two races over queues of the same scripts, which take no post, are the same where no worker met a full queue and each queue has one poster.
-use Rattle.std.proofs.Common.{[], ◌∷◌, ◌++◌, ◌≡◌, ◌≢◌, ℕ, ◌+◌, ◌<◌, ◌≤◌, List, Option, Some, None, length, sym, ◌∙◌, ap, arith, refl, inl, inr, subst, append_assoc, append-nil}
+-- Two races over queues of the same scripts, which take no post, are the same where each queue has one poster, and of more than two workers
+-- none met a full queue.
+use Rattle.std.proofs.Common.{[], ◌∷◌, ◌++◌, ◌≡◌, ◌≢◌, ℕ, ◌+◌, ◌-◌, ◌<◌, ◌≤◌, List, Option, Some, None, length, sym, ◌∙◌, ap, arith, refl, inl, inr, subst, append_assoc, append-nil, length-append}
 use Rattle.std.specs.List.{AllByRecursion, cons_option, fold}
-use Rattle.std.proofs.lemmas.Bool.{cases_eq}
+use Rattle.std.proofs.lemmas.Bool.{cases_eq, cases_lt}
 use Rattle.std.proofs.lemmas.List.{ext_get_or}
 use Rattle.tlsf_heap.specs.declared.name.Name.{Name}
 use Rattle.tlsf_post.specs.Rule.{posts_of}
 use Rattle.tlsf_post.specs.declared.post.Post.{Post}
+use Rattle.tlsf_post.proofs.RuleSteps.{parts}
 use Rattle.tlsf_calls.specs.declared.call.Call.{Call}
 use Rattle.tlsf_calls.specs.declared.call.Call.TheVariants.{Allocate, Release, Write, Read, Resize, Take, Drain}
 use Rattle.tlsf_calls.specs.declared.entry.Entry.{Entry}
@@ -13,17 +15,18 @@ use Rattle.tlsf_calls.specs.declared.reply.Reply.TheVariants.{Drained}
 use Rattle.tlsf_crew.specs.yard.Yard.{no_heap}
 use Rattle.tlsf_crew.specs.yard.World.{World, after, begun, heap_in}
 use Rattle.tlsf_crew.specs.yard.Told.{Told, MayTell, MayTellAll, told_by, untold}
-use Rattle.tlsf_crew.specs.yard.History.{post_of_release, post_of_take, posts_made, posts_taken}
+use Rattle.tlsf_crew.specs.yard.History.{post_of_release, posts_made, posts_taken}
 use Rattle.tlsf_crew.specs.threads.Alone.{OnlyLastDrains, TakesNoPost}
 use Rattle.tlsf_crew.specs.threads.Race.{events_by, last_call, record_of, script_of}
 use Rattle.tlsf_crew.specs.queues.QueueAlone.{IsUncontendedRace, MeetsNoFull, QueueRaceIsOne}
+use Rattle.tlsf_crew.specs.queues.QueueRace.{IsQueueRace}
 use Rattle.tlsf_crew.specs.queues.QueueTold.{MayTellQueue, MayTellQueueAll, told_reply, told_takes}
 use Rattle.tlsf_crew.proofs.lemmas.yard.JoinedEntries.{told_nothing, told_other, told_own}
 use Rattle.tlsf_crew.proofs.lemmas.yard.LaneChanges.{same_world}
-use Rattle.tlsf_crew.proofs.lemmas.yard.ManyEntries.{count_made, made_then, taken_then}
+use Rattle.tlsf_crew.proofs.lemmas.yard.ManyEntries.{count_made, made_then}
 use Rattle.tlsf_crew.proofs.lemmas.threads.AloneRuns.{HasLanes, IsAlone, alone_runs, alone_told, none_taken}
 use Rattle.tlsf_crew.proofs.lemmas.threads.TwoRecords.{each_post_same}
-use Rattle.tlsf_crew.proofs.lemmas.queues.QueueTakes.{same_posts, takes_add, takes_make, takes_name, takes_take}
+use Rattle.tlsf_crew.proofs.lemmas.queues.QueueTakes.{DrainTold, drain_entry, end_takes, same_posts, takes_add, takes_make, takes_name}
 
 -- ---- one worker
 
@@ -50,13 +53,6 @@ queue_turn sli n at start end (call ∷ calls) free m =
 
 -- ---- what the last drain leaves
 
--- a drain of these posts was told
-abbrev DrainTold : ℕ → Told → List Post → Told → Type 0
-DrainTold at s posts end = end ≡ told_reply at (told_takes at s posts) last_call (Drained (length posts))
-
-abbrev drain_entry : ℕ → List Post → Entry
-drain_entry at posts = record { worker = at; call = last_call; reply = Drained (length posts) }
-
 end_adds : (at : ℕ) (s end : Told) (posts : List Post) → DrainTold at s posts end → (own : List Entry) × (end.entries ≡ s.entries ++ own)
 end_adds at s end posts told =
     let x = drain_entry at posts in
@@ -73,15 +69,6 @@ end_posts i j at s end posts told =
     ap (λ (t : Told). posts_made i j t.made t.entries) told ∙ (made_then i j longer t.entries (x ∷ []) ∙ (ap (λ l. posts_made i j longer t.entries ++ l) none
     ∙ (append-nil (posts_made i j longer t.entries) ∙ (each_post_same i j t.made t.entries
     ∙ (ap (λ made. posts_made i j made t.entries) (takes_name at posts s) ∙ takes_make i j at s.made posts s)))))
-
--- what it took, it took in the drain
-end_taken : (i at : ℕ) (s end : Told) (posts : List Post) → DrainTold at s posts end → posts_taken i at s.entries ≡ [] → posts_taken i at end.entries ≡ posts_of i posts
-end_taken i at s end posts told none =
-    let x = drain_entry at posts in
-    let t = told_takes at s posts in
-    let quiet = told_nothing (λ e. post_of_take i e.call e.reply) at x refl in
-    ap (λ (t : Told). posts_taken i at t.entries) told ∙ (taken_then i at t.entries (x ∷ []) ∙ (ap (λ l. posts_taken i at t.entries ++ l) quiet
-    ∙ (append-nil (posts_taken i at t.entries) ∙ (takes_take i at posts s ∙ ap (λ l. l ++ posts_of i posts) none))))
 
 -- its script met no full queue
 script_meets_none : (at : ℕ) (s end : Told) (posts : List Post) → DrainTold at s posts end → MeetsNoFull end.entries → MeetsNoFull s.entries
@@ -116,19 +103,16 @@ lanes_hold w i capacity made es few meets = record {
   full = λ j j_in ne before e name stands reply here. absurd (meets before e name stands reply);
 }
 
-script_told : {sli : ℕ} (w : World sli) (i capacity : ℕ) (script : List Call) (s : Told) → i < length w.heaps → AllByRecursion TakesNoPost script → MayTellAll sli (length w.heaps) i (untold (heap_in w i)) script s
-    → length s.entries ≤ capacity → MeetsNoFull s.entries → told_by i (fold after (begun (without_posts w capacity)) (events_by i script)) ≡ s
-script_told {sli} w i capacity script s i_in free m few meets =
-    let x = without_posts w capacity in
-    let start : IsAlone x i s.made (untold (heap_in w i)) (begun x) = record { names = refl; entries = refl; heap = refl; count = refl; capacity = refl; waits = λ j. refl } in
-    alone_told x i s.made s (fold after (begun x) (events_by i script))
-    (alone_runs x i s (untold (heap_in w i)) script (begun x) (lanes_hold w i capacity s.made s.entries few meets) i_in free m start)
+-- over lanes that fit what it was told, a script is told so
+script_told : {sli : ℕ} (x : World sli) (i : ℕ) (script : List Call) (s : Told) → i < length x.heaps → AllByRecursion TakesNoPost script → MayTellAll sli (length x.heaps) i (untold (heap_in x i)) script s
+    → HasLanes x i s.made s.entries → told_by i (fold after (begun x) (events_by i script)) ≡ s
+script_told {sli} x i script s i_in free m lanes =
+    let start : IsAlone x i s.made (untold (heap_in x i)) (begun x) = record { names = refl; entries = refl; heap = refl; count = refl; capacity = refl; waits = λ j. sym (append-nil (x.waiting i j)) } in
+    alone_told x i s.made s (fold after (begun x) (events_by i script)) (alone_runs x i s (untold (heap_in x i)) script (begun x) lanes i_in free m start)
 
-same_script : {sli : ℕ} (w : World sli) (i : ℕ) (script : List Call) (s t : Told) → i < length w.heaps → AllByRecursion TakesNoPost script → MayTellAll sli (length w.heaps) i (untold (heap_in w i)) script s
-    → MayTellAll sli (length w.heaps) i (untold (heap_in w i)) script t → MeetsNoFull s.entries → MeetsNoFull t.entries → s ≡ t
-same_script w i script s t i_in free m k one two =
-    let capacity = length s.entries + length t.entries in
-    sym (script_told w i capacity script s i_in free m (omega arith) one) ∙ script_told w i capacity script t i_in free k (omega arith) two
+same_script : {sli : ℕ} (x : World sli) (i : ℕ) (script : List Call) (s t : Told) → i < length x.heaps → AllByRecursion TakesNoPost script → MayTellAll sli (length x.heaps) i (untold (heap_in x i)) script s
+    → MayTellAll sli (length x.heaps) i (untold (heap_in x i)) script t → HasLanes x i s.made s.entries → HasLanes x i t.made t.entries → s ≡ t
+same_script x i script s t i_in free m k one two = sym (script_told x i script s i_in free m one) ∙ script_told x i script t i_in free k two
 
 -- ---- one race
 
@@ -142,10 +126,10 @@ turn_of {sli} w v scripts records race free j j_in =
     queue_turn sli (length w.heaps) j (untold (heap_in w j)) (told_in w v scripts records race j) (script_of scripts j) (free j) (race.race.legal j j_in)
 
 meets_none : {sli : ℕ} (w v : World sli) (scripts : List (List Call)) (records : List (List Entry)) (race : IsUncontendedRace w scripts records v) (free : OnlyLastDrains scripts) (j : ℕ) (j_in : j < length w.heaps)
-    → MeetsNoFull (turn_of w v scripts records race free j j_in).between.entries
-meets_none w v scripts records race free j j_in =
+    → 2 < length w.heaps → MeetsNoFull (turn_of w v scripts records race free j j_in).between.entries
+meets_none w v scripts records race free j j_in many =
     let t = turn_of w v scripts records race free j j_in in
-    script_meets_none j t.between (told_in w v scripts records race j) t.last.0 t.last.3 (race.posted j j_in)
+    script_meets_none j t.between (told_in w v scripts records race j) t.last.0 t.last.3 (race.posted many j j_in)
 
 -- what worker j took of worker i in its last drain is what its record tells
 drained_is : {sli : ℕ} (w v : World sli) (scripts : List (List Call)) (records : List (List Entry)) (race : IsUncontendedRace w scripts records v) (free : OnlyLastDrains scripts) (i j : ℕ) (j_in : j < length w.heaps)
@@ -153,7 +137,7 @@ drained_is : {sli : ℕ} (w v : World sli) (scripts : List (List Call)) (records
 drained_is {sli} w v scripts records race free i j j_in =
     let t = turn_of w v scripts records race free j j_in in
     let none = none_taken sli (length w.heaps) i j j (untold (heap_in w j)) t.between (script_of scripts j) j_in (free j) t.ran refl in
-    end_taken i j t.between (told_in w v scripts records race j) t.last.0 t.last.3 none
+    end_takes i j t.between (told_in w v scripts records race j) t.last.0 t.last.3 ∙ ap (λ l. l ++ posts_of i t.last.0) none
 
 -- all that had waited, and all that i posted
 drained : {sli : ℕ} (w v : World sli) (scripts : List (List Call)) (records : List (List Entry)) (race : IsUncontendedRace w scripts records v) (free : OnlyLastDrains scripts)
@@ -164,6 +148,28 @@ drained w v scripts records race free i j i_in j_in ne =
     let t = turn_of w v scripts records race free i i_in in
     sym (drained_is w v scripts records race free i j j_in) ∙ (sym (race.race.agree i j i_in j_in ne).posts
     ∙ ap (λ l. w.waiting i j ++ l) (end_posts i j i t.between (told_in w v scripts records race i) t.last.0 t.last.3))
+
+-- of two workers each was told what lanes of the queues' capacity would have told it
+two_lanes : {sli : ℕ} (w v : World sli) (scripts : List (List Call)) (records : List (List Entry)) (race : IsUncontendedRace w scripts records v) (free : OnlyLastDrains scripts) (i : ℕ) (i_in : i < length w.heaps)
+    → length w.heaps ≤ 2 → HasLanes w i (turn_of w v scripts records race free i i_in).between.made (turn_of w v scripts records race free i i_in).between.entries
+two_lanes {sli} w v scripts records race free i i_in few =
+    let one = race.race in
+    let t = turn_of w v scripts records race free i i_in in
+    let end = told_in w v scripts records race i in
+    let names : (j : ℕ) (es : List Entry) → posts_made i j (one.made i) es ≡ posts_made i j t.between.made es
+    = λ j es. ap (λ (u : Told). posts_made i j u.made es) t.last.3 ∙ (each_post_same i j (told_takes i t.between t.last.0).made es ∙ ap (λ made. posts_made i j made es) (takes_name i t.last.0 t.between)) in
+    record {
+      room = λ j j_in ne.
+          let u = turn_of w v scripts records race free j j_in in
+          let most = one.last j j_in (told_takes j u.between u.last.0).entries (length u.last.0) (ap (λ (t : Told). t.entries) u.last.3) in
+          let all = drained w v scripts records race free i j i_in j_in ne in
+          omega (arith, most, ap length all, length-append (w.waiting i j) (posts_made i j t.between.made t.between.entries), parts i u.last.0);
+      full = λ j j_in ne before e name stands reply here.
+          let agree = one.agree i j i_in j_in ne in
+          let more = end_adds i t.between end t.last.0 t.last.3 in
+          let found = agree.full (omega (arith, few, i_in, j_in, ne)) before e name (stands.0 ++ more.0, more.1 ∙ (ap (λ l. l ++ more.0) stands.1 ∙ append_assoc before (e ∷ stands.0) more.0)) reply here in
+          omega (arith, found, ap length (names j before));
+    }
 
 -- ---- two races
 
@@ -177,7 +183,16 @@ told_same {sli} w v u scripts records others race other free j j_in =
     = λ i i_in.
     let s = turn_of w v scripts records race free i i_in in
     let t = turn_of w u scripts others other free i i_in in
-    same_script w i (script_of scripts i) s.between t.between i_in (free i) s.ran t.ran (meets_none w v scripts records race free i i_in) (meets_none w u scripts others other free i i_in) in
+    elim (cases_lt 2 n) [
+      | inl many ↦
+          let capacity = length s.between.entries + length t.between.entries in
+          same_script (without_posts w capacity) i (script_of scripts i) s.between t.between i_in (free i) s.ran t.ran
+          (lanes_hold w i capacity s.between.made s.between.entries (omega arith) (meets_none w v scripts records race free i i_in many))
+          (lanes_hold w i capacity t.between.made t.between.entries (omega arith) (meets_none w u scripts others other free i i_in many))
+      | inr few ↦
+          same_script w i (script_of scripts i) s.between t.between i_in (free i) s.ran t.ran
+          (two_lanes w v scripts records race free i i_in few) (two_lanes w u scripts others other free i i_in few)
+    ] in
     let alone = race.alone j j_in in
     let posts : one.last.0 ≡ two.last.0
     = same_posts n j alone.0 one.last.0 two.last.0 one.last.1 two.last.1
@@ -197,3 +212,11 @@ queue_race_is_one sli w v u scripts records others free race other =
           (ext_get_or no_heap v.heaps u.heaps (one.heaps ∙ sym two.heaps) (λ j lt. ap (λ (t : Told). t.heap) (same j (omega (arith, lt, one.heaps)))))
           (λ i j. one.taken i j ∙ sym (two.taken i j)) (one.capacity ∙ sym two.capacity),
     )
+
+-- of two workers each queue has one poster
+pub two_uncontended : {sli : ℕ} (w v : World sli) (scripts : List (List Call)) (records : List (List Entry)) → length w.heaps ≤ 2 → IsQueueRace w scripts records v → IsUncontendedRace w scripts records v
+two_uncontended w v scripts records few race = record {
+  race = race;
+  posted = λ many. absurd (omega arith);
+  alone = λ j j_in. (1 - j, λ i i_in ne apart. absurd (omega arith));
+}

@@ -6,9 +6,12 @@ use Rattle.tlsf_post.specs.Mailboxes.{KeepsPoster, KeepsOwner}
 use Rattle.tlsf_post.specs.declared.owner_end.OwnerEnd.{OwnerEnd}
 use Rattle.tlsf_post.specs.declared.poster_end.PosterEnd.{PosterEnd}
 use Rattle.tlsf_post.specs.declared.post.Post.{Post}
-use Rattle.tlsf_crew.specs.declared.queues.queue_worker.QueueWorker.{QueueWorker}
-use Rattle.tlsf_crew.specs.queues.QueueWorkers.{queue_heap, queue_end_to, KnowsQueueYard, KeepsSlot, KeepsQueueYards, SameButQueueHeap, PutToQueue, TookFromQueue}
-use Rattle.tlsf_crew.proofs.lemmas.yard.OwnHeaps.{KeepsHeap, same_heap_keeps}
+use Rattle.tlsf_crew.specs.declared.worker.Worker.{Worker}
+use Rattle.tlsf_crew.specs.declared.queues.queues.Queues.{Queues}
+use Rattle.tlsf_crew.specs.yard.Workers.{heap_of, SameButHeap, KeepsHeap}
+use Rattle.tlsf_crew.specs.queues.QueueWorkers.{queue_to, queue_end_to, KnowsQueueYard, KeepsSlot, KeepsQueueYards, PutToQueue, TookFromQueue}
+use Rattle.tlsf_crew.proofs.lemmas.yard.OwnHeaps.{same_heap_keeps}
+use Rattle.tlsf_crew.proofs.lemmas.yard.SameParts.{ports_heap}
 use Rattle.tlsf_crew.proofs.lemmas.yard.Slots.{some_same}
 
 -- ---- ends
@@ -21,7 +24,7 @@ owner_then o m n x y = (y.0 ∙ x.0, y.1 ∙ x.1, y.2 ∙ x.2, y.3 ∙ x.3, y.4 
 
 pub slot_same : (o : Option PosterEnd) → KeepsSlot o o
 slot_same None = tt
-slot_same (Some p) = (refl, refl)
+slot_same (Some p) = (refl, refl, refl, refl)
 
 slot_is : (o s : Option PosterEnd) → s ≡ o → KeepsSlot o s
 slot_is o s e = subst (KeepsSlot o) (sym e) (slot_same o)
@@ -32,7 +35,7 @@ slot_then None None (Some r) x y = y
 slot_then None (Some q) t x y = absurd x
 slot_then (Some p) None t x y = absurd x
 slot_then (Some p) (Some q) None x y = y
-slot_then (Some p) (Some q) (Some r) x y = (y.0 ∙ x.0, y.1 ∙ x.1)
+slot_then (Some p) (Some q) (Some r) x y = (y.0 ∙ x.0, y.1 ∙ x.1, y.2 ∙ x.2, y.3 ∙ x.3)
 
 -- an end that stays
 pub slot_kept : (o s : Option PosterEnd) (p : PosterEnd) → KeepsSlot o s → o ≡ Some p → (q : PosterEnd) × (s ≡ Some q) × KeepsPoster p q
@@ -47,46 +50,46 @@ slot_none (Some p) s k e = absurd cc
 
 -- ---- places in a yard
 
-pub keeps_heap : {sli : ℕ} (a v : QueueWorker sli) → SameButQueueHeap a v → KeepsHeap (queue_heap a) (queue_heap v) → KeepsQueueYards a v
+pub keeps_heap : {sli : ℕ} (a v : Worker sli Queues) → SameButHeap a v → KeepsHeap (heap_of a) (heap_of v) → KeepsQueueYards a v
 keeps_heap a v same kept = record {
   number = same.0;
   heap = kept;
-  own = same_owner a.own v.own same.1;
-  posts = λ j. slot_is (queue_end_to a j) (queue_end_to v j) (ap (λ f. f j) same.2);
+  own = same_owner a.ports.own v.ports.own (λ t. (same.1 t).own);
+  posts = λ j. slot_is (queue_end_to a j) (queue_end_to v j) (λ t. queue_to (same.1 t) j);
 }
 
-pub keeps_all : {sli : ℕ} (a : QueueWorker sli) → KeepsQueueYards a a
-keeps_all a = keeps_heap a a (refl, refl, refl) (same_heap_keeps (queue_heap a) (queue_heap a) refl)
+pub keeps_all : {sli : ℕ} (a : Worker sli Queues) → KeepsQueueYards a a
+keeps_all a = keeps_heap a a (refl, refl) (same_heap_keeps (heap_of a) (heap_of a) refl)
 
-pub keeps_put : {sli : ℕ} (a v : QueueWorker sli) (j : ℕ) (name : Name) (answer : Result (Unit {0}) Name) → PutToQueue a v j name answer → KeepsQueueYards a v
+pub keeps_put : {sli : ℕ} (a v : Worker sli Queues) (j : ℕ) (name : Name) (answer : Result (Unit {0}) Name) → PutToQueue a v j name answer → KeepsQueueYards a v
 keeps_put a v j name answer put = record {
-  number = put.same.1;
-  heap = same_heap_keeps (queue_heap a) (queue_heap v) put.same.0;
-  own = same_owner a.own v.own put.same.2;
+  number = put.0.0;
+  heap = same_heap_keeps (heap_of a) (heap_of v) (ports_heap a v put.0);
+  own = same_owner a.ports.own v.ports.own put.1.same;
   posts = λ k. elim (cases_eq k j) [
-    | inl e ↦ rw (e, put.end_is, put.new_end_is) put.mailbox
-    | inr e ↦ slot_is (queue_end_to a k) (queue_end_to v k) (put.others k e)
+    | inl e ↦ rw (e, put.1.end_is, put.1.new_end_is) put.1.mailbox
+    | inr e ↦ slot_is (queue_end_to a k) (queue_end_to v k) (put.1.others k e)
   ];
 }
 
-pub keeps_take : {sli : ℕ} (a v : QueueWorker sli) (answer : Option Post) → TookFromQueue a v answer → KeepsQueueYards a v
+pub keeps_take : {sli : ℕ} (a v : Worker sli Queues) (answer : Option Post) → TookFromQueue a v answer → KeepsQueueYards a v
 keeps_take a v answer took = record {
-  number = took.same.1;
-  heap = same_heap_keeps (queue_heap a) (queue_heap v) took.same.0;
-  own = took.mailbox;
-  posts = λ k. slot_is (queue_end_to a k) (queue_end_to v k) (ap (λ f. f k) took.same.2);
+  number = took.0.0;
+  heap = same_heap_keeps (heap_of a) (heap_of v) (ports_heap a v took.0);
+  own = took.1.mailbox;
+  posts = λ k. slot_is (queue_end_to a k) (queue_end_to v k) (ap (λ f. f k) took.1.same);
 }
 
-pub keeps_then : {sli : ℕ} (a b v : QueueWorker sli) → KeepsQueueYards a b → KeepsQueueYards b v → KeepsQueueYards a v
+pub keeps_then : {sli : ℕ} (a b v : Worker sli Queues) → KeepsQueueYards a b → KeepsQueueYards b v → KeepsQueueYards a v
 keeps_then a b v x y = record {
   number = y.number ∙ x.number;
   heap = (y.heap.0 ∙ x.heap.0, λ lawful. y.heap.1 (x.heap.1 lawful));
-  own = owner_then a.own b.own v.own x.own y.own;
+  own = owner_then a.ports.own b.ports.own v.ports.own x.own y.own;
   posts = λ j. slot_then (queue_end_to a j) (queue_end_to b j) (queue_end_to v j) (x.posts j) (y.posts j);
 }
 
 -- a worker that knows its yard goes on knowing it
-pub knows_kept : {sli : ℕ} (n : ℕ) (a v : QueueWorker sli) → KeepsQueueYards a v → KnowsQueueYard n a → KnowsQueueYard n v
+pub knows_kept : {sli : ℕ} (n : ℕ) (a v : Worker sli Queues) → KeepsQueueYards a v → KnowsQueueYard n a → KnowsQueueYard n v
 knows_kept n a v keeps k = record {
   few = k.few;
   self = omega (arith, keeps.number, k.self);

@@ -14,8 +14,10 @@ use Rattle.tlsf_calls.specs.declared.entry.Entry.{Entry}
 use Rattle.tlsf_calls.specs.declared.reply.Reply.TheVariants.{Drained}
 use Rattle.tlsf_crew.specs.threads.Race.{last_call, record_of}
 use Rattle.tlsf_crew.specs.yard.History.{posts_taken, post_of_take}
-use Rattle.tlsf_crew.specs.declared.queues.queue_worker.QueueWorker.{QueueWorker}
-use Rattle.tlsf_crew.specs.queues.QueueWorkers.{queue_id, queue_end_to, KeepsQueueYards, KnowsQueueYard}
+use Rattle.tlsf_crew.specs.declared.worker.Worker.{Worker}
+use Rattle.tlsf_crew.specs.declared.queues.queues.Queues.{Queues}
+use Rattle.tlsf_crew.specs.yard.Workers.{id_of}
+use Rattle.tlsf_crew.specs.queues.QueueWorkers.{queue_end_to, KeepsQueueYards, KnowsQueueYard}
 use Rattle.tlsf_crew.specs.queues.QueueYard.{IsQueueYard}
 use Rattle.tlsf_crew.specs.queues.QueueMoves.{QueueStepped, entry_by}
 use Rattle.tlsf_crew.specs.queues.QueueTasks.{DrainedLast, QueuesDrained}
@@ -28,14 +30,14 @@ use Rattle.tlsf_crew.proofs.lemmas.queues.QueueYards.{all_kept}
 
 -- ---- one worker
 
-pub drained_last : {sli : ℕ} (n : ℕ) (a v : QueueWorker sli) (limit left at taken : ℕ) (entries between longer : List Entry) → taken ≤ limit → limit < 8192 → at ≡ queue_id v
+pub drained_last : {sli : ℕ} (n : ℕ) (a v : Worker sli Queues) (limit left at taken : ℕ) (entries between longer : List Entry) → taken ≤ limit → limit < 8192 → at ≡ id_of v
     → ((made : List (Option Name)) → QueueStepped n a limit last_call made entries v left between (Drained taken)) → queue_end_to v ≡ queue_end_to a
     → longer ≡ between ++ record { worker = at; call = last_call; reply = Drained taken } ∷ [] → DrainedLast n a v entries longer
 drained_last n a v limit left at taken entries between longer few less is step ends more =
     let x = step [] in
     let m = x.moved [] in
-    let id : at ≡ queue_id a = is ∙ m.yard.number in
-    let z = entry_by (queue_id a) last_call (Drained taken) in
+    let id : at ≡ id_of a = is ∙ m.yard.number in
+    let z = entry_by (id_of a) last_call (Drained taken) in
     let g : longer ≡ between ++ z ∷ [] = more ∙ ap (λ (i : ℕ). between ++ entry_by i last_call (Drained taken) ∷ []) id in
     record {
       own = x.own ++ z ∷ [];
@@ -46,16 +48,16 @@ drained_last n a v limit left at taken entries between longer few less is step e
       moved = λ made. x.moved made;
       all = λ i.
           let at_end = m.drained x.own z 8192 taken ([], refl) refl refl (omega arith) i in
-          let no_take = told_nothing (λ e. post_of_take i e.call e.reply) (queue_id a) z refl in
-          let taken_is : posts_taken i (queue_id a) (x.own ++ z ∷ []) ≡ posts_taken i (queue_id a) x.own
-          = taken_then i (queue_id a) x.own (z ∷ []) ∙ (ap (λ l. posts_taken i (queue_id a) x.own ++ l) no_take ∙ append-nil (posts_taken i (queue_id a) x.own)) in
-          subst (IsPrefix (posts_of i (known_to a.own))) (sym (m.taken i ∙ ap (λ l. posts_of i (got_by a.own) ++ l) taken_is)) at_end;
+          let no_take = told_nothing (λ e. post_of_take i e.call e.reply) (id_of a) z refl in
+          let taken_is : posts_taken i (id_of a) (x.own ++ z ∷ []) ≡ posts_taken i (id_of a) x.own
+          = taken_then i (id_of a) x.own (z ∷ []) ∙ (ap (λ l. posts_taken i (id_of a) x.own ++ l) no_take ∙ append-nil (posts_taken i (id_of a) x.own)) in
+          subst (IsPrefix (posts_of i (known_to a.ports.own))) (sym (m.taken i ∙ ap (λ l. posts_of i (got_by a.ports.own) ++ l) taken_is)) at_end;
       ends = ends;
     }
 
 -- ---- all workers
 
-pub drained_next : {sli : ℕ} (ws us : List (QueueWorker sli)) (rs ss : List (Vec Entry Global)) (j : ℕ) (u w : QueueWorker sli) (r s : Vec Entry Global) → QueuesDrained ws (items_of rs) (items_of ss) us j → slice_get us j ≡ Some u
+pub drained_next : {sli : ℕ} (ws us : List (Worker sli Queues)) (rs ss : List (Vec Entry Global)) (j : ℕ) (u w : Worker sli Queues) (r s : Vec Entry Global) → QueuesDrained ws (items_of rs) (items_of ss) us j → slice_get us j ≡ Some u
     → slice_get ss j ≡ Some r → slice_get rs j ≡ Some r → ((n : ℕ) → KnowsQueueYard n u → DrainedLast n u w r.items s.items) → QueuesDrained ws (items_of rs) (items_of (set ss j s)) (set us j w) (j + 1)
 drained_next {sli} ws us rs ss j u w r s x at here there step =
     let j_in = slice_get_within us j u at in
@@ -72,7 +74,7 @@ drained_next {sli} ws us rs ss j u w r s x at here there step =
             let after : s.items ≡ record_of (items_of (set ss j s)) k = sym (ap (record_of (items_of (set ss j s))) e ∙ record_items (set ss j s) j s (get_set_same ss j s s_in)) in (
               w,
               ap (slice_get (set us j w)) e ∙ get_set_same us j w j_in,
-              λ n known. subst (λ (z : QueueWorker sli × List Entry × List Entry). DrainedLast n z.0 w z.1 z.2) (λ t. (a_is t, before t, after t)) (step n (subst (KnowsQueueYard n) (sym a_is) known)),
+              λ n known. subst (λ (z : Worker sli Queues × List Entry × List Entry). DrainedLast n z.0 w z.1 z.2) (λ t. (a_is t, before t, after t)) (step n (subst (KnowsQueueYard n) (sym a_is) known)),
             )
         | inr ne ↦
             let below : k < j = omega arith in
@@ -85,11 +87,11 @@ drained_next {sli} ws us rs ss j u w r s x at here there step =
     }
 
 -- the yard is whole then
-pub drained_yard : {sli : ℕ} (ws : List (QueueWorker sli)) (rs ss : List (List Entry)) (vs : List (QueueWorker sli)) → IsQueueYard ws → QueuesDrained ws rs ss vs (length ws) → IsQueueYard vs
+pub drained_yard : {sli : ℕ} (ws : List (Worker sli Queues)) (rs ss : List (List Entry)) (vs : List (Worker sli Queues)) → IsQueueYard ws → QueuesDrained ws rs ss vs (length ws) → IsQueueYard vs
 drained_yard {sli} ws rs ss vs yard x = all_kept ws vs yard x.worker_count (λ j v is.
     let a = some_at ws j (omega (arith, slice_get_within vs j v is, x.worker_count)) in
     let o = x.drained j a.0 (slice_get_within ws j a.0 a.1) a.1 in
     let w = yard.workers j a.0 a.1 in
     let d = o.2 (length ws) w.knows in
     let m = d.moved [] in
-    record { old = a.0; is = a.1; keeps = subst (λ (z : QueueWorker sli). KeepsQueueYards a.0 z) (some_same o.0 v (sym o.1 ∙ is)) m.yard })
+    record { old = a.0; is = a.1; keeps = subst (λ (z : Worker sli Queues). KeepsQueueYards a.0 z) (some_same o.0 v (sym o.1 ∙ is)) m.yard })

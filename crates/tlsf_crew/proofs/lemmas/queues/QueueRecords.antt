@@ -232,6 +232,11 @@ race_told : {sli : ℕ} (w v : World sli) (scripts : List (List Call)) (records 
     → QueueRecordTold sli (length w.heaps) j (heap_in w j) (script_of scripts j ++ last_call ∷ []) (record { made = race.made j; entries = record_of records j; heap = heap_in v j })
 race_told w v scripts records race j j_in = queue_record_told (length w.heaps) j (heap_in w j) (script_of scripts j ++ last_call ∷ []) _ j_in (race.legal j j_in)
 
+-- each entry tells an answer where it tells a call on its worker's own heap
+pub queue_race_answered : {sli : ℕ} (w v : World sli) (scripts : List (List Call)) (records : List (List Entry)) (race : IsQueueRace w scripts records v) (j : ℕ) → j < length w.heaps
+    → All (HasItsAnswer (race.made j) (length w.heaps)) (record_of records j)
+queue_race_answered w v scripts records race j j_in = (race_told w v scripts records race j j_in).each
+
 pub queue_race_tells : {sli : ℕ} (w v : World sli) (scripts : List (List Call)) (records : List (List Entry)) (race : IsQueueRace w scripts records v) (j : ℕ) → j < length w.heaps
     → TellsQueue (length w.heaps) j [] (script_of scripts j ++ last_call ∷ []) (race.made j) (record_of records j)
 queue_race_tells w v scripts records race j j_in = (race_told w v scripts records race j j_in).tells

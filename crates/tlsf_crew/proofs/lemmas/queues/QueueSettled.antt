@@ -9,14 +9,15 @@ use Rattle.std.proofs.lemmas.Bool.{cases_eq, cases_lt}
 use Rattle.std.proofs.lemmas.List.{append-nil, length-set, map-append}
 use Rattle.std.proofs.lemmas.List.Elements.{All-append, All-cons, All-head, All-nil, All-tail}
 use Rattle.tlsf_post.specs.Rule.{posts_of}
-use Rattle.tlsf_post.specs.Mailboxes.{below_but, number_of, put_by, owner_of, out_of, most_of, got_by, known_to, IsMailbox, IsWhole, HaveMet}
+use Rattle.tlsf_post.specs.Mailboxes.{below_but, number_of, put_by, gone_from, owner_of, out_of, most_of, got_by, known_to, IsMailbox, IsWhole, HaveMet}
 use Rattle.tlsf_post.specs.declared.owner_end.OwnerEnd.{OwnerEnd}
 use Rattle.tlsf_post.specs.declared.post.Post.{Post}
 use Rattle.tlsf_post.specs.declared.poster_end.PosterEnd.{PosterEnd}
-use Rattle.tlsf_crew.specs.declared.queues.queue_worker.QueueWorker.{QueueWorker}
-use Rattle.tlsf_crew.specs.yard.Workers.{slot_of}
+use Rattle.tlsf_crew.specs.declared.worker.Worker.{Worker}
+use Rattle.tlsf_crew.specs.declared.queues.queues.Queues.{Queues}
+use Rattle.tlsf_crew.specs.yard.Workers.{slot_of, id_of}
 use Rattle.tlsf_crew.specs.yard.Yard.{IsHeapOf}
-use Rattle.tlsf_crew.specs.queues.QueueWorkers.{queue_id, queue_end_to, IsOtherOf, KnowsQueueYard}
+use Rattle.tlsf_crew.specs.queues.QueueWorkers.{queue_end_to, IsOtherOf, KnowsQueueYard}
 use Rattle.tlsf_crew.specs.queues.QueueYard.{FitsQueueYard, IsQueueYard, first_capacity, queue_capacity_in, queue_end_in}
 use Rattle.tlsf_crew.specs.queues.QueueOpening.{GaveEnds, GotEnd}
 use Rattle.tlsf_crew.specs.queues.QueueSettle.{Gathered, GaveUpEnd, QueueKnown, QueueSettled, QueuesSettled, StaysPut, StaysSettled, end_at, ends_below}
@@ -26,10 +27,10 @@ use Rattle.tlsf_crew.proofs.lemmas.yard.Slots.{from_slot, get_set_same, get_set_
 
 -- ---- ends are taken out one after another
 
-pub gathered_none : {sli : ℕ} (ws : List (QueueWorker sli)) (j : ℕ) (ps : List PosterEnd) → ps ≡ [] → Gathered ws j 0 ws ps
+pub gathered_none : {sli : ℕ} (ws : List (Worker sli Queues)) (j : ℕ) (ps : List PosterEnd) → ps ≡ [] → Gathered ws j 0 ws ps
 gathered_none ws j ps none = record { count = refl; ends = none; same = λ x h. refl; gave = λ x a lt. absurd (omega arith) }
 
-pub gathered_more : {sli : ℕ} (ws us : List (QueueWorker sli)) (j i : ℕ) (ps qs : List PosterEnd) (a v : QueueWorker sli) → Gathered ws j i us ps → slice_get us i ≡ Some a → i ≢ j → GaveUpEnd a v j
+pub gathered_more : {sli : ℕ} (ws us : List (Worker sli Queues)) (j i : ℕ) (ps qs : List PosterEnd) (a v : Worker sli Queues) → Gathered ws j i us ps → slice_get us i ≡ Some a → i ≢ j → GaveUpEnd a v j
     → qs ≡ ps ++ option_to_list (queue_end_to a j) → Gathered ws j (i + 1) (set us i v) qs
 gathered_more ws us j i ps qs a v g at apart gave more =
     let i_in = slice_get_within us i a at in
@@ -62,7 +63,7 @@ gathered_more ws us j i ps qs a v g at apart gave more =
     }
 
 -- the owner has no end to its own queue
-pub gathered_own : {sli : ℕ} (ws us : List (QueueWorker sli)) (j i : ℕ) (ps : List PosterEnd) → Gathered ws j i us ps → i ≡ j → end_at ws j j ≡ None → Gathered ws j (i + 1) us ps
+pub gathered_own : {sli : ℕ} (ws us : List (Worker sli Queues)) (j i : ℕ) (ps : List PosterEnd) → Gathered ws j i us ps → i ≡ j → end_at ws j j ≡ None → Gathered ws j (i + 1) us ps
 gathered_own ws us j i ps g own none =
     let next : suc i ≡ i + 1 = omega arith in
     let gone : end_at ws i j ≡ None = ap (λ k. end_at ws k j) own ∙ none in
@@ -79,13 +80,13 @@ gathered_own ws us j i ps g own none =
 -- ---- the ends of a whole yard
 
 -- the end of a worker to another's queue
-pub record EndOf {sli : ℕ} (ws : List (QueueWorker sli)) (i j : ℕ) (b : QueueWorker sli) : Type 0 where
+pub record EndOf {sli : ℕ} (ws : List (Worker sli Queues)) (i j : ℕ) (b : Worker sli Queues) : Type 0 where
   pub p : PosterEnd
   pub is : end_at ws i j ≡ Some p
   pub number : number_of p ≡ i
-  pub mailbox : IsMailbox b.own p
+  pub mailbox : IsMailbox b.ports.own p
 
-end_of : {sli : ℕ} (ws : List (QueueWorker sli)) (i j : ℕ) (b : QueueWorker sli) → IsQueueYard ws → i < length ws → slice_get ws j ≡ Some b → i ≢ j → EndOf ws i j b
+end_of : {sli : ℕ} (ws : List (Worker sli Queues)) (i j : ℕ) (b : Worker sli Queues) → IsQueueYard ws → i < length ws → slice_get ws j ≡ Some b → i ≢ j → EndOf ws i j b
 end_of ws i j b yard i_in b_is ne =
     let s = some_at ws i i_in in
     let w = yard.workers i s.0 s.1 in
@@ -93,14 +94,14 @@ end_of ws i j b yard i_in b_is ne =
     let e = k.to j (slice_get_within ws j b b_is, λ f. ne (sym (f ∙ w.number))) in
     record { p = e.0; is = ap (λ o. queue_end_in o j) s.1 ∙ e.1; number = e.2 ∙ w.number; mailbox = yard.mailboxes i j s.0 b e.0 s.1 b_is e.1 }
 
-pub own_end : {sli : ℕ} (ws : List (QueueWorker sli)) (j : ℕ) (b : QueueWorker sli) → IsQueueYard ws → slice_get ws j ≡ Some b → end_at ws j j ≡ None
+pub own_end : {sli : ℕ} (ws : List (Worker sli Queues)) (j : ℕ) (b : Worker sli Queues) → IsQueueYard ws → slice_get ws j ≡ Some b → end_at ws j j ≡ None
 own_end ws j b yard b_is =
     let w = yard.workers j b b_is in
     let k = w.knows in
     ap (λ o. queue_end_in o j) b_is ∙ k.none j (λ other. other.1 (sym w.number))
 
 -- a fact of all ends below one number, and of the next
-pub each_below : {sli : ℕ} (P : PosterEnd → Type 0) (ws : List (QueueWorker sli)) (j k : ℕ) (b : QueueWorker sli) → IsQueueYard ws → slice_get ws j ≡ Some b → k ≤ length ws → ((i : ℕ) → EndOf ws i j b → (p : PosterEnd) → end_at ws i j ≡ Some p → P p)
+pub each_below : {sli : ℕ} (P : PosterEnd → Type 0) (ws : List (Worker sli Queues)) (j k : ℕ) (b : Worker sli Queues) → IsQueueYard ws → slice_get ws j ≡ Some b → k ≤ length ws → ((i : ℕ) → EndOf ws i j b → (p : PosterEnd) → end_at ws i j ≡ Some p → P p)
     → All P (ends_below ws j k)
 each_below P ws j zero b yard b_is le each = All-nil P
 each_below P ws j (suc k) b yard b_is le each =
@@ -114,7 +115,7 @@ each_below P ws j (suc k) b yard b_is le each =
           rw end.is (All-append P (ends_below ws j k) (end.p ∷ []) rest (All-cons P end.p [] (each k end end.p end.is) (All-nil P)))
     ]
 
-pub numbers_below : {sli : ℕ} (ws : List (QueueWorker sli)) (j k : ℕ) (b : QueueWorker sli) → IsQueueYard ws → slice_get ws j ≡ Some b → k ≤ length ws → map number_of (ends_below ws j k) ≡ below_but j k
+pub numbers_below : {sli : ℕ} (ws : List (Worker sli Queues)) (j k : ℕ) (b : Worker sli Queues) → IsQueueYard ws → slice_get ws j ≡ Some b → k ≤ length ws → map number_of (ends_below ws j k) ≡ below_but j k
 numbers_below ws j zero b yard b_is le = refl
 numbers_below ws j (suc k) b yard b_is le =
     let rest = numbers_below ws j k b yard b_is (omega arith) in
@@ -132,12 +133,12 @@ numbers_below ws j (suc k) b yard b_is le =
     ]
 
 -- all ends of a queue, as those that `meet` is given
-pub ends_whole : {sli : ℕ} (ws : List (QueueWorker sli)) (j : ℕ) (b : QueueWorker sli) → IsQueueYard ws → slice_get ws j ≡ Some b → IsWhole b.own (ends_below ws j (length ws))
+pub ends_whole : {sli : ℕ} (ws : List (Worker sli Queues)) (j : ℕ) (b : Worker sli Queues) → IsQueueYard ws → slice_get ws j ≡ Some b → IsWhole b.ports.own (ends_below ws j (length ws))
 ends_whole ws j b yard b_is =
     let w = yard.workers j b b_is in
     let k = w.knows in
     let le : length ws ≤ length ws = omega arith in (
-      each_below (IsMailbox b.own) ws j (length ws) b yard b_is le (λ i end p is. subst (IsMailbox b.own) (some_same end.p p (sym end.is ∙ is)) end.mailbox),
+      each_below (IsMailbox b.ports.own) ws j (length ws) b yard b_is le (λ i end p is. subst (IsMailbox b.ports.own) (some_same end.p p (sym end.is ∙ is)) end.mailbox),
       numbers_below ws j (length ws) b yard b_is le ∙ (λ t. below_but (sym (k.own.0 ∙ w.number) t) (sym k.own.1 t)),
     )
 
@@ -157,10 +158,10 @@ pass_on P (p ∷ ps) (q ∷ qs) e f all =
     (pass_on P ps qs numbers puts (All-tail (λ p. P (number_of p) (put_by p)) p ps all))
 
 -- the end of that number has put that
-abbrev pub WasPut : {sli : ℕ} → List (QueueWorker sli) → ℕ → ℕ → List Post → Type 0
+abbrev pub WasPut : {sli : ℕ} → List (Worker sli Queues) → ℕ → ℕ → List Post → Type 0
 WasPut ws j i put = (p : PosterEnd) × (end_at ws i j ≡ Some p) × (put_by p ≡ put)
 
-pub were_put : {sli : ℕ} (ws : List (QueueWorker sli)) (j : ℕ) (b : QueueWorker sli) (qs : List PosterEnd) → IsQueueYard ws → slice_get ws j ≡ Some b → map number_of qs ≡ map number_of (ends_below ws j (length ws))
+pub were_put : {sli : ℕ} (ws : List (Worker sli Queues)) (j : ℕ) (b : Worker sli Queues) (qs : List PosterEnd) → IsQueueYard ws → slice_get ws j ≡ Some b → map number_of qs ≡ map number_of (ends_below ws j (length ws))
     → map put_by qs ≡ map put_by (ends_below ws j (length ws)) → All (λ q. WasPut ws j (number_of q) (put_by q)) qs
 were_put ws j b qs yard b_is numbers puts =
     let le : length ws ≤ length ws = omega arith in
@@ -169,17 +170,17 @@ were_put ws j b qs yard b_is numbers puts =
     (λ i end p is. let same = some_same end.p p (sym end.is ∙ is) in let number : i ≡ number_of p = sym end.number ∙ ap number_of same in (p, ap (λ i. end_at ws i j) (sym number) ∙ is, refl)))
 
 -- a worker has a slot for each other queue
-pub slot_there : {sli : ℕ} (ws : List (QueueWorker sli)) (i j : ℕ) (a : QueueWorker sli) → IsQueueYard ws → slice_get ws i ≡ Some a → j < length ws → i ≢ j → j < length a.posts.items
+pub slot_there : {sli : ℕ} (ws : List (Worker sli Queues)) (i j : ℕ) (a : Worker sli Queues) → IsQueueYard ws → slice_get ws i ≡ Some a → j < length ws → i ≢ j → j < length a.ports.posts.items
 slot_there ws i j a yard is j_in ne =
     let w = yard.workers i a is in
     let k = w.knows in
     let e = k.to j (j_in, λ f. ne (sym (f ∙ w.number))) in
-    slice_get_within a.posts.items j (Some e.0) (from_slot (slice_get a.posts.items j) e.0 e.1)
+    slice_get_within a.ports.posts.items j (Some e.0) (from_slot (slice_get a.ports.posts.items j) e.0 e.1)
 
 -- ---- one worker, when a queue is settled
 
 -- an end was taken out of slot j, and one put in
-record GotBack {sli : ℕ} (a v : QueueWorker sli) (j i : ℕ) (qs : List PosterEnd) : Type 0 where
+record GotBack {sli : ℕ} (a v : Worker sli Queues) (j i : ℕ) (qs : List PosterEnd) : Type 0 where
   end : PosterEnd
   before : List PosterEnd
   after : List PosterEnd
@@ -187,38 +188,38 @@ record GotBack {sli : ℕ} (a v : QueueWorker sli) (j i : ℕ) (qs : List Poster
   number : number_of end ≡ i
   here : queue_end_to v j ≡ Some end
   others : (k : ℕ) → k ≢ j → queue_end_to v k ≡ queue_end_to a k
-  same : (v.heap ≡ a.heap) × (v.id ≡ a.id) × (v.own ≡ a.own)
+  same : (v.heap ≡ a.heap) × (v.id ≡ a.id) × (v.ports.own ≡ a.ports.own)
 
-got_back : {sli : ℕ} (a u v : QueueWorker sli) (j i : ℕ) (qs : List PosterEnd) → j < length a.posts.items → GaveUpEnd a u j → GotEnd u v j i qs → GotBack a v j i qs
+got_back : {sli : ℕ} (a u v : Worker sli Queues) (j i : ℕ) (qs : List PosterEnd) → j < length a.ports.posts.items → GaveUpEnd a u j → GotEnd u v j i qs → GotBack a v j i qs
 got_back a u v j i qs room gave got =
-    let there : j < length u.posts.items = omega (arith, ap length gave.posts, length-set a.posts.items j None) in
+    let there : j < length u.ports.posts.items = omega (arith, ap length gave.posts, length-set a.ports.posts.items j None) in
     record {
       end = got.end;
       before = got.before;
       after = got.after;
       stands = got.stands;
       number = got.number;
-      here = slot_new u.posts.items v.posts.items j got.end there got.posts;
-      others = λ k ne. slot_other u.posts.items v.posts.items j got.end got.posts k ne ∙ slot_emptied a.posts.items u.posts.items j gave.posts k ne;
+      here = slot_new u.ports.posts.items v.ports.posts.items j got.end there got.posts;
+      others = λ k ne. slot_other u.ports.posts.items v.ports.posts.items j got.end got.posts k ne ∙ slot_emptied a.ports.posts.items u.ports.posts.items j gave.posts k ne;
       same = (got.same.0 ∙ gave.same.0, got.same.1 ∙ gave.same.1, got.same.2 ∙ gave.same.2);
     }
 
 -- all that happens when queue j is settled: its ends are taken out, meet its owner b, which becomes w, and are given back
-pub record Resettling {sli : ℕ} (ws us : List (QueueWorker sli)) (j : ℕ) (b w : QueueWorker sli) (ps qs : List PosterEnd) (xs : List (QueueWorker sli)) : Type 0 where
+pub record Resettling {sli : ℕ} (ws us : List (Worker sli Queues)) (j : ℕ) (b w : Worker sli Queues) (ps qs : List PosterEnd) (xs : List (Worker sli Queues)) : Type 0 where
   pub yard : IsQueueYard ws
   pub owner : slice_get ws j ≡ Some b
   pub gathered : Gathered ws j (length ws) us ps
-  pub met : HaveMet b.own ps w.own qs
-  pub same : (w.heap ≡ b.heap) × (w.id ≡ b.id) × (w.posts ≡ b.posts)
+  pub met : HaveMet b.ports.own ps w.ports.own qs
+  pub same : (w.heap ≡ b.heap) × (w.id ≡ b.id) × (w.ports.posts ≡ b.ports.posts)
   pub gave : GaveEnds (set us j w) j (length ws) qs xs
 
 -- the worker that v was: the owner, or another one
-record Resettled {sli : ℕ} (ws : List (QueueWorker sli)) (j i : ℕ) (b w v : QueueWorker sli) (qs : List PosterEnd) : Type 0 where
-  a : QueueWorker sli
+record Resettled {sli : ℕ} (ws : List (Worker sli Queues)) (j i : ℕ) (b w v : Worker sli Queues) (qs : List PosterEnd) : Type 0 where
+  a : Worker sli Queues
   is : slice_get ws i ≡ Some a
   change : ((i ≡ j) × (a ≡ b) × (v ≡ w)) ⊎ ((i ≢ j) × GotBack a v j i qs)
 
-resettled : {sli : ℕ} (ws us : List (QueueWorker sli)) (j : ℕ) (b w : QueueWorker sli) (ps qs : List PosterEnd) (xs : List (QueueWorker sli)) → Resettling ws us j b w ps qs xs → (i : ℕ) (v : QueueWorker sli) → slice_get xs i ≡ Some v
+resettled : {sli : ℕ} (ws us : List (Worker sli Queues)) (j : ℕ) (b w : Worker sli Queues) (ps qs : List PosterEnd) (xs : List (Worker sli Queues)) → Resettling ws us j b w ps qs xs → (i : ℕ) (v : Worker sli Queues) → slice_get xs i ≡ Some v
     → Resettled ws j i b w v qs
 resettled {sli} ws us j b w ps qs xs r i v is =
     let g = r.gathered in
@@ -238,27 +239,27 @@ resettled {sli} ws us j b w ps qs xs r i v is =
           record {
             a = s.0;
             is = s.1;
-            change = inr (ne, subst (λ (z : QueueWorker sli). GotBack s.0 z j i qs) v_is (got_back s.0 u.0 o.0 j i qs (slot_there ws i j s.0 r.yard s.1 j_in ne) u.2 o.2));
+            change = inr (ne, subst (λ (z : Worker sli Queues). GotBack s.0 z j i qs) v_is (got_back s.0 u.0 o.0 j i qs (slot_there ws i j s.0 r.yard s.1 j_in ne) u.2 o.2));
           }
     ]
 
 -- the owner's ends to other queues stay
-owner_end : {sli : ℕ} (b w : QueueWorker sli) (k : ℕ) → w.posts ≡ b.posts → queue_end_to w k ≡ queue_end_to b k
+owner_end : {sli : ℕ} (b w : Worker sli Queues) (k : ℕ) → w.ports.posts ≡ b.ports.posts → queue_end_to w k ≡ queue_end_to b k
 owner_end b w k same = ap (λ (ps : Vec (Option PosterEnd) Global). slot_of (slice_get ps.items k)) same
 
 -- and it has none to its own
-owner_none : {sli : ℕ} (ws : List (QueueWorker sli)) (j : ℕ) (b : QueueWorker sli) → IsQueueYard ws → slice_get ws j ≡ Some b → queue_end_to b j ≡ None
+owner_none : {sli : ℕ} (ws : List (Worker sli Queues)) (j : ℕ) (b : Worker sli Queues) → IsQueueYard ws → slice_get ws j ≡ Some b → queue_end_to b j ≡ None
 owner_none ws j b yard is = sym (ap (λ o. queue_end_in o j) is) ∙ own_end ws j b yard is
 
 -- the same of what v was
-record StillIs {sli : ℕ} (a v : QueueWorker sli) (j : ℕ) : Type 0 where
+record StillIs {sli : ℕ} (a v : Worker sli Queues) (j : ℕ) : Type 0 where
   heap : v.heap ≡ a.heap
   id : v.id ≡ a.id
-  numbers : (owner_of v.own ≡ owner_of a.own) × (out_of v.own ≡ out_of a.own)
-  own : (got_by v.own ≡ got_by a.own) × (most_of v.own ≡ most_of a.own)
+  numbers : (owner_of v.ports.own ≡ owner_of a.ports.own) × (out_of v.ports.own ≡ out_of a.ports.own)
+  own : (got_by v.ports.own ≡ got_by a.ports.own) × (most_of v.ports.own ≡ most_of a.ports.own)
   ends : (k : ℕ) → k ≢ j → queue_end_to v k ≡ queue_end_to a k
 
-owner_still : {sli : ℕ} (ws us : List (QueueWorker sli)) (j : ℕ) (b w : QueueWorker sli) (ps qs : List PosterEnd) (xs : List (QueueWorker sli)) → Resettling ws us j b w ps qs xs → StillIs b w j
+owner_still : {sli : ℕ} (ws us : List (Worker sli Queues)) (j : ℕ) (b w : Worker sli Queues) (ps qs : List PosterEnd) (xs : List (Worker sli Queues)) → Resettling ws us j b w ps qs xs → StillIs b w j
 owner_still ws us j b w ps qs xs r =
     let m = r.met in
     record {
@@ -269,7 +270,7 @@ owner_still ws us j b w ps qs xs r =
       ends = λ k ne. owner_end b w k r.same.2;
     }
 
-back_still : {sli : ℕ} (a v : QueueWorker sli) (j i : ℕ) (qs : List PosterEnd) → GotBack a v j i qs → StillIs a v j
+back_still : {sli : ℕ} (a v : Worker sli Queues) (j i : ℕ) (qs : List PosterEnd) → GotBack a v j i qs → StillIs a v j
 back_still a v j i qs got = record {
   heap = got.same.0;
   id = got.same.1;
@@ -278,19 +279,19 @@ back_still a v j i qs got = record {
   ends = got.others;
 }
 
-still : {sli : ℕ} (ws us : List (QueueWorker sli)) (j : ℕ) (b w : QueueWorker sli) (ps qs : List PosterEnd) (xs : List (QueueWorker sli)) → Resettling ws us j b w ps qs xs → (i : ℕ) (v : QueueWorker sli) → (x : Resettled ws j i b w v qs) → StillIs x.a v j
+still : {sli : ℕ} (ws us : List (Worker sli Queues)) (j : ℕ) (b w : Worker sli Queues) (ps qs : List PosterEnd) (xs : List (Worker sli Queues)) → Resettling ws us j b w ps qs xs → (i : ℕ) (v : Worker sli Queues) → (x : Resettled ws j i b w v qs) → StillIs x.a v j
 still {sli} ws us j b w ps qs xs r i v x = elim x.change [
-  | inl e ↦ subst (λ (z : QueueWorker sli × QueueWorker sli). StillIs z.0 z.1 j) (λ t. (sym e.1 t, sym e.2 t)) (owner_still ws us j b w ps qs xs r)
+  | inl e ↦ subst (λ (z : Worker sli Queues × Worker sli Queues). StillIs z.0 z.1 j) (λ t. (sym e.1 t, sym e.2 t)) (owner_still ws us j b w ps qs xs r)
   | inr e ↦ back_still x.a v j i qs e.1
 ]
 
 -- the owner's own slot is empty
-own_slot : {sli : ℕ} (ws us : List (QueueWorker sli)) (j : ℕ) (b w : QueueWorker sli) (ps qs : List PosterEnd) (xs : List (QueueWorker sli)) → Resettling ws us j b w ps qs xs → (v : QueueWorker sli) → v ≡ w → queue_end_to v j ≡ None
-own_slot {sli} ws us j b w ps qs xs r v e = ap (λ (z : QueueWorker sli). queue_end_to z j) e ∙ (owner_end b w j r.same.2 ∙ owner_none ws j b r.yard r.owner)
+own_slot : {sli : ℕ} (ws us : List (Worker sli Queues)) (j : ℕ) (b w : Worker sli Queues) (ps qs : List PosterEnd) (xs : List (Worker sli Queues)) → Resettling ws us j b w ps qs xs → (v : Worker sli Queues) → v ≡ w → queue_end_to v j ≡ None
+own_slot {sli} ws us j b w ps qs xs r v e = ap (λ (z : Worker sli Queues). queue_end_to z j) e ∙ (owner_end b w j r.same.2 ∙ owner_none ws j b r.yard r.owner)
 
 -- ---- the yard stays whole
 
-fits_still : {sli : ℕ} (ws us : List (QueueWorker sli)) (j : ℕ) (b w : QueueWorker sli) (ps qs : List PosterEnd) (xs : List (QueueWorker sli)) → Resettling ws us j b w ps qs xs → (i : ℕ) (v : QueueWorker sli) → slice_get xs i ≡ Some v
+fits_still : {sli : ℕ} (ws us : List (Worker sli Queues)) (j : ℕ) (b w : Worker sli Queues) (ps qs : List PosterEnd) (xs : List (Worker sli Queues)) → Resettling ws us j b w ps qs xs → (i : ℕ) (v : Worker sli Queues) → slice_get xs i ≡ Some v
     → FitsQueueYard (length ws) (queue_capacity_in ws) i v
 fits_still ws us j b w ps qs xs r i v is =
     let x = resettled ws us j b w ps qs xs r i v is in
@@ -298,7 +299,7 @@ fits_still ws us j b w ps qs xs r i v is =
     let yard = r.yard in
     let old = yard.workers i x.a x.is in
     let k = old.knows in
-    let number : queue_id v ≡ i = s.id ∙ old.number in
+    let number : id_of v ≡ i = s.id ∙ old.number in
     let j_in : j < length ws = slice_get_within ws j b r.owner in
     record {
       number = number;
@@ -325,8 +326,8 @@ fits_still ws us j b w ps qs xs r i v is =
       room = s.own.1 ∙ old.room;
     }
 
-mailboxes_still : {sli : ℕ} (ws us : List (QueueWorker sli)) (j : ℕ) (b w : QueueWorker sli) (ps qs : List PosterEnd) (xs : List (QueueWorker sli)) → Resettling ws us j b w ps qs xs → (i k : ℕ) (v c : QueueWorker sli) (q : PosterEnd)
-    → slice_get xs i ≡ Some v → slice_get xs k ≡ Some c → queue_end_to v k ≡ Some q → IsMailbox c.own q
+mailboxes_still : {sli : ℕ} (ws us : List (Worker sli Queues)) (j : ℕ) (b w : Worker sli Queues) (ps qs : List PosterEnd) (xs : List (Worker sli Queues)) → Resettling ws us j b w ps qs xs → (i k : ℕ) (v c : Worker sli Queues) (q : PosterEnd)
+    → slice_get xs i ≡ Some v → slice_get xs k ≡ Some c → queue_end_to v k ≡ Some q → IsMailbox c.ports.own q
 mailboxes_still {sli} ws us j b w ps qs xs r i k v c q is_v is_c is_q =
     let x = resettled ws us j b w ps qs xs r i v is_v in
     let y = resettled ws us j b w ps qs xs r k c is_c in
@@ -335,8 +336,8 @@ mailboxes_still {sli} ws us j b w ps qs xs r i k v c q is_v is_c is_q =
     elim (cases_eq k j) [
       | inl e ↦
           let here : queue_end_to v j ≡ Some q = ap (queue_end_to v) (sym e) ∙ is_q in
-          let owner : c.own ≡ w.own = elim y.change [
-            | inl d ↦ ap (λ (z : QueueWorker sli). z.own) d.2
+          let owner : c.ports.own ≡ w.ports.own = elim y.change [
+            | inl d ↦ ap (λ (z : Worker sli Queues). z.ports.own) d.2
             | inr d ↦ absurd (d.0 e)
           ] in
           elim x.change [
@@ -344,18 +345,18 @@ mailboxes_still {sli} ws us j b w ps qs xs r i k v c q is_v is_c is_q =
             | inr d ↦
                 let got = d.1 in
                 let q_is : got.end ≡ q = some_same got.end q (sym got.here ∙ here) in
-                subst (λ (z : OwnerEnd × PosterEnd). IsMailbox z.0 z.1) (λ t. (sym owner t, q_is t)) (of_all (IsMailbox w.own) qs got.before got.after got.end got.stands m.whole.0)
+                subst (λ (z : OwnerEnd × PosterEnd). IsMailbox z.0 z.1) (λ t. (sym owner t, q_is t)) (of_all (IsMailbox w.ports.own) qs got.before got.after got.end got.stands m.whole.0)
           ]
       | inr ne ↦
           let s = still ws us j b w ps qs xs r i v x in
-          let owner : c.own ≡ y.a.own = elim y.change [
+          let owner : c.ports.own ≡ y.a.ports.own = elim y.change [
             | inl d ↦ absurd (ne d.0)
             | inr d ↦ let got = d.1 in got.same.2
           ] in
           subst (λ (o : OwnerEnd). IsMailbox o q) (sym owner) (yard.mailboxes i k x.a y.a q x.is y.is (sym (s.ends k ne) ∙ is_q))
     ]
 
-capacity_still : {sli : ℕ} (ws us : List (QueueWorker sli)) (j : ℕ) (b w : QueueWorker sli) (ps qs : List PosterEnd) (xs : List (QueueWorker sli)) → Resettling ws us j b w ps qs xs → length xs ≡ length ws → queue_capacity_in xs ≡ queue_capacity_in ws
+capacity_still : {sli : ℕ} (ws us : List (Worker sli Queues)) (j : ℕ) (b w : Worker sli Queues) (ps qs : List PosterEnd) (xs : List (Worker sli Queues)) → Resettling ws us j b w ps qs xs → length xs ≡ length ws → queue_capacity_in xs ≡ queue_capacity_in ws
 capacity_still ws us j b w ps qs xs r count =
     let j_in : j < length ws = slice_get_within ws j b r.owner in
     let s = some_at xs 0 (omega (arith, count)) in
@@ -363,7 +364,7 @@ capacity_still ws us j b w ps qs xs r count =
     let same = still ws us j b w ps qs xs r 0 s.0 x in
     ap first_capacity s.1 ∙ (same.own.1 ∙ sym (ap first_capacity x.is))
 
-whole_still : {sli : ℕ} (ws us : List (QueueWorker sli)) (j : ℕ) (b w : QueueWorker sli) (ps qs : List PosterEnd) (xs : List (QueueWorker sli)) → Resettling ws us j b w ps qs xs → length xs ≡ length ws → IsQueueYard xs
+whole_still : {sli : ℕ} (ws us : List (Worker sli Queues)) (j : ℕ) (b w : Worker sli Queues) (ps qs : List PosterEnd) (xs : List (Worker sli Queues)) → Resettling ws us j b w ps qs xs → length xs ≡ length ws → IsQueueYard xs
 whole_still ws us j b w ps qs xs r count =
     let yard = r.yard in
     let room = capacity_still ws us j b w ps qs xs r count in
@@ -378,7 +379,7 @@ whole_still ws us j b w ps qs xs r count =
 -- ---- what is known then
 
 -- an end that was given back has put what it had put
-put_still : {sli : ℕ} (ws us : List (QueueWorker sli)) (j : ℕ) (b w : QueueWorker sli) (ps qs : List PosterEnd) (xs : List (QueueWorker sli)) → Resettling ws us j b w ps qs xs → (i : ℕ) (v : QueueWorker sli) → (x : Resettled ws j i b w v qs)
+put_still : {sli : ℕ} (ws us : List (Worker sli Queues)) (j : ℕ) (b w : Worker sli Queues) (ps qs : List PosterEnd) (xs : List (Worker sli Queues)) → Resettling ws us j b w ps qs xs → (i : ℕ) (v : Worker sli Queues) → (x : Resettled ws j i b w v qs)
     → (p q : PosterEnd) → queue_end_to x.a j ≡ Some p → queue_end_to v j ≡ Some q → put_by q ≡ put_by p
 put_still ws us j b w ps qs xs r i v x p q is_p is_q = elim x.change [
   | inl e ↦ absurd (none_or_some (queue_end_to v j) q (own_slot ws us j b w ps qs xs r v e.2) is_q)
@@ -393,10 +394,10 @@ put_still ws us j b w ps qs xs r i v x p q is_p is_q = elim x.change [
       sym (ap put_by q_is) ∙ (sym was.2 ∙ ap put_by p_is)
 ]
 
-known_then : {sli : ℕ} (ws us : List (QueueWorker sli)) (j : ℕ) (b w : QueueWorker sli) (ps qs : List PosterEnd) (xs : List (QueueWorker sli)) → Resettling ws us j b w ps qs xs → QueueKnown xs j
+known_then : {sli : ℕ} (ws us : List (Worker sli Queues)) (j : ℕ) (b w : Worker sli Queues) (ps qs : List PosterEnd) (xs : List (Worker sli Queues)) → Resettling ws us j b w ps qs xs → QueueKnown xs j
 known_then {sli} ws us j b w ps qs xs r =
     let m = r.met in
-    let owner : (c : QueueWorker sli) → slice_get xs j ≡ Some c → c ≡ w = λ c is. let y = resettled ws us j b w ps qs xs r j c is in elim y.change [
+    let owner : (c : Worker sli Queues) → slice_get xs j ≡ Some c → c ≡ w = λ c is. let y = resettled ws us j b w ps qs xs r j c is in elim y.change [
       | inl d ↦ d.2
       | inr d ↦ absurd (d.0 refl)
     ] in
@@ -406,13 +407,24 @@ known_then {sli} ws us j b w ps qs xs r =
         | inr e ↦
             let got = e.1 in
             let q_is : got.end ≡ q = some_same got.end q (sym got.here ∙ is_q) in
-            let all = of_all (λ q. posts_of (number_of q) (known_to w.own) ≡ put_by q) qs got.before got.after got.end got.stands m.known in
-            ap (λ (z : QueueWorker sli). posts_of i (known_to z.own)) (owner c is_c) ∙ (ap (λ k. posts_of k (known_to w.own)) (sym got.number) ∙ (all ∙ ap put_by q_is))
+            let all = of_all (λ q. posts_of (number_of q) (known_to w.ports.own) ≡ put_by q) qs got.before got.after got.end got.stands m.known in
+            ap (λ (z : Worker sli Queues). posts_of i (known_to z.ports.own)) (owner c is_c) ∙ (ap (λ k. posts_of k (known_to w.ports.own)) (sym got.number) ∙ (all ∙ ap put_by q_is))
       ];
-      order = λ c is_c. subst (λ (z : QueueWorker sli). (waiting : List Post) × ((p : ℕ) → posts_of p (known_to z.own) ≡ posts_of p (got_by z.own ++ waiting))) (sym (owner c is_c)) m.order;
+      order = λ c is_c.
+          let saw = m.order.1 in
+          subst (λ (z : Worker sli Queues). (waiting : List Post) × ((p : ℕ) → posts_of p (known_to z.ports.own) ≡ posts_of p (got_by z.ports.own ++ waiting)) × (length waiting ≤ most_of z.ports.own)) (sym (owner c is_c))
+          (m.order.0, m.order.2, saw.few);
+      gone = λ i v c q is_v is_c is_q. let x = resettled ws us j b w ps qs xs r i v is_v in elim x.change [
+        | inl e ↦ absurd (none_or_some (queue_end_to v j) q (own_slot ws us j b w ps qs xs r v e.2) is_q)
+        | inr e ↦
+            let got = e.1 in
+            let q_is : got.end ≡ q = some_same got.end q (sym got.here ∙ is_q) in
+            let all = of_all (λ q. gone_from q ≡ posts_of (number_of q) (got_by w.ports.own)) qs got.before got.after got.end got.stands m.gone in
+            sym (ap gone_from q_is) ∙ (all ∙ (ap (λ k. posts_of k (got_by w.ports.own)) got.number ∙ ap (λ (z : Worker sli Queues). posts_of i (got_by z.ports.own)) (sym (owner c is_c))))
+      ];
     }
 
-pub queue_settled : {sli : ℕ} (ws us : List (QueueWorker sli)) (j : ℕ) (b w : QueueWorker sli) (ps qs : List PosterEnd) (xs : List (QueueWorker sli)) → Resettling ws us j b w ps qs xs → QueueSettled ws j xs
+pub queue_settled : {sli : ℕ} (ws us : List (Worker sli Queues)) (j : ℕ) (b w : Worker sli Queues) (ps qs : List PosterEnd) (xs : List (Worker sli Queues)) → Resettling ws us j b w ps qs xs → QueueSettled ws j xs
 queue_settled {sli} ws us j b w ps qs xs r =
     let g = r.gathered in
     let gave = r.gave in
@@ -423,7 +435,7 @@ queue_settled {sli} ws us j b w ps qs xs r =
       stays = λ i a v is_a is_v.
           let x = resettled ws us j b w ps qs xs r i v is_v in
           let s = still ws us j b w ps qs xs r i v x in
-          subst (λ (z : QueueWorker sli). StaysSettled j i z v) (some_same x.a a (sym x.is ∙ is_a)) (record {
+          subst (λ (z : Worker sli Queues). StaysSettled j i z v) (some_same x.a a (sym x.is ∙ is_a)) (record {
             heap = s.heap;
             id = s.id;
             own = s.own;
@@ -440,12 +452,12 @@ queue_settled {sli} ws us j b w ps qs xs r =
 -- ---- what the parts ask of one another
 
 -- the owner is still there once the ends were taken out
-pub owner_there : {sli : ℕ} (ws us : List (QueueWorker sli)) (j : ℕ) (ps : List PosterEnd) (d : QueueWorker sli) → Gathered ws j (length ws) us ps → j < length ws → slice_get ws j ≡ Some (get_or us j d)
+pub owner_there : {sli : ℕ} (ws us : List (Worker sli Queues)) (j : ℕ) (ps : List PosterEnd) (d : Worker sli Queues) → Gathered ws j (length ws) us ps → j < length ws → slice_get ws j ≡ Some (get_or us j d)
 owner_there ws us j ps d g j_in = let there : j < length us = omega (arith, g.count) in sym (g.same j (inr refl)) ∙ slice_get-get_or us j d there
 
 -- each other worker has a slot still
-pub slots_still : {sli : ℕ} (ws us : List (QueueWorker sli)) (j : ℕ) (w : QueueWorker sli) (ps : List PosterEnd) → IsQueueYard ws → j < length ws → Gathered ws j (length ws) us ps → (i : ℕ) (v : QueueWorker sli) → i ≢ j
-    → slice_get (set us j w) i ≡ Some v → j < length v.posts.items
+pub slots_still : {sli : ℕ} (ws us : List (Worker sli Queues)) (j : ℕ) (w : Worker sli Queues) (ps : List PosterEnd) → IsQueueYard ws → j < length ws → Gathered ws j (length ws) us ps → (i : ℕ) (v : Worker sli Queues) → i ≢ j
+    → slice_get (set us j w) i ≡ Some v → j < length v.ports.posts.items
 slots_still {sli} ws us j w ps yard j_in g i v ne is =
     let i_in : i < length ws = omega (arith, slice_get_within (set us j w) i v is, length-set us j w, g.count) in
     let s = some_at ws i i_in in
@@ -453,10 +465,10 @@ slots_still {sli} ws us j w ps yard j_in g i v ne is =
     let v_is : u.0 ≡ v = some_same u.0 v (sym (get_set_other us j i w ne ∙ u.1) ∙ is) in
     let gave = u.2 in
     let room = slot_there ws i j s.0 yard s.1 j_in ne in
-    subst (λ (z : QueueWorker sli). j < length z.posts.items) v_is (omega (arith, ap length gave.posts, length-set s.0.posts.items j None))
+    subst (λ (z : Worker sli Queues). j < length z.ports.posts.items) v_is (omega (arith, ap length gave.posts, length-set s.0.ports.posts.items j None))
 
 -- the ends that come back have the numbers of all but the owner
-pub numbers_still : {sli : ℕ} (ws : List (QueueWorker sli)) (j : ℕ) (b w : QueueWorker sli) (ps qs : List PosterEnd) → IsQueueYard ws → slice_get ws j ≡ Some b → HaveMet b.own ps w.own qs → map number_of qs ≡ below_but j (length ws)
+pub numbers_still : {sli : ℕ} (ws : List (Worker sli Queues)) (j : ℕ) (b w : Worker sli Queues) (ps qs : List PosterEnd) → IsQueueYard ws → slice_get ws j ≡ Some b → HaveMet b.ports.own ps w.ports.own qs → map number_of qs ≡ below_but j (length ws)
 numbers_still ws j b w ps qs yard is m =
     let old = yard.workers j b is in
     let k = old.knows in
@@ -464,7 +476,7 @@ numbers_still ws j b w ps qs yard is m =
 
 -- ---- queues, one after another
 
-pub settled_none : {sli : ℕ} (ws : List (QueueWorker sli)) → IsQueueYard ws → QueuesSettled ws 0 ws
+pub settled_none : {sli : ℕ} (ws : List (Worker sli Queues)) → IsQueueYard ws → QueuesSettled ws 0 ws
 settled_none ws yard = record {
   yard = yard;
   count = refl;
@@ -478,11 +490,11 @@ settled_none ws yard = record {
 }
 
 -- where an end is there was one
-end_still : {sli : ℕ} (n j : ℕ) (u v : QueueWorker sli) (q : PosterEnd) → KnowsQueueYard n u → KnowsQueueYard n v → v.id ≡ u.id → queue_end_to v j ≡ Some q → (p : PosterEnd) × (queue_end_to u j ≡ Some p)
+end_still : {sli : ℕ} (n j : ℕ) (u v : Worker sli Queues) (q : PosterEnd) → KnowsQueueYard n u → KnowsQueueYard n v → v.id ≡ u.id → queue_end_to v j ≡ Some q → (p : PosterEnd) × (queue_end_to u j ≡ Some p)
 end_still n j u v q known_u known_v same is =
-    let gone : ¬ (IsOtherOf n (queue_id v) j) → ⊥ = λ far. none_or_some (queue_end_to v j) q (known_v.none j far) is in
+    let gone : ¬ (IsOtherOf n (id_of v) j) → ⊥ = λ far. none_or_some (queue_end_to v j) q (known_v.none j far) is in
     elim (cases_lt j n) [
-      | inl lt ↦ elim (cases_eq j (queue_id v)) [
+      | inl lt ↦ elim (cases_eq j (id_of v)) [
         | inl e ↦ absurd (gone (λ other. other.1 e))
         | inr ne ↦ let o = known_u.to j (lt, λ e. ne (e ∙ sym same)) in (o.0, o.1)
       ]
@@ -490,7 +502,7 @@ end_still n j u v q known_u known_v same is =
     ]
 
 -- what one settling leaves of a worker, behind others
-stays_then : {sli : ℕ} (j i : ℕ) (a u v : QueueWorker sli) → StaysPut a u → StaysSettled j i u v → (n : ℕ) → KnowsQueueYard n u → KnowsQueueYard n v → StaysPut a v
+stays_then : {sli : ℕ} (j i : ℕ) (a u v : Worker sli Queues) → StaysPut a u → StaysSettled j i u v → (n : ℕ) → KnowsQueueYard n u → KnowsQueueYard n v → StaysPut a v
 stays_then j i a u v x y n known_u known_v = record {
   heap = y.heap ∙ x.heap;
   id = y.id ∙ x.id;
@@ -505,9 +517,9 @@ stays_then j i a u v x y n known_u known_v = record {
 }
 
 -- what was known of an earlier queue is known still
-known_still : {sli : ℕ} (us vs : List (QueueWorker sli)) (j k : ℕ) → QueueSettled us j vs → k ≢ j → QueueKnown us k → QueueKnown vs k
+known_still : {sli : ℕ} (us vs : List (Worker sli Queues)) (j k : ℕ) → QueueSettled us j vs → k ≢ j → QueueKnown us k → QueueKnown vs k
 known_still {sli} us vs j k s ne known =
-    let was : (i : ℕ) (v : QueueWorker sli) → slice_get vs i ≡ Some v → (u : QueueWorker sli) × (slice_get us i ≡ Some u) × StaysSettled j i u v = λ i v is.
+    let was : (i : ℕ) (v : Worker sli Queues) → slice_get vs i ≡ Some v → (u : Worker sli Queues) × (slice_get us i ≡ Some u) × StaysSettled j i u v = λ i v is.
     let o = some_at us i (omega (arith, slice_get_within vs i v is, s.count)) in
     (o.0, o.1, s.stays i o.0 v o.1 is) in
     record {
@@ -520,10 +532,16 @@ known_still {sli} us vs j k s ne known =
       order = λ c is_c.
           let d = was k c is_c in
           let owner = d.2 in
-          subst (λ (z : OwnerEnd). (waiting : List Post) × ((p : ℕ) → posts_of p (known_to z) ≡ posts_of p (got_by z ++ waiting))) (sym (owner.other ne)) (known.order d.0 d.1);
+          subst (λ (z : OwnerEnd). (waiting : List Post) × ((p : ℕ) → posts_of p (known_to z) ≡ posts_of p (got_by z ++ waiting)) × (length waiting ≤ most_of z)) (sym (owner.other ne)) (known.order d.0 d.1);
+      gone = λ i v c q is_v is_c is_q.
+          let u = was i v is_v in
+          let d = was k c is_c in
+          let there = u.2 in
+          let owner = d.2 in
+          known.gone i u.0 d.0 q u.1 d.1 (sym (there.ends k ne) ∙ is_q) ∙ sym (ap (λ (z : OwnerEnd). posts_of i (got_by z)) (owner.other ne));
     }
 
-pub settled_more : {sli : ℕ} (ws us vs : List (QueueWorker sli)) (j : ℕ) → QueuesSettled ws j us → QueueSettled us j vs → QueuesSettled ws (j + 1) vs
+pub settled_more : {sli : ℕ} (ws us vs : List (Worker sli Queues)) (j : ℕ) → QueuesSettled ws j us → QueueSettled us j vs → QueuesSettled ws (j + 1) vs
 settled_more ws us vs j x y = record {
   yard = y.yard;
   count = y.count ∙ x.count;

@@ -12,7 +12,7 @@ use Rattle.tlsf_heap.specs.Calls as heap
 use Rattle.tlsf_heap.specs.declared.name.Name.{Name}
 use Rattle.tlsf_heap.specs.declared.refusal.Refusal.{Refusal}
 use Rattle.tlsf_post.specs.Rule.{posts_of}
-use Rattle.tlsf_post.specs.Mailboxes.{number_of, put_by, got_by, known_to, IsAllTaken}
+use Rattle.tlsf_post.specs.Mailboxes.{number_of, put_by, got_by, known_to, IsAllTaken, IsOnlyPoster, HasFilled}
 use Rattle.tlsf_post.specs.declared.post.Post.{Post}
 use Rattle.tlsf_post.specs.declared.owner_end.OwnerEnd.{OwnerEnd}
 use Rattle.tlsf_post.specs.declared.poster_end.PosterEnd.{PosterEnd}
@@ -29,37 +29,47 @@ use Rattle.tlsf_calls.specs.declared.crew_refusal.CrewRefusal.{CrewRefusal}
 use Rattle.tlsf_calls.specs.declared.crew_refusal.CrewRefusal.TheVariants.{Full, Stranger, Unmade}
 use Rattle.tlsf_calls.specs.declared.reply.Reply.{Reply}
 use Rattle.tlsf_calls.specs.declared.reply.Reply.TheVariants.{Posted, Took as Taken, Drained, Refused}
-use Rattle.tlsf_crew.specs.yard.Heaps.{allocated, released}
+use Rattle.tlsf_crew.specs.yard.Heaps.{allocated, chunk_read, released, resized, written}
 use Rattle.tlsf_crew.specs.yard.OwnReplies.{own_allocating, own_freeing, own_reading, own_resizing, own_writing}
 use Rattle.tlsf_crew.specs.yard.History.{StandsBehind, posts_made, posts_taken, post_of_release, post_of_take}
 use Rattle.tlsf_crew.specs.yard.Told.{Told}
-use Rattle.tlsf_crew.specs.yard.World.{made_by, name_of, reply_freed}
-use Rattle.tlsf_crew.specs.declared.queues.queue_worker.QueueWorker.{QueueWorker}
+use Rattle.tlsf_crew.specs.yard.World.{made_by, name_of, reply_freed, reply_got, reply_made, reply_resized, reply_wrote}
+use Rattle.tlsf_crew.specs.declared.worker.Worker.{Worker}
+use Rattle.tlsf_crew.specs.declared.queues.queues.Queues.{Queues}
 use Rattle.tlsf_crew.specs.declared.queues.queue_journal.QueueJournal.{QueueJournal}
-use Rattle.tlsf_crew.specs.queues.QueueWorkers.{queue_heap, queue_id, queue_end_to, HasQueueEnd, IsOtherOf, KnowsQueueYard, KeepsQueueYards, SameButQueueHeap, PutToQueue, TookFromQueue}
-use Rattle.tlsf_crew.specs.queues.QueueCalls.{AfterQueueTake, ReleasedInOwnHeap, ReleasedIntoQueue, TakenFromQueue, posted_as, put_answer}
-use Rattle.tlsf_crew.specs.queues.QueueNotes.{QueueNotedInTurn, QueueNoted, IsQueueNoted}
+use Rattle.tlsf_crew.specs.yard.Workers.{heap_of, id_of, SameButHeap, KeepsHeap}
+use Rattle.tlsf_crew.specs.yard.Calls.{AfterTake, ReleasedHere, ReleasedThere, posted_as, put_answer}
+use Rattle.tlsf_crew.specs.yard.Notes.{NotedInTurn}
+use Rattle.tlsf_crew.specs.queues.QueueWorkers.{queue_to, queue_end_to, PutsIntoQueue, TakesFromQueue, HasQueueEnd, IsOtherOf, KnowsQueueYard, KeepsQueueYards, PutToQueue, TookFromQueue}
+use Rattle.tlsf_crew.specs.queues.QueueCalls.{TakenFromQueue}
+use Rattle.tlsf_crew.specs.queues.QueueNotes.{QueueNoted, IsQueueAdmitted, IsQueueNoted}
 use Rattle.tlsf_crew.specs.queues.QueueTold.{IsOfOther, MayTellQueue, take_entry, told_reply, told_take, told_takes}
 use Rattle.tlsf_crew.specs.queues.QueueMoves.{QueueMoved, QueueStepped, QueueCalled, entry_by, told_of}
 use Rattle.tlsf_post.proofs.RuleSteps.{of_append}
 use Rattle.tlsf_crew.proofs.lemmas.yard.AllEntries.{more_knows}
 use Rattle.tlsf_crew.proofs.lemmas.yard.JoinedEntries.{IsNoPost, told_nothing, told_own}
 use Rattle.tlsf_crew.proofs.lemmas.yard.LaneMoves.{posted_same, release_posts_elsewhere}
+use Rattle.tlsf_crew.proofs.lemmas.yard.SameParts.{ports_heap}
 use Rattle.tlsf_crew.proofs.lemmas.yard.ManyEntries.{made_then, taken_then, stands_split}
 use Rattle.tlsf_crew.proofs.lemmas.yard.OneEntry.{no_entry, the_one, stands_last}
 use Rattle.tlsf_crew.proofs.lemmas.yard.OwnAnswers.{freed_reply, reply_released}
-use Rattle.tlsf_crew.proofs.lemmas.yard.OwnHeaps.{KeepsHeap, call_keeps, same_heap_keeps, allocate_keeps}
+use Rattle.tlsf_crew.proofs.lemmas.yard.OwnHeaps.{call_keeps, same_heap_keeps, allocate_keeps}
 use Rattle.tlsf_crew.proofs.lemmas.yard.OwnReplied.{read_keeps, resize_keeps, write_keeps}
 use Rattle.tlsf_crew.proofs.lemmas.yard.Slots.{some_same}
+use Rattle.tlsf_crew.proofs.lemmas.queues.QueueDrains.{queue_ends}
 use Rattle.tlsf_crew.proofs.lemmas.queues.QueueKept.{keeps_all, keeps_heap, keeps_put, keeps_take, keeps_then, knows_kept}
 use Rattle.tlsf_crew.proofs.lemmas.queues.OwnTold.{allocate_tells, far_tells, free_tells, full_tells, posted_tells, read_tells, resize_tells, unmade_tells, write_tells}
 
 -- ---- an entry that tells of no queue
 
--- neither a post nor a take, and no drain
+abbrev IsNotFull : Reply → Type 0
+IsNotFull reply = (name : Name) → reply ≢ Refused (Full name)
+
+-- neither a post nor a take, no drain, and no full queue
 pub record IsQuiet (e : Entry) : Type 0 where
   pub posts : (made : List (Option Name)) → IsNoPost made e
   pub drain : (most k : ℕ) → e.call ≡ Drain most → e.reply ≡ Drained k → ⊥
+  pub unfilled : IsNotFull e.reply
 
 no_posts : (at j : ℕ) (made : List (Option Name)) (e : Entry) → IsQuiet e → posts_made at j made (e ∷ []) ≡ []
 no_posts at j made e q = let n = q.posts made in told_nothing (λ e. post_of_release j made e.worker e.call e.reply) at e (n.made_none j)
@@ -68,129 +78,138 @@ no_takes : (i at : ℕ) (e : Entry) → IsQuiet e → posts_taken i at (e ∷ []
 no_takes i at e q = let n = q.posts [] in told_nothing (λ e. post_of_take i e.call e.reply) at e (n.taken_none i)
 
 -- the same end of a worker whose ends are the same
-same_end : {sli : ℕ} (a v : QueueWorker sli) (j : ℕ) (p q : PosterEnd) → queue_end_to v j ≡ queue_end_to a j → queue_end_to a j ≡ Some p → queue_end_to v j ≡ Some q → q ≡ p
+same_end : {sli : ℕ} (a v : Worker sli Queues) (j : ℕ) (p q : PosterEnd) → queue_end_to v j ≡ queue_end_to a j → queue_end_to a j ≡ Some p → queue_end_to v j ≡ Some q → q ≡ p
 same_end a v j p q same is_p is_q = some_same q p (sym is_q ∙ (same ∙ is_p))
 
-quiet_moved : {sli : ℕ} (at : ℕ) (made : List (Option Name)) (a v : QueueWorker sli) (limit : ℕ) (call : Call) (e : Entry) → SameButQueueHeap a v → KeepsHeap (queue_heap a) (queue_heap v) → IsQuiet e
+quiet_moved : {sli : ℕ} (at : ℕ) (made : List (Option Name)) (a v : Worker sli Queues) (limit : ℕ) (call : Call) (e : Entry) → SameButHeap a v → KeepsHeap (heap_of a) (heap_of v) → IsQuiet e
     → QueueMoved at made a limit (call ∷ []) (e ∷ []) v limit
 quiet_moved at made a v limit call e same kept quiet = record {
   yard = keeps_heap a v same kept;
-  sent = λ j p q is_p is_q. rw (no_posts at j made e quiet) (ap put_by (same_end a v j p q (ap (λ f. f j) same.2) is_p is_q) ∙ sym (append-nil (put_by p)));
-  taken = λ i. rw (no_takes i at e quiet) (ap (λ (o : OwnerEnd). posts_of i (got_by o)) same.1 ∙ sym (append-nil (posts_of i (got_by a.own))));
+  sent = λ j p q is_p is_q. rw (no_posts at j made e quiet) (ap put_by (same_end a v j p q (λ t. queue_to (same.1 t) j) is_p is_q) ∙ sym (append-nil (put_by p)));
+  taken = λ i. rw (no_takes i at e quiet) ((λ t. posts_of i (got_by (same.1 t).own)) ∙ sym (append-nil (posts_of i (got_by a.ports.own))));
   drained = λ before x most k s c r lt i. let o = the_one e before x s in absurd (quiet.drain most k (ap (λ (y : Entry). y.call) (sym o.1) ∙ c) (ap (λ (y : Entry). y.reply) (sym o.1) ∙ r));
+  full = λ before x name p s r is_p only. let o = the_one e before x s in absurd (quiet.unfilled name (ap (λ (y : Entry). y.reply) (sym o.1) ∙ r));
   room = omega arith;
 }
 
-pub quiet_stepped : {sli : ℕ} (n : ℕ) (a v : QueueWorker sli) (limit : ℕ) (call : Call) (made : List (Option Name)) (entries : List Entry) (reply : Reply) → SameButQueueHeap a v → KeepsHeap (queue_heap a) (queue_heap v)
-    → IsQuiet (entry_by (queue_id a) call reply)
-    → MayTellQueue sli n (queue_id a) (told_of made entries (queue_heap a)) call (told_of (made ++ made_by reply ∷ []) (entries ++ entry_by (queue_id a) call reply ∷ []) (queue_heap v))
+pub quiet_stepped : {sli : ℕ} (n : ℕ) (a v : Worker sli Queues) (limit : ℕ) (call : Call) (made : List (Option Name)) (entries : List Entry) (reply : Reply) → SameButHeap a v → KeepsHeap (heap_of a) (heap_of v)
+    → IsQuiet (entry_by (id_of a) call reply)
+    → MayTellQueue sli n (id_of a) (told_of made entries (heap_of a)) call (told_of (made ++ made_by reply ∷ []) (entries ++ entry_by (id_of a) call reply ∷ []) (heap_of v))
     → QueueStepped n a limit call made entries v limit entries reply
 quiet_stepped n a v limit call made entries reply same kept quiet told = record {
   own = [];
   entries_are = sym (append-nil entries);
   told = told;
-  moved = λ rest. quiet_moved (queue_id a) (made ++ rest) a v limit call (entry_by (queue_id a) call reply) same kept quiet;
+  moved = λ rest. quiet_moved (id_of a) (made ++ rest) a v limit call (entry_by (id_of a) call reply) same kept quiet;
 }
 
 -- ---- a post
 
 -- an end leads to another worker
-pub ends_are : {sli : ℕ} (n : ℕ) (a : QueueWorker sli) → KnowsQueueYard n a → (j : ℕ) (p : PosterEnd) → queue_end_to a j ≡ Some p → IsOtherOf n (queue_id a) j
+pub ends_are : {sli : ℕ} (n : ℕ) (a : Worker sli Queues) → KnowsQueueYard n a → (j : ℕ) (p : PosterEnd) → queue_end_to a j ≡ Some p → IsOtherOf n (id_of a) j
 ends_are n a k j p is = elim (cases_lt j n) [
-  | inl lt ↦ elim (cases_eq j (queue_id a)) [
+  | inl lt ↦ elim (cases_eq j (id_of a)) [
     | inl e ↦ let none = k.none j (λ other. other.1 e) in absurd cc
     | inr ne ↦ (lt, ne)
   ]
   | inr ge ↦ let none = k.none j (λ other. let lt = other.0 in omega arith) in absurd cc
 ]
 
-put_sent : {sli : ℕ} (a v : QueueWorker sli) (target : Target) (name : Name) (done : Unit {0}) (made : List (Option Name)) (n : ℕ) → KnowsQueueYard n a → name_of made target ≡ Some name
+put_sent : {sli : ℕ} (a v : Worker sli Queues) (target : Target) (name : Name) (done : Unit {0}) (made : List (Option Name)) (n : ℕ) → KnowsQueueYard n a → name_of made target ≡ Some name
     → PutToQueue a v name.heap name (Ok done) → (j : ℕ) (p q : PosterEnd) → queue_end_to a j ≡ Some p → queue_end_to v j ≡ Some q
-    → put_by q ≡ put_by p ++ posts_made (queue_id a) j made (entry_by (queue_id a) (Release target) Posted ∷ [])
+    → put_by q ≡ put_by p ++ posts_made (id_of a) j made (entry_by (id_of a) (Release target) Posted ∷ [])
 put_sent a v target name done made n k known put j p q is_p is_q =
-    let at = queue_id a in
+    let at = id_of a in
     elim (cases_eq j name.heap) [
       | inl e ↦
-          let old : p ≡ put.end = some_same p put.end (sym is_p ∙ (ap (queue_end_to a) e ∙ put.end_is)) in
-          let new : q ≡ put.new_end = some_same q put.new_end (sym is_q ∙ (ap (queue_end_to v) e ∙ put.new_end_is)) in
-          let other : IsOtherOf n at name.heap = ends_are n a k name.heap put.end put.end_is in
+          let old : p ≡ put.1.end = some_same p put.1.end (sym is_p ∙ (ap (queue_end_to a) e ∙ put.1.end_is)) in
+          let new : q ≡ put.1.new_end = some_same q put.1.new_end (sym is_q ∙ (ap (queue_end_to v) e ∙ put.1.new_end_is)) in
+          let other : IsOtherOf n at name.heap = ends_are n a k name.heap put.1.end put.1.end_is in
           let known_end = k.to name.heap other in
-          let by : number_of put.end ≡ at = ap number_of (some_same put.end known_end.0 (sym put.end_is ∙ known_end.1)) ∙ known_end.2 in
-          rw (old, new, e, posted_same at made target name known) (put.ok ∙ ap (λ (i : ℕ). put_by put.end ++ record { from = i; name = name } ∷ []) by)
-      | inr e ↦ rw (release_posts_elsewhere at j made target name known e) (ap put_by (same_end a v j p q (put.others j e) is_p is_q) ∙ sym (append-nil (put_by p)))
+          let by : number_of put.1.end ≡ at = ap number_of (some_same put.1.end known_end.0 (sym put.1.end_is ∙ known_end.1)) ∙ known_end.2 in
+          rw (old, new, e, posted_same at made target name known) (put.1.ok ∙ ap (λ (i : ℕ). put_by put.1.end ++ record { from = i; name = name } ∷ []) by)
+      | inr e ↦ rw (release_posts_elsewhere at j made target name known e) (ap put_by (same_end a v j p q (put.1.others j e) is_p is_q) ∙ sym (append-nil (put_by p)))
     ]
 
-posted_moved : {sli : ℕ} (n : ℕ) (made : List (Option Name)) (a v : QueueWorker sli) (limit : ℕ) (target : Target) (name : Name) (done : Unit {0}) → KnowsQueueYard n a → name_of made target ≡ Some name
-    → PutToQueue a v name.heap name (Ok done) → QueueMoved (queue_id a) made a limit (Release target ∷ []) (entry_by (queue_id a) (Release target) Posted ∷ []) v limit
+posted_moved : {sli : ℕ} (n : ℕ) (made : List (Option Name)) (a v : Worker sli Queues) (limit : ℕ) (target : Target) (name : Name) (done : Unit {0}) → KnowsQueueYard n a → name_of made target ≡ Some name
+    → PutToQueue a v name.heap name (Ok done) → QueueMoved (id_of a) made a limit (Release target ∷ []) (entry_by (id_of a) (Release target) Posted ∷ []) v limit
 posted_moved n made a v limit target name done k known put =
-    let e = entry_by (queue_id a) (Release target) Posted in
+    let e = entry_by (id_of a) (Release target) Posted in
     record {
       yard = keeps_put a v name.heap name (Ok done) put;
       sent = put_sent a v target name done made n k known put;
-      taken = λ i. let none = told_nothing (λ e. post_of_take i e.call e.reply) (queue_id a) e refl in
-          rw none (ap (λ (o : OwnerEnd). posts_of i (got_by o)) put.same.2 ∙ sym (append-nil (posts_of i (got_by a.own))));
+      taken = λ i. let none = told_nothing (λ e. post_of_take i e.call e.reply) (id_of a) e refl in
+          rw none (ap (λ (o : OwnerEnd). posts_of i (got_by o)) put.1.same ∙ sym (append-nil (posts_of i (got_by a.ports.own))));
       drained = λ before x most m s c r lt i. let o = the_one e before x s in absurd (let h = ap (λ (y : Entry). y.call) (sym o.1) ∙ c in cc);
+      full = λ before x other p s r is_p only. let o = the_one e before x s in absurd (let h = ap (λ (y : Entry). y.reply) (sym o.1) ∙ r in cc);
       room = omega arith;
     }
 
-full_moved : {sli : ℕ} (made : List (Option Name)) (a v : QueueWorker sli) (limit : ℕ) (target : Target) (name back : Name)
-    → PutToQueue a v name.heap name (Err back) → QueueMoved (queue_id a) made a limit (Release target ∷ []) (entry_by (queue_id a) (Release target) (Refused (Full name)) ∷ []) v limit
+full_moved : {sli : ℕ} (made : List (Option Name)) (a v : Worker sli Queues) (limit : ℕ) (target : Target) (name back : Name)
+    → PutToQueue a v name.heap name (Err back) → QueueMoved (id_of a) made a limit (Release target ∷ []) (entry_by (id_of a) (Release target) (Refused (Full name)) ∷ []) v limit
 full_moved made a v limit target name back put =
-    let e = entry_by (queue_id a) (Release target) (Refused (Full name)) in
+    let e = entry_by (id_of a) (Release target) (Refused (Full name)) in
     record {
       yard = keeps_put a v name.heap name (Err back) put;
       sent = λ j p q is_p is_q.
-          let none = told_nothing (λ e. post_of_release j made e.worker e.call e.reply) (queue_id a) e refl in
+          let none = told_nothing (λ e. post_of_release j made e.worker e.call e.reply) (id_of a) e refl in
           rw none (elim (cases_eq j name.heap) [
             | inl h ↦
-                let old : p ≡ put.end = some_same p put.end (sym is_p ∙ (ap (queue_end_to a) h ∙ put.end_is)) in
-                let new : q ≡ put.new_end = some_same q put.new_end (sym is_q ∙ (ap (queue_end_to v) h ∙ put.new_end_is)) in
-                rw (old, new) (put.full.1 ∙ sym (append-nil (put_by put.end)))
-            | inr h ↦ ap put_by (same_end a v j p q (put.others j h) is_p is_q) ∙ sym (append-nil (put_by p))
+                let old : p ≡ put.1.end = some_same p put.1.end (sym is_p ∙ (ap (queue_end_to a) h ∙ put.1.end_is)) in
+                let new : q ≡ put.1.new_end = some_same q put.1.new_end (sym is_q ∙ (ap (queue_end_to v) h ∙ put.1.new_end_is)) in
+                rw (old, new) (put.1.full.1 ∙ sym (append-nil (put_by put.1.end)))
+            | inr h ↦ ap put_by (same_end a v j p q (put.1.others j h) is_p is_q) ∙ sym (append-nil (put_by p))
           ]);
-      taken = λ i. let none = told_nothing (λ e. post_of_take i e.call e.reply) (queue_id a) e refl in
-          rw none (ap (λ (o : OwnerEnd). posts_of i (got_by o)) put.same.2 ∙ sym (append-nil (posts_of i (got_by a.own))));
+      taken = λ i. let none = told_nothing (λ e. post_of_take i e.call e.reply) (id_of a) e refl in
+          rw none (ap (λ (o : OwnerEnd). posts_of i (got_by o)) put.1.same ∙ sym (append-nil (posts_of i (got_by a.ports.own))));
       drained = λ before x most m s c r lt i. let o = the_one e before x s in absurd (let h = ap (λ (y : Entry). y.call) (sym o.1) ∙ c in cc);
+      full = λ before x other p s r is_p only.
+          let o = the_one e before x s in
+          let reply : Refused (Full name) ≡ Refused (Full other) = ap (λ (y : Entry). y.reply) (sym o.1) ∙ r in
+          let name_is : name ≡ other = cc in
+          let end : put.1.end ≡ p = some_same put.1.end p (sym put.1.end_is ∙ (ap (λ (n : Name). queue_end_to a n.heap) name_is ∙ is_p)) in
+          let filled = subst HasFilled end (put.1.alone (subst IsOnlyPoster (sym end) only)) in
+          omega (arith, filled);
       room = omega arith;
     }
 
-put_stepped : {sli : ℕ} (n : ℕ) (a v : QueueWorker sli) (limit : ℕ) (target : Target) (name : Name) (made : List (Option Name)) (entries : List Entry) (put : Result (Unit {0}) Name) → KnowsQueueYard n a
-    → name_of made target ≡ Some name → name.heap ≢ queue_id a → name.heap < n → PutToQueue a v name.heap name put
+put_stepped : {sli : ℕ} (n : ℕ) (a v : Worker sli Queues) (limit : ℕ) (target : Target) (name : Name) (made : List (Option Name)) (entries : List Entry) (put : Result (Unit {0}) Name) → KnowsQueueYard n a
+    → name_of made target ≡ Some name → name.heap ≢ id_of a → name.heap < n → PutToQueue a v name.heap name put
     → QueueStepped n a limit (Release target) made entries v limit entries (reply_released (posted_as (put_answer name put)))
 put_stepped {sli} n a v limit target name made entries (Ok done) k known ne near put =
-    let at = queue_id a in
+    let at = id_of a in
     record {
       own = [];
       entries_are = sym (append-nil entries);
-      told = rw put.same.0 (posted_tells sli n at (queue_heap a) made entries target name k.self known ne near);
+      told = rw (ports_heap a v put.0) (posted_tells sli n at (heap_of a) made entries target name k.self known ne near);
       moved = λ rest. posted_moved n (made ++ rest) a v limit target name done k (more_knows made rest target name known) put;
     }
 put_stepped {sli} n a v limit target name made entries (Err back) k known ne near put =
-    let at = queue_id a in
+    let at = id_of a in
     record {
       own = [];
       entries_are = sym (append-nil entries);
-      told = rw put.same.0 (full_tells sli n at (queue_heap a) made entries target name k.self known ne near);
+      told = rw (ports_heap a v put.0) (full_tells sli n at (heap_of a) made entries target name k.self known ne near);
       moved = λ rest. full_moved (made ++ rest) a v limit target name back put;
     }
 
 stranger_quiet : (at : ℕ) (target : Target) → IsQuiet (entry_by at (Release target) (Refused Stranger))
-stranger_quiet at target = record { posts = λ made. record { made_none = λ j. refl; taken_none = λ i. refl }; drain = λ most k c r. cc }
+stranger_quiet at target = record { posts = λ made. record { made_none = λ j. refl; taken_none = λ i. refl }; drain = λ most k c r. cc; unfilled = λ name r. cc }
 
 end_or : (o : Option PosterEnd) → ((p : PosterEnd) × (o ≡ Some p)) ⊎ ¬ ((p : PosterEnd) × (o ≡ Some p))
 end_or None = inr (λ h. let e = h.1 in cc)
 end_or (Some p) = inl (p, refl)
 
-far_stepped : {sli : ℕ} (n : ℕ) (a : QueueWorker sli) (limit : ℕ) (target : Target) (name : Name) (made : List (Option Name)) (entries : List Entry) → KnowsQueueYard n a → name_of made target ≡ Some name
-    → name.heap ≢ queue_id a → ¬ (HasQueueEnd a name.heap) → QueueStepped n a limit (Release target) made entries a limit entries (Refused Stranger)
+far_stepped : {sli : ℕ} (n : ℕ) (a : Worker sli Queues) (limit : ℕ) (target : Target) (name : Name) (made : List (Option Name)) (entries : List Entry) → KnowsQueueYard n a → name_of made target ≡ Some name
+    → name.heap ≢ id_of a → ¬ (HasQueueEnd a name.heap) → QueueStepped n a limit (Release target) made entries a limit entries (Refused Stranger)
 far_stepped {sli} n a limit target name made entries k known ne none =
-    let at = queue_id a in
+    let at = id_of a in
     let far : n ≤ name.heap = elim (cases_lt name.heap n) [
       | inl lt ↦ let known_end = k.to name.heap (lt, ne) in absurd (none (known_end.0, known_end.1))
       | inr ge ↦ ge
     ] in
-    quiet_stepped n a a limit (Release target) made entries (Refused Stranger) (refl, refl, refl) (same_heap_keeps (queue_heap a) (queue_heap a) refl) (stranger_quiet at target)
-    (far_tells sli n at (queue_heap a) made entries target name k.self known ne far)
+    quiet_stepped n a a limit (Release target) made entries (Refused Stranger) (refl, refl) (same_heap_keeps (heap_of a) (heap_of a) refl) (stranger_quiet at target)
+    (far_tells sli n at (heap_of a) made entries target name k.self known ne far)
 
 -- ---- takes
 
@@ -202,32 +221,32 @@ abbrev post_in : Took → Post
 post_in took = record { from = took.from; name = took.name }
 
 -- one post was taken and released
-record OneTaken {sli : ℕ} (n : ℕ) (a b : QueueWorker sli) (took : Took) : Type 0 where
+record OneTaken {sli : ℕ} (n : ℕ) (a b : Worker sli Queues) (took : Took) : Type 0 where
   post : Post
-  other : IsOfOther n (queue_id a) post
-  told : took ≡ took_of post (released (queue_heap a) post.name).answer
-  heap : queue_heap b ≡ (released (queue_heap a) post.name).heap
-  got : got_by b.own ≡ got_by a.own ++ post ∷ []
+  other : IsOfOther n (id_of a) post
+  told : took ≡ took_of post (released (heap_of a) post.name).answer
+  heap : heap_of b ≡ (released (heap_of a) post.name).heap
+  got : got_by b.ports.own ≡ got_by a.ports.own ++ post ∷ []
   ends : queue_end_to b ≡ queue_end_to a
   keeps : KeepsQueueYards a b
 
-taken_by : {sli : ℕ} (n : ℕ) (a c b : QueueWorker sli) (post : Option Post) (took : Took) → KnowsQueueYard n a → TookFromQueue a c post → AfterQueueTake c b post (Some took) → OneTaken n a b took
+taken_by : {sli : ℕ} (n : ℕ) (a c b : Worker sli Queues) (post : Option Post) (took : Took) → KnowsQueueYard n a → TookFromQueue a c post → AfterTake c b post (Some took) → OneTaken n a b took
 unfolding released
 taken_by n a c b None took k q after = let e = after.0 in absurd cc
 taken_by n a c b (Some p) took k q after =
-    let h : queue_heap c ≡ queue_heap a = q.same.0 in
+    let h : heap_of c ≡ heap_of a = ports_heap a c q.0 in
     record {
       post = p;
-      other = (omega (arith, q.from.0, k.own.1), λ e. q.from.1 (e ∙ sym k.own.0));
-      told = some_same took (took_of p (heap.released (queue_heap c) p.name).answer) after.0 ∙ ap (λ (g : HeapState). took_of p (heap.released g p.name).answer) h;
+      other = (omega (arith, q.1.from.0, k.own.1), λ e. q.1.from.1 (e ∙ sym k.own.0));
+      told = some_same took (took_of p (heap.released (heap_of c) p.name).answer) after.0 ∙ ap (λ (g : HeapState). took_of p (heap.released g p.name).answer) h;
       heap = after.1 ∙ ap (λ (g : HeapState). (heap.released g p.name).heap) h;
-      got = ap got_by after.2.1 ∙ q.some;
-      ends = after.2.2 ∙ q.same.2;
-      keeps = keeps_then a c b (keeps_take a c (Some p) q) (keeps_heap c b after.2 (call_keeps (queue_heap c) (queue_heap b) (heap.Release p.name) after.1));
+      got = (λ t. got_by (after.2.1 t).own) ∙ q.1.some;
+      ends = (λ t. queue_to (after.2.1 t)) ∙ q.1.same;
+      keeps = keeps_then a c b (keeps_take a c (Some p) q) (keeps_heap c b after.2 (call_keeps (heap_of c) (heap_of b) (heap.Release p.name) after.1));
     }
 
-one_taken : {sli : ℕ} (n : ℕ) (a b : QueueWorker sli) (took : Took) → KnowsQueueYard n a → TakenFromQueue a b (Some took) → OneTaken n a b took
-one_taken n a b took k t = taken_by n a t.between b t.post took k t.queue t.then
+one_taken : {sli : ℕ} (n : ℕ) (a b : Worker sli Queues) (took : Took) → KnowsQueueYard n a → TakenFromQueue a b (Some took) → OneTaken n a b took
+one_taken n a b took k t = taken_by n a t.between b t.post took k t.took t.then
 
 -- what the entry of a take tells
 pub take_tells : (i at : ℕ) (took : Took) → posts_taken i at (entry_by at (Take took.from) (Taken took) ∷ []) ≡ posts_of i (post_in took ∷ [])
@@ -249,22 +268,23 @@ take_tells i at took =
     ]
 
 -- the takes of a drain, one after another, by worker `at`, and what its journal notes of them
-record TakenAll {sli : ℕ} (n at : ℕ) (a v : QueueWorker sli) (x y : QueueJournal) (count : ℕ) : Type 0 where
+record TakenAll {sli : ℕ} (n at : ℕ) (a v : Worker sli Queues) (x y : QueueJournal) (count : ℕ) : Type 0 where
   posts : List Post
   own : List Entry
   others : All (IsOfOther n at) posts
   count_is : (length posts ≡ count) × (length own ≡ count)
   entries : y.entries.items ≡ x.entries.items ++ own
-  told : (made : List (Option Name)) → told_takes at (told_of made x.entries.items (queue_heap a)) posts ≡ told_of made y.entries.items (queue_heap v)
-  got : got_by v.own ≡ got_by a.own ++ posts
+  told : (made : List (Option Name)) → told_takes at (told_of made x.entries.items (heap_of a)) posts ≡ told_of made y.entries.items (heap_of v)
+  got : got_by v.ports.own ≡ got_by a.ports.own ++ posts
   ends : queue_end_to v ≡ queue_end_to a
   keeps : KeepsQueueYards a v
   taken : (i : ℕ) → posts_taken i at own ≡ posts_of i posts
   made_none : (j : ℕ) (made : List (Option Name)) → posts_made at j made own ≡ []
   no_drain : (before : List Entry) (e : Entry) (most : ℕ) → StandsBehind own before e → e.call ≡ Drain most → ⊥
+  unfilled : (before : List Entry) (e : Entry) → StandsBehind own before e → IsNotFull e.reply
   left : y.limit + length own ≡ x.limit
 
-taken_all : {sli : ℕ} (n at : ℕ) (a v : QueueWorker sli) (x y : QueueJournal) (tooks : List Took) → queue_id a ≡ at → KnowsQueueYard n a → QueueNotedInTurn IsQueueNoted a v x y tooks → TakenAll n at a v x y (length tooks)
+taken_all : {sli : ℕ} (n at : ℕ) (a v : Worker sli Queues) (x y : QueueJournal) (tooks : List Took) → id_of a ≡ at → KnowsQueueYard n a → NotedInTurn TakesFromQueue IsQueueNoted a v x y 0 tooks → TakenAll n at a v x y (length tooks)
 taken_all n at a v x y [] is k t =
     rw (t.0, t.1) (record {
       posts = [];
@@ -273,12 +293,13 @@ taken_all n at a v x y [] is k t =
       count_is = (refl, refl);
       entries = sym (append-nil x.entries.items);
       told = λ made. refl;
-      got = sym (append-nil (got_by a.own));
+      got = sym (append-nil (got_by a.ports.own));
       ends = refl;
       keeps = keeps_all a;
       taken = λ i. refl;
       made_none = λ j made. refl;
       no_drain = λ before e most s c. no_entry before e s;
+      unfilled = λ before e s. absurd (no_entry before e s);
       left = omega arith;
     })
 taken_all n at a v x y (took ∷ tooks) is k t =
@@ -286,7 +307,7 @@ taken_all n at a v x y (took ∷ tooks) is k t =
     let z = t.1 in
     let one = one_taken n a b took k t.2 in
     let noted = t.3 in
-    let b_is : queue_id b ≡ at = one.keeps.number ∙ is in
+    let b_is : id_of b ≡ at = one.keeps.number ∙ is in
     let rest = taken_all n at b v z y tooks b_is (knows_kept n a b one.keeps k) t.4 in
     let e : Entry = entry_by at (Take took.from) (Taken took) in
     let longer : z.entries.items ≡ x.entries.items ++ e ∷ [] = noted.entries ∙ ap (λ (i : ℕ). x.entries.items ++ entry_by i (Take took.from) (Taken took) ∷ []) b_is in
@@ -298,12 +319,12 @@ taken_all n at a v x y (took ∷ tooks) is k t =
       count_is = (ap suc rest.count_is.0, ap suc rest.count_is.1);
       entries = rest.entries ∙ (ap (λ l. l ++ rest.own) longer ∙ append_assoc x.entries.items (e ∷ []) rest.own);
       told = λ made.
-          let noted_is : x.entries.items ++ take_entry at (queue_heap a) one.post ∷ [] ≡ z.entries.items
+          let noted_is : x.entries.items ++ take_entry at (heap_of a) one.post ∷ [] ≡ z.entries.items
           = ap (λ (r : Took). x.entries.items ++ entry_by at (Take r.from) (Taken r) ∷ []) (sym one.told) ∙ sym longer in
-          let step : told_take at (told_of made x.entries.items (queue_heap a)) one.post ≡ told_of made z.entries.items (queue_heap b)
+          let step : told_take at (told_of made x.entries.items (heap_of a)) one.post ≡ told_of made z.entries.items (heap_of b)
           = λ i. told_of made (noted_is i) (sym one.heap i) in
           ap (λ (s : Told). told_takes at s rest.posts) step ∙ rest.told made;
-      got = rest.got ∙ (ap (λ l. l ++ rest.posts) one.got ∙ append_assoc (got_by a.own) (one.post ∷ []) rest.posts);
+      got = rest.got ∙ (ap (λ l. l ++ rest.posts) one.got ∙ append_assoc (got_by a.ports.own) (one.post ∷ []) rest.posts);
       ends = rest.ends ∙ one.ends;
       keeps = keeps_then a b v one.keeps rest.keeps;
       taken = λ i.
@@ -317,36 +338,40 @@ taken_all n at a v x y (took ∷ tooks) is k t =
         | inl w ↦ let o = the_one e before u w in let h = ap (λ (y : Entry). y.call) (sym o.1) ∙ c in absurd cc
         | inr w ↦ rest.no_drain w.0 u most w.2 c
       ];
+      unfilled = λ before u s name r. elim (stands_split (e ∷ []) rest.own before u s) [
+        | inl w ↦ let o = the_one e before u w in let h = ap (λ (y : Entry). y.reply) (sym o.1) ∙ r in absurd cc
+        | inr w ↦ rest.unfilled w.0 u w.2 name r
+      ];
       left = omega (arith, rest.left, noted.fewer);
     }
 
 -- ---- the end of a drain
 
-record EndSeen {sli : ℕ} (a v : QueueWorker sli) (most count : ℕ) : Type 0 where
+record EndSeen {sli : ℕ} (a v : Worker sli Queues) (most count : ℕ) : Type 0 where
   keeps : KeepsQueueYards a v
-  heap : queue_heap v ≡ queue_heap a
-  got : got_by v.own ≡ got_by a.own
+  heap : heap_of v ≡ heap_of a
+  got : got_by v.ports.own ≡ got_by a.ports.own
   ends : queue_end_to v ≡ queue_end_to a
-  early : count < most → IsAllTaken v.own
+  early : count < most → IsAllTaken v.ports.own
 
-none_by : {sli : ℕ} (a c v : QueueWorker sli) (post : Option Post) (most count : ℕ) → TookFromQueue a c post → AfterQueueTake c v post None → EndSeen a v most count
-none_by a c v None most count q after = rw after.1 (record { keeps = keeps_take a c None q; heap = q.same.0; got = q.none.0; ends = q.same.2; early = λ lt. q.none.1 })
+none_by : {sli : ℕ} (a c v : Worker sli Queues) (post : Option Post) (most count : ℕ) → TookFromQueue a c post → AfterTake c v post None → EndSeen a v most count
+none_by a c v None most count q after = rw after.1 (record { keeps = keeps_take a c None q; heap = ports_heap a c q.0; got = q.1.none.0; ends = q.1.same; early = λ lt. q.1.none.1 })
 none_by a c v (Some p) most count q after = let e = after.0 in absurd cc
 
-end_seen : {sli : ℕ} (a v : QueueWorker sli) (most count : ℕ) → ((count ≡ most) × (v ≡ a)) ⊎ ((count < most) × TakenFromQueue a v None) → EndSeen a v most count
+end_seen : {sli : ℕ} (a v : Worker sli Queues) (most count : ℕ) → ((count ≡ most) × (v ≡ a)) ⊎ ((count < most) × TakenFromQueue a v None) → EndSeen a v most count
 end_seen a v most count (inl e) = rw e.1 (record { keeps = keeps_all a; heap = refl; got = refl; ends = refl; early = λ lt. absurd (omega (arith, e.0)) })
-end_seen a v most count (inr e) = let t = e.1 in none_by a t.between v t.post most count t.queue t.then
+end_seen a v most count (inr e) = let t = e.1 in none_by a t.between v t.post most count t.took t.then
 
-drained_queue_moved : {sli : ℕ} (n : ℕ) (a last v : QueueWorker sli) (x y : QueueJournal) (most count : ℕ) (made : List (Option Name)) → EndSeen last v most count
-    → (t : TakenAll n (queue_id a) a last x y count) → QueueMoved (queue_id a) made a x.limit (Drain most ∷ []) (t.own ++ entry_by (queue_id a) (Drain most) (Drained count) ∷ []) v y.limit
+drained_queue_moved : {sli : ℕ} (n : ℕ) (a last v : Worker sli Queues) (x y : QueueJournal) (most count : ℕ) (made : List (Option Name)) → EndSeen last v most count
+    → (t : TakenAll n (id_of a) a last x y count) → QueueMoved (id_of a) made a x.limit (Drain most ∷ []) (t.own ++ entry_by (id_of a) (Drain most) (Drained count) ∷ []) v y.limit
 drained_queue_moved n a last v x y most count made seen t =
-    let at = queue_id a in
+    let at = id_of a in
     let z = entry_by at (Drain most) (Drained count) in
     let no_post = λ (j : ℕ). told_nothing (λ e. post_of_release j made e.worker e.call e.reply) at z refl in
     let no_take = λ (i : ℕ). told_nothing (λ e. post_of_take i e.call e.reply) at z refl in
-    let got : got_by v.own ≡ got_by a.own ++ t.posts = seen.got ∙ t.got in
-    let got_of : (i : ℕ) → posts_of i (got_by v.own) ≡ posts_of i (got_by a.own) ++ posts_taken i at t.own =
-    λ i. ap (posts_of i) got ∙ (of_append i (got_by a.own) t.posts ∙ ap (λ l. posts_of i (got_by a.own) ++ l) (sym (t.taken i))) in
+    let got : got_by v.ports.own ≡ got_by a.ports.own ++ t.posts = seen.got ∙ t.got in
+    let got_of : (i : ℕ) → posts_of i (got_by v.ports.own) ≡ posts_of i (got_by a.ports.own) ++ posts_taken i at t.own =
+    λ i. ap (posts_of i) got ∙ (of_append i (got_by a.ports.own) t.posts ∙ ap (λ l. posts_of i (got_by a.ports.own) ++ l) (sym (t.taken i))) in
     let keeps = keeps_then a last v t.keeps seen.keeps in
     record {
       yard = keeps;
@@ -365,30 +390,33 @@ drained_queue_moved n a last v x y most count made seen t =
             let most_is : most ≡ m = cc in
             let count_is : count ≡ k = cc in
             let all = seen.early (omega (arith, most_is, count_is)) in
-            let there : posts_of i (got_by v.own) ≡ posts_of i (got_by a.own) ++ posts_taken i at before = got_of i ∙ ap (λ b. posts_of i (got_by a.own) ++ posts_taken i at b) (sym u.0) in
-            subst (λ l. IsPrefix l (posts_of i (got_by a.own) ++ posts_taken i at before)) (ap (posts_of i) keeps.own.4)
-            (subst (IsPrefix (posts_of i (known_to v.own))) there (all i))
+            let there : posts_of i (got_by v.ports.own) ≡ posts_of i (got_by a.ports.own) ++ posts_taken i at before = got_of i ∙ ap (λ b. posts_of i (got_by a.ports.own) ++ posts_taken i at b) (sym u.0) in
+            subst (λ l. IsPrefix l (posts_of i (got_by a.ports.own) ++ posts_taken i at before)) (ap (posts_of i) keeps.own.4)
+            (subst (IsPrefix (posts_of i (known_to v.ports.own))) there (all i))
+      ];
+      full = λ before e name p s r is_p only. elim (stands_last t.own z before e s) [
+        | inl u ↦ absurd (t.unfilled before e u name r)
+        | inr u ↦ let reply : Drained count ≡ Refused (Full name) = ap (λ (y : Entry). y.reply) (sym u.1) ∙ r in absurd cc
       ];
       room = omega (arith, length-append t.own (z ∷ []), t.left);
     }
 
-pub drain_stepped : {sli : ℕ} (n : ℕ) (a v : QueueWorker sli) (x y : QueueJournal) (most : ℕ) (made : List (Option Name)) (d : WasDrained) → KnowsQueueYard n a → QueueNoted IsQueueNoted a v x y most d
-    → QueueStepped n a x.limit (Drain most) made x.entries.items v y.limit y.entries.items (Drained d.taken)
-drain_stepped n a v x y most made d k noted =
-    let at = queue_id a in
-    let count = length noted.tooks in
-    let t = taken_all n at a noted.last x y noted.tooks refl k noted.takes in
-    let seen = end_seen noted.last v most count noted.end in
-    let taken_is : d.taken ≡ count = noted.count.0 in
+pub drain_stepped : {sli : ℕ} (n : ℕ) (a v : Worker sli Queues) (x y : QueueJournal) (most : ℕ) (made : List (Option Name)) (tooks : List Took) → KnowsQueueYard n a → QueueNoted IsQueueNoted IsQueueAdmitted a v x y most tooks
+    → QueueStepped n a x.limit (Drain most) made x.entries.items v y.limit y.entries.items (Drained (length tooks))
+drain_stepped n a v x y most made tooks k noted =
+    let at = id_of a in
+    let count = length tooks in
+    let t = taken_all n at a noted.last x y tooks refl k noted.turns in
+    let seen = end_seen noted.last v most count (queue_ends IsQueueAdmitted noted.last v y most count noted.end) in
     let few : length t.posts ≤ most = elim noted.end [
       | inl e ↦ omega (arith, e.0, t.count_is.0)
       | inr e ↦ omega (arith, e.0, t.count_is.0)
     ] in
     let count_is : count ≡ length t.posts = sym t.count_is.0 in
-    let left : told_of (made ++ None ∷ []) (y.entries.items ++ entry_by at (Drain most) (Drained count) ∷ []) (queue_heap v)
-    ≡ told_of (made ++ None ∷ []) (y.entries.items ++ entry_by at (Drain most) (Drained (length t.posts)) ∷ []) (queue_heap noted.last) =
+    let left : told_of (made ++ None ∷ []) (y.entries.items ++ entry_by at (Drain most) (Drained count) ∷ []) (heap_of v)
+    ≡ told_of (made ++ None ∷ []) (y.entries.items ++ entry_by at (Drain most) (Drained (length t.posts)) ∷ []) (heap_of noted.last) =
     λ i. told_of (made ++ None ∷ []) (y.entries.items ++ entry_by at (Drain most) (Drained (count_is i)) ∷ []) (seen.heap i) in
-    rw taken_is (record {
+    record {
       own = t.own;
       entries_are = t.entries;
       told = (
@@ -398,139 +426,167 @@ drain_stepped n a v x y most made d k noted =
         left ∙ sym (ap (λ (s : Told). told_reply at s (Drain most) (Drained (length t.posts))) (t.told made)),
       );
       moved = λ rest. drained_queue_moved n a noted.last v x y most count (made ++ rest) seen t;
-    })
+    }
 
 -- the room for entries stays
-turns_capacity : {sli : ℕ} (a v : QueueWorker sli) (x y : QueueJournal) (tooks : List Took) → QueueNotedInTurn IsQueueNoted a v x y tooks → vec_capacity y.entries ≡ vec_capacity x.entries
+turns_capacity : {sli : ℕ} (a v : Worker sli Queues) (x y : QueueJournal) (tooks : List Took) → NotedInTurn TakesFromQueue IsQueueNoted a v x y 0 tooks → vec_capacity y.entries ≡ vec_capacity x.entries
 turns_capacity a v x y [] t = ap (λ (z : QueueJournal). vec_capacity z.entries) t.1
 turns_capacity a v x y (took ∷ tooks) t = turns_capacity t.0 v t.1 y tooks t.4 ∙ (let noted = t.3 in noted.capacity)
 
-pub drain_capacity : {sli : ℕ} (a v : QueueWorker sli) (x y : QueueJournal) (most : ℕ) (d : WasDrained) → QueueNoted IsQueueNoted a v x y most d → vec_capacity y.entries ≡ vec_capacity x.entries
-drain_capacity a v x y most d n = turns_capacity a n.last x y n.tooks n.takes
+pub drain_capacity : {sli : ℕ} (a v : Worker sli Queues) (x y : QueueJournal) (most : ℕ) (tooks : List Took) → QueueNoted IsQueueNoted IsQueueAdmitted a v x y most tooks → vec_capacity y.entries ≡ vec_capacity x.entries
+drain_capacity a v x y most tooks n = turns_capacity a n.last x y tooks n.turns
 
 -- each post that was taken counts the limit down
-turns_left : {sli : ℕ} (a v : QueueWorker sli) (x y : QueueJournal) (tooks : List Took) → QueueNotedInTurn IsQueueNoted a v x y tooks → y.limit + length tooks ≡ x.limit
+turns_left : {sli : ℕ} (a v : Worker sli Queues) (x y : QueueJournal) (tooks : List Took) → NotedInTurn TakesFromQueue IsQueueNoted a v x y 0 tooks → y.limit + length tooks ≡ x.limit
 turns_left a v x y [] t = omega (arith, ap (λ (z : QueueJournal). z.limit) t.1)
 turns_left a v x y (took ∷ tooks) t = let noted = t.3 in omega (arith, turns_left t.0 v t.1 y tooks t.4, noted.fewer)
 
-pub drain_few : {sli : ℕ} (a v : QueueWorker sli) (x y : QueueJournal) (most : ℕ) (d : WasDrained) → QueueNoted IsQueueNoted a v x y most d → d.taken ≤ x.limit
-drain_few a v x y most d n = omega (arith, turns_left a n.last x y n.tooks n.takes, n.count.0)
+pub drain_few : {sli : ℕ} (a v : Worker sli Queues) (x y : QueueJournal) (most : ℕ) (tooks : List Took) → QueueNoted IsQueueNoted IsQueueAdmitted a v x y most tooks → length tooks ≤ x.limit
+drain_few a v x y most tooks n = omega (arith, turns_left a n.last x y tooks n.turns)
 
 -- a drain leaves the ends to other queues
-pub drain_ends : {sli : ℕ} (n : ℕ) (a v : QueueWorker sli) (x y : QueueJournal) (most : ℕ) (d : WasDrained) → KnowsQueueYard n a → QueueNoted IsQueueNoted a v x y most d → queue_end_to v ≡ queue_end_to a
-drain_ends n a v x y most d k noted =
-    let t = taken_all n (queue_id a) a noted.last x y noted.tooks refl k noted.takes in
-    let seen = end_seen noted.last v most (length noted.tooks) noted.end in
+pub drain_ends : {sli : ℕ} (n : ℕ) (a v : Worker sli Queues) (x y : QueueJournal) (most : ℕ) (tooks : List Took) → KnowsQueueYard n a → QueueNoted IsQueueNoted IsQueueAdmitted a v x y most tooks → queue_end_to v ≡ queue_end_to a
+drain_ends n a v x y most tooks k noted =
+    let t = taken_all n (id_of a) a noted.last x y tooks refl k noted.turns in
+    let seen = end_seen noted.last v most (length tooks) (queue_ends IsQueueAdmitted noted.last v y most (length tooks) noted.end) in
     seen.ends ∙ t.ends
 
 -- ---- calls on the own heap
 
 -- a call that posts and takes nothing, whatever the reply
 abbrev IsOwnCall : Call → Type 0
-IsOwnCall call = (at : ℕ) (reply : Reply) → IsQuiet (entry_by at call reply)
+IsOwnCall call = (at : ℕ) (reply : Reply) → IsNotFull reply → IsQuiet (entry_by at call reply)
+
+made_unfilled : (r : Result Name Refusal) → IsNotFull (reply_made r)
+made_unfilled (Ok made) name e = cc
+made_unfilled (Err why) name e = cc
+
+wrote_unfilled : (n : ℕ) (r : Result (Unit {0}) Refusal) → IsNotFull (reply_wrote n r)
+wrote_unfilled n (Ok done) name e = cc
+wrote_unfilled n (Err why) name e = cc
+
+writing_unfilled : (h : HeapState) (o : Option Name) (from : ℕ) (bytes : List ℕ) → IsNotFull (own_writing h o from bytes).reply
+writing_unfilled h None from bytes name e = cc
+writing_unfilled h (Some target) from bytes name e = wrote_unfilled (length bytes) (written h target from bytes).answer name e
+
+got_unfilled : (r : Result Chunk Refusal) → IsNotFull (reply_got r)
+got_unfilled (Ok bytes) name e = cc
+got_unfilled (Err why) name e = cc
+
+reading_unfilled : (h : HeapState) (o : Option Name) (from n : ℕ) → IsNotFull (own_reading h o from n).reply
+reading_unfilled h None from n name e = cc
+reading_unfilled h (Some target) from n name e = got_unfilled (chunk_read h target from n) name e
+
+resized_unfilled : (r : Result (Unit {0}) Refusal) → IsNotFull (reply_resized r)
+resized_unfilled (Ok done) name e = cc
+resized_unfilled (Err why) name e = cc
+
+resizing_unfilled : (h : HeapState) (o : Option Name) (len : ℕ) → IsNotFull (own_resizing h o len).reply
+resizing_unfilled h None len name e = cc
+resizing_unfilled h (Some target) len name e = resized_unfilled (resized h target len).answer name e
 
 allocate_quiet : (len : ℕ) → IsOwnCall (Allocate len)
-allocate_quiet len at reply = record { posts = λ made. record { made_none = λ j. refl; taken_none = λ i. refl }; drain = λ most k c r. cc }
+allocate_quiet len at reply other = record { posts = λ made. record { made_none = λ j. refl; taken_none = λ i. refl }; drain = λ most k c r. cc; unfilled = other }
 
 write_quiet : (target : Target) (from : ℕ) (bytes : Chunk) → IsOwnCall (Write target from bytes)
-write_quiet target from bytes at reply = record { posts = λ made. record { made_none = λ j. refl; taken_none = λ i. refl }; drain = λ most k c r. cc }
+write_quiet target from bytes at reply other = record { posts = λ made. record { made_none = λ j. refl; taken_none = λ i. refl }; drain = λ most k c r. cc; unfilled = other }
 
 read_quiet : (target : Target) (from k : ℕ) → IsOwnCall (Read target from k)
-read_quiet target from k at reply = record { posts = λ made. record { made_none = λ j. refl; taken_none = λ i. refl }; drain = λ most k c r. cc }
+read_quiet target from k at reply other = record { posts = λ made. record { made_none = λ j. refl; taken_none = λ i. refl }; drain = λ most k c r. cc; unfilled = other }
 
 resize_quiet : (target : Target) (len : ℕ) → IsOwnCall (Resize target len)
-resize_quiet target len at reply = record { posts = λ made. record { made_none = λ j. refl; taken_none = λ i. refl }; drain = λ most k c r. cc }
+resize_quiet target len at reply other = record { posts = λ made. record { made_none = λ j. refl; taken_none = λ i. refl }; drain = λ most k c r. cc; unfilled = other }
 
-pub allocate_stepped : {sli : ℕ} (n : ℕ) (a v : QueueWorker sli) (limit len : ℕ) (made : List (Option Name)) (entries : List Entry) (reply : Reply) → KnowsQueueYard n a → SameButQueueHeap a v
-    → reply ≡ (own_allocating sli (queue_heap a) len).reply → queue_heap v ≡ (own_allocating sli (queue_heap a) len).heap → IsLawful (queue_heap v) → QueueStepped n a limit (Allocate len) made entries v limit entries reply
+pub allocate_stepped : {sli : ℕ} (n : ℕ) (a v : Worker sli Queues) (limit len : ℕ) (made : List (Option Name)) (entries : List Entry) (reply : Reply) → KnowsQueueYard n a → SameButHeap a v → KeepsQueueYards a v
+    → reply ≡ (own_allocating sli (heap_of a) len).reply → heap_of v ≡ (own_allocating sli (heap_of a) len).heap → QueueStepped n a limit (Allocate len) made entries v limit entries reply
 unfolding allocated
-allocate_stepped {sli} n a v limit len made entries reply k same e f lawful =
-    quiet_stepped n a v limit (Allocate len) made entries reply same (allocate_keeps sli (queue_heap a) (queue_heap v) len f lawful) (allocate_quiet len (queue_id a) reply)
-    (allocate_tells sli made (queue_heap a) (queue_heap v) len reply e f n (queue_id a) entries k.self)
+allocate_stepped {sli} n a v limit len made entries reply k same keeps e f =
+    quiet_stepped n a v limit (Allocate len) made entries reply same keeps.heap (allocate_quiet len (id_of a) reply (subst IsNotFull (sym e) (made_unfilled (allocated sli (heap_of a) len).answer)))
+    (allocate_tells sli made (heap_of a) (heap_of v) len reply e f n (id_of a) entries k.self)
 
-pub write_stepped : {sli : ℕ} (n : ℕ) (a v : QueueWorker sli) (limit : ℕ) (target : Target) (from : ℕ) (bytes : Chunk) (made : List (Option Name)) (entries : List Entry) (reply : Reply) → KnowsQueueYard n a → SameButQueueHeap a v
-    → reply ≡ (own_writing (queue_heap a) (name_of made target) from (bytes_of bytes)).reply → queue_heap v ≡ (own_writing (queue_heap a) (name_of made target) from (bytes_of bytes)).heap
+pub write_stepped : {sli : ℕ} (n : ℕ) (a v : Worker sli Queues) (limit : ℕ) (target : Target) (from : ℕ) (bytes : Chunk) (made : List (Option Name)) (entries : List Entry) (reply : Reply) → KnowsQueueYard n a → SameButHeap a v
+    → reply ≡ (own_writing (heap_of a) (name_of made target) from (bytes_of bytes)).reply → heap_of v ≡ (own_writing (heap_of a) (name_of made target) from (bytes_of bytes)).heap
     → QueueStepped n a limit (Write target from bytes) made entries v limit entries reply
 write_stepped {sli} n a v limit target from bytes made entries reply k same e f =
-    quiet_stepped n a v limit (Write target from bytes) made entries reply same (write_keeps (queue_heap a) (queue_heap v) (name_of made target) from (bytes_of bytes) f) (write_quiet target from bytes (queue_id a) reply)
-    (write_tells sli made (queue_heap a) (queue_heap v) target from bytes reply e f n (queue_id a) entries k.self)
+    quiet_stepped n a v limit (Write target from bytes) made entries reply same (write_keeps (heap_of a) (heap_of v) (name_of made target) from (bytes_of bytes) f) (write_quiet target from bytes (id_of a) reply (subst IsNotFull (sym e) (writing_unfilled (heap_of a) (name_of made target) from (bytes_of bytes))))
+    (write_tells sli made (heap_of a) (heap_of v) target from bytes reply e f n (id_of a) entries k.self)
 
-pub read_stepped : {sli : ℕ} (n : ℕ) (a v : QueueWorker sli) (limit : ℕ) (target : Target) (from k : ℕ) (made : List (Option Name)) (entries : List Entry) (reply : Reply) → KnowsQueueYard n a → SameButQueueHeap a v
-    → reply ≡ (own_reading (queue_heap a) (name_of made target) from k).reply → queue_heap v ≡ (own_reading (queue_heap a) (name_of made target) from k).heap
+pub read_stepped : {sli : ℕ} (n : ℕ) (a v : Worker sli Queues) (limit : ℕ) (target : Target) (from k : ℕ) (made : List (Option Name)) (entries : List Entry) (reply : Reply) → KnowsQueueYard n a → SameButHeap a v
+    → reply ≡ (own_reading (heap_of a) (name_of made target) from k).reply → heap_of v ≡ (own_reading (heap_of a) (name_of made target) from k).heap
     → QueueStepped n a limit (Read target from k) made entries v limit entries reply
 read_stepped {sli} n a v limit target from k made entries reply knows same e f =
-    quiet_stepped n a v limit (Read target from k) made entries reply same (read_keeps (queue_heap a) (queue_heap v) (name_of made target) from k f) (read_quiet target from k (queue_id a) reply)
-    (read_tells sli made (queue_heap a) (queue_heap v) target from k reply e f n (queue_id a) entries knows.self)
+    quiet_stepped n a v limit (Read target from k) made entries reply same (read_keeps (heap_of a) (heap_of v) (name_of made target) from k f) (read_quiet target from k (id_of a) reply (subst IsNotFull (sym e) (reading_unfilled (heap_of a) (name_of made target) from k)))
+    (read_tells sli made (heap_of a) (heap_of v) target from k reply e f n (id_of a) entries knows.self)
 
-pub resize_stepped : {sli : ℕ} (n : ℕ) (a v : QueueWorker sli) (limit : ℕ) (target : Target) (len : ℕ) (made : List (Option Name)) (entries : List Entry) (reply : Reply) → KnowsQueueYard n a → SameButQueueHeap a v
-    → reply ≡ (own_resizing (queue_heap a) (name_of made target) len).reply → queue_heap v ≡ (own_resizing (queue_heap a) (name_of made target) len).heap
+pub resize_stepped : {sli : ℕ} (n : ℕ) (a v : Worker sli Queues) (limit : ℕ) (target : Target) (len : ℕ) (made : List (Option Name)) (entries : List Entry) (reply : Reply) → KnowsQueueYard n a → SameButHeap a v
+    → reply ≡ (own_resizing (heap_of a) (name_of made target) len).reply → heap_of v ≡ (own_resizing (heap_of a) (name_of made target) len).heap
     → QueueStepped n a limit (Resize target len) made entries v limit entries reply
 resize_stepped {sli} n a v limit target len made entries reply k same e f =
-    quiet_stepped n a v limit (Resize target len) made entries reply same (resize_keeps (queue_heap a) (queue_heap v) (name_of made target) len f) (resize_quiet target len (queue_id a) reply)
-    (resize_tells sli made (queue_heap a) (queue_heap v) target len reply e f n (queue_id a) entries k.self)
+    quiet_stepped n a v limit (Resize target len) made entries reply same (resize_keeps (heap_of a) (heap_of v) (name_of made target) len f) (resize_quiet target len (id_of a) reply (subst IsNotFull (sym e) (resizing_unfilled (heap_of a) (name_of made target) len)))
+    (resize_tells sli made (heap_of a) (heap_of v) target len reply e f n (id_of a) entries k.self)
 
 -- ---- a take, and releases of own names
 
 take_quiet : (at from : ℕ) → IsQuiet (entry_by at (Take from) (Refused Stranger))
-take_quiet at from = record { posts = λ made. record { made_none = λ j. refl; taken_none = λ i. refl }; drain = λ most k c r. cc }
+take_quiet at from = record { posts = λ made. record { made_none = λ j. refl; taken_none = λ i. refl }; drain = λ most k c r. cc; unfilled = λ name r. cc }
 
-pub take_stepped : {sli : ℕ} (n : ℕ) (a : QueueWorker sli) (limit from : ℕ) (made : List (Option Name)) (entries : List Entry) → QueueStepped n a limit (Take from) made entries a limit entries (Refused Stranger)
+pub take_stepped : {sli : ℕ} (n : ℕ) (a : Worker sli Queues) (limit from : ℕ) (made : List (Option Name)) (entries : List Entry) → QueueStepped n a limit (Take from) made entries a limit entries (Refused Stranger)
 take_stepped n a limit from made entries =
-    quiet_stepped n a a limit (Take from) made entries (Refused Stranger) (refl, refl, refl) (same_heap_keeps (queue_heap a) (queue_heap a) refl) (take_quiet (queue_id a) from) refl
+    quiet_stepped n a a limit (Take from) made entries (Refused Stranger) (refl, refl) (same_heap_keeps (heap_of a) (heap_of a) refl) (take_quiet (id_of a) from) refl
 
 unmade_quiet : (at : ℕ) (target : Target) → IsQuiet (entry_by at (Release target) (Refused Unmade))
-unmade_quiet at target = record { posts = λ made. record { made_none = λ j. refl; taken_none = λ i. refl }; drain = λ most k c r. cc }
+unmade_quiet at target = record { posts = λ made. record { made_none = λ j. refl; taken_none = λ i. refl }; drain = λ most k c r. cc; unfilled = λ name r. cc }
 
-pub unmade_stepped : {sli : ℕ} (n : ℕ) (a : QueueWorker sli) (limit : ℕ) (target : Target) (made : List (Option Name)) (entries : List Entry) → KnowsQueueYard n a → name_of made target ≡ None
+pub unmade_stepped : {sli : ℕ} (n : ℕ) (a : Worker sli Queues) (limit : ℕ) (target : Target) (made : List (Option Name)) (entries : List Entry) → KnowsQueueYard n a → name_of made target ≡ None
     → QueueStepped n a limit (Release target) made entries a limit entries (Refused Unmade)
 unmade_stepped {sli} n a limit target made entries k none =
-    quiet_stepped n a a limit (Release target) made entries (Refused Unmade) (refl, refl, refl) (same_heap_keeps (queue_heap a) (queue_heap a) refl) (unmade_quiet (queue_id a) target)
-    (unmade_tells sli n (queue_id a) (queue_heap a) made entries target k.self none)
+    quiet_stepped n a a limit (Release target) made entries (Refused Unmade) (refl, refl) (same_heap_keeps (heap_of a) (heap_of a) refl) (unmade_quiet (id_of a) target)
+    (unmade_tells sli n (id_of a) (heap_of a) made entries target k.self none)
 
 freed_quiet : (at : ℕ) (target : Target) (r : Result (Unit {0}) Refusal) → IsQuiet (entry_by at (Release target) (reply_freed r))
-freed_quiet at target (Ok done) = record { posts = λ made. record { made_none = λ j. refl; taken_none = λ i. refl }; drain = λ most k c r. cc }
-freed_quiet at target (Err why) = record { posts = λ made. record { made_none = λ j. refl; taken_none = λ i. refl }; drain = λ most k c r. cc }
+freed_quiet at target (Ok done) = record { posts = λ made. record { made_none = λ j. refl; taken_none = λ i. refl }; drain = λ most k c r. cc; unfilled = λ name r. cc }
+freed_quiet at target (Err why) = record { posts = λ made. record { made_none = λ j. refl; taken_none = λ i. refl }; drain = λ most k c r. cc; unfilled = λ name r. cc }
 
-free_stepped : {sli : ℕ} (n : ℕ) (a v : QueueWorker sli) (limit : ℕ) (target : Target) (name : Name) (made : List (Option Name)) (entries : List Entry) (reply : Reply) → KnowsQueueYard n a → SameButQueueHeap a v
-    → name_of made target ≡ Some name → name.heap ≡ queue_id a → reply ≡ (own_freeing (queue_heap a) name).reply → queue_heap v ≡ (own_freeing (queue_heap a) name).heap
+free_stepped : {sli : ℕ} (n : ℕ) (a v : Worker sli Queues) (limit : ℕ) (target : Target) (name : Name) (made : List (Option Name)) (entries : List Entry) (reply : Reply) → KnowsQueueYard n a → SameButHeap a v
+    → name_of made target ≡ Some name → name.heap ≡ id_of a → reply ≡ (own_freeing (heap_of a) name).reply → heap_of v ≡ (own_freeing (heap_of a) name).heap
     → QueueStepped n a limit (Release target) made entries v limit entries reply
 unfolding released
 free_stepped {sli} n a v limit target name made entries reply k same known own e f =
-    quiet_stepped n a v limit (Release target) made entries reply same (call_keeps (queue_heap a) (queue_heap v) (heap.Release name) f)
-    (subst (λ r. IsQuiet (entry_by (queue_id a) (Release target) r)) (sym e) (freed_quiet (queue_id a) target (heap.released (queue_heap a) name).answer))
-    (free_tells sli n (queue_id a) (queue_heap a) (queue_heap v) made entries target name reply k.self known own e f)
+    quiet_stepped n a v limit (Release target) made entries reply same (call_keeps (heap_of a) (heap_of v) (heap.Release name) f)
+    (subst (λ r. IsQuiet (entry_by (id_of a) (Release target) r)) (sym e) (freed_quiet (id_of a) target (heap.released (heap_of a) name).answer))
+    (free_tells sli n (id_of a) (heap_of a) (heap_of v) made entries target name reply k.self known own e f)
 
 -- ---- releases
 
 -- what a release promises
-pub record IsQueueRelease {sli : ℕ} (a v : QueueWorker sli) (name : Name) (answer : Result Released CrewRefusal) : Type 0 where
-  pub here : name.heap ≡ queue_id a → ReleasedInOwnHeap a v name answer
-  pub there : name.heap ≢ queue_id a → HasQueueEnd a name.heap → ReleasedIntoQueue a v name answer
-  pub nowhere : name.heap ≢ queue_id a → ¬ (HasQueueEnd a name.heap) → (answer ≡ Err Stranger) × (v ≡ a)
+pub record IsQueueRelease {sli : ℕ} (a v : Worker sli Queues) (name : Name) (answer : Result Released CrewRefusal) : Type 0 where
+  pub here : name.heap ≡ id_of a → ReleasedHere a v name answer
+  pub there : name.heap ≢ id_of a → HasQueueEnd a name.heap → ReleasedThere PutsIntoQueue a v name answer
+  pub nowhere : name.heap ≢ id_of a → ¬ (HasQueueEnd a name.heap) → (answer ≡ Err Stranger) × (v ≡ a)
 
-here_stepped : {sli : ℕ} (n : ℕ) (a v : QueueWorker sli) (limit : ℕ) (target : Target) (name : Name) (made : List (Option Name)) (entries : List Entry) (answer : Result Released CrewRefusal) → KnowsQueueYard n a
-    → name_of made target ≡ Some name → name.heap ≡ queue_id a → ReleasedInOwnHeap a v name answer
+here_stepped : {sli : ℕ} (n : ℕ) (a v : Worker sli Queues) (limit : ℕ) (target : Target) (name : Name) (made : List (Option Name)) (entries : List Entry) (answer : Result Released CrewRefusal) → KnowsQueueYard n a
+    → name_of made target ≡ Some name → name.heap ≡ id_of a → ReleasedHere a v name answer
     → QueueStepped n a limit (Release target) made entries v limit entries (reply_released answer)
 unfolding released
 here_stepped n a v limit target name made entries answer k known own here =
     free_stepped n a v limit target name made entries (reply_released answer) k here.same known own
-    (ap reply_released here.answer_is ∙ freed_reply (heap.released (queue_heap a) name).answer) here.heap
+    (ap reply_released here.answer_is ∙ freed_reply (heap.released (heap_of a) name).answer) here.heap
 
-there_stepped : {sli : ℕ} (n : ℕ) (a v : QueueWorker sli) (limit : ℕ) (target : Target) (name : Name) (made : List (Option Name)) (entries : List Entry) (answer : Result Released CrewRefusal) → KnowsQueueYard n a
-    → name_of made target ≡ Some name → name.heap ≢ queue_id a → HasQueueEnd a name.heap → ReleasedIntoQueue a v name answer
+there_stepped : {sli : ℕ} (n : ℕ) (a v : Worker sli Queues) (limit : ℕ) (target : Target) (name : Name) (made : List (Option Name)) (entries : List Entry) (answer : Result Released CrewRefusal) → KnowsQueueYard n a
+    → name_of made target ≡ Some name → name.heap ≢ id_of a → HasQueueEnd a name.heap → ReleasedThere PutsIntoQueue a v name answer
     → QueueStepped n a limit (Release target) made entries v limit entries (reply_released answer)
 there_stepped n a v limit target name made entries answer k known ne has there =
     let other = ends_are n a k name.heap has.0 has.1 in
     let e : answer ≡ posted_as (put_answer name there.post.put) = there.answer_is ∙ ap posted_as there.post.answer_is in
     subst (λ r. QueueStepped n a limit (Release target) made entries v limit entries (reply_released r)) (sym e)
-    (put_stepped n a v limit target name made entries there.post.put k known ne other.0 there.post.queue)
+    (put_stepped n a v limit target name made entries there.post.put k known ne other.0 (there.post.same, there.post.through))
 
-pub release_stepped : {sli : ℕ} (n : ℕ) (a v : QueueWorker sli) (limit : ℕ) (target : Target) (name : Name) (made : List (Option Name)) (entries : List Entry) (answer : Result Released CrewRefusal) (reply : Reply) → KnowsQueueYard n a
+pub release_stepped : {sli : ℕ} (n : ℕ) (a v : Worker sli Queues) (limit : ℕ) (target : Target) (name : Name) (made : List (Option Name)) (entries : List Entry) (answer : Result Released CrewRefusal) (reply : Reply) → KnowsQueueYard n a
     → name_of made target ≡ Some name → IsQueueRelease a v name answer → reply_released answer ≡ reply
     → QueueStepped n a limit (Release target) made entries v limit entries reply
 release_stepped n a v limit target name made entries answer reply k known release is =
     subst (λ r. QueueStepped n a limit (Release target) made entries v limit entries r) is
-    (elim (cases_eq name.heap (queue_id a)) [
+    (elim (cases_eq name.heap (id_of a)) [
       | inl own ↦ here_stepped n a v limit target name made entries answer k known own (release.here own)
       | inr ne ↦ elim (end_or (queue_end_to a name.heap)) [
         | inl has ↦ there_stepped n a v limit target name made entries answer k known ne has (release.there ne has)
@@ -542,13 +598,13 @@ release_stepped n a v limit target name made entries answer reply k known releas
 
 -- ---- the own entry
 
-pub queue_step_called : {sli : ℕ} (n : ℕ) (a v : QueueWorker sli) (limit left : ℕ) (call : Call) (made more : List (Option Name)) (entries between longer : List Entry) (at : ℕ) (reply : Reply)
-    → QueueStepped n a limit call made entries v left between reply → at ≡ queue_id v → more ≡ made ++ made_by reply ∷ []
+pub queue_step_called : {sli : ℕ} (n : ℕ) (a v : Worker sli Queues) (limit left : ℕ) (call : Call) (made more : List (Option Name)) (entries between longer : List Entry) (at : ℕ) (reply : Reply)
+    → QueueStepped n a limit call made entries v left between reply → at ≡ id_of v → more ≡ made ++ made_by reply ∷ []
     → longer ≡ between ++ record { worker = at; call = call; reply = reply } ∷ [] → QueueCalled n a limit call made entries v left more longer
 queue_step_called n a v limit left call made more entries between longer at reply x is e f =
     let m = x.moved [] in
-    let q : at ≡ queue_id a = is ∙ m.yard.number in
-    let z = entry_by (queue_id a) call reply in
+    let q : at ≡ id_of a = is ∙ m.yard.number in
+    let z = entry_by (id_of a) call reply in
     let g : longer ≡ between ++ z ∷ [] = f ∙ ap (λ (i : ℕ). between ++ entry_by i call reply ∷ []) q in
     record {
       name = made_by reply;
@@ -560,8 +616,8 @@ queue_step_called n a v limit left call made more entries between longer at repl
     }
 
 -- there is room for the own entry
-pub queue_step_room : {sli : ℕ} (n : ℕ) (a v : QueueWorker sli) (limit left : ℕ) (call : Call) (made : List (Option Name)) (entries longer : List Entry) (reply : Reply) → QueueStepped n a limit call made entries v left longer reply
+pub queue_step_room : {sli : ℕ} (n : ℕ) (a v : Worker sli Queues) (limit left : ℕ) (call : Call) (made : List (Option Name)) (entries longer : List Entry) (reply : Reply) → QueueStepped n a limit call made entries v left longer reply
     → length longer + 1 + left ≤ length entries + 1 + limit
 queue_step_room n a v limit left call made entries longer reply x =
     let m = x.moved [] in
-    omega (arith, m.room, length-append x.own (entry_by (queue_id a) call reply ∷ []), ap length x.entries_are, length-append entries x.own)
+    omega (arith, m.room, length-append x.own (entry_by (id_of a) call reply ∷ []), ap length x.entries_are, length-append entries x.own)

@@ -6,10 +6,13 @@ use Rattle.std.specs.Prelude.{◌↔◌}
 use Rattle.std.proofs.lemmas.Bool.{cases_eq, cases_lt}
 use Rattle.std.proofs.lemmas.List.{length-set}
 use Rattle.tlsf_post.specs.Mailboxes.{KeepsPoster}
+use Rattle.tlsf_post.specs.Rule.{plan_for}
 use Rattle.tlsf_post.specs.declared.poster_end.PosterEnd.{PosterEnd}
-use Rattle.tlsf_crew.specs.declared.queues.queue_worker.QueueWorker.{QueueWorker}
+use Rattle.tlsf_crew.specs.declared.worker.Worker.{Worker}
+use Rattle.tlsf_crew.specs.declared.queues.queues.Queues.{Queues}
 use Rattle.tlsf_crew.specs.yard.Yard.{IsHeapOf}
-use Rattle.tlsf_crew.specs.queues.QueueWorkers.{queue_heap, queue_id, queue_end_to, HasQueueEnd, IsOtherOf, KnowsQueueYard, KeepsQueueYards, KeepsSlot}
+use Rattle.tlsf_crew.specs.yard.Workers.{heap_of, id_of}
+use Rattle.tlsf_crew.specs.queues.QueueWorkers.{queue_end_to, HasQueueEnd, IsOtherOf, KnowsQueueYard, KeepsQueueYards, KeepsSlot}
 use Rattle.tlsf_crew.specs.queues.QueueYard.{IsQueueYard, first_capacity, queue_capacity_in}
 use Rattle.tlsf_crew.proofs.lemmas.yard.Slots.{get_set_same, get_set_other, none_or_some, some_same}
 use Rattle.tlsf_crew.proofs.lemmas.queues.QueueKept.{keeps_all, knows_kept}
@@ -17,13 +20,13 @@ use Rattle.tlsf_crew.proofs.lemmas.queues.QueueOpened.{some_at}
 
 -- ---- one worker
 
-pub queue_number : {sli : ℕ} (ws : List (QueueWorker sli)) (i : ℕ) (a : QueueWorker sli) → IsQueueYard ws → slice_get ws i ≡ Some a → queue_id a ≡ i
+pub queue_number : {sli : ℕ} (ws : List (Worker sli Queues)) (i : ℕ) (a : Worker sli Queues) → IsQueueYard ws → slice_get ws i ≡ Some a → id_of a ≡ i
 queue_number ws i a yard is = let w = yard.workers i a is in w.number
 
-pub own_queue_heap : {sli : ℕ} (ws : List (QueueWorker sli)) (i : ℕ) (a : QueueWorker sli) → IsQueueYard ws → slice_get ws i ≡ Some a → IsHeapOf i (queue_heap a)
+pub own_queue_heap : {sli : ℕ} (ws : List (Worker sli Queues)) (i : ℕ) (a : Worker sli Queues) → IsQueueYard ws → slice_get ws i ≡ Some a → IsHeapOf i (heap_of a)
 own_queue_heap ws i a yard is = let w = yard.workers i a is in w.heap
 
-pub queues_joined : {sli : ℕ} (ws : List (QueueWorker sli)) (i j : ℕ) (a : QueueWorker sli) → IsQueueYard ws → slice_get ws i ≡ Some a → HasQueueEnd a j ↔ IsOtherOf (length ws) i j
+pub queues_joined : {sli : ℕ} (ws : List (Worker sli Queues)) (i j : ℕ) (a : Worker sli Queues) → IsQueueYard ws → slice_get ws i ≡ Some a → HasQueueEnd a j ↔ IsOtherOf (length ws) i j
 queues_joined ws i j a yard is =
     let w = yard.workers i a is in
     let k = w.knows in (
@@ -47,12 +50,12 @@ slot_was (Some p) None q k e = absurd k
 slot_was (Some p) (Some r) q k e = (p, refl, subst (λ (z : PosterEnd). KeepsPoster p z) (some_same r q e) k)
 
 -- the worker that was in a place, and what has stayed of it
-pub record Was {sli : ℕ} (ws : List (QueueWorker sli)) (x : ℕ) (b : QueueWorker sli) : Type 0 where
-  pub old : QueueWorker sli
+pub record Was {sli : ℕ} (ws : List (Worker sli Queues)) (x : ℕ) (b : Worker sli Queues) : Type 0 where
+  pub old : Worker sli Queues
   pub is : slice_get ws x ≡ Some old
   pub keeps : KeepsQueueYards old b
 
-same_capacity : {sli : ℕ} (ws vs : List (QueueWorker sli)) → length vs ≡ length ws → ((x : ℕ) (b : QueueWorker sli) → slice_get vs x ≡ Some b → Was ws x b) → queue_capacity_in vs ≡ queue_capacity_in ws
+same_capacity : {sli : ℕ} (ws vs : List (Worker sli Queues)) → length vs ≡ length ws → ((x : ℕ) (b : Worker sli Queues) → slice_get vs x ≡ Some b → Was ws x b) → queue_capacity_in vs ≡ queue_capacity_in ws
 same_capacity ws vs len was = elim (cases_lt 0 (length vs)) [
   | inl lt ↦
       let b = some_at vs 0 lt in
@@ -62,7 +65,7 @@ same_capacity ws vs len was = elim (cases_lt 0 (length vs)) [
 ]
 
 -- each worker has stayed in its place
-pub all_kept : {sli : ℕ} (ws vs : List (QueueWorker sli)) → IsQueueYard ws → length vs ≡ length ws → ((x : ℕ) (b : QueueWorker sli) → slice_get vs x ≡ Some b → Was ws x b) → IsQueueYard vs
+pub all_kept : {sli : ℕ} (ws vs : List (Worker sli Queues)) → IsQueueYard ws → length vs ≡ length ws → ((x : ℕ) (b : Worker sli Queues) → slice_get vs x ≡ Some b → Was ws x b) → IsQueueYard vs
 all_kept ws vs yard len was =
     let room = same_capacity ws vs len was in
     record {
@@ -82,11 +85,13 @@ all_kept ws vs yard len was =
           let w = was x b at_x in
           let u = was y c at_y in
           let p = slot_was (queue_end_to w.old y) (queue_end_to b y) q (w.keeps.posts y) q_is in
-          p.2.0 ∙ (yard.mailboxes x y w.old u.old p.0 w.is u.is p.1 ∙ sym u.keeps.own.0);
+          let own = u.keeps.own in
+          let m = yard.mailboxes x y w.old u.old p.0 w.is u.is p.1 in
+          (p.2.0 ∙ (m.0 ∙ sym own.0), p.2.2 ∙ (m.1 ∙ (λ i. plan_for (sym own.1 i) (sym own.2 i) (sym own.3 i))));
     }
 
 -- one worker has, and the others are the same
-one_was : {sli : ℕ} (ws : List (QueueWorker sli)) (i : ℕ) (a v : QueueWorker sli) → slice_get ws i ≡ Some a → KeepsQueueYards a v → (x : ℕ) (b : QueueWorker sli) → slice_get (set ws i v) x ≡ Some b → Was ws x b
+one_was : {sli : ℕ} (ws : List (Worker sli Queues)) (i : ℕ) (a v : Worker sli Queues) → slice_get ws i ≡ Some a → KeepsQueueYards a v → (x : ℕ) (b : Worker sli Queues) → slice_get (set ws i v) x ≡ Some b → Was ws x b
 one_was ws i a v is keeps x b at = elim (cases_eq x i) [
   | inl e ↦
       let b_is : v ≡ b = some_same v b (sym (get_set_same ws i v (slice_get_within ws i a is)) ∙ (sym (ap (slice_get (set ws i v)) e) ∙ at)) in
@@ -94,5 +99,5 @@ one_was ws i a v is keeps x b at = elim (cases_eq x i) [
   | inr ne ↦ record { old = b; is = sym (get_set_other ws i x v ne) ∙ at; keeps = keeps_all b }
 ]
 
-pub queue_yard_kept : {sli : ℕ} (ws : List (QueueWorker sli)) (i : ℕ) (a v : QueueWorker sli) → IsQueueYard ws → slice_get ws i ≡ Some a → KeepsQueueYards a v → IsQueueYard (set ws i v)
+pub queue_yard_kept : {sli : ℕ} (ws : List (Worker sli Queues)) (i : ℕ) (a v : Worker sli Queues) → IsQueueYard ws → slice_get ws i ≡ Some a → KeepsQueueYards a v → IsQueueYard (set ws i v)
 queue_yard_kept ws i a v yard is keeps = all_kept ws (set ws i v) yard (length-set ws i v) (one_was ws i a v is keeps)

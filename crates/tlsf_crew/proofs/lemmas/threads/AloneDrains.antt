@@ -16,6 +16,7 @@ use Rattle.tlsf_crew.specs.threads.Alone.{OnlyLastDrains, RaceRunsAlone, alone, 
 use Rattle.tlsf_crew.proofs.lemmas.threads.TwoRecords.{drain_takes}
 use Rattle.tlsf_crew.proofs.lemmas.threads.OneRace.{drained, told_alone, told_in, turn_of}
 use Rattle.tlsf_crew.proofs.lemmas.threads.SameDrains.{lane_apart, last_drain, last_posts, other_post, own_post, same_last, take_entry}
+use Rattle.tlsf_crew.proofs.lemmas.yard.DrainEntries.{lane_count}
 use Rattle.tlsf_crew.proofs.lemmas.yard.LaneChanges.{edited_same}
 use Rattle.tlsf_crew.proofs.lemmas.yard.ManyEntries.{sum_both, taken_then}
 use Rattle.tlsf_crew.proofs.lemmas.yard.OneEvent.{from_other, from_own}
@@ -50,10 +51,6 @@ sum_taken n at low (e ∷ es) a =
 lane_left : {sli : ℕ} (at from : ℕ) (rest ps : List Post) (d : Draining sli) → d.world.waiting from at ≡ ps ++ rest → (fold (took_more at from) d ps).world.waiting from at ≡ rest
 lane_left at from rest [] d e = e
 lane_left at from rest (p ∷ ps) d e = lane_left at from rest ps (took_more at from d p) (edited_same d.world.waiting from at (drop 1 (d.world.waiting from at)) ∙ ap (drop 1) e)
-
-lane_count : {sli : ℕ} (at from : ℕ) (ps : List Post) (d : Draining sli) → (fold (took_more at from) d ps).taken ≡ d.taken + length ps
-lane_count at from [] d = omega arith
-lane_count at from (p ∷ ps) d = let a = lane_count at from ps (took_more at from d p) in omega arith
 
 -- the lane from one worker is empty, and so many posts were taken
 record LaneOut {sli : ℕ} (at from : ℕ) (d b : Draining sli) : Type 0 where

@@ -14,10 +14,10 @@ use Rattle.tlsf_calls.specs.declared.reply.Reply.{Reply}
 use Rattle.tlsf_calls.specs.declared.reply.Reply.TheVariants.{Posted, Empty, Refused}
 use Rattle.tlsf_calls.specs.declared.crew_refusal.CrewRefusal.TheVariants.{Full}
 use Rattle.tlsf_calls.specs.declared.target.Target.{Target}
-use Rattle.tlsf_crew.specs.yard.Heaps.{allocated, released, written, resized, chunk_read}
+use Rattle.tlsf_crew.specs.yard.OwnReplies.{OwnReplied, own_allocating, own_freeing, own_reading, own_resizing, own_writing}
 use Rattle.tlsf_crew.specs.yard.Yard.{no_heap}
 use Rattle.tlsf_calls.specs.Entries.{made_by}
-use Rattle.tlsf_crew.specs.yard.World.{World, Replied, Replayed, after, allocating, answered, called, freeing, heap_in, name_of, posting, reading_named, releasing, releasing_named, reply_freed, reply_got, reply_made, reply_resized, reply_wrote, resizing_named, with_heap, writing_named}
+use Rattle.tlsf_crew.specs.yard.World.{World, Replied, Replayed, after, allocating, answered, by_own, called, heap_in, name_of, posting, reading_named, releasing_named, resizing_named, with_heap, writing_named}
 use Rattle.tlsf_crew.specs.yard.Told.{Told, MayTell, MayTellAll, told_by}
 use Rattle.tlsf_crew.specs.yard.History.{StandsBehind, TellsCall, post_of_release, post_of_take, posts_made, posts_taken}
 use Rattle.tlsf_crew.specs.threads.Race.{events_by}
@@ -27,7 +27,8 @@ use Rattle.tlsf_crew.proofs.lemmas.yard.JoinedEntries.{told_nothing, told_own}
 use Rattle.tlsf_crew.proofs.lemmas.yard.LaneCalls.{of_same}
 use Rattle.tlsf_crew.proofs.lemmas.yard.ManyEntries.{made_then, taken_then}
 use Rattle.tlsf_crew.proofs.lemmas.yard.OneEvent.{releasing_far, releasing_post}
-use Rattle.tlsf_crew.proofs.lemmas.yard.OwnCalls.{Knows}
+use Rattle.tlsf_crew.proofs.lemmas.yard.OwnAnswers.{own_name, posted_world, full_world}
+use Rattle.tlsf_crew.proofs.lemmas.threads.RecordHistory.{knows_all, knows_one}
 use Rattle.tlsf_crew.specs.threads.Alone.{TakesNoPost}
 
 -- ---- one call
@@ -73,39 +74,18 @@ record Alike {sli : ℕ} (n at : ℕ) (x y : World sli) : Type 0 where
 left : {sli : ℕ} (n at : ℕ) (x : World sli) (h : HeapState) → at < n → length x.heaps ≡ n → heap_in (with_heap x at h) at ≡ h
 left n at x h at_in count = let near : at < length x.heaps = omega (arith, count) in get_or-set_same x.heaps at h no_heap near
 
--- a call on the heap, whose reply is told by its answer
-by_heap : {sli : ℕ} (n at : ℕ) (x y : World sli) (reply : HeapState → Reply) (next : HeapState → HeapState) → Alike n at x y
-    → SameReply at (record { reply = reply (heap_in x at); world = with_heap x at (next (heap_in x at)) }) (record { reply = reply (heap_in y at); world = with_heap y at (next (heap_in y at)) })
-by_heap n at x y reply next a = (
-  ap reply a.heap,
-  left n at x (next (heap_in x at)) a.at_in a.here ∙ (ap next a.heap ∙ sym (left n at y (next (heap_in y at)) a.at_in a.there)),
+-- a call on it
+own_same : {sli : ℕ} (n at : ℕ) (x y : World sli) (by : HeapState → OwnReplied) → Alike n at x y → SameReply at (by_own x at by) (by_own y at by)
+own_same n at x y by a = (
+  ap (λ h. (by h).reply) a.heap,
+  left n at x (by (heap_in x at)).heap a.at_in a.here ∙ (ap (λ h. (by h).heap) a.heap ∙ sym (left n at y (by (heap_in y at)).heap a.at_in a.there)),
 )
-
-same_write : {sli : ℕ} (n at from : ℕ) (bytes : List ℕ) (x y : World sli) (o : Option Name) → Alike n at x y → SameReply at (writing_named x at o from bytes) (writing_named y at o from bytes)
-same_write n at from bytes x y None a = (refl, a.heap)
-same_write n at from bytes x y (Some name) a = by_heap n at x y (λ h. reply_wrote (length bytes) (written h name from bytes).answer) (λ h. (written h name from bytes).heap) a
-
-same_read : {sli : ℕ} (n at from k : ℕ) (x y : World sli) (o : Option Name) → Alike n at x y → SameReply at (reading_named x at o from k) (reading_named y at o from k)
-same_read n at from k x y None a = (refl, a.heap)
-same_read n at from k x y (Some name) a = (ap (λ h. reply_got (chunk_read h name from k)) a.heap, a.heap)
-
-same_resize : {sli : ℕ} (n at len : ℕ) (x y : World sli) (o : Option Name) → Alike n at x y → SameReply at (resizing_named x at o len) (resizing_named y at o len)
-same_resize n at len x y None a = (refl, a.heap)
-same_resize n at len x y (Some name) a = by_heap n at x y (λ h. reply_resized (resized h name len).answer) (λ h. (resized h name len).heap) a
 
 -- ---- posts
 
--- the reply to a post, where the lane is full and where it isn't
+-- the reply to a post, where the lane is full
 full_reply : {sli : ℕ} (w : World sli) (at : ℕ) (name : Name) → length (w.waiting at name.heap) ≡ w.capacity → ((posting w at name).reply ≡ Refused (Full name)) × (heap_in (posting w at name).world at ≡ heap_in w at)
-unfolding posting
-full_reply w at name e = let b : (length (w.waiting at name.heap) == w.capacity) ≡ true = grind (arith, nat_tests) in rw b (refl, refl)
-
-posted_reply : {sli : ℕ} (w : World sli) (at : ℕ) (name : Name) → length (w.waiting at name.heap) ≢ w.capacity → ((posting w at name).reply ≡ Posted) × (heap_in (posting w at name).world at ≡ heap_in w at)
-unfolding posting
-posted_reply w at name ne = let b : (length (w.waiting at name.heap) == w.capacity) ≡ false = grind (arith, nat_tests) in rw b (refl, refl)
-
-own_release : {sli : ℕ} (w : World sli) (at : ℕ) (name : Name) → name.heap ≡ at → releasing w at name ≡ freeing w at name
-own_release w at name e = let b : (name.heap == at) ≡ true = grind (arith, nat_tests) in rw b refl
+full_reply w at name e = (ap (λ r. r.reply) (full_world w at name e), ap (λ r. heap_in r.world at) (full_world w at name e))
 
 -- what two worlds owe each other where a name of another worker's heap is posted
 abbrev SameRoom : {sli : ℕ} → ℕ → World sli → World sli → Name → Type 0
@@ -120,8 +100,8 @@ same_post at x y name heap room = elim (cases_eq (length (x.waiting at name.heap
       let b = full_reply y at name (room.0 a.0) in
       (a.0 ∙ sym b.0, a.1 ∙ (heap ∙ sym b.1))
   | inr ne ↦
-      let a = posted_reply x at name ne in
-      let b = posted_reply y at name (room.1 a.0) in
+      let a = posted_world x at name ne in
+      let b = posted_world y at name (room.1 a.0) in
       (a.0 ∙ sym b.0, a.1 ∙ (heap ∙ sym b.1))
 ]
 
@@ -130,8 +110,8 @@ same_release : {sli : ℕ} (n at : ℕ) (x y : World sli) (o : Option Name) → 
 same_release n at x y None a room = (refl, a.heap)
 same_release n at x y (Some name) a room = elim (cases_eq name.heap at) [
   | inl own ↦
-      rw (own_release x at name own, own_release y at name own)
-      (by_heap n at x y (λ h. reply_freed (released h name).answer) (λ h. (released h name).heap) a)
+      rw (own_name x at name own, own_name y at name own)
+      (own_same n at x y (λ h. own_freeing h name) a)
   | inr ne ↦ elim (cases_lt name.heap n) [
     | inl lt ↦
         let p = releasing_post x at name ne (omega (arith, a.here)) in
@@ -151,11 +131,11 @@ RoomFor made n at x y call = Unit {0}
 
 same_reply : {sli : ℕ} (n at : ℕ) (made : List (Option Name)) (x y : World sli) (call : Call) → TakesNoPost call → Alike n at x y → RoomFor made n at x y call
     → SameReply at (reply_to made x at call) (reply_to made y at call)
-same_reply {sli} n at made x y (Allocate len) none a room = by_heap n at x y (λ h. reply_made (allocated sli h len).answer) (λ h. (allocated sli h len).heap) a
+same_reply {sli} n at made x y (Allocate len) none a room = own_same n at x y (λ h. own_allocating sli h len) a
 same_reply {sli} n at made x y (Release target) none a room = same_release n at x y (name_of made target) a room
-same_reply {sli} n at made x y (Write target from bytes) none a room = same_write n at from (bytes_of bytes) x y (name_of made target) a
-same_reply {sli} n at made x y (Read target from k) none a room = same_read n at from k x y (name_of made target) a
-same_reply {sli} n at made x y (Resize target len) none a room = same_resize n at len x y (name_of made target) a
+same_reply {sli} n at made x y (Write target from bytes) none a room = own_same n at x y (λ h. own_writing h (name_of made target) from (bytes_of bytes)) a
+same_reply {sli} n at made x y (Read target from k) none a room = own_same n at x y (λ h. own_reading h (name_of made target) from k) a
+same_reply {sli} n at made x y (Resize target len) none a room = own_same n at x y (λ h. own_resizing h (name_of made target) len) a
 same_reply {sli} n at made x y (Take from) none a room = absurd none
 same_reply {sli} n at made x y (Drain most) none a room = absurd none
 
@@ -171,31 +151,19 @@ post_capacity w at name = elim (cases_eq (length (w.waiting at name.heap)) w.cap
 release_capacity : {sli : ℕ} (w : World sli) (at : ℕ) (o : Option Name) → ((releasing_named w at o).world).capacity ≡ w.capacity
 release_capacity w at None = refl
 release_capacity w at (Some name) = elim (cases_eq name.heap at) [
-  | inl own ↦ rw (own_release w at name own) refl
+  | inl own ↦ rw (own_name w at name own) refl
   | inr ne ↦ elim (cases_lt name.heap (length w.heaps)) [
     | inl lt ↦ rw (releasing_post w at name ne lt) (post_capacity w at name)
     | inr ge ↦ rw (releasing_far w at name ne ge) refl
   ]
 ]
 
-write_capacity : {sli : ℕ} (w : World sli) (at from : ℕ) (bytes : List ℕ) (o : Option Name) → ((writing_named w at o from bytes).world).capacity ≡ w.capacity
-write_capacity w at from bytes None = refl
-write_capacity w at from bytes (Some name) = refl
-
-read_capacity : {sli : ℕ} (w : World sli) (at from n : ℕ) (o : Option Name) → ((reading_named w at o from n).world).capacity ≡ w.capacity
-read_capacity w at from n None = refl
-read_capacity w at from n (Some name) = refl
-
-resize_capacity : {sli : ℕ} (w : World sli) (at len : ℕ) (o : Option Name) → ((resizing_named w at o len).world).capacity ≡ w.capacity
-resize_capacity w at len None = refl
-resize_capacity w at len (Some name) = refl
-
 same_capacity : {sli : ℕ} (r : Replayed sli) (at : ℕ) (call : Call) → TakesNoPost call → ((called r at call).world).capacity ≡ (r.world).capacity
 same_capacity r at (Allocate len) none = refl
 same_capacity r at (Release target) none = release_capacity r.world at (name_of r.made target)
-same_capacity r at (Write target from bytes) none = write_capacity r.world at from (bytes_of bytes) (name_of r.made target)
-same_capacity r at (Read target from n) none = read_capacity r.world at from n (name_of r.made target)
-same_capacity r at (Resize target len) none = resize_capacity r.world at len (name_of r.made target)
+same_capacity r at (Write target from bytes) none = refl
+same_capacity r at (Read target from n) none = refl
+same_capacity r at (Resize target len) none = refl
 same_capacity r at (Take from) none = absurd none
 same_capacity r at (Drain most) none = absurd none
 
@@ -214,13 +182,6 @@ takes_none i j at made (Drain most) name own none t = absurd none
 -- the worker's own state before a call
 abbrev at_call : {sli : ℕ} → Told → World sli → Replayed sli
 at_call s x = record { made = s.made; entries = s.entries; world = x }
-
-knows_one : (sli : ℕ) (n at : ℕ) (s t : Told) (call : Call) → MayTell sli n at s call t → Knows t.made s.made
-knows_one sli n at s t call m = subst (λ (made : List (Option Name)). Knows made s.made) (ap (λ (t : Told). t.made) m.2) (called_knows (at_call s m.0) at call)
-
-knows_all : (sli : ℕ) (n at : ℕ) (s t : Told) (calls : List Call) → MayTellAll sli n at s calls t → Knows t.made s.made
-knows_all sli n at s t [] m = rw m (λ target name e. e)
-knows_all sli n at s t (call ∷ calls) m = λ target name e. knows_all sli n at m.0 t calls m.2 target name (knows_one sli n at s m.0 call m.1 target name e)
 
 -- later calls add entries behind
 grown : (sli : ℕ) (n at : ℕ) (s t : Told) (calls : List Call) → at < n → MayTellAll sli n at s calls t → (rest : List Entry) × (t.entries ≡ s.entries ++ rest)

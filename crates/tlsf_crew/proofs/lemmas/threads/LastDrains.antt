@@ -11,7 +11,8 @@ use Rattle.tlsf_post.specs.declared.post_end.PostEnd.{PostEnd}
 use Rattle.tlsf_post.specs.declared.take_end.TakeEnd.{TakeEnd}
 use Rattle.tlsf_heap.specs.declared.name.Name.{Name}
 use Rattle.tlsf_post.specs.declared.post.Post.{Post}
-use Rattle.tlsf_crew.specs.declared.yard.worker.Worker.{Worker}
+use Rattle.tlsf_crew.specs.declared.worker.Worker.{Worker}
+use Rattle.tlsf_crew.specs.declared.yard.lanes.Lanes.{Lanes}
 use Rattle.tlsf_calls.specs.declared.entry.Entry.{Entry}
 use Rattle.tlsf_crew.specs.yard.Yard.{IsYard, yard_heap, post_at, take_at, lane_waits, capacity_in, waits_in}
 use Rattle.tlsf_crew.specs.yard.World.{World, Replayed, world_of, made_by, called, after_drain, draining}
@@ -33,7 +34,7 @@ use Rattle.tlsf_crew.proofs.lemmas.threads.TwoRecords.{drain_makes}
 use Rattle.tlsf_crew.proofs.lemmas.yard.Pending.{same_sum}
 
 -- what such a drain leaves
-pub last_out : {sli : ℕ} (ws : List (Worker sli)) (es : List Entry) (at : ℕ) → IsYard ws → HasFew ws at
+pub last_out : {sli : ℕ} (ws : List (Worker sli Lanes)) (es : List Entry) (at : ℕ) → IsYard ws → HasFew ws at
     → LanesOut at (length ws) (drain_of es ws 0) (after_drain at 8192 (drain_of es ws 0))
 unfolding world_of
 last_out ws es at yard few =
@@ -43,7 +44,7 @@ last_out ws es at yard few =
     let le : waits_below at d (length ws) ≤ 8192 = omega (arith, yard.few) in
     subst (λ (m : ℕ). LanesOut at m d (after_drain at 8192 d)) n (all_out at 8192 d (rw n (omega arith)))
 
-pub last_drain_fits : {sli : ℕ} (ws : List (Worker sli)) (es : List Entry) (at : ℕ) → IsYard ws → HasFew ws at
+pub last_drain_fits : {sli : ℕ} (ws : List (Worker sli Lanes)) (es : List Entry) (at : ℕ) → IsYard ws → HasFew ws at
     → length (after_drain at 8192 (drain_of es ws 0)).entries ≤ length es + sum_below 8 (λ i. length (waits_in ws i at))
 unfolding world_of
 last_drain_fits ws es at yard few =
@@ -52,7 +53,7 @@ last_drain_fits ws es at yard few =
     omega arith
 
 -- the event of the last drain, and what it is told
-last_replied : {sli : ℕ} (ws vs : List (Worker sli)) (made : List (Option Name)) (es fs : List Entry) (at : ℕ) (reply : Reply) → at < length ws
+last_replied : {sli : ℕ} (ws vs : List (Worker sli Lanes)) (made : List (Option Name)) (es fs : List Entry) (at : ℕ) (reply : Reply) → at < length ws
     → IsReplied (replay_of made es ws) (record { worker = at; call = last_call }) fs vs reply
     → draining (replay_of made es ws) at 8192 ≡ replay_of (made ++ made_by reply ∷ []) (fs ++ record { worker = at; call = last_call; reply = reply } ∷ []) vs
 last_replied ws vs made es fs at reply lt told =
@@ -60,7 +61,7 @@ last_replied ws vs made es fs at reply lt told =
     let event : Event = record { worker = at; call = last_call } in
     sym (after_near (replay_of made es ws) event last_call (omega arith) refl) ∙ told.after
 
-pub last_fits : {sli : ℕ} (ws vs : List (Worker sli)) (made : List (Option Name)) (es fs : List Entry) (at : ℕ) (reply : Reply) → IsYard ws → HasFew ws at → at < length ws
+pub last_fits : {sli : ℕ} (ws vs : List (Worker sli Lanes)) (made : List (Option Name)) (es fs : List Entry) (at : ℕ) (reply : Reply) → IsYard ws → HasFew ws at → at < length ws
     → IsReplied (replay_of made es ws) (record { worker = at; call = last_call }) fs vs reply → length fs ≤ length es + sum_below 8 (λ i. length (waits_in ws i at))
 unfolding draining
 last_fits {sli} ws vs made es fs at reply yard few lt told =
@@ -72,7 +73,7 @@ last_fits {sli} ws vs made es fs at reply yard few lt told =
     let b = last_drain_fits ws es at yard few in
     omega arith
 
-pub last_told : {sli : ℕ} (ws vs : List (Worker sli)) (es fs : List Entry) (at : ℕ) (reply : Reply) → at < length ws → IsReplied (replay_of [] es ws) (record { worker = at; call = last_call }) fs vs reply
+pub last_told : {sli : ℕ} (ws vs : List (Worker sli Lanes)) (es fs : List Entry) (at : ℕ) (reply : Reply) → at < length ws → IsReplied (replay_of [] es ws) (record { worker = at; call = last_call }) fs vs reply
     → (made : List (Option Name)) → replay_of (made ++ None ∷ []) (fs ++ record { worker = at; call = last_call; reply = reply } ∷ []) vs ≡ called (replay_of made es ws) at last_call
 unfolding draining
 last_told {sli} ws vs es fs at reply lt told made =
@@ -87,7 +88,7 @@ last_told {sli} ws vs es fs at reply lt told made =
 -- ---- one drain
 
 -- worker j took all, and nothing else changed
-pub record OneDrained {sli : ℕ} (ws vs : List (Worker sli)) (j : ℕ) (es fs : List Entry) : Type 0 where
+pub record OneDrained {sli : ℕ} (ws vs : List (Worker sli Lanes)) (j : ℕ) (es fs : List Entry) : Type 0 where
   pub last : LastTold ws vs j es fs
   pub yard : IsYard vs
   pub count : length vs ≡ length ws
@@ -96,22 +97,22 @@ pub record OneDrained {sli : ℕ} (ws vs : List (Worker sli)) (j : ℕ) (es fs :
   pub waits : (i y : ℕ) → y ≢ j → waits_in vs i y ≡ waits_in ws i y
   pub heaps : (y : ℕ) → y ≢ j → yard_heap vs y ≡ yard_heap ws y
 
-abbrev TellsLast : {sli : ℕ} → List (Worker sli) → List (Worker sli) → ℕ → List Entry → List Entry → Type 0
+abbrev TellsLast : {sli : ℕ} → List (Worker sli Lanes) → List (Worker sli Lanes) → ℕ → List Entry → List Entry → Type 0
 TellsLast ws vs j es fs = (made : List (Option Name)) → replay_of (made ++ None ∷ []) fs vs ≡ draining (replay_of made es ws) j 8192
 
-waits_of : {sli : ℕ} (w : World sli) (vs : List (Worker sli)) → world_of vs ≡ w → (i j : ℕ) → waits_in vs i j ≡ w.waiting i j
+waits_of : {sli : ℕ} (w : World sli) (vs : List (Worker sli Lanes)) → world_of vs ≡ w → (i j : ℕ) → waits_in vs i j ≡ w.waiting i j
 unfolding world_of
 waits_of {sli} w vs e i j = ap (λ (x : World sli). x.waiting i j) e
 
-heap_of_world : {sli : ℕ} (w : World sli) (vs : List (Worker sli)) → world_of vs ≡ w → (j : ℕ) → yard_heap vs j ≡ get_or w.heaps j (yard_heap {sli = sli} [] 0)
+heap_of_world : {sli : ℕ} (w : World sli) (vs : List (Worker sli Lanes)) → world_of vs ≡ w → (j : ℕ) → yard_heap vs j ≡ get_or w.heaps j (yard_heap {sli = sli} [] 0)
 unfolding world_of
 heap_of_world {sli} w vs e j = ap (λ (x : World sli). get_or x.heaps j (yard_heap {sli = sli} [] 0)) e
 
-capacity_of_world : {sli : ℕ} (w : World sli) (vs : List (Worker sli)) → world_of vs ≡ w → capacity_in vs ≡ w.capacity
+capacity_of_world : {sli : ℕ} (w : World sli) (vs : List (Worker sli Lanes)) → world_of vs ≡ w → capacity_in vs ≡ w.capacity
 unfolding world_of
 capacity_of_world {sli} w vs e = ap (λ (x : World sli). x.capacity) e
 
-may_tell_last : {sli : ℕ} (ws vs : List (Worker sli)) (j : ℕ) (es fs : List Entry) (made : List (Option Name)) → replay_of (made ++ None ∷ []) fs vs ≡ draining (replay_of made es ws) j 8192
+may_tell_last : {sli : ℕ} (ws vs : List (Worker sli Lanes)) (j : ℕ) (es fs : List Entry) (made : List (Option Name)) → replay_of (made ++ None ∷ []) fs vs ≡ draining (replay_of made es ws) j 8192
     → MayTell sli (length ws) j (record { made = made; entries = es; heap = yard_heap ws j }) last_call (record { made = made ++ None ∷ []; entries = fs; heap = yard_heap vs j })
 unfolding world_of
 may_tell_last {sli} ws vs j es fs made e =
@@ -125,17 +126,17 @@ nothing_left : (ps qs ms : List Post) (waits : List Post) → waits ++ ms ≡ ps
 nothing_left ps qs ms waits e m q = sym (append-nil ps) ∙ (ap (λ l. ps ++ l) (sym q) ∙ (sym e ∙ (ap (λ l. waits ++ l) m ∙ append-nil waits)))
 
 -- no lane goes from a worker to itself, or from one that isn't there
-pub none_wait : {sli : ℕ} (ws : List (Worker sli)) (i j : ℕ) → IsYard ws → (i ≢ j → length ws ≤ i) → waits_in ws i j ≡ []
+pub none_wait : {sli : ℕ} (ws : List (Worker sli Lanes)) (i j : ℕ) → IsYard ws → (i ≢ j → length ws ≤ i) → waits_in ws i j ≡ []
 none_wait ws i j yard far =
     elim (cases_eq i j) [
       | inl e ↦ rw (e, (yard.alone j).0) refl
       | inr ne ↦ nobody_takes (post_at ws i j) (take_at ws i j) (yard.outside j i (far ne)).1
     ]
 
-pub none_for : {sli : ℕ} (ws : List (Worker sli)) (i j : ℕ) → IsYard ws → length ws ≤ j → waits_in ws i j ≡ []
+pub none_for : {sli : ℕ} (ws : List (Worker sli Lanes)) (i j : ℕ) → IsYard ws → length ws ≤ j → waits_in ws i j ≡ []
 none_for ws i j yard far = rw (yard.outside i j far).0 refl
 
-pub one_drained : {sli : ℕ} (ws vs : List (Worker sli)) (j : ℕ) (es fs : List Entry) → IsYard ws → j < length ws → HasFew ws j → IsYard vs → TellsLast ws vs j es fs → OneDrained ws vs j es fs
+pub one_drained : {sli : ℕ} (ws vs : List (Worker sli Lanes)) (j : ℕ) (es fs : List Entry) → IsYard ws → j < length ws → HasFew ws j → IsYard vs → TellsLast ws vs j es fs → OneDrained ws vs j es fs
 unfolding world_of draining
 one_drained {sli} ws vs j es fs yard j_in few after tells =
     let d = drain_of es ws 0 in
@@ -170,7 +171,7 @@ one_drained {sli} ws vs j es fs yard j_in few after tells =
 
 -- ---- drain after drain
 
-told_along : {sli : ℕ} (ws vs us : List (Worker sli)) (j : ℕ) (es fs : List Entry) → yard_heap us j ≡ yard_heap vs j → LastTold ws vs j es fs → LastTold ws us j es fs
+told_along : {sli : ℕ} (ws vs us : List (Worker sli Lanes)) (j : ℕ) (es fs : List Entry) → yard_heap us j ≡ yard_heap vs j → LastTold ws vs j es fs → LastTold ws us j es fs
 told_along ws vs us j es fs e t = record {
   own = t.own;
   entries = t.entries;
@@ -179,7 +180,7 @@ told_along ws vs us j es fs e t = record {
   told = λ made. rw e (t.told made);
 }
 
-told_first : {sli : ℕ} (ws vs us : List (Worker sli)) (j : ℕ) (es fs : List Entry) → length vs ≡ length ws → yard_heap vs j ≡ yard_heap ws j → ((i : ℕ) → waits_in vs i j ≡ waits_in ws i j)
+told_first : {sli : ℕ} (ws vs us : List (Worker sli Lanes)) (j : ℕ) (es fs : List Entry) → length vs ≡ length ws → yard_heap vs j ≡ yard_heap ws j → ((i : ℕ) → waits_in vs i j ≡ waits_in ws i j)
     → LastTold vs us j es fs → LastTold ws us j es fs
 told_first ws vs us j es fs len heap waits t = record {
   own = t.own;
@@ -189,7 +190,7 @@ told_first ws vs us j es fs len heap waits t = record {
   told = λ made. rw (sym len, sym heap) (t.told made);
 }
 
-pub last_step : {sli : ℕ} (ws vs us : List (Worker sli)) (rs ss : List (List Entry)) (j : ℕ) (fs : List Entry) → LastDrained ws rs ss vs j → j < length ss
+pub last_step : {sli : ℕ} (ws vs us : List (Worker sli Lanes)) (rs ss : List (List Entry)) (j : ℕ) (fs : List Entry) → LastDrained ws rs ss vs j → j < length ss
     → record_of ss j ≡ record_of rs j → OneDrained vs us j (record_of ss j) fs → LastDrained ws rs (set ss j fs) us (j + 1)
 last_step ws vs us rs ss j fs a j_in same one = record {
   yard = one.yard;
@@ -220,7 +221,7 @@ pub record_items : (rs : List (Vec Entry Global)) (j : ℕ) (r : Vec Entry Globa
 record_items rs j r e = get_or_from_slice_get (items_of rs) j r.items [] (slice_get-map (λ (x : Vec Entry Global). x.items) rs j ∙ ap (option_map (λ (x : Vec Entry Global). x.items)) e)
 
 -- the next worker is drained
-pub drain_next : {sli : ℕ} (ws vs us : List (Worker sli)) (rs ss : List (Vec Entry Global)) (j : ℕ) (r new : Vec Entry Global) → LastDrained ws (items_of rs) (items_of ss) vs j
+pub drain_next : {sli : ℕ} (ws vs us : List (Worker sli Lanes)) (rs ss : List (Vec Entry Global)) (j : ℕ) (r new : Vec Entry Global) → LastDrained ws (items_of rs) (items_of ss) vs j
     → HasFew ws j → j < length ws → slice_get ss j ≡ Some r → slice_get rs j ≡ Some r → IsYard us → TellsLast vs us j r.items new.items
     → LastDrained ws (items_of rs) (items_of (set ss j new)) us (j + 1)
 drain_next ws vs us rs ss j r new a few j_in here there after tells =
@@ -233,7 +234,7 @@ drain_next ws vs us rs ss j r new a few j_in here there after tells =
     (last_step ws vs us (items_of rs) (items_of ss) j new.items a within (at ∙ sym before) (rw at one))
 
 -- it has the room for it
-pub room_next : {sli : ℕ} (ws vs : List (Worker sli)) (rs ss : List (List Entry)) (j : ℕ) (r : Vec Entry Global) → LastDrained ws rs ss vs j → HasLastRoom ws j r → HasLastRoom vs j r
+pub room_next : {sli : ℕ} (ws vs : List (Worker sli Lanes)) (rs ss : List (List Entry)) (j : ℕ) (r : Vec Entry Global) → LastDrained ws rs ss vs j → HasLastRoom ws j r → HasLastRoom vs j r
 room_next ws vs rs ss j r a room =
     let s = same_sum 8 (λ i. length (waits_in ws i j)) (λ i. length (waits_in vs i j)) (λ i _. ap length (a.later_waits i j (omega arith))) in
     omega arith

@@ -8,7 +8,7 @@ use Rattle.tlsf_heap.specs.declared.name.Name.{Name}
 use Rattle.tlsf_heap.proofs.Outcomes.{lawful_run}
 use Rattle.tlsf_calls.specs.declared.call.Call.{Call}
 use Rattle.tlsf_calls.specs.declared.entry.Entry.{Entry}
-use Rattle.tlsf_crew.specs.yard.History.{AreLawful, RunsThrough, RunsTo, Tells, TellsEvent, answer_told, answers_on, call_on_own, calls_on, posts_made, posts_taken}
+use Rattle.tlsf_crew.specs.yard.History.{AreLawful, RunsThrough, RunsTo, Tells, TellsEvent, TookFromOther, answer_told, answers_on, call_on_own, calls_on, posts_made, posts_taken}
 use Rattle.tlsf_crew.specs.yard.Told.{Told, MayTell, MayTellAll, untold}
 use Rattle.tlsf_crew.specs.yard.World.{World, Replayed, called, heap_in}
 use Rattle.tlsf_crew.specs.threads.Race.{IsLegal, IsRace, events_by, events_of_race, last_call, record_of, script_of}
@@ -34,7 +34,7 @@ knows_one sli n at s t call m =
     let r : Replayed sli = record { made = s.made; entries = s.entries; world = m.0 } in
     subst (λ (made : List (Option Name)). Knows made s.made) (ap (λ (t : Told). t.made) m.2) (called_knows r at call)
 
-knows_all : (sli : ℕ) (n at : ℕ) (s t : Told) (calls : List Call) → MayTellAll sli n at s calls t → Knows t.made s.made
+pub knows_all : (sli : ℕ) (n at : ℕ) (s t : Told) (calls : List Call) → MayTellAll sli n at s calls t → Knows t.made s.made
 knows_all sli n at s t [] m = rw m (λ target name e. e)
 knows_all sli n at s t (call ∷ calls) m = λ target name e. knows_all sli n at m.0 t calls m.2 target name (knows_one sli n at s m.0 call m.1 target name e)
 
@@ -60,7 +60,7 @@ one_told {sli} made n at s t call at_in known m =
       name = c.name;
       entries = sym (ap (λ (t : Told). t.entries) m.2) ∙ c.entries;
       names = sym (ap (λ (t : Told). t.made) m.2) ∙ c.names;
-      tells = record { near = λ _. c.tells; far = λ far. absurd (omega arith) };
+      tells = record { near = λ _. c.tells; others = subst (λ (k : ℕ). All (TookFromOther k) c.own) count c.others; far = λ far. absurd (omega arith) };
       run = subst (λ h. RunsTo sli s.heap (calls_on at made c.own) (answers_on at c.own) h) (ap (λ (t : Told). t.heap) m.2)
           (subst (λ h. RunsTo sli h (calls_on at made c.own) (answers_on at c.own) (heap_in v.world at)) m.1.1 (c.history.heaps at (omega (arith, count))));
       each = subst (λ (n : ℕ). All (HasItsAnswer made n) c.own) count c.history.each;

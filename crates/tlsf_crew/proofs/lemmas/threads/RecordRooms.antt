@@ -5,7 +5,8 @@ use Rattle.std.specs.declared.vec.Vec.{Vec}
 use Rattle.std.specs.declared.alloc.Global.{Global}
 use Rattle.std.proofs.lemmas.Bool.{cases_eq, cases_lt}
 use Rattle.std.proofs.lemmas.Option.{slice_get_within}
-use Rattle.tlsf_crew.specs.declared.yard.worker.Worker.{Worker}
+use Rattle.tlsf_crew.specs.declared.worker.Worker.{Worker}
+use Rattle.tlsf_crew.specs.declared.yard.lanes.Lanes.{Lanes}
 use Rattle.tlsf_calls.specs.declared.entry.Entry.{Entry}
 use Rattle.tlsf_calls.specs.declared.call.Call.{Call}
 use Rattle.tlsf_crew.specs.yard.Yard.{IsYard, take_at, end_from_in}
@@ -33,7 +34,7 @@ keeps_set rs ss j r s keep lt is same k v there =
     ]
 
 -- what is ready for worker j in a settled yard is what waits for it
-known_from : {sli : ℕ} (ws vs : List (Worker sli)) (i j : ℕ) (a : Worker sli) → length vs ≡ length ws → HaveMet ws vs → IsYard vs → slice_get vs j ≡ Some a
+known_from : {sli : ℕ} (ws vs : List (Worker sli Lanes)) (i j : ℕ) (a : Worker sli Lanes) → length vs ≡ length ws → HaveMet ws vs → IsYard vs → slice_get vs j ≡ Some a
     → ready_from a i ≡ length ((world_of vs).waiting i j)
 unfolding world_of
 known_from ws vs i j a len met yard is =
@@ -47,7 +48,7 @@ known_from ws vs i j a len met yard is =
           omega arith
     ]
 
-pub record_rooms : {sli : ℕ} (zs ws : List (Worker sli)) (scripts : List (List Call)) (records ss : List (Vec Entry Global)) → length ws ≡ length zs → HaveMet zs ws → IsYard ws → world_of ws ≡ world_of zs
+pub record_rooms : {sli : ℕ} (zs ws : List (Worker sli Lanes)) (scripts : List (List Call)) (records ss : List (Vec Entry Global)) → length ws ≡ length zs → HaveMet zs ws → IsYard ws → world_of ws ≡ world_of zs
     → length records ≡ length ws → HaveRooms ws scripts records → KeepRooms records ss → HaveRecordRooms (world_of zs) scripts ss
 record_rooms {sli} zs ws scripts records ss len met yard same count rooms keep j s there =
     let k = keep j s there in

@@ -14,7 +14,8 @@ use Rattle.tlsf_post.specs.declared.post.Post.{Post}
 use Rattle.tlsf_post.specs.declared.post_end.PostEnd.{PostEnd}
 use Rattle.tlsf_post.specs.declared.take_end.TakeEnd.{TakeEnd}
 use Rattle.tlsf_post.specs.Lanes.{posts_sent, free_slots, capacity_of, waited, taken, ready}
-use Rattle.tlsf_crew.specs.declared.yard.worker.Worker.{Worker}
+use Rattle.tlsf_crew.specs.declared.worker.Worker.{Worker}
+use Rattle.tlsf_crew.specs.declared.yard.lanes.Lanes.{Lanes}
 use Rattle.tlsf_calls.specs.declared.entry.Entry.{Entry}
 use Rattle.tlsf_calls.specs.declared.call.Call.{Call}
 use Rattle.tlsf_crew.specs.yard.Workers.{heap_of, id_of, id_and_capacity, end_to, end_from}
@@ -38,11 +39,11 @@ use Rattle.tlsf_crew.proofs.lemmas.yard.Nowhere.{tells_none}
 
 -- ---- a settled lane
 
-pub met_waits : {sli : ℕ} (ws vs : List (Worker sli)) (i j : ℕ) → (m : MetIn ws vs i j) → waits_in vs i j ≡ waited m.new_take
+pub met_waits : {sli : ℕ} (ws vs : List (Worker sli Lanes)) (i j : ℕ) → (m : MetIn ws vs i j) → waits_in vs i j ≡ waited m.new_take
 met_waits ws vs i j m = rw (m.new_post_is, m.new_take_is) (waits_after m.post m.take m.new_post m.new_take m.meets)
 
 -- its free slots and what waits are its capacity
-pub met_room : {sli : ℕ} (ws vs : List (Worker sli)) (i j : ℕ) → i < length vs → j < length vs → i ≢ j → IsYard vs → (m : MetIn ws vs i j)
+pub met_room : {sli : ℕ} (ws vs : List (Worker sli Lanes)) (i j : ℕ) → i < length vs → j < length vs → i ≢ j → IsYard vs → (m : MetIn ws vs i j)
     → free_slots m.new_post + length (waits_in vs i j) ≡ capacity_in vs
 met_room ws vs i j i_in j_in ne yard m =
     let h = yard.lanes i j i_in j_in ne in
@@ -52,7 +53,7 @@ met_room ws vs i j i_in j_in ne yard m =
     let room = m.meets.room in
     omega arith
 
-pub met_few : {sli : ℕ} (ws vs : List (Worker sli)) → length vs ≡ length ws → HaveMet ws vs → IsYard vs → (j : ℕ) → HasFew vs j
+pub met_few : {sli : ℕ} (ws vs : List (Worker sli Lanes)) → length vs ≡ length ws → HaveMet ws vs → IsYard vs → (j : ℕ) → HasFew vs j
 met_few ws vs len met yard j i =
     elim (cases_lt j (length vs)) [
       | inl j_in ↦ elim (cases_eq i j) [
@@ -67,7 +68,7 @@ met_few ws vs len met yard j i =
 
 -- ---- the capacity
 
-pub capacity_kept : {sli : ℕ} (ws vs : List (Worker sli)) (scripts : List (List Call)) (rs : List (List Entry)) → HaveRun ws scripts rs vs → capacity_in vs ≡ capacity_in ws
+pub capacity_kept : {sli : ℕ} (ws vs : List (Worker sli Lanes)) (scripts : List (List Call)) (rs : List (List Entry)) → HaveRun ws scripts rs vs → capacity_in vs ≡ capacity_in ws
 capacity_kept [] [] scripts rs run = refl
 capacity_kept [] (v ∷ vs) scripts rs run = let n : length vs + 1 ≡ 0 = let m = run.worker_count in omega arith in absurd (omega arith)
 capacity_kept (a ∷ ws) [] scripts rs run = let n : 0 ≡ length ws + 1 = let m = run.worker_count in omega arith in absurd (omega arith)
@@ -75,37 +76,37 @@ capacity_kept (a ∷ ws) (v ∷ vs) scripts rs run =
     let r = run.ran 0 a refl in
     ap (λ (x : ℕ × ℕ). x.1) (ap id_and_capacity (some_same v r.0 r.1) ∙ r.2.numbers)
 
-pub capacity_same : {sli : ℕ} (ws vs : List (Worker sli)) → world_of vs ≡ world_of ws → capacity_in vs ≡ capacity_in ws
+pub capacity_same : {sli : ℕ} (ws vs : List (Worker sli Lanes)) → world_of vs ≡ world_of ws → capacity_in vs ≡ capacity_in ws
 unfolding world_of
 capacity_same {sli} ws vs e = ap (λ (w : World sli). w.capacity) e
 
-heap_same : {sli : ℕ} (ws vs : List (Worker sli)) → world_of vs ≡ world_of ws → (j : ℕ) → yard_heap vs j ≡ yard_heap ws j
+heap_same : {sli : ℕ} (ws vs : List (Worker sli Lanes)) → world_of vs ≡ world_of ws → (j : ℕ) → yard_heap vs j ≡ yard_heap ws j
 unfolding world_of
 heap_same {sli} ws vs e j = ap (λ (w : World sli). get_or w.heaps j (yard_heap {sli = sli} [] 0)) e
 
-pub waits_same : {sli : ℕ} (ws vs : List (Worker sli)) → world_of vs ≡ world_of ws → (i j : ℕ) → waits_in vs i j ≡ waits_in ws i j
+pub waits_same : {sli : ℕ} (ws vs : List (Worker sli Lanes)) → world_of vs ≡ world_of ws → (i j : ℕ) → waits_in vs i j ≡ waits_in ws i j
 unfolding world_of
 waits_same {sli} ws vs e i j = ap (λ (w : World sli). w.waiting i j) e
 
 -- ---- one worker
 
 -- worker j of a settled yard, which becomes v
-record WorkerRan {sli : ℕ} (ws vs : List (Worker sli)) (scripts : List (List Call)) (rs : List (List Entry)) (made : List (Option Name)) (j : ℕ) : Type 0 where
-  old : Worker sli
+record WorkerRan {sli : ℕ} (ws vs : List (Worker sli Lanes)) (scripts : List (List Call)) (rs : List (List Entry)) (made : List (Option Name)) (j : ℕ) : Type 0 where
+  old : Worker sli Lanes
   old_is : slice_get ws j ≡ Some old
   number : id_of old ≡ j
-  new : Worker sli
+  new : Worker sli Lanes
   new_is : slice_get vs j ≡ Some new
   ran : Ran (length ws) old (script_of scripts j) made (record_of rs j) new
 
-abbrev worker_ran : {sli : ℕ} (ws vs : List (Worker sli)) (scripts : List (List Call)) (rs : List (List Entry)) → IsYard ws → (run : HaveRun ws scripts rs vs) → (j : ℕ) (a : Worker sli) → slice_get ws j ≡ Some a
+abbrev worker_ran : {sli : ℕ} (ws vs : List (Worker sli Lanes)) (scripts : List (List Call)) (rs : List (List Entry)) → IsYard ws → (run : HaveRun ws scripts rs vs) → (j : ℕ) (a : Worker sli Lanes) → slice_get ws j ≡ Some a
     → WorkerRan ws vs scripts rs (run.made j) j
 worker_ran ws vs scripts rs yard run j a is =
     let r = run.ran j a is in
     record { old = a; old_is = is; number = own_number ws j a yard is; new = r.0; new_is = r.1; ran = r.2 }
 
 -- what worker i sent to j
-sent_in : {sli : ℕ} (ws vs : List (Worker sli)) (scripts : List (List Call)) (rs : List (List Entry)) (made : List (Option Name)) (i j : ℕ) → (a : WorkerRan ws vs scripts rs made i) → (p q : PostEnd)
+sent_in : {sli : ℕ} (ws vs : List (Worker sli Lanes)) (scripts : List (List Call)) (rs : List (List Entry)) (made : List (Option Name)) (i j : ℕ) → (a : WorkerRan ws vs scripts rs made i) → (p q : PostEnd)
     → post_at ws i j ≡ Some p → posts_sent p ≡ [] → post_at vs i j ≡ Some q → posts_sent q ≡ posts_made i j made (record_of rs i)
 sent_in ws vs scripts rs made i j a p q p_is none q_is =
     let s = a.ran.sent j p (sym (ap (λ o. end_to_in o j) a.old_is) ∙ p_is) in
@@ -117,7 +118,7 @@ record TakenIn (t u : TakeEnd) (i j : ℕ) (es : List Entry) : Type 0 where
   waited : waited u ≡ waited t
   taken : taken u ≡ posts_taken i j es
 
-takes_told : {sli : ℕ} (ws vs : List (Worker sli)) (scripts : List (List Call)) (rs : List (List Entry)) (made : List (Option Name)) (i j : ℕ) → (a : WorkerRan ws vs scripts rs made j) → (t u : TakeEnd)
+takes_told : {sli : ℕ} (ws vs : List (Worker sli Lanes)) (scripts : List (List Call)) (rs : List (List Entry)) (made : List (Option Name)) (i j : ℕ) → (a : WorkerRan ws vs scripts rs made j) → (t u : TakeEnd)
     → take_at ws i j ≡ Some t → taken t ≡ [] → take_at vs i j ≡ Some u → TakenIn t u i j (record_of rs j)
 takes_told ws vs scripts rs made i j a t u t_is none u_is =
     let s = a.ran.taken i t (sym (ap (λ o. end_from_in o i) a.old_is) ∙ t_is) in
@@ -130,7 +131,7 @@ takes_told ws vs scripts rs made i j a t u t_is none u_is =
 -- ---- one lane
 
 -- the scripts of two workers agree, and how many posts there are
-record LaneRan {sli : ℕ} (ws us : List (Worker sli)) (scripts : List (List Call)) (rs : List (List Entry)) (made : List (Option Name)) (i j : ℕ) : Type 0 where
+record LaneRan {sli : ℕ} (ws us : List (Worker sli Lanes)) (scripts : List (List Call)) (rs : List (List Entry)) (made : List (Option Name)) (i j : ℕ) : Type 0 where
   agree : ScriptsAgree (capacity_in ws) i j (waits_in ws i j) (waits_in us i j) made (record_of rs i) (record_of rs j)
   ready : length (waits_in ws i j) ≡ count_of (take_at ws i j)
   made_few : length (posts_made i j made (record_of rs i)) ≤ releases_of (script_of scripts i)
@@ -138,7 +139,7 @@ record LaneRan {sli : ℕ} (ws us : List (Worker sli)) (scripts : List (List Cal
 in_order : (W waits ts ps t w u s : List Post) → t ++ u ≡ w ++ s → t ≡ ts → u ≡ waits → w ≡ W → s ≡ ps → ts ++ waits ≡ W ++ ps
 in_order W waits ts ps t w u s e a b c d = sym (ap (λ l. l ++ u) a ∙ ap (λ l. ts ++ l) b) ∙ (e ∙ (ap (λ l. l ++ s) c ∙ ap (λ l. W ++ l) d))
 
-lane_ran : {sli : ℕ} (zs ws vs us : List (Worker sli)) (scripts : List (List Call)) (rs : List (List Entry)) → length ws ≡ length zs → HaveMet zs ws → IsYard ws → (run : HaveRun ws scripts rs vs)
+lane_ran : {sli : ℕ} (zs ws vs us : List (Worker sli Lanes)) (scripts : List (List Call)) (rs : List (List Entry)) → length ws ≡ length zs → HaveMet zs ws → IsYard ws → (run : HaveRun ws scripts rs vs)
     → length us ≡ length vs → HaveMet vs us → IsYard us → capacity_in us ≡ capacity_in ws → (i j : ℕ) → i < length ws → j < length ws → i ≢ j
     → LaneRan ws us scripts rs (run.made i) i j
 lane_ran zs ws vs us scripts rs len met yard run later_len later_met later capacity i j i_in j_in ne =
@@ -181,8 +182,8 @@ lane_ran zs ws vs us scripts rs len met yard run later_len later_met later capac
 
 -- ---- the room for the last drains
 
-lane_room : {sli : ℕ} (zs ws vs us : List (Worker sli)) (scripts : List (List Call)) (rs : List (List Entry)) → length ws ≡ length zs → HaveMet zs ws → IsYard ws → (run : HaveRun ws scripts rs vs)
-    → length us ≡ length vs → HaveMet vs us → IsYard us → capacity_in us ≡ capacity_in ws → (j : ℕ) (a : Worker sli) → slice_get ws j ≡ Some a → (i : ℕ)
+lane_room : {sli : ℕ} (zs ws vs us : List (Worker sli Lanes)) (scripts : List (List Call)) (rs : List (List Entry)) → length ws ≡ length zs → HaveMet zs ws → IsYard ws → (run : HaveRun ws scripts rs vs)
+    → length us ≡ length vs → HaveMet vs us → IsYard us → capacity_in us ≡ capacity_in ws → (j : ℕ) (a : Worker sli Lanes) → slice_get ws j ≡ Some a → (i : ℕ)
     → length (posts_taken i j (record_of rs j)) + length (waits_in us i j) ≤ ready_from a i + releases_of (script_of scripts i)
 lane_room {sli} zs ws vs us scripts rs len met yard run later_len later_met later capacity j a is i =
     let j_in = slice_get_within ws j a is in
@@ -210,7 +211,7 @@ lane_room {sli} zs ws vs us scripts rs len met yard run later_len later_met late
       ]
     ]
 
-pub found_at : {sli : ℕ} (ws : List (Worker sli)) (j : ℕ) → j < length ws → (a : Worker sli) × (slice_get ws j ≡ Some a)
+pub found_at : {sli : ℕ} (ws : List (Worker sli Lanes)) (j : ℕ) → j < length ws → (a : Worker sli Lanes) × (slice_get ws j ≡ Some a)
 found_at [] j lt = absurd (omega arith)
 found_at (w ∷ ws) zero lt = (w, refl)
 found_at (w ∷ ws) (suc j) lt = found_at ws j (omega arith)
@@ -218,7 +219,7 @@ found_at (w ∷ ws) (suc j) lt = found_at ws j (omega arith)
 plain_room : (n e s t w b m c : ℕ) → n ≡ e → e ≤ s + t → b ≡ t + w → b ≤ m → c ≡ s + m + 1 → n + w + 1 ≤ c
 plain_room n e s t w b m c p q r x y = omega arith
 
-pub last_rooms : {sli : ℕ} (zs ws vs us : List (Worker sli)) (scripts : List (List Call)) (records : List (Vec Entry Global)) → length ws ≡ length zs → HaveMet zs ws → IsYard ws → (run : HaveRun ws scripts (items_of records) vs)
+pub last_rooms : {sli : ℕ} (zs ws vs us : List (Worker sli Lanes)) (scripts : List (List Call)) (records : List (Vec Entry Global)) → length ws ≡ length zs → HaveMet zs ws → IsYard ws → (run : HaveRun ws scripts (items_of records) vs)
     → HaveRooms ws scripts records → length us ≡ length vs → HaveMet vs us → IsYard us → world_of us ≡ world_of vs → HaveLastRooms us records
 last_rooms zs ws vs us scripts records len met yard run rooms later_len later_met later same j r there =
     let rs = items_of records in
@@ -246,7 +247,7 @@ told_as : (sli : ℕ) (n m i j : ℕ) (h g x y : HeapState) (script : List Call)
     → MayTellAll sli n i (untold h) script (record { made = made; entries = es; heap = x }) → MayTellAll sli m j (untold g) script (record { made = made; entries = es; heap = y })
 told_as sli n m i j h g x y script made es a b c d t = rw (sym a, sym b, sym c, sym d) t
 
-legal_in : {sli : ℕ} (zs ws vs us xs : List (Worker sli)) (scripts : List (List Call)) (rs ss : List (List Entry)) → length ws ≡ length zs → world_of ws ≡ world_of zs → IsYard ws
+legal_in : {sli : ℕ} (zs ws vs us xs : List (Worker sli Lanes)) (scripts : List (List Call)) (rs ss : List (List Entry)) → length ws ≡ length zs → world_of ws ≡ world_of zs → IsYard ws
     → (run : HaveRun ws scripts rs vs) → length us ≡ length vs → world_of us ≡ world_of vs → LastDrained us rs ss xs (length us) → (j : ℕ) → j < length zs
     → IsLegal sli (length zs) j (yard_heap zs j) (script_of scripts j) (record_of rs j) (record { made = run.made j ++ None ∷ []; entries = record_of ss j; heap = yard_heap xs j })
 legal_in {sli} zs ws vs us xs scripts rs ss len same yard run later_len later_same last j j_in =
@@ -268,7 +269,7 @@ legal_in {sli} zs ws vs us xs scripts rs ss len same yard run later_len later_sa
 agree_as : (c d i j : ℕ) (W V : List Post) (made : List (Option Name)) (s t r u v : List Entry) → c ≡ d → W ≡ V → u ≡ s → v ≡ t → Agree c i j W made s r t → Agree d i j V made u r v
 agree_as c d i j W V made s t r u v a b e f agree = rw (sym a, sym b, e, f) agree
 
-pub race_is : {sli : ℕ} (zs ws vs us xs : List (Worker sli)) (scripts : List (List Call)) (rs ss : List (List Entry)) → length ws ≡ length zs → HaveMet zs ws → world_of ws ≡ world_of zs → IsYard ws
+pub race_is : {sli : ℕ} (zs ws vs us xs : List (Worker sli Lanes)) (scripts : List (List Call)) (rs ss : List (List Entry)) → length ws ≡ length zs → HaveMet zs ws → world_of ws ≡ world_of zs → IsYard ws
     → (run : HaveRun ws scripts rs vs) → length us ≡ length vs → HaveMet vs us → world_of us ≡ world_of vs → IsYard us → LastDrained us rs ss xs (length us)
     → IsRace (world_of zs) scripts ss (world_of xs)
 unfolding world_of

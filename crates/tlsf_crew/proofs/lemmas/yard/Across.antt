@@ -4,7 +4,8 @@ use Rattle.std.proofs.lemmas.List.{drop_at, append-nil}
 use Rattle.tlsf_post.specs.declared.post_end.PostEnd.{PostEnd}
 use Rattle.tlsf_post.specs.declared.take_end.TakeEnd.{TakeEnd}
 use Rattle.tlsf_post.specs.Lanes.{waited, taken}
-use Rattle.tlsf_crew.specs.declared.yard.worker.Worker.{Worker}
+use Rattle.tlsf_crew.specs.declared.worker.Worker.{Worker}
+use Rattle.tlsf_crew.specs.declared.yard.lanes.Lanes.{Lanes}
 use Rattle.tlsf_crew.specs.yard.Yard.{post_at, take_at, Meets, IsYard, lane_waits}
 use Rattle.tlsf_crew.specs.yard.World.{world_of}
 use Rattle.tlsf_crew.specs.yard.LaneSteps.{LaneStep}
@@ -21,11 +22,11 @@ pub waits_before : (p : PostEnd) (t : TakeEnd) (q : PostEnd) (u : TakeEnd) → M
 waits_before p t q u m = rw (← m.order) (drop_at (taken t) (waited u) (length (taken t)) refl)
 
 -- and each post of it was posted by the worker at the lane's other end
-signed_before : {sli : ℕ} (ws : List (Worker sli)) (i j : ℕ) (p : PostEnd) (t : TakeEnd) (q : PostEnd) (u : TakeEnd) → post_at ws i j ≡ Some p → take_at ws i j ≡ Some t
+signed_before : {sli : ℕ} (ws : List (Worker sli Lanes)) (i j : ℕ) (p : PostEnd) (t : TakeEnd) (q : PostEnd) (u : TakeEnd) → post_at ws i j ≡ Some p → take_at ws i j ≡ Some t
     → Meets p t q u → IsYard ws → AreFrom i (waited u)
 signed_before ws i j p t q u a b m yard = subst (AreFrom i) (waits_before p t q u m) (rw (a, b) at (yard.signed i j))
 
-pub settled_world : {sli : ℕ} (ws vs : List (Worker sli)) (i j : ℕ) → i ≢ j → LaneStep ws i j vs → world_of vs ≡ world_of ws
+pub settled_world : {sli : ℕ} (ws vs : List (Worker sli Lanes)) (i j : ℕ) → i ≢ j → LaneStep ws i j vs → world_of vs ≡ world_of ws
 settled_world ws vs i j ne s =
     let m = s.met.meets in
     let c = settled ws vs i j ne s in
@@ -33,7 +34,7 @@ settled_world ws vs i j ne s =
     let w = waits_between ws i j _ _ c.post_is c.take_is ∙ waits_before _ _ _ _ m in
     e ∙ with_same (world_of ws) i j (waited s.met.new_take) w
 
-pub settled_yard : {sli : ℕ} (ws vs : List (Worker sli)) (i j : ℕ) → i ≢ j → LaneStep ws i j vs → IsYard ws → IsYard vs
+pub settled_yard : {sli : ℕ} (ws vs : List (Worker sli Lanes)) (i j : ℕ) → i ≢ j → LaneStep ws i j vs → IsYard ws → IsYard vs
 settled_yard ws vs i j ne s yard =
     let m = s.met.meets in
     let c = settled ws vs i j ne s in

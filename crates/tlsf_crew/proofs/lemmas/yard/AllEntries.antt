@@ -1,5 +1,5 @@
 -- The entries of a replay tell its events, the calls on each heap and the posts of each lane, and leave each heap lawful.
-use Rattle.std.proofs.Common.{zero, suc, [], ◌∷◌, ◌++◌, ◌≡◌, ◌≢◌, ℕ, ◌<◌, ◌≤◌, List, Option, Some, None, length, get_or, sym, ◌∙◌, ap, arith, refl, inl, inr, subst, append_assoc, append-nil}
+use Rattle.std.proofs.Common.{zero, suc, [], ◌∷◌, ◌++◌, ◌≡◌, ◌≢◌, ℕ, ◌<◌, ◌≤◌, List, Option, Some, None, All, length, get_or, sym, ◌∙◌, ap, arith, refl, inl, inr, subst, append_assoc, append-nil}
 use Rattle.std.specs.List.{fold}
 use Rattle.std.proofs.lemmas.Bool.{cases_lt}
 use Rattle.std.proofs.lemmas.List.Elements.{All-nil, All-cons}
@@ -12,15 +12,16 @@ use Rattle.tlsf_calls.specs.declared.event.Event.{Event}
 use Rattle.tlsf_calls.specs.declared.call.Call.{Call}
 use Rattle.tlsf_calls.specs.declared.call.Call.TheVariants.{Allocate, Release, Write, Read, Resize, Take, Drain}
 use Rattle.tlsf_calls.specs.declared.target.Target.TheVariants.{Named, Made as MadeBy, Absent}
+use Rattle.tlsf_calls.specs.declared.reply.Reply.{Reply}
 use Rattle.tlsf_calls.specs.declared.reply.Reply.TheVariants.{Refused}
 use Rattle.tlsf_calls.specs.declared.crew_refusal.CrewRefusal.TheVariants.{Stranger}
-use Rattle.tlsf_crew.specs.yard.History.{AreLawful, Tells, TellsCall, TellsEvent, answer_told, call_on_own, calls_on, post_of_release, post_of_take}
-use Rattle.tlsf_crew.specs.yard.World.{World, Replayed, after, begun, called, draining, heap_in, name_of, replies}
+use Rattle.tlsf_crew.specs.yard.History.{AreLawful, Tells, TellsCall, TellsEvent, TookFromOther, answer_told, call_on_own, calls_on, post_of_release, post_of_take}
+use Rattle.tlsf_crew.specs.yard.World.{World, Replayed, after, allocating, begun, called, draining, heap_in, name_of, reading_named, releasing_named, replies, resizing_named, taking, writing_named}
 use Rattle.tlsf_crew.proofs.lemmas.yard.DrainEntries.{ToldOnce, drain_told}
 use Rattle.tlsf_crew.proofs.lemmas.yard.EventSteps.{after_far, after_near}
 use Rattle.tlsf_crew.proofs.lemmas.yard.LaneCalls.{release_told, take_told}
 use Rattle.tlsf_crew.proofs.lemmas.yard.OwnCalls.{Knows, allocate_told, read_told, resize_told, write_told}
-use Rattle.tlsf_crew.proofs.lemmas.yard.NamesMeant.{allocate_unmade, read_unmade, release_unmade, resize_unmade, take_unmade, write_unmade}
+use Rattle.tlsf_crew.proofs.lemmas.yard.NamesMeant.{allocate_unmade, read_unmade, release_answered, release_unmade, resize_unmade, take_from_other, take_unmade, write_unmade}
 use Rattle.tlsf_crew.proofs.lemmas.yard.JoinedEntries.{HasItsAnswer, IsHistory, history_none, history_then, quiet_posts, told_other}
 
 -- ---- names that were made stay known
@@ -61,19 +62,23 @@ rest_knows (x ∷ es) r target name e = rest_knows es (after r x) target name (a
 
 -- ---- one event
 
+-- the one entry of a call
+own_call : {sli : ℕ} (w : World sli) (at : ℕ) (call : Call) (reply : Reply) → let e : Entry = record { worker = at; call = call; reply = reply } in TookFromOther (length w.heaps) e → All (TookFromOther (length w.heaps)) (e ∷ [])
+own_call w at call reply one = All-cons (TookFromOther (length w.heaps)) (record { worker = at; call = call; reply = reply }) [] one (All-nil (TookFromOther (length w.heaps)))
+
 pub called_told : {sli : ℕ} (made : List (Option Name)) (r : Replayed sli) (at : ℕ) (call : Call) → at < length r.world.heaps → Knows made r.made → ToldOnce made r (called r at call) (TellsCall at r.made call)
 called_told made r at (Allocate len) at_in known =
-    record { own = _; name = _; entries = refl; names = refl; tells = record { reply = _; name_is = refl; unmade = allocate_unmade r.world at len; whole = refl }; history = allocate_told made r.world at len at_in }
+    record { own = _; name = _; entries = refl; names = refl; tells = record { reply = _; name_is = refl; unmade = allocate_unmade r.world at len; post = tt; whole = refl }; others = own_call r.world at (Allocate len) (allocating r.world at len).reply (λ from t is took. absurd (cc)); history = allocate_told made r.world at len at_in }
 called_told made r at (Release target) at_in known =
-    record { own = _; name = _; entries = refl; names = refl; tells = record { reply = _; name_is = refl; unmade = release_unmade r.world at (name_of r.made target); whole = refl }; history = release_told made r.world at target (name_of r.made target) at_in (known target) }
+    record { own = _; name = _; entries = refl; names = refl; tells = record { reply = _; name_is = refl; unmade = release_unmade r.world at (name_of r.made target); post = release_answered r.world at (name_of r.made target); whole = refl }; others = own_call r.world at (Release target) (releasing_named r.world at (name_of r.made target)).reply (λ from t is took. absurd (cc)); history = release_told made r.world at target (name_of r.made target) at_in (known target) }
 called_told made r at (Write target from bytes) at_in known =
-    record { own = _; name = _; entries = refl; names = refl; tells = record { reply = _; name_is = refl; unmade = write_unmade r.world at from (bytes_of bytes) (name_of r.made target); whole = refl }; history = write_told made r.world at from target bytes (name_of r.made target) at_in (known target) }
+    record { own = _; name = _; entries = refl; names = refl; tells = record { reply = _; name_is = refl; unmade = write_unmade r.world at from (bytes_of bytes) (name_of r.made target); post = tt; whole = refl }; others = own_call r.world at (Write target from bytes) (writing_named r.world at (name_of r.made target) from (bytes_of bytes)).reply (λ from t is took. absurd (cc)); history = write_told made r.world at from target bytes (name_of r.made target) at_in (known target) }
 called_told made r at (Read target from n) at_in known =
-    record { own = _; name = _; entries = refl; names = refl; tells = record { reply = _; name_is = refl; unmade = read_unmade r.world at from n (name_of r.made target); whole = refl }; history = read_told made r.world at from n target (name_of r.made target) at_in (known target) }
+    record { own = _; name = _; entries = refl; names = refl; tells = record { reply = _; name_is = refl; unmade = read_unmade r.world at from n (name_of r.made target); post = tt; whole = refl }; others = own_call r.world at (Read target from n) (reading_named r.world at (name_of r.made target) from n).reply (λ from t is took. absurd (cc)); history = read_told made r.world at from n target (name_of r.made target) at_in (known target) }
 called_told made r at (Resize target len) at_in known =
-    record { own = _; name = _; entries = refl; names = refl; tells = record { reply = _; name_is = refl; unmade = resize_unmade r.world at len (name_of r.made target); whole = refl }; history = resize_told made r.world at len target (name_of r.made target) at_in (known target) }
+    record { own = _; name = _; entries = refl; names = refl; tells = record { reply = _; name_is = refl; unmade = resize_unmade r.world at len (name_of r.made target); post = tt; whole = refl }; others = own_call r.world at (Resize target len) (resizing_named r.world at (name_of r.made target) len).reply (λ from t is took. absurd (cc)); history = resize_told made r.world at len target (name_of r.made target) at_in (known target) }
 called_told made r at (Take from) at_in known =
-    record { own = _; name = _; entries = refl; names = refl; tells = record { reply = _; name_is = refl; unmade = take_unmade r.world at from; whole = refl }; history = take_told made r.world at from at_in }
+    record { own = _; name = _; entries = refl; names = refl; tells = record { reply = _; name_is = refl; unmade = take_unmade r.world at from; post = tt; whole = refl }; others = own_call r.world at (Take from) (taking r.world at from).reply (take_from_other r.world at from); history = take_told made r.world at from at_in }
 called_told made r at (Drain most) at_in known = drain_told made r at most at_in
 
 no_post : (made : List (Option Name)) (j at : ℕ) (call : Call) → post_of_release j made at call (Refused Stranger) ≡ None
@@ -115,10 +120,11 @@ after_told made r e known =
       | inl lt ↦
           let t = called_told made r e.worker e.call lt known in
           rw (after_near r e e.call lt refl)
-          (record { own = t.own; name = t.name; entries = t.entries; names = t.names; tells = record { near = λ _. t.tells; far = λ ge. absurd (omega arith) }; history = t.history })
+          (record { own = t.own; name = t.name; entries = t.entries; names = t.names; tells = record { near = λ _. t.tells; others = t.others; far = λ ge. absurd (omega arith) }; others = t.others; history = t.history })
       | inr ge ↦
           rw (after_far r e ge)
-          (record { own = _; name = None; entries = refl; names = refl; tells = record { near = λ lt. absurd (omega arith); far = λ _. (refl, refl) }; history = far_told made r.world e.worker e.call ge })
+          (let none = own_call r.world e.worker e.call (Refused Stranger) (λ from t is took. absurd (cc)) in
+          record { own = _; name = None; entries = refl; names = refl; tells = record { near = λ lt. absurd (omega arith); others = none; far = λ _. (refl, refl) }; others = none; history = far_told made r.world e.worker e.call ge })
     ]
 
 -- ---- all events

@@ -6,7 +6,8 @@ use Rattle.std.proofs.lemmas.Bool.{cases_eq}
 use Rattle.std.proofs.lemmas.List.{length-set, get_or-set_same, take_all}
 use Rattle.tlsf_heap.specs.declared.name.Name.{Name}
 use Rattle.tlsf_post.specs.declared.post.Post.{Post}
-use Rattle.tlsf_crew.specs.declared.yard.worker.Worker.{Worker}
+use Rattle.tlsf_crew.specs.declared.worker.Worker.{Worker}
+use Rattle.tlsf_crew.specs.declared.yard.lanes.Lanes.{Lanes}
 use Rattle.tlsf_calls.specs.declared.entry.Entry.{Entry}
 use Rattle.tlsf_calls.specs.declared.call.Call.TheVariants.{Drain}
 use Rattle.tlsf_calls.specs.declared.reply.Reply.TheVariants.{Drained}
@@ -130,7 +131,7 @@ drain_tells : {sli : ℕ} (made : List (Option Name)) (at most : ℕ) (es : List
 unfolding draining
 drain_tells made at most es w o e = ap (λ x. record { made = made ++ None ∷ []; entries = x.entries ++ one at (Drain most) (Drained x.taken); heap = x.heap }) e
 
-drain_exact : {sli : ℕ} (n : ℕ) (a v : Worker sli) (limits left : List ℕ) (most : ℕ) (made : List (Option Name)) (es longer : List Entry) (count : ℕ) → KnowsYard n a → count ≤ most
+drain_exact : {sli : ℕ} (n : ℕ) (a v : Worker sli Lanes) (limits left : List ℕ) (most : ℕ) (made : List (Option Name)) (es longer : List Entry) (count : ℕ) → KnowsYard n a → count ≤ most
     → (x : EachLaneTaken a limits n es v left longer count) → (w : World sli) → HasHeap w n (id_of a) (heap_of a) → SuitsDrain w n (id_of a) most x.own
     → told_by (id_of a) (called (record { made = made; entries = es; world = w }) (id_of a) (Drain most))
     ≡ record { made = made ++ None ∷ []; entries = longer ++ one (id_of a) (Drain most) (Drained count); heap = heap_of v }
@@ -149,7 +150,7 @@ drain_exact {sli} n a v limits left most made es longer count k few x w has suit
     drain_tells made at most es w (own_drain longer v count) (all ∙ told)
 
 -- there is a world that suits
-drain_told : {sli : ℕ} (n : ℕ) (a v : Worker sli) (limits left : List ℕ) (most : ℕ) (made : List (Option Name)) (es longer : List Entry) (count : ℕ) → KnowsYard n a → count ≤ most → EachLaneTaken a limits n es v left longer count
+drain_told : {sli : ℕ} (n : ℕ) (a v : Worker sli Lanes) (limits left : List ℕ) (most : ℕ) (made : List (Option Name)) (es longer : List Entry) (count : ℕ) → KnowsYard n a → count ≤ most → EachLaneTaken a limits n es v left longer count
     → MayTell sli n (id_of a) (record { made = made; entries = es; heap = heap_of a }) (Drain most)
     (record { made = made ++ None ∷ []; entries = longer ++ one (id_of a) (Drain most) (Drained count); heap = heap_of v })
 drain_told {sli} n a v limits left most made es longer count k few x =
@@ -158,7 +159,7 @@ drain_told {sli} n a v limits left most made es longer count k few x =
     let has = world_has sli n at (heap_of a) (λ i. posts_taken i at x.own) 1 k.self in
     (w, has, drain_exact n a v limits left most made es longer count k few x w has (λ i lt ne. ([], sym (append-nil (posts_taken i at x.own)), inr refl)))
 
-drain_idle : {sli : ℕ} (n : ℕ) (a : Worker sli) (limits : List ℕ) (most count : ℕ) (later : List (Option Name)) (own : List Entry) → KnowsYard n a → (count < most → (i : ℕ) → i < n → Spent a limits (id_of a) i own)
+drain_idle : {sli : ℕ} (n : ℕ) (a : Worker sli Lanes) (limits : List ℕ) (most count : ℕ) (later : List (Option Name)) (own : List Entry) → KnowsYard n a → (count < most → (i : ℕ) → i < n → Spent a limits (id_of a) i own)
     → IsIdle (id_of a) later a limits own (record { worker = id_of a; call = Drain most; reply = Drained count })
 drain_idle n a limits most count later own k spent = record {
   posts = record { made_none = λ j. refl; taken_none = λ i. refl };
@@ -170,7 +171,7 @@ drain_idle n a limits most count later own k spent = record {
       λ t is. let x = (k.from i).0 (t, is) in spent (omega arith) i x.0 t is;
 }
 
-pub drain_stepped : {sli : ℕ} (n : ℕ) (a v : Worker sli) (limits left : List ℕ) (most : ℕ) (made : List (Option Name)) (es longer : List Entry) (count : ℕ) → KnowsYard n a → EachLaneSpent a limits n most es v left longer count
+pub drain_stepped : {sli : ℕ} (n : ℕ) (a v : Worker sli Lanes) (limits left : List ℕ) (most : ℕ) (made : List (Option Name)) (es longer : List Entry) (count : ℕ) → KnowsYard n a → EachLaneSpent a limits n most es v left longer count
     → Stepped n a limits (Drain most) made es v left longer (Drained count)
 drain_stepped n a v limits left most made es longer count k x =
     let t = x.takes in

@@ -3,7 +3,8 @@ use Rattle.std.proofs.Common.{nat_lt, true, false, ◌≡◌, ℕ, ◌+◌, ◌<
 use Rattle.std.specs.List.{fold}
 use Rattle.std.proofs.lemmas.Bool.Decides.{nat_tests}
 use Rattle.std.proofs.lemmas.List.{length_push}
-use Rattle.tlsf_crew.specs.declared.yard.worker.Worker.{Worker}
+use Rattle.tlsf_crew.specs.declared.worker.Worker.{Worker}
+use Rattle.tlsf_crew.specs.declared.yard.lanes.Lanes.{Lanes}
 use Rattle.tlsf_calls.specs.declared.reply.Reply.{Reply}
 use Rattle.tlsf_calls.specs.declared.entry.Entry.{Entry}
 use Rattle.tlsf_calls.specs.declared.event.Event.{Event}
@@ -28,7 +29,7 @@ single_room r s at n call rp e le =
     omega arith
 
 -- there is room for the entry
-pub replied_room : {sli : ℕ} (r : Replayed sli) (event : Event) (es : List Entry) (vs : List (Worker sli)) (reply : Reply) (n : ℕ)
+pub replied_room : {sli : ℕ} (r : Replayed sli) (event : Event) (es : List Entry) (vs : List (Worker sli Lanes)) (reply : Reply) (n : ℕ)
     → IsReplied r event es vs reply → length (after r event).entries ≤ n → length es + 1 ≤ n
 replied_room r event es vs reply n told le =
     let a = ap (λ x. length x.entries) told.after in

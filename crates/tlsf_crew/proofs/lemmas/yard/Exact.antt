@@ -15,7 +15,8 @@ use Rattle.tlsf_post.specs.declared.post.Post.{Post}
 use Rattle.tlsf_post.specs.declared.post_end.PostEnd.{PostEnd}
 use Rattle.tlsf_post.specs.declared.take_end.TakeEnd.{TakeEnd}
 use Rattle.tlsf_post.specs.Lanes.{posts_sent, waited, taken, ready}
-use Rattle.tlsf_crew.specs.declared.yard.worker.Worker.{Worker}
+use Rattle.tlsf_crew.specs.declared.worker.Worker.{Worker}
+use Rattle.tlsf_crew.specs.declared.yard.lanes.Lanes.{Lanes}
 use Rattle.tlsf_calls.specs.declared.entry.Entry.{Entry}
 use Rattle.tlsf_calls.specs.declared.event.Event.{Event}
 use Rattle.tlsf_calls.specs.declared.took.Took.{Took}
@@ -27,8 +28,7 @@ use Rattle.tlsf_calls.specs.declared.reply.Reply.TheVariants.{Posted, Took as Ta
 use Rattle.tlsf_calls.specs.declared.crew_refusal.CrewRefusal.TheVariants.{Full}
 use Rattle.tlsf_crew.specs.yard.Workers.{heap_of, id_of, id_and_capacity, end_to, end_from, KnowsYard}
 use Rattle.tlsf_crew.specs.yard.Yard.{IsYard, post_at, take_at, end_to_in, end_from_in, lane_waits, capacity_in, no_heap, waits_in}
-use Rattle.tlsf_crew.specs.yard.World.{World, Replayed, Draining, world_of, heap_in, made_by, name_of, called, draining, posting, releasing_named, writing_named, reading_named, resizing_named, taking, taking_next, took_first, took_more, drained_lane, drained_below, after_drain}
-use Rattle.tlsf_calls.specs.Bytes.{bytes_of}
+use Rattle.tlsf_crew.specs.yard.World.{World, Replayed, Draining, world_of, heap_in, made_by, name_of, called, draining, posting, releasing_named, taking, taking_next, took_first, took_more, drained_lane, drained_below, after_drain}
 use Rattle.tlsf_crew.specs.yard.Counts.{sum_below, count_of, ready_from, sum_of}
 use Rattle.tlsf_crew.specs.yard.Settle.{MetIn}
 use Rattle.tlsf_crew.specs.yard.History.{AreTakes, TellsCall, RunsTo, calls_on, answers_on, call_on_own, post_of_release, post_of_take, posts_made, posts_taken, entries_of}
@@ -50,9 +50,9 @@ use Rattle.tlsf_crew.proofs.lemmas.yard.LaneChanges.{same_world, edited_other, h
 
 -- one worker of a yard made a call, as the executor promises
 pub record Run (sli : ℕ) : Type 0 where
-  pub vs : List (Worker sli)
-  pub a : Worker sli
-  pub v : Worker sli
+  pub vs : List (Worker sli Lanes)
+  pub a : Worker sli Lanes
+  pub v : Worker sli Lanes
   pub made : List (Option Name)
   pub es : List Entry
   pub longer : List Entry
@@ -72,14 +72,14 @@ abbrev pub own_of : {sli : ℕ} → Run sli → List Entry
 own_of r = r.step.own ++ one (at_of r) r.call r.reply
 
 -- the yard with the worker as the call left it
-abbrev pub us_of : {sli : ℕ} → Run sli → List (Worker sli)
+abbrev pub us_of : {sli : ℕ} → Run sli → List (Worker sli Lanes)
 us_of r = set r.vs (at_of r) r.v
 
 moved_of : {sli : ℕ} (r : Run sli) → Moved (at_of r) (r.made ++ []) r.a r.limits (r.call ∷ []) (own_of r) r.v r.left
 moved_of r = r.step.moved []
 
 -- the lanes that the call concerns were settled before and after it
-pub record Settles {sli : ℕ} (r : Run sli) (ws zs : List (Worker sli)) : Type 0 where
+pub record Settles {sli : ℕ} (r : Run sli) (ws zs : List (Worker sli Lanes)) : Type 0 where
   pub before : (i j : ℕ) → i < length r.vs → j < length r.vs → i ≢ j → ConcernsCall r.made (at_of r) r.call i j → MetIn ws r.vs i j
   pub after : (i j : ℕ) → i < length r.vs → j < length r.vs → i ≢ j → ConcernsCall r.made (at_of r) r.call i j → MetIn (us_of r) zs i j
   pub limits : MayTake r.call → (i : ℕ) (t : TakeEnd) → i < 8 → end_from r.a i ≡ Some t → length (ready t) ≤ slice_index r.limits i
@@ -121,7 +121,7 @@ take_was r i = sym (ap (λ o. end_from_in o i) r.is)
 
 -- ---- one lane, settled before and after
 
-lane_took : {sli : ℕ} (r : Run sli) (ws zs : List (Worker sli)) (i : ℕ) → i ≢ at_of r → MetIn ws r.vs i (at_of r) → (n : MetIn (us_of r) zs i (at_of r))
+lane_took : {sli : ℕ} (r : Run sli) (ws zs : List (Worker sli Lanes)) (i : ℕ) → i ≢ at_of r → MetIn ws r.vs i (at_of r) → (n : MetIn (us_of r) zs i (at_of r))
     → waits_in r.vs i (at_of r) ≡ posts_taken i (at_of r) (own_of r) ++ waited n.new_take
 lane_took r ws zs i ne m n =
     let at = at_of r in
@@ -136,7 +136,7 @@ lane_took r ws zs i ne m n =
     let all : waited n.take ++ posts_sent n.post ≡ waited m.new_take = ap (λ l. waited n.take ++ l) sent ∙ (append-nil (waited n.take) ∙ had) in
     met_waits ws r.vs i at m ∙ (sym all ∙ (sym n.meets.order ∙ ap (λ l. l ++ waited n.new_take) gone))
 
-lane_sent : {sli : ℕ} (r : Run sli) (ws zs : List (Worker sli)) → Settles r ws zs → (j : ℕ) → j < length r.vs → at_of r ≢ j → MetIn ws r.vs (at_of r) j → MetIn (us_of r) zs (at_of r) j
+lane_sent : {sli : ℕ} (r : Run sli) (ws zs : List (Worker sli Lanes)) → Settles r ws zs → (j : ℕ) → j < length r.vs → at_of r ≢ j → MetIn ws r.vs (at_of r) j → MetIn (us_of r) zs (at_of r) j
     → length (waits_in r.vs (at_of r) j) + length (posts_made (at_of r) j (r.made ++ []) (own_of r)) ≤ capacity_in r.vs
 lane_sent r ws zs s j j_in ne m n =
     let at = at_of r in
@@ -164,7 +164,7 @@ no_rest waits took rest e p =
     let b = sym (length-append waits p.0) ∙ ap length p.1 in
     nil_from_length rest (omega arith)
 
-spent_all : {sli : ℕ} (r : Run sli) (ws : List (Worker sli)) (i : ℕ) (own : List Entry) → (m : MetIn ws r.vs i (at_of r)) → length (ready m.new_take) ≤ slice_index r.limits i → Spent r.a r.limits (at_of r) i own
+spent_all : {sli : ℕ} (r : Run sli) (ws : List (Worker sli Lanes)) (i : ℕ) (own : List Entry) → (m : MetIn ws r.vs i (at_of r)) → length (ready m.new_take) ≤ slice_index r.limits i → Spent r.a r.limits (at_of r) i own
     → IsPrefix (waits_in r.vs i (at_of r)) (posts_taken i (at_of r) own)
 spent_all r ws i own m le spent =
     let known : ready m.new_take ≡ waits_in r.vs i (at_of r) = m.meets.fresh.2 ∙ sym (met_waits ws r.vs i (at_of r) m) in
@@ -175,7 +175,7 @@ spent_all r ws i own m le spent =
 single_of : {sli : ℕ} (r : Run sli) → ((most : ℕ) → r.call ≡ Drain most → ⊥) → own_of r ≡ one (at_of r) r.call r.reply
 single_of r single = ap (λ o. o ++ one (at_of r) r.call r.reply) (r.step.single single)
 
-room_in : {sli : ℕ} (r : Run sli) (ws zs : List (Worker sli)) → Settles r ws zs → (target : Target) (name : Name) → r.call ≡ Release target → name_of r.made target ≡ Some name → name.heap ≢ at_of r → name.heap < length r.vs
+room_in : {sli : ℕ} (r : Run sli) (ws zs : List (Worker sli Lanes)) → Settles r ws zs → (target : Target) (name : Name) → r.call ≡ Release target → name_of r.made target ≡ Some name → name.heap ≢ at_of r → name.heap < length r.vs
     → r.reply ≡ Posted → length (waits_in r.vs (at_of r) name.heap) ≢ capacity_in r.vs
 room_in r ws zs s target name c known ne lt e full =
     let at = at_of r in
@@ -192,7 +192,7 @@ room_in r ws zs s target name c known ne lt e full =
     let p = ap length posted in
     absurd (omega arith)
 
-full_in : {sli : ℕ} (r : Run sli) (ws zs : List (Worker sli)) → Settles r ws zs → (target : Target) (name : Name) → r.call ≡ Release target → name_of r.made target ≡ Some name → name.heap ≢ at_of r → name.heap < length r.vs
+full_in : {sli : ℕ} (r : Run sli) (ws zs : List (Worker sli Lanes)) → Settles r ws zs → (target : Target) (name : Name) → r.call ≡ Release target → name_of r.made target ≡ Some name → name.heap ≢ at_of r → name.heap < length r.vs
     → r.reply ≡ Refused (Full name) → length (waits_in r.vs (at_of r) name.heap) ≡ capacity_in r.vs
 full_in r ws zs s target name c known ne lt e =
     let at = at_of r in
@@ -210,7 +210,7 @@ full_in r ws zs s target name c known ne lt e =
 take_concern : {sli : ℕ} (r : Run sli) (from i : ℕ) → r.call ≡ Take from → ConcernsCall r.made (at_of r) r.call i (at_of r)
 take_concern r from i c = subst (λ x. ConcernsCall r.made (at_of r) x i (at_of r)) (sym c) refl
 
-first_in : {sli : ℕ} (r : Run sli) (ws zs : List (Worker sli)) → Settles r ws zs → (from : ℕ) (t : Took) → r.call ≡ Take from → from ≢ at_of r → from < length r.vs → r.reply ≡ Taken t
+first_in : {sli : ℕ} (r : Run sli) (ws zs : List (Worker sli Lanes)) → Settles r ws zs → (from : ℕ) (t : Took) → r.call ≡ Take from → from ≢ at_of r → from < length r.vs → r.reply ≡ Taken t
     → (rest : List Post) × (waits_in r.vs from (at_of r) ≡ record { from = t.from; name = t.name } ∷ rest)
 first_in r ws zs s from t c ne lt e =
     let at = at_of r in
@@ -221,7 +221,7 @@ first_in r ws zs s from t c ne lt e =
     ap (posts_taken from at) (own ∙ (ap (λ x. one at x r.reply) c ∙ ap (λ y. one at (Take from) y) e)) ∙ taken_same at from t in
     (waited n.new_take, lane_took r ws zs from ne m n ∙ ap (λ l. l ++ waited n.new_take) took)
 
-empty_in : {sli : ℕ} (r : Run sli) (ws zs : List (Worker sli)) → Settles r ws zs → (from : ℕ) → r.call ≡ Take from → from ≢ at_of r → from < length r.vs → r.reply ≡ Empty → waits_in r.vs from (at_of r) ≡ []
+empty_in : {sli : ℕ} (r : Run sli) (ws zs : List (Worker sli Lanes)) → Settles r ws zs → (from : ℕ) → r.call ≡ Take from → from ≢ at_of r → from < length r.vs → r.reply ≡ Empty → waits_in r.vs from (at_of r) ≡ []
 empty_in r ws zs s from c ne lt e =
     let at = at_of r in
     let m = s.before from at lt (at_in r) ne (take_concern r from from c) in
@@ -235,7 +235,7 @@ empty_in r ws zs s from c ne lt e =
     let k = sym (length-append (waits_in r.vs from at) p.0) ∙ ap length p.1 in
     nil_from_length (waits_in r.vs from at) (omega arith)
 
-drain_in : {sli : ℕ} (r : Run sli) (ws zs : List (Worker sli)) → Settles r ws zs → (most : ℕ) → r.call ≡ Drain most → (k : ℕ) → k < length r.vs → k ≢ at_of r
+drain_in : {sli : ℕ} (r : Run sli) (ws zs : List (Worker sli Lanes)) → Settles r ws zs → (most : ℕ) → r.call ≡ Drain most → (k : ℕ) → k < length r.vs → k ≢ at_of r
     → (rest : List Post) × (waits_in r.vs k (at_of r) ≡ posts_taken k (at_of r) r.step.own ++ rest) × ((sum_below (suc k) (λ i. length (posts_taken i (at_of r) r.step.own)) ≡ most) ⊎ (rest ≡ []))
 drain_in r ws zs s most c k lt ne =
     let at = at_of r in
@@ -257,7 +257,7 @@ drain_in r ws zs s most c k lt ne =
       ],
     )
 
-suits : {sli : ℕ} (r : Run sli) (ws zs : List (Worker sli)) → Settles r ws zs → SuitsCall (world_of r.vs) (length r.vs) (at_of r) r.made r.call r.reply r.step.own
+suits : {sli : ℕ} (r : Run sli) (ws zs : List (Worker sli Lanes)) → Settles r ws zs → SuitsCall (world_of r.vs) (length r.vs) (at_of r) r.made r.call r.reply r.step.own
 unfolding world_of
 suits r ws zs s =
     let n = heaps_count r.vs in
@@ -388,18 +388,6 @@ take_capacity w at from = elim (cases_eq from at) [
   ]
 ]
 
-write_capacity : {sli : ℕ} (w : World sli) (at : ℕ) (o : Option Name) (from : ℕ) (bytes : List ℕ) → (writing_named w at o from bytes).world.capacity ≡ w.capacity
-write_capacity w at None from bytes = refl
-write_capacity w at (Some name) from bytes = refl
-
-read_capacity : {sli : ℕ} (w : World sli) (at : ℕ) (o : Option Name) (from n : ℕ) → (reading_named w at o from n).world.capacity ≡ w.capacity
-read_capacity w at None from n = refl
-read_capacity w at (Some name) from n = refl
-
-resize_capacity : {sli : ℕ} (w : World sli) (at : ℕ) (o : Option Name) (len : ℕ) → (resizing_named w at o len).world.capacity ≡ w.capacity
-resize_capacity w at None len = refl
-resize_capacity w at (Some name) len = refl
-
 lane_capacity : {sli : ℕ} (at from : ℕ) (ps : List Post) (d : Draining sli) → (fold (took_more at from) d ps).world.capacity ≡ d.world.capacity
 lane_capacity at from [] d = refl
 lane_capacity at from (p ∷ ps) d = lane_capacity at from ps (took_more at from d p)
@@ -424,9 +412,9 @@ drain_capacity r at most = below_capacity at most (record { entries = r.entries;
 called_capacity : {sli : ℕ} (r : Replayed sli) (at : ℕ) (call : Call) → (called r at call).world.capacity ≡ r.world.capacity
 called_capacity r at (Allocate len) = refl
 called_capacity r at (Release target) = release_capacity r.world at (name_of r.made target)
-called_capacity r at (Write target from bytes) = write_capacity r.world at (name_of r.made target) from (bytes_of bytes)
-called_capacity r at (Read target from n) = read_capacity r.world at (name_of r.made target) from n
-called_capacity r at (Resize target len) = resize_capacity r.world at (name_of r.made target) len
+called_capacity r at (Write target from bytes) = refl
+called_capacity r at (Read target from n) = refl
+called_capacity r at (Resize target len) = refl
 called_capacity r at (Take from) = take_capacity r.world at from
 called_capacity r at (Drain most) = drain_capacity r at most
 
@@ -466,7 +454,7 @@ record Model {sli : ℕ} (r : Run sli) (s : Replayed sli) : Type 0 where
 abbrev begun_of : {sli : ℕ} → Run sli → Replayed sli
 begun_of r = replay_of r.made r.es r.vs
 
-model : {sli : ℕ} (r : Run sli) (ws zs : List (Worker sli)) → Settles r ws zs → Model r (called (begun_of r) (at_of r) r.call)
+model : {sli : ℕ} (r : Run sli) (ws zs : List (Worker sli Lanes)) → Settles r ws zs → Model r (called (begun_of r) (at_of r) r.call)
 model r ws zs s =
     let at = at_of r in
     let n = heaps_count r.vs in
@@ -533,7 +521,7 @@ nowhere_same r m j far before now =
           ap (λ (c : Call). (called (begun_of r) at c).world.waiting at j) p.2 ∙ (far_lane_waits (world_of r.vs) at j (name_of r.made p.0) away ∙ (before ∙ sym now))
     ]
 
-sent_same : {sli : ℕ} (r : Run sli) (ws zs : List (Worker sli)) → Settles r ws zs → Model r (after_of r) → (j : ℕ) → j < length r.vs → j ≢ at_of r → (after_of r).world.waiting (at_of r) j ≡ waits_in (us_of r) (at_of r) j
+sent_same : {sli : ℕ} (r : Run sli) (ws zs : List (Worker sli Lanes)) → Settles r ws zs → Model r (after_of r) → (j : ℕ) → j < length r.vs → j ≢ at_of r → (after_of r).world.waiting (at_of r) j ≡ waits_in (us_of r) (at_of r) j
 unfolding world_of
 sent_same r ws zs s m j lt ne =
     let at = at_of r in
@@ -583,7 +571,7 @@ taken_same_lane r m i lt ne =
     lane_of (post_at (us_of r) i at) (take_at (us_of r) i at) h.0 e.end post_is take_is ∙ (ap (λ n. drop n (waited e.end ++ posts_sent h.0)) count ∙ ap (λ l. drop (length (taken t) + length took) (l ++ posts_sent h.0)) e.waited) in
     sym (drop_at took left (length took) refl) ∙ (ap (drop (length took)) (sym model ∙ was) ∙ (drop-drop (length took) (length (taken t)) (waited t ++ posts_sent h.0) ∙ sym now))
 
-lanes_same : {sli : ℕ} (r : Run sli) (ws zs : List (Worker sli)) → Settles r ws zs → Model r (after_of r) → (i j : ℕ) → (after_of r).world.waiting i j ≡ waits_in (us_of r) i j
+lanes_same : {sli : ℕ} (r : Run sli) (ws zs : List (Worker sli Lanes)) → Settles r ws zs → Model r (after_of r) → (i j : ℕ) → (after_of r).world.waiting i j ≡ waits_in (us_of r) i j
 unfolding world_of
 lanes_same r ws zs s m i j =
     let at = at_of r in
@@ -618,19 +606,19 @@ lanes_same r ws zs s m i j =
       ]
     ]
 
-world_same : {sli : ℕ} (r : Run sli) (ws zs : List (Worker sli)) → Settles r ws zs → Model r (after_of r) → (after_of r).world ≡ world_of (us_of r)
+world_same : {sli : ℕ} (r : Run sli) (ws zs : List (Worker sli Lanes)) → Settles r ws zs → Model r (after_of r) → (after_of r).world ≡ world_of (us_of r)
 unfolding world_of
 world_same r ws zs s m =
     same_world (after_of r).world (world_of (us_of r)) (heaps_stay r (after_of r) m) (lanes_same r ws zs s m) (called_capacity (begun_of r) (at_of r) r.call ∙ sym (us_capacity r))
 
 -- the call leaves what the model says
-ran : {sli : ℕ} (r : Run sli) (ws zs : List (Worker sli)) → Settles r ws zs → after_of r ≡ replay_of (r.made ++ made_by r.reply ∷ []) (r.longer ++ one (at_of r) r.call r.reply) zs
+ran : {sli : ℕ} (r : Run sli) (ws zs : List (Worker sli Lanes)) → Settles r ws zs → after_of r ≡ replay_of (r.made ++ made_by r.reply ∷ []) (r.longer ++ one (at_of r) r.call r.reply) zs
 ran r ws zs s =
     let m = model r ws zs s in
     let w : (after_of r).world ≡ world_of zs = world_same r ws zs s m ∙ sym s.world in
     λ k. record { made = m.made k; entries = m.entries k; world = w k }
 
-pub replied : {sli : ℕ} (r : Run sli) (ws zs : List (Worker sli)) (event : Event) → Settles r ws zs → world_of r.vs ≡ world_of ws → event.worker ≡ at_of r → event.call ≡ r.call
+pub replied : {sli : ℕ} (r : Run sli) (ws zs : List (Worker sli Lanes)) (event : Event) → Settles r ws zs → world_of r.vs ≡ world_of ws → event.worker ≡ at_of r → event.call ≡ r.call
     → IsReplied (replay_of r.made r.es ws) event r.longer zs r.reply
 replied {sli} r ws zs event s world at_is call_is =
     let at = at_of r in
@@ -651,7 +639,7 @@ replied {sli} r ws zs event s world at_is call_is =
 -- ---- before and after the call
 
 -- the facts of both settlings, where the worker goes by the event's number
-pub settles : {sli : ℕ} (r : Run sli) (ws zs : List (Worker sli)) (at : ℕ) → at_of r ≡ at → length r.vs ≡ length ws
+pub settles : {sli : ℕ} (r : Run sli) (ws zs : List (Worker sli Lanes)) (at : ℕ) → at_of r ≡ at → length r.vs ≡ length ws
     → ((i j : ℕ) → i < length ws → j < length ws → i ≢ j → ConcernsCall r.made at r.call i j → MetIn ws r.vs i j)
     → ((i j : ℕ) → i < length (set r.vs at r.v) → j < length (set r.vs at r.v) → i ≢ j → ConcernsCall r.made at r.call i j → MetIn (set r.vs at r.v) zs i j)
     → (MayTake r.call → (i : ℕ) (t : TakeEnd) → i < 8 → take_at r.vs i at ≡ Some t → length (ready t) ≤ slice_index r.limits i)
@@ -668,7 +656,7 @@ settles r ws zs at e len first second limits yard count world =
     }
 
 -- what is ready after the lanes to a worker were settled is all that waits
-pub limits_are : {sli : ℕ} (ws vs : List (Worker sli)) (e : Event) (counts : List ℕ) (a : Worker sli) → IsYard vs → length vs ≡ length ws → slice_get vs e.worker ≡ Some a
+pub limits_are : {sli : ℕ} (ws vs : List (Worker sli Lanes)) (e : Event) (counts : List ℕ) (a : Worker sli Lanes) → IsYard vs → length vs ≡ length ws → slice_get vs e.worker ≡ Some a
     → ((i : ℕ) → i < length ws → i ≢ e.worker → MetIn ws vs i e.worker) → ((i : ℕ) → i < 8 → slice_index counts i ≡ ready_from a i) → AreLimits vs e counts
 limits_are ws vs e counts a yard len is met counted =
     let at = e.worker in
@@ -693,9 +681,9 @@ limits_are ws vs e counts a yard len is met counted =
     }
 
 -- where nothing may be taken, no limits are enough
-pub zero_limits : {sli : ℕ} (ws : List (Worker sli)) (e : Event) → (MayTake e.call → ⊥) → AreLimits ws e (replicate 8 0)
+pub zero_limits : {sli : ℕ} (ws : List (Worker sli Lanes)) (e : Event) → (MayTake e.call → ⊥) → AreLimits ws e (replicate 8 0)
 zero_limits ws e none = record { few = λ i lt. let z : slice_index (replicate 8 0) i ≡ 0 = get_or-replicate 8 i 0 0 lt in omega (arith, z); all = λ may. absurd (none may) }
 
-pub limit_room : {sli : ℕ} (ws vs : List (Worker sli)) (e : Event) (limits : List ℕ) → AreLimits vs e limits → world_of vs ≡ world_of ws → sum_of limits ≤ sum_below 8 (λ i. length (waits_in ws i e.worker))
+pub limit_room : {sli : ℕ} (ws vs : List (Worker sli Lanes)) (e : Event) (limits : List ℕ) → AreLimits vs e limits → world_of vs ≡ world_of ws → sum_of limits ≤ sum_below 8 (λ i. length (waits_in ws i e.worker))
 limit_room ws vs e limits l same =
     least_sum 8 (slice_index limits) (λ i. length (waits_in ws i e.worker)) (λ i lt. let w = ap length (waits_same ws vs same i e.worker) in omega (arith, l.few i lt))

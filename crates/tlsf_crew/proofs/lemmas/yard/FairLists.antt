@@ -20,7 +20,7 @@ use Rattle.tlsf_calls.specs.declared.reply.Reply.TheVariants.{Freed, Posted, Ref
 use Rattle.tlsf_calls.specs.declared.crew_refusal.CrewRefusal.TheVariants.{Stranger}
 use Rattle.tlsf_crew.specs.yard.World.{World, Replied, Replayed, with_heap, heap_in, reply_wrote, reply_got, reply_resized, releasing, releasing_named, writing_named, reading_named, resizing_named, taking, taking_next, took_first, took, name_of, called, after, draining, begun, replies}
 use Rattle.tlsf_crew.specs.yard.FairRuns.{NoneStale, IsUsable, IsFairCall, IsAnswered, Releases, IsFair, HasIds, IsFairRun, WaitLive}
-use Rattle.tlsf_crew.proofs.lemmas.yard.OneEvent.{taking_lane, taking_own, taking_far}
+use Rattle.tlsf_crew.proofs.lemmas.yard.OneEvent.{same_heap, taking_lane, taking_own, taking_far}
 use Rattle.tlsf_crew.proofs.lemmas.yard.EventSteps.{after_far, after_near, replies_is}
 use Rattle.tlsf_crew.proofs.lemmas.yard.HeapNames.{written_known, written_id, written_stays, resized_known, resized_id, resized_stays, chunk_known}
 use Rattle.tlsf_crew.proofs.lemmas.yard.NamesKept.{IsKept}
@@ -61,7 +61,8 @@ module _ {sli : ℕ} (r : Replayed sli) (gone gone2 : Name → Type 0) (more : (
   read_kept : (at : ℕ) (o : Option Name) (from n : ℕ) → at < length r.world.heaps → IsUsable r gone o → Next (reading_named r.world at o from n)
   read_kept at None from n at_in usable = absurd usable
   read_kept at (Some name) from n at_in usable =
-      got_kept (chunk_read (heap_in r.world at) name from n) (chunk_known (heap_in r.world at) name from n (own_live at name at_in usable.0 usable.1))
+      subst (λ v. Next (record { reply = reply_got (chunk_read (heap_in r.world at) name from n); world = v })) (sym (same_heap r.world at (heap_in r.world at) refl))
+      (got_kept (chunk_read (heap_in r.world at) name from n) (chunk_known (heap_in r.world at) name from n (own_live at name at_in usable.0 usable.1)))
 
   resize_answer_kept : (v : World sli) → IsKept (IsMade (r.made ++ None ∷ [])) gone2 v → (answer : Result (Unit {0}) Refusal) → answer ≢ Err Stale
       → Next (record { reply = reply_resized answer; world = v })

@@ -18,7 +18,7 @@ use Rattle.tlsf_crew.proofs.lemmas.yard.AllEntries.{replies_tell}
 use Rattle.tlsf_crew.proofs.lemmas.yard.JoinedEntries.{HasItsAnswer, length_run, run_more, told_other, told_own, told_then}
 
 -- so many calls on a heap are told as answers of it
-as_many : (made : List (Option Name)) (workers j : ℕ) (es : List Entry) → j < workers → All (HasItsAnswer made workers) es → length (calls_on j made es) ≡ length (answers_on j es)
+pub as_many : (made : List (Option Name)) (workers j : ℕ) (es : List Entry) → j < workers → All (HasItsAnswer made workers) es → length (calls_on j made es) ≡ length (answers_on j es)
 as_many made workers j [] j_in each = refl
 as_many made workers j (e ∷ es) j_in each =
     let call = λ (e : Entry). call_on_own made e.worker e.call e.reply in
@@ -36,7 +36,7 @@ as_many made workers j (e ∷ es) j_in each =
     omega arith
 
 -- a run of some calls and then of others
-run_split : {sli : ℕ} (h last : HeapState) (cs ds : List heap.Call) (xs ys : List heap.Answer) → length cs ≡ length xs → RunsTo sli h (cs ++ ds) (xs ++ ys) last
+pub run_split : {sli : ℕ} (h last : HeapState) (cs ds : List heap.Call) (xs ys : List heap.Answer) → length cs ≡ length xs → RunsTo sli h (cs ++ ds) (xs ++ ys) last
     → RunsTo sli h cs xs (heap.run sli h cs).1 × RunsTo sli (heap.run sli h cs).1 ds ys last
 run_split {sli} h last cs ds xs ys even run =
     let more = run_more sli h cs ds in

@@ -8,7 +8,8 @@ use Rattle.std.specs.declared.alloc.Global.{Global}
 use Rattle.std.proofs.Math.Seq.{set-append_seam}
 use Rattle.std.proofs.lemmas.Option.{slice_get_within, slice_get-get_or, slice_get-map, get_or_from_slice_get}
 use Rattle.tlsf_heap.specs.declared.name.Name.{Name}
-use Rattle.tlsf_crew.specs.declared.yard.worker.Worker.{Worker}
+use Rattle.tlsf_crew.specs.declared.worker.Worker.{Worker}
+use Rattle.tlsf_crew.specs.declared.yard.lanes.Lanes.{Lanes}
 use Rattle.tlsf_calls.specs.declared.entry.Entry.{Entry}
 use Rattle.tlsf_calls.specs.declared.call.Call.{Call}
 use Rattle.tlsf_crew.specs.declared.threads.job.Job.{Job}
@@ -31,7 +32,7 @@ done_last P [] (y ∷ ds) j d a b = absurd a
 done_last P (x ∷ js) [] j d a b = absurd a
 done_last P (x ∷ js) (y ∷ ds) j d a b = (a.0, done_last P js ds j d a.1 b)
 
-pub done_count : {sli : ℕ} (js : List (Job sli)) (ds : List (Done sli)) → AllDone IsDone js ds → length ds ≡ length js
+pub done_count : {sli : ℕ} (js : List (Job sli)) (ds : List (Done sli Lanes)) → AllDone IsDone js ds → length ds ≡ length js
 done_count [] [] a = refl
 done_count [] (y ∷ ds) a = absurd a
 done_count (x ∷ js) [] a = absurd a
@@ -43,7 +44,7 @@ at_seam : {X : Type 0} (pre xs : List X) (x : X) → slice_get (pre ++ x ∷ xs)
 at_seam [] xs x = refl
 at_seam (p ∷ pre) xs x = at_seam pre xs x
 
-done_yard : {sli : ℕ} (pre : List (Worker sli)) (js : List (Job sli)) (ds : List (Done sli)) → AllDone IsDone js ds → IsYard (pre ++ map (λ j. j.worker) js) → IsYard (pre ++ map (λ d. d.worker) ds)
+done_yard : {sli : ℕ} (pre : List (Worker sli Lanes)) (js : List (Job sli)) (ds : List (Done sli Lanes)) → AllDone IsDone js ds → IsYard (pre ++ map (λ j. j.worker) js) → IsYard (pre ++ map (λ d. d.worker) ds)
 done_yard {sli} pre [] [] a yard = yard
 done_yard {sli} pre [] (y ∷ ds) a yard = absurd a
 done_yard {sli} pre (x ∷ js) [] a yard = absurd a
@@ -52,29 +53,29 @@ done_yard {sli} pre (x ∷ js) (y ∷ ds) a yard =
     let next : IsYard (set (pre ++ x.worker ∷ rest) (length pre) y.worker) = a.0.ran.yard (pre ++ x.worker ∷ rest) (length pre) (at_seam pre rest x.worker) yard in
     let moved : IsYard (pre ++ y.worker ∷ rest) = subst IsYard (set-append_seam pre x.worker rest y.worker) next in
     let shifted : IsYard ((pre ++ y.worker ∷ []) ++ rest) = subst IsYard (sym (append_assoc pre (y.worker ∷ []) rest)) moved in
-    subst IsYard (append_assoc pre (y.worker ∷ []) (map (λ (d : Done sli). d.worker) ds)) (done_yard (pre ++ y.worker ∷ []) js ds a.1 shifted)
+    subst IsYard (append_assoc pre (y.worker ∷ []) (map (λ (d : Done sli Lanes). d.worker) ds)) (done_yard (pre ++ y.worker ∷ []) js ds a.1 shifted)
 
 -- ---- each worker
 
 abbrev scripts_in : {sli : ℕ} → List (Job sli) → List (List Call)
 scripts_in js = map (λ s. s.items) (map (λ j. j.script) js)
 
-abbrev records_in : {sli : ℕ} → List (Done sli) → List (List Entry)
+abbrev records_in : {sli : ℕ} → List (Done sli Lanes) → List (List Entry)
 records_in ds = map (λ r. r.items) (map (λ d. d.entries) ds)
 
-abbrev names_made_by : {sli : ℕ} → List (Done sli) → ℕ → List (Option Name)
-names_made_by {sli} ds k = get_or (map (λ (d : Done sli). d.made.items) ds) k []
+abbrev names_made_by : {sli : ℕ} → List (Done sli Lanes) → ℕ → List (Option Name)
+names_made_by {sli} ds k = get_or (map (λ (d : Done sli Lanes). d.made.items) ds) k []
 
 -- what was done with the job at a place
-record DoneAt {sli : ℕ} (ds : List (Done sli)) (k : ℕ) (j : Job sli) : Type 0 where
-  done : Done sli
+record DoneAt {sli : ℕ} (ds : List (Done sli Lanes)) (k : ℕ) (j : Job sli) : Type 0 where
+  done : Done sli Lanes
   is : slice_get ds k ≡ Some done
   ran : IsDone j done
 
 none_some : {X : Type 0} (x : X) → ◌≡◌ {A = Option X} None (Some x) → ⊥
 none_some x e = cc
 
-done_at : {sli : ℕ} (js : List (Job sli)) (ds : List (Done sli)) → AllDone IsDone js ds → (k : ℕ) (j : Job sli) → slice_get js k ≡ Some j → DoneAt ds k j
+done_at : {sli : ℕ} (js : List (Job sli)) (ds : List (Done sli Lanes)) → AllDone IsDone js ds → (k : ℕ) (j : Job sli) → slice_get js k ≡ Some j → DoneAt ds k j
 done_at {sli} [] ds a k j e = absurd (none_some j e)
 done_at {sli} (x ∷ js) [] a k j e = absurd a
 done_at {sli} (x ∷ js) (y ∷ ds) a zero j e = record { done = y; is = refl; ran = subst (λ (z : Job sli). IsDone z y) (some_same x j e) a.0 }
@@ -91,32 +92,32 @@ from_map f (x ∷ xs) (suc k) y e = from_map f xs k y e
 script_at : {sli : ℕ} (js : List (Job sli)) (k : ℕ) (j : Job sli) → slice_get js k ≡ Some j → script_of (scripts_in js) k ≡ j.script.items
 script_at {sli} js k j e = get_or_from_slice_get (scripts_in js) k j.script.items [] (map_at (λ s. s.items) (map (λ (x : Job sli). x.script) js) k j.script (map_at (λ (x : Job sli). x.script) js k j e))
 
-record_at : {sli : ℕ} (ds : List (Done sli)) (k : ℕ) (d : Done sli) → slice_get ds k ≡ Some d → record_of (records_in ds) k ≡ d.entries.items
-record_at {sli} ds k d e = get_or_from_slice_get (records_in ds) k d.entries.items [] (map_at (λ r. r.items) (map (λ (x : Done sli). x.entries) ds) k d.entries (map_at (λ (x : Done sli). x.entries) ds k d e))
+record_at : {sli : ℕ} (ds : List (Done sli Lanes)) (k : ℕ) (d : Done sli Lanes) → slice_get ds k ≡ Some d → record_of (records_in ds) k ≡ d.entries.items
+record_at {sli} ds k d e = get_or_from_slice_get (records_in ds) k d.entries.items [] (map_at (λ r. r.items) (map (λ (x : Done sli Lanes). x.entries) ds) k d.entries (map_at (λ (x : Done sli Lanes). x.entries) ds k d e))
 
-made_at : {sli : ℕ} (ds : List (Done sli)) (k : ℕ) (d : Done sli) → slice_get ds k ≡ Some d → names_made_by ds k ≡ d.made.items
-made_at {sli} ds k d e = get_or_from_slice_get (map (λ (x : Done sli). x.made.items) ds) k d.made.items [] (map_at (λ (x : Done sli). x.made.items) ds k d e)
+made_at : {sli : ℕ} (ds : List (Done sli Lanes)) (k : ℕ) (d : Done sli Lanes) → slice_get ds k ≡ Some d → names_made_by ds k ≡ d.made.items
+made_at {sli} ds k d e = get_or_from_slice_get (map (λ (x : Done sli Lanes). x.made.items) ds) k d.made.items [] (map_at (λ (x : Done sli Lanes). x.made.items) ds k d e)
 
 prepared_at : {sli : ℕ} (n : ℕ) (releases : List ℕ) (js : List (Job sli)) → All (IsPrepared n releases) js → (k : ℕ) (j : Job sli) → slice_get js k ≡ Some j → IsPrepared n releases j
 prepared_at n releases js all k j e = subst (IsPrepared n releases) (get_or_from_slice_get js k j j e) (all k j (slice_get_within js k j e))
 
 -- what leads from this worker to one of the others
-abbrev RanTo : {sli : ℕ} → ℕ → List (Job sli) → List (Done sli) → ℕ → Worker sli → Type 0
+abbrev RanTo : {sli : ℕ} → ℕ → List (Job sli) → List (Done sli Lanes) → ℕ → Worker sli Lanes → Type 0
 RanTo {sli} n js ds k a =
-    (v : Worker sli) × (slice_get (map (λ d. d.worker) ds) k ≡ Some v) × Ran n a (script_of (scripts_in js) k) (names_made_by ds k) (record_of (records_in ds) k) v
+    (v : Worker sli Lanes) × (slice_get (map (λ d. d.worker) ds) k ≡ Some v) × Ran n a (script_of (scripts_in js) k) (names_made_by ds k) (record_of (records_in ds) k) v
 
-job_ran : {sli : ℕ} (n : ℕ) (releases : List ℕ) (js : List (Job sli)) (ds : List (Done sli)) → AllDone IsDone js ds → All (IsPrepared n releases) js → (k : ℕ) (j : Job sli) → slice_get js k ≡ Some j
+job_ran : {sli : ℕ} (n : ℕ) (releases : List ℕ) (js : List (Job sli)) (ds : List (Done sli Lanes)) → AllDone IsDone js ds → All (IsPrepared n releases) js → (k : ℕ) (j : Job sli) → slice_get js k ≡ Some j
     → RanTo n js ds k j.worker
 job_ran {sli} n releases js ds done all k j e =
     let r = done_at js ds done k j e in
     let d = r.done in
     let p = prepared_at n releases js all k j e in (
       d.worker,
-      map_at (λ (x : Done sli). x.worker) ds k d r.is,
+      map_at (λ (x : Done sli Lanes). x.worker) ds k d r.is,
       rw (script_at js k j e, record_at ds k d r.is, made_at ds k d r.is, sym p.count) r.ran.ran,
     )
 
-done_ran : {sli : ℕ} (n : ℕ) (releases : List ℕ) (js : List (Job sli)) (ds : List (Done sli)) → AllDone IsDone js ds → All (IsPrepared n releases) js → (k : ℕ) (a : Worker sli) → slice_get (map (λ j. j.worker) js) k ≡ Some a
+done_ran : {sli : ℕ} (n : ℕ) (releases : List ℕ) (js : List (Job sli)) (ds : List (Done sli Lanes)) → AllDone IsDone js ds → All (IsPrepared n releases) js → (k : ℕ) (a : Worker sli Lanes) → slice_get (map (λ j. j.worker) js) k ≡ Some a
     → RanTo n js ds k a
 done_ran {sli} n releases js ds done all k a e =
     let f = from_map (λ (x : Job sli). x.worker) js k a e in
@@ -124,24 +125,24 @@ done_ran {sli} n releases js ds done all k a e =
 
 -- ---- the room that each has
 
-abbrev HasRoom : {sli : ℕ} → List ℕ → List (Job sli) → ℕ → Vec Entry Global → Worker sli → Type 0
+abbrev HasRoom : {sli : ℕ} → List ℕ → List (Job sli) → ℕ → Vec Entry Global → Worker sli Lanes → Type 0
 HasRoom releases js k r a = vec_capacity r ≡ length (script_of (scripts_in js) k) + sum_below 8 (most_from releases a) + 1
 
-job_room : {sli : ℕ} (n : ℕ) (releases : List ℕ) (js : List (Job sli)) (ds : List (Done sli)) → AllDone IsDone js ds → All (IsPrepared n releases) js
+job_room : {sli : ℕ} (n : ℕ) (releases : List ℕ) (js : List (Job sli)) (ds : List (Done sli Lanes)) → AllDone IsDone js ds → All (IsPrepared n releases) js
     → (k : ℕ) (j : Job sli) (r : Vec Entry Global) → slice_get js k ≡ Some j → slice_get (map (λ d. d.entries) ds) k ≡ Some r → HasRoom releases js k r j.worker
 job_room {sli} n releases js ds done all k j r e there =
     let q = done_at js ds done k j e in
     let d = q.done in
     let p = prepared_at n releases js all k j e in
-    let same : d.entries ≡ r = some_same d.entries r (sym (map_at (λ (x : Done sli). x.entries) ds k d q.is) ∙ there) in
+    let same : d.entries ≡ r = some_same d.entries r (sym (map_at (λ (x : Done sli Lanes). x.entries) ds k d q.is) ∙ there) in
     let script = ap length (script_at js k j e) in
     let room = p.room in
     let capacity = q.ran.room in
     let l = j.script.ok in
     subst (λ (v : Vec Entry Global). HasRoom releases js k v j.worker) same (omega arith)
 
-done_room : {sli : ℕ} (n : ℕ) (releases : List ℕ) (js : List (Job sli)) (ds : List (Done sli)) → AllDone IsDone js ds → All (IsPrepared n releases) js
-    → (k : ℕ) (a : Worker sli) (r : Vec Entry Global) → slice_get (map (λ j. j.worker) js) k ≡ Some a → slice_get (map (λ d. d.entries) ds) k ≡ Some r → HasRoom releases js k r a
+done_room : {sli : ℕ} (n : ℕ) (releases : List ℕ) (js : List (Job sli)) (ds : List (Done sli Lanes)) → AllDone IsDone js ds → All (IsPrepared n releases) js
+    → (k : ℕ) (a : Worker sli Lanes) (r : Vec Entry Global) → slice_get (map (λ j. j.worker) js) k ≡ Some a → slice_get (map (λ d. d.entries) ds) k ≡ Some r → HasRoom releases js k r a
 done_room {sli} n releases js ds done all k a r e there =
     let f = from_map (λ (x : Job sli). x.worker) js k a e in
     subst (HasRoom releases js k r) f.2 (job_room n releases js ds done all k f.0 r f.1 there)
@@ -149,7 +150,7 @@ done_room {sli} n releases js ds done all k a r e there =
 -- ---- all together
 
 -- each worker of a whole yard knows of the others
-pub each_knows : {sli : ℕ} (n : ℕ) (ws : List (Worker sli)) → n ≡ length ws → IsYard ws → All (KnowsYard n) ws
+pub each_knows : {sli : ℕ} (n : ℕ) (ws : List (Worker sli Lanes)) → n ≡ length ws → IsYard ws → All (KnowsYard n) ws
 each_knows n ws len yard k d lt =
     let a = get_or ws k d in
     let is : slice_get ws k ≡ Some a = slice_get-get_or ws k d lt in
@@ -161,16 +162,16 @@ each_knows n ws len yard k d lt =
       from = λ j. rw own (joined_from ws k j a yard is);
     })
 
-pub gathered : {sli : ℕ} (n : ℕ) (releases : List ℕ) (js : List (Job sli)) (ds : List (Done sli)) (ws : List (Worker sli)) (scripts : List (Vec Call Global)) (records : List (Vec Entry Global)) (vs : List (Worker sli))
+pub gathered : {sli : ℕ} (n : ℕ) (releases : List ℕ) (js : List (Job sli)) (ds : List (Done sli Lanes)) (ws : List (Worker sli Lanes)) (scripts : List (Vec Call Global)) (records : List (Vec Entry Global)) (vs : List (Worker sli Lanes))
     → map (λ j. j.worker) js ≡ ws → map (λ j. j.script) js ≡ scripts → vs ≡ map (λ d. d.worker) ds → records ≡ map (λ d. d.entries) ds → n ≡ length ws
     → All (IsPrepared n releases) js → AllDone IsDone js ds → IsYard ws
     → HaveRun ws (map (λ s. s.items) scripts) (map (λ r. r.items) records) vs
 gathered {sli} n releases js ds ws scripts records vs a b c d len all done yard =
-    let count : length (map (λ (e : Done sli). e.worker) ds) ≡ length (map (λ (j : Job sli). j.worker) js) = length-map ds (λ e. e.worker) ∙ (done_count js ds done ∙ sym (length-map js (λ j. j.worker))) in
+    let count : length (map (λ (e : Done sli Lanes). e.worker) ds) ≡ length (map (λ (j : Job sli). j.worker) js) = length-map ds (λ e. e.worker) ∙ (done_count js ds done ∙ sym (length-map js (λ j. j.worker))) in
     let told : length (records_in ds) ≡ length (map (λ (j : Job sli). j.worker) js) =
-    length-map (map (λ (e : Done sli). e.entries) ds) (λ r. r.items) ∙ (length-map ds (λ e. e.entries) ∙ (done_count js ds done ∙ sym (length-map js (λ j. j.worker)))) in
+    length-map (map (λ (e : Done sli Lanes). e.entries) ds) (λ r. r.items) ∙ (length-map ds (λ e. e.entries) ∙ (done_count js ds done ∙ sym (length-map js (λ j. j.worker)))) in
     let size : n ≡ length (map (λ (j : Job sli). j.worker) js) = len ∙ ap length (sym a) in
-    let run : HaveRun (map (λ (j : Job sli). j.worker) js) (scripts_in js) (records_in ds) (map (λ (e : Done sli). e.worker) ds) = record {
+    let run : HaveRun (map (λ (j : Job sli). j.worker) js) (scripts_in js) (records_in ds) (map (λ (e : Done sli Lanes). e.worker) ds) = record {
       made = names_made_by ds;
       worker_count = count;
       record_count = told;
@@ -179,7 +180,7 @@ gathered {sli} n releases js ds ws scripts records vs a b c d len all done yard 
     } in
     rw (sym a, sym b, c, d) run
 
-pub gathered_rooms : {sli : ℕ} (n : ℕ) (releases : List ℕ) (js : List (Job sli)) (ds : List (Done sli)) (ws : List (Worker sli)) (scripts : List (Vec Call Global)) (records : List (Vec Entry Global))
+pub gathered_rooms : {sli : ℕ} (n : ℕ) (releases : List ℕ) (js : List (Job sli)) (ds : List (Done sli Lanes)) (ws : List (Worker sli Lanes)) (scripts : List (Vec Call Global)) (records : List (Vec Entry Global))
     → map (λ j. j.worker) js ≡ ws → map (λ j. j.script) js ≡ scripts → records ≡ map (λ d. d.entries) ds
     → ((i : ℕ) → i < 8 → slice_index releases i ≡ releases_of (script_of (map (λ s. s.items) scripts) i))
     → All (IsPrepared n releases) js → AllDone IsDone js ds → HaveRooms ws (map (λ s. s.items) scripts) records
@@ -191,7 +192,7 @@ gathered_rooms n releases js ds ws scripts records a b d counts all done k w r i
     omega arith
 
 -- a job whose room was made
-pub prepared : {sli : ℕ} (n : ℕ) (releases limits : List ℕ) (w : Worker sli) (script : Vec Call Global) (made : Vec (Option Name) Global) (entries : Vec Entry Global)
+pub prepared : {sli : ℕ} (n : ℕ) (releases limits : List ℕ) (w : Worker sli Lanes) (script : Vec Call Global) (made : Vec (Option Name) Global) (entries : Vec Entry Global)
     → KnowsYard n w → vec_len script < 4294967296 → (made.items ≡ []) × (entries.items ≡ []) → vec_len script ≤ vec_capacity made
     → ((i : ℕ) → i < 8 → ready_from w i ≤ slice_index limits i) → ((i : ℕ) → i < 8 → slice_index limits i ≤ most_from releases w i)
     → ((i : ℕ) → i < 8 → min (most_from releases w i) 4294967295 ≤ slice_index limits i)

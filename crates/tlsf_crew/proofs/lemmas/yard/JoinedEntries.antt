@@ -33,7 +33,7 @@ length_run sli h [] = refl
 length_run sli h (c ∷ cs) = ap suc (length_run sli (heap.answered sli h c).1 cs)
 
 -- so many answers as calls
-length_told : {sli : ℕ} (h g : HeapState) (cs : List heap.Call) (xs : List heap.Answer) → RunsTo sli h cs xs g → length cs ≡ length xs
+pub length_told : {sli : ℕ} (h g : HeapState) (cs : List heap.Call) (xs : List heap.Answer) → RunsTo sli h cs xs g → length cs ≡ length xs
 length_told {sli} h g cs xs r = sym (length_run sli h cs) ∙ (sym (length-map (heap.run sli h cs).0 handed_on) ∙ ap length r.told)
 
 -- ---- what is told by some entries and then by others, and by one

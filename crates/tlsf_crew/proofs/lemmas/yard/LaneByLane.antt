@@ -1,12 +1,13 @@
 -- Where the lanes of a row, and then the rows, were settled one after another, all lanes were.
 use Rattle.std.proofs.Common.{◌≡◌, ◌≢◌, ℕ, ◌+◌, ◌<◌, ◌≤◌, List, length, sym, ◌∙◌, arith, refl, inl, inr}
 use Rattle.std.proofs.lemmas.Bool.{cases_eq}
-use Rattle.tlsf_crew.specs.declared.yard.worker.Worker.{Worker}
+use Rattle.tlsf_crew.specs.declared.worker.Worker.{Worker}
+use Rattle.tlsf_crew.specs.declared.yard.lanes.Lanes.{Lanes}
 use Rattle.tlsf_crew.specs.yard.Settle.{MetIn}
 use Rattle.tlsf_crew.specs.yard.LaneSteps.{LaneStep, SameLane, RowMet, EachRowMet, ColumnMet}
 use Rattle.tlsf_crew.proofs.lemmas.yard.Slots.{settled, step_same, same_then}
 
-pub step_meets : {sli : ℕ} (ws vs : List (Worker sli)) (i j : ℕ) → i ≢ j → LaneStep ws i j vs → MetIn ws vs i j
+pub step_meets : {sli : ℕ} (ws vs : List (Worker sli Lanes)) (i j : ℕ) → i ≢ j → LaneStep ws i j vs → MetIn ws vs i j
 step_meets ws vs i j ne s =
     let c = settled ws vs i j ne s in
     record {
@@ -21,7 +22,7 @@ step_meets ws vs i j ne s =
       meets = s.met.meets;
     }
 
-met_then : {sli : ℕ} (ws vs us : List (Worker sli)) (i j : ℕ) → MetIn ws vs i j → SameLane vs us i j → MetIn ws us i j
+met_then : {sli : ℕ} (ws vs us : List (Worker sli Lanes)) (i j : ℕ) → MetIn ws vs i j → SameLane vs us i j → MetIn ws us i j
 met_then ws vs us i j m s = record {
   post = m.post;
   take = m.take;
@@ -34,7 +35,7 @@ met_then ws vs us i j m s = record {
   meets = m.meets;
 }
 
-then_met : {sli : ℕ} (ws vs us : List (Worker sli)) (i j : ℕ) → SameLane ws vs i j → MetIn vs us i j → MetIn ws us i j
+then_met : {sli : ℕ} (ws vs us : List (Worker sli Lanes)) (i j : ℕ) → SameLane ws vs i j → MetIn vs us i j → MetIn ws us i j
 then_met ws vs us i j s m = record {
   post = m.post;
   take = m.take;
@@ -47,11 +48,11 @@ then_met ws vs us i j s m = record {
   meets = m.meets;
 }
 
-pub row_first : {sli : ℕ} (ws : List (Worker sli)) (i : ℕ) → RowMet ws ws i 0
+pub row_first : {sli : ℕ} (ws : List (Worker sli Lanes)) (i : ℕ) → RowMet ws ws i 0
 row_first ws i = record { len = refl; done = λ y lt ne. absurd (omega arith); same = λ x y low. (refl, refl) }
 
 -- one lane more
-pub row_step : {sli : ℕ} (ws vs us : List (Worker sli)) (i j : ℕ) → RowMet ws vs i j → i ≢ j → LaneStep vs i j us → RowMet ws us i (j + 1)
+pub row_step : {sli : ℕ} (ws vs us : List (Worker sli Lanes)) (i j : ℕ) → RowMet ws vs i j → i ≢ j → LaneStep vs i j us → RowMet ws us i (j + 1)
 row_step ws vs us i j r ne s =
     record {
       len = (settled vs us i j ne s).len ∙ r.len;
@@ -65,7 +66,7 @@ row_step ws vs us i j r ne s =
           (step_same vs us i j x y ne s (λ e f. let h : j + 1 ≤ y = low e in omega arith));
     }
 
-pub row_skip : {sli : ℕ} (ws vs : List (Worker sli)) (i j : ℕ) → RowMet ws vs i j → i ≡ j → RowMet ws vs i (j + 1)
+pub row_skip : {sli : ℕ} (ws vs : List (Worker sli Lanes)) (i j : ℕ) → RowMet ws vs i j → i ≡ j → RowMet ws vs i (j + 1)
 row_skip ws vs i j r e =
     record {
       len = r.len;
@@ -73,11 +74,11 @@ row_skip ws vs i j r e =
       same = λ x y low. r.same x y (λ f. let h : j + 1 ≤ y = low f in omega arith);
     }
 
-pub yard_first : {sli : ℕ} (ws : List (Worker sli)) → EachRowMet ws ws 0
+pub yard_first : {sli : ℕ} (ws : List (Worker sli Lanes)) → EachRowMet ws ws 0
 yard_first ws = record { len = refl; done = λ x y lt _ _. absurd (omega arith); same = λ x y low. (refl, refl) }
 
 -- one row more
-pub yard_step : {sli : ℕ} (ws vs us : List (Worker sli)) (i : ℕ) → EachRowMet ws vs i → RowMet vs us i (length vs) → EachRowMet ws us (i + 1)
+pub yard_step : {sli : ℕ} (ws vs us : List (Worker sli Lanes)) (i : ℕ) → EachRowMet ws vs i → RowMet vs us i (length vs) → EachRowMet ws us (i + 1)
 yard_step ws vs us i a r =
     record {
       len = r.len ∙ a.len;
@@ -92,11 +93,11 @@ yard_step ws vs us i a r =
 
 -- ---- the lanes to one worker
 
-pub column_first : {sli : ℕ} (ws : List (Worker sli)) (j : ℕ) → ColumnMet ws ws 0 j
+pub column_first : {sli : ℕ} (ws : List (Worker sli Lanes)) (j : ℕ) → ColumnMet ws ws 0 j
 column_first ws j = record { len = refl; done = λ x lt ne. absurd (omega arith); same = λ x y low. (refl, refl) }
 
 -- one lane more
-pub column_step : {sli : ℕ} (ws vs us : List (Worker sli)) (i j : ℕ) → ColumnMet ws vs i j → i ≢ j → LaneStep vs i j us → ColumnMet ws us (i + 1) j
+pub column_step : {sli : ℕ} (ws vs us : List (Worker sli Lanes)) (i j : ℕ) → ColumnMet ws vs i j → i ≢ j → LaneStep vs i j us → ColumnMet ws us (i + 1) j
 column_step ws vs us i j r ne s =
     record {
       len = (settled vs us i j ne s).len ∙ r.len;
@@ -110,7 +111,7 @@ column_step ws vs us i j r ne s =
           (step_same vs us i j x y ne s (λ e f. let h : i + 1 ≤ x = low f in omega arith));
     }
 
-pub column_skip : {sli : ℕ} (ws vs : List (Worker sli)) (i j : ℕ) → ColumnMet ws vs i j → i ≡ j → ColumnMet ws vs (i + 1) j
+pub column_skip : {sli : ℕ} (ws vs : List (Worker sli Lanes)) (i j : ℕ) → ColumnMet ws vs i j → i ≡ j → ColumnMet ws vs (i + 1) j
 column_skip ws vs i j r e =
     record {
       len = r.len;

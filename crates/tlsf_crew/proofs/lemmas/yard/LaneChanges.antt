@@ -9,13 +9,15 @@ use Rattle.tlsf_post.specs.declared.post.Post.{Post}
 use Rattle.tlsf_post.specs.declared.post_end.PostEnd.{PostEnd}
 use Rattle.tlsf_post.specs.declared.take_end.TakeEnd.{TakeEnd}
 use Rattle.tlsf_post.specs.Lanes.{posts_sent, capacity_of, waited, taken}
-use Rattle.tlsf_crew.specs.declared.yard.worker.Worker.{Worker}
-use Rattle.tlsf_crew.specs.yard.Workers.{heap_of, id_and_capacity, SameButHeap}
+use Rattle.tlsf_crew.specs.declared.worker.Worker.{Worker}
+use Rattle.tlsf_crew.specs.declared.yard.lanes.Lanes.{Lanes}
+use Rattle.tlsf_crew.specs.yard.Workers.{heap_of, id_and_capacity, SameButHeap, KeepsHeap}
 use Rattle.tlsf_crew.specs.yard.Yard.{post_at, take_at, HasEnds, IsYard, capacity_in, lane_waits}
 use Rattle.tlsf_crew.specs.yard.LaneSteps.{LaneChange, SameLane}
 use Rattle.tlsf_crew.specs.yard.World.{World, world_of, edited, with_waiting, heap_in}
+use Rattle.tlsf_crew.proofs.lemmas.yard.SameParts.{same_parts}
 use Rattle.tlsf_crew.proofs.lemmas.yard.Slots.{get_set_same, get_set_other, map_same, some_same, heap_at, none_or_some}
-use Rattle.tlsf_crew.proofs.lemmas.yard.OwnHeaps.{KeepsHeap, heaps_along, heaps_set}
+use Rattle.tlsf_crew.proofs.lemmas.yard.OwnHeaps.{heaps_along, heaps_set}
 use Rattle.tlsf_crew.proofs.lemmas.yard.Signed.{AreFrom, same_signed, changed_signed}
 
 -- worlds are equal by heaps, by what waits in each pair, and by capacity
@@ -48,7 +50,7 @@ with_same w i j ps e =
     ]) refl
 
 -- one lane changed
-pub changed_world : {sli : ℕ} (ws vs : List (Worker sli)) (i j : ℕ) (p : PostEnd) (t : TakeEnd) (q : PostEnd) (u : TakeEnd) (ps : List Post)
+pub changed_world : {sli : ℕ} (ws vs : List (Worker sli Lanes)) (i j : ℕ) (p : PostEnd) (t : TakeEnd) (q : PostEnd) (u : TakeEnd) (ps : List Post)
     → LaneChange ws vs i j p t q u → lane_waits (Some q) (Some u) ≡ ps → world_of vs ≡ with_waiting (world_of ws) i j ps
 unfolding world_of
 changed_world ws vs i j p t q u ps c e =
@@ -61,12 +63,12 @@ changed_world ws vs i j p t q u ps c e =
       | inr xi ↦ let s = c.same x y (λ f _. xi f) in rw (s.0, s.1) (sym (edited_other (world_of ws).waiting i j x y ps (λ f _. xi f)))
     ]) (ap (λ (l : List (ℕ × ℕ)). (get_or l 0 (0, 0)).1) c.numbers)
 
-pub waits_between : {sli : ℕ} (ws : List (Worker sli)) (i j : ℕ) (p : PostEnd) (t : TakeEnd) → post_at ws i j ≡ Some p → take_at ws i j ≡ Some t
+pub waits_between : {sli : ℕ} (ws : List (Worker sli Lanes)) (i j : ℕ) (p : PostEnd) (t : TakeEnd) → post_at ws i j ≡ Some p → take_at ws i j ≡ Some t
     → (world_of ws).waiting i j ≡ drop (length (taken t)) (waited t ++ posts_sent p)
 unfolding world_of
 waits_between ws i j p t a b = rw (a, b) refl
 
-changed_lanes : {sli : ℕ} (ws vs : List (Worker sli)) (i j : ℕ) (p : PostEnd) (t : TakeEnd) (q : PostEnd) (u : TakeEnd)
+changed_lanes : {sli : ℕ} (ws vs : List (Worker sli Lanes)) (i j : ℕ) (p : PostEnd) (t : TakeEnd) (q : PostEnd) (u : TakeEnd)
     → LaneChange ws vs i j p t q u → IsYard ws → (x y : ℕ) → x < length vs → y < length vs → x ≢ y → HasEnds vs x y
 changed_lanes ws vs i j p t q u c yard x y x_in y_in ne =
     let same_capacity : capacity_in vs ≡ capacity_in ws = ap (λ (l : List (ℕ × ℕ)). (get_or l 0 (0, 0)).1) c.numbers in
@@ -85,7 +87,7 @@ changed_lanes ws vs i j p t q u c yard x y x_in y_in ne =
       | inr xi ↦ let s = c.same x y (λ f _. xi f) in (h.0, h.1, s.0 ∙ h.2, s.1 ∙ h.3, h.4, h.5 ∙ sym same_capacity)
     ]
 
-changed_outside : {sli : ℕ} (ws vs : List (Worker sli)) (i j : ℕ) (p : PostEnd) (t : TakeEnd) (q : PostEnd) (u : TakeEnd)
+changed_outside : {sli : ℕ} (ws vs : List (Worker sli Lanes)) (i j : ℕ) (p : PostEnd) (t : TakeEnd) (q : PostEnd) (u : TakeEnd)
     → LaneChange ws vs i j p t q u → IsYard ws → (x y : ℕ) → length vs ≤ y → (post_at vs x y ≡ None) × (take_at vs y x ≡ None)
 changed_outside ws vs i j p t q u c yard x y far =
     let none = yard.outside x y (omega (arith, c.len)) in
@@ -94,7 +96,7 @@ changed_outside ws vs i j p t q u c yard x y far =
     (a.0 ∙ none.0, b.1 ∙ none.1)
 
 -- a yard stays whole
-pub changed_yard : {sli : ℕ} (ws vs : List (Worker sli)) (i j : ℕ) (p : PostEnd) (t : TakeEnd) (q : PostEnd) (u : TakeEnd)
+pub changed_yard : {sli : ℕ} (ws vs : List (Worker sli Lanes)) (i j : ℕ) (p : PostEnd) (t : TakeEnd) (q : PostEnd) (u : TakeEnd)
     → i ≢ j → LaneChange ws vs i j p t q u → AreFrom i (lane_waits (Some q) (Some u)) → IsYard ws → IsYard vs
 changed_yard ws vs i j p t q u ne c new yard = record {
   level = yard.level;
@@ -108,33 +110,33 @@ changed_yard ws vs i j p t q u ne c new yard = record {
   signed = changed_signed ws vs i j p t q u c new yard.signed;
 }
 
-pub heap_lanes : {sli : ℕ} (ws : List (Worker sli)) (i : ℕ) (a v : Worker sli) → slice_get ws i ≡ Some a → SameButHeap a v → (x y : ℕ) → SameLane ws (set ws i v) x y
+pub heap_lanes : {sli : ℕ} (ws : List (Worker sli Lanes)) (i : ℕ) (a v : Worker sli Lanes) → slice_get ws i ≡ Some a → SameButHeap a v → (x y : ℕ) → SameLane ws (set ws i v) x y
 heap_lanes ws i a v is same x y =
     let i_in : i < length ws = slice_get_within ws i a is in
     let at_i : slice_get (set ws i v) i ≡ Some v = get_set_same ws i v i_in in (
       elim (cases_eq x i) [
-        | inl xi ↦ rw (xi, at_i, is) (ap (λ f. f y) same.1)
+        | inl xi ↦ rw (xi, at_i, is) (ap (λ f. f y) (same_parts a v same).1)
         | inr xi ↦ rw (get_set_other ws i x v xi) refl
       ],
       elim (cases_eq y i) [
-        | inl yi ↦ rw (yi, at_i, is) (ap (λ f. f x) same.2)
+        | inl yi ↦ rw (yi, at_i, is) (ap (λ f. f x) (same_parts a v same).2)
         | inr yi ↦ rw (get_set_other ws i y v yi) refl
       ],
     )
 
-heap_ends : {sli : ℕ} (ws : List (Worker sli)) (i : ℕ) (a v : Worker sli) → slice_get ws i ≡ Some a → SameButHeap a v → IsYard ws → (x y : ℕ) → x < length (set ws i v) → y < length (set ws i v) → x ≢ y → HasEnds (set ws i v) x y
+heap_ends : {sli : ℕ} (ws : List (Worker sli Lanes)) (i : ℕ) (a v : Worker sli Lanes) → slice_get ws i ≡ Some a → SameButHeap a v → IsYard ws → (x y : ℕ) → x < length (set ws i v) → y < length (set ws i v) → x ≢ y → HasEnds (set ws i v) x y
 heap_ends ws i a v is same yard x y x_in y_in ne =
     let n = length-set ws i v in
     let xi : x < length ws = omega arith in
     let yi : y < length ws = omega arith in
     let h = yard.lanes x y xi yi ne in
     let s = heap_lanes ws i a v is same x y in
-    (h.0, h.1, s.0 ∙ h.2, s.1 ∙ h.3, h.4, h.5 ∙ sym (ap (λ (l : List (ℕ × ℕ)). (get_or l 0 (0, 0)).1) (map_same id_and_capacity ws i a v is same.0)))
+    (h.0, h.1, s.0 ∙ h.2, s.1 ∙ h.3, h.4, h.5 ∙ sym (ap (λ (l : List (ℕ × ℕ)). (get_or l 0 (0, 0)).1) (map_same id_and_capacity ws i a v is (same_parts a v same).0)))
 
-pub heap_yard : {sli : ℕ} (ws : List (Worker sli)) (i : ℕ) (a v : Worker sli) → slice_get ws i ≡ Some a → SameButHeap a v → KeepsHeap (heap_of a) (heap_of v) → IsYard ws → IsYard (set ws i v)
+pub heap_yard : {sli : ℕ} (ws : List (Worker sli Lanes)) (i : ℕ) (a v : Worker sli Lanes) → slice_get ws i ≡ Some a → SameButHeap a v → KeepsHeap (heap_of a) (heap_of v) → IsYard ws → IsYard (set ws i v)
 heap_yard ws i a v is same kept yard = record {
   few = omega (arith, length-set ws i v, yard.few);
-  ids = λ x x_in. ap (λ (l : List (ℕ × ℕ)). (get_or l x (0, 0)).0) (map_same id_and_capacity ws i a v is same.0) ∙ yard.ids x (omega (arith, length-set ws i v));
+  ids = λ x x_in. ap (λ (l : List (ℕ × ℕ)). (get_or l x (0, 0)).0) (map_same id_and_capacity ws i a v is (same_parts a v same).0) ∙ yard.ids x (omega (arith, length-set ws i v));
   heaps = heaps_set ws i a v is kept yard.heaps;
   alone = λ x. let s = heap_lanes ws i a v is same x x in (s.0 ∙ (yard.alone x).0, s.1 ∙ (yard.alone x).1);
   outside = λ x y far.
@@ -142,12 +144,12 @@ heap_yard ws i a v is same kept yard = record {
       ((heap_lanes ws i a v is same x y).0 ∙ none.0, (heap_lanes ws i a v is same y x).1 ∙ none.1);
   lanes = heap_ends ws i a v is same yard;
   small =
-      let e : capacity_in (set ws i v) ≡ capacity_in ws = ap (λ (l : List (ℕ × ℕ)). (get_or l 0 (0, 0)).1) (map_same id_and_capacity ws i a v is same.0) in
+      let e : capacity_in (set ws i v) ≡ capacity_in ws = ap (λ (l : List (ℕ × ℕ)). (get_or l 0 (0, 0)).1) (map_same id_and_capacity ws i a v is (same_parts a v same).0) in
       omega (arith, yard.small);
   level = yard.level;
   signed = same_signed ws (set ws i v) (heap_lanes ws i a v is same) yard.signed;
 }
 
-pub heap_in_is : {sli : ℕ} (ws : List (Worker sli)) (i : ℕ) (a : Worker sli) → slice_get ws i ≡ Some a → heap_in (world_of ws) i ≡ heap_of a
+pub heap_in_is : {sli : ℕ} (ws : List (Worker sli Lanes)) (i : ℕ) (a : Worker sli Lanes) → slice_get ws i ≡ Some a → heap_in (world_of ws) i ≡ heap_of a
 unfolding world_of
 heap_in_is ws i a is = heap_at ws i a is

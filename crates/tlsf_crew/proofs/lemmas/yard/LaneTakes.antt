@@ -7,7 +7,8 @@ use Rattle.std.proofs.lemmas.Bool.Decides.{nat_tests}
 use Rattle.std.proofs.lemmas.List.Sums.{fold-append}
 use Rattle.tlsf_heap.specs.declared.name.Name.{Name}
 use Rattle.tlsf_post.specs.declared.post.Post.{Post}
-use Rattle.tlsf_crew.specs.declared.yard.worker.Worker.{Worker}
+use Rattle.tlsf_crew.specs.declared.worker.Worker.{Worker}
+use Rattle.tlsf_crew.specs.declared.yard.lanes.Lanes.{Lanes}
 use Rattle.tlsf_calls.specs.declared.entry.Entry.{Entry}
 use Rattle.tlsf_calls.specs.declared.call.Call.TheVariants.{Take}
 use Rattle.tlsf_calls.specs.declared.took.Took.{Took}
@@ -15,7 +16,7 @@ use Rattle.tlsf_calls.specs.declared.drained.Drained.{Drained}
 use Rattle.tlsf_crew.specs.declared.yard.journal.Journal.{Journal}
 use Rattle.tlsf_calls.specs.declared.reply.Reply.TheVariants.{Took as Taken}
 use Rattle.tlsf_crew.specs.yard.Heaps.{released}
-use Rattle.tlsf_crew.specs.yard.Workers.{heap_of, id_of, end_from, HasTake, lane_places, KnowsYard}
+use Rattle.tlsf_crew.specs.yard.Workers.{heap_of, id_of, end_from, HasTake, SameButPorts, TookThrough, lane_places, KnowsYard}
 use Rattle.tlsf_crew.specs.yard.Counts.{sum_below, sum_of}
 use Rattle.tlsf_crew.specs.yard.History.{posts_taken}
 use Rattle.tlsf_crew.specs.yard.Notes.{NotedInTurn, LaneNoted, EachLaneNoted, AllNoted, IsNoted, IsAdmitted}
@@ -31,10 +32,10 @@ use Rattle.tlsf_crew.proofs.lemmas.yard.OneEntry.{moved_still, still_heap}
 
 -- ---- one lane
 
-pub moved_none : {sli : ℕ} (made : List (Option Name)) (a : Worker sli) (limits : List ℕ) → Moved (id_of a) made a limits [] [] a limits
-moved_none made a limits = moved_still (id_of a) made a a limits (still_heap (id_of a) a a (refl, refl, refl) (same_keeps a))
+pub moved_none : {sli : ℕ} (made : List (Option Name)) (a : Worker sli Lanes) (limits : List ℕ) → Moved (id_of a) made a limits [] [] a limits
+moved_none made a limits = moved_still (id_of a) made a a limits (still_heap (id_of a) a a (refl, refl) (same_keeps a))
 
-pub lane_none : {sli : ℕ} (a : Worker sli) (limits : List ℕ) (from : ℕ) (entries : List Entry) → LaneTaken a limits from entries a limits entries 0
+pub lane_none : {sli : ℕ} (a : Worker sli Lanes) (limits : List ℕ) (from : ℕ) (entries : List Entry) → LaneTaken a limits from entries a limits entries 0
 lane_none a limits from entries = record {
   own = [];
   entries_are = sym (append-nil entries);
@@ -47,14 +48,14 @@ lane_none a limits from entries = record {
 }
 
 -- moves of a worker of that number, by the number that it had
-moved_at : {sli : ℕ} (at : ℕ) (made : List (Option Name)) (b v : Worker sli) (mid left : List ℕ) (own : ℕ → List Entry) → id_of b ≡ at → Moved (id_of b) made b mid [] (own (id_of b)) v left → Moved at made b mid [] (own at) v left
+moved_at : {sli : ℕ} (at : ℕ) (made : List (Option Name)) (b v : Worker sli Lanes) (mid left : List ℕ) (own : ℕ → List Entry) → id_of b ≡ at → Moved (id_of b) made b mid [] (own (id_of b)) v left → Moved at made b mid [] (own at) v left
 moved_at at made b v mid left own e m = subst (λ x. Moved x made b mid [] (own x) v left) e m
 
-pub lane_id : {sli : ℕ} (a v : Worker sli) (limits left : List ℕ) (from : ℕ) (entries longer : List Entry) (count : ℕ) → LaneTaken a limits from entries v left longer count → id_of v ≡ id_of a
+pub lane_id : {sli : ℕ} (a v : Worker sli Lanes) (limits left : List ℕ) (from : ℕ) (entries longer : List Entry) (count : ℕ) → LaneTaken a limits from entries v left longer count → id_of v ≡ id_of a
 lane_id a v limits left from entries longer count x = let m = x.moved [] in ap (λ n. n.0) m.numbers
 
 -- one take more
-pub lane_more : {sli : ℕ} (a b v : Worker sli) (limits mid left : List ℕ) (from : ℕ) (entries longer : List Entry) (count : ℕ) (took : Took) → (x : LaneTaken a limits from entries b mid longer count)
+pub lane_more : {sli : ℕ} (a b v : Worker sli Lanes) (limits mid left : List ℕ) (from : ℕ) (entries longer : List Entry) (count : ℕ) (took : Took) → (x : LaneTaken a limits from entries b mid longer count)
     → TookWithin b mid from v left (Some took) → LaneTaken a limits from entries v left (longer ++ one (id_of v) (Take from) (Taken took)) (count + 1)
 lane_more {sli} a b v limits mid left from entries longer count took x t =
     let at = id_of a in
@@ -79,12 +80,12 @@ lane_more {sli} a b v limits mid left from entries longer count took x t =
           (moved_at at made b v mid left (λ i. one i (Take from) (Taken took)) q (t.0 made));
     }
   where
-    lane_step : (at from : ℕ) (longer : List Entry) (b v : Worker sli) (n : ℕ) (p : Post) (took : Took) → took ≡ took_by (heap_of b) p → heap_of v ≡ (released (heap_of b) p.name).heap
+    lane_step : (at from : ℕ) (longer : List Entry) (b v : Worker sli Lanes) (n : ℕ) (p : Post) (took : Took) → took ≡ took_by (heap_of b) p → heap_of v ≡ (released (heap_of b) p.name).heap
         → own_drain (longer ++ one at (Take from) (Taken took)) v (n + 1) ≡ took_own at from (own_drain longer b n) p
     lane_step at from longer b v n p took e h = rw (e, h) refl
 
 -- the lane showed no more, or no more might be taken
-pub lane_end : {sli : ℕ} (a b v : Worker sli) (limits mid left : List ℕ) (from most : ℕ) (entries longer : List Entry) (count : ℕ) → LaneTaken a limits from entries b mid longer count → count ≤ most
+pub lane_end : {sli : ℕ} (a b v : Worker sli Lanes) (limits mid left : List ℕ) (from most : ℕ) (entries longer : List Entry) (count : ℕ) → LaneTaken a limits from entries b mid longer count → count ≤ most
     → TookWithin b mid from v left None → LaneSpent a limits from most entries v left longer count
 lane_end a b v limits mid left from most entries longer count x few t =
     let at = id_of a in
@@ -104,13 +105,13 @@ lane_end a b v limits mid left from most entries longer count x few t =
       spent = λ _. spent_then at [] a b limits mid [] x.own [] from (x.moved []) (subst (λ i. Spent b mid i from []) q t.2);
     }
 
-pub lane_most : {sli : ℕ} (a v : Worker sli) (limits left : List ℕ) (from most : ℕ) (entries longer : List Entry) (count : ℕ) → LaneTaken a limits from entries v left longer count → count ≤ most → most ≤ count
+pub lane_most : {sli : ℕ} (a v : Worker sli Lanes) (limits left : List ℕ) (from most : ℕ) (entries longer : List Entry) (count : ℕ) → LaneTaken a limits from entries v left longer count → count ≤ most → most ≤ count
     → LaneSpent a limits from most entries v left longer count
 lane_most a v limits left from most entries longer count x few all = record { takes = x; few = few; spent = λ lt. absurd (omega arith) }
 
 -- ---- one lane after another
 
-pub nothing_below : {sli : ℕ} (a : Worker sli) (limits : List ℕ) (entries : List Entry) → EachLaneTaken a limits 0 entries a limits entries 0
+pub nothing_below : {sli : ℕ} (a : Worker sli Lanes) (limits : List ℕ) (entries : List Entry) → EachLaneTaken a limits 0 entries a limits entries 0
 nothing_below a limits entries = record {
   own = [];
   entries_are = sym (append-nil entries);
@@ -121,10 +122,10 @@ nothing_below a limits entries = record {
   moved = λ made. moved_none made a limits;
 }
 
-pub id_below : {sli : ℕ} (a v : Worker sli) (limits left : List ℕ) (below : ℕ) (entries longer : List Entry) (count : ℕ) → EachLaneTaken a limits below entries v left longer count → id_of v ≡ id_of a
+pub id_below : {sli : ℕ} (a v : Worker sli Lanes) (limits left : List ℕ) (below : ℕ) (entries longer : List Entry) (count : ℕ) → EachLaneTaken a limits below entries v left longer count → id_of v ≡ id_of a
 id_below a v limits left below entries longer count x = let m = x.moved [] in ap (λ n. n.0) m.numbers
 
-pub lanes_knows : {sli : ℕ} (n : ℕ) (a v : Worker sli) (limits left : List ℕ) (below : ℕ) (entries longer : List Entry) (count : ℕ) → EachLaneTaken a limits below entries v left longer count → KnowsYard n a → KnowsYard n v
+pub lanes_knows : {sli : ℕ} (n : ℕ) (a v : Worker sli Lanes) (limits left : List ℕ) (below : ℕ) (entries longer : List Entry) (count : ℕ) → EachLaneTaken a limits below entries v left longer count → KnowsYard n a → KnowsYard n v
 lanes_knows n a v limits left below entries longer count x k = let m = x.moved [] in m.knows n k
 
 -- what the lanes below a number tell rests on their posts alone
@@ -157,7 +158,7 @@ with_lane_below : (f : ℕ → List Post) (k : ℕ) (posts : List Post) (i : ℕ
 with_lane_below f k posts i lt = let b : (i == k) ≡ false = grind (arith, nat_tests) in rw b refl
 
 -- the turn of another worker
-after_other_lane : {sli : ℕ} (a b v : Worker sli) (limits mid left : List ℕ) (from : ℕ) (entries between longer : List Entry) (n count : ℕ) → from ≢ id_of a → HasTake a from → EachLaneTaken a limits from entries b mid between n
+after_other_lane : {sli : ℕ} (a b v : Worker sli Lanes) (limits mid left : List ℕ) (from : ℕ) (entries between longer : List Entry) (n count : ℕ) → from ≢ id_of a → HasTake a from → EachLaneTaken a limits from entries b mid between n
     → LaneTaken b mid from between v left longer count → EachLaneTaken a limits (from + 1) entries v left longer (n + count)
 after_other_lane a b v limits mid left from entries between longer n count ne has x y =
     let at = id_of a in
@@ -209,14 +210,14 @@ count_below at posts d (suc k) none =
           omega arith
     ]
 
-pub lanes_taken_count : {sli : ℕ} (n : ℕ) (a v : Worker sli) (limits left : List ℕ) (below : ℕ) (entries longer : List Entry) (count : ℕ) → KnowsYard n a → (x : EachLaneTaken a limits below entries v left longer count)
+pub lanes_taken_count : {sli : ℕ} (n : ℕ) (a v : Worker sli Lanes) (limits left : List ℕ) (below : ℕ) (entries longer : List Entry) (count : ℕ) → KnowsYard n a → (x : EachLaneTaken a limits below entries v left longer count)
     → count ≡ sum_below below (λ i. length (x.posts i))
 lanes_taken_count n a v limits left below entries longer count k x =
     let c = count_below (id_of a) x.posts (own_drain entries a 0) below (λ i own. x.only i (λ _ has. let y = (k.from i).0 has in y.1 own)) in
     let t = ap (λ o. o.taken) x.told in
     omega arith
 
-pub other_turn : {sli : ℕ} (m : ℕ) (a b v : Worker sli) (limits mid left : List ℕ) (from most : ℕ) (entries between longer : List Entry) (n count : ℕ) → KnowsYard m a → HasTake a from → EachLaneSpent a limits from most entries b mid between n
+pub other_turn : {sli : ℕ} (m : ℕ) (a b v : Worker sli Lanes) (limits mid left : List ℕ) (from most : ℕ) (entries between longer : List Entry) (n count : ℕ) → KnowsYard m a → HasTake a from → EachLaneSpent a limits from most entries b mid between n
     → LaneSpent b mid from (most - n) between v left longer count → EachLaneSpent a limits (from + 1) most entries v left longer (n + count)
 unfolding after_other_lane
 other_turn m a b v limits mid left from most entries between longer n count known has x y =
@@ -254,7 +255,7 @@ other_turn m a b v limits mid left from most entries between longer n count know
     }
 
 -- no turn: there is no lane
-pub no_turn : {sli : ℕ} (a v : Worker sli) (limits left : List ℕ) (from most : ℕ) (entries longer : List Entry) (count : ℕ) → ¬ (HasTake a from)
+pub no_turn : {sli : ℕ} (a v : Worker sli Lanes) (limits left : List ℕ) (from most : ℕ) (entries longer : List Entry) (count : ℕ) → ¬ (HasTake a from)
     → EachLaneSpent a limits from most entries v left longer count → EachLaneSpent a limits (from + 1) most entries v left longer count
 no_turn a v limits left from most entries longer count none x =
     let t = x.takes in
@@ -291,8 +292,8 @@ no_turn a v limits left from most entries longer count none x =
 
 -- ---- a drain, by its notes
 
-takes_in_lane : {sli : ℕ} (a b v : Worker sli) (limits : List ℕ) (x y : Journal) (from : ℕ) (entries : List Entry) (count : ℕ) (tooks : List Took) → LaneTaken a limits from entries b x.limits x.entries.items count
-    → NotedInTurn IsNoted b v x y from tooks → LaneTaken a limits from entries v y.limits y.entries.items (count + length tooks)
+takes_in_lane : {sli : ℕ} (a b v : Worker sli Lanes) (limits : List ℕ) (x y : Journal) (from : ℕ) (entries : List Entry) (count : ℕ) (tooks : List Took) → LaneTaken a limits from entries b x.limits x.entries.items count
+    → NotedInTurn TookThrough IsNoted b v x y from tooks → LaneTaken a limits from entries v y.limits y.entries.items (count + length tooks)
 takes_in_lane a b v limits x y from entries count [] acc t =
     let e : count ≡ count + 0 = omega arith in
     rw (t.0, t.1, sym e) acc
@@ -305,12 +306,16 @@ takes_in_lane a b v limits x y from entries count (took ∷ tooks) acc t =
     let e : count + 1 + length tooks ≡ count + length (took ∷ tooks) = omega arith in
     subst (LaneTaken a limits from entries v y.limits y.entries.items) e (takes_in_lane a b' v limits z y from entries (count + 1) tooks one_more t.4)
 
-spent_in_lane : {sli : ℕ} (a v : Worker sli) (x y : Journal) (from most : ℕ) (tooks : List Took) → from < 8 → LaneNoted IsNoted IsAdmitted a v x y from most tooks
+-- a worker with the same number, heap and lanes
+same_worker : {sli : ℕ} (a v : Worker sli Lanes) → SameButPorts a v → v.ports ≡ a.ports → v ≡ a
+same_worker a v same ports = λ t. record { heap = same.1 t; id = same.0 t; ports = ports t }
+
+spent_in_lane : {sli : ℕ} (a v : Worker sli Lanes) (x y : Journal) (from most : ℕ) (tooks : List Took) → from < 8 → LaneNoted IsNoted IsAdmitted a v x y from most tooks
     → LaneSpent a x.limits from most x.entries.items v y.limits y.entries.items (length tooks)
 spent_in_lane a v x y from most tooks near l =
     let start = lane_none a x.limits from x.entries.items in
     let e : 0 + length tooks ≡ length tooks = omega arith in
-    let t = subst (LaneTaken a x.limits from x.entries.items l.last y.limits y.entries.items) e (takes_in_lane a a l.last x.limits x y from x.entries.items 0 tooks start l.takes) in
+    let t = subst (LaneTaken a x.limits from x.entries.items l.last y.limits y.entries.items) e (takes_in_lane a a l.last x.limits x y from x.entries.items 0 tooks start l.turns) in
     elim l.end [
       | inl done ↦ rw (done.1) (lane_most a l.last x.limits y.limits from most x.entries.items y.entries.items (length tooks) t (omega (arith, done.0)) (omega (arith, done.0)))
       | inr early ↦
@@ -318,21 +323,21 @@ spent_in_lane a v x y from most tooks near l =
           elim early.1 [
             | inl stopped ↦
                 let none : slice_index y.limits from ≡ 0 = elim (cases_lt 0 (slice_index y.limits from)) [ inl some ↦ absurd (stopped.0 (near, some)) | inr le ↦ omega arith ] in
-                rw (stopped.1) (lane_end a l.last l.last x.limits y.limits y.limits from most x.entries.items y.entries.items (length tooks) t (omega arith) (within_none l.last y.limits from none))
+                rw (same_worker l.last v stopped.1 stopped.2) (lane_end a l.last l.last x.limits y.limits y.limits from most x.entries.items y.entries.items (length tooks) t (omega arith) (within_none l.last y.limits from none))
             | inr empty ↦ lane_end a l.last v x.limits y.limits y.limits from most x.entries.items y.entries.items (length tooks) t (omega arith) (within_empty l.last v y.limits from empty)
           ]
     ]
 
-noted_capacity : {sli : ℕ} (a v : Worker sli) (x y : Journal) (from : ℕ) (tooks : List Took) → NotedInTurn IsNoted a v x y from tooks → vec_capacity y.entries ≡ vec_capacity x.entries
+noted_capacity : {sli : ℕ} (a v : Worker sli Lanes) (x y : Journal) (from : ℕ) (tooks : List Took) → NotedInTurn TookThrough IsNoted a v x y from tooks → vec_capacity y.entries ≡ vec_capacity x.entries
 noted_capacity a v x y from [] t = ap (λ j. vec_capacity j.entries) t.1
 noted_capacity a v x y from (took ∷ tooks) t = noted_capacity t.0 v t.1 y from tooks t.4 ∙ t.3.capacity
 
 -- the journal of a drain tells it
-pub record Drains {sli : ℕ} (n : ℕ) (a v : Worker sli) (x y : Journal) (below most count : ℕ) : Type 0 where
+pub record Drains {sli : ℕ} (n : ℕ) (a v : Worker sli Lanes) (x y : Journal) (below most count : ℕ) : Type 0 where
   pub spent : EachLaneSpent a x.limits below most x.entries.items v y.limits y.entries.items count
   pub capacity : vec_capacity y.entries ≡ vec_capacity x.entries
 
-each_lane_drains : {sli : ℕ} (n : ℕ) (a v : Worker sli) (x y : Journal) (most k : ℕ) (tooks : List Took) → KnowsYard n a → EachLaneNoted IsNoted IsAdmitted a v x y most k tooks → Drains n a v x y k most (length tooks)
+each_lane_drains : {sli : ℕ} (n : ℕ) (a v : Worker sli Lanes) (x y : Journal) (most k : ℕ) (tooks : List Took) → KnowsYard n a → EachLaneNoted IsNoted IsAdmitted a v x y most k tooks → Drains n a v x y k most (length tooks)
 each_lane_drains {sli} n a v x y most zero tooks known l =
     let e : length tooks ≡ 0 = ap length l.0 in
     rw (l.1, l.2, e) (record {
@@ -371,8 +376,8 @@ each_lane_drains {sli} n a v x y most (suc k) tooks known l =
           })
     ]
   where
-    lane_capacity : (b v : Worker sli) (z y : Journal) (k m : ℕ) (ts : List Took) → LaneNoted IsNoted IsAdmitted b v z y k m ts → vec_capacity y.entries ≡ vec_capacity z.entries
-    lane_capacity b v z y k m ts l = noted_capacity b l.last z y k ts l.takes
+    lane_capacity : (b v : Worker sli Lanes) (z y : Journal) (k m : ℕ) (ts : List Took) → LaneNoted IsNoted IsAdmitted b v z y k m ts → vec_capacity y.entries ≡ vec_capacity z.entries
+    lane_capacity b v z y k m ts l = noted_capacity b l.last z y k ts l.turns
 
 -- the lanes above the last one tell nothing
 lanes_past : (at : ℕ) (posts : ℕ → List Post) (d : OwnDrain) (m e : ℕ) → ((k : ℕ) → m ≤ k → posts k ≡ []) → each_lane_own at posts d (m + e) ≡ each_lane_own at posts d m
@@ -385,11 +390,11 @@ lanes_past at posts d m (suc e) none =
     ] in
     ap (each_lane_own at posts d) q ∙ (step ∙ lanes_past at posts d m e none)
 
-has_place : {sli : ℕ} (a : Worker sli) (k : ℕ) → HasTake a k → k < lane_places a
-has_place a k h = slice_get_within a.takes.items k (Some h.0) (from_slot (slice_get a.takes.items k) h.0 h.1)
+has_place : {sli : ℕ} (a : Worker sli Lanes) (k : ℕ) → HasTake a k → k < lane_places a
+has_place a k h = slice_get_within a.ports.takes.items k (Some h.0) (from_slot (slice_get a.ports.takes.items k) h.0 h.1)
 
 -- a drain of all places is one of the lanes from all workers
-pub all_spent : {sli : ℕ} (n : ℕ) (a v : Worker sli) (x y : Journal) (most : ℕ) (answer : Drained) → KnowsYard n a → AllNoted IsNoted IsAdmitted a v x y most answer → Drains n a v x y n most answer.taken
+pub all_spent : {sli : ℕ} (n : ℕ) (a v : Worker sli Lanes) (x y : Journal) (most : ℕ) (answer : Drained) → KnowsYard n a → AllNoted IsNoted IsAdmitted a v x y most answer → Drains n a v x y n most answer.taken
 all_spent n a v x y most answer known d =
     let places = lane_places a in
     let c = d.count.0 in

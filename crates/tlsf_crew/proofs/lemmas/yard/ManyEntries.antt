@@ -7,7 +7,8 @@ use Rattle.tlsf_post.specs.declared.post_end.PostEnd.{PostEnd}
 use Rattle.tlsf_post.specs.declared.take_end.TakeEnd.{TakeEnd}
 use Rattle.tlsf_post.specs.Lanes.{posts_sent, taken, ready}
 use Rattle.tlsf_heap.specs.declared.name.Name.{Name}
-use Rattle.tlsf_crew.specs.declared.yard.worker.Worker.{Worker}
+use Rattle.tlsf_crew.specs.declared.worker.Worker.{Worker}
+use Rattle.tlsf_crew.specs.declared.yard.lanes.Lanes.{Lanes}
 use Rattle.tlsf_calls.specs.declared.entry.Entry.{Entry}
 use Rattle.tlsf_calls.specs.declared.call.Call.{Call}
 use Rattle.tlsf_crew.specs.yard.Counts.{sum_below, is_release, sum_of}
@@ -77,7 +78,7 @@ sum_both (suc n) f g h e = omega (arith, sum_both n f g h e, e n)
 
 -- ---- moves
 
-sends_then : {sli : ℕ} (at : ℕ) (made : List (Option Name)) (b v : Worker sli) (j : ℕ) (xs ys : List Entry) (p : PostEnd) (s : Sends at made b j xs p) → Sends at made v j ys s.end → Sends at made v j (xs ++ ys) p
+sends_then : {sli : ℕ} (at : ℕ) (made : List (Option Name)) (b v : Worker sli Lanes) (j : ℕ) (xs ys : List Entry) (p : PostEnd) (s : Sends at made b j xs p) → Sends at made v j ys s.end → Sends at made v j (xs ++ ys) p
 sends_then at made b v j xs ys p s t = record {
   end = t.end;
   end_is = t.end_is;
@@ -86,7 +87,7 @@ sends_then at made b v j xs ys p s t = record {
   free = omega (arith, s.free, t.free, count_made at j made xs ys);
 }
 
-takes_joined : {sli : ℕ} (at : ℕ) (b v : Worker sli) (i : ℕ) (xs ys : List Entry) (t : TakeEnd) (s : Takes at b i xs t) → Takes at v i ys s.end → Takes at v i (xs ++ ys) t
+takes_joined : {sli : ℕ} (at : ℕ) (b v : Worker sli Lanes) (i : ℕ) (xs ys : List Entry) (t : TakeEnd) (s : Takes at b i xs t) → Takes at v i ys s.end → Takes at v i (xs ++ ys) t
 takes_joined at b v i xs ys t s u =
     let x = posts_taken i at xs in
     let y = posts_taken i at ys in
@@ -101,7 +102,7 @@ takes_joined at b v i xs ys t s u =
     }
 
 -- what was spent later was spent in all
-pub spent_then : {sli : ℕ} (at : ℕ) (made : List (Option Name)) (a b : Worker sli) (limits left : List ℕ) (calls : List Call) (xs ys : List Entry) (i : ℕ)
+pub spent_then : {sli : ℕ} (at : ℕ) (made : List (Option Name)) (a b : Worker sli Lanes) (limits left : List ℕ) (calls : List Call) (xs ys : List Entry) (i : ℕ)
     → Moved at made a limits calls xs b left → Spent b left at i ys → Spent a limits at i (xs ++ ys)
 spent_then at made a b limits left calls xs ys i m spent t is =
     let s = m.taken i t is in
@@ -115,11 +116,11 @@ spent_then at made a b limits left calls xs ys i m spent t is =
     (subst (λ l. IsPrefix l (x ++ y)) (sym (take_past n k x (ready s.end) (m.left_is i))) second) in
     subst (IsPrefix (take n (ready t))) (sym (taken_then i at xs ys)) both
 
-pub spent_more : {sli : ℕ} (at : ℕ) (a : Worker sli) (limits : List ℕ) (xs ys : List Entry) (i : ℕ) → Spent a limits at i xs → Spent a limits at i (xs ++ ys)
+pub spent_more : {sli : ℕ} (at : ℕ) (a : Worker sli Lanes) (limits : List ℕ) (xs ys : List Entry) (i : ℕ) → Spent a limits at i xs → Spent a limits at i (xs ++ ys)
 spent_more at a limits xs ys i spent t is =
     subst (IsPrefix (take (slice_index limits i) (ready t))) (sym (taken_then i at xs ys)) (prefix_more _ (posts_taken i at xs) (posts_taken i at ys) (spent t is))
 
-pub moved_then : {sli : ℕ} (at : ℕ) (made : List (Option Name)) (a b v : Worker sli) (limits mid left : List ℕ) (cs ds : List Call) (xs ys : List Entry)
+pub moved_then : {sli : ℕ} (at : ℕ) (made : List (Option Name)) (a b v : Worker sli Lanes) (limits mid left : List ℕ) (cs ds : List Call) (xs ys : List Entry)
     → Moved at made a limits cs xs b mid → Moved at made b mid ds ys v left → Moved at made a limits (cs ++ ds) (xs ++ ys) v left
 moved_then at made a b v limits mid left cs ds xs ys x y = record {
   yard = keeps_then a b v x.yard y.yard;
@@ -158,7 +159,7 @@ moved_then at made a b v limits mid left cs ds xs ys x y = record {
 }
 
 -- entries and what may still be taken are no more than calls and what might be taken
-pub moved_room : {sli : ℕ} (at : ℕ) (made : List (Option Name)) (a v : Worker sli) (limits left : List ℕ) (calls : List Call) (entries : List Entry)
+pub moved_room : {sli : ℕ} (at : ℕ) (made : List (Option Name)) (a v : Worker sli Lanes) (limits left : List ℕ) (calls : List Call) (entries : List Entry)
     → Moved at made a limits calls entries v left → length entries + sum_of left ≤ length calls + sum_of limits
 moved_room at made a v limits left calls entries m =
     let s = sum_both 8 (slice_index limits) (slice_index left) (λ i. length (posts_taken i at entries)) (λ i. sym (m.left_is i)) in

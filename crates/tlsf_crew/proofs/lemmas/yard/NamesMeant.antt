@@ -1,15 +1,17 @@
--- A call is refused as Unmade exactly where its target means no name.
-use Rattle.std.proofs.Common.{[], ◌∷◌, ◌≡◌, ◌≢◌, ◌==◌, true, false, ℕ, List, Option, Some, None, Result, Ok, Err, length, arith, refl, inl, inr}
+-- A call is refused as Unmade exactly where its target means no name, and a release of a block of another's heap is answered as a post.
+use Rattle.std.proofs.Common.{[], ◌∷◌, ◌≡◌, ◌≢◌, ◌==◌, ◌<◌, true, false, ℕ, List, Option, Some, None, Result, Ok, Err, length, arith, refl, inl, inr, subst}
 use Rattle.std.specs.Prelude.{◌↔◌}
 use Rattle.std.proofs.lemmas.Bool.{cases_eq, cases_lt}
 use Rattle.std.proofs.lemmas.Bool.Decides.{nat_tests}
 use Rattle.tlsf_heap.specs.declared.name.Name.{Name}
 use Rattle.tlsf_heap.specs.declared.refusal.Refusal.{Refusal}
 use Rattle.tlsf_post.specs.declared.post.Post.{Post}
+use Rattle.tlsf_calls.specs.declared.call.Call.TheVariants.{Take}
 use Rattle.tlsf_calls.specs.declared.chunk.Chunk.{Chunk}
 use Rattle.tlsf_calls.specs.declared.reply.Reply.{Reply}
 use Rattle.tlsf_calls.specs.declared.reply.Reply.TheVariants.{Refused}
 use Rattle.tlsf_calls.specs.declared.crew_refusal.CrewRefusal.TheVariants.{Unmade}
+use Rattle.tlsf_crew.specs.yard.History.{AnswersPost, TookFromOther}
 use Rattle.tlsf_crew.specs.yard.Heaps.{allocated, chunk_read, released, resized, written}
 use Rattle.tlsf_crew.specs.yard.World.{World, allocating, heap_in, posting, reading_named, releasing, releasing_named, reply_freed, reply_got, reply_made, reply_resized, reply_wrote, resizing_named, taking, taking_next, took_first, writing_named}
 use Rattle.tlsf_crew.proofs.lemmas.yard.OneEvent.{releasing_post, releasing_far, taking_lane, taking_own, taking_far}
@@ -94,3 +96,39 @@ read_unmade w at from n (Some name) = some_named name _ (got_known (chunk_read (
 pub resize_unmade : {sli : ℕ} (w : World sli) (at len : ℕ) (o : Option Name) → ((resizing_named w at o len).reply ≡ Refused Unmade) ↔ (o ≡ None)
 resize_unmade w at len None = ((λ e. refl), (λ e. refl))
 resize_unmade w at len (Some name) = some_named name _ (resize_known (resized (heap_in w at) name len).answer)
+
+-- ---- a release of a block of another's heap
+
+post_answered : {sli : ℕ} (w : World sli) (at : ℕ) (name : Name) → AnswersPost name (posting w at name).reply
+unfolding posting
+post_answered w at name =
+    elim (cases_eq (length (w.waiting at name.heap)) w.capacity) [
+      | inl e ↦ let b : (length (w.waiting at name.heap) == w.capacity) ≡ true = grind (arith, nat_tests) in rw b (inr (inl refl))
+      | inr e ↦ let b : (length (w.waiting at name.heap) == w.capacity) ≡ false = grind (arith, nat_tests) in rw b (inl refl)
+    ]
+
+away_answered : {sli : ℕ} (w : World sli) (at : ℕ) (name : Name) → name.heap ≢ at → AnswersPost name (releasing w at name).reply
+away_answered w at name ne =
+    elim (cases_lt name.heap (length w.heaps)) [
+      | inl lt ↦ rw (releasing_post w at name ne lt) (post_answered w at name)
+      | inr ge ↦ rw (releasing_far w at name ne ge) (inr (inr refl))
+    ]
+
+pub release_answered : {sli : ℕ} (w : World sli) (at : ℕ) (o : Option Name) (name : Name) → o ≡ Some name → name.heap ≢ at → AnswersPost name (releasing_named w at o).reply
+release_answered w at o name is ne = rw is (away_answered w at name ne)
+
+-- ---- a take
+
+first_from : {sli : ℕ} (w : World sli) (at from : ℕ) → from < length w.heaps → from ≢ at → TookFromOther (length w.heaps) (record { worker = at; call = Take from; reply = (taking w at from).reply })
+first_from w at from lt ne f t is took = let same : from ≡ f = cc in subst (λ (k : ℕ). (k < length w.heaps) × (k ≢ at)) same (lt, ne)
+
+-- the post that a take gives is of another worker
+pub take_from_other : {sli : ℕ} (w : World sli) (at from : ℕ) → TookFromOther (length w.heaps) (record { worker = at; call = Take from; reply = (taking w at from).reply })
+take_from_other w at from =
+    elim (cases_eq from at) [
+      | inl e ↦ rw (taking_own w at from e) (λ f t is took. absurd (cc))
+      | inr ne ↦ elim (cases_lt from (length w.heaps)) [
+        | inl lt ↦ first_from w at from lt ne
+        | inr ge ↦ rw (taking_far w at from ge) (λ f t is took. absurd (cc))
+      ]
+    ]

@@ -11,7 +11,8 @@ use Rattle.tlsf_post.specs.declared.post.Post.{Post}
 use Rattle.tlsf_post.specs.declared.post_end.PostEnd.{PostEnd}
 use Rattle.tlsf_post.specs.declared.take_end.TakeEnd.{TakeEnd}
 use Rattle.tlsf_post.specs.Lanes.{posts_sent, free_slots, capacity_of, waited, taken, ready, IsLane}
-use Rattle.tlsf_crew.specs.declared.yard.worker.Worker.{Worker}
+use Rattle.tlsf_crew.specs.declared.worker.Worker.{Worker}
+use Rattle.tlsf_crew.specs.declared.yard.lanes.Lanes.{Lanes}
 use Rattle.tlsf_crew.specs.yard.Yard.{post_at, take_at, capacity_in, lane_waits, IsYard, yard_heap, no_heap}
 use Rattle.tlsf_crew.specs.yard.World.{world_of}
 use Rattle.tlsf_crew.specs.yard.Opening.{AreSizes, opened_heaps, opened_world}
@@ -25,13 +26,13 @@ use Rattle.tlsf_heap.specs.Blocks.{HeapState}
 use Rattle.tlsf_heap.specs.Calls.{opened}
 
 -- each worker still has its slots
-slots_set : {sli : ℕ} (ws : List (Worker sli)) (n i : ℕ) (v : Worker sli) → i < length ws → ((x : ℕ) (a : Worker sli) → slice_get ws x ≡ Some a → (length a.posts.items ≡ n) × (length a.takes.items ≡ n))
-    → (length v.posts.items ≡ n) × (length v.takes.items ≡ n) → (x : ℕ) (a : Worker sli) → slice_get (set ws i v) x ≡ Some a → (length a.posts.items ≡ n) × (length a.takes.items ≡ n)
+slots_set : {sli : ℕ} (ws : List (Worker sli Lanes)) (n i : ℕ) (v : Worker sli Lanes) → i < length ws → ((x : ℕ) (a : Worker sli Lanes) → slice_get ws x ≡ Some a → (length a.ports.posts.items ≡ n) × (length a.ports.takes.items ≡ n))
+    → (length v.ports.posts.items ≡ n) × (length v.ports.takes.items ≡ n) → (x : ℕ) (a : Worker sli Lanes) → slice_get (set ws i v) x ≡ Some a → (length a.ports.posts.items ≡ n) × (length a.ports.takes.items ≡ n)
 slots_set {sli} ws n i v i_in slots own x a is =
     elim (cases_eq x i) [
       | inl xi ↦
           let e : v ≡ a = some_same v a (sym (get_set_same ws i v i_in) ∙ (sym (ap (slice_get (set ws i v)) xi) ∙ is)) in
-          subst (λ (z : Worker sli). (length z.posts.items ≡ n) × (length z.takes.items ≡ n)) e own
+          subst (λ (z : Worker sli Lanes). (length z.ports.posts.items ≡ n) × (length z.ports.takes.items ≡ n)) e own
       | inr xi ↦ slots x a (sym (get_set_other ws i x v xi) ∙ is)
     ]
 
@@ -56,10 +57,10 @@ end_laid P old new i j e here others own before x y q is =
     ]
 
 -- one lane more
-pub lane_laid : {sli : ℕ} (ws : List (Worker sli)) (n words capacity i j : ℕ) (a v b w : Worker sli) (p : PostEnd) (t : TakeEnd)
+pub lane_laid : {sli : ℕ} (ws : List (Worker sli Lanes)) (n words capacity i j : ℕ) (a v b w : Worker sli Lanes) (p : PostEnd) (t : TakeEnd)
     → IsLaid ws n words capacity i j → i < n → j < n → i ≢ j
-    → slice_get ws i ≡ Some a → v.posts.items ≡ set a.posts.items j (Some p) → (v.heap ≡ a.heap) × (id_and_capacity v ≡ id_and_capacity a) × (v.takes ≡ a.takes)
-    → slice_get (set ws i v) j ≡ Some b → w.takes.items ≡ set b.takes.items i (Some t) → (w.heap ≡ b.heap) × (id_and_capacity w ≡ id_and_capacity b) × (w.posts ≡ b.posts)
+    → slice_get ws i ≡ Some a → v.ports.posts.items ≡ set a.ports.posts.items j (Some p) → (v.heap ≡ a.heap) × (id_and_capacity v ≡ id_and_capacity a) × (v.ports.takes ≡ a.ports.takes)
+    → slice_get (set ws i v) j ≡ Some b → w.ports.takes.items ≡ set b.ports.takes.items i (Some t) → (w.heap ≡ b.heap) × (id_and_capacity w ≡ id_and_capacity b) × (w.ports.posts ≡ b.ports.posts)
     → IsLane p t → capacity_of p ≡ capacity → free_slots p ≡ capacity → posts_sent p ≡ [] → (waited t ≡ []) × (taken t ≡ []) × (ready t ≡ [])
     → IsLaid (set (set ws i v) j w) n words capacity i (j + 1)
 lane_laid ws n words capacity i j a v b w p t l i_in j_in ne a_is posts a_same b_is takes b_same lane same_capacity all_free unsent untaken =
@@ -69,15 +70,15 @@ lane_laid ws n words capacity i j a v b w p t l i_in j_in ne a_is posts a_same b
     let len_v = length-set us j w in
     let l_len = l.len in
     let a_slots = l.slots i a a_is in
-    let lt_j : j < length a.posts.items = omega (arith, a_slots.0) in
+    let lt_j : j < length a.ports.posts.items = omega (arith, a_slots.0) in
     let first = posts_set ws i j a v p a_is (slot_new _ _ j p lt_j posts) (slot_other _ _ j p posts) (ap (λ k y. slot_of (slice_get k.items y)) a_same.2) in
-    let v_slots : (length v.posts.items ≡ n) × (length v.takes.items ≡ n) = (ap length posts ∙ (length-set a.posts.items j (Some p) ∙ a_slots.0), ap (λ k. length k.items) a_same.2 ∙ a_slots.1) in
+    let v_slots : (length v.ports.posts.items ≡ n) × (length v.ports.takes.items ≡ n) = (ap length posts ∙ (length-set a.ports.posts.items j (Some p) ∙ a_slots.0), ap (λ k. length k.items) a_same.2 ∙ a_slots.1) in
     let i_len : i < length ws = omega arith in
     let slots_u = slots_set ws n i v i_len l.slots v_slots in
     let b_slots = slots_u j b b_is in
-    let lt_i : i < length b.takes.items = omega (arith, b_slots.1) in
+    let lt_i : i < length b.ports.takes.items = omega (arith, b_slots.1) in
     let second = takes_set us i j b w t b_is (slot_new _ _ i t lt_i takes) (slot_other _ _ i t takes) (ap (λ k y. slot_of (slice_get k.items y)) b_same.2) in
-    let w_slots : (length w.posts.items ≡ n) × (length w.takes.items ≡ n) = (ap (λ k. length k.items) b_same.2 ∙ b_slots.0, ap length takes ∙ (length-set b.takes.items i (Some t) ∙ b_slots.1)) in
+    let w_slots : (length w.ports.posts.items ≡ n) × (length w.ports.takes.items ≡ n) = (ap (λ k. length k.items) b_same.2 ∙ b_slots.0, ap length takes ∙ (length-set b.ports.takes.items i (Some t) ∙ b_slots.1)) in
     let j_len : j < length us = omega arith in
     let post_here : post_at vs i j ≡ Some p = second.posts i j ∙ first.here in
     let post_other : (x y : ℕ) → (x ≡ i → y ≡ j → ⊥) → post_at vs x y ≡ post_at ws x y = λ x y away. second.posts x y ∙ first.others x y away in
@@ -115,16 +116,16 @@ lane_laid ws n words capacity i j a v b w p t l i_in j_in ne a_is posts a_same b
     }
 
 -- the same lanes, counted otherwise
-laid_along : {sli : ℕ} (ws : List (Worker sli)) (n words capacity i j k m : ℕ) → IsLaid ws n words capacity i j
+laid_along : {sli : ℕ} (ws : List (Worker sli Lanes)) (n words capacity i j k m : ℕ) → IsLaid ws n words capacity i j
     → ((x y : ℕ) → x < n → y < n → x ≢ y → IsBefore k m x y → IsBefore i j x y) → IsLaid ws n words capacity k m
 laid_along ws n words capacity i j k m l f =
     record { len = l.len; heaps = l.heaps; numbers = l.numbers; slots = l.slots; empty = l.empty; free = l.free; fresh = l.fresh; alone = l.alone; laid = λ x y a b ne before. l.laid x y a b ne (f x y a b ne before) }
 
-pub lane_skipped : {sli : ℕ} (ws : List (Worker sli)) (n words capacity i j : ℕ) → i ≡ j → IsLaid ws n words capacity i j → IsLaid ws n words capacity i (j + 1)
+pub lane_skipped : {sli : ℕ} (ws : List (Worker sli Lanes)) (n words capacity i j : ℕ) → i ≡ j → IsLaid ws n words capacity i j → IsLaid ws n words capacity i (j + 1)
 lane_skipped ws n words capacity i j e l =
     laid_along ws n words capacity i j i (j + 1) l (λ x y _ _ ne before. before_more i j x y before (λ xi yj. ne (xi ∙ (e ∙ sym yj))))
 
-pub row_laid : {sli : ℕ} (ws : List (Worker sli)) (n words capacity i : ℕ) → IsLaid ws n words capacity i n → IsLaid ws n words capacity (i + 1) 0
+pub row_laid : {sli : ℕ} (ws : List (Worker sli Lanes)) (n words capacity i : ℕ) → IsLaid ws n words capacity i n → IsLaid ws n words capacity (i + 1) 0
 row_laid ws n words capacity i l =
     laid_along ws n words capacity i n (i + 1) 0 l (λ x y _ y_in _ before. elim before [
       | inl lt ↦ elim (cases_eq x i) [ inl e ↦ inr (e, y_in) | inr ne ↦ inl (omega arith) ]
@@ -132,21 +133,21 @@ row_laid ws n words capacity i l =
     ])
 
 -- no end leads out of the yard
-abbrev pub HaveSlots : {sli : ℕ} → List (Worker sli) → ℕ → Type 0
-HaveSlots {sli} ws n = (x : ℕ) (a : Worker sli) → slice_get ws x ≡ Some a → (length a.posts.items ≡ n) × (length a.takes.items ≡ n)
+abbrev pub HaveSlots : {sli : ℕ} → List (Worker sli Lanes) → ℕ → Type 0
+HaveSlots {sli} ws n = (x : ℕ) (a : Worker sli Lanes) → slice_get ws x ≡ Some a → (length a.ports.posts.items ≡ n) × (length a.ports.takes.items ≡ n)
 
-no_end_to : {sli : ℕ} (ws : List (Worker sli)) (n i j : ℕ) → HaveSlots ws n → n ≤ j → post_at ws i j ≡ None
+no_end_to : {sli : ℕ} (ws : List (Worker sli Lanes)) (n i j : ℕ) → HaveSlots ws n → n ≤ j → post_at ws i j ≡ None
 no_end_to [] n i j slots le = refl
-no_end_to (w ∷ ws) n zero j slots le = let past : length w.posts.items ≤ j = omega (arith, (slots 0 w refl).0) in rw (slice_get_past w.posts.items j past) refl
+no_end_to (w ∷ ws) n zero j slots le = let past : length w.ports.posts.items ≤ j = omega (arith, (slots 0 w refl).0) in rw (slice_get_past w.ports.posts.items j past) refl
 no_end_to (w ∷ ws) n (suc i) j slots le = no_end_to ws n i j (λ x a is. slots (suc x) a is) le
 
-no_end_from : {sli : ℕ} (ws : List (Worker sli)) (n i j : ℕ) → HaveSlots ws n → n ≤ j → take_at ws j i ≡ None
+no_end_from : {sli : ℕ} (ws : List (Worker sli Lanes)) (n i j : ℕ) → HaveSlots ws n → n ≤ j → take_at ws j i ≡ None
 no_end_from [] n i j slots le = refl
-no_end_from (w ∷ ws) n zero j slots le = let past : length w.takes.items ≤ j = omega (arith, (slots 0 w refl).1) in rw (slice_get_past w.takes.items j past) refl
+no_end_from (w ∷ ws) n zero j slots le = let past : length w.ports.takes.items ≤ j = omega (arith, (slots 0 w refl).1) in rw (slice_get_past w.ports.takes.items j past) refl
 no_end_from (w ∷ ws) n (suc i) j slots le = no_end_from ws n i j (λ x a is. slots (suc x) a is) le
 
 -- when all lanes are laid
-pub laid_yard : {sli : ℕ} (ws : List (Worker sli)) (n words capacity : ℕ) → IsLevel sli → AreSizes sli n words capacity → IsLaid ws n words capacity n 0 → IsYard ws
+pub laid_yard : {sli : ℕ} (ws : List (Worker sli Lanes)) (n words capacity : ℕ) → IsLevel sli → AreSizes sli n words capacity → IsLaid ws n words capacity n 0 → IsYard ws
 laid_yard {sli} ws n words capacity level sizes l =
     let l_len = l.len in
     let n_in : 0 < n = let s = sizes.0.0 in omega arith in
@@ -174,7 +175,7 @@ laid_yard {sli} ws n words capacity level sizes l =
       signed = λ x y. rw (l.empty x y) (All-nil (λ (post : Post). post.from ≡ x));
     }
 
-pub laid_world : {sli : ℕ} (ws : List (Worker sli)) (n words capacity : ℕ) → AreSizes sli n words capacity → IsLaid ws n words capacity n 0 → world_of ws ≡ opened_world n words capacity
+pub laid_world : {sli : ℕ} (ws : List (Worker sli Lanes)) (n words capacity : ℕ) → AreSizes sli n words capacity → IsLaid ws n words capacity n 0 → world_of ws ≡ opened_world n words capacity
 unfolding world_of
 laid_world ws n words capacity sizes l =
     let n_in : 0 < n = let s = sizes.0.0 in omega arith in
@@ -182,15 +183,15 @@ laid_world ws n words capacity sizes l =
     (ap (λ (k : List (ℕ × ℕ)). (get_or k 0 (0, 0)).1) l.numbers ∙ ap (λ (k : ℕ × ℕ). k.1) (get_or-map-range_with_len (λ (j : ℕ). (j, capacity)) 0 n 0 0 (0, 0) n_in refl))
 
 -- one worker more
-pub map_push : {sli : ℕ} {X : Type 0} (f : Worker sli → X) (g : ℕ → X) (ws : List (Worker sli)) (w : Worker sli) (k : ℕ) → map f ws ≡ map g (range_with_len 0 k) → f w ≡ g k
+pub map_push : {sli : ℕ} {X : Type 0} (f : Worker sli Lanes → X) (g : ℕ → X) (ws : List (Worker sli Lanes)) (w : Worker sli Lanes) (k : ℕ) → map f ws ≡ map g (range_with_len 0 k) → f w ≡ g k
     → map f (ws ++ w ∷ []) ≡ map g (range_with_len 0 (k + 1))
 map_push f g ws w k e q = map-append f ws (w ∷ []) ∙ (ap (λ l. l ++ f w ∷ []) e ∙ (ap (λ z. map g (range_with_len 0 k) ++ z ∷ []) q ∙ sym (map-range_with_len_more g 0 k k (omega arith))))
 
 -- workers with no lanes
-abbrev pub AreAlone : {sli : ℕ} → List (Worker sli) → ℕ → Type 0
-AreAlone {sli} ws n = (x : ℕ) (a : Worker sli) → slice_get ws x ≡ Some a → (a.posts.items ≡ replicate n None) × (a.takes.items ≡ replicate n None)
+abbrev pub AreAlone : {sli : ℕ} → List (Worker sli Lanes) → ℕ → Type 0
+AreAlone {sli} ws n = (x : ℕ) (a : Worker sli Lanes) → slice_get ws x ≡ Some a → (a.ports.posts.items ≡ replicate n None) × (a.ports.takes.items ≡ replicate n None)
 
-pub alone_push : {sli : ℕ} (ws : List (Worker sli)) (w : Worker sli) (n : ℕ) → AreAlone ws n → w.posts.items ≡ replicate n None → w.takes.items ≡ replicate n None → AreAlone (ws ++ w ∷ []) n
+pub alone_push : {sli : ℕ} (ws : List (Worker sli Lanes)) (w : Worker sli Lanes) (n : ℕ) → AreAlone ws n → w.ports.posts.items ≡ replicate n None → w.ports.takes.items ≡ replicate n None → AreAlone (ws ++ w ∷ []) n
 alone_push [] w n alone p t zero a is = let e : w ≡ a = some_same w a is in rw (← e) (p, t)
 alone_push [] w n alone p t (suc x) a is = cc
 alone_push (z ∷ ws) w n alone p t zero a is = alone zero a is
@@ -201,17 +202,17 @@ no_slot zero y = refl
 no_slot (suc n) zero = refl
 no_slot (suc n) (suc y) = no_slot n y
 
-none_at : {sli : ℕ} (ws : List (Worker sli)) (n x y : ℕ) → AreAlone ws n → post_at ws x y ≡ None
+none_at : {sli : ℕ} (ws : List (Worker sli Lanes)) (n x y : ℕ) → AreAlone ws n → post_at ws x y ≡ None
 none_at [] n x y alone = refl
 none_at (w ∷ ws) n zero y alone = rw ((alone 0 w refl).0) (no_slot n y)
 none_at (w ∷ ws) n (suc x) y alone = none_at ws n x y (λ z b q. alone (suc z) b q)
 
-none_from : {sli : ℕ} (ws : List (Worker sli)) (n x y : ℕ) → AreAlone ws n → take_at ws y x ≡ None
+none_from : {sli : ℕ} (ws : List (Worker sli Lanes)) (n x y : ℕ) → AreAlone ws n → take_at ws y x ≡ None
 none_from [] n x y alone = refl
 none_from (w ∷ ws) n zero y alone = rw ((alone 0 w refl).1) (no_slot n y)
 none_from (w ∷ ws) n (suc x) y alone = none_from ws n x y (λ z b q. alone (suc z) b q)
 
-pub alone_laid : {sli : ℕ} (ws : List (Worker sli)) (n words capacity : ℕ) → length ws ≡ n → map heap_of ws ≡ opened_heaps n words → map id_and_capacity ws ≡ opened_numbers n capacity → AreAlone ws n
+pub alone_laid : {sli : ℕ} (ws : List (Worker sli Lanes)) (n words capacity : ℕ) → length ws ≡ n → map heap_of ws ≡ opened_heaps n words → map id_and_capacity ws ≡ opened_numbers n capacity → AreAlone ws n
     → IsLaid ws n words capacity 0 0
 alone_laid ws n words capacity len heaps numbers alone =
     record {

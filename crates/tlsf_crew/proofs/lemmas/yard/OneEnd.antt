@@ -5,18 +5,19 @@ use Rattle.std.proofs.lemmas.Option.{slice_get_within}
 use Rattle.std.proofs.lemmas.Bool.{cases_eq}
 use Rattle.tlsf_post.specs.declared.post_end.PostEnd.{PostEnd}
 use Rattle.tlsf_post.specs.declared.take_end.TakeEnd.{TakeEnd}
-use Rattle.tlsf_crew.specs.declared.yard.worker.Worker.{Worker}
+use Rattle.tlsf_crew.specs.declared.worker.Worker.{Worker}
+use Rattle.tlsf_crew.specs.declared.yard.lanes.Lanes.{Lanes}
 use Rattle.tlsf_crew.specs.yard.Workers.{end_to, end_from}
 use Rattle.tlsf_crew.specs.yard.Yard.{post_at, take_at}
 use Rattle.tlsf_crew.proofs.lemmas.yard.Slots.{get_set_same, get_set_other}
 
 -- worker i got an end that posts to j
-pub record PostSet {sli : ℕ} (ws us : List (Worker sli)) (i j : ℕ) (p : PostEnd) : Type 0 where
+pub record PostSet {sli : ℕ} (ws us : List (Worker sli Lanes)) (i j : ℕ) (p : PostEnd) : Type 0 where
   pub here : post_at us i j ≡ Some p
   pub others : (x y : ℕ) → (x ≡ i → y ≡ j → ⊥) → post_at us x y ≡ post_at ws x y
   pub takes : (x y : ℕ) → take_at us x y ≡ take_at ws x y
 
-pub posts_set : {sli : ℕ} (ws : List (Worker sli)) (i j : ℕ) (a v : Worker sli) (p : PostEnd) → slice_get ws i ≡ Some a
+pub posts_set : {sli : ℕ} (ws : List (Worker sli Lanes)) (i j : ℕ) (a v : Worker sli Lanes) (p : PostEnd) → slice_get ws i ≡ Some a
     → end_to v j ≡ Some p → ((k : ℕ) → k ≢ j → end_to v k ≡ end_to a k) → end_from v ≡ end_from a → PostSet ws (set ws i v) i j p
 posts_set ws i j a v p is new others same =
     let at_i : slice_get (set ws i v) i ≡ Some v = get_set_same ws i v (slice_get_within ws i a is) in
@@ -35,12 +36,12 @@ posts_set ws i j a v p is new others same =
     }
 
 -- worker j got an end that takes from i
-pub record TakeSet {sli : ℕ} (ws us : List (Worker sli)) (i j : ℕ) (t : TakeEnd) : Type 0 where
+pub record TakeSet {sli : ℕ} (ws us : List (Worker sli Lanes)) (i j : ℕ) (t : TakeEnd) : Type 0 where
   pub here : take_at us i j ≡ Some t
   pub others : (x y : ℕ) → (x ≡ i → y ≡ j → ⊥) → take_at us x y ≡ take_at ws x y
   pub posts : (x y : ℕ) → post_at us x y ≡ post_at ws x y
 
-pub takes_set : {sli : ℕ} (ws : List (Worker sli)) (i j : ℕ) (b w : Worker sli) (t : TakeEnd) → slice_get ws j ≡ Some b
+pub takes_set : {sli : ℕ} (ws : List (Worker sli Lanes)) (i j : ℕ) (b w : Worker sli Lanes) (t : TakeEnd) → slice_get ws j ≡ Some b
     → end_from w i ≡ Some t → ((k : ℕ) → k ≢ i → end_from w k ≡ end_from b k) → end_to w ≡ end_to b → TakeSet ws (set ws j w) i j t
 takes_set ws i j b w t is new others same =
     let at_j : slice_get (set ws j w) j ≡ Some w = get_set_same ws j w (slice_get_within ws j b is) in

@@ -6,7 +6,8 @@ use Rattle.tlsf_post.specs.declared.post_end.PostEnd.{PostEnd}
 use Rattle.tlsf_post.specs.declared.take_end.TakeEnd.{TakeEnd}
 use Rattle.tlsf_post.specs.Lanes.{posts_sent, free_slots, taken, ready}
 use Rattle.tlsf_heap.specs.declared.name.Name.{Name}
-use Rattle.tlsf_crew.specs.declared.yard.worker.Worker.{Worker}
+use Rattle.tlsf_crew.specs.declared.worker.Worker.{Worker}
+use Rattle.tlsf_crew.specs.declared.yard.lanes.Lanes.{Lanes}
 use Rattle.tlsf_calls.specs.declared.entry.Entry.{Entry}
 use Rattle.tlsf_calls.specs.declared.call.Call.{Call}
 use Rattle.tlsf_calls.specs.declared.call.Call.TheVariants.{Take, Drain}
@@ -17,18 +18,19 @@ use Rattle.tlsf_crew.specs.yard.Calls.{KeepsYards}
 use Rattle.tlsf_crew.specs.yard.Counts.{sum_below}
 use Rattle.tlsf_crew.specs.yard.History.{posts_made, posts_taken, post_of_release, post_of_take, StandsBehind}
 use Rattle.tlsf_crew.specs.yard.Moves.{Sends, Takes, Spent, Moved}
+use Rattle.tlsf_crew.proofs.lemmas.yard.SameParts.{same_parts}
 use Rattle.tlsf_crew.proofs.lemmas.yard.ManyEntries.{made_then, taken_then, stands_split}
 use Rattle.tlsf_crew.proofs.lemmas.yard.JoinedEntries.{IsNoPost, told_nothing}
 
 -- ---- the ends that a worker knows
 
 -- the same ends are there
-pub record EachLaneSame {sli : ℕ} (a v : Worker sli) : Type 0 where
+pub record EachLaneSame {sli : ℕ} (a v : Worker sli Lanes) : Type 0 where
   pub numbers : id_and_capacity v ≡ id_and_capacity a
   pub to : (j : ℕ) → HasPost v j ↔ HasPost a j
   pub from : (i : ℕ) → HasTake v i ↔ HasTake a i
 
-pub knows_same : {sli : ℕ} (n : ℕ) (a v : Worker sli) → EachLaneSame a v → KnowsYard n a → KnowsYard n v
+pub knows_same : {sli : ℕ} (n : ℕ) (a v : Worker sli Lanes) → EachLaneSame a v → KnowsYard n a → KnowsYard n v
 knows_same n a v s k =
     let id : id_of v ≡ id_of a = ap (λ x. x.0) s.numbers in
     record {
@@ -38,11 +40,11 @@ knows_same n a v s k =
       from = λ i. ((λ h. let x = (k.from i).0 ((s.from i).0 h) in (x.0, λ q. x.1 (q ∙ id))), (λ h. (s.from i).1 ((k.from i).1 (h.0, λ q. h.1 (q ∙ sym id)))));
     }
 
-pub heap_lanes : {sli : ℕ} (a v : Worker sli) → SameButHeap a v → EachLaneSame a v
+pub heap_lanes : {sli : ℕ} (a v : Worker sli Lanes) → SameButHeap a v → EachLaneSame a v
 heap_lanes a v same = record {
-  numbers = same.0;
-  to = λ j. ((λ h. (h.0, ap (λ f. f j) (sym same.1) ∙ h.1)), (λ h. (h.0, ap (λ f. f j) same.1 ∙ h.1)));
-  from = λ i. ((λ h. (h.0, ap (λ f. f i) (sym same.2) ∙ h.1)), (λ h. (h.0, ap (λ f. f i) same.2 ∙ h.1)));
+  numbers = (same_parts a v same).0;
+  to = λ j. ((λ h. (h.0, ap (λ f. f j) (sym (same_parts a v same).1) ∙ h.1)), (λ h. (h.0, ap (λ f. f j) (same_parts a v same).1 ∙ h.1)));
+  from = λ i. ((λ h. (h.0, ap (λ f. f i) (sym (same_parts a v same).2) ∙ h.1)), (λ h. (h.0, ap (λ f. f i) (same_parts a v same).2 ∙ h.1)));
 }
 
 -- ---- no entry
@@ -52,13 +54,13 @@ no_entry [] e s = let h = s.1 in cc
 no_entry (b ∷ before) e s = let h = s.1 in cc
 
 -- an end to j that sent nothing, and one from i that took nothing
-pub record Still {sli : ℕ} (at : ℕ) (a v : Worker sli) : Type 0 where
+pub record Still {sli : ℕ} (at : ℕ) (a v : Worker sli Lanes) : Type 0 where
   pub lanes : EachLaneSame a v
   pub yard : KeepsYards a v
   pub to : (made : List (Option Name)) (j : ℕ) (p : PostEnd) → end_to a j ≡ Some p → Sends at made v j [] p
   pub from : (i : ℕ) (t : TakeEnd) → end_from a i ≡ Some t → Takes at v i [] t
 
-pub moved_still : {sli : ℕ} (at : ℕ) (made : List (Option Name)) (a v : Worker sli) (limits : List ℕ) → Still at a v → Moved at made a limits [] [] v limits
+pub moved_still : {sli : ℕ} (at : ℕ) (made : List (Option Name)) (a v : Worker sli Lanes) (limits : List ℕ) → Still at a v → Moved at made a limits [] [] v limits
 moved_still at made a v limits s = record {
   yard = s.yard;
   numbers = s.lanes.numbers;
@@ -74,17 +76,17 @@ moved_still at made a v limits s = record {
 }
 
 -- another heap
-pub still_heap : {sli : ℕ} (at : ℕ) (a v : Worker sli) → SameButHeap a v → KeepsYards a v → Still at a v
+pub still_heap : {sli : ℕ} (at : ℕ) (a v : Worker sli Lanes) → SameButHeap a v → KeepsYards a v → Still at a v
 still_heap at a v same yard = record {
   lanes = heap_lanes a v same;
   yard = yard;
-  to = λ made j p is. record { end = p; end_is = ap (λ f. f j) same.1 ∙ is; sent = sym (append-nil (posts_sent p)); free = omega arith };
-  from = λ i t is. record { end = t; end_is = ap (λ f. f i) same.2 ∙ is; waited = refl; taken = sym (append-nil (taken t)); ready = ([], append-nil (ready t)) };
+  to = λ made j p is. record { end = p; end_is = ap (λ f. f j) (same_parts a v same).1 ∙ is; sent = sym (append-nil (posts_sent p)); free = omega arith };
+  from = λ i t is. record { end = t; end_is = ap (λ f. f i) (same_parts a v same).2 ∙ is; waited = refl; taken = sym (append-nil (taken t)); ready = ([], append-nil (ready t)) };
 }
 
 -- ---- one entry more, which tells of no lane
 
-pub record IsIdle {sli : ℕ} (at : ℕ) (made : List (Option Name)) (a : Worker sli) (limits : List ℕ) (entries : List Entry) (e : Entry) : Type 0 where
+pub record IsIdle {sli : ℕ} (at : ℕ) (made : List (Option Name)) (a : Worker sli Lanes) (limits : List ℕ) (entries : List Entry) (e : Entry) : Type 0 where
   pub posts : IsNoPost made e
   pub full : (name : Name) (p : PostEnd) → e.reply ≡ Refused (Full name) → end_to a name.heap ≡ Some p → free_slots p ≤ length (posts_made at name.heap made entries)
   pub empty : (i : ℕ) → e.call ≡ Take i → e.reply ≡ Empty → Spent a limits at i entries
@@ -114,7 +116,7 @@ sum_same : (n : ℕ) (f g : ℕ → ℕ) → ((i : ℕ) → f i ≡ g i) → sum
 sum_same zero f g e = refl
 sum_same (suc n) f g e = omega (arith, sum_same n f g e, e n)
 
-pub moved_idle : {sli : ℕ} (at : ℕ) (made : List (Option Name)) (a v : Worker sli) (limits left : List ℕ) (xs : List Entry) (e : Entry) (call : Call)
+pub moved_idle : {sli : ℕ} (at : ℕ) (made : List (Option Name)) (a v : Worker sli Lanes) (limits left : List ℕ) (xs : List Entry) (e : Entry) (call : Call)
     → Moved at made a limits [] xs v left → IsIdle at made a limits xs e → Moved at made a limits (call ∷ []) (xs ++ e ∷ []) v left
 moved_idle at made a v limits left xs e call m idle =
     let n = idle.posts in

@@ -6,14 +6,15 @@ use Rattle.std.proofs.lemmas.List.{length-map}
 use Rattle.tlsf_heap.specs.declared.name.Name.{Name}
 use Rattle.tlsf_heap.specs.Blocks.{HeapState}
 use Rattle.std.proofs.lemmas.List.{set-get_or}
-use Rattle.tlsf_crew.specs.declared.yard.worker.Worker.{Worker}
+use Rattle.tlsf_crew.specs.declared.worker.Worker.{Worker}
+use Rattle.tlsf_crew.specs.declared.yard.lanes.Lanes.{Lanes}
 use Rattle.tlsf_calls.specs.declared.reply.Reply.TheVariants.{Refused}
 use Rattle.tlsf_calls.specs.declared.crew_refusal.CrewRefusal.TheVariants.{Stranger}
 use Rattle.tlsf_crew.specs.yard.World.{World, world_of, with_heap, posting, taking_next, taking, releasing, heap_in, Draining, drained_lane, drained_from}
 use Rattle.tlsf_crew.specs.yard.Workers.{heap_of}
 use Rattle.tlsf_crew.specs.yard.Yard.{no_heap}
 
-pub heaps_count : {sli : ℕ} (ws : List (Worker sli)) → length (world_of ws).heaps ≡ length ws
+pub heaps_count : {sli : ℕ} (ws : List (Worker sli Lanes)) → length (world_of ws).heaps ≡ length ws
 unfolding world_of
 heaps_count ws = length-map ws heap_of
 

@@ -2,12 +2,14 @@
 use Rattle.std.proofs.Common.{◌==◌, true, false, [], ◌++◌, ◌≡◌, ◌≢◌, ℕ, ◌<◌, List, Option, Some, None, Result, Ok, Err, length, sym, ◌∙◌, ap, arith, refl, inl, inr, ◌⊎◌, subst}
 use Rattle.std.proofs.lemmas.Bool.{cases_eq, cases_lt}
 use Rattle.std.proofs.lemmas.Bool.Decides.{nat_tests}
+use Rattle.tlsf_heap.specs.Blocks.{HeapState}
 use Rattle.tlsf_heap.specs.Calls as heap
 use Rattle.tlsf_heap.specs.declared.name.Name.{Name}
 use Rattle.tlsf_heap.specs.declared.refusal.Refusal.{Refusal}
 use Rattle.tlsf_post.specs.declared.post.Post.{Post}
 use Rattle.tlsf_post.specs.declared.post_end.PostEnd.{PostEnd}
-use Rattle.tlsf_crew.specs.declared.yard.worker.Worker.{Worker}
+use Rattle.tlsf_crew.specs.declared.worker.Worker.{Worker}
+use Rattle.tlsf_crew.specs.declared.yard.lanes.Lanes.{Lanes}
 use Rattle.tlsf_calls.specs.declared.chunk.Chunk.{Chunk}
 use Rattle.tlsf_calls.specs.declared.target.Target.{Target}
 use Rattle.tlsf_calls.specs.declared.call.Call.{Call}
@@ -21,23 +23,24 @@ use Rattle.tlsf_calls.specs.declared.crew_refusal.CrewRefusal.TheVariants.{Heap,
 use Rattle.tlsf_calls.specs.Bytes.{bytes_of}
 use Rattle.tlsf_crew.specs.yard.Heaps.{released, written, resized, chunk_read}
 use Rattle.tlsf_crew.specs.yard.Workers.{heap_of, id_of, end_to, SameButHeap, HasPost, PutTo, KnowsYard}
-use Rattle.tlsf_crew.specs.yard.Calls.{KeepsYards, by_heap, freed_by, posted_by, ReleasedHere, ReleasedThere}
-use Rattle.tlsf_crew.specs.yard.OwnReplies.{own_reading, own_resizing, own_writing}
-use Rattle.tlsf_crew.specs.yard.World.{World, Replied, heap_in, name_of, freeing, posting, releasing, releasing_named, writing, writing_named, reading, reading_named, resizing, resizing_named, reply_freed, reply_wrote, reply_got, reply_resized}
+use Rattle.tlsf_crew.specs.yard.Calls.{KeepsYards, by_heap, freed_by, ReleasedHere, ReleasedThere, PutsIntoLane, name_back, posted_as, put_answer}
+use Rattle.tlsf_crew.specs.yard.OwnReplies.{own_freeing, own_reading, own_resizing, own_writing}
+use Rattle.tlsf_crew.specs.yard.World.{World, Replied, heap_in, name_of, freeing, posting, releasing, releasing_named, writing_named, reading_named, resizing_named, reply_freed, reply_wrote, reply_got, reply_resized}
 use Rattle.tlsf_crew.specs.yard.Told.{HasHeap}
 use Rattle.tlsf_crew.specs.yard.Moves.{ModelReplies, CallStep}
+use Rattle.tlsf_crew.proofs.lemmas.yard.SameParts.{ports_heap}
 use Rattle.tlsf_crew.proofs.lemmas.yard.AllEntries.{more_knows}
 use Rattle.tlsf_crew.proofs.lemmas.yard.OwnReplied.{read_keeps, resize_keeps, write_keeps}
 use Rattle.tlsf_crew.proofs.lemmas.yard.YardKept.{heap_keeps, same_keeps}
 use Rattle.tlsf_crew.proofs.lemmas.yard.LaneMoves.{moved_post, none_free, still_full}
 use Rattle.tlsf_crew.proofs.lemmas.yard.OneEvent.{releasing_post, releasing_far}
 use Rattle.tlsf_crew.proofs.lemmas.yard.OneEntry.{IsIdle, moved_still, moved_idle}
-use Rattle.tlsf_crew.proofs.lemmas.yard.Witnesses.{heap_left, answered_quiet}
+use Rattle.tlsf_crew.proofs.lemmas.yard.Witnesses.{answered_quiet, own_answered, own_here}
 
 -- ---- what refuses
 
 -- the worker itself refuses, and nothing changes
-itself_told : {sli : ℕ} (n : ℕ) (a : Worker sli) (reply : Reply) (by : World sli → Replied sli) (w : World sli) → HasHeap w n (id_of a) (heap_of a)
+itself_told : {sli : ℕ} (n : ℕ) (a : Worker sli Lanes) (reply : Reply) (by : World sli → Replied sli) (w : World sli) → HasHeap w n (id_of a) (heap_of a)
     → (length w.heaps ≡ n → by w ≡ record { reply = reply; world = w }) → ModelReplies (id_of a) a reply (by w)
 itself_told n a reply by w has is =
     let e = is has.0 in
@@ -46,13 +49,13 @@ itself_told n a reply by w has is =
       left = sym has.1 ∙ ap (λ r. heap_in r.world (id_of a)) (sym e);
     }
 
-pub itself_answered : {sli : ℕ} (made : List (Option Name)) (a : Worker sli) (limits : List ℕ) (call : Call) (reply : Reply) (by : World sli → Replied sli)
+pub itself_answered : {sli : ℕ} (made : List (Option Name)) (a : Worker sli Lanes) (limits : List ℕ) (call : Call) (reply : Reply) (by : World sli → Replied sli)
     → ((later : List (Option Name)) → IsIdle (id_of a) later a limits [] (record { worker = id_of a; call = call; reply = reply }))
     → ((n : ℕ) → KnowsYard n a → (w : World sli) → length w.heaps ≡ n → by w ≡ record { reply = reply; world = w }) → CallStep made a limits call a limits reply by
 itself_answered made a limits call reply by idle is =
-    answered_quiet made a a limits call reply by (refl, refl, refl) (same_keeps a) idle (λ n k w has s. itself_told n a reply by w has (is n k w))
+    answered_quiet made a a limits call reply by (refl, refl) (same_keeps a) idle (λ n k w has s. itself_told n a reply by w has (is n k w))
 
-refused_release : {sli : ℕ} (at : ℕ) (later : List (Option Name)) (a : Worker sli) (limits : List ℕ) (target : Target) (why : CrewRefusal) → ((name : Name) → why ≢ Full name)
+refused_release : {sli : ℕ} (at : ℕ) (later : List (Option Name)) (a : Worker sli Lanes) (limits : List ℕ) (target : Target) (why : CrewRefusal) → ((name : Name) → why ≢ Full name)
     → IsIdle at later a limits [] (record { worker = at; call = Release target; reply = Refused why })
 refused_release at later a limits target why other = record {
   posts = record { made_none = λ j. refl; taken_none = λ i. refl };
@@ -61,7 +64,7 @@ refused_release at later a limits target why other = record {
   drained = λ most k i e. cc;
 }
 
-pub release_unmade : {sli : ℕ} (made : List (Option Name)) (a : Worker sli) (limits : List ℕ) (target : Target) → None ≡ name_of made target
+pub release_unmade : {sli : ℕ} (made : List (Option Name)) (a : Worker sli Lanes) (limits : List ℕ) (target : Target) → None ≡ name_of made target
     → CallStep made a limits (Release target) a limits (Refused Unmade) (λ w. releasing_named w (id_of a) (name_of made target))
 release_unmade made a limits target none =
     subst (λ o. CallStep made a limits (Release target) a limits (Refused Unmade) (λ w. releasing_named w (id_of a) o)) none
@@ -71,7 +74,7 @@ release_unmade made a limits target none =
 -- ---- release
 
 -- The reply stands here as a constructor: where it has to be computed from a result, `cc` takes seconds.
-freed_quiet : {sli : ℕ} (at : ℕ) (later : List (Option Name)) (a : Worker sli) (limits : List ℕ) (target : Target)
+freed_quiet : {sli : ℕ} (at : ℕ) (later : List (Option Name)) (a : Worker sli Lanes) (limits : List ℕ) (target : Target)
     → IsIdle at later a limits [] (record { worker = at; call = Release target; reply = Freed })
 freed_quiet at later a limits target = record {
   posts = record { made_none = λ j. refl; taken_none = λ i. refl };
@@ -80,7 +83,7 @@ freed_quiet at later a limits target = record {
   drained = λ most k i e. cc;
 }
 
-freed_idle : {sli : ℕ} (at : ℕ) (later : List (Option Name)) (a : Worker sli) (limits : List ℕ) (target : Target) (r : Result (Unit {0}) Refusal)
+freed_idle : {sli : ℕ} (at : ℕ) (later : List (Option Name)) (a : Worker sli Lanes) (limits : List ℕ) (target : Target) (r : Result (Unit {0}) Refusal)
     → IsIdle at later a limits [] (record { worker = at; call = Release target; reply = reply_freed r })
 freed_idle at later a limits target (Ok done) = freed_quiet at later a limits target
 freed_idle at later a limits target (Err why) = refused_release at later a limits target (Heap why) (λ name e. cc)
@@ -88,17 +91,10 @@ freed_idle at later a limits target (Err why) = refused_release at later a limit
 pub own_name : {sli : ℕ} (w : World sli) (at : ℕ) (name : Name) → name.heap ≡ at → releasing w at name ≡ freeing w at name
 own_name w at name e = let b : (name.heap == at) ≡ true = grind (arith, nat_tests) in rw b refl
 
-freed_here : {sli : ℕ} (n : ℕ) (a v : Worker sli) (name : Name) → heap_of v ≡ (heap.released (heap_of a) name).heap → name.heap ≡ id_of a → KnowsYard n a → (w : World sli) → HasHeap w n (id_of a) (heap_of a)
-    → ModelReplies (id_of a) v (reply_freed (heap.released (heap_of a) name).answer) (releasing w (id_of a) name)
-unfolding released
+freed_here : {sli : ℕ} (n : ℕ) (a v : Worker sli Lanes) (name : Name) → heap_of v ≡ (own_freeing (heap_of a) name).heap → name.heap ≡ id_of a → KnowsYard n a → (w : World sli) → HasHeap w n (id_of a) (heap_of a)
+    → ModelReplies (id_of a) v (own_freeing (heap_of a) name).reply (releasing w (id_of a) name)
 freed_here n a v name h own k w has =
-    let at = id_of a in
-    let e = own_name w at name own in
-    record {
-      reply = ap (λ g. reply_freed (heap.released g name).answer) (sym has.1) ∙ ap (λ r. r.reply) (sym e);
-      left = h ∙ (ap (λ g. (heap.released g name).heap) (sym has.1) ∙ (sym (heap_left n at w (heap_of a) (heap.released (heap_in w at) name).heap k.self has)
-          ∙ ap (λ r. heap_in r.world at) (sym e)));
-    }
+    subst (ModelReplies (id_of a) v (own_freeing (heap_of a) name).reply) (sym (own_name w (id_of a) name own)) (own_here n a v (λ g. own_freeing g name) h k w has)
 
 pub posted_world : {sli : ℕ} (w : World sli) (at : ℕ) (name : Name) → length (w.waiting at name.heap) ≢ w.capacity → ((posting w at name).reply ≡ Posted) × (heap_in (posting w at name).world at ≡ heap_in w at)
 unfolding posting
@@ -108,7 +104,7 @@ pub full_world : {sli : ℕ} (w : World sli) (at : ℕ) (name : Name) → length
 unfolding posting
 full_world w at name e = let b : (length (w.waiting at name.heap) == w.capacity) ≡ true = grind (arith, nat_tests) in rw b refl
 
-posted_there : {sli : ℕ} (n : ℕ) (a v : Worker sli) (name : Name) → heap_of v ≡ heap_of a → name.heap ≢ id_of a → name.heap < n → (w : World sli) → HasHeap w n (id_of a) (heap_of a)
+posted_there : {sli : ℕ} (n : ℕ) (a v : Worker sli Lanes) (name : Name) → heap_of v ≡ heap_of a → name.heap ≢ id_of a → name.heap < n → (w : World sli) → HasHeap w n (id_of a) (heap_of a)
     → length (w.waiting (id_of a) name.heap) ≢ w.capacity → ModelReplies (id_of a) v Posted (releasing w (id_of a) name)
 posted_there n a v name h ne lt w has room =
     let at = id_of a in
@@ -119,7 +115,7 @@ posted_there n a v name h ne lt w has room =
       left = h ∙ (sym has.1 ∙ (sym p.1 ∙ ap (λ r. heap_in r.world at) (sym e)));
     }
 
-full_there : {sli : ℕ} (n : ℕ) (a v : Worker sli) (name : Name) → heap_of v ≡ heap_of a → name.heap ≢ id_of a → name.heap < n → (w : World sli) → HasHeap w n (id_of a) (heap_of a)
+full_there : {sli : ℕ} (n : ℕ) (a v : Worker sli Lanes) (name : Name) → heap_of v ≡ heap_of a → name.heap ≢ id_of a → name.heap < n → (w : World sli) → HasHeap w n (id_of a) (heap_of a)
     → length (w.waiting (id_of a) name.heap) ≡ w.capacity → ModelReplies (id_of a) v (Refused (Full name)) (releasing w (id_of a) name)
 full_there n a v name h ne lt w has full =
     let at = id_of a in
@@ -138,8 +134,9 @@ pub freed_reply : (r : Result (Unit {0}) Refusal) → reply_released (freed_by r
 freed_reply (Ok done) = refl
 freed_reply (Err why) = refl
 
-here_answered : {sli : ℕ} (made : List (Option Name)) (a v : Worker sli) (limits : List ℕ) (target : Target) (name : Name) (answer : Result Released CrewRefusal) → KeepsYards a v
+here_answered : {sli : ℕ} (made : List (Option Name)) (a v : Worker sli Lanes) (limits : List ℕ) (target : Target) (name : Name) (answer : Result Released CrewRefusal) → KeepsYards a v
     → name.heap ≡ id_of a → ReleasedHere a v name answer → CallStep made a limits (Release target) v limits (reply_released answer) (λ w. releasing w (id_of a) name)
+unfolding released
 here_answered made a v limits target name answer yard own here =
     let o = (heap.released (heap_of a) name).answer in
     let e : reply_released answer ≡ reply_freed o = ap reply_released here.answer_is ∙ freed_reply o in
@@ -147,7 +144,7 @@ here_answered made a v limits target name answer yard own here =
     (answered_quiet made a v limits (Release target) (reply_freed o) (λ w. releasing w (id_of a) name) here.same yard (λ later. freed_idle (id_of a) later a limits target o)
     (λ n k w has s. freed_here n a v name here.heap own k w has))
 
-full_idle : {sli : ℕ} (at : ℕ) (later : List (Option Name)) (a v : Worker sli) (limits : List ℕ) (target : Target) (name : Name) (post back : Post) → PutTo a v name.heap post (Err back)
+full_idle : {sli : ℕ} (at : ℕ) (later : List (Option Name)) (a v : Worker sli Lanes) (limits : List ℕ) (target : Target) (name : Name) (post back : Post) → PutTo a v name.heap post (Err back)
     → IsIdle at later a limits [] (record { worker = at; call = Release target; reply = Refused (Full name) })
 full_idle at later a v limits target name post back put = record {
   posts = record { made_none = λ j. refl; taken_none = λ i. refl };
@@ -156,15 +153,15 @@ full_idle at later a v limits target name post back put = record {
   drained = λ most k i e. cc;
 }
 
-put_answered : {sli : ℕ} (made : List (Option Name)) (a v : Worker sli) (limits : List ℕ) (target : Target) (name : Name) (put : Result (Unit {0}) Post) → name_of made target ≡ Some name
+put_answered : {sli : ℕ} (made : List (Option Name)) (a v : Worker sli Lanes) (limits : List ℕ) (target : Target) (name : Name) (put : Result (Unit {0}) Post) → name_of made target ≡ Some name
     → name.heap ≢ id_of a → PutTo a v name.heap (record { from = id_of a; name = name }) put
-    → CallStep made a limits (Release target) v limits (reply_released (posted_by name put)) (λ w. releasing w (id_of a) name)
+    → CallStep made a limits (Release target) v limits (reply_released (posted_as (put_answer name (name_back put)))) (λ w. releasing w (id_of a) name)
 put_answered made a v limits target name (Ok done) known ne put = record {
-  told = λ n k w has s. let x = (k.to name.heap).0 (put.end, put.end_is) in posted_there n a v name put.same.0 ne x.0 w has (s.room target name refl known ne (omega (arith, x.0, has.0)) refl);
+  told = λ n k w has s. let x = (k.to name.heap).0 (put.1.end, put.1.end_is) in posted_there n a v name (ports_heap a v put.0) ne x.0 w has (s.room target name refl known ne (omega (arith, x.0, has.0)) refl);
   moved = λ rest. moved_post (id_of a) (made ++ rest) a v limits target name done (more_knows made rest target name known) refl put;
 }
 put_answered made a v limits target name (Err back) known ne put = record {
-  told = λ n k w has s. let x = (k.to name.heap).0 (put.end, put.end_is) in full_there n a v name put.same.0 ne x.0 w has (s.full target name refl known ne (omega (arith, x.0, has.0)) refl);
+  told = λ n k w has s. let x = (k.to name.heap).0 (put.1.end, put.1.end_is) in full_there n a v name (ports_heap a v put.0) ne x.0 w has (s.full target name refl known ne (omega (arith, x.0, has.0)) refl);
   moved = λ rest.
       let post : Post = record { from = id_of a; name = name } in
       moved_idle (id_of a) (made ++ rest) a v limits limits [] _ (Release target)
@@ -172,13 +169,16 @@ put_answered made a v limits target name (Err back) known ne put = record {
       (full_idle (id_of a) (made ++ rest) a v limits target name post back put);
 }
 
-there_answered : {sli : ℕ} (made : List (Option Name)) (a v : Worker sli) (limits : List ℕ) (target : Target) (name : Name) (answer : Result Released CrewRefusal) → name_of made target ≡ Some name
-    → name.heap ≢ id_of a → ReleasedThere a v name answer → CallStep made a limits (Release target) v limits (reply_released answer) (λ w. releasing w (id_of a) name)
+there_answered : {sli : ℕ} (made : List (Option Name)) (a v : Worker sli Lanes) (limits : List ℕ) (target : Target) (name : Name) (answer : Result Released CrewRefusal) → name_of made target ≡ Some name
+    → name.heap ≢ id_of a → ReleasedThere PutsIntoLane a v name answer → CallStep made a limits (Release target) v limits (reply_released answer) (λ w. releasing w (id_of a) name)
 there_answered made a v limits target name answer known ne there =
-    subst (λ r. CallStep made a limits (Release target) v limits (reply_released r) (λ w. releasing w (id_of a) name)) (sym there.answer_is)
-    (put_answered made a v limits target name there.put known ne there.lane)
+    let post = there.post in
+    let through = post.through in
+    let e : answer ≡ posted_as (put_answer name (name_back through.0)) = there.answer_is ∙ ap posted_as (post.answer_is ∙ ap (put_answer name) through.2) in
+    subst (λ r. CallStep made a limits (Release target) v limits (reply_released r) (λ w. releasing w (id_of a) name)) (sym e)
+    (put_answered made a v limits target name through.0 known ne (post.same, through.1))
 
-nowhere_answered : {sli : ℕ} (made : List (Option Name)) (a : Worker sli) (limits : List ℕ) (target : Target) (name : Name) → name.heap ≢ id_of a → ¬ (HasPost a name.heap)
+nowhere_answered : {sli : ℕ} (made : List (Option Name)) (a : Worker sli Lanes) (limits : List ℕ) (target : Target) (name : Name) → name.heap ≢ id_of a → ¬ (HasPost a name.heap)
     → CallStep made a limits (Release target) a limits (Refused Stranger) (λ w. releasing w (id_of a) name)
 nowhere_answered made a limits target name ne none =
     itself_answered made a limits (Release target) (Refused Stranger) (λ w. releasing w (id_of a) name)
@@ -193,13 +193,13 @@ has_post_or None = inr (λ h. let e = h.1 in cc)
 has_post_or (Some p) = inl (p, refl)
 
 -- what a release promises
-pub record IsRelease {sli : ℕ} (a v : Worker sli) (name : Name) (answer : Result Released CrewRefusal) : Type 0 where
+pub record IsRelease {sli : ℕ} (a v : Worker sli Lanes) (name : Name) (answer : Result Released CrewRefusal) : Type 0 where
   pub here : name.heap ≡ id_of a → ReleasedHere a v name answer
-  pub there : name.heap ≢ id_of a → HasPost a name.heap → ReleasedThere a v name answer
+  pub there : name.heap ≢ id_of a → HasPost a name.heap → ReleasedThere PutsIntoLane a v name answer
   pub nowhere : name.heap ≢ id_of a → ¬ (HasPost a name.heap) → (answer ≡ Err Stranger) × (v ≡ a)
   pub yard : KeepsYards a v
 
-release_by_name : {sli : ℕ} (made : List (Option Name)) (a v : Worker sli) (limits : List ℕ) (target : Target) (name : Name) (answer : Result Released CrewRefusal) → name_of made target ≡ Some name
+release_by_name : {sli : ℕ} (made : List (Option Name)) (a v : Worker sli Lanes) (limits : List ℕ) (target : Target) (name : Name) (answer : Result Released CrewRefusal) → name_of made target ≡ Some name
     → IsRelease a v name answer → CallStep made a limits (Release target) v limits (reply_released answer) (λ w. releasing w (id_of a) name)
 release_by_name made a v limits target name answer known r =
     elim (cases_eq name.heap (id_of a)) [
@@ -214,7 +214,7 @@ release_by_name made a v limits target name answer known r =
       ]
     ]
 
-pub release_answered : {sli : ℕ} (made : List (Option Name)) (a v : Worker sli) (limits : List ℕ) (target : Target) (name : Name) (answer : Result Released CrewRefusal) (reply : Reply) → Some name ≡ name_of made target
+pub release_answered : {sli : ℕ} (made : List (Option Name)) (a v : Worker sli Lanes) (limits : List ℕ) (target : Target) (name : Name) (answer : Result Released CrewRefusal) (reply : Reply) → Some name ≡ name_of made target
     → IsRelease a v name answer → reply_released answer ≡ reply → CallStep made a limits (Release target) v limits reply (λ w. releasing_named w (id_of a) (name_of made target))
 release_answered made a v limits target name answer reply known r e =
     subst (λ o. CallStep made a limits (Release target) v limits reply (λ w. releasing_named w (id_of a) o)) known
@@ -223,7 +223,7 @@ release_answered made a v limits target name answer reply known r e =
 
 -- ---- write
 
-refused_write : {sli : ℕ} (at from : ℕ) (bytes : Chunk) (later : List (Option Name)) (a : Worker sli) (limits : List ℕ) (target : Target) (why : CrewRefusal) → ((name : Name) → why ≢ Full name)
+refused_write : {sli : ℕ} (at from : ℕ) (bytes : Chunk) (later : List (Option Name)) (a : Worker sli Lanes) (limits : List ℕ) (target : Target) (why : CrewRefusal) → ((name : Name) → why ≢ Full name)
     → IsIdle at later a limits [] (record { worker = at; call = Write target from bytes; reply = Refused why })
 refused_write at from bytes later a limits target why other = record {
   posts = record { made_none = λ j. refl; taken_none = λ i. refl };
@@ -232,7 +232,7 @@ refused_write at from bytes later a limits target why other = record {
   drained = λ most k i e. cc;
 }
 
-wrote_quiet : {sli : ℕ} (at from count : ℕ) (bytes : Chunk) (later : List (Option Name)) (a : Worker sli) (limits : List ℕ) (target : Target)
+wrote_quiet : {sli : ℕ} (at from count : ℕ) (bytes : Chunk) (later : List (Option Name)) (a : Worker sli Lanes) (limits : List ℕ) (target : Target)
     → IsIdle at later a limits [] (record { worker = at; call = Write target from bytes; reply = Wrote count })
 wrote_quiet at from count bytes later a limits target = record {
   posts = record { made_none = λ j. refl; taken_none = λ i. refl };
@@ -241,33 +241,10 @@ wrote_quiet at from count bytes later a limits target = record {
   drained = λ most k i e. cc;
 }
 
-wrote_idle : {sli : ℕ} (at from count : ℕ) (bytes : Chunk) (later : List (Option Name)) (a : Worker sli) (limits : List ℕ) (target : Target) (r : Result (Unit {0}) Refusal)
+wrote_idle : {sli : ℕ} (at from count : ℕ) (bytes : Chunk) (later : List (Option Name)) (a : Worker sli Lanes) (limits : List ℕ) (target : Target) (r : Result (Unit {0}) Refusal)
     → IsIdle at later a limits [] (record { worker = at; call = Write target from bytes; reply = reply_wrote count r })
 wrote_idle at from count bytes later a limits target (Ok done) = wrote_quiet at from count bytes later a limits target
 wrote_idle at from count bytes later a limits target (Err why) = refused_write at from bytes later a limits target (Heap why) (λ name e. cc)
-
-written_here : {sli : ℕ} (n : ℕ) (a v : Worker sli) (name : Name) (from : ℕ) (bytes : List ℕ) → heap_of v ≡ (heap.written (heap_of a) name from bytes).heap → KnowsYard n a
-    → (w : World sli) → HasHeap w n (id_of a) (heap_of a)
-    → ModelReplies (id_of a) v (reply_wrote (length bytes) (heap.written (heap_of a) name from bytes).answer) (writing w (id_of a) name from bytes)
-unfolding written
-written_here n a v name from bytes h k w has =
-    let at = id_of a in
-    record {
-      reply = ap (λ g. reply_wrote (length bytes) (heap.written g name from bytes).answer) (sym has.1);
-      left = h ∙ (ap (λ g. (heap.written g name from bytes).heap) (sym has.1) ∙ sym (heap_left n at w (heap_of a) (heap.written (heap_in w at) name from bytes).heap k.self has));
-    }
-
-pub write_answered : {sli : ℕ} (made : List (Option Name)) (a v : Worker sli) (limits : List ℕ) (target : Target) (name : Name) (from : ℕ) (bytes : Chunk) (list : List ℕ) (reply : Reply)
-    → Some name ≡ name_of made target → list ≡ bytes_of bytes → SameButHeap a v → KeepsYards a v
-    → reply ≡ reply_wrote (length list) (heap.written (heap_of a) name from list).answer → heap_of v ≡ (heap.written (heap_of a) name from list).heap
-    → CallStep made a limits (Write target from bytes) v limits reply (λ w. writing_named w (id_of a) (name_of made target) from (bytes_of bytes))
-write_answered made a v limits target name from bytes list reply known are same yard e h =
-    let o = (heap.written (heap_of a) name from list).answer in
-    subst (λ o. CallStep made a limits (Write target from bytes) v limits reply (λ w. writing_named w (id_of a) o from (bytes_of bytes))) known
-    (subst (λ l. CallStep made a limits (Write target from bytes) v limits reply (λ w. writing w (id_of a) name from l)) are
-    (subst (λ r. CallStep made a limits (Write target from bytes) v limits r (λ w. writing w (id_of a) name from list)) (sym e)
-    (answered_quiet made a v limits (Write target from bytes) (reply_wrote (length list) o) (λ w. writing w (id_of a) name from list) same yard
-    (λ later. wrote_idle (id_of a) from (length list) bytes later a limits target o) (λ n k w has s. written_here n a v name from list h k w has))))
 
 pub wrote_ok : (o : Result (Unit {0}) Refusal) (done : Unit {0}) (n : ℕ) → Ok done ≡ by_heap o → Wrote n ≡ reply_wrote n o
 wrote_ok (Ok x) done n e = refl
@@ -279,7 +256,7 @@ wrote_err (Err x) why n e = let q : why ≡ Heap x = cc in ap Refused q
 
 -- ---- resize
 
-refused_resize : {sli : ℕ} (at len : ℕ) (later : List (Option Name)) (a : Worker sli) (limits : List ℕ) (target : Target) (why : CrewRefusal) → ((name : Name) → why ≢ Full name)
+refused_resize : {sli : ℕ} (at len : ℕ) (later : List (Option Name)) (a : Worker sli Lanes) (limits : List ℕ) (target : Target) (why : CrewRefusal) → ((name : Name) → why ≢ Full name)
     → IsIdle at later a limits [] (record { worker = at; call = Resize target len; reply = Refused why })
 refused_resize at len later a limits target why other = record {
   posts = record { made_none = λ j. refl; taken_none = λ i. refl };
@@ -288,7 +265,7 @@ refused_resize at len later a limits target why other = record {
   drained = λ most k i e. cc;
 }
 
-resize_quiet : {sli : ℕ} (at len : ℕ) (later : List (Option Name)) (a : Worker sli) (limits : List ℕ) (target : Target)
+resize_quiet : {sli : ℕ} (at len : ℕ) (later : List (Option Name)) (a : Worker sli Lanes) (limits : List ℕ) (target : Target)
     → IsIdle at later a limits [] (record { worker = at; call = Resize target len; reply = Resized })
 resize_quiet at len later a limits target = record {
   posts = record { made_none = λ j. refl; taken_none = λ i. refl };
@@ -297,32 +274,10 @@ resize_quiet at len later a limits target = record {
   drained = λ most k i e. cc;
 }
 
-resize_idle : {sli : ℕ} (at len : ℕ) (later : List (Option Name)) (a : Worker sli) (limits : List ℕ) (target : Target) (r : Result (Unit {0}) Refusal)
+resize_idle : {sli : ℕ} (at len : ℕ) (later : List (Option Name)) (a : Worker sli Lanes) (limits : List ℕ) (target : Target) (r : Result (Unit {0}) Refusal)
     → IsIdle at later a limits [] (record { worker = at; call = Resize target len; reply = reply_resized r })
 resize_idle at len later a limits target (Ok done) = resize_quiet at len later a limits target
 resize_idle at len later a limits target (Err why) = refused_resize at len later a limits target (Heap why) (λ name e. cc)
-
-resize_here : {sli : ℕ} (n : ℕ) (a v : Worker sli) (name : Name) (len : ℕ) → heap_of v ≡ (heap.resized (heap_of a) name len).heap → KnowsYard n a
-    → (w : World sli) → HasHeap w n (id_of a) (heap_of a)
-    → ModelReplies (id_of a) v (reply_resized (heap.resized (heap_of a) name len).answer) (resizing w (id_of a) name len)
-unfolding resized
-resize_here n a v name len h k w has =
-    let at = id_of a in
-    record {
-      reply = ap (λ g. reply_resized (heap.resized g name len).answer) (sym has.1);
-      left = h ∙ (ap (λ g. (heap.resized g name len).heap) (sym has.1) ∙ sym (heap_left n at w (heap_of a) (heap.resized (heap_in w at) name len).heap k.self has));
-    }
-
-pub resize_answered : {sli : ℕ} (made : List (Option Name)) (a v : Worker sli) (limits : List ℕ) (target : Target) (name : Name) (len : ℕ) (reply : Reply)
-    → Some name ≡ name_of made target → SameButHeap a v → KeepsYards a v
-    → reply ≡ reply_resized (heap.resized (heap_of a) name len).answer → heap_of v ≡ (heap.resized (heap_of a) name len).heap
-    → CallStep made a limits (Resize target len) v limits reply (λ w. resizing_named w (id_of a) (name_of made target) len)
-resize_answered made a v limits target name len reply known same yard e h =
-    let o = (heap.resized (heap_of a) name len).answer in
-    subst (λ o. CallStep made a limits (Resize target len) v limits reply (λ w. resizing_named w (id_of a) o len)) known
-    (subst (λ r. CallStep made a limits (Resize target len) v limits r (λ w. resizing w (id_of a) name len)) (sym e)
-    (answered_quiet made a v limits (Resize target len) (reply_resized o) (λ w. resizing w (id_of a) name len) same yard
-    (λ later. resize_idle (id_of a) len later a limits target o) (λ n k w has s. resize_here n a v name len h k w has)))
 
 pub resize_ok : (o : Result (Unit {0}) Refusal) (done : Unit {0}) → Ok done ≡ by_heap o → Resized ≡ reply_resized o
 resize_ok (Ok x) done e = refl
@@ -334,7 +289,7 @@ resize_err (Err x) why e = let q : why ≡ Heap x = cc in ap Refused q
 
 -- ---- read
 
-refused_read : {sli : ℕ} (at from n : ℕ) (later : List (Option Name)) (a : Worker sli) (limits : List ℕ) (target : Target) (why : CrewRefusal) → ((name : Name) → why ≢ Full name)
+refused_read : {sli : ℕ} (at from n : ℕ) (later : List (Option Name)) (a : Worker sli Lanes) (limits : List ℕ) (target : Target) (why : CrewRefusal) → ((name : Name) → why ≢ Full name)
     → IsIdle at later a limits [] (record { worker = at; call = Read target from n; reply = Refused why })
 refused_read at from n later a limits target why other = record {
   posts = record { made_none = λ j. refl; taken_none = λ i. refl };
@@ -343,7 +298,7 @@ refused_read at from n later a limits target why other = record {
   drained = λ most k i e. cc;
 }
 
-got_quiet : {sli : ℕ} (at from n : ℕ) (later : List (Option Name)) (a : Worker sli) (limits : List ℕ) (target : Target) (bytes : Chunk)
+got_quiet : {sli : ℕ} (at from n : ℕ) (later : List (Option Name)) (a : Worker sli Lanes) (limits : List ℕ) (target : Target) (bytes : Chunk)
     → IsIdle at later a limits [] (record { worker = at; call = Read target from n; reply = Got bytes })
 got_quiet at from n later a limits target bytes = record {
   posts = record { made_none = λ j. refl; taken_none = λ i. refl };
@@ -352,28 +307,10 @@ got_quiet at from n later a limits target bytes = record {
   drained = λ most k i e. cc;
 }
 
-got_idle : {sli : ℕ} (at from n : ℕ) (later : List (Option Name)) (a : Worker sli) (limits : List ℕ) (target : Target) (r : Result Chunk Refusal)
+got_idle : {sli : ℕ} (at from n : ℕ) (later : List (Option Name)) (a : Worker sli Lanes) (limits : List ℕ) (target : Target) (r : Result Chunk Refusal)
     → IsIdle at later a limits [] (record { worker = at; call = Read target from n; reply = reply_got r })
 got_idle at from n later a limits target (Ok bytes) = got_quiet at from n later a limits target bytes
 got_idle at from n later a limits target (Err why) = refused_read at from n later a limits target (Heap why) (λ name e. cc)
-
-read_here : {sli : ℕ} (m : ℕ) (a v : Worker sli) (name : Name) (from n : ℕ) → heap_of v ≡ heap_of a → (w : World sli) → HasHeap w m (id_of a) (heap_of a)
-    → ModelReplies (id_of a) v (reply_got (chunk_read (heap_of a) name from n)) (reading w (id_of a) name from n)
-read_here m a v name from n h w has =
-    record {
-      reply = ap (λ g. reply_got (chunk_read g name from n)) (sym has.1);
-      left = h ∙ sym has.1;
-    }
-
-pub read_answered : {sli : ℕ} (made : List (Option Name)) (a v : Worker sli) (limits : List ℕ) (target : Target) (name : Name) (from n : ℕ) (reply : Reply) → Some name ≡ name_of made target
-    → SameButHeap a v → KeepsYards a v → reply ≡ reply_got (chunk_read (heap_of a) name from n) → heap_of v ≡ heap_of a
-    → CallStep made a limits (Read target from n) v limits reply (λ w. reading_named w (id_of a) (name_of made target) from n)
-read_answered made a v limits target name from n reply known same yard e h =
-    let o = chunk_read (heap_of a) name from n in
-    subst (λ o. CallStep made a limits (Read target from n) v limits reply (λ w. reading_named w (id_of a) o from n)) known
-    (subst (λ r. CallStep made a limits (Read target from n) v limits r (λ w. reading w (id_of a) name from n)) (sym e)
-    (answered_quiet made a v limits (Read target from n) (reply_got o) (λ w. reading w (id_of a) name from n) same yard
-    (λ later. got_idle (id_of a) from n later a limits target o) (λ m k w has s. read_here m a v name from n h w has)))
 
 pub got_ok : (o : Result Chunk Refusal) (bytes : Chunk) → Ok bytes ≡ by_heap o → Got bytes ≡ reply_got o
 got_ok (Ok x) bytes e = let q : bytes ≡ x = cc in ap Got q
@@ -385,40 +322,41 @@ got_err (Err x) why e = let q : why ≡ Heap x = cc in ap Refused q
 
 -- ---- whatever a target means
 
-unmade_here : {sli : ℕ} (n : ℕ) (a v : Worker sli) → heap_of v ≡ heap_of a → (w : World sli) → HasHeap w n (id_of a) (heap_of a) → ModelReplies (id_of a) v (Refused Unmade) (record { reply = Refused Unmade; world = w })
-unmade_here n a v h w has = record { reply = refl; left = h ∙ sym has.1 }
+write_idle : {sli : ℕ} (at from : ℕ) (bytes : Chunk) (later : List (Option Name)) (a : Worker sli Lanes) (limits : List ℕ) (target : Target) (h : HeapState) (o : Option Name)
+    → IsIdle at later a limits [] (record { worker = at; call = Write target from bytes; reply = (own_writing h o from (bytes_of bytes)).reply })
+write_idle at from bytes later a limits target h None = refused_write at from bytes later a limits target Unmade (λ name e. cc)
+write_idle at from bytes later a limits target h (Some name) = wrote_idle at from (length (bytes_of bytes)) bytes later a limits target (written h name from (bytes_of bytes)).answer
 
-pub write_by_target : {sli : ℕ} (made : List (Option Name)) (a v : Worker sli) (limits : List ℕ) (target : Target) (from : ℕ) (bytes : Chunk) (reply : Reply) (o : Option Name) → o ≡ name_of made target → SameButHeap a v
+pub write_by_target : {sli : ℕ} (made : List (Option Name)) (a v : Worker sli Lanes) (limits : List ℕ) (target : Target) (from : ℕ) (bytes : Chunk) (reply : Reply) (o : Option Name) → o ≡ name_of made target → SameButHeap a v
     → reply ≡ (own_writing (heap_of a) o from (bytes_of bytes)).reply → heap_of v ≡ (own_writing (heap_of a) o from (bytes_of bytes)).heap
     → CallStep made a limits (Write target from bytes) v limits reply (λ w. writing_named w (id_of a) (name_of made target) from (bytes_of bytes))
-unfolding written
-write_by_target made a v limits target from bytes reply None known same e h =
+write_by_target made a v limits target from bytes reply o known same e h =
     subst (λ o. CallStep made a limits (Write target from bytes) v limits reply (λ w. writing_named w (id_of a) o from (bytes_of bytes))) known
-    (subst (λ r. CallStep made a limits (Write target from bytes) v limits r (λ w. writing_named w (id_of a) None from (bytes_of bytes))) (sym e)
-    (answered_quiet made a v limits (Write target from bytes) (Refused Unmade) (λ w. writing_named w (id_of a) None from (bytes_of bytes)) same (heap_keeps a v same (write_keeps (heap_of a) (heap_of v) None from (bytes_of bytes) h))
-    (λ later. refused_write (id_of a) from bytes later a limits target Unmade (λ name e. cc)) (λ n k w has s. unmade_here n a v h w has)))
-write_by_target made a v limits target from bytes reply (Some name) known same e h =
-    write_answered made a v limits target name from bytes (bytes_of bytes) reply known refl same (heap_keeps a v same (write_keeps (heap_of a) (heap_of v) (Some name) from (bytes_of bytes) h)) e h
+    (own_answered made a v limits (Write target from bytes) reply (λ g. own_writing g o from (bytes_of bytes)) same
+    (heap_keeps a v same (write_keeps (heap_of a) (heap_of v) o from (bytes_of bytes) h)) (λ later. write_idle (id_of a) from bytes later a limits target (heap_of a) o) e h)
 
-pub resize_by_target : {sli : ℕ} (made : List (Option Name)) (a v : Worker sli) (limits : List ℕ) (target : Target) (len : ℕ) (reply : Reply) (o : Option Name) → o ≡ name_of made target → SameButHeap a v
+resized_idle : {sli : ℕ} (at len : ℕ) (later : List (Option Name)) (a : Worker sli Lanes) (limits : List ℕ) (target : Target) (h : HeapState) (o : Option Name)
+    → IsIdle at later a limits [] (record { worker = at; call = Resize target len; reply = (own_resizing h o len).reply })
+resized_idle at len later a limits target h None = refused_resize at len later a limits target Unmade (λ name e. cc)
+resized_idle at len later a limits target h (Some name) = resize_idle at len later a limits target (resized h name len).answer
+
+pub resize_by_target : {sli : ℕ} (made : List (Option Name)) (a v : Worker sli Lanes) (limits : List ℕ) (target : Target) (len : ℕ) (reply : Reply) (o : Option Name) → o ≡ name_of made target → SameButHeap a v
     → reply ≡ (own_resizing (heap_of a) o len).reply → heap_of v ≡ (own_resizing (heap_of a) o len).heap
     → CallStep made a limits (Resize target len) v limits reply (λ w. resizing_named w (id_of a) (name_of made target) len)
-unfolding resized
-resize_by_target made a v limits target len reply None known same e h =
+resize_by_target made a v limits target len reply o known same e h =
     subst (λ o. CallStep made a limits (Resize target len) v limits reply (λ w. resizing_named w (id_of a) o len)) known
-    (subst (λ r. CallStep made a limits (Resize target len) v limits r (λ w. resizing_named w (id_of a) None len)) (sym e)
-    (answered_quiet made a v limits (Resize target len) (Refused Unmade) (λ w. resizing_named w (id_of a) None len) same (heap_keeps a v same (resize_keeps (heap_of a) (heap_of v) None len h))
-    (λ later. refused_resize (id_of a) len later a limits target Unmade (λ name e. cc)) (λ n k w has s. unmade_here n a v h w has)))
-resize_by_target made a v limits target len reply (Some name) known same e h =
-    resize_answered made a v limits target name len reply known same (heap_keeps a v same (resize_keeps (heap_of a) (heap_of v) (Some name) len h)) e h
+    (own_answered made a v limits (Resize target len) reply (λ g. own_resizing g o len) same
+    (heap_keeps a v same (resize_keeps (heap_of a) (heap_of v) o len h)) (λ later. resized_idle (id_of a) len later a limits target (heap_of a) o) e h)
 
-pub read_by_target : {sli : ℕ} (made : List (Option Name)) (a v : Worker sli) (limits : List ℕ) (target : Target) (from n : ℕ) (reply : Reply) (o : Option Name) → o ≡ name_of made target → SameButHeap a v
+read_idle : {sli : ℕ} (at from n : ℕ) (later : List (Option Name)) (a : Worker sli Lanes) (limits : List ℕ) (target : Target) (h : HeapState) (o : Option Name)
+    → IsIdle at later a limits [] (record { worker = at; call = Read target from n; reply = (own_reading h o from n).reply })
+read_idle at from n later a limits target h None = refused_read at from n later a limits target Unmade (λ name e. cc)
+read_idle at from n later a limits target h (Some name) = got_idle at from n later a limits target (chunk_read h name from n)
+
+pub read_by_target : {sli : ℕ} (made : List (Option Name)) (a v : Worker sli Lanes) (limits : List ℕ) (target : Target) (from n : ℕ) (reply : Reply) (o : Option Name) → o ≡ name_of made target → SameButHeap a v
     → reply ≡ (own_reading (heap_of a) o from n).reply → heap_of v ≡ (own_reading (heap_of a) o from n).heap
     → CallStep made a limits (Read target from n) v limits reply (λ w. reading_named w (id_of a) (name_of made target) from n)
-read_by_target made a v limits target from n reply None known same e h =
+read_by_target made a v limits target from n reply o known same e h =
     subst (λ o. CallStep made a limits (Read target from n) v limits reply (λ w. reading_named w (id_of a) o from n)) known
-    (subst (λ r. CallStep made a limits (Read target from n) v limits r (λ w. reading_named w (id_of a) None from n)) (sym e)
-    (answered_quiet made a v limits (Read target from n) (Refused Unmade) (λ w. reading_named w (id_of a) None from n) same (heap_keeps a v same (read_keeps (heap_of a) (heap_of v) None from n h))
-    (λ later. refused_read (id_of a) from n later a limits target Unmade (λ name e. cc)) (λ m k w has s. unmade_here m a v h w has)))
-read_by_target made a v limits target from n reply (Some name) known same e h =
-    read_answered made a v limits target name from n reply known same (heap_keeps a v same (read_keeps (heap_of a) (heap_of v) (Some name) from n h)) e h
+    (own_answered made a v limits (Read target from n) reply (λ g. own_reading g o from n) same
+    (heap_keeps a v same (read_keeps (heap_of a) (heap_of v) o from n h)) (λ later. read_idle (id_of a) from n later a limits target (heap_of a) o) e h)

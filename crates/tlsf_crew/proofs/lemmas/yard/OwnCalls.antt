@@ -1,9 +1,9 @@
 -- The entry of an allocate, a write, a resize, a read or a refused call tells the call on its worker's own heap.
-use Rattle.std.proofs.Common.{◌==◌, nat_le, true, false, Bool, cond, [], ◌∷◌, ◌≡◌, ℕ, ◌<◌, ◌≤◌, List, Option, Some, None, Result, Ok, Err, length, take, drop, ◌∙◌, ap, arith, refl, inl, inr, subst}
+use Rattle.std.proofs.Common.{◌==◌, nat_le, true, false, Bool, cond, [], ◌∷◌, ◌≡◌, ℕ, ◌<◌, ◌≤◌, List, Option, Some, None, Result, Ok, Err, length, take, drop, ◌∙◌, ap, arith, refl, inl, inr}
 use Rattle.std.specs.List.{cons_option}
 use Rattle.std.proofs.lemmas.Bool.{cases_lt}
 use Rattle.std.proofs.lemmas.Bool.Decides.{nat_tests}
-use Rattle.std.proofs.lemmas.List.{length-set, get_or-set_same, get_or-set_other, length-take, length-drop}
+use Rattle.std.proofs.lemmas.List.{length-set, set-get_or, get_or-set_same, get_or-set_other, length-take, length-drop}
 use Rattle.tlsf_heap.specs.Blocks.{HeapState}
 use Rattle.tlsf_heap.specs.Blocks as blocks
 use Rattle.tlsf_heap.specs.GoodFit.{Site}
@@ -18,11 +18,12 @@ use Rattle.tlsf_calls.specs.declared.call.Call.{Call}
 use Rattle.tlsf_calls.specs.declared.call.Call.TheVariants.{Allocate, Write, Read, Resize}
 use Rattle.tlsf_calls.specs.declared.target.Target.{Target}
 use Rattle.tlsf_calls.specs.declared.reply.Reply.{Reply}
+use Rattle.tlsf_calls.specs.declared.reply.Reply.TheVariants.{Refused}
+use Rattle.tlsf_calls.specs.declared.crew_refusal.CrewRefusal.TheVariants.{Unmade}
 use Rattle.tlsf_crew.specs.yard.Heaps.{allocated, written, resized, chunk_read, as_chunk, too_many}
 use Rattle.tlsf_crew.specs.yard.History.{RunsTo, answer_told, call_on_own, handed_on, meant}
-use Rattle.tlsf_crew.specs.yard.World.{World, Replied, heap_in, with_heap, allocating, writing, writing_named, reading, reading_named, resizing, resizing_named, reply_made, reply_wrote, reply_got, reply_resized, name_of}
+use Rattle.tlsf_crew.specs.yard.World.{World, Replied, heap_in, with_heap, allocating, writing_named, reading_named, resizing_named, reply_made, reply_wrote, reply_got, reply_resized, name_of}
 use Rattle.tlsf_crew.specs.yard.Yard.{no_heap}
-use Rattle.tlsf_crew.proofs.lemmas.yard.OneEvent.{same_heap}
 use Rattle.tlsf_calls.proofs.Padding.{bytes_back}
 use Rattle.tlsf_crew.proofs.lemmas.yard.ChunkReads.{read_few, read_many}
 use Rattle.tlsf_crew.proofs.lemmas.yard.JoinedEntries.{IsHistory, IsOwnCall, history_quiet}
@@ -67,6 +68,11 @@ none_done {sli} made w v at call reply x y same =
       others = λ j ne. as_was j;
     }
 
+-- the target means no name: the heap stays
+unmade_done : {sli : ℕ} (made : List (Option Name)) (w : World sli) (at : ℕ) (call : Call) → call_on_own made at call (Refused Unmade) ≡ None → answer_told call (Refused Unmade) ≡ None
+    → IsOwnCall made w (record { worker = at; call = call; reply = Refused Unmade }) (with_heap w at (heap_in w at))
+unmade_done made w at call x y = none_done made w (with_heap w at (heap_in w at)) at call (Refused Unmade) x y (set-get_or w.heaps at no_heap)
+
 -- ---- allocate
 
 made_told : (len : ℕ) (r : Result Name Refusal) → answer_told (Allocate len) (reply_made r) ≡ Some (heap.Allocated r)
@@ -98,11 +104,10 @@ pub write_told : {sli : ℕ} (made : List (Option Name)) (w : World sli) (at fro
     → ((name : Name) → o ≡ Some name → name_of made target ≡ Some name) → Tells1 made w at (Write target from chunk) (writing_named w at o from (bytes_of chunk))
 unfolding written
 write_told made w at from target chunk None at_in known =
-    let a = writing_named w at None from (bytes_of chunk) in
-    history_quiet made w w (record { worker = at; call = Write target from chunk; reply = a.reply }) (none_done made w w at (Write target from chunk) a.reply refl refl refl)
-    (record { made_none = λ j. refl; taken_none = λ i. refl }) refl refl
+    history_quiet made w (with_heap w at (heap_in w at)) (record { worker = at; call = Write target from chunk; reply = Refused Unmade }) (unmade_done made w at (Write target from chunk) refl refl)
+    (record { made_none = λ j. refl; taken_none = λ i. refl }) refl (length-set w.heaps at (heap_in w at))
 write_told made w at from target chunk (Some name) at_in known =
-    let a = writing w at name from (bytes_of chunk) in
+    let a = writing_named w at (Some name) from (bytes_of chunk) in
     let r = (heap.written (heap_in w at) name from (bytes_of chunk)).answer in
     let named : meant made target a.reply ≡ Some name = wrote_meant made target (length (bytes_of chunk)) r ∙ known name refl in
     let on_own : call_on_own made at (Write target from chunk) a.reply ≡ Some (heap.Write name from (bytes_of chunk)) = rw named refl in
@@ -124,11 +129,10 @@ pub resize_told : {sli : ℕ} (made : List (Option Name)) (w : World sli) (at le
     → ((name : Name) → o ≡ Some name → name_of made target ≡ Some name) → Tells1 made w at (Resize target len) (resizing_named w at o len)
 unfolding resized
 resize_told made w at len target None at_in known =
-    let a = resizing_named w at None len in
-    history_quiet made w w (record { worker = at; call = Resize target len; reply = a.reply }) (none_done made w w at (Resize target len) a.reply refl refl refl)
-    (record { made_none = λ j. refl; taken_none = λ i. refl }) refl refl
+    history_quiet made w (with_heap w at (heap_in w at)) (record { worker = at; call = Resize target len; reply = Refused Unmade }) (unmade_done made w at (Resize target len) refl refl)
+    (record { made_none = λ j. refl; taken_none = λ i. refl }) refl (length-set w.heaps at (heap_in w at))
 resize_told made w at len target (Some name) at_in known =
-    let a = resizing w at name len in
+    let a = resizing_named w at (Some name) len in
     let r = (heap.resized (heap_in w at) name len).answer in
     let named : meant made target a.reply ≡ Some name = resize_meant made target r ∙ known name refl in
     let on_own : call_on_own made at (Resize target len) a.reply ≡ Some (heap.Resize name len) = rw named refl in
@@ -206,15 +210,13 @@ read_handed h name at n =
 pub read_told : {sli : ℕ} (made : List (Option Name)) (w : World sli) (at from n : ℕ) (target : Target) (o : Option Name) → at < length w.heaps
     → ((name : Name) → o ≡ Some name → name_of made target ≡ Some name) → Tells1 made w at (Read target from n) (reading_named w at o from n)
 read_told made w at from n target None at_in known =
-    let a = reading_named w at None from n in
-    history_quiet made w w (record { worker = at; call = Read target from n; reply = a.reply }) (none_done made w w at (Read target from n) a.reply refl refl refl)
-    (record { made_none = λ j. refl; taken_none = λ i. refl }) refl refl
+    history_quiet made w (with_heap w at (heap_in w at)) (record { worker = at; call = Read target from n; reply = Refused Unmade }) (unmade_done made w at (Read target from n) refl refl)
+    (record { made_none = λ j. refl; taken_none = λ i. refl }) refl (length-set w.heaps at (heap_in w at))
 read_told made w at from n target (Some name) at_in known =
-    let a = reading w at name from n in
+    let a = reading_named w at (Some name) from n in
     let r = chunk_read (heap_in w at) name from n in
     let named : meant made target a.reply ≡ Some name = got_meant made target r ∙ known name refl in
     let on_own : call_on_own made at (Read target from n) a.reply ≡ Some (heap.Read name from n) = rw named refl in
     let e : Entry = record { worker = at; call = Read target from n; reply = a.reply } in
     let done = done_here made w at (Read target from n) a.reply (heap.Read name from n) at_in on_own (got_told target from n r ∙ ap Some (read_handed (heap_in w at) name from n)) in
-    let same : with_heap w at (heap_in w at) ≡ w = same_heap w at (heap_in w at) refl in
-    history_quiet made w w e (subst (IsOwnCall made w e) same done) (record { made_none = λ j. refl; taken_none = λ i. refl }) refl refl
+    history_quiet made w a.world e done (record { made_none = λ j. refl; taken_none = λ i. refl }) refl (length-set w.heaps at (heap_in w at))

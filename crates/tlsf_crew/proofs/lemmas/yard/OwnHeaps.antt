@@ -12,17 +12,13 @@ use Rattle.tlsf_heap.specs.Lawful.{IsLawful, IsRegion}
 use Rattle.tlsf_heap.specs.Calls.{Call, answered, opened, Allocate, Write}
 use Rattle.tlsf_heap.specs.InPlace.{Alters}
 use Rattle.tlsf_heap.specs.declared.name.Name.{Name}
-use Rattle.tlsf_calls.specs.declared.crew_refusal.CrewRefusal.{CrewRefusal}
 use Rattle.tlsf_heap.proofs.Outcomes.{ids, lawful_run}
-use Rattle.tlsf_crew.specs.declared.yard.worker.Worker.{Worker}
-use Rattle.tlsf_crew.specs.yard.Workers.{heap_of}
+use Rattle.tlsf_crew.specs.declared.worker.Worker.{Worker}
+use Rattle.tlsf_crew.specs.declared.yard.lanes.Lanes.{Lanes}
+use Rattle.tlsf_crew.specs.yard.Workers.{heap_of, KeepsHeap}
 use Rattle.tlsf_crew.specs.yard.Yard.{yard_heap, no_heap, IsHeapOf}
 use Rattle.tlsf_crew.proofs.lemmas.yard.Slots.{get_set_same, get_set_other, heap_at}
 use Rattle.tlsf_class.proofs.TwoLevels.{level_4}
-
--- the heap k has the number of h, and is lawful where h is
-abbrev pub KeepsHeap : HeapState → HeapState → Type 0
-KeepsHeap h k = (k.id ≡ h.id) × (IsLawful h → IsLawful k)
 
 pub same_heap_keeps : (h k : HeapState) → k ≡ h → KeepsHeap h k
 same_heap_keeps h k e = (ap (λ x. x.id) e, λ lawful. subst IsLawful (sym e) lawful)
@@ -35,19 +31,19 @@ pub call_keeps : (h k : HeapState) (call : Call) → k ≡ (answered 4 h call).1
 call_keeps h k call e = (ap (λ x. x.id) e ∙ ids 4 h call, λ lawful. subst IsLawful (sym e) (lawful_run 4 level_4 h (call ∷ []) lawful))
 
 -- nor does an alter, done or refused
-pub alter_keeps : {F R : Type 0} (g : Once F (MutBor (List ℕ) × Unit {0}) (R × (MutBor (List ℕ) × Unit {0}))) (f : F) (h k : HeapState) (name : Name) (answer : Result R CrewRefusal)
+pub alter_keeps : {F R E : Type 0} (g : Once F (MutBor (List ℕ) × Unit {0}) (R × (MutBor (List ℕ) × Unit {0}))) (f : F) (h k : HeapState) (name : Name) (answer : Result R E)
     → IfOk answer (λ r. Alters g f h name r k) → OnErr answer (k ≡ h) → KeepsHeap h k
 alter_keeps g f h k name (Ok r) altered err = call_keeps h k (Write name 0 _) altered.writes
 alter_keeps g f h k name (Err why) altered err = same_heap_keeps h k err
 
 -- each worker has a lawful heap of its number
-abbrev pub OwnHeaps : {sli : ℕ} → List (Worker sli) → Type 0
+abbrev pub OwnHeaps : {sli : ℕ} → List (Worker sli Lanes) → Type 0
 OwnHeaps ws = (i : ℕ) → i < length ws → IsHeapOf i (yard_heap ws i)
 
-pub heaps_along : {sli : ℕ} (ws vs : List (Worker sli)) → map heap_of vs ≡ map heap_of ws → length vs ≡ length ws → OwnHeaps ws → OwnHeaps vs
+pub heaps_along : {sli : ℕ} (ws vs : List (Worker sli Lanes)) → map heap_of vs ≡ map heap_of ws → length vs ≡ length ws → OwnHeaps ws → OwnHeaps vs
 heaps_along ws vs e len heaps i i_in = subst (λ (l : List HeapState). IsHeapOf i (get_or l i no_heap)) (sym e) (heaps i (omega (arith, len)))
 
-pub heaps_set : {sli : ℕ} (ws : List (Worker sli)) (i : ℕ) (a v : Worker sli) → slice_get ws i ≡ Some a → KeepsHeap (heap_of a) (heap_of v) → OwnHeaps ws → OwnHeaps (set ws i v)
+pub heaps_set : {sli : ℕ} (ws : List (Worker sli Lanes)) (i : ℕ) (a v : Worker sli Lanes) → slice_get ws i ≡ Some a → KeepsHeap (heap_of a) (heap_of v) → OwnHeaps ws → OwnHeaps (set ws i v)
 heaps_set ws i a v is kept heaps x x_in =
     let x_old : x < length ws = omega (arith, length-set ws i v) in
     let h = heaps x x_old in

@@ -1,14 +1,15 @@
 -- What a heap answers is what its worker replies: where the call's target means a name, and where it means none.
-use Rattle.std.proofs.Common.{◌≡◌, ℕ, List, Option, Some, None, length, ap, refl, sym, subst}
+use Rattle.std.proofs.Common.{◌≡◌, ℕ, List, Option, Some, None, length, refl, sym, subst}
 use Rattle.tlsf_heap.specs.Blocks.{HeapState}
 use Rattle.tlsf_heap.specs.Calls as heap
 use Rattle.tlsf_heap.specs.declared.name.Name.{Name}
 use Rattle.tlsf_calls.specs.declared.reply.Reply.{Reply}
 use Rattle.tlsf_calls.specs.declared.reply.Reply.TheVariants.{Refused}
 use Rattle.tlsf_calls.specs.declared.crew_refusal.CrewRefusal.TheVariants.{Unmade}
+use Rattle.tlsf_crew.specs.yard.Workers.{KeepsHeap}
 use Rattle.tlsf_crew.specs.yard.Heaps.{written, resized, chunk_read}
 use Rattle.tlsf_crew.specs.yard.OwnReplies.{OwnReplied, own_writing, own_reading, own_resizing, own_unmade}
-use Rattle.tlsf_crew.proofs.lemmas.yard.OwnHeaps.{KeepsHeap, call_keeps, same_heap_keeps}
+use Rattle.tlsf_crew.proofs.lemmas.yard.OwnHeaps.{call_keeps, same_heap_keeps}
 use Rattle.tlsf_crew.specs.yard.World.{reply_wrote, reply_got, reply_resized}
 
 -- the reply and the heap that is left

@@ -3,7 +3,8 @@ use Rattle.std.proofs.Common.{suc, zero, ◌≡◌, ◌≢◌, ℕ, ◌+◌, ◌
 use Rattle.std.proofs.lemmas.Bool.{cases_eq}
 use Rattle.tlsf_post.specs.declared.post.Post.{Post}
 use Rattle.tlsf_post.specs.Lanes.{waited}
-use Rattle.tlsf_crew.specs.declared.yard.worker.Worker.{Worker}
+use Rattle.tlsf_crew.specs.declared.worker.Worker.{Worker}
+use Rattle.tlsf_crew.specs.declared.yard.lanes.Lanes.{Lanes}
 use Rattle.tlsf_crew.specs.yard.Yard.{lane_waits, take_at, IsYard}
 use Rattle.tlsf_crew.specs.yard.World.{world_of, edited}
 use Rattle.tlsf_crew.specs.yard.Settle.{HaveMet}
@@ -55,11 +56,11 @@ edited_sum n f i j ps i_in j_in =
     omega arith
 
 -- what is ready for one worker more
-pub worker_ready : {sli : ℕ} (ws : List (Worker sli)) (j : ℕ) (w : Worker sli) → slice_get ws j ≡ Some w → ready_below ws (j + 1) ≡ ready_below ws j + sum_below (length ws) (ready_from w)
+pub worker_ready : {sli : ℕ} (ws : List (Worker sli Lanes)) (j : ℕ) (w : Worker sli Lanes) → slice_get ws j ≡ Some w → ready_below ws (j + 1) ≡ ready_below ws j + sum_below (length ws) (ready_from w)
 worker_ready ws j w e = rw (add-one, e) refl
 
 -- in a settled yard all that waits is ready, and nothing else
-pub lane_ready : {sli : ℕ} (ws vs : List (Worker sli)) (i j : ℕ) → length vs ≡ length ws → HaveMet ws vs → IsYard vs → i < length vs → j < length vs
+pub lane_ready : {sli : ℕ} (ws vs : List (Worker sli Lanes)) (i j : ℕ) → length vs ≡ length ws → HaveMet ws vs → IsYard vs → i < length vs → j < length vs
     → count_of (take_at vs i j) ≡ length ((world_of vs).waiting i j)
 unfolding world_of
 lane_ready ws vs i j len met yard i_in j_in =
@@ -73,7 +74,7 @@ lane_ready ws vs i j len met yard i_in j_in =
           rw (m.new_post_is, m.new_take_is) (omega arith)
     ]
 
-pub all_ready : {sli : ℕ} (ws vs : List (Worker sli)) → length vs ≡ length ws → HaveMet ws vs → IsYard vs → ready_in vs ≡ waiting_in (world_of vs)
+pub all_ready : {sli : ℕ} (ws vs : List (Worker sli Lanes)) → length vs ≡ length ws → HaveMet ws vs → IsYard vs → ready_in vs ≡ waiting_in (world_of vs)
 unfolding waiting_in ready_in
 all_ready ws vs len met yard =
     let n = length vs in

@@ -14,13 +14,15 @@ use Rattle.tlsf_calls.specs.declared.call.Call.TheVariants.{Allocate, Release, W
 use Rattle.tlsf_calls.specs.declared.reply.Reply.TheVariants.{Drained, Refused}
 use Rattle.tlsf_calls.specs.declared.crew_refusal.CrewRefusal.TheVariants.{Stranger}
 use Rattle.tlsf_calls.specs.Bytes.{bytes_of}
-use Rattle.tlsf_crew.specs.yard.Heaps.{allocated, released, written, resized}
-use Rattle.tlsf_crew.specs.yard.World.{World, world_of, Replied, Replayed, with_heap, with_waiting, heap_in, posting, releasing, releasing_named, writing_named, reading_named, resizing_named, taking, taking_next, took_first, took, took_more, Draining, drained_lane, drained_below, after_drain, draining, answered, called, after, resumed, name_of}
+use Rattle.tlsf_crew.specs.yard.Heaps.{released}
+use Rattle.tlsf_crew.specs.yard.OwnReplies.{OwnReplied, own_allocating, own_reading, own_resizing, own_writing}
+use Rattle.tlsf_crew.specs.yard.World.{World, world_of, Replied, Replayed, with_heap, with_waiting, heap_in, by_own, posting, releasing, releasing_named, taking, taking_next, took_first, took, took_more, Draining, drained_lane, drained_below, after_drain, draining, answered, called, after, resumed, name_of}
 use Rattle.tlsf_crew.specs.yard.Counts.{sum_below, waiting_in, is_release, releases_in}
 use Rattle.tlsf_crew.proofs.lemmas.yard.LaneChanges.{edited_same}
 use Rattle.tlsf_crew.proofs.lemmas.yard.OneEvent.{heaps_count, releasing_post, releasing_far, taking_lane, taking_own, taking_far, from_other, from_own}
 use Rattle.tlsf_crew.proofs.lemmas.yard.EventSteps.{after_far, after_near}
-use Rattle.tlsf_crew.specs.declared.yard.worker.Worker.{Worker}
+use Rattle.tlsf_crew.specs.declared.worker.Worker.{Worker}
+use Rattle.tlsf_crew.specs.declared.yard.lanes.Lanes.{Lanes}
 use Rattle.tlsf_crew.specs.yard.Yard.{IsYard, waits_in}
 use Rattle.tlsf_crew.proofs.lemmas.yard.LaneMoves.{sum_has}
 use Rattle.tlsf_crew.proofs.lemmas.threads.LastDrains.{none_wait, none_for}
@@ -64,17 +66,8 @@ named_waits : {sli : ℕ} (w : World sli) (at : ℕ) (name : Option Name) → at
 named_waits w at None at_in = omega arith
 named_waits w at (Some name) at_in = release_waits w at name at_in
 
-write_waits : {sli : ℕ} (w : World sli) (at : ℕ) (name : Option Name) (from : ℕ) (bytes : List ℕ) → waiting_in (writing_named w at name from bytes).world ≤ waiting_in w
-write_waits w at None from bytes = omega arith
-write_waits w at (Some name) from bytes = let h = heap_waits w at (written (heap_in w at) name from bytes).heap in omega arith
-
-read_waits : {sli : ℕ} (w : World sli) (at : ℕ) (name : Option Name) (from n : ℕ) → waiting_in (reading_named w at name from n).world ≤ waiting_in w
-read_waits w at None from n = omega arith
-read_waits w at (Some name) from n = omega arith
-
-resize_waits : {sli : ℕ} (w : World sli) (at : ℕ) (name : Option Name) (len : ℕ) → waiting_in (resizing_named w at name len).world ≤ waiting_in w
-resize_waits w at None len = omega arith
-resize_waits w at (Some name) len = let h = heap_waits w at (resized (heap_in w at) name len).heap in omega arith
+own_waits : {sli : ℕ} (w : World sli) (at : ℕ) (by : HeapState → OwnReplied) → waiting_in (by_own w at by).world ≤ waiting_in w
+own_waits w at by = let h = heap_waits w at (by (heap_in w at)).heap in omega arith
 
 -- a take takes one post out
 took_waits : {sli : ℕ} (w : World sli) (at from : ℕ) (p : Post) (rest : List Post) → at < length w.heaps → from < length w.heaps → w.waiting from at ≡ p ∷ rest
@@ -162,11 +155,11 @@ answered_room r at call a le = let n = length_push r.entries (record { worker = 
 
 called_room : {sli : ℕ} (r : Replayed sli) (at : ℕ) (call : Call) → at < length r.world.heaps
     → length (called r at call).entries + waiting_in (called r at call).world ≤ length r.entries + waiting_in r.world + 1 + later call
-called_room {sli} r at (Allocate len) at_in = answered_room r at (Allocate len) _ (let h = heap_waits r.world at (allocated sli (heap_in r.world at) len).heap in omega arith)
+called_room {sli} r at (Allocate len) at_in = answered_room r at (Allocate len) _ (let h = own_waits r.world at (λ h. own_allocating sli h len) in omega arith)
 called_room {sli} r at (Release target) at_in = answered_room r at (Release target) _ (named_waits r.world at (name_of r.made target) at_in)
-called_room {sli} r at (Write target from bytes) at_in = answered_room r at (Write target from bytes) _ (let h = write_waits r.world at (name_of r.made target) from (bytes_of bytes) in omega arith)
-called_room {sli} r at (Read target from n) at_in = answered_room r at (Read target from n) _ (let h = read_waits r.world at (name_of r.made target) from n in omega arith)
-called_room {sli} r at (Resize target len) at_in = answered_room r at (Resize target len) _ (let h = resize_waits r.world at (name_of r.made target) len in omega arith)
+called_room {sli} r at (Write target from bytes) at_in = answered_room r at (Write target from bytes) _ (let h = own_waits r.world at (λ h. own_writing h (name_of r.made target) from (bytes_of bytes)) in omega arith)
+called_room {sli} r at (Read target from n) at_in = answered_room r at (Read target from n) _ (let h = own_waits r.world at (λ h. own_reading h (name_of r.made target) from n) in omega arith)
+called_room {sli} r at (Resize target len) at_in = answered_room r at (Resize target len) _ (let h = own_waits r.world at (λ h. own_resizing h (name_of r.made target) len) in omega arith)
 called_room {sli} r at (Take from) at_in = answered_room r at (Take from) _ (let h = take_waits r.world at from at_in in omega arith)
 called_room {sli} r at (Drain most) at_in = let a = drain_even r at most at_in in omega arith
 
@@ -193,7 +186,7 @@ pub so_far : {sli : ℕ} (k : ℕ) (es : List Event) (w : World sli) (made : Lis
 so_far k es w made le = let a = all_room k es (resumed w made) le in omega arith
 
 -- what waits for one worker is no more than what waits in the yard
-pub worker_waits : {sli : ℕ} (ws : List (Worker sli)) (at : ℕ) → IsYard ws → sum_below 8 (λ i. length (waits_in ws i at)) ≤ waiting_in (world_of ws)
+pub worker_waits : {sli : ℕ} (ws : List (Worker sli Lanes)) (at : ℕ) → IsYard ws → sum_below 8 (λ i. length (waits_in ws i at)) ≤ waiting_in (world_of ws)
 unfolding world_of waiting_in
 worker_waits ws at yard =
     let n = heaps_count ws in

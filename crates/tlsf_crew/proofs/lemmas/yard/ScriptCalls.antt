@@ -2,7 +2,8 @@
 use Rattle.std.proofs.Common.{[], ◌∷◌, ◌++◌, ◌≡◌, ℕ, ◌+◌, ◌≤◌, List, Option, length, sym, ◌∙◌, ap, arith, refl, append_assoc, append-nil, length-append}
 use Rattle.tlsf_heap.specs.Blocks.{HeapState}
 use Rattle.tlsf_heap.specs.declared.name.Name.{Name}
-use Rattle.tlsf_crew.specs.declared.yard.worker.Worker.{Worker}
+use Rattle.tlsf_crew.specs.declared.worker.Worker.{Worker}
+use Rattle.tlsf_crew.specs.declared.yard.lanes.Lanes.{Lanes}
 use Rattle.tlsf_calls.specs.declared.entry.Entry.{Entry}
 use Rattle.tlsf_calls.specs.declared.call.Call.{Call}
 use Rattle.tlsf_calls.specs.declared.reply.Reply.{Reply}
@@ -20,7 +21,7 @@ answer_told : {sli : ℕ} (at : ℕ) (made : List (Option Name)) (es : List Entr
     → told_by at (answered (record { made = made; entries = es; world = w }) at call x) ≡ record { made = made ++ made_by reply ∷ []; entries = es ++ one at call reply; heap = h }
 answer_told at made es w call reply h x e g = rw (e, g) refl
 
-pub single_stepped : {sli : ℕ} (n : ℕ) (a v : Worker sli) (limits left : List ℕ) (call : Call) (made : List (Option Name)) (es : List Entry) (reply : Reply) (by : World sli → Replied sli) → KnowsYard n a
+pub single_stepped : {sli : ℕ} (n : ℕ) (a v : Worker sli Lanes) (limits left : List ℕ) (call : Call) (made : List (Option Name)) (es : List Entry) (reply : Reply) (by : World sli → Replied sli) → KnowsYard n a
     → ((most : ℕ) → call ≡ Drain most → ⊥) → ((w : World sli) → called (record { made = made; entries = es; world = w }) (id_of a) call ≡ answered (record { made = made; entries = es; world = w }) (id_of a) call (by w))
     → CallStep made a limits call v left reply by → Stepped n a limits call made es v left es reply
 single_stepped {sli} n a v limits left call made es reply by k single is x =
@@ -39,7 +40,7 @@ single_stepped {sli} n a v limits left call made es reply by k single is x =
     }
 
 -- the answer told
-pub step_called : {sli : ℕ} (n : ℕ) (a v : Worker sli) (limits left : List ℕ) (call : Call) (made more : List (Option Name)) (es between longer : List Entry) (at : ℕ) (reply : Reply) → Stepped n a limits call made es v left between reply
+pub step_called : {sli : ℕ} (n : ℕ) (a v : Worker sli Lanes) (limits left : List ℕ) (call : Call) (made more : List (Option Name)) (es between longer : List Entry) (at : ℕ) (reply : Reply) → Stepped n a limits call made es v left between reply
     → at ≡ id_of v → more ≡ made ++ made_by reply ∷ [] → longer ≡ between ++ record { worker = at; call = call; reply = reply } ∷ [] → Called n a limits call made es v left more longer
 step_called n a v limits left call made more es between longer at reply x is e f =
     let m = x.moved [] in
@@ -55,7 +56,7 @@ step_called n a v limits left call made more es between longer at reply x is e f
     }
 
 -- there is room for the own entry
-pub step_room : {sli : ℕ} (n : ℕ) (a v : Worker sli) (limits left : List ℕ) (call : Call) (made : List (Option Name)) (es longer : List Entry) (reply : Reply) → Stepped n a limits call made es v left longer reply
+pub step_room : {sli : ℕ} (n : ℕ) (a v : Worker sli Lanes) (limits left : List ℕ) (call : Call) (made : List (Option Name)) (es longer : List Entry) (reply : Reply) → Stepped n a limits call made es v left longer reply
     → length longer + 1 + sum_of left ≤ length es + 1 + sum_of limits
 step_room n a v limits left call made es longer reply x =
     let last = one (id_of a) call reply in

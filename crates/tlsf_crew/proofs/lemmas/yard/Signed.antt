@@ -8,7 +8,8 @@ use Rattle.tlsf_post.specs.declared.post.Post.{Post}
 use Rattle.tlsf_post.specs.declared.post_end.PostEnd.{PostEnd}
 use Rattle.tlsf_post.specs.declared.take_end.TakeEnd.{TakeEnd}
 use Rattle.tlsf_post.specs.Lanes.{posts_sent, waited, taken}
-use Rattle.tlsf_crew.specs.declared.yard.worker.Worker.{Worker}
+use Rattle.tlsf_crew.specs.declared.worker.Worker.{Worker}
+use Rattle.tlsf_crew.specs.declared.yard.lanes.Lanes.{Lanes}
 use Rattle.tlsf_crew.specs.yard.Workers.{PutTo, TookFrom}
 use Rattle.tlsf_crew.specs.yard.Yard.{post_at, take_at, lane_waits}
 use Rattle.tlsf_crew.specs.yard.LaneSteps.{LaneChange, SameLane}
@@ -18,15 +19,15 @@ abbrev pub AreFrom : ℕ → List Post → Type 0
 AreFrom i posts = All (λ (post : Post). post.from ≡ i) posts
 
 -- so was each that waits in a lane from it
-abbrev pub AreSigned : {sli : ℕ} → List (Worker sli) → Type 0
+abbrev pub AreSigned : {sli : ℕ} → List (Worker sli Lanes) → Type 0
 AreSigned ws = (i j : ℕ) → AreFrom i (lane_waits (post_at ws i j) (take_at ws i j))
 
 -- the same lanes
-pub same_signed : {sli : ℕ} (ws vs : List (Worker sli)) → ((x y : ℕ) → SameLane ws vs x y) → AreSigned ws → AreSigned vs
+pub same_signed : {sli : ℕ} (ws vs : List (Worker sli Lanes)) → ((x y : ℕ) → SameLane ws vs x y) → AreSigned ws → AreSigned vs
 same_signed ws vs same signed i j = let s = same i j in rw (s.0, s.1) (signed i j)
 
 -- one lane changed
-pub changed_signed : {sli : ℕ} (ws vs : List (Worker sli)) (i j : ℕ) (p : PostEnd) (t : TakeEnd) (q : PostEnd) (u : TakeEnd)
+pub changed_signed : {sli : ℕ} (ws vs : List (Worker sli Lanes)) (i j : ℕ) (p : PostEnd) (t : TakeEnd) (q : PostEnd) (u : TakeEnd)
     → LaneChange ws vs i j p t q u → AreFrom i (lane_waits (Some q) (Some u)) → AreSigned ws → AreSigned vs
 changed_signed ws vs i j p t q u c new signed x y =
     elim (cases_eq x i) [
@@ -43,22 +44,22 @@ from_push i (suc n) [] p e all = All-drop (λ (post : Post). post.from ≡ i) n 
 from_push i (suc n) (q ∷ ps) p e all = from_push i n ps p e all
 
 -- after a put
-pub put_signed : {sli : ℕ} (i j : ℕ) (a v : Worker sli) (post : Post) (answer : Result (Unit {0}) Post) → post.from ≡ i → (put : PutTo a v j post answer) → (o : Option TakeEnd)
-    → AreFrom i (lane_waits (Some put.end) o) → AreFrom i (lane_waits (Some put.new_end) o)
+pub put_signed : {sli : ℕ} (i j : ℕ) (a v : Worker sli Lanes) (post : Post) (answer : Result (Unit {0}) Post) → post.from ≡ i → (put : PutTo a v j post answer) → (o : Option TakeEnd)
+    → AreFrom i (lane_waits (Some put.1.end) o) → AreFrom i (lane_waits (Some put.1.new_end) o)
 put_signed i j a v post answer own put None all = all
 put_signed i j a v post (Ok done) own put (Some t) all =
     let n = length (taken t) in
-    let one : waited t ++ posts_sent put.new_end ≡ (waited t ++ posts_sent put.end) ++ post ∷ [] = ap (λ l. waited t ++ l) put.ok.0 ∙ sym (append_assoc (waited t) (posts_sent put.end) (post ∷ [])) in
-    rw one (from_push i n (waited t ++ posts_sent put.end) post own all)
-put_signed i j a v post (Err back) own put (Some t) all = rw put.full.1 all
+    let one : waited t ++ posts_sent put.1.new_end ≡ (waited t ++ posts_sent put.1.end) ++ post ∷ [] = ap (λ l. waited t ++ l) put.1.ok.0 ∙ sym (append_assoc (waited t) (posts_sent put.1.end) (post ∷ [])) in
+    rw one (from_push i n (waited t ++ posts_sent put.1.end) post own all)
+put_signed i j a v post (Err back) own put (Some t) all = rw put.1.full.1 all
 
 -- after a take
-pub take_signed : {sli : ℕ} (i k : ℕ) (a v : Worker sli) (answer : Option Post) (got : TookFrom a v i answer) → (o : Option PostEnd)
-    → AreFrom k (lane_waits o (Some got.end)) → AreFrom k (lane_waits o (Some got.new_end))
+pub take_signed : {sli : ℕ} (i k : ℕ) (a v : Worker sli Lanes) (answer : Option Post) (got : TookFrom a v i answer) → (o : Option PostEnd)
+    → AreFrom k (lane_waits o (Some got.1.end)) → AreFrom k (lane_waits o (Some got.1.new_end))
 take_signed i k a v answer got None all = all
 take_signed i k a v (Some p) got (Some q) all =
-    let n = length (taken got.end) in
-    let more : length (taken got.new_end) ≡ n + 1 = ap length got.some.0 ∙ length_push (taken got.end) p in
-    let ps = waited got.end ++ posts_sent q in
-    rw (got.still, more, ← drop-drop 1 n ps) (All-drop (λ (post : Post). post.from ≡ k) 1 (drop n ps) all)
-take_signed i k a v None got (Some q) all = rw (got.still, got.none) all
+    let n = length (taken got.1.end) in
+    let more : length (taken got.1.new_end) ≡ n + 1 = ap length got.1.some.0 ∙ length_push (taken got.1.end) p in
+    let ps = waited got.1.end ++ posts_sent q in
+    rw (got.1.still, more, ← drop-drop 1 n ps) (All-drop (λ (post : Post). post.from ≡ k) 1 (drop n ps) all)
+take_signed i k a v None got (Some q) all = rw (got.1.still, got.1.none) all

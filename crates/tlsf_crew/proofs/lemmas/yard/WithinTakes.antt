@@ -8,7 +8,8 @@ use Rattle.tlsf_heap.specs.Calls as heap
 use Rattle.tlsf_heap.specs.declared.name.Name.{Name}
 use Rattle.tlsf_post.specs.declared.post.Post.{Post}
 use Rattle.tlsf_post.specs.Lanes.{ready}
-use Rattle.tlsf_crew.specs.declared.yard.worker.Worker.{Worker}
+use Rattle.tlsf_crew.specs.declared.worker.Worker.{Worker}
+use Rattle.tlsf_crew.specs.declared.yard.lanes.Lanes.{Lanes}
 use Rattle.tlsf_calls.specs.declared.entry.Entry.{Entry}
 use Rattle.tlsf_calls.specs.declared.call.Call.{Call}
 use Rattle.tlsf_calls.specs.declared.call.Call.TheVariants.{Take}
@@ -17,11 +18,12 @@ use Rattle.tlsf_calls.specs.declared.reply.Reply.TheVariants.{Took as Taken, Emp
 use Rattle.tlsf_calls.specs.declared.crew_refusal.CrewRefusal.TheVariants.{Stranger}
 use Rattle.tlsf_crew.specs.yard.Heaps.{released}
 use Rattle.tlsf_crew.specs.yard.Workers.{heap_of, id_of, TookFrom, KnowsYard}
-use Rattle.tlsf_crew.specs.yard.Calls.{AfterTake, TakenFrom}
+use Rattle.tlsf_crew.specs.yard.Calls.{AfterTake, TakenFromLane}
 use Rattle.tlsf_crew.specs.yard.Told.{HasHeap}
 use Rattle.tlsf_crew.specs.yard.World.{World, heap_in, taking, taking_next, took, took_first}
 use Rattle.tlsf_crew.specs.yard.ReplaySteps.{reply_took}
 use Rattle.tlsf_crew.specs.yard.Moves.{one, Spent, Moved, ModelReplies, CallStep, TookWithin, took_by}
+use Rattle.tlsf_crew.proofs.lemmas.yard.SameParts.{ports_heap}
 use Rattle.tlsf_crew.proofs.lemmas.yard.YardKept.{heap_keeps, same_keeps}
 use Rattle.tlsf_crew.proofs.lemmas.yard.LaneMoves.{moved_take, spent_none, still_empty}
 use Rattle.tlsf_crew.specs.yard.Notes.{OneFewer}
@@ -44,26 +46,26 @@ no_limit : {A : Type 0} (n : ℕ) (xs : List A) → n ≡ 0 → IsPrefix (take n
 no_limit n xs e = rw e ([], refl)
 
 -- none may be taken any more
-pub within_none : {sli : ℕ} (a : Worker sli) (limits : List ℕ) (from : ℕ) → slice_index limits from ≡ 0 → TookWithin a limits from a limits None
+pub within_none : {sli : ℕ} (a : Worker sli Lanes) (limits : List ℕ) (from : ℕ) → slice_index limits from ≡ 0 → TookWithin a limits from a limits None
 within_none a limits from e = (
-  λ made. moved_still (id_of a) made a a limits (still_heap (id_of a) a a (refl, refl, refl) (same_keeps a)),
+  λ made. moved_still (id_of a) made a a limits (still_heap (id_of a) a a (refl, refl) (same_keeps a)),
   refl,
   λ t is. no_limit (slice_index limits from) (ready t) e,
 )
 
-none_case : {sli : ℕ} (a b v : Worker sli) (limits : List ℕ) (from : ℕ) (post : Option Post) → TookFrom a b from post → AfterTake b v post (Ok None) → TookWithin a limits from v limits None
+none_case : {sli : ℕ} (a b v : Worker sli Lanes) (limits : List ℕ) (from : ℕ) (post : Option Post) → TookFrom a b from post → AfterTake b v post None → TookWithin a limits from v limits None
 none_case a b v limits from None lane then = (
   λ made. moved_still (id_of a) made a v limits (subst (Still (id_of a) a) (sym then.1) (still_empty (id_of a) a b from lane)),
-  ap heap_of then.1 ∙ lane.same.0,
+  ap heap_of then.1 ∙ (ports_heap a b lane.0),
   spent_none (id_of a) a b limits from lane,
 )
 none_case a b v limits from (Some p) lane then = let e = then.0 in absurd cc
 
 -- the lane showed none
-pub within_empty : {sli : ℕ} (a v : Worker sli) (limits : List ℕ) (from : ℕ) → TakenFrom a v from (Ok None) → TookWithin a limits from v limits None
-within_empty a v limits from t = none_case a t.between v limits from t.post t.lane t.then
+pub within_empty : {sli : ℕ} (a v : Worker sli Lanes) (limits : List ℕ) (from : ℕ) → TakenFromLane a v from None → TookWithin a limits from v limits None
+within_empty a v limits from t = none_case a t.between v limits from t.post t.took t.then
 
-some_case : {sli : ℕ} (a b v : Worker sli) (limits left : List ℕ) (from : ℕ) (post : Option Post) (took : Took) → from < 8 → OneFewer limits from left → TookFrom a b from post → AfterTake b v post (Ok (Some took))
+some_case : {sli : ℕ} (a b v : Worker sli Lanes) (limits left : List ℕ) (from : ℕ) (post : Option Post) (took : Took) → from < 8 → OneFewer limits from left → TookFrom a b from post → AfterTake b v post (Some took)
     → TookWithin a limits from v left (Some took)
 unfolding released
 some_case a b v limits left from None took near fewer lane then = let e = then.0 in absurd cc
@@ -77,16 +79,16 @@ some_case a b v limits left from (Some p) took near fewer lane then =
           let all = moved_then at made a b v limits left left [] [] (one at (Take from) (Taken x)) [] first (moved_still at made b v left (still_heap at b v then.2 yard)) in
           subst (λ y. Moved at made a limits [] (one at (Take from) (Taken y)) v left) (sym e) all,
       p,
-      e ∙ ap (λ h. took_by h p) lane.same.0,
-      then.1 ∙ ap (λ h. (heap.released h p.name).heap) lane.same.0,
+      e ∙ ap (λ h. took_by h p) (ports_heap a b lane.0),
+      then.1 ∙ ap (λ h. (heap.released h p.name).heap) (ports_heap a b lane.0),
     )
 
-pub within_some : {sli : ℕ} (a v : Worker sli) (limits left : List ℕ) (from : ℕ) (took : Took) → from < 8 → OneFewer limits from left → TakenFrom a v from (Ok (Some took)) → TookWithin a limits from v left (Some took)
-within_some a v limits left from took near fewer t = some_case a t.between v limits left from t.post took near fewer t.lane t.then
+pub within_some : {sli : ℕ} (a v : Worker sli Lanes) (limits left : List ℕ) (from : ℕ) (took : Took) → from < 8 → OneFewer limits from left → TakenFromLane a v from (Some took) → TookWithin a limits from v left (Some took)
+within_some a v limits left from took near fewer t = some_case a t.between v limits left from t.post took near fewer t.took t.then
 
 -- ---- a take of its own
 
-refused_take : {sli : ℕ} (at from : ℕ) (later : List (Option Name)) (a : Worker sli) (limits : List ℕ) → IsIdle at later a limits [] (record { worker = at; call = Take from; reply = Refused Stranger })
+refused_take : {sli : ℕ} (at from : ℕ) (later : List (Option Name)) (a : Worker sli Lanes) (limits : List ℕ) → IsIdle at later a limits [] (record { worker = at; call = Take from; reply = Refused Stranger })
 refused_take at from later a limits = record {
   posts = record { made_none = λ j. refl; taken_none = λ i. refl };
   full = λ name p e. cc;
@@ -94,7 +96,7 @@ refused_take at from later a limits = record {
   drained = λ most k i e. cc;
 }
 
-pub take_stranger : {sli : ℕ} (made : List (Option Name)) (n : ℕ) (a : Worker sli) (limits : List ℕ) (from : ℕ) → KnowsYard n a → (from ≡ id_of a) ⊎ (n ≤ from)
+pub take_stranger : {sli : ℕ} (made : List (Option Name)) (n : ℕ) (a : Worker sli Lanes) (limits : List ℕ) (from : ℕ) → KnowsYard n a → (from ≡ id_of a) ⊎ (n ≤ from)
     → CallStep made a limits (Take from) a limits (Refused Stranger) (λ w. taking w (id_of a) from)
 take_stranger made n a limits from known away =
     itself_answered made a limits (Take from) (Refused Stranger) (λ w. taking w (id_of a) from) (λ later. refused_take (id_of a) from later a limits)
@@ -109,7 +111,7 @@ take_stranger made n a limits from known away =
       ]
     ])
 
-empty_idle : {sli : ℕ} (at from : ℕ) (later : List (Option Name)) (a : Worker sli) (limits : List ℕ) → Spent a limits at from [] → IsIdle at later a limits [] (record { worker = at; call = Take from; reply = Empty })
+empty_idle : {sli : ℕ} (at from : ℕ) (later : List (Option Name)) (a : Worker sli Lanes) (limits : List ℕ) → Spent a limits at from [] → IsIdle at later a limits [] (record { worker = at; call = Take from; reply = Empty })
 empty_idle at from later a limits spent = record {
   posts = record { made_none = λ j. refl; taken_none = λ i. refl };
   full = λ name p e. cc;
@@ -118,7 +120,7 @@ empty_idle at from later a limits spent = record {
 }
 
 -- one call more than what the entries tell
-more_calls : {sli : ℕ} (at : ℕ) (made : List (Option Name)) (a v : Worker sli) (limits left : List ℕ) (call : Call) (entries : List Entry) → Moved at made a limits [] entries v left → Moved at made a limits (call ∷ []) entries v left
+more_calls : {sli : ℕ} (at : ℕ) (made : List (Option Name)) (a v : Worker sli Lanes) (limits left : List ℕ) (call : Call) (entries : List Entry) → Moved at made a limits [] entries v left → Moved at made a limits (call ∷ []) entries v left
 more_calls at made a v limits left call entries m = record {
   yard = m.yard;
   numbers = m.numbers;
@@ -138,17 +140,17 @@ unfolding taking_next
 first_world w at from posts e = ap (took_first w at from) e
 
 -- a lane that is there for one count of workers is there for the other
-is_near : {sli : ℕ} (n m : ℕ) (a : Worker sli) (from : ℕ) → KnowsYard n a → KnowsYard m a → from ≢ id_of a → from < n → from < m
+is_near : {sli : ℕ} (n m : ℕ) (a : Worker sli Lanes) (from : ℕ) → KnowsYard n a → KnowsYard m a → from ≢ id_of a → from < n → from < m
 is_near n m a from known k ne lt = let x = (k.from from).0 ((known.from from).1 (lt, ne)) in x.0
 
-took_world : {sli : ℕ} (n : ℕ) (a v : Worker sli) (from : ℕ) (p : Post) (rest : List Post) (w : World sli) → heap_of v ≡ (released (heap_of a) p.name).heap → id_of a < n → HasHeap w n (id_of a) (heap_of a)
+took_world : {sli : ℕ} (n : ℕ) (a v : Worker sli Lanes) (from : ℕ) (p : Post) (rest : List Post) (w : World sli) → heap_of v ≡ (released (heap_of a) p.name).heap → id_of a < n → HasHeap w n (id_of a) (heap_of a)
     → ModelReplies (id_of a) v (Taken (took_by (heap_of a) p)) (took w (id_of a) from p rest)
 took_world n a v from p rest w h lt has = record {
   reply = ap (λ g. Taken (took_by g p)) (sym has.1);
   left = h ∙ (ap (λ g. (released g p.name).heap) (sym has.1) ∙ sym (heap_left n (id_of a) w (heap_of a) (released (heap_in w (id_of a)) p.name).heap lt has));
 }
 
-pub take_answered : {sli : ℕ} (made : List (Option Name)) (n : ℕ) (a v : Worker sli) (limits left : List ℕ) (from : ℕ) (answer : Option Took) → KnowsYard n a → from ≢ id_of a → from < n → TookWithin a limits from v left answer
+pub take_answered : {sli : ℕ} (made : List (Option Name)) (n : ℕ) (a v : Worker sli Lanes) (limits left : List ℕ) (from : ℕ) (answer : Option Took) → KnowsYard n a → from ≢ id_of a → from < n → TookWithin a limits from v left answer
     → CallStep made a limits (Take from) v left (reply_took answer) (λ w. taking w (id_of a) from)
 take_answered made n a v limits left from None known ne lt t = record {
   told = λ m k w has s.

@@ -2,11 +2,11 @@
 use Rattle.std.proofs.Common.{[], ◌∷◌, ◌++◌, ◌≡◌, ℕ, ◌<◌, List, Option, Result, Ok, Err, length, set, sym, ◌∙◌, ap, arith, refl, subst, replicate}
 use Rattle.std.proofs.lemmas.List.{length-set, length-replicate, get_or-set_same}
 use Rattle.tlsf_heap.specs.Blocks.{HeapState}
-use Rattle.tlsf_heap.specs.Calls as heap
 use Rattle.tlsf_heap.specs.declared.name.Name.{Name}
 use Rattle.tlsf_heap.specs.declared.refusal.Refusal.{Refusal}
 use Rattle.tlsf_post.specs.declared.post.Post.{Post}
-use Rattle.tlsf_crew.specs.declared.yard.worker.Worker.{Worker}
+use Rattle.tlsf_crew.specs.declared.worker.Worker.{Worker}
+use Rattle.tlsf_crew.specs.declared.yard.lanes.Lanes.{Lanes}
 use Rattle.tlsf_calls.specs.declared.call.Call.{Call}
 use Rattle.tlsf_calls.specs.declared.call.Call.TheVariants.{Allocate}
 use Rattle.tlsf_calls.specs.declared.reply.Reply.{Reply}
@@ -18,7 +18,8 @@ use Rattle.tlsf_crew.specs.yard.Workers.{heap_of, id_of, SameButHeap, KnowsYard}
 use Rattle.tlsf_crew.specs.yard.Calls.{KeepsYards, by_heap}
 use Rattle.tlsf_crew.specs.yard.Yard.{no_heap}
 use Rattle.tlsf_crew.specs.yard.Told.{HasHeap}
-use Rattle.tlsf_crew.specs.yard.World.{World, Replied, heap_in, with_heap, allocating, reply_made}
+use Rattle.tlsf_crew.specs.yard.OwnReplies.{OwnReplied, own_allocating}
+use Rattle.tlsf_crew.specs.yard.World.{World, Replied, by_own, heap_in, with_heap, allocating, reply_made}
 use Rattle.tlsf_crew.specs.yard.Moves.{Suits, ModelReplies, RepliesAsModel, CallStep}
 use Rattle.tlsf_crew.proofs.lemmas.yard.OneEntry.{IsIdle, moved_still, moved_idle, still_heap}
 
@@ -46,7 +47,7 @@ room_of (Refused (Full name)) = 0
 room_of reply = 1
 
 -- a world that suits
-pub a_suit : {sli : ℕ} (n : ℕ) (a : Worker sli) (made : List (Option Name)) (call : Call) (reply : Reply) → id_of a < n → (w : World sli) × HasHeap w n (id_of a) (heap_of a) × Suits w (id_of a) made call reply
+pub a_suit : {sli : ℕ} (n : ℕ) (a : Worker sli Lanes) (made : List (Option Name)) (call : Call) (reply : Reply) → id_of a < n → (w : World sli) × HasHeap w n (id_of a) (heap_of a) × Suits w (id_of a) made call reply
 unfolding posts_of room_of
 a_suit {sli} n a made call reply lt = (
   a_world n (id_of a) (heap_of a) (λ i. posts_of reply) (room_of reply),
@@ -65,7 +66,7 @@ a_suit {sli} n a made call reply lt = (
 -- ---- a call on the own heap
 
 -- an entry that tells of no lane, by a worker whose heap alone may have changed
-pub answered_quiet : {sli : ℕ} (made : List (Option Name)) (a v : Worker sli) (limits : List ℕ) (call : Call) (reply : Reply) (by : World sli → Replied sli) → SameButHeap a v → KeepsYards a v
+pub answered_quiet : {sli : ℕ} (made : List (Option Name)) (a v : Worker sli Lanes) (limits : List ℕ) (call : Call) (reply : Reply) (by : World sli → Replied sli) → SameButHeap a v → KeepsYards a v
     → ((later : List (Option Name)) → IsIdle (id_of a) later a limits [] (record { worker = id_of a; call = call; reply = reply }))
     → RepliesAsModel made a call v reply by → CallStep made a limits call v limits reply by
 answered_quiet made a v limits call reply by same yard idle told = record {
@@ -73,10 +74,26 @@ answered_quiet made a v limits call reply by same yard idle told = record {
   moved = λ rest. moved_idle (id_of a) (made ++ rest) a v limits limits [] _ call (moved_still (id_of a) (made ++ rest) a v limits (still_heap (id_of a) a v same yard)) (idle (made ++ rest));
 }
 
+-- what the own heap replies, as in a world in which its worker has it
+pub own_here : {sli : ℕ} (n : ℕ) (a v : Worker sli Lanes) (by : HeapState → OwnReplied) → heap_of v ≡ (by (heap_of a)).heap → KnowsYard n a → (w : World sli) → HasHeap w n (id_of a) (heap_of a)
+    → ModelReplies (id_of a) v (by (heap_of a)).reply (by_own w (id_of a) by)
+own_here n a v by h k w has = record {
+  reply = ap (λ g. (by g).reply) (sym has.1);
+  left = h ∙ (ap (λ g. (by g).heap) (sym has.1) ∙ sym (heap_left n (id_of a) w (heap_of a) (by (heap_in w (id_of a))).heap k.self has));
+}
+
+pub own_answered : {sli : ℕ} (made : List (Option Name)) (a v : Worker sli Lanes) (limits : List ℕ) (call : Call) (reply : Reply) (by : HeapState → OwnReplied) → SameButHeap a v → KeepsYards a v
+    → ((later : List (Option Name)) → IsIdle (id_of a) later a limits [] (record { worker = id_of a; call = call; reply = (by (heap_of a)).reply }))
+    → reply ≡ (by (heap_of a)).reply → heap_of v ≡ (by (heap_of a)).heap
+    → CallStep made a limits call v limits reply (λ w. by_own w (id_of a) by)
+own_answered made a v limits call reply by same yard idle e h =
+    subst (λ r. CallStep made a limits call v limits r (λ w. by_own w (id_of a) by)) (sym e)
+    (answered_quiet made a v limits call (by (heap_of a)).reply (λ w. by_own w (id_of a) by) same yard idle (λ n k w has s. own_here n a v by h k w has))
+
 -- ---- allocate
 
 -- The replies stand here as constructors: where one has to be computed from a result, `cc` takes seconds.
-made_quiet : {sli : ℕ} (at len : ℕ) (later : List (Option Name)) (a : Worker sli) (limits : List ℕ) (name : Name)
+made_quiet : {sli : ℕ} (at len : ℕ) (later : List (Option Name)) (a : Worker sli Lanes) (limits : List ℕ) (name : Name)
     → IsIdle at later a limits [] (record { worker = at; call = Allocate len; reply = Made name })
 made_quiet at len later a limits name = record {
   posts = record { made_none = λ j. refl; taken_none = λ i. refl };
@@ -85,7 +102,7 @@ made_quiet at len later a limits name = record {
   drained = λ most k i e. cc;
 }
 
-refused_quiet : {sli : ℕ} (at len : ℕ) (later : List (Option Name)) (a : Worker sli) (limits : List ℕ) (why : Refusal)
+refused_quiet : {sli : ℕ} (at len : ℕ) (later : List (Option Name)) (a : Worker sli Lanes) (limits : List ℕ) (why : Refusal)
     → IsIdle at later a limits [] (record { worker = at; call = Allocate len; reply = Refused (Heap why) })
 refused_quiet at len later a limits why = record {
   posts = record { made_none = λ j. refl; taken_none = λ i. refl };
@@ -94,29 +111,17 @@ refused_quiet at len later a limits why = record {
   drained = λ most k i e. cc;
 }
 
-made_idle : {sli : ℕ} (at len : ℕ) (later : List (Option Name)) (a : Worker sli) (limits : List ℕ) (r : Result Name Refusal)
+made_idle : {sli : ℕ} (at len : ℕ) (later : List (Option Name)) (a : Worker sli Lanes) (limits : List ℕ) (r : Result Name Refusal)
     → IsIdle at later a limits [] (record { worker = at; call = Allocate len; reply = reply_made r })
 made_idle at len later a limits (Ok name) = made_quiet at len later a limits name
 made_idle at len later a limits (Err why) = refused_quiet at len later a limits why
 
-allocated_here : {sli : ℕ} (n len : ℕ) (a v : Worker sli) → heap_of v ≡ (heap.allocated sli (heap_of a) len).heap → KnowsYard n a → (w : World sli) → HasHeap w n (id_of a) (heap_of a)
-    → ModelReplies (id_of a) v (reply_made (heap.allocated sli (heap_of a) len).answer) (allocating w (id_of a) len)
-unfolding allocated
-allocated_here {sli} n len a v h k w has =
-    let at = id_of a in
-    record {
-      reply = ap (λ g. reply_made (heap.allocated sli g len).answer) (sym has.1);
-      left = h ∙ (ap (λ g. (heap.allocated sli g len).heap) (sym has.1) ∙ sym (heap_left n at w (heap_of a) (heap.allocated sli (heap_in w at) len).heap k.self has));
-    }
-
-pub allocate_answered : {sli : ℕ} (made : List (Option Name)) (a v : Worker sli) (limits : List ℕ) (len : ℕ) (reply : Reply) → SameButHeap a v → KeepsYards a v
-    → reply ≡ reply_made (heap.allocated sli (heap_of a) len).answer → heap_of v ≡ (heap.allocated sli (heap_of a) len).heap
+pub allocate_answered : {sli : ℕ} (made : List (Option Name)) (a v : Worker sli Lanes) (limits : List ℕ) (len : ℕ) (reply : Reply) → SameButHeap a v → KeepsYards a v
+    → reply ≡ (own_allocating sli (heap_of a) len).reply → heap_of v ≡ (own_allocating sli (heap_of a) len).heap
     → CallStep made a limits (Allocate len) v limits reply (λ w. allocating w (id_of a) len)
 allocate_answered {sli} made a v limits len reply same yard e h =
-    let o = (heap.allocated sli (heap_of a) len).answer in
-    subst (λ r. CallStep made a limits (Allocate len) v limits r (λ w. allocating w (id_of a) len)) (sym e)
-    (answered_quiet made a v limits (Allocate len) (reply_made o) (λ w. allocating w (id_of a) len) same yard (λ later. made_idle (id_of a) len later a limits o)
-    (λ n k w has s. allocated_here n len a v h k w has))
+    own_answered made a v limits (Allocate len) reply (λ g. own_allocating sli g len) same yard
+    (λ later. made_idle (id_of a) len later a limits (allocated sli (heap_of a) len).answer) e h
 
 pub made_ok : (o : Result Name Refusal) (name : Name) → Ok name ≡ by_heap o → Made name ≡ reply_made o
 made_ok (Ok x) name e = let q : name ≡ x = cc in ap Made q

@@ -2,7 +2,8 @@ use Rattle.std.proofs.Common.{◌≡◌, ◌<◌, ◌+◌, ◌-◌, ◌∙◌, �
 use Rattle.std.proofs.lemmas.Grind.{common_steps}
 use Rattle.std.proofs.lemmas.List.{length-set}
 use Rattle.std.proofs.lemmas.Option.{slice_get-get_or}
-use Rattle.tlsf_crew.specs.declared.queues.queue_worker.QueueWorker.{QueueWorker}
+use Rattle.tlsf_crew.specs.declared.worker.Worker.{Worker}
+use Rattle.tlsf_crew.specs.declared.queues.queues.Queues.{Queues}
 use Rattle.tlsf_crew.specs.queues.QueueOpening.{GaveEnds}
 use Rattle.tlsf_crew.proofs.lemmas.queues.QueueOpened.{end_left, gave_none, gave_own, gave_more, last_end, own_numbers, popped_none, slots_set}
 use Rattle.tlsf_crew.proofs.queues.queue_opening.give_ends.Goals as goal
@@ -32,8 +33,8 @@ put_end-requires g c =
     let ws = c.loop-i.workers in
     let i = c.loop-i.i - 1 in
     let inside : i < length ws = omega (arith, c.loop-i.invariant.inside) in
-    let a : QueueWorker g.row.SLI = get_or ws i c.index-workers-i.result in
-    (omega arith, omega (arith, a.posts.ok, c.loop-i.invariant.slots i a c.if-i-j.false (slice_get-get_or ws i c.index-workers-i.result inside)))
+    let a : Worker g.row.SLI Queues = get_or ws i c.index-workers-i.result in
+    (omega arith, omega (arith, a.ports.posts.ok, c.loop-i.invariant.slots i a c.if-i-j.false (slice_get-get_or ws i c.index-workers-i.result inside)))
 
 pub loop-i-preserved : goal.loop-i-preserved
 loop-i-preserved g c =
@@ -42,11 +43,11 @@ loop-i-preserved g c =
     let next : c.loop-i.i ≡ i + 1 = omega arith in
     let before = c.loop-i.invariant in
     let inside : i < length ws = omega (arith, before.inside) in
-    let a : QueueWorker g.row.SLI = get_or ws i c.index-workers-i.result in
+    let a : Worker g.row.SLI Queues = get_or ws i c.index-workers-i.result in
     let at = slice_get-get_or ws i c.index-workers-i.result inside in
     let last = last_end c.args.j i c.loop-i.i c.loop-i.posters.items _ c.in-Some.end next c.if-i-j.false c.in-Some.ensures.items before.numbers in
     let v = c.put_end.new.worker in
-    let len : length v.posts.items ≡ length a.posts.items = ap length c.put_end.ensures.posts ∙ length-set a.posts.items c.args.j _ in
+    let len : length v.ports.posts.items ≡ length a.ports.posts.items = ap length c.put_end.ensures.posts ∙ length-set a.ports.posts.items c.args.j _ in
     record {
       inside = omega (arith, length-set ws i v, before.inside);
       slots = slots_set ws i c.args.j a v at len before.slots;

@@ -1,6 +1,7 @@
 use Rattle.std.proofs.Common.{◌≡◌, ◌≤◌, List, length, map, vec_capacity}
 use Rattle.tlsf_post.specs.Mailboxes.{number_of, below_but}
-use Rattle.tlsf_crew.specs.declared.queues.queue_worker.QueueWorker.{QueueWorker}
+use Rattle.tlsf_crew.specs.declared.worker.Worker.{Worker}
+use Rattle.tlsf_crew.specs.declared.queues.queues.Queues.{Queues}
 use Rattle.tlsf_crew.specs.queues.QueueOpening.{GaveEnds, HaveSlotsFor}
 use Rattle.tlsf_crew.proofs.queues.queue_opening.give_ends.Given as goal
 
@@ -10,7 +11,7 @@ invariant-loop-i g l = record {
   inside : l.i ≤ length l.workers;
   slots : HaveSlotsFor l.j l.workers;
   numbers : map number_of l.posters.items ≡ below_but l.j l.i;
-  rest : (vs : List (QueueWorker g.row.SLI)) → GaveEnds l.workers l.j l.i l.posters.items vs → GaveEnds l.fn.workers l.j l.k l.fn.posters.items vs;
+  rest : (vs : List (Worker g.row.SLI Queues)) → GaveEnds l.workers l.j l.i l.posters.items vs → GaveEnds l.fn.workers l.j l.k l.fn.posters.items vs;
   capacity : vec_capacity l.posters ≡ vec_capacity l.fn.posters;
 }
 

@@ -7,25 +7,25 @@ pub drain_all-requires : goal.drain_all-requires
 drain_all-requires g c = (
   omega arith,
   (
-    each_knows_some c.settle_queues.new.workers c.settle_queues.ensures.settled.yard,
-    (omega (arith, c.requires.count, c.settle_queues.ensures.settled.count), omega arith),
+    each_knows_some c.settle_each_queue.new.workers c.settle_each_queue.ensures.settled.yard,
+    (omega (arith, c.requires.count, c.settle_each_queue.ensures.settled.count), omega arith),
   ),
 )
 
-pub settle_queues-requires-2 : goal.settle_queues-requires-2
-settle_queues-requires-2 g c = (
+pub settle_each_queue-requires-2 : goal.settle_each_queue-requires-2
+settle_each_queue-requires-2 g c = (
   omega arith,
   (
-    drained_yard c.settle_queues.new.workers _ _ c.drain_all.new.workers c.settle_queues.ensures.settled.yard c.drain_all.ensures,
+    drained_yard c.settle_each_queue.new.workers _ _ c.drain_all.new.workers c.settle_each_queue.ensures.settled.yard c.drain_all.ensures,
     omega arith,
   ),
 )
 
 pub returns : goal.returns
 returns g c = record {
-  met = c.settle_queues.new.workers;
+  met = c.settle_each_queue.new.workers;
   emptied = c.drain_all.new.workers;
-  first = c.settle_queues.ensures.settled;
+  first = c.settle_each_queue.ensures.settled;
   drained = c.drain_all.ensures;
-  last = c.settle_queues-2.ensures.settled;
+  last = c.settle_each_queue-2.ensures.settled;
 }

@@ -9,9 +9,9 @@ use Rattle.tlsf_crew.proofs.queues.queue_race.race_queues.Goals as goal
 
 pub finish-requires : goal.finish-requires
 finish-requires g c =
-    let ws = c.settle_queues.new.workers in
+    let ws = c.settle_each_queue.new.workers in
     let out = c.in_ok-outcome.outcome in
-    let settled = c.settle_queues.ensures.settled in
+    let settled = c.settle_each_queue.ensures.settled in
     let first = written_back c.args.workers.len ws c.args.workers.items (omega (arith, settled.count, c.deref_mut.ensures.len)) in
     let run = rw first at c.in_ok-outcome.ensures.run in
     let told = length-map out.records.items (λ (r : Vec Entry Global). r.items) in
@@ -25,7 +25,7 @@ finish-requires g c =
           omega (arith, count, records, told),
           (
             c.in_ok-outcome.ensures.places,
-            omega (arith, count, settled.count, c.settle_queues.ensures.capacity, c.deref_mut.ensures.len, c.in_ok-posters.ensures.capacity, out.workers.ok, c.args.workers.ok),
+            omega (arith, count, settled.count, c.settle_each_queue.ensures.capacity, c.deref_mut.ensures.len, c.in_ok-posters.ensures.capacity, out.workers.ok, c.args.workers.ok),
           ),
         ),
       ),
@@ -34,9 +34,9 @@ finish-requires g c =
 pub returns : goal.returns
 returns g c =
     let zs = c.deref_mut.result.now in
-    let ws = c.settle_queues.new.workers in
+    let ws = c.settle_each_queue.new.workers in
     let out = c.in_ok-outcome.outcome in
-    let settled = c.settle_queues.ensures.settled in
+    let settled = c.settle_each_queue.ensures.settled in
     let done = rw (c.deref_mut-2.ensures.value, c.deref_mut-3.ensures.value) at c.finish.ensures in
     let first = written_back c.args.workers.len ws c.args.workers.items (omega (arith, settled.count, c.deref_mut.ensures.len)) in
     let run = rw first at c.in_ok-outcome.ensures.run in

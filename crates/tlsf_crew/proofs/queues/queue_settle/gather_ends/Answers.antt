@@ -1,7 +1,8 @@
 use Rattle.std.proofs.Common.{◌≡◌, ◌<◌, ◌≤◌, ◌∙◌, ℕ, Some, length, get_or, ap, arith, inl, refl, subst, sym}
 use Rattle.std.specs.List.{slice_get}
 use Rattle.std.proofs.lemmas.Option.{slice_get-get_or}
-use Rattle.tlsf_crew.specs.declared.queues.queue_worker.QueueWorker.{QueueWorker}
+use Rattle.tlsf_crew.specs.declared.worker.Worker.{Worker}
+use Rattle.tlsf_crew.specs.declared.queues.queues.Queues.{Queues}
 use Rattle.tlsf_crew.specs.queues.QueueSettle.{Gathered}
 use Rattle.tlsf_crew.proofs.lemmas.queues.QueueOpened.{some_at}
 use Rattle.tlsf_crew.proofs.lemmas.queues.QueueSettled.{gathered_none, gathered_more, gathered_own, own_end, slot_there}
@@ -17,10 +18,10 @@ gather_end-requires g c = (
   (
     let whole = c.loop-i.invariant.gathered in
         let inside : c.loop-i.i < length c.loop-i.workers = omega (arith, whole.count) in
-        let a : QueueWorker g.row.SLI = get_or c.loop-i.workers c.loop-i.i c.index-workers-i.result in
+        let a : Worker g.row.SLI Queues = get_or c.loop-i.workers c.loop-i.i c.index-workers-i.result in
         let le : c.loop-i.i ≤ c.loop-i.i = omega arith in
         let at : slice_get c.args.workers.now c.loop-i.i ≡ Some a = sym (whole.same c.loop-i.i (inl le)) ∙ slice_get-get_or c.loop-i.workers c.loop-i.i c.index-workers-i.result inside in
-        omega (arith, a.posts.ok, slot_there c.args.workers.now c.loop-i.i c.args.j a c.requires.yard at c.requires.inside c.if-i-j.true),
+        omega (arith, a.ports.posts.ok, slot_there c.args.workers.now c.loop-i.i c.args.j a c.requires.yard at c.requires.inside c.if-i-j.true),
     omega (arith, c.loop-i.invariant.few, c.loop-i.invariant.capacity, c.requires.room.1),
   ),
 )

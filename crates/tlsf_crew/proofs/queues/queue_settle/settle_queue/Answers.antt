@@ -1,7 +1,8 @@
 use Rattle.std.proofs.Common.{◌∙◌, ℕ, get_or, set, arith, subst, sym}
 use Rattle.std.proofs.lemmas.List.{length-set}
 use Rattle.tlsf_post.specs.Mailboxes.{IsWhole, below_but}
-use Rattle.tlsf_crew.specs.declared.queues.queue_worker.QueueWorker.{QueueWorker}
+use Rattle.tlsf_crew.specs.declared.worker.Worker.{Worker}
+use Rattle.tlsf_crew.specs.declared.queues.queues.Queues.{Queues}
 use Rattle.tlsf_crew.specs.queues.QueueOpening.{GaveEnds}
 use Rattle.tlsf_crew.proofs.lemmas.queues.QueueSettled.{ends_whole, numbers_still, owner_there, queue_settled, slots_still}
 use Rattle.tlsf_crew.proofs.queues.queue_settle.settle_queue.Goals as goal
@@ -14,8 +15,8 @@ pub meet_owner-requires : goal.meet_owner-requires
 meet_owner-requires g c = (
   omega arith,
   let whole = c.gather_ends.ensures.gathered in
-      let b : QueueWorker g.row.SLI = get_or c.gather_ends.new.workers c.args.j c.index-workers-j.result in
-      subst (IsWhole b.own) (sym whole.ends) (ends_whole c.args.workers.now c.args.j b c.requires.yard (owner_there _ _ _ _ c.index-workers-j.result whole c.requires.inside)),
+      let b : Worker g.row.SLI Queues = get_or c.gather_ends.new.workers c.args.j c.index-workers-j.result in
+      subst (IsWhole b.ports.own) (sym whole.ends) (ends_whole c.args.workers.now c.args.j b c.requires.yard (owner_there _ _ _ _ c.index-workers-j.result whole c.requires.inside)),
 )
 
 pub give_ends-requires : goal.give_ends-requires
@@ -27,7 +28,7 @@ give_ends-requires g c = (
       slots_still c.args.workers.now c.gather_ends.new.workers c.args.j c.meet_owner.new.worker _ c.requires.yard c.requires.inside c.gather_ends.ensures.gathered,
       let us = c.gather_ends.new.workers in
           let whole = c.gather_ends.ensures.gathered in
-          let b : QueueWorker g.row.SLI = get_or us c.args.j c.index-workers-j.result in
+          let b : Worker g.row.SLI Queues = get_or us c.args.j c.index-workers-j.result in
           let len = sym (length-set us c.args.j c.meet_owner.new.worker ∙ whole.count) in
           numbers_still c.args.workers.now c.args.j b c.meet_owner.new.worker _ _ c.requires.yard (owner_there _ _ _ _ c.index-workers-j.result whole c.requires.inside) c.meet_owner.ensures.met ∙ (λ t. below_but c.args.j (len t)),
     ),
@@ -40,7 +41,7 @@ returns-clause-settled g c =
     let w = c.meet_owner.new.worker in
     let qs = c.meet_owner.new.posters.items in
     let whole = c.gather_ends.ensures.gathered in
-    let b : QueueWorker g.row.SLI = get_or us c.args.j c.index-workers-j.result in
+    let b : Worker g.row.SLI Queues = get_or us c.args.j c.index-workers-j.result in
     let len = length-set us c.args.j w ∙ whole.count in
     queue_settled c.args.workers.now us c.args.j b w c.gather_ends.new.posters.items qs c.give_ends.new.workers (record {
       yard = c.requires.yard;

@@ -6,4 +6,4 @@ use Rattle.tlsf_crew.proofs.yard.executor.reply_to_write.Goals as goal
 pub returns : goal.returns
 returns g c = λ limits.
     let e = c.reply_to_own_write.ensures in
-    write_by_target c.args.made.now c.args.worker.now _ limits c.args.target c.args.from c.args.bytes _ (name_of c.args.made.now c.args.target) refl (refl, refl, refl) e.reply e.heap
+    write_by_target c.args.made.now c.args.worker.now _ limits c.args.target c.args.from c.args.bytes _ (name_of c.args.made.now c.args.target) refl e.same e.reply e.heap

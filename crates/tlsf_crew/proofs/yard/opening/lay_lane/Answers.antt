@@ -1,7 +1,8 @@
 use Rattle.std.proofs.Common.{◌<◌, length, arith, get_or, set, sym}
 use Rattle.std.proofs.lemmas.Option.{slice_get-get_or}
 use Rattle.std.proofs.lemmas.List.{get_or-set_other, length-set}
-use Rattle.tlsf_crew.specs.declared.yard.worker.Worker.{Worker}
+use Rattle.tlsf_crew.specs.declared.worker.Worker.{Worker}
+use Rattle.tlsf_crew.specs.declared.yard.lanes.Lanes.{Lanes}
 use Rattle.tlsf_crew.proofs.lemmas.yard.NewLanes.{lane_laid}
 use Rattle.tlsf_crew.proofs.yard.opening.lay_lane.Goals as goal
 
@@ -19,9 +20,9 @@ pub put_post_end-requires : goal.put_post_end-requires
 put_post_end-requires g c = (
   omega arith,
   let ws = c.args.workers.now in
-      let a : Worker g.row.SLI = get_or ws c.args.i c.index-workers-i.result in
+      let a : Worker g.row.SLI Lanes = get_or ws c.args.i c.index-workers-i.result in
       let s = c.requires.laid.slots c.args.i a (slice_get-get_or ws c.args.i c.index-workers-i.result c.requires.inside.0) in
-      omega (arith, a.posts.ok, s.0, c.requires.inside.1),
+      omega (arith, a.ports.posts.ok, s.0, c.requires.inside.1),
 )
 
 pub put_take_end-requires : goal.put_take_end-requires
@@ -29,7 +30,7 @@ put_take_end-requires g c = (
   omega arith,
   let ws = c.args.workers.now in
       let d = c.index-workers-j.result in
-      let a : Worker g.row.SLI = get_or ws c.args.j d in
+      let a : Worker g.row.SLI Lanes = get_or ws c.args.j d in
       let s = c.requires.laid.slots c.args.j a (slice_get-get_or ws c.args.j d c.requires.inside.1) in
-      rw (get_or-set_other ws c.args.i c.args.j c.put_post_end.new.worker d (λ e. c.requires.apart (sym e))) (omega (arith, a.takes.ok, s.1, c.requires.inside.0)),
+      rw (get_or-set_other ws c.args.i c.args.j c.put_post_end.new.worker d (λ e. c.requires.apart (sym e))) (omega (arith, a.ports.takes.ok, s.1, c.requires.inside.0)),
 )

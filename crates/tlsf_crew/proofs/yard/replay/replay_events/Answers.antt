@@ -1,6 +1,7 @@
 use Rattle.std.proofs.Common.{ℕ, ◌≡◌, List, arith, Result, Ok, Err, IfOk, OnOk}
 use Rattle.tlsf_crew.specs.yard.World.{world_of, replies}
-use Rattle.tlsf_crew.specs.declared.yard.worker.Worker.{Worker}
+use Rattle.tlsf_crew.specs.declared.worker.Worker.{Worker}
+use Rattle.tlsf_crew.specs.declared.yard.lanes.Lanes.{Lanes}
 use Rattle.tlsf_crew.specs.yard.Yard.{IsYard}
 use Rattle.tlsf_crew.specs.yard.FairRuns.{HasIds}
 use Rattle.tlsf_crew.proofs.lemmas.yard.OneEvent.{heaps_count}
@@ -9,7 +10,7 @@ use Rattle.tlsf_crew.proofs.lemmas.yard.FairLists.{no_stale}
 use Rattle.tlsf_crew.proofs.yard.replay.replay_events.Goals as goal
 
 -- in a whole yard each heap has the number of its worker
-yard_ids : {sli : ℕ} (ws : List (Worker sli)) → IsYard ws → HasIds (world_of ws)
+yard_ids : {sli : ℕ} (ws : List (Worker sli Lanes)) → IsYard ws → HasIds (world_of ws)
 unfolding world_of
 yard_ids ws yard =
     let n = heaps_count ws in

@@ -1,7 +1,8 @@
 use Rattle.std.proofs.lemmas.List.{length-set}
 use Rattle.std.proofs.Common.{[], ◌≡◌, ◌∙◌, ◌<◌, ap, sym, arith, length, refl, Some, get_or, slice_get}
 use Rattle.std.proofs.lemmas.Option.{slice_get-get_or}
-use Rattle.tlsf_crew.specs.declared.yard.worker.Worker.{Worker}
+use Rattle.tlsf_crew.specs.declared.worker.Worker.{Worker}
+use Rattle.tlsf_crew.specs.declared.yard.lanes.Lanes.{Lanes}
 use Rattle.tlsf_crew.specs.yard.Workers.{id_of}
 use Rattle.tlsf_crew.proofs.lemmas.yard.Exact.{Run, settles, limit_room, replied}
 use Rattle.tlsf_crew.proofs.lemmas.yard.Gathering.{each_knows}
@@ -31,7 +32,7 @@ run_of g c =
     let n = e.count in
     let p = c.requires.inside in
     let lt : c.args.event.worker < length vs = omega arith in
-    let a : Worker g.row.SLI = get_or vs c.args.event.worker c.index-workers-event.result in
+    let a : Worker g.row.SLI Lanes = get_or vs c.args.event.worker c.index-workers-event.result in
     let is : slice_get vs c.args.event.worker ≡ Some a = slice_get-get_or vs c.args.event.worker c.index-workers-event.result lt in
     let own : id_of a ≡ c.args.event.worker = own_number vs c.args.event.worker a e.yard is in
     record {
@@ -60,7 +61,7 @@ settle_for-requires g c = (
         let n = e.count in
         let p = c.requires.inside in
         let lt : c.args.event.worker < length vs = omega arith in
-        let a : Worker g.row.SLI = get_or vs c.args.event.worker c.index-workers-event.result in
+        let a : Worker g.row.SLI Lanes = get_or vs c.args.event.worker c.index-workers-event.result in
         let is : slice_get vs c.args.event.worker ≡ Some a = slice_get-get_or vs c.args.event.worker c.index-workers-event.result lt in
         let m = c.reply_to-reply.ensures.stepped.moved [] in
         m.yard vs c.args.event.worker is e.yard,
@@ -80,7 +81,7 @@ returns-clause-replied g c =
     let n = e.count in
     let p = c.requires.inside in
     let lt : c.args.event.worker < length vs = omega arith in
-    let a : Worker g.row.SLI = get_or vs c.args.event.worker c.index-workers-event.result in
+    let a : Worker g.row.SLI Lanes = get_or vs c.args.event.worker c.index-workers-event.result in
     let is : slice_get vs c.args.event.worker ≡ Some a = slice_get-get_or vs c.args.event.worker c.index-workers-event.result lt in
     let own : id_of a ≡ c.args.event.worker = own_number vs c.args.event.worker a e.yard is in
     let s = settles (run_of g c) c.args.workers.now c.settle_for.new.workers c.args.event.worker own e.count e.met f.met (λ may i t near q. e.limits.all may i t near q) f.yard f.count f.world in

@@ -1,0 +1,19 @@
+use Rattle.std.proofs.Common.{◌-◌, ◌+◌, ◌*◌, ◌≤◌, List}
+use Rattle.tlsf_calls.specs.declared.took.Took.{Took}
+use Rattle.tlsf_crew.specs.yard.Workers.{touches_of}
+use Rattle.tlsf_crew.specs.yard.LaneTurns.{IsCountOf}
+use Rattle.tlsf_crew.specs.yard.Notes.{NotedInTurn}
+use Rattle.tlsf_crew.proofs.worker.drain_source.Given as goal
+
+abbrev pub invariant-loop-drained : goal.invariant-loop-drained
+invariant-loop-drained g l = record {
+  source : g.P.Ports.hears l.worker.ports l.source;
+  room : g.N.Notes.has_room l.notes;
+  takes : (tooks : List Took) × NotedInTurn g.P.Exchange.takes g.N.Notes.noted l.fn.worker l.worker l.fn.notes l.notes l.source tooks × IsCountOf l.drained tooks;
+  few : l.drained.taken ≤ l.most;
+  touches : touches_of l.worker ≤ touches_of l.fn.worker + 64 * l.drained.taken;
+  rise : touches_of l.fn.worker ≤ touches_of l.worker;
+}
+
+abbrev pub decreases-loop-drained : goal.decreases-loop-drained
+decreases-loop-drained g l = l.most - l.drained.taken

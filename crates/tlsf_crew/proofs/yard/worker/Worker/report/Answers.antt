@@ -1,7 +1,0 @@
-use Rattle.std.proofs.Common.{refl}
-use Rattle.tlsf_crew.proofs.lemmas.yard.OwnHeaps.{same_heap_keeps}
-use Rattle.tlsf_crew.proofs.lemmas.yard.YardKept.{heap_keeps}
-use Rattle.tlsf_crew.proofs.yard.worker.Worker.report.Goals as goal
-
-pub returns-clause-yard : goal.returns-clause-yard
-returns-clause-yard g c = heap_keeps _ _ (refl, refl, refl) (same_heap_keeps _ _ c.report.ensures.heap)

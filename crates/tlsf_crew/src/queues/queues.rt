@@ -1,0 +1,162 @@
+//! The queues of a worker, and what it does over them.
+ghost use Rattle.std.specs.Prelude.{◌≡◌, ◌≢◌, ◌+◌, ◌*◌, ◌≤◌, ⊤, Some, Err};
+ghost use Rattle.tlsf_heap.specs.declared.refusal.Refusal.TheVariants.{Foreign};
+ghost use Rattle.tlsf_post.specs.declared.poster_end.PosterEnd.{PosterEnd};
+ghost use Rattle.tlsf_crew.specs.yard.Workers.{heap_of, touches_of, id_of};
+ghost use Rattle.tlsf_crew.specs.yard.Calls.{PostedThere, ReleasedHere, ReleasedThere};
+ghost use Rattle.tlsf_crew.specs.queues.QueueWorkers.{queue_to, HasQueueEnd, KeepsQueueYards, PutsIntoQueue, TakesFromQueue};
+ghost use Rattle.tlsf_crew.specs.queues.QueueCalls.{TakenFromQueue, DrainedQueue};
+ghost use Rattle.tlsf_crew.specs.queues.QueueNotes.{StopsAtQueue};
+
+use crate::ports::{Exchange, Ports};
+use crate::worker::{Worker, drain_source, post, release, take_next};
+use crate::yard::notes::NoNotes;
+use std::sync::Wait;
+use tlsf_calls::{CrewRefusal, Drained, Released, Took};
+use tlsf_heap::Name;
+use tlsf_post::{OwnerEnd, Post, PosterEnd};
+
+/// The queues of a worker: its own one, into which all others of its yard post, and an end to the queue of each of them.
+#[derive(Drop)]
+pub struct Queues {
+    pub(crate) own: OwnerEnd,
+    // The end to the queue of each other worker; none to its own.
+    pub(crate) posts: Vec<Option<PosterEnd>>,
+}
+
+/// A worker over queues.
+pub type QueueWorker<const SLI: u32> = Worker<SLI, Queues>;
+
+impl Ports for Queues {
+    ghost reaches = { λ queues j. (p : PosterEnd) × (queue_to queues j ≡ Some p) };
+
+    // The own queue is the one source, of number 0.
+    ghost hears = { λ queues source. ⊤ };
+
+    ghost keeps_yards = { λ sli a v. KeepsQueueYards a v };
+
+    fn has_port(&self, j: usize) -> bool {
+        match self.posts.get(j) {
+            Some(Some(_)) => true,
+            Some(None) => false,
+            None => false,
+        }
+    }
+
+    fn heap_keeps() {}
+}
+
+impl<R: Wait> Exchange<R> for Queues {
+    ghost puts = { PutsIntoQueue };
+
+    ghost takes = { TakesFromQueue };
+
+    ghost stops = { StopsAtQueue };
+
+    fn put(&mut self, context: &R, _from: u32, name: Name) -> Result<(), Name> {
+        let Some(end) = self.posts[name.heap as usize].as_mut() else {
+            unreachable!()
+        };
+        end.put(context, name)
+    }
+
+    fn take(&mut self, context: &R, _source: usize) -> Option<Post> {
+        self.own.take(context)
+    }
+
+    /// All that may come was taken, so it waits for the queue to be seen empty.
+    fn stop(&mut self, context: &R, _source: usize) {
+        self.own.wait_empty(context);
+    }
+}
+
+impl<const SLI: u32> QueueWorker<SLI> {
+    /// Posts the name of another worker's block into the queue of its owner, unread. It may spin while a post is half put
+    /// or taken by another thread, and so needs `Wait`.
+    ///
+    /// - `own`: a name of the own heap is refused as `Foreign`, and nothing changes: see [`QueueWorker::free`].
+    /// - `there`: a name of another worker's heap is put into its queue, or given back as `Full` where that was full at
+    ///   one moment of the call.
+    /// - `nowhere`: a name of no worker is a `Stranger`, and nothing changes.
+    ///
+    /// ```
+    /// workers[1].post(rt, name)?; // worker 0, which allocated it, will take and release it
+    /// ```
+    pub fn post<R: Wait>(&mut self, rt: &R, name: Name) -> Result<(), CrewRefusal>
+        ensures own { name.heap ≡ id_of self.old → (result ≡ Err (CrewRefusal.Heap Foreign)) × (self.new ≡ self.old) }
+        ensures there { name.heap ≢ id_of self.old → HasQueueEnd self.old name.heap → PostedThere PutsIntoQueue self.old self.new name result }
+        ensures nowhere { name.heap ≢ id_of self.old → ¬ (HasQueueEnd self.old name.heap) → (result ≡ Err CrewRefusal.Stranger) × (self.new ≡ self.old) }
+        ensures heap { heap_of self.new ≡ heap_of self.old }
+        ensures yard { KeepsQueueYards self.old self.new }
+        ensures touches { touches_of self.new ≡ touches_of self.old }
+    {
+        post(self, rt, name)
+    }
+
+    /// Releases a block of the own heap, or posts the name of another worker's block into the queue of its owner, unread. As
+    /// [`crate::Worker::release`]; where the name is known to be the own one or another's, [`QueueWorker::free`] or
+    /// [`QueueWorker::post`] says which. It may spin as [`QueueWorker::post`] does.
+    ///
+    /// - `here`: a name of the own heap is answered as the heap answers it.
+    /// - `there`: a name of another worker's heap is posted.
+    /// - `nowhere`: a name of no worker is a `Stranger`, and nothing changes.
+    /// - `touches`: at most 64 touches of the own heap's memory.
+    ///
+    /// ```
+    /// let here = workers[0].release(rt, name);  // Ok(Released::Freed), where worker 0 allocated it
+    /// let there = workers[1].release(rt, name); // Ok(Released::Posted): worker 0 will take and release it
+    /// ```
+    pub fn release<R: Wait>(&mut self, rt: &R, name: Name) -> Result<Released, CrewRefusal>
+        ensures here { name.heap ≡ id_of self.old → ReleasedHere self.old self.new name result }
+        ensures there { name.heap ≢ id_of self.old → HasQueueEnd self.old name.heap → ReleasedThere PutsIntoQueue self.old self.new name result }
+        ensures nowhere { name.heap ≢ id_of self.old → ¬ (HasQueueEnd self.old name.heap) → (result ≡ Err CrewRefusal.Stranger) × (self.new ≡ self.old) }
+        ensures yard { KeepsQueueYards self.old self.new }
+        ensures touches { touches_of self.new ≤ touches_of self.old + 64 }
+        ensures touches_rise { touches_of self.old ≤ touches_of self.new }
+    {
+        release(self, rt, name)
+    }
+
+    /// Takes the post that has waited longest in the own queue, and releases the block that it names. The post is gone
+    /// then, whatever the heap's answer. `None` comes where the queue was empty at one moment of the call. It may spin
+    /// while a post is half put by another thread, and so needs `Wait`.
+    ///
+    /// - `taken`: the own queue is asked for one post.
+    /// - `touches`: at most 64 touches of the own heap's memory.
+    ///
+    /// ```
+    /// if let Some(took) = worker.take(rt) {
+    ///     let freed = took.answer.is_ok(); // whether the block that worker `took.from` posted was released
+    /// }
+    /// ```
+    pub fn take<R: Wait>(&mut self, rt: &R) -> Option<Took>
+        ensures taken { TakenFromQueue self.old self.new result }
+        ensures yard { KeepsQueueYards self.old self.new }
+        ensures touches { touches_of self.new ≤ touches_of self.old + 64 }
+        ensures touches_rise { touches_of self.old ≤ touches_of self.new }
+    {
+        take_next(self, rt, 0)
+    }
+
+    /// Takes from the own queue and releases each block that a post names, until `most` posts were taken or the queue is
+    /// empty. It may spin as [`QueueWorker::take`] does.
+    ///
+    /// - `drained`: the takes, each as [`QueueWorker::take`] answers it, the heap that their releases leave, and their
+    ///   count. A post is gone and counted as taken whatever the heap's answer; `freed` counts those answered by `Ok`.
+    /// - `most`: no more than `most` are taken.
+    /// - `touches`: at most 64 touches of the own heap's memory for each post that is taken.
+    ///
+    /// ```
+    /// let drained = worker.drain(rt, 64); // no more than 64 posts: a bound on the time that it takes
+    /// ```
+    pub fn drain<R: Wait>(&mut self, rt: &R, most: u32) -> Drained
+        ensures drained { DrainedQueue self.old self.new most result }
+        ensures most { result.taken ≤ most }
+        ensures freed { result.freed ≤ result.taken }
+        ensures yard { KeepsQueueYards self.old self.new }
+        ensures touches { touches_of self.new ≤ touches_of self.old + 64 * result.taken }
+        ensures touches_rise { touches_of self.old ≤ touches_of self.new }
+    {
+        drain_source(self, rt, 0, most, &mut NoNotes)
+    }
+}
