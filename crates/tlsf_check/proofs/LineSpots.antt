@@ -7,7 +7,7 @@ use Rattle.tlsf_lines.specs.Fields.{◌>>=◌, fields_in, is_digits, value_in, v
 use Rattle.tlsf_lines.specs.Header.{number_of_value}
 use Rattle.tlsf_lines.specs.Lines.{kinds_of, line_from, word_of, words}
 use Rattle.tlsf_lines.specs.Payloads.{chunk_in}
-use Rattle.tlsf_lines.specs.Trace.{line_in}
+use Rattle.tlsf_lines.specs.Trace.{judged_line}
 use Rattle.tlsf_lines.specs.Values.{Value, Number, BadNumber, Bytes}
 use Rattle.tlsf_lines.specs.Values as spelled
 use Rattle.tlsf_lines.specs.declared.line.Line.{Line}
@@ -293,13 +293,13 @@ pub with_fields_at : (is_whole : List (List ℕ) → Bool) (piece : List ℕ) (f
 with_fields_at is_whole piece fields n are at = rw are at
 
 module _ (workers : ℕ) (before : List Line) (piece first : List ℕ) (fields : List (List ℕ)) (w : Word) (are : fields_in piece ≡ Some (first ∷ fields)) (is : word_of words first ≡ Some w) where
-  pub shape_at : (n : ℕ) → line_in workers before piece ≡ Err fault.BadLine → n ≡ passing_count shape (kinds_behind w) fields + 2 → IsFieldOf workers fault.BadLine piece n
+  pub shape_at : (n : ℕ) → judged_line workers before piece ≡ Err fault.BadLine → n ≡ passing_count shape (kinds_behind w) fields + 2 → IsFieldOf workers fault.BadLine piece n
   shape_at n refused at =
       let by_values = sym (with_word workers before piece first fields w (line_behind workers w fields) are is refl) ∙ refused in
       with_fields_at (is_shaped workers) piece (first ∷ fields) n are
       (no_shape workers first fields w is n (no_values before w (values_in workers (kinds_of w) fields) by_values) at)
 
-  pub number_at : (n : ℕ) → line_in workers before piece ≡ Err fault.BadNumber → n ≡ passing_count (λ k f. good workers k f) (kinds_behind w) fields + 2
+  pub number_at : (n : ℕ) → judged_line workers before piece ≡ Err fault.BadNumber → n ≡ passing_count (λ k f. good workers k f) (kinds_behind w) fields + 2
       → IsFieldOf workers fault.BadNumber piece n
   number_at n refused at =
       let by_values = sym (with_word workers before piece first fields w (line_behind workers w fields) are is refl) ∙ refused in
@@ -315,9 +315,9 @@ module _ (workers : ℕ) (before : List Line) (piece first : List ℕ) (fields :
       rw are found
 
 -- a line without a line feed, or with an unknown word, has no bad number
-pub number_without_feed : (workers : ℕ) (before : List Line) (piece : List ℕ) → fields_in piece ≡ None → line_in workers before piece ≡ Err fault.BadNumber → ⊥
+pub number_without_feed : (workers : ℕ) (before : List Line) (piece : List ℕ) → fields_in piece ≡ None → judged_line workers before piece ≡ Err fault.BadNumber → ⊥
 number_without_feed workers before piece none refused = let bad = without_feed workers before piece none in cc (bad, refused)
 
 pub number_without_word : (workers : ℕ) (before : List Line) (piece first : List ℕ) (fields : List (List ℕ)) → fields_in piece ≡ Some (first ∷ fields) → word_of words first ≡ None
-    → line_in workers before piece ≡ Err fault.BadNumber → ⊥
+    → judged_line workers before piece ≡ Err fault.BadNumber → ⊥
 number_without_word workers before piece first fields are none refused = let bad = without_word workers before piece first fields are none in cc (bad, refused)

@@ -3,7 +3,7 @@ use Rattle.std.proofs.Common.{◌≡◌, ℕ, Bool, true, false, List, drop, Opt
 use Rattle.tlsf_lines.specs.Fields.{field, fields_in, values_in}
 use Rattle.tlsf_lines.specs.Labels.{is_in_order}
 use Rattle.tlsf_lines.specs.Lines.{kinds_of, line_from, word_of, words}
-use Rattle.tlsf_lines.specs.Trace.{◌>>=◌, line_in, some_or, unless}
+use Rattle.tlsf_lines.specs.Trace.{◌>>=◌, judged_line, some_or, unless}
 use Rattle.tlsf_lines.specs.Values.{Value}
 use Rattle.tlsf_lines.specs.declared.line.Line.{Line}
 use Rattle.tlsf_lines.specs.declared.line_fault.LineFault.{LineFault}
@@ -59,6 +59,6 @@ module _ (workers : ℕ) (before : List Line) where
   by_fields None refused = cc
   by_fields (Some fields) refused = by_word fields (word_of words (field fields 0)) refused
 
-  pub no_bad_header : (piece : List ℕ) → line_in workers before piece ≡ Err fault.BadHeader → ⊥
-  unfolding line_in
+  pub no_bad_header : (piece : List ℕ) → judged_line workers before piece ≡ Err fault.BadHeader → ⊥
+  unfolding judged_line
   no_bad_header piece refused = by_fields (fields_in piece) refused

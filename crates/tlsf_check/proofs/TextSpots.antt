@@ -5,7 +5,7 @@ use Rattle.tlsf_lines.specs.Header.{header_in}
 use Rattle.tlsf_lines.specs.LineFaults.{number_of_fault}
 use Rattle.tlsf_lines.specs.Laws.{FailsAtHeader, FailsAtLine, after}
 use Rattle.tlsf_lines.specs.Pieces.{pieces_of}
-use Rattle.tlsf_lines.specs.Trace.{Trace, line_in, trace_of}
+use Rattle.tlsf_lines.specs.Trace.{Trace, judged_line, trace_of}
 use Rattle.tlsf_lines.specs.TraceFaults.{fault_by, fault_in, fault_of}
 use Rattle.tlsf_lines.specs.declared.header.Header.{Header}
 use Rattle.tlsf_lines.specs.declared.line.Line.{Line}
@@ -43,7 +43,7 @@ module _ (text : List ℕ) (fault : TraceFault) (n : ℕ) where
 
   -- a line behind it is at fault
   at_line : (why : LineFault) (at : ℕ) → fault ≡ fault_in why at → trace_of text ≡ Err (why, at) → (failed : FailsAtLine text why at)
-      → ((before : List Line) (w : LineFault) → line_in failed.header.workers before (field (pieces_of text) (fault.line - 1)) ≡ Err w → fault.no ≡ number_of_fault w
+      → ((before : List Line) (w : LineFault) → judged_line failed.header.workers before (field (pieces_of text) (fault.line - 1)) ≡ Err w → fault.no ≡ number_of_fault w
       → IsFieldOf failed.header.workers w (field (pieces_of text) (fault.line - 1)) n)
       → IsFoundIn text fault n
   at_line why at is refused failed found =
@@ -52,8 +52,8 @@ module _ (text : List ℕ) (fault : TraceFault) (n : ℕ) where
       let named : failed.header.workers ≡ workers_in text = ap workers_by (sym failed.headed) in
       let piece : field (drop 1 (pieces_of text)) failed.i ≡ field (pieces_of text) (fault.line - 1) =
       behind_first (pieces_of text) failed.i ∙ ap (λ k. field (pieces_of text) k) place in
-      let bad : line_in failed.header.workers (after failed.lines []) (field (pieces_of text) (fault.line - 1)) ≡ Err why =
-      subst (λ (p : List ℕ). line_in failed.header.workers (after failed.lines []) p ≡ Err why) piece failed.first.bad in
+      let bad : judged_line failed.header.workers (after failed.lines []) (field (pieces_of text) (fault.line - 1)) ≡ Err why =
+      subst (λ (p : List ℕ). judged_line failed.header.workers (after failed.lines []) p ≡ Err why) piece failed.first.bad in
       record {
         why = why;
         at = at;
@@ -83,7 +83,7 @@ found_in_header text fault n same none found =
 
 -- a text with one, by what was found in the faulty line
 pub found_in_line : (text : List ℕ) (fault : TraceFault) (n : ℕ) (header : Header) → fault_of text ≡ Some fault → header_in (field (pieces_of text) 0) ≡ Some header
-    → ((before : List Line) (w : LineFault) → line_in header.workers before (field (pieces_of text) (fault.line - 1)) ≡ Err w → fault.no ≡ number_of_fault w
+    → ((before : List Line) (w : LineFault) → judged_line header.workers before (field (pieces_of text) (fault.line - 1)) ≡ Err w → fault.no ≡ number_of_fault w
     → IsFieldOf header.workers w (field (pieces_of text) (fault.line - 1)) n)
     → IsFoundIn text fault n
 found_in_line text fault n header same some found =
@@ -91,6 +91,6 @@ found_in_line text fault n header same some found =
     elim (is_first text e.0 e.1 e.3) [
       | inl failed ↦ absurd (no_header (field (pieces_of text) 0) header failed.none some)
       | inr failed ↦ at_line text fault n e.0 e.1 e.2 e.3 failed
-          (subst (λ (h : Header). (before : List Line) (w : LineFault) → line_in h.workers before (field (pieces_of text) (fault.line - 1)) ≡ Err w → fault.no ≡ number_of_fault w
+          (subst (λ (h : Header). (before : List Line) (w : LineFault) → judged_line h.workers before (field (pieces_of text) (fault.line - 1)) ≡ Err w → fault.no ≡ number_of_fault w
           → IsFieldOf h.workers w (field (pieces_of text) (fault.line - 1)) n) (one_header (field (pieces_of text) 0) header failed.header some failed.headed) found)
     ]

@@ -8,7 +8,7 @@ ghost use Rattle.tlsf_lines.specs.CutFields.{fields_left};
 ghost use Rattle.tlsf_lines.specs.Fields.{field};
 ghost use Rattle.tlsf_lines.specs.Header as spelled;
 ghost use Rattle.tlsf_lines.specs.Pieces.{pieces_of};
-ghost use Rattle.tlsf_lines.specs.Trace.{line_in};
+ghost use Rattle.tlsf_lines.specs.Trace.{judged_line};
 ghost use Rattle.tlsf_lines.specs.TraceFaults.{fault_of};
 ghost use Rattle.tlsf_lines.specs.declared.line.Line.{Line};
 ghost use Rattle.tlsf_lines.specs.declared.line_fault.LineFault.{LineFault};
@@ -17,7 +17,7 @@ ghost use Rattle.tlsf_lines.specs.LineFaults.{number_of_fault};
 
 use crate::judge::{Judge, passes};
 use crate::kind::{Kind, kinds_behind};
-use tlsf_lines::{TraceFault, Version, cut_field, cut_piece, header_in, line_of, word_of};
+use tlsf_lines::{TraceFault, Version, cut_feed, cut_field, cut_piece, header_in, word_of};
 
 /// How many fields pass before the first that doesn't, or that has no kind.
 fn passing_count(judge: Judge, kinds: &[Kind], fields: Option<&[u8]>) -> usize
@@ -48,10 +48,10 @@ fn count_spaces(line: &[u8]) -> usize
 
 /// The field by which a line has not its shape.
 fn shape_spot(piece: &[u8]) -> usize
-    ensures { (workers : ℕ) (before : List Line) → line_in workers before piece.now ≡ Err BadLine
+    ensures { (workers : ℕ) (before : List Line) → judged_line workers before piece.now ≡ Err BadLine
         → IsFieldOf workers BadLine piece.now result }
 {
-    let Some(line) = line_of(piece) else {
+    let Some(line) = cut_feed(piece) else {
         return count_spaces(piece) + 1;
     };
     let (first, fields) = cut_field(line);
@@ -63,11 +63,11 @@ fn shape_spot(piece: &[u8]) -> usize
 
 /// The field of the first bad number of a line, where there are so many workers.
 fn number_spot(workers: u32, piece: &[u8]) -> usize
-    ensures { (before : List Line) → line_in workers before piece.now ≡ Err BadNumber
+    ensures { (before : List Line) → judged_line workers before piece.now ≡ Err BadNumber
         → IsFieldOf workers BadNumber piece.now result }
 {
     // A line with a bad number has its shape.
-    let Some(line) = line_of(piece) else {
+    let Some(line) = cut_feed(piece) else {
         return 1;
     };
     let (first, fields) = cut_field(line);
@@ -79,7 +79,7 @@ fn number_spot(workers: u32, piece: &[u8]) -> usize
 
 /// The field by which a line is faulty, where there are so many workers, by the number of its fault.
 fn line_spot(workers: u32, piece: &[u8], no: u32) -> usize
-    ensures { (before : List Line) (fault : LineFault) → line_in workers before piece.now ≡ Err fault
+    ensures { (before : List Line) (fault : LineFault) → judged_line workers before piece.now ≡ Err fault
         → no ≡ number_of_fault fault → IsFieldOf workers fault piece.now result }
 {
     match no {
@@ -108,7 +108,7 @@ fn is_name(field: &[u8]) -> bool
 fn header_spot(piece: &[u8]) -> usize
     ensures { spelled.header_in piece.now ≡ None → (workers : ℕ) → IsFieldOf workers BadHeader piece.now result }
 {
-    let Some(line) = line_of(piece) else {
+    let Some(line) = cut_feed(piece) else {
         return count_spaces(piece) + 1;
     };
     let (name, rest) = cut_field(line);

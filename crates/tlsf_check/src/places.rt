@@ -1,5 +1,5 @@
 //! Where a field stands in a line.
-use tlsf_lines::{cut_field, line_of};
+use tlsf_lines::{cut_feed, cut_field};
 
 /// A field of a line, or the end of the line where that field is missing.
 #[derive(Clone, Copy)]
@@ -26,7 +26,7 @@ fn behind_fields(line: &[u8], count: usize) -> Option<&[u8]> {
 impl<'a> Spot<'a> {
     /// Field number `n`, counted from 1, of a line as it stands.
     pub fn of(piece: &'a [u8], n: usize) -> Spot<'a> {
-        let ended = line_of(piece);
+        let ended = cut_feed(piece);
         let line = ended.unwrap_or(piece);
         let rest = behind_fields(line, n.saturating_sub(1));
         Spot {

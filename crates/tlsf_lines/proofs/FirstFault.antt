@@ -7,7 +7,7 @@ use Rattle.tlsf_lines.specs.declared.line_fault.LineFault.TheVariants.{BadHeader
 use Rattle.tlsf_lines.specs.Fields.{field}
 use Rattle.tlsf_lines.specs.Header.{header_in}
 use Rattle.tlsf_lines.specs.Pieces.{pieces_of}
-use Rattle.tlsf_lines.specs.Trace.{◌>>=◌, at_line, line_in, lines_in, Trace, trace_of}
+use Rattle.tlsf_lines.specs.Trace.{◌>>=◌, at_line, judged_line, lines_in, Trace, trace_of}
 use Rattle.tlsf_lines.specs.Laws.{FailsFirst, IsFirstFault}
 
 abbrev Found : ℕ → ℕ → ℕ → List Line → List (List ℕ) → LineFault → Type 0
@@ -23,7 +23,7 @@ passes : (line : Line) (rest : Result (List Line) (LineFault × ℕ)) (e : LineF
 passes line (Ok lines) e h = absurd cc
 passes line (Err d) e h = h
 
-judged : (workers n m : ℕ) (before : List Line) (piece : List ℕ) (pieces : List (List ℕ)) (fault : LineFault) (r : Result Line LineFault) → line_in workers before piece ≡ r
+judged : (workers n m : ℕ) (before : List Line) (piece : List ℕ) (pieces : List (List ℕ)) (fault : LineFault) (r : Result Line LineFault) → judged_line workers before piece ≡ r
     → (at_line n r >>= λ line. lines_in workers (line ∷ before) (n + 1) pieces >>= λ lines. Ok (line ∷ lines)) ≡ Err (fault, m)
     → ((line : Line) → lines_in workers (line ∷ before) (n + 1) pieces ≡ Err (fault, m) → Found workers (n + 1) m (line ∷ before) pieces fault)
     → Found workers n m before (piece ∷ pieces) fault
@@ -46,7 +46,7 @@ found : (workers n m : ℕ) (before : List Line) (pieces : List (List ℕ)) (fau
 unfolding lines_in
 found workers n m before [] fault h = absurd cc
 found workers n m before (piece ∷ pieces) fault h =
-    judged workers n m before piece pieces fault (line_in workers before piece) refl h (λ line e. found workers (n + 1) m (line ∷ before) pieces fault e)
+    judged workers n m before piece pieces fault (judged_line workers before piece) refl h (λ line e. found workers (n + 1) m (line ∷ before) pieces fault e)
 
 -- the same of a whole trace
 abbrev refused : LineFault × ℕ → Result Trace (LineFault × ℕ)

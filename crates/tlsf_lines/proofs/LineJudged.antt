@@ -4,7 +4,7 @@ use Rattle.tlsf_lines.specs.CutFields.{line_behind}
 use Rattle.tlsf_lines.specs.Fields.{fields_in, values_in}
 use Rattle.tlsf_lines.specs.Labels.{is_in_order}
 use Rattle.tlsf_lines.specs.Lines.{kinds_of, line_from, word_of, words}
-use Rattle.tlsf_lines.specs.Trace.{◌>>=◌, line_in, some_or, unless}
+use Rattle.tlsf_lines.specs.Trace.{◌>>=◌, judged_line, some_or, unless}
 use Rattle.tlsf_lines.specs.Values.{Value}
 use Rattle.tlsf_lines.specs.declared.line.Line.{Line}
 use Rattle.tlsf_lines.specs.declared.line_fault.LineFault.{LineFault}
@@ -17,32 +17,32 @@ judged before None = Err BadLine
 judged before (Some None) = Err BadNumber
 judged before (Some (Some line)) = unless (is_in_order before line) LabelOrder >>= λ _. Ok line
 
-judged_line : (before : List Line) (said : Option Line)
+judged_numbers : (before : List Line) (said : Option Line)
     → (some_or said BadNumber >>= λ line. (unless (is_in_order before line) LabelOrder >>= λ _. Ok line)) ≡ judged before (Some said)
-judged_line before None = refl
-judged_line before (Some line) = refl
+judged_numbers before None = refl
+judged_numbers before (Some line) = refl
 
 judged_values : (before : List Line) (word : Word) (said : Option (List Value))
     → (some_or said BadLine >>= λ values. (some_or (line_from word values) BadNumber >>= λ line. (unless (is_in_order before line) LabelOrder >>= λ _. Ok line)))
     ≡ judged before (option_map (λ values. line_from word values) said)
 judged_values before word None = refl
-judged_values before word (Some values) = judged_line before (line_from word values)
+judged_values before word (Some values) = judged_numbers before (line_from word values)
 
 module _ (workers : ℕ) (before : List Line) (piece : List ℕ) where
   -- the piece has no line feed
-  pub without_feed : fields_in piece ≡ None → line_in workers before piece ≡ Err BadLine
-  unfolding line_in
+  pub without_feed : fields_in piece ≡ None → judged_line workers before piece ≡ Err BadLine
+  unfolding judged_line
   without_feed none = rw none refl
 
   -- the first field is no word
   pub without_word : (first : List ℕ) (fields : List (List ℕ)) → fields_in piece ≡ Some (first ∷ fields) → word_of words first ≡ None
-      → line_in workers before piece ≡ Err BadLine
-  unfolding line_in
+      → judged_line workers before piece ≡ Err BadLine
+  unfolding judged_line
   without_word first fields are none = rw (are, none) refl
 
   -- the first field is a word
   pub with_word : (first : List ℕ) (fields : List (List ℕ)) (word : Word) (said : Option (Option Line)) → fields_in piece ≡ Some (first ∷ fields)
-      → word_of words first ≡ Some word → line_behind workers word fields ≡ said → line_in workers before piece ≡ judged before said
-  unfolding line_in
+      → word_of words first ≡ Some word → line_behind workers word fields ≡ said → judged_line workers before piece ≡ judged before said
+  unfolding judged_line
   with_word first fields word said are is behind =
       rw (are, is) (judged_values before word (values_in workers (kinds_of word) fields) ∙ ap (λ s. judged before s) behind)

@@ -1,8 +1,10 @@
 -- A step of the loop over lines.
-use Rattle.std.proofs.Common.{◌≡◌, ℕ, ◌+◌, List, [], ◌∷◌, ◌++◌, length, Result, Ok, Err, refl, sym, ap, ◌∙◌, append_assoc, append-nil}
+use Rattle.std.proofs.Common.{◌≡◌, ℕ, ◌+◌, ◌≤◌, List, [], ◌∷◌, ◌++◌, length, Result, Ok, Err, refl, sym, ap, ◌∙◌, append_assoc, append-nil, arith}
 use Rattle.tlsf_lines.specs.declared.line_fault.LineFault.{LineFault}
 use Rattle.tlsf_lines.specs.declared.line.Line.{Line}
-use Rattle.tlsf_lines.specs.Trace.{◌>>=◌, line_in, lines_in}
+use Rattle.tlsf_lines.specs.declared.line.Line.TheVariants.{Allocate, Release, Write, Read, Resize, Drain, Phase}
+use Rattle.tlsf_lines.specs.Events.{width_of}
+use Rattle.tlsf_lines.specs.Trace.{◌>>=◌, judged_line, lines_in}
 use Rattle.tlsf_lines.specs.Pieces.{pieces_of}
 use Rattle.std.proofs.lemmas.List.{nil_from_length}
 
@@ -16,7 +18,7 @@ regroup prefix line (Err fault) = refl
 
 module _ (workers : ℕ) (before prefix : List Line) (n : ℕ) (rest : List ℕ) (total : Result (List Line) (LineFault × ℕ))
     (so_far : put_behind prefix (lines_in workers before n (pieces_of rest)) ≡ total) where
-  pub goes_on : (piece after : List ℕ) (line : Line) → pieces_of rest ≡ piece ∷ pieces_of after → line_in workers before piece ≡ Ok line
+  pub goes_on : (piece after : List ℕ) (line : Line) → pieces_of rest ≡ piece ∷ pieces_of after → judged_line workers before piece ≡ Ok line
       → put_behind (prefix ++ line ∷ []) (lines_in workers (line ∷ before) (n + 1) (pieces_of after)) ≡ total
   unfolding lines_in
   goes_on piece after line cut judged =
@@ -24,7 +26,7 @@ module _ (workers : ℕ) (before prefix : List Line) (n : ℕ) (rest : List ℕ)
       rw (cut, judged) (regroup prefix line (lines_in workers (line ∷ before) (n + 1) (pieces_of after))) in
       sym one ∙ so_far
 
-  pub ends : (fault : LineFault) (piece after : List ℕ) → pieces_of rest ≡ piece ∷ pieces_of after → line_in workers before piece ≡ Err fault → total ≡ Err (fault, n)
+  pub ends : (fault : LineFault) (piece after : List ℕ) → pieces_of rest ≡ piece ∷ pieces_of after → judged_line workers before piece ≡ Err fault → total ≡ Err (fault, n)
   unfolding lines_in
   ends fault piece after cut judged =
       let one : put_behind prefix (lines_in workers before n (pieces_of rest)) ≡ Err (fault, n) = rw (cut, judged) refl in
@@ -36,6 +38,16 @@ module _ (workers : ℕ) (before prefix : List Line) (n : ℕ) (rest : List ℕ)
       let one : put_behind prefix (lines_in workers before n (pieces_of rest)) ≡ Ok prefix =
       rw (nil_from_length rest none) (ap (λ (ls : List Line). Ok ls) (append-nil prefix)) in
       sym so_far ∙ one
+
+-- no line stands for more than eight events
+pub few_more : (workers : ℕ) (line : Line) → workers ≤ 8 → width_of workers line ≤ 8
+few_more workers (Allocate worker label len) few = omega arith
+few_more workers (Release worker label) few = omega arith
+few_more workers (Write worker label at bytes) few = omega arith
+few_more workers (Read worker label at n) few = omega arith
+few_more workers (Resize worker label len) few = omega arith
+few_more workers (Drain worker most) few = omega arith
+few_more workers Phase few = few
 
 -- no line yet
 pub with_none : (said : Result (List Line) (LineFault × ℕ)) → put_behind [] said ≡ said

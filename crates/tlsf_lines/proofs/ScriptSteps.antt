@@ -1,40 +1,12 @@
 -- Scripts, one line after another.
-use Rattle.std.proofs.Common.{◌≡◌, ℕ, ◌+◌, ◌≤◌, Bool, true, false, cond, List, [], ◌∷◌, ◌++◌, length, count_by, Result, Ok, refl, sym, ap, ◌∙◌, arith, append_assoc, append-nil, replicate, None}
-use Rattle.std.proofs.lemmas.List.{length-append}
-use Rattle.std.proofs.lemmas.List.Sums.{sum_by-append}
-use Rattle.std.proofs.lemmas.List.FromFn.{length-map-range_with_len}
+use Rattle.std.proofs.Common.{◌≡◌, ℕ, ◌+◌, ◌≤◌, cond, List, [], ◌∷◌, ◌++◌, length, count_by, refl, sym, subst, ap, ◌∙◌, arith, append_assoc, append-nil, replicate, None}
+use Rattle.std.proofs.lemmas.List.Sums.{count_by-le-length, sum_by-append}
 use Rattle.tlsf_lines.specs.declared.header.Header.{Header}
 use Rattle.tlsf_lines.specs.declared.line.Line.{Line}
-use Rattle.tlsf_lines.specs.declared.line.Line.TheVariants.{Allocate, Release, Write, Read, Resize, Drain, Phase}
-use Rattle.tlsf_lines.specs.declared.line_fault.LineFault.{LineFault}
-use Rattle.tlsf_lines.specs.declared.parse_error.ParseError.{ParseError}
-use Rattle.tlsf_lines.specs.declared.parse_error.ParseError.TheVariants as parsing
 use Rattle.tlsf_lines.specs.declared.script.Script.{Script}
-use Rattle.tlsf_lines.specs.Events.{last_drain, last_drains, width_of, events_in, events_from, labels_in, labels_from}
+use Rattle.tlsf_lines.specs.Events.{last_drains, events_in, events_from, labels_in, labels_from}
 use Rattle.tlsf_lines.specs.Lines.{is_call}
-use Rattle.tlsf_lines.specs.ScriptSoFar.{Adds, HasLines, Holds, IsScriptOfText}
-use Rattle.tlsf_lines.specs.Trace.{◌>>=◌, Trace}
-use Rattle.tlsf_lines.specs.Views.{FailsAt, Heads}
-
--- a line stands for as many events as its width says
-width_is : (workers : ℕ) (before : List Line) (line : Line) → length (events_in workers before line) ≡ width_of workers line
-width_is workers before (Allocate worker label len) = refl
-width_is workers before (Release worker label) = refl
-width_is workers before (Write worker label at bytes) = refl
-width_is workers before (Read worker label at n) = refl
-width_is workers before (Resize worker label len) = refl
-width_is workers before (Drain worker most) = refl
-width_is workers before Phase = length-map-range_with_len last_drain 0 workers
-
--- and those are no more than eight
-width_most : (workers : ℕ) (line : Line) → workers ≤ 8 → width_of workers line ≤ 8
-width_most workers (Allocate worker label len) few = omega arith
-width_most workers (Release worker label) few = omega arith
-width_most workers (Write worker label at bytes) few = omega arith
-width_most workers (Read worker label at n) few = omega arith
-width_most workers (Resize worker label len) few = omega arith
-width_most workers (Drain worker most) few = omega arith
-width_most workers Phase few = few
+use Rattle.tlsf_lines.specs.ScriptSoFar.{Adds, Holds, IsScript}
 
 -- a script that has nothing yet
 pub holds_none : (workers : ℕ) (script : Script) → script.events.items ≡ [] → script.labels.items ≡ [] → script.calls ≡ 0 → Holds workers [] [] script
@@ -42,7 +14,6 @@ holds_none workers script events labels calls = record {
   events = λ more. rw events refl;
   labels = λ more. rw labels refl;
   calls = calls;
-  width = rw events refl;
 }
 
 -- calls among some lines, and one more
@@ -50,10 +21,6 @@ calls_with : (lines : List Line) (line : Line) → count_by is_call (lines ++ li
 calls_with lines line =
     let both : count_by is_call (lines ++ line ∷ []) ≡ count_by is_call lines + count_by is_call (line ∷ []) = sum_by-append (λ l. cond (is_call l) 1 0) lines (line ∷ []) in
     omega (arith, both)
-
-one_at_most : (call : Bool) → cond call 1 0 ≤ 1
-one_at_most true = omega arith
-one_at_most false = omega arith
 
 module _ (workers : ℕ) (before lines : List Line) (line : Line) (old new : Script) (held : Holds workers before lines old) (adds : Adds workers before line old new) where
   -- what a script has behind one line more
@@ -64,26 +31,28 @@ module _ (workers : ℕ) (before lines : List Line) (line : Line) (old new : Scr
     labels = λ more. rw (adds.labels, append_assoc old.labels.items (labels_in workers line) (labels_from workers more))
         (held.labels (line ∷ more) ∙ ap (λ ls. labels_from workers ls) (sym (append_assoc lines (line ∷ []) more)));
     calls = adds.calls ∙ (ap (λ n. n + cond (is_call line) 1 0) held.calls ∙ sym (calls_with lines line));
-    width = rw (adds.events, length-append old.events.items (events_in workers before line)) (omega (arith, held.width, width_is workers before line));
   }
 
-  pub events_most : workers ≤ 8 → length new.events.items ≤ length old.events.items + 8
-  events_most few = rw (adds.events, length-append old.events.items (events_in workers before line)) (omega (arith, width_is workers before line, width_most workers line few))
+-- there are no more calls than lines
+pub calls_few : (workers : ℕ) (before lines : List Line) (script : Script) → Holds workers before lines script → script.calls ≤ length lines
+calls_few workers before lines script held = omega (arith, held.calls, count_by-le-length is_call lines)
 
-  pub calls_most : new.calls ≤ old.calls + 1
-  calls_most = omega (arith, adds.calls, one_at_most (is_call line))
+-- a script made of a header and some lines, and one line more
+pub add_holds : (header : Header) (before lines : List Line) (line : Line) (old new : Script) → (old.header ≡ header) × Holds header.workers before lines old → Adds old.header.workers before line old new
+    → (new.header ≡ header) × Holds header.workers (line ∷ before) (lines ++ line ∷ []) new
+add_holds header before lines line old new has adds =
+    let same : old.header.workers ≡ header.workers = ap (λ (h : Header). h.workers) has.0 in
+    (adds.header ∙ has.0, holds_more header.workers before lines line old new has.1 (subst (λ workers. Adds workers before line old new) same adds))
 
--- the script of a text: its header, its lines and the drains at the end
-pub script_of_text : (text rest : List ℕ) (header : Header) (old new : Script) → Heads text header rest → HasLines header.workers rest old
-    → new.header ≡ header → new.events.items ≡ old.events.items ++ last_drains header.workers → new.labels.items ≡ old.labels.items ++ replicate header.workers None → new.calls ≡ old.calls
-    → IsScriptOfText text new
-script_of_text text rest header old new heads has header_is events labels calls = record {
-  trace = record { header = header; lines = has.lines };
-  spelled = heads.trace ∙ rw has.spelled refl;
-  is_script = record {
-    header = header_is;
-    events = events ∙ (has.holds.events [] ∙ ap (λ ls. events_from header.workers [] ls) (append-nil has.lines));
-    labels = labels ∙ (has.holds.labels [] ∙ ap (λ ls. labels_from header.workers ls) (append-nil has.lines));
-    calls = calls ∙ has.holds.calls;
-  };
-}
+-- the script of a trace: what its lines stand for, and the drains at the end
+pub script_ends : (header : Header) (before lines : List Line) (old new : Script) → (old.header ≡ header) × Holds header.workers before lines old → new.header ≡ old.header
+    → new.events.items ≡ old.events.items ++ last_drains old.header.workers → new.labels.items ≡ old.labels.items ++ replicate old.header.workers None → new.calls ≡ old.calls
+    → IsScript new (record { header = header; lines = lines })
+script_ends header before lines old new has same events labels calls =
+    let workers : old.header.workers ≡ header.workers = ap (λ (h : Header). h.workers) has.0 in
+    record {
+      header = same ∙ has.0;
+      events = events ∙ rw workers (has.1.events [] ∙ ap (λ ls. events_from header.workers [] ls) (append-nil lines));
+      labels = labels ∙ rw workers (has.1.labels [] ∙ ap (λ ls. labels_from header.workers ls) (append-nil lines));
+      calls = calls ∙ has.1.calls;
+    }

@@ -56,6 +56,16 @@ made_by (Some k) = Made k
 abbrev pub target_of : ℕ → ℕ → List Line → Target
 target_of workers label before = made_by (maker_of workers label before)
 
+-- what the label stands for that a line uses, behind the lines before; a line that uses none has no target
+abbrev pub target_used : ℕ → List Line → Line → Target
+target_used workers before (Allocate worker label len) = Absent
+target_used workers before (Release worker label) = target_of workers label before
+target_used workers before (Write worker label at bytes) = target_of workers label before
+target_used workers before (Read worker label at n) = target_of workers label before
+target_used workers before (Resize worker label len) = target_of workers label before
+target_used workers before (Drain worker most) = Absent
+target_used workers before Phase = Absent
+
 -- ---- events
 
 abbrev pub one_event : ℕ → Call → List Event

@@ -7,7 +7,7 @@ use Rattle.tlsf_lines.specs.Header.{header_in}
 use Rattle.tlsf_lines.specs.declared.header.Header.{Header}
 use Rattle.tlsf_lines.specs.declared.line.Line.{Line}
 use Rattle.tlsf_lines.specs.Pieces.{pieces_of}
-use Rattle.tlsf_lines.specs.Trace.{line_in, lines_in, trace_of}
+use Rattle.tlsf_lines.specs.Trace.{judged_line, lines_in, trace_of}
 
 -- these lines, put before others, the newest first
 abbrev pub after : List Line → List Line → List Line
@@ -17,7 +17,7 @@ after (line ∷ lines) before = after lines (line ∷ before)
 -- piece i is the first that is no line: those before it say these lines, and it alone fails
 pub record FailsFirst (workers n : ℕ) (before : List Line) (pieces : List (List ℕ)) (fault : LineFault) (i : ℕ) (lines : List Line) : Type 0 where
   pub good : lines_in workers before n (take i pieces) ≡ Ok lines
-  pub bad : line_in workers (after lines before) (field pieces i) ≡ Err fault
+  pub bad : judged_line workers (after lines before) (field pieces i) ≡ Err fault
 
 -- the first piece is no header, and the fault says so
 pub record FailsAtHeader (text : List ℕ) (fault : LineFault) (m : ℕ) : Type 0 where

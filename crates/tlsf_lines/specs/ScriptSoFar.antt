@@ -1,11 +1,10 @@
 -- What a script holds while it is made, and at last. This serves the contracts of private functions alone.
-use Rattle.std.specs.Prelude.{ℕ, ◌≡◌, ◌+◌, ◌++◌, List, [], if◌then◌else◌, length, count_by, Ok}
+use Rattle.std.specs.Prelude.{ℕ, ◌≡◌, ◌+◌, ◌++◌, List, [], if◌then◌else◌, count_by, Ok}
 use Rattle.tlsf_lines.specs.declared.line.Line.{Line}
 use Rattle.tlsf_lines.specs.declared.script.Script.{Script}
-use Rattle.tlsf_lines.specs.Events.{events_from, events_in, events_of, labels_from, labels_in, labels_of, width_in}
+use Rattle.tlsf_lines.specs.Events.{events_from, events_in, events_of, labels_from, labels_in, labels_of}
 use Rattle.tlsf_lines.specs.Lines.{is_call}
-use Rattle.tlsf_lines.specs.Pieces.{pieces_of}
-use Rattle.tlsf_lines.specs.Trace.{Trace, calls_of, lines_in, trace_of}
+use Rattle.tlsf_lines.specs.Trace.{Trace, calls_of, trace_of}
 
 -- a script with the events and the labels of one line more
 pub record Adds (workers : ℕ) (before : List Line) (line : Line) (old new : Script) : Type 0 where
@@ -19,14 +18,6 @@ pub record Holds (workers : ℕ) (before lines : List Line) (script : Script) : 
   pub events : (more : List Line) → script.events.items ++ events_from workers before more ≡ events_from workers [] (lines ++ more)
   pub labels : (more : List Line) → script.labels.items ++ labels_from workers more ≡ labels_from workers (lines ++ more)
   pub calls : script.calls ≡ count_by is_call lines
-  pub width : length script.events.items ≡ width_in workers before
-
--- a script that has what the lines of a text stand for, but for the drains at the end
-pub record HasLines (workers : ℕ) (text : List ℕ) (script : Script) : Type 0 where
-  pub before : List Line
-  pub lines : List Line
-  pub spelled : lines_in workers [] 2 (pieces_of text) ≡ Ok lines
-  pub holds : Holds workers before lines script
 
 -- the script of a trace
 pub record IsScript (script : Script) (trace : Trace) : Type 0 where

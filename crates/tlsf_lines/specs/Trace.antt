@@ -27,8 +27,8 @@ unless true fault = Ok tt
 unless false fault = Err fault
 
 -- one line, after the lines before
-unfoldable pub line_in : ℕ → List Line → List ℕ → Result Line LineFault
-line_in workers before piece = do
+unfoldable pub judged_line : ℕ → List Line → List ℕ → Result Line LineFault
+judged_line workers before piece = do
   fields ← some_or (fields_in piece) BadLine
   word ← some_or (word_of words (field fields 0)) BadLine
   values ← some_or (values_in workers (kinds_of word) (drop 1 fields)) BadLine
@@ -45,7 +45,7 @@ at_line n (Err fault) = Err (fault, n)
 unfoldable pub lines_in : ℕ → List Line → ℕ → List (List ℕ) → Result (List Line) (LineFault × ℕ)
 lines_in workers before n [] = Ok []
 lines_in workers before n (piece ∷ pieces) = do
-  line ← at_line n (line_in workers before piece)
+  line ← at_line n (judged_line workers before piece)
   lines ← lines_in workers (line ∷ before) (n + 1) pieces
   Ok (line ∷ lines)
 

@@ -1,5 +1,7 @@
 -- A trace as the definitions see it, and what a function gives beside what a definition says.
 use Rattle.std.specs.Prelude.{ℕ, ◌≡◌, ◌+◌, ◌<◌, List, [], length, Result, Ok, Err}
+use Rattle.tlsf_calls.specs.declared.target.Target.{Target}
+use Rattle.tlsf_lines.specs.declared.line.Line.{Line}
 use Rattle.tlsf_lines.specs.declared.trace.Trace.{Trace as Held}
 use Rattle.tlsf_lines.specs.declared.line_fault.LineFault.{LineFault}
 use Rattle.tlsf_lines.specs.declared.parse_error.ParseError.{ParseError}
@@ -17,10 +19,10 @@ abbrev pub FailsAt : {Y : Type 0} → ParseError → Result Y (LineFault × ℕ)
 FailsAt whole.NoMemory said = Unit {0}
 FailsAt (whole.At fault n) said = said ≡ Err (fault, n)
 
--- what a function gave, seen by a view, is what the definition says, unless memory ran out
-abbrev pub GivesAt : {X Y : Type 0} → (X → Y) → Result X ParseError → Result Y (LineFault × ℕ) → Type 0
-GivesAt view (Ok given) said = said ≡ Ok (view given)
-GivesAt view (Err error) said = FailsAt error said
+-- the line that was found, without what else was
+abbrev pub line_found : Result (Line × Target) LineFault → Result Line LineFault
+line_found (Ok found) = Ok found.0
+line_found (Err fault) = Err fault
 
 -- a text begins with this header, and this is what stands behind that line
 pub record Heads (text : List ℕ) (header : Header) (rest : List ℕ) : Type 0 where
@@ -28,3 +30,17 @@ pub record Heads (text : List ℕ) (header : Header) (rest : List ℕ) : Type 0 
   pub range : IsHeaderInRange header
   pub count : length (pieces_of text) ≡ length (pieces_of rest) + 1
   pub shorter : length rest < length text
+
+-- what stands behind a header is lines, and this was made of them
+pub record HasLines {M : Type 0} (has : M → Header → List Line → List Line → Type 0) (header : Header) (text : List ℕ) (made : M) : Type 0 where
+  pub before : List Line
+  pub lines : List Line
+  pub spelled : lines_in header.workers [] 2 (pieces_of text) ≡ Ok lines
+  pub count : length lines ≡ length (pieces_of text)
+  pub held : has made header before lines
+
+-- a text spells this trace, and each of its pieces is a line
+pub record Spells (text : List ℕ) (trace : Trace) : Type 0 where
+  pub spelled : trace_of text ≡ Ok trace
+  pub range : IsHeaderInRange trace.header
+  pub count : length trace.lines + 1 ≡ length (pieces_of text)

@@ -14,7 +14,7 @@ use tlsf_calls::Chunk;
 /// ```
 /// // of "f 0 1\n" it is "f 0 1", of "f 0 1" none
 /// ```
-pub fn line_of(piece: &[u8]) -> Option<&[u8]>
+pub fn cut_feed(piece: &[u8]) -> Option<&[u8]>
     ensures { option_map (λ line. fields_of line.now) result ≡ spelled.fields_in piece.now }
 {
     match piece {

@@ -3,7 +3,7 @@ ghost use Rattle.tlsf_lines.specs.CutFields.{fields_of};
 ghost use Rattle.tlsf_lines.specs.Header as spelled;
 ghost use Rattle.tlsf_lines.specs.Ranges.{IsHeaderInRange};
 
-use crate::fields::{cut_field, line_of};
+use crate::fields::{cut_feed, cut_field};
 use crate::numbers::digits_in;
 use crate::version::Version;
 
@@ -84,7 +84,7 @@ pub fn header_in(piece: &[u8]) -> Option<Header>
     ensures header { result ≡ spelled.header_in piece.now }
     ensures ranges { IfSome result IsHeaderInRange }
 {
-    let (name, version, workers, words, capacity) = five_fields(line_of(piece)?)?;
+    let (name, version, workers, words, capacity) = five_fields(cut_feed(piece)?)?;
     if name != b"tlsf".as_slice() {
         return None;
     }

@@ -1,7 +1,6 @@
-ghost use Rattle.std.specs.Prelude.{◌≡◌, ℕ, ◌+◌, ◌<◌, ◌≤◌, ◌^◌, List, [], ◌∷◌, length, OnOk};
-ghost use Rattle.tlsf_lines.specs.Events.{target_of, width_in};
-ghost use Rattle.tlsf_lines.specs.Labels as spelled;
-ghost use Rattle.tlsf_lines.specs.Labels.{can_make, made_of};
+ghost use Rattle.std.specs.Prelude.{◌≡◌, ℕ, ◌+◌, ◌<◌, ◌≤◌, ◌^◌, List, [], ◌∷◌, length, is_some, IfSome, OnOk};
+ghost use Rattle.tlsf_lines.specs.Events.{target_of, target_used, width_in};
+ghost use Rattle.tlsf_lines.specs.Labels.{can_make, can_use, is_in_order, made_of};
 ghost use Rattle.tlsf_lines.specs.LabelMemory.{Recalls, Remembers, maker_at};
 ghost use Rattle.tlsf_lines.specs.declared.line.Line.{Line as ALine};
 ghost use Rattle.tlsf_lines.specs.declared.line.Line.TheVariants.{Allocate, Phase};
@@ -49,50 +48,49 @@ impl Labels {
         self.makers.get(label as usize).copied().flatten()
     }
 
-    // Whether no line before made the label.
-    fn is_new(&self, label: u32) -> bool
-        ensures { (before : List ALine) → Remembers self.now before
-            → result ≡ can_make (made_of label before) }
+    // What a label of an earlier line stands for to the worker: it made the label, or anybody did in an earlier phase.
+    fn judge_use(&self, label: u32, worker: u32) -> Option<Target>
+        ensures order { (before : List ALine) → Remembers self.now before
+            → is_some result ≡ can_use worker (made_of label before) }
+        ensures target { (workers : ℕ) (before : List ALine) → Recalls workers self.now before
+            → IfSome result (λ target. target ≡ target_of workers label before) }
     {
-        self.maker(label).is_none()
+        let maker = self.maker(label)?;
+        if maker.phase == self.phase && maker.worker != worker {
+            return None;
+        }
+        Some(Target::Made(maker.event))
     }
 
-    // Whether the worker made the label, or anybody did in an earlier phase.
-    fn can_use(&self, label: u32, worker: u32) -> bool
-        ensures { (before : List ALine) → Remembers self.now before
-            → result ≡ spelled.can_use worker (made_of label before) }
+    // `Absent` for a label that no line before made.
+    fn judge_making(&self, label: u32) -> Option<Target>
+        ensures order { (before : List ALine) → Remembers self.now before
+            → is_some result ≡ can_make (made_of label before) }
+        ensures target { IfSome result (λ target. target ≡ Target.Absent) }
     {
         match self.maker(label) {
-            None => false,
-            Some(maker) => maker.phase != self.phase || maker.worker == worker,
+            None => Some(Target::Absent),
+            Some(_) => None,
         }
     }
 
-    /// Whether a line may stand here: it makes a label that no line before it made, or uses one
-    /// that its own worker made, or that was made in an earlier phase.
-    pub fn is_in_order(&self, line: &Line) -> bool
-        ensures { (before : List ALine) → Remembers self.now before
-            → result ≡ spelled.is_in_order before line.now }
+    /// What the label stands for that a line uses, `Absent` for a line that uses none; `None` where the line may not
+    /// stand here: it makes a label that a line before it made, or uses one that no line made, or another worker in this
+    /// phase.
+    pub fn judge(&self, line: &Line) -> Option<Target>
+        ensures order { (before : List ALine) → Remembers self.now before
+            → is_some result ≡ is_in_order before line.now }
+        ensures target { (workers : ℕ) (before : List ALine) → Recalls workers self.now before
+            → IfSome result (λ target. target ≡ target_used workers before line.now) }
     {
         match line {
-            Line::Allocate { label, .. } => self.is_new(*label),
-            Line::Release { worker, label } => self.can_use(*label, *worker),
-            Line::Write { worker, label, .. } => self.can_use(*label, *worker),
-            Line::Read { worker, label, .. } => self.can_use(*label, *worker),
-            Line::Resize { worker, label, .. } => self.can_use(*label, *worker),
-            Line::Drain { .. } => true,
-            Line::Phase => true,
-        }
-    }
-
-    /// What a label stands for: what its event makes, or `Absent` where no line made it.
-    pub fn target(&self, label: u32) -> Target
-        ensures { (workers : ℕ) (before : List ALine) → Recalls workers self.now before
-            → result ≡ target_of workers label before }
-    {
-        match self.maker(label) {
-            Some(maker) => Target::Made(maker.event),
-            None => Target::Absent,
+            Line::Allocate { label, .. } => self.judge_making(*label),
+            Line::Release { worker, label } => self.judge_use(*label, *worker),
+            Line::Write { worker, label, .. } => self.judge_use(*label, *worker),
+            Line::Read { worker, label, .. } => self.judge_use(*label, *worker),
+            Line::Resize { worker, label, .. } => self.judge_use(*label, *worker),
+            Line::Drain { .. } => Some(Target::Absent),
+            Line::Phase => Some(Target::Absent),
         }
     }
 

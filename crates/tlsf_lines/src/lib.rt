@@ -16,7 +16,7 @@
 //! with the first fault of a text that spells no trace. [`write_replies`] writes what the events were answered, and
 //! [`write_out`] hands a text on. No worker stands here: who runs the events is `tlsf_trace`.
 //!
-//! Who tells more of a faulty line reads it by the same steps: [`cut_piece`] and [`line_of`] cut a line off a text, [`cut_field`]
+//! Who tells more of a faulty line reads it by the same steps: [`cut_piece`] and [`cut_feed`] cut a line off a text, [`cut_field`]
 //! its fields, and [`header_in`], [`word_of`], [`digits_in`] and [`chunk_in`] say what a line or a field spells.
 //!
 //! Contracts see the trace that a text spells, or its first fault, as `trace_of`, its events as `events_of`, and reply lines
@@ -37,6 +37,7 @@ mod maker;
 mod names;
 mod numbers;
 mod parse_error;
+mod parsing;
 mod payload;
 mod phases;
 mod pieces;
@@ -53,7 +54,7 @@ mod trace_fault;
 mod version;
 mod word;
 
-pub use fields::{cut_field, line_of};
+pub use fields::{cut_feed, cut_field};
 pub use header::{Header, header_in};
 pub use input::{read_all, read_counted};
 pub use last_read::LastRead;

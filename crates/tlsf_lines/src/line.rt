@@ -1,15 +1,16 @@
-ghost use Rattle.std.specs.Prelude.{◌≡◌, ◌<◌, List};
-ghost use Rattle.tlsf_lines.specs.LabelMemory.{Remembers};
-ghost use Rattle.tlsf_lines.specs.Lines;
-ghost use Rattle.tlsf_lines.specs.Trace as spelled;
+ghost use Rattle.std.specs.Prelude.{◌≡◌, ◌<◌, List, IfOk};
+ghost use Rattle.tlsf_lines.specs.Events.{target_used};
+ghost use Rattle.tlsf_lines.specs.LabelMemory.{Recalls, Remembers};
+ghost use Rattle.tlsf_lines.specs.Trace.{judged_line};
+ghost use Rattle.tlsf_lines.specs.Views.{line_found};
 ghost use Rattle.tlsf_lines.specs.declared.line.Line.{Line as ALine};
 
-use crate::fields::{cut_field, line_of};
+use crate::fields::{cut_feed, cut_field};
 use crate::labels::Labels;
 use crate::line_fault::LineFault;
-use crate::reading::line_of_word;
+use crate::reading::parse_fields;
 use crate::word::word_of;
-use tlsf_calls::Chunk;
+use tlsf_calls::{Chunk, Target};
 
 /// A line of a trace behind its header: one call that a worker makes, or the end of a phase. A worker is less than the
 /// header's number of workers, a label at most 65535, and `len` and `at` are bytes of a payload, at most 4294967295.
@@ -61,6 +62,7 @@ pub enum Line {
 
 impl Line {
     ghost use Rattle.std.specs.Prelude.{◌≡◌};
+    ghost use Rattle.tlsf_lines.specs.Events;
     ghost use Rattle.tlsf_lines.specs.Lines;
     ghost use Rattle.tlsf_lines.specs.Phases;
     ghost use Rattle.tlsf_lines.specs.Records;
@@ -77,6 +79,21 @@ impl Line {
             | Line::Read { .. }
             | Line::Resize { .. }
             | Line::Drain { .. } => true,
+        }
+    }
+
+    /// How many events the line stands for: the end of a phase is a drain of each worker.
+    pub(crate) fn width(&self, workers: u32) -> u32
+        ensures { result ≡ Events.width_of workers self.now }
+    {
+        match self {
+            Line::Phase => workers,
+            Line::Allocate { .. }
+            | Line::Release { .. }
+            | Line::Write { .. }
+            | Line::Read { .. }
+            | Line::Resize { .. }
+            | Line::Drain { .. } => 1,
         }
     }
 
@@ -110,28 +127,29 @@ impl Line {
     }
 }
 
-/// The line that a piece says, after the lines that the labels remember.
-#[tactic(auto, unfolding(crate::specs::Trace::line_in))]
-pub fn line_in(workers: u32, labels: &Labels, piece: &[u8]) -> Result<Line, LineFault>
+/// The line that a piece says, judged behind the lines that the labels remember, and what the label stands for that it uses.
+pub fn judge_line(workers: u32, labels: &Labels, piece: &[u8]) -> Result<(Line, Target), LineFault>
     requires { 0 < workers }
-    ensures { (before : List ALine) → Remembers labels.now before
-        → spelled.line_in workers before piece.now ≡ result }
+    ensures line { (before : List ALine) → Remembers labels.now before
+        → judged_line workers before piece.now ≡ line_found result }
+    ensures target { (before : List ALine) → Recalls workers labels.now before
+        → IfOk result (λ found. found.1 ≡ target_used workers before found.0) }
 {
-    let Some(line) = line_of(piece) else {
+    let Some(line) = cut_feed(piece) else {
         return Err(LineFault::BadLine);
     };
     let (first, fields) = cut_field(line);
     let Some(word) = word_of(first) else {
         return Err(LineFault::BadLine);
     };
-    let Some(said) = line_of_word(workers, word, fields) else {
+    let Some(said) = parse_fields(workers, word, fields) else {
         return Err(LineFault::BadLine);
     };
     let Some(line) = said else {
         return Err(LineFault::BadNumber);
     };
-    if !labels.is_in_order(&line) {
-        return Err(LineFault::LabelOrder);
+    match labels.judge(&line) {
+        Some(target) => Ok((line, target)),
+        None => Err(LineFault::LabelOrder),
     }
-    Ok(line)
 }

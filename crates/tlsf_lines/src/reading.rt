@@ -18,7 +18,7 @@ const MOST_LABEL: u32 = 65_535;
 const MOST_COUNT: u32 = 64;
 
 #[tactic(auto, unfolding(crate::specs::Lines::line_from))]
-fn allocate_of(worker: Option<u32>, label: Option<u32>, len: Option<u32>) -> Option<Line>
+fn make_allocate(worker: Option<u32>, label: Option<u32>, len: Option<u32>) -> Option<Line>
     ensures { result ≡ Lines.line_from word.Allocate (value_of worker ∷ value_of label ∷ value_of len ∷ []) }
 {
     Some(Line::Allocate {
@@ -29,7 +29,7 @@ fn allocate_of(worker: Option<u32>, label: Option<u32>, len: Option<u32>) -> Opt
 }
 
 #[tactic(auto, unfolding(crate::specs::Lines::line_from))]
-fn release_of(worker: Option<u32>, label: Option<u32>) -> Option<Line>
+fn make_release(worker: Option<u32>, label: Option<u32>) -> Option<Line>
     ensures { result ≡ Lines.line_from word.Release (value_of worker ∷ value_of label ∷ []) }
 {
     Some(Line::Release {
@@ -39,7 +39,12 @@ fn release_of(worker: Option<u32>, label: Option<u32>) -> Option<Line>
 }
 
 #[tactic(auto, unfolding(crate::specs::Lines::line_from))]
-fn write_of(worker: Option<u32>, label: Option<u32>, at: Option<u32>, bytes: Chunk) -> Option<Line>
+fn make_write(
+    worker: Option<u32>,
+    label: Option<u32>,
+    at: Option<u32>,
+    bytes: Chunk,
+) -> Option<Line>
     ensures { result ≡ Lines.line_from word.Write (value_of worker ∷ value_of label ∷ value_of at ∷ Bytes bytes ∷ []) }
 {
     Some(Line::Write {
@@ -51,7 +56,12 @@ fn write_of(worker: Option<u32>, label: Option<u32>, at: Option<u32>, bytes: Chu
 }
 
 #[tactic(auto, unfolding(crate::specs::Lines::line_from))]
-fn read_of(worker: Option<u32>, label: Option<u32>, at: Option<u32>, n: Option<u32>) -> Option<Line>
+fn make_read(
+    worker: Option<u32>,
+    label: Option<u32>,
+    at: Option<u32>,
+    n: Option<u32>,
+) -> Option<Line>
     ensures { result ≡ Lines.line_from word.Read (value_of worker ∷ value_of label ∷ value_of at ∷ value_of n ∷ []) }
 {
     Some(Line::Read {
@@ -63,7 +73,7 @@ fn read_of(worker: Option<u32>, label: Option<u32>, at: Option<u32>, n: Option<u
 }
 
 #[tactic(auto, unfolding(crate::specs::Lines::line_from))]
-fn resize_of(worker: Option<u32>, label: Option<u32>, len: Option<u32>) -> Option<Line>
+fn make_resize(worker: Option<u32>, label: Option<u32>, len: Option<u32>) -> Option<Line>
     ensures { result ≡ Lines.line_from word.Resize (value_of worker ∷ value_of label ∷ value_of len ∷ []) }
 {
     Some(Line::Resize {
@@ -74,7 +84,7 @@ fn resize_of(worker: Option<u32>, label: Option<u32>, len: Option<u32>) -> Optio
 }
 
 #[tactic(auto, unfolding(crate::specs::Lines::line_from))]
-fn drain_of(worker: Option<u32>, most: Option<u32>) -> Option<Line>
+fn make_drain(worker: Option<u32>, most: Option<u32>) -> Option<Line>
     ensures { result ≡ Lines.line_from word.Drain (value_of worker ∷ value_of most ∷ []) }
 {
     Some(Line::Drain {
@@ -84,28 +94,28 @@ fn drain_of(worker: Option<u32>, most: Option<u32>) -> Option<Line>
 }
 
 // `a w L len`, behind its word.
-fn allocate_in(workers: u32, fields: Option<&[u8]>) -> Option<Option<Line>>
+fn parse_allocate(workers: u32, fields: Option<&[u8]>) -> Option<Option<Line>>
     requires { 0 < workers }
     ensures { result ≡ line_behind workers word.Allocate (fields_left fields.entry) }
 {
     let (worker, fields) = next_number(fields, 0, workers - 1)?;
     let (label, fields) = next_number(fields, 0, MOST_LABEL)?;
     let len = last_number(fields, 0, u32::MAX)?;
-    Some(allocate_of(worker, label, len))
+    Some(make_allocate(worker, label, len))
 }
 
 // `f w L`, behind its word.
-fn release_in(workers: u32, fields: Option<&[u8]>) -> Option<Option<Line>>
+fn parse_release(workers: u32, fields: Option<&[u8]>) -> Option<Option<Line>>
     requires { 0 < workers }
     ensures { result ≡ line_behind workers word.Release (fields_left fields.entry) }
 {
     let (worker, fields) = next_number(fields, 0, workers - 1)?;
     let label = last_number(fields, 0, MOST_LABEL)?;
-    Some(release_of(worker, label))
+    Some(make_release(worker, label))
 }
 
 // `p w L at HEX`, behind its word.
-fn write_in(workers: u32, fields: Option<&[u8]>) -> Option<Option<Line>>
+fn parse_write(workers: u32, fields: Option<&[u8]>) -> Option<Option<Line>>
     requires { 0 < workers }
     ensures { result ≡ line_behind workers word.Write (fields_left fields.entry) }
 {
@@ -113,11 +123,11 @@ fn write_in(workers: u32, fields: Option<&[u8]>) -> Option<Option<Line>>
     let (label, fields) = next_number(fields, 0, MOST_LABEL)?;
     let (at, fields) = next_number(fields, 0, u32::MAX)?;
     let bytes = last_payload(fields)?;
-    Some(write_of(worker, label, at, bytes))
+    Some(make_write(worker, label, at, bytes))
 }
 
 // `g w L at n`, behind its word.
-fn read_in(workers: u32, fields: Option<&[u8]>) -> Option<Option<Line>>
+fn parse_read(workers: u32, fields: Option<&[u8]>) -> Option<Option<Line>>
     requires { 0 < workers }
     ensures { result ≡ line_behind workers word.Read (fields_left fields.entry) }
 {
@@ -125,33 +135,33 @@ fn read_in(workers: u32, fields: Option<&[u8]>) -> Option<Option<Line>>
     let (label, fields) = next_number(fields, 0, MOST_LABEL)?;
     let (at, fields) = next_number(fields, 0, u32::MAX)?;
     let n = last_number(fields, 1, MOST_COUNT)?;
-    Some(read_of(worker, label, at, n))
+    Some(make_read(worker, label, at, n))
 }
 
 // `r w L len`, behind its word.
-fn resize_in(workers: u32, fields: Option<&[u8]>) -> Option<Option<Line>>
+fn parse_resize(workers: u32, fields: Option<&[u8]>) -> Option<Option<Line>>
     requires { 0 < workers }
     ensures { result ≡ line_behind workers word.Resize (fields_left fields.entry) }
 {
     let (worker, fields) = next_number(fields, 0, workers - 1)?;
     let (label, fields) = next_number(fields, 0, MOST_LABEL)?;
     let len = last_number(fields, 0, u32::MAX)?;
-    Some(resize_of(worker, label, len))
+    Some(make_resize(worker, label, len))
 }
 
 // `d w n`, behind its word.
-fn drain_in(workers: u32, fields: Option<&[u8]>) -> Option<Option<Line>>
+fn parse_drain(workers: u32, fields: Option<&[u8]>) -> Option<Option<Line>>
     requires { 0 < workers }
     ensures { result ≡ line_behind workers word.Drain (fields_left fields.entry) }
 {
     let (worker, fields) = next_number(fields, 0, workers - 1)?;
     let most = last_number(fields, 1, MOST_DRAINED)?;
-    Some(drain_of(worker, most))
+    Some(make_drain(worker, most))
 }
 
 // `phase` has no field behind it.
 #[tactic(auto, unfolding(crate::specs::Lines::line_from))]
-fn phase_in(fields: Option<&[u8]>) -> Option<Option<Line>>
+fn parse_phase(fields: Option<&[u8]>) -> Option<Option<Line>>
     ensures { (workers : ℕ) → result ≡ line_behind workers word.Phase (fields_left fields.entry) }
 {
     match fields {
@@ -161,17 +171,17 @@ fn phase_in(fields: Option<&[u8]>) -> Option<Option<Line>>
 }
 
 /// The line that the fields behind a word say, where there are so many workers.
-pub fn line_of_word(workers: u32, word: Word, fields: Option<&[u8]>) -> Option<Option<Line>>
+pub fn parse_fields(workers: u32, word: Word, fields: Option<&[u8]>) -> Option<Option<Line>>
     requires { 0 < workers }
     ensures { result ≡ line_behind workers word (fields_left fields.entry) }
 {
     match word {
-        Word::Allocate => allocate_in(workers, fields),
-        Word::Release => release_in(workers, fields),
-        Word::Write => write_in(workers, fields),
-        Word::Read => read_in(workers, fields),
-        Word::Resize => resize_in(workers, fields),
-        Word::Drain => drain_in(workers, fields),
-        Word::Phase => phase_in(fields),
+        Word::Allocate => parse_allocate(workers, fields),
+        Word::Release => parse_release(workers, fields),
+        Word::Write => parse_write(workers, fields),
+        Word::Read => parse_read(workers, fields),
+        Word::Resize => parse_resize(workers, fields),
+        Word::Drain => parse_drain(workers, fields),
+        Word::Phase => parse_phase(fields),
     }
 }

@@ -1,21 +1,13 @@
-ghost use Rattle.std.specs.Prelude.{◌≡◌, ◌*◌, ◌+◌, ◌^◌, ◌<◌, ◌≤◌, List, [], ◌∷◌, ◌++◌, replicate, None, vec_len, length, IfErr, IfOk, OnOk};
-ghost use Rattle.tlsf_lines.specs.Events.{last_drains};
-ghost use Rattle.tlsf_lines.specs.LabelMemory.{Recalls};
-ghost use Rattle.tlsf_lines.specs.Pieces.{pieces_of};
-ghost use Rattle.tlsf_lines.specs.Ranges.{IsHeaderInRange};
-ghost use Rattle.tlsf_lines.specs.ScriptSoFar.{Adds, HasLines, IsScriptOfText};
-ghost use Rattle.tlsf_lines.specs.Trace as spelled;
-ghost use Rattle.tlsf_lines.specs.Views.{FailsAt};
+ghost use Rattle.std.specs.Prelude.{◌≡◌, ◌+◌, ◌^◌, ◌<◌, List, [], ◌∷◌, ◌++◌, replicate, None, OnOk};
+ghost use Rattle.tlsf_lines.specs.Events.{last_drains, target_used};
+ghost use Rattle.tlsf_lines.specs.ScriptSoFar.{Adds};
 ghost use Rattle.tlsf_lines.specs.declared.line.Line.{Line as ALine};
 
 use crate::header::Header;
-use crate::labels::Labels;
-use crate::line::{Line, line_in};
-use crate::parse_error::ParseError;
-use crate::pieces::cut_piece;
-use crate::trace::{cut_header, room_for_lines};
+use crate::line::Line;
+use crate::parsing::FromLines;
 use std::alloc::{AllocError, Global};
-use tlsf_calls::{Call, Event, MOST_DRAINED};
+use tlsf_calls::{Call, Event, MOST_DRAINED, Target};
 
 /// What a trace asks for: its header, the events that its lines stand for, and the label of each, where it has one.
 ///
@@ -38,60 +30,11 @@ pub struct Script {
 }
 
 impl Script {
-    /// The script of the trace that a text spells, or the text's first fault. Each line becomes its events as soon as it
-    /// is judged, so no list of lines is held.
-    pub(crate) fn of(alloc: Global, text: &[u8]) -> Result<Script, ParseError>
-        requires { length text.now ≤ 2 ^ 20 }
-        ensures ok { IfOk result (λ script. IsScriptOfText text.now script) }
-        ensures header { IfOk result (λ script. IsHeaderInRange script.header) }
-        ensures err { IfErr result (λ error. FailsAt error (spelled.trace_of text.now)) }
-    {
-        let (header, rest) = cut_header(text)?;
-        let room = room_for_lines(rest);
-        let mut script = Script {
-            header,
-            events: Vec::with_capacity(alloc, room)?,
-            labels: Vec::with_capacity(alloc, room)?,
-            calls: 0,
-        };
-        script.add_lines(alloc, rest)?;
-        script.drain_all(header.workers)?;
-        Ok(script)
-    }
-
-    // Adds the events of the lines behind the header, or answers the first that is none.
-    fn add_lines(&mut self, alloc: Global, text: &[u8]) -> Result<(), ParseError>
-        requires workers { (1 ≤ self.old.header.workers) × (self.old.header.workers ≤ 8) }
-        requires short { length text.now ≤ 2 ^ 20 }
-        requires new { (self.old.events.items ≡ []) × (self.old.labels.items ≡ []) × (self.old.calls ≡ 0) }
-        ensures ok { OnOk result (HasLines self.old.header.workers text.now self.new) }
-        ensures header { OnOk result (self.new.header ≡ self.old.header) }
-        ensures err { IfErr result (λ error. FailsAt error (spelled.lines_in self.old.header.workers [] 2 (pieces_of text.now))) }
-    {
-        let workers = self.header.workers;
-        let mut labels = Labels::new(alloc);
-        let mut rest = text;
-        let mut number = 2;
-        while !rest.is_empty() {
-            let (piece, after) = cut_piece(rest);
-            let line = match line_in(workers, &labels, piece) {
-                Ok(line) => line,
-                Err(fault) => return Err(ParseError::At(fault, number)),
-            };
-            let events = self.events.len() as u32;
-            self.add(workers, &labels, &line)?;
-            labels.remember(&line, events)?;
-            number += 1;
-            rest = after;
-        }
-        Ok(())
-    }
-
-    // Adds the events of a line, behind the lines that the labels remember.
-    fn add(&mut self, workers: u32, labels: &Labels, line: &Line) -> Result<(), AllocError>
+    // Adds the events of a line. The target is what the label stands for that it uses.
+    fn add_events(&mut self, line: &Line, target: Target) -> Result<(), AllocError>
         requires { self.old.calls + 1 < 2 ^ 32 }
-        ensures { (before : List ALine) → Recalls workers labels.now before
-            → OnOk result (Adds workers before line.now self.old self.new) }
+        ensures { (before : List ALine) → target ≡ target_used self.old.header.workers before line.now
+            → OnOk result (Adds self.old.header.workers before line.now self.old self.new) }
     {
         if line.is_call() {
             self.calls += 1;
@@ -101,7 +44,6 @@ impl Script {
                 self.push(worker, Call::Allocate { len }, Some(label))
             }
             Line::Release { worker, label } => {
-                let target = labels.target(label);
                 self.push(worker, Call::Release { target }, Some(label))
             }
             Line::Write {
@@ -109,35 +51,28 @@ impl Script {
                 label,
                 at,
                 bytes,
-            } => {
-                let target = labels.target(label);
-                self.push(worker, Call::Write { target, at, bytes }, Some(label))
-            }
+            } => self.push(worker, Call::Write { target, at, bytes }, Some(label)),
             Line::Read {
                 worker,
                 label,
                 at,
                 n,
-            } => {
-                let target = labels.target(label);
-                self.push(worker, Call::Read { target, at, n }, Some(label))
-            }
+            } => self.push(worker, Call::Read { target, at, n }, Some(label)),
             Line::Resize { worker, label, len } => {
-                let target = labels.target(label);
                 self.push(worker, Call::Resize { target, len }, Some(label))
             }
             Line::Drain { worker, most } => self.push(worker, Call::Drain { most }, None),
-            Line::Phase => self.drain_all(workers),
+            Line::Phase => self.drain_all(),
         }
     }
 
     // Adds a drain of each worker.
-    fn drain_all(&mut self, workers: u32) -> Result<(), AllocError>
-        ensures events { OnOk result (self.new.events.items ≡ self.old.events.items ++ last_drains workers) }
-        ensures labels { OnOk result (self.new.labels.items ≡ self.old.labels.items ++ replicate workers None) }
+    fn drain_all(&mut self) -> Result<(), AllocError>
+        ensures events { OnOk result (self.new.events.items ≡ self.old.events.items ++ last_drains self.old.header.workers) }
+        ensures labels { OnOk result (self.new.labels.items ≡ self.old.labels.items ++ replicate self.old.header.workers None) }
         ensures same { (self.new.header ≡ self.old.header) × (self.new.calls ≡ self.old.calls) }
     {
-        for worker in 0..workers {
+        for worker in 0..self.header.workers {
             self.push(worker, Call::Drain { most: MOST_DRAINED }, None)?;
         }
         Ok(())
@@ -151,6 +86,34 @@ impl Script {
     {
         self.events.push(Event { worker, call })?;
         self.labels.push(label)?;
+        Ok(())
+    }
+}
+
+impl FromLines for Script {
+    ghost use Rattle.std.specs.Prelude.{◌≡◌};
+    ghost use Rattle.tlsf_lines.specs.ScriptSoFar.{Holds, IsScript};
+
+    ghost has = { λ script header before lines. (script.header ≡ header) × Holds header.workers before lines script };
+
+    ghost is_of = { λ script trace. IsScript script trace };
+
+    fn begin(alloc: Global, header: Header, room: usize) -> Result<Script, AllocError> {
+        Ok(Script {
+            header,
+            events: Vec::with_capacity(alloc, room)?,
+            labels: Vec::with_capacity(alloc, room)?,
+            calls: 0,
+        })
+    }
+
+    fn add(&mut self, line: &Line, target: Target) -> Result<(), AllocError> {
+        self.add_events(line, target)?;
+        Ok(())
+    }
+
+    fn end(&mut self) -> Result<(), AllocError> {
+        self.drain_all()?;
         Ok(())
     }
 }

@@ -7,8 +7,9 @@ ghost use Rattle.tlsf_lines.specs.Trace.{trace_of};
 ghost use Rattle.tlsf_lines.specs.TraceFaults.{IsLineFault, fault_of, no_memory_fault};
 ghost use Rattle.tlsf_lines.specs.Views.{view_trace};
 
+use crate::parsing::parse;
 use crate::script::Script;
-use crate::trace::{Trace, parse};
+use crate::trace::Trace;
 use crate::trace_fault::TraceFault;
 use std::alloc::Global;
 
@@ -32,7 +33,7 @@ pub fn trace_in(alloc: Global, text: &[u8]) -> Result<Trace, TraceFault>
     ensures lines { IfOk result (λ trace. vec_len trace.lines ≤ 32768) }
     ensures err { IfErr result (λ fault. (fault ≡ no_memory_fault) ⊎ (IsLineFault fault × (fault_of text.now ≡ Some fault))) }
 {
-    Ok(parse(alloc, text)?)
+    Ok(parse::<Trace>(alloc, text)?)
 }
 
 /// The script of the trace that a text spells: its events and their labels, for a replay.
@@ -53,5 +54,5 @@ pub fn script_in(alloc: Global, text: &[u8]) -> Result<Script, TraceFault>
     ensures header { IfOk result (λ script. IsHeaderInRange script.header) }
     ensures err { IfErr result (λ fault. (fault ≡ no_memory_fault) ⊎ (IsLineFault fault × (fault_of text.now ≡ Some fault))) }
 {
-    Ok(Script::of(alloc, text)?)
+    Ok(parse::<Script>(alloc, text)?)
 }

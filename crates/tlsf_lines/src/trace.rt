@@ -1,17 +1,8 @@
-ghost use Rattle.std.specs.Prelude.{◌≡◌, ◌+◌, ◌<◌, ◌≤◌, ◌^◌, [], length, vec_len, IfErr, IfOk};
-ghost use Rattle.tlsf_lines.specs.Pieces.{pieces_of};
-ghost use Rattle.tlsf_lines.specs.Trace as spelled;
-ghost use Rattle.tlsf_lines.specs.Ranges.{IsHeaderInRange};
-ghost use Rattle.tlsf_lines.specs.Views.{FailsAt, GivesAt, Heads, view_trace};
-
-use crate::header::{Header, header_in};
-use crate::input::MOST_LINES;
-use crate::labels::Labels;
-use crate::line::{Line, line_in};
-use crate::line_fault::LineFault;
-use crate::parse_error::ParseError;
-use crate::pieces::cut_piece;
-use std::alloc::Global;
+use crate::header::Header;
+use crate::line::Line;
+use crate::parsing::FromLines;
+use std::alloc::{AllocError, Global};
+use tlsf_calls::Target;
 
 /// A trace that is raced: what a text asks of a yard of workers, line by line.
 ///
@@ -47,67 +38,27 @@ impl Trace {
     }
 }
 
-/// The fewest bytes of a line, as those of `d 0 1` with its line feed.
-const LEAST_LINE: usize = 6;
+impl FromLines for Trace {
+    ghost use Rattle.std.specs.Prelude.{◌≡◌};
+    ghost use Rattle.tlsf_lines.specs.Views.{view_trace};
 
-/// Room for as many lines as a text can have, so that most traces grow no list.
-pub fn room_for_lines(text: &[u8]) -> usize
-    ensures { result ≤ 32768 }
-{
-    (text.len() / LEAST_LINE).min(MOST_LINES)
-}
+    ghost has = { λ trace header before lines. view_trace trace ≡ record { header = header; lines = lines } };
 
-/// The lines of the text behind the header, or the first that is none.
-fn lines_in(alloc: Global, workers: u32, text: &[u8]) -> Result<Vec<Line>, ParseError>
-    requires workers { 0 < workers }
-    requires short { length text.now ≤ 2 ^ 20 }
-    ensures lines { GivesAt (λ lines. lines.items) result
-        (spelled.lines_in workers [] 2 (pieces_of text.now)) }
-    ensures count { IfOk result (λ lines. vec_len lines ≡ length (pieces_of text.now)) }
-{
-    let mut lines = Vec::with_capacity(alloc, room_for_lines(text))?;
-    let mut labels = Labels::new(alloc);
-    let mut rest = text;
-    let mut number = 2;
-    while !rest.is_empty() {
-        let (piece, after) = cut_piece(rest);
-        let line = match line_in(workers, &labels, piece) {
-            Ok(line) => line,
-            Err(fault) => return Err(ParseError::At(fault, number)),
-        };
-        // A race numbers the calls of each worker by itself.
-        labels.remember(&line, 0)?;
-        lines.push(line)?;
-        number += 1;
-        rest = after;
+    ghost is_of = { λ trace spelled. view_trace trace ≡ spelled };
+
+    fn begin(alloc: Global, header: Header, room: usize) -> Result<Trace, AllocError> {
+        Ok(Trace {
+            header,
+            lines: Vec::with_capacity(alloc, room)?,
+        })
     }
-    Ok(lines)
-}
 
-/// The header that a text begins with, and the text behind its line.
-#[tactic(auto, unfolding(crate::specs::Trace::trace_of))]
-pub fn cut_header(text: &[u8]) -> Result<(Header, &[u8]), ParseError>
-    ensures ok { IfOk result (λ cut. Heads text.now cut.0 cut.1.now) }
-    ensures err { IfErr result (λ error. FailsAt error (spelled.trace_of text.now)) }
-{
-    if text.is_empty() {
-        return Err(ParseError::At(LineFault::BadHeader, 1));
+    fn add(&mut self, line: &Line, _target: Target) -> Result<(), AllocError> {
+        self.lines.push(*line)?;
+        Ok(())
     }
-    let (first, rest) = cut_piece(text);
-    match header_in(first) {
-        Some(header) => Ok((header, rest)),
-        None => Err(ParseError::At(LineFault::BadHeader, 1)),
-    }
-}
 
-/// The trace that a text spells, or its first fault with the number of the line.
-pub fn parse(alloc: Global, text: &[u8]) -> Result<Trace, ParseError>
-    requires { length text.now ≤ 2 ^ 20 }
-    ensures trace { GivesAt view_trace result (spelled.trace_of text.now) }
-    ensures header { IfOk result (λ trace. IsHeaderInRange trace.header) }
-    ensures lines { IfOk result (λ trace. vec_len trace.lines + 1 ≡ length (pieces_of text.now)) }
-{
-    let (header, rest) = cut_header(text)?;
-    let lines = lines_in(alloc, header.workers, rest)?;
-    Ok(Trace { header, lines })
+    fn end(&mut self) -> Result<(), AllocError> {
+        Ok(())
+    }
 }

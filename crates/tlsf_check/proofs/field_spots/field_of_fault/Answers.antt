@@ -3,7 +3,7 @@ use Rattle.tlsf_lines.specs.Fields.{field}
 use Rattle.tlsf_lines.specs.Header.{header_in}
 use Rattle.tlsf_lines.specs.LineFaults.{number_of_fault}
 use Rattle.tlsf_lines.specs.Pieces.{pieces_of}
-use Rattle.tlsf_lines.specs.Trace.{line_in}
+use Rattle.tlsf_lines.specs.Trace.{judged_line}
 use Rattle.tlsf_lines.specs.declared.line.Line.{Line}
 use Rattle.tlsf_lines.specs.declared.line_fault.LineFault.{LineFault}
 use Rattle.tlsf_lines.specs.declared.line_fault.LineFault.TheVariants.{BadHeader}
@@ -25,5 +25,5 @@ returns-in-Some c =
     let no = c.args.fault.no in
     let first : c.piece_at-first.result.now ≡ field (pieces_of c.args.text.now) 0 = c.piece_at-first.ensures in
     found_in_line c.args.text.now c.args.fault n c.in-Some.header c.requires (ap (λ (p : List ℕ). header_in p) (sym first) ∙ sym c.in-Some.ensures.header)
-    (subst (λ (p : List ℕ). (before : List Line) (w : LineFault) → line_in workers before p ≡ Err w → no ≡ number_of_fault w → IsFieldOf workers w p n)
+    (subst (λ (p : List ℕ). (before : List Line) (w : LineFault) → judged_line workers before p ≡ Err w → no ≡ number_of_fault w → IsFieldOf workers w p n)
     c.piece_at.ensures c.line_spot.ensures)

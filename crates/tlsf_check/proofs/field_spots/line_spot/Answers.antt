@@ -1,6 +1,6 @@
 use Rattle.std.proofs.Common.{◌≡◌, ℕ, List, Err, refl, arith}
 use Rattle.tlsf_lines.specs.LineFaults.{number_of_fault}
-use Rattle.tlsf_lines.specs.Trace.{line_in}
+use Rattle.tlsf_lines.specs.Trace.{judged_line}
 use Rattle.tlsf_lines.specs.declared.line.Line.{Line}
 use Rattle.tlsf_lines.specs.declared.line_fault.LineFault.{LineFault}
 use Rattle.tlsf_lines.specs.declared.line_fault.LineFault.TheVariants.{BadHeader, BadLine, BadNumber, LabelOrder}
@@ -9,7 +9,7 @@ use Rattle.tlsf_check.proofs.Refusals.{no_bad_header}
 use Rattle.tlsf_check.proofs.field_spots.line_spot.Goals as goal
 
 -- a fault that is none of those before is that of a label
-third : (workers number : ℕ) (before : List Line) (piece : List ℕ) (why : LineFault) → line_in workers before piece ≡ Err why → number ≡ number_of_fault why
+third : (workers number : ℕ) (before : List Line) (piece : List ℕ) (why : LineFault) → judged_line workers before piece ≡ Err why → number ≡ number_of_fault why
     → (number ≡ 12 → ⊥) → (number ≡ 13 → ⊥) → IsFieldOf workers why piece 3
 third workers number before piece BadHeader refused is other12 other13 = absurd (no_bad_header workers before piece refused)
 third workers number before piece BadLine refused is other12 other13 = absurd (other12 is)

@@ -1,0 +1,7 @@
+use Rattle.std.proofs.Common.{◌++◌, ◌∷◌, [], ap}
+use Rattle.tlsf_lines.specs.Trace.{Trace}
+use Rattle.tlsf_lines.proofs.trace.TraceFromLines.add.Goals as goal
+
+pub returns : goal.returns
+returns c = λ header before lines has target.
+    rw c.in_ok-push.ensures.items (ap (λ (t : Trace). record { header = t.header; lines = t.lines ++ c.args.line.now ∷ [] }) has)
