@@ -1,5 +1,5 @@
 -- A trace without `d` lines gives one text.
-use Rattle.std.proofs.Common.{Bool, true, false, ◌==◌, ◌≡◌, ◌∷◌, ◌++◌, [], ℕ, zero, suc, List, Option, map, get_or, refl, sym, ap, ◌∙◌, subst}
+use Rattle.std.proofs.Common.{Bool, true, false, ◌==◌, ◌≡◌, ◌≤◌, ◌∷◌, ◌++◌, [], ℕ, zero, suc, List, Option, length, map, get_or, arith, refl, sym, ap, ◌∙◌, subst}
 use Rattle.std.specs.List.{AllByRecursion}
 use Rattle.tlsf_heap.specs.declared.name.Name.{Name}
 use Rattle.tlsf_calls.specs.declared.call.Call.{Call}
@@ -9,7 +9,7 @@ use Rattle.tlsf_crew.specs.threads.Alone.{OnlyLastDrains, TakesNoPost}
 use Rattle.tlsf_crew.specs.threads.Race.{IsRace}
 use Rattle.tlsf_crew.specs.queues.QueueAlone.{IsUncontendedRace}
 use Rattle.tlsf_crew.specs.queues.QueueRace.{IsQueueRace}
-use Rattle.tlsf_crew.proofs.lemmas.queues.QueueAlone.{queue_race_is_one}
+use Rattle.tlsf_crew.proofs.lemmas.queues.QueueAlone.{queue_race_is_one, two_uncontended}
 use Rattle.tlsf_crew.proofs.lemmas.threads.OneRace.{race_is_one}
 use Rattle.tlsf_lines.specs.Phases.{call_in, calls_from, in_first, is_line_of, known_below, none_known, own_lines, phases_of, script_in, scripts_in}
 use Rattle.tlsf_lines.specs.Records.{records_text}
@@ -19,6 +19,7 @@ use Rattle.tlsf_lines.specs.declared.line.Line.TheVariants.{Allocate, Release, W
 use Rattle.tlsf_trace.specs.OneText.{HasNoDrain, IsNoDrain, IsUncontendedOutput, RaceGivesOneText}
 use Rattle.tlsf_trace.specs.Output.{level_in, yard_of}
 use Rattle.tlsf_trace.specs.RaceOutput.{IsOutputBy, IsQueueRaceOutput, IsRaceText, Racing}
+use Rattle.tlsf_trace.proofs.RacedPhases.{opened_count}
 
 -- ---- a phase without `d` lines
 
@@ -103,3 +104,16 @@ over_queues n (phase ∷ phases) w known text (records, v, tail, uncontended, te
 
 pub one_of_queue_outputs : (trace : Trace) (text : List ℕ) → IsUncontendedOutput trace text → IsQueueRaceOutput trace text
 one_of_queue_outputs trace text is = over_queues {sli = level_in trace.header} trace.header.workers (phases_of trace.lines) (yard_of trace.header) none_known text is
+
+-- ---- of two workers
+
+of_two : {sli : ℕ} → (n : ℕ) (phases : List (List Line)) (w : World sli) (known : ℕ → Option Name) (text : List ℕ) → length w.heaps ≤ 2 → IsRaceText IsQueueRace n w known phases text → IsRaceText IsUncontendedRace n w known phases text
+of_two n [] w known text few is = is
+of_two n (phase ∷ phases) w known text few (records, v, tail, race, text_is, more) =
+    (records, v, tail, two_uncontended w v (scripts_in n known phase) records few race, text_is, of_two n phases v (known_below known phase records n) tail (omega (arith, race.heaps, few)) more)
+
+pub two_of_queue_outputs : (trace : Trace) (text : List ℕ) → trace.header.workers ≤ 2 → IsQueueRaceOutput trace text → IsUncontendedOutput trace text
+two_of_queue_outputs trace text few is =
+    let w : World (level_in trace.header) = yard_of trace.header in
+    let count = opened_count w (length w.heaps) trace.header refl refl in
+    of_two {sli = level_in trace.header} trace.header.workers (phases_of trace.lines) w none_known text (omega (arith, count, few)) is

@@ -1,13 +1,13 @@
 -- Phases that are raced one after another, over lanes or over queues.
-use Rattle.std.proofs.Common.{◌≡◌, ◌++◌, ◌∷◌, [], ℕ, suc, ◌<◌, ◌≤◌, arith, IfSome, List, Option, Some, None, Bor, length, map, refl, sym, ap, ◌∙◌, subst, append_assoc, append-nil}
+use Rattle.std.proofs.Common.{◌≡◌, ◌++◌, ◌∷◌, [], ℕ, suc, ◌<◌, ◌≤◌, arith, IfSome, List, Option, Some, None, Bor, length, map, refl, sym, ap, ◌∙◌, subst, append_assoc}
 use Rattle.std.specs.Prelude.{MatchOption}
 use Rattle.std.proofs.lemmas.List.{length-map}
 use Rattle.std.proofs.lemmas.List.FromFn.{length-map-range_with_len}
 use Rattle.tlsf_heap.specs.Calls.{opened}
 use Rattle.tlsf_heap.specs.declared.name.Name.{Name}
-use Rattle.tlsf_crew.specs.declared.queues.queue_worker.QueueWorker.{QueueWorker}
-use Rattle.tlsf_crew.specs.declared.yard.worker.Worker.{Worker}
-use Rattle.tlsf_crew.specs.queues.QueueWorkers.{queue_heap}
+use Rattle.tlsf_crew.specs.declared.queues.queues.Queues.{Queues}
+use Rattle.tlsf_crew.specs.declared.worker.Worker.{Worker}
+use Rattle.tlsf_crew.specs.declared.yard.lanes.Lanes.{Lanes}
 use Rattle.tlsf_crew.specs.queues.QueueYard.{queue_world_of}
 use Rattle.tlsf_crew.specs.yard.Workers.{heap_of}
 use Rattle.tlsf_crew.specs.yard.World.{World, world_of}
@@ -31,20 +31,20 @@ lines_left None = 0
 lines_left (Some lines) = suc (length lines.now)
 
 -- the heaps that a yard shows are those of its workers
-pub heaps_are : {sli : ℕ} → (ws : List (Worker sli)) → (world_of ws).heaps ≡ map heap_of ws
+pub heaps_are : {sli : ℕ} → (ws : List (Worker sli Lanes)) → (world_of ws).heaps ≡ map heap_of ws
 unfolding world_of
 heaps_are ws = refl
 
-pub queue_heaps_are : {sli : ℕ} → (ws : List (QueueWorker sli)) → (queue_world_of ws).heaps ≡ map queue_heap ws
+pub queue_heaps_are : {sli : ℕ} → (ws : List (Worker sli Queues)) → (queue_world_of ws).heaps ≡ map heap_of ws
 unfolding queue_world_of
 queue_heaps_are ws = refl
 
 -- as many as workers
-pub heap_count : {sli : ℕ} → (ws : List (Worker sli)) → length (world_of ws).heaps ≡ length ws
+pub heap_count : {sli : ℕ} → (ws : List (Worker sli Lanes)) → length (world_of ws).heaps ≡ length ws
 heap_count ws = ap length (heaps_are ws) ∙ length-map ws heap_of
 
-pub queue_heap_count : {sli : ℕ} → (ws : List (QueueWorker sli)) → length (queue_world_of ws).heaps ≡ length ws
-queue_heap_count ws = ap length (queue_heaps_are ws) ∙ length-map ws queue_heap
+pub queue_heap_count : {sli : ℕ} → (ws : List (Worker sli Queues)) → length (queue_world_of ws).heaps ≡ length ws
+queue_heap_count ws = ap length (queue_heaps_are ws) ∙ length-map ws heap_of
 
 pub one_raced : {sli : ℕ} → (Races : Racing sli) (n : ℕ) (w : World sli) (known learnt more : ℕ → Option Name) (phases left : List (List Line)) (phase : List Line) (old new newer : List ℕ) (v u : World sli)
     → IsRaceSoFar Races n w known phases old v learnt (phase ∷ left) new → IsPhaseRaced Races n v learnt phase new u more newer → IsRaceSoFar Races n w known phases old u more left newer

@@ -2,7 +2,8 @@
 use Rattle.std.proofs.Common.{◌≡◌, ℕ, List, ◌++◌, map, Option, refl, ap, ◌∙◌}
 use Rattle.tlsf_calls.specs.declared.entry.Entry.{Entry}
 use Rattle.tlsf_calls.specs.declared.event.Event.{Event}
-use Rattle.tlsf_crew.specs.declared.yard.worker.Worker.{Worker}
+use Rattle.tlsf_crew.specs.declared.worker.Worker.{Worker}
+use Rattle.tlsf_crew.specs.declared.yard.lanes.Lanes.{Lanes}
 use Rattle.tlsf_crew.specs.yard.World.{World, world_of, replies}
 use Rattle.tlsf_crew.specs.yard.Workers.{heap_of}
 use Rattle.tlsf_trace.specs.Output.{yard_of, output_at}
@@ -15,12 +16,12 @@ use Rattle.tlsf_trace.specs.declared.ended.Ended.TheVariants.{AtLevel4, AtLevel5
 use Rattle.tlsf_lines.specs.Events.{events_of, labels_of}
 
 -- the heaps of the world that a yard shows
-pub heaps_in : {sli : ℕ} → (ws : List (Worker sli)) (w : World sli) → world_of ws ≡ w → map heap_of ws ≡ w.heaps
+pub heaps_in : {sli : ℕ} → (ws : List (Worker sli Lanes)) (w : World sli) → world_of ws ≡ w → map heap_of ws ≡ w.heaps
 unfolding world_of
 heaps_in {sli} ws w is = ap (λ (x : World sli). x.heaps) is
 
 -- the replies' lines and the reports' lines are the output
-pub assembled : {sli : ℕ} → (trace : Trace) (w : World sli) (vs : List (Worker sli)) (entries : List Entry) (events : List Event) (labels : List (Option ℕ)) (text out : List ℕ)
+pub assembled : {sli : ℕ} → (trace : Trace) (w : World sli) (vs : List (Worker sli Lanes)) (entries : List Entry) (events : List Event) (labels : List (Option ℕ)) (text out : List ℕ)
     → w ≡ yard_of trace.header → events ≡ events_of trace → labels ≡ labels_of trace
     → entries ≡ (replies w events).entries → world_of vs ≡ (replies w events).world
     → text ≡ reply_text entries labels → out ≡ text ++ report_text sli (map heap_of vs) → out ≡ output_at sli trace

@@ -1,46 +1,105 @@
--- What the text of a raced trace tells of each heap, above its definition.
-use Rattle.std.specs.Prelude.{◌≡◌, ℕ, ◌<◌, List, [], ◌∷◌, ◌++◌, length, map, Option}
+-- What the text of a raced trace tells, above its definition: what each line was answered, and one history of each heap.
+use Rattle.std.specs.Prelude.{◌≡◌, ◌≢◌, ℕ, ◌<◌, List, [], ◌∷◌, ◌++◌, length, map, Option, ⊤}
+use Rattle.std.specs.List.{flat_map}
+use Rattle.tlsf_heap.specs.Blocks.{HeapState}
 use Rattle.tlsf_heap.specs.Calls as heap
+use Rattle.tlsf_heap.specs.Calls.{opened}
+use Rattle.tlsf_heap.specs.Lawful.{IsLawful}
 use Rattle.tlsf_heap.specs.declared.name.Name.{Name}
-use Rattle.tlsf_calls.specs.declared.entry.Entry.{Entry}
 use Rattle.tlsf_calls.specs.Entries.{record_of}
-use Rattle.tlsf_crew.specs.yard.History.{RunsTo, answers_on, calls_on}
+use Rattle.tlsf_calls.specs.declared.call.Call.{Call}
+use Rattle.tlsf_calls.specs.declared.entry.Entry.{Entry}
+use Rattle.tlsf_crew.specs.queues.QueueHistory.{TellsQueue}
+use Rattle.tlsf_crew.specs.threads.Race.{events_by, last_call}
+use Rattle.tlsf_crew.specs.yard.History.{RunsTo, Tells, answers_on, calls_on, posts_made, posts_taken}
 use Rattle.tlsf_crew.specs.yard.World.{World, heap_in}
-use Rattle.tlsf_trace.specs.Output.{level_in, yard_of}
-use Rattle.tlsf_lines.specs.Phases.{phases_of}
+use Rattle.tlsf_lines.specs.Phases.{known_below, none_known, phases_of, script_in}
+use Rattle.tlsf_lines.specs.Ranges.{IsHeaderInRange}
 use Rattle.tlsf_lines.specs.Records.{records_text}
-use Rattle.tlsf_trace.specs.ReportLines.{report_text}
 use Rattle.tlsf_lines.specs.Trace.{Trace}
 use Rattle.tlsf_lines.specs.declared.line.Line.{Line}
+use Rattle.tlsf_trace.specs.Output.{level_in}
+use Rattle.tlsf_trace.specs.ReportLines.{report_text}
 
--- a phase that was raced: its lines, the names that each worker's calls made, and the records
+-- ---- one phase
+
+-- a record gives an account of the calls of one of so many workers: each once and in order, with the name that it made
+abbrev pub Accounts : Type 1
+Accounts = ℕ → ℕ → List Call → List (Option Name) → List Entry → Type 0
+
+abbrev pub TellsOverLanes : Accounts
+TellsOverLanes n at calls made entries = Tells n [] (events_by at calls) made entries
+
+abbrev pub TellsOverQueues : Accounts
+TellsOverQueues n at calls made entries = TellsQueue n at [] calls made entries
+
+-- a phase as it was told: the names that each worker's calls made, and the records
 pub record PhaseTold : Type 0 where
-  pub lines : List Line
   pub made : ℕ → List (Option Name)
   pub records : List (List Entry)
 
--- the calls on heap j that the records tell, phase after phase, and the answers to them
-abbrev pub calls_told : ℕ → List PhaseTold → List heap.Call
-calls_told j [] = []
-calls_told j (p ∷ ps) = calls_on j (p.made j) (record_of p.records j) ++ calls_told j ps
+-- a phase of these lines was told, in which labels stood for these names at first
+pub record IsPhaseTold (TellsCalls : Accounts) (n : ℕ) (known : ℕ → Option Name) (lines : List Line) (p : PhaseTold) : Type 0 where
+  -- record j tells the lines of worker j, each once and in their order, and then the last drain
+  pub told : (j : ℕ) → j < n → TellsCalls n j (script_in known lines j ++ last_call ∷ []) (p.made j) (record_of p.records j)
+  -- what i was answered to have posted to j is what j took from i, in order and each once: nothing waits for the next phase
+  pub posts : (i j : ℕ) → i < n → j < n → i ≢ j → posts_made i j (p.made i) (record_of p.records i) ≡ posts_taken i j (record_of p.records j)
 
-abbrev pub answers_told : ℕ → List PhaseTold → List heap.Answer
-answers_told j [] = []
-answers_told j (p ∷ ps) = answers_on j (record_of p.records j) ++ answers_told j ps
+-- ---- one phase after another
+
+-- each phase was told, where labels stood for these names before the first; each phase gives names to those behind it
+abbrev pub ArePhasesTold : Accounts → ℕ → (ℕ → Option Name) → List (List Line) → List PhaseTold → Type 0
+ArePhasesTold TellsCalls n known [] [] = ⊤
+ArePhasesTold TellsCalls n known (lines ∷ phases) (p ∷ told) =
+    IsPhaseTold TellsCalls n known lines p × ArePhasesTold TellsCalls n (known_below known lines p.records n) phases told
+ArePhasesTold TellsCalls n known phases told = ⊥
 
 -- the lines of the records, phase after phase
-abbrev pub phases_text : ℕ → List PhaseTold → List ℕ
-phases_text workers [] = []
-phases_text workers (p ∷ ps) = records_text p.lines p.records workers ++ phases_text workers ps
+abbrev pub phases_text : ℕ → List (List Line) → List PhaseTold → List ℕ
+phases_text n phases [] = []
+phases_text n [] (p ∷ told) = []
+phases_text n (lines ∷ phases) (p ∷ told) = records_text lines p.records n ++ phases_text n phases told
 
--- the text is that of some records, whose calls lead each heap of the one world to that of the other, which is reported
-pub record TellsHistory {sli : ℕ} (workers : ℕ) (w : World sli) (phases : List (List Line)) (text : List ℕ) : Type 0 where
+-- ---- the history of a heap
+
+-- an entry, and the names that its worker's calls made in its phase
+pub record ToldEntry : Type 0 where
+  pub made : List (Option Name)
+  pub entry : Entry
+
+-- the records of worker j, phase after phase
+abbrev pub history_of : ℕ → List PhaseTold → List ToldEntry
+history_of j told = flat_map (λ p. map (λ e. record { made = p.made j; entry = e }) (record_of p.records j)) told
+
+-- the calls on heap j that some of its history tells, and the answers to them
+abbrev pub calls_told : ℕ → List ToldEntry → List heap.Call
+calls_told j history = flat_map (λ x. calls_on j x.made (x.entry ∷ [])) history
+
+abbrev pub answers_told : ℕ → List ToldEntry → List heap.Answer
+answers_told j history = flat_map (λ x. answers_on j (x.entry ∷ [])) history
+
+-- the calls that some of its history tells, run in turn on heap j, give the answers that it tells and leave the other heap
+abbrev pub LeadsTo : ℕ → ℕ → HeapState → List ToldEntry → HeapState → Type 0
+LeadsTo sli j h history g = RunsTo sli h (calls_told j history) (answers_told j history) g
+
+-- some of it leads to a lawful heap, and the rest from there to the last one
+pub record LeadsThrough (sli j : ℕ) (h : HeapState) (before later : List ToldEntry) (last : HeapState) : Type 0 where
+  pub between : HeapState
+  pub first : LeadsTo sli j h before between
+  pub lawful : IsLawful between
+  pub rest : LeadsTo sli j between later last
+
+-- ---- a trace
+
+-- the text is that of the records of the trace's phases and of the report of its heaps behind the last, and each heap has one
+-- history from the first line to that report
+pub record HasHistory (TellsCalls : Accounts) (trace : Trace) (text : List ℕ) : Type 0 where
   pub told : List PhaseTold
-  pub world : World sli
-  pub phases_are : map (λ p. p.lines) told ≡ phases
-  pub text_is : text ≡ phases_text workers told ++ report_text sli world.heaps
-  pub heaps : (j : ℕ) → j < length w.heaps → RunsTo sli (heap_in w j) (calls_told j told) (answers_told j told) (heap_in world j)
-
--- the same of a trace, on the yard that its header names
-abbrev pub HasHistory : Trace → List ℕ → Type 0
-HasHistory trace text = TellsHistory {sli = level_in trace.header} trace.header.workers (yard_of trace.header) (phases_of trace.lines) text
+  pub world : World (level_in trace.header)
+  pub count : length world.heaps ≡ trace.header.workers
+  pub text_is : text ≡ phases_text trace.header.workers (phases_of trace.lines) told ++ report_text (level_in trace.header) world.heaps
+  pub phases : ArePhasesTold TellsCalls trace.header.workers none_known (phases_of trace.lines) told
+  pub heaps : (j : ℕ) → j < trace.header.workers → LeadsTo (level_in trace.header) j (opened j trace.header.words 0) (history_of j told) (heap_in world j)
+  -- a header that was read is in its ranges: then the heap is lawful at first, and behind each entry
+  pub lawful : IsHeaderInRange trace.header → (j : ℕ) → j < trace.header.workers → (before later : List ToldEntry) → history_of j told ≡ before ++ later
+      → LeadsThrough (level_in trace.header) j (opened j trace.header.words 0) before later (heap_in world j)

@@ -1,17 +1,25 @@
-ghost use Rattle.std.specs.Prelude.{◌≡◌, ℕ, List};
+ghost use Rattle.std.specs.Prelude.{◌≡◌, ℕ, ◌≤◌, List};
 ghost use Rattle.tlsf_trace.specs.OneText.{HasNoDrain, IsUncontendedOutput, RaceGivesOneText};
-ghost use Rattle.tlsf_trace.specs.RaceHistory.{HasHistory};
+ghost use Rattle.tlsf_trace.specs.RaceHistory.{HasHistory, TellsOverLanes, TellsOverQueues};
 ghost use Rattle.tlsf_trace.specs.RaceOutput.{IsQueueRaceOutput, IsRaceOutput};
 ghost use Rattle.tlsf_lines.specs.Trace.{Trace};
 
-/// What [`race_trace`](crate::race_trace) may write tells one history of each heap, over all phases: the calls that its
-/// records tell of the heap, run in turn on the new heap, give the answers that they tell, and the heap that is reported at
-/// the end.
+/// What [`race_trace`](crate::race_trace) may write tells what each line of the trace was answered, and one history of each heap,
+/// from the first line to its report ([`tlsf_crew::one_history_of_a_race`] says so of the records of one phase):
+///
+/// - The text is the lines of the records, phase after phase, and then a report line for each worker's heap.
+/// - In each phase the record of a worker tells its lines, each once and in their order, and then the last drain; a drain as
+///   its takes, each from another worker, and then its own line with their number (`told`).
+/// - What a worker was answered to have posted to another in a phase is what that one took from it in the phase, in order and
+///   each once: no post is lost, doubled or overtaken, or waits for the next phase (`posts`).
+/// - The calls that its worker's records tell of a heap, phase after phase, run in turn on the new heap, give the answers that
+///   they tell, and the heap that is reported (`heaps`).
+/// - Behind each entry the heap is lawful: live blocks never overlap and free blocks never touch (`lawful`).
 ///
 /// The text of `tlsf 1 2 64 4`, `a 0 1 8`, `phase`, `f 1 1`, for one, tells of heap 0 an allocate of 8 bytes in the first
 /// phase and, by the line `0 take 1 at 0 serial 1 freed`, a release of that block in the second.
 pub fn one_history_of_a_raced_trace()
-    ensures { (trace : Trace) (text : List ℕ) → IsRaceOutput trace text → HasHistory trace text }
+    ensures { (trace : Trace) (text : List ℕ) → IsRaceOutput trace text → HasHistory TellsOverLanes trace text }
 {}
 
 /// The same of what [`race_trace_over_queues`](crate::race_trace_over_queues) may write, in the same words.
@@ -19,7 +27,7 @@ pub fn one_history_of_a_raced_trace()
 /// The text of `tlsf 1 3 64 4`, `a 0 1 8`, `a 0 2 8`, `phase`, `f 2 1`, `f 1 2`, for one, tells of heap 0 two allocates in the first phase,
 /// and in the second two releases, in the order of the two lines `0 take 2 at 0 serial 1 freed` and `0 take 1 at 4 serial 2 freed`, which is up to the schedule.
 pub fn one_history_of_a_trace_raced_over_queues()
-    ensures { (trace : Trace) (text : List ℕ) → IsQueueRaceOutput trace text → HasHistory trace text }
+    ensures { (trace : Trace) (text : List ℕ) → IsQueueRaceOutput trace text → HasHistory TellsOverQueues trace text }
 {}
 
 /// A trace without `d` lines gives one text when it is raced, whatever the schedule of the threads: all that
@@ -31,13 +39,16 @@ pub fn trace_without_drains_gives_one_text()
     ensures { RaceGivesOneText }
 {}
 
-/// So it gives one text when it is raced over queues, where in each phase no post is refused for a full queue and each worker takes
-/// posts of one other alone.
+/// So it gives one text when it is raced over queues, where in each phase each worker takes posts of one other alone, and of more than
+/// two workers no post is refused for a full queue. A trace of two workers gives one text.
 ///
 /// Where two workers post to one, as `tlsf 1 3 64 4`, `a 0 1 8`, `a 0 2 8`, `phase`, `f 2 1`, `f 1 2`, the order in which it takes their
 /// posts is up to the schedule (`tlsf_crew::queue_race_without_takes`).
 pub fn trace_without_drains_gives_one_text_over_queues()
     ensures one { (trace : Trace) (text other : List ℕ) → HasNoDrain trace → IsUncontendedOutput trace text → IsUncontendedOutput trace other → text ≡ other }
+
+    // Of two workers each text that `race_trace_over_queues` may write is such a one.
+    ensures two { (trace : Trace) (text : List ℕ) → trace.header.workers ≤ 2 → IsQueueRaceOutput trace text → IsUncontendedOutput trace text }
 
     // It is among the texts that `race_trace_over_queues` may write.
     ensures among { (trace : Trace) (text : List ℕ) → IsUncontendedOutput trace text → IsQueueRaceOutput trace text }

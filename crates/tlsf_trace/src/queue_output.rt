@@ -10,7 +10,7 @@ ghost use Rattle.tlsf_trace.specs.RaceSoFar.{IsPhaseRaced, IsRaceSoFar};
 ghost use Rattle.tlsf_lines.specs.Ranges.{IsHeaderInRange};
 ghost use Rattle.tlsf_lines.specs.Views.{view_trace};
 
-use crate::report_lines::write_queue_reports;
+use crate::report_lines::write_reports;
 use std::alloc::{AllocError, Global};
 use std::marker::Sync;
 use std::sync::Wait;
@@ -90,7 +90,7 @@ fn queue_output_by<const SLI: u32, R: Threads + Wait + Sync, G: Gate>(
     };
     let mut text = String::new(alloc);
     let mut workers = race_lines(rt, alloc, workers, &trace.lines, &mut text, gate)?;
-    write_queue_reports(&mut text, &mut workers)?;
+    write_reports(&mut text, &mut workers)?;
     Ok(text)
 }
 

@@ -1,11 +1,10 @@
 //! The report lines of heaps.
 ghost use Rattle.std.specs.Prelude.{◌≡◌, ◌++◌, ◌≤◌, length, map, OnOk, string_bytes};
-ghost use Rattle.tlsf_crew.specs.queues.QueueWorkers.{queue_heap};
 ghost use Rattle.tlsf_crew.specs.yard.Workers.{heap_of};
 ghost use Rattle.tlsf_trace.specs.ReportLines.{live_part, free_part, room_part, rest_part, report_line, report_text};
 
 use std::alloc::AllocError;
-use tlsf_crew::{QueueWorker, Worker};
+use tlsf_crew::{Ports, Worker};
 use tlsf_heap::Report;
 
 // Adds the live blocks, words and bytes.
@@ -61,28 +60,13 @@ fn write_line(text: &mut String, heap: u32, report: &Report) -> Result<(), Alloc
     writeln!(text)
 }
 
-/// Adds the lines of the workers' heaps.
-pub fn write_reports<const SLI: u32>(
+/// Adds the lines of the workers' heaps, whatever their ports.
+pub fn write_reports<const SLI: u32, P: Ports>(
     text: &mut String,
-    workers: &mut [Worker<SLI>],
+    workers: &mut [Worker<SLI, P>],
 ) -> Result<(), AllocError>
     requires { length workers.old ≤ 8 }
     ensures { OnOk result (string_bytes text.new ≡ string_bytes text.old ++ report_text SLI (map heap_of workers.old)) }
-{
-    for number in 0..workers.len() {
-        let report = workers[number].report();
-        write_line(text, number as u32, &report)?;
-    }
-    Ok(())
-}
-
-/// Adds the lines of the heaps of workers over queues.
-pub(crate) fn write_queue_reports<const SLI: u32>(
-    text: &mut String,
-    workers: &mut [QueueWorker<SLI>],
-) -> Result<(), AllocError>
-    requires { length workers.old ≤ 8 }
-    ensures { OnOk result (string_bytes text.new ≡ string_bytes text.old ++ report_text SLI (map queue_heap workers.old)) }
 {
     for number in 0..workers.len() {
         let report = workers[number].report();

@@ -13,7 +13,7 @@ returns g c =
     let raced = c.in_ok-workers.ensures.raced in
     let new = string_bytes c.race_lines.new.text in
     let heaps : c.deref_mut.result.now ≡ vs = c.deref_mut.ensures.value in
-    let out = rw heaps at c.in_ok-write_queue_reports.ensures ∙ ap (λ hs. new ++ report_text g.row.SLI hs) (sym (queue_heaps_are vs)) in
-    all_raced IsQueueRace header c.args.trace.now.lines.items (queue_world_of ws) (queue_world_of vs) (vec_len c.in-Ok.workers) raced.0 (string_bytes c.new-text.result) new (string_bytes c.write_queue_reports.new.text)
+    let out = rw heaps at c.in_ok-write_reports.ensures ∙ ap (λ hs. new ++ report_text g.row.SLI hs) (sym (queue_heaps_are vs)) in
+    all_raced IsQueueRace header c.args.trace.now.lines.items (queue_world_of ws) (queue_world_of vs) (vec_len c.in-Ok.workers) raced.0 (string_bytes c.new-text.result) new (string_bytes c.write_reports.new.text)
     (omega (arith, opened_count (queue_world_of ws) _ header (queue_heap_count ws) c.in-Ok.ensures.world)) c.in-Ok.ensures.world c.new-text.ensures.bytes
     (rw c.deref.ensures.value at raced.1) out
