@@ -40,7 +40,7 @@ pub fn trace_without_drains_gives_one_text()
 {}
 
 /// So it gives one text when it is raced over queues, where in each phase each worker takes posts of one other alone, and of more than
-/// two workers no post is refused for a full queue. A trace of two workers gives one text.
+/// two workers no post is refused for a full queue. Of two workers such a trace always does.
 ///
 /// Where two workers post to one, as `tlsf 1 3 64 4`, `a 0 1 8`, `a 0 2 8`, `phase`, `f 2 1`, `f 1 2`, the order in which it takes their
 /// posts is up to the schedule (`tlsf_crew::queue_race_without_takes`).

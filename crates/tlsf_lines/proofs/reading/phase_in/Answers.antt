@@ -1,6 +1,0 @@
-use Rattle.std.proofs.Common.{refl}
-use Rattle.tlsf_lines.proofs.CutSteps.{left_over}
-use Rattle.tlsf_lines.proofs.reading.phase_in.Goals as goal
-
-pub returns-in-Some : goal.returns-in-Some
-returns-in-Some c = λ workers. rw (c.in-Some.is, left_over workers c.in-Some.field-0.now) refl

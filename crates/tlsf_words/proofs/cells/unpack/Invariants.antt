@@ -1,6 +1,0 @@
-use Rattle.std.proofs.Common.{◌≡◌, ℕ, ◌*◌, ◌<◌, get_or}
-use Rattle.tlsf_words.specs.Bytes.{byte_in}
-use Rattle.tlsf_words.proofs.cells.unpack.Given as goal
-
-abbrev pub invariant-loop-i : goal.invariant-loop-i
-invariant-loop-i l = (k : ℕ) → k < 8 * l.i → get_or l.out k 0 ≡ byte_in l.words k
