@@ -1,7 +1,8 @@
 use Rattle.std.proofs.Common.{◌≡◌, ◌≢◌, ◌∙◌, ◌<◌, ◌≤◌, ℕ, Some, get_or, set, arith, rules, subst}
 use Rattle.std.specs.List.{slice_get}
 use Rattle.std.proofs.lemmas.Option.{slice_get-get_or}
-use Rattle.tlsf_crew.specs.declared.yard.worker.Worker.{Worker}
+use Rattle.tlsf_crew.specs.declared.worker.Worker.{Worker}
+use Rattle.tlsf_crew.specs.declared.yard.lanes.Lanes.{Lanes}
 use Rattle.tlsf_crew.specs.yard.Calls.{KeepsYards}
 use Rattle.tlsf_crew.specs.yard.Yard.{IsYard}
 use Rattle.tlsf_crew.proofs.lemmas.yard.Halves.{low_is, high_is, low_first}
@@ -37,8 +38,8 @@ returns g c =
     let second : KeepsYards (get_or high 0 e) y = search rules in
     let a_is : slice_get ws 0 ≡ Some (get_or ws 0 d) = slice_get-get_or ws 0 d (first_in _ c.requires.two) in
     let b_is : slice_get ws 1 ≡ Some (get_or ws 1 e) = slice_get-get_or ws 1 e (second_in _ c.requires.two) in
-    let a = subst (λ (w : Worker 4). KeepsYards w x) (low_is ws low 0 1 (get_or ws 0 d) d s.ensures.front first_below a_is) first in
-    let b = subst (λ (w : Worker 4). KeepsYards w y) (high_is ws high 1 (get_or ws 1 e) e s.ensures.back b_is) second in
+    let a = subst (λ (w : Worker 4 Lanes). KeepsYards w x) (low_is ws low 0 1 (get_or ws 0 d) d s.ensures.front first_below a_is) first in
+    let b = subst (λ (w : Worker 4 Lanes). KeepsYards w y) (high_is ws high 1 (get_or ws 1 e) e s.ensures.back b_is) second in
     let apart = second_apart in
     let yard : IsYard (set (set ws 0 x) 1 y) = b (set ws 0 x) 1 (get_set_other ws 0 1 x apart ∙ b_is) (a ws 0 a_is c.requires.yard) in
     rw (low_first ws low high 0 1 x y s.ensures.front s.ensures.back first_below (one_is _ c.requires.two)) yard
