@@ -11,7 +11,7 @@ use Rattle.tlsf_heap.specs.Lawful.{IsLawful, HasRoom}
 use Rattle.tlsf_heap.specs.Regions.{AreRegions, RegionState}
 use Rattle.tlsf_heap.specs.GoodFit.{Site, is_fit, fits, is_as_good, choice, block_at, site_at}
 use Rattle.tlsf_heap.specs.Chosen.{NoneFits, IsChoice}
-use Rattle.tlsf_heap.specs.Calls.{with_blocks, carved, ticked, allocated, allocated_at, refused, Outcome, last_tick}
+use Rattle.tlsf_heap.specs.Calls.{with_blocks, carved, ticked, allocated_words, allocated_at, refused, Outcome, last_tick}
 use Rattle.tlsf_heap.specs.declared.name.Name.{Name}
 use Rattle.tlsf_heap.specs.declared.refusal.Refusal.{Refusal}
 use Rattle.tlsf_heap.specs.declared.refusal.Refusal.TheVariants.{NoFit, Worn}
@@ -29,102 +29,97 @@ fits_size sli level n (Free m s) h = le_from_serves sli level n m h
 pub split_at : (bs : List Block) (i : ℕ) → i < length bs → bs ≡ take i bs ++ block_at bs i ∷ drop (suc i) bs
 split_at bs i h = sym (take-append-drop i bs) ∙ ap (λ (l : List Block). take i bs ++ l) (drop_more bs i (Free 0 0) h) ∙ ap (λ (n : ℕ). take i bs ++ block_at bs i ∷ drop n bs) (add-one i)
 
-pub lawful_carved : (sli : ℕ) (level : IsLevel sli) (h : HeapState) (front back : List Block) (b : Block) (len : ℕ) → is_fit sli (want len) b ≡ true → IsLawful (with_blocks h (front ++ b ∷ back)) → IsLawful (ticked h (front ++ carved (size_of b) (want len) h.tick len ++ back))
-lawful_carved sli level h front back (Live m s xs) len f lawful = absurd (false≢true f)
-lawful_carved sli level h front back (Free m s) len f lawful =
+pub lawful_carved : (sli : ℕ) (level : IsLevel sli) (h : HeapState) (front back : List Block) (b : Block) (n len : ℕ) → want len ≤ n → is_fit sli n b ≡ true → IsLawful (with_blocks h (front ++ b ∷ back)) → IsLawful (ticked h (front ++ carved (size_of b) n h.tick len ++ back))
+lawful_carved sli level h front back (Live m s xs) n len wanted f lawful = absurd (false≢true f)
+lawful_carved sli level h front back (Free m s) n len wanted f lawful =
     let P : List Block → Type 0 = λ l. IsLawful (ticked h (front ++ l ++ back)) in
-    elim (cases_lt m (want len + 4)) [
-      | inl small ↦ subst P (sym (carved_small m (want len) h.tick len small)) (lawful_whole h front back m s (want len) len refl lawful (fits_size sli level (want len) (Free m s) f))
-      | inr large ↦ subst P (sym (carved_large m (want len) h.tick len large)) (lawful_split h front back m s (want len) len refl lawful large)
+    elim (cases_lt m (n + 4)) [
+      | inl small ↦ subst P (sym (carved_small m n h.tick len small)) (lawful_whole h front back m s n len wanted lawful (fits_size sli level n (Free m s) f))
+      | inr large ↦ subst P (sym (carved_large m n h.tick len large)) (lawful_split h front back m s n len wanted lawful large)
     ]
 
-module _ (sli : ℕ) (level : IsLevel sli) (h : HeapState) (len : ℕ) (lawful : IsLawful h) where
-  allocated_none : NoneFits sli (want len) h.blocks → allocated sli h len ≡ refused h NoFit
-  allocated_none none = ap (allocated_at h len) (choice_none sli (want len) h.blocks none)
+module _ (sli : ℕ) (level : IsLevel sli) (h : HeapState) (n len : ℕ) (wanted : want len ≤ n) (lawful : IsLawful h) where
+  allocated_none : NoneFits sli n h.blocks → allocated_words sli h n len ≡ refused h NoFit
+  allocated_none none = ap (allocated_at h n len) (choice_none sli n h.blocks none)
 
-  fits_none : NoneFits sli (want len) h.blocks → fits sli (want len) h.blocks ≡ []
-  fits_none none = fits_nothing sli (want len) h.blocks none
+  fits_none : NoneFits sli n h.blocks → fits sli n h.blocks ≡ []
+  fits_none none = fits_nothing sli n h.blocks none
 
-  module _ (i : ℕ) (c : IsChoice sli (want len) h.blocks i) where
-    chosen : choice sli (want len) h.blocks ≡ Some (site_at h.blocks i)
-    chosen = choice_is sli (want len) h.blocks i lawful.stamps_differ c
+  module _ (i : ℕ) (c : IsChoice sli n h.blocks i) where
+    chosen : choice sli n h.blocks ≡ Some (site_at h.blocks i)
+    chosen = choice_is sli n h.blocks i lawful.stamps_differ c
 
     -- the blocks that are left
     abbrev left : ℕ → List Block
-    left k = take i h.blocks ++ carved (size_of (block_at h.blocks i)) (want len) h.tick len ++ drop k h.blocks
+    left k = take i h.blocks ++ carved (size_of (block_at h.blocks i)) n h.tick len ++ drop k h.blocks
 
     abbrev answered : ℕ → Outcome Name
     answered k = record { answer = Ok (record { heap = h.id; at = words_in (take i h.blocks); serial = h.tick }); heap = ticked h (left k) }
 
-    allocated_worn : h.tick ≡ 2 ^ 64 - 1 → allocated sli h len ≡ refused h Worn
-    allocated_worn e = ap (allocated_at h len) chosen ∙ ap (λ (b : Bool). cond b (refused h Worn) (answered (suc i))) (eq-eqb h.tick (2 ^ 64 - 1) e)
+    allocated_worn : h.tick ≡ 2 ^ 64 - 1 → allocated_words sli h n len ≡ refused h Worn
+    allocated_worn e = ap (allocated_at h n len) chosen ∙ ap (λ (b : Bool). cond b (refused h Worn) (answered (suc i))) (eq-eqb h.tick (2 ^ 64 - 1) e)
 
-    allocated_is : (h.tick ≡ 2 ^ 64 - 1 → ⊥) → allocated sli h len ≡ answered (suc i)
-    allocated_is n =
-        let t : eqb h.tick (2 ^ 64 - 1) ≡ false = not_true _ (λ e. n (grind (arith, nat_tests))) in
-        ap (allocated_at h len) chosen ∙ ap (λ (b : Bool). cond b (refused h Worn) (answered (suc i))) t
+    allocated_is : (h.tick ≡ 2 ^ 64 - 1 → ⊥) → allocated_words sli h n len ≡ answered (suc i)
+    allocated_is f =
+        let t : eqb h.tick (2 ^ 64 - 1) ≡ false = not_true _ (λ e. f (grind (arith, nat_tests))) in
+        ap (allocated_at h n len) chosen ∙ ap (λ (b : Bool). cond b (refused h Worn) (answered (suc i))) t
 
     allocated_lawful : IsLawful (ticked h (left (suc i)))
     allocated_lawful =
         let P : List Block → Type 0 = λ l. IsLawful (with_blocks h l) in
-        lawful_carved sli level h (take i h.blocks) (drop (suc i) h.blocks) (block_at h.blocks i) len c.fit (subst P (split_at h.blocks i c.within) lawful)
+        lawful_carved sli level h (take i h.blocks) (drop (suc i) h.blocks) (block_at h.blocks i) n len wanted c.fit (subst P (split_at h.blocks i c.within) lawful)
 
 -- where there is a choice there is a fit
-fits_some : (sli : ℕ) (h : HeapState) (len i : ℕ) → IsLawful h → IsChoice sli (want len) h.blocks i → fits sli (want len) h.blocks ≡ [] → ⊥
-fits_some sli h len i lawful c e =
-    let some = choice_is sli (want len) h.blocks i lawful.stamps_differ c in
-    let none : choice sli (want len) h.blocks ≡ None = ap (λ (l : List Site). find (λ s. list_all (λ t. is_as_good sli s.block t.block) l) l) e in
+fits_some : (sli : ℕ) (h : HeapState) (n i : ℕ) → IsLawful h → IsChoice sli n h.blocks i → fits sli n h.blocks ≡ [] → ⊥
+fits_some sli h n i lawful c e =
+    let some = choice_is sli n h.blocks i lawful.stamps_differ c in
+    let none : choice sli n h.blocks ≡ None = ap (λ (l : List Site). find (λ s. list_all (λ t. is_as_good sli s.block t.block) l) l) e in
     let bad : Some (site_at h.blocks i) ≡ None = sym some ∙ none in cc
 
--- what a call of `allocate` on the heap h ensures, whose answer and whose heap are these
-pub record Allocates (sli : ℕ) (h : HeapState) (len : ℕ) (answer : Result Name Refusal) (left : HeapState) : Type 0 where
-  pub is_answer : answer ≡ (allocated sli h len).answer
-  pub is_heap : left ≡ (allocated sli h len).heap
-  pub no_fit : (answer ≡ Err NoFit) ↔ (fits sli (want len) h.blocks ≡ [])
-  pub ok : IsOk answer ↔ (¬ (fits sli (want len) h.blocks ≡ []) × ¬ (h.tick ≡ last_tick))
+-- what a call of `allocate_words` on the heap h ensures, whose answer and whose heap are these
+pub record Allocates (sli : ℕ) (h : HeapState) (n len : ℕ) (answer : Result Name Refusal) (left : HeapState) : Type 0 where
+  pub is_answer : answer ≡ (allocated_words sli h n len).answer
+  pub is_heap : left ≡ (allocated_words sli h n len).heap
+  pub no_fit : (answer ≡ Err NoFit) ↔ (fits sli n h.blocks ≡ [])
+  pub ok : IsOk answer ↔ (¬ (fits sli n h.blocks ≡ []) × ¬ (h.tick ≡ last_tick))
   pub lawful : IsLawful left
 
--- the outcomes, for a heap h that a representation shows and the heap k that it stands for, by the words n that are wanted and the region that is left
-module _ (sli : ℕ) (level : IsLevel sli) (h k : HeapState) (len n : ℕ) (lawful : IsLawful h) (same : h ≡ k) (wanted : n ≡ want len) (region : RegionState) (words : region.words ≡ h.words) where
-  pub allocates_none : region.blocks ≡ h.blocks → NoneFits sli n h.blocks → Allocates sli k len (Err NoFit) (with_region h h.tick region)
-  allocates_none blocks unfit =
+-- the outcomes, for a heap h that a representation shows and the heap k that it stands for, by the region that is left
+module _ (sli : ℕ) (level : IsLevel sli) (h k : HeapState) (n len : ℕ) (wanted : want len ≤ n) (lawful : IsLawful h) (same : h ≡ k) (region : RegionState) (words : region.words ≡ h.words) where
+  pub allocates_none : region.blocks ≡ h.blocks → NoneFits sli n h.blocks → Allocates sli k n len (Err NoFit) (with_region h h.tick region)
+  allocates_none blocks none =
       let kept = region_is h h.tick region h.blocks words blocks in
-      let none : NoneFits sli (want len) h.blocks = subst (λ (m : ℕ). NoneFits sli m h.blocks) wanted unfit in
-      subst (λ (s : HeapState). Allocates sli s len (Err NoFit) (with_region h h.tick region)) same (record {
-        is_answer = sym (ap (λ (o : Outcome Name). o.answer) (allocated_none sli level h len lawful none));
-        is_heap = kept ∙ sym (ap (λ (o : Outcome Name). o.heap) (allocated_none sli level h len lawful none));
-        no_fit = (λ _. fits_none sli level h len lawful none, λ _. refl);
-        ok = (λ f. absurd (false≢true f), λ p. absurd (p.0 (fits_none sli level h len lawful none)));
+      subst (λ (s : HeapState). Allocates sli s n len (Err NoFit) (with_region h h.tick region)) same (record {
+        is_answer = sym (ap (λ (o : Outcome Name). o.answer) (allocated_none sli level h n len wanted lawful none));
+        is_heap = kept ∙ sym (ap (λ (o : Outcome Name). o.heap) (allocated_none sli level h n len wanted lawful none));
+        no_fit = (λ _. fits_none sli level h n len wanted lawful none, λ _. refl);
+        ok = (λ f. absurd (false≢true f), λ p. absurd (p.0 (fits_none sli level h n len wanted lawful none)));
         lawful = subst IsLawful (sym kept) lawful;
       })
 
   module _ (i : ℕ) (best : IsChoice sli n h.blocks i) where
-    abbrev is_chosen : IsChoice sli (want len) h.blocks i
-    is_chosen = subst (λ (m : ℕ). IsChoice sli m h.blocks i) wanted best
-
-    pub allocates_worn : region.blocks ≡ h.blocks → h.tick ≡ last_tick → Allocates sli k len (Err Worn) (with_region h h.tick region)
+    pub allocates_worn : region.blocks ≡ h.blocks → h.tick ≡ last_tick → Allocates sli k n len (Err Worn) (with_region h h.tick region)
     allocates_worn blocks worn =
         let kept = region_is h h.tick region h.blocks words blocks in
-        subst (λ (s : HeapState). Allocates sli s len (Err Worn) (with_region h h.tick region)) same (record {
-          is_answer = sym (ap (λ (o : Outcome Name). o.answer) (allocated_worn sli level h len lawful i is_chosen worn));
-          is_heap = kept ∙ sym (ap (λ (o : Outcome Name). o.heap) (allocated_worn sli level h len lawful i is_chosen worn));
-          no_fit = (λ f. cc, λ f. absurd (fits_some sli h len i lawful is_chosen f));
+        subst (λ (s : HeapState). Allocates sli s n len (Err Worn) (with_region h h.tick region)) same (record {
+          is_answer = sym (ap (λ (o : Outcome Name). o.answer) (allocated_worn sli level h n len wanted lawful i best worn));
+          is_heap = kept ∙ sym (ap (λ (o : Outcome Name). o.heap) (allocated_worn sli level h n len wanted lawful i best worn));
+          no_fit = (λ f. cc, λ f. absurd (fits_some sli h n i lawful best f));
           ok = (λ f. absurd (false≢true f), λ p. absurd (p.1 worn));
           lawful = subst IsLawful (sym kept) lawful;
         })
 
     pub allocates_some : (at : ℕ) → words_in (take i h.blocks) ≡ at → region.blocks ≡ take i h.blocks ++ carved (size_of (block_at h.blocks i)) n h.tick len ++ drop (suc i) h.blocks
-        → ¬ (h.tick ≡ last_tick) → Allocates sli k len (Ok (record { heap = h.id; at = at; serial = h.tick })) (with_region h (h.tick + 1) region)
+        → ¬ (h.tick ≡ last_tick) → Allocates sli k n len (Ok (record { heap = h.id; at = at; serial = h.tick })) (with_region h (h.tick + 1) region)
     allocates_some at is_at blocks fresh =
-        let wanted_blocks = blocks ∙ ap (λ (m : ℕ). take i h.blocks ++ carved (size_of (block_at h.blocks i)) m h.tick len ++ drop (suc i) h.blocks) wanted in
-        let is_left = region_is h (h.tick + 1) region _ words wanted_blocks in
-        let made = allocated_is sli level h len lawful i is_chosen fresh in
-        subst (λ (s : HeapState). Allocates sli s len (Ok (record { heap = h.id; at = at; serial = h.tick })) (with_region h (h.tick + 1) region)) same (record {
+        let is_left = region_is h (h.tick + 1) region _ words blocks in
+        let made = allocated_is sli level h n len wanted lawful i best fresh in
+        subst (λ (s : HeapState). Allocates sli s n len (Ok (record { heap = h.id; at = at; serial = h.tick })) (with_region h (h.tick + 1) region)) same (record {
           is_answer = ap (λ (m : ℕ). Ok (record { heap = h.id; at = m; serial = h.tick })) (sym is_at) ∙ sym (ap (λ (o : Outcome Name). o.answer) made);
           is_heap = is_left ∙ sym (ap (λ (o : Outcome Name). o.heap) made);
-          no_fit = (λ f. cc, λ f. absurd (fits_some sli h len i lawful is_chosen f));
-          ok = (λ _. (fits_some sli h len i lawful is_chosen, fresh), λ _. refl);
-          lawful = subst IsLawful (sym is_left) (allocated_lawful sli level h len lawful i is_chosen);
+          no_fit = (λ f. cc, λ f. absurd (fits_some sli h n i lawful best f));
+          ok = (λ _. (fits_some sli h n i lawful best, fresh), λ _. refl);
+          lawful = subst IsLawful (sym is_left) (allocated_lawful sli level h n len wanted lawful i best);
         })
 
 -- the blocks of a lawful heap are of sizes that a region may have

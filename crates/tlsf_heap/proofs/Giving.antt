@@ -1,8 +1,8 @@
 -- The block that an allocate gave, and its payload words.
-use Rattle.std.proofs.Common.{◌≡◌, ℕ, suc, ◌+◌, ◌-◌, List, [], ◌∷◌, ◌++◌, length, take, drop, replicate, Option, Some, None, refl, sym, ap, ◌∙◌, inl, inr, append_assoc}
+use Rattle.std.proofs.Common.{◌≡◌, ℕ, suc, ◌+◌, ◌-◌, ◌<◌, List, [], ◌∷◌, ◌++◌, length, take, drop, replicate, Option, Some, None, refl, sym, ap, ◌∙◌, inl, inr, append_assoc, arith}
 use Rattle.std.specs.Prelude.{IsSome}
 use Rattle.std.proofs.lemmas.Bool.{eqb-true, false≢true, cases_lt}
-use Rattle.tlsf_heap.specs.Blocks.{Block, Live, Free, HeapState, payload_words, StandsAt}
+use Rattle.tlsf_heap.specs.Blocks.{Block, Live, Free, HeapState, size_of, payload_words, StandsAt}
 use Rattle.tlsf_heap.specs.GoodFit.{Site, block_at}
 use Rattle.tlsf_heap.specs.Regions.{AreRegions}
 use Rattle.tlsf_heap.specs.Calls.{carved, has_serial, named}
@@ -14,15 +14,16 @@ use Rattle.tlsf_heap.proofs.Edits.{carved_small, carved_large}
 use Rattle.tlsf_heap.proofs.Sizes.{Around, around, block_around, stands_around, one_index}
 use Rattle.tlsf_heap.proofs.Outcomes.{named_site}
 
--- a block that is carved begins where the free one began
-pub carved_stands : (bs new : List Block) (at i size words tick len : ℕ) → StandsAt bs at i → new ≡ take i bs ++ carved size words tick len ++ drop (suc i) bs → StandsAt new at i
+-- a block that is carved begins where the free one began, and has fewer than four words above those wanted
+pub carved_stands : (bs new : List Block) (at i size words tick len : ℕ) → StandsAt bs at i → new ≡ take i bs ++ carved size words tick len ++ drop (suc i) bs → StandsAt new at i × (size_of (block_at new i) < words + 4)
 carved_stands bs new at i size words tick len stands is =
     let a = around bs at i stands in
-    let begins : (b : Block) (more : List Block) → carved size words tick len ≡ b ∷ more → StandsAt new at i = λ b more e.
-    let now : Around new at i (take i bs) b (more ++ drop (suc i) bs) = record { is = is ∙ ap (λ (l : List Block). take i bs ++ l ++ drop (suc i) bs) e ∙ append_assoc (take i bs) (b ∷ more) (drop (suc i) bs); before = a.before; place = a.place } in stands_around now in
+    let begins : (b : Block) (more : List Block) → carved size words tick len ≡ b ∷ more → size_of b < words + 4 → StandsAt new at i × (size_of (block_at new i) < words + 4) = λ b more e close.
+    let now : Around new at i (take i bs) b (more ++ drop (suc i) bs) = record { is = is ∙ ap (λ (l : List Block). take i bs ++ l ++ drop (suc i) bs) e ∙ append_assoc (take i bs) (b ∷ more) (drop (suc i) bs); before = a.before; place = a.place } in
+    (stands_around now, omega (arith, ap size_of (block_around now), close)) in
     elim (cases_lt size (words + 4)) [
-      | inl small ↦ begins (Live size tick (replicate len 0)) [] (carved_small size words tick len small)
-      | inr large ↦ begins (Live words tick (replicate len 0)) (Free (size - words) tick ∷ []) (carved_large size words tick len large)
+      | inl small ↦ begins (Live size tick (replicate len 0)) [] (carved_small size words tick len small) small
+      | inr large ↦ begins (Live words tick (replicate len 0)) (Free (size - words) tick ∷ []) (carved_large size words tick len large) (omega arith)
     ]
 
 -- the block that a live name names is the one at its place

@@ -5,20 +5,15 @@ use Rattle.std.proofs.lemmas.Bool.{eqb-true, false≢true}
 use Rattle.tlsf_heap.specs.Blocks.{Block, Live, Free, HeapState, size_of, serials, want}
 use Rattle.tlsf_heap.specs.Lawful.{IsLawful}
 use Rattle.tlsf_words.specs.Lists.{AreDistinct}
-use Rattle.tlsf_heap.specs.Calls.{ticked, with_blocks, carved, has_serial, past_free, before_free, coalesced, released, with_bytes, is_sized, refitted, room_of, Call, Allocate, Release, Resize, Write, Read, answered, run}
-use Rattle.tlsf_heap.specs.Laws.{IsLive, IsTaken}
+use Rattle.tlsf_heap.specs.Calls.{ticked, with_blocks, carved, allocated_words, has_serial, past_free, before_free, coalesced, released, with_bytes, is_sized, refitted, resized_words, room_of, Call, Allocate, Release, Resize, Write, Read, answered, run}
+use Rattle.tlsf_heap.specs.Laws.{IsLive, IsTaken, IsGone}
 use Rattle.tlsf_heap.specs.declared.name.Name.{Name}
 use Rattle.tlsf_heap.proofs.Finding.{and_left}
 use Rattle.tlsf_heap.proofs.Lawfulness.{all_append, all_left, all_right, all_weaker, serials-append}
 use Rattle.tlsf_heap.proofs.Coalescing.{by_last}
-use Rattle.tlsf_heap.proofs.Outcomes.{by_test, by_allocated, by_released, by_resized, by_written, lawful_site}
+use Rattle.tlsf_heap.proofs.Outcomes.{by_test, by_allocated_words, by_released, by_resized_words, by_written, lawful_site}
 use Rattle.tlsf_heap.proofs.Resizing.{by_refitted}
 use Rattle.tlsf_heap.proofs.Living.{serial_of, lives}
-
--- the serial is of a past tick, and no live block has it
-record IsGone (h : HeapState) (serial : ℕ) : Type 0 where
-  past : serial < h.tick
-  absent : AllByRecursion (λ y. y ≢ serial) (serials h.blocks)
 
 module _ (P : ℕ → Type 0) where
   abbrev AllSerials : List Block → Type 0
@@ -54,24 +49,30 @@ module _ (P : ℕ → Type 0) where
   all_refitted tick n len (Live m s xs) back room all = by_refitted AllSerials tick n len m s xs back room (λ _. all) (all.0, all_past back all.1) (λ _. (all.0, all_past back all.1))
   all_refitted tick n len (Free m s) back room all = by_test AllSerials (is_sized n (Free m s)) (Free m s ∷ back) (Free m s ∷ back) (λ _. all) all
 
-gone_call : (sli : ℕ) (h : HeapState) (serial : ℕ) (call : Call) → IsGone h serial → IsGone (answered sli h call).1 serial
-gone_call sli h serial (Allocate len) g = by_allocated sli (λ o. IsGone o.heap serial) h len (λ why. g) (λ s site fit.
+pub gone_allocated : (sli : ℕ) (h : HeapState) (serial n len : ℕ) → IsGone h serial → IsGone (allocated_words sli h n len).heap serial
+gone_allocated sli h serial n len g = by_allocated_words sli (λ o. IsGone o.heap serial) h n len (λ why. g) (λ s site fit.
     let P : ℕ → Type 0 = λ y. y ≢ serial in
-    let new : List Block = carved (size_of s.block) (want len) h.tick len in
+    let new : List Block = carved (size_of s.block) n h.tick len in
     let other : h.tick ≢ serial = λ e. omega (arith, g.past, e) in
     let all = all_of P s.before (s.block ∷ s.after) (subst (AllSerials P) (sym site) g.absent) in
     record {
       past = omega (arith, g.past);
-      absent = of_both P (s.before ++ new) s.after (of_both P s.before new all.0 (by_test (AllSerials P) (nat_le (want len + 4) (size_of s.block)) _ _ (λ _. (other, tt)) (other, tt))) (of_rest P s.block s.after all.1);
+      absent = of_both P (s.before ++ new) s.after (of_both P s.before new all.0 (by_test (AllSerials P) (nat_le (n + 4) (size_of s.block)) _ _ (λ _. (other, tt)) (other, tt))) (of_rest P s.block s.after all.1);
     })
+
+pub gone_resized : (h : HeapState) (serial : ℕ) (name : Name) (n len : ℕ) → IsGone h serial → IsGone (resized_words h name n len).heap serial
+gone_resized h serial name n len g = by_resized_words (λ o. IsGone o.heap serial) h name n len (λ why. g) (λ s own site is room.
+    let P : ℕ → Type 0 = λ y. y ≢ serial in
+    let all = all_of P s.before (s.block ∷ s.after) (subst (AllSerials P) (sym site) g.absent) in
+    record { past = omega (arith, g.past); absent = of_both P s.before _ all.0 (all_refitted P h.tick n len s.block s.after room all.1) })
+
+pub gone_call : (sli : ℕ) (h : HeapState) (serial : ℕ) (call : Call) → IsGone h serial → IsGone (answered sli h call).1 serial
+gone_call sli h serial (Allocate len) g = gone_allocated sli h serial (want len) len g
 gone_call sli h serial (Release name) g = by_released (λ o. IsGone o.heap serial) h name (λ why. g) (λ s own site is.
     let P : ℕ → Type 0 = λ y. y ≢ serial in
     let all = all_of P s.before (s.block ∷ s.after) (subst (AllSerials P) (sym site) g.absent) in
     record { past = omega (arith, g.past); absent = all_coalesced P h.tick s.before s.after s.block all.0 (of_rest P s.block s.after all.1) })
-gone_call sli h serial (Resize name len) g = by_resized (λ o. IsGone o.heap serial) h name len (λ why. g) (λ s own site is room.
-    let P : ℕ → Type 0 = λ y. y ≢ serial in
-    let all = all_of P s.before (s.block ∷ s.after) (subst (AllSerials P) (sym site) g.absent) in
-    record { past = omega (arith, g.past); absent = of_both P s.before _ all.0 (all_refitted P h.tick (want len) len s.block s.after room all.1) })
+gone_call sli h serial (Resize name len) g = gone_resized h serial name (want len) len g
 gone_call sli h serial (Write name at bytes) g = by_written (λ o. IsGone o.heap serial) h name at bytes (λ why. g) (λ s site has.
     let P : ℕ → Type 0 = λ y. y ≢ serial in
     let all = all_of P s.before (s.block ∷ s.after) (subst (AllSerials P) (sym site) g.absent) in
@@ -96,9 +97,13 @@ gone_released h front back (Live m s xs) serial e lawful =
     record { past = omega (arith, past); absent = all_coalesced (λ y. y ≢ s) h.tick front back (Live m s xs) others.0 others.1 } in
     subst (IsGone (ticked h (coalesced h.tick (record { before = front; block = Live m s xs; after = back })))) (eqb-true s serial e) here
 
+pub gone_taken : (h : HeapState) (name : Name) → IsLawful h → IsTaken h name → IsGone (released h name).heap name.serial
+gone_taken h name lawful taken =
+    by_released (λ o. o.answer ≡ Ok tt → IsGone o.heap name.serial) h name (λ why e. absurd cc)
+    (λ s own site is e. gone_released h s.before s.after s.block name.serial (and_left _ _ is) (lawful_site h s site lawful)) taken
+
+pub gone_dead : (h : HeapState) (name : Name) → IsGone h name.serial → ¬ (IsLive h name)
+gone_dead h name g live = serial_of name.at name.serial (λ y. y ≢ name.serial) 0 _ g.absent (lives h name live) refl
+
 pub gone : (sli : ℕ) (h : HeapState) (name : Name) (calls : List Call) → IsLawful h → IsTaken h name → ¬ (IsLive (run sli (released h name).heap calls).1 name)
-gone sli h name calls lawful taken live =
-    let first : IsGone (released h name).heap name.serial = by_released (λ o. o.answer ≡ Ok tt → IsGone o.heap name.serial) h name (λ why e. absurd cc)
-    (λ s own site is e. gone_released h s.before s.after s.block name.serial (and_left _ _ is) (lawful_site h s site lawful)) taken in
-    let left = gone_run sli (released h name).heap name.serial calls first in
-    serial_of name.at name.serial (λ y. y ≢ name.serial) 0 _ left.absent (lives (run sli (released h name).heap calls).1 name live) refl
+gone sli h name calls lawful taken = gone_dead _ name (gone_run sli (released h name).heap name.serial calls (gone_taken h name lawful taken))

@@ -81,7 +81,7 @@ with_region h tick region = record { id = h.id; words = region.words; tick = tic
 pub region_is : (h : HeapState) (tick : ℕ) (region : RegionState) (bs : List Block) → region.words ≡ h.words → region.blocks ≡ bs → with_region h tick region ≡ record { id = h.id; words = h.words; tick = tick; blocks = bs }
 region_is h tick region bs words blocks = cc
 
-module _ (h : HeapState) (front back : List Block) (m s n len : ℕ) (wanted : n ≡ want len) (lawful : IsLawful (with_blocks h (front ++ Free m s ∷ back))) where
+module _ (h : HeapState) (front back : List Block) (m s n len : ℕ) (wanted : want len ≤ n) (lawful : IsLawful (with_blocks h (front ++ Free m s ∷ back))) where
   total : words_in front + (m + words_in back) ≡ h.words
   total = sym (words_in-append front (Free m s ∷ back)) ∙ lawful.whole
 

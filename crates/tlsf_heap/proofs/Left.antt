@@ -5,7 +5,7 @@ use Rattle.std.proofs.lemmas.Bool.{false≢true}
 use Rattle.tlsf_class.specs.Classes.{most_words}
 use Rattle.tlsf_words.specs.declared.tag.Tag.{Tag}
 use Rattle.tlsf_heap.specs.Blocks.{Block, Live, Free, HeapState, size_of, is_free, words_for, want}
-use Rattle.tlsf_heap.specs.Calls.{Release, Resize, refused, last_tick, room_of, refitted, resized, named}
+use Rattle.tlsf_heap.specs.Calls.{refused, last_tick, room_of, refitted, resized_words, named}
 use Rattle.tlsf_heap.specs.Given.{payload_words_at}
 use Rattle.tlsf_heap.specs.GoodFit.{block_at, site_at}
 use Rattle.tlsf_heap.specs.Lawful.{IsLawful}
@@ -19,7 +19,7 @@ use Rattle.tlsf_heap.proofs.Allocating.{lawful_regions}
 use Rattle.tlsf_heap.proofs.Edits.{first_free-words}
 use Rattle.tlsf_heap.proofs.Giving.{named_payload}
 use Rattle.tlsf_heap.proofs.Lawfulness.{with_region, region_is}
-use Rattle.tlsf_heap.proofs.Living.{kept}
+use Rattle.tlsf_heap.proofs.Living.{kept_resized}
 use Rattle.tlsf_heap.proofs.Naming.{named_is, named_stands, named_live}
 use Rattle.tlsf_heap.proofs.Resizing.{Resizes, by_refitted, resized_short, resized_worn, resizes_refused, resizes_block}
 use Rattle.tlsf_heap.proofs.Sizes.{Around, around, words_around, block_around, stands_around}
@@ -41,7 +41,7 @@ refitted_size tick n len (Live m s xs) back live room =
     by_refitted (λ (l : List Block). (now : Block) × (rest : List Block) × (l ≡ now ∷ rest) × (n ≤ size_of now)) tick n len m s xs back room
     (λ enough. (_, _, refl, enough)) (_, _, refl, room) (λ large. (_, _, refl, omega arith))
 
-module _ (sli : ℕ) {h k : HeapState} {name : Name} {own next : Tag} (f : Found h name own next) (same : h ≡ k) (lawful : IsLawful h) (len : ℕ) where
+module _ (sli : ℕ) {h k : HeapState} {name : Name} {own next : Tag} (f : Found h name own next) (same : h ≡ k) (lawful : IsLawful h) (n len : ℕ) (wanted : want len ≤ n) where
   pub room_small : own.size + next.size ≤ h.words
   room_small =
       let a = around h.blocks name.at f.named.1.0 (named_stands _ _ _ _ f.named.1.1) in
@@ -49,28 +49,28 @@ module _ (sli : ℕ) {h k : HeapState} {name : Name} {own next : Tag} (f : Found
 
   -- refused: the region was read alone
   module _ (region : RegionState) (words : region.words ≡ h.words) (blocks : region.blocks ≡ h.blocks) where
-    refuses : (why : Refusal) → resized h name len ≡ refused h why → Resizes k name len (Err why) (with_region h h.tick region)
+    refuses : (why : Refusal) → resized_words h name n len ≡ refused h why → Resizes k name n len (Err why) (with_region h h.tick region)
     refuses why e =
-        subst (λ (s : HeapState). Resizes s name len (Err why) (with_region h h.tick region)) same
-        (resizes_refused h (with_region h h.tick region) name len why lawful (region_is h h.tick region h.blocks words blocks) e)
+        subst (λ (s : HeapState). Resizes s name n len (Err why) (with_region h h.tick region)) same
+        (resizes_refused h (with_region h h.tick region) name n len why lawful (region_is h h.tick region h.blocks words blocks) e)
 
-    pub resizes_short : own.size + next.size < want len → Resizes k name len (Err NoRoom) (with_region h h.tick region)
-    resizes_short short = refuses NoRoom (resized_short h name len f.named.0 f.named.1.0 f.named.1.1 (omega (arith, short, f.is_own.size, f.is_next.size)))
+    pub resizes_short : own.size + next.size < n → Resizes k name n len (Err NoRoom) (with_region h h.tick region)
+    resizes_short short = refuses NoRoom (resized_short h name n len f.named.0 f.named.1.0 f.named.1.1 (omega (arith, short, f.is_own.size, f.is_next.size)))
 
-    pub resizes_worn : want len ≤ own.size + next.size → h.tick ≡ last_tick → Resizes k name len (Err Worn) (with_region h h.tick region)
-    resizes_worn room worn = refuses Worn (resized_worn h name len f.named.0 f.named.1.0 f.named.1.1 (omega (arith, room, f.is_own.size, f.is_next.size)) worn)
+    pub resizes_worn : n ≤ own.size + next.size → h.tick ≡ last_tick → Resizes k name n len (Err Worn) (with_region h h.tick region)
+    resizes_worn room worn = refuses Worn (resized_worn h name n len f.named.0 f.named.1.0 f.named.1.1 (omega (arith, room, f.is_own.size, f.is_next.size)) worn)
 
   -- done
-  module _ (room : want len ≤ own.size + next.size) (fresh : h.tick ≡ last_tick → ⊥) (region : RegionState) (words : region.words ≡ h.words)
-      (blocks : region.blocks ≡ take f.named.1.0 h.blocks ++ refitted h.tick (want len) len (block_at h.blocks f.named.1.0) (drop (suc f.named.1.0) h.blocks)) where
-    enough : want len ≤ room_of (block_at h.blocks f.named.1.0) (drop (suc f.named.1.0) h.blocks)
+  module _ (room : n ≤ own.size + next.size) (fresh : h.tick ≡ last_tick → ⊥) (region : RegionState) (words : region.words ≡ h.words)
+      (blocks : region.blocks ≡ take f.named.1.0 h.blocks ++ refitted h.tick n len (block_at h.blocks f.named.1.0) (drop (suc f.named.1.0) h.blocks)) where
+    enough : n ≤ room_of (block_at h.blocks f.named.1.0) (drop (suc f.named.1.0) h.blocks)
     enough = omega (arith, room, f.is_own.size, f.is_next.size)
 
-    own_resizes : Resizes h name len (Ok tt) (with_region h (h.tick + 1) region)
-    own_resizes = resizes_block h name len region f.named lawful enough words blocks fresh
+    own_resizes : Resizes h name n len (Ok tt) (with_region h (h.tick + 1) region)
+    own_resizes = resizes_block h name n len region f.named wanted lawful enough words blocks fresh
 
-    pub resizes_done : Resizes k name len (Ok tt) (with_region h (h.tick + 1) region)
-    resizes_done = subst (λ (s : HeapState). Resizes s name len (Ok tt) (with_region h (h.tick + 1) region)) same own_resizes
+    pub resizes_done : Resizes k name n len (Ok tt) (with_region h (h.tick + 1) region)
+    resizes_done = subst (λ (s : HeapState). Resizes s name n len (Ok tt) (with_region h (h.tick + 1) region)) same own_resizes
 
     -- the block of the name has the words wanted
     pub payload_left : h.words ≤ most_words sli → words_for len ≤ 3 + payload_words_at (named name region.blocks)
@@ -78,8 +78,8 @@ module _ (sli : ℕ) {h k : HeapState} {name : Name} {own next : Tag} (f : Found
         let stands = named_stands _ _ _ _ f.named.1.1 in
         let live : IsLive h name = (f.named.0, subst IsSome (sym (named_is name h.blocks f.named.1.0 f.named.1.1)) refl) in
         let still : IsLive (with_region h (h.tick + 1) region) name =
-        subst (λ (s : HeapState). IsLive s name) (sym own_resizes.is_heap) (kept sli h name (Resize name len) (λ taken. let bad : Resize name len ≡ Release name = taken.0 in cc) live) in
-        let now = refitted_size h.tick (want len) len (block_at h.blocks f.named.1.0) (drop (suc f.named.1.0) h.blocks) (named_live _ _ _ _ f.named.1.1) enough in
+        subst (λ (s : HeapState). IsLive s name) (sym own_resizes.is_heap) (kept_resized h name name n len live) in
+        let now = refitted_size h.tick n len (block_at h.blocks f.named.1.0) (drop (suc f.named.1.0) h.blocks) (named_live _ _ _ _ f.named.1.1) enough in
         let a : Around region.blocks name.at f.named.1.0 (take f.named.1.0 h.blocks) now.0 now.1 = record {
           is = blocks ∙ ap (λ (l : List Block). take f.named.1.0 h.blocks ++ l) now.2;
           before = (around h.blocks name.at f.named.1.0 stands).before;

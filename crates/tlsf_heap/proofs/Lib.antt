@@ -42,6 +42,7 @@ pub mod Tallying
 pub mod Granting
 pub mod Reporting
 pub mod Outcomes
+pub mod Lasting
 pub mod Living
 pub mod Gone
 pub mod Giving

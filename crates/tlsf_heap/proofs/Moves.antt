@@ -4,7 +4,7 @@ use Rattle.std.specs.Prelude.{IsSome}
 use Rattle.std.specs.List.{AllByRecursion}
 use Rattle.std.proofs.lemmas.Bool.{false≢true, eqb-true, ne_eqb}
 use Rattle.std.proofs.lemmas.Bool.Decides.{nat_tests}
-use Rattle.tlsf_heap.specs.Blocks.{HeapState, payload_words}
+use Rattle.tlsf_heap.specs.Blocks.{HeapState, payload_words, want}
 use Rattle.tlsf_heap.specs.Calls.{Allocate, Release, Write, refused, last_tick, is_worn, allocated, named, released, released_at, resized, resized_at, written}
 use Rattle.tlsf_heap.specs.Given.{payload_words_at}
 use Rattle.tlsf_heap.specs.GoodFit.{Site, block_at}
@@ -97,11 +97,11 @@ module _ (sli : ℕ) (h : HeapState) (name : Name) (len : ℕ) where
 pub no_room_live : (h : HeapState) (name : Name) (len : ℕ) → Err NoRoom ≡ (resized h name len).answer → IsLive h name
 no_room_live h name len = own (eqb name.heap h.id) refl
   where
-    found : name.heap ≡ h.id → (o : Option Site) → named name h.blocks ≡ o → Err NoRoom ≡ (resized_at h len o).answer → IsLive h name
+    found : name.heap ≡ h.id → (o : Option Site) → named name h.blocks ≡ o → Err NoRoom ≡ (resized_at h (want len) len o).answer → IsLive h name
     found same None is e = cc
     found same (Some s) is e = (same, subst IsSome (sym is) refl)
 
-    own : (b : Bool) → eqb name.heap h.id ≡ b → Err NoRoom ≡ (cond b (resized_at h len (named name h.blocks)) (refused h Foreign)).answer → IsLive h name
+    own : (b : Bool) → eqb name.heap h.id ≡ b → Err NoRoom ≡ (cond b (resized_at h (want len) len (named name h.blocks)) (refused h Foreign)).answer → IsLive h name
     own true is e = found (eqb-true name.heap h.id is) (named name h.blocks) refl e
     own false is e = cc
 

@@ -8,7 +8,7 @@ use Rattle.tlsf_class.specs.Classes.{IsLevel}
 use Rattle.tlsf_heap.specs.Blocks.{Block, HeapState, size_of, bytes_of, want}
 use Rattle.tlsf_heap.specs.GoodFit.{Site, sites, sites_behind, place_of, is_fit, fits, choice}
 use Rattle.tlsf_heap.specs.Lawful.{IsLawful}
-use Rattle.tlsf_heap.specs.Calls.{Outcome, refused, is_worn, ticked, with_blocks, carved, allocated, allocated_at, is_named, named, coalesced, released, released_at, overwritten, with_bytes, has_bytes, written, written_at, refitted, room_of, resized, resized_at, Call, Allocate, Release, Resize, Write, Read, answered, run}
+use Rattle.tlsf_heap.specs.Calls.{Outcome, refused, is_worn, ticked, with_blocks, carved, allocated, allocated_words, allocated_at, is_named, named, coalesced, released, released_at, overwritten, with_bytes, has_bytes, written, written_at, refitted, room_of, resized, resized_words, resized_at, Call, Allocate, Release, Resize, Write, Read, answered, run}
 use Rattle.tlsf_heap.specs.declared.name.Name.{Name}
 use Rattle.tlsf_heap.specs.declared.refusal.Refusal.{Refusal}
 use Rattle.tlsf_heap.specs.declared.refusal.Refusal.TheVariants.{NoFit, Worn, Foreign, Stale, Range, NoRoom}
@@ -67,19 +67,26 @@ named_site name bs s e = found_has (IsSiteOf bs) (is_named name.at name.serial) 
 
 -- ---- what a call comes to: a refusal, or an edit at a site
 
-abbrev pub gives : HeapState → ℕ → Site → Outcome Name
-gives h len s = record {
+abbrev pub gives_words : HeapState → ℕ → ℕ → Site → Outcome Name
+gives_words h n len s = record {
   answer = Ok (record { heap = h.id; at = place_of s; serial = h.tick });
-  heap = ticked h (s.before ++ carved (size_of s.block) (want len) h.tick len ++ s.after);
+  heap = ticked h (s.before ++ carved (size_of s.block) n h.tick len ++ s.after);
 }
+
+abbrev pub gives : HeapState → ℕ → Site → Outcome Name
+gives h len s = gives_words h (want len) len s
+
+pub by_allocated_words : (sli : ℕ) (P : Outcome Name → Type 0) (h : HeapState) (n len : ℕ) → ((why : Refusal) → P (refused h why))
+    → ((s : Site) → IsSiteOf h.blocks s → is_fit sli n s.block ≡ true → P (gives_words h n len s)) → P (allocated_words sli h n len)
+by_allocated_words sli P h n len if_refused if_done = at (choice sli n h.blocks) refl
+  where
+    at : (o : Option Site) → choice sli n h.blocks ≡ o → P (allocated_at h n len o)
+    at None e = if_refused NoFit
+    at (Some s) e = let site = chosen_site sli n h.blocks s e in by_test P (is_worn h) (refused h Worn) (gives_words h n len s) (λ _. if_refused Worn) (if_done s site.0 site.1)
 
 pub by_allocated : (sli : ℕ) (P : Outcome Name → Type 0) (h : HeapState) (len : ℕ) → ((why : Refusal) → P (refused h why))
     → ((s : Site) → IsSiteOf h.blocks s → is_fit sli (want len) s.block ≡ true → P (gives h len s)) → P (allocated sli h len)
-by_allocated sli P h len if_refused if_done = at (choice sli (want len) h.blocks) refl
-  where
-    at : (o : Option Site) → choice sli (want len) h.blocks ≡ o → P (allocated_at h len o)
-    at None e = if_refused NoFit
-    at (Some s) e = let site = chosen_site sli (want len) h.blocks s e in by_test P (is_worn h) (refused h Worn) (gives h len s) (λ _. if_refused Worn) (if_done s site.0 site.1)
+by_allocated sli P h len = by_allocated_words sli P h (want len) len
 
 abbrev pub takes : HeapState → Site → Outcome (Unit {0})
 takes h s = record { answer = Ok tt; heap = ticked h (coalesced h.tick s) }
@@ -93,20 +100,24 @@ by_released P h name if_refused if_done =
     at own None e = if_refused Stale
     at own (Some s) e = let site = named_site name h.blocks s e in by_test P (is_worn h) (refused h Worn) (takes h s) (λ _. if_refused Worn) (if_done s own site.0 site.1)
 
-abbrev pub resizes : HeapState → ℕ → Site → Outcome (Unit {0})
-resizes h len s = record { answer = Ok tt; heap = ticked h (s.before ++ refitted h.tick (want len) len s.block s.after) }
+abbrev pub resizes : HeapState → ℕ → ℕ → Site → Outcome (Unit {0})
+resizes h n len s = record { answer = Ok tt; heap = ticked h (s.before ++ refitted h.tick n len s.block s.after) }
 
-pub by_resized : (P : Outcome (Unit {0}) → Type 0) (h : HeapState) (name : Name) (len : ℕ) → ((why : Refusal) → P (refused h why))
-    → ((s : Site) → name.heap ≡ h.id → IsSiteOf h.blocks s → is_named name.at name.serial s ≡ true → want len ≤ room_of s.block s.after → P (resizes h len s)) → P (resized h name len)
-by_resized P h name len if_refused if_done =
-    by_test P (eqb name.heap h.id) (resized_at h len (named name h.blocks)) (refused h Foreign) (λ own. at (eqb-true name.heap h.id own) (named name h.blocks) refl) (if_refused Foreign)
+pub by_resized_words : (P : Outcome (Unit {0}) → Type 0) (h : HeapState) (name : Name) (n len : ℕ) → ((why : Refusal) → P (refused h why))
+    → ((s : Site) → name.heap ≡ h.id → IsSiteOf h.blocks s → is_named name.at name.serial s ≡ true → n ≤ room_of s.block s.after → P (resizes h n len s)) → P (resized_words h name n len)
+by_resized_words P h name n len if_refused if_done =
+    by_test P (eqb name.heap h.id) (resized_at h n len (named name h.blocks)) (refused h Foreign) (λ own. at (eqb-true name.heap h.id own) (named name h.blocks) refl) (if_refused Foreign)
   where
-    at : name.heap ≡ h.id → (o : Option Site) → named name h.blocks ≡ o → P (resized_at h len o)
+    at : name.heap ≡ h.id → (o : Option Site) → named name h.blocks ≡ o → P (resized_at h n len o)
     at own None e = if_refused Stale
     at own (Some s) e =
         let site = named_site name h.blocks s e in
-        unless P (nat_lt (room_of s.block s.after) (want len)) (refused h NoRoom) _ (if_refused NoRoom)
-        (λ t. by_test P (is_worn h) (refused h Worn) (resizes h len s) (λ _. if_refused Worn) (if_done s own site.0 site.1 (grind (arith, nat_tests))))
+        unless P (nat_lt (room_of s.block s.after) n) (refused h NoRoom) _ (if_refused NoRoom)
+        (λ t. by_test P (is_worn h) (refused h Worn) (resizes h n len s) (λ _. if_refused Worn) (if_done s own site.0 site.1 (grind (arith, nat_tests))))
+
+pub by_resized : (P : Outcome (Unit {0}) → Type 0) (h : HeapState) (name : Name) (len : ℕ) → ((why : Refusal) → P (refused h why))
+    → ((s : Site) → name.heap ≡ h.id → IsSiteOf h.blocks s → is_named name.at name.serial s ≡ true → want len ≤ room_of s.block s.after → P (resizes h (want len) len s)) → P (resized h name len)
+by_resized P h name len = by_resized_words P h name (want len) len
 
 abbrev pub writes : HeapState → ℕ → List ℕ → Site → Outcome (Unit {0})
 writes h at bytes s = record { answer = Ok tt; heap = with_blocks h (s.before ++ with_bytes s.block (overwritten (bytes_of s.block) at bytes) ∷ s.after) }
@@ -131,13 +142,19 @@ ids sli h (Read name at n) = refl
 pub lawful_site : (h : HeapState) (s : Site) → IsSiteOf h.blocks s → IsLawful h → IsLawful (with_blocks h (s.before ++ s.block ∷ s.after))
 lawful_site h s site lawful = subst (λ (l : List Block). IsLawful (with_blocks h l)) (sym site) lawful
 
+pub lawful_allocated_words : (sli : ℕ) (level : IsLevel sli) (h : HeapState) (n len : ℕ) → want len ≤ n → IsLawful h → IsLawful (allocated_words sli h n len).heap
+lawful_allocated_words sli level h n len wanted lawful =
+    by_allocated_words sli (λ o. IsLawful o.heap) h n len (λ why. lawful) (λ s site fit. lawful_carved sli level h s.before s.after s.block n len wanted fit (lawful_site h s site lawful))
+
+pub lawful_resized_words : (h : HeapState) (name : Name) (n len : ℕ) → want len ≤ n → IsLawful h → IsLawful (resized_words h name n len).heap
+lawful_resized_words h name n len wanted lawful =
+    by_resized_words (λ o. IsLawful o.heap) h name n len (λ why. lawful) (λ s own site is room. lawful_refitted h s.before s.after s.block name.serial n len wanted (and_left _ _ is) room (lawful_site h s site lawful))
+
 lawful_call : (sli : ℕ) (level : IsLevel sli) (h : HeapState) (call : Call) → IsLawful h → IsLawful (answered sli h call).1
-lawful_call sli level h (Allocate len) lawful =
-    by_allocated sli (λ o. IsLawful o.heap) h len (λ why. lawful) (λ s site fit. lawful_carved sli level h s.before s.after s.block len fit (lawful_site h s site lawful))
+lawful_call sli level h (Allocate len) lawful = lawful_allocated_words sli level h (want len) len (omega arith) lawful
 lawful_call sli level h (Release name) lawful =
     by_released (λ o. IsLawful o.heap) h name (λ why. lawful) (λ s own site is. lawful_at h s.before s.after s.block name.serial (and_left _ _ is) (lawful_site h s site lawful))
-lawful_call sli level h (Resize name len) lawful =
-    by_resized (λ o. IsLawful o.heap) h name len (λ why. lawful) (λ s own site is room. lawful_refitted h s.before s.after s.block name.serial len (and_left _ _ is) room (lawful_site h s site lawful))
+lawful_call sli level h (Resize name len) lawful = lawful_resized_words h name (want len) len (omega arith) lawful
 lawful_call sli level h (Write name at bytes) lawful =
     by_written (λ o. IsLawful o.heap) h name at bytes (λ why. lawful) (λ s site has.
     lawful_bytes h s.before s.after s.block _ (length-overwritten (bytes_of s.block) bytes at (range_fits s.block at (length bytes) has)) (lawful_site h s site lawful))

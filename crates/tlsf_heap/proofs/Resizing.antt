@@ -7,7 +7,7 @@ use Rattle.tlsf_words.specs.Lists.{AreDistinct}
 use Rattle.tlsf_heap.specs.Blocks.{Block, Live, Free, HeapState, words_in, serials, stamps, words_for, want}
 use Rattle.tlsf_heap.specs.Lawful.{IsLawful, HasRoom, AreApart}
 use Rattle.tlsf_heap.specs.GoodFit.{block_at}
-use Rattle.tlsf_heap.specs.Calls.{with_blocks, Outcome, has_serial, ticked, refused, last_tick, first_free, past_free, fitted, recut, refitted, room_of, is_worn, resized, resized_at}
+use Rattle.tlsf_heap.specs.Calls.{with_blocks, Outcome, has_serial, ticked, refused, last_tick, first_free, past_free, fitted, recut, refitted, room_of, is_worn, resized_words, resized_at}
 use Rattle.tlsf_heap.specs.Regions.{RegionState}
 use Rattle.tlsf_heap.specs.Named.{IsFirst, IsNamed, RefusesName}
 use Rattle.tlsf_heap.specs.declared.name.Name.{Name}
@@ -129,70 +129,70 @@ module _ (h : HeapState) (front back : List Block) (m s : ℕ) (xs : List ℕ) (
       (all_insert (λ x. x < h.tick + 1) h.tick (stamps front) (stamps (past_free back)) (omega arith) (later _ past)))
 
 -- a named block is live
-pub lawful_refitted : (h : HeapState) (front back : List Block) (b : Block) (serial len : ℕ) → has_serial serial b ≡ true → want len ≤ room_of b back → IsLawful (with_blocks h (front ++ b ∷ back))
-    → IsLawful (ticked h (front ++ refitted h.tick (want len) len b back))
-lawful_refitted h front back (Live m s xs) serial len e room lawful = lawful_live h front back m s xs (want len) len (omega arith) (omega arith) lawful room
-lawful_refitted h front back (Free m s) serial len e room lawful = absurd (false≢true e)
+pub lawful_refitted : (h : HeapState) (front back : List Block) (b : Block) (serial n len : ℕ) → want len ≤ n → has_serial serial b ≡ true → n ≤ room_of b back → IsLawful (with_blocks h (front ++ b ∷ back))
+    → IsLawful (ticked h (front ++ refitted h.tick n len b back))
+lawful_refitted h front back (Live m s xs) serial n len wanted e room lawful = lawful_live h front back m s xs n len (omega arith) (omega arith) lawful room
+lawful_refitted h front back (Free m s) serial n len wanted e room lawful = absurd (false≢true e)
 
 -- ---- what a call comes to
 
-module _ (h : HeapState) (name : Name) (len : ℕ) where
-  pub resized_refused : (why : Refusal) → RefusesName h name why → resized h name len ≡ refused h why
-  resized_refused why r = refused_name h name (resized_at h len) (refused h) refl why r
+module _ (h : HeapState) (name : Name) (n len : ℕ) where
+  pub resized_refused : (why : Refusal) → RefusesName h name why → resized_words h name n len ≡ refused h why
+  resized_refused why r = refused_name h name (resized_at h n len) (refused h) refl why r
 
   module _ (own : name.heap ≡ h.id) (i : ℕ) (first : IsFirst name.at name.serial h.blocks i) where
     abbrev left : List Block
-    left = take i h.blocks ++ refitted h.tick (want len) len (block_at h.blocks i) (drop (suc i) h.blocks)
+    left = take i h.blocks ++ refitted h.tick n len (block_at h.blocks i) (drop (suc i) h.blocks)
 
     abbrev done : Outcome (Unit {0})
     done = record { answer = Ok tt; heap = ticked h left }
 
     abbrev short : Bool
-    short = nat_lt (room_of (block_at h.blocks i) (drop (suc i) h.blocks)) (want len)
+    short = nat_lt (room_of (block_at h.blocks i) (drop (suc i) h.blocks)) n
 
-    by_room : (b : Bool) → short ≡ b → resized h name len ≡ cond b (refused h NoRoom) (cond (is_worn h) (refused h Worn) done)
-    by_room b t = at_name h name (resized_at h len) (refused h) own i first ∙ ap (λ (c : Bool). cond c (refused h NoRoom) (cond (is_worn h) (refused h Worn) done)) t
+    by_room : (b : Bool) → short ≡ b → resized_words h name n len ≡ cond b (refused h NoRoom) (cond (is_worn h) (refused h Worn) done)
+    by_room b t = at_name h name (resized_at h n len) (refused h) own i first ∙ ap (λ (c : Bool). cond c (refused h NoRoom) (cond (is_worn h) (refused h Worn) done)) t
 
-    pub resized_short : room_of (block_at h.blocks i) (drop (suc i) h.blocks) < want len → resized h name len ≡ refused h NoRoom
+    pub resized_short : room_of (block_at h.blocks i) (drop (suc i) h.blocks) < n → resized_words h name n len ≡ refused h NoRoom
     resized_short l = by_room true (grind (arith, nat_tests))
 
-    module _ (room : want len ≤ room_of (block_at h.blocks i) (drop (suc i) h.blocks)) where
-      pub resized_worn : h.tick ≡ last_tick → resized h name len ≡ refused h Worn
+    module _ (room : n ≤ room_of (block_at h.blocks i) (drop (suc i) h.blocks)) where
+      pub resized_worn : h.tick ≡ last_tick → resized_words h name n len ≡ refused h Worn
       resized_worn w = by_room false (grind (arith, nat_tests)) ∙ ap (λ (b : Bool). cond b (refused h Worn) done) (eq-eqb h.tick last_tick w)
 
-      pub resized_is : (h.tick ≡ last_tick → ⊥) → resized h name len ≡ done
-      resized_is n =
-          let t : eqb h.tick last_tick ≡ false = not_true _ (λ w. n (grind (arith, nat_tests))) in
+      pub resized_is : (h.tick ≡ last_tick → ⊥) → resized_words h name n len ≡ done
+      resized_is f =
+          let t : eqb h.tick last_tick ≡ false = not_true _ (λ w. f (grind (arith, nat_tests))) in
           by_room false (grind (arith, nat_tests)) ∙ ap (λ (b : Bool). cond b (refused h Worn) done) t
 
-      pub resized_lawful : IsLawful h → IsLawful (ticked h left)
-      resized_lawful lawful =
-          lawful_refitted h (take i h.blocks) (drop (suc i) h.blocks) (block_at h.blocks i) name.serial len (and_left _ _ first.here) room
+      pub resized_lawful : want len ≤ n → IsLawful h → IsLawful (ticked h left)
+      resized_lawful wanted lawful =
+          lawful_refitted h (take i h.blocks) (drop (suc i) h.blocks) (block_at h.blocks i) name.serial n len wanted (and_left _ _ first.here) room
           (subst (λ (l : List Block). IsLawful (with_blocks h l)) (split_at h.blocks i first.within) lawful)
 
--- what a call of `resize` on the heap h ensures, whose answer and whose heap are these
-pub record Resizes (h : HeapState) (name : Name) (len : ℕ) (answer : Result (Unit {0}) Refusal) (left : HeapState) : Type 0 where
-  pub is_answer : answer ≡ (resized h name len).answer
-  pub is_heap : left ≡ (resized h name len).heap
+-- what a call of `resize_words` on the heap h ensures, whose answer and whose heap are these
+pub record Resizes (h : HeapState) (name : Name) (n len : ℕ) (answer : Result (Unit {0}) Refusal) (left : HeapState) : Type 0 where
+  pub is_answer : answer ≡ (resized_words h name n len).answer
+  pub is_heap : left ≡ (resized_words h name n len).heap
   pub lawful : IsLawful left
 
 -- a refusal, for a heap k that is the same
-pub resizes_refused : (h k : HeapState) (name : Name) (len : ℕ) (why : Refusal) → IsLawful h → k ≡ h → resized h name len ≡ refused h why → Resizes h name len (Err why) k
-resizes_refused h k name len why lawful same e = record {
+pub resizes_refused : (h k : HeapState) (name : Name) (n len : ℕ) (why : Refusal) → IsLawful h → k ≡ h → resized_words h name n len ≡ refused h why → Resizes h name n len (Err why) k
+resizes_refused h k name n len why lawful same e = record {
   is_answer = sym (ap (λ (o : Outcome (Unit {0})). o.answer) e);
   is_heap = same ∙ sym (ap (λ (o : Outcome (Unit {0})). o.heap) e);
   lawful = subst IsLawful (sym same) lawful;
 }
 
 -- a resize, by the region that is left
-pub resizes_block : (h : HeapState) (name : Name) (len : ℕ) (region : RegionState) (named : IsNamed h name) → IsLawful h → want len ≤ room_of (block_at h.blocks named.1.0) (drop (suc named.1.0) h.blocks)
-    → region.words ≡ h.words → region.blocks ≡ take named.1.0 h.blocks ++ refitted h.tick (want len) len (block_at h.blocks named.1.0) (drop (suc named.1.0) h.blocks)
-    → (h.tick ≡ last_tick → ⊥) → Resizes h name len (Ok tt) (with_region h (h.tick + 1) region)
-resizes_block h name len region named lawful room words blocks fresh =
+pub resizes_block : (h : HeapState) (name : Name) (n len : ℕ) (region : RegionState) (named : IsNamed h name) → want len ≤ n → IsLawful h → n ≤ room_of (block_at h.blocks named.1.0) (drop (suc named.1.0) h.blocks)
+    → region.words ≡ h.words → region.blocks ≡ take named.1.0 h.blocks ++ refitted h.tick n len (block_at h.blocks named.1.0) (drop (suc named.1.0) h.blocks)
+    → (h.tick ≡ last_tick → ⊥) → Resizes h name n len (Ok tt) (with_region h (h.tick + 1) region)
+resizes_block h name n len region named wanted lawful room words blocks fresh =
     let is_left = region_is h (h.tick + 1) region _ words blocks in
-    let is_done = resized_is h name len named.0 named.1.0 named.1.1 room fresh in
+    let is_done = resized_is h name n len named.0 named.1.0 named.1.1 room fresh in
     record {
       is_answer = sym (ap (λ (o : Outcome (Unit {0})). o.answer) is_done);
       is_heap = is_left ∙ sym (ap (λ (o : Outcome (Unit {0})). o.heap) is_done);
-      lawful = subst IsLawful (sym is_left) (resized_lawful h name len named.0 named.1.0 named.1.1 room lawful);
+      lawful = subst IsLawful (sym is_left) (resized_lawful h name n len named.0 named.1.0 named.1.1 room wanted lawful);
     }

@@ -6,11 +6,11 @@ use Rattle.std.proofs.lemmas.Bool.{false≢true, eqb-true}
 use Rattle.std.proofs.lemmas.Bool.Decides.{nat_tests}
 use Rattle.tlsf_heap.specs.Blocks.{Block, HeapState, want}
 use Rattle.tlsf_heap.specs.GoodFit.{Site, fits, is_as_good, choice}
-use Rattle.tlsf_heap.specs.Calls.{Outcome, allocated, allocated_at, is_worn, last_tick, refused}
+use Rattle.tlsf_heap.specs.Calls.{Outcome, allocated, allocated_words, allocated_at, is_worn, last_tick, refused}
 use Rattle.tlsf_heap.specs.declared.name.Name.{Name}
 use Rattle.tlsf_heap.specs.declared.refusal.Refusal.{Refusal}
 use Rattle.tlsf_heap.specs.declared.refusal.Refusal.TheVariants.{NoFit, Worn}
-use Rattle.tlsf_heap.proofs.Outcomes.{gives}
+use Rattle.tlsf_heap.proofs.Outcomes.{gives_words}
 use Rattle.tlsf_heap.proofs.Sites.{nowhere}
 
 -- ---- of some blocks one is as good as each
@@ -81,36 +81,36 @@ finds_best sli x xs =
 worn_is_no_no_fit : (a : Result Name Refusal) → a ≡ Err Worn → a ≡ Err NoFit → ⊥
 worn_is_no_no_fit a e f = cc
 
-module _ (sli : ℕ) (h : HeapState) (len : ℕ) where
+module _ (sli : ℕ) (h : HeapState) (n len : ℕ) where
   -- by the blocks that fit
   record Answers (xs : List Site) : Type 0 where
-    pub no_fit : ((allocated sli h len).answer ≡ Err NoFit) ↔ (xs ≡ [])
-    pub ok : IsOk (allocated sli h len).answer ↔ (¬ (xs ≡ []) × ¬ (h.tick ≡ last_tick))
+    pub no_fit : ((allocated_words sli h n len).answer ≡ Err NoFit) ↔ (xs ≡ [])
+    pub ok : IsOk (allocated_words sli h n len).answer ↔ (¬ (xs ≡ []) × ¬ (h.tick ≡ last_tick))
 
-  worn_answers : (x : Site) (xs : List Site) → h.tick ≡ last_tick → (allocated sli h len).answer ≡ Err Worn → Answers (x ∷ xs)
+  worn_answers : (x : Site) (xs : List Site) → h.tick ≡ last_tick → (allocated_words sli h n len).answer ≡ Err Worn → Answers (x ∷ xs)
   worn_answers x xs worn is = record {
     no_fit = (λ e. absurd (worn_is_no_no_fit _ is e), λ e. cc);
     ok = (λ o. absurd (false≢true (rw is at o)), λ p. absurd (p.1 worn));
   }
 
-  given_answers : (name : Name) (x : Site) (xs : List Site) → ¬ (h.tick ≡ last_tick) → (allocated sli h len).answer ≡ Ok name → Answers (x ∷ xs)
+  given_answers : (name : Name) (x : Site) (xs : List Site) → ¬ (h.tick ≡ last_tick) → (allocated_words sli h n len).answer ≡ Ok name → Answers (x ∷ xs)
   given_answers name x xs fresh is = record {
     no_fit = (λ e. absurd (let bad : Ok name ≡ Err NoFit = sym is ∙ e in cc), λ e. cc);
     ok = (λ _. (λ e. cc, fresh), λ _. rw is refl);
   }
 
-  chosen_is : (s : Site) → choice sli (want len) h.blocks ≡ Some s → (b : Bool) → is_worn h ≡ b → allocated sli h len ≡ cond b (refused h Worn) (gives h len s)
-  chosen_is s chosen b e = ap (allocated_at h len) chosen ∙ ap (λ (b : Bool). cond b (refused h Worn) (gives h len s)) e
+  chosen_is : (s : Site) → choice sli n h.blocks ≡ Some s → (b : Bool) → is_worn h ≡ b → allocated_words sli h n len ≡ cond b (refused h Worn) (gives_words h n len s)
+  chosen_is s chosen b e = ap (allocated_at h n len) chosen ∙ ap (λ (b : Bool). cond b (refused h Worn) (gives_words h n len s)) e
 
-  by_tick : (s x : Site) (xs : List Site) → choice sli (want len) h.blocks ≡ Some s → (b : Bool) → is_worn h ≡ b → Answers (x ∷ xs)
+  by_tick : (s x : Site) (xs : List Site) → choice sli n h.blocks ≡ Some s → (b : Bool) → is_worn h ≡ b → Answers (x ∷ xs)
   by_tick s x xs chosen true e = worn_answers x xs (eqb-true h.tick last_tick e) (ap (λ (o : Outcome Name). o.answer) (chosen_is s chosen true e))
   by_tick s x xs chosen false e =
       given_answers _ x xs (λ worn. false≢true (sym e ∙ eq-eqb h.tick last_tick worn)) (ap (λ (o : Outcome Name). o.answer) (chosen_is s chosen false e))
 
-  answers : (xs : List Site) → fits sli (want len) h.blocks ≡ xs → Answers xs
+  answers : (xs : List Site) → fits sli n h.blocks ≡ xs → Answers xs
   answers [] e =
-      let none : choice sli (want len) h.blocks ≡ None = ap (λ (l : List Site). find (λ s. list_all (λ t. is_as_good sli s.block t.block) l) l) e in
-      let is : (allocated sli h len).answer ≡ Err NoFit = ap (λ (o : Option Site). (allocated_at h len o).answer) none in
+      let none : choice sli n h.blocks ≡ None = ap (λ (l : List Site). find (λ s. list_all (λ t. is_as_good sli s.block t.block) l) l) e in
+      let is : (allocated_words sli h n len).answer ≡ Err NoFit = ap (λ (o : Option Site). (allocated_at h n len o).answer) none in
       record {
         no_fit = (λ _. refl, λ _. is);
         ok = (λ o. absurd (false≢true (rw is at o)), λ p. absurd (p.0 refl));
@@ -119,8 +119,14 @@ module _ (sli : ℕ) (h : HeapState) (len : ℕ) where
       let best = finds_best sli x xs in
       by_tick best.0 x xs (ap (λ (l : List Site). find (λ s. list_all (λ t. is_as_good sli s.block t.block) l) l) e ∙ best.1) (is_worn h) refl
 
+pub no_fit_words : (sli : ℕ) (h : HeapState) (n len : ℕ) → ((allocated_words sli h n len).answer ≡ Err NoFit) ↔ (fits sli n h.blocks ≡ [])
+no_fit_words sli h n len = (answers sli h n len (fits sli n h.blocks) refl).no_fit
+
+pub ok_words : (sli : ℕ) (h : HeapState) (n len : ℕ) → IsOk (allocated_words sli h n len).answer ↔ (¬ (fits sli n h.blocks ≡ []) × ¬ (h.tick ≡ last_tick))
+ok_words sli h n len = (answers sli h n len (fits sli n h.blocks) refl).ok
+
 pub no_fit : (sli : ℕ) (h : HeapState) (len : ℕ) → ((allocated sli h len).answer ≡ Err NoFit) ↔ (fits sli (want len) h.blocks ≡ [])
-no_fit sli h len = (answers sli h len (fits sli (want len) h.blocks) refl).no_fit
+no_fit sli h len = no_fit_words sli h (want len) len
 
 pub ok : (sli : ℕ) (h : HeapState) (len : ℕ) → IsOk (allocated sli h len).answer ↔ (¬ (fits sli (want len) h.blocks ≡ []) × ¬ (h.tick ≡ last_tick))
-ok sli h len = (answers sli h len (fits sli (want len) h.blocks) refl).ok
+ok sli h len = ok_words sli h (want len) len

@@ -34,8 +34,8 @@ unfolding bytes_in byte_in
 zero_bytes words at len zeros =
     zero_map words (8 * at) len (λ k a b. ap (λ (w : ℕ). w / 256 ^ (k % 8) % 256) (zeros (k / 8) (omega arith) (omega arith)) ∙ ap (λ (w : ℕ). w % 256) (zero-div (256 ^ (k % 8))))
 
-holds_zeros : {words : List ℕ} {at size back serial len : ℕ} {last : Bool} → HasLive words at size last back serial len → words_for len ≤ size → HoldsPayload words at (Live size serial (replicate len 0))
-holds_zeros {words = words} {at = at} {len = len} live room =
+holds_zeros : {words : List ℕ} {at size back serial len : ℕ} {last : Bool} → HasLive words at size last back serial len → HoldsPayload words at (Live size serial (replicate len 0))
+holds_zeros {words = words} {at = at} {len = len} live =
     let many : length (replicate {A = ℕ} len 0) ≡ len = length-replicate len 0 in
     (live.bytes ∙ ap length_word (sym many), rw many (zero_bytes words (at + 3) len (λ k a b. live.payload k a (omega arith))))
 
@@ -51,7 +51,7 @@ module _ {m v : Image} {bs : List Block} (shows : Shows m bs) {at i : ℕ} (stan
         record {
           tag = wholes.live.tag ∙ ap (λ (b : Bool). tag_word tag.size b false tag.back) (is_tag.last ∙ says.last ∙ rw (wholes.only.length, tag_size shows stands is_tag) refl) ∙ ap (tag_word tag.size (eqb (at + tag.size) (length v.words)) false) (is_tag.back ∙ says.before);
           mark = wholes.live.mark;
-          payload = holds_zeros wholes.live room;
+          payload = holds_zeros wholes.live;
           starts = rw (wholes.starts, tag_size shows stands is_tag) says.starts;
         }
 
@@ -85,7 +85,7 @@ module _ {m v : Image} {bs : List Block} (shows : Shows m bs) {at i : ℕ} (stan
         record {
           tag = splits.live.tag ∙ ap (λ (b : Bool). tag_word size b false tag.back) (sym inner) ∙ ap (tag_word size (eqb (at + size) (length v.words)) false) (is_tag.back ∙ says.before);
           mark = splits.live.mark;
-          payload = holds_zeros splits.live room;
+          payload = holds_zeros splits.live;
           starts = record {
             first = split_start at (λ h. omega (arith, h, least)) ∙ says.starts.first;
             others = λ k l g. split_start k (λ h. omega (arith, h, g)) ∙ says.starts.others k l (omega (arith, tag_size shows stands is_tag));

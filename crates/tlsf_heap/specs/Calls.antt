@@ -39,16 +39,20 @@ abbrev pub carved : ℕ → ℕ → ℕ → ℕ → List Block
 carved size n tick len =
     if nat_le (n + 4) size then Live n tick (replicate len 0) ∷ Free (size - n) tick ∷ [] else Live size tick (replicate len 0) ∷ []
 
-abbrev pub allocated_at : HeapState → ℕ → Option Site → Outcome Name
-allocated_at h len None = refused h NoFit
-allocated_at h len (Some s) = if is_worn h then refused h Worn else record {
+abbrev pub allocated_at : HeapState → ℕ → ℕ → Option Site → Outcome Name
+allocated_at h n len None = refused h NoFit
+allocated_at h n len (Some s) = if is_worn h then refused h Worn else record {
   answer = Ok (record { heap = h.id; at = place_of s; serial = h.tick });
-  heap = ticked h (s.before ++ carved (size_of s.block) (want len) h.tick len ++ s.after);
+  heap = ticked h (s.before ++ carved (size_of s.block) n h.tick len ++ s.after);
 }
 
--- a request of `len` bytes, served by good fit
+-- a request of n words for `len` bytes, served by good fit
+abbrev pub allocated_words : ℕ → HeapState → ℕ → ℕ → Outcome Name
+allocated_words sli h n len = allocated_at h n len (choice sli n h.blocks)
+
+-- a request of `len` bytes
 abbrev pub allocated : ℕ → HeapState → ℕ → Outcome Name
-allocated sli h len = allocated_at h len (choice sli (want len) h.blocks)
+allocated sli h len = allocated_words sli h (want len) len
 
 -- ---- release
 
@@ -156,16 +160,20 @@ abbrev pub refitted : ℕ → ℕ → ℕ → Block → List Block → List Bloc
 refitted tick n len block after =
     let new = with_bytes block (fitted (bytes_of block) len) in if is_sized n block then new ∷ after else recut tick n new after
 
-abbrev pub resized_at : HeapState → ℕ → Option Site → Outcome (Unit {0})
-resized_at h len None = refused h Stale
-resized_at h len (Some s) = if nat_lt (room_of s.block s.after) (want len) then refused h NoRoom else (if is_worn h then refused h Worn else record {
+abbrev pub resized_at : HeapState → ℕ → ℕ → Option Site → Outcome (Unit {0})
+resized_at h n len None = refused h Stale
+resized_at h n len (Some s) = if nat_lt (room_of s.block s.after) n then refused h NoRoom else (if is_worn h then refused h Worn else record {
   answer = Ok tt;
-  heap = ticked h (s.before ++ refitted h.tick (want len) len s.block s.after);
+  heap = ticked h (s.before ++ refitted h.tick n len s.block s.after);
 })
 
--- the block that a name names gets `len` bytes where it stands
+-- the block that a name names gets n words for `len` bytes where it stands
+abbrev pub resized_words : HeapState → Name → ℕ → ℕ → Outcome (Unit {0})
+resized_words h name n len = if name.heap == h.id then resized_at h n len (named name h.blocks) else refused h Foreign
+
+-- it gets the words wanted for `len` bytes
 abbrev pub resized : HeapState → Name → ℕ → Outcome (Unit {0})
-resized h name len = if name.heap == h.id then resized_at h len (named name h.blocks) else refused h Foreign
+resized h name len = resized_words h name (want len) len
 
 -- ---- read
 

@@ -2,6 +2,7 @@
 use Rattle.std.specs.Prelude.{◌≡◌, ℕ, ◌+◌, ◌-◌, ◌<◌, ◌≤◌, ◌==◌, List, Bool, true, false, if◌then◌else◌, length, slice_index, slice_set}
 use Rattle.tlsf_words.specs.Fields.{tag_word, length_word, size_in, last_in, free_in, back_in}
 use Rattle.tlsf_words.specs.declared.tag.Tag.{Tag}
+use Rattle.tlsf_heap.specs.Blocks.{words_for}
 use Rattle.tlsf_heap.specs.Image.{Image}
 
 -- the first word of a header with another place before
@@ -25,12 +26,12 @@ pub record HasFree (words : List ℕ) (at size : ℕ) (last : Bool) (back stamp 
   pub tag : slice_index words at ≡ tag_word size last true back
   pub mark : slice_index words (at + 1) ≡ stamp
 
--- that of a live block with `len` bytes of payload, and behind it zeros to the end of the block
+-- that of a live block with `len` bytes of payload, and behind it zeros to the end of the payload
 pub record HasLive (words : List ℕ) (at size : ℕ) (last : Bool) (back serial len : ℕ) : Type 0 where
   pub tag : slice_index words at ≡ tag_word size last false back
   pub mark : slice_index words (at + 1) ≡ serial
   pub bytes : slice_index words (at + 2) ≡ length_word len
-  pub payload : (k : ℕ) → at + 3 ≤ k → k < at + size → slice_index words k ≡ 0
+  pub payload : (k : ℕ) → at + 3 ≤ k → k < at + words_for len → slice_index words k ≡ 0
 
 -- the header at a place names this one before it, unless the region ends there
 abbrev pub NamesBefore : List ℕ → List ℕ → ℕ → ℕ → Type 0

@@ -1,6 +1,7 @@
 -- Where the blocks of a heap lie, and how long a name is live.
-use Rattle.std.specs.Prelude.{◌≡◌, ℕ, ◌+◌, ◌≤◌, Ok, IsSome}
-use Rattle.tlsf_heap.specs.Blocks.{HeapState, size_of}
+use Rattle.std.specs.Prelude.{◌≡◌, ◌≢◌, ℕ, ◌+◌, ◌<◌, ◌≤◌, Ok, IsSome}
+use Rattle.std.specs.List.{AllByRecursion}
+use Rattle.tlsf_heap.specs.Blocks.{HeapState, size_of, serials}
 use Rattle.tlsf_heap.specs.GoodFit.{place_of, site_at}
 use Rattle.tlsf_heap.specs.Calls.{Call, Release, allocated, named, released}
 use Rattle.tlsf_heap.specs.declared.name.Name.{Name}
@@ -28,6 +29,11 @@ IsGiven sli h len name = (allocated sli h len).answer ≡ Ok name
 -- the release of this name is accepted
 abbrev pub IsTaken : HeapState → Name → Type 0
 IsTaken h name = (released h name).answer ≡ Ok tt
+
+-- a serial is of a past tick, and no live block has it
+pub record IsGone (h : HeapState) (serial : ℕ) : Type 0 where
+  pub past : serial < h.tick
+  pub absent : AllByRecursion (λ y. y ≢ serial) (serials h.blocks)
 
 -- the call is the release of this name, and is accepted
 abbrev pub TakesBack : HeapState → Name → Call → Type 0

@@ -1,6 +1,6 @@
 -- What the calls of a heap may touch.
 use Rattle.std.specs.Prelude.{◌≡◌, ◌≢◌, ℕ, ◌+◌, ◌<◌, ◌≤◌, Result}
-use Rattle.tlsf_heap.specs.Blocks.{HeapState, IsPlace}
+use Rattle.tlsf_heap.specs.Blocks.{HeapState, IsPlace, want}
 use Rattle.tlsf_heap.specs.Given.{payload_words_given, payload_words_left}
 use Rattle.tlsf_heap.specs.declared.name.Name.{Name}
 use Rattle.tlsf_heap.specs.declared.refusal.Refusal.{Refusal}
@@ -16,6 +16,10 @@ pub record FollowsNoForgery (h : HeapState) (name : Name) (before behind : ℕ) 
 -- payload word of the block given
 abbrev pub allocate_touches : {E : Type 0} → Result Name E → HeapState → ℕ
 allocate_touches answer left = 26 + payload_words_given answer left
+
+-- the most touches of an allocate by words: those, but of the payload words only the words of the payload and three that good fit adds
+abbrev pub allocate_words_touches : ℕ → ℕ
+allocate_words_touches len = 26 + want len
 
 -- the most touches of a release: 3 to check the name, 2 for the tags of the neighbours, 12 to take these out of their lists, 6 for the
 -- headers, and 7 to list what is left

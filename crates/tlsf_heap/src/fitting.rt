@@ -1,7 +1,7 @@
 //! Good fit, splitting and coalescing over a region and the lists of its free blocks. Sizes and places are in words.
 ghost use Rattle.std.specs.Prelude.{◌≡◌, ℕ, ◌+◌, ◌-◌, ◌<◌, ◌≤◌, ◌++◌, true, false, Some, slice_get};
 ghost use Rattle.std.specs.List.{AllByRecursion};
-ghost use Rattle.tlsf_heap.specs.Blocks.{size_of, words_in, payload_words, is_free, stamps, words_for, StandsAt};
+ghost use Rattle.tlsf_heap.specs.Blocks.{size_of, words_in, payload_words, is_free, stamps, want, StandsAt};
 ghost use Rattle.tlsf_class.specs.Classes.{IsLevel, most_words};
 ghost use Rattle.tlsf_heap.specs.Regions.{AreRegions, EachAt, HasAt, IsTagOf, IsNextTag, IsPreviousTag, AreTagsAround, withheld, list_in, OnlyReads, Edits};
 ghost use Rattle.tlsf_heap.specs.GoodFit.{block_at};
@@ -29,17 +29,18 @@ pub fn choose<const SLI: u32>(region: &mut Region<SLI>, words: u32) -> Option<Cl
 }
 
 /// Takes the head of the list of a class, a free block, and makes it a live one of `words` words with `len` bytes of payload and a
-/// free rest, or all of it where the rest would have fewer than four words. Answers its place.
+/// free rest, or all of it where the rest would have fewer than four words. Answers its place. The last `spare` words of the block
+/// aren't of its payload, and aren't made zero.
 pub fn carve<const SLI: u32>(
     region: &mut Region<SLI>,
     class: Class<SLI>,
     words: u32,
     tick: u64,
     len: u32,
+    spare: u32,
 ) -> u32
     requires level { IsLevel SLI }
-    requires least { 4 ≤ words }
-    requires payload { words_for len ≤ words }
+    requires payload { want len + spare ≤ words }
     requires fits { (at : ℕ) × (i : ℕ) × IsHead SLI region.old.blocks (list_in region.old.lists) class at i × (is_free (block_at region.old.blocks i) ≡ true) × (words ≤ size_of (block_at region.old.blocks i)) }
     requires sized { AreRegions SLI region.old.blocks }
     requires small { words_in region.old.blocks ≤ most_words SLI }
@@ -48,10 +49,10 @@ pub fn carve<const SLI: u32>(
     ensures place { slice_get (list_in region.old.lists class.entry) 0 ≡ Some result }
     ensures blocks { EachAt region.old.blocks result (λ s. region.new.blocks ≡ s.before ++ carved (size_of s.block) words tick len ++ s.after) }
     ensures listed { AreFreeLists SLI region.new.blocks (list_in region.new.lists) }
-    ensures edits { (i : ℕ) → StandsAt region.old.blocks result i → Edits region.old region.new (23 + payload_words (block_at region.new.blocks i)) }
+    ensures edits { (i : ℕ) → StandsAt region.old.blocks result i → Edits region.old region.new (23 + (payload_words (block_at region.new.blocks i) - spare)) }
 {
     let at = region.pop_first(class);
-    let rest = region.carve(at, words, tick, len);
+    let rest = region.carve(at, words, tick, len, spare);
     if rest > 0 {
         region.push(class_of(rest), at + words);
     }

@@ -1,6 +1,7 @@
 //! The words of headers: what is written where a block is given or taken back. Each word is written once. Sizes and places are in
 //! words.
 ghost use Rattle.std.specs.Prelude.{◌≡◌, ℕ, ◌+◌, ◌-◌, ◌<◌, ◌≤◌, ◌^◌, true, length, slice_set};
+ghost use Rattle.tlsf_heap.specs.Blocks.{want};
 ghost use Rattle.tlsf_heap.specs.Headers.{HasFree, HasLive, NamesBefore, OnlyFrom, RisesBy, Wholes, Splits, Merges, Widens, Recuts, without_start};
 ghost use Rattle.tlsf_heap.specs.Regions.{image_of};
 ghost use Rattle.tlsf_words.specs.Lists.{nowhere};
@@ -45,35 +46,43 @@ pub fn first_header(words: &mut Words, stamp: u64)
     words.set_start(0, true);
 }
 
-/// Writes the header of a live block of this tag with `len` bytes of payload, and makes all its words behind the header zero.
-#[tactic(auto, using(crate::proofs::Written::zeroed_before, std::proofs::lemmas::Grind::elements))]
-pub fn live_header(words: &mut Words, at: u32, tag: Tag, serial: u64, len: u32)
-    requires least { 4 ≤ tag.size }
+/// Writes the header of a live block of this tag with `len` bytes of payload, and makes its words behind the header zero, but for the
+/// last `spare`, which aren't of the payload.
+pub fn live_header(words: &mut Words, at: u32, tag: Tag, serial: u64, len: u32, spare: u32)
+    requires payload { want len + spare ≤ tag.size }
     requires within { at + tag.size ≤ length words.old.words }
     requires small { length words.old.words ≤ 2 ^ 24 }
     ensures change { Wholes (image_of words.old) (image_of words.new) at tag serial len }
-    ensures touches { words.new.touches ≡ words.old.touches + 3 + (tag.size - 3) }
+    ensures touches { words.new.touches ≡ words.old.touches + 3 + (tag.size - 3 - spare) }
 {
     words.set_header(at, tag.as_live(), serial, len);
-    words.zero(at + 4, tag.size() - 4);
+    words.zero(at + 4, tag.size() - 4 - spare);
 }
 
 /// Makes the free block at a place, of this tag, a live one of `size` words with `len` bytes of payload, all zero, and a free rest.
-/// The serial of the first is the stamp of the rest.
-pub fn split_header(words: &mut Words, at: u32, tag: Tag, size: u32, serial: u64, len: u32)
+/// The serial of the first is the stamp of the rest. The last `spare` words of the first aren't of its payload.
+pub fn split_header(
+    words: &mut Words,
+    at: u32,
+    tag: Tag,
+    size: u32,
+    serial: u64,
+    len: u32,
+    spare: u32,
+)
     requires free { tag.free ≡ true }
-    requires least { 4 ≤ size }
+    requires payload { want len + spare ≤ size }
     requires room { size + 4 ≤ tag.size }
     requires within { at + tag.size ≤ length words.old.words }
     requires small { length words.old.words ≤ 2 ^ 24 }
     ensures change { Splits (image_of words.old) (image_of words.new) at tag size serial len }
-    ensures touches { RisesBy words.old.touches words.new.touches (8 + (size - 3)) }
+    ensures touches { RisesBy words.old.touches words.new.touches (8 + (size - 3 - spare)) }
 {
     let rest = tag.rest(size, at);
     free_header(words, at + size, rest, serial);
     words.set_start(at + size, true);
     set_back(words, at + tag.size(), at + size);
-    live_header(words, at, tag.without(rest), serial, len);
+    live_header(words, at, tag.without(rest), serial, len, spare);
 }
 
 /// Writes the header of the free block of this tag that a block at a place becomes with the free one of `before` words before it and

@@ -16,8 +16,8 @@ ghost use Rattle.tlsf_heap.specs.Placed.{placed_at};
 ghost use Rattle.tlsf_heap.specs.Regions.{image_of};
 ghost use Rattle.tlsf_heap.specs.Reports.{report_of, IsGrant};
 ghost use Rattle.tlsf_heap.specs.Given.{payload_words_given, payload_words_left};
-ghost use Rattle.tlsf_heap.specs.Touched.{FollowsNoForgery, allocate_touches, release_touches, resize_touches};
-ghost use Rattle.tlsf_heap.specs.Calls.{opened, allocated, released, resized, written, read_of, read_answer, has_bytes, last_tick};
+ghost use Rattle.tlsf_heap.specs.Touched.{FollowsNoForgery, allocate_touches, allocate_words_touches, release_touches, resize_touches};
+ghost use Rattle.tlsf_heap.specs.Calls.{opened, allocated, allocated_words, released, resized, resized_words, written, read_of, read_answer, has_bytes, last_tick};
 
 use crate::fitting::{carve, choose, coalesce};
 use crate::name::Name;
@@ -148,7 +148,51 @@ impl<const SLI: u32> Heap<SLI> {
         ensures most_touches { self.new.touches ≤ self.old.touches + allocate_touches result self.new.heap }
         ensures touches_rise { self.old.touches ≤ self.new.touches }
     {
-        let words = want(len);
+        // Taken apart, so that each answer is written where it is made: handed on whole, it takes four instructions more.
+        let name = match self.allocate_words(want(len), len) {
+            Ok(name) => name,
+            Err(why) => return Err(why),
+        };
+        Ok(name)
+    }
+
+    /// Gives a block of `words` words with `len` bytes of payload, all zero: an `allocate` where the caller says how many words the block
+    /// has, its three of the header with them, as where each word stands for memory elsewhere. Only the payload is made zero, and up to
+    /// three words that good fit adds: so it takes no longer for more words.
+    ///
+    /// `words` is at least `want(len)`, so at least 4. Refused as `NoFit` where no free block lies in a class at or above the search class
+    /// of so many words, as where they are more than a region may have, else as `Worn` where the tick is at its last value. Takes no memory.
+    ///
+    /// ```text
+    /// let mut heap = Heap::<4>::open(alloc, 0, 64, 0)?;
+    /// let name = heap.allocate_words(40, 0)?;         // 40 of the 64 words, and no payload
+    /// heap.allocate_words(40, 0) == Err(Refusal::NoFit)
+    /// ```
+    // Always inline: behind a call, `allocate` would count the words that need no zeros, of which it has none.
+    #[inline(always)]
+    pub fn allocate_words(&mut self, words: u32, len: u32) -> Result<Name, Refusal>
+        requires { Blocks.want len ≤ words }
+        ensures answer { result ≡ (allocated_words SLI self.old.heap words len).answer }
+        ensures heap { self.new.heap ≡ (allocated_words SLI self.old.heap words len).heap }
+
+        // What that comes to: when it is NoFit, when it is a name, and that a refusal changes nothing.
+        ensures no_fit { IsErrOf result Refusal.NoFit ↔ (fits SLI words self.old.heap.blocks ≡ []) }
+        ensures ok { IsOk result ↔ (¬ (fits SLI words self.old.heap.blocks ≡ []) × ¬ (self.old.heap.tick ≡ last_tick)) }
+        ensures err { OnErr result (self.new.heap ≡ self.old.heap) }
+        ensures stored { OnErr result (self.new.stored ≡ self.old.stored) }
+        ensures was_lawful { IsLawful self.old.heap }
+        ensures lawful { IsLawful self.new.heap }
+        ensures shows { Shows self.new.stored self.new.heap.blocks }
+        ensures lists { ShowsLists SLI self.new.stored self.new.heap.blocks }
+
+        // Accepted or refused, and whatever the region holds: at most 64 touches for 8 bytes or fewer, however many words, and one for each
+        // further word of the payload.
+        ensures touches { self.new.touches ≤ self.old.touches + 60 + Blocks.want len }
+        ensures most_touches { self.new.touches ≤ self.old.touches + allocate_words_touches len }
+        ensures given_touches { self.new.touches ≤ self.old.touches + allocate_touches result self.new.heap }
+        ensures touches_rise { self.old.touches ≤ self.new.touches }
+    {
+        let spare = words - want(len);
         let Some(class) = choose(&mut self.region, words) else {
             return Err(Refusal::NoFit);
         };
@@ -156,7 +200,7 @@ impl<const SLI: u32> Heap<SLI> {
             return Err(Refusal::Worn);
         }
         let serial = self.tick;
-        let at = carve(&mut self.region, class, words, serial, len);
+        let at = carve(&mut self.region, class, words, serial, len, spare);
         self.tick += 1;
         Ok(Name {
             heap: self.id,
@@ -238,8 +282,42 @@ impl<const SLI: u32> Heap<SLI> {
         ensures touches_rise { self.old.touches ≤ self.new.touches }
         ensures forged { FollowsNoForgery self.old.heap name self.old.touches self.new.touches }
     {
+        self.resize_words(name, want(len), len)
+    }
+
+    /// Makes the block of that name one of `words` words with `len` bytes of payload, where it stands: a `resize` where the caller says how
+    /// many words the block has, its three of the header with them. Only new bytes of the payload are made zero: so it takes no longer for
+    /// more words.
+    ///
+    /// `words` is at least `want(len)`, so at least 4. Refused as `resize`, where these are the words wanted. Takes no memory.
+    ///
+    /// ```text
+    /// let name = heap.allocate_words(40, 0)?;          // of a new heap of 64 words
+    /// heap.resize_words(name, 60, 0) == Ok(())         // 60 words at place 0, and 4 free behind them
+    /// heap.resize_words(name, 65, 0) == Err(Refusal::NoRoom)
+    /// ```
+    #[inline(always)]
+    pub fn resize_words(&mut self, name: Name, words: u32, len: u32) -> Result<(), Refusal>
+        requires { Blocks.want len ≤ words }
+        ensures answer { result ≡ (resized_words self.old.heap name words len).answer }
+        ensures heap { self.new.heap ≡ (resized_words self.old.heap name words len).heap }
+
+        // A refusal changes nothing.
+        ensures err { OnErr result (self.new.heap ≡ self.old.heap) }
+        ensures stored { OnErr result (self.new.stored ≡ self.old.stored) }
+        ensures was_lawful { IsLawful self.old.heap }
+        ensures lawful { IsLawful self.new.heap }
+        ensures shows { Shows self.new.stored self.new.heap.blocks }
+        ensures lists { ShowsLists SLI self.new.stored self.new.heap.blocks }
+
+        // Accepted or refused, and whatever the region holds: at most 64 touches for 8 bytes or fewer, however many words, and one for each
+        // further word of the payload.
+        ensures touches { self.new.touches ≤ self.old.touches + 60 + Blocks.want len }
+        ensures most_touches { self.new.touches ≤ self.old.touches + resize_touches result self.new.heap name }
+        ensures touches_rise { self.old.touches ≤ self.new.touches }
+        ensures forged { FollowsNoForgery self.old.heap name self.old.touches self.new.touches }
+    {
         let own = self.check(name)?;
-        let words = want(len);
         let next = look_behind(&mut self.region, name.at, own);
         let room = own.size() + next.size();
         if room < words {
@@ -548,7 +626,9 @@ impl<const SLI: u32> Heap<SLI> {
     }
 
     /// Whether `n` bytes from number `at` on are payload bytes of the block of that name.
+    // The sum of both can't wrap: no slice is so long. One compare, where the rest of the payload would take two.
     fn check_range(&mut self, name: Name, at: u32, n: usize) -> Result<(), Refusal>
+        requires { n < 2 ^ 63 }
         ensures answer { result ≡ read_answer (read_of self.old.heap name at n) }
         ensures place { OnOk result ((i : ℕ) × IsFirst name.at name.serial self.old.heap.blocks i × (has_bytes (block_at self.old.heap.blocks i) at n ≡ true)) }
         ensures heap { self.new.heap ≡ self.old.heap }
@@ -562,7 +642,7 @@ impl<const SLI: u32> Heap<SLI> {
     {
         self.check(name)?;
         let length = self.region.length(name.at) as usize;
-        if at as usize > length || n > length - at as usize {
+        if at as usize + n > length {
             return Err(Refusal::Range);
         }
         Ok(())

@@ -1,10 +1,10 @@
-ghost use Rattle.std.specs.Prelude.{◌≡◌, ◌≢◌, ◌↔◌, ℕ, ◌*◌, ◌-◌, ◌<◌, List, [], Err, IsOk, length};
+ghost use Rattle.std.specs.Prelude.{◌≡◌, ◌≢◌, ◌↔◌, ℕ, ◌*◌, ◌-◌, ◌<◌, ◌≤◌, List, [], Ok, Err, IsOk, length};
 ghost use Rattle.tlsf_class.specs.Classes.{IsLevel, low, class_of};
 ghost use Rattle.tlsf_heap.specs.Blocks.{Block, HeapState, want};
-ghost use Rattle.tlsf_heap.specs.Calls.{Call, allocated, answered, last_tick, opened, released, run};
+ghost use Rattle.tlsf_heap.specs.Calls.{Call, allocated, allocated_words, answered, last_tick, opened, released, resized_words, run};
 ghost use Rattle.tlsf_heap.specs.GoodFit.{fits};
 ghost use Rattle.tlsf_heap.specs.Lawful.{IsLawful};
-ghost use Rattle.tlsf_heap.specs.Laws.{LieApart, LieInRegion, IsLive, IsGiven, IsTaken, TakesBack};
+ghost use Rattle.tlsf_heap.specs.Laws.{LieApart, LieInRegion, IsLive, IsGiven, IsTaken, IsGone, TakesBack};
 ghost use Rattle.tlsf_heap.specs.Reports.{report_of, IsGrant};
 ghost use Rattle.tlsf_heap.specs.declared.name.Name.{Name};
 ghost use Rattle.tlsf_heap.specs.declared.refusal.Refusal.TheVariants.{Foreign, NoFit, Stale};
@@ -42,6 +42,36 @@ pub fn names_live_until_released()
     // The release of a name of the heap that is not live is refused as Stale, that of a live one neither so nor as Foreign.
     ensures stale { (h : HeapState) (name : Name) → name.heap ≡ h.id → ¬ (IsLive h name) → (released h name).answer ≡ Err Stale }
     ensures known { (h : HeapState) (name : Name) → IsLive h name → ((released h name).answer ≢ Err Stale) × ((released h name).answer ≢ Err Foreign) }
+{}
+
+/// Names live as long and heaps stay lawful where calls say how many words a block has.
+///
+/// ```text
+/// let name = heap.allocate_words(40, 0)?;    // live
+/// heap.resize_words(name, 60, 0)?;           // live
+/// heap.release(name)?;                       // gone, and no later call gives its serial again
+/// ```
+pub fn words_keep_laws()
+    // Lawful heaps stay lawful.
+    ensures lawful_allocated { (sli : ℕ) → IsLevel sli → (h : HeapState) (n len : ℕ) → want len ≤ n → IsLawful h → IsLawful (allocated_words sli h n len).heap }
+    ensures lawful_resized { (h : HeapState) (name : Name) (n len : ℕ) → want len ≤ n → IsLawful h → IsLawful (resized_words h name n len).heap }
+
+    // A request is refused as NoFit where no free block fits, and nowhere else. The name that it gives is live, and was not live before.
+    ensures no_fit { (sli : ℕ) (h : HeapState) (n len : ℕ) → ((allocated_words sli h n len).answer ≡ Err NoFit) ↔ (fits sli n h.blocks ≡ []) }
+    ensures ok { (sli : ℕ) (h : HeapState) (n len : ℕ) → IsOk (allocated_words sli h n len).answer ↔ (¬ (fits sli n h.blocks ≡ []) × ¬ (h.tick ≡ last_tick)) }
+    ensures given { (sli : ℕ) (h : HeapState) (n len : ℕ) (name : Name) → (allocated_words sli h n len).answer ≡ Ok name → IsLive (allocated_words sli h n len).heap name }
+    ensures new { (sli : ℕ) (h : HeapState) (n len : ℕ) (name : Name) → IsLawful h → (allocated_words sli h n len).answer ≡ Ok name → ¬ (IsLive h name) }
+
+    // Live names stay live.
+    ensures kept_allocated { (sli : ℕ) (h : HeapState) (name : Name) (n len : ℕ) → IsLive h name → IsLive (allocated_words sli h n len).heap name }
+    ensures kept_resized { (h : HeapState) (name resized : Name) (n len : ℕ) → IsLive h name → IsLive (resized_words h resized n len).heap name }
+
+    // The serial of a released name is gone, stays so through each call, and no name of it is live.
+    ensures taken { (h : HeapState) (name : Name) → IsLawful h → IsTaken h name → IsGone (released h name).heap name.serial }
+    ensures gone_called { (sli : ℕ) (h : HeapState) (serial : ℕ) (call : Call) → IsGone h serial → IsGone (answered sli h call).1 serial }
+    ensures gone_allocated { (sli : ℕ) (h : HeapState) (serial n len : ℕ) → IsGone h serial → IsGone (allocated_words sli h n len).heap serial }
+    ensures gone_resized { (h : HeapState) (serial : ℕ) (name : Name) (n len : ℕ) → IsGone h serial → IsGone (resized_words h name n len).heap serial }
+    ensures dead { (h : HeapState) (name : Name) → IsGone h name.serial → ¬ (IsLive h name) }
 {}
 
 /// The grant of a report is the greatest length of which a request is not refused as `NoFit`: the payload of the least

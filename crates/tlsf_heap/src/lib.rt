@@ -19,6 +19,9 @@
 //! They also count its touches, each read or write of a stored word, a start bit, the head of a list or a word of the
 //! bitmaps. A release makes at most 64, an allocate at most 64 and one for each payload word of the block that it gives, a
 //! resize at most 64 and one for each payload word of the block that it leaves, however many blocks the region has. The count has no bytes at run time.
+//!
+//! A caller to whom each word stands for memory elsewhere says by [`Heap::allocate_words`] and [`Heap::resize_words`] how many a block has. These
+//! make no word zero but the payload's, and three at most that good fit adds, so that no request takes longer for more words.
 #![tactic(auto)]
 
 mod fitting;
@@ -38,7 +41,7 @@ mod tally;
 pub use heap::{Heap, want};
 pub use laws::{
     blocks_never_overlap, grant_is_greatest, names_live_until_released,
-    refused_only_where_nothing_fits,
+    refused_only_where_nothing_fits, words_keep_laws,
 };
 pub use name::Name;
 pub use open_fault::OpenFault;

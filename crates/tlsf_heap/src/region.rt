@@ -5,7 +5,7 @@ ghost use Rattle.tlsf_class.specs.Classes.{IsLevel, most_words};
 ghost use Rattle.tlsf_class.specs.Members.{next_member};
 ghost use Rattle.tlsf_words.specs.Bytes.{bytes_in, payload_byte};
 ghost use Rattle.tlsf_words.specs.Lists.{listed_classes, IsUnlisted};
-ghost use Rattle.tlsf_heap.specs.Blocks.{size_of, is_free, bytes_of, words_for, StandsAt, IsPlace};
+ghost use Rattle.tlsf_heap.specs.Blocks.{size_of, is_free, bytes_of, words_for, want, StandsAt, IsPlace};
 ghost use Rattle.tlsf_heap.specs.GoodFit.{block_at};
 ghost use Rattle.tlsf_heap.specs.Calls;
 ghost use Rattle.tlsf_heap.specs.Calls.{first_free, last_free};
@@ -252,23 +252,23 @@ impl<const SLI: u32> Region<SLI> {
     }
 
     /// Makes the free block at a place, which is in no list, a live one of `size` words with `len` bytes of payload, all zero, and a
-    /// free rest; all of it where the rest would have fewer than four words. Answers the size of the rest, or 0.
-    pub fn carve(&mut self, at: u32, size: u32, serial: u64, len: u32) -> u32
-        requires least { 4 ≤ size }
-        requires payload { words_for len ≤ size }
+    /// free rest; all of it where the rest would have fewer than four words. Answers the size of the rest, or 0. The last `spare` words
+    /// of the block aren't of its payload, and aren't made zero.
+    pub fn carve(&mut self, at: u32, size: u32, serial: u64, len: u32, spare: u32) -> u32
+        requires payload { want len + spare ≤ size }
         requires room { HasAt self.old.blocks at (λ s. (is_free s.block ≡ true) × (size ≤ size_of s.block)) }
         requires unlisted { EachAt self.old.blocks at (λ s. AreUnlisted (list_in self.old.lists) at (at + size_of s.block)) }
         ensures rest { EachAt self.old.blocks at (λ s. result ≡ rest_of (size_of s.block) size) }
         ensures change { EachAt self.old.blocks at (λ s. Rewrites self.old self.new
-            (s.before ++ Calls.carved (size_of s.block) size serial len ++ s.after) (9 + (size_of s.block - result - 3))) }
+            (s.before ++ Calls.carved (size_of s.block) size serial len ++ s.after) (9 + (size_of s.block - result - 3 - spare))) }
     {
         let tag = self.words.tag(at);
         let all = tag.size();
         if all < size + 4 {
-            live_header(&mut self.words, at, tag, serial, len);
+            live_header(&mut self.words, at, tag, serial, len, spare);
             return 0;
         }
-        split_header(&mut self.words, at, tag, size, serial, len);
+        split_header(&mut self.words, at, tag, size, serial, len, spare);
         all - size
     }
 

@@ -121,7 +121,7 @@ module _ (sli : ℕ) (level : IsLevel sli) (words most len : ℕ) (region : want
   pub is_served : (h : HeapState) (call : Call) → InPool words k h → IsModest most len (live_count h) call → h.tick < last_tick → IsServed (answered sli h call).0
   is_served h (Allocate n) pool modest fresh = at (choice sli (want n) h.blocks) (has_room h n pool modest.0 modest.1)
     where
-      at : (o : Option Site) → (allocated_at h n o).answer ≢ Err NoFit → IsServed (Allocated (allocated_at h n o).answer)
+      at : (o : Option Site) → (allocated_at h (want n) n o).answer ≢ Err NoFit → IsServed (Allocated (allocated_at h (want n) n o).answer)
       at None room = absurd (room refl)
       at (Some s) room = by_test (λ (o : Outcome Name). IsServed (Allocated o.answer)) (is_worn h) (refused h Worn) (gives h n s) (λ worn. absurd (false≢true (sym (ne_eqb h.tick last_tick (λ e. omega (arith, e, fresh))) ∙ worn))) tt
   is_served h (Release name) pool modest fresh = tt

@@ -33,9 +33,9 @@ refits h len s = record { answer = Ok tt; heap = ticked h (s.before ++ refitted 
 pub by_resize : (P : Outcome (Unit {0}) → Type 0) (h : HeapState) (name : Name) (len : ℕ) → ((why : Refusal) → P (refused h why))
     → ((s : Site) → name.heap ≡ h.id → named name h.blocks ≡ Some s → IsSiteOf h.blocks s → is_named name.at name.serial s ≡ true → P (refits h len s)) → P (resized h name len)
 by_resize P h name len if_refused if_done =
-    by_test P (eqb name.heap h.id) (resized_at h len (named name h.blocks)) (refused h Foreign) (λ own. at (eqb-true name.heap h.id own) (named name h.blocks) refl) (if_refused Foreign)
+    by_test P (eqb name.heap h.id) (resized_at h (want len) len (named name h.blocks)) (refused h Foreign) (λ own. at (eqb-true name.heap h.id own) (named name h.blocks) refl) (if_refused Foreign)
   where
-    at : name.heap ≡ h.id → (o : Option Site) → named name h.blocks ≡ o → P (resized_at h len o)
+    at : name.heap ≡ h.id → (o : Option Site) → named name h.blocks ≡ o → P (resized_at h (want len) len o)
     at own None e = if_refused Stale
     at own (Some s) e =
         let site = named_site name h.blocks s e in

@@ -83,12 +83,12 @@ abbrev Lasts : HeapState → Outcome (Unit {0}) → Type 0
 Lasts h o = (live_count o.heap ≡ live_count h) × (h.tick ≤ o.heap.tick)
 
 pub resized_lasts : (h : HeapState) (name : Name) (len : ℕ) → Lasts h (resized h name len)
-resized_lasts h name len = by_test (Lasts h) (eqb name.heap h.id) (resized_at h len (named name h.blocks)) (refused h Foreign) (λ _. on (named name h.blocks) refl) (none Foreign)
+resized_lasts h name len = by_test (Lasts h) (eqb name.heap h.id) (resized_at h (want len) len (named name h.blocks)) (refused h Foreign) (λ _. on (named name h.blocks) refl) (none Foreign)
   where
     none : (why : Refusal) → Lasts h (refused h why)
     none why = (refl, omega arith)
 
-    on : (o : Option Site) → named name h.blocks ≡ o → Lasts h (resized_at h len o)
+    on : (o : Option Site) → named name h.blocks ≡ o → Lasts h (resized_at h (want len) len o)
     on None e = none Stale
     on (Some s) e =
         let left : Outcome (Unit {0}) = record { answer = Ok tt; heap = ticked h (s.before ++ refitted h.tick (want len) len s.block s.after) } in

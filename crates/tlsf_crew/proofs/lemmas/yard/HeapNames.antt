@@ -16,7 +16,7 @@ use Rattle.tlsf_crew.specs.yard.Heaps.{allocated, released, written, resized, by
 abbrev IsKnown : {A : Type 0} → Result A Refusal → Type 0
 IsKnown answer = answer ≢ Err Stale
 
-given_at : (h : HeapState) (len : ℕ) (o : Option Site) → IsKnown (allocated_at h len o).answer
+given_at : (h : HeapState) (len : ℕ) (o : Option Site) → IsKnown (allocated_at h (want len) len o).answer
 given_at h len None = λ e. cc
 given_at h len (Some s) = by_test (λ x. IsKnown x.answer) (is_worn h) (refused h Worn) (gives h len s) (λ _ e. cc) (λ e. cc)
 
@@ -73,7 +73,7 @@ pub written_stays : (h : HeapState) (name : Name) (from : ℕ) (bytes : List ℕ
 unfolding written
 written_stays h name from bytes m live = kept 4 h m (Write name from bytes) (λ t. let e = t.0 in cc) live
 
-resized_some : (h : HeapState) (len : ℕ) (o : Option Site) → IsSome o → IsKnown (resized_at h len o).answer
+resized_some : (h : HeapState) (len : ℕ) (o : Option Site) → IsSome o → IsKnown (resized_at h (want len) len o).answer
 resized_some h len None some = absurd (false≢true some)
 resized_some h len (Some s) some =
     by_test (λ x. IsKnown x.answer) (nat_lt (room_of s.block s.after) (want len)) (refused h NoRoom) _ (λ _ e. cc)
@@ -82,7 +82,7 @@ resized_some h len (Some s) some =
 pub resized_known : (h : HeapState) (name : Name) (len : ℕ) → (name.heap ≡ h.id → IsLive h name) → IsKnown (resized h name len).answer
 unfolding resized
 resized_known h name len live =
-    by_test (λ x. IsKnown x.answer) (eqb name.heap h.id) (resized_at h len (named name h.blocks)) (refused h Foreign) (λ t. resized_some h len (named name h.blocks) (live (eqb-true name.heap h.id t)).1) (λ e. cc)
+    by_test (λ x. IsKnown x.answer) (eqb name.heap h.id) (resized_at h (want len) len (named name h.blocks)) (refused h Foreign) (λ t. resized_some h len (named name h.blocks) (live (eqb-true name.heap h.id t)).1) (λ e. cc)
 
 pub resized_id : (h : HeapState) (name : Name) (len : ℕ) → (resized h name len).heap.id ≡ h.id
 unfolding resized

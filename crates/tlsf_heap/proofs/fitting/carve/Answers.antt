@@ -16,13 +16,10 @@ carve-rest-requires g c =
     let pop = c.pop_first-at.ensures.change in (
       omega arith,
       (
-        c.requires.least,
+        c.requires.payload,
         (
-          c.requires.payload,
-          (
-            rw pop.blocks (c.requires.fits.1, f.stands, (c.requires.fits.3, c.requires.fits.4)),
-            rw pop.blocks (left_unlisted_each g.row.SLI f (list_in c.pop_first-at.new.self.lists) pop.list pop.others),
-          ),
+          rw pop.blocks (c.requires.fits.1, f.stands, (c.requires.fits.3, c.requires.fits.4)),
+          rw pop.blocks (left_unlisted_each g.row.SLI f (list_in c.pop_first-at.new.self.lists) pop.list pop.others),
         ),
       ),
     )

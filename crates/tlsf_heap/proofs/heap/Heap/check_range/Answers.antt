@@ -1,4 +1,4 @@
-use Rattle.std.proofs.Common.{◌+◌, ◌<◌, sym, ap, ◌∙◌, arith}
+use Rattle.std.proofs.Common.{sym, ap, ◌∙◌, arith}
 use Rattle.std.proofs.lemmas.Result.{err_from_is_err_and}
 use Rattle.tlsf_heap.specs.Shown.{Shown}
 use Rattle.tlsf_heap.specs.Calls.{read_answer}
@@ -7,7 +7,6 @@ use Rattle.tlsf_heap.proofs.Naming.{named_same, named_stands, named_live, not_fo
 use Rattle.tlsf_heap.proofs.Writing.{Ranged, read_refused, range_past, range_within}
 use Rattle.tlsf_heap.proofs.heap.Heap.check_range.Given.{Over}
 use Rattle.tlsf_heap.proofs.heap.Heap.check_range.Goals as goal
-use Rattle.tlsf_heap.proofs.heap.Heap.check_range.Goals.{then-at-length-via-then-at-length, then-at-length-via-else-at-length+then-n-length}
 
 pub returns-in_err-check-clause-answer : goal.returns-in_err-check-clause-answer
 returns-in_err-check-clause-answer g c =
@@ -19,13 +18,12 @@ length-length-requires g c =
     let named = (named_same (state_of g.row.SLI c.self.inside) c.args.self.now.heap c.args.name (ap (λ (s : Shown). s.heap) c.self.view_is ∙ c.in_ok-check.ensures.heap) c.in_ok-check.ensures.answer.0).1 in
     (omega arith, (named.0, named_stands _ _ _ _ named.1, named_live _ _ _ _ named.1))
 
-pub returns-then-at-length-clause-answer : goal.returns-then-at-length-clause-answer
-returns-then-at-length-clause-answer g c =
-    let over : c.length-length.result < c.args.at + c.args.n = elim c.then-at-length.branch [ then-at-length-via-then-at-length w ↦ omega arith | then-at-length-via-else-at-length+then-n-length w ↦ omega arith ] in
+pub returns-then-at-n-clause-answer : goal.returns-then-at-n-clause-answer
+returns-then-at-n-clause-answer g c =
     range_past (state_of g.row.SLI c.self.inside) c.args.self.now.heap c.args.name c.args.at c.args.n c.length-length.result (ap (λ (s : Shown). s.heap) c.self.view_is ∙ c.in_ok-check.ensures.heap) c.in_ok-check.ensures.answer.0
-    c.length-length.ensures.value over
+    c.length-length.ensures.value (omega arith)
 
-within : (g : Over) (c : goal.Else-n-length g) → Ranged c.args.self.now.heap c.args.name c.args.at c.args.n
+within : (g : Over) (c : goal.Else-at-n g) → Ranged c.args.self.now.heap c.args.name c.args.at c.args.n
 within g c =
     range_within (state_of g.row.SLI c.self.inside) c.args.self.now.heap c.args.name c.args.at c.args.n c.length-length.result (ap (λ (s : Shown). s.heap) c.self.view_is ∙ c.in_ok-check.ensures.heap) c.in_ok-check.ensures.answer.0
     c.length-length.ensures.value (omega arith)
@@ -38,8 +36,8 @@ returns-clause-place g c = (within g c).range
 
 -- ---- the name was not forged
 
-pub returns-then-at-length-clause-forged : goal.returns-then-at-length-clause-forged
-returns-then-at-length-clause-forged g c = not_forged c.args.self.now.heap c.args.name c.in_ok-check.ensures.lawful c.in_ok-check.ensures.answer.0 _ _
+pub returns-then-at-n-clause-forged : goal.returns-then-at-n-clause-forged
+returns-then-at-n-clause-forged g c = not_forged c.args.self.now.heap c.args.name c.in_ok-check.ensures.lawful c.in_ok-check.ensures.answer.0 _ _
 
 pub returns-clause-forged : goal.returns-clause-forged
 returns-clause-forged g c = not_forged c.args.self.now.heap c.args.name c.in_ok-check.ensures.lawful c.in_ok-check.ensures.answer.0 _ _

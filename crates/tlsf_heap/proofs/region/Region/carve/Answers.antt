@@ -26,7 +26,7 @@ live_header-requires g c =
     let says = says_here shows c.requires.room.1 in
     let size = c.tag-tag.ensures.size ∙ says.size in
     let long = ap length c.tag-tag.ensures.words in
-    record { least = omega (arith, size, says.least); within = omega (arith, size, says.ends, long); small = omega (arith, shows.small, long) }
+    record { payload = omega (arith, size, c.requires.payload, c.requires.room.2.1); within = omega (arith, size, says.ends, long); small = omega (arith, shows.small, long) }
 
 wholes : (g : Over) (c : goal.After-live_header g) → Wholes (image_of c.self.inside.words) (image_of c.live_header.new.words) c.args.at c.tag-tag.result c.args.serial c.args.len
 wholes g c = rw (c.tag-tag.ensures.words, c.tag-tag.ensures.starts) at c.live_header.ensures.change
@@ -83,7 +83,7 @@ split g c i stands =
     let state = holds_state g.row.SLI c.self.invariant c.self.view_is in
     let e = c.tag-tag.ensures in
     let is : IsTagIn (get_or c.self.inside.words.words c.args.at 0) c.tag-tag.result = record { size = e.size; last = e.last; back = e.back } in
-    left_split g.row.SLI state stands is c.args.size c.args.serial c.args.len (c.requires.unlisted i stands) (splits g c) c.requires.least (omega (arith, c.if-all-size.false, c.size-all.ensures.value)) c.requires.payload
+    left_split g.row.SLI state stands is c.args.size c.args.serial c.args.len (c.requires.unlisted i stands) (splits g c) (omega (arith, c.requires.payload)) (omega (arith, c.if-all-size.false, c.size-all.ensures.value)) (omega (arith, c.requires.payload))
 
 pub invariant_of-self-2 : goal.invariant_of-self-2
 invariant_of-self-2 g c = (split g c c.requires.room.0 c.requires.room.1).holds
@@ -108,7 +108,7 @@ returns-clause-change g c i stands =
         words = c.split_header.ensures.change.only.length ∙ ap length c.tag-tag.ensures.words ∙ words;
         shows = left.holds.shows;
         linked = linked_lists g.row.SLI _ _ left.holds;
-        touches = omega (arith, c.split_header.ensures.touches.within, c.tag-tag.ensures.touches, touches, size, c.if-all-size.false, c.size-all.ensures.value, c.requires.least);
+        touches = omega (arith, c.split_header.ensures.touches.within, c.tag-tag.ensures.touches, touches, size, c.if-all-size.false, c.size-all.ensures.value, c.requires.payload);
         rise = omega (arith, c.split_header.ensures.touches.rise, c.tag-tag.ensures.touches, touches);
       };
     }

@@ -1,5 +1,5 @@
-use Rattle.std.proofs.Common.{◌+◌, ◌≤◌, sym, ap, ◌∙◌, subst, Ok, Err, arith}
-use Rattle.tlsf_heap.specs.Blocks.{HeapState, size_of, words_in, payload_words, StandsAt}
+use Rattle.std.proofs.Common.{◌+◌, ◌-◌, ◌≤◌, sym, ap, ◌∙◌, subst, Ok, Err, arith}
+use Rattle.tlsf_heap.specs.Blocks.{HeapState, size_of, words_in, payload_words, want, StandsAt}
 use Rattle.tlsf_heap.specs.Given.{payload_words_given}
 use Rattle.tlsf_heap.proofs.Carving.{head_stands}
 use Rattle.tlsf_heap.specs.Regions.{Edits}
@@ -16,8 +16,8 @@ use Rattle.tlsf_heap.proofs.Finding.{and_left}
 use Rattle.tlsf_heap.proofs.Giving.{carved_stands, named_payload}
 use Rattle.tlsf_heap.proofs.Living as living
 use Rattle.tlsf_heap.proofs.Listing.{stored_lists}
-use Rattle.tlsf_heap.proofs.heap.Heap.allocate.Given.{Over}
-use Rattle.tlsf_heap.proofs.heap.Heap.allocate.Goals as goal
+use Rattle.tlsf_heap.proofs.heap.Heap.allocate_words.Given.{Over}
+use Rattle.tlsf_heap.proofs.heap.Heap.allocate_words.Goals as goal
 
 pub choose-requires : goal.choose-requires
 choose-requires g c = (
@@ -27,7 +27,7 @@ choose-requires g c = (
     (
       c.self.invariant.level,
       (
-        omega (arith, c.want-words.ensures),
+        omega (arith, c.requires),
         (
           lawful_regions g.row.SLI (state_of g.row.SLI c.self.inside) c.self.invariant.lawful c.self.invariant.small,
           c.self.invariant.listed,
@@ -39,9 +39,9 @@ choose-requires g c = (
 
 -- ---- nothing fits
 
-nothing : (g : Over) (c : goal.In_default g) → Allocates g.row.SLI c.args.self.now.heap c.args.len (Err NoFit) (with_region (state_of g.row.SLI c.self.inside) c.self.inside.tick c.choose.new.region)
+nothing : (g : Over) (c : goal.In_default g) → Allocates g.row.SLI c.args.self.now.heap c.args.words c.args.len (Err NoFit) (with_region (state_of g.row.SLI c.self.inside) c.self.inside.tick c.choose.new.region)
 nothing g c =
-    allocates_none g.row.SLI c.self.invariant.level (state_of g.row.SLI c.self.inside) c.args.self.now.heap c.args.len c.want-words.result c.self.invariant.lawful (ap (λ (s : Shown). s.heap) c.self.view_is) c.want-words.ensures
+    allocates_none g.row.SLI c.self.invariant.level (state_of g.row.SLI c.self.inside) c.args.self.now.heap c.args.words c.args.len c.requires c.self.invariant.lawful (ap (λ (s : Shown). s.heap) c.self.view_is)
     c.choose.new.region c.choose.ensures.reads.words c.choose.ensures.reads.blocks c.in_default.ensures.best
 
 pub returns-in_default-clause-answer : goal.returns-in_default-clause-answer
@@ -58,9 +58,9 @@ returns-in_default-clause-ok g c = (nothing g c).ok
 
 -- ---- the tick is at its last value
 
-worn : (g : Over) (c : goal.Then-self g) → Allocates g.row.SLI c.args.self.now.heap c.args.len (Err Worn) (with_region (state_of g.row.SLI c.self.inside) c.self.inside.tick c.choose.new.region)
+worn : (g : Over) (c : goal.Then-self g) → Allocates g.row.SLI c.args.self.now.heap c.args.words c.args.len (Err Worn) (with_region (state_of g.row.SLI c.self.inside) c.self.inside.tick c.choose.new.region)
 worn g c =
-    allocates_worn g.row.SLI c.self.invariant.level (state_of g.row.SLI c.self.inside) c.args.self.now.heap c.args.len c.want-words.result c.self.invariant.lawful (ap (λ (s : Shown). s.heap) c.self.view_is) c.want-words.ensures
+    allocates_worn g.row.SLI c.self.invariant.level (state_of g.row.SLI c.self.inside) c.args.self.now.heap c.args.words c.args.len c.requires c.self.invariant.lawful (ap (λ (s : Shown). s.heap) c.self.view_is)
     c.choose.new.region c.choose.ensures.reads.words c.in-Some.ensures.best.1 c.in-Some.ensures.best.3 c.choose.ensures.reads.blocks c.if-self.true
 
 pub returns-then-self-clause-answer : goal.returns-then-self-clause-answer
@@ -83,19 +83,16 @@ carve-at-requires g c =
         (
           c.self.invariant.level,
           (
-            omega (arith, c.want-words.ensures),
+            omega (arith, c.requires, c.want.ensures),
             (
-              omega (arith, c.want-words.ensures),
+              rw (c.choose.ensures.reads.blocks, c.choose.ensures.reads.lists) (best.0, best.1, best.2, and_left _ _ best.3.fit, fits_size g.row.SLI c.self.invariant.level _ _ best.3.fit),
               (
-                rw (c.choose.ensures.reads.blocks, c.choose.ensures.reads.lists) (best.0, best.1, best.2, and_left _ _ best.3.fit, fits_size g.row.SLI c.self.invariant.level _ _ best.3.fit),
+                rw c.choose.ensures.reads.blocks (lawful_regions g.row.SLI (state_of g.row.SLI c.self.inside) c.self.invariant.lawful c.self.invariant.small),
                 (
-                  rw c.choose.ensures.reads.blocks (lawful_regions g.row.SLI (state_of g.row.SLI c.self.inside) c.self.invariant.lawful c.self.invariant.small),
+                  omega (arith, ap words_in c.choose.ensures.reads.blocks, c.self.invariant.lawful.whole, c.self.invariant.small),
                   (
-                    omega (arith, ap words_in c.choose.ensures.reads.blocks, c.self.invariant.lawful.whole, c.self.invariant.small),
-                    (
-                      rw (c.choose.ensures.reads.blocks, c.choose.ensures.reads.lists) c.self.invariant.listed,
-                      rw c.choose.ensures.reads.blocks c.self.invariant.lawful.stamps_past,
-                    ),
+                    rw (c.choose.ensures.reads.blocks, c.choose.ensures.reads.lists) c.self.invariant.listed,
+                    rw c.choose.ensures.reads.blocks c.self.invariant.lawful.stamps_past,
                   ),
                 ),
               ),
@@ -109,14 +106,14 @@ carve-at-requires g c =
 stands : (g : Over) (c : goal.After-self-1 g) → StandsAt c.self.inside.region.blocks c.carve-at.result c.in-Some.ensures.best.1
 stands g c = head_stands g.row.SLI c.in-Some.ensures.best.2 ((rw c.choose.ensures.reads.lists at c.carve-at.ensures.place))
 
-carved : (g : Over) (c : goal.After-self-1 g) → Edits c.choose.new.region c.carve-at.new.region (23 + payload_words (block_at c.carve-at.new.region.blocks c.in-Some.ensures.best.1))
+carved : (g : Over) (c : goal.After-self-1 g) → Edits c.choose.new.region c.carve-at.new.region (23 + (payload_words (block_at c.carve-at.new.region.blocks c.in-Some.ensures.best.1) - (c.args.words - c.want.result)))
 carved g c = c.carve-at.ensures.edits c.in-Some.ensures.best.1 (rw c.choose.ensures.reads.blocks (stands g c))
 
-given : (g : Over) (c : goal.After-self-1 g) → Allocates g.row.SLI c.args.self.now.heap c.args.len (Ok (record { heap = c.self.inside.id; at = c.carve-at.result; serial = c.self.inside.tick }))
+given : (g : Over) (c : goal.After-self-1 g) → Allocates g.row.SLI c.args.self.now.heap c.args.words c.args.len (Ok (record { heap = c.self.inside.id; at = c.carve-at.result; serial = c.self.inside.tick }))
     (with_region (state_of g.row.SLI c.self.inside) (c.self.inside.tick + 1) c.carve-at.new.region)
 given g c =
     let best = c.in-Some.ensures.best in
-    allocates_some g.row.SLI c.self.invariant.level (state_of g.row.SLI c.self.inside) c.args.self.now.heap c.args.len c.want-words.result c.self.invariant.lawful (ap (λ (s : Shown). s.heap) c.self.view_is) c.want-words.ensures
+    allocates_some g.row.SLI c.self.invariant.level (state_of g.row.SLI c.self.inside) c.args.self.now.heap c.args.words c.args.len c.requires c.self.invariant.lawful (ap (λ (s : Shown). s.heap) c.self.view_is)
     c.carve-at.new.region ((carved g c).words ∙ c.choose.ensures.reads.words) best.1 best.3 c.carve-at.result (stands g c).place ((rw c.choose.ensures.reads.blocks at c.carve-at.ensures.blocks) best.1 (stands g c)) c.if-self.false
 
 pub returns-clause-answer : goal.returns-clause-answer
@@ -144,6 +141,14 @@ invariant_of-self-2 g c = record {
   listed = c.carve-at.ensures.listed;
 }
 
+-- the block has at most three words above those wanted, and none of those that are spare were made zero
+few : (g : Over) (c : goal.After-self-1 g) → c.carve-at.new.region.touches ≤ c.self.inside.region.touches + 26 + want c.args.len
+few g c =
+    let i = c.in-Some.ensures.best.1 in
+    let old = c.self.inside.region.blocks in
+    let now = carved_stands old c.carve-at.new.region.blocks c.carve-at.result i (size_of (block_at old i)) c.args.words c.self.inside.tick c.args.len (stands g c) ((rw c.choose.ensures.reads.blocks at c.carve-at.ensures.blocks) i (stands g c)) in
+    omega (arith, (carved g c).touches, c.choose.ensures.reads.touches, now.1, c.requires, c.want.ensures)
+
 -- the name that is given names the block at its place, whose payload was made zero
 touched : (g : Over) (c : goal.After-self-1 g) → c.carve-at.new.region.touches ≤ c.self.inside.region.touches + 26 + payload_words_given {E = Refusal} (Ok (record { heap = c.self.inside.id; at = c.carve-at.result; serial = c.self.inside.tick }))
     (with_region (state_of g.row.SLI c.self.inside) (c.self.inside.tick + 1) c.carve-at.new.region)
@@ -152,17 +157,20 @@ touched g c =
     let old = c.self.inside.region.blocks in
     let heap : HeapState = with_region (state_of g.row.SLI c.self.inside) (c.self.inside.tick + 1) c.carve-at.new.region in
     let name : Name = record { heap = c.self.inside.id; at = c.carve-at.result; serial = c.self.inside.tick } in
-    let live : IsLive heap name = subst (λ (h : HeapState). IsLive h name) (sym (given g c).is_heap) (living.given g.row.SLI c.args.self.now.heap c.args.len name (sym (given g c).is_answer)) in
-    let now = carved_stands old heap.blocks name.at best.1 (size_of (block_at old best.1)) c.want-words.result c.self.inside.tick c.args.len (stands g c)
+    let live : IsLive heap name = subst (λ (h : HeapState). IsLive h name) (sym (given g c).is_heap) (living.given_words g.row.SLI c.args.self.now.heap c.args.words c.args.len name (sym (given g c).is_answer)) in
+    let now = carved_stands old heap.blocks name.at best.1 (size_of (block_at old best.1)) c.args.words c.self.inside.tick c.args.len (stands g c)
     ((rw c.choose.ensures.reads.blocks at c.carve-at.ensures.blocks) best.1 (stands g c)) in
     let regions = lawful_regions g.row.SLI heap (given g c).lawful (omega (arith, (carved g c).words, c.choose.ensures.reads.words, c.self.invariant.small)) in
-    omega (arith, (carved g c).touches, named_payload g.row.SLI heap name best.1 regions now live, c.choose.ensures.reads.touches)
+    omega (arith, (carved g c).touches, named_payload g.row.SLI heap name best.1 regions now.0 live, c.choose.ensures.reads.touches)
 
 pub returns-clause-touches : goal.returns-clause-touches
-returns-clause-touches g c = omega (arith, touched g c, ap (λ (s : Shown). s.touches) c.self.view_is)
+returns-clause-touches g c = omega (arith, few g c, ap (λ (s : Shown). s.touches) c.self.view_is)
 
 pub returns-clause-most_touches : goal.returns-clause-most_touches
-returns-clause-most_touches g c = omega (arith, touched g c, ap (λ (s : Shown). s.touches) c.self.view_is)
+returns-clause-most_touches g c = omega (arith, few g c, ap (λ (s : Shown). s.touches) c.self.view_is)
+
+pub returns-clause-given_touches : goal.returns-clause-given_touches
+returns-clause-given_touches g c = omega (arith, touched g c, ap (λ (s : Shown). s.touches) c.self.view_is)
 
 -- ---- the lists
 

@@ -1,10 +1,10 @@
-use Rattle.std.proofs.Common.{◌≡◌, ℕ, suc, ◌+◌, ◌≤◌, ◌++◌, take, drop, sym, ap, ◌∙◌, subst, Ok, Err, arith}
+use Rattle.std.proofs.Common.{◌≡◌, ℕ, ◌+◌, ◌≤◌, sym, ap, ◌∙◌, subst, Ok, Err, arith}
 use Rattle.std.proofs.lemmas.Result.{err_from_is_err_and}
 use Rattle.tlsf_class.proofs.TwoLevels.{most_words_any}
-use Rattle.tlsf_heap.specs.Blocks.{HeapState, words_in, words_for, want}
-use Rattle.tlsf_heap.specs.Calls.{refitted, named}
+use Rattle.tlsf_heap.specs.Blocks.{HeapState, words_in, words_for}
+use Rattle.tlsf_heap.specs.Calls.{named}
 use Rattle.tlsf_heap.specs.Given.{payload_words_at}
-use Rattle.tlsf_heap.specs.GoodFit.{block_at, site_at}
+use Rattle.tlsf_heap.specs.GoodFit.{site_at}
 use Rattle.tlsf_heap.specs.Named.{IsNameCheck}
 use Rattle.tlsf_heap.specs.Regions.{RegionState, IsTagOf}
 use Rattle.tlsf_heap.specs.Shown.{Shown}
@@ -18,19 +18,19 @@ use Rattle.tlsf_heap.proofs.Naming.{named_same, named_stands, named_live, not_fo
 use Rattle.tlsf_heap.proofs.Reading.{at_index}
 use Rattle.tlsf_heap.proofs.Resizing.{Resizes, resized_refused, resizes_refused}
 use Rattle.tlsf_heap.proofs.Listing.{stored_lists}
-use Rattle.tlsf_heap.proofs.heap.Heap.resize.Given.{Over}
-use Rattle.tlsf_heap.proofs.heap.Heap.resize.Goals as goal
+use Rattle.tlsf_heap.proofs.heap.Heap.resize_words.Given.{Over}
+use Rattle.tlsf_heap.proofs.heap.Heap.resize_words.Goals as goal
 
 -- ---- the name is refused
 
 pub returns-in_err-own-clause-answer : goal.returns-in_err-own-clause-answer
 returns-in_err-own-clause-answer g c =
     let p = err_from_is_err_and c.from_residual.result c.from_residual.ensures.1 in
-    rw (p.1, p.2) (resizes_refused c.args.self.now.heap c.check.new.self.heap c.args.name c.args.len _ c.in_err-own.ensures.lawful c.in_err-own.ensures.heap (resized_refused c.args.self.now.heap c.args.name c.args.len _ c.in_err-own.ensures.answer)).is_answer
+    rw (p.1, p.2) (resizes_refused c.args.self.now.heap c.check.new.self.heap c.args.name c.args.words c.args.len _ c.in_err-own.ensures.lawful c.in_err-own.ensures.heap (resized_refused c.args.self.now.heap c.args.name c.args.words c.args.len _ c.in_err-own.ensures.answer)).is_answer
 
 pub returns-in_err-own-clause-heap : goal.returns-in_err-own-clause-heap
 returns-in_err-own-clause-heap g c =
-    (resizes_refused c.args.self.now.heap c.check.new.self.heap c.args.name c.args.len _ c.in_err-own.ensures.lawful c.in_err-own.ensures.heap (resized_refused c.args.self.now.heap c.args.name c.args.len _ c.in_err-own.ensures.answer)).is_heap
+    (resizes_refused c.args.self.now.heap c.check.new.self.heap c.args.name c.args.words c.args.len _ c.in_err-own.ensures.lawful c.in_err-own.ensures.heap (resized_refused c.args.self.now.heap c.args.name c.args.words c.args.len _ c.in_err-own.ensures.answer)).is_heap
 
 -- ---- the block behind
 
@@ -55,16 +55,16 @@ pub overflow_add-room : goal.overflow_add-room
 overflow_add-room g c =
     let same : state_of g.row.SLI c.self.inside ≡ c.args.self.now.heap = ap (λ (s : Shown). s.heap) c.self.view_is ∙ c.in_ok-own.ensures.heap in
     let f : Found (state_of g.row.SLI c.self.inside) c.args.name c.in_ok-own.own c.look_behind-next.result = found same c.in_ok-own.ensures.answer c.look_behind-next.ensures.tag in
-    omega (arith, c.size.ensures.value, c.size-2.ensures.value, room_small g.row.SLI f same c.self.invariant.lawful c.args.len, c.self.invariant.small, most_words_any g.row.SLI)
+    omega (arith, c.size.ensures.value, c.size-2.ensures.value, room_small g.row.SLI f same c.self.invariant.lawful c.args.words c.args.len c.requires, c.self.invariant.small, most_words_any g.row.SLI)
 
 -- ---- there is no room
 
-short : (g : Over) (c : goal.Then-room-words g) → Resizes c.args.self.now.heap c.args.name c.args.len (Err NoRoom) (with_region (state_of g.row.SLI c.self.inside) c.self.inside.tick c.look_behind-next.new.region)
+short : (g : Over) (c : goal.Then-room-words g) → Resizes c.args.self.now.heap c.args.name c.args.words c.args.len (Err NoRoom) (with_region (state_of g.row.SLI c.self.inside) c.self.inside.tick c.look_behind-next.new.region)
 short g c =
     let same : state_of g.row.SLI c.self.inside ≡ c.args.self.now.heap = ap (λ (s : Shown). s.heap) c.self.view_is ∙ c.in_ok-own.ensures.heap in
     let f : Found (state_of g.row.SLI c.self.inside) c.args.name c.in_ok-own.own c.look_behind-next.result = found same c.in_ok-own.ensures.answer c.look_behind-next.ensures.tag in
     let reads = c.look_behind-next.ensures.reads in
-    resizes_short g.row.SLI f same c.self.invariant.lawful c.args.len c.look_behind-next.new.region reads.words reads.blocks (omega (arith, c.if-room-words.true, c.want-words.ensures, c.size.ensures.value, c.size-2.ensures.value))
+    resizes_short g.row.SLI f same c.self.invariant.lawful c.args.words c.args.len c.requires c.look_behind-next.new.region reads.words reads.blocks (omega (arith, c.if-room-words.true, c.size.ensures.value, c.size-2.ensures.value))
 
 pub returns-then-room-words-clause-answer : goal.returns-then-room-words-clause-answer
 returns-then-room-words-clause-answer g c = (short g c).is_answer
@@ -74,12 +74,12 @@ returns-then-room-words-clause-heap g c = (short g c).is_heap
 
 -- ---- the tick is at its last value
 
-worn : (g : Over) (c : goal.Then-self g) → Resizes c.args.self.now.heap c.args.name c.args.len (Err Worn) (with_region (state_of g.row.SLI c.self.inside) c.self.inside.tick c.look_behind-next.new.region)
+worn : (g : Over) (c : goal.Then-self g) → Resizes c.args.self.now.heap c.args.name c.args.words c.args.len (Err Worn) (with_region (state_of g.row.SLI c.self.inside) c.self.inside.tick c.look_behind-next.new.region)
 worn g c =
     let same : state_of g.row.SLI c.self.inside ≡ c.args.self.now.heap = ap (λ (s : Shown). s.heap) c.self.view_is ∙ c.in_ok-own.ensures.heap in
     let f : Found (state_of g.row.SLI c.self.inside) c.args.name c.in_ok-own.own c.look_behind-next.result = found same c.in_ok-own.ensures.answer c.look_behind-next.ensures.tag in
     let reads = c.look_behind-next.ensures.reads in
-    resizes_worn g.row.SLI f same c.self.invariant.lawful c.args.len c.look_behind-next.new.region reads.words reads.blocks (omega (arith, c.if-room-words.false, c.want-words.ensures, c.size.ensures.value, c.size-2.ensures.value)) c.if-self.true
+    resizes_worn g.row.SLI f same c.self.invariant.lawful c.args.words c.args.len c.requires c.look_behind-next.new.region reads.words reads.blocks (omega (arith, c.if-room-words.false, c.size.ensures.value, c.size-2.ensures.value)) c.if-self.true
 
 pub returns-then-self-clause-answer : goal.returns-then-self-clause-answer
 returns-then-self-clause-answer g c = (worn g c).is_answer
@@ -99,9 +99,9 @@ refit-requires g c =
       (
         c.self.invariant.level,
         (
-          omega (arith, c.want-words.ensures),
+          omega (arith, c.requires),
           (
-            omega (arith, c.want-words.ensures),
+            omega (arith, c.requires),
             (
               rw c.look_behind-next.ensures.reads.blocks (named.1.0, named_stands _ _ _ _ named.1.1, named_live _ _ _ _ named.1.1),
               (
@@ -133,24 +133,23 @@ refit-requires g c =
     )
 
 -- what is left, and that the block has the words for its payload
-record Fitted (h k : HeapState) (name : Name) (len : ℕ) (region : RegionState) : Type 0 where
-  resizes : Resizes k name len (Ok tt) (with_region h (h.tick + 1) region)
+record Fitted (h k : HeapState) (name : Name) (n len : ℕ) (region : RegionState) : Type 0 where
+  resizes : Resizes k name n len (Ok tt) (with_region h (h.tick + 1) region)
   payload : words_for len ≤ 3 + payload_words_at (named name region.blocks)
 
-fits : (g : Over) (c : goal.After-self-1 g) → Fitted (state_of g.row.SLI c.self.inside) c.args.self.now.heap c.args.name c.args.len c.refit.new.region
+fits : (g : Over) (c : goal.After-self-1 g) → Fitted (state_of g.row.SLI c.self.inside) c.args.self.now.heap c.args.name c.args.words c.args.len c.refit.new.region
 fits g c =
     let h = state_of g.row.SLI c.self.inside in
     let same : h ≡ c.args.self.now.heap = ap (λ (s : Shown). s.heap) c.self.view_is ∙ c.in_ok-own.ensures.heap in
     let f : Found h c.args.name c.in_ok-own.own c.look_behind-next.result = found same c.in_ok-own.ensures.answer c.look_behind-next.ensures.tag in
     let i = f.named.1.0 in
     let reads = c.look_behind-next.ensures.reads in
-    let room : want c.args.len ≤ c.in_ok-own.own.size + c.look_behind-next.result.size = omega (arith, c.if-room-words.false, c.want-words.ensures, c.size.ensures.value, c.size-2.ensures.value) in
+    let room : c.args.words ≤ c.in_ok-own.own.size + c.look_behind-next.result.size = omega (arith, c.if-room-words.false, c.size.ensures.value, c.size-2.ensures.value) in
     let words = c.refit.ensures.edits.words ∙ reads.words in
-    let blocks = (rw reads.blocks at c.refit.ensures.blocks) i (named_stands _ _ _ _ f.named.1.1)
-    ∙ ap (λ (n : ℕ). take i h.blocks ++ refitted h.tick n c.args.len (block_at h.blocks i) (drop (suc i) h.blocks)) c.want-words.ensures in
+    let blocks = (rw reads.blocks at c.refit.ensures.blocks) i (named_stands _ _ _ _ f.named.1.1) in
     record {
-      resizes = resizes_done g.row.SLI f same c.self.invariant.lawful c.args.len room c.if-self.false c.refit.new.region words blocks;
-      payload = payload_left g.row.SLI f same c.self.invariant.lawful c.args.len room c.if-self.false c.refit.new.region words blocks c.self.invariant.small;
+      resizes = resizes_done g.row.SLI f same c.self.invariant.lawful c.args.words c.args.len c.requires room c.if-self.false c.refit.new.region words blocks;
+      payload = payload_left g.row.SLI f same c.self.invariant.lawful c.args.words c.args.len c.requires room c.if-self.false c.refit.new.region words blocks c.self.invariant.small;
     }
 
 pub returns-clause-answer : goal.returns-clause-answer
@@ -175,7 +174,7 @@ invariant_of-self-2 g c = record {
 -- three to check the name, one for the tag behind, twenty to cut the block, and the payload
 pub returns-clause-touches : goal.returns-clause-touches
 returns-clause-touches g c =
-    omega (arith, (fits g c).payload, c.refit.ensures.edits.touches, c.look_behind-next.ensures.reads.touches, c.in_ok-own.ensures.touches, ap (λ (s : Shown). s.touches) c.self.view_is)
+    omega (arith, c.refit.ensures.edits.touches, c.look_behind-next.ensures.reads.touches, c.in_ok-own.ensures.touches, ap (λ (s : Shown). s.touches) c.self.view_is)
 
 pub returns-clause-most_touches : goal.returns-clause-most_touches
 returns-clause-most_touches g c =
