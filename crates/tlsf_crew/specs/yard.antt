@@ -26,6 +26,8 @@ pub mod Opening
 pub mod OwnReplies
 -- What the steps of a replay answer and leave. For private functions alone.
 pub mod ReplaySteps
+-- What the calls of a script tell of their worker, whatever its ports. For private functions alone.
+pub mod Scripts
 -- What `settle` tells of the lanes of a yard.
 pub mod Settle
 -- What a worker is told by its calls, one after another.

@@ -38,7 +38,7 @@ mod threads;
 mod worker;
 mod yard;
 
-pub use ports::{Exchange, Ports};
+pub use ports::Ports;
 pub use queues::queue_laws::{
     one_history_of_a_queue_race, queue_race_without_takes, queues_join_the_yard,
 };
@@ -58,7 +58,7 @@ pub use tlsf_lock::{Counted, LockedHeap};
 pub use worker::Worker;
 pub use yard::history::one_history;
 pub use yard::lanes::Lanes;
-pub use yard::laws::lanes_join_the_yard;
+pub use yard::laws::{lanes_join_the_yard, some_run_is_fair};
 pub use yard::opening::open_yard;
 pub use yard::replay::{replay_behind, replay_events};
 pub use yard::settle::settle;

@@ -1,11 +1,7 @@
 //! A yard over queues: one queue for each owner, into which all others post; its workers, and what a race over it tells.
 
-pub(crate) mod queue_executor;
-pub(crate) mod queue_journal;
 pub(crate) mod queue_laws;
 pub(crate) mod queue_opening;
-pub(crate) mod queue_preparation;
 pub(crate) mod queue_race;
 pub(crate) mod queue_settle;
-pub(crate) mod queue_task;
 pub(crate) mod queues;

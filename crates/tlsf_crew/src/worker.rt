@@ -14,7 +14,7 @@ ghost use Rattle.tlsf_crew.specs.declared.worker.Worker.{Worker};
 ghost use Rattle.tlsf_crew.specs.yard.Workers.{heap_of, touches_of, id_of, SameButHeap, KeepsHeap};
 ghost use Rattle.tlsf_crew.specs.yard.Calls.{by_heap, IsRefusedByHeap, PostedThere, ReleasedHere, ReleasedThere, TakenFrom};
 ghost use Rattle.tlsf_crew.specs.yard.LaneTurns.{IsCountOf};
-ghost use Rattle.tlsf_crew.specs.yard.Notes.{SourceNoted};
+ghost use Rattle.tlsf_crew.specs.yard.Notes.{AllNoted, SourceNoted};
 
 use crate::ports::{Exchange, Ports};
 use crate::yard::lanes::Lanes;
@@ -122,10 +122,11 @@ pub(crate) fn drain_source<const SLI: u32, C, P: Exchange<C>, N: Notes>(
 ) -> Drained
     requires source { P.hears worker.old.ports source }
     requires room { N.has_room notes.old }
-    ensures drained { (tooks : List Took) × SourceNoted P.takes P.stops N.noted N.admitted worker.old worker.new notes.old notes.new source most tooks × IsCountOf result tooks }
+    ensures drained { (tooks : List Took) × SourceNoted P.takes P.stops (λ old at source took new. N.noted old at source (P.sent_by took.from) took new) N.admitted worker.old worker.new notes.old notes.new source most tooks × IsCountOf result tooks }
     ensures most { result.taken ≤ most }
     ensures freed { result.freed ≤ result.taken }
     ensures room { N.has_room notes.new }
+    ensures kept { N.most notes.new ≡ N.most notes.old }
     ensures touches { touches_of worker.new ≤ touches_of worker.old + 64 * result.taken }
     ensures touches_rise { touches_of worker.old ≤ touches_of worker.new }
 {
@@ -138,10 +139,36 @@ pub(crate) fn drain_source<const SLI: u32, C, P: Exchange<C>, N: Notes>(
         let Some(took) = take_next(worker, context, source) else {
             break;
         };
-        notes.note(worker.id, source, took);
+        notes.note(worker.id, source, P::sender(took.from), took);
         drained.taken += 1;
         if took.answer.is_ok() {
             drained.freed += 1;
+        }
+    }
+    drained
+}
+
+/// Takes from all sources, in the rising order of their numbers, and notes each take.
+pub(crate) fn drain_each<const SLI: u32, C, P: Exchange<C>, N: Notes>(
+    worker: &mut Worker<SLI, P>,
+    context: &C,
+    most: u32,
+    notes: &mut N,
+) -> Drained
+    requires room { N.has_room notes.old }
+    ensures drained { AllNoted P.hears P.takes P.stops (λ old at source took new. N.noted old at source (P.sent_by took.from) took new) N.admitted worker.old worker.new notes.old notes.new (P.sources worker.old.ports) most result }
+    ensures most { result.taken ≤ most }
+    ensures freed { result.freed ≤ result.taken }
+    ensures kept { N.most notes.new ≡ N.most notes.old }
+    ensures touches { touches_of worker.new ≤ touches_of worker.old + 64 * result.taken }
+    ensures touches_rise { touches_of worker.old ≤ touches_of worker.new }
+{
+    let mut drained = Drained { taken: 0, freed: 0 };
+    for source in 0..worker.ports.source_count() {
+        if worker.ports.has_source(source) {
+            let here = drain_source(worker, context, source, most - drained.taken, notes);
+            drained.taken += here.taken;
+            drained.freed += here.freed;
         }
     }
     drained

@@ -11,4 +11,5 @@ pub(crate) mod own_replies;
 pub(crate) mod pairs;
 pub(crate) mod replay;
 pub(crate) mod room;
+pub(crate) mod scripted;
 pub(crate) mod settle;

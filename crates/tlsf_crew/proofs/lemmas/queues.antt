@@ -8,7 +8,7 @@ pub mod QueueAgree
 pub mod QueueAlone
 -- Takes one after another from a queue make up a drain.
 pub mod QueueDrains
--- Where each task was ready and done, the workers over queues ran their scripts, and each record has a place left.
+-- Where each worker over queues ran its script, each record has a place left.
 pub mod QueueGathering
 -- A worker's own calls keep its place in a yard over queues.
 pub mod QueueKept
@@ -20,7 +20,7 @@ pub mod QueueOpened
 pub mod QueueRaces
 -- A record over queues tells the calls of its script and the history of its worker's heap.
 pub mod QueueRecords
--- The calls of a script over queues, one after another.
+-- What calls over queues leave, one after another.
 pub mod QueueRuns
 -- Once all ends of a queue were side by side, its owner knows what was put into it, and all else of the yard stays.
 pub mod QueueSettled

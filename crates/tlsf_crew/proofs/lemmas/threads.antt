@@ -16,7 +16,7 @@ pub mod RecordHistory
 pub mod RecordRooms
 -- Two drains of the same heap that took the same posts are the same.
 pub mod SameDrains
--- The calls of a script, one after another.
+-- The calls of a script, one after another, by a worker with ports of any kind.
 pub mod ScriptRuns
 -- Two records agree: what one worker was answered to have posted is what the other took, in order and each once.
 pub mod TwoRecords

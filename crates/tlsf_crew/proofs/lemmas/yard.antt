@@ -18,11 +18,13 @@ pub mod EventSteps
 pub mod Exact
 -- A fair event is not answered Stale, and keeps the names.
 pub mod FairEvents
+-- A small run that is fair.
+pub mod FairExample
 -- No answer to a fair list of events is Stale.
 pub mod FairLists
 -- What some of the entries of a replay leave, behind which the others come.
 pub mod Fronts
--- Where each job was prepared for a whole yard and done, the workers ran their scripts, and each record has its room.
+-- Where each job was prepared and done, the workers ran their scripts; over lanes the yard is whole then, and each record has its room.
 pub mod Gathering
 -- A list that is cut in two, written at one place of each part and joined again is the list with these two places written.
 pub mod Halves

@@ -12,20 +12,16 @@ use Rattle.tlsf_calls.specs.declared.call.Call.TheVariants.{Drain}
 use Rattle.tlsf_calls.specs.declared.reply.Reply.{Reply}
 use Rattle.tlsf_calls.specs.declared.crew_refusal.CrewRefusal.TheVariants.{Full}
 use Rattle.tlsf_calls.specs.declared.reply.Reply.TheVariants.{Drained, Refused}
+use Rattle.tlsf_crew.specs.yard.Counts.{sum_of}
 use Rattle.tlsf_crew.specs.yard.History.{posts_made, posts_taken, StandsBehind}
-use Rattle.tlsf_crew.specs.yard.Told.{Told, MayTell, untold}
+pub use Rattle.tlsf_crew.specs.yard.Scripts.{told_of, entry_by}
+use Rattle.tlsf_crew.specs.yard.Scripts.{Step, ScriptRun}
+use Rattle.tlsf_crew.specs.yard.Told.{MayTell}
 use Rattle.tlsf_crew.specs.yard.World.{made_by}
 use Rattle.tlsf_crew.specs.declared.worker.Worker.{Worker}
 use Rattle.tlsf_crew.specs.declared.queues.queues.Queues.{Queues}
-use Rattle.tlsf_crew.specs.yard.Workers.{heap_of, id_of}
 use Rattle.tlsf_crew.specs.queues.QueueWorkers.{queue_end_to, KeepsQueueYards}
-use Rattle.tlsf_crew.specs.queues.QueueTold.{MayTellQueue, MayTellQueueAll}
-
-abbrev pub told_of : List (Option Name) → List Entry → HeapState → Told
-told_of made entries h = record { made = made; entries = entries; heap = h }
-
-abbrev pub entry_by : ℕ → Call → Reply → Entry
-entry_by at call reply = record { worker = at; call = call; reply = reply }
+use Rattle.tlsf_crew.specs.queues.QueueTold.{MayTellQueue}
 
 -- ---- a call on a heap
 
@@ -38,7 +34,7 @@ TellsOwn sli made h call g reply =
 -- ---- what entries tell of the ends
 
 -- worker a, of number `at`, has become v by these calls, as the entries tell. It might take so many posts, and may take what is left
-pub record QueueMoved {sli : ℕ} (at : ℕ) (made : List (Option Name)) (a : Worker sli Queues) (limit : ℕ) (calls : List Call) (entries : List Entry) (v : Worker sli Queues) (left : ℕ) : Type 0 where
+pub record QueueMoved {sli : ℕ} (at : ℕ) (made : List (Option Name)) (a : Worker sli Queues) (limits : List ℕ) (calls : List Call) (entries : List Entry) (v : Worker sli Queues) (left : List ℕ) : Type 0 where
   pub yard : KeepsQueueYards a v
   -- each end put the posts that the entries tell
   pub sent : (j : ℕ) (p q : PosterEnd) → queue_end_to a j ≡ Some p → queue_end_to v j ≡ Some q → put_by q ≡ put_by p ++ posts_made at j made entries
@@ -50,29 +46,12 @@ pub record QueueMoved {sli : ℕ} (at : ℕ) (made : List (Option Name)) (a : Wo
   -- a queue into which nobody else posts was full only where as many posts had been put as it holds, besides those known to be taken
   pub full : (before : List Entry) (e : Entry) (name : Name) (p : PosterEnd) → StandsBehind entries before e → e.reply ≡ Refused (Full name) → queue_end_to a name.heap ≡ Some p → IsOnlyPoster p
       → length (gone_from p) + (plan_of p).capacity ≤ length (put_by p) + length (posts_made at name.heap made before)
-  pub room : length entries + left ≤ length calls + limit
+  pub room : length entries + sum_of left ≤ length calls + sum_of limits
 
 -- the call was answered so; the entries got longer by those of a drain's takes, and have not its own yet
-pub record QueueStepped {sli : ℕ} (n : ℕ) (a : Worker sli Queues) (limit : ℕ) (call : Call) (made : List (Option Name)) (entries : List Entry) (v : Worker sli Queues) (left : ℕ) (longer : List Entry) (reply : Reply) : Type 0 where
-  pub own : List Entry
-  pub entries_are : longer ≡ entries ++ own
-  pub told : MayTellQueue sli n (id_of a) (told_of made entries (heap_of a)) call
-      (told_of (made ++ made_by reply ∷ []) (longer ++ entry_by (id_of a) call reply ∷ []) (heap_of v))
-  pub moved : (rest : List (Option Name)) → QueueMoved (id_of a) (made ++ rest) a limit (call ∷ []) (own ++ entry_by (id_of a) call reply ∷ []) v left
-
--- the call was made, and told in full
-pub record QueueCalled {sli : ℕ} (n : ℕ) (a : Worker sli Queues) (limit : ℕ) (call : Call) (made : List (Option Name)) (entries : List Entry) (v : Worker sli Queues) (left : ℕ) (more : List (Option Name)) (longer : List Entry) : Type 0 where
-  pub name : Option Name
-  pub made_are : more ≡ made ++ name ∷ []
-  pub own : List Entry
-  pub entries_are : longer ≡ entries ++ own
-  pub told : MayTellQueue sli n (id_of a) (told_of made entries (heap_of a)) call (told_of more longer (heap_of v))
-  pub moved : (rest : List (Option Name)) → QueueMoved (id_of a) (made ++ rest) a limit (call ∷ []) own v left
-
--- ---- a script
+abbrev pub QueueStepped : {sli : ℕ} → ℕ → Worker sli Queues → List ℕ → Call → List (Option Name) → List Entry → Worker sli Queues → List ℕ → List Entry → Reply → Type 0
+QueueStepped {sli} n a limits call made entries v left longer reply = Step (MayTellQueue sli n) QueueMoved a limits call made entries v left longer reply
 
 -- a worker has made these calls of its script
-pub record QueueScriptRun {sli : ℕ} (n : ℕ) (a : Worker sli Queues) (limit : ℕ) (calls : List Call) (made : List (Option Name)) (entries : List Entry) (v : Worker sli Queues) (left : ℕ) : Type 0 where
-  pub told : MayTellQueueAll sli n (id_of a) (untold (heap_of a)) calls (told_of made entries (heap_of v))
-  pub names : length made ≡ length calls
-  pub moved : (rest : List (Option Name)) → QueueMoved (id_of a) (made ++ rest) a limit calls entries v left
+abbrev pub QueueScriptRun : {sli : ℕ} → ℕ → Worker sli Queues → List ℕ → List Call → List (Option Name) → List Entry → Worker sli Queues → List ℕ → Type 0
+QueueScriptRun {sli} n a limits calls made entries v left = ScriptRun (MayTellQueue sli n) QueueMoved a limits calls made entries v left

@@ -1,13 +1,11 @@
 -- What a drain of a queue notes of the posts that it takes. This serves the contracts and proofs of private functions alone.
-use Rattle.std.specs.Prelude.{◌≡◌, ℕ, ◌+◌, ◌<◌, ◌≤◌, ◌⊎◌, List, [], ◌∷◌, ◌++◌, length, Some, None, vec_len, vec_capacity}
+use Rattle.std.specs.Prelude.{ℕ, List, None}
 use Rattle.tlsf_calls.specs.declared.took.Took.{Took}
-use Rattle.tlsf_calls.specs.declared.call.Call.TheVariants.{Take}
-use Rattle.tlsf_calls.specs.declared.reply.Reply.TheVariants.{Took as Taken}
 use Rattle.tlsf_crew.specs.declared.worker.Worker.{Worker}
 use Rattle.tlsf_crew.specs.declared.queues.queues.Queues.{Queues}
-use Rattle.tlsf_crew.specs.declared.queues.queue_journal.QueueJournal.{QueueJournal}
+use Rattle.tlsf_crew.specs.declared.yard.journal.Journal.{Journal}
 use Rattle.tlsf_crew.specs.queues.QueueWorkers.{TakesFromQueue, TookOut}
-use Rattle.tlsf_crew.specs.yard.Notes.{SourceNoted}
+use Rattle.tlsf_crew.specs.yard.Notes.{IsEntered, SourceNoted}
 
 -- where the notes admit no more, all that may come was taken, and a drain waits for the queue to be seen empty
 abbrev pub StopsAtQueue : Queues → Queues → ℕ → Type 0
@@ -19,16 +17,6 @@ QueueNoted noted admitted a v x y most tooks = SourceNoted TakesFromQueue StopsA
 
 -- ---- the notes of a journal
 
--- one post more may be taken
-abbrev pub IsQueueAdmitted : QueueJournal → ℕ → Type 0
-IsQueueAdmitted journal source = 0 < journal.limit
-
--- there is room for an entry of each post that may be taken
-abbrev pub HasQueueRoom : QueueJournal → Type 0
-HasQueueRoom journal = vec_len journal.entries + journal.limit ≤ vec_capacity journal.entries
-
--- the entry of the take stands behind the others, and one fewer may be taken
-pub record IsQueueNoted (old : QueueJournal) (at source : ℕ) (took : Took) (new : QueueJournal) : Type 0 where
-  pub fewer : new.limit + 1 ≡ old.limit
-  pub entries : new.entries.items ≡ old.entries.items ++ record { worker = at; call = Take took.from; reply = Taken took } ∷ []
-  pub capacity : vec_capacity new.entries ≡ vec_capacity old.entries
+-- over queues the entry of a take names who posted
+abbrev pub IsQueueNoted : Journal → ℕ → ℕ → Took → Journal → Type 0
+IsQueueNoted old at source took new = IsEntered old at source took.from took new

@@ -1,5 +1,5 @@
 -- What the parts of a race over queues give one another. This serves the contracts and proofs of private functions alone.
-use Rattle.std.specs.Prelude.{◌≡◌, ℕ, ◌+◌, ◌^◌, ◌<◌, ◌≤◌, List, [], ◌∷◌, ◌++◌, length, Option, Some, None, slice_get, vec_len, vec_capacity}
+use Rattle.std.specs.Prelude.{◌≡◌, ℕ, ◌+◌, ◌<◌, ◌≤◌, List, [], ◌∷◌, ◌++◌, length, Option, Some, None, slice_get, slice_index, vec_len, vec_capacity}
 use Rattle.std.specs.declared.vec.Vec.{Vec}
 use Rattle.std.specs.declared.alloc.Global.{Global}
 use mathlib.Core.List.{IsPrefix}
@@ -8,11 +8,11 @@ use Rattle.tlsf_post.specs.Mailboxes.{got_by, known_to}
 use Rattle.tlsf_heap.specs.declared.name.Name.{Name}
 use Rattle.tlsf_calls.specs.declared.entry.Entry.{Entry}
 use Rattle.tlsf_calls.specs.declared.call.Call.{Call}
+use Rattle.tlsf_crew.specs.yard.Counts.{sum_of}
+use Rattle.tlsf_crew.specs.threads.Job.{KnowsSome}
 use Rattle.tlsf_crew.specs.threads.Race.{last_call, record_of, script_of}
 use Rattle.tlsf_crew.specs.declared.worker.Worker.{Worker}
 use Rattle.tlsf_crew.specs.declared.queues.queues.Queues.{Queues}
-use Rattle.tlsf_crew.specs.declared.queues.queue_task.QueueTask.{QueueTask}
-use Rattle.tlsf_crew.specs.declared.threads.done.Done.{Done}
 use Rattle.tlsf_crew.specs.yard.Workers.{heap_of, id_of}
 use Rattle.tlsf_crew.specs.queues.QueueWorkers.{queue_end_to, KnowsQueueYard}
 use Rattle.tlsf_crew.specs.queues.QueueTold.{MayTellQueue}
@@ -23,30 +23,21 @@ use Rattle.tlsf_crew.specs.queues.QueueSettle.{QueuesSettled}
 
 -- the worker is one of some yard
 abbrev pub KnowsSomeYard : {sli : ℕ} → Worker sli Queues → Type 0
-KnowsSomeYard a = (n : ℕ) × KnowsQueueYard n a
+KnowsSomeYard a = KnowsSome KnowsQueueYard a
 
--- a task is ready to run: nothing is recorded, and there is room for an entry of each call, for one of each post that may be taken, and for one more
-pub record IsQueueReady {sli : ℕ} (task : QueueTask sli) : Type 0 where
-  pub yard : KnowsSomeYard task.worker
-  pub fresh : (task.made.items ≡ []) × (task.entries.items ≡ [])
-  pub short : vec_len task.script < 2 ^ 32
-  pub names : vec_len task.script ≤ vec_capacity task.made
-  pub room : vec_len task.script + task.limit + 1 ≤ vec_capacity task.entries
+-- so many posts may be taken: as many as a queue may hold, and one for each release of any script
+abbrev pub IsQueueLimit : List ℕ → List ℕ → Type 0
+IsQueueLimit releases limits = (slice_index limits 0 ≡ 1024 + sum_of releases) × (sum_of limits ≡ slice_index limits 0)
 
 -- worker a of n has made the calls of a script, and has become v
 pub record QueueRan {sli : ℕ} (n : ℕ) (a : Worker sli Queues) (script : List Call) (made : List (Option Name)) (entries : List Entry) (v : Worker sli Queues) : Type 0 where
-  pub limit : ℕ
-  pub left : ℕ
-  pub run : QueueScriptRun n a limit script made entries v left
+  pub limits : List ℕ
+  pub left : List ℕ
+  pub run : QueueScriptRun n a limits script made entries v left
 
 -- there is room for one entry more
 abbrev pub HasPlace : Vec Entry Global → Type 0
 HasPlace entries = vec_len entries < vec_capacity entries
-
--- what a thread that was given this task hands back
-pub record IsQueueDone {sli : ℕ} (task : QueueTask sli) (d : Done sli Queues) : Type 0 where
-  pub ran : (n : ℕ) → KnowsQueueYard n task.worker → QueueRan n task.worker task.script.items d.made.items d.entries.items d.worker
-  pub place : HasPlace d.entries
 
 -- ---- all workers
 
@@ -65,9 +56,9 @@ pub record DrainedLast {sli : ℕ} (n : ℕ) (a v : Worker sli Queues) (before a
   pub own : List Entry
   pub entries_are : after ≡ before ++ own
   pub told : (made : List (Option Name)) → MayTellQueue sli n (id_of a) (told_of made before (heap_of a)) last_call (told_of (made ++ None ∷ []) after (heap_of v))
-  pub limit : ℕ
-  pub left : ℕ
-  pub moved : (made : List (Option Name)) → QueueMoved (id_of a) made a limit (last_call ∷ []) own v left
+  pub limits : List ℕ
+  pub left : List ℕ
+  pub moved : (made : List (Option Name)) → QueueMoved (id_of a) made a limits (last_call ∷ []) own v left
   pub all : (i : ℕ) → IsPrefix (posts_of i (known_to a.ports.own)) (posts_of i (got_by v.ports.own))
   pub ends : queue_end_to v ≡ queue_end_to a
 

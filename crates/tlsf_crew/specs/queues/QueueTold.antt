@@ -11,7 +11,7 @@ use Rattle.tlsf_calls.specs.declared.crew_refusal.CrewRefusal.TheVariants.{Stran
 use Rattle.tlsf_calls.specs.declared.reply.Reply.{Reply}
 use Rattle.tlsf_calls.specs.declared.reply.Reply.TheVariants.{Took as Taken, Drained, Refused}
 use Rattle.tlsf_crew.specs.yard.Heaps.{released}
-use Rattle.tlsf_crew.specs.yard.Told.{Told, MayTell}
+use Rattle.tlsf_crew.specs.yard.Told.{Told, AllTold, MayTell}
 
 -- a post of another of n workers
 abbrev pub IsOfOther : ℕ → ℕ → Post → Type 0
@@ -52,5 +52,4 @@ MayTellQueue sli n at s call t = MayTell sli n at s call t
 
 -- the calls of a script, one after another
 abbrev pub MayTellQueueAll : ℕ → ℕ → ℕ → Told → List Call → Told → Type 0
-MayTellQueueAll sli n at s [] t = t ≡ s
-MayTellQueueAll sli n at s (call ∷ calls) t = (u : Told) × MayTellQueue sli n at s call u × MayTellQueueAll sli n at u calls t
+MayTellQueueAll sli n at s calls t = AllTold (MayTellQueue sli n at) s calls t

@@ -1,7 +1,7 @@
 -- What a worker over queues shows besides: the end of its own queue, and its end of each other queue.
-use Rattle.std.specs.Prelude.{◌≡◌, ◌≢◌, ℕ, ◌<◌, ◌≤◌, [], ◌∷◌, ◌++◌, Option, Some, None, Result, slice_get, OnOk, IfErr, IfSome, IfNone, ⊤}
+use Rattle.std.specs.Prelude.{◌≡◌, ◌≢◌, ℕ, ◌<◌, ◌≤◌, List, [], ◌∷◌, ◌++◌, length, Option, Some, None, Result, slice_get, OnOk, IfErr, IfSome, IfNone, ⊤}
 use Rattle.tlsf_heap.specs.declared.name.Name.{Name}
-use Rattle.tlsf_post.specs.Mailboxes.{number_of, put_by, owner_of, out_of, got_by, IsOnlyPoster, HasFilled, KeepsPoster, KeepsOwner, IsAllTaken}
+use Rattle.tlsf_post.specs.Mailboxes.{number_of, put_by, plan_of, owner_of, out_of, got_by, IsOnlyPoster, HasFilled, PosterSaw, OwnerSaw, KeepsPoster, KeepsOwner, IsAllTaken}
 use Rattle.tlsf_post.specs.declared.post.Post.{Post}
 use Rattle.tlsf_post.specs.declared.poster_end.PosterEnd.{PosterEnd}
 use Rattle.tlsf_crew.specs.yard.Workers.{heap_of, id_of, slot_of, SameButPorts, KeepsHeap}
@@ -15,8 +15,11 @@ queue_to p j = slot_of (slice_get p.posts.items j)
 abbrev pub queue_end_to : {sli : ℕ} → Worker sli Queues → ℕ → Option PosterEnd
 queue_end_to a = queue_to a.ports
 
+abbrev pub ReachesQueue : Queues → ℕ → Type 0
+ReachesQueue p j = (end : PosterEnd) × (queue_to p j ≡ Some end)
+
 abbrev pub HasQueueEnd : {sli : ℕ} → Worker sli Queues → ℕ → Type 0
-HasQueueEnd a j = (p : PosterEnd) × (queue_end_to a j ≡ Some p)
+HasQueueEnd a = ReachesQueue a.ports
 
 -- the number is that of a worker of n other than this one
 abbrev pub IsOtherOf : ℕ → ℕ → ℕ → Type 0
@@ -56,7 +59,11 @@ pub record PutInto (p q : Queues) (j : ℕ) (name : Name) (answer : Result (Unit
   pub same : q.own ≡ p.own
   pub mailbox : KeepsPoster end new_end
   pub ok : OnOk answer (put_by new_end ≡ put_by end ++ record { from = number_of end; name = name } ∷ [])
+  -- no more posts waited with it than the queue holds, and it behind the others
+  pub waits : OnOk answer ((others : List Post) × PosterSaw new_end (others ++ record { from = number_of end; name = name } ∷ []))
   pub full : IfErr answer (λ back. (back ≡ name) × (put_by new_end ≡ put_by end))
+  -- so many posts waited as the queue holds, and where nobody else puts into it they were all this end's
+  pub was_full : IfErr answer (λ back. (waiting : List Post) × (length waiting ≡ (plan_of end).capacity) × PosterSaw end waiting)
   pub alone : IfErr answer (λ back. IsOnlyPoster end → HasFilled end)
 
 -- a name was put into the queue of the worker of its heap
@@ -72,6 +79,8 @@ pub record TookOut (p q : Queues) (answer : Option Post) : Type 0 where
   pub same : queue_to q ≡ queue_to p
   pub mailbox : KeepsOwner p.own q.own
   pub some : IfSome answer (λ post. got_by q.own ≡ got_by p.own ++ post ∷ [])
+  -- no more posts waited than the queue holds, and it before the others
+  pub waited : IfSome answer (λ post. (others : List Post) × OwnerSaw p.own (post ∷ others))
   pub from : IfSome answer (λ post. IsOtherOf (out_of p.own) (owner_of p.own) post.from)
   pub none : IfNone answer ((got_by q.own ≡ got_by p.own) × IsAllTaken q.own)
 

@@ -1,5 +1,5 @@
 -- What the thread of one worker is given, and what it promises of what it hands back.
-use Rattle.std.specs.Prelude.{◌≡◌, ℕ, ◌+◌, ◌^◌, ◌<◌, ◌≤◌, List, [], ◌++◌, length, slice_index, Option, Some, vec_len, vec_capacity}
+use Rattle.std.specs.Prelude.{◌≡◌, ℕ, ◌+◌, ◌^◌, ◌<◌, ◌≤◌, List, [], ◌++◌, length, Option, Some, vec_len, vec_capacity}
 use mathlib.Core.List.{IsPrefix}
 use Rattle.tlsf_post.specs.declared.post_end.PostEnd.{PostEnd}
 use Rattle.tlsf_post.specs.declared.take_end.TakeEnd.{TakeEnd}
@@ -12,23 +12,35 @@ use Rattle.tlsf_calls.specs.declared.call.Call.{Call}
 use Rattle.tlsf_calls.specs.declared.call.Call.TheVariants.{Take, Drain}
 use Rattle.tlsf_calls.specs.declared.reply.Reply.TheVariants.{Empty, Drained, Refused}
 use Rattle.tlsf_calls.specs.declared.crew_refusal.CrewRefusal.TheVariants.{Full}
-use Rattle.tlsf_crew.specs.yard.Workers.{heap_of, id_of, id_and_capacity, end_to, end_from, KnowsYard}
+use Rattle.tlsf_crew.specs.yard.Workers.{heap_of, id_of, id_and_capacity, end_to, end_from}
 use Rattle.tlsf_crew.specs.yard.Calls.{KeepsYards}
 use Rattle.tlsf_crew.specs.yard.Counts.{sum_below, sum_of, releases_of}
 use Rattle.tlsf_crew.specs.yard.History.{posts_made, posts_taken, StandsBehind}
-use Rattle.tlsf_crew.specs.yard.Told.{untold, MayTellAll}
+use Rattle.tlsf_crew.specs.yard.Scripts.{ScriptRun}
+use Rattle.tlsf_crew.specs.yard.Told.{Told, untold, MayTellAll}
 use Rattle.tlsf_crew.specs.declared.threads.job.Job.{Job}
 use Rattle.tlsf_crew.specs.declared.threads.done.Done.{Done}
 
--- a job is ready to run: nothing is recorded, and there is room for an entry of each call and for one of each post that may be
--- taken, which are no fewer than those that are known to be ready
-pub record IsReady {sli : ℕ} (job : Job sli) : Type 0 where
-  pub yard : KnowsYard job.count job.worker
+-- the worker is one of some count
+abbrev pub KnowsSome : {sli : ℕ} {P : Type 0} → (ℕ → Worker sli P → Type 0) → Worker sli P → Type 0
+KnowsSome knows a = (n : ℕ) × knows n a
+
+-- a job is ready to run: its worker is one of some yard, nothing is recorded, and there is room for an entry of each call and for one of each
+-- post that may be taken
+pub record IsReady {sli : ℕ} {P : Type 0} (knows : ℕ → Worker sli P → Type 0) (job : Job sli P) : Type 0 where
+  pub yard : KnowsSome knows job.worker
   pub fresh : (job.made.items ≡ []) × (job.entries.items ≡ [])
   pub short : vec_len job.script < 2 ^ 32
   pub names : vec_len job.script ≤ vec_capacity job.made
-  pub limits : (i : ℕ) (t : TakeEnd) → end_from job.worker i ≡ Some t → length (ready t) ≤ slice_index job.limits i
   pub room : vec_len job.script + sum_of job.limits ≤ vec_capacity job.entries
+
+-- what a thread that was given this job hands back
+pub record IsDone {sli : ℕ} {P : Type 0} (knows : ℕ → Worker sli P → Type 0) (tells : ℕ → ℕ → Told → Call → Told → Type 0) (moves : ℕ → List (Option Name) → Worker sli P → List ℕ → List Call → List Entry → Worker sli P → List ℕ → Type 0) (job : Job sli P) (d : Done sli P) : Type 0 where
+  pub left : List ℕ
+  pub ran : (n : ℕ) → knows n job.worker → ScriptRun (tells n) moves job.worker job.limits job.script.items d.made.items d.entries.items d.worker left
+  pub room : vec_capacity d.entries ≡ vec_capacity job.entries
+
+-- ---- over lanes
 
 -- the end to j sent the posts that the entries tell
 pub record HasSent {sli : ℕ} (a v : Worker sli Lanes) (j : ℕ) (made : List (Option Name)) (entries : List Entry) (p : PostEnd) : Type 0 where
@@ -61,8 +73,3 @@ pub record Ran {sli : ℕ} (n : ℕ) (a : Worker sli Lanes) (script : List Call)
   -- how many there are
   pub few_posts : (j : ℕ) → length (posts_made (id_of a) j made entries) ≤ releases_of script
   pub few_entries : length entries ≤ length script + sum_below 8 (λ i. length (posts_taken i (id_of a) entries))
-
--- what a thread that was given this job hands back
-pub record IsDone {sli : ℕ} (job : Job sli) (d : Done sli Lanes) : Type 0 where
-  pub ran : Ran job.count job.worker job.script.items d.made.items d.entries.items d.worker
-  pub room : vec_capacity d.entries ≡ vec_capacity job.entries

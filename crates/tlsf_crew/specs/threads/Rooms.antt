@@ -16,3 +16,11 @@ record_room w scripts j = length (script_of scripts j) + sum_below 8 (λ i. leng
 -- each record has just that room
 abbrev pub HaveRecordRooms : {sli : ℕ} → World sli → List (List Call) → List (Vec Entry Global) → Type 0
 HaveRecordRooms w scripts records = (j : ℕ) (r : Vec Entry Global) → slice_get records j ≡ Some r → vec_capacity r ≡ record_room w scripts j
+
+-- over queues: one entry for each call of its script, one for each post that a queue may hold, one for each release of any script, whose
+-- post it may take, and one for its last drain
+abbrev pub queue_record_room : List (List Call) → ℕ → ℕ
+queue_record_room scripts j = length (script_of scripts j) + 1024 + sum_below 8 (λ i. releases_of (script_of scripts i)) + 1
+
+abbrev pub HaveQueueRecordRooms : List (List Call) → List (Vec Entry Global) → Type 0
+HaveQueueRecordRooms scripts records = (j : ℕ) (r : Vec Entry Global) → slice_get records j ≡ Some r → vec_capacity r ≡ queue_record_room scripts j

@@ -1,5 +1,5 @@
 -- How many entries events can make.
-use Rattle.std.specs.Prelude.{zero, suc, ℕ, ◌+◌, List, length, Option, Some, None, Bool, true, false, slice_index}
+use Rattle.std.specs.Prelude.{◌≡◌, ◌<◌, zero, suc, ℕ, ◌+◌, List, length, Option, Some, None, Bool, true, false, slice_index}
 use Rattle.std.specs.List.{count_by}
 use Rattle.tlsf_post.specs.declared.take_end.TakeEnd.{TakeEnd}
 use Rattle.tlsf_post.specs.Lanes.{ready}
@@ -8,7 +8,7 @@ use Rattle.tlsf_crew.specs.declared.yard.lanes.Lanes.{Lanes}
 use Rattle.tlsf_calls.specs.declared.call.Call.{Call}
 use Rattle.tlsf_calls.specs.declared.call.Call.TheVariants.{Allocate, Release, Write, Read, Resize, Take, Drain}
 use Rattle.tlsf_calls.specs.declared.event.Event.{Event}
-use Rattle.tlsf_crew.specs.yard.Workers.{end_from}
+use Rattle.tlsf_crew.specs.yard.Workers.{end_from, lane_from}
 use Rattle.tlsf_crew.specs.yard.Yard.{take_at}
 use Rattle.tlsf_crew.specs.yard.World.{World}
 
@@ -62,6 +62,10 @@ entry_room w es = length es + releases_in es + waiting_in w
 -- a sum over the workers
 abbrev pub sum_of : List ℕ → ℕ
 sum_of limits = sum_below 8 (slice_index limits)
+
+-- so many posts may be taken of each lane: those that are ready, and one for each release of its poster's script
+abbrev pub AreLaneLimits : Lanes → List ℕ → List ℕ → Type 0
+AreLaneLimits lanes releases limits = (i : ℕ) → i < 8 → slice_index limits i ≡ count_of (lane_from lanes i) + slice_index releases i
 
 -- how many calls of a script are releases
 abbrev pub releases_of : List Call → ℕ

@@ -1,5 +1,5 @@
 -- Runs in which a name is used only from the event that makes it to its release.
-use Rattle.std.specs.Prelude.{◌≡◌, ◌≢◌, ℕ, ◌<◌, ◌⊎◌, ⊤, List, [], ◌∷◌, ◌++◌, length, Option, Some, None, Err, All, Contains}
+use Rattle.std.specs.Prelude.{◌≡◌, ◌≢◌, ℕ, ◌<◌, ◌⊎◌, ⊤, List, [], ◌∷◌, ◌++◌, length, Option, Some, None, Ok, Err, All, Contains}
 use Rattle.tlsf_heap.specs.Laws.{IsLive}
 use Rattle.tlsf_heap.specs.declared.name.Name.{Name}
 use Rattle.tlsf_heap.specs.declared.refusal.Refusal.TheVariants.{Stale}
@@ -10,7 +10,8 @@ use Rattle.tlsf_calls.specs.declared.call.Call.TheVariants.{Allocate, Release, W
 use Rattle.tlsf_calls.specs.declared.target.Target.{Target}
 use Rattle.tlsf_calls.specs.declared.took.Took.{Took}
 use Rattle.tlsf_calls.specs.declared.reply.Reply.{Reply}
-use Rattle.tlsf_calls.specs.declared.reply.Reply.TheVariants.{Freed, Posted, Took as Taken, Refused}
+use Rattle.tlsf_calls.specs.declared.target.Target.TheVariants.{Made as MadeBy}
+use Rattle.tlsf_calls.specs.declared.reply.Reply.TheVariants.{Made, Freed, Posted, Took as Taken, Drained, Refused}
 use Rattle.tlsf_calls.specs.declared.crew_refusal.CrewRefusal.TheVariants.{Heap}
 use Rattle.tlsf_crew.specs.yard.World.{World, Replayed, heap_in, name_of, after, begun}
 
@@ -69,3 +70,15 @@ IsFair r gone (event ∷ events) = IsFairCall r gone event.call × IsFair (after
 pub record IsFairRun {sli : ℕ} (w : World sli) (events : List Event) : Type 0 where
   pub empty : NothingWaits w
   pub fair : IsFair (begun w) (λ name. ⊥) events
+
+-- such a run of two workers: one allocates, the other releases its block, and the first drains
+abbrev pub fair_events : List Event
+fair_events =
+    record { worker = 0; call = Allocate 8 } ∷ record { worker = 1; call = Release (MadeBy 0) } ∷ record { worker = 0; call = Drain 8 } ∷ []
+
+-- its block has the name 0.0.1; the drain takes that of worker 1, and the heap accepts the release
+abbrev pub fair_entries : List Entry
+fair_entries =
+    let name : Name = record { heap = 0; at = 0; serial = 1 } in
+    record { worker = 0; call = Allocate 8; reply = Made name } ∷ record { worker = 1; call = Release (MadeBy 0); reply = Posted }
+    ∷ record { worker = 0; call = Take 1; reply = Taken (record { from = 1; name = name; answer = Ok tt }) } ∷ record { worker = 0; call = Drain 8; reply = Drained 1 } ∷ []

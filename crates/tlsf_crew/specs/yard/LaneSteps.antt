@@ -61,20 +61,14 @@ pub record LaneChange {sli : ℕ} (ws vs : List (Worker sli Lanes)) (i j : ℕ) 
   pub lane : IsLane q u
   pub capacity : capacity_of q ≡ capacity_of p
 
--- the ends of the lanes from i to the workers below j have met, and all others are the same
-pub record RowMet {sli : ℕ} (ws vs : List (Worker sli Lanes)) (i j : ℕ) : Type 0 where
-  pub len : length vs ≡ length ws
-  pub done : (y : ℕ) → y < j → i ≢ y → MetIn ws vs i y
-  pub same : (x y : ℕ) → (x ≡ i → j ≤ y) → SameLane ws vs x y
-
--- the ends of the lanes from the workers below i have met, and all others are the same
-pub record EachRowMet {sli : ℕ} (ws vs : List (Worker sli Lanes)) (i : ℕ) : Type 0 where
-  pub len : length vs ≡ length ws
-  pub done : (x y : ℕ) → x < i → y < length ws → x ≢ y → MetIn ws vs x y
-  pub same : (x y : ℕ) → i ≤ x → SameLane ws vs x y
-
 -- the ends of the lanes to j from the workers below i have met, and all others are the same
 pub record ColumnMet {sli : ℕ} (ws vs : List (Worker sli Lanes)) (i j : ℕ) : Type 0 where
   pub len : length vs ≡ length ws
   pub done : (x : ℕ) → x < i → x ≢ j → MetIn ws vs x j
   pub same : (x y : ℕ) → (y ≡ j → i ≤ x) → SameLane ws vs x y
+
+-- the ends of the lanes to the workers below j have met, and all others are the same
+pub record EachColumnMet {sli : ℕ} (ws vs : List (Worker sli Lanes)) (j : ℕ) : Type 0 where
+  pub len : length vs ≡ length ws
+  pub done : (x y : ℕ) → y < j → x < length ws → x ≢ y → MetIn ws vs x y
+  pub same : (x y : ℕ) → j ≤ y → SameLane ws vs x y

@@ -191,12 +191,3 @@ pub record Stepped {sli : ℕ} (n : ℕ) (a : Worker sli Lanes) (limits : List �
   pub each : (most : ℕ) → call ≡ Drain most → (k : ℕ) → k < n → k ≢ id_of a
       → (sum_below (suc k) (λ i. length (posts_taken i (id_of a) own)) ≡ most) ⊎ Spent a limits (id_of a) k own
   pub moved : (rest : List (Option Name)) → Moved (id_of a) (made ++ rest) a limits (call ∷ []) (own ++ one (id_of a) call reply) v left
-
--- the call was made, and told in full
-pub record Called {sli : ℕ} (n : ℕ) (a : Worker sli Lanes) (limits : List ℕ) (call : Call) (made : List (Option Name)) (entries : List Entry) (v : Worker sli Lanes) (left : List ℕ) (more : List (Option Name)) (longer : List Entry) : Type 0 where
-  pub name : Option Name
-  pub made_are : more ≡ made ++ name ∷ []
-  pub own : List Entry
-  pub entries_are : longer ≡ entries ++ own
-  pub told : MayTell sli n (id_of a) (record { made = made; entries = entries; heap = heap_of a }) call (record { made = more; entries = longer; heap = heap_of v })
-  pub moved : (rest : List (Option Name)) → Moved (id_of a) (made ++ rest) a limits (call ∷ []) own v left

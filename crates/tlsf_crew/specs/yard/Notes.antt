@@ -8,7 +8,7 @@ use Rattle.tlsf_crew.specs.declared.worker.Worker.{Worker}
 use Rattle.tlsf_crew.specs.declared.yard.lanes.Lanes.{Lanes}
 use Rattle.tlsf_calls.specs.declared.call.Call.TheVariants.{Take}
 use Rattle.tlsf_calls.specs.declared.reply.Reply.TheVariants.{Took as Taken}
-use Rattle.tlsf_crew.specs.yard.Workers.{id_of, HasTake, SameButPorts, TookThrough, lane_places}
+use Rattle.tlsf_crew.specs.yard.Workers.{id_of, HearsLane, SameButPorts, TookThrough, lane_places}
 use Rattle.tlsf_crew.specs.yard.Calls.{TakenFrom}
 use Rattle.tlsf_crew.specs.yard.LaneTurns.{IsCountOf}
 use Rattle.tlsf_crew.specs.yard.Counts.{sum_of}
@@ -30,6 +30,24 @@ pub record SourceNoted {sli : ℕ} {P N : Type 0} (takes : P → P → ℕ → O
   pub turns : NotedInTurn takes noted a last x y source tooks
   pub end : SourceEnds takes stops admitted last v y source most (length tooks)
 
+-- the turn of one source: it is drained; where there is none of that number, nothing happens
+pub record TurnNoted {sli : ℕ} {P N : Type 0} (hears : P → ℕ → Type 0) (takes : P → P → ℕ → Option Post → Type 0) (stops : P → P → ℕ → Type 0) (noted : N → ℕ → ℕ → Took → N → Type 0) (admitted : N → ℕ → Type 0) (a v : Worker sli P) (x y : N) (source most : ℕ) (tooks : List Took) : Type 0 where
+  pub here : hears a.ports source → SourceNoted takes stops noted admitted a v x y source most tooks
+  pub nowhere : ¬ (hears a.ports source) → (tooks ≡ []) × (v ≡ a) × (y ≡ x)
+
+-- the turns of the sources below k, in rising order; each may take what `most` leaves
+abbrev pub EachNoted : {sli : ℕ} {P N : Type 0} → (P → ℕ → Type 0) → (P → P → ℕ → Option Post → Type 0) → (P → P → ℕ → Type 0) → (N → ℕ → ℕ → Took → N → Type 0) → (N → ℕ → Type 0) → Worker sli P → Worker sli P → N → N → ℕ → ℕ → List Took → Type 0
+EachNoted {sli} {P} {N} hears takes stops noted admitted a v x y most zero tooks = (tooks ≡ []) × (v ≡ a) × (y ≡ x)
+EachNoted {sli} {P} {N} hears takes stops noted admitted a v x y most (suc k) tooks =
+    (b : Worker sli P) × (z : N) × (before : List Took) × (here : List Took)
+    × (tooks ≡ before ++ here) × EachNoted hears takes stops noted admitted a b x z most k before × TurnNoted hears takes stops noted admitted b v z y k (most - length before) here
+
+-- a drain of all sources below k
+pub record AllNoted {sli : ℕ} {P N : Type 0} (hears : P → ℕ → Type 0) (takes : P → P → ℕ → Option Post → Type 0) (stops : P → P → ℕ → Type 0) (noted : N → ℕ → ℕ → Took → N → Type 0) (admitted : N → ℕ → Type 0) (a v : Worker sli P) (x y : N) (k most : ℕ) (answer : Drained) : Type 0 where
+  pub tooks : List Took
+  pub each : EachNoted hears takes stops noted admitted a v x y most k tooks
+  pub count : IsCountOf answer tooks
+
 -- ---- over lanes
 
 -- a drain leaves a lane at once where the notes admit no more
@@ -39,29 +57,19 @@ StopsAtLane p q from = q ≡ p
 abbrev pub LaneNoted : {sli : ℕ} {N : Type 0} → (N → ℕ → ℕ → Took → N → Type 0) → (N → ℕ → Type 0) → Worker sli Lanes → Worker sli Lanes → N → N → ℕ → ℕ → List Took → Type 0
 LaneNoted noted admitted a v x y from most tooks = SourceNoted TookThrough StopsAtLane noted admitted a v x y from most tooks
 
--- the turn of one worker: the lane from it is drained; where there is none, nothing happens
-pub record TurnNoted {sli : ℕ} {N : Type 0} (noted : N → ℕ → ℕ → Took → N → Type 0) (admitted : N → ℕ → Type 0) (a v : Worker sli Lanes) (x y : N) (from most : ℕ) (tooks : List Took) : Type 0 where
-  pub lane : HasTake a from → LaneNoted noted admitted a v x y from most tooks
-  pub nowhere : ¬ (HasTake a from) → (tooks ≡ []) × (v ≡ a) × (y ≡ x)
-
 -- the turns of the workers below k, in rising order; each may take what `most` leaves
 abbrev pub EachLaneNoted : {sli : ℕ} {N : Type 0} → (N → ℕ → ℕ → Took → N → Type 0) → (N → ℕ → Type 0) → Worker sli Lanes → Worker sli Lanes → N → N → ℕ → ℕ → List Took → Type 0
-EachLaneNoted {sli} noted admitted a v x y most zero tooks = (tooks ≡ []) × (v ≡ a) × (y ≡ x)
-EachLaneNoted {sli} {N} noted admitted a v x y most (suc k) tooks =
-    (b : Worker sli Lanes) × (z : N) × (before : List Took) × (here : List Took)
-    × (tooks ≡ before ++ here) × EachLaneNoted noted admitted a b x z most k before × TurnNoted noted admitted b v z y k (most - length before) here
+EachLaneNoted noted admitted a v x y most k tooks = EachNoted HearsLane TookThrough StopsAtLane noted admitted a v x y most k tooks
 
 -- a drain of all lanes
-pub record AllNoted {sli : ℕ} {N : Type 0} (noted : N → ℕ → ℕ → Took → N → Type 0) (admitted : N → ℕ → Type 0) (a v : Worker sli Lanes) (x y : N) (most : ℕ) (answer : Drained) : Type 0 where
-  pub tooks : List Took
-  pub lanes : EachLaneNoted noted admitted a v x y most (lane_places a) tooks
-  pub count : IsCountOf answer tooks
+abbrev pub AllLanesNoted : {sli : ℕ} {N : Type 0} → (N → ℕ → ℕ → Took → N → Type 0) → (N → ℕ → Type 0) → Worker sli Lanes → Worker sli Lanes → N → N → ℕ → Drained → Type 0
+AllLanesNoted noted admitted a v x y most answer = AllNoted HearsLane TookThrough StopsAtLane noted admitted a v x y (lane_places a) most answer
 
 -- ---- the notes of a journal
 
 -- one post more may be taken
 abbrev pub IsAdmitted : Journal → ℕ → Type 0
-IsAdmitted journal from = (from < 8) × (0 < slice_index journal.limits from)
+IsAdmitted journal source = (source < 8) × (0 < slice_index journal.limits source)
 
 -- there is room for an entry of each post that may be taken
 abbrev pub HasRoom : Journal → Type 0
@@ -71,9 +79,18 @@ HasRoom journal = vec_len journal.entries + sum_of journal.limits ≤ vec_capaci
 abbrev pub OneFewer : List ℕ → ℕ → List ℕ → Type 0
 OneFewer limits i left = (slice_index left i + 1 ≡ slice_index limits i) × ((k : ℕ) → k ≢ i → slice_index left k ≡ slice_index limits k)
 
--- the entry of the take stands behind the others
-pub record IsNoted (old : Journal) (at from : ℕ) (took : Took) (new : Journal) : Type 0 where
-  pub near : from < 8
-  pub fewer : OneFewer old.limits from new.limits
+-- the worker that the entry of a take names: the sender of its post, where a source is not one worker's
+abbrev pub named_by : Option ℕ → ℕ → ℕ
+named_by None source = source
+named_by (Some from) source = from
+
+-- the entry of the take, of a post of that worker, stands behind the others
+pub record IsEntered (old : Journal) (at source from : ℕ) (took : Took) (new : Journal) : Type 0 where
+  pub near : source < 8
+  pub fewer : OneFewer old.limits source new.limits
   pub entries : new.entries.items ≡ old.entries.items ++ record { worker = at; call = Take from; reply = Taken took } ∷ []
   pub capacity : vec_capacity new.entries ≡ vec_capacity old.entries
+
+-- over lanes the entry names the lane
+abbrev pub IsNoted : Journal → ℕ → ℕ → Took → Journal → Type 0
+IsNoted old at from took new = IsEntered old at from from took new

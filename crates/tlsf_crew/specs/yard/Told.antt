@@ -30,6 +30,9 @@ MayTell sli n at s call t =
     (w : World sli) × HasHeap w n at s.heap × (told_by at (called (record { made = s.made; entries = s.entries; world = w }) at call) ≡ t)
 
 -- the calls of a script, one after another
+abbrev pub AllTold : (Told → Call → Told → Type 0) → Told → List Call → Told → Type 0
+AllTold tells s [] t = t ≡ s
+AllTold tells s (call ∷ calls) t = (u : Told) × tells s call u × AllTold tells u calls t
+
 abbrev pub MayTellAll : ℕ → ℕ → ℕ → Told → List Call → Told → Type 0
-MayTellAll sli n at s [] t = t ≡ s
-MayTellAll sli n at s (call ∷ calls) t = (u : Told) × MayTell sli n at s call u × MayTellAll sli n at u calls t
+MayTellAll sli n at s calls t = AllTold (MayTell sli n at) s calls t

@@ -62,11 +62,17 @@ end_from a = lane_from a.ports
 abbrev pub lane_places : {sli : ℕ} → Worker sli Lanes → ℕ
 lane_places a = length a.ports.takes.items
 
+abbrev pub ReachesLane : Lanes → ℕ → Type 0
+ReachesLane p j = (end : PostEnd) × (lane_to p j ≡ Some end)
+
 abbrev pub HasPost : {sli : ℕ} → Worker sli Lanes → ℕ → Type 0
-HasPost a j = (p : PostEnd) × (end_to a j ≡ Some p)
+HasPost a = ReachesLane a.ports
+
+abbrev pub HearsLane : Lanes → ℕ → Type 0
+HearsLane p i = (t : TakeEnd) × (lane_from p i ≡ Some t)
 
 abbrev pub HasTake : {sli : ℕ} → Worker sli Lanes → ℕ → Type 0
-HasTake a i = (t : TakeEnd) × (end_from a i ≡ Some t)
+HasTake a = HearsLane a.ports
 
 -- the lanes q are p with the end to j after a put
 pub record PutThrough (p q : Lanes) (j : ℕ) (post : Post) (answer : Result (Unit {0}) Post) : Type 0 where

@@ -11,9 +11,8 @@ ghost use Rattle.tlsf_crew.specs.queues.QueueOpening.{AreFreshQueues, AreGiven, 
 
 use crate::queues::queues::{QueueWorker, Queues};
 use crate::worker::Worker;
-use crate::yard::opening::{MOST_CAPACITY, MOST_WORKERS, no_ends, open_heap};
+use crate::yard::opening::{check_sizes, no_ends, open_heap};
 use std::alloc::Global;
-use tlsf_class::most_words;
 use tlsf_heap::OpenFault;
 use tlsf_post::{NoMemory, OwnerEnd, PosterEnd, mailbox};
 
@@ -45,15 +44,7 @@ pub fn open_queue_yard<const SLI: u32>(
     ensures bad_size { IsErrOf result OpenFault.BadSize ↔ ¬ (AreSizes SLI n words capacity) }
     ensures never_worn { ¬ (IsErrOf result OpenFault.Worn) }
 {
-    if n < 1
-        || n > MOST_WORKERS
-        || words < 4
-        || words > most_words::<SLI>()
-        || capacity < 1
-        || capacity > MOST_CAPACITY
-    {
-        return Err(OpenFault::BadSize);
-    }
+    check_sizes::<SLI>(n, words, capacity)?;
     match open_queue_workers(alloc, n, words, capacity) {
         Ok(workers) => Ok(workers),
         Err(_) => Err(OpenFault::NoMemory),

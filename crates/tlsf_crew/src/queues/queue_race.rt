@@ -1,18 +1,25 @@
 //! Workers over queues that run their scripts at once.
-ghost use Rattle.std.specs.Prelude.{◌≡◌, ℕ, ◌+◌, ◌^◌, ◌<◌, ◌≤◌, [], length, map, vec_len, vec_capacity, IfOk, All};
+ghost use Rattle.std.specs.Prelude.{◌≡◌, ℕ, ◌+◌, ◌^◌, ◌<◌, ◌≤◌, List, Option, length, map, vec_len, vec_capacity, IfOk, All};
 ghost use Rattle.tlsf_crew.specs.queues.QueueYard.{IsQueueYard, queue_world_of};
 ghost use Rattle.tlsf_crew.specs.queues.QueueRace.{IsQueueRace};
-ghost use Rattle.tlsf_crew.specs.queues.QueueWorkers.{KnowsQueueYard};
+ghost use Rattle.tlsf_crew.specs.queues.QueueWorkers.{KnowsQueueYard, queue_end_to};
+ghost use Rattle.tlsf_crew.specs.queues.QueueMoves.{QueueStepped};
+ghost use Rattle.tlsf_crew.specs.yard.Counts.{sum_of};
+ghost use Rattle.tlsf_crew.specs.yard.Notes.{HasRoom};
+ghost use Rattle.tlsf_heap.specs.declared.name.Name.{Name};
+ghost use Rattle.tlsf_calls.specs.declared.call.Call.TheVariants.{Drain};
+ghost use Rattle.tlsf_crew.specs.threads.Parts.{KeepRooms};
+ghost use Rattle.tlsf_crew.specs.threads.Rooms.{HaveQueueRecordRooms};
 ghost use Rattle.tlsf_crew.specs.queues.QueueTasks.{DrainedLast, Finished, HasPlace, HaveQueuesRun, KnowsSomeYard, QueuesDrained};
 
-use crate::queues::queue_executor::drain_into_queue_journal;
-use crate::queues::queue_journal::QueueJournal;
-use crate::queues::queue_preparation::prepare_tasks;
 use crate::queues::queue_settle::settle_each_queue;
-use crate::queues::queues::QueueWorker;
+use crate::queues::queues::{QueueWorker, Queues};
 use crate::threads::fan_out::{run_all, take_apart};
 use crate::threads::gate::Gate;
 use crate::threads::outcome::{Outcome, QueueOutcome};
+use crate::threads::preparation::{count_all, prepare};
+use crate::worker::drain_source;
+use crate::yard::journal::Journal;
 use std::alloc::Global;
 use std::marker::Sync;
 use std::mem;
@@ -31,7 +38,10 @@ use tlsf_post::{NoMemory, PosterEnd};
 ///   its script, one after another, and to the last drain. What worker j took of worker i is what had waited of it,
 ///   and then what i was answered to have posted to j, in order and each once. Nothing waits in the end.
 ///
-/// All room is made before a thread starts. `NoMemory`, where a growth or the start of a thread was refused, gives no
+/// - `room`: all room is made before a thread starts. Each record has room for the calls of its script, for each post that its
+///   queue may hold, for each release of any script, and for the last drain.
+///
+/// `NoMemory`, where a growth or the start of a thread was refused, gives no
 /// outcome, and the workers are spent.
 ///
 /// ```
@@ -54,6 +64,7 @@ pub fn race_queues<const SLI: u32, R: Threads + Wait + Sync, G: Gate>(
     ensures race { IfOk result (λ o. IsQueueRace (queue_world_of workers.entry.items) (map (λ s. s.items) scripts.items)
         (map (λ r. r.items) o.records.items) (queue_world_of o.workers.items)) }
     ensures yard { IfOk result (λ o. IsQueueYard o.workers.items) }
+    ensures room { IfOk result (λ o. HaveQueueRecordRooms (map (λ s. s.items) scripts.items) o.records.items) }
 {
     let mut workers = workers;
     let mut posters = Vec::with_capacity(alloc, workers.len())?;
@@ -82,10 +93,12 @@ fn run_scripts<const SLI: u32, R: Threads + Wait + Sync, G: Gate>(
     requires short { All (λ s. vec_len s < 2 ^ 32) scripts.items }
     ensures run { IfOk result (λ o. HaveQueuesRun workers.entry.items (map (λ s. s.items) scripts.items) (map (λ r. r.items) o.records.items) o.workers.items) }
     ensures places { IfOk result (λ o. All HasPlace o.records.items) }
+    ensures rooms { IfOk result (λ o. HaveQueueRecordRooms (map (λ s. s.items) scripts.items) o.records.items) }
 {
-    let tasks = prepare_tasks(alloc, workers, scripts)?;
-    let mut outcome = Outcome::with_room(alloc, tasks.len())?;
-    let mut done = run_all(rt, alloc, tasks, gate)?;
+    let releases = count_all(&scripts);
+    let jobs = prepare::<SLI, R, Queues>(alloc, workers, scripts, &releases)?;
+    let mut outcome = Outcome::with_room(alloc, jobs.len())?;
+    let mut done = run_all(rt, alloc, jobs, gate)?;
     take_apart(&mut done, &mut outcome);
     Ok(outcome)
 }
@@ -102,7 +115,8 @@ fn finish<const SLI: u32, R: Wait>(
     requires count { length records.old ≡ length workers.old }
     requires places { All HasPlace records.old }
     requires room { length workers.old ≤ vec_capacity posters.old }
-    ensures { Finished workers.old (map (λ r. r.items) records.old) (map (λ r. r.items) records.new) workers.new }
+    ensures rooms { KeepRooms records.old records.new }
+    ensures finished { Finished workers.old (map (λ r. r.items) records.old) (map (λ r. r.items) records.new) workers.new }
 {
     settle_each_queue(workers, posters);
     drain_all(rt, alloc, workers, records);
@@ -119,7 +133,8 @@ fn drain_all<const SLI: u32, R: Wait>(
     requires yard { All KnowsSomeYard workers.old }
     requires count { length records.old ≡ length workers.old }
     requires places { All HasPlace records.old }
-    ensures { QueuesDrained workers.old (map (λ r. r.items) records.old) (map (λ r. r.items) records.new) workers.new (length workers.old) }
+    ensures rooms { KeepRooms records.old records.new }
+    ensures drained { QueuesDrained workers.old (map (λ r. r.items) records.old) (map (λ r. r.items) records.new) workers.new (length workers.old) }
 {
     for j in 0..workers.len() {
         drain_last(rt, alloc, &mut workers[j], &mut records[j]);
@@ -136,10 +151,11 @@ fn drain_last<const SLI: u32, R: Wait>(
 )
     requires yard { KnowsSomeYard worker.old }
     requires place { HasPlace entries.old }
-    ensures { (n : ℕ) → KnowsQueueYard n worker.old → DrainedLast n worker.old worker.new entries.old.items entries.new.items }
+    ensures drained { (n : ℕ) → KnowsQueueYard n worker.old → DrainedLast n worker.old worker.new entries.old.items entries.new.items }
+    ensures capacity { vec_capacity entries.new ≡ vec_capacity entries.old }
 {
-    let mut journal = QueueJournal {
-        limit: last_limit(entries),
+    let mut journal = Journal {
+        limits: [last_limit(entries), 0, 0, 0, 0, 0, 0, 0],
         entries: mem::replace(entries, Vec::new(alloc)),
     };
     let taken = drain_into_queue_journal(rt, worker, &mut journal, MOST_DRAINED);
@@ -151,16 +167,33 @@ fn drain_last<const SLI: u32, R: Wait>(
     *entries = journal.entries;
 }
 
+/// Takes from the own queue, each post with an entry, until `most` were taken or the queue is empty. Answers how many.
+fn drain_into_queue_journal<const SLI: u32, R: Wait>(
+    rt: &R,
+    worker: &mut QueueWorker<SLI>,
+    journal: &mut Journal,
+    most: u32,
+) -> u32
+    requires room { HasRoom journal.old }
+    ensures stepped { (n : ℕ) (made : List (Option Name)) → KnowsQueueYard n worker.old
+        → QueueStepped n worker.old journal.old.limits (Drain most) made journal.old.entries.items worker.new journal.new.limits journal.new.entries.items (Reply.Drained result) }
+    ensures few { result ≤ sum_of journal.old.limits }
+    ensures ends { (n : ℕ) → KnowsQueueYard n worker.old → queue_end_to worker.new ≡ queue_end_to worker.old }
+    ensures capacity { vec_capacity journal.new.entries ≡ vec_capacity journal.old.entries }
+{
+    drain_source(worker, rt, 0, most, journal).taken
+}
+
 /// How many posts a last drain may take: fewer than it asks for, so that it goes on until its queue is empty.
-fn last_limit(entries: &Vec<Entry>) -> usize
+fn last_limit(entries: &Vec<Entry>) -> u64
     requires { HasPlace entries.now }
     ensures few { result < 8192 }
     ensures room { vec_len entries.now + result + 1 ≤ vec_capacity entries.now }
 {
     let room = entries.capacity() - entries.len() - 1;
     if room < MOST_DRAINED as usize {
-        room
+        room as u64
     } else {
-        MOST_DRAINED as usize - 1
+        MOST_DRAINED as u64 - 1
     }
 }

@@ -1,16 +1,20 @@
 //! The queues of a worker, and what it does over them.
 ghost use Rattle.std.specs.Prelude.{◌≡◌, ◌≢◌, ◌+◌, ◌*◌, ◌≤◌, ⊤, Some, Err};
 ghost use Rattle.tlsf_heap.specs.declared.refusal.Refusal.TheVariants.{Foreign};
-ghost use Rattle.tlsf_post.specs.declared.poster_end.PosterEnd.{PosterEnd};
 ghost use Rattle.tlsf_crew.specs.yard.Workers.{heap_of, touches_of, id_of};
 ghost use Rattle.tlsf_crew.specs.yard.Calls.{PostedThere, ReleasedHere, ReleasedThere};
-ghost use Rattle.tlsf_crew.specs.queues.QueueWorkers.{queue_to, HasQueueEnd, KeepsQueueYards, PutsIntoQueue, TakesFromQueue};
+ghost use Rattle.tlsf_crew.specs.queues.QueueWorkers.{HasQueueEnd, KeepsQueueYards, KnowsQueueYard, ReachesQueue, PutsIntoQueue, TakesFromQueue};
 ghost use Rattle.tlsf_crew.specs.queues.QueueCalls.{TakenFromQueue, DrainedQueue};
+ghost use Rattle.tlsf_crew.specs.queues.QueueMoves.{QueueMoved, QueueStepped};
 ghost use Rattle.tlsf_crew.specs.queues.QueueNotes.{StopsAtQueue};
+ghost use Rattle.tlsf_crew.specs.queues.QueueTasks.{IsQueueLimit};
+ghost use Rattle.tlsf_crew.specs.queues.QueueTold.{MayTellQueue};
 
-use crate::ports::{Exchange, Ports};
+use crate::ports::{Exchange, Ports, has_end};
 use crate::worker::{Worker, drain_source, post, release, take_next};
 use crate::yard::notes::NoNotes;
+use crate::yard::opening::MOST_CAPACITY;
+use crate::yard::scripted::Scripted;
 use std::sync::Wait;
 use tlsf_calls::{CrewRefusal, Drained, Released, Took};
 use tlsf_heap::Name;
@@ -28,19 +32,32 @@ pub struct Queues {
 pub type QueueWorker<const SLI: u32> = Worker<SLI, Queues>;
 
 impl Ports for Queues {
-    ghost reaches = { λ queues j. (p : PosterEnd) × (queue_to queues j ≡ Some p) };
+    ghost reaches = { ReachesQueue };
 
     // The own queue is the one source, of number 0.
     ghost hears = { λ queues source. ⊤ };
 
+    ghost sources = { λ queues. 1 };
+
+    // The entry of a take names who posted.
+    ghost sent_by = { λ from. Some from };
+
     ghost keeps_yards = { λ sli a v. KeepsQueueYards a v };
 
     fn has_port(&self, j: usize) -> bool {
-        match self.posts.get(j) {
-            Some(Some(_)) => true,
-            Some(None) => false,
-            None => false,
-        }
+        has_end(&self.posts, j)
+    }
+
+    fn source_count(&self) -> usize {
+        1
+    }
+
+    fn has_source(&self, _source: usize) -> bool {
+        true
+    }
+
+    fn sender(from: u32) -> Option<u32> {
+        Some(from)
     }
 
     fn heap_keeps() {}
@@ -70,13 +87,46 @@ impl<R: Wait> Exchange<R> for Queues {
     }
 }
 
+impl<R: Wait> Scripted<R> for Queues {
+    ghost knows = { λ sli n a. KnowsQueueYard n a };
+
+    ghost tells = { MayTellQueue };
+
+    ghost moves = { λ sli at made a limits calls entries v left. QueueMoved at made a limits calls entries v left };
+
+    ghost steps = { λ sli n a limits call made entries v left longer reply. QueueStepped n a limits call made entries v left longer reply };
+
+    ghost limited = { λ queues releases limits. IsQueueLimit releases limits };
+
+    /// As many as the queue holds, and one for each release of any script: no more can come.
+    fn limits(&self, releases: &[u32; 8]) -> [u64; 8] {
+        let mut all = MOST_CAPACITY as u64;
+        for i in 0..8 {
+            all += releases[i] as u64;
+        }
+        [all, 0, 0, 0, 0, 0, 0, 0]
+    }
+
+    fn moves_join() {}
+
+    fn steps_tell() {}
+
+    fn own_replies_step() {}
+
+    fn releases_step() {}
+
+    fn takes_step() {}
+
+    fn drains_step() {}
+}
+
 impl<const SLI: u32> QueueWorker<SLI> {
     /// Posts the name of another worker's block into the queue of its owner, unread. It may spin while a post is half put
     /// or taken by another thread, and so needs `Wait`.
     ///
     /// - `own`: a name of the own heap is refused as `Foreign`, and nothing changes: see [`QueueWorker::free`].
-    /// - `there`: a name of another worker's heap is put into its queue, or given back as `Full` where that was full at
-    ///   one moment of the call.
+    /// - `there`: a name of another worker's heap is put into its queue, where no more posts wait then than it holds; or given
+    ///   back as `Full` where at one moment of the call so many waited as it holds.
     /// - `nowhere`: a name of no worker is a `Stranger`, and nothing changes.
     ///
     /// ```
@@ -121,7 +171,7 @@ impl<const SLI: u32> QueueWorker<SLI> {
     /// then, whatever the heap's answer. `None` comes where the queue was empty at one moment of the call. It may spin
     /// while a post is half put by another thread, and so needs `Wait`.
     ///
-    /// - `taken`: the own queue is asked for one post.
+    /// - `taken`: the own queue is asked for one post. Where it answers one, no more waited than the queue holds.
     /// - `touches`: at most 64 touches of the own heap's memory.
     ///
     /// ```

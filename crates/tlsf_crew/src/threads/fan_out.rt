@@ -8,14 +8,14 @@ use crate::threads::outcome::Outcome;
 use crate::threads::work::Work;
 use crate::threads::work_promise::WorkPromise;
 use std::alloc::{AllocError, Global};
-use std::marker::{Send, Sync};
+use std::marker::{PhantomData, Send, Sync};
 use std::snapshot::Snapshot;
 use std::sync::Wait;
 use std::thread;
 use std::thread::{Scope, Threads};
 
 /// Does each job in a thread of its own: the last one's starts first, and is joined last.
-fn fan_out<'s, E, R: Threads + Wait + Sync, W: Work + Send + Drop + 's, G: Gate + Sync>(
+fn fan_out<'s, E, R: Threads + Wait + Sync, W: Work<R> + Send + Drop + 's, G: Gate + Sync>(
     rt: &'s R,
     scope: &Scope<'s, E>,
     jobs: &mut Vec<W>,
@@ -33,8 +33,9 @@ where
     let Some(job) = jobs.pop() else {
         return Ok(());
     };
-    let promise = WorkPromise {
+    let promise: WorkPromise<R, W> = WorkPromise {
         work: Snapshot::of(&job),
+        with: PhantomData,
     };
     let child = scope.spawn_with(
         promise,
@@ -50,7 +51,7 @@ where
 
 /// Does each job in a thread of its own, and waits for all. The room for what they hand back is made before a thread
 /// starts.
-pub(crate) fn run_all<R: Threads + Wait + Sync, W: Work + Send + Drop, G: Gate + Sync>(
+pub(crate) fn run_all<R: Threads + Wait + Sync, W: Work<R> + Send + Drop, G: Gate + Sync>(
     rt: &R,
     alloc: Global,
     jobs: Vec<W>,

@@ -7,37 +7,35 @@ use crate::worker::Worker;
 use crate::yard::executor::run_call;
 use crate::yard::journal::Journal;
 use crate::yard::lanes::Lanes;
-use std::sync::Wait;
+use crate::yard::scripted::Scripted;
 use tlsf_calls::{Call, Entry};
 use tlsf_heap::Name;
 
 /// What the thread of one worker of a race is given.
 #[derive(Drop)]
-pub(crate) struct Job<const SLI: u32> {
-    pub(crate) worker: Worker<SLI>,
-    // How many workers race, 1 to 8.
-    pub(crate) count: u32,
+pub(crate) struct Job<const SLI: u32, P = Lanes> {
+    pub(crate) worker: Worker<SLI, P>,
     pub(crate) script: Vec<Call>,
-    // How many posts it may take from each other worker.
-    pub(crate) limits: [u32; 8],
+    // How many posts it may take of each source.
+    pub(crate) limits: [u64; 8],
     // The names that its calls make, with the room for them.
     pub(crate) made: Vec<Option<Name>>,
     // Its record, with the room for it.
     pub(crate) entries: Vec<Entry>,
 }
 
-impl<const SLI: u32> Work for Job<SLI> {
-    type Done = Done<SLI, Lanes>;
+impl<const SLI: u32, R, P: Scripted<R>> Work<R> for Job<SLI, P> {
+    type Done = Done<SLI, P>;
 
-    ghost is_ready = { λ job. IsReady job };
+    ghost is_ready = { λ job. IsReady (P.knows SLI) job };
 
-    ghost is_done = { λ job done. IsDone job done };
+    ghost is_done = { λ job done. IsDone (P.knows SLI) (P.tells SLI) (P.moves SLI) job done };
 
     /// Runs the script. The gate is passed before each call, and once after the last.
-    fn run<R: Wait, G: Gate>(self, _rt: &R, gate: &G) -> Done<SLI, Lanes> {
+    fn run<G: Gate>(self, rt: &R, gate: &G) -> Done<SLI, P> {
+        P::moves_join();
         let Job {
             mut worker,
-            count,
             script,
             limits,
             mut made,
@@ -47,7 +45,7 @@ impl<const SLI: u32> Work for Job<SLI> {
         let mut index = 0;
         for call in script.iter() {
             gate.pass(worker.id, index);
-            run_call(&mut worker, count, &mut journal, *call, &mut made);
+            run_call(&mut worker, rt, &mut journal, *call, &mut made);
             index += 1;
         }
         gate.pass(worker.id, index);

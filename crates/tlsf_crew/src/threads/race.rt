@@ -1,9 +1,8 @@
 //! Workers that run their scripts at once.
-ghost use Rattle.std.specs.Prelude.{◌≡◌, ℕ, ◌+◌, ◌^◌, ◌<◌, ◌≤◌, List, [], ◌∷◌, ◌++◌, length, map, Option, Some, None, slice_get, vec_len, vec_capacity, IfOk, All};
+ghost use Rattle.std.specs.Prelude.{◌≡◌, ℕ, ◌+◌, ◌^◌, ◌<◌, List, [], ◌∷◌, ◌++◌, length, map, Option, None, vec_len, vec_capacity, IfOk, All};
 ghost use Rattle.tlsf_heap.specs.declared.name.Name.{Name};
 ghost use Rattle.tlsf_crew.specs.yard.Yard.{IsYard};
 ghost use Rattle.tlsf_crew.specs.yard.World.{world_of, called};
-ghost use Rattle.tlsf_crew.specs.yard.Counts.{sum_below};
 ghost use Rattle.tlsf_crew.specs.yard.ReplaySteps.{replay_of};
 ghost use Rattle.tlsf_crew.specs.threads.Race.{last_call, IsRace};
 ghost use Rattle.tlsf_crew.specs.threads.Rooms.{HaveRecordRooms};
@@ -15,6 +14,7 @@ use crate::threads::outcome::Outcome;
 use crate::threads::preparation::{count_all, prepare};
 use crate::worker::Worker;
 use crate::yard::journal::Journal;
+use crate::yard::lanes::Lanes;
 use crate::yard::replay::reply_in_yard;
 use crate::yard::settle::settle;
 use std::alloc::Global;
@@ -86,7 +86,7 @@ fn run_scripts<const SLI: u32, R: Threads + Wait + Sync, G: Gate>(
     ensures rooms { IfOk result (λ o. HaveRooms workers.entry.items (map (λ s. s.items) scripts.items) o.records.items) }
 {
     let releases = count_all(&scripts);
-    let jobs = prepare(alloc, workers, scripts, &releases)?;
+    let jobs = prepare::<SLI, R, Lanes>(alloc, workers, scripts, &releases)?;
     let mut outcome = Outcome::with_room(alloc, jobs.len())?;
     let mut done = run_all(rt, alloc, jobs, gate)?;
     take_apart(&mut done, &mut outcome);

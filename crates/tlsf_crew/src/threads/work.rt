@@ -1,12 +1,11 @@
 use crate::threads::gate::Gate;
-use std::sync::Wait;
 
-/// A job that a thread of its own does.
+/// A job that a thread of its own does, with a runtime of this type.
 ///
 /// The code that starts and joins the threads knows of its jobs no more than this, so that another kind of job can use
 /// it. That code has type parameters alone, since a function with a const parameter gets no proof of a call of
 /// `thread::scope`.
-pub(crate) trait Work {
+pub(crate) trait Work<R> {
     /// What the job hands back.
     type Done;
 
@@ -17,7 +16,7 @@ pub(crate) trait Work {
     ghost is_done: { Self → Self.Done → Type 0 };
 
     /// Does the job in this thread. The jobs that are done at once pass the same gate.
-    fn run<R: Wait, G: Gate>(self, rt: &R, gate: &G) -> Self::Done
+    fn run<G: Gate>(self, rt: &R, gate: &G) -> Self::Done
         requires { is_ready self }
         ensures { is_done self result };
 }

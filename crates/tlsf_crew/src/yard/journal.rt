@@ -1,17 +1,17 @@
 //! The record of a worker, while it is written.
-ghost use Rattle.std.specs.Prelude.{◌≡◌, ◌+◌, ◌≤◌, ◌<◌, [], vec_len, vec_capacity, IfOk};
-ghost use Rattle.tlsf_crew.specs.yard.Notes.{IsAdmitted, HasRoom, IsNoted};
+ghost use Rattle.std.specs.Prelude.{◌≡◌, ◌<◌, [], vec_capacity, IfOk};
+ghost use Rattle.tlsf_crew.specs.yard.Notes.{IsAdmitted, HasRoom, IsEntered, named_by};
 
 use crate::yard::notes::Notes;
 use std::alloc::Global;
 use tlsf_calls::{Call, Entry, Reply, Took};
 use tlsf_post::NoMemory;
 
-/// The entries of a worker's calls, and how many posts these may still take from each other worker: so many that the
-/// entries have room for.
+/// The entries of a worker's calls, and how many posts these may still take from each source: so many that the entries
+/// have room for.
 #[derive(Drop)]
 pub(crate) struct Journal {
-    pub(crate) limits: [u32; 8],
+    pub(crate) limits: [u64; 8],
     pub(crate) entries: Vec<Entry>,
 }
 
@@ -30,25 +30,31 @@ impl Journal {
 }
 
 impl Notes for Journal {
-    ghost admitted = { λ journal from. IsAdmitted journal from };
+    ghost admitted = { λ journal source. IsAdmitted journal source };
 
     ghost has_room = { λ journal. HasRoom journal };
 
-    ghost noted = { λ old at from took new. IsNoted old at from took new };
+    ghost most = { λ journal. vec_capacity journal.entries };
 
-    fn admits(&self, from: usize) -> bool {
-        match self.limits.get(from) {
+    ghost noted = { λ old at source sender took new. IsEntered old at source (named_by sender source) took new };
+
+    fn admits(&self, source: usize) -> bool {
+        match self.limits.get(source) {
             Some(limit) => *limit > 0,
             None => false,
         }
     }
 
     /// Adds the entry of the take, and counts the limit down.
-    fn note(&mut self, at: u32, from: usize, took: Took) {
-        self.limits[from] -= 1;
+    fn note(&mut self, at: u32, source: usize, sender: Option<u32>, took: Took) {
+        self.limits[source] -= 1;
+        let from = match sender {
+            Some(from) => from,
+            None => source as u32,
+        };
         self.entries.push_reserved(Entry {
             worker: at,
-            call: Call::Take { from: from as u32 },
+            call: Call::Take { from },
             reply: Reply::Took(took),
         });
     }

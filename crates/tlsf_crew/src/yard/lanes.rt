@@ -1,16 +1,19 @@
 //! The lanes of a worker, and what it does over them.
-ghost use Rattle.std.specs.Prelude.{◌≡◌, ◌≢◌, ℕ, ◌+◌, ◌*◌, ◌≤◌, Option, true, false, Some, Ok, Err};
-ghost use Rattle.tlsf_post.specs.declared.post_end.PostEnd.{PostEnd};
-ghost use Rattle.tlsf_post.specs.declared.take_end.TakeEnd.{TakeEnd};
+ghost use Rattle.std.specs.Prelude.{◌≡◌, ◌≢◌, ◌+◌, ◌*◌, ◌≤◌, length, Option, None, Some, Ok, Err};
 ghost use Rattle.tlsf_calls.specs.declared.took.Took.{Took};
-ghost use Rattle.tlsf_crew.specs.yard.Workers.{touches_of, id_of, lane_to, lane_from, HasPost, HasTake, TookThrough};
+ghost use Rattle.tlsf_crew.specs.yard.Workers.{touches_of, id_of, HasPost, HasTake, HearsLane, KnowsYard, ReachesLane, TookThrough};
 ghost use Rattle.tlsf_crew.specs.yard.Calls.{KeepsYards, PutsIntoLane, ReleasedHere, ReleasedThere, TakenFromLane};
 ghost use Rattle.tlsf_crew.specs.yard.LaneTurns.{DrainedAll};
-ghost use Rattle.tlsf_crew.specs.yard.Notes.{AllNoted, StopsAtLane};
+ghost use Rattle.tlsf_crew.specs.yard.Moves.{Moved, Stepped};
+ghost use Rattle.tlsf_crew.specs.yard.Notes.{StopsAtLane};
+ghost use Rattle.tlsf_crew.specs.yard.Counts.{AreLaneLimits};
+ghost use Rattle.tlsf_crew.specs.yard.Told.{MayTell};
 
-use crate::ports::{Exchange, Ports};
-use crate::worker::{Worker, drain_source, release, take_next};
-use crate::yard::notes::{NoNotes, Notes};
+use crate::ports::{Exchange, Ports, has_end};
+use crate::worker::{Worker, drain_each, release, take_next};
+use crate::yard::notes::NoNotes;
+use crate::yard::room::count_from;
+use crate::yard::scripted::Scripted;
 use tlsf_calls::{CrewRefusal, Drained, Released, Took};
 use tlsf_heap::Name;
 use tlsf_post::{Post, PostEnd, TakeEnd};
@@ -26,44 +29,45 @@ pub struct Lanes {
     pub(crate) takes: Vec<Option<TakeEnd>>,
 }
 
-/// Whether there is a lane from worker i.
-fn has_take(lanes: &Lanes, i: usize) -> bool
-    ensures yes { result ≡ true → (t : TakeEnd) × (lane_from lanes.now i ≡ Some t) }
-    ensures no { result ≡ false → ¬ ((t : TakeEnd) × (lane_from lanes.now i ≡ Some t)) }
-{
-    match lanes.takes.get(i) {
-        Some(Some(_)) => true,
-        Some(None) => false,
-        None => false,
-    }
-}
-
 impl Ports for Lanes {
-    ghost reaches = { λ lanes j. (p : PostEnd) × (lane_to lanes j ≡ Some p) };
+    ghost reaches = { ReachesLane };
 
-    ghost hears = { λ lanes i. (t : TakeEnd) × (lane_from lanes i ≡ Some t) };
+    ghost hears = { HearsLane };
+
+    ghost sources = { λ lanes. length lanes.takes.items };
+
+    // The entry of a take names its lane.
+    ghost sent_by = { λ from. None };
 
     ghost keeps_yards = { λ sli a v. KeepsYards a v };
 
     fn has_port(&self, j: usize) -> bool {
-        match self.posts.get(j) {
-            Some(Some(_)) => true,
-            Some(None) => false,
-            None => false,
-        }
+        has_end(&self.posts, j)
+    }
+
+    fn source_count(&self) -> usize {
+        self.takes.len()
+    }
+
+    fn has_source(&self, source: usize) -> bool {
+        has_end(&self.takes, source)
+    }
+
+    fn sender(_from: u32) -> Option<u32> {
+        None
     }
 
     fn heap_keeps() {}
 }
 
-impl Exchange<()> for Lanes {
+impl<C> Exchange<C> for Lanes {
     ghost puts = { PutsIntoLane };
 
     ghost takes = { λ p q from answer. TookThrough p q from answer };
 
     ghost stops = { StopsAtLane };
 
-    fn put(&mut self, _context: &(), from: u32, name: Name) -> Result<(), Name> {
+    fn put(&mut self, _context: &C, from: u32, name: Name) -> Result<(), Name> {
         let Some(end) = self.posts[name.heap as usize].as_mut() else {
             unreachable!()
         };
@@ -73,7 +77,7 @@ impl Exchange<()> for Lanes {
         }
     }
 
-    fn take(&mut self, _context: &(), source: usize) -> Option<Post> {
+    fn take(&mut self, _context: &C, source: usize) -> Option<Post> {
         let Some(end) = self.takes[source].as_mut() else {
             unreachable!()
         };
@@ -81,31 +85,40 @@ impl Exchange<()> for Lanes {
     }
 
     /// A drain leaves a lane at once.
-    fn stop(&mut self, _context: &(), _source: usize) {}
+    fn stop(&mut self, _context: &C, _source: usize) {}
 }
 
-/// Takes from all lanes, in the rising order of their numbers, and notes each take.
-pub(crate) fn drain_noting<const SLI: u32, N: Notes>(
-    worker: &mut Worker<SLI>,
-    most: u32,
-    notes: &mut N,
-) -> Drained
-    requires room { N.has_room notes.old }
-    ensures drained { AllNoted N.noted N.admitted worker.old worker.new notes.old notes.new most result }
-    ensures most { result.taken ≤ most }
-    ensures freed { result.freed ≤ result.taken }
-    ensures touches { touches_of worker.new ≤ touches_of worker.old + 64 * result.taken }
-    ensures touches_rise { touches_of worker.old ≤ touches_of worker.new }
-{
-    let mut drained = Drained { taken: 0, freed: 0 };
-    for from in 0..worker.ports.takes.len() {
-        if has_take(&worker.ports, from) {
-            let here = drain_source(worker, &(), from, most - drained.taken, notes);
-            drained.taken += here.taken;
-            drained.freed += here.freed;
+impl<C> Scripted<C> for Lanes {
+    ghost knows = { λ sli n a. KnowsYard n a };
+
+    ghost tells = { MayTell };
+
+    ghost moves = { λ sli at made a limits calls entries v left. Moved at made a limits calls entries v left };
+
+    ghost steps = { λ sli n a limits call made entries v left longer reply. Stepped n a limits call made entries v left longer reply };
+
+    ghost limited = { AreLaneLimits };
+
+    /// Those that are ready in a lane, and one for each release of its poster's script.
+    fn limits(&self, releases: &[u32; 8]) -> [u64; 8] {
+        let mut limits = [0; 8];
+        for i in 0..8 {
+            limits[i] = count_from(self, i) as u64 + releases[i] as u64;
         }
+        limits
     }
-    drained
+
+    fn moves_join() {}
+
+    fn steps_tell() {}
+
+    fn own_replies_step() {}
+
+    fn releases_step() {}
+
+    fn takes_step() {}
+
+    fn drains_step() {}
 }
 
 impl<const SLI: u32> Worker<SLI> {
@@ -151,7 +164,7 @@ impl<const SLI: u32> Worker<SLI> {
         ensures touches { touches_of self.new ≤ touches_of self.old + 64 }
         ensures touches_rise { touches_of self.old ≤ touches_of self.new }
     {
-        if !has_take(&self.ports, from as usize) {
+        if !self.ports.has_source(from as usize) {
             return Err(CrewRefusal::Stranger);
         }
         Ok(take_next(self, &(), from as usize))
@@ -177,6 +190,6 @@ impl<const SLI: u32> Worker<SLI> {
         ensures touches { touches_of self.new ≤ touches_of self.old + 64 * result.taken }
         ensures touches_rise { touches_of self.old ≤ touches_of self.new }
     {
-        drain_noting(self, most, &mut NoNotes)
+        drain_each(self, &(), most, &mut NoNotes)
     }
 }

@@ -1,5 +1,5 @@
 //! Where a drain notes what it takes.
-ghost use Rattle.std.specs.Prelude.{◌≡◌, ℕ, ⊤, true, false};
+ghost use Rattle.std.specs.Prelude.{◌≡◌, ℕ, Option, ⊤, true, false};
 ghost use Rattle.tlsf_calls.specs.declared.took.Took.{Took};
 
 use tlsf_calls::Took;
@@ -12,20 +12,24 @@ pub(crate) trait Notes {
     // There is room for a note of each post that may be taken.
     ghost has_room: { Self → Type 0 };
 
-    // The notes after the worker of a number took a post from a source.
-    ghost noted: { Self → ℕ → ℕ → Took → Self → Type 0 };
+    // How many notes there is room for in all.
+    ghost most: { Self → ℕ };
+
+    // The notes after the worker of a number took a post from a source, of this sender where a source is not one worker's.
+    ghost noted: { Self → ℕ → ℕ → Option ℕ → Took → Self → Type 0 };
 
     /// Whether one more post may be taken from that source.
     fn admits(&self, source: usize) -> bool
         ensures yes { result ≡ true → admitted self.now source }
         ensures no { result ≡ false → ¬ (admitted self.now source) };
 
-    /// Notes what worker `at` took from a source.
-    fn note(&mut self, at: u32, source: usize, took: Took)
+    /// Notes what worker `at` took from a source, of this sender where a source is not one worker's.
+    fn note(&mut self, at: u32, source: usize, sender: Option<u32>, took: Took)
         requires admitted { admitted self.old source }
         requires room { has_room self.old }
-        ensures noted { noted self.old at source took self.new }
-        ensures room { has_room self.new };
+        ensures noted { noted self.old at source sender took self.new }
+        ensures room { has_room self.new }
+        ensures most { most self.new ≡ most self.old };
 }
 
 /// No notes: each post is admitted, and none is noted.
@@ -37,11 +41,13 @@ impl Notes for NoNotes {
 
     ghost has_room = { λ notes. ⊤ };
 
-    ghost noted = { λ old at source took new. ⊤ };
+    ghost most = { λ notes. 0 };
+
+    ghost noted = { λ old at source sender took new. ⊤ };
 
     fn admits(&self, _source: usize) -> bool {
         true
     }
 
-    fn note(&mut self, _at: u32, _source: usize, _took: Took) {}
+    fn note(&mut self, _at: u32, _source: usize, _sender: Option<u32>, _took: Took) {}
 }

@@ -49,6 +49,20 @@ pub fn open_yard<const SLI: u32>(
     ensures bad_size { IsErrOf result OpenFault.BadSize ↔ ¬ (AreSizes SLI n words capacity) }
     ensures never_worn { ¬ (IsErrOf result OpenFault.Worn) }
 {
+    check_sizes::<SLI>(n, words, capacity)?;
+    match open_workers(alloc, n, words, capacity) {
+        Ok(workers) => Ok(workers),
+        Err(_) => Err(OpenFault::NoMemory),
+    }
+}
+
+/// Refuses a yard of numbers out of their ranges.
+pub(crate) fn check_sizes<const SLI: u32>(n: u32, words: u32, capacity: u32) -> Result<(), OpenFault>
+    requires { IsLevel SLI }
+    ensures sizes { OnOk result (AreSizes SLI n words capacity) }
+    ensures bad_size { IsErrOf result OpenFault.BadSize ↔ ¬ (AreSizes SLI n words capacity) }
+    ensures never_worn { ¬ (IsErrOf result OpenFault.Worn) }
+{
     if n < 1
         || n > MOST_WORKERS
         || words < 4
@@ -58,10 +72,7 @@ pub fn open_yard<const SLI: u32>(
     {
         return Err(OpenFault::BadSize);
     }
-    match open_workers(alloc, n, words, capacity) {
-        Ok(workers) => Ok(workers),
-        Err(_) => Err(OpenFault::NoMemory),
-    }
+    Ok(())
 }
 
 fn open_workers<const SLI: u32>(

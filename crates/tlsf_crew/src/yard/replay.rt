@@ -54,7 +54,7 @@ fn settle_for<const SLI: u32>(
     workers: &mut [Worker<SLI>],
     event: Event,
     made: &[Option<Name>],
-) -> [u32; 8]
+) -> [u64; 8]
     requires yard { IsYard workers.old }
     requires inside { event.worker < length workers.old }
     ensures met { (i j : ℕ) → i < length workers.old → j < length workers.old → i ≢ j → Concerns made.now event i j → MetIn workers.old workers.new i j }
@@ -95,9 +95,8 @@ pub(crate) fn reply_in_yard<const SLI: u32>(
     ensures capacity { vec_capacity journal.new.entries ≡ vec_capacity journal.old.entries }
 {
     journal.limits = settle_for(workers, event, made);
-    let count = workers.len() as u32;
     let worker = &mut workers[event.worker as usize];
-    let reply = reply_to(worker, count, journal, event.call, made);
+    let reply = reply_to(worker, &(), journal, event.call, made);
     settle_for(workers, event, made);
     reply
 }

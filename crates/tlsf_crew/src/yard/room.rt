@@ -1,8 +1,10 @@
 //! Room for the entries of a replay, counted before it.
 ghost use Rattle.std.specs.Prelude.{◌≡◌, ℕ, ◌+◌, ◌*◌, ◌<◌, ◌≤◌, length, slice_index};
-ghost use Rattle.tlsf_crew.specs.yard.Counts.{sum_below, releases_in, ready_from, ready_in};
+ghost use Rattle.tlsf_crew.specs.yard.Counts.{count_of, sum_below, releases_in, ready_from, ready_in};
+ghost use Rattle.tlsf_crew.specs.yard.Workers.{lane_from};
 
 use crate::worker::Worker;
+use crate::yard::lanes::Lanes;
 use tlsf_calls::{Call, Event};
 
 /// Room for all entries that events can make: one for each event, one for each post that a release makes, and one for
@@ -45,16 +47,16 @@ fn count_for<const SLI: u32>(worker: &Worker<SLI>, n: usize) -> usize
 {
     let mut count = 0;
     for i in 0..n {
-        count += count_from(worker, i) as usize;
+        count += count_from(&worker.ports, i) as usize;
     }
     count
 }
 
-/// How many posts are ready for a worker from worker i.
-pub(crate) fn count_from<const SLI: u32>(worker: &Worker<SLI>, i: usize) -> u32
-    ensures { result ≡ ready_from worker.now i }
+/// How many posts are ready in the lane from worker i.
+pub(crate) fn count_from(lanes: &Lanes, i: usize) -> u32
+    ensures { result ≡ count_of (lane_from lanes.now i) }
 {
-    match worker.ports.takes.get(i) {
+    match lanes.takes.get(i) {
         Some(Some(end)) => end.count_ready(),
         Some(None) => 0,
         None => 0,
@@ -62,12 +64,12 @@ pub(crate) fn count_from<const SLI: u32>(worker: &Worker<SLI>, i: usize) -> u32
 }
 
 /// How many posts are ready for a worker from each other one.
-pub(crate) fn count_each<const SLI: u32>(worker: &Worker<SLI>) -> [u32; 8]
+pub(crate) fn count_each<const SLI: u32>(worker: &Worker<SLI>) -> [u64; 8]
     ensures { (i : ℕ) → i < 8 → slice_index result i ≡ ready_from worker.now i }
 {
     let mut counts = [0; 8];
     for i in 0..8 {
-        counts[i] = count_from(worker, i);
+        counts[i] = count_from(&worker.ports, i) as u64;
     }
     counts
 }

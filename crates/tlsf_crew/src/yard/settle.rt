@@ -1,8 +1,8 @@
 ghost use Rattle.std.specs.Prelude.{◌≡◌, ◌≢◌, ℕ, ◌<◌, length};
 ghost use Rattle.tlsf_crew.specs.yard.Yard.{IsYard};
 ghost use Rattle.tlsf_crew.specs.yard.World.{world_of};
-ghost use Rattle.tlsf_crew.specs.yard.Settle.{HaveMet, MetIn};
-ghost use Rattle.tlsf_crew.specs.yard.LaneSteps.{RowMet};
+ghost use Rattle.tlsf_crew.specs.yard.Settle.{HaveMet};
+ghost use Rattle.tlsf_crew.specs.yard.LaneSteps.{ColumnMet};
 
 use crate::worker::Worker;
 use crate::yard::pairs::settle_lane;
@@ -26,23 +26,8 @@ pub fn settle<const SLI: u32>(workers: &mut [Worker<SLI>])
     ensures count { length workers.new ≡ length workers.old }
     ensures world { world_of workers.new ≡ world_of workers.old }
 {
-    for i in 0..workers.len() {
-        settle_row(workers, i);
-    }
-}
-
-/// Settles the lanes from one worker.
-fn settle_row<const SLI: u32>(workers: &mut [Worker<SLI>], i: usize)
-    requires yard { IsYard workers.old }
-    requires inside { i < length workers.old }
-    ensures met { RowMet workers.old workers.new i (length workers.old) }
-    ensures yard { IsYard workers.new }
-    ensures world { world_of workers.new ≡ world_of workers.old }
-{
     for j in 0..workers.len() {
-        if i != j {
-            settle_lane(workers, i, j);
-        }
+        settle_column(workers, j);
     }
 }
 
@@ -50,7 +35,7 @@ fn settle_row<const SLI: u32>(workers: &mut [Worker<SLI>], i: usize)
 pub(crate) fn settle_column<const SLI: u32>(workers: &mut [Worker<SLI>], j: usize)
     requires yard { IsYard workers.old }
     requires inside { j < length workers.old }
-    ensures met { (i : ℕ) → i < length workers.old → i ≢ j → MetIn workers.old workers.new i j }
+    ensures met { ColumnMet workers.old workers.new (length workers.old) j }
     ensures yard { IsYard workers.new }
     ensures count { length workers.new ≡ length workers.old }
     ensures world { world_of workers.new ≡ world_of workers.old }

@@ -1,5 +1,6 @@
 //! Races over queues.
 ghost use Rattle.std.specs.Prelude.{◌≡◌, ◌<◌, ◌^◌, length, vec_len, All, IfOk};
+ghost use Rattle.tlsf_crew.specs.queues.QueueOpening.{AreFreshQueues};
 ghost use Rattle.tlsf_crew.specs.queues.QueueYard.{IsQueueYard};
 
 use crate::tests::races::{
@@ -15,7 +16,7 @@ use std::sync::atomic::{AtomicU64, Ordering};
 use std::test::Fail;
 use std::thread::Threads;
 use tlsf_crew::{
-    Call, CrewRefusal, Entry, Gate, OpenGate, QueueWorker, Reply, open_queue_yard,
+    Call, CrewRefusal, Entry, Gate, OpenGate, QueueWorker, Reply, Took, open_queue_yard,
     queues_join_the_yard, race_queues, settle_queues,
 };
 use tlsf_fixtures::{name, same};
@@ -60,15 +61,43 @@ fn post_often<R: Abort + Wait>(
     Ok(workers)
 }
 
+/// Worker 1 of two posts a name into the new queue of worker 0, which takes it behind a settle. That its take answers no `None` is
+/// proved by what the settle tells, and by nothing else: without one the `unreachable` is refused.
+fn post_and_take<R: Wait>(
+    rt: &R,
+    alloc: Global,
+    workers: &mut [QueueWorker<4>],
+    name: Name,
+) -> Result<Took, Fail>
+    requires yard { IsQueueYard workers.old }
+    requires fresh { AreFreshQueues workers.old }
+    requires two { length workers.old ≡ 2 }
+    requires named { name.heap ≡ 0 }
+{
+    queues_join_the_yard();
+    workers[1].post(rt, name)?;
+    settle_queues(alloc, workers)?;
+    match workers[0].take(rt) {
+        Some(took) => Ok(took),
+        None => unreachable!(),
+    }
+}
+
 // What was posted before the queues were settled is taken behind it.
 #[test]
 fn settled_queues_are_taken_from(rt: HostRuntime) -> Result<(), Fail> {
-    let workers = yard_with_blocks(&rt, rt.alloc(), 2, 4, &[0])?;
-    let mut workers = post_often(&rt, workers, name(0, 0, 1), 1)?;
-    settle_queues(rt.alloc(), &mut workers)?;
+    let mut workers = open_queue_yard::<4>(rt.alloc(), 2, 64, 4)?;
+    assert!(rt; workers.len() == 2);
+    let posted = name(0, 0, 1);
+    let took = post_and_take(&rt, rt.alloc(), &mut workers, posted)?;
+    let wanted = Took {
+        from: 1,
+        name: posted,
+        answer: Err(Refusal::Stale),
+    };
+    same(took, wanted).expect(&rt, "differ");
     let owner = workers.first_mut().ok_or("two workers")?;
-    let found = (owner.take(&rt).is_some(), owner.take(&rt).is_some());
-    same(found, (true, false)).expect(&rt, "differ");
+    same(owner.take(&rt), None).expect(&rt, "differ");
     Ok(())
 }
 

@@ -13,6 +13,7 @@ use Rattle.tlsf_post.specs.Mailboxes.{got_by, known_to}
 use Rattle.tlsf_calls.specs.declared.entry.Entry.{Entry}
 use Rattle.tlsf_calls.specs.declared.reply.Reply.TheVariants.{Drained}
 use Rattle.tlsf_crew.specs.threads.Race.{last_call, record_of}
+use Rattle.tlsf_crew.specs.yard.Counts.{sum_of}
 use Rattle.tlsf_crew.specs.yard.History.{posts_taken, post_of_take}
 use Rattle.tlsf_crew.specs.declared.worker.Worker.{Worker}
 use Rattle.tlsf_crew.specs.declared.queues.queues.Queues.{Queues}
@@ -30,10 +31,10 @@ use Rattle.tlsf_crew.proofs.lemmas.queues.QueueYards.{all_kept}
 
 -- ---- one worker
 
-pub drained_last : {sli : ℕ} (n : ℕ) (a v : Worker sli Queues) (limit left at taken : ℕ) (entries between longer : List Entry) → taken ≤ limit → limit < 8192 → at ≡ id_of v
-    → ((made : List (Option Name)) → QueueStepped n a limit last_call made entries v left between (Drained taken)) → queue_end_to v ≡ queue_end_to a
+pub drained_last : {sli : ℕ} (n : ℕ) (a v : Worker sli Queues) (limits left : List ℕ) (at taken : ℕ) (entries between longer : List Entry) → taken ≤ sum_of limits → sum_of limits < 8192 → at ≡ id_of v
+    → ((made : List (Option Name)) → QueueStepped n a limits last_call made entries v left between (Drained taken)) → queue_end_to v ≡ queue_end_to a
     → longer ≡ between ++ record { worker = at; call = last_call; reply = Drained taken } ∷ [] → DrainedLast n a v entries longer
-drained_last n a v limit left at taken entries between longer few less is step ends more =
+drained_last n a v limits left at taken entries between longer few less is step ends more =
     let x = step [] in
     let m = x.moved [] in
     let id : at ≡ id_of a = is ∙ m.yard.number in
@@ -43,7 +44,7 @@ drained_last n a v limit left at taken entries between longer few less is step e
       own = x.own ++ z ∷ [];
       entries_are = g ∙ (ap (λ l. l ++ z ∷ []) x.entries_are ∙ append_assoc entries x.own (z ∷ []));
       told = λ made. let y = step made in rw g y.told;
-      limit = limit;
+      limits = limits;
       left = left;
       moved = λ made. x.moved made;
       all = λ i.

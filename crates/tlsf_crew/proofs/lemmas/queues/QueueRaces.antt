@@ -41,7 +41,7 @@ use Rattle.tlsf_crew.proofs.lemmas.yard.Slots.{some_same}
 use Rattle.tlsf_crew.proofs.lemmas.queues.QueueAgree.{all_taken, queue_drained_early, queue_nothing_waits, queue_posts_agree}
 use Rattle.tlsf_crew.proofs.lemmas.queues.QueueKept.{slot_kept}
 use Rattle.tlsf_crew.proofs.lemmas.queues.QueueOpened.{some_at}
-use Rattle.tlsf_crew.proofs.lemmas.queues.QueueRuns.{tell_queue_more}
+use Rattle.tlsf_crew.proofs.lemmas.threads.ScriptRuns.{tell_more}
 use Rattle.tlsf_crew.proofs.lemmas.queues.QueueSettled.{own_end}
 use Rattle.tlsf_crew.proofs.lemmas.queues.QueueTakes.{DrainTold, drain_entry, drain_unfilled, end_takes, no_more_posts, none_of_others}
 use Rattle.tlsf_crew.proofs.lemmas.queues.QueueYards.{all_kept}
@@ -443,7 +443,7 @@ way_legal {sli} n zs ws us ts j script made rs ss y =
     let first = heap_of_heap y.given y.start y.first.heap in
     let second = heap_of_heap y.ran y.met y.second.heap in
     let third = heap_of_heap y.empty y.back y.third.heap in
-    tell_queue_more sli n j (untold (heap_of y.given)) (told_of made rs (heap_of y.ran)) (told_of (made ++ None ∷ []) ss (heap_of y.back)) script last_call
+    tell_more (MayTellQueue sli n j) (untold (heap_of y.given)) (told_of made rs (heap_of y.ran)) (told_of (made ++ None ∷ []) ss (heap_of y.back)) script last_call
     (all_told_as sli n n (id_of y.start) j (heap_of y.start) (heap_of y.given) (heap_of y.ran) (heap_of y.ran) script made rs refl y.number first refl run.told)
     (last_told_as sli n (id_of y.met) j (heap_of y.met) (heap_of y.ran) (heap_of y.empty) (heap_of y.back) made (made ++ None ∷ []) rs ss y.later_number second (sym third) (y.last.told made))
 

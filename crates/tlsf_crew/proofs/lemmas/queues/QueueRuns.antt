@@ -1,7 +1,6 @@
--- The calls of a script over queues, one after another.
-use Rattle.std.proofs.Common.{[], ◌∷◌, ◌++◌, ◌≡◌, ℕ, ◌+◌, ◌<◌, ◌≤◌, List, Option, length, get_or, take, sym, ◌∙◌, ap, arith, refl, inl, inr, subst, append_assoc, append-nil, length-append}
+-- What calls over queues leave, one after another.
+use Rattle.std.proofs.Common.{[], ◌++◌, ◌≡◌, ℕ, ◌+◌, List, Option, length, sym, ◌∙◌, ap, arith, inl, inr, subst, append_assoc, append-nil, length-append}
 use mathlib.Core.List.{IsPrefix}
-use Rattle.std.proofs.lemmas.List.{take_more}
 use Rattle.tlsf_heap.specs.declared.name.Name.{Name}
 use Rattle.tlsf_post.specs.Rule.{posts_of}
 use Rattle.tlsf_post.specs.Mailboxes.{put_by, got_by, known_to}
@@ -11,24 +10,19 @@ use Rattle.tlsf_calls.specs.declared.entry.Entry.{Entry}
 use Rattle.tlsf_crew.specs.declared.worker.Worker.{Worker}
 use Rattle.tlsf_crew.specs.declared.queues.queues.Queues.{Queues}
 use Rattle.tlsf_crew.specs.yard.History.{posts_made, posts_taken}
-use Rattle.tlsf_crew.specs.yard.Told.{Told, untold}
-use Rattle.tlsf_crew.specs.yard.Workers.{heap_of, id_of}
+use Rattle.tlsf_crew.specs.yard.Workers.{id_of}
 use Rattle.tlsf_crew.specs.queues.QueueWorkers.{queue_end_to, KnowsQueueYard}
-use Rattle.tlsf_crew.specs.queues.QueueTold.{MayTellQueue, MayTellQueueAll}
-use Rattle.tlsf_crew.specs.queues.QueueMoves.{QueueCalled, QueueMoved, QueueScriptRun, told_of}
+use Rattle.tlsf_crew.specs.queues.QueueMoves.{QueueMoved}
+use Rattle.tlsf_crew.specs.yard.Scripts.{AreMoves}
 use Rattle.tlsf_crew.proofs.lemmas.yard.ManyEntries.{made_then, stands_split, taken_then}
 use Rattle.tlsf_crew.proofs.lemmas.yard.OneEntry.{no_entry}
 use Rattle.tlsf_crew.proofs.lemmas.queues.QueueKept.{keeps_all, keeps_then, knows_kept, slot_kept}
 use Rattle.tlsf_crew.proofs.lemmas.yard.Slots.{some_same}
 
-pub tell_queue_more : (sli : ℕ) (n at : ℕ) (s u t : Told) (calls : List Call) (call : Call) → MayTellQueueAll sli n at s calls u → MayTellQueue sli n at u call t → MayTellQueueAll sli n at s (calls ++ call ∷ []) t
-tell_queue_more sli n at s u t [] call all more = (t, subst (λ (x : Told). MayTellQueue sli n at x call t) all more, refl)
-tell_queue_more sli n at s u t (first ∷ calls) call all more = (all.0, all.1, tell_queue_more sli n at all.0 u t calls call all.2 more)
-
 -- ---- what calls leave
 
-queue_moved_none : {sli : ℕ} (at : ℕ) (made : List (Option Name)) (a : Worker sli Queues) (limit : ℕ) → QueueMoved at made a limit [] [] a limit
-queue_moved_none at made a limit = record {
+queue_moved_none : {sli : ℕ} (at : ℕ) (made : List (Option Name)) (a : Worker sli Queues) (limits : List ℕ) → QueueMoved at made a limits [] [] a limits
+queue_moved_none at made a limits = record {
   yard = keeps_all a;
   sent = λ j p q is_p is_q. ap put_by (some_same q p (sym is_q ∙ is_p)) ∙ sym (append-nil (put_by p));
   taken = λ i. sym (append-nil (posts_of i (got_by a.ports.own)));
@@ -37,9 +31,9 @@ queue_moved_none at made a limit = record {
   room = omega arith;
 }
 
-pub queue_moved_then : {sli : ℕ} (at : ℕ) (made : List (Option Name)) (a b v : Worker sli Queues) (limit mid left : ℕ) (calls ds : List Call) (xs ys : List Entry) → QueueMoved at made a limit calls xs b mid
-    → QueueMoved at made b mid ds ys v left → QueueMoved at made a limit (calls ++ ds) (xs ++ ys) v left
-queue_moved_then at made a b v limit mid left calls ds xs ys x y =
+pub queue_moved_then : {sli : ℕ} (at : ℕ) (made : List (Option Name)) (a b v : Worker sli Queues) (limits mid left : List ℕ) (calls ds : List Call) (xs ys : List Entry) → QueueMoved at made a limits calls xs b mid
+    → QueueMoved at made b mid ds ys v left → QueueMoved at made a limits (calls ++ ds) (xs ++ ys) v left
+queue_moved_then at made a b v limits mid left calls ds xs ys x y =
     let got_of : (i : ℕ) (zs : List Entry) → posts_of i (got_by b.ports.own) ++ posts_taken i at zs ≡ posts_of i (got_by a.ports.own) ++ posts_taken i at (xs ++ zs) =
     λ i zs. ap (λ l. l ++ posts_taken i at zs) (x.taken i)
     ∙ (append_assoc (posts_of i (got_by a.ports.own)) (posts_taken i at xs) (posts_taken i at zs) ∙ ap (λ l. posts_of i (got_by a.ports.own) ++ l) (sym (taken_then i at xs zs))) in
@@ -71,39 +65,11 @@ queue_moved_then at made a b v limit mid left calls ds xs ys x y =
       room = omega (arith, x.room, y.room, length-append xs ys, length-append calls ds);
     }
 
--- ---- a script
-
-pub queue_script_none : {sli : ℕ} (n : ℕ) (a : Worker sli Queues) (limit : ℕ) (made : List (Option Name)) (entries : List Entry) → made ≡ [] → entries ≡ [] → QueueScriptRun n a limit [] made entries a limit
-queue_script_none n a limit made entries e f = rw (e, f) (record { told = refl; names = refl; moved = λ rest. queue_moved_none (id_of a) rest a limit })
-
-queue_script_more : {sli : ℕ} (n : ℕ) (a b v : Worker sli Queues) (limit mid left : ℕ) (calls : List Call) (call : Call) (made more : List (Option Name)) (entries longer : List Entry) → QueueScriptRun n a limit calls made entries b mid
-    → QueueCalled n b mid call made entries v left more longer → QueueScriptRun n a limit (calls ++ call ∷ []) more longer v left
-queue_script_more {sli} n a b v limit mid left calls call made more entries longer x y =
-    let at = id_of a in
-    let m = x.moved [] in
-    let q : id_of b ≡ at = m.yard.number in
-    record {
-      told = tell_queue_more sli n at (untold (heap_of a)) _ _ calls call x.told
-          (subst (λ i. MayTellQueue sli n i (told_of made entries (heap_of b)) call (told_of more longer (heap_of v))) q y.told);
-      names = ap length y.made_are ∙ omega (arith, length-append made (y.name ∷ []), length-append calls (call ∷ []), x.names);
-      moved = λ rest.
-          let later = made ++ y.name ∷ rest in
-          let e : later ≡ more ++ rest = sym (append_assoc made (y.name ∷ []) rest) ∙ ap (λ l. l ++ rest) (sym y.made_are) in
-          let second : QueueMoved at later b mid (call ∷ []) y.own v left = subst (λ i. QueueMoved i later b mid (call ∷ []) y.own v left) q (y.moved (y.name ∷ rest)) in
-          let both = queue_moved_then at later a b v limit mid left calls (call ∷ []) entries y.own (x.moved (y.name ∷ rest)) second in
-          rw (← e, y.entries_are) both;
-    }
-
-pub queue_script_next : {sli : ℕ} (n : ℕ) (a b v : Worker sli Queues) (limit mid left : ℕ) (script : List Call) (k : ℕ) (d : Call) (made more : List (Option Name)) (entries longer : List Entry) → k < length script
-    → QueueScriptRun n a limit (take k script) made entries b mid → QueueCalled n b mid (get_or script k d) made entries v left more longer → QueueScriptRun n a limit (take (k + 1) script) more longer v left
-queue_script_next n a b v limit mid left script k d made more entries longer lt x y =
-    subst (λ calls. QueueScriptRun n a limit calls more longer v left) (sym (take_more script k d lt))
-    (queue_script_more n a b v limit mid left (take k script) (get_or script k d) made more entries longer x y)
-
-pub queue_script_room : {sli : ℕ} (n : ℕ) (a v : Worker sli Queues) (limit left : ℕ) (calls : List Call) (made : List (Option Name)) (entries : List Entry) → QueueScriptRun n a limit calls made entries v left
-    → length entries + left ≤ length calls + limit
-queue_script_room n a v limit left calls made entries x = let m = x.moved [] in m.room
-
-pub queue_script_knows : {sli : ℕ} (n : ℕ) (a v : Worker sli Queues) (limit left : ℕ) (calls : List Call) (made : List (Option Name)) (entries : List Entry) → QueueScriptRun n a limit calls made entries v left
-    → KnowsQueueYard n a → KnowsQueueYard n v
-queue_script_knows n a v limit left calls made entries x k = let m = x.moved [] in knows_kept n a v m.yard k
+pub queue_moves : {sli : ℕ} → AreMoves {sli = sli} {P = Queues} KnowsQueueYard QueueMoved
+queue_moves = record {
+  none = λ made a limits. queue_moved_none (id_of a) made a limits;
+  then = queue_moved_then;
+  number = λ at made a v limits left calls entries m. m.yard.number;
+  known = λ at made a v limits left calls entries m n k. knows_kept n a v m.yard k;
+  room = λ at made a v limits left calls entries m. m.room;
+}

@@ -1,12 +1,11 @@
 -- One call of a worker over queues, and the entries that tell of it.
-use Rattle.std.proofs.Common.{◌==◌, true, false, [], ◌∷◌, ◌++◌, ◌≡◌, ◌≢◌, ℕ, suc, ◌+◌, ◌<◌, ◌≤◌, List, Option, Some, None, Result, Ok, Err, All, length, sym, ◌∙◌, ap, arith, refl, inl, inr, ◌⊎◌, subst, append_assoc, append-nil, length-append}
+use Rattle.std.proofs.Common.{◌==◌, true, false, [], ◌∷◌, ◌++◌, ◌≡◌, ◌≢◌, ℕ, suc, ◌+◌, ◌-◌, ◌<◌, ◌≤◌, List, Option, Some, None, Result, Ok, Err, All, length, sym, ◌∙◌, ap, arith, refl, inl, inr, ◌⊎◌, subst, append_assoc, append-nil, length-append}
 use mathlib.Core.List.{IsPrefix}
 use Rattle.std.specs.List.{cons_option}
-use Rattle.std.specs.Prelude.{vec_capacity}
+use Rattle.std.specs.Prelude.{slice_index}
 use Rattle.std.proofs.lemmas.Bool.{cases_eq, cases_lt}
 use Rattle.std.proofs.lemmas.Bool.Decides.{nat_tests}
 use Rattle.std.proofs.lemmas.List.Elements.{All-nil, All-cons}
-use Rattle.tlsf_heap.specs.Lawful.{IsLawful}
 use Rattle.tlsf_heap.specs.Blocks.{HeapState}
 use Rattle.tlsf_heap.specs.Calls as heap
 use Rattle.tlsf_heap.specs.declared.name.Name.{Name}
@@ -22,7 +21,6 @@ use Rattle.tlsf_calls.specs.declared.chunk.Chunk.{Chunk}
 use Rattle.tlsf_calls.specs.declared.call.Call.TheVariants.{Allocate, Release, Write, Read, Resize, Take, Drain}
 use Rattle.tlsf_calls.specs.declared.entry.Entry.{Entry}
 use Rattle.tlsf_calls.specs.declared.target.Target.{Target}
-use Rattle.tlsf_calls.specs.declared.drained.Drained.{Drained as WasDrained}
 use Rattle.tlsf_calls.specs.declared.released.Released.{Released}
 use Rattle.tlsf_calls.specs.declared.took.Took.{Took}
 use Rattle.tlsf_calls.specs.declared.crew_refusal.CrewRefusal.{CrewRefusal}
@@ -31,20 +29,22 @@ use Rattle.tlsf_calls.specs.declared.reply.Reply.{Reply}
 use Rattle.tlsf_calls.specs.declared.reply.Reply.TheVariants.{Posted, Took as Taken, Drained, Refused}
 use Rattle.tlsf_crew.specs.yard.Heaps.{allocated, chunk_read, released, resized, written}
 use Rattle.tlsf_crew.specs.yard.OwnReplies.{own_allocating, own_freeing, own_reading, own_resizing, own_writing}
+use Rattle.tlsf_crew.specs.yard.Counts.{sum_of}
 use Rattle.tlsf_crew.specs.yard.History.{StandsBehind, posts_made, posts_taken, post_of_release, post_of_take}
 use Rattle.tlsf_crew.specs.yard.Told.{Told}
 use Rattle.tlsf_crew.specs.yard.World.{made_by, name_of, reply_freed, reply_got, reply_made, reply_resized, reply_wrote}
 use Rattle.tlsf_crew.specs.declared.worker.Worker.{Worker}
 use Rattle.tlsf_crew.specs.declared.queues.queues.Queues.{Queues}
-use Rattle.tlsf_crew.specs.declared.queues.queue_journal.QueueJournal.{QueueJournal}
+use Rattle.tlsf_crew.specs.declared.yard.journal.Journal.{Journal}
 use Rattle.tlsf_crew.specs.yard.Workers.{heap_of, id_of, SameButHeap, KeepsHeap}
 use Rattle.tlsf_crew.specs.yard.Calls.{AfterTake, ReleasedHere, ReleasedThere, posted_as, put_answer}
-use Rattle.tlsf_crew.specs.yard.Notes.{NotedInTurn}
-use Rattle.tlsf_crew.specs.queues.QueueWorkers.{queue_to, queue_end_to, PutsIntoQueue, TakesFromQueue, HasQueueEnd, IsOtherOf, KnowsQueueYard, KeepsQueueYards, PutToQueue, TookFromQueue}
+use Rattle.tlsf_crew.specs.yard.Notes.{EachNoted, NotedInTurn, IsAdmitted, OneFewer}
+use Rattle.tlsf_crew.specs.yard.Scripts.{IsRelease, reply_released}
+use Rattle.tlsf_crew.specs.queues.QueueWorkers.{queue_to, queue_end_to, ReachesQueue, PutsIntoQueue, TakesFromQueue, HasQueueEnd, IsOtherOf, KnowsQueueYard, KeepsQueueYards, PutToQueue, TookFromQueue}
 use Rattle.tlsf_crew.specs.queues.QueueCalls.{TakenFromQueue}
-use Rattle.tlsf_crew.specs.queues.QueueNotes.{QueueNoted, IsQueueAdmitted, IsQueueNoted}
+use Rattle.tlsf_crew.specs.queues.QueueNotes.{QueueNoted, IsQueueNoted, StopsAtQueue}
 use Rattle.tlsf_crew.specs.queues.QueueTold.{IsOfOther, MayTellQueue, take_entry, told_reply, told_take, told_takes}
-use Rattle.tlsf_crew.specs.queues.QueueMoves.{QueueMoved, QueueStepped, QueueCalled, entry_by, told_of}
+use Rattle.tlsf_crew.specs.queues.QueueMoves.{QueueMoved, QueueStepped, entry_by, told_of}
 use Rattle.tlsf_post.proofs.RuleSteps.{of_append}
 use Rattle.tlsf_crew.proofs.lemmas.yard.AllEntries.{more_knows}
 use Rattle.tlsf_crew.proofs.lemmas.yard.JoinedEntries.{IsNoPost, told_nothing, told_own}
@@ -52,8 +52,8 @@ use Rattle.tlsf_crew.proofs.lemmas.yard.LaneMoves.{posted_same, release_posts_el
 use Rattle.tlsf_crew.proofs.lemmas.yard.SameParts.{ports_heap}
 use Rattle.tlsf_crew.proofs.lemmas.yard.ManyEntries.{made_then, taken_then, stands_split}
 use Rattle.tlsf_crew.proofs.lemmas.yard.OneEntry.{no_entry, the_one, stands_last}
-use Rattle.tlsf_crew.proofs.lemmas.yard.OwnAnswers.{freed_reply, reply_released}
-use Rattle.tlsf_crew.proofs.lemmas.yard.OwnHeaps.{call_keeps, same_heap_keeps, allocate_keeps}
+use Rattle.tlsf_crew.proofs.lemmas.yard.OwnAnswers.{freed_reply}
+use Rattle.tlsf_crew.proofs.lemmas.yard.OwnHeaps.{call_keeps, same_heap_keeps}
 use Rattle.tlsf_crew.proofs.lemmas.yard.OwnReplied.{read_keeps, resize_keeps, write_keeps}
 use Rattle.tlsf_crew.proofs.lemmas.yard.Slots.{some_same}
 use Rattle.tlsf_crew.proofs.lemmas.queues.QueueDrains.{queue_ends}
@@ -81,9 +81,9 @@ no_takes i at e q = let n = q.posts [] in told_nothing (λ e. post_of_take i e.c
 same_end : {sli : ℕ} (a v : Worker sli Queues) (j : ℕ) (p q : PosterEnd) → queue_end_to v j ≡ queue_end_to a j → queue_end_to a j ≡ Some p → queue_end_to v j ≡ Some q → q ≡ p
 same_end a v j p q same is_p is_q = some_same q p (sym is_q ∙ (same ∙ is_p))
 
-quiet_moved : {sli : ℕ} (at : ℕ) (made : List (Option Name)) (a v : Worker sli Queues) (limit : ℕ) (call : Call) (e : Entry) → SameButHeap a v → KeepsHeap (heap_of a) (heap_of v) → IsQuiet e
-    → QueueMoved at made a limit (call ∷ []) (e ∷ []) v limit
-quiet_moved at made a v limit call e same kept quiet = record {
+quiet_moved : {sli : ℕ} (at : ℕ) (made : List (Option Name)) (a v : Worker sli Queues) (limits : List ℕ) (call : Call) (e : Entry) → SameButHeap a v → KeepsHeap (heap_of a) (heap_of v) → IsQuiet e
+    → QueueMoved at made a limits (call ∷ []) (e ∷ []) v limits
+quiet_moved at made a v limits call e same kept quiet = record {
   yard = keeps_heap a v same kept;
   sent = λ j p q is_p is_q. rw (no_posts at j made e quiet) (ap put_by (same_end a v j p q (λ t. queue_to (same.1 t) j) is_p is_q) ∙ sym (append-nil (put_by p)));
   taken = λ i. rw (no_takes i at e quiet) ((λ t. posts_of i (got_by (same.1 t).own)) ∙ sym (append-nil (posts_of i (got_by a.ports.own))));
@@ -92,15 +92,15 @@ quiet_moved at made a v limit call e same kept quiet = record {
   room = omega arith;
 }
 
-pub quiet_stepped : {sli : ℕ} (n : ℕ) (a v : Worker sli Queues) (limit : ℕ) (call : Call) (made : List (Option Name)) (entries : List Entry) (reply : Reply) → SameButHeap a v → KeepsHeap (heap_of a) (heap_of v)
+pub quiet_stepped : {sli : ℕ} (n : ℕ) (a v : Worker sli Queues) (limits : List ℕ) (call : Call) (made : List (Option Name)) (entries : List Entry) (reply : Reply) → SameButHeap a v → KeepsHeap (heap_of a) (heap_of v)
     → IsQuiet (entry_by (id_of a) call reply)
     → MayTellQueue sli n (id_of a) (told_of made entries (heap_of a)) call (told_of (made ++ made_by reply ∷ []) (entries ++ entry_by (id_of a) call reply ∷ []) (heap_of v))
-    → QueueStepped n a limit call made entries v limit entries reply
-quiet_stepped n a v limit call made entries reply same kept quiet told = record {
+    → QueueStepped n a limits call made entries v limits entries reply
+quiet_stepped n a v limits call made entries reply same kept quiet told = record {
   own = [];
   entries_are = sym (append-nil entries);
   told = told;
-  moved = λ rest. quiet_moved (id_of a) (made ++ rest) a v limit call (entry_by (id_of a) call reply) same kept quiet;
+  moved = λ rest. quiet_moved (id_of a) (made ++ rest) a v limits call (entry_by (id_of a) call reply) same kept quiet;
 }
 
 -- ---- a post
@@ -131,9 +131,9 @@ put_sent a v target name done made n k known put j p q is_p is_q =
       | inr e ↦ rw (release_posts_elsewhere at j made target name known e) (ap put_by (same_end a v j p q (put.1.others j e) is_p is_q) ∙ sym (append-nil (put_by p)))
     ]
 
-posted_moved : {sli : ℕ} (n : ℕ) (made : List (Option Name)) (a v : Worker sli Queues) (limit : ℕ) (target : Target) (name : Name) (done : Unit {0}) → KnowsQueueYard n a → name_of made target ≡ Some name
-    → PutToQueue a v name.heap name (Ok done) → QueueMoved (id_of a) made a limit (Release target ∷ []) (entry_by (id_of a) (Release target) Posted ∷ []) v limit
-posted_moved n made a v limit target name done k known put =
+posted_moved : {sli : ℕ} (n : ℕ) (made : List (Option Name)) (a v : Worker sli Queues) (limits : List ℕ) (target : Target) (name : Name) (done : Unit {0}) → KnowsQueueYard n a → name_of made target ≡ Some name
+    → PutToQueue a v name.heap name (Ok done) → QueueMoved (id_of a) made a limits (Release target ∷ []) (entry_by (id_of a) (Release target) Posted ∷ []) v limits
+posted_moved n made a v limits target name done k known put =
     let e = entry_by (id_of a) (Release target) Posted in
     record {
       yard = keeps_put a v name.heap name (Ok done) put;
@@ -145,9 +145,9 @@ posted_moved n made a v limit target name done k known put =
       room = omega arith;
     }
 
-full_moved : {sli : ℕ} (made : List (Option Name)) (a v : Worker sli Queues) (limit : ℕ) (target : Target) (name back : Name)
-    → PutToQueue a v name.heap name (Err back) → QueueMoved (id_of a) made a limit (Release target ∷ []) (entry_by (id_of a) (Release target) (Refused (Full name)) ∷ []) v limit
-full_moved made a v limit target name back put =
+full_moved : {sli : ℕ} (made : List (Option Name)) (a v : Worker sli Queues) (limits : List ℕ) (target : Target) (name back : Name)
+    → PutToQueue a v name.heap name (Err back) → QueueMoved (id_of a) made a limits (Release target ∷ []) (entry_by (id_of a) (Release target) (Refused (Full name)) ∷ []) v limits
+full_moved made a v limits target name back put =
     let e = entry_by (id_of a) (Release target) (Refused (Full name)) in
     record {
       yard = keeps_put a v name.heap name (Err back) put;
@@ -173,24 +173,24 @@ full_moved made a v limit target name back put =
       room = omega arith;
     }
 
-put_stepped : {sli : ℕ} (n : ℕ) (a v : Worker sli Queues) (limit : ℕ) (target : Target) (name : Name) (made : List (Option Name)) (entries : List Entry) (put : Result (Unit {0}) Name) → KnowsQueueYard n a
+put_stepped : {sli : ℕ} (n : ℕ) (a v : Worker sli Queues) (limits : List ℕ) (target : Target) (name : Name) (made : List (Option Name)) (entries : List Entry) (put : Result (Unit {0}) Name) → KnowsQueueYard n a
     → name_of made target ≡ Some name → name.heap ≢ id_of a → name.heap < n → PutToQueue a v name.heap name put
-    → QueueStepped n a limit (Release target) made entries v limit entries (reply_released (posted_as (put_answer name put)))
-put_stepped {sli} n a v limit target name made entries (Ok done) k known ne near put =
+    → QueueStepped n a limits (Release target) made entries v limits entries (reply_released (posted_as (put_answer name put)))
+put_stepped {sli} n a v limits target name made entries (Ok done) k known ne near put =
     let at = id_of a in
     record {
       own = [];
       entries_are = sym (append-nil entries);
       told = rw (ports_heap a v put.0) (posted_tells sli n at (heap_of a) made entries target name k.self known ne near);
-      moved = λ rest. posted_moved n (made ++ rest) a v limit target name done k (more_knows made rest target name known) put;
+      moved = λ rest. posted_moved n (made ++ rest) a v limits target name done k (more_knows made rest target name known) put;
     }
-put_stepped {sli} n a v limit target name made entries (Err back) k known ne near put =
+put_stepped {sli} n a v limits target name made entries (Err back) k known ne near put =
     let at = id_of a in
     record {
       own = [];
       entries_are = sym (append-nil entries);
       told = rw (ports_heap a v put.0) (full_tells sli n at (heap_of a) made entries target name k.self known ne near);
-      moved = λ rest. full_moved (made ++ rest) a v limit target name back put;
+      moved = λ rest. full_moved (made ++ rest) a v limits target name back put;
     }
 
 stranger_quiet : (at : ℕ) (target : Target) → IsQuiet (entry_by at (Release target) (Refused Stranger))
@@ -200,15 +200,15 @@ end_or : (o : Option PosterEnd) → ((p : PosterEnd) × (o ≡ Some p)) ⊎ ¬ (
 end_or None = inr (λ h. let e = h.1 in cc)
 end_or (Some p) = inl (p, refl)
 
-far_stepped : {sli : ℕ} (n : ℕ) (a : Worker sli Queues) (limit : ℕ) (target : Target) (name : Name) (made : List (Option Name)) (entries : List Entry) → KnowsQueueYard n a → name_of made target ≡ Some name
-    → name.heap ≢ id_of a → ¬ (HasQueueEnd a name.heap) → QueueStepped n a limit (Release target) made entries a limit entries (Refused Stranger)
-far_stepped {sli} n a limit target name made entries k known ne none =
+far_stepped : {sli : ℕ} (n : ℕ) (a : Worker sli Queues) (limits : List ℕ) (target : Target) (name : Name) (made : List (Option Name)) (entries : List Entry) → KnowsQueueYard n a → name_of made target ≡ Some name
+    → name.heap ≢ id_of a → ¬ (HasQueueEnd a name.heap) → QueueStepped n a limits (Release target) made entries a limits entries (Refused Stranger)
+far_stepped {sli} n a limits target name made entries k known ne none =
     let at = id_of a in
     let far : n ≤ name.heap = elim (cases_lt name.heap n) [
       | inl lt ↦ let known_end = k.to name.heap (lt, ne) in absurd (none (known_end.0, known_end.1))
       | inr ge ↦ ge
     ] in
-    quiet_stepped n a a limit (Release target) made entries (Refused Stranger) (refl, refl) (same_heap_keeps (heap_of a) (heap_of a) refl) (stranger_quiet at target)
+    quiet_stepped n a a limits (Release target) made entries (Refused Stranger) (refl, refl) (same_heap_keeps (heap_of a) (heap_of a) refl) (stranger_quiet at target)
     (far_tells sli n at (heap_of a) made entries target name k.self known ne far)
 
 -- ---- takes
@@ -267,8 +267,14 @@ take_tells i at took =
           told_nothing f at x this ∙ sym there
     ]
 
+-- a take counts the sum of the limits down
+fewer_sum : (limits left : List ℕ) → OneFewer limits 0 left → sum_of left + 1 ≡ sum_of limits
+fewer_sum limits left f =
+    let same : (k : ℕ) → 0 < k → slice_index left k ≡ slice_index limits k = λ k more. f.1 k (λ e. omega arith) in
+    omega (arith, f.0, same 1 (omega arith), same 2 (omega arith), same 3 (omega arith), same 4 (omega arith), same 5 (omega arith), same 6 (omega arith), same 7 (omega arith))
+
 -- the takes of a drain, one after another, by worker `at`, and what its journal notes of them
-record TakenAll {sli : ℕ} (n at : ℕ) (a v : Worker sli Queues) (x y : QueueJournal) (count : ℕ) : Type 0 where
+record TakenAll {sli : ℕ} (n at : ℕ) (a v : Worker sli Queues) (x y : Journal) (count : ℕ) : Type 0 where
   posts : List Post
   own : List Entry
   others : All (IsOfOther n at) posts
@@ -282,9 +288,9 @@ record TakenAll {sli : ℕ} (n at : ℕ) (a v : Worker sli Queues) (x y : QueueJ
   made_none : (j : ℕ) (made : List (Option Name)) → posts_made at j made own ≡ []
   no_drain : (before : List Entry) (e : Entry) (most : ℕ) → StandsBehind own before e → e.call ≡ Drain most → ⊥
   unfilled : (before : List Entry) (e : Entry) → StandsBehind own before e → IsNotFull e.reply
-  left : y.limit + length own ≡ x.limit
+  left : sum_of y.limits + length own ≡ sum_of x.limits
 
-taken_all : {sli : ℕ} (n at : ℕ) (a v : Worker sli Queues) (x y : QueueJournal) (tooks : List Took) → id_of a ≡ at → KnowsQueueYard n a → NotedInTurn TakesFromQueue IsQueueNoted a v x y 0 tooks → TakenAll n at a v x y (length tooks)
+taken_all : {sli : ℕ} (n at : ℕ) (a v : Worker sli Queues) (x y : Journal) (tooks : List Took) → id_of a ≡ at → KnowsQueueYard n a → NotedInTurn TakesFromQueue IsQueueNoted a v x y 0 tooks → TakenAll n at a v x y (length tooks)
 taken_all n at a v x y [] is k t =
     rw (t.0, t.1) (record {
       posts = [];
@@ -342,7 +348,7 @@ taken_all n at a v x y (took ∷ tooks) is k t =
         | inl w ↦ let o = the_one e before u w in let h = ap (λ (y : Entry). y.reply) (sym o.1) ∙ r in absurd cc
         | inr w ↦ rest.unfilled w.0 u w.2 name r
       ];
-      left = omega (arith, rest.left, noted.fewer);
+      left = omega (arith, rest.left, fewer_sum x.limits z.limits noted.fewer);
     }
 
 -- ---- the end of a drain
@@ -362,8 +368,8 @@ end_seen : {sli : ℕ} (a v : Worker sli Queues) (most count : ℕ) → ((count 
 end_seen a v most count (inl e) = rw e.1 (record { keeps = keeps_all a; heap = refl; got = refl; ends = refl; early = λ lt. absurd (omega (arith, e.0)) })
 end_seen a v most count (inr e) = let t = e.1 in none_by a t.between v t.post most count t.took t.then
 
-drained_queue_moved : {sli : ℕ} (n : ℕ) (a last v : Worker sli Queues) (x y : QueueJournal) (most count : ℕ) (made : List (Option Name)) → EndSeen last v most count
-    → (t : TakenAll n (id_of a) a last x y count) → QueueMoved (id_of a) made a x.limit (Drain most ∷ []) (t.own ++ entry_by (id_of a) (Drain most) (Drained count) ∷ []) v y.limit
+drained_queue_moved : {sli : ℕ} (n : ℕ) (a last v : Worker sli Queues) (x y : Journal) (most count : ℕ) (made : List (Option Name)) → EndSeen last v most count
+    → (t : TakenAll n (id_of a) a last x y count) → QueueMoved (id_of a) made a x.limits (Drain most ∷ []) (t.own ++ entry_by (id_of a) (Drain most) (Drained count) ∷ []) v y.limits
 drained_queue_moved n a last v x y most count made seen t =
     let at = id_of a in
     let z = entry_by at (Drain most) (Drained count) in
@@ -401,13 +407,13 @@ drained_queue_moved n a last v x y most count made seen t =
       room = omega (arith, length-append t.own (z ∷ []), t.left);
     }
 
-pub drain_stepped : {sli : ℕ} (n : ℕ) (a v : Worker sli Queues) (x y : QueueJournal) (most : ℕ) (made : List (Option Name)) (tooks : List Took) → KnowsQueueYard n a → QueueNoted IsQueueNoted IsQueueAdmitted a v x y most tooks
-    → QueueStepped n a x.limit (Drain most) made x.entries.items v y.limit y.entries.items (Drained (length tooks))
+pub drain_stepped : {sli : ℕ} (n : ℕ) (a v : Worker sli Queues) (x y : Journal) (most : ℕ) (made : List (Option Name)) (tooks : List Took) → KnowsQueueYard n a → QueueNoted IsQueueNoted IsAdmitted a v x y most tooks
+    → QueueStepped n a x.limits (Drain most) made x.entries.items v y.limits y.entries.items (Drained (length tooks))
 drain_stepped n a v x y most made tooks k noted =
     let at = id_of a in
     let count = length tooks in
     let t = taken_all n at a noted.last x y tooks refl k noted.turns in
-    let seen = end_seen noted.last v most count (queue_ends IsQueueAdmitted noted.last v y most count noted.end) in
+    let seen = end_seen noted.last v most count (queue_ends IsAdmitted noted.last v y most count noted.end) in
     let few : length t.posts ≤ most = elim noted.end [
       | inl e ↦ omega (arith, e.0, t.count_is.0)
       | inr e ↦ omega (arith, e.0, t.count_is.0)
@@ -428,27 +434,31 @@ drain_stepped n a v x y most made tooks k noted =
       moved = λ rest. drained_queue_moved n a noted.last v x y most count (made ++ rest) seen t;
     }
 
--- the room for entries stays
-turns_capacity : {sli : ℕ} (a v : Worker sli Queues) (x y : QueueJournal) (tooks : List Took) → NotedInTurn TakesFromQueue IsQueueNoted a v x y 0 tooks → vec_capacity y.entries ≡ vec_capacity x.entries
-turns_capacity a v x y [] t = ap (λ (z : QueueJournal). vec_capacity z.entries) t.1
-turns_capacity a v x y (took ∷ tooks) t = turns_capacity t.0 v t.1 y tooks t.4 ∙ (let noted = t.3 in noted.capacity)
+-- a drain of all sources is one of the own queue
+pub drained_once : {sli : ℕ} {N : Type 0} (hears : Queues → ℕ → Type 0) (noted : N → ℕ → ℕ → Took → N → Type 0) (admitted : N → ℕ → Type 0) (a v : Worker sli Queues) (x y : N) (most : ℕ) (tooks : List Took)
+    → ((p : Queues) → hears p 0) → EachNoted hears TakesFromQueue StopsAtQueue noted admitted a v x y most 1 tooks → QueueNoted noted admitted a v x y most tooks
+drained_once {sli} {N} hears noted admitted a v x y most tooks all l =
+    let none = l.5 in
+    let there = l.6.here (all l.0.ports) in
+    let m : most - length l.2 ≡ most = omega (arith, ap length none.0) in
+    let t : l.3 ≡ tooks = sym (l.4 ∙ ap (λ (before : List Took). before ++ l.3) none.0) in
+    subst (QueueNoted noted admitted a v x y most) t (subst (λ (k : ℕ). QueueNoted noted admitted a v x y k l.3) m
+    (subst (λ (z : N). QueueNoted noted admitted a v z y (most - length l.2) l.3) none.2
+    (subst (λ (b : Worker sli Queues). QueueNoted noted admitted b v l.1 y (most - length l.2) l.3) none.1 there)))
 
-pub drain_capacity : {sli : ℕ} (a v : Worker sli Queues) (x y : QueueJournal) (most : ℕ) (tooks : List Took) → QueueNoted IsQueueNoted IsQueueAdmitted a v x y most tooks → vec_capacity y.entries ≡ vec_capacity x.entries
-drain_capacity a v x y most tooks n = turns_capacity a n.last x y tooks n.turns
+-- each post that was taken counts the limits down
+turns_left : {sli : ℕ} (a v : Worker sli Queues) (x y : Journal) (tooks : List Took) → NotedInTurn TakesFromQueue IsQueueNoted a v x y 0 tooks → sum_of y.limits + length tooks ≡ sum_of x.limits
+turns_left a v x y [] t = omega (arith, ap (λ (z : Journal). sum_of z.limits) t.1)
+turns_left a v x y (took ∷ tooks) t = let noted = t.3 in let z = t.1 in omega (arith, turns_left t.0 v t.1 y tooks t.4, fewer_sum x.limits z.limits noted.fewer)
 
--- each post that was taken counts the limit down
-turns_left : {sli : ℕ} (a v : Worker sli Queues) (x y : QueueJournal) (tooks : List Took) → NotedInTurn TakesFromQueue IsQueueNoted a v x y 0 tooks → y.limit + length tooks ≡ x.limit
-turns_left a v x y [] t = omega (arith, ap (λ (z : QueueJournal). z.limit) t.1)
-turns_left a v x y (took ∷ tooks) t = let noted = t.3 in omega (arith, turns_left t.0 v t.1 y tooks t.4, noted.fewer)
-
-pub drain_few : {sli : ℕ} (a v : Worker sli Queues) (x y : QueueJournal) (most : ℕ) (tooks : List Took) → QueueNoted IsQueueNoted IsQueueAdmitted a v x y most tooks → length tooks ≤ x.limit
+pub drain_few : {sli : ℕ} (a v : Worker sli Queues) (x y : Journal) (most : ℕ) (tooks : List Took) → QueueNoted IsQueueNoted IsAdmitted a v x y most tooks → length tooks ≤ sum_of x.limits
 drain_few a v x y most tooks n = omega (arith, turns_left a n.last x y tooks n.turns)
 
 -- a drain leaves the ends to other queues
-pub drain_ends : {sli : ℕ} (n : ℕ) (a v : Worker sli Queues) (x y : QueueJournal) (most : ℕ) (tooks : List Took) → KnowsQueueYard n a → QueueNoted IsQueueNoted IsQueueAdmitted a v x y most tooks → queue_end_to v ≡ queue_end_to a
+pub drain_ends : {sli : ℕ} (n : ℕ) (a v : Worker sli Queues) (x y : Journal) (most : ℕ) (tooks : List Took) → KnowsQueueYard n a → QueueNoted IsQueueNoted IsAdmitted a v x y most tooks → queue_end_to v ≡ queue_end_to a
 drain_ends n a v x y most tooks k noted =
     let t = taken_all n (id_of a) a noted.last x y tooks refl k noted.turns in
-    let seen = end_seen noted.last v most (length tooks) (queue_ends IsQueueAdmitted noted.last v y most (length tooks) noted.end) in
+    let seen = end_seen noted.last v most (length tooks) (queue_ends IsAdmitted noted.last v y most (length tooks) noted.end) in
     seen.ends ∙ t.ends
 
 -- ---- calls on the own heap
@@ -497,32 +507,32 @@ read_quiet target from k at reply other = record { posts = λ made. record { mad
 resize_quiet : (target : Target) (len : ℕ) → IsOwnCall (Resize target len)
 resize_quiet target len at reply other = record { posts = λ made. record { made_none = λ j. refl; taken_none = λ i. refl }; drain = λ most k c r. cc; unfilled = other }
 
-pub allocate_stepped : {sli : ℕ} (n : ℕ) (a v : Worker sli Queues) (limit len : ℕ) (made : List (Option Name)) (entries : List Entry) (reply : Reply) → KnowsQueueYard n a → SameButHeap a v → KeepsQueueYards a v
-    → reply ≡ (own_allocating sli (heap_of a) len).reply → heap_of v ≡ (own_allocating sli (heap_of a) len).heap → QueueStepped n a limit (Allocate len) made entries v limit entries reply
+pub allocate_stepped : {sli : ℕ} (n : ℕ) (a v : Worker sli Queues) (limits : List ℕ) (len : ℕ) (made : List (Option Name)) (entries : List Entry) (reply : Reply) → KnowsQueueYard n a → SameButHeap a v → KeepsQueueYards a v
+    → reply ≡ (own_allocating sli (heap_of a) len).reply → heap_of v ≡ (own_allocating sli (heap_of a) len).heap → QueueStepped n a limits (Allocate len) made entries v limits entries reply
 unfolding allocated
-allocate_stepped {sli} n a v limit len made entries reply k same keeps e f =
-    quiet_stepped n a v limit (Allocate len) made entries reply same keeps.heap (allocate_quiet len (id_of a) reply (subst IsNotFull (sym e) (made_unfilled (allocated sli (heap_of a) len).answer)))
+allocate_stepped {sli} n a v limits len made entries reply k same keeps e f =
+    quiet_stepped n a v limits (Allocate len) made entries reply same keeps.heap (allocate_quiet len (id_of a) reply (subst IsNotFull (sym e) (made_unfilled (allocated sli (heap_of a) len).answer)))
     (allocate_tells sli made (heap_of a) (heap_of v) len reply e f n (id_of a) entries k.self)
 
-pub write_stepped : {sli : ℕ} (n : ℕ) (a v : Worker sli Queues) (limit : ℕ) (target : Target) (from : ℕ) (bytes : Chunk) (made : List (Option Name)) (entries : List Entry) (reply : Reply) → KnowsQueueYard n a → SameButHeap a v
+pub write_stepped : {sli : ℕ} (n : ℕ) (a v : Worker sli Queues) (limits : List ℕ) (target : Target) (from : ℕ) (bytes : Chunk) (made : List (Option Name)) (entries : List Entry) (reply : Reply) → KnowsQueueYard n a → SameButHeap a v
     → reply ≡ (own_writing (heap_of a) (name_of made target) from (bytes_of bytes)).reply → heap_of v ≡ (own_writing (heap_of a) (name_of made target) from (bytes_of bytes)).heap
-    → QueueStepped n a limit (Write target from bytes) made entries v limit entries reply
-write_stepped {sli} n a v limit target from bytes made entries reply k same e f =
-    quiet_stepped n a v limit (Write target from bytes) made entries reply same (write_keeps (heap_of a) (heap_of v) (name_of made target) from (bytes_of bytes) f) (write_quiet target from bytes (id_of a) reply (subst IsNotFull (sym e) (writing_unfilled (heap_of a) (name_of made target) from (bytes_of bytes))))
+    → QueueStepped n a limits (Write target from bytes) made entries v limits entries reply
+write_stepped {sli} n a v limits target from bytes made entries reply k same e f =
+    quiet_stepped n a v limits (Write target from bytes) made entries reply same (write_keeps (heap_of a) (heap_of v) (name_of made target) from (bytes_of bytes) f) (write_quiet target from bytes (id_of a) reply (subst IsNotFull (sym e) (writing_unfilled (heap_of a) (name_of made target) from (bytes_of bytes))))
     (write_tells sli made (heap_of a) (heap_of v) target from bytes reply e f n (id_of a) entries k.self)
 
-pub read_stepped : {sli : ℕ} (n : ℕ) (a v : Worker sli Queues) (limit : ℕ) (target : Target) (from k : ℕ) (made : List (Option Name)) (entries : List Entry) (reply : Reply) → KnowsQueueYard n a → SameButHeap a v
+pub read_stepped : {sli : ℕ} (n : ℕ) (a v : Worker sli Queues) (limits : List ℕ) (target : Target) (from k : ℕ) (made : List (Option Name)) (entries : List Entry) (reply : Reply) → KnowsQueueYard n a → SameButHeap a v
     → reply ≡ (own_reading (heap_of a) (name_of made target) from k).reply → heap_of v ≡ (own_reading (heap_of a) (name_of made target) from k).heap
-    → QueueStepped n a limit (Read target from k) made entries v limit entries reply
-read_stepped {sli} n a v limit target from k made entries reply knows same e f =
-    quiet_stepped n a v limit (Read target from k) made entries reply same (read_keeps (heap_of a) (heap_of v) (name_of made target) from k f) (read_quiet target from k (id_of a) reply (subst IsNotFull (sym e) (reading_unfilled (heap_of a) (name_of made target) from k)))
+    → QueueStepped n a limits (Read target from k) made entries v limits entries reply
+read_stepped {sli} n a v limits target from k made entries reply knows same e f =
+    quiet_stepped n a v limits (Read target from k) made entries reply same (read_keeps (heap_of a) (heap_of v) (name_of made target) from k f) (read_quiet target from k (id_of a) reply (subst IsNotFull (sym e) (reading_unfilled (heap_of a) (name_of made target) from k)))
     (read_tells sli made (heap_of a) (heap_of v) target from k reply e f n (id_of a) entries knows.self)
 
-pub resize_stepped : {sli : ℕ} (n : ℕ) (a v : Worker sli Queues) (limit : ℕ) (target : Target) (len : ℕ) (made : List (Option Name)) (entries : List Entry) (reply : Reply) → KnowsQueueYard n a → SameButHeap a v
+pub resize_stepped : {sli : ℕ} (n : ℕ) (a v : Worker sli Queues) (limits : List ℕ) (target : Target) (len : ℕ) (made : List (Option Name)) (entries : List Entry) (reply : Reply) → KnowsQueueYard n a → SameButHeap a v
     → reply ≡ (own_resizing (heap_of a) (name_of made target) len).reply → heap_of v ≡ (own_resizing (heap_of a) (name_of made target) len).heap
-    → QueueStepped n a limit (Resize target len) made entries v limit entries reply
-resize_stepped {sli} n a v limit target len made entries reply k same e f =
-    quiet_stepped n a v limit (Resize target len) made entries reply same (resize_keeps (heap_of a) (heap_of v) (name_of made target) len f) (resize_quiet target len (id_of a) reply (subst IsNotFull (sym e) (resizing_unfilled (heap_of a) (name_of made target) len)))
+    → QueueStepped n a limits (Resize target len) made entries v limits entries reply
+resize_stepped {sli} n a v limits target len made entries reply k same e f =
+    quiet_stepped n a v limits (Resize target len) made entries reply same (resize_keeps (heap_of a) (heap_of v) (name_of made target) len f) (resize_quiet target len (id_of a) reply (subst IsNotFull (sym e) (resizing_unfilled (heap_of a) (name_of made target) len)))
     (resize_tells sli made (heap_of a) (heap_of v) target len reply e f n (id_of a) entries k.self)
 
 -- ---- a take, and releases of own names
@@ -530,94 +540,59 @@ resize_stepped {sli} n a v limit target len made entries reply k same e f =
 take_quiet : (at from : ℕ) → IsQuiet (entry_by at (Take from) (Refused Stranger))
 take_quiet at from = record { posts = λ made. record { made_none = λ j. refl; taken_none = λ i. refl }; drain = λ most k c r. cc; unfilled = λ name r. cc }
 
-pub take_stepped : {sli : ℕ} (n : ℕ) (a : Worker sli Queues) (limit from : ℕ) (made : List (Option Name)) (entries : List Entry) → QueueStepped n a limit (Take from) made entries a limit entries (Refused Stranger)
-take_stepped n a limit from made entries =
-    quiet_stepped n a a limit (Take from) made entries (Refused Stranger) (refl, refl) (same_heap_keeps (heap_of a) (heap_of a) refl) (take_quiet (id_of a) from) refl
+pub take_stepped : {sli : ℕ} (n : ℕ) (a : Worker sli Queues) (limits : List ℕ) (from : ℕ) (made : List (Option Name)) (entries : List Entry) → QueueStepped n a limits (Take from) made entries a limits entries (Refused Stranger)
+take_stepped n a limits from made entries =
+    quiet_stepped n a a limits (Take from) made entries (Refused Stranger) (refl, refl) (same_heap_keeps (heap_of a) (heap_of a) refl) (take_quiet (id_of a) from) refl
 
 unmade_quiet : (at : ℕ) (target : Target) → IsQuiet (entry_by at (Release target) (Refused Unmade))
 unmade_quiet at target = record { posts = λ made. record { made_none = λ j. refl; taken_none = λ i. refl }; drain = λ most k c r. cc; unfilled = λ name r. cc }
 
-pub unmade_stepped : {sli : ℕ} (n : ℕ) (a : Worker sli Queues) (limit : ℕ) (target : Target) (made : List (Option Name)) (entries : List Entry) → KnowsQueueYard n a → name_of made target ≡ None
-    → QueueStepped n a limit (Release target) made entries a limit entries (Refused Unmade)
-unmade_stepped {sli} n a limit target made entries k none =
-    quiet_stepped n a a limit (Release target) made entries (Refused Unmade) (refl, refl) (same_heap_keeps (heap_of a) (heap_of a) refl) (unmade_quiet (id_of a) target)
+pub unmade_stepped : {sli : ℕ} (n : ℕ) (a : Worker sli Queues) (limits : List ℕ) (target : Target) (made : List (Option Name)) (entries : List Entry) → KnowsQueueYard n a → name_of made target ≡ None
+    → QueueStepped n a limits (Release target) made entries a limits entries (Refused Unmade)
+unmade_stepped {sli} n a limits target made entries k none =
+    quiet_stepped n a a limits (Release target) made entries (Refused Unmade) (refl, refl) (same_heap_keeps (heap_of a) (heap_of a) refl) (unmade_quiet (id_of a) target)
     (unmade_tells sli n (id_of a) (heap_of a) made entries target k.self none)
 
 freed_quiet : (at : ℕ) (target : Target) (r : Result (Unit {0}) Refusal) → IsQuiet (entry_by at (Release target) (reply_freed r))
 freed_quiet at target (Ok done) = record { posts = λ made. record { made_none = λ j. refl; taken_none = λ i. refl }; drain = λ most k c r. cc; unfilled = λ name r. cc }
 freed_quiet at target (Err why) = record { posts = λ made. record { made_none = λ j. refl; taken_none = λ i. refl }; drain = λ most k c r. cc; unfilled = λ name r. cc }
 
-free_stepped : {sli : ℕ} (n : ℕ) (a v : Worker sli Queues) (limit : ℕ) (target : Target) (name : Name) (made : List (Option Name)) (entries : List Entry) (reply : Reply) → KnowsQueueYard n a → SameButHeap a v
+free_stepped : {sli : ℕ} (n : ℕ) (a v : Worker sli Queues) (limits : List ℕ) (target : Target) (name : Name) (made : List (Option Name)) (entries : List Entry) (reply : Reply) → KnowsQueueYard n a → SameButHeap a v
     → name_of made target ≡ Some name → name.heap ≡ id_of a → reply ≡ (own_freeing (heap_of a) name).reply → heap_of v ≡ (own_freeing (heap_of a) name).heap
-    → QueueStepped n a limit (Release target) made entries v limit entries reply
+    → QueueStepped n a limits (Release target) made entries v limits entries reply
 unfolding released
-free_stepped {sli} n a v limit target name made entries reply k same known own e f =
-    quiet_stepped n a v limit (Release target) made entries reply same (call_keeps (heap_of a) (heap_of v) (heap.Release name) f)
+free_stepped {sli} n a v limits target name made entries reply k same known own e f =
+    quiet_stepped n a v limits (Release target) made entries reply same (call_keeps (heap_of a) (heap_of v) (heap.Release name) f)
     (subst (λ r. IsQuiet (entry_by (id_of a) (Release target) r)) (sym e) (freed_quiet (id_of a) target (heap.released (heap_of a) name).answer))
     (free_tells sli n (id_of a) (heap_of a) (heap_of v) made entries target name reply k.self known own e f)
 
 -- ---- releases
 
--- what a release promises
-pub record IsQueueRelease {sli : ℕ} (a v : Worker sli Queues) (name : Name) (answer : Result Released CrewRefusal) : Type 0 where
-  pub here : name.heap ≡ id_of a → ReleasedHere a v name answer
-  pub there : name.heap ≢ id_of a → HasQueueEnd a name.heap → ReleasedThere PutsIntoQueue a v name answer
-  pub nowhere : name.heap ≢ id_of a → ¬ (HasQueueEnd a name.heap) → (answer ≡ Err Stranger) × (v ≡ a)
-
-here_stepped : {sli : ℕ} (n : ℕ) (a v : Worker sli Queues) (limit : ℕ) (target : Target) (name : Name) (made : List (Option Name)) (entries : List Entry) (answer : Result Released CrewRefusal) → KnowsQueueYard n a
+here_stepped : {sli : ℕ} (n : ℕ) (a v : Worker sli Queues) (limits : List ℕ) (target : Target) (name : Name) (made : List (Option Name)) (entries : List Entry) (answer : Result Released CrewRefusal) → KnowsQueueYard n a
     → name_of made target ≡ Some name → name.heap ≡ id_of a → ReleasedHere a v name answer
-    → QueueStepped n a limit (Release target) made entries v limit entries (reply_released answer)
+    → QueueStepped n a limits (Release target) made entries v limits entries (reply_released answer)
 unfolding released
-here_stepped n a v limit target name made entries answer k known own here =
-    free_stepped n a v limit target name made entries (reply_released answer) k here.same known own
+here_stepped n a v limits target name made entries answer k known own here =
+    free_stepped n a v limits target name made entries (reply_released answer) k here.same known own
     (ap reply_released here.answer_is ∙ freed_reply (heap.released (heap_of a) name).answer) here.heap
 
-there_stepped : {sli : ℕ} (n : ℕ) (a v : Worker sli Queues) (limit : ℕ) (target : Target) (name : Name) (made : List (Option Name)) (entries : List Entry) (answer : Result Released CrewRefusal) → KnowsQueueYard n a
+there_stepped : {sli : ℕ} (n : ℕ) (a v : Worker sli Queues) (limits : List ℕ) (target : Target) (name : Name) (made : List (Option Name)) (entries : List Entry) (answer : Result Released CrewRefusal) → KnowsQueueYard n a
     → name_of made target ≡ Some name → name.heap ≢ id_of a → HasQueueEnd a name.heap → ReleasedThere PutsIntoQueue a v name answer
-    → QueueStepped n a limit (Release target) made entries v limit entries (reply_released answer)
-there_stepped n a v limit target name made entries answer k known ne has there =
+    → QueueStepped n a limits (Release target) made entries v limits entries (reply_released answer)
+there_stepped n a v limits target name made entries answer k known ne has there =
     let other = ends_are n a k name.heap has.0 has.1 in
     let e : answer ≡ posted_as (put_answer name there.post.put) = there.answer_is ∙ ap posted_as there.post.answer_is in
-    subst (λ r. QueueStepped n a limit (Release target) made entries v limit entries (reply_released r)) (sym e)
-    (put_stepped n a v limit target name made entries there.post.put k known ne other.0 (there.post.same, there.post.through))
+    subst (λ r. QueueStepped n a limits (Release target) made entries v limits entries (reply_released r)) (sym e)
+    (put_stepped n a v limits target name made entries there.post.put k known ne other.0 (there.post.same, there.post.through))
 
-pub release_stepped : {sli : ℕ} (n : ℕ) (a v : Worker sli Queues) (limit : ℕ) (target : Target) (name : Name) (made : List (Option Name)) (entries : List Entry) (answer : Result Released CrewRefusal) (reply : Reply) → KnowsQueueYard n a
-    → name_of made target ≡ Some name → IsQueueRelease a v name answer → reply_released answer ≡ reply
-    → QueueStepped n a limit (Release target) made entries v limit entries reply
-release_stepped n a v limit target name made entries answer reply k known release is =
-    subst (λ r. QueueStepped n a limit (Release target) made entries v limit entries r) is
-    (elim (cases_eq name.heap (id_of a)) [
-      | inl own ↦ here_stepped n a v limit target name made entries answer k known own (release.here own)
-      | inr ne ↦ elim (end_or (queue_end_to a name.heap)) [
-        | inl has ↦ there_stepped n a v limit target name made entries answer k known ne has (release.there ne has)
-        | inr none ↦
-            let e = release.nowhere ne none in
-            rw (e.0, e.1) (far_stepped n a limit target name made entries k known ne none)
-      ]
-    ])
-
--- ---- the own entry
-
-pub queue_step_called : {sli : ℕ} (n : ℕ) (a v : Worker sli Queues) (limit left : ℕ) (call : Call) (made more : List (Option Name)) (entries between longer : List Entry) (at : ℕ) (reply : Reply)
-    → QueueStepped n a limit call made entries v left between reply → at ≡ id_of v → more ≡ made ++ made_by reply ∷ []
-    → longer ≡ between ++ record { worker = at; call = call; reply = reply } ∷ [] → QueueCalled n a limit call made entries v left more longer
-queue_step_called n a v limit left call made more entries between longer at reply x is e f =
-    let m = x.moved [] in
-    let q : at ≡ id_of a = is ∙ m.yard.number in
-    let z = entry_by (id_of a) call reply in
-    let g : longer ≡ between ++ z ∷ [] = f ∙ ap (λ (i : ℕ). between ++ entry_by i call reply ∷ []) q in
-    record {
-      name = made_by reply;
-      made_are = e;
-      own = x.own ++ z ∷ [];
-      entries_are = g ∙ (ap (λ l. l ++ z ∷ []) x.entries_are ∙ append_assoc entries x.own (z ∷ []));
-      told = rw (e, g) x.told;
-      moved = x.moved;
-    }
-
--- there is room for the own entry
-pub queue_step_room : {sli : ℕ} (n : ℕ) (a v : Worker sli Queues) (limit left : ℕ) (call : Call) (made : List (Option Name)) (entries longer : List Entry) (reply : Reply) → QueueStepped n a limit call made entries v left longer reply
-    → length longer + 1 + left ≤ length entries + 1 + limit
-queue_step_room n a v limit left call made entries longer reply x =
-    let m = x.moved [] in
-    omega (arith, m.room, length-append x.own (entry_by (id_of a) call reply ∷ []), ap length x.entries_are, length-append entries x.own)
+pub release_stepped : {sli : ℕ} (n : ℕ) (a v : Worker sli Queues) (limits : List ℕ) (target : Target) (name : Name) (made : List (Option Name)) (entries : List Entry) (answer : Result Released CrewRefusal) → KnowsQueueYard n a
+    → name_of made target ≡ Some name → IsRelease ReachesQueue PutsIntoQueue a v name answer → QueueStepped n a limits (Release target) made entries v limits entries (reply_released answer)
+release_stepped n a v limits target name made entries answer k known release = elim (cases_eq name.heap (id_of a)) [
+  | inl own ↦ here_stepped n a v limits target name made entries answer k known own (release.here own)
+  | inr ne ↦ elim (end_or (queue_end_to a name.heap)) [
+    | inl has ↦ there_stepped n a v limits target name made entries answer k known ne has (release.there ne has)
+    | inr none ↦
+        let e = release.nowhere ne none in
+        rw (e.0, e.1) (far_stepped n a limits target name made entries k known ne none)
+  ]
+]

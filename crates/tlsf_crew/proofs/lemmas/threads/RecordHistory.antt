@@ -111,7 +111,7 @@ whole_told {sli} n at h calls end at_in m =
     }
 
 legal_told : {sli : ℕ} (n at : ℕ) (h : HeapState) (calls : List Call) (scripted : List Entry) (end : Told) → at < n → IsLegal sli n at h calls scripted end → ToldWhole sli n at h (calls ++ last_call ∷ []) end
-legal_told {sli} n at h calls scripted end at_in l = whole_told n at h (calls ++ last_call ∷ []) end at_in (tell_more sli n at (untold h) l.between end calls last_call l.script l.last)
+legal_told {sli} n at h calls scripted end at_in l = whole_told n at h (calls ++ last_call ∷ []) end at_in (tell_more (MayTell sli n at) (untold h) l.between end calls last_call l.script l.last)
 
 -- ---- the records of a race
 

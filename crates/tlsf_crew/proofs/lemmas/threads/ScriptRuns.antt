@@ -1,4 +1,4 @@
--- The calls of a script, one after another.
+-- The calls of a script, one after another, by a worker with ports of any kind.
 use Rattle.std.proofs.Common.{[], ◌∷◌, ◌++◌, ◌≡◌, ℕ, ◌+◌, ◌<◌, ◌≤◌, List, Option, Some, length, get_or, take, sym, ◌∙◌, ap, arith, refl, subst, append_assoc, append-nil, length-append}
 use mathlib.Core.List.{IsPrefix}
 use Rattle.std.specs.Prelude.{slice_index}
@@ -10,67 +10,96 @@ use Rattle.tlsf_crew.specs.declared.worker.Worker.{Worker}
 use Rattle.tlsf_crew.specs.declared.yard.lanes.Lanes.{Lanes}
 use Rattle.tlsf_calls.specs.declared.entry.Entry.{Entry}
 use Rattle.tlsf_calls.specs.declared.call.Call.{Call}
-use Rattle.tlsf_crew.specs.yard.Workers.{heap_of, id_of, end_from, KnowsYard}
-use Rattle.tlsf_crew.specs.yard.Told.{Told, MayTell, MayTellAll, untold}
+use Rattle.tlsf_calls.specs.declared.reply.Reply.{Reply}
+use Rattle.tlsf_crew.specs.yard.Workers.{heap_of, id_of, end_from}
+use Rattle.tlsf_crew.specs.yard.Told.{Told, AllTold, MayTell, untold}
 use Rattle.tlsf_crew.specs.threads.Job.{Ran}
 use Rattle.tlsf_crew.specs.yard.Counts.{sum_of}
 use Rattle.tlsf_crew.specs.yard.History.{posts_taken}
-use Rattle.tlsf_crew.specs.yard.Moves.{Moved, Spent, Called}
-use Rattle.tlsf_crew.proofs.lemmas.yard.ManyEntries.{moved_then, moved_room}
-use Rattle.tlsf_crew.proofs.lemmas.yard.LaneTakes.{moved_none}
+use Rattle.tlsf_crew.specs.yard.Moves.{Moved, Spent}
+use Rattle.tlsf_crew.specs.yard.Scripts.{AreMoves, Called, ScriptRun, Step, entry_by, told_of}
+use Rattle.tlsf_crew.specs.yard.World.{made_by}
 
-pub tell_more : (sli : ℕ) (n at : ℕ) (s u t : Told) (calls : List Call) (call : Call) → MayTellAll sli n at s calls u → MayTell sli n at u call t → MayTellAll sli n at s (calls ++ call ∷ []) t
-tell_more sli n at s u t [] call all more = (t, subst (λ x. MayTell sli n at x call t) all more, refl)
-tell_more sli n at s u t (first ∷ calls) call all more = (all.0, all.1, tell_more sli n at all.0 u t calls call all.2 more)
+pub tell_more : (tells : Told → Call → Told → Type 0) (s u t : Told) (calls : List Call) (call : Call) → AllTold tells s calls u → tells u call t → AllTold tells s (calls ++ call ∷ []) t
+tell_more tells s u t [] call all more = (t, subst (λ (x : Told). tells x call t) all more, refl)
+tell_more tells s u t (first ∷ calls) call all more = (all.0, all.1, tell_more tells all.0 u t calls call all.2 more)
 
--- a worker has made these calls of its script
-pub record ScriptRun {sli : ℕ} (n : ℕ) (a : Worker sli Lanes) (limits : List ℕ) (calls : List Call) (made : List (Option Name)) (entries : List Entry) (v : Worker sli Lanes) (left : List ℕ) : Type 0 where
-  pub told : MayTellAll sli n (id_of a) (untold (heap_of a)) calls (record { made = made; entries = entries; heap = heap_of v })
-  pub names : length made ≡ length calls
-  pub moved : (rest : List (Option Name)) → Moved (id_of a) (made ++ rest) a limits calls entries v left
+-- ---- the own entry
 
-pub script_none : {sli : ℕ} (n : ℕ) (a : Worker sli Lanes) (limits : List ℕ) (made : List (Option Name)) (entries : List Entry) → made ≡ [] → entries ≡ [] → ScriptRun n a limits [] made entries a limits
-script_none n a limits made entries e f = rw (e, f) (record { told = refl; names = refl; moved = λ rest. moved_none rest a limits })
-
-script_more : {sli : ℕ} (n : ℕ) (a b v : Worker sli Lanes) (limits mid left : List ℕ) (calls : List Call) (call : Call) (made more : List (Option Name)) (entries longer : List Entry) → ScriptRun n a limits calls made entries b mid
-    → Called n b mid call made entries v left more longer → ScriptRun n a limits (calls ++ call ∷ []) more longer v left
-script_more {sli} n a b v limits mid left calls call made more entries longer x y =
-    let at = id_of a in
-    let m = x.moved [] in
-    let q : id_of b ≡ at = ap (λ z. z.0) m.numbers in
+pub step_called : {sli : ℕ} {P : Type 0} (knows : ℕ → Worker sli P → Type 0) (tells : ℕ → Told → Call → Told → Type 0) (moves : ℕ → List (Option Name) → Worker sli P → List ℕ → List Call → List Entry → Worker sli P → List ℕ → Type 0) (m : AreMoves knows moves)
+    → (a v : Worker sli P) (limits left : List ℕ) (call : Call) (made more : List (Option Name)) (entries between longer : List Entry) (at : ℕ) (reply : Reply) → Step tells moves a limits call made entries v left between reply
+    → at ≡ id_of v → more ≡ made ++ made_by reply ∷ [] → longer ≡ between ++ record { worker = at; call = call; reply = reply } ∷ [] → Called tells moves a limits call made entries v left more longer
+step_called knows tells moves m a v limits left call made more entries between longer at reply x is e f =
+    let q : at ≡ id_of a = is ∙ m.number (id_of a) (made ++ []) a v limits left (call ∷ []) _ (x.moved []) in
+    let z = entry_by (id_of a) call reply in
+    let g : longer ≡ between ++ z ∷ [] = f ∙ ap (λ (i : ℕ). between ++ entry_by i call reply ∷ []) q in
     record {
-      told = tell_more sli n at (untold (heap_of a)) _ _ calls call x.told
-          (subst (λ i. MayTell sli n i (record { made = made; entries = entries; heap = heap_of b }) call (record { made = more; entries = longer; heap = heap_of v })) q y.told);
+      name = made_by reply;
+      made_are = e;
+      own = x.own ++ z ∷ [];
+      entries_are = g ∙ (ap (λ l. l ++ z ∷ []) x.entries_are ∙ append_assoc entries x.own (z ∷ []));
+      told = rw (e, g) x.told;
+      moved = x.moved;
+    }
+
+-- there is room for the own entry
+pub step_room : {sli : ℕ} {P : Type 0} (knows : ℕ → Worker sli P → Type 0) (tells : ℕ → Told → Call → Told → Type 0) (moves : ℕ → List (Option Name) → Worker sli P → List ℕ → List Call → List Entry → Worker sli P → List ℕ → Type 0) (m : AreMoves knows moves)
+    → (a v : Worker sli P) (limits left : List ℕ) (call : Call) (made : List (Option Name)) (entries longer : List Entry) (reply : Reply) → Step tells moves a limits call made entries v left longer reply
+    → length longer + 1 + sum_of left ≤ length entries + 1 + sum_of limits
+step_room knows tells moves m a v limits left call made entries longer reply x =
+    let r = m.room (id_of a) (made ++ []) a v limits left (call ∷ []) _ (x.moved []) in
+    omega (arith, r, length-append x.own (entry_by (id_of a) call reply ∷ []), ap length x.entries_are, length-append entries x.own)
+
+-- ---- a script
+
+pub script_none : {sli : ℕ} {P : Type 0} (knows : ℕ → Worker sli P → Type 0) (tells : ℕ → Told → Call → Told → Type 0) (moves : ℕ → List (Option Name) → Worker sli P → List ℕ → List Call → List Entry → Worker sli P → List ℕ → Type 0) (m : AreMoves knows moves)
+    → (a : Worker sli P) (limits : List ℕ) (made : List (Option Name)) (entries : List Entry) → made ≡ [] → entries ≡ [] → ScriptRun tells moves a limits [] made entries a limits
+script_none knows tells moves m a limits made entries e f = rw (e, f) (record { told = refl; names = refl; moved = λ rest. m.none rest a limits })
+
+script_more : {sli : ℕ} {P : Type 0} (knows : ℕ → Worker sli P → Type 0) (tells : ℕ → Told → Call → Told → Type 0) (moves : ℕ → List (Option Name) → Worker sli P → List ℕ → List Call → List Entry → Worker sli P → List ℕ → Type 0) (m : AreMoves knows moves)
+    → (a b v : Worker sli P) (limits mid left : List ℕ) (calls : List Call) (call : Call) (made more : List (Option Name)) (entries longer : List Entry) → ScriptRun tells moves a limits calls made entries b mid
+    → Called tells moves b mid call made entries v left more longer → ScriptRun tells moves a limits (calls ++ call ∷ []) more longer v left
+script_more knows tells moves m a b v limits mid left calls call made more entries longer x y =
+    let at = id_of a in
+    let q : id_of b ≡ at = m.number at (made ++ []) a b limits mid calls entries (x.moved []) in
+    record {
+      told = tell_more (tells at) (untold (heap_of a)) _ _ calls call x.told
+          (subst (λ i. tells i (told_of made entries (heap_of b)) call (told_of more longer (heap_of v))) q y.told);
       names = ap length y.made_are ∙ omega (arith, length-append made (y.name ∷ []), length-append calls (call ∷ []), x.names);
       moved = λ rest.
           let later = made ++ y.name ∷ rest in
           let e : later ≡ more ++ rest = sym (append_assoc made (y.name ∷ []) rest) ∙ ap (λ l. l ++ rest) (sym y.made_are) in
-          let second : Moved at later b mid (call ∷ []) y.own v left = subst (λ i. Moved i later b mid (call ∷ []) y.own v left) q (y.moved (y.name ∷ rest)) in
-          let both = moved_then at later a b v limits mid left calls (call ∷ []) entries y.own (x.moved (y.name ∷ rest)) second in
+          let second : moves at later b mid (call ∷ []) y.own v left = subst (λ i. moves i later b mid (call ∷ []) y.own v left) q (y.moved (y.name ∷ rest)) in
+          let both = m.then at later a b v limits mid left calls (call ∷ []) entries y.own (x.moved (y.name ∷ rest)) second in
           rw (← e, y.entries_are) both;
     }
 
 -- the next call of a script
-pub script_next : {sli : ℕ} (n : ℕ) (a b v : Worker sli Lanes) (limits mid left : List ℕ) (script : List Call) (k : ℕ) (d : Call) (made more : List (Option Name)) (entries longer : List Entry) → k < length script
-    → ScriptRun n a limits (take k script) made entries b mid → Called n b mid (get_or script k d) made entries v left more longer → ScriptRun n a limits (take (k + 1) script) more longer v left
-script_next n a b v limits mid left script k d made more entries longer lt x y =
-    subst (λ calls. ScriptRun n a limits calls more longer v left) (sym (take_more script k d lt))
-    (script_more n a b v limits mid left (take k script) (get_or script k d) made more entries longer x y)
+pub script_next : {sli : ℕ} {P : Type 0} (knows : ℕ → Worker sli P → Type 0) (tells : ℕ → Told → Call → Told → Type 0) (moves : ℕ → List (Option Name) → Worker sli P → List ℕ → List Call → List Entry → Worker sli P → List ℕ → Type 0) (m : AreMoves knows moves)
+    → (a b v : Worker sli P) (limits mid left : List ℕ) (script : List Call) (k : ℕ) (d : Call) (made more : List (Option Name)) (entries longer : List Entry) → k < length script
+    → ScriptRun tells moves a limits (take k script) made entries b mid → Called tells moves b mid (get_or script k d) made entries v left more longer → ScriptRun tells moves a limits (take (k + 1) script) more longer v left
+script_next knows tells moves m a b v limits mid left script k d made more entries longer lt x y =
+    subst (λ calls. ScriptRun tells moves a limits calls more longer v left) (sym (take_more script k d lt))
+    (script_more knows tells moves m a b v limits mid left (take k script) (get_or script k d) made more entries longer x y)
 
-pub script_knows : {sli : ℕ} (n : ℕ) (a v : Worker sli Lanes) (limits left : List ℕ) (calls : List Call) (made : List (Option Name)) (entries : List Entry) → ScriptRun n a limits calls made entries v left → KnowsYard n a → KnowsYard n v
-script_knows n a v limits left calls made entries x k = let m = x.moved [] in m.knows n k
+pub script_knows : {sli : ℕ} {P : Type 0} (knows : ℕ → Worker sli P → Type 0) (tells : ℕ → Told → Call → Told → Type 0) (moves : ℕ → List (Option Name) → Worker sli P → List ℕ → List Call → List Entry → Worker sli P → List ℕ → Type 0) (m : AreMoves knows moves)
+    → (n : ℕ) (a v : Worker sli P) (limits left : List ℕ) (calls : List Call) (made : List (Option Name)) (entries : List Entry) → ScriptRun tells moves a limits calls made entries v left → knows n a → knows n v
+script_knows knows tells moves m n a v limits left calls made entries x k = m.known (id_of a) (made ++ []) a v limits left calls entries (x.moved []) n k
 
-pub script_room : {sli : ℕ} (n : ℕ) (a v : Worker sli Lanes) (limits left : List ℕ) (calls : List Call) (made : List (Option Name)) (entries : List Entry) → ScriptRun n a limits calls made entries v left
+pub script_room : {sli : ℕ} {P : Type 0} (knows : ℕ → Worker sli P → Type 0) (tells : ℕ → Told → Call → Told → Type 0) (moves : ℕ → List (Option Name) → Worker sli P → List ℕ → List Call → List Entry → Worker sli P → List ℕ → Type 0) (m : AreMoves knows moves)
+    → (a v : Worker sli P) (limits left : List ℕ) (calls : List Call) (made : List (Option Name)) (entries : List Entry) → ScriptRun tells moves a limits calls made entries v left
     → length entries + sum_of left ≤ length calls + sum_of limits
-script_room n a v limits left calls made entries x = moved_room (id_of a) (made ++ []) a v limits left calls entries (x.moved [])
+script_room knows tells moves m a v limits left calls made entries x = m.room (id_of a) (made ++ []) a v limits left calls entries (x.moved [])
+
+-- ---- over lanes
 
 -- where all that was known to be ready might be taken, what is spent is all of it
 all_ready : {sli : ℕ} (a : Worker sli Lanes) (limits : List ℕ) (at i : ℕ) (entries : List Entry) (t : TakeEnd) → length (ready t) ≤ slice_index limits i → end_from a i ≡ Some t → Spent a limits at i entries → IsPrefix (ready t) (posts_taken i at entries)
 all_ready a limits at i entries t le is spent = subst (λ l. IsPrefix l (posts_taken i at entries)) (take_all (slice_index limits i) (ready t) le) (spent t is)
 
 pub script_ran : {sli : ℕ} (n : ℕ) (a v : Worker sli Lanes) (limits left : List ℕ) (calls : List Call) (made : List (Option Name)) (entries : List Entry)
-    → ((i : ℕ) (t : TakeEnd) → end_from a i ≡ Some t → length (ready t) ≤ slice_index limits i) → ScriptRun n a limits calls made entries v left → Ran n a calls made entries v
-script_ran n a v limits left calls made entries enough x =
+    → ((i : ℕ) (t : TakeEnd) → end_from a i ≡ Some t → length (ready t) ≤ slice_index limits i) → ScriptRun (MayTell sli n) Moved a limits calls made entries v left → Ran n a calls made entries v
+script_ran {sli} n a v limits left calls made entries enough x =
     let at = id_of a in
     let m : Moved at made a limits calls entries v left = subst (λ l. Moved at l a limits calls entries v left) (append-nil made) (x.moved []) in
     record {

@@ -1,10 +1,10 @@
--- Where the lanes of a row, and then the rows, were settled one after another, all lanes were.
+-- Where the lanes of a column, and then the columns, were settled one after another, all lanes were.
 use Rattle.std.proofs.Common.{◌≡◌, ◌≢◌, ℕ, ◌+◌, ◌<◌, ◌≤◌, List, length, sym, ◌∙◌, arith, refl, inl, inr}
 use Rattle.std.proofs.lemmas.Bool.{cases_eq}
 use Rattle.tlsf_crew.specs.declared.worker.Worker.{Worker}
 use Rattle.tlsf_crew.specs.declared.yard.lanes.Lanes.{Lanes}
 use Rattle.tlsf_crew.specs.yard.Settle.{MetIn}
-use Rattle.tlsf_crew.specs.yard.LaneSteps.{LaneStep, SameLane, RowMet, EachRowMet, ColumnMet}
+use Rattle.tlsf_crew.specs.yard.LaneSteps.{LaneStep, SameLane, ColumnMet, EachColumnMet}
 use Rattle.tlsf_crew.proofs.lemmas.yard.Slots.{settled, step_same, same_then}
 
 pub step_meets : {sli : ℕ} (ws vs : List (Worker sli Lanes)) (i j : ℕ) → i ≢ j → LaneStep ws i j vs → MetIn ws vs i j
@@ -48,49 +48,6 @@ then_met ws vs us i j s m = record {
   meets = m.meets;
 }
 
-pub row_first : {sli : ℕ} (ws : List (Worker sli Lanes)) (i : ℕ) → RowMet ws ws i 0
-row_first ws i = record { len = refl; done = λ y lt ne. absurd (omega arith); same = λ x y low. (refl, refl) }
-
--- one lane more
-pub row_step : {sli : ℕ} (ws vs us : List (Worker sli Lanes)) (i j : ℕ) → RowMet ws vs i j → i ≢ j → LaneStep vs i j us → RowMet ws us i (j + 1)
-row_step ws vs us i j r ne s =
-    record {
-      len = (settled vs us i j ne s).len ∙ r.len;
-      done = λ y lt apart.
-          elim (cases_eq y j) [
-            | inl e ↦ rw e (then_met ws vs us i j (r.same i j (λ _. omega arith)) (step_meets vs us i j ne s))
-            | inr n ↦ met_then ws vs us i y (r.done y (omega arith) apart) (step_same vs us i j i y ne s (λ _ e. n e))
-          ];
-      same = λ x y low.
-          same_then ws vs us x y (r.same x y (λ e. let h : j + 1 ≤ y = low e in omega arith))
-          (step_same vs us i j x y ne s (λ e f. let h : j + 1 ≤ y = low e in omega arith));
-    }
-
-pub row_skip : {sli : ℕ} (ws vs : List (Worker sli Lanes)) (i j : ℕ) → RowMet ws vs i j → i ≡ j → RowMet ws vs i (j + 1)
-row_skip ws vs i j r e =
-    record {
-      len = r.len;
-      done = λ y lt apart. let n : y ≢ j = λ f. apart (e ∙ sym f) in r.done y (omega arith) apart;
-      same = λ x y low. r.same x y (λ f. let h : j + 1 ≤ y = low f in omega arith);
-    }
-
-pub yard_first : {sli : ℕ} (ws : List (Worker sli Lanes)) → EachRowMet ws ws 0
-yard_first ws = record { len = refl; done = λ x y lt _ _. absurd (omega arith); same = λ x y low. (refl, refl) }
-
--- one row more
-pub yard_step : {sli : ℕ} (ws vs us : List (Worker sli Lanes)) (i : ℕ) → EachRowMet ws vs i → RowMet vs us i (length vs) → EachRowMet ws us (i + 1)
-yard_step ws vs us i a r =
-    record {
-      len = r.len ∙ a.len;
-      done = λ x y lt inside ne.
-          elim (cases_eq x i) [
-            | inl e ↦ let apart : i ≢ y = λ f. ne (e ∙ f) in let m : y < length vs = omega (arith, a.len) in
-                rw e (then_met ws vs us i y (a.same i y (omega arith)) (r.done y m apart))
-            | inr n ↦ met_then ws vs us x y (a.done x y (omega arith) inside ne) (r.same x y (λ e. absurd (n e)))
-          ];
-      same = λ x y low. same_then ws vs us x y (a.same x y (omega arith)) (r.same x y (λ e. absurd (omega arith)));
-    }
-
 -- ---- the lanes to one worker
 
 pub column_first : {sli : ℕ} (ws : List (Worker sli Lanes)) (j : ℕ) → ColumnMet ws ws 0 j
@@ -117,4 +74,23 @@ column_skip ws vs i j r e =
       len = r.len;
       done = λ x lt apart. let n : x ≢ i = λ f. apart (f ∙ e) in r.done x (omega arith) apart;
       same = λ x y low. r.same x y (λ f. let h : i + 1 ≤ x = low f in omega arith);
+    }
+
+-- ---- the lanes to all workers
+
+pub yard_first : {sli : ℕ} (ws : List (Worker sli Lanes)) → EachColumnMet ws ws 0
+yard_first ws = record { len = refl; done = λ x y lt _ _. absurd (omega arith); same = λ x y low. (refl, refl) }
+
+-- one column more
+pub yard_step : {sli : ℕ} (ws vs us : List (Worker sli Lanes)) (j : ℕ) → EachColumnMet ws vs j → ColumnMet vs us (length vs) j → EachColumnMet ws us (j + 1)
+yard_step ws vs us j a r =
+    record {
+      len = r.len ∙ a.len;
+      done = λ x y lt inside ne.
+          elim (cases_eq y j) [
+            | inl e ↦ let apart : x ≢ j = λ f. ne (f ∙ sym e) in let m : x < length vs = omega (arith, a.len) in
+                rw e (then_met ws vs us x j (a.same x j (omega arith)) (r.done x m apart))
+            | inr n ↦ met_then ws vs us x y (a.done x y (omega arith) inside ne) (r.same x y (λ e. absurd (n e)))
+          ];
+      same = λ x y low. same_then ws vs us x y (a.same x y (omega arith)) (r.same x y (λ e. absurd (omega arith)));
     }

@@ -1,5 +1,5 @@
 -- A worker's takes from one lane after another, in a drain under limits.
-use Rattle.std.proofs.Common.{slice_get, vec_capacity, ◌==◌, true, false, Bool, [], ◌∷◌, ◌++◌, ◌≡◌, ◌≢◌, ◌-◌, ℕ, zero, suc, ◌+◌, ◌<◌, ◌≤◌, List, Option, Some, None, length, sym, ◌∙◌, ap, arith, refl, inl, inr, subst, append_assoc, append-nil, length-append, add-one}
+use Rattle.std.proofs.Common.{slice_get, ◌==◌, true, false, Bool, [], ◌∷◌, ◌++◌, ◌≡◌, ◌≢◌, ◌-◌, ℕ, zero, suc, ◌+◌, ◌<◌, ◌≤◌, List, Option, Some, None, length, sym, ◌∙◌, ap, arith, refl, inl, inr, subst, append_assoc, append-nil, length-append, add-one}
 use Rattle.std.specs.Prelude.{if◌then◌else◌, slice_index}
 use Rattle.std.proofs.lemmas.Bool.{cases_eq, cases_lt}
 use Rattle.std.proofs.lemmas.Option.{slice_get_within}
@@ -17,12 +17,12 @@ use Rattle.tlsf_crew.specs.declared.yard.journal.Journal.{Journal}
 use Rattle.tlsf_calls.specs.declared.reply.Reply.TheVariants.{Took as Taken}
 use Rattle.tlsf_crew.specs.yard.Heaps.{released}
 use Rattle.tlsf_crew.specs.yard.Workers.{heap_of, id_of, end_from, HasTake, SameButPorts, TookThrough, lane_places, KnowsYard}
-use Rattle.tlsf_crew.specs.yard.Counts.{sum_below, sum_of}
+use Rattle.tlsf_crew.specs.yard.Counts.{sum_below}
 use Rattle.tlsf_crew.specs.yard.History.{posts_taken}
-use Rattle.tlsf_crew.specs.yard.Notes.{NotedInTurn, LaneNoted, EachLaneNoted, AllNoted, IsNoted, IsAdmitted}
+use Rattle.tlsf_crew.specs.yard.Notes.{NotedInTurn, LaneNoted, EachLaneNoted, AllLanesNoted, IsNoted, IsAdmitted}
 use Rattle.tlsf_crew.specs.yard.Moves.{one, Spent, Moved, TookWithin, took_by, OwnDrain, took_own, lane_own, each_lane_own, own_drain, LaneTaken, LaneSpent, EachLaneTaken, EachLaneSpent}
 use Rattle.tlsf_crew.proofs.lemmas.yard.YardKept.{same_keeps}
-use Rattle.tlsf_crew.proofs.lemmas.yard.ManyEntries.{moved_then, moved_room, spent_then, spent_more, taken_then}
+use Rattle.tlsf_crew.proofs.lemmas.yard.ManyEntries.{moved_then, spent_then, spent_more, taken_then}
 use Rattle.tlsf_crew.proofs.lemmas.yard.LaneMoves.{taken_same, taken_elsewhere}
 use Rattle.tlsf_crew.proofs.lemmas.yard.Pending.{same_sum}
 use Rattle.tlsf_crew.proofs.lemmas.yard.Slots.{from_slot}
@@ -328,56 +328,35 @@ spent_in_lane a v x y from most tooks near l =
           ]
     ]
 
-noted_capacity : {sli : ℕ} (a v : Worker sli Lanes) (x y : Journal) (from : ℕ) (tooks : List Took) → NotedInTurn TookThrough IsNoted a v x y from tooks → vec_capacity y.entries ≡ vec_capacity x.entries
-noted_capacity a v x y from [] t = ap (λ j. vec_capacity j.entries) t.1
-noted_capacity a v x y from (took ∷ tooks) t = noted_capacity t.0 v t.1 y from tooks t.4 ∙ t.3.capacity
-
--- the journal of a drain tells it
-pub record Drains {sli : ℕ} (n : ℕ) (a v : Worker sli Lanes) (x y : Journal) (below most count : ℕ) : Type 0 where
-  pub spent : EachLaneSpent a x.limits below most x.entries.items v y.limits y.entries.items count
-  pub capacity : vec_capacity y.entries ≡ vec_capacity x.entries
-
-each_lane_drains : {sli : ℕ} (n : ℕ) (a v : Worker sli Lanes) (x y : Journal) (most k : ℕ) (tooks : List Took) → KnowsYard n a → EachLaneNoted IsNoted IsAdmitted a v x y most k tooks → Drains n a v x y k most (length tooks)
-each_lane_drains {sli} n a v x y most zero tooks known l =
+each_lane_spent : {sli : ℕ} (n : ℕ) (a v : Worker sli Lanes) (x y : Journal) (most k : ℕ) (tooks : List Took) → KnowsYard n a → EachLaneNoted IsNoted IsAdmitted a v x y most k tooks
+    → EachLaneSpent a x.limits k most x.entries.items v y.limits y.entries.items (length tooks)
+each_lane_spent {sli} n a v x y most zero tooks known l =
     let e : length tooks ≡ 0 = ap length l.0 in
-    rw (l.1, l.2, e) (record {
-      spent = record { takes = nothing_below a x.limits x.entries.items; few = omega arith; spent = λ lt i below. absurd (omega arith); each = λ i below. absurd (omega arith) };
-      capacity = refl;
-    })
-each_lane_drains {sli} n a v x y most (suc k) tooks known l =
+    rw (l.1, l.2, e) (record { takes = nothing_below a x.limits x.entries.items; few = omega arith; spent = λ lt i below. absurd (omega arith); each = λ i below. absurd (omega arith) })
+each_lane_spent {sli} n a v x y most (suc k) tooks known l =
     let b = l.0 in
     let z = l.1 in
-    let before = each_lane_drains n a b x z most k l.2 known l.5 in
+    let before = each_lane_spent n a b x z most k l.2 known l.5 in
     let next : k + 1 ≡ suc k = omega arith in
     let count : length l.2 + length l.3 ≡ length tooks = sym (ap length l.4 ∙ length-append l.2 l.3) in
-    let later : KnowsYard n b = lanes_knows n a b x.limits z.limits k x.entries.items z.entries.items (length l.2) before.spent.takes known in
-    let q : id_of b ≡ id_of a = id_below a b x.limits z.limits k x.entries.items z.entries.items (length l.2) before.spent.takes in
+    let later : KnowsYard n b = lanes_knows n a b x.limits z.limits k x.entries.items z.entries.items (length l.2) before.takes known in
+    let q : id_of b ≡ id_of a = id_below a b x.limits z.limits k x.entries.items z.entries.items (length l.2) before.takes in
     elim (has_or (end_from b k)) [
       | inl has ↦
           let near = (later.from k).0 has in
           let first : HasTake a k = (known.from k).1 (near.0, λ e. near.1 (e ∙ sym q)) in
-          let lane = l.6.lane has in
-          let spent = other_turn n a b v x.limits z.limits y.limits k most x.entries.items z.entries.items y.entries.items (length l.2) (length l.3) known first before.spent
-          (spent_in_lane b v z y k (most - length l.2) l.3 (omega (arith, near.0, known.few)) lane) in
-          record {
-            spent = subst (λ m. EachLaneSpent a x.limits m most x.entries.items v y.limits y.entries.items (length tooks)) next
-                (subst (EachLaneSpent a x.limits (k + 1) most x.entries.items v y.limits y.entries.items) count spent);
-            capacity = lane_capacity b v z y k (most - length l.2) l.3 lane ∙ before.capacity;
-          }
+          let spent = other_turn n a b v x.limits z.limits y.limits k most x.entries.items z.entries.items y.entries.items (length l.2) (length l.3) known first before
+          (spent_in_lane b v z y k (most - length l.2) l.3 (omega (arith, near.0, known.few)) (l.6.here has)) in
+          subst (λ m. EachLaneSpent a x.limits m most x.entries.items v y.limits y.entries.items (length tooks)) next
+          (subst (EachLaneSpent a x.limits (k + 1) most x.entries.items v y.limits y.entries.items) count spent)
       | inr none ↦
           let still = l.6.nowhere none in
           let away : ¬ (HasTake a k) = λ h. let near = (known.from k).0 h in none ((later.from k).1 (near.0, λ e. near.1 (e ∙ q))) in
           let same : length l.2 ≡ length tooks = let f = ap length still.0 in omega arith in
-          let spent = no_turn a b x.limits z.limits k most x.entries.items z.entries.items (length l.2) away before.spent in
-          rw (still.1, still.2) (record {
-            spent = subst (λ m. EachLaneSpent a x.limits m most x.entries.items b z.limits z.entries.items (length tooks)) next
-                (subst (EachLaneSpent a x.limits (k + 1) most x.entries.items b z.limits z.entries.items) same spent);
-            capacity = before.capacity;
-          })
+          let spent = no_turn a b x.limits z.limits k most x.entries.items z.entries.items (length l.2) away before in
+          rw (still.1, still.2) (subst (λ m. EachLaneSpent a x.limits m most x.entries.items b z.limits z.entries.items (length tooks)) next
+          (subst (EachLaneSpent a x.limits (k + 1) most x.entries.items b z.limits z.entries.items) same spent))
     ]
-  where
-    lane_capacity : (b v : Worker sli Lanes) (z y : Journal) (k m : ℕ) (ts : List Took) → LaneNoted IsNoted IsAdmitted b v z y k m ts → vec_capacity y.entries ≡ vec_capacity z.entries
-    lane_capacity b v z y k m ts l = noted_capacity b l.last z y k ts l.turns
 
 -- the lanes above the last one tell nothing
 lanes_past : (at : ℕ) (posts : ℕ → List Post) (d : OwnDrain) (m e : ℕ) → ((k : ℕ) → m ≤ k → posts k ≡ []) → each_lane_own at posts d (m + e) ≡ each_lane_own at posts d m
@@ -394,12 +373,11 @@ has_place : {sli : ℕ} (a : Worker sli Lanes) (k : ℕ) → HasTake a k → k <
 has_place a k h = slice_get_within a.ports.takes.items k (Some h.0) (from_slot (slice_get a.ports.takes.items k) h.0 h.1)
 
 -- a drain of all places is one of the lanes from all workers
-pub all_spent : {sli : ℕ} (n : ℕ) (a v : Worker sli Lanes) (x y : Journal) (most : ℕ) (answer : Drained) → KnowsYard n a → AllNoted IsNoted IsAdmitted a v x y most answer → Drains n a v x y n most answer.taken
+pub all_spent : {sli : ℕ} (n : ℕ) (a v : Worker sli Lanes) (x y : Journal) (most : ℕ) (answer : Drained) → KnowsYard n a → AllLanesNoted IsNoted IsAdmitted a v x y most answer → EachLaneSpent a x.limits n most x.entries.items v y.limits y.entries.items answer.taken
 all_spent n a v x y most answer known d =
     let places = lane_places a in
     let c = d.count.0 in
-    let r = subst (λ k. Drains n a v x y places most k) (sym c) (each_lane_drains n a v x y most places d.tooks known d.lanes) in
-    let s = r.spent in
+    let s = subst (EachLaneSpent a x.limits places most x.entries.items v y.limits y.entries.items) (sym c) (each_lane_spent n a v x y most places d.tooks known d.each) in
     let t = s.takes in
     let at = id_of a in
     let o = own_drain x.entries.items a 0 in
@@ -408,19 +386,16 @@ all_spent n a v x y most answer known d =
     let swap : places + n ≡ n + places = omega arith in
     let same : each_lane_own at t.posts o places ≡ each_lane_own at t.posts o n = sym (lanes_past at t.posts o places n beyond) ∙ (ap (each_lane_own at t.posts o) swap ∙ lanes_past at t.posts o n places away) in
     record {
-      spent = record {
-        takes = record {
-          own = t.own;
-          entries_are = t.entries_are;
-          posts = t.posts;
-          told = t.told ∙ same;
-          posts_are = t.posts_are;
-          only = λ k none. elim (cases_lt k n) [ inl lt ↦ t.only k (λ _. none lt) | inr ge ↦ away k ge ];
-          moved = t.moved;
-        };
-        few = s.few;
-        spent = λ lt i below end is. let p = has_place a i (end, is) in s.spent lt i p end is;
-        each = λ k lt apart. let p = has_place a k ((known.from k).1 (lt, apart)) in s.each k p apart;
+      takes = record {
+        own = t.own;
+        entries_are = t.entries_are;
+        posts = t.posts;
+        told = t.told ∙ same;
+        posts_are = t.posts_are;
+        only = λ k none. elim (cases_lt k n) [ inl lt ↦ t.only k (λ _. none lt) | inr ge ↦ away k ge ];
+        moved = t.moved;
       };
-      capacity = r.capacity;
+      few = s.few;
+      spent = λ lt i below end is. let p = has_place a i (end, is) in s.spent lt i p end is;
+      each = λ k lt apart. let p = has_place a k ((known.from k).1 (lt, apart)) in s.each k p apart;
     }

@@ -1,9 +1,6 @@
 -- Takes one after another from a lane, and from lane after lane, make up a drain.
-use Rattle.std.proofs.Common.{[], ◌∷◌, ◌++◌, ◌≡◌, ◌+◌, ◌-◌, ◌≤◌, ◌⊎◌, ℕ, zero, suc, List, Option, Some, None, Ok, length, refl, sym, ◌∙◌, ap, arith, subst, inl, inr, true, false, cond, add-one}
-use Rattle.std.specs.List.{count_by}
-use Rattle.std.proofs.lemmas.List.Sums.{count_by-le-length}
-use Rattle.std.proofs.lemmas.List.{length-append, append-nil}
-use Rattle.std.proofs.lemmas.List.Sums.{sum_by-append, fold-append}
+use Rattle.std.proofs.Common.{◌++◌, ◌≡◌, ◌+◌, ◌-◌, ◌⊎◌, ℕ, zero, suc, List, Option, Some, None, length, refl, sym, ◌∙◌, ap, subst, inl, inr}
+use Rattle.std.proofs.lemmas.List.Sums.{fold-append}
 use Rattle.tlsf_heap.specs.Blocks.{HeapState}
 use Rattle.tlsf_heap.specs.Calls.{released}
 use Rattle.tlsf_post.specs.declared.post.Post.{Post}
@@ -12,10 +9,10 @@ use Rattle.tlsf_calls.specs.declared.drained.Drained.{Drained}
 use Rattle.tlsf_calls.specs.declared.took.Took.{Took}
 use Rattle.tlsf_crew.specs.declared.worker.Worker.{Worker}
 use Rattle.tlsf_crew.specs.declared.yard.lanes.Lanes.{Lanes}
-use Rattle.tlsf_crew.specs.yard.Workers.{HasTake, heap_of, id_of, end_from, lane_to, TookThrough, lane_places}
+use Rattle.tlsf_crew.specs.yard.Workers.{HearsLane, heap_of, id_of, end_from, lane_to, TookThrough, lane_places}
 use Rattle.tlsf_crew.specs.yard.Calls.{AfterTake, TakenFromLane, TakesInTurn, KeepsYards, PutsIntoLane}
 use Rattle.tlsf_crew.specs.yard.LaneTurns.{LaneDrained, TurnDrained, EachLaneDrained, DrainedAll, heap_after}
-use Rattle.tlsf_crew.specs.yard.Notes.{LaneNoted, TurnNoted, EachLaneNoted, AllNoted}
+use Rattle.tlsf_crew.specs.yard.Notes.{LaneNoted, TurnNoted, EachLaneNoted, AllLanesNoted, StopsAtLane}
 use Rattle.tlsf_crew.proofs.lemmas.yard.PortsKept.{Keeping}
 use Rattle.tlsf_crew.proofs.lemmas.yard.SourceTurns.{none_heap, takes_heap, takes_of, turns_keep}
 use Rattle.tlsf_crew.proofs.lemmas.yard.YardKept.{same_keeps, put_keeps, take_keeps, heap_keeps, keeps_then}
@@ -29,19 +26,6 @@ lane_heap a v from most tooks d =
       | inl done ↦ ap heap_of done.1 ∙ h
       | inr done ↦ none_heap TookThrough d.last v from done.1 ∙ h
     ]
-
--- the turn of one more worker: one whose lane was drained, and one with no lane
-pub turn_more : {sli : ℕ} {N : Type 0} (noted : N → ℕ → ℕ → Took → N → Type 0) (admitted : N → ℕ → Type 0) (a b v : Worker sli Lanes) (x y z : N) (most k : ℕ) (xs ys : List Took)
-    → EachLaneNoted noted admitted a b x y most k xs → HasTake b k → LaneNoted noted admitted b v y z k (most - length xs) ys → EachLaneNoted noted admitted a v x z most (k + 1) (xs ++ ys)
-turn_more noted admitted a b v x y z most k xs ys lanes has lane =
-    subst (λ (n : ℕ). EachLaneNoted noted admitted a v x z most n (xs ++ ys)) (sym (add-one k))
-    (b, y, xs, ys, refl, lanes, record { lane = λ _. lane; nowhere = λ f. absurd (f has) })
-
-pub turn_none : {sli : ℕ} {N : Type 0} (noted : N → ℕ → ℕ → Took → N → Type 0) (admitted : N → ℕ → Type 0) (a b : Worker sli Lanes) (x y : N) (most k : ℕ) (xs : List Took)
-    → EachLaneNoted noted admitted a b x y most k xs → ¬ (HasTake b k) → EachLaneNoted noted admitted a b x y most (k + 1) xs
-turn_none noted admitted a b x y most k xs lanes none =
-    subst (λ (n : ℕ). EachLaneNoted noted admitted a b x y most n xs) (sym (add-one k))
-    (b, y, xs, [], sym (append-nil xs), lanes, record { lane = λ has. absurd (none has); nowhere = λ _. (refl, refl, refl) })
 
 heap_more : {sli : ℕ} (h : HeapState) (a v : Worker sli Lanes) (xs ys : List Took) → heap_of a ≡ heap_after h xs → heap_of v ≡ heap_after (heap_of a) ys → heap_of v ≡ heap_after h (xs ++ ys)
 heap_more h a v xs ys x y =
@@ -61,9 +45,9 @@ lane_of noted admitted a v x y from most tooks all l = record {
 }
 
 turn_of : {sli : ℕ} {N : Type 0} (noted : N → ℕ → ℕ → Took → N → Type 0) (admitted : N → ℕ → Type 0) (a v : Worker sli Lanes) (x y : N) (from most : ℕ) (tooks : List Took) → ((z : N) (k : ℕ) → admitted z k)
-    → TurnNoted noted admitted a v x y from most tooks → TurnDrained a v from most tooks
+    → TurnNoted HearsLane TookThrough StopsAtLane noted admitted a v x y from most tooks → TurnDrained a v from most tooks
 turn_of noted admitted a v x y from most tooks all t = record {
-  lane = λ has. lane_of noted admitted a v x y from most tooks all (t.lane has);
+  lane = λ has. lane_of noted admitted a v x y from most tooks all (t.here has);
   nowhere = λ none. let n = t.nowhere none in (n.0, n.1);
 }
 
@@ -116,9 +100,9 @@ lanes_keep a v most zero tooks l = subst (KeepsYards a) (sym l.1) (same_keeps a)
 lanes_keep a v most (suc k) tooks l = keeps_then a l.0 v (lanes_keep a l.0 most k l.1 l.4) (turn_keeps l.0 v k (most - length l.1) l.2 l.5)
 
 pub all_drained : {sli : ℕ} {N : Type 0} (noted : N → ℕ → ℕ → Took → N → Type 0) (admitted : N → ℕ → Type 0) (a v : Worker sli Lanes) (x y : N) (most : ℕ) (answer : Drained) → ((z : N) (i : ℕ) → admitted z i)
-    → AllNoted noted admitted a v x y most answer → DrainedAll a v most answer × KeepsYards a v
+    → AllLanesNoted noted admitted a v x y most answer → DrainedAll a v most answer × KeepsYards a v
 all_drained noted admitted a v x y most answer all d =
-    let lanes = turns_below noted admitted a v x y most (lane_places a) d.tooks all d.lanes in (
+    let lanes = turns_below noted admitted a v x y most (lane_places a) d.tooks all d.each in (
       record { tooks = d.tooks; lanes = lanes; heap = heap_below a v most (lane_places a) d.tooks lanes; count = d.count },
       lanes_keep a v most (lane_places a) d.tooks lanes,
     )

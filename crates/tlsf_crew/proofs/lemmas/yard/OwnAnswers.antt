@@ -15,19 +15,19 @@ use Rattle.tlsf_calls.specs.declared.target.Target.{Target}
 use Rattle.tlsf_calls.specs.declared.call.Call.{Call}
 use Rattle.tlsf_calls.specs.declared.call.Call.TheVariants.{Release, Write, Read, Resize}
 use Rattle.tlsf_calls.specs.declared.released.Released.{Released}
-use Rattle.tlsf_calls.specs.declared.released.Released.TheVariants.{Freed as WasFreed, Posted as WasPosted}
 use Rattle.tlsf_calls.specs.declared.reply.Reply.{Reply}
 use Rattle.tlsf_calls.specs.declared.reply.Reply.TheVariants.{Freed, Posted, Wrote, Got, Resized, Refused}
 use Rattle.tlsf_calls.specs.declared.crew_refusal.CrewRefusal.{CrewRefusal}
 use Rattle.tlsf_calls.specs.declared.crew_refusal.CrewRefusal.TheVariants.{Heap, Full, Stranger, Unmade}
 use Rattle.tlsf_calls.specs.Bytes.{bytes_of}
 use Rattle.tlsf_crew.specs.yard.Heaps.{released, written, resized, chunk_read}
-use Rattle.tlsf_crew.specs.yard.Workers.{heap_of, id_of, end_to, SameButHeap, HasPost, PutTo, KnowsYard}
+use Rattle.tlsf_crew.specs.yard.Workers.{heap_of, id_of, end_to, SameButHeap, HasPost, ReachesLane, PutTo, KnowsYard}
 use Rattle.tlsf_crew.specs.yard.Calls.{KeepsYards, by_heap, freed_by, ReleasedHere, ReleasedThere, PutsIntoLane, name_back, posted_as, put_answer}
 use Rattle.tlsf_crew.specs.yard.OwnReplies.{own_freeing, own_reading, own_resizing, own_writing}
 use Rattle.tlsf_crew.specs.yard.World.{World, Replied, heap_in, name_of, freeing, posting, releasing, releasing_named, writing_named, reading_named, resizing_named, reply_freed, reply_wrote, reply_got, reply_resized}
 use Rattle.tlsf_crew.specs.yard.Told.{HasHeap}
 use Rattle.tlsf_crew.specs.yard.Moves.{ModelReplies, CallStep}
+use Rattle.tlsf_crew.specs.yard.Scripts.{IsRelease, reply_released}
 use Rattle.tlsf_crew.proofs.lemmas.yard.SameParts.{ports_heap}
 use Rattle.tlsf_crew.proofs.lemmas.yard.AllEntries.{more_knows}
 use Rattle.tlsf_crew.proofs.lemmas.yard.OwnReplied.{read_keeps, resize_keeps, write_keeps}
@@ -64,10 +64,10 @@ refused_release at later a limits target why other = record {
   drained = λ most k i e. cc;
 }
 
-pub release_unmade : {sli : ℕ} (made : List (Option Name)) (a : Worker sli Lanes) (limits : List ℕ) (target : Target) → None ≡ name_of made target
+pub release_unmade : {sli : ℕ} (made : List (Option Name)) (a : Worker sli Lanes) (limits : List ℕ) (target : Target) → name_of made target ≡ None
     → CallStep made a limits (Release target) a limits (Refused Unmade) (λ w. releasing_named w (id_of a) (name_of made target))
 release_unmade made a limits target none =
-    subst (λ o. CallStep made a limits (Release target) a limits (Refused Unmade) (λ w. releasing_named w (id_of a) o)) none
+    subst (λ o. CallStep made a limits (Release target) a limits (Refused Unmade) (λ w. releasing_named w (id_of a) o)) (sym none)
     (itself_answered made a limits (Release target) (Refused Unmade) (λ w. releasing_named w (id_of a) None)
     (λ later. refused_release (id_of a) later a limits target Unmade (λ name e. cc)) (λ n k w e. refl))
 
@@ -124,11 +124,6 @@ full_there n a v name h ne lt w has full =
       reply = ap (λ r. r.reply) (sym e);
       left = h ∙ (sym has.1 ∙ ap (λ r. heap_in r.world at) (sym e));
     }
-
-abbrev pub reply_released : Result Released CrewRefusal → Reply
-reply_released (Ok WasFreed) = Freed
-reply_released (Ok WasPosted) = Posted
-reply_released (Err why) = Refused why
 
 pub freed_reply : (r : Result (Unit {0}) Refusal) → reply_released (freed_by r) ≡ reply_freed r
 freed_reply (Ok done) = refl
@@ -192,18 +187,11 @@ has_post_or : (o : Option PostEnd) → ((p : PostEnd) × (o ≡ Some p)) ⊎ ¬ 
 has_post_or None = inr (λ h. let e = h.1 in cc)
 has_post_or (Some p) = inl (p, refl)
 
--- what a release promises
-pub record IsRelease {sli : ℕ} (a v : Worker sli Lanes) (name : Name) (answer : Result Released CrewRefusal) : Type 0 where
-  pub here : name.heap ≡ id_of a → ReleasedHere a v name answer
-  pub there : name.heap ≢ id_of a → HasPost a name.heap → ReleasedThere PutsIntoLane a v name answer
-  pub nowhere : name.heap ≢ id_of a → ¬ (HasPost a name.heap) → (answer ≡ Err Stranger) × (v ≡ a)
-  pub yard : KeepsYards a v
-
 release_by_name : {sli : ℕ} (made : List (Option Name)) (a v : Worker sli Lanes) (limits : List ℕ) (target : Target) (name : Name) (answer : Result Released CrewRefusal) → name_of made target ≡ Some name
-    → IsRelease a v name answer → CallStep made a limits (Release target) v limits (reply_released answer) (λ w. releasing w (id_of a) name)
-release_by_name made a v limits target name answer known r =
+    → IsRelease ReachesLane PutsIntoLane a v name answer → KeepsYards a v → CallStep made a limits (Release target) v limits (reply_released answer) (λ w. releasing w (id_of a) name)
+release_by_name made a v limits target name answer known r yard =
     elim (cases_eq name.heap (id_of a)) [
-      | inl own ↦ here_answered made a v limits target name answer r.yard own (r.here own)
+      | inl own ↦ here_answered made a v limits target name answer yard own (r.here own)
       | inr ne ↦ elim (has_post_or (end_to a name.heap)) [
         | inl has ↦ there_answered made a v limits target name answer known ne (r.there ne has)
         | inr none ↦
@@ -214,12 +202,11 @@ release_by_name made a v limits target name answer known r =
       ]
     ]
 
-pub release_answered : {sli : ℕ} (made : List (Option Name)) (a v : Worker sli Lanes) (limits : List ℕ) (target : Target) (name : Name) (answer : Result Released CrewRefusal) (reply : Reply) → Some name ≡ name_of made target
-    → IsRelease a v name answer → reply_released answer ≡ reply → CallStep made a limits (Release target) v limits reply (λ w. releasing_named w (id_of a) (name_of made target))
-release_answered made a v limits target name answer reply known r e =
-    subst (λ o. CallStep made a limits (Release target) v limits reply (λ w. releasing_named w (id_of a) o)) known
-    (subst (λ y. CallStep made a limits (Release target) v limits y (λ w. releasing w (id_of a) name)) e
-    (release_by_name made a v limits target name answer (sym known) r))
+pub release_answered : {sli : ℕ} (made : List (Option Name)) (a v : Worker sli Lanes) (limits : List ℕ) (target : Target) (name : Name) (answer : Result Released CrewRefusal) → name_of made target ≡ Some name
+    → IsRelease ReachesLane PutsIntoLane a v name answer → KeepsYards a v → CallStep made a limits (Release target) v limits (reply_released answer) (λ w. releasing_named w (id_of a) (name_of made target))
+release_answered made a v limits target name answer known r yard =
+    subst (λ o. CallStep made a limits (Release target) v limits (reply_released answer) (λ w. releasing_named w (id_of a) o)) (sym known)
+    (release_by_name made a v limits target name answer known r yard)
 
 -- ---- write
 

@@ -1,5 +1,6 @@
 -- One call of a worker, and the entry that tells of it.
-use Rattle.std.proofs.Common.{[], ◌∷◌, ◌++◌, ◌≡◌, ℕ, ◌+◌, ◌≤◌, List, Option, length, sym, ◌∙◌, ap, arith, refl, append_assoc, append-nil, length-append}
+use Rattle.std.proofs.Common.{[], ◌∷◌, ◌++◌, ◌≡◌, ◌⊎◌, ℕ, ◌≤◌, List, Option, sym, ◌∙◌, ap, arith, refl, inl, inr, append-nil}
+use Rattle.std.proofs.lemmas.Bool.{cases_eq, cases_lt}
 use Rattle.tlsf_heap.specs.Blocks.{HeapState}
 use Rattle.tlsf_heap.specs.declared.name.Name.{Name}
 use Rattle.tlsf_crew.specs.declared.worker.Worker.{Worker}
@@ -7,14 +8,20 @@ use Rattle.tlsf_crew.specs.declared.yard.lanes.Lanes.{Lanes}
 use Rattle.tlsf_calls.specs.declared.entry.Entry.{Entry}
 use Rattle.tlsf_calls.specs.declared.call.Call.{Call}
 use Rattle.tlsf_calls.specs.declared.reply.Reply.{Reply}
-use Rattle.tlsf_crew.specs.yard.Workers.{heap_of, id_of, KnowsYard}
+use Rattle.tlsf_crew.specs.yard.Workers.{heap_of, id_of, HasTake, KnowsYard, TookThrough}
 use Rattle.tlsf_crew.specs.yard.World.{World, Replied, answered, called, heap_in, made_by}
 use Rattle.tlsf_crew.specs.yard.Told.{HasHeap, told_by}
-use Rattle.tlsf_calls.specs.declared.call.Call.TheVariants.{Drain}
+use Rattle.tlsf_calls.specs.declared.call.Call.TheVariants.{Drain, Take}
+use Rattle.tlsf_calls.specs.declared.crew_refusal.CrewRefusal.TheVariants.{Stranger}
+use Rattle.tlsf_calls.specs.declared.reply.Reply.TheVariants.{Refused}
+use Rattle.tlsf_calls.specs.declared.took.Took.{Took}
 use Rattle.tlsf_crew.proofs.lemmas.yard.Witnesses.{a_suit}
-use Rattle.tlsf_crew.specs.yard.Counts.{sum_of}
-use Rattle.tlsf_crew.specs.yard.Moves.{one, Suits, CallStep, Stepped, Called}
-use Rattle.tlsf_crew.proofs.lemmas.yard.ManyEntries.{moved_room}
+use Rattle.tlsf_crew.specs.yard.Moves.{one, Suits, CallStep, Moved, Stepped}
+use Rattle.tlsf_crew.specs.yard.ReplaySteps.{reply_took}
+use Rattle.tlsf_crew.specs.yard.Scripts.{AreMoves, TakenWithin}
+use Rattle.tlsf_crew.proofs.lemmas.yard.LaneTakes.{moved_none}
+use Rattle.tlsf_crew.proofs.lemmas.yard.WithinTakes.{take_answered, take_stranger, taken_within}
+use Rattle.tlsf_crew.proofs.lemmas.yard.ManyEntries.{moved_room, moved_then}
 
 -- one answer, as it is told
 answer_told : {sli : ℕ} (at : ℕ) (made : List (Option Name)) (es : List Entry) (w : World sli) (call : Call) (reply : Reply) (h : HeapState) (x : Replied sli) → reply ≡ x.reply → h ≡ heap_in x.world at
@@ -39,28 +46,30 @@ single_stepped {sli} n a v limits left call made es reply by k single is x =
       moved = x.moved;
     }
 
--- the answer told
-pub step_called : {sli : ℕ} (n : ℕ) (a v : Worker sli Lanes) (limits left : List ℕ) (call : Call) (made more : List (Option Name)) (es between longer : List Entry) (at : ℕ) (reply : Reply) → Stepped n a limits call made es v left between reply
-    → at ≡ id_of v → more ≡ made ++ made_by reply ∷ [] → longer ≡ between ++ record { worker = at; call = call; reply = reply } ∷ [] → Called n a limits call made es v left more longer
-step_called n a v limits left call made more es between longer at reply x is e f =
-    let m = x.moved [] in
-    let q : at ≡ id_of a = is ∙ ap (λ z. z.0) m.numbers in
-    let g : longer ≡ between ++ one (id_of a) call reply = f ∙ ap (λ i. between ++ one i call reply) q in
-    record {
-      name = made_by reply;
-      made_are = e;
-      own = x.own ++ one (id_of a) call reply;
-      entries_are = g ∙ (ap (λ l. l ++ one (id_of a) call reply) x.entries_are ∙ append_assoc es x.own (one (id_of a) call reply));
-      told = rw (e, g) x.told;
-      moved = x.moved;
-    }
+-- ---- over lanes
 
--- there is room for the own entry
-pub step_room : {sli : ℕ} (n : ℕ) (a v : Worker sli Lanes) (limits left : List ℕ) (call : Call) (made : List (Option Name)) (es longer : List Entry) (reply : Reply) → Stepped n a limits call made es v left longer reply
-    → length longer + 1 + sum_of left ≤ length es + 1 + sum_of limits
-step_room n a v limits left call made es longer reply x =
-    let last = one (id_of a) call reply in
-    let m = moved_room (id_of a) (made ++ []) a v limits left (call ∷ []) (x.own ++ last) (x.moved []) in
-    let p = length-append x.own last in
-    let q = ap length x.entries_are ∙ length-append es x.own in
-    omega arith
+pub lanes_moves : {sli : ℕ} → AreMoves {sli = sli} {P = Lanes} KnowsYard Moved
+lanes_moves = record {
+  none = moved_none;
+  then = moved_then;
+  number = λ at made a v limits left calls entries m. ap (λ z. z.0) m.numbers;
+  known = λ at made a v limits left calls entries m n k. m.knows n k;
+  room = moved_room;
+}
+
+no_lane : {sli : ℕ} (a : Worker sli Lanes) (n from : ℕ) → KnowsYard n a → ¬ (HasTake a from) → (from ≡ id_of a) ⊎ (n ≤ from)
+no_lane a n from k none = elim (cases_eq from (id_of a)) [
+  | inl own ↦ inl own
+  | inr ne ↦ elim (cases_lt from n) [ inl lt ↦ absurd (none ((k.from from).1 (lt, ne))) | inr ge ↦ inr ge ]
+]
+
+pub stranger_stepped : {sli : ℕ} (n : ℕ) (a : Worker sli Lanes) (limits : List ℕ) (from : ℕ) (made : List (Option Name)) (es : List Entry) → KnowsYard n a → ¬ (HasTake a from) → Stepped n a limits (Take from) made es a limits es (Refused Stranger)
+stranger_stepped n a limits from made es k none =
+    single_stepped n a a limits limits (Take from) made es (Refused Stranger) _ k (λ most e. cc) (λ w. refl) (take_stranger made n a limits from k (no_lane a n from k none))
+
+pub take_stepped : {sli : ℕ} (n : ℕ) (a v : Worker sli Lanes) (limits left : List ℕ) (from : ℕ) (made : List (Option Name)) (es : List Entry) (answer : Option Took) → KnowsYard n a → HasTake a from
+    → TakenWithin TookThrough a limits from v left answer → Stepped n a limits (Take from) made es v left es (reply_took answer)
+take_stepped n a v limits left from made es answer k has t =
+    let near = (k.from from).0 has in
+    single_stepped n a v limits left (Take from) made es (reply_took answer) _ k (λ most e. cc) (λ w. refl)
+    (take_answered made n a v limits left from answer k near.1 near.0 (taken_within a v limits left from answer (omega (arith, near.0, k.few)) t))

@@ -1,8 +1,8 @@
 -- Takes one after another from a source of any kind.
-use Rattle.std.proofs.Common.{[], ◌∷◌, ◌++◌, ◌≡◌, ◌+◌, ◌≤◌, ℕ, List, Option, Some, None, length, refl, sym, ◌∙◌, ap, arith, subst, true, false, cond}
+use Rattle.std.proofs.Common.{[], ◌∷◌, ◌++◌, ◌≡◌, ◌+◌, ◌-◌, ◌≤◌, ℕ, List, Option, Some, None, length, refl, sym, ◌∙◌, ap, arith, subst, true, false, cond, add-one}
 use Rattle.std.specs.List.{count_by}
 use Rattle.std.proofs.lemmas.List.Sums.{count_by-le-length, sum_by-append}
-use Rattle.std.proofs.lemmas.List.{length-append}
+use Rattle.std.proofs.lemmas.List.{append-nil, length-append}
 use Rattle.tlsf_heap.specs.Blocks.{HeapState}
 use Rattle.tlsf_heap.specs.Calls.{released}
 use Rattle.tlsf_post.specs.declared.post.Post.{Post}
@@ -12,7 +12,7 @@ use Rattle.tlsf_crew.specs.declared.worker.Worker.{Worker}
 use Rattle.tlsf_crew.specs.yard.Workers.{heap_of, id_of}
 use Rattle.tlsf_crew.specs.yard.Calls.{AfterTake, TakenFrom, TakesInTurn}
 use Rattle.tlsf_crew.specs.yard.LaneTurns.{heap_after, is_freed, IsCountOf}
-use Rattle.tlsf_crew.specs.yard.Notes.{NotedInTurn}
+use Rattle.tlsf_crew.specs.yard.Notes.{EachNoted, NotedInTurn, SourceNoted}
 use Rattle.tlsf_crew.proofs.lemmas.yard.SameParts.{ports_heap}
 
 -- one take more
@@ -27,6 +27,19 @@ pub takes_of : {sli : ℕ} {P N : Type 0} (takes : P → P → ℕ → Option Po
     → NotedInTurn takes noted a v x y source tooks → TakesInTurn takes a v source tooks
 takes_of takes noted a v x y source [] t = t.0
 takes_of takes noted a v x y source (took ∷ tooks) t = (t.0, t.2, takes_of takes noted t.0 v t.1 y source tooks t.4)
+
+-- the turn of one more number: of a source that was drained, and where there is none
+pub turn_more : {sli : ℕ} {P N : Type 0} (hears : P → ℕ → Type 0) (takes : P → P → ℕ → Option Post → Type 0) (stops : P → P → ℕ → Type 0) (noted : N → ℕ → ℕ → Took → N → Type 0) (admitted : N → ℕ → Type 0) (a b v : Worker sli P) (x y z : N) (most k : ℕ) (xs ys : List Took)
+    → EachNoted hears takes stops noted admitted a b x y most k xs → hears b.ports k → SourceNoted takes stops noted admitted b v y z k (most - length xs) ys → EachNoted hears takes stops noted admitted a v x z most (k + 1) (xs ++ ys)
+turn_more hears takes stops noted admitted a b v x y z most k xs ys each has here =
+    subst (λ (n : ℕ). EachNoted hears takes stops noted admitted a v x z most n (xs ++ ys)) (sym (add-one k))
+    (b, y, xs, ys, refl, each, record { here = λ _. here; nowhere = λ f. absurd (f has) })
+
+pub turn_none : {sli : ℕ} {P N : Type 0} (hears : P → ℕ → Type 0) (takes : P → P → ℕ → Option Post → Type 0) (stops : P → P → ℕ → Type 0) (noted : N → ℕ → ℕ → Took → N → Type 0) (admitted : N → ℕ → Type 0) (a b : Worker sli P) (x y : N) (most k : ℕ) (xs : List Took)
+    → EachNoted hears takes stops noted admitted a b x y most k xs → ¬ (hears b.ports k) → EachNoted hears takes stops noted admitted a b x y most (k + 1) xs
+turn_none hears takes stops noted admitted a b x y most k xs each none =
+    subst (λ (n : ℕ). EachNoted hears takes stops noted admitted a b x y most n xs) (sym (add-one k))
+    (b, y, xs, [], sym (append-nil xs), each, record { here = λ has. absurd (none has); nowhere = λ _. (refl, refl, refl) })
 
 -- what a take leaves of the heap
 some_heap : {sli : ℕ} {P : Type 0} (a v : Worker sli P) (post : Option Post) (took : Took) → AfterTake a v post (Some took) → heap_of v ≡ (released (heap_of a) took.name).heap

@@ -1,5 +1,5 @@
 -- A take of a worker in a race, where a limit says how many it may take.
-use Rattle.std.proofs.Common.{[], ◌∷◌, ◌++◌, ◌≡◌, ◌≢◌, ◌-◌, ℕ, ◌<◌, ◌≤◌, List, Option, Some, None, Ok, length, take, set, sym, ◌∙◌, ap, arith, refl, inl, inr, ◌⊎◌, subst}
+use Rattle.std.proofs.Common.{[], ◌∷◌, ◌++◌, ◌≡◌, ◌≢◌, ◌-◌, ℕ, ◌<◌, ◌≤◌, List, Option, Some, None, length, take, set, sym, ◌∙◌, ap, arith, refl, inl, inr, ◌⊎◌, subst}
 use mathlib.Core.List.{IsPrefix}
 use Rattle.std.specs.Prelude.{slice_index}
 use Rattle.std.proofs.lemmas.Bool.{cases_eq, cases_lt}
@@ -17,11 +17,12 @@ use Rattle.tlsf_calls.specs.declared.took.Took.{Took}
 use Rattle.tlsf_calls.specs.declared.reply.Reply.TheVariants.{Took as Taken, Empty, Refused}
 use Rattle.tlsf_calls.specs.declared.crew_refusal.CrewRefusal.TheVariants.{Stranger}
 use Rattle.tlsf_crew.specs.yard.Heaps.{released}
-use Rattle.tlsf_crew.specs.yard.Workers.{heap_of, id_of, TookFrom, KnowsYard}
+use Rattle.tlsf_crew.specs.yard.Workers.{heap_of, id_of, TookFrom, TookThrough, KnowsYard}
 use Rattle.tlsf_crew.specs.yard.Calls.{AfterTake, TakenFromLane}
 use Rattle.tlsf_crew.specs.yard.Told.{HasHeap}
 use Rattle.tlsf_crew.specs.yard.World.{World, heap_in, taking, taking_next, took, took_first}
 use Rattle.tlsf_crew.specs.yard.ReplaySteps.{reply_took}
+use Rattle.tlsf_crew.specs.yard.Scripts.{TakenWithin}
 use Rattle.tlsf_crew.specs.yard.Moves.{one, Spent, Moved, ModelReplies, CallStep, TookWithin, took_by}
 use Rattle.tlsf_crew.proofs.lemmas.yard.SameParts.{ports_heap}
 use Rattle.tlsf_crew.proofs.lemmas.yard.YardKept.{heap_keeps, same_keeps}
@@ -85,6 +86,16 @@ some_case a b v limits left from (Some p) took near fewer lane then =
 
 pub within_some : {sli : ℕ} (a v : Worker sli Lanes) (limits left : List ℕ) (from : ℕ) (took : Took) → from < 8 → OneFewer limits from left → TakenFromLane a v from (Some took) → TookWithin a limits from v left (Some took)
 within_some a v limits left from took near fewer t = some_case a t.between v limits left from t.post took near fewer t.took t.then
+
+-- one post was taken, or no more might be, or the lane showed none
+pub taken_within : {sli : ℕ} (a v : Worker sli Lanes) (limits left : List ℕ) (from : ℕ) (answer : Option Took) → from < 8 → TakenWithin TookThrough a limits from v left answer → TookWithin a limits from v left answer
+taken_within a v limits left from None near t = rw t.0 (elim t.1 [
+  | inl stopped ↦
+      let none : slice_index limits from ≡ 0 = elim (cases_lt 0 (slice_index limits from)) [ inl some ↦ absurd (stopped.0 (near, some)) | inr le ↦ omega arith ] in
+      rw stopped.1 (within_none a limits from none)
+  | inr empty ↦ within_empty a v limits from empty
+])
+taken_within a v limits left from (Some took) near t = within_some a v limits left from took t.0 t.1 t.2
 
 -- ---- a take of its own
 

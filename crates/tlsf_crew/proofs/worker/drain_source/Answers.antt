@@ -1,4 +1,5 @@
-use Rattle.std.proofs.Common.{refl, [], ◌∷◌, ◌++◌, inl, inr, arith, Some, sym}
+use Rattle.std.proofs.Common.{refl, ◌∙◌, [], ◌∷◌, ◌++◌, inl, inr, arith, sym, subst}
+use Rattle.tlsf_calls.specs.declared.took.Took.{Took}
 use Rattle.tlsf_crew.proofs.lemmas.yard.SourceTurns.{counted_few, noted_more, counts_then, one_freed, one_kept}
 use Rattle.tlsf_crew.proofs.worker.drain_source.Goals as goal
 
@@ -6,6 +7,7 @@ pub loop-drained-init : goal.loop-drained-init
 loop-drained-init g c = record {
   source = c.requires.source;
   room = c.requires.room;
+  kept = refl;
   takes = ([], (refl, refl), (refl, refl));
   few = omega arith;
   touches = omega arith;
@@ -22,10 +24,11 @@ loop-drained-preserved-then-is_ok g c =
     record {
       source = e.still;
       room = c.note.ensures.room;
+      kept = c.note.ensures.most ∙ i.kept;
       takes = (
         i.takes.0 ++ took ∷ [],
-        noted_more g.P.Exchange.takes g.N.Notes.noted c.args.worker.now c.loop-drained.worker c.take_next.new.worker c.args.notes.now c.loop-drained.notes c.note.new.self c.args.source i.takes.0 took i.takes.1 e.taken
-            c.note.ensures.noted,
+        noted_more g.P.Exchange.takes (λ old at source (took : Took) new. g.N.Notes.noted old at source (g.P.Ports.sent_by took.from) took new) c.args.worker.now c.loop-drained.worker c.take_next.new.worker c.args.notes.now c.loop-drained.notes c.note.new.self c.args.source i.takes.0 took i.takes.1 e.taken
+            (subst (λ o. g.N.Notes.noted c.loop-drained.notes c.take_next.new.worker.id c.args.source o took c.note.new.self) c.sender.ensures c.note.ensures.noted),
         counts_then c.loop-drained.drained (record { taken = 1; freed = 1 }) i.takes.0 (took ∷ []) i.takes.2 (one_freed took (sym c.if-is_ok.ensures.value)),
       );
       few = omega arith;
@@ -44,10 +47,11 @@ loop-drained-preserved g c =
     record {
       source = e.still;
       room = c.note.ensures.room;
+      kept = c.note.ensures.most ∙ i.kept;
       takes = (
         i.takes.0 ++ took ∷ [],
-        noted_more g.P.Exchange.takes g.N.Notes.noted c.args.worker.now c.loop-drained.worker c.take_next.new.worker c.args.notes.now c.loop-drained.notes c.note.new.self c.args.source i.takes.0 took i.takes.1 e.taken
-            c.note.ensures.noted,
+        noted_more g.P.Exchange.takes (λ old at source (took : Took) new. g.N.Notes.noted old at source (g.P.Ports.sent_by took.from) took new) c.args.worker.now c.loop-drained.worker c.take_next.new.worker c.args.notes.now c.loop-drained.notes c.note.new.self c.args.source i.takes.0 took i.takes.1 e.taken
+            (subst (λ o. g.N.Notes.noted c.loop-drained.notes c.take_next.new.worker.id c.args.source o took c.note.new.self) c.sender.ensures c.note.ensures.noted),
         (n.0, omega (arith, n.1)),
       );
       few = omega arith;
@@ -136,3 +140,12 @@ loop-drained-smaller g c = omega arith
 
 pub loop-drained-smaller-then-is_ok : goal.loop-drained-smaller-then-is_ok
 loop-drained-smaller-then-is_ok g c = omega arith
+
+pub returns-after-loop-drained-clause-kept : goal.returns-after-loop-drained-clause-kept
+returns-after-loop-drained-clause-kept g c = c.loop-drained.invariant.kept
+
+pub returns-then-not-admits-clause-kept : goal.returns-then-not-admits-clause-kept
+returns-then-not-admits-clause-kept g c = c.loop-drained.invariant.kept
+
+pub returns-in_default-clause-kept : goal.returns-in_default-clause-kept
+returns-in_default-clause-kept g c = c.loop-drained.invariant.kept

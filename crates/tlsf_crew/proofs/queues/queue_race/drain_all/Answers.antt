@@ -1,7 +1,8 @@
-use Rattle.std.proofs.Common.{◌≤◌, ◌∙◌, get_or, arith, subst, sym}
+use Rattle.std.proofs.Common.{◌≤◌, ◌∙◌, get_or, arith, refl, subst, sym}
 use Rattle.std.proofs.lemmas.Option.{slice_get-get_or}
 use Rattle.tlsf_crew.specs.queues.QueueTasks.{HasPlace, KnowsSomeYard}
 use Rattle.tlsf_crew.proofs.lemmas.queues.QueueLast.{drained_next}
+use Rattle.tlsf_crew.proofs.lemmas.threads.RecordRooms.{keeps_set}
 use Rattle.tlsf_crew.proofs.lemmas.yard.Slots.{get_set_other, some_same}
 use Rattle.tlsf_crew.proofs.queues.queue_race.drain_all.Goals as goal
 
@@ -23,6 +24,13 @@ drain_last-requires g c = (
   ),
 )
 
+pub loop-j-init : goal.loop-j-init
+loop-j-init g c = record {
+  drained = record { worker_count = refl; record_count = refl; drained = λ j a lt. absurd (omega arith); later_workers = λ k le. refl };
+  rooms = λ k s there. (s, there, refl);
+  later = λ k le. refl;
+}
+
 pub loop-j-preserved : goal.loop-j-preserved
 loop-j-preserved g c =
     let i = c.loop-j.invariant in
@@ -31,6 +39,10 @@ loop-j-preserved g c =
     let here = slice_get-get_or c.loop-j.records c.loop-j.j c.index-records-j.result (omega (arith, c.requires.count)) in
     record {
       drained = drained_next c.args.workers.now c.loop-j.workers c.args.records.now c.loop-j.records c.loop-j.j _ c.drain_last.new.worker _ c.drain_last.new.entries i.drained at here (sym (i.later c.loop-j.j le) ∙ here)
-          c.drain_last.ensures;
+          c.drain_last.ensures.drained;
+      rooms = keeps_set c.args.records.now c.loop-j.records c.loop-j.j _ c.drain_last.new.entries i.rooms (omega (arith, c.requires.count)) here c.drain_last.ensures.capacity;
       later = λ k after. get_set_other c.loop-j.records c.loop-j.j k c.drain_last.new.entries (λ e. omega arith) ∙ i.later k (omega arith);
     }
+
+pub returns-clause-rooms : goal.returns-clause-rooms
+returns-clause-rooms g c = c.loop-j.invariant.rooms

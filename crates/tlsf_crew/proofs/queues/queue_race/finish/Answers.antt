@@ -16,16 +16,19 @@ pub settle_each_queue-requires-2 : goal.settle_each_queue-requires-2
 settle_each_queue-requires-2 g c = (
   omega arith,
   (
-    drained_yard c.settle_each_queue.new.workers _ _ c.drain_all.new.workers c.settle_each_queue.ensures.settled.yard c.drain_all.ensures,
+    drained_yard c.settle_each_queue.new.workers _ _ c.drain_all.new.workers c.settle_each_queue.ensures.settled.yard c.drain_all.ensures.drained,
     omega arith,
   ),
 )
 
-pub returns : goal.returns
-returns g c = record {
+pub returns-clause-rooms : goal.returns-clause-rooms
+returns-clause-rooms g c = c.drain_all.ensures.rooms
+
+pub returns-clause-finished : goal.returns-clause-finished
+returns-clause-finished g c = record {
   met = c.settle_each_queue.new.workers;
   emptied = c.drain_all.new.workers;
   first = c.settle_each_queue.ensures.settled;
-  drained = c.drain_all.ensures;
+  drained = c.drain_all.ensures.drained;
   last = c.settle_each_queue-2.ensures.settled;
 }

@@ -4,6 +4,7 @@ use Rattle.std.specs.declared.alloc.Global.{Global}
 use Rattle.std.proofs.lemmas.List.{length-map}
 use Rattle.tlsf_calls.specs.declared.entry.Entry.{Entry}
 use Rattle.tlsf_crew.proofs.lemmas.threads.WholeRace.{written_back}
+use Rattle.tlsf_crew.proofs.lemmas.queues.QueueGathering.{queue_rooms_kept}
 use Rattle.tlsf_crew.proofs.lemmas.queues.QueueRaces.{queue_race_is, ran_yard}
 use Rattle.tlsf_crew.proofs.queues.queue_race.race_queues.Goals as goal
 
@@ -37,7 +38,7 @@ returns g c =
     let ws = c.settle_each_queue.new.workers in
     let out = c.in_ok-outcome.outcome in
     let settled = c.settle_each_queue.ensures.settled in
-    let done = rw (c.deref_mut-2.ensures.value, c.deref_mut-3.ensures.value) at c.finish.ensures in
+    let done = rw (c.deref_mut-2.ensures.value, c.deref_mut-3.ensures.value) at c.finish.ensures.finished in
     let first = written_back c.args.workers.len ws c.args.workers.items (omega (arith, settled.count, c.deref_mut.ensures.len)) in
     let run = rw first at c.in_ok-outcome.ensures.run in
     let new_len = length-map c.finish.new.records (λ (r : Vec Entry Global). r.items) in
@@ -50,4 +51,5 @@ returns g c =
       race = rw (records, workers, sym c.deref_mut.ensures.value) (queue_race_is zs ws out.workers.items c.finish.new.workers (map (λ s. s.items) c.args.scripts.items)
           (map (λ r. r.items) out.records.items) (map (λ r. r.items) c.finish.new.records) (rw c.deref_mut.ensures.value c.requires.yard) settled run done);
       yard = rw workers done.last.yard;
+      room = rw records (queue_rooms_kept _ out.records.items c.finish.new.records c.in_ok-outcome.ensures.rooms (rw c.deref_mut-3.ensures.value at c.finish.ensures.rooms));
     }

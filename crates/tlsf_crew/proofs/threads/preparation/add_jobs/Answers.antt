@@ -3,7 +3,7 @@ use Rattle.std.proofs.lemmas.List.{append-nil, length-map, nil_from_length}
 use Rattle.std.proofs.lemmas.List.Elements.{All-pop, All-push}
 use Rattle.std.proofs.lemmas.List.Sorted.{All-permutation}
 use Rattle.tlsf_crew.specs.declared.threads.job.Job.{Job}
-use Rattle.tlsf_crew.specs.yard.Workers.{KnowsYard}
+use Rattle.tlsf_crew.specs.threads.Job.{KnowsSome}
 use Rattle.tlsf_crew.specs.threads.Parts.{IsPrepared}
 use Rattle.tlsf_crew.proofs.lemmas.threads.Popped.{popped_all, popped_more}
 use Rattle.tlsf_crew.proofs.threads.preparation.add_jobs.Goals as goal
@@ -29,7 +29,7 @@ make_job-requires g c = (
   (
     omega arith,
     (
-      (All-pop (KnowsYard c.args.count) c.loop-worker.workers.items c.pop.new.self.items (Some c.in-Some.worker) c.in-Some.ensures.items c.loop-worker.invariant.yard).1,
+      (All-pop (KnowsSome (g.P.Scripted.knows g.row.SLI)) c.loop-worker.workers.items c.pop.new.self.items (Some c.in-Some.worker) c.in-Some.ensures.items c.loop-worker.invariant.yard).1,
       (All-pop (λ s. vec_len s < 2 ^ 32) c.loop-worker.scripts.items c.pop-in-Some.new.self.items (Some c.in-Some-pop.script) c.in-Some-pop.ensures.items c.loop-worker.invariant.short).1,
     ),
   ),
@@ -46,11 +46,11 @@ loop-worker-preserved g c =
     let i = c.loop-worker.invariant in
     record {
       same = omega (arith, i.same, c.in-Some.ensures.cases, c.in-Some-pop.ensures.cases);
-      yard = (All-pop (KnowsYard c.args.count) c.loop-worker.workers.items c.pop.new.self.items (Some c.in-Some.worker) c.in-Some.ensures.items c.loop-worker.invariant.yard).0;
+      yard = (All-pop (KnowsSome (g.P.Scripted.knows g.row.SLI)) c.loop-worker.workers.items c.pop.new.self.items (Some c.in-Some.worker) c.in-Some.ensures.items c.loop-worker.invariant.yard).0;
       short = (All-pop (λ s. vec_len s < 2 ^ 32) c.loop-worker.scripts.items c.pop-in-Some.new.self.items (Some c.in-Some-pop.script) c.in-Some-pop.ensures.items c.loop-worker.invariant.short).0;
-      workers = popped_more (λ (j : Job g.row.SLI). j.worker) _ _ _ c.in-Some.worker _ _ c.in_ok-job.job c.in-Some.ensures.items c.push_reserved.ensures.items c.in_ok-job.ensures.0 i.workers;
-      scripts = popped_more (λ (j : Job g.row.SLI). j.script) _ _ _ c.in-Some-pop.script _ _ c.in_ok-job.job c.in-Some-pop.ensures.items c.push_reserved.ensures.items c.in_ok-job.ensures.1 i.scripts;
-      ready = rw c.push_reserved.ensures.items (All-push (IsPrepared c.args.count c.args.releases.now) _ _ i.ready c.in_ok-job.ensures.2);
+      workers = popped_more (λ (j : Job g.row.SLI _). j.worker) _ _ _ c.in-Some.worker _ _ c.in_ok-job.job c.in-Some.ensures.items c.push_reserved.ensures.items c.in_ok-job.ensures.0 i.workers;
+      scripts = popped_more (λ (j : Job g.row.SLI _). j.script) _ _ _ c.in-Some-pop.script _ _ c.in_ok-job.job c.in-Some-pop.ensures.items c.push_reserved.ensures.items c.in_ok-job.ensures.1 i.scripts;
+      ready = rw c.push_reserved.ensures.items (All-push (IsPrepared g.P.Scripted.limited (g.P.Scripted.knows g.row.SLI) c.args.releases.now) _ _ i.ready c.in_ok-job.ensures.2);
       room = omega (arith, i.room, c.push_reserved.ensures.len, c.push_reserved.ensures.capacity, c.in-Some.ensures.cases);
       capacity = c.push_reserved.ensures.capacity ∙ i.capacity;
     }
@@ -61,21 +61,21 @@ returns-in_err-job-clause-capacity g c = c.loop-worker.invariant.capacity
 pub returns-clause-workers : goal.returns-clause-workers
 returns-clause-workers g c =
     let l = c.loop-worker.workers.ok in
-    popped_all (λ (j : Job g.row.SLI). j.worker) c.loop-worker.workers.items c.args.workers.now.items c.loop-worker.jobs.items c.reverse.new.self.items (nil_from_length c.loop-worker.workers.items (omega (arith, c.in_default.ensures.cases.0))) c.reverse.ensures.items c.loop-worker.invariant.workers
+    popped_all (λ (j : Job g.row.SLI _). j.worker) c.loop-worker.workers.items c.args.workers.now.items c.loop-worker.jobs.items c.reverse.new.self.items (nil_from_length c.loop-worker.workers.items (omega (arith, c.in_default.ensures.cases.0))) c.reverse.ensures.items c.loop-worker.invariant.workers
 
 pub returns-clause-scripts : goal.returns-clause-scripts
 returns-clause-scripts g c =
     let l = c.loop-worker.scripts.ok in
-    popped_all (λ (j : Job g.row.SLI). j.script) c.loop-worker.scripts.items c.args.scripts.now.items c.loop-worker.jobs.items c.reverse.new.self.items (nil_from_length c.loop-worker.scripts.items (omega (arith, c.loop-worker.invariant.same, c.in_default.ensures.cases.0))) c.reverse.ensures.items c.loop-worker.invariant.scripts
+    popped_all (λ (j : Job g.row.SLI _). j.script) c.loop-worker.scripts.items c.args.scripts.now.items c.loop-worker.jobs.items c.reverse.new.self.items (nil_from_length c.loop-worker.scripts.items (omega (arith, c.loop-worker.invariant.same, c.in_default.ensures.cases.0))) c.reverse.ensures.items c.loop-worker.invariant.scripts
 
 pub returns-clause-ready : goal.returns-clause-ready
-returns-clause-ready g c = All-permutation (IsPrepared c.args.count c.args.releases.now) _ _ c.reverse.ensures.permutation c.loop-worker.invariant.ready
+returns-clause-ready g c = All-permutation (IsPrepared g.P.Scripted.limited (g.P.Scripted.knows g.row.SLI) c.args.releases.now) _ _ c.reverse.ensures.permutation c.loop-worker.invariant.ready
 
 pub returns-clause-len : goal.returns-clause-len
 returns-clause-len g c =
     let l = c.loop-worker.workers.ok in
-    let whole = popped_all (λ (j : Job g.row.SLI). j.worker) c.loop-worker.workers.items c.args.workers.now.items c.loop-worker.jobs.items c.reverse.new.self.items (nil_from_length c.loop-worker.workers.items (omega (arith, c.in_default.ensures.cases.0))) c.reverse.ensures.items c.loop-worker.invariant.workers in
-    omega (arith, ap length whole, length-map c.reverse.new.self.items (λ (j : Job g.row.SLI). j.worker), c.reverse.new.self.ok, c.args.workers.now.ok)
+    let whole = popped_all (λ (j : Job g.row.SLI _). j.worker) c.loop-worker.workers.items c.args.workers.now.items c.loop-worker.jobs.items c.reverse.new.self.items (nil_from_length c.loop-worker.workers.items (omega (arith, c.in_default.ensures.cases.0))) c.reverse.ensures.items c.loop-worker.invariant.workers in
+    omega (arith, ap length whole, length-map c.reverse.new.self.items (λ (j : Job g.row.SLI _). j.worker), c.reverse.new.self.ok, c.args.workers.now.ok)
 
 pub returns-clause-capacity : goal.returns-clause-capacity
 returns-clause-capacity g c = c.reverse.ensures.capacity ∙ c.loop-worker.invariant.capacity

@@ -1,5 +1,4 @@
-use Rattle.std.proofs.Common.{arith, sym}
-use Rattle.tlsf_crew.proofs.lemmas.yard.Gathering.{each_knows}
+use Rattle.std.proofs.Common.{arith}
 use Rattle.tlsf_crew.proofs.threads.preparation.prepare.Goals as goal
 
 pub add_jobs-requires : goal.add_jobs-requires
@@ -10,11 +9,10 @@ add_jobs-requires g c = (
     (
       c.requires.count,
       (
-        let l = c.args.workers.ok in
-            each_knows c.len-count.result c.args.workers.items (omega (arith, c.len-count.ensures)) c.requires.yard,
+        c.requires.yard,
         (
           c.requires.short,
-          (c.in_ok-jobs.ensures.items, omega (arith, c.len-count.ensures, c.in_ok-jobs.ensures.capacity)),
+          (c.in_ok-jobs.ensures.items, omega (arith, c.in_ok-jobs.ensures.capacity)),
         ),
       ),
     ),
@@ -28,7 +26,7 @@ pub returns-clause-scripts : goal.returns-clause-scripts
 returns-clause-scripts g c = c.in_ok-add_jobs.ensures.scripts
 
 pub returns-clause-ready : goal.returns-clause-ready
-returns-clause-ready g c = rw (sym c.len-count.ensures) c.in_ok-add_jobs.ensures.ready
+returns-clause-ready g c = c.in_ok-add_jobs.ensures.ready
 
 pub returns-clause-len : goal.returns-clause-len
 returns-clause-len g c = c.in_ok-add_jobs.ensures.len

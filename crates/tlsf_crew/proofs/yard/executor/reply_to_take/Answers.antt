@@ -1,26 +1,30 @@
-use Rattle.std.proofs.Common.{Some, None, inl, inr, arith}
-use Rattle.tlsf_crew.proofs.lemmas.yard.WithinTakes.{take_answered, take_stranger}
+use Rattle.std.proofs.Common.{Some, None, inl, inr, arith, refl}
+use Rattle.tlsf_crew.proofs.lemmas.yard.WithinTakes.{one_fewer}
 use Rattle.tlsf_crew.proofs.yard.executor.reply_to_take.Goals as goal
-use Rattle.tlsf_crew.proofs.yard.executor.reply_to_take.Goals.{then-from-worker-via-then-from-worker, then-from-worker-via-else-from-worker+then-from-count}
 
-pub returns-then-from-worker : goal.returns-then-from-worker
-returns-then-from-worker g c = λ made.
-    let a = c.args.worker.now in
-    elim c.then-from-worker.branch [
-      | then-from-worker-via-then-from-worker w ↦ take_stranger made c.args.count a c.args.limits.now c.args.from c.requires (inl w.if-from-worker.true)
-      | then-from-worker-via-else-from-worker+then-from-count w ↦ take_stranger made c.args.count a c.args.limits.now c.args.from c.requires (inr w.if-from-count.true)
-    ]
+pub returns-then-not-is_source_of-clause-stepped : goal.returns-then-not-is_source_of-clause-stepped
+returns-then-not-is_source_of-clause-stepped g c = λ n made k.
+    c.takes_step.ensures.stranger g.row.SLI n c.args.worker.now c.args.journal.now.limits c.args.from made c.args.journal.now.entries.items k (c.is_source_of.ensures.no c.if-not-is_source_of.true)
 
-pub take_within-requires : goal.take_within-requires
-take_within-requires g c =
-    (omega arith, (omega arith, (c.requires.from c.args.from).1 (c.if-from-count.false, c.if-from-worker.false)))
+pub returns-then-not-admits-clause-stepped : goal.returns-then-not-admits-clause-stepped
+returns-then-not-admits-clause-stepped g c = λ n made k.
+    let s = c.is_source_of.ensures.yes c.if-not-is_source_of.false in
+    c.takes_step.ensures.taken g.row.SLI n c.args.worker.now c.args.worker.now c.args.journal.now.limits c.args.journal.now.limits c.args.from made c.args.journal.now.entries.items None k s.0 s.1
+    (refl, inl (c.admits.ensures.no c.if-not-admits.true, refl))
 
-pub returns-in-Some : goal.returns-in-Some
-returns-in-Some g c = λ made.
-    take_answered made c.args.count c.args.worker.now c.take_within.new.worker c.args.limits.now c.take_within.new.limits c.args.from (Some c.in-Some.took) c.requires
-    c.if-from-worker.false c.if-from-count.false c.in-Some.ensures
+pub take_next-requires : goal.take_next-requires
+take_next-requires g c = (omega arith, (c.is_source_of.ensures.yes c.if-not-is_source_of.false).1)
 
-pub returns-in-None : goal.returns-in-None
-returns-in-None g c = λ made.
-    take_answered made c.args.count c.args.worker.now c.take_within.new.worker c.args.limits.now c.take_within.new.limits c.args.from None c.requires
-    c.if-from-worker.false c.if-from-count.false c.in-None.ensures
+pub returns-in_default-clause-stepped : goal.returns-in_default-clause-stepped
+returns-in_default-clause-stepped g c = λ n made k.
+    let s = c.is_source_of.ensures.yes c.if-not-is_source_of.false in
+    c.takes_step.ensures.taken g.row.SLI n c.args.worker.now c.take_next.new.worker c.args.journal.now.limits c.args.journal.now.limits c.args.from made c.args.journal.now.entries.items None k s.0 s.1
+    (refl, inr c.in_default.ensures.taken)
+
+pub returns-clause-stepped : goal.returns-clause-stepped
+returns-clause-stepped g c = λ n made k.
+    let s = c.is_source_of.ensures.yes c.if-not-is_source_of.false in
+    let a = c.admits.ensures.yes c.if-not-admits.false in
+    let limits = c.args.journal.now.limits in
+    c.takes_step.ensures.taken g.row.SLI n c.args.worker.now c.take_next.new.worker limits _ c.args.from made c.args.journal.now.entries.items (Some c.in-Some.took) k s.0 s.1
+    (a.0, one_fewer limits c.args.from (omega (arith, a.0)) a.1, c.in-Some.ensures.taken)

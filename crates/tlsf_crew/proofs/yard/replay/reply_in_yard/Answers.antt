@@ -11,19 +11,11 @@ use Rattle.tlsf_crew.proofs.yard.replay.reply_in_yard.Given.{Over}
 use Rattle.tlsf_crew.proofs.yard.replay.reply_in_yard.Goals as goal
 
 pub reply_to-reply-requires : goal.reply_to-reply-requires
-reply_to-reply-requires g c = (
-  omega arith,
-  (
-    let vs = c.settle_for-journal.new.workers in
-        let n = c.settle_for-journal.ensures.count in
-        let p = c.requires.inside in
-        each_knows (length vs) vs refl c.settle_for-journal.ensures.yard c.args.event.worker c.index-workers-event.result (omega arith),
+reply_to-reply-requires g c =
     let e = c.settle_for-journal.ensures in
-        let r = limit_room c.args.workers.now c.settle_for-journal.new.workers c.args.event c.settle_for-journal.result e.limits e.world in
-        let room = c.requires.room in
-        omega arith,
-  ),
-)
+    let r = limit_room c.args.workers.now c.settle_for-journal.new.workers c.args.event c.settle_for-journal.result e.limits e.world in
+    let room = c.requires.room in
+    (omega arith, omega arith)
 
 run_of : (g : Over) → goal.After-workers-2-1 g → Run g.row.SLI
 run_of g c =
@@ -49,7 +41,7 @@ run_of g c =
       yard = e.yard;
       is = ap (slice_get vs) own ∙ is;
       knows = each_knows (length vs) vs refl e.yard c.args.event.worker c.index-workers-event.result lt;
-      step = c.reply_to-reply.ensures.stepped;
+      step = c.reply_to-reply.ensures.stepped (length vs) (each_knows (length vs) vs refl e.yard c.args.event.worker c.index-workers-event.result lt);
     }
 
 pub settle_for-requires : goal.settle_for-requires
@@ -63,7 +55,8 @@ settle_for-requires g c = (
         let lt : c.args.event.worker < length vs = omega arith in
         let a : Worker g.row.SLI Lanes = get_or vs c.args.event.worker c.index-workers-event.result in
         let is : slice_get vs c.args.event.worker ≡ Some a = slice_get-get_or vs c.args.event.worker c.index-workers-event.result lt in
-        let m = c.reply_to-reply.ensures.stepped.moved [] in
+        let step = c.reply_to-reply.ensures.stepped (length vs) (each_knows (length vs) vs refl e.yard c.args.event.worker c.index-workers-event.result lt) in
+        let m = step.moved [] in
         m.yard vs c.args.event.worker is e.yard,
     let vs = c.settle_for-journal.new.workers in
         let n = c.settle_for-journal.ensures.count in
@@ -90,9 +83,6 @@ returns-clause-replied g c =
 pub settle_for-journal-requires : goal.settle_for-journal-requires
 settle_for-journal-requires g c =
     (omega arith, (c.requires.yard, c.requires.inside))
-
-pub overflow_cast-count : goal.overflow_cast-count
-overflow_cast-count g c = omega (arith, c.settle_for-journal.ensures.yard.few)
 
 pub returns-clause-capacity : goal.returns-clause-capacity
 returns-clause-capacity g c = c.reply_to-reply.ensures.capacity

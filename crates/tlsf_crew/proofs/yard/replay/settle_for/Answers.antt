@@ -20,7 +20,7 @@ returns-in-Take-clause-limits g c =
     let n = c.settle_column.ensures.count in
     let p = c.requires.inside in
     let is : slice_get vs at ≡ Some a = slice_get-get_or vs at a (omega arith) ∙ ap Some (sym c.index-workers-at.is) in
-    limits_are c.args.workers.now vs c.args.event c.count_each.result a c.settle_column.ensures.yard c.settle_column.ensures.count is c.settle_column.ensures.met (rw (sym c.index-workers-at.is) at c.count_each.ensures)
+    limits_are c.args.workers.now vs c.args.event c.count_each.result a c.settle_column.ensures.yard c.settle_column.ensures.count is c.settle_column.ensures.met.done (rw (sym c.index-workers-at.is) at c.count_each.ensures)
 
 pub returns-in-Release-clause-limits : goal.returns-in-Release-clause-limits
 returns-in-Release-clause-limits g c = zero_limits _ c.args.event (λ m. subst MayTake c.in-Release.is m)

@@ -1,4 +1,5 @@
-use Rattle.std.proofs.Common.{◌∙◌, refl, arith}
+use Rattle.std.proofs.Common.{◌≡◌, ◌∙◌, length, ℕ, subst, refl, arith}
+use Rattle.tlsf_crew.specs.yard.LaneSteps.{ColumnMet}
 use Rattle.tlsf_crew.proofs.lemmas.yard.Across.{settled_world, settled_yard}
 use Rattle.tlsf_crew.proofs.lemmas.yard.LaneByLane.{column_first, column_step, column_skip}
 use Rattle.tlsf_crew.proofs.yard.settle.settle_column.Goals as goal
@@ -39,4 +40,5 @@ loop-i-preserved g c =
 pub returns-clause-met : goal.returns-clause-met
 returns-clause-met g c =
     let i = c.loop-i.invariant.met in
-    λ x x_in ne. i.done x (omega (arith, i.len)) ne
+    let e : c.loop-i.i ≡ length c.args.workers.now = omega (arith, i.len) in
+    subst (λ (k : ℕ). ColumnMet c.args.workers.now c.loop-i.workers k c.args.j) e i

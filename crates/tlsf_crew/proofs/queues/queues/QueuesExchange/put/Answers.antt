@@ -23,7 +23,9 @@ returns g c =
       same = refl;
       mailbox = rw (← pe) e.mailbox;
       ok = rw (← pe) e.ok;
+      waits = rw (← pe) e.waits;
       full = rw (← pe) e.full;
+      was_full = rw (← pe) e.was_full;
       alone = rw (← pe) e.alone;
     }
 

@@ -1,29 +1,7 @@
-use Rattle.std.proofs.Common.{◌≡◌, ◌∙◌, Some, None, sym, ap}
-use Rattle.std.specs.List.{slice_get}
-use Rattle.std.proofs.lemmas.Option.{slice_get-get_or, slice_get_past}
-use Rattle.tlsf_crew.specs.yard.Workers.{slot_of}
 use Rattle.tlsf_crew.proofs.yard.lanes.LanesPorts.has_port.Goals as goal
 
-pub returns-in-Some-Some-clause-yes : goal.returns-in-Some-Some-clause-yes
-returns-in-Some-Some-clause-yes c =
-    λ _.
-    let l = c.in-Some-Some.ensures.lookup in
-    (c.in-Some-Some.field-0-0, rw (← c.deref.ensures.value) (ap slot_of (slice_get-get_or c.deref.result.now c.args.j c.in-Some-Some.field-0.now l.3.0 ∙ ap Some (sym l.1 ∙ c.in-Some-Some.field-0-is))))
+pub returns-clause-yes : goal.returns-clause-yes
+returns-clause-yes c = rw (← c.deref.ensures.value) c.has_end.ensures.yes
 
-pub returns-in-Some-None-clause-no : goal.returns-in-Some-None-clause-no
-returns-in-Some-None-clause-no c =
-    λ _ h.
-    let l = c.in-Some-None.ensures.lookup in
-    let a : slice_get c.deref.result.now c.args.j ≡ Some None = slice_get-get_or c.deref.result.now c.args.j c.in-Some-None.field-0.now l.3.0 ∙ ap Some (sym l.1 ∙ c.in-Some-None.field-0-is) in
-    let b : slot_of (slice_get c.deref.result.now c.args.j) ≡ Some h.0 = rw c.deref.ensures.value h.1 in
-    let e = sym (ap slot_of a) ∙ b in
-    absurd (cc)
-
-pub returns-in-None-clause-no : goal.returns-in-None-clause-no
-returns-in-None-clause-no c =
-    λ _ h.
-    let l = c.in-None.ensures.lookup in
-    let a : slice_get c.deref.result.now c.args.j ≡ None = slice_get_past c.deref.result.now c.args.j l.3 in
-    let b : slot_of (slice_get c.deref.result.now c.args.j) ≡ Some h.0 = rw c.deref.ensures.value h.1 in
-    let e = sym (ap slot_of a) ∙ b in
-    absurd (cc)
+pub returns-clause-no : goal.returns-clause-no
+returns-clause-no c = rw (← c.deref.ensures.value) c.has_end.ensures.no

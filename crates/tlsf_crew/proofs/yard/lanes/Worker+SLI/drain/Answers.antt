@@ -3,7 +3,7 @@ use Rattle.tlsf_crew.proofs.lemmas.yard.LaneTurns.{all_drained}
 use Rattle.tlsf_crew.proofs.yard.lanes.Worker+SLI.drain.Goals as goal
 
 pub returns-clause-drained : goal.returns-clause-drained
-returns-clause-drained g c = (all_drained _ _ c.args.self.now c.drain_noting.new.worker _ c.drain_noting.new.notes c.args.most c.drain_noting.result (λ z i. tt) c.drain_noting.ensures.drained).0
+returns-clause-drained g c = (all_drained _ _ c.args.self.now c.drain_each.new.worker _ c.drain_each.new.notes c.args.most c.drain_each.result (λ z i. tt) c.drain_each.ensures.drained).0
 
 pub returns-clause-yard : goal.returns-clause-yard
-returns-clause-yard g c = (all_drained _ _ c.args.self.now c.drain_noting.new.worker _ c.drain_noting.new.notes c.args.most c.drain_noting.result (λ z i. tt) c.drain_noting.ensures.drained).1
+returns-clause-yard g c = (all_drained _ _ c.args.self.now c.drain_each.new.worker _ c.drain_each.new.notes c.args.most c.drain_each.result (λ z i. tt) c.drain_each.ensures.drained).1

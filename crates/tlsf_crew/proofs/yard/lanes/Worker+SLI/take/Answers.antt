@@ -3,12 +3,12 @@ use Rattle.tlsf_crew.proofs.lemmas.yard.YardKept.{same_keeps}
 use Rattle.tlsf_crew.proofs.lemmas.yard.LaneTurns.{one_turn_keeps}
 use Rattle.tlsf_crew.proofs.yard.lanes.Worker+SLI.take.Goals as goal
 
-pub returns-then-not-has_take-clause-yard : goal.returns-then-not-has_take-clause-yard
-returns-then-not-has_take-clause-yard g c = same_keeps _
+pub returns-then-not-has_source-clause-yard : goal.returns-then-not-has_source-clause-yard
+returns-then-not-has_source-clause-yard g c = same_keeps _
 
 pub take_next-requires : goal.take_next-requires
 take_next-requires g c =
-    (omega arith, c.has_take.ensures.yes c.if-not-has_take.false)
+    (omega arith, c.has_source.ensures.yes c.if-not-has_source.false)
 
 pub returns-clause-lane : goal.returns-clause-lane
 returns-clause-lane g c = λ has. (c.take_next.result, c.take_next.ensures.taken, refl)
