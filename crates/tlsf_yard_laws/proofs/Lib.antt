@@ -3,6 +3,7 @@
 --   LivePosts: a live block stays live until its release is accepted
 --   Moments: what is live in a race is held by the programs, or under way at some moment
 --   NoStale: a post that is taken finds its block live
+--   RaceRecords: what the records of a race tell, whatever carries its posts
 --   Shares: what is live is held by the programs, or its name waits in a lane
 --   ShortLanes: no event makes a lane hold more posts than its capacity
 --   Told: answers as they are handed on tell the same of what is held and of bytes
@@ -11,6 +12,7 @@ pub mod Few
 pub mod LivePosts
 pub mod Moments
 pub mod NoStale
+pub mod RaceRecords
 pub mod Shares
 pub mod ShortLanes
 pub mod Told

@@ -21,15 +21,16 @@ use Rattle.tlsf_laws.proofs.Names.{same_is, same_self}
 use Rattle.tlsf_laws.proofs.Ledgers.{Agrees, agrees_run, live_agrees, lookup, new_agrees}
 use Rattle.tlsf_crew.specs.yard.World.{World, heap_in}
 use Rattle.tlsf_crew.specs.yard.History.{RunsTo, answer_told, answers_on, call_on_own, calls_on, entries_of, handed_on, post_of_release, post_of_take}
-use Rattle.tlsf_crew.specs.threads.Race.{IsRace, record_of}
+use Rattle.tlsf_crew.specs.threads.Race.{record_of}
 use Rattle.tlsf_calls.specs.declared.call.Call.{Call}
 use Rattle.tlsf_calls.specs.declared.entry.Entry.{Entry}
-use Rattle.tlsf_crew.proofs.lemmas.threads.RecordHistory.{race_always}
 use Rattle.tlsf_crew.proofs.lemmas.yard.JoinedEntries.{runs_then, told_other, told_own, told_then, length_told}
+use Rattle.tlsf_yard_laws.specs.Carriers.{Carrier, IsRaceOver, OverLanes, OverQueues}
 use Rattle.tlsf_yard_laws.specs.Races.{HasPast}
 use Rattle.tlsf_yard_laws.specs.Sharing.{most_under_way, without_post}
-use Rattle.tlsf_yard_laws.specs.Moments.{OrdersHaveMoments, RaceSharedPoolServes, all_under_way, unreleased, AreSparingInRace}
+use Rattle.tlsf_yard_laws.specs.Moments.{IsShort, OrdersHaveMoments, RaceSharedPoolServes, all_under_way, unreleased, AreSparingInRace}
 use Rattle.tlsf_yard_laws.proofs.Few.{IsAmong, among_left, among_right, few, names_of, posted, still_among, one_more}
+use Rattle.tlsf_yard_laws.proofs.RaceRecords.{heap_between}
 use Rattle.tlsf_yard_laws.proofs.Shares.{allocate_asks, resize_asks}
 use Rattle.tlsf_yard_laws.proofs.Told.{noted_same, past_holds, race_serves}
 
@@ -133,10 +134,10 @@ modest_more most len held (x ∷ xs) ys (a ∷ zs) bs e m n = (m.0, modest_more 
 
 -- ---- a race
 
-module _ {sli : ℕ} (level : IsLevel sli) (w v : World sli) (scripts : List (List Call)) (records : List (List Entry)) (race : IsRace w scripts records v) (j words first most len : ℕ) (calls : List heap.Call) (answers : List heap.Answer)
-    (past : HasPast w j words first calls answers) (four : 4 ≤ words) (sparing : AreSparingInRace w race.made records j most len calls answers) where
+module _ {sli : ℕ} (carrier : Carrier) (level : IsLevel sli) (w v : World sli) (scripts : List (List Call)) (made : ℕ → List (Option Name)) (records : List (List Entry)) (race : IsRaceOver carrier w scripts made records v) (j words first most len : ℕ) (calls : List heap.Call) (answers : List heap.Answer)
+    (past : HasPast w j words first calls answers) (four : 4 ≤ words) (sparing : AreSparingInRace carrier w made records j most len calls answers) where
   abbrev all_calls : List Entry → List heap.Call
-  all_calls es = calls ++ calls_on j (race.made j) es
+  all_calls es = calls ++ calls_on j (made j) es
 
   abbrev all_answers : List Entry → List heap.Answer
   all_answers es = answers ++ answers_on j es
@@ -146,25 +147,26 @@ module _ {sli : ℕ} (level : IsLevel sli) (w v : World sli) (scripts : List (Li
 
   history : (before later : List Entry) → record_of records j ≡ before ++ later → (g : HeapState) × RunsTo sli (heap.opened j words first) (all_calls before) (all_answers before) g
   history before later whole =
-      let t = race_always w v scripts records race before later j level lawful past.within whole in
-      (t.between, runs_then (heap.opened j words first) (heap_in w j) t.between calls (calls_on j (race.made j) before) answers (answers_on j before) past.since t.first)
+      let t = heap_between carrier w v scripts made records race before later j level lawful past.within whole in
+      (t.between, runs_then (heap.opened j words first) (heap_in w j) t.between calls (calls_on j (made j) before) answers (answers_on j before) past.since t.first)
 
   -- a request is made where less is held than the programs hold and the lanes have
-  modest_call : (before later : List Entry) (e : Entry) (c : heap.Call) → record_of records j ≡ before ++ e ∷ later → call_on_own (race.made j) e.worker e.call e.reply ≡ Some c
-      → IsModest (most + most_under_way w) len (held_after_all 0 (all_calls before) (all_answers before)) c
+  modest_call : (before later : List Entry) (e : Entry) (c : heap.Call) → record_of records j ≡ before ++ e ∷ later → call_on_own (made j) e.worker e.call e.reply ≡ Some c
+      → IsModest (most + most_under_way carrier w) len (held_after_all 0 (all_calls before) (all_answers before)) c
   modest_call before later e (heap.Allocate n) whole is =
-      let s = (sparing before e (later, whole)).0 n (allocate_asks (race.made j) e.worker e.call e.reply n is) in
+      let s = (sparing before e (later, whole)).0 n (allocate_asks (made j) e.worker e.call e.reply n is) in
       let now = history before (e ∷ later) whole in
       let live = ledger_after_all [] (all_calls before) (all_answers before) in
       let agrees : Agrees now.0 live = past_agrees level j words first (all_calls before) (all_answers before) now.0 now.1 four in
       let held = sym (past_holds j words first (all_calls before) (all_answers before) now.0 now.1 four) ∙ live_agrees now.0 live agrees in
       let ps = all_under_way j s.moment.under_way (length w.heaps) in
       let count : length live ≤ length (unreleased live ps) + length ps = unreleased_few now.0 live ps agrees in
-      let away : length ps ≤ most_under_way w = under_way s.moment.under_way s.moment.short in
+      let away : length ps ≤ most_under_way carrier w = under_way carrier s.moment.under_way s.moment.short in
       (s.short, omega (arith, held, count, away, s.few))
     where
-      under_way : (lanes : ℕ → List Post) → ((i : ℕ) → i < length w.heaps → i ≢ j → length (lanes i) ≤ w.capacity) → length (all_under_way j lanes (length w.heaps)) ≤ most_under_way w
-      under_way lanes short = at (length w.heaps) past.within short
+      under_way : (carrier : Carrier) (lanes : ℕ → List Post) → IsShort carrier w j lanes → length (all_under_way j lanes (length w.heaps)) ≤ most_under_way carrier w
+      under_way OverQueues lanes short = short
+      under_way OverLanes lanes short = at (length w.heaps) past.within short
         where
           at : (n : ℕ) → j < n → ((i : ℕ) → i < n → i ≢ j → length (lanes i) ≤ w.capacity) → length (all_under_way j lanes n) ≤ (n - 1) * w.capacity
           at zero lt short = absurd (omega arith)
@@ -174,21 +176,21 @@ module _ {sli : ℕ} (level : IsLevel sli) (w v : World sli) (scripts : List (Li
   modest_call before later e (heap.Release name) whole is = tt
   modest_call before later e (heap.Write name at bytes) whole is = tt
   modest_call before later e (heap.Resize name n) whole is =
-      let asks = resize_asks (race.made j) e.worker e.call e.reply name n is in (sparing before e (later, whole)).1 asks.0 n asks.1
+      let asks = resize_asks (made j) e.worker e.call e.reply name n is in (sparing before e (later, whole)).1 asks.0 n asks.1
   modest_call before later e (heap.Read name at n) whole is = tt
 
   abbrev Modest : List Entry → List Entry → Type 0
-  Modest before later = AreModest (most + most_under_way w) len (held_after_all 0 (all_calls before) (all_answers before)) (calls_on j (race.made j) later) (answers_on j later)
+  Modest before later = AreModest (most + most_under_way carrier w) len (held_after_all 0 (all_calls before) (all_answers before)) (calls_on j (made j) later) (answers_on j later)
 
   -- one entry more
   next_modest : (before later : List Entry) (e : Entry) → record_of records j ≡ before ++ e ∷ later → Modest (before ++ e ∷ []) later → Modest before (e ∷ later)
   next_modest before later e whole rest =
       let now = history before (e ∷ later) whole in
       let then = history (before ++ e ∷ []) later (whole ∙ sym (append_assoc before (e ∷ []) later)) in
-      let xs = calls_on j (race.made j) (e ∷ []) in
+      let xs = calls_on j (made j) (e ∷ []) in
       let zs = answers_on j (e ∷ []) in
       let calls_are : all_calls (before ++ e ∷ []) ≡ all_calls before ++ xs =
-      ap (λ l. calls ++ l) (told_then (λ e. call_on_own (race.made j) e.worker e.call e.reply) j before (e ∷ [])) ∙ sym (append_assoc calls (calls_on j (race.made j) before) xs) in
+      ap (λ l. calls ++ l) (told_then (λ e. call_on_own (made j) e.worker e.call e.reply) j before (e ∷ [])) ∙ sym (append_assoc calls (calls_on j (made j) before) xs) in
       let answers_are : all_answers (before ++ e ∷ []) ≡ all_answers before ++ zs =
       ap (λ l. answers ++ l) (told_then (λ e. answer_told e.call e.reply) j before (e ∷ [])) ∙ sym (append_assoc answers (answers_on j before) zs) in
       let even = length_told (heap.opened j words first) now.0 (all_calls before) (all_answers before) now.1 in
@@ -197,43 +199,43 @@ module _ {sli : ℕ} (level : IsLevel sli) (w v : World sli) (scripts : List (Li
       omega (arith, even, even_then, ap length calls_are, ap length answers_are, length-append (all_calls before) xs, length-append (all_answers before) zs) in
       let held : held_after_all 0 (all_calls (before ++ e ∷ [])) (all_answers (before ++ e ∷ [])) ≡ held_after_all (held_after_all 0 (all_calls before) (all_answers before)) xs zs =
       ap (λ cs. held_after_all 0 cs (all_answers (before ++ e ∷ []))) calls_are ∙ ap (λ l. held_after_all 0 (all_calls before ++ xs) l) answers_are ∙ held_more 0 (all_calls before) xs (all_answers before) zs even in
-      let on = subst (λ (k : ℕ). AreModest (most + most_under_way w) len k (calls_on j (race.made j) later) (answers_on j later)) held rest in
-      subst (λ cs. AreModest (most + most_under_way w) len (held_after_all 0 (all_calls before) (all_answers before)) cs (answers_on j (e ∷ later)))
-      (sym (told_then (λ e. call_on_own (race.made j) e.worker e.call e.reply) j (e ∷ []) later))
-      (subst (λ l. AreModest (most + most_under_way w) len (held_after_all 0 (all_calls before) (all_answers before)) (xs ++ calls_on j (race.made j) later) l)
+      let on = subst (λ (k : ℕ). AreModest (most + most_under_way carrier w) len k (calls_on j (made j) later) (answers_on j later)) held rest in
+      subst (λ cs. AreModest (most + most_under_way carrier w) len (held_after_all 0 (all_calls before) (all_answers before)) cs (answers_on j (e ∷ later)))
+      (sym (told_then (λ e. call_on_own (made j) e.worker e.call e.reply) j (e ∷ []) later))
+      (subst (λ l. AreModest (most + most_under_way carrier w) len (held_after_all 0 (all_calls before) (all_answers before)) (xs ++ calls_on j (made j) later) l)
       (sym (told_then (λ e. answer_told e.call e.reply) j (e ∷ []) later))
-      (modest_more (most + most_under_way w) len (held_after_all 0 (all_calls before) (all_answers before)) xs (calls_on j (race.made j) later) zs (answers_on j later) one (first_modest (cases_eq e.worker j)) on))
+      (modest_more (most + most_under_way carrier w) len (held_after_all 0 (all_calls before) (all_answers before)) xs (calls_on j (made j) later) zs (answers_on j later) one (first_modest (cases_eq e.worker j)) on))
     where
       held_now : ℕ
       held_now = held_after_all 0 (all_calls before) (all_answers before)
 
-      by_call : (o : Option heap.Call) → call_on_own (race.made j) e.worker e.call e.reply ≡ o → (zs : List heap.Answer) → AreModest (most + most_under_way w) len held_now (cons_option o []) zs
+      by_call : (o : Option heap.Call) → call_on_own (made j) e.worker e.call e.reply ≡ o → (zs : List heap.Answer) → AreModest (most + most_under_way carrier w) len held_now (cons_option o []) zs
       by_call None is zs = tt
       by_call (Some c) is [] = tt
       by_call (Some c) is (a ∷ zs) = (modest_call before later e c whole is, tt)
 
-      first_modest : (e.worker ≡ j) ⊎ (e.worker ≢ j) → AreModest (most + most_under_way w) len held_now (calls_on j (race.made j) (e ∷ [])) (answers_on j (e ∷ []))
+      first_modest : (e.worker ≡ j) ⊎ (e.worker ≢ j) → AreModest (most + most_under_way carrier w) len held_now (calls_on j (made j) (e ∷ [])) (answers_on j (e ∷ []))
       first_modest (inl own) =
-          subst (λ cs. AreModest (most + most_under_way w) len held_now cs (answers_on j (e ∷ []))) (sym (told_own (λ e. call_on_own (race.made j) e.worker e.call e.reply) j e own))
-          (by_call (call_on_own (race.made j) e.worker e.call e.reply) refl (answers_on j (e ∷ [])))
+          subst (λ cs. AreModest (most + most_under_way carrier w) len held_now cs (answers_on j (e ∷ []))) (sym (told_own (λ e. call_on_own (made j) e.worker e.call e.reply) j e own))
+          (by_call (call_on_own (made j) e.worker e.call e.reply) refl (answers_on j (e ∷ [])))
       first_modest (inr other) =
-          subst (λ cs. AreModest (most + most_under_way w) len held_now cs (answers_on j (e ∷ []))) (sym (told_other (λ e. call_on_own (race.made j) e.worker e.call e.reply) j e other)) tt
+          subst (λ cs. AreModest (most + most_under_way carrier w) len held_now cs (answers_on j (e ∷ []))) (sym (told_other (λ e. call_on_own (made j) e.worker e.call e.reply) j e other)) tt
 
   record_modest : (before later : List Entry) → record_of records j ≡ before ++ later → Modest before later
   record_modest before [] whole = tt
   record_modest before (e ∷ later) whole = next_modest before later e whole (record_modest (before ++ e ∷ []) later (whole ∙ sym (append_assoc before (e ∷ []) later)))
 
-  pub all_modest : AreModest (most + most_under_way w) len 0 calls answers → AreModest (most + most_under_way w) len 0 (all_calls (record_of records j)) (all_answers (record_of records j))
+  pub all_modest : AreModest (most + most_under_way carrier w) len 0 calls answers → AreModest (most + most_under_way carrier w) len 0 (all_calls (record_of records j)) (all_answers (record_of records j))
   all_modest within =
       let before : held_after_all 0 (all_calls []) (all_answers []) ≡ held_after_all 0 calls answers = rw (append-nil calls, append-nil answers) refl in
-      modest_more (most + most_under_way w) len 0 calls (calls_on j (race.made j) (record_of records j)) answers (answers_on j (record_of records j))
+      modest_more (most + most_under_way carrier w) len 0 calls (calls_on j (made j) (record_of records j)) answers (answers_on j (record_of records j))
       (length_told (heap.opened j words first) (heap_in w j) calls answers past.since) within
-      (subst (λ (k : ℕ). AreModest (most + most_under_way w) len k (calls_on j (race.made j) (record_of records j)) (answers_on j (record_of records j))) before (record_modest [] (record_of records j) refl))
+      (subst (λ (k : ℕ). AreModest (most + most_under_way carrier w) len k (calls_on j (made j) (record_of records j)) (answers_on j (record_of records j))) before (record_modest [] (record_of records j) refl))
 
-pub race_shares : (sli : ℕ) → IsLevel sli → RaceSharedPoolServes sli
-race_shares sli level w v scripts records race j words first most len calls answers past region class enough within sparing fresh =
-    race_serves sli level w v scripts records race j words first (most + most_under_way w) len calls answers past region class enough
-    (all_modest level w v scripts records race j words first most len calls answers past region.0 sparing within) fresh
+pub race_shares : (sli : ℕ) (carrier : Carrier) → IsLevel sli → RaceSharedPoolServes sli carrier
+race_shares sli carrier level w v scripts made records race j words first most len calls answers past region class enough within sparing fresh =
+    race_serves sli carrier level w v scripts made records race j words first (most + most_under_way carrier w) len calls answers past region class enough
+    (all_modest carrier level w v scripts made records race j words first most len calls answers past region.0 sparing within) fresh
 
 -- ---- an order of all entries
 
@@ -245,8 +247,8 @@ entries_twice : (i : ℕ) (es : List Entry) → entries_of i (entries_of i es) �
 entries_twice i [] = refl
 entries_twice i (e ∷ es) = once_more i e (e.worker == i) (entries_of i es) refl (entries_twice i es)
 
-pub order_moments : (sli : ℕ) → OrdersHaveMoments sli
-order_moments sli w made records order is before prefix j j_in = (
+pub order_moments : (sli : ℕ) (carrier : Carrier) → OrdersHaveMoments sli carrier
+order_moments sli carrier w made records order is before prefix j j_in = (
   record {
     told = λ i. entries_of i before;
     under_way = λ i. is.waits before i j;
@@ -255,7 +257,7 @@ order_moments sli w made records order is before prefix j j_in = (
         ap (λ (l : List Entry). w.waiting i j ++ filter_map (λ e. post_of_release j (made i) e.worker e.call e.reply) l) (entries_twice i before)
         ∙ (is.posts before i j prefix i_in j_in ne
         ∙ ap (λ (l : List Entry). filter_map (λ e. post_of_take i e.call e.reply) l ++ is.waits before i j) (sym (entries_twice j before)));
-    short = λ i i_in ne. is.short before i j prefix i_in j_in ne;
+    short = is.short before j prefix j_in;
   },
   (λ i. refl),
   (λ i. refl),

@@ -1,9 +1,8 @@
 -- A post that is taken finds its block live, where no name is given back twice.
-use Rattle.std.proofs.Common.{◌==◌, false, [], ◌∷◌, ◌++◌, ◌≡◌, ◌≢◌, ◌⊎◌, ℕ, ◌<◌, ◌≤◌, List, Option, Some, None, Ok, All, length, refl, sym, ap, ◌∙◌, subst, inl, inr, arith, append_assoc, append-nil, length-append}
+use Rattle.std.proofs.Common.{[], ◌∷◌, ◌++◌, ◌≡◌, ◌≢◌, ◌⊎◌, ℕ, ◌<◌, List, Option, Some, None, Ok, All, length, refl, sym, ap, ◌∙◌, subst, inl, inr, arith, append_assoc, length-append}
 use Rattle.std.specs.List.{AllByRecursion, cons_option, filter_map}
 use Rattle.std.specs.Option.{option_map}
 use Rattle.std.proofs.lemmas.Bool.{cases_eq, cases_lt}
-use Rattle.std.proofs.lemmas.Bool.Decides.{nat_tests}
 use Rattle.std.proofs.lemmas.List.Elements.{All-take}
 use Rattle.tlsf_heap.specs.Calls as heap
 use Rattle.tlsf_heap.specs.Laws.{IsLive}
@@ -18,25 +17,18 @@ use Rattle.tlsf_calls.specs.declared.reply.Reply.TheVariants.{Made, Freed, Poste
 use Rattle.tlsf_calls.specs.declared.crew_refusal.CrewRefusal.TheVariants.{Heap, Full, Stranger, Unmade}
 use Rattle.tlsf_calls.specs.declared.target.Target.{Target}
 use Rattle.tlsf_calls.specs.declared.took.Took.{Took}
-use Rattle.tlsf_crew.specs.yard.World.{World, Replayed, called, draining, heap_in, name_of, taking}
-use Rattle.tlsf_crew.specs.yard.Told.{Told, MayTell, MayTellAll, untold}
-use Rattle.tlsf_crew.specs.yard.History.{StandsBehind, answer_told, call_on_own, entries_of, meant, of_heap, post_of_release, post_of_take, posts_made, posts_taken}
-use Rattle.tlsf_crew.specs.threads.Race.{IsRace, last_call, record_of, script_of}
-use Rattle.tlsf_crew.proofs.lemmas.threads.AloneRuns.{takes_none}
-use Rattle.tlsf_crew.proofs.lemmas.threads.RecordHistory.{race_always, race_answered}
-use Rattle.tlsf_crew.proofs.lemmas.threads.SameDrains.{drain_apart, nothing_before, own_post, ran_take, take_entry}
-use Rattle.tlsf_crew.proofs.lemmas.threads.ScriptRuns.{tell_more}
-use Rattle.tlsf_crew.proofs.lemmas.threads.TwoRecords.{drain_makes}
-use Rattle.tlsf_crew.proofs.lemmas.yard.AllEntries.{called_knows, called_told}
-use Rattle.tlsf_crew.proofs.lemmas.yard.DrainEntries.{drain_told}
+use Rattle.tlsf_crew.specs.yard.World.{World, heap_in, name_of}
+use Rattle.tlsf_crew.specs.yard.History.{StandsBehind, answer_told, call_on_own, entries_of, meant, of_heap, post_of_release, posts_made, posts_taken}
+use Rattle.tlsf_crew.specs.threads.Race.{record_of}
+use Rattle.tlsf_crew.proofs.lemmas.threads.SameDrains.{own_post, ran_take, take_entry}
 use Rattle.tlsf_crew.proofs.lemmas.yard.LaneCalls.{of_other, of_same}
-use Rattle.tlsf_crew.specs.threads.Alone.{TakesNoPost}
 use Rattle.tlsf_calls.specs.Bytes.{bytes_of}
 use Rattle.std.proofs.Math.Seq.{take-append_seam}
 use Rattle.tlsf_crew.proofs.lemmas.yard.JoinedEntries.{HasItsAnswer, told_nothing, told_other, told_own, told_then}
 use Rattle.tlsf_crew.proofs.lemmas.yard.ManyEntries.{taken_then}
-use Rattle.tlsf_crew.proofs.lemmas.yard.OneEvent.{taking_far, taking_own}
+use Rattle.tlsf_yard_laws.specs.Carriers.{Carrier, IsRaceOver}
 use Rattle.tlsf_yard_laws.proofs.LivePosts.{SparesIn, entries_live}
+use Rattle.tlsf_yard_laws.proofs.RaceRecords.{Away, each_answered, heap_between, posts_match, takes_none_of}
 use Rattle.tlsf_yard_laws.specs.Posts.{GiveBackOnce, GivesBack, NoPostIsStale}
 
 -- ---- the entry that tells what stands in a list
@@ -90,79 +82,6 @@ found {B} f i (x ∷ es) first later p e = elim (cases_eq x.worker i) [
 all_standing : (P : Entry → Type 0) (es : List Entry) → ((b : List Entry) (e : Entry) → StandsBehind es b e → P e) → AllByRecursion P es
 all_standing P [] each = tt
 all_standing P (x ∷ es) each = (each [] x (es, refl), all_standing P es (λ b e stands. each (x ∷ b) e (stands.0, ap (λ l. x ∷ l) stands.1)))
-
--- ---- no worker takes from itself, or from one that isn't there
-
-refused_take : {sli : ℕ} (x : World sli) (at k from : ℕ) (e : Entry) → (k ≢ at → length x.heaps ≤ k) → e ≡ record { worker = at; call = Take from; reply = (taking x at from).reply } → post_of_take k e.call e.reply ≡ None
-refused_take x at k from e far is = ap (λ (y : Entry). post_of_take k y.call y.reply) is ∙ elim (cases_eq from k) [
-  | inl same ↦ elim (cases_eq from at) [
-    | inl own ↦ rw (taking_own x at from own) refl
-    | inr ne ↦ let le = far (λ q. ne (same ∙ q)) in rw (taking_far x at from (omega (arith, le, same))) refl
-  ]
-  | inr ne ↦ not_from k from (taking x at from).reply ne
-]
-  where
-    not_from : (k from : ℕ) (reply : Reply) → from ≢ k → post_of_take k (Take from) reply ≡ None
-    not_from k from (Made name) ne = refl
-    not_from k from Freed ne = refl
-    not_from k from Posted ne = refl
-    not_from k from (Wrote n) ne = refl
-    not_from k from (Got bytes) ne = refl
-    not_from k from Resized ne = refl
-    not_from k from (Taken t) ne = let b : (from == k) ≡ false = grind (arith, nat_tests) in rw b refl
-    not_from k from Empty ne = refl
-    not_from k from (Drained n) ne = refl
-    not_from k from (Refused why) ne = refl
-
--- a call takes none from there
-abbrev Away : ℕ → ℕ → ℕ → Type 0
-Away n at k = k ≢ at → n ≤ k
-
-behind_none : (k at : ℕ) (before own after : List Entry) → after ≡ before ++ own → posts_taken k at before ≡ [] → posts_taken k at own ≡ [] → posts_taken k at after ≡ []
-behind_none k at before own after e none own_none = ap (posts_taken k at) e ∙ (taken_then k at before own ∙ (ap (λ l. l ++ posts_taken k at own) none ∙ own_none))
-
-quiet_away : (sli : ℕ) (n at k : ℕ) (s t : Told) (call : Call) → at < n → TakesNoPost call → MayTell sli n at s call t → posts_taken k at s.entries ≡ [] → posts_taken k at t.entries ≡ []
-quiet_away sli n at k s t call at_in free m none =
-    let r : Replayed sli = record { made = s.made; entries = s.entries; world = m.0 } in
-    let c = called_told (called r at call).made r at call (omega (arith, at_in, m.1.0)) (called_knows r at call) in
-    behind_none k at s.entries c.own t.entries (sym (ap (λ (t : Told). t.entries) m.2) ∙ c.entries) none (takes_none k at at s.made call c.name c.own free c.tells)
-
-drain_away : (sli : ℕ) (n at k most : ℕ) (s t : Told) → at < n → Away n at k → MayTell sli n at s (Drain most) t → posts_taken k at s.entries ≡ [] → posts_taken k at t.entries ≡ []
-drain_away sli n at k most s t at_in far m none =
-    let x = m.0 in
-    let r : Replayed sli = record { made = s.made; entries = s.entries; world = x } in
-    let c = drain_told s.made r at most (omega (arith, at_in, m.1.0)) in
-    let v = draining r at most in
-    let same : v.world.waiting k at ≡ x.waiting k at = drain_apart r at most k (λ ne. let le = far ne in omega (arith, le, m.1.0)) in
-    let own = nothing_before (posts_taken k at c.own) (x.waiting k at)
-    (sym (append-nil (x.waiting k at)) ∙ (sym (ap (λ l. x.waiting k at ++ l) (drain_makes k at at most s.made c.own c.tells.1)) ∙ (c.history.posts k at ∙ ap (λ l. posts_taken k at c.own ++ l) same))) in
-    behind_none k at s.entries c.own t.entries (sym (ap (λ (t : Told). t.entries) m.2) ∙ c.entries) none own
-
-take_away : (sli : ℕ) (n at k from : ℕ) (s t : Told) → Away n at k → MayTell sli n at s (Take from) t → posts_taken k at s.entries ≡ [] → posts_taken k at t.entries ≡ []
-take_away sli n at k from s t far m none =
-    let e : Entry = record { worker = at; call = Take from; reply = (taking m.0 at from).reply } in
-    behind_none k at s.entries (e ∷ []) t.entries (sym (ap (λ (t : Told). t.entries) m.2)) none
-    (told_nothing (λ e. post_of_take k e.call e.reply) at e (refused_take m.0 at k from e (λ ne. let le = far ne in omega (arith, le, m.1.0)) refl))
-
-one_away : (sli : ℕ) (n at k : ℕ) (s t : Told) (call : Call) → at < n → Away n at k → MayTell sli n at s call t → posts_taken k at s.entries ≡ [] → posts_taken k at t.entries ≡ []
-one_away sli n at k s t (Allocate len) at_in far m none = quiet_away sli n at k s t (Allocate len) at_in tt m none
-one_away sli n at k s t (Release target) at_in far m none = quiet_away sli n at k s t (Release target) at_in tt m none
-one_away sli n at k s t (Write target from bytes) at_in far m none = quiet_away sli n at k s t (Write target from bytes) at_in tt m none
-one_away sli n at k s t (Read target from count) at_in far m none = quiet_away sli n at k s t (Read target from count) at_in tt m none
-one_away sli n at k s t (Resize target len) at_in far m none = quiet_away sli n at k s t (Resize target len) at_in tt m none
-one_away sli n at k s t (Take from) at_in far m none = take_away sli n at k from s t far m none
-one_away sli n at k s t (Drain most) at_in far m none = drain_away sli n at k most s t at_in far m none
-
-all_away : (sli : ℕ) (n at k : ℕ) (s t : Told) (calls : List Call) → at < n → Away n at k → MayTellAll sli n at s calls t → posts_taken k at s.entries ≡ [] → posts_taken k at t.entries ≡ []
-all_away sli n at k s t [] at_in far m none = ap (λ (t : Told). posts_taken k at t.entries) m ∙ none
-all_away sli n at k s t (call ∷ calls) at_in far m none = all_away sli n at k m.0 t calls at_in far m.2 (one_away sli n at k s m.0 call at_in far m.1 none)
-
-race_away : {sli : ℕ} (w v : World sli) (scripts : List (List Call)) (records : List (List Entry)) (race : IsRace w scripts records v) (j k : ℕ) → j < length w.heaps → Away (length w.heaps) j k → posts_taken k j (record_of records j) ≡ []
-race_away {sli} w v scripts records race j k j_in far =
-    let l = race.legal j j_in in
-    let end : Told = record { made = race.made j; entries = record_of records j; heap = heap_in v j } in
-    all_away sli (length w.heaps) j k (untold (heap_in w j)) end (script_of scripts j ++ last_call ∷ []) j_in far
-    (tell_more sli (length w.heaps) j (untold (heap_in w j)) l.between end (script_of scripts j) last_call l.script l.last) refl
 
 -- ---- who posted what was taken
 
@@ -218,23 +137,22 @@ no_post : (p : Post) (first later : List Post) → first ++ p ∷ later ≡ [] �
 no_post p [] later e = cc
 no_post p (x ∷ first) later e = cc
 
-poster : {sli : ℕ} (w v : World sli) (scripts : List (List Call)) (records : List (List Entry)) (race : IsRace w scripts records v) → ((i j : ℕ) → w.waiting i j ≡ []) → (j : ℕ) (b : List Entry) (from : ℕ) (t : Took) → j < length w.heaps
-    → StandsBehind (record_of records j) b (take_entry j from t) → Poster w race.made records j from b t.name
-poster w v scripts records race empty j b from t j_in stands =
+poster : {sli : ℕ} (carrier : Carrier) (w v : World sli) (scripts : List (List Call)) (made : ℕ → List (Option Name)) (records : List (List Entry)) → IsRaceOver carrier w scripts made records v → ((i j : ℕ) → w.waiting i j ≡ []) → (j : ℕ) (b : List Entry) (from : ℕ) (t : Took) → j < length w.heaps
+    → StandsBehind (record_of records j) b (take_entry j from t) → Poster w made records j from b t.name
+poster carrier w v scripts made records race empty j b from t j_in stands =
     let p : Post = record { from = t.from; name = t.name } in
     let first = posts_taken from j b in
     let later = posts_taken from j stands.0 in
     let all : posts_taken from j (record_of records j) ≡ first ++ p ∷ later
     = ap (posts_taken from j) stands.1 ∙ (taken_then from j b (take_entry j from t ∷ stands.0) ∙ ap (λ l. first ++ l) (own_post j from t stands.0)) in
-    let reach : Away (length w.heaps) j from → ⊥ = λ far. no_post p first later (sym all ∙ race_away w v scripts records race j from j_in far) in
+    let reach : Away (length w.heaps) j from → ⊥ = λ far. no_post p first later (sym all ∙ takes_none_of carrier w v scripts made records race j from j_in far) in
     let apart : from ≢ j = λ e. reach (λ ne. absurd (ne e)) in
     let near : from < length w.heaps = elim (cases_lt from (length w.heaps)) [ inl lt ↦ lt | inr ge ↦ absurd (reach (λ _. ge)) ] in
-    let made = race.made from in
-    let posts : posts_made from j made (record_of records from) ≡ first ++ p ∷ later
-    = sym (ap (λ l. l ++ posts_made from j made (record_of records from)) (empty from j)) ∙ ((race.agree from j near j_in apart).posts ∙ all) in
-    let f : Entry → Option Post = λ e. post_of_release j made e.worker e.call e.reply in
+    let posts : posts_made from j (made from) (record_of records from) ≡ first ++ p ∷ later
+    = sym (ap (λ l. l ++ posts_made from j (made from) (record_of records from)) (empty from j)) ∙ (posts_match carrier w v scripts made records race from j near j_in apart ∙ all) in
+    let f : Entry → Option Post = λ e. post_of_release j (made from) e.worker e.call e.reply in
     let a = found f from (record_of records from) first later p posts in
-    record { near = near; apart = apart; before = a.before; e = a.e; stands = a.stands; posts = post_gives j made a.e p (a.e).call (a.e).reply refl refl a.is; earlier = a.earlier }
+    record { near = near; apart = apart; before = a.before; e = a.e; stands = a.stands; posts = post_gives j (made from) a.e p (a.e).call (a.e).reply refl refl a.is; earlier = a.earlier }
 
 -- ---- the block stays live
 
@@ -298,40 +216,40 @@ longer k j b c t rest e same =
     absurd (omega (arith, n, m, q))
 
 -- nobody let the name go before
-spared : {sli : ℕ} (w v : World sli) (scripts : List (List Call)) (records : List (List Entry)) (race : IsRace w scripts records v) → ((i j : ℕ) → w.waiting i j ≡ []) → GiveBackOnce race.made records
-    → (j : ℕ) (b : List Entry) (from : ℕ) (t : Took) → j < length w.heaps → (stands : StandsBehind (record_of records j) b (take_entry j from t)) → (c : List Entry) (e : Entry) → StandsBehind b c e → SparesIn j (race.made j) t.name e
-spared w v scripts records race empty once j b from t j_in stands c e inside here own call answer is =
-    let first = poster w v scripts records race empty j b from t j_in stands in
+spared : {sli : ℕ} (carrier : Carrier) (w v : World sli) (scripts : List (List Call)) (made : ℕ → List (Option Name)) (records : List (List Entry)) → IsRaceOver carrier w scripts made records v → ((i j : ℕ) → w.waiting i j ≡ []) → GiveBackOnce made records
+    → (j : ℕ) (b : List Entry) (from : ℕ) (t : Took) → j < length w.heaps → (stands : StandsBehind (record_of records j) b (take_entry j from t)) → (c : List Entry) (e : Entry) → StandsBehind b c e → SparesIn j (made j) t.name e
+spared carrier w v scripts made records race empty once j b from t j_in stands c e inside here own call answer is =
+    let first = poster carrier w v scripts made records race empty j b from t j_in stands in
     let earlier : StandsBehind (record_of records j) c e
     = (inside.0 ++ take_entry j from t ∷ stands.0, stands.1 ∙ (ap (λ l. l ++ take_entry j from t ∷ stands.0) inside.1 ∙ append_assoc c (e ∷ inside.0) (take_entry j from t ∷ stands.0))) in
-    elim (let_go (race.made j) e e.call e.reply own refl refl call answer) [
+    elim (let_go (made j) e e.call e.reply own refl refl call answer) [
       | inl f ↦
-          let back : GivesBack (race.made j) e t.name = record { target = f.0; call = f.1; means = f.2 ∙ ap Some is; reply = inl f.3 } in
+          let back : GivesBack (made j) e t.name = record { target = f.0; call = f.1; means = f.2 ∙ ap Some is; reply = inl f.3 } in
           let same = once j from c first.before e first.e t.name earlier first.stands back (first.posts).gives in
           first.apart (sym same.0)
       | inr f ↦
           let u = f.1 in
           let entry : e ≡ take_entry j f.0 u = λ k. record { worker = here k; call = f.2 k; reply = f.3 k } in
           let there : StandsBehind (record_of records j) c (take_entry j f.0 u) = subst (StandsBehind (record_of records j) c) entry earlier in
-          let second = poster w v scripts records race empty j c f.0 u j_in there in
-          let gives : GivesBack (race.made f.0) second.e t.name = subst (λ (n : Name). GivesBack (race.made f.0) second.e n) (f.4 ∙ is) (second.posts).gives in
+          let second = poster carrier w v scripts made records race empty j c f.0 u j_in there in
+          let gives : GivesBack (made f.0) second.e t.name = subst (λ (n : Name). GivesBack (made f.0) second.e n) (f.4 ∙ is) (second.posts).gives in
           let same = once from f.0 first.before second.before first.e second.e t.name first.stands second.stands (first.posts).gives gives in
           let k = f.0 in
           let posts : posts_taken k j b ≡ posts_taken k j c
-          = subst (λ (i : ℕ). posts_taken i j b ≡ posts_made i j (race.made i) first.before) same.0 (sym first.earlier) ∙ (ap (posts_made k j (race.made k)) same.1 ∙ second.earlier) in
+          = subst (λ (i : ℕ). posts_taken i j b ≡ posts_made i j (made i) first.before) same.0 (sym first.earlier) ∙ (ap (posts_made k j (made k)) same.1 ∙ second.earlier) in
           longer k j b c u inside.0 (inside.1 ∙ ap (λ x. c ++ x ∷ inside.0) entry) posts
     ]
 
-pub none_stale : (sli : ℕ) → NoPostIsStale sli
-none_stale sli w v scripts records race lawful empty alive once j b from t j_in stands stale =
-    let made = race.made j in
-    let p = poster w v scripts records race empty j b from t j_in stands in
+pub none_stale : (sli : ℕ) (carrier : Carrier) → NoPostIsStale sli carrier
+none_stale sli carrier w v scripts made records race lawful empty alive once j b from t j_in stands stale =
+    let own = made j in
+    let p = poster carrier w v scripts made records race empty j b from t j_in stands in
     let start : IsLive (heap_in w j) t.name = subst (λ (k : ℕ). IsLive (heap_in w k) t.name) (p.posts).heap (alive from p.before p.e t.name p.stands (p.posts).gives (p.posts).reply) in
-    let through = race_always w v scripts records race b (take_entry j from t ∷ stands.0) j lawful.0 (lawful.1 j j_in) j_in stands.1 in
-    let each : All (HasItsAnswer made (length w.heaps)) b
-    = subst (All (HasItsAnswer made (length w.heaps))) (take-append_seam b (take_entry j from t ∷ stands.0))
-    (All-take (HasItsAnswer made (length w.heaps)) (length b) (b ++ take_entry j from t ∷ stands.0) (subst (All (HasItsAnswer made (length w.heaps))) stands.1 (race_answered w v scripts records race j j_in))) in
-    let spares = all_standing (SparesIn j made t.name) b (spared w v scripts records race empty once j b from t j_in stands) in
-    let now : IsLive through.between t.name = entries_live lawful.0 (length w.heaps) j made t.name b (heap_in w j) through.between j_in (lawful.1 j j_in) start each spares through.first in
-    let ran = ran_take through.between (heap_in v j) j from made t stands.0 through.rest in
+    let through = heap_between carrier w v scripts made records race b (take_entry j from t ∷ stands.0) j lawful.0 (lawful.1 j j_in) j_in stands.1 in
+    let each : All (HasItsAnswer own (length w.heaps)) b
+    = subst (All (HasItsAnswer own (length w.heaps))) (take-append_seam b (take_entry j from t ∷ stands.0))
+    (All-take (HasItsAnswer own (length w.heaps)) (length b) (b ++ take_entry j from t ∷ stands.0) (subst (All (HasItsAnswer own (length w.heaps))) stands.1 (each_answered carrier w v scripts made records race j j_in))) in
+    let spares = all_standing (SparesIn j own t.name) b (spared carrier w v scripts made records race empty once j b from t j_in stands) in
+    let now : IsLive through.between t.name = entries_live lawful.0 (length w.heaps) j own t.name b (heap_in w j) through.between j_in (lawful.1 j j_in) start each spares through.first in
+    let ran = ran_take through.between (heap_in v j) j from own t stands.0 through.rest in
     (known through.between t.name now).0 (sym ran.answer ∙ stale)

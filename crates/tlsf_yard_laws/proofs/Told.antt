@@ -19,8 +19,9 @@ use Rattle.tlsf_crew.specs.yard.History.{RunsTo, calls_on, answers_on, handed_on
 use Rattle.tlsf_calls.specs.declared.event.Event.{Event}
 use Rattle.tlsf_crew.proofs.lemmas.yard.AllEntries.{replies_tell}
 use Rattle.tlsf_crew.proofs.lemmas.yard.JoinedEntries.{runs_then}
-use Rattle.tlsf_crew.proofs.lemmas.threads.RecordHistory.{race_runs}
+use Rattle.tlsf_yard_laws.specs.Carriers.{Carrier}
 use Rattle.tlsf_yard_laws.specs.Races.{NewHasNoPast, RaceAddsToPast, RaceHoldsWhatIsLive, RaceKeepsBytes, RacePoolServes, RacePoolSuffices, ReplayAddsToPast}
+use Rattle.tlsf_yard_laws.proofs.RaceRecords.{heap_runs, heaps_stay}
 use Rattle.tlsf_yard_laws.specs.Yards.{IsNew, YardHoldsWhatIsLive, YardKeepsBytes, YardPoolServes, YardPoolSuffices}
 
 held_same : (held : ℕ) (call : Call) (answer : Answer) → held_after held call (handed_on answer) ≡ held_after held call answer
@@ -167,22 +168,24 @@ replay_past sli w es j words first calls answers past =
     let history = (replies_tell w es).history in
     record { within = omega (arith, past.within, history.count); since = runs_then _ _ _ calls _ answers _ past.since (history.heaps j past.within) }
 
-pub race_past : (sli : ℕ) → RaceAddsToPast sli
-race_past sli w v scripts records race j words first calls answers past =
-    record { within = omega (arith, past.within, race.heaps); since = runs_then _ _ _ calls _ answers _ past.since (race_runs w v scripts records race j past.within) }
+pub race_past : (sli : ℕ) (carrier : Carrier) → RaceAddsToPast sli carrier
+race_past sli carrier w v scripts made records race j words first calls answers past = record {
+  within = omega (arith, past.within, heaps_stay carrier w v scripts made records race);
+  since = runs_then _ _ _ calls _ answers _ past.since (heap_runs carrier w v scripts made records race j past.within);
+}
 
-pub race_suffices : (sli : ℕ) → IsLevel sli → RacePoolSuffices sli
-race_suffices sli level w v scripts records race j words first most len calls answers past region class enough within =
-    past_suffices level j words first most len _ _ _ (race_past sli w v scripts records race j words first calls answers past).since region class enough within
+pub race_suffices : (sli : ℕ) (carrier : Carrier) → IsLevel sli → RacePoolSuffices sli carrier
+race_suffices sli carrier level w v scripts made records race j words first most len calls answers past region class enough within =
+    past_suffices level j words first most len _ _ _ (race_past sli carrier w v scripts made records race j words first calls answers past).since region class enough within
 
-pub race_serves : (sli : ℕ) → IsLevel sli → RacePoolServes sli
-race_serves sli level w v scripts records race j words first most len calls answers past region class enough within fresh =
-    past_serves level j words first most len _ _ _ (race_past sli w v scripts records race j words first calls answers past).since region class enough within fresh
+pub race_serves : (sli : ℕ) (carrier : Carrier) → IsLevel sli → RacePoolServes sli carrier
+race_serves sli carrier level w v scripts made records race j words first most len calls answers past region class enough within fresh =
+    past_serves level j words first most len _ _ _ (race_past sli carrier w v scripts made records race j words first calls answers past).since region class enough within fresh
 
-pub race_holds : (sli : ℕ) → RaceHoldsWhatIsLive sli
-race_holds sli w v scripts records race j words first calls answers past four =
-    past_holds j words first _ _ _ (race_past sli w v scripts records race j words first calls answers past).since four
+pub race_holds : (sli : ℕ) (carrier : Carrier) → RaceHoldsWhatIsLive sli carrier
+race_holds sli carrier w v scripts made records race j words first calls answers past four =
+    past_holds j words first _ _ _ (race_past sli carrier w v scripts made records race j words first calls answers past).since four
 
-pub race_bytes : (sli : ℕ) → IsLevel sli → RaceKeepsBytes sli
-race_bytes sli level w v scripts records race j words first calls answers name past four =
-    past_bytes level j words first _ _ _ name (race_past sli w v scripts records race j words first calls answers past).since four
+pub race_bytes : (sli : ℕ) (carrier : Carrier) → IsLevel sli → RaceKeepsBytes sli carrier
+race_bytes sli carrier level w v scripts made records race j words first calls answers name past four =
+    past_bytes level j words first _ _ _ name (race_past sli carrier w v scripts made records race j words first calls answers past).since four

@@ -1,4 +1,5 @@
 pub mod Yards
+pub mod Carriers
 pub mod Races
 pub mod Posts
 pub mod Sharing

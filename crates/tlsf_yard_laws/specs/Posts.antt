@@ -11,7 +11,8 @@ use Rattle.tlsf_calls.specs.declared.target.Target.{Target}
 use Rattle.tlsf_calls.specs.declared.took.Took.{Took}
 use Rattle.tlsf_crew.specs.yard.World.{World, heap_in, name_of}
 use Rattle.tlsf_crew.specs.yard.History.{AreLawful, StandsBehind}
-use Rattle.tlsf_crew.specs.threads.Race.{IsRace, record_of}
+use Rattle.tlsf_crew.specs.threads.Race.{record_of}
+use Rattle.tlsf_yard_laws.specs.Carriers.{Carrier, IsRaceOver}
 
 -- the entry tells that this name was given back: its block was released, or the name was posted to the owner
 pub record GivesBack (made : List (Option Name)) (e : Entry) (name : Name) : Type 0 where
@@ -31,7 +32,7 @@ PostWhatWasLive w made records = (i : ℕ) (b : List Entry) (e : Entry) (name : 
     → IsLive (heap_in w name.heap) name
 
 -- where nothing waits before such a race, no post that is taken is stale
-abbrev pub NoPostIsStale : ℕ → Type 0
-NoPostIsStale sli = (w v : World sli) (scripts : List (List Call)) (records : List (List Entry)) (race : IsRace w scripts records v) → AreLawful w → ((i j : ℕ) → w.waiting i j ≡ [])
-    → PostWhatWasLive w race.made records → GiveBackOnce race.made records
+abbrev pub NoPostIsStale : ℕ → Carrier → Type 0
+NoPostIsStale sli carrier = (w v : World sli) (scripts : List (List Call)) (made : ℕ → List (Option Name)) (records : List (List Entry)) → IsRaceOver carrier w scripts made records v → AreLawful w → ((i j : ℕ) → w.waiting i j ≡ [])
+    → PostWhatWasLive w made records → GiveBackOnce made records
     → (j : ℕ) (b : List Entry) (from : ℕ) (t : Took) → j < length w.heaps → StandsBehind (record_of records j) b (record { worker = j; call = Take from; reply = Taken t }) → t.answer ≢ Err Stale

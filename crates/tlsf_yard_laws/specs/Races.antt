@@ -1,5 +1,5 @@
 -- What the worker of a heap may rely on in a race, whatever the schedule of the threads, and after earlier races and replays.
-use Rattle.std.specs.Prelude.{◌≡◌, ℕ, ◌+◌, ◌<◌, ◌≤◌, List, [], ◌++◌, None, length}
+use Rattle.std.specs.Prelude.{◌≡◌, ℕ, ◌+◌, ◌<◌, ◌≤◌, List, [], ◌++◌, Option, None, length}
 use Rattle.std.specs.List.{AllByRecursion}
 use Rattle.tlsf_class.specs.Classes.{most_words}
 use Rattle.tlsf_heap.specs.Blocks.{want}
@@ -12,10 +12,11 @@ use Rattle.tlsf_laws.specs.Pools.{pool_words, AreModest, HasRoomFor, IsServed}
 use Rattle.tlsf_laws.specs.Contents.{contents, after_all}
 use Rattle.tlsf_crew.specs.yard.World.{World, heap_in, replies}
 use Rattle.tlsf_crew.specs.yard.History.{RunsTo, calls_on, answers_on}
-use Rattle.tlsf_crew.specs.threads.Race.{IsRace, record_of}
+use Rattle.tlsf_crew.specs.threads.Race.{record_of}
 use Rattle.tlsf_calls.specs.declared.event.Event.{Event}
 use Rattle.tlsf_calls.specs.declared.entry.Entry.{Entry}
 use Rattle.tlsf_calls.specs.declared.call.Call.{Call}
+use Rattle.tlsf_yard_laws.specs.Carriers.{Carrier, IsRaceOver}
 use Rattle.tlsf_yard_laws.specs.Yards.{IsNew}
 
 -- heap j of a world was new once, and has had these calls since, which got these answers
@@ -33,36 +34,36 @@ ReplayAddsToPast sli = (w : World sli) (es : List Event) (j words first : ℕ) (
     → let r = replies w es in HasPast r.world j words first (calls ++ calls_on j r.made r.entries) (answers ++ answers_on j r.entries)
 
 -- a race adds those that the record of the heap's own worker tells
-abbrev pub RaceAddsToPast : ℕ → Type 0
-RaceAddsToPast sli = (w v : World sli) (scripts : List (List Call)) (records : List (List Entry)) (race : IsRace w scripts records v) (j words first : ℕ) (calls : List heap.Call) (answers : List heap.Answer)
+abbrev pub RaceAddsToPast : ℕ → Carrier → Type 0
+RaceAddsToPast sli carrier = (w v : World sli) (scripts : List (List Call)) (made : ℕ → List (Option Name)) (records : List (List Entry)) → IsRaceOver carrier w scripts made records v → (j words first : ℕ) (calls : List heap.Call) (answers : List heap.Answer)
     → HasPast w j words first calls answers
-    → HasPast v j words first (calls ++ calls_on j (race.made j) (record_of records j)) (answers ++ answers_on j (record_of records j))
+    → HasPast v j words first (calls ++ calls_on j (made j) (record_of records j)) (answers ++ answers_on j (record_of records j))
 
 -- a heap of pool_words whose calls so far and in the race stay within the bounds is never answered NoFit. Its calls are those that
--- its own worker's record tells; a block whose name waits in a lane counts as held until its worker takes it
-abbrev pub RacePoolSuffices : ℕ → Type 0
-RacePoolSuffices sli = (w v : World sli) (scripts : List (List Call)) (records : List (List Entry)) (race : IsRace w scripts records v)
+-- its own worker's record tells; a block whose name is under way counts as held until its worker takes it
+abbrev pub RacePoolSuffices : ℕ → Carrier → Type 0
+RacePoolSuffices sli carrier = (w v : World sli) (scripts : List (List Call)) (made : ℕ → List (Option Name)) (records : List (List Entry)) → IsRaceOver carrier w scripts made records v
     → (j words first most len : ℕ) (calls : List heap.Call) (answers : List heap.Answer) → HasPast w j words first calls answers
     → IsRegion sli words → want len ≤ most_words sli → pool_words sli most len ≤ words
-    → let now = calls ++ calls_on j (race.made j) (record_of records j) in let told = answers ++ answers_on j (record_of records j) in
+    → let now = calls ++ calls_on j (made j) (record_of records j) in let told = answers ++ answers_on j (record_of records j) in
     AreModest most len 0 now told → AllByRecursion HasRoomFor told
 
 -- and each of its worker's requests is served, while the ticks last
-abbrev pub RacePoolServes : ℕ → Type 0
-RacePoolServes sli = (w v : World sli) (scripts : List (List Call)) (records : List (List Entry)) (race : IsRace w scripts records v)
+abbrev pub RacePoolServes : ℕ → Carrier → Type 0
+RacePoolServes sli carrier = (w v : World sli) (scripts : List (List Call)) (made : ℕ → List (Option Name)) (records : List (List Entry)) → IsRaceOver carrier w scripts made records v
     → (j words first most len : ℕ) (calls : List heap.Call) (answers : List heap.Answer) → HasPast w j words first calls answers
     → IsRegion sli words → want len ≤ most_words sli → pool_words sli most len ≤ words
-    → let now = calls ++ calls_on j (race.made j) (record_of records j) in let told = answers ++ answers_on j (record_of records j) in
+    → let now = calls ++ calls_on j (made j) (record_of records j) in let told = answers ++ answers_on j (record_of records j) in
     AreModest most len 0 now told → first + length now < heap.last_tick → AllByRecursion IsServed told
 
 -- as many blocks of a heap are live after the race as its worker was told to be held
-abbrev pub RaceHoldsWhatIsLive : ℕ → Type 0
-RaceHoldsWhatIsLive sli = (w v : World sli) (scripts : List (List Call)) (records : List (List Entry)) (race : IsRace w scripts records v)
+abbrev pub RaceHoldsWhatIsLive : ℕ → Carrier → Type 0
+RaceHoldsWhatIsLive sli carrier = (w v : World sli) (scripts : List (List Call)) (made : ℕ → List (Option Name)) (records : List (List Entry)) → IsRaceOver carrier w scripts made records v
     → (j words first : ℕ) (calls : List heap.Call) (answers : List heap.Answer) → HasPast w j words first calls answers → 4 ≤ words
-    → live_count (heap_in v j) ≡ held_after_all 0 (calls ++ calls_on j (race.made j) (record_of records j)) (answers ++ answers_on j (record_of records j))
+    → live_count (heap_in v j) ≡ held_after_all 0 (calls ++ calls_on j (made j) (record_of records j)) (answers ++ answers_on j (record_of records j))
 
 -- the bytes of a heap are told by its own worker's record alone: what the other threads do changes none
-abbrev pub RaceKeepsBytes : ℕ → Type 0
-RaceKeepsBytes sli = (w v : World sli) (scripts : List (List Call)) (records : List (List Entry)) (race : IsRace w scripts records v)
+abbrev pub RaceKeepsBytes : ℕ → Carrier → Type 0
+RaceKeepsBytes sli carrier = (w v : World sli) (scripts : List (List Call)) (made : ℕ → List (Option Name)) (records : List (List Entry)) → IsRaceOver carrier w scripts made records v
     → (j words first : ℕ) (calls : List heap.Call) (answers : List heap.Answer) (name : Name) → HasPast w j words first calls answers → 4 ≤ words
-    → contents (heap_in v j) name ≡ after_all (λ other. None) (calls ++ calls_on j (race.made j) (record_of records j)) (answers ++ answers_on j (record_of records j)) name
+    → contents (heap_in v j) name ≡ after_all (λ other. None) (calls ++ calls_on j (made j) (record_of records j)) (answers ++ answers_on j (record_of records j)) name

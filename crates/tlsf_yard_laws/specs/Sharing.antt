@@ -1,5 +1,5 @@
 -- How large the heap of a worker must be, by what the programs hold and by how much its lanes hold.
-use Rattle.std.specs.Prelude.{◌≡◌, ℕ, ◌+◌, ◌*◌, ◌-◌, ◌<◌, ◌≤◌, List, [], ◌∷◌, Option, Some, None, length, filter, not, ◌==◌, if◌then◌else◌, ⊤}
+use Rattle.std.specs.Prelude.{◌≡◌, ℕ, ◌+◌, ◌*◌, ◌-◌, ◌<◌, ◌≤◌, List, [], ◌∷◌, Option, Some, None, length, filter, not, ◌==◌, ⊤, if◌then◌else◌}
 use Rattle.std.specs.List.{AllByRecursion}
 use Rattle.tlsf_class.specs.Classes.{most_words}
 use Rattle.tlsf_heap.specs.Blocks.{want}
@@ -16,6 +16,7 @@ use Rattle.tlsf_calls.specs.declared.entry.Entry.{Entry}
 use Rattle.tlsf_calls.specs.declared.event.Event.{Event}
 use Rattle.tlsf_calls.specs.declared.target.Target.{Target}
 use Rattle.tlsf_calls.specs.declared.call.Call.TheVariants.{Allocate, Resize}
+use Rattle.tlsf_yard_laws.specs.Carriers.{Carrier, OverLanes, OverQueues}
 use Rattle.tlsf_yard_laws.specs.Yards.{IsNew}
 
 -- the ledger after a call on the heap itself, where there is one
@@ -47,12 +48,13 @@ abbrev pub AreSparing : ℕ → ℕ → ℕ → List (Option Name) → Ledger �
 AreSparing j most len made ledger [] = ⊤
 AreSparing j most len made ledger (e ∷ es) = IsSparing j most len ledger e × AreSparing j most len made (unreleased_after j made ledger e) es
 
--- the posts that may be under way to one worker: all that the lanes from each other worker hold
-abbrev pub most_under_way : {sli : ℕ} → World sli → ℕ
-most_under_way w = (length w.heaps - 1) * w.capacity
+-- the posts that may be under way to one worker: all that the lanes from each other worker hold, or that its queue holds
+abbrev pub most_under_way : {sli : ℕ} → Carrier → World sli → ℕ
+most_under_way OverLanes w = (length w.heaps - 1) * w.capacity
+most_under_way OverQueues w = w.capacity
 
 -- a heap with room for what the programs hold and for what may be under way serves each request of its worker, while the ticks last
 abbrev pub SharedPoolServes : ℕ → Type 0
 SharedPoolServes sli = (w : World sli) (es : List Event) (j words first most len : ℕ) → IsNew w j words first → ((i : ℕ) → length (w.waiting i j) ≤ w.capacity)
-    → IsRegion sli words → want len ≤ most_words sli → pool_words sli (most + most_under_way w) len ≤ words
+    → IsRegion sli words → want len ≤ most_words sli → pool_words sli (most + most_under_way OverLanes w) len ≤ words
     → let r = replies w es in first + length r.entries < heap.last_tick → AreSparing j most len r.made [] r.entries → AllByRecursion IsServed (answers_on j r.entries)

@@ -1,13 +1,14 @@
 //! What the worker of a heap may rely on, whatever the other workers do: the laws of `tlsf_laws` for each heap of a yard.
 //!
 //! Each is the contract of a function that does nothing, over every list of events on every yard, or over every race, whatever
-//! its schedule. They follow from `tlsf_crew::one_history` and `tlsf_crew::one_history_of_a_race`: a heap is called by its own
-//! worker alone, and a block that another worker gives back stays live until its owner takes that post.
+//! its schedule. They follow from `tlsf_crew::one_history`, `tlsf_crew::one_history_of_a_race` and
+//! `tlsf_crew::one_history_of_a_queue_race`: a heap is called by its own worker alone, and a block that another worker gives back
+//! stays live until its owner takes that post. A law on races holds over lanes and over queues.
 //!
 //! | A user knows | So | Law |
 //! |---|---|---|
 //! | how many blocks its own worker was told to be held, those under way included | how many words are enough | [`yard_never_refuses`], [`race_never_refuses`] |
-//! | how many blocks nobody has released yet, and how many posts the lanes hold | the same | [`lanes_add_their_capacity`]; in a race [`race_adds_its_lanes`] |
+//! | how many blocks nobody has released yet, and how many posts the lanes or the queue hold | the same | [`lanes_add_their_capacity`]; in a race [`race_adds_its_lanes`], [`race_adds_its_queue`] |
 //! | that each block is given back once | a post that is taken is never stale | [`no_post_is_stale`] |
 //! | what its own worker was told | the bytes under each name | [`yard_keeps_bytes`], [`race_keeps_bytes`] |
 //!
@@ -21,5 +22,5 @@ mod yards;
 
 pub use posts::no_post_is_stale;
 pub use races::{past_goes_on, race_keeps_bytes, race_never_refuses};
-pub use sharing::{lanes_add_their_capacity, race_adds_its_lanes};
+pub use sharing::{lanes_add_their_capacity, race_adds_its_lanes, race_adds_its_queue};
 pub use yards::{yard_keeps_bytes, yard_never_refuses};

@@ -1,7 +1,8 @@
 ghost use Rattle.std.specs.Prelude.{ℕ};
+ghost use Rattle.tlsf_yard_laws.specs.Carriers.{Carrier};
 ghost use Rattle.tlsf_yard_laws.specs.Posts.{NoPostIsStale};
 
-/// Programs that give each block back once never see a stale post, whatever the schedule of the threads.
+/// Programs that give each block back once never see a stale post, over lanes and over queues, whatever the schedule of the threads.
 ///
 /// Where nothing waits before a race, each name that a worker posts was live before it, and no name is given back twice (freed
 /// by its owner or posted by another, in all records together), no post that is taken is answered Stale: its block was live.
@@ -11,5 +12,5 @@ ghost use Rattle.tlsf_yard_laws.specs.Posts.{NoPostIsStale};
 /// worker 0: Take(1): Took(x, Ok), before or behind any calls of its own
 /// ```
 pub fn no_post_is_stale()
-    ensures { (sli : ℕ) → NoPostIsStale sli }
+    ensures { (sli : ℕ) (carrier : Carrier) → NoPostIsStale sli carrier }
 {}

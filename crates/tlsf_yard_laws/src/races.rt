@@ -1,8 +1,10 @@
 ghost use Rattle.std.specs.Prelude.{ℕ};
 ghost use Rattle.tlsf_class.specs.Classes.{IsLevel};
+ghost use Rattle.tlsf_yard_laws.specs.Carriers.{Carrier};
 ghost use Rattle.tlsf_yard_laws.specs.Races.{NewHasNoPast, RaceAddsToPast, RaceHoldsWhatIsLive, RaceKeepsBytes, RacePoolServes, RacePoolSuffices, ReplayAddsToPast};
 
-/// The past of a heap is one list of calls, through replays and races: what its own worker was told since it was new.
+/// The past of a heap is one list of calls, through replays and races: what its own worker was told since it was new. A yard over
+/// lanes has both, one over queues races alone.
 ///
 /// So a law of this module holds for a race after any earlier races and lists of events.
 ///
@@ -13,11 +15,11 @@ ghost use Rattle.tlsf_yard_laws.specs.Races.{NewHasNoPast, RaceAddsToPast, RaceH
 pub fn past_goes_on()
     ensures new { (sli : ℕ) → NewHasNoPast sli }
     ensures replay { (sli : ℕ) → ReplayAddsToPast sli }
-    ensures race { (sli : ℕ) → RaceAddsToPast sli }
+    ensures race { (sli : ℕ) (carrier : Carrier) → RaceAddsToPast sli carrier }
 {}
 
 /// How large the heap of a worker must be, so that none of its requests in a race is ever refused for want of room, whatever
-/// the schedule of the threads.
+/// the schedule of the threads, over lanes and over queues.
 ///
 /// A worker counts for itself: one more for each allocate that was accepted, one fewer for each release of its own and each
 /// post that it took that its heap accepted. While it has fewer than `most` blocks before each request, and asks for at most
@@ -28,14 +30,14 @@ pub fn past_goes_on()
 /// worker 1: releases blocks of worker 0 as it learns their names; none of worker 0's requests is answered NoFit
 /// ```
 pub fn race_never_refuses()
-    ensures room { (sli : ℕ) → IsLevel sli → RacePoolSuffices sli }
-    ensures served { (sli : ℕ) → IsLevel sli → RacePoolServes sli }
+    ensures room { (sli : ℕ) (carrier : Carrier) → IsLevel sli → RacePoolSuffices sli carrier }
+    ensures served { (sli : ℕ) (carrier : Carrier) → IsLevel sli → RacePoolServes sli carrier }
 
     // As many blocks are live after the race as the worker was told to be held.
-    ensures held { (sli : ℕ) → RaceHoldsWhatIsLive sli }
+    ensures held { (sli : ℕ) (carrier : Carrier) → RaceHoldsWhatIsLive sli carrier }
 {}
 
-/// A worker's blocks keep their bytes in a race, whatever the threads of the others do.
+/// A worker's blocks keep their bytes in a race, over lanes and over queues, whatever the threads of the others do.
 ///
 /// The bytes under each name of a heap are told by the calls that its own worker's record tells, and by their answers.
 ///
@@ -43,5 +45,5 @@ pub fn race_never_refuses()
 /// worker 0 has 07 in x, worker 1 releases x: x still has 07 for worker 0, until it takes that post
 /// ```
 pub fn race_keeps_bytes()
-    ensures { (sli : ℕ) → IsLevel sli → RaceKeepsBytes sli }
+    ensures { (sli : ℕ) (carrier : Carrier) → IsLevel sli → RaceKeepsBytes sli carrier }
 {}

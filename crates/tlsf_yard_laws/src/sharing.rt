@@ -1,5 +1,6 @@
 ghost use Rattle.std.specs.Prelude.{ℕ};
 ghost use Rattle.tlsf_class.specs.Classes.{IsLevel};
+ghost use Rattle.tlsf_yard_laws.specs.Carriers.{OverLanes, OverQueues};
 ghost use Rattle.tlsf_yard_laws.specs.Moments.{OrdersHaveMoments, RaceSharedPoolServes};
 ghost use Rattle.tlsf_yard_laws.specs.Sharing.{SharedPoolServes};
 
@@ -20,7 +21,7 @@ pub fn lanes_add_their_capacity()
     ensures { (sli : ℕ) → IsLevel sli → SharedPoolServes sli }
 {}
 
-/// The same in a race, at the moments of its owner's requests.
+/// The same in a race over lanes, at the moments of its owner's requests.
 ///
 /// A moment of the owner's record is how far it has come, and with it how far each other worker has: any part of that worker's
 /// record of which all is posted that the owner took from it, and at most C posts more, those under way. The blocks that the owner's
@@ -37,9 +38,27 @@ pub fn lanes_add_their_capacity()
 /// at worker 0's second request x is held where worker 1 has told nothing yet, and under way where it has told its release
 /// ```
 pub fn race_adds_its_lanes()
-    ensures served { (sli : ℕ) → IsLevel sli → RaceSharedPoolServes sli }
+    ensures served { (sli : ℕ) → IsLevel sli → RaceSharedPoolServes sli OverLanes }
 
     // In any one order of all calls in which each post is taken after it was made and no lane is ever overfull, there is a moment
     // before each request: what waits is under way.
-    ensures moments { (sli : ℕ) → OrdersHaveMoments sli }
+    ensures moments { (sli : ℕ) → OrdersHaveMoments sli OverLanes }
+{}
+
+/// The same in a race over queues: one queue leads to a worker, which holds up to C posts of all others together.
+///
+/// So the heap needs the words of `tlsf_laws::pool_never_refuses` for `most` + C blocks of `len` bytes, however many workers there
+/// are. A moment is as in [`race_adds_its_lanes`], but that at most C posts are under way in all: in what order those of several
+/// workers stand in the queue is free.
+///
+/// ```text
+/// eight workers, queues of 8 posts, at most 100 blocks of worker 0 held, of up to 512 bytes:
+/// the words of a pool of 108 blocks, 14,727; over lanes of 8 posts those of 156, 21,303
+/// ```
+pub fn race_adds_its_queue()
+    ensures served { (sli : ℕ) → IsLevel sli → RaceSharedPoolServes sli OverQueues }
+
+    // In any one order of all calls in which each post is taken after it was made and no queue is ever overfull, there is a moment
+    // before each request.
+    ensures moments { (sli : ℕ) → OrdersHaveMoments sli OverQueues }
 {}

@@ -1,0 +1,19 @@
+-- Races, whatever carries the posts of their workers.
+use Rattle.std.specs.Prelude.{◌≡◌, ℕ, List, Option}
+use Rattle.tlsf_heap.specs.declared.name.Name.{Name}
+use Rattle.tlsf_calls.specs.declared.call.Call.{Call}
+use Rattle.tlsf_calls.specs.declared.entry.Entry.{Entry}
+use Rattle.tlsf_crew.specs.yard.World.{World}
+use Rattle.tlsf_crew.specs.threads.Race.{IsRace}
+use Rattle.tlsf_crew.specs.queues.QueueRace.{IsQueueRace}
+
+-- what carries posts from one worker to another
+pub data Carrier : Type 0 where
+  OverLanes : Carrier  -- a lane from each worker to each other one
+  OverQueues : Carrier  -- a queue into each worker, for all others
+
+-- from a world the workers ran these scripts at once, their calls made these names and they were told these records, and they left the
+-- other world
+abbrev pub IsRaceOver : {sli : ℕ} → Carrier → World sli → List (List Call) → (ℕ → List (Option Name)) → List (List Entry) → World sli → Type 0
+IsRaceOver OverLanes w scripts made records v = (race : IsRace w scripts records v) × (race.made ≡ made)
+IsRaceOver OverQueues w scripts made records v = (race : IsQueueRace w scripts records v) × (race.made ≡ made)
