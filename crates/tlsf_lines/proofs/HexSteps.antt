@@ -5,7 +5,7 @@ use Rattle.std.specs.Result.{result_ok}
 use Rattle.hex.specs.Hex.{decode_of, decode_pairs, digit_or_error, hex_digit_value, pair_value, value_at}
 use Rattle.hex.specs.declared.error.FromHexError.{FromHexError}
 use Rattle.hex.specs.declared.error.FromHexError.TheVariants.{InvalidHexCharacter}
-use Rattle.hex.proofs.Pairs.{decode_done, decode_err, decode_start, decode_step, prepend}
+use Rattle.hex.proofs.Pairs.{decode_done, decode_err, decode_step, prepend}
 use Rattle.hex.proofs.HexLemmas.{decode_of-even}
 
 -- what a digit's byte says: its value, or 16 where it is none

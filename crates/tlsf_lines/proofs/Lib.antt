@@ -5,6 +5,7 @@ pub mod FieldSteps  -- what the fields of a line say, up to one that has not its
 pub mod LastField  -- the last field of a line, which may be read as all that is left
 pub mod LineJudged  -- a line, judged by its first field and what stands behind it
 pub mod LineSteps  -- a step of the loop over lines
+pub mod TableSteps  -- a table by label, when a thing is kept in it
 pub mod LabelSteps  -- what is remembered of labels, behind a line and a phase
 pub mod EmptyText  -- a text without bytes has no header
 pub mod HexSteps  -- pairs of hexadecimal digits, all read before they are judged

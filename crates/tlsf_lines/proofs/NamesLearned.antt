@@ -3,7 +3,7 @@ use Rattle.std.proofs.Common.{◌≡◌, ◌∷◌, ◌++◌, [], ℕ, ◌+◌, 
 use mathlib.Core.Path.{fun_ext}
 use Rattle.std.proofs.lemmas.List.{reverse-append, length-reverse, length-take-le, take_more}
 use Rattle.tlsf_heap.specs.declared.name.Name.{Name}
-use Rattle.tlsf_lines.specs.CallsByLabel.{with_line}
+use Rattle.tlsf_lines.specs.CallMemory.{with_line}
 use Rattle.tlsf_lines.specs.Phases.{known_behind, call_that_makes, name_by}
 use Rattle.tlsf_lines.specs.declared.line.Line.{Line}
 use Rattle.tlsf_lines.specs.declared.line.Line.TheVariants.{Allocate, Release, Write, Read, Resize, Drain, Phase}

@@ -1,5 +1,5 @@
 -- The events that a trace stands for, and the label of each.
-use Rattle.std.specs.Prelude.{ℕ, ◌+◌, ◌==◌, if◌then◌else◌, List, [], ◌∷◌, ◌++◌, map, replicate, Option, Some, None}
+use Rattle.std.specs.Prelude.{ℕ, ◌+◌, List, [], ◌∷◌, ◌++◌, map, replicate, Option, Some, None}
 use Rattle.std.specs.List.{range_with_len}
 use Rattle.tlsf_calls.specs.declared.event.Event.{Event}
 use Rattle.tlsf_calls.specs.declared.call.Call.{Call}
@@ -8,6 +8,7 @@ use Rattle.tlsf_calls.specs.declared.target.Target.{Target}
 use Rattle.tlsf_calls.specs.declared.target.Target.TheVariants.{Made, Absent}
 use Rattle.tlsf_lines.specs.declared.line.Line.{Line}
 use Rattle.tlsf_lines.specs.declared.line.Line.TheVariants.{Allocate, Release, Write, Read, Resize, Drain, Phase}
+use Rattle.tlsf_lines.specs.Labels.{counted_at}
 use Rattle.tlsf_lines.specs.Trace.{Trace}
 
 -- ---- drains
@@ -39,14 +40,7 @@ width_in workers (line ∷ lines) = width_of workers line + width_in workers lin
 
 -- the number of the event that makes a label, by the lines before, the newest first: so many events come before it
 abbrev pub maker_of : ℕ → ℕ → List Line → Option ℕ
-maker_of workers label [] = None
-maker_of workers label (Allocate worker made len ∷ before) = if made == label then Some (width_in workers before) else maker_of workers label before
-maker_of workers label (Release worker used ∷ before) = maker_of workers label before
-maker_of workers label (Write worker used at bytes ∷ before) = maker_of workers label before
-maker_of workers label (Read worker used at n ∷ before) = maker_of workers label before
-maker_of workers label (Resize worker used len ∷ before) = maker_of workers label before
-maker_of workers label (Drain worker most ∷ before) = maker_of workers label before
-maker_of workers label (Phase ∷ before) = maker_of workers label before
+maker_of workers label before = counted_at (width_in workers) label before
 
 -- what that event made, where there is one
 abbrev pub made_by : Option ℕ → Target

@@ -1,7 +1,8 @@
 -- What the parser remembers of labels.
-use Rattle.std.specs.Prelude.{ℕ, ◌≡◌, ◌≤◌, ◌==◌, if◌then◌else◌, List, slice_index_or, Option, Some, None, IfSome}
+use Rattle.std.specs.Prelude.{ℕ, ◌≡◌, ◌≤◌, ◌==◌, if◌then◌else◌, List, Option, Some, None, IfSome}
 use Rattle.tlsf_lines.specs.declared.line.Line.{Line}
 use Rattle.tlsf_lines.specs.declared.maker.Maker.{Maker}
+use Rattle.tlsf_lines.specs.ByLabel.{kept_of}
 use Rattle.tlsf_lines.specs.Events.{maker_of}
 use Rattle.tlsf_lines.specs.Labels.{Made, Never, Now, Earlier, made_of}
 
@@ -10,9 +11,6 @@ pub record Memory : Type 0 where
   pub phase : ℕ
   pub made : List (Option Maker)
 
-abbrev pub maker_at : List (Option Maker) → ℕ → Option Maker
-maker_at made label = slice_index_or made label None
-
 -- when a label was made, by its maker and the phase
 abbrev pub when_made : ℕ → Option Maker → Made
 when_made phase None = Never
@@ -20,8 +18,8 @@ when_made phase (Some maker) = if maker.phase == phase then Now maker.worker els
 
 -- the memory tells what the lines before, the newest first, made of each label
 pub record Remembers (memory : Memory) (before : List Line) : Type 0 where
-  pub tells : (label : ℕ) → when_made memory.phase (maker_at memory.made label) ≡ made_of label before
-  pub past : (label : ℕ) → IfSome (maker_at memory.made label) (λ maker. maker.phase ≤ memory.phase)
+  pub tells : (label : ℕ) → when_made memory.phase (kept_of memory.made label) ≡ made_of label before
+  pub past : (label : ℕ) → IfSome (kept_of memory.made label) (λ maker. maker.phase ≤ memory.phase)
 
 -- the event by which a label was made, where it was
 abbrev pub event_by : Option Maker → Option ℕ
@@ -30,4 +28,4 @@ event_by (Some maker) = Some maker.event
 
 -- and by which event
 abbrev pub Recalls : ℕ → Memory → List Line → Type 0
-Recalls workers memory before = (label : ℕ) → event_by (maker_at memory.made label) ≡ maker_of workers label before
+Recalls workers memory before = (label : ℕ) → event_by (kept_of memory.made label) ≡ maker_of workers label before

@@ -1,5 +1,5 @@
 -- Labels: what the lines before have made of them, and which a line may make or use.
-use Rattle.std.specs.Prelude.{ℕ, Bool, true, false, ◌==◌, if◌then◌else◌, List, [], ◌∷◌}
+use Rattle.std.specs.Prelude.{ℕ, Bool, true, false, ◌==◌, if◌then◌else◌, List, [], ◌∷◌, Option, Some, None}
 use Rattle.tlsf_lines.specs.declared.line.Line.{Line}
 use Rattle.tlsf_lines.specs.declared.line.Line.TheVariants.{Allocate, Release, Write, Read, Resize, Drain, Phase}
 
@@ -48,3 +48,11 @@ is_in_order before (Read worker label at n) = can_use worker (made_of label befo
 is_in_order before (Resize worker label length) = can_use worker (made_of label before)
 is_in_order before (Drain worker most) = true
 is_in_order before Phase = true
+
+-- ---- the number of what makes a label
+
+-- what is counted of the lines before the one that makes a label, where a line makes it; the newest stands first
+abbrev pub counted_at : (List Line → ℕ) → ℕ → List Line → Option ℕ
+counted_at count label [] = None
+counted_at count label (Allocate worker made length ∷ before) = if made == label then Some (count before) else counted_at count label before
+counted_at count label (line ∷ before) = counted_at count label before

@@ -3,6 +3,7 @@ pub mod Payloads
 pub mod Values
 pub mod Fields
 pub mod Lines
+pub mod ByLabel
 pub mod Labels
 pub mod Versions
 pub mod Header
@@ -27,5 +28,5 @@ pub use Rattle.tlsf_calls.specs.Numbers
 pub mod CutFields
 -- What the clauses of private functions cite besides.
 pub mod LabelMemory
-pub mod CallsByLabel
+pub mod CallMemory
 pub mod OpenLines

@@ -1,6 +1,5 @@
 -- A trace that is raced: its phases, the script of each worker in a phase, and what labels stand for from one phase to the next.
-use Rattle.std.specs.Prelude.{zero, suc, ℕ, ◌==◌, Bool, false, nat_eq, if◌then◌else◌, List, [], ◌∷◌, length, get_or, map, reverse, Option, Some, None}
-use Rattle.std.specs.Map.{lookup}
+use Rattle.std.specs.Prelude.{zero, suc, ℕ, ◌==◌, Bool, false, if◌then◌else◌, List, [], ◌∷◌, length, get_or, map, reverse, Option, Some, None}
 use Rattle.std.specs.List.{filter, filter_map, range_with_len}
 use Rattle.tlsf_heap.specs.declared.name.Name.{Name}
 use Rattle.tlsf_calls.specs.declared.call.Call.{Call}
@@ -10,8 +9,11 @@ use Rattle.tlsf_calls.specs.declared.target.Target.{Target}
 use Rattle.tlsf_calls.specs.declared.target.Target.TheVariants.{Made, Named, Absent}
 use Rattle.tlsf_calls.specs.Entries.{record_of}
 use Rattle.tlsf_calls.specs.Entries.{made_by}
+use Rattle.tlsf_lines.specs.ByLabel.{kept_of}
+use Rattle.tlsf_lines.specs.Labels.{counted_at}
 use Rattle.tlsf_lines.specs.declared.line.Line.{Line}
 use Rattle.tlsf_lines.specs.declared.line.Line.TheVariants.{Allocate, Release, Write, Read, Resize, Drain, Phase}
+use Rattle.tlsf_lines.specs.declared.names.Names.{Names}
 use Rattle.tlsf_lines.specs.ReplyLines.{is_taken}
 
 -- ---- phases
@@ -45,9 +47,7 @@ own_lines w lines = filter (is_line_of w) lines
 
 -- the number of the call that makes the label, among a worker's lines before, the newest first
 abbrev pub call_that_makes : ℕ → List Line → Option ℕ
-call_that_makes label [] = None
-call_that_makes label (Allocate worker made len ∷ before) = if made == label then Some (length before) else call_that_makes label before
-call_that_makes label (line ∷ before) = call_that_makes label before
+call_that_makes label before = counted_at length label before
 
 -- the name that a label has from an earlier phase, where its line was not refused
 abbrev pub named : Option Name → Target
@@ -101,14 +101,9 @@ names_in entries = filter_map name_made entries
 abbrev pub with_name : (ℕ → Option Name) → ℕ → Option Name → ℕ → Option Name
 with_name known made name label = if made == label then name else known label
 
--- what was found for a label, if anything was
-abbrev pub name_or_none : Option (Option Name) → Option Name
-name_or_none None = None
-name_or_none (Some name) = name
-
--- what labels stand for, by pairs of a label and what its line made
-abbrev pub known_in : List (ℕ × Option Name) → ℕ → Option Name
-known_in pairs label = name_or_none (lookup (nat_eq label) pairs)
+-- what labels stand for, by what is kept of them
+abbrev pub known_in : Names → ℕ → Option Name
+known_in names label = kept_of names.names label
 
 -- the name that this call made, where there is one, or else what the label had
 abbrev pub name_by : Option ℕ → List (Option Name) → Option Name → Option Name

@@ -1,10 +1,11 @@
-ghost use Rattle.std.specs.Prelude.{◌≡◌, ℕ, ◌+◌, ◌<◌, ◌≤◌, ◌^◌, List, [], ◌∷◌, length, is_some, IfSome, OnOk};
+ghost use Rattle.std.specs.Prelude.{◌≡◌, ℕ, ◌+◌, ◌<◌, ◌≤◌, ◌^◌, List, [], ◌∷◌, is_some, IfSome, OnOk};
 ghost use Rattle.tlsf_lines.specs.Events.{target_of, target_used, width_in};
 ghost use Rattle.tlsf_lines.specs.Labels.{can_make, can_use, is_in_order, made_of};
-ghost use Rattle.tlsf_lines.specs.LabelMemory.{Recalls, Remembers, maker_at};
+ghost use Rattle.tlsf_lines.specs.LabelMemory.{Recalls, Remembers};
 ghost use Rattle.tlsf_lines.specs.declared.line.Line.{Line as ALine};
 ghost use Rattle.tlsf_lines.specs.declared.line.Line.TheVariants.{Allocate, Phase};
 
+use crate::by_label::ByLabel;
 use crate::line::Line;
 use crate::maker::Maker;
 use std::alloc::{AllocError, Global};
@@ -15,8 +16,7 @@ use tlsf_calls::Target;
 /// which phase and by which event.
 #[derive(Drop)]
 pub struct Labels {
-    // A label is at most 65535, so a table that reaches as far as the greatest made so far is small.
-    makers: Vec<Option<Maker>>,
+    makers: ByLabel<Maker>,
     phase: u32,
 }
 
@@ -25,7 +25,7 @@ impl Model for Labels {
 
     ghost Value = { Memory };
 
-    ghost view = { λ labels. record { phase = labels.phase; made = labels.makers.items } };
+    ghost view = { λ labels. record { phase = labels.phase; made = labels.makers } };
 }
 
 impl Labels {
@@ -36,16 +36,9 @@ impl Labels {
         ensures phase { result.phase ≡ 0 }
     {
         Labels {
-            makers: Vec::new(alloc),
+            makers: ByLabel::new(alloc),
             phase: 0,
         }
-    }
-
-    // Who made the label, where a line did.
-    fn maker(&self, label: u32) -> Option<Maker>
-        ensures { result ≡ maker_at self.now.made label }
-    {
-        self.makers.get(label as usize).copied().flatten()
     }
 
     // What a label of an earlier line stands for to the worker: it made the label, or anybody did in an earlier phase.
@@ -55,7 +48,7 @@ impl Labels {
         ensures target { (workers : ℕ) (before : List ALine) → Recalls workers self.now before
             → IfSome result (λ target. target ≡ target_of workers label before) }
     {
-        let maker = self.maker(label)?;
+        let maker = self.makers.get(label)?;
         if maker.phase == self.phase && maker.worker != worker {
             return None;
         }
@@ -68,7 +61,7 @@ impl Labels {
             → is_some result ≡ can_make (made_of label before) }
         ensures target { IfSome result (λ target. target ≡ Target.Absent) }
     {
-        match self.maker(label) {
+        match self.makers.get(label) {
             None => Some(Target::Absent),
             Some(_) => None,
         }
@@ -94,19 +87,6 @@ impl Labels {
         }
     }
 
-    // Lets the table reach the label.
-    fn reach(&mut self, label: u32) -> Result<(), AllocError>
-        ensures same { OnOk result ((q : ℕ) → maker_at self.new.made q ≡ maker_at self.old.made q) }
-        ensures len { OnOk result (label < length self.new.made) }
-        ensures phase { self.new.phase ≡ self.old.phase }
-    {
-        let place = label as usize;
-        if self.makers.len() <= place {
-            self.makers.resize(place + 1, None)?;
-        }
-        Ok(())
-    }
-
     // The worker makes the label, by the event of this number.
     fn make(&mut self, label: u32, worker: u32, event: u32) -> Result<(), AllocError>
         ensures ok { OnOk result ((before : List ALine) (len : ℕ) → Remembers self.old before
@@ -115,12 +95,12 @@ impl Labels {
             → event ≡ width_in workers before → Recalls workers self.new (Allocate worker label len ∷ before)) }
         ensures phase { self.new.phase ≡ self.old.phase }
     {
-        self.reach(label)?;
-        self.makers[label as usize] = Some(Maker {
+        let maker = Maker {
             worker,
             phase: self.phase,
             event,
-        });
+        };
+        self.makers.set(label, Some(maker))?;
         Ok(())
     }
 

@@ -1,7 +1,7 @@
 //! What labels stand for behind a phase, by what the records show.
 ghost use Rattle.std.specs.Prelude.{◌≡◌, IfOk, OnOk};
 ghost use Rattle.tlsf_calls.specs.Entries.{made_by as made};
-ghost use Rattle.tlsf_lines.specs.CallsByLabel.{with_line};
+ghost use Rattle.tlsf_lines.specs.CallMemory.{with_line};
 ghost use Rattle.tlsf_lines.specs.Phases.{known_behind, known_in};
 ghost use Rattle.tlsf_lines.specs.Phases as spelled;
 

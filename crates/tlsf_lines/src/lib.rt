@@ -23,7 +23,7 @@
 //! as `reply_text`.
 #![tactic(auto)]
 
-mod calls_by_label;
+mod by_label;
 mod fields;
 mod header;
 mod input;

@@ -2,16 +2,15 @@
 ghost use Rattle.std.specs.Prelude.{◌≡◌, ◌∷◌, ◌<◌, ◌≤◌, ◌^◌, All, List, [], length, map, IfOk, OnOk, IfSome, MatchOption, vec_len};
 ghost use Rattle.std.specs.List.{range_with_len};
 ghost use Rattle.tlsf_lines.specs.Phases as spelled;
-ghost use Rattle.tlsf_lines.specs.Phases.{calls_from, known_in, phases_of, scripts_in, target_in};
+ghost use Rattle.tlsf_lines.specs.Phases.{calls_from, known_in, phases_of, scripts_in};
 ghost use Rattle.tlsf_lines.specs.Records as told;
-ghost use Rattle.tlsf_lines.specs.CallsByLabel.{RecallsOwn};
+ghost use Rattle.tlsf_lines.specs.CallMemory.{RecallsCallOf};
 ghost use Rattle.tlsf_lines.specs.declared.line.Line.{Line as ALine};
 
-use crate::calls_by_label::CallsByLabel;
 use crate::line::Line;
 use crate::names::Names;
 use std::alloc::{AllocError, Global};
-use tlsf_calls::{Call, Target};
+use tlsf_calls::Call;
 
 /// The lines of the first phase, and those behind the `phase` line that ends it, where there is one.
 ///
@@ -52,29 +51,15 @@ fn own_lines(alloc: Global, worker: u32, phase: &[Line]) -> Result<Vec<Line>, Al
     Ok(own)
 }
 
-// What a label stands for: what a call of this phase makes, or the name that it has from an earlier one.
-fn target_of(by_label: &CallsByLabel, names: &Names, label: u32) -> Target
-    ensures { (before : List ALine) → RecallsOwn by_label.now before
-        → result ≡ target_in (known_in names.now) before label }
-{
-    match by_label.target(label) {
-        Target::Absent => match names.get(label) {
-            Some(name) => Target::Named(name),
-            None => Target::Absent,
-        },
-        made => made,
-    }
-}
-
 // The call that a line stands for.
-fn call_of(by_label: &CallsByLabel, names: &Names, line: Line) -> Call
-    ensures { (before : List ALine) → RecallsOwn by_label.now before
+fn call_of(names: &Names, line: Line) -> Call
+    ensures { (before : List ALine) → RecallsCallOf names.now.calls before line
         → result ≡ spelled.call_in (known_in names.now) before line }
 {
     match line {
         Line::Allocate { len, .. } => Call::Allocate { len },
         Line::Release { label, .. } => Call::Release {
-            target: target_of(by_label, names, label),
+            target: names.target(label),
         },
         Line::Write {
             label,
@@ -82,17 +67,17 @@ fn call_of(by_label: &CallsByLabel, names: &Names, line: Line) -> Call
             bytes,
             ..
         } => Call::Write {
-            target: target_of(by_label, names, label),
+            target: names.target(label),
             at,
             bytes,
         },
         Line::Read { label, at, n, .. } => Call::Read {
-            target: target_of(by_label, names, label),
+            target: names.target(label),
             at,
             n,
         },
         Line::Resize { label, len, .. } => Call::Resize {
-            target: target_of(by_label, names, label),
+            target: names.target(label),
             len,
         },
         Line::Drain { most, .. } => Call::Drain { most },
@@ -101,28 +86,29 @@ fn call_of(by_label: &CallsByLabel, names: &Names, line: Line) -> Call
     }
 }
 
-// Lets the call of this number make the label of its line, where the line makes one.
-fn remember(by_label: &mut CallsByLabel, line: Line, call: u32) -> Result<(), AllocError>
-    ensures { OnOk result ((before : List ALine) → RecallsOwn by_label.old before
-        → call ≡ length before → RecallsOwn by_label.new (line ∷ before)) }
+// Forgets which calls make the labels of these lines.
+fn forget_calls(names: &mut Names, lines: &[Line]) -> Result<(), AllocError>
+    ensures names { names.new.names ≡ names.old.names }
+    ensures none { OnOk result (All (RecallsCallOf names.new.calls []) lines.now) }
 {
-    if let Line::Allocate { label, .. } = line {
-        by_label.insert(label, call)?;
+    for line in lines {
+        names.forget(line)?;
     }
     Ok(())
 }
 
 // The calls that a worker's lines in a phase stand for.
-fn own_calls(alloc: Global, names: &Names, lines: &[Line]) -> Result<Vec<Call>, AllocError>
+fn own_calls(alloc: Global, names: &mut Names, lines: &[Line]) -> Result<Vec<Call>, AllocError>
     requires { length lines.now ≤ 32768 }
-    ensures calls { IfOk result (λ calls. calls.items ≡ calls_from (known_in names.now) [] lines.now) }
+    ensures names { names.new.names ≡ names.old.names }
+    ensures calls { IfOk result (λ calls. calls.items ≡ calls_from (known_in names.old) [] lines.now) }
     ensures len { IfOk result (λ calls. vec_len calls ≡ length lines.now) }
 {
-    let mut by_label = CallsByLabel::new(alloc);
+    forget_calls(names, lines)?;
     let mut calls = Vec::with_capacity(alloc, lines.len())?;
     for line in lines {
-        let call = call_of(&by_label, names, *line);
-        remember(&mut by_label, *line, calls.len() as u32)?;
+        let call = call_of(names, *line);
+        names.remember(*line, calls.len() as u32)?;
         calls.push(call)?;
     }
     Ok(calls)
@@ -143,7 +129,7 @@ pub fn labels_of(alloc: Global, lines: &[Line]) -> Result<Vec<Option<u32>>, Allo
 ///
 /// ```
 /// let (phase, _) = cut_phase(&trace.lines);
-/// let scripts = PhaseScripts::of(alloc, trace.header.workers, &names, phase)?;
+/// let scripts = PhaseScripts::of(alloc, trace.header.workers, &mut names, phase)?;
 /// // scripts.calls[0] are the calls of worker 0 in that phase
 /// ```
 #[derive(Drop)]
@@ -155,7 +141,7 @@ pub struct PhaseScripts {
 }
 
 impl PhaseScripts {
-    /// The scripts of so many workers in a phase of at most 32,768 lines, where earlier phases gave labels these names.
+    /// The scripts of so many workers in a phase of at most 32,768 lines, where earlier phases gave labels these names. They stay as they are.
     ///
     /// # Errors
     ///
@@ -163,20 +149,21 @@ impl PhaseScripts {
     ///
     /// ```
     /// // phase has "a 0 1 8", "f 0 1", of the one worker 0
-    /// let scripts = PhaseScripts::of(alloc, 1, &names, phase)?;
+    /// let scripts = PhaseScripts::of(alloc, 1, &mut names, phase)?;
     /// // scripts.calls[0] is an allocate of 8 bytes and a release of Target::Made(0)
     /// ```
     pub fn of(
         alloc: Global,
         workers: u32,
-        names: &Names,
+        names: &mut Names,
         phase: &[Line],
     ) -> Result<PhaseScripts, AllocError>
         requires { length phase.now ≤ 32768 }
+        ensures names { known_in names.new ≡ known_in names.old }
         ensures lines { IfOk result (λ scripts. map (λ l. l.items) scripts.lines.items
             ≡ map (λ w. spelled.own_lines w phase.now) (range_with_len 0 workers)) }
         ensures calls { IfOk result (λ scripts. map (λ c. c.items) scripts.calls.items
-            ≡ scripts_in workers (known_in names.now) phase.now) }
+            ≡ scripts_in workers (known_in names.old) phase.now) }
         ensures counts { IfOk result (λ scripts. (vec_len scripts.lines ≡ workers) × (vec_len scripts.calls ≡ workers)) }
         ensures short { IfOk result (λ scripts. All (λ c. vec_len c < 2 ^ 32) scripts.calls.items) }
     {

@@ -1,14 +1,14 @@
 -- Phases that are raced one after another, over lanes or over queues.
-use Rattle.std.proofs.Common.{◌≡◌, ◌++◌, ◌∷◌, [], ℕ, suc, ◌<◌, ◌≤◌, arith, IfSome, List, Option, Some, None, Bor, length, map, refl, sym, ap, ◌∙◌, subst, append_assoc}
+use Rattle.std.proofs.Common.{◌≡◌, ◌++◌, ◌∷◌, [], ℕ, suc, ◌<◌, ◌≤◌, arith, IfSome, List, Option, Some, None, Bor, length, map, refl, sym, ap, ◌∙◌, subst, append_assoc, append-nil}
 use Rattle.std.specs.Prelude.{MatchOption}
 use Rattle.std.proofs.lemmas.List.{length-map}
 use Rattle.std.proofs.lemmas.List.FromFn.{length-map-range_with_len}
+use Rattle.tlsf_heap.specs.Blocks.{HeapState}
 use Rattle.tlsf_heap.specs.Calls.{opened}
 use Rattle.tlsf_heap.specs.declared.name.Name.{Name}
-use Rattle.tlsf_crew.specs.declared.queues.queues.Queues.{Queues}
-use Rattle.tlsf_crew.specs.declared.worker.Worker.{Worker}
-use Rattle.tlsf_crew.specs.declared.yard.lanes.Lanes.{Lanes}
 use Rattle.tlsf_crew.specs.queues.QueueYard.{queue_world_of}
+use Rattle.tlsf_calls.specs.declared.call.Call.{Call}
+use Rattle.tlsf_calls.specs.declared.entry.Entry.{Entry}
 use Rattle.tlsf_crew.specs.yard.Workers.{heap_of}
 use Rattle.tlsf_crew.specs.yard.World.{World, world_of}
 use Rattle.tlsf_lines.specs.Phases.{known_below, none_known, phases_of}
@@ -16,6 +16,11 @@ use Rattle.tlsf_trace.specs.RaceOutput.{IsOutputBy, IsRaceText, Racing}
 use Rattle.tlsf_lines.specs.Records.{records_text}
 use Rattle.tlsf_trace.specs.Output.{yard_of}
 use Rattle.tlsf_trace.specs.RaceSoFar.{IsPhaseRaced, IsRaceSoFar}
+use Rattle.tlsf_trace.specs.RacedYards.{HasRaced, IsWhole, count_in, kind_in, races_over, world_in}
+use Rattle.tlsf_trace.specs.declared.raced_yard.PortKind.{PortKind}
+use Rattle.tlsf_trace.specs.declared.raced_yard.PortKind.TheVariants.{Lanes, Queues}
+use Rattle.tlsf_trace.specs.declared.raced_yard.RacedYard.{RacedYard}
+use Rattle.tlsf_trace.specs.declared.raced_yard.RacedYard.TheVariants.{OverLanes, OverQueues}
 use Rattle.tlsf_trace.specs.ReportLines.{report_text}
 use Rattle.tlsf_lines.specs.declared.header.Header.{Header}
 use Rattle.tlsf_lines.specs.declared.line.Line.{Line}
@@ -31,20 +36,48 @@ lines_left None = 0
 lines_left (Some lines) = suc (length lines.now)
 
 -- the heaps that a yard shows are those of its workers
-pub heaps_are : {sli : ℕ} → (ws : List (Worker sli Lanes)) → (world_of ws).heaps ≡ map heap_of ws
-unfolding world_of
-heaps_are ws = refl
+abbrev pub heaps_of : {sli : ℕ} → RacedYard sli → List HeapState
+heaps_of (OverLanes ws) = map heap_of ws.items
+heaps_of (OverQueues ws) = map heap_of ws.items
 
-pub queue_heaps_are : {sli : ℕ} → (ws : List (Worker sli Queues)) → (queue_world_of ws).heaps ≡ map heap_of ws
-unfolding queue_world_of
-queue_heaps_are ws = refl
+pub heaps_are : {sli : ℕ} → (yard : RacedYard sli) → heaps_of yard ≡ (world_in yard).heaps
+unfolding world_of queue_world_of
+heaps_are (OverLanes ws) = refl
+heaps_are (OverQueues ws) = refl
 
 -- as many as workers
-pub heap_count : {sli : ℕ} → (ws : List (Worker sli Lanes)) → length (world_of ws).heaps ≡ length ws
-heap_count ws = ap length (heaps_are ws) ∙ length-map ws heap_of
+pub heap_count : {sli : ℕ} → (yard : RacedYard sli) → length (world_in yard).heaps ≡ count_in yard
+heap_count (OverLanes ws) = ap length (sym (heaps_are (OverLanes ws))) ∙ (length-map ws.items heap_of ∙ sym ws.ok.0)
+heap_count (OverQueues ws) = ap length (sym (heaps_are (OverQueues ws))) ∙ (length-map ws.items heap_of ∙ sym ws.ok.0)
 
-pub queue_heap_count : {sli : ℕ} → (ws : List (Worker sli Queues)) → length (queue_world_of ws).heaps ≡ length ws
-queue_heap_count ws = ap length (queue_heaps_are ws) ∙ length-map ws heap_of
+-- a race leaves so many heaps, and tells as many records
+module _ {sli : ℕ} (w v : World sli) (scripts : List (List Call)) (records : List (List Entry)) where
+  pub heaps_stay : (kind : PortKind) → races_over kind w scripts records v → length v.heaps ≡ length w.heaps
+  heaps_stay Lanes race = race.heaps
+  heaps_stay Queues race = race.heaps
+
+  pub record_count : (kind : PortKind) → races_over kind w scripts records v → length records ≡ length w.heaps
+  record_count Lanes race = race.records
+  record_count Queues race = race.records
+
+pub has_raced : {sli : ℕ} → (yard was left : RacedYard sli) (scripts : List (List Call)) (records : List (List Entry)) → yard ≡ was → kind_in left ≡ kind_in was → IsWhole left
+    → races_over (kind_in was) (world_in was) scripts records (world_in left) → HasRaced yard scripts records left
+has_raced yard was left scripts records is kind whole race =
+    subst (λ (y : RacedYard _). HasRaced y scripts records left) (sym is) (record {
+      kind = kind;
+      whole = whole;
+      count = omega (arith, heap_count was, heap_count left, heaps_stay (world_in was) (world_in left) scripts records (kind_in was) race);
+      race = race;
+    })
+
+-- before the first phase
+pub none_raced : {sli : ℕ} → (Races : Racing sli) (n : ℕ) (w : World sli) (known learnt : ℕ → Option Name) (phases : List (List Line)) (old : List ℕ) → learnt ≡ known
+    → IsRaceSoFar Races n w known phases old w learnt phases old
+none_raced Races n w known learnt phases old is = record {
+  told = [];
+  text_is = sym (append-nil old);
+  rest = λ tail t. subst (λ (k : ℕ → Option Name). IsRaceText Races n w k phases tail) is t;
+}
 
 pub one_raced : {sli : ℕ} → (Races : Racing sli) (n : ℕ) (w : World sli) (known learnt more : ℕ → Option Name) (phases left : List (List Line)) (phase : List Line) (old new newer : List ℕ) (v u : World sli)
     → IsRaceSoFar Races n w known phases old v learnt (phase ∷ left) new → IsPhaseRaced Races n v learnt phase new u more newer → IsRaceSoFar Races n w known phases old u more left newer

@@ -18,3 +18,4 @@ pub use Rattle.tlsf_lines.specs.Limits
 pub use Rattle.tlsf_lines.specs.Prefixes
 -- What the clauses of private functions cite besides.
 pub mod RaceSoFar
+pub mod RacedYards

@@ -11,8 +11,8 @@
 mod ended;
 mod laws;
 mod output;
-mod queue_output;
 mod race_output;
+mod raced_yard;
 mod report_lines;
 mod stages;
 mod summary;

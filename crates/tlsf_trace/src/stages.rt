@@ -1,9 +1,10 @@
-ghost use Rattle.tlsf_trace.specs.Replay.{IsReplay, IsQueueRaceOfTrace, IsRaceOfTrace};
+ghost use Rattle.tlsf_trace.specs.RacedYards.{PutsOver};
+ghost use Rattle.tlsf_trace.specs.Replay.{IsReplay, IsQueueRaceOfTrace, IsRaceOfTrace, IsRun};
 ghost use Rattle.tlsf_trace.specs.Finish.{Finishes};
 
 use crate::output::output;
-use crate::queue_output::queue_output;
 use crate::race_output::race_output;
+use crate::raced_yard::PortKind;
 use crate::summary::Summary;
 use std::alloc::Global;
 use std::io::{Read, Write};
@@ -64,6 +65,25 @@ pub fn replay<R: Read, W: Write>(
     finish(writer, script.calls, &output)
 }
 
+// Reads a whole trace, races it over ports of this kind, and writes what it puts out.
+fn race_trace_over<T: Threads + Wait + Sync, R: Read, W: Write, G: Gate>(
+    rt: &T,
+    alloc: Global,
+    kind: PortKind,
+    reader: &mut R,
+    writer: &mut W,
+    gate: &G,
+) -> Result<Summary, TraceFault>
+    ensures { IsRun (PutsOver kind) result (R.remaining reader.old) (R.remaining reader.new)
+        (W.contents writer.old) (W.contents writer.new) }
+{
+    let bytes = read_all(alloc, reader)?;
+    let trace = trace_in(alloc, &bytes)?;
+    drop(bytes);
+    let output = race_output(rt, alloc, kind, &trace, gate)?;
+    finish(writer, trace.count_calls() as u32, &output)
+}
+
 /// Reads a whole trace, races it on a new yard of workers, and writes the reply lines and the report lines.
 ///
 /// Each phase is one [`race`](tlsf_crew::race): a worker's lines are its script, run in a thread of its own, and a last
@@ -93,11 +113,7 @@ pub fn race_trace<T: Threads + Wait + Sync, R: Read, W: Write, G: Gate>(
     ensures { IsRaceOfTrace result (R.remaining reader.old) (R.remaining reader.new)
         (W.contents writer.old) (W.contents writer.new) }
 {
-    let bytes = read_all(alloc, reader)?;
-    let trace = trace_in(alloc, &bytes)?;
-    drop(bytes);
-    let output = race_output(rt, alloc, &trace, gate)?;
-    finish(writer, trace.count_calls() as u32, &output)
+    race_trace_over(rt, alloc, PortKind::Lanes, reader, writer, gate)
 }
 
 /// Reads a whole trace, races it on a new yard over queues, and writes the reply lines and the report lines.
@@ -126,9 +142,5 @@ pub fn race_trace_over_queues<T: Threads + Wait + Sync, R: Read, W: Write, G: Ga
     ensures { IsQueueRaceOfTrace result (R.remaining reader.old) (R.remaining reader.new)
         (W.contents writer.old) (W.contents writer.new) }
 {
-    let bytes = read_all(alloc, reader)?;
-    let trace = trace_in(alloc, &bytes)?;
-    drop(bytes);
-    let output = queue_output(rt, alloc, &trace, gate)?;
-    finish(writer, trace.count_calls() as u32, &output)
+    race_trace_over(rt, alloc, PortKind::Queues, reader, writer, gate)
 }

@@ -1,15 +1,16 @@
-use Rattle.std.proofs.Common.{◌≡◌, ◌++◌, [], List, length, drop, vec_len}
+use Rattle.std.proofs.Common.{◌≡◌, ◌++◌, [], All, List, length, drop, vec_len}
 use Rattle.tlsf_lines.specs.Phases.{calls_from, known_in}
-use Rattle.tlsf_lines.specs.CallsByLabel.{RecallsOwn}
+use Rattle.tlsf_lines.specs.CallMemory.{RecallsCallOf}
 use Rattle.tlsf_lines.specs.declared.line.Line.{Line}
 use Rattle.tlsf_lines.proofs.phases.own_calls.Given as goal
 
--- the calls so far and those of the lines that are left are all; the lines so far are remembered
+-- the calls so far and those of the lines that are left are all; of each label the lines so far are remembered
 abbrev pub invariant-loop-line : goal.invariant-loop-line
 invariant-loop-line l = record {
   before : List Line;
-  recalls : RecallsOwn l.by_label before;
+  names : l.names.names ≡ l.fn.names.names;
+  recalls : All (RecallsCallOf l.names.calls before) l.lines;
   count : length before ≡ l.line-index;
   len : vec_len l.calls ≡ l.line-index;
-  so_far : l.calls.items ++ calls_from (known_in l.names) before (drop l.line-index l.lines) ≡ calls_from (known_in l.names) [] l.lines;
+  so_far : l.calls.items ++ calls_from (known_in l.fn.names) before (drop l.line-index l.lines) ≡ calls_from (known_in l.fn.names) [] l.lines;
 }

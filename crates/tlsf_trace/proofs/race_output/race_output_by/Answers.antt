@@ -1,19 +1,15 @@
-use Rattle.std.proofs.Common.{◌≡◌, ◌++◌, ◌∙◌, ap, sym, string_bytes, vec_len, arith}
-use Rattle.tlsf_crew.specs.threads.Race.{IsRace}
-use Rattle.tlsf_crew.specs.yard.World.{world_of}
-use Rattle.tlsf_trace.specs.ReportLines.{report_text}
-use Rattle.tlsf_trace.proofs.RacedPhases.{all_raced, heap_count, heaps_are, opened_count}
+use Rattle.std.proofs.Common.{string_bytes, arith}
+use Rattle.tlsf_trace.specs.RacedYards.{count_in, races_over, world_in}
+use Rattle.tlsf_trace.proofs.RacedPhases.{all_raced, heap_count, opened_count}
 use Rattle.tlsf_trace.proofs.race_output.race_output_by.Goals as goal
 
 pub returns : goal.returns
 returns g c =
     let header = c.args.trace.now.header in
-    let ws = c.in-Ok.workers.items in
-    let vs = c.in_ok-workers.workers.items in
-    let raced = c.in_ok-workers.ensures.raced in
+    let yard = c.in_ok-yard.yard in
+    let left = c.in_ok-yard-2.yard in
+    let raced = rw c.in_ok-yard.ensures.kind at c.in_ok-yard-2.ensures.raced in
     let new = string_bytes c.race_lines.new.text in
-    let heaps : c.deref_mut.result.now ≡ vs = c.deref_mut.ensures.value in
-    let out = rw heaps at c.in_ok-write_reports.ensures ∙ ap (λ hs. new ++ report_text g.row.SLI hs) (sym (heaps_are vs)) in
-    all_raced IsRace header c.args.trace.now.lines.items (world_of ws) (world_of vs) (vec_len c.in-Ok.workers) raced.0 (string_bytes c.new-text.result) new (string_bytes c.write_reports.new.text)
-    (omega (arith, opened_count (world_of ws) _ header (heap_count ws) c.in-Ok.ensures.world)) c.in-Ok.ensures.world c.new-text.ensures.bytes
-    (rw c.deref.ensures.value at raced.1) out
+    all_raced (races_over c.args.kind) header c.args.trace.now.lines.items (world_in yard) (world_in left) (count_in yard) raced.0 (string_bytes c.new-text.result) new (string_bytes c.report_yard.new.text)
+    (omega (arith, opened_count (world_in yard) _ header (heap_count yard) c.in_ok-yard.ensures.world)) c.in_ok-yard.ensures.world c.new-text.ensures.bytes
+    (rw c.deref.ensures.value at raced.1) c.in_ok-report_yard.ensures

@@ -1,61 +1,52 @@
-use denote.Param.Send.{sendable}
-use Rattle.std.proofs.Common.{◌≡◌, ◌++◌, ℕ, List, length, map, string_bytes, vec_len, sym, ap, subst, ◌∙◌, arith}
+use Rattle.std.proofs.Common.{◌≡◌, ◌++◌, ℕ, List, Option, length, map, string_bytes, sym, ap, subst, ◌∙◌, arith}
 use Rattle.std.specs.List.{range_with_len}
 use Rattle.std.proofs.lemmas.List.{length-map}
 use Rattle.std.specs.declared.vec.Vec.{Vec}
 use Rattle.std.specs.declared.alloc.Global.{Global}
+use Rattle.tlsf_heap.specs.declared.name.Name.{Name}
 use Rattle.tlsf_calls.specs.declared.call.Call.{Call}
 use Rattle.tlsf_calls.specs.declared.entry.Entry.{Entry}
-use Rattle.tlsf_crew.specs.threads.Race.{IsRace}
-use Rattle.tlsf_crew.specs.yard.World.{world_of}
 use Rattle.tlsf_lines.specs.Phases.{known_below, known_in, own_lines, scripts_in}
 use Rattle.tlsf_lines.specs.Records.{records_text}
 use Rattle.tlsf_lines.specs.declared.line.Line.{Line}
-use Rattle.tlsf_trace.proofs.RacedPhases.{heap_count}
+use Rattle.tlsf_trace.specs.RacedYards.{count_in, kind_in, races_over, world_in}
+use Rattle.tlsf_trace.proofs.RacedPhases.{heap_count, record_count}
 use Rattle.tlsf_trace.proofs.race_output.race_phase.Goals as goal
-
-pub race-requires : goal.race-requires
-race-requires g c =
-    (search sendable, (search sendable, (omega arith, (omega arith, (c.requires.yard, (omega (arith, c.in_ok-scripts.ensures.counts.1, c.len-count.ensures), c.in_ok-scripts.ensures.short))))))
 
 pub write_phase-requires : goal.write_phase-requires
 write_phase-requires g c =
-    let records = c.in-Ok.outcome.records.items in
+    let records = c.in_ok-left.records.items in
     let many : length c.deref-2.result.now ≡ length (map (λ (r : Vec Entry Global). r.items) records) = ap length c.deref-2.ensures.value ∙ sym (length-map records (λ (r : Vec Entry Global). r.items)) in
-    let all = c.in-Ok.ensures.race.records in
-    let heaps = heap_count c.args.workers.items in
-    omega (arith, many, all, heaps, c.deref.ensures.len, c.in_ok-scripts.ensures.counts.0, c.len-count.ensures)
-
-pub returns-clause-count : goal.returns-clause-count
-returns-clause-count g c =
-    let before = heap_count c.args.workers.items in
-    let after = heap_count c.in-Ok.outcome.workers.items in
-    omega (arith, before, after, c.in-Ok.ensures.race.heaps)
+    let all = record_count (world_in c.args.yard) (world_in c.in_ok-left.left) _ _ (kind_in c.args.yard) c.in_ok-left.ensures.race in
+    let heaps = heap_count c.args.yard in
+    omega (arith, many, all, heaps, c.deref.ensures.len, c.in_ok-scripts.ensures.counts.0, c.count_workers-count.ensures)
 
 pub returns-clause-raced : goal.returns-clause-raced
 returns-clause-raced g c =
-    let w = world_of c.args.workers.items in
-    let v = world_of c.in-Ok.outcome.workers.items in
+    let kind = kind_in c.args.yard in
+    let w = world_in c.args.yard in
+    let v = world_in c.in_ok-left.left in
     let phase = c.args.phase.now in
     let known = known_in c.args.names.now in
-    let n = vec_len c.args.workers in
-    let records = map (λ (r : Vec Entry Global). r.items) c.in-Ok.outcome.records.items in
+    let n = count_in c.args.yard in
+    let records = map (λ (r : Vec Entry Global). r.items) c.in_ok-left.records.items in
     let old = string_bytes c.args.text.now in
     let new = string_bytes c.write_phase.new.text in
     let learnt = known_in c.write_phase.new.names in
-    let count : length c.deref.result.now ≡ c.len-count.result = omega (arith, c.deref.ensures.len, c.in_ok-scripts.ensures.counts.0) in
-    let many : length c.deref.result.now ≡ n = omega (arith, count, c.len-count.ensures) in
+    let count : length c.deref.result.now ≡ c.count_workers-count.result = omega (arith, c.deref.ensures.len, c.in_ok-scripts.ensures.counts.0) in
+    let many : length c.deref.result.now ≡ n = omega (arith, count, c.count_workers-count.ensures) in
     let lines : map (λ (l : Vec Line Global). l.items) c.deref.result.now ≡ map (λ w. own_lines w phase) (range_with_len 0 (length c.deref.result.now))
     = ap (map (λ (l : Vec Line Global). l.items)) c.deref.ensures.value ∙ (c.in_ok-scripts.ensures.lines ∙ ap (λ (k : ℕ). map (λ w. own_lines w phase) (range_with_len 0 k)) (sym count)) in
     let told = map (λ (r : Vec Entry Global). r.items) c.deref-2.result.now in
     let told_is : told ≡ records = ap (map (λ (r : Vec Entry Global). r.items)) c.deref-2.ensures.value in
     let text : new ≡ old ++ records_text phase told (length c.deref.result.now) = c.in_ok-write_phase.ensures.text phase lines in
-    let names : learnt ≡ known_below known phase told (length c.deref.result.now) = c.in_ok-write_phase.ensures.known phase lines in
-    let raced : IsRace w (scripts_in c.len-count.result known phase) records v
-    = subst (λ (s : List (List Call)). IsRace w s records v) c.in_ok-scripts.ensures.calls c.in-Ok.ensures.race in
+    let names : learnt ≡ known_below known phase told (length c.deref.result.now)
+    = c.in_ok-write_phase.ensures.known phase lines ∙ ap (λ (k : ℕ → Option Name). known_below k phase told (length c.deref.result.now)) c.of.ensures.names in
+    let raced : races_over kind w (scripts_in c.count_workers-count.result known phase) records v
+    = subst (λ (s : List (List Call)). races_over kind w s records v) c.in_ok-scripts.ensures.calls c.in_ok-left.ensures.race in
     record {
       records = records;
-      raced = subst (λ (k : ℕ). IsRace w (scripts_in k known phase) records v) (sym count ∙ many) raced;
+      raced = subst (λ (k : ℕ). races_over kind w (scripts_in k known phase) records v) (sym count ∙ many) raced;
       known_are = names ∙ (ap (λ t. known_below known phase t (length c.deref.result.now)) told_is ∙ ap (λ (k : ℕ). known_below known phase records k) many);
       text_is = text ∙ (ap (λ t. old ++ records_text phase t (length c.deref.result.now)) told_is ∙ ap (λ (k : ℕ). old ++ records_text phase records k) many);
     }
