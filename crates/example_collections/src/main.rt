@@ -1,0 +1,53 @@
+//! Collections on a bounded heap. All of them take their memory from one arena, whose calls make at most so many steps, however full it is
+//! and however large the block; what doesn't fit is an error, and what is dropped goes back.
+#![tactic(auto)]
+
+use anyhow::Error;
+use std::alloc::AllocError;
+use std::collections::BTreeMap;
+use tlsf_arena::LocalArena;
+
+/// 8 KiB, in units of 16 bytes.
+const UNITS: u32 = 512;
+
+/// An echo of so many samples: each one that comes out is added to the one that goes in.
+#[derive(Drop)]
+struct Echo<'a> {
+    name: String<&'a LocalArena>,
+    line: Vec<f32, &'a LocalArena>,
+    at: usize,
+}
+
+impl<'a> Echo<'a> {
+    fn new(memory: &'a LocalArena, name: &str, samples: usize) -> Result<Echo<'a>, AllocError> {
+        Ok(Echo {
+            name: String::from_str(memory, name)?,
+            line: Vec::from_elem(memory, 0.0, samples)?,
+            at: 0,
+        })
+    }
+}
+
+fn main(rt: HostRuntime) -> Result<(), Error> {
+    let memory = LocalArena::open(rt.alloc(), 0, UNITS)?;
+    let mut samples: Vec<f32, &LocalArena> = Vec::with_capacity(&memory, 256)?;
+    samples.push(0.5)?;
+    let echo = Echo::new(&memory, "hall", 256)?;
+    let mut notes = BTreeMap::new(&memory);
+    notes.insert(60u8, Box::new(&memory, 440u64)?)?;
+    println!(rt; "{} units free", memory.free_units())?;
+    if Echo::new(&memory, "valley", 4096).is_err() {
+        println!(rt; "no room for a valley")?;
+    }
+    println!(rt;
+        "{}: {} samples from {}",
+        echo.name,
+        echo.line.len(),
+        echo.at
+    )?;
+    drop(notes);
+    drop(echo);
+    drop(samples);
+    println!(rt; "{} units free", memory.free_units())?;
+    Ok(())
+}

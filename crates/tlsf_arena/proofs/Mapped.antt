@@ -1,0 +1,92 @@
+-- An arena's map of free grains under the calls of its heap.
+use Rattle.std.proofs.Common.{◌≡◌, ℕ, ◌*◌, ◌/◌, ◌^◌, ◌≤◌, Bool, true, false, List, length, replicate, Some, Ok, sym, ap, subst, ◌∙◌, arith}
+use Rattle.std.proofs.lemmas.List.{length-replicate, append-nil}
+use Rattle.tlsf_class.specs.Classes.{IsLevel}
+use Rattle.tlsf_heap.specs.Blocks.{HeapState}
+use Rattle.tlsf_heap.specs.Calls.{allocated_words, opened, released, resized_words}
+use Rattle.tlsf_heap.specs.Lawful.{IsLawful}
+use Rattle.tlsf_heap.specs.Placed.{placed_at}
+use Rattle.tlsf_heap.specs.declared.name.Name.{Name}
+use Rattle.tlsf_arena.specs.Arenas.{IsMapped}
+use Rattle.tlsf_arena.specs.Places.{IsUnit, IsRun, lacking, marked, spread, free_map, held_at, free_in}
+use Rattle.tlsf_arena.proofs.Maps.{Tells, arena_carves, arena_frees, whole_map}
+use Rattle.tlsf_arena.proofs.Resizes.{arena_refits}
+use Rattle.tlsf_arena.proofs.Rooms.{marked_length}
+use Rattle.tlsf_arena.proofs.Spread.{spread-replicate, length-spread}
+use Rattle.tlsf_arena.proofs.UnitCases.{grains_of, units_apart}
+
+abbrev Bits : Type 0
+Bits = List Bool
+
+pub lacks : (k : ℕ) → Tells k (lacking k)
+lacks k size least most = omega (arith, least, most)
+
+module _ (sli u units : ℕ) (old new : HeapState) (free : Bits) (name : Name) (k at size : ℕ) (mapped : IsMapped sli u units old free) (lawful : IsLawful old) (starts : at ≡ u / 16 * name.at) (long : size / 16 ≡ u / 16 * k) where
+  -- the heap has the units of a run of grains marked so
+  marks : (v w : Bool) → IsRun free (u / 16 * name.at) (u / 16 * k) v × (spread (u / 16) (free_map new.blocks) ≡ marked free (u / 16 * name.at) (u / 16 * k) w)
+      → IsRun free at (size / 16) v × ((after : Bits) → after ≡ marked free at (size / 16) w → IsMapped sli u units new after)
+  marks v w got =
+      let run : IsRun free at (size / 16) v = subst (λ (p : ℕ × ℕ). IsRun free p.0 p.1 v) (λ i. (sym starts i, sym long i)) got.0 in (
+        run,
+        λ after is. record {
+          level = mapped.level;
+          unit = mapped.unit;
+          least = mapped.least;
+          most = mapped.most;
+          map = is ∙ (λ i. marked free (starts i) (long i) w) ∙ sym got.1;
+          whole = ap length is ∙ marked_length free at (size / 16) v w run ∙ mapped.whole;
+        },
+      )
+
+  pub carves : Ok name ≡ (allocated_words sli old k (lacking k)).answer → new ≡ (allocated_words sli old k (lacking k)).heap
+      → IsRun free at (size / 16) true × ((after : Bits) → after ≡ marked free at (size / 16) false → IsMapped sli u units new after)
+  carves answer heap = marks true false (arena_carves sli (u / 16) mapped.level old new free k (lacking k) name mapped.map lawful (lacks k) answer heap)
+
+  pub frees : held_at old.blocks name.at ≡ Some k → Ok tt ≡ (released old name).answer → new ≡ (released old name).heap
+      → IsRun free at (size / 16) false × ((after : Bits) → after ≡ marked free at (size / 16) true → IsMapped sli u units new after)
+  frees held answer heap = marks false true (arena_frees (u / 16) old new free k name mapped.map lawful held answer heap)
+
+-- a block that is resized gives the grains of its piece back, and those from the same place on are lent
+pub refits : (sli u units : ℕ) (old new : HeapState) (free : Bits) (name : Name) (k n at size at' size' : ℕ) (mapped : IsMapped sli u units old free) → IsLawful old → held_at old.blocks name.at ≡ Some k
+    → Ok tt ≡ (resized_words old name n (lacking n)).answer → new ≡ (resized_words old name n (lacking n)).heap → at ≡ u / 16 * name.at → size / 16 ≡ u / 16 * k → at' ≡ u / 16 * name.at → size' / 16 ≡ u / 16 * n
+    → IsRun free at (size / 16) false × ((opened : Bits) → opened ≡ marked free at (size / 16) true → IsRun opened at' (size' / 16) true × ((after : Bits) → after ≡ marked opened at' (size' / 16) false → IsMapped sli u units new after))
+refits sli u units old new free name k n at size at' size' mapped lawful held answer heap starts long starts' long' =
+    let got = arena_refits (u / 16) old new free n (lacking n) k name mapped.map lawful (lacks n) held answer heap in
+    let first : IsRun free at (size / 16) false = subst (λ (p : ℕ × ℕ). IsRun free p.0 p.1 false) (λ i. (sym starts i, sym long i)) got.0 in (
+      first,
+      λ opened is.
+          let same = is ∙ (λ i. marked free (starts i) (long i) true) in
+          let run : IsRun opened at' (size' / 16) true = subst (λ (p : Bits × ℕ × ℕ). IsRun p.0 p.1 p.2 true) (λ i. (sym same i, sym starts' i, sym long' i)) got.1.0 in (
+            run,
+            λ after given. record {
+              level = mapped.level;
+              unit = mapped.unit;
+              least = mapped.least;
+              most = mapped.most;
+              map = given ∙ (λ i. marked (same i) (starts' i) (long' i) false) ∙ sym got.1.1;
+              whole = ap length given ∙ marked_length opened at' (size' / 16) true false run ∙ ap length is ∙ marked_length free at (size / 16) false true first ∙ mapped.whole;
+            },
+          ),
+    )
+
+-- a new arena
+pub opens : (sli u units id size : ℕ) (heap : HeapState) (free : Bits) → IsLevel sli → IsUnit u → 4 ≤ units → units ≤ 2 ^ 24 → heap ≡ opened id units 0 → size / 16 ≡ u / 16 * units → free ≡ replicate (size / 16) true → IsMapped sli u units heap free
+opens sli u units id size heap free level unit least most is long all =
+    let whole = all ∙ ap (λ (j : ℕ). replicate j true) long in
+    record {
+      level = level;
+      unit = unit;
+      least = least;
+      most = most;
+      map = whole ∙ sym (spread-replicate (u / 16) units true) ∙ ap (spread (u / 16)) (sym (append-nil (replicate units true))) ∙ ap (λ (h : HeapState). spread (u / 16) (free_map h.blocks)) (sym is);
+      whole = ap length whole ∙ length-replicate {A = Bool} (u / 16 * units) true;
+    }
+
+-- an arena whose heap is one free block is whole
+pub whole_arena : (sli u units size : ℕ) (heap : HeapState) (free : Bits) → IsMapped sli u units heap free → free_in (placed_at heap.blocks 0) ≡ units → size / 16 ≡ u / 16 * units → free ≡ replicate (size / 16) true
+whole_arena sli u units size heap free mapped first long =
+    let n = u / 16 in
+    let blocks = free_map heap.blocks in
+    let counted : n * length blocks ≡ n * units = sym (length-spread n blocks) ∙ ap length (sym mapped.map) ∙ mapped.whole in
+    let many : length blocks ≡ units = units_apart u (length blocks) units mapped.unit (grains_of u (length blocks) mapped.unit ∙ ap (λ (j : ℕ). 16 * j) counted ∙ sym (grains_of u units mapped.unit)) in
+    mapped.map ∙ ap (spread n) (whole_map heap.blocks units first many) ∙ spread-replicate n units true ∙ ap (λ (j : ℕ). replicate j true) (sym long)

@@ -1,0 +1,32 @@
+-- What holds of a unit of 16, 32 and 64 bytes holds of each.
+use Rattle.std.proofs.Common.{◌≡◌, ℕ, ◌+◌, ◌-◌, ◌*◌, ◌/◌, ◌≤◌, eqb, ◌||◌, inl, inr, sym, subst, arith}
+use Rattle.std.proofs.lemmas.Bool.{eqb-true, or_cases}
+use Rattle.tlsf_arena.specs.Places.{IsUnit, piece_size}
+
+pub by_unit : (P : ℕ → Type 0) → P 16 → P 32 → P 64 → (u : ℕ) → IsUnit u → P u
+by_unit P a b c u is = elim (or_cases (eqb u 16) (eqb u 32 || eqb u 64) is) [
+  | inl e ↦ subst P (sym (eqb-true u 16 e)) a
+  | inr es ↦ elim (or_cases (eqb u 32) (eqb u 64) es) [ inl e ↦ subst P (sym (eqb-true u 32 e)) b | inr e ↦ subst P (sym (eqb-true u 64 e)) c ]
+]
+
+-- so many units are so many grains
+pub grains_of : (u k : ℕ) → IsUnit u → u * k ≡ 16 * (u / 16 * k)
+grains_of u k is = by_unit (λ u. u * k ≡ 16 * (u / 16 * k)) (omega arith) (omega arith) (omega arith) u is
+
+-- a request fits the piece that it gets
+pub piece_holds : (u n : ℕ) → IsUnit u → n ≤ piece_size u n
+piece_holds u n is = by_unit (λ u. n ≤ piece_size u n) (omega arith) (omega arith) (omega arith) u is
+
+-- and no piece has fewer than 64 bytes
+pub least_piece : (u k : ℕ) → IsUnit u → 4 ≤ k → 64 ≤ u * k
+least_piece u k is least = by_unit (λ u. 64 ≤ u * k) (omega (arith, least)) (omega (arith, least)) (omega (arith, least)) u is
+
+pub units_apart : (u j k : ℕ) → IsUnit u → u * j ≡ u * k → j ≡ k
+units_apart u j k is = by_unit (λ u. u * j ≡ u * k → j ≡ k) (λ e. omega (arith, e)) (λ e. omega (arith, e)) (λ e. omega (arith, e)) u is
+
+pub units_in : (u j k : ℕ) → IsUnit u → j ≤ k → u * j ≤ u * k
+units_in u j k is within = by_unit (λ u. u * j ≤ u * k) (omega (arith, within)) (omega (arith, within)) (omega (arith, within)) u is
+
+-- the grain at which a unit begins
+pub first_grain : (u start at unit : ℕ) → IsUnit u → at ≡ start + u * unit → (at - start) / 16 ≡ u / 16 * unit
+first_grain u start at unit is place = omega (arith, place, grains_of u unit is)

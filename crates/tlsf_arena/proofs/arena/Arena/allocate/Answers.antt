@@ -1,0 +1,46 @@
+use Rattle.std.proofs.Common.{ℕ, ◌≤◌, sym, ap, subst, ◌∙◌, arith}
+use Rattle.tlsf_heap.specs.Calls.{allocated_words}
+use Rattle.tlsf_heap.specs.Blocks.{HeapState}
+use Rattle.tlsf_heap.specs.Lawful.{IsLawful}
+use Rattle.tlsf_arena.specs.Arenas.{Holds, IsMapped}
+use Rattle.tlsf_arena.specs.Places.{lacking}
+use Rattle.tlsf_arena.proofs.Mapped.{carves, lacks}
+use Rattle.tlsf_arena.proofs.Maps.{holds_given}
+use Rattle.tlsf_arena.proofs.arena.Arena.allocate.Goals as goal
+
+pub replace_with-piece-requires : goal.replace_with-piece-requires
+replace_with-piece-requires g c =
+    let a = c.self.inside in
+    let k = c.units_of-units.result in
+    let least : 4 ≤ k = c.units_of-units.ensures.least in
+    let mapped = subst (λ s. IsMapped g.row.SLI g.row.UNIT a.units s.heap a.space.free) (sym c.deref_mut.ensures.value) c.self.invariant.0 in
+    let e = c.allocate_words.ensures in
+    let got = carves g.row.SLI g.row.UNIT a.units c.deref_mut.result.now.heap c.allocate_words.new.self.heap a.space.free c.in_ok-name.name k c.grains_before.result c.bytes_of.result
+    mapped e.was_lawful c.grains_before.ensures.grains c.bytes_of.ensures.grains (sym c.in_ok-name.was ∙ e.answer ∙ ap (λ (j : ℕ). (allocated_words g.row.SLI c.deref_mut.result.now.heap k j).answer) c.lacking.ensures)
+    (e.heap ∙ ap (λ (j : ℕ). (allocated_words g.row.SLI c.deref_mut.result.now.heap k j).heap) c.lacking.ensures) in
+    (got.0, omega (arith, least, c.bytes_of.ensures.least), c.bytes_of.ensures.whole)
+
+pub invariant_of-self-2 : goal.invariant_of-self-2
+invariant_of-self-2 g c =
+    let a = c.self.inside in
+    let k = c.units_of-units.result in
+    let least : 4 ≤ k = c.units_of-units.ensures.least in
+    let mapped = subst (λ s. IsMapped g.row.SLI g.row.UNIT a.units s.heap a.space.free) (sym c.deref_mut.ensures.value) c.self.invariant.0 in
+    let e = c.allocate_words.ensures in
+    let got = carves g.row.SLI g.row.UNIT a.units c.deref_mut.result.now.heap c.allocate_words.new.self.heap a.space.free c.in_ok-name.name k c.grains_before.result c.bytes_of.result
+    mapped e.was_lawful c.grains_before.ensures.grains c.bytes_of.ensures.grains (sym c.in_ok-name.was ∙ e.answer ∙ ap (λ (j : ℕ). (allocated_words g.row.SLI c.deref_mut.result.now.heap k j).answer) c.lacking.ensures)
+    (e.heap ∙ ap (λ (j : ℕ). (allocated_words g.row.SLI c.deref_mut.result.now.heap k j).heap) c.lacking.ensures) in
+    let lent = c.replace_with-piece.ensures in
+    (got.1 c.replace_with-piece.new.dest.free lent.2, (lent.0 ∙ c.self.invariant.1.0, c.self.invariant.1.1))
+
+pub returns-clause-holds : goal.returns-clause-holds
+returns-clause-holds g c =
+    let sli = g.row.SLI in
+    let k = c.units_of-units.result in
+    let name = c.in_ok-name.name in
+    let heap = c.deref_mut.result.now.heap in
+    let e = c.allocate_words.ensures in
+    let gives = sym (ap (λ (j : ℕ). (allocated_words sli heap k j).answer) c.lacking.ensures) ∙ sym e.answer ∙ c.in_ok-name.was in
+    let left = e.heap ∙ ap (λ (j : ℕ). (allocated_words sli heap k j).heap) c.lacking.ensures in
+    let holds = holds_given sli c.self.invariant.0.level heap k (lacking k) name (lacks k) gives (subst IsLawful left e.lawful) in
+    subst (λ (p : HeapState × ℕ). Holds p.0 name p.1) (λ i. (sym left i, c.units_of-units.ensures.units i)) holds

@@ -1,0 +1,31 @@
+use Rattle.std.proofs.Common.{◌≡◌, ℕ, ◌/◌, ◌^◌, ◌≤◌, true, eqb, replicate, inl, inr, refl, sym, ap, subst, ◌∙◌, arith}
+use Rattle.std.specs.List.{AllByRecursion}
+use Rattle.std.proofs.lemmas.Bool.{cases_lt, cases_cond}
+use Rattle.tlsf_class.specs.Classes.{most_words}
+use Rattle.tlsf_heap.specs.Blocks.{HeapState}
+use Rattle.tlsf_heap.specs.Lawful.{IsRegion, HasRoom}
+use Rattle.tlsf_arena.proofs.Mapped.{opens}
+use Rattle.tlsf_arena.proofs.arena.Arena.open.Goals as goal
+
+few_words : (sli : ℕ) → most_words sli ≤ 2 ^ 24
+few_words sli = elim (cases_cond (eqb sli 4) (2 ^ 20) (2 ^ 24) (most_words sli) refl) [ inl e ↦ omega (arith, e) | inr e ↦ omega (arith, e) ]
+
+-- a region that isn't refused is no larger than the greatest
+few_units : (sli units : ℕ) → ¬ (¬ (IsRegion sli units)) → units ≤ 2 ^ 24
+few_units sli units h = elim (cases_lt (2 ^ 24) units) [ inl over ↦ absurd (h (λ r. omega (arith, over, r.1, few_words sli))) | inr within ↦ within ]
+
+pub invariant_of-result : goal.invariant_of-result
+invariant_of-result g c =
+    let u = g.row.UNIT in
+    let opened = c.in_ok-heap.ensures in
+    let is : c.in-Ok.heap.value.heap ≡ c.in_ok-heap.heap.heap = ap (λ s. s.heap) c.in-Ok.ensures.ok in
+    let rooms = subst (λ (h : HeapState). AllByRecursion HasRoom h.blocks) opened.heap opened.lawful.rooms in
+    let most = few_units g.row.SLI c.args.units (λ no. let e = opened.bad_size.1 no in cc) in
+    let memory = c.in-Some.ensures in
+    let same = c.with_ptr-base.ensures.1 in
+    let space = c.new-space.ensures in
+    let lease = c.located-lease.ensures.0 in (
+      opens g.row.SLI u c.args.units c.args.id c.bytes_of.result c.in-Ok.heap.value.heap c.new-space.result.free c.requires.level c.requires.unit rooms.0 most (is ∙ opened.heap) c.bytes_of.ensures.grains
+          (space.2 ∙ ap (λ (m : ℕ). replicate (m / 16) true) (ap (λ m. m.size) same ∙ memory.0)),
+      (space.1 ∙ ap (λ m. m.ptr) same ∙ sym c.with_ptr-base.ensures.0, (ap (λ l. l.alloc) lease ∙ memory.1, (ap (λ l. l.ptr) lease ∙ memory.2 ∙ sym c.with_ptr-base.ensures.0, ap (λ l. l.size) lease ∙ memory.3 ∙ c.bytes_of.ensures.bytes))),
+    )

@@ -1,0 +1,52 @@
+-- `into_inner` unwraps the arena. Assumes `Logic`.
+use Rattle.std.proofs.Common.{List, [], ◌∷◌, ◌++◌, refl}
+use mir.Syntax.{Fn}
+use mir.Val.{Val}
+use base.Logic.{SProp}
+use base.Fml.{ftrue}
+use prog.Wp.{Env, WpFn}
+use contract.Running.{tables}
+use types.Kit.{‵, raw, ◌⊛◌, prop, ◌$◌, ◌∵◌, !, qed, by, move, drop, split, regoal, fsplit, fjoin}
+use types.Part.{whole, sub}
+use types.Run.{stop, fld, of_opd, returns, enter}
+use types.ByLocal.{alloc_all, pass_all, free_all, look_at, get, get_in, sets, env}
+use denote.RattleType.{owns}
+use denote.Signature.{types_at}
+use denote.Steps.{nothing}
+use denote.Triple.Entry.{alive}
+use denote.Triple.Walked.{Stays, stay_dropped, walk_of}
+use Rattle.core.proofs.alloc.Calls.{Goes-blank}
+use Rattle.core.proofs.cell.Inside.{round}
+use Rattle.std_alloc.proofs.ResultValues.{and_tt}
+use Rattle.std.proofs.raw_atomic.Walks.{proved_at, leaves}
+use Rattle.tlsf_arena.proofs.Cell.{contents_out}
+use Rattle.linked_list_allocator.proofs.Walks.{slot_at}
+use Rattle.tlsf_arena.specs.contracts.slot.Slot.into_inner.{ended, clauses}
+use Rattle.tlsf_arena.specs.contracts.slot.Slot.into_inner.Key.{name as #self}
+use Rattle.tlsf_arena.proofs.slot.Slot.into_inner.Statement.{statement}
+use Rattle.tlsf_arena.proofs.slot.Slot.into_inner.Code as compiled
+
+pub into_inner_spec : {M : Type 1} → statement M
+into_inner_spec 𝓤 𝓛 𝓜 𝓡 wired =
+    let H = 𝓛.H in
+    let En₀ = ended in
+    let c₀ = clauses 𝓛 𝓜.mem 𝓡.returns in
+    let fn : Fn = compiled.function in
+    let stays : Stays En₀.signature.params En₀.kept = (stay_dropped (slot_at 0 En₀.signature.params) En₀.kept.0, tt) in
+    let c = c₀ in
+    let C = (tables 𝓤 H 𝓜 𝓡 𝓡.env).C in
+    let Λ = (tables 𝓤 H 𝓜 𝓡 𝓡.env).Λ in
+    proved_at 𝓛 En₀ stays c 𝓜 𝓡 (Goes-blank 𝓛 0 (slot_at 0 En₀.signature.params) En₀.kept.0 (λ κs x f. tt), tt) #self fn (compiled.unfolded 𝓤 H 𝓜 𝓡 wired) (λ z are.
+    let Post : Val → SProp 𝓤 = (walk_of 𝓛 En₀ stays c).post z in
+    let a = z.0.3 in
+    let vss = z.0.4 in
+    qed 𝓛 ((raw (alive 𝓛 En₀.signature z.0.0 z.0.1) ⊛ ‵ (owns (types_at En₀.signature.params z.0.0) a vss)) ∷ ‵ ftrue ∷ []) ∵ move ! (1 ∷ []) $ drop ! $ split ! $ move ! (1 ∷ []) $
+    fsplit ! $ move ! (1 ∷ []) $ drop ! $ fsplit ! $ drop ! $ contents_out a.0 ! vss.0 (λ x v over typed told.
+    regoal ! (λ (us : List Val). prop (WpFn 𝓤 H C Λ fn us Post)) (λ i. told i ++ []) refl $
+    enter ! C Λ fn (round v ∷ []) Post $
+    alloc_all ! (λ l. pass_all ! refl ((and_tt _ ((typed).0), ((typed).1, tt)), tt) $ let En : Env 𝓤 𝓛.H = env fn.locals l in
+    sets ! (of_opd ! (get_in ! (fld ! refl (stop !)) (sub ! 0 refl (whole !)))) refl typed $
+    sets ! (of_opd ! (get ! refl)) refl typed $
+    returns ! (look_at ! 0 refl) $ free_all ! refl $
+    nothing ! $ nothing ! $ nothing ! $ fjoin ! $ move ! (3 ∷ 0 ∷ 2 ∷ 1 ∷ []) $
+    by ! (leaves 𝓛 En₀ stays c z (v) (x) (tt, tt) (tt, tt)))))

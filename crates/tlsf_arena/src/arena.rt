@@ -1,0 +1,421 @@
+ghost use Rattle.std.specs.Prelude.{◌≡◌, ◌≢◌, ℕ, ◌+◌, ◌-◌, ◌*◌, ◌/◌, ◌%◌, ◌^◌, ◌<◌, ◌≤◌, ◌↔◌, [], length, Ok, Err, IfOk, IfErr, IsOk, IsErrOf, OnErr, OnOk, MatchResult, Some, option_map};
+ghost use denote.RawPtr.{block_of, count_of, InBlock};
+ghost use Rattle.tlsf_class.specs.Classes.{IsLevel};
+ghost use Rattle.tlsf_heap.specs.Blocks.{HeapState};
+ghost use Rattle.tlsf_heap.specs.Calls.{last_tick, opened, released, resized_words};
+ghost use Rattle.tlsf_heap.specs.GoodFit.{fits};
+ghost use Rattle.tlsf_heap.specs.Lawful.{IsLawful, IsRegion};
+ghost use Rattle.tlsf_heap.specs.Placed.{placed_at};
+ghost use Rattle.tlsf_heap.specs.Reports.{report_of};
+ghost use Rattle.tlsf_arena.specs.Arenas.{Holds, SameArena, refitted, requested};
+ghost use Rattle.tlsf_arena.specs.Places.{IsUnit, lacking, units_for, piece_size, held_at, free_in};
+
+use crate::block::Block;
+use crate::memory::{Lease, Memory};
+use crate::piece::Piece;
+use crate::space::{Run, Space, begins_at, lend_run, lies_before};
+use crate::units::{bytes_of, grains_before, held_units, lacking, units_of};
+use core::mem::replace_with;
+use std::alloc::Global;
+use std::fmt;
+use std::marker::Model;
+use std::mem::ManuallyDrop;
+use tlsf_heap::{Content, Heap, Name, OpenFault, PlacedBlock, Refusal, Report};
+
+/// Memory of which a heap decides: word p of the heap stands for the `UNIT` bytes of unit p.
+///
+/// The level is the heap's, 4 or 5, and a unit has 16, 32 or 64 bytes. The heap's words hold its headers and no payload, and the memory
+/// holds payload and no headers.
+///
+/// Contracts see it as its heap, the region of its memory, and the heap's touches. The bytes of the units that no live block holds are the
+/// arena's; those of a block are its holder's alone.
+pub struct Arena<const SLI: u32, const UNIT: usize> {
+    heap: Box<Heap<SLI>, Global>,
+    space: Space,
+    base: *mut u8,
+    id: u32,
+    units: u32,
+    alloc: Global,
+    lease: Lease<Global>,
+}
+
+impl<const SLI: u32, const UNIT: usize> Model for Arena<SLI, UNIT> {
+    ghost use Rattle.std.specs.Prelude.{◌≡◌, ◌*◌};
+    ghost use Rattle.tlsf_arena.specs.Arenas.{ArenaState, IsMapped};
+
+    ghost Value = { ArenaState };
+
+    ghost view = { λ a. record { heap = a.heap.value.heap; region = a.space.region; touches = a.heap.value.touches } };
+
+    ghost invariant = { λ a. IsMapped SLI UNIT a.units a.heap.value.heap a.space.free × ((a.space.base ≡ a.base) × ((a.lease.alloc ≡ a.alloc) × ((a.lease.ptr ≡ a.base) × (a.lease.size ≡ UNIT * a.units)))) };
+}
+
+impl<const SLI: u32, const UNIT: usize> Arena<SLI, UNIT> {
+    /// Opens an arena of `units` units: `UNIT * units` bytes, which are taken from `alloc` beside those for the heap. The heap has the
+    /// number `id`.
+    ///
+    /// Refused as `BadSize` where `units` is below 4, or above 2^20 at level 4 and 2^24 at level 5, else as `NoMemory` where the memory
+    /// was not granted. No later call takes memory.
+    ///
+    /// ```text
+    /// let arena = Arena::<4, 16>::open(alloc, 0, 1 << 16)?;            // 1 MiB in units of 16 bytes
+    /// Arena::<4, 64>::open(alloc, 0, 3).err() == Some(OpenFault::BadSize)
+    /// ```
+    pub fn open(alloc: Global, id: u32, units: u32) -> Result<Arena<SLI, UNIT>, OpenFault>
+        requires level { IsLevel SLI }
+        requires unit { IsUnit UNIT }
+        ensures heap { IfOk result (λ a. a.heap ≡ opened id units 0) }
+        ensures region { IfOk result (λ a. a.region.end ≡ a.region.start + UNIT * units) }
+        ensures bad_size { IsErrOf result OpenFault.BadSize ↔ ¬ (IsRegion SLI units) }
+        ensures touches { IfOk result (λ a. a.touches ≤ 10) }
+    {
+        let heap = Heap::<SLI>::open(alloc, id, units, 0)?;
+        let Ok(heap) = Box::new(alloc, heap) else {
+            return Err(OpenFault::NoMemory);
+        };
+        let Some((memory, lease)) = Memory::new(&alloc, bytes_of(units, UNIT)) else {
+            return Err(OpenFault::NoMemory);
+        };
+        let lease = lease.located();
+        let (base, memory) = memory.with_ptr();
+        let space = Space::new(memory);
+        Ok(Arena {
+            heap,
+            space,
+            base,
+            id,
+            units,
+            alloc,
+            lease,
+        })
+    }
+
+    /// Gives a block of `len` bytes or more, aligned to 16: as many whole units as hold `len` bytes, and no fewer than four.
+    ///
+    /// Refused as `NoFit` where the heap has no free block in a class at or above the search class of these units, else as `Worn` where the
+    /// tick is at its last value. Takes no memory.
+    ///
+    /// ```text
+    /// let mut arena = Arena::<4, 16>::open(alloc, 0, 64)?;             // 1,024 bytes
+    /// let block = arena.allocate(100)?;        // 7 units: 112 bytes
+    /// arena.allocate(1000) == Err(Refusal::NoFit)
+    /// ```
+    pub fn allocate(&mut self, len: u32) -> Result<Block<UNIT>, Refusal>
+        ensures answer { MatchResult result (λ b. (requested SLI UNIT self.old.heap len).answer ≡ Ok b.name) (λ why. (requested SLI UNIT self.old.heap len).answer ≡ Err why) }
+        ensures heap { self.new.heap ≡ (requested SLI UNIT self.old.heap len).heap }
+
+        // What that comes to: when it is NoFit, when it is a block, and that a refusal changes nothing.
+        ensures no_fit { IsErrOf result Refusal.NoFit ↔ (fits SLI (units_for UNIT len) self.old.heap.blocks ≡ []) }
+        ensures accepted { IsOk result ↔ (¬ (fits SLI (units_for UNIT len) self.old.heap.blocks ≡ []) × ¬ (self.old.heap.tick ≡ last_tick)) }
+        ensures err { OnErr result (self.new.heap ≡ self.old.heap) }
+        ensures block { IfOk result (λ b. (b.piece.region ≡ self.old.region) × (b.piece.size ≡ piece_size UNIT len)) }
+        ensures holds { IfOk result (λ b. Holds self.new.heap b.name (units_for UNIT len)) }
+        ensures region { self.new.region ≡ self.old.region }
+
+        // Accepted or refused, whatever the length: at most 64 touches.
+        ensures touches { self.new.touches ≤ self.old.touches + 64 }
+        ensures touches_rise { self.old.touches ≤ self.new.touches }
+    {
+        let heap = &mut self.heap;
+        let units = units_of(len as usize, UNIT) as u32;
+        let name = heap.allocate_words(units, lacking(units))?;
+        let run = Run {
+            at: grains_before(name.at, UNIT),
+            size: bytes_of(units, UNIT),
+        };
+        let piece = replace_with(&mut self.space, run, lend_run);
+        Ok(Block { name, piece })
+    }
+
+    /// Takes a block back, and merges its units with the free ones beside them.
+    ///
+    /// Refused, with the block, as `Stale` where its name is no live block's of so many units, else as `Worn` where the tick is at its last
+    /// value: a block whose name the heap has is refused for nothing but that. A name of another heap is `Foreign`. Takes no memory.
+    ///
+    /// ```text
+    /// let block = arena.allocate(100)?;
+    /// arena.release(block).is_ok()
+    /// ```
+    pub fn release(&mut self, block: Block<UNIT>) -> Result<(), (Refusal, Block<UNIT>)>
+        requires { block.piece.region ≡ self.old.region }
+        ensures ok { OnOk result (((released self.old.heap block.entry.name).answer ≡ Ok tt) × (self.new.heap ≡ (released self.old.heap block.entry.name).heap)) }
+        ensures err { IfErr result (λ e. (self.new.heap ≡ self.old.heap) × (e.1 ≡ block.entry)) }
+        ensures held { IfErr result (λ e. (units : ℕ) → block.entry.piece.size ≡ UNIT * units → Holds self.old.heap block.entry.name units → e.0 ≡ Refusal.Worn) }
+        ensures region { self.new.region ≡ self.old.region }
+        ensures touches { self.new.touches ≤ self.old.touches + 64 }
+        ensures touches_rise { self.old.touches ≤ self.new.touches }
+    {
+        let Block { name, piece } = block;
+        match self.give(name, piece) {
+            Ok(()) => Ok(()),
+            Err((why, piece)) => Err((why, Block { name, piece })),
+        }
+    }
+
+    /// Takes a piece back under the name of its block.
+    fn give(&mut self, name: Name, piece: Piece) -> Result<(), (Refusal, Piece)>
+        requires region { piece.region ≡ self.old.region }
+        requires place { piece.at ≡ piece.region.start + UNIT * name.at }
+        ensures ok { OnOk result (((released self.old.heap name).answer ≡ Ok tt) × (self.new.heap ≡ (released self.old.heap name).heap)) }
+        ensures err { IfErr result (λ e. (self.new.heap ≡ self.old.heap) × (e.1 ≡ piece)) }
+        ensures held { IfErr result (λ e. (units : ℕ) → piece.size ≡ UNIT * units → Holds self.old.heap name units → e.0 ≡ Refusal.Worn) }
+        ensures region { self.new.region ≡ self.old.region }
+        ensures touches { self.new.touches ≤ self.old.touches + 64 }
+        ensures touches_rise { self.old.touches ≤ self.new.touches }
+    {
+        let Some((_, units)) = self.held_block(name.at) else {
+            return Err((Refusal::Stale, piece));
+        };
+        self.give_held(name, units, piece)
+    }
+
+    /// Takes a piece back, of which the live block at its place holds so many units.
+    fn give_held(&mut self, name: Name, units: u32, piece: Piece) -> Result<(), (Refusal, Piece)>
+        requires region { piece.region ≡ self.old.region }
+        requires place { piece.at ≡ piece.region.start + UNIT * name.at }
+        requires units { held_at self.old.heap.blocks name.at ≡ Some units }
+        requires lawful { IsLawful self.old.heap }
+        requires unit { IsUnit UNIT }
+        ensures ok { OnOk result (((released self.old.heap name).answer ≡ Ok tt) × (self.new.heap ≡ (released self.old.heap name).heap)) }
+        ensures err { IfErr result (λ e. (self.new.heap ≡ self.old.heap) × (e.1 ≡ piece)) }
+        ensures held { IfErr result (λ e. (units : ℕ) → piece.size ≡ UNIT * units → Holds self.old.heap name units → e.0 ≡ Refusal.Worn) }
+        ensures region { self.new.region ≡ self.old.region }
+        ensures touches { self.new.touches ≤ self.old.touches + 60 }
+        ensures touches_rise { self.old.touches ≤ self.new.touches }
+    {
+        let (size, piece) = piece.with_size();
+        if bytes_of(units, UNIT) != size {
+            return Err((Refusal::Stale, piece));
+        }
+        match self.heap.release(name) {
+            Ok(()) => {
+                replace_with(&mut self.space, piece, Space::take_back);
+                Ok(())
+            }
+            Err(why) => Err((why, piece)),
+        }
+    }
+
+    /// Takes a piece back that has lost its name: its address tells the place.
+    pub(crate) fn give_back(&mut self, piece: Piece) -> Result<(), (Refusal, Piece)>
+        requires { piece.region ≡ self.old.region }
+        ensures region { self.new.region ≡ self.old.region }
+    {
+        let (ptr, piece) = piece.with_ptr();
+        let at = place_of(ptr, self.base, self.units, UNIT);
+        if !begins_at(ptr, self.base, grains_before(at, UNIT)) {
+            return Err((Refusal::Stale, piece));
+        }
+        let heap = self.id;
+        let Some((serial, units)) = self.held_block(at) else {
+            return Err((Refusal::Stale, piece));
+        };
+        self.give_held(Name { heap, at, serial }, units, piece)
+    }
+
+    /// Makes a block `len` bytes long or more where it stands: its name and its address stay, and no byte is moved. It then has as many whole
+    /// units as hold `len` bytes, and no fewer than four.
+    ///
+    /// Refused, with the block, as `NoRoom` where the block and the free units behind it are fewer than wanted, else as `Worn` where the tick is
+    /// at its last value. A block whose name the heap has is refused for nothing but these. Takes no memory.
+    ///
+    /// ```text
+    /// let block = arena.allocate(100)?;        // of a new arena of 64 units of 16 bytes: 7 of them
+    /// let block = arena.resize(block, 200)?;   // 13, at the same address
+    /// ```
+    pub fn resize(
+        &mut self,
+        block: Block<UNIT>,
+        len: u32,
+    ) -> Result<Block<UNIT>, (Refusal, Block<UNIT>)>
+        requires { block.piece.region ≡ self.old.region }
+        ensures ok { OnOk result (((refitted UNIT self.old.heap block.entry.name len).answer ≡ Ok tt) × (self.new.heap ≡ (refitted UNIT self.old.heap block.entry.name len).heap)) }
+        ensures block { IfOk result (λ b. (b.name ≡ block.entry.name) × (b.piece.region ≡ self.old.region) × (b.piece.at ≡ block.entry.piece.at) × (b.piece.size ≡ piece_size UNIT len)) }
+        ensures err { IfErr result (λ e. (self.new.heap ≡ self.old.heap) × (e.1 ≡ block.entry)) }
+        ensures held { IfErr result (λ e. (units : ℕ) → block.entry.piece.size ≡ UNIT * units → Holds self.old.heap block.entry.name units → (e.0 ≢ Refusal.Stale) × (e.0 ≢ Refusal.Foreign)) }
+        ensures region { self.new.region ≡ self.old.region }
+        ensures touches { self.new.touches ≤ self.old.touches + 68 }
+        ensures touches_rise { self.old.touches ≤ self.new.touches }
+    {
+        let Block { name, piece } = block;
+        match self.refit(name, piece, len) {
+            Ok(piece) => Ok(Block { name, piece }),
+            Err((why, piece)) => Err((why, Block { name, piece })),
+        }
+    }
+
+    /// Lends the units for `len` bytes from the place of a piece on, under the name of its block.
+    fn refit(&mut self, name: Name, piece: Piece, len: u32) -> Result<Piece, (Refusal, Piece)>
+        requires region { piece.region ≡ self.old.region }
+        requires place { piece.at ≡ piece.region.start + UNIT * name.at }
+        ensures ok { OnOk result (((refitted UNIT self.old.heap name len).answer ≡ Ok tt) × (self.new.heap ≡ (refitted UNIT self.old.heap name len).heap)) }
+        ensures piece { IfOk result (λ p. (p.region ≡ self.old.region) × (p.at ≡ piece.at) × (p.size ≡ piece_size UNIT len)) }
+        ensures err { IfErr result (λ e. (self.new.heap ≡ self.old.heap) × (e.1 ≡ piece)) }
+        ensures held { IfErr result (λ e. (units : ℕ) → piece.size ≡ UNIT * units → Holds self.old.heap name units → (e.0 ≢ Refusal.Stale) × (e.0 ≢ Refusal.Foreign)) }
+        ensures region { self.new.region ≡ self.old.region }
+        ensures touches { self.new.touches ≤ self.old.touches + 68 }
+        ensures touches_rise { self.old.touches ≤ self.new.touches }
+    {
+        let Some((_, held)) = self.held_block(name.at) else {
+            return Err((Refusal::Stale, piece));
+        };
+        let units = units_of(len as usize, UNIT) as u32;
+        self.refit_held(name, held, units, piece)
+    }
+
+    /// Lends so many units from the place of a piece on, of which the live block there holds `held`.
+    fn refit_held(
+        &mut self,
+        name: Name,
+        held: u32,
+        units: u32,
+        piece: Piece,
+    ) -> Result<Piece, (Refusal, Piece)>
+        requires region { piece.region ≡ self.old.region }
+        requires place { piece.at ≡ piece.region.start + UNIT * name.at }
+        requires held { held_at self.old.heap.blocks name.at ≡ Some held }
+        requires least { 4 ≤ units }
+        requires lawful { IsLawful self.old.heap }
+        requires unit { IsUnit UNIT }
+        ensures ok { OnOk result (((resized_words self.old.heap name units (lacking units)).answer ≡ Ok tt) × (self.new.heap ≡ (resized_words self.old.heap name units (lacking units)).heap)) }
+        ensures piece { IfOk result (λ p. (p.region ≡ self.old.region) × (p.at ≡ piece.at) × (p.size ≡ UNIT * units)) }
+        ensures err { IfErr result (λ e. (self.new.heap ≡ self.old.heap) × (e.1 ≡ piece)) }
+        ensures named { IfErr result (λ e. (units : ℕ) → piece.size ≡ UNIT * units → Holds self.old.heap name units → (e.0 ≢ Refusal.Stale) × (e.0 ≢ Refusal.Foreign)) }
+        ensures region { self.new.region ≡ self.old.region }
+        ensures touches { self.new.touches ≤ self.old.touches + 64 }
+        ensures touches_rise { self.old.touches ≤ self.new.touches }
+    {
+        let (size, piece) = piece.with_size();
+        if bytes_of(held, UNIT) != size {
+            return Err((Refusal::Stale, piece));
+        }
+        match self.heap.resize_words(name, units, lacking(units)) {
+            Ok(()) => {
+                replace_with(&mut self.space, piece, Space::take_back);
+                let at = grains_before(name.at, UNIT);
+                let size = bytes_of(units, UNIT);
+                Ok(replace_with(&mut self.space, Run { at, size }, lend_run))
+            }
+            Err(why) => Err((why, piece)),
+        }
+    }
+
+    /// The units of the arena: 4 to 2^20, or to 2^24 at level 5.
+    pub fn units(&self) -> u32
+        ensures region { self.now.region.end ≡ self.now.region.start + UNIT * result }
+    {
+        self.units
+    }
+
+    /// What the arena's heap holds, and how well it serves, in units: a walk over all its blocks. It is never refused, and takes no memory.
+    ///
+    /// ```text
+    /// arena.report().free_words                // of a new arena of 64 units: 64
+    /// ```
+    pub fn report(&mut self) -> Report
+        ensures report { result ≡ report_of SLI self.old.heap }
+        ensures same { SameArena self.old self.new }
+        ensures touches { self.new.touches ≤ self.old.touches + 2 * length self.old.heap.blocks }
+        ensures touches_rise { self.old.touches ≤ self.new.touches }
+    {
+        self.heap.report()
+    }
+
+    /// The block that begins at a unit, None where none does. Its size is in units, those that good fit gave it beyond the wanted ones with
+    /// them. The next begins at its end, `at + size`, so that a walk from unit 0 meets all blocks. Takes no memory.
+    ///
+    /// ```text
+    /// let block = arena.allocate(100)?;        // of a new arena in units of 16 bytes
+    /// arena.block_at(block.name.at)            // Some(PlacedBlock { at: 0, size: 7, .. })
+    /// ```
+    pub fn block_at(&mut self, at: u32) -> Option<PlacedBlock>
+        ensures block { result ≡ placed_at self.old.heap.blocks at }
+        ensures same { SameArena self.old self.new }
+        ensures touches { self.new.touches ≤ self.old.touches + 4 }
+        ensures touches_rise { self.old.touches ≤ self.new.touches }
+    {
+        self.heap.block_at(at)
+    }
+
+    /// The serial of the live block at a place, and the units that it holds; `None` where none begins there.
+    fn held_block(&mut self, at: u32) -> Option<(u64, u32)>
+        ensures held { held_at self.old.heap.blocks at ≡ option_map (λ p. p.1) result }
+        ensures same { SameArena self.old self.new }
+        ensures lawful { IsLawful self.old.heap }
+        ensures unit { IsUnit UNIT }
+        ensures touches { self.new.touches ≤ self.old.touches + 4 }
+        ensures touches_rise { self.old.touches ≤ self.new.touches }
+    {
+        match self.heap.block_at(at) {
+            Some(
+                PlacedBlock {
+                    content: Content::Live { serial, length },
+                    at: _,
+                    size,
+                },
+            ) => Some((serial, held_units(size, length))),
+            _ => None,
+        }
+    }
+}
+
+/// The number of the last unit that begins at an address or before it: each comparison halves the units in question.
+fn place_of(ptr: *mut u8, base: *mut u8, units: u32, unit: usize) -> u32
+    requires pointers { InBlock base × InBlock ptr × (block_of ptr ≡ block_of base) × (count_of base + unit * units < 2 ^ 63) × (count_of ptr < 2 ^ 63) }
+    requires some { 0 < units }
+    requires unit { IsUnit unit }
+    ensures { result < units }
+{
+    let mut at = 0u32;
+    let mut end = units;
+    while at + 1 < end {
+        let middle = at + (end - at) / 2;
+        if lies_before(ptr, base, grains_before(middle, unit)) {
+            end = middle;
+        } else {
+            at = middle;
+        }
+    }
+    at
+}
+
+/// The words of the free block at place 0, or 0.
+fn free_at_start<const SLI: u32>(heap: &mut Heap<SLI>) -> u32
+    ensures size { result ≡ free_in (placed_at heap.old.heap.blocks 0) }
+    ensures same { heap.new.heap ≡ heap.old.heap }
+{
+    match heap.block_at(0) {
+        Some(
+            PlacedBlock {
+                content: Content::Free { stamp: _ },
+                at: _,
+                size,
+            },
+        ) => size,
+        _ => 0,
+    }
+}
+
+// The memory is leaked while a block is out.
+impl<const SLI: u32, const UNIT: usize> Drop for Arena<SLI, UNIT> {
+    fn drop(self) {
+        let Arena {
+            heap,
+            space,
+            base: _,
+            id: _,
+            units,
+            alloc,
+            lease,
+        } = self;
+        let mut heap = heap;
+        let free = free_at_start(&mut heap);
+        drop(heap);
+        if free == units {
+            space.into_memory(bytes_of(units, UNIT)).free(lease, &alloc);
+        } else {
+            space.leak();
+            let _leaked = unsafe { ManuallyDrop::new_unchecked(lease) };
+        }
+    }
+}
