@@ -1,0 +1,508 @@
+-- Spans that an arena of offsets holds: they lie apart, and calls leave those of other names.
+use Rattle.std.proofs.Common.{◌≡◌, ◌≢◌, ℕ, zero, suc, ◌+◌, ◌-◌, ◌*◌, ◌/◌, ◌%◌, ◌<◌, ◌≤◌, Bool, true, cond, eqb, List, [], ◌∷◌, ◌++◌, length, take, min, max, Option, Some, None, Result, Ok, Err, sym, ◌∙◌, ap, subst, refl, inl, inr, arith, append_assoc, eq-eqb, mul-le-mul_left, mul-add, mul_comm, div-add-mod', mod-lt}
+use Rattle.std.specs.Prelude.{nat_lt, ◌^◌, ◌↔◌, IsOk, IsErrOf, MatchResult, OnOk, is_ok}
+use Rattle.std.specs.List.{AllByRecursion}
+use Rattle.std.proofs.lemmas.Bool.{eqb-true, false≢true, cases_lt}
+use Rattle.std.proofs.lemmas.Bool.Decides.{nat_tests}
+use Rattle.tlsf_class.specs.Classes.{IsLevel, most_words}
+use Rattle.tlsf_class.proofs.TwoLevels.{by_level}
+use Rattle.tlsf_heap.specs.Blocks.{Block, Live, Free, HeapState, StandsAt, size_of, words_in}
+use Rattle.tlsf_heap.specs.Calls.{Outcome, allocated_at, allocated_words, carved, first_free, fitted, has_serial, is_named, is_worn, last_tick, named, past_free, refitted, refused, released, resized_at, resized_words, room_of}
+use Rattle.tlsf_heap.specs.GoodFit.{Site, block_at, fits, place_of}
+use Rattle.tlsf_heap.specs.Lawful.{HasRoom, IsLawful}
+use Rattle.tlsf_heap.specs.Laws.{IsLive}
+use Rattle.tlsf_heap.specs.Placed.{placed, placed_at}
+use Rattle.tlsf_heap.specs.declared.name.Name.{Name}
+use Rattle.tlsf_heap.specs.declared.refusal.Refusal.{Refusal}
+use Rattle.tlsf_heap.specs.declared.refusal.Refusal.TheVariants.{NoFit, NoRoom, Worn, Foreign}
+use Rattle.tlsf_heap.specs.declared.placed_block.PlacedBlock.{PlacedBlock}
+use Rattle.tlsf_heap.proofs.Allocating.{fits_size}
+use Rattle.tlsf_heap.proofs.Choosing.{none_above}
+use Rattle.tlsf_heap.proofs.Edits.{carved_small, carved_large}
+use Rattle.tlsf_heap.proofs.Finding.{and_left, and_right}
+use Rattle.tlsf_heap.proofs.Gone.{gone_dead, gone_taken}
+use Rattle.tlsf_heap.proofs.Lasting.{HasFrom, in_left, in_right, in_either, edited, released_lasts, refitted_lasts}
+use Rattle.tlsf_heap.proofs.Lawfulness.{words_in-append}
+use Rattle.tlsf_heap.proofs.Living.{lives, new_words, shown, one_serial, same_name, words_carved, no_serial}
+use Rattle.tlsf_heap.proofs.Lying.{ends_before, inside}
+use Rattle.tlsf_heap.proofs.Outcomes.{by_allocated_words, by_released, by_resized_words, gives_words, named_site, resizes}
+use Rattle.tlsf_heap.proofs.Placing.{placed_found}
+use Rattle.tlsf_heap.proofs.Resizing.{by_refitted}
+use Rattle.tlsf_heap.proofs.Served.{no_fit_words, ok_words}
+use Rattle.tlsf_heap.proofs.Showing.{least}
+use Rattle.tlsf_heap.proofs.Sites.{choice_none}
+use Rattle.tlsf_offsets.specs.Offsets.{Offsets, IsOffsets, IsHeld, AreApart, KeepsOthers, units_for}
+use Rattle.tlsf_offsets.specs.declared.span.Span.{Span}
+
+-- ---- a block that has some property, by its index and by its place
+
+module _ (P : Block → Type 0) (at : ℕ) where
+  pub by_place : (from : ℕ) (bs : List Block) (i : ℕ) → i < length bs → from + words_in (take i bs) ≡ at → P (block_at bs i) → HasFrom P at from bs
+  by_place from [] i within e p = absurd (omega (arith, within))
+  by_place from (b ∷ bs) zero within e p = inl (p, omega (arith, e))
+  by_place from (b ∷ bs) (suc i) within e p = inr (by_place (from + size_of b) bs i (omega (arith, within)) (omega (arith, e)) p)
+
+  -- where it stands
+  abbrev pub At : ℕ → List Block → Type 0
+  At from bs = (i : ℕ) × (i < length bs) × (from + words_in (take i bs) ≡ at) × P (block_at bs i)
+
+  pub by_index : (from : ℕ) (bs : List Block) → HasFrom P at from bs → At from bs
+  by_index from [] h = absurd h
+  by_index from (b ∷ bs) h = elim h [
+    | inl e ↦ (0, omega arith, omega (arith, e.1), e.0)
+    | inr t ↦ let there = by_index (from + size_of b) bs t in (suc there.0, omega (arith, there.1), omega (arith, there.2), there.3)
+  ]
+
+-- ---- held
+
+-- the block of a span
+abbrev pub IsBlock : ℕ → ℕ → Block → Type 0
+IsBlock serial size b = (has_serial serial b ≡ true) × (size_of b ≡ size)
+
+-- a block of as many words under the same name stands there: the span is held
+pub held : (o p : Offsets) (span : Span) → p.heap.id ≡ o.heap.id → p.unit ≡ o.unit
+    → ((size : ℕ) → HasFrom (IsBlock span.name.serial size) span.name.at 0 o.heap.blocks → HasFrom (IsBlock span.name.serial size) span.name.at 0 p.heap.blocks) → IsHeld o span → IsHeld p span
+held o p span ids units goes h =
+    let size : ℕ = size_of (block_at o.heap.blocks h.index) in
+    let P : Block → Type 0 = IsBlock span.name.serial size in
+    let there = by_index P span.name.at 0 p.heap.blocks (goes size (by_place P span.name.at 0 o.heap.blocks h.index h.stands.within (omega (arith, h.stands.place)) (h.live, refl))) in
+    record {
+      own = h.own ∙ sym ids;
+      index = there.0;
+      stands = record { within = there.1; place = omega (arith, there.2) };
+      live = there.3.0;
+      offset = h.offset ∙ ap (λ (u : ℕ). u * span.name.at) (sym units);
+      size = h.size ∙ ap (λ (u : ℕ). u * size) (sym units) ∙ ap (λ (s : ℕ). p.unit * s) (sym there.3.1);
+    }
+
+-- ---- apart
+
+-- the end of a block, in bytes
+ends : (o : Offsets) (span : Span) (h : IsHeld o span) → span.offset + span.size ≡ o.unit * (words_in (take h.index o.heap.blocks) + size_of (block_at o.heap.blocks h.index))
+ends o span h =
+    let place : o.unit * span.name.at ≡ o.unit * words_in (take h.index o.heap.blocks) = ap (λ (a : ℕ). o.unit * a) (sym h.stands.place) in
+    omega (arith, h.offset, h.size, place, mul-add o.unit (words_in (take h.index o.heap.blocks)) (size_of (block_at o.heap.blocks h.index)))
+
+before : (o : Offsets) (a b : Span) (x : IsHeld o a) (y : IsHeld o b) → x.index < y.index → a.offset + a.size ≤ b.offset
+before o a b x y l =
+    let far = mul-le-mul_left o.unit (ends_before o.heap.blocks x.index y.index l y.stands.within) in
+    let place : o.unit * b.name.at ≡ o.unit * words_in (take y.index o.heap.blocks) = ap (λ (a : ℕ). o.unit * a) (sym y.stands.place) in
+    omega (arith, ends o a x, far, place, y.offset)
+
+-- two spans of one block have one name
+names : (o : Offsets) (a b : Span) (x : IsHeld o a) (y : IsHeld o b) → x.index ≡ y.index → a.name ≡ b.name
+names o a b x y e =
+    let block : block_at o.heap.blocks x.index ≡ block_at o.heap.blocks y.index = ap (λ (i : ℕ). block_at o.heap.blocks i) e in
+    same_name a.name b.name (x.own ∙ sym y.own) (sym x.stands.place ∙ ap (λ (i : ℕ). words_in (take i o.heap.blocks)) e ∙ y.stands.place)
+    (one_serial a.name.serial b.name.serial (block_at o.heap.blocks x.index) x.live (ap (has_serial b.name.serial) block ∙ y.live))
+
+pub apart : (sli : ℕ) (o : Offsets) (a b : Span) → IsOffsets sli o → IsHeld o a → IsHeld o b → a.name ≢ b.name → AreApart a b
+apart sli o a b is x y other =
+    elim (cases_lt x.index y.index) [
+      | inl l ↦ inl (before o a b x y l)
+      | inr k ↦ elim (cases_lt y.index x.index) [
+        | inl l ↦ inr (before o b a y x l)
+        | inr j ↦ absurd (other (names o a b x y (omega (arith, k, j))))
+      ]
+    ]
+
+pub within : (sli : ℕ) (o : Offsets) (a : Span) → IsOffsets sli o → IsHeld o a → a.offset + a.size ≤ o.unit * o.heap.words
+within sli o a is x =
+    let far = mul-le-mul_left o.unit (inside o.heap is.lawful x.index x.stands.within) in
+    omega (arith, ends o a x, far)
+
+-- ---- one span a name
+
+room_at : (bs : List Block) (i : ℕ) → AllByRecursion HasRoom bs → i < length bs → 4 ≤ size_of (block_at bs i)
+room_at [] i all h = absurd (omega (arith, h))
+room_at (b ∷ bs) zero all h = least b all.0
+room_at (b ∷ bs) (suc i) all h = room_at bs i all.1 (omega (arith, h))
+
+-- no two blocks begin at one place
+one_index : (sli : ℕ) (o : Offsets) (a b : Span) (is : IsOffsets sli o) (x : IsHeld o a) (y : IsHeld o b) → a.name ≡ b.name → x.index < y.index → ⊥
+one_index sli o a b is x y e l =
+    let four = room_at o.heap.blocks x.index is.lawful.rooms x.stands.within in
+    let far = ends_before o.heap.blocks x.index y.index l y.stands.within in
+    omega (arith, four, far, x.stands.place, y.stands.place, ap (λ (n : Name). n.at) e)
+
+same_span : (a b : Span) → a.name ≡ b.name → a.offset ≡ b.offset → a.size ≡ b.size → a ≡ b
+same_span a b e f g =
+    let same : ◌≡◌ {A = Span} (record { name = a.name; offset = a.offset; size = a.size }) (record { name = b.name; offset = b.offset; size = b.size }) = cc in same
+
+pub one : (sli : ℕ) (o : Offsets) (a b : Span) → IsOffsets sli o → IsHeld o a → IsHeld o b → a.name ≡ b.name → a ≡ b
+one sli o a b is x y e =
+    elim (cases_lt x.index y.index) [
+      | inl l ↦ absurd (one_index sli o a b is x y e l)
+      | inr k ↦ elim (cases_lt y.index x.index) [
+        | inl l ↦ absurd (one_index sli o b a is y x (sym e) l)
+        | inr j ↦
+            let i : x.index ≡ y.index = omega (arith, k, j) in
+            same_span a b e (x.offset ∙ ap (λ (n : Name). o.unit * n.at) e ∙ sym y.offset) (x.size ∙ ap (λ (i : ℕ). o.unit * size_of (block_at o.heap.blocks i)) i ∙ sym y.size)
+      ]
+    ]
+
+-- ---- what calls leave of a span
+
+-- the blocks of a heap k have that of the span as the arena's had it, and it has the arena's number
+record Keeps (o : Offsets) (span : Span) (k : HeapState) : Type 0 where
+  ids : k.id ≡ o.heap.id
+  goes : (size : ℕ) → HasFrom (IsBlock span.name.serial size) span.name.at 0 o.heap.blocks → HasFrom (IsBlock span.name.serial size) span.name.at 0 k.blocks
+
+same : (o : Offsets) (span : Span) → Keeps o span o.heap
+same o span = record { ids = refl; goes = λ size h. h }
+
+allocated_keeps : (sli n : ℕ) (o : Offsets) (span : Span) → Keeps o span (allocated_words sli o.heap n 0).heap
+allocated_keeps sli n o span = by_allocated_words sli (λ out. Keeps o span out.heap) o.heap n 0 (λ why. same o span) (λ s site fit.
+    let new : List Block = carved (size_of s.block) n o.heap.tick 0 in
+    record {
+      ids = refl;
+      goes = λ size h.
+          let P : Block → Type 0 = IsBlock span.name.serial size in
+          subst (HasFrom P span.name.at 0) (sym (append_assoc s.before new s.after))
+          (edited P span.name.at 0 s.before (s.block ∷ []) new s.after (words_carved (size_of s.block) n o.heap.tick 0)
+          (λ k l. elim l [ inl e ↦ absurd (no_serial sli span.name.serial n s.block fit e.0.0) | inr none ↦ absurd none ])
+          (subst (HasFrom P span.name.at 0) (sym site) h));
+    })
+
+-- a live block of another name is another block
+other_block : (o : Offsets) (span : Span) (name : Name) (s : Site) → span.name.heap ≡ o.heap.id → span.name ≢ name → name.heap ≡ o.heap.id → is_named name.at name.serial s ≡ true
+    → has_serial span.name.serial s.block ≡ true → place_of s ≡ span.name.at → ⊥
+other_block o span name s own other mine is e at =
+    other (same_name span.name name (own ∙ sym mine) (sym at ∙ eqb-true _ _ (and_right (has_serial name.serial s.block) _ is))
+    (one_serial span.name.serial name.serial s.block e (and_left _ _ is)))
+
+no_free : (serial size m s : ℕ) → IsBlock serial size (Free m s) → ⊥
+no_free serial size m s e = false≢true e.0
+
+released_keeps : (o : Offsets) (name : Name) (span : Span) → span.name.heap ≡ o.heap.id → span.name ≢ name → Keeps o span (released o.heap name).heap
+released_keeps o name span own other = by_released (λ out. Keeps o span out.heap) o.heap name (λ why. same o span) (λ s mine site is. record {
+  ids = refl;
+  goes = λ size h.
+      let P : Block → Type 0 = IsBlock span.name.serial size in
+      released_lasts P span.name.at (no_free span.name.serial size) o.heap.tick s.before s.after s.block
+      (λ e at. other_block o span name s own other mine is e.0 at) (subst (HasFrom P span.name.at 0) (sym site) h);
+})
+
+resized_keeps : (o : Offsets) (name : Name) (n : ℕ) (span : Span) → span.name.heap ≡ o.heap.id → span.name ≢ name → Keeps o span (resized_words o.heap name n 0).heap
+resized_keeps o name n span own other = by_resized_words (λ out. Keeps o span out.heap) o.heap name n 0 (λ why. same o span) (λ s mine site is room. record {
+  ids = refl;
+  goes = λ size h.
+      let P : Block → Type 0 = IsBlock span.name.serial size in
+      let new : List Block = refitted o.heap.tick n 0 s.block s.after in
+      elim (in_either P span.name.at 0 s.before (s.block ∷ s.after) (subst (HasFrom P span.name.at 0) (sym site) h)) [
+        | inl ahead ↦ in_left P span.name.at 0 s.before new ahead
+        | inr here ↦ in_right P span.name.at 0 s.before new (refitted_lasts P span.name.at (no_free span.name.serial size) o.heap.tick n 0 (0 + words_in s.before) s.block s.after room
+            (λ m t k xs ys e has at. absurd (other_block o span name s own other mine is has.0 (omega (arith, at)))) here)
+      ];
+})
+
+module _ (o p : Offsets) (units : p.unit ≡ o.unit) where
+  kept : (span : Span) (k : HeapState) → Keeps o span k → p.heap ≡ k → IsHeld o span → IsHeld p span
+  kept span k keeps is h =
+      let now : Keeps o span p.heap = subst (Keeps o span) (sym is) keeps in held o p span now.ids units now.goes h
+
+  pub kept_allocated : (sli n : ℕ) → p.heap ≡ (allocated_words sli o.heap n 0).heap → (span : Span) → IsHeld o span → IsHeld p span
+  kept_allocated sli n is span h = kept span _ (allocated_keeps sli n o span) is h
+
+  pub kept_released : (name : Name) → p.heap ≡ (released o.heap name).heap → KeepsOthers o p name
+  kept_released name is span other h = kept span _ (released_keeps o name span h.own other) is h
+
+  pub kept_resized : (name : Name) (n : ℕ) → p.heap ≡ (resized_words o.heap name n 0).heap → KeepsOthers o p name
+  kept_resized name n is span other h = kept span _ (resized_keeps o name n span h.own other) is h
+
+-- ---- the span of a live name
+
+-- a span that is held has a live name
+pub live : (o : Offsets) (span : Span) → IsHeld o span → IsLive o.heap span.name
+live o span h = shown o.heap span.name h.own (by_place (λ b. has_serial span.name.serial b ≡ true) span.name.at 0 o.heap.blocks h.index h.stands.within (omega (arith, h.stands.place)) h.live)
+
+-- the block that stands at the place of a live name is its block
+pub held_at : (sli : ℕ) (o : Offsets) (name : Name) (span : Span) (block : Option PlacedBlock) → IsOffsets sli o → IsLive o.heap name → block ≡ placed_at o.heap.blocks name.at
+    → span.name ≡ name → span.offset ≡ o.unit * name.at → ((b : PlacedBlock) → block ≡ Some b → span.size ≡ o.unit * b.size) → IsHeld o span
+held_at sli o name span block is alive found e offset size =
+    let there = by_index (λ b. has_serial name.serial b ≡ true) name.at 0 o.heap.blocks (lives o.heap name alive) in
+    let stands : StandsAt o.heap.blocks name.at there.0 = record { within = there.1; place = omega (arith, there.2) } in
+    let b = placed name.at (block_at o.heap.blocks there.0) in
+    record {
+      own = ap (λ (n : Name). n.heap) e ∙ alive.0;
+      index = there.0;
+      stands = subst (λ (n : Name). StandsAt o.heap.blocks n.at there.0) (sym e) stands;
+      live = subst (λ (n : Name). has_serial n.serial (block_at o.heap.blocks there.0) ≡ true) (sym e) there.3;
+      offset = offset ∙ ap (λ (n : Name). o.unit * n.at) (sym e);
+      size = size b (found ∙ placed_found is.lawful.rooms stands);
+    }
+
+-- ---- what a call leaves of the arena
+
+-- its heap is lawful, of as many words, over units of as many bytes
+pub stays : (sli : ℕ) (o p : Offsets) → IsOffsets sli o → p.unit ≡ o.unit → p.heap.words ≡ o.heap.words → IsLawful p.heap → IsOffsets sli p
+stays sli o p is unit words lawful = record { level = is.level; lawful = lawful; words = omega (arith, is.words, words); some = omega (arith, is.some, unit) }
+
+pub words_allocated : (sli : ℕ) (h : HeapState) (n : ℕ) → (allocated_words sli h n 0).heap.words ≡ h.words
+words_allocated sli h n = by_allocated_words sli (λ out. out.heap.words ≡ h.words) h n 0 (λ why. refl) (λ s site fit. refl)
+
+pub words_released : (h : HeapState) (name : Name) → (released h name).heap.words ≡ h.words
+words_released h name = by_released (λ out. out.heap.words ≡ h.words) h name (λ why. refl) (λ s own site is. refl)
+
+pub words_resized : (h : HeapState) (name : Name) (n : ℕ) → (resized_words h name n 0).heap.words ≡ h.words
+words_resized h name n = by_resized_words (λ out. out.heap.words ≡ h.words) h name n 0 (λ why. refl) (λ s own site is room. refl)
+
+-- a span of a released name is held no more
+pub gone : (o p : Offsets) (name : Name) (answer : Result (Unit {0}) Refusal) → IsLawful o.heap → answer ≡ (released o.heap name).answer → p.heap ≡ (released o.heap name).heap
+    → OnOk answer ((span : Span) → IsHeld p span → span.name ≢ name)
+gone o p name (Ok done) lawful e is = λ span h same.
+    gone_dead (released o.heap name).heap name (gone_taken o.heap name lawful (sym e)) (subst (λ (n : Name). IsLive (released o.heap name).heap n) same (subst (λ (k : HeapState). IsLive k span.name) is (live p span h)))
+gone o p name (Err why) lawful e is = tt
+
+-- ---- more units than a number of 32 bits tells
+
+module _ (sli : ℕ) (level : IsLevel sli) where
+  few : most_words sli < 2 ^ 32 - 1
+  few = by_level (λ s. most_words s < 2 ^ 32 - 1) (omega arith) (omega arith) sli level
+
+  allocated_none : (h : HeapState) (n : ℕ) → most_words sli < n → allocated_words sli h n 0 ≡ refused h NoFit
+  allocated_none h n far = ap (allocated_at h n 0) (choice_none sli n h.blocks (none_above sli level n h.blocks far))
+
+  -- that number finds as little room
+  pub allocated_clamped : (h : HeapState) (n : ℕ) → allocated_words sli h (min n (2 ^ 32 - 1)) 0 ≡ allocated_words sli h n 0
+  allocated_clamped h n =
+      elim (cases_lt (2 ^ 32 - 1) n) [
+        | inl far ↦
+            let clamped : min n (2 ^ 32 - 1) ≡ 2 ^ 32 - 1 = omega arith in
+            ap (λ (k : ℕ). allocated_words sli h k 0) clamped ∙ allocated_none h (2 ^ 32 - 1) few ∙ sym (allocated_none h n (omega (arith, few, far)))
+        | inr near ↦ ap (λ (k : ℕ). allocated_words sli h k 0) (omega (arith, near))
+      ]
+
+  pub resized_clamped : (h : HeapState) (name : Name) (n : ℕ) → IsLawful h → h.words ≤ most_words sli → resized_words h name (min n (2 ^ 32 - 1)) 0 ≡ resized_words h name n 0
+  resized_clamped h name n lawful words =
+      elim (cases_lt (2 ^ 32 - 1) n) [
+        | inl far ↦
+            let clamped : min n (2 ^ 32 - 1) ≡ 2 ^ 32 - 1 = omega arith in
+            ap (λ (k : ℕ). resized_words h name k 0) clamped ∙ resized_none h name (2 ^ 32 - 1) n lawful (omega (arith, words, few)) (omega (arith, words, few, far))
+        | inr near ↦ ap (λ (k : ℕ). resized_words h name k 0) (omega (arith, near))
+      ]
+    where
+      first_within : (bs : List Block) → first_free bs ≤ words_in bs
+      first_within [] = omega arith
+      first_within (Live m s xs ∷ bs) = omega arith
+      first_within (Free m s ∷ bs) = omega arith
+
+      too_long : (h : HeapState) (s : Site) (k : ℕ) → room_of s.block s.after < k → resized_at h k 0 (Some s) ≡ refused h NoRoom
+      too_long h s k far =
+          let less : nat_lt (room_of s.block s.after) k ≡ true = grind (arith, nat_tests) in
+          ap (λ (b : Bool). cond b (refused h NoRoom) (cond (is_worn h) (refused h Worn) (resizes h k 0 s))) less
+
+      resized_none : (h : HeapState) (name : Name) (n m : ℕ) → IsLawful h → h.words < n → h.words < m → resized_words h name n 0 ≡ resized_words h name m 0
+      resized_none h name n m lawful far farther = ap (λ (o : Outcome (Unit {0})). cond (eqb name.heap h.id) o (refused h Foreign)) (at (named name h.blocks) refl)
+        where
+          at : (o : Option Site) → named name h.blocks ≡ o → resized_at h n 0 o ≡ resized_at h m 0 o
+          at None e = refl
+          at (Some s) e =
+              let site = (named_site name h.blocks s e).0 in
+              let all : words_in (s.before ++ s.block ∷ s.after) ≡ h.words = ap words_in site ∙ lawful.whole in
+              let room : room_of s.block s.after ≤ h.words = omega (arith, all, words_in-append s.before (s.block ∷ s.after), first_within s.after) in
+              too_long h s n (omega (arith, room, far)) ∙ sym (too_long h s m (omega (arith, room, farther)))
+
+-- ---- what a call makes
+
+-- the heap k has a live block of this name, of n words or more
+pub record Made (name : Name) (n : ℕ) (k : HeapState) : Type 0 where
+  pub own : name.heap ≡ k.id
+  pub size : ℕ
+  pub least : n ≤ size
+  pub there : HasFrom (IsBlock name.serial size) name.at 0 k.blocks
+
+pub made_live : (name : Name) (n : ℕ) (k : HeapState) → Made name n k → IsLive k name
+made_live name n k made =
+    let at = by_index (IsBlock name.serial made.size) name.at 0 k.blocks made.there in
+    shown k name made.own (by_place (λ b. has_serial name.serial b ≡ true) name.at 0 k.blocks at.0 at.1 at.2 at.3.0)
+
+-- a span of that name has as many bytes
+made_size : (sli : ℕ) (p : Offsets) (span : Span) (n : ℕ) (made : Made span.name n p.heap) → IsOffsets sli p → IsHeld p span → span.size ≡ p.unit * made.size
+made_size sli p span n made is h =
+    let at = by_index (IsBlock span.name.serial made.size) span.name.at 0 p.heap.blocks made.there in
+    let other : Span = record { name = span.name; offset = p.unit * span.name.at; size = p.unit * made.size } in
+    let held : IsHeld p other = record {
+      own = made.own;
+      index = at.0;
+      stands = record { within = at.1; place = omega (arith, at.2) };
+      live = at.3.0;
+      offset = refl;
+      size = ap (λ (s : ℕ). p.unit * s) (sym at.3.1);
+    } in
+    ap (λ (s : Span). s.size) (one sli p span other is h held refl)
+
+-- whole units hold the bytes that they are wanted for
+units_hold : (unit len : ℕ) → 0 < unit → len ≤ unit * (len / unit + min 1 (len % unit))
+units_hold unit len some =
+    let parts = div-add-mod' len unit in
+    let rest = mod-lt len some in
+    elim (cases_lt 0 (len % unit)) [
+      | inl more ↦
+          let up : len / unit + min 1 (len % unit) ≡ len / unit + 1 = omega (arith, more) in
+          omega (arith, parts, rest, ap (λ (k : ℕ). unit * k) up, mul-add unit (len / unit) 1, mul_comm unit (len / unit))
+      | inr none ↦
+          let up : len / unit + min 1 (len % unit) ≡ len / unit = omega (arith, none) in
+          omega (arith, parts, none, ap (λ (k : ℕ). unit * k) up, mul_comm unit (len / unit))
+    ]
+
+pub enough : (sli : ℕ) (p : Offsets) (span : Span) (len : ℕ) → IsOffsets sli p → IsHeld p span → Made span.name (units_for p.unit len) p.heap → len ≤ span.size
+enough sli p span len is h made =
+    let hold = units_hold p.unit len is.some in
+    let four = mul-le-mul_left p.unit (max_right 4 (len / p.unit + min 1 (len % p.unit))) in
+    let least = mul-le-mul_left p.unit made.least in
+    omega (arith, hold, four, least, made_size sli p span (units_for p.unit len) made is h)
+  where
+    max_right : (a b : ℕ) → b ≤ max a b
+    max_right a b = omega arith
+
+-- ---- by an allocate
+
+abbrev Given : ℕ → HeapState → ℕ → Outcome Name → Type 0
+Given sli h n o = (name : Name) → o.answer ≡ Ok name → (made : Made name n o.heap) × (made.size < n + 4)
+
+pub given_made : (sli n : ℕ) (h : HeapState) → IsLevel sli → Given sli h n (allocated_words sli h n 0)
+given_made sli n h level = by_allocated_words sli (Given sli h n) h n 0 (λ why name e. absurd cc) (λ s site fit name e.
+    let same : record { heap = h.id; at = place_of s; serial = h.tick } ≡ name = cc in
+    subst (λ (m : Name). (made : Made m n (gives_words h n 0 s).heap) × (made.size < n + 4)) same (elim (cases_lt (size_of s.block) (n + 4)) [
+      | inl small ↦ made h s n (size_of s.block) [] (carved_small (size_of s.block) n h.tick 0 small) (fits_size sli level n s.block fit) small
+      | inr large ↦ made h s n n (Free (size_of s.block - n) h.tick ∷ []) (carved_large (size_of s.block) n h.tick 0 large) (omega arith) (omega arith)
+    ]))
+  where
+    made : (h : HeapState) (s : Site) (n size : ℕ) (more : List Block) → carved (size_of s.block) n h.tick 0 ≡ Live size h.tick [] ∷ more → n ≤ size → size < n + 4
+        → (made : Made (record { heap = h.id; at = place_of s; serial = h.tick }) n (gives_words h n 0 s).heap) × (made.size < n + 4)
+    made h s n size more e least close =
+        let P : Block → Type 0 = IsBlock h.tick size in
+        let new : List Block = carved (size_of s.block) n h.tick 0 in
+        let first : HasFrom P (place_of s) (0 + place_of s) new = subst (HasFrom P (place_of s) (0 + place_of s)) (sym e) (inl ((eq-eqb h.tick h.tick refl, refl), omega arith)) in (
+          record {
+            own = refl;
+            size = size;
+            least = least;
+            there = subst (HasFrom P (place_of s) 0) (sym (append_assoc s.before new s.after)) (in_right P (place_of s) 0 s.before (new ++ s.after) (in_left P (place_of s) _ new s.after first));
+          },
+          close,
+        )
+
+-- a span of fewer than four units more than n
+pub close : (sli : ℕ) (p : Offsets) (span : Span) (n : ℕ) → IsOffsets sli p → IsHeld p span → (made : Made span.name n p.heap) → made.size < n + 4 → span.size < p.unit * (n + 4)
+close sli p span n is h made few =
+    let less = mul-le-mul_left p.unit few in
+    omega (arith, made_size sli p span n made is h, less, is.some, mul-add p.unit made.size 1)
+
+-- ---- by a resize
+
+abbrev Left : HeapState → Name → ℕ → Outcome (Unit {0}) → Type 0
+Left h name n o = o.answer ≡ Ok tt → Made name n o.heap
+
+pub left_made : (h : HeapState) (name : Name) (n : ℕ) → Left h name n (resized_words h name n 0)
+left_made h name n = by_resized_words (Left h name n) h name n 0 (λ why e. absurd cc) (λ s own site is room e. made h s name n own (and_left _ _ is) (eqb-true _ _ (and_right (has_serial name.serial s.block) _ is)) s.block refl room)
+  where
+    whole : (h : HeapState) (s : Site) (name : Name) (n size : ℕ) (block : Block) (rest : List Block) → name.heap ≡ h.id → place_of s ≡ name.at → has_serial name.serial block ≡ true → n ≤ size_of block
+        → refitted h.tick n 0 s.block s.after ≡ block ∷ rest → Made name n (resizes h n 0 s).heap
+    whole h s name n size block rest own at live least e =
+        let P : Block → Type 0 = IsBlock name.serial (size_of block) in
+        record {
+          own = own;
+          size = size_of block;
+          least = least;
+          there = in_right P name.at 0 s.before (refitted h.tick n 0 s.block s.after) (subst (HasFrom P name.at (0 + words_in s.before)) (sym e) (inl ((live, refl), omega (arith, at))));
+        }
+
+    made : (h : HeapState) (s : Site) (name : Name) (n : ℕ) → name.heap ≡ h.id → has_serial name.serial s.block ≡ true → place_of s ≡ name.at → (b : Block) → s.block ≡ b → n ≤ room_of s.block s.after → Made name n (resizes h n 0 s).heap
+    made h s name n own live at (Free m t) is room = absurd (false≢true (ap (has_serial name.serial) (sym is) ∙ live))
+    made h s name n own live at (Live m t xs) is room =
+        let room_is : n ≤ m + first_free s.after = subst (λ (b : Block). n ≤ room_of b s.after) is room in
+        let serial : has_serial name.serial (Live m t xs) ≡ true = subst (λ (b : Block). has_serial name.serial b ≡ true) is live in
+        by_refitted (λ l. refitted h.tick n 0 s.block s.after ≡ l → Made name n (resizes h n 0 s).heap) h.tick n 0 m t xs s.after room_is
+        (λ enough e. whole h s name n m (Live m t (fitted xs 0)) s.after own at serial enough e)
+        (λ e. whole h s name n (m + first_free s.after) (Live (m + first_free s.after) t (fitted xs 0)) (past_free s.after) own at serial room_is e)
+        (λ large e. whole h s name n n (Live n t (fitted xs 0)) _ own at serial (omega arith) e)
+        (ap (λ (b : Block). refitted h.tick n 0 b s.after) is)
+
+-- ---- when an allocate is refused
+
+-- what an answer says of the free blocks
+pub told : (sli n : ℕ) (h : HeapState) (answer : Result Span Refusal)
+    → MatchResult answer (λ span. (allocated_words sli h n 0).answer ≡ Ok span.name) (λ why. (allocated_words sli h n 0).answer ≡ Err why)
+    → (IsErrOf answer NoFit ↔ (fits sli n h.blocks ≡ [])) × (IsOk answer ↔ (¬ (fits sli n h.blocks ≡ []) × ¬ (h.tick ≡ last_tick)))
+told sli n h (Ok span) e =
+    let none = no_fit_words sli h n 0 in
+    let some = ok_words sli h n 0 in
+    ((λ f. cc, λ f. let g : Ok span.name ≡ Err NoFit = sym e ∙ none.1 f in cc), (λ _. some.0 (ap is_ok e), λ _. refl))
+told sli n h (Err why) e =
+    let none = no_fit_words sli h n 0 in
+    let some = ok_words sli h n 0 in (
+      (λ f. let w : why ≡ NoFit = cc in none.0 (e ∙ ap Err w), λ f. let g : ◌≡◌ {A = Result Name Refusal} (Err why) (Err NoFit) = sym e ∙ none.1 f in let w : why ≡ NoFit = cc in ap Err w),
+      (λ f. absurd (false≢true f), λ f. let g = some.1 f in absurd (false≢true (sym (ap is_ok e) ∙ g))),
+    )
+
+-- ---- a call of allocate and one of resize, from the arena o, which the code shows as i, to the arena p
+
+pub record Asks (sli : ℕ) (o p : Offsets) (len : ℕ) (answer : Result Name Refusal) : Type 0 where
+  pub answer_is : (allocated_words sli o.heap (units_for o.unit len) 0).answer ≡ answer
+  pub heap_is : p.heap ≡ (allocated_words sli o.heap (units_for o.unit len) 0).heap
+  pub unit_is : p.unit ≡ o.unit
+  pub before : IsOffsets sli o
+  pub after : IsOffsets sli p
+
+pub asks : (sli : ℕ) (i o p : Offsets) (len m : ℕ) (answer : Result Name Refusal) → IsOffsets sli o → i ≡ o → m ≡ min (units_for i.unit len) (2 ^ 32 - 1)
+    → answer ≡ (allocated_words sli i.heap m 0).answer → p.heap ≡ (allocated_words sli i.heap m 0).heap → p.unit ≡ i.unit → IsLawful p.heap → Asks sli o p len answer
+asks sli i o p len m answer is same units e f g lawful =
+    let all : allocated_words sli i.heap m 0 ≡ allocated_words sli o.heap (units_for o.unit len) 0 =
+    ap (λ (k : ℕ). allocated_words sli i.heap k 0) units ∙ allocated_clamped sli is.level i.heap (units_for i.unit len) ∙ ap (λ (x : Offsets). allocated_words sli x.heap (units_for x.unit len) 0) same in
+    let heap = f ∙ ap (λ (x : Outcome Name). x.heap) all in
+    let unit = g ∙ ap (λ (x : Offsets). x.unit) same in
+    record {
+      answer_is = ap (λ (x : Outcome Name). x.answer) (sym all) ∙ sym e;
+      heap_is = heap;
+      unit_is = unit;
+      before = is;
+      after = stays sli o p is unit (ap (λ (h : HeapState). h.words) heap ∙ words_allocated sli o.heap (units_for o.unit len)) lawful;
+    }
+
+module _ (sli : ℕ) (o p : Offsets) (len : ℕ) (name : Name) (a : Asks sli o p len (Ok name)) where
+  pub asks_made : (made : Made name (units_for o.unit len) p.heap) × (made.size < units_for o.unit len + 4)
+  asks_made = subst (λ (h : HeapState). (made : Made name (units_for o.unit len) h) × (made.size < units_for o.unit len + 4)) (sym a.heap_is) (given_made sli (units_for o.unit len) o.heap a.before.level name a.answer_is)
+
+  module _ (span : Span) (named : span.name ≡ name) (h : IsHeld p span) where
+    spanned : (made : Made span.name (units_for o.unit len) p.heap) × (made.size < units_for o.unit len + 4)
+    spanned = subst (λ (m : Name). (made : Made m (units_for o.unit len) p.heap) × (made.size < units_for o.unit len + 4)) (sym named) asks_made
+
+    pub asks_enough : len ≤ span.size
+    asks_enough = enough sli p span len a.after h (subst (λ (u : ℕ). Made span.name (units_for u len) p.heap) (sym a.unit_is) spanned.0)
+
+    pub asks_close : span.size < o.unit * (units_for o.unit len + 4)
+    asks_close = subst (λ (u : ℕ). span.size < u * (units_for o.unit len + 4)) a.unit_is (close sli p span (units_for o.unit len) a.after h spanned.0 spanned.1)
+
+  pub asks_new : (other : Span) → IsHeld o other → other.name ≢ name
+  asks_new other h same = new_words sli o.heap (units_for o.unit len) 0 name a.before.lawful a.answer_is (subst (IsLive o.heap) same (live o other h))
+
+pub record Alters (sli : ℕ) (o p : Offsets) (name : Name) (len : ℕ) (answer : Result (Unit {0}) Refusal) : Type 0 where
+  pub answer_is : (resized_words o.heap name (units_for o.unit len) 0).answer ≡ answer
+  pub heap_is : p.heap ≡ (resized_words o.heap name (units_for o.unit len) 0).heap
+  pub unit_is : p.unit ≡ o.unit
+  pub after : IsOffsets sli p
+
+pub alters : (sli : ℕ) (i o p : Offsets) (name : Name) (len m : ℕ) (answer : Result (Unit {0}) Refusal) → IsOffsets sli o → i ≡ o → m ≡ min (units_for i.unit len) (2 ^ 32 - 1)
+    → answer ≡ (resized_words i.heap name m 0).answer → p.heap ≡ (resized_words i.heap name m 0).heap → p.unit ≡ i.unit → IsLawful p.heap → Alters sli o p name len answer
+alters sli i o p name len m answer is same units e f g lawful =
+    let is_i : IsOffsets sli i = subst (IsOffsets sli) (sym same) is in
+    let all : resized_words i.heap name m 0 ≡ resized_words o.heap name (units_for o.unit len) 0 =
+    ap (λ (k : ℕ). resized_words i.heap name k 0) units ∙ resized_clamped sli is.level i.heap name (units_for i.unit len) is_i.lawful is_i.words ∙ ap (λ (x : Offsets). resized_words x.heap name (units_for x.unit len) 0) same in
+    let heap = f ∙ ap (λ (x : Outcome (Unit {0})). x.heap) all in
+    let unit = g ∙ ap (λ (x : Offsets). x.unit) same in
+    record {
+      answer_is = ap (λ (x : Outcome (Unit {0})). x.answer) (sym all) ∙ sym e;
+      heap_is = heap;
+      unit_is = unit;
+      after = stays sli o p is unit (ap (λ (h : HeapState). h.words) heap ∙ words_resized o.heap name (units_for o.unit len)) lawful;
+    }
+
+module _ (sli : ℕ) (o p : Offsets) (name : Name) (len : ℕ) (a : Alters sli o p name len (Ok tt)) where
+  pub alters_made : Made name (units_for o.unit len) p.heap
+  alters_made = subst (Made name (units_for o.unit len)) (sym a.heap_is) (left_made o.heap name (units_for o.unit len) a.answer_is)
+
+  pub alters_enough : (span : Span) → span.name ≡ name → IsHeld p span → len ≤ span.size
+  alters_enough span named h =
+      enough sli p span len a.after h (subst (λ (u : ℕ). Made span.name (units_for u len) p.heap) (sym a.unit_is) (subst (λ (m : Name). Made m (units_for o.unit len) p.heap) (sym named) alters_made))

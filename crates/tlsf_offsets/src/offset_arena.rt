@@ -1,0 +1,213 @@
+ghost use Rattle.std.specs.Prelude.{◌≡◌, ◌≢◌, ◌↔◌, ℕ, ◌+◌, ◌*◌, ◌<◌, ◌≤◌, [], min, length, IfOk, OnOk, OnErr, IsOk, IsErrOf, MatchResult, Ok, Err};
+ghost use Rattle.tlsf_class.specs.Classes.{IsLevel};
+ghost use Rattle.tlsf_heap.specs.Calls.{opened, allocated_words, released, resized_words, last_tick};
+ghost use Rattle.tlsf_heap.specs.GoodFit.{fits};
+ghost use Rattle.tlsf_heap.specs.Lawful.{IsRegion};
+ghost use Rattle.tlsf_offsets.specs.Offsets.{IsOffsets, IsHeld, KeepsOthers, units_for, usage_of};
+ghost use Rattle.tlsf_heap.specs.Laws.{IsLive};
+ghost use Rattle.tlsf_offsets.specs.declared.span.Span.{Span};
+
+use crate::span::Span;
+use crate::usage::Usage;
+use std::alloc::Global;
+use std::marker::Model;
+use tlsf_heap::{Heap, Name, OpenFault, Refusal};
+
+/// Says where blocks lie in memory that is cut into units and that it never touches.
+///
+/// Its level is that of its heap: at level 4 the memory has 4 to 2^20 units, at level 5 to 2^24. Sizes and offsets are in bytes; each
+/// offset is a multiple of the unit, so blocks are aligned as the unit is, where the memory itself begins so.
+#[derive(Drop)]
+pub struct OffsetArena<const SLI: u32> {
+    heap: Heap<SLI>,
+    unit: u32,
+}
+
+impl<const SLI: u32> Model for OffsetArena<SLI> {
+    ghost use Rattle.tlsf_offsets.specs.Offsets.{Offsets, IsOffsets};
+
+    ghost Value = { Offsets };
+
+    ghost view = { λ o. record { heap = o.heap.heap; unit = o.unit; touches = o.heap.touches } };
+
+    ghost invariant = { λ o. IsOffsets SLI (record { heap = o.heap.heap; unit = o.unit; touches = o.heap.touches }) };
+}
+
+/// The units for `len` bytes. More than a number of 32 bits tells are as many as that tells, which no memory has either.
+fn units_of(unit: u32, len: u64) -> u32
+    requires { 0 < unit }
+    ensures { result ≡ min (units_for unit len) u32.MAX }
+{
+    len.div_ceil(u64::from(unit)).clamp(4, u64::from(u32::MAX)) as u32
+}
+
+impl<const SLI: u32> OffsetArena<SLI> {
+    /// Opens an arena of number `id` over memory of `units` units of `unit` bytes each. All of it is free.
+    ///
+    /// Refused as `BadSize` where `unit` is 0, or `units` below 4, or above 2^20 at level 4 and 2^24 at level 5, else as `NoMemory` where the
+    /// memory for its heap was not granted, 8 bytes a unit and some. No later call takes memory.
+    ///
+    /// ```text
+    /// let arena = OffsetArena::<4>::open(alloc, 0, 65_536, 4_096)?;        // 256 MiB in units of 64 KiB
+    /// OffsetArena::<4>::open(alloc, 0, 65_536, 3).err() == Some(OpenFault::BadSize)
+    /// ```
+    pub fn open(
+        alloc: Global,
+        id: u32,
+        unit: u32,
+        units: u32,
+    ) -> Result<OffsetArena<SLI>, OpenFault>
+        requires { IsLevel SLI }
+        ensures heap { IfOk result (λ arena. arena.heap ≡ opened id units 0) }
+        ensures unit { IfOk result (λ arena. arena.unit ≡ unit) }
+        ensures bad_size { IsErrOf result OpenFault.BadSize ↔ ¬ ((0 < unit) × IsRegion SLI units) }
+        ensures not_worn { ¬ (IsErrOf result OpenFault.Worn) }
+        ensures lawful { IfOk result (λ arena. IsOffsets SLI arena) }
+        ensures touches { IfOk result (λ arena. arena.touches ≤ 10) }
+    {
+        if unit == 0 {
+            return Err(OpenFault::BadSize);
+        }
+        let heap = Heap::open(alloc, id, units, 0)?;
+        Ok(OffsetArena { heap, unit })
+    }
+
+    /// Gives a span of at least `len` bytes, by good fit (ECRTS 2004, sections 3 and 4).
+    ///
+    /// Refused as `NoFit` where no free block lies in a class at or above the search class of the units wanted, else as `Worn` where the
+    /// tick is at its last value. Takes no memory.
+    ///
+    /// ```text
+    /// let span = arena.allocate(1_000_000)?;       // units of 64 KiB: 16 of them, 1,048,576 bytes
+    /// ```
+    pub fn allocate(&mut self, len: u64) -> Result<Span, Refusal>
+        ensures answer { MatchResult result (λ span. (allocated_words SLI self.old.heap (units_for self.old.unit len) 0).answer ≡ Ok span.name) (λ why. (allocated_words SLI self.old.heap (units_for self.old.unit len) 0).answer ≡ Err why) }
+        ensures heap { self.new.heap ≡ (allocated_words SLI self.old.heap (units_for self.old.unit len) 0).heap }
+
+        // What that comes to. A refusal changes nothing.
+        ensures no_fit { IsErrOf result Refusal.NoFit ↔ (fits SLI (units_for self.old.unit len) self.old.heap.blocks ≡ []) }
+        ensures ok { IsOk result ↔ (¬ (fits SLI (units_for self.old.unit len) self.old.heap.blocks ≡ []) × ¬ (self.old.heap.tick ≡ last_tick)) }
+        ensures err { OnErr result (self.new.heap ≡ self.old.heap) }
+
+        // The span is held, has the bytes asked for, and fewer than four units more; those that were held still are.
+        ensures held { IfOk result (λ span. IsHeld self.new span) }
+        ensures enough { IfOk result (λ span. len ≤ span.size) }
+        ensures close { IfOk result (λ span. span.size < self.old.unit * (units_for self.old.unit len + 4)) }
+        ensures others { (other : Span) → IsHeld self.old other → IsHeld self.new other }
+        ensures new { IfOk result (λ span. (other : Span) → IsHeld self.old other → other.name ≢ span.name) }
+        ensures unit { self.new.unit ≡ self.old.unit }
+        ensures was_lawful { IsOffsets SLI self.old }
+        ensures lawful { IsOffsets SLI self.new }
+
+        // However large it is.
+        ensures touches { self.new.touches ≤ self.old.touches + 64 }
+        ensures touches_rise { self.old.touches ≤ self.new.touches }
+    {
+        match self.heap.allocate_words(units_of(self.unit, len), 0) {
+            Ok(name) => Ok(self.span_of(name)),
+            Err(why) => Err(why),
+        }
+    }
+
+    /// Takes the span of that name back, and merges its block with the free neighbours (ECRTS 2004, section 4).
+    ///
+    /// Refused as `Foreign` where the name is of another arena, else as `Stale` where no span of that name is held, else as `Worn` where the
+    /// tick is at its last value. Takes no memory.
+    ///
+    /// ```text
+    /// arena.release(span.name) == Ok(())
+    /// arena.release(span.name) == Err(Refusal::Stale)
+    /// ```
+    pub fn release(&mut self, name: Name) -> Result<(), Refusal>
+        ensures answer { result ≡ (released self.old.heap name).answer }
+        ensures heap { self.new.heap ≡ (released self.old.heap name).heap }
+
+        // A refusal changes nothing. Spans of other names are held as before, and one of this name no more.
+        ensures err { OnErr result (self.new.heap ≡ self.old.heap) }
+        ensures others { KeepsOthers self.old self.new name }
+        ensures gone { OnOk result ((span : Span) → IsHeld self.new span → span.name ≢ name) }
+        ensures unit { self.new.unit ≡ self.old.unit }
+        ensures was_lawful { IsOffsets SLI self.old }
+        ensures lawful { IsOffsets SLI self.new }
+        ensures touches { self.new.touches ≤ self.old.touches + 64 }
+        ensures touches_rise { self.old.touches ≤ self.new.touches }
+    {
+        self.heap.release(name)
+    }
+
+    /// Makes the span of that name hold `len` bytes where it lies: its offset and its name stay. It takes in the free units behind it
+    /// where it grows, and gives back those that it needs no more, where there are four or more of them.
+    ///
+    /// Refused as `Foreign` where the name is of another arena, else as `Stale` where no span of that name is held, else as `NoRoom` where
+    /// it and the free units behind it are fewer than wanted, else as `Worn` where the tick is at its last value. Takes no memory.
+    ///
+    /// ```text
+    /// let longer = arena.resize(span.name, 3_000_000)?;    // the same offset, 3,014,656 bytes
+    /// ```
+    pub fn resize(&mut self, name: Name, len: u64) -> Result<Span, Refusal>
+        ensures answer { MatchResult result (λ span. ((resized_words self.old.heap name (units_for self.old.unit len) 0).answer ≡ Ok tt) × (span.name ≡ name)) (λ why. (resized_words self.old.heap name (units_for self.old.unit len) 0).answer ≡ Err why) }
+        ensures heap { self.new.heap ≡ (resized_words self.old.heap name (units_for self.old.unit len) 0).heap }
+
+        // A refusal changes nothing. Spans of other names are held as before.
+        ensures err { OnErr result (self.new.heap ≡ self.old.heap) }
+        ensures held { IfOk result (λ span. IsHeld self.new span) }
+        ensures enough { IfOk result (λ span. len ≤ span.size) }
+        ensures others { KeepsOthers self.old self.new name }
+        ensures unit { self.new.unit ≡ self.old.unit }
+        ensures was_lawful { IsOffsets SLI self.old }
+        ensures lawful { IsOffsets SLI self.new }
+        ensures touches { self.new.touches ≤ self.old.touches + 68 }
+        ensures touches_rise { self.old.touches ≤ self.new.touches }
+    {
+        match self.heap.resize_words(name, units_of(self.unit, len), 0) {
+            Ok(()) => Ok(self.span_of(name)),
+            Err(why) => Err(why),
+        }
+    }
+
+    /// What is held and what is free, by a walk over all blocks: for whoever looks on, not for a call with a deadline.
+    ///
+    /// ```text
+    /// arena.usage()        // Usage { spans: 1, held: 1_048_576, free: 267_386_880, largest: 267_386_880 }
+    /// ```
+    pub fn usage(&mut self) -> Usage
+        ensures usage { result ≡ usage_of SLI self.old }
+        ensures same { (self.new.heap ≡ self.old.heap) × (self.new.unit ≡ self.old.unit) }
+        ensures touches { self.new.touches ≤ self.old.touches + 2 * length self.old.heap.blocks }
+    {
+        let report = self.heap.report();
+        Usage {
+            spans: report.live_blocks,
+            held: self.bytes(report.live_words),
+            free: self.bytes(report.free_words),
+            largest: self.bytes(report.largest),
+        }
+    }
+
+    /// The bytes of so many units.
+    fn bytes(&self, units: u32) -> u64
+        ensures { result ≡ self.now.unit * units }
+    {
+        u64::from(self.unit) * u64::from(units)
+    }
+
+    /// The span of a name that is live.
+    fn span_of(&mut self, name: Name) -> Span
+        requires { IsLive self.old.heap name }
+        ensures held { IsHeld self.old result }
+        ensures name { result.name ≡ name }
+        ensures same { (self.new.heap ≡ self.old.heap) × (self.new.unit ≡ self.old.unit) }
+        ensures touches { self.new.touches ≤ self.old.touches + 4 }
+        ensures touches_rise { self.old.touches ≤ self.new.touches }
+    {
+        let size = match self.heap.block_at(name.at) {
+            Some(block) => block.size,
+            None => 0,
+        };
+        Span {
+            name,
+            offset: self.bytes(name.at),
+            size: self.bytes(size),
+        }
+    }
+}

@@ -1,0 +1,13 @@
+use tlsf_heap::Name;
+
+/// Bytes of the memory that an [`OffsetArena`](crate::OffsetArena) cuts up, under the name that they go back by.
+#[derive(Clone, Copy, Debug, PartialEq, Eq)]
+pub struct Span {
+    /// The name of its block.
+    pub name: Name,
+    /// How many bytes of the memory lie before it.
+    pub offset: u64,
+    /// Its bytes: those that were asked for, rounded up to whole units, four at least, and the up to three units more that were too few
+    /// to be a block.
+    pub size: u64,
+}
