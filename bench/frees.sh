@@ -29,7 +29,8 @@ cc -O2 -Wall -Wextra -shared -fPIC -o "$work/pin.so" "$top/bench/pin/pin.c" -ldl
 cc -O2 -Wall -Wextra -o "$work/others" "$top/bench/frees/others.c" -pthread
 columns='lanes queue malloc'
 for library in mimalloc:libmimalloc.so.2 jemalloc:libjemalloc.so.2; do
-    if [ -z "$(LD_PRELOAD=${library#*:} true 2>&1)" ]; then
+    # `env` is started, as a builtin word is not, so the loader says whether the library is there.
+    if [ -z "$(LD_PRELOAD=${library#*:} env true 2>&1)" ]; then
         columns="$columns ${library%%:*}"
     else
         echo "frees.sh: ${library#*:} isn't there, and left out" >&2

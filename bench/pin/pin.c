@@ -1,26 +1,53 @@
 /* Stands before the C library (LD_PRELOAD) and keeps each thread on a processor of its own, of those that the process may use: the first
- * thread on the first of them, and each that is started on the next, all over again from the first behind the last. */
+ * thread on the first of them, and each that is started on the next, all over again from the first behind the last. One processor of each
+ * core comes first, then the second ones, since two of one core share its caches. */
 #define _GNU_SOURCE
 #include <dlfcn.h>
 #include <pthread.h>
 #include <sched.h>
 #include <stdatomic.h>
+#include <stdio.h>
 
-static cpu_set_t may;
+static int order[CPU_SETSIZE], count;
 static atomic_int started;
+
+/* The least processor of its core; its own number where the system doesn't tell. */
+static int core_of(int processor) {
+    char path[80];
+    int core = processor;
+    snprintf(path, sizeof path, "/sys/devices/system/cpu/cpu%d/topology/thread_siblings_list", processor);
+    FILE *file = fopen(path, "r");
+    if (file) {
+        if (fscanf(file, "%d", &core) != 1) core = processor;
+        fclose(file);
+    }
+    return core;
+}
 
 /* The processor of the thread that is started as number `number`, from 0. */
 static cpu_set_t processor_of(int number) {
     cpu_set_t one;
-    int before = number % CPU_COUNT(&may), at = 0;
-    while (!CPU_ISSET(at, &may) || before--) at++;
     CPU_ZERO(&one);
-    CPU_SET(at, &one);
+    CPU_SET(order[number % count], &one);
     return one;
 }
 
 __attribute__((constructor)) static void start(void) {
+    cpu_set_t may;
+    int core[CPU_SETSIZE], placed[CPU_SETSIZE] = {0};
+    CPU_ZERO(&may);
     if (sched_getaffinity(0, sizeof may, &may) || !CPU_COUNT(&may)) CPU_SET(0, &may);
+    for (int at = 0; at < CPU_SETSIZE; at++)
+        if (CPU_ISSET(at, &may)) core[at] = core_of(at);
+    while (count < CPU_COUNT(&may)) {
+        int used[CPU_SETSIZE] = {0};
+        for (int at = 0; at < CPU_SETSIZE; at++)
+            if (CPU_ISSET(at, &may) && !placed[at] && !used[core[at] % CPU_SETSIZE]) {
+                used[core[at] % CPU_SETSIZE] = 1;
+                placed[at] = 1;
+                order[count++] = at;
+            }
+    }
     const cpu_set_t one = processor_of(0);
     sched_setaffinity(0, sizeof one, &one);
 }

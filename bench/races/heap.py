@@ -1,28 +1,32 @@
 """The sequential heap, as docs/MODEL.md tells it in words: a list of blocks, searched from end to end."""
 
-MOST_WORDS = 1 << 20
-NO_FIT, FOREIGN, STALE, RANGE = 1, 3, 4, 7
+MOST_WORDS = {4: 1 << 20, 5: 1 << 24}
+NO_FIT, FOREIGN, STALE, RANGE, NO_ROOM = 1, 3, 4, 7, 10
 
 
-def class_of(size):
+def class_of(size, level):
     """The class of a size in words."""
-    if size < 16:
-        return size
-    level = size.bit_length() - 4
-    return 16 * level + ((size >> (level - 1)) - 16)
+    row = max(size.bit_length() - level, 0)
+    return size if row == 0 else (row << level) + (size >> (row - 1)) - (1 << level)
 
 
-def low(number):
+def low(number, level):
     """The least size of a class, in words."""
-    level = number // 16
-    return number if level == 0 else (16 + number % 16) << (level - 1)
+    row = number >> level
+    return number if row == 0 else number - ((row - 1) << level) << (row - 1)
 
 
-def search_of(size):
+def search_of(size, level):
     """The least class whose least size is at least the size, or none."""
-    if size > MOST_WORDS:
+    if size > MOST_WORDS[level]:
         return None
-    return class_of(size) if low(class_of(size)) == size else class_of(size) + 1
+    number = class_of(size, level)
+    return number if low(number, level) == size else number + 1
+
+
+def want(length):
+    """The words that a request of so many bytes wants."""
+    return max(4, 3 + (length + 7) // 8)
 
 
 class Block:
@@ -33,7 +37,8 @@ class Block:
 
 
 class Heap:
-    def __init__(self, words):
+    def __init__(self, words, level):
+        self.level = level
         # The tick that the next accepted call gets.
         self.tick = 1
         self.blocks = [Block(0, words, 0)]
@@ -48,19 +53,22 @@ class Heap:
 
     def allocate(self, length):
         """The place and the serial, or a refusal's number."""
-        want = max(4, 3 + (length + 7) // 8)
-        search = search_of(want)
-        fits = [block for block in self.free() if search is not None and class_of(block.size) >= search]
+        search = search_of(want(length), self.level)
+        fits = [block for block in self.free() if search is not None and class_of(block.size, self.level) >= search]
         if not fits:
             return NO_FIT
-        block = min(fits, key=lambda block: (class_of(block.size), -block.tick))
-        at, tick = self.blocks.index(block), self.take_tick()
-        if block.size - want >= 4:
-            self.blocks.insert(at + 1, Block(block.place + want, block.size - want, tick))
-            block.size = want
+        block = min(fits, key=lambda block: (class_of(block.size, self.level), -block.tick))
+        tick = self.take_tick()
+        if block.size - want(length) >= 4:
+            self.cut(block, want(length), tick)
         block.tick, block.payload = tick, bytearray(length)
         self.live[block.place, tick] = block
         return block.place, tick
+
+    def cut(self, block, words, tick):
+        """Leaves a block so many words. Those behind them are a free block."""
+        self.blocks.insert(self.blocks.index(block) + 1, Block(block.place + words, block.size - words, tick))
+        block.size = words
 
     def release(self, name):
         """Nothing, or a refusal's number."""
@@ -68,13 +76,35 @@ class Heap:
         if block is None:
             return STALE
         block.tick, block.payload = self.take_tick(), None
-        at = self.blocks.index(block)
+        self.merge(self.blocks.index(block))
+        return None
+
+    def merge(self, at):
+        """Makes one block of the free one with that index and its free neighbours, of the newest stamp."""
         for one in (at, at - 1):
             both = self.blocks[one:one + 2] if one >= 0 else []
             if len(both) == 2 and both[0].payload is None and both[1].payload is None:
                 both[0].size += both[1].size
                 both[0].tick = max(both[0].tick, both[1].tick)
                 del self.blocks[one + 1]
+
+    def resize(self, name, length):
+        """Nothing, or a refusal's number."""
+        block = self.live.get(name)
+        if block is None:
+            return STALE
+        at, words = self.blocks.index(block), want(length)
+        behind = self.blocks[at + 1] if at + 1 < len(self.blocks) and self.blocks[at + 1].payload is None else None
+        if block.size + (behind.size if behind else 0) < words:
+            return NO_ROOM
+        tick = self.take_tick()
+        if block.size < words:
+            block.size += behind.size
+            del self.blocks[at + 1]
+        if block.size - words >= 4:
+            self.cut(block, words, tick)
+            self.merge(at + 1)
+        block.payload = block.payload[:length] + bytes(max(0, length - len(block.payload)))
         return None
 
     def payload(self, name, at, count):
@@ -92,7 +122,7 @@ class Heap:
         free = self.free()
         left = sum(block.size for block in free)
         largest = max((block.size for block in free), default=0)
-        grant = 8 * (low(class_of(largest)) - 3) if free else 0
+        grant = 8 * (low(class_of(largest, self.level), self.level) - 3) if free else 0
         apart = 1000 - 1000 * largest // left if free else 0
         age = self.tick - min((block.tick for block in free), default=self.tick)
         return (f"heap {number} live {len(live)} {words} {size} free {len(free)} {left} largest {largest} "

@@ -1,23 +1,23 @@
 """Judges texts that `tlsf race` wrote for a trace, from the trace and the text alone.
 
-usage: judge.py TRACE TEXT..
+usage: judge.py [--queues] TRACE TEXT..
 
 Each worker's lines have to be those of its script, answered by its own sequential heap, in its order; takes stand where
-the text has them. Each lane's takes are the posts of the other side, in order and each once, and some order of all
-posts and takes keeps every lane within its capacity. The report lines are those of the heaps that this leaves.
+the text has them. What was posted in a phase is what was taken in it, poster by poster and in order; some order of all
+posts and takes keeps every lane, or with --queues every queue, within its capacity; and a look that found one full or
+empty isn't behind what it would have had to see (order.py). The report lines are those of the heaps that this leaves.
 
-It also damages the first text that it accepts in many ways, and has to refuse each. The last line is
+It also damages the first text that it accepts in many ways (damage.py), and has to refuse each. The last line is
 'N texts, D different, R refused', and the exit status is 0 where R is 0 and no damage went unseen.
 """
 import random
 import sys
+import damage
+import order
 from heap import FOREIGN, Heap
+from order import Act, Illegal
 
 FULL, UNMADE, LAST = 8, 18, 8192
-
-
-class Illegal(Exception):
-    """What is wrong, and at which line of the text."""
 
 
 class Text:
@@ -42,14 +42,18 @@ class Text:
 class Race:
     """The heaps, and the names of the labels: the heap, the place and the serial, or none where it was refused."""
 
-    def __init__(self, header):
-        _, _, count, words, capacity = header.split(" ")
-        self.count, self.capacity = int(count), int(capacity)
-        self.heaps = [Heap(int(words)) for _ in range(self.count)]
+    def __init__(self, header, over_queues):
+        _, version, count, words, capacity = header.split(" ")
+        self.count, self.capacity, self.over_queues = int(count), int(capacity), over_queues
+        self.heaps = [Heap(int(words), int(version) + 3) for _ in range(self.count)]
         self.labels = {}
 
+    def port(self, poster, owner):
+        """What a poster's posts to an owner go through, in words."""
+        return f"the queue of {owner}" if self.over_queues else f"the lane from {poster} to {owner}"
+
     def run(self, text, worker, line):
-        """Judges the lines of a call, and tells what it did to lanes."""
+        """Judges the lines of a call, and tells what it did to ports."""
         kind, _, *fields = line.split(" ")
         if kind == "d":
             return self.drain(text, worker, int(fields[0]))
@@ -67,7 +71,7 @@ class Race:
         elif self.labels[label][0] != worker:
             text.expect(f"{start}refused {FOREIGN}")
         else:
-            text.expect(start + self.touch(worker, kind, label, fields))
+            text.expect(start + self.touch(worker, kind, self.labels[label][1], fields))
         return []
 
     def release(self, text, worker, start, owner, name):
@@ -76,13 +80,16 @@ class Race:
             text.expect(start + (f"refused {refused}" if refused else "freed"))
             return []
         posted = text.expect(f"{start}posted", f"{start}refused {FULL}").endswith("posted")
-        return [("post" if posted else "full", owner, name)]
+        return [Act("post" if posted else "full", self.port(worker, owner), worker, name)]
 
-    def touch(self, worker, kind, label, fields):
-        """What a write or a read of an own block is answered."""
+    def touch(self, worker, kind, name, fields):
+        """What a resize, a write or a read of an own block is answered."""
+        if kind == "r":
+            refused = self.heaps[worker].resize(name, int(fields[1]))
+            return f"refused {refused}" if refused else "resized"
         given = bytes.fromhex(fields[2]) if kind == "p" else b""
         start, count = int(fields[1]), len(given) if kind == "p" else int(fields[2])
-        payload = self.heaps[worker].payload(self.labels[label][1], start, count)
+        payload = self.heaps[worker].payload(name, start, count)
         if isinstance(payload, int):
             return f"refused {payload}"
         if kind == "g":
@@ -91,72 +98,49 @@ class Race:
         return f"wrote {count}"
 
     def drain(self, text, worker, most):
-        took, lane = [], 0
-        while (line := text.next()) != f"{worker} d drained {len(took)}":
+        took, acts, lane = 0, [], 0
+        while (line := text.next()) != f"{worker} d drained {took}":
             fields = line.split(" ")
-            if len(fields) < 8 or fields[:2] != [str(worker), "take"] or len(took) == most:
-                raise Illegal(f"line {text.at}: '{line}' in a drain that took {len(took)}")
-            before, lane = lane, int(fields[2])
-            name = int(fields[4]), int(fields[6])
+            if len(fields) < 8 or fields[:2] != [str(worker), "take"] or took == most:
+                raise Illegal(f"line {text.at}: '{line}' in a drain that took {took}")
+            poster, name = int(fields[2]), (int(fields[4]), int(fields[6]))
             refused = self.heaps[worker].release(name)
-            if lane < before or lane == worker or lane >= self.count:
-                raise Illegal(f"line {text.at}: a take from {lane} behind one from {before}")
-            if line != (f"{worker} take {lane} at {name[0]} serial {name[1]} "
+            if poster == worker or poster >= self.count:
+                raise Illegal(f"line {text.at}: a take from {poster}")
+            if line != (f"{worker} take {poster} at {name[0]} serial {name[1]} "
                         + (f"refused {refused}" if refused else "freed")):
                 raise Illegal(f"line {text.at}: '{line}', and the heap answers {refused}")
-            took.append(("take", lane, name))
-        return took
+            if not self.over_queues:
+                if poster < lane:
+                    raise Illegal(f"line {text.at}: a take from {poster} behind one from {lane}")
+                acts += self.looks(worker, range(lane, poster))
+                lane = poster
+            acts.append(Act("take", self.port(poster, worker), poster, name))
+            took += 1
+        return acts + (self.looks(worker, range(lane, self.count)) if took < most else [])
+
+    def looks(self, worker, posters):
+        """The looks that a drain ends with: at each of these lanes, or at the own queue."""
+        ports = dict.fromkeys(self.port(poster, worker) for poster in posters if poster != worker)
+        return [Act("empty", port) for port in ports]
 
     def phase(self, text, lines):
+        own = [[] for _ in range(self.count)]
+        for line in lines:
+            own[int(line.split(" ", 2)[1])].append(line)
         scripts, drains = [], []
         for worker in range(self.count):
-            own = [line for line in lines if line.split(" ")[1] == str(worker)]
-            scripts.append([step for line in own for step in self.run(text, worker, line)])
+            scripts.append([act for line in own[worker] for act in self.run(text, worker, line)])
             drains.append(self.drain(text, worker, LAST))
-        lanes = {(i, j): Lane(self.capacity) for i in range(self.count) for j in range(self.count)}
-        advance(lanes, scripts)
-        advance(lanes, drains)
-        if any(lane.taken != lane.posted for lane in lanes.values()):
-            raise Illegal(f"a post waits behind the phase that ends at line {text.at}")
+        try:
+            order.check(scripts, drains, self.capacity)
+        except Illegal as why:
+            raise Illegal(f"{why}, in the phase that ends at line {text.at}") from None
 
 
-class Lane:
-    def __init__(self, capacity):
-        self.capacity, self.posted, self.taken = capacity, [], []
-
-    def admits(self, kind, name):
-        """Whether a step may be made now."""
-        if kind == "take":
-            return self.posted[:len(self.taken) + 1] == self.taken + [name]
-        if kind == "post":
-            return len(self.posted) < len(self.taken) + self.capacity
-        return len(self.posted) >= self.capacity
-
-
-def advance(lanes, scripts):
-    """Makes the steps of all workers in some order that each lane admits. A step never hinders another worker's."""
-    at = [0] * len(scripts)
-    moved = True
-    while moved:
-        moved = False
-        for worker, steps in enumerate(scripts):
-            while at[worker] < len(steps):
-                kind, other, name = steps[at[worker]]
-                lane = lanes[(other, worker) if kind == "take" else (worker, other)]
-                if not lane.admits(kind, name):
-                    break
-                if kind != "full":
-                    (lane.taken if kind == "take" else lane.posted).append(name)
-                at[worker] += 1
-                moved = True
-    for worker, steps in enumerate(scripts):
-        if at[worker] < len(steps):
-            raise Illegal(f"worker {worker} can't make its {steps[at[worker]]} in any order")
-
-
-def judge(trace, lines):
+def judge(trace, lines, over_queues):
     """Raises Illegal where the lines are none that a race of the trace may write."""
-    race, text = Race(trace[0]), Text(lines)
+    race, text = Race(trace[0], over_queues), Text(lines)
     phase = []
     for line in trace[1:] + ["phase"]:
         if line == "phase":
@@ -170,46 +154,19 @@ def judge(trace, lines):
         raise Illegal(f"line {text.at + 1}: one too many")
 
 
-def is_legal(trace, lines):
+def is_legal(trace, lines, over_queues):
     try:
-        judge(trace, lines)
+        judge(trace, lines, over_queues)
     except (Illegal, ValueError, KeyError):
         return False
     return True
 
 
-def more(line, field, by):
-    """The line with a number in it raised."""
-    fields = line.split(" ")
-    fields[field] = str(int(fields[field]) + by)
-    return " ".join(fields)
-
-
-def damages(lines):
-    """The text in wrong forms: lines exchanged, takes dropped and doubled, other serials, places and answers."""
-    for at, line in enumerate(lines):
-        fields = line.split(" ")
-        if at + 1 < len(lines) and lines[at + 1] != line:
-            yield lines[:at] + [lines[at + 1], line] + lines[at + 2:]
-        if "serial" in fields:
-            for field in (fields.index("serial") + 1, fields.index("at") + 1):
-                yield lines[:at] + [more(line, field, 1)] + lines[at + 1:]
-        if fields[1] == "take":
-            end = next(i for i in range(at, len(lines)) if lines[i].split(" ")[1] == "d")
-            for times, by in ((0, -1), (2, 1)):
-                yield lines[:at] + [line] * times + lines[at + 1:]
-                yield lines[:at] + [line] * times + lines[at + 1:end] + [more(lines[end], 3, by)] + lines[end + 1:]
-        if fields[-1] == "posted":
-            yield lines[:at] + [line.replace("posted", f"refused {FULL}")] + lines[at + 1:]
-        if fields[1] == "f" and fields[-1] == str(FULL):
-            yield lines[:at] + [line.replace(f"refused {FULL}", "posted")] + lines[at + 1:]
-
-
-def self_test(trace, lines):
+def self_test(trace, lines, over_queues):
     """Has 500 of the damaged forms of a legal text refused, or all where there are fewer."""
-    forms = list(damages(lines))
-    tried = random.Random(1).sample(forms, min(500, len(forms)))
-    missed = [form for form in tried if is_legal(trace, form)]
+    ways = [changes for _, changes in damage.ways(trace, lines, over_queues)]
+    tried = random.Random(1).sample(ways, min(500, len(ways)))
+    missed = [it for it in tried if is_legal(trace, damage.changed(lines, it), over_queues)]
     if missed:
         sys.exit(f"judge: {len(missed)} of {len(tried)} damaged texts are not refused")
     print(f"judge: {len(tried)} damaged texts are refused")
@@ -220,19 +177,20 @@ def read_lines(path):
         return file.read().split("\n")[:-1]
 
 
-def main(paths):
+def main(words):
+    over_queues, paths = words[0] == "--queues", [word for word in words if word != "--queues"]
     trace = read_lines(paths[0])
     seen, refused = {}, 0
     for path in paths[1:]:
         lines = tuple(read_lines(path))
         if lines not in seen:
-            seen[lines] = is_legal(trace, list(lines))
+            seen[lines] = is_legal(trace, list(lines), over_queues)
         if not seen[lines]:
             refused += 1
             print(f"judge: {path} is refused")
     legal = [lines for lines, accepted in seen.items() if accepted]
     if legal:
-        self_test(trace, list(legal[0]))
+        self_test(trace, list(legal[0]), over_queues)
     print(f"{len(paths) - 1} texts, {len(seen)} different, {refused} refused")
     return 1 if refused else 0
 
