@@ -34,9 +34,7 @@ fn main(rt: HostRuntime) -> Result<(), Error> {
     for buffer in &[vertices, texture, lights] {
         println!(rt;
             "{} at {}, {} bytes",
-            buffer.label,
-            buffer.span.offset,
-            buffer.span.size
+            buffer.label, buffer.span.offset, buffer.span.size
         )?;
     }
 
@@ -48,10 +46,7 @@ fn main(rt: HostRuntime) -> Result<(), Error> {
     let usage = memory.usage();
     println!(rt;
         "{} buffers, {} bytes; {} free, {} of them in one piece",
-        usage.spans,
-        usage.held,
-        usage.free,
-        usage.largest
+        usage.spans, usage.held, usage.free, usage.largest
     )?;
     Ok(())
 }

@@ -57,7 +57,11 @@ pub fn open_yard<const SLI: u32>(
 }
 
 /// Refuses a yard of numbers out of their ranges.
-pub(crate) fn check_sizes<const SLI: u32>(n: u32, words: u32, capacity: u32) -> Result<(), OpenFault>
+pub(crate) fn check_sizes<const SLI: u32>(
+    n: u32,
+    words: u32,
+    capacity: u32,
+) -> Result<(), OpenFault>
     requires { IsLevel SLI }
     ensures sizes { OnOk result (AreSizes SLI n words capacity) }
     ensures bad_size { IsErrOf result OpenFault.BadSize ↔ ¬ (AreSizes SLI n words capacity) }
