@@ -1,2 +1,2 @@
--- The lemmas, by the folder of src/ whose functions need them.
+-- The lemmas, by the folder of what they are on.
 pub mod lemmas

@@ -32,33 +32,38 @@
 //! A [`LockedHeap`] is a heap without an owner, outside any yard; it is `tlsf_lock`'s.
 #![tactic(auto)]
 
-mod ports;
+mod fair_runs;
+mod histories;
+mod jobs;
+mod lanes;
 mod queues;
-mod threads;
+mod race_laws;
+mod races;
+mod replays;
+mod scripts;
 mod worker;
-mod yard;
 
-pub use ports::Ports;
-pub use queues::queue_laws::{
-    one_history_of_a_queue_race, queue_race_without_takes, queues_join_the_yard,
-};
+pub use fair_runs::laws::some_run_is_fair;
+pub use histories::history::one_history;
+pub use jobs::gate::{Gate, OpenGate};
+pub use jobs::outcome::{Outcome, QueueOutcome};
+pub use lanes::laws::lanes_join_the_yard;
+pub use lanes::opening::open_yard;
+pub use lanes::settle::settle;
+pub use queues::queue_laws::queues_join_the_yard;
 pub use queues::queue_opening::open_queue_yard;
-pub use queues::queue_race::race_queues;
 pub use queues::queue_settle::settle_queues;
 pub use queues::queues::{QueueWorker, Queues};
-pub use threads::alone::race_without_takes;
-pub use threads::gate::{Gate, OpenGate};
-pub use threads::laws::one_history_of_a_race;
-pub use threads::outcome::{Outcome, QueueOutcome};
-pub use threads::race::race;
+pub use race_laws::alone::race_without_takes;
+pub use race_laws::laws::one_history_of_a_race;
+pub use race_laws::queue_laws::{one_history_of_a_queue_race, queue_race_without_takes};
+pub use races::queue_race::race_queues;
+pub use races::race::race;
+pub use replays::replay::{replay_behind, replay_events};
 pub use tlsf_calls::{
     Call, Chunk, CrewRefusal, Drained, Entry, Event, MOST_DRAINED, Released, Reply, Target, Took,
 };
 pub use tlsf_lock::{Counted, LockedHeap};
-pub use worker::Worker;
-pub use yard::history::one_history;
-pub use yard::lanes::Lanes;
-pub use yard::laws::{lanes_join_the_yard, some_run_is_fair};
-pub use yard::opening::open_yard;
-pub use yard::replay::{replay_behind, replay_events};
-pub use yard::settle::settle;
+pub use worker::lanes::Lanes;
+pub use worker::ports::Ports;
+pub use worker::worker::Worker;

@@ -1,7 +1,6 @@
-//! A yard over queues: one queue for each owner, into which all others post; its workers, and what a race over it tells.
+//! A yard over queues: one for each owner, into which all others post; its opening, its settling, and what its workers do.
 
 pub(crate) mod queue_laws;
 pub(crate) mod queue_opening;
-pub(crate) mod queue_race;
 pub(crate) mod queue_settle;
 pub(crate) mod queues;

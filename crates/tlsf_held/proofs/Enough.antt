@@ -13,10 +13,9 @@ use Rattle.tlsf_heap.specs.declared.refusal.Refusal.{Refusal}
 use Rattle.tlsf_laws.specs.Held.{held_after}
 use Rattle.tlsf_laws.specs.Pools.{pool_region, pool_words, AreModest, HasRoomFor}
 use Rattle.tlsf_calls.specs.declared.event.Event.{Event}
-use Rattle.tlsf_crew.specs.yard.History.{answers_on, calls_on, handed_on}
-use Rattle.tlsf_crew.specs.yard.World.{World, heap_in, replies}
-use Rattle.tlsf_crew.specs.yard.Yard.{no_heap}
-use Rattle.tlsf_crew.proofs.lemmas.yard.AllEntries.{replies_tell}
+use Rattle.tlsf_crew.specs.histories.History.{answers_on, calls_on, handed_on}
+use Rattle.tlsf_crew.specs.model.World.{World, heap_in, replies, no_heap}
+use Rattle.tlsf_crew.proofs.lemmas.histories.AllEntries.{replies_tell}
 use Rattle.tlsf_yard_laws.proofs.Told.{never_refuses}
 use Rattle.tlsf_lines.specs.Events.{events_of}
 use Rattle.tlsf_lines.specs.Versions.{level_of}

@@ -19,10 +19,10 @@ use Rattle.tlsf_calls.specs.declared.entry.Entry.{Entry}
 use Rattle.tlsf_calls.specs.declared.event.Event.{Event}
 use Rattle.tlsf_calls.specs.declared.reply.Reply.{Reply}
 use Rattle.tlsf_calls.specs.declared.reply.Reply.TheVariants.{Made, Freed, Posted, Wrote, Got, Resized, Took, Empty, Drained, Refused}
-use Rattle.tlsf_crew.specs.yard.History.{answer_told, answers_on, call_on_own, calls_on, entries_of, meant, of_heap}
-use Rattle.tlsf_crew.specs.yard.World.{World, replies}
-use Rattle.tlsf_crew.proofs.lemmas.yard.AllEntries.{replies_tell}
-use Rattle.tlsf_crew.proofs.lemmas.yard.JoinedEntries.{HasItsAnswer}
+use Rattle.tlsf_crew.specs.histories.History.{answer_told, answers_on, call_on_own, calls_on, entries_of, meant, of_heap}
+use Rattle.tlsf_crew.specs.model.World.{World, replies}
+use Rattle.tlsf_crew.proofs.lemmas.histories.AllEntries.{replies_tell}
+use Rattle.tlsf_crew.proofs.lemmas.histories.JoinedEntries.{HasItsAnswer}
 use Rattle.tlsf_lines.specs.Events.{events_of}
 use Rattle.tlsf_lines.specs.Trace.{Trace}
 use Rattle.tlsf_lines.specs.declared.header.Header.{Header}

@@ -4,7 +4,7 @@ use Rattle.std.specs.List.{AllByRecursion}
 use Rattle.tlsf_heap.specs.Calls.{Call, Answer}
 use Rattle.tlsf_heap.specs.Lawful.{IsRegion}
 use Rattle.tlsf_laws.specs.Pools.{AreModest, HasRoomFor}
-use Rattle.tlsf_crew.specs.yard.History.{answers_on, calls_on}
+use Rattle.tlsf_crew.specs.histories.History.{answers_on, calls_on}
 use Rattle.tlsf_held.specs.HeldLines.{held_region, held_text}
 use Rattle.tlsf_lines.specs.Trace.{Trace}
 use Rattle.tlsf_lines.specs.declared.trace_fault.TraceFault.{TraceFault}

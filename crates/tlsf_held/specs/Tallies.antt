@@ -4,7 +4,7 @@ use Rattle.tlsf_calls.specs.declared.call.Call.{Call}
 use Rattle.tlsf_calls.specs.declared.call.Call.TheVariants.{Allocate, Release, Resize, Take}
 use Rattle.tlsf_calls.specs.declared.entry.Entry.{Entry}
 use Rattle.tlsf_calls.specs.declared.reply.Reply.{Reply}
-use Rattle.tlsf_crew.specs.yard.History.{entries_of}
+use Rattle.tlsf_crew.specs.histories.History.{entries_of}
 use Rattle.tlsf_held.specs.Replies.{is_freed, is_given, is_judged, is_post_freed}
 use Rattle.tlsf_held.specs.declared.tally.Tally.{Tally}
 

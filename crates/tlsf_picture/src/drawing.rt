@@ -1,5 +1,5 @@
 ghost use Rattle.std.specs.Prelude.{◌≡◌, IfOk, string_bytes};
-ghost use Rattle.tlsf_crew.specs.yard.Yard.{IsYard};
+ghost use Rattle.tlsf_crew.specs.lanes.Yard.{IsYard};
 ghost use Rattle.tlsf_picture.specs.Drawn.{Draws, IsDrawing};
 ghost use Rattle.tlsf_trace.specs.Ended.{HasYard, IsEnd, IsEndOfTrace};
 ghost use Rattle.tlsf_trace.specs.Output.{level_in};

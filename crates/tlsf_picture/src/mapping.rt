@@ -1,7 +1,7 @@
 //! What pictures of the heaps of workers are made of.
 ghost use Rattle.std.specs.Prelude.{◌≡◌, ◌<◌, ◌≤◌, ℕ, List, Option, length, map, IfOk};
-ghost use Rattle.tlsf_crew.specs.yard.Workers.{heap_of};
-ghost use Rattle.tlsf_crew.specs.yard.Yard.{IsYard};
+ghost use Rattle.tlsf_crew.specs.worker.Workers.{heap_of};
+ghost use Rattle.tlsf_crew.specs.lanes.Yard.{IsYard};
 ghost use Rattle.tlsf_heap.specs.Placed.{placed_blocks};
 ghost use Rattle.tlsf_picture.specs.Drawn.{AreMaps, IsMap, IsMapBy};
 ghost use Rattle.tlsf_picture.specs.Labelled.{known_in, labelled};

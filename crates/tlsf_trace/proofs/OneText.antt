@@ -4,13 +4,13 @@ use Rattle.std.specs.List.{AllByRecursion}
 use Rattle.tlsf_heap.specs.declared.name.Name.{Name}
 use Rattle.tlsf_calls.specs.declared.call.Call.{Call}
 use Rattle.tlsf_calls.specs.declared.entry.Entry.{Entry}
-use Rattle.tlsf_crew.specs.yard.World.{World}
-use Rattle.tlsf_crew.specs.threads.Alone.{OnlyLastDrains, TakesNoPost}
-use Rattle.tlsf_crew.specs.threads.Race.{IsRace}
-use Rattle.tlsf_crew.specs.queues.QueueAlone.{IsUncontendedRace}
-use Rattle.tlsf_crew.specs.queues.QueueRace.{IsQueueRace}
-use Rattle.tlsf_crew.proofs.lemmas.queues.QueueAlone.{queue_race_is_one, two_uncontended}
-use Rattle.tlsf_crew.proofs.lemmas.threads.OneRace.{race_is_one}
+use Rattle.tlsf_crew.specs.model.World.{World}
+use Rattle.tlsf_crew.specs.race_laws.Alone.{OnlyLastDrains, TakesNoPost}
+use Rattle.tlsf_crew.specs.races.Race.{IsRace}
+use Rattle.tlsf_crew.specs.race_laws.QueueAlone.{IsUncontendedRace}
+use Rattle.tlsf_crew.specs.races.QueueRace.{IsQueueRace}
+use Rattle.tlsf_crew.proofs.lemmas.race_laws.QueueAlone.{queue_race_is_one, two_uncontended}
+use Rattle.tlsf_crew.proofs.lemmas.race_laws.OneRace.{race_is_one}
 use Rattle.tlsf_lines.specs.Phases.{call_in, calls_from, in_first, is_line_of, known_below, none_known, own_lines, phases_of, script_in, scripts_in}
 use Rattle.tlsf_lines.specs.Records.{records_text}
 use Rattle.tlsf_lines.specs.Trace.{Trace}

@@ -3,8 +3,8 @@ use Rattle.std.proofs.Common.{◌≡◌, ◌++◌, ℕ, List, [], Option, ap, sy
 use Rattle.tlsf_heap.specs.declared.name.Name.{Name}
 use Rattle.tlsf_calls.specs.declared.entry.Entry.{Entry}
 use Rattle.tlsf_calls.specs.declared.event.Event.{Event}
-use Rattle.tlsf_crew.specs.yard.World.{World, replies_behind}
-use Rattle.tlsf_crew.proofs.lemmas.yard.InParts.{replies_in_parts, replies_none}
+use Rattle.tlsf_crew.specs.model.World.{World, replies_behind}
+use Rattle.tlsf_crew.proofs.lemmas.model.InParts.{replies_in_parts, replies_none}
 use Rattle.tlsf_lines.specs.ReplyLines.{labels_left, reply_text}
 use Rattle.tlsf_lines.proofs.ReplySteps.{reply_text-append}
 

@@ -16,15 +16,15 @@ use Rattle.tlsf_heap.proofs.Outcomes.{lawful_run}
 use Rattle.tlsf_calls.specs.Entries.{record_of}
 use Rattle.tlsf_calls.specs.declared.call.Call.{Call}
 use Rattle.tlsf_calls.specs.declared.entry.Entry.{Entry}
-use Rattle.tlsf_crew.specs.queues.QueueRace.{IsQueueRace}
-use Rattle.tlsf_crew.specs.threads.Race.{IsRace, last_call, script_of}
-use Rattle.tlsf_crew.specs.yard.History.{RunsTo, answer_told, answers_on, call_on_own, calls_on, posts_made, posts_taken}
-use Rattle.tlsf_crew.specs.yard.World.{World, heap_in}
-use Rattle.tlsf_crew.specs.yard.Yard.{no_heap}
-use Rattle.tlsf_crew.proofs.lemmas.queues.QueueRecords.{queue_race_answered, queue_race_posts, queue_race_runs, queue_race_tells}
-use Rattle.tlsf_crew.proofs.lemmas.threads.RecordHistory.{race_answered, race_posts, race_runs, race_tells}
-use Rattle.tlsf_crew.proofs.lemmas.yard.Fronts.{as_many, run_split}
-use Rattle.tlsf_crew.proofs.lemmas.yard.JoinedEntries.{HasItsAnswer, runs_then, told_then}
+use Rattle.tlsf_crew.specs.races.QueueRace.{IsQueueRace}
+use Rattle.tlsf_crew.specs.races.Race.{IsRace}
+use Rattle.tlsf_crew.specs.scripts.Scripts.{last_call, script_of}
+use Rattle.tlsf_crew.specs.histories.History.{RunsTo, answer_told, answers_on, call_on_own, calls_on, posts_made, posts_taken}
+use Rattle.tlsf_crew.specs.model.World.{World, heap_in, no_heap}
+use Rattle.tlsf_crew.proofs.lemmas.race_laws.QueueRecords.{queue_race_answered, queue_race_posts, queue_race_runs, queue_race_tells}
+use Rattle.tlsf_crew.proofs.lemmas.race_laws.RecordHistory.{race_answered, race_posts, race_runs, race_tells}
+use Rattle.tlsf_crew.proofs.lemmas.histories.Fronts.{as_many, run_split}
+use Rattle.tlsf_crew.proofs.lemmas.histories.JoinedEntries.{HasItsAnswer, runs_then, told_then}
 use Rattle.tlsf_lines.specs.Phases.{known_below, none_known, phases_of, script_in, scripts_in}
 use Rattle.tlsf_lines.specs.Records.{records_text}
 use Rattle.tlsf_lines.specs.Trace.{Trace}

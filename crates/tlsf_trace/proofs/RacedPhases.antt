@@ -9,8 +9,9 @@ use Rattle.tlsf_heap.specs.declared.name.Name.{Name}
 use Rattle.tlsf_crew.specs.queues.QueueYard.{queue_world_of}
 use Rattle.tlsf_calls.specs.declared.call.Call.{Call}
 use Rattle.tlsf_calls.specs.declared.entry.Entry.{Entry}
-use Rattle.tlsf_crew.specs.yard.Workers.{heap_of}
-use Rattle.tlsf_crew.specs.yard.World.{World, world_of}
+use Rattle.tlsf_crew.specs.worker.Workers.{heap_of}
+use Rattle.tlsf_crew.specs.model.World.{World}
+use Rattle.tlsf_crew.specs.lanes.Yard.{world_of}
 use Rattle.tlsf_lines.specs.Phases.{known_below, none_known, phases_of}
 use Rattle.tlsf_trace.specs.RaceOutput.{IsOutputBy, IsRaceText, Racing}
 use Rattle.tlsf_lines.specs.Records.{records_text}

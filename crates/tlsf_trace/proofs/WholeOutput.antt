@@ -2,10 +2,11 @@
 use Rattle.std.proofs.Common.{◌≡◌, ℕ, List, ◌++◌, map, Option, refl, ap, ◌∙◌}
 use Rattle.tlsf_calls.specs.declared.entry.Entry.{Entry}
 use Rattle.tlsf_calls.specs.declared.event.Event.{Event}
-use Rattle.tlsf_crew.specs.declared.worker.Worker.{Worker}
-use Rattle.tlsf_crew.specs.declared.yard.lanes.Lanes.{Lanes}
-use Rattle.tlsf_crew.specs.yard.World.{World, world_of, replies}
-use Rattle.tlsf_crew.specs.yard.Workers.{heap_of}
+use Rattle.tlsf_crew.specs.declared.worker.worker.Worker.{Worker}
+use Rattle.tlsf_crew.specs.declared.worker.lanes.Lanes.{Lanes}
+use Rattle.tlsf_crew.specs.model.World.{World, replies}
+use Rattle.tlsf_crew.specs.lanes.Yard.{world_of}
+use Rattle.tlsf_crew.specs.worker.Workers.{heap_of}
 use Rattle.tlsf_trace.specs.Output.{yard_of, output_at}
 use Rattle.tlsf_lines.specs.ReplyLines.{reply_text}
 use Rattle.tlsf_trace.specs.ReportLines.{report_text}

@@ -1,8 +1,7 @@
 -- A trace that has run to its end, before anything of it is shown.
 use Rattle.std.specs.Prelude.{◌≡◌, ℕ, List, Option, Some, Result, Ok, Err, IfSome}
 use Rattle.std.specs.Io.KnownBytes.{IsAtEnd}
-use Rattle.tlsf_crew.specs.yard.World.{world_of}
-use Rattle.tlsf_crew.specs.yard.Yard.{IsYard}
+use Rattle.tlsf_crew.specs.lanes.Yard.{world_of, IsYard}
 use Rattle.tlsf_lines.specs.Events.{labels_of}
 use Rattle.tlsf_lines.specs.Limits.{IsTooLong, IsWithinLimits}
 use Rattle.tlsf_trace.specs.Output.{level_in, run_at}

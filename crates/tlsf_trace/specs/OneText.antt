@@ -4,7 +4,7 @@ use Rattle.std.specs.List.{AllByRecursion}
 use Rattle.tlsf_lines.specs.declared.line.Line.{Line}
 use Rattle.tlsf_lines.specs.declared.line.Line.TheVariants.{Drain}
 use Rattle.tlsf_lines.specs.Trace.{Trace}
-use Rattle.tlsf_crew.specs.queues.QueueAlone.{IsUncontendedRace}
+use Rattle.tlsf_crew.specs.race_laws.QueueAlone.{IsUncontendedRace}
 use Rattle.tlsf_trace.specs.Output.{level_in}
 use Rattle.tlsf_trace.specs.RaceOutput.{IsOutputBy, IsRaceOutput}
 

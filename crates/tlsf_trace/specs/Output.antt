@@ -1,7 +1,7 @@
 -- What a trace puts out.
 use Rattle.std.specs.Prelude.{ℕ, List, ◌++◌, Option}
-use Rattle.tlsf_crew.specs.yard.Opening.{opened_world}
-use Rattle.tlsf_crew.specs.yard.World.{World, Replayed, replies}
+use Rattle.tlsf_crew.specs.model.Opening.{opened_world}
+use Rattle.tlsf_crew.specs.model.World.{World, Replayed, replies}
 use Rattle.tlsf_lines.specs.declared.header.Header.{Header}
 use Rattle.tlsf_lines.specs.Events.{events_of, labels_of}
 use Rattle.tlsf_lines.specs.Versions.{level_of}

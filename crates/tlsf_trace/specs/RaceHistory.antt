@@ -9,10 +9,11 @@ use Rattle.tlsf_heap.specs.declared.name.Name.{Name}
 use Rattle.tlsf_calls.specs.Entries.{record_of}
 use Rattle.tlsf_calls.specs.declared.call.Call.{Call}
 use Rattle.tlsf_calls.specs.declared.entry.Entry.{Entry}
-use Rattle.tlsf_crew.specs.queues.QueueHistory.{TellsQueue}
-use Rattle.tlsf_crew.specs.threads.Race.{events_by, last_call}
-use Rattle.tlsf_crew.specs.yard.History.{RunsTo, Tells, answers_on, calls_on, posts_made, posts_taken}
-use Rattle.tlsf_crew.specs.yard.World.{World, heap_in}
+use Rattle.tlsf_crew.specs.histories.QueueHistory.{TellsQueue}
+use Rattle.tlsf_crew.specs.races.Race.{events_by}
+use Rattle.tlsf_crew.specs.scripts.Scripts.{last_call}
+use Rattle.tlsf_crew.specs.histories.History.{RunsTo, Tells, answers_on, calls_on, posts_made, posts_taken}
+use Rattle.tlsf_crew.specs.model.World.{World, heap_in}
 use Rattle.tlsf_lines.specs.Phases.{known_below, none_known, phases_of, script_in}
 use Rattle.tlsf_lines.specs.Ranges.{IsHeaderInRange}
 use Rattle.tlsf_lines.specs.Records.{records_text}

@@ -3,7 +3,7 @@
 use Rattle.std.specs.Prelude.{◌≡◌, ℕ, List, ◌++◌, Option}
 use Rattle.tlsf_heap.specs.declared.name.Name.{Name}
 use Rattle.tlsf_calls.specs.declared.entry.Entry.{Entry}
-use Rattle.tlsf_crew.specs.yard.World.{World}
+use Rattle.tlsf_crew.specs.model.World.{World}
 use Rattle.tlsf_lines.specs.Phases.{known_below}
 use Rattle.tlsf_trace.specs.RaceOutput.{IsPhase, IsRaceText, Racing}
 use Rattle.tlsf_lines.specs.Records.{records_text}

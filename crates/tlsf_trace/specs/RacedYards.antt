@@ -2,11 +2,11 @@
 use Rattle.std.specs.Prelude.{◌≡◌, ℕ, List, vec_len}
 use Rattle.tlsf_calls.specs.declared.call.Call.{Call}
 use Rattle.tlsf_calls.specs.declared.entry.Entry.{Entry}
-use Rattle.tlsf_crew.specs.queues.QueueRace.{IsQueueRace}
+use Rattle.tlsf_crew.specs.races.QueueRace.{IsQueueRace}
 use Rattle.tlsf_crew.specs.queues.QueueYard.{IsQueueYard, queue_world_of}
-use Rattle.tlsf_crew.specs.threads.Race.{IsRace}
-use Rattle.tlsf_crew.specs.yard.World.{World, world_of}
-use Rattle.tlsf_crew.specs.yard.Yard.{IsYard}
+use Rattle.tlsf_crew.specs.races.Race.{IsRace}
+use Rattle.tlsf_crew.specs.model.World.{World}
+use Rattle.tlsf_crew.specs.lanes.Yard.{world_of, IsYard}
 use Rattle.tlsf_trace.specs.Output.{level_in}
 use Rattle.tlsf_trace.specs.RaceOutput.{IsOutputBy, Racing}
 use Rattle.tlsf_trace.specs.Replay.{Outputs}

@@ -1,6 +1,6 @@
 ghost use Rattle.std.specs.Prelude.{◌≡◌, ◌++◌, IfOk, OnOk, string_bytes};
-ghost use Rattle.tlsf_crew.specs.yard.World.{world_of, replies};
-ghost use Rattle.tlsf_crew.specs.yard.Yard.{IsYard};
+ghost use Rattle.tlsf_crew.specs.lanes.Yard.{world_of, IsYard};
+ghost use Rattle.tlsf_crew.specs.model.World.{replies};
 ghost use Rattle.tlsf_lines.specs.Ranges.{IsHeaderInRange};
 ghost use Rattle.tlsf_class.specs.Classes.{IsLevel};
 ghost use Rattle.tlsf_trace.specs.Output.{output_at, output_of};

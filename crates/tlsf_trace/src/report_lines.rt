@@ -1,6 +1,6 @@
 //! The report lines of heaps.
 ghost use Rattle.std.specs.Prelude.{◌≡◌, ◌++◌, ◌≤◌, length, map, OnOk, string_bytes};
-ghost use Rattle.tlsf_crew.specs.yard.Workers.{heap_of};
+ghost use Rattle.tlsf_crew.specs.worker.Workers.{heap_of};
 ghost use Rattle.tlsf_trace.specs.ReportLines.{live_part, free_part, room_part, rest_part, report_line, report_text};
 
 use std::alloc::AllocError;

@@ -16,9 +16,9 @@ use Rattle.tlsf_laws.specs.Contents.{Contents, after, contents, is_same}
 use Rattle.tlsf_laws.proofs.Looks.{change, live}
 use Rattle.tlsf_laws.proofs.Names.{same_is}
 use Rattle.tlsf_calls.specs.declared.entry.Entry.{Entry}
-use Rattle.tlsf_crew.specs.yard.History.{RunsTo, answer_told, answers_on, call_on_own, calls_on, handed_on}
-use Rattle.tlsf_crew.proofs.lemmas.yard.Fronts.{runs_through}
-use Rattle.tlsf_crew.proofs.lemmas.yard.JoinedEntries.{HasItsAnswer, told_other, told_own}
+use Rattle.tlsf_crew.specs.histories.History.{RunsTo, answer_told, answers_on, call_on_own, calls_on, handed_on}
+use Rattle.tlsf_crew.proofs.lemmas.histories.Fronts.{runs_through}
+use Rattle.tlsf_crew.proofs.lemmas.histories.JoinedEntries.{HasItsAnswer, told_other, told_own}
 
 -- the call isn't an accepted release of this name
 abbrev Spares : Name → heap.Call → heap.Answer → Type 0

@@ -19,12 +19,12 @@ use Rattle.tlsf_laws.specs.Contents.{is_same}
 use Rattle.tlsf_laws.specs.Kinds.{Ledger, ledger_after, ledger_after_all}
 use Rattle.tlsf_laws.proofs.Names.{same_is, same_self}
 use Rattle.tlsf_laws.proofs.Ledgers.{Agrees, agrees_run, live_agrees, lookup, new_agrees}
-use Rattle.tlsf_crew.specs.yard.World.{World, heap_in}
-use Rattle.tlsf_crew.specs.yard.History.{RunsTo, answer_told, answers_on, call_on_own, calls_on, entries_of, handed_on, post_of_release, post_of_take}
-use Rattle.tlsf_crew.specs.threads.Race.{record_of}
+use Rattle.tlsf_crew.specs.model.World.{World, heap_in}
+use Rattle.tlsf_crew.specs.histories.History.{RunsTo, answer_told, answers_on, call_on_own, calls_on, entries_of, handed_on, post_of_release, post_of_take}
+use Rattle.tlsf_crew.specs.races.Race.{record_of}
 use Rattle.tlsf_calls.specs.declared.call.Call.{Call}
 use Rattle.tlsf_calls.specs.declared.entry.Entry.{Entry}
-use Rattle.tlsf_crew.proofs.lemmas.yard.JoinedEntries.{runs_then, told_other, told_own, told_then, length_told}
+use Rattle.tlsf_crew.proofs.lemmas.histories.JoinedEntries.{runs_then, told_other, told_own, told_then, length_told}
 use Rattle.tlsf_yard_laws.specs.Carriers.{Carrier, IsRaceOver, OverLanes, OverQueues}
 use Rattle.tlsf_yard_laws.specs.Races.{HasPast}
 use Rattle.tlsf_yard_laws.specs.Sharing.{most_under_way, without_post}

@@ -17,15 +17,14 @@ use Rattle.tlsf_calls.specs.declared.reply.Reply.TheVariants.{Made, Freed, Poste
 use Rattle.tlsf_calls.specs.declared.crew_refusal.CrewRefusal.TheVariants.{Heap, Full, Stranger, Unmade}
 use Rattle.tlsf_calls.specs.declared.target.Target.{Target}
 use Rattle.tlsf_calls.specs.declared.took.Took.{Took}
-use Rattle.tlsf_crew.specs.yard.World.{World, heap_in, name_of}
-use Rattle.tlsf_crew.specs.yard.History.{StandsBehind, answer_told, call_on_own, entries_of, meant, of_heap, post_of_release, posts_made, posts_taken}
-use Rattle.tlsf_crew.specs.threads.Race.{record_of}
-use Rattle.tlsf_crew.proofs.lemmas.threads.SameDrains.{own_post, ran_take, take_entry}
-use Rattle.tlsf_crew.proofs.lemmas.yard.LaneCalls.{of_other, of_same}
+use Rattle.tlsf_crew.specs.model.World.{World, heap_in, name_of}
+use Rattle.tlsf_crew.specs.histories.History.{StandsBehind, answer_told, call_on_own, entries_of, meant, of_heap, post_of_release, posts_made, posts_taken}
+use Rattle.tlsf_crew.specs.races.Race.{record_of}
+use Rattle.tlsf_crew.proofs.lemmas.race_laws.SameDrains.{own_post, ran_take, take_entry}
+use Rattle.tlsf_crew.proofs.lemmas.histories.LaneCalls.{of_other, of_same}
 use Rattle.tlsf_calls.specs.Bytes.{bytes_of}
 use Rattle.std.proofs.Math.Seq.{take-append_seam}
-use Rattle.tlsf_crew.proofs.lemmas.yard.JoinedEntries.{HasItsAnswer, told_nothing, told_other, told_own, told_then}
-use Rattle.tlsf_crew.proofs.lemmas.yard.ManyEntries.{taken_then}
+use Rattle.tlsf_crew.proofs.lemmas.histories.JoinedEntries.{HasItsAnswer, told_nothing, told_other, told_own, told_then, taken_then}
 use Rattle.tlsf_yard_laws.specs.Carriers.{Carrier, IsRaceOver}
 use Rattle.tlsf_yard_laws.proofs.LivePosts.{SparesIn, entries_live}
 use Rattle.tlsf_yard_laws.proofs.RaceRecords.{Away, each_answered, heap_between, posts_match, takes_none_of}

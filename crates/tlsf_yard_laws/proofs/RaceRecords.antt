@@ -13,25 +13,24 @@ use Rattle.tlsf_calls.specs.declared.crew_refusal.CrewRefusal.TheVariants.{Stran
 use Rattle.tlsf_calls.specs.declared.entry.Entry.{Entry}
 use Rattle.tlsf_calls.specs.declared.reply.Reply.{Reply}
 use Rattle.tlsf_calls.specs.declared.reply.Reply.TheVariants.{Made, Freed, Posted, Wrote, Got, Resized, Took as Taken, Empty, Drained, Refused}
-use Rattle.tlsf_crew.specs.queues.QueueTold.{MayTellQueue, MayTellQueueAll, IsOfOther, told_reply, told_takes}
-use Rattle.tlsf_crew.specs.threads.Alone.{TakesNoPost}
-use Rattle.tlsf_crew.specs.threads.Race.{last_call, record_of, script_of}
-use Rattle.tlsf_crew.specs.yard.History.{RunsThrough, RunsTo, answers_on, calls_on, post_of_take, posts_made, posts_taken}
-use Rattle.tlsf_crew.specs.yard.Told.{Told, MayTell, MayTellAll, untold}
-use Rattle.tlsf_crew.specs.yard.World.{World, Replayed, called, draining, heap_in, taking}
-use Rattle.tlsf_crew.proofs.lemmas.queues.QueueRecords.{queue_race_answered, queue_race_runs}
-use Rattle.tlsf_crew.proofs.lemmas.queues.QueueTakes.{none_of_others, takes_take}
-use Rattle.tlsf_crew.proofs.lemmas.threads.AloneRuns.{takes_none}
-use Rattle.tlsf_crew.proofs.lemmas.threads.RecordHistory.{race_answered, race_runs}
-use Rattle.tlsf_crew.proofs.lemmas.threads.SameDrains.{drain_apart, nothing_before}
-use Rattle.tlsf_crew.proofs.lemmas.threads.ScriptRuns.{tell_more}
-use Rattle.tlsf_crew.proofs.lemmas.threads.TwoRecords.{drain_makes}
-use Rattle.tlsf_crew.proofs.lemmas.yard.AllEntries.{called_knows, called_told}
-use Rattle.tlsf_crew.proofs.lemmas.yard.DrainEntries.{drain_told}
-use Rattle.tlsf_crew.proofs.lemmas.yard.Fronts.{runs_through}
-use Rattle.tlsf_crew.proofs.lemmas.yard.JoinedEntries.{HasItsAnswer, told_nothing}
-use Rattle.tlsf_crew.proofs.lemmas.yard.ManyEntries.{taken_then}
-use Rattle.tlsf_crew.proofs.lemmas.yard.OneEvent.{taking_far, taking_own}
+use Rattle.tlsf_crew.specs.model.QueueTold.{MayTellQueue, MayTellQueueAll, IsOfOther, told_reply, told_takes}
+use Rattle.tlsf_crew.specs.race_laws.Alone.{TakesNoPost}
+use Rattle.tlsf_crew.specs.scripts.Scripts.{last_call, script_of}
+use Rattle.tlsf_crew.specs.races.Race.{record_of}
+use Rattle.tlsf_crew.specs.histories.History.{RunsThrough, RunsTo, answers_on, calls_on, post_of_take, posts_made, posts_taken}
+use Rattle.tlsf_crew.specs.model.Told.{Told, MayTell, MayTellAll, untold}
+use Rattle.tlsf_crew.specs.model.World.{World, Replayed, called, draining, heap_in, taking}
+use Rattle.tlsf_crew.proofs.lemmas.race_laws.QueueRecords.{queue_race_answered, queue_race_runs}
+use Rattle.tlsf_crew.proofs.lemmas.races.QueueTakes.{none_of_others, takes_take}
+use Rattle.tlsf_crew.proofs.lemmas.race_laws.AloneRuns.{takes_none}
+use Rattle.tlsf_crew.proofs.lemmas.race_laws.RecordHistory.{race_answered, race_runs}
+use Rattle.tlsf_crew.proofs.lemmas.race_laws.SameDrains.{drain_apart, nothing_before}
+use Rattle.tlsf_crew.proofs.lemmas.scripts.ScriptRuns.{tell_more}
+use Rattle.tlsf_crew.proofs.lemmas.histories.DrainEntries.{drain_makes, drain_told}
+use Rattle.tlsf_crew.proofs.lemmas.histories.AllEntries.{called_knows, called_told}
+use Rattle.tlsf_crew.proofs.lemmas.histories.Fronts.{runs_through}
+use Rattle.tlsf_crew.proofs.lemmas.histories.JoinedEntries.{HasItsAnswer, told_nothing, taken_then}
+use Rattle.tlsf_crew.proofs.lemmas.model.OneEvent.{taking_far, taking_own}
 use Rattle.tlsf_yard_laws.specs.Carriers.{Carrier, IsRaceOver, OverLanes, OverQueues}
 
 -- ---- no worker takes what it posted itself, or what one that isn't there did

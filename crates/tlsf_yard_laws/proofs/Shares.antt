@@ -23,14 +23,14 @@ use Rattle.tlsf_laws.proofs.Names.{same_is, same_self}
 use Rattle.tlsf_laws.proofs.Ledgers.{Agrees, agrees_call, live_agrees, lookup, lookup_without}
 use Rattle.tlsf_laws.proofs.ModestCalls.{InPool, is_served, kept, tick_kept}
 use Rattle.tlsf_calls.specs.Bytes.{bytes_of}
-use Rattle.tlsf_crew.specs.yard.History.{RunsTo, answer_told, answers_on, call_on_own, calls_on, handed_on, meant, of_heap, post_of_release, post_of_take, posts_made, posts_taken, taken_name}
+use Rattle.tlsf_crew.specs.histories.History.{RunsTo, answer_told, answers_on, call_on_own, calls_on, handed_on, meant, of_heap, post_of_release, post_of_take, posts_made, posts_taken, taken_name}
 use Rattle.tlsf_calls.specs.declared.entry.Entry.{Entry}
 use Rattle.tlsf_calls.specs.declared.call.Call.{Call}
 use Rattle.tlsf_calls.specs.declared.call.Call.TheVariants.{Allocate, Release, Write, Read, Resize, Take, Drain}
 use Rattle.tlsf_calls.specs.declared.target.Target.{Target}
 use Rattle.tlsf_calls.specs.declared.reply.Reply.{Reply}
 use Rattle.tlsf_calls.specs.declared.reply.Reply.TheVariants.{Made, Freed, Posted, Wrote, Got, Resized, Took as Taken, Empty, Drained, Refused}
-use Rattle.tlsf_crew.proofs.lemmas.yard.JoinedEntries.{told_other, told_own, told_then}
+use Rattle.tlsf_crew.proofs.lemmas.histories.JoinedEntries.{told_other, told_own, told_then}
 use Rattle.tlsf_yard_laws.specs.Sharing.{AreSparing, IsSparing, unreleased_after, with_call, without_post}
 use Rattle.tlsf_yard_laws.proofs.Told.{noted_same, served_on}
 use Rattle.tlsf_yard_laws.proofs.Few.{IsAmong, among_left, among_right, few, in_lanes, lane_names, lanes_few, names_of, posted, still_among}

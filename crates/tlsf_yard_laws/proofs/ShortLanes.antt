@@ -10,10 +10,10 @@ use Rattle.tlsf_post.specs.declared.post.Post.{Post}
 use Rattle.tlsf_calls.specs.Bytes.{bytes_of}
 use Rattle.tlsf_calls.specs.declared.call.Call.{Call}
 use Rattle.tlsf_calls.specs.declared.call.Call.TheVariants.{Allocate, Release, Write, Read, Resize, Take, Drain}
-use Rattle.tlsf_crew.specs.yard.OwnReplies.{OwnReplied, own_reading, own_resizing, own_writing}
-use Rattle.tlsf_crew.specs.yard.World.{World, Replayed, Draining, by_own, called, draining, after_drain, drained_below, drained_lane, name_of, posting, releasing_named, taking, taking_next, took_first, took_more, with_waiting}
-use Rattle.tlsf_crew.proofs.lemmas.yard.LaneChanges.{edited_other, edited_same}
-use Rattle.tlsf_crew.proofs.lemmas.yard.OneEvent.{from_other, from_own, releasing_far, releasing_post, taking_far, taking_lane, taking_own}
+use Rattle.tlsf_crew.specs.model.OwnReplies.{OwnReplied, own_reading, own_resizing, own_writing}
+use Rattle.tlsf_crew.specs.model.World.{World, Replayed, Draining, by_own, called, draining, after_drain, drained_below, drained_lane, name_of, posting, releasing_named, taking, taking_next, took_first, took_more, with_waiting}
+use Rattle.tlsf_crew.proofs.lemmas.model.Edits.{edited_other, edited_same}
+use Rattle.tlsf_crew.proofs.lemmas.model.OneEvent.{from_other, from_own, releasing_far, releasing_post, taking_far, taking_lane, taking_own}
 
 -- the lanes to worker j hold no more than their capacity
 abbrev pub AreShort : {sli : ℕ} → ℕ → World sli → Type 0

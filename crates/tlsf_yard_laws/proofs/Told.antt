@@ -14,11 +14,11 @@ use Rattle.tlsf_laws.specs.Contents.{Contents, contents, after, after_all}
 use Rattle.tlsf_laws.proofs.Held.{holds}
 use Rattle.tlsf_laws.proofs.ModestCalls.{serves, suffices}
 use Rattle.tlsf_laws.proofs.Looks.{told_new}
-use Rattle.tlsf_crew.specs.yard.World.{World, heap_in, replies}
-use Rattle.tlsf_crew.specs.yard.History.{RunsTo, calls_on, answers_on, handed_on}
+use Rattle.tlsf_crew.specs.model.World.{World, heap_in, replies}
+use Rattle.tlsf_crew.specs.histories.History.{RunsTo, calls_on, answers_on, handed_on}
 use Rattle.tlsf_calls.specs.declared.event.Event.{Event}
-use Rattle.tlsf_crew.proofs.lemmas.yard.AllEntries.{replies_tell}
-use Rattle.tlsf_crew.proofs.lemmas.yard.JoinedEntries.{runs_then}
+use Rattle.tlsf_crew.proofs.lemmas.histories.AllEntries.{replies_tell}
+use Rattle.tlsf_crew.proofs.lemmas.histories.JoinedEntries.{runs_then}
 use Rattle.tlsf_yard_laws.specs.Carriers.{Carrier}
 use Rattle.tlsf_yard_laws.specs.Races.{NewHasNoPast, RaceAddsToPast, RaceHoldsWhatIsLive, RaceKeepsBytes, RacePoolServes, RacePoolSuffices, ReplayAddsToPast}
 use Rattle.tlsf_yard_laws.proofs.RaceRecords.{heap_runs, heaps_stay}

@@ -12,8 +12,8 @@ use Rattle.tlsf_post.specs.declared.post.Post.{Post}
 use Rattle.tlsf_laws.specs.Pools.{pool_words, IsServed}
 use Rattle.tlsf_laws.proofs.Ledgers.{Agrees, new_agrees}
 use Rattle.tlsf_laws.proofs.ModestCalls.{InPool, opens}
-use Rattle.tlsf_crew.specs.yard.World.{World, Replayed, after, answered, begun, called, heap_in, replies}
-use Rattle.tlsf_crew.specs.yard.History.{AreTakes, RunsTo, TellsCall, answer_told, answers_on, call_on_own, calls_on, post_of_release, post_of_take, posts_made, posts_taken}
+use Rattle.tlsf_crew.specs.model.World.{World, Replayed, after, answered, begun, called, heap_in, replies}
+use Rattle.tlsf_crew.specs.histories.History.{AreTakes, RunsTo, TellsCall, answer_told, answers_on, call_on_own, calls_on, post_of_release, post_of_take, posts_made, posts_taken}
 use Rattle.tlsf_calls.specs.declared.entry.Entry.{Entry}
 use Rattle.tlsf_calls.specs.declared.event.Event.{Event}
 use Rattle.tlsf_calls.specs.declared.call.Call.{Call}
@@ -21,12 +21,12 @@ use Rattle.tlsf_calls.specs.declared.call.Call.TheVariants.{Allocate, Release, W
 use Rattle.tlsf_calls.specs.declared.target.Target.{Target}
 use Rattle.tlsf_calls.specs.declared.reply.Reply.TheVariants.{Drained, Refused}
 use Rattle.tlsf_calls.specs.declared.crew_refusal.CrewRefusal.TheVariants.{Stranger}
-use Rattle.tlsf_crew.proofs.lemmas.yard.AllEntries.{called_knows, called_told, more_knows}
-use Rattle.tlsf_crew.proofs.lemmas.yard.DrainEntries.{ToldOnce}
-use Rattle.tlsf_crew.proofs.lemmas.yard.EventSteps.{after_far, after_near}
-use Rattle.tlsf_crew.proofs.lemmas.yard.Fronts.{runs_through}
-use Rattle.tlsf_crew.proofs.lemmas.yard.JoinedEntries.{HasItsAnswer, told_nothing, told_other, told_then}
-use Rattle.tlsf_crew.proofs.lemmas.yard.OwnCalls.{Knows}
+use Rattle.tlsf_crew.proofs.lemmas.histories.AllEntries.{called_knows, called_told, more_knows}
+use Rattle.tlsf_crew.proofs.lemmas.histories.DrainEntries.{ToldOnce}
+use Rattle.tlsf_crew.proofs.lemmas.model.EventSteps.{after_far, after_near}
+use Rattle.tlsf_crew.proofs.lemmas.histories.Fronts.{runs_through}
+use Rattle.tlsf_crew.proofs.lemmas.histories.JoinedEntries.{HasItsAnswer, told_nothing, told_other, told_then}
+use Rattle.tlsf_crew.proofs.lemmas.histories.OwnCalls.{Knows}
 use Rattle.tlsf_yard_laws.specs.Sharing.{SharedPoolServes}
 use Rattle.tlsf_yard_laws.proofs.Shares.{AllLead, all_served}
 use Rattle.tlsf_yard_laws.proofs.ShortLanes.{AreShort, StayShort, called_short}

@@ -3,9 +3,9 @@ use Rattle.std.specs.Prelude.{◌≡◌, ℕ, List, Option}
 use Rattle.tlsf_heap.specs.declared.name.Name.{Name}
 use Rattle.tlsf_calls.specs.declared.call.Call.{Call}
 use Rattle.tlsf_calls.specs.declared.entry.Entry.{Entry}
-use Rattle.tlsf_crew.specs.yard.World.{World}
-use Rattle.tlsf_crew.specs.threads.Race.{IsRace}
-use Rattle.tlsf_crew.specs.queues.QueueRace.{IsQueueRace}
+use Rattle.tlsf_crew.specs.model.World.{World}
+use Rattle.tlsf_crew.specs.races.Race.{IsRace}
+use Rattle.tlsf_crew.specs.races.QueueRace.{IsQueueRace}
 
 -- what carries posts from one worker to another
 pub data Carrier : Type 0 where

@@ -10,9 +10,9 @@ use Rattle.tlsf_heap.specs.declared.name.Name.{Name}
 use Rattle.tlsf_post.specs.declared.post.Post.{Post}
 use Rattle.tlsf_laws.specs.Pools.{pool_words, AreModest, IsServed}
 use Rattle.tlsf_laws.specs.Kinds.{Ledger, ledger_after_all}
-use Rattle.tlsf_crew.specs.yard.World.{World}
-use Rattle.tlsf_crew.specs.yard.History.{StandsBehind, answers_on, calls_on, entries_of, posts_made, posts_taken}
-use Rattle.tlsf_crew.specs.threads.Race.{record_of}
+use Rattle.tlsf_crew.specs.model.World.{World}
+use Rattle.tlsf_crew.specs.histories.History.{StandsBehind, answers_on, calls_on, entries_of, posts_made, posts_taken}
+use Rattle.tlsf_crew.specs.races.Race.{record_of}
 use Rattle.tlsf_calls.specs.declared.entry.Entry.{Entry}
 use Rattle.tlsf_calls.specs.declared.call.Call.{Call}
 use Rattle.tlsf_calls.specs.declared.target.Target.{Target}

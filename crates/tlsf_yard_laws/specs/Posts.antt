@@ -9,9 +9,9 @@ use Rattle.tlsf_calls.specs.declared.entry.Entry.{Entry}
 use Rattle.tlsf_calls.specs.declared.reply.Reply.TheVariants.{Freed, Posted, Took as Taken}
 use Rattle.tlsf_calls.specs.declared.target.Target.{Target}
 use Rattle.tlsf_calls.specs.declared.took.Took.{Took}
-use Rattle.tlsf_crew.specs.yard.World.{World, heap_in, name_of}
-use Rattle.tlsf_crew.specs.yard.History.{AreLawful, StandsBehind}
-use Rattle.tlsf_crew.specs.threads.Race.{record_of}
+use Rattle.tlsf_crew.specs.model.World.{World, heap_in, name_of}
+use Rattle.tlsf_crew.specs.histories.History.{AreLawful, StandsBehind}
+use Rattle.tlsf_crew.specs.races.Race.{record_of}
 use Rattle.tlsf_yard_laws.specs.Carriers.{Carrier, IsRaceOver}
 
 -- the entry tells that this name was given back: its block was released, or the name was posted to the owner

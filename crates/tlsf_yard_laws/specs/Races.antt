@@ -10,9 +10,9 @@ use Rattle.tlsf_laws.specs.Room.{live_count}
 use Rattle.tlsf_laws.specs.Held.{held_after_all}
 use Rattle.tlsf_laws.specs.Pools.{pool_words, AreModest, HasRoomFor, IsServed}
 use Rattle.tlsf_laws.specs.Contents.{contents, after_all}
-use Rattle.tlsf_crew.specs.yard.World.{World, heap_in, replies}
-use Rattle.tlsf_crew.specs.yard.History.{RunsTo, calls_on, answers_on}
-use Rattle.tlsf_crew.specs.threads.Race.{record_of}
+use Rattle.tlsf_crew.specs.model.World.{World, heap_in, replies}
+use Rattle.tlsf_crew.specs.histories.History.{RunsTo, calls_on, answers_on}
+use Rattle.tlsf_crew.specs.races.Race.{record_of}
 use Rattle.tlsf_calls.specs.declared.event.Event.{Event}
 use Rattle.tlsf_calls.specs.declared.entry.Entry.{Entry}
 use Rattle.tlsf_calls.specs.declared.call.Call.{Call}

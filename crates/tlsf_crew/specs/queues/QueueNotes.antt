@@ -1,11 +1,10 @@
 -- What a drain of a queue notes of the posts that it takes. This serves the contracts and proofs of private functions alone.
 use Rattle.std.specs.Prelude.{ℕ, List, None}
 use Rattle.tlsf_calls.specs.declared.took.Took.{Took}
-use Rattle.tlsf_crew.specs.declared.worker.Worker.{Worker}
+use Rattle.tlsf_crew.specs.declared.worker.worker.Worker.{Worker}
 use Rattle.tlsf_crew.specs.declared.queues.queues.Queues.{Queues}
-use Rattle.tlsf_crew.specs.declared.yard.journal.Journal.{Journal}
 use Rattle.tlsf_crew.specs.queues.QueueWorkers.{TakesFromQueue, TookOut}
-use Rattle.tlsf_crew.specs.yard.Notes.{IsEntered, SourceNoted}
+use Rattle.tlsf_crew.specs.worker.Notes.{SourceNoted}
 
 -- where the notes admit no more, all that may come was taken, and a drain waits for the queue to be seen empty
 abbrev pub StopsAtQueue : Queues → Queues → ℕ → Type 0
@@ -14,9 +13,3 @@ StopsAtQueue p q source = TookOut p q None
 -- a drain of the own queue
 abbrev pub QueueNoted : {sli : ℕ} {N : Type 0} → (N → ℕ → ℕ → Took → N → Type 0) → (N → ℕ → Type 0) → Worker sli Queues → Worker sli Queues → N → N → ℕ → List Took → Type 0
 QueueNoted noted admitted a v x y most tooks = SourceNoted TakesFromQueue StopsAtQueue noted admitted a v x y 0 most tooks
-
--- ---- the notes of a journal
-
--- over queues the entry of a take names who posted
-abbrev pub IsQueueNoted : Journal → ℕ → ℕ → Took → Journal → Type 0
-IsQueueNoted old at source took new = IsEntered old at source took.from took new

@@ -5,7 +5,7 @@ use Rattle.tlsf_post.specs.Rule.{posts_of}
 use Rattle.tlsf_post.specs.Mailboxes.{put_by, gone_from, got_by, known_to, most_of}
 use Rattle.tlsf_post.specs.declared.post.Post.{Post}
 use Rattle.tlsf_post.specs.declared.poster_end.PosterEnd.{PosterEnd}
-use Rattle.tlsf_crew.specs.declared.worker.Worker.{Worker}
+use Rattle.tlsf_crew.specs.declared.worker.worker.Worker.{Worker}
 use Rattle.tlsf_crew.specs.declared.queues.queues.Queues.{Queues}
 use Rattle.tlsf_crew.specs.queues.QueueWorkers.{queue_end_to}
 use Rattle.tlsf_crew.specs.queues.QueueYard.{IsQueueYard, queue_end_in}

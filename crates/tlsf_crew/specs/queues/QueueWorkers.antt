@@ -4,8 +4,8 @@ use Rattle.tlsf_heap.specs.declared.name.Name.{Name}
 use Rattle.tlsf_post.specs.Mailboxes.{number_of, put_by, plan_of, owner_of, out_of, got_by, IsOnlyPoster, HasFilled, PosterSaw, OwnerSaw, KeepsPoster, KeepsOwner, IsAllTaken}
 use Rattle.tlsf_post.specs.declared.post.Post.{Post}
 use Rattle.tlsf_post.specs.declared.poster_end.PosterEnd.{PosterEnd}
-use Rattle.tlsf_crew.specs.yard.Workers.{heap_of, id_of, slot_of, SameButPorts, KeepsHeap}
-use Rattle.tlsf_crew.specs.declared.worker.Worker.{Worker}
+use Rattle.tlsf_crew.specs.worker.Workers.{heap_of, id_of, slot_of, SameButPorts, KeepsHeap}
+use Rattle.tlsf_crew.specs.declared.worker.worker.Worker.{Worker}
 use Rattle.tlsf_crew.specs.declared.queues.queues.Queues.{Queues}
 
 -- the end that posts into the queue of worker j

@@ -1,18 +1,9 @@
-ghost use Rattle.std.specs.Prelude.{◌≡◌, ◌≢◌, ◌↔◌, ℕ, ◌<◌, ◌≤◌, ◌++◌, List, [], ◌∷◌, length, Some, slice_get, slice_set};
-ghost use Rattle.tlsf_crew.specs.yard.History.{AreLawful, RunsThrough, RunsTo, answers_on, calls_on, posts_made, posts_taken};
-ghost use Rattle.tlsf_crew.specs.yard.World.{World, heap_in};
-ghost use Rattle.tlsf_crew.specs.threads.Race.{last_call, record_of, script_of};
-ghost use Rattle.tlsf_crew.specs.yard.Yard.{IsHeapOf};
-ghost use Rattle.tlsf_crew.specs.declared.worker.Worker.{Worker};
+ghost use Rattle.std.specs.Prelude.{◌≡◌, ◌↔◌, ℕ, List, length, Some, slice_get, slice_set};
+ghost use Rattle.tlsf_crew.specs.worker.Workers.{IsHeapOf, heap_of, id_of};
+ghost use Rattle.tlsf_crew.specs.declared.worker.worker.Worker.{Worker};
 ghost use Rattle.tlsf_crew.specs.declared.queues.queues.Queues.{Queues};
-ghost use Rattle.tlsf_crew.specs.yard.Workers.{heap_of, id_of};
 ghost use Rattle.tlsf_crew.specs.queues.QueueWorkers.{HasQueueEnd, IsOtherOf, KeepsQueueYards};
 ghost use Rattle.tlsf_crew.specs.queues.QueueYard.{IsQueueYard};
-ghost use Rattle.tlsf_crew.specs.queues.QueueHistory.{TellsQueue};
-ghost use Rattle.tlsf_crew.specs.queues.QueueAlone.{IsUncontendedRace, QueueRaceIsOne};
-ghost use Rattle.tlsf_crew.specs.queues.QueueRace.{IsQueueRace};
-ghost use Rattle.tlsf_calls.specs.declared.call.Call.{Call};
-ghost use Rattle.tlsf_calls.specs.declared.entry.Entry.{Entry};
 
 /// In a whole yard over queues each worker has an end to the queue of each other worker and none else. So
 /// [`crate::QueueWorker::post`] answers `Stranger` exactly where a name is of the heap of no worker. A worker stays one of
@@ -32,60 +23,4 @@ pub fn queues_join_the_yard()
 
     // What each call's clause `yard` says of a worker keeps the yard whole.
     ensures kept { (sli : ℕ) (ws : List (Worker sli Queues)) (i : ℕ) (a v : Worker sli Queues) → IsQueueYard ws → slice_get ws i ≡ Some a → KeepsQueueYards a v → IsQueueYard (slice_set ws i v) }
-{}
-
-/// In a race over queues each heap has one history too, in the words of [`crate::one_history`]: each call made on it and
-/// each post taken for it stands once, in its caller's order, and each answer is that of the sequential heap at that
-/// point. The history of heap j is the record of worker j.
-///
-/// ```text
-/// scripts                  records                       what they tell
-/// 0: Allocate(8)           0 Allocate(8): Made(x)        heap 0 was called Allocate(8), and answered x
-///                          0 Take(2): Took(z, Ok)        heap 0 was called Release(z), and answered Ok; z came out of its queue
-///                          0 Take(1): Took(y, Ok)        and then y: posts of two workers come in any order
-///                          0 Drain: Drained(2)           nothing of a heap or a queue
-/// 1: Release(y)            1 Release(y): Posted          a post of y went into the queue of worker 0
-///                          1 Drain: Drained(0)           nothing of a heap or a queue
-/// ```
-pub fn one_history_of_a_queue_race()
-    // A record tells the calls of its worker's script and then the last drain, each once and in order, and the name that
-    // each made.
-    ensures told { (sli : ℕ) (w v : World sli) (scripts : List (List Call)) (records : List (List Entry)) (race : IsQueueRace w scripts records v) (j : ℕ) → j < length w.heaps →
-        TellsQueue (length w.heaps) j [] (script_of scripts j ++ last_call ∷ []) (race.made j) (record_of records j) }
-
-    // The calls that it tells of its worker's heap, run on it in turn, give the answers that it tells, and the heap that
-    // comes back.
-    ensures heaps { (sli : ℕ) (w v : World sli) (scripts : List (List Call)) (records : List (List Entry)) (race : IsQueueRace w scripts records v) (j : ℕ) → j < length w.heaps →
-        RunsTo sli (heap_in w j) (calls_on j (race.made j) (record_of records j)) (answers_on j (record_of records j)) (heap_in v j) }
-
-    // What waited of a worker in a queue, and then what it posted, is what was taken. So no post is lost, doubled or
-    // overtaken by another of its poster.
-    ensures posts { (sli : ℕ) (w v : World sli) (scripts : List (List Call)) (records : List (List Entry)) (race : IsQueueRace w scripts records v) (i j : ℕ) → i < length w.heaps → j < length w.heaps → i ≢ j →
-        w.waiting i j ++ posts_made i j (race.made i) (record_of records i) ≡ posts_taken i j (record_of records j) }
-
-    // Live blocks never overlap and free blocks never touch.
-    ensures lawful { (sli : ℕ) (w v : World sli) (scripts : List (List Call)) (records : List (List Entry)) → IsQueueRace w scripts records v → AreLawful w → AreLawful v }
-
-    // So it is after each entry: each heap is what the calls that its record has told so far leave, and lawful.
-    ensures always_lawful { (sli : ℕ) (w v : World sli) (scripts : List (List Call)) (records : List (List Entry)) (race : IsQueueRace w scripts records v) (before later : List Entry) (j : ℕ) → AreLawful w → j < length w.heaps →
-        record_of records j ≡ before ++ later → RunsThrough sli (heap_in w j) j (race.made j) before later (heap_in v j) }
-{}
-
-/// Where no script has a take or a drain, what each worker takes one other had posted, and of more than two workers none meets a full
-/// queue, a race over queues comes to one thing, whatever the schedule of its threads: its records and the world that it leaves are
-/// the same each time.
-///
-/// Of two workers no more is wanted than scripts without takes, as over lanes ([`crate::race_without_takes`]). A queue hands on the
-/// posts of several posters in the order in which they came, and is full whoever filled it.
-///
-/// ```text
-/// worker 0: Allocate(8), worker 1: Release(x) of worker 0's block x, worker 2: nothing
-/// in every schedule: 0 Made(y), 0 Take(1): Took(x, Ok), 0 Drained(1); 1 Posted, 1 Drained(0); 2 Drained(0)
-/// ```
-pub fn queue_race_without_takes()
-    ensures one { (sli : ℕ) → QueueRaceIsOne sli }
-
-    // Each race of two workers is such a one.
-    ensures two { (sli : ℕ) (w v : World sli) (scripts : List (List Call)) (records : List (List Entry)) → length w.heaps ≤ 2 → IsQueueRace w scripts records v →
-        IsUncontendedRace w scripts records v }
 {}

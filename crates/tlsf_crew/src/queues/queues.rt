@@ -1,20 +1,15 @@
 //! The queues of a worker, and what it does over them.
 ghost use Rattle.std.specs.Prelude.{◌≡◌, ◌≢◌, ◌+◌, ◌*◌, ◌≤◌, ⊤, Some, Err};
 ghost use Rattle.tlsf_heap.specs.declared.refusal.Refusal.TheVariants.{Foreign};
-ghost use Rattle.tlsf_crew.specs.yard.Workers.{heap_of, touches_of, id_of};
-ghost use Rattle.tlsf_crew.specs.yard.Calls.{PostedThere, ReleasedHere, ReleasedThere};
-ghost use Rattle.tlsf_crew.specs.queues.QueueWorkers.{HasQueueEnd, KeepsQueueYards, KnowsQueueYard, ReachesQueue, PutsIntoQueue, TakesFromQueue};
+ghost use Rattle.tlsf_crew.specs.worker.Workers.{heap_of, touches_of, id_of};
+ghost use Rattle.tlsf_crew.specs.worker.Calls.{PostedThere, ReleasedHere, ReleasedThere};
+ghost use Rattle.tlsf_crew.specs.queues.QueueWorkers.{HasQueueEnd, KeepsQueueYards, ReachesQueue, PutsIntoQueue, TakesFromQueue};
 ghost use Rattle.tlsf_crew.specs.queues.QueueCalls.{TakenFromQueue, DrainedQueue};
-ghost use Rattle.tlsf_crew.specs.queues.QueueMoves.{QueueMoved, QueueStepped};
 ghost use Rattle.tlsf_crew.specs.queues.QueueNotes.{StopsAtQueue};
-ghost use Rattle.tlsf_crew.specs.queues.QueueTasks.{IsQueueLimit};
-ghost use Rattle.tlsf_crew.specs.queues.QueueTold.{MayTellQueue};
 
-use crate::ports::{Exchange, Ports, has_end};
-use crate::worker::{Worker, drain_source, post, release, take_next};
-use crate::yard::notes::NoNotes;
-use crate::yard::opening::MOST_CAPACITY;
-use crate::yard::scripted::Scripted;
+use crate::worker::notes::NoNotes;
+use crate::worker::ports::{Exchange, Ports, has_end};
+use crate::worker::worker::{Worker, drain_source, post, release, take_next};
 use std::sync::Wait;
 use tlsf_calls::{CrewRefusal, Drained, Released, Took};
 use tlsf_heap::Name;
@@ -85,39 +80,6 @@ impl<R: Wait> Exchange<R> for Queues {
     fn stop(&mut self, context: &R, _source: usize) {
         self.own.wait_empty(context);
     }
-}
-
-impl<R: Wait> Scripted<R> for Queues {
-    ghost knows = { λ sli n a. KnowsQueueYard n a };
-
-    ghost tells = { MayTellQueue };
-
-    ghost moves = { λ sli at made a limits calls entries v left. QueueMoved at made a limits calls entries v left };
-
-    ghost steps = { λ sli n a limits call made entries v left longer reply. QueueStepped n a limits call made entries v left longer reply };
-
-    ghost limited = { λ queues releases limits. IsQueueLimit releases limits };
-
-    /// As many as the queue holds, and one for each release of any script: no more can come.
-    fn limits(&self, releases: &[u32; 8]) -> [u64; 8] {
-        let mut all = MOST_CAPACITY as u64;
-        for i in 0..8 {
-            all += releases[i] as u64;
-        }
-        [all, 0, 0, 0, 0, 0, 0, 0]
-    }
-
-    fn moves_join() {}
-
-    fn steps_tell() {}
-
-    fn own_replies_step() {}
-
-    fn releases_step() {}
-
-    fn takes_step() {}
-
-    fn drains_step() {}
 }
 
 impl<const SLI: u32> QueueWorker<SLI> {

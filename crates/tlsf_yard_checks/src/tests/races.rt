@@ -1,5 +1,5 @@
 ghost use Rattle.std.specs.Prelude.{◌≡◌, ◌<◌, ◌^◌, length, vec_len, All, IfOk};
-ghost use Rattle.tlsf_crew.specs.yard.Yard.{IsYard};
+ghost use Rattle.tlsf_crew.specs.lanes.Yard.{IsYard};
 
 use crate::tests::yards::{allocate, drain, took};
 use std::alloc::{AllocError, Global};

@@ -5,18 +5,18 @@ use Rattle.tlsf_post.specs.declared.post.Post.{Post}
 use Rattle.tlsf_post.specs.declared.poster_end.PosterEnd.{PosterEnd}
 use Rattle.tlsf_calls.specs.declared.drained.Drained.{Drained}
 use Rattle.tlsf_calls.specs.declared.took.Took.{Took}
-use Rattle.tlsf_crew.specs.yard.LaneTurns.{IsCountOf}
-use Rattle.tlsf_crew.specs.declared.worker.Worker.{Worker}
+use Rattle.tlsf_crew.specs.worker.Drains.{IsCountOf}
+use Rattle.tlsf_crew.specs.declared.worker.worker.Worker.{Worker}
 use Rattle.tlsf_crew.specs.declared.queues.queues.Queues.{Queues}
-use Rattle.tlsf_crew.specs.yard.Workers.{heap_of, SameButPorts}
-use Rattle.tlsf_crew.specs.yard.Calls.{AfterTake, TakenFrom}
-use Rattle.tlsf_crew.specs.yard.Notes.{SourceEnds}
+use Rattle.tlsf_crew.specs.worker.Workers.{heap_of, SameButPorts}
+use Rattle.tlsf_crew.specs.worker.Calls.{AfterTake, TakenFrom}
+use Rattle.tlsf_crew.specs.worker.Notes.{SourceEnds}
 use Rattle.tlsf_crew.specs.queues.QueueWorkers.{queue_to, KeepsQueueYards, PutsIntoQueue, TakesFromQueue}
 use Rattle.tlsf_crew.specs.queues.QueueCalls.{TakenFromQueue, DrainedQueue}
 use Rattle.tlsf_crew.specs.queues.QueueNotes.{QueueNoted, StopsAtQueue}
-use Rattle.tlsf_crew.proofs.lemmas.yard.OwnHeaps.{call_keeps}
-use Rattle.tlsf_crew.proofs.lemmas.yard.PortsKept.{Keeping}
-use Rattle.tlsf_crew.proofs.lemmas.yard.SourceTurns.{none_heap, takes_heap, takes_of, turns_keep}
+use Rattle.tlsf_crew.proofs.lemmas.worker.OwnHeaps.{call_keeps}
+use Rattle.tlsf_crew.proofs.lemmas.worker.PortsKept.{Keeping}
+use Rattle.tlsf_crew.proofs.lemmas.worker.SourceTurns.{none_heap, takes_heap, takes_of, turns_keep}
 use Rattle.tlsf_crew.proofs.lemmas.queues.QueueKept.{keeps_all, keeps_heap, keeps_put, keeps_take, keeps_then}
 
 -- ---- what a take leaves

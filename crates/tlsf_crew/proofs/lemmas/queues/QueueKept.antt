@@ -6,13 +6,13 @@ use Rattle.tlsf_post.specs.Mailboxes.{KeepsPoster, KeepsOwner}
 use Rattle.tlsf_post.specs.declared.owner_end.OwnerEnd.{OwnerEnd}
 use Rattle.tlsf_post.specs.declared.poster_end.PosterEnd.{PosterEnd}
 use Rattle.tlsf_post.specs.declared.post.Post.{Post}
-use Rattle.tlsf_crew.specs.declared.worker.Worker.{Worker}
+use Rattle.tlsf_crew.specs.declared.worker.worker.Worker.{Worker}
 use Rattle.tlsf_crew.specs.declared.queues.queues.Queues.{Queues}
-use Rattle.tlsf_crew.specs.yard.Workers.{heap_of, SameButHeap, KeepsHeap}
+use Rattle.tlsf_crew.specs.worker.Workers.{heap_of, SameButHeap, KeepsHeap}
 use Rattle.tlsf_crew.specs.queues.QueueWorkers.{queue_to, queue_end_to, KnowsQueueYard, KeepsSlot, KeepsQueueYards, PutToQueue, TookFromQueue}
-use Rattle.tlsf_crew.proofs.lemmas.yard.OwnHeaps.{same_heap_keeps}
-use Rattle.tlsf_crew.proofs.lemmas.yard.SameParts.{ports_heap}
-use Rattle.tlsf_crew.proofs.lemmas.yard.Slots.{some_same}
+use Rattle.tlsf_crew.proofs.lemmas.worker.OwnHeaps.{same_heap_keeps}
+use Rattle.tlsf_crew.proofs.lemmas.worker.SameParts.{ports_heap}
+use Rattle.tlsf_crew.proofs.lemmas.worker.Slots.{some_same}
 
 -- ---- ends
 

@@ -16,19 +16,18 @@ use Rattle.tlsf_post.specs.Mailboxes.{below_but, number_of, put_by, owner_of, ou
 use Rattle.tlsf_post.specs.declared.owner_end.OwnerEnd.{OwnerEnd}
 use Rattle.tlsf_post.specs.declared.post.Post.{Post}
 use Rattle.tlsf_post.specs.declared.poster_end.PosterEnd.{PosterEnd}
-use Rattle.tlsf_crew.specs.declared.worker.Worker.{Worker}
+use Rattle.tlsf_crew.specs.declared.worker.worker.Worker.{Worker}
 use Rattle.tlsf_crew.specs.declared.queues.queues.Queues.{Queues}
-use Rattle.tlsf_crew.specs.yard.Opening.{AreSizes, opened_heaps, opened_world}
-use Rattle.tlsf_crew.specs.yard.Workers.{slot_of, heap_of, id_of}
-use Rattle.tlsf_crew.specs.yard.Yard.{IsHeapOf}
+use Rattle.tlsf_crew.specs.worker.Sizes.{AreSizes}
+use Rattle.tlsf_crew.specs.model.Opening.{opened_heaps, opened_world}
+use Rattle.tlsf_crew.specs.worker.Workers.{slot_of, heap_of, id_of, IsHeapOf}
 use Rattle.tlsf_crew.specs.queues.QueueWorkers.{queue_end_to}
 use Rattle.tlsf_crew.specs.queues.QueueYard.{FitsQueueYard, IsQueueYard, first_capacity, queue_capacity_in, queue_end_in, queue_waits_in, queue_world_of, waits_of}
 use Rattle.tlsf_crew.specs.queues.QueueOpening.{AreEnds, AreFreshQueues, AreGiven, GaveEnds, GotEnd, IsNewQueueWorker}
 use Rattle.tlsf_post.proofs.Meetings.{no_items}
 use Rattle.tlsf_post.proofs.Numbers.{but_more, but_skip}
-use Rattle.tlsf_crew.proofs.lemmas.yard.NewLanes.{no_slot}
-use Rattle.tlsf_crew.proofs.lemmas.yard.OwnHeaps.{opened_lawful}
-use Rattle.tlsf_crew.proofs.lemmas.yard.Slots.{get_set_same, get_set_other, none_or_some, slot_new, slot_other, some_same}
+use Rattle.tlsf_crew.proofs.lemmas.worker.Slots.{no_slot, get_set_same, get_set_other, none_or_some, slot_new, slot_other, some_same}
+use Rattle.tlsf_crew.proofs.lemmas.worker.OwnHeaps.{opened_lawful}
 
 -- ---- ends are given one after another
 

@@ -13,17 +13,16 @@ use Rattle.tlsf_post.specs.Mailboxes.{below_but, number_of, put_by, gone_from, o
 use Rattle.tlsf_post.specs.declared.owner_end.OwnerEnd.{OwnerEnd}
 use Rattle.tlsf_post.specs.declared.post.Post.{Post}
 use Rattle.tlsf_post.specs.declared.poster_end.PosterEnd.{PosterEnd}
-use Rattle.tlsf_crew.specs.declared.worker.Worker.{Worker}
+use Rattle.tlsf_crew.specs.declared.worker.worker.Worker.{Worker}
 use Rattle.tlsf_crew.specs.declared.queues.queues.Queues.{Queues}
-use Rattle.tlsf_crew.specs.yard.Workers.{slot_of, id_of}
-use Rattle.tlsf_crew.specs.yard.Yard.{IsHeapOf}
+use Rattle.tlsf_crew.specs.worker.Workers.{slot_of, id_of, IsHeapOf}
 use Rattle.tlsf_crew.specs.queues.QueueWorkers.{queue_end_to, IsOtherOf, KnowsQueueYard}
 use Rattle.tlsf_crew.specs.queues.QueueYard.{FitsQueueYard, IsQueueYard, first_capacity, queue_capacity_in, queue_end_in}
 use Rattle.tlsf_crew.specs.queues.QueueOpening.{GaveEnds, GotEnd}
 use Rattle.tlsf_crew.specs.queues.QueueSettle.{Gathered, GaveUpEnd, QueueKnown, QueueSettled, QueuesSettled, StaysPut, StaysSettled, end_at, ends_below}
 use Rattle.tlsf_post.proofs.Numbers.{but_more, but_skip}
 use Rattle.tlsf_crew.proofs.lemmas.queues.QueueOpened.{of_all, some_at}
-use Rattle.tlsf_crew.proofs.lemmas.yard.Slots.{from_slot, get_set_same, get_set_other, none_or_some, slot_emptied, slot_new, slot_other, some_same}
+use Rattle.tlsf_crew.proofs.lemmas.worker.Slots.{from_slot, get_set_same, get_set_other, none_or_some, slot_emptied, slot_new, slot_other, some_same}
 
 -- ---- ends are taken out one after another
 

@@ -8,13 +8,12 @@ use Rattle.std.proofs.lemmas.List.{length-set}
 use Rattle.tlsf_post.specs.Mailboxes.{KeepsPoster}
 use Rattle.tlsf_post.specs.Rule.{plan_for}
 use Rattle.tlsf_post.specs.declared.poster_end.PosterEnd.{PosterEnd}
-use Rattle.tlsf_crew.specs.declared.worker.Worker.{Worker}
+use Rattle.tlsf_crew.specs.declared.worker.worker.Worker.{Worker}
 use Rattle.tlsf_crew.specs.declared.queues.queues.Queues.{Queues}
-use Rattle.tlsf_crew.specs.yard.Yard.{IsHeapOf}
-use Rattle.tlsf_crew.specs.yard.Workers.{heap_of, id_of}
+use Rattle.tlsf_crew.specs.worker.Workers.{IsHeapOf, heap_of, id_of}
 use Rattle.tlsf_crew.specs.queues.QueueWorkers.{queue_end_to, HasQueueEnd, IsOtherOf, KnowsQueueYard, KeepsQueueYards, KeepsSlot}
 use Rattle.tlsf_crew.specs.queues.QueueYard.{IsQueueYard, first_capacity, queue_capacity_in}
-use Rattle.tlsf_crew.proofs.lemmas.yard.Slots.{get_set_same, get_set_other, none_or_some, some_same}
+use Rattle.tlsf_crew.proofs.lemmas.worker.Slots.{get_set_same, get_set_other, none_or_some, some_same}
 use Rattle.tlsf_crew.proofs.lemmas.queues.QueueKept.{keeps_all, knows_kept}
 use Rattle.tlsf_crew.proofs.lemmas.queues.QueueOpened.{some_at}
 

@@ -1,4 +1,4 @@
-use Rattle.tlsf_crew.specs.yard.World.{world_of}
+use Rattle.tlsf_crew.specs.lanes.Yard.{world_of}
 use Rattle.tlsf_held.proofs.LeastBounds.{tallies_measure}
 use Rattle.tlsf_held.proofs.measuring.lines_at.Goals as goal
 

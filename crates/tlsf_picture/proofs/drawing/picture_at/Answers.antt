@@ -1,6 +1,6 @@
 use Rattle.std.proofs.Common.{ℕ, length, map, ap, ◌∙◌, arith}
 use Rattle.std.proofs.lemmas.List.{length-map}
-use Rattle.tlsf_crew.specs.yard.Workers.{heap_of}
+use Rattle.tlsf_crew.specs.worker.Workers.{heap_of}
 use Rattle.tlsf_map.specs.Page.{svg_text}
 use Rattle.tlsf_picture.specs.Drawn.{IsMap}
 use Rattle.tlsf_picture.proofs.Maps.{as_many, maps_of_end}

@@ -1,6 +1,6 @@
 use Rattle.tlsf_class.proofs.TwoLevels.{most_words_any}
 use Rattle.std.proofs.Common.{◌≡◌, ◌+◌, ◌∷◌, ◌++◌, [], Some, None, sym, ap, ◌∙◌, subst, arith}
-use Rattle.tlsf_crew.specs.yard.Workers.{heap_of}
+use Rattle.tlsf_crew.specs.worker.Workers.{heap_of}
 use Rattle.tlsf_heap.specs.Blocks.{HeapState}
 use Rattle.tlsf_heap.specs.Lawful.{IsLawful}
 use Rattle.tlsf_heap.specs.Placed.{placed_at}

@@ -2,8 +2,8 @@ use Rattle.std.proofs.Common.{◌≡◌, ◌+◌, ◌<◌, List, length, map, ge
 use Rattle.std.proofs.lemmas.List.{get_or_default, length-map}
 use Rattle.std.proofs.Math.ListN.{get_or-map}
 use Rattle.std.proofs.Math.Seq.{map-set_same}
-use Rattle.tlsf_crew.specs.yard.Workers.{heap_of}
-use Rattle.tlsf_crew.specs.yard.Yard.{no_heap}
+use Rattle.tlsf_crew.specs.worker.Workers.{heap_of}
+use Rattle.tlsf_crew.specs.model.World.{no_heap}
 use Rattle.tlsf_heap.specs.Blocks.{HeapState}
 use Rattle.tlsf_picture.specs.Drawn.{AreMaps}
 use Rattle.tlsf_picture.proofs.Maps.{map_more}

@@ -1,5 +1,5 @@
 use Rattle.std.proofs.Common.{◌≡◌, map, take}
-use Rattle.tlsf_crew.specs.yard.Workers.{heap_of}
+use Rattle.tlsf_crew.specs.worker.Workers.{heap_of}
 use Rattle.tlsf_picture.specs.Drawn.{AreMaps}
 use Rattle.tlsf_picture.proofs.mapping.map_heaps.Given as goal
 

@@ -1,6 +1,7 @@
 use Rattle.std.proofs.Common.{◌≡◌, length, drop, ap, refl, ◌∙◌, arith}
 use Rattle.std.proofs.lemmas.List.{take_at}
-use Rattle.tlsf_crew.specs.yard.World.{world_of, replies}
+use Rattle.tlsf_crew.specs.lanes.Yard.{world_of}
+use Rattle.tlsf_crew.specs.model.World.{replies}
 use Rattle.tlsf_trace.specs.Output.{yard_of}
 use Rattle.tlsf_trace.proofs.WholeOutput.{assembled}
 use Rattle.tlsf_trace.proofs.output.output_by.Goals as goal

@@ -1,7 +1,7 @@
 use Rattle.std.proofs.Common.{◌≡◌, ◌++◌, [], rules, refl, string_bytes, ◌∙◌}
 use Rattle.std.proofs.lemmas.List.{nil_from_length}
-use Rattle.tlsf_crew.specs.yard.World.{world_of}
-use Rattle.tlsf_crew.proofs.lemmas.yard.InParts.{replies_alone}
+use Rattle.tlsf_crew.specs.lanes.Yard.{world_of}
+use Rattle.tlsf_crew.proofs.lemmas.model.InParts.{replies_alone}
 use Rattle.tlsf_trace.proofs.PartByPart.{all_left, all_made, all_told, part_left, part_made, part_told}
 use Rattle.tlsf_trace.proofs.output.write_run.Goals as goal
 

@@ -1,6 +1,6 @@
 use Rattle.std.proofs.Common.{◌≡◌, ◌++◌, length, string_bytes}
-use Rattle.tlsf_crew.specs.yard.Yard.{IsYard}
-use Rattle.tlsf_crew.specs.yard.World.{world_of, replies, replies_behind}
+use Rattle.tlsf_crew.specs.lanes.Yard.{IsYard, world_of}
+use Rattle.tlsf_crew.specs.model.World.{replies, replies_behind}
 use Rattle.tlsf_lines.specs.ReplyLines.{reply_text}
 use Rattle.tlsf_trace.proofs.output.write_run.Given as goal
 

@@ -1,5 +1,5 @@
 use Rattle.std.proofs.Common.{◌≡◌, ◌++◌, map, string_bytes, drop}
-use Rattle.tlsf_crew.specs.yard.Workers.{heap_of}
+use Rattle.tlsf_crew.specs.worker.Workers.{heap_of}
 use Rattle.tlsf_trace.specs.ReportLines.{report_text, report_text_from}
 use Rattle.tlsf_trace.proofs.report_lines.write_reports.Given as goal
 

@@ -1,6 +1,6 @@
 use Rattle.std.proofs.Common.{◌≡◌, ◌≤◌, List, length, map, vec_capacity}
 use Rattle.tlsf_post.specs.Mailboxes.{number_of, below_but}
-use Rattle.tlsf_crew.specs.declared.worker.Worker.{Worker}
+use Rattle.tlsf_crew.specs.declared.worker.worker.Worker.{Worker}
 use Rattle.tlsf_crew.specs.declared.queues.queues.Queues.{Queues}
 use Rattle.tlsf_crew.specs.queues.QueueOpening.{GaveEnds, HaveSlotsFor}
 use Rattle.tlsf_crew.proofs.queues.queue_opening.give_ends.Given as goal

@@ -1,7 +1,7 @@
 use Rattle.std.proofs.Common.{◌∙◌, ℕ, get_or, set, arith, subst, sym}
 use Rattle.std.proofs.lemmas.List.{length-set}
 use Rattle.tlsf_post.specs.Mailboxes.{IsWhole, below_but}
-use Rattle.tlsf_crew.specs.declared.worker.Worker.{Worker}
+use Rattle.tlsf_crew.specs.declared.worker.worker.Worker.{Worker}
 use Rattle.tlsf_crew.specs.declared.queues.queues.Queues.{Queues}
 use Rattle.tlsf_crew.specs.queues.QueueOpening.{GaveEnds}
 use Rattle.tlsf_crew.proofs.lemmas.queues.QueueSettled.{ends_whole, numbers_still, owner_there, queue_settled, slots_still}

@@ -1,4 +1,4 @@
-use Rattle.std.proofs.Common.{arith, length, sym, subst}
+use Rattle.std.proofs.Common.{arith, length}
 use Rattle.tlsf_crew.proofs.lemmas.queues.QueueWorlds.{settled_world}
 use Rattle.tlsf_crew.proofs.queues.queue_settle.settle_queues.Goals as goal
 

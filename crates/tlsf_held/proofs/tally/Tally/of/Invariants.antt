@@ -1,5 +1,5 @@
 use Rattle.std.proofs.Common.{◌≡◌, ◌≤◌, drop, fold}
-use Rattle.tlsf_crew.specs.yard.History.{entries_of}
+use Rattle.tlsf_crew.specs.histories.History.{entries_of}
 use Rattle.tlsf_held.specs.Tallies.{noted, tally_of}
 use Rattle.tlsf_held.proofs.tally.Tally.of.Given as goal
 

@@ -9,16 +9,16 @@ use Rattle.tlsf_post.specs.Rule.{posts_of}
 use Rattle.tlsf_post.specs.Mailboxes.{got_by, known_to, number_of, put_by}
 use Rattle.tlsf_post.specs.declared.post.Post.{Post}
 use Rattle.tlsf_post.specs.declared.poster_end.PosterEnd.{PosterEnd}
-use Rattle.tlsf_crew.specs.declared.worker.Worker.{Worker}
+use Rattle.tlsf_crew.specs.declared.worker.worker.Worker.{Worker}
 use Rattle.tlsf_crew.specs.declared.queues.queues.Queues.{Queues}
 use Rattle.tlsf_crew.specs.queues.QueueCalls.{TakenFromQueue}
 use Rattle.tlsf_crew.specs.queues.QueueOpening.{AreFreshQueues}
 use Rattle.tlsf_crew.specs.queues.QueueSettle.{AllKnown}
 use Rattle.tlsf_crew.specs.queues.QueueWorkers.{HasQueueEnd, PutsIntoQueue, TookOut, queue_end_to, queue_to}
 use Rattle.tlsf_crew.specs.queues.QueueYard.{IsQueueYard, queue_waits_in, queue_world_of, waits_of}
-use Rattle.tlsf_crew.specs.yard.Calls.{AfterTake, PostedThere, put_answer}
-use Rattle.tlsf_crew.specs.yard.Workers.{id_of}
-use Rattle.tlsf_crew.proofs.lemmas.yard.Slots.{get_set_other, get_set_same}
+use Rattle.tlsf_crew.specs.worker.Calls.{AfterTake, PostedThere, put_answer}
+use Rattle.tlsf_crew.specs.worker.Workers.{id_of}
+use Rattle.tlsf_crew.proofs.lemmas.worker.Slots.{get_set_other, get_set_same}
 use Rattle.tlsf_yard_checks.proofs.tests.queue_races.post_and_take.Goals as goal
 
 -- ---- what was posted waits

@@ -1,12 +1,12 @@
 use Rattle.std.proofs.Common.{◌≡◌, ◌≢◌, ◌∙◌, ◌<◌, ◌≤◌, ℕ, Some, get_or, set, arith, rules, subst}
 use Rattle.std.specs.List.{slice_get}
 use Rattle.std.proofs.lemmas.Option.{slice_get-get_or}
-use Rattle.tlsf_crew.specs.declared.worker.Worker.{Worker}
-use Rattle.tlsf_crew.specs.declared.yard.lanes.Lanes.{Lanes}
-use Rattle.tlsf_crew.specs.yard.Calls.{KeepsYards}
-use Rattle.tlsf_crew.specs.yard.Yard.{IsYard}
-use Rattle.tlsf_crew.proofs.lemmas.yard.Halves.{low_is, high_is, low_first}
-use Rattle.tlsf_crew.proofs.lemmas.yard.Slots.{get_set_other}
+use Rattle.tlsf_crew.specs.declared.worker.worker.Worker.{Worker}
+use Rattle.tlsf_crew.specs.declared.worker.lanes.Lanes.{Lanes}
+use Rattle.tlsf_crew.specs.lanes.LaneCalls.{KeepsYards}
+use Rattle.tlsf_crew.specs.lanes.Yard.{IsYard}
+use Rattle.tlsf_crew.proofs.lemmas.worker.Halves.{low_is, high_is, low_first}
+use Rattle.tlsf_crew.proofs.lemmas.worker.Slots.{get_set_other}
 use Rattle.tlsf_yard_checks.proofs.tests.races.release_at_once.Goals as goal
 
 first_in : (n : ℕ) → n ≡ 2 → 0 < n

@@ -1,5 +1,4 @@
-use Rattle.std.proofs.Common.{ap}
-use Rattle.tlsf_crew.proofs.lemmas.yard.PortsKept.{post_keeps}
+use Rattle.tlsf_crew.proofs.lemmas.worker.PortsKept.{post_keeps}
 use Rattle.tlsf_crew.proofs.lemmas.queues.QueueDrains.{queues_keep_yards}
 use Rattle.tlsf_crew.proofs.queues.queues.QueueWorker+SLI.post.Goals as goal
 

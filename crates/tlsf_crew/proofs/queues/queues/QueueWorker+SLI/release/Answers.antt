@@ -1,4 +1,4 @@
-use Rattle.tlsf_crew.proofs.lemmas.yard.PortsKept.{release_keeps}
+use Rattle.tlsf_crew.proofs.lemmas.worker.PortsKept.{release_keeps}
 use Rattle.tlsf_crew.proofs.lemmas.queues.QueueDrains.{queues_keep_yards}
 use Rattle.tlsf_crew.proofs.queues.queues.QueueWorker+SLI.release.Goals as goal
 

@@ -1,8 +1,8 @@
 use Rattle.std.proofs.Common.{◌≡◌, ◌∙◌, arith, refl, sym, ap, Some, None}
 use Rattle.std.specs.Option.{option_copied_mut}
 use Rattle.std.proofs.lemmas.Option.{slice_get_within}
-use Rattle.tlsf_crew.proofs.lemmas.yard.StandingEnd.{same_end, end_stands}
-use Rattle.tlsf_crew.proofs.lemmas.yard.Slots.{from_slot, slot_new, slot_other}
+use Rattle.tlsf_crew.proofs.lemmas.worker.StandingEnd.{same_end, end_stands}
+use Rattle.tlsf_crew.proofs.lemmas.worker.Slots.{from_slot, slot_new, slot_other}
 use Rattle.tlsf_crew.proofs.queues.queues.QueuesExchange.put.Goals as goal
 
 pub returns : goal.returns

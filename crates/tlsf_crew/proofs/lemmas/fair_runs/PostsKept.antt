@@ -1,0 +1,116 @@
+-- A take or a drain keeps the names.
+use Rattle.std.proofs.Common.{suc, zero, [], ◌∷◌, ◌++◌, ◌≡◌, ℕ, ◌-◌, ◌<◌, List, Some, length, take, drop, sym, ◌∙◌, ap, arith, refl, inl, inr, subst, ◌⊎◌}
+use Rattle.std.specs.List.{slice_get, fold}
+use Rattle.std.proofs.lemmas.Bool.{cases_eq}
+use Rattle.std.proofs.lemmas.List.{take-append-drop}
+use Rattle.std.proofs.lemmas.List.Elements.{All-push}
+use Rattle.tlsf_post.specs.declared.post.Post.{Post}
+use Rattle.tlsf_heap.specs.declared.name.Name.{Name}
+use Rattle.tlsf_heap.specs.Laws.{IsLive}
+use Rattle.tlsf_crew.specs.model.Heaps.{released}
+use Rattle.tlsf_calls.specs.declared.took.Took.{Took}
+use Rattle.tlsf_calls.specs.declared.entry.Entry.{Entry}
+use Rattle.tlsf_crew.specs.model.World.{World, with_waiting, heap_in, took, took_more, Draining, drained_lane, drained_below, after_drain}
+use Rattle.tlsf_crew.specs.fair_runs.FairRuns.{IsNotStale, NoneStale}
+use Rattle.tlsf_crew.proofs.lemmas.model.Edits.{edited_same, edited_other}
+use Rattle.tlsf_crew.proofs.lemmas.model.OneEvent.{from_other, from_own}
+use Rattle.tlsf_crew.proofs.lemmas.fair_runs.HeapNames.{released_known, released_id, released_stays}
+use Rattle.tlsf_crew.proofs.lemmas.fair_runs.NamesKept.{IsKept, heap_kept}
+
+-- post z of the lane from i to j is post k once the first post of the lane from `from` to `at` is taken
+abbrev IsNext : (from at i j k z : ℕ) → Type 0
+IsNext from at i j k z = ((i ≡ from) × (j ≡ at) × (z ≡ suc k)) ⊎ ((i ≡ from → j ≡ at → ⊥) × (z ≡ k))
+
+seen_taken : {sli : ℕ} (w : World sli) (from at : ℕ) (p : Post) (rest : List Post) → w.waiting from at ≡ p ∷ rest → (i j k : ℕ) (q : Post)
+    → slice_get ((with_waiting w from at rest).waiting i j) k ≡ Some q → (z : ℕ) × (slice_get (w.waiting i j) z ≡ Some q) × IsNext from at i j k z
+seen_taken w from at p rest waits i j k q e =
+    elim (cases_eq i from) [
+      | inl a ↦ elim (cases_eq j at) [
+        | inl b ↦
+            let same : (with_waiting w from at rest).waiting i j ≡ rest = rw (a, b) (edited_same w.waiting from at rest) in
+            let here : slice_get rest k ≡ Some q = sym (ap (λ l. slice_get l k) same) ∙ e in
+            let there : slice_get (w.waiting i j) (suc k) ≡ Some q = rw (a, b, waits) here in
+            (suc k, there, inl (a, b, refl))
+        | inr b ↦ (k, sym (ap (λ l. slice_get l k) (edited_other w.waiting from at i j rest (λ _ f. b f))) ∙ e, inr ((λ _ f. b f), refl))
+      ]
+      | inr a ↦ (k, sym (ap (λ l. slice_get l k) (edited_other w.waiting from at i j rest (λ f _. a f))) ∙ e, inr ((λ f _. a f), refl))
+    ]
+
+places : (i j x y from at k z s t : ℕ) → IsNext from at i j k s → IsNext from at x y z t → i ≡ x → j ≡ y → s ≡ t → k ≡ z
+places i j x y from at k z s t a b ix jy st =
+    elim a [
+      | inl p ↦ elim b [ inl q ↦ omega (arith, p.2, q.2, st) | inr q ↦ absurd (q.0 (sym ix ∙ p.0) (sym jy ∙ p.1)) ]
+      | inr p ↦ elim b [ inl q ↦ absurd (p.0 (ix ∙ q.0) (jy ∙ q.1)) | inr q ↦ omega (arith, p.1, q.1, st) ]
+    ]
+
+-- the first post of a lane is taken out
+shift_kept : {sli : ℕ} (made gone : Name → Type 0) (w : World sli) (from at : ℕ) (p : Post) (rest : List Post) → w.waiting from at ≡ p ∷ rest
+    → IsKept made gone w → IsKept made gone (with_waiting w from at rest)
+shift_kept made gone w from at p rest waits kept = record {
+  ids = kept.ids;
+  live = kept.live;
+  waits = λ i j k q e. let s = seen_taken w from at p rest waits i j k q e in kept.waits i j s.0 q s.1;
+  once = λ i j k x y z a b e f same.
+      let s = seen_taken w from at p rest waits i j k a e in
+      let t = seen_taken w from at p rest waits x y z b f in
+      let u = kept.once i j s.0 x y t.0 a b s.1 t.1 same in
+      (u.0, u.1, places i j x y from at k z s.0 t.0 s.2 t.2 u.0 u.1 u.2);
+}
+
+-- and the block that it names is released
+pub took_kept : {sli : ℕ} (made gone : Name → Type 0) (w : World sli) (at from : ℕ) (p : Post) (rest : List Post) → w.waiting from at ≡ p ∷ rest → IsKept made gone w
+    → IsNotStale (took w at from p rest).reply × IsKept made gone (took w at from p rest).world
+took_kept made gone w at from p rest waits kept =
+    let v = with_waiting w from at rest in
+    let first : slice_get (w.waiting from at) 0 ≡ Some p = rw waits refl in
+    let own = kept.waits from at 0 p first in
+    let at_in : at < length w.heaps = omega (arith, own.0, own.1.0) in
+    let block : IsLive (heap_in w at) p.name = subst (λ (z : ℕ). IsLive (heap_in w z) p.name) own.0 own.1.1 in
+    let apart : (i j k : ℕ) (q : Post) → slice_get (v.waiting i j) k ≡ Some q → q.name ≡ p.name → ⊥ =
+    λ i j k q e same.
+    let s = seen_taken w from at p rest waits i j k q e in
+    let u = kept.once i j s.0 from at 0 q p s.1 first same in
+    elim s.2 [ inl a ↦ omega (arith, a.2, u.2) | inr a ↦ a.0 u.0 u.1 ] in
+    let known = released_known (heap_in w at) p.name block in (
+      ((λ e. cc), λ t e stale. let same : ◌≡◌ {A = Took} (record { from = p.from; name = p.name; answer = (released (heap_in w at) p.name).answer }) t = cc in known (ap (λ (x : Took). x.answer) same ∙ stale)),
+      heap_kept made gone (λ m. m ≡ p.name → ⊥) v at (released (heap_in w at) p.name).heap at_in (released_id (heap_in w at) p.name)
+          (λ m other live. released_stays (heap_in w at) p.name m other live) (λ m a b e. b (subst gone (sym e) own.2)) apart
+          (shift_kept made gone w from at p rest waits kept),
+    )
+
+-- ---- a drain
+
+abbrev IsDrainKept : {sli : ℕ} (made gone : Name → Type 0) → Draining sli → Type 0
+IsDrainKept made gone d = IsKept made gone d.world × NoneStale d.entries
+
+pub none_push : (es : List Entry) (e : Entry) → NoneStale es → IsNotStale e.reply → NoneStale (es ++ e ∷ [])
+none_push es e none not = All-push (λ entry. IsNotStale entry.reply) es e none not
+
+lane_kept : {sli : ℕ} (made gone : Name → Type 0) (at from : ℕ) (rest ps : List Post) (d : Draining sli) → d.world.waiting from at ≡ ps ++ rest
+    → IsDrainKept made gone d → IsDrainKept made gone (fold (took_more at from) d ps)
+lane_kept made gone at from rest [] d e k = k
+lane_kept made gone at from rest (p ∷ ps) d e k =
+    let next : drop 1 (d.world.waiting from at) ≡ ps ++ rest = ap (drop 1) e in
+    let full : d.world.waiting from at ≡ p ∷ drop 1 (d.world.waiting from at) = e ∙ ap (λ l. p ∷ l) (sym next) in
+    let t = took_kept made gone d.world at from p (drop 1 (d.world.waiting from at)) full k.0 in
+    lane_kept made gone at from rest ps (took_more at from d p)
+    (edited_same d.world.waiting from at (drop 1 (d.world.waiting from at)) ∙ next) (t.1, none_push d.entries _ k.1 t.0)
+
+drained_kept : {sli : ℕ} (made gone : Name → Type 0) (at most from : ℕ) (d : Draining sli) → IsDrainKept made gone d → IsDrainKept made gone (drained_lane at most from d)
+unfolding drained_lane
+drained_kept made gone at most from d k =
+    let m = most - d.taken in
+    lane_kept made gone at from (drop m (d.world.waiting from at)) (take m (d.world.waiting from at)) d (sym (take-append-drop m (d.world.waiting from at))) k
+
+below_kept : {sli : ℕ} (made gone : Name → Type 0) (at most : ℕ) (d : Draining sli) (j : ℕ) → IsDrainKept made gone d → IsDrainKept made gone (drained_below at most d j)
+below_kept made gone at most d zero k = k
+below_kept made gone at most d (suc j) k =
+    let b = below_kept made gone at most d j k in
+    elim (cases_eq j at) [
+      | inl e ↦ rw (from_own at most (drained_below at most d j) j e) b
+      | inr e ↦ rw (from_other at most (drained_below at most d j) j e) (drained_kept made gone at most j (drained_below at most d j) b)
+    ]
+
+pub all_kept : {sli : ℕ} (made gone : Name → Type 0) (at most : ℕ) (d : Draining sli) → IsDrainKept made gone d → IsDrainKept made gone (after_drain at most d)
+unfolding after_drain
+all_kept made gone at most d k = below_kept made gone at most d (length d.world.heaps) k

@@ -1,0 +1,99 @@
+-- A worker whose ends, or whose heap, are another's: what its yard has in each slot.
+use Rattle.std.proofs.Common.{◌≡◌, ℕ, ap, suc, zero, [], ◌∷◌, ◌≢◌, ◌<◌, List, Option, Some, None, length, set, sym, ◌∙◌, map, refl, inl, inr}
+use Rattle.tlsf_crew.specs.declared.worker.worker.Worker.{Worker}
+use Rattle.tlsf_crew.specs.declared.worker.lanes.Lanes.{Lanes}
+use Rattle.tlsf_crew.specs.lanes.LaneWorkers.{id_and_capacity, end_to, end_from, lane_to, lane_from}
+use Rattle.tlsf_crew.specs.worker.Workers.{SameButHeap, SameButPorts, heap_of, slot_of}
+use Rattle.std.specs.List.{slice_get}
+use Rattle.std.proofs.lemmas.Option.{get_or_from_slice_get, slice_get_within}
+use Rattle.std.proofs.lemmas.Bool.{cases_eq}
+use Rattle.std.proofs.Math.ListN.{length-set}
+use Rattle.std.proofs.Math.Seq.{map-set_same}
+use Rattle.tlsf_post.specs.declared.post_end.PostEnd.{PostEnd}
+use Rattle.tlsf_post.specs.declared.take_end.TakeEnd.{TakeEnd}
+use Rattle.tlsf_crew.specs.lanes.Yard.{end_to_in, end_from_in, yard_heap, HasEnds}
+use Rattle.tlsf_crew.specs.lanes.LaneSteps.{LaneStep, LaneChange, SameLane, InYard}
+use Rattle.tlsf_crew.proofs.lemmas.worker.Slots.{get_set_same, get_set_other, got, got_first, got_second, from_slot, some_same}
+
+pub same_parts : {sli : ℕ} (a v : Worker sli Lanes) → SameButHeap a v → (id_and_capacity v ≡ id_and_capacity a) × (end_to v ≡ end_to a) × (end_from v ≡ end_from a)
+same_parts a v same = (λ t. (same.0 t, (same.1 t).capacity), ap lane_to same.1, ap lane_from same.1)
+
+pub ports_numbers : {sli : ℕ} (a v : Worker sli Lanes) → SameButPorts a v → v.ports.capacity ≡ a.ports.capacity → id_and_capacity v ≡ id_and_capacity a
+ports_numbers a v same e = λ t. (same.0 t, e t)
+
+-- a field of the workers that a write leaves
+pub map_same : {sli : ℕ} {X : Type 0} (f : Worker sli Lanes → X) (ws : List (Worker sli Lanes)) (i : ℕ) (a v : Worker sli Lanes) → slice_get ws i ≡ Some a → f v ≡ f a → map f (set ws i v) ≡ map f ws
+map_same f ws i a v is e = map-set_same f ws i v a (e ∙ ap f (sym (get_or_from_slice_get ws i a a is)))
+
+pub same_then : {sli : ℕ} (ws vs us : List (Worker sli Lanes)) (i j : ℕ) → SameLane ws vs i j → SameLane vs us i j → SameLane ws us i j
+same_then ws vs us i j a b = (b.0 ∙ a.0, b.1 ∙ a.1)
+
+-- every other lane
+pub step_same : {sli : ℕ} (ws vs : List (Worker sli Lanes)) (i j x y : ℕ) → i ≢ j → LaneStep ws i j vs → (x ≡ i → y ≡ j → ⊥) → SameLane ws vs x y
+step_same ws vs i j x y ne s away =
+    let m = s.met in
+    let i_in : i < length ws = slice_get_within ws i s.a s.a_is in
+    let j_in : j < length ws = slice_get_within ws j s.b s.b_is in
+    let at_i : slice_get vs i ≡ Some s.v = rw s.after (got_first ws i j s.v s.w ne i_in) in
+    let at_j : slice_get vs j ≡ Some s.w = rw s.after (got_second ws i j s.v s.w j_in) in (
+      elim (cases_eq x i) [
+        | inl xi ↦ let yj : y ≢ j = λ e. away xi e in rw (xi, at_i, s.a_is, m.posts, get_set_other s.a.ports.posts.items j y (Some m.new_post) yj) refl
+        | inr xi ↦ elim (cases_eq x j) [
+          | inl xj ↦ rw (xj, at_j, s.b_is) (ap (λ k. slot_of (slice_get k.items y)) m.same_taker.2)
+          | inr xj ↦ rw (s.after, got ws i j x s.v s.w xi xj) refl
+        ]
+      ],
+      elim (cases_eq y j) [
+        | inl yj ↦ let xi : x ≢ i = λ e. away e yj in rw (yj, at_j, s.b_is, m.takes, get_set_other s.b.ports.takes.items i x (Some m.new_take) xi) refl
+        | inr yj ↦ elim (cases_eq y i) [
+          | inl yi ↦ rw (yi, at_i, s.a_is) (ap (λ k. slot_of (slice_get k.items x)) m.same_poster.2)
+          | inr yi ↦ rw (s.after, got ws i j y s.v s.w yi yj) refl
+        ]
+      ],
+    )
+
+pub from_post : {sli : ℕ} (o : Option (Worker sli Lanes)) (j : ℕ) (p : PostEnd) → end_to_in o j ≡ Some p
+    → (a : Worker sli Lanes) × (o ≡ Some a) × (slice_get a.ports.posts.items j ≡ Some (Some p))
+from_post None j p h = cc
+from_post (Some w) j p h = (w, refl, from_slot (slice_get w.ports.posts.items j) p h)
+
+pub from_take : {sli : ℕ} (o : Option (Worker sli Lanes)) (i : ℕ) (t : TakeEnd) → end_from_in o i ≡ Some t
+    → (a : Worker sli Lanes) × (o ≡ Some a) × (slice_get a.ports.takes.items i ≡ Some (Some t))
+from_take None i t h = cc
+from_take (Some w) i t h = (w, refl, from_slot (slice_get w.ports.takes.items i) t h)
+
+-- both ends stand in the yard
+pub in_yard : {sli : ℕ} (ws : List (Worker sli Lanes)) (i j : ℕ) → HasEnds ws i j → InYard ws i j
+in_yard ws i j h =
+    let a = from_post (slice_get ws i) j h.0 h.2 in
+    let b = from_take (slice_get ws j) i h.1 h.3 in
+    (a.0, b.0, a.1, b.1, (h.0, h.1, a.2, b.2, h.4))
+
+-- settling one lane
+pub settled : {sli : ℕ} (ws vs : List (Worker sli Lanes)) (i j : ℕ) → i ≢ j → (s : LaneStep ws i j vs) → LaneChange ws vs i j s.met.post s.met.take s.met.new_post s.met.new_take
+settled ws vs i j ne s =
+    let m = s.met in
+    let i_in : i < length ws = slice_get_within ws i s.a s.a_is in
+    let j_in : j < length ws = slice_get_within ws j s.b s.b_is in
+    let at_i : slice_get vs i ≡ Some s.v = rw s.after (got_first ws i j s.v s.w ne i_in) in
+    let at_j : slice_get vs j ≡ Some s.w = rw s.after (got_second ws i j s.v s.w j_in) in
+    let j_post : j < length s.a.ports.posts.items = slice_get_within s.a.ports.posts.items j (Some m.post) m.post_is in
+    let i_take : i < length s.b.ports.takes.items = slice_get_within s.b.ports.takes.items i (Some m.take) m.take_is in
+    let b_still : slice_get (set ws i s.v) j ≡ Some s.b = get_set_other ws i j s.v (λ e. ne (sym e)) ∙ s.b_is in
+    record {
+      post_is = rw (s.a_is, m.post_is) refl;
+      take_is = rw (s.b_is, m.take_is) refl;
+      new_post_is = rw (at_i, m.posts, get_set_same s.a.ports.posts.items j (Some m.new_post) j_post) refl;
+      new_take_is = rw (at_j, m.takes, get_set_same s.b.ports.takes.items i (Some m.new_take) i_take) refl;
+      same = λ x y away. step_same ws vs i j x y ne s away;
+      heaps = rw s.after (map_same heap_of (set ws i s.v) j s.b s.w b_still (ap (λ h. h.heap) m.same_taker.0) ∙ map_same heap_of ws i s.a s.v s.a_is (ap (λ h. h.heap) m.same_poster.0));
+      numbers = rw s.after (map_same id_and_capacity (set ws i s.v) j s.b s.w b_still m.same_taker.1 ∙ map_same id_and_capacity ws i s.a s.v s.a_is m.same_poster.1);
+      len = ap length s.after ∙ (length-set _ j s.w ∙ length-set ws i s.v);
+      lane = m.meets.lane;
+      capacity = m.meets.capacity;
+    }
+
+pub heap_at : {sli : ℕ} (ws : List (Worker sli Lanes)) (i : ℕ) (a : Worker sli Lanes) → slice_get ws i ≡ Some a → yard_heap ws i ≡ heap_of a
+heap_at [] i a e = cc
+heap_at (w ∷ ws) zero a e = ap heap_of (some_same w a e)
+heap_at (w ∷ ws) (suc i) a e = heap_at ws i a e

@@ -1,0 +1,116 @@
+-- What a list of events is answered doesn't depend on the entries before it: they stay in front. So a list can be run in parts.
+use Rattle.std.proofs.Common.{zero, suc, [], ◌∷◌, ◌++◌, ◌≡◌, ℕ, ◌-◌, ◌+◌, List, Option, None, length, take, drop, sym, ◌∙◌, ap, refl, inl, inr, append_assoc, append-nil}
+use Rattle.std.specs.List.{fold}
+use Rattle.std.proofs.lemmas.Bool.{cases_eq, cases_lt}
+use Rattle.std.proofs.lemmas.List.Sums.{fold-append}
+use Rattle.tlsf_heap.specs.declared.name.Name.{Name}
+use Rattle.tlsf_post.specs.declared.post.Post.{Post}
+use Rattle.tlsf_calls.specs.declared.entry.Entry.{Entry}
+use Rattle.tlsf_calls.specs.declared.event.Event.{Event}
+use Rattle.tlsf_calls.specs.declared.call.Call.{Call}
+use Rattle.tlsf_calls.specs.declared.call.Call.TheVariants.{Allocate, Release, Write, Read, Resize, Take, Drain}
+use Rattle.tlsf_calls.specs.declared.reply.Reply.TheVariants.{Drained}
+use Rattle.tlsf_crew.specs.model.World.{World, Replied, Replayed, Draining, made_by, took, took_more, drained_lane, drained_below, after_drain, draining, answered, called, after, replies, resumed, replies_behind}
+use Rattle.tlsf_crew.proofs.lemmas.model.EventSteps.{after_far, after_near}
+use Rattle.tlsf_crew.proofs.lemmas.model.OneEvent.{from_other, from_own}
+
+abbrev drain_of : {sli : ℕ} → List Entry → World sli → ℕ → Draining sli
+drain_of entries world taken = record { entries = entries; world = world; taken = taken }
+
+abbrev run_so_far : {sli : ℕ} → List (Option Name) → List Entry → World sli → Replayed sli
+run_so_far made entries world = record { made = made; entries = entries; world = world }
+
+-- a drain with entries in front
+abbrev drain_behind : {sli : ℕ} → List Entry → Draining sli → Draining sli
+drain_behind es d = record { entries = es ++ d.entries; world = d.world; taken = d.taken }
+
+-- events with entries in front
+abbrev pub behind : {sli : ℕ} → List Entry → Replayed sli → Replayed sli
+behind es r = record { made = r.made; entries = es ++ r.entries; world = r.world }
+
+took_behind : {sli : ℕ} (at from : ℕ) (es : List Entry) (d : Draining sli) (p : Post) → took_more at from (drain_behind es d) p ≡ drain_behind es (took_more at from d p)
+took_behind at from es d p =
+    let r = took d.world at from p (drop 1 (d.world.waiting from at)) in
+    ap (λ (l : List Entry). drain_of l r.world (d.taken + 1)) (append_assoc es d.entries (record { worker = at; call = Take from; reply = r.reply } ∷ []))
+
+posts_behind : {sli : ℕ} (at from : ℕ) (es : List Entry) (ps : List Post) (d : Draining sli) → fold (took_more at from) (drain_behind es d) ps ≡ drain_behind es (fold (took_more at from) d ps)
+posts_behind {sli} at from es [] d = refl
+posts_behind {sli} at from es (p ∷ ps) d =
+    ap (λ (x : Draining sli). fold (took_more at from) x ps) (took_behind at from es d p) ∙ posts_behind at from es ps (took_more at from d p)
+
+lane_behind : {sli : ℕ} (at most from : ℕ) (es : List Entry) (d : Draining sli) → drained_lane at most from (drain_behind es d) ≡ drain_behind es (drained_lane at most from d)
+unfolding drained_lane
+lane_behind at most from es d = posts_behind at from es (take (most - d.taken) (d.world.waiting from at)) d
+
+below_behind : {sli : ℕ} (at most : ℕ) (es : List Entry) (d : Draining sli) (k : ℕ) → drained_below at most (drain_behind es d) k ≡ drain_behind es (drained_below at most d k)
+below_behind at most es d zero = refl
+below_behind at most es d (suc k) =
+    let h = below_behind at most es d k in
+    let b = drained_below at most d k in
+    elim (cases_eq k at) [
+      | inl e ↦ from_own at most (drained_below at most (drain_behind es d) k) k e ∙ (h ∙ ap (drain_behind es) (sym (from_own at most b k e)))
+      | inr ne ↦
+          from_other at most (drained_below at most (drain_behind es d) k) k ne
+          ∙ (ap (drained_lane at most k) h ∙ (lane_behind at most k es b ∙ ap (drain_behind es) (sym (from_other at most b k ne))))
+    ]
+
+all_behind : {sli : ℕ} (at most : ℕ) (es : List Entry) (d : Draining sli) → after_drain at most (drain_behind es d) ≡ drain_behind es (after_drain at most d)
+unfolding after_drain
+all_behind at most es d = below_behind at most es d (length d.world.heaps)
+
+answered_behind : {sli : ℕ} (es : List Entry) (r : Replayed sli) (at : ℕ) (call : Call) (a : Replied sli) → answered (behind es r) at call a ≡ behind es (answered r at call a)
+answered_behind es r at call a =
+    ap (λ (l : List Entry). run_so_far (r.made ++ made_by a.reply ∷ []) l a.world) (append_assoc es r.entries (record { worker = at; call = call; reply = a.reply } ∷ []))
+
+own_entry : {sli : ℕ} → ℕ → ℕ → Draining sli → Entry
+own_entry at most d = record { worker = at; call = Drain most; reply = Drained d.taken }
+
+draining_behind : {sli : ℕ} (es : List Entry) (r : Replayed sli) (at most : ℕ) → draining (behind es r) at most ≡ behind es (draining r at most)
+unfolding draining own_entry
+draining_behind {sli} es r at most =
+    let d = after_drain at most (drain_of r.entries r.world 0) in
+    ap (λ (d : Draining sli). run_so_far (r.made ++ None ∷ []) (d.entries ++ own_entry at most d ∷ []) d.world) (all_behind at most es (drain_of r.entries r.world 0))
+    ∙ ap (λ (l : List Entry). run_so_far (r.made ++ None ∷ []) l d.world) (append_assoc es d.entries (own_entry at most d ∷ []))
+
+called_behind : {sli : ℕ} (es : List Entry) (r : Replayed sli) (at : ℕ) (call : Call) → called (behind es r) at call ≡ behind es (called r at call)
+called_behind es r at (Allocate len) = answered_behind es r at (Allocate len) _
+called_behind es r at (Release target) = answered_behind es r at (Release target) _
+called_behind es r at (Write target from bytes) = answered_behind es r at (Write target from bytes) _
+called_behind es r at (Read target from n) = answered_behind es r at (Read target from n) _
+called_behind es r at (Resize target len) = answered_behind es r at (Resize target len) _
+called_behind es r at (Take from) = answered_behind es r at (Take from) _
+called_behind es r at (Drain most) = draining_behind es r at most
+
+after_behind : {sli : ℕ} (es : List Entry) (r : Replayed sli) (e : Event) → after (behind es r) e ≡ behind es (after r e)
+after_behind es r e =
+    elim (cases_lt e.worker (length r.world.heaps)) [
+      | inl lt ↦ rw (after_near (behind es r) e e.call lt refl, after_near r e e.call lt refl) (called_behind es r e.worker e.call)
+      | inr ge ↦ rw (after_far (behind es r) e ge, after_far r e ge) (answered_behind es r e.worker e.call _)
+    ]
+
+events_behind : {sli : ℕ} (es : List Entry) (events : List Event) (r : Replayed sli) → fold after (behind es r) events ≡ behind es (fold after r events)
+events_behind {sli} es [] r = refl
+events_behind {sli} es (e ∷ events) r = ap (λ (x : Replayed sli). fold after x events) (after_behind es r e) ∙ events_behind es events (after r e)
+
+-- a list of events in two parts: the second behind the names that the first made
+pub replies_in_parts : {sli : ℕ} (w : World sli) (made : List (Option Name)) (xs ys : List Event)
+    → let d = replies_behind w made xs in replies_behind w made (xs ++ ys) ≡ behind d.entries (replies_behind d.world d.made ys)
+unfolding replies_behind
+replies_in_parts w made xs ys =
+    let d = fold after (resumed w made) xs in
+    fold-append after (resumed w made) xs ys
+    ∙ (ap (λ (l : List Entry). fold after (run_so_far d.made l d.world) ys) (sym (append-nil d.entries)) ∙ events_behind d.entries ys (resumed d.world d.made))
+
+-- behind no names a list of events is answered as it is alone
+pub replies_alone : {sli : ℕ} (w : World sli) (es : List Event) → replies_behind w [] es ≡ replies w es
+unfolding replies replies_behind
+replies_alone w es = refl
+
+pub replies_behind_is : {sli : ℕ} (w : World sli) (made : List (Option Name)) (es : List Event) → replies_behind w made es ≡ fold after (resumed w made) es
+unfolding replies_behind
+replies_behind_is w made es = refl
+
+-- no event is answered nothing, and leaves the world
+pub replies_none : {sli : ℕ} (w : World sli) (made : List (Option Name)) → replies_behind w made [] ≡ resumed w made
+unfolding replies_behind
+replies_none w made = refl

@@ -1,0 +1,48 @@
+-- A call that a worker makes on its yard is the model's step of the world.
+use Rattle.std.proofs.Common.{◌==◌, nat_lt, true, false, ◌≡◌, ◌≢◌, ℕ, ◌<◌, ◌≤◌, length, ap, arith, refl, inl, inr}
+use Rattle.std.proofs.lemmas.Bool.{cases_eq}
+use Rattle.std.proofs.lemmas.Bool.Decides.{nat_tests}
+use Rattle.tlsf_heap.specs.declared.name.Name.{Name}
+use Rattle.tlsf_heap.specs.Blocks.{HeapState}
+use Rattle.std.proofs.lemmas.List.{set-get_or}
+use Rattle.tlsf_calls.specs.declared.reply.Reply.TheVariants.{Refused}
+use Rattle.tlsf_calls.specs.declared.crew_refusal.CrewRefusal.TheVariants.{Stranger}
+use Rattle.tlsf_crew.specs.model.World.{World, with_heap, posting, taking_next, taking, releasing, heap_in, Draining, drained_lane, drained_from, no_heap}
+
+pub same_heap : {sli : ℕ} (w : World sli) (at : ℕ) (h : HeapState) → h ≡ heap_in w at → with_heap w at h ≡ w
+same_heap w at h e = rw e (ap (λ l. record { heaps = l; waiting = w.waiting; capacity = w.capacity }) (set-get_or w.heaps at no_heap))
+
+pub releasing_post : {sli : ℕ} (w : World sli) (at : ℕ) (name : Name) → name.heap ≢ at → name.heap < length w.heaps → releasing w at name ≡ posting w at name
+releasing_post w at name ne lt =
+    let a : (name.heap == at) ≡ false = grind (arith, nat_tests) in
+    let b : nat_lt name.heap (length w.heaps) ≡ true = grind (arith, nat_tests) in
+    rw (a, b) refl
+
+pub releasing_far : {sli : ℕ} (w : World sli) (at : ℕ) (name : Name) → name.heap ≢ at → length w.heaps ≤ name.heap → releasing w at name ≡ record { reply = Refused Stranger; world = w }
+releasing_far w at name ne le =
+    let a : (name.heap == at) ≡ false = grind (arith, nat_tests) in
+    let b : nat_lt name.heap (length w.heaps) ≡ false = grind (arith, nat_tests) in
+    rw (a, b) refl
+
+pub taking_lane : {sli : ℕ} (w : World sli) (at from : ℕ) → from ≢ at → from < length w.heaps → taking w at from ≡ taking_next w at from
+taking_lane w at from ne lt =
+    let a : (from == at) ≡ false = grind (arith, nat_tests) in
+    let b : nat_lt from (length w.heaps) ≡ true = grind (arith, nat_tests) in
+    rw (a, b) refl
+
+pub taking_own : {sli : ℕ} (w : World sli) (at from : ℕ) → from ≡ at → taking w at from ≡ record { reply = Refused Stranger; world = w }
+taking_own w at from e = let a : (from == at) ≡ true = grind (arith, nat_tests) in rw a refl
+
+pub taking_far : {sli : ℕ} (w : World sli) (at from : ℕ) → length w.heaps ≤ from → taking w at from ≡ record { reply = Refused Stranger; world = w }
+taking_far w at from le =
+    let b : nat_lt from (length w.heaps) ≡ false = grind (arith, nat_tests) in
+    elim (cases_eq from at) [
+      | inl e ↦ taking_own w at from e
+      | inr n ↦ let a : (from == at) ≡ false = grind (arith, nat_tests) in rw (a, b) refl
+    ]
+
+pub from_other : {sli : ℕ} (at most : ℕ) (d : Draining sli) (from : ℕ) → from ≢ at → drained_from at most d from ≡ drained_lane at most from d
+from_other at most d from ne = let b : (from == at) ≡ false = grind (arith, nat_tests) in rw b refl
+
+pub from_own : {sli : ℕ} (at most : ℕ) (d : Draining sli) (from : ℕ) → from ≡ at → drained_from at most d from ≡ d
+from_own at most d from e = let b : (from == at) ≡ true = grind (arith, nat_tests) in rw b refl

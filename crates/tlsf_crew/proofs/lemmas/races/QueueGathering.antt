@@ -1,0 +1,69 @@
+-- Where each worker over queues ran its script, each record has a place left.
+use Rattle.std.proofs.Common.{◌∙◌, ℕ, List, length, map, get_or, vec_capacity, All, ap, sym, arith, subst}
+use Rattle.std.specs.Prelude.{slice_index}
+use Rattle.std.specs.declared.vec.Vec.{Vec}
+use Rattle.std.specs.declared.alloc.Global.{Global}
+use Rattle.std.proofs.lemmas.List.{length-map}
+use Rattle.std.proofs.lemmas.Option.{slice_get-get_or, slice_get_within}
+use Rattle.tlsf_calls.specs.declared.call.Call.{Call}
+use Rattle.tlsf_calls.specs.declared.entry.Entry.{Entry}
+use Rattle.tlsf_crew.specs.declared.worker.worker.Worker.{Worker}
+use Rattle.tlsf_crew.specs.declared.queues.queues.Queues.{Queues}
+use Rattle.tlsf_crew.specs.races.LaneTasks.{KeepRooms}
+use Rattle.tlsf_crew.specs.jobs.Parts.{ScriptsRan}
+use Rattle.tlsf_crew.specs.scripts.Scripts.{script_of}
+use Rattle.tlsf_crew.specs.races.Rooms.{HaveQueueRecordRooms}
+use Rattle.tlsf_crew.specs.scripts.Counts.{releases_of}
+use Rattle.tlsf_crew.specs.scripts.QueueMoves.{QueueMoved, IsQueueLimit}
+use Rattle.tlsf_crew.specs.races.QueueTasks.{HasPlace, HaveQueuesRun, KnowsSomeYard}
+use Rattle.tlsf_crew.specs.model.QueueTold.{MayTellQueue}
+use Rattle.tlsf_crew.specs.queues.QueueWorkers.{KnowsQueueYard}
+use Rattle.tlsf_crew.specs.queues.QueueYard.{IsQueueYard}
+use Rattle.tlsf_crew.proofs.lemmas.queues.QueueOpened.{some_at}
+use Rattle.tlsf_crew.proofs.lemmas.scripts.QueueRuns.{queue_moves}
+use Rattle.tlsf_crew.proofs.lemmas.scripts.ScriptRuns.{script_room}
+use Rattle.tlsf_crew.proofs.lemmas.jobs.Gathering.{record_at}
+use Rattle.tlsf_crew.proofs.lemmas.model.Sums.{same_sum}
+use Rattle.tlsf_crew.proofs.lemmas.worker.Slots.{some_same}
+
+-- each worker of a whole yard is one of it
+pub each_knows_some : {sli : ℕ} (ws : List (Worker sli Queues)) → IsQueueYard ws → All KnowsSomeYard ws
+each_knows_some ws yard k d lt = let w = yard.workers k (get_or ws k d) (slice_get-get_or ws k d lt) in (length ws, w.knows)
+
+abbrev QueuesRan : {sli : ℕ} → List (Worker sli Queues) → List (List Call) → List (Vec Entry Global) → List (Worker sli Queues) → Type 0
+QueuesRan {sli} ws scripts records vs = ScriptsRan (λ queues releases limits. IsQueueLimit releases limits) KnowsQueueYard (MayTellQueue sli) QueueMoved ws scripts records vs
+
+pub queues_ran : {sli : ℕ} (ws vs : List (Worker sli Queues)) (scripts : List (List Call)) (records : List (Vec Entry Global)) → QueuesRan ws scripts records vs → HaveQueuesRun ws scripts (map (λ r. r.items) records) vs
+queues_ran ws vs scripts records run = record {
+  made = run.made;
+  worker_count = run.worker_count;
+  record_count = length-map records (λ (r : Vec Entry Global). r.items) ∙ run.record_count;
+  ran = λ j a is.
+      let r = run.ran j a is in
+      let x = r.4 in
+      (r.0, r.2, λ n k. record { limits = x.limits; left = x.left; run = rw (record_at records j r.1 r.3) (x.run n k) });
+}
+
+pub queue_places : {sli : ℕ} (ws vs : List (Worker sli Queues)) (scripts : List (List Call)) (records : List (Vec Entry Global)) → IsQueueYard ws → QueuesRan ws scripts records vs → All HasPlace records
+queue_places ws vs scripts records yard run k d lt =
+    let a = some_at ws k (omega (arith, run.record_count)) in
+    let w = yard.workers k a.0 a.1 in
+    let r = run.ran k a.0 a.1 in
+    let x = r.4 in
+    let here = slice_get-get_or records k d lt in
+    let room = script_room _ _ _ queue_moves _ _ _ _ _ _ _ (x.run (length ws) w.knows) in
+    let l = r.1.ok in
+    subst HasPlace (some_same r.1 (get_or records k d) (sym r.3 ∙ here)) (omega (arith, x.room))
+
+-- each record has the room that was made, and keeps it
+pub queue_record_rooms : {sli : ℕ} (ws vs : List (Worker sli Queues)) (scripts : List (List Call)) (records : List (Vec Entry Global)) → QueuesRan ws scripts records vs → HaveQueueRecordRooms scripts records
+queue_record_rooms ws vs scripts records run j r there =
+    let a = some_at ws j (omega (arith, run.record_count, slice_get_within records j r there)) in
+    let x = run.ran j a.0 a.1 in
+    let ran = x.4 in
+    let capacity = ap (λ (v : Vec Entry Global). vec_capacity v) (some_same x.1 r (sym x.3 ∙ there)) in
+    let sums = same_sum 8 (slice_index run.releases) (λ i. releases_of (script_of scripts i)) (λ i lt. sym (run.counts i lt)) in
+    omega (arith, capacity, ran.room, ran.limits_are.0, ran.limits_are.1, sums)
+
+pub queue_rooms_kept : (scripts : List (List Call)) (records ss : List (Vec Entry Global)) → HaveQueueRecordRooms scripts records → KeepRooms records ss → HaveQueueRecordRooms scripts ss
+queue_rooms_kept scripts records ss rooms keep j s there = let k = keep j s there in k.2 ∙ rooms j k.0 k.1

@@ -1,0 +1,98 @@
+-- The last drains of a race over queues, worker after worker, take all that was known to have been put, and are told.
+use Rattle.std.proofs.Common.{[], ◌∷◌, ◌++◌, ◌≡◌, ◌≢◌, ℕ, ◌+◌, ◌<◌, ◌≤◌, List, Option, Some, length, set, sym, ◌∙◌, ap, subst, arith, refl, inl, inr, append_assoc, append-nil, get_or, get_or-set_other}
+use mathlib.Core.List.{IsPrefix}
+use Rattle.std.proofs.lemmas.Bool.{cases_eq}
+use Rattle.std.proofs.lemmas.List.{length-map, length-set, map-set}
+use Rattle.std.proofs.lemmas.Option.{slice_get_within}
+use Rattle.std.specs.List.{slice_get}
+use Rattle.std.specs.declared.vec.Vec.{Vec}
+use Rattle.std.specs.declared.alloc.Global.{Global}
+use Rattle.tlsf_heap.specs.declared.name.Name.{Name}
+use Rattle.tlsf_post.specs.Rule.{posts_of}
+use Rattle.tlsf_post.specs.Mailboxes.{got_by, known_to}
+use Rattle.tlsf_calls.specs.declared.entry.Entry.{Entry}
+use Rattle.tlsf_calls.specs.declared.reply.Reply.TheVariants.{Drained}
+use Rattle.tlsf_crew.specs.scripts.Scripts.{last_call}
+use Rattle.tlsf_calls.specs.Entries.{record_of}
+use Rattle.tlsf_crew.specs.model.Sums.{sum_of}
+use Rattle.tlsf_crew.specs.histories.History.{posts_taken, post_of_take}
+use Rattle.tlsf_crew.specs.declared.worker.worker.Worker.{Worker}
+use Rattle.tlsf_crew.specs.declared.queues.queues.Queues.{Queues}
+use Rattle.tlsf_crew.specs.worker.Workers.{id_of}
+use Rattle.tlsf_crew.specs.queues.QueueWorkers.{queue_end_to, KeepsQueueYards, KnowsQueueYard}
+use Rattle.tlsf_crew.specs.queues.QueueYard.{IsQueueYard}
+use Rattle.tlsf_crew.specs.scripts.QueueMoves.{QueueStepped, entry_by}
+use Rattle.tlsf_crew.specs.races.QueueTasks.{DrainedLast, QueuesDrained}
+use Rattle.tlsf_crew.proofs.lemmas.races.LastDrains.{items_of, record_items}
+use Rattle.tlsf_crew.proofs.lemmas.histories.JoinedEntries.{told_nothing, taken_then}
+use Rattle.tlsf_crew.proofs.lemmas.worker.Slots.{get_set_other, get_set_same, some_same}
+use Rattle.tlsf_crew.proofs.lemmas.queues.QueueOpened.{some_at}
+use Rattle.tlsf_crew.proofs.lemmas.queues.QueueYards.{all_kept}
+
+-- ---- one worker
+
+pub drained_last : {sli : ℕ} (n : ℕ) (a v : Worker sli Queues) (limits left : List ℕ) (at taken : ℕ) (entries between longer : List Entry) → taken ≤ sum_of limits → sum_of limits < 8192 → at ≡ id_of v
+    → ((made : List (Option Name)) → QueueStepped n a limits last_call made entries v left between (Drained taken)) → queue_end_to v ≡ queue_end_to a
+    → longer ≡ between ++ record { worker = at; call = last_call; reply = Drained taken } ∷ [] → DrainedLast n a v entries longer
+drained_last n a v limits left at taken entries between longer few less is step ends more =
+    let x = step [] in
+    let m = x.moved [] in
+    let id : at ≡ id_of a = is ∙ m.yard.number in
+    let z = entry_by (id_of a) last_call (Drained taken) in
+    let g : longer ≡ between ++ z ∷ [] = more ∙ ap (λ (i : ℕ). between ++ entry_by i last_call (Drained taken) ∷ []) id in
+    record {
+      own = x.own ++ z ∷ [];
+      entries_are = g ∙ (ap (λ l. l ++ z ∷ []) x.entries_are ∙ append_assoc entries x.own (z ∷ []));
+      told = λ made. let y = step made in rw g y.told;
+      limits = limits;
+      left = left;
+      moved = λ made. x.moved made;
+      all = λ i.
+          let at_end = m.drained x.own z 8192 taken ([], refl) refl refl (omega arith) i in
+          let no_take = told_nothing (λ e. post_of_take i e.call e.reply) (id_of a) z refl in
+          let taken_is : posts_taken i (id_of a) (x.own ++ z ∷ []) ≡ posts_taken i (id_of a) x.own
+          = taken_then i (id_of a) x.own (z ∷ []) ∙ (ap (λ l. posts_taken i (id_of a) x.own ++ l) no_take ∙ append-nil (posts_taken i (id_of a) x.own)) in
+          subst (IsPrefix (posts_of i (known_to a.ports.own))) (sym (m.taken i ∙ ap (λ l. posts_of i (got_by a.ports.own) ++ l) taken_is)) at_end;
+      ends = ends;
+    }
+
+-- ---- all workers
+
+pub drained_next : {sli : ℕ} (ws us : List (Worker sli Queues)) (rs ss : List (Vec Entry Global)) (j : ℕ) (u w : Worker sli Queues) (r s : Vec Entry Global) → QueuesDrained ws (items_of rs) (items_of ss) us j → slice_get us j ≡ Some u
+    → slice_get ss j ≡ Some r → slice_get rs j ≡ Some r → ((n : ℕ) → KnowsQueueYard n u → DrainedLast n u w r.items s.items) → QueuesDrained ws (items_of rs) (items_of (set ss j s)) (set us j w) (j + 1)
+drained_next {sli} ws us rs ss j u w r s x at here there step =
+    let j_in = slice_get_within us j u at in
+    let le : j ≤ j = omega arith in
+    let was : slice_get ws j ≡ Some u = sym (x.later_workers j le) ∙ at in
+    let s_in = slice_get_within ss j r here in
+    record {
+      worker_count = length-set us j w ∙ x.worker_count;
+      record_count = length-map (set ss j s) (λ (e : Vec Entry Global). e.items) ∙ (length-set ss j s ∙ (sym (length-map ss (λ (e : Vec Entry Global). e.items)) ∙ x.record_count));
+      drained = λ k a lt is. elim (cases_eq k j) [
+        | inl e ↦
+            let a_is : u ≡ a = some_same u a (sym was ∙ (sym (ap (slice_get ws) e) ∙ is)) in
+            let before : r.items ≡ record_of (items_of rs) k = sym (ap (record_of (items_of rs)) e ∙ record_items rs j r there) in
+            let after : s.items ≡ record_of (items_of (set ss j s)) k = sym (ap (record_of (items_of (set ss j s))) e ∙ record_items (set ss j s) j s (get_set_same ss j s s_in)) in (
+              w,
+              ap (slice_get (set us j w)) e ∙ get_set_same us j w j_in,
+              λ n known. subst (λ (z : Worker sli Queues × List Entry × List Entry). DrainedLast n z.0 w z.1 z.2) (λ t. (a_is t, before t, after t)) (step n (subst (KnowsQueueYard n) (sym a_is) known)),
+            )
+        | inr ne ↦
+            let below : k < j = omega arith in
+            let o = x.drained k a below is in
+            let same : record_of (items_of ss) k ≡ record_of (items_of (set ss j s)) k
+            = sym (ap (λ (l : List (List Entry)). get_or l k []) (map-set (λ (e : Vec Entry Global). e.items) ss j s) ∙ get_or-set_other (items_of ss) j k s.items [] ne) in
+            (o.0, get_set_other us j k w ne ∙ o.1, λ n known. subst (DrainedLast n a o.0 (record_of (items_of rs) k)) same (o.2 n known))
+      ];
+      later_workers = λ k after. let ne : k ≢ j = (λ e. omega arith) in get_set_other us j k w ne ∙ x.later_workers k (omega arith);
+    }
+
+-- the yard is whole then
+pub drained_yard : {sli : ℕ} (ws : List (Worker sli Queues)) (rs ss : List (List Entry)) (vs : List (Worker sli Queues)) → IsQueueYard ws → QueuesDrained ws rs ss vs (length ws) → IsQueueYard vs
+drained_yard {sli} ws rs ss vs yard x = all_kept ws vs yard x.worker_count (λ j v is.
+    let a = some_at ws j (omega (arith, slice_get_within vs j v is, x.worker_count)) in
+    let o = x.drained j a.0 (slice_get_within ws j a.0 a.1) a.1 in
+    let w = yard.workers j a.0 a.1 in
+    let d = o.2 (length ws) w.knows in
+    let m = d.moved [] in
+    record { old = a.0; is = a.1; keeps = subst (λ (z : Worker sli Queues). KeepsQueueYards a.0 z) (some_same o.0 v (sym o.1 ∙ is)) m.yard })

@@ -1,0 +1,208 @@
+-- A list of events makes at most one entry for each event, for each release and for each post that waits.
+use Rattle.std.proofs.Common.{suc, zero, cond, ◌==◌, true, false, [], ◌∷◌, ◌++◌, ◌≡◌, ℕ, ◌+◌, ◌-◌, ◌<◌, ◌≤◌, List, Option, Some, None, length, take, drop, sym, ◌∙◌, ap, arith, refl, inl, inr}
+use Rattle.std.specs.List.{fold}
+use Rattle.std.proofs.lemmas.Bool.{cases_eq, cases_lt}
+use Rattle.std.proofs.lemmas.Bool.Decides.{nat_tests}
+use Rattle.std.proofs.lemmas.List.{length_push, length-set, take-append-drop}
+use Rattle.std.proofs.lemmas.List.Sums.{sum_by-cons}
+use Rattle.tlsf_heap.specs.Blocks.{HeapState}
+use Rattle.tlsf_heap.specs.declared.name.Name.{Name}
+use Rattle.tlsf_post.specs.declared.post.Post.{Post}
+use Rattle.tlsf_calls.specs.declared.event.Event.{Event}
+use Rattle.tlsf_calls.specs.declared.call.Call.{Call}
+use Rattle.tlsf_calls.specs.declared.call.Call.TheVariants.{Allocate, Release, Write, Read, Resize, Take, Drain}
+use Rattle.tlsf_calls.specs.declared.reply.Reply.TheVariants.{Drained, Refused}
+use Rattle.tlsf_calls.specs.declared.crew_refusal.CrewRefusal.TheVariants.{Stranger}
+use Rattle.tlsf_calls.specs.Bytes.{bytes_of}
+use Rattle.tlsf_crew.specs.model.Heaps.{released}
+use Rattle.tlsf_crew.specs.model.OwnReplies.{OwnReplied, own_allocating, own_reading, own_resizing, own_writing}
+use Rattle.tlsf_crew.specs.model.World.{World, Replied, Replayed, with_heap, with_waiting, heap_in, by_own, posting, releasing, releasing_named, taking, taking_next, took_first, took, took_more, Draining, drained_lane, drained_below, after_drain, draining, answered, called, after, resumed, name_of}
+use Rattle.tlsf_crew.specs.lanes.Yard.{world_of, IsYard, waits_in}
+use Rattle.tlsf_crew.specs.model.Sums.{sum_below, waiting_in}
+use Rattle.tlsf_crew.specs.scripts.Counts.{is_release, releases_in}
+use Rattle.tlsf_crew.proofs.lemmas.model.Edits.{edited_same}
+use Rattle.tlsf_crew.proofs.lemmas.lanes.LaneChanges.{heaps_count}
+use Rattle.tlsf_crew.proofs.lemmas.model.OneEvent.{releasing_post, releasing_far, taking_lane, taking_own, taking_far, from_other, from_own}
+use Rattle.tlsf_crew.proofs.lemmas.model.EventSteps.{after_far, after_near}
+use Rattle.tlsf_crew.specs.declared.worker.worker.Worker.{Worker}
+use Rattle.tlsf_crew.specs.declared.worker.lanes.Lanes.{Lanes}
+use Rattle.tlsf_crew.proofs.lemmas.scripts.LaneMoves.{sum_has}
+use Rattle.tlsf_crew.proofs.lemmas.lanes.LaneSettled.{none_wait, none_for}
+use Rattle.tlsf_crew.proofs.lemmas.model.Sums.{edited_sum}
+
+heap_waits : {sli : ℕ} (w : World sli) (at : ℕ) (h : HeapState) → waiting_in (with_heap w at h) ≡ waiting_in w
+unfolding waiting_in
+heap_waits w at h = rw (length-set w.heaps at h) refl
+
+lane_waits : {sli : ℕ} (w : World sli) (i j : ℕ) (ps : List Post) → i < length w.heaps → j < length w.heaps → waiting_in (with_waiting w i j ps) + length (w.waiting i j) ≡ waiting_in w + length ps
+unfolding waiting_in
+lane_waits w i j ps i_in j_in = edited_sum (length w.heaps) w.waiting i j ps i_in j_in
+
+post_waits : {sli : ℕ} (w : World sli) (at : ℕ) (name : Name) → at < length w.heaps → name.heap < length w.heaps → waiting_in (posting w at name).world ≤ waiting_in w + 1
+unfolding posting
+post_waits w at name at_in to_in =
+    elim (cases_eq (length (w.waiting at name.heap)) w.capacity) [
+      | inl e ↦ let b : (length (w.waiting at name.heap) == w.capacity) ≡ true = grind (arith, nat_tests) in rw b (omega arith)
+      | inr e ↦
+          let b : (length (w.waiting at name.heap) == w.capacity) ≡ false = grind (arith, nat_tests) in
+          let x : Post = record { from = at; name = name } in
+          let a = lane_waits w at name.heap (w.waiting at name.heap ++ x ∷ []) at_in to_in in
+          let n = length_push (w.waiting at name.heap) x in
+          rw b (omega arith)
+    ]
+
+release_waits : {sli : ℕ} (w : World sli) (at : ℕ) (name : Name) → at < length w.heaps → waiting_in (releasing w at name).world ≤ waiting_in w + 1
+release_waits w at name at_in =
+    elim (cases_eq name.heap at) [
+      | inl e ↦
+          let b : (name.heap == at) ≡ true = grind (arith, nat_tests) in
+          let h = heap_waits w at (released (heap_in w at) name).heap in
+          rw b (omega arith)
+      | inr e ↦ elim (cases_lt name.heap (length w.heaps)) [
+        | inl lt ↦ rw (releasing_post w at name e lt) (post_waits w at name at_in lt)
+        | inr ge ↦ rw (releasing_far w at name e ge) (omega arith)
+      ]
+    ]
+
+named_waits : {sli : ℕ} (w : World sli) (at : ℕ) (name : Option Name) → at < length w.heaps → waiting_in (releasing_named w at name).world ≤ waiting_in w + 1
+named_waits w at None at_in = omega arith
+named_waits w at (Some name) at_in = release_waits w at name at_in
+
+own_waits : {sli : ℕ} (w : World sli) (at : ℕ) (by : HeapState → OwnReplied) → waiting_in (by_own w at by).world ≤ waiting_in w
+own_waits w at by = let h = heap_waits w at (by (heap_in w at)).heap in omega arith
+
+-- a take takes one post out
+took_waits : {sli : ℕ} (w : World sli) (at from : ℕ) (p : Post) (rest : List Post) → at < length w.heaps → from < length w.heaps → w.waiting from at ≡ p ∷ rest
+    → waiting_in (took w at from p rest).world + 1 ≡ waiting_in w
+took_waits w at from p rest at_in from_in e =
+    let h = heap_waits (with_waiting w from at rest) at (released (heap_in w at) p.name).heap in
+    let a = lane_waits w from at rest from_in at_in in
+    let n : length (w.waiting from at) ≡ length rest + 1 = ap length e ∙ omega arith in
+    omega arith
+
+first_waits : {sli : ℕ} (w : World sli) (at from : ℕ) (ps : List Post) → at < length w.heaps → from < length w.heaps → w.waiting from at ≡ ps → waiting_in (took_first w at from ps).world ≤ waiting_in w
+first_waits w at from [] at_in from_in e = omega arith
+first_waits w at from (p ∷ rest) at_in from_in e = let a = took_waits w at from p rest at_in from_in e in omega arith
+
+next_waits : {sli : ℕ} (w : World sli) (at from : ℕ) → at < length w.heaps → from < length w.heaps → waiting_in (taking_next w at from).world ≤ waiting_in w
+unfolding taking_next
+next_waits w at from at_in from_in = first_waits w at from (w.waiting from at) at_in from_in refl
+
+take_waits : {sli : ℕ} (w : World sli) (at from : ℕ) → at < length w.heaps → waiting_in (taking w at from).world ≤ waiting_in w
+take_waits w at from at_in =
+    elim (cases_eq from at) [
+      | inl e ↦ rw (taking_own w at from e) (omega arith)
+      | inr e ↦ elim (cases_lt from (length w.heaps)) [
+        | inl lt ↦ let a = next_waits w at from at_in lt in rw (taking_lane w at from e lt) (omega arith)
+        | inr ge ↦ rw (taking_far w at from ge) (omega arith)
+      ]
+    ]
+
+-- each post that a drain takes makes one entry
+abbrev IsEven : {sli : ℕ} → Draining sli → Draining sli → Type 0
+IsEven d b = (length b.entries + waiting_in b.world ≡ length d.entries + waiting_in d.world) × (length b.world.heaps ≡ length d.world.heaps)
+
+even_then : {sli : ℕ} (d b e : Draining sli) → IsEven d b → IsEven b e → IsEven d e
+even_then d b e x y = (y.0 ∙ x.0, y.1 ∙ x.1)
+
+lane_even : {sli : ℕ} (at from : ℕ) (rest ps : List Post) (d : Draining sli) → at < length d.world.heaps → from < length d.world.heaps → d.world.waiting from at ≡ ps ++ rest
+    → IsEven d (fold (took_more at from) d ps)
+lane_even at from rest [] d at_in from_in e = (refl, refl)
+lane_even at from rest (p ∷ ps) d at_in from_in e =
+    let next : drop 1 (d.world.waiting from at) ≡ ps ++ rest = ap (drop 1) e in
+    let full : d.world.waiting from at ≡ p ∷ drop 1 (d.world.waiting from at) = e ∙ ap (λ l. p ∷ l) (sym next) in
+    let t = took_waits d.world at from p (drop 1 (d.world.waiting from at)) at_in from_in full in
+    let n = length_push d.entries (record { worker = at; call = Take from; reply = (took d.world at from p (drop 1 (d.world.waiting from at))).reply }) in
+    let len : length (took_more at from d p).world.heaps ≡ length d.world.heaps = length-set d.world.heaps at (released (heap_in d.world at) p.name).heap in
+    let step : IsEven d (took_more at from d p) = (omega arith, len) in
+    even_then d (took_more at from d p) (fold (took_more at from) (took_more at from d p) ps) step (lane_even at from rest ps (took_more at from d p) (omega arith) (omega arith)
+    (edited_same d.world.waiting from at (drop 1 (d.world.waiting from at)) ∙ next))
+
+drained_even : {sli : ℕ} (at most from : ℕ) (d : Draining sli) → at < length d.world.heaps → from < length d.world.heaps → IsEven d (drained_lane at most from d)
+unfolding drained_lane
+drained_even at most from d at_in from_in =
+    let m = most - d.taken in
+    lane_even at from (drop m (d.world.waiting from at)) (take m (d.world.waiting from at)) d at_in from_in (sym (take-append-drop m (d.world.waiting from at)))
+
+below_even : {sli : ℕ} (at most : ℕ) (d : Draining sli) (k : ℕ) → at < length d.world.heaps → k ≤ length d.world.heaps → IsEven d (drained_below at most d k)
+below_even at most d zero at_in le = (refl, refl)
+below_even at most d (suc k) at_in le =
+    let b = drained_below at most d k in
+    let h = below_even at most d k at_in (omega arith) in
+    let len = h.1 in
+    elim (cases_eq k at) [
+      | inl e ↦ rw (from_own at most b k e) h
+      | inr e ↦ rw (from_other at most b k e) (even_then d b (drained_lane at most k b) h (drained_even at most k b (omega arith) (omega arith)))
+    ]
+
+all_even : {sli : ℕ} (at most : ℕ) (d : Draining sli) → at < length d.world.heaps → IsEven d (after_drain at most d)
+unfolding after_drain
+all_even at most d at_in = below_even at most d (length d.world.heaps) at_in (omega arith)
+
+drain_even : {sli : ℕ} (r : Replayed sli) (at most : ℕ) → at < length r.world.heaps → length (draining r at most).entries + waiting_in (draining r at most).world ≡ length r.entries + waiting_in r.world + 1
+unfolding draining
+drain_even {sli} r at most at_in =
+    let d : Draining sli = record { entries = r.entries; world = r.world; taken = 0 } in
+    let a = (all_even at most d at_in).0 in
+    let n = length_push (after_drain at most d).entries (record { worker = at; call = Drain most; reply = Drained (after_drain at most d).taken }) in
+    omega arith
+
+-- an event makes one entry, and a release one more later on where it posts
+abbrev later : Call → ℕ
+later call = cond (is_release call) 1 0
+
+answered_room : {sli : ℕ} (r : Replayed sli) (at : ℕ) (call : Call) (a : Replied sli) → waiting_in a.world ≤ waiting_in r.world + later call
+    → length (answered r at call a).entries + waiting_in (answered r at call a).world ≤ length r.entries + waiting_in r.world + 1 + later call
+answered_room r at call a le = let n = length_push r.entries (record { worker = at; call = call; reply = a.reply }) in omega arith
+
+called_room : {sli : ℕ} (r : Replayed sli) (at : ℕ) (call : Call) → at < length r.world.heaps
+    → length (called r at call).entries + waiting_in (called r at call).world ≤ length r.entries + waiting_in r.world + 1 + later call
+called_room {sli} r at (Allocate len) at_in = answered_room r at (Allocate len) _ (let h = own_waits r.world at (λ h. own_allocating sli h len) in omega arith)
+called_room {sli} r at (Release target) at_in = answered_room r at (Release target) _ (named_waits r.world at (name_of r.made target) at_in)
+called_room {sli} r at (Write target from bytes) at_in = answered_room r at (Write target from bytes) _ (let h = own_waits r.world at (λ h. own_writing h (name_of r.made target) from (bytes_of bytes)) in omega arith)
+called_room {sli} r at (Read target from n) at_in = answered_room r at (Read target from n) _ (let h = own_waits r.world at (λ h. own_reading h (name_of r.made target) from n) in omega arith)
+called_room {sli} r at (Resize target len) at_in = answered_room r at (Resize target len) _ (let h = own_waits r.world at (λ h. own_resizing h (name_of r.made target) len) in omega arith)
+called_room {sli} r at (Take from) at_in = answered_room r at (Take from) _ (let h = take_waits r.world at from at_in in omega arith)
+called_room {sli} r at (Drain most) at_in = let a = drain_even r at most at_in in omega arith
+
+after_room : {sli : ℕ} (r : Replayed sli) (e : Event) → length (after r e).entries + waiting_in (after r e).world ≤ length r.entries + waiting_in r.world + 1 + later e.call
+after_room r e =
+    elim (cases_lt e.worker (length r.world.heaps)) [
+      | inl lt ↦ rw (after_near r e e.call lt refl) (called_room r e.worker e.call lt)
+      | inr ge ↦ rw (after_far r e ge) (answered_room r e.worker e.call (record { reply = Refused Stranger; world = r.world }) (omega arith))
+    ]
+
+all_room : {sli : ℕ} (k : ℕ) (es : List Event) (r : Replayed sli) → k ≤ length es
+    → length (fold after r (take k es)).entries + waiting_in (fold after r (take k es)).world ≤ length r.entries + waiting_in r.world + k + releases_in es
+all_room zero es r le = omega arith
+all_room (suc k) [] r le = absurd (omega arith)
+all_room (suc k) (e ∷ es) r le =
+    let a = after_room r e in
+    let b = all_room k es (after r e) (omega arith) in
+    let c : releases_in (e ∷ es) ≡ later e.call + releases_in es = sum_by-cons (λ x. later x.call) e es in
+    omega arith
+
+-- the entries of the first events, and what waits then
+pub so_far : {sli : ℕ} (k : ℕ) (es : List Event) (w : World sli) (made : List (Option Name)) → k ≤ length es
+    → length (fold after (resumed w made) (take k es)).entries + waiting_in (fold after (resumed w made) (take k es)).world ≤ k + releases_in es + waiting_in w
+so_far k es w made le = let a = all_room k es (resumed w made) le in omega arith
+
+-- what waits for one worker is no more than what waits in the yard
+pub worker_waits : {sli : ℕ} (ws : List (Worker sli Lanes)) (at : ℕ) → IsYard ws → sum_below 8 (λ i. length (waits_in ws i at)) ≤ waiting_in (world_of ws)
+unfolding world_of waiting_in
+worker_waits ws at yard =
+    let n = heaps_count ws in
+    elim (cases_lt at (length ws)) [
+      | inl lt ↦
+          let few = past_sum (length ws) (λ i. length (waits_in ws i at)) 8 yard.few (λ i ge. ap length (none_wait ws i at yard (λ _. ge))) in
+          let all = sum_has (length ws) (λ j. sum_below (length ws) (λ i. length (waits_in ws i j))) at lt in
+          rw n (omega arith)
+      | inr ge ↦ let none = past_sum 0 (λ i. length (waits_in ws i at)) 8 (omega arith) (λ i _. ap length (none_for ws i at yard ge)) in omega arith
+    ]
+  where
+    past_sum : (n : ℕ) (f : ℕ → ℕ) (k : ℕ) → n ≤ k → ((i : ℕ) → n ≤ i → f i ≡ 0) → sum_below k f ≡ sum_below n f
+    past_sum n f zero le none = let z : n ≡ 0 = omega arith in rw z refl
+    past_sum n f (suc k) le none = elim (cases_eq n (suc k)) [
+      | inl e ↦ rw e refl
+      | inr ne ↦ let a = past_sum n f k (omega arith) none in let b = none k (omega arith) in omega arith
+    ]

@@ -1,0 +1,186 @@
+-- A take of a worker in a race, where a limit says how many it may take.
+use Rattle.std.proofs.Common.{[], ◌∷◌, ◌++◌, ◌≡◌, ◌≢◌, ◌-◌, ℕ, ◌<◌, ◌≤◌, List, Option, Some, None, length, take, set, sym, ◌∙◌, ap, arith, refl, inl, inr, ◌⊎◌, subst}
+use mathlib.Core.List.{IsPrefix}
+use Rattle.std.specs.Prelude.{slice_index}
+use Rattle.std.proofs.lemmas.Bool.{cases_eq, cases_lt}
+use Rattle.std.proofs.lemmas.List.{get_or-set_same, get_or-set_other}
+use Rattle.tlsf_heap.specs.Calls as heap
+use Rattle.tlsf_heap.specs.declared.name.Name.{Name}
+use Rattle.tlsf_post.specs.declared.post.Post.{Post}
+use Rattle.tlsf_post.specs.Lanes.{ready}
+use Rattle.tlsf_crew.specs.declared.worker.worker.Worker.{Worker}
+use Rattle.tlsf_crew.specs.declared.worker.lanes.Lanes.{Lanes}
+use Rattle.tlsf_calls.specs.declared.entry.Entry.{Entry}
+use Rattle.tlsf_calls.specs.declared.call.Call.{Call}
+use Rattle.tlsf_calls.specs.declared.call.Call.TheVariants.{Take}
+use Rattle.tlsf_calls.specs.declared.took.Took.{Took}
+use Rattle.tlsf_calls.specs.declared.reply.Reply.TheVariants.{Took as Taken, Empty, Refused}
+use Rattle.tlsf_calls.specs.declared.crew_refusal.CrewRefusal.TheVariants.{Stranger}
+use Rattle.tlsf_crew.specs.model.Heaps.{released}
+use Rattle.tlsf_crew.specs.worker.Workers.{heap_of, id_of}
+use Rattle.tlsf_crew.specs.lanes.LaneWorkers.{TookFrom, TookThrough, KnowsYard}
+use Rattle.tlsf_crew.specs.worker.Calls.{AfterTake}
+use Rattle.tlsf_crew.specs.lanes.LaneCalls.{TakenFromLane}
+use Rattle.tlsf_crew.specs.model.Told.{HasHeap}
+use Rattle.tlsf_crew.specs.model.World.{World, heap_in, taking, taking_next, took, took_first}
+use Rattle.tlsf_crew.specs.scripts.Scripts.{reply_took, TakenWithin}
+use Rattle.tlsf_crew.specs.scripts.Moves.{one, Spent, Moved, ModelReplies, CallStep, TookWithin, took_by}
+use Rattle.tlsf_crew.proofs.lemmas.worker.SameParts.{ports_heap}
+use Rattle.tlsf_crew.proofs.lemmas.lanes.YardKept.{heap_keeps, same_keeps}
+use Rattle.tlsf_crew.proofs.lemmas.scripts.LaneMoves.{moved_take, spent_none, still_empty}
+use Rattle.tlsf_crew.specs.scripts.Journals.{OneFewer}
+use Rattle.tlsf_crew.proofs.lemmas.scripts.ManyEntries.{moved_then}
+use Rattle.tlsf_crew.proofs.lemmas.model.OneEvent.{taking_far, taking_lane, taking_own}
+use Rattle.tlsf_crew.proofs.lemmas.scripts.OneEntry.{Still, IsIdle, moved_still, moved_idle, still_heap}
+use Rattle.tlsf_crew.proofs.lemmas.scripts.OwnAnswers.{itself_answered}
+use Rattle.tlsf_crew.proofs.lemmas.worker.OwnHeaps.{call_keeps}
+use Rattle.tlsf_crew.proofs.lemmas.scripts.Witnesses.{heap_left}
+
+-- ---- under the limit
+
+pub one_fewer : (limits : List ℕ) (i : ℕ) → i < length limits → 0 < slice_index limits i → OneFewer limits i (set limits i (slice_index limits i - 1))
+one_fewer limits i near some =
+    let n = slice_index limits i - 1 in
+    let e = get_or-set_same limits i n 0 near in
+    (omega arith, λ k ne. get_or-set_other limits i k n 0 ne)
+
+no_limit : {A : Type 0} (n : ℕ) (xs : List A) → n ≡ 0 → IsPrefix (take n xs) []
+no_limit n xs e = rw e ([], refl)
+
+-- none may be taken any more
+pub within_none : {sli : ℕ} (a : Worker sli Lanes) (limits : List ℕ) (from : ℕ) → slice_index limits from ≡ 0 → TookWithin a limits from a limits None
+within_none a limits from e = (
+  λ made. moved_still (id_of a) made a a limits (still_heap (id_of a) a a (refl, refl) (same_keeps a)),
+  refl,
+  λ t is. no_limit (slice_index limits from) (ready t) e,
+)
+
+none_case : {sli : ℕ} (a b v : Worker sli Lanes) (limits : List ℕ) (from : ℕ) (post : Option Post) → TookFrom a b from post → AfterTake b v post None → TookWithin a limits from v limits None
+none_case a b v limits from None lane then = (
+  λ made. moved_still (id_of a) made a v limits (subst (Still (id_of a) a) (sym then.1) (still_empty (id_of a) a b from lane)),
+  ap heap_of then.1 ∙ (ports_heap a b lane.0),
+  spent_none (id_of a) a b limits from lane,
+)
+none_case a b v limits from (Some p) lane then = let e = then.0 in absurd cc
+
+-- the lane showed none
+pub within_empty : {sli : ℕ} (a v : Worker sli Lanes) (limits : List ℕ) (from : ℕ) → TakenFromLane a v from None → TookWithin a limits from v limits None
+within_empty a v limits from t = none_case a t.between v limits from t.post t.took t.then
+
+some_case : {sli : ℕ} (a b v : Worker sli Lanes) (limits left : List ℕ) (from : ℕ) (post : Option Post) (took : Took) → from < 8 → OneFewer limits from left → TookFrom a b from post → AfterTake b v post (Some took)
+    → TookWithin a limits from v left (Some took)
+unfolding released
+some_case a b v limits left from None took near fewer lane then = let e = then.0 in absurd cc
+some_case a b v limits left from (Some p) took near fewer lane then =
+    let at = id_of a in
+    let x : Took = record { from = p.from; name = p.name; answer = (heap.released (heap_of b) p.name).answer } in
+    let e : took ≡ x = let d = then.0 in cc in
+    let yard = heap_keeps b v then.2 (call_keeps (heap_of b) (heap_of v) (heap.Release p.name) then.1) in (
+      λ made.
+          let first = moved_take at made a b limits left from x near fewer lane in
+          let all = moved_then at made a b v limits left left [] [] (one at (Take from) (Taken x)) [] first (moved_still at made b v left (still_heap at b v then.2 yard)) in
+          subst (λ y. Moved at made a limits [] (one at (Take from) (Taken y)) v left) (sym e) all,
+      p,
+      e ∙ ap (λ h. took_by h p) (ports_heap a b lane.0),
+      then.1 ∙ ap (λ h. (heap.released h p.name).heap) (ports_heap a b lane.0),
+    )
+
+pub within_some : {sli : ℕ} (a v : Worker sli Lanes) (limits left : List ℕ) (from : ℕ) (took : Took) → from < 8 → OneFewer limits from left → TakenFromLane a v from (Some took) → TookWithin a limits from v left (Some took)
+within_some a v limits left from took near fewer t = some_case a t.between v limits left from t.post took near fewer t.took t.then
+
+-- one post was taken, or no more might be, or the lane showed none
+pub taken_within : {sli : ℕ} (a v : Worker sli Lanes) (limits left : List ℕ) (from : ℕ) (answer : Option Took) → from < 8 → TakenWithin TookThrough a limits from v left answer → TookWithin a limits from v left answer
+taken_within a v limits left from None near t = rw t.0 (elim t.1 [
+  | inl stopped ↦
+      let none : slice_index limits from ≡ 0 = elim (cases_lt 0 (slice_index limits from)) [ inl some ↦ absurd (stopped.0 (near, some)) | inr le ↦ omega arith ] in
+      rw stopped.1 (within_none a limits from none)
+  | inr empty ↦ within_empty a v limits from empty
+])
+taken_within a v limits left from (Some took) near t = within_some a v limits left from took t.0 t.1 t.2
+
+-- ---- a take of its own
+
+refused_take : {sli : ℕ} (at from : ℕ) (later : List (Option Name)) (a : Worker sli Lanes) (limits : List ℕ) → IsIdle at later a limits [] (record { worker = at; call = Take from; reply = Refused Stranger })
+refused_take at from later a limits = record {
+  posts = record { made_none = λ j. refl; taken_none = λ i. refl };
+  full = λ name p e. cc;
+  empty = λ i c e. cc;
+  drained = λ most k i e. cc;
+}
+
+pub take_stranger : {sli : ℕ} (made : List (Option Name)) (n : ℕ) (a : Worker sli Lanes) (limits : List ℕ) (from : ℕ) → KnowsYard n a → (from ≡ id_of a) ⊎ (n ≤ from)
+    → CallStep made a limits (Take from) a limits (Refused Stranger) (λ w. taking w (id_of a) from)
+take_stranger made n a limits from known away =
+    itself_answered made a limits (Take from) (Refused Stranger) (λ w. taking w (id_of a) from) (λ later. refused_take (id_of a) from later a limits)
+    (λ m k w e. elim (cases_eq from (id_of a)) [
+      | inl own ↦ taking_own w (id_of a) from own
+      | inr ne ↦ elim (cases_lt from m) [
+        | inl lt ↦ elim away [
+          | inl own ↦ absurd (ne own)
+          | inr far ↦ let x = (known.from from).0 ((k.from from).1 (lt, ne)) in absurd (omega (arith, x.0))
+        ]
+        | inr ge ↦ taking_far w (id_of a) from (omega arith)
+      ]
+    ])
+
+empty_idle : {sli : ℕ} (at from : ℕ) (later : List (Option Name)) (a : Worker sli Lanes) (limits : List ℕ) → Spent a limits at from [] → IsIdle at later a limits [] (record { worker = at; call = Take from; reply = Empty })
+empty_idle at from later a limits spent = record {
+  posts = record { made_none = λ j. refl; taken_none = λ i. refl };
+  full = λ name p e. cc;
+  empty = λ i c e. let q : from ≡ i = cc in subst (λ x. Spent a limits at x []) q spent;
+  drained = λ most k i e. cc;
+}
+
+-- one call more than what the entries tell
+more_calls : {sli : ℕ} (at : ℕ) (made : List (Option Name)) (a v : Worker sli Lanes) (limits left : List ℕ) (call : Call) (entries : List Entry) → Moved at made a limits [] entries v left → Moved at made a limits (call ∷ []) entries v left
+more_calls at made a v limits left call entries m = record {
+  yard = m.yard;
+  numbers = m.numbers;
+  knows = m.knows;
+  sent = m.sent;
+  taken = m.taken;
+  left_is = m.left_is;
+  full = m.full;
+  empty = m.empty;
+  drained = m.drained;
+  few_posts = λ j. omega (arith, m.few_posts j);
+  few_entries = omega (arith, m.few_entries);
+}
+
+first_world : {sli : ℕ} (w : World sli) (at from : ℕ) (posts : List Post) → w.waiting from at ≡ posts → taking_next w at from ≡ took_first w at from posts
+unfolding taking_next
+first_world w at from posts e = ap (took_first w at from) e
+
+-- a lane that is there for one count of workers is there for the other
+is_near : {sli : ℕ} (n m : ℕ) (a : Worker sli Lanes) (from : ℕ) → KnowsYard n a → KnowsYard m a → from ≢ id_of a → from < n → from < m
+is_near n m a from known k ne lt = let x = (k.from from).0 ((known.from from).1 (lt, ne)) in x.0
+
+took_world : {sli : ℕ} (n : ℕ) (a v : Worker sli Lanes) (from : ℕ) (p : Post) (rest : List Post) (w : World sli) → heap_of v ≡ (released (heap_of a) p.name).heap → id_of a < n → HasHeap w n (id_of a) (heap_of a)
+    → ModelReplies (id_of a) v (Taken (took_by (heap_of a) p)) (took w (id_of a) from p rest)
+took_world n a v from p rest w h lt has = record {
+  reply = ap (λ g. Taken (took_by g p)) (sym has.1);
+  left = h ∙ (ap (λ g. (released g p.name).heap) (sym has.1) ∙ sym (heap_left n (id_of a) w (heap_of a) (released (heap_in w (id_of a)) p.name).heap lt has));
+}
+
+pub take_answered : {sli : ℕ} (made : List (Option Name)) (n : ℕ) (a v : Worker sli Lanes) (limits left : List ℕ) (from : ℕ) (answer : Option Took) → KnowsYard n a → from ≢ id_of a → from < n → TookWithin a limits from v left answer
+    → CallStep made a limits (Take from) v left (reply_took answer) (λ w. taking w (id_of a) from)
+take_answered made n a v limits left from None known ne lt t = record {
+  told = λ m k w has s.
+      let near = is_near n m a from known k ne lt in
+      let inside : from < length w.heaps = omega (arith, has.0) in
+      let e = taking_lane w (id_of a) from ne inside ∙ first_world w (id_of a) from [] (s.empty from refl ne inside refl) in
+      record { reply = ap (λ r. r.reply) (sym e); left = t.1 ∙ (sym has.1 ∙ ap (λ r. heap_in r.world (id_of a)) (sym e)) };
+  moved = λ rest. moved_idle (id_of a) (made ++ rest) a v limits left [] _ (Take from) (t.0 (made ++ rest)) (empty_idle (id_of a) from (made ++ rest) a limits t.2);
+}
+take_answered made n a v limits left from (Some x) known ne lt t = record {
+  told = λ m k w has s.
+      let p = t.1 in
+      let near = is_near n m a from known k ne lt in
+      let inside : from < length w.heaps = omega (arith, has.0) in
+      let f = s.first from x refl ne inside refl in
+      let waits : w.waiting from (id_of a) ≡ p ∷ f.0 = f.1 ∙ ap (λ (y : Took). record { from = y.from; name = y.name } ∷ f.0) t.2 in
+      let e = taking_lane w (id_of a) from ne inside ∙ first_world w (id_of a) from (p ∷ f.0) waits in
+      let y = took_world m a v from p f.0 w t.3 k.self has in
+      record { reply = ap Taken t.2 ∙ (y.reply ∙ ap (λ r. r.reply) (sym e)); left = y.left ∙ ap (λ r. heap_in r.world (id_of a)) (sym e) };
+  moved = λ rest. more_calls (id_of a) (made ++ rest) a v limits left (Take from) _ (t.0 (made ++ rest));
+}

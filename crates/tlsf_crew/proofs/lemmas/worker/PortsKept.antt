@@ -1,0 +1,46 @@
+-- A release and a post keep what another heap and what a put keep, over ports of any kind.
+use Rattle.std.proofs.Common.{◌≡◌, ◌≢◌, ◌⊎◌, ℕ, Result, Err, refl, sym, subst, inl, inr}
+use Rattle.std.proofs.lemmas.Bool.{cases_eq}
+use Rattle.tlsf_heap.specs.Calls as heap
+use Rattle.tlsf_heap.specs.declared.name.Name.{Name}
+use Rattle.tlsf_calls.specs.declared.crew_refusal.CrewRefusal.{CrewRefusal}
+use Rattle.tlsf_calls.specs.declared.crew_refusal.CrewRefusal.TheVariants.{Stranger}
+use Rattle.tlsf_calls.specs.declared.released.Released.{Released}
+use Rattle.tlsf_crew.specs.declared.worker.worker.Worker.{Worker}
+use Rattle.tlsf_crew.specs.worker.Workers.{heap_of, id_of, SameButHeap, SameButPorts, KeepsHeap}
+use Rattle.tlsf_crew.specs.worker.Calls.{PostedThere, ReleasedHere, ReleasedThere}
+use Rattle.tlsf_crew.proofs.lemmas.worker.OwnHeaps.{call_keeps, same_heap_keeps}
+
+-- what ports keep of the yards that a worker fits
+pub record Keeping {sli : ℕ} {P : Type 0} (reaches : P → ℕ → Type 0) (puts : ℕ → P → P → Name → Result (Unit {0}) Name → Type 0) (keeps : Worker sli P → Worker sli P → Type 0) : Type 0 where
+  pub either : (p : P) (j : ℕ) → reaches p j ⊎ ¬ (reaches p j)
+  pub heap : (a v : Worker sli P) → SameButHeap a v → KeepsHeap (heap_of a) (heap_of v) → keeps a v
+  pub put : (a v : Worker sli P) (name : Name) (answer : Result (Unit {0}) Name) → SameButPorts a v → puts (id_of a) a.ports v.ports name answer → keeps a v
+
+pub keeps_same : {sli : ℕ} {P : Type 0} (reaches : P → ℕ → Type 0) (puts : ℕ → P → P → Name → Result (Unit {0}) Name → Type 0) (keeps : Worker sli P → Worker sli P → Type 0) (k : Keeping reaches puts keeps)
+    → (a v : Worker sli P) → v ≡ a → keeps a v
+keeps_same reaches puts keeps k a v same = subst (keeps a) (sym same) (k.heap a a (refl, refl) (same_heap_keeps (heap_of a) (heap_of a) refl))
+
+pub post_keeps : {sli : ℕ} {P : Type 0} (reaches : P → ℕ → Type 0) (puts : ℕ → P → P → Name → Result (Unit {0}) Name → Type 0) (keeps : Worker sli P → Worker sli P → Type 0) (k : Keeping reaches puts keeps)
+    → (a v : Worker sli P) (name : Name) (answer : Result (Unit {0}) CrewRefusal)
+    → (name.heap ≡ id_of a → v ≡ a) → (name.heap ≢ id_of a → reaches a.ports name.heap → PostedThere puts a v name answer) → (name.heap ≢ id_of a → ¬ (reaches a.ports name.heap) → v ≡ a)
+    → keeps a v
+post_keeps reaches puts keeps k a v name answer own there nowhere = elim (cases_eq name.heap (id_of a)) [
+  | inl is ↦ keeps_same reaches puts keeps k a v (own is)
+  | inr ne ↦ elim (k.either a.ports name.heap) [
+    | inl has ↦ let post = there ne has in k.put a v name post.put post.same post.through
+    | inr none ↦ keeps_same reaches puts keeps k a v (nowhere ne none)
+  ]
+]
+
+pub release_keeps : {sli : ℕ} {P : Type 0} (reaches : P → ℕ → Type 0) (puts : ℕ → P → P → Name → Result (Unit {0}) Name → Type 0) (keeps : Worker sli P → Worker sli P → Type 0) (k : Keeping reaches puts keeps)
+    → (a v : Worker sli P) (name : Name) (answer : Result Released CrewRefusal)
+    → (name.heap ≡ id_of a → ReleasedHere a v name answer) → (name.heap ≢ id_of a → reaches a.ports name.heap → ReleasedThere puts a v name answer)
+    → (name.heap ≢ id_of a → ¬ (reaches a.ports name.heap) → (answer ≡ Err Stranger) × (v ≡ a)) → keeps a v
+release_keeps reaches puts keeps k a v name answer here there nowhere = elim (cases_eq name.heap (id_of a)) [
+  | inl is ↦ let h = here is in k.heap a v h.same (call_keeps (heap_of a) (heap_of v) (heap.Release name) h.heap)
+  | inr ne ↦ elim (k.either a.ports name.heap) [
+    | inl has ↦ let post = (there ne has).post in k.put a v name post.put post.same post.through
+    | inr none ↦ keeps_same reaches puts keeps k a v (nowhere ne none).1
+  ]
+]

@@ -1,0 +1,58 @@
+-- A slot that was written has what was written, and each other slot what it had.
+use Rattle.std.proofs.Common.{◌≡◌, ◌≢◌, ℕ, ◌<◌, ◌≤◌, List, Option, Some, None, length, set, sym, ◌∙◌, ap, arith, refl, inl, inr, get_or-set_same, get_or-set_other, suc, zero, replicate}
+use Rattle.std.specs.List.{slice_get}
+use Rattle.std.proofs.lemmas.Option.{slice_get-get_or, slice_get_past}
+use Rattle.std.proofs.lemmas.Bool.{cases_lt}
+use Rattle.std.proofs.Math.ListN.{length-set}
+use Rattle.tlsf_crew.specs.worker.Workers.{slot_of}
+
+pub no_slot : {X : Type 0} (n y : ℕ) → slot_of (slice_get (replicate {A = Option X} n None) y) ≡ None
+no_slot zero y = refl
+no_slot (suc n) zero = refl
+no_slot (suc n) (suc y) = no_slot n y
+
+pub get_set_same : {X : Type 0} (xs : List X) (i : ℕ) (v : X) → i < length xs → slice_get (set xs i v) i ≡ Some v
+get_set_same xs i v lt =
+    let m : i < length (set xs i v) = omega (arith, length-set xs i v) in
+    slice_get-get_or (set xs i v) i v m ∙ ap Some (get_or-set_same xs i v v lt)
+
+pub get_set_other : {X : Type 0} (xs : List X) (i k : ℕ) (v : X) → k ≢ i → slice_get (set xs i v) k ≡ slice_get xs k
+get_set_other xs i k v ne =
+    elim (cases_lt k (length xs)) [
+      | inl lt ↦
+          let m : k < length (set xs i v) = omega (arith, length-set xs i v) in
+          slice_get-get_or (set xs i v) k v m ∙ (ap Some (get_or-set_other xs i k v v ne) ∙ sym (slice_get-get_or xs k v lt))
+      | inr ge ↦
+          let m : length (set xs i v) ≤ k = omega (arith, length-set xs i v) in
+          slice_get_past (set xs i v) k m ∙ sym (slice_get_past xs k ge)
+    ]
+
+-- the ends of a worker after one is written
+pub slot_new : {X : Type 0} (xs ys : List (Option X)) (j : ℕ) (p : X) → j < length xs → ys ≡ set xs j (Some p) → slot_of (slice_get ys j) ≡ Some p
+slot_new xs ys j p lt e = rw (e, get_set_same xs j (Some p) lt) refl
+
+pub slot_other : {X : Type 0} (xs ys : List (Option X)) (j : ℕ) (p : X) → ys ≡ set xs j (Some p) → (k : ℕ) → k ≢ j → slot_of (slice_get ys k) ≡ slot_of (slice_get xs k)
+slot_other xs ys j p e k ne = rw (e, get_set_other xs j k (Some p) ne) refl
+
+pub slot_emptied : {X : Type 0} (xs ys : List (Option X)) (j : ℕ) → ys ≡ set xs j None → (k : ℕ) → k ≢ j → slot_of (slice_get ys k) ≡ slot_of (slice_get xs k)
+slot_emptied xs ys j e k ne = rw (e, get_set_other xs j k None ne) refl
+
+-- worker x after two are written
+pub got : {X : Type 0} (ws : List X) (i j x : ℕ) (v w : X) → x ≢ i → x ≢ j → slice_get (set (set ws i v) j w) x ≡ slice_get ws x
+got ws i j x v w a b = get_set_other (set ws i v) j x w b ∙ get_set_other ws i x v a
+
+pub got_first : {X : Type 0} (ws : List X) (i j : ℕ) (v w : X) → i ≢ j → i < length ws → slice_get (set (set ws i v) j w) i ≡ Some v
+got_first ws i j v w ne lt = get_set_other (set ws i v) j i w ne ∙ get_set_same ws i v lt
+
+pub got_second : {X : Type 0} (ws : List X) (i j : ℕ) (v w : X) → j < length ws → slice_get (set (set ws i v) j w) j ≡ Some w
+got_second ws i j v w lt = let m : j < length (set ws i v) = omega (arith, length-set ws i v) in get_set_same (set ws i v) j w m
+
+pub from_slot : {X : Type 0} (s : Option (Option X)) (p : X) → slot_of s ≡ Some p → s ≡ Some (Some p)
+from_slot None p h = cc
+from_slot (Some o) p h = ap Some h
+
+pub some_same : {X : Type 0} (x y : X) → Some x ≡ Some y → x ≡ y
+some_same x y e = cc
+
+pub none_or_some : {X : Type 0} (o : Option X) (x : X) → o ≡ None → o ≡ Some x → ⊥
+none_or_some o x a b = let e = sym a ∙ b in cc

@@ -1,4 +1,0 @@
-use Rattle.tlsf_crew.proofs.queues.queues.QueuesScripted.steps_tell.Goals as goal
-
-pub returns : goal.returns
-returns g c = λ sli n a v limits left call made entries longer reply s. s

@@ -1,0 +1,83 @@
+use Rattle.std.proofs.Common.{◌+◌, ◌∙◌, refl, ap, sym, length, arith, get_or}
+use Rattle.std.specs.List.{fold}
+use Rattle.std.proofs.lemmas.List.{take_all}
+use Rattle.std.proofs.lemmas.List.Sums.{fold_more}
+use Rattle.tlsf_calls.specs.declared.event.Event.{Event}
+use Rattle.tlsf_calls.specs.declared.call.Call.TheVariants.{Allocate}
+use Rattle.tlsf_crew.specs.lanes.Yard.{world_of}
+use Rattle.tlsf_crew.specs.model.World.{after, resumed}
+use Rattle.tlsf_crew.specs.model.Sums.{waiting_in}
+use Rattle.tlsf_crew.proofs.lemmas.model.InParts.{replies_behind_is}
+use Rattle.tlsf_crew.proofs.lemmas.replays.Room.{so_far, worker_waits}
+use Rattle.tlsf_crew.proofs.replays.replay.replay_within.Goals as goal
+
+pub run_event-requires : goal.run_event-requires
+run_event-requires g c = (
+  omega arith,
+  (
+    c.loop-event.invariant.yard,
+    (
+      omega arith,
+      (
+        let w = world_of c.args.workers.now in
+            let made = c.args.made.now.items in
+            let i = c.loop-event.event-index in
+            let replayed = c.loop-event.invariant.replayed in
+            let b = so_far i c.args.events.now w made (omega arith) in
+            let entries = ap (λ r. length r.entries) replayed in
+            let waits = ap (λ r. waiting_in r.world) replayed in
+            let d0 : Event = record { worker = 0; call = Allocate 0 } in
+            let e : Event = get_or c.args.events.now i d0 in
+            let most = worker_waits c.loop-event.workers e.worker c.loop-event.invariant.yard in
+            omega (arith, c.requires.room, c.loop-event.invariant.room),
+        let w = world_of c.args.workers.now in
+            let made = c.args.made.now.items in
+            let i = c.loop-event.event-index in
+            let d0 : Event = record { worker = 0; call = Allocate 0 } in
+            let a = fold_more after (resumed w made) c.args.events.now i d0 (omega arith) in
+            let b = so_far (i + 1) c.args.events.now w made (omega arith) in
+            rw (c.loop-event.invariant.replayed, ← a) (omega (arith, b, c.requires.room, c.loop-event.invariant.room)),
+      ),
+    ),
+  ),
+)
+
+pub returns-clause-replies : goal.returns-clause-replies
+returns-clause-replies g c =
+    let w = world_of c.args.workers.now in
+    let made = c.args.made.now.items in
+    let t = take_all c.loop-event.event-index c.args.events.now (omega arith) in
+    let e = c.loop-event.invariant.replayed ∙ (ap (fold after (resumed w made)) t ∙ sym (replies_behind_is w made c.args.events.now)) in
+    e
+
+pub loop-event-preserved : goal.loop-event-preserved
+loop-event-preserved g c =
+    let w = world_of c.args.workers.now in
+    let made = c.args.made.now.items in
+    let n = c.loop-event.event-index in
+    let i = c.loop-event.invariant in
+    let e = c.run_event.ensures in
+    let d0 : Event = record { worker = 0; call = Allocate 0 } in
+    let event : Event = get_or c.args.events.now n d0 in
+    let a = fold_more after (resumed w made) c.args.events.now n d0 (omega arith) in
+    record {
+      yard = e.yard;
+      count = omega (arith, i.count);
+      made = omega (arith, e.made, i.made);
+      made_room = omega (arith, e.capacity.0, i.made_room);
+      room = omega (arith, e.capacity.1, i.room);
+      replayed = e.after ∙ (ap (λ r. after r event) i.replayed ∙ sym a);
+    }
+
+pub loop-event-init : goal.loop-event-init
+loop-event-init g c = record {
+  yard = c.requires.yard;
+  count = refl;
+  made = omega (arith, c.reserve.ensures.len);
+  made_room = omega (arith, c.reserve.ensures.len, c.in_ok-reserve.ensures.ok);
+  room = c.in_ok-journal.ensures.room;
+  replayed = rw (c.reserve.ensures.items, c.in_ok-journal.ensures.empty) refl;
+}
+
+pub returns-clause-yard : goal.returns-clause-yard
+returns-clause-yard g c = c.loop-event.invariant.yard

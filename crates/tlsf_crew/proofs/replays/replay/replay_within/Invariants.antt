@@ -1,0 +1,16 @@
+use Rattle.std.proofs.Common.{◌≡◌, ◌+◌, ◌≤◌, length, take, vec_len, vec_capacity}
+use Rattle.std.specs.List.{fold}
+use Rattle.tlsf_crew.specs.lanes.Yard.{IsYard, world_of}
+use Rattle.tlsf_crew.specs.model.World.{after, resumed}
+use Rattle.tlsf_crew.specs.replays.ReplaySteps.{replay_of}
+use Rattle.tlsf_crew.proofs.replays.replay.replay_within.Given as goal
+
+abbrev pub invariant-loop-event : goal.invariant-loop-event
+invariant-loop-event g l = record {
+  yard : IsYard l.workers;
+  count : length l.workers ≡ length l.fn.workers;
+  made : vec_len l.made ≡ vec_len l.fn.made + l.event-index;
+  made_room : vec_len l.fn.made + length l.events ≤ vec_capacity l.made;
+  room : vec_capacity l.journal.entries ≡ l.room;
+  replayed : replay_of l.made.items l.journal.entries.items l.workers ≡ fold after (resumed (world_of l.fn.workers) l.fn.made.items) (take l.event-index l.events);
+}

@@ -1,0 +1,87 @@
+use Rattle.std.proofs.lemmas.List.{length-set}
+use Rattle.std.proofs.Common.{[], ◌≡◌, ◌∙◌, ◌<◌, ap, sym, arith, length, refl, Some, get_or, slice_get}
+use Rattle.std.proofs.lemmas.Option.{slice_get-get_or}
+use Rattle.tlsf_crew.specs.declared.worker.worker.Worker.{Worker}
+use Rattle.tlsf_crew.specs.declared.worker.lanes.Lanes.{Lanes}
+use Rattle.tlsf_crew.specs.worker.Workers.{id_of}
+use Rattle.tlsf_crew.proofs.lemmas.replays.Exact.{Run, settles, limit_room, replied}
+use Rattle.tlsf_crew.proofs.lemmas.lanes.LanesOfOne.{each_knows, own_number}
+use Rattle.tlsf_crew.proofs.replays.replay.reply_in_yard.Given.{Over}
+use Rattle.tlsf_crew.proofs.replays.replay.reply_in_yard.Goals as goal
+
+pub reply_to-reply-requires : goal.reply_to-reply-requires
+reply_to-reply-requires g c =
+    let e = c.settle_for-journal.ensures in
+    let r = limit_room c.args.workers.now c.settle_for-journal.new.workers c.args.event c.settle_for-journal.result e.limits e.world in
+    let room = c.requires.room in
+    (omega arith, omega arith)
+
+run_of : (g : Over) → goal.After-workers-2-1 g → Run g.row.SLI
+run_of g c =
+    let vs = c.settle_for-journal.new.workers in
+    let e = c.settle_for-journal.ensures in
+    let n = e.count in
+    let p = c.requires.inside in
+    let lt : c.args.event.worker < length vs = omega arith in
+    let a : Worker g.row.SLI Lanes = get_or vs c.args.event.worker c.index-workers-event.result in
+    let is : slice_get vs c.args.event.worker ≡ Some a = slice_get-get_or vs c.args.event.worker c.index-workers-event.result lt in
+    let own : id_of a ≡ c.args.event.worker = own_number vs c.args.event.worker a e.yard is in
+    record {
+      vs = vs;
+      a = a;
+      v = c.reply_to-reply.new.worker;
+      made = c.args.made.now;
+      es = c.args.journal.now.entries.items;
+      longer = c.reply_to-reply.new.journal.entries.items;
+      limits = c.settle_for-journal.result;
+      left = c.reply_to-reply.new.journal.limits;
+      call = c.args.event.call;
+      reply = c.reply_to-reply.result;
+      yard = e.yard;
+      is = ap (slice_get vs) own ∙ is;
+      knows = each_knows (length vs) vs refl e.yard c.args.event.worker c.index-workers-event.result lt;
+      step = c.reply_to-reply.ensures.stepped (length vs) (each_knows (length vs) vs refl e.yard c.args.event.worker c.index-workers-event.result lt);
+    }
+
+pub settle_for-requires : goal.settle_for-requires
+settle_for-requires g c = (
+  omega arith,
+  (
+    let vs = c.settle_for-journal.new.workers in
+        let e = c.settle_for-journal.ensures in
+        let n = e.count in
+        let p = c.requires.inside in
+        let lt : c.args.event.worker < length vs = omega arith in
+        let a : Worker g.row.SLI Lanes = get_or vs c.args.event.worker c.index-workers-event.result in
+        let is : slice_get vs c.args.event.worker ≡ Some a = slice_get-get_or vs c.args.event.worker c.index-workers-event.result lt in
+        let step = c.reply_to-reply.ensures.stepped (length vs) (each_knows (length vs) vs refl e.yard c.args.event.worker c.index-workers-event.result lt) in
+        let m = step.moved [] in
+        m.yard vs c.args.event.worker is e.yard,
+    let vs = c.settle_for-journal.new.workers in
+        let n = c.settle_for-journal.ensures.count in
+        let p = c.requires.inside in
+        omega (arith, length-set vs c.args.event.worker c.reply_to-reply.new.worker),
+  ),
+)
+
+pub returns-clause-replied : goal.returns-clause-replied
+unfolding run_of
+returns-clause-replied g c =
+    let vs = c.settle_for-journal.new.workers in
+    let e = c.settle_for-journal.ensures in
+    let f = c.settle_for.ensures in
+    let n = e.count in
+    let p = c.requires.inside in
+    let lt : c.args.event.worker < length vs = omega arith in
+    let a : Worker g.row.SLI Lanes = get_or vs c.args.event.worker c.index-workers-event.result in
+    let is : slice_get vs c.args.event.worker ≡ Some a = slice_get-get_or vs c.args.event.worker c.index-workers-event.result lt in
+    let own : id_of a ≡ c.args.event.worker = own_number vs c.args.event.worker a e.yard is in
+    let s = settles (run_of g c) c.args.workers.now c.settle_for.new.workers c.args.event.worker own e.count e.met f.met (λ may i t near q. e.limits.all may i t near q) f.yard f.count f.world in
+    replied (run_of g c) c.args.workers.now c.settle_for.new.workers c.args.event s e.world (sym own) refl
+
+pub settle_for-journal-requires : goal.settle_for-journal-requires
+settle_for-journal-requires g c =
+    (omega arith, (c.requires.yard, c.requires.inside))
+
+pub returns-clause-capacity : goal.returns-clause-capacity
+returns-clause-capacity g c = c.reply_to-reply.ensures.capacity

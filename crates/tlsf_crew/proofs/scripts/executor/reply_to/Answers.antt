@@ -1,0 +1,39 @@
+use Rattle.tlsf_crew.proofs.scripts.executor.reply_to.Goals as goal
+
+pub returns-in-Allocate-clause-stepped : goal.returns-in-Allocate-clause-stepped
+returns-in-Allocate-clause-stepped g c = λ n k.
+    let e = c.reply_to_own_allocate.ensures in
+    rw c.in-Allocate.is
+    (c.own_replies_step.ensures.allocated g.row.SLI n c.args.worker.now c.reply_to_own_allocate.new.worker c.args.journal.now.limits c.in-Allocate.len c.args.made.now c.args.journal.now.entries.items c.reply_to_own_allocate.result k e.same e.yard e.reply e.heap)
+
+pub returns-in-Write-clause-stepped : goal.returns-in-Write-clause-stepped
+returns-in-Write-clause-stepped g c = λ n k.
+    let e = c.reply_to_own_write.ensures in
+    rw c.in-Write.is
+    (c.own_replies_step.ensures.written g.row.SLI n c.args.worker.now c.reply_to_own_write.new.worker c.args.journal.now.limits c.in-Write.target c.in-Write.at c.in-Write.bytes c.args.made.now c.args.journal.now.entries.items c.reply_to_own_write.result k e.same e.reply e.heap)
+
+pub returns-in-Read-clause-stepped : goal.returns-in-Read-clause-stepped
+returns-in-Read-clause-stepped g c = λ n k.
+    let e = c.reply_to_own_read.ensures in
+    rw c.in-Read.is
+    (c.own_replies_step.ensures.read g.row.SLI n c.args.worker.now c.reply_to_own_read.new.worker c.args.journal.now.limits c.in-Read.target c.in-Read.at c.in-Read.n c.args.made.now c.args.journal.now.entries.items c.reply_to_own_read.result k e.same e.reply e.heap)
+
+pub returns-in-Resize-clause-stepped : goal.returns-in-Resize-clause-stepped
+returns-in-Resize-clause-stepped g c = λ n k.
+    let e = c.reply_to_own_resize.ensures in
+    rw c.in-Resize.is
+    (c.own_replies_step.ensures.resized g.row.SLI n c.args.worker.now c.reply_to_own_resize.new.worker c.args.journal.now.limits c.in-Resize.target c.in-Resize.len c.args.made.now c.args.journal.now.entries.items c.reply_to_own_resize.result k e.same e.reply e.heap)
+
+pub returns-in-Release-clause-stepped : goal.returns-in-Release-clause-stepped
+returns-in-Release-clause-stepped g c = λ n k. rw c.in-Release.is (c.reply_to_release.ensures n c.args.journal.now.limits c.args.journal.now.entries.items k)
+
+pub returns-in-Take-clause-stepped : goal.returns-in-Take-clause-stepped
+returns-in-Take-clause-stepped g c = λ n k. rw (c.in-Take.is, c.reply_to_take.ensures.entries) (c.reply_to_take.ensures.stepped n c.args.made.now k)
+
+pub returns-in-Drain-clause-stepped : goal.returns-in-Drain-clause-stepped
+returns-in-Drain-clause-stepped g c = λ n k.
+    rw c.in-Drain.is
+    (c.drains_step.ensures g.row.SLI n c.args.worker.now c.drain_each.new.worker c.args.journal.now c.drain_each.new.notes c.in-Drain.most c.args.made.now c.drain_each.result k c.drain_each.ensures.drained)
+
+pub returns-in-Drain-clause-capacity : goal.returns-in-Drain-clause-capacity
+returns-in-Drain-clause-capacity g c = c.drain_each.ensures.kept

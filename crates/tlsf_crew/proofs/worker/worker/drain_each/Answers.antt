@@ -1,0 +1,95 @@
+use Rattle.std.proofs.Common.{◌≡◌, ◌∙◌, ◌++◌, ◌-◌, [], refl, arith, subst}
+use Rattle.tlsf_calls.specs.declared.took.Took.{Took}
+use Rattle.tlsf_crew.specs.worker.Notes.{SourceNoted, EachNoted}
+use Rattle.tlsf_crew.proofs.lemmas.worker.SourceTurns.{counted_few, counts_then, turn_more, turn_none}
+use Rattle.tlsf_crew.proofs.worker.worker.drain_each.Goals as goal
+use Rattle.tlsf_crew.proofs.worker.worker.drain_each.Goals.{then-has_source, else-has_source}
+
+pub loop-source-init : goal.loop-source-init
+loop-source-init g c = record {
+  room = c.requires.room;
+  kept = refl;
+  each = ([], (refl, refl, refl), (refl, refl));
+  few = omega arith;
+  touches = omega arith;
+  rise = omega arith;
+}
+
+pub drain_source-here-requires : goal.drain_source-here-requires
+drain_source-here-requires g c =
+    (omega arith, (c.has_source.ensures.yes c.if-has_source.true, c.loop-source.invariant.room))
+
+pub loop-source-preserved : goal.loop-source-preserved
+loop-source-preserved g c =
+    let a = c.args.worker.now in
+    let b = c.loop-source.worker in
+    let hears = g.P.Ports.hears in
+    let takes = g.P.Exchange.takes in
+    let stops = g.P.Exchange.stops in
+    let admitted = g.N.Notes.admitted in
+    let i = c.loop-source.invariant in
+    let l = i.each in
+    elim c.if-has_source.branch [
+      | then-has_source w ↦
+          let e = w.drain_source-here.ensures in
+          let v = w.drain_source-here.new.worker in
+          let z = w.drain_source-here.new.notes in
+          let t = e.drained in
+          let lane = subst (λ n. SourceNoted takes stops (λ old at source (took : Took) new. g.N.Notes.noted old at source (g.P.Ports.sent_by took.from) took new) admitted b v c.loop-source.notes z c.loop-source.source (c.args.most - n) t.0) l.2.0 t.1 in
+          record {
+            room = rw w.notes-is e.room;
+            kept = rw w.notes-is (e.kept ∙ i.kept);
+            each = rw (w.worker-is, w.notes-is, w.drained-is) (
+              l.0 ++ t.0,
+              turn_more hears takes stops (λ old at source (took : Took) new. g.N.Notes.noted old at source (g.P.Ports.sent_by took.from) took new) admitted a b v c.args.notes.now c.loop-source.notes z c.args.most c.loop-source.source l.0 t.0 l.1 (c.has_source.ensures.yes w.if-has_source.true) lane,
+              counts_then c.loop-source.drained w.drain_source-here.result l.0 t.0 l.2 t.2,
+            );
+            few = rw w.drained-is (omega (arith, e.most, i.few));
+            touches = rw (w.worker-is, w.drained-is) (omega (arith, e.touches, i.touches));
+            rise = rw w.worker-is (omega (arith, e.touches_rise, i.rise));
+          }
+      | else-has_source w ↦ record {
+        room = rw w.notes-is i.room;
+        kept = rw w.notes-is i.kept;
+        each = rw (w.worker-is, w.notes-is, w.drained-is) (l.0, turn_none hears takes stops (λ old at source (took : Took) new. g.N.Notes.noted old at source (g.P.Ports.sent_by took.from) took new) admitted a b c.args.notes.now c.loop-source.notes c.args.most c.loop-source.source l.0 l.1 (c.has_source.ensures.no w.if-has_source.false), l.2);
+        few = rw w.drained-is i.few;
+        touches = rw (w.worker-is, w.drained-is) i.touches;
+        rise = rw w.worker-is i.rise;
+      }
+    ]
+
+pub returns-clause-drained : goal.returns-clause-drained
+returns-clause-drained g c =
+    let l = c.loop-source.invariant.each in
+    let e : c.loop-source.source ≡ g.P.Ports.sources c.args.worker.now.ports = omega (arith, c.source_count-source-end.ensures) in
+    record {
+      tooks = l.0;
+      each = subst (λ n. EachNoted g.P.Ports.hears g.P.Exchange.takes g.P.Exchange.stops (λ old at source (took : Took) new. g.N.Notes.noted old at source (g.P.Ports.sent_by took.from) took new) g.N.Notes.admitted c.args.worker.now c.loop-source.worker c.args.notes.now c.loop-source.notes c.args.most n l.0) e l.1;
+      count = l.2;
+    }
+
+pub returns-clause-most : goal.returns-clause-most
+returns-clause-most g c = c.loop-source.invariant.few
+
+pub returns-clause-freed : goal.returns-clause-freed
+returns-clause-freed g c = counted_few c.loop-source.drained c.loop-source.invariant.each.0 c.loop-source.invariant.each.2
+
+pub returns-clause-touches : goal.returns-clause-touches
+returns-clause-touches g c = c.loop-source.invariant.touches
+
+pub returns-clause-touches_rise : goal.returns-clause-touches_rise
+returns-clause-touches_rise g c = c.loop-source.invariant.rise
+
+pub overflow_sub-most : goal.overflow_sub-most
+overflow_sub-most g c = c.loop-source.invariant.few
+
+pub overflow_add-drained : goal.overflow_add-drained
+overflow_add-drained g c = omega (arith, c.drain_source-here.ensures.most, c.loop-source.invariant.few)
+
+pub overflow_add-drained-then-has_source : goal.overflow_add-drained-then-has_source
+overflow_add-drained-then-has_source g c =
+    let few = counted_few c.loop-source.drained c.loop-source.invariant.each.0 c.loop-source.invariant.each.2 in
+    omega (arith, few, c.drain_source-here.ensures.most, c.drain_source-here.ensures.freed, c.loop-source.invariant.few)
+
+pub returns-clause-kept : goal.returns-clause-kept
+returns-clause-kept g c = c.loop-source.invariant.kept

@@ -1,6 +1,0 @@
-use Rattle.tlsf_crew.proofs.lemmas.yard.DrainWorlds.{drain_stepped}
-use Rattle.tlsf_crew.proofs.lemmas.yard.LaneTakes.{all_spent}
-use Rattle.tlsf_crew.proofs.yard.lanes.LanesScripted.drains_step.Goals as goal
-
-pub returns : goal.returns
-returns g c = λ sli n a v x y most made answer k d. drain_stepped n a v x.limits y.limits most made x.entries.items y.entries.items answer.taken k (all_spent n a v x y most answer k d)

@@ -1,0 +1,46 @@
+-- What the parts of a race give one another. This serves the contracts and proofs of private functions alone.
+use Rattle.std.specs.Prelude.{◌≡◌, ℕ, ◌+◌, ◌<◌, List, [], ◌∷◌, length, slice_index, slice_get, Option, Some, vec_len, vec_capacity}
+use Rattle.std.specs.declared.vec.Vec.{Vec}
+use Rattle.std.specs.declared.alloc.Global.{Global}
+use Rattle.tlsf_heap.specs.declared.name.Name.{Name}
+use Rattle.tlsf_crew.specs.declared.worker.worker.Worker.{Worker}
+use Rattle.tlsf_calls.specs.declared.entry.Entry.{Entry}
+use Rattle.tlsf_calls.specs.declared.call.Call.{Call}
+use Rattle.tlsf_crew.specs.declared.jobs.job.Job.{Job}
+use Rattle.tlsf_crew.specs.model.Sums.{sum_of}
+use Rattle.tlsf_crew.specs.scripts.Counts.{releases_of}
+use Rattle.tlsf_crew.specs.scripts.Scripts.{script_of, ScriptRun}
+use Rattle.tlsf_crew.specs.model.Told.{Told}
+use Rattle.tlsf_crew.specs.jobs.Job.{IsReady}
+
+-- a job that is ready to run, with the room for all entries of its record: one for each call, one for each post that may be taken,
+-- where so many releases stand in each script, and one for the last drain
+pub record IsPrepared {sli : ℕ} {P : Type 0} (limited : P → List ℕ → List ℕ → Type 0) (knows : ℕ → Worker sli P → Type 0) (releases : List ℕ) (job : Job sli P) : Type 0 where
+  pub ready : IsReady knows job
+  pub limits : limited job.worker.ports releases job.limits
+  pub room : vec_capacity job.entries ≡ vec_len job.script + sum_of job.limits + 1
+
+-- each job was done, in order
+abbrev pub AllDone : {J D : Type 0} → (J → D → Type 0) → List J → List D → Type 0
+AllDone P [] [] = Unit {0}
+AllDone P [] (d ∷ ds) = ⊥
+AllDone P (j ∷ js) [] = ⊥
+AllDone P (j ∷ js) (d ∷ ds) = P j d × AllDone P js ds
+
+-- a worker with ports of any kind ran a script, and became v; its record has the room that was made
+pub record RanScript {sli : ℕ} {P : Type 0} (limited : P → List ℕ → List ℕ → Type 0) (knows : ℕ → Worker sli P → Type 0) (tells : ℕ → ℕ → Told → Call → Told → Type 0) (moves : ℕ → List (Option Name) → Worker sli P → List ℕ → List Call → List Entry → Worker sli P → List ℕ → Type 0) (releases : List ℕ) (a : Worker sli P) (script : List Call) (made : List (Option Name)) (r : Vec Entry Global) (v : Worker sli P) : Type 0 where
+  pub limits : List ℕ
+  pub left : List ℕ
+  pub limits_are : limited a.ports releases limits
+  pub run : (n : ℕ) → knows n a → ScriptRun (tells n) moves a limits script made r.items v left
+  pub room : vec_capacity r ≡ length script + sum_of limits + 1
+
+-- so did each of them
+pub record ScriptsRan {sli : ℕ} {P : Type 0} (limited : P → List ℕ → List ℕ → Type 0) (knows : ℕ → Worker sli P → Type 0) (tells : ℕ → ℕ → Told → Call → Told → Type 0) (moves : ℕ → List (Option Name) → Worker sli P → List ℕ → List Call → List Entry → Worker sli P → List ℕ → Type 0) (ws : List (Worker sli P)) (scripts : List (List Call)) (records : List (Vec Entry Global)) (vs : List (Worker sli P)) : Type 0 where
+  pub releases : List ℕ
+  pub counts : (i : ℕ) → i < 8 → slice_index releases i ≡ releases_of (script_of scripts i)
+  pub made : ℕ → List (Option Name)
+  pub worker_count : length vs ≡ length ws
+  pub record_count : length records ≡ length ws
+  pub ran : (j : ℕ) (a : Worker sli P) → slice_get ws j ≡ Some a
+      → (v : Worker sli P) × (r : Vec Entry Global) × (slice_get vs j ≡ Some v) × (slice_get records j ≡ Some r) × RanScript limited knows tells moves releases a (script_of scripts j) (made j) r v

@@ -1,0 +1,55 @@
+-- What a worker over queues is told by its calls, one after another.
+use Rattle.std.specs.Prelude.{◌≡◌, ◌≢◌, ℕ, ◌<◌, ◌≤◌, List, [], ◌∷◌, ◌++◌, length, All}
+use Rattle.std.specs.List.{fold}
+use Rattle.tlsf_heap.specs.Blocks.{HeapState}
+use Rattle.tlsf_post.specs.declared.post.Post.{Post}
+use Rattle.tlsf_calls.specs.Entries.{made_by}
+use Rattle.tlsf_calls.specs.declared.entry.Entry.{Entry}
+use Rattle.tlsf_calls.specs.declared.call.Call.{Call}
+use Rattle.tlsf_calls.specs.declared.call.Call.TheVariants.{Take, Drain}
+use Rattle.tlsf_calls.specs.declared.crew_refusal.CrewRefusal.TheVariants.{Stranger}
+use Rattle.tlsf_calls.specs.declared.reply.Reply.{Reply}
+use Rattle.tlsf_calls.specs.declared.reply.Reply.TheVariants.{Took as Taken, Drained, Refused}
+use Rattle.tlsf_crew.specs.model.Heaps.{released}
+use Rattle.tlsf_crew.specs.model.Told.{Told, AllTold, MayTell}
+
+-- a post of another of n workers
+abbrev pub IsOfOther : ℕ → ℕ → Post → Type 0
+IsOfOther n at post = (post.from < n) × (post.from ≢ at)
+
+-- the entry of a post that was taken, as the worker's heap answers its release
+abbrev pub take_entry : ℕ → HeapState → Post → Entry
+take_entry at h post = record {
+  worker = at;
+  call = Take post.from;
+  reply = Taken (record { from = post.from; name = post.name; answer = (released h post.name).answer });
+}
+
+-- one post was taken
+abbrev pub told_take : ℕ → Told → Post → Told
+told_take at s post = record { made = s.made; entries = s.entries ++ take_entry at s.heap post ∷ []; heap = (released s.heap post.name).heap }
+
+-- these posts were taken, one after another, whoever posted each
+abbrev pub told_takes : ℕ → Told → List Post → Told
+told_takes at s posts = fold (told_take at) s posts
+
+-- a call was answered so, and left the heap as it was
+abbrev pub told_reply : ℕ → Told → Call → Reply → Told
+told_reply at s call reply = record {
+  made = s.made ++ made_by reply ∷ [];
+  entries = s.entries ++ record { worker = at; call = call; reply = reply } ∷ [];
+  heap = s.heap;
+}
+
+-- one call more over queues of n workers. A take is refused, since a queue has no single poster; a drain takes some posts of
+-- others, in whatever order they come; all else is answered as over lanes
+abbrev pub MayTellQueue : ℕ → ℕ → ℕ → Told → Call → Told → Type 0
+MayTellQueue sli n at s (Take from) t = t ≡ told_reply at s (Take from) (Refused Stranger)
+MayTellQueue sli n at s (Drain most) t =
+    (posts : List Post) × All (IsOfOther n at) posts × (length posts ≤ most)
+    × (t ≡ told_reply at (told_takes at s posts) (Drain most) (Drained (length posts)))
+MayTellQueue sli n at s call t = MayTell sli n at s call t
+
+-- the calls of a script, one after another
+abbrev pub MayTellQueueAll : ℕ → ℕ → ℕ → Told → List Call → Told → Type 0
+MayTellQueueAll sli n at s calls t = AllTold (MayTellQueue sli n at) s calls t

@@ -1,0 +1,61 @@
+-- What the calls of one worker of a race over queues answer and leave. This serves the contracts and proofs of private functions alone.
+use Rattle.std.specs.Prelude.{◌≡◌, ℕ, ◌+◌, ◌<◌, ◌≤◌, List, [], ◌∷◌, ◌++◌, length, Option, Some, slice_index}
+use mathlib.Core.List.{IsPrefix}
+use Rattle.tlsf_post.specs.Rule.{posts_of}
+use Rattle.tlsf_post.specs.Mailboxes.{put_by, gone_from, plan_of, got_by, known_to, IsOnlyPoster}
+use Rattle.tlsf_post.specs.declared.poster_end.PosterEnd.{PosterEnd}
+use Rattle.tlsf_heap.specs.Blocks.{HeapState}
+use Rattle.tlsf_heap.specs.declared.name.Name.{Name}
+use Rattle.tlsf_calls.specs.declared.entry.Entry.{Entry}
+use Rattle.tlsf_calls.specs.declared.call.Call.{Call}
+use Rattle.tlsf_calls.specs.declared.call.Call.TheVariants.{Drain}
+use Rattle.tlsf_calls.specs.declared.reply.Reply.{Reply}
+use Rattle.tlsf_calls.specs.declared.crew_refusal.CrewRefusal.TheVariants.{Full}
+use Rattle.tlsf_calls.specs.declared.reply.Reply.TheVariants.{Drained, Refused}
+use Rattle.tlsf_crew.specs.model.Sums.{sum_of}
+use Rattle.tlsf_crew.specs.histories.History.{posts_made, posts_taken, StandsBehind}
+pub use Rattle.tlsf_crew.specs.scripts.Scripts.{told_of, entry_by}
+use Rattle.tlsf_crew.specs.scripts.Scripts.{Step, ScriptRun}
+use Rattle.tlsf_crew.specs.model.Told.{MayTell}
+use Rattle.tlsf_crew.specs.model.World.{made_by}
+use Rattle.tlsf_crew.specs.declared.worker.worker.Worker.{Worker}
+use Rattle.tlsf_crew.specs.declared.queues.queues.Queues.{Queues}
+use Rattle.tlsf_crew.specs.queues.QueueWorkers.{queue_end_to, KeepsQueueYards}
+use Rattle.tlsf_crew.specs.model.QueueTold.{MayTellQueue}
+
+-- so many posts may be taken: as many as a queue may hold, and one for each release of any script
+abbrev pub IsQueueLimit : List ℕ → List ℕ → Type 0
+IsQueueLimit releases limits = (slice_index limits 0 ≡ 1024 + sum_of releases) × (sum_of limits ≡ slice_index limits 0)
+
+-- ---- a call on a heap
+
+-- a heap answers the call so and becomes the other, whoever its worker is
+abbrev pub TellsOwn : ℕ → List (Option Name) → HeapState → Call → HeapState → Reply → Type 0
+TellsOwn sli made h call g reply =
+    (n at : ℕ) (entries : List Entry) → at < n
+    → MayTell sli n at (told_of made entries h) call (told_of (made ++ made_by reply ∷ []) (entries ++ entry_by at call reply ∷ []) g)
+
+-- ---- what entries tell of the ends
+
+-- worker a, of number `at`, has become v by these calls, as the entries tell. It might take so many posts, and may take what is left
+pub record QueueMoved {sli : ℕ} (at : ℕ) (made : List (Option Name)) (a : Worker sli Queues) (limits : List ℕ) (calls : List Call) (entries : List Entry) (v : Worker sli Queues) (left : List ℕ) : Type 0 where
+  pub yard : KeepsQueueYards a v
+  -- each end put the posts that the entries tell
+  pub sent : (j : ℕ) (p q : PosterEnd) → queue_end_to a j ≡ Some p → queue_end_to v j ≡ Some q → put_by q ≡ put_by p ++ posts_made at j made entries
+  -- and of each worker those were taken that they tell
+  pub taken : (i : ℕ) → posts_of i (got_by v.ports.own) ≡ posts_of i (got_by a.ports.own) ++ posts_taken i at entries
+  -- a drain ended early only where all was taken that was known to have been put
+  pub drained : (before : List Entry) (e : Entry) (most k : ℕ) → StandsBehind entries before e → e.call ≡ Drain most → e.reply ≡ Drained k → k < most
+      → (i : ℕ) → IsPrefix (posts_of i (known_to a.ports.own)) (posts_of i (got_by a.ports.own) ++ posts_taken i at before)
+  -- a queue into which nobody else posts was full only where as many posts had been put as it holds, besides those known to be taken
+  pub full : (before : List Entry) (e : Entry) (name : Name) (p : PosterEnd) → StandsBehind entries before e → e.reply ≡ Refused (Full name) → queue_end_to a name.heap ≡ Some p → IsOnlyPoster p
+      → length (gone_from p) + (plan_of p).capacity ≤ length (put_by p) + length (posts_made at name.heap made before)
+  pub room : length entries + sum_of left ≤ length calls + sum_of limits
+
+-- the call was answered so; the entries got longer by those of a drain's takes, and have not its own yet
+abbrev pub QueueStepped : {sli : ℕ} → ℕ → Worker sli Queues → List ℕ → Call → List (Option Name) → List Entry → Worker sli Queues → List ℕ → List Entry → Reply → Type 0
+QueueStepped {sli} n a limits call made entries v left longer reply = Step (MayTellQueue sli n) QueueMoved a limits call made entries v left longer reply
+
+-- a worker has made these calls of its script
+abbrev pub QueueScriptRun : {sli : ℕ} → ℕ → Worker sli Queues → List ℕ → List Call → List (Option Name) → List Entry → Worker sli Queues → List ℕ → Type 0
+QueueScriptRun {sli} n a limits calls made entries v left = ScriptRun (MayTellQueue sli n) QueueMoved a limits calls made entries v left

@@ -1,0 +1,91 @@
+-- What the calls of a script tell of their worker, whatever its ports. This serves the contracts and proofs of private functions alone.
+use Rattle.std.specs.Prelude.{◌≡◌, ◌≢◌, ◌⊎◌, ℕ, ◌+◌, ◌<◌, ◌≤◌, List, [], ◌∷◌, ◌++◌, length, slice_index, Option, Some, None, Result, Ok, Err, get_or}
+use Rattle.tlsf_heap.specs.Blocks.{HeapState}
+use Rattle.tlsf_heap.specs.declared.name.Name.{Name}
+use Rattle.tlsf_post.specs.declared.post.Post.{Post}
+use Rattle.tlsf_calls.specs.declared.call.Call.{Call}
+use Rattle.tlsf_calls.specs.declared.crew_refusal.CrewRefusal.{CrewRefusal}
+use Rattle.tlsf_calls.specs.declared.crew_refusal.CrewRefusal.TheVariants.{Stranger}
+use Rattle.tlsf_calls.specs.declared.entry.Entry.{Entry}
+use Rattle.tlsf_calls.specs.declared.released.Released.{Released}
+use Rattle.tlsf_calls.specs.declared.released.Released.TheVariants.{Freed as WasFreed, Posted as WasPosted}
+use Rattle.tlsf_calls.specs.declared.reply.Reply.{Reply}
+use Rattle.tlsf_calls.specs.declared.reply.Reply.TheVariants.{Freed, Posted, Refused, Took as Taken, Empty}
+use Rattle.tlsf_calls.specs.declared.took.Took.{Took}
+use Rattle.tlsf_crew.specs.declared.worker.worker.Worker.{Worker}
+use Rattle.tlsf_crew.specs.worker.Calls.{ReleasedHere, ReleasedThere, TakenFrom}
+use Rattle.tlsf_crew.specs.model.Sums.{sum_of}
+use Rattle.tlsf_crew.specs.scripts.Journals.{OneFewer}
+use Rattle.tlsf_crew.specs.model.Told.{Told, AllTold, untold}
+use Rattle.tlsf_crew.specs.worker.Workers.{heap_of, id_of}
+use Rattle.tlsf_crew.specs.model.World.{made_by}
+use Rattle.tlsf_calls.specs.declared.call.Call.TheVariants.{Drain}
+
+abbrev pub reply_took : Option Took → Reply
+reply_took None = Empty
+reply_took (Some t) = Taken t
+
+-- the last call of each worker takes what still waits for it: no yard holds more
+abbrev pub last_call : Call
+last_call = Drain 8192
+
+abbrev pub script_of : List (List Call) → ℕ → List Call
+script_of scripts j = get_or scripts j []
+
+abbrev pub told_of : List (Option Name) → List Entry → HeapState → Told
+told_of made entries h = record { made = made; entries = entries; heap = h }
+
+abbrev pub entry_by : ℕ → Call → Reply → Entry
+entry_by at call reply = record { worker = at; call = call; reply = reply }
+
+-- ---- one call
+
+abbrev pub reply_released : Result Released CrewRefusal → Reply
+reply_released (Ok WasFreed) = Freed
+reply_released (Ok WasPosted) = Posted
+reply_released (Err why) = Refused why
+
+-- what a release promises, over ports that reach some workers and by what a put may leave
+pub record IsRelease {sli : ℕ} {P : Type 0} (reaches : P → ℕ → Type 0) (puts : ℕ → P → P → Name → Result (Unit {0}) Name → Type 0) (a v : Worker sli P) (name : Name) (answer : Result Released CrewRefusal) : Type 0 where
+  pub here : name.heap ≡ id_of a → ReleasedHere a v name answer
+  pub there : name.heap ≢ id_of a → reaches a.ports name.heap → ReleasedThere puts a v name answer
+  pub nowhere : name.heap ≢ id_of a → ¬ (reaches a.ports name.heap) → (answer ≡ Err Stranger) × (v ≡ a)
+
+-- one post was taken of a source, or no more might be, or it showed none
+abbrev pub TakenWithin : {sli : ℕ} {P : Type 0} → (P → P → ℕ → Option Post → Type 0) → Worker sli P → List ℕ → ℕ → Worker sli P → List ℕ → Option Took → Type 0
+TakenWithin takes a limits source v left None = (left ≡ limits) × ((¬ ((source < 8) × (0 < slice_index limits source)) × (v ≡ a)) ⊎ TakenFrom takes a v source None)
+TakenWithin takes a limits source v left (Some took) = (source < 8) × OneFewer limits source left × TakenFrom takes a v source (Some took)
+
+-- ---- what calls tell of a worker, by what its ports let each be told, and by what calls leave where entries tell of them
+
+-- the call was answered so; the entries got longer by those of a drain's takes, and have not its own yet
+pub record Step {sli : ℕ} {P : Type 0} (tells : ℕ → Told → Call → Told → Type 0) (moves : ℕ → List (Option Name) → Worker sli P → List ℕ → List Call → List Entry → Worker sli P → List ℕ → Type 0) (a : Worker sli P) (limits : List ℕ) (call : Call) (made : List (Option Name)) (entries : List Entry) (v : Worker sli P) (left : List ℕ) (longer : List Entry) (reply : Reply) : Type 0 where
+  pub own : List Entry
+  pub entries_are : longer ≡ entries ++ own
+  pub told : tells (id_of a) (told_of made entries (heap_of a)) call (told_of (made ++ made_by reply ∷ []) (longer ++ entry_by (id_of a) call reply ∷ []) (heap_of v))
+  pub moved : (rest : List (Option Name)) → moves (id_of a) (made ++ rest) a limits (call ∷ []) (own ++ entry_by (id_of a) call reply ∷ []) v left
+
+-- the call was made, and told in full
+pub record Called {sli : ℕ} {P : Type 0} (tells : ℕ → Told → Call → Told → Type 0) (moves : ℕ → List (Option Name) → Worker sli P → List ℕ → List Call → List Entry → Worker sli P → List ℕ → Type 0) (a : Worker sli P) (limits : List ℕ) (call : Call) (made : List (Option Name)) (entries : List Entry) (v : Worker sli P) (left : List ℕ) (more : List (Option Name)) (longer : List Entry) : Type 0 where
+  pub name : Option Name
+  pub made_are : more ≡ made ++ name ∷ []
+  pub own : List Entry
+  pub entries_are : longer ≡ entries ++ own
+  pub told : tells (id_of a) (told_of made entries (heap_of a)) call (told_of more longer (heap_of v))
+  pub moved : (rest : List (Option Name)) → moves (id_of a) (made ++ rest) a limits (call ∷ []) own v left
+
+-- a worker has made these calls of its script
+pub record ScriptRun {sli : ℕ} {P : Type 0} (tells : ℕ → Told → Call → Told → Type 0) (moves : ℕ → List (Option Name) → Worker sli P → List ℕ → List Call → List Entry → Worker sli P → List ℕ → Type 0) (a : Worker sli P) (limits : List ℕ) (calls : List Call) (made : List (Option Name)) (entries : List Entry) (v : Worker sli P) (left : List ℕ) : Type 0 where
+  pub told : AllTold (tells (id_of a)) (untold (heap_of a)) calls (told_of made entries (heap_of v))
+  pub names : length made ≡ length calls
+  pub moved : (rest : List (Option Name)) → moves (id_of a) (made ++ rest) a limits calls entries v left
+
+-- moves join: none, and some behind others. They keep the worker's number and place, and leave room for what may still be taken
+pub record AreMoves {sli : ℕ} {P : Type 0} (knows : ℕ → Worker sli P → Type 0) (moves : ℕ → List (Option Name) → Worker sli P → List ℕ → List Call → List Entry → Worker sli P → List ℕ → Type 0) : Type 0 where
+  pub none : (made : List (Option Name)) (a : Worker sli P) (limits : List ℕ) → moves (id_of a) made a limits [] [] a limits
+  pub then : (at : ℕ) (made : List (Option Name)) (a b v : Worker sli P) (limits mid left : List ℕ) (calls ds : List Call) (xs ys : List Entry) → moves at made a limits calls xs b mid → moves at made b mid ds ys v left
+      → moves at made a limits (calls ++ ds) (xs ++ ys) v left
+  pub number : (at : ℕ) (made : List (Option Name)) (a v : Worker sli P) (limits left : List ℕ) (calls : List Call) (entries : List Entry) → moves at made a limits calls entries v left → id_of v ≡ id_of a
+  pub known : (at : ℕ) (made : List (Option Name)) (a v : Worker sli P) (limits left : List ℕ) (calls : List Call) (entries : List Entry) → moves at made a limits calls entries v left → (n : ℕ) → knows n a → knows n v
+  pub room : (at : ℕ) (made : List (Option Name)) (a v : Worker sli P) (limits left : List ℕ) (calls : List Call) (entries : List Entry) → moves at made a limits calls entries v left
+      → length entries + sum_of left ≤ length calls + sum_of limits

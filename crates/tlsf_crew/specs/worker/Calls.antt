@@ -1,0 +1,78 @@
+-- What a worker's own calls answer and leave.
+use Rattle.std.specs.Prelude.{◌≡◌, ℕ, List, [], ◌∷◌, Option, Some, None, Result, Ok, Err}
+use Rattle.tlsf_heap.specs.Blocks.{HeapState}
+use Rattle.tlsf_heap.specs.Calls.{released}
+use Rattle.tlsf_heap.specs.InPlace.{IsRefusedAsRead}
+use Rattle.tlsf_heap.specs.declared.name.Name.{Name}
+use Rattle.tlsf_heap.specs.declared.refusal.Refusal.{Refusal}
+use Rattle.tlsf_post.specs.declared.post.Post.{Post}
+use Rattle.tlsf_calls.specs.declared.crew_refusal.CrewRefusal.{CrewRefusal}
+use Rattle.tlsf_calls.specs.declared.crew_refusal.CrewRefusal.TheVariants.{Heap, Full}
+use Rattle.tlsf_calls.specs.declared.released.Released.{Released}
+use Rattle.tlsf_calls.specs.declared.released.Released.TheVariants.{Freed, Posted}
+use Rattle.tlsf_calls.specs.declared.took.Took.{Took}
+use Rattle.tlsf_crew.specs.declared.worker.worker.Worker.{Worker}
+use Rattle.tlsf_crew.specs.worker.Workers.{heap_of, id_of, SameButHeap, SameButPorts}
+
+-- the heap's answer as the worker's
+abbrev pub by_heap : {A : Type 0} → Result A Refusal → Result A CrewRefusal
+by_heap (Ok x) = Ok x
+by_heap (Err why) = Err (Heap why)
+
+-- a call with this name is refused as the heap refuses a read of no bytes of its payload
+abbrev pub IsRefusedByHeap : {R : Type 0} → HeapState → Name → Result R CrewRefusal → Type 0
+IsRefusedByHeap {R} h name answer = (by : Result R Refusal) × IsRefusedAsRead h name by × (answer ≡ by_heap by)
+
+abbrev pub freed_by : Result (Unit {0}) Refusal → Result Released CrewRefusal
+freed_by (Ok done) = Ok Freed
+freed_by (Err why) = Err (Heap why)
+
+-- what a post answers whose put was answered so
+abbrev pub put_answer : Name → Result (Unit {0}) Name → Result (Unit {0}) CrewRefusal
+put_answer name (Ok done) = Ok done
+put_answer name (Err back) = Err (Full name)
+
+-- what a release answers whose post was answered so
+abbrev pub posted_as : Result (Unit {0}) CrewRefusal → Result Released CrewRefusal
+posted_as (Ok done) = Ok Posted
+posted_as (Err why) = Err why
+
+-- the own block of that name was released
+pub record ReleasedHere {sli : ℕ} {P : Type 0} (a v : Worker sli P) (name : Name) (answer : Result Released CrewRefusal) : Type 0 where
+  pub answer_is : answer ≡ freed_by (released (heap_of a) name).answer
+  pub heap : heap_of v ≡ (released (heap_of a) name).heap
+  pub same : SameButHeap a v
+
+-- the name was put through the port to the worker of its heap, by what such a put may leave and answer
+pub record PostedThere {sli : ℕ} {P : Type 0} (puts : ℕ → P → P → Name → Result (Unit {0}) Name → Type 0) (a v : Worker sli P) (name : Name) (answer : Result (Unit {0}) CrewRefusal) : Type 0 where
+  pub put : Result (Unit {0}) Name
+  pub through : puts (id_of a) a.ports v.ports name put
+  pub same : SameButPorts a v
+  pub answer_is : answer ≡ put_answer name put
+
+pub record ReleasedThere {sli : ℕ} {P : Type 0} (puts : ℕ → P → P → Name → Result (Unit {0}) Name → Type 0) (a v : Worker sli P) (name : Name) (answer : Result Released CrewRefusal) : Type 0 where
+  pub posted : Result (Unit {0}) CrewRefusal
+  pub post : PostedThere puts a v name posted
+  pub answer_is : answer ≡ posted_as posted
+
+-- ---- takes
+
+-- after a take the post's block is released on the own heap
+abbrev pub AfterTake : {sli : ℕ} {P : Type 0} → Worker sli P → Worker sli P → Option Post → Option Took → Type 0
+AfterTake a v None answer = (answer ≡ None) × (v ≡ a)
+AfterTake a v (Some post) answer =
+    (answer ≡ Some (record { from = post.from; name = post.name; answer = (released (heap_of a) post.name).answer }))
+    × (heap_of v ≡ (released (heap_of a) post.name).heap) × SameButHeap a v
+
+-- a source of posts, by its number, was asked for its next one, by what such a take may leave and answer
+pub record TakenFrom {sli : ℕ} {P : Type 0} (takes : P → P → ℕ → Option Post → Type 0) (a v : Worker sli P) (source : ℕ) (answer : Option Took) : Type 0 where
+  pub between : Worker sli P
+  pub post : Option Post
+  pub took : SameButPorts a between × takes a.ports between.ports source post
+  pub then : AfterTake between v post answer
+
+-- worker a becomes worker v by takes from one source, which answered these one after another
+abbrev pub TakesInTurn : {sli : ℕ} {P : Type 0} → (P → P → ℕ → Option Post → Type 0) → Worker sli P → Worker sli P → ℕ → List Took → Type 0
+TakesInTurn {sli} {P} takes a v source [] = v ≡ a
+TakesInTurn {sli} {P} takes a v source (took ∷ tooks) =
+    (b : Worker sli P) × TakenFrom takes a b source (Some took) × TakesInTurn takes b v source tooks

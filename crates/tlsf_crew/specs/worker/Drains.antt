@@ -1,0 +1,17 @@
+-- What a drain leaves of the heap, and its counts.
+use Rattle.std.specs.Prelude.{◌≡◌, List, length, Bool, is_ok}
+use Rattle.std.specs.List.{fold, count_by}
+use Rattle.tlsf_heap.specs.Blocks.{HeapState}
+use Rattle.tlsf_heap.specs.Calls.{released}
+use Rattle.tlsf_calls.specs.declared.drained.Drained.{Drained}
+use Rattle.tlsf_calls.specs.declared.took.Took.{Took}
+
+abbrev pub is_freed : Took → Bool
+is_freed took = is_ok took.answer
+
+-- the heap after the releases of the names that were taken, one after another
+abbrev pub heap_after : HeapState → List Took → HeapState
+heap_after h tooks = fold (λ g took. (released g took.name).heap) h tooks
+
+abbrev pub IsCountOf : Drained → List Took → Type 0
+IsCountOf answer tooks = (answer.taken ≡ length tooks) × (answer.freed ≡ count_by is_freed tooks)

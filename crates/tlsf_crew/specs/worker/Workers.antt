@@ -1,0 +1,39 @@
+-- What a worker shows: its heap and its number, and over lanes its end of each lane.
+use Rattle.std.specs.Prelude.{◌≡◌, ℕ, Option, Some, None}
+use Rattle.tlsf_heap.specs.Blocks.{HeapState}
+use Rattle.tlsf_heap.specs.Lawful.{IsLawful}
+use Rattle.tlsf_crew.specs.declared.worker.worker.Worker.{Worker}
+
+-- a lawful heap of that number
+abbrev pub IsHeapOf : ℕ → HeapState → Type 0
+IsHeapOf i h = (h.id ≡ i) × IsLawful h
+
+-- ---- a worker of either kind
+
+abbrev pub heap_of : {sli : ℕ} {P : Type 0} → Worker sli P → HeapState
+heap_of a = a.heap.heap
+
+-- how many times a worker's calls touched its heap's memory
+abbrev pub touches_of : {sli : ℕ} {P : Type 0} → Worker sli P → ℕ
+touches_of a = a.heap.touches
+
+abbrev pub id_of : {sli : ℕ} {P : Type 0} → Worker sli P → ℕ
+id_of a = a.id
+
+-- a worker with another heap
+abbrev pub SameButHeap : {sli : ℕ} {P : Type 0} → Worker sli P → Worker sli P → Type 0
+SameButHeap a v = (id_of v ≡ id_of a) × (v.ports ≡ a.ports)
+
+-- a worker with other ports
+abbrev pub SameButPorts : {sli : ℕ} {P : Type 0} → Worker sli P → Worker sli P → Type 0
+SameButPorts a v = (id_of v ≡ id_of a) × (v.heap ≡ a.heap)
+
+-- the heap k has the number of h, and is lawful where h is
+abbrev pub KeepsHeap : HeapState → HeapState → Type 0
+KeepsHeap h k = (k.id ≡ h.id) × (IsLawful h → IsLawful k)
+
+-- ---- over lanes
+
+abbrev pub slot_of : {X : Type 0} → Option (Option X) → Option X
+slot_of None = None
+slot_of (Some o) = o

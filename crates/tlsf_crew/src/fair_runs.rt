@@ -1,0 +1,3 @@
+//! A run that is fair.
+
+pub(crate) mod laws;

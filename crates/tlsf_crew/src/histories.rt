@@ -1,0 +1,3 @@
+//! One history for each heap, of each list of events.
+
+pub(crate) mod history;

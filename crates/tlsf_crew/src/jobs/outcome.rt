@@ -1,0 +1,32 @@
+ghost use Rattle.std.specs.Prelude.{◌≡◌, ◌≤◌, [], vec_capacity, IfOk};
+
+use crate::queues::queues::Queues;
+use crate::worker::lanes::Lanes;
+use crate::worker::worker::Worker;
+use std::alloc::Global;
+use tlsf_calls::Entry;
+use tlsf_post::NoMemory;
+
+/// What comes back of a race of workers of this level, over lanes where nothing else is said.
+#[derive(Drop)]
+pub struct Outcome<const SLI: u32, P = Lanes> {
+    /// The whole yard, in order. No post waits for any of its workers.
+    pub workers: Vec<Worker<SLI, P>>,
+    /// For each worker what it called and was answered, in its order, the last drain included.
+    pub records: Vec<Vec<Entry>>,
+}
+
+/// What comes back of a race over queues.
+pub type QueueOutcome<const SLI: u32> = Outcome<SLI, Queues>;
+
+impl<const SLI: u32, P: Drop> Outcome<SLI, P> {
+    /// Room for what so many workers hand back.
+    pub(crate) fn with_room(alloc: Global, count: usize) -> Result<Outcome<SLI, P>, NoMemory>
+        ensures empty { IfOk result (λ out. (out.workers.items ≡ []) × (out.records.items ≡ [])) }
+        ensures room { IfOk result (λ out. (count ≤ vec_capacity out.workers) × (count ≤ vec_capacity out.records)) }
+    {
+        let workers = Vec::with_capacity(alloc, count)?;
+        let records = Vec::with_capacity(alloc, count)?;
+        Ok(Outcome { workers, records })
+    }
+}

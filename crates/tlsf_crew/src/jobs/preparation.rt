@@ -1,0 +1,142 @@
+//! The jobs of a race. All room is made here, before a thread starts.
+ghost use Rattle.std.specs.Prelude.{◌≡◌, ℕ, ◌+◌, ◌^◌, ◌<◌, ◌≤◌, [], length, map, slice_index, vec_len, vec_capacity, IfOk, OnOk, All};
+ghost use Rattle.tlsf_crew.specs.model.Sums.{sum_of};
+ghost use Rattle.tlsf_crew.specs.scripts.Counts.{releases_of};
+ghost use Rattle.tlsf_crew.specs.scripts.Scripts.{script_of};
+ghost use Rattle.tlsf_crew.specs.jobs.Job.{KnowsSome};
+ghost use Rattle.tlsf_crew.specs.jobs.Parts.{IsPrepared};
+
+use crate::jobs::job::Job;
+use crate::scripts::scripted::Scripted;
+use crate::worker::worker::Worker;
+use std::alloc::Global;
+use tlsf_calls::{Call, Entry};
+use tlsf_heap::Name;
+use tlsf_post::NoMemory;
+
+/// How many calls of a script are releases.
+fn count_releases(script: &[Call]) -> u32
+    requires { length script.now < 2 ^ 32 }
+    ensures { result ≡ releases_of script.now }
+{
+    script
+        .iter()
+        .filter(|call| matches!(call, Call::Release { .. }))
+        .count() as u32
+}
+
+/// How many calls of each script are releases.
+pub(crate) fn count_all(scripts: &[Vec<Call>]) -> [u32; 8]
+    requires few { length scripts.now ≤ 8 }
+    requires short { All (λ s. vec_len s < 2 ^ 32) scripts.now }
+    ensures { (i : ℕ) → i < 8 → slice_index result i ≡ releases_of (script_of (map (λ s. s.items) scripts.now) i) }
+{
+    let mut counts = [0; 8];
+    for i in 0..scripts.len() {
+        counts[i] = count_releases(&scripts[i]);
+    }
+    counts
+}
+
+/// Room for the entries of a worker: one for each call, one for each post that it may take, and one for the last drain.
+fn room_for_record(limits: &[u64; 8], calls: usize) -> usize
+    requires short { calls < 2 ^ 32 }
+    requires few { (i : ℕ) → i < 8 → slice_index limits.now i ≤ 2 ^ 36 }
+    ensures { result ≡ calls + sum_of limits.now + 1 }
+{
+    let mut room = calls + 1;
+    for i in 0..8 {
+        room += limits[i] as usize;
+    }
+    room
+}
+
+/// Room for the names that so many calls make, and for the record of the worker that makes them.
+fn room_for_job(
+    alloc: Global,
+    limits: &[u64; 8],
+    calls: usize,
+) -> Result<(Vec<Option<Name>>, Vec<Entry>), NoMemory>
+    requires short { calls < 2 ^ 32 }
+    requires few { (i : ℕ) → i < 8 → slice_index limits.now i ≤ 2 ^ 36 }
+    ensures fresh { IfOk result (λ room. (room.0.items ≡ []) × (room.1.items ≡ [])) }
+    ensures names { IfOk result (λ room. calls ≤ vec_capacity room.0) }
+    ensures record { IfOk result (λ room. vec_capacity room.1 ≡ calls + sum_of limits.now + 1) }
+{
+    let made = Vec::with_capacity(alloc, calls)?;
+    let entries = Vec::with_capacity(alloc, room_for_record(limits, calls))?;
+    Ok((made, entries))
+}
+
+/// A worker with its script, and the room for its record.
+fn make_job<const SLI: u32, R, P: Scripted<R> + Drop>(
+    alloc: Global,
+    worker: Worker<SLI, P>,
+    script: Vec<Call>,
+    releases: &[u32; 8],
+) -> Result<Job<SLI, P>, NoMemory>
+    requires yard { KnowsSome (P.knows SLI) worker }
+    requires short { vec_len script < 2 ^ 32 }
+    ensures { IfOk result (λ job. (job.worker ≡ worker) × (job.script ≡ script) × IsPrepared P.limited (P.knows SLI) releases.now job) }
+{
+    let limits = worker.ports.limits(releases);
+    let (made, entries) = room_for_job(alloc, &limits, script.len())?;
+    Ok(Job {
+        worker,
+        script,
+        limits,
+        made,
+        entries,
+    })
+}
+
+/// Pairs each worker with its script, in order, and makes the room for its record.
+fn add_jobs<const SLI: u32, R, P: Scripted<R> + Drop>(
+    alloc: Global,
+    workers: &mut Vec<Worker<SLI, P>>,
+    scripts: &mut Vec<Vec<Call>>,
+    releases: &[u32; 8],
+    jobs: &mut Vec<Job<SLI, P>>,
+) -> Result<(), NoMemory>
+    requires same { vec_len scripts.old ≡ vec_len workers.old }
+    requires yard { All (KnowsSome (P.knows SLI)) workers.old.items }
+    requires short { All (λ s. vec_len s < 2 ^ 32) scripts.old.items }
+    requires room { (jobs.old.items ≡ []) × (vec_len workers.old ≤ vec_capacity jobs.old) }
+    ensures workers { OnOk result (map (λ j. j.worker) jobs.new.items ≡ workers.old.items) }
+    ensures scripts { OnOk result (map (λ j. j.script) jobs.new.items ≡ scripts.old.items) }
+    ensures ready { OnOk result (All (IsPrepared P.limited (P.knows SLI) releases.now) jobs.new.items) }
+    ensures len { OnOk result (vec_len jobs.new ≡ vec_len workers.old) }
+    ensures capacity { vec_capacity jobs.new ≡ vec_capacity jobs.old }
+{
+    while let Some(worker) = workers.pop() {
+        let Some(script) = scripts.pop() else {
+            unreachable!()
+        };
+        let job = make_job::<SLI, R, P>(alloc, worker, script, releases)?;
+        jobs.push_reserved(job);
+    }
+    jobs.reverse();
+    Ok(())
+}
+
+/// A job for each worker, in order.
+pub(crate) fn prepare<const SLI: u32, R, P: Scripted<R> + Drop>(
+    alloc: Global,
+    workers: Vec<Worker<SLI, P>>,
+    scripts: Vec<Vec<Call>>,
+    releases: &[u32; 8],
+) -> Result<Vec<Job<SLI, P>>, NoMemory>
+    requires yard { All (KnowsSome (P.knows SLI)) workers.items }
+    requires count { vec_len scripts ≡ vec_len workers }
+    requires short { All (λ s. vec_len s < 2 ^ 32) scripts.items }
+    ensures workers { IfOk result (λ jobs. map (λ j. j.worker) jobs.items ≡ workers.items) }
+    ensures scripts { IfOk result (λ jobs. map (λ j. j.script) jobs.items ≡ scripts.items) }
+    ensures ready { IfOk result (λ jobs. All (IsPrepared P.limited (P.knows SLI) releases.now) jobs.items) }
+    ensures len { IfOk result (λ jobs. vec_len jobs ≡ vec_len workers) }
+{
+    let mut workers = workers;
+    let mut scripts = scripts;
+    let mut jobs = Vec::with_capacity(alloc, workers.len())?;
+    add_jobs::<SLI, R, P>(alloc, &mut workers, &mut scripts, releases, &mut jobs)?;
+    Ok(jobs)
+}

@@ -1,0 +1,15 @@
+use crate::jobs::work::Work;
+use std::marker::PhantomData;
+use std::snapshot::Snapshot;
+use std::thread::Promise;
+
+/// What a thread promises of what it hands back. It has no bytes.
+#[derive(Drop)]
+pub(crate) struct WorkPromise<R, W> {
+    pub(crate) work: Snapshot<W>,
+    pub(crate) with: PhantomData<R>,
+}
+
+impl<R, W: Work<R>> Promise<W::Done> for WorkPromise<R, W> {
+    ghost kept_by = { λ p d. W.is_done p.work.value d };
+}

@@ -1,0 +1,149 @@
+//! What a worker does over lanes.
+ghost use Rattle.std.specs.Prelude.{◌≡◌, ◌≢◌, ◌+◌, ◌*◌, ◌≤◌, length, Option, None, Some, Ok, Err};
+ghost use Rattle.tlsf_calls.specs.declared.took.Took.{Took};
+ghost use Rattle.tlsf_crew.specs.worker.Workers.{touches_of, id_of};
+ghost use Rattle.tlsf_crew.specs.lanes.LaneWorkers.{HasPost, HasTake, HearsLane, ReachesLane, TookThrough};
+ghost use Rattle.tlsf_crew.specs.lanes.LaneCalls.{KeepsYards, PutsIntoLane, TakenFromLane};
+ghost use Rattle.tlsf_crew.specs.worker.Calls.{ReleasedHere, ReleasedThere};
+ghost use Rattle.tlsf_crew.specs.lanes.LaneTurns.{DrainedAll};
+ghost use Rattle.tlsf_crew.specs.lanes.LaneNotes.{StopsAtLane};
+
+use crate::worker::lanes::Lanes;
+use crate::worker::notes::NoNotes;
+use crate::worker::ports::{Exchange, Ports, has_end};
+use crate::worker::worker::{Worker, drain_each, release, take_next};
+use tlsf_calls::{CrewRefusal, Drained, Released, Took};
+use tlsf_heap::Name;
+use tlsf_post::Post;
+
+impl Ports for Lanes {
+    ghost reaches = { ReachesLane };
+
+    ghost hears = { HearsLane };
+
+    ghost sources = { λ lanes. length lanes.takes.items };
+
+    // The entry of a take names its lane.
+    ghost sent_by = { λ from. None };
+
+    ghost keeps_yards = { λ sli a v. KeepsYards a v };
+
+    fn has_port(&self, j: usize) -> bool {
+        has_end(&self.posts, j)
+    }
+
+    fn source_count(&self) -> usize {
+        self.takes.len()
+    }
+
+    fn has_source(&self, source: usize) -> bool {
+        has_end(&self.takes, source)
+    }
+
+    fn sender(_from: u32) -> Option<u32> {
+        None
+    }
+
+    fn heap_keeps() {}
+}
+
+impl<C> Exchange<C> for Lanes {
+    ghost puts = { PutsIntoLane };
+
+    ghost takes = { λ p q from answer. TookThrough p q from answer };
+
+    ghost stops = { StopsAtLane };
+
+    fn put(&mut self, _context: &C, from: u32, name: Name) -> Result<(), Name> {
+        let Some(end) = self.posts[name.heap as usize].as_mut() else {
+            unreachable!()
+        };
+        match end.put(Post { from, name }) {
+            Ok(()) => Ok(()),
+            Err(post) => Err(post.name),
+        }
+    }
+
+    fn take(&mut self, _context: &C, source: usize) -> Option<Post> {
+        let Some(end) = self.takes[source].as_mut() else {
+            unreachable!()
+        };
+        end.take()
+    }
+
+    /// A drain leaves a lane at once.
+    fn stop(&mut self, _context: &C, _source: usize) {}
+}
+
+impl<const SLI: u32> Worker<SLI> {
+    /// Releases a block of the own heap, or posts the name of another worker's block to its owner, unread.
+    ///
+    /// - `here`: a name of the own heap is answered as the heap answers it.
+    /// - `there`: a name of another worker's heap is put into the lane to it, or given back as `Full`, which comes only
+    ///   where that lane knows no free slot.
+    /// - `nowhere`: a name of no other worker is a `Stranger`, and nothing changes.
+    /// - `touches`: at most 64 touches of the own heap's memory.
+    ///
+    /// ```
+    /// let here = workers[0].release(name);  // Ok(Released::Freed), where worker 0 allocated it
+    /// let there = workers[1].release(name); // Ok(Released::Posted): worker 0 will take and release it
+    /// ```
+    pub fn release(&mut self, name: Name) -> Result<Released, CrewRefusal>
+        ensures here { name.heap ≡ id_of self.old → ReleasedHere self.old self.new name result }
+        ensures there { name.heap ≢ id_of self.old → HasPost self.old name.heap → ReleasedThere PutsIntoLane self.old self.new name result }
+        ensures nowhere { name.heap ≢ id_of self.old → ¬ (HasPost self.old name.heap) → (result ≡ Err CrewRefusal.Stranger) × (self.new ≡ self.old) }
+        ensures yard { KeepsYards self.old self.new }
+        ensures touches { touches_of self.new ≤ touches_of self.old + 64 }
+        ensures touches_rise { touches_of self.old ≤ touches_of self.new }
+    {
+        release(self, &(), name)
+    }
+
+    /// Takes the next post from another worker, where the end of that lane has one, and releases the block that it
+    /// names on the own heap. The post is gone then, whatever the heap's answer.
+    ///
+    /// - `lane`: where there is a lane from that worker, its end is asked for one post.
+    /// - `nowhere`: where there is none, that worker is a `Stranger`, and nothing changes.
+    /// - `touches`: at most 64 touches of the own heap's memory.
+    ///
+    /// ```
+    /// if let Some(took) = worker.take(1)? {
+    ///     let freed = took.answer.is_ok(); // whether the block that worker 1 posted was released
+    /// }
+    /// ```
+    pub fn take(&mut self, from: u32) -> Result<Option<Took>, CrewRefusal>
+        ensures lane { HasTake self.old from → (answer : Option Took) × TakenFromLane self.old self.new from answer × (result ≡ Ok answer) }
+        ensures nowhere { ¬ (HasTake self.old from) → (result ≡ Err CrewRefusal.Stranger) × (self.new ≡ self.old) }
+        ensures yard { KeepsYards self.old self.new }
+        ensures touches { touches_of self.new ≤ touches_of self.old + 64 }
+        ensures touches_rise { touches_of self.old ≤ touches_of self.new }
+    {
+        if !self.ports.has_source(from as usize) {
+            return Err(CrewRefusal::Stranger);
+        }
+        Ok(take_next(self, &(), from as usize))
+    }
+
+    /// Takes from the other workers' lanes, in the rising order of their numbers, and releases each block that a post
+    /// names on the own heap. It stays at a lane until that shows no post, and stops where `most` posts were taken.
+    ///
+    /// - `drained`: the takes, each as [`Worker::take`] answers it, the heap that their releases leave, and their
+    ///   count. A post is gone and counted as taken whatever the heap's answer; `freed` counts those answered by `Ok`.
+    /// - `most`: no more than `most` are taken.
+    /// - `touches`: at most 64 touches of the own heap's memory for each post that is taken.
+    ///
+    /// ```
+    /// let drained = worker.drain(64); // no more than 64 posts: a bound on the time that it takes
+    /// let refused = drained.taken - drained.freed;
+    /// ```
+    pub fn drain(&mut self, most: u32) -> Drained
+        ensures drained { DrainedAll self.old self.new most result }
+        ensures most { result.taken ≤ most }
+        ensures freed { result.freed ≤ result.taken }
+        ensures yard { KeepsYards self.old self.new }
+        ensures touches { touches_of self.new ≤ touches_of self.old + 64 * result.taken }
+        ensures touches_rise { touches_of self.old ≤ touches_of self.new }
+    {
+        drain_each(self, &(), most, &mut NoNotes)
+    }
+}

@@ -1,0 +1,43 @@
+// One lane, both ends in hand.
+ghost use Rattle.std.specs.Prelude.{◌≡◌, ◌≢◌, ℕ, ◌+◌, ◌<◌, ◌≤◌, [], ◌∷◌, ◌++◌, length, vec_len, Some, slice_get, slice_set};
+ghost use Rattle.tlsf_crew.specs.lanes.Yard.{HasEnds, IsYard};
+ghost use Rattle.tlsf_crew.specs.lanes.LaneSteps.{HasLane, LaneMet, InYard, LaneStep};
+ghost use Rattle.tlsf_crew.specs.lanes.LaneWorkers.{HasPost, HasTake, PutTo, TookFrom};
+
+use crate::worker::worker::Worker;
+use tlsf_post::{Post, beside};
+
+/// The lane from one worker to another.
+fn settle_pair<const SLI: u32>(
+    poster: &mut Worker<SLI>,
+    taker: &mut Worker<SLI>,
+    i: usize,
+    j: usize,
+)
+    requires { HasLane i j poster.old taker.old }
+    ensures { LaneMet i j poster.old taker.old poster.new taker.new }
+{
+    let Some(post) = poster.ports.posts[j].as_mut() else {
+        unreachable!()
+    };
+    let Some(take) = taker.ports.takes[i].as_mut() else {
+        unreachable!()
+    };
+    beside(post, take);
+}
+
+/// The lane from worker i to worker j.
+pub(crate) fn settle_lane<const SLI: u32>(workers: &mut [Worker<SLI>], i: usize, j: usize)
+    requires apart { i ≢ j }
+    requires inside { (i < length workers.old) × (j < length workers.old) }
+    requires lane { HasEnds workers.old i j }
+    ensures { LaneStep workers.old i j workers.new }
+{
+    if i < j {
+        let (low, high) = workers.split_at_mut(j);
+        settle_pair(&mut low[i], &mut high[0], i, j);
+    } else {
+        let (low, high) = workers.split_at_mut(i);
+        settle_pair(&mut high[0], &mut low[j], i, j);
+    }
+}

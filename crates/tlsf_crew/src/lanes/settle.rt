@@ -1,0 +1,47 @@
+ghost use Rattle.std.specs.Prelude.{◌≡◌, ◌≢◌, ℕ, ◌<◌, length};
+ghost use Rattle.tlsf_crew.specs.lanes.Yard.{IsYard, world_of};
+ghost use Rattle.tlsf_crew.specs.lanes.Settle.{HaveMet};
+ghost use Rattle.tlsf_crew.specs.lanes.LaneSteps.{ColumnMet};
+
+use crate::lanes::pairs::settle_lane;
+use crate::worker::worker::Worker;
+
+/// Settles each lane of a whole yard: its two ends tell each other what they did since they last met. All that was
+/// posted then waits at the end that takes, and the end that posts knows each free slot.
+///
+/// - `met`: for each lane, the posts that were taken and then those that wait are those that had waited and then those
+///   that were sent. No post is lost, doubled or overtaken.
+/// - `world`: what the yard shows stays the same. No heap changes, and in each lane the same posts wait.
+///
+/// ```
+/// let freed = workers[1].release(name); // Ok(Released::Posted): the name of a block of worker 0
+/// settle(&mut workers);                 // that post is known to be ready for worker 0
+/// let took = workers[0].take(1);        // Ok(Some(..)): so the take answers it, and releases the block
+/// ```
+pub fn settle<const SLI: u32>(workers: &mut [Worker<SLI>])
+    requires { IsYard workers.old }
+    ensures met { HaveMet workers.old workers.new }
+    ensures yard { IsYard workers.new }
+    ensures count { length workers.new ≡ length workers.old }
+    ensures world { world_of workers.new ≡ world_of workers.old }
+{
+    for j in 0..workers.len() {
+        settle_column(workers, j);
+    }
+}
+
+/// Settles the lanes to one worker.
+pub(crate) fn settle_column<const SLI: u32>(workers: &mut [Worker<SLI>], j: usize)
+    requires yard { IsYard workers.old }
+    requires inside { j < length workers.old }
+    ensures met { ColumnMet workers.old workers.new (length workers.old) j }
+    ensures yard { IsYard workers.new }
+    ensures count { length workers.new ≡ length workers.old }
+    ensures world { world_of workers.new ≡ world_of workers.old }
+{
+    for i in 0..workers.len() {
+        if i != j {
+            settle_lane(workers, i, j);
+        }
+    }
+}

@@ -1,0 +1,199 @@
+//! Workers over queues that run their scripts at once.
+ghost use Rattle.std.specs.Prelude.{◌≡◌, ℕ, ◌+◌, ◌^◌, ◌<◌, ◌≤◌, List, Option, length, map, vec_len, vec_capacity, IfOk, All};
+ghost use Rattle.tlsf_crew.specs.queues.QueueYard.{IsQueueYard, queue_world_of};
+ghost use Rattle.tlsf_crew.specs.races.QueueRace.{IsQueueRace};
+ghost use Rattle.tlsf_crew.specs.queues.QueueWorkers.{KnowsQueueYard, queue_end_to};
+ghost use Rattle.tlsf_crew.specs.scripts.QueueMoves.{QueueStepped};
+ghost use Rattle.tlsf_crew.specs.model.Sums.{sum_of};
+ghost use Rattle.tlsf_crew.specs.scripts.Journals.{HasRoom};
+ghost use Rattle.tlsf_heap.specs.declared.name.Name.{Name};
+ghost use Rattle.tlsf_calls.specs.declared.call.Call.TheVariants.{Drain};
+ghost use Rattle.tlsf_crew.specs.races.LaneTasks.{KeepRooms};
+ghost use Rattle.tlsf_crew.specs.races.Rooms.{HaveQueueRecordRooms};
+ghost use Rattle.tlsf_crew.specs.races.QueueTasks.{DrainedLast, Finished, HasPlace, HaveQueuesRun, KnowsSomeYard, QueuesDrained};
+
+use crate::jobs::fan_out::{run_all, take_apart};
+use crate::jobs::gate::Gate;
+use crate::jobs::outcome::{Outcome, QueueOutcome};
+use crate::jobs::preparation::{count_all, prepare};
+use crate::queues::queue_settle::settle_each_queue;
+use crate::queues::queues::{QueueWorker, Queues};
+use crate::scripts::journal::Journal;
+use crate::worker::worker::drain_source;
+use std::mem;
+use std::alloc::Global;
+use std::marker::Sync;
+use std::sync::Wait;
+use std::thread::Threads;
+use tlsf_calls::{Call, Entry, MOST_DRAINED, Reply};
+use tlsf_post::{NoMemory, PosterEnd};
+
+/// Runs each worker's script in a thread of its own over queues, waits for all, and then drains each worker, in rising
+/// number. The workers are a whole yard, and there is a script for each, of fewer than 2^32 calls. A script's `Made(k)` is
+/// the name that its own call number k made. A `Take` is answered Stranger, since a queue has no single poster.
+///
+/// `gate` is passed in the thread of worker j before its call of number i, by (j, i), and once after its last call.
+///
+/// - `race`: whatever the schedule of the threads, each record is what its worker's own heap answers to the calls of
+///   its script, one after another, and to the last drain. What worker j took of worker i is what had waited of it,
+///   and then what i was answered to have posted to j, in order and each once. Nothing waits in the end.
+///
+/// - `room`: all room is made before a thread starts. Each record has room for the calls of its script, for each post that its
+///   queue may hold, for each release of any script, and for the last drain.
+///
+/// `NoMemory`, where a growth or the start of a thread was refused, gives no
+/// outcome, and the workers are spent.
+///
+/// ```
+/// // two workers, each to release a block of the other's: `theirs` of worker 1, `ours` of worker 0
+/// let first = vec![in alloc; Call::Release { target: Target::Named(theirs) }]?;
+/// let second = vec![in alloc; Call::Release { target: Target::Named(ours) }]?;
+/// let outcome = race_queues(rt, alloc, workers, vec![in alloc; first, second]?, &OpenGate)?;
+/// let record = &outcome.records[0]; // the release: Posted; the take of `ours` from worker 1; the last drain: Drained(1)
+/// ```
+pub fn race_queues<const SLI: u32, R: Threads + Wait + Sync, G: Gate>(
+    rt: &R,
+    alloc: Global,
+    workers: Vec<QueueWorker<SLI>>,
+    scripts: Vec<Vec<Call>>,
+    gate: &G,
+) -> Result<QueueOutcome<SLI>, NoMemory>
+    requires yard { IsQueueYard workers.items }
+    requires count { vec_len scripts ≡ vec_len workers }
+    requires short { All (λ s. vec_len s < 2 ^ 32) scripts.items }
+    ensures race { IfOk result (λ o. IsQueueRace (queue_world_of workers.entry.items) (map (λ s. s.items) scripts.items)
+        (map (λ r. r.items) o.records.items) (queue_world_of o.workers.items)) }
+    ensures yard { IfOk result (λ o. IsQueueYard o.workers.items) }
+    ensures room { IfOk result (λ o. HaveQueueRecordRooms (map (λ s. s.items) scripts.items) o.records.items) }
+{
+    let mut workers = workers;
+    let mut posters = Vec::with_capacity(alloc, workers.len())?;
+    settle_each_queue(&mut workers, &mut posters);
+    let mut outcome = run_scripts(rt, alloc, workers, scripts, gate)?;
+    finish(
+        rt,
+        alloc,
+        &mut outcome.workers,
+        &mut outcome.records,
+        &mut posters,
+    );
+    Ok(outcome)
+}
+
+/// Makes all room, and runs each script in a thread of its own.
+fn run_scripts<const SLI: u32, R: Threads + Wait + Sync, G: Gate>(
+    rt: &R,
+    alloc: Global,
+    workers: Vec<QueueWorker<SLI>>,
+    scripts: Vec<Vec<Call>>,
+    gate: &G,
+) -> Result<QueueOutcome<SLI>, NoMemory>
+    requires yard { IsQueueYard workers.items }
+    requires count { vec_len scripts ≡ vec_len workers }
+    requires short { All (λ s. vec_len s < 2 ^ 32) scripts.items }
+    ensures run { IfOk result (λ o. HaveQueuesRun workers.entry.items (map (λ s. s.items) scripts.items) (map (λ r. r.items) o.records.items) o.workers.items) }
+    ensures places { IfOk result (λ o. All HasPlace o.records.items) }
+    ensures rooms { IfOk result (λ o. HaveQueueRecordRooms (map (λ s. s.items) scripts.items) o.records.items) }
+{
+    let releases = count_all(&scripts);
+    let jobs = prepare::<SLI, R, Queues>(alloc, workers, scripts, &releases)?;
+    let mut outcome = Outcome::with_room(alloc, jobs.len())?;
+    let mut done = run_all(rt, alloc, jobs, gate)?;
+    take_apart(&mut done, &mut outcome);
+    Ok(outcome)
+}
+
+/// Settles the queues, drains each worker, and settles them again.
+fn finish<const SLI: u32, R: Wait>(
+    rt: &R,
+    alloc: Global,
+    workers: &mut [QueueWorker<SLI>],
+    records: &mut [Vec<Entry>],
+    posters: &mut Vec<PosterEnd>,
+)
+    requires yard { IsQueueYard workers.old }
+    requires count { length records.old ≡ length workers.old }
+    requires places { All HasPlace records.old }
+    requires room { length workers.old ≤ vec_capacity posters.old }
+    ensures rooms { KeepRooms records.old records.new }
+    ensures finished { Finished workers.old (map (λ r. r.items) records.old) (map (λ r. r.items) records.new) workers.new }
+{
+    settle_each_queue(workers, posters);
+    drain_all(rt, alloc, workers, records);
+    settle_each_queue(workers, posters);
+}
+
+/// Drains each worker, in rising number.
+fn drain_all<const SLI: u32, R: Wait>(
+    rt: &R,
+    alloc: Global,
+    workers: &mut [QueueWorker<SLI>],
+    records: &mut [Vec<Entry>],
+)
+    requires yard { All KnowsSomeYard workers.old }
+    requires count { length records.old ≡ length workers.old }
+    requires places { All HasPlace records.old }
+    ensures rooms { KeepRooms records.old records.new }
+    ensures drained { QueuesDrained workers.old (map (λ r. r.items) records.old) (map (λ r. r.items) records.new) workers.new (length workers.old) }
+{
+    for j in 0..workers.len() {
+        drain_last(rt, alloc, &mut workers[j], &mut records[j]);
+    }
+}
+
+/// Takes all that waits for a worker. Nobody posts any more, and there is room for an entry of each post: so the queue is
+/// empty at the end, and the drain doesn't wait for long.
+fn drain_last<const SLI: u32, R: Wait>(
+    rt: &R,
+    alloc: Global,
+    worker: &mut QueueWorker<SLI>,
+    entries: &mut Vec<Entry>,
+)
+    requires yard { KnowsSomeYard worker.old }
+    requires place { HasPlace entries.old }
+    ensures drained { (n : ℕ) → KnowsQueueYard n worker.old → DrainedLast n worker.old worker.new entries.old.items entries.new.items }
+    ensures capacity { vec_capacity entries.new ≡ vec_capacity entries.old }
+{
+    let mut journal = Journal {
+        limits: [last_limit(entries), 0, 0, 0, 0, 0, 0, 0],
+        entries: mem::replace(entries, Vec::new(alloc)),
+    };
+    let taken = drain_into_queue_journal(rt, worker, &mut journal, MOST_DRAINED);
+    journal.entries.push_reserved(Entry {
+        worker: worker.id,
+        call: Call::Drain { most: MOST_DRAINED },
+        reply: Reply::Drained(taken),
+    });
+    *entries = journal.entries;
+}
+
+/// Takes from the own queue, each post with an entry, until `most` were taken or the queue is empty. Answers how many.
+fn drain_into_queue_journal<const SLI: u32, R: Wait>(
+    rt: &R,
+    worker: &mut QueueWorker<SLI>,
+    journal: &mut Journal,
+    most: u32,
+) -> u32
+    requires room { HasRoom journal.old }
+    ensures stepped { (n : ℕ) (made : List (Option Name)) → KnowsQueueYard n worker.old
+        → QueueStepped n worker.old journal.old.limits (Drain most) made journal.old.entries.items worker.new journal.new.limits journal.new.entries.items (Reply.Drained result) }
+    ensures few { result ≤ sum_of journal.old.limits }
+    ensures ends { (n : ℕ) → KnowsQueueYard n worker.old → queue_end_to worker.new ≡ queue_end_to worker.old }
+    ensures capacity { vec_capacity journal.new.entries ≡ vec_capacity journal.old.entries }
+{
+    drain_source(worker, rt, 0, most, journal).taken
+}
+
+/// How many posts a last drain may take: fewer than it asks for, so that it goes on until its queue is empty.
+fn last_limit(entries: &Vec<Entry>) -> u64
+    requires { HasPlace entries.now }
+    ensures few { result < 8192 }
+    ensures room { vec_len entries.now + result + 1 ≤ vec_capacity entries.now }
+{
+    let room = entries.capacity() - entries.len() - 1;
+    if room < MOST_DRAINED as usize {
+        room as u64
+    } else {
+        MOST_DRAINED as u64 - 1
+    }
+}

@@ -1,0 +1,3 @@
+//! A list of events, run in one thread.
+
+pub(crate) mod replay;

@@ -1,0 +1,212 @@
+//! Events, one after another.
+ghost use Rattle.std.specs.Prelude.{◌≡◌, ◌≢◌, ℕ, ◌+◌, ◌*◌, ◌<◌, ◌≤◌, length, Some, vec_len, vec_capacity, IfOk, OnOk, OnErr};
+ghost use Rattle.tlsf_heap.specs.declared.name.Name.{Name};
+ghost use Rattle.tlsf_crew.specs.model.Sums.{sum_below, waiting_in};
+ghost use Rattle.tlsf_crew.specs.scripts.Counts.{releases_in, entry_room};
+ghost use Rattle.tlsf_crew.specs.lanes.Yard.{IsYard, waits_in, world_of};
+ghost use Rattle.tlsf_crew.specs.model.World.{after, replies, replies_behind};
+ghost use Rattle.tlsf_crew.specs.fair_runs.FairRuns.{IsFairRun, NoneStale, WaitLive};
+ghost use Rattle.tlsf_crew.specs.lanes.Settle.{MetIn};
+ghost use Rattle.tlsf_crew.specs.replays.ReplaySteps.{replay_of, Concerns, AreLimits, IsReplied};
+
+use crate::lanes::pairs::settle_lane;
+use crate::lanes::settle::{settle, settle_column};
+use crate::scripts::executor::{answer, reply_to};
+use crate::scripts::journal::Journal;
+use crate::scripts::own_replies::named;
+use crate::scripts::room::{count_each, room_for};
+use crate::worker::worker::Worker;
+use std::alloc::Global;
+use tlsf_calls::{Call, CrewRefusal, Entry, Event, Reply};
+use tlsf_heap::Name;
+use tlsf_post::NoMemory;
+
+/// Settles the lane between two workers, where there is one.
+fn settle_between<const SLI: u32>(workers: &mut [Worker<SLI>], i: usize, j: usize)
+    requires yard { IsYard workers.old }
+    ensures met { i < length workers.old → j < length workers.old → i ≢ j → MetIn workers.old workers.new i j }
+    ensures yard { IsYard workers.new }
+    ensures count { length workers.new ≡ length workers.old }
+    ensures world { world_of workers.new ≡ world_of workers.old }
+{
+    if i != j && i < workers.len() && j < workers.len() {
+        settle_lane(workers, i, j);
+    }
+}
+
+/// Settles the lane from a worker to that of a name's heap, where there is one.
+fn settle_named<const SLI: u32>(workers: &mut [Worker<SLI>], at: usize, name: Option<Name>)
+    requires yard { IsYard workers.old }
+    ensures met { (k : Name) → name ≡ Some k → at < length workers.old → k.heap < length workers.old → at ≢ k.heap → MetIn workers.old workers.new at k.heap }
+    ensures yard { IsYard workers.new }
+    ensures count { length workers.new ≡ length workers.old }
+    ensures world { world_of workers.new ≡ world_of workers.old }
+{
+    match name {
+        Some(name) => settle_between(workers, at, name.heap as usize),
+        None => {}
+    }
+}
+
+/// Settles the lanes that an event concerns. Answers how many posts the worker may take then from each other one: all
+/// that wait, where it takes any.
+#[inline(always)]
+fn settle_for<const SLI: u32>(
+    workers: &mut [Worker<SLI>],
+    event: Event,
+    made: &[Option<Name>],
+) -> [u64; 8]
+    requires yard { IsYard workers.old }
+    requires inside { event.worker < length workers.old }
+    ensures met { (i j : ℕ) → i < length workers.old → j < length workers.old → i ≢ j → Concerns made.now event i j → MetIn workers.old workers.new i j }
+    ensures yard { IsYard workers.new }
+    ensures count { length workers.new ≡ length workers.old }
+    ensures world { world_of workers.new ≡ world_of workers.old }
+    ensures limits { AreLimits workers.new event result }
+{
+    let at = event.worker as usize;
+    match event.call {
+        Call::Release { target } => {
+            settle_named(workers, at, named(target, made));
+            [0; 8]
+        }
+        Call::Take { .. } | Call::Drain { .. } => {
+            settle_column(workers, at);
+            count_each(&workers[at])
+        }
+        Call::Allocate { .. } => [0; 8],
+        Call::Write { .. } => [0; 8],
+        Call::Read { .. } => [0; 8],
+        Call::Resize { .. } => [0; 8],
+    }
+}
+
+/// Makes the call of an event by a worker of the yard, with the lanes settled before and after. A drain writes its
+/// takes; the event's own entry is still to come.
+pub(crate) fn reply_in_yard<const SLI: u32>(
+    workers: &mut [Worker<SLI>],
+    event: Event,
+    made: &[Option<Name>],
+    journal: &mut Journal,
+) -> Reply
+    requires yard { IsYard workers.old }
+    requires inside { event.worker < length workers.old }
+    requires room { vec_len journal.old.entries + sum_below 8 (λ i. length (waits_in workers.old i event.worker)) ≤ vec_capacity journal.old.entries }
+    ensures replied { IsReplied (replay_of made.now journal.old.entries.items workers.old) event journal.new.entries.items workers.new result }
+    ensures capacity { vec_capacity journal.new.entries ≡ vec_capacity journal.old.entries }
+{
+    journal.limits = settle_for(workers, event, made);
+    let worker = &mut workers[event.worker as usize];
+    let reply = reply_to(worker, &(), journal, event.call, made);
+    settle_for(workers, event, made);
+    reply
+}
+
+/// Runs one event.
+fn run_event<const SLI: u32>(
+    workers: &mut [Worker<SLI>],
+    event: Event,
+    made: &mut Vec<Option<Name>>,
+    journal: &mut Journal,
+)
+    requires yard { IsYard workers.old }
+    requires made { vec_len made.old < vec_capacity made.old }
+    requires takes { vec_len journal.old.entries + sum_below 8 (λ i. length (waits_in workers.old i event.worker)) ≤ vec_capacity journal.old.entries }
+    requires room { length (after (replay_of made.old.items journal.old.entries.items workers.old) event).entries ≤ vec_capacity journal.old.entries }
+    ensures yard { IsYard workers.new }
+    ensures capacity { (vec_capacity made.new ≡ vec_capacity made.old) × (vec_capacity journal.new.entries ≡ vec_capacity journal.old.entries) }
+    ensures made { vec_len made.new ≡ vec_len made.old + 1 }
+    ensures after { replay_of made.new.items journal.new.entries.items workers.new ≡ after (replay_of made.old.items journal.old.entries.items workers.old) event }
+{
+    if (event.worker as usize) >= workers.len() {
+        let stranger = Reply::Refused(CrewRefusal::Stranger);
+        answer(event, stranger, made, &mut journal.entries);
+        return;
+    }
+    let reply = reply_in_yard(workers, event, made, journal);
+    answer(event, reply, made, &mut journal.entries);
+}
+
+/// Runs events in order on a whole yard, with every end in hand, and answers an entry for each. A drain gives before
+/// its own entry one for each post that it takes.
+///
+/// Before and after each release of another's name and each take the lane concerned is settled. So a lane is full
+/// exactly where its capacity of posts waits, and empty exactly where none does.
+///
+/// Where nothing waits at the start, and each target was made by an earlier event and not yet released or posted, no
+/// answer is `Stale` and each post that waits in the end names a live block. So no block is given again while a post
+/// of it waits.
+///
+/// - `room`: the room for all entries is made first, one for each event, for each release among them and for each post that waits at the
+///   start. Where it answers `NoMemory`, no event has run.
+pub fn replay_events<const SLI: u32>(
+    alloc: Global,
+    workers: &mut [Worker<SLI>],
+    events: &[Event],
+) -> Result<Vec<Entry>, NoMemory>
+    requires { IsYard workers.old }
+    ensures yard { IsYard workers.new }
+    ensures entries { IfOk result (λ entries. entries.items ≡ (replies (world_of workers.old) events.now).entries) }
+    ensures world { OnOk result (world_of workers.new ≡ (replies (world_of workers.old) events.now).world) }
+    ensures no_memory { OnErr result (world_of workers.new ≡ world_of workers.old) }
+    ensures no_stale { IsFairRun (world_of workers.old) events.now → IfOk result (λ entries. NoneStale entries.items × WaitLive (world_of workers.new)) }
+
+    // So much memory is asked for, and no more.
+    ensures room { IfOk result (λ entries. vec_capacity entries ≡ entry_room (world_of workers.old) events.now) }
+{
+    let mut made = Vec::new(alloc);
+    replay_behind(alloc, workers, &mut made, events)
+}
+
+/// Runs events in order behind others, whose names stand in `made`, by their numbers. Answers the entries of these events
+/// alone, and adds the names that they made. So a long list of events can be run part by part, with few entries held.
+///
+/// Lanes are settled as [`replay_events`] settles them. After `NoMemory` no event has run, and `made` has the names that it had.
+///
+/// ```
+/// let mut made = Vec::new(alloc);
+/// let first = replay_behind(alloc, &mut workers, &mut made, &events[..100])?;
+/// let rest = replay_behind(alloc, &mut workers, &mut made, &events[100..])?;
+/// // the entries of both are those that `replay_events` gives for all events
+/// ```
+pub fn replay_behind<const SLI: u32>(
+    alloc: Global,
+    workers: &mut [Worker<SLI>],
+    made: &mut Vec<Option<Name>>,
+    events: &[Event],
+) -> Result<Vec<Entry>, NoMemory>
+    requires { IsYard workers.old }
+    ensures yard { IsYard workers.new }
+    ensures entries { IfOk result (λ entries. entries.items ≡ (replies_behind (world_of workers.old) made.old.items events.now).entries) }
+    ensures made { OnOk result (made.new.items ≡ (replies_behind (world_of workers.old) made.old.items events.now).made) }
+    ensures world { OnOk result (world_of workers.new ≡ (replies_behind (world_of workers.old) made.old.items events.now).world) }
+    ensures no_memory { OnErr result ((world_of workers.new ≡ world_of workers.old) × (made.new.items ≡ made.old.items)) }
+    ensures room { IfOk result (λ entries. vec_capacity entries ≡ entry_room (world_of workers.old) events.now) }
+{
+    settle(workers);
+    let room = room_for(workers, events);
+    replay_within(alloc, workers, made, events, room)
+}
+
+/// Runs every event in order, behind those that made the names, with room for all entries.
+fn replay_within<const SLI: u32>(
+    alloc: Global,
+    workers: &mut [Worker<SLI>],
+    made: &mut Vec<Option<Name>>,
+    events: &[Event],
+    room: usize,
+) -> Result<Vec<Entry>, NoMemory>
+    requires yard { IsYard workers.old }
+    requires room { length events.now + releases_in events.now + waiting_in (world_of workers.old) ≤ room }
+    ensures yard { IsYard workers.new }
+    ensures replies { IfOk result (λ es. replay_of made.new.items es.items workers.new ≡ replies_behind (world_of workers.old) made.old.items events.now) }
+    ensures refused { OnErr result ((world_of workers.new ≡ world_of workers.old) × (made.new.items ≡ made.old.items)) }
+    ensures room { IfOk result (λ es. vec_capacity es ≡ room) }
+{
+    made.reserve(events.len())?;
+    let mut journal = Journal::with_room(alloc, room)?;
+    for event in events.iter() {
+        run_event(workers, *event, made, &mut journal);
+    }
+    Ok(journal.entries)
+}

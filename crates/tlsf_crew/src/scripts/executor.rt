@@ -1,0 +1,159 @@
+//! The executor: one call of a script on one worker, with its entries and the name that it made.
+ghost use Rattle.std.specs.Prelude.{◌≡◌, ℕ, ◌+◌, ◌<◌, [], ◌∷◌, ◌++◌, List, Option, None, true, false, vec_len, vec_capacity};
+ghost use Rattle.tlsf_heap.specs.declared.name.Name.{Name};
+ghost use Rattle.tlsf_calls.specs.declared.call.Call.TheVariants.{Release, Take};
+ghost use Rattle.tlsf_calls.specs.declared.entry.Entry.{Entry};
+ghost use Rattle.tlsf_crew.specs.model.World.{made_by};
+ghost use Rattle.tlsf_crew.specs.model.Sums.{sum_of};
+ghost use Rattle.tlsf_crew.specs.scripts.Journals.{HasRoom};
+ghost use Rattle.tlsf_crew.specs.scripts.Scripts.{Called};
+
+use crate::scripts::journal::Journal;
+use crate::scripts::own_replies::{named, reply_to_own_allocate, reply_to_own_read, reply_to_own_resize, reply_to_own_write};
+use crate::scripts::scripted::Scripted;
+use crate::worker::notes::Notes;
+use crate::worker::ports::Ports;
+use crate::worker::worker::{Worker, drain_each, release, take_next};
+use tlsf_calls::{Call, CrewRefusal, Entry, Event, Released, Reply, Target};
+use tlsf_heap::Name;
+
+/// The name that a reply made.
+fn made_name(reply: Reply) -> Option<Name>
+    ensures { result ≡ made_by reply }
+{
+    match reply {
+        Reply::Made(name) => Some(name),
+        _ => None,
+    }
+}
+
+/// One answer more.
+pub(crate) fn answer(
+    event: Event,
+    reply: Reply,
+    made: &mut Vec<Option<Name>>,
+    entries: &mut Vec<Entry>,
+)
+    requires made { vec_len made.old < vec_capacity made.old }
+    requires room { vec_len entries.old < vec_capacity entries.old }
+    ensures made { made.new.items ≡ made.old.items ++ made_by reply ∷ [] }
+    ensures entries { entries.new.items ≡ entries.old.items ++ record { worker = event.worker; call = event.call; reply = reply } ∷ [] }
+    ensures capacity { (vec_capacity made.new ≡ vec_capacity made.old) × (vec_capacity entries.new ≡ vec_capacity entries.old) }
+{
+    made.push_reserved(made_name(reply));
+    entries.push_reserved(Entry {
+        worker: event.worker,
+        call: event.call,
+        reply,
+    });
+}
+
+/// Releases what a target means: a block of the own heap, or by a post another's.
+fn reply_to_release<const SLI: u32, C, P: Scripted<C>>(
+    worker: &mut Worker<SLI, P>,
+    context: &C,
+    target: Target,
+    made: &[Option<Name>],
+) -> Reply
+    ensures { (n : ℕ) (limits : List ℕ) (entries : List Entry) → P.knows SLI n worker.old → P.steps SLI n worker.old limits (Release target) made.now entries worker.new limits entries result }
+{
+    P::releases_step();
+    let Some(name) = named(target, made) else {
+        return Reply::Refused(CrewRefusal::Unmade);
+    };
+    match release(worker, context, name) {
+        Ok(Released::Freed) => Reply::Freed,
+        Ok(Released::Posted) => Reply::Posted,
+        Err(why) => Reply::Refused(why),
+    }
+}
+
+/// Whether a source is that worker's alone, and goes by its number.
+fn is_source_of<P: Ports>(ports: &P, from: u32) -> bool
+    ensures yes { result ≡ true → (P.sent_by from ≡ None) × P.hears ports.now from }
+    ensures no { result ≡ false → P.sent_by from ≡ None → ¬ (P.hears ports.now from) }
+{
+    match P::sender(from) {
+        Some(_) => false,
+        None => ports.has_source(from as usize),
+    }
+}
+
+/// Takes the next post from a worker, and counts its limit down. At a limit of 0 its source isn't asked. It is `Stranger`
+/// where no source is that worker's alone.
+fn reply_to_take<const SLI: u32, C, P: Scripted<C>>(
+    worker: &mut Worker<SLI, P>,
+    context: &C,
+    journal: &mut Journal,
+    from: u32,
+) -> Reply
+    ensures stepped { (n : ℕ) (made : List (Option Name)) → P.knows SLI n worker.old
+        → P.steps SLI n worker.old journal.old.limits (Take from) made journal.old.entries.items worker.new journal.new.limits journal.old.entries.items result }
+    ensures entries { journal.new.entries ≡ journal.old.entries }
+{
+    P::takes_step();
+    let source = from as usize;
+    if !is_source_of(&worker.ports, from) {
+        return Reply::Refused(CrewRefusal::Stranger);
+    }
+    if !journal.admits(source) {
+        return Reply::Empty;
+    }
+    let Some(took) = take_next(worker, context, source) else {
+        return Reply::Empty;
+    };
+    journal.limits[source] -= 1;
+    Reply::Took(took)
+}
+
+/// Makes one call, and answers the reply. A drain's takes get their entries here, the call gets its own later.
+#[inline(always)]
+pub(crate) fn reply_to<const SLI: u32, C, P: Scripted<C>>(
+    worker: &mut Worker<SLI, P>,
+    context: &C,
+    journal: &mut Journal,
+    call: Call,
+    made: &[Option<Name>],
+) -> Reply
+    requires room { HasRoom journal.old }
+    ensures stepped { (n : ℕ) → P.knows SLI n worker.old
+        → P.steps SLI n worker.old journal.old.limits call made.now journal.old.entries.items worker.new journal.new.limits journal.new.entries.items result }
+    ensures capacity { vec_capacity journal.new.entries ≡ vec_capacity journal.old.entries }
+{
+    P::own_replies_step();
+    P::drains_step();
+    match call {
+        Call::Allocate { len } => reply_to_own_allocate(worker, len),
+        Call::Release { target } => reply_to_release(worker, context, target, made),
+        Call::Write { target, at, bytes } => { reply_to_own_write(worker, target, at, bytes, made) }
+        Call::Read { target, at, n } => reply_to_own_read(worker, target, at, n, made),
+        Call::Resize { target, len } => reply_to_own_resize(worker, target, len, made),
+        Call::Take { from } => reply_to_take(worker, context, journal, from),
+        Call::Drain { most } => Reply::Drained(drain_each(worker, context, most, journal).taken),
+    }
+}
+
+/// Makes one call of a worker of some yard, with its entries and the name that it made.
+pub(crate) fn run_call<const SLI: u32, C, P: Scripted<C>>(
+    worker: &mut Worker<SLI, P>,
+    context: &C,
+    journal: &mut Journal,
+    call: Call,
+    made: &mut Vec<Option<Name>>,
+)
+    requires knows { (n : ℕ) × P.knows SLI n worker.old }
+    requires names { vec_len made.old < vec_capacity made.old }
+    requires room { vec_len journal.old.entries + sum_of journal.old.limits < vec_capacity journal.old.entries }
+    ensures called { (n : ℕ) → P.knows SLI n worker.old
+        → Called (P.tells SLI n) (P.moves SLI) worker.old journal.old.limits call made.old.items journal.old.entries.items worker.new journal.new.limits made.new.items journal.new.entries.items }
+    ensures capacity { (vec_capacity made.new ≡ vec_capacity made.old) × (vec_capacity journal.new.entries ≡ vec_capacity journal.old.entries) }
+{
+    P::moves_join();
+    P::steps_tell();
+    let reply = reply_to(worker, context, journal, call, made);
+    let event = Event {
+        worker: worker.id,
+        call,
+    };
+    answer(event, reply, made, &mut journal.entries);
+}

@@ -1,0 +1,153 @@
+//! Replies of a worker's own heap to the calls of a script. Both kinds of worker give them.
+ghost use Rattle.std.specs.Prelude.{◌≡◌, ◌≤◌, length};
+ghost use Rattle.tlsf_heap.specs.Calls.{read_of};
+ghost use Rattle.tlsf_calls.specs.Bytes.{bytes_of};
+ghost use Rattle.tlsf_crew.specs.worker.Calls.{by_heap};
+ghost use Rattle.tlsf_crew.specs.model.Heaps.{as_chunk, chunk_read};
+ghost use Rattle.tlsf_crew.specs.worker.Workers.{heap_of, SameButHeap};
+ghost use Rattle.tlsf_crew.specs.model.World.{name_of};
+ghost use Rattle.tlsf_crew.specs.model.OwnReplies.{own_allocating, own_writing, own_reading, own_resizing};
+
+use crate::worker::ports::Ports;
+use crate::worker::worker::Worker;
+use tlsf_calls::{Chunk, CrewRefusal, Reply, Target};
+use tlsf_heap::{Name, Refusal};
+
+/// The name that a target means.
+pub(crate) fn named(target: Target, made: &[Option<Name>]) -> Option<Name>
+    ensures { result ≡ name_of made.now target }
+{
+    match target {
+        Target::Named(name) => Some(name),
+        Target::Made(k) => {
+            if (k as usize) < made.len() {
+                return made[k as usize];
+            }
+            None
+        }
+        Target::Absent => None,
+    }
+}
+
+/// Allocates `len` bytes.
+pub(crate) fn reply_to_own_allocate<const SLI: u32, P: Ports>(
+    worker: &mut Worker<SLI, P>,
+    len: u32,
+) -> Reply
+    ensures reply { result ≡ (own_allocating SLI (heap_of worker.old) len).reply }
+    ensures heap { heap_of worker.new ≡ (own_allocating SLI (heap_of worker.old) len).heap }
+    ensures same { SameButHeap worker.old worker.new }
+    ensures yard { P.keeps_yards SLI worker.old worker.new }
+{
+    match worker.allocate(len) {
+        Ok(name) => Reply::Made(name),
+        Err(why) => Reply::Refused(why),
+    }
+}
+
+/// Writes into the block that a target means, from byte `from` of it on.
+pub(crate) fn reply_to_own_write<const SLI: u32, P: Ports>(
+    worker: &mut Worker<SLI, P>,
+    target: Target,
+    from: u32,
+    bytes: Chunk,
+    made: &[Option<Name>],
+) -> Reply
+    ensures reply { result ≡ (own_writing (heap_of worker.old) (name_of made.now target) from (bytes_of bytes)).reply }
+    ensures heap { heap_of worker.new ≡ (own_writing (heap_of worker.old) (name_of made.now target) from (bytes_of bytes)).heap }
+    ensures same { SameButHeap worker.old worker.new }
+{
+    let Some(name) = named(target, made) else {
+        return Reply::Refused(CrewRefusal::Unmade);
+    };
+    let list = bytes.as_slice();
+    match worker.write(name, from, list) {
+        Ok(()) => Reply::Wrote(list.len() as u32),
+        Err(why) => Reply::Refused(why),
+    }
+}
+
+/// Fills up to 64 bytes from a block.
+fn read_own_into<const SLI: u32, P: Ports>(
+    worker: &mut Worker<SLI, P>,
+    name: Name,
+    from: u32,
+    out: &mut [u8],
+) -> Result<Chunk, CrewRefusal>
+    requires { length out.old ≤ 64 }
+    ensures answer { result ≡ by_heap (as_chunk (read_of (heap_of worker.old) name from (length out.old))) }
+    ensures heap { heap_of worker.new ≡ heap_of worker.old }
+    ensures same { SameButHeap worker.old worker.new }
+{
+    match worker.read(name, from, out) {
+        Ok(()) => match Chunk::new(out) {
+            Some(chunk) => Ok(chunk),
+            // It can't come: `out` has no more bytes than a chunk holds.
+            None => Err(CrewRefusal::Heap(Refusal::Range)),
+        },
+        Err(why) => Err(why),
+    }
+}
+
+/// Reads up to 64 bytes of a block. More are refused as `Range`, where the heap doesn't refuse the name.
+fn read_own_chunk<const SLI: u32, P: Ports>(
+    worker: &mut Worker<SLI, P>,
+    name: Name,
+    from: u32,
+    n: u32,
+) -> Result<Chunk, CrewRefusal>
+    ensures answer { result ≡ by_heap (chunk_read (heap_of worker.old) name from n) }
+    ensures heap { heap_of worker.new ≡ heap_of worker.old }
+    ensures same { SameButHeap worker.old worker.new }
+{
+    let mut bytes = [0u8; 64];
+    if n > 64 {
+        // A read of no bytes: what the heap says of the name alone.
+        return match worker.read(name, from, &mut bytes[..0]) {
+            Ok(()) => Err(CrewRefusal::Heap(Refusal::Range)),
+            Err(why) => Err(why),
+        };
+    }
+    read_own_into(worker, name, from, &mut bytes[..n as usize])
+}
+
+/// Reads `n` bytes of the block that a target means, from byte `from` of it on. More than 64 are refused.
+pub(crate) fn reply_to_own_read<const SLI: u32, P: Ports>(
+    worker: &mut Worker<SLI, P>,
+    target: Target,
+    from: u32,
+    n: u32,
+    made: &[Option<Name>],
+) -> Reply
+    ensures reply { result ≡ (own_reading (heap_of worker.old) (name_of made.now target) from n).reply }
+    ensures heap { heap_of worker.new ≡ (own_reading (heap_of worker.old) (name_of made.now target) from n).heap }
+    ensures same { SameButHeap worker.old worker.new }
+{
+    let Some(name) = named(target, made) else {
+        return Reply::Refused(CrewRefusal::Unmade);
+    };
+    match read_own_chunk(worker, name, from, n) {
+        Ok(bytes) => Reply::Got(bytes),
+        Err(why) => Reply::Refused(why),
+    }
+}
+
+/// Resizes the block that a target means, where it stands.
+pub(crate) fn reply_to_own_resize<const SLI: u32, P: Ports>(
+    worker: &mut Worker<SLI, P>,
+    target: Target,
+    len: u32,
+    made: &[Option<Name>],
+) -> Reply
+    ensures reply { result ≡ (own_resizing (heap_of worker.old) (name_of made.now target) len).reply }
+    ensures heap { heap_of worker.new ≡ (own_resizing (heap_of worker.old) (name_of made.now target) len).heap }
+    ensures same { SameButHeap worker.old worker.new }
+{
+    let Some(name) = named(target, made) else {
+        return Reply::Refused(CrewRefusal::Unmade);
+    };
+    match worker.resize(name, len) {
+        Ok(()) => Reply::Resized,
+        Err(why) => Reply::Refused(why),
+    }
+}

@@ -1,0 +1,77 @@
+//! Room for the entries of a replay, counted before it.
+ghost use Rattle.std.specs.Prelude.{◌≡◌, ℕ, ◌+◌, ◌*◌, ◌<◌, ◌≤◌, length, slice_index};
+ghost use Rattle.tlsf_crew.specs.lanes.Ready.{count_of, ready_from, ready_in};
+ghost use Rattle.tlsf_crew.specs.model.Sums.{sum_below};
+ghost use Rattle.tlsf_crew.specs.scripts.Counts.{releases_in};
+ghost use Rattle.tlsf_crew.specs.lanes.LaneWorkers.{lane_from};
+
+use crate::worker::lanes::Lanes;
+use crate::worker::worker::Worker;
+use tlsf_calls::{Call, Event};
+
+/// Room for all entries that events can make: one for each event, one for each post that a release makes, and one for
+/// each post that is ready.
+pub(crate) fn room_for<const SLI: u32>(workers: &[Worker<SLI>], events: &[Event]) -> usize
+    requires { length workers.now ≤ 8 }
+    ensures { result ≡ length events.now + releases_in events.now + ready_in workers.now }
+{
+    events.len() + count_releases(events) + count_ready(workers)
+}
+
+/// How many of the events are releases.
+fn count_releases(events: &[Event]) -> usize
+    ensures { result ≡ releases_in events.now }
+{
+    events
+        .iter()
+        .filter(|event| matches!(event.call, Call::Release { .. }))
+        .count()
+}
+
+/// How many posts are ready in the yard.
+fn count_ready<const SLI: u32>(workers: &[Worker<SLI>]) -> usize
+    requires { length workers.now ≤ 8 }
+    ensures count { result ≡ ready_in workers.now }
+    ensures most { result ≤ 64 * u32.MAX }
+{
+    let mut count = 0;
+    for worker in workers.iter() {
+        count += count_for(worker, workers.len());
+    }
+    count
+}
+
+/// How many posts are ready for a worker from the workers below n.
+fn count_for<const SLI: u32>(worker: &Worker<SLI>, n: usize) -> usize
+    requires { n ≤ 8 }
+    ensures count { result ≡ sum_below n (ready_from worker.now) }
+    ensures most { result ≤ 8 * u32.MAX }
+{
+    let mut count = 0;
+    for i in 0..n {
+        count += count_from(&worker.ports, i) as usize;
+    }
+    count
+}
+
+/// How many posts are ready in the lane from worker i.
+pub(crate) fn count_from(lanes: &Lanes, i: usize) -> u32
+    ensures { result ≡ count_of (lane_from lanes.now i) }
+{
+    match lanes.takes.get(i) {
+        Some(Some(end)) => end.count_ready(),
+        Some(None) => 0,
+        None => 0,
+    }
+}
+
+/// How many posts are ready for a worker from each other one.
+pub(crate) fn count_each<const SLI: u32>(worker: &Worker<SLI>) -> [u64; 8]
+    ensures { (i : ℕ) → i < 8 → slice_index result i ≡ ready_from worker.now i }
+{
+    let mut counts = [0; 8];
+    for i in 0..8 {
+        counts[i] = count_from(&worker.ports, i) as u64;
+    }
+    counts
+}

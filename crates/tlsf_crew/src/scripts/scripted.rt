@@ -1,0 +1,95 @@
+//! What the calls of a script tell of their worker, over ports of each kind.
+ghost use Rattle.std.specs.Prelude.{◌≡◌, ◌^◌, ◌<◌, ◌≤◌, ℕ, List, Option, Some, None, Result, slice_index};
+ghost use Rattle.tlsf_heap.specs.declared.name.Name.{Name};
+ghost use Rattle.tlsf_calls.specs.Bytes.{bytes_of};
+ghost use Rattle.tlsf_calls.specs.declared.call.Call.{Call};
+ghost use Rattle.tlsf_calls.specs.declared.call.Call.TheVariants.{Allocate, Release, Write, Read, Resize, Take, Drain};
+ghost use Rattle.tlsf_calls.specs.declared.chunk.Chunk.{Chunk};
+ghost use Rattle.tlsf_calls.specs.declared.crew_refusal.CrewRefusal.{CrewRefusal};
+ghost use Rattle.tlsf_calls.specs.declared.crew_refusal.CrewRefusal.TheVariants.{Stranger, Unmade};
+ghost use Rattle.tlsf_calls.specs.declared.drained.Drained.{Drained as WasDrained};
+ghost use Rattle.tlsf_calls.specs.declared.entry.Entry.{Entry};
+ghost use Rattle.tlsf_calls.specs.declared.released.Released.{Released};
+ghost use Rattle.tlsf_calls.specs.declared.reply.Reply.{Reply};
+ghost use Rattle.tlsf_calls.specs.declared.reply.Reply.TheVariants.{Drained, Refused};
+ghost use Rattle.tlsf_calls.specs.declared.target.Target.{Target};
+ghost use Rattle.tlsf_calls.specs.declared.took.Took.{Took};
+ghost use Rattle.tlsf_crew.specs.declared.worker.worker.Worker.{Worker};
+ghost use Rattle.tlsf_crew.specs.declared.scripts.journal.Journal.{Journal};
+ghost use Rattle.tlsf_crew.specs.worker.Notes.{AllNoted};
+ghost use Rattle.tlsf_crew.specs.scripts.Journals.{IsAdmitted, IsEntered, named_by};
+ghost use Rattle.tlsf_crew.specs.model.OwnReplies.{own_allocating, own_writing, own_reading, own_resizing};
+ghost use Rattle.tlsf_crew.specs.scripts.Scripts.{reply_took, AreMoves, IsRelease, Step, TakenWithin, reply_released};
+ghost use Rattle.tlsf_crew.specs.model.Told.{Told};
+ghost use Rattle.tlsf_crew.specs.worker.Workers.{heap_of, SameButHeap};
+ghost use Rattle.tlsf_crew.specs.model.World.{name_of};
+
+use crate::worker::ports::Exchange;
+
+/// Ports over which the calls of a script are made. All of its functions but the first do nothing but say what holds of them.
+pub(crate) trait Scripted<C>: Exchange<C> {
+    // The worker is one of so many.
+    ghost knows: { (sli : ℕ) → ℕ → Worker sli Self → Type 0 };
+
+    // A worker, one of so many and of that number, may be told one call more so.
+    ghost tells: { ℕ → ℕ → ℕ → Told → Call → Told → Type 0 };
+
+    // The worker of that number, whose calls made these names, has become the other by these calls, as the entries tell. It might take so
+    // many posts of each source, and may take what is left.
+    ghost moves: { (sli : ℕ) → ℕ → List (Option Name) → Worker sli Self → List ℕ → List Call → List Entry → Worker sli Self → List ℕ → Type 0 };
+
+    // A call of a worker, one of so many, was answered so. The entries got longer by those of a drain's takes, and have not its own yet.
+    ghost steps: { (sli : ℕ) → ℕ → Worker sli Self → List ℕ → Call → List (Option Name) → List Entry → Worker sli Self → List ℕ → List Entry → Reply → Type 0 };
+
+    // The calls of a script may take so many posts of each source, where so many releases stand in each script.
+    ghost limited: { Self → List ℕ → List ℕ → Type 0 };
+
+    /// How many posts of each source the calls of a script may take: all that may wait at its start, and one for each release
+    /// of a script that may post one.
+    fn limits(&self, releases: &[u32; 8]) -> [u64; 8]
+        ensures limited { limited self.now releases.now result }
+        ensures few { (i : ℕ) → i < 8 → slice_index result i ≤ 2 ^ 36 };
+
+    /// Moves join.
+    fn moves_join()
+        ensures { (sli : ℕ) → AreMoves (knows sli) (moves sli) };
+
+    /// A step tells its call and is a move.
+    fn steps_tell()
+        ensures { (sli n : ℕ) (a v : Worker sli Self) (limits left : List ℕ) (call : Call) (made : List (Option Name)) (entries longer : List Entry) (reply : Reply)
+            → steps sli n a limits call made entries v left longer reply → Step (tells sli n) (moves sli) a limits call made entries v left longer reply };
+
+    /// What the own heap replies is a step.
+    fn own_replies_step()
+        ensures allocated { (sli n : ℕ) (a v : Worker sli Self) (limits : List ℕ) (len : ℕ) (made : List (Option Name)) (entries : List Entry) (reply : Reply) → knows sli n a → SameButHeap a v → Self.keeps_yards sli a v
+            → reply ≡ (own_allocating sli (heap_of a) len).reply → heap_of v ≡ (own_allocating sli (heap_of a) len).heap → steps sli n a limits (Allocate len) made entries v limits entries reply }
+        ensures written { (sli n : ℕ) (a v : Worker sli Self) (limits : List ℕ) (target : Target) (from : ℕ) (bytes : Chunk) (made : List (Option Name)) (entries : List Entry) (reply : Reply) → knows sli n a → SameButHeap a v
+            → reply ≡ (own_writing (heap_of a) (name_of made target) from (bytes_of bytes)).reply → heap_of v ≡ (own_writing (heap_of a) (name_of made target) from (bytes_of bytes)).heap
+            → steps sli n a limits (Write target from bytes) made entries v limits entries reply }
+        ensures read { (sli n : ℕ) (a v : Worker sli Self) (limits : List ℕ) (target : Target) (from k : ℕ) (made : List (Option Name)) (entries : List Entry) (reply : Reply) → knows sli n a → SameButHeap a v
+            → reply ≡ (own_reading (heap_of a) (name_of made target) from k).reply → heap_of v ≡ (own_reading (heap_of a) (name_of made target) from k).heap
+            → steps sli n a limits (Read target from k) made entries v limits entries reply }
+        ensures resized { (sli n : ℕ) (a v : Worker sli Self) (limits : List ℕ) (target : Target) (len : ℕ) (made : List (Option Name)) (entries : List Entry) (reply : Reply) → knows sli n a → SameButHeap a v
+            → reply ≡ (own_resizing (heap_of a) (name_of made target) len).reply → heap_of v ≡ (own_resizing (heap_of a) (name_of made target) len).heap
+            → steps sli n a limits (Resize target len) made entries v limits entries reply };
+
+    /// What a release answers is a step.
+    fn releases_step()
+        ensures unmade { (sli n : ℕ) (a : Worker sli Self) (limits : List ℕ) (target : Target) (made : List (Option Name)) (entries : List Entry) → knows sli n a → name_of made target ≡ None
+            → steps sli n a limits (Release target) made entries a limits entries (Refused Unmade) }
+        ensures named { (sli n : ℕ) (a v : Worker sli Self) (limits : List ℕ) (target : Target) (name : Name) (made : List (Option Name)) (entries : List Entry) (answer : Result Released CrewRefusal) → knows sli n a
+            → name_of made target ≡ Some name → IsRelease Self.reaches Self.puts a v name answer → steps sli n a limits (Release target) made entries v limits entries (reply_released answer) };
+
+    /// What a take answers is a step: it is refused where no source is that worker's.
+    fn takes_step()
+        ensures stranger { (sli n : ℕ) (a : Worker sli Self) (limits : List ℕ) (from : ℕ) (made : List (Option Name)) (entries : List Entry) → knows sli n a → ((Self.sent_by from ≡ None) → ¬ (Self.hears a.ports from))
+            → steps sli n a limits (Take from) made entries a limits entries (Refused Stranger) }
+        ensures taken { (sli n : ℕ) (a v : Worker sli Self) (limits left : List ℕ) (from : ℕ) (made : List (Option Name)) (entries : List Entry) (answer : Option Took) → knows sli n a → Self.sent_by from ≡ None → Self.hears a.ports from
+            → TakenWithin Self.takes a limits from v left answer → steps sli n a limits (Take from) made entries v left entries (reply_took answer) };
+
+    /// What a drain answers is a step.
+    fn drains_step()
+        ensures { (sli n : ℕ) (a v : Worker sli Self) (x y : Journal) (most : ℕ) (made : List (Option Name)) (answer : WasDrained) → knows sli n a
+            → AllNoted Self.hears Self.takes Self.stops (λ old at source took new. IsEntered old at source (named_by (Self.sent_by took.from) source) took new) IsAdmitted a v x y (Self.sources a.ports) most answer
+            → steps sli n a x.limits (Drain most) made x.entries.items v y.limits y.entries.items (Drained answer.taken) };
+}

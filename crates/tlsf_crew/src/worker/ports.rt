@@ -1,0 +1,91 @@
+//! What a worker asks of its ports, of whatever kind.
+ghost use Rattle.std.specs.Prelude.{Some, slice_get, ◌≡◌, ℕ, Option, Result, true, false};
+ghost use Rattle.tlsf_heap.specs.declared.name.Name.{Name};
+ghost use Rattle.tlsf_post.specs.declared.post.Post.{Post};
+ghost use Rattle.tlsf_crew.specs.declared.worker.worker.Worker.{Worker};
+ghost use Rattle.tlsf_crew.specs.worker.Workers.{slot_of, heap_of, SameButHeap, KeepsHeap};
+
+use tlsf_heap::Name;
+use tlsf_post::Post;
+
+/// The ports of a worker: its ways to the other workers of its yard, and theirs to it. They are [`crate::Lanes`] or
+/// [`crate::Queues`].
+pub trait Ports: Sized {
+    // There is a port to that worker.
+    ghost reaches: { Self → ℕ → Type 0 };
+
+    // There is a source of posts of that number.
+    ghost hears: { Self → ℕ → Type 0 };
+
+    // No source has this number or a higher one.
+    ghost sources: { Self → ℕ };
+
+    // The worker that the entry of a take names, by the number that its post has: none where it is that of the source.
+    ghost sent_by: { ℕ → Option ℕ };
+
+    // The second worker fits each yard in which the first was, in its place.
+    ghost keeps_yards: { (sli : ℕ) → Worker sli Self → Worker sli Self → Type 0 };
+
+    /// Whether there is a port to worker `j`.
+    fn has_port(&self, j: usize) -> bool
+        ensures yes { result ≡ true → reaches self.now j }
+        ensures no { result ≡ false → ¬ (reaches self.now j) };
+
+    /// The number above those of all sources.
+    fn source_count(&self) -> usize
+        ensures { result ≡ sources self.now };
+
+    /// Whether there is a source of posts of that number.
+    fn has_source(&self, source: usize) -> bool
+        ensures yes { result ≡ true → hears self.now source }
+        ensures no { result ≡ false → ¬ (hears self.now source) };
+
+    /// The worker that the entry of a take names, by the number that its post has: none where each source is one worker's, by
+    /// whose number it goes.
+    fn sender(from: u32) -> Option<u32>
+        ensures { result ≡ Self.sent_by from };
+
+    /// Says that a worker with another heap of the same number, lawful where the first was, fits its yard. It does nothing.
+    fn heap_keeps()
+        ensures { (sli : ℕ) (a v : Worker sli Self) → SameButHeap a v → KeepsHeap (heap_of a) (heap_of v) → keeps_yards sli a v };
+}
+
+/// Ports whose calls are passed a context: nothing over lanes, over queues a runtime, since they may wait there.
+pub(crate) trait Exchange<C>: Ports {
+    // What a put of a name, by the worker of a number, may leave and answer.
+    ghost puts: { ℕ → Self → Self → Name → Result (Unit {0}) Name → Type 0 };
+
+    // What a take from the source of a number may leave and answer.
+    ghost takes: { Self → Self → ℕ → Option Post → Type 0 };
+
+    // What it may leave where a drain is to take no more posts of a source, though fewer were taken than were asked for.
+    ghost stops: { Self → Self → ℕ → Type 0 };
+
+    /// Puts a name through the port to the worker of its heap, or gives it back where that is full.
+    fn put(&mut self, context: &C, from: u32, name: Name) -> Result<(), Name>
+        requires { Self.reaches self.old name.heap }
+        ensures { puts from self.old self.new name result };
+
+    /// Takes the next post of a source.
+    fn take(&mut self, context: &C, source: usize) -> Option<Post>
+        requires { Self.hears self.old source }
+        ensures took { takes self.old self.new source result }
+        ensures still { Self.hears self.new source };
+
+    /// Ends a drain of a source that is to take no more posts.
+    fn stop(&mut self, context: &C, source: usize)
+        requires { Self.hears self.old source }
+        ensures { stops self.old self.new source };
+}
+
+/// Whether one of these ends is there, at that number.
+pub(crate) fn has_end<E>(ends: &[Option<E>], at: usize) -> bool
+    ensures yes { result ≡ true → (e : E) × (slot_of (slice_get ends.now at) ≡ Some e) }
+    ensures no { result ≡ false → ¬ ((e : E) × (slot_of (slice_get ends.now at) ≡ Some e)) }
+{
+    match ends.get(at) {
+        Some(Some(_)) => true,
+        Some(None) => false,
+        None => false,
+    }
+}

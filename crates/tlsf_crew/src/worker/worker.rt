@@ -1,0 +1,370 @@
+ghost use Rattle.std.specs.Fn.{FnOnceTakesAt, FnOnceTakesAtMut};
+ghost use Rattle.std.specs.Prelude.{◌≡◌, ◌≢◌, ℕ, ◌+◌, ◌*◌, ◌/◌, ◌≤◌, List, length, Err, OnSome, IfNone, IfOk, OnErr};
+ghost use Rattle.std.specs.Result.{result_unwrap_or};
+ghost use Rattle.tlsf_class.specs.Classes.{most_words};
+ghost use Rattle.tlsf_heap.specs.Calls.{allocated, released, written, read_of, read_answer, resized};
+ghost use Rattle.tlsf_heap.specs.Given.{payload_words_given, payload_words_left};
+ghost use Rattle.tlsf_heap.specs.InPlace.{ArePayload, Alters, Inspects};
+ghost use Rattle.tlsf_heap.specs.Lawful.{IsLawful};
+ghost use Rattle.tlsf_heap.specs.Laws.{IsLive};
+ghost use Rattle.tlsf_heap.specs.Placed.{placed_at};
+ghost use Rattle.tlsf_heap.specs.Reports.{report_of};
+ghost use Rattle.tlsf_calls.specs.declared.took.Took.{Took};
+ghost use Rattle.tlsf_crew.specs.declared.worker.worker.Worker.{Worker};
+ghost use Rattle.tlsf_crew.specs.worker.Workers.{heap_of, touches_of, id_of, SameButHeap, KeepsHeap};
+ghost use Rattle.tlsf_crew.specs.worker.Calls.{by_heap, IsRefusedByHeap, PostedThere, ReleasedHere, ReleasedThere, TakenFrom};
+ghost use Rattle.tlsf_crew.specs.worker.Drains.{IsCountOf};
+ghost use Rattle.tlsf_crew.specs.worker.Notes.{AllNoted, SourceNoted};
+
+use crate::worker::lanes::Lanes;
+use crate::worker::notes::Notes;
+use crate::worker::ports::{Exchange, Ports};
+use tlsf_calls::{CrewRefusal, Drained, Released, Took};
+use tlsf_heap::{Heap, Name, PlacedBlock, Refusal, Report};
+
+/// A worker: the owner of one heap, with ports to the other workers of its yard, which are [`Lanes`] where nothing else is said.
+/// `SLI` is the level of the yard's heaps, 4 or 5.
+#[derive(Drop)]
+pub struct Worker<const SLI: u32, P = Lanes> {
+    pub(crate) heap: Heap<SLI>,
+    pub(crate) id: u32,
+    pub(crate) ports: P,
+}
+
+/// The heap's answer as the worker's, of these ports.
+fn as_crew<P: Ports, T>(answer: Result<T, Refusal>) -> Result<T, CrewRefusal>
+    ensures answer { result ≡ by_heap answer }
+    ensures yard { (sli : ℕ) (a v : Worker sli P) → SameButHeap a v → KeepsHeap (heap_of a) (heap_of v) → P.keeps_yards sli a v }
+{
+    P::heap_keeps();
+    match answer {
+        Ok(done) => Ok(done),
+        Err(why) => Err(CrewRefusal::Heap(why)),
+    }
+}
+
+/// Posts the name of another worker's block, unread. A name of the own heap is refused as `Foreign`.
+pub(crate) fn post<const SLI: u32, C, P: Exchange<C>>(
+    worker: &mut Worker<SLI, P>,
+    context: &C,
+    name: Name,
+) -> Result<(), CrewRefusal>
+    ensures own { name.heap ≡ id_of worker.old → (result ≡ Err (CrewRefusal.Heap Refusal.Foreign)) × (worker.new ≡ worker.old) }
+    ensures there { name.heap ≢ id_of worker.old → P.reaches worker.old.ports name.heap → PostedThere P.puts worker.old worker.new name result }
+    ensures nowhere { name.heap ≢ id_of worker.old → ¬ (P.reaches worker.old.ports name.heap) → (result ≡ Err CrewRefusal.Stranger) × (worker.new ≡ worker.old) }
+    ensures heap { worker.new.heap ≡ worker.old.heap }
+{
+    if name.heap == worker.id {
+        return Err(CrewRefusal::Heap(Refusal::Foreign));
+    }
+    if !worker.ports.has_port(name.heap as usize) {
+        return Err(CrewRefusal::Stranger);
+    }
+    match worker.ports.put(context, worker.id, name) {
+        Ok(()) => Ok(()),
+        Err(_) => Err(CrewRefusal::Full(name)),
+    }
+}
+
+/// Releases a block of the own heap, or posts the name of another worker's block, unread.
+pub(crate) fn release<const SLI: u32, C, P: Exchange<C>>(
+    worker: &mut Worker<SLI, P>,
+    context: &C,
+    name: Name,
+) -> Result<Released, CrewRefusal>
+    ensures here { name.heap ≡ id_of worker.old → ReleasedHere worker.old worker.new name result }
+    ensures there { name.heap ≢ id_of worker.old → P.reaches worker.old.ports name.heap → ReleasedThere P.puts worker.old worker.new name result }
+    ensures nowhere { name.heap ≢ id_of worker.old → ¬ (P.reaches worker.old.ports name.heap) → (result ≡ Err CrewRefusal.Stranger) × (worker.new ≡ worker.old) }
+    ensures touches { touches_of worker.new ≤ touches_of worker.old + 64 }
+    ensures touches_rise { touches_of worker.old ≤ touches_of worker.new }
+{
+    if name.heap == worker.id {
+        return match worker.heap.release(name) {
+            Ok(()) => Ok(Released::Freed),
+            Err(why) => Err(CrewRefusal::Heap(why)),
+        };
+    }
+    match post(worker, context, name) {
+        Ok(()) => Ok(Released::Posted),
+        Err(why) => Err(why),
+    }
+}
+
+/// Takes the next post of a source that is there, and releases the block that it names.
+pub(crate) fn take_next<const SLI: u32, C, P: Exchange<C>>(
+    worker: &mut Worker<SLI, P>,
+    context: &C,
+    source: usize,
+) -> Option<Took>
+    requires { P.hears worker.old.ports source }
+    ensures taken { TakenFrom P.takes worker.old worker.new source result }
+    ensures still { P.hears worker.new.ports source }
+    ensures touches { OnSome result (touches_of worker.new ≤ touches_of worker.old + 64) }
+    ensures untouched { IfNone result (touches_of worker.new ≡ touches_of worker.old) }
+    ensures touches_rise { touches_of worker.old ≤ touches_of worker.new }
+{
+    let post = worker.ports.take(context, source)?;
+    let answer = worker.heap.release(post.name);
+    Some(Took {
+        from: post.from,
+        name: post.name,
+        answer,
+    })
+}
+
+/// Takes from one source, and releases, until `most` posts were taken, the notes admit no more, or it shows no post.
+pub(crate) fn drain_source<const SLI: u32, C, P: Exchange<C>, N: Notes>(
+    worker: &mut Worker<SLI, P>,
+    context: &C,
+    source: usize,
+    most: u32,
+    notes: &mut N,
+) -> Drained
+    requires source { P.hears worker.old.ports source }
+    requires room { N.has_room notes.old }
+    ensures drained { (tooks : List Took) × SourceNoted P.takes P.stops (λ old at source took new. N.noted old at source (P.sent_by took.from) took new) N.admitted worker.old worker.new notes.old notes.new source most tooks × IsCountOf result tooks }
+    ensures most { result.taken ≤ most }
+    ensures freed { result.freed ≤ result.taken }
+    ensures room { N.has_room notes.new }
+    ensures kept { N.most notes.new ≡ N.most notes.old }
+    ensures touches { touches_of worker.new ≤ touches_of worker.old + 64 * result.taken }
+    ensures touches_rise { touches_of worker.old ≤ touches_of worker.new }
+{
+    let mut drained = Drained { taken: 0, freed: 0 };
+    while drained.taken < most {
+        if !notes.admits(source) {
+            worker.ports.stop(context, source);
+            break;
+        }
+        let Some(took) = take_next(worker, context, source) else {
+            break;
+        };
+        notes.note(worker.id, source, P::sender(took.from), took);
+        drained.taken += 1;
+        if took.answer.is_ok() {
+            drained.freed += 1;
+        }
+    }
+    drained
+}
+
+/// Takes from all sources, in the rising order of their numbers, and notes each take.
+pub(crate) fn drain_each<const SLI: u32, C, P: Exchange<C>, N: Notes>(
+    worker: &mut Worker<SLI, P>,
+    context: &C,
+    most: u32,
+    notes: &mut N,
+) -> Drained
+    requires room { N.has_room notes.old }
+    ensures drained { AllNoted P.hears P.takes P.stops (λ old at source took new. N.noted old at source (P.sent_by took.from) took new) N.admitted worker.old worker.new notes.old notes.new (P.sources worker.old.ports) most result }
+    ensures most { result.taken ≤ most }
+    ensures freed { result.freed ≤ result.taken }
+    ensures kept { N.most notes.new ≡ N.most notes.old }
+    ensures touches { touches_of worker.new ≤ touches_of worker.old + 64 * result.taken }
+    ensures touches_rise { touches_of worker.old ≤ touches_of worker.new }
+{
+    let mut drained = Drained { taken: 0, freed: 0 };
+    for source in 0..worker.ports.source_count() {
+        if worker.ports.has_source(source) {
+            let here = drain_source(worker, context, source, most - drained.taken, notes);
+            drained.taken += here.taken;
+            drained.freed += here.freed;
+        }
+    }
+    drained
+}
+
+impl<const SLI: u32, P: Ports> Worker<SLI, P> {
+    /// Gives a block of the own heap that holds `len` bytes of payload, all zero.
+    ///
+    /// - `touches`: at most 64 touches of the heap's memory, and one more for each payload word of the block given.
+    ///
+    /// ```
+    /// let name = worker.allocate(100)?; // a block of at least 100 bytes, all zero
+    /// worker.write(name, 0, b"abc")?;
+    /// ```
+    pub fn allocate(&mut self, len: u32) -> Result<Name, CrewRefusal>
+        ensures answer { result ≡ by_heap (allocated SLI (heap_of self.old) len).answer }
+        ensures heap { heap_of self.new ≡ (allocated SLI (heap_of self.old) len).heap }
+        ensures same { SameButHeap self.old self.new }
+        ensures yard { P.keeps_yards SLI self.old self.new }
+        ensures touches { touches_of self.new ≤ touches_of self.old + 64 + payload_words_given (allocated SLI (heap_of self.old) len).answer (heap_of self.new) }
+        ensures touches_rise { touches_of self.old ≤ touches_of self.new }
+    {
+        as_crew::<P, _>(self.heap.allocate(len))
+    }
+
+    /// Releases a block of the own heap. A name of another worker's heap is refused as `Foreign`: `release` posts that.
+    ///
+    /// - `touches`: at most 64 touches of the own heap's memory.
+    ///
+    /// ```
+    /// worker.free(name)?; // a block that this worker allocated
+    /// ```
+    pub fn free(&mut self, name: Name) -> Result<(), CrewRefusal>
+        ensures answer { result ≡ by_heap (released (heap_of self.old) name).answer }
+        ensures heap { heap_of self.new ≡ (released (heap_of self.old) name).heap }
+        ensures same { SameButHeap self.old self.new }
+        ensures yard { P.keeps_yards SLI self.old self.new }
+        ensures touches { touches_of self.new ≤ touches_of self.old + 64 }
+        ensures touches_rise { touches_of self.old ≤ touches_of self.new }
+    {
+        as_crew::<P, _>(self.heap.release(name))
+    }
+
+    /// Writes bytes into a block of the own heap, from byte `at` of it on.
+    ///
+    /// ```
+    /// worker.write(name, 96, b"abcd")?; // the bytes 96 to 99 of the block
+    /// ```
+    pub fn write(&mut self, name: Name, at: u32, bytes: &[u8]) -> Result<(), CrewRefusal>
+        ensures answer { result ≡ by_heap (written (heap_of self.old) name at bytes.now).answer }
+        ensures heap { heap_of self.new ≡ (written (heap_of self.old) name at bytes.now).heap }
+        ensures same { SameButHeap self.old self.new }
+        ensures yard { P.keeps_yards SLI self.old self.new }
+        ensures touches { touches_of self.new ≤ touches_of self.old + 4 + 2 * (length bytes.now / 8 + 2) }
+        ensures touches_rise { touches_of self.old ≤ touches_of self.new }
+    {
+        as_crew::<P, _>(self.heap.write(name, at, bytes))
+    }
+
+    /// Reads bytes of a block of the own heap, from byte `at` of it on, and fills `out` with them.
+    ///
+    /// ```
+    /// let mut out = [0; 4];
+    /// worker.read(name, 96, &mut out)?; // the bytes 96 to 99 of the block
+    /// ```
+    pub fn read(&mut self, name: Name, at: u32, out: &mut [u8]) -> Result<(), CrewRefusal>
+        ensures answer { result ≡ by_heap (read_answer (read_of (heap_of self.old) name at (length out.old))) }
+        ensures bytes { out.new ≡ result_unwrap_or (read_of (heap_of self.old) name at (length out.old)) out.old }
+        ensures heap { heap_of self.new ≡ heap_of self.old }
+        ensures same { SameButHeap self.old self.new }
+        ensures yard { P.keeps_yards SLI self.old self.new }
+        ensures touches { touches_of self.new ≤ touches_of self.old + 4 + (length out.old / 8 + 2) }
+        ensures touches_rise { touches_of self.old ≤ touches_of self.new }
+    {
+        as_crew::<P, _>(self.heap.read(name, at, out))
+    }
+
+    /// Hands the payload of a block of the own heap to `f`, which reads and writes it where it stands, and gives back what `f` answers.
+    /// `f` gets the words that hold it, as `Heap::alter` hands them out. No call of a list of events and no line of a trace says it.
+    ///
+    /// Refused as the own heap refuses it: `Foreign` where the name is of another worker's heap, else `Stale`; `f` is then not called.
+    ///
+    /// - `touches`: at most four touches of the heap's memory; what `f` does there is not counted.
+    ///
+    /// ```
+    /// worker.alter(name, |words| words[0] = 7)?; // the first eight bytes of the block
+    /// ```
+    pub fn alter<R, F: FnOnce(&mut [u64]) -> R>(
+        &mut self,
+        name: Name,
+        f: F,
+    ) -> Result<R, CrewRefusal>
+        requires { IsLive (heap_of self.old) name → (words : List ℕ) → ArePayload (heap_of self.old) name words → FnOnceTakesAtMut F.FnOnce f words }
+        ensures answer { IsRefusedByHeap (heap_of self.old) name result }
+        ensures altered { IfOk result (λ r. Alters F.FnOnce f (heap_of self.old) name r (heap_of self.new)) }
+        ensures err { OnErr result (heap_of self.new ≡ heap_of self.old) }
+        ensures same { SameButHeap self.old self.new }
+        ensures yard { P.keeps_yards SLI self.old self.new }
+        ensures touches { touches_of self.new ≤ touches_of self.old + 4 }
+        ensures touches_rise { touches_of self.old ≤ touches_of self.new }
+    {
+        as_crew::<P, _>(self.heap.alter(name, f))
+    }
+
+    /// Shows the payload of a block of the own heap to `f`, where it stands, and gives back what `f` answers. `f` gets the words that hold
+    /// it, as `Heap::inspect` shows them. No call of a list of events and no line of a trace says it.
+    ///
+    /// Refused as the own heap refuses it: `Foreign` where the name is of another worker's heap, else `Stale`; `f` is then not called.
+    ///
+    /// - `touches`: at most four touches of the heap's memory; what `f` reads there is not counted.
+    ///
+    /// ```
+    /// let first = worker.inspect(name, |words| words[0])?; // the first eight bytes of the block
+    /// ```
+    pub fn inspect<R, F: FnOnce(&[u64]) -> R>(&mut self, name: Name, f: F) -> Result<R, CrewRefusal>
+        requires { IsLive (heap_of self.old) name → (words : List ℕ) → ArePayload (heap_of self.old) name words → FnOnceTakesAt F.FnOnce f words }
+        ensures answer { IsRefusedByHeap (heap_of self.old) name result }
+        ensures inspected { IfOk result (λ r. Inspects F.FnOnce f (heap_of self.old) name r) }
+        ensures heap { heap_of self.new ≡ heap_of self.old }
+        ensures same { SameButHeap self.old self.new }
+        ensures yard { P.keeps_yards SLI self.old self.new }
+        ensures touches { touches_of self.new ≤ touches_of self.old + 4 }
+        ensures touches_rise { touches_of self.old ≤ touches_of self.new }
+    {
+        as_crew::<P, _>(self.heap.inspect(name, f))
+    }
+
+    /// Resizes a block of the own heap where it stands, so that it holds `len` bytes. Its name stays, and so do its bytes up to the
+    /// smaller of both lengths; new bytes are zero.
+    ///
+    /// Refused as the own heap refuses it: `Foreign` where the name is of another worker's heap, else `Stale`, `NoRoom` or `Worn`. All
+    /// is then as before.
+    ///
+    /// - `touches`: at most 64 touches of the heap's memory, and one more for each payload word of the block.
+    ///
+    /// ```
+    /// let name = worker.allocate(8)?;
+    /// worker.resize(name, 100)?; // the same block, with 100 bytes: its first 8, and 92 zeros
+    /// ```
+    pub fn resize(&mut self, name: Name, len: u32) -> Result<(), CrewRefusal>
+        ensures answer { result ≡ by_heap (resized (heap_of self.old) name len).answer }
+        ensures heap { heap_of self.new ≡ (resized (heap_of self.old) name len).heap }
+        ensures same { SameButHeap self.old self.new }
+        ensures yard { P.keeps_yards SLI self.old self.new }
+        ensures touches { touches_of self.new ≤ touches_of self.old + 64 + payload_words_left (resized (heap_of self.old) name len).answer (heap_of self.new) name }
+        ensures touches_rise { touches_of self.old ≤ touches_of self.new }
+    {
+        as_crew::<P, _>(self.heap.resize(name, len))
+    }
+
+    /// What the own heap holds, and how well it serves.
+    ///
+    /// - `touches`: at most two touches of the heap's memory for each of its blocks.
+    ///
+    /// ```
+    /// let live = worker.report().live_bytes;
+    /// ```
+    pub fn report(&mut self) -> Report
+        ensures report { result ≡ report_of SLI (heap_of self.old) }
+        ensures heap { heap_of self.new ≡ heap_of self.old }
+        ensures same { SameButHeap self.old self.new }
+        ensures yard { P.keeps_yards SLI self.old self.new }
+        ensures touches { touches_of self.new ≤ touches_of self.old + 2 * length (heap_of self.old).blocks }
+        ensures touches_rise { touches_of self.old ≤ touches_of self.new }
+    {
+        P::heap_keeps();
+        self.heap.report()
+    }
+
+    /// The tick of the own heap: that which the next accepted allocate or release stamps.
+    ///
+    /// ```
+    /// let tick = worker.tick();               // 1 where nothing was allocated yet
+    /// ```
+    pub fn tick(&self) -> u64
+        ensures { result ≡ (heap_of self.now).tick }
+    {
+        self.heap.tick()
+    }
+
+    /// The block of the own heap that begins at a place, None where none does. The next begins at its end, `at + size`.
+    ///
+    /// ```
+    /// let first = worker.block_at(0);         // each heap has a block at place 0
+    /// ```
+    pub fn block_at(&mut self, at: u32) -> Option<PlacedBlock>
+        ensures block { result ≡ placed_at (heap_of self.old).blocks at }
+        ensures heap { heap_of self.new ≡ heap_of self.old }
+        ensures was_lawful { IsLawful (heap_of self.old) }
+        ensures most { (heap_of self.old).words ≤ most_words SLI }
+        ensures same { SameButHeap self.old self.new }
+        ensures yard { P.keeps_yards SLI self.old self.new }
+        ensures touches { touches_of self.new ≤ touches_of self.old + 4 }
+        ensures touches_rise { touches_of self.old ≤ touches_of self.new }
+    {
+        P::heap_keeps();
+        self.heap.block_at(at)
+    }
+}
