@@ -8,7 +8,7 @@ pub mod LaneNotes
 pub mod LaneOpening
 -- What settling a lane, or a step on one end of it, changes in a yard. For private functions alone.
 pub mod LaneSteps
--- What a worker's drain takes and leaves.
+-- What a drain of lanes takes and leaves.
 pub mod LaneTurns
 -- What a worker over lanes shows: its capacity, and its end of each lane.
 pub mod LaneWorkers

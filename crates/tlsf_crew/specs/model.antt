@@ -2,7 +2,7 @@
 
 -- The calls of one heap: the heap's own definitions, behind names that don't unfold by themselves.
 pub mod Heaps
--- How a yard is opened.
+-- The world of a new yard.
 pub mod Opening
 -- What a worker's own heap replies to a call of a script, and what it leaves.
 pub mod OwnReplies

@@ -4,7 +4,7 @@ use Rattle.std.proofs.lemmas.List.Elements.{All-push}
 use Rattle.std.proofs.lemmas.Bool.{cases_eq, cond-true, cond-false}
 use Rattle.std.proofs.lemmas.List.{same_from_push, append-nil}
 use Rattle.tlsf_post.specs.Mailboxes.{below_but}
-use Rattle.tlsf_post.specs.Meetings.{run, next_but}
+use Rattle.tlsf_post.specs.Rounds.{run, next_but}
 
 run_more : (from k : ℕ) → run from (suc k) ≡ run from k ++ (from + k) ∷ []
 run_more from zero = let e : from ≡ from + 0 = omega arith in ap (λ (n : ℕ). n ∷ []) e

@@ -19,7 +19,7 @@ number_of p = p.from
 abbrev pub put_by : PosterEnd → List Post
 put_by p = (view p.pass).put
 
--- what it knows to have been taken of that: all that was taken up to the last `meet`
+-- what it knows to have been taken of that: all that was taken up to the last `beside`
 abbrev pub gone_from : PosterEnd → List Post
 gone_from p = (view p.pass).got
 
@@ -39,7 +39,7 @@ out_of o = (view o.pass).number
 abbrev pub got_by : OwnerEnd → List Post
 got_by o = (view o.pass).got
 
--- what the owner knows to have been put: all that was put up to the last `meet`
+-- what the owner knows to have been put: all that was put up to the last `beside`
 abbrev pub known_to : OwnerEnd → List Post
 known_to o = (view o.pass).put
 
@@ -110,7 +110,7 @@ KeepsOwner old new =
     × (known_to new ≡ known_to old)
 
 -- all ends of a mailbox once they were side by side
-pub record HaveMet (o : OwnerEnd) (ps : List PosterEnd) (n : OwnerEnd) (qs : List PosterEnd) : Type 0 where
+pub record AllBeside (o : OwnerEnd) (ps : List PosterEnd) (n : OwnerEnd) (qs : List PosterEnd) : Type 0 where
   pub whole : IsWhole n qs
   pub owner : (owner_of n ≡ owner_of o) × (out_of n ≡ out_of o) × (most_of n ≡ most_of o)
   -- nothing was put, and nothing taken

@@ -11,7 +11,8 @@
 //! ends fit each other as those of one lane do, so that `beside` may join them, is `IsLane`.
 //!
 //! A mailbox is one queue for each owner, into which all others post. [`mailbox`] answers the [`OwnerEnd`] that takes, and
-//! a [`PosterEnd`] for each other worker. Where all ends are at hand, [`meet`] tells the owner what was put.
+//! a [`PosterEnd`] for each other worker. Where all ends are at hand, [`OwnerEnd::beside`] tells
+//! the owner what was put.
 //!
 //! Contracts see a `PosterEnd` as its number (`number_of`), all that was put through it (`put_by`), what it knows to have
 //! been taken of that (`gone_from`), and the mailbox's owner, workers and capacity (`plan_of`). They see an `OwnerEnd` as its
@@ -32,11 +33,12 @@ mod plan;
 mod post;
 mod post_end;
 mod poster_end;
+mod rounds;
 mod rule;
 mod take_end;
 
 pub use lanes::{beside, lane};
-pub use mailboxes::{mailbox, meet};
+pub use mailboxes::mailbox;
 pub use owner_end::OwnerEnd;
 pub use post::Post;
 pub use post_end::PostEnd;

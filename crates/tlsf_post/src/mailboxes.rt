@@ -1,15 +1,15 @@
-ghost use Rattle.std.specs.Prelude.{◌≡◌, ◌≢◌, ◌⊎◌, ◌+◌, ◌-◌, ◌<◌, ◌≤◌, true, false, [], ◌++◌, map, IfOk, OnOk, All, vec_len, vec_capacity};
+ghost use Rattle.std.specs.Prelude.{◌≡◌, ◌⊎◌, ◌+◌, ◌-◌, ◌<◌, ◌≤◌, [], ◌++◌, map, IfOk, OnOk, All, vec_len, vec_capacity};
 ghost use Rattle.std.specs.Arc.{arc_value};
 ghost use Rattle.crossbeam_queue.specs.Passes.{view, ruled_capacity, IsPassOf};
-ghost use Rattle.tlsf_post.specs.Rule.{keeper, poster, posts_of, plan_for, no_plan};
-ghost use Rattle.tlsf_post.specs.Mailboxes.{number_of, put_by, owner_of, out_of, most_of, got_by, known_to, below_but, IsWhole, HaveMet};
-ghost use Rattle.tlsf_post.specs.Meetings.{run, next_but, IsFreshAt, IsOfPass, Meeting};
+ghost use Rattle.tlsf_post.specs.Rule.{keeper, plan_for, no_plan};
+ghost use Rattle.tlsf_post.specs.Mailboxes.{number_of, put_by, owner_of, out_of, most_of, got_by, known_to, IsWhole};
+ghost use Rattle.tlsf_post.specs.Rounds.{run, IsFreshAt};
 
 use crate::hand::Hand;
 use crate::owner_end::OwnerEnd;
 use crate::post::Post;
 use crate::poster_end::PosterEnd;
-use crate::rule::{OneSlot, OneTake, OneWorker, OwnNumber, OwnerOn, PosterBack, PosterOut, Queue};
+use crate::rule::{OneSlot, OneWorker, OwnNumber, OwnerOn, PosterOut, Queue};
 use crossbeam_queue::Pass;
 use std::alloc::Global;
 use std::sync::Arc;
@@ -105,74 +105,4 @@ fn send_out(
         });
     }
     Ok(())
-}
-
-/// Tells the owner's end all that was put, with every end of its mailbox at hand. It takes no memory and doesn't wait.
-///
-/// - It requires that the ends are all those of one mailbox, in the order in which [`mailbox`] answered them. `put`,
-///   `take` and `meet` keep it.
-/// - `met`: nothing is put or taken. Of each poster, what was taken and then what waits is what it has put, and from now
-///   on the owner's end knows that, and the poster's what was taken. So no post is lost, doubled, or overtaken by another of
-///   its poster. No more posts wait in all than the mailbox holds.
-/// - `capacity`: the list of the ends keeps its room.
-///
-/// ```
-/// meet(&mut owner_end, &mut posters);
-/// while let Some(post) = owner_end.take(rt) {}       // all that was put before `meet`
-/// ```
-pub fn meet(owner: &mut OwnerEnd, posters: &mut Vec<PosterEnd>)
-    requires { IsWhole owner.old posters.old.items }
-    ensures met { HaveMet owner.old posters.old.items owner.new posters.new.items }
-    ensures capacity { vec_capacity posters.new ≡ vec_capacity posters.old }
-{
-    let own = owner.number;
-    meet_from(&owner.queue, &mut owner.pass, own, posters);
-}
-
-/// The posters come back, the last one first, and go out again with all that they have put.
-fn meet_from(queue: &Queue, pass: &mut Pass<Post, Hand>, own: u32, posters: &mut Vec<PosterEnd>)
-    requires pass { IsPassOf queue.now pass.old × ((view pass.old).takes ≡ true) × ((view pass.old).posts ≡ false) }
-    requires own { ((view pass.old).plan.owner ≡ own) × ((view pass.old).number ≢ own) }
-    requires posters { All (IsOfPass pass.old) posters.old.items }
-    requires numbers { map number_of posters.old.items ≡ below_but own (view pass.old).number }
-    ensures pass { IsPassOf queue.now pass.new × (pass.new.table_id ≡ pass.old.table_id) }
-    ensures met { Meeting (view pass.old) posters.old.items (view pass.new) posters.new.items }
-    ensures posters { All (IsOfPass pass.old) posters.new.items }
-    ensures room { (vec_capacity posters.new ≡ vec_capacity posters.old) × (vec_len posters.new ≡ vec_len posters.old) }
-{
-    let Some(
-        PosterEnd {
-            queue: handle,
-            pass: theirs,
-            from,
-        },
-    ) = posters.pop()
-    else {
-        queue.learn_as::<OneTake>(pass);
-        return;
-    };
-    queue.absorb::<PosterBack>(pass, theirs);
-    meet_from(queue, pass, own, posters);
-    let back = send_back(queue, pass, own, from);
-    posters.push_reserved(PosterEnd {
-        queue: handle,
-        pass: back,
-        from,
-    });
-}
-
-/// A poster goes out again, and the owner's own number behind it is passed over.
-fn send_back(queue: &Queue, pass: &mut Pass<Post, Hand>, own: u32, from: u32) -> Pass<Post, Hand>
-    requires pass { IsPassOf queue.now pass.old × ((view pass.old).takes ≡ true) × ((view pass.old).posts ≡ false) }
-    requires number { ((view pass.old).plan.owner ≡ own) × ((view pass.old).number ≡ from) × (from ≢ own) }
-    ensures pass { IsPassOf queue.now pass.new × (pass.new.table_id ≡ pass.old.table_id) }
-    ensures next { view pass.new ≡ keeper (view pass.old).plan (next_but own from) (view pass.old).put (view pass.old).got }
-    ensures back { IsPassOf queue.now result
-        × (view result ≡ poster (view pass.old).plan from (posts_of from (view pass.old).put) (posts_of from (view pass.old).got)) }
-{
-    let back = queue.another::<PosterOut>(pass);
-    if from < own && own - from == 1 {
-        queue.another::<OwnNumber>(pass);
-    }
-    back
 }

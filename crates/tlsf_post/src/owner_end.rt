@@ -5,6 +5,8 @@ ghost use Rattle.tlsf_post.specs.Rule.{plan_for};
 
 use crate::hand::Hand;
 use crate::post::Post;
+use crate::poster_end::PosterEnd;
+use crate::rounds::come_back;
 use crate::rule::{OneTake, Queue};
 use crossbeam_queue::Pass;
 use std::alloc::Global;
@@ -31,9 +33,9 @@ pub struct OwnerEnd {
 }
 
 impl OwnerEnd {
-    ghost use Rattle.std.specs.Prelude.{◌≡◌, ◌≢◌, ◌<◌, ◌≤◌, List, [], ◌∷◌, ◌++◌, length, IfSome, IfNone, IsTrue};
+    ghost use Rattle.std.specs.Prelude.{◌≡◌, ◌≢◌, ◌<◌, ◌≤◌, List, [], ◌∷◌, ◌++◌, length, IfSome, IfNone, IsTrue, vec_capacity};
     ghost use Rattle.tlsf_post.specs.declared.post.Post.{Post};
-    ghost use Rattle.tlsf_post.specs.Mailboxes.{owner_of, out_of, most_of, got_by, KeepsOwner, OwnerSaw, IsAllTaken};
+    ghost use Rattle.tlsf_post.specs.Mailboxes.{owner_of, out_of, most_of, got_by, KeepsOwner, OwnerSaw, IsAllTaken, IsWhole, AllBeside};
 
     /// Takes the post that has waited longest, or answers `None` where the mailbox was empty at one moment of the call.
     /// It may spin while a post is half put or taken by another thread, and so needs `Wait`.
@@ -115,5 +117,27 @@ impl OwnerEnd {
         ensures count { (waiting : List Post) × (length waiting ≡ result) × OwnerSaw self.new waiting }
     {
         self.queue.len_as::<OneTake, R>(rt, &mut self.pass)
+    }
+
+    /// Tells the owner's end all that was put, with every end of its mailbox beside it. It takes no memory and doesn't wait.
+    ///
+    /// - It requires that the ends are all those of one mailbox, in the order in which [`crate::mailbox`] answered them. `put`,
+    ///   `take` and `beside` keep it.
+    /// - `beside`: nothing is put or taken. Of each poster, what was taken and then what waits is what it has put, and from now
+    ///   on the owner's end knows that, and the poster's what was taken. So no post is lost, doubled, or overtaken by another of
+    ///   its poster. No more posts wait in all than the mailbox holds.
+    /// - `capacity`: the list of the ends keeps its room.
+    ///
+    /// ```
+    /// owner_end.beside(&mut posters);
+    /// while let Some(post) = owner_end.take(rt) {}       // all that was put before `beside`
+    /// ```
+    pub fn beside(&mut self, posters: &mut Vec<PosterEnd>)
+        requires { IsWhole self.old posters.old.items }
+        ensures beside { AllBeside self.old posters.old.items self.new posters.new.items }
+        ensures capacity { vec_capacity posters.new ≡ vec_capacity posters.old }
+    {
+        let own = self.number;
+        come_back(&self.queue, &mut self.pass, own, posters);
     }
 }

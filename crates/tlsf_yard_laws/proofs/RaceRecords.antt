@@ -13,7 +13,7 @@ use Rattle.tlsf_calls.specs.declared.crew_refusal.CrewRefusal.TheVariants.{Stran
 use Rattle.tlsf_calls.specs.declared.entry.Entry.{Entry}
 use Rattle.tlsf_calls.specs.declared.reply.Reply.{Reply}
 use Rattle.tlsf_calls.specs.declared.reply.Reply.TheVariants.{Made, Freed, Posted, Wrote, Got, Resized, Took as Taken, Empty, Drained, Refused}
-use Rattle.tlsf_crew.specs.model.QueueTold.{MayTellQueue, MayTellQueueAll, IsOfOther, told_reply, told_takes}
+use Rattle.tlsf_crew.specs.model.QueueTold.{MayTellQueue, MayTellQueueAll, IsFromOther, told_reply, told_takes}
 use Rattle.tlsf_crew.specs.race_laws.Alone.{TakesNoPost}
 use Rattle.tlsf_crew.specs.scripts.Scripts.{last_call, script_of}
 use Rattle.tlsf_crew.specs.races.Race.{record_of}
@@ -100,7 +100,7 @@ all_away sli n at k s t [] at_in far m none = ap (λ (t : Told). posts_taken k a
 all_away sli n at k s t (call ∷ calls) at_in far m none = all_away sli n at k m.0 t calls at_in far m.2 (one_away sli n at k s m.0 call at_in far m.1 none)
 
 -- so it is over queues
-queue_drain_away : (n at k most : ℕ) (s t : Told) (posts : List Post) → Away n at k → All (IsOfOther n at) posts → t ≡ told_reply at (told_takes at s posts) (Drain most) (Drained (length posts)) → posts_taken k at s.entries ≡ []
+queue_drain_away : (n at k most : ℕ) (s t : Told) (posts : List Post) → Away n at k → All (IsFromOther n at) posts → t ≡ told_reply at (told_takes at s posts) (Drain most) (Drained (length posts)) → posts_taken k at s.entries ≡ []
     → posts_taken k at t.entries ≡ []
 queue_drain_away n at k most s t posts far others is none =
     let e : Entry = record { worker = at; call = Drain most; reply = Drained (length posts) } in

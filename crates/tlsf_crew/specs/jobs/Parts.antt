@@ -28,7 +28,7 @@ AllDone P (j ∷ js) [] = ⊥
 AllDone P (j ∷ js) (d ∷ ds) = P j d × AllDone P js ds
 
 -- a worker with ports of any kind ran a script, and became v; its record has the room that was made
-pub record RanScript {sli : ℕ} {P : Type 0} (limited : P → List ℕ → List ℕ → Type 0) (knows : ℕ → Worker sli P → Type 0) (tells : ℕ → ℕ → Told → Call → Told → Type 0) (moves : ℕ → List (Option Name) → Worker sli P → List ℕ → List Call → List Entry → Worker sli P → List ℕ → Type 0) (releases : List ℕ) (a : Worker sli P) (script : List Call) (made : List (Option Name)) (r : Vec Entry Global) (v : Worker sli P) : Type 0 where
+pub record JobRan {sli : ℕ} {P : Type 0} (limited : P → List ℕ → List ℕ → Type 0) (knows : ℕ → Worker sli P → Type 0) (tells : ℕ → ℕ → Told → Call → Told → Type 0) (moves : ℕ → List (Option Name) → Worker sli P → List ℕ → List Call → List Entry → Worker sli P → List ℕ → Type 0) (releases : List ℕ) (a : Worker sli P) (script : List Call) (made : List (Option Name)) (r : Vec Entry Global) (v : Worker sli P) : Type 0 where
   pub limits : List ℕ
   pub left : List ℕ
   pub limits_are : limited a.ports releases limits
@@ -36,11 +36,11 @@ pub record RanScript {sli : ℕ} {P : Type 0} (limited : P → List ℕ → List
   pub room : vec_capacity r ≡ length script + sum_of limits + 1
 
 -- so did each of them
-pub record ScriptsRan {sli : ℕ} {P : Type 0} (limited : P → List ℕ → List ℕ → Type 0) (knows : ℕ → Worker sli P → Type 0) (tells : ℕ → ℕ → Told → Call → Told → Type 0) (moves : ℕ → List (Option Name) → Worker sli P → List ℕ → List Call → List Entry → Worker sli P → List ℕ → Type 0) (ws : List (Worker sli P)) (scripts : List (List Call)) (records : List (Vec Entry Global)) (vs : List (Worker sli P)) : Type 0 where
+pub record EachJobRan {sli : ℕ} {P : Type 0} (limited : P → List ℕ → List ℕ → Type 0) (knows : ℕ → Worker sli P → Type 0) (tells : ℕ → ℕ → Told → Call → Told → Type 0) (moves : ℕ → List (Option Name) → Worker sli P → List ℕ → List Call → List Entry → Worker sli P → List ℕ → Type 0) (ws : List (Worker sli P)) (scripts : List (List Call)) (records : List (Vec Entry Global)) (vs : List (Worker sli P)) : Type 0 where
   pub releases : List ℕ
   pub counts : (i : ℕ) → i < 8 → slice_index releases i ≡ releases_of (script_of scripts i)
   pub made : ℕ → List (Option Name)
   pub worker_count : length vs ≡ length ws
   pub record_count : length records ≡ length ws
   pub ran : (j : ℕ) (a : Worker sli P) → slice_get ws j ≡ Some a
-      → (v : Worker sli P) × (r : Vec Entry Global) × (slice_get vs j ≡ Some v) × (slice_get records j ≡ Some r) × RanScript limited knows tells moves releases a (script_of scripts j) (made j) r v
+      → (v : Worker sli P) × (r : Vec Entry Global) × (slice_get vs j ≡ Some v) × (slice_get records j ≡ Some r) × JobRan limited knows tells moves releases a (script_of scripts j) (made j) r v

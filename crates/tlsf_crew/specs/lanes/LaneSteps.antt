@@ -7,8 +7,8 @@ use Rattle.tlsf_crew.specs.declared.worker.worker.Worker.{Worker}
 use Rattle.tlsf_crew.specs.declared.worker.lanes.Lanes.{Lanes}
 use Rattle.tlsf_crew.specs.worker.Workers.{heap_of}
 use Rattle.tlsf_crew.specs.lanes.LaneWorkers.{id_and_capacity}
-use Rattle.tlsf_crew.specs.lanes.Yard.{post_at, take_at, Meets}
-use Rattle.tlsf_crew.specs.lanes.Settle.{MetIn}
+use Rattle.tlsf_crew.specs.lanes.Yard.{post_at, take_at, BothBeside}
+use Rattle.tlsf_crew.specs.lanes.Settle.{LaneSettled}
 
 -- the lane from worker i, which is a, to worker j, which is b
 abbrev pub HasLane : {sli : ℕ} → ℕ → ℕ → Worker sli Lanes → Worker sli Lanes → Type 0
@@ -17,14 +17,14 @@ HasLane i j a b =
     × (slice_get a.ports.posts.items j ≡ Some (Some p)) × (slice_get b.ports.takes.items i ≡ Some (Some t)) × IsLane p t
 
 -- worker v is a with its end to j settled, and worker w is b with its end from i settled; nothing else changes
-pub record LaneMet {sli : ℕ} (i j : ℕ) (a b v w : Worker sli Lanes) : Type 0 where
+pub record PairSettled {sli : ℕ} (i j : ℕ) (a b v w : Worker sli Lanes) : Type 0 where
   pub post : PostEnd
   pub take : TakeEnd
   pub new_post : PostEnd
   pub new_take : TakeEnd
   pub post_is : slice_get a.ports.posts.items j ≡ Some (Some post)
   pub take_is : slice_get b.ports.takes.items i ≡ Some (Some take)
-  pub meets : Meets post take new_post new_take
+  pub beside : BothBeside post take new_post new_take
   pub posts : v.ports.posts.items ≡ slice_set a.ports.posts.items j (Some new_post)
   pub takes : w.ports.takes.items ≡ slice_set b.ports.takes.items i (Some new_take)
   pub same_poster : (v.heap ≡ a.heap) × (id_and_capacity v ≡ id_and_capacity a) × (v.ports.takes ≡ a.ports.takes)
@@ -35,7 +35,7 @@ abbrev pub InYard : {sli : ℕ} → List (Worker sli Lanes) → ℕ → ℕ → 
 InYard {sli} ws i j = (a : Worker sli Lanes) × (b : Worker sli Lanes) × (slice_get ws i ≡ Some a) × (slice_get ws j ≡ Some b) × HasLane i j a b
 
 -- one lane was settled, and nothing else changed
-pub record LaneStep {sli : ℕ} (ws : List (Worker sli Lanes)) (i j : ℕ) (vs : List (Worker sli Lanes)) : Type 0 where
+pub record OnlyLaneSettled {sli : ℕ} (ws : List (Worker sli Lanes)) (i j : ℕ) (vs : List (Worker sli Lanes)) : Type 0 where
   pub a : Worker sli Lanes
   pub b : Worker sli Lanes
   pub v : Worker sli Lanes
@@ -43,7 +43,7 @@ pub record LaneStep {sli : ℕ} (ws : List (Worker sli Lanes)) (i j : ℕ) (vs :
   pub a_is : slice_get ws i ≡ Some a
   pub b_is : slice_get ws j ≡ Some b
   pub after : vs ≡ slice_set (slice_set ws i v) j w
-  pub met : LaneMet i j a b v w
+  pub settled : PairSettled i j a b v w
 
 -- the lane from i to j has the same ends in both yards
 abbrev pub SameLane : {sli : ℕ} → List (Worker sli Lanes) → List (Worker sli Lanes) → ℕ → ℕ → Type 0
@@ -62,14 +62,14 @@ pub record LaneChange {sli : ℕ} (ws vs : List (Worker sli Lanes)) (i j : ℕ) 
   pub lane : IsLane q u
   pub capacity : capacity_of q ≡ capacity_of p
 
--- the ends of the lanes to j from the workers below i have met, and all others are the same
-pub record ColumnMet {sli : ℕ} (ws vs : List (Worker sli Lanes)) (i j : ℕ) : Type 0 where
+-- the ends of the lanes to j from the workers below i have settled, and all others are the same
+pub record ColumnSettled {sli : ℕ} (ws vs : List (Worker sli Lanes)) (i j : ℕ) : Type 0 where
   pub len : length vs ≡ length ws
-  pub done : (x : ℕ) → x < i → x ≢ j → MetIn ws vs x j
+  pub done : (x : ℕ) → x < i → x ≢ j → LaneSettled ws vs x j
   pub same : (x y : ℕ) → (y ≡ j → i ≤ x) → SameLane ws vs x y
 
--- the ends of the lanes to the workers below j have met, and all others are the same
-pub record EachColumnMet {sli : ℕ} (ws vs : List (Worker sli Lanes)) (j : ℕ) : Type 0 where
+-- the ends of the lanes to the workers below j have settled, and all others are the same
+pub record EachColumnSettled {sli : ℕ} (ws vs : List (Worker sli Lanes)) (j : ℕ) : Type 0 where
   pub len : length vs ≡ length ws
-  pub done : (x y : ℕ) → y < j → x < length ws → x ≢ y → MetIn ws vs x y
+  pub done : (x y : ℕ) → y < j → x < length ws → x ≢ y → LaneSettled ws vs x y
   pub same : (x y : ℕ) → j ≤ y → SameLane ws vs x y

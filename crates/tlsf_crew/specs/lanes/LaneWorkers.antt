@@ -57,8 +57,8 @@ pub record PutThrough (p q : Lanes) (j : ℕ) (post : Post) (answer : Result (Un
   pub succeeds : 0 < free_slots end → IsOk answer
 
 -- worker v is a with its end to j after a put
-abbrev pub PutTo : {sli : ℕ} → Worker sli Lanes → Worker sli Lanes → ℕ → Post → Result (Unit {0}) Post → Type 0
-PutTo a v j post answer = SameButPorts a v × PutThrough a.ports v.ports j post answer
+abbrev pub PostEndPut : {sli : ℕ} → Worker sli Lanes → Worker sli Lanes → ℕ → Post → Result (Unit {0}) Post → Type 0
+PostEndPut a v j post answer = SameButPorts a v × PutThrough a.ports v.ports j post answer
 
 -- the lanes q are p with the end from i after a take
 pub record TookThrough (p q : Lanes) (i : ℕ) (answer : Option Post) : Type 0 where
@@ -75,8 +75,8 @@ pub record TookThrough (p q : Lanes) (i : ℕ) (answer : Option Post) : Type 0 w
   pub succeeds : 0 < length (ready end) → IsSome answer
 
 -- worker v is a with its end from i after a take
-abbrev pub TookFrom : {sli : ℕ} → Worker sli Lanes → Worker sli Lanes → ℕ → Option Post → Type 0
-TookFrom a v i answer = SameButPorts a v × TookThrough a.ports v.ports i answer
+abbrev pub TakeEndTook : {sli : ℕ} → Worker sli Lanes → Worker sli Lanes → ℕ → Option Post → Type 0
+TakeEndTook a v i answer = SameButPorts a v × TookThrough a.ports v.ports i answer
 
 -- the worker is one of n, and has a lane to and from each other one and none else
 pub record KnowsYard {sli : ℕ} (n : ℕ) (a : Worker sli Lanes) : Type 0 where

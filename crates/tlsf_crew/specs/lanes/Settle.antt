@@ -4,10 +4,10 @@ use Rattle.tlsf_post.specs.declared.post_end.PostEnd.{PostEnd}
 use Rattle.tlsf_post.specs.declared.take_end.TakeEnd.{TakeEnd}
 use Rattle.tlsf_crew.specs.declared.worker.worker.Worker.{Worker}
 use Rattle.tlsf_crew.specs.declared.worker.lanes.Lanes.{Lanes}
-use Rattle.tlsf_crew.specs.lanes.Yard.{post_at, take_at, Meets}
+use Rattle.tlsf_crew.specs.lanes.Yard.{post_at, take_at, BothBeside}
 
 -- the two ends of the lane from i to j were side by side between the two yards
-pub record MetIn {sli : ℕ} (ws vs : List (Worker sli Lanes)) (i j : ℕ) : Type 0 where
+pub record LaneSettled {sli : ℕ} (ws vs : List (Worker sli Lanes)) (i j : ℕ) : Type 0 where
   pub post : PostEnd
   pub take : TakeEnd
   pub new_post : PostEnd
@@ -16,8 +16,8 @@ pub record MetIn {sli : ℕ} (ws vs : List (Worker sli Lanes)) (i j : ℕ) : Typ
   pub take_is : take_at ws i j ≡ Some take
   pub new_post_is : post_at vs i j ≡ Some new_post
   pub new_take_is : take_at vs i j ≡ Some new_take
-  pub meets : Meets post take new_post new_take
+  pub beside : BothBeside post take new_post new_take
 
 -- the two ends of each lane between two workers were side by side between the two yards
-abbrev pub HaveMet : {sli : ℕ} → List (Worker sli Lanes) → List (Worker sli Lanes) → Type 0
-HaveMet ws vs = (i j : ℕ) → i < length ws → j < length ws → i ≢ j → MetIn ws vs i j
+abbrev pub EachLaneSettled : {sli : ℕ} → List (Worker sli Lanes) → List (Worker sli Lanes) → Type 0
+EachLaneSettled ws vs = (i j : ℕ) → i < length ws → j < length ws → i ≢ j → LaneSettled ws vs i j

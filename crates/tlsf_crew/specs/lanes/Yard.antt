@@ -50,7 +50,7 @@ unfoldable pub world_of : {sli : ℕ} → List (Worker sli Lanes) → World sli
 world_of ws = record { heaps = map heap_of ws; waiting = λ i j. lane_waits (post_at ws i j) (take_at ws i j); capacity = capacity_in ws }
 
 -- one `beside`
-pub record Meets (p : PostEnd) (t : TakeEnd) (q : PostEnd) (u : TakeEnd) : Type 0 where
+pub record BothBeside (p : PostEnd) (t : TakeEnd) (q : PostEnd) (u : TakeEnd) : Type 0 where
   pub lane : IsLane q u
   pub order : taken t ++ waited u ≡ waited t ++ posts_sent p
   pub fresh : (posts_sent q ≡ []) × (taken u ≡ []) × (ready u ≡ waited u)
@@ -63,10 +63,6 @@ HasPair ws i j capacity = (p : PostEnd) × (t : TakeEnd) × (post_at ws i j ≡ 
 
 abbrev pub HasEnds : {sli : ℕ} → List (Worker sli Lanes) → ℕ → ℕ → Type 0
 HasEnds ws i j = HasPair ws i j (capacity_in ws)
-
--- j is a worker of the yard other than i
-abbrev pub IsOther : {sli : ℕ} → List (Worker sli Lanes) → ℕ → ℕ → Type 0
-IsOther ws i j = (j < length ws) × (j ≢ i)
 
 -- a whole yard of a level that there is: at most eight workers, numbered from 0 in their order, each with a lawful heap of its number. From each to
 -- each other goes a lane that has both ends, of the yard's capacity, at most 1,024 posts; none has an end to or from itself, or

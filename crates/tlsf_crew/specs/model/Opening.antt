@@ -1,4 +1,4 @@
--- How a yard is opened.
+-- The world of a new yard.
 use Rattle.std.specs.Prelude.{ℕ, List, [], map}
 use Rattle.std.specs.List.{range_with_len}
 use Rattle.tlsf_heap.specs.Blocks.{HeapState}

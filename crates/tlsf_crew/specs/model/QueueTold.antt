@@ -14,8 +14,8 @@ use Rattle.tlsf_crew.specs.model.Heaps.{released}
 use Rattle.tlsf_crew.specs.model.Told.{Told, AllTold, MayTell}
 
 -- a post of another of n workers
-abbrev pub IsOfOther : ℕ → ℕ → Post → Type 0
-IsOfOther n at post = (post.from < n) × (post.from ≢ at)
+abbrev pub IsFromOther : ℕ → ℕ → Post → Type 0
+IsFromOther n at post = (post.from < n) × (post.from ≢ at)
 
 -- the entry of a post that was taken, as the worker's heap answers its release
 abbrev pub take_entry : ℕ → HeapState → Post → Entry
@@ -46,7 +46,7 @@ told_reply at s call reply = record {
 abbrev pub MayTellQueue : ℕ → ℕ → ℕ → Told → Call → Told → Type 0
 MayTellQueue sli n at s (Take from) t = t ≡ told_reply at s (Take from) (Refused Stranger)
 MayTellQueue sli n at s (Drain most) t =
-    (posts : List Post) × All (IsOfOther n at) posts × (length posts ≤ most)
+    (posts : List Post) × All (IsFromOther n at) posts × (length posts ≤ most)
     × (t ≡ told_reply at (told_takes at s posts) (Drain most) (Drained (length posts)))
 MayTellQueue sli n at s call t = MayTell sli n at s call t
 

@@ -12,8 +12,8 @@ abbrev pub lanes_sum : ℕ → (ℕ → ℕ → ℕ) → ℕ
 lanes_sum n f = sum_below n (λ j. sum_below n (λ i. f i j))
 
 -- how many posts wait in a world
-unfoldable pub waiting_in : {sli : ℕ} → World sli → ℕ
-waiting_in w = lanes_sum (length w.heaps) (λ i j. length (w.waiting i j))
+unfoldable pub waiting_count : {sli : ℕ} → World sli → ℕ
+waiting_count w = lanes_sum (length w.heaps) (λ i j. length (w.waiting i j))
 
 -- a sum over the workers
 abbrev pub sum_of : List ℕ → ℕ

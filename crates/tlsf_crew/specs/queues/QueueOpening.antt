@@ -37,8 +37,8 @@ pub record AreGiven {sli : ℕ} (n words capacity m : ℕ) (ws : List (Worker sl
   pub none : (i j : ℕ) (a : Worker sli Queues) → slice_get ws i ≡ Some a → (j < m) ⊎ ((n ≤ j) ⊎ (i ≡ j)) → queue_end_to a j ≡ None
 
 -- the ends of the first queues, which are still to be given
-abbrev pub AreEnds : {sli : ℕ} → List (Worker sli Queues) → List (Vec PosterEnd Global) → Type 0
-AreEnds {sli} ws ends =
+abbrev pub AreUngiven : {sli : ℕ} → List (Worker sli Queues) → List (Vec PosterEnd Global) → Type 0
+AreUngiven {sli} ws ends =
     (j : ℕ) (b : Worker sli Queues) (ps : Vec PosterEnd Global) → slice_get ws j ≡ Some b → slice_get ends j ≡ Some ps
     → IsWhole b.ports.own ps.items × All (λ p. put_by p ≡ []) ps.items
 

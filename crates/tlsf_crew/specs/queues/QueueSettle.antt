@@ -68,7 +68,7 @@ pub record StaysPut {sli : ℕ} (a v : Worker sli Queues) : Type 0 where
   pub put : (k : ℕ) (p q : PosterEnd) → queue_end_to a k ≡ Some p → queue_end_to v k ≡ Some q → put_by q ≡ put_by p
 
 -- the queues below k were settled
-pub record QueuesSettled {sli : ℕ} (ws : List (Worker sli Queues)) (k : ℕ) (vs : List (Worker sli Queues)) : Type 0 where
+pub record EachQueueSettled {sli : ℕ} (ws : List (Worker sli Queues)) (k : ℕ) (vs : List (Worker sli Queues)) : Type 0 where
   pub yard : IsQueueYard vs
   pub count : length vs ≡ length ws
   pub stays : (i : ℕ) (a v : Worker sli Queues) → slice_get ws i ≡ Some a → slice_get vs i ≡ Some v → StaysPut a v

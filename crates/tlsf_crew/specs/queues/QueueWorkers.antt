@@ -4,7 +4,7 @@ use Rattle.tlsf_heap.specs.declared.name.Name.{Name}
 use Rattle.tlsf_post.specs.Mailboxes.{number_of, put_by, plan_of, owner_of, out_of, got_by, IsOnlyPoster, HasFilled, PosterSaw, OwnerSaw, KeepsPoster, KeepsOwner, IsAllTaken}
 use Rattle.tlsf_post.specs.declared.post.Post.{Post}
 use Rattle.tlsf_post.specs.declared.poster_end.PosterEnd.{PosterEnd}
-use Rattle.tlsf_crew.specs.worker.Workers.{heap_of, id_of, slot_of, SameButPorts, KeepsHeap}
+use Rattle.tlsf_crew.specs.worker.Workers.{IsOther, heap_of, id_of, slot_of, SameButPorts, KeepsHeap}
 use Rattle.tlsf_crew.specs.declared.worker.worker.Worker.{Worker}
 use Rattle.tlsf_crew.specs.declared.queues.queues.Queues.{Queues}
 
@@ -21,17 +21,13 @@ ReachesQueue p j = (end : PosterEnd) × (queue_to p j ≡ Some end)
 abbrev pub HasQueueEnd : {sli : ℕ} → Worker sli Queues → ℕ → Type 0
 HasQueueEnd a = ReachesQueue a.ports
 
--- the number is that of a worker of n other than this one
-abbrev pub IsOtherOf : ℕ → ℕ → ℕ → Type 0
-IsOtherOf n at j = (j < n) × (j ≢ at)
-
 -- the worker is one of n. It takes from its own queue, and has an end to each other queue and none else, each by its own number
 pub record KnowsQueueYard {sli : ℕ} (n : ℕ) (a : Worker sli Queues) : Type 0 where
   pub few : n ≤ 8
   pub self : id_of a < n
   pub own : (owner_of a.ports.own ≡ id_of a) × (out_of a.ports.own ≡ n)
-  pub to : (j : ℕ) → IsOtherOf n (id_of a) j → (p : PosterEnd) × (queue_end_to a j ≡ Some p) × (number_of p ≡ id_of a)
-  pub none : (j : ℕ) → ¬ (IsOtherOf n (id_of a) j) → queue_end_to a j ≡ None
+  pub to : (j : ℕ) → IsOther n (id_of a) j → (p : PosterEnd) × (queue_end_to a j ≡ Some p) × (number_of p ≡ id_of a)
+  pub none : (j : ℕ) → ¬ (IsOther n (id_of a) j) → queue_end_to a j ≡ None
 
 -- ---- what a call changes
 
@@ -71,8 +67,8 @@ abbrev pub PutsIntoQueue : ℕ → Queues → Queues → Name → Result (Unit {
 PutsIntoQueue from p q name answer = PutInto p q name.heap name answer
 
 -- worker v is a with its end to j after a put
-abbrev pub PutToQueue : {sli : ℕ} → Worker sli Queues → Worker sli Queues → ℕ → Name → Result (Unit {0}) Name → Type 0
-PutToQueue a v j name answer = SameButPorts a v × PutInto a.ports v.ports j name answer
+abbrev pub PosterEndPut : {sli : ℕ} → Worker sli Queues → Worker sli Queues → ℕ → Name → Result (Unit {0}) Name → Type 0
+PosterEndPut a v j name answer = SameButPorts a v × PutInto a.ports v.ports j name answer
 
 -- the queues q are p after a take from the own one
 pub record TookOut (p q : Queues) (answer : Option Post) : Type 0 where
@@ -81,13 +77,13 @@ pub record TookOut (p q : Queues) (answer : Option Post) : Type 0 where
   pub some : IfSome answer (λ post. got_by q.own ≡ got_by p.own ++ post ∷ [])
   -- no more posts waited than the queue holds, and it before the others
   pub waited : IfSome answer (λ post. (others : List Post) × OwnerSaw p.own (post ∷ others))
-  pub from : IfSome answer (λ post. IsOtherOf (out_of p.own) (owner_of p.own) post.from)
+  pub from : IfSome answer (λ post. IsOther (out_of p.own) (owner_of p.own) post.from)
   pub none : IfNone answer ((got_by q.own ≡ got_by p.own) × IsAllTaken q.own)
 
 -- a worker over queues has one source of posts, of number 0: its own queue
-abbrev pub TakesFromQueue : Queues → Queues → ℕ → Option Post → Type 0
-TakesFromQueue p q source answer = TookOut p q answer
+abbrev pub AsksQueue : Queues → Queues → ℕ → Option Post → Type 0
+AsksQueue p q source answer = TookOut p q answer
 
 -- worker v is a after a take from its own queue
-abbrev pub TookFromQueue : {sli : ℕ} → Worker sli Queues → Worker sli Queues → Option Post → Type 0
-TookFromQueue a v answer = SameButPorts a v × TookOut a.ports v.ports answer
+abbrev pub OwnEndTook : {sli : ℕ} → Worker sli Queues → Worker sli Queues → Option Post → Type 0
+OwnEndTook a v answer = SameButPorts a v × TookOut a.ports v.ports answer

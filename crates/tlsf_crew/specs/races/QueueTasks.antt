@@ -17,7 +17,7 @@ use Rattle.tlsf_crew.specs.worker.Workers.{heap_of, id_of}
 use Rattle.tlsf_crew.specs.queues.QueueWorkers.{queue_end_to, KnowsQueueYard}
 use Rattle.tlsf_crew.specs.model.QueueTold.{MayTellQueue}
 use Rattle.tlsf_crew.specs.scripts.QueueMoves.{QueueMoved, QueueScriptRun, told_of}
-use Rattle.tlsf_crew.specs.queues.QueueSettle.{QueuesSettled}
+use Rattle.tlsf_crew.specs.queues.QueueSettle.{EachQueueSettled}
 
 -- ---- one worker
 
@@ -26,7 +26,7 @@ abbrev pub KnowsSomeYard : {sli : ℕ} → Worker sli Queues → Type 0
 KnowsSomeYard a = KnowsSome KnowsQueueYard a
 
 -- worker a of n has made the calls of a script, and has become v
-pub record QueueRan {sli : ℕ} (n : ℕ) (a : Worker sli Queues) (script : List Call) (made : List (Option Name)) (entries : List Entry) (v : Worker sli Queues) : Type 0 where
+pub record QueueWorkerRan {sli : ℕ} (n : ℕ) (a : Worker sli Queues) (script : List Call) (made : List (Option Name)) (entries : List Entry) (v : Worker sli Queues) : Type 0 where
   pub limits : List ℕ
   pub left : List ℕ
   pub run : QueueScriptRun n a limits script made entries v left
@@ -38,17 +38,17 @@ HasPlace entries = vec_len entries < vec_capacity entries
 -- ---- all workers
 
 -- the workers ws ran the scripts and became the workers vs
-pub record HaveQueuesRun {sli : ℕ} (ws : List (Worker sli Queues)) (scripts : List (List Call)) (records : List (List Entry)) (vs : List (Worker sli Queues)) : Type 0 where
+pub record EachQueueWorkerRan {sli : ℕ} (ws : List (Worker sli Queues)) (scripts : List (List Call)) (records : List (List Entry)) (vs : List (Worker sli Queues)) : Type 0 where
   pub made : ℕ → List (Option Name)
   pub worker_count : length vs ≡ length ws
   pub record_count : length records ≡ length ws
   pub ran : (j : ℕ) (a : Worker sli Queues) → slice_get ws j ≡ Some a
-      → (v : Worker sli Queues) × (slice_get vs j ≡ Some v) × ((n : ℕ) → KnowsQueueYard n a → QueueRan n a (script_of scripts j) (made j) (record_of records j) v)
+      → (v : Worker sli Queues) × (slice_get vs j ≡ Some v) × ((n : ℕ) → KnowsQueueYard n a → QueueWorkerRan n a (script_of scripts j) (made j) (record_of records j) v)
 
 -- ---- the last drains
 
 -- worker a has taken all that was known to have been put, and has become v
-pub record DrainedLast {sli : ℕ} (n : ℕ) (a v : Worker sli Queues) (before after : List Entry) : Type 0 where
+pub record QueueLastDrained {sli : ℕ} (n : ℕ) (a v : Worker sli Queues) (before after : List Entry) : Type 0 where
   pub own : List Entry
   pub entries_are : after ≡ before ++ own
   pub told : (made : List (Option Name)) → MayTellQueue sli n (id_of a) (told_of made before (heap_of a)) last_call (told_of (made ++ None ∷ []) after (heap_of v))
@@ -59,17 +59,17 @@ pub record DrainedLast {sli : ℕ} (n : ℕ) (a v : Worker sli Queues) (before a
   pub ends : queue_end_to v ≡ queue_end_to a
 
 -- so has each worker below k; the others are as they were
-pub record QueuesDrained {sli : ℕ} (ws : List (Worker sli Queues)) (rs ss : List (List Entry)) (vs : List (Worker sli Queues)) (k : ℕ) : Type 0 where
+pub record EachQueueLastDrained {sli : ℕ} (ws : List (Worker sli Queues)) (rs ss : List (List Entry)) (vs : List (Worker sli Queues)) (k : ℕ) : Type 0 where
   pub worker_count : length vs ≡ length ws
   pub record_count : length ss ≡ length rs
   pub drained : (j : ℕ) (a : Worker sli Queues) → j < k → slice_get ws j ≡ Some a
-      → (v : Worker sli Queues) × (slice_get vs j ≡ Some v) × ((n : ℕ) → KnowsQueueYard n a → DrainedLast n a v (record_of rs j) (record_of ss j))
+      → (v : Worker sli Queues) × (slice_get vs j ≡ Some v) × ((n : ℕ) → KnowsQueueYard n a → QueueLastDrained n a v (record_of rs j) (record_of ss j))
   pub later_workers : (j : ℕ) → k ≤ j → slice_get vs j ≡ slice_get ws j
 
 -- the queues were settled, drained, and settled again
 pub record Finished {sli : ℕ} (ws : List (Worker sli Queues)) (rs ss : List (List Entry)) (xs : List (Worker sli Queues)) : Type 0 where
-  pub met : List (Worker sli Queues)
+  pub settled : List (Worker sli Queues)
   pub emptied : List (Worker sli Queues)
-  pub first : QueuesSettled ws (length ws) met
-  pub drained : QueuesDrained met rs ss emptied (length met)
-  pub last : QueuesSettled emptied (length emptied) xs
+  pub first : EachQueueSettled ws (length ws) settled
+  pub drained : EachQueueLastDrained settled rs ss emptied (length settled)
+  pub last : EachQueueSettled emptied (length emptied) xs

@@ -7,7 +7,7 @@ use Rattle.tlsf_calls.specs.declared.call.Call.TheVariants.{Allocate, Release, W
 use Rattle.tlsf_calls.specs.declared.event.Event.{Event}
 use Rattle.tlsf_crew.specs.lanes.LaneWorkers.{lane_from}
 use Rattle.tlsf_crew.specs.model.World.{World}
-use Rattle.tlsf_crew.specs.model.Sums.{waiting_in}
+use Rattle.tlsf_crew.specs.model.Sums.{waiting_count}
 use Rattle.tlsf_crew.specs.lanes.Ready.{count_of}
 
 abbrev pub is_release : Call → Bool
@@ -26,7 +26,7 @@ releases_in es = count_by (λ e. is_release e.call) es
 -- the room for the entries of events: one for each event, one for each release among them, whose post a drain may take, and one for
 -- each post that waits
 abbrev pub entry_room : {sli : ℕ} → World sli → List Event → ℕ
-entry_room w es = length es + releases_in es + waiting_in w
+entry_room w es = length es + releases_in es + waiting_count w
 
 -- so many posts may be taken of each lane: those that are ready, and one for each release of its poster's script
 abbrev pub AreLaneLimits : Lanes → List ℕ → List ℕ → Type 0

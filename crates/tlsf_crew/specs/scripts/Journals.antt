@@ -11,8 +11,8 @@ abbrev pub IsAdmitted : Journal → ℕ → Type 0
 IsAdmitted journal source = (source < 8) × (0 < slice_index journal.limits source)
 
 -- there is room for an entry of each post that may be taken
-abbrev pub HasRoom : Journal → Type 0
-HasRoom journal = vec_len journal.entries + sum_of journal.limits ≤ vec_capacity journal.entries
+abbrev pub HasTakePlaces : Journal → Type 0
+HasTakePlaces journal = vec_len journal.entries + sum_of journal.limits ≤ vec_capacity journal.entries
 
 -- one fewer may be taken from i
 abbrev pub OneFewer : List ℕ → ℕ → List ℕ → Type 0
@@ -31,9 +31,9 @@ pub record IsEntered (old : Journal) (at source from : ℕ) (took : Took) (new :
   pub capacity : vec_capacity new.entries ≡ vec_capacity old.entries
 
 -- over lanes the entry names the lane
-abbrev pub IsNoted : Journal → ℕ → ℕ → Took → Journal → Type 0
-IsNoted old at from took new = IsEntered old at from from took new
+abbrev pub EntersLane : Journal → ℕ → ℕ → Took → Journal → Type 0
+EntersLane old at from took new = IsEntered old at from from took new
 
 -- over queues the entry of a take names who posted
-abbrev pub IsQueueNoted : Journal → ℕ → ℕ → Took → Journal → Type 0
-IsQueueNoted old at source took new = IsEntered old at source took.from took new
+abbrev pub EntersSender : Journal → ℕ → ℕ → Took → Journal → Type 0
+EntersSender old at source took new = IsEntered old at source took.from took new

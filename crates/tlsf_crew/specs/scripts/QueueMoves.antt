@@ -1,4 +1,4 @@
--- What the calls of one worker of a race over queues answer and leave. This serves the contracts and proofs of private functions alone.
+-- What the calls of one worker over queues answer and leave. This serves the contracts and proofs of private functions alone.
 use Rattle.std.specs.Prelude.{◌≡◌, ℕ, ◌+◌, ◌<◌, ◌≤◌, List, [], ◌∷◌, ◌++◌, length, Option, Some, slice_index}
 use mathlib.Core.List.{IsPrefix}
 use Rattle.tlsf_post.specs.Rule.{posts_of}

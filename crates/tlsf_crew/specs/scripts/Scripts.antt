@@ -46,7 +46,7 @@ reply_released (Ok WasPosted) = Posted
 reply_released (Err why) = Refused why
 
 -- what a release promises, over ports that reach some workers and by what a put may leave
-pub record IsRelease {sli : ℕ} {P : Type 0} (reaches : P → ℕ → Type 0) (puts : ℕ → P → P → Name → Result (Unit {0}) Name → Type 0) (a v : Worker sli P) (name : Name) (answer : Result Released CrewRefusal) : Type 0 where
+pub record ReleasedAnywhere {sli : ℕ} {P : Type 0} (reaches : P → ℕ → Type 0) (puts : ℕ → P → P → Name → Result (Unit {0}) Name → Type 0) (a v : Worker sli P) (name : Name) (answer : Result Released CrewRefusal) : Type 0 where
   pub here : name.heap ≡ id_of a → ReleasedHere a v name answer
   pub there : name.heap ≢ id_of a → reaches a.ports name.heap → ReleasedThere puts a v name answer
   pub nowhere : name.heap ≢ id_of a → ¬ (reaches a.ports name.heap) → (answer ≡ Err Stranger) × (v ≡ a)
@@ -66,7 +66,7 @@ pub record Step {sli : ℕ} {P : Type 0} (tells : ℕ → Told → Call → Told
   pub moved : (rest : List (Option Name)) → moves (id_of a) (made ++ rest) a limits (call ∷ []) (own ++ entry_by (id_of a) call reply ∷ []) v left
 
 -- the call was made, and told in full
-pub record Called {sli : ℕ} {P : Type 0} (tells : ℕ → Told → Call → Told → Type 0) (moves : ℕ → List (Option Name) → Worker sli P → List ℕ → List Call → List Entry → Worker sli P → List ℕ → Type 0) (a : Worker sli P) (limits : List ℕ) (call : Call) (made : List (Option Name)) (entries : List Entry) (v : Worker sli P) (left : List ℕ) (more : List (Option Name)) (longer : List Entry) : Type 0 where
+pub record CallMade {sli : ℕ} {P : Type 0} (tells : ℕ → Told → Call → Told → Type 0) (moves : ℕ → List (Option Name) → Worker sli P → List ℕ → List Call → List Entry → Worker sli P → List ℕ → Type 0) (a : Worker sli P) (limits : List ℕ) (call : Call) (made : List (Option Name)) (entries : List Entry) (v : Worker sli P) (left : List ℕ) (more : List (Option Name)) (longer : List Entry) : Type 0 where
   pub name : Option Name
   pub made_are : more ≡ made ++ name ∷ []
   pub own : List Entry

@@ -9,10 +9,10 @@ use Rattle.tlsf_crew.specs.worker.Calls.{TakenFrom}
 use Rattle.tlsf_crew.specs.worker.Drains.{IsCountOf}
 
 -- worker a becomes v by takes from one source, which answered these one after another, and notes x become y
-abbrev pub NotedInTurn : {sli : ℕ} {P N : Type 0} → (P → P → ℕ → Option Post → Type 0) → (N → ℕ → ℕ → Took → N → Type 0) → Worker sli P → Worker sli P → N → N → ℕ → List Took → Type 0
-NotedInTurn {sli} {P} {N} takes noted a v x y source [] = (v ≡ a) × (y ≡ x)
-NotedInTurn {sli} {P} {N} takes noted a v x y source (took ∷ tooks) =
-    (b : Worker sli P) × (z : N) × TakenFrom takes a b source (Some took) × noted x (id_of b) source took z × NotedInTurn takes noted b v z y source tooks
+abbrev pub EachTakeNoted : {sli : ℕ} {P N : Type 0} → (P → P → ℕ → Option Post → Type 0) → (N → ℕ → ℕ → Took → N → Type 0) → Worker sli P → Worker sli P → N → N → ℕ → List Took → Type 0
+EachTakeNoted {sli} {P} {N} takes noted a v x y source [] = (v ≡ a) × (y ≡ x)
+EachTakeNoted {sli} {P} {N} takes noted a v x y source (took ∷ tooks) =
+    (b : Worker sli P) × (z : N) × TakenFrom takes a b source (Some took) × noted x (id_of b) source took z × EachTakeNoted takes noted b v z y source tooks
 
 -- a drain of one source ends where `most` posts were taken, where it stopped since the notes admit no more, or with a take that shows no post
 abbrev pub SourceEnds : {sli : ℕ} {P N : Type 0} → (P → P → ℕ → Option Post → Type 0) → (P → P → ℕ → Type 0) → (N → ℕ → Type 0) → Worker sli P → Worker sli P → N → ℕ → ℕ → ℕ → Type 0
@@ -22,7 +22,7 @@ SourceEnds takes stops admitted last v y source most count =
 
 pub record SourceNoted {sli : ℕ} {P N : Type 0} (takes : P → P → ℕ → Option Post → Type 0) (stops : P → P → ℕ → Type 0) (noted : N → ℕ → ℕ → Took → N → Type 0) (admitted : N → ℕ → Type 0) (a v : Worker sli P) (x y : N) (source most : ℕ) (tooks : List Took) : Type 0 where
   pub last : Worker sli P
-  pub turns : NotedInTurn takes noted a last x y source tooks
+  pub turns : EachTakeNoted takes noted a last x y source tooks
   pub end : SourceEnds takes stops admitted last v y source most (length tooks)
 
 -- the turn of one source: it is drained; where there is none of that number, nothing happens

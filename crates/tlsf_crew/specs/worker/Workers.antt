@@ -1,14 +1,8 @@
--- What a worker shows: its heap and its number, and over lanes its end of each lane.
-use Rattle.std.specs.Prelude.{◌≡◌, ℕ, Option, Some, None}
+-- What a worker shows: its heap and its number.
+use Rattle.std.specs.Prelude.{◌≡◌, ℕ, Option, Some, None, ◌<◌, ◌≢◌}
 use Rattle.tlsf_heap.specs.Blocks.{HeapState}
 use Rattle.tlsf_heap.specs.Lawful.{IsLawful}
 use Rattle.tlsf_crew.specs.declared.worker.worker.Worker.{Worker}
-
--- a lawful heap of that number
-abbrev pub IsHeapOf : ℕ → HeapState → Type 0
-IsHeapOf i h = (h.id ≡ i) × IsLawful h
-
--- ---- a worker of either kind
 
 abbrev pub heap_of : {sli : ℕ} {P : Type 0} → Worker sli P → HeapState
 heap_of a = a.heap.heap
@@ -32,7 +26,13 @@ SameButPorts a v = (id_of v ≡ id_of a) × (v.heap ≡ a.heap)
 abbrev pub KeepsHeap : HeapState → HeapState → Type 0
 KeepsHeap h k = (k.id ≡ h.id) × (IsLawful h → IsLawful k)
 
--- ---- over lanes
+-- a lawful heap of that number
+abbrev pub IsHeapOf : ℕ → HeapState → Type 0
+IsHeapOf i h = (h.id ≡ i) × IsLawful h
+
+-- j is another of n workers
+abbrev pub IsOther : ℕ → ℕ → ℕ → Type 0
+IsOther n at j = (j < n) × (j ≢ at)
 
 abbrev pub slot_of : {X : Type 0} → Option (Option X) → Option X
 slot_of None = None

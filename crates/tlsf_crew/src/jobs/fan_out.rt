@@ -7,11 +7,11 @@ use crate::jobs::gate::Gate;
 use crate::jobs::outcome::Outcome;
 use crate::jobs::work::Work;
 use crate::jobs::work_promise::WorkPromise;
-use std::thread;
 use std::alloc::{AllocError, Global};
 use std::marker::{PhantomData, Send, Sync};
 use std::snapshot::Snapshot;
 use std::sync::Wait;
+use std::thread;
 use std::thread::{Scope, Threads};
 
 /// Does each job in a thread of its own: the last one's starts first, and is joined last.

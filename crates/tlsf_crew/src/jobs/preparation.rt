@@ -15,7 +15,7 @@ use tlsf_heap::Name;
 use tlsf_post::NoMemory;
 
 /// How many calls of a script are releases.
-fn count_releases(script: &[Call]) -> u32
+fn releases_of(script: &[Call]) -> u32
     requires { length script.now < 2 ^ 32 }
     ensures { result ≡ releases_of script.now }
 {
@@ -33,13 +33,13 @@ pub(crate) fn count_all(scripts: &[Vec<Call>]) -> [u32; 8]
 {
     let mut counts = [0; 8];
     for i in 0..scripts.len() {
-        counts[i] = count_releases(&scripts[i]);
+        counts[i] = releases_of(&scripts[i]);
     }
     counts
 }
 
 /// Room for the entries of a worker: one for each call, one for each post that it may take, and one for the last drain.
-fn room_for_record(limits: &[u64; 8], calls: usize) -> usize
+fn room_with_limits(limits: &[u64; 8], calls: usize) -> usize
     requires short { calls < 2 ^ 32 }
     requires few { (i : ℕ) → i < 8 → slice_index limits.now i ≤ 2 ^ 36 }
     ensures { result ≡ calls + sum_of limits.now + 1 }
@@ -64,7 +64,7 @@ fn room_for_job(
     ensures record { IfOk result (λ room. vec_capacity room.1 ≡ calls + sum_of limits.now + 1) }
 {
     let made = Vec::with_capacity(alloc, calls)?;
-    let entries = Vec::with_capacity(alloc, room_for_record(limits, calls))?;
+    let entries = Vec::with_capacity(alloc, room_with_limits(limits, calls))?;
     Ok((made, entries))
 }
 

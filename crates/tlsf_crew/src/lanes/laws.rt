@@ -1,9 +1,9 @@
-ghost use Rattle.std.specs.Prelude.{◌≡◌, ◌↔◌, ℕ, List, Some, slice_get};
+ghost use Rattle.std.specs.Prelude.{length, ◌≡◌, ◌↔◌, ℕ, List, Some, slice_get};
 ghost use Rattle.tlsf_crew.specs.declared.worker.worker.Worker.{Worker};
 ghost use Rattle.tlsf_crew.specs.declared.worker.lanes.Lanes.{Lanes};
-ghost use Rattle.tlsf_crew.specs.worker.Workers.{heap_of, id_of, IsHeapOf};
+ghost use Rattle.tlsf_crew.specs.worker.Workers.{IsOther, heap_of, id_of, IsHeapOf};
 ghost use Rattle.tlsf_crew.specs.lanes.LaneWorkers.{HasPost, HasTake};
-ghost use Rattle.tlsf_crew.specs.lanes.Yard.{IsYard, IsOther};
+ghost use Rattle.tlsf_crew.specs.lanes.Yard.{IsYard};
 
 /// In a whole yard each worker has a lane to and from each other worker and none else. So [`crate::Worker::release`] and
 /// [`crate::Worker::take`] answer `Stranger` exactly where a number is the worker's own or that of no worker.
@@ -19,6 +19,6 @@ pub fn lanes_join_the_yard()
     ensures heaps { (sli : ℕ) (ws : List (Worker sli Lanes)) (i : ℕ) (a : Worker sli Lanes) → IsYard ws → slice_get ws i ≡ Some a → IsHeapOf i (heap_of a) }
 
     // Its lanes.
-    ensures to { (sli : ℕ) (ws : List (Worker sli Lanes)) (i j : ℕ) (a : Worker sli Lanes) → IsYard ws → slice_get ws i ≡ Some a → (HasPost a j ↔ IsOther ws i j) }
-    ensures from { (sli : ℕ) (ws : List (Worker sli Lanes)) (i j : ℕ) (a : Worker sli Lanes) → IsYard ws → slice_get ws i ≡ Some a → (HasTake a j ↔ IsOther ws i j) }
+    ensures to { (sli : ℕ) (ws : List (Worker sli Lanes)) (i j : ℕ) (a : Worker sli Lanes) → IsYard ws → slice_get ws i ≡ Some a → (HasPost a j ↔ IsOther (length ws) i j) }
+    ensures from { (sli : ℕ) (ws : List (Worker sli Lanes)) (i j : ℕ) (a : Worker sli Lanes) → IsYard ws → slice_get ws i ≡ Some a → (HasTake a j ↔ IsOther (length ws) i j) }
 {}

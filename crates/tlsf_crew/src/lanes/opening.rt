@@ -46,13 +46,13 @@ pub fn open_yard<const SLI: u32>(
     ensures never_worn { ¬ (IsErrOf result OpenFault.Worn) }
 {
     check_sizes::<SLI>(n, words, capacity)?;
-    match open_workers(alloc, n, words, capacity) {
+    match open_all(alloc, n, words, capacity) {
         Ok(workers) => Ok(workers),
         Err(_) => Err(OpenFault::NoMemory),
     }
 }
 
-fn open_workers<const SLI: u32>(
+fn open_all<const SLI: u32>(
     alloc: Global,
     n: u32,
     words: u32,
@@ -66,7 +66,7 @@ fn open_workers<const SLI: u32>(
     ensures fresh { IfOk result (λ workers. AreFresh workers.items) }
 {
     let mut workers = open_alone(alloc, n, words, capacity)?;
-    lay_lanes(alloc, &mut workers, words, capacity)?;
+    lay_all(alloc, &mut workers, words, capacity)?;
     Ok(workers)
 }
 
@@ -115,7 +115,7 @@ fn open_worker<const SLI: u32>(
 }
 
 /// Lays all lanes.
-fn lay_lanes<const SLI: u32>(
+fn lay_all<const SLI: u32>(
     alloc: Global,
     workers: &mut [Worker<SLI>],
     words: u32,
@@ -168,12 +168,12 @@ fn lay_lane<const SLI: u32>(
     ensures { OnOk result (IsLaid workers.new (length workers.old) words capacity i (j + 1)) }
 {
     let (post, take) = lane(alloc, capacity)?;
-    put_post_end(&mut workers[i], j, post);
-    put_take_end(&mut workers[j], i, take);
+    set_post_end(&mut workers[i], j, post);
+    set_take_end(&mut workers[j], i, take);
     Ok(())
 }
 
-fn put_post_end<const SLI: u32>(worker: &mut Worker<SLI>, j: usize, end: PostEnd)
+fn set_post_end<const SLI: u32>(worker: &mut Worker<SLI>, j: usize, end: PostEnd)
     requires { j < vec_len worker.old.ports.posts }
     ensures posts { worker.new.ports.posts.items ≡ slice_set worker.old.ports.posts.items j (Some end) }
     ensures same { (worker.new.heap ≡ worker.old.heap) × (id_and_capacity worker.new ≡ id_and_capacity worker.old) × (worker.new.ports.takes ≡ worker.old.ports.takes) }
@@ -181,7 +181,7 @@ fn put_post_end<const SLI: u32>(worker: &mut Worker<SLI>, j: usize, end: PostEnd
     worker.ports.posts[j] = Some(end);
 }
 
-fn put_take_end<const SLI: u32>(worker: &mut Worker<SLI>, i: usize, end: TakeEnd)
+fn set_take_end<const SLI: u32>(worker: &mut Worker<SLI>, i: usize, end: TakeEnd)
     requires { i < vec_len worker.old.ports.takes }
     ensures takes { worker.new.ports.takes.items ≡ slice_set worker.old.ports.takes.items i (Some end) }
     ensures same { (worker.new.heap ≡ worker.old.heap) × (id_and_capacity worker.new ≡ id_and_capacity worker.old) × (worker.new.ports.posts ≡ worker.old.ports.posts) }

@@ -1,8 +1,8 @@
 // One lane, both ends in hand.
 ghost use Rattle.std.specs.Prelude.{◌≡◌, ◌≢◌, ℕ, ◌+◌, ◌<◌, ◌≤◌, [], ◌∷◌, ◌++◌, length, vec_len, Some, slice_get, slice_set};
 ghost use Rattle.tlsf_crew.specs.lanes.Yard.{HasEnds, IsYard};
-ghost use Rattle.tlsf_crew.specs.lanes.LaneSteps.{HasLane, LaneMet, InYard, LaneStep};
-ghost use Rattle.tlsf_crew.specs.lanes.LaneWorkers.{HasPost, HasTake, PutTo, TookFrom};
+ghost use Rattle.tlsf_crew.specs.lanes.LaneSteps.{HasLane, PairSettled, InYard, OnlyLaneSettled};
+ghost use Rattle.tlsf_crew.specs.lanes.LaneWorkers.{HasPost, HasTake, PostEndPut, TakeEndTook};
 
 use crate::worker::worker::Worker;
 use tlsf_post::{Post, beside};
@@ -15,7 +15,7 @@ fn settle_pair<const SLI: u32>(
     j: usize,
 )
     requires { HasLane i j poster.old taker.old }
-    ensures { LaneMet i j poster.old taker.old poster.new taker.new }
+    ensures { PairSettled i j poster.old taker.old poster.new taker.new }
 {
     let Some(post) = poster.ports.posts[j].as_mut() else {
         unreachable!()
@@ -31,7 +31,7 @@ pub(crate) fn settle_lane<const SLI: u32>(workers: &mut [Worker<SLI>], i: usize,
     requires apart { i ≢ j }
     requires inside { (i < length workers.old) × (j < length workers.old) }
     requires lane { HasEnds workers.old i j }
-    ensures { LaneStep workers.old i j workers.new }
+    ensures { OnlyLaneSettled workers.old i j workers.new }
 {
     if i < j {
         let (low, high) = workers.split_at_mut(j);

@@ -1,15 +1,15 @@
 ghost use Rattle.std.specs.Prelude.{◌≡◌, ◌≢◌, ℕ, ◌<◌, length};
 ghost use Rattle.tlsf_crew.specs.lanes.Yard.{IsYard, world_of};
-ghost use Rattle.tlsf_crew.specs.lanes.Settle.{HaveMet};
-ghost use Rattle.tlsf_crew.specs.lanes.LaneSteps.{ColumnMet};
+ghost use Rattle.tlsf_crew.specs.lanes.Settle.{EachLaneSettled};
+ghost use Rattle.tlsf_crew.specs.lanes.LaneSteps.{ColumnSettled};
 
 use crate::lanes::pairs::settle_lane;
 use crate::worker::worker::Worker;
 
-/// Settles each lane of a whole yard: its two ends tell each other what they did since they last met. All that was
+/// Settles each lane of a whole yard: its two ends tell each other what they did since the last time. All that was
 /// posted then waits at the end that takes, and the end that posts knows each free slot.
 ///
-/// - `met`: for each lane, the posts that were taken and then those that wait are those that had waited and then those
+/// - `settled`: for each lane, the posts that were taken and then those that wait are those that had waited and then those
 ///   that were sent. No post is lost, doubled or overtaken.
 /// - `world`: what the yard shows stays the same. No heap changes, and in each lane the same posts wait.
 ///
@@ -20,7 +20,7 @@ use crate::worker::worker::Worker;
 /// ```
 pub fn settle<const SLI: u32>(workers: &mut [Worker<SLI>])
     requires { IsYard workers.old }
-    ensures met { HaveMet workers.old workers.new }
+    ensures settled { EachLaneSettled workers.old workers.new }
     ensures yard { IsYard workers.new }
     ensures count { length workers.new ≡ length workers.old }
     ensures world { world_of workers.new ≡ world_of workers.old }
@@ -34,7 +34,7 @@ pub fn settle<const SLI: u32>(workers: &mut [Worker<SLI>])
 pub(crate) fn settle_column<const SLI: u32>(workers: &mut [Worker<SLI>], j: usize)
     requires yard { IsYard workers.old }
     requires inside { j < length workers.old }
-    ensures met { ColumnMet workers.old workers.new (length workers.old) j }
+    ensures settled { ColumnSettled workers.old workers.new (length workers.old) j }
     ensures yard { IsYard workers.new }
     ensures count { length workers.new ≡ length workers.old }
     ensures world { world_of workers.new ≡ world_of workers.old }

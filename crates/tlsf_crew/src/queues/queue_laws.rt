@@ -1,8 +1,8 @@
 ghost use Rattle.std.specs.Prelude.{◌≡◌, ◌↔◌, ℕ, List, length, Some, slice_get, slice_set};
-ghost use Rattle.tlsf_crew.specs.worker.Workers.{IsHeapOf, heap_of, id_of};
+ghost use Rattle.tlsf_crew.specs.worker.Workers.{IsOther, IsHeapOf, heap_of, id_of};
 ghost use Rattle.tlsf_crew.specs.declared.worker.worker.Worker.{Worker};
 ghost use Rattle.tlsf_crew.specs.declared.queues.queues.Queues.{Queues};
-ghost use Rattle.tlsf_crew.specs.queues.QueueWorkers.{HasQueueEnd, IsOtherOf, KeepsQueueYards};
+ghost use Rattle.tlsf_crew.specs.queues.QueueWorkers.{HasQueueEnd, KeepsQueueYards};
 ghost use Rattle.tlsf_crew.specs.queues.QueueYard.{IsQueueYard};
 
 /// In a whole yard over queues each worker has an end to the queue of each other worker and none else. So
@@ -19,7 +19,7 @@ pub fn queues_join_the_yard()
     ensures heaps { (sli : ℕ) (ws : List (Worker sli Queues)) (i : ℕ) (a : Worker sli Queues) → IsQueueYard ws → slice_get ws i ≡ Some a → IsHeapOf i (heap_of a) }
 
     // Its ends.
-    ensures to { (sli : ℕ) (ws : List (Worker sli Queues)) (i j : ℕ) (a : Worker sli Queues) → IsQueueYard ws → slice_get ws i ≡ Some a → (HasQueueEnd a j ↔ IsOtherOf (length ws) i j) }
+    ensures to { (sli : ℕ) (ws : List (Worker sli Queues)) (i j : ℕ) (a : Worker sli Queues) → IsQueueYard ws → slice_get ws i ≡ Some a → (HasQueueEnd a j ↔ IsOther (length ws) i j) }
 
     // What each call's clause `yard` says of a worker keeps the yard whole.
     ensures kept { (sli : ℕ) (ws : List (Worker sli Queues)) (i : ℕ) (a v : Worker sli Queues) → IsQueueYard ws → slice_get ws i ≡ Some a → KeepsQueueYards a v → IsQueueYard (slice_set ws i v) }

@@ -8,7 +8,7 @@ ghost use Rattle.tlsf_crew.specs.worker.Sizes.{AreSizes};
 ghost use Rattle.tlsf_crew.specs.model.Opening.{opened_world};
 ghost use Rattle.tlsf_crew.specs.worker.Workers.{heap_of, id_of};
 ghost use Rattle.tlsf_crew.specs.queues.QueueYard.{IsQueueYard, queue_world_of};
-ghost use Rattle.tlsf_crew.specs.queues.QueueOpening.{AreFreshQueues, AreGiven, AreEnds, GaveEnds, HaveSlotsFor};
+ghost use Rattle.tlsf_crew.specs.queues.QueueOpening.{AreFreshQueues, AreGiven, AreUngiven, GaveEnds, HaveSlotsFor};
 
 use crate::queues::queues::{QueueWorker, Queues};
 use crate::worker::opening::{check_sizes, no_ends, open_heap};
@@ -46,13 +46,13 @@ pub fn open_queue_yard<const SLI: u32>(
     ensures never_worn { ¬ (IsErrOf result OpenFault.Worn) }
 {
     check_sizes::<SLI>(n, words, capacity)?;
-    match open_queue_workers(alloc, n, words, capacity) {
+    match open_all_queues(alloc, n, words, capacity) {
         Ok(workers) => Ok(workers),
         Err(_) => Err(OpenFault::NoMemory),
     }
 }
 
-fn open_queue_workers<const SLI: u32>(
+fn open_all_queues<const SLI: u32>(
     alloc: Global,
     n: u32,
     words: u32,
@@ -79,7 +79,7 @@ fn open_without_ends<const SLI: u32>(
     requires level { IsLevel SLI }
     requires sizes { AreSizes SLI n words capacity }
     ensures given { IfOk result (λ r. AreGiven n words capacity n r.0.items) }
-    ensures ends { IfOk result (λ r. AreEnds r.0.items r.1.items × (vec_len r.1 ≡ n)) }
+    ensures ends { IfOk result (λ r. AreUngiven r.0.items r.1.items × (vec_len r.1 ≡ n)) }
 {
     let mut workers = Vec::with_capacity(alloc, n as usize)?;
     let mut ends = Vec::with_capacity(alloc, n as usize)?;
@@ -114,7 +114,7 @@ fn open_queue_worker<const SLI: u32>(
 /// Gives each worker its end to each other queue, the last one first.
 fn give_all<const SLI: u32>(workers: &mut [QueueWorker<SLI>], ends: &mut Vec<Vec<PosterEnd>>)
     requires given { (words : ℕ) × (capacity : ℕ) × AreGiven (length workers.old) words capacity (vec_len ends.old) workers.old }
-    requires ends { AreEnds workers.old ends.old.items × (vec_len ends.old ≤ length workers.old) }
+    requires ends { AreUngiven workers.old ends.old.items × (vec_len ends.old ≤ length workers.old) }
     ensures { (words capacity : ℕ) → AreGiven (length workers.old) words capacity (vec_len ends.old) workers.old
         → AreGiven (length workers.old) words capacity 0 workers.new }
 {

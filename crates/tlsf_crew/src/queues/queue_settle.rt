@@ -1,15 +1,15 @@
 //! Settling of queues: each owner learns all that was put into its queue.
 ghost use Rattle.std.specs.Prelude.{◌≡◌, ◌+◌, ◌++◌, ◌<◌, ◌≤◌, [], length, vec_len, vec_capacity, OnOk, OnErr};
 ghost use Rattle.std.specs.Option.{option_to_list};
-ghost use Rattle.tlsf_post.specs.Mailboxes.{IsWhole, HaveMet};
+ghost use Rattle.tlsf_post.specs.Mailboxes.{IsWhole, AllBeside};
 ghost use Rattle.tlsf_crew.specs.queues.QueueWorkers.{queue_end_to};
 ghost use Rattle.tlsf_crew.specs.queues.QueueYard.{IsQueueYard, queue_world_of};
-ghost use Rattle.tlsf_crew.specs.queues.QueueSettle.{AllKnown, GaveUpEnd, Gathered, QueueSettled, QueuesSettled};
+ghost use Rattle.tlsf_crew.specs.queues.QueueSettle.{AllKnown, GaveUpEnd, Gathered, QueueSettled, EachQueueSettled};
 
 use crate::queues::queue_opening::give_ends;
 use crate::queues::queues::QueueWorker;
 use std::alloc::Global;
-use tlsf_post::{NoMemory, PosterEnd, meet};
+use tlsf_post::{NoMemory, PosterEnd};
 
 /// Takes an end out of its slot, if there is one.
 fn take_end<const SLI: u32>(worker: &mut QueueWorker<SLI>, j: usize) -> Option<PosterEnd>
@@ -35,7 +35,7 @@ fn gather_end<const SLI: u32>(worker: &mut QueueWorker<SLI>, j: usize, posters: 
 }
 
 /// Takes each other worker's end to queue `j`, by rising number.
-fn gather_ends<const SLI: u32>(
+fn gather_all<const SLI: u32>(
     workers: &mut [QueueWorker<SLI>],
     j: usize,
     posters: &mut Vec<PosterEnd>,
@@ -54,17 +54,17 @@ fn gather_ends<const SLI: u32>(
 }
 
 /// Tells the owner all that was put into its queue, with all ends to it at hand.
-fn meet_owner<const SLI: u32>(worker: &mut QueueWorker<SLI>, posters: &mut Vec<PosterEnd>)
+fn owner_beside<const SLI: u32>(worker: &mut QueueWorker<SLI>, posters: &mut Vec<PosterEnd>)
     requires { IsWhole worker.old.ports.own posters.old.items }
-    ensures met { HaveMet worker.old.ports.own posters.old.items worker.new.ports.own posters.new.items }
+    ensures beside { AllBeside worker.old.ports.own posters.old.items worker.new.ports.own posters.new.items }
     ensures same { (worker.new.heap ≡ worker.old.heap) × (worker.new.id ≡ worker.old.id) × (worker.new.ports.posts ≡ worker.old.ports.posts) }
     ensures capacity { vec_capacity posters.new ≡ vec_capacity posters.old }
 {
-    meet(&mut worker.ports.own, posters);
+    worker.ports.own.beside(posters);
 }
 
 /// Tells the owner of queue `j` all that was put into it. `posters` has room for the ends meanwhile.
-fn settle_queue<const SLI: u32>(
+fn settle_one_queue<const SLI: u32>(
     workers: &mut [QueueWorker<SLI>],
     j: usize,
     posters: &mut Vec<PosterEnd>,
@@ -76,8 +76,8 @@ fn settle_queue<const SLI: u32>(
     ensures capacity { vec_capacity posters.new ≡ vec_capacity posters.old }
 {
     posters.clear();
-    gather_ends(workers, j, posters);
-    meet_owner(&mut workers[j], posters);
+    gather_all(workers, j, posters);
+    owner_beside(&mut workers[j], posters);
     let k = workers.len();
     give_ends(workers, j, k, posters);
 }
@@ -89,11 +89,11 @@ pub(crate) fn settle_each_queue<const SLI: u32>(
 )
     requires yard { IsQueueYard workers.old }
     requires room { length workers.old ≤ vec_capacity posters.old }
-    ensures settled { QueuesSettled workers.old (length workers.old) workers.new }
+    ensures settled { EachQueueSettled workers.old (length workers.old) workers.new }
     ensures capacity { vec_capacity posters.new ≡ vec_capacity posters.old }
 {
     for j in 0..workers.len() {
-        settle_queue(workers, j, posters);
+        settle_one_queue(workers, j, posters);
     }
 }
 

@@ -3,7 +3,7 @@ ghost use Rattle.std.specs.Prelude.{◌≡◌, ◌≢◌, ◌+◌, ◌*◌, ◌�
 ghost use Rattle.tlsf_heap.specs.declared.refusal.Refusal.TheVariants.{Foreign};
 ghost use Rattle.tlsf_crew.specs.worker.Workers.{heap_of, touches_of, id_of};
 ghost use Rattle.tlsf_crew.specs.worker.Calls.{PostedThere, ReleasedHere, ReleasedThere};
-ghost use Rattle.tlsf_crew.specs.queues.QueueWorkers.{HasQueueEnd, KeepsQueueYards, ReachesQueue, PutsIntoQueue, TakesFromQueue};
+ghost use Rattle.tlsf_crew.specs.queues.QueueWorkers.{HasQueueEnd, KeepsQueueYards, ReachesQueue, PutsIntoQueue, AsksQueue};
 ghost use Rattle.tlsf_crew.specs.queues.QueueCalls.{TakenFromQueue, DrainedQueue};
 ghost use Rattle.tlsf_crew.specs.queues.QueueNotes.{StopsAtQueue};
 
@@ -61,7 +61,7 @@ impl Ports for Queues {
 impl<R: Wait> Exchange<R> for Queues {
     ghost puts = { PutsIntoQueue };
 
-    ghost takes = { TakesFromQueue };
+    ghost takes = { AsksQueue };
 
     ghost stops = { StopsAtQueue };
 

@@ -5,12 +5,12 @@ ghost use Rattle.tlsf_crew.specs.races.QueueRace.{IsQueueRace};
 ghost use Rattle.tlsf_crew.specs.queues.QueueWorkers.{KnowsQueueYard, queue_end_to};
 ghost use Rattle.tlsf_crew.specs.scripts.QueueMoves.{QueueStepped};
 ghost use Rattle.tlsf_crew.specs.model.Sums.{sum_of};
-ghost use Rattle.tlsf_crew.specs.scripts.Journals.{HasRoom};
+ghost use Rattle.tlsf_crew.specs.scripts.Journals.{HasTakePlaces};
 ghost use Rattle.tlsf_heap.specs.declared.name.Name.{Name};
 ghost use Rattle.tlsf_calls.specs.declared.call.Call.TheVariants.{Drain};
 ghost use Rattle.tlsf_crew.specs.races.LaneTasks.{KeepRooms};
 ghost use Rattle.tlsf_crew.specs.races.Rooms.{HaveQueueRecordRooms};
-ghost use Rattle.tlsf_crew.specs.races.QueueTasks.{DrainedLast, Finished, HasPlace, HaveQueuesRun, KnowsSomeYard, QueuesDrained};
+ghost use Rattle.tlsf_crew.specs.races.QueueTasks.{QueueLastDrained, Finished, HasPlace, EachQueueWorkerRan, KnowsSomeYard, EachQueueLastDrained};
 
 use crate::jobs::fan_out::{run_all, take_apart};
 use crate::jobs::gate::Gate;
@@ -20,9 +20,9 @@ use crate::queues::queue_settle::settle_each_queue;
 use crate::queues::queues::{QueueWorker, Queues};
 use crate::scripts::journal::Journal;
 use crate::worker::worker::drain_source;
-use std::mem;
 use std::alloc::Global;
 use std::marker::Sync;
+use std::mem;
 use std::sync::Wait;
 use std::thread::Threads;
 use tlsf_calls::{Call, Entry, MOST_DRAINED, Reply};
@@ -91,7 +91,7 @@ fn run_scripts<const SLI: u32, R: Threads + Wait + Sync, G: Gate>(
     requires yard { IsQueueYard workers.items }
     requires count { vec_len scripts ≡ vec_len workers }
     requires short { All (λ s. vec_len s < 2 ^ 32) scripts.items }
-    ensures run { IfOk result (λ o. HaveQueuesRun workers.entry.items (map (λ s. s.items) scripts.items) (map (λ r. r.items) o.records.items) o.workers.items) }
+    ensures run { IfOk result (λ o. EachQueueWorkerRan workers.entry.items (map (λ s. s.items) scripts.items) (map (λ r. r.items) o.records.items) o.workers.items) }
     ensures places { IfOk result (λ o. All HasPlace o.records.items) }
     ensures rooms { IfOk result (λ o. HaveQueueRecordRooms (map (λ s. s.items) scripts.items) o.records.items) }
 {
@@ -134,16 +134,16 @@ fn drain_all<const SLI: u32, R: Wait>(
     requires count { length records.old ≡ length workers.old }
     requires places { All HasPlace records.old }
     ensures rooms { KeepRooms records.old records.new }
-    ensures drained { QueuesDrained workers.old (map (λ r. r.items) records.old) (map (λ r. r.items) records.new) workers.new (length workers.old) }
+    ensures drained { EachQueueLastDrained workers.old (map (λ r. r.items) records.old) (map (λ r. r.items) records.new) workers.new (length workers.old) }
 {
     for j in 0..workers.len() {
-        drain_last(rt, alloc, &mut workers[j], &mut records[j]);
+        drain_one(rt, alloc, &mut workers[j], &mut records[j]);
     }
 }
 
 /// Takes all that waits for a worker. Nobody posts any more, and there is room for an entry of each post: so the queue is
 /// empty at the end, and the drain doesn't wait for long.
-fn drain_last<const SLI: u32, R: Wait>(
+fn drain_one<const SLI: u32, R: Wait>(
     rt: &R,
     alloc: Global,
     worker: &mut QueueWorker<SLI>,
@@ -151,7 +151,7 @@ fn drain_last<const SLI: u32, R: Wait>(
 )
     requires yard { KnowsSomeYard worker.old }
     requires place { HasPlace entries.old }
-    ensures drained { (n : ℕ) → KnowsQueueYard n worker.old → DrainedLast n worker.old worker.new entries.old.items entries.new.items }
+    ensures drained { (n : ℕ) → KnowsQueueYard n worker.old → QueueLastDrained n worker.old worker.new entries.old.items entries.new.items }
     ensures capacity { vec_capacity entries.new ≡ vec_capacity entries.old }
 {
     let mut journal = Journal {
@@ -174,7 +174,7 @@ fn drain_into_queue_journal<const SLI: u32, R: Wait>(
     journal: &mut Journal,
     most: u32,
 ) -> u32
-    requires room { HasRoom journal.old }
+    requires room { HasTakePlaces journal.old }
     ensures stepped { (n : ℕ) (made : List (Option Name)) → KnowsQueueYard n worker.old
         → QueueStepped n worker.old journal.old.limits (Drain most) made journal.old.entries.items worker.new journal.new.limits journal.new.entries.items (Reply.Drained result) }
     ensures few { result ≤ sum_of journal.old.limits }

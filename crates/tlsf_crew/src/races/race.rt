@@ -7,7 +7,7 @@ ghost use Rattle.tlsf_crew.specs.replays.ReplaySteps.{replay_of};
 ghost use Rattle.tlsf_crew.specs.scripts.Scripts.{last_call};
 ghost use Rattle.tlsf_crew.specs.races.Race.{IsRace};
 ghost use Rattle.tlsf_crew.specs.races.Rooms.{HaveRecordRooms};
-ghost use Rattle.tlsf_crew.specs.races.LaneTasks.{HaveRun, HaveRooms, KeepRooms, HasFew, HasLastRoom, HaveLastRooms, LastDrained};
+ghost use Rattle.tlsf_crew.specs.races.LaneTasks.{EachLaneWorkerRan, HaveRooms, KeepRooms, HasFew, HasLastRoom, EachHasLastRoom, EachLastDrained};
 
 use crate::jobs::fan_out::{run_all, take_apart};
 use crate::jobs::gate::Gate;
@@ -18,9 +18,9 @@ use crate::replays::replay::reply_in_yard;
 use crate::scripts::journal::Journal;
 use crate::worker::lanes::Lanes;
 use crate::worker::worker::Worker;
-use std::mem;
 use std::alloc::Global;
 use std::marker::Sync;
+use std::mem;
 use std::sync::Wait;
 use std::thread::Threads;
 use tlsf_calls::{Call, Entry, Event, MOST_DRAINED};
@@ -68,7 +68,7 @@ pub fn race<const SLI: u32, R: Threads + Wait + Sync, G: Gate>(
     settle(&mut workers);
     let mut outcome = run_scripts(rt, alloc, workers, scripts, gate)?;
     settle(&mut outcome.workers);
-    drain_last(alloc, &mut outcome.workers, &mut outcome.records);
+    drain_all(alloc, &mut outcome.workers, &mut outcome.records);
     Ok(outcome)
 }
 
@@ -83,7 +83,7 @@ fn run_scripts<const SLI: u32, R: Threads + Wait + Sync, G: Gate>(
     requires yard { IsYard workers.items }
     requires count { vec_len scripts ≡ vec_len workers }
     requires short { All (λ s. vec_len s < 2 ^ 32) scripts.items }
-    ensures run { IfOk result (λ o. HaveRun workers.entry.items (map (λ s. s.items) scripts.items) (map (λ r. r.items) o.records.items) o.workers.items) }
+    ensures run { IfOk result (λ o. EachLaneWorkerRan workers.entry.items (map (λ s. s.items) scripts.items) (map (λ r. r.items) o.records.items) o.workers.items) }
     ensures rooms { IfOk result (λ o. HaveRooms workers.entry.items (map (λ s. s.items) scripts.items) o.records.items) }
 {
     let releases = count_all(&scripts);
@@ -95,16 +95,12 @@ fn run_scripts<const SLI: u32, R: Threads + Wait + Sync, G: Gate>(
 }
 
 /// Drains each worker, in rising number.
-fn drain_last<const SLI: u32>(
-    alloc: Global,
-    workers: &mut [Worker<SLI>],
-    records: &mut [Vec<Entry>],
-)
+fn drain_all<const SLI: u32>(alloc: Global, workers: &mut [Worker<SLI>], records: &mut [Vec<Entry>])
     requires yard { IsYard workers.old }
     requires count { length records.old ≡ length workers.old }
     requires few { (j : ℕ) → HasFew workers.old j }
-    requires room { HaveLastRooms workers.old records.old }
-    ensures drained { LastDrained workers.old (map (λ r. r.items) records.old) (map (λ r. r.items) records.new) workers.new (length workers.old) }
+    requires room { EachHasLastRoom workers.old records.old }
+    ensures drained { EachLastDrained workers.old (map (λ r. r.items) records.old) (map (λ r. r.items) records.new) workers.new (length workers.old) }
     ensures rooms { KeepRooms records.old records.new }
 {
     for j in 0..workers.len() {

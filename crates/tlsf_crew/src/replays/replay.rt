@@ -1,12 +1,12 @@
 //! Events, one after another.
 ghost use Rattle.std.specs.Prelude.{◌≡◌, ◌≢◌, ℕ, ◌+◌, ◌*◌, ◌<◌, ◌≤◌, length, Some, vec_len, vec_capacity, IfOk, OnOk, OnErr};
 ghost use Rattle.tlsf_heap.specs.declared.name.Name.{Name};
-ghost use Rattle.tlsf_crew.specs.model.Sums.{sum_below, waiting_in};
+ghost use Rattle.tlsf_crew.specs.model.Sums.{sum_below, waiting_count};
 ghost use Rattle.tlsf_crew.specs.scripts.Counts.{releases_in, entry_room};
 ghost use Rattle.tlsf_crew.specs.lanes.Yard.{IsYard, waits_in, world_of};
 ghost use Rattle.tlsf_crew.specs.model.World.{after, replies, replies_behind};
 ghost use Rattle.tlsf_crew.specs.fair_runs.FairRuns.{IsFairRun, NoneStale, WaitLive};
-ghost use Rattle.tlsf_crew.specs.lanes.Settle.{MetIn};
+ghost use Rattle.tlsf_crew.specs.lanes.Settle.{LaneSettled};
 ghost use Rattle.tlsf_crew.specs.replays.ReplaySteps.{replay_of, Concerns, AreLimits, IsReplied};
 
 use crate::lanes::pairs::settle_lane;
@@ -24,7 +24,7 @@ use tlsf_post::NoMemory;
 /// Settles the lane between two workers, where there is one.
 fn settle_between<const SLI: u32>(workers: &mut [Worker<SLI>], i: usize, j: usize)
     requires yard { IsYard workers.old }
-    ensures met { i < length workers.old → j < length workers.old → i ≢ j → MetIn workers.old workers.new i j }
+    ensures settled { i < length workers.old → j < length workers.old → i ≢ j → LaneSettled workers.old workers.new i j }
     ensures yard { IsYard workers.new }
     ensures count { length workers.new ≡ length workers.old }
     ensures world { world_of workers.new ≡ world_of workers.old }
@@ -37,7 +37,7 @@ fn settle_between<const SLI: u32>(workers: &mut [Worker<SLI>], i: usize, j: usiz
 /// Settles the lane from a worker to that of a name's heap, where there is one.
 fn settle_named<const SLI: u32>(workers: &mut [Worker<SLI>], at: usize, name: Option<Name>)
     requires yard { IsYard workers.old }
-    ensures met { (k : Name) → name ≡ Some k → at < length workers.old → k.heap < length workers.old → at ≢ k.heap → MetIn workers.old workers.new at k.heap }
+    ensures settled { (k : Name) → name ≡ Some k → at < length workers.old → k.heap < length workers.old → at ≢ k.heap → LaneSettled workers.old workers.new at k.heap }
     ensures yard { IsYard workers.new }
     ensures count { length workers.new ≡ length workers.old }
     ensures world { world_of workers.new ≡ world_of workers.old }
@@ -58,7 +58,7 @@ fn settle_for<const SLI: u32>(
 ) -> [u64; 8]
     requires yard { IsYard workers.old }
     requires inside { event.worker < length workers.old }
-    ensures met { (i j : ℕ) → i < length workers.old → j < length workers.old → i ≢ j → Concerns made.now event i j → MetIn workers.old workers.new i j }
+    ensures settled { (i j : ℕ) → i < length workers.old → j < length workers.old → i ≢ j → Concerns made.now event i j → LaneSettled workers.old workers.new i j }
     ensures yard { IsYard workers.new }
     ensures count { length workers.new ≡ length workers.old }
     ensures world { world_of workers.new ≡ world_of workers.old }
@@ -197,7 +197,7 @@ fn replay_within<const SLI: u32>(
     room: usize,
 ) -> Result<Vec<Entry>, NoMemory>
     requires yard { IsYard workers.old }
-    requires room { length events.now + releases_in events.now + waiting_in (world_of workers.old) ≤ room }
+    requires room { length events.now + releases_in events.now + waiting_count (world_of workers.old) ≤ room }
     ensures yard { IsYard workers.new }
     ensures replies { IfOk result (λ es. replay_of made.new.items es.items workers.new ≡ replies_behind (world_of workers.old) made.old.items events.now) }
     ensures refused { OnErr result ((world_of workers.new ≡ world_of workers.old) × (made.new.items ≡ made.old.items)) }

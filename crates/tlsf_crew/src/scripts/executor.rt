@@ -5,11 +5,13 @@ ghost use Rattle.tlsf_calls.specs.declared.call.Call.TheVariants.{Release, Take}
 ghost use Rattle.tlsf_calls.specs.declared.entry.Entry.{Entry};
 ghost use Rattle.tlsf_crew.specs.model.World.{made_by};
 ghost use Rattle.tlsf_crew.specs.model.Sums.{sum_of};
-ghost use Rattle.tlsf_crew.specs.scripts.Journals.{HasRoom};
-ghost use Rattle.tlsf_crew.specs.scripts.Scripts.{Called};
+ghost use Rattle.tlsf_crew.specs.scripts.Journals.{HasTakePlaces};
+ghost use Rattle.tlsf_crew.specs.scripts.Scripts.{CallMade};
 
 use crate::scripts::journal::Journal;
-use crate::scripts::own_replies::{named, reply_to_own_allocate, reply_to_own_read, reply_to_own_resize, reply_to_own_write};
+use crate::scripts::own_replies::{
+    named, reply_to_own_allocate, reply_to_own_read, reply_to_own_resize, reply_to_own_write,
+};
 use crate::scripts::scripted::Scripted;
 use crate::worker::notes::Notes;
 use crate::worker::ports::Ports;
@@ -115,7 +117,7 @@ pub(crate) fn reply_to<const SLI: u32, C, P: Scripted<C>>(
     call: Call,
     made: &[Option<Name>],
 ) -> Reply
-    requires room { HasRoom journal.old }
+    requires room { HasTakePlaces journal.old }
     ensures stepped { (n : ℕ) → P.knows SLI n worker.old
         → P.steps SLI n worker.old journal.old.limits call made.now journal.old.entries.items worker.new journal.new.limits journal.new.entries.items result }
     ensures capacity { vec_capacity journal.new.entries ≡ vec_capacity journal.old.entries }
@@ -145,7 +147,7 @@ pub(crate) fn run_call<const SLI: u32, C, P: Scripted<C>>(
     requires names { vec_len made.old < vec_capacity made.old }
     requires room { vec_len journal.old.entries + sum_of journal.old.limits < vec_capacity journal.old.entries }
     ensures called { (n : ℕ) → P.knows SLI n worker.old
-        → Called (P.tells SLI n) (P.moves SLI) worker.old journal.old.limits call made.old.items journal.old.entries.items worker.new journal.new.limits made.new.items journal.new.entries.items }
+        → CallMade (P.tells SLI n) (P.moves SLI) worker.old journal.old.limits call made.old.items journal.old.entries.items worker.new journal.new.limits made.new.items journal.new.entries.items }
     ensures capacity { (vec_capacity made.new ≡ vec_capacity made.old) × (vec_capacity journal.new.entries ≡ vec_capacity journal.old.entries) }
 {
     P::moves_join();

@@ -1,6 +1,6 @@
 //! The record of a worker, while it is written.
 ghost use Rattle.std.specs.Prelude.{◌≡◌, ◌<◌, [], vec_capacity, IfOk};
-ghost use Rattle.tlsf_crew.specs.scripts.Journals.{IsAdmitted, HasRoom, IsEntered, named_by};
+ghost use Rattle.tlsf_crew.specs.scripts.Journals.{IsAdmitted, HasTakePlaces, IsEntered, named_by};
 
 use crate::worker::notes::Notes;
 use std::alloc::Global;
@@ -32,7 +32,7 @@ impl Journal {
 impl Notes for Journal {
     ghost admitted = { λ journal source. IsAdmitted journal source };
 
-    ghost has_room = { λ journal. HasRoom journal };
+    ghost has_room = { λ journal. HasTakePlaces journal };
 
     ghost most = { λ journal. vec_capacity journal.entries };
 

@@ -1,7 +1,7 @@
 //! What the calls of a script tell over lanes.
 ghost use Rattle.std.specs.Prelude.{◌+◌};
 ghost use Rattle.tlsf_crew.specs.lanes.LaneWorkers.{KnowsYard};
-ghost use Rattle.tlsf_crew.specs.scripts.Moves.{Moved, Stepped};
+ghost use Rattle.tlsf_crew.specs.scripts.LaneMoves.{LaneMoved, LaneStepped};
 ghost use Rattle.tlsf_crew.specs.scripts.Counts.{AreLaneLimits};
 ghost use Rattle.tlsf_crew.specs.model.Told.{MayTell};
 
@@ -14,9 +14,9 @@ impl<C> Scripted<C> for Lanes {
 
     ghost tells = { MayTell };
 
-    ghost moves = { λ sli at made a limits calls entries v left. Moved at made a limits calls entries v left };
+    ghost moves = { λ sli at made a limits calls entries v left. LaneMoved at made a limits calls entries v left };
 
-    ghost steps = { λ sli n a limits call made entries v left longer reply. Stepped n a limits call made entries v left longer reply };
+    ghost steps = { λ sli n a limits call made entries v left longer reply. LaneStepped n a limits call made entries v left longer reply };
 
     ghost limited = { AreLaneLimits };
 

@@ -15,11 +15,11 @@ pub(crate) fn room_for<const SLI: u32>(workers: &[Worker<SLI>], events: &[Event]
     requires { length workers.now ≤ 8 }
     ensures { result ≡ length events.now + releases_in events.now + ready_in workers.now }
 {
-    events.len() + count_releases(events) + count_ready(workers)
+    events.len() + releases_in(events) + count_ready(workers)
 }
 
 /// How many of the events are releases.
-fn count_releases(events: &[Event]) -> usize
+fn releases_in(events: &[Event]) -> usize
     ensures { result ≡ releases_in events.now }
 {
     events

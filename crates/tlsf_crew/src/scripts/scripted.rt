@@ -19,7 +19,7 @@ ghost use Rattle.tlsf_crew.specs.declared.scripts.journal.Journal.{Journal};
 ghost use Rattle.tlsf_crew.specs.worker.Notes.{AllNoted};
 ghost use Rattle.tlsf_crew.specs.scripts.Journals.{IsAdmitted, IsEntered, named_by};
 ghost use Rattle.tlsf_crew.specs.model.OwnReplies.{own_allocating, own_writing, own_reading, own_resizing};
-ghost use Rattle.tlsf_crew.specs.scripts.Scripts.{reply_took, AreMoves, IsRelease, Step, TakenWithin, reply_released};
+ghost use Rattle.tlsf_crew.specs.scripts.Scripts.{reply_took, AreMoves, ReleasedAnywhere, Step, TakenWithin, reply_released};
 ghost use Rattle.tlsf_crew.specs.model.Told.{Told};
 ghost use Rattle.tlsf_crew.specs.worker.Workers.{heap_of, SameButHeap};
 ghost use Rattle.tlsf_crew.specs.model.World.{name_of};
@@ -78,7 +78,7 @@ pub(crate) trait Scripted<C>: Exchange<C> {
         ensures unmade { (sli n : ℕ) (a : Worker sli Self) (limits : List ℕ) (target : Target) (made : List (Option Name)) (entries : List Entry) → knows sli n a → name_of made target ≡ None
             → steps sli n a limits (Release target) made entries a limits entries (Refused Unmade) }
         ensures named { (sli n : ℕ) (a v : Worker sli Self) (limits : List ℕ) (target : Target) (name : Name) (made : List (Option Name)) (entries : List Entry) (answer : Result Released CrewRefusal) → knows sli n a
-            → name_of made target ≡ Some name → IsRelease Self.reaches Self.puts a v name answer → steps sli n a limits (Release target) made entries v limits entries (reply_released answer) };
+            → name_of made target ≡ Some name → ReleasedAnywhere Self.reaches Self.puts a v name answer → steps sli n a limits (Release target) made entries v limits entries (reply_released answer) };
 
     /// What a take answers is a step: it is refused where no source is that worker's.
     fn takes_step()

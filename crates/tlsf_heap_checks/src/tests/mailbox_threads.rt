@@ -64,7 +64,7 @@ fn take_all<R: Wait>(rt: &R, mut end: OwnerEnd) -> Came {
 }
 
 /// Two posters put in threads of their own what this one takes. The mailbox holds two posts, so each place is used again
-/// and again, and the ends never meet.
+/// and again, and the ends never come side by side.
 fn pass_all<R: Threads + Wait + Sync>(
     rt: &R,
     owner_end: OwnerEnd,

@@ -3,7 +3,7 @@ use std::sync::Wait;
 use std::test::Fail;
 use tlsf_fixtures::{name, same};
 use tlsf_heap::Name;
-use tlsf_post::{OwnerEnd, Post, PosterEnd, mailbox, meet};
+use tlsf_post::{OwnerEnd, Post, PosterEnd, mailbox};
 
 /// The name of the block of heap 1 with a serial.
 pub fn block(serial: u64) -> Name {
@@ -90,9 +90,9 @@ fn posters_share_a_mailbox(rt: HostRuntime) -> Result<(), Fail> {
     Ok(())
 }
 
-// Each end goes on with its number behind a meeting.
+// Each end goes on with its number once all ends were side by side.
 #[test]
-fn ends_go_on_after_a_meeting(rt: HostRuntime) -> Result<(), Fail> {
+fn ends_go_on_once_side_by_side(rt: HostRuntime) -> Result<(), Fail> {
     let rows = [
         (Ask::Put(1, 5), Answer::Done),
         (Ask::Put(0, 6), Answer::Done),
@@ -105,7 +105,7 @@ fn ends_go_on_after_a_meeting(rt: HostRuntime) -> Result<(), Fail> {
         (Ask::Take, Answer::Nothing),
     ];
     let (mut owner_end, mut posters) = mailbox(rt.alloc(), 1, 3, 3)?;
-    meet(&mut owner_end, &mut posters);
+    owner_end.beside(&mut posters);
     check_ends(&rt, &mut owner_end, &mut posters, &rows);
     Ok(())
 }
@@ -140,7 +140,7 @@ fn mailbox_holds_its_capacity(rt: HostRuntime) -> Result<(), Fail> {
 #[test]
 fn mailbox_of_one_has_no_posters(rt: HostRuntime) -> Result<(), Fail> {
     let (mut owner_end, mut posters) = mailbox(rt.alloc(), 0, 1, 1)?;
-    meet(&mut owner_end, &mut posters);
+    owner_end.beside(&mut posters);
     owner_end.wait_empty(&rt);
     let found = (posters.len(), owner_end.is_empty(), owner_end.take(&rt));
     same(found, (0, true, None)).expect(&rt, "differ");

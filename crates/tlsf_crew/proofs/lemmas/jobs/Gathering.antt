@@ -17,7 +17,7 @@ use Rattle.tlsf_crew.specs.scripts.Scripts.{script_of}
 use Rattle.tlsf_calls.specs.Entries.{record_of}
 use Rattle.tlsf_crew.specs.jobs.Job.{IsDone}
 use Rattle.tlsf_crew.specs.model.Told.{Told}
-use Rattle.tlsf_crew.specs.jobs.Parts.{AllDone, IsPrepared, RanScript, ScriptsRan}
+use Rattle.tlsf_crew.specs.jobs.Parts.{AllDone, IsPrepared, JobRan, EachJobRan}
 use Rattle.tlsf_crew.proofs.lemmas.worker.Slots.{some_same}
 
 -- one job more, behind the others
@@ -69,7 +69,7 @@ made_at {sli} {P} ds k d e = get_or_from_slice_get (map (λ (x : Done sli P). x.
 abbrev RanTo : {sli : ℕ} {P : Type 0} (limited : P → List ℕ → List ℕ → Type 0) (knows : ℕ → Worker sli P → Type 0) (tells : ℕ → ℕ → Told → Call → Told → Type 0) (moves : ℕ → List (Option Name) → Worker sli P → List ℕ → List Call → List Entry → Worker sli P → List ℕ → Type 0) → List ℕ → List (Job sli P) → List (Done sli P) → ℕ → Worker sli P → Type 0
 RanTo {sli} {P} limited knows tells moves releases js ds k a =
     (v : Worker sli P) × (r : Vec Entry Global) × (slice_get (map (λ d. d.worker) ds) k ≡ Some v) × (slice_get (map (λ d. d.entries) ds) k ≡ Some r)
-    × RanScript limited knows tells moves releases a (script_of (scripts_in js) k) (names_made_by ds k) r v
+    × JobRan limited knows tells moves releases a (script_of (scripts_in js) k) (names_made_by ds k) r v
 
 job_ran : {sli : ℕ} {P : Type 0} (limited : P → List ℕ → List ℕ → Type 0) (knows : ℕ → Worker sli P → Type 0) (tells : ℕ → ℕ → Told → Call → Told → Type 0) (moves : ℕ → List (Option Name) → Worker sli P → List ℕ → List Call → List Entry → Worker sli P → List ℕ → Type 0) (releases : List ℕ) (js : List (Job sli P)) (ds : List (Done sli P)) → AllDone (IsDone knows tells moves) js ds → All (IsPrepared limited knows releases) js → (k : ℕ) (j : Job sli P) → slice_get js k ≡ Some j
     → RanTo limited knows tells moves releases js ds k j.worker
@@ -101,12 +101,12 @@ done_ran {sli} {P} limited knows tells moves releases js ds done all k a e =
 pub gathered : {sli : ℕ} {P : Type 0} (limited : P → List ℕ → List ℕ → Type 0) (knows : ℕ → Worker sli P → Type 0) (tells : ℕ → ℕ → Told → Call → Told → Type 0) (moves : ℕ → List (Option Name) → Worker sli P → List ℕ → List Call → List Entry → Worker sli P → List ℕ → Type 0) (releases : List ℕ) (js : List (Job sli P)) (ds : List (Done sli P)) (ws : List (Worker sli P)) (scripts : List (Vec Call Global)) (records : List (Vec Entry Global)) (vs : List (Worker sli P))
     → map (λ j. j.worker) js ≡ ws → map (λ j. j.script) js ≡ scripts → vs ≡ map (λ d. d.worker) ds → records ≡ map (λ d. d.entries) ds
     → ((i : ℕ) → i < 8 → slice_index releases i ≡ releases_of (script_of (map (λ s. s.items) scripts) i)) → All (IsPrepared limited knows releases) js → AllDone (IsDone knows tells moves) js ds
-    → ScriptsRan limited knows tells moves ws (map (λ s. s.items) scripts) records vs
+    → EachJobRan limited knows tells moves ws (map (λ s. s.items) scripts) records vs
 gathered {sli} {P} limited knows tells moves releases js ds ws scripts records vs a b c d counts all done =
     let n = done_count (IsDone knows tells moves) js ds done in
     let count : length (map (λ (e : Done sli P). e.worker) ds) ≡ length (map (λ (j : Job sli P). j.worker) js) = length-map ds (λ e. e.worker) ∙ (n ∙ sym (length-map js (λ j. j.worker))) in
     let told : length (map (λ (e : Done sli P). e.entries) ds) ≡ length (map (λ (j : Job sli P). j.worker) js) = length-map ds (λ e. e.entries) ∙ (n ∙ sym (length-map js (λ j. j.worker))) in
-    let run : ScriptsRan limited knows tells moves (map (λ (j : Job sli P). j.worker) js) (scripts_in js) (map (λ (e : Done sli P). e.entries) ds) (map (λ (e : Done sli P). e.worker) ds) = record {
+    let run : EachJobRan limited knows tells moves (map (λ (j : Job sli P). j.worker) js) (scripts_in js) (map (λ (e : Done sli P). e.entries) ds) (map (λ (e : Done sli P). e.worker) ds) = record {
       releases = releases;
       counts = rw b counts;
       made = names_made_by ds;

@@ -1,29 +1,29 @@
--- Where the lanes of a column, and then the columns, were settled one after another, all lanes were.
+-- Where the lanes of a column, and then the columns, were step_change one after another, all lanes were.
 use Rattle.std.proofs.Common.{◌≡◌, ◌≢◌, ℕ, ◌+◌, ◌<◌, ◌≤◌, List, length, sym, ◌∙◌, arith, refl, inl, inr}
 use Rattle.std.proofs.lemmas.Bool.{cases_eq}
 use Rattle.tlsf_crew.specs.declared.worker.worker.Worker.{Worker}
 use Rattle.tlsf_crew.specs.declared.worker.lanes.Lanes.{Lanes}
-use Rattle.tlsf_crew.specs.lanes.Settle.{MetIn}
-use Rattle.tlsf_crew.specs.lanes.LaneSteps.{LaneStep, SameLane, ColumnMet, EachColumnMet}
-use Rattle.tlsf_crew.proofs.lemmas.lanes.LaneSlots.{settled, step_same, same_then}
+use Rattle.tlsf_crew.specs.lanes.Settle.{LaneSettled}
+use Rattle.tlsf_crew.specs.lanes.LaneSteps.{OnlyLaneSettled, SameLane, ColumnSettled, EachColumnSettled}
+use Rattle.tlsf_crew.proofs.lemmas.lanes.LaneSlots.{step_change, step_same, same_then}
 
-pub step_meets : {sli : ℕ} (ws vs : List (Worker sli Lanes)) (i j : ℕ) → i ≢ j → LaneStep ws i j vs → MetIn ws vs i j
-step_meets ws vs i j ne s =
-    let c = settled ws vs i j ne s in
+pub step_settled : {sli : ℕ} (ws vs : List (Worker sli Lanes)) (i j : ℕ) → i ≢ j → OnlyLaneSettled ws i j vs → LaneSettled ws vs i j
+step_settled ws vs i j ne s =
+    let c = step_change ws vs i j ne s in
     record {
-      post = s.met.post;
-      take = s.met.take;
-      new_post = s.met.new_post;
-      new_take = s.met.new_take;
+      post = s.settled.post;
+      take = s.settled.take;
+      new_post = s.settled.new_post;
+      new_take = s.settled.new_take;
       post_is = c.post_is;
       take_is = c.take_is;
       new_post_is = c.new_post_is;
       new_take_is = c.new_take_is;
-      meets = s.met.meets;
+      beside = s.settled.beside;
     }
 
-met_then : {sli : ℕ} (ws vs us : List (Worker sli Lanes)) (i j : ℕ) → MetIn ws vs i j → SameLane vs us i j → MetIn ws us i j
-met_then ws vs us i j m s = record {
+settled_then : {sli : ℕ} (ws vs us : List (Worker sli Lanes)) (i j : ℕ) → LaneSettled ws vs i j → SameLane vs us i j → LaneSettled ws us i j
+settled_then ws vs us i j m s = record {
   post = m.post;
   take = m.take;
   new_post = m.new_post;
@@ -32,11 +32,11 @@ met_then ws vs us i j m s = record {
   take_is = m.take_is;
   new_post_is = s.0 ∙ m.new_post_is;
   new_take_is = s.1 ∙ m.new_take_is;
-  meets = m.meets;
+  beside = m.beside;
 }
 
-then_met : {sli : ℕ} (ws vs us : List (Worker sli Lanes)) (i j : ℕ) → SameLane ws vs i j → MetIn vs us i j → MetIn ws us i j
-then_met ws vs us i j s m = record {
+then_settled : {sli : ℕ} (ws vs us : List (Worker sli Lanes)) (i j : ℕ) → SameLane ws vs i j → LaneSettled vs us i j → LaneSettled ws us i j
+then_settled ws vs us i j s m = record {
   post = m.post;
   take = m.take;
   new_post = m.new_post;
@@ -45,30 +45,30 @@ then_met ws vs us i j s m = record {
   take_is = sym s.1 ∙ m.take_is;
   new_post_is = m.new_post_is;
   new_take_is = m.new_take_is;
-  meets = m.meets;
+  beside = m.beside;
 }
 
 -- ---- the lanes to one worker
 
-pub column_first : {sli : ℕ} (ws : List (Worker sli Lanes)) (j : ℕ) → ColumnMet ws ws 0 j
+pub column_first : {sli : ℕ} (ws : List (Worker sli Lanes)) (j : ℕ) → ColumnSettled ws ws 0 j
 column_first ws j = record { len = refl; done = λ x lt ne. absurd (omega arith); same = λ x y low. (refl, refl) }
 
 -- one lane more
-pub column_step : {sli : ℕ} (ws vs us : List (Worker sli Lanes)) (i j : ℕ) → ColumnMet ws vs i j → i ≢ j → LaneStep vs i j us → ColumnMet ws us (i + 1) j
+pub column_step : {sli : ℕ} (ws vs us : List (Worker sli Lanes)) (i j : ℕ) → ColumnSettled ws vs i j → i ≢ j → OnlyLaneSettled vs i j us → ColumnSettled ws us (i + 1) j
 column_step ws vs us i j r ne s =
     record {
-      len = (settled vs us i j ne s).len ∙ r.len;
+      len = (step_change vs us i j ne s).len ∙ r.len;
       done = λ x lt apart.
           elim (cases_eq x i) [
-            | inl e ↦ rw e (then_met ws vs us i j (r.same i j (λ _. omega arith)) (step_meets vs us i j ne s))
-            | inr n ↦ met_then ws vs us x j (r.done x (omega arith) apart) (step_same vs us i j x j ne s (λ e _. n e))
+            | inl e ↦ rw e (then_settled ws vs us i j (r.same i j (λ _. omega arith)) (step_settled vs us i j ne s))
+            | inr n ↦ settled_then ws vs us x j (r.done x (omega arith) apart) (step_same vs us i j x j ne s (λ e _. n e))
           ];
       same = λ x y low.
           same_then ws vs us x y (r.same x y (λ e. let h : i + 1 ≤ x = low e in omega arith))
           (step_same vs us i j x y ne s (λ e f. let h : i + 1 ≤ x = low f in omega arith));
     }
 
-pub column_skip : {sli : ℕ} (ws vs : List (Worker sli Lanes)) (i j : ℕ) → ColumnMet ws vs i j → i ≡ j → ColumnMet ws vs (i + 1) j
+pub column_skip : {sli : ℕ} (ws vs : List (Worker sli Lanes)) (i j : ℕ) → ColumnSettled ws vs i j → i ≡ j → ColumnSettled ws vs (i + 1) j
 column_skip ws vs i j r e =
     record {
       len = r.len;
@@ -78,19 +78,19 @@ column_skip ws vs i j r e =
 
 -- ---- the lanes to all workers
 
-pub yard_first : {sli : ℕ} (ws : List (Worker sli Lanes)) → EachColumnMet ws ws 0
+pub yard_first : {sli : ℕ} (ws : List (Worker sli Lanes)) → EachColumnSettled ws ws 0
 yard_first ws = record { len = refl; done = λ x y lt _ _. absurd (omega arith); same = λ x y low. (refl, refl) }
 
 -- one column more
-pub yard_step : {sli : ℕ} (ws vs us : List (Worker sli Lanes)) (j : ℕ) → EachColumnMet ws vs j → ColumnMet vs us (length vs) j → EachColumnMet ws us (j + 1)
+pub yard_step : {sli : ℕ} (ws vs us : List (Worker sli Lanes)) (j : ℕ) → EachColumnSettled ws vs j → ColumnSettled vs us (length vs) j → EachColumnSettled ws us (j + 1)
 yard_step ws vs us j a r =
     record {
       len = r.len ∙ a.len;
       done = λ x y lt inside ne.
           elim (cases_eq y j) [
             | inl e ↦ let apart : x ≢ j = λ f. ne (f ∙ sym e) in let m : x < length vs = omega (arith, a.len) in
-                rw e (then_met ws vs us x j (a.same x j (omega arith)) (r.done x m apart))
-            | inr n ↦ met_then ws vs us x y (a.done x y (omega arith) inside ne) (r.same x y (λ e. absurd (n e)))
+                rw e (then_settled ws vs us x j (a.same x j (omega arith)) (r.done x m apart))
+            | inr n ↦ settled_then ws vs us x y (a.done x y (omega arith) inside ne) (r.same x y (λ e. absurd (n e)))
           ];
       same = λ x y low. same_then ws vs us x y (a.same x y (omega arith)) (r.same x y (λ e. absurd (omega arith)));
     }

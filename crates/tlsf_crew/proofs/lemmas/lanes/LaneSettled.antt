@@ -8,7 +8,7 @@ use Rattle.tlsf_crew.specs.declared.worker.lanes.Lanes.{Lanes}
 use Rattle.tlsf_crew.specs.lanes.Yard.{IsYard, post_at, take_at, lane_waits, waits_in, yard_heap, capacity_in, world_of}
 use Rattle.tlsf_post.specs.Lanes.{free_slots, capacity_of, waited}
 use Rattle.tlsf_crew.specs.model.World.{World}
-use Rattle.tlsf_crew.specs.lanes.Settle.{MetIn}
+use Rattle.tlsf_crew.specs.lanes.Settle.{LaneSettled}
 use Rattle.tlsf_crew.proofs.lemmas.worker.Slots.{some_same}
 use Rattle.tlsf_crew.proofs.lemmas.lanes.Across.{waits_after}
 
@@ -27,18 +27,18 @@ none_wait ws i j yard far =
 pub none_for : {sli : ℕ} (ws : List (Worker sli Lanes)) (i j : ℕ) → IsYard ws → length ws ≤ j → waits_in ws i j ≡ []
 none_for ws i j yard far = rw (yard.outside i j far).0 refl
 
-pub met_waits : {sli : ℕ} (ws vs : List (Worker sli Lanes)) (i j : ℕ) → (m : MetIn ws vs i j) → waits_in vs i j ≡ waited m.new_take
-met_waits ws vs i j m = rw (m.new_post_is, m.new_take_is) (waits_after m.post m.take m.new_post m.new_take m.meets)
+pub settled_waits : {sli : ℕ} (ws vs : List (Worker sli Lanes)) (i j : ℕ) → (m : LaneSettled ws vs i j) → waits_in vs i j ≡ waited m.new_take
+settled_waits ws vs i j m = rw (m.new_post_is, m.new_take_is) (waits_after m.post m.take m.new_post m.new_take m.beside)
 
 -- its free slots and what waits are its capacity
-pub met_room : {sli : ℕ} (ws vs : List (Worker sli Lanes)) (i j : ℕ) → i < length vs → j < length vs → i ≢ j → IsYard vs → (m : MetIn ws vs i j)
+pub settled_room : {sli : ℕ} (ws vs : List (Worker sli Lanes)) (i j : ℕ) → i < length vs → j < length vs → i ≢ j → IsYard vs → (m : LaneSettled ws vs i j)
     → free_slots m.new_post + length (waits_in vs i j) ≡ capacity_in vs
-met_room ws vs i j i_in j_in ne yard m =
+settled_room ws vs i j i_in j_in ne yard m =
     let h = yard.lanes i j i_in j_in ne in
     let same : m.new_post ≡ h.0 = some_same m.new_post h.0 (sym m.new_post_is ∙ h.2) in
     let capacity : capacity_of m.new_post ≡ capacity_in vs = ap capacity_of same ∙ h.5 in
-    let waits = ap length (met_waits ws vs i j m) in
-    let room = m.meets.room in
+    let waits = ap length (settled_waits ws vs i j m) in
+    let room = m.beside.room in
     omega arith
 
 pub capacity_same : {sli : ℕ} (ws vs : List (Worker sli Lanes)) → world_of vs ≡ world_of ws → capacity_in vs ≡ capacity_in ws

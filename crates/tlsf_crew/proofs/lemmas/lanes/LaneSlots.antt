@@ -12,7 +12,7 @@ use Rattle.std.proofs.Math.Seq.{map-set_same}
 use Rattle.tlsf_post.specs.declared.post_end.PostEnd.{PostEnd}
 use Rattle.tlsf_post.specs.declared.take_end.TakeEnd.{TakeEnd}
 use Rattle.tlsf_crew.specs.lanes.Yard.{end_to_in, end_from_in, yard_heap, HasEnds}
-use Rattle.tlsf_crew.specs.lanes.LaneSteps.{LaneStep, LaneChange, SameLane, InYard}
+use Rattle.tlsf_crew.specs.lanes.LaneSteps.{OnlyLaneSettled, LaneChange, SameLane, InYard}
 use Rattle.tlsf_crew.proofs.lemmas.worker.Slots.{get_set_same, get_set_other, got, got_first, got_second, from_slot, some_same}
 
 pub same_parts : {sli : ℕ} (a v : Worker sli Lanes) → SameButHeap a v → (id_and_capacity v ≡ id_and_capacity a) × (end_to v ≡ end_to a) × (end_from v ≡ end_from a)
@@ -29,9 +29,9 @@ pub same_then : {sli : ℕ} (ws vs us : List (Worker sli Lanes)) (i j : ℕ) →
 same_then ws vs us i j a b = (b.0 ∙ a.0, b.1 ∙ a.1)
 
 -- every other lane
-pub step_same : {sli : ℕ} (ws vs : List (Worker sli Lanes)) (i j x y : ℕ) → i ≢ j → LaneStep ws i j vs → (x ≡ i → y ≡ j → ⊥) → SameLane ws vs x y
+pub step_same : {sli : ℕ} (ws vs : List (Worker sli Lanes)) (i j x y : ℕ) → i ≢ j → OnlyLaneSettled ws i j vs → (x ≡ i → y ≡ j → ⊥) → SameLane ws vs x y
 step_same ws vs i j x y ne s away =
-    let m = s.met in
+    let m = s.settled in
     let i_in : i < length ws = slice_get_within ws i s.a s.a_is in
     let j_in : j < length ws = slice_get_within ws j s.b s.b_is in
     let at_i : slice_get vs i ≡ Some s.v = rw s.after (got_first ws i j s.v s.w ne i_in) in
@@ -70,9 +70,9 @@ in_yard ws i j h =
     (a.0, b.0, a.1, b.1, (h.0, h.1, a.2, b.2, h.4))
 
 -- settling one lane
-pub settled : {sli : ℕ} (ws vs : List (Worker sli Lanes)) (i j : ℕ) → i ≢ j → (s : LaneStep ws i j vs) → LaneChange ws vs i j s.met.post s.met.take s.met.new_post s.met.new_take
-settled ws vs i j ne s =
-    let m = s.met in
+pub step_change : {sli : ℕ} (ws vs : List (Worker sli Lanes)) (i j : ℕ) → i ≢ j → (s : OnlyLaneSettled ws i j vs) → LaneChange ws vs i j s.settled.post s.settled.take s.settled.new_post s.settled.new_take
+step_change ws vs i j ne s =
+    let m = s.settled in
     let i_in : i < length ws = slice_get_within ws i s.a s.a_is in
     let j_in : j < length ws = slice_get_within ws j s.b s.b_is in
     let at_i : slice_get vs i ≡ Some s.v = rw s.after (got_first ws i j s.v s.w ne i_in) in
@@ -89,8 +89,8 @@ settled ws vs i j ne s =
       heaps = rw s.after (map_same heap_of (set ws i s.v) j s.b s.w b_still (ap (λ h. h.heap) m.same_taker.0) ∙ map_same heap_of ws i s.a s.v s.a_is (ap (λ h. h.heap) m.same_poster.0));
       numbers = rw s.after (map_same id_and_capacity (set ws i s.v) j s.b s.w b_still m.same_taker.1 ∙ map_same id_and_capacity ws i s.a s.v s.a_is m.same_poster.1);
       len = ap length s.after ∙ (length-set _ j s.w ∙ length-set ws i s.v);
-      lane = m.meets.lane;
-      capacity = m.meets.capacity;
+      lane = m.beside.lane;
+      capacity = m.beside.capacity;
     }
 
 pub heap_at : {sli : ℕ} (ws : List (Worker sli Lanes)) (i : ℕ) (a : Worker sli Lanes) → slice_get ws i ≡ Some a → yard_heap ws i ≡ heap_of a

@@ -6,9 +6,9 @@ use Rattle.std.proofs.lemmas.Option.{slice_get_within, slice_get-get_or}
 use Rattle.std.proofs.lemmas.Bool.{cases_lt}
 use Rattle.tlsf_crew.specs.declared.worker.worker.Worker.{Worker}
 use Rattle.tlsf_crew.specs.declared.worker.lanes.Lanes.{Lanes}
-use Rattle.tlsf_crew.specs.worker.Workers.{heap_of, id_of, IsHeapOf}
+use Rattle.tlsf_crew.specs.worker.Workers.{IsOther, heap_of, id_of, IsHeapOf}
 use Rattle.tlsf_crew.specs.lanes.LaneWorkers.{end_to, end_from, HasPost, HasTake, KnowsYard}
-use Rattle.tlsf_crew.specs.lanes.Yard.{post_at, take_at, id_in, IsYard, IsOther}
+use Rattle.tlsf_crew.specs.lanes.Yard.{post_at, take_at, id_in, IsYard}
 use Rattle.tlsf_crew.proofs.lemmas.worker.Slots.{some_same, none_or_some}
 use Rattle.tlsf_crew.proofs.lemmas.lanes.LaneSlots.{heap_at}
 
@@ -23,17 +23,17 @@ own_number ws i a yard is = sym (id_at ws i a is) ∙ yard.ids i (slice_get_with
 pub own_heap : {sli : ℕ} (ws : List (Worker sli Lanes)) (i : ℕ) (a : Worker sli Lanes) → IsYard ws → slice_get ws i ≡ Some a → IsHeapOf i (heap_of a)
 own_heap ws i a yard is = subst (IsHeapOf i) (heap_at ws i a is) (yard.heaps i (slice_get_within ws i a is))
 
-other : {sli : ℕ} (ws : List (Worker sli Lanes)) (i j : ℕ) → (j ≡ i → ⊥) → (length ws ≤ j → ⊥) → IsOther ws i j
+other : {sli : ℕ} (ws : List (Worker sli Lanes)) (i j : ℕ) → (j ≡ i → ⊥) → (length ws ≤ j → ⊥) → IsOther (length ws) i j
 other ws i j own far = (elim (cases_lt j (length ws)) [ inl lt ↦ lt | inr le ↦ absurd (far le) ], own)
 
-pub joined_to : {sli : ℕ} (ws : List (Worker sli Lanes)) (i j : ℕ) (a : Worker sli Lanes) → IsYard ws → slice_get ws i ≡ Some a → (HasPost a j ↔ IsOther ws i j)
+pub joined_to : {sli : ℕ} (ws : List (Worker sli Lanes)) (i j : ℕ) (a : Worker sli Lanes) → IsYard ws → slice_get ws i ≡ Some a → (HasPost a j ↔ IsOther (length ws) i j)
 joined_to ws i j a yard is =
     let at : post_at ws i j ≡ end_to a j = rw is refl in (
       λ h. other ws i j (λ e. none_or_some (post_at ws i i) h.0 (yard.alone i).0 (ap (post_at ws i) (sym e) ∙ (at ∙ h.1))) (λ far. none_or_some (post_at ws i j) h.0 (yard.outside i j far).0 (at ∙ h.1)),
       λ o. let h = yard.lanes i j (slice_get_within ws i a is) o.0 (λ e. o.1 (sym e)) in (h.0, sym at ∙ h.2),
     )
 
-pub joined_from : {sli : ℕ} (ws : List (Worker sli Lanes)) (i j : ℕ) (a : Worker sli Lanes) → IsYard ws → slice_get ws i ≡ Some a → (HasTake a j ↔ IsOther ws i j)
+pub joined_from : {sli : ℕ} (ws : List (Worker sli Lanes)) (i j : ℕ) (a : Worker sli Lanes) → IsYard ws → slice_get ws i ≡ Some a → (HasTake a j ↔ IsOther (length ws) i j)
 joined_from ws i j a yard is =
     let at : take_at ws j i ≡ end_from a j = rw is refl in (
       λ h. other ws i j (λ e. none_or_some (take_at ws i i) h.0 (yard.alone i).1 (ap (λ k. take_at ws k i) (sym e) ∙ (at ∙ h.1))) (λ far. none_or_some (take_at ws j i) h.0 (yard.outside i j far).1 (at ∙ h.1)),

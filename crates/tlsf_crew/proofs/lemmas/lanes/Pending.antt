@@ -5,8 +5,8 @@ use Rattle.tlsf_post.specs.Lanes.{waited}
 use Rattle.tlsf_crew.specs.declared.worker.worker.Worker.{Worker}
 use Rattle.tlsf_crew.specs.declared.worker.lanes.Lanes.{Lanes}
 use Rattle.tlsf_crew.specs.lanes.Yard.{lane_waits, take_at, IsYard, world_of}
-use Rattle.tlsf_crew.specs.lanes.Settle.{HaveMet}
-use Rattle.tlsf_crew.specs.model.Sums.{sum_below, waiting_in}
+use Rattle.tlsf_crew.specs.lanes.Settle.{EachLaneSettled}
+use Rattle.tlsf_crew.specs.model.Sums.{sum_below, waiting_count}
 use Rattle.tlsf_crew.specs.lanes.Ready.{count_of, ready_from, ready_below, ready_in}
 use Rattle.tlsf_crew.proofs.lemmas.lanes.Across.{waits_after}
 use Rattle.tlsf_crew.proofs.lemmas.lanes.LaneChanges.{heaps_count}
@@ -17,23 +17,23 @@ pub worker_ready : {sli : ℕ} (ws : List (Worker sli Lanes)) (j : ℕ) (w : Wor
 worker_ready ws j w e = rw (add-one, e) refl
 
 -- in a settled yard all that waits is ready, and nothing else
-pub lane_ready : {sli : ℕ} (ws vs : List (Worker sli Lanes)) (i j : ℕ) → length vs ≡ length ws → HaveMet ws vs → IsYard vs → i < length vs → j < length vs
+pub lane_ready : {sli : ℕ} (ws vs : List (Worker sli Lanes)) (i j : ℕ) → length vs ≡ length ws → EachLaneSettled ws vs → IsYard vs → i < length vs → j < length vs
     → count_of (take_at vs i j) ≡ length ((world_of vs).waiting i j)
 unfolding world_of
-lane_ready ws vs i j len met yard i_in j_in =
+lane_ready ws vs i j len settled yard i_in j_in =
     elim (cases_eq i j) [
       | inl e ↦ rw (e, (yard.alone j).0, (yard.alone j).1) refl
       | inr ne ↦
-          let m = met i j (omega (arith, len)) (omega (arith, len)) ne in
-          let waits : lane_waits (Some m.new_post) (Some m.new_take) ≡ waited m.new_take = waits_after _ _ _ _ m.meets in
+          let m = settled i j (omega (arith, len)) (omega (arith, len)) ne in
+          let waits : lane_waits (Some m.new_post) (Some m.new_take) ≡ waited m.new_take = waits_after _ _ _ _ m.beside in
           let n = ap length waits in
-          let r = ap length m.meets.fresh.2 in
+          let r = ap length m.beside.fresh.2 in
           rw (m.new_post_is, m.new_take_is) (omega arith)
     ]
 
-pub all_ready : {sli : ℕ} (ws vs : List (Worker sli Lanes)) → length vs ≡ length ws → HaveMet ws vs → IsYard vs → ready_in vs ≡ waiting_in (world_of vs)
-unfolding waiting_in ready_in
-all_ready ws vs len met yard =
+pub all_ready : {sli : ℕ} (ws vs : List (Worker sli Lanes)) → length vs ≡ length ws → EachLaneSettled ws vs → IsYard vs → ready_in vs ≡ waiting_count (world_of vs)
+unfolding waiting_count ready_in
+all_ready ws vs len settled yard =
     let n = length vs in
     rw (heaps_count vs) (same_sum n (λ j. sum_below n (λ i. length ((world_of vs).waiting i j))) (λ j. sum_below n (λ i. count_of (take_at vs i j)))
-    (λ j j_in. same_sum n (λ i. length ((world_of vs).waiting i j)) (λ i. count_of (take_at vs i j)) (λ i i_in. lane_ready ws vs i j len met yard i_in j_in)))
+    (λ j j_in. same_sum n (λ i. length ((world_of vs).waiting i j)) (λ i. count_of (take_at vs i j)) (λ i i_in. lane_ready ws vs i j len settled yard i_in j_in)))

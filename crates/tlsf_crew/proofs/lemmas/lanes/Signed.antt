@@ -10,7 +10,7 @@ use Rattle.tlsf_post.specs.declared.take_end.TakeEnd.{TakeEnd}
 use Rattle.tlsf_post.specs.Lanes.{posts_sent, waited, taken}
 use Rattle.tlsf_crew.specs.declared.worker.worker.Worker.{Worker}
 use Rattle.tlsf_crew.specs.declared.worker.lanes.Lanes.{Lanes}
-use Rattle.tlsf_crew.specs.lanes.LaneWorkers.{PutTo, TookFrom}
+use Rattle.tlsf_crew.specs.lanes.LaneWorkers.{PostEndPut, TakeEndTook}
 use Rattle.tlsf_crew.specs.lanes.Yard.{post_at, take_at, lane_waits}
 use Rattle.tlsf_crew.specs.lanes.LaneSteps.{LaneChange, SameLane}
 
@@ -44,7 +44,7 @@ from_push i (suc n) [] p e all = All-drop (λ (post : Post). post.from ≡ i) n 
 from_push i (suc n) (q ∷ ps) p e all = from_push i n ps p e all
 
 -- after a put
-pub put_signed : {sli : ℕ} (i j : ℕ) (a v : Worker sli Lanes) (post : Post) (answer : Result (Unit {0}) Post) → post.from ≡ i → (put : PutTo a v j post answer) → (o : Option TakeEnd)
+pub put_signed : {sli : ℕ} (i j : ℕ) (a v : Worker sli Lanes) (post : Post) (answer : Result (Unit {0}) Post) → post.from ≡ i → (put : PostEndPut a v j post answer) → (o : Option TakeEnd)
     → AreFrom i (lane_waits (Some put.1.end) o) → AreFrom i (lane_waits (Some put.1.new_end) o)
 put_signed i j a v post answer own put None all = all
 put_signed i j a v post (Ok done) own put (Some t) all =
@@ -54,7 +54,7 @@ put_signed i j a v post (Ok done) own put (Some t) all =
 put_signed i j a v post (Err back) own put (Some t) all = rw put.1.full.1 all
 
 -- after a take
-pub take_signed : {sli : ℕ} (i k : ℕ) (a v : Worker sli Lanes) (answer : Option Post) (got : TookFrom a v i answer) → (o : Option PostEnd)
+pub take_signed : {sli : ℕ} (i k : ℕ) (a v : Worker sli Lanes) (answer : Option Post) (got : TakeEndTook a v i answer) → (o : Option PostEnd)
     → AreFrom k (lane_waits o (Some got.1.end)) → AreFrom k (lane_waits o (Some got.1.new_end))
 take_signed i k a v answer got None all = all
 take_signed i k a v (Some p) got (Some q) all =

@@ -11,7 +11,7 @@ use Rattle.tlsf_post.specs.Lanes.{capacity_of, IsLane}
 use Rattle.tlsf_crew.specs.declared.worker.worker.Worker.{Worker}
 use Rattle.tlsf_crew.specs.declared.worker.lanes.Lanes.{Lanes}
 use Rattle.tlsf_crew.specs.lanes.Yard.{post_at, take_at, capacity_in, HasEnds, IsYard}
-use Rattle.tlsf_crew.specs.lanes.LaneWorkers.{id_and_capacity, PutTo, TookFrom}
+use Rattle.tlsf_crew.specs.lanes.LaneWorkers.{id_and_capacity, PostEndPut, TakeEndTook}
 use Rattle.tlsf_crew.specs.worker.Workers.{SameButHeap, KeepsHeap, heap_of, id_of}
 use Rattle.tlsf_crew.specs.lanes.LaneCalls.{KeepsYards}
 use Rattle.tlsf_crew.proofs.lemmas.worker.SameParts.{ports_heap}
@@ -35,7 +35,7 @@ set_twice [] i b v = refl
 set_twice (w ∷ ws) zero b v = refl
 set_twice (w ∷ ws) (suc i) b v = ap (λ l. w ∷ l) (set_twice ws i b v)
 
-put_ends : {sli : ℕ} (ws : List (Worker sli Lanes)) (i j : ℕ) (a v : Worker sli Lanes) (post : Post) (answer : Result (Unit {0}) Post) → slice_get ws i ≡ Some a → (put : PutTo a v j post answer)
+put_ends : {sli : ℕ} (ws : List (Worker sli Lanes)) (i j : ℕ) (a v : Worker sli Lanes) (post : Post) (answer : Result (Unit {0}) Post) → slice_get ws i ≡ Some a → (put : PostEndPut a v j post answer)
     → post_at ws i j ≡ Some put.1.end → PostSet ws (set ws i v) i j put.1.new_end → IsYard ws → (x y : ℕ) → x < length ws → y < length ws → x ≢ y → HasEnds (set ws i v) x y
 put_ends ws i j a v post answer is put here there yard x y x_in y_in apart =
     let h = yard.lanes x y x_in y_in apart in
@@ -52,7 +52,7 @@ put_ends ws i j a v post answer is put here there yard x y x_in y_in apart =
       | inr xi ↦ (h.0, h.1, there.others x y (λ f _. xi f) ∙ h.2, there.takes x y ∙ h.3, h.4, h.5 ∙ sym same)
     ]
 
-put_signed_in : {sli : ℕ} (ws : List (Worker sli Lanes)) (i j : ℕ) (a v : Worker sli Lanes) (post : Post) (answer : Result (Unit {0}) Post) → post.from ≡ i → (put : PutTo a v j post answer)
+put_signed_in : {sli : ℕ} (ws : List (Worker sli Lanes)) (i j : ℕ) (a v : Worker sli Lanes) (post : Post) (answer : Result (Unit {0}) Post) → post.from ≡ i → (put : PostEndPut a v j post answer)
     → post_at ws i j ≡ Some put.1.end → PostSet ws (set ws i v) i j put.1.new_end → AreSigned ws → AreSigned (set ws i v)
 put_signed_in ws i j a v post answer own put here there signed x y =
     elim (cases_eq x i) [
@@ -64,7 +64,7 @@ put_signed_in ws i j a v post answer own put here there signed x y =
     ]
 
 -- a worker who posts in its own name
-pub put_keeps : {sli : ℕ} (a v : Worker sli Lanes) (j : ℕ) (post : Post) (answer : Result (Unit {0}) Post) → post.from ≡ id_of a → PutTo a v j post answer → KeepsYards a v
+pub put_keeps : {sli : ℕ} (a v : Worker sli Lanes) (j : ℕ) (post : Post) (answer : Result (Unit {0}) Post) → post.from ≡ id_of a → PostEndPut a v j post answer → KeepsYards a v
 put_keeps a v j post answer own put ws i is yard =
     let here : post_at ws i j ≡ Some put.1.end = rw (is, put.1.end_is) refl in
     let there = posts_set ws i j a v put.1.new_end is put.1.new_end_is put.1.others put.1.same.1 in
@@ -85,7 +85,7 @@ put_keeps a v j post answer own put ws i is yard =
       signed = put_signed_in ws i j a v post answer (own ∙ own_number ws i a yard is) put here there yard.signed;
     }
 
-take_ends : {sli : ℕ} (ws : List (Worker sli Lanes)) (i j : ℕ) (a v : Worker sli Lanes) (post : Option Post) → slice_get ws j ≡ Some a → (got : TookFrom a v i post)
+take_ends : {sli : ℕ} (ws : List (Worker sli Lanes)) (i j : ℕ) (a v : Worker sli Lanes) (post : Option Post) → slice_get ws j ≡ Some a → (got : TakeEndTook a v i post)
     → take_at ws i j ≡ Some got.1.end → TakeSet ws (set ws j v) i j got.1.new_end → IsYard ws → (x y : ℕ) → x < length ws → y < length ws → x ≢ y → HasEnds (set ws j v) x y
 take_ends ws i j a v post is got here there yard x y x_in y_in apart =
     let h = yard.lanes x y x_in y_in apart in
@@ -102,7 +102,7 @@ take_ends ws i j a v post is got here there yard x y x_in y_in apart =
       | inr xi ↦ (h.0, h.1, there.posts x y ∙ h.2, there.others x y (λ f _. xi f) ∙ h.3, h.4, h.5 ∙ sym same)
     ]
 
-take_signed_in : {sli : ℕ} (ws : List (Worker sli Lanes)) (i j : ℕ) (a v : Worker sli Lanes) (post : Option Post) → (got : TookFrom a v i post)
+take_signed_in : {sli : ℕ} (ws : List (Worker sli Lanes)) (i j : ℕ) (a v : Worker sli Lanes) (post : Option Post) → (got : TakeEndTook a v i post)
     → take_at ws i j ≡ Some got.1.end → TakeSet ws (set ws j v) i j got.1.new_end → AreSigned ws → AreSigned (set ws j v)
 take_signed_in ws i j a v post got here there signed x y =
     elim (cases_eq x i) [
@@ -113,7 +113,7 @@ take_signed_in ws i j a v post got here there signed x y =
       | inr xi ↦ rw (there.others x y (λ f _. xi f), there.posts x y) (signed x y)
     ]
 
-pub take_keeps : {sli : ℕ} (a v : Worker sli Lanes) (i : ℕ) (post : Option Post) → TookFrom a v i post → KeepsYards a v
+pub take_keeps : {sli : ℕ} (a v : Worker sli Lanes) (i : ℕ) (post : Option Post) → TakeEndTook a v i post → KeepsYards a v
 take_keeps a v i post got ws j is yard =
     let here : take_at ws i j ≡ Some got.1.end = rw (is, got.1.end_is) refl in
     let there = takes_set ws i j a v got.1.new_end is got.1.new_end_is got.1.others got.1.same.1 in

@@ -11,7 +11,7 @@ use Rattle.tlsf_crew.specs.declared.queues.queues.Queues.{Queues}
 use Rattle.tlsf_crew.specs.worker.Workers.{heap_of, SameButPorts}
 use Rattle.tlsf_crew.specs.worker.Calls.{AfterTake, TakenFrom}
 use Rattle.tlsf_crew.specs.worker.Notes.{SourceEnds}
-use Rattle.tlsf_crew.specs.queues.QueueWorkers.{queue_to, KeepsQueueYards, PutsIntoQueue, TakesFromQueue}
+use Rattle.tlsf_crew.specs.queues.QueueWorkers.{queue_to, KeepsQueueYards, PutsIntoQueue, AsksQueue}
 use Rattle.tlsf_crew.specs.queues.QueueCalls.{TakenFromQueue, DrainedQueue}
 use Rattle.tlsf_crew.specs.queues.QueueNotes.{QueueNoted, StopsAtQueue}
 use Rattle.tlsf_crew.proofs.lemmas.worker.OwnHeaps.{call_keeps}
@@ -25,7 +25,7 @@ after_keeps : {sli : ℕ} (c b : Worker sli Queues) (post : Option Post) (answer
 after_keeps c b None answer after = subst (KeepsQueueYards c) (sym after.1) (keeps_all c)
 after_keeps c b (Some p) answer after = keeps_heap c b after.2 (call_keeps (heap_of c) (heap_of b) (heap.Release p.name) after.1)
 
-pub taken_keeps : {sli : ℕ} (a b : Worker sli Queues) (source : ℕ) (answer : Option Took) → TakenFrom TakesFromQueue a b source answer → KeepsQueueYards a b
+pub taken_keeps : {sli : ℕ} (a b : Worker sli Queues) (source : ℕ) (answer : Option Took) → TakenFrom AsksQueue a b source answer → KeepsQueueYards a b
 taken_keeps a b source answer t = keeps_then a t.between b (keeps_take a t.between t.post t.took) (after_keeps t.between b t.post answer t.then)
 
 -- a queue that was seen empty shows no post
@@ -34,7 +34,7 @@ seen_empty a v same stops = record { between = v; post = None; took = (same, sto
 
 -- a drain ends where `most` posts were taken, or with a take that shows no post
 pub queue_ends : {sli : ℕ} {N : Type 0} (admitted : N → ℕ → Type 0) (last v : Worker sli Queues) (y : N) (most count : ℕ)
-    → SourceEnds TakesFromQueue StopsAtQueue admitted last v y 0 most count → ((count ≡ most) × (v ≡ last)) ⊎ ((count < most) × TakenFromQueue last v None)
+    → SourceEnds AsksQueue StopsAtQueue admitted last v y 0 most count → ((count ≡ most) × (v ≡ last)) ⊎ ((count < most) × TakenFromQueue last v None)
 queue_ends admitted last v y most count (inl e) = inl e
 queue_ends admitted last v y most count (inr e) = inr (e.0, elim e.1 [ inl stopped ↦ seen_empty last v stopped.1 stopped.2 | inr none ↦ none ])
 
@@ -43,16 +43,16 @@ queue_ends admitted last v y most count (inr e) = inr (e.0, elim e.1 [ inl stopp
 pub all_queue_drained : {sli : ℕ} {N : Type 0} (noted : N → ℕ → ℕ → Took → N → Type 0) (admitted : N → ℕ → Type 0) (a v : Worker sli Queues) (x y : N) (most : ℕ) (tooks : List Took) (d : Drained)
     → QueueNoted noted admitted a v x y most tooks → IsCountOf d tooks → DrainedQueue a v most d × KeepsQueueYards a v
 all_queue_drained {sli} noted admitted a v x y most tooks d n count =
-    let takes = takes_of TakesFromQueue noted a n.last x y 0 tooks n.turns in
-    let heap = takes_heap TakesFromQueue a n.last 0 tooks takes in
-    let keeps = turns_keep TakesFromQueue KeepsQueueYards keeps_all keeps_then taken_keeps a n.last 0 tooks takes in
+    let takes = takes_of AsksQueue noted a n.last x y 0 tooks n.turns in
+    let heap = takes_heap AsksQueue a n.last 0 tooks takes in
+    let keeps = turns_keep AsksQueue KeepsQueueYards keeps_all keeps_then taken_keeps a n.last 0 tooks takes in
     let end = queue_ends admitted n.last v y most (length tooks) n.end in (
       record {
         tooks = tooks;
         last = n.last;
         takes = takes;
         end = end;
-        heap = elim end [ inl e ↦ ap heap_of e.1 ∙ heap | inr e ↦ none_heap TakesFromQueue n.last v 0 e.1 ∙ heap ];
+        heap = elim end [ inl e ↦ ap heap_of e.1 ∙ heap | inr e ↦ none_heap AsksQueue n.last v 0 e.1 ∙ heap ];
         count = count;
       },
       elim end [ inl e ↦ subst (KeepsQueueYards a) (sym e.1) keeps | inr e ↦ keeps_then a n.last v keeps (taken_keeps n.last v 0 None e.1) ],

@@ -9,7 +9,7 @@ use Rattle.tlsf_post.specs.declared.post.Post.{Post}
 use Rattle.tlsf_crew.specs.declared.worker.worker.Worker.{Worker}
 use Rattle.tlsf_crew.specs.declared.queues.queues.Queues.{Queues}
 use Rattle.tlsf_crew.specs.worker.Workers.{heap_of, SameButHeap, KeepsHeap}
-use Rattle.tlsf_crew.specs.queues.QueueWorkers.{queue_to, queue_end_to, KnowsQueueYard, KeepsSlot, KeepsQueueYards, PutToQueue, TookFromQueue}
+use Rattle.tlsf_crew.specs.queues.QueueWorkers.{queue_to, queue_end_to, KnowsQueueYard, KeepsSlot, KeepsQueueYards, PosterEndPut, OwnEndTook}
 use Rattle.tlsf_crew.proofs.lemmas.worker.OwnHeaps.{same_heap_keeps}
 use Rattle.tlsf_crew.proofs.lemmas.worker.SameParts.{ports_heap}
 use Rattle.tlsf_crew.proofs.lemmas.worker.Slots.{some_same}
@@ -61,7 +61,7 @@ keeps_heap a v same kept = record {
 pub keeps_all : {sli : ℕ} (a : Worker sli Queues) → KeepsQueueYards a a
 keeps_all a = keeps_heap a a (refl, refl) (same_heap_keeps (heap_of a) (heap_of a) refl)
 
-pub keeps_put : {sli : ℕ} (a v : Worker sli Queues) (j : ℕ) (name : Name) (answer : Result (Unit {0}) Name) → PutToQueue a v j name answer → KeepsQueueYards a v
+pub keeps_put : {sli : ℕ} (a v : Worker sli Queues) (j : ℕ) (name : Name) (answer : Result (Unit {0}) Name) → PosterEndPut a v j name answer → KeepsQueueYards a v
 keeps_put a v j name answer put = record {
   number = put.0.0;
   heap = same_heap_keeps (heap_of a) (heap_of v) (ports_heap a v put.0);
@@ -72,7 +72,7 @@ keeps_put a v j name answer put = record {
   ];
 }
 
-pub keeps_take : {sli : ℕ} (a v : Worker sli Queues) (answer : Option Post) → TookFromQueue a v answer → KeepsQueueYards a v
+pub keeps_take : {sli : ℕ} (a v : Worker sli Queues) (answer : Option Post) → OwnEndTook a v answer → KeepsQueueYards a v
 keeps_take a v answer took = record {
   number = took.0.0;
   heap = same_heap_keeps (heap_of a) (heap_of v) (ports_heap a v took.0);

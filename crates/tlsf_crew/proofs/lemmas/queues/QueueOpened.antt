@@ -23,8 +23,8 @@ use Rattle.tlsf_crew.specs.model.Opening.{opened_heaps, opened_world}
 use Rattle.tlsf_crew.specs.worker.Workers.{slot_of, heap_of, id_of, IsHeapOf}
 use Rattle.tlsf_crew.specs.queues.QueueWorkers.{queue_end_to}
 use Rattle.tlsf_crew.specs.queues.QueueYard.{FitsQueueYard, IsQueueYard, first_capacity, queue_capacity_in, queue_end_in, queue_waits_in, queue_world_of, waits_of}
-use Rattle.tlsf_crew.specs.queues.QueueOpening.{AreEnds, AreFreshQueues, AreGiven, GaveEnds, GotEnd, IsNewQueueWorker}
-use Rattle.tlsf_post.proofs.Meetings.{no_items}
+use Rattle.tlsf_crew.specs.queues.QueueOpening.{AreUngiven, AreFreshQueues, AreGiven, GaveEnds, GotEnd, IsNewQueueWorker}
+use Rattle.tlsf_post.proofs.RoundSteps.{no_items}
 use Rattle.tlsf_post.proofs.Numbers.{but_more, but_skip}
 use Rattle.tlsf_crew.proofs.lemmas.worker.Slots.{no_slot, get_set_same, get_set_other, none_or_some, slot_new, slot_other, some_same}
 use Rattle.tlsf_crew.proofs.lemmas.worker.OwnHeaps.{opened_lawful}
@@ -234,7 +234,7 @@ record NextQueue {sli : ℕ} (ws : List (Worker sli Queues)) (m : ℕ) (ps : Lis
   whole : IsWhole b.ports.own ps
   fresh : All (λ p. put_by p ≡ []) ps
 
-next_queue : {sli : ℕ} (ws : List (Worker sli Queues)) (ends rest : List (Vec PosterEnd Global)) (ps : Vec PosterEnd Global) (m : ℕ) → AreEnds ws ends → ends ≡ rest ++ ps ∷ [] → m ≡ length rest → m < length ws → NextQueue ws m ps.items
+next_queue : {sli : ℕ} (ws : List (Worker sli Queues)) (ends rest : List (Vec PosterEnd Global)) (ps : Vec PosterEnd Global) (m : ℕ) → AreUngiven ws ends → ends ≡ rest ++ ps ∷ [] → m ≡ length rest → m < length ws → NextQueue ws m ps.items
 next_queue ws ends rest ps m fit whole m_is m_in =
     let s = some_at ws m m_in in
     let at : slice_get ends m ≡ Some ps = ap (λ l. slice_get l m) whole ∙ (ap (slice_get (rest ++ ps ∷ [])) m_is ∙ get_last rest ps) in
@@ -242,7 +242,7 @@ next_queue ws ends rest ps m fit whole m_is m_in =
     record { b = s.0; is = s.1; whole = f.0; fresh = f.1 }
 
 -- the numbers of its ends
-pub next_numbers : {sli : ℕ} (n words capacity k m : ℕ) (ws : List (Worker sli Queues)) (ends rest : List (Vec PosterEnd Global)) (ps : Vec PosterEnd Global) → AreGiven n words capacity k ws → AreEnds ws ends
+pub next_numbers : {sli : ℕ} (n words capacity k m : ℕ) (ws : List (Worker sli Queues)) (ends rest : List (Vec PosterEnd Global)) (ps : Vec PosterEnd Global) → AreGiven n words capacity k ws → AreUngiven ws ends
     → ends ≡ rest ++ ps ∷ [] → m ≡ length rest → m < length ws → map number_of ps.items ≡ below_but m n
 next_numbers n words capacity k m ws ends rest ps g fit whole m_is m_in =
     let q = next_queue ws ends rest ps m fit whole m_is m_in in
@@ -250,14 +250,14 @@ next_numbers n words capacity k m ws ends rest ps g fit whole m_is m_in =
     q.whole.1 ∙ (λ i. below_but (w.own.0 i) (w.own.1 i))
 
 -- it is given
-pub queue_given : {sli : ℕ} (n words capacity k m : ℕ) (ws vs : List (Worker sli Queues)) (ends rest : List (Vec PosterEnd Global)) (ps : Vec PosterEnd Global) → AreGiven n words capacity k ws → k ≡ m + 1 → AreEnds ws ends
+pub queue_given : {sli : ℕ} (n words capacity k m : ℕ) (ws vs : List (Worker sli Queues)) (ends rest : List (Vec PosterEnd Global)) (ps : Vec PosterEnd Global) → AreGiven n words capacity k ws → k ≡ m + 1 → AreUngiven ws ends
     → ends ≡ rest ++ ps ∷ [] → m ≡ length rest → m < length ws → GaveEnds ws m (length ws) ps.items vs → AreGiven n words capacity m vs
 queue_given n words capacity k m ws vs ends rest ps g k_is fit whole m_is m_in gave =
     let q = next_queue ws ends rest ps m fit whole m_is m_in in
     given_more n words capacity m ws vs q.b ps.items (subst (λ (k : ℕ). AreGiven n words capacity k ws) k_is g) (omega (arith, g.count)) q.is q.whole q.fresh gave
 
 -- and the ends of those before it are still to be given
-pub ends_kept : {sli : ℕ} (ws vs : List (Worker sli Queues)) (ends rest : List (Vec PosterEnd Global)) (ps : Vec PosterEnd Global) (m : ℕ) → AreEnds ws ends → ends ≡ rest ++ ps ∷ [] → GaveEnds ws m (length ws) ps.items vs → AreEnds vs rest
+pub ends_kept : {sli : ℕ} (ws vs : List (Worker sli Queues)) (ends rest : List (Vec PosterEnd Global)) (ps : Vec PosterEnd Global) (m : ℕ) → AreUngiven ws ends → ends ≡ rest ++ ps ∷ [] → GaveEnds ws m (length ws) ps.items vs → AreUngiven vs rest
 ends_kept ws vs ends rest ps m fit whole gave j b qs is_b is_qs =
     let x = earlier ws vs m j b ps.items gave is_b in
     let at : slice_get ends j ≡ Some qs = ap (λ l. slice_get l j) whole ∙ get_front rest ps qs j is_qs in
@@ -423,7 +423,7 @@ pub record AreBare {sli : ℕ} (n words capacity : ℕ) (ws : List (Worker sli Q
   pub same : length ends ≡ length ws
   pub new : (i : ℕ) (a : Worker sli Queues) → slice_get ws i ≡ Some a → IsNewQueueWorker n words capacity i a
   pub none : (i : ℕ) (a : Worker sli Queues) → slice_get ws i ≡ Some a → a.ports.posts.items ≡ replicate n None
-  pub fit : AreEnds ws ends
+  pub fit : AreUngiven ws ends
 
 pub bare_none : (sli : ℕ) (n words capacity : ℕ) → AreBare {sli = sli} n words capacity [] []
 bare_none sli n words capacity = record { same = refl; new = λ i a e. cc; none = λ i a e. cc; fit = λ j b ps e. cc }

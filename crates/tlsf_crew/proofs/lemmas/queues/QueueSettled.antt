@@ -9,17 +9,17 @@ use Rattle.std.proofs.lemmas.Bool.{cases_eq, cases_lt}
 use Rattle.std.proofs.lemmas.List.{append-nil, length-set, map-append}
 use Rattle.std.proofs.lemmas.List.Elements.{All-append, All-cons, All-head, All-nil, All-tail}
 use Rattle.tlsf_post.specs.Rule.{posts_of}
-use Rattle.tlsf_post.specs.Mailboxes.{below_but, number_of, put_by, gone_from, owner_of, out_of, most_of, got_by, known_to, IsMailbox, IsWhole, HaveMet}
+use Rattle.tlsf_post.specs.Mailboxes.{below_but, number_of, put_by, gone_from, owner_of, out_of, most_of, got_by, known_to, IsMailbox, IsWhole, AllBeside}
 use Rattle.tlsf_post.specs.declared.owner_end.OwnerEnd.{OwnerEnd}
 use Rattle.tlsf_post.specs.declared.post.Post.{Post}
 use Rattle.tlsf_post.specs.declared.poster_end.PosterEnd.{PosterEnd}
 use Rattle.tlsf_crew.specs.declared.worker.worker.Worker.{Worker}
 use Rattle.tlsf_crew.specs.declared.queues.queues.Queues.{Queues}
-use Rattle.tlsf_crew.specs.worker.Workers.{slot_of, id_of, IsHeapOf}
-use Rattle.tlsf_crew.specs.queues.QueueWorkers.{queue_end_to, IsOtherOf, KnowsQueueYard}
+use Rattle.tlsf_crew.specs.worker.Workers.{IsOther, slot_of, id_of, IsHeapOf}
+use Rattle.tlsf_crew.specs.queues.QueueWorkers.{queue_end_to, KnowsQueueYard}
 use Rattle.tlsf_crew.specs.queues.QueueYard.{FitsQueueYard, IsQueueYard, first_capacity, queue_capacity_in, queue_end_in}
 use Rattle.tlsf_crew.specs.queues.QueueOpening.{GaveEnds, GotEnd}
-use Rattle.tlsf_crew.specs.queues.QueueSettle.{Gathered, GaveUpEnd, QueueKnown, QueueSettled, QueuesSettled, StaysPut, StaysSettled, end_at, ends_below}
+use Rattle.tlsf_crew.specs.queues.QueueSettle.{Gathered, GaveUpEnd, QueueKnown, QueueSettled, EachQueueSettled, StaysPut, StaysSettled, end_at, ends_below}
 use Rattle.tlsf_post.proofs.Numbers.{but_more, but_skip}
 use Rattle.tlsf_crew.proofs.lemmas.queues.QueueOpened.{of_all, some_at}
 use Rattle.tlsf_crew.proofs.lemmas.worker.Slots.{from_slot, get_set_same, get_set_other, none_or_some, slot_emptied, slot_new, slot_other, some_same}
@@ -131,7 +131,7 @@ numbers_below ws j (suc k) b yard b_is le =
           ∙ ((λ t. rest t ++ end.number t ∷ []) ∙ sym (but_more j k ne)))
     ]
 
--- all ends of a queue, as those that `meet` is given
+-- all ends of a queue, as those that `beside` is given
 pub ends_whole : {sli : ℕ} (ws : List (Worker sli Queues)) (j : ℕ) (b : Worker sli Queues) → IsQueueYard ws → slice_get ws j ≡ Some b → IsWhole b.ports.own (ends_below ws j (length ws))
 ends_whole ws j b yard b_is =
     let w = yard.workers j b b_is in
@@ -141,7 +141,7 @@ ends_whole ws j b yard b_is =
       numbers_below ws j (length ws) b yard b_is le ∙ (λ t. below_but (sym (k.own.0 ∙ w.number) t) (sym k.own.1 t)),
     )
 
--- ---- what a meeting leaves of each end
+-- ---- what `beside` leaves of each end
 
 -- what is said of the number and the puts alone goes on where these stay
 pub pass_on : (P : ℕ → List Post → Type 0) (ps qs : List PosterEnd) → map number_of qs ≡ map number_of ps → map put_by qs ≡ map put_by ps → All (λ p. P (number_of p) (put_by p)) ps → All (λ q. P (number_of q) (put_by q)) qs
@@ -203,12 +203,12 @@ got_back a u v j i qs room gave got =
       same = (got.same.0 ∙ gave.same.0, got.same.1 ∙ gave.same.1, got.same.2 ∙ gave.same.2);
     }
 
--- all that happens when queue j is settled: its ends are taken out, meet its owner b, which becomes w, and are given back
+-- all that happens when queue j is settled: its ends are taken out, beside its owner b, which becomes w, and are given back
 pub record Resettling {sli : ℕ} (ws us : List (Worker sli Queues)) (j : ℕ) (b w : Worker sli Queues) (ps qs : List PosterEnd) (xs : List (Worker sli Queues)) : Type 0 where
   pub yard : IsQueueYard ws
   pub owner : slice_get ws j ≡ Some b
   pub gathered : Gathered ws j (length ws) us ps
-  pub met : HaveMet b.ports.own ps w.ports.own qs
+  pub beside : AllBeside b.ports.own ps w.ports.own qs
   pub same : (w.heap ≡ b.heap) × (w.id ≡ b.id) × (w.ports.posts ≡ b.ports.posts)
   pub gave : GaveEnds (set us j w) j (length ws) qs xs
 
@@ -260,7 +260,7 @@ record StillIs {sli : ℕ} (a v : Worker sli Queues) (j : ℕ) : Type 0 where
 
 owner_still : {sli : ℕ} (ws us : List (Worker sli Queues)) (j : ℕ) (b w : Worker sli Queues) (ps qs : List PosterEnd) (xs : List (Worker sli Queues)) → Resettling ws us j b w ps qs xs → StillIs b w j
 owner_still ws us j b w ps qs xs r =
-    let m = r.met in
+    let m = r.beside in
     record {
       heap = r.same.0;
       id = r.same.1;
@@ -331,7 +331,7 @@ mailboxes_still {sli} ws us j b w ps qs xs r i k v c q is_v is_c is_q =
     let x = resettled ws us j b w ps qs xs r i v is_v in
     let y = resettled ws us j b w ps qs xs r k c is_c in
     let yard = r.yard in
-    let m = r.met in
+    let m = r.beside in
     elim (cases_eq k j) [
       | inl e ↦
           let here : queue_end_to v j ≡ Some q = ap (queue_end_to v) (sym e) ∙ is_q in
@@ -385,7 +385,7 @@ put_still ws us j b w ps qs xs r i v x p q is_p is_q = elim x.change [
   | inr e ↦
       let got = e.1 in
       let g = r.gathered in
-      let m = r.met in
+      let m = r.beside in
       let all = were_put ws j b qs r.yard r.owner (m.numbers ∙ ap (map number_of) g.ends) (m.put ∙ ap (map put_by) g.ends) in
       let was = of_all (λ q. WasPut ws j (number_of q) (put_by q)) qs got.before got.after got.end got.stands all in
       let p_is : was.0 ≡ p = some_same was.0 p (sym was.1 ∙ (ap (λ k. end_at ws k j) got.number ∙ (ap (λ o. queue_end_in o j) x.is ∙ is_p))) in
@@ -395,7 +395,7 @@ put_still ws us j b w ps qs xs r i v x p q is_p is_q = elim x.change [
 
 known_then : {sli : ℕ} (ws us : List (Worker sli Queues)) (j : ℕ) (b w : Worker sli Queues) (ps qs : List PosterEnd) (xs : List (Worker sli Queues)) → Resettling ws us j b w ps qs xs → QueueKnown xs j
 known_then {sli} ws us j b w ps qs xs r =
-    let m = r.met in
+    let m = r.beside in
     let owner : (c : Worker sli Queues) → slice_get xs j ≡ Some c → c ≡ w = λ c is. let y = resettled ws us j b w ps qs xs r j c is in elim y.change [
       | inl d ↦ d.2
       | inr d ↦ absurd (d.0 refl)
@@ -467,7 +467,7 @@ slots_still {sli} ws us j w ps yard j_in g i v ne is =
     subst (λ (z : Worker sli Queues). j < length z.ports.posts.items) v_is (omega (arith, ap length gave.posts, length-set s.0.ports.posts.items j None))
 
 -- the ends that come back have the numbers of all but the owner
-pub numbers_still : {sli : ℕ} (ws : List (Worker sli Queues)) (j : ℕ) (b w : Worker sli Queues) (ps qs : List PosterEnd) → IsQueueYard ws → slice_get ws j ≡ Some b → HaveMet b.ports.own ps w.ports.own qs → map number_of qs ≡ below_but j (length ws)
+pub numbers_still : {sli : ℕ} (ws : List (Worker sli Queues)) (j : ℕ) (b w : Worker sli Queues) (ps qs : List PosterEnd) → IsQueueYard ws → slice_get ws j ≡ Some b → AllBeside b.ports.own ps w.ports.own qs → map number_of qs ≡ below_but j (length ws)
 numbers_still ws j b w ps qs yard is m =
     let old = yard.workers j b is in
     let k = old.knows in
@@ -475,7 +475,7 @@ numbers_still ws j b w ps qs yard is m =
 
 -- ---- queues, one after another
 
-pub settled_none : {sli : ℕ} (ws : List (Worker sli Queues)) → IsQueueYard ws → QueuesSettled ws 0 ws
+pub settled_none : {sli : ℕ} (ws : List (Worker sli Queues)) → IsQueueYard ws → EachQueueSettled ws 0 ws
 settled_none ws yard = record {
   yard = yard;
   count = refl;
@@ -491,7 +491,7 @@ settled_none ws yard = record {
 -- where an end is there was one
 end_still : {sli : ℕ} (n j : ℕ) (u v : Worker sli Queues) (q : PosterEnd) → KnowsQueueYard n u → KnowsQueueYard n v → v.id ≡ u.id → queue_end_to v j ≡ Some q → (p : PosterEnd) × (queue_end_to u j ≡ Some p)
 end_still n j u v q known_u known_v same is =
-    let gone : ¬ (IsOtherOf n (id_of v) j) → ⊥ = λ far. none_or_some (queue_end_to v j) q (known_v.none j far) is in
+    let gone : ¬ (IsOther n (id_of v) j) → ⊥ = λ far. none_or_some (queue_end_to v j) q (known_v.none j far) is in
     elim (cases_lt j n) [
       | inl lt ↦ elim (cases_eq j (id_of v)) [
         | inl e ↦ absurd (gone (λ other. other.1 e))
@@ -540,7 +540,7 @@ known_still {sli} us vs j k s ne known =
           known.gone i u.0 d.0 q u.1 d.1 (sym (there.ends k ne) ∙ is_q) ∙ sym (ap (λ (z : OwnerEnd). posts_of i (got_by z)) (owner.other ne));
     }
 
-pub settled_more : {sli : ℕ} (ws us vs : List (Worker sli Queues)) (j : ℕ) → QueuesSettled ws j us → QueueSettled us j vs → QueuesSettled ws (j + 1) vs
+pub settled_more : {sli : ℕ} (ws us vs : List (Worker sli Queues)) (j : ℕ) → EachQueueSettled ws j us → QueueSettled us j vs → EachQueueSettled ws (j + 1) vs
 settled_more ws us vs j x y = record {
   yard = y.yard;
   count = y.count ∙ x.count;

@@ -11,7 +11,7 @@ use Rattle.tlsf_crew.specs.declared.queues.queues.Queues.{Queues}
 use Rattle.tlsf_crew.specs.worker.Workers.{heap_of}
 use Rattle.tlsf_crew.specs.queues.QueueWorkers.{queue_end_to}
 use Rattle.tlsf_crew.specs.queues.QueueYard.{IsQueueYard, first_capacity, queue_capacity_in, queue_waits_in, queue_world_of, waits_of}
-use Rattle.tlsf_crew.specs.queues.QueueSettle.{QueuesSettled, StaysPut}
+use Rattle.tlsf_crew.specs.queues.QueueSettle.{EachQueueSettled, StaysPut}
 use Rattle.tlsf_crew.proofs.lemmas.queues.QueueOpened.{map_at, some_at}
 
 -- a worker before and after
@@ -22,13 +22,13 @@ record Kept {sli : ℕ} (ws vs : List (Worker sli Queues)) (i : ℕ) : Type 0 wh
   new_is : slice_get vs i ≡ Some new
   stays : StaysPut old new
 
-kept : {sli : ℕ} (ws vs : List (Worker sli Queues)) (n i : ℕ) → QueuesSettled ws n vs → i < length ws → Kept ws vs i
+kept : {sli : ℕ} (ws vs : List (Worker sli Queues)) (n i : ℕ) → EachQueueSettled ws n vs → i < length ws → Kept ws vs i
 kept ws vs n i s i_in =
     let a = some_at ws i i_in in
     let v = some_at vs i (omega (arith, s.count)) in
     record { old = a.0; new = v.0; old_is = a.1; new_is = v.1; stays = s.stays i a.0 v.0 a.1 v.1 }
 
-heaps_kept : {sli : ℕ} (ws vs : List (Worker sli Queues)) (n : ℕ) → QueuesSettled ws n vs → map heap_of vs ≡ map heap_of ws
+heaps_kept : {sli : ℕ} (ws vs : List (Worker sli Queues)) (n : ℕ) → EachQueueSettled ws n vs → map heap_of vs ≡ map heap_of ws
 heaps_kept ws vs n s =
     same_lists (map heap_of vs) (map heap_of ws) (length-map vs heap_of ∙ (s.count ∙ sym (length-map ws heap_of)))
     (λ k d k_in.
@@ -36,14 +36,14 @@ heaps_kept ws vs n s =
     let same = w.stays in
     map_at vs k w.new d w.new_is ∙ ((λ t. (same.heap t).heap) ∙ sym (map_at ws k w.old d w.old_is)))
 
-capacity_kept : {sli : ℕ} (ws vs : List (Worker sli Queues)) (n : ℕ) → QueuesSettled ws n vs → queue_capacity_in vs ≡ queue_capacity_in ws
+capacity_kept : {sli : ℕ} (ws vs : List (Worker sli Queues)) (n : ℕ) → EachQueueSettled ws n vs → queue_capacity_in vs ≡ queue_capacity_in ws
 capacity_kept ws vs n s = elim (cases_lt 0 (length ws)) [
   | inl lt ↦ let w = kept ws vs n 0 s lt in let same = w.stays in ap first_capacity w.new_is ∙ (same.own.1 ∙ sym (ap first_capacity w.old_is))
   | inr ge ↦ ap first_capacity (slice_get_past vs 0 (omega (arith, s.count)) ∙ sym (slice_get_past ws 0 ge))
 ]
 
 -- what waits of worker i in the queue of another
-ends_kept : {sli : ℕ} (ws vs : List (Worker sli Queues)) (n i j : ℕ) → IsQueueYard ws → QueuesSettled ws n vs → j < length ws → i ≢ j → (x : Kept ws vs i) (y : Kept ws vs j)
+ends_kept : {sli : ℕ} (ws vs : List (Worker sli Queues)) (n i j : ℕ) → IsQueueYard ws → EachQueueSettled ws n vs → j < length ws → i ≢ j → (x : Kept ws vs i) (y : Kept ws vs j)
     → waits_of (Some y.new) (queue_end_to x.new j) ≡ waits_of (Some y.old) (queue_end_to x.old j)
 ends_kept ws vs n i j yard s j_in ne x y =
     let was = yard.workers i x.old x.old_is in
@@ -61,7 +61,7 @@ ends_kept ws vs n i j yard s j_in ne x y =
 own_kept : {sli : ℕ} (ws : List (Worker sli Queues)) (i : ℕ) (a : Worker sli Queues) → IsQueueYard ws → slice_get ws i ≡ Some a → queue_end_to a i ≡ None
 own_kept ws i a yard is = let w = yard.workers i a is in w.knows.none i (λ other. other.1 (sym w.number))
 
-waits_kept : {sli : ℕ} (ws vs : List (Worker sli Queues)) (n : ℕ) → IsQueueYard ws → QueuesSettled ws n vs → (i j : ℕ) → queue_waits_in vs i j ≡ queue_waits_in ws i j
+waits_kept : {sli : ℕ} (ws vs : List (Worker sli Queues)) (n : ℕ) → IsQueueYard ws → EachQueueSettled ws n vs → (i j : ℕ) → queue_waits_in vs i j ≡ queue_waits_in ws i j
 waits_kept {sli} ws vs n yard s i j = elim (cases_lt j (length ws)) [
   | inr ge ↦ rw (slice_get_past vs j (omega (arith, s.count)), slice_get_past ws j ge) refl
   | inl j_in ↦
@@ -80,7 +80,7 @@ waits_kept {sli} ws vs n yard s i j = elim (cases_lt j (length ws)) [
       ]
 ]
 
-pub settled_world : {sli : ℕ} (ws vs : List (Worker sli Queues)) (n : ℕ) → IsQueueYard ws → QueuesSettled ws n vs → queue_world_of vs ≡ queue_world_of ws
+pub settled_world : {sli : ℕ} (ws vs : List (Worker sli Queues)) (n : ℕ) → IsQueueYard ws → EachQueueSettled ws n vs → queue_world_of vs ≡ queue_world_of ws
 unfolding queue_world_of
 settled_world ws vs n yard s =
     let heaps = heaps_kept ws vs n s in

@@ -10,8 +10,8 @@ use Rattle.tlsf_post.specs.Rule.{plan_for}
 use Rattle.tlsf_post.specs.declared.poster_end.PosterEnd.{PosterEnd}
 use Rattle.tlsf_crew.specs.declared.worker.worker.Worker.{Worker}
 use Rattle.tlsf_crew.specs.declared.queues.queues.Queues.{Queues}
-use Rattle.tlsf_crew.specs.worker.Workers.{IsHeapOf, heap_of, id_of}
-use Rattle.tlsf_crew.specs.queues.QueueWorkers.{queue_end_to, HasQueueEnd, IsOtherOf, KnowsQueueYard, KeepsQueueYards, KeepsSlot}
+use Rattle.tlsf_crew.specs.worker.Workers.{IsOther, IsHeapOf, heap_of, id_of}
+use Rattle.tlsf_crew.specs.queues.QueueWorkers.{queue_end_to, HasQueueEnd, KnowsQueueYard, KeepsQueueYards, KeepsSlot}
 use Rattle.tlsf_crew.specs.queues.QueueYard.{IsQueueYard, first_capacity, queue_capacity_in}
 use Rattle.tlsf_crew.proofs.lemmas.worker.Slots.{get_set_same, get_set_other, none_or_some, some_same}
 use Rattle.tlsf_crew.proofs.lemmas.queues.QueueKept.{keeps_all, knows_kept}
@@ -25,7 +25,7 @@ queue_number ws i a yard is = let w = yard.workers i a is in w.number
 pub own_queue_heap : {sli : ℕ} (ws : List (Worker sli Queues)) (i : ℕ) (a : Worker sli Queues) → IsQueueYard ws → slice_get ws i ≡ Some a → IsHeapOf i (heap_of a)
 own_queue_heap ws i a yard is = let w = yard.workers i a is in w.heap
 
-pub queues_joined : {sli : ℕ} (ws : List (Worker sli Queues)) (i j : ℕ) (a : Worker sli Queues) → IsQueueYard ws → slice_get ws i ≡ Some a → HasQueueEnd a j ↔ IsOtherOf (length ws) i j
+pub queues_joined : {sli : ℕ} (ws : List (Worker sli Queues)) (i j : ℕ) (a : Worker sli Queues) → IsQueueYard ws → slice_get ws i ≡ Some a → HasQueueEnd a j ↔ IsOther (length ws) i j
 queues_joined ws i j a yard is =
     let w = yard.workers i a is in
     let k = w.knows in (

@@ -17,7 +17,7 @@ use Rattle.tlsf_crew.specs.model.Told.{Told, untold}
 use Rattle.tlsf_crew.specs.model.World.{World, heap_in}
 use Rattle.tlsf_crew.specs.scripts.Scripts.{last_call, script_of}
 use Rattle.tlsf_calls.specs.Entries.{record_of}
-use Rattle.tlsf_crew.specs.model.QueueTold.{IsOfOther, MayTellQueue, MayTellQueueAll, take_entry, told_reply, told_take, told_takes}
+use Rattle.tlsf_crew.specs.model.QueueTold.{IsFromOther, MayTellQueue, MayTellQueueAll, take_entry, told_reply, told_take, told_takes}
 use Rattle.tlsf_crew.specs.histories.QueueHistory.{AreQueueTakes, TellsQueue, TellsQueueCall}
 use Rattle.tlsf_crew.specs.races.QueueRace.{IsQueueRace}
 use Rattle.tlsf_crew.proofs.lemmas.histories.AllEntries.{more_knows}
@@ -66,7 +66,7 @@ record TakesTold (sli : ℕ) (made : List (Option Name)) (n at : ℕ) (s : Told)
   run : RunsBy sli made at s.heap own t.heap
   each : All (HasItsAnswer made n) own
 
-takes_told : {sli : ℕ} (made : List (Option Name)) (n at : ℕ) (posts : List Post) (s : Told) → All (IsOfOther n at) posts → TakesTold sli made n at s (told_takes at s posts) (length posts)
+takes_told : {sli : ℕ} (made : List (Option Name)) (n at : ℕ) (posts : List Post) (s : Told) → All (IsFromOther n at) posts → TakesTold sli made n at s (told_takes at s posts) (length posts)
 takes_told {sli} made n at [] s all = record {
   own = [];
   entries = sym (append-nil s.entries);
@@ -77,10 +77,10 @@ takes_told {sli} made n at [] s all = record {
   each = All-nil (HasItsAnswer made n);
 }
 takes_told {sli} made n at (post ∷ posts) s all =
-    let other = All-head (IsOfOther n at) post posts all in
+    let other = All-head (IsFromOther n at) post posts all in
     let e = take_entry at s.heap post in
     let u = told_take at s post in
-    let rest = takes_told made n at posts u (All-tail (IsOfOther n at) post posts all) in
+    let rest = takes_told made n at posts u (All-tail (IsFromOther n at) post posts all) in
     record {
       own = e ∷ rest.own;
       entries = rest.entries ∙ append_assoc s.entries (e ∷ []) rest.own;
@@ -115,7 +115,7 @@ refused_take {sli} made n at s t from e =
       each = All-cons (HasItsAnswer made n) x [] (λ _. refl) (All-nil (HasItsAnswer made n));
     })
 
-drained_queue : {sli : ℕ} (made : List (Option Name)) (n at : ℕ) (s t : Told) (most : ℕ) (posts : List Post) → All (IsOfOther n at) posts → length posts ≤ most
+drained_queue : {sli : ℕ} (made : List (Option Name)) (n at : ℕ) (s t : Told) (most : ℕ) (posts : List Post) → All (IsFromOther n at) posts → length posts ≤ most
     → t ≡ told_reply at (told_takes at s posts) (Drain most) (Drained (length posts)) → QueueCallTold sli made n at s (Drain most) t
 drained_queue {sli} made n at s t most posts all few e =
     let x : Entry = record { worker = at; call = Drain most; reply = Drained (length posts) } in

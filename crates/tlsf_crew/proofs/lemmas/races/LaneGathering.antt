@@ -13,9 +13,9 @@ use Rattle.tlsf_calls.specs.declared.call.Call.{Call}
 use Rattle.tlsf_crew.specs.worker.Workers.{id_of}
 use Rattle.tlsf_crew.specs.lanes.LaneWorkers.{end_from, KnowsYard}
 use Rattle.tlsf_crew.specs.model.Told.{MayTell}
-use Rattle.tlsf_crew.specs.races.LaneTasks.{Ran, HaveRun, HaveRooms}
+use Rattle.tlsf_crew.specs.races.LaneTasks.{LaneWorkerRan, EachLaneWorkerRan, HaveRooms}
 use Rattle.tlsf_crew.specs.histories.History.{posts_taken}
-use Rattle.tlsf_crew.specs.scripts.Moves.{Moved, Spent}
+use Rattle.tlsf_crew.specs.scripts.LaneMoves.{LaneMoved, Spent}
 use Rattle.tlsf_crew.specs.scripts.Scripts.{ScriptRun, script_of}
 use Rattle.std.specs.List.{slice_get, All}
 use Rattle.std.specs.declared.vec.Vec.{Vec}
@@ -28,7 +28,7 @@ use Rattle.tlsf_crew.specs.lanes.Ready.{count_of, ready_from}
 use Rattle.tlsf_calls.specs.Entries.{record_of}
 use Rattle.tlsf_crew.specs.jobs.Job.{KnowsSome}
 use Rattle.tlsf_crew.specs.lanes.LaneCalls.{KeepsYards}
-use Rattle.tlsf_crew.specs.jobs.Parts.{ScriptsRan}
+use Rattle.tlsf_crew.specs.jobs.Parts.{EachJobRan}
 use Rattle.tlsf_crew.proofs.lemmas.worker.Slots.{some_same}
 use Rattle.tlsf_crew.proofs.lemmas.model.Sums.{same_sum}
 use Rattle.tlsf_crew.proofs.lemmas.jobs.Gathering.{record_at}
@@ -62,7 +62,7 @@ kept_yard {sli} pre (w ∷ ws) (v ∷ vs) n each yard =
     subst IsYard (append_assoc pre (v ∷ []) vs) (kept_yard (pre ++ v ∷ []) ws vs (omega arith) (λ j a is. each (suc j) a is) shifted)
 
 abbrev LanesRan : {sli : ℕ} → List (Worker sli Lanes) → List (List Call) → List (Vec Entry Global) → List (Worker sli Lanes) → Type 0
-LanesRan {sli} ws scripts records vs = ScriptsRan AreLaneLimits KnowsYard (MayTell sli) Moved ws scripts records vs
+LanesRan {sli} ws scripts records vs = EachJobRan AreLaneLimits KnowsYard (MayTell sli) LaneMoved ws scripts records vs
 
 enough : {sli : ℕ} (n : ℕ) (a : Worker sli Lanes) (releases limits : List ℕ) → KnowsYard n a → AreLaneLimits a.ports releases limits → (i : ℕ) (t : TakeEnd) → end_from a i ≡ Some t → length (ready t) ≤ slice_index limits i
 enough n a releases limits k are i t e =
@@ -72,10 +72,10 @@ enough n a releases limits k are i t e =
     omega arith
 
 pub script_ran : {sli : ℕ} (n : ℕ) (a v : Worker sli Lanes) (limits left : List ℕ) (calls : List Call) (made : List (Option Name)) (entries : List Entry)
-    → ((i : ℕ) (t : TakeEnd) → end_from a i ≡ Some t → length (ready t) ≤ slice_index limits i) → ScriptRun (MayTell sli n) Moved a limits calls made entries v left → Ran n a calls made entries v
+    → ((i : ℕ) (t : TakeEnd) → end_from a i ≡ Some t → length (ready t) ≤ slice_index limits i) → ScriptRun (MayTell sli n) LaneMoved a limits calls made entries v left → LaneWorkerRan n a calls made entries v
 script_ran {sli} n a v limits left calls made entries enough x =
     let at = id_of a in
-    let m : Moved at made a limits calls entries v left = subst (λ l. Moved at l a limits calls entries v left) (append-nil made) (x.moved []) in
+    let m : LaneMoved at made a limits calls entries v left = subst (λ l. LaneMoved at l a limits calls entries v left) (append-nil made) (x.moved []) in
     record {
       told = x.told;
       yard = m.yard;
@@ -89,9 +89,9 @@ script_ran {sli} n a v limits left calls made entries enough x =
       few_entries = m.few_entries;
     }
 
-pub lanes_ran : {sli : ℕ} (ws vs : List (Worker sli Lanes)) (scripts : List (List Call)) (records : List (Vec Entry Global)) → IsYard ws → LanesRan ws scripts records vs → HaveRun ws scripts (map (λ r. r.items) records) vs
+pub lanes_ran : {sli : ℕ} (ws vs : List (Worker sli Lanes)) (scripts : List (List Call)) (records : List (Vec Entry Global)) → IsYard ws → LanesRan ws scripts records vs → EachLaneWorkerRan ws scripts (map (λ r. r.items) records) vs
 lanes_ran {sli} ws vs scripts records yard run =
-    let of : (j : ℕ) (a : Worker sli Lanes) → slice_get ws j ≡ Some a → (v : Worker sli Lanes) × (slice_get vs j ≡ Some v) × Ran (length ws) a (script_of scripts j) (run.made j) (record_of (map (λ r. r.items) records) j) v =
+    let of : (j : ℕ) (a : Worker sli Lanes) → slice_get ws j ≡ Some a → (v : Worker sli Lanes) × (slice_get vs j ≡ Some v) × LaneWorkerRan (length ws) a (script_of scripts j) (run.made j) (record_of (map (λ r. r.items) records) j) v =
     λ j a is.
     let r = run.ran j a is in
     let x = r.4 in

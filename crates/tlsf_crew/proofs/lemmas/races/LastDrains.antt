@@ -24,7 +24,7 @@ use Rattle.tlsf_crew.proofs.lemmas.model.EventSteps.{after_near}
 use Rattle.tlsf_crew.specs.scripts.Scripts.{last_call}
 use Rattle.tlsf_calls.specs.Entries.{record_of}
 use Rattle.tlsf_crew.specs.model.Told.{MayTell}
-use Rattle.tlsf_crew.specs.races.LaneTasks.{HasFew, HasLastRoom, LastTold, LastDrained}
+use Rattle.tlsf_crew.specs.races.LaneTasks.{HasFew, HasLastRoom, LastTold, EachLastDrained}
 use Rattle.tlsf_crew.proofs.lemmas.lanes.LaneChanges.{heaps_count}
 use Rattle.tlsf_crew.proofs.lemmas.histories.DrainEntries.{drain_told, drain_makes}
 use Rattle.tlsf_crew.proofs.lemmas.model.Emptied.{LanesOut, waits_below, all_out}
@@ -173,8 +173,8 @@ told_first ws vs us j es fs len heap waits t = record {
   told = λ made. rw (sym len, sym heap) (t.told made);
 }
 
-pub last_step : {sli : ℕ} (ws vs us : List (Worker sli Lanes)) (rs ss : List (List Entry)) (j : ℕ) (fs : List Entry) → LastDrained ws rs ss vs j → j < length ss
-    → record_of ss j ≡ record_of rs j → OneDrained vs us j (record_of ss j) fs → LastDrained ws rs (set ss j fs) us (j + 1)
+pub last_step : {sli : ℕ} (ws vs us : List (Worker sli Lanes)) (rs ss : List (List Entry)) (j : ℕ) (fs : List Entry) → EachLastDrained ws rs ss vs j → j < length ss
+    → record_of ss j ≡ record_of rs j → OneDrained vs us j (record_of ss j) fs → EachLastDrained ws rs (set ss j fs) us (j + 1)
 last_step ws vs us rs ss j fs a j_in same one = record {
   yard = one.yard;
   worker_count = one.count ∙ a.worker_count;
@@ -204,9 +204,9 @@ pub record_items : (rs : List (Vec Entry Global)) (j : ℕ) (r : Vec Entry Globa
 record_items rs j r e = get_or_from_slice_get (items_of rs) j r.items [] (slice_get-map (λ (x : Vec Entry Global). x.items) rs j ∙ ap (option_map (λ (x : Vec Entry Global). x.items)) e)
 
 -- the next worker is drained
-pub drain_next : {sli : ℕ} (ws vs us : List (Worker sli Lanes)) (rs ss : List (Vec Entry Global)) (j : ℕ) (r new : Vec Entry Global) → LastDrained ws (items_of rs) (items_of ss) vs j
+pub drain_next : {sli : ℕ} (ws vs us : List (Worker sli Lanes)) (rs ss : List (Vec Entry Global)) (j : ℕ) (r new : Vec Entry Global) → EachLastDrained ws (items_of rs) (items_of ss) vs j
     → HasFew ws j → j < length ws → slice_get ss j ≡ Some r → slice_get rs j ≡ Some r → IsYard us → TellsLast vs us j r.items new.items
-    → LastDrained ws (items_of rs) (items_of (set ss j new)) us (j + 1)
+    → EachLastDrained ws (items_of rs) (items_of (set ss j new)) us (j + 1)
 drain_next ws vs us rs ss j r new a few j_in here there after tells =
     let at = record_items ss j r here in
     let before = record_items rs j r there in
@@ -217,7 +217,7 @@ drain_next ws vs us rs ss j r new a few j_in here there after tells =
     (last_step ws vs us (items_of rs) (items_of ss) j new.items a within (at ∙ sym before) (rw at one))
 
 -- it has the room for it
-pub room_next : {sli : ℕ} (ws vs : List (Worker sli Lanes)) (rs ss : List (List Entry)) (j : ℕ) (r : Vec Entry Global) → LastDrained ws rs ss vs j → HasLastRoom ws j r → HasLastRoom vs j r
+pub room_next : {sli : ℕ} (ws vs : List (Worker sli Lanes)) (rs ss : List (List Entry)) (j : ℕ) (r : Vec Entry Global) → EachLastDrained ws rs ss vs j → HasLastRoom ws j r → HasLastRoom vs j r
 room_next ws vs rs ss j r a room =
     let s = same_sum 8 (λ i. length (waits_in ws i j)) (λ i. length (waits_in vs i j)) (λ i _. ap length (a.later_waits i j (omega arith))) in
     omega arith

@@ -10,12 +10,12 @@ use Rattle.tlsf_calls.specs.declared.entry.Entry.{Entry}
 use Rattle.tlsf_crew.specs.declared.worker.worker.Worker.{Worker}
 use Rattle.tlsf_crew.specs.declared.queues.queues.Queues.{Queues}
 use Rattle.tlsf_crew.specs.races.LaneTasks.{KeepRooms}
-use Rattle.tlsf_crew.specs.jobs.Parts.{ScriptsRan}
+use Rattle.tlsf_crew.specs.jobs.Parts.{EachJobRan}
 use Rattle.tlsf_crew.specs.scripts.Scripts.{script_of}
 use Rattle.tlsf_crew.specs.races.Rooms.{HaveQueueRecordRooms}
 use Rattle.tlsf_crew.specs.scripts.Counts.{releases_of}
 use Rattle.tlsf_crew.specs.scripts.QueueMoves.{QueueMoved, IsQueueLimit}
-use Rattle.tlsf_crew.specs.races.QueueTasks.{HasPlace, HaveQueuesRun, KnowsSomeYard}
+use Rattle.tlsf_crew.specs.races.QueueTasks.{HasPlace, EachQueueWorkerRan, KnowsSomeYard}
 use Rattle.tlsf_crew.specs.model.QueueTold.{MayTellQueue}
 use Rattle.tlsf_crew.specs.queues.QueueWorkers.{KnowsQueueYard}
 use Rattle.tlsf_crew.specs.queues.QueueYard.{IsQueueYard}
@@ -31,9 +31,9 @@ pub each_knows_some : {sli : ℕ} (ws : List (Worker sli Queues)) → IsQueueYar
 each_knows_some ws yard k d lt = let w = yard.workers k (get_or ws k d) (slice_get-get_or ws k d lt) in (length ws, w.knows)
 
 abbrev QueuesRan : {sli : ℕ} → List (Worker sli Queues) → List (List Call) → List (Vec Entry Global) → List (Worker sli Queues) → Type 0
-QueuesRan {sli} ws scripts records vs = ScriptsRan (λ queues releases limits. IsQueueLimit releases limits) KnowsQueueYard (MayTellQueue sli) QueueMoved ws scripts records vs
+QueuesRan {sli} ws scripts records vs = EachJobRan (λ queues releases limits. IsQueueLimit releases limits) KnowsQueueYard (MayTellQueue sli) QueueMoved ws scripts records vs
 
-pub queues_ran : {sli : ℕ} (ws vs : List (Worker sli Queues)) (scripts : List (List Call)) (records : List (Vec Entry Global)) → QueuesRan ws scripts records vs → HaveQueuesRun ws scripts (map (λ r. r.items) records) vs
+pub queues_ran : {sli : ℕ} (ws vs : List (Worker sli Queues)) (scripts : List (List Call)) (records : List (Vec Entry Global)) → QueuesRan ws scripts records vs → EachQueueWorkerRan ws scripts (map (λ r. r.items) records) vs
 queues_ran ws vs scripts records run = record {
   made = run.made;
   worker_count = run.worker_count;

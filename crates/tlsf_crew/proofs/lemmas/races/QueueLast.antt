@@ -22,7 +22,7 @@ use Rattle.tlsf_crew.specs.worker.Workers.{id_of}
 use Rattle.tlsf_crew.specs.queues.QueueWorkers.{queue_end_to, KeepsQueueYards, KnowsQueueYard}
 use Rattle.tlsf_crew.specs.queues.QueueYard.{IsQueueYard}
 use Rattle.tlsf_crew.specs.scripts.QueueMoves.{QueueStepped, entry_by}
-use Rattle.tlsf_crew.specs.races.QueueTasks.{DrainedLast, QueuesDrained}
+use Rattle.tlsf_crew.specs.races.QueueTasks.{QueueLastDrained, EachQueueLastDrained}
 use Rattle.tlsf_crew.proofs.lemmas.races.LastDrains.{items_of, record_items}
 use Rattle.tlsf_crew.proofs.lemmas.histories.JoinedEntries.{told_nothing, taken_then}
 use Rattle.tlsf_crew.proofs.lemmas.worker.Slots.{get_set_other, get_set_same, some_same}
@@ -33,7 +33,7 @@ use Rattle.tlsf_crew.proofs.lemmas.queues.QueueYards.{all_kept}
 
 pub drained_last : {sli : ℕ} (n : ℕ) (a v : Worker sli Queues) (limits left : List ℕ) (at taken : ℕ) (entries between longer : List Entry) → taken ≤ sum_of limits → sum_of limits < 8192 → at ≡ id_of v
     → ((made : List (Option Name)) → QueueStepped n a limits last_call made entries v left between (Drained taken)) → queue_end_to v ≡ queue_end_to a
-    → longer ≡ between ++ record { worker = at; call = last_call; reply = Drained taken } ∷ [] → DrainedLast n a v entries longer
+    → longer ≡ between ++ record { worker = at; call = last_call; reply = Drained taken } ∷ [] → QueueLastDrained n a v entries longer
 drained_last n a v limits left at taken entries between longer few less is step ends more =
     let x = step [] in
     let m = x.moved [] in
@@ -58,8 +58,8 @@ drained_last n a v limits left at taken entries between longer few less is step 
 
 -- ---- all workers
 
-pub drained_next : {sli : ℕ} (ws us : List (Worker sli Queues)) (rs ss : List (Vec Entry Global)) (j : ℕ) (u w : Worker sli Queues) (r s : Vec Entry Global) → QueuesDrained ws (items_of rs) (items_of ss) us j → slice_get us j ≡ Some u
-    → slice_get ss j ≡ Some r → slice_get rs j ≡ Some r → ((n : ℕ) → KnowsQueueYard n u → DrainedLast n u w r.items s.items) → QueuesDrained ws (items_of rs) (items_of (set ss j s)) (set us j w) (j + 1)
+pub drained_next : {sli : ℕ} (ws us : List (Worker sli Queues)) (rs ss : List (Vec Entry Global)) (j : ℕ) (u w : Worker sli Queues) (r s : Vec Entry Global) → EachQueueLastDrained ws (items_of rs) (items_of ss) us j → slice_get us j ≡ Some u
+    → slice_get ss j ≡ Some r → slice_get rs j ≡ Some r → ((n : ℕ) → KnowsQueueYard n u → QueueLastDrained n u w r.items s.items) → EachQueueLastDrained ws (items_of rs) (items_of (set ss j s)) (set us j w) (j + 1)
 drained_next {sli} ws us rs ss j u w r s x at here there step =
     let j_in = slice_get_within us j u at in
     let le : j ≤ j = omega arith in
@@ -75,20 +75,20 @@ drained_next {sli} ws us rs ss j u w r s x at here there step =
             let after : s.items ≡ record_of (items_of (set ss j s)) k = sym (ap (record_of (items_of (set ss j s))) e ∙ record_items (set ss j s) j s (get_set_same ss j s s_in)) in (
               w,
               ap (slice_get (set us j w)) e ∙ get_set_same us j w j_in,
-              λ n known. subst (λ (z : Worker sli Queues × List Entry × List Entry). DrainedLast n z.0 w z.1 z.2) (λ t. (a_is t, before t, after t)) (step n (subst (KnowsQueueYard n) (sym a_is) known)),
+              λ n known. subst (λ (z : Worker sli Queues × List Entry × List Entry). QueueLastDrained n z.0 w z.1 z.2) (λ t. (a_is t, before t, after t)) (step n (subst (KnowsQueueYard n) (sym a_is) known)),
             )
         | inr ne ↦
             let below : k < j = omega arith in
             let o = x.drained k a below is in
             let same : record_of (items_of ss) k ≡ record_of (items_of (set ss j s)) k
             = sym (ap (λ (l : List (List Entry)). get_or l k []) (map-set (λ (e : Vec Entry Global). e.items) ss j s) ∙ get_or-set_other (items_of ss) j k s.items [] ne) in
-            (o.0, get_set_other us j k w ne ∙ o.1, λ n known. subst (DrainedLast n a o.0 (record_of (items_of rs) k)) same (o.2 n known))
+            (o.0, get_set_other us j k w ne ∙ o.1, λ n known. subst (QueueLastDrained n a o.0 (record_of (items_of rs) k)) same (o.2 n known))
       ];
       later_workers = λ k after. let ne : k ≢ j = (λ e. omega arith) in get_set_other us j k w ne ∙ x.later_workers k (omega arith);
     }
 
 -- the yard is whole then
-pub drained_yard : {sli : ℕ} (ws : List (Worker sli Queues)) (rs ss : List (List Entry)) (vs : List (Worker sli Queues)) → IsQueueYard ws → QueuesDrained ws rs ss vs (length ws) → IsQueueYard vs
+pub drained_yard : {sli : ℕ} (ws : List (Worker sli Queues)) (rs ss : List (List Entry)) (vs : List (Worker sli Queues)) → IsQueueYard ws → EachQueueLastDrained ws rs ss vs (length ws) → IsQueueYard vs
 drained_yard {sli} ws rs ss vs yard x = all_kept ws vs yard x.worker_count (λ j v is.
     let a = some_at ws j (omega (arith, slice_get_within vs j v is, x.worker_count)) in
     let o = x.drained j a.0 (slice_get_within ws j a.0 a.1) a.1 in

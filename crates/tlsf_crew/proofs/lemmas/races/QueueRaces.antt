@@ -33,8 +33,8 @@ use Rattle.tlsf_crew.specs.queues.QueueYard.{IsQueueYard, first_capacity, queue_
 use Rattle.tlsf_crew.specs.model.QueueTold.{MayTellQueue, MayTellQueueAll, told_takes}
 use Rattle.tlsf_crew.specs.scripts.QueueMoves.{told_of}
 use Rattle.tlsf_crew.specs.races.QueueRace.{AgreeQueue, IsLegalQueue, IsQueueRace}
-use Rattle.tlsf_crew.specs.queues.QueueSettle.{QueueKnown, QueuesSettled, StaysPut, end_at}
-use Rattle.tlsf_crew.specs.races.QueueTasks.{DrainedLast, Finished, HaveQueuesRun, QueueRan}
+use Rattle.tlsf_crew.specs.queues.QueueSettle.{QueueKnown, EachQueueSettled, StaysPut, end_at}
+use Rattle.tlsf_crew.specs.races.QueueTasks.{QueueLastDrained, Finished, EachQueueWorkerRan, QueueWorkerRan}
 use Rattle.tlsf_crew.proofs.lemmas.jobs.Gathering.{map_at}
 use Rattle.tlsf_crew.proofs.lemmas.histories.JoinedEntries.{made_then, taken_then}
 use Rattle.tlsf_crew.proofs.lemmas.scripts.ManyEntries.{prefix_then, stands_split}
@@ -50,7 +50,7 @@ use Rattle.tlsf_crew.proofs.lemmas.queues.QueueYards.{all_kept}
 -- ---- the yard
 
 -- the yard stays whole while the scripts run
-pub ran_yard : {sli : ℕ} (ws : List (Worker sli Queues)) (scripts : List (List Call)) (rs : List (List Entry)) (vs : List (Worker sli Queues)) → IsQueueYard ws → HaveQueuesRun ws scripts rs vs → IsQueueYard vs
+pub ran_yard : {sli : ℕ} (ws : List (Worker sli Queues)) (scripts : List (List Call)) (rs : List (List Entry)) (vs : List (Worker sli Queues)) → IsQueueYard ws → EachQueueWorkerRan ws scripts rs vs → IsQueueYard vs
 ran_yard {sli} ws scripts rs vs yard x = all_kept ws vs yard x.worker_count (λ j v is.
     let a = some_at ws j (omega (arith, slice_get_within vs j v is, x.worker_count)) in
     let o = x.ran j a.0 a.1 in
@@ -67,48 +67,48 @@ record Way {sli : ℕ} (n : ℕ) (zs ws us ts : List (Worker sli Queues)) (j : �
   start : Worker sli Queues
   start_is : slice_get ws j ≡ Some start
   ran : Worker sli Queues
-  met : Worker sli Queues
-  met_is : slice_get us j ≡ Some met
+  settled : Worker sli Queues
+  settled_is : slice_get us j ≡ Some settled
   empty : Worker sli Queues
   back : Worker sli Queues
   back_is : slice_get ts j ≡ Some back
   number : id_of start ≡ j
-  later_number : id_of met ≡ j
+  later_number : id_of settled ≡ j
   first : StaysPut given start
-  run : QueueRan n start script made rs ran
-  second : StaysPut ran met
-  last : DrainedLast n met empty rs ss
+  run : QueueWorkerRan n start script made rs ran
+  second : StaysPut ran settled
+  last : QueueLastDrained n settled empty rs ss
   third : StaysPut empty back
 
-abbrev WayIn : {sli : ℕ} (zs ws : List (Worker sli Queues)) (vs ts : List (Worker sli Queues)) (scripts : List (List Call)) (rs ss : List (List Entry)) → HaveQueuesRun ws scripts rs vs → Finished vs rs ss ts → ℕ → Type 0
-WayIn zs ws vs ts scripts rs ss run done j = Way (length zs) zs ws done.met ts j (script_of scripts j) (run.made j) (record_of rs j) (record_of ss j)
+abbrev WayIn : {sli : ℕ} (zs ws : List (Worker sli Queues)) (vs ts : List (Worker sli Queues)) (scripts : List (List Call)) (rs ss : List (List Entry)) → EachQueueWorkerRan ws scripts rs vs → Finished vs rs ss ts → ℕ → Type 0
+WayIn zs ws vs ts scripts rs ss run done j = Way (length zs) zs ws done.settled ts j (script_of scripts j) (run.made j) (record_of rs j) (record_of ss j)
 
-way : {sli : ℕ} (zs ws vs ts : List (Worker sli Queues)) (scripts : List (List Call)) (rs ss : List (List Entry)) → QueuesSettled zs (length zs) ws → (run : HaveQueuesRun ws scripts rs vs) → (done : Finished vs rs ss ts)
+way : {sli : ℕ} (zs ws vs ts : List (Worker sli Queues)) (scripts : List (List Call)) (rs ss : List (List Entry)) → EachQueueSettled zs (length zs) ws → (run : EachQueueWorkerRan ws scripts rs vs) → (done : Finished vs rs ss ts)
     → (j : ℕ) → j < length zs → WayIn zs ws vs ts scripts rs ss run done j
 way zs ws vs ts scripts rs ss s run done j j_in =
     let f = done.first in
     let d = done.drained in
     let l = done.last in
     let n : length ws ≡ length zs = s.count in
-    let m : length done.met ≡ length zs = f.count ∙ (run.worker_count ∙ n) in
+    let m : length done.settled ≡ length zs = f.count ∙ (run.worker_count ∙ n) in
     let a = some_at zs j j_in in
     let b = some_at ws j (omega (arith, n)) in
     let c = run.ran j b.0 b.1 in
-    let e = some_at done.met j (omega (arith, m)) in
+    let e = some_at done.settled j (omega (arith, m)) in
     let g = d.drained j e.0 (omega (arith, m)) e.1 in
     let h = some_at ts j (omega (arith, l.count, d.worker_count, m)) in
     let yard_start = s.yard in
-    let yard_met = f.yard in
+    let yard_settled = f.yard in
     let w = yard_start.workers j b.0 b.1 in
-    let u = yard_met.workers j e.0 e.1 in
+    let u = yard_settled.workers j e.0 e.1 in
     record {
       given = a.0;
       given_is = a.1;
       start = b.0;
       start_is = b.1;
       ran = c.0;
-      met = e.0;
-      met_is = e.1;
+      settled = e.0;
+      settled_is = e.1;
       empty = g.0;
       back = h.0;
       back_is = h.1;
@@ -124,7 +124,7 @@ way zs ws vs ts scripts rs ss s run done j j_in =
 -- ---- what one worker has put for another
 
 -- worker i's end to queue j, at the beginning, when the queues were settled, and at the end
-record SentOn {sli : ℕ} (zs : List (Worker sli Queues)) (i j : ℕ) (start met back : Worker sli Queues) (made : List Post) : Type 0 where
+record SentOn {sli : ℕ} (zs : List (Worker sli Queues)) (i j : ℕ) (start settled back : Worker sli Queues) (made : List Post) : Type 0 where
   put : List Post
   given : PosterEnd
   given_is : end_at zs i j ≡ Some given
@@ -134,7 +134,7 @@ record SentOn {sli : ℕ} (zs : List (Worker sli Queues)) (i j : ℕ) (start met
   first_is : queue_end_to start j ≡ Some first
   first_put : put_by first ≡ put
   second : PosterEnd
-  second_is : queue_end_to met j ≡ Some second
+  second_is : queue_end_to settled j ≡ Some second
   second_put : put_by second ≡ put ++ made
   third : PosterEnd
   third_is : queue_end_to back j ≡ Some third
@@ -152,18 +152,18 @@ yard_end ws i j a yard is j_in ne =
 none_more : {X : Type 0} (xs ys : List X) → xs ≡ xs ++ ys → ys ≡ []
 none_more xs ys e = nil_from_length ys (omega (arith, ap length e, length-append xs ys))
 
-sent_on : {sli : ℕ} (zs ws vs ts : List (Worker sli Queues)) (scripts : List (List Call)) (rs ss : List (List Entry)) → IsQueueYard zs → (s : QueuesSettled zs (length zs) ws) → (run : HaveQueuesRun ws scripts rs vs)
+sent_on : {sli : ℕ} (zs ws vs ts : List (Worker sli Queues)) (scripts : List (List Call)) (rs ss : List (List Entry)) → IsQueueYard zs → (s : EachQueueSettled zs (length zs) ws) → (run : EachQueueWorkerRan ws scripts rs vs)
     → (done : Finished vs rs ss ts) → (i j : ℕ) → j < length zs → i ≢ j → (x : WayIn zs ws vs ts scripts rs ss run done i)
-    → SentOn zs i j x.start x.met x.back (posts_made i j (run.made i ++ None ∷ []) (record_of ss i))
+    → SentOn zs i j x.start x.settled x.back (posts_made i j (run.made i ++ None ∷ []) (record_of ss i))
 sent_on zs ws vs ts scripts rs ss yard s run done i j j_in ne x =
     let f = done.first in
     let d = done.drained in
     let l = done.last in
     let names = run.made i ++ None ∷ [] in
-    let m : length done.met ≡ length zs = f.count ∙ (run.worker_count ∙ s.count) in
+    let m : length done.settled ≡ length zs = f.count ∙ (run.worker_count ∙ s.count) in
     let p = yard_end zs i j x.given yard x.given_is j_in ne in
     let q = yard_end ws i j x.start s.yard x.start_is (omega (arith, s.count)) ne in
-    let r = yard_end done.met i j x.met f.yard x.met_is (omega (arith, m)) ne in
+    let r = yard_end done.settled i j x.settled f.yard x.settled_is (omega (arith, m)) ne in
     let t = yard_end ts i j x.back l.yard x.back_is (omega (arith, l.count, d.worker_count, m)) ne in
     let moved = x.run.run.moved (None ∷ []) in
     let mid = slot_kept (queue_end_to x.start j) (queue_end_to x.ran j) q.0 (moved.yard.posts j) q.1 in
@@ -201,23 +201,23 @@ sent_on zs ws vs ts scripts rs ss yard s run done i j j_in ne x =
 -- ---- what the other took
 
 -- what is taken of worker i by the script, and by all calls
-record TookOf (i j : ℕ) (got met empty : List Post) (rs own ss : List Entry) : Type 0 where
-  script : posts_of i met ≡ posts_of i got ++ posts_taken i j rs
+record TookOf (i j : ℕ) (got settled empty : List Post) (rs own ss : List Entry) : Type 0 where
+  script : posts_of i settled ≡ posts_of i got ++ posts_taken i j rs
   all : posts_of i empty ≡ posts_of i got ++ posts_taken i j ss
 
 took_of : {sli : ℕ} (n : ℕ) (zs ws us ts : List (Worker sli Queues)) (i j : ℕ) (script : List Call) (made : List (Option Name)) (rs ss : List Entry) → (y : Way n zs ws us ts j script made rs ss)
-    → TookOf i j (got_by y.given.ports.own) (got_by y.met.ports.own) (got_by y.empty.ports.own) rs y.last.own ss
+    → TookOf i j (got_by y.given.ports.own) (got_by y.settled.ports.own) (got_by y.empty.ports.own) rs y.last.own ss
 took_of n zs ws us ts i j script made rs ss y =
     let got = posts_of i (got_by y.given.ports.own) in
     let m = y.run.run.moved [] in
     let l = y.last.moved [] in
     let own = y.last.own in
-    let first : posts_of i (got_by y.met.ports.own) ≡ got ++ posts_taken i j rs
+    let first : posts_of i (got_by y.settled.ports.own) ≡ got ++ posts_taken i j rs
     = ap (posts_of i) y.second.own.0 ∙ (subst (λ (k : ℕ). posts_of i (got_by y.ran.ports.own) ≡ posts_of i (got_by y.start.ports.own) ++ posts_taken i k rs) y.number (m.taken i)
     ∙ ap (λ g. posts_of i g ++ posts_taken i j rs) y.first.own.0) in
     record {
       script = first;
-      all = subst (λ (k : ℕ). posts_of i (got_by y.empty.ports.own) ≡ posts_of i (got_by y.met.ports.own) ++ posts_taken i k own) y.later_number (l.taken i)
+      all = subst (λ (k : ℕ). posts_of i (got_by y.empty.ports.own) ≡ posts_of i (got_by y.settled.ports.own) ++ posts_taken i k own) y.later_number (l.taken i)
           ∙ (ap (λ g. g ++ posts_taken i j own) first
           ∙ (append_assoc got (posts_taken i j rs) (posts_taken i j own)
           ∙ ap (λ g. got ++ g) (sym (taken_then i j rs own) ∙ ap (posts_taken i j) (sym y.last.entries_are))));
@@ -263,8 +263,8 @@ record Pair (i j : ℕ) (got empty put whole : List Post) (made : List Post) (ss
   whole_is : whole ≡ put ++ made
   took : posts_of i empty ≡ posts_of i got ++ posts_taken i j ss
 
-pair : {sli : ℕ} (zs ws vs ts : List (Worker sli Queues)) (scripts : List (List Call)) (rs ss : List (List Entry)) → (s : QueuesSettled zs (length zs) ws) → (run : HaveQueuesRun ws scripts rs vs) → (done : Finished vs rs ss ts)
-    → (i j : ℕ) → j < length zs → (x : WayIn zs ws vs ts scripts rs ss run done i) → (y : WayIn zs ws vs ts scripts rs ss run done j) → (made : List Post) → (t : SentOn zs i j x.start x.met x.back made)
+pair : {sli : ℕ} (zs ws vs ts : List (Worker sli Queues)) (scripts : List (List Call)) (rs ss : List (List Entry)) → (s : EachQueueSettled zs (length zs) ws) → (run : EachQueueWorkerRan ws scripts rs vs) → (done : Finished vs rs ss ts)
+    → (i j : ℕ) → j < length zs → (x : WayIn zs ws vs ts scripts rs ss run done i) → (y : WayIn zs ws vs ts scripts rs ss run done j) → (made : List Post) → (t : SentOn zs i j x.start x.settled x.back made)
     → Pair i j (got_by y.given.ports.own) (got_by y.empty.ports.own) t.put (t.put ++ made) made (record_of ss j)
 pair zs ws vs ts scripts rs ss s run done i j j_in x y made t =
     let f = done.first in
@@ -273,19 +273,19 @@ pair zs ws vs ts scripts rs ss s run done i j j_in x y made t =
     let m : length vs ≡ length zs = run.worker_count ∙ s.count in
     let n : length done.emptied ≡ length zs = d.worker_count ∙ (f.count ∙ m) in
     let known = f.known j (omega (arith, m)) in
-    let at_met : posts_of i (known_to y.met.ports.own) ≡ t.put ++ made = known.known i x.met y.met t.second x.met_is y.met_is t.second_is ∙ t.second_put in
-    let took = took_of (length zs) zs ws done.met ts i j (script_of scripts j) (run.made j) (record_of rs j) (record_of ss j) y in
+    let at_settled : posts_of i (known_to y.settled.ports.own) ≡ t.put ++ made = known.known i x.settled y.settled t.second x.settled_is y.settled_is t.second_is ∙ t.second_put in
+    let took = took_of (length zs) zs ws done.settled ts i j (script_of scripts j) (run.made j) (record_of rs j) (record_of ss j) y in
     record {
       start = seen ws i j x.start y.start t.first (got_by y.given.ports.own) t.put (s.known j j_in) x.start_is y.start_is t.first_is y.first.own.0 t.first_put;
       end = seen ts i j x.back y.back t.third (got_by y.empty.ports.own) (t.put ++ made) (l.known j (omega (arith, n))) x.back_is y.back_is t.third_is y.third.own.0 t.third_put;
-      all = subst (λ g. IsPrefix g (posts_of i (got_by y.empty.ports.own))) at_met (y.last.all i);
+      all = subst (λ g. IsPrefix g (posts_of i (got_by y.empty.ports.own))) at_settled (y.last.all i);
       whole_is = refl;
       took = took.all;
     }
 
 -- a drain that ended early
-early_drain : {sli : ℕ} (zs ws vs ts : List (Worker sli Queues)) (scripts : List (List Call)) (rs ss : List (List Entry)) → (s : QueuesSettled zs (length zs) ws) → (run : HaveQueuesRun ws scripts rs vs) → (done : Finished vs rs ss ts)
-    → (i j : ℕ) → j < length zs → (x : WayIn zs ws vs ts scripts rs ss run done i) → (y : WayIn zs ws vs ts scripts rs ss run done j) → (made : List Post) → (t : SentOn zs i j x.start x.met x.back made)
+early_drain : {sli : ℕ} (zs ws vs ts : List (Worker sli Queues)) (scripts : List (List Call)) (rs ss : List (List Entry)) → (s : EachQueueSettled zs (length zs) ws) → (run : EachQueueWorkerRan ws scripts rs vs) → (done : Finished vs rs ss ts)
+    → (i j : ℕ) → j < length zs → (x : WayIn zs ws vs ts scripts rs ss run done i) → (y : WayIn zs ws vs ts scripts rs ss run done j) → (made : List Post) → (t : SentOn zs i j x.start x.settled x.back made)
     → (before : List Entry) (e : Entry) (most k : ℕ) → StandsBehind (record_of ss j) before e → e.call ≡ Drain most → e.reply ≡ Drained k → k < most
     → IsPrefix t.put (posts_of i (got_by y.given.ports.own) ++ posts_taken i j before)
 early_drain zs ws vs ts scripts rs ss s run done i j j_in x y made t before e most k stands call reply less =
@@ -303,12 +303,12 @@ early_drain zs ws vs ts scripts rs ss s run done i j j_in x y made t before e mo
       | inr u ↦
           let l = last.moved [] in
           let known = f.known j (omega (arith, run.worker_count, s.count)) in
-          let whole : posts_of i (known_to y.met.ports.own) ≡ t.put ++ made = known.known i x.met y.met t.second x.met_is y.met_is t.second_is ∙ t.second_put in
-          let took = took_of (length zs) zs ws done.met ts i j (script_of scripts j) (run.made j) script (record_of ss j) y in
-          let there : posts_of i (got_by y.met.ports.own) ++ posts_taken i j u.0 ≡ got ++ posts_taken i j before
+          let whole : posts_of i (known_to y.settled.ports.own) ≡ t.put ++ made = known.known i x.settled y.settled t.second x.settled_is y.settled_is t.second_is ∙ t.second_put in
+          let took = took_of (length zs) zs ws done.settled ts i j (script_of scripts j) (run.made j) script (record_of ss j) y in
+          let there : posts_of i (got_by y.settled.ports.own) ++ posts_taken i j u.0 ≡ got ++ posts_taken i j before
           = ap (λ g. g ++ posts_taken i j u.0) took.script ∙ (append_assoc got (posts_taken i j script) (posts_taken i j u.0) ∙ ap (λ g. got ++ g) (sym (taken_then i j script u.0) ∙ ap (posts_taken i j) (sym u.1))) in
-          let p : IsPrefix (t.put ++ made) (posts_of i (got_by y.met.ports.own) ++ posts_taken i j u.0)
-          = subst (λ (z : List Post × ℕ). IsPrefix z.0 (posts_of i (got_by y.met.ports.own) ++ posts_taken i z.1 u.0)) (λ a. (whole a, y.later_number a)) (l.drained u.0 e most k u.2 call reply less i) in
+          let p : IsPrefix (t.put ++ made) (posts_of i (got_by y.settled.ports.own) ++ posts_taken i j u.0)
+          = subst (λ (z : List Post × ℕ). IsPrefix z.0 (posts_of i (got_by y.settled.ports.own) ++ posts_taken i z.1 u.0)) (λ a. (whole a, y.later_number a)) (l.drained u.0 e most k u.2 call reply less i) in
           prefix_then t.put (t.put ++ made) (got ++ posts_taken i j before) (made, refl) (subst (IsPrefix (t.put ++ made)) there p)
     ]
 
@@ -318,16 +318,16 @@ early_drain zs ws vs ts scripts rs ss s run done i j j_in x y made t before e mo
 given_room : {sli : ℕ} (zs : List (Worker sli Queues)) (j : ℕ) (a : Worker sli Queues) → IsQueueYard zs → slice_get zs j ≡ Some a → most_of a.ports.own ≡ queue_capacity_in zs
 given_room zs j a yard is = let w = yard.workers j a is in w.room
 
--- worker i met the queue of worker j full, and nobody else posts into it
-found_full : {sli : ℕ} (zs ws vs ts : List (Worker sli Queues)) (scripts : List (List Call)) (rs ss : List (List Entry)) → IsQueueYard zs → (s : QueuesSettled zs (length zs) ws) → (run : HaveQueuesRun ws scripts rs vs)
-    → (done : Finished vs rs ss ts) → (i j : ℕ) → j < length zs → (x : WayIn zs ws vs ts scripts rs ss run done i) → (y : WayIn zs ws vs ts scripts rs ss run done j) → (all : List Post) → (t : SentOn zs i j x.start x.met x.back all)
+-- worker i settled the queue of worker j full, and nobody else posts into it
+found_full : {sli : ℕ} (zs ws vs ts : List (Worker sli Queues)) (scripts : List (List Call)) (rs ss : List (List Entry)) → IsQueueYard zs → (s : EachQueueSettled zs (length zs) ws) → (run : EachQueueWorkerRan ws scripts rs vs)
+    → (done : Finished vs rs ss ts) → (i j : ℕ) → j < length zs → (x : WayIn zs ws vs ts scripts rs ss run done i) → (y : WayIn zs ws vs ts scripts rs ss run done j) → (all : List Post) → (t : SentOn zs i j x.start x.settled x.back all)
     → length zs ≡ 2 → (before : List Entry) (e : Entry) (name : Name) → StandsBehind (record_of ss i) before e → e.reply ≡ Refused (Full name) → name.heap ≡ j
     → queue_capacity_in zs ≤ length (drop (length (posts_of i (got_by y.given.ports.own))) t.put) + length (posts_made i j (run.made i ++ None ∷ []) before)
 found_full zs ws vs ts scripts rs ss yard s run done i j j_in x y all t two before e name stands r at_j =
     let names = run.made i ++ None ∷ [] in
     let last = x.last in
     let drain = last.told (run.made i) in
-    let here = drain_unfilled (id_of x.met) (told_of (run.made i) (record_of rs i) (heap_of x.met)) (told_of names (record_of ss i) (heap_of x.empty)) drain.0 before e name drain.3 stands r in
+    let here = drain_unfilled (id_of x.settled) (told_of (run.made i) (record_of rs i) (heap_of x.settled)) (told_of names (record_of ss i) (heap_of x.empty)) drain.0 before e name drain.3 stands r in
     let moved = x.run.run.moved (None ∷ []) in
     let yard_start = s.yard in
     let box = yard_start.mailboxes i j x.start y.start t.first x.start_is y.start_is t.first_is in
@@ -344,12 +344,12 @@ found_full zs ws vs ts scripts rs ss yard s run done i j j_in x y all t two befo
 -- ---- the last drain
 
 -- of each poster the last drain of worker j took no more than had waited in its queue when the scripts were done
-took_waiting : {sli : ℕ} (zs ws vs ts : List (Worker sli Queues)) (scripts : List (List Call)) (rs ss : List (List Entry)) → IsQueueYard zs → (s : QueuesSettled zs (length zs) ws) → (run : HaveQueuesRun ws scripts rs vs)
+took_waiting : {sli : ℕ} (zs ws vs ts : List (Worker sli Queues)) (scripts : List (List Call)) (rs ss : List (List Entry)) → IsQueueYard zs → (s : EachQueueSettled zs (length zs) ws) → (run : EachQueueWorkerRan ws scripts rs vs)
     → (done : Finished vs rs ss ts) → (p j : ℕ) → p < length zs → j < length zs → p ≢ j → (y : WayIn zs ws vs ts scripts rs ss run done j) → (posts waiting : List Post)
-    → DrainTold (id_of y.met) (told_of (run.made j) (record_of rs j) (heap_of y.met)) posts (told_of (run.made j ++ None ∷ []) (record_of ss j) (heap_of y.empty))
-    → ((p : ℕ) → posts_of p (known_to y.met.ports.own) ≡ posts_of p (got_by y.met.ports.own ++ waiting)) → posts_of p posts ≡ posts_of p waiting
+    → DrainTold (id_of y.settled) (told_of (run.made j) (record_of rs j) (heap_of y.settled)) posts (told_of (run.made j ++ None ∷ []) (record_of ss j) (heap_of y.empty))
+    → ((p : ℕ) → posts_of p (known_to y.settled.ports.own) ≡ posts_of p (got_by y.settled.ports.own ++ waiting)) → posts_of p posts ≡ posts_of p waiting
 took_waiting zs ws vs ts scripts rs ss yard s run done p j p_in j_in ne y posts waiting drain order =
-    let at = id_of y.met in
+    let at = id_of y.settled in
     let x = way zs ws vs ts scripts rs ss s run done p p_in in
     let made = posts_made p j (run.made p ++ None ∷ []) (record_of ss p) in
     let t = sent_on zs ws vs ts scripts rs ss yard s run done p j j_in ne x in
@@ -357,34 +357,34 @@ took_waiting zs ws vs ts scripts rs ss yard s run done p j p_in j_in ne y posts 
     let f = done.first in
     let known = f.known j (omega (arith, run.worker_count, s.count)) in
     let whole = t.put ++ made in
-    let got = got_by y.met.ports.own in
-    let at_met : whole ≡ posts_of p got ++ posts_of p waiting
-    = sym (known.known p x.met y.met t.second x.met_is y.met_is t.second_is ∙ t.second_put) ∙ (order p ∙ of_append p got waiting) in
+    let got = got_by y.settled.ports.own in
+    let at_settled : whole ≡ posts_of p got ++ posts_of p waiting
+    = sym (known.known p x.settled y.settled t.second x.settled_is y.settled_is t.second_is ∙ t.second_put) ∙ (order p ∙ of_append p got waiting) in
     let moved = y.last.moved [] in
     let own = y.last.own in
     let script = record_of rs j in
     let took : posts_taken p at own ≡ posts_of p posts
     = append_cancel_left (posts_taken p at script) (posts_taken p at own) (posts_of p posts)
-    (sym (taken_then p at script own) ∙ (ap (posts_taken p at) (sym y.last.entries_are) ∙ end_takes p at (told_of (run.made j) script (heap_of y.met)) (told_of (run.made j ++ None ∷ []) (record_of ss j) (heap_of y.empty)) posts drain)) in
+    (sym (taken_then p at script own) ∙ (ap (posts_taken p at) (sym y.last.entries_are) ∙ end_takes p at (told_of (run.made j) script (heap_of y.settled)) (told_of (run.made j ++ None ∷ []) (record_of ss j) (heap_of y.empty)) posts drain)) in
     let at_end : posts_of p (got_by y.empty.ports.own) ≡ posts_of p got ++ posts_of p posts = moved.taken p ∙ ap (λ l. posts_of p got ++ l) took in
     let here : whole ≡ posts_of p (got_by y.empty.ports.own) = all_taken p (got_by y.empty.ports.own) both.end.waiting whole both.end.is both.all in
-    append_cancel_left (posts_of p got) (posts_of p posts) (posts_of p waiting) (sym at_end ∙ (sym here ∙ at_met))
+    append_cancel_left (posts_of p got) (posts_of p posts) (posts_of p waiting) (sym at_end ∙ (sym here ∙ at_settled))
 
-last_few : {sli : ℕ} (zs ws vs ts : List (Worker sli Queues)) (scripts : List (List Call)) (rs ss : List (List Entry)) → IsQueueYard zs → (s : QueuesSettled zs (length zs) ws) → (run : HaveQueuesRun ws scripts rs vs)
+last_few : {sli : ℕ} (zs ws vs ts : List (Worker sli Queues)) (scripts : List (List Call)) (rs ss : List (List Entry)) → IsQueueYard zs → (s : EachQueueSettled zs (length zs) ws) → (run : EachQueueWorkerRan ws scripts rs vs)
     → (done : Finished vs rs ss ts) → (j : ℕ) → j < length zs → (before : List Entry) (k : ℕ) → record_of ss j ≡ before ++ record { worker = j; call = last_call; reply = Drained k } ∷ [] → k ≤ queue_capacity_in zs
 last_few zs ws vs ts scripts rs ss yard s run done j j_in before k is =
     let n = length zs in
     let y = way zs ws vs ts scripts rs ss s run done j j_in in
-    let at = id_of y.met in
+    let at = id_of y.settled in
     let drain = y.last.told (run.made j) in
     let posts = drain.0 in
-    let start = told_of (run.made j) (record_of rs j) (heap_of y.met) in
+    let start = told_of (run.made j) (record_of rs j) (heap_of y.settled) in
     let ends = same_from_push (told_takes at start posts).entries before (drain_entry at posts) (record { worker = j; call = last_call; reply = Drained k }) (sym (ap (λ (t : Told). t.entries) drain.3) ∙ is) in
     let reply : Drained (length posts) ≡ Drained k = ap (λ (e : Entry). e.reply) ends.1 in
     let count : length posts ≡ k = cc in
     let f = done.first in
     let known = f.known j (omega (arith, run.worker_count, s.count)) in
-    let order = known.order y.met y.met_is in
+    let order = known.order y.settled y.settled_is in
     let waiting = order.0 in
     let each : (p : ℕ) → length (posts_of p posts) ≤ length (posts_of p waiting) = λ p. elim (cases_lt p n) [
       | inl p_in ↦ elim (cases_eq p j) [
@@ -396,12 +396,12 @@ last_few zs ws vs ts scripts rs ss yard s run done j j_in before k is =
     let self : length posts ≤ length posts = omega arith in
     let few = no_more_posts (length posts) posts waiting self each in
     let moved = y.run.run.moved [] in
-    let room : most_of y.met.ports.own ≡ queue_capacity_in zs = y.second.own.1 ∙ (moved.yard.own.3 ∙ (y.first.own.1 ∙ given_room zs j y.given yard y.given_is)) in
+    let room : most_of y.settled.ports.own ≡ queue_capacity_in zs = y.second.own.1 ∙ (moved.yard.own.3 ∙ (y.first.own.1 ∙ given_room zs j y.given yard y.given_is)) in
     omega (arith, few, order.2, room, count)
 
 -- ---- each two records agree
 
-queues_agree : {sli : ℕ} (zs ws vs ts : List (Worker sli Queues)) (scripts : List (List Call)) (rs ss : List (List Entry)) → IsQueueYard zs → (s : QueuesSettled zs (length zs) ws) → (run : HaveQueuesRun ws scripts rs vs)
+queues_agree : {sli : ℕ} (zs ws vs ts : List (Worker sli Queues)) (scripts : List (List Call)) (rs ss : List (List Entry)) → IsQueueYard zs → (s : EachQueueSettled zs (length zs) ws) → (run : EachQueueWorkerRan ws scripts rs vs)
     → (done : Finished vs rs ss ts) → (i j : ℕ) → i < length zs → j < length zs → i ≢ j → AgreeQueue (length zs) (queue_capacity_in zs) i j (queue_waits_in zs i j) (run.made i ++ None ∷ []) (record_of ss i) (record_of ss j)
 queues_agree zs ws vs ts scripts rs ss yard s run done i j i_in j_in ne =
     let x = way zs ws vs ts scripts rs ss s run done i i_in in
@@ -442,15 +442,15 @@ way_legal : {sli : ℕ} (n : ℕ) (zs ws us ts : List (Worker sli Queues)) (j : 
 way_legal {sli} n zs ws us ts j script made rs ss y =
     let run = y.run.run in
     let first = heap_of_heap y.given y.start y.first.heap in
-    let second = heap_of_heap y.ran y.met y.second.heap in
+    let second = heap_of_heap y.ran y.settled y.second.heap in
     let third = heap_of_heap y.empty y.back y.third.heap in
     tell_more (MayTellQueue sli n j) (untold (heap_of y.given)) (told_of made rs (heap_of y.ran)) (told_of (made ++ None ∷ []) ss (heap_of y.back)) script last_call
     (all_told_as sli n n (id_of y.start) j (heap_of y.start) (heap_of y.given) (heap_of y.ran) (heap_of y.ran) script made rs refl y.number first refl run.told)
-    (last_told_as sli n (id_of y.met) j (heap_of y.met) (heap_of y.ran) (heap_of y.empty) (heap_of y.back) made (made ++ None ∷ []) rs ss y.later_number second (sym third) (y.last.told made))
+    (last_told_as sli n (id_of y.settled) j (heap_of y.settled) (heap_of y.ran) (heap_of y.empty) (heap_of y.back) made (made ++ None ∷ []) rs ss y.later_number second (sym third) (y.last.told made))
 
 -- ---- nothing waits
 
-nothing_waits : {sli : ℕ} (zs ws vs ts : List (Worker sli Queues)) (scripts : List (List Call)) (rs ss : List (List Entry)) → IsQueueYard zs → (s : QueuesSettled zs (length zs) ws) → (run : HaveQueuesRun ws scripts rs vs)
+nothing_waits : {sli : ℕ} (zs ws vs ts : List (Worker sli Queues)) (scripts : List (List Call)) (rs ss : List (List Entry)) → IsQueueYard zs → (s : EachQueueSettled zs (length zs) ws) → (run : EachQueueWorkerRan ws scripts rs vs)
     → (done : Finished vs rs ss ts) → length ts ≡ length zs → (i j : ℕ) → queue_waits_in ts i j ≡ []
 nothing_waits zs ws vs ts scripts rs ss yard s run done count i j =
     let l = done.last in
@@ -486,12 +486,12 @@ way_capacity n zs ws us ts j script made rs ss y =
     let l = y.last.moved [] in
     y.third.own.1 ∙ (l.yard.own.3 ∙ (y.second.own.1 ∙ (m.yard.own.3 ∙ y.first.own.1)))
 
-same_capacity : {sli : ℕ} (zs ws vs ts : List (Worker sli Queues)) (scripts : List (List Call)) (rs ss : List (List Entry)) → (s : QueuesSettled zs (length zs) ws) → (run : HaveQueuesRun ws scripts rs vs) → (done : Finished vs rs ss ts)
+same_capacity : {sli : ℕ} (zs ws vs ts : List (Worker sli Queues)) (scripts : List (List Call)) (rs ss : List (List Entry)) → (s : EachQueueSettled zs (length zs) ws) → (run : EachQueueWorkerRan ws scripts rs vs) → (done : Finished vs rs ss ts)
     → length ts ≡ length zs → queue_capacity_in ts ≡ queue_capacity_in zs
 same_capacity zs ws vs ts scripts rs ss s run done count = elim (cases_lt 0 (length zs)) [
   | inl lt ↦
       let y = way zs ws vs ts scripts rs ss s run done 0 lt in
-      ap first_capacity y.back_is ∙ (way_capacity (length zs) zs ws done.met ts 0 (script_of scripts 0) (run.made 0) (record_of rs 0) (record_of ss 0) y ∙ sym (ap first_capacity y.given_is))
+      ap first_capacity y.back_is ∙ (way_capacity (length zs) zs ws done.settled ts 0 (script_of scripts 0) (run.made 0) (record_of rs 0) (record_of ss 0) y ∙ sym (ap first_capacity y.given_is))
   | inr ge ↦ ap first_capacity (slice_get_past ts 0 (omega (arith, count))) ∙ sym (ap first_capacity (slice_get_past zs 0 ge))
 ]
 
@@ -499,7 +499,7 @@ heap_there : {sli : ℕ} (ws : List (Worker sli Queues)) (j : ℕ) (a : Worker s
 unfolding queue_world_of
 heap_there ws j a is = get_or_from_slice_get (map heap_of ws) j (heap_of a) no_heap (map_at heap_of ws j a is)
 
-pub queue_race_is : {sli : ℕ} (zs ws vs ts : List (Worker sli Queues)) (scripts : List (List Call)) (rs ss : List (List Entry)) → IsQueueYard zs → QueuesSettled zs (length zs) ws → HaveQueuesRun ws scripts rs vs → Finished vs rs ss ts
+pub queue_race_is : {sli : ℕ} (zs ws vs ts : List (Worker sli Queues)) (scripts : List (List Call)) (rs ss : List (List Entry)) → IsQueueYard zs → EachQueueSettled zs (length zs) ws → EachQueueWorkerRan ws scripts rs vs → Finished vs rs ss ts
     → IsQueueRace (queue_world_of zs) scripts ss (queue_world_of ts)
 unfolding queue_world_of
 queue_race_is {sli} zs ws vs ts scripts rs ss yard s run done =
@@ -518,7 +518,7 @@ queue_race_is {sli} zs ws vs ts scripts rs ss yard s run done =
           let first = heap_there zs j y.given y.given_is in
           let last = heap_there ts j y.back y.back_is in
           subst (λ (z : ℕ × HeapState × HeapState). IsLegalQueue sli z.0 j z.1 (script_of scripts j) (told_of (run.made j ++ None ∷ []) (record_of ss j) z.2)) (λ a. (sym n a, sym first a, sym last a))
-          (way_legal (length zs) zs ws done.met ts j (script_of scripts j) (run.made j) (record_of rs j) (record_of ss j) y);
+          (way_legal (length zs) zs ws done.settled ts j (script_of scripts j) (run.made j) (record_of rs j) (record_of ss j) y);
       agree = λ i j i_in j_in ne.
           subst (λ (m : ℕ). AgreeQueue m (queue_capacity_in zs) i j (queue_waits_in zs i j) (run.made i ++ None ∷ []) (record_of ss i) (record_of ss j)) (sym n)
           (queues_agree zs ws vs ts scripts rs ss yard s run done i j (omega (arith, n)) (omega (arith, n)) ne);

@@ -13,7 +13,7 @@ use Rattle.tlsf_crew.specs.model.Heaps.{released}
 use Rattle.tlsf_crew.specs.histories.History.{StandsBehind, post_of_release, post_of_take, posts_made, posts_taken}
 use Rattle.tlsf_crew.specs.model.Told.{Told}
 use Rattle.tlsf_crew.specs.scripts.Scripts.{last_call}
-use Rattle.tlsf_crew.specs.model.QueueTold.{IsOfOther, take_entry, told_reply, told_take, told_takes}
+use Rattle.tlsf_crew.specs.model.QueueTold.{IsFromOther, take_entry, told_reply, told_take, told_takes}
 use Rattle.tlsf_crew.proofs.lemmas.histories.JoinedEntries.{told_nothing, made_then, taken_then}
 use Rattle.tlsf_crew.proofs.lemmas.scripts.OneEntry.{stands_last}
 use Rattle.tlsf_crew.proofs.lemmas.scripts.QueueSteps.{take_tells}
@@ -91,11 +91,11 @@ drain_unfilled at s end posts before e name told stands r =
 -- ---- how many posts
 
 -- posts of others are none of a worker that is no other
-pub none_of_others : (n at p : ℕ) (posts : List Post) → All (IsOfOther n at) posts → ¬ ((p < n) × (p ≢ at)) → posts_of p posts ≡ []
+pub none_of_others : (n at p : ℕ) (posts : List Post) → All (IsFromOther n at) posts → ¬ ((p < n) × (p ≢ at)) → posts_of p posts ≡ []
 none_of_others n at p [] others far = refl
 none_of_others n at p (x ∷ xs) others far =
-    let o = All-head (IsOfOther n at) x xs others in
-    of_other p x xs (λ e. far (subst (λ (k : ℕ). (k < n) × (k ≢ at)) e o)) ∙ none_of_others n at p xs (All-tail (IsOfOther n at) x xs others) far
+    let o = All-head (IsFromOther n at) x xs others in
+    of_other p x xs (λ e. far (subst (λ (k : ℕ). (k < n) × (k ≢ at)) e o)) ∙ none_of_others n at p xs (All-tail (IsFromOther n at) x xs others) far
 
 -- there are no more posts where of no poster there are more
 pub no_more_posts : (fuel : ℕ) (xs ys : List Post) → length xs ≤ fuel → ((p : ℕ) → length (posts_of p xs) ≤ length (posts_of p ys)) → length xs ≤ length ys
@@ -121,18 +121,18 @@ from_some : (x : Post) (xs ys : List Post) → posts_of x.from (x ∷ xs) ≡ ys
 from_some x xs ys is none = let e = sym none ∙ (sym is ∙ of_own x.from x xs refl) in cc
 
 -- two lists of posts of one poster are the same where it posted the same
-pub same_posts : (n at poster : ℕ) (xs ys : List Post) → All (IsOfOther n at) xs → All (IsOfOther n at) ys
+pub same_posts : (n at poster : ℕ) (xs ys : List Post) → All (IsFromOther n at) xs → All (IsFromOther n at) ys
     → ((i : ℕ) → i < n → i ≢ at → posts_of i xs ≡ posts_of i ys) → ((i : ℕ) → i < n → i ≢ at → i ≢ poster → posts_of i xs ≡ []) → xs ≡ ys
 same_posts n at poster [] [] first second same one = refl
 same_posts n at poster [] (y ∷ ys) first second same one =
-    let o = All-head (IsOfOther n at) y ys second in
+    let o = All-head (IsFromOther n at) y ys second in
     absurd (from_some y ys [] (sym (same y.from o.0 o.1)) refl)
 same_posts n at poster (x ∷ xs) [] first second same one =
-    let o = All-head (IsOfOther n at) x xs first in
+    let o = All-head (IsFromOther n at) x xs first in
     absurd (from_some x xs [] (same x.from o.0 o.1) refl)
 same_posts n at poster (x ∷ xs) (y ∷ ys) first second same one =
-    let o = All-head (IsOfOther n at) x xs first in
-    let q = All-head (IsOfOther n at) y ys second in
+    let o = All-head (IsFromOther n at) x xs first in
+    let q = All-head (IsFromOther n at) y ys second in
     let x_is : x.from ≡ poster = elim (cases_eq x.from poster) [
       | inl e ↦ e
       | inr ne ↦ absurd (from_some x xs (posts_of x.from (x ∷ xs)) refl (one x.from o.0 o.1 ne))
@@ -146,7 +146,7 @@ same_posts n at poster (x ∷ xs) (y ∷ ys) first second same one =
     let both : x ∷ posts_of poster xs ≡ y ∷ posts_of poster ys = sym (of_own poster x xs x_is) ∙ (same poster here away ∙ of_own poster y ys y_is) in
     let heads : x ≡ y = cc in
     let tails : posts_of poster xs ≡ posts_of poster ys = cc in
-    let rest = same_posts n at poster xs ys (All-tail (IsOfOther n at) x xs first) (All-tail (IsOfOther n at) y ys second)
+    let rest = same_posts n at poster xs ys (All-tail (IsFromOther n at) x xs first) (All-tail (IsFromOther n at) y ys second)
     (λ i i_in ne. elim (cases_eq i poster) [
       | inl e ↦ subst (λ (k : ℕ). posts_of k xs ≡ posts_of k ys) (sym e) tails
       | inr apart ↦ sym (of_other i x xs (λ d. apart (sym d ∙ x_is))) ∙ (same i i_in ne ∙ of_other i y ys (λ d. apart (sym d ∙ y_is)))

@@ -11,7 +11,7 @@ use Rattle.tlsf_calls.specs.declared.entry.Entry.{Entry}
 use Rattle.tlsf_calls.specs.declared.call.Call.{Call}
 use Rattle.tlsf_crew.specs.lanes.Yard.{IsYard, take_at, end_from_in, world_of}
 use Rattle.tlsf_crew.specs.model.World.{World}
-use Rattle.tlsf_crew.specs.lanes.Settle.{HaveMet}
+use Rattle.tlsf_crew.specs.lanes.Settle.{EachLaneSettled}
 use Rattle.tlsf_crew.specs.lanes.Ready.{count_of, ready_from}
 use Rattle.tlsf_crew.specs.scripts.Counts.{releases_of}
 use Rattle.tlsf_crew.specs.scripts.Scripts.{script_of}
@@ -36,28 +36,28 @@ keeps_set rs ss j r s keep lt is same k v there =
     ]
 
 -- what is ready for worker j in a settled yard is what waits for it
-known_from : {sli : ℕ} (ws vs : List (Worker sli Lanes)) (i j : ℕ) (a : Worker sli Lanes) → length vs ≡ length ws → HaveMet ws vs → IsYard vs → slice_get vs j ≡ Some a
+known_from : {sli : ℕ} (ws vs : List (Worker sli Lanes)) (i j : ℕ) (a : Worker sli Lanes) → length vs ≡ length ws → EachLaneSettled ws vs → IsYard vs → slice_get vs j ≡ Some a
     → ready_from a i ≡ length ((world_of vs).waiting i j)
 unfolding world_of
-known_from ws vs i j a len met yard is =
+known_from ws vs i j a len settled yard is =
     let j_in = slice_get_within vs j a is in
     let r : count_of (take_at vs i j) ≡ ready_from a i = ap (λ o. count_of (end_from_in o i)) is in
     elim (cases_lt i (length vs)) [
-      | inl i_in ↦ sym r ∙ lane_ready ws vs i j len met yard i_in j_in
+      | inl i_in ↦ sym r ∙ lane_ready ws vs i j len settled yard i_in j_in
       | inr far ↦
           let none = ap length (none_wait vs i j yard (λ _. far)) in
           let nobody = ap count_of (yard.outside j i far).1 in
           omega arith
     ]
 
-pub record_rooms : {sli : ℕ} (zs ws : List (Worker sli Lanes)) (scripts : List (List Call)) (records ss : List (Vec Entry Global)) → length ws ≡ length zs → HaveMet zs ws → IsYard ws → world_of ws ≡ world_of zs
+pub record_rooms : {sli : ℕ} (zs ws : List (Worker sli Lanes)) (scripts : List (List Call)) (records ss : List (Vec Entry Global)) → length ws ≡ length zs → EachLaneSettled zs ws → IsYard ws → world_of ws ≡ world_of zs
     → length records ≡ length ws → HaveRooms ws scripts records → KeepRooms records ss → HaveRecordRooms (world_of zs) scripts ss
-record_rooms {sli} zs ws scripts records ss len met yard same count rooms keep j s there =
+record_rooms {sli} zs ws scripts records ss len settled yard same count rooms keep j s there =
     let k = keep j s there in
     let j_in : j < length ws = let n = slice_get_within records j k.0 k.1 in omega arith in
     let found = found_at ws j j_in in
     let room = rooms j found.0 k.0 found.1 k.1 in
     let sums = same_sum 8 (λ i. length ((world_of zs).waiting i j) + releases_of (script_of scripts i)) (λ i. ready_from found.0 i + releases_of (script_of scripts i))
-    (λ i _. let e = known_from zs ws i j found.0 len met yard found.1 in let w = ap (λ (x : World sli). length (x.waiting i j)) same in omega arith) in
+    (λ i _. let e = known_from zs ws i j found.0 len settled yard found.1 in let w = ap (λ (x : World sli). length (x.waiting i j)) same in omega arith) in
     let c = k.2 in
     omega arith

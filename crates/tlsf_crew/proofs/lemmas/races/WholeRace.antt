@@ -21,7 +21,7 @@ use Rattle.tlsf_calls.specs.declared.call.Call.{Call}
 use Rattle.tlsf_crew.specs.worker.Workers.{heap_of, id_of}
 use Rattle.tlsf_crew.specs.lanes.LaneWorkers.{id_and_capacity, end_to, end_from}
 use Rattle.tlsf_crew.specs.lanes.Yard.{IsYard, yard_heap, post_at, take_at, end_to_in, end_from_in, capacity_in, waits_in, world_of}
-use Rattle.tlsf_crew.specs.lanes.Settle.{HaveMet}
+use Rattle.tlsf_crew.specs.lanes.Settle.{EachLaneSettled}
 use Rattle.tlsf_crew.specs.model.Sums.{sum_below}
 use Rattle.tlsf_crew.specs.lanes.Ready.{count_of, ready_from}
 use Rattle.tlsf_crew.specs.scripts.Counts.{releases_of}
@@ -30,25 +30,25 @@ use Rattle.tlsf_crew.specs.scripts.Scripts.{last_call, script_of}
 use Rattle.tlsf_crew.specs.races.Race.{IsLegal, Agree, IsRace}
 use Rattle.tlsf_calls.specs.Entries.{record_of}
 use Rattle.tlsf_crew.specs.model.Told.{untold, MayTell, MayTellAll}
-use Rattle.tlsf_crew.specs.races.LaneTasks.{Ran, HaveRun, HaveRooms, HaveLastRooms, HasFew, LastDrained}
+use Rattle.tlsf_crew.specs.races.LaneTasks.{LaneWorkerRan, EachLaneWorkerRan, HaveRooms, EachHasLastRoom, HasFew, EachLastDrained}
 use Rattle.tlsf_crew.proofs.lemmas.worker.Slots.{some_same}
 use Rattle.tlsf_crew.proofs.lemmas.lanes.LaneSlots.{from_post, from_take, heap_at}
 use Rattle.tlsf_crew.proofs.lemmas.lanes.LanesOfOne.{own_number}
 use Rattle.tlsf_crew.proofs.lemmas.model.Sums.{least_sum, sum_both}
 use Rattle.tlsf_crew.proofs.lemmas.races.TwoRecords.{ScriptsAgree, records_agree}
-use Rattle.tlsf_crew.proofs.lemmas.lanes.LaneSettled.{none_wait, none_for, met_waits, met_room, capacity_same, heap_same, waits_same}
+use Rattle.tlsf_crew.proofs.lemmas.lanes.LaneSettled.{none_wait, none_for, settled_waits, settled_room, capacity_same, heap_same, waits_same}
 use Rattle.tlsf_crew.proofs.lemmas.races.LastDrains.{items_of, record_items}
 use Rattle.tlsf_crew.proofs.lemmas.histories.Nowhere.{tells_none}
 
 -- ---- a settled lane
 
-pub met_few : {sli : ℕ} (ws vs : List (Worker sli Lanes)) → length vs ≡ length ws → HaveMet ws vs → IsYard vs → (j : ℕ) → HasFew vs j
-met_few ws vs len met yard j i =
+pub settled_few : {sli : ℕ} (ws vs : List (Worker sli Lanes)) → length vs ≡ length ws → EachLaneSettled ws vs → IsYard vs → (j : ℕ) → HasFew vs j
+settled_few ws vs len settled yard j i =
     elim (cases_lt j (length vs)) [
       | inl j_in ↦ elim (cases_eq i j) [
         | inl e ↦ let n = ap length (none_wait vs i j yard (λ ne. absurd (ne e))) in omega arith
         | inr ne ↦ elim (cases_lt i (length vs)) [
-          | inl i_in ↦ let r = met_room ws vs i j i_in j_in ne yard (met i j (omega arith) (omega arith) ne) in let s = yard.small in omega arith
+          | inl i_in ↦ let r = settled_room ws vs i j i_in j_in ne yard (settled i j (omega arith) (omega arith) ne) in let s = yard.small in omega arith
           | inr far ↦ let n = ap length (none_wait vs i j yard (λ _. far)) in omega arith
         ]
       ]
@@ -57,7 +57,7 @@ met_few ws vs len met yard j i =
 
 -- ---- the capacity
 
-pub capacity_kept : {sli : ℕ} (ws vs : List (Worker sli Lanes)) (scripts : List (List Call)) (rs : List (List Entry)) → HaveRun ws scripts rs vs → capacity_in vs ≡ capacity_in ws
+pub capacity_kept : {sli : ℕ} (ws vs : List (Worker sli Lanes)) (scripts : List (List Call)) (rs : List (List Entry)) → EachLaneWorkerRan ws scripts rs vs → capacity_in vs ≡ capacity_in ws
 capacity_kept [] [] scripts rs run = refl
 capacity_kept [] (v ∷ vs) scripts rs run = let n : length vs + 1 ≡ 0 = let m = run.worker_count in omega arith in absurd (omega arith)
 capacity_kept (a ∷ ws) [] scripts rs run = let n : 0 ≡ length ws + 1 = let m = run.worker_count in omega arith in absurd (omega arith)
@@ -74,9 +74,9 @@ record WorkerRan {sli : ℕ} (ws vs : List (Worker sli Lanes)) (scripts : List (
   number : id_of old ≡ j
   new : Worker sli Lanes
   new_is : slice_get vs j ≡ Some new
-  ran : Ran (length ws) old (script_of scripts j) made (record_of rs j) new
+  ran : LaneWorkerRan (length ws) old (script_of scripts j) made (record_of rs j) new
 
-abbrev worker_ran : {sli : ℕ} (ws vs : List (Worker sli Lanes)) (scripts : List (List Call)) (rs : List (List Entry)) → IsYard ws → (run : HaveRun ws scripts rs vs) → (j : ℕ) (a : Worker sli Lanes) → slice_get ws j ≡ Some a
+abbrev worker_ran : {sli : ℕ} (ws vs : List (Worker sli Lanes)) (scripts : List (List Call)) (rs : List (List Entry)) → IsYard ws → (run : EachLaneWorkerRan ws scripts rs vs) → (j : ℕ) (a : Worker sli Lanes) → slice_get ws j ≡ Some a
     → WorkerRan ws vs scripts rs (run.made j) j
 worker_ran ws vs scripts rs yard run j a is =
     let r = run.ran j a is in
@@ -116,29 +116,29 @@ record LaneRan {sli : ℕ} (ws us : List (Worker sli Lanes)) (scripts : List (Li
 in_order : (W waits ts ps t w u s : List Post) → t ++ u ≡ w ++ s → t ≡ ts → u ≡ waits → w ≡ W → s ≡ ps → ts ++ waits ≡ W ++ ps
 in_order W waits ts ps t w u s e a b c d = sym (ap (λ l. l ++ u) a ∙ ap (λ l. ts ++ l) b) ∙ (e ∙ (ap (λ l. l ++ s) c ∙ ap (λ l. W ++ l) d))
 
-lane_ran : {sli : ℕ} (zs ws vs us : List (Worker sli Lanes)) (scripts : List (List Call)) (rs : List (List Entry)) → length ws ≡ length zs → HaveMet zs ws → IsYard ws → (run : HaveRun ws scripts rs vs)
-    → length us ≡ length vs → HaveMet vs us → IsYard us → capacity_in us ≡ capacity_in ws → (i j : ℕ) → i < length ws → j < length ws → i ≢ j
+lane_ran : {sli : ℕ} (zs ws vs us : List (Worker sli Lanes)) (scripts : List (List Call)) (rs : List (List Entry)) → length ws ≡ length zs → EachLaneSettled zs ws → IsYard ws → (run : EachLaneWorkerRan ws scripts rs vs)
+    → length us ≡ length vs → EachLaneSettled vs us → IsYard us → capacity_in us ≡ capacity_in ws → (i j : ℕ) → i < length ws → j < length ws → i ≢ j
     → LaneRan ws us scripts rs (run.made i) i j
-lane_ran zs ws vs us scripts rs len met yard run later_len later_met later capacity i j i_in j_in ne =
-    let m = met i j (omega arith) (omega arith) ne in
-    let n = let c = run.worker_count in later_met i j (omega arith) (omega arith) ne in
+lane_ran zs ws vs us scripts rs len settled yard run later_len later_settled later capacity i j i_in j_in ne =
+    let m = settled i j (omega arith) (omega arith) ne in
+    let n = let c = run.worker_count in later_settled i j (omega arith) (omega arith) ne in
     let f = from_post (slice_get ws i) j m.new_post m.new_post_is in
     let g = from_take (slice_get ws j) i m.new_take m.new_take_is in
     let a = worker_ran ws vs scripts rs yard run i f.0 f.1 in
     let b = worker_ran ws vs scripts rs yard run j g.0 g.1 in
     let to : end_to a.old j ≡ Some m.new_post = sym (ap (λ o. end_to_in o j) a.old_is) ∙ m.new_post_is in
     let from : end_from b.old i ≡ Some m.new_take = sym (ap (λ o. end_from_in o i) b.old_is) ∙ m.new_take_is in
-    let sent = sent_in ws vs scripts rs (run.made i) i j a m.new_post n.post m.new_post_is m.meets.fresh.0 n.post_is in
-    let took = takes_told ws vs scripts rs (run.made j) i j b m.new_take n.take m.new_take_is m.meets.fresh.1 n.take_is in
-    let waits = met_waits zs ws i j m in
-    let known : ready m.new_take ≡ waits_in ws i j = m.meets.fresh.2 ∙ sym waits in
-    let room = met_room zs ws i j i_in j_in ne yard m in
+    let sent = sent_in ws vs scripts rs (run.made i) i j a m.new_post n.post m.new_post_is m.beside.fresh.0 n.post_is in
+    let took = takes_told ws vs scripts rs (run.made j) i j b m.new_take n.take m.new_take_is m.beside.fresh.1 n.take_is in
+    let waits = settled_waits zs ws i j m in
+    let known : ready m.new_take ≡ waits_in ws i j = m.beside.fresh.2 ∙ sym waits in
+    let room = settled_room zs ws i j i_in j_in ne yard m in
     let c = run.worker_count in
-    let last = met_room vs us i j (omega arith) (omega arith) ne later n in
+    let last = settled_room vs us i j (omega arith) (omega arith) ne later n in
     record {
       agree = record {
         posts = in_order (waits_in ws i j) (waits_in us i j) _ _ (taken n.take) (waited n.take) (waited n.new_take) (posts_sent n.post)
-            n.meets.order took.taken (sym (met_waits vs us i j n)) (took.waited ∙ sym waits) sent;
+            n.beside.order took.taken (sym (settled_waits vs us i j n)) (took.waited ∙ sym waits) sent;
         signed = yard.signed i j;
         few = omega arith;
         full = λ before e name stands reply here.
@@ -159,10 +159,10 @@ lane_ran zs ws vs us scripts rs len met yard run later_len later_met later capac
 
 -- ---- the room for the last drains
 
-lane_room : {sli : ℕ} (zs ws vs us : List (Worker sli Lanes)) (scripts : List (List Call)) (rs : List (List Entry)) → length ws ≡ length zs → HaveMet zs ws → IsYard ws → (run : HaveRun ws scripts rs vs)
-    → length us ≡ length vs → HaveMet vs us → IsYard us → capacity_in us ≡ capacity_in ws → (j : ℕ) (a : Worker sli Lanes) → slice_get ws j ≡ Some a → (i : ℕ)
+lane_room : {sli : ℕ} (zs ws vs us : List (Worker sli Lanes)) (scripts : List (List Call)) (rs : List (List Entry)) → length ws ≡ length zs → EachLaneSettled zs ws → IsYard ws → (run : EachLaneWorkerRan ws scripts rs vs)
+    → length us ≡ length vs → EachLaneSettled vs us → IsYard us → capacity_in us ≡ capacity_in ws → (j : ℕ) (a : Worker sli Lanes) → slice_get ws j ≡ Some a → (i : ℕ)
     → length (posts_taken i j (record_of rs j)) + length (waits_in us i j) ≤ ready_from a i + releases_of (script_of scripts i)
-lane_room {sli} zs ws vs us scripts rs len met yard run later_len later_met later capacity j a is i =
+lane_room {sli} zs ws vs us scripts rs len settled yard run later_len later_settled later capacity j a is i =
     let j_in = slice_get_within ws j a is in
     let c = run.worker_count in
     let nowhere : (i ≢ j → length ws ≤ i) → length (posts_taken i j (record_of rs j)) + length (waits_in us i j) ≤ ready_from a i + releases_of (script_of scripts i) = λ far.
@@ -176,7 +176,7 @@ lane_room {sli} zs ws vs us scripts rs len met yard run later_len later_met late
       | inl e ↦ nowhere (λ ne. absurd (ne e))
       | inr ne ↦ elim (cases_lt i (length ws)) [
         | inl i_in ↦
-            let l = lane_ran zs ws vs us scripts rs len met yard run later_len later_met later capacity i j i_in j_in ne in
+            let l = lane_ran zs ws vs us scripts rs len settled yard run later_len later_settled later capacity i j i_in j_in ne in
             let e = ap length l.agree.posts in
             let p = length-append (posts_taken i j (record_of rs j)) (waits_in us i j) in
             let q = length-append (waits_in ws i j) (posts_made i j (run.made i) (record_of rs i)) in
@@ -196,9 +196,9 @@ found_at (w ∷ ws) (suc j) lt = found_at ws j (omega arith)
 plain_room : (n e s t w b m c : ℕ) → n ≡ e → e ≤ s + t → b ≡ t + w → b ≤ m → c ≡ s + m + 1 → n + w + 1 ≤ c
 plain_room n e s t w b m c p q r x y = omega arith
 
-pub last_rooms : {sli : ℕ} (zs ws vs us : List (Worker sli Lanes)) (scripts : List (List Call)) (records : List (Vec Entry Global)) → length ws ≡ length zs → HaveMet zs ws → IsYard ws → (run : HaveRun ws scripts (items_of records) vs)
-    → HaveRooms ws scripts records → length us ≡ length vs → HaveMet vs us → IsYard us → world_of us ≡ world_of vs → HaveLastRooms us records
-last_rooms zs ws vs us scripts records len met yard run rooms later_len later_met later same j r there =
+pub last_rooms : {sli : ℕ} (zs ws vs us : List (Worker sli Lanes)) (scripts : List (List Call)) (records : List (Vec Entry Global)) → length ws ≡ length zs → EachLaneSettled zs ws → IsYard ws → (run : EachLaneWorkerRan ws scripts (items_of records) vs)
+    → HaveRooms ws scripts records → length us ≡ length vs → EachLaneSettled vs us → IsYard us → world_of us ≡ world_of vs → EachHasLastRoom us records
+last_rooms zs ws vs us scripts records len settled yard run rooms later_len later_settled later same j r there =
     let rs = items_of records in
     let j_in : j < length ws = let n = slice_get_within records j r there in let m = length-map records (λ (x : Vec Entry Global). x.items) in let c = run.record_count in omega arith in
     let capacity = capacity_same vs us same ∙ capacity_kept ws vs scripts rs run in
@@ -211,7 +211,7 @@ last_rooms zs ws vs us scripts records len met yard run rooms later_len later_me
     subst (λ (k : ℕ). length (record_of rs j) ≤ length (script_of scripts j) + sum_below 8 (λ i. length (posts_taken i k (record_of rs j)))) w.number w.ran.few_entries in
     let both = sum_both 8 (λ i. length (posts_taken i j (record_of rs j))) (λ i. length (waits_in us i j)) in
     let most = least_sum 8 (λ i. length (posts_taken i j (record_of rs j)) + length (waits_in us i j)) (λ i. ready_from a i + releases_of (script_of scripts i))
-    (λ i _. lane_room zs ws vs us scripts rs len met yard run later_len later_met later capacity j a found.1 i) in
+    (λ i _. lane_room zs ws vs us scripts rs len settled yard run later_len later_settled later capacity j a found.1 i) in
     let n = ap length (record_items records j r there) in
     let o : vec_len r ≡ length r.items = let k = r.ok in omega arith in
     plain_room (vec_len r) (length (record_of rs j)) (length (script_of scripts j)) taken_sum (sum_below 8 (λ i. length (waits_in us i j)))
@@ -225,7 +225,7 @@ told_as : (sli : ℕ) (n m i j : ℕ) (h g x y : HeapState) (script : List Call)
 told_as sli n m i j h g x y script made es a b c d t = rw (sym a, sym b, sym c, sym d) t
 
 legal_in : {sli : ℕ} (zs ws vs us xs : List (Worker sli Lanes)) (scripts : List (List Call)) (rs ss : List (List Entry)) → length ws ≡ length zs → world_of ws ≡ world_of zs → IsYard ws
-    → (run : HaveRun ws scripts rs vs) → length us ≡ length vs → world_of us ≡ world_of vs → LastDrained us rs ss xs (length us) → (j : ℕ) → j < length zs
+    → (run : EachLaneWorkerRan ws scripts rs vs) → length us ≡ length vs → world_of us ≡ world_of vs → EachLastDrained us rs ss xs (length us) → (j : ℕ) → j < length zs
     → IsLegal sli (length zs) j (yard_heap zs j) (script_of scripts j) (record_of rs j) (record { made = run.made j ++ None ∷ []; entries = record_of ss j; heap = yard_heap xs j })
 legal_in {sli} zs ws vs us xs scripts rs ss len same yard run later_len later_same last j j_in =
     let found = found_at ws j (omega arith) in
@@ -246,11 +246,11 @@ legal_in {sli} zs ws vs us xs scripts rs ss len same yard run later_len later_sa
 agree_as : (c d i j : ℕ) (W V : List Post) (made : List (Option Name)) (s t r u v : List Entry) → c ≡ d → W ≡ V → u ≡ s → v ≡ t → Agree c i j W made s r t → Agree d i j V made u r v
 agree_as c d i j W V made s t r u v a b e f agree = rw (sym a, sym b, e, f) agree
 
-pub race_is : {sli : ℕ} (zs ws vs us xs : List (Worker sli Lanes)) (scripts : List (List Call)) (rs ss : List (List Entry)) → length ws ≡ length zs → HaveMet zs ws → world_of ws ≡ world_of zs → IsYard ws
-    → (run : HaveRun ws scripts rs vs) → length us ≡ length vs → HaveMet vs us → world_of us ≡ world_of vs → IsYard us → LastDrained us rs ss xs (length us)
+pub race_is : {sli : ℕ} (zs ws vs us xs : List (Worker sli Lanes)) (scripts : List (List Call)) (rs ss : List (List Entry)) → length ws ≡ length zs → EachLaneSettled zs ws → world_of ws ≡ world_of zs → IsYard ws
+    → (run : EachLaneWorkerRan ws scripts rs vs) → length us ≡ length vs → EachLaneSettled vs us → world_of us ≡ world_of vs → IsYard us → EachLastDrained us rs ss xs (length us)
     → IsRace (world_of zs) scripts ss (world_of xs)
 unfolding world_of
-race_is zs ws vs us xs scripts rs ss len met same yard run later_len later_met later_same later last =
+race_is zs ws vs us xs scripts rs ss len settled same yard run later_len later_settled later_same later last =
     let c = run.worker_count in
     let o = last.worker_count in
     let n : length (map heap_of zs) ≡ length zs = length-map zs heap_of in
@@ -264,7 +264,7 @@ race_is zs ws vs us xs scripts rs ss len met same yard run later_len later_met l
       legal = λ j j_in.
           rw n (legal_in zs ws vs us xs scripts rs ss len same yard run later_len later_same last j (omega arith));
       agree = λ i j i_in j_in ne.
-          let l = lane_ran zs ws vs us scripts rs len met yard run later_len later_met later kept i j (omega arith) (omega arith) ne in
+          let l = lane_ran zs ws vs us scripts rs len settled yard run later_len later_settled later kept i j (omega arith) (omega arith) ne in
           let p = last.told i (omega arith) in
           let q = last.told j (omega arith) in
           agree_as (capacity_in ws) (capacity_in zs) i j (waits_in ws i j) (waits_in zs i j) (run.made i ++ None ∷ []) (record_of rs i ++ p.own) (record_of rs j ++ q.own) (record_of rs j)

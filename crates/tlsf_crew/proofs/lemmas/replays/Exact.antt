@@ -33,15 +33,15 @@ use Rattle.tlsf_crew.specs.lanes.LaneWorkers.{id_and_capacity, end_to, end_from,
 use Rattle.tlsf_crew.specs.lanes.Yard.{IsYard, post_at, take_at, end_to_in, end_from_in, lane_waits, capacity_in, waits_in, world_of}
 use Rattle.tlsf_crew.specs.model.Sums.{sum_below, sum_of}
 use Rattle.tlsf_crew.specs.lanes.Ready.{count_of, ready_from}
-use Rattle.tlsf_crew.specs.lanes.Settle.{MetIn}
+use Rattle.tlsf_crew.specs.lanes.Settle.{LaneSettled}
 use Rattle.tlsf_crew.specs.histories.History.{AreTakes, TellsCall, RunsTo, calls_on, answers_on, call_on_own, post_of_release, post_of_take, posts_made, posts_taken, entries_of}
-use Rattle.tlsf_crew.specs.scripts.Moves.{one, Moved, Spent, SuitsCall, Stepped}
+use Rattle.tlsf_crew.specs.scripts.LaneMoves.{one, LaneMoved, Spent, SuitsCall, LaneStepped}
 use Rattle.tlsf_crew.proofs.lemmas.histories.DrainEntries.{drain_makes}
 use Rattle.tlsf_crew.proofs.lemmas.model.EventSteps.{after_near}
 use Rattle.tlsf_crew.proofs.lemmas.histories.AllEntries.{called_told, more_knows}
 use Rattle.tlsf_crew.proofs.lemmas.scripts.LaneMoves.{posted_same, taken_same}
 use Rattle.tlsf_crew.proofs.lemmas.histories.LaneCalls.{of_other}
-use Rattle.tlsf_crew.proofs.lemmas.lanes.LaneSettled.{none_wait, none_for, met_waits, met_room, capacity_same, waits_same}
+use Rattle.tlsf_crew.proofs.lemmas.lanes.LaneSettled.{none_wait, none_for, settled_waits, settled_room, capacity_same, waits_same}
 use Rattle.tlsf_crew.proofs.lemmas.histories.JoinedEntries.{taken_then, IsHistory, told_nothing}
 use Rattle.tlsf_crew.proofs.lemmas.lanes.LaneChanges.{heaps_count, heap_in_is}
 use Rattle.tlsf_crew.proofs.lemmas.model.OneEvent.{from_other, from_own, releasing_post, releasing_far, taking_own, taking_far, taking_lane}
@@ -73,7 +73,7 @@ pub record Run (sli : ℕ) : Type 0 where
   pub yard : IsYard vs
   pub is : slice_get vs (id_of a) ≡ Some a
   pub knows : KnowsYard (length vs) a
-  pub step : Stepped (length vs) a limits call made es v left longer reply
+  pub step : LaneStepped (length vs) a limits call made es v left longer reply
 
 abbrev pub at_of : {sli : ℕ} → Run sli → ℕ
 at_of r = id_of r.a
@@ -85,13 +85,13 @@ own_of r = r.step.own ++ one (at_of r) r.call r.reply
 abbrev pub us_of : {sli : ℕ} → Run sli → List (Worker sli Lanes)
 us_of r = set r.vs (at_of r) r.v
 
-moved_of : {sli : ℕ} (r : Run sli) → Moved (at_of r) (r.made ++ []) r.a r.limits (r.call ∷ []) (own_of r) r.v r.left
+moved_of : {sli : ℕ} (r : Run sli) → LaneMoved (at_of r) (r.made ++ []) r.a r.limits (r.call ∷ []) (own_of r) r.v r.left
 moved_of r = r.step.moved []
 
 -- the lanes that the call concerns were settled before and after it
 pub record Settles {sli : ℕ} (r : Run sli) (ws zs : List (Worker sli Lanes)) : Type 0 where
-  pub before : (i j : ℕ) → i < length r.vs → j < length r.vs → i ≢ j → ConcernsCall r.made (at_of r) r.call i j → MetIn ws r.vs i j
-  pub after : (i j : ℕ) → i < length r.vs → j < length r.vs → i ≢ j → ConcernsCall r.made (at_of r) r.call i j → MetIn (us_of r) zs i j
+  pub before : (i j : ℕ) → i < length r.vs → j < length r.vs → i ≢ j → ConcernsCall r.made (at_of r) r.call i j → LaneSettled ws r.vs i j
+  pub after : (i j : ℕ) → i < length r.vs → j < length r.vs → i ≢ j → ConcernsCall r.made (at_of r) r.call i j → LaneSettled (us_of r) zs i j
   pub limits : MayTake r.call → (i : ℕ) (t : TakeEnd) → i < 8 → end_from r.a i ≡ Some t → length (ready t) ≤ slice_index r.limits i
   pub yard : IsYard zs
   pub count : length zs ≡ length (us_of r)
@@ -131,7 +131,7 @@ take_was r i = sym (ap (λ o. end_from_in o i) r.is)
 
 -- ---- one lane, settled before and after
 
-lane_took : {sli : ℕ} (r : Run sli) (ws zs : List (Worker sli Lanes)) (i : ℕ) → i ≢ at_of r → MetIn ws r.vs i (at_of r) → (n : MetIn (us_of r) zs i (at_of r))
+lane_took : {sli : ℕ} (r : Run sli) (ws zs : List (Worker sli Lanes)) (i : ℕ) → i ≢ at_of r → LaneSettled ws r.vs i (at_of r) → (n : LaneSettled (us_of r) zs i (at_of r))
     → waits_in r.vs i (at_of r) ≡ posts_taken i (at_of r) (own_of r) ++ waited n.new_take
 lane_took r ws zs i ne m n =
     let at = at_of r in
@@ -140,13 +140,13 @@ lane_took r ws zs i ne m n =
     let took = posts_taken i at (own_of r) in
     let take_is : n.take ≡ t.end = some_same n.take t.end (sym n.take_is ∙ (own_end r i ∙ t.end_is)) in
     let post_is : n.post ≡ m.new_post = some_same n.post m.new_post (sym n.post_is ∙ (post_other r i at ne ∙ m.new_post_is)) in
-    let gone : taken n.take ≡ took = ap taken take_is ∙ (t.taken ∙ ap (λ l. l ++ took) m.meets.fresh.1) in
+    let gone : taken n.take ≡ took = ap taken take_is ∙ (t.taken ∙ ap (λ l. l ++ took) m.beside.fresh.1) in
     let had : waited n.take ≡ waited m.new_take = ap waited take_is ∙ t.waited in
-    let sent : posts_sent n.post ≡ [] = ap posts_sent post_is ∙ m.meets.fresh.0 in
+    let sent : posts_sent n.post ≡ [] = ap posts_sent post_is ∙ m.beside.fresh.0 in
     let all : waited n.take ++ posts_sent n.post ≡ waited m.new_take = ap (λ l. waited n.take ++ l) sent ∙ (append-nil (waited n.take) ∙ had) in
-    met_waits ws r.vs i at m ∙ (sym all ∙ (sym n.meets.order ∙ ap (λ l. l ++ waited n.new_take) gone))
+    settled_waits ws r.vs i at m ∙ (sym all ∙ (sym n.beside.order ∙ ap (λ l. l ++ waited n.new_take) gone))
 
-lane_sent : {sli : ℕ} (r : Run sli) (ws zs : List (Worker sli Lanes)) → Settles r ws zs → (j : ℕ) → j < length r.vs → at_of r ≢ j → MetIn ws r.vs (at_of r) j → MetIn (us_of r) zs (at_of r) j
+lane_sent : {sli : ℕ} (r : Run sli) (ws zs : List (Worker sli Lanes)) → Settles r ws zs → (j : ℕ) → j < length r.vs → at_of r ≢ j → LaneSettled ws r.vs (at_of r) j → LaneSettled (us_of r) zs (at_of r) j
     → length (waits_in r.vs (at_of r) j) + length (posts_made (at_of r) j (r.made ++ []) (own_of r)) ≤ capacity_in r.vs
 lane_sent r ws zs s j j_in ne m n =
     let at = at_of r in
@@ -155,17 +155,17 @@ lane_sent r ws zs s j j_in ne m n =
     let posts = posts_made at j (r.made ++ []) (own_of r) in
     let post_is : n.post ≡ e.end = some_same n.post e.end (sym n.post_is ∙ (post_own r j ∙ e.end_is)) in
     let take_is : n.take ≡ m.new_take = some_same n.take m.new_take (sym n.take_is ∙ (take_other r at j (λ q. ne (sym q)) ∙ m.new_take_is)) in
-    let sent : posts_sent n.post ≡ posts = ap posts_sent post_is ∙ (e.sent ∙ ap (λ l. l ++ posts) m.meets.fresh.0) in
-    let gone : taken n.take ≡ [] = ap taken take_is ∙ m.meets.fresh.1 in
+    let sent : posts_sent n.post ≡ posts = ap posts_sent post_is ∙ (e.sent ∙ ap (λ l. l ++ posts) m.beside.fresh.0) in
+    let gone : taken n.take ≡ [] = ap taken take_is ∙ m.beside.fresh.1 in
     let order : waited n.new_take ≡ waited m.new_take ++ posts =
-    ap (λ l. l ++ waited n.new_take) (sym gone) ∙ (n.meets.order ∙ (ap (λ l. l ++ posts_sent n.post) (ap waited take_is) ∙ ap (λ l. waited m.new_take ++ l) sent)) in
+    ap (λ l. l ++ waited n.new_take) (sym gone) ∙ (n.beside.order ∙ (ap (λ l. l ++ posts_sent n.post) (ap waited take_is) ∙ ap (λ l. waited m.new_take ++ l) sent)) in
     let len = ap length order ∙ length-append (waited m.new_take) posts in
     let k = length-set r.vs at r.v in
     let inside = at_in r in
     let c = s.count in
-    let room = met_room (us_of r) zs at j (omega arith) (omega arith) ne s.yard n in
-    let now = ap length (met_waits (us_of r) zs at j n) in
-    let before = ap length (met_waits ws r.vs at j m) in
+    let room = settled_room (us_of r) zs at j (omega arith) (omega arith) ne s.yard n in
+    let now = ap length (settled_waits (us_of r) zs at j n) in
+    let before = ap length (settled_waits ws r.vs at j m) in
     omega (arith, capacity_same (us_of r) zs s.world, us_capacity r)
 
 no_rest : (waits took rest : List Post) → waits ≡ took ++ rest → IsPrefix waits took → rest ≡ []
@@ -174,10 +174,10 @@ no_rest waits took rest e p =
     let b = sym (length-append waits p.0) ∙ ap length p.1 in
     nil_from_length rest (omega arith)
 
-spent_all : {sli : ℕ} (r : Run sli) (ws : List (Worker sli Lanes)) (i : ℕ) (own : List Entry) → (m : MetIn ws r.vs i (at_of r)) → length (ready m.new_take) ≤ slice_index r.limits i → Spent r.a r.limits (at_of r) i own
+spent_all : {sli : ℕ} (r : Run sli) (ws : List (Worker sli Lanes)) (i : ℕ) (own : List Entry) → (m : LaneSettled ws r.vs i (at_of r)) → length (ready m.new_take) ≤ slice_index r.limits i → Spent r.a r.limits (at_of r) i own
     → IsPrefix (waits_in r.vs i (at_of r)) (posts_taken i (at_of r) own)
 spent_all r ws i own m le spent =
-    let known : ready m.new_take ≡ waits_in r.vs i (at_of r) = m.meets.fresh.2 ∙ sym (met_waits ws r.vs i (at_of r) m) in
+    let known : ready m.new_take ≡ waits_in r.vs i (at_of r) = m.beside.fresh.2 ∙ sym (settled_waits ws r.vs i (at_of r) m) in
     subst (λ l. IsPrefix l (posts_taken i (at_of r) own)) (take_all (slice_index r.limits i) (ready m.new_take) le ∙ known) (spent m.new_take (take_was r i ∙ m.new_take_is))
 
 -- ---- the world suits
@@ -214,7 +214,7 @@ full_in r ws zs s target name c known ne lt e =
     let entry : Entry = record { worker = at; call = r.call; reply = r.reply } in
     let mv = moved_of r in
     let f = mv.full [] entry name m.new_post ([], own) e (post_was r j ∙ m.new_post_is) in
-    let room = met_room ws r.vs at j (at_in r) lt apart r.yard m in
+    let room = settled_room ws r.vs at j (at_in r) lt apart r.yard m in
     omega arith
 
 take_concern : {sli : ℕ} (r : Run sli) (from i : ℕ) → r.call ≡ Take from → ConcernsCall r.made (at_of r) r.call i (at_of r)
@@ -556,7 +556,7 @@ sent_same r ws zs s m j lt ne =
           let concern : ConcernsCall r.made at r.call at j = subst (λ x. ConcernsCall r.made at x at j) (sym p.2) (refl, p.1, known, sym p.4) in
           let first = s.before at j (at_in r) lt apart concern in
           let same : t ≡ first.new_take = some_same t first.new_take (sym h.3 ∙ first.new_take_is) in
-          let fresh : taken t ≡ [] = ap taken same ∙ first.meets.fresh.1 in
+          let fresh : taken t ≡ [] = ap taken same ∙ first.beside.fresh.1 in
           let whole : (xs : List Post) → drop (length (taken t)) xs ≡ xs = λ xs. ap (λ (l : List Post). drop (length l) xs) fresh in
           ap (λ l. l ++ posts) (was ∙ whole (waited t ++ posts_sent h.0)) ∙ (append_assoc (waited t) (posts_sent h.0) posts ∙ (sym (whole (waited t ++ (posts_sent h.0 ++ posts))) ∙ sym now))
     ]
@@ -650,15 +650,15 @@ replied {sli} r ws zs event s world at_is call_is =
 
 -- the facts of both settlings, where the worker goes by the event's number
 pub settles : {sli : ℕ} (r : Run sli) (ws zs : List (Worker sli Lanes)) (at : ℕ) → at_of r ≡ at → length r.vs ≡ length ws
-    → ((i j : ℕ) → i < length ws → j < length ws → i ≢ j → ConcernsCall r.made at r.call i j → MetIn ws r.vs i j)
-    → ((i j : ℕ) → i < length (set r.vs at r.v) → j < length (set r.vs at r.v) → i ≢ j → ConcernsCall r.made at r.call i j → MetIn (set r.vs at r.v) zs i j)
+    → ((i j : ℕ) → i < length ws → j < length ws → i ≢ j → ConcernsCall r.made at r.call i j → LaneSettled ws r.vs i j)
+    → ((i j : ℕ) → i < length (set r.vs at r.v) → j < length (set r.vs at r.v) → i ≢ j → ConcernsCall r.made at r.call i j → LaneSettled (set r.vs at r.v) zs i j)
     → (MayTake r.call → (i : ℕ) (t : TakeEnd) → i < 8 → take_at r.vs i at ≡ Some t → length (ready t) ≤ slice_index r.limits i)
     → IsYard zs → length zs ≡ length (set r.vs at r.v) → world_of zs ≡ world_of (set r.vs at r.v) → Settles r ws zs
 settles r ws zs at e len first second limits yard count world =
     let k = length-set r.vs at r.v in
     record {
       before = λ i j a b ne c. first i j (omega arith) (omega arith) ne (subst (λ x. ConcernsCall r.made x r.call i j) e c);
-      after = λ i j a b ne c. subst (λ x. MetIn (set r.vs x r.v) zs i j) (sym e) (second i j (omega arith) (omega arith) ne (subst (λ x. ConcernsCall r.made x r.call i j) e c));
+      after = λ i j a b ne c. subst (λ x. LaneSettled (set r.vs x r.v) zs i j) (sym e) (second i j (omega arith) (omega arith) ne (subst (λ x. ConcernsCall r.made x r.call i j) e c));
       limits = λ may i t lt is. limits may i t lt (subst (λ x. take_at r.vs i x ≡ Some t) e (sym (take_was r i) ∙ is));
       yard = yard;
       count = count ∙ ap (λ x. length (set r.vs x r.v)) (sym e);
@@ -667,8 +667,8 @@ settles r ws zs at e len first second limits yard count world =
 
 -- what is ready after the lanes to a worker were settled is all that waits
 pub limits_are : {sli : ℕ} (ws vs : List (Worker sli Lanes)) (e : Event) (counts : List ℕ) (a : Worker sli Lanes) → IsYard vs → length vs ≡ length ws → slice_get vs e.worker ≡ Some a
-    → ((i : ℕ) → i < length ws → i ≢ e.worker → MetIn ws vs i e.worker) → ((i : ℕ) → i < 8 → slice_index counts i ≡ ready_from a i) → AreLimits vs e counts
-limits_are ws vs e counts a yard len is met counted =
+    → ((i : ℕ) → i < length ws → i ≢ e.worker → LaneSettled ws vs i e.worker) → ((i : ℕ) → i < 8 → slice_index counts i ≡ ready_from a i) → AreLimits vs e counts
+limits_are ws vs e counts a yard len is settled counted =
     let at = e.worker in
     let was : (i : ℕ) → end_from a i ≡ take_at vs i at = λ i. sym (ap (λ o. end_from_in o i) is) in
     let none : (i : ℕ) → take_at vs i at ≡ None → ready_from a i ≡ 0 = λ i q. ap count_of (was i ∙ q) in
@@ -679,10 +679,10 @@ limits_are ws vs e counts a yard len is met counted =
             | inl own ↦ let z = none i (subst (λ x. take_at vs x at ≡ None) (sym own) (yard.alone at).1) in omega arith
             | inr ne ↦ elim (cases_lt i (length vs)) [
               | inl i_in ↦
-                  let m = met i (omega arith) ne in
+                  let m = settled i (omega arith) ne in
                   let r = ap count_of (was i ∙ m.new_take_is) in
-                  let k = ap length m.meets.fresh.2 in
-                  let w = ap length (met_waits ws vs i at m) in
+                  let k = ap length m.beside.fresh.2 in
+                  let w = ap length (settled_waits ws vs i at m) in
                   omega arith
               | inr far ↦ let z = none i (yard.outside at i far).1 in omega arith
             ]

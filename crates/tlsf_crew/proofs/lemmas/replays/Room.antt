@@ -18,7 +18,7 @@ use Rattle.tlsf_crew.specs.model.Heaps.{released}
 use Rattle.tlsf_crew.specs.model.OwnReplies.{OwnReplied, own_allocating, own_reading, own_resizing, own_writing}
 use Rattle.tlsf_crew.specs.model.World.{World, Replied, Replayed, with_heap, with_waiting, heap_in, by_own, posting, releasing, releasing_named, taking, taking_next, took_first, took, took_more, Draining, drained_lane, drained_below, after_drain, draining, answered, called, after, resumed, name_of}
 use Rattle.tlsf_crew.specs.lanes.Yard.{world_of, IsYard, waits_in}
-use Rattle.tlsf_crew.specs.model.Sums.{sum_below, waiting_in}
+use Rattle.tlsf_crew.specs.model.Sums.{sum_below, waiting_count}
 use Rattle.tlsf_crew.specs.scripts.Counts.{is_release, releases_in}
 use Rattle.tlsf_crew.proofs.lemmas.model.Edits.{edited_same}
 use Rattle.tlsf_crew.proofs.lemmas.lanes.LaneChanges.{heaps_count}
@@ -30,15 +30,15 @@ use Rattle.tlsf_crew.proofs.lemmas.scripts.LaneMoves.{sum_has}
 use Rattle.tlsf_crew.proofs.lemmas.lanes.LaneSettled.{none_wait, none_for}
 use Rattle.tlsf_crew.proofs.lemmas.model.Sums.{edited_sum}
 
-heap_waits : {sli : ℕ} (w : World sli) (at : ℕ) (h : HeapState) → waiting_in (with_heap w at h) ≡ waiting_in w
-unfolding waiting_in
+heap_waits : {sli : ℕ} (w : World sli) (at : ℕ) (h : HeapState) → waiting_count (with_heap w at h) ≡ waiting_count w
+unfolding waiting_count
 heap_waits w at h = rw (length-set w.heaps at h) refl
 
-lane_waits : {sli : ℕ} (w : World sli) (i j : ℕ) (ps : List Post) → i < length w.heaps → j < length w.heaps → waiting_in (with_waiting w i j ps) + length (w.waiting i j) ≡ waiting_in w + length ps
-unfolding waiting_in
+lane_waits : {sli : ℕ} (w : World sli) (i j : ℕ) (ps : List Post) → i < length w.heaps → j < length w.heaps → waiting_count (with_waiting w i j ps) + length (w.waiting i j) ≡ waiting_count w + length ps
+unfolding waiting_count
 lane_waits w i j ps i_in j_in = edited_sum (length w.heaps) w.waiting i j ps i_in j_in
 
-post_waits : {sli : ℕ} (w : World sli) (at : ℕ) (name : Name) → at < length w.heaps → name.heap < length w.heaps → waiting_in (posting w at name).world ≤ waiting_in w + 1
+post_waits : {sli : ℕ} (w : World sli) (at : ℕ) (name : Name) → at < length w.heaps → name.heap < length w.heaps → waiting_count (posting w at name).world ≤ waiting_count w + 1
 unfolding posting
 post_waits w at name at_in to_in =
     elim (cases_eq (length (w.waiting at name.heap)) w.capacity) [
@@ -51,7 +51,7 @@ post_waits w at name at_in to_in =
           rw b (omega arith)
     ]
 
-release_waits : {sli : ℕ} (w : World sli) (at : ℕ) (name : Name) → at < length w.heaps → waiting_in (releasing w at name).world ≤ waiting_in w + 1
+release_waits : {sli : ℕ} (w : World sli) (at : ℕ) (name : Name) → at < length w.heaps → waiting_count (releasing w at name).world ≤ waiting_count w + 1
 release_waits w at name at_in =
     elim (cases_eq name.heap at) [
       | inl e ↦
@@ -64,31 +64,31 @@ release_waits w at name at_in =
       ]
     ]
 
-named_waits : {sli : ℕ} (w : World sli) (at : ℕ) (name : Option Name) → at < length w.heaps → waiting_in (releasing_named w at name).world ≤ waiting_in w + 1
+named_waits : {sli : ℕ} (w : World sli) (at : ℕ) (name : Option Name) → at < length w.heaps → waiting_count (releasing_named w at name).world ≤ waiting_count w + 1
 named_waits w at None at_in = omega arith
 named_waits w at (Some name) at_in = release_waits w at name at_in
 
-own_waits : {sli : ℕ} (w : World sli) (at : ℕ) (by : HeapState → OwnReplied) → waiting_in (by_own w at by).world ≤ waiting_in w
+own_waits : {sli : ℕ} (w : World sli) (at : ℕ) (by : HeapState → OwnReplied) → waiting_count (by_own w at by).world ≤ waiting_count w
 own_waits w at by = let h = heap_waits w at (by (heap_in w at)).heap in omega arith
 
 -- a take takes one post out
 took_waits : {sli : ℕ} (w : World sli) (at from : ℕ) (p : Post) (rest : List Post) → at < length w.heaps → from < length w.heaps → w.waiting from at ≡ p ∷ rest
-    → waiting_in (took w at from p rest).world + 1 ≡ waiting_in w
+    → waiting_count (took w at from p rest).world + 1 ≡ waiting_count w
 took_waits w at from p rest at_in from_in e =
     let h = heap_waits (with_waiting w from at rest) at (released (heap_in w at) p.name).heap in
     let a = lane_waits w from at rest from_in at_in in
     let n : length (w.waiting from at) ≡ length rest + 1 = ap length e ∙ omega arith in
     omega arith
 
-first_waits : {sli : ℕ} (w : World sli) (at from : ℕ) (ps : List Post) → at < length w.heaps → from < length w.heaps → w.waiting from at ≡ ps → waiting_in (took_first w at from ps).world ≤ waiting_in w
+first_waits : {sli : ℕ} (w : World sli) (at from : ℕ) (ps : List Post) → at < length w.heaps → from < length w.heaps → w.waiting from at ≡ ps → waiting_count (took_first w at from ps).world ≤ waiting_count w
 first_waits w at from [] at_in from_in e = omega arith
 first_waits w at from (p ∷ rest) at_in from_in e = let a = took_waits w at from p rest at_in from_in e in omega arith
 
-next_waits : {sli : ℕ} (w : World sli) (at from : ℕ) → at < length w.heaps → from < length w.heaps → waiting_in (taking_next w at from).world ≤ waiting_in w
+next_waits : {sli : ℕ} (w : World sli) (at from : ℕ) → at < length w.heaps → from < length w.heaps → waiting_count (taking_next w at from).world ≤ waiting_count w
 unfolding taking_next
 next_waits w at from at_in from_in = first_waits w at from (w.waiting from at) at_in from_in refl
 
-take_waits : {sli : ℕ} (w : World sli) (at from : ℕ) → at < length w.heaps → waiting_in (taking w at from).world ≤ waiting_in w
+take_waits : {sli : ℕ} (w : World sli) (at from : ℕ) → at < length w.heaps → waiting_count (taking w at from).world ≤ waiting_count w
 take_waits w at from at_in =
     elim (cases_eq from at) [
       | inl e ↦ rw (taking_own w at from e) (omega arith)
@@ -100,7 +100,7 @@ take_waits w at from at_in =
 
 -- each post that a drain takes makes one entry
 abbrev IsEven : {sli : ℕ} → Draining sli → Draining sli → Type 0
-IsEven d b = (length b.entries + waiting_in b.world ≡ length d.entries + waiting_in d.world) × (length b.world.heaps ≡ length d.world.heaps)
+IsEven d b = (length b.entries + waiting_count b.world ≡ length d.entries + waiting_count d.world) × (length b.world.heaps ≡ length d.world.heaps)
 
 even_then : {sli : ℕ} (d b e : Draining sli) → IsEven d b → IsEven b e → IsEven d e
 even_then d b e x y = (y.0 ∙ x.0, y.1 ∙ x.1)
@@ -139,7 +139,7 @@ all_even : {sli : ℕ} (at most : ℕ) (d : Draining sli) → at < length d.worl
 unfolding after_drain
 all_even at most d at_in = below_even at most d (length d.world.heaps) at_in (omega arith)
 
-drain_even : {sli : ℕ} (r : Replayed sli) (at most : ℕ) → at < length r.world.heaps → length (draining r at most).entries + waiting_in (draining r at most).world ≡ length r.entries + waiting_in r.world + 1
+drain_even : {sli : ℕ} (r : Replayed sli) (at most : ℕ) → at < length r.world.heaps → length (draining r at most).entries + waiting_count (draining r at most).world ≡ length r.entries + waiting_count r.world + 1
 unfolding draining
 drain_even {sli} r at most at_in =
     let d : Draining sli = record { entries = r.entries; world = r.world; taken = 0 } in
@@ -151,12 +151,12 @@ drain_even {sli} r at most at_in =
 abbrev later : Call → ℕ
 later call = cond (is_release call) 1 0
 
-answered_room : {sli : ℕ} (r : Replayed sli) (at : ℕ) (call : Call) (a : Replied sli) → waiting_in a.world ≤ waiting_in r.world + later call
-    → length (answered r at call a).entries + waiting_in (answered r at call a).world ≤ length r.entries + waiting_in r.world + 1 + later call
+answered_room : {sli : ℕ} (r : Replayed sli) (at : ℕ) (call : Call) (a : Replied sli) → waiting_count a.world ≤ waiting_count r.world + later call
+    → length (answered r at call a).entries + waiting_count (answered r at call a).world ≤ length r.entries + waiting_count r.world + 1 + later call
 answered_room r at call a le = let n = length_push r.entries (record { worker = at; call = call; reply = a.reply }) in omega arith
 
 called_room : {sli : ℕ} (r : Replayed sli) (at : ℕ) (call : Call) → at < length r.world.heaps
-    → length (called r at call).entries + waiting_in (called r at call).world ≤ length r.entries + waiting_in r.world + 1 + later call
+    → length (called r at call).entries + waiting_count (called r at call).world ≤ length r.entries + waiting_count r.world + 1 + later call
 called_room {sli} r at (Allocate len) at_in = answered_room r at (Allocate len) _ (let h = own_waits r.world at (λ h. own_allocating sli h len) in omega arith)
 called_room {sli} r at (Release target) at_in = answered_room r at (Release target) _ (named_waits r.world at (name_of r.made target) at_in)
 called_room {sli} r at (Write target from bytes) at_in = answered_room r at (Write target from bytes) _ (let h = own_waits r.world at (λ h. own_writing h (name_of r.made target) from (bytes_of bytes)) in omega arith)
@@ -165,7 +165,7 @@ called_room {sli} r at (Resize target len) at_in = answered_room r at (Resize ta
 called_room {sli} r at (Take from) at_in = answered_room r at (Take from) _ (let h = take_waits r.world at from at_in in omega arith)
 called_room {sli} r at (Drain most) at_in = let a = drain_even r at most at_in in omega arith
 
-after_room : {sli : ℕ} (r : Replayed sli) (e : Event) → length (after r e).entries + waiting_in (after r e).world ≤ length r.entries + waiting_in r.world + 1 + later e.call
+after_room : {sli : ℕ} (r : Replayed sli) (e : Event) → length (after r e).entries + waiting_count (after r e).world ≤ length r.entries + waiting_count r.world + 1 + later e.call
 after_room r e =
     elim (cases_lt e.worker (length r.world.heaps)) [
       | inl lt ↦ rw (after_near r e e.call lt refl) (called_room r e.worker e.call lt)
@@ -173,7 +173,7 @@ after_room r e =
     ]
 
 all_room : {sli : ℕ} (k : ℕ) (es : List Event) (r : Replayed sli) → k ≤ length es
-    → length (fold after r (take k es)).entries + waiting_in (fold after r (take k es)).world ≤ length r.entries + waiting_in r.world + k + releases_in es
+    → length (fold after r (take k es)).entries + waiting_count (fold after r (take k es)).world ≤ length r.entries + waiting_count r.world + k + releases_in es
 all_room zero es r le = omega arith
 all_room (suc k) [] r le = absurd (omega arith)
 all_room (suc k) (e ∷ es) r le =
@@ -184,12 +184,12 @@ all_room (suc k) (e ∷ es) r le =
 
 -- the entries of the first events, and what waits then
 pub so_far : {sli : ℕ} (k : ℕ) (es : List Event) (w : World sli) (made : List (Option Name)) → k ≤ length es
-    → length (fold after (resumed w made) (take k es)).entries + waiting_in (fold after (resumed w made) (take k es)).world ≤ k + releases_in es + waiting_in w
+    → length (fold after (resumed w made) (take k es)).entries + waiting_count (fold after (resumed w made) (take k es)).world ≤ k + releases_in es + waiting_count w
 so_far k es w made le = let a = all_room k es (resumed w made) le in omega arith
 
 -- what waits for one worker is no more than what waits in the yard
-pub worker_waits : {sli : ℕ} (ws : List (Worker sli Lanes)) (at : ℕ) → IsYard ws → sum_below 8 (λ i. length (waits_in ws i at)) ≤ waiting_in (world_of ws)
-unfolding world_of waiting_in
+pub worker_waits : {sli : ℕ} (ws : List (Worker sli Lanes)) (at : ℕ) → IsYard ws → sum_below 8 (λ i. length (waits_in ws i at)) ≤ waiting_count (world_of ws)
+unfolding world_of waiting_count
 worker_waits ws at yard =
     let n = heaps_count ws in
     elim (cases_lt at (length ws)) [

@@ -18,7 +18,7 @@ use Rattle.tlsf_crew.specs.model.World.{no_heap, World, Draining, heap_in, calle
 use Rattle.tlsf_crew.specs.model.Told.{MayTell, HasHeap, told_by}
 use Rattle.tlsf_crew.specs.model.Sums.{sum_below}
 use Rattle.tlsf_crew.specs.histories.History.{posts_taken}
-use Rattle.tlsf_crew.specs.scripts.Moves.{one, Spent, OwnDrain, lane_own, each_lane_own, own_drain, EachLaneTaken, EachLaneSpent, SuitsDrain, Stepped}
+use Rattle.tlsf_crew.specs.scripts.LaneMoves.{one, Spent, OwnDrain, lane_own, each_lane_own, own_drain, EachLaneTaken, EachLaneSpent, SuitsDrain, LaneStepped}
 use Rattle.tlsf_crew.proofs.lemmas.scripts.LaneTakes.{lanes_other_turn, each_lane_own_turn, count_below, lanes_taken_count}
 use Rattle.tlsf_crew.proofs.lemmas.model.Sums.{same_sum, sum_longer}
 use Rattle.tlsf_crew.proofs.lemmas.model.OneEvent.{from_other, from_own}
@@ -171,7 +171,7 @@ drain_idle n a limits most count later own k spent = record {
 }
 
 pub drain_stepped : {sli : ℕ} (n : ℕ) (a v : Worker sli Lanes) (limits left : List ℕ) (most : ℕ) (made : List (Option Name)) (es longer : List Entry) (count : ℕ) → KnowsYard n a → EachLaneSpent a limits n most es v left longer count
-    → Stepped n a limits (Drain most) made es v left longer (Drained count)
+    → LaneStepped n a limits (Drain most) made es v left longer (Drained count)
 drain_stepped n a v limits left most made es longer count k x =
     let t = x.takes in
     record {

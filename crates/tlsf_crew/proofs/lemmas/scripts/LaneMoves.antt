@@ -17,12 +17,12 @@ use Rattle.tlsf_calls.specs.declared.target.Target.{Target}
 use Rattle.tlsf_calls.specs.declared.took.Took.{Took}
 use Rattle.tlsf_calls.specs.declared.reply.Reply.TheVariants.{Posted, Took as Taken}
 use Rattle.tlsf_crew.specs.worker.Workers.{id_of}
-use Rattle.tlsf_crew.specs.lanes.LaneWorkers.{end_to, end_from, PutTo, TookFrom}
+use Rattle.tlsf_crew.specs.lanes.LaneWorkers.{end_to, end_from, PostEndPut, TakeEndTook}
 use Rattle.tlsf_crew.specs.model.Sums.{sum_below}
 use Rattle.tlsf_crew.specs.histories.History.{posts_made, posts_taken, post_of_release, post_of_take}
 use Rattle.tlsf_crew.specs.model.World.{name_of}
 use Rattle.tlsf_crew.specs.scripts.Journals.{OneFewer}
-use Rattle.tlsf_crew.specs.scripts.Moves.{one, Sends, Takes, Spent, Moved}
+use Rattle.tlsf_crew.specs.scripts.LaneMoves.{one, PostEndMoved, TakeEndMoved, Spent, LaneMoved}
 use Rattle.tlsf_crew.proofs.lemmas.lanes.LaneSlots.{ports_numbers}
 use Rattle.tlsf_crew.proofs.lemmas.lanes.YardKept.{put_keeps, take_keeps}
 use Rattle.tlsf_crew.proofs.lemmas.histories.LaneCalls.{of_same, of_other}
@@ -32,7 +32,7 @@ use Rattle.tlsf_crew.proofs.lemmas.histories.JoinedEntries.{told_nothing, told_o
 
 -- ---- a put
 
-put_lanes : {sli : ℕ} (a v : Worker sli Lanes) (j : ℕ) (post : Post) (answer : Result (Unit {0}) Post) → PutTo a v j post answer → EachLaneSame a v
+put_lanes : {sli : ℕ} (a v : Worker sli Lanes) (j : ℕ) (post : Post) (answer : Result (Unit {0}) Post) → PostEndPut a v j post answer → EachLaneSame a v
 put_lanes a v j post answer put = record {
   numbers = (ports_numbers a v put.0 put.1.same.0);
   to = λ k. elim (cases_eq k j) [
@@ -43,7 +43,7 @@ put_lanes a v j post answer put = record {
 }
 
 -- the takes of a worker whose ends from others are the same
-pub same_takes : {sli : ℕ} (at : ℕ) (a v : Worker sli Lanes) (i : ℕ) (t : TakeEnd) (entries : List Entry) → end_from v ≡ end_from a → posts_taken i at entries ≡ [] → end_from a i ≡ Some t → Takes at v i entries t
+pub same_takes : {sli : ℕ} (at : ℕ) (a v : Worker sli Lanes) (i : ℕ) (t : TakeEnd) (entries : List Entry) → end_from v ≡ end_from a → posts_taken i at entries ≡ [] → end_from a i ≡ Some t → TakeEndMoved at v i entries t
 same_takes at a v i t entries same none is = record {
   end = t;
   end_is = ap (λ f. f i) same ∙ is;
@@ -52,7 +52,7 @@ same_takes at a v i t entries same none is = record {
   ready = rw none ([], append-nil (ready t));
 }
 
-pub still_full : {sli : ℕ} (at : ℕ) (a v : Worker sli Lanes) (j : ℕ) (post back : Post) → post.from ≡ id_of a → PutTo a v j post (Err back) → Still at a v
+pub still_full : {sli : ℕ} (at : ℕ) (a v : Worker sli Lanes) (j : ℕ) (post back : Post) → post.from ≡ id_of a → PostEndPut a v j post (Err back) → Still at a v
 still_full at a v j post back own put = record {
   lanes = put_lanes a v j post (Err back) put;
   yard = put_keeps a v j post (Err back) own put;
@@ -71,7 +71,7 @@ still_full at a v j post back own put = record {
 }
 
 -- the lane was full
-pub none_free : {sli : ℕ} (a v : Worker sli Lanes) (j : ℕ) (post back : Post) (p : PostEnd) → PutTo a v j post (Err back) → end_to a j ≡ Some p → free_slots p ≤ 0
+pub none_free : {sli : ℕ} (a v : Worker sli Lanes) (j : ℕ) (post back : Post) (p : PostEnd) → PostEndPut a v j post (Err back) → end_to a j ≡ Some p → free_slots p ≤ 0
 none_free a v j post back p put is =
     let q : p ≡ put.1.end = some_same p put.1.end (sym is ∙ put.1.end_is) in
     elim (cases_lt 0 (free_slots put.1.end)) [
@@ -102,7 +102,7 @@ posted_few at j made target name known = elim (cases_eq j name.heap) [
 ]
 
 post_sends : {sli : ℕ} (at : ℕ) (made : List (Option Name)) (a v : Worker sli Lanes) (target : Target) (name : Name) (done : Unit {0}) → name_of made target ≡ Some name
-    → PutTo a v name.heap (record { from = at; name = name }) (Ok done) → (j : ℕ) (p : PostEnd) → end_to a j ≡ Some p → Sends at made v j (one at (Release target) Posted) p
+    → PostEndPut a v name.heap (record { from = at; name = name }) (Ok done) → (j : ℕ) (p : PostEnd) → end_to a j ≡ Some p → PostEndMoved at made v j (one at (Release target) Posted) p
 post_sends at made a v target name done known put j p is = elim (cases_eq j name.heap) [
   | inl e ↦
       let q : p ≡ put.1.end = some_same p put.1.end (sym is ∙ (ap (end_to a) e ∙ put.1.end_is)) in
@@ -124,7 +124,7 @@ post_sends at made a v target name done known put j p is = elim (cases_eq j name
 ]
 
 pub moved_post : {sli : ℕ} (at : ℕ) (made : List (Option Name)) (a v : Worker sli Lanes) (limits : List ℕ) (target : Target) (name : Name) (done : Unit {0}) → name_of made target ≡ Some name
-    → at ≡ id_of a → PutTo a v name.heap (record { from = at; name = name }) (Ok done) → Moved at made a limits (Release target ∷ []) (one at (Release target) Posted) v limits
+    → at ≡ id_of a → PostEndPut a v name.heap (record { from = at; name = name }) (Ok done) → LaneMoved at made a limits (Release target ∷ []) (one at (Release target) Posted) v limits
 moved_post at made a v limits target name done known own put =
     let e : Entry = record { worker = at; call = Release target; reply = Posted } in
     let lanes = put_lanes a v name.heap (record { from = at; name = name }) (Ok done) put in
@@ -145,7 +145,7 @@ moved_post at made a v limits target name done known own put =
 
 -- ---- a take
 
-same_after_take : {sli : ℕ} (a v : Worker sli Lanes) (i : ℕ) (answer : Option Post) → TookFrom a v i answer → EachLaneSame a v
+same_after_take : {sli : ℕ} (a v : Worker sli Lanes) (i : ℕ) (answer : Option Post) → TakeEndTook a v i answer → EachLaneSame a v
 same_after_take a v i answer took = record {
   numbers = (ports_numbers a v took.0 took.1.same.0);
   to = λ j. ((λ h. (h.0, ap (λ f. f j) (sym took.1.same.1) ∙ h.1)), (λ h. (h.0, ap (λ f. f j) took.1.same.1 ∙ h.1)));
@@ -157,7 +157,7 @@ same_after_take a v i answer took = record {
 
 -- the sends of a worker whose ends to others are the same
 same_sends : {sli : ℕ} (at : ℕ) (made : List (Option Name)) (a v : Worker sli Lanes) (j : ℕ) (p : PostEnd) (entries : List Entry) → end_to v ≡ end_to a → posts_made at j made entries ≡ [] → end_to a j ≡ Some p
-    → Sends at made v j entries p
+    → PostEndMoved at made v j entries p
 same_sends at made a v j p entries same none is = record {
   end = p;
   end_is = ap (λ f. f j) same ∙ is;
@@ -170,13 +170,13 @@ none_long [] le = refl
 none_long (x ∷ xs) le = absurd (omega arith)
 
 -- the end knew none to be ready
-pub none_ready : {sli : ℕ} (a v : Worker sli Lanes) (i : ℕ) → (took : TookFrom a v i None) → ready took.1.end ≡ []
+pub none_ready : {sli : ℕ} (a v : Worker sli Lanes) (i : ℕ) → (took : TakeEndTook a v i None) → ready took.1.end ≡ []
 none_ready a v i took = elim (cases_lt 0 (length (ready took.1.end))) [
   | inl lt ↦ let e = took.1.succeeds lt in absurd cc
   | inr le ↦ none_long (ready took.1.end) le
 ]
 
-pub spent_none : {sli : ℕ} (at : ℕ) (a v : Worker sli Lanes) (limits : List ℕ) (i : ℕ) → TookFrom a v i None → Spent a limits at i []
+pub spent_none : {sli : ℕ} (at : ℕ) (a v : Worker sli Lanes) (limits : List ℕ) (i : ℕ) → TakeEndTook a v i None → Spent a limits at i []
 spent_none at a v limits i took t is =
     let q : t ≡ took.1.end = some_same t took.1.end (sym is ∙ took.1.end_is) in
     let r : ready t ≡ [] = ap ready q ∙ none_ready a v i took in
@@ -186,7 +186,7 @@ spent_none at a v limits i took t is =
     none_of zero = ([], refl)
     none_of (suc n) = ([], refl)
 
-pub still_empty : {sli : ℕ} (at : ℕ) (a v : Worker sli Lanes) (i : ℕ) → TookFrom a v i None → Still at a v
+pub still_empty : {sli : ℕ} (at : ℕ) (a v : Worker sli Lanes) (i : ℕ) → TakeEndTook a v i None → Still at a v
 still_empty at a v i took = record {
   lanes = same_after_take a v i None took;
   yard = take_keeps a v i None took;
@@ -220,8 +220,8 @@ taken_elsewhere at i k t ne =
     let none : f e ≡ None = rw other refl in
     told_nothing f at e none
 
-take_takes : {sli : ℕ} (at : ℕ) (a v : Worker sli Lanes) (i : ℕ) (t : Took) → TookFrom a v i (Some (record { from = t.from; name = t.name })) → (k : ℕ) (end : TakeEnd) → end_from a k ≡ Some end
-    → Takes at v k (one at (Take i) (Taken t)) end
+take_takes : {sli : ℕ} (at : ℕ) (a v : Worker sli Lanes) (i : ℕ) (t : Took) → TakeEndTook a v i (Some (record { from = t.from; name = t.name })) → (k : ℕ) (end : TakeEnd) → end_from a k ≡ Some end
+    → TakeEndMoved at v k (one at (Take i) (Taken t)) end
 take_takes at a v i t took k end is = elim (cases_eq k i) [
   | inl e ↦
       let q : end ≡ took.1.end = some_same end took.1.end (sym is ∙ (ap (end_from a) e ∙ took.1.end_is)) in
@@ -252,7 +252,7 @@ sum_has (suc n) f i lt = elim (cases_eq i n) [
 ]
 
 pub moved_take : {sli : ℕ} (at : ℕ) (made : List (Option Name)) (a v : Worker sli Lanes) (limits left : List ℕ) (i : ℕ) (t : Took) → i < 8 → OneFewer limits i left
-    → TookFrom a v i (Some (record { from = t.from; name = t.name })) → Moved at made a limits [] (one at (Take i) (Taken t)) v left
+    → TakeEndTook a v i (Some (record { from = t.from; name = t.name })) → LaneMoved at made a limits [] (one at (Take i) (Taken t)) v left
 moved_take at made a v limits left i t near fewer took =
     let e : Entry = record { worker = at; call = Take i; reply = Taken t } in
     let p : Post = record { from = t.from; name = t.name } in

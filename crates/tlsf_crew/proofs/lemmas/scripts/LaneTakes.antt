@@ -20,10 +20,10 @@ use Rattle.tlsf_crew.specs.worker.Workers.{heap_of, id_of, SameButPorts}
 use Rattle.tlsf_crew.specs.lanes.LaneWorkers.{end_from, HasTake, TookThrough, lane_places, KnowsYard}
 use Rattle.tlsf_crew.specs.model.Sums.{sum_below}
 use Rattle.tlsf_crew.specs.histories.History.{posts_taken}
-use Rattle.tlsf_crew.specs.worker.Notes.{NotedInTurn}
+use Rattle.tlsf_crew.specs.worker.Notes.{EachTakeNoted}
 use Rattle.tlsf_crew.specs.lanes.LaneNotes.{LaneNoted, EachLaneNoted, AllLanesNoted}
-use Rattle.tlsf_crew.specs.scripts.Journals.{IsNoted, IsAdmitted}
-use Rattle.tlsf_crew.specs.scripts.Moves.{one, Spent, Moved, TookWithin, took_by, OwnDrain, took_own, lane_own, each_lane_own, own_drain, LaneTaken, LaneSpent, EachLaneTaken, EachLaneSpent}
+use Rattle.tlsf_crew.specs.scripts.Journals.{EntersLane, IsAdmitted}
+use Rattle.tlsf_crew.specs.scripts.LaneMoves.{one, Spent, LaneMoved, LaneTakenWithin, took_by, OwnDrain, took_own, lane_own, each_lane_own, own_drain, LaneTaken, LaneSpent, EachLaneTaken, EachLaneSpent}
 use Rattle.tlsf_crew.proofs.lemmas.lanes.YardKept.{same_keeps}
 use Rattle.tlsf_crew.proofs.lemmas.scripts.ManyEntries.{moved_then, spent_then, spent_more}
 use Rattle.tlsf_crew.proofs.lemmas.histories.JoinedEntries.{taken_then}
@@ -36,7 +36,7 @@ use Rattle.tlsf_crew.proofs.lemmas.scripts.OneEntry.{moved_still, still_heap}
 
 -- ---- one lane
 
-pub moved_none : {sli : ℕ} (made : List (Option Name)) (a : Worker sli Lanes) (limits : List ℕ) → Moved (id_of a) made a limits [] [] a limits
+pub moved_none : {sli : ℕ} (made : List (Option Name)) (a : Worker sli Lanes) (limits : List ℕ) → LaneMoved (id_of a) made a limits [] [] a limits
 moved_none made a limits = moved_still (id_of a) made a a limits (still_heap (id_of a) a a (refl, refl) (same_keeps a))
 
 pub lane_none : {sli : ℕ} (a : Worker sli Lanes) (limits : List ℕ) (from : ℕ) (entries : List Entry) → LaneTaken a limits from entries a limits entries 0
@@ -52,15 +52,15 @@ lane_none a limits from entries = record {
 }
 
 -- moves of a worker of that number, by the number that it had
-moved_at : {sli : ℕ} (at : ℕ) (made : List (Option Name)) (b v : Worker sli Lanes) (mid left : List ℕ) (own : ℕ → List Entry) → id_of b ≡ at → Moved (id_of b) made b mid [] (own (id_of b)) v left → Moved at made b mid [] (own at) v left
-moved_at at made b v mid left own e m = subst (λ x. Moved x made b mid [] (own x) v left) e m
+moved_at : {sli : ℕ} (at : ℕ) (made : List (Option Name)) (b v : Worker sli Lanes) (mid left : List ℕ) (own : ℕ → List Entry) → id_of b ≡ at → LaneMoved (id_of b) made b mid [] (own (id_of b)) v left → LaneMoved at made b mid [] (own at) v left
+moved_at at made b v mid left own e m = subst (λ x. LaneMoved x made b mid [] (own x) v left) e m
 
 pub lane_id : {sli : ℕ} (a v : Worker sli Lanes) (limits left : List ℕ) (from : ℕ) (entries longer : List Entry) (count : ℕ) → LaneTaken a limits from entries v left longer count → id_of v ≡ id_of a
 lane_id a v limits left from entries longer count x = let m = x.moved [] in ap (λ n. n.0) m.numbers
 
 -- one take more
 pub lane_more : {sli : ℕ} (a b v : Worker sli Lanes) (limits mid left : List ℕ) (from : ℕ) (entries longer : List Entry) (count : ℕ) (took : Took) → (x : LaneTaken a limits from entries b mid longer count)
-    → TookWithin b mid from v left (Some took) → LaneTaken a limits from entries v left (longer ++ one (id_of v) (Take from) (Taken took)) (count + 1)
+    → LaneTakenWithin b mid from v left (Some took) → LaneTaken a limits from entries v left (longer ++ one (id_of v) (Take from) (Taken took)) (count + 1)
 lane_more {sli} a b v limits mid left from entries longer count took x t =
     let at = id_of a in
     let q : id_of b ≡ at = lane_id a b limits mid from entries longer count x in
@@ -90,7 +90,7 @@ lane_more {sli} a b v limits mid left from entries longer count took x t =
 
 -- the lane showed no more, or no more might be taken
 pub lane_end : {sli : ℕ} (a b v : Worker sli Lanes) (limits mid left : List ℕ) (from most : ℕ) (entries longer : List Entry) (count : ℕ) → LaneTaken a limits from entries b mid longer count → count ≤ most
-    → TookWithin b mid from v left None → LaneSpent a limits from most entries v left longer count
+    → LaneTakenWithin b mid from v left None → LaneSpent a limits from most entries v left longer count
 lane_end a b v limits mid left from most entries longer count x few t =
     let at = id_of a in
     let q : id_of b ≡ at = lane_id a b limits mid from entries longer count x in
@@ -297,7 +297,7 @@ no_turn a v limits left from most entries longer count none x =
 -- ---- a drain, by its notes
 
 takes_in_lane : {sli : ℕ} (a b v : Worker sli Lanes) (limits : List ℕ) (x y : Journal) (from : ℕ) (entries : List Entry) (count : ℕ) (tooks : List Took) → LaneTaken a limits from entries b x.limits x.entries.items count
-    → NotedInTurn TookThrough IsNoted b v x y from tooks → LaneTaken a limits from entries v y.limits y.entries.items (count + length tooks)
+    → EachTakeNoted TookThrough EntersLane b v x y from tooks → LaneTaken a limits from entries v y.limits y.entries.items (count + length tooks)
 takes_in_lane a b v limits x y from entries count [] acc t =
     let e : count ≡ count + 0 = omega arith in
     rw (t.0, t.1, sym e) acc
@@ -314,7 +314,7 @@ takes_in_lane a b v limits x y from entries count (took ∷ tooks) acc t =
 same_worker : {sli : ℕ} (a v : Worker sli Lanes) → SameButPorts a v → v.ports ≡ a.ports → v ≡ a
 same_worker a v same ports = λ t. record { heap = same.1 t; id = same.0 t; ports = ports t }
 
-spent_in_lane : {sli : ℕ} (a v : Worker sli Lanes) (x y : Journal) (from most : ℕ) (tooks : List Took) → from < 8 → LaneNoted IsNoted IsAdmitted a v x y from most tooks
+spent_in_lane : {sli : ℕ} (a v : Worker sli Lanes) (x y : Journal) (from most : ℕ) (tooks : List Took) → from < 8 → LaneNoted EntersLane IsAdmitted a v x y from most tooks
     → LaneSpent a x.limits from most x.entries.items v y.limits y.entries.items (length tooks)
 spent_in_lane a v x y from most tooks near l =
     let start = lane_none a x.limits from x.entries.items in
@@ -332,7 +332,7 @@ spent_in_lane a v x y from most tooks near l =
           ]
     ]
 
-each_lane_spent : {sli : ℕ} (n : ℕ) (a v : Worker sli Lanes) (x y : Journal) (most k : ℕ) (tooks : List Took) → KnowsYard n a → EachLaneNoted IsNoted IsAdmitted a v x y most k tooks
+each_lane_spent : {sli : ℕ} (n : ℕ) (a v : Worker sli Lanes) (x y : Journal) (most k : ℕ) (tooks : List Took) → KnowsYard n a → EachLaneNoted EntersLane IsAdmitted a v x y most k tooks
     → EachLaneSpent a x.limits k most x.entries.items v y.limits y.entries.items (length tooks)
 each_lane_spent {sli} n a v x y most zero tooks known l =
     let e : length tooks ≡ 0 = ap length l.0 in
@@ -377,7 +377,7 @@ has_place : {sli : ℕ} (a : Worker sli Lanes) (k : ℕ) → HasTake a k → k <
 has_place a k h = slice_get_within a.ports.takes.items k (Some h.0) (from_slot (slice_get a.ports.takes.items k) h.0 h.1)
 
 -- a drain of all places is one of the lanes from all workers
-pub all_spent : {sli : ℕ} (n : ℕ) (a v : Worker sli Lanes) (x y : Journal) (most : ℕ) (answer : Drained) → KnowsYard n a → AllLanesNoted IsNoted IsAdmitted a v x y most answer → EachLaneSpent a x.limits n most x.entries.items v y.limits y.entries.items answer.taken
+pub all_spent : {sli : ℕ} (n : ℕ) (a v : Worker sli Lanes) (x y : Journal) (most : ℕ) (answer : Drained) → KnowsYard n a → AllLanesNoted EntersLane IsAdmitted a v x y most answer → EachLaneSpent a x.limits n most x.entries.items v y.limits y.entries.items answer.taken
 all_spent n a v x y most answer known d =
     let places = lane_places a in
     let c = d.count.0 in

@@ -14,7 +14,7 @@ use Rattle.tlsf_calls.specs.declared.call.Call.{Call}
 use Rattle.tlsf_crew.specs.model.Sums.{sum_below, sum_of}
 use Rattle.tlsf_crew.specs.scripts.Counts.{is_release}
 use Rattle.tlsf_crew.specs.histories.History.{posts_made, posts_taken, StandsBehind}
-use Rattle.tlsf_crew.specs.scripts.Moves.{Sends, Takes, Spent, Moved}
+use Rattle.tlsf_crew.specs.scripts.LaneMoves.{PostEndMoved, TakeEndMoved, Spent, LaneMoved}
 use Rattle.tlsf_crew.proofs.lemmas.lanes.YardKept.{keeps_then}
 use Rattle.tlsf_crew.proofs.lemmas.histories.JoinedEntries.{made_then, taken_then}
 
@@ -73,7 +73,7 @@ sum_both (suc n) f g h e = omega (arith, sum_both n f g h e, e n)
 
 -- ---- moves
 
-sends_then : {sli : ℕ} (at : ℕ) (made : List (Option Name)) (b v : Worker sli Lanes) (j : ℕ) (xs ys : List Entry) (p : PostEnd) (s : Sends at made b j xs p) → Sends at made v j ys s.end → Sends at made v j (xs ++ ys) p
+sends_then : {sli : ℕ} (at : ℕ) (made : List (Option Name)) (b v : Worker sli Lanes) (j : ℕ) (xs ys : List Entry) (p : PostEnd) (s : PostEndMoved at made b j xs p) → PostEndMoved at made v j ys s.end → PostEndMoved at made v j (xs ++ ys) p
 sends_then at made b v j xs ys p s t = record {
   end = t.end;
   end_is = t.end_is;
@@ -82,7 +82,7 @@ sends_then at made b v j xs ys p s t = record {
   free = omega (arith, s.free, t.free, count_made at j made xs ys);
 }
 
-takes_joined : {sli : ℕ} (at : ℕ) (b v : Worker sli Lanes) (i : ℕ) (xs ys : List Entry) (t : TakeEnd) (s : Takes at b i xs t) → Takes at v i ys s.end → Takes at v i (xs ++ ys) t
+takes_joined : {sli : ℕ} (at : ℕ) (b v : Worker sli Lanes) (i : ℕ) (xs ys : List Entry) (t : TakeEnd) (s : TakeEndMoved at b i xs t) → TakeEndMoved at v i ys s.end → TakeEndMoved at v i (xs ++ ys) t
 takes_joined at b v i xs ys t s u =
     let x = posts_taken i at xs in
     let y = posts_taken i at ys in
@@ -98,7 +98,7 @@ takes_joined at b v i xs ys t s u =
 
 -- what was spent later was spent in all
 pub spent_then : {sli : ℕ} (at : ℕ) (made : List (Option Name)) (a b : Worker sli Lanes) (limits left : List ℕ) (calls : List Call) (xs ys : List Entry) (i : ℕ)
-    → Moved at made a limits calls xs b left → Spent b left at i ys → Spent a limits at i (xs ++ ys)
+    → LaneMoved at made a limits calls xs b left → Spent b left at i ys → Spent a limits at i (xs ++ ys)
 spent_then at made a b limits left calls xs ys i m spent t is =
     let s = m.taken i t is in
     let x = posts_taken i at xs in
@@ -116,7 +116,7 @@ spent_more at a limits xs ys i spent t is =
     subst (IsPrefix (take (slice_index limits i) (ready t))) (sym (taken_then i at xs ys)) (prefix_more _ (posts_taken i at xs) (posts_taken i at ys) (spent t is))
 
 pub moved_then : {sli : ℕ} (at : ℕ) (made : List (Option Name)) (a b v : Worker sli Lanes) (limits mid left : List ℕ) (cs ds : List Call) (xs ys : List Entry)
-    → Moved at made a limits cs xs b mid → Moved at made b mid ds ys v left → Moved at made a limits (cs ++ ds) (xs ++ ys) v left
+    → LaneMoved at made a limits cs xs b mid → LaneMoved at made b mid ds ys v left → LaneMoved at made a limits (cs ++ ds) (xs ++ ys) v left
 moved_then at made a b v limits mid left cs ds xs ys x y = record {
   yard = keeps_then a b v x.yard y.yard;
   numbers = y.numbers ∙ x.numbers;
@@ -155,7 +155,7 @@ moved_then at made a b v limits mid left cs ds xs ys x y = record {
 
 -- entries and what may still be taken are no more than calls and what might be taken
 pub moved_room : {sli : ℕ} (at : ℕ) (made : List (Option Name)) (a v : Worker sli Lanes) (limits left : List ℕ) (calls : List Call) (entries : List Entry)
-    → Moved at made a limits calls entries v left → length entries + sum_of left ≤ length calls + sum_of limits
+    → LaneMoved at made a limits calls entries v left → length entries + sum_of left ≤ length calls + sum_of limits
 moved_room at made a v limits left calls entries m =
     let s = sum_both 8 (slice_index limits) (slice_index left) (λ i. length (posts_taken i at entries)) (λ i. sym (m.left_is i)) in
     omega (arith, m.few_entries)

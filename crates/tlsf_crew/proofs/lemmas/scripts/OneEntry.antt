@@ -18,7 +18,7 @@ use Rattle.tlsf_crew.specs.lanes.LaneWorkers.{id_and_capacity, end_to, end_from,
 use Rattle.tlsf_crew.specs.lanes.LaneCalls.{KeepsYards}
 use Rattle.tlsf_crew.specs.model.Sums.{sum_below}
 use Rattle.tlsf_crew.specs.histories.History.{posts_made, posts_taken, post_of_release, post_of_take, StandsBehind}
-use Rattle.tlsf_crew.specs.scripts.Moves.{Sends, Takes, Spent, Moved}
+use Rattle.tlsf_crew.specs.scripts.LaneMoves.{PostEndMoved, TakeEndMoved, Spent, LaneMoved}
 use Rattle.tlsf_crew.proofs.lemmas.lanes.LaneSlots.{same_parts}
 use Rattle.tlsf_crew.proofs.lemmas.histories.JoinedEntries.{made_then, taken_then, IsNoPost, told_nothing}
 use Rattle.tlsf_crew.proofs.lemmas.scripts.ManyEntries.{stands_split}
@@ -58,10 +58,10 @@ no_entry (b ∷ before) e s = let h = s.1 in cc
 pub record Still {sli : ℕ} (at : ℕ) (a v : Worker sli Lanes) : Type 0 where
   pub lanes : EachLaneSame a v
   pub yard : KeepsYards a v
-  pub to : (made : List (Option Name)) (j : ℕ) (p : PostEnd) → end_to a j ≡ Some p → Sends at made v j [] p
-  pub from : (i : ℕ) (t : TakeEnd) → end_from a i ≡ Some t → Takes at v i [] t
+  pub to : (made : List (Option Name)) (j : ℕ) (p : PostEnd) → end_to a j ≡ Some p → PostEndMoved at made v j [] p
+  pub from : (i : ℕ) (t : TakeEnd) → end_from a i ≡ Some t → TakeEndMoved at v i [] t
 
-pub moved_still : {sli : ℕ} (at : ℕ) (made : List (Option Name)) (a v : Worker sli Lanes) (limits : List ℕ) → Still at a v → Moved at made a limits [] [] v limits
+pub moved_still : {sli : ℕ} (at : ℕ) (made : List (Option Name)) (a v : Worker sli Lanes) (limits : List ℕ) → Still at a v → LaneMoved at made a limits [] [] v limits
 moved_still at made a v limits s = record {
   yard = s.yard;
   numbers = s.lanes.numbers;
@@ -118,7 +118,7 @@ sum_same zero f g e = refl
 sum_same (suc n) f g e = omega (arith, sum_same n f g e, e n)
 
 pub moved_idle : {sli : ℕ} (at : ℕ) (made : List (Option Name)) (a v : Worker sli Lanes) (limits left : List ℕ) (xs : List Entry) (e : Entry) (call : Call)
-    → Moved at made a limits [] xs v left → IsIdle at made a limits xs e → Moved at made a limits (call ∷ []) (xs ++ e ∷ []) v left
+    → LaneMoved at made a limits [] xs v left → IsIdle at made a limits xs e → LaneMoved at made a limits (call ∷ []) (xs ++ e ∷ []) v left
 moved_idle at made a v limits left xs e call m idle =
     let n = idle.posts in
     record {

@@ -22,14 +22,14 @@ use Rattle.tlsf_calls.specs.declared.crew_refusal.CrewRefusal.TheVariants.{Heap,
 use Rattle.tlsf_calls.specs.Bytes.{bytes_of}
 use Rattle.tlsf_crew.specs.model.Heaps.{released, written, resized, chunk_read}
 use Rattle.tlsf_crew.specs.worker.Workers.{heap_of, id_of, SameButHeap}
-use Rattle.tlsf_crew.specs.lanes.LaneWorkers.{end_to, HasPost, ReachesLane, PutTo, KnowsYard}
+use Rattle.tlsf_crew.specs.lanes.LaneWorkers.{end_to, HasPost, ReachesLane, PostEndPut, KnowsYard}
 use Rattle.tlsf_crew.specs.lanes.LaneCalls.{KeepsYards, PutsIntoLane, name_back}
 use Rattle.tlsf_crew.specs.worker.Calls.{by_heap, freed_by, ReleasedHere, ReleasedThere, posted_as, put_answer}
 use Rattle.tlsf_crew.specs.model.OwnReplies.{own_freeing, own_reading, own_resizing, own_writing}
 use Rattle.tlsf_crew.specs.model.World.{World, Replied, heap_in, name_of, freeing, posting, releasing, releasing_named, writing_named, reading_named, resizing_named, reply_freed, reply_wrote, reply_got, reply_resized}
 use Rattle.tlsf_crew.specs.model.Told.{HasHeap}
-use Rattle.tlsf_crew.specs.scripts.Moves.{ModelReplies, CallStep}
-use Rattle.tlsf_crew.specs.scripts.Scripts.{IsRelease, reply_released}
+use Rattle.tlsf_crew.specs.scripts.LaneMoves.{ModelReplies, CallStep}
+use Rattle.tlsf_crew.specs.scripts.Scripts.{ReleasedAnywhere, reply_released}
 use Rattle.tlsf_crew.proofs.lemmas.worker.SameParts.{ports_heap}
 use Rattle.tlsf_crew.proofs.lemmas.histories.AllEntries.{more_knows}
 use Rattle.tlsf_crew.proofs.lemmas.model.OwnReplied.{read_keeps, resize_keeps, write_keeps}
@@ -141,7 +141,7 @@ here_answered made a v limits target name answer yard own here =
     (answered_quiet made a v limits (Release target) (reply_freed o) (λ w. releasing w (id_of a) name) here.same yard (λ later. freed_idle (id_of a) later a limits target o)
     (λ n k w has s. freed_here n a v name here.heap own k w has))
 
-full_idle : {sli : ℕ} (at : ℕ) (later : List (Option Name)) (a v : Worker sli Lanes) (limits : List ℕ) (target : Target) (name : Name) (post back : Post) → PutTo a v name.heap post (Err back)
+full_idle : {sli : ℕ} (at : ℕ) (later : List (Option Name)) (a v : Worker sli Lanes) (limits : List ℕ) (target : Target) (name : Name) (post back : Post) → PostEndPut a v name.heap post (Err back)
     → IsIdle at later a limits [] (record { worker = at; call = Release target; reply = Refused (Full name) })
 full_idle at later a v limits target name post back put = record {
   posts = record { made_none = λ j. refl; taken_none = λ i. refl };
@@ -151,7 +151,7 @@ full_idle at later a v limits target name post back put = record {
 }
 
 put_answered : {sli : ℕ} (made : List (Option Name)) (a v : Worker sli Lanes) (limits : List ℕ) (target : Target) (name : Name) (put : Result (Unit {0}) Post) → name_of made target ≡ Some name
-    → name.heap ≢ id_of a → PutTo a v name.heap (record { from = id_of a; name = name }) put
+    → name.heap ≢ id_of a → PostEndPut a v name.heap (record { from = id_of a; name = name }) put
     → CallStep made a limits (Release target) v limits (reply_released (posted_as (put_answer name (name_back put)))) (λ w. releasing w (id_of a) name)
 put_answered made a v limits target name (Ok done) known ne put = record {
   told = λ n k w has s. let x = (k.to name.heap).0 (put.1.end, put.1.end_is) in posted_there n a v name (ports_heap a v put.0) ne x.0 w has (s.room target name refl known ne (omega (arith, x.0, has.0)) refl);
@@ -190,7 +190,7 @@ has_post_or None = inr (λ h. let e = h.1 in cc)
 has_post_or (Some p) = inl (p, refl)
 
 release_by_name : {sli : ℕ} (made : List (Option Name)) (a v : Worker sli Lanes) (limits : List ℕ) (target : Target) (name : Name) (answer : Result Released CrewRefusal) → name_of made target ≡ Some name
-    → IsRelease ReachesLane PutsIntoLane a v name answer → KeepsYards a v → CallStep made a limits (Release target) v limits (reply_released answer) (λ w. releasing w (id_of a) name)
+    → ReleasedAnywhere ReachesLane PutsIntoLane a v name answer → KeepsYards a v → CallStep made a limits (Release target) v limits (reply_released answer) (λ w. releasing w (id_of a) name)
 release_by_name made a v limits target name answer known r yard =
     elim (cases_eq name.heap (id_of a)) [
       | inl own ↦ here_answered made a v limits target name answer yard own (r.here own)
@@ -205,7 +205,7 @@ release_by_name made a v limits target name answer known r yard =
     ]
 
 pub release_answered : {sli : ℕ} (made : List (Option Name)) (a v : Worker sli Lanes) (limits : List ℕ) (target : Target) (name : Name) (answer : Result Released CrewRefusal) → name_of made target ≡ Some name
-    → IsRelease ReachesLane PutsIntoLane a v name answer → KeepsYards a v → CallStep made a limits (Release target) v limits (reply_released answer) (λ w. releasing_named w (id_of a) (name_of made target))
+    → ReleasedAnywhere ReachesLane PutsIntoLane a v name answer → KeepsYards a v → CallStep made a limits (Release target) v limits (reply_released answer) (λ w. releasing_named w (id_of a) (name_of made target))
 release_answered made a v limits target name answer known r yard =
     subst (λ o. CallStep made a limits (Release target) v limits (reply_released answer) (λ w. releasing_named w (id_of a) o)) (sym known)
     (release_by_name made a v limits target name answer known r yard)

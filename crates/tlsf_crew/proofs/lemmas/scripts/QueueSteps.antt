@@ -36,15 +36,15 @@ use Rattle.tlsf_crew.specs.model.World.{made_by, name_of, reply_freed, reply_got
 use Rattle.tlsf_crew.specs.declared.worker.worker.Worker.{Worker}
 use Rattle.tlsf_crew.specs.declared.queues.queues.Queues.{Queues}
 use Rattle.tlsf_crew.specs.declared.scripts.journal.Journal.{Journal}
-use Rattle.tlsf_crew.specs.worker.Workers.{heap_of, id_of, SameButHeap, KeepsHeap}
+use Rattle.tlsf_crew.specs.worker.Workers.{IsOther, heap_of, id_of, SameButHeap, KeepsHeap}
 use Rattle.tlsf_crew.specs.worker.Calls.{AfterTake, ReleasedHere, ReleasedThere, posted_as, put_answer}
-use Rattle.tlsf_crew.specs.worker.Notes.{EachNoted, NotedInTurn}
-use Rattle.tlsf_crew.specs.scripts.Journals.{IsAdmitted, OneFewer, IsQueueNoted}
-use Rattle.tlsf_crew.specs.scripts.Scripts.{IsRelease, reply_released}
-use Rattle.tlsf_crew.specs.queues.QueueWorkers.{queue_to, queue_end_to, ReachesQueue, PutsIntoQueue, TakesFromQueue, HasQueueEnd, IsOtherOf, KnowsQueueYard, KeepsQueueYards, PutToQueue, TookFromQueue}
+use Rattle.tlsf_crew.specs.worker.Notes.{EachNoted, EachTakeNoted}
+use Rattle.tlsf_crew.specs.scripts.Journals.{IsAdmitted, OneFewer, EntersSender}
+use Rattle.tlsf_crew.specs.scripts.Scripts.{ReleasedAnywhere, reply_released}
+use Rattle.tlsf_crew.specs.queues.QueueWorkers.{queue_to, queue_end_to, ReachesQueue, PutsIntoQueue, AsksQueue, HasQueueEnd, KnowsQueueYard, KeepsQueueYards, PosterEndPut, OwnEndTook}
 use Rattle.tlsf_crew.specs.queues.QueueCalls.{TakenFromQueue}
 use Rattle.tlsf_crew.specs.queues.QueueNotes.{QueueNoted, StopsAtQueue}
-use Rattle.tlsf_crew.specs.model.QueueTold.{IsOfOther, MayTellQueue, take_entry, told_reply, told_take, told_takes}
+use Rattle.tlsf_crew.specs.model.QueueTold.{IsFromOther, MayTellQueue, take_entry, told_reply, told_take, told_takes}
 use Rattle.tlsf_crew.specs.scripts.QueueMoves.{QueueMoved, QueueStepped, entry_by, told_of}
 use Rattle.tlsf_post.proofs.RuleSteps.{of_append}
 use Rattle.tlsf_crew.proofs.lemmas.histories.AllEntries.{more_knows}
@@ -107,7 +107,7 @@ quiet_stepped n a v limits call made entries reply same kept quiet told = record
 -- ---- a post
 
 -- an end leads to another worker
-pub ends_are : {sli : ℕ} (n : ℕ) (a : Worker sli Queues) → KnowsQueueYard n a → (j : ℕ) (p : PosterEnd) → queue_end_to a j ≡ Some p → IsOtherOf n (id_of a) j
+pub ends_are : {sli : ℕ} (n : ℕ) (a : Worker sli Queues) → KnowsQueueYard n a → (j : ℕ) (p : PosterEnd) → queue_end_to a j ≡ Some p → IsOther n (id_of a) j
 ends_are n a k j p is = elim (cases_lt j n) [
   | inl lt ↦ elim (cases_eq j (id_of a)) [
     | inl e ↦ let none = k.none j (λ other. other.1 e) in absurd cc
@@ -117,7 +117,7 @@ ends_are n a k j p is = elim (cases_lt j n) [
 ]
 
 put_sent : {sli : ℕ} (a v : Worker sli Queues) (target : Target) (name : Name) (done : Unit {0}) (made : List (Option Name)) (n : ℕ) → KnowsQueueYard n a → name_of made target ≡ Some name
-    → PutToQueue a v name.heap name (Ok done) → (j : ℕ) (p q : PosterEnd) → queue_end_to a j ≡ Some p → queue_end_to v j ≡ Some q
+    → PosterEndPut a v name.heap name (Ok done) → (j : ℕ) (p q : PosterEnd) → queue_end_to a j ≡ Some p → queue_end_to v j ≡ Some q
     → put_by q ≡ put_by p ++ posts_made (id_of a) j made (entry_by (id_of a) (Release target) Posted ∷ [])
 put_sent a v target name done made n k known put j p q is_p is_q =
     let at = id_of a in
@@ -125,7 +125,7 @@ put_sent a v target name done made n k known put j p q is_p is_q =
       | inl e ↦
           let old : p ≡ put.1.end = some_same p put.1.end (sym is_p ∙ (ap (queue_end_to a) e ∙ put.1.end_is)) in
           let new : q ≡ put.1.new_end = some_same q put.1.new_end (sym is_q ∙ (ap (queue_end_to v) e ∙ put.1.new_end_is)) in
-          let other : IsOtherOf n at name.heap = ends_are n a k name.heap put.1.end put.1.end_is in
+          let other : IsOther n at name.heap = ends_are n a k name.heap put.1.end put.1.end_is in
           let known_end = k.to name.heap other in
           let by : number_of put.1.end ≡ at = ap number_of (some_same put.1.end known_end.0 (sym put.1.end_is ∙ known_end.1)) ∙ known_end.2 in
           rw (old, new, e, posted_same at made target name known) (put.1.ok ∙ ap (λ (i : ℕ). put_by put.1.end ++ record { from = i; name = name } ∷ []) by)
@@ -133,7 +133,7 @@ put_sent a v target name done made n k known put j p q is_p is_q =
     ]
 
 posted_moved : {sli : ℕ} (n : ℕ) (made : List (Option Name)) (a v : Worker sli Queues) (limits : List ℕ) (target : Target) (name : Name) (done : Unit {0}) → KnowsQueueYard n a → name_of made target ≡ Some name
-    → PutToQueue a v name.heap name (Ok done) → QueueMoved (id_of a) made a limits (Release target ∷ []) (entry_by (id_of a) (Release target) Posted ∷ []) v limits
+    → PosterEndPut a v name.heap name (Ok done) → QueueMoved (id_of a) made a limits (Release target ∷ []) (entry_by (id_of a) (Release target) Posted ∷ []) v limits
 posted_moved n made a v limits target name done k known put =
     let e = entry_by (id_of a) (Release target) Posted in
     record {
@@ -147,7 +147,7 @@ posted_moved n made a v limits target name done k known put =
     }
 
 full_moved : {sli : ℕ} (made : List (Option Name)) (a v : Worker sli Queues) (limits : List ℕ) (target : Target) (name back : Name)
-    → PutToQueue a v name.heap name (Err back) → QueueMoved (id_of a) made a limits (Release target ∷ []) (entry_by (id_of a) (Release target) (Refused (Full name)) ∷ []) v limits
+    → PosterEndPut a v name.heap name (Err back) → QueueMoved (id_of a) made a limits (Release target ∷ []) (entry_by (id_of a) (Release target) (Refused (Full name)) ∷ []) v limits
 full_moved made a v limits target name back put =
     let e = entry_by (id_of a) (Release target) (Refused (Full name)) in
     record {
@@ -175,7 +175,7 @@ full_moved made a v limits target name back put =
     }
 
 put_stepped : {sli : ℕ} (n : ℕ) (a v : Worker sli Queues) (limits : List ℕ) (target : Target) (name : Name) (made : List (Option Name)) (entries : List Entry) (put : Result (Unit {0}) Name) → KnowsQueueYard n a
-    → name_of made target ≡ Some name → name.heap ≢ id_of a → name.heap < n → PutToQueue a v name.heap name put
+    → name_of made target ≡ Some name → name.heap ≢ id_of a → name.heap < n → PosterEndPut a v name.heap name put
     → QueueStepped n a limits (Release target) made entries v limits entries (reply_released (posted_as (put_answer name put)))
 put_stepped {sli} n a v limits target name made entries (Ok done) k known ne near put =
     let at = id_of a in
@@ -224,14 +224,14 @@ post_in took = record { from = took.from; name = took.name }
 -- one post was taken and released
 record OneTaken {sli : ℕ} (n : ℕ) (a b : Worker sli Queues) (took : Took) : Type 0 where
   post : Post
-  other : IsOfOther n (id_of a) post
+  other : IsFromOther n (id_of a) post
   told : took ≡ took_of post (released (heap_of a) post.name).answer
   heap : heap_of b ≡ (released (heap_of a) post.name).heap
   got : got_by b.ports.own ≡ got_by a.ports.own ++ post ∷ []
   ends : queue_end_to b ≡ queue_end_to a
   keeps : KeepsQueueYards a b
 
-taken_by : {sli : ℕ} (n : ℕ) (a c b : Worker sli Queues) (post : Option Post) (took : Took) → KnowsQueueYard n a → TookFromQueue a c post → AfterTake c b post (Some took) → OneTaken n a b took
+taken_by : {sli : ℕ} (n : ℕ) (a c b : Worker sli Queues) (post : Option Post) (took : Took) → KnowsQueueYard n a → OwnEndTook a c post → AfterTake c b post (Some took) → OneTaken n a b took
 unfolding released
 taken_by n a c b None took k q after = let e = after.0 in absurd cc
 taken_by n a c b (Some p) took k q after =
@@ -278,7 +278,7 @@ fewer_sum limits left f =
 record TakenAll {sli : ℕ} (n at : ℕ) (a v : Worker sli Queues) (x y : Journal) (count : ℕ) : Type 0 where
   posts : List Post
   own : List Entry
-  others : All (IsOfOther n at) posts
+  others : All (IsFromOther n at) posts
   count_is : (length posts ≡ count) × (length own ≡ count)
   entries : y.entries.items ≡ x.entries.items ++ own
   told : (made : List (Option Name)) → told_takes at (told_of made x.entries.items (heap_of a)) posts ≡ told_of made y.entries.items (heap_of v)
@@ -291,12 +291,12 @@ record TakenAll {sli : ℕ} (n at : ℕ) (a v : Worker sli Queues) (x y : Journa
   unfilled : (before : List Entry) (e : Entry) → StandsBehind own before e → IsNotFull e.reply
   left : sum_of y.limits + length own ≡ sum_of x.limits
 
-taken_all : {sli : ℕ} (n at : ℕ) (a v : Worker sli Queues) (x y : Journal) (tooks : List Took) → id_of a ≡ at → KnowsQueueYard n a → NotedInTurn TakesFromQueue IsQueueNoted a v x y 0 tooks → TakenAll n at a v x y (length tooks)
+taken_all : {sli : ℕ} (n at : ℕ) (a v : Worker sli Queues) (x y : Journal) (tooks : List Took) → id_of a ≡ at → KnowsQueueYard n a → EachTakeNoted AsksQueue EntersSender a v x y 0 tooks → TakenAll n at a v x y (length tooks)
 taken_all n at a v x y [] is k t =
     rw (t.0, t.1) (record {
       posts = [];
       own = [];
-      others = All-nil (IsOfOther n at);
+      others = All-nil (IsFromOther n at);
       count_is = (refl, refl);
       entries = sym (append-nil x.entries.items);
       told = λ made. refl;
@@ -322,7 +322,7 @@ taken_all n at a v x y (took ∷ tooks) is k t =
     record {
       posts = one.post ∷ rest.posts;
       own = e ∷ rest.own;
-      others = All-cons (IsOfOther n at) one.post rest.posts (one.other.0, λ d. one.other.1 (d ∙ sym is)) rest.others;
+      others = All-cons (IsFromOther n at) one.post rest.posts (one.other.0, λ d. one.other.1 (d ∙ sym is)) rest.others;
       count_is = (ap suc rest.count_is.0, ap suc rest.count_is.1);
       entries = rest.entries ∙ (ap (λ l. l ++ rest.own) longer ∙ append_assoc x.entries.items (e ∷ []) rest.own);
       told = λ made.
@@ -361,7 +361,7 @@ record EndSeen {sli : ℕ} (a v : Worker sli Queues) (most count : ℕ) : Type 0
   ends : queue_end_to v ≡ queue_end_to a
   early : count < most → IsAllTaken v.ports.own
 
-none_by : {sli : ℕ} (a c v : Worker sli Queues) (post : Option Post) (most count : ℕ) → TookFromQueue a c post → AfterTake c v post None → EndSeen a v most count
+none_by : {sli : ℕ} (a c v : Worker sli Queues) (post : Option Post) (most count : ℕ) → OwnEndTook a c post → AfterTake c v post None → EndSeen a v most count
 none_by a c v None most count q after = rw after.1 (record { keeps = keeps_take a c None q; heap = ports_heap a c q.0; got = q.1.none.0; ends = q.1.same; early = λ lt. q.1.none.1 })
 none_by a c v (Some p) most count q after = let e = after.0 in absurd cc
 
@@ -408,7 +408,7 @@ drained_queue_moved n a last v x y most count made seen t =
       room = omega (arith, length-append t.own (z ∷ []), t.left);
     }
 
-pub drain_stepped : {sli : ℕ} (n : ℕ) (a v : Worker sli Queues) (x y : Journal) (most : ℕ) (made : List (Option Name)) (tooks : List Took) → KnowsQueueYard n a → QueueNoted IsQueueNoted IsAdmitted a v x y most tooks
+pub drain_stepped : {sli : ℕ} (n : ℕ) (a v : Worker sli Queues) (x y : Journal) (most : ℕ) (made : List (Option Name)) (tooks : List Took) → KnowsQueueYard n a → QueueNoted EntersSender IsAdmitted a v x y most tooks
     → QueueStepped n a x.limits (Drain most) made x.entries.items v y.limits y.entries.items (Drained (length tooks))
 drain_stepped n a v x y most made tooks k noted =
     let at = id_of a in
@@ -437,7 +437,7 @@ drain_stepped n a v x y most made tooks k noted =
 
 -- a drain of all sources is one of the own queue
 pub drained_once : {sli : ℕ} {N : Type 0} (hears : Queues → ℕ → Type 0) (noted : N → ℕ → ℕ → Took → N → Type 0) (admitted : N → ℕ → Type 0) (a v : Worker sli Queues) (x y : N) (most : ℕ) (tooks : List Took)
-    → ((p : Queues) → hears p 0) → EachNoted hears TakesFromQueue StopsAtQueue noted admitted a v x y most 1 tooks → QueueNoted noted admitted a v x y most tooks
+    → ((p : Queues) → hears p 0) → EachNoted hears AsksQueue StopsAtQueue noted admitted a v x y most 1 tooks → QueueNoted noted admitted a v x y most tooks
 drained_once {sli} {N} hears noted admitted a v x y most tooks all l =
     let none = l.5 in
     let there = l.6.here (all l.0.ports) in
@@ -448,15 +448,15 @@ drained_once {sli} {N} hears noted admitted a v x y most tooks all l =
     (subst (λ (b : Worker sli Queues). QueueNoted noted admitted b v l.1 y (most - length l.2) l.3) none.1 there)))
 
 -- each post that was taken counts the limits down
-turns_left : {sli : ℕ} (a v : Worker sli Queues) (x y : Journal) (tooks : List Took) → NotedInTurn TakesFromQueue IsQueueNoted a v x y 0 tooks → sum_of y.limits + length tooks ≡ sum_of x.limits
+turns_left : {sli : ℕ} (a v : Worker sli Queues) (x y : Journal) (tooks : List Took) → EachTakeNoted AsksQueue EntersSender a v x y 0 tooks → sum_of y.limits + length tooks ≡ sum_of x.limits
 turns_left a v x y [] t = omega (arith, ap (λ (z : Journal). sum_of z.limits) t.1)
 turns_left a v x y (took ∷ tooks) t = let noted = t.3 in let z = t.1 in omega (arith, turns_left t.0 v t.1 y tooks t.4, fewer_sum x.limits z.limits noted.fewer)
 
-pub drain_few : {sli : ℕ} (a v : Worker sli Queues) (x y : Journal) (most : ℕ) (tooks : List Took) → QueueNoted IsQueueNoted IsAdmitted a v x y most tooks → length tooks ≤ sum_of x.limits
+pub drain_few : {sli : ℕ} (a v : Worker sli Queues) (x y : Journal) (most : ℕ) (tooks : List Took) → QueueNoted EntersSender IsAdmitted a v x y most tooks → length tooks ≤ sum_of x.limits
 drain_few a v x y most tooks n = omega (arith, turns_left a n.last x y tooks n.turns)
 
 -- a drain leaves the ends to other queues
-pub drain_ends : {sli : ℕ} (n : ℕ) (a v : Worker sli Queues) (x y : Journal) (most : ℕ) (tooks : List Took) → KnowsQueueYard n a → QueueNoted IsQueueNoted IsAdmitted a v x y most tooks → queue_end_to v ≡ queue_end_to a
+pub drain_ends : {sli : ℕ} (n : ℕ) (a v : Worker sli Queues) (x y : Journal) (most : ℕ) (tooks : List Took) → KnowsQueueYard n a → QueueNoted EntersSender IsAdmitted a v x y most tooks → queue_end_to v ≡ queue_end_to a
 drain_ends n a v x y most tooks k noted =
     let t = taken_all n (id_of a) a noted.last x y tooks refl k noted.turns in
     let seen = end_seen noted.last v most (length tooks) (queue_ends IsAdmitted noted.last v y most (length tooks) noted.end) in
@@ -587,7 +587,7 @@ there_stepped n a v limits target name made entries answer k known ne has there 
     (put_stepped n a v limits target name made entries there.post.put k known ne other.0 (there.post.same, there.post.through))
 
 pub release_stepped : {sli : ℕ} (n : ℕ) (a v : Worker sli Queues) (limits : List ℕ) (target : Target) (name : Name) (made : List (Option Name)) (entries : List Entry) (answer : Result Released CrewRefusal) → KnowsQueueYard n a
-    → name_of made target ≡ Some name → IsRelease ReachesQueue PutsIntoQueue a v name answer → QueueStepped n a limits (Release target) made entries v limits entries (reply_released answer)
+    → name_of made target ≡ Some name → ReleasedAnywhere ReachesQueue PutsIntoQueue a v name answer → QueueStepped n a limits (Release target) made entries v limits entries (reply_released answer)
 release_stepped n a v limits target name made entries answer k known release = elim (cases_eq name.heap (id_of a)) [
   | inl own ↦ here_stepped n a v limits target name made entries answer k known own (release.here own)
   | inr ne ↦ elim (end_or (queue_end_to a name.heap)) [

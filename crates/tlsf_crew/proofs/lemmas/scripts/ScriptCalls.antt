@@ -17,7 +17,7 @@ use Rattle.tlsf_calls.specs.declared.crew_refusal.CrewRefusal.TheVariants.{Stran
 use Rattle.tlsf_calls.specs.declared.reply.Reply.TheVariants.{Refused}
 use Rattle.tlsf_calls.specs.declared.took.Took.{Took}
 use Rattle.tlsf_crew.proofs.lemmas.scripts.Witnesses.{a_suit}
-use Rattle.tlsf_crew.specs.scripts.Moves.{one, Suits, CallStep, Moved, Stepped}
+use Rattle.tlsf_crew.specs.scripts.LaneMoves.{one, Suits, CallStep, LaneMoved, LaneStepped}
 use Rattle.tlsf_crew.specs.scripts.Scripts.{reply_took, AreMoves, TakenWithin}
 use Rattle.tlsf_crew.proofs.lemmas.scripts.LaneTakes.{moved_none}
 use Rattle.tlsf_crew.proofs.lemmas.scripts.WithinTakes.{take_answered, take_stranger, taken_within}
@@ -30,7 +30,7 @@ answer_told at made es w call reply h x e g = rw (e, g) refl
 
 pub single_stepped : {sli : ℕ} (n : ℕ) (a v : Worker sli Lanes) (limits left : List ℕ) (call : Call) (made : List (Option Name)) (es : List Entry) (reply : Reply) (by : World sli → Replied sli) → KnowsYard n a
     → ((most : ℕ) → call ≡ Drain most → ⊥) → ((w : World sli) → called (record { made = made; entries = es; world = w }) (id_of a) call ≡ answered (record { made = made; entries = es; world = w }) (id_of a) call (by w))
-    → CallStep made a limits call v left reply by → Stepped n a limits call made es v left es reply
+    → CallStep made a limits call v left reply by → LaneStepped n a limits call made es v left es reply
 single_stepped {sli} n a v limits left call made es reply by k single is x =
     let told_in : (w : World sli) → HasHeap w n (id_of a) (heap_of a) → Suits w (id_of a) made call reply
     → told_by (id_of a) (called (record { made = made; entries = es; world = w }) (id_of a) call) ≡ record { made = made ++ made_by reply ∷ []; entries = es ++ one (id_of a) call reply; heap = heap_of v } =
@@ -48,7 +48,7 @@ single_stepped {sli} n a v limits left call made es reply by k single is x =
 
 -- ---- over lanes
 
-pub lanes_moves : {sli : ℕ} → AreMoves {sli = sli} {P = Lanes} KnowsYard Moved
+pub lanes_moves : {sli : ℕ} → AreMoves {sli = sli} {P = Lanes} KnowsYard LaneMoved
 lanes_moves = record {
   none = moved_none;
   then = moved_then;
@@ -63,12 +63,12 @@ no_lane a n from k none = elim (cases_eq from (id_of a)) [
   | inr ne ↦ elim (cases_lt from n) [ inl lt ↦ absurd (none ((k.from from).1 (lt, ne))) | inr ge ↦ inr ge ]
 ]
 
-pub stranger_stepped : {sli : ℕ} (n : ℕ) (a : Worker sli Lanes) (limits : List ℕ) (from : ℕ) (made : List (Option Name)) (es : List Entry) → KnowsYard n a → ¬ (HasTake a from) → Stepped n a limits (Take from) made es a limits es (Refused Stranger)
+pub stranger_stepped : {sli : ℕ} (n : ℕ) (a : Worker sli Lanes) (limits : List ℕ) (from : ℕ) (made : List (Option Name)) (es : List Entry) → KnowsYard n a → ¬ (HasTake a from) → LaneStepped n a limits (Take from) made es a limits es (Refused Stranger)
 stranger_stepped n a limits from made es k none =
     single_stepped n a a limits limits (Take from) made es (Refused Stranger) _ k (λ most e. cc) (λ w. refl) (take_stranger made n a limits from k (no_lane a n from k none))
 
 pub take_stepped : {sli : ℕ} (n : ℕ) (a v : Worker sli Lanes) (limits left : List ℕ) (from : ℕ) (made : List (Option Name)) (es : List Entry) (answer : Option Took) → KnowsYard n a → HasTake a from
-    → TakenWithin TookThrough a limits from v left answer → Stepped n a limits (Take from) made es v left es (reply_took answer)
+    → TakenWithin TookThrough a limits from v left answer → LaneStepped n a limits (Take from) made es v left es (reply_took answer)
 take_stepped n a v limits left from made es answer k has t =
     let near = (k.from from).0 has in
     single_stepped n a v limits left (Take from) made es (reply_took answer) _ k (λ most e. cc) (λ w. refl)

@@ -9,7 +9,7 @@ use Rattle.tlsf_calls.specs.declared.reply.Reply.{Reply}
 use Rattle.tlsf_crew.specs.worker.Workers.{heap_of, id_of}
 use Rattle.tlsf_crew.specs.model.Told.{Told, AllTold, untold}
 use Rattle.tlsf_crew.specs.model.Sums.{sum_of}
-use Rattle.tlsf_crew.specs.scripts.Scripts.{AreMoves, Called, ScriptRun, Step, entry_by, told_of}
+use Rattle.tlsf_crew.specs.scripts.Scripts.{AreMoves, CallMade, ScriptRun, Step, entry_by, told_of}
 use Rattle.tlsf_crew.specs.model.World.{made_by}
 
 pub tell_more : (tells : Told → Call → Told → Type 0) (s u t : Told) (calls : List Call) (call : Call) → AllTold tells s calls u → tells u call t → AllTold tells s (calls ++ call ∷ []) t
@@ -20,7 +20,7 @@ tell_more tells s u t (first ∷ calls) call all more = (all.0, all.1, tell_more
 
 pub step_called : {sli : ℕ} {P : Type 0} (knows : ℕ → Worker sli P → Type 0) (tells : ℕ → Told → Call → Told → Type 0) (moves : ℕ → List (Option Name) → Worker sli P → List ℕ → List Call → List Entry → Worker sli P → List ℕ → Type 0) (m : AreMoves knows moves)
     → (a v : Worker sli P) (limits left : List ℕ) (call : Call) (made more : List (Option Name)) (entries between longer : List Entry) (at : ℕ) (reply : Reply) → Step tells moves a limits call made entries v left between reply
-    → at ≡ id_of v → more ≡ made ++ made_by reply ∷ [] → longer ≡ between ++ record { worker = at; call = call; reply = reply } ∷ [] → Called tells moves a limits call made entries v left more longer
+    → at ≡ id_of v → more ≡ made ++ made_by reply ∷ [] → longer ≡ between ++ record { worker = at; call = call; reply = reply } ∷ [] → CallMade tells moves a limits call made entries v left more longer
 step_called knows tells moves m a v limits left call made more entries between longer at reply x is e f =
     let q : at ≡ id_of a = is ∙ m.number (id_of a) (made ++ []) a v limits left (call ∷ []) _ (x.moved []) in
     let z = entry_by (id_of a) call reply in
@@ -50,7 +50,7 @@ script_none knows tells moves m a limits made entries e f = rw (e, f) (record { 
 
 script_more : {sli : ℕ} {P : Type 0} (knows : ℕ → Worker sli P → Type 0) (tells : ℕ → Told → Call → Told → Type 0) (moves : ℕ → List (Option Name) → Worker sli P → List ℕ → List Call → List Entry → Worker sli P → List ℕ → Type 0) (m : AreMoves knows moves)
     → (a b v : Worker sli P) (limits mid left : List ℕ) (calls : List Call) (call : Call) (made more : List (Option Name)) (entries longer : List Entry) → ScriptRun tells moves a limits calls made entries b mid
-    → Called tells moves b mid call made entries v left more longer → ScriptRun tells moves a limits (calls ++ call ∷ []) more longer v left
+    → CallMade tells moves b mid call made entries v left more longer → ScriptRun tells moves a limits (calls ++ call ∷ []) more longer v left
 script_more knows tells moves m a b v limits mid left calls call made more entries longer x y =
     let at = id_of a in
     let q : id_of b ≡ at = m.number at (made ++ []) a b limits mid calls entries (x.moved []) in
@@ -69,7 +69,7 @@ script_more knows tells moves m a b v limits mid left calls call made more entri
 -- the next call of a script
 pub script_next : {sli : ℕ} {P : Type 0} (knows : ℕ → Worker sli P → Type 0) (tells : ℕ → Told → Call → Told → Type 0) (moves : ℕ → List (Option Name) → Worker sli P → List ℕ → List Call → List Entry → Worker sli P → List ℕ → Type 0) (m : AreMoves knows moves)
     → (a b v : Worker sli P) (limits mid left : List ℕ) (script : List Call) (k : ℕ) (d : Call) (made more : List (Option Name)) (entries longer : List Entry) → k < length script
-    → ScriptRun tells moves a limits (take k script) made entries b mid → Called tells moves b mid (get_or script k d) made entries v left more longer → ScriptRun tells moves a limits (take (k + 1) script) more longer v left
+    → ScriptRun tells moves a limits (take k script) made entries b mid → CallMade tells moves b mid (get_or script k d) made entries v left more longer → ScriptRun tells moves a limits (take (k + 1) script) more longer v left
 script_next knows tells moves m a b v limits mid left script k d made more entries longer lt x y =
     subst (λ calls. ScriptRun tells moves a limits calls more longer v left) (sym (take_more script k d lt))
     (script_more knows tells moves m a b v limits mid left (take k script) (get_or script k d) made more entries longer x y)

@@ -18,13 +18,13 @@ use Rattle.tlsf_calls.specs.declared.reply.Reply.TheVariants.{Took as Taken, Emp
 use Rattle.tlsf_calls.specs.declared.crew_refusal.CrewRefusal.TheVariants.{Stranger}
 use Rattle.tlsf_crew.specs.model.Heaps.{released}
 use Rattle.tlsf_crew.specs.worker.Workers.{heap_of, id_of}
-use Rattle.tlsf_crew.specs.lanes.LaneWorkers.{TookFrom, TookThrough, KnowsYard}
+use Rattle.tlsf_crew.specs.lanes.LaneWorkers.{TakeEndTook, TookThrough, KnowsYard}
 use Rattle.tlsf_crew.specs.worker.Calls.{AfterTake}
 use Rattle.tlsf_crew.specs.lanes.LaneCalls.{TakenFromLane}
 use Rattle.tlsf_crew.specs.model.Told.{HasHeap}
 use Rattle.tlsf_crew.specs.model.World.{World, heap_in, taking, taking_next, took, took_first}
 use Rattle.tlsf_crew.specs.scripts.Scripts.{reply_took, TakenWithin}
-use Rattle.tlsf_crew.specs.scripts.Moves.{one, Spent, Moved, ModelReplies, CallStep, TookWithin, took_by}
+use Rattle.tlsf_crew.specs.scripts.LaneMoves.{one, Spent, LaneMoved, ModelReplies, CallStep, LaneTakenWithin, took_by}
 use Rattle.tlsf_crew.proofs.lemmas.worker.SameParts.{ports_heap}
 use Rattle.tlsf_crew.proofs.lemmas.lanes.YardKept.{heap_keeps, same_keeps}
 use Rattle.tlsf_crew.proofs.lemmas.scripts.LaneMoves.{moved_take, spent_none, still_empty}
@@ -48,14 +48,14 @@ no_limit : {A : Type 0} (n : ℕ) (xs : List A) → n ≡ 0 → IsPrefix (take n
 no_limit n xs e = rw e ([], refl)
 
 -- none may be taken any more
-pub within_none : {sli : ℕ} (a : Worker sli Lanes) (limits : List ℕ) (from : ℕ) → slice_index limits from ≡ 0 → TookWithin a limits from a limits None
+pub within_none : {sli : ℕ} (a : Worker sli Lanes) (limits : List ℕ) (from : ℕ) → slice_index limits from ≡ 0 → LaneTakenWithin a limits from a limits None
 within_none a limits from e = (
   λ made. moved_still (id_of a) made a a limits (still_heap (id_of a) a a (refl, refl) (same_keeps a)),
   refl,
   λ t is. no_limit (slice_index limits from) (ready t) e,
 )
 
-none_case : {sli : ℕ} (a b v : Worker sli Lanes) (limits : List ℕ) (from : ℕ) (post : Option Post) → TookFrom a b from post → AfterTake b v post None → TookWithin a limits from v limits None
+none_case : {sli : ℕ} (a b v : Worker sli Lanes) (limits : List ℕ) (from : ℕ) (post : Option Post) → TakeEndTook a b from post → AfterTake b v post None → LaneTakenWithin a limits from v limits None
 none_case a b v limits from None lane then = (
   λ made. moved_still (id_of a) made a v limits (subst (Still (id_of a) a) (sym then.1) (still_empty (id_of a) a b from lane)),
   ap heap_of then.1 ∙ (ports_heap a b lane.0),
@@ -64,11 +64,11 @@ none_case a b v limits from None lane then = (
 none_case a b v limits from (Some p) lane then = let e = then.0 in absurd cc
 
 -- the lane showed none
-pub within_empty : {sli : ℕ} (a v : Worker sli Lanes) (limits : List ℕ) (from : ℕ) → TakenFromLane a v from None → TookWithin a limits from v limits None
+pub within_empty : {sli : ℕ} (a v : Worker sli Lanes) (limits : List ℕ) (from : ℕ) → TakenFromLane a v from None → LaneTakenWithin a limits from v limits None
 within_empty a v limits from t = none_case a t.between v limits from t.post t.took t.then
 
-some_case : {sli : ℕ} (a b v : Worker sli Lanes) (limits left : List ℕ) (from : ℕ) (post : Option Post) (took : Took) → from < 8 → OneFewer limits from left → TookFrom a b from post → AfterTake b v post (Some took)
-    → TookWithin a limits from v left (Some took)
+some_case : {sli : ℕ} (a b v : Worker sli Lanes) (limits left : List ℕ) (from : ℕ) (post : Option Post) (took : Took) → from < 8 → OneFewer limits from left → TakeEndTook a b from post → AfterTake b v post (Some took)
+    → LaneTakenWithin a limits from v left (Some took)
 unfolding released
 some_case a b v limits left from None took near fewer lane then = let e = then.0 in absurd cc
 some_case a b v limits left from (Some p) took near fewer lane then =
@@ -79,17 +79,17 @@ some_case a b v limits left from (Some p) took near fewer lane then =
       λ made.
           let first = moved_take at made a b limits left from x near fewer lane in
           let all = moved_then at made a b v limits left left [] [] (one at (Take from) (Taken x)) [] first (moved_still at made b v left (still_heap at b v then.2 yard)) in
-          subst (λ y. Moved at made a limits [] (one at (Take from) (Taken y)) v left) (sym e) all,
+          subst (λ y. LaneMoved at made a limits [] (one at (Take from) (Taken y)) v left) (sym e) all,
       p,
       e ∙ ap (λ h. took_by h p) (ports_heap a b lane.0),
       then.1 ∙ ap (λ h. (heap.released h p.name).heap) (ports_heap a b lane.0),
     )
 
-pub within_some : {sli : ℕ} (a v : Worker sli Lanes) (limits left : List ℕ) (from : ℕ) (took : Took) → from < 8 → OneFewer limits from left → TakenFromLane a v from (Some took) → TookWithin a limits from v left (Some took)
+pub within_some : {sli : ℕ} (a v : Worker sli Lanes) (limits left : List ℕ) (from : ℕ) (took : Took) → from < 8 → OneFewer limits from left → TakenFromLane a v from (Some took) → LaneTakenWithin a limits from v left (Some took)
 within_some a v limits left from took near fewer t = some_case a t.between v limits left from t.post took near fewer t.took t.then
 
 -- one post was taken, or no more might be, or the lane showed none
-pub taken_within : {sli : ℕ} (a v : Worker sli Lanes) (limits left : List ℕ) (from : ℕ) (answer : Option Took) → from < 8 → TakenWithin TookThrough a limits from v left answer → TookWithin a limits from v left answer
+pub taken_within : {sli : ℕ} (a v : Worker sli Lanes) (limits left : List ℕ) (from : ℕ) (answer : Option Took) → from < 8 → TakenWithin TookThrough a limits from v left answer → LaneTakenWithin a limits from v left answer
 taken_within a v limits left from None near t = rw t.0 (elim t.1 [
   | inl stopped ↦
       let none : slice_index limits from ≡ 0 = elim (cases_lt 0 (slice_index limits from)) [ inl some ↦ absurd (stopped.0 (near, some)) | inr le ↦ omega arith ] in
@@ -132,7 +132,7 @@ empty_idle at from later a limits spent = record {
 }
 
 -- one call more than what the entries tell
-more_calls : {sli : ℕ} (at : ℕ) (made : List (Option Name)) (a v : Worker sli Lanes) (limits left : List ℕ) (call : Call) (entries : List Entry) → Moved at made a limits [] entries v left → Moved at made a limits (call ∷ []) entries v left
+more_calls : {sli : ℕ} (at : ℕ) (made : List (Option Name)) (a v : Worker sli Lanes) (limits left : List ℕ) (call : Call) (entries : List Entry) → LaneMoved at made a limits [] entries v left → LaneMoved at made a limits (call ∷ []) entries v left
 more_calls at made a v limits left call entries m = record {
   yard = m.yard;
   numbers = m.numbers;
@@ -162,7 +162,7 @@ took_world n a v from p rest w h lt has = record {
   left = h ∙ (ap (λ g. (released g p.name).heap) (sym has.1) ∙ sym (heap_left n (id_of a) w (heap_of a) (released (heap_in w (id_of a)) p.name).heap lt has));
 }
 
-pub take_answered : {sli : ℕ} (made : List (Option Name)) (n : ℕ) (a v : Worker sli Lanes) (limits left : List ℕ) (from : ℕ) (answer : Option Took) → KnowsYard n a → from ≢ id_of a → from < n → TookWithin a limits from v left answer
+pub take_answered : {sli : ℕ} (made : List (Option Name)) (n : ℕ) (a v : Worker sli Lanes) (limits left : List ℕ) (from : ℕ) (answer : Option Took) → KnowsYard n a → from ≢ id_of a → from < n → LaneTakenWithin a limits from v left answer
     → CallStep made a limits (Take from) v left (reply_took answer) (λ w. taking w (id_of a) from)
 take_answered made n a v limits left from None known ne lt t = record {
   told = λ m k w has s.

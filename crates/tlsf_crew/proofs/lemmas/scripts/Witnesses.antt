@@ -21,7 +21,7 @@ use Rattle.tlsf_crew.specs.worker.Calls.{by_heap}
 use Rattle.tlsf_crew.specs.model.World.{no_heap, World, Replied, by_own, heap_in, with_heap, allocating, reply_made}
 use Rattle.tlsf_crew.specs.model.Told.{HasHeap}
 use Rattle.tlsf_crew.specs.model.OwnReplies.{OwnReplied, own_allocating}
-use Rattle.tlsf_crew.specs.scripts.Moves.{Suits, ModelReplies, RepliesAsModel, CallStep}
+use Rattle.tlsf_crew.specs.scripts.LaneMoves.{Suits, ModelReplies, RepliesAsModel, CallStep}
 use Rattle.tlsf_crew.proofs.lemmas.scripts.OneEntry.{IsIdle, moved_still, moved_idle, still_heap}
 
 -- n workers, one of whom has this heap; these posts wait in all lanes from each

@@ -12,19 +12,19 @@ use Rattle.tlsf_crew.specs.declared.worker.worker.Worker.{Worker}
 use Rattle.tlsf_crew.specs.worker.Workers.{heap_of, id_of}
 use Rattle.tlsf_crew.specs.worker.Calls.{AfterTake, TakenFrom, TakesInTurn}
 use Rattle.tlsf_crew.specs.worker.Drains.{heap_after, is_freed, IsCountOf}
-use Rattle.tlsf_crew.specs.worker.Notes.{EachNoted, NotedInTurn, SourceNoted}
+use Rattle.tlsf_crew.specs.worker.Notes.{EachNoted, EachTakeNoted, SourceNoted}
 use Rattle.tlsf_crew.proofs.lemmas.worker.SameParts.{ports_heap}
 
 -- one take more
 pub noted_more : {sli : ℕ} {P N : Type 0} (takes : P → P → ℕ → Option Post → Type 0) (noted : N → ℕ → ℕ → Took → N → Type 0) (a b v : Worker sli P) (x y z : N) (source : ℕ) (tooks : List Took) (took : Took)
-    → NotedInTurn takes noted a b x y source tooks → TakenFrom takes b v source (Some took) → noted y (id_of v) source took z → NotedInTurn takes noted a v x z source (tooks ++ took ∷ [])
+    → EachTakeNoted takes noted a b x y source tooks → TakenFrom takes b v source (Some took) → noted y (id_of v) source took z → EachTakeNoted takes noted a v x z source (tooks ++ took ∷ [])
 noted_more {sli} {P} {N} takes noted a b v x y z source [] took turns t n =
     (v, z, subst (λ (w : Worker sli P). TakenFrom takes w v source (Some took)) turns.0 t, subst (λ w. noted w (id_of v) source took z) turns.1 n, (refl, refl))
 noted_more {sli} {P} {N} takes noted a b v x y z source (first ∷ tooks) took turns t n =
     (turns.0, turns.1, turns.2, turns.3, noted_more takes noted turns.0 b v turns.1 y z source tooks took turns.4 t n)
 
 pub takes_of : {sli : ℕ} {P N : Type 0} (takes : P → P → ℕ → Option Post → Type 0) (noted : N → ℕ → ℕ → Took → N → Type 0) (a v : Worker sli P) (x y : N) (source : ℕ) (tooks : List Took)
-    → NotedInTurn takes noted a v x y source tooks → TakesInTurn takes a v source tooks
+    → EachTakeNoted takes noted a v x y source tooks → TakesInTurn takes a v source tooks
 takes_of takes noted a v x y source [] t = t.0
 takes_of takes noted a v x y source (took ∷ tooks) t = (t.0, t.2, takes_of takes noted t.0 v t.1 y source tooks t.4)
 

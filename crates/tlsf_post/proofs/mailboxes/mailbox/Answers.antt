@@ -5,9 +5,9 @@ use Rattle.std.proofs.lemmas.Grind.{common_steps}
 use Rattle.crossbeam_queue.specs.Passes.{view, ruled_capacity}
 use Rattle.tlsf_post.specs.Rule.{plan_for}
 use Rattle.tlsf_post.specs.Mailboxes.{number_of, below_but}
-use Rattle.tlsf_post.specs.Meetings.{run}
+use Rattle.tlsf_post.specs.Rounds.{run}
 use Rattle.tlsf_post.proofs.RuleSteps.{begins, skips}
-use Rattle.tlsf_post.proofs.Meetings.{fresh_puts}
+use Rattle.tlsf_post.proofs.RoundSteps.{fresh_puts}
 use Rattle.tlsf_post.proofs.Numbers.{but_whole}
 use Rattle.tlsf_post.proofs.mailboxes.mailbox.Goals as goal
 

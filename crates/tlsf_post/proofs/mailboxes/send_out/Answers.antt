@@ -5,7 +5,7 @@ use Rattle.crossbeam_queue.specs.Passes.{view}
 use Rattle.tlsf_post.specs.declared.hand.Hand.{Hand}
 use Rattle.tlsf_post.specs.declared.plan.Plan.{Plan}
 use Rattle.tlsf_post.specs.Rule.{keeper, poster, posts_of, MayPut}
-use Rattle.tlsf_post.specs.Meetings.{IsFreshAt}
+use Rattle.tlsf_post.specs.Rounds.{IsFreshAt}
 use Rattle.tlsf_post.proofs.RuleSteps.{forks}
 use Rattle.tlsf_post.proofs.Numbers.{apart_from, run_push, all_pushed}
 use Rattle.tlsf_post.proofs.mailboxes.send_out.Goals as goal

@@ -3,7 +3,7 @@ use Rattle.std.specs.Arc.{arc_value}
 use Rattle.crossbeam_queue.specs.Passes.{view, IsPassOf}
 use Rattle.tlsf_post.specs.Rule.{keeper}
 use Rattle.tlsf_post.specs.Mailboxes.{number_of}
-use Rattle.tlsf_post.specs.Meetings.{run, IsFreshAt}
+use Rattle.tlsf_post.specs.Rounds.{run, IsFreshAt}
 use Rattle.tlsf_post.proofs.mailboxes.send_out.Given as goal
 
 abbrev pub invariant-loop-number : goal.invariant-loop-number

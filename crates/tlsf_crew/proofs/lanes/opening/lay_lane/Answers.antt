@@ -8,16 +8,16 @@ use Rattle.tlsf_crew.proofs.lanes.opening.lay_lane.Goals as goal
 
 pub returns : goal.returns
 returns g c =
-    let us = set c.args.workers.now c.args.i c.put_post_end.new.worker in
-    let n = length-set c.args.workers.now c.args.i c.put_post_end.new.worker in
+    let us = set c.args.workers.now c.args.i c.set_post_end.new.worker in
+    let n = length-set c.args.workers.now c.args.i c.set_post_end.new.worker in
     let j_in : c.args.j < length us = omega (arith, c.requires.inside.1) in
     lane_laid c.args.workers.now _ _ _ _ _ _ _ _ _ c.in_ok-post.post c.in_ok-post.take c.requires.laid c.requires.inside.0 c.requires.inside.1 c.requires.apart
-    (slice_get-get_or c.args.workers.now c.args.i c.index-workers-i.result c.requires.inside.0) c.put_post_end.ensures.posts c.put_post_end.ensures.same
-    (slice_get-get_or us c.args.j c.index-workers-j.result j_in) c.put_take_end.ensures.takes c.put_take_end.ensures.same
+    (slice_get-get_or c.args.workers.now c.args.i c.index-workers-i.result c.requires.inside.0) c.set_post_end.ensures.posts c.set_post_end.ensures.same
+    (slice_get-get_or us c.args.j c.index-workers-j.result j_in) c.set_take_end.ensures.takes c.set_take_end.ensures.same
     c.in_ok-post.ensures.lane c.in_ok-post.ensures.post.2 c.in_ok-post.ensures.post.1 c.in_ok-post.ensures.post.0 c.in_ok-post.ensures.take
 
-pub put_post_end-requires : goal.put_post_end-requires
-put_post_end-requires g c = (
+pub set_post_end-requires : goal.set_post_end-requires
+set_post_end-requires g c = (
   omega arith,
   let ws = c.args.workers.now in
       let a : Worker g.row.SLI Lanes = get_or ws c.args.i c.index-workers-i.result in
@@ -25,12 +25,12 @@ put_post_end-requires g c = (
       omega (arith, a.ports.posts.ok, s.0, c.requires.inside.1),
 )
 
-pub put_take_end-requires : goal.put_take_end-requires
-put_take_end-requires g c = (
+pub set_take_end-requires : goal.set_take_end-requires
+set_take_end-requires g c = (
   omega arith,
   let ws = c.args.workers.now in
       let d = c.index-workers-j.result in
       let a : Worker g.row.SLI Lanes = get_or ws c.args.j d in
       let s = c.requires.laid.slots c.args.j a (slice_get-get_or ws c.args.j d c.requires.inside.1) in
-      rw (get_or-set_other ws c.args.i c.args.j c.put_post_end.new.worker d (λ e. c.requires.apart (sym e))) (omega (arith, a.ports.takes.ok, s.1, c.requires.inside.0)),
+      rw (get_or-set_other ws c.args.i c.args.j c.set_post_end.new.worker d (λ e. c.requires.apart (sym e))) (omega (arith, a.ports.takes.ok, s.1, c.requires.inside.0)),
 )

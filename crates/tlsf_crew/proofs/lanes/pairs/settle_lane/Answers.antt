@@ -30,7 +30,7 @@ returns-then-i-j g c =
       a_is = r.2;
       b_is = r.3;
       after = low_first c.args.workers.now s.result.0.now s.result.1.now c.args.i c.args.j _ _ s.ensures.front s.ensures.back c.if-i-j.true (omega arith);
-      met =
+      settled =
           rw (
             ← low_is c.args.workers.now s.result.0.now c.args.i c.args.j r.0 c.index-low-i.result s.ensures.front c.if-i-j.true r.2,
             ← high_is c.args.workers.now s.result.1.now c.args.j r.1 c.index-high-0.result s.ensures.back r.3,
@@ -50,7 +50,7 @@ returns-else-i-j g c =
       a_is = r.2;
       b_is = r.3;
       after = high_first c.args.workers.now s.result.0.now s.result.1.now c.args.j c.args.i _ _ s.ensures.front s.ensures.back lt (omega arith);
-      met =
+      settled =
           rw (
             ← high_is c.args.workers.now s.result.1.now c.args.i r.0 c.index-high-0-else-i-j.result s.ensures.back r.2,
             ← low_is c.args.workers.now s.result.0.now c.args.j c.args.i r.1 c.index-low-j.result s.ensures.front lt r.3,

@@ -20,7 +20,7 @@ returns g c =
       new_take = c.beside.new.take;
       post_is = c.requires.2;
       take_is = c.requires.3;
-      meets = record { lane = e.lane; order = rw (← pe, ← te) e.order; fresh = e.fresh; capacity = rw (← pe) e.capacity; room = e.room };
+      beside = record { lane = e.lane; order = rw (← pe, ← te) e.order; fresh = e.fresh; capacity = rw (← pe) e.capacity; room = e.room };
       posts = refl;
       takes = refl;
       same_poster = (refl, refl, refl);

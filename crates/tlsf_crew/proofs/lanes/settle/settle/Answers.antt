@@ -3,18 +3,18 @@ use Rattle.tlsf_crew.proofs.lemmas.lanes.LaneByLane.{yard_first, yard_step}
 use Rattle.tlsf_crew.proofs.lanes.settle.settle.Goals as goal
 
 pub loop-j-init : goal.loop-j-init
-loop-j-init g c = record { met = yard_first _; yard = c.requires; world = refl }
+loop-j-init g c = record { settled = yard_first _; yard = c.requires; world = refl }
 
 pub loop-j-preserved : goal.loop-j-preserved
 loop-j-preserved g c =
     let i = c.loop-j.invariant in
     record {
-      met = yard_step _ _ _ _ i.met c.settle_column.ensures.met;
+      settled = yard_step _ _ _ _ i.settled c.settle_column.ensures.settled;
       yard = c.settle_column.ensures.yard;
       world = c.settle_column.ensures.world ∙ i.world;
     }
 
-pub returns-clause-met : goal.returns-clause-met
-returns-clause-met g c =
-    let i = c.loop-j.invariant.met in
+pub returns-clause-settled : goal.returns-clause-settled
+returns-clause-settled g c =
+    let i = c.loop-j.invariant.settled in
     λ x y x_in y_in ne. i.done x y (omega (arith, i.len)) x_in ne

@@ -1,11 +1,11 @@
 use Rattle.std.proofs.Common.{◌≡◌}
 use Rattle.tlsf_crew.specs.lanes.Yard.{IsYard, world_of}
-use Rattle.tlsf_crew.specs.lanes.LaneSteps.{EachColumnMet}
+use Rattle.tlsf_crew.specs.lanes.LaneSteps.{EachColumnSettled}
 use Rattle.tlsf_crew.proofs.lanes.settle.settle.Given as goal
 
 abbrev pub invariant-loop-j : goal.invariant-loop-j
 invariant-loop-j g l = record {
-  met : EachColumnMet l.fn.workers l.workers l.j;
+  settled : EachColumnSettled l.fn.workers l.workers l.j;
   yard : IsYard l.workers;
   world : world_of l.workers ≡ world_of l.fn.workers;
 }

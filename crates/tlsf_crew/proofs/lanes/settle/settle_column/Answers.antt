@@ -1,12 +1,12 @@
 use Rattle.std.proofs.Common.{◌≡◌, ◌∙◌, length, ℕ, subst, refl, arith}
-use Rattle.tlsf_crew.specs.lanes.LaneSteps.{ColumnMet}
+use Rattle.tlsf_crew.specs.lanes.LaneSteps.{ColumnSettled}
 use Rattle.tlsf_crew.proofs.lemmas.lanes.Across.{settled_world, settled_yard}
 use Rattle.tlsf_crew.proofs.lemmas.lanes.LaneByLane.{column_first, column_step, column_skip}
 use Rattle.tlsf_crew.proofs.lanes.settle.settle_column.Goals as goal
 use Rattle.tlsf_crew.proofs.lanes.settle.settle_column.Goals.{then-i-j, else-i-j}
 
 pub loop-i-init : goal.loop-i-init
-loop-i-init g c = record { met = column_first _ _; yard = c.requires.yard; world = refl }
+loop-i-init g c = record { settled = column_first _ _; yard = c.requires.yard; world = refl }
 
 pub settle_lane-requires : goal.settle_lane-requires
 settle_lane-requires g c = (
@@ -15,7 +15,7 @@ settle_lane-requires g c = (
     omega arith,
     (
       omega arith,
-      let n = c.loop-i.invariant.met.len in
+      let n = c.loop-i.invariant.settled.len in
           c.loop-i.invariant.yard.lanes c.loop-i.i c.args.j (omega arith) (omega arith) c.if-i-j.true,
     ),
   ),
@@ -26,19 +26,19 @@ loop-i-preserved g c =
     let i = c.loop-i.invariant in
     elim c.if-i-j.branch [
       | then-i-j w ↦ record {
-        met = rw w.workers-is (column_step _ _ _ _ _ i.met w.if-i-j.true w.settle_lane.ensures);
+        settled = rw w.workers-is (column_step _ _ _ _ _ i.settled w.if-i-j.true w.settle_lane.ensures);
         yard = rw w.workers-is (settled_yard _ _ _ _ w.if-i-j.true w.settle_lane.ensures i.yard);
         world = rw w.workers-is (settled_world _ _ _ _ w.if-i-j.true w.settle_lane.ensures ∙ i.world);
       }
       | else-i-j w ↦ record {
-        met = rw w.workers-is (column_skip _ _ _ _ i.met w.if-i-j.false);
+        settled = rw w.workers-is (column_skip _ _ _ _ i.settled w.if-i-j.false);
         yard = rw w.workers-is i.yard;
         world = rw w.workers-is i.world;
       }
     ]
 
-pub returns-clause-met : goal.returns-clause-met
-returns-clause-met g c =
-    let i = c.loop-i.invariant.met in
+pub returns-clause-settled : goal.returns-clause-settled
+returns-clause-settled g c =
+    let i = c.loop-i.invariant.settled in
     let e : c.loop-i.i ≡ length c.args.workers.now = omega (arith, i.len) in
-    subst (λ (k : ℕ). ColumnMet c.args.workers.now c.loop-i.workers k c.args.j) e i
+    subst (λ (k : ℕ). ColumnSettled c.args.workers.now c.loop-i.workers k c.args.j) e i

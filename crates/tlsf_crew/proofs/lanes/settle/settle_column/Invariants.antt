@@ -1,11 +1,11 @@
 use Rattle.std.proofs.Common.{◌≡◌}
 use Rattle.tlsf_crew.specs.lanes.Yard.{IsYard, world_of}
-use Rattle.tlsf_crew.specs.lanes.LaneSteps.{ColumnMet}
+use Rattle.tlsf_crew.specs.lanes.LaneSteps.{ColumnSettled}
 use Rattle.tlsf_crew.proofs.lanes.settle.settle_column.Given as goal
 
 abbrev pub invariant-loop-i : goal.invariant-loop-i
 invariant-loop-i g l = record {
-  met : ColumnMet l.fn.workers l.workers l.i l.j;
+  settled : ColumnSettled l.fn.workers l.workers l.i l.j;
   yard : IsYard l.workers;
   world : world_of l.workers ≡ world_of l.fn.workers;
 }

@@ -1,12 +1,12 @@
 use Rattle.std.proofs.Common.{◌≡◌, ℕ, ◌≤◌, length, vec_len}
-use Rattle.tlsf_crew.specs.queues.QueueOpening.{AreEnds, AreGiven}
+use Rattle.tlsf_crew.specs.queues.QueueOpening.{AreUngiven, AreGiven}
 use Rattle.tlsf_crew.proofs.queues.queue_opening.give_all.Given as goal
 
 -- the ends of the queues behind those that are left were given
 abbrev pub invariant-loop-posters : goal.invariant-loop-posters
 invariant-loop-posters g l = record {
   count : length l.workers ≡ length l.fn.workers;
-  ends : AreEnds l.workers l.ends.items;
+  ends : AreUngiven l.workers l.ends.items;
   few : vec_len l.ends ≤ length l.workers;
   given : (words capacity : ℕ) → AreGiven (length l.fn.workers) words capacity (vec_len l.fn.ends) l.fn.workers
       → AreGiven (length l.fn.workers) words capacity (vec_len l.ends) l.workers;

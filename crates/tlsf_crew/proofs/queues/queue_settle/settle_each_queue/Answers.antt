@@ -1,13 +1,13 @@
 use Rattle.std.proofs.Common.{◌≡◌, ◌∙◌, ℕ, length, arith, refl, subst}
-use Rattle.tlsf_crew.specs.queues.QueueSettle.{QueuesSettled}
+use Rattle.tlsf_crew.specs.queues.QueueSettle.{EachQueueSettled}
 use Rattle.tlsf_crew.proofs.lemmas.queues.QueueSettled.{settled_none, settled_more}
 use Rattle.tlsf_crew.proofs.queues.queue_settle.settle_each_queue.Goals as goal
 
 pub loop-j-init : goal.loop-j-init
 loop-j-init g c = record { settled = settled_none c.args.workers.now c.requires.yard; capacity = refl }
 
-pub settle_queue-requires : goal.settle_queue-requires
-settle_queue-requires g c = (
+pub settle_one_queue-requires : goal.settle_one_queue-requires
+settle_one_queue-requires g c = (
   omega arith,
   (
     c.loop-j.invariant.settled.yard,
@@ -20,14 +20,14 @@ settle_queue-requires g c = (
 
 pub loop-j-preserved : goal.loop-j-preserved
 loop-j-preserved g c = record {
-  settled = settled_more c.args.workers.now c.loop-j.workers c.settle_queue.new.workers c.loop-j.j c.loop-j.invariant.settled c.settle_queue.ensures.settled;
-  capacity = c.settle_queue.ensures.capacity ∙ c.loop-j.invariant.capacity;
+  settled = settled_more c.args.workers.now c.loop-j.workers c.settle_one_queue.new.workers c.loop-j.j c.loop-j.invariant.settled c.settle_one_queue.ensures.settled;
+  capacity = c.settle_one_queue.ensures.capacity ∙ c.loop-j.invariant.capacity;
 }
 
 pub returns-clause-settled : goal.returns-clause-settled
 returns-clause-settled g c =
     let e : c.loop-j.j ≡ length c.args.workers.now = omega arith in
-    subst (λ (k : ℕ). QueuesSettled c.args.workers.now k c.loop-j.workers) e c.loop-j.invariant.settled
+    subst (λ (k : ℕ). EachQueueSettled c.args.workers.now k c.loop-j.workers) e c.loop-j.invariant.settled
 
 pub returns-clause-capacity : goal.returns-clause-capacity
 returns-clause-capacity g c = c.loop-j.invariant.capacity

@@ -1,9 +1,9 @@
 use Rattle.std.proofs.Common.{◌≡◌, vec_capacity}
-use Rattle.tlsf_crew.specs.queues.QueueSettle.{QueuesSettled}
+use Rattle.tlsf_crew.specs.queues.QueueSettle.{EachQueueSettled}
 use Rattle.tlsf_crew.proofs.queues.queue_settle.settle_each_queue.Given as goal
 
 abbrev pub invariant-loop-j : goal.invariant-loop-j
 invariant-loop-j g l = record {
-  settled : QueuesSettled l.fn.workers l.j l.workers;
+  settled : EachQueueSettled l.fn.workers l.j l.workers;
   capacity : vec_capacity l.posters ≡ vec_capacity l.fn.posters;
 }

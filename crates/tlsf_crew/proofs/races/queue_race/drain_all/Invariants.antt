@@ -1,11 +1,11 @@
 use Rattle.std.proofs.Common.{◌≡◌, ◌≤◌, ℕ, map, slice_get}
-use Rattle.tlsf_crew.specs.races.QueueTasks.{QueuesDrained}
+use Rattle.tlsf_crew.specs.races.QueueTasks.{EachQueueLastDrained}
 use Rattle.tlsf_crew.specs.races.LaneTasks.{KeepRooms}
 use Rattle.tlsf_crew.proofs.races.queue_race.drain_all.Given as goal
 
 abbrev pub invariant-loop-j : goal.invariant-loop-j
 invariant-loop-j g l = record {
-  drained : QueuesDrained l.fn.workers (map (λ r. r.items) l.fn.records) (map (λ r. r.items) l.records) l.workers l.j;
+  drained : EachQueueLastDrained l.fn.workers (map (λ r. r.items) l.fn.records) (map (λ r. r.items) l.records) l.workers l.j;
   rooms : KeepRooms l.fn.records l.records;
   later : (k : ℕ) → l.j ≤ k → slice_get l.records k ≡ slice_get l.fn.records k;
 }

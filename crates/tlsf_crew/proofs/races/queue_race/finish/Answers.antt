@@ -26,7 +26,7 @@ returns-clause-rooms g c = c.drain_all.ensures.rooms
 
 pub returns-clause-finished : goal.returns-clause-finished
 returns-clause-finished g c = record {
-  met = c.settle_each_queue.new.workers;
+  settled = c.settle_each_queue.new.workers;
   emptied = c.drain_all.new.workers;
   first = c.settle_each_queue.ensures.settled;
   drained = c.drain_all.ensures.drained;

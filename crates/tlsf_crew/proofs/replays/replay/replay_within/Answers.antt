@@ -6,7 +6,7 @@ use Rattle.tlsf_calls.specs.declared.event.Event.{Event}
 use Rattle.tlsf_calls.specs.declared.call.Call.TheVariants.{Allocate}
 use Rattle.tlsf_crew.specs.lanes.Yard.{world_of}
 use Rattle.tlsf_crew.specs.model.World.{after, resumed}
-use Rattle.tlsf_crew.specs.model.Sums.{waiting_in}
+use Rattle.tlsf_crew.specs.model.Sums.{waiting_count}
 use Rattle.tlsf_crew.proofs.lemmas.model.InParts.{replies_behind_is}
 use Rattle.tlsf_crew.proofs.lemmas.replays.Room.{so_far, worker_waits}
 use Rattle.tlsf_crew.proofs.replays.replay.replay_within.Goals as goal
@@ -25,7 +25,7 @@ run_event-requires g c = (
             let replayed = c.loop-event.invariant.replayed in
             let b = so_far i c.args.events.now w made (omega arith) in
             let entries = ap (λ r. length r.entries) replayed in
-            let waits = ap (λ r. waiting_in r.world) replayed in
+            let waits = ap (λ r. waiting_count r.world) replayed in
             let d0 : Event = record { worker = 0; call = Allocate 0 } in
             let e : Event = get_or c.args.events.now i d0 in
             let most = worker_waits c.loop-event.workers e.worker c.loop-event.invariant.yard in

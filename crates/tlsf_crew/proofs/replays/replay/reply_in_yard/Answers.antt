@@ -76,7 +76,7 @@ returns-clause-replied g c =
     let a : Worker g.row.SLI Lanes = get_or vs c.args.event.worker c.index-workers-event.result in
     let is : slice_get vs c.args.event.worker ≡ Some a = slice_get-get_or vs c.args.event.worker c.index-workers-event.result lt in
     let own : id_of a ≡ c.args.event.worker = own_number vs c.args.event.worker a e.yard is in
-    let s = settles (run_of g c) c.args.workers.now c.settle_for.new.workers c.args.event.worker own e.count e.met f.met (λ may i t near q. e.limits.all may i t near q) f.yard f.count f.world in
+    let s = settles (run_of g c) c.args.workers.now c.settle_for.new.workers c.args.event.worker own e.count e.settled f.settled (λ may i t near q. e.limits.all may i t near q) f.yard f.count f.world in
     replied (run_of g c) c.args.workers.now c.settle_for.new.workers c.args.event s e.world (sym own) refl
 
 pub settle_for-journal-requires : goal.settle_for-journal-requires

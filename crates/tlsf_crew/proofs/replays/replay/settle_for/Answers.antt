@@ -4,13 +4,13 @@ use Rattle.tlsf_crew.specs.replays.ReplaySteps.{ConcernsCall, MayTake}
 use Rattle.tlsf_crew.proofs.lemmas.replays.Exact.{limits_are, zero_limits}
 use Rattle.tlsf_crew.proofs.replays.replay.settle_for.Goals as goal
 
-pub returns-in-Release-clause-met : goal.returns-in-Release-clause-met
-returns-in-Release-clause-met g c = λ i j a b ne k.
+pub returns-in-Release-clause-settled : goal.returns-in-Release-clause-settled
+returns-in-Release-clause-settled g c = λ i j a b ne k.
     let m = subst (λ x. ConcernsCall c.args.made.now c.args.event.worker x i j) c.in-Release.is k in
     let ie : i ≡ c.args.event.worker = m.0 in
     let je : j ≡ m.1.heap = m.3 in
     let p = c.requires.inside in
-    rw (ie, je) (c.settle_named.ensures.met m.1 (c.named.ensures ∙ m.2) (omega arith) (omega arith) (λ q. ne (ie ∙ (q ∙ sym je))))
+    rw (ie, je) (c.settle_named.ensures.settled m.1 (c.named.ensures ∙ m.2) (omega arith) (omega arith) (λ q. ne (ie ∙ (q ∙ sym je))))
 
 pub returns-in-Take-clause-limits : goal.returns-in-Take-clause-limits
 returns-in-Take-clause-limits g c =
@@ -20,7 +20,7 @@ returns-in-Take-clause-limits g c =
     let n = c.settle_column.ensures.count in
     let p = c.requires.inside in
     let is : slice_get vs at ≡ Some a = slice_get-get_or vs at a (omega arith) ∙ ap Some (sym c.index-workers-at.is) in
-    limits_are c.args.workers.now vs c.args.event c.count_each.result a c.settle_column.ensures.yard c.settle_column.ensures.count is c.settle_column.ensures.met.done (rw (sym c.index-workers-at.is) at c.count_each.ensures)
+    limits_are c.args.workers.now vs c.args.event c.count_each.result a c.settle_column.ensures.yard c.settle_column.ensures.count is c.settle_column.ensures.settled.done (rw (sym c.index-workers-at.is) at c.count_each.ensures)
 
 pub returns-in-Release-clause-limits : goal.returns-in-Release-clause-limits
 returns-in-Release-clause-limits g c = zero_limits _ c.args.event (λ m. subst MayTake c.in-Release.is m)
@@ -43,8 +43,8 @@ returns-in-Take-clause-count g c = c.settle_column.ensures.count
 pub returns-in-Take-clause-world : goal.returns-in-Take-clause-world
 returns-in-Take-clause-world g c = c.settle_column.ensures.world
 
-pub returns-in-Allocate-clause-met : goal.returns-in-Allocate-clause-met
-returns-in-Allocate-clause-met g c = λ i j a b ne k. absurd (subst (λ x. ConcernsCall c.args.made.now c.args.event.worker x i j) c.in-Allocate.is k)
+pub returns-in-Allocate-clause-settled : goal.returns-in-Allocate-clause-settled
+returns-in-Allocate-clause-settled g c = λ i j a b ne k. absurd (subst (λ x. ConcernsCall c.args.made.now c.args.event.worker x i j) c.in-Allocate.is k)
 
 pub returns-in-Allocate-clause-limits : goal.returns-in-Allocate-clause-limits
 returns-in-Allocate-clause-limits g c = zero_limits _ c.args.event (λ m. subst MayTake c.in-Allocate.is m)
@@ -58,8 +58,8 @@ returns-in-Allocate-clause-count g c = refl
 pub returns-in-Allocate-clause-world : goal.returns-in-Allocate-clause-world
 returns-in-Allocate-clause-world g c = refl
 
-pub returns-in-Write-clause-met : goal.returns-in-Write-clause-met
-returns-in-Write-clause-met g c = λ i j a b ne k. absurd (subst (λ x. ConcernsCall c.args.made.now c.args.event.worker x i j) c.in-Write.is k)
+pub returns-in-Write-clause-settled : goal.returns-in-Write-clause-settled
+returns-in-Write-clause-settled g c = λ i j a b ne k. absurd (subst (λ x. ConcernsCall c.args.made.now c.args.event.worker x i j) c.in-Write.is k)
 
 pub returns-in-Write-clause-limits : goal.returns-in-Write-clause-limits
 returns-in-Write-clause-limits g c = zero_limits _ c.args.event (λ m. subst MayTake c.in-Write.is m)
@@ -73,8 +73,8 @@ returns-in-Write-clause-count g c = refl
 pub returns-in-Write-clause-world : goal.returns-in-Write-clause-world
 returns-in-Write-clause-world g c = refl
 
-pub returns-in-Read-clause-met : goal.returns-in-Read-clause-met
-returns-in-Read-clause-met g c = λ i j a b ne k. absurd (subst (λ x. ConcernsCall c.args.made.now c.args.event.worker x i j) c.in-Read.is k)
+pub returns-in-Read-clause-settled : goal.returns-in-Read-clause-settled
+returns-in-Read-clause-settled g c = λ i j a b ne k. absurd (subst (λ x. ConcernsCall c.args.made.now c.args.event.worker x i j) c.in-Read.is k)
 
 pub returns-in-Read-clause-limits : goal.returns-in-Read-clause-limits
 returns-in-Read-clause-limits g c = zero_limits _ c.args.event (λ m. subst MayTake c.in-Read.is m)
@@ -88,8 +88,8 @@ returns-in-Read-clause-count g c = refl
 pub returns-in-Read-clause-world : goal.returns-in-Read-clause-world
 returns-in-Read-clause-world g c = refl
 
-pub returns-in-Resize-clause-met : goal.returns-in-Resize-clause-met
-returns-in-Resize-clause-met g c = λ i j a b ne k. absurd (subst (λ x. ConcernsCall c.args.made.now c.args.event.worker x i j) c.in-Resize.is k)
+pub returns-in-Resize-clause-settled : goal.returns-in-Resize-clause-settled
+returns-in-Resize-clause-settled g c = λ i j a b ne k. absurd (subst (λ x. ConcernsCall c.args.made.now c.args.event.worker x i j) c.in-Resize.is k)
 
 pub returns-in-Resize-clause-limits : goal.returns-in-Resize-clause-limits
 returns-in-Resize-clause-limits g c = zero_limits _ c.args.event (λ m. subst MayTake c.in-Resize.is m)

@@ -1,6 +1,0 @@
-use Rattle.std.proofs.Common.{length}
-use Rattle.tlsf_crew.specs.lanes.NewLanes.{IsLaid}
-use Rattle.tlsf_crew.proofs.lanes.opening.lay_lanes.Given as goal
-
-abbrev pub invariant-loop-i : goal.invariant-loop-i
-invariant-loop-i g l = IsLaid l.workers (length l.fn.workers) l.words l.capacity l.i 0

@@ -1,0 +1,195 @@
+-- What the calls of one worker over lanes answer and leave. This serves the contracts and proofs of private functions alone.
+use Rattle.std.specs.Prelude.{◌≡◌, ◌≢◌, ◌⊎◌, ℕ, zero, suc, ◌+◌, ◌<◌, ◌≤◌, List, [], ◌∷◌, ◌++◌, length, take, slice_index, Option, Some, None, ◌==◌, if◌then◌else◌}
+use Rattle.std.specs.List.{fold}
+use mathlib.Core.List.{IsPrefix}
+use Rattle.tlsf_post.specs.declared.post.Post.{Post}
+use Rattle.tlsf_post.specs.declared.post_end.PostEnd.{PostEnd}
+use Rattle.tlsf_post.specs.declared.take_end.TakeEnd.{TakeEnd}
+use Rattle.tlsf_post.specs.Lanes.{posts_sent, free_slots, waited, taken, ready}
+use Rattle.tlsf_heap.specs.Blocks.{HeapState}
+use Rattle.tlsf_heap.specs.declared.name.Name.{Name}
+use Rattle.tlsf_crew.specs.declared.worker.worker.Worker.{Worker}
+use Rattle.tlsf_crew.specs.declared.worker.lanes.Lanes.{Lanes}
+use Rattle.tlsf_calls.specs.declared.entry.Entry.{Entry}
+use Rattle.tlsf_calls.specs.declared.took.Took.{Took}
+use Rattle.tlsf_calls.specs.declared.call.Call.{Call}
+use Rattle.tlsf_calls.specs.declared.call.Call.TheVariants.{Release, Take, Drain}
+use Rattle.tlsf_calls.specs.declared.target.Target.{Target}
+use Rattle.tlsf_calls.specs.declared.reply.Reply.{Reply}
+use Rattle.tlsf_calls.specs.declared.reply.Reply.TheVariants.{Posted, Took as Taken, Empty, Drained, Refused}
+use Rattle.tlsf_calls.specs.declared.crew_refusal.CrewRefusal.TheVariants.{Full}
+use Rattle.tlsf_crew.specs.model.Heaps.{released}
+use Rattle.tlsf_crew.specs.worker.Workers.{heap_of, id_of}
+use Rattle.tlsf_crew.specs.lanes.LaneWorkers.{id_and_capacity, end_to, end_from, HasTake, KnowsYard}
+use Rattle.tlsf_crew.specs.lanes.LaneCalls.{KeepsYards}
+use Rattle.tlsf_crew.specs.model.Sums.{sum_below}
+use Rattle.tlsf_crew.specs.scripts.Counts.{releases_of}
+use Rattle.tlsf_crew.specs.histories.History.{posts_made, posts_taken, StandsBehind}
+use Rattle.tlsf_crew.specs.model.World.{World, Replied, heap_in, made_by, name_of, called}
+use Rattle.tlsf_crew.specs.model.Told.{HasHeap, MayTell, told_by}
+
+abbrev pub one : ℕ → Call → Reply → List Entry
+one at call reply = record { worker = at; call = call; reply = reply } ∷ []
+
+-- ---- what entries tell of the ends
+
+-- the end to j sent the posts that the entries tell, and lost no more free slots
+pub record PostEndMoved {sli : ℕ} (at : ℕ) (made : List (Option Name)) (v : Worker sli Lanes) (j : ℕ) (entries : List Entry) (p : PostEnd) : Type 0 where
+  pub end : PostEnd
+  pub end_is : end_to v j ≡ Some end
+  pub sent : posts_sent end ≡ posts_sent p ++ posts_made at j made entries
+  pub free : free_slots p ≤ free_slots end + length (posts_made at j made entries)
+
+-- the end from i took the posts that the entries tell, those that were known to be ready first
+pub record TakeEndMoved {sli : ℕ} (at : ℕ) (v : Worker sli Lanes) (i : ℕ) (entries : List Entry) (t : TakeEnd) : Type 0 where
+  pub end : TakeEnd
+  pub end_is : end_from v i ≡ Some end
+  pub waited : waited end ≡ waited t
+  pub taken : taken end ≡ taken t ++ posts_taken i at entries
+  pub ready : IsPrefix (ready t) (posts_taken i at entries ++ ready end)
+
+-- of the posts from i that were known to be ready, as many as may be taken were taken
+abbrev pub Spent : {sli : ℕ} → Worker sli Lanes → List ℕ → ℕ → ℕ → List Entry → Type 0
+Spent a limits at i entries = (t : TakeEnd) → end_from a i ≡ Some t → IsPrefix (take (slice_index limits i) (ready t)) (posts_taken i at entries)
+
+-- worker a, of number `at`, has become v by these calls, as the entries tell. It might take so many posts from each other
+-- worker, and may take what is left
+pub record LaneMoved {sli : ℕ} (at : ℕ) (made : List (Option Name)) (a : Worker sli Lanes) (limits : List ℕ) (calls : List Call) (entries : List Entry) (v : Worker sli Lanes) (left : List ℕ) : Type 0 where
+  pub yard : KeepsYards a v
+  pub numbers : id_and_capacity v ≡ id_and_capacity a
+  pub knows : (n : ℕ) → KnowsYard n a → KnowsYard n v
+  pub sent : (j : ℕ) (p : PostEnd) → end_to a j ≡ Some p → PostEndMoved at made v j entries p
+  pub taken : (i : ℕ) (t : TakeEnd) → end_from a i ≡ Some t → TakeEndMoved at v i entries t
+  pub left_is : (i : ℕ) → slice_index left i + length (posts_taken i at entries) ≡ slice_index limits i
+  pub full : (before : List Entry) (e : Entry) (name : Name) (p : PostEnd) → StandsBehind entries before e → e.reply ≡ Refused (Full name)
+      → end_to a name.heap ≡ Some p → free_slots p ≤ length (posts_made at name.heap made before)
+  pub empty : (before : List Entry) (e : Entry) (i : ℕ) → StandsBehind entries before e → e.call ≡ Take i → e.reply ≡ Empty → Spent a limits at i before
+  pub drained : (before : List Entry) (e : Entry) (most k i : ℕ) → StandsBehind entries before e → e.call ≡ Drain most → e.reply ≡ Drained k → k < most
+      → Spent a limits at i before
+  pub few_posts : (j : ℕ) → length (posts_made at j made entries) ≤ releases_of calls
+  pub few_entries : length entries ≤ length calls + sum_below 8 (λ i. length (posts_taken i at entries))
+
+-- ---- one call that is no drain
+
+-- the worlds in which a worker's call may be answered so. A lane has room for the post that was made, and none where it was full; the
+-- post that was taken waits first, and none where there was none
+pub record Suits {sli : ℕ} (w : World sli) (at : ℕ) (made : List (Option Name)) (call : Call) (answer : Reply) : Type 0 where
+  pub room : (target : Target) (name : Name) → call ≡ Release target → name_of made target ≡ Some name → name.heap ≢ at → name.heap < length w.heaps → answer ≡ Posted
+      → length (w.waiting at name.heap) ≢ w.capacity
+  pub full : (target : Target) (name : Name) → call ≡ Release target → name_of made target ≡ Some name → name.heap ≢ at → name.heap < length w.heaps → answer ≡ Refused (Full name)
+      → length (w.waiting at name.heap) ≡ w.capacity
+  pub first : (from : ℕ) (t : Took) → call ≡ Take from → from ≢ at → from < length w.heaps → answer ≡ Taken t → (rest : List Post) × (w.waiting from at ≡ record { from = t.from; name = t.name } ∷ rest)
+  pub empty : (from : ℕ) → call ≡ Take from → from ≢ at → from < length w.heaps → answer ≡ Empty → w.waiting from at ≡ []
+
+-- the model answers so, and leaves this heap
+pub record ModelReplies {sli : ℕ} (at : ℕ) (v : Worker sli Lanes) (answer : Reply) (r : Replied sli) : Type 0 where
+  pub reply : answer ≡ r.reply
+  pub left : heap_of v ≡ heap_in r.world at
+
+-- so it does in each world that suits
+abbrev pub RepliesAsModel : {sli : ℕ} → List (Option Name) → Worker sli Lanes → Call → Worker sli Lanes → Reply → (World sli → Replied sli) → Type 0
+RepliesAsModel {sli} made a call v reply by =
+    (n : ℕ) → KnowsYard n a → (w : World sli) → HasHeap w n (id_of a) (heap_of a) → Suits w (id_of a) made call reply → ModelReplies (id_of a) v reply (by w)
+
+pub record CallStep {sli : ℕ} (made : List (Option Name)) (a : Worker sli Lanes) (limits : List ℕ) (call : Call) (v : Worker sli Lanes) (left : List ℕ) (reply : Reply) (by : World sli → Replied sli) : Type 0 where
+  pub told : RepliesAsModel made a call v reply by
+  pub moved : (rest : List (Option Name)) → LaneMoved (id_of a) (made ++ rest) a limits (call ∷ []) (one (id_of a) call reply) v left
+
+-- ---- takes
+
+-- the take of a post, as the heap answers it
+abbrev pub took_by : HeapState → Post → Took
+took_by h p = record { from = p.from; name = p.name; answer = (released h p.name).answer }
+
+-- one post was taken, or no more might be
+abbrev pub LaneTakenWithin : {sli : ℕ} → Worker sli Lanes → List ℕ → ℕ → Worker sli Lanes → List ℕ → Option Took → Type 0
+LaneTakenWithin a limits from v left None =
+    ((made : List (Option Name)) → LaneMoved (id_of a) made a limits [] [] v left) × (heap_of v ≡ heap_of a) × Spent a limits (id_of a) from []
+LaneTakenWithin a limits from v left (Some took) =
+    ((made : List (Option Name)) → LaneMoved (id_of a) made a limits [] (one (id_of a) (Take from) (Taken took)) v left)
+    × (post : Post) × (took ≡ took_by (heap_of a) post) × (heap_of v ≡ (released (heap_of a) post.name).heap)
+
+-- a drain under way, as its worker sees it
+pub record OwnDrain : Type 0 where
+  pub entries : List Entry
+  pub heap : HeapState
+  pub taken : ℕ
+
+abbrev pub took_own : ℕ → ℕ → OwnDrain → Post → OwnDrain
+took_own at from d p = record {
+  entries = d.entries ++ one at (Take from) (Taken (took_by d.heap p));
+  heap = (released d.heap p.name).heap;
+  taken = d.taken + 1;
+}
+
+-- these posts from one worker
+abbrev pub lane_own : ℕ → ℕ → OwnDrain → List Post → OwnDrain
+lane_own at from d posts = fold (took_own at from) d posts
+
+-- the posts from each other worker below a number
+abbrev pub each_lane_own : ℕ → (ℕ → List Post) → OwnDrain → ℕ → OwnDrain
+each_lane_own at posts d zero = d
+each_lane_own at posts d (suc from) = if from == at then each_lane_own at posts d from else lane_own at from (each_lane_own at posts d from) (posts from)
+
+abbrev pub own_drain : {sli : ℕ} → List Entry → Worker sli Lanes → ℕ → OwnDrain
+own_drain entries a taken = record { entries = entries; heap = heap_of a; taken = taken }
+
+-- takes from one lane, after any count of them from others
+pub record LaneTaken {sli : ℕ} (a : Worker sli Lanes) (limits : List ℕ) (from : ℕ) (entries : List Entry) (v : Worker sli Lanes) (left : List ℕ) (longer : List Entry) (count : ℕ) : Type 0 where
+  pub own : List Entry
+  pub entries_are : longer ≡ entries ++ own
+  pub posts : List Post
+  pub told : (n : ℕ) → own_drain longer v (n + count) ≡ lane_own (id_of a) from (own_drain entries a n) posts
+  pub here : posts_taken from (id_of a) own ≡ posts
+  pub others : (k : ℕ) → k ≢ from → posts_taken k (id_of a) own ≡ []
+  pub count_is : count ≡ length posts
+  pub moved : (made : List (Option Name)) → LaneMoved (id_of a) made a limits [] own v left
+
+-- a drain of one lane
+pub record LaneSpent {sli : ℕ} (a : Worker sli Lanes) (limits : List ℕ) (from most : ℕ) (entries : List Entry) (v : Worker sli Lanes) (left : List ℕ) (longer : List Entry) (count : ℕ) : Type 0 where
+  pub takes : LaneTaken a limits from entries v left longer count
+  pub few : count ≤ most
+  pub spent : count < most → Spent a limits (id_of a) from takes.own
+
+-- takes from the lanes from the workers below a number
+pub record EachLaneTaken {sli : ℕ} (a : Worker sli Lanes) (limits : List ℕ) (below : ℕ) (entries : List Entry) (v : Worker sli Lanes) (left : List ℕ) (longer : List Entry) (count : ℕ) : Type 0 where
+  pub own : List Entry
+  pub entries_are : longer ≡ entries ++ own
+  pub posts : ℕ → List Post
+  pub told : own_drain longer v count ≡ each_lane_own (id_of a) posts (own_drain entries a 0) below
+  pub posts_are : (k : ℕ) → posts_taken k (id_of a) own ≡ posts k
+  pub only : (k : ℕ) → (k < below → ¬ (HasTake a k)) → posts k ≡ []
+  pub moved : (made : List (Option Name)) → LaneMoved (id_of a) made a limits [] own v left
+
+-- a drain of those lanes
+pub record EachLaneSpent {sli : ℕ} (a : Worker sli Lanes) (limits : List ℕ) (below most : ℕ) (entries : List Entry) (v : Worker sli Lanes) (left : List ℕ) (longer : List Entry) (count : ℕ) : Type 0 where
+  pub takes : EachLaneTaken a limits below entries v left longer count
+  pub few : count ≤ most
+  pub spent : count < most → (i : ℕ) → i < below → Spent a limits (id_of a) i takes.own
+  -- a lane was left for the next only where it was spent
+  pub each : (k : ℕ) → k < below → k ≢ id_of a → (sum_below (suc k) (λ i. length (takes.posts i)) ≡ most) ⊎ Spent a limits (id_of a) k takes.own
+
+-- ---- any call
+
+-- the worlds in which a drain may take what these entries tell: so much waits in each lane, and no more where the drain went on to the next
+abbrev pub SuitsDrain : {sli : ℕ} → World sli → ℕ → ℕ → ℕ → List Entry → Type 0
+SuitsDrain w n at most own = (k : ℕ) → k < n → k ≢ at
+    → (rest : List Post) × (w.waiting k at ≡ posts_taken k at own ++ rest) × ((sum_below (suc k) (λ i. length (posts_taken i at own)) ≡ most) ⊎ (rest ≡ []))
+
+-- those in which a call may be answered so
+pub record SuitsCall {sli : ℕ} (w : World sli) (n at : ℕ) (made : List (Option Name)) (call : Call) (answer : Reply) (own : List Entry) : Type 0 where
+  pub one : Suits w at made call answer
+  pub drain : (most : ℕ) → call ≡ Drain most → SuitsDrain w n at most own
+
+-- the call was answered so; the entries got longer by those of a drain, and have not its own yet
+pub record LaneStepped {sli : ℕ} (n : ℕ) (a : Worker sli Lanes) (limits : List ℕ) (call : Call) (made : List (Option Name)) (entries : List Entry) (v : Worker sli Lanes) (left : List ℕ) (longer : List Entry) (reply : Reply) : Type 0 where
+  pub own : List Entry
+  pub entries_are : longer ≡ entries ++ own
+  pub told : MayTell sli n (id_of a) (record { made = made; entries = entries; heap = heap_of a }) call
+      (record { made = made ++ made_by reply ∷ []; entries = longer ++ one (id_of a) call reply; heap = heap_of v })
+  pub exact : (w : World sli) → HasHeap w n (id_of a) (heap_of a) → SuitsCall w n (id_of a) made call reply own
+      → told_by (id_of a) (called (record { made = made; entries = entries; world = w }) (id_of a) call) ≡ record { made = made ++ made_by reply ∷ []; entries = longer ++ one (id_of a) call reply; heap = heap_of v }
+  pub single : ((most : ℕ) → call ≡ Drain most → ⊥) → own ≡ []
+  pub each : (most : ℕ) → call ≡ Drain most → (k : ℕ) → k < n → k ≢ id_of a
+      → (sum_below (suc k) (λ i. length (posts_taken i (id_of a) own)) ≡ most) ⊎ Spent a limits (id_of a) k own
+  pub moved : (rest : List (Option Name)) → LaneMoved (id_of a) (made ++ rest) a limits (call ∷ []) (own ++ one (id_of a) call reply) v left
