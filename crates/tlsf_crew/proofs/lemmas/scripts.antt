@@ -10,9 +10,7 @@ pub mod LaneTakes
 pub mod ManyEntries
 -- A worker who makes no entry, or one that tells of no lane, has moved as it tells.
 pub mod OneEntry
--- A release, a write or a read of a worker in a race is answered as in some world.
-pub mod OwnAnswers
--- A call that a worker's own heap replied to is told as in a world in which the worker has that heap.
+-- A call that takes nothing is answered as the model answers it, whatever the ports of its worker.
 pub mod OwnTold
 -- What calls over queues leave, one after another.
 pub mod QueueRuns

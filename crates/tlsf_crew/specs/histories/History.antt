@@ -164,6 +164,11 @@ abbrev pub post_of_take : ℕ → Call → Reply → Option Post
 post_of_take i (Take from) (Taken t) = if from == i then Some (record { from = t.from; name = t.name }) else None
 post_of_take i call reply = None
 
+-- an entry that tells of neither a post nor a take
+pub record IsNoPost (made : List (Option Name)) (e : Entry) : Type 0 where
+  pub made_none : (j : ℕ) → post_of_release j made e.worker e.call e.reply ≡ None
+  pub taken_none : (i : ℕ) → post_of_take i e.call e.reply ≡ None
+
 -- the posts that worker i made for heap j, in order, and those that worker j took from i
 abbrev pub posts_made : ℕ → ℕ → List (Option Name) → List Entry → List Post
 posts_made i j made entries = filter_map (λ e. post_of_release j made e.worker e.call e.reply) (entries_of i entries)

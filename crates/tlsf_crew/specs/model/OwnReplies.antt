@@ -1,5 +1,5 @@
 -- What a worker's own heap replies to a call of a script, and what it leaves.
-use Rattle.std.specs.Prelude.{ℕ, List, length, Option, Some, None, Result, Ok, Err}
+use Rattle.std.specs.Prelude.{◌≡◌, ℕ, List, length, Option, Some, None, Result, Ok, Err}
 use Rattle.tlsf_heap.specs.Blocks.{HeapState}
 use Rattle.tlsf_heap.specs.declared.name.Name.{Name}
 use Rattle.tlsf_heap.specs.declared.refusal.Refusal.{Refusal}
@@ -11,25 +11,25 @@ use Rattle.tlsf_crew.specs.model.Heaps.{allocated, released, written, resized, c
 
 -- ---- replies by what the heap answers
 
+-- what it gave, as a reply, or its refusal
+abbrev pub reply_by : {A : Type 0} → (A → Reply) → Result A Refusal → Reply
+reply_by given (Ok x) = given x
+reply_by given (Err why) = Refused (Heap why)
+
 abbrev pub reply_made : Result Name Refusal → Reply
-reply_made (Ok name) = Made name
-reply_made (Err why) = Refused (Heap why)
+reply_made r = reply_by Made r
 
 abbrev pub reply_freed : Result (Unit {0}) Refusal → Reply
-reply_freed (Ok done) = Freed
-reply_freed (Err why) = Refused (Heap why)
+reply_freed r = reply_by (λ done. Freed) r
 
 abbrev pub reply_wrote : ℕ → Result (Unit {0}) Refusal → Reply
-reply_wrote n (Ok done) = Wrote n
-reply_wrote n (Err why) = Refused (Heap why)
+reply_wrote n r = reply_by (λ done. Wrote n) r
 
 abbrev pub reply_got : Result Chunk Refusal → Reply
-reply_got (Ok bytes) = Got bytes
-reply_got (Err why) = Refused (Heap why)
+reply_got r = reply_by Got r
 
 abbrev pub reply_resized : Result (Unit {0}) Refusal → Reply
-reply_resized (Ok done) = Resized
-reply_resized (Err why) = Refused (Heap why)
+reply_resized r = reply_by (λ done. Resized) r
 
 -- ---- calls
 
@@ -37,6 +37,11 @@ reply_resized (Err why) = Refused (Heap why)
 pub record OwnReplied : Type 0 where
   pub reply : Reply
   pub heap : HeapState
+
+-- the reply to a call is this one, and so is the heap that it leaves
+pub record HeapReplies (reply : Reply) (g : HeapState) (x : OwnReplied) : Type 0 where
+  pub same : reply ≡ x.reply
+  pub left : g ≡ x.heap
 
 -- the target means no name
 abbrev pub own_unmade : HeapState → OwnReplied
@@ -48,14 +53,16 @@ own_allocating sli h len = record { reply = reply_made (allocated sli h len).ans
 abbrev pub own_freeing : HeapState → Name → OwnReplied
 own_freeing h name = record { reply = reply_freed (released h name).answer; heap = (released h name).heap }
 
+-- a call whose target means this name, or none
+abbrev pub own_named : HeapState → (Name → OwnReplied) → Option Name → OwnReplied
+own_named h by None = own_unmade h
+own_named h by (Some name) = by name
+
 abbrev pub own_writing : HeapState → Option Name → ℕ → List ℕ → OwnReplied
-own_writing h None from bytes = own_unmade h
-own_writing h (Some name) from bytes = record { reply = reply_wrote (length bytes) (written h name from bytes).answer; heap = (written h name from bytes).heap }
+own_writing h o from bytes = own_named h (λ name. record { reply = reply_wrote (length bytes) (written h name from bytes).answer; heap = (written h name from bytes).heap }) o
 
 abbrev pub own_reading : HeapState → Option Name → ℕ → ℕ → OwnReplied
-own_reading h None from n = own_unmade h
-own_reading h (Some name) from n = record { reply = reply_got (chunk_read h name from n); heap = h }
+own_reading h o from n = own_named h (λ name. record { reply = reply_got (chunk_read h name from n); heap = h }) o
 
 abbrev pub own_resizing : HeapState → Option Name → ℕ → OwnReplied
-own_resizing h None len = own_unmade h
-own_resizing h (Some name) len = record { reply = reply_resized (resized h name len).answer; heap = (resized h name len).heap }
+own_resizing h o len = own_named h (λ name. record { reply = reply_resized (resized h name len).answer; heap = (resized h name len).heap }) o

@@ -3,7 +3,6 @@ use Rattle.std.specs.Prelude.{◌≡◌, ◌≢◌, ℕ, ◌<◌, ◌≤◌, Lis
 use Rattle.std.specs.List.{fold}
 use Rattle.tlsf_heap.specs.Blocks.{HeapState}
 use Rattle.tlsf_post.specs.declared.post.Post.{Post}
-use Rattle.tlsf_calls.specs.Entries.{made_by}
 use Rattle.tlsf_calls.specs.declared.entry.Entry.{Entry}
 use Rattle.tlsf_calls.specs.declared.call.Call.{Call}
 use Rattle.tlsf_calls.specs.declared.call.Call.TheVariants.{Take, Drain}
@@ -11,7 +10,7 @@ use Rattle.tlsf_calls.specs.declared.crew_refusal.CrewRefusal.TheVariants.{Stran
 use Rattle.tlsf_calls.specs.declared.reply.Reply.{Reply}
 use Rattle.tlsf_calls.specs.declared.reply.Reply.TheVariants.{Took as Taken, Drained, Refused}
 use Rattle.tlsf_crew.specs.model.Heaps.{released}
-use Rattle.tlsf_crew.specs.model.Told.{Told, AllTold, MayTell}
+use Rattle.tlsf_crew.specs.model.Told.{Told, AllTold, MayTell, told_more}
 
 -- a post of another of n workers
 abbrev pub IsFromOther : ℕ → ℕ → Post → Type 0
@@ -35,11 +34,7 @@ told_takes at s posts = fold (told_take at) s posts
 
 -- a call was answered so, and left the heap as it was
 abbrev pub told_reply : ℕ → Told → Call → Reply → Told
-told_reply at s call reply = record {
-  made = s.made ++ made_by reply ∷ [];
-  entries = s.entries ++ record { worker = at; call = call; reply = reply } ∷ [];
-  heap = s.heap;
-}
+told_reply at s call reply = told_more at s call reply s.heap
 
 -- one call more over queues of n workers. A take is refused, since a queue has no single poster; a drain takes some posts of
 -- others, in whatever order they come; all else is answered as over lanes

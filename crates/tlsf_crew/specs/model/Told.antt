@@ -1,10 +1,17 @@
 -- What a worker is told by its calls, one after another.
-use Rattle.std.specs.Prelude.{◌≡◌, ℕ, List, [], ◌∷◌, length, Option}
+use Rattle.std.specs.Prelude.{◌≡◌, ◌≢◌, ℕ, ◌<◌, List, [], ◌∷◌, ◌++◌, length, Option, Some}
 use Rattle.tlsf_heap.specs.declared.name.Name.{Name}
 use Rattle.tlsf_heap.specs.Blocks.{HeapState}
 use Rattle.tlsf_calls.specs.declared.entry.Entry.{Entry}
+use Rattle.tlsf_post.specs.declared.post.Post.{Post}
 use Rattle.tlsf_calls.specs.declared.call.Call.{Call}
-use Rattle.tlsf_crew.specs.model.World.{World, Replayed, heap_in, called}
+use Rattle.tlsf_calls.specs.declared.call.Call.TheVariants.{Release, Take}
+use Rattle.tlsf_calls.specs.declared.crew_refusal.CrewRefusal.TheVariants.{Full}
+use Rattle.tlsf_calls.specs.declared.reply.Reply.{Reply}
+use Rattle.tlsf_calls.specs.declared.reply.Reply.TheVariants.{Posted, Took as Taken, Empty, Refused}
+use Rattle.tlsf_calls.specs.declared.target.Target.{Target}
+use Rattle.tlsf_calls.specs.declared.took.Took.{Took}
+use Rattle.tlsf_crew.specs.model.World.{World, Replayed, heap_in, called, made_by, name_of}
 
 -- what a worker was told so far: the names that its calls made, its entries, and its heap
 pub record Told : Type 0 where
@@ -23,6 +30,30 @@ told_by at r = record { made = r.made; entries = r.entries; heap = heap_in r.wor
 -- a world of n workers in which worker `at` has this heap
 abbrev pub HasHeap : {sli : ℕ} → World sli → ℕ → ℕ → HeapState → Type 0
 HasHeap w n at h = (length w.heaps ≡ n) × (heap_in w at ≡ h)
+
+-- the worlds in which a worker's call may be answered so. A lane has room for the post that was made, and none where it was full; the
+-- post that was taken waits first, and none where there was none
+pub record Suits {sli : ℕ} (w : World sli) (at : ℕ) (made : List (Option Name)) (call : Call) (answer : Reply) : Type 0 where
+  pub room : (target : Target) (name : Name) → call ≡ Release target → name_of made target ≡ Some name → name.heap ≢ at → name.heap < length w.heaps → answer ≡ Posted
+      → length (w.waiting at name.heap) ≢ w.capacity
+  pub full : (target : Target) (name : Name) → call ≡ Release target → name_of made target ≡ Some name → name.heap ≢ at → name.heap < length w.heaps → answer ≡ Refused (Full name)
+      → length (w.waiting at name.heap) ≡ w.capacity
+  pub first : (from : ℕ) (t : Took) → call ≡ Take from → from ≢ at → from < length w.heaps → answer ≡ Taken t → (rest : List Post) × (w.waiting from at ≡ record { from = t.from; name = t.name } ∷ rest)
+  pub empty : (from : ℕ) → call ≡ Take from → from ≢ at → from < length w.heaps → answer ≡ Empty → w.waiting from at ≡ []
+
+-- one call more, with this reply, that leaves this heap
+abbrev pub told_more : ℕ → Told → Call → Reply → HeapState → Told
+told_more at s call reply g = record {
+  made = s.made ++ made_by reply ∷ [];
+  entries = s.entries ++ record { worker = at; call = call; reply = reply } ∷ [];
+  heap = g;
+}
+
+-- so the model answers a worker of n in each world that suits
+abbrev pub IsModelAnswer : ℕ → ℕ → ℕ → Told → Call → Reply → HeapState → Type 0
+IsModelAnswer sli n at s call reply g =
+    at < n → (w : World sli) → HasHeap w n at s.heap → Suits w at s.made call reply
+    → told_by at (called (record { made = s.made; entries = s.entries; world = w }) at call) ≡ told_more at s call reply g
 
 -- one call more, answered as in some world in which the worker has its heap: what waits in the lanes is free to choose
 abbrev pub MayTell : ℕ → ℕ → ℕ → Told → Call → Told → Type 0

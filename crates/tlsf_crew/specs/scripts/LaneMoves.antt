@@ -13,10 +13,9 @@ use Rattle.tlsf_crew.specs.declared.worker.lanes.Lanes.{Lanes}
 use Rattle.tlsf_calls.specs.declared.entry.Entry.{Entry}
 use Rattle.tlsf_calls.specs.declared.took.Took.{Took}
 use Rattle.tlsf_calls.specs.declared.call.Call.{Call}
-use Rattle.tlsf_calls.specs.declared.call.Call.TheVariants.{Release, Take, Drain}
-use Rattle.tlsf_calls.specs.declared.target.Target.{Target}
+use Rattle.tlsf_calls.specs.declared.call.Call.TheVariants.{Take, Drain}
 use Rattle.tlsf_calls.specs.declared.reply.Reply.{Reply}
-use Rattle.tlsf_calls.specs.declared.reply.Reply.TheVariants.{Posted, Took as Taken, Empty, Drained, Refused}
+use Rattle.tlsf_calls.specs.declared.reply.Reply.TheVariants.{Took as Taken, Empty, Drained, Refused}
 use Rattle.tlsf_calls.specs.declared.crew_refusal.CrewRefusal.TheVariants.{Full}
 use Rattle.tlsf_crew.specs.model.Heaps.{released}
 use Rattle.tlsf_crew.specs.worker.Workers.{heap_of, id_of}
@@ -25,8 +24,8 @@ use Rattle.tlsf_crew.specs.lanes.LaneCalls.{KeepsYards}
 use Rattle.tlsf_crew.specs.model.Sums.{sum_below}
 use Rattle.tlsf_crew.specs.scripts.Counts.{releases_of}
 use Rattle.tlsf_crew.specs.histories.History.{posts_made, posts_taken, StandsBehind}
-use Rattle.tlsf_crew.specs.model.World.{World, Replied, heap_in, made_by, name_of, called}
-use Rattle.tlsf_crew.specs.model.Told.{HasHeap, MayTell, told_by}
+use Rattle.tlsf_crew.specs.model.World.{World, made_by, called}
+use Rattle.tlsf_crew.specs.model.Told.{HasHeap, MayTell, Suits, told_by}
 
 abbrev pub one : ℕ → Call → Reply → List Entry
 one at call reply = record { worker = at; call = call; reply = reply } ∷ []
@@ -68,32 +67,6 @@ pub record LaneMoved {sli : ℕ} (at : ℕ) (made : List (Option Name)) (a : Wor
       → Spent a limits at i before
   pub few_posts : (j : ℕ) → length (posts_made at j made entries) ≤ releases_of calls
   pub few_entries : length entries ≤ length calls + sum_below 8 (λ i. length (posts_taken i at entries))
-
--- ---- one call that is no drain
-
--- the worlds in which a worker's call may be answered so. A lane has room for the post that was made, and none where it was full; the
--- post that was taken waits first, and none where there was none
-pub record Suits {sli : ℕ} (w : World sli) (at : ℕ) (made : List (Option Name)) (call : Call) (answer : Reply) : Type 0 where
-  pub room : (target : Target) (name : Name) → call ≡ Release target → name_of made target ≡ Some name → name.heap ≢ at → name.heap < length w.heaps → answer ≡ Posted
-      → length (w.waiting at name.heap) ≢ w.capacity
-  pub full : (target : Target) (name : Name) → call ≡ Release target → name_of made target ≡ Some name → name.heap ≢ at → name.heap < length w.heaps → answer ≡ Refused (Full name)
-      → length (w.waiting at name.heap) ≡ w.capacity
-  pub first : (from : ℕ) (t : Took) → call ≡ Take from → from ≢ at → from < length w.heaps → answer ≡ Taken t → (rest : List Post) × (w.waiting from at ≡ record { from = t.from; name = t.name } ∷ rest)
-  pub empty : (from : ℕ) → call ≡ Take from → from ≢ at → from < length w.heaps → answer ≡ Empty → w.waiting from at ≡ []
-
--- the model answers so, and leaves this heap
-pub record ModelReplies {sli : ℕ} (at : ℕ) (v : Worker sli Lanes) (answer : Reply) (r : Replied sli) : Type 0 where
-  pub reply : answer ≡ r.reply
-  pub left : heap_of v ≡ heap_in r.world at
-
--- so it does in each world that suits
-abbrev pub RepliesAsModel : {sli : ℕ} → List (Option Name) → Worker sli Lanes → Call → Worker sli Lanes → Reply → (World sli → Replied sli) → Type 0
-RepliesAsModel {sli} made a call v reply by =
-    (n : ℕ) → KnowsYard n a → (w : World sli) → HasHeap w n (id_of a) (heap_of a) → Suits w (id_of a) made call reply → ModelReplies (id_of a) v reply (by w)
-
-pub record CallStep {sli : ℕ} (made : List (Option Name)) (a : Worker sli Lanes) (limits : List ℕ) (call : Call) (v : Worker sli Lanes) (left : List ℕ) (reply : Reply) (by : World sli → Replied sli) : Type 0 where
-  pub told : RepliesAsModel made a call v reply by
-  pub moved : (rest : List (Option Name)) → LaneMoved (id_of a) (made ++ rest) a limits (call ∷ []) (one (id_of a) call reply) v left
 
 -- ---- takes
 

@@ -1,10 +1,9 @@
 -- What the calls of one worker over queues answer and leave. This serves the contracts and proofs of private functions alone.
-use Rattle.std.specs.Prelude.{◌≡◌, ℕ, ◌+◌, ◌<◌, ◌≤◌, List, [], ◌∷◌, ◌++◌, length, Option, Some, slice_index}
+use Rattle.std.specs.Prelude.{◌≡◌, ℕ, ◌+◌, ◌<◌, ◌≤◌, List, ◌++◌, length, Option, Some, slice_index}
 use mathlib.Core.List.{IsPrefix}
 use Rattle.tlsf_post.specs.Rule.{posts_of}
 use Rattle.tlsf_post.specs.Mailboxes.{put_by, gone_from, plan_of, got_by, known_to, IsOnlyPoster}
 use Rattle.tlsf_post.specs.declared.poster_end.PosterEnd.{PosterEnd}
-use Rattle.tlsf_heap.specs.Blocks.{HeapState}
 use Rattle.tlsf_heap.specs.declared.name.Name.{Name}
 use Rattle.tlsf_calls.specs.declared.entry.Entry.{Entry}
 use Rattle.tlsf_calls.specs.declared.call.Call.{Call}
@@ -16,8 +15,6 @@ use Rattle.tlsf_crew.specs.model.Sums.{sum_of}
 use Rattle.tlsf_crew.specs.histories.History.{posts_made, posts_taken, StandsBehind}
 pub use Rattle.tlsf_crew.specs.scripts.Scripts.{told_of, entry_by}
 use Rattle.tlsf_crew.specs.scripts.Scripts.{Step, ScriptRun}
-use Rattle.tlsf_crew.specs.model.Told.{MayTell}
-use Rattle.tlsf_crew.specs.model.World.{made_by}
 use Rattle.tlsf_crew.specs.declared.worker.worker.Worker.{Worker}
 use Rattle.tlsf_crew.specs.declared.queues.queues.Queues.{Queues}
 use Rattle.tlsf_crew.specs.queues.QueueWorkers.{queue_end_to, KeepsQueueYards}
@@ -26,16 +23,6 @@ use Rattle.tlsf_crew.specs.model.QueueTold.{MayTellQueue}
 -- so many posts may be taken: as many as a queue may hold, and one for each release of any script
 abbrev pub IsQueueLimit : List ℕ → List ℕ → Type 0
 IsQueueLimit releases limits = (slice_index limits 0 ≡ 1024 + sum_of releases) × (sum_of limits ≡ slice_index limits 0)
-
--- ---- a call on a heap
-
--- a heap answers the call so and becomes the other, whoever its worker is
-abbrev pub TellsOwn : ℕ → List (Option Name) → HeapState → Call → HeapState → Reply → Type 0
-TellsOwn sli made h call g reply =
-    (n at : ℕ) (entries : List Entry) → at < n
-    → MayTell sli n at (told_of made entries h) call (told_of (made ++ made_by reply ∷ []) (entries ++ entry_by at call reply ∷ []) g)
-
--- ---- what entries tell of the ends
 
 -- worker a, of number `at`, has become v by these calls, as the entries tell. It might take so many posts, and may take what is left
 pub record QueueMoved {sli : ℕ} (at : ℕ) (made : List (Option Name)) (a : Worker sli Queues) (limits : List ℕ) (calls : List Call) (entries : List Entry) (v : Worker sli Queues) (left : List ℕ) : Type 0 where

@@ -1,11 +1,12 @@
 -- What the calls of a script tell of their worker, whatever its ports. This serves the contracts and proofs of private functions alone.
-use Rattle.std.specs.Prelude.{◌≡◌, ◌≢◌, ◌⊎◌, ℕ, ◌+◌, ◌<◌, ◌≤◌, List, [], ◌∷◌, ◌++◌, length, slice_index, Option, Some, None, Result, Ok, Err, get_or}
+use Rattle.std.specs.Prelude.{◌≡◌, ◌≢◌, ◌⊎◌, ℕ, ◌+◌, ◌<◌, ◌≤◌, List, [], ◌∷◌, ◌++◌, length, slice_index, Option, Some, None, Result, Ok, Err, ⊤, get_or}
 use Rattle.tlsf_heap.specs.Blocks.{HeapState}
 use Rattle.tlsf_heap.specs.declared.name.Name.{Name}
 use Rattle.tlsf_post.specs.declared.post.Post.{Post}
 use Rattle.tlsf_calls.specs.declared.call.Call.{Call}
+use Rattle.tlsf_calls.specs.declared.call.Call.TheVariants.{Take, Drain}
 use Rattle.tlsf_calls.specs.declared.crew_refusal.CrewRefusal.{CrewRefusal}
-use Rattle.tlsf_calls.specs.declared.crew_refusal.CrewRefusal.TheVariants.{Stranger}
+use Rattle.tlsf_calls.specs.declared.crew_refusal.CrewRefusal.TheVariants.{Full, Stranger}
 use Rattle.tlsf_calls.specs.declared.entry.Entry.{Entry}
 use Rattle.tlsf_calls.specs.declared.released.Released.{Released}
 use Rattle.tlsf_calls.specs.declared.released.Released.TheVariants.{Freed as WasFreed, Posted as WasPosted}
@@ -15,11 +16,11 @@ use Rattle.tlsf_calls.specs.declared.took.Took.{Took}
 use Rattle.tlsf_crew.specs.declared.worker.worker.Worker.{Worker}
 use Rattle.tlsf_crew.specs.worker.Calls.{ReleasedHere, ReleasedThere, TakenFrom}
 use Rattle.tlsf_crew.specs.model.Sums.{sum_of}
+use Rattle.tlsf_crew.specs.histories.History.{IsNoPost}
 use Rattle.tlsf_crew.specs.scripts.Journals.{OneFewer}
-use Rattle.tlsf_crew.specs.model.Told.{Told, AllTold, untold}
-use Rattle.tlsf_crew.specs.worker.Workers.{heap_of, id_of}
+use Rattle.tlsf_crew.specs.model.Told.{Told, AllTold, IsModelAnswer, untold}
+use Rattle.tlsf_crew.specs.worker.Workers.{heap_of, id_of, SameButHeap}
 use Rattle.tlsf_crew.specs.model.World.{made_by}
-use Rattle.tlsf_calls.specs.declared.call.Call.TheVariants.{Drain}
 
 abbrev pub reply_took : Option Took → Reply
 reply_took None = Empty
@@ -50,6 +51,24 @@ pub record ReleasedAnywhere {sli : ℕ} {P : Type 0} (reaches : P → ℕ → Ty
   pub here : name.heap ≡ id_of a → ReleasedHere a v name answer
   pub there : name.heap ≢ id_of a → reaches a.ports name.heap → ReleasedThere puts a v name answer
   pub nowhere : name.heap ≢ id_of a → ¬ (reaches a.ports name.heap) → (answer ≡ Err Stranger) × (v ≡ a)
+
+-- neither a take nor a drain
+abbrev pub IsNoTake : Call → Type 0
+IsNoTake (Take from) = ⊥
+IsNoTake (Drain most) = ⊥
+IsNoTake call = ⊤
+
+-- the entry of a call that posts and takes nothing, and found no port full
+pub record IsQuiet (e : Entry) : Type 0 where
+  pub call : IsNoTake e.call
+  pub posts : (made : List (Option Name)) → IsNoPost made e
+  pub unfilled : (name : Name) → e.reply ≢ Refused (Full name)
+
+-- such a call of a worker of n, answered as the model answers it, behind calls that made these names and these entries
+pub record QuietCall {sli : ℕ} {P : Type 0} (n : ℕ) (a v : Worker sli P) (call : Call) (made : List (Option Name)) (entries : List Entry) (reply : Reply) : Type 0 where
+  pub same : SameButHeap a v
+  pub quiet : IsQuiet (entry_by (id_of a) call reply)
+  pub told : IsModelAnswer sli n (id_of a) (told_of made entries (heap_of a)) call reply (heap_of v)
 
 -- one post was taken of a source, or no more might be, or it showed none
 abbrev pub TakenWithin : {sli : ℕ} {P : Type 0} → (P → P → ℕ → Option Post → Type 0) → Worker sli P → List ℕ → ℕ → Worker sli P → List ℕ → Option Took → Type 0

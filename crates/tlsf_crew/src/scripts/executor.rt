@@ -6,7 +6,7 @@ ghost use Rattle.tlsf_calls.specs.declared.entry.Entry.{Entry};
 ghost use Rattle.tlsf_crew.specs.model.World.{made_by};
 ghost use Rattle.tlsf_crew.specs.model.Sums.{sum_of};
 ghost use Rattle.tlsf_crew.specs.scripts.Journals.{HasTakePlaces};
-ghost use Rattle.tlsf_crew.specs.scripts.Scripts.{CallMade};
+ghost use Rattle.tlsf_crew.specs.scripts.Scripts.{CallMade, reply_released};
 
 use crate::scripts::journal::Journal;
 use crate::scripts::own_replies::{
@@ -50,6 +50,17 @@ pub(crate) fn answer(
     });
 }
 
+/// The reply to a release that was answered so.
+fn as_reply(answer: Result<Released, CrewRefusal>) -> Reply
+    ensures { result ≡ reply_released answer }
+{
+    match answer {
+        Ok(Released::Freed) => Reply::Freed,
+        Ok(Released::Posted) => Reply::Posted,
+        Err(why) => Reply::Refused(why),
+    }
+}
+
 /// Releases what a target means: a block of the own heap, or by a post another's.
 fn reply_to_release<const SLI: u32, C, P: Scripted<C>>(
     worker: &mut Worker<SLI, P>,
@@ -59,15 +70,13 @@ fn reply_to_release<const SLI: u32, C, P: Scripted<C>>(
 ) -> Reply
     ensures { (n : ℕ) (limits : List ℕ) (entries : List Entry) → P.knows SLI n worker.old → P.steps SLI n worker.old limits (Release target) made.now entries worker.new limits entries result }
 {
-    P::releases_step();
+    P::heap_keeps();
+    P::quiet_step();
+    P::posts_step();
     let Some(name) = named(target, made) else {
         return Reply::Refused(CrewRefusal::Unmade);
     };
-    match release(worker, context, name) {
-        Ok(Released::Freed) => Reply::Freed,
-        Ok(Released::Posted) => Reply::Posted,
-        Err(why) => Reply::Refused(why),
-    }
+    as_reply(release(worker, context, name))
 }
 
 /// Whether a source is that worker's alone, and goes by its number.
@@ -122,7 +131,8 @@ pub(crate) fn reply_to<const SLI: u32, C, P: Scripted<C>>(
         → P.steps SLI n worker.old journal.old.limits call made.now journal.old.entries.items worker.new journal.new.limits journal.new.entries.items result }
     ensures capacity { vec_capacity journal.new.entries ≡ vec_capacity journal.old.entries }
 {
-    P::own_replies_step();
+    P::heap_keeps();
+    P::quiet_step();
     P::drains_step();
     match call {
         Call::Allocate { len } => reply_to_own_allocate(worker, len),

@@ -33,9 +33,9 @@ impl<C> Scripted<C> for Lanes {
 
     fn steps_tell() {}
 
-    fn own_replies_step() {}
+    fn quiet_step() {}
 
-    fn releases_step() {}
+    fn posts_step() {}
 
     fn takes_step() {}
 

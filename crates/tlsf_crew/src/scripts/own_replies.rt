@@ -6,7 +6,7 @@ ghost use Rattle.tlsf_crew.specs.worker.Calls.{by_heap};
 ghost use Rattle.tlsf_crew.specs.model.Heaps.{as_chunk, chunk_read};
 ghost use Rattle.tlsf_crew.specs.worker.Workers.{heap_of, SameButHeap};
 ghost use Rattle.tlsf_crew.specs.model.World.{name_of};
-ghost use Rattle.tlsf_crew.specs.model.OwnReplies.{own_allocating, own_writing, own_reading, own_resizing};
+ghost use Rattle.tlsf_crew.specs.model.OwnReplies.{HeapReplies, own_allocating, own_writing, own_reading, own_resizing};
 
 use crate::worker::ports::Ports;
 use crate::worker::worker::Worker;
@@ -34,8 +34,7 @@ pub(crate) fn reply_to_own_allocate<const SLI: u32, P: Ports>(
     worker: &mut Worker<SLI, P>,
     len: u32,
 ) -> Reply
-    ensures reply { result ≡ (own_allocating SLI (heap_of worker.old) len).reply }
-    ensures heap { heap_of worker.new ≡ (own_allocating SLI (heap_of worker.old) len).heap }
+    ensures replied { HeapReplies result (heap_of worker.new) (own_allocating SLI (heap_of worker.old) len) }
     ensures same { SameButHeap worker.old worker.new }
     ensures yard { P.keeps_yards SLI worker.old worker.new }
 {
@@ -53,8 +52,7 @@ pub(crate) fn reply_to_own_write<const SLI: u32, P: Ports>(
     bytes: Chunk,
     made: &[Option<Name>],
 ) -> Reply
-    ensures reply { result ≡ (own_writing (heap_of worker.old) (name_of made.now target) from (bytes_of bytes)).reply }
-    ensures heap { heap_of worker.new ≡ (own_writing (heap_of worker.old) (name_of made.now target) from (bytes_of bytes)).heap }
+    ensures replied { HeapReplies result (heap_of worker.new) (own_writing (heap_of worker.old) (name_of made.now target) from (bytes_of bytes)) }
     ensures same { SameButHeap worker.old worker.new }
 {
     let Some(name) = named(target, made) else {
@@ -119,8 +117,7 @@ pub(crate) fn reply_to_own_read<const SLI: u32, P: Ports>(
     n: u32,
     made: &[Option<Name>],
 ) -> Reply
-    ensures reply { result ≡ (own_reading (heap_of worker.old) (name_of made.now target) from n).reply }
-    ensures heap { heap_of worker.new ≡ (own_reading (heap_of worker.old) (name_of made.now target) from n).heap }
+    ensures replied { HeapReplies result (heap_of worker.new) (own_reading (heap_of worker.old) (name_of made.now target) from n) }
     ensures same { SameButHeap worker.old worker.new }
 {
     let Some(name) = named(target, made) else {
@@ -139,8 +136,7 @@ pub(crate) fn reply_to_own_resize<const SLI: u32, P: Ports>(
     len: u32,
     made: &[Option<Name>],
 ) -> Reply
-    ensures reply { result ≡ (own_resizing (heap_of worker.old) (name_of made.now target) len).reply }
-    ensures heap { heap_of worker.new ≡ (own_resizing (heap_of worker.old) (name_of made.now target) len).heap }
+    ensures replied { HeapReplies result (heap_of worker.new) (own_resizing (heap_of worker.old) (name_of made.now target) len) }
     ensures same { SameButHeap worker.old worker.new }
 {
     let Some(name) = named(target, made) else {

@@ -1,12 +1,10 @@
 //! What the calls of a script tell of their worker, over ports of each kind.
-ghost use Rattle.std.specs.Prelude.{◌≡◌, ◌^◌, ◌<◌, ◌≤◌, ℕ, List, Option, Some, None, Result, slice_index};
+ghost use Rattle.std.specs.Prelude.{◌≡◌, ◌≢◌, ◌⊎◌, ◌^◌, ◌<◌, ◌≤◌, ℕ, List, Option, Some, None, Result, slice_index};
 ghost use Rattle.tlsf_heap.specs.declared.name.Name.{Name};
-ghost use Rattle.tlsf_calls.specs.Bytes.{bytes_of};
 ghost use Rattle.tlsf_calls.specs.declared.call.Call.{Call};
-ghost use Rattle.tlsf_calls.specs.declared.call.Call.TheVariants.{Allocate, Release, Write, Read, Resize, Take, Drain};
-ghost use Rattle.tlsf_calls.specs.declared.chunk.Chunk.{Chunk};
+ghost use Rattle.tlsf_calls.specs.declared.call.Call.TheVariants.{Release, Take, Drain};
 ghost use Rattle.tlsf_calls.specs.declared.crew_refusal.CrewRefusal.{CrewRefusal};
-ghost use Rattle.tlsf_calls.specs.declared.crew_refusal.CrewRefusal.TheVariants.{Stranger, Unmade};
+ghost use Rattle.tlsf_calls.specs.declared.crew_refusal.CrewRefusal.TheVariants.{Stranger};
 ghost use Rattle.tlsf_calls.specs.declared.drained.Drained.{Drained as WasDrained};
 ghost use Rattle.tlsf_calls.specs.declared.entry.Entry.{Entry};
 ghost use Rattle.tlsf_calls.specs.declared.released.Released.{Released};
@@ -18,10 +16,10 @@ ghost use Rattle.tlsf_crew.specs.declared.worker.worker.Worker.{Worker};
 ghost use Rattle.tlsf_crew.specs.declared.scripts.journal.Journal.{Journal};
 ghost use Rattle.tlsf_crew.specs.worker.Notes.{AllNoted};
 ghost use Rattle.tlsf_crew.specs.scripts.Journals.{IsAdmitted, IsEntered, named_by};
-ghost use Rattle.tlsf_crew.specs.model.OwnReplies.{own_allocating, own_writing, own_reading, own_resizing};
-ghost use Rattle.tlsf_crew.specs.scripts.Scripts.{reply_took, AreMoves, ReleasedAnywhere, Step, TakenWithin, reply_released};
+ghost use Rattle.tlsf_crew.specs.worker.Calls.{ReleasedThere};
+ghost use Rattle.tlsf_crew.specs.scripts.Scripts.{reply_took, AreMoves, QuietCall, Step, TakenWithin, reply_released};
 ghost use Rattle.tlsf_crew.specs.model.Told.{Told};
-ghost use Rattle.tlsf_crew.specs.worker.Workers.{heap_of, SameButHeap};
+ghost use Rattle.tlsf_crew.specs.worker.Workers.{id_of};
 ghost use Rattle.tlsf_crew.specs.model.World.{name_of};
 
 use crate::worker::ports::Exchange;
@@ -59,26 +57,17 @@ pub(crate) trait Scripted<C>: Exchange<C> {
         ensures { (sli n : ℕ) (a v : Worker sli Self) (limits left : List ℕ) (call : Call) (made : List (Option Name)) (entries longer : List Entry) (reply : Reply)
             → steps sli n a limits call made entries v left longer reply → Step (tells sli n) (moves sli) a limits call made entries v left longer reply };
 
-    /// What the own heap replies is a step.
-    fn own_replies_step()
-        ensures allocated { (sli n : ℕ) (a v : Worker sli Self) (limits : List ℕ) (len : ℕ) (made : List (Option Name)) (entries : List Entry) (reply : Reply) → knows sli n a → SameButHeap a v → Self.keeps_yards sli a v
-            → reply ≡ (own_allocating sli (heap_of a) len).reply → heap_of v ≡ (own_allocating sli (heap_of a) len).heap → steps sli n a limits (Allocate len) made entries v limits entries reply }
-        ensures written { (sli n : ℕ) (a v : Worker sli Self) (limits : List ℕ) (target : Target) (from : ℕ) (bytes : Chunk) (made : List (Option Name)) (entries : List Entry) (reply : Reply) → knows sli n a → SameButHeap a v
-            → reply ≡ (own_writing (heap_of a) (name_of made target) from (bytes_of bytes)).reply → heap_of v ≡ (own_writing (heap_of a) (name_of made target) from (bytes_of bytes)).heap
-            → steps sli n a limits (Write target from bytes) made entries v limits entries reply }
-        ensures read { (sli n : ℕ) (a v : Worker sli Self) (limits : List ℕ) (target : Target) (from k : ℕ) (made : List (Option Name)) (entries : List Entry) (reply : Reply) → knows sli n a → SameButHeap a v
-            → reply ≡ (own_reading (heap_of a) (name_of made target) from k).reply → heap_of v ≡ (own_reading (heap_of a) (name_of made target) from k).heap
-            → steps sli n a limits (Read target from k) made entries v limits entries reply }
-        ensures resized { (sli n : ℕ) (a v : Worker sli Self) (limits : List ℕ) (target : Target) (len : ℕ) (made : List (Option Name)) (entries : List Entry) (reply : Reply) → knows sli n a → SameButHeap a v
-            → reply ≡ (own_resizing (heap_of a) (name_of made target) len).reply → heap_of v ≡ (own_resizing (heap_of a) (name_of made target) len).heap
-            → steps sli n a limits (Resize target len) made entries v limits entries reply };
+    /// A call that posts and takes nothing, and is answered as the model answers it, is a step.
+    fn quiet_step()
+        ensures { (sli n : ℕ) (a v : Worker sli Self) (limits : List ℕ) (call : Call) (made : List (Option Name)) (entries : List Entry) (reply : Reply) → knows sli n a → Self.keeps_yards sli a v
+            → QuietCall n a v call made entries reply → steps sli n a limits call made entries v limits entries reply };
 
-    /// What a release answers is a step.
-    fn releases_step()
-        ensures unmade { (sli n : ℕ) (a : Worker sli Self) (limits : List ℕ) (target : Target) (made : List (Option Name)) (entries : List Entry) → knows sli n a → name_of made target ≡ None
-            → steps sli n a limits (Release target) made entries a limits entries (Refused Unmade) }
-        ensures named { (sli n : ℕ) (a v : Worker sli Self) (limits : List ℕ) (target : Target) (name : Name) (made : List (Option Name)) (entries : List Entry) (answer : Result Released CrewRefusal) → knows sli n a
-            → name_of made target ≡ Some name → ReleasedAnywhere Self.reaches Self.puts a v name answer → steps sli n a limits (Release target) made entries v limits entries (reply_released answer) };
+    /// What a post answers is a step. There is a port to each other worker, and to none else.
+    fn posts_step()
+        ensures posted { (sli n : ℕ) (a v : Worker sli Self) (limits : List ℕ) (target : Target) (name : Name) (made : List (Option Name)) (entries : List Entry) (answer : Result Released CrewRefusal) → knows sli n a
+            → name_of made target ≡ Some name → name.heap ≢ id_of a → Self.reaches a.ports name.heap → ReleasedThere Self.puts a v name answer
+            → steps sli n a limits (Release target) made entries v limits entries (reply_released answer) }
+        ensures reached { (sli n : ℕ) (a : Worker sli Self) (j : ℕ) → knows sli n a → Self.reaches a.ports j ⊎ ((j ≢ id_of a → n ≤ j) × ¬ (Self.reaches a.ports j)) };
 
     /// What a take answers is a step: it is refused where no source is that worker's.
     fn takes_step()

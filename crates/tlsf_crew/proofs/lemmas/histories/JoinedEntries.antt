@@ -9,7 +9,7 @@ use Rattle.tlsf_heap.specs.Blocks.{HeapState}
 use Rattle.tlsf_heap.specs.Calls as heap
 use Rattle.tlsf_heap.specs.declared.name.Name.{Name}
 use Rattle.tlsf_calls.specs.declared.entry.Entry.{Entry}
-use Rattle.tlsf_crew.specs.histories.History.{RunsTo, answer_told, answers_on, call_on_own, calls_on, entries_of, handed_on, post_of_release, post_of_take, posts_made, posts_taken}
+use Rattle.tlsf_crew.specs.histories.History.{IsNoPost, RunsTo, answer_told, answers_on, call_on_own, calls_on, entries_of, handed_on, post_of_release, post_of_take, posts_made, posts_taken}
 use Rattle.tlsf_crew.specs.model.World.{World, heap_in}
 
 -- ---- runs in turn
@@ -112,11 +112,6 @@ heap_of_own_call made w v e c j =
 pub own_each : {sli : ℕ} (made : List (Option Name)) (w v : World sli) (e : Entry) (workers : ℕ) → IsOwnCall made w e v → All (HasItsAnswer made workers) (e ∷ [])
 own_each made w v e workers c =
     All-cons (HasItsAnswer made workers) e [] (λ _. length_told (heap_in w e.worker) (heap_in v e.worker) _ _ c.own) (All-nil (HasItsAnswer made workers))
-
--- an entry that tells of no lane
-pub record IsNoPost (made : List (Option Name)) (e : Entry) : Type 0 where
-  pub made_none : (j : ℕ) → post_of_release j made e.worker e.call e.reply ≡ None
-  pub taken_none : (i : ℕ) → post_of_take i e.call e.reply ≡ None
 
 pub quiet_posts : {sli : ℕ} (made : List (Option Name)) (w v : World sli) (e : Entry) → IsNoPost made e → v.waiting ≡ w.waiting → (i j : ℕ)
     → w.waiting i j ++ posts_made i j made (e ∷ []) ≡ posts_taken i j (e ∷ []) ++ v.waiting i j

@@ -12,14 +12,14 @@ use Rattle.tlsf_calls.specs.declared.entry.Entry.{Entry}
 use Rattle.tlsf_calls.specs.declared.call.Call.TheVariants.{Release, Take}
 use Rattle.tlsf_calls.specs.declared.target.Target.{Target}
 use Rattle.tlsf_calls.specs.declared.reply.Reply.{Reply}
-use Rattle.tlsf_calls.specs.declared.reply.Reply.TheVariants.{Posted, Empty, Refused}
+use Rattle.tlsf_calls.specs.declared.reply.Reply.TheVariants.{Freed, Posted, Empty, Refused}
 use Rattle.tlsf_calls.specs.declared.crew_refusal.CrewRefusal.TheVariants.{Full, Stranger, Unmade}
 use Rattle.tlsf_crew.specs.model.Heaps.{released}
 use Rattle.tlsf_crew.specs.histories.History.{answer_told, call_on_own, meant, of_heap, post_of_release, post_of_take, posts_made, posts_taken}
 use Rattle.tlsf_crew.specs.model.World.{World, heap_in, with_heap, with_waiting, freeing, posting, releasing_named, taking, taking_next, took, took_first, reply_freed, name_of}
 use Rattle.tlsf_crew.proofs.lemmas.model.OneEvent.{releasing_post, releasing_far, taking_lane, taking_own, taking_far}
 use Rattle.tlsf_crew.proofs.lemmas.model.Edits.{edited_same, edited_other}
-use Rattle.tlsf_crew.proofs.lemmas.histories.OwnCalls.{Tells1, done_here, none_done}
+use Rattle.tlsf_crew.proofs.lemmas.histories.OwnCalls.{Tells1, by_meant, done_here, done_told, none_done}
 use Rattle.tlsf_crew.proofs.lemmas.histories.JoinedEntries.{history_quiet, own_each, heap_of_own_call, told_nothing, told_other, told_own}
 
 pub of_same : (j : ℕ) (name : Name) → name.heap ≡ j → of_heap j (Some name) ≡ Some name
@@ -34,10 +34,6 @@ answer_of_freed : (target : Target) (r : Result (Unit {0}) Refusal) → answer_t
 answer_of_freed target (Ok done) = refl
 answer_of_freed target (Err why) = refl
 
-freed_meant : (made : List (Option Name)) (target : Target) (r : Result (Unit {0}) Refusal) → meant made target (reply_freed r) ≡ name_of made target
-freed_meant made target (Ok done) = refl
-freed_meant made target (Err why) = refl
-
 freed_made : (made : List (Option Name)) (j at : ℕ) (target : Target) (r : Result (Unit {0}) Refusal) → post_of_release j made at (Release target) (reply_freed r) ≡ None
 freed_made made j at target (Ok done) = refl
 freed_made made j at target (Err why) = refl
@@ -46,12 +42,10 @@ own_release_told : {sli : ℕ} (made : List (Option Name)) (w : World sli) (at :
     → Tells1 made w at (Release target) (freeing w at name)
 unfolding released
 own_release_told made w at target name at_in own known =
-    let a = freeing w at name in
     let r = (heap.released (heap_in w at) name).answer in
-    let on_own : call_on_own made at (Release target) a.reply ≡ Some (heap.Release name) = rw (freed_meant made target r, known, of_same at name own) refl in
-    history_quiet made w a.world (record { worker = at; call = Release target; reply = a.reply })
-    (done_here made w at (Release target) a.reply (heap.Release name) at_in on_own (answer_of_freed target r))
-    (record { made_none = λ j. freed_made made j at target r; taken_none = λ i. refl }) refl (length-set w.heaps at (heap.released (heap_in w at) name).heap)
+    let named : meant made target (reply_freed r) ≡ Some name = by_meant made target (λ done. Freed) r (λ done. refl) ∙ known in
+    done_told made w at (Release target) _ (heap.Release name) at_in (rw (named, of_same at name own) refl) (answer_of_freed target r)
+    (record { made_none = λ j. freed_made made j at target r; taken_none = λ i. refl })
 
 -- ---- release of another's name
 

@@ -3,38 +3,23 @@ use Rattle.std.proofs.Common.{[], ◌∷◌, ◌≡◌, ◌≢◌, ◌==◌, ◌
 use Rattle.std.specs.Prelude.{◌↔◌}
 use Rattle.std.proofs.lemmas.Bool.{cases_eq, cases_lt}
 use Rattle.std.proofs.lemmas.Bool.Decides.{nat_tests}
+use Rattle.tlsf_heap.specs.Blocks.{HeapState}
 use Rattle.tlsf_heap.specs.declared.name.Name.{Name}
 use Rattle.tlsf_heap.specs.declared.refusal.Refusal.{Refusal}
 use Rattle.tlsf_post.specs.declared.post.Post.{Post}
 use Rattle.tlsf_calls.specs.declared.call.Call.TheVariants.{Take}
-use Rattle.tlsf_calls.specs.declared.chunk.Chunk.{Chunk}
 use Rattle.tlsf_calls.specs.declared.reply.Reply.{Reply}
-use Rattle.tlsf_calls.specs.declared.reply.Reply.TheVariants.{Refused}
+use Rattle.tlsf_calls.specs.declared.reply.Reply.TheVariants.{Freed, Made, Wrote, Got, Resized, Refused}
 use Rattle.tlsf_calls.specs.declared.crew_refusal.CrewRefusal.TheVariants.{Unmade}
+use Rattle.tlsf_crew.specs.model.OwnReplies.{OwnReplied, own_named, reply_by}
 use Rattle.tlsf_crew.specs.histories.History.{AnswersPost, TookFromOther}
 use Rattle.tlsf_crew.specs.model.Heaps.{allocated, chunk_read, released, resized, written}
-use Rattle.tlsf_crew.specs.model.World.{World, allocating, heap_in, posting, reading_named, releasing, releasing_named, reply_freed, reply_got, reply_made, reply_resized, reply_wrote, resizing_named, taking, taking_next, took_first, writing_named}
+use Rattle.tlsf_crew.specs.model.World.{World, allocating, heap_in, posting, reading_named, releasing, releasing_named, resizing_named, taking, taking_next, took_first, writing_named}
 use Rattle.tlsf_crew.proofs.lemmas.model.OneEvent.{releasing_post, releasing_far, taking_lane, taking_own, taking_far}
 
-made_known : (r : Result Name Refusal) → reply_made r ≢ Refused Unmade
-made_known (Ok name) e = cc
-made_known (Err why) e = cc
-
-freed_known : (r : Result (Unit {0}) Refusal) → reply_freed r ≢ Refused Unmade
-freed_known (Ok done) e = cc
-freed_known (Err why) e = cc
-
-wrote_known : (n : ℕ) (r : Result (Unit {0}) Refusal) → reply_wrote n r ≢ Refused Unmade
-wrote_known n (Ok done) e = cc
-wrote_known n (Err why) e = cc
-
-got_known : (r : Result Chunk Refusal) → reply_got r ≢ Refused Unmade
-got_known (Ok bytes) e = cc
-got_known (Err why) e = cc
-
-resize_known : (r : Result (Unit {0}) Refusal) → reply_resized r ≢ Refused Unmade
-resize_known (Ok done) e = cc
-resize_known (Err why) e = cc
+by_known : {A : Type 0} (given : A → Reply) (r : Result A Refusal) → ((x : A) → given x ≢ Refused Unmade) → reply_by given r ≢ Refused Unmade
+by_known given (Ok x) f = f x
+by_known given (Err why) f = λ e. cc
 
 post_known : {sli : ℕ} (w : World sli) (at : ℕ) (name : Name) → (posting w at name).reply ≢ Refused Unmade
 unfolding posting
@@ -47,7 +32,7 @@ post_known w at name =
 release_meant : {sli : ℕ} (w : World sli) (at : ℕ) (name : Name) → (releasing w at name).reply ≢ Refused Unmade
 release_meant w at name =
     elim (cases_eq name.heap at) [
-      | inl own ↦ let b : (name.heap == at) ≡ true = grind (arith, nat_tests) in rw b (freed_known (released (heap_in w at) name).answer)
+      | inl own ↦ let b : (name.heap == at) ≡ true = grind (arith, nat_tests) in rw b (by_known (λ done. Freed) (released (heap_in w at) name).answer (λ done e. cc))
       | inr ne ↦ elim (cases_lt name.heap (length w.heaps)) [
         | inl lt ↦ rw (releasing_post w at name ne lt) (post_known w at name)
         | inr ge ↦ rw (releasing_far w at name ne ge) (λ q. cc)
@@ -76,7 +61,7 @@ some_named : (name : Name) (reply : Reply) → reply ≢ Refused Unmade → (rep
 some_named name reply known = ((λ e. absurd (known e)), (λ e. cc))
 
 pub allocate_unmade : {sli : ℕ} (w : World sli) (at len : ℕ) → ((allocating w at len).reply ≡ Refused Unmade) ↔ ⊥
-allocate_unmade {sli} w at len = (made_known (allocated sli (heap_in w at) len).answer, (λ e. absurd e))
+allocate_unmade {sli} w at len = (by_known Made (allocated sli (heap_in w at) len).answer (λ name e. cc), (λ e. absurd e))
 
 pub take_unmade : {sli : ℕ} (w : World sli) (at from : ℕ) → ((taking w at from).reply ≡ Refused Unmade) ↔ ⊥
 take_unmade w at from = (take_known w at from, (λ e. absurd e))
@@ -85,17 +70,18 @@ pub release_unmade : {sli : ℕ} (w : World sli) (at : ℕ) (o : Option Name) �
 release_unmade w at None = ((λ e. refl), (λ e. refl))
 release_unmade w at (Some name) = some_named name (releasing w at name).reply (release_meant w at name)
 
+named_unmade : (h : HeapState) (by : Name → OwnReplied) (o : Option Name) → ((name : Name) → (by name).reply ≢ Refused Unmade) → ((own_named h by o).reply ≡ Refused Unmade) ↔ (o ≡ None)
+named_unmade h by None f = ((λ e. refl), (λ e. refl))
+named_unmade h by (Some name) f = some_named name (by name).reply (f name)
+
 pub write_unmade : {sli : ℕ} (w : World sli) (at from : ℕ) (bytes : List ℕ) (o : Option Name) → ((writing_named w at o from bytes).reply ≡ Refused Unmade) ↔ (o ≡ None)
-write_unmade w at from bytes None = ((λ e. refl), (λ e. refl))
-write_unmade w at from bytes (Some name) = some_named name _ (wrote_known (length bytes) (written (heap_in w at) name from bytes).answer)
+write_unmade w at from bytes o = named_unmade (heap_in w at) _ o (λ name. by_known (λ done. Wrote (length bytes)) (written (heap_in w at) name from bytes).answer (λ done e. cc))
 
 pub read_unmade : {sli : ℕ} (w : World sli) (at from n : ℕ) (o : Option Name) → ((reading_named w at o from n).reply ≡ Refused Unmade) ↔ (o ≡ None)
-read_unmade w at from n None = ((λ e. refl), (λ e. refl))
-read_unmade w at from n (Some name) = some_named name _ (got_known (chunk_read (heap_in w at) name from n))
+read_unmade w at from n o = named_unmade (heap_in w at) _ o (λ name. by_known Got (chunk_read (heap_in w at) name from n) (λ bytes e. cc))
 
 pub resize_unmade : {sli : ℕ} (w : World sli) (at len : ℕ) (o : Option Name) → ((resizing_named w at o len).reply ≡ Refused Unmade) ↔ (o ≡ None)
-resize_unmade w at len None = ((λ e. refl), (λ e. refl))
-resize_unmade w at len (Some name) = some_named name _ (resize_known (resized (heap_in w at) name len).answer)
+resize_unmade w at len o = named_unmade (heap_in w at) _ o (λ name. by_known (λ done. Resized) (resized (heap_in w at) name len).answer (λ done e. cc))
 
 -- ---- a release of a block of another's heap
 

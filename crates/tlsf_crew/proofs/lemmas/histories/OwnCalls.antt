@@ -13,16 +13,16 @@ use Rattle.tlsf_heap.specs.declared.refusal.Refusal.{Refusal}
 use Rattle.tlsf_heap.specs.declared.refusal.Refusal.TheVariants.{Foreign, Range}
 use Rattle.tlsf_calls.specs.Bytes.{bytes_of}
 use Rattle.tlsf_calls.specs.declared.chunk.Chunk.{Chunk}
-use Rattle.tlsf_calls.specs.declared.entry.Entry.{Entry}
 use Rattle.tlsf_calls.specs.declared.call.Call.{Call}
 use Rattle.tlsf_calls.specs.declared.call.Call.TheVariants.{Allocate, Write, Read, Resize}
 use Rattle.tlsf_calls.specs.declared.target.Target.{Target}
 use Rattle.tlsf_calls.specs.declared.reply.Reply.{Reply}
-use Rattle.tlsf_calls.specs.declared.reply.Reply.TheVariants.{Refused}
+use Rattle.tlsf_calls.specs.declared.reply.Reply.TheVariants.{Got, Resized, Wrote, Refused}
 use Rattle.tlsf_calls.specs.declared.crew_refusal.CrewRefusal.TheVariants.{Unmade}
 use Rattle.tlsf_crew.specs.model.Heaps.{allocated, written, resized, chunk_read, as_chunk, too_many}
-use Rattle.tlsf_crew.specs.histories.History.{RunsTo, answer_told, call_on_own, handed_on, meant}
-use Rattle.tlsf_crew.specs.model.World.{World, Replied, heap_in, with_heap, allocating, writing_named, reading_named, resizing_named, reply_made, reply_wrote, reply_got, reply_resized, name_of, no_heap}
+use Rattle.tlsf_crew.specs.histories.History.{IsNoPost, RunsTo, answer_told, call_on_own, handed_on, meant}
+use Rattle.tlsf_crew.specs.model.World.{World, Replied, by_own, heap_in, with_heap, allocating, writing_named, reading_named, resizing_named, reply_made, reply_wrote, reply_got, reply_resized, name_of, no_heap}
+use Rattle.tlsf_crew.specs.model.OwnReplies.{own_unmade, reply_by}
 use Rattle.tlsf_calls.proofs.Padding.{bytes_back}
 use Rattle.tlsf_crew.proofs.lemmas.model.ChunkReads.{read_few, read_many}
 use Rattle.tlsf_crew.proofs.lemmas.histories.JoinedEntries.{IsHistory, IsOwnCall, history_quiet}
@@ -67,10 +67,26 @@ none_done {sli} made w v at call reply x y same =
       others = λ j ne. as_was j;
     }
 
+pub by_meant : {A : Type 0} (made : List (Option Name)) (target : Target) (given : A → Reply) (r : Result A Refusal) → ((x : A) → meant made target (given x) ≡ name_of made target)
+    → meant made target (reply_by given r) ≡ name_of made target
+by_meant made target given (Ok x) f = f x
+by_meant made target given (Err why) f = refl
+
 -- the target means no name: the heap stays
-unmade_done : {sli : ℕ} (made : List (Option Name)) (w : World sli) (at : ℕ) (call : Call) → call_on_own made at call (Refused Unmade) ≡ None → answer_told call (Refused Unmade) ≡ None
-    → IsOwnCall made w (record { worker = at; call = call; reply = Refused Unmade }) (with_heap w at (heap_in w at))
-unmade_done made w at call x y = none_done made w (with_heap w at (heap_in w at)) at call (Refused Unmade) x y (set-get_or w.heaps at no_heap)
+unmade_told : {sli : ℕ} (made : List (Option Name)) (w : World sli) (at : ℕ) (call : Call) → call_on_own made at call (Refused Unmade) ≡ None → answer_told call (Refused Unmade) ≡ None
+    → IsNoPost made (record { worker = at; call = call; reply = Refused Unmade }) → Tells1 made w at call (by_own w at own_unmade)
+unmade_told made w at call x y silent =
+    let v = with_heap w at (heap_in w at) in
+    history_quiet made w v (record { worker = at; call = call; reply = Refused Unmade }) (none_done made w v at call (Refused Unmade) x y (set-get_or w.heaps at no_heap))
+    silent refl (length-set w.heaps at (heap_in w at))
+
+-- the heap does the call
+pub done_told : {sli : ℕ} (made : List (Option Name)) (w : World sli) (at : ℕ) (call : Call) (reply : Reply) (own : heap.Call) → at < length w.heaps → call_on_own made at call reply ≡ Some own
+    → answer_told call reply ≡ Some (handed_on (heap.answered sli (heap_in w at) own).0) → IsNoPost made (record { worker = at; call = call; reply = reply })
+    → Tells1 made w at call (record { reply = reply; world = with_heap w at (heap.answered sli (heap_in w at) own).1 })
+done_told {sli} made w at call reply own at_in x y silent =
+    let g = (heap.answered sli (heap_in w at) own).1 in
+    history_quiet made w (with_heap w at g) (record { worker = at; call = call; reply = reply }) (done_here made w at call reply own at_in x y) silent refl (length-set w.heaps at g)
 
 -- ---- allocate
 
@@ -81,10 +97,7 @@ made_told len (Err why) = refl
 pub allocate_told : {sli : ℕ} (made : List (Option Name)) (w : World sli) (at len : ℕ) → at < length w.heaps → Tells1 made w at (Allocate len) (allocating w at len)
 unfolding allocated
 allocate_told {sli} made w at len at_in =
-    let a = allocating w at len in
-    history_quiet made w a.world (record { worker = at; call = Allocate len; reply = a.reply })
-    (done_here made w at (Allocate len) a.reply (heap.Allocate len) at_in refl (made_told len (heap.allocated sli (heap_in w at) len).answer))
-    (record { made_none = λ j. refl; taken_none = λ i. refl }) refl (length-set w.heaps at (heap.allocated sli (heap_in w at) len).heap)
+    done_told made w at (Allocate len) _ (heap.Allocate len) at_in refl (made_told len (heap.allocated sli (heap_in w at) len).answer) (record { made_none = λ j. refl; taken_none = λ i. refl })
 
 -- ---- write
 
@@ -95,24 +108,14 @@ wrote_told : (target : Target) (from : ℕ) (chunk : Chunk) (r : Result (Unit {0
 wrote_told target from chunk (Ok done) = rw (same_number (length (bytes_of chunk))) refl
 wrote_told target from chunk (Err why) = refl
 
-wrote_meant : (made : List (Option Name)) (target : Target) (n : ℕ) (r : Result (Unit {0}) Refusal) → meant made target (reply_wrote n r) ≡ name_of made target
-wrote_meant made target n (Ok done) = refl
-wrote_meant made target n (Err why) = refl
-
 pub write_told : {sli : ℕ} (made : List (Option Name)) (w : World sli) (at from : ℕ) (target : Target) (chunk : Chunk) (o : Option Name) → at < length w.heaps
     → ((name : Name) → o ≡ Some name → name_of made target ≡ Some name) → Tells1 made w at (Write target from chunk) (writing_named w at o from (bytes_of chunk))
 unfolding written
-write_told made w at from target chunk None at_in known =
-    history_quiet made w (with_heap w at (heap_in w at)) (record { worker = at; call = Write target from chunk; reply = Refused Unmade }) (unmade_done made w at (Write target from chunk) refl refl)
-    (record { made_none = λ j. refl; taken_none = λ i. refl }) refl (length-set w.heaps at (heap_in w at))
+write_told made w at from target chunk None at_in known = unmade_told made w at (Write target from chunk) refl refl (record { made_none = λ j. refl; taken_none = λ i. refl })
 write_told made w at from target chunk (Some name) at_in known =
-    let a = writing_named w at (Some name) from (bytes_of chunk) in
     let r = (heap.written (heap_in w at) name from (bytes_of chunk)).answer in
-    let named : meant made target a.reply ≡ Some name = wrote_meant made target (length (bytes_of chunk)) r ∙ known name refl in
-    let on_own : call_on_own made at (Write target from chunk) a.reply ≡ Some (heap.Write name from (bytes_of chunk)) = rw named refl in
-    history_quiet made w a.world (record { worker = at; call = Write target from chunk; reply = a.reply })
-    (done_here made w at (Write target from chunk) a.reply (heap.Write name from (bytes_of chunk)) at_in on_own (wrote_told target from chunk r))
-    (record { made_none = λ j. refl; taken_none = λ i. refl }) refl (length-set w.heaps at (heap.written (heap_in w at) name from (bytes_of chunk)).heap)
+    let named : meant made target (reply_wrote (length (bytes_of chunk)) r) ≡ Some name = by_meant made target (λ done. Wrote (length (bytes_of chunk))) r (λ done. refl) ∙ known name refl in
+    done_told made w at (Write target from chunk) _ (heap.Write name from (bytes_of chunk)) at_in (rw named refl) (wrote_told target from chunk r) (record { made_none = λ j. refl; taken_none = λ i. refl })
 
 -- ---- resize
 
@@ -120,24 +123,14 @@ resize_answer_told : (target : Target) (len : ℕ) (r : Result (Unit {0}) Refusa
 resize_answer_told target len (Ok done) = refl
 resize_answer_told target len (Err why) = refl
 
-resize_meant : (made : List (Option Name)) (target : Target) (r : Result (Unit {0}) Refusal) → meant made target (reply_resized r) ≡ name_of made target
-resize_meant made target (Ok done) = refl
-resize_meant made target (Err why) = refl
-
 pub resize_told : {sli : ℕ} (made : List (Option Name)) (w : World sli) (at len : ℕ) (target : Target) (o : Option Name) → at < length w.heaps
     → ((name : Name) → o ≡ Some name → name_of made target ≡ Some name) → Tells1 made w at (Resize target len) (resizing_named w at o len)
 unfolding resized
-resize_told made w at len target None at_in known =
-    history_quiet made w (with_heap w at (heap_in w at)) (record { worker = at; call = Resize target len; reply = Refused Unmade }) (unmade_done made w at (Resize target len) refl refl)
-    (record { made_none = λ j. refl; taken_none = λ i. refl }) refl (length-set w.heaps at (heap_in w at))
+resize_told made w at len target None at_in known = unmade_told made w at (Resize target len) refl refl (record { made_none = λ j. refl; taken_none = λ i. refl })
 resize_told made w at len target (Some name) at_in known =
-    let a = resizing_named w at (Some name) len in
     let r = (heap.resized (heap_in w at) name len).answer in
-    let named : meant made target a.reply ≡ Some name = resize_meant made target r ∙ known name refl in
-    let on_own : call_on_own made at (Resize target len) a.reply ≡ Some (heap.Resize name len) = rw named refl in
-    history_quiet made w a.world (record { worker = at; call = Resize target len; reply = a.reply })
-    (done_here made w at (Resize target len) a.reply (heap.Resize name len) at_in on_own (resize_answer_told target len r))
-    (record { made_none = λ j. refl; taken_none = λ i. refl }) refl (length-set w.heaps at (heap.resized (heap_in w at) name len).heap)
+    let named : meant made target (reply_resized r) ≡ Some name = by_meant made target (λ done. Resized) r (λ done. refl) ∙ known name refl in
+    done_told made w at (Resize target len) _ (heap.Resize name len) at_in (rw named refl) (resize_answer_told target len r) (record { made_none = λ j. refl; taken_none = λ i. refl })
 
 -- ---- read
 
@@ -148,10 +141,6 @@ bytes_got (Err why) = Err why
 got_told : (target : Target) (from n : ℕ) (r : Result Chunk Refusal) → answer_told (Read target from n) (reply_got r) ≡ Some (heap.Got (bytes_got r))
 got_told target from n (Ok chunk) = refl
 got_told target from n (Err why) = refl
-
-got_meant : (made : List (Option Name)) (target : Target) (r : Result Chunk Refusal) → meant made target (reply_got r) ≡ name_of made target
-got_meant made target (Ok chunk) = refl
-got_meant made target (Err why) = refl
 
 -- up to 64 bytes are handed on
 few_got : (block : blocks.Block) (at n : ℕ) (b : Bool) → n ≤ 64
@@ -208,14 +197,9 @@ read_handed h name at n =
 
 pub read_told : {sli : ℕ} (made : List (Option Name)) (w : World sli) (at from n : ℕ) (target : Target) (o : Option Name) → at < length w.heaps
     → ((name : Name) → o ≡ Some name → name_of made target ≡ Some name) → Tells1 made w at (Read target from n) (reading_named w at o from n)
-read_told made w at from n target None at_in known =
-    history_quiet made w (with_heap w at (heap_in w at)) (record { worker = at; call = Read target from n; reply = Refused Unmade }) (unmade_done made w at (Read target from n) refl refl)
-    (record { made_none = λ j. refl; taken_none = λ i. refl }) refl (length-set w.heaps at (heap_in w at))
+read_told made w at from n target None at_in known = unmade_told made w at (Read target from n) refl refl (record { made_none = λ j. refl; taken_none = λ i. refl })
 read_told made w at from n target (Some name) at_in known =
-    let a = reading_named w at (Some name) from n in
     let r = chunk_read (heap_in w at) name from n in
-    let named : meant made target a.reply ≡ Some name = got_meant made target r ∙ known name refl in
-    let on_own : call_on_own made at (Read target from n) a.reply ≡ Some (heap.Read name from n) = rw named refl in
-    let e : Entry = record { worker = at; call = Read target from n; reply = a.reply } in
-    let done = done_here made w at (Read target from n) a.reply (heap.Read name from n) at_in on_own (got_told target from n r ∙ ap Some (read_handed (heap_in w at) name from n)) in
-    history_quiet made w a.world e done (record { made_none = λ j. refl; taken_none = λ i. refl }) refl (length-set w.heaps at (heap_in w at))
+    let named : meant made target (reply_got r) ≡ Some name = by_meant made target Got r (λ bytes. refl) ∙ known name refl in
+    done_told made w at (Read target from n) _ (heap.Read name from n) at_in (rw named refl) (got_told target from n r ∙ ap Some (read_handed (heap_in w at) name from n))
+    (record { made_none = λ j. refl; taken_none = λ i. refl })

@@ -1,5 +1,5 @@
 -- Takes one after another from a lane, and from lane after lane, make up a drain.
-use Rattle.std.proofs.Common.{◌++◌, ◌≡◌, ◌-◌, ◌⊎◌, ℕ, zero, suc, List, Option, Some, None, length, refl, sym, ◌∙◌, ap, subst, inl, inr}
+use Rattle.std.proofs.Common.{◌++◌, ◌≡◌, ◌-◌, ℕ, zero, suc, List, Option, Some, None, length, refl, sym, ◌∙◌, ap, subst, inl, inr}
 use Rattle.std.proofs.lemmas.List.Sums.{fold-append}
 use Rattle.tlsf_heap.specs.Blocks.{HeapState}
 use Rattle.tlsf_heap.specs.Calls.{released}
@@ -18,6 +18,7 @@ use Rattle.tlsf_crew.specs.worker.Drains.{heap_after}
 use Rattle.tlsf_crew.specs.lanes.LaneNotes.{LaneNoted, EachLaneNoted, AllLanesNoted, StopsAtLane}
 use Rattle.tlsf_crew.specs.worker.Notes.{TurnNoted}
 use Rattle.tlsf_crew.proofs.lemmas.worker.PortsKept.{Keeping}
+use Rattle.tlsf_crew.proofs.lemmas.worker.Slots.{end_or}
 use Rattle.tlsf_crew.proofs.lemmas.worker.SourceTurns.{none_heap, takes_heap, takes_of, turns_keep}
 use Rattle.tlsf_crew.proofs.lemmas.lanes.YardKept.{same_keeps, put_keeps, take_keeps, heap_keeps, keeps_then}
 use Rattle.tlsf_crew.proofs.lemmas.worker.OwnHeaps.{call_keeps}
@@ -61,12 +62,8 @@ turns_below noted admitted a v x y most zero tooks all l = (l.0, l.1)
 turns_below noted admitted a v x y most (suc k) tooks all l =
     (l.0, l.2, l.3, l.4, turns_below noted admitted a l.0 x l.1 most k l.2 all l.5, turn_of noted admitted l.0 v l.1 y k (most - length l.2) l.3 all l.6)
 
-pub has_or : {X : Type 0} (o : Option X) → ((p : X) × (o ≡ Some p)) ⊎ ¬ ((p : X) × (o ≡ Some p))
-has_or None = inr (λ h. let e = h.1 in cc)
-has_or (Some p) = inl (p, refl)
-
 turn_heap : {sli : ℕ} (a v : Worker sli Lanes) (from most : ℕ) (tooks : List Took) → TurnDrained a v from most tooks → heap_of v ≡ heap_after (heap_of a) tooks
-turn_heap a v from most tooks t = elim (has_or (end_from a from)) [
+turn_heap a v from most tooks t = elim (end_or (end_from a from)) [
   | inl has ↦ lane_heap a v from most tooks (t.lane has)
   | inr none ↦ let n = t.nowhere none in rw (n.0) (ap heap_of n.1)
 ]
@@ -88,7 +85,7 @@ all_turns_keep : {sli : ℕ} (a v : Worker sli Lanes) (from : ℕ) (tooks : List
 all_turns_keep a v from tooks = turns_keep TookThrough KeepsYards same_keeps keeps_then one_turn_keeps a v from tooks
 
 turn_keeps : {sli : ℕ} (a v : Worker sli Lanes) (from most : ℕ) (tooks : List Took) → TurnDrained a v from most tooks → KeepsYards a v
-turn_keeps a v from most tooks t = elim (has_or (end_from a from)) [
+turn_keeps a v from most tooks t = elim (end_or (end_from a from)) [
   | inl has ↦
       let l = t.lane has in
       let k = all_turns_keep a l.last from tooks l.takes in
@@ -115,7 +112,7 @@ all_drained noted admitted a v x y most answer all d =
 
 pub lanes_keep_yards : {sli : ℕ} → Keeping {sli = sli} {P = Lanes} (λ p j. (end : PostEnd) × (lane_to p j ≡ Some end)) PutsIntoLane KeepsYards
 lanes_keep_yards = record {
-  either = λ p j. has_or (lane_to p j);
+  either = λ p j. end_or (lane_to p j);
   heap = heap_keeps;
   put = λ a v name answer same puts. put_keeps a v name.heap (record { from = id_of a; name = name }) puts.0 refl (same, puts.1);
 }

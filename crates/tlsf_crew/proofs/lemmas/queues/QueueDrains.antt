@@ -16,6 +16,7 @@ use Rattle.tlsf_crew.specs.queues.QueueCalls.{TakenFromQueue, DrainedQueue}
 use Rattle.tlsf_crew.specs.queues.QueueNotes.{QueueNoted, StopsAtQueue}
 use Rattle.tlsf_crew.proofs.lemmas.worker.OwnHeaps.{call_keeps}
 use Rattle.tlsf_crew.proofs.lemmas.worker.PortsKept.{Keeping}
+use Rattle.tlsf_crew.proofs.lemmas.worker.Slots.{end_or}
 use Rattle.tlsf_crew.proofs.lemmas.worker.SourceTurns.{none_heap, takes_heap, takes_of, turns_keep}
 use Rattle.tlsf_crew.proofs.lemmas.queues.QueueKept.{keeps_all, keeps_heap, keeps_put, keeps_take, keeps_then}
 
@@ -59,10 +60,6 @@ all_queue_drained {sli} noted admitted a v x y most tooks d n count =
     )
 
 -- ---- queues as ports
-
-end_or : (o : Option PosterEnd) → ((p : PosterEnd) × (o ≡ Some p)) ⊎ ¬ ((p : PosterEnd) × (o ≡ Some p))
-end_or None = inr (λ h. let e = h.1 in absurd cc)
-end_or (Some p) = inl (p, refl)
 
 pub queues_keep_yards : {sli : ℕ} → Keeping {sli = sli} {P = Queues} (λ p j. (end : PosterEnd) × (queue_to p j ≡ Some end)) PutsIntoQueue KeepsQueueYards
 queues_keep_yards = record {

@@ -25,7 +25,7 @@ use Rattle.tlsf_crew.proofs.lemmas.model.EventSteps.{after_near}
 use Rattle.tlsf_crew.proofs.lemmas.histories.JoinedEntries.{told_nothing, told_own, made_then, taken_then}
 use Rattle.tlsf_crew.proofs.lemmas.histories.LaneCalls.{of_same}
 use Rattle.tlsf_crew.proofs.lemmas.model.OneEvent.{releasing_far, releasing_post}
-use Rattle.tlsf_crew.proofs.lemmas.scripts.OwnAnswers.{own_name, posted_world, full_world}
+use Rattle.tlsf_crew.proofs.lemmas.scripts.OwnTold.{own_name, posted_world, full_world}
 use Rattle.tlsf_crew.proofs.lemmas.race_laws.RecordHistory.{knows_all, knows_one}
 use Rattle.tlsf_crew.specs.race_laws.Alone.{TakesNoPost}
 

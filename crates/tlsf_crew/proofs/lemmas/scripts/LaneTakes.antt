@@ -29,8 +29,7 @@ use Rattle.tlsf_crew.proofs.lemmas.scripts.ManyEntries.{moved_then, spent_then, 
 use Rattle.tlsf_crew.proofs.lemmas.histories.JoinedEntries.{taken_then}
 use Rattle.tlsf_crew.proofs.lemmas.scripts.LaneMoves.{taken_same, taken_elsewhere}
 use Rattle.tlsf_crew.proofs.lemmas.model.Sums.{same_sum}
-use Rattle.tlsf_crew.proofs.lemmas.worker.Slots.{from_slot}
-use Rattle.tlsf_crew.proofs.lemmas.lanes.LaneTurns.{has_or}
+use Rattle.tlsf_crew.proofs.lemmas.worker.Slots.{end_or, from_slot}
 use Rattle.tlsf_crew.proofs.lemmas.scripts.WithinTakes.{within_none, within_empty, within_some}
 use Rattle.tlsf_crew.proofs.lemmas.scripts.OneEntry.{moved_still, still_heap}
 
@@ -345,7 +344,7 @@ each_lane_spent {sli} n a v x y most (suc k) tooks known l =
     let count : length l.2 + length l.3 ≡ length tooks = sym (ap length l.4 ∙ length-append l.2 l.3) in
     let later : KnowsYard n b = lanes_knows n a b x.limits z.limits k x.entries.items z.entries.items (length l.2) before.takes known in
     let q : id_of b ≡ id_of a = id_below a b x.limits z.limits k x.entries.items z.entries.items (length l.2) before.takes in
-    elim (has_or (end_from b k)) [
+    elim (end_or (end_from b k)) [
       | inl has ↦
           let near = (later.from k).0 has in
           let first : HasTake a k = (known.from k).1 (near.0, λ e. near.1 (e ∙ sym q)) in

@@ -17,10 +17,10 @@ use Rattle.tlsf_crew.specs.worker.Workers.{id_of, SameButHeap}
 use Rattle.tlsf_crew.specs.lanes.LaneWorkers.{id_and_capacity, end_to, end_from, HasPost, HasTake, KnowsYard}
 use Rattle.tlsf_crew.specs.lanes.LaneCalls.{KeepsYards}
 use Rattle.tlsf_crew.specs.model.Sums.{sum_below}
-use Rattle.tlsf_crew.specs.histories.History.{posts_made, posts_taken, post_of_release, post_of_take, StandsBehind}
+use Rattle.tlsf_crew.specs.histories.History.{IsNoPost, posts_made, posts_taken, post_of_release, post_of_take, StandsBehind}
 use Rattle.tlsf_crew.specs.scripts.LaneMoves.{PostEndMoved, TakeEndMoved, Spent, LaneMoved}
 use Rattle.tlsf_crew.proofs.lemmas.lanes.LaneSlots.{same_parts}
-use Rattle.tlsf_crew.proofs.lemmas.histories.JoinedEntries.{made_then, taken_then, IsNoPost, told_nothing}
+use Rattle.tlsf_crew.proofs.lemmas.histories.JoinedEntries.{made_then, taken_then, told_nothing}
 use Rattle.tlsf_crew.proofs.lemmas.scripts.ManyEntries.{stands_split}
 
 -- ---- the ends that a worker knows

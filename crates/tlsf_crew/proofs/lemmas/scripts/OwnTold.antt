@@ -1,152 +1,211 @@
--- A call that a worker's own heap replied to is told as in a world in which the worker has that heap.
-use Rattle.std.proofs.Common.{[], ◌∷◌, ◌++◌, ◌≡◌, ◌≢◌, ℕ, ◌<◌, ◌≤◌, List, Option, Some, None, sym, ◌∙◌, ap, arith, refl}
+-- A call that takes nothing is answered as the model answers it, whatever the ports of its worker.
+use Rattle.std.proofs.Common.{◌==◌, true, false, ◌≡◌, ◌≢◌, ◌⊎◌, ℕ, ◌<◌, ◌≤◌, List, Option, Some, None, Result, Ok, Err, length, sym, ◌∙◌, ap, arith, refl, subst, inl, inr}
+use Rattle.std.proofs.lemmas.Bool.{cases_eq}
+use Rattle.std.proofs.lemmas.Bool.Decides.{nat_tests}
 use Rattle.tlsf_heap.specs.Blocks.{HeapState}
+use Rattle.tlsf_heap.specs.Calls as heap
 use Rattle.tlsf_heap.specs.declared.name.Name.{Name}
+use Rattle.tlsf_heap.specs.declared.refusal.Refusal.{Refusal}
 use Rattle.tlsf_calls.specs.Bytes.{bytes_of}
 use Rattle.tlsf_calls.specs.declared.chunk.Chunk.{Chunk}
 use Rattle.tlsf_calls.specs.declared.entry.Entry.{Entry}
 use Rattle.tlsf_calls.specs.declared.call.Call.{Call}
 use Rattle.tlsf_calls.specs.declared.call.Call.TheVariants.{Allocate, Release, Write, Read, Resize}
 use Rattle.tlsf_calls.specs.declared.target.Target.{Target}
+use Rattle.tlsf_calls.specs.declared.released.Released.{Released}
 use Rattle.tlsf_calls.specs.declared.reply.Reply.{Reply}
-use Rattle.tlsf_calls.specs.declared.reply.Reply.TheVariants.{Posted, Refused}
+use Rattle.tlsf_calls.specs.declared.reply.Reply.TheVariants.{Made, Posted, Wrote, Got, Resized, Refused}
+use Rattle.tlsf_calls.specs.declared.crew_refusal.CrewRefusal.{CrewRefusal}
 use Rattle.tlsf_calls.specs.declared.crew_refusal.CrewRefusal.TheVariants.{Full, Stranger, Unmade}
-use Rattle.tlsf_crew.specs.model.OwnReplies.{OwnReplied, own_allocating, own_freeing, own_writing, own_reading, own_resizing}
-use Rattle.tlsf_crew.specs.model.Told.{HasHeap, MayTell, told_by}
-use Rattle.tlsf_crew.specs.model.World.{World, Replied, answered, by_own, called, heap_in, made_by, name_of, releasing, releasing_named}
-use Rattle.tlsf_crew.specs.scripts.QueueMoves.{TellsOwn, entry_by, told_of}
+use Rattle.tlsf_crew.specs.declared.worker.worker.Worker.{Worker}
+use Rattle.tlsf_crew.specs.model.Heaps.{allocated, chunk_read, released, resized, written}
+use Rattle.tlsf_crew.specs.worker.Workers.{heap_of, id_of, SameButHeap, KeepsHeap}
+use Rattle.tlsf_crew.specs.worker.Calls.{ReleasedHere, ReleasedThere, freed_by, posted_as, put_answer}
+use Rattle.tlsf_crew.specs.model.OwnReplies.{HeapReplies, OwnReplied, own_allocating, own_freeing, own_named, own_writing, own_reading, own_resizing, reply_by, reply_freed}
+use Rattle.tlsf_crew.specs.scripts.Scripts.{IsQuiet, ReleasedAnywhere, QuietCall, entry_by, reply_released, told_of}
+use Rattle.tlsf_crew.specs.model.Told.{HasHeap, IsModelAnswer, MayTell, Told, told_by, told_more}
+use Rattle.tlsf_crew.specs.model.World.{World, Replied, answered, by_own, called, freeing, heap_in, name_of, posting, releasing, releasing_named}
 use Rattle.tlsf_crew.proofs.lemmas.model.OneEvent.{releasing_post, releasing_far}
-use Rattle.tlsf_crew.proofs.lemmas.scripts.OwnAnswers.{own_name, posted_world, full_world}
-use Rattle.tlsf_crew.proofs.lemmas.scripts.Witnesses.{a_world, world_has, heap_left}
+use Rattle.tlsf_crew.proofs.lemmas.worker.OwnHeaps.{call_keeps, same_heap_keeps}
+use Rattle.tlsf_crew.proofs.lemmas.scripts.Witnesses.{a_suit, heap_left}
+
+-- what the model answers, and the heap that it leaves the worker
+pub record ModelReplies {sli : ℕ} (at : ℕ) (reply : Reply) (g : HeapState) (x : Replied sli) : Type 0 where
+  pub same : reply ≡ x.reply
+  pub left : g ≡ heap_in x.world at
 
 -- one answer, as it is told
-told_answer : {sli : ℕ} (at : ℕ) (made : List (Option Name)) (entries : List Entry) (w : World sli) (call : Call) (reply : Reply) (g : HeapState) (x : Replied sli) → reply ≡ x.reply → heap_in x.world at ≡ g
-    → told_by at (answered (record { made = made; entries = entries; world = w }) at call x) ≡ told_of (made ++ made_by reply ∷ []) (entries ++ entry_by at call reply ∷ []) g
-told_answer at made entries w call reply g x e f = rw (e, ← f) refl
+answer_told : {sli : ℕ} (at : ℕ) (s : Told) (w : World sli) (call : Call) (reply : Reply) (g : HeapState) (x : Replied sli) → reply ≡ x.reply → g ≡ heap_in x.world at
+    → told_by at (answered (record { made = s.made; entries = s.entries; world = w }) at call x) ≡ told_more at s call reply g
+answer_told at s w call reply g x e f = rw (e, f) refl
 
--- what the model answers in a world in which a worker has a heap, by that heap
-record AnswersBy {sli : ℕ} (at : ℕ) (x : Replied sli) (reply : Reply) (g : HeapState) : Type 0 where
-  same : reply ≡ x.reply
-  left : heap_in x.world at ≡ g
+pub told_where : {sli : ℕ} (at : ℕ) (s : Told) (w : World sli) (call : Call) (reply : Reply) (g : HeapState) (x : Replied sli)
+    → called (record { made = s.made; entries = s.entries; world = w }) at call ≡ answered (record { made = s.made; entries = s.entries; world = w }) at call x → ModelReplies at reply g x
+    → told_by at (called (record { made = s.made; entries = s.entries; world = w }) at call) ≡ told_more at s call reply g
+told_where at s w call reply g x is a = ap (told_by at) is ∙ answer_told at s w call reply g x a.same a.left
 
--- a world of n workers in which one has a heap, and nothing waits
-abbrev quiet_world : {sli : ℕ} → ℕ → ℕ → HeapState → World sli
-quiet_world n at h = a_world n at h (λ i. []) 1
+-- so it may be told
+pub model_tells : (sli n at : ℕ) (s : Told) (call : Call) (reply : Reply) (g : HeapState) → at < n → IsModelAnswer sli n at s call reply g → MayTell sli n at s call (told_more at s call reply g)
+model_tells sli n at s call reply g lt is = let x = a_suit sli n at s.heap s.made call reply lt in (x.0, x.1, is lt x.0 x.1 x.2)
 
-told_where : {sli : ℕ} (n at : ℕ) (h g : HeapState) (made : List (Option Name)) (entries : List Entry) (call : Call) (reply : Reply) (w : World sli) (x : Replied sli) → HasHeap w n at h
-    → called (record { made = made; entries = entries; world = w }) at call ≡ answered (record { made = made; entries = entries; world = w }) at call x
-    → AnswersBy at x reply g → MayTell sli n at (told_of made entries h) call (told_of (made ++ made_by reply ∷ []) (entries ++ entry_by at call reply ∷ []) g)
-told_where n at h g made entries call reply w x has is a = (w, has, ap (told_by at) is ∙ told_answer at made entries w call reply g x a.same a.left)
+-- ---- calls on the own heap
 
--- ---- allocate, write, read, resize
+abbrev pub IsNotFull : Reply → Type 0
+IsNotFull reply = (name : Name) → reply ≢ Refused (Full name)
 
--- what the own heap replies
-answers_by_own : {sli : ℕ} (n at : ℕ) (w : World sli) (h : HeapState) (by : HeapState → OwnReplied) → at < n → HasHeap w n at h → AnswersBy at (by_own w at by) (by h).reply (by h).heap
-answers_by_own n at w h by lt has = record {
-  same = ap (λ (x : HeapState). (by x).reply) (sym has.1);
-  left = heap_left n at w h (by (heap_in w at)).heap lt has ∙ ap (λ (x : HeapState). (by x).heap) has.1;
+by_unfilled : {A : Type 0} (given : A → Reply) (r : Result A Refusal) → ((x : A) → IsNotFull (given x)) → IsNotFull (reply_by given r)
+by_unfilled given (Ok x) f = f x
+by_unfilled given (Err why) f = λ name e. cc
+
+named_unfilled : (h : HeapState) (by : Name → OwnReplied) (o : Option Name) → ((name : Name) → IsNotFull (by name).reply) → IsNotFull (own_named h by o).reply
+named_unfilled h by None f = λ name e. cc
+named_unfilled h by (Some name) f = f name
+
+own_here : {sli : ℕ} (n at : ℕ) (w : World sli) (h g : HeapState) (reply : Reply) (by : HeapState → OwnReplied) → at < n → HasHeap w n at h → reply ≡ (by h).reply → g ≡ (by h).heap → ModelReplies at reply g (by_own w at by)
+own_here n at w h g reply by lt has e f = record {
+  same = e ∙ ap (λ (x : HeapState). (by x).reply) (sym has.1);
+  left = f ∙ (ap (λ (x : HeapState). (by x).heap) (sym has.1) ∙ sym (heap_left n at w h (by (heap_in w at)).heap lt has));
 }
 
-own_tells : (sli : ℕ) (made : List (Option Name)) (h g : HeapState) (call : Call) (reply : Reply) (by : HeapState → OwnReplied)
-    → ((at : ℕ) (entries : List Entry) (w : World sli) → called (record { made = made; entries = entries; world = w }) at call ≡ answered (record { made = made; entries = entries; world = w }) at call (by_own w at by))
-    → reply ≡ (by h).reply → g ≡ (by h).heap → TellsOwn sli made h call g reply
-own_tells sli made h g call reply by is e f n at entries lt =
-    let w = quiet_world {sli = sli} n at h in
-    let has = world_has sli n at h (λ i. []) 1 lt in
-    let a = answers_by_own n at w h by lt has in
-    told_where n at h g made entries call reply w (by_own w at by) has (is at entries w) (record { same = e ∙ a.same; left = a.left ∙ sym f })
+own_call : {sli : ℕ} {P : Type 0} (n : ℕ) (a v : Worker sli P) (call : Call) (made : List (Option Name)) (entries : List Entry) (reply : Reply) (by : HeapState → OwnReplied) → SameButHeap a v
+    → IsQuiet (entry_by (id_of a) call reply)
+    → ((w : World sli) → called (record { made = made; entries = entries; world = w }) (id_of a) call ≡ answered (record { made = made; entries = entries; world = w }) (id_of a) call (by_own w (id_of a) by))
+    → HeapReplies reply (heap_of v) (by (heap_of a)) → QuietCall n a v call made entries reply
+own_call n a v call made entries reply by same quiet is own = record {
+  same = same;
+  quiet = quiet;
+  told = λ lt w has s.
+      told_where (id_of a) (told_of made entries (heap_of a)) w call reply (heap_of v) (by_own w (id_of a) by) (is w) (own_here n (id_of a) w (heap_of a) (heap_of v) reply by lt has own.same own.left);
+}
 
-pub allocate_tells : (sli : ℕ) (made : List (Option Name)) (h g : HeapState) (len : ℕ) (reply : Reply) → reply ≡ (own_allocating sli h len).reply → g ≡ (own_allocating sli h len).heap → TellsOwn sli made h (Allocate len) g reply
-allocate_tells sli made h g len reply = own_tells sli made h g (Allocate len) reply (λ x. own_allocating sli x len) (λ at entries w. refl)
+pub allocate_call : {sli : ℕ} {P : Type 0} (n : ℕ) (a v : Worker sli P) (len : ℕ) (made : List (Option Name)) (entries : List Entry) (reply : Reply) → SameButHeap a v
+    → HeapReplies reply (heap_of v) (own_allocating sli (heap_of a) len) → QuietCall n a v (Allocate len) made entries reply
+allocate_call {sli} n a v len made entries reply same is =
+    own_call n a v (Allocate len) made entries reply (λ x. own_allocating sli x len) same
+    (record {
+      call = tt;
+      posts = λ made. record { made_none = λ j. refl; taken_none = λ i. refl };
+      unfilled = subst IsNotFull (sym is.same) (by_unfilled Made (allocated sli (heap_of a) len).answer (λ name other e. cc));
+    }) (λ w. refl) is
 
-pub write_tells : (sli : ℕ) (made : List (Option Name)) (h g : HeapState) (target : Target) (from : ℕ) (bytes : Chunk) (reply : Reply)
-    → reply ≡ (own_writing h (name_of made target) from (bytes_of bytes)).reply → g ≡ (own_writing h (name_of made target) from (bytes_of bytes)).heap → TellsOwn sli made h (Write target from bytes) g reply
-write_tells sli made h g target from bytes reply = own_tells sli made h g (Write target from bytes) reply (λ x. own_writing x (name_of made target) from (bytes_of bytes)) (λ at entries w. refl)
+pub write_call : {sli : ℕ} {P : Type 0} (n : ℕ) (a v : Worker sli P) (target : Target) (from : ℕ) (bytes : Chunk) (made : List (Option Name)) (entries : List Entry) (reply : Reply) → SameButHeap a v
+    → HeapReplies reply (heap_of v) (own_writing (heap_of a) (name_of made target) from (bytes_of bytes))
+    → QuietCall n a v (Write target from bytes) made entries reply
+write_call n a v target from bytes made entries reply same is =
+    own_call n a v (Write target from bytes) made entries reply (λ x. own_writing x (name_of made target) from (bytes_of bytes)) same
+    (record {
+      call = tt;
+      posts = λ made. record { made_none = λ j. refl; taken_none = λ i. refl };
+      unfilled = subst IsNotFull (sym is.same) (named_unfilled (heap_of a) _ (name_of made target)
+          (λ name. by_unfilled (λ done. Wrote (length (bytes_of bytes))) (written (heap_of a) name from (bytes_of bytes)).answer (λ done other e. cc)));
+    }) (λ w. refl) is
 
-pub read_tells : (sli : ℕ) (made : List (Option Name)) (h g : HeapState) (target : Target) (from k : ℕ) (reply : Reply)
-    → reply ≡ (own_reading h (name_of made target) from k).reply → g ≡ (own_reading h (name_of made target) from k).heap → TellsOwn sli made h (Read target from k) g reply
-read_tells sli made h g target from k reply = own_tells sli made h g (Read target from k) reply (λ x. own_reading x (name_of made target) from k) (λ at entries w. refl)
+pub read_call : {sli : ℕ} {P : Type 0} (n : ℕ) (a v : Worker sli P) (target : Target) (from k : ℕ) (made : List (Option Name)) (entries : List Entry) (reply : Reply) → SameButHeap a v
+    → HeapReplies reply (heap_of v) (own_reading (heap_of a) (name_of made target) from k)
+    → QuietCall n a v (Read target from k) made entries reply
+read_call n a v target from k made entries reply same is =
+    own_call n a v (Read target from k) made entries reply (λ x. own_reading x (name_of made target) from k) same
+    (record {
+      call = tt;
+      posts = λ made. record { made_none = λ j. refl; taken_none = λ i. refl };
+      unfilled = subst IsNotFull (sym is.same) (named_unfilled (heap_of a) _ (name_of made target) (λ name. by_unfilled Got (chunk_read (heap_of a) name from k) (λ bytes other e. cc)));
+    }) (λ w. refl) is
 
-pub resize_tells : (sli : ℕ) (made : List (Option Name)) (h g : HeapState) (target : Target) (len : ℕ) (reply : Reply)
-    → reply ≡ (own_resizing h (name_of made target) len).reply → g ≡ (own_resizing h (name_of made target) len).heap → TellsOwn sli made h (Resize target len) g reply
-resize_tells sli made h g target len reply = own_tells sli made h g (Resize target len) reply (λ x. own_resizing x (name_of made target) len) (λ at entries w. refl)
+pub resize_call : {sli : ℕ} {P : Type 0} (n : ℕ) (a v : Worker sli P) (target : Target) (len : ℕ) (made : List (Option Name)) (entries : List Entry) (reply : Reply) → SameButHeap a v
+    → HeapReplies reply (heap_of v) (own_resizing (heap_of a) (name_of made target) len)
+    → QuietCall n a v (Resize target len) made entries reply
+resize_call n a v target len made entries reply same is =
+    own_call n a v (Resize target len) made entries reply (λ x. own_resizing x (name_of made target) len) same
+    (record {
+      call = tt;
+      posts = λ made. record { made_none = λ j. refl; taken_none = λ i. refl };
+      unfilled = subst IsNotFull (sym is.same) (named_unfilled (heap_of a) _ (name_of made target) (λ name. by_unfilled (λ done. Resized) (resized (heap_of a) name len).answer (λ done other e. cc)));
+    }) (λ w. refl) is
 
--- ---- release
+-- ---- releases
 
--- what the model answers to a release of this name, in some world in which the worker has the heap
-record ReleaseTold (sli : ℕ) (n at : ℕ) (h : HeapState) (name : Name) (reply : Reply) (g : HeapState) : Type 0 where
-  world : World sli
-  has : HasHeap world n at h
-  answers : AnswersBy at (releasing world at name) reply g
+pub own_name : {sli : ℕ} (w : World sli) (at : ℕ) (name : Name) → name.heap ≡ at → releasing w at name ≡ freeing w at name
+own_name w at name e = let b : (name.heap == at) ≡ true = grind (arith, nat_tests) in rw b refl
 
-release_told_named : {sli : ℕ} (n at : ℕ) (h g : HeapState) (made : List (Option Name)) (entries : List Entry) (target : Target) (name : Name) (reply : Reply) → name_of made target ≡ Some name
-    → ReleaseTold sli n at h name reply g → MayTell sli n at (told_of made entries h) (Release target) (told_of (made ++ made_by reply ∷ []) (entries ++ entry_by at (Release target) reply ∷ []) g)
-release_told_named n at h g made entries target name reply known t =
-    told_where n at h g made entries (Release target) reply t.world (releasing t.world at name) t.has
-    (ap (λ (o : Option Name). answered (record { made = made; entries = entries; world = t.world }) at (Release target) (releasing_named t.world at o)) known) t.answers
+pub posted_world : {sli : ℕ} (w : World sli) (at : ℕ) (name : Name) → length (w.waiting at name.heap) ≢ w.capacity → ((posting w at name).reply ≡ Posted) × (heap_in (posting w at name).world at ≡ heap_in w at)
+unfolding posting
+posted_world w at name ne = let b : (length (w.waiting at name.heap) == w.capacity) ≡ false = grind (arith, nat_tests) in (rw b refl, rw b refl)
 
-pub unmade_tells : (sli : ℕ) (n at : ℕ) (h : HeapState) (made : List (Option Name)) (entries : List Entry) (target : Target) → at < n → name_of made target ≡ None
-    → MayTell sli n at (told_of made entries h) (Release target) (told_of (made ++ None ∷ []) (entries ++ entry_by at (Release target) (Refused Unmade) ∷ []) h)
-unmade_tells sli n at h made entries target lt none =
-    let w = quiet_world {sli = sli} n at h in
-    let has = world_has sli n at h (λ i. []) 1 lt in
-    told_where n at h h made entries (Release target) (Refused Unmade) w (record { reply = Refused Unmade; world = w }) has
-    (ap (λ (o : Option Name). answered (record { made = made; entries = entries; world = w }) at (Release target) (releasing_named w at o)) none) (record { same = refl; left = has.1 })
+pub full_world : {sli : ℕ} (w : World sli) (at : ℕ) (name : Name) → length (w.waiting at name.heap) ≡ w.capacity → posting w at name ≡ record { reply = Refused (Full name); world = w }
+unfolding posting
+full_world w at name e = let b : (length (w.waiting at name.heap) == w.capacity) ≡ true = grind (arith, nat_tests) in rw b refl
 
-pub free_tells : (sli : ℕ) (n at : ℕ) (h g : HeapState) (made : List (Option Name)) (entries : List Entry) (target : Target) (name : Name) (reply : Reply) → at < n → name_of made target ≡ Some name → name.heap ≡ at
-    → reply ≡ (own_freeing h name).reply → g ≡ (own_freeing h name).heap
-    → MayTell sli n at (told_of made entries h) (Release target) (told_of (made ++ made_by reply ∷ []) (entries ++ entry_by at (Release target) reply ∷ []) g)
-free_tells sli n at h g made entries target name reply lt known own e f =
-    let w = quiet_world {sli = sli} n at h in
-    let has = world_has sli n at h (λ i. []) 1 lt in
-    let is = own_name w at name own in
-    let a = answers_by_own n at w h (λ x. own_freeing x name) lt has in
-    release_told_named n at h g made entries target name reply known (record {
-      world = w;
-      has = has;
-      answers = record {
-        same = e ∙ (a.same ∙ ap (λ (r : Replied sli). r.reply) (sym is));
-        left = ap (λ (r : Replied sli). heap_in r.world at) is ∙ (a.left ∙ sym f);
-      };
-    })
+-- a release of what the target means
+release_called : {sli : ℕ} (at : ℕ) (s : Told) (w : World sli) (target : Target) (o : Option Name) (x : Replied sli) → name_of s.made target ≡ o → releasing_named w at o ≡ x
+    → called (record { made = s.made; entries = s.entries; world = w }) at (Release target) ≡ answered (record { made = s.made; entries = s.entries; world = w }) at (Release target) x
+release_called at s w target o x known is = ap (λ (o : Option Name). answered (record { made = s.made; entries = s.entries; world = w }) at (Release target) (releasing_named w at o)) known
+    ∙ ap (λ (y : Replied _). answered (record { made = s.made; entries = s.entries; world = w }) at (Release target) y) is
 
--- a world in which a lane holds one post and no more, or none at all
-abbrev world_of_room : {sli : ℕ} → ℕ → ℕ → HeapState → ℕ → World sli
-world_of_room n at h capacity = a_world n at h (λ i. []) capacity
+-- the worker itself refuses, and nothing changes
+refused_call : {sli : ℕ} {P : Type 0} (n : ℕ) (a : Worker sli P) (target : Target) (made : List (Option Name)) (entries : List Entry) (o : Option Name) (why : CrewRefusal) → name_of made target ≡ o
+    → ((name : Name) → why ≢ Full name) → ((w : World sli) → length w.heaps ≡ n → releasing_named w (id_of a) o ≡ record { reply = Refused why; world = w })
+    → QuietCall n a a (Release target) made entries (Refused why)
+refused_call n a target made entries o why known other is = record {
+  same = (refl, refl);
+  quiet = record { call = tt; posts = λ made. record { made_none = λ j. refl; taken_none = λ i. refl }; unfilled = λ name e. let q : why ≡ Full name = cc in other name q };
+  told = λ lt w has s.
+      let t = told_of made entries (heap_of a) in
+      told_where (id_of a) t w (Release target) (Refused why) (heap_of a) (record { reply = Refused why; world = w }) (release_called (id_of a) t w target o _ known (is w has.0))
+      (record { same = refl; left = sym has.1 });
+}
 
-pub posted_tells : (sli : ℕ) (n at : ℕ) (h : HeapState) (made : List (Option Name)) (entries : List Entry) (target : Target) (name : Name) → at < n → name_of made target ≡ Some name → name.heap ≢ at → name.heap < n
-    → MayTell sli n at (told_of made entries h) (Release target) (told_of (made ++ None ∷ []) (entries ++ entry_by at (Release target) Posted ∷ []) h)
-posted_tells sli n at h made entries target name lt known ne near =
-    let w = world_of_room {sli = sli} n at h 1 in
-    let has = world_has sli n at h (λ i. []) 1 lt in
-    let is = releasing_post w at name ne (omega (arith, has.0)) in
-    let p = posted_world w at name (λ e. let q : 0 ≡ 1 = e in omega arith) in
-    release_told_named n at h h made entries target name Posted known (record {
-      world = w;
-      has = has;
-      answers = record { same = sym (ap (λ (r : Replied sli). r.reply) is ∙ p.0); left = ap (λ (r : Replied sli). heap_in r.world at) is ∙ (p.1 ∙ has.1) };
-    })
+pub unmade_call : {sli : ℕ} {P : Type 0} (n : ℕ) (a : Worker sli P) (target : Target) (made : List (Option Name)) (entries : List Entry) → name_of made target ≡ None → QuietCall n a a (Release target) made entries (Refused Unmade)
+unmade_call n a target made entries none = refused_call n a target made entries None Unmade none (λ name e. cc) (λ w len. refl)
 
-pub full_tells : (sli : ℕ) (n at : ℕ) (h : HeapState) (made : List (Option Name)) (entries : List Entry) (target : Target) (name : Name) → at < n → name_of made target ≡ Some name → name.heap ≢ at → name.heap < n
-    → MayTell sli n at (told_of made entries h) (Release target) (told_of (made ++ None ∷ []) (entries ++ entry_by at (Release target) (Refused (Full name)) ∷ []) h)
-full_tells sli n at h made entries target name lt known ne near =
-    let w = world_of_room {sli = sli} n at h 0 in
-    let has = world_has sli n at h (λ i. []) 0 lt in
-    let is = releasing_post w at name ne (omega (arith, has.0)) ∙ full_world w at name refl in
-    release_told_named n at h h made entries target name (Refused (Full name)) known (record {
-      world = w;
-      has = has;
-      answers = record { same = sym (ap (λ (r : Replied sli). r.reply) is); left = ap (λ (r : Replied sli). heap_in r.world at) is ∙ has.1 };
-    })
+far_call : {sli : ℕ} {P : Type 0} (n : ℕ) (a : Worker sli P) (target : Target) (name : Name) (made : List (Option Name)) (entries : List Entry) → name_of made target ≡ Some name → name.heap ≢ id_of a → n ≤ name.heap
+    → QuietCall n a a (Release target) made entries (Refused Stranger)
+far_call n a target name made entries known ne far = refused_call n a target made entries (Some name) Stranger known (λ other e. cc) (λ w len. releasing_far w (id_of a) name ne (omega (arith, len)))
 
-pub far_tells : (sli : ℕ) (n at : ℕ) (h : HeapState) (made : List (Option Name)) (entries : List Entry) (target : Target) (name : Name) → at < n → name_of made target ≡ Some name → name.heap ≢ at → n ≤ name.heap
-    → MayTell sli n at (told_of made entries h) (Release target) (told_of (made ++ None ∷ []) (entries ++ entry_by at (Release target) (Refused Stranger) ∷ []) h)
-far_tells sli n at h made entries target name lt known ne far =
-    let w = quiet_world {sli = sli} n at h in
-    let has = world_has sli n at h (λ i. []) 1 lt in
-    let is = releasing_far w at name ne (omega (arith, has.0)) in
-    release_told_named n at h h made entries target name (Refused Stranger) known (record {
-      world = w;
-      has = has;
-      answers = record { same = sym (ap (λ (r : Replied sli). r.reply) is); left = ap (λ (r : Replied sli). heap_in r.world at) is ∙ has.1 };
-    })
+freed_reply : (r : Result (Unit {0}) Refusal) → reply_released (freed_by r) ≡ reply_freed r
+freed_reply (Ok done) = refl
+freed_reply (Err why) = refl
+
+freed_quiet : (at : ℕ) (target : Target) (r : Result (Unit {0}) Refusal) → IsQuiet (entry_by at (Release target) (reply_freed r))
+freed_quiet at target (Ok done) = record { call = tt; posts = λ made. record { made_none = λ j. refl; taken_none = λ i. refl }; unfilled = λ name e. cc }
+freed_quiet at target (Err why) = record { call = tt; posts = λ made. record { made_none = λ j. refl; taken_none = λ i. refl }; unfilled = λ name e. cc }
+
+here_call : {sli : ℕ} {P : Type 0} (n : ℕ) (a v : Worker sli P) (target : Target) (name : Name) (made : List (Option Name)) (entries : List Entry) (answer : Result Released CrewRefusal) → name_of made target ≡ Some name
+    → name.heap ≡ id_of a → ReleasedHere a v name answer → QuietCall n a v (Release target) made entries (reply_released answer)
+unfolding released
+here_call n a v target name made entries answer known own here =
+    let r = (heap.released (heap_of a) name).answer in
+    let e : reply_released answer ≡ reply_freed r = ap reply_released here.answer_is ∙ freed_reply r in
+    own_call n a v (Release target) made entries (reply_released answer) (λ x. own_freeing x name) here.same (subst (λ y. IsQuiet (entry_by (id_of a) (Release target) y)) (sym e) (freed_quiet (id_of a) target r))
+    (λ w. release_called (id_of a) (told_of made entries (heap_of a)) w target (Some name) _ known (own_name w (id_of a) name own)) (record { same = e; left = here.heap })
+
+-- a post is answered so where the port has room, and where it has none
+pub put_answered : (sli n at : ℕ) (h : HeapState) (made : List (Option Name)) (entries : List Entry) (target : Target) (name : Name) (put : Result (Unit {0}) Name) → name_of made target ≡ Some name → name.heap ≢ at → name.heap < n
+    → IsModelAnswer sli n at (told_of made entries h) (Release target) (reply_released (posted_as (put_answer name put))) h
+put_answered sli n at h made entries target name (Ok done) known ne near = λ lt w has s.
+    let near_w : name.heap < length w.heaps = omega (arith, has.0) in
+    let p = posted_world w at name (s.room target name refl known ne near_w refl) in
+    told_where at (told_of made entries h) w (Release target) Posted h (posting w at name) (release_called at (told_of made entries h) w target (Some name) _ known (releasing_post w at name ne near_w))
+    (record { same = sym p.0; left = sym (p.1 ∙ has.1) })
+put_answered sli n at h made entries target name (Err back) known ne near = λ lt w has s.
+    let near_w : name.heap < length w.heaps = omega (arith, has.0) in
+    let e = releasing_post w at name ne near_w ∙ full_world w at name (s.full target name refl known ne near_w refl) in
+    told_where at (told_of made entries h) w (Release target) (Refused (Full name)) h (record { reply = Refused (Full name); world = w }) (release_called at (told_of made entries h) w target (Some name) _ known e)
+    (record { same = refl; left = sym has.1 })
+
+-- a release is a quiet call or a put, by ports that reach each other worker and none else
+pub release_by : {sli : ℕ} {P : Type 0} (n : ℕ) (reaches : P → ℕ → Type 0) (puts : ℕ → P → P → Name → Result (Unit {0}) Name → Type 0) (a v : Worker sli P) (target : Target) (name : Name) (made : List (Option Name))
+    (entries : List Entry) (answer : Result Released CrewRefusal) (IsStep : Worker sli P → Reply → Type 0) → name_of made target ≡ Some name → ReleasedAnywhere reaches puts a v name answer
+    → reaches a.ports name.heap ⊎ ((name.heap ≢ id_of a → n ≤ name.heap) × ¬ (reaches a.ports name.heap))
+    → ((u : Worker sli P) (reply : Reply) → KeepsHeap (heap_of a) (heap_of u) → QuietCall n a u (Release target) made entries reply → IsStep u reply)
+    → (name.heap ≢ id_of a → reaches a.ports name.heap → ReleasedThere puts a v name answer → IsStep v (reply_released answer)) → IsStep v (reply_released answer)
+release_by n reaches puts a v target name made entries answer IsStep known r either quiet put = elim (cases_eq name.heap (id_of a)) [
+  | inl own ↦
+      let here = r.here own in
+      quiet v (reply_released answer) (call_keeps (heap_of a) (heap_of v) (heap.Release name) here.heap) (here_call n a v target name made entries answer known own here)
+  | inr ne ↦ elim either [
+    | inl has ↦ put ne has (r.there ne has)
+    | inr none ↦
+        let e = r.nowhere ne none.1 in
+        rw (e.0, e.1) (quiet a (Refused Stranger) (same_heap_keeps (heap_of a) (heap_of a) refl) (far_call n a target name made entries known ne (none.0 ne)))
+  ]
+]

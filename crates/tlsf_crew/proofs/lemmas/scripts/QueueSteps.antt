@@ -16,92 +16,90 @@ use Rattle.tlsf_post.specs.declared.post.Post.{Post}
 use Rattle.tlsf_post.specs.declared.owner_end.OwnerEnd.{OwnerEnd}
 use Rattle.tlsf_post.specs.declared.poster_end.PosterEnd.{PosterEnd}
 use Rattle.tlsf_calls.specs.declared.call.Call.{Call}
-use Rattle.tlsf_calls.specs.Bytes.{bytes_of}
-use Rattle.tlsf_calls.specs.declared.chunk.Chunk.{Chunk}
 use Rattle.tlsf_calls.specs.declared.call.Call.TheVariants.{Allocate, Release, Write, Read, Resize, Take, Drain}
 use Rattle.tlsf_calls.specs.declared.entry.Entry.{Entry}
 use Rattle.tlsf_calls.specs.declared.target.Target.{Target}
 use Rattle.tlsf_calls.specs.declared.released.Released.{Released}
 use Rattle.tlsf_calls.specs.declared.took.Took.{Took}
 use Rattle.tlsf_calls.specs.declared.crew_refusal.CrewRefusal.{CrewRefusal}
-use Rattle.tlsf_calls.specs.declared.crew_refusal.CrewRefusal.TheVariants.{Full, Stranger, Unmade}
+use Rattle.tlsf_calls.specs.declared.crew_refusal.CrewRefusal.TheVariants.{Full, Stranger}
 use Rattle.tlsf_calls.specs.declared.reply.Reply.{Reply}
 use Rattle.tlsf_calls.specs.declared.reply.Reply.TheVariants.{Posted, Took as Taken, Drained, Refused}
-use Rattle.tlsf_crew.specs.model.Heaps.{allocated, chunk_read, released, resized, written}
-use Rattle.tlsf_crew.specs.model.OwnReplies.{own_allocating, own_freeing, own_reading, own_resizing, own_writing}
+use Rattle.tlsf_crew.specs.model.Heaps.{released}
 use Rattle.tlsf_crew.specs.model.Sums.{sum_of}
-use Rattle.tlsf_crew.specs.histories.History.{StandsBehind, posts_made, posts_taken, post_of_release, post_of_take}
-use Rattle.tlsf_crew.specs.model.Told.{Told}
-use Rattle.tlsf_crew.specs.model.World.{made_by, name_of, reply_freed, reply_got, reply_made, reply_resized, reply_wrote}
+use Rattle.tlsf_crew.specs.histories.History.{IsNoPost, StandsBehind, posts_made, posts_taken, post_of_release, post_of_take}
+use Rattle.tlsf_crew.specs.model.Told.{IsModelAnswer, MayTell, Told}
+use Rattle.tlsf_crew.specs.model.World.{name_of}
 use Rattle.tlsf_crew.specs.declared.worker.worker.Worker.{Worker}
 use Rattle.tlsf_crew.specs.declared.queues.queues.Queues.{Queues}
 use Rattle.tlsf_crew.specs.declared.scripts.journal.Journal.{Journal}
-use Rattle.tlsf_crew.specs.worker.Workers.{IsOther, heap_of, id_of, SameButHeap, KeepsHeap}
-use Rattle.tlsf_crew.specs.worker.Calls.{AfterTake, ReleasedHere, ReleasedThere, posted_as, put_answer}
+use Rattle.tlsf_crew.specs.worker.Workers.{IsOther, heap_of, id_of, SameButHeap}
+use Rattle.tlsf_crew.specs.worker.Calls.{AfterTake, ReleasedThere, posted_as, put_answer}
 use Rattle.tlsf_crew.specs.worker.Notes.{EachNoted, EachTakeNoted}
 use Rattle.tlsf_crew.specs.scripts.Journals.{IsAdmitted, OneFewer, EntersSender}
-use Rattle.tlsf_crew.specs.scripts.Scripts.{ReleasedAnywhere, reply_released}
-use Rattle.tlsf_crew.specs.queues.QueueWorkers.{queue_to, queue_end_to, ReachesQueue, PutsIntoQueue, AsksQueue, HasQueueEnd, KnowsQueueYard, KeepsQueueYards, PosterEndPut, OwnEndTook}
+use Rattle.tlsf_crew.specs.scripts.Scripts.{IsNoTake, QuietCall, reply_released}
+use Rattle.tlsf_crew.specs.queues.QueueWorkers.{queue_to, queue_end_to, PutsIntoQueue, AsksQueue, HasQueueEnd, KnowsQueueYard, KeepsQueueYards, PosterEndPut, OwnEndTook}
 use Rattle.tlsf_crew.specs.queues.QueueCalls.{TakenFromQueue}
 use Rattle.tlsf_crew.specs.queues.QueueNotes.{QueueNoted, StopsAtQueue}
 use Rattle.tlsf_crew.specs.model.QueueTold.{IsFromOther, MayTellQueue, take_entry, told_reply, told_take, told_takes}
 use Rattle.tlsf_crew.specs.scripts.QueueMoves.{QueueMoved, QueueStepped, entry_by, told_of}
 use Rattle.tlsf_post.proofs.RuleSteps.{of_append}
 use Rattle.tlsf_crew.proofs.lemmas.histories.AllEntries.{more_knows}
-use Rattle.tlsf_crew.proofs.lemmas.histories.JoinedEntries.{IsNoPost, told_nothing, told_own, made_then, taken_then}
+use Rattle.tlsf_crew.proofs.lemmas.histories.JoinedEntries.{told_nothing, told_own, made_then, taken_then}
 use Rattle.tlsf_crew.proofs.lemmas.scripts.LaneMoves.{posted_same, release_posts_elsewhere}
 use Rattle.tlsf_crew.proofs.lemmas.worker.SameParts.{ports_heap}
 use Rattle.tlsf_crew.proofs.lemmas.scripts.ManyEntries.{stands_split}
 use Rattle.tlsf_crew.proofs.lemmas.scripts.OneEntry.{no_entry, the_one, stands_last}
-use Rattle.tlsf_crew.proofs.lemmas.scripts.OwnAnswers.{freed_reply}
-use Rattle.tlsf_crew.proofs.lemmas.worker.OwnHeaps.{call_keeps, same_heap_keeps}
-use Rattle.tlsf_crew.proofs.lemmas.model.OwnReplied.{read_keeps, resize_keeps, write_keeps}
-use Rattle.tlsf_crew.proofs.lemmas.worker.Slots.{some_same}
+use Rattle.tlsf_crew.proofs.lemmas.worker.OwnHeaps.{call_keeps}
+use Rattle.tlsf_crew.proofs.lemmas.worker.Slots.{end_or, some_same}
 use Rattle.tlsf_crew.proofs.lemmas.queues.QueueDrains.{queue_ends}
 use Rattle.tlsf_crew.proofs.lemmas.queues.QueueKept.{keeps_all, keeps_heap, keeps_put, keeps_take, keeps_then, knows_kept}
-use Rattle.tlsf_crew.proofs.lemmas.scripts.OwnTold.{allocate_tells, far_tells, free_tells, full_tells, posted_tells, read_tells, resize_tells, unmade_tells, write_tells}
+use Rattle.tlsf_crew.proofs.lemmas.scripts.OwnTold.{IsNotFull, model_tells, put_answered}
 
 -- ---- an entry that tells of no queue
 
-abbrev IsNotFull : Reply → Type 0
-IsNotFull reply = (name : Name) → reply ≢ Refused (Full name)
-
--- neither a post nor a take, no drain, and no full queue
-pub record IsQuiet (e : Entry) : Type 0 where
-  pub posts : (made : List (Option Name)) → IsNoPost made e
-  pub drain : (most k : ℕ) → e.call ≡ Drain most → e.reply ≡ Drained k → ⊥
-  pub unfilled : IsNotFull e.reply
-
-no_posts : (at j : ℕ) (made : List (Option Name)) (e : Entry) → IsQuiet e → posts_made at j made (e ∷ []) ≡ []
-no_posts at j made e q = let n = q.posts made in told_nothing (λ e. post_of_release j made e.worker e.call e.reply) at e (n.made_none j)
-
-no_takes : (i at : ℕ) (e : Entry) → IsQuiet e → posts_taken i at (e ∷ []) ≡ []
-no_takes i at e q = let n = q.posts [] in told_nothing (λ e. post_of_take i e.call e.reply) at e (n.taken_none i)
+-- it is no drain, and not refused as Full
+record TellsNone (e : Entry) : Type 0 where
+  posts : (made : List (Option Name)) → IsNoPost made e
+  drain : (most : ℕ) → e.call ≡ Drain most → ⊥
+  unfilled : IsNotFull e.reply
 
 -- the same end of a worker whose ends are the same
 same_end : {sli : ℕ} (a v : Worker sli Queues) (j : ℕ) (p q : PosterEnd) → queue_end_to v j ≡ queue_end_to a j → queue_end_to a j ≡ Some p → queue_end_to v j ≡ Some q → q ≡ p
 same_end a v j p q same is_p is_q = some_same q p (sym is_q ∙ (same ∙ is_p))
 
-quiet_moved : {sli : ℕ} (at : ℕ) (made : List (Option Name)) (a v : Worker sli Queues) (limits : List ℕ) (call : Call) (e : Entry) → SameButHeap a v → KeepsHeap (heap_of a) (heap_of v) → IsQuiet e
+none_moved : {sli : ℕ} (at : ℕ) (made : List (Option Name)) (a v : Worker sli Queues) (limits : List ℕ) (call : Call) (e : Entry) → SameButHeap a v → KeepsQueueYards a v → TellsNone e
     → QueueMoved at made a limits (call ∷ []) (e ∷ []) v limits
-quiet_moved at made a v limits call e same kept quiet = record {
-  yard = keeps_heap a v same kept;
-  sent = λ j p q is_p is_q. rw (no_posts at j made e quiet) (ap put_by (same_end a v j p q (λ t. queue_to (same.1 t) j) is_p is_q) ∙ sym (append-nil (put_by p)));
-  taken = λ i. rw (no_takes i at e quiet) ((λ t. posts_of i (got_by (same.1 t).own)) ∙ sym (append-nil (posts_of i (got_by a.ports.own))));
-  drained = λ before x most k s c r lt i. let o = the_one e before x s in absurd (quiet.drain most k (ap (λ (y : Entry). y.call) (sym o.1) ∙ c) (ap (λ (y : Entry). y.reply) (sym o.1) ∙ r));
-  full = λ before x name p s r is_p only. let o = the_one e before x s in absurd (quiet.unfilled name (ap (λ (y : Entry). y.reply) (sym o.1) ∙ r));
+none_moved at made a v limits call e same keeps none = record {
+  yard = keeps;
+  sent = λ j p q is_p is_q.
+      let n = none.posts made in
+      rw (told_nothing (λ e. post_of_release j made e.worker e.call e.reply) at e (n.made_none j))
+      (ap put_by (same_end a v j p q (λ t. queue_to (same.1 t) j) is_p is_q) ∙ sym (append-nil (put_by p)));
+  taken = λ i. let n = none.posts made in
+      rw (told_nothing (λ e. post_of_take i e.call e.reply) at e (n.taken_none i)) ((λ t. posts_of i (got_by (same.1 t).own)) ∙ sym (append-nil (posts_of i (got_by a.ports.own))));
+  drained = λ before x most k s c r lt i. let o = the_one e before x s in absurd (none.drain most (ap (λ (y : Entry). y.call) (sym o.1) ∙ c));
+  full = λ before x name p s r is_p only. let o = the_one e before x s in absurd (none.unfilled name (ap (λ (y : Entry). y.reply) (sym o.1) ∙ r));
   room = omega arith;
 }
 
-pub quiet_stepped : {sli : ℕ} (n : ℕ) (a v : Worker sli Queues) (limits : List ℕ) (call : Call) (made : List (Option Name)) (entries : List Entry) (reply : Reply) → SameButHeap a v → KeepsHeap (heap_of a) (heap_of v)
-    → IsQuiet (entry_by (id_of a) call reply)
-    → MayTellQueue sli n (id_of a) (told_of made entries (heap_of a)) call (told_of (made ++ made_by reply ∷ []) (entries ++ entry_by (id_of a) call reply ∷ []) (heap_of v))
-    → QueueStepped n a limits call made entries v limits entries reply
-quiet_stepped n a v limits call made entries reply same kept quiet told = record {
+tells_queue : (sli n at : ℕ) (s : Told) (call : Call) (t : Told) → IsNoTake call → MayTell sli n at s call t → MayTellQueue sli n at s call t
+tells_queue sli n at s (Allocate len) t plain told = told
+tells_queue sli n at s (Release target) t plain told = told
+tells_queue sli n at s (Write target from bytes) t plain told = told
+tells_queue sli n at s (Read target from k) t plain told = told
+tells_queue sli n at s (Resize target len) t plain told = told
+tells_queue sli n at s (Take from) t plain told = absurd plain
+tells_queue sli n at s (Drain most) t plain told = absurd plain
+
+pub quiet_stepped : {sli : ℕ} (n : ℕ) (a v : Worker sli Queues) (limits : List ℕ) (call : Call) (made : List (Option Name)) (entries : List Entry) (reply : Reply) → KnowsQueueYard n a → KeepsQueueYards a v
+    → QuietCall n a v call made entries reply → QueueStepped n a limits call made entries v limits entries reply
+quiet_stepped {sli} n a v limits call made entries reply k keeps q = record {
   own = [];
   entries_are = sym (append-nil entries);
-  told = told;
-  moved = λ rest. quiet_moved (id_of a) (made ++ rest) a v limits call (entry_by (id_of a) call reply) same kept quiet;
+  told = tells_queue sli n (id_of a) _ call _ q.quiet.call (model_tells sli n (id_of a) (told_of made entries (heap_of a)) call reply (heap_of v) k.self q.told);
+  moved = λ rest.
+      none_moved (id_of a) (made ++ rest) a v limits call _ q.same keeps (record { posts = q.quiet.posts; drain = λ most d. subst IsNoTake d q.quiet.call; unfilled = q.quiet.unfilled });
 }
 
 -- ---- a post
@@ -174,43 +172,32 @@ full_moved made a v limits target name back put =
       room = omega arith;
     }
 
-put_stepped : {sli : ℕ} (n : ℕ) (a v : Worker sli Queues) (limits : List ℕ) (target : Target) (name : Name) (made : List (Option Name)) (entries : List Entry) (put : Result (Unit {0}) Name) → KnowsQueueYard n a
-    → name_of made target ≡ Some name → name.heap ≢ id_of a → name.heap < n → PosterEndPut a v name.heap name put
-    → QueueStepped n a limits (Release target) made entries v limits entries (reply_released (posted_as (put_answer name put)))
-put_stepped {sli} n a v limits target name made entries (Ok done) k known ne near put =
-    let at = id_of a in
-    record {
+put_moved : {sli : ℕ} (n : ℕ) (made : List (Option Name)) (a v : Worker sli Queues) (limits : List ℕ) (target : Target) (name : Name) (put : Result (Unit {0}) Name) → KnowsQueueYard n a → name_of made target ≡ Some name
+    → PosterEndPut a v name.heap name put → QueueMoved (id_of a) made a limits (Release target ∷ []) (entry_by (id_of a) (Release target) (reply_released (posted_as (put_answer name put))) ∷ []) v limits
+put_moved n made a v limits target name (Ok done) k known put = posted_moved n made a v limits target name done k known put
+put_moved n made a v limits target name (Err back) k known put = full_moved made a v limits target name back put
+
+pub has_port_or : {sli : ℕ} (n : ℕ) (a : Worker sli Queues) (j : ℕ) → KnowsQueueYard n a → HasQueueEnd a j ⊎ ((j ≢ id_of a → n ≤ j) × ¬ (HasQueueEnd a j))
+has_port_or n a j k = elim (end_or (queue_end_to a j)) [
+  | inl has ↦ inl has
+  | inr none ↦ inr ((λ ne. elim (cases_lt j n) [ inl lt ↦ let e = k.to j (lt, ne) in absurd (none (e.0, e.1)) | inr ge ↦ ge ]), none)
+]
+
+pub there_stepped : {sli : ℕ} (n : ℕ) (a v : Worker sli Queues) (limits : List ℕ) (target : Target) (name : Name) (made : List (Option Name)) (entries : List Entry) (answer : Result Released CrewRefusal) → KnowsQueueYard n a
+    → name_of made target ≡ Some name → name.heap ≢ id_of a → HasQueueEnd a name.heap → ReleasedThere PutsIntoQueue a v name answer
+    → QueueStepped n a limits (Release target) made entries v limits entries (reply_released answer)
+there_stepped {sli} n a v limits target name made entries answer k known ne has there =
+    let other = ends_are n a k name.heap has.0 has.1 in
+    let put = there.post.put in
+    let e : answer ≡ posted_as (put_answer name put) = there.answer_is ∙ ap posted_as there.post.answer_is in
+    let h = sym (ports_heap a v there.post.same) in
+    rw e (record {
       own = [];
       entries_are = sym (append-nil entries);
-      told = rw (ports_heap a v put.0) (posted_tells sli n at (heap_of a) made entries target name k.self known ne near);
-      moved = λ rest. posted_moved n (made ++ rest) a v limits target name done k (more_knows made rest target name known) put;
-    }
-put_stepped {sli} n a v limits target name made entries (Err back) k known ne near put =
-    let at = id_of a in
-    record {
-      own = [];
-      entries_are = sym (append-nil entries);
-      told = rw (ports_heap a v put.0) (full_tells sli n at (heap_of a) made entries target name k.self known ne near);
-      moved = λ rest. full_moved (made ++ rest) a v limits target name back put;
-    }
-
-stranger_quiet : (at : ℕ) (target : Target) → IsQuiet (entry_by at (Release target) (Refused Stranger))
-stranger_quiet at target = record { posts = λ made. record { made_none = λ j. refl; taken_none = λ i. refl }; drain = λ most k c r. cc; unfilled = λ name r. cc }
-
-end_or : (o : Option PosterEnd) → ((p : PosterEnd) × (o ≡ Some p)) ⊎ ¬ ((p : PosterEnd) × (o ≡ Some p))
-end_or None = inr (λ h. let e = h.1 in cc)
-end_or (Some p) = inl (p, refl)
-
-far_stepped : {sli : ℕ} (n : ℕ) (a : Worker sli Queues) (limits : List ℕ) (target : Target) (name : Name) (made : List (Option Name)) (entries : List Entry) → KnowsQueueYard n a → name_of made target ≡ Some name
-    → name.heap ≢ id_of a → ¬ (HasQueueEnd a name.heap) → QueueStepped n a limits (Release target) made entries a limits entries (Refused Stranger)
-far_stepped {sli} n a limits target name made entries k known ne none =
-    let at = id_of a in
-    let far : n ≤ name.heap = elim (cases_lt name.heap n) [
-      | inl lt ↦ let known_end = k.to name.heap (lt, ne) in absurd (none (known_end.0, known_end.1))
-      | inr ge ↦ ge
-    ] in
-    quiet_stepped n a a limits (Release target) made entries (Refused Stranger) (refl, refl) (same_heap_keeps (heap_of a) (heap_of a) refl) (stranger_quiet at target)
-    (far_tells sli n at (heap_of a) made entries target name k.self known ne far)
+      told = model_tells sli n (id_of a) (told_of made entries (heap_of a)) (Release target) _ (heap_of v) k.self
+          (subst (IsModelAnswer sli n (id_of a) (told_of made entries (heap_of a)) (Release target) _) h (put_answered sli n (id_of a) (heap_of a) made entries target name put known ne other.0));
+      moved = λ rest. put_moved n (made ++ rest) a v limits target name put k (more_knows made rest target name known) (there.post.same, there.post.through);
+    })
 
 -- ---- takes
 
@@ -462,138 +449,14 @@ drain_ends n a v x y most tooks k noted =
     let seen = end_seen noted.last v most (length tooks) (queue_ends IsAdmitted noted.last v y most (length tooks) noted.end) in
     seen.ends ∙ t.ends
 
--- ---- calls on the own heap
-
--- a call that posts and takes nothing, whatever the reply
-abbrev IsOwnCall : Call → Type 0
-IsOwnCall call = (at : ℕ) (reply : Reply) → IsNotFull reply → IsQuiet (entry_by at call reply)
-
-made_unfilled : (r : Result Name Refusal) → IsNotFull (reply_made r)
-made_unfilled (Ok made) name e = cc
-made_unfilled (Err why) name e = cc
-
-wrote_unfilled : (n : ℕ) (r : Result (Unit {0}) Refusal) → IsNotFull (reply_wrote n r)
-wrote_unfilled n (Ok done) name e = cc
-wrote_unfilled n (Err why) name e = cc
-
-writing_unfilled : (h : HeapState) (o : Option Name) (from : ℕ) (bytes : List ℕ) → IsNotFull (own_writing h o from bytes).reply
-writing_unfilled h None from bytes name e = cc
-writing_unfilled h (Some target) from bytes name e = wrote_unfilled (length bytes) (written h target from bytes).answer name e
-
-got_unfilled : (r : Result Chunk Refusal) → IsNotFull (reply_got r)
-got_unfilled (Ok bytes) name e = cc
-got_unfilled (Err why) name e = cc
-
-reading_unfilled : (h : HeapState) (o : Option Name) (from n : ℕ) → IsNotFull (own_reading h o from n).reply
-reading_unfilled h None from n name e = cc
-reading_unfilled h (Some target) from n name e = got_unfilled (chunk_read h target from n) name e
-
-resized_unfilled : (r : Result (Unit {0}) Refusal) → IsNotFull (reply_resized r)
-resized_unfilled (Ok done) name e = cc
-resized_unfilled (Err why) name e = cc
-
-resizing_unfilled : (h : HeapState) (o : Option Name) (len : ℕ) → IsNotFull (own_resizing h o len).reply
-resizing_unfilled h None len name e = cc
-resizing_unfilled h (Some target) len name e = resized_unfilled (resized h target len).answer name e
-
-allocate_quiet : (len : ℕ) → IsOwnCall (Allocate len)
-allocate_quiet len at reply other = record { posts = λ made. record { made_none = λ j. refl; taken_none = λ i. refl }; drain = λ most k c r. cc; unfilled = other }
-
-write_quiet : (target : Target) (from : ℕ) (bytes : Chunk) → IsOwnCall (Write target from bytes)
-write_quiet target from bytes at reply other = record { posts = λ made. record { made_none = λ j. refl; taken_none = λ i. refl }; drain = λ most k c r. cc; unfilled = other }
-
-read_quiet : (target : Target) (from k : ℕ) → IsOwnCall (Read target from k)
-read_quiet target from k at reply other = record { posts = λ made. record { made_none = λ j. refl; taken_none = λ i. refl }; drain = λ most k c r. cc; unfilled = other }
-
-resize_quiet : (target : Target) (len : ℕ) → IsOwnCall (Resize target len)
-resize_quiet target len at reply other = record { posts = λ made. record { made_none = λ j. refl; taken_none = λ i. refl }; drain = λ most k c r. cc; unfilled = other }
-
-pub allocate_stepped : {sli : ℕ} (n : ℕ) (a v : Worker sli Queues) (limits : List ℕ) (len : ℕ) (made : List (Option Name)) (entries : List Entry) (reply : Reply) → KnowsQueueYard n a → SameButHeap a v → KeepsQueueYards a v
-    → reply ≡ (own_allocating sli (heap_of a) len).reply → heap_of v ≡ (own_allocating sli (heap_of a) len).heap → QueueStepped n a limits (Allocate len) made entries v limits entries reply
-unfolding allocated
-allocate_stepped {sli} n a v limits len made entries reply k same keeps e f =
-    quiet_stepped n a v limits (Allocate len) made entries reply same keeps.heap (allocate_quiet len (id_of a) reply (subst IsNotFull (sym e) (made_unfilled (allocated sli (heap_of a) len).answer)))
-    (allocate_tells sli made (heap_of a) (heap_of v) len reply e f n (id_of a) entries k.self)
-
-pub write_stepped : {sli : ℕ} (n : ℕ) (a v : Worker sli Queues) (limits : List ℕ) (target : Target) (from : ℕ) (bytes : Chunk) (made : List (Option Name)) (entries : List Entry) (reply : Reply) → KnowsQueueYard n a → SameButHeap a v
-    → reply ≡ (own_writing (heap_of a) (name_of made target) from (bytes_of bytes)).reply → heap_of v ≡ (own_writing (heap_of a) (name_of made target) from (bytes_of bytes)).heap
-    → QueueStepped n a limits (Write target from bytes) made entries v limits entries reply
-write_stepped {sli} n a v limits target from bytes made entries reply k same e f =
-    quiet_stepped n a v limits (Write target from bytes) made entries reply same (write_keeps (heap_of a) (heap_of v) (name_of made target) from (bytes_of bytes) f) (write_quiet target from bytes (id_of a) reply (subst IsNotFull (sym e) (writing_unfilled (heap_of a) (name_of made target) from (bytes_of bytes))))
-    (write_tells sli made (heap_of a) (heap_of v) target from bytes reply e f n (id_of a) entries k.self)
-
-pub read_stepped : {sli : ℕ} (n : ℕ) (a v : Worker sli Queues) (limits : List ℕ) (target : Target) (from k : ℕ) (made : List (Option Name)) (entries : List Entry) (reply : Reply) → KnowsQueueYard n a → SameButHeap a v
-    → reply ≡ (own_reading (heap_of a) (name_of made target) from k).reply → heap_of v ≡ (own_reading (heap_of a) (name_of made target) from k).heap
-    → QueueStepped n a limits (Read target from k) made entries v limits entries reply
-read_stepped {sli} n a v limits target from k made entries reply knows same e f =
-    quiet_stepped n a v limits (Read target from k) made entries reply same (read_keeps (heap_of a) (heap_of v) (name_of made target) from k f) (read_quiet target from k (id_of a) reply (subst IsNotFull (sym e) (reading_unfilled (heap_of a) (name_of made target) from k)))
-    (read_tells sli made (heap_of a) (heap_of v) target from k reply e f n (id_of a) entries knows.self)
-
-pub resize_stepped : {sli : ℕ} (n : ℕ) (a v : Worker sli Queues) (limits : List ℕ) (target : Target) (len : ℕ) (made : List (Option Name)) (entries : List Entry) (reply : Reply) → KnowsQueueYard n a → SameButHeap a v
-    → reply ≡ (own_resizing (heap_of a) (name_of made target) len).reply → heap_of v ≡ (own_resizing (heap_of a) (name_of made target) len).heap
-    → QueueStepped n a limits (Resize target len) made entries v limits entries reply
-resize_stepped {sli} n a v limits target len made entries reply k same e f =
-    quiet_stepped n a v limits (Resize target len) made entries reply same (resize_keeps (heap_of a) (heap_of v) (name_of made target) len f) (resize_quiet target len (id_of a) reply (subst IsNotFull (sym e) (resizing_unfilled (heap_of a) (name_of made target) len)))
-    (resize_tells sli made (heap_of a) (heap_of v) target len reply e f n (id_of a) entries k.self)
-
--- ---- a take, and releases of own names
-
-take_quiet : (at from : ℕ) → IsQuiet (entry_by at (Take from) (Refused Stranger))
-take_quiet at from = record { posts = λ made. record { made_none = λ j. refl; taken_none = λ i. refl }; drain = λ most k c r. cc; unfilled = λ name r. cc }
+-- ---- a take of its own
 
 pub take_stepped : {sli : ℕ} (n : ℕ) (a : Worker sli Queues) (limits : List ℕ) (from : ℕ) (made : List (Option Name)) (entries : List Entry) → QueueStepped n a limits (Take from) made entries a limits entries (Refused Stranger)
-take_stepped n a limits from made entries =
-    quiet_stepped n a a limits (Take from) made entries (Refused Stranger) (refl, refl) (same_heap_keeps (heap_of a) (heap_of a) refl) (take_quiet (id_of a) from) refl
-
-unmade_quiet : (at : ℕ) (target : Target) → IsQuiet (entry_by at (Release target) (Refused Unmade))
-unmade_quiet at target = record { posts = λ made. record { made_none = λ j. refl; taken_none = λ i. refl }; drain = λ most k c r. cc; unfilled = λ name r. cc }
-
-pub unmade_stepped : {sli : ℕ} (n : ℕ) (a : Worker sli Queues) (limits : List ℕ) (target : Target) (made : List (Option Name)) (entries : List Entry) → KnowsQueueYard n a → name_of made target ≡ None
-    → QueueStepped n a limits (Release target) made entries a limits entries (Refused Unmade)
-unmade_stepped {sli} n a limits target made entries k none =
-    quiet_stepped n a a limits (Release target) made entries (Refused Unmade) (refl, refl) (same_heap_keeps (heap_of a) (heap_of a) refl) (unmade_quiet (id_of a) target)
-    (unmade_tells sli n (id_of a) (heap_of a) made entries target k.self none)
-
-freed_quiet : (at : ℕ) (target : Target) (r : Result (Unit {0}) Refusal) → IsQuiet (entry_by at (Release target) (reply_freed r))
-freed_quiet at target (Ok done) = record { posts = λ made. record { made_none = λ j. refl; taken_none = λ i. refl }; drain = λ most k c r. cc; unfilled = λ name r. cc }
-freed_quiet at target (Err why) = record { posts = λ made. record { made_none = λ j. refl; taken_none = λ i. refl }; drain = λ most k c r. cc; unfilled = λ name r. cc }
-
-free_stepped : {sli : ℕ} (n : ℕ) (a v : Worker sli Queues) (limits : List ℕ) (target : Target) (name : Name) (made : List (Option Name)) (entries : List Entry) (reply : Reply) → KnowsQueueYard n a → SameButHeap a v
-    → name_of made target ≡ Some name → name.heap ≡ id_of a → reply ≡ (own_freeing (heap_of a) name).reply → heap_of v ≡ (own_freeing (heap_of a) name).heap
-    → QueueStepped n a limits (Release target) made entries v limits entries reply
-unfolding released
-free_stepped {sli} n a v limits target name made entries reply k same known own e f =
-    quiet_stepped n a v limits (Release target) made entries reply same (call_keeps (heap_of a) (heap_of v) (heap.Release name) f)
-    (subst (λ r. IsQuiet (entry_by (id_of a) (Release target) r)) (sym e) (freed_quiet (id_of a) target (heap.released (heap_of a) name).answer))
-    (free_tells sli n (id_of a) (heap_of a) (heap_of v) made entries target name reply k.self known own e f)
-
--- ---- releases
-
-here_stepped : {sli : ℕ} (n : ℕ) (a v : Worker sli Queues) (limits : List ℕ) (target : Target) (name : Name) (made : List (Option Name)) (entries : List Entry) (answer : Result Released CrewRefusal) → KnowsQueueYard n a
-    → name_of made target ≡ Some name → name.heap ≡ id_of a → ReleasedHere a v name answer
-    → QueueStepped n a limits (Release target) made entries v limits entries (reply_released answer)
-unfolding released
-here_stepped n a v limits target name made entries answer k known own here =
-    free_stepped n a v limits target name made entries (reply_released answer) k here.same known own
-    (ap reply_released here.answer_is ∙ freed_reply (heap.released (heap_of a) name).answer) here.heap
-
-there_stepped : {sli : ℕ} (n : ℕ) (a v : Worker sli Queues) (limits : List ℕ) (target : Target) (name : Name) (made : List (Option Name)) (entries : List Entry) (answer : Result Released CrewRefusal) → KnowsQueueYard n a
-    → name_of made target ≡ Some name → name.heap ≢ id_of a → HasQueueEnd a name.heap → ReleasedThere PutsIntoQueue a v name answer
-    → QueueStepped n a limits (Release target) made entries v limits entries (reply_released answer)
-there_stepped n a v limits target name made entries answer k known ne has there =
-    let other = ends_are n a k name.heap has.0 has.1 in
-    let e : answer ≡ posted_as (put_answer name there.post.put) = there.answer_is ∙ ap posted_as there.post.answer_is in
-    subst (λ r. QueueStepped n a limits (Release target) made entries v limits entries (reply_released r)) (sym e)
-    (put_stepped n a v limits target name made entries there.post.put k known ne other.0 (there.post.same, there.post.through))
-
-pub release_stepped : {sli : ℕ} (n : ℕ) (a v : Worker sli Queues) (limits : List ℕ) (target : Target) (name : Name) (made : List (Option Name)) (entries : List Entry) (answer : Result Released CrewRefusal) → KnowsQueueYard n a
-    → name_of made target ≡ Some name → ReleasedAnywhere ReachesQueue PutsIntoQueue a v name answer → QueueStepped n a limits (Release target) made entries v limits entries (reply_released answer)
-release_stepped n a v limits target name made entries answer k known release = elim (cases_eq name.heap (id_of a)) [
-  | inl own ↦ here_stepped n a v limits target name made entries answer k known own (release.here own)
-  | inr ne ↦ elim (end_or (queue_end_to a name.heap)) [
-    | inl has ↦ there_stepped n a v limits target name made entries answer k known ne has (release.there ne has)
-    | inr none ↦
-        let e = release.nowhere ne none in
-        rw (e.0, e.1) (far_stepped n a limits target name made entries k known ne none)
-  ]
-]
+take_stepped n a limits from made entries = record {
+  own = [];
+  entries_are = sym (append-nil entries);
+  told = refl;
+  moved = λ rest.
+      none_moved (id_of a) (made ++ rest) a a limits (Take from) _ (refl, refl) (keeps_all a)
+      (record { posts = λ made. record { made_none = λ j. refl; taken_none = λ i. refl }; drain = λ most c. cc; unfilled = λ name r. cc });
+}

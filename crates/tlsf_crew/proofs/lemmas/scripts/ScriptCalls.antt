@@ -1,50 +1,104 @@
 -- One call of a worker, and the entry that tells of it.
-use Rattle.std.proofs.Common.{[], ◌∷◌, ◌++◌, ◌≡◌, ◌⊎◌, ℕ, ◌≤◌, List, Option, sym, ◌∙◌, ap, arith, refl, inl, inr, append-nil}
+use Rattle.std.proofs.Common.{[], ◌∷◌, ◌++◌, ◌≡◌, ◌≢◌, ◌⊎◌, ℕ, ◌≤◌, List, Option, Some, Result, Ok, Err, sym, ◌∙◌, ap, arith, refl, inl, inr, subst, append-nil}
 use Rattle.std.proofs.lemmas.Bool.{cases_eq, cases_lt}
-use Rattle.tlsf_heap.specs.Blocks.{HeapState}
 use Rattle.tlsf_heap.specs.declared.name.Name.{Name}
+use Rattle.tlsf_post.specs.declared.post.Post.{Post}
 use Rattle.tlsf_crew.specs.declared.worker.worker.Worker.{Worker}
 use Rattle.tlsf_crew.specs.declared.worker.lanes.Lanes.{Lanes}
 use Rattle.tlsf_calls.specs.declared.entry.Entry.{Entry}
 use Rattle.tlsf_calls.specs.declared.call.Call.{Call}
+use Rattle.tlsf_calls.specs.declared.call.Call.TheVariants.{Release, Take, Drain}
+use Rattle.tlsf_calls.specs.declared.crew_refusal.CrewRefusal.{CrewRefusal}
+use Rattle.tlsf_calls.specs.declared.crew_refusal.CrewRefusal.TheVariants.{Full, Stranger}
+use Rattle.tlsf_calls.specs.declared.released.Released.{Released}
 use Rattle.tlsf_calls.specs.declared.reply.Reply.{Reply}
-use Rattle.tlsf_crew.specs.worker.Workers.{heap_of, id_of}
-use Rattle.tlsf_crew.specs.lanes.LaneWorkers.{HasTake, KnowsYard, TookThrough}
-use Rattle.tlsf_crew.specs.model.World.{World, Replied, answered, called, heap_in, made_by}
-use Rattle.tlsf_crew.specs.model.Told.{HasHeap, told_by}
-use Rattle.tlsf_calls.specs.declared.call.Call.TheVariants.{Drain, Take}
-use Rattle.tlsf_calls.specs.declared.crew_refusal.CrewRefusal.TheVariants.{Stranger}
 use Rattle.tlsf_calls.specs.declared.reply.Reply.TheVariants.{Refused}
+use Rattle.tlsf_calls.specs.declared.target.Target.{Target}
 use Rattle.tlsf_calls.specs.declared.took.Took.{Took}
-use Rattle.tlsf_crew.proofs.lemmas.scripts.Witnesses.{a_suit}
-use Rattle.tlsf_crew.specs.scripts.LaneMoves.{one, Suits, CallStep, LaneMoved, LaneStepped}
-use Rattle.tlsf_crew.specs.scripts.Scripts.{reply_took, AreMoves, TakenWithin}
+use Rattle.tlsf_crew.specs.lanes.LaneCalls.{KeepsYards, PutsIntoLane, name_back}
+use Rattle.tlsf_crew.specs.worker.Calls.{ReleasedThere, posted_as, put_answer}
+use Rattle.tlsf_crew.specs.scripts.LaneMoves.{one, LaneMoved, LaneStepped}
+use Rattle.tlsf_crew.specs.scripts.Scripts.{reply_took, AreMoves, IsNoTake, IsQuiet, QuietCall, TakenWithin, reply_released, told_of}
+use Rattle.tlsf_crew.specs.model.Told.{IsModelAnswer}
+use Rattle.tlsf_crew.specs.worker.Workers.{heap_of, id_of}
+use Rattle.tlsf_crew.specs.lanes.LaneWorkers.{end_to, HasPost, HasTake, KnowsYard, PostEndPut, TookThrough}
+use Rattle.tlsf_crew.specs.model.World.{name_of}
+use Rattle.tlsf_crew.proofs.lemmas.histories.AllEntries.{more_knows}
+use Rattle.tlsf_crew.proofs.lemmas.scripts.LaneMoves.{moved_post, none_free, still_full}
 use Rattle.tlsf_crew.proofs.lemmas.scripts.LaneTakes.{moved_none}
-use Rattle.tlsf_crew.proofs.lemmas.scripts.WithinTakes.{take_answered, take_stranger, taken_within}
 use Rattle.tlsf_crew.proofs.lemmas.scripts.ManyEntries.{moved_room, moved_then}
+use Rattle.tlsf_crew.proofs.lemmas.scripts.OneEntry.{IsIdle, moved_idle, moved_still, still_heap}
+use Rattle.tlsf_crew.proofs.lemmas.scripts.OwnTold.{model_tells, put_answered}
+use Rattle.tlsf_crew.proofs.lemmas.worker.SameParts.{ports_heap}
+use Rattle.tlsf_crew.proofs.lemmas.worker.Slots.{end_or}
+use Rattle.tlsf_crew.proofs.lemmas.scripts.WithinTakes.{stranger_moved, stranger_answered, take_moved, take_answered, taken_within}
 
--- one answer, as it is told
-answer_told : {sli : ℕ} (at : ℕ) (made : List (Option Name)) (es : List Entry) (w : World sli) (call : Call) (reply : Reply) (h : HeapState) (x : Replied sli) → reply ≡ x.reply → h ≡ heap_in x.world at
-    → told_by at (answered (record { made = made; entries = es; world = w }) at call x) ≡ record { made = made ++ made_by reply ∷ []; entries = es ++ one at call reply; heap = h }
-answer_told at made es w call reply h x e g = rw (e, g) refl
+single_stepped : {sli : ℕ} (n : ℕ) (a v : Worker sli Lanes) (limits left : List ℕ) (call : Call) (made : List (Option Name)) (es : List Entry) (reply : Reply) → KnowsYard n a
+    → ((most : ℕ) → call ≡ Drain most → ⊥) → IsModelAnswer sli n (id_of a) (told_of made es (heap_of a)) call reply (heap_of v)
+    → ((rest : List (Option Name)) → LaneMoved (id_of a) (made ++ rest) a limits (call ∷ []) (one (id_of a) call reply) v left) → LaneStepped n a limits call made es v left es reply
+single_stepped {sli} n a v limits left call made es reply k single is moved = record {
+  own = [];
+  entries_are = sym (append-nil es);
+  told = model_tells sli n (id_of a) (told_of made es (heap_of a)) call reply (heap_of v) k.self is;
+  exact = λ w has s. is k.self w has s.one;
+  single = λ _. refl;
+  each = λ most e. absurd (single most e);
+  moved = moved;
+}
 
-pub single_stepped : {sli : ℕ} (n : ℕ) (a v : Worker sli Lanes) (limits left : List ℕ) (call : Call) (made : List (Option Name)) (es : List Entry) (reply : Reply) (by : World sli → Replied sli) → KnowsYard n a
-    → ((most : ℕ) → call ≡ Drain most → ⊥) → ((w : World sli) → called (record { made = made; entries = es; world = w }) (id_of a) call ≡ answered (record { made = made; entries = es; world = w }) (id_of a) call (by w))
-    → CallStep made a limits call v left reply by → LaneStepped n a limits call made es v left es reply
-single_stepped {sli} n a v limits left call made es reply by k single is x =
-    let told_in : (w : World sli) → HasHeap w n (id_of a) (heap_of a) → Suits w (id_of a) made call reply
-    → told_by (id_of a) (called (record { made = made; entries = es; world = w }) (id_of a) call) ≡ record { made = made ++ made_by reply ∷ []; entries = es ++ one (id_of a) call reply; heap = heap_of v } =
-    λ w has s. let t = x.told n k w has s in ap (told_by (id_of a)) (is w) ∙ answer_told (id_of a) made es w call reply (heap_of v) (by w) t.reply t.left in
-    let some = a_suit n a made call reply k.self in
-    record {
-      own = [];
-      entries_are = sym (append-nil es);
-      told = (some.0, some.1, told_in some.0 some.1 some.2);
-      exact = λ w has s. told_in w has s.one;
-      single = λ _. refl;
-      each = λ most e. absurd (single most e);
-      moved = x.moved;
-    }
+-- ---- a call that posts and takes nothing
+
+quiet_idle : {sli : ℕ} (at : ℕ) (later : List (Option Name)) (a : Worker sli Lanes) (limits : List ℕ) (e : Entry) → IsQuiet e → IsIdle at later a limits [] e
+quiet_idle at later a limits e q = record {
+  posts = q.posts later;
+  full = λ name p r. absurd (q.unfilled name r);
+  empty = λ i c. absurd (subst IsNoTake c q.call);
+  drained = λ most k i c. absurd (subst IsNoTake c q.call);
+}
+
+pub quiet_stepped : {sli : ℕ} (n : ℕ) (a v : Worker sli Lanes) (limits : List ℕ) (call : Call) (made : List (Option Name)) (es : List Entry) (reply : Reply) → KnowsYard n a → KeepsYards a v
+    → QuietCall n a v call made es reply → LaneStepped n a limits call made es v limits es reply
+quiet_stepped n a v limits call made es reply k yard q =
+    single_stepped n a v limits limits call made es reply k (λ most d. subst IsNoTake d q.quiet.call) q.told
+    (λ rest. moved_idle (id_of a) (made ++ rest) a v limits limits [] _ call (moved_still (id_of a) (made ++ rest) a v limits (still_heap (id_of a) a v q.same yard))
+    (quiet_idle (id_of a) (made ++ rest) a limits _ q.quiet))
+
+-- ---- a post
+
+pub has_port_or : {sli : ℕ} (n : ℕ) (a : Worker sli Lanes) (j : ℕ) → KnowsYard n a → HasPost a j ⊎ ((j ≢ id_of a → n ≤ j) × ¬ (HasPost a j))
+has_port_or n a j k = elim (end_or (end_to a j)) [
+  | inl has ↦ inl has
+  | inr none ↦ inr ((λ ne. elim (cases_lt j n) [ inl lt ↦ absurd (none ((k.to j).1 (lt, ne))) | inr ge ↦ ge ]), none)
+]
+
+full_idle : {sli : ℕ} (at : ℕ) (later : List (Option Name)) (a v : Worker sli Lanes) (limits : List ℕ) (target : Target) (name : Name) (post back : Post) → PostEndPut a v name.heap post (Err back)
+    → IsIdle at later a limits [] (record { worker = at; call = Release target; reply = Refused (Full name) })
+full_idle at later a v limits target name post back put = record {
+  posts = record { made_none = λ j. refl; taken_none = λ i. refl };
+  full = λ other p e is. let q : name ≡ other = cc in none_free a v name.heap post back p put (ap (λ x. end_to a x.heap) q ∙ is);
+  empty = λ i e. cc;
+  drained = λ most k i e. cc;
+}
+
+put_moved : {sli : ℕ} (made : List (Option Name)) (a v : Worker sli Lanes) (limits : List ℕ) (target : Target) (name : Name) (put : Result (Unit {0}) Post) → name_of made target ≡ Some name
+    → PostEndPut a v name.heap (record { from = id_of a; name = name }) put
+    → LaneMoved (id_of a) made a limits (Release target ∷ []) (one (id_of a) (Release target) (reply_released (posted_as (put_answer name (name_back put))))) v limits
+put_moved made a v limits target name (Ok done) known put = moved_post (id_of a) made a v limits target name done known refl put
+put_moved made a v limits target name (Err back) known put =
+    let post : Post = record { from = id_of a; name = name } in
+    moved_idle (id_of a) made a v limits limits [] _ (Release target) (moved_still (id_of a) made a v limits (still_full (id_of a) a v name.heap post back refl put))
+    (full_idle (id_of a) made a v limits target name post back put)
+
+pub there_stepped : {sli : ℕ} (n : ℕ) (a v : Worker sli Lanes) (limits : List ℕ) (target : Target) (name : Name) (made : List (Option Name)) (es : List Entry) (answer : Result Released CrewRefusal) → KnowsYard n a
+    → name_of made target ≡ Some name → name.heap ≢ id_of a → HasPost a name.heap → ReleasedThere PutsIntoLane a v name answer → LaneStepped n a limits (Release target) made es v limits es (reply_released answer)
+there_stepped {sli} n a v limits target name made es answer k known ne has there =
+    let put = there.post.through in
+    let near = (k.to name.heap).0 has in
+    let e : answer ≡ posted_as (put_answer name (name_back put.0)) = there.answer_is ∙ ap posted_as (there.post.answer_is ∙ ap (put_answer name) put.2) in
+    let h = sym (ports_heap a v there.post.same) in
+    rw e (single_stepped n a v limits limits (Release target) made es _ k (λ most d. cc)
+    (subst (IsModelAnswer sli n (id_of a) (told_of made es (heap_of a)) (Release target) _) h (put_answered sli n (id_of a) (heap_of a) made es target name (name_back put.0) known ne near.0))
+    (λ rest. put_moved (made ++ rest) a v limits target name put.0 (more_knows made rest target name known) (there.post.same, put.1)))
 
 -- ---- over lanes
 
@@ -57,6 +111,8 @@ lanes_moves = record {
   room = moved_room;
 }
 
+-- ---- a take
+
 no_lane : {sli : ℕ} (a : Worker sli Lanes) (n from : ℕ) → KnowsYard n a → ¬ (HasTake a from) → (from ≡ id_of a) ⊎ (n ≤ from)
 no_lane a n from k none = elim (cases_eq from (id_of a)) [
   | inl own ↦ inl own
@@ -64,12 +120,13 @@ no_lane a n from k none = elim (cases_eq from (id_of a)) [
 ]
 
 pub stranger_stepped : {sli : ℕ} (n : ℕ) (a : Worker sli Lanes) (limits : List ℕ) (from : ℕ) (made : List (Option Name)) (es : List Entry) → KnowsYard n a → ¬ (HasTake a from) → LaneStepped n a limits (Take from) made es a limits es (Refused Stranger)
-stranger_stepped n a limits from made es k none =
-    single_stepped n a a limits limits (Take from) made es (Refused Stranger) _ k (λ most e. cc) (λ w. refl) (take_stranger made n a limits from k (no_lane a n from k none))
+stranger_stepped {sli} n a limits from made es k none =
+    single_stepped n a a limits limits (Take from) made es (Refused Stranger) k (λ most e. cc) (stranger_answered sli n (id_of a) from (told_of made es (heap_of a)) (no_lane a n from k none))
+    (λ rest. stranger_moved (made ++ rest) a limits from)
 
 pub take_stepped : {sli : ℕ} (n : ℕ) (a v : Worker sli Lanes) (limits left : List ℕ) (from : ℕ) (made : List (Option Name)) (es : List Entry) (answer : Option Took) → KnowsYard n a → HasTake a from
     → TakenWithin TookThrough a limits from v left answer → LaneStepped n a limits (Take from) made es v left es (reply_took answer)
 take_stepped n a v limits left from made es answer k has t =
     let near = (k.from from).0 has in
-    single_stepped n a v limits left (Take from) made es (reply_took answer) _ k (λ most e. cc) (λ w. refl)
-    (take_answered made n a v limits left from answer k near.1 near.0 (taken_within a v limits left from answer (omega (arith, near.0, k.few)) t))
+    let w = taken_within a v limits left from answer (omega (arith, near.0, k.few)) t in
+    single_stepped n a v limits left (Take from) made es (reply_took answer) k (λ most e. cc) (take_answered n a v limits left from made es answer near.1 near.0 w) (λ rest. take_moved (made ++ rest) a v limits left from answer w)

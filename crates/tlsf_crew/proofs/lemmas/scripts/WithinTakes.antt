@@ -1,8 +1,8 @@
 -- A take of a worker in a race, where a limit says how many it may take.
-use Rattle.std.proofs.Common.{[], ◌∷◌, ◌++◌, ◌≡◌, ◌≢◌, ◌-◌, ℕ, ◌<◌, ◌≤◌, List, Option, Some, None, length, take, set, sym, ◌∙◌, ap, arith, refl, inl, inr, ◌⊎◌, subst}
+use Rattle.std.proofs.Common.{[], ◌∷◌, ◌≡◌, ◌≢◌, ◌-◌, ℕ, ◌<◌, ◌≤◌, List, Option, Some, None, length, take, set, sym, ◌∙◌, ap, arith, refl, inl, inr, ◌⊎◌, subst}
 use mathlib.Core.List.{IsPrefix}
 use Rattle.std.specs.Prelude.{slice_index}
-use Rattle.std.proofs.lemmas.Bool.{cases_eq, cases_lt}
+use Rattle.std.proofs.lemmas.Bool.{cases_lt}
 use Rattle.std.proofs.lemmas.List.{get_or-set_same, get_or-set_other}
 use Rattle.tlsf_heap.specs.Calls as heap
 use Rattle.tlsf_heap.specs.declared.name.Name.{Name}
@@ -18,13 +18,13 @@ use Rattle.tlsf_calls.specs.declared.reply.Reply.TheVariants.{Took as Taken, Emp
 use Rattle.tlsf_calls.specs.declared.crew_refusal.CrewRefusal.TheVariants.{Stranger}
 use Rattle.tlsf_crew.specs.model.Heaps.{released}
 use Rattle.tlsf_crew.specs.worker.Workers.{heap_of, id_of}
-use Rattle.tlsf_crew.specs.lanes.LaneWorkers.{TakeEndTook, TookThrough, KnowsYard}
+use Rattle.tlsf_crew.specs.lanes.LaneWorkers.{TakeEndTook, TookThrough}
 use Rattle.tlsf_crew.specs.worker.Calls.{AfterTake}
 use Rattle.tlsf_crew.specs.lanes.LaneCalls.{TakenFromLane}
-use Rattle.tlsf_crew.specs.model.Told.{HasHeap}
-use Rattle.tlsf_crew.specs.model.World.{World, heap_in, taking, taking_next, took, took_first}
-use Rattle.tlsf_crew.specs.scripts.Scripts.{reply_took, TakenWithin}
-use Rattle.tlsf_crew.specs.scripts.LaneMoves.{one, Spent, LaneMoved, ModelReplies, CallStep, LaneTakenWithin, took_by}
+use Rattle.tlsf_crew.specs.model.Told.{IsModelAnswer, Told}
+use Rattle.tlsf_crew.specs.model.World.{World, Replied, answered, called, heap_in, taking, taking_next, took, took_first}
+use Rattle.tlsf_crew.specs.scripts.Scripts.{reply_took, TakenWithin, told_of}
+use Rattle.tlsf_crew.specs.scripts.LaneMoves.{one, Spent, LaneMoved, LaneTakenWithin, took_by}
 use Rattle.tlsf_crew.proofs.lemmas.worker.SameParts.{ports_heap}
 use Rattle.tlsf_crew.proofs.lemmas.lanes.YardKept.{heap_keeps, same_keeps}
 use Rattle.tlsf_crew.proofs.lemmas.scripts.LaneMoves.{moved_take, spent_none, still_empty}
@@ -32,7 +32,7 @@ use Rattle.tlsf_crew.specs.scripts.Journals.{OneFewer}
 use Rattle.tlsf_crew.proofs.lemmas.scripts.ManyEntries.{moved_then}
 use Rattle.tlsf_crew.proofs.lemmas.model.OneEvent.{taking_far, taking_lane, taking_own}
 use Rattle.tlsf_crew.proofs.lemmas.scripts.OneEntry.{Still, IsIdle, moved_still, moved_idle, still_heap}
-use Rattle.tlsf_crew.proofs.lemmas.scripts.OwnAnswers.{itself_answered}
+use Rattle.tlsf_crew.proofs.lemmas.scripts.OwnTold.{told_where}
 use Rattle.tlsf_crew.proofs.lemmas.worker.OwnHeaps.{call_keeps}
 use Rattle.tlsf_crew.proofs.lemmas.scripts.Witnesses.{heap_left}
 
@@ -100,6 +100,10 @@ taken_within a v limits left from (Some took) near t = within_some a v limits le
 
 -- ---- a take of its own
 
+take_called : {sli : ℕ} (at : ℕ) (s : Told) (w : World sli) (from : ℕ) (x : Replied sli) → taking w at from ≡ x
+    → called (record { made = s.made; entries = s.entries; world = w }) at (Take from) ≡ answered (record { made = s.made; entries = s.entries; world = w }) at (Take from) x
+take_called at s w from x is = ap (answered (record { made = s.made; entries = s.entries; world = w }) at (Take from)) is
+
 refused_take : {sli : ℕ} (at from : ℕ) (later : List (Option Name)) (a : Worker sli Lanes) (limits : List ℕ) → IsIdle at later a limits [] (record { worker = at; call = Take from; reply = Refused Stranger })
 refused_take at from later a limits = record {
   posts = record { made_none = λ j. refl; taken_none = λ i. refl };
@@ -108,20 +112,15 @@ refused_take at from later a limits = record {
   drained = λ most k i e. cc;
 }
 
-pub take_stranger : {sli : ℕ} (made : List (Option Name)) (n : ℕ) (a : Worker sli Lanes) (limits : List ℕ) (from : ℕ) → KnowsYard n a → (from ≡ id_of a) ⊎ (n ≤ from)
-    → CallStep made a limits (Take from) a limits (Refused Stranger) (λ w. taking w (id_of a) from)
-take_stranger made n a limits from known away =
-    itself_answered made a limits (Take from) (Refused Stranger) (λ w. taking w (id_of a) from) (λ later. refused_take (id_of a) from later a limits)
-    (λ m k w e. elim (cases_eq from (id_of a)) [
-      | inl own ↦ taking_own w (id_of a) from own
-      | inr ne ↦ elim (cases_lt from m) [
-        | inl lt ↦ elim away [
-          | inl own ↦ absurd (ne own)
-          | inr far ↦ let x = (known.from from).0 ((k.from from).1 (lt, ne)) in absurd (omega (arith, x.0))
-        ]
-        | inr ge ↦ taking_far w (id_of a) from (omega arith)
-      ]
-    ])
+pub stranger_answered : (sli n at from : ℕ) (s : Told) → (from ≡ at) ⊎ (n ≤ from) → IsModelAnswer sli n at s (Take from) (Refused Stranger) s.heap
+stranger_answered sli n at from s away = λ lt w has suits.
+    let x : Replied sli = record { reply = Refused Stranger; world = w } in
+    let e : taking w at from ≡ x = elim away [ inl own ↦ taking_own w at from own | inr far ↦ taking_far w at from (omega (arith, has.0)) ] in
+    told_where at s w (Take from) (Refused Stranger) s.heap x (take_called at s w from x e) (record { same = refl; left = sym has.1 })
+
+pub stranger_moved : {sli : ℕ} (made : List (Option Name)) (a : Worker sli Lanes) (limits : List ℕ) (from : ℕ) → LaneMoved (id_of a) made a limits (Take from ∷ []) (one (id_of a) (Take from) (Refused Stranger)) a limits
+stranger_moved made a limits from =
+    moved_idle (id_of a) made a a limits limits [] _ (Take from) (moved_still (id_of a) made a a limits (still_heap (id_of a) a a (refl, refl) (same_keeps a))) (refused_take (id_of a) from made a limits)
 
 empty_idle : {sli : ℕ} (at from : ℕ) (later : List (Option Name)) (a : Worker sli Lanes) (limits : List ℕ) → Spent a limits at from [] → IsIdle at later a limits [] (record { worker = at; call = Take from; reply = Empty })
 empty_idle at from later a limits spent = record {
@@ -151,36 +150,27 @@ first_world : {sli : ℕ} (w : World sli) (at from : ℕ) (posts : List Post) �
 unfolding taking_next
 first_world w at from posts e = ap (took_first w at from) e
 
--- a lane that is there for one count of workers is there for the other
-is_near : {sli : ℕ} (n m : ℕ) (a : Worker sli Lanes) (from : ℕ) → KnowsYard n a → KnowsYard m a → from ≢ id_of a → from < n → from < m
-is_near n m a from known k ne lt = let x = (k.from from).0 ((known.from from).1 (lt, ne)) in x.0
+pub take_answered : {sli : ℕ} (n : ℕ) (a v : Worker sli Lanes) (limits left : List ℕ) (from : ℕ) (made : List (Option Name)) (es : List Entry) (answer : Option Took) → from ≢ id_of a → from < n
+    → LaneTakenWithin a limits from v left answer → IsModelAnswer sli n (id_of a) (told_of made es (heap_of a)) (Take from) (reply_took answer) (heap_of v)
+take_answered {sli} n a v limits left from made es None ne lt t = λ self w has s.
+    let at = id_of a in
+    let inside : from < length w.heaps = omega (arith, has.0) in
+    let x : Replied sli = record { reply = Empty; world = w } in
+    let e : taking w at from ≡ x = taking_lane w at from ne inside ∙ first_world w at from [] (s.empty from refl ne inside refl) in
+    told_where at (told_of made es (heap_of a)) w (Take from) Empty (heap_of v) x (take_called at (told_of made es (heap_of a)) w from x e) (record { same = refl; left = t.1 ∙ sym has.1 })
+take_answered {sli} n a v limits left from made es (Some y) ne lt t = λ self w has s.
+    let at = id_of a in
+    let p = t.1 in
+    let inside : from < length w.heaps = omega (arith, has.0) in
+    let f = s.first from y refl ne inside refl in
+    let waits : w.waiting from at ≡ p ∷ f.0 = f.1 ∙ ap (λ (z : Took). record { from = z.from; name = z.name } ∷ f.0) t.2 in
+    let e = taking_lane w at from ne inside ∙ first_world w at from (p ∷ f.0) waits in
+    told_where at (told_of made es (heap_of a)) w (Take from) (Taken y) (heap_of v) (took w at from p f.0) (take_called at (told_of made es (heap_of a)) w from _ e) (record {
+      same = ap Taken t.2 ∙ ap (λ g. Taken (took_by g p)) (sym has.1);
+      left = t.3 ∙ (ap (λ g. (released g p.name).heap) (sym has.1) ∙ sym (heap_left n at w (heap_of a) (released (heap_in w at) p.name).heap self has));
+    })
 
-took_world : {sli : ℕ} (n : ℕ) (a v : Worker sli Lanes) (from : ℕ) (p : Post) (rest : List Post) (w : World sli) → heap_of v ≡ (released (heap_of a) p.name).heap → id_of a < n → HasHeap w n (id_of a) (heap_of a)
-    → ModelReplies (id_of a) v (Taken (took_by (heap_of a) p)) (took w (id_of a) from p rest)
-took_world n a v from p rest w h lt has = record {
-  reply = ap (λ g. Taken (took_by g p)) (sym has.1);
-  left = h ∙ (ap (λ g. (released g p.name).heap) (sym has.1) ∙ sym (heap_left n (id_of a) w (heap_of a) (released (heap_in w (id_of a)) p.name).heap lt has));
-}
-
-pub take_answered : {sli : ℕ} (made : List (Option Name)) (n : ℕ) (a v : Worker sli Lanes) (limits left : List ℕ) (from : ℕ) (answer : Option Took) → KnowsYard n a → from ≢ id_of a → from < n → LaneTakenWithin a limits from v left answer
-    → CallStep made a limits (Take from) v left (reply_took answer) (λ w. taking w (id_of a) from)
-take_answered made n a v limits left from None known ne lt t = record {
-  told = λ m k w has s.
-      let near = is_near n m a from known k ne lt in
-      let inside : from < length w.heaps = omega (arith, has.0) in
-      let e = taking_lane w (id_of a) from ne inside ∙ first_world w (id_of a) from [] (s.empty from refl ne inside refl) in
-      record { reply = ap (λ r. r.reply) (sym e); left = t.1 ∙ (sym has.1 ∙ ap (λ r. heap_in r.world (id_of a)) (sym e)) };
-  moved = λ rest. moved_idle (id_of a) (made ++ rest) a v limits left [] _ (Take from) (t.0 (made ++ rest)) (empty_idle (id_of a) from (made ++ rest) a limits t.2);
-}
-take_answered made n a v limits left from (Some x) known ne lt t = record {
-  told = λ m k w has s.
-      let p = t.1 in
-      let near = is_near n m a from known k ne lt in
-      let inside : from < length w.heaps = omega (arith, has.0) in
-      let f = s.first from x refl ne inside refl in
-      let waits : w.waiting from (id_of a) ≡ p ∷ f.0 = f.1 ∙ ap (λ (y : Took). record { from = y.from; name = y.name } ∷ f.0) t.2 in
-      let e = taking_lane w (id_of a) from ne inside ∙ first_world w (id_of a) from (p ∷ f.0) waits in
-      let y = took_world m a v from p f.0 w t.3 k.self has in
-      record { reply = ap Taken t.2 ∙ (y.reply ∙ ap (λ r. r.reply) (sym e)); left = y.left ∙ ap (λ r. heap_in r.world (id_of a)) (sym e) };
-  moved = λ rest. more_calls (id_of a) (made ++ rest) a v limits left (Take from) _ (t.0 (made ++ rest));
-}
+pub take_moved : {sli : ℕ} (made : List (Option Name)) (a v : Worker sli Lanes) (limits left : List ℕ) (from : ℕ) (answer : Option Took) → LaneTakenWithin a limits from v left answer
+    → LaneMoved (id_of a) made a limits (Take from ∷ []) (one (id_of a) (Take from) (reply_took answer)) v left
+take_moved made a v limits left from None t = moved_idle (id_of a) made a v limits left [] _ (Take from) (t.0 made) (empty_idle (id_of a) from made a limits t.2)
+take_moved made a v limits left from (Some x) t = more_calls (id_of a) made a v limits left (Take from) _ (t.0 made)

@@ -1,28 +1,39 @@
+use Rattle.tlsf_calls.specs.Bytes.{bytes_of}
+use Rattle.tlsf_crew.specs.model.World.{name_of}
+use Rattle.tlsf_crew.proofs.lemmas.model.OwnReplied.{read_keeps, resize_keeps, write_keeps}
+use Rattle.tlsf_crew.proofs.lemmas.scripts.OwnTold.{allocate_call, read_call, resize_call, write_call}
 use Rattle.tlsf_crew.proofs.scripts.executor.reply_to.Goals as goal
 
 pub returns-in-Allocate-clause-stepped : goal.returns-in-Allocate-clause-stepped
 returns-in-Allocate-clause-stepped g c = λ n k.
     let e = c.reply_to_own_allocate.ensures in
     rw c.in-Allocate.is
-    (c.own_replies_step.ensures.allocated g.row.SLI n c.args.worker.now c.reply_to_own_allocate.new.worker c.args.journal.now.limits c.in-Allocate.len c.args.made.now c.args.journal.now.entries.items c.reply_to_own_allocate.result k e.same e.yard e.reply e.heap)
+    (c.quiet_step.ensures g.row.SLI n _ _ c.args.journal.now.limits _ _ _ _ k e.yard
+    (allocate_call n c.args.worker.now c.reply_to_own_allocate.new.worker c.in-Allocate.len c.args.made.now c.args.journal.now.entries.items c.reply_to_own_allocate.result e.same e.replied))
 
 pub returns-in-Write-clause-stepped : goal.returns-in-Write-clause-stepped
 returns-in-Write-clause-stepped g c = λ n k.
     let e = c.reply_to_own_write.ensures in
+    let kept = write_keeps _ _ (name_of c.args.made.now c.in-Write.target) c.in-Write.at (bytes_of c.in-Write.bytes) e.replied.left in
     rw c.in-Write.is
-    (c.own_replies_step.ensures.written g.row.SLI n c.args.worker.now c.reply_to_own_write.new.worker c.args.journal.now.limits c.in-Write.target c.in-Write.at c.in-Write.bytes c.args.made.now c.args.journal.now.entries.items c.reply_to_own_write.result k e.same e.reply e.heap)
+    (c.quiet_step.ensures g.row.SLI n _ _ c.args.journal.now.limits _ _ _ _ k (c.heap_keeps.ensures g.row.SLI _ _ e.same kept)
+    (write_call n c.args.worker.now c.reply_to_own_write.new.worker c.in-Write.target c.in-Write.at c.in-Write.bytes c.args.made.now c.args.journal.now.entries.items c.reply_to_own_write.result e.same e.replied))
 
 pub returns-in-Read-clause-stepped : goal.returns-in-Read-clause-stepped
 returns-in-Read-clause-stepped g c = λ n k.
     let e = c.reply_to_own_read.ensures in
+    let kept = read_keeps _ _ (name_of c.args.made.now c.in-Read.target) c.in-Read.at c.in-Read.n e.replied.left in
     rw c.in-Read.is
-    (c.own_replies_step.ensures.read g.row.SLI n c.args.worker.now c.reply_to_own_read.new.worker c.args.journal.now.limits c.in-Read.target c.in-Read.at c.in-Read.n c.args.made.now c.args.journal.now.entries.items c.reply_to_own_read.result k e.same e.reply e.heap)
+    (c.quiet_step.ensures g.row.SLI n _ _ c.args.journal.now.limits _ _ _ _ k (c.heap_keeps.ensures g.row.SLI _ _ e.same kept)
+    (read_call n c.args.worker.now c.reply_to_own_read.new.worker c.in-Read.target c.in-Read.at c.in-Read.n c.args.made.now c.args.journal.now.entries.items c.reply_to_own_read.result e.same e.replied))
 
 pub returns-in-Resize-clause-stepped : goal.returns-in-Resize-clause-stepped
 returns-in-Resize-clause-stepped g c = λ n k.
     let e = c.reply_to_own_resize.ensures in
+    let kept = resize_keeps _ _ (name_of c.args.made.now c.in-Resize.target) c.in-Resize.len e.replied.left in
     rw c.in-Resize.is
-    (c.own_replies_step.ensures.resized g.row.SLI n c.args.worker.now c.reply_to_own_resize.new.worker c.args.journal.now.limits c.in-Resize.target c.in-Resize.len c.args.made.now c.args.journal.now.entries.items c.reply_to_own_resize.result k e.same e.reply e.heap)
+    (c.quiet_step.ensures g.row.SLI n _ _ c.args.journal.now.limits _ _ _ _ k (c.heap_keeps.ensures g.row.SLI _ _ e.same kept)
+    (resize_call n c.args.worker.now c.reply_to_own_resize.new.worker c.in-Resize.target c.in-Resize.len c.args.made.now c.args.journal.now.entries.items c.reply_to_own_resize.result e.same e.replied))
 
 pub returns-in-Release-clause-stepped : goal.returns-in-Release-clause-stepped
 returns-in-Release-clause-stepped g c = λ n k. rw c.in-Release.is (c.reply_to_release.ensures n c.args.journal.now.limits c.args.journal.now.entries.items k)

@@ -1,27 +1,25 @@
-use Rattle.std.proofs.Common.{ap, sym, subst, Ok, Err}
+use Rattle.std.proofs.Common.{refl, sym}
 use Rattle.tlsf_calls.specs.declared.call.Call.TheVariants.{Release}
-use Rattle.tlsf_crew.specs.scripts.Scripts.{reply_released}
+use Rattle.tlsf_calls.specs.declared.crew_refusal.CrewRefusal.TheVariants.{Unmade}
+use Rattle.tlsf_calls.specs.declared.reply.Reply.TheVariants.{Refused}
+use Rattle.tlsf_crew.proofs.lemmas.worker.OwnHeaps.{same_heap_keeps}
+use Rattle.tlsf_crew.proofs.lemmas.scripts.OwnTold.{release_by, unmade_call}
 use Rattle.tlsf_crew.proofs.scripts.executor.reply_to_release.Goals as goal
 
 pub returns-in_default : goal.returns-in_default
-returns-in_default g c = λ n limits entries k. c.releases_step.ensures.unmade g.row.SLI n c.args.worker.now limits c.args.target c.args.made.now entries k (sym c.in_default.ensures)
+returns-in_default g c = λ n limits entries k.
+    let a = c.args.worker.now in
+    c.quiet_step.ensures g.row.SLI n a a limits (Release c.args.target) c.args.made.now entries (Refused Unmade) k (c.heap_keeps.ensures g.row.SLI a a (refl, refl) (same_heap_keeps _ _ refl))
+    (unmade_call n a c.args.target c.args.made.now entries (sym c.in_default.ensures))
 
-pub returns-in-Ok-Freed : goal.returns-in-Ok-Freed
-returns-in-Ok-Freed g c = λ n limits entries k.
-    let e = c.in-Ok-Freed.ensures in
-    subst (λ r. g.P.Scripted.steps g.row.SLI n c.args.worker.now limits (Release c.args.target) c.args.made.now entries c.release.new.worker limits entries r) (ap (λ x. reply_released (Ok x)) c.in-Ok-Freed.field-0-is)
-    (c.releases_step.ensures.named g.row.SLI n c.args.worker.now c.release.new.worker limits c.args.target c.in-Some.name c.args.made.now entries (Ok c.in-Ok-Freed.field-0) k (sym c.in-Some.ensures)
-    (record { here = e.here; there = e.there; nowhere = e.nowhere }))
-
-pub returns-in-Ok-Posted : goal.returns-in-Ok-Posted
-returns-in-Ok-Posted g c = λ n limits entries k.
-    let e = c.in-Ok-Posted.ensures in
-    subst (λ r. g.P.Scripted.steps g.row.SLI n c.args.worker.now limits (Release c.args.target) c.args.made.now entries c.release.new.worker limits entries r) (ap (λ x. reply_released (Ok x)) c.in-Ok-Posted.field-0-is)
-    (c.releases_step.ensures.named g.row.SLI n c.args.worker.now c.release.new.worker limits c.args.target c.in-Some.name c.args.made.now entries (Ok c.in-Ok-Posted.field-0) k (sym c.in-Some.ensures)
-    (record { here = e.here; there = e.there; nowhere = e.nowhere }))
-
-pub returns-in-Err : goal.returns-in-Err
-returns-in-Err g c = λ n limits entries k.
-    let e = c.in-Err.ensures in
-    c.releases_step.ensures.named g.row.SLI n c.args.worker.now c.release.new.worker limits c.args.target c.in-Some.name c.args.made.now entries (Err c.in-Err.why) k (sym c.in-Some.ensures)
-    (record { here = e.here; there = e.there; nowhere = e.nowhere })
+pub returns : goal.returns
+returns g c = λ n limits entries k.
+    let a = c.args.worker.now in
+    let v = c.release.new.worker in
+    let made = c.args.made.now in
+    let e = c.release.ensures in
+    rw c.as_reply.ensures
+    (release_by n g.P.Ports.reaches g.P.Exchange.puts a v c.args.target c.in-Some.name made entries c.release.result (λ u reply. g.P.Scripted.steps g.row.SLI n a limits (Release c.args.target) made entries u limits entries reply) (sym c.in-Some.ensures)
+    (record { here = e.here; there = e.there; nowhere = e.nowhere }) (c.posts_step.ensures.reached g.row.SLI n a c.in-Some.name.heap k)
+    (λ u reply kept q. c.quiet_step.ensures g.row.SLI n a u limits (Release c.args.target) made entries reply k (c.heap_keeps.ensures g.row.SLI a u q.same kept) q)
+    (λ ne has there. c.posts_step.ensures.posted g.row.SLI n a v limits c.args.target c.in-Some.name made entries c.release.result k (sym c.in-Some.ensures) ne has there))

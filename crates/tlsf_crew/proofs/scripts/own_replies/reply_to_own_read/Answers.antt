@@ -1,24 +1,13 @@
-use Rattle.std.proofs.Common.{refl}
+use Rattle.tlsf_calls.specs.declared.reply.Reply.TheVariants.{Got}
 use Rattle.tlsf_crew.specs.worker.Workers.{heap_of}
-use Rattle.tlsf_crew.specs.model.OwnReplies.{own_reading}
-use Rattle.tlsf_crew.proofs.lemmas.scripts.OwnAnswers.{got_ok, got_err}
-use Rattle.tlsf_crew.proofs.lemmas.model.OwnReplied.{none_replied, read_replied}
+use Rattle.tlsf_crew.proofs.lemmas.model.OwnReplied.{by_ok, by_err, none_replied, read_replied}
 use Rattle.tlsf_crew.proofs.scripts.own_replies.reply_to_own_read.Goals as goal
 
-pub returns-in_default-clause-reply : goal.returns-in_default-clause-reply
-returns-in_default-clause-reply g c = let x = none_replied (heap_of c.args.worker.now) _ (λ o. own_reading (heap_of c.args.worker.now) o c.args.from c.args.n) c.in_default.ensures refl in x.same
+pub returns-in_default-clause-replied : goal.returns-in_default-clause-replied
+returns-in_default-clause-replied g c = none_replied (heap_of c.args.worker.now) _ _ c.in_default.ensures
 
-pub returns-in_default-clause-heap : goal.returns-in_default-clause-heap
-returns-in_default-clause-heap g c = let x = none_replied (heap_of c.args.worker.now) _ (λ o. own_reading (heap_of c.args.worker.now) o c.args.from c.args.n) c.in_default.ensures refl in x.left
+pub returns-in-Ok-clause-replied : goal.returns-in-Ok-clause-replied
+returns-in-Ok-clause-replied g c = read_replied (heap_of c.args.worker.now) _ _ c.in-Some.name c.args.from c.args.n _ c.in-Some.ensures (by_ok Got _ c.in-Ok.bytes c.in-Ok.ensures.answer) c.in-Ok.ensures.heap
 
-pub returns-in-Ok-clause-reply : goal.returns-in-Ok-clause-reply
-returns-in-Ok-clause-reply g c = let x = read_replied (heap_of c.args.worker.now) _ _ c.in-Some.name c.args.from c.args.n _ c.in-Some.ensures (got_ok _ c.in-Ok.bytes c.in-Ok.ensures.answer) c.in-Ok.ensures.heap in x.same
-
-pub returns-in-Ok-clause-heap : goal.returns-in-Ok-clause-heap
-returns-in-Ok-clause-heap g c = let x = read_replied (heap_of c.args.worker.now) _ _ c.in-Some.name c.args.from c.args.n _ c.in-Some.ensures (got_ok _ c.in-Ok.bytes c.in-Ok.ensures.answer) c.in-Ok.ensures.heap in x.left
-
-pub returns-in-Err-clause-reply : goal.returns-in-Err-clause-reply
-returns-in-Err-clause-reply g c = let x = read_replied (heap_of c.args.worker.now) _ _ c.in-Some.name c.args.from c.args.n _ c.in-Some.ensures (got_err _ c.in-Err.why c.in-Err.ensures.answer) c.in-Err.ensures.heap in x.same
-
-pub returns-in-Err-clause-heap : goal.returns-in-Err-clause-heap
-returns-in-Err-clause-heap g c = let x = read_replied (heap_of c.args.worker.now) _ _ c.in-Some.name c.args.from c.args.n _ c.in-Some.ensures (got_err _ c.in-Err.why c.in-Err.ensures.answer) c.in-Err.ensures.heap in x.left
+pub returns-in-Err-clause-replied : goal.returns-in-Err-clause-replied
+returns-in-Err-clause-replied g c = read_replied (heap_of c.args.worker.now) _ _ c.in-Some.name c.args.from c.args.n _ c.in-Some.ensures (by_err Got _ c.in-Err.why c.in-Err.ensures.answer) c.in-Err.ensures.heap
