@@ -5,7 +5,7 @@
 use anyhow::Error;
 use std::alloc::AllocError;
 use std::collections::BTreeMap;
-use tlsf_arena::LocalArena;
+use tlsf_arena::DefaultArena;
 
 /// 8 KiB, in units of 16 bytes.
 const UNITS: u32 = 512;
@@ -13,13 +13,13 @@ const UNITS: u32 = 512;
 /// An echo of so many samples: each one that comes out is added to the one that goes in.
 #[derive(Drop)]
 struct Echo<'a> {
-    name: String<&'a LocalArena>,
-    line: Vec<f32, &'a LocalArena>,
+    name: String<&'a DefaultArena>,
+    line: Vec<f32, &'a DefaultArena>,
     at: usize,
 }
 
 impl<'a> Echo<'a> {
-    fn new(memory: &'a LocalArena, name: &str, samples: usize) -> Result<Echo<'a>, AllocError> {
+    fn new(memory: &'a DefaultArena, name: &str, samples: usize) -> Result<Echo<'a>, AllocError> {
         Ok(Echo {
             name: String::from_str(memory, name)?,
             line: Vec::from_elem(memory, 0.0, samples)?,
@@ -29,8 +29,8 @@ impl<'a> Echo<'a> {
 }
 
 fn main(rt: HostRuntime) -> Result<(), Error> {
-    let memory = LocalArena::open(rt.alloc(), 0, UNITS)?;
-    let mut samples: Vec<f32, &LocalArena> = Vec::with_capacity(&memory, 256)?;
+    let memory = DefaultArena::open(rt.alloc(), 0, UNITS)?;
+    let mut samples: Vec<f32, &DefaultArena> = Vec::with_capacity(&memory, 256)?;
     samples.push(0.5)?;
     let echo = Echo::new(&memory, "hall", 256)?;
     let mut notes = BTreeMap::new(&memory);

@@ -1,8 +1,12 @@
+pub mod Buffers
 pub mod Cell
+pub mod Holding
 pub mod Mapped
 pub mod Maps
 pub mod Resizes
 pub mod Rooms
+pub mod SameBlock
 pub mod Spread
 pub mod Taken
 pub mod UnitCases
+pub mod Ways

@@ -1,5 +1,8 @@
 -- An arena's map of free grains under the calls of its heap.
-use Rattle.std.proofs.Common.{◌≡◌, ℕ, ◌*◌, ◌/◌, ◌^◌, ◌≤◌, Bool, true, false, List, length, replicate, Some, Ok, sym, ap, subst, ◌∙◌, arith}
+use Rattle.std.proofs.lemmas.Bool.{cases_lt, cases_cond}
+use Rattle.tlsf_class.specs.Classes.{most_words}
+use Rattle.tlsf_heap.specs.Lawful.{IsRegion}
+use Rattle.std.proofs.Common.{◌≡◌, ℕ, ◌*◌, ◌/◌, ◌^◌, ◌≤◌, Bool, true, false, eqb, List, length, replicate, Some, Ok, inl, inr, refl, sym, ap, subst, ◌∙◌, arith}
 use Rattle.std.proofs.lemmas.List.{length-replicate, append-nil}
 use Rattle.tlsf_class.specs.Classes.{IsLevel}
 use Rattle.tlsf_heap.specs.Blocks.{HeapState}
@@ -68,6 +71,14 @@ refits sli u units old new free name k n at size at' size' mapped lawful held an
             },
           ),
     )
+
+-- the most words of a level
+few_words : (sli : ℕ) → most_words sli ≤ 2 ^ 24
+few_words sli = elim (cases_cond (eqb sli 4) (2 ^ 20) (2 ^ 24) (most_words sli) refl) [ inl e ↦ omega (arith, e) | inr e ↦ omega (arith, e) ]
+
+-- a region that isn't refused is no larger than the greatest
+pub few_units : (sli units : ℕ) → ¬ (¬ (IsRegion sli units)) → units ≤ 2 ^ 24
+few_units sli units h = elim (cases_lt (2 ^ 24) units) [ inl over ↦ absurd (h (λ r. omega (arith, over, r.1, few_words sli))) | inr within ↦ within ]
 
 -- a new arena
 pub opens : (sli u units id size : ℕ) (heap : HeapState) (free : Bits) → IsLevel sli → IsUnit u → 4 ≤ units → units ≤ 2 ^ 24 → heap ≡ opened id units 0 → size / 16 ≡ u / 16 * units → free ≡ replicate (size / 16) true → IsMapped sli u units heap free

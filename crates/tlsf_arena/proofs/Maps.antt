@@ -227,7 +227,7 @@ held_of h name k s lawful found wants =
 -- ---- a block that was given
 
 -- the units of a block are seen where it stands
-stands_held : (h : HeapState) (s : Site) (m t k : ℕ) (xs : List ℕ) → IsLawful h → s.block ≡ Live m t xs → IsSiteOf h.blocks s → held_units m (length xs) ≡ k → held_at h.blocks (place_of s) ≡ Some k
+pub stands_held : (h : HeapState) (s : Site) (m t k : ℕ) (xs : List ℕ) → IsLawful h → s.block ≡ Live m t xs → IsSiteOf h.blocks s → held_units m (length xs) ≡ k → held_at h.blocks (place_of s) ≡ Some k
 stands_held h s m t k xs lawful same site holds =
     let there = stands h.blocks s site in
     let seen : placed_at h.blocks (place_of s) ≡ Some (placed (place_of s) (Live m t xs)) = placed_found lawful.rooms there.0 ∙ ap (λ (b : Block). Some (placed (place_of s) b)) (there.1 ∙ same) in
@@ -262,25 +262,21 @@ allocated_held sli level h k len tells = by_allocated_words sli (Gives k) h k le
     at : (s : Site) → IsSiteOf h.blocks s → is_fit sli k s.block ≡ true → Gives k (gives_words h k len s)
     at s site fit = on s s.block refl fit
 
-pub holds_given : (sli : ℕ) → IsLevel sli → (h : HeapState) (k len : ℕ) (name : Name) → Tells k len → (allocated_words sli h k len).answer ≡ Ok name → IsLawful (allocated_words sli h k len).heap → Holds (allocated_words sli h k len).heap name k
-holds_given sli level h k len name tells gives lawful = on (named name new.blocks) refl live.1
+-- a live name is that of a block that holds what is seen at its place
+pub holds_live : (h : HeapState) (name : Name) (k : ℕ) → IsLawful h → IsLive h name → held_at h.blocks name.at ≡ Some k → Holds h name k
+holds_live h name k lawful live held = on (named name h.blocks) refl live.1
   where
-    new : HeapState
-    new = (allocated_words sli h k len).heap
-
-    live : IsLive new name
-    live = given_words sli h k len name gives
-
-    held : held_at new.blocks name.at ≡ Some k
-    held = allocated_held sli level h k len tells name gives lawful
-
-    told : (s : Site) (b : Block) → s.block ≡ b → IsSiteOf new.blocks s → place_of s ≡ name.at → has_serial name.serial b ≡ true → held_units (size_of b) (length (bytes_of b)) ≡ k
-    told s (Live m t xs) same site place has = seen_held new s m t xs name k lawful same site place held
+    told : (s : Site) (b : Block) → s.block ≡ b → IsSiteOf h.blocks s → place_of s ≡ name.at → has_serial name.serial b ≡ true → held_units (size_of b) (length (bytes_of b)) ≡ k
+    told s (Live m t xs) same site place has = seen_held h s m t xs name k lawful same site place held
     told s (Free m t) same site place has = absurd (false≢true has)
 
-    on : (o : Option Site) → named name new.blocks ≡ o → IsSome o → Holds new name k
+    on : (o : Option Site) → named name h.blocks ≡ o → IsSome o → Holds h name k
     on None e some = absurd (false≢true some)
     on (Some s) e some =
-        let site = named_site name new.blocks s e in
+        let site = named_site name h.blocks s e in
         let place : place_of s ≡ name.at = eqb-true (place_of s) name.at (and_right (has_serial name.serial s.block) (eqb (place_of s) name.at) site.1) in
         (s, live.0, e, told s s.block refl site.0 place (and_left (has_serial name.serial s.block) (eqb (place_of s) name.at) site.1))
+
+pub holds_given : (sli : ℕ) → IsLevel sli → (h : HeapState) (k len : ℕ) (name : Name) → Tells k len → (allocated_words sli h k len).answer ≡ Ok name → IsLawful (allocated_words sli h k len).heap → Holds (allocated_words sli h k len).heap name k
+holds_given sli level h k len name tells gives lawful =
+    holds_live (allocated_words sli h k len).heap name k lawful (given_words sli h k len name gives) (allocated_held sli level h k len tells name gives lawful)

@@ -1,15 +1,15 @@
 -- The two cases of what `take` gave, and a block as room for a type. Assumes `Logic`.
-use Rattle.std.proofs.Common.{◌≡◌, ℕ, ◌^◌, ◌<◌, ◌≤◌, List, [], ◌∷◌, ◌++◌, IfSome, None, Some, refl, sym, ap, subst, ◌∙◌, arith}
+use Rattle.std.proofs.Common.{◌+◌, ◌-◌, ◌*◌, ◌/◌, ◌%◌, ◌≡◌, ℕ, ◌^◌, ◌<◌, ◌≤◌, List, [], ◌∷◌, ◌++◌, IfSome, None, Some, refl, sym, ap, subst, ◌∙◌, arith}
 use seplogic.Ra.Ura.{Ura}
 use mir.Syntax.{Ty, Width, w8, w16, w32, w64, w128}
 use mir.Val.{Val, vcons, vnil, of_list, bytes}
 use base.Logic.{ent, sep}
 use base.Fml.{fex, fwand, froom}
-use prog.Memory.{size, align, capped}
-use prog.Align.{Dv, align_w, align-bytes}
+use prog.Memory.{size, capped}
+use prog.Align.{Dv, dv→, dv_self, align_w, align-bytes, align_size}
 use prog.Capped.{capped_is, capped_small}
 use types.Logic.{Logic, sem}
-use types.Kit.{Item, Goal, Seq, ‵, ◌⊛◌, ◌$◌, ◌∵◌, !, qed, move, drop, use1, split, frame, rewrite, fsplit, fpick, fpack, feq_l, done}
+use types.Kit.{Item, Goal, Seq, ‵, ◌⊛◌, ◌$◌, ◌∵◌, !, qed, by, move, drop, use1, use2, split, frame, rewrite, fsplit, fjoin, fpick, fpack, feq_l, done}
 use types.Match.{live}
 use denote.RattleType.{RattleType}
 use denote.RawPtr.{Ptr, block_ptr}
@@ -18,12 +18,12 @@ use denote.Steps.{only}
 use Rattle.core.specs.contracts.option.Option as option
 use Rattle.linked_list_allocator.specs.Region.{Region}
 use Rattle.tlsf_arena.specs.Places.{IsUnit, piece_size, IsPiece}
-use Rattle.linked_list_allocator.specs.Ownership.{bytes_at}
-use Rattle.tlsf_arena.specs.Ownership.{block_token}
+use Rattle.linked_list_allocator.specs.Ownership.{bytes_at, units_of}
+use Rattle.tlsf_arena.specs.Ownership.{ints, ways, behind, block_token}
 use Rattle.tlsf_arena.specs.contracts.piece.Piece as block
 use Rattle.linked_list_allocator.proofs.Values.{sized_val, sized_own, sized_told}
-use Rattle.linked_list_allocator.proofs.Nodes.{retypes}
 use Rattle.tlsf_arena.proofs.UnitCases.{piece_holds}
+use Rattle.tlsf_arena.proofs.Ways.{exact, opens, closes, ints_cut, ints_glue}
 
 abbrev pub Taken : RattleType
 Taken = option.the_row block.the_row
@@ -38,18 +38,63 @@ divides_16 w32 = tt
 divides_16 w64 = tt
 divides_16 w128 = tt
 
-pub hands_out : {M : Type 1} {𝓤 : Ura M} (𝓛 : Logic 𝓤) (u : ℕ) → IsUnit u → (r : Region) (τ : Ty) (at n a : ℕ) → capped (size τ) ≡ n → capped (align τ) ≡ a → IsPiece r (block_ptr r.block at) at (piece_size u n) → n < 2 ^ 63 → a ≤ 16
+pub even : (τ : Ty) → size τ % bytes (align_w τ) ≡ 0
+even τ = dv→ (bytes (align_w τ)) (size τ) (subst (λ (k : ℕ). Dv k (size τ)) (align-bytes τ) (align_size τ))
+
+-- room for a type is room for integers of its alignment, and they are room for it
+pub as_ints : {M : Type 1} {𝓤 : Ura M} (𝓛 : Logic 𝓤) (τ : Ty) (b o : ℕ) → ent 𝓤 (𝓛.H.room τ b o) (𝓛.H.room (ints (align_w τ) (size τ)) b o)
+as_ints 𝓛 τ b o = let w = align_w τ in
+    qed 𝓛 (‵ (froom τ b o) ∷ []) ∵ use1 𝓛 (‵ (froom (ints w (size τ)) b o) ⊛ ‵ (fwand (froom (ints w (size τ)) b o) (froom τ b o)))
+    (𝓛.laws.room_as τ (ints w (size τ)) b o (exact w (size τ) (even τ)) (subst (λ (j : ℕ). Dv (bytes w) j) (sym (align-bytes τ)) (dv_self (bytes w)))) $ split ! $ move ! (1 ∷ []) $ drop ! $ done !
+
+pub from_ints : {M : Type 1} {𝓤 : Ura M} (𝓛 : Logic 𝓤) (τ : Ty) (b o : ℕ) → ent 𝓤 (𝓛.H.room (ints (align_w τ) (size τ)) b o) (𝓛.H.room τ b o)
+from_ints 𝓛 τ b o = let w = align_w τ in
+    qed 𝓛 (‵ (froom (ints w (size τ)) b o) ∷ []) ∵ use1 𝓛 (‵ (froom τ b o) ⊛ ‵ (fwand (froom τ b o) (froom (ints w (size τ)) b o)))
+    (𝓛.laws.room_as (ints w (size τ)) τ b o (sym (exact w (size τ) (even τ))) (subst (λ (j : ℕ). Dv j (bytes w)) (sym (align-bytes τ)) (dv_self (bytes w)))) $ split ! $ move ! (1 ∷ []) $ drop ! $ done !
+
+-- a piece is room for a type that fits, and the right to give it back
+pub fits_out : {M : Type 1} {𝓤 : Ura M} (𝓛 : Logic 𝓤) (u : ℕ) → IsUnit u → (r : Region) (τ : Ty) (at : ℕ) → IsPiece r (block_ptr r.block at) at (piece_size u (size τ))
+    → ent 𝓤 (sem 𝓛 (bytes_at (block_ptr r.block at) (piece_size u (size τ)))) (sep 𝓤 (𝓛.H.room τ r.block at) (sem 𝓛 (block_token u r τ (block_ptr r.block at))))
+fits_out {𝓤 = 𝓤} 𝓛 u unit r τ at is =
+    let p : Ptr = block_ptr r.block at in
+    let m = piece_size u (size τ) in
+    let w = align_w τ in
+    let k = m / 16 in
+    let whole : m ≡ 16 * k = omega (arith, is.4.1) in
+    let holds : size τ ≤ m = piece_holds u (size τ) unit in
+    let parts : 16 * k ≡ size τ + (m - size τ) = omega (arith, whole, holds) in
+    qed 𝓛 (‵ (froom (units_of m) r.block at) ∷ []) ∵ rewrite ! 0 (λ (n : ℕ). ‵ (froom (units_of n) r.block at)) whole refl $
+    use1 𝓛 (‵ (froom (ints w (16 * k)) r.block at) ⊛ ‵ (ways w r.block at k)) (opens 𝓛 w r.block at k) $ split ! $
+    rewrite ! 0 (λ (n : ℕ). ‵ (froom (ints w n) r.block at)) parts refl $
+    use1 𝓛 (‵ (froom (ints w (size τ)) r.block at) ⊛ ‵ (froom (ints w (m - size τ)) r.block (at + size τ))) (ints_cut 𝓛 w r.block at (size τ) (m - size τ) (even τ)) $ split ! $
+    use1 𝓛 (‵ (froom τ r.block at)) (from_ints 𝓛 τ r.block at) $
+    frame ! $ fjoin ! $
+    fpack ! (IsPiece r p at m) (λ _. behind τ r.block at m) is $ fpack ! ℕ (λ j. fex (IsPiece r p j m) (λ _. behind τ r.block j m)) at $ done !
+
+-- and back
+pub takes_in : {M : Type 1} {𝓤 : Ura M} (𝓛 : Logic 𝓤) (u : ℕ) → IsUnit u → (r : Region) (τ : Ty) (at : ℕ) → piece_size u (size τ) % 16 ≡ 0
+    → ent 𝓤 (sep 𝓤 (𝓛.H.room τ r.block at) (sem 𝓛 (behind τ r.block at (piece_size u (size τ))))) (sem 𝓛 (bytes_at (block_ptr r.block at) (piece_size u (size τ))))
+takes_in {𝓤 = 𝓤} 𝓛 u unit r τ at grains =
+    let m = piece_size u (size τ) in
+    let w = align_w τ in
+    let k = m / 16 in
+    let whole : m ≡ 16 * k = omega (arith, grains) in
+    let holds : size τ ≤ m = piece_holds u (size τ) unit in
+    let parts : 16 * k ≡ size τ + (m - size τ) = omega (arith, whole, holds) in
+    qed 𝓛 (‵ (froom τ r.block at) ∷ ‵ (behind τ r.block at m) ∷ []) ∵
+    use1 𝓛 (‵ (froom (ints w (size τ)) r.block at)) (as_ints 𝓛 τ r.block at) $ move ! (1 ∷ []) $ fsplit ! $ move ! (2 ∷ 0 ∷ []) $
+    use2 𝓛 (‵ (froom (ints w (size τ + (m - size τ))) r.block at)) (ints_glue 𝓛 w r.block at (size τ) (m - size τ) (even τ)) $
+    rewrite ! 0 (λ (n : ℕ). ‵ (froom (ints w n) r.block at)) (sym parts) refl $
+    use2 𝓛 (‵ (froom (units_of (16 * k)) r.block at)) (closes 𝓛 w r.block at k) $ rewrite ! 0 (λ (n : ℕ). ‵ (froom (units_of n) r.block at)) (sym whole) refl $ done !
+
+pub hands_out : {M : Type 1} {𝓤 : Ura M} (𝓛 : Logic 𝓤) (u : ℕ) → IsUnit u → (r : Region) (τ : Ty) (at n : ℕ) → capped (size τ) ≡ n → IsPiece r (block_ptr r.block at) at (piece_size u n) → n < 2 ^ 63
     → ent 𝓤 (sem 𝓛 (bytes_at (block_ptr r.block at) (piece_size u n))) (sep 𝓤 (𝓛.H.room τ r.block at) (sem 𝓛 (block_token u r τ (block_ptr r.block at))))
-hands_out {𝓤 = 𝓤} 𝓛 u unit r τ at n a sized aligned placed small slim =
+hands_out {𝓤 = 𝓤} 𝓛 u unit r τ at n sized placed small =
     let p : Ptr = block_ptr r.block at in
     let short : size τ < 2 ^ 63 = capped_small (size τ) (omega arith) in
     let same : n ≡ size τ = sym sized ∙ capped_is (size τ) (omega arith) in
-    let m = piece_size u (size τ) in
-    let is : IsPiece r p at m = subst (λ (k : ℕ). IsPiece r p at (piece_size u k)) same placed in
     qed 𝓛 (‵ (bytes_at p (piece_size u n)) ∷ []) ∵ rewrite ! 0 (λ (k : ℕ). ‵ (bytes_at p (piece_size u k))) same refl $
-    use1 𝓛 (‵ (froom τ r.block at) ⊛ ‵ (fwand (froom τ r.block at) (bytes_at p m)))
-    (retypes 𝓛 r.block τ at m is.4.1 (piece_holds u (size τ) unit) (subst (λ (k : ℕ). Dv k 16) (sym (align-bytes τ)) (divides_16 (align_w τ)))) $ split ! $ frame ! $
-    fpack ! (IsPiece r p at m) (λ _. fwand (froom τ r.block at) (bytes_at p m)) is $ fpack ! ℕ (λ j. fex (IsPiece r p j m) (λ _. fwand (froom τ r.block at) (bytes_at p m))) at $ done !
+    by ! (fits_out 𝓛 u unit r τ at (subst (λ (k : ℕ). IsPiece r p at (piece_size u k)) same placed))
 
 module _ {M : Type 1} {𝓤 : Ura M} {𝓛 : Logic 𝓤} {K : Type 0} {Γ : List (Item 𝓤)} {G : Goal 𝓤 𝓛.H} where
   pub taken : K → (u : ℕ) (r : Region) (n a : ℕ) (x : Taken.Denot) (v : Val) → Told u r n a x

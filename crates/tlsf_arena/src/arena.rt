@@ -1,13 +1,15 @@
-ghost use Rattle.std.specs.Prelude.{◌≡◌, ◌≢◌, ℕ, ◌+◌, ◌-◌, ◌*◌, ◌/◌, ◌%◌, ◌^◌, ◌<◌, ◌≤◌, ◌↔◌, [], length, Ok, Err, IfOk, IfErr, IsOk, IsErrOf, OnErr, OnOk, MatchResult, Some, option_map};
+ghost use Rattle.std.specs.Prelude.{true, ◌≡◌, ◌≢◌, ℕ, ◌+◌, ◌-◌, ◌*◌, ◌/◌, ◌%◌, ◌^◌, ◌<◌, ◌≤◌, ◌↔◌, [], length, Ok, Err, IfOk, IfErr, IfSome, IsOk, IsErrOf, OnErr, OnOk, MatchResult, Some, option_map};
 ghost use denote.RawPtr.{block_of, count_of, InBlock};
+ghost use Rattle.linked_list_allocator.specs.Region.{region_of};
 ghost use Rattle.tlsf_class.specs.Classes.{IsLevel};
 ghost use Rattle.tlsf_heap.specs.Blocks.{HeapState};
-ghost use Rattle.tlsf_heap.specs.Calls.{last_tick, opened, released, resized_words};
+ghost use Rattle.tlsf_heap.specs.Calls.{last_tick, opened, resized_words};
 ghost use Rattle.tlsf_heap.specs.GoodFit.{fits};
 ghost use Rattle.tlsf_heap.specs.Lawful.{IsLawful, IsRegion};
 ghost use Rattle.tlsf_heap.specs.Placed.{placed_at};
 ghost use Rattle.tlsf_heap.specs.Reports.{report_of};
-ghost use Rattle.tlsf_arena.specs.Arenas.{Holds, SameArena, refitted, requested};
+ghost use Rattle.tlsf_heap.specs.declared.name.Name.{Name};
+ghost use Rattle.tlsf_arena.specs.Arenas.{Holds, SameArena, if_held, released_block, requested, resized_block};
 ghost use Rattle.tlsf_arena.specs.Places.{IsUnit, lacking, units_for, piece_size, held_at, free_in};
 
 use crate::block::Block;
@@ -36,18 +38,18 @@ pub struct Arena<const SLI: u32, const UNIT: usize> {
     id: u32,
     units: u32,
     alloc: Global,
-    lease: Lease<Global>,
+    lease: Option<Lease<Global>>,
 }
 
 impl<const SLI: u32, const UNIT: usize> Model for Arena<SLI, UNIT> {
-    ghost use Rattle.std.specs.Prelude.{◌≡◌, ◌*◌};
+    ghost use Rattle.std.specs.Prelude.{◌≡◌, ◌*◌, IfSome};
     ghost use Rattle.tlsf_arena.specs.Arenas.{ArenaState, IsMapped};
 
     ghost Value = { ArenaState };
 
     ghost view = { λ a. record { heap = a.heap.value.heap; region = a.space.region; touches = a.heap.value.touches } };
 
-    ghost invariant = { λ a. IsMapped SLI UNIT a.units a.heap.value.heap a.space.free × ((a.space.base ≡ a.base) × ((a.lease.alloc ≡ a.alloc) × ((a.lease.ptr ≡ a.base) × (a.lease.size ≡ UNIT * a.units)))) };
+    ghost invariant = { λ a. IsMapped SLI UNIT a.units a.heap.value.heap a.space.free × ((a.space.base ≡ a.base) × IfSome a.lease (λ l. (l.alloc ≡ a.alloc) × ((l.ptr ≡ a.base) × (l.size ≡ UNIT * a.units)))) };
 }
 
 impl<const SLI: u32, const UNIT: usize> Arena<SLI, UNIT> {
@@ -67,6 +69,7 @@ impl<const SLI: u32, const UNIT: usize> Arena<SLI, UNIT> {
         ensures heap { IfOk result (λ a. a.heap ≡ opened id units 0) }
         ensures region { IfOk result (λ a. a.region.end ≡ a.region.start + UNIT * units) }
         ensures bad_size { IsErrOf result OpenFault.BadSize ↔ ¬ (IsRegion SLI units) }
+        ensures not_worn { ¬ (IsErrOf result OpenFault.Worn) }
         ensures touches { IfOk result (λ a. a.touches ≤ 10) }
     {
         let heap = Heap::<SLI>::open(alloc, id, units, 0)?;
@@ -80,6 +83,85 @@ impl<const SLI: u32, const UNIT: usize> Arena<SLI, UNIT> {
         let (base, memory) = memory.with_ptr();
         let space = Space::new(memory);
         Ok(Arena {
+            heap,
+            space,
+            base,
+            id,
+            units,
+            alloc,
+            lease: Some(lease),
+        })
+    }
+
+    /// Opens an arena of `units` units over memory that the caller hands over, `UNIT * units` bytes: those of a static, of a shared mapping,
+    /// of a device. The heap has the number `id`, and memory for it alone is taken from `alloc`. [`Arena::into_memory`] hands the memory
+    /// back; an arena that is dropped keeps it for good, and gives none of it to `alloc`.
+    ///
+    /// Refused, with the memory, as `BadSize` where `units` is below 4, or above 2^20 at level 4 and 2^24 at level 5, else as `NoMemory` where
+    /// the memory for the heap was not granted.
+    pub fn open_in(
+        alloc: Global,
+        id: u32,
+        units: u32,
+        memory: Memory,
+    ) -> Result<Arena<SLI, UNIT>, (OpenFault, Memory)>
+        requires level { IsLevel SLI }
+        requires unit { IsUnit UNIT }
+        requires size { memory.size ≡ UNIT * units }
+        requires place { count_of memory.ptr + memory.size < 2 ^ 63 }
+        ensures heap { IfOk result (λ a. a.heap ≡ opened id units 0) }
+        ensures region { IfOk result (λ a. a.region ≡ region_of memory.ptr memory.size) }
+        ensures bad_size { MatchResult result (λ _. IsRegion SLI units) (λ e. (e.0 ≡ OpenFault.BadSize) ↔ ¬ (IsRegion SLI units)) }
+        ensures not_worn { IfErr result (λ e. e.0 ≢ OpenFault.Worn) }
+        ensures err { IfErr result (λ e. e.1 ≡ memory) }
+        ensures touches { IfOk result (λ a. a.touches ≤ 10) }
+    {
+        let heap = match Heap::<SLI>::open(alloc, id, units, 0) {
+            Ok(heap) => heap,
+            Err(why) => return Err((why, memory)),
+        };
+        let Ok(heap) = Box::new(alloc, heap) else {
+            return Err((OpenFault::NoMemory, memory));
+        };
+        let (base, memory) = memory.with_ptr();
+        let space = Space::new(memory);
+        Ok(Arena {
+            heap,
+            space,
+            base,
+            id,
+            units,
+            alloc,
+            lease: None,
+        })
+    }
+
+    /// Hands the arena's memory over, where no block is out; else the arena is as it was. What was taken from `Global` doesn't go back
+    /// there: it is the caller's for good.
+    pub fn into_memory(self) -> Result<Memory, Arena<SLI, UNIT>>
+        ensures memory { IfOk result (λ m. region_of m.ptr m.size ≡ self.entry.region) }
+        ensures place { IfOk result (λ m. count_of m.ptr + m.size < 2 ^ 63) }
+        ensures whole { IsOk result ↔ (self.entry.region.end ≡ self.entry.region.start + UNIT * free_in (placed_at self.entry.heap.blocks 0)) }
+        ensures err { IfErr result (λ a. SameArena self.entry a) }
+    {
+        let Arena {
+            heap,
+            space,
+            base,
+            id,
+            units,
+            alloc,
+            lease,
+        } = self;
+        let mut heap = heap;
+        let free = free_at_start(&mut heap);
+        if free == units {
+            if let Some(lease) = lease {
+                let _kept = unsafe { ManuallyDrop::new_unchecked(lease) };
+            }
+            return Ok(space.into_memory(bytes_of(units, UNIT)));
+        }
+        Err(Arena {
             heap,
             space,
             base,
@@ -110,6 +192,7 @@ impl<const SLI: u32, const UNIT: usize> Arena<SLI, UNIT> {
         ensures err { OnErr result (self.new.heap ≡ self.old.heap) }
         ensures block { IfOk result (λ b. (b.piece.region ≡ self.old.region) × (b.piece.size ≡ piece_size UNIT len)) }
         ensures holds { IfOk result (λ b. Holds self.new.heap b.name (units_for UNIT len)) }
+        ensures others { (other : Name) (units : ℕ) → Holds self.old.heap other units → Holds self.new.heap other units }
         ensures region { self.new.region ≡ self.old.region }
 
         // Accepted or refused, whatever the length: at most 64 touches.
@@ -129,8 +212,9 @@ impl<const SLI: u32, const UNIT: usize> Arena<SLI, UNIT> {
 
     /// Takes a block back, and merges its units with the free ones beside them.
     ///
-    /// Refused, with the block, as `Stale` where its name is no live block's of so many units, else as `Worn` where the tick is at its last
-    /// value: a block whose name the heap has is refused for nothing but that. A name of another heap is `Foreign`. Takes no memory.
+    /// Refused, with the block, as `Stale` where no live block of so many units begins at its place, else as `Foreign` where its name is
+    /// of another heap, else as `Stale` where its serial isn't that of the live block, else as `Worn` where the tick is at its last value.
+    /// So a block that an arena gave is refused for nothing but Worn. Takes no memory.
     ///
     /// ```text
     /// let block = arena.allocate(100)?;
@@ -138,9 +222,13 @@ impl<const SLI: u32, const UNIT: usize> Arena<SLI, UNIT> {
     /// ```
     pub fn release(&mut self, block: Block<UNIT>) -> Result<(), (Refusal, Block<UNIT>)>
         requires { block.piece.region ≡ self.old.region }
-        ensures ok { OnOk result (((released self.old.heap block.entry.name).answer ≡ Ok tt) × (self.new.heap ≡ (released self.old.heap block.entry.name).heap)) }
+        ensures answer { MatchResult result (λ _. (released_block UNIT self.old.heap block.entry.name block.entry.piece.size).answer ≡ Ok tt) (λ e. (released_block UNIT self.old.heap block.entry.name block.entry.piece.size).answer ≡ Err e.0) }
+        ensures heap { self.new.heap ≡ (released_block UNIT self.old.heap block.entry.name block.entry.piece.size).heap }
+
+        // What that comes to: a refusal changes nothing and gives the block back, and a block that is held is refused at the last tick alone.
         ensures err { IfErr result (λ e. (self.new.heap ≡ self.old.heap) × (e.1 ≡ block.entry)) }
         ensures held { IfErr result (λ e. (units : ℕ) → block.entry.piece.size ≡ UNIT * units → Holds self.old.heap block.entry.name units → e.0 ≡ Refusal.Worn) }
+        ensures others { (other : Name) (units : ℕ) → other ≢ block.entry.name → Holds self.old.heap other units → Holds self.new.heap other units }
         ensures region { self.new.region ≡ self.old.region }
         ensures touches { self.new.touches ≤ self.old.touches + 64 }
         ensures touches_rise { self.old.touches ≤ self.new.touches }
@@ -156,9 +244,11 @@ impl<const SLI: u32, const UNIT: usize> Arena<SLI, UNIT> {
     fn give(&mut self, name: Name, piece: Piece) -> Result<(), (Refusal, Piece)>
         requires region { piece.region ≡ self.old.region }
         requires place { piece.at ≡ piece.region.start + UNIT * name.at }
-        ensures ok { OnOk result (((released self.old.heap name).answer ≡ Ok tt) × (self.new.heap ≡ (released self.old.heap name).heap)) }
+        ensures answer { MatchResult result (λ _. (released_block UNIT self.old.heap name piece.size).answer ≡ Ok tt) (λ e. (released_block UNIT self.old.heap name piece.size).answer ≡ Err e.0) }
+        ensures heap { self.new.heap ≡ (released_block UNIT self.old.heap name piece.size).heap }
         ensures err { IfErr result (λ e. (self.new.heap ≡ self.old.heap) × (e.1 ≡ piece)) }
         ensures held { IfErr result (λ e. (units : ℕ) → piece.size ≡ UNIT * units → Holds self.old.heap name units → e.0 ≡ Refusal.Worn) }
+        ensures lawful { IsLawful self.new.heap }
         ensures region { self.new.region ≡ self.old.region }
         ensures touches { self.new.touches ≤ self.old.touches + 64 }
         ensures touches_rise { self.old.touches ≤ self.new.touches }
@@ -176,9 +266,11 @@ impl<const SLI: u32, const UNIT: usize> Arena<SLI, UNIT> {
         requires units { held_at self.old.heap.blocks name.at ≡ Some units }
         requires lawful { IsLawful self.old.heap }
         requires unit { IsUnit UNIT }
-        ensures ok { OnOk result (((released self.old.heap name).answer ≡ Ok tt) × (self.new.heap ≡ (released self.old.heap name).heap)) }
+        ensures answer { MatchResult result (λ _. (released_block UNIT self.old.heap name piece.size).answer ≡ Ok tt) (λ e. (released_block UNIT self.old.heap name piece.size).answer ≡ Err e.0) }
+        ensures heap { self.new.heap ≡ (released_block UNIT self.old.heap name piece.size).heap }
         ensures err { IfErr result (λ e. (self.new.heap ≡ self.old.heap) × (e.1 ≡ piece)) }
         ensures held { IfErr result (λ e. (units : ℕ) → piece.size ≡ UNIT * units → Holds self.old.heap name units → e.0 ≡ Refusal.Worn) }
+        ensures lawful { IsLawful self.new.heap }
         ensures region { self.new.region ≡ self.old.region }
         ensures touches { self.new.touches ≤ self.old.touches + 60 }
         ensures touches_rise { self.old.touches ≤ self.new.touches }
@@ -196,16 +288,19 @@ impl<const SLI: u32, const UNIT: usize> Arena<SLI, UNIT> {
         }
     }
 
-    /// Takes a piece back that has lost its name: its address tells the place.
-    pub(crate) fn give_back(&mut self, piece: Piece) -> Result<(), (Refusal, Piece)>
+    /// Takes a piece back that has lost its name: its address tells the place, which is sought where neither of two guesses is it.
+    pub(crate) fn give_back(
+        &mut self,
+        piece: Piece,
+        guesses: (u32, u32),
+    ) -> Result<(), (Refusal, Piece)>
         requires { piece.region ≡ self.old.region }
         ensures region { self.new.region ≡ self.old.region }
     {
         let (ptr, piece) = piece.with_ptr();
-        let at = place_of(ptr, self.base, self.units, UNIT);
-        if !begins_at(ptr, self.base, grains_before(at, UNIT)) {
+        let Some(at) = unit_at(ptr, self.base, self.units, UNIT, guesses) else {
             return Err((Refusal::Stale, piece));
-        }
+        };
         let heap = self.id;
         let Some((serial, units)) = self.held_block(at) else {
             return Err((Refusal::Stale, piece));
@@ -216,8 +311,8 @@ impl<const SLI: u32, const UNIT: usize> Arena<SLI, UNIT> {
     /// Makes a block `len` bytes long or more where it stands: its name and its address stay, and no byte is moved. It then has as many whole
     /// units as hold `len` bytes, and no fewer than four.
     ///
-    /// Refused, with the block, as `NoRoom` where the block and the free units behind it are fewer than wanted, else as `Worn` where the tick is
-    /// at its last value. A block whose name the heap has is refused for nothing but these. Takes no memory.
+    /// Refused, with the block, as `Stale` or `Foreign` where [`Arena::release`] refuses it so, else as `NoRoom` where the block and the free
+    /// units behind it are fewer than wanted, else as `Worn` where the tick is at its last value. Takes no memory.
     ///
     /// ```text
     /// let block = arena.allocate(100)?;        // of a new arena of 64 units of 16 bytes: 7 of them
@@ -229,10 +324,14 @@ impl<const SLI: u32, const UNIT: usize> Arena<SLI, UNIT> {
         len: u32,
     ) -> Result<Block<UNIT>, (Refusal, Block<UNIT>)>
         requires { block.piece.region ≡ self.old.region }
-        ensures ok { OnOk result (((refitted UNIT self.old.heap block.entry.name len).answer ≡ Ok tt) × (self.new.heap ≡ (refitted UNIT self.old.heap block.entry.name len).heap)) }
+        ensures answer { MatchResult result (λ _. (resized_block UNIT self.old.heap block.entry.name block.entry.piece.size len).answer ≡ Ok tt) (λ e. (resized_block UNIT self.old.heap block.entry.name block.entry.piece.size len).answer ≡ Err e.0) }
+        ensures heap { self.new.heap ≡ (resized_block UNIT self.old.heap block.entry.name block.entry.piece.size len).heap }
+
+        // What that comes to.
         ensures block { IfOk result (λ b. (b.name ≡ block.entry.name) × (b.piece.region ≡ self.old.region) × (b.piece.at ≡ block.entry.piece.at) × (b.piece.size ≡ piece_size UNIT len)) }
         ensures err { IfErr result (λ e. (self.new.heap ≡ self.old.heap) × (e.1 ≡ block.entry)) }
         ensures held { IfErr result (λ e. (units : ℕ) → block.entry.piece.size ≡ UNIT * units → Holds self.old.heap block.entry.name units → (e.0 ≢ Refusal.Stale) × (e.0 ≢ Refusal.Foreign)) }
+        ensures others { (other : Name) (units : ℕ) → other ≢ block.entry.name → Holds self.old.heap other units → Holds self.new.heap other units }
         ensures region { self.new.region ≡ self.old.region }
         ensures touches { self.new.touches ≤ self.old.touches + 68 }
         ensures touches_rise { self.old.touches ≤ self.new.touches }
@@ -248,10 +347,12 @@ impl<const SLI: u32, const UNIT: usize> Arena<SLI, UNIT> {
     fn refit(&mut self, name: Name, piece: Piece, len: u32) -> Result<Piece, (Refusal, Piece)>
         requires region { piece.region ≡ self.old.region }
         requires place { piece.at ≡ piece.region.start + UNIT * name.at }
-        ensures ok { OnOk result (((refitted UNIT self.old.heap name len).answer ≡ Ok tt) × (self.new.heap ≡ (refitted UNIT self.old.heap name len).heap)) }
+        ensures answer { MatchResult result (λ _. (resized_block UNIT self.old.heap name piece.size len).answer ≡ Ok tt) (λ e. (resized_block UNIT self.old.heap name piece.size len).answer ≡ Err e.0) }
+        ensures heap { self.new.heap ≡ (resized_block UNIT self.old.heap name piece.size len).heap }
         ensures piece { IfOk result (λ p. (p.region ≡ self.old.region) × (p.at ≡ piece.at) × (p.size ≡ piece_size UNIT len)) }
         ensures err { IfErr result (λ e. (self.new.heap ≡ self.old.heap) × (e.1 ≡ piece)) }
         ensures held { IfErr result (λ e. (units : ℕ) → piece.size ≡ UNIT * units → Holds self.old.heap name units → (e.0 ≢ Refusal.Stale) × (e.0 ≢ Refusal.Foreign)) }
+        ensures lawful { IsLawful self.new.heap }
         ensures region { self.new.region ≡ self.old.region }
         ensures touches { self.new.touches ≤ self.old.touches + 68 }
         ensures touches_rise { self.old.touches ≤ self.new.touches }
@@ -277,10 +378,12 @@ impl<const SLI: u32, const UNIT: usize> Arena<SLI, UNIT> {
         requires least { 4 ≤ units }
         requires lawful { IsLawful self.old.heap }
         requires unit { IsUnit UNIT }
-        ensures ok { OnOk result (((resized_words self.old.heap name units (lacking units)).answer ≡ Ok tt) × (self.new.heap ≡ (resized_words self.old.heap name units (lacking units)).heap)) }
+        ensures answer { MatchResult result (λ _. (if_held UNIT self.old.heap name piece.size (resized_words self.old.heap name units (lacking units))).answer ≡ Ok tt) (λ e. (if_held UNIT self.old.heap name piece.size (resized_words self.old.heap name units (lacking units))).answer ≡ Err e.0) }
+        ensures heap { self.new.heap ≡ (if_held UNIT self.old.heap name piece.size (resized_words self.old.heap name units (lacking units))).heap }
         ensures piece { IfOk result (λ p. (p.region ≡ self.old.region) × (p.at ≡ piece.at) × (p.size ≡ UNIT * units)) }
         ensures err { IfErr result (λ e. (self.new.heap ≡ self.old.heap) × (e.1 ≡ piece)) }
         ensures named { IfErr result (λ e. (units : ℕ) → piece.size ≡ UNIT * units → Holds self.old.heap name units → (e.0 ≢ Refusal.Stale) × (e.0 ≢ Refusal.Foreign)) }
+        ensures lawful { IsLawful self.new.heap }
         ensures region { self.new.region ≡ self.old.region }
         ensures touches { self.new.touches ≤ self.old.touches + 64 }
         ensures touches_rise { self.old.touches ≤ self.new.touches }
@@ -359,6 +462,35 @@ impl<const SLI: u32, const UNIT: usize> Arena<SLI, UNIT> {
     }
 }
 
+/// The unit that begins at an address, None where none does: one of two guesses, else the one that a search finds.
+fn unit_at(ptr: *mut u8, base: *mut u8, units: u32, unit: usize, guesses: (u32, u32)) -> Option<u32>
+    requires pointers { InBlock base × InBlock ptr × (block_of ptr ≡ block_of base) × (count_of base + unit * units < 2 ^ 63) × (count_of ptr < 2 ^ 63) }
+    requires some { 0 < units }
+    requires unit { IsUnit unit }
+    ensures { IfSome result (λ at. count_of ptr ≡ count_of base + unit * at) }
+{
+    if is_unit_at(ptr, base, units, unit, guesses.0) {
+        return Some(guesses.0);
+    }
+    if is_unit_at(ptr, base, units, unit, guesses.1) {
+        return Some(guesses.1);
+    }
+    let at = place_of(ptr, base, units, unit);
+    if is_unit_at(ptr, base, units, unit, at) {
+        return Some(at);
+    }
+    None
+}
+
+/// Whether a unit begins at an address, and is one of so many.
+fn is_unit_at(ptr: *mut u8, base: *mut u8, units: u32, unit: usize, at: u32) -> bool
+    requires pointers { InBlock base × InBlock ptr × (block_of ptr ≡ block_of base) × (count_of base + unit * units < 2 ^ 63) × (count_of ptr < 2 ^ 63) }
+    requires unit { IsUnit unit }
+    ensures { (result ≡ true) → (count_of ptr ≡ count_of base + unit * at) }
+{
+    at < units && begins_at(ptr, base, grains_before(at, unit))
+}
+
 /// The number of the last unit that begins at an address or before it: each comparison halves the units in question.
 fn place_of(ptr: *mut u8, base: *mut u8, units: u32, unit: usize) -> u32
     requires pointers { InBlock base × InBlock ptr × (block_of ptr ≡ block_of base) × (count_of base + unit * units < 2 ^ 63) × (count_of ptr < 2 ^ 63) }
@@ -396,7 +528,7 @@ fn free_at_start<const SLI: u32>(heap: &mut Heap<SLI>) -> u32
     }
 }
 
-// The memory is leaked while a block is out.
+// The memory is leaked while a block is out, and where it is the caller's.
 impl<const SLI: u32, const UNIT: usize> Drop for Arena<SLI, UNIT> {
     fn drop(self) {
         let Arena {
@@ -412,10 +544,16 @@ impl<const SLI: u32, const UNIT: usize> Drop for Arena<SLI, UNIT> {
         let free = free_at_start(&mut heap);
         drop(heap);
         if free == units {
-            space.into_memory(bytes_of(units, UNIT)).free(lease, &alloc);
+            let memory = space.into_memory(bytes_of(units, UNIT));
+            match lease {
+                Some(lease) => memory.free(lease, &alloc),
+                None => memory.leak(),
+            }
         } else {
             space.leak();
-            let _leaked = unsafe { ManuallyDrop::new_unchecked(lease) };
+            if let Some(lease) = lease {
+                let _leaked = unsafe { ManuallyDrop::new_unchecked(lease) };
+            }
         }
     }
 }

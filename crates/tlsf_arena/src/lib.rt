@@ -4,11 +4,12 @@
 //! the heap stands for unit p of the memory. The heap's words hold its headers and none of the memory's bytes, so nothing that is written
 //! into a [`Block`] can harm a header. Each call takes at most 64 touches of the heap, however large the block.
 //!
-//! [`LocalArena`] is one of level 4, in units of 16 bytes, for std: `&LocalArena` is an allocator of one thread's collections.
+//! [`LocalArena`] is one for std: a `&` to it is an allocator of one thread's collections. [`DefaultArena`] is that of level 4, in units of
+//! 16 bytes.
 //!
 //! ```text
-//! let arena = LocalArena::open(alloc, 0, 1 << 16)?;                 // 1 MiB in units of 16 bytes
-//! let mut voices: Vec<f32, &LocalArena> = Vec::with_capacity(&arena, 512)?;
+//! let arena = DefaultArena::open(alloc, 0, 1 << 16)?;               // 1 MiB in units of 16 bytes
+//! let mut voices: Vec<f32, &DefaultArena> = Vec::with_capacity(&arena, 512)?;
 //! voices.push(0.5)?;
 //! ```
 //!
@@ -19,16 +20,16 @@
 
 mod arena;
 mod block;
+mod buffer;
 mod local;
 mod memory;
 mod piece;
 mod slot;
 mod space;
-#[cfg(test)]
-mod tests;
 mod units;
 
 pub use arena::Arena;
 pub use block::Block;
-pub use local::LocalArena;
+pub use local::{DefaultArena, LocalArena};
+pub use memory::Memory;
 pub use piece::Piece;

@@ -1,38 +1,55 @@
-ghost use Rattle.std.specs.Prelude.{◌≡◌, ◌^◌, ◌<◌, ◌≤◌, IfSome};
-ghost use Rattle.tlsf_arena.specs.Places.{piece_size};
+ghost use Rattle.std.specs.Prelude.{◌≡◌, ◌*◌, ◌^◌, ◌<◌, ◌≤◌, IfSome, IsErrOf, ◌↔◌, MatchResult};
+ghost use Rattle.std.specs.Mem.{type_size};
+ghost use Rattle.tlsf_class.specs.Classes.{IsLevel};
+ghost use Rattle.tlsf_heap.specs.Lawful.{IsRegion};
+ghost use Rattle.tlsf_arena.specs.Places.{IsUnit, piece_size};
 ghost use Rattle.tlsf_arena.specs.Ownership.{block_token};
 
 use crate::arena::Arena;
 use crate::block::Block;
+use crate::buffer::Buffer;
 use crate::memory::GRAIN;
 use crate::piece::Piece;
 use crate::slot::Slot;
 use crate::units::units_of;
 use std::alloc::{AllocError, Allocator, Global};
+use std::cell::Cell;
 use std::fmt;
-use std::mem::ManuallyDrop;
+use std::marker::PhantomData;
+use std::mem::{ManuallyDrop, size_of};
 use tlsf_heap::OpenFault;
 
-// The bytes of a unit.
-const UNIT: usize = 16;
-
-/// An arena of level 4, in units of 16 bytes, as the allocator of one thread's collections, which hold a `&` to it.
+/// An arena as the allocator of one thread's collections, which hold a `&` to it.
 ///
 /// A request is an `AllocError` where the arena refuses it, and where it asks for an alignment above 16.
-pub struct LocalArena {
-    slot: Slot,
+pub struct LocalArena<const SLI: u32, const UNIT: usize> {
+    slot: Slot<SLI, UNIT>,
+    // The places of the last two pieces that went out: those of the most that come back.
+    last: Cell<u32>,
+    before_last: Cell<u32>,
+    ghost unit: { IsUnit UNIT },
 }
 
-impl LocalArena {
+/// An arena of level 4, in units of 16 bytes, for collections.
+pub type DefaultArena = LocalArena<4, 16>;
+
+impl<const SLI: u32, const UNIT: usize> LocalArena<SLI, UNIT> {
     /// Opens an arena as [`Arena::open`] does, and is refused as it is.
     ///
     /// ```text
-    /// let arena = LocalArena::open(alloc, 0, 1 << 16)?;        // 1 MiB in units of 16 bytes
-    /// let squares: Vec<u64, &LocalArena> = Vec::new(&arena);
+    /// let arena = LocalArena::<4, 16>::open(alloc, 0, 1 << 16)?;       // 1 MiB in units of 16 bytes
+    /// let squares: Vec<u64, &LocalArena<4, 16>> = Vec::new(&arena);
     /// ```
-    pub fn open(alloc: Global, id: u32, units: u32) -> Result<LocalArena, OpenFault> {
+    pub fn open(alloc: Global, id: u32, units: u32) -> Result<LocalArena<SLI, UNIT>, OpenFault>
+        requires level { IsLevel SLI }
+        requires unit { IsUnit UNIT }
+        ensures bad_size { IsErrOf result OpenFault.BadSize ↔ ¬ (IsRegion SLI units) }
+        ensures not_worn { ¬ (IsErrOf result OpenFault.Worn) }
+    {
         Ok(LocalArena {
             slot: Slot::new(Arena::open(alloc, id, units)?),
+            last: Cell::new(0),
+            before_last: Cell::new(0),
         })
     }
 
@@ -53,7 +70,7 @@ impl LocalArena {
     // The slot is empty only while one of the functions here runs, and they call nothing that
     // could come back here.
     fn take(&self, size: usize, align: usize) -> Option<Piece>
-        ensures { IfSome result (λ b. (b.region ≡ self.now.slot) × (b.size ≡ piece_size 16 size) × (size < 2 ^ 63) × (align ≤ 16)) }
+        ensures { IfSome result (λ b. (b.region ≡ self.now.slot) × (b.size ≡ piece_size UNIT size) × (size < 2 ^ 63) × (align ≤ 16)) }
     {
         if align > GRAIN || size > u32::MAX as usize {
             return None;
@@ -62,7 +79,11 @@ impl LocalArena {
         let answer = arena.allocate(size as u32);
         self.slot.replace(Some(arena));
         match answer {
-            Ok(Block { name: _, piece }) => Some(piece),
+            Ok(Block { name, piece }) => {
+                self.before_last.set(self.last.get());
+                self.last.set(name.at);
+                Some(piece)
+            }
             Err(_) => None,
         }
     }
@@ -70,9 +91,10 @@ impl LocalArena {
     fn give(&self, piece: Piece)
         requires { piece.region ≡ self.now.slot }
     {
+        let guesses = (self.last.get(), self.before_last.get());
         match self.slot.replace(None) {
             Some(mut arena) => {
-                let answer = arena.give_back(piece);
+                let answer = arena.give_back(piece, guesses);
                 self.slot.replace(Some(arena));
                 if let Err((_, piece)) = answer {
                     let _lost = unsafe { ManuallyDrop::new_unchecked(piece) };
@@ -83,18 +105,42 @@ impl LocalArena {
             }
         }
     }
+
+    // The values stay where a piece of as many units is wanted. Else they move to a new block, which is aligned enough for every type.
+    fn moved<T>(
+        &self,
+        buffer: Buffer<T>,
+        len: usize,
+        old_cap: usize,
+        new_cap: usize,
+    ) -> Result<Buffer<T>, Buffer<T>>
+        requires buffer { (buffer.unit ≡ UNIT) × (buffer.region ≡ self.now.slot) × (buffer.len ≡ len) × (buffer.cap ≡ old_cap) }
+        requires sizes { (len ≤ old_cap) × (len ≤ new_cap) × (old_cap * type_size T.row < 2 ^ 63) × (new_cap * type_size T.row < 2 ^ 63) }
+        ensures { MatchResult result (λ b. (b.unit ≡ buffer.unit) × (b.region ≡ buffer.region) × (b.len ≡ len) × (b.cap ≡ new_cap) × (b.items ≡ buffer.items)) (λ b. b ≡ buffer) }
+    {
+        let old_size = piece_bytes(old_cap * size_of::<T>(), UNIT);
+        if piece_bytes(new_cap * size_of::<T>(), UNIT) == old_size {
+            return Ok(buffer.refitted(new_cap));
+        }
+        let Some(piece) = self.take(new_cap * size_of::<T>(), GRAIN) else {
+            return Err(buffer);
+        };
+        let (buffer, old) = buffer.move_to(piece, len, new_cap, old_size);
+        self.give(old);
+        Ok(buffer)
+    }
 }
 
-/// The bytes of the piece for a request of `size` bytes.
-pub(crate) fn piece_bytes(size: usize) -> usize
-    requires { size < 2 ^ 63 }
-    ensures { result ≡ piece_size 16 size }
+// The bytes of the piece for a request of `size` bytes.
+fn piece_bytes(size: usize, unit: usize) -> usize
+    requires { IsUnit unit × (size < 2 ^ 63) }
+    ensures { result ≡ piece_size unit size }
 {
-    units_of(size, UNIT) * UNIT
+    units_of(size, unit) * unit
 }
 
-unsafe impl Allocator for LocalArena {
-    ghost dealloc_token = { λ arena. block_token 16 arena.slot };
+unsafe impl<const SLI: u32, const UNIT: usize> Allocator for LocalArena<SLI, UNIT> {
+    ghost dealloc_token = { λ arena. block_token UNIT arena.slot };
 
     fn allocate(&self, size: usize, align: usize) -> Result<*mut u8, AllocError> {
         match self.take(size, align) {
@@ -104,20 +150,52 @@ unsafe impl Allocator for LocalArena {
     }
 
     unsafe fn deallocate(&self, ptr: *mut u8, size: usize, _align: usize) {
-        let size = piece_bytes(size);
+        let size = piece_bytes(size, UNIT);
         self.give(Piece { ptr, size });
+    }
+
+    unsafe fn grow<T>(
+        &self,
+        ptr: *mut T,
+        len: usize,
+        old_cap: usize,
+        new_cap: usize,
+    ) -> Result<*mut T, AllocError> {
+        let marker = PhantomData;
+        match self.moved(Buffer { ptr, marker }, len, old_cap, new_cap) {
+            Ok(Buffer { ptr, marker: _ }) => Ok(ptr),
+            Err(Buffer { ptr: _, marker: _ }) => Err(AllocError),
+        }
+    }
+
+    unsafe fn shrink<T>(
+        &self,
+        ptr: *mut T,
+        len: usize,
+        old_cap: usize,
+        new_cap: usize,
+    ) -> Result<*mut T, AllocError> {
+        let marker = PhantomData;
+        match self.moved(Buffer { ptr, marker }, len, old_cap, new_cap) {
+            Ok(Buffer { ptr, marker: _ }) => Ok(ptr),
+            Err(Buffer { ptr: _, marker: _ }) => Err(AllocError),
+        }
     }
 }
 
-impl fmt::Debug for LocalArena {
+impl<const SLI: u32, const UNIT: usize> fmt::Debug for LocalArena<SLI, UNIT> {
     fn fmt<W: fmt::Write>(&self, f: &mut fmt::Formatter<W>) -> fmt::Result {
         f.write_str("LocalArena")
     }
 }
 
-impl Drop for LocalArena {
+impl<const SLI: u32, const UNIT: usize> Drop for LocalArena<SLI, UNIT> {
     fn drop(self) {
-        let LocalArena { slot } = self;
+        let LocalArena {
+            slot,
+            last: _,
+            before_last: _,
+        } = self;
         drop(slot.into_inner());
     }
 }

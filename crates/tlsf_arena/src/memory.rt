@@ -1,17 +1,19 @@
 // The region as the parent allocator sees it.
 ghost use Rattle.std.specs.Prelude.{◌≡◌, ℕ, IfSome};
+ghost use types.Logic.{sem};
 ghost use denote.RawPtr.{Ptr, count_of};
 ghost use Rattle.linked_list_allocator.specs.Region.{IsRegionSize};
 ghost use Rattle.linked_list_allocator.specs.Ownership.{bytes_at, units_of};
 
 use std::alloc::{Allocator, Global};
 use std::marker::{Model, PhantomData};
+use std::mem::ManuallyDrop;
 
 // The bytes to which `Global` aligns what it grants.
 pub(crate) const GRAIN: usize = 16;
 
-// `size` bytes in which nothing lies.
-pub(crate) struct Memory {
+/// Bytes in which nothing lies: whoever has the memory owns them.
+pub struct Memory {
     pub(crate) ptr: *mut u8,
     pub(crate) size: usize,
     ghost fits: { IsRegionSize size },
@@ -34,6 +36,29 @@ impl<A: Allocator> Model for Lease<A> {
 }
 
 impl Memory {
+    /// The memory of `size` bytes from an address on, which the caller owns and hands over: those of a static, of a shared mapping, of a
+    /// device. The address is a multiple of 16, and `size` one of 16 from 32 on. [`Memory::into_raw_parts`] is the way back.
+    ///
+    /// ```text
+    /// let memory = unsafe { Memory::from_raw_parts(ptr, 1 << 20) };
+    /// ```
+    pub unsafe fn from_raw_parts(ptr: *mut u8, size: usize) -> Memory
+        requires size { IsRegionSize size }
+        requires* memory { sem 𝓛 (bytes_at ptr size) }
+        ensures { (result.ptr ≡ ptr) × (result.size ≡ size) }
+    {
+        Memory { ptr, size }
+    }
+
+    /// The memory's address and size. The caller owns the bytes from here on.
+    pub fn into_raw_parts(self) -> (*mut u8, usize)
+        ensures parts { (result.0 ≡ self.ptr) × (result.1 ≡ self.size) }
+        ensures* memory { sem 𝓛 (bytes_at result.0 result.1) }
+    {
+        let Memory { ptr, size } = self;
+        (ptr, size)
+    }
+
     pub(crate) fn new<A: Allocator>(alloc: &A, size: usize) -> Option<(Memory, Lease<A>)>
         requires { IsRegionSize size }
         ensures { IfSome result (λ m. (m.0.size ≡ size) × (m.1.alloc ≡ alloc.now) × (m.1.ptr ≡ m.0.ptr) × (m.1.size ≡ size)) }
@@ -53,6 +78,10 @@ impl Memory {
     {
         let Memory { ptr, size } = self;
         (ptr, Memory { ptr, size })
+    }
+
+    pub(crate) fn leak(self) {
+        let _leaked = unsafe { ManuallyDrop::new_unchecked(self) };
     }
 
     pub(crate) fn free<A: Allocator>(self, lease: Lease<A>, alloc: &A)

@@ -7,7 +7,7 @@ use Rattle.std.proofs.lemmas.Bool.Decides.{nat_tests}
 use Rattle.tlsf_class.specs.Classes.{IsLevel, most_words}
 use Rattle.tlsf_class.proofs.TwoLevels.{by_level}
 use Rattle.tlsf_heap.specs.Blocks.{Block, Live, Free, HeapState, StandsAt, size_of, words_in}
-use Rattle.tlsf_heap.specs.Calls.{Outcome, allocated_at, allocated_words, carved, first_free, fitted, has_serial, is_named, is_worn, last_tick, named, past_free, refitted, refused, released, resized_at, resized_words, room_of}
+use Rattle.tlsf_heap.specs.Calls.{Outcome, allocated_at, allocated_words, carved, first_free, fitted, has_serial, is_named, is_worn, last_tick, named, past_free, recut, refitted, refused, released, resized_at, resized_words, room_of}
 use Rattle.tlsf_heap.specs.GoodFit.{Site, block_at, fits, place_of}
 use Rattle.tlsf_heap.specs.Lawful.{HasRoom, IsLawful}
 use Rattle.tlsf_heap.specs.Laws.{IsLive}
@@ -27,7 +27,8 @@ use Rattle.tlsf_heap.proofs.Living.{lives, new_words, shown, one_serial, same_na
 use Rattle.tlsf_heap.proofs.Lying.{ends_before, inside}
 use Rattle.tlsf_heap.proofs.Outcomes.{by_allocated_words, by_released, by_resized_words, gives_words, named_site, resizes}
 use Rattle.tlsf_heap.proofs.Placing.{placed_found}
-use Rattle.tlsf_heap.proofs.Resizing.{by_refitted}
+use Rattle.tlsf_heap.proofs.Recutting.{cut_small, cut_large}
+use Rattle.tlsf_heap.proofs.Refitted.{refitted_grown, refitted_cut, refitted_kept}
 use Rattle.tlsf_heap.proofs.Served.{no_fit_words, ok_words}
 use Rattle.tlsf_heap.proofs.Showing.{least}
 use Rattle.tlsf_heap.proofs.Sites.{choice_none}
@@ -392,32 +393,58 @@ close sli p span n is h made few =
 
 -- ---- by a resize
 
+-- what holds of each way to refit a live block, and of how close to n words it then is, holds of the block refitted
+by_sized : (P : List Block → Type 0) (tick n m s : ℕ) (xs : List ℕ) (back : List Block) → n ≤ m + first_free back
+    → (n ≤ m → m < n + 4 → P (Live m s (fitted xs 0) ∷ back))
+    → (m + first_free back < n + 4 → P (Live (m + first_free back) s (fitted xs 0) ∷ past_free back))
+    → P (Live n s (fitted xs 0) ∷ Free (m + first_free back - n) tick ∷ past_free back)
+    → P (refitted tick n 0 (Live m s xs) back)
+by_sized P tick n m s xs back room kept wide cuts = elim (cases_lt m n) [
+  | inl small ↦ subst P (sym (refitted_grown tick n 0 (Live m s xs) back small)) by_cut
+  | inr enough ↦ elim (cases_lt m (n + 4)) [
+    | inl close ↦ subst P (sym (refitted_kept tick n 0 (Live m s xs) back enough close)) (kept enough close)
+    | inr far ↦ subst P (sym (refitted_cut tick n 0 (Live m s xs) back far)) by_cut
+  ]
+]
+  where
+    by_cut : P (recut tick n (Live m s (fitted xs 0)) back)
+    by_cut = elim (cases_lt (m + first_free back) (n + 4)) [
+      | inl small ↦ subst (λ (l : List Block). P (l ++ past_free back)) (sym (cut_small (m + first_free back) n tick s (fitted xs 0) small)) (wide small)
+      | inr large ↦ subst (λ (l : List Block). P (l ++ past_free back)) (sym (cut_large (m + first_free back) n tick s (fitted xs 0) large)) cuts
+    ]
+
+-- a live block of that name, of n words or more and fewer than four more
+abbrev pub MadeClose : Name → ℕ → HeapState → Type 0
+MadeClose name n k = (made : Made name n k) × (made.size < n + 4)
+
 abbrev Left : HeapState → Name → ℕ → Outcome (Unit {0}) → Type 0
-Left h name n o = o.answer ≡ Ok tt → Made name n o.heap
+Left h name n o = o.answer ≡ Ok tt → MadeClose name n o.heap
 
 pub left_made : (h : HeapState) (name : Name) (n : ℕ) → Left h name n (resized_words h name n 0)
 left_made h name n = by_resized_words (Left h name n) h name n 0 (λ why e. absurd cc) (λ s own site is room e. made h s name n own (and_left _ _ is) (eqb-true _ _ (and_right (has_serial name.serial s.block) _ is)) s.block refl room)
   where
-    whole : (h : HeapState) (s : Site) (name : Name) (n size : ℕ) (block : Block) (rest : List Block) → name.heap ≡ h.id → place_of s ≡ name.at → has_serial name.serial block ≡ true → n ≤ size_of block
-        → refitted h.tick n 0 s.block s.after ≡ block ∷ rest → Made name n (resizes h n 0 s).heap
-    whole h s name n size block rest own at live least e =
-        let P : Block → Type 0 = IsBlock name.serial (size_of block) in
-        record {
-          own = own;
-          size = size_of block;
-          least = least;
-          there = in_right P name.at 0 s.before (refitted h.tick n 0 s.block s.after) (subst (HasFrom P name.at (0 + words_in s.before)) (sym e) (inl ((live, refl), omega (arith, at))));
-        }
+    whole : (h : HeapState) (s : Site) (name : Name) (n : ℕ) (block : Block) (rest : List Block) → name.heap ≡ h.id → place_of s ≡ name.at → has_serial name.serial block ≡ true → n ≤ size_of block → size_of block < n + 4
+        → refitted h.tick n 0 s.block s.after ≡ block ∷ rest → MadeClose name n (resizes h n 0 s).heap
+    whole h s name n block rest own at live least few e =
+        let P : Block → Type 0 = IsBlock name.serial (size_of block) in (
+          record {
+            own = own;
+            size = size_of block;
+            least = least;
+            there = in_right P name.at 0 s.before (refitted h.tick n 0 s.block s.after) (subst (HasFrom P name.at (0 + words_in s.before)) (sym e) (inl ((live, refl), omega (arith, at))));
+          },
+          few,
+        )
 
-    made : (h : HeapState) (s : Site) (name : Name) (n : ℕ) → name.heap ≡ h.id → has_serial name.serial s.block ≡ true → place_of s ≡ name.at → (b : Block) → s.block ≡ b → n ≤ room_of s.block s.after → Made name n (resizes h n 0 s).heap
+    made : (h : HeapState) (s : Site) (name : Name) (n : ℕ) → name.heap ≡ h.id → has_serial name.serial s.block ≡ true → place_of s ≡ name.at → (b : Block) → s.block ≡ b → n ≤ room_of s.block s.after → MadeClose name n (resizes h n 0 s).heap
     made h s name n own live at (Free m t) is room = absurd (false≢true (ap (has_serial name.serial) (sym is) ∙ live))
     made h s name n own live at (Live m t xs) is room =
         let room_is : n ≤ m + first_free s.after = subst (λ (b : Block). n ≤ room_of b s.after) is room in
         let serial : has_serial name.serial (Live m t xs) ≡ true = subst (λ (b : Block). has_serial name.serial b ≡ true) is live in
-        by_refitted (λ l. refitted h.tick n 0 s.block s.after ≡ l → Made name n (resizes h n 0 s).heap) h.tick n 0 m t xs s.after room_is
-        (λ enough e. whole h s name n m (Live m t (fitted xs 0)) s.after own at serial enough e)
-        (λ e. whole h s name n (m + first_free s.after) (Live (m + first_free s.after) t (fitted xs 0)) (past_free s.after) own at serial room_is e)
-        (λ large e. whole h s name n n (Live n t (fitted xs 0)) _ own at serial (omega arith) e)
+        by_sized (λ l. refitted h.tick n 0 s.block s.after ≡ l → MadeClose name n (resizes h n 0 s).heap) h.tick n m t xs s.after room_is
+        (λ enough few e. whole h s name n (Live m t (fitted xs 0)) s.after own at serial enough few e)
+        (λ few e. whole h s name n (Live (m + first_free s.after) t (fitted xs 0)) (past_free s.after) own at serial room_is few e)
+        (λ e. whole h s name n (Live n t (fitted xs 0)) _ own at serial (omega arith) (omega arith) e)
         (ap (λ (b : Block). refitted h.tick n 0 b s.after) is)
 
 -- ---- when an allocate is refused
@@ -500,9 +527,15 @@ alters sli i o p name len m answer is same units e f g lawful =
     }
 
 module _ (sli : ℕ) (o p : Offsets) (name : Name) (len : ℕ) (a : Alters sli o p name len (Ok tt)) where
-  pub alters_made : Made name (units_for o.unit len) p.heap
-  alters_made = subst (Made name (units_for o.unit len)) (sym a.heap_is) (left_made o.heap name (units_for o.unit len) a.answer_is)
+  pub alters_made : MadeClose name (units_for o.unit len) p.heap
+  alters_made = subst (MadeClose name (units_for o.unit len)) (sym a.heap_is) (left_made o.heap name (units_for o.unit len) a.answer_is)
 
-  pub alters_enough : (span : Span) → span.name ≡ name → IsHeld p span → len ≤ span.size
-  alters_enough span named h =
-      enough sli p span len a.after h (subst (λ (u : ℕ). Made span.name (units_for u len) p.heap) (sym a.unit_is) (subst (λ (m : Name). Made m (units_for o.unit len) p.heap) (sym named) alters_made))
+  module _ (span : Span) (named : span.name ≡ name) (h : IsHeld p span) where
+    respanned : MadeClose span.name (units_for o.unit len) p.heap
+    respanned = subst (λ (m : Name). MadeClose m (units_for o.unit len) p.heap) (sym named) alters_made
+
+    pub alters_enough : len ≤ span.size
+    alters_enough = enough sli p span len a.after h (subst (λ (u : ℕ). Made span.name (units_for u len) p.heap) (sym a.unit_is) respanned.0)
+
+    pub alters_close : span.size < o.unit * (units_for o.unit len + 4)
+    alters_close = subst (λ (u : ℕ). span.size < u * (units_for o.unit len + 4)) a.unit_is (close sli p span (units_for o.unit len) a.after h respanned.0 respanned.1)

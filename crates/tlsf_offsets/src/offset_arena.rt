@@ -152,6 +152,7 @@ impl<const SLI: u32> OffsetArena<SLI> {
         ensures err { OnErr result (self.new.heap ≡ self.old.heap) }
         ensures held { IfOk result (λ span. IsHeld self.new span) }
         ensures enough { IfOk result (λ span. len ≤ span.size) }
+        ensures close { IfOk result (λ span. span.size < self.old.unit * (units_for self.old.unit len + 4)) }
         ensures others { KeepsOthers self.old self.new name }
         ensures unit { self.new.unit ≡ self.old.unit }
         ensures was_lawful { IsOffsets SLI self.old }

@@ -1,9 +1,10 @@
-use Rattle.std.proofs.Common.{ℕ, ◌≤◌, sym, ap, subst, ◌∙◌, arith}
+use Rattle.std.proofs.Common.{◌≡◌, ℕ, ◌≤◌, sym, ap, subst, ◌∙◌, arith}
 use Rattle.tlsf_heap.specs.Calls.{allocated_words}
 use Rattle.tlsf_heap.specs.Blocks.{HeapState}
 use Rattle.tlsf_heap.specs.Lawful.{IsLawful}
 use Rattle.tlsf_arena.specs.Arenas.{Holds, IsMapped}
 use Rattle.tlsf_arena.specs.Places.{lacking}
+use Rattle.tlsf_arena.proofs.Holding.{Keeps, allocated_keeps, kept}
 use Rattle.tlsf_arena.proofs.Mapped.{carves, lacks}
 use Rattle.tlsf_arena.proofs.Maps.{holds_given}
 use Rattle.tlsf_arena.proofs.arena.Arena.allocate.Goals as goal
@@ -44,3 +45,11 @@ returns-clause-holds g c =
     let left = e.heap ∙ ap (λ (j : ℕ). (allocated_words sli heap k j).heap) c.lacking.ensures in
     let holds = holds_given sli c.self.invariant.0.level heap k (lacking k) name (lacks k) gives (subst IsLawful left e.lawful) in
     subst (λ (p : HeapState × ℕ). Holds p.0 name p.1) (λ i. (sym left i, c.units_of-units.ensures.units i)) holds
+
+pub returns-clause-others : goal.returns-clause-others
+returns-clause-others g c = λ other units holds.
+    let heap = c.deref_mut.result.now.heap in
+    let same : heap ≡ c.args.self.now.heap = ap (λ s. s.heap) c.deref_mut.ensures.value ∙ ap (λ s. s.heap) c.self.view_is in
+    let e = c.allocate_words.ensures in
+    kept other heap c.allocate_words.new.self.heap units (subst (Keeps other heap) (sym e.heap) (allocated_keeps g.row.SLI c.units_of-units.result c.lacking.result heap other)) e.lawful
+    (subst (λ (h : HeapState). Holds h other units) (sym same) holds)

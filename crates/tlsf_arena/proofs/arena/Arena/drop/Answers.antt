@@ -4,8 +4,8 @@ use Rattle.tlsf_arena.specs.Places.{free_in}
 use Rattle.tlsf_arena.proofs.Mapped.{whole_arena}
 use Rattle.tlsf_arena.proofs.arena.Arena.drop.Goals as goal
 
-pub into_memory-requires : goal.into_memory-requires
-into_memory-requires g c =
+pub into_memory-memory-requires : goal.into_memory-memory-requires
+into_memory-memory-requires g c =
     let a = c.self.inside in
     let mapped = c.self.invariant.0 in
     let first : free_in (placed_at a.heap.value.heap.blocks 0) ≡ a.units =

@@ -1,18 +1,9 @@
-use Rattle.std.proofs.Common.{◌≡◌, ℕ, ◌/◌, ◌^◌, ◌≤◌, true, eqb, replicate, inl, inr, refl, sym, ap, subst, ◌∙◌, arith}
+use Rattle.std.proofs.Common.{◌≡◌, ℕ, ◌/◌, true, replicate, sym, ap, subst, ◌∙◌}
 use Rattle.std.specs.List.{AllByRecursion}
-use Rattle.std.proofs.lemmas.Bool.{cases_lt, cases_cond}
-use Rattle.tlsf_class.specs.Classes.{most_words}
 use Rattle.tlsf_heap.specs.Blocks.{HeapState}
-use Rattle.tlsf_heap.specs.Lawful.{IsRegion, HasRoom}
-use Rattle.tlsf_arena.proofs.Mapped.{opens}
+use Rattle.tlsf_heap.specs.Lawful.{HasRoom}
+use Rattle.tlsf_arena.proofs.Mapped.{few_units, opens}
 use Rattle.tlsf_arena.proofs.arena.Arena.open.Goals as goal
-
-few_words : (sli : ℕ) → most_words sli ≤ 2 ^ 24
-few_words sli = elim (cases_cond (eqb sli 4) (2 ^ 20) (2 ^ 24) (most_words sli) refl) [ inl e ↦ omega (arith, e) | inr e ↦ omega (arith, e) ]
-
--- a region that isn't refused is no larger than the greatest
-few_units : (sli units : ℕ) → ¬ (¬ (IsRegion sli units)) → units ≤ 2 ^ 24
-few_units sli units h = elim (cases_lt (2 ^ 24) units) [ inl over ↦ absurd (h (λ r. omega (arith, over, r.1, few_words sli))) | inr within ↦ within ]
 
 pub invariant_of-result : goal.invariant_of-result
 invariant_of-result g c =

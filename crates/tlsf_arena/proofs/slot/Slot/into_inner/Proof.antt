@@ -1,16 +1,21 @@
 -- `into_inner` unwraps the arena. Assumes `Logic`.
-use Rattle.std.proofs.Common.{List, [], ◌∷◌, ◌++◌, refl}
-use mir.Syntax.{Fn}
+use Rattle.std.proofs.Common.{◌^◌, ◌<◌, List, [], ◌∷◌, ◌++◌, refl}
+use mir.Syntax.{Fn, Args, a_number}
+use mir.MapTy.{inst_fn}
 use mir.Val.{Val}
 use base.Logic.{SProp}
 use base.Fml.{ftrue}
+use prog.Memory.{size}
 use prog.Wp.{Env, WpFn}
+use contract.BorrowLft.{◌⊑◌}
+use contract.Monad.{fact}
 use contract.Running.{tables}
 use types.Kit.{‵, raw, ◌⊛◌, prop, ◌$◌, ◌∵◌, !, qed, by, move, drop, split, regoal, fsplit, fjoin}
 use types.Part.{whole, sub}
 use types.Run.{stop, fld, of_opd, returns, enter}
 use types.ByLocal.{alloc_all, pass_all, free_all, look_at, get, get_in, sets, env}
 use denote.RattleType.{owns}
+use denote.Param.{number, layout, layouts}
 use denote.Signature.{types_at}
 use denote.Steps.{nothing}
 use denote.Triple.Entry.{alive}
@@ -19,7 +24,8 @@ use Rattle.core.proofs.alloc.Calls.{Goes-blank}
 use Rattle.core.proofs.cell.Inside.{round}
 use Rattle.std_alloc.proofs.ResultValues.{and_tt}
 use Rattle.std.proofs.raw_atomic.Walks.{proved_at, leaves}
-use Rattle.tlsf_arena.proofs.Cell.{contents_out}
+use Rattle.tlsf_arena.specs.contracts.slot.Slot as slot
+use Rattle.tlsf_arena.proofs.Cell.{Level, Unit_bytes, Held_arena, contents_out}
 use Rattle.linked_list_allocator.proofs.Walks.{slot_at}
 use Rattle.tlsf_arena.specs.contracts.slot.Slot.into_inner.{ended, clauses}
 use Rattle.tlsf_arena.specs.contracts.slot.Slot.into_inner.Key.{name as #self}
@@ -27,21 +33,26 @@ use Rattle.tlsf_arena.proofs.slot.Slot.into_inner.Statement.{statement}
 use Rattle.tlsf_arena.proofs.slot.Slot.into_inner.Code as compiled
 
 pub into_inner_spec : {M : Type 1} → statement M
-into_inner_spec 𝓤 𝓛 𝓜 𝓡 wired =
+into_inner_spec 𝓤 𝓛 𝓜 𝓡 wired S U fS fU =
     let H = 𝓛.H in
-    let En₀ = ended in
-    let c₀ = clauses 𝓛 𝓜.mem 𝓡.returns in
-    let fn : Fn = compiled.function in
+    let En₀ = ended (number S) (number U) in
+    let c₀ = clauses (number S) (number U) 𝓛 𝓜.mem 𝓡.returns in
+    let args : Args = layouts (a_number ∷ a_number ∷ []) (number S, (number U, tt)) in
+    let fn : Fn = inst_fn args compiled.function in
     let stays : Stays En₀.signature.params En₀.kept = (stay_dropped (slot_at 0 En₀.signature.params) En₀.kept.0, tt) in
     let c = c₀ in
     let C = (tables 𝓤 H 𝓜 𝓡 𝓡.env).C in
     let Λ = (tables 𝓤 H 𝓜 𝓡 𝓡.env).Λ in
-    proved_at 𝓛 En₀ stays c 𝓜 𝓡 (Goes-blank 𝓛 0 (slot_at 0 En₀.signature.params) En₀.kept.0 (λ κs x f. tt), tt) #self fn (compiled.unfolded 𝓤 H 𝓜 𝓡 wired) (λ z are.
+    proved_at 𝓛 En₀ stays c 𝓜 𝓡 (Goes-blank 𝓛 2 (slot_at 0 En₀.signature.params) En₀.kept.0 (λ κs x f. tt), tt) (#self args) fn (compiled.unfolded 𝓤 H 𝓜 𝓡 wired (number S, (number U, tt))) (λ z are.
     let Post : Val → SProp 𝓤 = (walk_of 𝓛 En₀ stays c).post z in
     let a = z.0.3 in
     let vss = z.0.4 in
-    qed 𝓛 ((raw (alive 𝓛 En₀.signature z.0.0 z.0.1) ⊛ ‵ (owns (types_at En₀.signature.params z.0.0) a vss)) ∷ ‵ ftrue ∷ []) ∵ move ! (1 ∷ []) $ drop ! $ split ! $ move ! (1 ∷ []) $
-    fsplit ! $ move ! (1 ∷ []) $ drop ! $ fsplit ! $ drop ! $ contents_out a.0 ! vss.0 (λ x v over typed told.
+    let InS : Type 0 = z.0.0.0 ⊑ (number S).lives in
+    let InU : Type 0 = z.0.0.1.0 ⊑ (number U).lives in
+    let SlotFits : Type 0 = size (layout (slot.the_row (Level S U) (Unit_bytes S U))) < 2 ^ 63 in
+    let ArenaFits : Type 0 = size (layout (Held_arena S U)) < 2 ^ 63 in
+    qed 𝓛 ((raw (alive 𝓛 En₀.signature z.0.0 z.0.1) ⊛ ‵ (owns (types_at En₀.signature.params z.0.0) a vss)) ∷ (raw (fact 𝓤 InS) ⊛ raw (fact 𝓤 InU) ⊛ raw (fact 𝓤 SlotFits) ⊛ raw (fact 𝓤 ArenaFits) ⊛ ‵ ftrue) ∷ []) ∵ move ! (1 ∷ []) $ drop ! $ split ! $ move ! (1 ∷ []) $
+    fsplit ! $ move ! (1 ∷ []) $ drop ! $ fsplit ! $ drop ! $ contents_out S U a.0 ! vss.0 (λ x v over typed told.
     regoal ! (λ (us : List Val). prop (WpFn 𝓤 H C Λ fn us Post)) (λ i. told i ++ []) refl $
     enter ! C Λ fn (round v ∷ []) Post $
     alloc_all ! (λ l. pass_all ! refl ((and_tt _ ((typed).0), ((typed).1, tt)), tt) $ let En : Env 𝓤 𝓛.H = env fn.locals l in

@@ -1,6 +1,6 @@
 use Rattle.std.proofs.Common.{rules, arith, sym, ◌∙◌, refl, Ok, Err}
 use Rattle.tlsf_offsets.specs.Offsets.{IsOffsets, units_for}
-use Rattle.tlsf_offsets.proofs.Spans.{Alters, alters, alters_enough, alters_made, kept_resized, made_live}
+use Rattle.tlsf_offsets.proofs.Spans.{Alters, alters, alters_close, alters_enough, alters_made, kept_resized, made_live}
 use Rattle.tlsf_offsets.proofs.offset_arena.OffsetArena.resize.Goals as goal
 
 pub returns-in-Err-clause-answer : goal.returns-in-Err-clause-answer
@@ -22,7 +22,7 @@ span_of-requires g c =
     let is : IsOffsets g.row.SLI c.args.self.now = search rules in
     let a : Alters g.row.SLI c.args.self.now (record { heap = c.resize_words.new.self.heap; unit = c.self.inside.unit; touches = c.resize_words.new.self.touches }) c.args.name c.args.len (Ok tt) =
     alters g.row.SLI _ c.args.self.now _ c.args.name c.args.len c.units_of.result _ is c.self.view_is c.units_of.ensures (sym c.in-Ok.is ∙ c.resize_words.ensures.answer) c.resize_words.ensures.heap refl c.resize_words.ensures.lawful in
-    (omega arith, made_live c.args.name (units_for c.args.self.now.unit c.args.len) c.resize_words.new.self.heap (alters_made g.row.SLI c.args.self.now _ c.args.name c.args.len a))
+    (omega arith, made_live c.args.name (units_for c.args.self.now.unit c.args.len) c.resize_words.new.self.heap (alters_made g.row.SLI c.args.self.now _ c.args.name c.args.len a).0)
 
 pub returns-in-Ok-clause-answer : goal.returns-in-Ok-clause-answer
 returns-in-Ok-clause-answer g c =
@@ -44,6 +44,13 @@ returns-in-Ok-clause-enough g c =
     let a : Alters g.row.SLI c.args.self.now (record { heap = c.resize_words.new.self.heap; unit = c.self.inside.unit; touches = c.resize_words.new.self.touches }) c.args.name c.args.len (Ok tt) =
     alters g.row.SLI _ c.args.self.now _ c.args.name c.args.len c.units_of.result _ is c.self.view_is c.units_of.ensures (sym c.in-Ok.is ∙ c.resize_words.ensures.answer) c.resize_words.ensures.heap refl c.resize_words.ensures.lawful in
     alters_enough g.row.SLI c.args.self.now _ c.args.name c.args.len a c.span_of.result c.span_of.ensures.name c.span_of.ensures.held
+
+pub returns-in-Ok-clause-close : goal.returns-in-Ok-clause-close
+returns-in-Ok-clause-close g c =
+    let is : IsOffsets g.row.SLI c.args.self.now = search rules in
+    let a : Alters g.row.SLI c.args.self.now (record { heap = c.resize_words.new.self.heap; unit = c.self.inside.unit; touches = c.resize_words.new.self.touches }) c.args.name c.args.len (Ok tt) =
+    alters g.row.SLI _ c.args.self.now _ c.args.name c.args.len c.units_of.result _ is c.self.view_is c.units_of.ensures (sym c.in-Ok.is ∙ c.resize_words.ensures.answer) c.resize_words.ensures.heap refl c.resize_words.ensures.lawful in
+    alters_close g.row.SLI c.args.self.now _ c.args.name c.args.len a c.span_of.result c.span_of.ensures.name c.span_of.ensures.held
 
 pub returns-in-Ok-clause-others : goal.returns-in-Ok-clause-others
 returns-in-Ok-clause-others g c =

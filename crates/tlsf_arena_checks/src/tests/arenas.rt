@@ -1,9 +1,8 @@
 ghost use Rattle.std.specs.Prelude.{◌≡◌};
 
-use crate::{Arena, Block, LocalArena};
-use std::collections::BTreeMap;
 use std::mem::ManuallyDrop;
 use std::test::Fail;
+use tlsf_arena::{Arena, Block};
 
 #[test]
 fn blocks_go_out_and_come_back(rt: HostRuntime) -> Result<(), Fail> {
@@ -46,43 +45,6 @@ fn resized(arena: &mut Arena<4, 32>, block: Block<32>, len: u32) -> (Block<32>, 
         Ok(block) => (block, true),
         Err((_, block)) => (block, false),
     }
-}
-
-#[test]
-fn serves_collections(rt: HostRuntime) -> Result<(), Fail> {
-    let heap = LocalArena::open(rt.alloc(), 1, 1 << 12).expect(&rt, "open");
-    for round in 0..50u64 {
-        let mut squares = Vec::new(&heap);
-        let mut boxes = BTreeMap::new(&heap);
-        let mut text = String::new(&heap);
-        for n in 0..40u64 {
-            squares.push(n * n)?;
-            boxes.insert(n, Box::new(&heap, round)?)?;
-            text.push_str("unit ")?;
-        }
-        assert_eq!(rt;
-            (squares.last().copied(), boxes.len(), text.len()),
-            (Some(1521), 40, 200)
-        );
-        assert!(rt; heap.free_units() < 1 << 12);
-    }
-    assert_eq!(rt; heap.free_units(), 1 << 12);
-    Ok(())
-}
-
-#[test]
-fn refuses_what_does_not_fit(rt: HostRuntime) -> Result<(), Fail> {
-    let heap = LocalArena::open(rt.alloc(), 1, 1 << 12).expect(&rt, "open");
-    let mut all: Vec<u8, &LocalArena> = Vec::with_capacity(&heap, 1 << 16)?;
-    all.push(1)?;
-    assert!(rt; Box::new(&heap, 0u8).is_err());
-    drop(all);
-    let mut floats: Vec<f32, &LocalArena> = Vec::with_capacity(&heap, 1 << 13)?;
-    floats.push(1.5)?;
-    assert!(rt; floats[0] == 1.5);
-    drop(floats);
-    assert_eq!(rt; heap.free_units(), 1 << 12);
-    Ok(())
 }
 
 fn is_back<const UNIT: usize>(arena: &mut Arena<4, UNIT>, block: Block<UNIT>) -> bool

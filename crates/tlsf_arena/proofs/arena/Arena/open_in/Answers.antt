@@ -1,0 +1,22 @@
+use Rattle.std.proofs.Common.{◌≡◌, ℕ, ◌*◌, ◌/◌, true, replicate, sym, ap, subst, ◌∙◌, arith}
+use Rattle.std.specs.List.{AllByRecursion}
+use Rattle.tlsf_heap.specs.Blocks.{HeapState}
+use Rattle.tlsf_heap.specs.Lawful.{HasRoom}
+use Rattle.tlsf_arena.proofs.Mapped.{few_units, opens}
+use Rattle.tlsf_arena.proofs.UnitCases.{grains_of}
+use Rattle.tlsf_arena.proofs.arena.Arena.open_in.Goals as goal
+
+pub invariant_of-result : goal.invariant_of-result
+invariant_of-result g c =
+    let u = g.row.UNIT in
+    let opened = c.in-Ok.ensures in
+    let is : c.in-Ok-new.heap.value.heap ≡ c.in-Ok.heap.heap = ap (λ s. s.heap) c.in-Ok-new.ensures.ok in
+    let rooms = subst (λ (h : HeapState). AllByRecursion HasRoom h.blocks) opened.heap opened.lawful.rooms in
+    let most = few_units g.row.SLI c.args.units (λ no. let e = opened.bad_size.1 no in cc) in
+    let same = c.with_ptr-base.ensures.1 in
+    let space = c.new-space.ensures in
+    let long : c.args.memory.size / 16 ≡ u / 16 * c.args.units = omega (arith, c.requires.size, grains_of u c.args.units c.requires.unit) in (
+      opens g.row.SLI u c.args.units c.args.id c.args.memory.size c.in-Ok-new.heap.value.heap c.new-space.result.free c.requires.level c.requires.unit rooms.0 most (is ∙ opened.heap) long
+          (space.2 ∙ ap (λ (m : ℕ). replicate (m / 16) true) (ap (λ m. m.size) same)),
+      (space.1 ∙ ap (λ m. m.ptr) same ∙ sym c.with_ptr-base.ensures.0, tt),
+    )

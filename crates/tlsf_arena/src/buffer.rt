@@ -1,0 +1,66 @@
+// A block for values that is to grow or shrink.
+ghost use Rattle.std.specs.Prelude.{◌≡◌, ℕ, ◌*◌, ◌^◌, ◌<◌, ◌≤◌, List};
+ghost use Rattle.std.specs.Mem.{type_size};
+ghost use Rattle.std.specs.Allocator.{block_with_items};
+ghost use Rattle.linked_list_allocator.specs.Region.{Region};
+ghost use Rattle.tlsf_arena.specs.Places.{IsUnit, piece_size};
+ghost use Rattle.tlsf_arena.specs.Ownership.{block_token};
+
+use crate::piece::Piece;
+use std::marker::{Model, PhantomData};
+use std::ptr::copy_nonoverlapping;
+
+// Room for `cap` values, of which the first `len` are there.
+pub(crate) struct Buffer<T> {
+    pub(crate) ptr: *mut T,
+    pub(crate) marker: PhantomData<T>,
+    ghost unit: { ℕ },
+    ghost region: { Region },
+    ghost len: { ℕ },
+    ghost cap: { ℕ },
+    ghost items: { List T },
+}
+
+impl<T> Model for Buffer<T> {
+    ghost also_owns = { λ b. block_with_items (block_token b.unit b.region) T.row b.ptr b.len b.cap b.items };
+}
+
+impl<T> Buffer<T> {
+    // The values stay, and the same piece is room for another number of them.
+    pub(crate) fn refitted(self, _cap: usize) -> Buffer<T>
+        requires unit { IsUnit self.unit }
+        requires size { piece_size self.unit (_cap * type_size T.row) ≡ piece_size self.unit (self.cap * type_size T.row) }
+        requires counts { (self.len ≤ _cap) × (self.len ≤ self.cap) }
+        ensures { (result.unit ≡ self.unit) × (result.region ≡ self.region) × (result.len ≡ self.len) × (result.cap ≡ _cap) × (result.items ≡ self.items) }
+    {
+        let Buffer { ptr, marker } = self;
+        Buffer { ptr, marker }
+    }
+
+    // The values move to a new piece, and the old one comes back.
+    pub(crate) fn move_to(
+        self,
+        piece: Piece,
+        len: usize,
+        cap: usize,
+        old_size: usize,
+    ) -> (Buffer<T>, Piece)
+        requires unit { IsUnit self.unit }
+        requires region { piece.region ≡ self.region }
+        requires new { (piece.size ≡ piece_size self.unit (cap * type_size T.row)) × (cap * type_size T.row < 2 ^ 63) }
+        requires old { old_size ≡ piece_size self.unit (self.cap * type_size T.row) }
+        requires counts { (len ≡ self.len) × (len ≤ cap) × (len ≤ self.cap) }
+        ensures moved { (result.0.unit ≡ self.unit) × (result.0.region ≡ self.region) × (result.0.len ≡ len) × (result.0.cap ≡ cap) × (result.0.items ≡ self.items) }
+        ensures back { (result.1.region ≡ self.region) × (result.1.size ≡ old_size) }
+    {
+        let Buffer { ptr: old, marker } = self;
+        let Piece { ptr, size: _ } = piece;
+        let ptr = ptr as *mut T;
+        unsafe { copy_nonoverlapping(old, ptr, len) };
+        let back = Piece {
+            ptr: old as *mut u8,
+            size: old_size,
+        };
+        (Buffer { ptr, marker }, back)
+    }
+}

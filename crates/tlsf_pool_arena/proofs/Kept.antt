@@ -1,0 +1,162 @@
+-- An arena keeps to its bounds through its calls.
+use Rattle.std.proofs.Common.{◌≡◌, ℕ, ◌+◌, ◌-◌, ◌*◌, ◌<◌, ◌≤◌, Bool, true, false, cond, List, [], ◌∷◌, ◌++◌, length, Result, Ok, refl, sym, ap, ◌∙◌, subst, inl, inr, arith}
+use Rattle.std.proofs.lemmas.Bool.{false≢true, cases_lt}
+use Rattle.linked_list_allocator.specs.Region.{Region}
+use Rattle.tlsf_class.specs.Classes.{most_words}
+use Rattle.tlsf_heap.specs.Blocks.{Block, Live, Free, HeapState, size_of, want}
+use Rattle.tlsf_heap.specs.GoodFit.{Site, fits, is_fit}
+use Rattle.tlsf_heap.specs.Lawful.{IsLawful}
+use Rattle.tlsf_heap.specs.Reports.{live_among}
+use Rattle.tlsf_heap.specs.Calls.{Outcome, Release, Released, carved, last_tick, refused, released}
+use Rattle.tlsf_heap.specs.declared.name.Name.{Name}
+use Rattle.tlsf_heap.specs.declared.refusal.Refusal.{Refusal}
+use Rattle.tlsf_heap.specs.declared.refusal.Refusal.TheVariants.{Stale}
+use Rattle.tlsf_heap.proofs.Edits.{carved_small, carved_large}
+use Rattle.tlsf_heap.proofs.Lawfulness.{all_append}
+use Rattle.tlsf_heap.proofs.Outcomes.{IsSiteOf, by_allocated_words, gives_words, lawful_allocated_words}
+use Rattle.tlsf_heap.proofs.Served.{no_fit}
+use Rattle.tlsf_laws.specs.Held.{held_after}
+use Rattle.tlsf_laws.specs.Pools.{IsSmall}
+use Rattle.tlsf_laws.specs.Room.{live_count}
+use Rattle.tlsf_laws.proofs.Around.{around_site}
+use Rattle.tlsf_laws.proofs.Held.{held_is}
+use Rattle.tlsf_laws.proofs.ModestCalls.{AreSmall, InPool, has_room, kept}
+use Rattle.tlsf_arena.specs.Arenas.{released_block, requested}
+use Rattle.tlsf_arena.specs.Places.{IsUnit, held_at, is_held, lacking, units_for}
+use Rattle.tlsf_arena.proofs.UnitCases.{by_unit}
+use Rattle.tlsf_pool_arena.specs.PoolArenas.{IsPoolArena, PoolArenaState, length_for}
+
+-- ---- words and lengths
+
+-- a payload of so many bytes wants k words
+wants : (k : ℕ) → 4 ≤ k → want (8 * (k - 3)) ≡ k
+wants k least = omega (arith, least)
+
+least_units : (u n : ℕ) → 4 ≤ units_for u n
+least_units u n = omega arith
+
+pub wants_units : (u n : ℕ) → want (length_for u n) ≡ units_for u n
+wants_units u n = wants (units_for u n) (least_units u n)
+
+units_rise : (u a b : ℕ) → IsUnit u → a ≤ b → units_for u a ≤ units_for u b
+units_rise u a b unit h = by_unit (λ u. units_for u a ≤ units_for u b) (omega (arith, h)) (omega (arith, h)) (omega (arith, h)) u unit
+
+lengths_rise : (u a b : ℕ) → IsUnit u → a ≤ b → length_for u a ≤ length_for u b
+lengths_rise u a b unit h = omega (arith, units_rise u a b unit h)
+
+lacks_few : (u n : ℕ) → want (lacking (units_for u n)) ≤ units_for u n
+lacks_few u n = omega (arith, least_units u n)
+
+-- ---- what a request adds
+
+count_append : (xs ys : List Block) → length (live_among (xs ++ ys)) ≡ length (live_among xs) + length (live_among ys)
+count_append [] ys = omega arith
+count_append (Live m s b ∷ xs) ys = let e = count_append xs ys in omega (arith, e)
+count_append (Free m s ∷ xs) ys = count_append xs ys
+
+count_carved : (size n tick len : ℕ) → length (live_among (carved size n tick len)) ≡ 1
+count_carved size n tick len = elim (cases_lt size (n + 4)) [
+  | inl small ↦ ap (λ (l : List Block). length (live_among l)) (carved_small size n tick len small)
+  | inr large ↦ ap (λ (l : List Block). length (live_among l)) (carved_large size n tick len large)
+]
+
+count_free : (sli n : ℕ) (b : Block) (bs : List Block) → is_fit sli n b ≡ true → length (live_among (b ∷ bs)) ≡ length (live_among bs)
+count_free sli n (Live m s xs) bs fit = absurd (false≢true fit)
+count_free sli n (Free m s) bs fit = refl
+
+count_given : (sli n len : ℕ) (h : HeapState) (s : Site) → IsSiteOf h.blocks s → is_fit sli n s.block ≡ true → live_count (gives_words h n len s).heap ≡ live_count h + 1
+count_given sli n len h s site fit =
+    let new : List Block = carved (size_of s.block) n h.tick len in
+    omega (
+      arith,
+      ap (λ (l : List Block). length (live_among l)) site,
+      count_append s.before (s.block ∷ s.after),
+      count_free sli n s.block s.after fit,
+      count_append (s.before ++ new) s.after,
+      count_append s.before new,
+      count_carved (size_of s.block) n h.tick len,
+    )
+
+small_carved : (k size n tick len : ℕ) → n + 3 ≤ k → AreSmall k (carved size n tick len)
+small_carved k size n tick len h = elim (cases_lt size (n + 4)) [
+  | inl small ↦ subst (AreSmall k) (sym (carved_small size n tick len small)) ((λ _. omega arith), tt)
+  | inr large ↦ subst (AreSmall k) (sym (carved_large size n tick len large)) ((λ _. omega arith), ((λ f. absurd (false≢true (sym f))), tt))
+]
+
+-- ---- a release that is done is the heap's
+
+released_is : (u : ℕ) (h : HeapState) (name : Name) (n : ℕ) → (released_block u h name n).answer ≡ Ok tt → released_block u h name n ≡ released h name
+released_is u h name n = by_bool (is_held u n (held_at h.blocks name.at))
+  where
+    by_bool : (b : Bool) → (cond b (released h name) (refused h Stale)).answer ≡ Ok tt → cond b (released h name) (refused h Stale) ≡ released h name
+    by_bool true e = refl
+    by_bool false e = absurd (let no : ⊥ = cc in no)
+
+-- ---- the bounds
+
+module _ (sli u : ℕ) where
+  in_pool : (p : PoolArenaState) → IsPoolArena sli u p → InPool p.heap.words (want (length_for u p.longest) + 3) p.heap
+  in_pool p is = record { lawful = is.lawful; words_are = refl; small = subst (λ (k : ℕ). AreSmall (k + 3) p.heap.blocks) (sym (wants_units u p.longest)) is.small }
+
+  in_class : (p : PoolArenaState) → IsPoolArena sli u p → want (length_for u p.longest) ≤ most_words sli
+  in_class p is = omega (arith, wants_units u p.longest, is.class)
+
+  -- a request within the bounds finds room
+  pub room : (p : PoolArenaState) (len : ℕ) → IsPoolArena sli u p → len ≤ p.longest → p.held < p.most → ¬ (fits sli (units_for u len) p.heap.blocks ≡ [])
+  room p len is short few none =
+      has_room sli is.level p.heap.words p.most (length_for u p.longest) (in_class p is) is.words p.heap (length_for u len) (in_pool p is) (lengths_rise u len p.longest is.unit short) (omega (arith, is.live, few))
+      ((no_fit sli p.heap (length_for u len)).1 (subst (λ (k : ℕ). fits sli k p.heap.blocks ≡ []) (sym (wants_units u len)) none))
+
+  -- after an allocate that gave a name
+  pub given : (p : PoolArenaState) (len : ℕ) (name : Name) (left : HeapState) (region : Region) (touches : ℕ) → IsPoolArena sli u p → len ≤ p.longest → p.held < p.most → (requested sli u p.heap len).answer ≡ Ok name → left ≡ (requested sli u p.heap len).heap
+      → IsPoolArena sli u (record { heap = left; region = region; most = p.most; longest = p.longest; held = p.held + 1; touches = touches })
+  given p len name left region touches is short few answer heap =
+      let n : ℕ = units_for u len in
+      let k : ℕ = units_for u p.longest + 3 in
+      let fits : n + 3 ≤ k = omega (arith, units_rise u len p.longest is.unit short) in
+      let Left : Outcome Name → Type 0 = λ o. o.answer ≡ Ok name → (live_count o.heap ≡ live_count p.heap + 1) × (o.heap.words ≡ p.heap.words) × AreSmall k o.heap.blocks in
+      let left_is : Left (requested sli u p.heap len) = by_allocated_words sli Left p.heap n (lacking n) (λ why e. absurd (let no : ⊥ = cc in no)) (λ s site fit e.
+      let a = around_site (IsSmall k) p.heap s site is.small in (
+        count_given sli n (lacking n) p.heap s site fit,
+        refl,
+        all_append (IsSmall k) (s.before ++ carved (size_of s.block) n p.heap.tick (lacking n)) s.after
+            (all_append (IsSmall k) s.before (carved (size_of s.block) n p.heap.tick (lacking n)) a.0 (small_carved k (size_of s.block) n p.heap.tick (lacking n) fits)) a.2,
+      )) in
+      let now = left_is answer in
+      record {
+        level = is.level;
+        unit = is.unit;
+        lawful = subst IsLawful (sym heap) (lawful_allocated_words sli is.level p.heap n (lacking n) (lacks_few u len) is.lawful);
+        words = omega (arith, is.words, now.1, ap (λ (h : HeapState). h.words) heap);
+        class = is.class;
+        live = ap live_count heap ∙ now.0 ∙ ap (λ (n : ℕ). n + 1) is.live;
+        few = omega (arith, few);
+        small = subst (λ (h : HeapState). AreSmall k h.blocks) (sym heap) now.2;
+      }
+
+  -- after a release that was done
+  pub taken : (p : PoolArenaState) (name : Name) (n : ℕ) (left : HeapState) (region : Region) (touches : ℕ) → IsPoolArena sli u p → (released_block u p.heap name n).answer ≡ Ok tt → left ≡ (released_block u p.heap name n).heap
+      → IsPoolArena sli u (record { heap = left; region = region; most = p.most; longest = p.longest; held = p.held - 1; touches = touches })
+  taken p name n left region touches is done left_is =
+      let same = released_is u p.heap name n done in
+      let answer : (released p.heap name).answer ≡ Ok tt = ap (λ (o : Outcome (Unit {0})). o.answer) (sym same) ∙ done in
+      let heap : left ≡ (released p.heap name).heap = left_is ∙ ap (λ (o : Outcome (Unit {0})). o.heap) same in
+      let after = kept sli is.level p.heap.words p.most (length_for u p.longest) (in_class p is) is.words p.heap (Release name) (in_pool p is) tt in
+      let counts = held_is sli p.heap (Release name) ∙ ap (λ (r : Result (Unit {0}) Refusal). held_after (live_count p.heap) (Release name) (Released r)) answer in
+      record {
+        level = is.level;
+        unit = is.unit;
+        lawful = subst IsLawful (sym heap) after.lawful;
+        words = omega (arith, is.words, after.words_are, ap (λ (h : HeapState). h.words) heap);
+        class = is.class;
+        live = ap live_count heap ∙ counts ∙ ap (λ (n : ℕ). n - 1) is.live;
+        few = omega (arith, is.few);
+        small = subst (λ (h : HeapState). AreSmall (units_for u p.longest + 3) h.blocks) (sym heap) (subst (λ (k : ℕ). AreSmall (k + 3) (released p.heap name).heap.blocks) (wants_units u p.longest) after.small);
+      }
+
+  -- an arena that refuses within the bounds is at its last tick
+  pub worn : (p q : PoolArenaState) (len : ℕ) → q ≡ p → IsPoolArena sli u p → ((¬ (fits sli (units_for u len) p.heap.blocks ≡ []) × ¬ (p.heap.tick ≡ last_tick)) → false ≡ true)
+      → ((len ≤ q.longest) × (q.held < q.most) × ¬ (q.heap.tick ≡ last_tick)) → false ≡ true
+  worn p q len same is refused =
+      subst (λ (x : PoolArenaState). ((len ≤ x.longest) × (x.held < x.most) × ¬ (x.heap.tick ≡ last_tick)) → false ≡ true) (sym same)
+      (λ h. refused (room p len is h.0 h.1, h.2))

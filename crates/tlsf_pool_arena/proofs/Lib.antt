@@ -1,0 +1,3 @@
+-- The lemmas of this crate, a line a file.
+--   Kept: an arena keeps to its bounds through its calls
+pub mod Kept

@@ -1,0 +1,52 @@
+-- An arena of which a program holds at most so many blocks, of at most so many bytes each.
+use Rattle.std.specs.Prelude.{◌≡◌, ℕ, ◌+◌, ◌-◌, ◌*◌, ◌≤◌, Option}
+use Rattle.std.specs.List.{AllByRecursion}
+use Rattle.linked_list_allocator.specs.Region.{Region}
+use Rattle.tlsf_class.specs.Classes.{IsLevel, most_words}
+use Rattle.tlsf_heap.specs.Blocks.{HeapState}
+use Rattle.tlsf_heap.specs.Lawful.{IsLawful}
+use Rattle.tlsf_laws.specs.Pools.{IsSmall, pool_region, pool_words}
+use Rattle.tlsf_laws.specs.Room.{live_count}
+use Rattle.tlsf_arena.specs.Places.{IsUnit, units_for}
+
+-- what the arena shows: its heap, the region of its memory, how many blocks may be held at once and the bytes of the longest request, how
+-- many are held, and the heap's touches
+pub record PoolArenaState : Type 0 where
+  pub heap : HeapState
+  pub region : Region
+  pub most : ℕ
+  pub longest : ℕ
+  pub held : ℕ
+  pub touches : ℕ
+
+-- the payload of a heap's block that has as many words as a block of n bytes has units, of u bytes each
+abbrev pub length_for : ℕ → ℕ → ℕ
+length_for u n = 8 * (units_for u n - 3)
+
+-- the units of such an arena, where some heap has so many words
+abbrev pub units_of_pool : ℕ → ℕ → ℕ → ℕ → Option ℕ
+units_of_pool sli u most longest = pool_region sli most (length_for u longest)
+
+-- the heap has a level, is lawful and has words enough; as many blocks are live as are held, no more than may be, and none has more units
+-- than the longest request gets and three more
+pub record IsPoolArena (sli u : ℕ) (p : PoolArenaState) : Type 0 where
+  pub level : IsLevel sli
+  pub unit : IsUnit u
+  pub lawful : IsLawful p.heap
+  pub words : pool_words sli p.most (length_for u p.longest) ≤ p.heap.words
+  pub class : units_for u p.longest ≤ most_words sli
+  pub live : live_count p.heap ≡ p.held
+  pub few : p.held ≤ p.most
+  pub small : AllByRecursion (IsSmall (units_for u p.longest + 3)) p.heap.blocks
+
+-- the same bounds over the same memory: how many blocks may be held, and how long a request may be
+pub record SamePlan (old new : PoolArenaState) : Type 0 where
+  pub region : new.region ≡ old.region
+  pub most : new.most ≡ old.most
+  pub longest : new.longest ≡ old.longest
+
+-- the same heap besides, and as many blocks held. Only the touches may differ
+pub record SamePoolArena (old new : PoolArenaState) : Type 0 where
+  pub plan : SamePlan old new
+  pub heap : new.heap ≡ old.heap
+  pub held : new.held ≡ old.held

@@ -1,0 +1,187 @@
+ghost use Rattle.std.specs.Prelude.{◌≡◌, ◌↔◌, ℕ, ◌+◌, ◌*◌, ◌<◌, ◌≤◌, [], None, Some, IfOk, IfErr, OnOk, OnErr, IsOk, IsErrOf, MatchResult, Ok, Err};
+ghost use Rattle.std.specs.Option.{option_map_or};
+ghost use Rattle.tlsf_class.specs.Classes.{IsLevel};
+ghost use Rattle.tlsf_heap.specs.Calls.{last_tick, opened};
+ghost use Rattle.tlsf_heap.specs.GoodFit.{fits};
+ghost use Rattle.tlsf_arena.specs.Arenas.{Holds, released_block, requested};
+ghost use Rattle.tlsf_arena.specs.Places.{IsUnit, piece_size, units_for};
+ghost use Rattle.tlsf_pool_arena.specs.PoolArenas.{IsPoolArena, SamePlan, SamePoolArena, units_of_pool};
+
+use std::alloc::Global;
+use std::marker::Model;
+use tlsf_arena::{Arena, Block};
+use tlsf_heap::{OpenFault, Refusal};
+use tlsf_pool::{PoolRefusal, pool_region};
+
+/// An arena that never refuses for want of room: it is opened by the most blocks that are held at once and the longest request. Its level
+/// is that of its heap, 4 or 5, and a unit has 16, 32 or 64 bytes.
+///
+/// Contracts see it as its heap, the region of its memory, the two bounds, how many blocks are held, and the heap's touches. Lengths are
+/// in bytes.
+#[derive(Drop)]
+pub struct PoolArena<const SLI: u32, const UNIT: usize> {
+    arena: Arena<SLI, UNIT>,
+    most: u32,
+    longest: u32,
+    held: u32,
+}
+
+impl<const SLI: u32, const UNIT: usize> Model for PoolArena<SLI, UNIT> {
+    ghost use Rattle.tlsf_pool_arena.specs.PoolArenas.{IsPoolArena, PoolArenaState};
+
+    ghost Value = { PoolArenaState };
+
+    ghost view = { λ p. record { heap = p.arena.heap; region = p.arena.region; most = p.most; longest = p.longest; held = p.held; touches = p.arena.touches } };
+
+    ghost invariant = { λ p. IsPoolArena SLI UNIT (record { heap = p.arena.heap; region = p.arena.region; most = p.most; longest = p.longest; held = p.held; touches = p.arena.touches }) };
+}
+
+/// The units of the least arena in which a program of at most `most` blocks at once, of at most `longest` bytes each, is never refused for
+/// want of room, from 4 on; None where no arena has so many. It is what a [`PoolArena`] of these bounds has.
+///
+/// ```
+/// let units = pool_units::<4, 16>(100, 512);       // Some(6566)
+/// let none = pool_units::<4, 16>(100_000, 512);    // None
+/// ```
+pub fn pool_units<const SLI: u32, const UNIT: usize>(most: u32, longest: u32) -> Option<u32>
+    requires level { IsLevel SLI }
+    requires unit { IsUnit UNIT }
+    ensures { result ≡ units_of_pool SLI UNIT most longest }
+{
+    let units = ((longest as usize + (UNIT - 1)) / UNIT).max(4) as u32;
+    pool_region::<SLI>(most, 8 * (units - 3))
+}
+
+impl<const SLI: u32, const UNIT: usize> PoolArena<SLI, UNIT> {
+    /// Opens an arena for at most `most` blocks at once, of at most `longest` bytes each. Its heap has the number `id`, and its memory is
+    /// taken from `alloc` beside that for the heap.
+    ///
+    /// Refused as `BadSize` where no heap has so many words (4 to 2^20, or to 2^24 at level 5), else as `NoMemory` where the memory was
+    /// not granted. No later call takes memory.
+    ///
+    /// ```text
+    /// let arena = PoolArena::<4, 16>::open(alloc, 0, 100, 512)?;
+    /// PoolArena::<4, 16>::open(alloc, 0, 100_000, 512).err() == Some(OpenFault::BadSize)
+    /// ```
+    pub fn open(
+        alloc: Global,
+        id: u32,
+        most: u32,
+        longest: u32,
+    ) -> Result<PoolArena<SLI, UNIT>, OpenFault>
+        requires level { IsLevel SLI }
+        requires unit { IsUnit UNIT }
+        ensures heap { IfOk result (λ p. (units : ℕ) → units_of_pool SLI UNIT most longest ≡ Some units → (p.heap ≡ opened id units 0) × (p.region.end ≡ p.region.start + UNIT * units)) }
+        ensures most { IfOk result (λ p. p.most ≡ most) }
+        ensures longest { IfOk result (λ p. p.longest ≡ longest) }
+        ensures none { IfOk result (λ p. p.held ≡ 0) }
+        ensures bad_size { IsErrOf result OpenFault.BadSize ↔ (units_of_pool SLI UNIT most longest ≡ None) }
+        ensures not_worn { ¬ (IsErrOf result OpenFault.Worn) }
+        ensures touches { IfOk result (λ p. p.touches ≤ 10) }
+    {
+        let Some(units) = pool_units::<SLI, UNIT>(most, longest) else {
+            return Err(OpenFault::BadSize);
+        };
+        let arena = Arena::<SLI, UNIT>::open(alloc, id, units)?;
+        Ok(PoolArena {
+            arena,
+            most,
+            longest,
+            held: 0,
+        })
+    }
+
+    /// Gives a block of `len` bytes or more, as [`Arena::allocate`] does.
+    ///
+    /// It is given whenever `len` is at most the longest request, fewer blocks are held than may be, and the tick isn't at its last value.
+    /// Else it is refused as `TooLong`, `Full` or `Worn`, in this order. Takes no memory.
+    ///
+    /// ```text
+    /// let mut arena = PoolArena::<4, 16>::open(alloc, 0, 1, 100)?;         // one block of up to 100 bytes
+    /// let block = arena.allocate(100)?;                                    // 112 bytes
+    /// arena.allocate(100).err() == Some(PoolRefusal::Full)
+    /// arena.allocate(101).err() == Some(PoolRefusal::TooLong)
+    /// ```
+    pub fn allocate(&mut self, len: u32) -> Result<Block<UNIT>, PoolRefusal>
+        ensures ok { IsOk result ↔ ((len ≤ self.old.longest) × (self.old.held < self.old.most) × ¬ (self.old.heap.tick ≡ last_tick)) }
+
+        // The refusals, in their order: there is none for want of room, since the arena has some.
+        ensures too_long { IsErrOf result PoolRefusal.TooLong ↔ (self.old.longest < len) }
+        ensures full { IsErrOf result PoolRefusal.Full ↔ ((len ≤ self.old.longest) × (self.old.held ≡ self.old.most)) }
+        ensures room { len ≤ self.old.longest → self.old.held < self.old.most → ¬ (fits SLI (units_for UNIT len) self.old.heap.blocks ≡ []) }
+
+        // An accepted request is the arena's, and one block more is held. A refusal changes nothing.
+        ensures answer { IfOk result (λ b. (requested SLI UNIT self.old.heap len).answer ≡ Ok b.name) }
+        ensures heap { OnOk result (self.new.heap ≡ (requested SLI UNIT self.old.heap len).heap) }
+        ensures block { IfOk result (λ b. (b.piece.region ≡ self.old.region) × (b.piece.size ≡ piece_size UNIT len)) }
+        ensures holds { IfOk result (λ b. Holds self.new.heap b.name (units_for UNIT len)) }
+        ensures held { OnOk result (self.new.held ≡ self.old.held + 1) }
+        ensures err { OnErr result (SamePoolArena self.old self.new) }
+        ensures plan { SamePlan self.old self.new }
+
+        // Accepted or refused, whatever the length: at most 64 touches.
+        ensures touches { self.new.touches ≤ self.old.touches + 64 }
+        ensures touches_rise { self.old.touches ≤ self.new.touches }
+    {
+        if len > self.longest {
+            return Err(PoolRefusal::TooLong);
+        }
+        if self.held >= self.most {
+            return Err(PoolRefusal::Full);
+        }
+        match self.arena.allocate(len) {
+            Ok(block) => {
+                self.held += 1;
+                Ok(block)
+            }
+            // Room there is, so the tick is at its last value.
+            Err(_) => Err(PoolRefusal::Worn),
+        }
+    }
+
+    /// Takes a block back, and merges its units with the free ones beside them. One block fewer is held.
+    ///
+    /// Refused, with the block, as [`Arena::release`] refuses it: a block that this arena gave for nothing but `Worn`, where the tick is at
+    /// its last value. Takes no memory.
+    ///
+    /// ```text
+    /// let block = arena.allocate(100)?;
+    /// arena.release(block).is_ok()
+    /// ```
+    pub fn release(&mut self, block: Block<UNIT>) -> Result<(), (Refusal, Block<UNIT>)>
+        requires { block.piece.region ≡ self.old.region }
+        ensures answer { MatchResult result (λ _. (released_block UNIT self.old.heap block.entry.name block.entry.piece.size).answer ≡ Ok tt) (λ e. (released_block UNIT self.old.heap block.entry.name block.entry.piece.size).answer ≡ Err e.0) }
+        ensures heap { self.new.heap ≡ (released_block UNIT self.old.heap block.entry.name block.entry.piece.size).heap }
+        ensures held { OnOk result (self.new.held + 1 ≡ self.old.held) }
+
+        // A refusal changes nothing and gives the block back, and a block that is held is refused at the last tick alone.
+        ensures err { IfErr result (λ e. SamePoolArena self.old self.new × (e.1 ≡ block.entry)) }
+        ensures worn { IfErr result (λ e. (units : ℕ) → block.entry.piece.size ≡ UNIT * units → Holds self.old.heap block.entry.name units → e.0 ≡ Refusal.Worn) }
+        ensures plan { SamePlan self.old self.new }
+        ensures touches { self.new.touches ≤ self.old.touches + 64 }
+        ensures touches_rise { self.old.touches ≤ self.new.touches }
+    {
+        match self.arena.release(block) {
+            Ok(()) => {
+                self.held -= 1;
+                Ok(())
+            }
+            Err(refused) => Err(refused),
+        }
+    }
+
+    /// How many blocks are held: the accepted allocates less the accepted releases.
+    ///
+    /// ```text
+    /// let block = arena.allocate(100)?;
+    /// arena.held() == 1                        // of a new arena
+    /// ```
+    pub fn held(&self) -> u32
+        ensures held { result ≡ self.now.held }
+
+        // No more than may be.
+        ensures few { result ≤ self.now.most }
+    {
+        self.held
+    }
+}
