@@ -1,0 +1,137 @@
+/* Stands before the C library (LD_PRELOAD) and notes each call of malloc and its kin in a file. tools/record builds and runs it.
+ *
+ * The environment names a folder in RECORD_FOLDER. Each process makes a file TIME.PID.NAME there, in microseconds: the number of notes, padded to 64 bytes, then
+ * the notes in the order of the calls. A block's address is noted after it was given and before it is taken back, so at each note it means
+ * one block, whatever the threads do. Behind the last note that the file has room for, no more are made. Nothing here takes memory. */
+#define _GNU_SOURCE
+#include <errno.h>
+#include <fcntl.h>
+#include <pthread.h>
+#include <stdatomic.h>
+#include <stddef.h>
+#include <stdint.h>
+#include <stdio.h>
+#include <stdlib.h>
+#include <string.h>
+#include <sys/mman.h>
+#include <time.h>
+#include <unistd.h>
+
+void *__libc_malloc(size_t);
+void *__libc_calloc(size_t, size_t);
+void *__libc_realloc(void *, size_t);
+void *__libc_memalign(size_t, size_t);
+void __libc_free(void *);
+
+/* MOVES stands before a realloc, with the address that may change; MOVED behind it, with that of now, or with 0 where it was refused. */
+enum kind { NONE, GIVEN, ALIGNED, FREED, MOVES, MOVED };
+enum { MOST_NOTES = 1 << 20 };
+
+struct note {
+    uint64_t address, bytes;
+    uint32_t thread;
+    _Atomic uint32_t kind;
+};
+struct notes {
+    _Alignas(64) atomic_uint_fast64_t count;
+    _Alignas(64) struct note of[MOST_NOTES];
+};
+
+static struct notes *_Atomic notes;
+static atomic_int state; /* 0 before the file is made, 1 while it is, 2 behind that, 3 where there is none */
+static atomic_uint threads;
+static __thread uint32_t thread_number __attribute__((tls_model("initial-exec")));
+
+/* A forked child has notes of its own, which begin with its first call. */
+static void forget(void) {
+    notes = NULL;
+    state = 0;
+}
+
+static long long now(void) {
+    struct timespec at;
+    clock_gettime(CLOCK_MONOTONIC, &at);
+    return at.tv_sec * 1000000ll + at.tv_nsec / 1000;
+}
+
+static void open_notes(void) {
+    char path[512], name[32] = "";
+    const char *folder = getenv("RECORD_FOLDER");
+    int file = open("/proc/self/comm", O_RDONLY | O_CLOEXEC);
+    ssize_t length = file < 0 ? 0 : read(file, name, sizeof name - 1);
+    if (file >= 0) close(file);
+    for (ssize_t i = 0; i < length; i++)
+        if (name[i] == '\n' || name[i] == '/') name[i] = 0;
+    if (!folder || snprintf(path, sizeof path, "%s/%lld.%d.%s", folder, now(), (int)getpid(), name) >= (int)sizeof path) return;
+    file = open(path, O_RDWR | O_CREAT | O_TRUNC | O_CLOEXEC, 0600);
+    if (file < 0) return;
+    if (!ftruncate(file, sizeof(struct notes))) {
+        void *at = mmap(NULL, sizeof(struct notes), PROT_READ | PROT_WRITE, MAP_SHARED, file, 0);
+        if (at != MAP_FAILED) notes = at;
+    }
+    close(file);
+}
+
+static void note(enum kind kind, const void *address, size_t bytes) {
+    int none = 0;
+    const int kept = errno;
+    if (atomic_compare_exchange_strong(&state, &none, 1)) {
+        open_notes();
+        state = notes ? 2 : 3;
+    }
+    struct notes *to = notes;
+    if (to && state == 2) {
+        const uint64_t at = atomic_fetch_add(&to->count, 1);
+        if (!thread_number) thread_number = atomic_fetch_add(&threads, 1) + 1;
+        if (at < MOST_NOTES) {
+            to->of[at].address = (uint64_t)(uintptr_t)address;
+            to->of[at].bytes = bytes;
+            to->of[at].thread = thread_number;
+            to->of[at].kind = kind;
+        }
+    }
+    errno = kept;
+}
+
+static void *given(void *block, size_t bytes, enum kind kind) {
+    if (block) note(kind, block, bytes);
+    return block;
+}
+
+void *malloc(size_t bytes) { return given(__libc_malloc(bytes), bytes, GIVEN); }
+void *calloc(size_t count, size_t bytes) { return given(__libc_calloc(count, bytes), count * bytes, GIVEN); }
+void *memalign(size_t alignment, size_t bytes) { return given(__libc_memalign(alignment, bytes), bytes, ALIGNED); }
+void *aligned_alloc(size_t alignment, size_t bytes) { return memalign(alignment, bytes); }
+void *valloc(size_t bytes) { return memalign((size_t)sysconf(_SC_PAGESIZE), bytes); }
+void *pvalloc(size_t bytes) {
+    const size_t page = (size_t)sysconf(_SC_PAGESIZE);
+    return memalign(page, (bytes + page - 1) / page * page);
+}
+
+int posix_memalign(void **block, size_t alignment, size_t bytes) {
+    if (alignment % sizeof(void *) || !alignment || alignment & (alignment - 1)) return EINVAL;
+    void *got = memalign(alignment, bytes);
+    if (!got) return ENOMEM;
+    *block = got;
+    return 0;
+}
+
+void free(void *block) {
+    if (!block) return;
+    note(FREED, block, 0);
+    __libc_free(block);
+}
+
+void *realloc(void *block, size_t bytes) {
+    if (!block) return malloc(bytes);
+    if (!bytes) {
+        free(block);
+        return NULL;
+    }
+    note(MOVES, block, bytes);
+    void *moved = __libc_realloc(block, bytes);
+    note(MOVED, moved, bytes);
+    return moved;
+}
+
+__attribute__((constructor)) static void start(void) { pthread_atfork(NULL, NULL, forget); }
