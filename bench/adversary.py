@@ -1,5 +1,5 @@
 #!/usr/bin/env python3
-"""usage: bench/adversary.py [B N]..
+"""usage: bench/adversary.py [B N].. [--mix B N B N]
 
 How many words a region needs at least: forces `NoFit` in `tlsf replay`, by programs that keep within the bounds of a pool.
 
@@ -7,6 +7,8 @@ For each B and N this makes two traces of one worker that never holds more than 
 replays them in smaller and smaller regions, from the words of `tlsf size --blocks B --bytes N` on, and prints the greatest region
 in which a request of theirs is answered NoFit. So what is needed lies above that, and no higher than the law's words. The calls
 are the same in each region: they follow no answer. Run by hand: the gate doesn't. With no pair B N there are four pairs.
+Behind --mix stand many small blocks and two or more large ones: there each small block is put between two holes that are too
+small for a large one.
 The variable TLSF names another program than that of this tree.
 """
 import functools
@@ -17,6 +19,8 @@ import sys
 
 LAUNCHER = pathlib.Path(__file__).resolve().parent.parent / "tlsf"
 NO_FIT = "refused 1"
+MOST_WORDS = 2**20      # of a region of level 4
+LEAST_POISONED = 132    # from 128 words on a class has eight sizes
 LEAST_TO_WIDEN = 5      # a round of wide blocks needs as many places
 
 
@@ -101,6 +105,46 @@ def attack(most, length, widen):
     return program.lines
 
 
+def low(words):
+    """The least size of the class of so many words, at level 4."""
+    width = max(1, 1 << max(0, words.bit_length() - 5))
+    return words // width * width
+
+
+def sure(words):
+    """The least size from which each free block serves a request of so many words."""
+    return low(words) if low(words) == words else low(words) + max(1, 1 << max(0, words.bit_length() - 5))
+
+
+def poisoned(words):
+    """The most words, no more than these, of large blocks whose holes are of one class with those four words shorter; 0 if none."""
+    return next((n for n in range(words, 0, -1) if low(n) <= n - 4 and n >= LEAST_POISONED), 0)
+
+
+def mixed_attack(small, length, large):
+    """The lines of a program of at most `small` blocks of `length` bytes, and two of `large` bytes.
+
+    Behind each small block it leaves a hole that is just too small for a large block; then come a large block and what is left of the
+    region. The next large block goes behind that one, which is released. In the hole that it makes with the one before, a
+    large block leaves a rest of the same class, the last that became free: so the next small block goes there, and the hole
+    before it stays.
+    """
+    program = Program(small + 2, max(length, large))
+    words = poisoned(want(large))
+    first, last = program.allocate(payload(words)), program.allocate(payload(words))
+    program.release(first)
+    program.allocate(min(8, length))
+    for _ in range(small - 1):
+        ahead = program.allocate(payload(words))
+        program.release(last)
+        before = program.allocate(payload(words - 4))
+        program.allocate(min(8, length))
+        program.release(before)
+        last = ahead
+    program.allocate(payload(words))
+    return program.lines
+
+
 def refuses(lines, words):
     """Whether a region of so many words refuses a request of these lines for want of room."""
     text = "\n".join([f"tlsf 1 1 {words} 1", *lines, ""])
@@ -115,17 +159,39 @@ def report(most, length):
         forced -= 1
     assert forced < law, "a region of the law's words refused a request"
     apart = 100 * (law - forced - 1) / (forced + 1)
-    print(f"blocks {most} bytes {length}: NoFit is forced up to {forced} words, the least region is {forced + 1} to {law}, {apart:.1f} % apart", flush=True)
+    print(f"blocks {most} bytes {length}: NoFit is forced up to {forced} words, {forced + 1} to {law} are enough, {apart:.1f} % apart", flush=True)
+
+
+def report_mix(small, length, large_most, large):
+    """The greatest region in which a mix is refused so, beside the law's."""
+    rows = ["--blocks", str(small), "--bytes", str(length), "--blocks", str(large_most), "--bytes", str(large)]
+    law = subprocess.run([program(), "size", *rows], capture_output=True, text=True, check=False).stdout.split()
+    words = poisoned(want(large))
+    left = sure(words) - 1      # behind the last large block
+    used = min(small, (MOST_WORDS - left) // words - 1)
+    forced = (used + 1) * words + left
+    assert refuses(mixed_attack(used, length, large), forced), "the mix was not refused"
+    asks = f"the law asks for {law[1]}" if law else f"no region is enough by the law, and {used} of the small blocks do it"
+    print(f"blocks {small} bytes {length}, blocks {large_most} bytes {large}: NoFit is forced in {forced} words, {asks}", flush=True)
 
 
 if __name__ == "__main__":
     given = sys.argv[1:]
+    mix = given[:1] == ["--mix"]
+    given = given[1:] if mix else given
     if given[:1] in (["-h"], ["--help"]):
         print(__doc__.strip())
         sys.exit(0)
-    if len(given) % 2 or not all(word.isdecimal() for word in given):
+    if len(given) % (4 if mix else 2) or not all(word.isdecimal() for word in given):
         print(__doc__.strip(), file=sys.stderr)
         sys.exit(2)
-    numbers = [int(word) for word in given] or [1, 512, 2, 512, 10, 512, 100, 512]
+    numbers = [int(word) for word in given]
+    if mix:
+        for i in range(0, len(numbers), 4):
+            if numbers[i + 2] < 2 or want(numbers[i + 3]) < LEAST_POISONED:
+                sys.exit("a mix has two large blocks or more, of 1,032 bytes or more")
+            report_mix(*numbers[i : i + 4])
+        sys.exit(0)
+    numbers = numbers or [1, 512, 2, 512, 10, 512, 100, 512]
     for most, length in zip(numbers[0::2], numbers[1::2]):
         report(most, length)

@@ -1,11 +1,12 @@
 #!/bin/sh
 # usage: bench/frees.sh [PATH/tlsf.c]
 #
-# Prints one table: millions of remote frees a second, over lanes and over a queue, beside those of the system's malloc, of mimalloc and
-# jemalloc where these are there (Debian: libmimalloc2.0, libjemalloc2), and of TLSF 2.4 with its own lock, where its C file is given
-# (bench/calls.sh says who has it). One thread owns 80,000 blocks of 8 bytes for each of the others, and these free them: one other, and
-# three. Over lanes and the queue a block counts once the owner, who drains meanwhile, has it back, and a free that is refused as Full is
-# made again; elsewhere it counts once the call that frees it returned, and the owner waits. Each thread has a processor of its own.
+# Prints one table: millions of remote frees a second, over lanes, over a queue, and of a heap of the C library of ./library under a mutex,
+# beside those of the system's malloc, of mimalloc and jemalloc where these are there (Debian: libmimalloc2.0, libjemalloc2), and of
+# TLSF 2.4 with its own lock, where its C file is given (bench/peers.sh finds it). One thread owns 80,000 blocks of 8 bytes for each of the
+# others, and these free them: one other, and three. Over lanes and the queue a block counts once the owner, who drains meanwhile, has it
+# back, and a free that is refused as Full is made again; elsewhere it counts once the call that frees it returned, and the owner waits.
+# Each thread has a processor of its own.
 #
 # All take turns, eleven times or as often as ROUNDS in the environment says. Each figure is the median, with the least and the most in
 # parentheses. Wants four processors that do nothing else. On a copy of the repository. Run by hand: the gate doesn't. Needs cc.
@@ -27,7 +28,9 @@ fi
 
 cc -O2 -Wall -Wextra -shared -fPIC -o "$work/pin.so" "$top/bench/pin/pin.c" -ldl
 cc -O2 -Wall -Wextra -o "$work/others" "$top/bench/frees/others.c" -pthread
-columns='lanes queue malloc'
+"$top/library" "$work/prefix" >&2
+cc -O2 -Wall -Wextra -DLOCKED -I "$work/prefix/include" -o "$work/locked" "$top/bench/frees/others.c" "$work/prefix/lib/libtlsf.a" -pthread
+columns='lanes queue locked malloc'
 for library in mimalloc:libmimalloc.so.2 jemalloc:libjemalloc.so.2; do
     # `env` is started, as a builtin word is not, so the loader says whether the library is there.
     if [ -z "$(LD_PRELOAD=${library#*:} env true 2>&1)" ]; then
@@ -58,7 +61,7 @@ run() {
     case $1 in
     lanes | queue) LD_PRELOAD=$work/pin.so "$work/crates/frees_bench/out/frees_bench" "$1" "$2" ;;
     malloc) LD_PRELOAD=$work/pin.so "$work/others" "$2" ;;
-    authors) LD_PRELOAD=$work/pin.so "$work/authors" "$2" ;;
+    authors | locked) LD_PRELOAD=$work/pin.so "$work/$1" "$2" ;;
     *) LD_PRELOAD="$work/pin.so lib$1.so.2" "$work/others" "$2" ;;
     esac >> "$work/$1.$2"
 }
@@ -74,7 +77,7 @@ done
 median() {
     sort -n "$work/$1.$2" | awk '{ of[NR] = $1 / 1000 } END { printf " %.1f (%.1f to %.1f) |", of[int((NR + 1) / 2)], of[1], of[NR] }'
 }
-line='| Threads | Over lanes | Over a queue | malloc |' rule='|---|---|---|---|'
+line='| Threads | Over lanes | Over a queue | Under a mutex | malloc |' rule='|---|---|---|---|---|'
 for column in $columns; do
     case $column in
     mimalloc | jemalloc) line="$line $column |" rule="$rule---|" ;;

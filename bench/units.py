@@ -8,7 +8,7 @@ neither the start bits nor the heads of the lists.
 A model of the heap in numbers alone, at level 4, without payload, decides what is granted: docs/MODEL.md tells it in words. Requests come
 by chance, the same in each column: first until one is refused, then 200,000 more, for each of which blocks are released at random until it
 is granted. The first figure of a cell is what was live at the first refusal, the second the mean over the later half of those requests.
-Those of a heap are what bench/levels.sh measures of the program, where the requests are the same. Run by hand: the gate doesn't. Takes
+Those of a heap are within a percent of what bench/peers.sh measures of the library, where the requests are the same. Run by hand: the gate doesn't. Takes
 about two minutes.
 """
 import sys
@@ -22,7 +22,7 @@ ROUNDS = 100_000
 
 
 class Numbers:
-    """Those of bench/levels/main.source."""
+    """Those of `between` in bench/peers/peers.c."""
 
     def __init__(self):
         self.state = 1
