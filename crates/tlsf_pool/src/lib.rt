@@ -10,8 +10,9 @@
 //! let name = pool.allocate(512)?;
 //! ```
 //!
-//! [`kinds_words`] tells how many words a heap needs for several kinds of request, [`pool_region`] the words of the region for one,
-//! [`most_blocks`] and [`longest_request`] how far the greatest region goes.
+//! [`kinds_words`] tells how many words a heap needs for several kinds of request, [`cheapest_split`] how these are given to several heaps
+//! by the fewest words, [`pool_region`] the words of the region for one kind, [`most_blocks`] and [`longest_request`] how far the greatest
+//! region goes.
 #![tactic(auto)]
 
 mod greatest;
@@ -19,10 +20,12 @@ mod pool;
 mod pool_refusal;
 mod region;
 mod sizing;
+mod split;
 
 pub use greatest::{longest_request, most_blocks};
 pub use pool::Pool;
 pub use pool_refusal::PoolRefusal;
 pub use region::pool_region;
 pub use sizing::{kinds_words, most_bytes};
+pub use split::{MOST_HEAPS, MOST_SPLIT, Split, cheapest_split};
 pub use tlsf_laws::Kind;

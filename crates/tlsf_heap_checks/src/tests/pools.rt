@@ -4,7 +4,8 @@ use std::test::Fail;
 use tlsf_fixtures::{name, same};
 use tlsf_heap::{Name, OpenFault, Refusal};
 use tlsf_pool::{
-    Kind, Pool, PoolRefusal, kinds_words, longest_request, most_blocks, most_bytes, pool_region,
+    Kind, Pool, PoolRefusal, cheapest_split, kinds_words, longest_request, most_blocks, most_bytes,
+    pool_region,
 };
 
 /// The most bytes of a request that some region of level 4 serves.
@@ -68,6 +69,25 @@ fn words_of_tables(rt: HostRuntime) {
         kinds_words::<4>(&[large, small]),
     ];
     same(found, [0, 13_631, 59_427, 59_427]).expect(&rt, "differ");
+}
+
+#[test]
+fn cheapest_split_of_two_kinds(rt: HostRuntime) {
+    let small = Kind { most: 100, len: 64 };
+    let large = Kind { most: 4, len: 4096 };
+    let unreached = Kind {
+        most: u32::MAX,
+        len: 4096,
+    };
+    let one = kinds_words::<4>(&[small, large]);
+    let two = kinds_words::<4>(&[small]).wrapping_add(kinds_words::<4>(&[large]));
+    let found = [
+        cheapest_split::<4>(&[small, large], 8).map(|split| split.words),
+        cheapest_split::<4>(&[small, large], 1).map(|split| split.words),
+        cheapest_split::<4>(&[small, unreached], 8).map(|split| split.words),
+        cheapest_split::<4>(&[small], 0).map(|split| split.words),
+    ];
+    same(found, [Some(one.min(two)), Some(one), None, None]).expect(&rt, "differ");
 }
 
 #[test]
