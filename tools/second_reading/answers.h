@@ -13,12 +13,37 @@ struct Answer {
 };
 
 // What one worker's calls asked of its heap.
-struct Asked {
-    uint64_t held = 0, most = 0, longest = 0;
+class Asked {
+  public:
+    uint64_t most = 0, longest = 0, wanted = 0;
 
     void request(uint64_t length) {
-        most = std::max(most, held + 1);
+        most = std::max<uint64_t>(most, held.size() + 1);
         longest = std::max(longest, length);
+        wanted = std::max(wanted, words + want_of(length));
+    }
+
+    void give(const Name& name, uint64_t length) { set(name, length); }
+
+    void take(const Name& name) {
+        words -= want_of(held.at(name.serial));
+        held.erase(name.serial);
+    }
+
+    void resize(const Name& name, uint64_t length) {
+        take(name);
+        set(name, length);
+        wanted = std::max(wanted, words);
+    }
+
+  private:
+    // The bytes of each block that is held, by its serial, and the words that they want.
+    std::map<uint64_t, uint64_t> held = {};
+    uint64_t words = 0;
+
+    void set(const Name& name, uint64_t length) {
+        held[name.serial] = length;
+        words += want_of(length);
     }
 };
 
@@ -69,7 +94,7 @@ class Yard {
         std::string lines;
         for (size_t i = 0; i < asked.size(); i++)
             lines += "held " + std::to_string(i) + " blocks " + std::to_string(asked[i].most) + " bytes " + std::to_string(asked[i].longest) + " words "
-                + words_text(asked[i]) + " region " + std::to_string(region) + "\n";
+                + words_text(asked[i]) + " region " + std::to_string(region) + " wanted " + std::to_string(asked[i].wanted) + "\n";
         return lines;
     }
 
@@ -90,7 +115,7 @@ class Yard {
 
     std::string take(uint64_t worker, uint64_t from, const Name& name) {
         const auto refusal = heaps[worker].release(name);
-        if (!refusal) asked[worker].held--;
+        if (!refusal) asked[worker].take(name);
         return std::to_string(worker) + " take " + std::to_string(from) + " " + placed(name) + " " + (refusal ? refused(*refusal) : "freed") + "\n";
     }
 
@@ -100,7 +125,7 @@ class Yard {
             asked[line.worker].request(line.count);
             const auto answer = heap.allocate(line.count);
             const Name* name = std::get_if<Name>(&answer);
-            if (name) asked[line.worker].held++;
+            if (name) asked[line.worker].give(*name, line.count);
             names[line.label] = name ? std::optional(*name) : std::nullopt;
             return name ? placed(*name) : refused(std::get<Refusal>(answer));
         }
@@ -110,6 +135,7 @@ class Yard {
         if (line.kind == 'r') {
             asked[line.worker].longest = std::max(asked[line.worker].longest, line.count);
             const auto refusal = heap.resize(*name, line.count);
+            if (!refusal) asked[line.worker].resize(*name, line.count);
             return refusal ? refused(*refusal) : "resized";
         }
         if (line.kind == 'p') {
@@ -124,7 +150,7 @@ class Yard {
     std::string release(uint64_t worker, const Name& name) {
         if (name.heap == worker) {
             const auto refusal = heaps[worker].release(name);
-            if (!refusal) asked[worker].held--;
+            if (!refusal) asked[worker].take(name);
             return refusal ? refused(*refusal) : "freed";
         }
         auto& lane = lanes[worker][name.heap];

@@ -1,11 +1,10 @@
 -- What is tallied is the least bounds of the calls that the entries tell.
-use Rattle.std.proofs.Common.{◌≡◌, ◌==◌, ℕ, ◌+◌, ◌<◌, ◌≤◌, true, false, true≢false, List, [], ◌∷◌, length, All, fold, max, Option, Some, None, Result, Ok, Err, option_map, inl, inr, refl, sym, ap, ap₂, ◌∙◌, subst, arith}
+use Rattle.std.proofs.Common.{◌≡◌, ◌==◌, ℕ, ◌+◌, ◌<◌, ◌≤◌, true, false, true≢false, List, [], ◌∷◌, length, All, fold, max, Option, Some, None, Result, Ok, Err, option_map, inl, inr, refl, sym, ap, ◌∙◌, subst, arith}
 use Rattle.std.specs.Prelude.{is_ok, is_some}
 use Rattle.std.specs.List.{cons_option}
 use Rattle.std.proofs.lemmas.Bool.{cases_eq}
 use Rattle.std.proofs.lemmas.Bool.Decides.{nat_tests}
 use Rattle.std.proofs.lemmas.List.Elements.{All-head, All-tail}
-use Rattle.std.proofs.lemmas.List.FromFn.{length-map-range_with_len}
 use Rattle.tlsf_heap.specs.Calls as heap
 use Rattle.tlsf_heap.specs.declared.name.Name.{Name}
 use Rattle.tlsf_heap.specs.declared.refusal.Refusal.{Refusal}
@@ -23,12 +22,7 @@ use Rattle.tlsf_crew.specs.histories.History.{answer_told, answers_on, call_on_o
 use Rattle.tlsf_crew.specs.model.World.{World, replies}
 use Rattle.tlsf_crew.proofs.lemmas.histories.AllEntries.{replies_tell}
 use Rattle.tlsf_crew.proofs.lemmas.histories.JoinedEntries.{HasItsAnswer}
-use Rattle.tlsf_lines.specs.Events.{events_of}
-use Rattle.tlsf_lines.specs.Trace.{Trace}
-use Rattle.tlsf_lines.specs.declared.header.Header.{Header}
-use Rattle.tlsf_trace.specs.Output.{level_in, run_at, yard_of}
-use Rattle.tlsf_held.specs.HeldLines.{held_text}
-use Rattle.tlsf_held.specs.Measures.{AreLeastBounds, Measures}
+use Rattle.tlsf_held.specs.Measures.{AreLeastBounds}
 use Rattle.tlsf_held.specs.Tallies.{no_calls, noted, tally_of, with_length, with_release}
 use Rattle.tlsf_held.specs.declared.tally.Tally.{Tally}
 
@@ -143,7 +137,7 @@ entry_noted made at t (Drain most) reply even = refl
 abbrev with_entry : Tally → Entry → Tally
 with_entry t e = noted t e.call e.reply
 
-one_told : {X Y : Type 0} (o : Option X) (a : Option Y) → length (cons_option o []) ≡ length (cons_option a []) → is_some o ≡ is_some a
+pub one_told : {X Y : Type 0} (o : Option X) (a : Option Y) → length (cons_option o []) ≡ length (cons_option a []) → is_some o ≡ is_some a
 one_told None None same = refl
 one_told None (Some y) same = absurd (omega (arith, same))
 one_told (Some x) None same = absurd (omega (arith, same))
@@ -253,22 +247,3 @@ tally_bounds w es j inside =
     let answers = answers_on j r.entries in
     subst (λ (t : Tally). AreLeastBounds calls answers t.most t.longest)
     (sym (entries_tallied r.made (length w.heaps) j inside no_calls r.entries (replies_tell w es).history.each)) (least calls answers)
-
--- the lines of a run's tallies are those of the trace
-pub tallies_measure : {sli : ℕ} (trace : Trace) (header : Header) (w : World sli) (events : List Event) (entries : List Entry) (text : List ℕ)
-    → level_in trace.header ≡ sli → header ≡ trace.header → w ≡ yard_of header → events ≡ events_of trace → entries ≡ (replies w events).entries
-    → text ≡ held_text sli header.words (λ j. (tally_of j entries).most) (λ j. (tally_of j entries).longest) header.workers → Measures trace text
-tallies_measure {sli} trace header w events entries text level_is header_is world_is events_are entries_are text_is =
-    let run = run_at sli trace in
-    let yard : w ≡ yard_of trace.header = world_is ∙ ap yard_of header_is in
-    let same : entries ≡ run.entries = entries_are ∙ ap₂ (λ (v : World sli) (es : List Event). (replies v es).entries) yard events_are in
-    let count = length-map-range_with_len (λ (i : ℕ). heap.opened i trace.header.words 0) 0 trace.header.workers in
-    let lines = λ (h : Header) (es : List Entry). held_text sli h.words (λ j. (tally_of j es).most) (λ j. (tally_of j es).longest) h.workers in
-    record {
-      most = λ j. (tally_of j run.entries).most;
-      len = λ j. (tally_of j run.entries).longest;
-      bounds = λ j inside. subst (λ (n : ℕ). let r = run_at n trace in AreLeastBounds (calls_on j r.made r.entries) (answers_on j r.entries) (tally_of j run.entries).most (tally_of j run.entries).longest) (sym level_is)
-          (tally_bounds (yard_of {sli = sli} trace.header) (events_of trace) j (omega (arith, count, inside)));
-      written = subst (λ (n : ℕ). text ≡ held_text n trace.header.words (λ j. (tally_of j run.entries).most) (λ j. (tally_of j run.entries).longest) trace.header.workers) (sym level_is)
-          (text_is ∙ ap₂ lines header_is same);
-    }

@@ -12,13 +12,14 @@ words_text None = codes "none"
 unfoldable pub held_region : ℕ → (most len : ℕ) → Option ℕ
 held_region sli most len = if most == 0 then Some 4 else pool_region sli most len
 
--- held J blocks B bytes N words W region R, at a level
-abbrev pub held_line : ℕ → (worker most len words : ℕ) → List ℕ
-held_line sli worker most len words =
+-- held J blocks B bytes N words W region R wanted L, at a level
+abbrev pub held_line : ℕ → (worker most len words wanted : ℕ) → List ℕ
+held_line sli worker most len words wanted =
     codes "held " ++ decimal worker ++ codes " blocks " ++ decimal most ++ codes " bytes " ++ decimal len
-    ++ codes " words " ++ words_text (held_region sli most len) ++ codes " region " ++ decimal words ++ codes "\n"
+    ++ codes " words " ++ words_text (held_region sli most len) ++ codes " region " ++ decimal words
+    ++ codes " wanted " ++ decimal wanted ++ codes "\n"
 
 -- the lines of the workers below a number, whose heaps have so many words each
-abbrev pub held_text : ℕ → ℕ → (most len : ℕ → ℕ) → ℕ → List ℕ
-held_text sli words most len zero = []
-held_text sli words most len (suc j) = held_text sli words most len j ++ held_line sli j (most j) (len j) words
+abbrev pub held_text : ℕ → ℕ → (most len wanted : ℕ → ℕ) → ℕ → List ℕ
+held_text sli words most len wanted zero = []
+held_text sli words most len wanted (suc j) = held_text sli words most len wanted j ++ held_line sli j (most j) (len j) words (wanted j)

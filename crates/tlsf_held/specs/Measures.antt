@@ -6,6 +6,7 @@ use Rattle.tlsf_heap.specs.Lawful.{IsRegion}
 use Rattle.tlsf_laws.specs.Pools.{AreModest, HasRoomFor}
 use Rattle.tlsf_crew.specs.histories.History.{answers_on, calls_on}
 use Rattle.tlsf_held.specs.HeldLines.{held_region, held_text}
+use Rattle.tlsf_held.specs.Loans.{IsMostWanted}
 use Rattle.tlsf_lines.specs.Trace.{Trace}
 use Rattle.tlsf_lines.specs.declared.trace_fault.TraceFault.{TraceFault}
 use Rattle.tlsf_trace.specs.Output.{level_in, run_of}
@@ -22,12 +23,19 @@ abbrev pub AreBoundsOf : Trace → ℕ → (most len : ℕ) → Type 0
 AreBoundsOf trace j most len =
     let run = run_of trace in AreLeastBounds (calls_on j run.made run.entries) (answers_on j run.entries) most len
 
--- the text has a line for each worker, in rising number, with the least bounds of the calls on its heap
+-- the most words that these calls want at once
+abbrev pub IsMostWantedOf : Trace → ℕ → ℕ → Type 0
+IsMostWantedOf trace j wanted =
+    let run = run_of trace in IsMostWanted (calls_on j run.made run.entries) (answers_on j run.entries) wanted
+
+-- the text has a line for each worker, in rising number, with the least bounds of the calls on its heap, and the most words that they want at once
 pub record Measures (trace : Trace) (text : List ℕ) : Type 0 where
   pub most : ℕ → ℕ
   pub len : ℕ → ℕ
+  pub wanted : ℕ → ℕ
   pub bounds : (j : ℕ) → j < trace.header.workers → AreBoundsOf trace j (most j) (len j)
-  pub written : text ≡ held_text (level_in trace.header) trace.header.words most len trace.header.workers
+  pub words_wanted : (j : ℕ) → j < trace.header.workers → IsMostWantedOf trace j (wanted j)
+  pub written : text ≡ held_text (level_in trace.header) trace.header.words most len wanted trace.header.workers
 
 -- a run of a trace that puts out what its workers asked of their heaps
 abbrev pub IsMeasurement : Result Summary TraceFault → Option (List ℕ) → Option (List ℕ) → Option (List ℕ) → Option (List ℕ) → Type 0

@@ -7,7 +7,7 @@ ghost use Rattle.tlsf_held.specs.Measures.{HeldWordsSuffice};
 /// (`tlsf_yard_laws::yard_never_refuses`), nor is one of any run whose calls keep within the same numbers.
 ///
 /// ```text
-/// tlsf 1 1 64 1, a 0 1 100, a 0 2 8, f 0 1:   held 0 blocks 2 bytes 100 words 50 region 64
+/// tlsf 1 1 64 1, a 0 1 100, a 0 2 8, f 0 1:   held 0 blocks 2 bytes 100 words 50 region 64 wanted 20
 /// ```
 pub fn held_words_suffice()
     ensures { HeldWordsSuffice }

@@ -2,7 +2,7 @@
 //!
 //! [`measure_trace`] reads a trace, runs it to its end as a replay does, and writes one line for each worker: the most blocks of its heap
 //! that were held at once, the longest request, and the words of the region in which such calls are never refused for want of
-//! room, beside the words that the trace gives each heap. No reply line is written.
+//! room, beside the words that the trace gives each heap and the most words that the held blocks wanted at once. No reply line is written.
 //!
 //! Held is what the law for a heap of a yard counts (`tlsf_yard_laws::yard_never_refuses`): the accepted allocates of the heap's own worker less the
 //! releases that its heap accepted, at once or in a drain. So a block that another worker has released is held until its owner drains.
@@ -13,6 +13,7 @@
 
 mod laws;
 mod lines;
+mod loans;
 mod measuring;
 mod tally;
 

@@ -10,7 +10,7 @@ ghost use Rattle.tlsf_trace.specs.Output.{level_in};
 use crate::lines::write_held_lines;
 use std::alloc::{AllocError, Global};
 use std::io::{Read, Write};
-use tlsf_crew::{open_yard, replay_events};
+use tlsf_crew::{open_yard, replay_behind};
 use tlsf_lines::{Script, Version, read_all, script_in};
 use tlsf_trace::{Summary, TraceFault, finish};
 
@@ -26,11 +26,19 @@ fn lines_at<const SLI: u32>(alloc: Global, script: &Script) -> Result<String, Al
     else {
         return Err(AllocError);
     };
-    let Ok(entries) = replay_events(alloc, &mut workers, &script.events) else {
+    let mut made = Vec::new(alloc);
+    let Ok(entries) = replay_behind(alloc, &mut workers, &mut made, &script.events) else {
         return Err(AllocError);
     };
     let mut text = String::new(alloc);
-    write_held_lines::<SLI>(&mut text, header.workers, header.words, &entries)?;
+    write_held_lines::<SLI>(
+        alloc,
+        &mut text,
+        header.workers,
+        header.words,
+        &made,
+        &entries,
+    )?;
     Ok(text)
 }
 
@@ -49,14 +57,15 @@ fn lines_of(alloc: Global, script: &Script) -> Result<String, AllocError>
 ///
 /// A worker's line has the most blocks of its heap that were held at once, the one that was asked for included; the most bytes of an
 /// allocate or a resize; the words of the least region in which such calls are never refused for want of room, or `none` where no
-/// region has so many; and the words that the trace gives each heap. A block is held until its heap has taken it back: where another
-/// worker releases it, until its owner drains. The trace is read to its end and checked before a line runs, and the whole text is
-/// made before a byte is written. The limits are those of [`replay`](tlsf_trace::replay).
+/// region has so many; the words that the trace gives each heap; and the most words that the held blocks wanted at once, the one
+/// that was asked for included. A block is held until its heap has taken it back: where another worker releases it, until its owner
+/// drains. The trace is read to its end and checked before a line runs, and the whole text is made before a byte is written. The
+/// limits are those of [`replay`](tlsf_trace::replay).
 ///
 /// ```
 /// // reader gives "tlsf 1 1 64 1\na 0 1 100\na 0 2 8\nf 0 1\n"
 /// let summary = measure_trace(alloc, &mut reader, &mut writer)?;
-/// // summary.calls is 3, and writer holds "held 0 blocks 2 bytes 100 words 50 region 64\n"
+/// // summary.calls is 3, and writer holds "held 0 blocks 2 bytes 100 words 50 region 64 wanted 20\n"
 /// ```
 ///
 /// # Errors

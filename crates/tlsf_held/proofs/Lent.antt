@@ -1,0 +1,48 @@
+-- Loans as a ledger.
+use Rattle.std.proofs.Common.{◌≡◌, ℕ, ◌+◌, ◌<◌, Bool, true, false, cond, List, [], ◌∷◌, ◌++◌, length, get_or, take, fold, map, refl, ap, ◌∙◌}
+use Rattle.std.specs.Prelude.{filter, not}
+use Rattle.std.proofs.lemmas.List.{take_more}
+use Rattle.std.proofs.lemmas.List.Sums.{fold-append}
+use Rattle.tlsf_heap.specs.declared.name.Name.{Name}
+use Rattle.tlsf_laws.specs.Contents.{is_same}
+use Rattle.tlsf_laws.specs.Kinds.{Ledger, with_length}
+use Rattle.tlsf_held.specs.Lent.{ledger_of, others, with_len, with_loan}
+use Rattle.tlsf_held.specs.declared.loans.Loan.{Loan}
+
+-- one loan more
+pub ledger_more : (loans : List Loan) (i : ℕ) (d : Loan) → i < length loans → ledger_of (take (i + 1) loans) ≡ with_loan (ledger_of (take i loans)) (get_or loans i d)
+ledger_more loans i d inside = ap ledger_of (take_more loans i d inside) ∙ fold-append with_loan [] (take i loans) (get_or loans i d ∷ [])
+
+pub ledger_pushed : (loans : List Loan) (loan : Loan) → ledger_of (loans ++ loan ∷ []) ≡ with_loan (ledger_of loans) loan
+ledger_pushed loans loan = fold-append with_loan [] loans (loan ∷ [])
+
+-- ---- a name taken back
+
+kept : (test : Bool) (loan : Loan) (acc : Ledger) (loans : List Loan) → fold with_loan acc (cond test (loan ∷ loans) loans) ≡ fold with_loan (cond test ((loan.name, loan.len) ∷ acc) acc) loans
+kept true loan acc loans = refl
+kept false loan acc loans = refl
+
+abbrev without : Name → Ledger → Ledger
+without name ledger = filter (λ entry. not (is_same name entry.0)) ledger
+
+filtered_onto : (name : Name) (acc : Ledger) (loans : List Loan) → fold with_loan (without name acc) (others name loans) ≡ without name (fold with_loan acc loans)
+filtered_onto name acc [] = refl
+filtered_onto name acc (loan ∷ loans) = kept (not (is_same name loan.name)) loan (without name acc) (others name loans) ∙ filtered_onto name ((loan.name, loan.len) ∷ acc) loans
+
+pub ledger_filtered : (name : Name) (loans : List Loan) → ledger_of (others name loans) ≡ filter (λ entry. not (is_same name entry.0)) (ledger_of loans)
+ledger_filtered name loans = filtered_onto name [] loans
+
+-- ---- a name resized
+
+relent : (test : Bool) (loan : Loan) (len : ℕ) (acc : Ledger) → with_loan acc (cond test (record loan { len = len }) loan) ≡ cond test (loan.name, len) (loan.name, loan.len) ∷ acc
+relent true loan len acc = refl
+relent false loan len acc = refl
+
+mapped_onto : (name : Name) (len : ℕ) (acc : Ledger) (loans : List Loan) → fold with_loan (with_length acc name len) (map (with_len name len) loans) ≡ with_length (fold with_loan acc loans) name len
+mapped_onto name len acc [] = refl
+mapped_onto name len acc (loan ∷ loans) =
+    ap (λ (ledger : Ledger). fold with_loan ledger (map (with_len name len) loans)) (relent (is_same name loan.name) loan len (with_length acc name len))
+    ∙ mapped_onto name len ((loan.name, loan.len) ∷ acc) loans
+
+pub ledger_mapped : (name : Name) (len : ℕ) (loans : List Loan) → ledger_of (map (with_len name len) loans) ≡ with_length (ledger_of loans) name len
+ledger_mapped name len loans = mapped_onto name len [] loans

@@ -1,0 +1,333 @@
+-- What the entries of a run account for is the most words that the calls want at once.
+use Rattle.std.proofs.Common.{◌≡◌, ◌==◌, ℕ, ◌+◌, ◌<◌, ◌≤◌, Bool, true, false, true≢false, cond, List, [], ◌∷◌, length, All, fold, max, Option, Some, None, Result, Ok, Err, inl, inr, refl, sym, ap, ◌∙◌, subst, arith}
+use Rattle.std.specs.Prelude.{filter, is_ok, is_some, not, option_map}
+use Rattle.std.specs.List.{cons_option}
+use Rattle.std.proofs.lemmas.Bool.{cases_eq}
+use Rattle.std.proofs.lemmas.Bool.Decides.{nat_tests}
+use Rattle.std.proofs.lemmas.List.Elements.{All-head, All-tail}
+use Rattle.tlsf_heap.specs.Blocks.{want}
+use Rattle.tlsf_heap.specs.Calls as heap
+use Rattle.tlsf_heap.specs.declared.name.Name.{Name}
+use Rattle.tlsf_heap.specs.declared.refusal.Refusal.{Refusal}
+use Rattle.tlsf_laws.specs.Contents.{is_same}
+use Rattle.tlsf_laws.specs.Kinds.{Ledger, ledger_after}
+use Rattle.tlsf_calls.specs.Bytes.{bytes_of}
+use Rattle.tlsf_calls.specs.declared.call.Call.{Call}
+use Rattle.tlsf_calls.specs.declared.call.Call.TheVariants.{Allocate, Release, Write, Read, Resize, Take, Drain}
+use Rattle.tlsf_calls.specs.declared.crew_refusal.CrewRefusal.TheVariants.{Heap, Full, Stranger, Unmade}
+use Rattle.tlsf_calls.specs.declared.entry.Entry.{Entry}
+use Rattle.tlsf_calls.specs.declared.event.Event.{Event}
+use Rattle.tlsf_calls.specs.declared.reply.Reply.{Reply}
+use Rattle.tlsf_calls.specs.declared.reply.Reply.TheVariants.{Made, Freed, Posted, Wrote, Got, Resized, Took, Empty, Drained, Refused}
+use Rattle.tlsf_crew.specs.histories.History.{answer_told, answers_on, call_on_own, calls_on, entries_of, meant, of_heap}
+use Rattle.tlsf_crew.specs.model.World.{World, name_of, replies}
+use Rattle.tlsf_crew.proofs.lemmas.histories.AllEntries.{replies_tell}
+use Rattle.tlsf_crew.proofs.lemmas.histories.JoinedEntries.{HasItsAnswer}
+use Rattle.tlsf_held.specs.Loans.{accounted, account_of, no_loans, wanted_in, wanted_with, with_resized, with_taken, Account, IsMostWanted, WantAtMost}
+use Rattle.tlsf_held.proofs.LeastBounds.{one_told}
+
+-- ---- by the calls on the heap and its answers
+
+-- a block resized, or not
+abbrev resized_after : Account → Name → ℕ → heap.Answer → Account
+resized_after a name len (heap.Resized (Ok done)) = with_resized a len (Some name)
+resized_after a name len answer = a
+
+-- a call more
+abbrev account_after : Account → heap.Call → heap.Answer → Account
+account_after a (heap.Allocate len) answer = record { ledger = ledger_after a.ledger (heap.Allocate len) answer; most = max a.most (want len + wanted_in a.ledger) }
+account_after a (heap.Release name) answer = record a { ledger = ledger_after a.ledger (heap.Release name) answer }
+account_after a (heap.Write name at bytes) answer = a
+account_after a (heap.Resize name len) answer = resized_after a name len answer
+account_after a (heap.Read name at n) answer = a
+
+-- what an entry may tell of a call
+abbrev account_with : Account → Option heap.Call → Option heap.Answer → Account
+account_with a None answer = a
+account_with a (Some call) None = a
+account_with a (Some call) (Some answer) = account_after a call answer
+
+-- and calls in turn
+abbrev account_after_all : Account → List heap.Call → List heap.Answer → Account
+account_after_all a [] answers = a
+account_after_all a (call ∷ calls) [] = a
+account_after_all a (call ∷ calls) (answer ∷ answers) = account_after_all (account_after a call answer) calls answers
+
+-- ---- one entry
+
+no_answer : (a : Account) (o : Option heap.Call) → a ≡ account_with a o None
+no_answer a None = refl
+no_answer a (Some call) = refl
+
+of_write : (a : Account) (at : ℕ) (bytes : List ℕ) (o : Option Name) (answer : Option heap.Answer) → a ≡ account_with a (option_map (λ name. heap.Write name at bytes) o) answer
+of_write a at bytes None answer = refl
+of_write a at bytes (Some name) None = refl
+of_write a at bytes (Some name) (Some answer) = refl
+
+of_read : (a : Account) (at n : ℕ) (o : Option Name) (answer : Option heap.Answer) → a ≡ account_with a (option_map (λ name. heap.Read name at n) o) answer
+of_read a at n None answer = refl
+of_read a at n (Some name) None = refl
+of_read a at n (Some name) (Some answer) = refl
+
+own_freed : (a : Account) (name : Name) (own : Bool) → is_some (option_map heap.Release (cond own (Some name) None)) ≡ true
+    → with_taken a (Some name) ≡ account_with a (option_map heap.Release (cond own (Some name) None)) (Some (heap.Released (Ok tt)))
+own_freed a name true some = refl
+own_freed a name false some = absurd (true≢false (sym some))
+
+of_freed : (a : Account) (at : ℕ) (o : Option Name) → is_some (option_map heap.Release (of_heap at o)) ≡ true
+    → with_taken a o ≡ account_with a (option_map heap.Release (of_heap at o)) (Some (heap.Released (Ok tt)))
+of_freed a at None some = absurd (true≢false (sym some))
+of_freed a at (Some name) some = own_freed a name (name.heap == at) some
+
+not_freed : (a : Account) (why : Refusal) (o : Option Name) → a ≡ account_with a (option_map heap.Release o) (Some (heap.Released (Err why)))
+not_freed a why None = refl
+not_freed a why (Some name) = refl
+
+of_resized : (a : Account) (len : ℕ) (o : Option Name) → with_resized a len o ≡ account_with a (option_map (λ name. heap.Resize name len) o) (Some (heap.Resized (Ok tt)))
+of_resized a len None = refl
+of_resized a len (Some name) = refl
+
+not_resized : (a : Account) (len : ℕ) (why : Refusal) (o : Option Name) → a ≡ account_with a (option_map (λ name. heap.Resize name len) o) (Some (heap.Resized (Err why)))
+not_resized a len why None = refl
+not_resized a len why (Some name) = refl
+
+of_post : (a : Account) (name : Name) (r : Result (Unit {0}) Refusal) → with_taken a (cond (is_ok r) (Some name) None) ≡ account_after a (heap.Release name) (heap.Released r)
+of_post a name (Ok done) = refl
+of_post a name (Err why) = refl
+
+-- what is accounted of an entry that tells an answer of its worker's heap where it tells a call
+entry_accounted : (made : List (Option Name)) (at : ℕ) (a : Account) (call : Call) (reply : Reply) → is_some (call_on_own made at call reply) ≡ is_some (answer_told call reply)
+    → accounted made a call reply ≡ account_with a (call_on_own made at call reply) (answer_told call reply)
+entry_accounted made at a (Allocate len) (Made name) even = refl
+entry_accounted made at a (Allocate len) Freed even = absurd (true≢false even)
+entry_accounted made at a (Allocate len) Posted even = absurd (true≢false even)
+entry_accounted made at a (Allocate len) (Wrote n) even = absurd (true≢false even)
+entry_accounted made at a (Allocate len) (Got bytes) even = absurd (true≢false even)
+entry_accounted made at a (Allocate len) Resized even = absurd (true≢false even)
+entry_accounted made at a (Allocate len) (Took took) even = absurd (true≢false even)
+entry_accounted made at a (Allocate len) Empty even = absurd (true≢false even)
+entry_accounted made at a (Allocate len) (Drained n) even = absurd (true≢false even)
+entry_accounted made at a (Allocate len) (Refused (Heap why)) even = refl
+entry_accounted made at a (Allocate len) (Refused (Full name)) even = absurd (true≢false even)
+entry_accounted made at a (Allocate len) (Refused Stranger) even = absurd (true≢false even)
+entry_accounted made at a (Allocate len) (Refused Unmade) even = absurd (true≢false even)
+entry_accounted made at a (Release target) (Made name) even = no_answer a _
+entry_accounted made at a (Release target) Freed even = of_freed a at (name_of made target) even
+entry_accounted made at a (Release target) Posted even = no_answer a _
+entry_accounted made at a (Release target) (Wrote n) even = no_answer a _
+entry_accounted made at a (Release target) (Got bytes) even = no_answer a _
+entry_accounted made at a (Release target) Resized even = no_answer a _
+entry_accounted made at a (Release target) (Took took) even = no_answer a _
+entry_accounted made at a (Release target) Empty even = no_answer a _
+entry_accounted made at a (Release target) (Drained n) even = no_answer a _
+entry_accounted made at a (Release target) (Refused (Heap why)) even =
+    not_freed a why (of_heap at (name_of made target))
+entry_accounted made at a (Release target) (Refused (Full name)) even = no_answer a _
+entry_accounted made at a (Release target) (Refused Stranger) even = no_answer a _
+entry_accounted made at a (Release target) (Refused Unmade) even = no_answer a (call_on_own made at (Release target) (Refused Unmade))
+entry_accounted made at a (Write target from bytes) reply even = of_write a from (bytes_of bytes) (meant made target reply) (answer_told (Write target from bytes) reply)
+entry_accounted made at a (Read target from n) reply even = of_read a from n (meant made target reply) (answer_told (Read target from n) reply)
+entry_accounted made at a (Resize target len) (Made name) even = no_answer a _
+entry_accounted made at a (Resize target len) Freed even = no_answer a _
+entry_accounted made at a (Resize target len) Posted even = no_answer a _
+entry_accounted made at a (Resize target len) (Wrote n) even = no_answer a _
+entry_accounted made at a (Resize target len) (Got bytes) even = no_answer a _
+entry_accounted made at a (Resize target len) Resized even =
+    of_resized a len (name_of made target)
+entry_accounted made at a (Resize target len) (Took took) even = no_answer a _
+entry_accounted made at a (Resize target len) Empty even = no_answer a _
+entry_accounted made at a (Resize target len) (Drained n) even = no_answer a _
+entry_accounted made at a (Resize target len) (Refused (Heap why)) even =
+    not_resized a len why (name_of made target)
+entry_accounted made at a (Resize target len) (Refused (Full name)) even = no_answer a _
+entry_accounted made at a (Resize target len) (Refused Stranger) even = no_answer a _
+entry_accounted made at a (Resize target len) (Refused Unmade) even = no_answer a (call_on_own made at (Resize target len) (Refused Unmade))
+entry_accounted made at a (Take from) (Made name) even = refl
+entry_accounted made at a (Take from) Freed even = refl
+entry_accounted made at a (Take from) Posted even = refl
+entry_accounted made at a (Take from) (Wrote n) even = refl
+entry_accounted made at a (Take from) (Got bytes) even = refl
+entry_accounted made at a (Take from) Resized even = refl
+entry_accounted made at a (Take from) (Took took) even = of_post a took.name took.answer
+entry_accounted made at a (Take from) Empty even = refl
+entry_accounted made at a (Take from) (Drained n) even = refl
+entry_accounted made at a (Take from) (Refused why) even = refl
+entry_accounted made at a (Drain most) reply even = refl
+
+-- ---- all entries
+
+abbrev with_entry : List (Option Name) → Account → Entry → Account
+with_entry made a e = accounted made a e.call e.reply
+
+one_more : (a : Account) (o : Option heap.Call) (r : Option heap.Answer) (calls : List heap.Call) (answers : List heap.Answer) → is_some o ≡ is_some r
+    → account_after_all a (cons_option o calls) (cons_option r answers) ≡ account_after_all (account_with a o r) calls answers
+one_more a None None calls answers even = refl
+one_more a None (Some answer) calls answers even = absurd (true≢false (sym even))
+one_more a (Some call) None calls answers even = absurd (true≢false even)
+one_more a (Some call) (Some answer) calls answers even = refl
+
+module _ (made : List (Option Name)) (workers j : ℕ) (inside : j < workers) where
+  entries_accounted : (a : Account) (es : List Entry) → All (HasItsAnswer made workers) es
+      → fold (with_entry made) a (entries_of j es) ≡ account_after_all a (calls_on j made es) (answers_on j es)
+  entries_accounted a [] each = refl
+  entries_accounted a (e ∷ es) each =
+      let rest = All-tail (HasItsAnswer made workers) e es each in
+      elim (cases_eq e.worker j) [
+        | inl is ↦
+            let b : (e.worker == j) ≡ true = grind (arith, nat_tests) in
+            let o = call_on_own made e.worker e.call e.reply in
+            let r = answer_told e.call e.reply in
+            let even : is_some o ≡ is_some r = one_told o r (All-head (HasItsAnswer made workers) e es each (omega arith)) in
+            rw b (ap (λ (u : Account). fold (with_entry made) u (entries_of j es)) (entry_accounted made e.worker a e.call e.reply even)
+            ∙ (entries_accounted (account_with a o r) es rest ∙ sym (one_more a o r (calls_on j made es) (answers_on j es) even)))
+        | inr ne ↦
+            let b : (e.worker == j) ≡ false = grind (arith, nat_tests) in
+            rw b (entries_accounted a es rest)
+      ]
+
+-- ---- the most words
+
+kept_words : (test : Bool) (entry : Name × ℕ) (ledger rest : Ledger) → wanted_in rest ≤ wanted_in ledger → wanted_in (cond test (entry ∷ rest) rest) ≤ want entry.1 + wanted_in ledger
+kept_words true entry ledger rest fewer = omega (arith, fewer)
+kept_words false entry ledger rest fewer = omega (arith, fewer)
+
+fewer_words : (name : Name) (ledger : Ledger) → wanted_in (filter (λ entry. not (is_same name entry.0)) ledger) ≤ wanted_in ledger
+fewer_words name [] = omega arith
+fewer_words name (entry ∷ ledger) = kept_words (not (is_same name entry.0)) entry ledger (filter (λ entry. not (is_same name entry.0)) ledger) (fewer_words name ledger)
+
+given_words : (ledger : Ledger) (len : ℕ) (answer : heap.Answer) → wanted_in (ledger_after ledger (heap.Allocate len) answer) ≤ want len + wanted_in ledger
+given_words ledger len (heap.Allocated (Ok name)) = omega arith
+given_words ledger len (heap.Allocated (Err why)) = omega arith
+given_words ledger len (heap.Released r) = omega arith
+given_words ledger len (heap.Written r) = omega arith
+given_words ledger len (heap.Resized r) = omega arith
+given_words ledger len (heap.Got r) = omega arith
+
+freed_words : (ledger : Ledger) (name : Name) (answer : heap.Answer) → wanted_in (ledger_after ledger (heap.Release name) answer) ≤ wanted_in ledger
+freed_words ledger name (heap.Allocated r) = omega arith
+freed_words ledger name (heap.Released (Ok done)) = fewer_words name ledger
+freed_words ledger name (heap.Released (Err why)) = omega arith
+freed_words ledger name (heap.Written r) = omega arith
+freed_words ledger name (heap.Resized r) = omega arith
+freed_words ledger name (heap.Got r) = omega arith
+
+-- the ledger is that of the law
+written_ledger : (ledger : Ledger) (name : Name) (at : ℕ) (bytes : List ℕ) (answer : heap.Answer) → ledger ≡ ledger_after ledger (heap.Write name at bytes) answer
+written_ledger ledger name at bytes (heap.Allocated r) = refl
+written_ledger ledger name at bytes (heap.Released r) = refl
+written_ledger ledger name at bytes (heap.Written r) = refl
+written_ledger ledger name at bytes (heap.Resized r) = refl
+written_ledger ledger name at bytes (heap.Got r) = refl
+
+read_ledger : (ledger : Ledger) (name : Name) (at n : ℕ) (answer : heap.Answer) → ledger ≡ ledger_after ledger (heap.Read name at n) answer
+read_ledger ledger name at n (heap.Allocated r) = refl
+read_ledger ledger name at n (heap.Released r) = refl
+read_ledger ledger name at n (heap.Written r) = refl
+read_ledger ledger name at n (heap.Resized r) = refl
+read_ledger ledger name at n (heap.Got r) = refl
+
+resized_ledger : (a : Account) (name : Name) (len : ℕ) (answer : heap.Answer) → (resized_after a name len answer).ledger ≡ ledger_after a.ledger (heap.Resize name len) answer
+resized_ledger a name len (heap.Allocated r) = refl
+resized_ledger a name len (heap.Released r) = refl
+resized_ledger a name len (heap.Written r) = refl
+resized_ledger a name len (heap.Resized (Ok done)) = refl
+resized_ledger a name len (heap.Resized (Err why)) = refl
+resized_ledger a name len (heap.Got r) = refl
+
+ledger_is : (a : Account) (call : heap.Call) (answer : heap.Answer) → (account_after a call answer).ledger ≡ ledger_after a.ledger call answer
+ledger_is a (heap.Allocate len) answer = refl
+ledger_is a (heap.Release name) answer = refl
+ledger_is a (heap.Write name at bytes) answer = written_ledger a.ledger name at bytes answer
+ledger_is a (heap.Resize name len) answer = resized_ledger a name len answer
+ledger_is a (heap.Read name at n) answer = read_ledger a.ledger name at n answer
+
+-- no more is wanted than the account has
+abbrev IsWithin : Account → Type 0
+IsWithin a = wanted_in a.ledger ≤ a.most
+
+resized_within : (a : Account) (name : Name) (len : ℕ) (answer : heap.Answer) → IsWithin a → IsWithin (resized_after a name len answer)
+resized_within a name len (heap.Allocated r) within = within
+resized_within a name len (heap.Released r) within = within
+resized_within a name len (heap.Written r) within = within
+resized_within a name len (heap.Resized (Ok done)) within = omega arith
+resized_within a name len (heap.Resized (Err why)) within = within
+resized_within a name len (heap.Got r) within = within
+
+within_after : (a : Account) (call : heap.Call) (answer : heap.Answer) → IsWithin a → IsWithin (account_after a call answer)
+within_after a (heap.Allocate len) answer within = omega (arith, given_words a.ledger len answer)
+within_after a (heap.Release name) answer within = omega (arith, freed_words a.ledger name answer, within)
+within_after a (heap.Write name at bytes) answer within = within
+within_after a (heap.Resize name len) answer within = resized_within a name len answer within
+within_after a (heap.Read name at n) answer within = within
+
+wanted_first : (words : ℕ) (ledger : Ledger) (call : heap.Call) → wanted_with ledger call ≤ words → wanted_in ledger ≤ words
+wanted_first words ledger (heap.Allocate len) upto = omega (arith, upto)
+wanted_first words ledger (heap.Release name) upto = upto
+wanted_first words ledger (heap.Write name at bytes) upto = upto
+wanted_first words ledger (heap.Resize name len) upto = upto
+wanted_first words ledger (heap.Read name at n) upto = upto
+
+module _ (words : ℕ) where
+  wanted_now : (ledger : Ledger) (calls : List heap.Call) (answers : List heap.Answer) → WantAtMost words ledger calls answers → wanted_in ledger ≤ words
+  wanted_now ledger [] answers upto = upto
+  wanted_now ledger (call ∷ calls) [] upto = upto
+  wanted_now ledger (call ∷ calls) (answer ∷ answers) upto = wanted_first words ledger call upto.0
+
+  resize_keeps : (a : Account) (name : Name) (len : ℕ) (answer : heap.Answer) → wanted_in (resized_after a name len answer).ledger ≤ words → a.most ≤ words → (resized_after a name len answer).most ≤ words
+  resize_keeps a name len (heap.Allocated r) upto most = most
+  resize_keeps a name len (heap.Released r) upto most = most
+  resize_keeps a name len (heap.Written r) upto most = most
+  resize_keeps a name len (heap.Resized (Ok done)) upto most = omega (arith, upto, most)
+  resize_keeps a name len (heap.Resized (Err why)) upto most = most
+  resize_keeps a name len (heap.Got r) upto most = most
+
+  call_keeps : (a : Account) (call : heap.Call) (answer : heap.Answer) → wanted_with a.ledger call ≤ words → wanted_in (account_after a call answer).ledger ≤ words → a.most ≤ words → (account_after a call answer).most ≤ words
+  call_keeps a (heap.Allocate len) answer upto behind most = omega (arith, upto, most)
+  call_keeps a (heap.Release name) answer upto behind most = most
+  call_keeps a (heap.Write name at bytes) answer upto behind most = most
+  call_keeps a (heap.Resize name len) answer upto behind most = resize_keeps a name len answer behind most
+  call_keeps a (heap.Read name at n) answer upto behind most = most
+
+  calls_keep : (a : Account) (calls : List heap.Call) (answers : List heap.Answer) → WantAtMost words a.ledger calls answers → a.most ≤ words → (account_after_all a calls answers).most ≤ words
+  calls_keep a [] answers upto most = most
+  calls_keep a (call ∷ calls) [] upto most = most
+  calls_keep a (call ∷ calls) (answer ∷ answers) upto most =
+      let rest = subst (λ (ledger : Ledger). WantAtMost words ledger calls answers) (sym (ledger_is a call answer)) upto.1 in
+      calls_keep (account_after a call answer) calls answers rest (call_keeps a call answer upto.0 (wanted_now (account_after a call answer).ledger calls answers rest) most)
+
+  resize_kept : (a : Account) (name : Name) (len : ℕ) (answer : heap.Answer) → (resized_after a name len answer).most ≤ words → a.most ≤ words
+  resize_kept a name len (heap.Allocated r) most = most
+  resize_kept a name len (heap.Released r) most = most
+  resize_kept a name len (heap.Written r) most = most
+  resize_kept a name len (heap.Resized (Ok done)) most = omega (arith, most)
+  resize_kept a name len (heap.Resized (Err why)) most = most
+  resize_kept a name len (heap.Got r) most = most
+
+  call_kept : (a : Account) (call : heap.Call) (answer : heap.Answer) → IsWithin a → (account_after a call answer).most ≤ words → (wanted_with a.ledger call ≤ words) × (a.most ≤ words)
+  call_kept a (heap.Allocate len) answer within most = (omega (arith, most), omega (arith, most))
+  call_kept a (heap.Release name) answer within most = (omega (arith, within, most), most)
+  call_kept a (heap.Write name at bytes) answer within most = (omega (arith, within, most), most)
+  call_kept a (heap.Resize name len) answer within most = let was = resize_kept a name len answer most in (omega (arith, within, was), was)
+  call_kept a (heap.Read name at n) answer within most = (omega (arith, within, most), most)
+
+  calls_kept : (a : Account) (calls : List heap.Call) (answers : List heap.Answer) → IsWithin a → (account_after_all a calls answers).most ≤ words → WantAtMost words a.ledger calls answers × (a.most ≤ words)
+  calls_kept a [] answers within most = (omega (arith, within, most), most)
+  calls_kept a (call ∷ calls) [] within most = (omega (arith, within, most), most)
+  calls_kept a (call ∷ calls) (answer ∷ answers) within most =
+      let rest = calls_kept (account_after a call answer) calls answers (within_after a call answer within) most in
+      let one = call_kept a call answer within rest.1 in
+      ((one.0, subst (λ (ledger : Ledger). WantAtMost words ledger calls answers) (ledger_is a call answer) rest.0), one.1)
+
+most_wanted : (calls : List heap.Call) (answers : List heap.Answer) → IsMostWanted calls answers (account_after_all no_loans calls answers).most
+most_wanted calls answers words =
+    ((λ upto. calls_keep words no_loans calls answers upto (omega arith)), (λ most. (calls_kept words no_loans calls answers (omega arith) most).0))
+
+-- what the entries of a run account for is the most words that the calls on the heap want at once
+pub account_bounds : {sli : ℕ} (w : World sli) (es : List Event) (j : ℕ) → j < length w.heaps
+    → let r = replies w es in IsMostWanted (calls_on j r.made r.entries) (answers_on j r.entries) (account_of j r.made r.entries).most
+account_bounds w es j inside =
+    let r = replies w es in
+    let calls = calls_on j r.made r.entries in
+    let answers = answers_on j r.entries in
+    subst (λ (a : Account). IsMostWanted calls answers a.most)
+    (sym (entries_accounted r.made (length w.heaps) j inside no_loans r.entries (replies_tell w es).history.each)) (most_wanted calls answers)
