@@ -9,14 +9,16 @@ use Rattle.clap.specs.Walk.{Row, Text, all_of, one_of, rows_of}
 use Rattle.clap.specs.Words.{subcommand_of, subcommand_rows_of}
 use Rattle.clap.specs.declared.parser.matches.ArgMatches.{ArgMatches}
 use Rattle.clap.proofs.WalkLemmas.{one_text-rows, raw_values-rows}
-use Rattle.tlsf_command.specs.CommandLine.{Answers, Asks, HasFlag, HasForm, IsAnswerable, IsRunOn, IsTip, LacksFlag, command_in, command_of, flag_given, name_of, texts_given, tip_line, tlsf_app}
+use Rattle.tlsf_command.specs.CommandLine.{Answers, Asks, HasFlag, HasForm, IsAnswerable, IsMapOn, IsRunOn, IsTip, LacksFlag, NamesNoLine, command_in, command_of, flag_given, line_given, name_of, run_in, texts_given, tip_line, tlsf_app}
 use Rattle.tlsf_command.specs.ClassQuestions.{HasClasses, IsClassQuestion}
-use Rattle.tlsf_command.specs.SizeQuestions.{IsQuestion}
+use Rattle.tlsf_command.specs.SizeQuestions.{IsQuestion, first_number}
 use Rattle.tlsf_command.specs.declared.class_question.ClassQuestion.{ClassQuestion}
 use Rattle.tlsf_command.specs.declared.class_question.ClassQuestion.TheVariants.{Coarse, Fine, NoClass}
 use Rattle.tlsf_command.specs.declared.size_question.SizeQuestion.{SizeQuestion}
 use Rattle.tlsf_command.specs.declared.command_line.Choice.{Choice}
-use Rattle.tlsf_command.specs.declared.command_line.Choice.TheVariants.{Trace, File, Classes, Size}
+use Rattle.tlsf_command.specs.declared.command_line.Choice.TheVariants.{Trace, File, Classes, Size, At}
+use Rattle.tlsf_picture.specs.declared.form.Form.{Form}
+use Rattle.tlsf_picture.specs.declared.form.Form.TheVariants.{Svg, Text as Characters}
 use Rattle.tlsf_command.specs.declared.trace_run.TraceRun.{TraceRun}
 use Rattle.tlsf_command.specs.declared.trace_run.TraceRun.TheVariants.{Replay, Held, Race, RaceQueues, Map, MapText, Check}
 use Rattle.tlsf_command.specs.Runs.{Does, Refuses, Streams}
@@ -89,11 +91,12 @@ same_run words run other is gives has = absurd (no_other (command_of other) (com
 
 -- words that name a run, give its flag and no file ask for it alone
 pub only_run : (words : List Text) (run : TraceRun) (choice : Choice) → command_in words ≡ Some (command_of run) → GivesForm run words
-    → texts_given (codes "FILE") words ≡ [] → Asks words choice → choice ≡ Trace run
-only_run words run (Trace other) is gives none asks = ap (λ (r : TraceRun). Trace r) (same_run words run other (same_name words (Trace other) _ asks is) gives asks.parts.0)
-only_run words run (File other tip) is gives none asks = absurd (subst (λ (files : List Text). IsTip other files (string_bytes tip)) none asks.parts.1)
-only_run words run (Classes question) is gives none asks = absurd (no_other _ _ (same_name words (Classes question) _ asks is) (no_classes run) (itself run))
-only_run words run (Size question) is gives none asks = absurd (no_other _ _ (same_name words (Size question) _ asks is) (no_size run) (itself run))
+    → texts_given (codes "FILE") words ≡ [] → line_given words ≡ 0 → Asks words choice → choice ≡ Trace run
+only_run words run (Trace other) is gives none no_line asks = ap (λ (r : TraceRun). Trace r) (same_run words run other (same_name words (Trace other) _ asks is) gives asks.parts.0)
+only_run words run (File other tip) is gives none no_line asks = absurd (subst (λ (files : List Text). IsTip other files (string_bytes tip)) none asks.parts.1)
+only_run words run (Classes question) is gives none no_line asks = absurd (no_other _ _ (same_name words (Classes question) _ asks is) (no_classes run) (itself run))
+only_run words run (Size question) is gives none no_line asks = absurd (no_other _ _ (same_name words (Size question) _ asks is) (no_size run) (itself run))
+only_run words run (At form line) is gives none no_line asks = absurd (asks.parts.2 (asks.parts.3 ∙ no_line))
 
 some_file : (file : Text) → file ∷ [] ≡ [] → ⊥
 some_file file is = let count : 1 ≡ 0 = ap (λ (files : List Text). length files) is in absurd (omega (arith, count))
@@ -108,12 +111,14 @@ only_tip words run file (File other tip) status old new is gives given asks done
     subst (λ (line : Text). Refuses line status old new) (tips ∙ ap (λ (r : TraceRun). tip_line r file) same) done
 only_tip words run file (Classes question) status old new is gives given asks done = absurd (no_other _ _ (same_name words (Classes question) _ asks is) (no_classes run) (itself run))
 only_tip words run file (Size question) status old new is gives given asks done = absurd (no_other _ _ (same_name words (Size question) _ asks is) (no_size run) (itself run))
+only_tip words run file (At form line) status old new is gives given asks done = absurd (some_file file (sym given ∙ asks.parts.1))
 
 pub only_size : (words : List Text) (choice : Choice) → command_in words ≡ Some (codes "size") → Asks words choice → (question : SizeQuestion) × (choice ≡ Size question)
 only_size words (Trace run) is asks = absurd (no_other _ _ (sym (same_name words (Trace run) _ asks is)) (no_size run) (itself run))
 only_size words (File run tip) is asks = absurd (no_other _ _ (sym (same_name words (File run tip) _ asks is)) (no_size run) (itself run))
 only_size words (Classes question) is asks = absurd (no_other _ _ (same_name words (Classes question) _ asks is) refl refl)
 only_size words (Size question) is asks = (question, refl)
+only_size words (At form line) is asks = absurd (no_other _ _ (same_name words (At form line) _ asks is) refl refl)
 
 -- a size that is asked about has a class
 has_classes : (sizes levels : List Text) (question : ClassQuestion) → IsClassQuestion sizes levels question → HasClasses question
@@ -125,6 +130,7 @@ has_classes sizes levels NoClass is = tt
 pub answerable : (words : List Text) (choice : Choice) → Asks words choice → IsAnswerable choice
 answerable words (Trace run) asks = tt
 answerable words (File run tip) asks = tt
+answerable words (At form line) asks = tt
 answerable words (Classes question) asks = has_classes (texts_given (codes "N") words) (texts_given (codes "sli") words) question asks.parts
 answerable words (Size question) asks = has_table (texts_given (codes "B") words) (texts_given (codes "N") words) (texts_given (codes "sli") words) question asks.parts
 
@@ -192,14 +198,18 @@ texts_read id given = unwrap_or (option_map raw_values (matched_of (found_of giv
 pub asks_run : (words : List Text) (matches given : ArgMatches) (run : TraceRun) (choice : Choice) → Answers words matches
     → subcommand_name_of matches ≡ Some (command_of run)
     → option_map (λ (entered : Text × List Row). entered.1) (subcommand_rows_of matches) ≡ Some (rows_of (found_of given))
-    → HasForm run words → IsRunOn run (texts_read (codes "FILE") given) choice → Asks words choice
-asks_run words matches given run (Trace other) answers called entered form on =
+    → HasForm run words → (texts_read (codes "FILE") given ≡ [] → NamesNoLine run words) → IsRunOn run (texts_read (codes "FILE") given) choice → Asks words choice
+asks_run words matches given run (Trace other) answers called entered form no_line on =
     let same = sym on.0 in record {
       faultless = answers.0;
       named = sym (label_of_words words matches answers) ∙ (called ∙ ap (λ (r : TraceRun). Some (command_of r)) same);
-      parts = (subst (λ (r : TraceRun). HasForm r words) same form, sym (texts_entered words matches given (codes "FILE") answers entered) ∙ on.1);
+      parts = (
+        subst (λ (r : TraceRun). HasForm r words) same form,
+        sym (texts_entered words matches given (codes "FILE") answers entered) ∙ on.1,
+        subst (λ (r : TraceRun). NamesNoLine r words) same (no_line on.1),
+      );
     }
-asks_run words matches given run (File other tip) answers called entered form on =
+asks_run words matches given run (File other tip) answers called entered form no_line on =
     let same = sym on.0 in record {
       faultless = answers.0;
       named = sym (label_of_words words matches answers) ∙ (called ∙ ap (λ (r : TraceRun). Some (command_of r)) same);
@@ -209,8 +219,50 @@ asks_run words matches given run (File other tip) answers called entered form on
             (subst (λ (files : List Text). IsTip run files (string_bytes tip)) (texts_entered words matches given (codes "FILE") answers entered) on.1),
       );
     }
-asks_run words matches given run (Classes question) answers called entered form on = absurd on
-asks_run words matches given run (Size question) answers called entered form on = absurd on
+asks_run words matches given run (Classes question) answers called entered form no_line on = absurd on
+asks_run words matches given run (Size question) answers called entered form no_line on = absurd on
+asks_run words matches given run (At form line) answers called entered has no_line on = absurd on
+
+-- the heaps are drawn by `map` in each form
+drawn_by : (form : Form) → codes "map" ≡ command_of (run_in form)
+drawn_by Svg = refl
+drawn_by Characters = refl
+
+no_line_in : (form : Form) (words : List Text) → line_given words ≡ 0 → NamesNoLine (run_in form) words
+no_line_in Svg words none = none
+no_line_in Characters words none = none
+
+-- what the words behind `map` make of its run, where they name a file or no line is given
+pub on_map : (form : Form) (line : ℕ) (files : List Text) (choice : Choice) → IsRunOn (run_in form) files choice → (files ≡ [] → line ≡ 0) → IsMapOn form line files choice
+on_map form line files (Trace run) on none = (on, none)
+on_map form line files (File run tip) on none = (on, none)
+on_map form line files (Classes question) on none = (on, none)
+on_map form line files (Size question) on none = (on, none)
+on_map form line files (At other k) on none = absurd on
+
+-- where the command is `map`, whose form the words give, they ask for what the line and the words behind it make of it
+pub asks_map : (words : List Text) (matches given : ArgMatches) (form : Form) (choice : Choice) → Answers words matches
+    → subcommand_name_of matches ≡ Some (codes "map")
+    → option_map (λ (entered : Text × List Row). entered.1) (subcommand_rows_of matches) ≡ Some (rows_of (found_of given))
+    → HasForm (run_in form) words → IsMapOn form (first_number 0 (texts_read (codes "K") given)) (texts_read (codes "FILE") given) choice → Asks words choice
+asks_map words matches given form (At other line) answers called entered has on = record {
+  faultless = answers.0;
+  named = sym (label_of_words words matches answers) ∙ called;
+  parts = (
+    subst (λ (f : Form). HasForm (run_in f) words) (sym on.0) has,
+    sym (texts_entered words matches given (codes "FILE") answers entered) ∙ on.1,
+    on.2,
+    on.3 ∙ ap (first_number 0) (texts_entered words matches given (codes "K") answers entered),
+  );
+}
+asks_map words matches given form (Trace run) answers called entered has on =
+    asks_run words matches given (run_in form) (Trace run) answers (called ∙ ap (λ (name : Text). Some name) (drawn_by form)) entered has
+    (λ none. no_line_in form words (sym (ap (first_number 0) (texts_entered words matches given (codes "K") answers entered)) ∙ on.1 none)) on.0
+asks_map words matches given form (File run tip) answers called entered has on =
+    asks_run words matches given (run_in form) (File run tip) answers (called ∙ ap (λ (name : Text). Some name) (drawn_by form)) entered has
+    (λ none. no_line_in form words (sym (ap (first_number 0) (texts_entered words matches given (codes "K") answers entered)) ∙ on.1 none)) on.0
+asks_map words matches given form (Classes question) answers called entered has on = absurd on.0
+asks_map words matches given form (Size question) answers called entered has on = absurd on.0
 
 -- where the command is `size` the words ask the question that is made of the matches
 pub asks_size : (words : List Text) (matches given : ArgMatches) (question : SizeQuestion) → Answers words matches

@@ -5,7 +5,7 @@ use Rattle.std.specs.Str.{bytes_eq}
 use Rattle.clap.specs.Lexer.{long_of, short_of}
 use Rattle.clap.specs.Words.{Text}
 use Rattle.clap.proofs.OnLiterals.{clap_on_literals}
-use Rattle.tlsf_command.specs.CommandLine.{command_in, command_of, faults_of, flag_given, texts_given, words_of, IsPlainWord}
+use Rattle.tlsf_command.specs.CommandLine.{command_in, command_of, faults_of, flag_given, line_given, texts_given, words_of, IsPlainWord}
 use Rattle.tlsf_command.specs.declared.trace_run.TraceRun.{TraceRun}
 use Rattle.tlsf_command.specs.declared.trace_run.TraceRun.TheVariants.{Replay, Held, Race, RaceQueues, Map, MapText, Check}
 
@@ -25,17 +25,18 @@ pub record NameRun (words : List Text) (run : TraceRun) (files : List Text) : Ty
   pub named : command_in words ≡ Some (command_of run)
   pub form : GivesForm run words
   pub given : texts_given (codes "FILE") words ≡ files
+  pub no_line : line_given words ≡ 0
 
 -- the program's name, whatever that is, and the words of a run
 pub run_named : (called : Text) (run : TraceRun) → NameRun (called ∷ words_of run) run []
 unfolding clap_on_literals
-run_named called Replay = record { faultless = refl; named = refl; form = refl; given = refl }
-run_named called Held = record { faultless = refl; named = refl; form = refl; given = refl }
-run_named called Race = record { faultless = refl; named = refl; form = refl; given = refl }
-run_named called RaceQueues = record { faultless = refl; named = refl; form = refl; given = refl }
-run_named called Map = record { faultless = refl; named = refl; form = refl; given = refl }
-run_named called MapText = record { faultless = refl; named = refl; form = refl; given = refl }
-run_named called Check = record { faultless = refl; named = refl; form = tt; given = refl }
+run_named called Replay = record { faultless = refl; named = refl; form = refl; given = refl; no_line = refl }
+run_named called Held = record { faultless = refl; named = refl; form = refl; given = refl; no_line = refl }
+run_named called Race = record { faultless = refl; named = refl; form = refl; given = refl; no_line = refl }
+run_named called RaceQueues = record { faultless = refl; named = refl; form = refl; given = refl; no_line = refl }
+run_named called Map = record { faultless = refl; named = refl; form = refl; given = refl; no_line = refl }
+run_named called MapText = record { faultless = refl; named = refl; form = refl; given = refl; no_line = refl }
+run_named called Check = record { faultless = refl; named = refl; form = tt; given = refl; no_line = refl }
 
 no_hyphen : (code : ℕ) → code ≢ 45 → (code == 45) ≡ false
 no_hyphen code ne = grind (arith, nat_tests)
@@ -50,13 +51,13 @@ plain_word (code ∷ rest) plain = let no = no_hyphen code plain in (rw no refl,
 
 by_plain : (called : Text) (run : TraceRun) (file : Text) → IsPlain file → NameRun (called ∷ (words_of run ++ file ∷ [])) run (file ∷ [])
 unfolding clap_on_literals
-by_plain called Replay file plain = record { faultless = rw (plain.0, plain.1, plain.2) refl; named = refl; form = rw (plain.0, plain.1, plain.2) refl; given = rw (plain.0, plain.1, plain.2) refl }
-by_plain called Held file plain = record { faultless = rw (plain.0, plain.1, plain.2) refl; named = refl; form = rw (plain.0, plain.1, plain.2) refl; given = rw (plain.0, plain.1, plain.2) refl }
-by_plain called Race file plain = record { faultless = rw (plain.0, plain.1, plain.2) refl; named = refl; form = rw (plain.0, plain.1, plain.2) refl; given = rw (plain.0, plain.1, plain.2) refl }
-by_plain called RaceQueues file plain = record { faultless = rw (plain.0, plain.1, plain.2) refl; named = refl; form = rw (plain.0, plain.1, plain.2) refl; given = rw (plain.0, plain.1, plain.2) refl }
-by_plain called Map file plain = record { faultless = rw (plain.0, plain.1, plain.2) refl; named = refl; form = rw (plain.0, plain.1, plain.2) refl; given = rw (plain.0, plain.1, plain.2) refl }
-by_plain called MapText file plain = record { faultless = rw (plain.0, plain.1, plain.2) refl; named = refl; form = rw (plain.0, plain.1, plain.2) refl; given = rw (plain.0, plain.1, plain.2) refl }
-by_plain called Check file plain = record { faultless = rw (plain.0, plain.1, plain.2) refl; named = refl; form = tt; given = rw (plain.0, plain.1, plain.2) refl }
+by_plain called Replay file plain = record { faultless = rw (plain.0, plain.1, plain.2) refl; named = refl; form = rw (plain.0, plain.1, plain.2) refl; given = rw (plain.0, plain.1, plain.2) refl; no_line = rw (plain.0, plain.1, plain.2) refl }
+by_plain called Held file plain = record { faultless = rw (plain.0, plain.1, plain.2) refl; named = refl; form = rw (plain.0, plain.1, plain.2) refl; given = rw (plain.0, plain.1, plain.2) refl; no_line = rw (plain.0, plain.1, plain.2) refl }
+by_plain called Race file plain = record { faultless = rw (plain.0, plain.1, plain.2) refl; named = refl; form = rw (plain.0, plain.1, plain.2) refl; given = rw (plain.0, plain.1, plain.2) refl; no_line = rw (plain.0, plain.1, plain.2) refl }
+by_plain called RaceQueues file plain = record { faultless = rw (plain.0, plain.1, plain.2) refl; named = refl; form = rw (plain.0, plain.1, plain.2) refl; given = rw (plain.0, plain.1, plain.2) refl; no_line = rw (plain.0, plain.1, plain.2) refl }
+by_plain called Map file plain = record { faultless = rw (plain.0, plain.1, plain.2) refl; named = refl; form = rw (plain.0, plain.1, plain.2) refl; given = rw (plain.0, plain.1, plain.2) refl; no_line = rw (plain.0, plain.1, plain.2) refl }
+by_plain called MapText file plain = record { faultless = rw (plain.0, plain.1, plain.2) refl; named = refl; form = rw (plain.0, plain.1, plain.2) refl; given = rw (plain.0, plain.1, plain.2) refl; no_line = rw (plain.0, plain.1, plain.2) refl }
+by_plain called Check file plain = record { faultless = rw (plain.0, plain.1, plain.2) refl; named = refl; form = tt; given = rw (plain.0, plain.1, plain.2) refl; no_line = rw (plain.0, plain.1, plain.2) refl }
 
 -- and a word behind them that begins with no hyphen
 pub file_named : (called : Text) (run : TraceRun) (file : Text) → IsPlainWord file → NameRun (called ∷ (words_of run ++ file ∷ [])) run (file ∷ [])

@@ -37,7 +37,7 @@ module _ (words : List Text) (called : Text) (status : ℕ) (old new : Streams) 
   by_run : (wanted : TraceRun) → words ≡ called ∷ words_of wanted → Run words status old new → RunsOrLacksMemory wanted status old new
   by_run wanted is (does choice asks done) =
       let names = subst (λ (given : List Text). NameRun given wanted []) (sym is) (run_named called wanted) in
-      inl (subst (λ (c : Choice). Does c status old new) (only_run words wanted choice names.named names.form names.given asks) done)
+      inl (subst (λ (c : Choice). Does c status old new) (only_run words wanted choice names.named names.form names.given names.no_line asks) done)
   by_run wanted is (fails kind among shows) = inr (answer_lacks words _ kind status old new shows among is (run_named called wanted).faultless)
 
   pub ends_run : (wanted : TraceRun) → words ≡ called ∷ words_of wanted → RunsOrLacksMemory wanted status old new

@@ -1,13 +1,15 @@
 -- The command line, by the definitions of `clap`.
-use Rattle.std.specs.Prelude.{◌≡◌, ◌≢◌, ◌^◌, ⊤, true, pos, List, [], ◌∷◌, ◌++◌, Option, Some, None, codes, option_and_then, option_map, string_bytes, unwrap_or}
+use Rattle.std.specs.Prelude.{◌≡◌, ◌≢◌, ◌^◌, ⊤, ℕ, true, pos, List, [], ◌∷◌, ◌++◌, Option, Some, None, codes, option_and_then, option_map, string_bytes, unwrap_or}
 use Rattle.clap.specs.Words.{App, Kinds, Rule, Text, all_of, fault_of, new_app, new_rule, one_of, subcommand_of, subcommand_rows_of, with_rule, with_subcommand}
 use Rattle.clap.specs.declared.builder.action.ArgAction.TheVariants.{Append, Set, SetTrue}
 use Rattle.clap.specs.declared.builder.value_parser.ValueParser.TheVariants.{Signed}
 use Rattle.clap.specs.declared.parser.matches.ArgMatches.{ArgMatches}
 use Rattle.tlsf_command.specs.ClassQuestions.{HasClasses, IsClassQuestion}
-use Rattle.tlsf_command.specs.SizeQuestions.{HasTable, IsQuestion}
+use Rattle.tlsf_command.specs.SizeQuestions.{HasTable, IsQuestion, first_number}
 use Rattle.tlsf_command.specs.declared.command_line.Choice.{Choice}
-use Rattle.tlsf_command.specs.declared.command_line.Choice.TheVariants.{Trace, File, Classes, Size}
+use Rattle.tlsf_command.specs.declared.command_line.Choice.TheVariants.{Trace, File, Classes, Size, At}
+use Rattle.tlsf_picture.specs.declared.form.Form.{Form}
+use Rattle.tlsf_picture.specs.declared.form.Form.TheVariants.{Svg, Text as Characters}
 use Rattle.tlsf_command.specs.declared.trace_run.TraceRun.{TraceRun}
 use Rattle.tlsf_command.specs.declared.trace_run.TraceRun.TheVariants.{Replay, Held, Race, RaceQueues, Map, MapText, Check}
 
@@ -65,9 +67,17 @@ replay_app = trace_app (codes "replay") (codes "held")
 abbrev pub race_app : App
 race_app = trace_app (codes "race") (codes "queues")
 
+-- the line behind which the heaps are drawn, which needn't be given
+abbrev pub line_rule : Rule
+line_rule = record (new_rule (codes "K")) {
+  long = Some (codes "at");
+  action = Some Set;
+  parser = Some (Signed (pos 1) (pos 4294967295));
+}
+
 -- the command `map`, with the flag by which the heaps are drawn in characters
 abbrev pub map_app : App
-map_app = trace_app (codes "map") (codes "text")
+map_app = with_rule (trace_app (codes "map") (codes "text")) line_rule
 
 -- the command `check`
 abbrev pub check_app : App
@@ -107,6 +117,10 @@ flag_given name words = option_and_then (λ named. one_of name named.1) (subcomm
 abbrev pub texts_given : Text → List Text → List Text
 texts_given id words =
     unwrap_or (option_and_then (λ named. all_of id named.1) (subcommand_of tlsf_app words)) []
+
+-- the number of the line that the words give, 0 where they give none
+abbrev pub line_given : List Text → ℕ
+line_given words = first_number 0 (texts_given (codes "K") words)
 
 -- the command that a run of a trace is named by
 abbrev pub command_of : TraceRun → Text
@@ -153,6 +167,7 @@ name_of (Trace run) = command_of run
 name_of (File run tip) = command_of run
 name_of (Classes question) = codes "classes"
 name_of (Size question) = codes "size"
+name_of (At form line) = codes "map"
 
 -- the words give this flag, as far as `clap` tells it; and they don't
 abbrev pub HasFlag : Text → List Text → Type 0
@@ -171,12 +186,24 @@ HasForm Map words = LacksFlag (codes "text") words
 HasForm MapText words = HasFlag (codes "text") words
 HasForm Check words = ⊤
 
+-- the run by which heaps are drawn in this form
+abbrev pub run_in : Form → TraceRun
+run_in Svg = Map
+run_in Characters = MapText
+
+-- where the heaps are drawn, the words give no line
+abbrev pub NamesNoLine : TraceRun → List Text → Type 0
+NamesNoLine Map words = line_given words ≡ 0
+NamesNoLine MapText words = line_given words ≡ 0
+NamesNoLine run words = ⊤
+
 -- what the choice holds is of the flags and the texts that the words give: a run is asked for where no file is named, and else its tip is due
 abbrev pub HasParts : List Text → Choice → Type 0
-HasParts words (Trace run) = HasForm run words × (texts_given (codes "FILE") words ≡ [])
+HasParts words (Trace run) = HasForm run words × (texts_given (codes "FILE") words ≡ []) × NamesNoLine run words
 HasParts words (File run tip) = HasForm run words × IsTip run (texts_given (codes "FILE") words) (string_bytes tip)
 HasParts words (Classes question) = IsClassQuestion (texts_given (codes "N") words) (texts_given (codes "sli") words) question
 HasParts words (Size question) = IsQuestion (texts_given (codes "B") words) (texts_given (codes "N") words) (texts_given (codes "sli") words) question
+HasParts words (At form line) = HasForm (run_in form) words × (texts_given (codes "FILE") words ≡ []) × (line ≢ 0) × (line ≡ line_given words)
 
 -- the size of the choice, where it has one, has a class, and a table has 1 to 64 kinds
 abbrev pub IsAnswerable : Choice → Type 0
@@ -189,6 +216,11 @@ abbrev pub IsRunOn : TraceRun → (files : List Text) → Choice → Type 0
 IsRunOn run files (Trace other) = (other ≡ run) × (files ≡ [])
 IsRunOn run files (File other tip) = (other ≡ run) × IsTip run files (string_bytes tip)
 IsRunOn run files choice = ⊥
+
+-- the choice of a picture in this form, where these words stand behind `map`, and this line behind `--at`
+abbrev pub IsMapOn : Form → (line : ℕ) → (files : List Text) → Choice → Type 0
+IsMapOn form line files (At other k) = (other ≡ form) × (files ≡ []) × (k ≢ 0) × (k ≡ line)
+IsMapOn form line files choice = IsRunOn (run_in form) files choice × (files ≡ [] → line ≡ 0)
 
 -- the words ask for this and nothing else
 pub record Asks (words : List Text) (choice : Choice) : Type 0 where

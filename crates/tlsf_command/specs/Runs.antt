@@ -15,12 +15,12 @@ use Rattle.tlsf_command.specs.declared.size_question.SizeQuestion.{SizeQuestion}
 use Rattle.tlsf_command.specs.declared.size_question.SizeQuestion.TheVariants.{Table, FineTable, Unpaired}
 use Rattle.tlsf_laws.specs.declared.kind.Kind.{Kind}
 use Rattle.tlsf_command.specs.declared.command_line.Choice.{Choice}
-use Rattle.tlsf_command.specs.declared.command_line.Choice.TheVariants.{Trace, File, Classes, Size}
+use Rattle.tlsf_command.specs.declared.command_line.Choice.TheVariants.{Trace, File, Classes, Size, At}
 use Rattle.tlsf_command.specs.declared.trace_run.TraceRun.{TraceRun}
 use Rattle.tlsf_command.specs.declared.trace_run.TraceRun.TheVariants.{Replay, Held, Race, RaceQueues, Map, MapText, Check}
 use Rattle.tlsf_check.specs.Checks.{Checks, Notes}
 use Rattle.tlsf_held.specs.Measures.{Measures}
-use Rattle.tlsf_picture.specs.Drawn.{Draws, DrawsText}
+use Rattle.tlsf_picture.specs.Drawn.{Draws, DrawsAt, DrawsText}
 use Rattle.tlsf_lines.specs.Prefixes.{AppendsFront}
 use Rattle.tlsf_trace.specs.Replay.{IsRun, Outputs, Races, RacesQueues, Replays}
 use Rattle.tlsf_lines.specs.TraceFaults.{no_memory_fault, write_fault}
@@ -70,6 +70,13 @@ pub record RunsAs (run : TraceRun) (status : ℕ) (old new : Streams) : Type 0 w
   pub noted : IsNote run old.left answer note
   pub status_is : status ≡ status_of answer
   pub reported : Reports answer note old.errors new.errors
+
+-- the trace is run to put out this, and the answer gives the status and the report
+pub record RunsBy (Puts : Outputs) (status : ℕ) (old new : Streams) : Type 0 where
+  pub answer : Result Summary TraceFault
+  pub ran : IsRun Puts answer old.left new.left old.written new.written
+  pub status_is : status ≡ status_of answer
+  pub reported : Reports answer [] old.errors new.errors
 
 -- memory ran out before anything was read or written
 pub record LacksMemory (status : ℕ) (old new : Streams) : Type 0 where
@@ -152,12 +159,14 @@ ShowsAnswer DisplayVersion status old new = ShowsText status old new
 ShowsAnswer OutOfMemory status old new = LacksMemory status old new
 ShowsAnswer _ status old new = ShowsUsage status old new
 
--- what was chosen is done: a run of a trace, or its tip where a file is named, the classes of a size, or the words of a region
+-- what was chosen is done: a run of a trace, or its tip where a file is named, the classes of a size, the words of a region, or a picture
+-- behind a line
 abbrev pub Does : Choice → ℕ → Streams → Streams → Type 0
 Does (Trace run) = RunsAs run
 Does (File run tip) = Refuses (string_bytes tip)
 Does (Classes question) = AnswersClasses question
 Does (Size question) = ShowsSize question
+Does (At form line) = RunsBy (DrawsAt form line)
 
 -- how a run ends, by its words: it does what they ask for, it answers by one of their faults, or it lacks memory
 abbrev pub Ends : List Text → ℕ → Streams → Streams → Type 0

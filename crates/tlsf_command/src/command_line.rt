@@ -3,18 +3,20 @@ ghost use Rattle.std.specs.Option.{unwrap_or};
 ghost use Rattle.clap.specs.declared.builder.command.Command.{Command};
 ghost use Rattle.clap.specs.Words.{app_of, found_of, matched_of, new_app, raw_values, rule_of, subcommand_of, subcommand_rows_of, with_subcommand, FailsBy, Text};
 ghost use Rattle.clap.specs.declared.builder.command.Command.TheViews.{out-Command};
-ghost use Rattle.tlsf_command.specs.CommandLine.{bare_app, check_app, classes_app, count_rule, file_rule, flag_rule, level_rule, map_app, race_app, replay_app, size_app, size_rule, tlsf_app, trace_app, faults_of, Answers, Asks, IsRunOn};
+ghost use Rattle.tlsf_command.specs.SizeQuestions;
+ghost use Rattle.tlsf_command.specs.CommandLine.{bare_app, check_app, classes_app, count_rule, file_rule, flag_rule, level_rule, line_rule, map_app, race_app, replay_app, size_app, size_rule, tlsf_app, trace_app, faults_of, run_in, Answers, Asks, IsMapOn, IsRunOn};
 
 use crate::VERSION;
 use crate::class_question::ClassQuestion;
 use crate::help::{
     CHECK_HELP, CLASSES_HELP, MAP_HELP, PROGRAM_HELP, RACE_HELP, REPLAY_HELP, SIZE_HELP,
 };
-use crate::size_question::SizeQuestion;
+use crate::size_question::{SizeQuestion, first_number};
 use crate::trace_run::TraceRun;
 use clap::{Arg, ArgAction, ArgMatches, Command, Error};
 use std::alloc::{AllocError, Global};
 use std::convert::AsStr;
+use tlsf_picture::Form;
 
 /// What a command line asks for.
 #[derive(Drop)]
@@ -29,6 +31,8 @@ pub enum Choice {
     /// `tlsf size --blocks B --bytes N ..`: write the words of the least region that never refuses a
     /// program of at most B blocks of at most N bytes each at once, for each pair, to standard output.
     Size(SizeQuestion),
+    /// `tlsf map --at K`: write a picture of the heaps of a trace as they stand behind its line K, 1 to 2^32 - 1, in this form.
+    At(Form, u32),
 }
 
 // A command of this name with its texts: one line, and the whole help.
@@ -153,6 +157,18 @@ fn race_command<'a>(alloc: Global) -> Result<Command<'a>, AllocError>
     trace_command(alloc, "race", usage, about, RACE_HELP, "queues", flag_help)
 }
 
+// The line behind which `map` draws the heaps.
+fn line_argument<'a>(alloc: Global) -> Arg<'a>
+    ensures rule { rule_of result ≡ line_rule }
+    ensures local { result.global ≡ false }
+{
+    Arg::new(alloc, "K")
+        .long("at")
+        .help("Draw the heaps as they stand behind line K of the trace")
+        .action(ArgAction::Set)
+        .value_parser(clap::value_parser!(u32).range(1..=4_294_967_295))
+}
+
 // The command `map`.
 fn map_command<'a>(alloc: Global) -> Result<Command<'a>, AllocError>
     ensures app { IfOk result (λ command. app_of command ≡ map_app) }
@@ -161,7 +177,8 @@ fn map_command<'a>(alloc: Global) -> Result<Command<'a>, AllocError>
     let usage = "tlsf map [OPTIONS] < TRACE";
     let about = "Draw the heaps that the trace on standard input leaves";
     let flag_help = "Draw the heaps in the characters of a terminal";
-    trace_command(alloc, "map", usage, about, MAP_HELP, "text", flag_help)
+    let command = trace_command(alloc, "map", usage, about, MAP_HELP, "text", flag_help)?;
+    command.arg(line_argument(alloc))
 }
 
 // The command `check`.
@@ -258,6 +275,53 @@ fn run_given(alloc: Global, run: TraceRun, given: &ArgMatches<'_>) -> Result<Cho
     }
 }
 
+// The run by which heaps are drawn in a form.
+fn run_of(form: Form) -> TraceRun
+    ensures { result ≡ run_in form }
+{
+    match form {
+        Form::Svg => TraceRun::Map,
+        Form::Text => TraceRun::MapText,
+    }
+}
+
+// The line behind `--at`, 0 where none is given.
+fn line_given(given: &ArgMatches<'_>) -> u32
+    ensures { result ≡ SizeQuestions.first_number 0
+        (unwrap_or (option_map raw_values (matched_of (found_of given.now) (codes "K"))) []) }
+{
+    match given.get_raw("K") {
+        Some(texts) => first_number(texts, 0),
+        None => 0,
+    }
+}
+
+// The choice of a picture in a form behind a line, or at the end where that is 0, where these words stand behind `map`.
+fn map_on(alloc: Global, form: Form, line: u32, files: &[&str]) -> Result<Choice, AllocError>
+    ensures { IfOk result (IsMapOn form line (map (λ text. text.now) files.now)) }
+{
+    if line == 0 {
+        return run_on(alloc, run_of(form), files);
+    }
+    if files.is_empty() {
+        return Ok(Choice::At(form, line));
+    }
+    run_on(alloc, run_of(form), files)
+}
+
+// The choice of a picture in a form by the matches of `map`.
+fn map_given(alloc: Global, form: Form, given: &ArgMatches<'_>) -> Result<Choice, AllocError>
+    ensures { IfOk result (IsMapOn form
+        (SizeQuestions.first_number 0 (unwrap_or (option_map raw_values (matched_of (found_of given.now) (codes "K"))) []))
+        (unwrap_or (option_map raw_values (matched_of (found_of given.now) (codes "FILE"))) [])) }
+{
+    let line = line_given(given);
+    match given.get_raw("FILE") {
+        Some(files) => map_on(alloc, form, line, files),
+        None => map_on(alloc, form, line, &[]),
+    }
+}
+
 // What matches of the words ask for.
 fn chosen(alloc: Global, matches: &ArgMatches<'_>) -> Result<Choice, AllocError>
     requires { (words : List Text) × Answers words matches.now }
@@ -278,12 +342,12 @@ fn chosen(alloc: Global, matches: &ArgMatches<'_>) -> Result<Choice, AllocError>
         return Ok(Choice::Size(SizeQuestion::given(alloc, given)?));
     }
     if let Some(given) = matches.subcommand_matches("map") {
-        let run = if given.get_flag("text") {
-            TraceRun::MapText
+        let form = if given.get_flag("text") {
+            Form::Text
         } else {
-            TraceRun::Map
+            Form::Svg
         };
-        return run_given(alloc, run, given);
+        return map_given(alloc, form, given);
     }
     if let Some(given) = matches.subcommand_matches("check") {
         return run_given(alloc, TraceRun::Check, given);

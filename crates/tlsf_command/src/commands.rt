@@ -2,10 +2,11 @@ ghost use Rattle.std.specs.Prelude.{◌≡◌, ◌++◌, ℕ, List, [], ◌∷�
 ghost use Rattle.clap.specs.Words.{kind_of};
 ghost use Rattle.tlsf_command.specs.FaultLines.{fault_line, status_of_fault};
 ghost use Rattle.tlsf_command.specs.CommandLine.{words_of, IsAnswerable, IsPlainWord};
-ghost use Rattle.tlsf_command.specs.Runs.{puts_of, streams, status_of, Does, Ends, IsNote, Reports, RunsAs, RunsOrLacksMemory, ShowsAnswer, ShowsOptionsOrLacksMemory, ShowsPairsOrLacksMemory, TipsOrLacksMemory};
+ghost use Rattle.tlsf_command.specs.Runs.{puts_of, streams, status_of, Does, Ends, IsNote, Reports, RunsAs, RunsBy, RunsOrLacksMemory, ShowsAnswer, ShowsOptionsOrLacksMemory, ShowsPairsOrLacksMemory, TipsOrLacksMemory};
 ghost use Rattle.tlsf_command.specs.SizeQuestions.{option_words, pair_words, AreOptions, ArePairs, Pair, SizeOption};
 ghost use Rattle.tlsf_command.specs.declared.trace_run.TraceRun.{TraceRun};
 ghost use Rattle.tlsf_lines.specs.Prefixes.{AppendsFront};
+ghost use Rattle.tlsf_picture.specs.Drawn.{DrawsAt};
 ghost use Rattle.tlsf_trace.specs.Replay.{IsRun};
 
 use crate::class_run::run_classes;
@@ -23,7 +24,7 @@ use std::thread::Threads;
 use tlsf_check::check_trace;
 use tlsf_crew::Gate;
 use tlsf_held::measure_trace;
-use tlsf_picture::{draw_trace, draw_trace_as_text};
+use tlsf_picture::{Form, draw_trace, draw_trace_as_text, draw_trace_at};
 use tlsf_trace::{
     Summary, TraceFault, WriteError, race_trace, race_trace_over_queues, replay, write_out,
 };
@@ -112,6 +113,23 @@ fn run_trace<T: Threads + Wait + Sync, R: Read, W: Write, E: Write, G: Gate>(
     ended(answer, &note, errors)
 }
 
+// Draws the heaps of the trace behind a line, and reports the fault that ended it.
+fn run_at<R: Read, W: Write, E: Write>(
+    alloc: Global,
+    form: Form,
+    line: u32,
+    reader: &mut R,
+    writer: &mut W,
+    errors: &mut E,
+) -> u8
+    ensures { RunsBy (DrawsAt form line) result
+        (streams (R.remaining reader.old) (W.contents writer.old) (E.contents errors.old))
+        (streams (R.remaining reader.new) (W.contents writer.new) (E.contents errors.new)) }
+{
+    let answer = draw_trace_at(alloc, form, line, reader, writer);
+    ended(answer, "", errors)
+}
+
 // Says how a trace is read from a file that was named. A write that fails changes nothing.
 fn tell<E: Write>(tip: &str, errors: &mut E) -> u8
     ensures status { result ≡ 2 }
@@ -166,6 +184,7 @@ fn act<T: Threads + Wait + Sync, R: Read, W: Write, E: Write, G: Gate>(
         Choice::File(_, tip) => tell(&tip, errors),
         Choice::Classes(question) => run_classes(question, writer, errors),
         Choice::Size(question) => run_size(question, writer, errors),
+        Choice::At(form, line) => run_at(alloc, form, line, reader, writer, errors),
     }
 }
 

@@ -18,7 +18,7 @@ In a file, as first.trace, it is run by 'tlsf replay < first.trace'.
 'tlsf race' replays with the workers of each phase in threads of their own;
 'tlsf race --queues' does so with one queue for the posts to each worker.
 'tlsf map' draws the heaps that a trace leaves, as an SVG file, and
-'tlsf map --text' in the characters of a terminal.
+'tlsf map --text' in the characters of a terminal; '--at K' behind line K.
 'tlsf check' says where a trace that is refused is faulty, and what was expected
 there.
 'tlsf classes N' and 'tlsf size' read nothing and write one line.
@@ -67,13 +67,14 @@ posts. This is a trace, and this is what it comes to:
 
 With --held it is one line for each worker instead, as
 
-  held 0 blocks 3 bytes 512 words 342 region 64
+  held 0 blocks 3 bytes 512 words 342 region 64 wanted 139
 
 Worker 0 held at most 3 blocks of its heap at once, the one that it asked for
 included, and asked for at most 512 bytes. A heap of 342 words never answers
 NoFit (1) to such calls; 'none' says that no heap is so large. The heaps of the
-trace have 64 words. A block that another worker frees is held until its owner
-takes the post.
+trace have 64 words. The blocks that were held at once, and the one that was
+asked for, wanted at most 139 words. A block that another worker frees is held
+until its owner takes the post.
 
 The exit status is 0 where the lines are written, 1 where a fault of the
 trace, of a read or of a write ends the run, and 3 where memory runs out. A
@@ -141,6 +142,10 @@ so many words, 1 where a heap has at most 1024:
   =   its payload                     .   words freed lately
   -   words that it leaves empty      :   words free for longer than half as
                                           long as the oldest
+
+With '--at K' the heaps are drawn as they stand behind line K of the trace, its
+header being line 1, and before the drains at its end. Where it has less than K
+lines they are drawn as it leaves them.
 
 The exit status is 0 where the picture is written, 1 where a fault of the
 trace, of a read or of a write ends the run, and 3 where memory runs out. Faults

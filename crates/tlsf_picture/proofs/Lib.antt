@@ -2,6 +2,8 @@
 --   Labels: the labels of blocks, one event after another
 --   Walking: a walk over the blocks of a heap by their places
 --   Maps: maps of heaps, one heap after another
+--   Moments: the moments of a trace
 pub mod Labels
 pub mod Walking
 pub mod Maps
+pub mod Moments

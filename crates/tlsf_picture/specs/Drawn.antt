@@ -9,6 +9,9 @@ use Rattle.tlsf_map.specs.Page.{svg_text}
 use Rattle.tlsf_map.specs.Text.{text_of}
 use Rattle.tlsf_map.specs.declared.mapped_heap.MappedHeap.{MappedHeap}
 use Rattle.tlsf_picture.specs.Labelled.{label_of, labelled}
+use Rattle.tlsf_picture.specs.Moments.{moment_of}
+use Rattle.tlsf_picture.specs.declared.form.Form.{Form}
+use Rattle.tlsf_picture.specs.declared.form.Form.TheVariants.{Svg, Text}
 use Rattle.tlsf_lines.specs.Events.{labels_of}
 use Rattle.tlsf_trace.specs.Output.{level_in, run_of}
 use Rattle.tlsf_trace.specs.Replay.{IsRun}
@@ -50,3 +53,14 @@ IsDrawing = IsRun Draws
 
 abbrev pub IsTextDrawing : Result Summary TraceFault → Option (List ℕ) → Option (List ℕ) → Option (List ℕ) → Option (List ℕ) → Type 0
 IsTextDrawing = IsRun DrawsText
+
+-- a picture of heaps with so many words each
+abbrev pub picture_in : Form → ℕ → List MappedHeap → List ℕ
+picture_in Svg = svg_text
+picture_in Text = text_of
+
+-- the text is a picture of the heaps of a trace as they stand behind a line
+pub record DrawsAt (form : Form) (line : ℕ) (trace : Trace) (text : List ℕ) : Type 0 where
+  pub maps : List MappedHeap
+  pub mapped : AreMaps (level_in trace.header) (moment_of line trace).made (labels_of trace) (moment_of line trace).world.heaps maps
+  pub drawn : text ≡ picture_in form trace.header.words maps

@@ -1,2 +1,3 @@
 pub mod Labelled
+pub mod Moments
 pub mod Drawn

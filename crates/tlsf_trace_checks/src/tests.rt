@@ -5,6 +5,7 @@ mod commands;
 mod fakes;
 mod fronts;
 mod long_texts;
+mod moments;
 mod race_notices;
 mod race_traces;
 mod runs;

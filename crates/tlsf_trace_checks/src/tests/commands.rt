@@ -66,7 +66,7 @@ fn writes_classes(rt: HostRuntime) {
 
 #[test]
 fn measures_what_a_trace_asks(rt: HostRuntime) {
-    let line = "held 0 blocks 0 bytes 0 words 4 region 64\n";
+    let line = "held 0 blocks 0 bytes 0 words 4 region 64 wanted 0\n";
     check_lines(&rt, rt.alloc(), &[("tlsf,replay,--held", 0, line)]);
 }
 
@@ -106,7 +106,7 @@ fn runs_a_trace_of_version_2(rt: HostRuntime) {
     for words in ["tlsf,replay", "tlsf,race", "tlsf,race,--queues"] {
         check_run(&rt, rt.alloc(), words, trace, (0, lines, ""));
     }
-    let held = "held 0 blocks 1 bytes 480 words 63 region 63\n";
+    let held = "held 0 blocks 1 bytes 480 words 63 region 63 wanted 63\n";
     check_run(&rt, rt.alloc(), "tlsf,replay,--held", trace, (0, held, ""));
 }
 
@@ -325,6 +325,14 @@ fn refuses_other_words(rt: HostRuntime) {
             ("tlsf,classes, 5", 2, "invalid value ' 5' for '<N>'"),
             ("tlsf,classes,,", 2, "for '<N>'"),
             ("tlsf,460,classes", 2, "unrecognized subcommand '460'"),
+            ("tlsf,map,--at", 2, "a value is required for '--at <K>'"),
+            ("tlsf,map,--at,0", 2, "0 is not in 1..=4294967295"),
+            ("tlsf,map,--at,x", 2, "invalid value 'x' for '--at <K>'"),
+            (
+                "tlsf,map,--at,1,--at,2",
+                2,
+                "'--at <K>' cannot be used multiple times",
+            ),
         ],
     );
 }
@@ -342,6 +350,7 @@ fn tells_how_a_file_is_read(rt: HostRuntime) {
         ("tlsf,map,help", "map < help"),
         ("tlsf,check,x", "check < x"),
         ("tlsf,map,--text,--,-x", "map --text < -x"),
+        ("tlsf,map,--at,5,x", "map < x"),
     ] {
         let mut streams = Streams::new(rt.alloc(), TRACE);
         let status = streams.run(&rt, rt.alloc(), words);

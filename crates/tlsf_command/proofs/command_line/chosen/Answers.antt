@@ -1,8 +1,9 @@
 use Rattle.std.proofs.Common.{◌≡◌, Option, Some, None, codes, refl, sym, true≢false}
 use Rattle.std.specs.Prelude.{IsSome}
 use Rattle.std.proofs.lemmas.Result.{IfOk-weaker}
-use Rattle.tlsf_command.specs.declared.trace_run.TraceRun.TheVariants.{Replay, Held, Race, RaceQueues, Map, MapText, Check}
-use Rattle.tlsf_command.proofs.ChosenCommands.{asks_classes, asks_run, asks_size, flag_has, flag_lacks, some_named}
+use Rattle.tlsf_command.specs.declared.trace_run.TraceRun.TheVariants.{Replay, Held, Race, RaceQueues, Check}
+use Rattle.tlsf_picture.specs.declared.form.Form.TheVariants.{Svg, Text as Characters}
+use Rattle.tlsf_command.proofs.ChosenCommands.{asks_classes, asks_map, asks_run, asks_size, flag_has, flag_lacks, some_named}
 use Rattle.tlsf_command.proofs.command_line.chosen.Goals.{then-get_flag, else-get_flag, then-get_flag-2, else-get_flag-2, then-get_flag-3, else-get_flag-3}
 use Rattle.tlsf_command.proofs.command_line.chosen.Goals as goal
 
@@ -17,9 +18,9 @@ returns-in-Some-subcommand_matches c = λ words answers.
     let flag = c.get_flag in
     IfOk-weaker c.run_given.result _ _ (λ choice on. elim c.if-get_flag.branch [
       | then-get_flag w ↦ asks_run words c.args.matches.now race.given.now RaceQueues choice answers (race.ensures.found.0 refl) race.ensures.rows
-          (flag_has words c.args.matches.now race.given.now (codes "queues") flag.result answers race.ensures.rows flag.ensures.other flag.ensures.none w.if-get_flag.true) (rw w.run-is at on)
+          (flag_has words c.args.matches.now race.given.now (codes "queues") flag.result answers race.ensures.rows flag.ensures.other flag.ensures.none w.if-get_flag.true) (λ _. tt) (rw w.run-is at on)
       | else-get_flag w ↦ asks_run words c.args.matches.now race.given.now Race choice answers (race.ensures.found.0 refl) race.ensures.rows
-          (flag_lacks words c.args.matches.now race.given.now (codes "queues") flag.result answers race.ensures.rows flag.ensures.value w.if-get_flag.false) (rw w.run-is at on)
+          (flag_lacks words c.args.matches.now race.given.now (codes "queues") flag.result answers race.ensures.rows flag.ensures.value w.if-get_flag.false) (λ _. tt) (rw w.run-is at on)
     ]) c.run_given.ensures
 
 pub returns-in-Some-subcommand_matches-2 : goal.returns-in-Some-subcommand_matches-2
@@ -32,17 +33,17 @@ pub returns-in-Some-subcommand_matches-3 : goal.returns-in-Some-subcommand_match
 returns-in-Some-subcommand_matches-3 c = λ words answers.
     let map = c.in-Some-subcommand_matches-3 in
     let flag = c.get_flag-in-Some-subcommand_matches-3 in
-    IfOk-weaker c.run_given-in-Some-subcommand_matches-3.result _ _ (λ choice on. elim c.if-get_flag-2.branch [
-      | then-get_flag-2 w ↦ asks_run words c.args.matches.now map.given.now MapText choice answers (map.ensures.found.0 refl) map.ensures.rows
-          (flag_has words c.args.matches.now map.given.now (codes "text") flag.result answers map.ensures.rows flag.ensures.other flag.ensures.none w.if-get_flag-2.true) (rw w.run-is at on)
-      | else-get_flag-2 w ↦ asks_run words c.args.matches.now map.given.now Map choice answers (map.ensures.found.0 refl) map.ensures.rows
-          (flag_lacks words c.args.matches.now map.given.now (codes "text") flag.result answers map.ensures.rows flag.ensures.value w.if-get_flag-2.false) (rw w.run-is at on)
-    ]) c.run_given-in-Some-subcommand_matches-3.ensures
+    IfOk-weaker c.map_given.result _ _ (λ choice on. elim c.if-get_flag-2.branch [
+      | then-get_flag-2 w ↦ asks_map words c.args.matches.now map.given.now Characters choice answers (map.ensures.found.0 refl) map.ensures.rows
+          (flag_has words c.args.matches.now map.given.now (codes "text") flag.result answers map.ensures.rows flag.ensures.other flag.ensures.none w.if-get_flag-2.true) (rw w.form-is at on)
+      | else-get_flag-2 w ↦ asks_map words c.args.matches.now map.given.now Svg choice answers (map.ensures.found.0 refl) map.ensures.rows
+          (flag_lacks words c.args.matches.now map.given.now (codes "text") flag.result answers map.ensures.rows flag.ensures.value w.if-get_flag-2.false) (rw w.form-is at on)
+    ]) c.map_given.ensures
 
 pub returns-in-Some-subcommand_matches-4 : goal.returns-in-Some-subcommand_matches-4
 returns-in-Some-subcommand_matches-4 c = λ words answers.
     let check = c.in-Some-subcommand_matches-4 in
-    IfOk-weaker c.run_given-in-Some-subcommand_matches-4.result _ _ (λ choice on. asks_run words c.args.matches.now check.given.now Check choice answers (check.ensures.found.0 refl) check.ensures.rows tt on)
+    IfOk-weaker c.run_given-in-Some-subcommand_matches-4.result _ _ (λ choice on. asks_run words c.args.matches.now check.given.now Check choice answers (check.ensures.found.0 refl) check.ensures.rows tt (λ _. tt) on)
     c.run_given-in-Some-subcommand_matches-4.ensures
 
 -- a value that is no `Some` is none
@@ -66,7 +67,7 @@ returns c = λ words answers.
     let flag = c.get_flag-in-Some-subcommand_matches-5 in
     IfOk-weaker c.run_given-in-Some-subcommand_matches-5.result _ _ (λ choice on. elim c.if-get_flag-3.branch [
       | then-get_flag-3 w ↦ asks_run words c.args.matches.now replay.given.now Held choice answers (replay.ensures.found.0 refl) replay.ensures.rows
-          (flag_has words c.args.matches.now replay.given.now (codes "held") flag.result answers replay.ensures.rows flag.ensures.other flag.ensures.none w.if-get_flag-3.true) (rw w.run-is at on)
+          (flag_has words c.args.matches.now replay.given.now (codes "held") flag.result answers replay.ensures.rows flag.ensures.other flag.ensures.none w.if-get_flag-3.true) (λ _. tt) (rw w.run-is at on)
       | else-get_flag-3 w ↦ asks_run words c.args.matches.now replay.given.now Replay choice answers (replay.ensures.found.0 refl) replay.ensures.rows
-          (flag_lacks words c.args.matches.now replay.given.now (codes "held") flag.result answers replay.ensures.rows flag.ensures.value w.if-get_flag-3.false) (rw w.run-is at on)
+          (flag_lacks words c.args.matches.now replay.given.now (codes "held") flag.result answers replay.ensures.rows flag.ensures.value w.if-get_flag-3.false) (λ _. tt) (rw w.run-is at on)
     ]) c.run_given-in-Some-subcommand_matches-5.ensures

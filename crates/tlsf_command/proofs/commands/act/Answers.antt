@@ -11,5 +11,8 @@ returns-in-File g c =
 pub returns-in-Classes : goal.returns-in-Classes
 returns-in-Classes g c = rw c.in-Classes.is (c.run_classes.ensures (g.R.Read.remaining c.args.reader.now))
 
+pub returns-in-At : goal.returns-in-At
+returns-in-At g c = rw c.in-At.is c.run_at.ensures
+
 pub returns-in-Size : goal.returns-in-Size
 returns-in-Size g c = rw c.in-Size.is (c.run_size.ensures (g.R.Read.remaining c.args.reader.now))
