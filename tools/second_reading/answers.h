@@ -47,20 +47,20 @@ class Asked {
     }
 };
 
-// The words of a pool of so many blocks of so many bytes: docs/SIZING.md, lines 3 to 5.
-inline std::string words_text(const Asked& asked) {
+// The words of a pool of so many blocks of so many bytes: docs/SIZING.md, lines 3 to 5; the fewest that a region has where there are none.
+inline std::string words_text(const Asked& asked, const Classes& classes) {
+    if (asked.most == 0) return "4";
     const uint64_t want = want_of(asked.longest);
-    if (search_class_of(want) == lows().size()) return "none";
-    const uint64_t blocks = asked.most, others = blocks == 0 ? 0 : blocks - 1;
-    const uint64_t words = others * (want + 3) + blocks * (lows()[search_class_of(want)] - 1) + 1;
-    return words > 1048576 ? "none" : std::to_string(std::max<uint64_t>(4, words));
+    if (classes.search_of(want) == classes.count()) return "none";
+    const uint64_t words = (asked.most - 1) * (want + 3) + asked.most * (classes.low(classes.search_of(want)) - 1) + 1;
+    return words > classes.most ? "none" : std::to_string(std::max<uint64_t>(4, words));
 }
 
 class Yard {
   public:
     explicit Yard(const Trace& trace)
-        : capacity(trace.capacity), region(trace.words), lanes(trace.workers, std::vector<std::deque<Name>>(trace.workers)), asked(trace.workers) {
-        for (uint64_t i = 0; i < trace.workers; i++) heaps.emplace_back(i, trace.words);
+        : classes(classes_of(trace.version)), capacity(trace.capacity), region(trace.words), lanes(trace.workers, std::vector<std::deque<Name>>(trace.workers)), asked(trace.workers) {
+        for (uint64_t i = 0; i < trace.workers; i++) heaps.emplace_back(i, trace.words, classes);
     }
 
     // The reply lines of a call.
@@ -94,13 +94,14 @@ class Yard {
         std::string lines;
         for (size_t i = 0; i < asked.size(); i++)
             lines += "held " + std::to_string(i) + " blocks " + std::to_string(asked[i].most) + " bytes " + std::to_string(asked[i].longest) + " words "
-                + words_text(asked[i]) + " region " + std::to_string(region) + " wanted " + std::to_string(asked[i].wanted) + "\n";
+                + words_text(asked[i], classes) + " region " + std::to_string(region) + " wanted " + std::to_string(asked[i].wanted) + "\n";
         return lines;
     }
 
     uint64_t count() const { return heaps.size(); }
 
   private:
+    const Classes& classes;
     uint64_t capacity, region;
     std::vector<Heap> heaps = {};
     // From each worker to each other.

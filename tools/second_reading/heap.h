@@ -26,28 +26,39 @@ struct Block {
     std::map<uint64_t, uint8_t> bytes = {};
 };
 
-// The least size of each class, from class 4 on.
-inline const std::vector<uint64_t>& lows() {
-    static const std::vector<uint64_t> sizes = [] {
-        std::vector<uint64_t> all;
-        for (uint64_t size = 4; size < 16; size++) all.push_back(size);
-        for (uint64_t row = 1; row <= 16; row++)
-            for (uint64_t second = 0; second < 16; second++)
-                all.push_back((uint64_t{1} << (row + 3)) + (second << (row - 1)));
-        all.push_back(1 << 20);
-        return all;
-    }();
-    return sizes;
-}
+// The size classes of a level, 4 or 5.
+class Classes {
+  public:
+    explicit Classes(uint64_t level) : most(uint64_t{1} << (level == 4 ? 20 : 24)) {
+        const uint64_t seconds = uint64_t{1} << level;
+        for (uint64_t size = 4; size < seconds; size++) lows.push_back(size);
+        for (uint64_t low = seconds, step = 1; low < most; low *= 2, step *= 2)
+            for (uint64_t second = 0; second < seconds; second++) lows.push_back(low + second * step);
+        lows.push_back(most);
+    }
 
-// The greatest class whose least size is at most that size, counted from the class of 4 words.
-inline size_t class_of(uint64_t size) {
-    return std::upper_bound(lows().begin(), lows().end(), size) - lows().begin() - 1;
-}
+    // The greatest class whose least size is at most that size, counted from the class of 4 words.
+    size_t class_of(uint64_t size) const { return std::upper_bound(lows.begin(), lows.end(), size) - lows.begin() - 1; }
 
-// The least class whose least size is at least that size. Above 2^20 words it is no class, and above all.
-inline size_t search_class_of(uint64_t size) {
-    return std::lower_bound(lows().begin(), lows().end(), size) - lows().begin();
+    // The least class whose least size is at least that size. Above the words of the largest region it is no class, and above all.
+    size_t search_of(uint64_t size) const { return std::lower_bound(lows.begin(), lows.end(), size) - lows.begin(); }
+
+    uint64_t low(size_t which) const { return lows[which]; }
+
+    size_t count() const { return lows.size(); }
+
+    // The words of the largest region.
+    const uint64_t most;
+
+  private:
+    // The least size of each class, from class 4 on.
+    std::vector<uint64_t> lows = {};
+};
+
+// Those of version 1 of a trace, or of version 2.
+inline const Classes& classes_of(uint64_t version) {
+    static const Classes four(4), five(5);
+    return version == 1 ? four : five;
 }
 
 // The words that a payload of so many bytes wants.
@@ -55,11 +66,11 @@ inline uint64_t want_of(uint64_t length) { return std::max<uint64_t>(4, 3 + (len
 
 class Heap {
   public:
-    Heap(uint64_t number, uint64_t words) : id(number) { blocks[0] = Block{words, false, 0}; }
+    Heap(uint64_t number, uint64_t words, const Classes& classes) : id(number), classes(&classes) { blocks[0] = Block{words, false, 0}; }
 
     std::variant<Name, Refusal> allocate(uint64_t length) {
         const uint64_t want = want_of(length);
-        const auto found = fit(search_class_of(want));
+        const auto found = fit(classes->search_of(want));
         if (found == blocks.end()) return NO_FIT;
         const auto [place, free] = *found;
         const bool split = free.size >= want + 4;
@@ -136,7 +147,7 @@ class Heap {
                 oldest = std::min(oldest, block.tick);
             }
         }
-        const uint64_t grant = free ? 8 * (lows()[class_of(largest)] - 3) : 0;
+        const uint64_t grant = free ? 8 * (classes->low(classes->class_of(largest)) - 3) : 0;
         const uint64_t fragmentation = free ? 1000 - 1000 * largest / free_words : 0;
         std::string line = "heap " + std::to_string(id);
         const auto add = [&](const char* word, uint64_t number) { line += word + std::to_string(number); };
@@ -150,16 +161,17 @@ class Heap {
     using Blocks = std::map<uint64_t, Block>;
 
     uint64_t id, tick = 1;
-    Blocks blocks;
+    const Classes* classes;
+    Blocks blocks = {};
 
     // Of the free blocks in a class at or above this one those of the least class, and of these the one that became free last.
     Blocks::iterator fit(size_t search) {
         auto best = blocks.end();
         for (auto at = blocks.begin(); at != blocks.end(); at++) {
             const Block& block = at->second;
-            const size_t its = class_of(block.size);
+            const size_t its = classes->class_of(block.size);
             if (block.live || its < search) continue;
-            const size_t least = best == blocks.end() ? its : class_of(best->second.size);
+            const size_t least = best == blocks.end() ? its : classes->class_of(best->second.size);
             if (best == blocks.end() || its < least || (its == least && block.tick > best->second.tick)) best = at;
         }
         return best;

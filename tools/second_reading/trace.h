@@ -24,7 +24,7 @@ struct Line {
 };
 
 struct Trace {
-    uint64_t workers = 0, words = 0, capacity = 0;
+    uint64_t version = 0, workers = 0, words = 0, capacity = 0;
     std::vector<Line> lines = {};
 };
 
@@ -66,13 +66,14 @@ inline std::optional<std::string> bytes_in(const std::string& digits) {
 
 inline std::optional<Trace> header_in(const std::string& line) {
     const Fields fields = split(line, ' ');
-    if (fields.size() != 5 || fields[0] != "tlsf" || fields[1] != "1") return {};
+    if (fields.size() != 5 || fields[0] != "tlsf" || (fields[1] != "1" && fields[1] != "2")) return {};
     if (!is_digits(fields[2]) || !is_digits(fields[3]) || !is_digits(fields[4])) return {};
     const auto workers = number_in(fields[2], 1, 8);
-    const auto words = number_in(fields[3], 4, 1048576);
+    const uint64_t version = fields[1] == "1" ? 1 : 2;
+    const auto words = number_in(fields[3], 4, version == 1 ? 1048576 : 16777216);
     const auto capacity = number_in(fields[4], 1, 1024);
     if (!workers || !words || !capacity) return {};
-    return Trace{*workers, *words, *capacity};
+    return Trace{version, *workers, *words, *capacity};
 }
 
 // The places of a line: w worker, L label, # at, l length, n count of a read, m most of a drain, h digits of bytes.

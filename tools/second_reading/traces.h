@@ -28,9 +28,10 @@ class TraceMaker {
 
     std::string make() {
         workers = chance.in(30) ? 1 : chance.in(50) ? 2 : chance.from(3, 8);
+        is_second = chance.in(30);
         words = some_words();
         const uint64_t capacity = chance.in(60) ? chance.from(1, 2) : chance.in(90) ? chance.from(3, 40) : chance.from(41, 1024);
-        text = "tlsf 1 " + number(workers) + " " + number(words) + " " + number(capacity) + "\n";
+        text = std::string("tlsf ") + (is_second ? "2 " : "1 ") + number(workers) + " " + number(words) + " " + number(capacity) + "\n";
         drains = chance.in(50);
         abroad = chance.in(30);
         const uint64_t lines = chance.in(93) ? chance.from(0, 40) : chance.in(98) ? chance.from(41, 300) : chance.from(301, 3000);
@@ -45,6 +46,8 @@ class TraceMaker {
     };
 
     Chance& chance;
+    // Whether it is of version 2, whose heaps are of level 5.
+    bool is_second = false;
     uint64_t workers = 1, words = 4;
     bool drains = true;
     // Whether blocks mostly go to other workers, so that lanes become full.
@@ -57,8 +60,8 @@ class TraceMaker {
     uint64_t some_words() {
         if (chance.in(80)) return chance.from(4, 160);
         if (chance.in(95)) return chance.from(161, 3000);
-        const uint64_t near = uint64_t{1} << chance.from(12, 20);
-        return near == 1 << 20 ? near - chance.from(0, 1) : near + chance.from(0, 2) - 1;
+        const uint64_t last = is_second ? 24 : 20, power = chance.from(12, last), near = uint64_t{1} << power;
+        return power == last ? near - chance.from(0, 1) : near + chance.from(0, 2) - 1;
     }
 
     // Bytes that a block may have: few, about as many as some block has, or far too many.
@@ -66,7 +69,8 @@ class TraceMaker {
         if (chance.in(60)) return chance.from(0, 40);
         if (chance.in(80)) return chance.from(0, 2 * words);
         if (chance.in(80)) return chance.from(8 * (words - 3) - 8, 8 * (words - 3) + 16);
-        return chance.in(50) ? chance.from(8388500, 8388700) : 4294967295 - chance.from(0, 40);
+        const uint64_t greatest = is_second ? 134217704 : 8388584;
+        return chance.in(50) ? greatest - 84 + chance.from(0, 200) : 4294967295 - chance.from(0, 40);
     }
 
     // Bytes that a block may get: about as many as it was made with, or any.
