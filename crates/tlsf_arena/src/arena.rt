@@ -410,6 +410,17 @@ impl<const SLI: u32, const UNIT: usize> Arena<SLI, UNIT> {
         self.units
     }
 
+    /// The tick of the arena's heap: that which the next accepted allocate, release or resize stamps, 1 to 2^64 - 1.
+    ///
+    /// ```text
+    /// arena.tick()                             // of a new arena: 1, and 2 behind an accepted allocate
+    /// ```
+    pub fn tick(&self) -> u64
+        ensures tick { result ≡ self.now.heap.tick }
+    {
+        self.heap.tick()
+    }
+
     /// What the arena's heap holds, and how well it serves, in units: a walk over all its blocks. It is never refused, and takes no memory.
     ///
     /// ```text

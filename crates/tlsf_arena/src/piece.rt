@@ -70,3 +70,6 @@ impl Piece {
         Piece { ptr, size }
     }
 }
+
+// It owns room, which is the same to every thread.
+unsafe impl Send for Piece {}

@@ -35,7 +35,7 @@ live_small k [] all = omega arith
 live_small k (Live m s xs ∷ bs) all = let e = live_small k bs all.1 in let f = all.0 refl in omega arith
 live_small k (Free m s ∷ bs) all = live_small k bs all.1
 
-small_carved : (k size n tick len : ℕ) → n + 3 ≤ k → AreSmall k (carved size n tick len)
+pub small_carved : (k size n tick len : ℕ) → n + 3 ≤ k → AreSmall k (carved size n tick len)
 small_carved k size n tick len h = elim (cases_lt size (n + 4)) [
   | inl small ↦ subst (AreSmall k) (sym (carved_small size n tick len small)) ((λ _. omega arith), tt)
   | inr large ↦ subst (AreSmall k) (sym (carved_large size n tick len large)) ((λ _. omega arith), ((λ f. absurd (false≢true (sym f))), tt))
@@ -45,7 +45,7 @@ small_with : (k : ℕ) (b : Block) (xs : List ℕ) → IsSmall k b → IsSmall k
 small_with k (Live m s ys) xs h = h
 small_with k (Free m s) xs h = h
 
-small_refitted : (k tick n len serial : ℕ) (b : Block) (bs : List Block) → n + 3 ≤ k → has_serial serial b ≡ true → AreSmall k bs → AreSmall k (refitted tick n len b bs)
+pub small_refitted : (k tick n len serial : ℕ) (b : Block) (bs : List Block) → n + 3 ≤ k → has_serial serial b ≡ true → AreSmall k bs → AreSmall k (refitted tick n len b bs)
 small_refitted k tick n len serial (Free m s) bs h e all = absurd (false≢true e)
 small_refitted k tick n len serial (Live m s xs) bs h e all =
     let past = past_all (IsSmall k) bs all in

@@ -1,0 +1,19 @@
+-- A piece owns room alone, which names no thread.
+use Rattle.std.specs.Prelude.{ℕ}
+use base.Shift.{Keyless}
+use denote.RawPtr.{Ptr, block_ptr, null_ptr}
+use denote.Struct.Struct.{exits_of}
+use denote.Struct.Owning.{shape, fields, to}
+use denote.Param.Send.{IsSend, AllSend, owning_send, struct_send, sendable}
+use Rattle.std_alloc.proofs.SendSync.{quiet}
+use Rattle.linked_list_allocator.specs.Ownership.{bytes_at}
+use Rattle.tlsf_arena.specs.contracts.piece.Piece.{the_row, the_type}
+
+room : (p : Ptr) (n : ℕ) → Keyless (bytes_at p n)
+room (block_ptr b o) n = tt
+room null_ptr n = tt
+
+pub send : IsSend the_row
+send =
+    let all : AllSend (fields the_type) = (search sendable, (search sendable, tt)) in
+    owning_send the_type all (λ d. room d.ptr d.size) (λ k. quiet (to the_type) (exits_of k (fields the_type)) ((struct_send (shape the_type) all).leaving k))
