@@ -1,27 +1,32 @@
 -- An arena keeps to its bounds through its calls.
-use Rattle.std.proofs.Common.{◌≡◌, ℕ, ◌+◌, ◌-◌, ◌*◌, ◌<◌, ◌≤◌, Bool, true, false, cond, List, [], ◌∷◌, ◌++◌, length, Result, Ok, refl, sym, ap, ◌∙◌, subst, inl, inr, arith}
+use Rattle.std.specs.Prelude.{IsSome}
+use Rattle.std.proofs.Common.{◌≡◌, ◌≢◌, ℕ, ◌+◌, ◌-◌, ◌*◌, ◌<◌, ◌≤◌, Bool, true, false, cond, List, [], ◌∷◌, ◌++◌, length, Option, Result, Ok, refl, sym, ap, ◌∙◌, subst, inl, inr, arith}
 use Rattle.std.proofs.lemmas.Bool.{false≢true, cases_lt}
 use Rattle.linked_list_allocator.specs.Region.{Region}
 use Rattle.tlsf_class.specs.Classes.{most_words}
 use Rattle.tlsf_heap.specs.Blocks.{Block, Live, Free, HeapState, size_of, want}
 use Rattle.tlsf_heap.specs.GoodFit.{Site, fits, is_fit}
 use Rattle.tlsf_heap.specs.Lawful.{IsLawful}
+use Rattle.tlsf_heap.specs.Laws.{IsLive}
 use Rattle.tlsf_heap.specs.Reports.{live_among}
-use Rattle.tlsf_heap.specs.Calls.{Outcome, Release, Released, carved, last_tick, refused, released}
+use Rattle.tlsf_heap.specs.Calls.{Outcome, Release, Released, carved, has_serial, last_tick, past_free, refitted, refused, released, resized_words}
 use Rattle.tlsf_heap.specs.declared.name.Name.{Name}
 use Rattle.tlsf_heap.specs.declared.refusal.Refusal.{Refusal}
 use Rattle.tlsf_heap.specs.declared.refusal.Refusal.TheVariants.{Stale}
 use Rattle.tlsf_heap.proofs.Edits.{carved_small, carved_large}
+use Rattle.tlsf_heap.proofs.Finding.{and_left}
 use Rattle.tlsf_heap.proofs.Lawfulness.{all_append}
-use Rattle.tlsf_heap.proofs.Outcomes.{IsSiteOf, by_allocated_words, gives_words, lawful_allocated_words}
+use Rattle.tlsf_heap.proofs.Living.{new_words}
+use Rattle.tlsf_heap.proofs.Outcomes.{IsSiteOf, by_allocated_words, by_resized_words, gives_words, lawful_allocated_words, lawful_resized_words, resizes}
 use Rattle.tlsf_heap.proofs.Served.{no_fit}
 use Rattle.tlsf_laws.specs.Held.{held_after}
 use Rattle.tlsf_laws.specs.Pools.{IsSmall}
 use Rattle.tlsf_laws.specs.Room.{live_count}
 use Rattle.tlsf_laws.proofs.Around.{around_site}
 use Rattle.tlsf_laws.proofs.Held.{held_is}
-use Rattle.tlsf_laws.proofs.ModestCalls.{AreSmall, InPool, has_room, kept}
-use Rattle.tlsf_arena.specs.Arenas.{released_block, requested}
+use Rattle.tlsf_laws.proofs.ModestCalls.{AreSmall, InPool, has_room, kept, small_carved, small_refitted}
+use Rattle.tlsf_laws.proofs.Refits.{by_refit}
+use Rattle.tlsf_arena.specs.Arenas.{Holds, if_held, released_block, requested, resized_block}
 use Rattle.tlsf_arena.specs.Places.{IsUnit, held_at, is_held, lacking, units_for}
 use Rattle.tlsf_arena.proofs.UnitCases.{by_unit}
 use Rattle.tlsf_pool_arena.specs.PoolArenas.{IsPoolArena, PoolArenaState, length_for}
@@ -77,11 +82,35 @@ count_given sli n len h s site fit =
       count_carved (size_of s.block) n h.tick len,
     )
 
-small_carved : (k size n tick len : ℕ) → n + 3 ≤ k → AreSmall k (carved size n tick len)
-small_carved k size n tick len h = elim (cases_lt size (n + 4)) [
-  | inl small ↦ subst (AreSmall k) (sym (carved_small size n tick len small)) ((λ _. omega arith), tt)
-  | inr large ↦ subst (AreSmall k) (sym (carved_large size n tick len large)) ((λ _. omega arith), ((λ f. absurd (false≢true (sym f))), tt))
-]
+-- ---- what a resize leaves
+
+count_past : (bs : List Block) → length (live_among (past_free bs)) ≡ length (live_among bs)
+count_past [] = refl
+count_past (Live m s xs ∷ bs) = refl
+count_past (Free m s ∷ bs) = refl
+
+count_refitted : (tick n len serial : ℕ) (b : Block) (bs : List Block) → has_serial serial b ≡ true → length (live_among (refitted tick n len b bs)) ≡ length (live_among (b ∷ bs))
+count_refitted tick n len serial (Free m s) bs e = absurd (false≢true e)
+count_refitted tick n len serial (Live m s xs) bs e =
+    let past = count_past bs in
+    by_refit (λ l. length (live_among l) ≡ length (live_among (Live m s xs ∷ bs))) tick n len m s xs bs (λ enough few. omega arith) (λ large. omega (arith, past)) (λ small. omega (arith, past))
+
+count_resized : (h : HeapState) (n len serial : ℕ) (s : Site) → IsSiteOf h.blocks s → has_serial serial s.block ≡ true → live_count (resizes h n len s).heap ≡ live_count h
+count_resized h n len serial s site e =
+    let new : List Block = refitted h.tick n len s.block s.after in
+    omega (
+      arith,
+      ap (λ (l : List Block). length (live_among l)) site,
+      count_append s.before (s.block ∷ s.after),
+      count_append s.before new,
+      count_refitted h.tick n len serial s.block s.after e,
+    )
+
+-- ---- what comes back under a name is looked at first
+
+by_held : (P : Outcome (Unit {0}) → Type 0) (held : Bool) (h : HeapState) (o : Outcome (Unit {0})) → P o → P (refused h Stale) → P (cond held o (refused h Stale))
+by_held P true h o done not = done
+by_held P false h o done not = not
 
 -- ---- a release that is done is the heap's
 
@@ -134,6 +163,12 @@ module _ (sli u : ℕ) where
         small = subst (λ (h : HeapState). AreSmall k h.blocks) (sym heap) now.2;
       }
 
+  -- the name that is given is no block's that is held
+  pub is_new : (p : PoolArenaState) (len : ℕ) (name other : Name) (units : ℕ) → IsPoolArena sli u p → (requested sli u p.heap len).answer ≡ Ok name → Holds p.heap other units → other ≢ name
+  is_new p len name other units is answer holds same =
+      new_words sli p.heap (units_for u len) (lacking (units_for u len)) name is.lawful answer
+      (subst (IsLive p.heap) same (holds.1, subst (λ (o : Option Site). IsSome o) (sym holds.2) refl))
+
   -- after a release that was done
   pub taken : (p : PoolArenaState) (name : Name) (n : ℕ) (left : HeapState) (region : Region) (touches : ℕ) → IsPoolArena sli u p → (released_block u p.heap name n).answer ≡ Ok tt → left ≡ (released_block u p.heap name n).heap
       → IsPoolArena sli u (record { heap = left; region = region; most = p.most; longest = p.longest; held = p.held - 1; touches = touches })
@@ -152,6 +187,36 @@ module _ (sli u : ℕ) where
         live = ap live_count heap ∙ counts ∙ ap (λ (n : ℕ). n - 1) is.live;
         few = omega (arith, is.few);
         small = subst (λ (h : HeapState). AreSmall (units_for u p.longest + 3) h.blocks) (sym heap) (subst (λ (k : ℕ). AreSmall (k + 3) (released p.heap name).heap.blocks) (wants_units u p.longest) after.small);
+      }
+
+  -- after a resize, done or refused
+  pub refit : (p : PoolArenaState) (name : Name) (n len : ℕ) (left : HeapState) (region : Region) (touches : ℕ) → IsPoolArena sli u p → len ≤ p.longest → left ≡ (resized_block u p.heap name n len).heap
+      → IsPoolArena sli u (record { heap = left; region = region; most = p.most; longest = p.longest; held = p.held; touches = touches })
+  refit p name n len left region touches is short left_is =
+      let units : ℕ = units_for u len in
+      let k : ℕ = units_for u p.longest + 3 in
+      let fits : units + 3 ≤ k = omega (arith, units_rise u len p.longest is.unit short) in
+      let Left : Outcome (Unit {0}) → Type 0 = λ o. (live_count o.heap ≡ live_count p.heap) × (o.heap.words ≡ p.heap.words) × IsLawful o.heap × AreSmall k o.heap.blocks in
+      let was : Left (refused p.heap Stale) = (refl, refl, is.lawful, is.small) in
+      let lawful = lawful_resized_words p.heap name units (lacking units) (lacks_few u len) is.lawful in
+      let now : Left (resized_words p.heap name units (lacking units)) = (
+        by_resized_words (λ o. live_count o.heap ≡ live_count p.heap) p.heap name units (lacking units) (λ why. refl) (λ s own site has room. count_resized p.heap units (lacking units) name.serial s site (and_left _ _ has)),
+        by_resized_words (λ o. o.heap.words ≡ p.heap.words) p.heap name units (lacking units) (λ why. refl) (λ s own site has room. refl),
+        lawful,
+        by_resized_words (λ o. AreSmall k o.heap.blocks) p.heap name units (lacking units) (λ why. is.small) (λ s own site has room.
+            let a = around_site (IsSmall k) p.heap s site is.small in
+            all_append (IsSmall k) s.before _ a.0 (small_refitted k p.heap.tick units (lacking units) name.serial s.block s.after fits (and_left _ _ has) a.2)),
+      ) in
+      let all = by_held Left (is_held u n (held_at p.heap.blocks name.at)) p.heap (resized_words p.heap name units (lacking units)) now was in
+      record {
+        level = is.level;
+        unit = is.unit;
+        lawful = subst IsLawful (sym left_is) all.2;
+        words = omega (arith, is.words, all.1, ap (λ (h : HeapState). h.words) left_is);
+        class = is.class;
+        live = ap live_count left_is ∙ all.0 ∙ is.live;
+        few = is.few;
+        small = subst (λ (h : HeapState). AreSmall k h.blocks) (sym left_is) all.3;
       }
 
   -- an arena that refuses within the bounds is at its last tick

@@ -1,12 +1,16 @@
 -- An arena of which a program holds at most so many blocks, of at most so many bytes each.
-use Rattle.std.specs.Prelude.{◌≡◌, ℕ, ◌+◌, ◌-◌, ◌*◌, ◌≤◌, Option}
+use Rattle.std.specs.Prelude.{◌≡◌, ℕ, ◌+◌, ◌-◌, ◌*◌, ◌≤◌, Option, if◌then◌else◌, nat_lt}
 use Rattle.std.specs.List.{AllByRecursion}
 use Rattle.linked_list_allocator.specs.Region.{Region}
 use Rattle.tlsf_class.specs.Classes.{IsLevel, most_words}
 use Rattle.tlsf_heap.specs.Blocks.{HeapState}
+use Rattle.tlsf_heap.specs.Calls.{Outcome, refused}
 use Rattle.tlsf_heap.specs.Lawful.{IsLawful}
+use Rattle.tlsf_heap.specs.declared.name.Name.{Name}
+use Rattle.tlsf_heap.specs.declared.refusal.Refusal.TheVariants.{NoRoom}
 use Rattle.tlsf_laws.specs.Pools.{IsSmall, pool_region, pool_words}
 use Rattle.tlsf_laws.specs.Room.{live_count}
+use Rattle.tlsf_arena.specs.Arenas.{resized_block}
 use Rattle.tlsf_arena.specs.Places.{IsUnit, units_for}
 
 -- what the arena shows: its heap, the region of its memory, how many blocks may be held at once and the bytes of the longest request, how
@@ -26,6 +30,10 @@ length_for u n = 8 * (units_for u n - 3)
 -- the units of such an arena, where some heap has so many words
 abbrev pub units_of_pool : ℕ → ℕ → ℕ → ℕ → Option ℕ
 units_of_pool sli u most longest = pool_region sli most (length_for u longest)
+
+-- what the arena answers where a block of n bytes is to have m: NoRoom above the longest request, else what an arena without bounds does
+abbrev pub resized_in_pool : ℕ → PoolArenaState → Name → ℕ → ℕ → Outcome (Unit {0})
+resized_in_pool u p name n m = if nat_lt p.longest m then refused p.heap NoRoom else resized_block u p.heap name n m
 
 -- the heap has a level, is lawful and has words enough; as many blocks are live as are held, no more than may be, and none has more units
 -- than the longest request gets and three more

@@ -1,16 +1,19 @@
-ghost use Rattle.std.specs.Prelude.{◌≡◌, ◌↔◌, ℕ, ◌+◌, ◌*◌, ◌<◌, ◌≤◌, [], None, Some, IfOk, IfErr, OnOk, OnErr, IsOk, IsErrOf, MatchResult, Ok, Err};
+ghost use Rattle.std.specs.Prelude.{◌≡◌, ◌≢◌, ◌↔◌, ℕ, ◌+◌, ◌*◌, ◌<◌, ◌≤◌, [], length, None, Some, IfOk, IfErr, OnOk, OnErr, IsOk, IsErrOf, MatchResult, Ok, Err};
 ghost use Rattle.std.specs.Option.{option_map_or};
 ghost use Rattle.tlsf_class.specs.Classes.{IsLevel};
 ghost use Rattle.tlsf_heap.specs.Calls.{last_tick, opened};
 ghost use Rattle.tlsf_heap.specs.GoodFit.{fits};
+ghost use Rattle.tlsf_heap.specs.Placed.{placed_at};
+ghost use Rattle.tlsf_heap.specs.Reports.{report_of};
+ghost use Rattle.tlsf_heap.specs.declared.name.Name.{Name};
 ghost use Rattle.tlsf_arena.specs.Arenas.{Holds, released_block, requested};
 ghost use Rattle.tlsf_arena.specs.Places.{IsUnit, piece_size, units_for};
-ghost use Rattle.tlsf_pool_arena.specs.PoolArenas.{IsPoolArena, SamePlan, SamePoolArena, units_of_pool};
+ghost use Rattle.tlsf_pool_arena.specs.PoolArenas.{IsPoolArena, SamePlan, SamePoolArena, resized_in_pool, units_of_pool};
 
 use std::alloc::Global;
 use std::marker::Model;
 use tlsf_arena::{Arena, Block};
-use tlsf_heap::{OpenFault, Refusal};
+use tlsf_heap::{OpenFault, PlacedBlock, Refusal, Report};
 use tlsf_pool::{PoolRefusal, pool_region};
 
 /// An arena that never refuses for want of room: it is opened by the most blocks that are held at once and the longest request. Its level
@@ -115,6 +118,8 @@ impl<const SLI: u32, const UNIT: usize> PoolArena<SLI, UNIT> {
         ensures heap { OnOk result (self.new.heap ≡ (requested SLI UNIT self.old.heap len).heap) }
         ensures block { IfOk result (λ b. (b.piece.region ≡ self.old.region) × (b.piece.size ≡ piece_size UNIT len)) }
         ensures holds { IfOk result (λ b. Holds self.new.heap b.name (units_for UNIT len)) }
+        ensures new { IfOk result (λ b. (other : Name) (units : ℕ) → Holds self.old.heap other units → other ≢ b.name) }
+        ensures others { (other : Name) (units : ℕ) → Holds self.old.heap other units → Holds self.new.heap other units }
         ensures held { OnOk result (self.new.held ≡ self.old.held + 1) }
         ensures err { OnErr result (SamePoolArena self.old self.new) }
         ensures plan { SamePlan self.old self.new }
@@ -157,6 +162,7 @@ impl<const SLI: u32, const UNIT: usize> PoolArena<SLI, UNIT> {
         // A refusal changes nothing and gives the block back, and a block that is held is refused at the last tick alone.
         ensures err { IfErr result (λ e. SamePoolArena self.old self.new × (e.1 ≡ block.entry)) }
         ensures worn { IfErr result (λ e. (units : ℕ) → block.entry.piece.size ≡ UNIT * units → Holds self.old.heap block.entry.name units → e.0 ≡ Refusal.Worn) }
+        ensures others { (other : Name) (units : ℕ) → other ≢ block.entry.name → Holds self.old.heap other units → Holds self.new.heap other units }
         ensures plan { SamePlan self.old self.new }
         ensures touches { self.new.touches ≤ self.old.touches + 64 }
         ensures touches_rise { self.old.touches ≤ self.new.touches }
@@ -168,6 +174,105 @@ impl<const SLI: u32, const UNIT: usize> PoolArena<SLI, UNIT> {
             }
             Err(refused) => Err(refused),
         }
+    }
+
+    /// Makes a block `len` bytes long or more where it stands, as [`Arena::resize`] does: its name and its address stay, and as many blocks are
+    /// held as before.
+    ///
+    /// Refused, with the block, as `NoRoom` where `len` is above the longest request, else as [`Arena::resize`] refuses it: a block that this
+    /// arena gave as `NoRoom` where it and the free units behind it are fewer than wanted, else as `Worn` where the tick is at its last value.
+    /// Takes no memory.
+    ///
+    /// What doesn't grow where it stands moves: allocate a second block, copy, and release the first. While fewer blocks are held than may be,
+    /// that [`allocate`](PoolArena::allocate) isn't refused for want of room.
+    ///
+    /// ```text
+    /// let mut arena = PoolArena::<4, 16>::open(alloc, 0, 2, 200)?;
+    /// let block = arena.allocate(100)?;        // 7 units
+    /// let block = arena.resize(block, 200)?;   // 13, at the same address
+    /// ```
+    pub fn resize(
+        &mut self,
+        block: Block<UNIT>,
+        len: u32,
+    ) -> Result<Block<UNIT>, (Refusal, Block<UNIT>)>
+        requires { block.piece.region ≡ self.old.region }
+        ensures answer { MatchResult result (λ _. (resized_in_pool UNIT self.old block.entry.name block.entry.piece.size len).answer ≡ Ok tt) (λ e. (resized_in_pool UNIT self.old block.entry.name block.entry.piece.size len).answer ≡ Err e.0) }
+        ensures heap { self.new.heap ≡ (resized_in_pool UNIT self.old block.entry.name block.entry.piece.size len).heap }
+
+        // What that comes to: the same block with as many units as hold `len` bytes, or the very block with nothing changed.
+        ensures block { IfOk result (λ b. (b.name ≡ block.entry.name) × (b.piece.region ≡ self.old.region) × (b.piece.at ≡ block.entry.piece.at) × (b.piece.size ≡ piece_size UNIT len)) }
+        ensures held { self.new.held ≡ self.old.held }
+        ensures err { IfErr result (λ e. SamePoolArena self.old self.new × (e.1 ≡ block.entry)) }
+        ensures named { IfErr result (λ e. (units : ℕ) → block.entry.piece.size ≡ UNIT * units → Holds self.old.heap block.entry.name units → (e.0 ≢ Refusal.Stale) × (e.0 ≢ Refusal.Foreign)) }
+        ensures others { (other : Name) (units : ℕ) → other ≢ block.entry.name → Holds self.old.heap other units → Holds self.new.heap other units }
+        ensures plan { SamePlan self.old self.new }
+        ensures touches { self.new.touches ≤ self.old.touches + 68 }
+        ensures touches_rise { self.old.touches ≤ self.new.touches }
+    {
+        if len > self.longest {
+            return Err((Refusal::NoRoom, block));
+        }
+        self.arena.resize(block, len)
+    }
+
+    /// What the arena's heap holds, and how well it serves, in units: a walk over all its blocks. It is never refused, and takes no memory.
+    ///
+    /// As many blocks are live as are held.
+    ///
+    /// ```text
+    /// let report = arena.report();             // of a new arena of 100 blocks of up to 512 bytes
+    /// (report.live_blocks, report.free_words) == (0, 6_566)
+    /// ```
+    pub fn report(&mut self) -> Report
+        ensures report { result ≡ report_of SLI self.old.heap }
+        ensures held { result.live_blocks ≡ self.old.held }
+        ensures same { SamePoolArena self.old self.new }
+        ensures touches { self.new.touches ≤ self.old.touches + 2 * length self.old.heap.blocks }
+        ensures touches_rise { self.old.touches ≤ self.new.touches }
+    {
+        self.arena.report()
+    }
+
+    /// How many units are free, all told: a walk over all blocks, as [`report`](PoolArena::report).
+    ///
+    /// ```text
+    /// arena.free_units()                       // of a new arena of 100 blocks of up to 512 bytes: 6,566
+    /// ```
+    pub fn free_units(&mut self) -> u32
+        ensures free { result ≡ (report_of SLI self.old.heap).free_words }
+        ensures same { SamePoolArena self.old self.new }
+        ensures touches { self.new.touches ≤ self.old.touches + 2 * length self.old.heap.blocks }
+        ensures touches_rise { self.old.touches ≤ self.new.touches }
+    {
+        self.report().free_words
+    }
+
+    /// The block that begins at a unit, None where none does. Its size is in units, those that good fit gave it beyond the wanted ones with
+    /// them. The next begins at its end, `at + size`, so that a walk from unit 0 meets all blocks. Takes no memory.
+    ///
+    /// ```text
+    /// let block = arena.allocate(100)?;        // of a new arena in units of 16 bytes
+    /// arena.block_at(block.name.at)            // Some(PlacedBlock { at: 0, size: 7, .. })
+    /// ```
+    pub fn block_at(&mut self, at: u32) -> Option<PlacedBlock>
+        ensures block { result ≡ placed_at self.old.heap.blocks at }
+        ensures same { SamePoolArena self.old self.new }
+        ensures touches { self.new.touches ≤ self.old.touches + 4 }
+        ensures touches_rise { self.old.touches ≤ self.new.touches }
+    {
+        self.arena.block_at(at)
+    }
+
+    /// The tick of the arena's heap: that which the next accepted allocate, release or resize stamps, 1 to 2^64 - 1.
+    ///
+    /// ```text
+    /// arena.tick()                             // of a new arena: 1, and 2 behind an accepted allocate
+    /// ```
+    pub fn tick(&self) -> u64
+        ensures tick { result ≡ self.now.heap.tick }
+    {
+        self.arena.tick()
     }
 
     /// How many blocks are held: the accepted allocates less the accepted releases.
