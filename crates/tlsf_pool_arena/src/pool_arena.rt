@@ -210,10 +210,10 @@ impl<const SLI: u32, const UNIT: usize> PoolArena<SLI, UNIT> {
         ensures touches { self.new.touches ≤ self.old.touches + 68 }
         ensures touches_rise { self.old.touches ≤ self.new.touches }
     {
-        if len > self.longest {
-            return Err((Refusal::NoRoom, block));
+        if self.longest >= len {
+            return self.arena.resize(block, len);
         }
-        self.arena.resize(block, len)
+        Err((Refusal::NoRoom, block))
     }
 
     /// What the arena's heap holds, and how well it serves, in units: a walk over all its blocks. It is never refused, and takes no memory.

@@ -1,0 +1,74 @@
+ghost use Rattle.std.specs.Prelude.{◌≡◌, ◌<◌, [], ◌∷◌, ◌++◌, length, Option, Some, None, IfSome, IfNone, slice_get, slice_set};
+ghost use Rattle.tlsf_returns.specs.declared.role.Role.TheVariants.{Owns};
+ghost use Rattle.tlsf_returns.specs.Steps.{out_by, looks_by};
+
+use crate::places::Places;
+use crate::rule::{Announce, Clear, Look, PlaceSeat, SendOut};
+use crate::ticket::Ticket;
+
+/// The owner's end of the places: it sends values out, and takes what came home. It may go into a thread of its own.
+#[derive(Drop)]
+pub struct OwnerEnd<T> {
+    // What is away by each place. It has no bytes.
+    pub(crate) seat: PlaceSeat<T>,
+    ghost rests: { seat.me ≡ (Owns (out_by seat.me.0) (looks_by seat.me.0), []) },
+    ghost sized: { (length (out_by seat.me.0) ≡ seat.table_id.words) × (length (out_by seat.me.0) ≡ seat.table_id.slots) },
+}
+
+impl<T> OwnerEnd<T> {
+    ghost use Rattle.tlsf_returns.specs.Ends.{IsOwnerOf, IsTicketFor, away_by, looks_of};
+
+    /// Sends a value out by a place by which none is away. It comes back at once, with the ticket that is to go with it. It takes no memory
+    /// and doesn't wait.
+    ///
+    /// - It requires that nothing is away by the place, which is one of those that were opened (`idle`).
+    /// - `own`: it stays the owner's end of its places, and has looked at none.
+    /// - `value`, `ticket`: the very value, and a ticket for it.
+    /// - `away`: it is away by the place, and by each other place what was before.
+    ///
+    /// ```text
+    /// let (value, ticket) = owner.send_out(&places, 0, value);
+    /// ```
+    pub fn send_out(&mut self, places: &Places<T>, at: usize, value: T) -> (T, Ticket<T>)
+        requires own { IsOwnerOf places.now self.old }
+        requires idle { slice_get (away_by self.old) at ≡ Some None }
+        ensures own { IsOwnerOf places.now self.new × (looks_of self.new ≡ looks_of self.old) }
+        ensures value { result.0 ≡ value }
+        ensures ticket { IsTicketFor places.now value result.1 }
+        ensures away { away_by self.new ≡ slice_set (away_by self.old) at (Some value) }
+    {
+        let shared = &places.table.shared;
+        let said = Some(value);
+        shared.compare_exchange_with::<Announce>(&mut self.seat, at, 0, 0, &said);
+        let seat = shared.split_seat::<SendOut>(&mut self.seat);
+        (said.unwrap(), Ticket { seat, at })
+    }
+
+    /// Takes the value that is away by a place, where it came home. It takes no memory and doesn't wait.
+    ///
+    /// - It requires a place of those that were opened (`place`).
+    /// - `own`: it stays the owner's end of its places.
+    /// - `some`: the value is the one that was away by the place, and none is from now on.
+    /// - `none`: it hadn't come home at one moment of the call, and nothing changes.
+    /// - `looks`: the place was looked at, once.
+    ///
+    /// ```text
+    /// let value = owner.take(&places, 0);      // None until the ticket's holder has put it
+    /// ```
+    pub fn take(&mut self, places: &Places<T>, at: usize) -> Option<T>
+        requires own { IsOwnerOf places.now self.old }
+        requires place { at < length (away_by self.old) }
+        ensures own { IsOwnerOf places.now self.new }
+        ensures some { IfSome result (λ x. (slice_get (away_by self.old) at ≡ Some (Some x)) × (away_by self.new ≡ slice_set (away_by self.old) at None)) }
+        ensures none { IfNone result (away_by self.new ≡ away_by self.old) }
+        ensures looks { looks_of self.new ≡ looks_of self.old ++ at ∷ [] }
+    {
+        let shared = &places.table.shared;
+        if shared.load::<Look>(&mut self.seat, at) != 1 {
+            return None;
+        }
+        let value = shared.exchange(&mut self.seat, at, None);
+        shared.store::<Clear>(&mut self.seat, at, 0);
+        value
+    }
+}

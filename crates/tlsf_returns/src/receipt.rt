@@ -1,0 +1,7 @@
+use crate::rule::PlaceSeat;
+
+/// What shows that a value was put back by its place. It has no bytes.
+#[derive(Drop)]
+pub struct Receipt<T> {
+    pub(crate) seat: PlaceSeat<T>,
+}
