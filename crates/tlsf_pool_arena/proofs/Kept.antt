@@ -26,7 +26,7 @@ use Rattle.tlsf_laws.proofs.Around.{around_site}
 use Rattle.tlsf_laws.proofs.Held.{held_is}
 use Rattle.tlsf_laws.proofs.ModestCalls.{AreSmall, InPool, has_room, kept, small_carved, small_refitted}
 use Rattle.tlsf_laws.proofs.Refits.{by_refit}
-use Rattle.tlsf_arena.specs.Arenas.{Holds, if_held, released_block, requested, resized_block}
+use Rattle.tlsf_arena.specs.Arenas.{Holds, released_block, requested, resized_block}
 use Rattle.tlsf_arena.specs.Places.{IsUnit, held_at, is_held, lacking, units_for}
 use Rattle.tlsf_arena.proofs.UnitCases.{by_unit}
 use Rattle.tlsf_pool_arena.specs.PoolArenas.{IsPoolArena, PoolArenaState, length_for}

@@ -1,11 +1,11 @@
 -- Each step keeps the rule of the places.
-use Rattle.std.proofs.Common.{◌≡◌, ◌≢◌, ℕ, zero, suc, ◌+◌, ◌<◌, true, false, eqb, List, [], ◌∷◌, ◌++◌, map, length, replicate, set, get_or, slice_get, Option, Some, None, refl, sym, ap, subst, ◌∙◌, ◌⊎◌, inl, inr, ⊎_elim, length-set, arith}
+use Rattle.std.proofs.Common.{◌≡◌, ◌≢◌, ℕ, zero, suc, ◌<◌, true, eqb, List, [], ◌∷◌, ◌++◌, map, length, replicate, set, get_or, slice_get, Option, Some, None, refl, sym, ap, subst, ◌∙◌, ◌⊎◌, inl, inr, ⊎_elim, length-set, arith}
 use Rattle.std.proofs.lemmas.Bool.{false≢true}
 use mathlib.Core.Option.{some, none, some-injective, some-ne-none}
 use mathlib.Core.Option as maybe
 use lib.ListN.{get_elem?}
 use prog.Atomic.{either}
-use Rattle.atomic_table.specs.Table.{State, Step, step, Allows, Splits, Act, Valid, keeps, takes, gives, opening, stepped, carried_after, rest}
+use Rattle.atomic_table.specs.Table.{State, step, Allows, Splits, Act, Valid, keeps, takes, gives, opening, stepped, carried_after, rest}
 use Rattle.atomic_table.proofs.Lists.{at_set, set_here, set_else, set_again, at_map, exchanged}
 use Rattle.tlsf_returns.specs.declared.role.Role.{Role}
 use Rattle.tlsf_returns.specs.declared.role.Role.TheVariants.{Owns, Sends, Takes, Away, Puts, Gave}

@@ -1,6 +1,6 @@
-use Rattle.std.proofs.Common.{◌≡◌, ℕ, ◌<◌, [], ◌∷◌, length, Some, None, refl, sym, ap, ◌∙◌, arith}
+use Rattle.std.proofs.Common.{◌≡◌, ◌∷◌, length, Some, sym, ap, ◌∙◌, arith}
 use Rattle.atomic_table.specs.Table.{rest}
-use Rattle.tlsf_returns.specs.Steps.{Seated, looks_by, out_by}
+use Rattle.tlsf_returns.specs.Steps.{Seated, out_by}
 use Rattle.tlsf_returns.proofs.Steps.{clears_at, emptied, looks_at}
 use Rattle.tlsf_returns.proofs.owner_end.OwnerEnd.take.Goals as goal
 
