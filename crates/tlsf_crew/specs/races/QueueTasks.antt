@@ -9,14 +9,14 @@ use Rattle.tlsf_heap.specs.declared.name.Name.{Name}
 use Rattle.tlsf_calls.specs.declared.entry.Entry.{Entry}
 use Rattle.tlsf_calls.specs.declared.call.Call.{Call}
 use Rattle.tlsf_crew.specs.jobs.Job.{KnowsSome}
-use Rattle.tlsf_crew.specs.scripts.Scripts.{last_call, script_of}
+use Rattle.tlsf_crew.specs.scripts.Scripts.{ScriptRun, at_stage, last_call, script_of}
 use Rattle.tlsf_calls.specs.Entries.{record_of}
 use Rattle.tlsf_crew.specs.declared.worker.worker.Worker.{Worker}
 use Rattle.tlsf_crew.specs.declared.queues.queues.Queues.{Queues}
 use Rattle.tlsf_crew.specs.worker.Workers.{heap_of, id_of}
 use Rattle.tlsf_crew.specs.queues.QueueWorkers.{queue_end_to, KnowsQueueYard}
 use Rattle.tlsf_crew.specs.model.QueueTold.{MayTellQueue}
-use Rattle.tlsf_crew.specs.scripts.QueueMoves.{QueueMoved, QueueScriptRun, told_of}
+use Rattle.tlsf_crew.specs.scripts.QueueMoves.{QueueMoved, queue_telling, told_of}
 use Rattle.tlsf_crew.specs.queues.QueueSettle.{EachQueueSettled}
 
 -- ---- one worker
@@ -29,7 +29,7 @@ KnowsSomeYard a = KnowsSome KnowsQueueYard a
 pub record QueueWorkerRan {sli : ℕ} (n : ℕ) (a : Worker sli Queues) (script : List Call) (made : List (Option Name)) (entries : List Entry) (v : Worker sli Queues) : Type 0 where
   pub limits : List ℕ
   pub left : List ℕ
-  pub run : QueueScriptRun n a limits script made entries v left
+  pub run : ScriptRun (queue_telling sli) n a limits script made (at_stage v left entries)
 
 -- there is room for one entry more
 abbrev pub HasPlace : Vec Entry Global → Type 0

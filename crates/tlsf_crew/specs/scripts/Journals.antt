@@ -30,10 +30,6 @@ pub record IsEntered (old : Journal) (at source from : ℕ) (took : Took) (new :
   pub entries : new.entries.items ≡ old.entries.items ++ record { worker = at; call = Take from; reply = Taken took } ∷ []
   pub capacity : vec_capacity new.entries ≡ vec_capacity old.entries
 
--- over lanes the entry names the lane
-abbrev pub EntersLane : Journal → ℕ → ℕ → Took → Journal → Type 0
-EntersLane old at from took new = IsEntered old at from from took new
-
--- over queues the entry of a take names who posted
-abbrev pub EntersSender : Journal → ℕ → ℕ → Took → Journal → Type 0
-EntersSender old at source took new = IsEntered old at source took.from took new
+-- the entry of the take of a source, of a post of this sender where the source is not one worker's
+abbrev pub EntersTake : Journal → ℕ → ℕ → Option ℕ → Took → Journal → Type 0
+EntersTake old at source sender took new = IsEntered old at source (named_by sender source) took new

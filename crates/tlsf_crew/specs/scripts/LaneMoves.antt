@@ -22,7 +22,8 @@ use Rattle.tlsf_crew.specs.worker.Workers.{heap_of, id_of}
 use Rattle.tlsf_crew.specs.lanes.LaneWorkers.{id_and_capacity, end_to, end_from, HasTake, KnowsYard}
 use Rattle.tlsf_crew.specs.lanes.LaneCalls.{KeepsYards}
 use Rattle.tlsf_crew.specs.model.Sums.{sum_below}
-use Rattle.tlsf_crew.specs.scripts.Counts.{releases_of}
+use Rattle.tlsf_crew.specs.scripts.Counts.{AreLaneLimits, releases_of}
+use Rattle.tlsf_crew.specs.scripts.Scripts.{Stage, Step, Telling, told_of}
 use Rattle.tlsf_crew.specs.histories.History.{posts_made, posts_taken, StandsBehind}
 use Rattle.tlsf_crew.specs.model.World.{World, made_by, called}
 use Rattle.tlsf_crew.specs.model.Told.{HasHeap, MayTell, Suits, told_by}
@@ -68,6 +69,10 @@ pub record LaneMoved {sli : ℕ} (at : ℕ) (made : List (Option Name)) (a : Wor
   pub few_posts : (j : ℕ) → length (posts_made at j made entries) ≤ releases_of calls
   pub few_entries : length entries ≤ length calls + sum_below 8 (λ i. length (posts_taken i at entries))
 
+-- what the calls of a script tell over lanes
+abbrev pub lane_telling : (sli : ℕ) → Telling sli Lanes
+lane_telling sli = record { limited = AreLaneLimits; knows = KnowsYard; tells = MayTell sli; moves = LaneMoved }
+
 -- ---- takes
 
 -- the take of a post, as the heap answers it
@@ -104,43 +109,43 @@ abbrev pub each_lane_own : ℕ → (ℕ → List Post) → OwnDrain → ℕ → 
 each_lane_own at posts d zero = d
 each_lane_own at posts d (suc from) = if from == at then each_lane_own at posts d from else lane_own at from (each_lane_own at posts d from) (posts from)
 
-abbrev pub own_drain : {sli : ℕ} → List Entry → Worker sli Lanes → ℕ → OwnDrain
-own_drain entries a taken = record { entries = entries; heap = heap_of a; taken = taken }
+abbrev pub own_drain : {sli : ℕ} → Stage sli Lanes → ℕ → OwnDrain
+own_drain s taken = record { entries = s.entries; heap = heap_of s.worker; taken = taken }
 
 -- takes from one lane, after any count of them from others
-pub record LaneTaken {sli : ℕ} (a : Worker sli Lanes) (limits : List ℕ) (from : ℕ) (entries : List Entry) (v : Worker sli Lanes) (left : List ℕ) (longer : List Entry) (count : ℕ) : Type 0 where
+pub record LaneTaken {sli : ℕ} (s : Stage sli Lanes) (from : ℕ) (t : Stage sli Lanes) (count : ℕ) : Type 0 where
   pub own : List Entry
-  pub entries_are : longer ≡ entries ++ own
+  pub entries_are : t.entries ≡ s.entries ++ own
   pub posts : List Post
-  pub told : (n : ℕ) → own_drain longer v (n + count) ≡ lane_own (id_of a) from (own_drain entries a n) posts
-  pub here : posts_taken from (id_of a) own ≡ posts
-  pub others : (k : ℕ) → k ≢ from → posts_taken k (id_of a) own ≡ []
+  pub told : (n : ℕ) → own_drain t (n + count) ≡ lane_own (id_of s.worker) from (own_drain s n) posts
+  pub here : posts_taken from (id_of s.worker) own ≡ posts
+  pub others : (k : ℕ) → k ≢ from → posts_taken k (id_of s.worker) own ≡ []
   pub count_is : count ≡ length posts
-  pub moved : (made : List (Option Name)) → LaneMoved (id_of a) made a limits [] own v left
+  pub moved : (made : List (Option Name)) → LaneMoved (id_of s.worker) made s.worker s.limits [] own t.worker t.limits
 
 -- a drain of one lane
-pub record LaneSpent {sli : ℕ} (a : Worker sli Lanes) (limits : List ℕ) (from most : ℕ) (entries : List Entry) (v : Worker sli Lanes) (left : List ℕ) (longer : List Entry) (count : ℕ) : Type 0 where
-  pub takes : LaneTaken a limits from entries v left longer count
+pub record LaneSpent {sli : ℕ} (s : Stage sli Lanes) (from most : ℕ) (t : Stage sli Lanes) (count : ℕ) : Type 0 where
+  pub takes : LaneTaken s from t count
   pub few : count ≤ most
-  pub spent : count < most → Spent a limits (id_of a) from takes.own
+  pub spent : count < most → Spent s.worker s.limits (id_of s.worker) from takes.own
 
 -- takes from the lanes from the workers below a number
-pub record EachLaneTaken {sli : ℕ} (a : Worker sli Lanes) (limits : List ℕ) (below : ℕ) (entries : List Entry) (v : Worker sli Lanes) (left : List ℕ) (longer : List Entry) (count : ℕ) : Type 0 where
+pub record EachLaneTaken {sli : ℕ} (s : Stage sli Lanes) (below : ℕ) (t : Stage sli Lanes) (count : ℕ) : Type 0 where
   pub own : List Entry
-  pub entries_are : longer ≡ entries ++ own
+  pub entries_are : t.entries ≡ s.entries ++ own
   pub posts : ℕ → List Post
-  pub told : own_drain longer v count ≡ each_lane_own (id_of a) posts (own_drain entries a 0) below
-  pub posts_are : (k : ℕ) → posts_taken k (id_of a) own ≡ posts k
-  pub only : (k : ℕ) → (k < below → ¬ (HasTake a k)) → posts k ≡ []
-  pub moved : (made : List (Option Name)) → LaneMoved (id_of a) made a limits [] own v left
+  pub told : own_drain t count ≡ each_lane_own (id_of s.worker) posts (own_drain s 0) below
+  pub posts_are : (k : ℕ) → posts_taken k (id_of s.worker) own ≡ posts k
+  pub only : (k : ℕ) → (k < below → ¬ (HasTake s.worker k)) → posts k ≡ []
+  pub moved : (made : List (Option Name)) → LaneMoved (id_of s.worker) made s.worker s.limits [] own t.worker t.limits
 
 -- a drain of those lanes
-pub record EachLaneSpent {sli : ℕ} (a : Worker sli Lanes) (limits : List ℕ) (below most : ℕ) (entries : List Entry) (v : Worker sli Lanes) (left : List ℕ) (longer : List Entry) (count : ℕ) : Type 0 where
-  pub takes : EachLaneTaken a limits below entries v left longer count
+pub record EachLaneSpent {sli : ℕ} (s : Stage sli Lanes) (below most : ℕ) (t : Stage sli Lanes) (count : ℕ) : Type 0 where
+  pub takes : EachLaneTaken s below t count
   pub few : count ≤ most
-  pub spent : count < most → (i : ℕ) → i < below → Spent a limits (id_of a) i takes.own
+  pub spent : count < most → (i : ℕ) → i < below → Spent s.worker s.limits (id_of s.worker) i takes.own
   -- a lane was left for the next only where it was spent
-  pub each : (k : ℕ) → k < below → k ≢ id_of a → (sum_below (suc k) (λ i. length (takes.posts i)) ≡ most) ⊎ Spent a limits (id_of a) k takes.own
+  pub each : (k : ℕ) → k < below → k ≢ id_of s.worker → (sum_below (suc k) (λ i. length (takes.posts i)) ≡ most) ⊎ Spent s.worker s.limits (id_of s.worker) k takes.own
 
 -- ---- any call
 
@@ -155,14 +160,11 @@ pub record SuitsCall {sli : ℕ} (w : World sli) (n at : ℕ) (made : List (Opti
   pub drain : (most : ℕ) → call ≡ Drain most → SuitsDrain w n at most own
 
 -- the call was answered so; the entries got longer by those of a drain, and have not its own yet
-pub record LaneStepped {sli : ℕ} (n : ℕ) (a : Worker sli Lanes) (limits : List ℕ) (call : Call) (made : List (Option Name)) (entries : List Entry) (v : Worker sli Lanes) (left : List ℕ) (longer : List Entry) (reply : Reply) : Type 0 where
-  pub own : List Entry
-  pub entries_are : longer ≡ entries ++ own
-  pub told : MayTell sli n (id_of a) (record { made = made; entries = entries; heap = heap_of a }) call
-      (record { made = made ++ made_by reply ∷ []; entries = longer ++ one (id_of a) call reply; heap = heap_of v })
-  pub exact : (w : World sli) → HasHeap w n (id_of a) (heap_of a) → SuitsCall w n (id_of a) made call reply own
-      → told_by (id_of a) (called (record { made = made; entries = entries; world = w }) (id_of a) call) ≡ record { made = made ++ made_by reply ∷ []; entries = longer ++ one (id_of a) call reply; heap = heap_of v }
-  pub single : ((most : ℕ) → call ≡ Drain most → ⊥) → own ≡ []
-  pub each : (most : ℕ) → call ≡ Drain most → (k : ℕ) → k < n → k ≢ id_of a
-      → (sum_below (suc k) (λ i. length (posts_taken i (id_of a) own)) ≡ most) ⊎ Spent a limits (id_of a) k own
-  pub moved : (rest : List (Option Name)) → LaneMoved (id_of a) (made ++ rest) a limits (call ∷ []) (own ++ one (id_of a) call reply) v left
+pub record LaneStepped {sli : ℕ} (n : ℕ) (s : Stage sli Lanes) (call : Call) (made : List (Option Name)) (t : Stage sli Lanes) (reply : Reply) : Type 0 where
+  pub step : Step (lane_telling sli) n s call made t reply
+  pub exact : (w : World sli) → HasHeap w n (id_of s.worker) (heap_of s.worker) → SuitsCall w n (id_of s.worker) made call reply step.own
+      → told_by (id_of s.worker) (called (record { made = made; entries = s.entries; world = w }) (id_of s.worker) call)
+      ≡ told_of (made ++ made_by reply ∷ []) (t.entries ++ one (id_of s.worker) call reply) (heap_of t.worker)
+  pub single : ((most : ℕ) → call ≡ Drain most → ⊥) → step.own ≡ []
+  pub each : (most : ℕ) → call ≡ Drain most → (k : ℕ) → k < n → k ≢ id_of s.worker
+      → (sum_below (suc k) (λ i. length (posts_taken i (id_of s.worker) step.own)) ≡ most) ⊎ Spent s.worker s.limits (id_of s.worker) k step.own

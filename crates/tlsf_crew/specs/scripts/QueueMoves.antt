@@ -14,10 +14,10 @@ use Rattle.tlsf_calls.specs.declared.reply.Reply.TheVariants.{Drained, Refused}
 use Rattle.tlsf_crew.specs.model.Sums.{sum_of}
 use Rattle.tlsf_crew.specs.histories.History.{posts_made, posts_taken, StandsBehind}
 pub use Rattle.tlsf_crew.specs.scripts.Scripts.{told_of, entry_by}
-use Rattle.tlsf_crew.specs.scripts.Scripts.{Step, ScriptRun}
+use Rattle.tlsf_crew.specs.scripts.Scripts.{Stage, Step, Telling}
 use Rattle.tlsf_crew.specs.declared.worker.worker.Worker.{Worker}
 use Rattle.tlsf_crew.specs.declared.queues.queues.Queues.{Queues}
-use Rattle.tlsf_crew.specs.queues.QueueWorkers.{queue_end_to, KeepsQueueYards}
+use Rattle.tlsf_crew.specs.queues.QueueWorkers.{queue_end_to, KeepsQueueYards, KnowsQueueYard}
 use Rattle.tlsf_crew.specs.model.QueueTold.{MayTellQueue}
 
 -- so many posts may be taken: as many as a queue may hold, and one for each release of any script
@@ -39,10 +39,10 @@ pub record QueueMoved {sli : ℕ} (at : ℕ) (made : List (Option Name)) (a : Wo
       → length (gone_from p) + (plan_of p).capacity ≤ length (put_by p) + length (posts_made at name.heap made before)
   pub room : length entries + sum_of left ≤ length calls + sum_of limits
 
--- the call was answered so; the entries got longer by those of a drain's takes, and have not its own yet
-abbrev pub QueueStepped : {sli : ℕ} → ℕ → Worker sli Queues → List ℕ → Call → List (Option Name) → List Entry → Worker sli Queues → List ℕ → List Entry → Reply → Type 0
-QueueStepped {sli} n a limits call made entries v left longer reply = Step (MayTellQueue sli n) QueueMoved a limits call made entries v left longer reply
+-- what the calls of a script tell over queues
+abbrev pub queue_telling : (sli : ℕ) → Telling sli Queues
+queue_telling sli = record { limited = λ queues releases limits. IsQueueLimit releases limits; knows = KnowsQueueYard; tells = MayTellQueue sli; moves = QueueMoved }
 
--- a worker has made these calls of its script
-abbrev pub QueueScriptRun : {sli : ℕ} → ℕ → Worker sli Queues → List ℕ → List Call → List (Option Name) → List Entry → Worker sli Queues → List ℕ → Type 0
-QueueScriptRun {sli} n a limits calls made entries v left = ScriptRun (MayTellQueue sli n) QueueMoved a limits calls made entries v left
+-- the call was answered so; the entries got longer by those of a drain's takes, and have not its own yet
+abbrev pub QueueStepped : {sli : ℕ} → ℕ → Stage sli Queues → Call → List (Option Name) → Stage sli Queues → Reply → Type 0
+QueueStepped {sli} n s call made t reply = Step (queue_telling sli) n s call made t reply

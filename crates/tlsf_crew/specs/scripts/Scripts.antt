@@ -14,6 +14,7 @@ use Rattle.tlsf_calls.specs.declared.reply.Reply.{Reply}
 use Rattle.tlsf_calls.specs.declared.reply.Reply.TheVariants.{Freed, Posted, Refused, Took as Taken, Empty}
 use Rattle.tlsf_calls.specs.declared.took.Took.{Took}
 use Rattle.tlsf_crew.specs.declared.worker.worker.Worker.{Worker}
+use Rattle.tlsf_crew.specs.declared.scripts.journal.Journal.{Journal}
 use Rattle.tlsf_crew.specs.worker.Calls.{ReleasedHere, ReleasedThere, TakenFrom}
 use Rattle.tlsf_crew.specs.model.Sums.{sum_of}
 use Rattle.tlsf_crew.specs.histories.History.{IsNoPost}
@@ -38,6 +39,19 @@ told_of made entries h = record { made = made; entries = entries; heap = h }
 
 abbrev pub entry_by : ℕ → Call → Reply → Entry
 entry_by at call reply = record { worker = at; call = call; reply = reply }
+
+-- where the calls of a worker have come: the worker, how many posts it may still take of each source, and the entries so far
+pub record Stage (sli : ℕ) (P : Type 0) : Type 0 where
+  pub worker : Worker sli P
+  pub limits : List ℕ
+  pub entries : List Entry
+
+abbrev pub at_stage : {sli : ℕ} {P : Type 0} → Worker sli P → List ℕ → List Entry → Stage sli P
+at_stage a limits entries = record { worker = a; limits = limits; entries = entries }
+
+-- that of a worker with its journal
+abbrev pub stage_of : {sli : ℕ} {P : Type 0} → Worker sli P → Journal → Stage sli P
+stage_of a journal = at_stage a journal.limits journal.entries.items
 
 -- ---- one call
 
@@ -75,36 +89,52 @@ abbrev pub TakenWithin : {sli : ℕ} {P : Type 0} → (P → P → ℕ → Optio
 TakenWithin takes a limits source v left None = (left ≡ limits) × ((¬ ((source < 8) × (0 < slice_index limits source)) × (v ≡ a)) ⊎ TakenFrom takes a v source None)
 TakenWithin takes a limits source v left (Some took) = (source < 8) × OneFewer limits source left × TakenFrom takes a v source (Some took)
 
--- ---- what calls tell of a worker, by what its ports let each be told, and by what calls leave where entries tell of them
+-- ---- what calls tell of a worker
+
+-- what the calls of a script may tell over ports of some kind, and what they leave
+pub record Telling (sli : ℕ) (P : Type 0) : Type 1 where
+  -- they may take so many posts of each source, where so many releases stand in each script
+  pub limited : P → List ℕ → List ℕ → Type 0
+  -- the worker is one of so many
+  pub knows : ℕ → Worker sli P → Type 0
+  -- a worker, one of so many and of that number, may be told one call more so
+  pub tells : ℕ → ℕ → Told → Call → Told → Type 0
+  -- the worker of that number, whose calls made these names, has become the other by these calls, as the entries tell. It might take so
+  -- many posts of each source, and may take what is left
+  pub moves : ℕ → List (Option Name) → Worker sli P → List ℕ → List Call → List Entry → Worker sli P → List ℕ → Type 0
+
+-- what was told at a stage
+abbrev pub told_at : {sli : ℕ} {P : Type 0} → List (Option Name) → Stage sli P → Told
+told_at made s = told_of made s.entries (heap_of s.worker)
 
 -- the call was answered so; the entries got longer by those of a drain's takes, and have not its own yet
-pub record Step {sli : ℕ} {P : Type 0} (tells : ℕ → Told → Call → Told → Type 0) (moves : ℕ → List (Option Name) → Worker sli P → List ℕ → List Call → List Entry → Worker sli P → List ℕ → Type 0) (a : Worker sli P) (limits : List ℕ) (call : Call) (made : List (Option Name)) (entries : List Entry) (v : Worker sli P) (left : List ℕ) (longer : List Entry) (reply : Reply) : Type 0 where
+pub record Step {sli : ℕ} {P : Type 0} (by : Telling sli P) (n : ℕ) (s : Stage sli P) (call : Call) (made : List (Option Name)) (t : Stage sli P) (reply : Reply) : Type 0 where
   pub own : List Entry
-  pub entries_are : longer ≡ entries ++ own
-  pub told : tells (id_of a) (told_of made entries (heap_of a)) call (told_of (made ++ made_by reply ∷ []) (longer ++ entry_by (id_of a) call reply ∷ []) (heap_of v))
-  pub moved : (rest : List (Option Name)) → moves (id_of a) (made ++ rest) a limits (call ∷ []) (own ++ entry_by (id_of a) call reply ∷ []) v left
+  pub entries_are : t.entries ≡ s.entries ++ own
+  pub told : by.tells n (id_of s.worker) (told_at made s) call (told_of (made ++ made_by reply ∷ []) (t.entries ++ entry_by (id_of s.worker) call reply ∷ []) (heap_of t.worker))
+  pub moved : (rest : List (Option Name)) → by.moves (id_of s.worker) (made ++ rest) s.worker s.limits (call ∷ []) (own ++ entry_by (id_of s.worker) call reply ∷ []) t.worker t.limits
 
 -- the call was made, and told in full
-pub record CallMade {sli : ℕ} {P : Type 0} (tells : ℕ → Told → Call → Told → Type 0) (moves : ℕ → List (Option Name) → Worker sli P → List ℕ → List Call → List Entry → Worker sli P → List ℕ → Type 0) (a : Worker sli P) (limits : List ℕ) (call : Call) (made : List (Option Name)) (entries : List Entry) (v : Worker sli P) (left : List ℕ) (more : List (Option Name)) (longer : List Entry) : Type 0 where
+pub record CallMade {sli : ℕ} {P : Type 0} (by : Telling sli P) (n : ℕ) (s : Stage sli P) (call : Call) (made : List (Option Name)) (t : Stage sli P) (more : List (Option Name)) : Type 0 where
   pub name : Option Name
   pub made_are : more ≡ made ++ name ∷ []
   pub own : List Entry
-  pub entries_are : longer ≡ entries ++ own
-  pub told : tells (id_of a) (told_of made entries (heap_of a)) call (told_of more longer (heap_of v))
-  pub moved : (rest : List (Option Name)) → moves (id_of a) (made ++ rest) a limits (call ∷ []) own v left
+  pub entries_are : t.entries ≡ s.entries ++ own
+  pub told : by.tells n (id_of s.worker) (told_at made s) call (told_at more t)
+  pub moved : (rest : List (Option Name)) → by.moves (id_of s.worker) (made ++ rest) s.worker s.limits (call ∷ []) own t.worker t.limits
 
 -- a worker has made these calls of its script
-pub record ScriptRun {sli : ℕ} {P : Type 0} (tells : ℕ → Told → Call → Told → Type 0) (moves : ℕ → List (Option Name) → Worker sli P → List ℕ → List Call → List Entry → Worker sli P → List ℕ → Type 0) (a : Worker sli P) (limits : List ℕ) (calls : List Call) (made : List (Option Name)) (entries : List Entry) (v : Worker sli P) (left : List ℕ) : Type 0 where
-  pub told : AllTold (tells (id_of a)) (untold (heap_of a)) calls (told_of made entries (heap_of v))
+pub record ScriptRun {sli : ℕ} {P : Type 0} (by : Telling sli P) (n : ℕ) (a : Worker sli P) (limits : List ℕ) (calls : List Call) (made : List (Option Name)) (t : Stage sli P) : Type 0 where
+  pub told : AllTold (by.tells n (id_of a)) (untold (heap_of a)) calls (told_at made t)
   pub names : length made ≡ length calls
-  pub moved : (rest : List (Option Name)) → moves (id_of a) (made ++ rest) a limits calls entries v left
+  pub moved : (rest : List (Option Name)) → by.moves (id_of a) (made ++ rest) a limits calls t.entries t.worker t.limits
 
 -- moves join: none, and some behind others. They keep the worker's number and place, and leave room for what may still be taken
-pub record AreMoves {sli : ℕ} {P : Type 0} (knows : ℕ → Worker sli P → Type 0) (moves : ℕ → List (Option Name) → Worker sli P → List ℕ → List Call → List Entry → Worker sli P → List ℕ → Type 0) : Type 0 where
-  pub none : (made : List (Option Name)) (a : Worker sli P) (limits : List ℕ) → moves (id_of a) made a limits [] [] a limits
-  pub then : (at : ℕ) (made : List (Option Name)) (a b v : Worker sli P) (limits mid left : List ℕ) (calls ds : List Call) (xs ys : List Entry) → moves at made a limits calls xs b mid → moves at made b mid ds ys v left
-      → moves at made a limits (calls ++ ds) (xs ++ ys) v left
-  pub number : (at : ℕ) (made : List (Option Name)) (a v : Worker sli P) (limits left : List ℕ) (calls : List Call) (entries : List Entry) → moves at made a limits calls entries v left → id_of v ≡ id_of a
-  pub known : (at : ℕ) (made : List (Option Name)) (a v : Worker sli P) (limits left : List ℕ) (calls : List Call) (entries : List Entry) → moves at made a limits calls entries v left → (n : ℕ) → knows n a → knows n v
-  pub room : (at : ℕ) (made : List (Option Name)) (a v : Worker sli P) (limits left : List ℕ) (calls : List Call) (entries : List Entry) → moves at made a limits calls entries v left
+pub record AreMoves {sli : ℕ} {P : Type 0} (by : Telling sli P) : Type 0 where
+  pub none : (made : List (Option Name)) (a : Worker sli P) (limits : List ℕ) → by.moves (id_of a) made a limits [] [] a limits
+  pub then : (at : ℕ) (made : List (Option Name)) (a b v : Worker sli P) (limits mid left : List ℕ) (calls ds : List Call) (xs ys : List Entry) → by.moves at made a limits calls xs b mid → by.moves at made b mid ds ys v left
+      → by.moves at made a limits (calls ++ ds) (xs ++ ys) v left
+  pub number : (at : ℕ) (made : List (Option Name)) (a v : Worker sli P) (limits left : List ℕ) (calls : List Call) (entries : List Entry) → by.moves at made a limits calls entries v left → id_of v ≡ id_of a
+  pub known : (at : ℕ) (made : List (Option Name)) (a v : Worker sli P) (limits left : List ℕ) (calls : List Call) (entries : List Entry) → by.moves at made a limits calls entries v left → (n : ℕ) → by.knows n a → by.knows n v
+  pub room : (at : ℕ) (made : List (Option Name)) (a v : Worker sli P) (limits left : List ℕ) (calls : List Call) (entries : List Entry) → by.moves at made a limits calls entries v left
       → length entries + sum_of left ≤ length calls + sum_of limits

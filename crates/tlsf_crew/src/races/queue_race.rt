@@ -11,6 +11,7 @@ ghost use Rattle.tlsf_calls.specs.declared.call.Call.TheVariants.{Drain};
 ghost use Rattle.tlsf_crew.specs.races.LaneTasks.{KeepRooms};
 ghost use Rattle.tlsf_crew.specs.races.Rooms.{HaveQueueRecordRooms};
 ghost use Rattle.tlsf_crew.specs.races.QueueTasks.{QueueLastDrained, Finished, HasPlace, EachQueueWorkerRan, KnowsSomeYard, EachQueueLastDrained};
+ghost use Rattle.tlsf_crew.specs.scripts.Scripts.{stage_of};
 
 use crate::jobs::fan_out::{run_all, take_apart};
 use crate::jobs::gate::Gate;
@@ -176,7 +177,7 @@ fn drain_into_queue_journal<const SLI: u32, R: Wait>(
 ) -> u32
     requires room { HasTakePlaces journal.old }
     ensures stepped { (n : ℕ) (made : List (Option Name)) → KnowsQueueYard n worker.old
-        → QueueStepped n worker.old journal.old.limits (Drain most) made journal.old.entries.items worker.new journal.new.limits journal.new.entries.items (Reply.Drained result) }
+        → QueueStepped n (stage_of worker.old journal.old) (Drain most) made (stage_of worker.new journal.new) (Reply.Drained result) }
     ensures few { result ≤ sum_of journal.old.limits }
     ensures ends { (n : ℕ) → KnowsQueueYard n worker.old → queue_end_to worker.new ≡ queue_end_to worker.old }
     ensures capacity { vec_capacity journal.new.entries ≡ vec_capacity journal.old.entries }

@@ -6,7 +6,7 @@ ghost use Rattle.tlsf_calls.specs.declared.entry.Entry.{Entry};
 ghost use Rattle.tlsf_crew.specs.model.World.{made_by};
 ghost use Rattle.tlsf_crew.specs.model.Sums.{sum_of};
 ghost use Rattle.tlsf_crew.specs.scripts.Journals.{HasTakePlaces};
-ghost use Rattle.tlsf_crew.specs.scripts.Scripts.{CallMade, reply_released};
+ghost use Rattle.tlsf_crew.specs.scripts.Scripts.{CallMade, at_stage, stage_of, reply_released};
 
 use crate::scripts::journal::Journal;
 use crate::scripts::own_replies::{
@@ -68,7 +68,7 @@ fn reply_to_release<const SLI: u32, C, P: Scripted<C>>(
     target: Target,
     made: &[Option<Name>],
 ) -> Reply
-    ensures { (n : ℕ) (limits : List ℕ) (entries : List Entry) → P.knows SLI n worker.old → P.steps SLI n worker.old limits (Release target) made.now entries worker.new limits entries result }
+    ensures { (n : ℕ) (limits : List ℕ) (entries : List Entry) → (P.telling SLI).knows n worker.old → P.steps SLI n (at_stage worker.old limits entries) (Release target) made.now (at_stage worker.new limits entries) result }
 {
     P::heap_keeps();
     P::quiet_step();
@@ -98,8 +98,8 @@ fn reply_to_take<const SLI: u32, C, P: Scripted<C>>(
     journal: &mut Journal,
     from: u32,
 ) -> Reply
-    ensures stepped { (n : ℕ) (made : List (Option Name)) → P.knows SLI n worker.old
-        → P.steps SLI n worker.old journal.old.limits (Take from) made journal.old.entries.items worker.new journal.new.limits journal.old.entries.items result }
+    ensures stepped { (n : ℕ) (made : List (Option Name)) → (P.telling SLI).knows n worker.old
+        → P.steps SLI n (stage_of worker.old journal.old) (Take from) made (at_stage worker.new journal.new.limits journal.old.entries.items) result }
     ensures entries { journal.new.entries ≡ journal.old.entries }
 {
     P::takes_step();
@@ -127,8 +127,8 @@ pub(crate) fn reply_to<const SLI: u32, C, P: Scripted<C>>(
     made: &[Option<Name>],
 ) -> Reply
     requires room { HasTakePlaces journal.old }
-    ensures stepped { (n : ℕ) → P.knows SLI n worker.old
-        → P.steps SLI n worker.old journal.old.limits call made.now journal.old.entries.items worker.new journal.new.limits journal.new.entries.items result }
+    ensures stepped { (n : ℕ) → (P.telling SLI).knows n worker.old
+        → P.steps SLI n (stage_of worker.old journal.old) call made.now (stage_of worker.new journal.new) result }
     ensures capacity { vec_capacity journal.new.entries ≡ vec_capacity journal.old.entries }
 {
     P::heap_keeps();
@@ -153,11 +153,11 @@ pub(crate) fn run_call<const SLI: u32, C, P: Scripted<C>>(
     call: Call,
     made: &mut Vec<Option<Name>>,
 )
-    requires knows { (n : ℕ) × P.knows SLI n worker.old }
+    requires knows { (n : ℕ) × (P.telling SLI).knows n worker.old }
     requires names { vec_len made.old < vec_capacity made.old }
     requires room { vec_len journal.old.entries + sum_of journal.old.limits < vec_capacity journal.old.entries }
-    ensures called { (n : ℕ) → P.knows SLI n worker.old
-        → CallMade (P.tells SLI n) (P.moves SLI) worker.old journal.old.limits call made.old.items journal.old.entries.items worker.new journal.new.limits made.new.items journal.new.entries.items }
+    ensures called { (n : ℕ) → (P.telling SLI).knows n worker.old
+        → CallMade (P.telling SLI) n (stage_of worker.old journal.old) call made.old.items (stage_of worker.new journal.new) made.new.items }
     ensures capacity { (vec_capacity made.new ≡ vec_capacity made.old) × (vec_capacity journal.new.entries ≡ vec_capacity journal.old.entries) }
 {
     P::moves_join();

@@ -1,6 +1,6 @@
 //! The record of a worker, while it is written.
 ghost use Rattle.std.specs.Prelude.{◌≡◌, ◌<◌, [], vec_capacity, IfOk};
-ghost use Rattle.tlsf_crew.specs.scripts.Journals.{IsAdmitted, HasTakePlaces, IsEntered, named_by};
+ghost use Rattle.tlsf_crew.specs.scripts.Journals.{IsAdmitted, HasTakePlaces, EntersTake};
 
 use crate::worker::notes::Notes;
 use std::alloc::Global;
@@ -36,7 +36,7 @@ impl Notes for Journal {
 
     ghost most = { λ journal. vec_capacity journal.entries };
 
-    ghost noted = { λ old at source sender took new. IsEntered old at source (named_by sender source) took new };
+    ghost noted = { EntersTake };
 
     fn admits(&self, source: usize) -> bool {
         match self.limits.get(source) {

@@ -1,24 +1,15 @@
 //! What the calls of a script tell over lanes.
 ghost use Rattle.std.specs.Prelude.{◌+◌};
-ghost use Rattle.tlsf_crew.specs.lanes.LaneWorkers.{KnowsYard};
-ghost use Rattle.tlsf_crew.specs.scripts.LaneMoves.{LaneMoved, LaneStepped};
-ghost use Rattle.tlsf_crew.specs.scripts.Counts.{AreLaneLimits};
-ghost use Rattle.tlsf_crew.specs.model.Told.{MayTell};
+ghost use Rattle.tlsf_crew.specs.scripts.LaneMoves.{LaneStepped, lane_telling};
 
 use crate::scripts::room::count_from;
 use crate::scripts::scripted::Scripted;
 use crate::worker::lanes::Lanes;
 
 impl<C> Scripted<C> for Lanes {
-    ghost knows = { λ sli n a. KnowsYard n a };
+    ghost telling = { lane_telling };
 
-    ghost tells = { MayTell };
-
-    ghost moves = { λ sli at made a limits calls entries v left. LaneMoved at made a limits calls entries v left };
-
-    ghost steps = { λ sli n a limits call made entries v left longer reply. LaneStepped n a limits call made entries v left longer reply };
-
-    ghost limited = { AreLaneLimits };
+    ghost steps = { λ sli n s call made t reply. LaneStepped n s call made t reply };
 
     /// Those that are ready in a lane, and one for each release of its poster's script.
     fn limits(&self, releases: &[u32; 8]) -> [u64; 8] {

@@ -122,7 +122,7 @@ pub(crate) fn drain_source<const SLI: u32, C, P: Exchange<C>, N: Notes>(
 ) -> Drained
     requires source { P.hears worker.old.ports source }
     requires room { N.has_room notes.old }
-    ensures drained { (tooks : List Took) × SourceNoted P.takes P.stops (λ old at source took new. N.noted old at source (P.sent_by took.from) took new) N.admitted worker.old worker.new notes.old notes.new source most tooks × IsCountOf result tooks }
+    ensures drained { (tooks : List Took) × SourceNoted (record { hears = P.hears; takes = P.takes; stops = P.stops; sent_by = P.sent_by; admitted = N.admitted; noted = N.noted }) worker.old worker.new notes.old notes.new source most tooks × IsCountOf result tooks }
     ensures most { result.taken ≤ most }
     ensures freed { result.freed ≤ result.taken }
     ensures room { N.has_room notes.new }
@@ -156,7 +156,7 @@ pub(crate) fn drain_each<const SLI: u32, C, P: Exchange<C>, N: Notes>(
     notes: &mut N,
 ) -> Drained
     requires room { N.has_room notes.old }
-    ensures drained { AllNoted P.hears P.takes P.stops (λ old at source took new. N.noted old at source (P.sent_by took.from) took new) N.admitted worker.old worker.new notes.old notes.new (P.sources worker.old.ports) most result }
+    ensures drained { AllNoted (record { hears = P.hears; takes = P.takes; stops = P.stops; sent_by = P.sent_by; admitted = N.admitted; noted = N.noted }) worker.old worker.new notes.old notes.new (P.sources worker.old.ports) most result }
     ensures most { result.taken ≤ most }
     ensures freed { result.freed ≤ result.taken }
     ensures kept { N.most notes.new ≡ N.most notes.old }

@@ -41,13 +41,8 @@ unfolding draining
 drain_knows r at most = more_knows r.made (None ∷ [])
 
 pub called_knows : {sli : ℕ} (r : Replayed sli) (at : ℕ) (call : Call) → Knows (called r at call).made r.made
-called_knows r at (Allocate len) = more_knows r.made _
-called_knows r at (Release target) = more_knows r.made _
-called_knows r at (Write target from bytes) = more_knows r.made _
-called_knows r at (Read target from n) = more_knows r.made _
-called_knows r at (Resize target len) = more_knows r.made _
-called_knows r at (Take from) = more_knows r.made _
 called_knows r at (Drain most) = drain_knows r at most
+called_knows r at call = more_knows r.made _
 
 after_knows : {sli : ℕ} (r : Replayed sli) (e : Event) → Knows (after r e).made r.made
 after_knows r e =
@@ -82,22 +77,12 @@ called_told made r at (Take from) at_in known =
 called_told made r at (Drain most) at_in known = drain_told made r at most at_in
 
 no_post : (made : List (Option Name)) (j at : ℕ) (call : Call) → post_of_release j made at call (Refused Stranger) ≡ None
-no_post made j at (Allocate len) = refl
 no_post made j at (Release target) = refl
-no_post made j at (Write target from bytes) = refl
-no_post made j at (Read target from n) = refl
-no_post made j at (Resize target len) = refl
-no_post made j at (Take from) = refl
-no_post made j at (Drain most) = refl
+no_post made j at call = refl
 
 no_take : (i : ℕ) (call : Call) → post_of_take i call (Refused Stranger) ≡ None
-no_take i (Allocate len) = refl
-no_take i (Release target) = refl
-no_take i (Write target from bytes) = refl
-no_take i (Read target from n) = refl
-no_take i (Resize target len) = refl
 no_take i (Take from) = refl
-no_take i (Drain most) = refl
+no_take i call = refl
 
 -- a call of no worker concerns no heap and no lane
 far_told : {sli : ℕ} (made : List (Option Name)) (w : World sli) (at : ℕ) (call : Call) → length w.heaps ≤ at → IsHistory made w (record { worker = at; call = call; reply = Refused Stranger } ∷ []) w

@@ -6,9 +6,9 @@ use Rattle.std.proofs.lemmas.Bool.Decides.{nat_tests}
 use Rattle.tlsf_post.specs.declared.post.Post.{Post}
 use Rattle.tlsf_calls.specs.declared.entry.Entry.{Entry}
 use Rattle.tlsf_calls.specs.declared.call.Call.{Call}
-use Rattle.tlsf_calls.specs.declared.call.Call.TheVariants.{Allocate, Release, Write, Read, Resize, Take, Drain}
+use Rattle.tlsf_calls.specs.declared.call.Call.TheVariants.{Take, Drain}
 use Rattle.tlsf_calls.specs.declared.reply.Reply.{Reply}
-use Rattle.tlsf_calls.specs.declared.reply.Reply.TheVariants.{Made, Freed, Posted, Wrote, Got, Resized, Took as Taken, Empty, Drained, Refused}
+use Rattle.tlsf_calls.specs.declared.reply.Reply.TheVariants.{Took as Taken}
 use Rattle.tlsf_crew.specs.histories.History.{post_of_take, posts_taken}
 use Rattle.tlsf_crew.specs.model.World.{World, Draining, Replayed, took, took_more, taking, drained_lane, drained_below, after_drain, draining, called}
 use Rattle.tlsf_crew.specs.model.Told.{Told, MayTell, MayTellAll}
@@ -16,16 +16,8 @@ use Rattle.tlsf_crew.proofs.lemmas.model.OneEvent.{from_other, from_own, taking_
 use Rattle.tlsf_crew.proofs.lemmas.histories.JoinedEntries.{told_nothing, taken_then}
 
 other_take : (i from : ℕ) (reply : Reply) → from ≢ i → post_of_take i (Take from) reply ≡ None
-other_take i from (Made name) ne = refl
-other_take i from Freed ne = refl
-other_take i from Posted ne = refl
-other_take i from (Wrote n) ne = refl
-other_take i from (Got bytes) ne = refl
-other_take i from Resized ne = refl
 other_take i from (Taken t) ne = let b : (from == i) ≡ false = grind (arith, nat_tests) in rw b refl
-other_take i from Empty ne = refl
-other_take i from (Drained n) ne = refl
-other_take i from (Refused why) ne = refl
+other_take i from reply ne = refl
 
 -- one entry more that took nothing from i
 none_more : (i at : ℕ) (es : List Entry) (e : Entry) → posts_taken i at es ≡ [] → post_of_take i e.call e.reply ≡ None → posts_taken i at (es ++ e ∷ []) ≡ []
@@ -74,13 +66,9 @@ take_none i at from w far =
     ]
 
 call_none : {sli : ℕ} (i at : ℕ) (r : Replayed sli) (call : Call) → (i ≢ at → length r.world.heaps ≤ i) → posts_taken i at r.entries ≡ [] → posts_taken i at (called r at call).entries ≡ []
-call_none i at r (Allocate len) far none = none_more i at r.entries _ none refl
-call_none i at r (Release target) far none = none_more i at r.entries _ none refl
-call_none i at r (Write target from bytes) far none = none_more i at r.entries _ none refl
-call_none i at r (Read target from n) far none = none_more i at r.entries _ none refl
-call_none i at r (Resize target len) far none = none_more i at r.entries _ none refl
 call_none i at r (Take from) far none = none_more i at r.entries _ none (take_none i at from r.world far)
 call_none i at r (Drain most) far none = drain_none i at most r far none
+call_none i at r call far none = none_more i at r.entries _ none refl
 
 none_after_one : (sli : ℕ) (n i at : ℕ) (s t : Told) (call : Call) → (i ≢ at → n ≤ i) → MayTell sli n at s call t → posts_taken i at s.entries ≡ [] → posts_taken i at t.entries ≡ []
 none_after_one sli n i at s t call far may none =

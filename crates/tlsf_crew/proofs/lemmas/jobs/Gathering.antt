@@ -13,10 +13,9 @@ use Rattle.tlsf_calls.specs.declared.call.Call.{Call}
 use Rattle.tlsf_crew.specs.declared.jobs.job.Job.{Job}
 use Rattle.tlsf_crew.specs.declared.jobs.done.Done.{Done}
 use Rattle.tlsf_crew.specs.scripts.Counts.{releases_of}
-use Rattle.tlsf_crew.specs.scripts.Scripts.{script_of}
+use Rattle.tlsf_crew.specs.scripts.Scripts.{Telling, script_of}
 use Rattle.tlsf_calls.specs.Entries.{record_of}
 use Rattle.tlsf_crew.specs.jobs.Job.{IsDone}
-use Rattle.tlsf_crew.specs.model.Told.{Told}
 use Rattle.tlsf_crew.specs.jobs.Parts.{AllDone, IsPrepared, JobRan, EachJobRan}
 use Rattle.tlsf_crew.proofs.lemmas.worker.Slots.{some_same}
 
@@ -66,18 +65,18 @@ made_at : {sli : ℕ} {P : Type 0} (ds : List (Done sli P)) (k : ℕ) (d : Done 
 made_at {sli} {P} ds k d e = get_or_from_slice_get (map (λ (x : Done sli P). x.made.items) ds) k d.made.items [] (map_at (λ (x : Done sli P). x.made.items) ds k d e)
 
 -- what leads from this worker to one of the others
-abbrev RanTo : {sli : ℕ} {P : Type 0} (limited : P → List ℕ → List ℕ → Type 0) (knows : ℕ → Worker sli P → Type 0) (tells : ℕ → ℕ → Told → Call → Told → Type 0) (moves : ℕ → List (Option Name) → Worker sli P → List ℕ → List Call → List Entry → Worker sli P → List ℕ → Type 0) → List ℕ → List (Job sli P) → List (Done sli P) → ℕ → Worker sli P → Type 0
-RanTo {sli} {P} limited knows tells moves releases js ds k a =
+abbrev RanTo : {sli : ℕ} {P : Type 0} (by : Telling sli P) → List ℕ → List (Job sli P) → List (Done sli P) → ℕ → Worker sli P → Type 0
+RanTo {sli} {P} by releases js ds k a =
     (v : Worker sli P) × (r : Vec Entry Global) × (slice_get (map (λ d. d.worker) ds) k ≡ Some v) × (slice_get (map (λ d. d.entries) ds) k ≡ Some r)
-    × JobRan limited knows tells moves releases a (script_of (scripts_in js) k) (names_made_by ds k) r v
+    × JobRan by releases a (script_of (scripts_in js) k) (names_made_by ds k) r v
 
-job_ran : {sli : ℕ} {P : Type 0} (limited : P → List ℕ → List ℕ → Type 0) (knows : ℕ → Worker sli P → Type 0) (tells : ℕ → ℕ → Told → Call → Told → Type 0) (moves : ℕ → List (Option Name) → Worker sli P → List ℕ → List Call → List Entry → Worker sli P → List ℕ → Type 0) (releases : List ℕ) (js : List (Job sli P)) (ds : List (Done sli P)) → AllDone (IsDone knows tells moves) js ds → All (IsPrepared limited knows releases) js → (k : ℕ) (j : Job sli P) → slice_get js k ≡ Some j
-    → RanTo limited knows tells moves releases js ds k j.worker
-job_ran {sli} {P} limited knows tells moves releases js ds done all k j e =
-    let r = done_at (IsDone knows tells moves) js ds done k j e in
+job_ran : {sli : ℕ} {P : Type 0} (by : Telling sli P) (releases : List ℕ) (js : List (Job sli P)) (ds : List (Done sli P)) → AllDone (IsDone by) js ds → All (IsPrepared by releases) js → (k : ℕ) (j : Job sli P) → slice_get js k ≡ Some j
+    → RanTo by releases js ds k j.worker
+job_ran {sli} {P} by releases js ds done all k j e =
+    let r = done_at (IsDone by) js ds done k j e in
     let d = r.0 in
     let is = r.2 in
-    let p = subst (IsPrepared limited knows releases) (get_or_from_slice_get js k j j e) (all k j (slice_get_within js k j e)) in
+    let p = subst (IsPrepared by releases) (get_or_from_slice_get js k j j e) (all k j (slice_get_within js k j e)) in
     let script = script_at js k j e in
     let len = ap length script in
     let l = j.script.ok in
@@ -90,29 +89,29 @@ job_ran {sli} {P} limited knows tells moves releases js ds done all k j e =
       record { limits = j.limits; left = is.left; limits_are = p.limits; run = rw (script, made_at ds k d r.1) is.ran; room = omega arith },
     )
 
-done_ran : {sli : ℕ} {P : Type 0} (limited : P → List ℕ → List ℕ → Type 0) (knows : ℕ → Worker sli P → Type 0) (tells : ℕ → ℕ → Told → Call → Told → Type 0) (moves : ℕ → List (Option Name) → Worker sli P → List ℕ → List Call → List Entry → Worker sli P → List ℕ → Type 0) (releases : List ℕ) (js : List (Job sli P)) (ds : List (Done sli P)) → AllDone (IsDone knows tells moves) js ds → All (IsPrepared limited knows releases) js
-    → (k : ℕ) (a : Worker sli P) → slice_get (map (λ j. j.worker) js) k ≡ Some a → RanTo limited knows tells moves releases js ds k a
-done_ran {sli} {P} limited knows tells moves releases js ds done all k a e =
+done_ran : {sli : ℕ} {P : Type 0} (by : Telling sli P) (releases : List ℕ) (js : List (Job sli P)) (ds : List (Done sli P)) → AllDone (IsDone by) js ds → All (IsPrepared by releases) js
+    → (k : ℕ) (a : Worker sli P) → slice_get (map (λ j. j.worker) js) k ≡ Some a → RanTo by releases js ds k a
+done_ran {sli} {P} by releases js ds done all k a e =
     let f = from_map (λ (x : Job sli P). x.worker) js k a e in
-    subst (RanTo limited knows tells moves releases js ds k) f.2 (job_ran limited knows tells moves releases js ds done all k f.0 f.1)
+    subst (RanTo by releases js ds k) f.2 (job_ran by releases js ds done all k f.0 f.1)
 
 -- ---- all together
 
-pub gathered : {sli : ℕ} {P : Type 0} (limited : P → List ℕ → List ℕ → Type 0) (knows : ℕ → Worker sli P → Type 0) (tells : ℕ → ℕ → Told → Call → Told → Type 0) (moves : ℕ → List (Option Name) → Worker sli P → List ℕ → List Call → List Entry → Worker sli P → List ℕ → Type 0) (releases : List ℕ) (js : List (Job sli P)) (ds : List (Done sli P)) (ws : List (Worker sli P)) (scripts : List (Vec Call Global)) (records : List (Vec Entry Global)) (vs : List (Worker sli P))
+pub gathered : {sli : ℕ} {P : Type 0} (by : Telling sli P) (releases : List ℕ) (js : List (Job sli P)) (ds : List (Done sli P)) (ws : List (Worker sli P)) (scripts : List (Vec Call Global)) (records : List (Vec Entry Global)) (vs : List (Worker sli P))
     → map (λ j. j.worker) js ≡ ws → map (λ j. j.script) js ≡ scripts → vs ≡ map (λ d. d.worker) ds → records ≡ map (λ d. d.entries) ds
-    → ((i : ℕ) → i < 8 → slice_index releases i ≡ releases_of (script_of (map (λ s. s.items) scripts) i)) → All (IsPrepared limited knows releases) js → AllDone (IsDone knows tells moves) js ds
-    → EachJobRan limited knows tells moves ws (map (λ s. s.items) scripts) records vs
-gathered {sli} {P} limited knows tells moves releases js ds ws scripts records vs a b c d counts all done =
-    let n = done_count (IsDone knows tells moves) js ds done in
+    → ((i : ℕ) → i < 8 → slice_index releases i ≡ releases_of (script_of (map (λ s. s.items) scripts) i)) → All (IsPrepared by releases) js → AllDone (IsDone by) js ds
+    → EachJobRan by ws (map (λ s. s.items) scripts) records vs
+gathered {sli} {P} by releases js ds ws scripts records vs a b c d counts all done =
+    let n = done_count (IsDone by) js ds done in
     let count : length (map (λ (e : Done sli P). e.worker) ds) ≡ length (map (λ (j : Job sli P). j.worker) js) = length-map ds (λ e. e.worker) ∙ (n ∙ sym (length-map js (λ j. j.worker))) in
     let told : length (map (λ (e : Done sli P). e.entries) ds) ≡ length (map (λ (j : Job sli P). j.worker) js) = length-map ds (λ e. e.entries) ∙ (n ∙ sym (length-map js (λ j. j.worker))) in
-    let run : EachJobRan limited knows tells moves (map (λ (j : Job sli P). j.worker) js) (scripts_in js) (map (λ (e : Done sli P). e.entries) ds) (map (λ (e : Done sli P). e.worker) ds) = record {
+    let run : EachJobRan by (map (λ (j : Job sli P). j.worker) js) (scripts_in js) (map (λ (e : Done sli P). e.entries) ds) (map (λ (e : Done sli P). e.worker) ds) = record {
       releases = releases;
       counts = rw b counts;
       made = names_made_by ds;
       worker_count = count;
       record_count = told;
-      ran = done_ran limited knows tells moves releases js ds done all;
+      ran = done_ran by releases js ds done all;
     } in
     rw (sym a, sym b, c, d) run
 

@@ -9,14 +9,14 @@ use Rattle.tlsf_calls.specs.declared.drained.Drained.{Drained}
 use Rattle.tlsf_calls.specs.declared.took.Took.{Took}
 use Rattle.tlsf_crew.specs.declared.worker.worker.Worker.{Worker}
 use Rattle.tlsf_crew.specs.declared.worker.lanes.Lanes.{Lanes}
-use Rattle.tlsf_crew.specs.lanes.LaneWorkers.{HearsLane, end_from, lane_to, TookThrough, lane_places}
+use Rattle.tlsf_crew.specs.lanes.LaneWorkers.{end_from, lane_to, TookThrough, lane_places}
 use Rattle.tlsf_crew.specs.worker.Workers.{heap_of, id_of}
 use Rattle.tlsf_crew.specs.worker.Calls.{AfterTake, TakesInTurn}
 use Rattle.tlsf_crew.specs.lanes.LaneCalls.{TakenFromLane, KeepsYards, PutsIntoLane}
 use Rattle.tlsf_crew.specs.lanes.LaneTurns.{LaneDrained, TurnDrained, EachLaneDrained, DrainedAll}
 use Rattle.tlsf_crew.specs.worker.Drains.{heap_after}
-use Rattle.tlsf_crew.specs.lanes.LaneNotes.{LaneNoted, EachLaneNoted, AllLanesNoted, StopsAtLane}
-use Rattle.tlsf_crew.specs.worker.Notes.{TurnNoted}
+use Rattle.tlsf_crew.specs.lanes.LaneNotes.{lane_rules}
+use Rattle.tlsf_crew.specs.worker.Notes.{SourceNoted, TurnNoted, EachNoted, AllNoted}
 use Rattle.tlsf_crew.proofs.lemmas.worker.PortsKept.{Keeping}
 use Rattle.tlsf_crew.proofs.lemmas.worker.Slots.{end_or}
 use Rattle.tlsf_crew.proofs.lemmas.worker.SourceTurns.{none_heap, takes_heap, takes_of, turns_keep}
@@ -38,29 +38,29 @@ heap_more h a v xs ys x y =
 
 -- ---- a drain whose notes admit every post
 
-lane_of : {sli : ℕ} {N : Type 0} (noted : N → ℕ → ℕ → Took → N → Type 0) (admitted : N → ℕ → Type 0) (a v : Worker sli Lanes) (x y : N) (from most : ℕ) (tooks : List Took) → ((z : N) (k : ℕ) → admitted z k)
-    → LaneNoted noted admitted a v x y from most tooks → LaneDrained a v from most tooks
-lane_of noted admitted a v x y from most tooks all l = record {
+lane_of : {sli : ℕ} {N : Type 0} (admitted : N → ℕ → Type 0) (noted : N → ℕ → ℕ → Option ℕ → Took → N → Type 0) (a v : Worker sli Lanes) (x y : N) (from most : ℕ) (tooks : List Took) → ((z : N) (k : ℕ) → admitted z k)
+    → SourceNoted (lane_rules admitted noted) a v x y from most tooks → LaneDrained a v from most tooks
+lane_of admitted noted a v x y from most tooks all l = record {
   last = l.last;
-  takes = takes_of TookThrough noted a l.last x y from tooks l.turns;
+  takes = takes_of (lane_rules admitted noted) a l.last x y from tooks l.turns;
   end = elim l.end [
     | inl done ↦ inl done
     | inr early ↦ elim early.1 [ inl stopped ↦ absurd (stopped.0 (all y from)) | inr empty ↦ inr (early.0, empty) ]
   ];
 }
 
-turn_of : {sli : ℕ} {N : Type 0} (noted : N → ℕ → ℕ → Took → N → Type 0) (admitted : N → ℕ → Type 0) (a v : Worker sli Lanes) (x y : N) (from most : ℕ) (tooks : List Took) → ((z : N) (k : ℕ) → admitted z k)
-    → TurnNoted HearsLane TookThrough StopsAtLane noted admitted a v x y from most tooks → TurnDrained a v from most tooks
-turn_of noted admitted a v x y from most tooks all t = record {
-  lane = λ has. lane_of noted admitted a v x y from most tooks all (t.here has);
+turn_of : {sli : ℕ} {N : Type 0} (admitted : N → ℕ → Type 0) (noted : N → ℕ → ℕ → Option ℕ → Took → N → Type 0) (a v : Worker sli Lanes) (x y : N) (from most : ℕ) (tooks : List Took) → ((z : N) (k : ℕ) → admitted z k)
+    → TurnNoted (lane_rules admitted noted) a v x y from most tooks → TurnDrained a v from most tooks
+turn_of admitted noted a v x y from most tooks all t = record {
+  lane = λ has. lane_of admitted noted a v x y from most tooks all (t.here has);
   nowhere = λ none. let n = t.nowhere none in (n.0, n.1);
 }
 
-turns_below : {sli : ℕ} {N : Type 0} (noted : N → ℕ → ℕ → Took → N → Type 0) (admitted : N → ℕ → Type 0) (a v : Worker sli Lanes) (x y : N) (most k : ℕ) (tooks : List Took) → ((z : N) (i : ℕ) → admitted z i)
-    → EachLaneNoted noted admitted a v x y most k tooks → EachLaneDrained a v most k tooks
-turns_below noted admitted a v x y most zero tooks all l = (l.0, l.1)
-turns_below noted admitted a v x y most (suc k) tooks all l =
-    (l.0, l.2, l.3, l.4, turns_below noted admitted a l.0 x l.1 most k l.2 all l.5, turn_of noted admitted l.0 v l.1 y k (most - length l.2) l.3 all l.6)
+turns_below : {sli : ℕ} {N : Type 0} (admitted : N → ℕ → Type 0) (noted : N → ℕ → ℕ → Option ℕ → Took → N → Type 0) (a v : Worker sli Lanes) (x y : N) (most k : ℕ) (tooks : List Took) → ((z : N) (i : ℕ) → admitted z i)
+    → EachNoted (lane_rules admitted noted) a v x y most k tooks → EachLaneDrained a v most k tooks
+turns_below admitted noted a v x y most zero tooks all l = (l.0, l.1)
+turns_below admitted noted a v x y most (suc k) tooks all l =
+    (l.0, l.2, l.3, l.4, turns_below admitted noted a l.0 x l.1 most k l.2 all l.5, turn_of admitted noted l.0 v l.1 y k (most - length l.2) l.3 all l.6)
 
 turn_heap : {sli : ℕ} (a v : Worker sli Lanes) (from most : ℕ) (tooks : List Took) → TurnDrained a v from most tooks → heap_of v ≡ heap_after (heap_of a) tooks
 turn_heap a v from most tooks t = elim (end_or (end_from a from)) [
@@ -100,10 +100,10 @@ lanes_keep : {sli : ℕ} (a v : Worker sli Lanes) (most k : ℕ) (tooks : List T
 lanes_keep a v most zero tooks l = subst (KeepsYards a) (sym l.1) (same_keeps a)
 lanes_keep a v most (suc k) tooks l = keeps_then a l.0 v (lanes_keep a l.0 most k l.1 l.4) (turn_keeps l.0 v k (most - length l.1) l.2 l.5)
 
-pub all_drained : {sli : ℕ} {N : Type 0} (noted : N → ℕ → ℕ → Took → N → Type 0) (admitted : N → ℕ → Type 0) (a v : Worker sli Lanes) (x y : N) (most : ℕ) (answer : Drained) → ((z : N) (i : ℕ) → admitted z i)
-    → AllLanesNoted noted admitted a v x y most answer → DrainedAll a v most answer × KeepsYards a v
-all_drained noted admitted a v x y most answer all d =
-    let lanes = turns_below noted admitted a v x y most (lane_places a) d.tooks all d.each in (
+pub all_drained : {sli : ℕ} {N : Type 0} (admitted : N → ℕ → Type 0) (noted : N → ℕ → ℕ → Option ℕ → Took → N → Type 0) (a v : Worker sli Lanes) (x y : N) (most : ℕ) (answer : Drained) → ((z : N) (i : ℕ) → admitted z i)
+    → AllNoted (lane_rules admitted noted) a v x y (lane_places a) most answer → DrainedAll a v most answer × KeepsYards a v
+all_drained admitted noted a v x y most answer all d =
+    let lanes = turns_below admitted noted a v x y most (lane_places a) d.tooks all d.each in (
       record { tooks = d.tooks; lanes = lanes; heap = heap_below a v most (lane_places a) d.tooks lanes; count = d.count },
       lanes_keep a v most (lane_places a) d.tooks lanes,
     )

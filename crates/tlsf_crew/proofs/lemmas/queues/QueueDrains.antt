@@ -10,10 +10,10 @@ use Rattle.tlsf_crew.specs.declared.worker.worker.Worker.{Worker}
 use Rattle.tlsf_crew.specs.declared.queues.queues.Queues.{Queues}
 use Rattle.tlsf_crew.specs.worker.Workers.{heap_of, SameButPorts}
 use Rattle.tlsf_crew.specs.worker.Calls.{AfterTake, TakenFrom}
-use Rattle.tlsf_crew.specs.worker.Notes.{SourceEnds}
+use Rattle.tlsf_crew.specs.worker.Notes.{SourceEnds, SourceNoted}
 use Rattle.tlsf_crew.specs.queues.QueueWorkers.{queue_to, KeepsQueueYards, PutsIntoQueue, AsksQueue}
 use Rattle.tlsf_crew.specs.queues.QueueCalls.{TakenFromQueue, DrainedQueue}
-use Rattle.tlsf_crew.specs.queues.QueueNotes.{QueueNoted, StopsAtQueue}
+use Rattle.tlsf_crew.specs.queues.QueueNotes.{queue_rules, StopsAtQueue}
 use Rattle.tlsf_crew.proofs.lemmas.worker.OwnHeaps.{call_keeps}
 use Rattle.tlsf_crew.proofs.lemmas.worker.PortsKept.{Keeping}
 use Rattle.tlsf_crew.proofs.lemmas.worker.Slots.{end_or}
@@ -34,20 +34,20 @@ pub seen_empty : {sli : ℕ} (a v : Worker sli Queues) → SameButPorts a v → 
 seen_empty a v same stops = record { between = v; post = None; took = (same, stops); then = (refl, refl) }
 
 -- a drain ends where `most` posts were taken, or with a take that shows no post
-pub queue_ends : {sli : ℕ} {N : Type 0} (admitted : N → ℕ → Type 0) (last v : Worker sli Queues) (y : N) (most count : ℕ)
-    → SourceEnds AsksQueue StopsAtQueue admitted last v y 0 most count → ((count ≡ most) × (v ≡ last)) ⊎ ((count < most) × TakenFromQueue last v None)
-queue_ends admitted last v y most count (inl e) = inl e
-queue_ends admitted last v y most count (inr e) = inr (e.0, elim e.1 [ inl stopped ↦ seen_empty last v stopped.1 stopped.2 | inr none ↦ none ])
+pub queue_ends : {sli : ℕ} {N : Type 0} (admitted : N → ℕ → Type 0) (noted : N → ℕ → ℕ → Option ℕ → Took → N → Type 0) (last v : Worker sli Queues) (y : N) (most count : ℕ)
+    → SourceEnds (queue_rules admitted noted) last v y 0 most count → ((count ≡ most) × (v ≡ last)) ⊎ ((count < most) × TakenFromQueue last v None)
+queue_ends admitted noted last v y most count (inl e) = inl e
+queue_ends admitted noted last v y most count (inr e) = inr (e.0, elim e.1 [ inl stopped ↦ seen_empty last v stopped.1 stopped.2 | inr none ↦ none ])
 
 -- ---- a drain
 
-pub all_queue_drained : {sli : ℕ} {N : Type 0} (noted : N → ℕ → ℕ → Took → N → Type 0) (admitted : N → ℕ → Type 0) (a v : Worker sli Queues) (x y : N) (most : ℕ) (tooks : List Took) (d : Drained)
-    → QueueNoted noted admitted a v x y most tooks → IsCountOf d tooks → DrainedQueue a v most d × KeepsQueueYards a v
-all_queue_drained {sli} noted admitted a v x y most tooks d n count =
-    let takes = takes_of AsksQueue noted a n.last x y 0 tooks n.turns in
+pub all_queue_drained : {sli : ℕ} {N : Type 0} (admitted : N → ℕ → Type 0) (noted : N → ℕ → ℕ → Option ℕ → Took → N → Type 0) (a v : Worker sli Queues) (x y : N) (most : ℕ) (tooks : List Took) (d : Drained)
+    → SourceNoted (queue_rules admitted noted) a v x y 0 most tooks → IsCountOf d tooks → DrainedQueue a v most d × KeepsQueueYards a v
+all_queue_drained {sli} admitted noted a v x y most tooks d n count =
+    let takes = takes_of (queue_rules admitted noted) a n.last x y 0 tooks n.turns in
     let heap = takes_heap AsksQueue a n.last 0 tooks takes in
     let keeps = turns_keep AsksQueue KeepsQueueYards keeps_all keeps_then taken_keeps a n.last 0 tooks takes in
-    let end = queue_ends admitted n.last v y most (length tooks) n.end in (
+    let end = queue_ends admitted noted n.last v y most (length tooks) n.end in (
       record {
         tooks = tooks;
         last = n.last;

@@ -26,7 +26,7 @@ use Rattle.tlsf_crew.specs.queues.QueueYard.{FitsQueueYard, IsQueueYard, first_c
 use Rattle.tlsf_crew.specs.queues.QueueOpening.{AreUngiven, AreFreshQueues, AreGiven, GaveEnds, GotEnd, IsNewQueueWorker}
 use Rattle.tlsf_post.proofs.RoundSteps.{no_items}
 use Rattle.tlsf_post.proofs.Numbers.{but_more, but_skip}
-use Rattle.tlsf_crew.proofs.lemmas.worker.Slots.{no_slot, get_set_same, get_set_other, none_or_some, slot_new, slot_other, some_same}
+use Rattle.tlsf_crew.proofs.lemmas.worker.Slots.{no_slot, get_set_same, get_set_other, none_or_some, slot_new, slot_other, some_same, some_at}
 use Rattle.tlsf_crew.proofs.lemmas.worker.OwnHeaps.{opened_lawful}
 
 -- ---- ends are given one after another
@@ -221,11 +221,6 @@ get_front : {X : Type 0} (xs : List X) (x a : X) (k : ℕ) → slice_get xs k �
 get_front [] x a k e = cc
 get_front (y ∷ xs) x a zero e = e
 get_front (y ∷ xs) x a (suc k) e = get_front xs x a k e
-
-pub some_at : {X : Type 0} (xs : List X) (k : ℕ) → k < length xs → (x : X) × (slice_get xs k ≡ Some x)
-some_at [] k lt = absurd (omega arith)
-some_at (x ∷ xs) zero lt = (x, refl)
-some_at (x ∷ xs) (suc k) lt = some_at xs k (omega arith)
 
 -- its owner, and its ends
 record NextQueue {sli : ℕ} (ws : List (Worker sli Queues)) (m : ℕ) (ps : List PosterEnd) : Type 0 where

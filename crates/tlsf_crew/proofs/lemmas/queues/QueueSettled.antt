@@ -21,8 +21,8 @@ use Rattle.tlsf_crew.specs.queues.QueueYard.{FitsQueueYard, IsQueueYard, first_c
 use Rattle.tlsf_crew.specs.queues.QueueOpening.{GaveEnds, GotEnd}
 use Rattle.tlsf_crew.specs.queues.QueueSettle.{Gathered, GaveUpEnd, QueueKnown, QueueSettled, EachQueueSettled, StaysPut, StaysSettled, end_at, ends_below}
 use Rattle.tlsf_post.proofs.Numbers.{but_more, but_skip}
-use Rattle.tlsf_crew.proofs.lemmas.queues.QueueOpened.{of_all, some_at}
-use Rattle.tlsf_crew.proofs.lemmas.worker.Slots.{from_slot, get_set_same, get_set_other, none_or_some, slot_emptied, slot_new, slot_other, some_same}
+use Rattle.tlsf_crew.proofs.lemmas.queues.QueueOpened.{of_all}
+use Rattle.tlsf_crew.proofs.lemmas.worker.Slots.{from_slot, get_set_same, get_set_other, none_or_some, slot_emptied, slot_new, slot_other, some_same, some_at}
 
 -- ---- ends are taken out one after another
 
@@ -212,36 +212,6 @@ pub record Resettling {sli : ℕ} (ws us : List (Worker sli Queues)) (j : ℕ) (
   pub same : (w.heap ≡ b.heap) × (w.id ≡ b.id) × (w.ports.posts ≡ b.ports.posts)
   pub gave : GaveEnds (set us j w) j (length ws) qs xs
 
--- the worker that v was: the owner, or another one
-record Resettled {sli : ℕ} (ws : List (Worker sli Queues)) (j i : ℕ) (b w v : Worker sli Queues) (qs : List PosterEnd) : Type 0 where
-  a : Worker sli Queues
-  is : slice_get ws i ≡ Some a
-  change : ((i ≡ j) × (a ≡ b) × (v ≡ w)) ⊎ ((i ≢ j) × GotBack a v j i qs)
-
-resettled : {sli : ℕ} (ws us : List (Worker sli Queues)) (j : ℕ) (b w : Worker sli Queues) (ps qs : List PosterEnd) (xs : List (Worker sli Queues)) → Resettling ws us j b w ps qs xs → (i : ℕ) (v : Worker sli Queues) → slice_get xs i ≡ Some v
-    → Resettled ws j i b w v qs
-resettled {sli} ws us j b w ps qs xs r i v is =
-    let g = r.gathered in
-    let j_in : j < length ws = slice_get_within ws j b r.owner in
-    let there : j < length us = omega (arith, g.count) in
-    let gave = r.gave in
-    let i_in : i < length ws = omega (arith, slice_get_within xs i v is, gave.count, length-set us j w, g.count) in
-    let s = some_at ws i i_in in
-    elim (cases_eq i j) [
-      | inl e ↦
-          let v_is = gave.same i (inr e) ∙ (ap (slice_get (set us j w)) e ∙ get_set_same us j w there) in
-          record { a = s.0; is = s.1; change = inl (e, some_same s.0 b (sym s.1 ∙ (ap (slice_get ws) e ∙ r.owner)), some_same v w (sym is ∙ v_is)) }
-      | inr ne ↦
-          let u = g.gave i s.0 i_in ne s.1 in
-          let o = gave.gave i u.0 i_in ne (get_set_other us j i w ne ∙ u.1) in
-          let v_is : o.0 ≡ v = some_same o.0 v (sym o.1 ∙ is) in
-          record {
-            a = s.0;
-            is = s.1;
-            change = inr (ne, subst (λ (z : Worker sli Queues). GotBack s.0 z j i qs) v_is (got_back s.0 u.0 o.0 j i qs (slot_there ws i j s.0 r.yard s.1 j_in ne) u.2 o.2));
-          }
-    ]
-
 -- the owner's ends to other queues stay
 owner_end : {sli : ℕ} (b w : Worker sli Queues) (k : ℕ) → w.ports.posts ≡ b.ports.posts → queue_end_to w k ≡ queue_end_to b k
 owner_end b w k same = ap (λ (ps : Vec (Option PosterEnd) Global). slot_of (slice_get ps.items k)) same
@@ -258,17 +228,6 @@ record StillIs {sli : ℕ} (a v : Worker sli Queues) (j : ℕ) : Type 0 where
   own : (got_by v.ports.own ≡ got_by a.ports.own) × (most_of v.ports.own ≡ most_of a.ports.own)
   ends : (k : ℕ) → k ≢ j → queue_end_to v k ≡ queue_end_to a k
 
-owner_still : {sli : ℕ} (ws us : List (Worker sli Queues)) (j : ℕ) (b w : Worker sli Queues) (ps qs : List PosterEnd) (xs : List (Worker sli Queues)) → Resettling ws us j b w ps qs xs → StillIs b w j
-owner_still ws us j b w ps qs xs r =
-    let m = r.beside in
-    record {
-      heap = r.same.0;
-      id = r.same.1;
-      numbers = (m.owner.0, m.owner.1);
-      own = (m.got, m.owner.2);
-      ends = λ k ne. owner_end b w k r.same.2;
-    }
-
 back_still : {sli : ℕ} (a v : Worker sli Queues) (j i : ℕ) (qs : List PosterEnd) → GotBack a v j i qs → StillIs a v j
 back_still a v j i qs got = record {
   heap = got.same.0;
@@ -278,175 +237,216 @@ back_still a v j i qs got = record {
   ends = got.others;
 }
 
-still : {sli : ℕ} (ws us : List (Worker sli Queues)) (j : ℕ) (b w : Worker sli Queues) (ps qs : List PosterEnd) (xs : List (Worker sli Queues)) → Resettling ws us j b w ps qs xs → (i : ℕ) (v : Worker sli Queues) → (x : Resettled ws j i b w v qs) → StillIs x.a v j
-still {sli} ws us j b w ps qs xs r i v x = elim x.change [
-  | inl e ↦ subst (λ (z : Worker sli Queues × Worker sli Queues). StillIs z.0 z.1 j) (λ t. (sym e.1 t, sym e.2 t)) (owner_still ws us j b w ps qs xs r)
-  | inr e ↦ back_still x.a v j i qs e.1
-]
+module _ {sli : ℕ} (ws us : List (Worker sli Queues)) (j : ℕ) (b w : Worker sli Queues) (ps qs : List PosterEnd) (xs : List (Worker sli Queues)) (r : Resettling ws us j b w ps qs xs) where
+  -- the worker that v was: the owner, or another one
+  record Resettled (i : ℕ) (v : Worker sli Queues) : Type 0 where
+    a : Worker sli Queues
+    is : slice_get ws i ≡ Some a
+    change : ((i ≡ j) × (a ≡ b) × (v ≡ w)) ⊎ ((i ≢ j) × GotBack a v j i qs)
 
--- the owner's own slot is empty
-own_slot : {sli : ℕ} (ws us : List (Worker sli Queues)) (j : ℕ) (b w : Worker sli Queues) (ps qs : List PosterEnd) (xs : List (Worker sli Queues)) → Resettling ws us j b w ps qs xs → (v : Worker sli Queues) → v ≡ w → queue_end_to v j ≡ None
-own_slot {sli} ws us j b w ps qs xs r v e = ap (λ (z : Worker sli Queues). queue_end_to z j) e ∙ (owner_end b w j r.same.2 ∙ owner_none ws j b r.yard r.owner)
-
--- ---- the yard stays whole
-
-fits_still : {sli : ℕ} (ws us : List (Worker sli Queues)) (j : ℕ) (b w : Worker sli Queues) (ps qs : List PosterEnd) (xs : List (Worker sli Queues)) → Resettling ws us j b w ps qs xs → (i : ℕ) (v : Worker sli Queues) → slice_get xs i ≡ Some v
-    → FitsQueueYard (length ws) (queue_capacity_in ws) i v
-fits_still ws us j b w ps qs xs r i v is =
-    let x = resettled ws us j b w ps qs xs r i v is in
-    let s = still ws us j b w ps qs xs r i v x in
-    let yard = r.yard in
-    let old = yard.workers i x.a x.is in
-    let k = old.knows in
-    let number : id_of v ≡ i = s.id ∙ old.number in
-    let j_in : j < length ws = slice_get_within ws j b r.owner in
-    record {
-      number = number;
-      knows = record {
-        few = k.few;
-        self = omega (arith, s.id, k.self);
-        own = (s.numbers.0 ∙ (k.own.0 ∙ sym s.id), s.numbers.1 ∙ k.own.1);
-        to = λ m other. elim (cases_eq m j) [
-          | inl e ↦ elim x.change [
-            | inl c ↦ absurd (other.1 (e ∙ (sym c.0 ∙ sym number)))
-            | inr c ↦ let got = c.1 in (got.end, ap (queue_end_to v) e ∙ got.here, got.number ∙ sym number)
-          ]
-          | inr ne ↦ let o = k.to m (other.0, λ e. other.1 (e ∙ sym s.id)) in (o.0, s.ends m ne ∙ o.1, o.2 ∙ sym s.id)
-        ];
-        none = λ m far. elim (cases_eq m j) [
-          | inl e ↦ elim x.change [
-            | inl c ↦ ap (queue_end_to v) e ∙ own_slot ws us j b w ps qs xs r v c.2
-            | inr c ↦ absurd (far (omega (arith, e), λ f. c.0 (sym number ∙ (sym f ∙ e))))
-          ]
-          | inr ne ↦ s.ends m ne ∙ k.none m (λ other. far (other.0, λ e. other.1 (e ∙ s.id)))
-        ];
-      };
-      heap = subst (IsHeapOf i) (sym (ap (λ h. h.heap) s.heap)) old.heap;
-      room = s.own.1 ∙ old.room;
-    }
-
-mailboxes_still : {sli : ℕ} (ws us : List (Worker sli Queues)) (j : ℕ) (b w : Worker sli Queues) (ps qs : List PosterEnd) (xs : List (Worker sli Queues)) → Resettling ws us j b w ps qs xs → (i k : ℕ) (v c : Worker sli Queues) (q : PosterEnd)
-    → slice_get xs i ≡ Some v → slice_get xs k ≡ Some c → queue_end_to v k ≡ Some q → IsMailbox c.ports.own q
-mailboxes_still {sli} ws us j b w ps qs xs r i k v c q is_v is_c is_q =
-    let x = resettled ws us j b w ps qs xs r i v is_v in
-    let y = resettled ws us j b w ps qs xs r k c is_c in
-    let yard = r.yard in
-    let m = r.beside in
-    elim (cases_eq k j) [
-      | inl e ↦
-          let here : queue_end_to v j ≡ Some q = ap (queue_end_to v) (sym e) ∙ is_q in
-          let owner : c.ports.own ≡ w.ports.own = elim y.change [
-            | inl d ↦ ap (λ (z : Worker sli Queues). z.ports.own) d.2
-            | inr d ↦ absurd (d.0 e)
-          ] in
-          elim x.change [
-            | inl d ↦ absurd (none_or_some (queue_end_to v j) q (own_slot ws us j b w ps qs xs r v d.2) here)
-            | inr d ↦
-                let got = d.1 in
-                let q_is : got.end ≡ q = some_same got.end q (sym got.here ∙ here) in
-                subst (λ (z : OwnerEnd × PosterEnd). IsMailbox z.0 z.1) (λ t. (sym owner t, q_is t)) (of_all (IsMailbox w.ports.own) qs got.before got.after got.end got.stands m.whole.0)
-          ]
-      | inr ne ↦
-          let s = still ws us j b w ps qs xs r i v x in
-          let owner : c.ports.own ≡ y.a.ports.own = elim y.change [
-            | inl d ↦ absurd (ne d.0)
-            | inr d ↦ let got = d.1 in got.same.2
-          ] in
-          subst (λ (o : OwnerEnd). IsMailbox o q) (sym owner) (yard.mailboxes i k x.a y.a q x.is y.is (sym (s.ends k ne) ∙ is_q))
-    ]
-
-capacity_still : {sli : ℕ} (ws us : List (Worker sli Queues)) (j : ℕ) (b w : Worker sli Queues) (ps qs : List PosterEnd) (xs : List (Worker sli Queues)) → Resettling ws us j b w ps qs xs → length xs ≡ length ws → queue_capacity_in xs ≡ queue_capacity_in ws
-capacity_still ws us j b w ps qs xs r count =
-    let j_in : j < length ws = slice_get_within ws j b r.owner in
-    let s = some_at xs 0 (omega (arith, count)) in
-    let x = resettled ws us j b w ps qs xs r 0 s.0 s.1 in
-    let same = still ws us j b w ps qs xs r 0 s.0 x in
-    ap first_capacity s.1 ∙ (same.own.1 ∙ sym (ap first_capacity x.is))
-
-whole_still : {sli : ℕ} (ws us : List (Worker sli Queues)) (j : ℕ) (b w : Worker sli Queues) (ps qs : List PosterEnd) (xs : List (Worker sli Queues)) → Resettling ws us j b w ps qs xs → length xs ≡ length ws → IsQueueYard xs
-whole_still ws us j b w ps qs xs r count =
-    let yard = r.yard in
-    let room = capacity_still ws us j b w ps qs xs r count in
-    record {
-      level = yard.level;
-      few = omega (arith, count, yard.few);
-      small = omega (arith, room, yard.small);
-      workers = λ i v is. subst (λ (z : ℕ × ℕ). FitsQueueYard z.0 z.1 i v) (λ t. (sym count t, sym room t)) (fits_still ws us j b w ps qs xs r i v is);
-      mailboxes = mailboxes_still ws us j b w ps qs xs r;
-    }
-
--- ---- what is known then
-
--- an end that was given back has put what it had put
-put_still : {sli : ℕ} (ws us : List (Worker sli Queues)) (j : ℕ) (b w : Worker sli Queues) (ps qs : List PosterEnd) (xs : List (Worker sli Queues)) → Resettling ws us j b w ps qs xs → (i : ℕ) (v : Worker sli Queues) → (x : Resettled ws j i b w v qs)
-    → (p q : PosterEnd) → queue_end_to x.a j ≡ Some p → queue_end_to v j ≡ Some q → put_by q ≡ put_by p
-put_still ws us j b w ps qs xs r i v x p q is_p is_q = elim x.change [
-  | inl e ↦ absurd (none_or_some (queue_end_to v j) q (own_slot ws us j b w ps qs xs r v e.2) is_q)
-  | inr e ↦
-      let got = e.1 in
+  resettled : (i : ℕ) (v : Worker sli Queues) → slice_get xs i ≡ Some v → Resettled i v
+  resettled i v is =
       let g = r.gathered in
+      let j_in : j < length ws = slice_get_within ws j b r.owner in
+      let there : j < length us = omega (arith, g.count) in
+      let gave = r.gave in
+      let i_in : i < length ws = omega (arith, slice_get_within xs i v is, gave.count, length-set us j w, g.count) in
+      let s = some_at ws i i_in in
+      elim (cases_eq i j) [
+        | inl e ↦
+            let v_is = gave.same i (inr e) ∙ (ap (slice_get (set us j w)) e ∙ get_set_same us j w there) in
+            record { a = s.0; is = s.1; change = inl (e, some_same s.0 b (sym s.1 ∙ (ap (slice_get ws) e ∙ r.owner)), some_same v w (sym is ∙ v_is)) }
+        | inr ne ↦
+            let u = g.gave i s.0 i_in ne s.1 in
+            let o = gave.gave i u.0 i_in ne (get_set_other us j i w ne ∙ u.1) in
+            let v_is : o.0 ≡ v = some_same o.0 v (sym o.1 ∙ is) in
+            record {
+              a = s.0;
+              is = s.1;
+              change = inr (ne, subst (λ (z : Worker sli Queues). GotBack s.0 z j i qs) v_is (got_back s.0 u.0 o.0 j i qs (slot_there ws i j s.0 r.yard s.1 j_in ne) u.2 o.2));
+            }
+      ]
+
+  owner_still : StillIs b w j
+  owner_still =
       let m = r.beside in
-      let all = were_put ws j b qs r.yard r.owner (m.numbers ∙ ap (map number_of) g.ends) (m.put ∙ ap (map put_by) g.ends) in
-      let was = of_all (λ q. WasPut ws j (number_of q) (put_by q)) qs got.before got.after got.end got.stands all in
-      let p_is : was.0 ≡ p = some_same was.0 p (sym was.1 ∙ (ap (λ k. end_at ws k j) got.number ∙ (ap (λ o. queue_end_in o j) x.is ∙ is_p))) in
-      let q_is : got.end ≡ q = some_same got.end q (sym got.here ∙ is_q) in
-      sym (ap put_by q_is) ∙ (sym was.2 ∙ ap put_by p_is)
-]
+      record {
+        heap = r.same.0;
+        id = r.same.1;
+        numbers = (m.owner.0, m.owner.1);
+        own = (m.got, m.owner.2);
+        ends = λ k ne. owner_end b w k r.same.2;
+      }
 
-known_then : {sli : ℕ} (ws us : List (Worker sli Queues)) (j : ℕ) (b w : Worker sli Queues) (ps qs : List PosterEnd) (xs : List (Worker sli Queues)) → Resettling ws us j b w ps qs xs → QueueKnown xs j
-known_then {sli} ws us j b w ps qs xs r =
-    let m = r.beside in
-    let owner : (c : Worker sli Queues) → slice_get xs j ≡ Some c → c ≡ w = λ c is. let y = resettled ws us j b w ps qs xs r j c is in elim y.change [
-      | inl d ↦ d.2
-      | inr d ↦ absurd (d.0 refl)
-    ] in
-    record {
-      known = λ i v c q is_v is_c is_q. let x = resettled ws us j b w ps qs xs r i v is_v in elim x.change [
-        | inl e ↦ absurd (none_or_some (queue_end_to v j) q (own_slot ws us j b w ps qs xs r v e.2) is_q)
-        | inr e ↦
-            let got = e.1 in
-            let q_is : got.end ≡ q = some_same got.end q (sym got.here ∙ is_q) in
-            let all = of_all (λ q. posts_of (number_of q) (known_to w.ports.own) ≡ put_by q) qs got.before got.after got.end got.stands m.known in
-            ap (λ (z : Worker sli Queues). posts_of i (known_to z.ports.own)) (owner c is_c) ∙ (ap (λ k. posts_of k (known_to w.ports.own)) (sym got.number) ∙ (all ∙ ap put_by q_is))
-      ];
-      order = λ c is_c.
-          let saw = m.order.1 in
-          subst (λ (z : Worker sli Queues). (waiting : List Post) × ((p : ℕ) → posts_of p (known_to z.ports.own) ≡ posts_of p (got_by z.ports.own ++ waiting)) × (length waiting ≤ most_of z.ports.own)) (sym (owner c is_c))
-          (m.order.0, m.order.2, saw.few);
-      gone = λ i v c q is_v is_c is_q. let x = resettled ws us j b w ps qs xs r i v is_v in elim x.change [
-        | inl e ↦ absurd (none_or_some (queue_end_to v j) q (own_slot ws us j b w ps qs xs r v e.2) is_q)
-        | inr e ↦
-            let got = e.1 in
-            let q_is : got.end ≡ q = some_same got.end q (sym got.here ∙ is_q) in
-            let all = of_all (λ q. gone_from q ≡ posts_of (number_of q) (got_by w.ports.own)) qs got.before got.after got.end got.stands m.gone in
-            sym (ap gone_from q_is) ∙ (all ∙ (ap (λ k. posts_of k (got_by w.ports.own)) got.number ∙ ap (λ (z : Worker sli Queues). posts_of i (got_by z.ports.own)) (sym (owner c is_c))))
-      ];
-    }
+  still : (i : ℕ) (v : Worker sli Queues) → (x : Resettled i v) → StillIs x.a v j
+  still i v x = elim x.change [
+    | inl e ↦ subst (λ (z : Worker sli Queues × Worker sli Queues). StillIs z.0 z.1 j) (λ t. (sym e.1 t, sym e.2 t)) owner_still
+    | inr e ↦ back_still x.a v j i qs e.1
+  ]
 
-pub queue_settled : {sli : ℕ} (ws us : List (Worker sli Queues)) (j : ℕ) (b w : Worker sli Queues) (ps qs : List PosterEnd) (xs : List (Worker sli Queues)) → Resettling ws us j b w ps qs xs → QueueSettled ws j xs
-queue_settled {sli} ws us j b w ps qs xs r =
-    let g = r.gathered in
-    let gave = r.gave in
-    let count : length xs ≡ length ws = gave.count ∙ (length-set us j w ∙ g.count) in
-    record {
-      yard = whole_still ws us j b w ps qs xs r count;
-      count = count;
-      stays = λ i a v is_a is_v.
-          let x = resettled ws us j b w ps qs xs r i v is_v in
-          let s = still ws us j b w ps qs xs r i v x in
-          subst (λ (z : Worker sli Queues). StaysSettled j i z v) (some_same x.a a (sym x.is ∙ is_a)) (record {
-            heap = s.heap;
-            id = s.id;
-            own = s.own;
-            other = λ ne. elim x.change [
-              | inl e ↦ absurd (ne e.0)
-              | inr e ↦ let got = e.1 in got.same.2
-            ];
-            ends = s.ends;
-            put = put_still ws us j b w ps qs xs r i v x;
-          });
-      known = known_then ws us j b w ps qs xs r;
-    }
+  -- the owner's own slot is empty
+  own_slot : (v : Worker sli Queues) → v ≡ w → queue_end_to v j ≡ None
+  own_slot v e = ap (λ (z : Worker sli Queues). queue_end_to z j) e ∙ (owner_end b w j r.same.2 ∙ owner_none ws j b r.yard r.owner)
+
+  -- ---- the yard stays whole
+
+  fits_still : (i : ℕ) (v : Worker sli Queues) → slice_get xs i ≡ Some v
+      → FitsQueueYard (length ws) (queue_capacity_in ws) i v
+  fits_still i v is =
+      let x = resettled i v is in
+      let s = still i v x in
+      let yard = r.yard in
+      let old = yard.workers i x.a x.is in
+      let k = old.knows in
+      let number : id_of v ≡ i = s.id ∙ old.number in
+      let j_in : j < length ws = slice_get_within ws j b r.owner in
+      record {
+        number = number;
+        knows = record {
+          few = k.few;
+          self = omega (arith, s.id, k.self);
+          own = (s.numbers.0 ∙ (k.own.0 ∙ sym s.id), s.numbers.1 ∙ k.own.1);
+          to = λ m other. elim (cases_eq m j) [
+            | inl e ↦ elim x.change [
+              | inl c ↦ absurd (other.1 (e ∙ (sym c.0 ∙ sym number)))
+              | inr c ↦ let got = c.1 in (got.end, ap (queue_end_to v) e ∙ got.here, got.number ∙ sym number)
+            ]
+            | inr ne ↦ let o = k.to m (other.0, λ e. other.1 (e ∙ sym s.id)) in (o.0, s.ends m ne ∙ o.1, o.2 ∙ sym s.id)
+          ];
+          none = λ m far. elim (cases_eq m j) [
+            | inl e ↦ elim x.change [
+              | inl c ↦ ap (queue_end_to v) e ∙ own_slot v c.2
+              | inr c ↦ absurd (far (omega (arith, e), λ f. c.0 (sym number ∙ (sym f ∙ e))))
+            ]
+            | inr ne ↦ s.ends m ne ∙ k.none m (λ other. far (other.0, λ e. other.1 (e ∙ s.id)))
+          ];
+        };
+        heap = subst (IsHeapOf i) (sym (ap (λ h. h.heap) s.heap)) old.heap;
+        room = s.own.1 ∙ old.room;
+      }
+
+  mailboxes_still : (i k : ℕ) (v c : Worker sli Queues) (q : PosterEnd)
+      → slice_get xs i ≡ Some v → slice_get xs k ≡ Some c → queue_end_to v k ≡ Some q → IsMailbox c.ports.own q
+  mailboxes_still i k v c q is_v is_c is_q =
+      let x = resettled i v is_v in
+      let y = resettled k c is_c in
+      let yard = r.yard in
+      let m = r.beside in
+      elim (cases_eq k j) [
+        | inl e ↦
+            let here : queue_end_to v j ≡ Some q = ap (queue_end_to v) (sym e) ∙ is_q in
+            let owner : c.ports.own ≡ w.ports.own = elim y.change [
+              | inl d ↦ ap (λ (z : Worker sli Queues). z.ports.own) d.2
+              | inr d ↦ absurd (d.0 e)
+            ] in
+            elim x.change [
+              | inl d ↦ absurd (none_or_some (queue_end_to v j) q (own_slot v d.2) here)
+              | inr d ↦
+                  let got = d.1 in
+                  let q_is : got.end ≡ q = some_same got.end q (sym got.here ∙ here) in
+                  subst (λ (z : OwnerEnd × PosterEnd). IsMailbox z.0 z.1) (λ t. (sym owner t, q_is t)) (of_all (IsMailbox w.ports.own) qs got.before got.after got.end got.stands m.whole.0)
+            ]
+        | inr ne ↦
+            let s = still i v x in
+            let owner : c.ports.own ≡ y.a.ports.own = elim y.change [
+              | inl d ↦ absurd (ne d.0)
+              | inr d ↦ let got = d.1 in got.same.2
+            ] in
+            subst (λ (o : OwnerEnd). IsMailbox o q) (sym owner) (yard.mailboxes i k x.a y.a q x.is y.is (sym (s.ends k ne) ∙ is_q))
+      ]
+
+  capacity_still : length xs ≡ length ws → queue_capacity_in xs ≡ queue_capacity_in ws
+  capacity_still count =
+      let j_in : j < length ws = slice_get_within ws j b r.owner in
+      let s = some_at xs 0 (omega (arith, count)) in
+      let x = resettled 0 s.0 s.1 in
+      let same = still 0 s.0 x in
+      ap first_capacity s.1 ∙ (same.own.1 ∙ sym (ap first_capacity x.is))
+
+  whole_still : length xs ≡ length ws → IsQueueYard xs
+  whole_still count =
+      let yard = r.yard in
+      let room = capacity_still count in
+      record {
+        level = yard.level;
+        few = omega (arith, count, yard.few);
+        small = omega (arith, room, yard.small);
+        workers = λ i v is. subst (λ (z : ℕ × ℕ). FitsQueueYard z.0 z.1 i v) (λ t. (sym count t, sym room t)) (fits_still i v is);
+        mailboxes = mailboxes_still;
+      }
+
+  -- ---- what is known then
+
+  -- an end that was given back has put what it had put
+  put_still : (i : ℕ) (v : Worker sli Queues) → (x : Resettled i v)
+      → (p q : PosterEnd) → queue_end_to x.a j ≡ Some p → queue_end_to v j ≡ Some q → put_by q ≡ put_by p
+  put_still i v x p q is_p is_q = elim x.change [
+    | inl e ↦ absurd (none_or_some (queue_end_to v j) q (own_slot v e.2) is_q)
+    | inr e ↦
+        let got = e.1 in
+        let g = r.gathered in
+        let m = r.beside in
+        let all = were_put ws j b qs r.yard r.owner (m.numbers ∙ ap (map number_of) g.ends) (m.put ∙ ap (map put_by) g.ends) in
+        let was = of_all (λ q. WasPut ws j (number_of q) (put_by q)) qs got.before got.after got.end got.stands all in
+        let p_is : was.0 ≡ p = some_same was.0 p (sym was.1 ∙ (ap (λ k. end_at ws k j) got.number ∙ (ap (λ o. queue_end_in o j) x.is ∙ is_p))) in
+        let q_is : got.end ≡ q = some_same got.end q (sym got.here ∙ is_q) in
+        sym (ap put_by q_is) ∙ (sym was.2 ∙ ap put_by p_is)
+  ]
+
+  known_then : QueueKnown xs j
+  known_then =
+      let m = r.beside in
+      let owner : (c : Worker sli Queues) → slice_get xs j ≡ Some c → c ≡ w = λ c is. let y = resettled j c is in elim y.change [
+        | inl d ↦ d.2
+        | inr d ↦ absurd (d.0 refl)
+      ] in
+      record {
+        known = λ i v c q is_v is_c is_q. let x = resettled i v is_v in elim x.change [
+          | inl e ↦ absurd (none_or_some (queue_end_to v j) q (own_slot v e.2) is_q)
+          | inr e ↦
+              let got = e.1 in
+              let q_is : got.end ≡ q = some_same got.end q (sym got.here ∙ is_q) in
+              let all = of_all (λ q. posts_of (number_of q) (known_to w.ports.own) ≡ put_by q) qs got.before got.after got.end got.stands m.known in
+              ap (λ (z : Worker sli Queues). posts_of i (known_to z.ports.own)) (owner c is_c) ∙ (ap (λ k. posts_of k (known_to w.ports.own)) (sym got.number) ∙ (all ∙ ap put_by q_is))
+        ];
+        order = λ c is_c.
+            let saw = m.order.1 in
+            subst (λ (z : Worker sli Queues). (waiting : List Post) × ((p : ℕ) → posts_of p (known_to z.ports.own) ≡ posts_of p (got_by z.ports.own ++ waiting)) × (length waiting ≤ most_of z.ports.own)) (sym (owner c is_c))
+            (m.order.0, m.order.2, saw.few);
+        gone = λ i v c q is_v is_c is_q. let x = resettled i v is_v in elim x.change [
+          | inl e ↦ absurd (none_or_some (queue_end_to v j) q (own_slot v e.2) is_q)
+          | inr e ↦
+              let got = e.1 in
+              let q_is : got.end ≡ q = some_same got.end q (sym got.here ∙ is_q) in
+              let all = of_all (λ q. gone_from q ≡ posts_of (number_of q) (got_by w.ports.own)) qs got.before got.after got.end got.stands m.gone in
+              sym (ap gone_from q_is) ∙ (all ∙ (ap (λ k. posts_of k (got_by w.ports.own)) got.number ∙ ap (λ (z : Worker sli Queues). posts_of i (got_by z.ports.own)) (sym (owner c is_c))))
+        ];
+      }
+
+  pub queue_settled : QueueSettled ws j xs
+  queue_settled =
+      let g = r.gathered in
+      let gave = r.gave in
+      let count : length xs ≡ length ws = gave.count ∙ (length-set us j w ∙ g.count) in
+      record {
+        yard = whole_still count;
+        count = count;
+        stays = λ i a v is_a is_v.
+            let x = resettled i v is_v in
+            let s = still i v x in
+            subst (λ (z : Worker sli Queues). StaysSettled j i z v) (some_same x.a a (sym x.is ∙ is_a)) (record {
+              heap = s.heap;
+              id = s.id;
+              own = s.own;
+              other = λ ne. elim x.change [
+                | inl e ↦ absurd (ne e.0)
+                | inr e ↦ let got = e.1 in got.same.2
+              ];
+              ends = s.ends;
+              put = put_still i v x;
+            });
+        known = known_then;
+      }
 
 -- ---- what the parts ask of one another
 

@@ -12,7 +12,8 @@ use Rattle.tlsf_crew.specs.worker.Workers.{heap_of}
 use Rattle.tlsf_crew.specs.queues.QueueWorkers.{queue_end_to}
 use Rattle.tlsf_crew.specs.queues.QueueYard.{IsQueueYard, first_capacity, queue_capacity_in, queue_waits_in, queue_world_of, waits_of}
 use Rattle.tlsf_crew.specs.queues.QueueSettle.{EachQueueSettled, StaysPut}
-use Rattle.tlsf_crew.proofs.lemmas.queues.QueueOpened.{map_at, some_at}
+use Rattle.tlsf_crew.proofs.lemmas.queues.QueueOpened.{map_at}
+use Rattle.tlsf_crew.proofs.lemmas.worker.Slots.{some_at}
 
 -- a worker before and after
 record Kept {sli : ℕ} (ws vs : List (Worker sli Queues)) (i : ℕ) : Type 0 where

@@ -13,9 +13,8 @@ use Rattle.tlsf_crew.specs.declared.queues.queues.Queues.{Queues}
 use Rattle.tlsf_crew.specs.worker.Workers.{IsOther, IsHeapOf, heap_of, id_of}
 use Rattle.tlsf_crew.specs.queues.QueueWorkers.{queue_end_to, HasQueueEnd, KnowsQueueYard, KeepsQueueYards, KeepsSlot}
 use Rattle.tlsf_crew.specs.queues.QueueYard.{IsQueueYard, first_capacity, queue_capacity_in}
-use Rattle.tlsf_crew.proofs.lemmas.worker.Slots.{get_set_same, get_set_other, none_or_some, some_same}
+use Rattle.tlsf_crew.proofs.lemmas.worker.Slots.{get_set_same, get_set_other, none_or_some, some_same, some_at}
 use Rattle.tlsf_crew.proofs.lemmas.queues.QueueKept.{keeps_all, knows_kept}
-use Rattle.tlsf_crew.proofs.lemmas.queues.QueueOpened.{some_at}
 
 -- ---- one worker
 

@@ -41,13 +41,9 @@ reply_to made w at (Resize target len) = resizing_named w at (name_of made targe
 reply_to made w at call = record { reply = Empty; world = w }
 
 called_is : {sli : ℕ} (r : Replayed sli) (at : ℕ) (call : Call) → TakesNoPost call → called r at call ≡ answered r at call (reply_to r.made r.world at call)
-called_is r at (Allocate len) none = refl
-called_is r at (Release target) none = refl
-called_is r at (Write target from bytes) none = refl
-called_is r at (Read target from n) none = refl
-called_is r at (Resize target len) none = refl
 called_is r at (Take from) none = absurd none
 called_is r at (Drain most) none = absurd none
+called_is r at call none = refl
 
 -- the same reply, and the same heap behind it
 abbrev SameReply : {sli : ℕ} → ℕ → Replied sli → Replied sli → Type 0
@@ -157,25 +153,18 @@ release_capacity w at (Some name) = elim (cases_eq name.heap at) [
 ]
 
 same_capacity : {sli : ℕ} (r : Replayed sli) (at : ℕ) (call : Call) → TakesNoPost call → ((called r at call).world).capacity ≡ (r.world).capacity
-same_capacity r at (Allocate len) none = refl
 same_capacity r at (Release target) none = release_capacity r.world at (name_of r.made target)
-same_capacity r at (Write target from bytes) none = refl
-same_capacity r at (Read target from n) none = refl
-same_capacity r at (Resize target len) none = refl
 same_capacity r at (Take from) none = absurd none
 same_capacity r at (Drain most) none = absurd none
+same_capacity r at call none = refl
 
 -- ---- what a script without takes tells
 
 -- the entries of a call that takes none
 pub takes_none : (i j at : ℕ) (made : List (Option Name)) (call : Call) (name : Option Name) (own : List Entry) → TakesNoPost call → TellsCall at made call name own → posts_taken i j own ≡ []
-takes_none i j at made (Allocate len) name own none t = ap (posts_taken i j) t.whole ∙ told_nothing (λ e. post_of_take i e.call e.reply) j _ refl
-takes_none i j at made (Release target) name own none t = ap (posts_taken i j) t.whole ∙ told_nothing (λ e. post_of_take i e.call e.reply) j _ refl
-takes_none i j at made (Write target from bytes) name own none t = ap (posts_taken i j) t.whole ∙ told_nothing (λ e. post_of_take i e.call e.reply) j _ refl
-takes_none i j at made (Read target from k) name own none t = ap (posts_taken i j) t.whole ∙ told_nothing (λ e. post_of_take i e.call e.reply) j _ refl
-takes_none i j at made (Resize target len) name own none t = ap (posts_taken i j) t.whole ∙ told_nothing (λ e. post_of_take i e.call e.reply) j _ refl
 takes_none i j at made (Take from) name own none t = absurd none
 takes_none i j at made (Drain most) name own none t = absurd none
+takes_none i j at made call name own none t = ap (posts_taken i j) t.whole ∙ told_nothing (λ e. post_of_take i e.call e.reply) j _ refl
 
 -- the worker's own state before a call
 abbrev at_call : {sli : ℕ} → Told → World sli → Replayed sli
@@ -303,14 +292,9 @@ alone_step {sli} w i z s u call calls r lanes i_in free m later a =
     room_for : (w : World sli) (i : ℕ) (z s : Told) (x : World sli) (r : Replayed sli) (call : Call) (rest : List Entry) → HasLanes w i z.made z.entries → i < length w.heaps → length x.heaps ≡ length w.heaps
         → IsAlone w i z.made s r → ((target : Target) (name : Name) → name_of s.made target ≡ Some name → name_of z.made target ≡ Some name)
         → z.entries ≡ s.entries ++ (next_entry i s.made x call ∷ rest) → RoomFor s.made (length w.heaps) i x r.world call
-    room_for w i z s x r (Allocate len) rest lanes i_in count a known whole = tt
     room_for w i z s x r (Release target) rest lanes i_in count a known whole =
         λ name found ne lt. same_room w i z s x r.world target name rest lanes a.capacity a.waits found (known target name found) ne lt (omega (arith, count, lt)) whole
-    room_for w i z s x r (Write target from bytes) rest lanes i_in count a known whole = tt
-    room_for w i z s x r (Read target from k) rest lanes i_in count a known whole = tt
-    room_for w i z s x r (Resize target len) rest lanes i_in count a known whole = tt
-    room_for w i z s x r (Take from) rest lanes i_in count a known whole = tt
-    room_for w i z s x r (Drain most) rest lanes i_in count a known whole = tt
+    room_for w i z s x r call rest lanes i_in count a known whole = tt
 
 -- a whole script
 pub alone_runs : {sli : ℕ} (w : World sli) (i : ℕ) (z s : Told) (calls : List Call) (r : Replayed sli) → HasLanes w i z.made z.entries → i < length w.heaps → AllByRecursion TakesNoPost calls

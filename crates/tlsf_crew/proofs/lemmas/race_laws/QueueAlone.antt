@@ -9,7 +9,7 @@ use Rattle.tlsf_post.specs.Rule.{posts_of}
 use Rattle.tlsf_post.specs.declared.post.Post.{Post}
 use Rattle.tlsf_post.proofs.RuleSteps.{parts}
 use Rattle.tlsf_calls.specs.declared.call.Call.{Call}
-use Rattle.tlsf_calls.specs.declared.call.Call.TheVariants.{Allocate, Release, Write, Read, Resize, Take, Drain}
+use Rattle.tlsf_calls.specs.declared.call.Call.TheVariants.{Take, Drain}
 use Rattle.tlsf_calls.specs.declared.entry.Entry.{Entry}
 use Rattle.tlsf_calls.specs.declared.reply.Reply.TheVariants.{Drained}
 use Rattle.tlsf_crew.specs.model.World.{no_heap, World, after, begun, heap_in}
@@ -38,13 +38,9 @@ record QueueTurn (sli n at : ℕ) (start : Told) (script : List Call) (end : Tol
   last : MayTellQueue sli n at between last_call end
 
 as_over_lanes : (sli n at : ℕ) (s t : Told) (call : Call) → TakesNoPost call → MayTellQueue sli n at s call t → MayTell sli n at s call t
-as_over_lanes sli n at s t (Allocate len) free m = m
-as_over_lanes sli n at s t (Release target) free m = m
-as_over_lanes sli n at s t (Write target from bytes) free m = m
-as_over_lanes sli n at s t (Read target from k) free m = m
-as_over_lanes sli n at s t (Resize target len) free m = m
 as_over_lanes sli n at s t (Take from) free m = absurd free
 as_over_lanes sli n at s t (Drain most) free m = absurd free
+as_over_lanes sli n at s t call free m = m
 
 queue_turn : (sli n at : ℕ) (start end : Told) (script : List Call) → AllByRecursion TakesNoPost script → MayTellQueueAll sli n at start (script ++ last_call ∷ []) end → QueueTurn sli n at start script end
 queue_turn sli n at start end [] free m = record { between = start; ran = refl; last = subst (MayTellQueue sli n at start last_call) (sym m.2) m.1 }

@@ -12,11 +12,10 @@ use Rattle.tlsf_calls.specs.declared.entry.Entry.{Entry}
 use Rattle.tlsf_calls.specs.declared.call.Call.{Call}
 use Rattle.tlsf_crew.specs.worker.Workers.{id_of}
 use Rattle.tlsf_crew.specs.lanes.LaneWorkers.{end_from, KnowsYard}
-use Rattle.tlsf_crew.specs.model.Told.{MayTell}
 use Rattle.tlsf_crew.specs.races.LaneTasks.{LaneWorkerRan, EachLaneWorkerRan, HaveRooms}
 use Rattle.tlsf_crew.specs.histories.History.{posts_taken}
-use Rattle.tlsf_crew.specs.scripts.LaneMoves.{LaneMoved, Spent}
-use Rattle.tlsf_crew.specs.scripts.Scripts.{ScriptRun, script_of}
+use Rattle.tlsf_crew.specs.scripts.LaneMoves.{LaneMoved, Spent, lane_telling}
+use Rattle.tlsf_crew.specs.scripts.Scripts.{ScriptRun, at_stage, script_of}
 use Rattle.std.specs.List.{slice_get, All}
 use Rattle.std.specs.declared.vec.Vec.{Vec}
 use Rattle.std.specs.declared.alloc.Global.{Global}
@@ -62,7 +61,7 @@ kept_yard {sli} pre (w ∷ ws) (v ∷ vs) n each yard =
     subst IsYard (append_assoc pre (v ∷ []) vs) (kept_yard (pre ++ v ∷ []) ws vs (omega arith) (λ j a is. each (suc j) a is) shifted)
 
 abbrev LanesRan : {sli : ℕ} → List (Worker sli Lanes) → List (List Call) → List (Vec Entry Global) → List (Worker sli Lanes) → Type 0
-LanesRan {sli} ws scripts records vs = EachJobRan AreLaneLimits KnowsYard (MayTell sli) LaneMoved ws scripts records vs
+LanesRan {sli} ws scripts records vs = EachJobRan (lane_telling sli) ws scripts records vs
 
 enough : {sli : ℕ} (n : ℕ) (a : Worker sli Lanes) (releases limits : List ℕ) → KnowsYard n a → AreLaneLimits a.ports releases limits → (i : ℕ) (t : TakeEnd) → end_from a i ≡ Some t → length (ready t) ≤ slice_index limits i
 enough n a releases limits k are i t e =
@@ -71,8 +70,8 @@ enough n a releases limits k are i t e =
     let r : ready_from a i ≡ length (ready t) = ap count_of e in
     omega arith
 
-pub script_ran : {sli : ℕ} (n : ℕ) (a v : Worker sli Lanes) (limits left : List ℕ) (calls : List Call) (made : List (Option Name)) (entries : List Entry)
-    → ((i : ℕ) (t : TakeEnd) → end_from a i ≡ Some t → length (ready t) ≤ slice_index limits i) → ScriptRun (MayTell sli n) LaneMoved a limits calls made entries v left → LaneWorkerRan n a calls made entries v
+script_ran : {sli : ℕ} (n : ℕ) (a v : Worker sli Lanes) (limits left : List ℕ) (calls : List Call) (made : List (Option Name)) (entries : List Entry)
+    → ((i : ℕ) (t : TakeEnd) → end_from a i ≡ Some t → length (ready t) ≤ slice_index limits i) → ScriptRun (lane_telling sli) n a limits calls made (at_stage v left entries) → LaneWorkerRan n a calls made entries v
 script_ran {sli} n a v limits left calls made entries enough x =
     let at = id_of a in
     let m : LaneMoved at made a limits calls entries v left = subst (λ l. LaneMoved at l a limits calls entries v left) (append-nil made) (x.moved []) in

@@ -14,24 +14,21 @@ use Rattle.tlsf_crew.specs.jobs.Parts.{EachJobRan}
 use Rattle.tlsf_crew.specs.scripts.Scripts.{script_of}
 use Rattle.tlsf_crew.specs.races.Rooms.{HaveQueueRecordRooms}
 use Rattle.tlsf_crew.specs.scripts.Counts.{releases_of}
-use Rattle.tlsf_crew.specs.scripts.QueueMoves.{QueueMoved, IsQueueLimit}
+use Rattle.tlsf_crew.specs.scripts.QueueMoves.{queue_telling}
 use Rattle.tlsf_crew.specs.races.QueueTasks.{HasPlace, EachQueueWorkerRan, KnowsSomeYard}
-use Rattle.tlsf_crew.specs.model.QueueTold.{MayTellQueue}
-use Rattle.tlsf_crew.specs.queues.QueueWorkers.{KnowsQueueYard}
 use Rattle.tlsf_crew.specs.queues.QueueYard.{IsQueueYard}
-use Rattle.tlsf_crew.proofs.lemmas.queues.QueueOpened.{some_at}
 use Rattle.tlsf_crew.proofs.lemmas.scripts.QueueRuns.{queue_moves}
 use Rattle.tlsf_crew.proofs.lemmas.scripts.ScriptRuns.{script_room}
 use Rattle.tlsf_crew.proofs.lemmas.jobs.Gathering.{record_at}
 use Rattle.tlsf_crew.proofs.lemmas.model.Sums.{same_sum}
-use Rattle.tlsf_crew.proofs.lemmas.worker.Slots.{some_same}
+use Rattle.tlsf_crew.proofs.lemmas.worker.Slots.{some_same, some_at}
 
 -- each worker of a whole yard is one of it
 pub each_knows_some : {sli : ℕ} (ws : List (Worker sli Queues)) → IsQueueYard ws → All KnowsSomeYard ws
 each_knows_some ws yard k d lt = let w = yard.workers k (get_or ws k d) (slice_get-get_or ws k d lt) in (length ws, w.knows)
 
 abbrev QueuesRan : {sli : ℕ} → List (Worker sli Queues) → List (List Call) → List (Vec Entry Global) → List (Worker sli Queues) → Type 0
-QueuesRan {sli} ws scripts records vs = EachJobRan (λ queues releases limits. IsQueueLimit releases limits) KnowsQueueYard (MayTellQueue sli) QueueMoved ws scripts records vs
+QueuesRan {sli} ws scripts records vs = EachJobRan (queue_telling sli) ws scripts records vs
 
 pub queues_ran : {sli : ℕ} (ws vs : List (Worker sli Queues)) (scripts : List (List Call)) (records : List (Vec Entry Global)) → QueuesRan ws scripts records vs → EachQueueWorkerRan ws scripts (map (λ r. r.items) records) vs
 queues_ran ws vs scripts records run = record {
@@ -51,7 +48,7 @@ queue_places ws vs scripts records yard run k d lt =
     let r = run.ran k a.0 a.1 in
     let x = r.4 in
     let here = slice_get-get_or records k d lt in
-    let room = script_room _ _ _ queue_moves _ _ _ _ _ _ _ (x.run (length ws) w.knows) in
+    let room = script_room _ queue_moves _ _ _ _ _ _ (x.run (length ws) w.knows) in
     let l = r.1.ok in
     subst HasPlace (some_same r.1 (get_or records k d) (sym r.3 ∙ here)) (omega (arith, x.room))
 

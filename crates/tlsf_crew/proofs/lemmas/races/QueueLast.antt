@@ -12,7 +12,7 @@ use Rattle.tlsf_post.specs.Rule.{posts_of}
 use Rattle.tlsf_post.specs.Mailboxes.{got_by, known_to}
 use Rattle.tlsf_calls.specs.declared.entry.Entry.{Entry}
 use Rattle.tlsf_calls.specs.declared.reply.Reply.TheVariants.{Drained}
-use Rattle.tlsf_crew.specs.scripts.Scripts.{last_call}
+use Rattle.tlsf_crew.specs.scripts.Scripts.{last_call, at_stage}
 use Rattle.tlsf_calls.specs.Entries.{record_of}
 use Rattle.tlsf_crew.specs.model.Sums.{sum_of}
 use Rattle.tlsf_crew.specs.histories.History.{posts_taken, post_of_take}
@@ -25,14 +25,13 @@ use Rattle.tlsf_crew.specs.scripts.QueueMoves.{QueueStepped, entry_by}
 use Rattle.tlsf_crew.specs.races.QueueTasks.{QueueLastDrained, EachQueueLastDrained}
 use Rattle.tlsf_crew.proofs.lemmas.races.LastDrains.{items_of, record_items}
 use Rattle.tlsf_crew.proofs.lemmas.histories.JoinedEntries.{told_nothing, taken_then}
-use Rattle.tlsf_crew.proofs.lemmas.worker.Slots.{get_set_other, get_set_same, some_same}
-use Rattle.tlsf_crew.proofs.lemmas.queues.QueueOpened.{some_at}
+use Rattle.tlsf_crew.proofs.lemmas.worker.Slots.{get_set_other, get_set_same, some_same, some_at}
 use Rattle.tlsf_crew.proofs.lemmas.queues.QueueYards.{all_kept}
 
 -- ---- one worker
 
 pub drained_last : {sli : ℕ} (n : ℕ) (a v : Worker sli Queues) (limits left : List ℕ) (at taken : ℕ) (entries between longer : List Entry) → taken ≤ sum_of limits → sum_of limits < 8192 → at ≡ id_of v
-    → ((made : List (Option Name)) → QueueStepped n a limits last_call made entries v left between (Drained taken)) → queue_end_to v ≡ queue_end_to a
+    → ((made : List (Option Name)) → QueueStepped n (at_stage a limits entries) last_call made (at_stage v left between) (Drained taken)) → queue_end_to v ≡ queue_end_to a
     → longer ≡ between ++ record { worker = at; call = last_call; reply = Drained taken } ∷ [] → QueueLastDrained n a v entries longer
 drained_last n a v limits left at taken entries between longer few less is step ends more =
     let x = step [] in

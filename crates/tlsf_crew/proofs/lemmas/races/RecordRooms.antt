@@ -17,11 +17,10 @@ use Rattle.tlsf_crew.specs.scripts.Counts.{releases_of}
 use Rattle.tlsf_crew.specs.scripts.Scripts.{script_of}
 use Rattle.tlsf_crew.specs.races.Rooms.{HaveRecordRooms}
 use Rattle.tlsf_crew.specs.races.LaneTasks.{HaveRooms, KeepRooms}
-use Rattle.tlsf_crew.proofs.lemmas.worker.Slots.{some_same, get_set_same, get_set_other}
+use Rattle.tlsf_crew.proofs.lemmas.worker.Slots.{some_same, get_set_same, get_set_other, some_at}
 use Rattle.tlsf_crew.proofs.lemmas.model.Sums.{same_sum}
 use Rattle.tlsf_crew.proofs.lemmas.lanes.Pending.{lane_ready}
 use Rattle.tlsf_crew.proofs.lemmas.lanes.LaneSettled.{none_wait}
-use Rattle.tlsf_crew.proofs.lemmas.races.WholeRace.{found_at}
 
 -- one record more was written, into the room that it had
 pub keeps_set : (rs ss : List (Vec Entry Global)) (j : ℕ) (r s : Vec Entry Global) → KeepRooms rs ss → j < length ss → slice_get ss j ≡ Some r → vec_capacity s ≡ vec_capacity r
@@ -55,7 +54,7 @@ pub record_rooms : {sli : ℕ} (zs ws : List (Worker sli Lanes)) (scripts : List
 record_rooms {sli} zs ws scripts records ss len settled yard same count rooms keep j s there =
     let k = keep j s there in
     let j_in : j < length ws = let n = slice_get_within records j k.0 k.1 in omega arith in
-    let found = found_at ws j j_in in
+    let found = some_at ws j j_in in
     let room = rooms j found.0 k.0 found.1 k.1 in
     let sums = same_sum 8 (λ i. length ((world_of zs).waiting i j) + releases_of (script_of scripts i)) (λ i. ready_from found.0 i + releases_of (script_of scripts i))
     (λ i _. let e = known_from zs ws i j found.0 len settled yard found.1 in let w = ap (λ (x : World sli). length (x.waiting i j)) same in omega arith) in

@@ -10,12 +10,12 @@ use Rattle.tlsf_heap.specs.declared.name.Name.{Name}
 use Rattle.tlsf_post.specs.declared.post.Post.{Post}
 use Rattle.tlsf_calls.specs.declared.entry.Entry.{Entry}
 use Rattle.tlsf_calls.specs.declared.call.Call.{Call}
-use Rattle.tlsf_calls.specs.declared.call.Call.TheVariants.{Allocate, Release, Write, Read, Resize, Take, Drain}
+use Rattle.tlsf_calls.specs.declared.call.Call.TheVariants.{Release, Take, Drain}
 use Rattle.tlsf_calls.specs.declared.target.Target.{Target}
 use Rattle.tlsf_calls.specs.declared.target.Target.TheVariants.{Named, Made as MadeBy, Absent}
 use Rattle.tlsf_calls.specs.declared.took.Took.{Took}
 use Rattle.tlsf_calls.specs.declared.reply.Reply.{Reply}
-use Rattle.tlsf_calls.specs.declared.reply.Reply.TheVariants.{Made, Freed, Posted, Wrote, Got, Resized, Took as Taken, Empty, Drained, Refused}
+use Rattle.tlsf_calls.specs.declared.reply.Reply.TheVariants.{Posted, Took as Taken, Empty, Drained, Refused}
 use Rattle.tlsf_calls.specs.declared.crew_refusal.CrewRefusal.TheVariants.{Full}
 use Rattle.tlsf_crew.specs.model.World.{name_of}
 use Rattle.tlsf_crew.specs.histories.History.{AreTakes, IsDrain, of_heap, post_of_release, post_of_take, posts_made, posts_taken, entries_of, StandsBehind}
@@ -40,22 +40,8 @@ same_name made (MadeBy k) = same_at made k
 same_name made Absent = refl
 
 same_post : (j : ℕ) (made : List (Option Name)) (i : ℕ) (call : Call) (reply : Reply) → post_of_release j (made ++ None ∷ []) i call reply ≡ post_of_release j made i call reply
-same_post j made i (Allocate len) reply = refl
-same_post j made i (Release target) (Made name) = refl
-same_post j made i (Release target) Freed = refl
 same_post j made i (Release target) Posted = ap (λ (n : Option Name). option_map (λ name. record { from = i; name = name }) (of_heap j n)) (same_name made target)
-same_post j made i (Release target) (Wrote n) = refl
-same_post j made i (Release target) (Got bytes) = refl
-same_post j made i (Release target) Resized = refl
-same_post j made i (Release target) (Taken t) = refl
-same_post j made i (Release target) Empty = refl
-same_post j made i (Release target) (Drained n) = refl
-same_post j made i (Release target) (Refused why) = refl
-same_post j made i (Write target from bytes) reply = refl
-same_post j made i (Read target from n) reply = refl
-same_post j made i (Resize target len) reply = refl
-same_post j made i (Take from) reply = refl
-same_post j made i (Drain most) reply = refl
+same_post j made i call reply = refl
 
 pub each_post_same : (i j : ℕ) (made : List (Option Name)) (es : List Entry) → posts_made i j (made ++ None ∷ []) es ≡ posts_made i j made es
 each_post_same i j made es = ap (λ (f : Entry → Option Post). filter_map f (entries_of i es)) (λ k e. same_post j made e.worker e.call e.reply k)
@@ -67,22 +53,8 @@ from_name i None = All-nil (λ (post : Post). post.from ≡ i)
 from_name i (Some name) = All-push (λ (post : Post). post.from ≡ i) [] (record { from = i; name = name }) (All-nil (λ (post : Post). post.from ≡ i)) refl
 
 from_call : (j : ℕ) (made : List (Option Name)) (i : ℕ) (call : Call) (reply : Reply) → AreFrom i (cons_option (post_of_release j made i call reply) [])
-from_call j made i (Allocate len) reply = All-nil (λ (post : Post). post.from ≡ i)
-from_call j made i (Release target) (Made name) = All-nil (λ (post : Post). post.from ≡ i)
-from_call j made i (Release target) Freed = All-nil (λ (post : Post). post.from ≡ i)
 from_call j made i (Release target) Posted = from_name i (of_heap j (name_of made target))
-from_call j made i (Release target) (Wrote n) = All-nil (λ (post : Post). post.from ≡ i)
-from_call j made i (Release target) (Got bytes) = All-nil (λ (post : Post). post.from ≡ i)
-from_call j made i (Release target) Resized = All-nil (λ (post : Post). post.from ≡ i)
-from_call j made i (Release target) (Taken t) = All-nil (λ (post : Post). post.from ≡ i)
-from_call j made i (Release target) Empty = All-nil (λ (post : Post). post.from ≡ i)
-from_call j made i (Release target) (Drained n) = All-nil (λ (post : Post). post.from ≡ i)
-from_call j made i (Release target) (Refused why) = All-nil (λ (post : Post). post.from ≡ i)
-from_call j made i (Write target from bytes) reply = All-nil (λ (post : Post). post.from ≡ i)
-from_call j made i (Read target from n) reply = All-nil (λ (post : Post). post.from ≡ i)
-from_call j made i (Resize target len) reply = All-nil (λ (post : Post). post.from ≡ i)
-from_call j made i (Take from) reply = All-nil (λ (post : Post). post.from ≡ i)
-from_call j made i (Drain most) reply = All-nil (λ (post : Post). post.from ≡ i)
+from_call j made i call reply = All-nil (λ (post : Post). post.from ≡ i)
 
 from_entry : (i j : ℕ) (made : List (Option Name)) (e : Entry) → AreFrom i (posts_made i j made (e ∷ []))
 from_entry i j made e =
@@ -165,60 +137,57 @@ pub record ScriptsAgree (capacity i j : ℕ) (waited waits : List Post) (made : 
   pub drained : (before : List Entry) (e : Entry) (most k : ℕ) → StandsBehind taker before e → e.call ≡ Drain most → e.reply ≡ Drained k → k < most
       → IsPrefix waited (posts_taken i j before)
 
-agree_full : (capacity i j : ℕ) (W waits : List Post) (made : List (Option Name)) (s t own : List Entry) → ScriptsAgree capacity i j W waits made s t → IsDrain i 8192 own
-    → (before : List Entry) (e : Entry) (name : Name) → StandsBehind (s ++ own) before e → e.reply ≡ Refused (Full name) → name.heap ≡ j
-    → capacity ≤ length W + length (posts_made i j (made ++ None ∷ []) before)
-agree_full capacity i j W waits made s t own a d before e name stands reply here =
-    elim (stands_split s own before stands.0 e stands.1) [
-      | inl f ↦ rw (each_post_same i j made before) (a.full before e name f reply here)
-      | inr f ↦ elim (of_drain i 8192 own f.0 stands.0 e d f.2) [
-        | inl g ↦ let q = sym reply ∙ ap (λ (x : Entry). x.reply) g.2 in cc
-        | inr g ↦ let q = sym reply ∙ ap (λ (x : Entry). x.reply) g.1 in cc
+module _ (capacity i j : ℕ) (W waits : List Post) (made : List (Option Name)) (s t : List Entry) (a : ScriptsAgree capacity i j W waits made s t) where
+  agree_full : (own : List Entry) → IsDrain i 8192 own → (before : List Entry) (e : Entry) (name : Name) → StandsBehind (s ++ own) before e → e.reply ≡ Refused (Full name) → name.heap ≡ j
+      → capacity ≤ length W + length (posts_made i j (made ++ None ∷ []) before)
+  agree_full own d before e name stands reply here =
+      elim (stands_split s own before stands.0 e stands.1) [
+        | inl f ↦ rw (each_post_same i j made before) (a.full before e name f reply here)
+        | inr f ↦ elim (of_drain i 8192 own f.0 stands.0 e d f.2) [
+          | inl g ↦ let q = sym reply ∙ ap (λ (x : Entry). x.reply) g.2 in cc
+          | inr g ↦ let q = sym reply ∙ ap (λ (x : Entry). x.reply) g.1 in cc
+        ]
       ]
-    ]
 
-agree_empty : (capacity i j : ℕ) (W waits : List Post) (made : List (Option Name)) (s t own : List Entry) → ScriptsAgree capacity i j W waits made s t → IsDrain j 8192 own
-    → (before : List Entry) (e : Entry) → StandsBehind (t ++ own) before e → e.call ≡ Take i → e.reply ≡ Empty → IsPrefix W (posts_taken i j before)
-agree_empty capacity i j W waits made s t own a d before e stands call reply =
-    elim (stands_split t own before stands.0 e stands.1) [
-      | inl f ↦ a.empty before e f call reply
-      | inr f ↦ elim (of_drain j 8192 own f.0 stands.0 e d f.2) [
-        | inl g ↦ let q = sym reply ∙ ap (λ (x : Entry). x.reply) g.2 in cc
-        | inr g ↦ let q = sym reply ∙ ap (λ (x : Entry). x.reply) g.1 in cc
+  agree_empty : (own : List Entry) → IsDrain j 8192 own → (before : List Entry) (e : Entry) → StandsBehind (t ++ own) before e → e.call ≡ Take i → e.reply ≡ Empty → IsPrefix W (posts_taken i j before)
+  agree_empty own d before e stands call reply =
+      elim (stands_split t own before stands.0 e stands.1) [
+        | inl f ↦ a.empty before e f call reply
+        | inr f ↦ elim (of_drain j 8192 own f.0 stands.0 e d f.2) [
+          | inl g ↦ let q = sym reply ∙ ap (λ (x : Entry). x.reply) g.2 in cc
+          | inr g ↦ let q = sym reply ∙ ap (λ (x : Entry). x.reply) g.1 in cc
+        ]
       ]
-    ]
 
-agree_drained : (capacity i j : ℕ) (W waits : List Post) (made : List (Option Name)) (s t own : List Entry) → ScriptsAgree capacity i j W waits made s t
-    → IsDrain j 8192 own → posts_taken i j own ≡ waits
-    → (before : List Entry) (e : Entry) (most k : ℕ) → StandsBehind (t ++ own) before e → e.call ≡ Drain most → e.reply ≡ Drained k → k < most
-    → IsPrefix W (posts_taken i j before)
-agree_drained capacity i j W waits made s t own a d took before e most k stands call reply lt =
-    elim (stands_split t own before stands.0 e stands.1) [
-      | inl f ↦ a.drained before e most k f call reply lt
-      | inr f ↦ elim (of_drain j 8192 own f.0 stands.0 e d f.2) [
-        | inl g ↦ let q = sym call ∙ ap (λ (x : Entry). x.call) g.2 in cc
-        | inr g ↦
-            let all : posts_taken i j before ≡ posts_taken i j t ++ waits =
-            ap (posts_taken i j) (f.1 ∙ ap (λ m. t ++ m) g.0) ∙ (taken_then i j t d.takes ∙ ap (λ l. posts_taken i j t ++ l) (drain_takes i j j 8192 own d ∙ took)) in
-            (posts_made i j made s, sym (all ∙ a.posts))
+  agree_drained : (own : List Entry) → IsDrain j 8192 own → posts_taken i j own ≡ waits
+      → (before : List Entry) (e : Entry) (most k : ℕ) → StandsBehind (t ++ own) before e → e.call ≡ Drain most → e.reply ≡ Drained k → k < most
+      → IsPrefix W (posts_taken i j before)
+  agree_drained own d took before e most k stands call reply lt =
+      elim (stands_split t own before stands.0 e stands.1) [
+        | inl f ↦ a.drained before e most k f call reply lt
+        | inr f ↦ elim (of_drain j 8192 own f.0 stands.0 e d f.2) [
+          | inl g ↦ let q = sym call ∙ ap (λ (x : Entry). x.call) g.2 in cc
+          | inr g ↦
+              let all : posts_taken i j before ≡ posts_taken i j t ++ waits =
+              ap (posts_taken i j) (f.1 ∙ ap (λ m. t ++ m) g.0) ∙ (taken_then i j t d.takes ∙ ap (λ l. posts_taken i j t ++ l) (drain_takes i j j 8192 own d ∙ took)) in
+              (posts_made i j made s, sym (all ∙ a.posts))
+        ]
       ]
-    ]
 
--- with the last drains of both
-pub records_agree : (capacity i j : ℕ) (W waits : List Post) (made : List (Option Name)) (s t own_s own_t : List Entry) → ScriptsAgree capacity i j W waits made s t
-    → IsDrain i 8192 own_s → IsDrain j 8192 own_t → posts_taken i j own_t ≡ waits
-    → Agree capacity i j W (made ++ None ∷ []) (s ++ own_s) t (t ++ own_t)
-records_agree capacity i j W waits made s t own_s own_t a ds dt took =
-    let longer = made ++ None ∷ [] in
-    let makes : posts_made i j longer (s ++ own_s) ≡ posts_made i j made s =
-    made_then i j longer s own_s ∙ (ap (λ l. posts_made i j longer s ++ l) (drain_makes i j i 8192 longer own_s ds) ∙ (append-nil (posts_made i j longer s) ∙ each_post_same i j made s)) in
-    let takes : posts_taken i j (t ++ own_t) ≡ posts_taken i j t ++ waits = taken_then i j t own_t ∙ ap (λ l. posts_taken i j t ++ l) took in
-    let all : posts_taken i j (t ++ own_t) ≡ W ++ posts_made i j made s = takes ∙ a.posts in
-    record {
-      posts = ap (λ l. W ++ l) makes ∙ sym all;
-      signed = rw all (All-append (λ (post : Post). post.from ≡ i) W (posts_made i j made s) a.signed (made_from i j made s));
-      last = rw (drop-append_seam t own_t, took) a.few;
-      full = agree_full capacity i j W waits made s t own_s a ds;
-      empty = agree_empty capacity i j W waits made s t own_t a dt;
-      drained = agree_drained capacity i j W waits made s t own_t a dt took;
-    }
+  -- with the last drains of both
+  pub records_agree : (own_s own_t : List Entry) → IsDrain i 8192 own_s → IsDrain j 8192 own_t → posts_taken i j own_t ≡ waits
+      → Agree capacity i j W (made ++ None ∷ []) (s ++ own_s) t (t ++ own_t)
+  records_agree own_s own_t ds dt took =
+      let longer = made ++ None ∷ [] in
+      let makes : posts_made i j longer (s ++ own_s) ≡ posts_made i j made s =
+      made_then i j longer s own_s ∙ (ap (λ l. posts_made i j longer s ++ l) (drain_makes i j i 8192 longer own_s ds) ∙ (append-nil (posts_made i j longer s) ∙ each_post_same i j made s)) in
+      let takes : posts_taken i j (t ++ own_t) ≡ posts_taken i j t ++ waits = taken_then i j t own_t ∙ ap (λ l. posts_taken i j t ++ l) took in
+      let all : posts_taken i j (t ++ own_t) ≡ W ++ posts_made i j made s = takes ∙ a.posts in
+      record {
+        posts = ap (λ l. W ++ l) makes ∙ sym all;
+        signed = rw all (All-append (λ (post : Post). post.from ≡ i) W (posts_made i j made s) a.signed (made_from i j made s));
+        last = rw (drop-append_seam t own_t, took) a.few;
+        full = agree_full own_s ds;
+        empty = agree_empty own_t dt;
+        drained = agree_drained own_t dt took;
+      }

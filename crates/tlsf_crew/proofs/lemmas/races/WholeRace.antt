@@ -1,6 +1,6 @@
 -- A race leads from the yard that was handed in to the one that comes back: each record is legal, and each two agree.
 use Rattle.std.proofs.Math.Seq.{take-append_seam}
-use Rattle.std.proofs.Common.{suc, zero, [], ◌∷◌, ◌++◌, ◌≡◌, ◌≢◌, ℕ, ◌+◌, ◌<◌, ◌≤◌, List, Option, Some, None, length, map, take, drop, vec_len, vec_capacity, sym, ◌∙◌, ap, subst, arith, refl, inl, inr, length-append}
+use Rattle.std.proofs.Common.{[], ◌∷◌, ◌++◌, ◌≡◌, ◌≢◌, ℕ, ◌+◌, ◌<◌, ◌≤◌, List, Option, Some, None, length, map, take, drop, vec_len, vec_capacity, sym, ◌∙◌, ap, subst, arith, refl, inl, inr, length-append}
 use Rattle.std.specs.List.{slice_get}
 use Rattle.std.specs.declared.vec.Vec.{Vec}
 use Rattle.std.specs.declared.alloc.Global.{Global}
@@ -31,7 +31,7 @@ use Rattle.tlsf_crew.specs.races.Race.{IsLegal, Agree, IsRace}
 use Rattle.tlsf_calls.specs.Entries.{record_of}
 use Rattle.tlsf_crew.specs.model.Told.{untold, MayTell, MayTellAll}
 use Rattle.tlsf_crew.specs.races.LaneTasks.{LaneWorkerRan, EachLaneWorkerRan, HaveRooms, EachHasLastRoom, HasFew, EachLastDrained}
-use Rattle.tlsf_crew.proofs.lemmas.worker.Slots.{some_same}
+use Rattle.tlsf_crew.proofs.lemmas.worker.Slots.{some_same, some_at}
 use Rattle.tlsf_crew.proofs.lemmas.lanes.LaneSlots.{from_post, from_take, heap_at}
 use Rattle.tlsf_crew.proofs.lemmas.lanes.LanesOfOne.{own_number}
 use Rattle.tlsf_crew.proofs.lemmas.model.Sums.{least_sum, sum_both}
@@ -65,133 +65,126 @@ capacity_kept (a ∷ ws) (v ∷ vs) scripts rs run =
     let r = run.ran 0 a refl in
     ap (λ (x : ℕ × ℕ). x.1) (ap id_and_capacity (some_same v r.0 r.1) ∙ r.2.numbers)
 
--- ---- one worker
-
--- worker j of a settled yard, which becomes v
-record WorkerRan {sli : ℕ} (ws vs : List (Worker sli Lanes)) (scripts : List (List Call)) (rs : List (List Entry)) (made : List (Option Name)) (j : ℕ) : Type 0 where
-  old : Worker sli Lanes
-  old_is : slice_get ws j ≡ Some old
-  number : id_of old ≡ j
-  new : Worker sli Lanes
-  new_is : slice_get vs j ≡ Some new
-  ran : LaneWorkerRan (length ws) old (script_of scripts j) made (record_of rs j) new
-
-abbrev worker_ran : {sli : ℕ} (ws vs : List (Worker sli Lanes)) (scripts : List (List Call)) (rs : List (List Entry)) → IsYard ws → (run : EachLaneWorkerRan ws scripts rs vs) → (j : ℕ) (a : Worker sli Lanes) → slice_get ws j ≡ Some a
-    → WorkerRan ws vs scripts rs (run.made j) j
-worker_ran ws vs scripts rs yard run j a is =
-    let r = run.ran j a is in
-    record { old = a; old_is = is; number = own_number ws j a yard is; new = r.0; new_is = r.1; ran = r.2 }
-
--- what worker i sent to j
-sent_in : {sli : ℕ} (ws vs : List (Worker sli Lanes)) (scripts : List (List Call)) (rs : List (List Entry)) (made : List (Option Name)) (i j : ℕ) → (a : WorkerRan ws vs scripts rs made i) → (p q : PostEnd)
-    → post_at ws i j ≡ Some p → posts_sent p ≡ [] → post_at vs i j ≡ Some q → posts_sent q ≡ posts_made i j made (record_of rs i)
-sent_in ws vs scripts rs made i j a p q p_is none q_is =
-    let s = a.ran.sent j p (sym (ap (λ o. end_to_in o j) a.old_is) ∙ p_is) in
-    let same : q ≡ s.end = some_same q s.end (sym q_is ∙ (ap (λ o. end_to_in o j) a.new_is ∙ s.end_is)) in
-    ap posts_sent same ∙ (s.sent ∙ (ap (λ l. l ++ posts_made (id_of a.old) j made (record_of rs i)) none ∙ ap (λ (k : ℕ). posts_made k j made (record_of rs i)) a.number))
+-- ---- scripts that ran
 
 -- what worker j took from i
 record TakenIn (t u : TakeEnd) (i j : ℕ) (es : List Entry) : Type 0 where
   waited : waited u ≡ waited t
   taken : taken u ≡ posts_taken i j es
 
-takes_told : {sli : ℕ} (ws vs : List (Worker sli Lanes)) (scripts : List (List Call)) (rs : List (List Entry)) (made : List (Option Name)) (i j : ℕ) → (a : WorkerRan ws vs scripts rs made j) → (t u : TakeEnd)
-    → take_at ws i j ≡ Some t → taken t ≡ [] → take_at vs i j ≡ Some u → TakenIn t u i j (record_of rs j)
-takes_told ws vs scripts rs made i j a t u t_is none u_is =
-    let s = a.ran.taken i t (sym (ap (λ o. end_from_in o i) a.old_is) ∙ t_is) in
-    let same : u ≡ s.end = some_same u s.end (sym u_is ∙ (ap (λ o. end_from_in o i) a.new_is ∙ s.end_is)) in
-    record {
-      waited = ap waited same ∙ s.waited;
-      taken = ap taken same ∙ (s.taken ∙ (ap (λ l. l ++ posts_taken i (id_of a.old) (record_of rs j)) none ∙ ap (λ (k : ℕ). posts_taken i k (record_of rs j)) a.number));
-    }
-
--- ---- one lane
-
--- the scripts of two workers agree, and how many posts there are
-record LaneRan {sli : ℕ} (ws us : List (Worker sli Lanes)) (scripts : List (List Call)) (rs : List (List Entry)) (made : List (Option Name)) (i j : ℕ) : Type 0 where
-  agree : ScriptsAgree (capacity_in ws) i j (waits_in ws i j) (waits_in us i j) made (record_of rs i) (record_of rs j)
-  ready : length (waits_in ws i j) ≡ count_of (take_at ws i j)
-  made_few : length (posts_made i j made (record_of rs i)) ≤ releases_of (script_of scripts i)
-
 in_order : (W waits ts ps t w u s : List Post) → t ++ u ≡ w ++ s → t ≡ ts → u ≡ waits → w ≡ W → s ≡ ps → ts ++ waits ≡ W ++ ps
 in_order W waits ts ps t w u s e a b c d = sym (ap (λ l. l ++ u) a ∙ ap (λ l. ts ++ l) b) ∙ (e ∙ (ap (λ l. l ++ s) c ∙ ap (λ l. W ++ l) d))
 
-lane_ran : {sli : ℕ} (zs ws vs us : List (Worker sli Lanes)) (scripts : List (List Call)) (rs : List (List Entry)) → length ws ≡ length zs → EachLaneSettled zs ws → IsYard ws → (run : EachLaneWorkerRan ws scripts rs vs)
-    → length us ≡ length vs → EachLaneSettled vs us → IsYard us → capacity_in us ≡ capacity_in ws → (i j : ℕ) → i < length ws → j < length ws → i ≢ j
-    → LaneRan ws us scripts rs (run.made i) i j
-lane_ran zs ws vs us scripts rs len settled yard run later_len later_settled later capacity i j i_in j_in ne =
-    let m = settled i j (omega arith) (omega arith) ne in
-    let n = let c = run.worker_count in later_settled i j (omega arith) (omega arith) ne in
-    let f = from_post (slice_get ws i) j m.new_post m.new_post_is in
-    let g = from_take (slice_get ws j) i m.new_take m.new_take_is in
-    let a = worker_ran ws vs scripts rs yard run i f.0 f.1 in
-    let b = worker_ran ws vs scripts rs yard run j g.0 g.1 in
-    let to : end_to a.old j ≡ Some m.new_post = sym (ap (λ o. end_to_in o j) a.old_is) ∙ m.new_post_is in
-    let from : end_from b.old i ≡ Some m.new_take = sym (ap (λ o. end_from_in o i) b.old_is) ∙ m.new_take_is in
-    let sent = sent_in ws vs scripts rs (run.made i) i j a m.new_post n.post m.new_post_is m.beside.fresh.0 n.post_is in
-    let took = takes_told ws vs scripts rs (run.made j) i j b m.new_take n.take m.new_take_is m.beside.fresh.1 n.take_is in
-    let waits = settled_waits zs ws i j m in
-    let known : ready m.new_take ≡ waits_in ws i j = m.beside.fresh.2 ∙ sym waits in
-    let room = settled_room zs ws i j i_in j_in ne yard m in
-    let c = run.worker_count in
-    let last = settled_room vs us i j (omega arith) (omega arith) ne later n in
-    record {
-      agree = record {
-        posts = in_order (waits_in ws i j) (waits_in us i j) _ _ (taken n.take) (waited n.take) (waited n.new_take) (posts_sent n.post)
-            n.beside.order took.taken (sym (settled_waits vs us i j n)) (took.waited ∙ sym waits) sent;
-        signed = yard.signed i j;
-        few = omega arith;
-        full = λ before e name stands reply here.
-            let k = a.ran.full before e name m.new_post stands reply (ap (end_to a.old) here ∙ to) in
-            let q : posts_made (id_of a.old) name.heap (run.made i) before ≡ posts_made i j (run.made i) before = rw (a.number, here) refl in
-            let l = ap length q in
-            omega arith;
-        empty = λ before e stands call reply.
-            subst (λ (k : ℕ). IsPrefix (waits_in ws i j) (posts_taken i k before)) b.number
-            (subst (λ (l : List Post). IsPrefix l (posts_taken i (id_of b.old) before)) known (b.ran.empty before e i m.new_take stands call reply from));
-        drained = λ before e most k stands call reply lt.
-            subst (λ (x : ℕ). IsPrefix (waits_in ws i j) (posts_taken i x before)) b.number
-            (subst (λ (l : List Post). IsPrefix l (posts_taken i (id_of b.old) before)) known (b.ran.drained before e most k i m.new_take stands call reply lt from));
-      };
-      ready = sym (ap length known) ∙ sym (ap count_of m.new_take_is);
-      made_few = subst (λ (k : ℕ). length (posts_made k j (run.made i) (record_of rs i)) ≤ releases_of (script_of scripts i)) a.number (a.ran.few_posts j);
-    }
+-- the workers of a whole yard ran their scripts
+module _ {sli : ℕ} (ws vs : List (Worker sli Lanes)) (scripts : List (List Call)) (rs : List (List Entry)) (yard : IsYard ws) (run : EachLaneWorkerRan ws scripts rs vs) where
+  -- worker j of a settled yard, which becomes v
+  record WorkerRan (j : ℕ) : Type 0 where
+    old : Worker sli Lanes
+    old_is : slice_get ws j ≡ Some old
+    number : id_of old ≡ j
+    new : Worker sli Lanes
+    new_is : slice_get vs j ≡ Some new
+    ran : LaneWorkerRan (length ws) old (script_of scripts j) (run.made j) (record_of rs j) new
 
--- ---- the room for the last drains
+  abbrev worker_ran : (j : ℕ) (a : Worker sli Lanes) → slice_get ws j ≡ Some a → WorkerRan j
+  worker_ran j a is =
+      let r = run.ran j a is in
+      record { old = a; old_is = is; number = own_number ws j a yard is; new = r.0; new_is = r.1; ran = r.2 }
 
-lane_room : {sli : ℕ} (zs ws vs us : List (Worker sli Lanes)) (scripts : List (List Call)) (rs : List (List Entry)) → length ws ≡ length zs → EachLaneSettled zs ws → IsYard ws → (run : EachLaneWorkerRan ws scripts rs vs)
-    → length us ≡ length vs → EachLaneSettled vs us → IsYard us → capacity_in us ≡ capacity_in ws → (j : ℕ) (a : Worker sli Lanes) → slice_get ws j ≡ Some a → (i : ℕ)
-    → length (posts_taken i j (record_of rs j)) + length (waits_in us i j) ≤ ready_from a i + releases_of (script_of scripts i)
-lane_room {sli} zs ws vs us scripts rs len settled yard run later_len later_settled later capacity j a is i =
-    let j_in = slice_get_within ws j a is in
-    let c = run.worker_count in
-    let nowhere : (i ≢ j → length ws ≤ i) → length (posts_taken i j (record_of rs j)) + length (waits_in us i j) ≤ ready_from a i + releases_of (script_of scripts i) = λ far.
-    let r = worker_ran ws vs scripts rs yard run j a is in
-    let none = tells_none sli (length ws) i (id_of a) (untold (heap_of a)) (record { made = run.made j; entries = record_of rs j; heap = heap_of r.new }) (script_of scripts j)
-    (λ ne. far (λ e. ne (e ∙ sym r.number))) r.ran.told refl in
-    let n : length (posts_taken i j (record_of rs j)) ≡ 0 = ap length (subst (λ (k : ℕ). posts_taken i k (record_of rs j) ≡ []) r.number none) in
-    let m = ap length (none_wait us i j later (λ ne. let h : length ws ≤ i = far ne in omega arith)) in
-    omega arith in
-    elim (cases_eq i j) [
-      | inl e ↦ nowhere (λ ne. absurd (ne e))
-      | inr ne ↦ elim (cases_lt i (length ws)) [
-        | inl i_in ↦
-            let l = lane_ran zs ws vs us scripts rs len settled yard run later_len later_settled later capacity i j i_in j_in ne in
-            let e = ap length l.agree.posts in
-            let p = length-append (posts_taken i j (record_of rs j)) (waits_in us i j) in
-            let q = length-append (waits_in ws i j) (posts_made i j (run.made i) (record_of rs i)) in
-            let r : count_of (take_at ws i j) ≡ ready_from a i = ap (λ o. count_of (end_from_in o i)) is in
-            let s = l.ready in
-            let t = l.made_few in
-            omega arith
-        | inr far ↦ nowhere (λ _. far)
-      ]
-    ]
+  -- what worker i sent to j
+  sent_in : (i j : ℕ) (a : WorkerRan i) (p q : PostEnd) → post_at ws i j ≡ Some p → posts_sent p ≡ [] → post_at vs i j ≡ Some q → posts_sent q ≡ posts_made i j (run.made i) (record_of rs i)
+  sent_in i j a p q p_is none q_is =
+      let s = a.ran.sent j p (sym (ap (λ o. end_to_in o j) a.old_is) ∙ p_is) in
+      let same : q ≡ s.end = some_same q s.end (sym q_is ∙ (ap (λ o. end_to_in o j) a.new_is ∙ s.end_is)) in
+      ap posts_sent same ∙ (s.sent ∙ (ap (λ l. l ++ posts_made (id_of a.old) j (run.made i) (record_of rs i)) none ∙ ap (λ (k : ℕ). posts_made k j (run.made i) (record_of rs i)) a.number))
 
-pub found_at : {sli : ℕ} (ws : List (Worker sli Lanes)) (j : ℕ) → j < length ws → (a : Worker sli Lanes) × (slice_get ws j ≡ Some a)
-found_at [] j lt = absurd (omega arith)
-found_at (w ∷ ws) zero lt = (w, refl)
-found_at (w ∷ ws) (suc j) lt = found_at ws j (omega arith)
+  takes_told : (i j : ℕ) (a : WorkerRan j) (t u : TakeEnd) → take_at ws i j ≡ Some t → taken t ≡ [] → take_at vs i j ≡ Some u → TakenIn t u i j (record_of rs j)
+  takes_told i j a t u t_is none u_is =
+      let s = a.ran.taken i t (sym (ap (λ o. end_from_in o i) a.old_is) ∙ t_is) in
+      let same : u ≡ s.end = some_same u s.end (sym u_is ∙ (ap (λ o. end_from_in o i) a.new_is ∙ s.end_is)) in
+      record {
+        waited = ap waited same ∙ s.waited;
+        taken = ap taken same ∙ (s.taken ∙ (ap (λ l. l ++ posts_taken i (id_of a.old) (record_of rs j)) none ∙ ap (λ (k : ℕ). posts_taken i k (record_of rs j)) a.number));
+      }
+
+  -- the yard was settled before and after
+  module _ (zs us : List (Worker sli Lanes)) (len : length ws ≡ length zs) (settled : EachLaneSettled zs ws) (later_len : length us ≡ length vs) (later_settled : EachLaneSettled vs us) (later : IsYard us) (capacity : capacity_in us ≡ capacity_in ws) where
+    -- ---- one lane
+
+    -- the scripts of two workers agree, and how many posts there are
+    record LaneRan (i j : ℕ) : Type 0 where
+      agree : ScriptsAgree (capacity_in ws) i j (waits_in ws i j) (waits_in us i j) (run.made i) (record_of rs i) (record_of rs j)
+      ready : length (waits_in ws i j) ≡ count_of (take_at ws i j)
+      made_few : length (posts_made i j (run.made i) (record_of rs i)) ≤ releases_of (script_of scripts i)
+
+    lane_ran : (i j : ℕ) → i < length ws → j < length ws → i ≢ j → LaneRan i j
+    lane_ran i j i_in j_in ne =
+        let m = settled i j (omega arith) (omega arith) ne in
+        let n = let c = run.worker_count in later_settled i j (omega arith) (omega arith) ne in
+        let f = from_post (slice_get ws i) j m.new_post m.new_post_is in
+        let g = from_take (slice_get ws j) i m.new_take m.new_take_is in
+        let a = worker_ran i f.0 f.1 in
+        let b = worker_ran j g.0 g.1 in
+        let to : end_to a.old j ≡ Some m.new_post = sym (ap (λ o. end_to_in o j) a.old_is) ∙ m.new_post_is in
+        let from : end_from b.old i ≡ Some m.new_take = sym (ap (λ o. end_from_in o i) b.old_is) ∙ m.new_take_is in
+        let sent = sent_in i j a m.new_post n.post m.new_post_is m.beside.fresh.0 n.post_is in
+        let took = takes_told i j b m.new_take n.take m.new_take_is m.beside.fresh.1 n.take_is in
+        let waits = settled_waits zs ws i j m in
+        let known : ready m.new_take ≡ waits_in ws i j = m.beside.fresh.2 ∙ sym waits in
+        let room = settled_room zs ws i j i_in j_in ne yard m in
+        let c = run.worker_count in
+        let last = settled_room vs us i j (omega arith) (omega arith) ne later n in
+        record {
+          agree = record {
+            posts = in_order (waits_in ws i j) (waits_in us i j) _ _ (taken n.take) (waited n.take) (waited n.new_take) (posts_sent n.post)
+                n.beside.order took.taken (sym (settled_waits vs us i j n)) (took.waited ∙ sym waits) sent;
+            signed = yard.signed i j;
+            few = omega arith;
+            full = λ before e name stands reply here.
+                let k = a.ran.full before e name m.new_post stands reply (ap (end_to a.old) here ∙ to) in
+                let q : posts_made (id_of a.old) name.heap (run.made i) before ≡ posts_made i j (run.made i) before = rw (a.number, here) refl in
+                let l = ap length q in
+                omega arith;
+            empty = λ before e stands call reply.
+                subst (λ (k : ℕ). IsPrefix (waits_in ws i j) (posts_taken i k before)) b.number
+                (subst (λ (l : List Post). IsPrefix l (posts_taken i (id_of b.old) before)) known (b.ran.empty before e i m.new_take stands call reply from));
+            drained = λ before e most k stands call reply lt.
+                subst (λ (x : ℕ). IsPrefix (waits_in ws i j) (posts_taken i x before)) b.number
+                (subst (λ (l : List Post). IsPrefix l (posts_taken i (id_of b.old) before)) known (b.ran.drained before e most k i m.new_take stands call reply lt from));
+          };
+          ready = sym (ap length known) ∙ sym (ap count_of m.new_take_is);
+          made_few = subst (λ (k : ℕ). length (posts_made k j (run.made i) (record_of rs i)) ≤ releases_of (script_of scripts i)) a.number (a.ran.few_posts j);
+        }
+
+    -- ---- the room for the last drains
+
+    lane_room : (j : ℕ) (a : Worker sli Lanes) → slice_get ws j ≡ Some a → (i : ℕ)
+        → length (posts_taken i j (record_of rs j)) + length (waits_in us i j) ≤ ready_from a i + releases_of (script_of scripts i)
+    lane_room j a is i =
+        let j_in = slice_get_within ws j a is in
+        let c = run.worker_count in
+        let nowhere : (i ≢ j → length ws ≤ i) → length (posts_taken i j (record_of rs j)) + length (waits_in us i j) ≤ ready_from a i + releases_of (script_of scripts i) = λ far.
+        let r = worker_ran j a is in
+        let none = tells_none sli (length ws) i (id_of a) (untold (heap_of a)) (record { made = run.made j; entries = record_of rs j; heap = heap_of r.new }) (script_of scripts j)
+        (λ ne. far (λ e. ne (e ∙ sym r.number))) r.ran.told refl in
+        let n : length (posts_taken i j (record_of rs j)) ≡ 0 = ap length (subst (λ (k : ℕ). posts_taken i k (record_of rs j) ≡ []) r.number none) in
+        let m = ap length (none_wait us i j later (λ ne. let h : length ws ≤ i = far ne in omega arith)) in
+        omega arith in
+        elim (cases_eq i j) [
+          | inl e ↦ nowhere (λ ne. absurd (ne e))
+          | inr ne ↦ elim (cases_lt i (length ws)) [
+            | inl i_in ↦
+                let l = lane_ran i j i_in j_in ne in
+                let e = ap length l.agree.posts in
+                let p = length-append (posts_taken i j (record_of rs j)) (waits_in us i j) in
+                let q = length-append (waits_in ws i j) (posts_made i j (run.made i) (record_of rs i)) in
+                let r : count_of (take_at ws i j) ≡ ready_from a i = ap (λ o. count_of (end_from_in o i)) is in
+                let s = l.ready in
+                let t = l.made_few in
+                omega arith
+            | inr far ↦ nowhere (λ _. far)
+          ]
+        ]
 
 plain_room : (n e s t w b m c : ℕ) → n ≡ e → e ≤ s + t → b ≡ t + w → b ≤ m → c ≡ s + m + 1 → n + w + 1 ≤ c
 plain_room n e s t w b m c p q r x y = omega arith
@@ -202,7 +195,7 @@ last_rooms zs ws vs us scripts records len settled yard run rooms later_len late
     let rs = items_of records in
     let j_in : j < length ws = let n = slice_get_within records j r there in let m = length-map records (λ (x : Vec Entry Global). x.items) in let c = run.record_count in omega arith in
     let capacity = capacity_same vs us same ∙ capacity_kept ws vs scripts rs run in
-    let found = found_at ws j j_in in
+    let found = some_at ws j j_in in
     let a = found.0 in
     let w = worker_ran ws vs scripts rs yard run j a found.1 in
     let room = rooms j a r found.1 there in
@@ -211,7 +204,7 @@ last_rooms zs ws vs us scripts records len settled yard run rooms later_len late
     subst (λ (k : ℕ). length (record_of rs j) ≤ length (script_of scripts j) + sum_below 8 (λ i. length (posts_taken i k (record_of rs j)))) w.number w.ran.few_entries in
     let both = sum_both 8 (λ i. length (posts_taken i j (record_of rs j))) (λ i. length (waits_in us i j)) in
     let most = least_sum 8 (λ i. length (posts_taken i j (record_of rs j)) + length (waits_in us i j)) (λ i. ready_from a i + releases_of (script_of scripts i))
-    (λ i _. lane_room zs ws vs us scripts rs len settled yard run later_len later_settled later capacity j a found.1 i) in
+    (λ i _. lane_room ws vs scripts rs yard run zs us len settled later_len later_settled later capacity j a found.1 i) in
     let n = ap length (record_items records j r there) in
     let o : vec_len r ≡ length r.items = let k = r.ok in omega arith in
     plain_room (vec_len r) (length (record_of rs j)) (length (script_of scripts j)) taken_sum (sum_below 8 (λ i. length (waits_in us i j)))
@@ -228,7 +221,7 @@ legal_in : {sli : ℕ} (zs ws vs us xs : List (Worker sli Lanes)) (scripts : Lis
     → (run : EachLaneWorkerRan ws scripts rs vs) → length us ≡ length vs → world_of us ≡ world_of vs → EachLastDrained us rs ss xs (length us) → (j : ℕ) → j < length zs
     → IsLegal sli (length zs) j (yard_heap zs j) (script_of scripts j) (record_of rs j) (record { made = run.made j ++ None ∷ []; entries = record_of ss j; heap = yard_heap xs j })
 legal_in {sli} zs ws vs us xs scripts rs ss len same yard run later_len later_same last j j_in =
-    let found = found_at ws j (omega arith) in
+    let found = some_at ws j (omega arith) in
     let w = worker_ran ws vs scripts rs yard run j found.0 found.1 in
     let c = run.worker_count in
     let told = last.told j (omega arith) in
@@ -264,12 +257,12 @@ race_is zs ws vs us xs scripts rs ss len settled same yard run later_len later_s
       legal = λ j j_in.
           rw n (legal_in zs ws vs us xs scripts rs ss len same yard run later_len later_same last j (omega arith));
       agree = λ i j i_in j_in ne.
-          let l = lane_ran zs ws vs us scripts rs len settled yard run later_len later_settled later kept i j (omega arith) (omega arith) ne in
+          let l = lane_ran ws vs scripts rs yard run zs us len settled later_len later_settled later kept i j (omega arith) (omega arith) ne in
           let p = last.told i (omega arith) in
           let q = last.told j (omega arith) in
           agree_as (capacity_in ws) (capacity_in zs) i j (waits_in ws i j) (waits_in zs i j) (run.made i ++ None ∷ []) (record_of rs i ++ p.own) (record_of rs j ++ q.own) (record_of rs j)
           (record_of ss i) (record_of ss j) (capacity_same zs ws same) (waits_same zs ws same i j) p.entries q.entries
-          (records_agree (capacity_in ws) i j (waits_in ws i j) (waits_in us i j) (run.made i) (record_of rs i) (record_of rs j) p.own q.own l.agree p.is_drain q.is_drain (q.posts i));
+          (records_agree (capacity_in ws) i j (waits_in ws i j) (waits_in us i j) (run.made i) (record_of rs i) (record_of rs j) l.agree p.own q.own p.is_drain q.is_drain (q.posts i));
       taken = λ i j. elim (cases_lt j (length us)) [
         | inl j_in ↦ last.empty i j j_in
         | inr far ↦ none_for xs i j last.yard (omega arith)

@@ -49,6 +49,7 @@ use Rattle.tlsf_crew.proofs.lemmas.model.Sums.{least_sum}
 use Rattle.tlsf_crew.proofs.lemmas.worker.Slots.{get_set_same, get_set_other, some_same}
 use Rattle.tlsf_crew.proofs.lemmas.lanes.LaneSlots.{map_same}
 use Rattle.tlsf_crew.proofs.lemmas.model.Edits.{same_world, edited_other}
+use Rattle.tlsf_crew.specs.scripts.Scripts.{at_stage}
 
 -- there is room for the entry
 pub replied_room : {sli : ℕ} (r : Replayed sli) (event : Event) (es : List Entry) (vs : List (Worker sli Lanes)) (reply : Reply) (n : ℕ)
@@ -73,20 +74,20 @@ pub record Run (sli : ℕ) : Type 0 where
   pub yard : IsYard vs
   pub is : slice_get vs (id_of a) ≡ Some a
   pub knows : KnowsYard (length vs) a
-  pub step : LaneStepped (length vs) a limits call made es v left longer reply
+  pub step : LaneStepped (length vs) (at_stage a limits es) call made (at_stage v left longer) reply
 
 abbrev pub at_of : {sli : ℕ} → Run sli → ℕ
 at_of r = id_of r.a
 
 abbrev pub own_of : {sli : ℕ} → Run sli → List Entry
-own_of r = r.step.own ++ one (at_of r) r.call r.reply
+own_of r = r.step.step.own ++ one (at_of r) r.call r.reply
 
 -- the yard with the worker as the call left it
 abbrev pub us_of : {sli : ℕ} → Run sli → List (Worker sli Lanes)
 us_of r = set r.vs (at_of r) r.v
 
 moved_of : {sli : ℕ} (r : Run sli) → LaneMoved (at_of r) (r.made ++ []) r.a r.limits (r.call ∷ []) (own_of r) r.v r.left
-moved_of r = r.step.moved []
+moved_of r = r.step.step.moved []
 
 -- the lanes that the call concerns were settled before and after it
 pub record Settles {sli : ℕ} (r : Run sli) (ws zs : List (Worker sli Lanes)) : Type 0 where
@@ -246,7 +247,7 @@ empty_in r ws zs s from c ne lt e =
     nil_from_length (waits_in r.vs from at) (omega arith)
 
 drain_in : {sli : ℕ} (r : Run sli) (ws zs : List (Worker sli Lanes)) → Settles r ws zs → (most : ℕ) → r.call ≡ Drain most → (k : ℕ) → k < length r.vs → k ≢ at_of r
-    → (rest : List Post) × (waits_in r.vs k (at_of r) ≡ posts_taken k (at_of r) r.step.own ++ rest) × ((sum_below (suc k) (λ i. length (posts_taken i (at_of r) r.step.own)) ≡ most) ⊎ (rest ≡ []))
+    → (rest : List Post) × (waits_in r.vs k (at_of r) ≡ posts_taken k (at_of r) r.step.step.own ++ rest) × ((sum_below (suc k) (λ i. length (posts_taken i (at_of r) r.step.step.own)) ≡ most) ⊎ (rest ≡ []))
 drain_in r ws zs s most c k lt ne =
     let at = at_of r in
     let concern : ConcernsCall r.made at r.call k at = subst (λ x. ConcernsCall r.made at x k at) (sym c) refl in
@@ -254,20 +255,20 @@ drain_in r ws zs s most c k lt ne =
     let n = s.after k at lt (at_in r) ne concern in
     let entry : Entry = record { worker = at; call = r.call; reply = r.reply } in
     let none : post_of_take k r.call r.reply ≡ None = rw c refl in
-    let took : posts_taken k at (own_of r) ≡ posts_taken k at r.step.own =
-    taken_then k at r.step.own (entry ∷ []) ∙ (ap (λ l. posts_taken k at r.step.own ++ l) (told_nothing (λ e. post_of_take k e.call e.reply) at entry none) ∙ append-nil (posts_taken k at r.step.own)) in
-    let waits : waits_in r.vs k at ≡ posts_taken k at r.step.own ++ waited n.new_take = lane_took r ws zs k ne m n ∙ ap (λ l. l ++ waited n.new_take) took in
+    let took : posts_taken k at (own_of r) ≡ posts_taken k at r.step.step.own =
+    taken_then k at r.step.step.own (entry ∷ []) ∙ (ap (λ l. posts_taken k at r.step.step.own ++ l) (told_nothing (λ e. post_of_take k e.call e.reply) at entry none) ∙ append-nil (posts_taken k at r.step.step.own)) in
+    let waits : waits_in r.vs k at ≡ posts_taken k at r.step.step.own ++ waited n.new_take = lane_took r ws zs k ne m n ∙ ap (λ l. l ++ waited n.new_take) took in
     let few = r.yard.few in
     let le = s.limits (subst MayTake (sym c) tt) k m.new_take (omega arith) (take_was r k ∙ m.new_take_is) in (
       waited n.new_take,
       waits,
       elim (r.step.each most c k lt ne) [
         | inl all ↦ inl all
-        | inr spent ↦ inr (no_rest (waits_in r.vs k at) (posts_taken k at r.step.own) (waited n.new_take) waits (spent_all r ws k r.step.own m le spent))
+        | inr spent ↦ inr (no_rest (waits_in r.vs k at) (posts_taken k at r.step.step.own) (waited n.new_take) waits (spent_all r ws k r.step.step.own m le spent))
       ],
     )
 
-suits : {sli : ℕ} (r : Run sli) (ws zs : List (Worker sli Lanes)) → Settles r ws zs → SuitsCall (world_of r.vs) (length r.vs) (at_of r) r.made r.call r.reply r.step.own
+suits : {sli : ℕ} (r : Run sli) (ws zs : List (Worker sli Lanes)) → Settles r ws zs → SuitsCall (world_of r.vs) (length r.vs) (at_of r) r.made r.call r.reply r.step.step.own
 unfolding world_of
 suits r ws zs s =
     let n = heaps_count r.vs in
@@ -420,13 +421,10 @@ unfolding draining after_drain
 drain_capacity r at most = below_capacity at most (record { entries = r.entries; world = r.world; taken = 0 }) (length r.world.heaps)
 
 called_capacity : {sli : ℕ} (r : Replayed sli) (at : ℕ) (call : Call) → (called r at call).world.capacity ≡ r.world.capacity
-called_capacity r at (Allocate len) = refl
 called_capacity r at (Release target) = release_capacity r.world at (name_of r.made target)
-called_capacity r at (Write target from bytes) = refl
-called_capacity r at (Read target from n) = refl
-called_capacity r at (Resize target len) = refl
 called_capacity r at (Take from) = take_capacity r.world at from
 called_capacity r at (Drain most) = drain_capacity r at most
+called_capacity r at call = refl
 
 -- ---- the model's world is the yard's
 
@@ -472,7 +470,7 @@ model r ws zs s =
     let told = r.step.exact (world_of r.vs) (n, heap_in_is r.vs at r.a r.is) (suits r ws zs s) in
     let t = called_told (r.made ++ []) (begun_of r) at r.call (omega arith) (more_knows r.made []) in
     let entries = ap (λ x. x.entries) told in
-    let all : r.longer ++ one at r.call r.reply ≡ r.es ++ own_of r = ap (λ l. l ++ one at r.call r.reply) r.step.entries_are ∙ append_assoc r.es r.step.own (one at r.call r.reply) in
+    let all : r.longer ++ one at r.call r.reply ≡ r.es ++ own_of r = ap (λ l. l ++ one at r.call r.reply) r.step.step.entries_are ∙ append_assoc r.es r.step.step.own (one at r.call r.reply) in
     let own : t.own ≡ own_of r = append_cancel_left r.es t.own (own_of r) (sym t.entries ∙ (entries ∙ all)) in
     record {
       name = t.name;

@@ -19,6 +19,7 @@ use Rattle.tlsf_crew.specs.model.Told.{MayTell, HasHeap, told_by}
 use Rattle.tlsf_crew.specs.model.Sums.{sum_below}
 use Rattle.tlsf_crew.specs.histories.History.{posts_taken}
 use Rattle.tlsf_crew.specs.scripts.LaneMoves.{one, Spent, OwnDrain, lane_own, each_lane_own, own_drain, EachLaneTaken, EachLaneSpent, SuitsDrain, LaneStepped}
+use Rattle.tlsf_crew.specs.scripts.Scripts.{Stage, told_of}
 use Rattle.tlsf_crew.proofs.lemmas.scripts.LaneTakes.{lanes_other_turn, each_lane_own_turn, count_below, lanes_taken_count}
 use Rattle.tlsf_crew.proofs.lemmas.model.Sums.{same_sum, sum_longer}
 use Rattle.tlsf_crew.proofs.lemmas.model.OneEvent.{from_other, from_own}
@@ -130,33 +131,32 @@ drain_tells : {sli : ℕ} (made : List (Option Name)) (at most : ℕ) (es : List
 unfolding draining
 drain_tells made at most es w o e = ap (λ x. record { made = made ++ None ∷ []; entries = x.entries ++ one at (Drain most) (Drained x.taken); heap = x.heap }) e
 
-drain_exact : {sli : ℕ} (n : ℕ) (a v : Worker sli Lanes) (limits left : List ℕ) (most : ℕ) (made : List (Option Name)) (es longer : List Entry) (count : ℕ) → KnowsYard n a → count ≤ most
-    → (x : EachLaneTaken a limits n es v left longer count) → (w : World sli) → HasHeap w n (id_of a) (heap_of a) → SuitsDrain w n (id_of a) most x.own
-    → told_by (id_of a) (called (record { made = made; entries = es; world = w }) (id_of a) (Drain most))
-    ≡ record { made = made ++ None ∷ []; entries = longer ++ one (id_of a) (Drain most) (Drained count); heap = heap_of v }
-drain_exact {sli} n a v limits left most made es longer count k few x w has suits =
-    let at = id_of a in
-    let d : Draining sli = record { entries = es; world = w; taken = 0 } in
-    let start : own_of at d ≡ own_drain es a 0 = ap (λ h. record { entries = es; heap = h; taken = 0 }) has.1 in
-    let told : each_lane_own at x.posts (own_of at d) n ≡ own_drain longer v count = ap (λ o. each_lane_own at x.posts o n) start ∙ sym x.told in
+drain_exact : {sli : ℕ} (n : ℕ) (s t : Stage sli Lanes) (most : ℕ) (made : List (Option Name)) (count : ℕ) → KnowsYard n s.worker → count ≤ most
+    → (x : EachLaneTaken s n t count) → (w : World sli) → HasHeap w n (id_of s.worker) (heap_of s.worker) → SuitsDrain w n (id_of s.worker) most x.own
+    → told_by (id_of s.worker) (called (record { made = made; entries = s.entries; world = w }) (id_of s.worker) (Drain most))
+    ≡ record { made = made ++ None ∷ []; entries = t.entries ++ one (id_of s.worker) (Drain most) (Drained count); heap = heap_of t.worker }
+drain_exact {sli} n s t most made count k few x w has suits =
+    let at = id_of s.worker in
+    let d : Draining sli = record { entries = s.entries; world = w; taken = 0 } in
+    let start : own_of at d ≡ own_drain s 0 = ap (λ h. record { entries = s.entries; heap = h; taken = 0 }) has.1 in
+    let told : each_lane_own at x.posts (own_of at d) n ≡ own_drain t count = ap (λ o. each_lane_own at x.posts o n) start ∙ sym x.told in
     let none : (i : ℕ) → i ≡ at → x.posts i ≡ [] = λ i own. x.only i (λ _ h. let y = (k.from i).0 h in y.1 own) in
-    let m = lanes_taken_count n a v limits left n es longer count k x in
+    let m = lanes_taken_count n s t n count k x in
     let waits : (i : ℕ) → i < n → i ≢ at → WaitsFirst x.posts most i (w.waiting i at) = λ i lt ne.
-    let s = suits i lt ne in
+    let suit = suits i lt ne in
     let sums = same_sum (suc i) (λ j. length (x.posts j)) (λ j. length (posts_taken j at x.own)) (λ j _. ap length (x.posts_are j)) in
-    (s.0, s.1 ∙ ap (λ l. l ++ s.0) (x.posts_are i), elim s.2 [ inl all ↦ inl (sym sums ∙ all) | inr rest ↦ inr rest ]) in
+    (suit.0, suit.1 ∙ ap (λ l. l ++ suit.0) (x.posts_are i), elim suit.2 [ inl all ↦ inl (sym sums ∙ all) | inr rest ↦ inr rest ]) in
     let all = all_world at most n x.posts d has.0 k.self refl none waits (omega arith) in
-    drain_tells made at most es w (own_drain longer v count) (all ∙ told)
+    drain_tells made at most s.entries w (own_drain t count) (all ∙ told)
 
 -- there is a world that suits
-drain_told : {sli : ℕ} (n : ℕ) (a v : Worker sli Lanes) (limits left : List ℕ) (most : ℕ) (made : List (Option Name)) (es longer : List Entry) (count : ℕ) → KnowsYard n a → count ≤ most → EachLaneTaken a limits n es v left longer count
-    → MayTell sli n (id_of a) (record { made = made; entries = es; heap = heap_of a }) (Drain most)
-    (record { made = made ++ None ∷ []; entries = longer ++ one (id_of a) (Drain most) (Drained count); heap = heap_of v })
-drain_told {sli} n a v limits left most made es longer count k few x =
-    let at = id_of a in
-    let w = a_world {sli = sli} n at (heap_of a) (λ i. posts_taken i at x.own) 1 in
-    let has = world_has sli n at (heap_of a) (λ i. posts_taken i at x.own) 1 k.self in
-    (w, has, drain_exact n a v limits left most made es longer count k few x w has (λ i lt ne. ([], sym (append-nil (posts_taken i at x.own)), inr refl)))
+drain_told : {sli : ℕ} (n : ℕ) (s t : Stage sli Lanes) (most : ℕ) (made : List (Option Name)) (count : ℕ) → KnowsYard n s.worker → count ≤ most → EachLaneTaken s n t count
+    → MayTell sli n (id_of s.worker) (told_of made s.entries (heap_of s.worker)) (Drain most) (told_of (made ++ None ∷ []) (t.entries ++ one (id_of s.worker) (Drain most) (Drained count)) (heap_of t.worker))
+drain_told {sli} n s t most made count k few x =
+    let at = id_of s.worker in
+    let w = a_world {sli = sli} n at (heap_of s.worker) (λ i. posts_taken i at x.own) 1 in
+    let has = world_has sli n at (heap_of s.worker) (λ i. posts_taken i at x.own) 1 k.self in
+    (w, has, drain_exact n s t most made count k few x w has (λ i lt ne. ([], sym (append-nil (posts_taken i at x.own)), inr refl)))
 
 drain_idle : {sli : ℕ} (n : ℕ) (a : Worker sli Lanes) (limits : List ℕ) (most count : ℕ) (later : List (Option Name)) (own : List Entry) → KnowsYard n a → (count < most → (i : ℕ) → i < n → Spent a limits (id_of a) i own)
     → IsIdle (id_of a) later a limits own (record { worker = id_of a; call = Drain most; reply = Drained count })
@@ -170,19 +170,21 @@ drain_idle n a limits most count later own k spent = record {
       λ t is. let x = (k.from i).0 (t, is) in spent (omega arith) i x.0 t is;
 }
 
-pub drain_stepped : {sli : ℕ} (n : ℕ) (a v : Worker sli Lanes) (limits left : List ℕ) (most : ℕ) (made : List (Option Name)) (es longer : List Entry) (count : ℕ) → KnowsYard n a → EachLaneSpent a limits n most es v left longer count
-    → LaneStepped n a limits (Drain most) made es v left longer (Drained count)
-drain_stepped n a v limits left most made es longer count k x =
-    let t = x.takes in
+pub drain_stepped : {sli : ℕ} (n : ℕ) (s t : Stage sli Lanes) (most : ℕ) (made : List (Option Name)) (count : ℕ) → KnowsYard n s.worker → EachLaneSpent s n most t count
+    → LaneStepped n s (Drain most) made t (Drained count)
+drain_stepped n s t most made count k x =
+    let o = x.takes in
     record {
-      own = t.own;
-      entries_are = t.entries_are;
-      told = drain_told n a v limits left most made es longer count k x.few t;
-      exact = λ w has s. drain_exact n a v limits left most made es longer count k x.few t w has (s.drain most refl);
+      step = record {
+        own = o.own;
+        entries_are = o.entries_are;
+        told = drain_told n s t most made count k x.few o;
+        moved = λ rest. moved_idle (id_of s.worker) (made ++ rest) s.worker t.worker s.limits t.limits o.own _ (Drain most) (o.moved (made ++ rest)) (drain_idle n s.worker s.limits most count (made ++ rest) o.own k x.spent);
+      };
+      exact = λ w has suits. drain_exact n s t most made count k x.few o w has (suits.drain most refl);
       single = λ none. absurd (none most refl);
       each = λ m e i lt ne.
           let q : most ≡ m = cc in
-          let sums = same_sum (suc i) (λ j. length (t.posts j)) (λ j. length (posts_taken j (id_of a) t.own)) (λ j _. ap length (t.posts_are j)) in
+          let sums = same_sum (suc i) (λ j. length (o.posts j)) (λ j. length (posts_taken j (id_of s.worker) o.own)) (λ j _. ap length (o.posts_are j)) in
           elim (x.each i lt ne) [ inl all ↦ inl (sums ∙ (all ∙ q)) | inr spent ↦ inr spent ];
-      moved = λ rest. moved_idle (id_of a) (made ++ rest) a v limits left t.own _ (Drain most) (t.moved (made ++ rest)) (drain_idle n a limits most count (made ++ rest) t.own k x.spent);
     }

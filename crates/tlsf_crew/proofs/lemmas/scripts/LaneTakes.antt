@@ -17,13 +17,14 @@ use Rattle.tlsf_crew.specs.declared.scripts.journal.Journal.{Journal}
 use Rattle.tlsf_calls.specs.declared.reply.Reply.TheVariants.{Took as Taken}
 use Rattle.tlsf_crew.specs.model.Heaps.{released}
 use Rattle.tlsf_crew.specs.worker.Workers.{heap_of, id_of, SameButPorts}
-use Rattle.tlsf_crew.specs.lanes.LaneWorkers.{end_from, HasTake, TookThrough, lane_places, KnowsYard}
+use Rattle.tlsf_crew.specs.lanes.LaneWorkers.{end_from, HasTake, lane_places, KnowsYard}
 use Rattle.tlsf_crew.specs.model.Sums.{sum_below}
 use Rattle.tlsf_crew.specs.histories.History.{posts_taken}
-use Rattle.tlsf_crew.specs.worker.Notes.{EachTakeNoted}
-use Rattle.tlsf_crew.specs.lanes.LaneNotes.{LaneNoted, EachLaneNoted, AllLanesNoted}
-use Rattle.tlsf_crew.specs.scripts.Journals.{EntersLane, IsAdmitted}
+use Rattle.tlsf_crew.specs.worker.Notes.{SourceNoted, EachNoted, AllNoted, EachTakeNoted}
+use Rattle.tlsf_crew.specs.lanes.LaneNotes.{lane_rules}
+use Rattle.tlsf_crew.specs.scripts.Journals.{EntersTake, IsAdmitted}
 use Rattle.tlsf_crew.specs.scripts.LaneMoves.{one, Spent, LaneMoved, LaneTakenWithin, took_by, OwnDrain, took_own, lane_own, each_lane_own, own_drain, LaneTaken, LaneSpent, EachLaneTaken, EachLaneSpent}
+use Rattle.tlsf_crew.specs.scripts.Scripts.{Stage, at_stage, stage_of}
 use Rattle.tlsf_crew.proofs.lemmas.lanes.YardKept.{same_keeps}
 use Rattle.tlsf_crew.proofs.lemmas.scripts.ManyEntries.{moved_then, spent_then, spent_more}
 use Rattle.tlsf_crew.proofs.lemmas.histories.JoinedEntries.{taken_then}
@@ -38,98 +39,94 @@ use Rattle.tlsf_crew.proofs.lemmas.scripts.OneEntry.{moved_still, still_heap}
 pub moved_none : {sli : ℕ} (made : List (Option Name)) (a : Worker sli Lanes) (limits : List ℕ) → LaneMoved (id_of a) made a limits [] [] a limits
 moved_none made a limits = moved_still (id_of a) made a a limits (still_heap (id_of a) a a (refl, refl) (same_keeps a))
 
-pub lane_none : {sli : ℕ} (a : Worker sli Lanes) (limits : List ℕ) (from : ℕ) (entries : List Entry) → LaneTaken a limits from entries a limits entries 0
-lane_none a limits from entries = record {
+lane_none : {sli : ℕ} (s : Stage sli Lanes) (from : ℕ) → LaneTaken s from s 0
+lane_none s from = record {
   own = [];
-  entries_are = sym (append-nil entries);
+  entries_are = sym (append-nil s.entries);
   posts = [];
-  told = λ n. let e : n + 0 ≡ n = omega arith in ap (own_drain entries a) e;
+  told = λ n. let e : n + 0 ≡ n = omega arith in ap (own_drain s) e;
   here = refl;
   others = λ k ne. refl;
   count_is = refl;
-  moved = λ made. moved_none made a limits;
+  moved = λ made. moved_none made s.worker s.limits;
 }
 
 -- moves of a worker of that number, by the number that it had
 moved_at : {sli : ℕ} (at : ℕ) (made : List (Option Name)) (b v : Worker sli Lanes) (mid left : List ℕ) (own : ℕ → List Entry) → id_of b ≡ at → LaneMoved (id_of b) made b mid [] (own (id_of b)) v left → LaneMoved at made b mid [] (own at) v left
 moved_at at made b v mid left own e m = subst (λ x. LaneMoved x made b mid [] (own x) v left) e m
 
-pub lane_id : {sli : ℕ} (a v : Worker sli Lanes) (limits left : List ℕ) (from : ℕ) (entries longer : List Entry) (count : ℕ) → LaneTaken a limits from entries v left longer count → id_of v ≡ id_of a
-lane_id a v limits left from entries longer count x = let m = x.moved [] in ap (λ n. n.0) m.numbers
+lane_id : {sli : ℕ} (s t : Stage sli Lanes) (from count : ℕ) → LaneTaken s from t count → id_of t.worker ≡ id_of s.worker
+lane_id s t from count x = let m = x.moved [] in ap (λ n. n.0) m.numbers
 
 -- one take more
-pub lane_more : {sli : ℕ} (a b v : Worker sli Lanes) (limits mid left : List ℕ) (from : ℕ) (entries longer : List Entry) (count : ℕ) (took : Took) → (x : LaneTaken a limits from entries b mid longer count)
-    → LaneTakenWithin b mid from v left (Some took) → LaneTaken a limits from entries v left (longer ++ one (id_of v) (Take from) (Taken took)) (count + 1)
-lane_more {sli} a b v limits mid left from entries longer count took x t =
-    let at = id_of a in
-    let q : id_of b ≡ at = lane_id a b limits mid from entries longer count x in
-    let r : id_of v ≡ at = let m = t.0 [] in ap (λ n. n.0) m.numbers ∙ q in
-    let p = t.1 in
+lane_more : {sli : ℕ} (s t : Stage sli Lanes) (v : Worker sli Lanes) (left : List ℕ) (from count : ℕ) (took : Took) → LaneTaken s from t count
+    → LaneTakenWithin t.worker t.limits from v left (Some took) → LaneTaken s from (at_stage v left (t.entries ++ one (id_of v) (Take from) (Taken took))) (count + 1)
+lane_more {sli} s t v left from count took x y =
+    let at = id_of s.worker in
+    let q : id_of t.worker ≡ at = lane_id s t from count x in
+    let r : id_of v ≡ at = let m = y.0 [] in ap (λ n. n.0) m.numbers ∙ q in
+    let p = y.1 in
     let last = one at (Take from) (Taken took) in
-    let all : longer ++ one (id_of v) (Take from) (Taken took) ≡ longer ++ last = ap (λ i. longer ++ one i (Take from) (Taken took)) r in
+    let all : t.entries ++ one (id_of v) (Take from) (Taken took) ≡ t.entries ++ last = ap (λ i. t.entries ++ one i (Take from) (Taken took)) r in
     record {
       own = x.own ++ last;
-      entries_are = all ∙ (ap (λ l. l ++ last) x.entries_are ∙ append_assoc entries x.own last);
+      entries_are = all ∙ (ap (λ l. l ++ last) x.entries_are ∙ append_assoc s.entries x.own last);
       posts = x.posts ++ p ∷ [];
-      here = taken_then from at x.own last ∙ (ap (λ l. l ++ posts_taken from at last) x.here ∙ ap (λ l. x.posts ++ l) (taken_same at from took ∙ ap (λ k. record { from = k.from; name = k.name } ∷ []) t.2));
+      here = taken_then from at x.own last ∙ (ap (λ l. l ++ posts_taken from at last) x.here ∙ ap (λ l. x.posts ++ l) (taken_same at from took ∙ ap (λ k. record { from = k.from; name = k.name } ∷ []) y.2));
       others = λ k ne. taken_then k at x.own last ∙ (ap (λ l. l ++ posts_taken k at last) (x.others k ne) ∙ taken_elsewhere at from k took ne);
       count_is = omega (arith, x.count_is, length-append x.posts (p ∷ []));
       told = λ n.
           let e : n + (count + 1) ≡ n + count + 1 = omega arith in
-          let step : own_drain (longer ++ last) v (n + count + 1) ≡ took_own at from (own_drain longer b (n + count)) p = lane_step at from longer b v (n + count) p took t.2 t.3 in
-          ap (λ l. own_drain l v (n + (count + 1))) all ∙ (ap (own_drain (longer ++ last) v) e ∙ (step ∙ (ap (λ d. took_own at from d p) (x.told n)
-          ∙ sym (fold-append (took_own at from) (own_drain entries a n) x.posts (p ∷ [])))));
-      moved = λ made. moved_then at made a b v limits mid left [] [] x.own last (x.moved made)
-          (moved_at at made b v mid left (λ i. one i (Take from) (Taken took)) q (t.0 made));
+          let step : own_drain (at_stage v left (t.entries ++ last)) (n + count + 1) ≡ took_own at from (own_drain t (n + count)) p = lane_step at from t v left (n + count) p took y.2 y.3 in
+          ap (λ l. own_drain (at_stage v left l) (n + (count + 1))) all ∙ (ap (own_drain (at_stage v left (t.entries ++ last))) e ∙ (step ∙ (ap (λ d. took_own at from d p) (x.told n)
+          ∙ sym (fold-append (took_own at from) (own_drain s n) x.posts (p ∷ [])))));
+      moved = λ made. moved_then at made s.worker t.worker v s.limits t.limits left [] [] x.own last (x.moved made)
+          (moved_at at made t.worker v t.limits left (λ i. one i (Take from) (Taken took)) q (y.0 made));
     }
   where
-    lane_step : (at from : ℕ) (longer : List Entry) (b v : Worker sli Lanes) (n : ℕ) (p : Post) (took : Took) → took ≡ took_by (heap_of b) p → heap_of v ≡ (released (heap_of b) p.name).heap
-        → own_drain (longer ++ one at (Take from) (Taken took)) v (n + 1) ≡ took_own at from (own_drain longer b n) p
-    lane_step at from longer b v n p took e h = rw (e, h) refl
+    lane_step : (at from : ℕ) (t : Stage sli Lanes) (v : Worker sli Lanes) (left : List ℕ) (n : ℕ) (p : Post) (took : Took) → took ≡ took_by (heap_of t.worker) p → heap_of v ≡ (released (heap_of t.worker) p.name).heap
+        → own_drain (at_stage v left (t.entries ++ one at (Take from) (Taken took))) (n + 1) ≡ took_own at from (own_drain t n) p
+    lane_step at from t v left n p took e h = rw (e, h) refl
 
 -- the lane showed no more, or no more might be taken
-pub lane_end : {sli : ℕ} (a b v : Worker sli Lanes) (limits mid left : List ℕ) (from most : ℕ) (entries longer : List Entry) (count : ℕ) → LaneTaken a limits from entries b mid longer count → count ≤ most
-    → LaneTakenWithin b mid from v left None → LaneSpent a limits from most entries v left longer count
-lane_end a b v limits mid left from most entries longer count x few t =
-    let at = id_of a in
-    let q : id_of b ≡ at = lane_id a b limits mid from entries longer count x in
+lane_end : {sli : ℕ} (s t : Stage sli Lanes) (v : Worker sli Lanes) (left : List ℕ) (from most count : ℕ) → LaneTaken s from t count → count ≤ most
+    → LaneTakenWithin t.worker t.limits from v left None → LaneSpent s from most (at_stage v left t.entries) count
+lane_end s t v left from most count x few y =
+    let at = id_of s.worker in
+    let q : id_of t.worker ≡ at = lane_id s t from count x in
     record {
       takes = record {
         own = x.own ++ [];
-        entries_are = x.entries_are ∙ ap (λ l. entries ++ l) (sym (append-nil x.own));
+        entries_are = x.entries_are ∙ ap (λ l. s.entries ++ l) (sym (append-nil x.own));
         posts = x.posts;
-        told = λ n. ap (λ h. record { entries = longer; heap = h; taken = n + count }) t.1 ∙ x.told n;
+        told = λ n. ap (λ h. record { entries = t.entries; heap = h; taken = n + count }) y.1 ∙ x.told n;
         here = taken_then from at x.own [] ∙ (append-nil (posts_taken from at x.own) ∙ x.here);
         others = λ k ne. taken_then k at x.own [] ∙ (append-nil (posts_taken k at x.own) ∙ x.others k ne);
         count_is = x.count_is;
-        moved = λ made. moved_then at made a b v limits mid left [] [] x.own [] (x.moved made) (moved_at at made b v mid left (λ i. []) q (t.0 made));
+        moved = λ made. moved_then at made s.worker t.worker v s.limits t.limits left [] [] x.own [] (x.moved made) (moved_at at made t.worker v t.limits left (λ i. []) q (y.0 made));
       };
       few = few;
-      spent = λ _. spent_then at [] a b limits mid [] x.own [] from (x.moved []) (subst (λ i. Spent b mid i from []) q t.2);
+      spent = λ _. spent_then at [] s.worker t.worker s.limits t.limits [] x.own [] from (x.moved []) (subst (λ i. Spent t.worker t.limits i from []) q y.2);
     }
-
-pub lane_most : {sli : ℕ} (a v : Worker sli Lanes) (limits left : List ℕ) (from most : ℕ) (entries longer : List Entry) (count : ℕ) → LaneTaken a limits from entries v left longer count → count ≤ most → most ≤ count
-    → LaneSpent a limits from most entries v left longer count
-lane_most a v limits left from most entries longer count x few all = record { takes = x; few = few; spent = λ lt. absurd (omega arith) }
 
 -- ---- one lane after another
 
-pub nothing_below : {sli : ℕ} (a : Worker sli Lanes) (limits : List ℕ) (entries : List Entry) → EachLaneTaken a limits 0 entries a limits entries 0
-nothing_below a limits entries = record {
+nothing_below : {sli : ℕ} (s : Stage sli Lanes) → EachLaneTaken s 0 s 0
+nothing_below s = record {
   own = [];
-  entries_are = sym (append-nil entries);
+  entries_are = sym (append-nil s.entries);
   posts = λ i. [];
   told = refl;
   posts_are = λ k. refl;
   only = λ k none. refl;
-  moved = λ made. moved_none made a limits;
+  moved = λ made. moved_none made s.worker s.limits;
 }
 
-pub id_below : {sli : ℕ} (a v : Worker sli Lanes) (limits left : List ℕ) (below : ℕ) (entries longer : List Entry) (count : ℕ) → EachLaneTaken a limits below entries v left longer count → id_of v ≡ id_of a
-id_below a v limits left below entries longer count x = let m = x.moved [] in ap (λ n. n.0) m.numbers
+id_below : {sli : ℕ} (s t : Stage sli Lanes) (below count : ℕ) → EachLaneTaken s below t count → id_of t.worker ≡ id_of s.worker
+id_below s t below count x = let m = x.moved [] in ap (λ n. n.0) m.numbers
 
-pub lanes_knows : {sli : ℕ} (n : ℕ) (a v : Worker sli Lanes) (limits left : List ℕ) (below : ℕ) (entries longer : List Entry) (count : ℕ) → EachLaneTaken a limits below entries v left longer count → KnowsYard n a → KnowsYard n v
-lanes_knows n a v limits left below entries longer count x k = let m = x.moved [] in m.knows n k
+lanes_knows : {sli : ℕ} (n : ℕ) (s t : Stage sli Lanes) (below count : ℕ) → EachLaneTaken s below t count → KnowsYard n s.worker → KnowsYard n t.worker
+lanes_knows n s t below count x k = let m = x.moved [] in m.knows n k
 
 -- what the lanes below a number tell rests on their posts alone
 lanes_same : (at : ℕ) (f g : ℕ → List Post) (d : OwnDrain) (k : ℕ) → ((i : ℕ) → i < k → f i ≡ g i) → each_lane_own at f d k ≡ each_lane_own at g d k
@@ -161,19 +158,18 @@ with_lane_below : (f : ℕ → List Post) (k : ℕ) (posts : List Post) (i : ℕ
 with_lane_below f k posts i lt = let b : (i == k) ≡ false = grind (arith, nat_tests) in rw b refl
 
 -- the turn of another worker
-after_other_lane : {sli : ℕ} (a b v : Worker sli Lanes) (limits mid left : List ℕ) (from : ℕ) (entries between longer : List Entry) (n count : ℕ) → from ≢ id_of a → HasTake a from → EachLaneTaken a limits from entries b mid between n
-    → LaneTaken b mid from between v left longer count → EachLaneTaken a limits (from + 1) entries v left longer (n + count)
-after_other_lane a b v limits mid left from entries between longer n count ne has x y =
-    let at = id_of a in
-    let q : id_of b ≡ at = id_below a b limits mid from entries between n x in
+after_other_lane : {sli : ℕ} (s t u : Stage sli Lanes) (from n count : ℕ) → from ≢ id_of s.worker → HasTake s.worker from → EachLaneTaken s from t n → LaneTaken t from u count → EachLaneTaken s (from + 1) u (n + count)
+after_other_lane s t u from n count ne has x y =
+    let at = id_of s.worker in
+    let q : id_of t.worker ≡ at = id_below s t from n x in
     let f = with_lane x.posts from y.posts in
-    let d = own_drain entries a 0 in
+    let d = own_drain s 0 in
     let below : each_lane_own at f d from ≡ each_lane_own at x.posts d from = lanes_same at f x.posts d from (with_lane_below x.posts from y.posts) in
     record {
       own = x.own ++ y.own;
-      entries_are = y.entries_are ∙ (ap (λ l. l ++ y.own) x.entries_are ∙ append_assoc entries x.own y.own);
+      entries_are = y.entries_are ∙ (ap (λ l. l ++ y.own) x.entries_are ∙ append_assoc s.entries x.own y.own);
       posts = f;
-      told = y.told n ∙ (ap (λ i. lane_own i from (own_drain between b n) y.posts) q
+      told = y.told n ∙ (ap (λ i. lane_own i from (own_drain t n) y.posts) q
           ∙ (ap (λ z. lane_own at from z y.posts) (x.told ∙ sym below) ∙ (ap (lane_own at from (each_lane_own at f d from)) (sym (with_lane_same x.posts from y.posts))
           ∙ sym (lanes_other_turn at f d from ne))));
       posts_are = λ k. taken_then k at x.own y.own ∙ elim (cases_eq k from) [
@@ -186,10 +182,10 @@ after_other_lane a b v limits mid left from entries between longer n count ne ha
             ap (λ l. l ++ posts_taken k at y.own) (x.posts_are k) ∙ (ap (λ l. x.posts k ++ l) none ∙ (append-nil (x.posts k) ∙ sym (with_lane_other x.posts from y.posts k apart)))
       ];
       only = λ k none. elim (cases_eq k from) [
-        | inl e ↦ absurd (none (omega arith) (subst (HasTake a) (sym e) has))
+        | inl e ↦ absurd (none (omega arith) (subst (HasTake s.worker) (sym e) has))
         | inr apart ↦ with_lane_other x.posts from y.posts k apart ∙ x.only k (λ lt. none (omega arith))
       ];
-      moved = λ made. moved_then at made a b v limits mid left [] [] x.own y.own (x.moved made) (moved_at at made b v mid left (λ i. y.own) q (y.moved made));
+      moved = λ made. moved_then at made s.worker t.worker u.worker s.limits t.limits u.limits [] [] x.own y.own (x.moved made) (moved_at at made t.worker u.worker t.limits u.limits (λ i. y.own) q (y.moved made));
     }
 
 lane_count : (at from : ℕ) (posts : List Post) (d : OwnDrain) → (lane_own at from d posts).taken ≡ d.taken + length posts
@@ -213,152 +209,153 @@ count_below at posts d (suc k) none =
           omega arith
     ]
 
-pub lanes_taken_count : {sli : ℕ} (n : ℕ) (a v : Worker sli Lanes) (limits left : List ℕ) (below : ℕ) (entries longer : List Entry) (count : ℕ) → KnowsYard n a → (x : EachLaneTaken a limits below entries v left longer count)
+pub lanes_taken_count : {sli : ℕ} (n : ℕ) (s t : Stage sli Lanes) (below count : ℕ) → KnowsYard n s.worker → (x : EachLaneTaken s below t count)
     → count ≡ sum_below below (λ i. length (x.posts i))
-lanes_taken_count n a v limits left below entries longer count k x =
-    let c = count_below (id_of a) x.posts (own_drain entries a 0) below (λ i own. x.only i (λ _ has. let y = (k.from i).0 has in y.1 own)) in
-    let t = ap (λ o. o.taken) x.told in
+lanes_taken_count n s t below count k x =
+    let c = count_below (id_of s.worker) x.posts (own_drain s 0) below (λ i own. x.only i (λ _ has. let y = (k.from i).0 has in y.1 own)) in
+    let told = ap (λ o. o.taken) x.told in
     omega arith
 
-pub other_turn : {sli : ℕ} (m : ℕ) (a b v : Worker sli Lanes) (limits mid left : List ℕ) (from most : ℕ) (entries between longer : List Entry) (n count : ℕ) → KnowsYard m a → HasTake a from → EachLaneSpent a limits from most entries b mid between n
-    → LaneSpent b mid from (most - n) between v left longer count → EachLaneSpent a limits (from + 1) most entries v left longer (n + count)
+other_turn : {sli : ℕ} (m : ℕ) (s t u : Stage sli Lanes) (from most n count : ℕ) → KnowsYard m s.worker → HasTake s.worker from → EachLaneSpent s from most t n → LaneSpent t from (most - n) u count
+    → EachLaneSpent s (from + 1) most u (n + count)
 unfolding after_other_lane
-other_turn m a b v limits mid left from most entries between longer n count known has x y =
-    let at = id_of a in
+other_turn m s t u from most n count known has x y =
+    let at = id_of s.worker in
     let near = (known.from from).0 has in
-    let q : id_of b ≡ at = id_below a b limits mid from entries between n x.takes in
+    let q : id_of t.worker ≡ at = id_below s t from n x.takes in
     let f = with_lane x.takes.posts from y.takes.posts in
-    let below = lanes_taken_count m a b limits mid from entries between n known x.takes in
+    let below = lanes_taken_count m s t from n known x.takes in
+    let here_spent = λ (spent : Spent t.worker t.limits (id_of t.worker) from y.takes.own).
+    spent_then at [] s.worker t.worker s.limits t.limits [] x.takes.own y.takes.own from (x.takes.moved []) (subst (λ z. Spent t.worker t.limits z from y.takes.own) q spent) in
     record {
-      takes = after_other_lane a b v limits mid left from entries between longer n count near.1 has x.takes y.takes;
+      takes = after_other_lane s t u from n count near.1 has x.takes y.takes;
       few = omega (arith, x.few, y.few);
       spent = λ lt i below. elim (cases_lt i from) [
-        | inl before ↦ spent_more at a limits x.takes.own y.takes.own i (x.spent (omega arith) i before)
+        | inl before ↦ spent_more at s.worker s.limits x.takes.own y.takes.own i (x.spent (omega arith) i before)
         | inr last ↦
             let e : from ≡ i = omega arith in
-            let s = y.spent (omega (arith, x.few)) in
-            subst (λ z. Spent a limits at z (x.takes.own ++ y.takes.own)) e
-            (spent_then at [] a b limits mid [] x.takes.own y.takes.own from (x.takes.moved []) (subst (λ z. Spent b mid z from y.takes.own) q s))
+            subst (λ z. Spent s.worker s.limits at z (x.takes.own ++ y.takes.own)) e (here_spent (y.spent (omega (arith, x.few))))
       ];
       each = λ k lt apart. elim (cases_lt k from) [
         | inl before ↦ elim (x.each k before apart) [
           | inl all ↦ inl (same_sum (suc k) (λ i. length (x.takes.posts i)) (λ i. length (f i)) (λ i less. ap length (with_lane_below x.takes.posts from y.takes.posts i (omega arith))) ∙ all)
-          | inr spent ↦ inr (spent_more at a limits x.takes.own y.takes.own k spent)
+          | inr spent ↦ inr (spent_more at s.worker s.limits x.takes.own y.takes.own k spent)
         ]
         | inr last ↦
             let e : k ≡ from = omega arith in
             let low = same_sum from (λ i. length (x.takes.posts i)) (λ i. length (f i)) (λ i less. ap length (with_lane_below x.takes.posts from y.takes.posts i less)) in
             let here = ap length (with_lane_same x.takes.posts from y.takes.posts) in
             elim (cases_lt count (most - n)) [
-              | inl early ↦ inr (subst (λ z. Spent a limits at z (x.takes.own ++ y.takes.own)) (sym e)
-                  (spent_then at [] a b limits mid [] x.takes.own y.takes.own from (x.takes.moved []) (subst (λ z. Spent b mid z from y.takes.own) q (y.spent early))))
+              | inl early ↦ inr (subst (λ z. Spent s.worker s.limits at z (x.takes.own ++ y.takes.own)) (sym e) (here_spent (y.spent early)))
               | inr all ↦ inl (rw e (omega (arith, low, here, below, y.takes.count_is, x.few, y.few)))
             ]
       ];
     }
 
 -- no turn: there is no lane
-pub no_turn : {sli : ℕ} (a v : Worker sli Lanes) (limits left : List ℕ) (from most : ℕ) (entries longer : List Entry) (count : ℕ) → ¬ (HasTake a from)
-    → EachLaneSpent a limits from most entries v left longer count → EachLaneSpent a limits (from + 1) most entries v left longer count
-no_turn a v limits left from most entries longer count none x =
-    let t = x.takes in
-    let at = id_of a in
-    let d = own_drain entries a 0 in
-    let nothing = t.only from (λ _. none) in
-    let same : each_lane_own at t.posts d (from + 1) ≡ each_lane_own at t.posts d from = elim (cases_eq from at) [
-      | inl own ↦ each_lane_own_turn at t.posts d from own
-      | inr ne ↦ lanes_other_turn at t.posts d from ne ∙ ap (lane_own at from (each_lane_own at t.posts d from)) nothing
+no_turn : {sli : ℕ} (s t : Stage sli Lanes) (from most count : ℕ) → ¬ (HasTake s.worker from) → EachLaneSpent s from most t count → EachLaneSpent s (from + 1) most t count
+no_turn s t from most count none x =
+    let o = x.takes in
+    let at = id_of s.worker in
+    let d = own_drain s 0 in
+    let nothing = o.only from (λ _. none) in
+    let same : each_lane_own at o.posts d (from + 1) ≡ each_lane_own at o.posts d from = elim (cases_eq from at) [
+      | inl own ↦ each_lane_own_turn at o.posts d from own
+      | inr ne ↦ lanes_other_turn at o.posts d from ne ∙ ap (lane_own at from (each_lane_own at o.posts d from)) nothing
     ] in
     record {
       takes = record {
-        own = t.own;
-        entries_are = t.entries_are;
-        posts = t.posts;
-        told = t.told ∙ sym same;
-        posts_are = t.posts_are;
+        own = o.own;
+        entries_are = o.entries_are;
+        posts = o.posts;
+        told = o.told ∙ sym same;
+        posts_are = o.posts_are;
         only = λ k away. elim (cases_eq k from) [
           | inl e ↦ rw e nothing
-          | inr ne ↦ t.only k (λ lt. away (omega arith))
+          | inr ne ↦ o.only k (λ lt. away (omega arith))
         ];
-        moved = t.moved;
+        moved = o.moved;
       };
       few = x.few;
       spent = λ lt i below. elim (cases_lt i from) [
         | inl before ↦ x.spent lt i before
-        | inr last ↦ λ end is. absurd (none (subst (HasTake a) (omega arith) (end, is)))
+        | inr last ↦ λ end is. absurd (none (subst (HasTake s.worker) (omega arith) (end, is)))
       ];
       each = λ k lt apart. elim (cases_lt k from) [
         | inl before ↦ x.each k before apart
-        | inr last ↦ inr (λ end is. absurd (none (subst (HasTake a) (omega arith) (end, is))))
+        | inr last ↦ inr (λ end is. absurd (none (subst (HasTake s.worker) (omega arith) (end, is))))
       ];
     }
 
 -- ---- a drain, by its notes
 
-takes_in_lane : {sli : ℕ} (a b v : Worker sli Lanes) (limits : List ℕ) (x y : Journal) (from : ℕ) (entries : List Entry) (count : ℕ) (tooks : List Took) → LaneTaken a limits from entries b x.limits x.entries.items count
-    → EachTakeNoted TookThrough EntersLane b v x y from tooks → LaneTaken a limits from entries v y.limits y.entries.items (count + length tooks)
-takes_in_lane a b v limits x y from entries count [] acc t =
+takes_in_lane : {sli : ℕ} (s : Stage sli Lanes) (b v : Worker sli Lanes) (x y : Journal) (from count : ℕ) (tooks : List Took) → LaneTaken s from (stage_of b x) count
+    → EachTakeNoted (lane_rules IsAdmitted EntersTake) b v x y from tooks → LaneTaken s from (stage_of v y) (count + length tooks)
+takes_in_lane s b v x y from count [] acc t =
     let e : count ≡ count + 0 = omega arith in
     rw (t.0, t.1, sym e) acc
-takes_in_lane a b v limits x y from entries count (took ∷ tooks) acc t =
+takes_in_lane s b v x y from count (took ∷ tooks) acc t =
     let b' = t.0 in
     let z = t.1 in
     let n = t.3 in
-    let step = lane_more a b b' limits x.limits z.limits from entries x.entries.items count took acc (within_some b b' x.limits z.limits from took n.near n.fewer t.2) in
-    let one_more = subst (λ l. LaneTaken a limits from entries b' z.limits l (count + 1)) (sym n.entries) step in
+    let step = lane_more s (stage_of b x) b' z.limits from count took acc (within_some b b' x.limits z.limits from took n.near n.fewer t.2) in
+    let one_more = subst (λ l. LaneTaken s from (at_stage b' z.limits l) (count + 1)) (sym n.entries) step in
     let e : count + 1 + length tooks ≡ count + length (took ∷ tooks) = omega arith in
-    subst (LaneTaken a limits from entries v y.limits y.entries.items) e (takes_in_lane a b' v limits z y from entries (count + 1) tooks one_more t.4)
+    subst (LaneTaken s from (stage_of v y)) e (takes_in_lane s b' v z y from (count + 1) tooks one_more t.4)
 
 -- a worker with the same number, heap and lanes
 same_worker : {sli : ℕ} (a v : Worker sli Lanes) → SameButPorts a v → v.ports ≡ a.ports → v ≡ a
 same_worker a v same ports = λ t. record { heap = same.1 t; id = same.0 t; ports = ports t }
 
-spent_in_lane : {sli : ℕ} (a v : Worker sli Lanes) (x y : Journal) (from most : ℕ) (tooks : List Took) → from < 8 → LaneNoted EntersLane IsAdmitted a v x y from most tooks
-    → LaneSpent a x.limits from most x.entries.items v y.limits y.entries.items (length tooks)
+spent_in_lane : {sli : ℕ} (a v : Worker sli Lanes) (x y : Journal) (from most : ℕ) (tooks : List Took) → from < 8 → SourceNoted (lane_rules IsAdmitted EntersTake) a v x y from most tooks
+    → LaneSpent (stage_of a x) from most (stage_of v y) (length tooks)
 spent_in_lane a v x y from most tooks near l =
-    let start = lane_none a x.limits from x.entries.items in
+    let s = stage_of a x in
+    let u = stage_of l.last y in
     let e : 0 + length tooks ≡ length tooks = omega arith in
-    let t = subst (LaneTaken a x.limits from x.entries.items l.last y.limits y.entries.items) e (takes_in_lane a a l.last x.limits x y from x.entries.items 0 tooks start l.turns) in
+    let t = subst (LaneTaken s from u) e (takes_in_lane s a l.last x y from 0 tooks (lane_none s from) l.turns) in
     elim l.end [
-      | inl done ↦ rw (done.1) (lane_most a l.last x.limits y.limits from most x.entries.items y.entries.items (length tooks) t (omega (arith, done.0)) (omega (arith, done.0)))
+      | inl done ↦ rw (done.1) (record { takes = t; few = omega (arith, done.0); spent = λ lt. absurd (omega (arith, done.0)) })
       | inr early ↦
           let lt = early.0 in
           elim early.1 [
             | inl stopped ↦
                 let none : slice_index y.limits from ≡ 0 = elim (cases_lt 0 (slice_index y.limits from)) [ inl some ↦ absurd (stopped.0 (near, some)) | inr le ↦ omega arith ] in
-                rw (same_worker l.last v stopped.1 stopped.2) (lane_end a l.last l.last x.limits y.limits y.limits from most x.entries.items y.entries.items (length tooks) t (omega arith) (within_none l.last y.limits from none))
-            | inr empty ↦ lane_end a l.last v x.limits y.limits y.limits from most x.entries.items y.entries.items (length tooks) t (omega arith) (within_empty l.last v y.limits from empty)
+                rw (same_worker l.last v stopped.1 stopped.2) (lane_end s u l.last y.limits from most (length tooks) t (omega arith) (within_none l.last y.limits from none))
+            | inr empty ↦ lane_end s u v y.limits from most (length tooks) t (omega arith) (within_empty l.last v y.limits from empty)
           ]
     ]
 
-each_lane_spent : {sli : ℕ} (n : ℕ) (a v : Worker sli Lanes) (x y : Journal) (most k : ℕ) (tooks : List Took) → KnowsYard n a → EachLaneNoted EntersLane IsAdmitted a v x y most k tooks
-    → EachLaneSpent a x.limits k most x.entries.items v y.limits y.entries.items (length tooks)
+each_lane_spent : {sli : ℕ} (n : ℕ) (a v : Worker sli Lanes) (x y : Journal) (most k : ℕ) (tooks : List Took) → KnowsYard n a → EachNoted (lane_rules IsAdmitted EntersTake) a v x y most k tooks
+    → EachLaneSpent (stage_of a x) k most (stage_of v y) (length tooks)
 each_lane_spent {sli} n a v x y most zero tooks known l =
     let e : length tooks ≡ 0 = ap length l.0 in
-    rw (l.1, l.2, e) (record { takes = nothing_below a x.limits x.entries.items; few = omega arith; spent = λ lt i below. absurd (omega arith); each = λ i below. absurd (omega arith) })
+    rw (l.1, l.2, e) (record { takes = nothing_below (stage_of a x); few = omega arith; spent = λ lt i below. absurd (omega arith); each = λ i below. absurd (omega arith) })
 each_lane_spent {sli} n a v x y most (suc k) tooks known l =
     let b = l.0 in
     let z = l.1 in
+    let s = stage_of a x in
+    let t = stage_of b z in
     let before = each_lane_spent n a b x z most k l.2 known l.5 in
     let next : k + 1 ≡ suc k = omega arith in
     let count : length l.2 + length l.3 ≡ length tooks = sym (ap length l.4 ∙ length-append l.2 l.3) in
-    let later : KnowsYard n b = lanes_knows n a b x.limits z.limits k x.entries.items z.entries.items (length l.2) before.takes known in
-    let q : id_of b ≡ id_of a = id_below a b x.limits z.limits k x.entries.items z.entries.items (length l.2) before.takes in
+    let later : KnowsYard n b = lanes_knows n s t k (length l.2) before.takes known in
+    let q : id_of b ≡ id_of a = id_below s t k (length l.2) before.takes in
     elim (end_or (end_from b k)) [
       | inl has ↦
           let near = (later.from k).0 has in
           let first : HasTake a k = (known.from k).1 (near.0, λ e. near.1 (e ∙ sym q)) in
-          let spent = other_turn n a b v x.limits z.limits y.limits k most x.entries.items z.entries.items y.entries.items (length l.2) (length l.3) known first before
+          let spent = other_turn n s t (stage_of v y) k most (length l.2) (length l.3) known first before
           (spent_in_lane b v z y k (most - length l.2) l.3 (omega (arith, near.0, known.few)) (l.6.here has)) in
-          subst (λ m. EachLaneSpent a x.limits m most x.entries.items v y.limits y.entries.items (length tooks)) next
-          (subst (EachLaneSpent a x.limits (k + 1) most x.entries.items v y.limits y.entries.items) count spent)
+          subst (λ m. EachLaneSpent s m most (stage_of v y) (length tooks)) next
+          (subst (EachLaneSpent s (k + 1) most (stage_of v y)) count spent)
       | inr none ↦
           let still = l.6.nowhere none in
           let away : ¬ (HasTake a k) = λ h. let near = (known.from k).0 h in none ((later.from k).1 (near.0, λ e. near.1 (e ∙ q))) in
           let same : length l.2 ≡ length tooks = let f = ap length still.0 in omega arith in
-          let spent = no_turn a b x.limits z.limits k most x.entries.items z.entries.items (length l.2) away before in
-          rw (still.1, still.2) (subst (λ m. EachLaneSpent a x.limits m most x.entries.items b z.limits z.entries.items (length tooks)) next
-          (subst (EachLaneSpent a x.limits (k + 1) most x.entries.items b z.limits z.entries.items) same spent))
+          let spent = no_turn s t k most (length l.2) away before in
+          rw (still.1, still.2) (subst (λ m. EachLaneSpent s m most t (length tooks)) next
+          (subst (EachLaneSpent s (k + 1) most t) same spent))
     ]
 
 -- the lanes above the last one tell nothing
@@ -376,14 +373,14 @@ has_place : {sli : ℕ} (a : Worker sli Lanes) (k : ℕ) → HasTake a k → k <
 has_place a k h = slice_get_within a.ports.takes.items k (Some h.0) (from_slot (slice_get a.ports.takes.items k) h.0 h.1)
 
 -- a drain of all places is one of the lanes from all workers
-pub all_spent : {sli : ℕ} (n : ℕ) (a v : Worker sli Lanes) (x y : Journal) (most : ℕ) (answer : Drained) → KnowsYard n a → AllLanesNoted EntersLane IsAdmitted a v x y most answer → EachLaneSpent a x.limits n most x.entries.items v y.limits y.entries.items answer.taken
+pub all_spent : {sli : ℕ} (n : ℕ) (a v : Worker sli Lanes) (x y : Journal) (most : ℕ) (answer : Drained) → KnowsYard n a → AllNoted (lane_rules IsAdmitted EntersTake) a v x y (lane_places a) most answer → EachLaneSpent (stage_of a x) n most (stage_of v y) answer.taken
 all_spent n a v x y most answer known d =
     let places = lane_places a in
     let c = d.count.0 in
-    let s = subst (EachLaneSpent a x.limits places most x.entries.items v y.limits y.entries.items) (sym c) (each_lane_spent n a v x y most places d.tooks known d.each) in
+    let s = subst (EachLaneSpent (stage_of a x) places most (stage_of v y)) (sym c) (each_lane_spent n a v x y most places d.tooks known d.each) in
     let t = s.takes in
     let at = id_of a in
-    let o = own_drain x.entries.items a 0 in
+    let o = own_drain (stage_of a x) 0 in
     let beyond : (k : ℕ) → places ≤ k → t.posts k ≡ [] = λ k le. t.only k (λ lt. absurd (omega arith)) in
     let away : (k : ℕ) → n ≤ k → t.posts k ≡ [] = λ k le. t.only k (λ lt h. let near = (known.from k).0 h in absurd (omega (arith, near.0))) in
     let swap : places + n ≡ n + places = omega arith in

@@ -16,7 +16,7 @@ use Rattle.tlsf_post.specs.declared.post.Post.{Post}
 use Rattle.tlsf_post.specs.declared.owner_end.OwnerEnd.{OwnerEnd}
 use Rattle.tlsf_post.specs.declared.poster_end.PosterEnd.{PosterEnd}
 use Rattle.tlsf_calls.specs.declared.call.Call.{Call}
-use Rattle.tlsf_calls.specs.declared.call.Call.TheVariants.{Allocate, Release, Write, Read, Resize, Take, Drain}
+use Rattle.tlsf_calls.specs.declared.call.Call.TheVariants.{Release, Take, Drain}
 use Rattle.tlsf_calls.specs.declared.entry.Entry.{Entry}
 use Rattle.tlsf_calls.specs.declared.target.Target.{Target}
 use Rattle.tlsf_calls.specs.declared.released.Released.{Released}
@@ -35,12 +35,12 @@ use Rattle.tlsf_crew.specs.declared.queues.queues.Queues.{Queues}
 use Rattle.tlsf_crew.specs.declared.scripts.journal.Journal.{Journal}
 use Rattle.tlsf_crew.specs.worker.Workers.{IsOther, heap_of, id_of, SameButHeap}
 use Rattle.tlsf_crew.specs.worker.Calls.{AfterTake, ReleasedThere, posted_as, put_answer}
-use Rattle.tlsf_crew.specs.worker.Notes.{EachNoted, EachTakeNoted}
-use Rattle.tlsf_crew.specs.scripts.Journals.{IsAdmitted, OneFewer, EntersSender}
-use Rattle.tlsf_crew.specs.scripts.Scripts.{IsNoTake, QuietCall, reply_released}
-use Rattle.tlsf_crew.specs.queues.QueueWorkers.{queue_to, queue_end_to, PutsIntoQueue, AsksQueue, HasQueueEnd, KnowsQueueYard, KeepsQueueYards, PosterEndPut, OwnEndTook}
+use Rattle.tlsf_crew.specs.worker.Notes.{SourceNoted, EachNoted, EachTakeNoted}
+use Rattle.tlsf_crew.specs.scripts.Journals.{IsAdmitted, OneFewer, EntersTake}
+use Rattle.tlsf_crew.specs.scripts.Scripts.{IsNoTake, QuietCall, at_stage, stage_of, reply_released}
+use Rattle.tlsf_crew.specs.queues.QueueWorkers.{queue_to, queue_end_to, PutsIntoQueue, HasQueueEnd, KnowsQueueYard, KeepsQueueYards, PosterEndPut, OwnEndTook}
 use Rattle.tlsf_crew.specs.queues.QueueCalls.{TakenFromQueue}
-use Rattle.tlsf_crew.specs.queues.QueueNotes.{QueueNoted, StopsAtQueue}
+use Rattle.tlsf_crew.specs.queues.QueueNotes.{queue_rules}
 use Rattle.tlsf_crew.specs.model.QueueTold.{IsFromOther, MayTellQueue, take_entry, told_reply, told_take, told_takes}
 use Rattle.tlsf_crew.specs.scripts.QueueMoves.{QueueMoved, QueueStepped, entry_by, told_of}
 use Rattle.tlsf_post.proofs.RuleSteps.{of_append}
@@ -84,16 +84,12 @@ none_moved at made a v limits call e same keeps none = record {
 }
 
 tells_queue : (sli n at : ℕ) (s : Told) (call : Call) (t : Told) → IsNoTake call → MayTell sli n at s call t → MayTellQueue sli n at s call t
-tells_queue sli n at s (Allocate len) t plain told = told
-tells_queue sli n at s (Release target) t plain told = told
-tells_queue sli n at s (Write target from bytes) t plain told = told
-tells_queue sli n at s (Read target from k) t plain told = told
-tells_queue sli n at s (Resize target len) t plain told = told
 tells_queue sli n at s (Take from) t plain told = absurd plain
 tells_queue sli n at s (Drain most) t plain told = absurd plain
+tells_queue sli n at s call t plain told = told
 
 pub quiet_stepped : {sli : ℕ} (n : ℕ) (a v : Worker sli Queues) (limits : List ℕ) (call : Call) (made : List (Option Name)) (entries : List Entry) (reply : Reply) → KnowsQueueYard n a → KeepsQueueYards a v
-    → QuietCall n a v call made entries reply → QueueStepped n a limits call made entries v limits entries reply
+    → QuietCall n a v call made entries reply → QueueStepped n (at_stage a limits entries) call made (at_stage v limits entries) reply
 quiet_stepped {sli} n a v limits call made entries reply k keeps q = record {
   own = [];
   entries_are = sym (append-nil entries);
@@ -185,7 +181,7 @@ has_port_or n a j k = elim (end_or (queue_end_to a j)) [
 
 pub there_stepped : {sli : ℕ} (n : ℕ) (a v : Worker sli Queues) (limits : List ℕ) (target : Target) (name : Name) (made : List (Option Name)) (entries : List Entry) (answer : Result Released CrewRefusal) → KnowsQueueYard n a
     → name_of made target ≡ Some name → name.heap ≢ id_of a → HasQueueEnd a name.heap → ReleasedThere PutsIntoQueue a v name answer
-    → QueueStepped n a limits (Release target) made entries v limits entries (reply_released answer)
+    → QueueStepped n (at_stage a limits entries) (Release target) made (at_stage v limits entries) (reply_released answer)
 there_stepped {sli} n a v limits target name made entries answer k known ne has there =
     let other = ends_are n a k name.heap has.0 has.1 in
     let put = there.post.put in
@@ -278,7 +274,7 @@ record TakenAll {sli : ℕ} (n at : ℕ) (a v : Worker sli Queues) (x y : Journa
   unfilled : (before : List Entry) (e : Entry) → StandsBehind own before e → IsNotFull e.reply
   left : sum_of y.limits + length own ≡ sum_of x.limits
 
-taken_all : {sli : ℕ} (n at : ℕ) (a v : Worker sli Queues) (x y : Journal) (tooks : List Took) → id_of a ≡ at → KnowsQueueYard n a → EachTakeNoted AsksQueue EntersSender a v x y 0 tooks → TakenAll n at a v x y (length tooks)
+taken_all : {sli : ℕ} (n at : ℕ) (a v : Worker sli Queues) (x y : Journal) (tooks : List Took) → id_of a ≡ at → KnowsQueueYard n a → EachTakeNoted (queue_rules IsAdmitted EntersTake) a v x y 0 tooks → TakenAll n at a v x y (length tooks)
 taken_all n at a v x y [] is k t =
     rw (t.0, t.1) (record {
       posts = [];
@@ -395,13 +391,13 @@ drained_queue_moved n a last v x y most count made seen t =
       room = omega (arith, length-append t.own (z ∷ []), t.left);
     }
 
-pub drain_stepped : {sli : ℕ} (n : ℕ) (a v : Worker sli Queues) (x y : Journal) (most : ℕ) (made : List (Option Name)) (tooks : List Took) → KnowsQueueYard n a → QueueNoted EntersSender IsAdmitted a v x y most tooks
-    → QueueStepped n a x.limits (Drain most) made x.entries.items v y.limits y.entries.items (Drained (length tooks))
+pub drain_stepped : {sli : ℕ} (n : ℕ) (a v : Worker sli Queues) (x y : Journal) (most : ℕ) (made : List (Option Name)) (tooks : List Took) → KnowsQueueYard n a → SourceNoted (queue_rules IsAdmitted EntersTake) a v x y 0 most tooks
+    → QueueStepped n (stage_of a x) (Drain most) made (stage_of v y) (Drained (length tooks))
 drain_stepped n a v x y most made tooks k noted =
     let at = id_of a in
     let count = length tooks in
     let t = taken_all n at a noted.last x y tooks refl k noted.turns in
-    let seen = end_seen noted.last v most count (queue_ends IsAdmitted noted.last v y most count noted.end) in
+    let seen = end_seen noted.last v most count (queue_ends IsAdmitted EntersTake noted.last v y most count noted.end) in
     let few : length t.posts ≤ most = elim noted.end [
       | inl e ↦ omega (arith, e.0, t.count_is.0)
       | inr e ↦ omega (arith, e.0, t.count_is.0)
@@ -423,35 +419,36 @@ drain_stepped n a v x y most made tooks k noted =
     }
 
 -- a drain of all sources is one of the own queue
-pub drained_once : {sli : ℕ} {N : Type 0} (hears : Queues → ℕ → Type 0) (noted : N → ℕ → ℕ → Took → N → Type 0) (admitted : N → ℕ → Type 0) (a v : Worker sli Queues) (x y : N) (most : ℕ) (tooks : List Took)
-    → ((p : Queues) → hears p 0) → EachNoted hears AsksQueue StopsAtQueue noted admitted a v x y most 1 tooks → QueueNoted noted admitted a v x y most tooks
-drained_once {sli} {N} hears noted admitted a v x y most tooks all l =
+pub drained_once : {sli : ℕ} {N : Type 0} (admitted : N → ℕ → Type 0) (noted : N → ℕ → ℕ → Option ℕ → Took → N → Type 0) (a v : Worker sli Queues) (x y : N) (most : ℕ) (tooks : List Took)
+    → EachNoted (queue_rules admitted noted) a v x y most 1 tooks → SourceNoted (queue_rules admitted noted) a v x y 0 most tooks
+drained_once {sli} {N} admitted noted a v x y most tooks l =
+    let by = queue_rules admitted noted in
     let none = l.5 in
-    let there = l.6.here (all l.0.ports) in
+    let there = l.6.here tt in
     let m : most - length l.2 ≡ most = omega (arith, ap length none.0) in
     let t : l.3 ≡ tooks = sym (l.4 ∙ ap (λ (before : List Took). before ++ l.3) none.0) in
-    subst (QueueNoted noted admitted a v x y most) t (subst (λ (k : ℕ). QueueNoted noted admitted a v x y k l.3) m
-    (subst (λ (z : N). QueueNoted noted admitted a v z y (most - length l.2) l.3) none.2
-    (subst (λ (b : Worker sli Queues). QueueNoted noted admitted b v l.1 y (most - length l.2) l.3) none.1 there)))
+    subst (SourceNoted by a v x y 0 most) t (subst (λ (k : ℕ). SourceNoted by a v x y 0 k l.3) m
+    (subst (λ (z : N). SourceNoted by a v z y 0 (most - length l.2) l.3) none.2
+    (subst (λ (b : Worker sli Queues). SourceNoted by b v l.1 y 0 (most - length l.2) l.3) none.1 there)))
 
 -- each post that was taken counts the limits down
-turns_left : {sli : ℕ} (a v : Worker sli Queues) (x y : Journal) (tooks : List Took) → EachTakeNoted AsksQueue EntersSender a v x y 0 tooks → sum_of y.limits + length tooks ≡ sum_of x.limits
+turns_left : {sli : ℕ} (a v : Worker sli Queues) (x y : Journal) (tooks : List Took) → EachTakeNoted (queue_rules IsAdmitted EntersTake) a v x y 0 tooks → sum_of y.limits + length tooks ≡ sum_of x.limits
 turns_left a v x y [] t = omega (arith, ap (λ (z : Journal). sum_of z.limits) t.1)
 turns_left a v x y (took ∷ tooks) t = let noted = t.3 in let z = t.1 in omega (arith, turns_left t.0 v t.1 y tooks t.4, fewer_sum x.limits z.limits noted.fewer)
 
-pub drain_few : {sli : ℕ} (a v : Worker sli Queues) (x y : Journal) (most : ℕ) (tooks : List Took) → QueueNoted EntersSender IsAdmitted a v x y most tooks → length tooks ≤ sum_of x.limits
+pub drain_few : {sli : ℕ} (a v : Worker sli Queues) (x y : Journal) (most : ℕ) (tooks : List Took) → SourceNoted (queue_rules IsAdmitted EntersTake) a v x y 0 most tooks → length tooks ≤ sum_of x.limits
 drain_few a v x y most tooks n = omega (arith, turns_left a n.last x y tooks n.turns)
 
 -- a drain leaves the ends to other queues
-pub drain_ends : {sli : ℕ} (n : ℕ) (a v : Worker sli Queues) (x y : Journal) (most : ℕ) (tooks : List Took) → KnowsQueueYard n a → QueueNoted EntersSender IsAdmitted a v x y most tooks → queue_end_to v ≡ queue_end_to a
+pub drain_ends : {sli : ℕ} (n : ℕ) (a v : Worker sli Queues) (x y : Journal) (most : ℕ) (tooks : List Took) → KnowsQueueYard n a → SourceNoted (queue_rules IsAdmitted EntersTake) a v x y 0 most tooks → queue_end_to v ≡ queue_end_to a
 drain_ends n a v x y most tooks k noted =
     let t = taken_all n (id_of a) a noted.last x y tooks refl k noted.turns in
-    let seen = end_seen noted.last v most (length tooks) (queue_ends IsAdmitted noted.last v y most (length tooks) noted.end) in
+    let seen = end_seen noted.last v most (length tooks) (queue_ends IsAdmitted EntersTake noted.last v y most (length tooks) noted.end) in
     seen.ends ∙ t.ends
 
 -- ---- a take of its own
 
-pub take_stepped : {sli : ℕ} (n : ℕ) (a : Worker sli Queues) (limits : List ℕ) (from : ℕ) (made : List (Option Name)) (entries : List Entry) → QueueStepped n a limits (Take from) made entries a limits entries (Refused Stranger)
+pub take_stepped : {sli : ℕ} (n : ℕ) (a : Worker sli Queues) (limits : List ℕ) (from : ℕ) (made : List (Option Name)) (entries : List Entry) → QueueStepped n (at_stage a limits entries) (Take from) made (at_stage a limits entries) (Refused Stranger)
 take_stepped n a limits from made entries = record {
   own = [];
   entries_are = sym (append-nil entries);

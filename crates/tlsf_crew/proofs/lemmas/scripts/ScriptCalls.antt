@@ -17,8 +17,8 @@ use Rattle.tlsf_calls.specs.declared.target.Target.{Target}
 use Rattle.tlsf_calls.specs.declared.took.Took.{Took}
 use Rattle.tlsf_crew.specs.lanes.LaneCalls.{KeepsYards, PutsIntoLane, name_back}
 use Rattle.tlsf_crew.specs.worker.Calls.{ReleasedThere, posted_as, put_answer}
-use Rattle.tlsf_crew.specs.scripts.LaneMoves.{one, LaneMoved, LaneStepped}
-use Rattle.tlsf_crew.specs.scripts.Scripts.{reply_took, AreMoves, IsNoTake, IsQuiet, QuietCall, TakenWithin, reply_released, told_of}
+use Rattle.tlsf_crew.specs.scripts.LaneMoves.{one, LaneMoved, LaneStepped, lane_telling}
+use Rattle.tlsf_crew.specs.scripts.Scripts.{reply_took, AreMoves, IsNoTake, IsQuiet, QuietCall, TakenWithin, at_stage, reply_released, told_of}
 use Rattle.tlsf_crew.specs.model.Told.{IsModelAnswer}
 use Rattle.tlsf_crew.specs.worker.Workers.{heap_of, id_of}
 use Rattle.tlsf_crew.specs.lanes.LaneWorkers.{end_to, HasPost, HasTake, KnowsYard, PostEndPut, TookThrough}
@@ -35,15 +35,12 @@ use Rattle.tlsf_crew.proofs.lemmas.scripts.WithinTakes.{stranger_moved, stranger
 
 single_stepped : {sli : ℕ} (n : ℕ) (a v : Worker sli Lanes) (limits left : List ℕ) (call : Call) (made : List (Option Name)) (es : List Entry) (reply : Reply) → KnowsYard n a
     → ((most : ℕ) → call ≡ Drain most → ⊥) → IsModelAnswer sli n (id_of a) (told_of made es (heap_of a)) call reply (heap_of v)
-    → ((rest : List (Option Name)) → LaneMoved (id_of a) (made ++ rest) a limits (call ∷ []) (one (id_of a) call reply) v left) → LaneStepped n a limits call made es v left es reply
+    → ((rest : List (Option Name)) → LaneMoved (id_of a) (made ++ rest) a limits (call ∷ []) (one (id_of a) call reply) v left) → LaneStepped n (at_stage a limits es) call made (at_stage v left es) reply
 single_stepped {sli} n a v limits left call made es reply k single is moved = record {
-  own = [];
-  entries_are = sym (append-nil es);
-  told = model_tells sli n (id_of a) (told_of made es (heap_of a)) call reply (heap_of v) k.self is;
+  step = record { own = []; entries_are = sym (append-nil es); told = model_tells sli n (id_of a) (told_of made es (heap_of a)) call reply (heap_of v) k.self is; moved = moved };
   exact = λ w has s. is k.self w has s.one;
   single = λ _. refl;
   each = λ most e. absurd (single most e);
-  moved = moved;
 }
 
 -- ---- a call that posts and takes nothing
@@ -57,7 +54,7 @@ quiet_idle at later a limits e q = record {
 }
 
 pub quiet_stepped : {sli : ℕ} (n : ℕ) (a v : Worker sli Lanes) (limits : List ℕ) (call : Call) (made : List (Option Name)) (es : List Entry) (reply : Reply) → KnowsYard n a → KeepsYards a v
-    → QuietCall n a v call made es reply → LaneStepped n a limits call made es v limits es reply
+    → QuietCall n a v call made es reply → LaneStepped n (at_stage a limits es) call made (at_stage v limits es) reply
 quiet_stepped n a v limits call made es reply k yard q =
     single_stepped n a v limits limits call made es reply k (λ most d. subst IsNoTake d q.quiet.call) q.told
     (λ rest. moved_idle (id_of a) (made ++ rest) a v limits limits [] _ call (moved_still (id_of a) (made ++ rest) a v limits (still_heap (id_of a) a v q.same yard))
@@ -90,7 +87,7 @@ put_moved made a v limits target name (Err back) known put =
     (full_idle (id_of a) made a v limits target name post back put)
 
 pub there_stepped : {sli : ℕ} (n : ℕ) (a v : Worker sli Lanes) (limits : List ℕ) (target : Target) (name : Name) (made : List (Option Name)) (es : List Entry) (answer : Result Released CrewRefusal) → KnowsYard n a
-    → name_of made target ≡ Some name → name.heap ≢ id_of a → HasPost a name.heap → ReleasedThere PutsIntoLane a v name answer → LaneStepped n a limits (Release target) made es v limits es (reply_released answer)
+    → name_of made target ≡ Some name → name.heap ≢ id_of a → HasPost a name.heap → ReleasedThere PutsIntoLane a v name answer → LaneStepped n (at_stage a limits es) (Release target) made (at_stage v limits es) (reply_released answer)
 there_stepped {sli} n a v limits target name made es answer k known ne has there =
     let put = there.post.through in
     let near = (k.to name.heap).0 has in
@@ -102,7 +99,7 @@ there_stepped {sli} n a v limits target name made es answer k known ne has there
 
 -- ---- over lanes
 
-pub lanes_moves : {sli : ℕ} → AreMoves {sli = sli} {P = Lanes} KnowsYard LaneMoved
+pub lanes_moves : {sli : ℕ} → AreMoves (lane_telling sli)
 lanes_moves = record {
   none = moved_none;
   then = moved_then;
@@ -119,13 +116,13 @@ no_lane a n from k none = elim (cases_eq from (id_of a)) [
   | inr ne ↦ elim (cases_lt from n) [ inl lt ↦ absurd (none ((k.from from).1 (lt, ne))) | inr ge ↦ inr ge ]
 ]
 
-pub stranger_stepped : {sli : ℕ} (n : ℕ) (a : Worker sli Lanes) (limits : List ℕ) (from : ℕ) (made : List (Option Name)) (es : List Entry) → KnowsYard n a → ¬ (HasTake a from) → LaneStepped n a limits (Take from) made es a limits es (Refused Stranger)
+pub stranger_stepped : {sli : ℕ} (n : ℕ) (a : Worker sli Lanes) (limits : List ℕ) (from : ℕ) (made : List (Option Name)) (es : List Entry) → KnowsYard n a → ¬ (HasTake a from) → LaneStepped n (at_stage a limits es) (Take from) made (at_stage a limits es) (Refused Stranger)
 stranger_stepped {sli} n a limits from made es k none =
     single_stepped n a a limits limits (Take from) made es (Refused Stranger) k (λ most e. cc) (stranger_answered sli n (id_of a) from (told_of made es (heap_of a)) (no_lane a n from k none))
     (λ rest. stranger_moved (made ++ rest) a limits from)
 
 pub take_stepped : {sli : ℕ} (n : ℕ) (a v : Worker sli Lanes) (limits left : List ℕ) (from : ℕ) (made : List (Option Name)) (es : List Entry) (answer : Option Took) → KnowsYard n a → HasTake a from
-    → TakenWithin TookThrough a limits from v left answer → LaneStepped n a limits (Take from) made es v left es (reply_took answer)
+    → TakenWithin TookThrough a limits from v left answer → LaneStepped n (at_stage a limits es) (Take from) made (at_stage v left es) (reply_took answer)
 take_stepped n a v limits left from made es answer k has t =
     let near = (k.from from).0 has in
     let w = taken_within a v limits left from answer (omega (arith, near.0, k.few)) t in

@@ -1,5 +1,5 @@
 -- A slot that was written has what was written, and each other slot what it had.
-use Rattle.std.proofs.Common.{◌⊎◌, ◌≡◌, ◌≢◌, ℕ, ◌<◌, ◌≤◌, List, Option, Some, None, length, set, sym, ◌∙◌, ap, arith, refl, inl, inr, get_or-set_same, get_or-set_other, suc, zero, replicate}
+use Rattle.std.proofs.Common.{◌⊎◌, ◌≡◌, ◌≢◌, ℕ, ◌<◌, ◌≤◌, List, Option, Some, None, length, set, sym, ◌∙◌, ap, arith, refl, inl, inr, get_or-set_same, get_or-set_other, suc, zero, replicate, ◌∷◌, []}
 use Rattle.std.specs.List.{slice_get}
 use Rattle.std.proofs.lemmas.Option.{slice_get-get_or, slice_get_past}
 use Rattle.std.proofs.lemmas.Bool.{cases_lt}
@@ -61,3 +61,9 @@ none_or_some o x a b = let e = sym a ∙ b in cc
 pub end_or : {X : Type 0} (o : Option X) → ((x : X) × (o ≡ Some x)) ⊎ ¬ ((x : X) × (o ≡ Some x))
 end_or None = inr (λ h. let e = h.1 in absurd cc)
 end_or (Some x) = inl (x, refl)
+
+-- what stands at a place
+pub some_at : {X : Type 0} (xs : List X) (k : ℕ) → k < length xs → (x : X) × (slice_get xs k ≡ Some x)
+some_at [] k lt = absurd (omega arith)
+some_at (x ∷ xs) zero lt = (x, refl)
+some_at (x ∷ xs) (suc k) lt = some_at xs k (omega arith)

@@ -12,33 +12,33 @@ use Rattle.tlsf_crew.specs.declared.worker.worker.Worker.{Worker}
 use Rattle.tlsf_crew.specs.worker.Workers.{heap_of, id_of}
 use Rattle.tlsf_crew.specs.worker.Calls.{AfterTake, TakenFrom, TakesInTurn}
 use Rattle.tlsf_crew.specs.worker.Drains.{heap_after, is_freed, IsCountOf}
-use Rattle.tlsf_crew.specs.worker.Notes.{EachNoted, EachTakeNoted, SourceNoted}
+use Rattle.tlsf_crew.specs.worker.Notes.{TakeRules, EachNoted, EachTakeNoted, SourceNoted}
 use Rattle.tlsf_crew.proofs.lemmas.worker.SameParts.{ports_heap}
 
 -- one take more
-pub noted_more : {sli : ℕ} {P N : Type 0} (takes : P → P → ℕ → Option Post → Type 0) (noted : N → ℕ → ℕ → Took → N → Type 0) (a b v : Worker sli P) (x y z : N) (source : ℕ) (tooks : List Took) (took : Took)
-    → EachTakeNoted takes noted a b x y source tooks → TakenFrom takes b v source (Some took) → noted y (id_of v) source took z → EachTakeNoted takes noted a v x z source (tooks ++ took ∷ [])
-noted_more {sli} {P} {N} takes noted a b v x y z source [] took turns t n =
-    (v, z, subst (λ (w : Worker sli P). TakenFrom takes w v source (Some took)) turns.0 t, subst (λ w. noted w (id_of v) source took z) turns.1 n, (refl, refl))
-noted_more {sli} {P} {N} takes noted a b v x y z source (first ∷ tooks) took turns t n =
-    (turns.0, turns.1, turns.2, turns.3, noted_more takes noted turns.0 b v turns.1 y z source tooks took turns.4 t n)
+pub noted_more : {sli : ℕ} {P N : Type 0} (by : TakeRules P N) (a b v : Worker sli P) (x y z : N) (source : ℕ) (tooks : List Took) (took : Took)
+    → EachTakeNoted by a b x y source tooks → TakenFrom by.takes b v source (Some took) → by.noted y (id_of v) source (by.sent_by took.from) took z → EachTakeNoted by a v x z source (tooks ++ took ∷ [])
+noted_more {sli} {P} {N} by a b v x y z source [] took turns t n =
+    (v, z, subst (λ (w : Worker sli P). TakenFrom by.takes w v source (Some took)) turns.0 t, subst (λ w. by.noted w (id_of v) source (by.sent_by took.from) took z) turns.1 n, (refl, refl))
+noted_more {sli} {P} {N} by a b v x y z source (first ∷ tooks) took turns t n =
+    (turns.0, turns.1, turns.2, turns.3, noted_more by turns.0 b v turns.1 y z source tooks took turns.4 t n)
 
-pub takes_of : {sli : ℕ} {P N : Type 0} (takes : P → P → ℕ → Option Post → Type 0) (noted : N → ℕ → ℕ → Took → N → Type 0) (a v : Worker sli P) (x y : N) (source : ℕ) (tooks : List Took)
-    → EachTakeNoted takes noted a v x y source tooks → TakesInTurn takes a v source tooks
-takes_of takes noted a v x y source [] t = t.0
-takes_of takes noted a v x y source (took ∷ tooks) t = (t.0, t.2, takes_of takes noted t.0 v t.1 y source tooks t.4)
+pub takes_of : {sli : ℕ} {P N : Type 0} (by : TakeRules P N) (a v : Worker sli P) (x y : N) (source : ℕ) (tooks : List Took)
+    → EachTakeNoted by a v x y source tooks → TakesInTurn by.takes a v source tooks
+takes_of by a v x y source [] t = t.0
+takes_of by a v x y source (took ∷ tooks) t = (t.0, t.2, takes_of by t.0 v t.1 y source tooks t.4)
 
 -- the turn of one more number: of a source that was drained, and where there is none
-pub turn_more : {sli : ℕ} {P N : Type 0} (hears : P → ℕ → Type 0) (takes : P → P → ℕ → Option Post → Type 0) (stops : P → P → ℕ → Type 0) (noted : N → ℕ → ℕ → Took → N → Type 0) (admitted : N → ℕ → Type 0) (a b v : Worker sli P) (x y z : N) (most k : ℕ) (xs ys : List Took)
-    → EachNoted hears takes stops noted admitted a b x y most k xs → hears b.ports k → SourceNoted takes stops noted admitted b v y z k (most - length xs) ys → EachNoted hears takes stops noted admitted a v x z most (k + 1) (xs ++ ys)
-turn_more hears takes stops noted admitted a b v x y z most k xs ys each has here =
-    subst (λ (n : ℕ). EachNoted hears takes stops noted admitted a v x z most n (xs ++ ys)) (sym (add-one k))
+pub turn_more : {sli : ℕ} {P N : Type 0} (by : TakeRules P N) (a b v : Worker sli P) (x y z : N) (most k : ℕ) (xs ys : List Took)
+    → EachNoted by a b x y most k xs → by.hears b.ports k → SourceNoted by b v y z k (most - length xs) ys → EachNoted by a v x z most (k + 1) (xs ++ ys)
+turn_more by a b v x y z most k xs ys each has here =
+    subst (λ (n : ℕ). EachNoted by a v x z most n (xs ++ ys)) (sym (add-one k))
     (b, y, xs, ys, refl, each, record { here = λ _. here; nowhere = λ f. absurd (f has) })
 
-pub turn_none : {sli : ℕ} {P N : Type 0} (hears : P → ℕ → Type 0) (takes : P → P → ℕ → Option Post → Type 0) (stops : P → P → ℕ → Type 0) (noted : N → ℕ → ℕ → Took → N → Type 0) (admitted : N → ℕ → Type 0) (a b : Worker sli P) (x y : N) (most k : ℕ) (xs : List Took)
-    → EachNoted hears takes stops noted admitted a b x y most k xs → ¬ (hears b.ports k) → EachNoted hears takes stops noted admitted a b x y most (k + 1) xs
-turn_none hears takes stops noted admitted a b x y most k xs each none =
-    subst (λ (n : ℕ). EachNoted hears takes stops noted admitted a b x y most n xs) (sym (add-one k))
+pub turn_none : {sli : ℕ} {P N : Type 0} (by : TakeRules P N) (a b : Worker sli P) (x y : N) (most k : ℕ) (xs : List Took)
+    → EachNoted by a b x y most k xs → ¬ (by.hears b.ports k) → EachNoted by a b x y most (k + 1) xs
+turn_none by a b x y most k xs each none =
+    subst (λ (n : ℕ). EachNoted by a b x y most n xs) (sym (add-one k))
     (b, y, xs, [], sym (append-nil xs), each, record { here = λ has. absurd (none has); nowhere = λ _. (refl, refl, refl) })
 
 -- what a take leaves of the heap

@@ -13,7 +13,7 @@ returns g c = (
       names = omega (arith, c.in_ok-made.ensures.names, c.len.ensures);
       room = omega (arith, c.in_ok-made.ensures.record, c.len.ensures);
     };
-    limits = c.limits-limits.ensures.limited;
+    limits = c.limits-limits.ensures.limited g.row.SLI;
     room = omega (arith, c.in_ok-made.ensures.record, c.len.ensures);
   },
 )

@@ -4,10 +4,10 @@ use Rattle.std.proofs.lemmas.Option.{slice_get-get_or}
 use Rattle.tlsf_crew.specs.declared.worker.worker.Worker.{Worker}
 use Rattle.tlsf_crew.specs.declared.queues.queues.Queues.{Queues}
 use Rattle.tlsf_crew.specs.queues.QueueSettle.{Gathered}
-use Rattle.tlsf_crew.proofs.lemmas.queues.QueueOpened.{some_at}
 use Rattle.tlsf_crew.proofs.lemmas.queues.QueueSettled.{gathered_none, gathered_more, gathered_own, own_end, slot_there}
 use Rattle.tlsf_crew.proofs.queues.queue_settle.gather_all.Goals as goal
 use Rattle.tlsf_crew.proofs.queues.queue_settle.gather_all.Goals.{then-i-j, else-i-j}
+use Rattle.tlsf_crew.proofs.lemmas.worker.Slots.{some_at}
 
 pub loop-i-init : goal.loop-i-init
 loop-i-init g c = record { gathered = gathered_none _ _ _ c.requires.room.0; few = omega (arith, c.args.posters.now.ok, ap length c.requires.room.0); capacity = refl }

@@ -16,7 +16,7 @@ pub push_reserved-requires : goal.push_reserved-requires
 push_reserved-requires g c =
     let y = c.requires.yard in
     let e = c.drain_into_queue_journal-taken.ensures in
-    let r = step_room _ _ _ queue_moves _ _ _ _ _ _ _ _ _ (e.stepped y.0 [] y.1) in
+    let r = step_room _ queue_moves _ _ _ _ _ _ (e.stepped y.0 [] y.1) in
     let room = ap (λ (v : Vec Entry Global). vec_capacity v) c.replace.ensures.value in
     let len = ap (λ (v : Vec Entry Global). vec_len v) c.replace.ensures.value in
     let k = c.replace.result.ok in

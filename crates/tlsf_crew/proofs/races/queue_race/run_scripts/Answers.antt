@@ -1,31 +1,18 @@
 use Rattle.std.proofs.Common.{arith, map}
-use Rattle.tlsf_crew.specs.scripts.QueueMoves.{QueueMoved, IsQueueLimit}
-use Rattle.tlsf_crew.specs.model.QueueTold.{MayTellQueue}
-use Rattle.tlsf_crew.specs.queues.QueueWorkers.{KnowsQueueYard}
+use Rattle.tlsf_crew.specs.scripts.QueueMoves.{queue_telling}
 use Rattle.tlsf_crew.proofs.lemmas.races.QueueGathering.{each_knows_some, queue_places, queue_record_rooms, queues_ran}
 use Rattle.tlsf_crew.proofs.lemmas.jobs.Gathering.{gathered, room_of_done}
 use Rattle.tlsf_crew.proofs.races.queue_race.run_scripts.Goals as goal
 
-pub returns-clause-run : goal.returns-clause-run
-returns-clause-run g c =
-    queues_ran c.args.workers.items c.take_apart.new.out.workers.items (map (λ s. s.items) c.args.scripts.items) c.take_apart.new.out.records.items
-    (gathered (λ queues releases limits. IsQueueLimit releases limits) KnowsQueueYard (MayTellQueue g.row.SLI) QueueMoved c.count_all-releases.result c.in_ok-jobs.jobs.items c.in_ok-done.done.items c.args.workers.items c.args.scripts.items
-    c.take_apart.new.out.records.items c.take_apart.new.out.workers.items c.in_ok-jobs.ensures.workers c.in_ok-jobs.ensures.scripts
-    c.take_apart.ensures.parts.0 c.take_apart.ensures.parts.1 (rw c.deref.ensures.value at c.count_all-releases.ensures) c.in_ok-jobs.ensures.ready c.in_ok-done.ensures.done)
-
-pub returns-clause-places : goal.returns-clause-places
-returns-clause-places g c =
-    queue_places c.args.workers.items c.take_apart.new.out.workers.items (map (λ s. s.items) c.args.scripts.items) c.take_apart.new.out.records.items c.requires.yard
-    (gathered (λ queues releases limits. IsQueueLimit releases limits) KnowsQueueYard (MayTellQueue g.row.SLI) QueueMoved c.count_all-releases.result c.in_ok-jobs.jobs.items c.in_ok-done.done.items c.args.workers.items c.args.scripts.items
-    c.take_apart.new.out.records.items c.take_apart.new.out.workers.items c.in_ok-jobs.ensures.workers c.in_ok-jobs.ensures.scripts
-    c.take_apart.ensures.parts.0 c.take_apart.ensures.parts.1 (rw c.deref.ensures.value at c.count_all-releases.ensures) c.in_ok-jobs.ensures.ready c.in_ok-done.ensures.done)
-
-pub returns-clause-rooms : goal.returns-clause-rooms
-returns-clause-rooms g c =
-    queue_record_rooms c.args.workers.items c.take_apart.new.out.workers.items (map (λ s. s.items) c.args.scripts.items) c.take_apart.new.out.records.items
-    (gathered (λ queues releases limits. IsQueueLimit releases limits) KnowsQueueYard (MayTellQueue g.row.SLI) QueueMoved c.count_all-releases.result c.in_ok-jobs.jobs.items c.in_ok-done.done.items c.args.workers.items c.args.scripts.items
-    c.take_apart.new.out.records.items c.take_apart.new.out.workers.items c.in_ok-jobs.ensures.workers c.in_ok-jobs.ensures.scripts
-    c.take_apart.ensures.parts.0 c.take_apart.ensures.parts.1 (rw c.deref.ensures.value at c.count_all-releases.ensures) c.in_ok-jobs.ensures.ready c.in_ok-done.ensures.done)
+pub returns : goal.returns
+returns g c =
+    let ws = c.args.workers.items in
+    let vs = c.take_apart.new.out.workers.items in
+    let scripts = map (λ s. s.items) c.args.scripts.items in
+    let records = c.take_apart.new.out.records.items in
+    let ran = gathered (queue_telling g.row.SLI) c.count_all-releases.result c.in_ok-jobs.jobs.items c.in_ok-done.done.items ws c.args.scripts.items records vs c.in_ok-jobs.ensures.workers c.in_ok-jobs.ensures.scripts
+    c.take_apart.ensures.parts.0 c.take_apart.ensures.parts.1 (rw c.deref.ensures.value at c.count_all-releases.ensures) c.in_ok-jobs.ensures.ready c.in_ok-done.ensures.done in
+    record { run = queues_ran ws vs scripts records ran; places = queue_places ws vs scripts records c.requires.yard ran; rooms = queue_record_rooms ws vs scripts records ran }
 
 pub prepare-requires : goal.prepare-requires
 prepare-requires g c =

@@ -1,25 +1,18 @@
 use Rattle.std.proofs.Common.{arith, map}
-use Rattle.tlsf_crew.specs.scripts.Counts.{AreLaneLimits}
-use Rattle.tlsf_crew.specs.scripts.LaneMoves.{LaneMoved}
-use Rattle.tlsf_crew.specs.model.Told.{MayTell}
-use Rattle.tlsf_crew.specs.lanes.LaneWorkers.{KnowsYard}
+use Rattle.tlsf_crew.specs.scripts.LaneMoves.{lane_telling}
 use Rattle.tlsf_crew.proofs.lemmas.races.LaneGathering.{each_knows_some, lanes_ran, lanes_rooms}
 use Rattle.tlsf_crew.proofs.lemmas.jobs.Gathering.{gathered, room_of_done}
 use Rattle.tlsf_crew.proofs.races.race.run_scripts.Goals as goal
 
-pub returns-clause-run : goal.returns-clause-run
-returns-clause-run g c =
-    lanes_ran c.args.workers.items c.take_apart.new.out.workers.items (map (λ s. s.items) c.args.scripts.items) c.take_apart.new.out.records.items c.requires.yard
-    (gathered AreLaneLimits KnowsYard (MayTell g.row.SLI) LaneMoved c.count_all-releases.result c.in_ok-jobs.jobs.items c.in_ok-done.done.items c.args.workers.items c.args.scripts.items
-    c.take_apart.new.out.records.items c.take_apart.new.out.workers.items c.in_ok-jobs.ensures.workers c.in_ok-jobs.ensures.scripts
-    c.take_apart.ensures.parts.0 c.take_apart.ensures.parts.1 (rw c.deref.ensures.value at c.count_all-releases.ensures) c.in_ok-jobs.ensures.ready c.in_ok-done.ensures.done)
-
-pub returns-clause-rooms : goal.returns-clause-rooms
-returns-clause-rooms g c =
-    lanes_rooms c.args.workers.items c.take_apart.new.out.workers.items (map (λ s. s.items) c.args.scripts.items) c.take_apart.new.out.records.items
-    (gathered AreLaneLimits KnowsYard (MayTell g.row.SLI) LaneMoved c.count_all-releases.result c.in_ok-jobs.jobs.items c.in_ok-done.done.items c.args.workers.items c.args.scripts.items
-    c.take_apart.new.out.records.items c.take_apart.new.out.workers.items c.in_ok-jobs.ensures.workers c.in_ok-jobs.ensures.scripts
-    c.take_apart.ensures.parts.0 c.take_apart.ensures.parts.1 (rw c.deref.ensures.value at c.count_all-releases.ensures) c.in_ok-jobs.ensures.ready c.in_ok-done.ensures.done)
+pub returns : goal.returns
+returns g c =
+    let ws = c.args.workers.items in
+    let vs = c.take_apart.new.out.workers.items in
+    let scripts = map (λ s. s.items) c.args.scripts.items in
+    let records = c.take_apart.new.out.records.items in
+    let ran = gathered (lane_telling g.row.SLI) c.count_all-releases.result c.in_ok-jobs.jobs.items c.in_ok-done.done.items ws c.args.scripts.items records vs c.in_ok-jobs.ensures.workers c.in_ok-jobs.ensures.scripts
+    c.take_apart.ensures.parts.0 c.take_apart.ensures.parts.1 (rw c.deref.ensures.value at c.count_all-releases.ensures) c.in_ok-jobs.ensures.ready c.in_ok-done.ensures.done in
+    record { run = lanes_ran ws vs scripts records c.requires.yard ran; rooms = lanes_rooms ws vs scripts records ran }
 
 pub prepare-requires : goal.prepare-requires
 prepare-requires g c =

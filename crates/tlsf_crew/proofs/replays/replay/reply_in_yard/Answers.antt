@@ -55,7 +55,7 @@ settle_for-requires g c = (
         let a : Worker g.row.SLI Lanes = get_or vs c.args.event.worker c.index-workers-event.result in
         let is : slice_get vs c.args.event.worker ≡ Some a = slice_get-get_or vs c.args.event.worker c.index-workers-event.result lt in
         let step = c.reply_to-reply.ensures.stepped (length vs) (each_knows (length vs) vs refl e.yard c.args.event.worker c.index-workers-event.result lt) in
-        let m = step.moved [] in
+        let m = step.step.moved [] in
         m.yard vs c.args.event.worker is e.yard,
     let vs = c.settle_for-journal.new.workers in
         let n = c.settle_for-journal.ensures.count in

@@ -2,6 +2,7 @@ use Rattle.std.proofs.Common.{refl, sym}
 use Rattle.tlsf_calls.specs.declared.call.Call.TheVariants.{Release}
 use Rattle.tlsf_calls.specs.declared.crew_refusal.CrewRefusal.TheVariants.{Unmade}
 use Rattle.tlsf_calls.specs.declared.reply.Reply.TheVariants.{Refused}
+use Rattle.tlsf_crew.specs.scripts.Scripts.{at_stage}
 use Rattle.tlsf_crew.proofs.lemmas.worker.OwnHeaps.{same_heap_keeps}
 use Rattle.tlsf_crew.proofs.lemmas.scripts.OwnTold.{release_by, unmade_call}
 use Rattle.tlsf_crew.proofs.scripts.executor.reply_to_release.Goals as goal
@@ -19,7 +20,7 @@ returns g c = λ n limits entries k.
     let made = c.args.made.now in
     let e = c.release.ensures in
     rw c.as_reply.ensures
-    (release_by n g.P.Ports.reaches g.P.Exchange.puts a v c.args.target c.in-Some.name made entries c.release.result (λ u reply. g.P.Scripted.steps g.row.SLI n a limits (Release c.args.target) made entries u limits entries reply) (sym c.in-Some.ensures)
+    (release_by n g.P.Ports.reaches g.P.Exchange.puts a v c.args.target c.in-Some.name made entries c.release.result (λ u reply. g.P.Scripted.steps g.row.SLI n (at_stage a limits entries) (Release c.args.target) made (at_stage u limits entries) reply) (sym c.in-Some.ensures)
     (record { here = e.here; there = e.there; nowhere = e.nowhere }) (c.posts_step.ensures.reached g.row.SLI n a c.in-Some.name.heap k)
     (λ u reply kept q. c.quiet_step.ensures g.row.SLI n a u limits (Release c.args.target) made entries reply k (c.heap_keeps.ensures g.row.SLI a u q.same kept) q)
     (λ ne has there. c.posts_step.ensures.posted g.row.SLI n a v limits c.args.target c.in-Some.name made entries c.release.result k (sym c.in-Some.ensures) ne has there))

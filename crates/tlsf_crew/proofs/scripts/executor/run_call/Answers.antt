@@ -1,4 +1,5 @@
 use Rattle.std.proofs.Common.{arith, refl, subst}
+use Rattle.tlsf_crew.specs.scripts.Scripts.{stage_of}
 use Rattle.tlsf_crew.proofs.lemmas.scripts.ScriptRuns.{step_called, step_room}
 use Rattle.tlsf_crew.proofs.scripts.executor.run_call.Goals as goal
 
@@ -6,16 +7,16 @@ pub answer-requires-clause-room : goal.answer-requires-clause-room
 answer-requires-clause-room g c =
     let n = c.requires.knows.0 in
     let step = c.reply_to-reply.ensures.stepped n c.requires.knows.1 in
-    let r = step_room _ _ _ (c.moves_join.ensures g.row.SLI) _ _ _ _ _ _ _ _ _ (c.steps_tell.ensures g.row.SLI n _ _ _ _ _ _ _ _ _ step) in
+    let r = step_room _ (c.moves_join.ensures g.row.SLI) _ _ _ _ _ _ (c.steps_tell.ensures g.row.SLI n _ _ _ _ _ step) in
     let capacity = c.reply_to-reply.ensures.capacity in
     omega (arith, c.requires.room)
 
 pub returns-clause-called : goal.returns-clause-called
 returns-clause-called g c = λ n k.
     let v = c.reply_to-reply.new.worker in
-    let left = c.reply_to-reply.new.journal.limits in
-    let between = c.reply_to-reply.new.journal.entries.items in
+    let s = stage_of c.args.worker.now c.args.journal.now in
+    let t = stage_of v c.reply_to-reply.new.journal in
     let reply = c.reply_to-reply.result in
-    let step = subst (λ made. g.P.Scripted.steps g.row.SLI n c.args.worker.now c.args.journal.now.limits c.args.call made c.args.journal.now.entries.items v left between reply) c.deref.ensures.value (c.reply_to-reply.ensures.stepped n k) in
-    step_called (g.P.Scripted.knows g.row.SLI) (g.P.Scripted.tells g.row.SLI n) (g.P.Scripted.moves g.row.SLI) (c.moves_join.ensures g.row.SLI) c.args.worker.now v c.args.journal.now.limits left c.args.call c.args.made.now.items c.answer.new.made.items
-    c.args.journal.now.entries.items between c.answer.new.entries.items _ reply (c.steps_tell.ensures g.row.SLI n _ _ _ _ _ _ _ _ _ step) refl c.answer.ensures.made c.answer.ensures.entries
+    let step = subst (λ made. g.P.Scripted.steps g.row.SLI n s c.args.call made t reply) c.deref.ensures.value (c.reply_to-reply.ensures.stepped n k) in
+    step_called (g.P.Scripted.telling g.row.SLI) (c.moves_join.ensures g.row.SLI) n s t c.args.call c.args.made.now.items c.answer.new.made.items c.answer.new.entries.items _ reply
+    (c.steps_tell.ensures g.row.SLI n s t _ _ _ step) refl c.answer.ensures.made c.answer.ensures.entries

@@ -1,6 +1,5 @@
 use Rattle.std.proofs.Common.{◌≡◌, ◌∙◌, ◌++◌, ◌-◌, [], refl, arith, subst}
-use Rattle.tlsf_calls.specs.declared.took.Took.{Took}
-use Rattle.tlsf_crew.specs.worker.Notes.{SourceNoted, EachNoted}
+use Rattle.tlsf_crew.specs.worker.Notes.{TakeRules, SourceNoted, EachNoted}
 use Rattle.tlsf_crew.proofs.lemmas.worker.SourceTurns.{counted_few, counts_then, turn_more, turn_none}
 use Rattle.tlsf_crew.proofs.worker.worker.drain_each.Goals as goal
 use Rattle.tlsf_crew.proofs.worker.worker.drain_each.Goals.{then-has_source, else-has_source}
@@ -23,10 +22,7 @@ pub loop-source-preserved : goal.loop-source-preserved
 loop-source-preserved g c =
     let a = c.args.worker.now in
     let b = c.loop-source.worker in
-    let hears = g.P.Ports.hears in
-    let takes = g.P.Exchange.takes in
-    let stops = g.P.Exchange.stops in
-    let admitted = g.N.Notes.admitted in
+    let by : TakeRules _ _ = record { hears = g.P.Ports.hears; takes = g.P.Exchange.takes; stops = g.P.Exchange.stops; sent_by = g.P.Ports.sent_by; admitted = g.N.Notes.admitted; noted = g.N.Notes.noted } in
     let i = c.loop-source.invariant in
     let l = i.each in
     elim c.if-has_source.branch [
@@ -35,13 +31,13 @@ loop-source-preserved g c =
           let v = w.drain_source-here.new.worker in
           let z = w.drain_source-here.new.notes in
           let t = e.drained in
-          let lane = subst (λ n. SourceNoted takes stops (λ old at source (took : Took) new. g.N.Notes.noted old at source (g.P.Ports.sent_by took.from) took new) admitted b v c.loop-source.notes z c.loop-source.source (c.args.most - n) t.0) l.2.0 t.1 in
+          let lane = subst (λ n. SourceNoted by b v c.loop-source.notes z c.loop-source.source (c.args.most - n) t.0) l.2.0 t.1 in
           record {
             room = rw w.notes-is e.room;
             kept = rw w.notes-is (e.kept ∙ i.kept);
             each = rw (w.worker-is, w.notes-is, w.drained-is) (
               l.0 ++ t.0,
-              turn_more hears takes stops (λ old at source (took : Took) new. g.N.Notes.noted old at source (g.P.Ports.sent_by took.from) took new) admitted a b v c.args.notes.now c.loop-source.notes z c.args.most c.loop-source.source l.0 t.0 l.1 (c.has_source.ensures.yes w.if-has_source.true) lane,
+              turn_more by a b v c.args.notes.now c.loop-source.notes z c.args.most c.loop-source.source l.0 t.0 l.1 (c.has_source.ensures.yes w.if-has_source.true) lane,
               counts_then c.loop-source.drained w.drain_source-here.result l.0 t.0 l.2 t.2,
             );
             few = rw w.drained-is (omega (arith, e.most, i.few));
@@ -51,7 +47,7 @@ loop-source-preserved g c =
       | else-has_source w ↦ record {
         room = rw w.notes-is i.room;
         kept = rw w.notes-is i.kept;
-        each = rw (w.worker-is, w.notes-is, w.drained-is) (l.0, turn_none hears takes stops (λ old at source (took : Took) new. g.N.Notes.noted old at source (g.P.Ports.sent_by took.from) took new) admitted a b c.args.notes.now c.loop-source.notes c.args.most c.loop-source.source l.0 l.1 (c.has_source.ensures.no w.if-has_source.false), l.2);
+        each = rw (w.worker-is, w.notes-is, w.drained-is) (l.0, turn_none by a b c.args.notes.now c.loop-source.notes c.args.most c.loop-source.source l.0 l.1 (c.has_source.ensures.no w.if-has_source.false), l.2);
         few = rw w.drained-is i.few;
         touches = rw (w.worker-is, w.drained-is) i.touches;
         rise = rw w.worker-is i.rise;
@@ -64,7 +60,7 @@ returns-clause-drained g c =
     let e : c.loop-source.source ≡ g.P.Ports.sources c.args.worker.now.ports = omega (arith, c.source_count-source-end.ensures) in
     record {
       tooks = l.0;
-      each = subst (λ n. EachNoted g.P.Ports.hears g.P.Exchange.takes g.P.Exchange.stops (λ old at source (took : Took) new. g.N.Notes.noted old at source (g.P.Ports.sent_by took.from) took new) g.N.Notes.admitted c.args.worker.now c.loop-source.worker c.args.notes.now c.loop-source.notes c.args.most n l.0) e l.1;
+      each = subst (λ n. EachNoted (record { hears = g.P.Ports.hears; takes = g.P.Exchange.takes; stops = g.P.Exchange.stops; sent_by = g.P.Ports.sent_by; admitted = g.N.Notes.admitted; noted = g.N.Notes.noted }) c.args.worker.now c.loop-source.worker c.args.notes.now c.loop-source.notes c.args.most n l.0) e l.1;
       count = l.2;
     }
 
