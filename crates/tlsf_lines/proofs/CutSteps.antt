@@ -90,20 +90,6 @@ last workers kind [] = refl
 last workers kind (field ∷ []) = alone (value_in workers kind field)
 last workers kind (field ∷ next ∷ fields) = nothing_behind (value_in workers kind field)
 
-fused : (v1 v2 v3 : Value) (said : Option Value)
-    → option_map (λ vs. v1 ∷ vs) (option_map (λ vs. v2 ∷ vs) (option_map (λ vs. v3 ∷ vs) (option_map (λ v. v ∷ []) said))) ≡ option_map (λ v. v1 ∷ v2 ∷ v3 ∷ v ∷ []) said
-fused v1 v2 v3 None = refl
-fused v1 v2 v3 (Some v) = refl
-
--- three fields in the shapes of their kinds, and the last field
-pub four : (workers : ℕ) (k1 k2 k3 k4 : Kind) (f0 f1 f2 f3 : List (List ℕ)) (v1 v2 v3 : Value) (said : Option Value)
-    → first_by (λ f. value_in workers k1 f) f0 ≡ Some (v1, f1) → first_by (λ f. value_in workers k2 f) f1 ≡ Some (v2, f2) → first_by (λ f. value_in workers k3 f) f2 ≡ Some (v3, f3)
-    → only_by (λ f. value_in workers k4 f) f3 ≡ said
-    → values_in workers (k1 ∷ k2 ∷ k3 ∷ k4 ∷ []) f0 ≡ option_map (λ v. v1 ∷ v2 ∷ v3 ∷ v ∷ []) said
-four workers k1 k2 k3 k4 f0 f1 f2 f3 v1 v2 v3 said e1 e2 e3 e4 =
-    rw (one_more workers k1 (k2 ∷ k3 ∷ k4 ∷ []) f0 f1 v1 e1, one_more workers k2 (k3 ∷ k4 ∷ []) f1 f2 v2 e2, one_more workers k3 (k4 ∷ []) f2 f3 v3 e3, last workers k4 f3, e4)
-    (fused v1 v2 v3 said)
-
 -- ---- a field that is left over
 
 none_wanted : (workers : ℕ) (fields : List (List ℕ)) → 0 < length fields → values_in workers [] fields ≡ None

@@ -1,35 +1,35 @@
--- What the fields of a line say, from the first to the one that has not its shape.
-use Rattle.std.proofs.Common.{◌≡◌, ℕ, List, [], ◌∷◌, Option, Some, None, option_map, refl}
-use Rattle.tlsf_lines.specs.CutFields.{first_by, only_by}
+-- What the first fields of a line say, whatever the kinds of those behind them.
+use Rattle.std.proofs.Common.{◌≡◌, ℕ, List, [], ◌∷◌, ◌++◌, Option, Some, None, option_map, refl}
+use Rattle.tlsf_lines.specs.CutFields.{SayFirst, SayNothing, first_by, only_by}
 use Rattle.tlsf_lines.specs.Fields.{value_in, values_in}
 use Rattle.tlsf_lines.specs.Values.{Kind, Value}
 use Rattle.tlsf_lines.proofs.CutSteps.{last, no_more, one_more}
 
--- the second field has not the shape of its kind
-pub second_missing : (workers : ℕ) (k1 k2 : Kind) (kinds : List Kind) (f0 f1 : List (List ℕ)) (v1 : Value)
-    → first_by (λ f. value_in workers k1 f) f0 ≡ Some (v1, f1) → first_by (λ f. value_in workers k2 f) f1 ≡ None
-    → values_in workers (k1 ∷ k2 ∷ kinds) f0 ≡ None
-second_missing workers k1 k2 kinds f0 f1 v1 e1 none =
-    rw (one_more workers k1 (k2 ∷ kinds) f0 f1 v1 e1, no_more workers k2 kinds f1 none) refl
+-- ---- one field
 
--- nor has the third
-pub third_missing : (workers : ℕ) (k1 k2 k3 : Kind) (kinds : List Kind) (f0 f1 f2 : List (List ℕ)) (v1 v2 : Value)
-    → first_by (λ f. value_in workers k1 f) f0 ≡ Some (v1, f1) → first_by (λ f. value_in workers k2 f) f1 ≡ Some (v2, f2)
-    → first_by (λ f. value_in workers k3 f) f2 ≡ None
-    → values_in workers (k1 ∷ k2 ∷ k3 ∷ kinds) f0 ≡ None
-third_missing workers k1 k2 k3 kinds f0 f1 f2 v1 v2 e1 e2 none =
-    rw (one_more workers k1 (k2 ∷ k3 ∷ kinds) f0 f1 v1 e1, second_missing workers k2 k3 kinds f1 f2 v2 e2 none) refl
+pub first_said : (workers : ℕ) (kind : Kind) (fields left : List (List ℕ)) (value : Value) → first_by (λ f. value_in workers kind f) fields ≡ Some (value, left) → SayFirst workers (kind ∷ []) fields (value ∷ []) left
+first_said workers kind fields left value said = λ behind. one_more workers kind behind fields left value said
 
-in_front : (v1 v2 : Value) (said : Option Value)
-    → option_map (λ vs. v1 ∷ vs) (option_map (λ vs. v2 ∷ vs) (option_map (λ v. v ∷ []) said)) ≡ option_map (λ v. v1 ∷ v2 ∷ v ∷ []) said
-in_front v1 v2 None = refl
-in_front v1 v2 (Some v) = refl
+pub first_unsaid : (workers : ℕ) (kind : Kind) (fields : List (List ℕ)) → first_by (λ f. value_in workers kind f) fields ≡ None → SayNothing workers (kind ∷ []) fields
+first_unsaid workers kind fields unsaid = λ behind. no_more workers kind behind fields unsaid
 
--- two fields in the shapes of their kinds, and the last field
-pub three : (workers : ℕ) (k1 k2 k3 : Kind) (f0 f1 f2 : List (List ℕ)) (v1 v2 : Value) (said : Option Value)
-    → first_by (λ f. value_in workers k1 f) f0 ≡ Some (v1, f1) → first_by (λ f. value_in workers k2 f) f1 ≡ Some (v2, f2)
-    → only_by (λ f. value_in workers k3 f) f2 ≡ said
-    → values_in workers (k1 ∷ k2 ∷ k3 ∷ []) f0 ≡ option_map (λ v. v1 ∷ v2 ∷ v ∷ []) said
-three workers k1 k2 k3 f0 f1 f2 v1 v2 said e1 e2 e3 =
-    rw (one_more workers k1 (k2 ∷ k3 ∷ []) f0 f1 v1 e1, one_more workers k2 (k3 ∷ []) f1 f2 v2 e2, last workers k3 f2, e3)
-    (in_front v1 v2 said)
+-- ---- some fields, and one behind them
+
+fused : (xs : List Value) (v : Value) (more : Option (List Value)) → option_map (λ vs. xs ++ vs) (option_map (λ vs. v ∷ vs) more) ≡ option_map (λ vs. xs ++ (v ∷ vs)) more
+fused xs v None = refl
+fused xs v (Some vs) = refl
+
+fused_last : (xs : List Value) (said : Option Value) → option_map (λ vs. xs ++ vs) (option_map (λ v. v ∷ []) said) ≡ option_map (λ v. xs ++ (v ∷ [])) said
+fused_last xs None = refl
+fused_last xs (Some v) = refl
+
+module _ (workers : ℕ) (kinds : List Kind) (kind : Kind) (fields mid : List (List ℕ)) (values : List Value) (first : SayFirst workers kinds fields values mid) where
+  pub then_said : (left : List (List ℕ)) (value : Value) → first_by (λ f. value_in workers kind f) mid ≡ Some (value, left)
+      → (behind : List Kind) → values_in workers (kinds ++ (kind ∷ behind)) fields ≡ option_map (λ more. values ++ (value ∷ more)) (values_in workers behind left)
+  then_said left value said behind = rw (first (kind ∷ behind), one_more workers kind behind mid left value said) (fused values value (values_in workers behind left))
+
+  pub then_unsaid : first_by (λ f. value_in workers kind f) mid ≡ None → (behind : List Kind) → values_in workers (kinds ++ (kind ∷ behind)) fields ≡ None
+  then_unsaid unsaid behind = rw (first (kind ∷ behind), no_more workers kind behind mid unsaid) refl
+
+  pub then_last : (said : Option Value) → only_by (λ f. value_in workers kind f) mid ≡ said → values_in workers (kinds ++ (kind ∷ [])) fields ≡ option_map (λ v. values ++ (v ∷ [])) said
+  then_last said last_is = rw (first (kind ∷ []), last workers kind mid, last_is) (fused_last values said)

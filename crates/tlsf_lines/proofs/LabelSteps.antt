@@ -72,14 +72,6 @@ pub IfSome-weaker : {A : Type 0} (P Q : A → Type 0) → ((x : A) → P x → Q
 IfSome-weaker P Q weaker None is = tt
 IfSome-weaker P Q weaker (Some x) is = weaker x is
 
--- a label of which the call is forgotten, and any other of which nothing was known
-set_none : (b : Bool) (call : Option ℕ) → call ≡ None → cond b None call ≡ None
-set_none true call is = refl
-set_none false call is = is
-
 module _ (old new : List (Option ℕ)) (label : ℕ) (updated : IsSet old new label None) where
   pub forgotten : RecallsCall new [] label
   forgotten = updated label ∙ rw (same_phase label) refl
-
-  pub still_forgotten : (q : ℕ) → RecallsCall old [] q → RecallsCall new [] q
-  still_forgotten q is = updated q ∙ set_none (nat_eq label q) (kept_of old q) is

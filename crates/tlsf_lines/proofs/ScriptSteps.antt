@@ -1,5 +1,5 @@
 -- Scripts, one line after another.
-use Rattle.std.proofs.Common.{◌≡◌, ℕ, ◌+◌, ◌≤◌, cond, List, [], ◌∷◌, ◌++◌, length, count_by, refl, sym, subst, ap, ◌∙◌, arith, append_assoc, append-nil, replicate, None}
+use Rattle.std.proofs.Common.{◌≡◌, ℕ, ◌+◌, ◌≤◌, cond, List, [], ◌∷◌, ◌++◌, length, count_by, sym, subst, ap, ◌∙◌, arith, append_assoc, append-nil, replicate, None}
 use Rattle.std.proofs.lemmas.List.Sums.{count_by-le-length, sum_by-append}
 use Rattle.tlsf_lines.specs.declared.header.Header.{Header}
 use Rattle.tlsf_lines.specs.declared.line.Line.{Line}
@@ -7,14 +7,6 @@ use Rattle.tlsf_lines.specs.declared.script.Script.{Script}
 use Rattle.tlsf_lines.specs.Events.{last_drains, events_in, events_from, labels_in, labels_from}
 use Rattle.tlsf_lines.specs.Lines.{is_call}
 use Rattle.tlsf_lines.specs.ScriptSoFar.{Adds, Holds, IsScript}
-
--- a script that has nothing yet
-pub holds_none : (workers : ℕ) (script : Script) → script.events.items ≡ [] → script.labels.items ≡ [] → script.calls ≡ 0 → Holds workers [] [] script
-holds_none workers script events labels calls = record {
-  events = λ more. rw events refl;
-  labels = λ more. rw labels refl;
-  calls = calls;
-}
 
 -- calls among some lines, and one more
 calls_with : (lines : List Line) (line : Line) → count_by is_call (lines ++ line ∷ []) ≡ count_by is_call lines + cond (is_call line) 1 0

@@ -1,10 +1,10 @@
 -- The fields of a line as they are cut off, one after another.
-use Rattle.std.specs.Prelude.{ℕ, ◌==◌, List, [], ◌∷◌, Option, Some, None, option_map}
+use Rattle.std.specs.Prelude.{ℕ, ◌≡◌, ◌==◌, List, [], ◌∷◌, ◌++◌, Option, Some, None, option_map}
 use Rattle.std.specs.Borrow.{Bor}
 use Rattle.std.specs.List.{slice_split}
 use Rattle.tlsf_lines.specs.Fields.{values_in}
 use Rattle.tlsf_lines.specs.Lines.{kinds_of, line_from}
-use Rattle.tlsf_lines.specs.Values.{Value, Number, BadNumber}
+use Rattle.tlsf_lines.specs.Values.{Kind, Value, Number, BadNumber}
 use Rattle.tlsf_lines.specs.declared.line.Line.{Line}
 use Rattle.tlsf_lines.specs.declared.word.Word.{Word}
 
@@ -35,6 +35,14 @@ abbrev pub only_by : (List ℕ → Option Value) → List (List ℕ) → Option 
 only_by say [] = None
 only_by say (field ∷ []) = say field
 only_by say (field ∷ next ∷ fields) = None
+
+-- the first fields, of these kinds, say these values, and those that are left say what stands behind them
+abbrev pub SayFirst : ℕ → List Kind → List (List ℕ) → List Value → List (List ℕ) → Type 0
+SayFirst workers kinds fields values left = (behind : List Kind) → values_in workers (kinds ++ behind) fields ≡ option_map (λ more. values ++ more) (values_in workers behind left)
+
+-- the first fields have not the shape of these kinds
+abbrev pub SayNothing : ℕ → List Kind → List (List ℕ) → Type 0
+SayNothing workers kinds fields = (behind : List Kind) → values_in workers (kinds ++ behind) fields ≡ None
 
 -- what the fields behind a word say: nothing where they have not its shape, and no line where a number is bad
 abbrev pub line_behind : ℕ → Word → List (List ℕ) → Option (Option Line)

@@ -1,9 +1,10 @@
 //! What the fields of a line say, word by word. Each function reads its fields from left to right, once. It answers
 //! `None` where a field has not its shape, is missing or is left over, and `None` inside where a number is bad.
-ghost use Rattle.std.specs.Prelude.{◌≡◌, ◌<◌, ℕ, ◌∷◌, []};
-ghost use Rattle.tlsf_lines.specs.CutFields.{fields_left, line_behind, value_of};
+ghost use Rattle.std.specs.Prelude.{◌≡◌, ◌<◌, ℕ, ◌∷◌, [], MatchOption, option_map};
+ghost use Rattle.tlsf_lines.specs.CutFields.{SayFirst, SayNothing, fields_left, line_behind, value_of};
+ghost use Rattle.tlsf_lines.specs.Fields.{values_in};
 ghost use Rattle.tlsf_lines.specs.Lines;
-ghost use Rattle.tlsf_lines.specs.Values.{Bytes};
+ghost use Rattle.tlsf_lines.specs.Values.{Worker, Label, Length, Offset, Bytes};
 ghost use Rattle.tlsf_lines.specs.declared.word.Word.TheVariants as word;
 
 use crate::fields::{last_number, last_payload, next_number};
@@ -93,14 +94,54 @@ fn make_drain(worker: Option<u32>, most: Option<u32>) -> Option<Line>
     })
 }
 
+// The worker and the label that the first two fields say, and the fields behind them.
+fn next_block(
+    workers: u32,
+    fields: Option<&[u8]>,
+) -> Option<(Option<u32>, Option<u32>, Option<&[u8]>)>
+    requires { 0 < workers }
+    ensures { MatchOption result (SayNothing workers (Worker ∷ Label ∷ []) (fields_left fields.entry))
+        (λ found. SayFirst workers (Worker ∷ Label ∷ []) (fields_left fields.entry) (value_of found.0 ∷ value_of found.1 ∷ []) (fields_left found.2)) }
+{
+    let (worker, fields) = next_number(fields, 0, workers - 1)?;
+    let (label, fields) = next_number(fields, 0, MOST_LABEL)?;
+    Some((worker, label, fields))
+}
+
+// A place in a block: the worker, the label and the byte that the first three fields say, and the fields behind them.
+fn next_place(
+    workers: u32,
+    fields: Option<&[u8]>,
+) -> Option<(Option<u32>, Option<u32>, Option<u32>, Option<&[u8]>)>
+    requires { 0 < workers }
+    ensures { MatchOption result (SayNothing workers (Worker ∷ Label ∷ Offset ∷ []) (fields_left fields.entry))
+        (λ found. SayFirst workers (Worker ∷ Label ∷ Offset ∷ []) (fields_left fields.entry) (value_of found.0 ∷ value_of found.1 ∷ value_of found.2 ∷ []) (fields_left found.3)) }
+{
+    let (worker, label, fields) = next_block(workers, fields)?;
+    let (at, fields) = next_number(fields, 0, u32::MAX)?;
+    Some((worker, label, at, fields))
+}
+
+// The worker, the label and the length that all three fields say.
+fn last_length(
+    workers: u32,
+    fields: Option<&[u8]>,
+) -> Option<(Option<u32>, Option<u32>, Option<u32>)>
+    requires { 0 < workers }
+    ensures { option_map (λ found. value_of found.0 ∷ value_of found.1 ∷ value_of found.2 ∷ []) result
+        ≡ values_in workers (Worker ∷ Label ∷ Length ∷ []) (fields_left fields.entry) }
+{
+    let (worker, label, fields) = next_block(workers, fields)?;
+    let len = last_number(fields, 0, u32::MAX)?;
+    Some((worker, label, len))
+}
+
 // `a w L len`, behind its word.
 fn parse_allocate(workers: u32, fields: Option<&[u8]>) -> Option<Option<Line>>
     requires { 0 < workers }
     ensures { result ≡ line_behind workers word.Allocate (fields_left fields.entry) }
 {
-    let (worker, fields) = next_number(fields, 0, workers - 1)?;
-    let (label, fields) = next_number(fields, 0, MOST_LABEL)?;
-    let len = last_number(fields, 0, u32::MAX)?;
+    let (worker, label, len) = last_length(workers, fields)?;
     Some(make_allocate(worker, label, len))
 }
 
@@ -119,9 +160,7 @@ fn parse_write(workers: u32, fields: Option<&[u8]>) -> Option<Option<Line>>
     requires { 0 < workers }
     ensures { result ≡ line_behind workers word.Write (fields_left fields.entry) }
 {
-    let (worker, fields) = next_number(fields, 0, workers - 1)?;
-    let (label, fields) = next_number(fields, 0, MOST_LABEL)?;
-    let (at, fields) = next_number(fields, 0, u32::MAX)?;
+    let (worker, label, at, fields) = next_place(workers, fields)?;
     let bytes = last_payload(fields)?;
     Some(make_write(worker, label, at, bytes))
 }
@@ -131,9 +170,7 @@ fn parse_read(workers: u32, fields: Option<&[u8]>) -> Option<Option<Line>>
     requires { 0 < workers }
     ensures { result ≡ line_behind workers word.Read (fields_left fields.entry) }
 {
-    let (worker, fields) = next_number(fields, 0, workers - 1)?;
-    let (label, fields) = next_number(fields, 0, MOST_LABEL)?;
-    let (at, fields) = next_number(fields, 0, u32::MAX)?;
+    let (worker, label, at, fields) = next_place(workers, fields)?;
     let n = last_number(fields, 1, MOST_COUNT)?;
     Some(make_read(worker, label, at, n))
 }
@@ -143,9 +180,7 @@ fn parse_resize(workers: u32, fields: Option<&[u8]>) -> Option<Option<Line>>
     requires { 0 < workers }
     ensures { result ≡ line_behind workers word.Resize (fields_left fields.entry) }
 {
-    let (worker, fields) = next_number(fields, 0, workers - 1)?;
-    let (label, fields) = next_number(fields, 0, MOST_LABEL)?;
-    let len = last_number(fields, 0, u32::MAX)?;
+    let (worker, label, len) = last_length(workers, fields)?;
     Some(make_resize(worker, label, len))
 }
 
