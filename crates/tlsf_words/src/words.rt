@@ -371,15 +371,17 @@ impl Words {
         ensures rise { self.old.touches ≤ self.new.touches }
     {
         let start = 8 * (at as usize + 3) + offset as usize;
+        if start % 8 == 0 && bytes.len() % 8 == 0 {
+            self.write_whole(start / 8, bytes.len() / 8, bytes);
+            return;
+        }
         if bytes.len() < 8 {
             self.write_few(start, bytes);
             return;
         }
-        let run = Run::of(start, bytes.len());
-        self.write_head(start / 8, start % 8, bytes);
-        self.write_whole(run.first, run.whole, &bytes[run.head..run.tail]);
-        self.write_tail(run.first + run.whole, bytes.len() - run.tail, bytes);
+        self.write_run(start, bytes);
     }
+
     /// Makes bytes of the payload behind the header at a place zero: that at an offset, and those behind it in the same word.
     ///
     /// ```
@@ -415,15 +417,15 @@ impl Words {
         ensures rise { self.old.touches ≤ self.new.touches }
     {
         let start = 8 * (at as usize + 3) + offset as usize;
+        if start % 8 == 0 && out.len() % 8 == 0 {
+            self.read_whole(start / 8, out.len() / 8, out);
+            return;
+        }
         if out.len() < 8 {
             self.read_few(start, out);
             return;
         }
-        let run = Run::of(start, out.len());
-        self.read_head(start / 8, start % 8, out);
-        // The whole words last: no register has to outlive the loop.
-        self.read_tail(run.first + run.whole, out.len() - run.tail, out);
-        self.read_whole(run.first, run.whole, &mut out[run.head..run.tail]);
+        self.read_run(start, out);
     }
 
     /// Copies the first `len` payload bytes behind the header at a place, `from`, to those behind another, `to`. Each word that has
@@ -579,6 +581,49 @@ impl Words {
         let first = out.len().min(8 - start % 8);
         self.read_edge(start / 8, start % 8, &mut out[..first]);
         self.read_edge(start / 8 + 1, 0, &mut out[first..]);
+    }
+
+    /// Writes eight bytes or more, from a byte of the words on. Apart, so that whole words alone, the most of what is written, take none of
+    /// its registers.
+    #[inline(never)]
+    fn write_run(&mut self, start: usize, bytes: &[u8])
+        requires near { start < 2 ^ 36 }
+        requires enough { 8 ≤ length bytes.now }
+        requires inside { start + length bytes.now ≤ 8 * length self.old.words }
+        ensures bytes { bytes_in self.new.words start (length bytes.now) ≡ bytes.now }
+        ensures before { (k : ℕ) → k < start → byte_in self.new.words k ≡ byte_in self.old.words k }
+        ensures behind { (k : ℕ) → start + length bytes.now ≤ k → byte_in self.new.words k ≡ byte_in self.old.words k }
+        ensures words_before { (k : ℕ) → 8 * k + 8 ≤ start → slice_index self.new.words k ≡ slice_index self.old.words k }
+        ensures words_behind { (k : ℕ) → start + length bytes.now ≤ 8 * k → slice_index self.new.words k ≡ slice_index self.old.words k }
+        ensures length { length self.new.words ≡ length self.old.words }
+        ensures starts { self.new.starts ≡ self.old.starts }
+        ensures touches { self.new.touches ≤ self.old.touches + 2 * (length bytes.now / 8 + 2) }
+        ensures rise { self.old.touches ≤ self.new.touches }
+    {
+        let run = Run::of(start, bytes.len());
+        self.write_head(start / 8, start % 8, bytes);
+        // The whole words last: no register has to outlive the loop.
+        self.write_tail(run.first + run.whole, bytes.len() - run.tail, bytes);
+        self.write_whole(run.first, run.whole, &bytes[run.head..run.tail]);
+    }
+
+    /// Reads eight bytes or more, from a byte of the words on. Apart, as `write_run`.
+    #[inline(never)]
+    fn read_run(&mut self, start: usize, out: &mut [u8])
+        requires near { start < 2 ^ 36 }
+        requires enough { 8 ≤ length out.old }
+        requires inside { start + length out.old ≤ 8 * length self.old.words }
+        ensures bytes { out.new ≡ bytes_in self.old.words start (length out.old) }
+        ensures words { self.new.words ≡ self.old.words }
+        ensures starts { self.new.starts ≡ self.old.starts }
+        ensures touches { self.new.touches ≤ self.old.touches + (length out.old / 8 + 2) }
+        ensures rise { self.old.touches ≤ self.new.touches }
+    {
+        let run = Run::of(start, out.len());
+        self.read_head(start / 8, start % 8, out);
+        // The whole words last, as in `write_run`.
+        self.read_tail(run.first + run.whole, out.len() - run.tail, out);
+        self.read_whole(run.first, run.whole, &mut out[run.head..run.tail]);
     }
 
     /// Writes the first of eight bytes or more into one word, from byte `first` of it on, where it isn't to be written whole.
