@@ -2,7 +2,7 @@
 use Rattle.std.proofs.Common.{◌≡◌, ℕ, ◌+◌, ◌≤◌, List, [], ◌∷◌, ◌++◌, subst, inl, inr, arith, refl}
 use Rattle.std.specs.Prelude.{◌⊎◌}
 use Rattle.tlsf_heap.specs.Blocks.{Block, Live, Free, size_of, words_in}
-use Rattle.tlsf_heap.specs.Calls.{with_bytes, first_free, past_free, last_free, before_free, coalesced, room_of, is_sized, refitted}
+use Rattle.tlsf_heap.specs.Calls.{first_free, past_free, last_free, before_free, coalesced, room_of, is_sized, refitted}
 use Rattle.tlsf_heap.proofs.Lawfulness.{words_in-append}
 use Rattle.tlsf_heap.proofs.Coalescing.{by_last}
 use Rattle.tlsf_heap.proofs.Outcomes.{by_test}

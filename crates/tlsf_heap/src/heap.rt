@@ -589,6 +589,7 @@ impl<const SLI: u32> Heap<SLI> {
     }
 
     /// The tag of the live block of this heap that has that name. Where none has, `Foreign` or else `Stale`.
+    #[inline(always)]
     fn check(&mut self, name: Name) -> Result<Tag, Refusal>
         ensures answer { IsNameCheck self.old.heap name result }
         ensures heap { self.new.heap ≡ self.old.heap }
@@ -601,10 +602,10 @@ impl<const SLI: u32> Heap<SLI> {
         ensures forged { FollowsNoForgery self.old.heap name self.old.touches self.new.touches }
     {
         if name.heap != self.id {
-            return Err(Refusal::Foreign);
+            return Err(Refusal::of_name(name.heap, self.id));
         }
         let Some(tag) = self.region.find_live(name.at, name.serial) else {
-            return Err(Refusal::Stale);
+            return Err(Refusal::of_name(name.heap, self.id));
         };
         Ok(tag)
     }
@@ -626,7 +627,9 @@ impl<const SLI: u32> Heap<SLI> {
     }
 
     /// Whether `n` bytes from number `at` on are payload bytes of the block of that name.
-    // The sum of both can't wrap: no slice is so long. One compare, where the rest of the payload would take two.
+    // The sum of both can't wrap: no slice is so long. One compare, where the rest of the payload would take two. Always inline: behind a
+    // call, and where the compiler inlines it late, the answer is made in registers before it is known to be one.
+    #[inline(always)]
     fn check_range(&mut self, name: Name, at: u32, n: usize) -> Result<(), Refusal>
         requires { n < 2 ^ 63 }
         ensures answer { result ≡ read_answer (read_of self.old.heap name at n) }

@@ -1,4 +1,4 @@
-ghost use Rattle.std.specs.Prelude.{◌≡◌};
+ghost use Rattle.std.specs.Prelude.{◌≡◌, ◌≢◌};
 
 use thiserror::Error;
 
@@ -27,6 +27,22 @@ pub enum Refusal {
 
 impl Refusal {
     ghost use Rattle.tlsf_heap.specs.Numbers.{number_of};
+    ghost use Rattle.tlsf_heap.specs.declared.refusal.Refusal.TheVariants.{Foreign, Stale};
+
+    /// Why the heap of number `id` refuses a name of heap `heap` that no live block of it has.
+    // Apart: an accepted call, which looks at each of the name's parts, then makes no answer but its own.
+    #[cold]
+    #[inline(never)]
+    pub(crate) fn of_name(heap: u32, id: u32) -> Refusal
+        ensures foreign { heap ≢ id → result ≡ Foreign }
+        ensures stale { heap ≡ id → result ≡ Stale }
+    {
+        if heap == id {
+            Refusal::Stale
+        } else {
+            Refusal::Foreign
+        }
+    }
 
     /// The number that stands for the refusal in traces and reply lines.
     pub fn number(self) -> u32

@@ -1,6 +1,7 @@
-use Rattle.std.proofs.Common.{ap, subst, Ok}
+use Rattle.std.proofs.Common.{ap, sym, ◌∙◌, subst, Ok}
 use Rattle.tlsf_heap.specs.Blocks.{HeapState}
-use Rattle.tlsf_heap.specs.Named.{IsNameCheck}
+use Rattle.tlsf_heap.specs.Named.{IsNameCheck, RefusesName}
+use Rattle.tlsf_heap.specs.declared.refusal.Refusal.TheVariants.{Stale}
 use Rattle.tlsf_heap.specs.Shown.{Shown}
 use Rattle.tlsf_heap.specs.FreePlaces.{ShowsLists}
 use Rattle.tlsf_heap.proofs.Listing.{stored_lists}
@@ -10,6 +11,15 @@ pub returns-clause-answer : goal.returns-clause-answer
 returns-clause-answer g c =
     let found = c.in-Some.ensures.answer in
     subst (λ (h : HeapState). IsNameCheck h c.args.name (Ok c.in-Some.tag)) (ap (λ (s : Shown). s.heap) c.self.view_is) ((c.if-name-self.false, found.0), found.1)
+
+pub returns-then-name-self-clause-answer : goal.returns-then-name-self-clause-answer
+returns-then-name-self-clause-answer g c =
+    subst (RefusesName c.args.self.now.heap c.args.name) (sym (c.of_name.ensures.foreign c.if-name-self.true)) (λ e. c.if-name-self.true (e ∙ sym (ap (λ (s : Shown). s.heap.id) c.self.view_is)))
+
+pub returns-in_default-clause-answer : goal.returns-in_default-clause-answer
+returns-in_default-clause-answer g c =
+    subst (RefusesName c.args.self.now.heap c.args.name) (sym (c.of_name-in_default.ensures.stale c.if-name-self.false))
+    (subst (λ (h : HeapState). RefusesName h c.args.name Stale) (ap (λ (s : Shown). s.heap) c.self.view_is) (c.if-name-self.false, c.in_default.ensures.answer))
 
 -- ---- the lists are as they were
 
