@@ -6,7 +6,7 @@ Draws what bench/peers.sh or bench/soak.sh printed as an SVG file, light or dark
 
     peers    the worst allocate or release beside so many holes, in instructions, both by powers of ten
     soak     over the minutes, the worst allocate, release and resize, in instructions, and the mean and the most
-             fragmentation of a heap, in thousandths
+             fragmentation of a heap, in thousandths, over lanes and over queues
 
 The exit status is 0 where it is drawn, 1 where the input has none of it, and 2 where the command line is refused.
 """
@@ -109,18 +109,24 @@ def peers(text):
 
 
 def soak(text):
-    rows = [list(map(float, line.split("\t"))) for line in text.split("\n") if line.count("\t") == 11]
-    if not rows:
-        return []
+    parts = [[list(map(float, line.split("\t"))) for line in part.split("\n") if line.count("\t") in (8, 11)] for part in text.split("\n\n")]
+    lanes = next((part for part in parts if part and len(part[0]) == 12), [])
+    queues = [part for part in parts if part and len(part[0]) == 9]
 
-    def line(column):
+    def line(rows, column):
         return [(row[0], row[column]) for row in rows]
 
-    calls = {"resize": line(11), "release": line(10), "allocate": line(9)}
-    return [
-        Plot("The worst call of each minute, in instructions but those of memset and memcpy", "minutes", calls),
-        Plot("Fragmentation, in thousandths", "minutes", {"the most": line(7), "the mean": line(6)}, above=HEIGHT),
-    ]
+    plots = []
+    if lanes:
+        calls = {name: line(lanes, column) for name, column in (("resize", 11), ("release", 10), ("allocate", 9))}
+        plots.append(Plot("The worst call of each minute, in instructions but those of memset and memcpy", "minutes", calls))
+        both = {"the most": line(lanes, 7), "the mean": line(lanes, 6)}
+        plots.append(Plot("Fragmentation, in thousandths", "minutes", both, above=HEIGHT))
+    if queues:
+        names = (("most", 7), ("mean", 6))
+        each = {f"{name}, {level}": line(rows, column) for level, rows in zip((4, 5), queues) for name, column in names}
+        plots.append(Plot("Fragmentation over queues by level, in thousandths", "minutes", each, above=HEIGHT * len(plots)))
+    return plots
 
 
 def main(kind):
