@@ -1,20 +1,11 @@
 -- Loans as a ledger.
-use Rattle.std.proofs.Common.{◌≡◌, ℕ, ◌+◌, ◌<◌, Bool, true, false, cond, List, [], ◌∷◌, ◌++◌, length, get_or, take, fold, map, refl, ap, ◌∙◌}
+use Rattle.std.proofs.Common.{◌≡◌, ℕ, Bool, true, false, cond, List, [], ◌∷◌, fold, map, refl, ap, ◌∙◌}
 use Rattle.std.specs.Prelude.{filter, not}
-use Rattle.std.proofs.lemmas.List.{take_more}
-use Rattle.std.proofs.lemmas.List.Sums.{fold-append}
 use Rattle.tlsf_heap.specs.declared.name.Name.{Name}
 use Rattle.tlsf_laws.specs.Contents.{is_same}
 use Rattle.tlsf_laws.specs.Kinds.{Ledger, with_length}
 use Rattle.tlsf_held.specs.Lent.{ledger_of, others, with_len, with_loan}
 use Rattle.tlsf_held.specs.declared.loans.Loan.{Loan}
-
--- one loan more
-pub ledger_more : (loans : List Loan) (i : ℕ) (d : Loan) → i < length loans → ledger_of (take (i + 1) loans) ≡ with_loan (ledger_of (take i loans)) (get_or loans i d)
-ledger_more loans i d inside = ap ledger_of (take_more loans i d inside) ∙ fold-append with_loan [] (take i loans) (get_or loans i d ∷ [])
-
-pub ledger_pushed : (loans : List Loan) (loan : Loan) → ledger_of (loans ++ loan ∷ []) ≡ with_loan (ledger_of loans) loan
-ledger_pushed loans loan = fold-append with_loan [] loans (loan ∷ [])
 
 -- ---- a name taken back
 

@@ -81,14 +81,19 @@ queues_tell w v scripts records race = record {
 script_at : (n : ℕ) (known : ℕ → Option Name) (lines : List Line) (j : ℕ) → j < n → script_of (scripts_in n known lines) j ≡ script_in known lines j
 script_at n known lines j j_in = get_or-map-range_with_len (script_in known lines) 0 n j j [] j_in (omega arith)
 
-phase_told : {sli : ℕ} → (TellsCalls : Accounts) (n : ℕ) (w v : World sli) (known : ℕ → Option Name) (lines : List Line) (records : List (List Entry)) → length w.heaps ≡ n → ((i j : ℕ) → w.waiting i j ≡ [])
+-- a world between two phases: so many heaps, and nothing waits
+record IsBetween {sli : ℕ} (n : ℕ) (w : World sli) : Type 0 where
+  count : length w.heaps ≡ n
+  none : (i j : ℕ) → w.waiting i j ≡ []
+
+phase_told : {sli : ℕ} {TellsCalls : Accounts} {w v : World sli} {records : List (List Entry)} (n : ℕ) (known : ℕ → Option Name) (lines : List Line) → IsBetween n w
     → (one : OneRaceTold TellsCalls w (scripts_in n known lines) records v) → IsPhaseTold TellsCalls n known lines (record { made = one.made; records = records })
-phase_told TellsCalls n w v known lines records count none one = record {
+phase_told {TellsCalls = TellsCalls} {records = records} n known lines between one = record {
   told = λ j j_in.
-      let all = subst (λ (k : ℕ). TellsCalls k j (script_of (scripts_in n known lines) j ++ last_call ∷ []) (one.made j) (record_of records j)) count (one.told j (omega (arith, count))) in
+      let all = subst (λ (k : ℕ). TellsCalls k j (script_of (scripts_in n known lines) j ++ last_call ∷ []) (one.made j) (record_of records j)) between.count (one.told j (omega (arith, between.count))) in
       subst (λ (calls : List Call). TellsCalls n j (calls ++ last_call ∷ []) (one.made j) (record_of records j)) (script_at n known lines j j_in) all;
-  posts = λ i j i_in j_in ne. subst (λ l. l ++ posts_made i j (one.made i) (record_of records i) ≡ posts_taken i j (record_of records j)) (none i j)
-      (one.posts i j (omega (arith, count)) (omega (arith, count)) ne);
+  posts = λ i j i_in j_in ne. subst (λ l. l ++ posts_made i j (one.made i) (record_of records i) ≡ posts_taken i j (record_of records j)) (between.none i j)
+      (one.posts i j (omega (arith, between.count)) (omega (arith, between.count)) ne);
 }
 
 -- ---- a history
@@ -152,27 +157,28 @@ record PhasesTell {sli : ℕ} (TellsCalls : Accounts) (n : ℕ) (w : World sli) 
   heaps : (j : ℕ) → j < n → LeadsTo sli j (heap_in w j) (history_of j told) (heap_in world j)
   answered : (j : ℕ) → j < n → All (HasAnswers j) (history_of j told)
 
-phases_tell : {sli : ℕ} → (TellsCalls : Accounts) (Races : Racing sli) → AllRacesTold TellsCalls Races → (n : ℕ) (phases : List (List Line)) (w : World sli) (known : ℕ → Option Name) (text : List ℕ)
-    → length w.heaps ≡ n → ((i j : ℕ) → w.waiting i j ≡ []) → IsRaceText Races n w known phases text → PhasesTell TellsCalls n w known phases text
-phases_tell {sli} TellsCalls Races tell n [] w known text count none is = record {
+phases_tell : {sli : ℕ} {TellsCalls : Accounts} {Races : Racing sli} → AllRacesTold TellsCalls Races → (n : ℕ) (phases : List (List Line)) (w : World sli) (known : ℕ → Option Name) (text : List ℕ)
+    → IsBetween n w → IsRaceText Races n w known phases text → PhasesTell TellsCalls n w known phases text
+phases_tell tell n [] w known text between is = record {
   told = [];
   world = w;
-  count = count;
+  count = between.count;
   text_is = is;
   phases_told = tt;
   heaps = λ j j_in. record { told = refl; left = refl };
   answered = λ j j_in. All-nil (HasAnswers j);
 }
-phases_tell {sli} TellsCalls Races tell n (phase ∷ phases) w known text count none (records, v, tail, race, text_is, more) =
+phases_tell {sli} {Races = Races} tell n (phase ∷ phases) w known text between (records, v, tail, race, text_is, more) =
+    let count = between.count in
     let one = tell w v (scripts_in n known phase) records race in
-    let rest = phases_tell TellsCalls Races tell n phases v (known_below known phase records n) tail (one.count ∙ count) one.taken more in
+    let rest = phases_tell {Races = Races} tell n phases v (known_below known phase records n) tail (record { count = one.count ∙ count; none = one.taken }) more in
     record {
       told = record { made = one.made; records = records } ∷ rest.told;
       world = rest.world;
       count = rest.count;
       text_is = text_is ∙ (ap (λ t. records_text phase records n ++ t) rest.text_is
           ∙ sym (append_assoc (records_text phase records n) (phases_text n phases rest.told) (report_text sli rest.world.heaps)));
-      phases_told = (phase_told TellsCalls n w v known phase records count none one, rest.phases_told);
+      phases_told = (phase_told n known phase between one, rest.phases_told);
       heaps = λ j j_in.
           let first : LeadsTo sli j (heap_in w j) (in_history (one.made j) (record_of records j)) (heap_in v j)
           = rw (record_calls j (one.made j) (record_of records j), record_answers j (one.made j) (record_of records j)) (one.runs j (omega (arith, count))) in
@@ -199,7 +205,7 @@ yard_count sli header = length-map-range_with_len (λ j. opened j header.words 0
 output_told : (TellsCalls : Accounts) (trace : Trace) (Races : Racing (level_in trace.header)) → AllRacesTold TellsCalls Races → (text : List ℕ) → IsOutputBy Races trace text → HasHistory TellsCalls trace text
 output_told TellsCalls trace Races tell text is =
     let w = yard_of {sli = level_in trace.header} trace.header in
-    let all = phases_tell TellsCalls Races tell trace.header.workers (phases_of trace.lines) w none_known text (yard_count (level_in trace.header) trace.header) (λ i j. refl) is in
+    let all = phases_tell {Races = Races} tell trace.header.workers (phases_of trace.lines) w none_known text (record { count = yard_count (level_in trace.header) trace.header; none = λ i j. refl }) is in
     let heaps = λ (j : ℕ) (j_in : j < trace.header.workers). subst (λ (h : HeapState). LeadsTo (level_in trace.header) j h (history_of j all.told) (heap_in all.world j)) (yard_heap (level_in trace.header) trace.header j j_in) (all.heaps j j_in) in
     record {
       told = all.told;

@@ -16,7 +16,7 @@ use Rattle.tlsf_lines.specs.Phases.{known_below, none_known, phases_of}
 use Rattle.tlsf_trace.specs.RaceOutput.{IsOutputBy, IsRaceText, Racing}
 use Rattle.tlsf_lines.specs.Records.{records_text}
 use Rattle.tlsf_trace.specs.Output.{yard_of}
-use Rattle.tlsf_trace.specs.RaceSoFar.{IsPhaseRaced, IsRaceSoFar}
+use Rattle.tlsf_trace.specs.RaceSoFar.{IsPhaseRaced, IsRaceSoFar, RacePoint, race_start}
 use Rattle.tlsf_trace.specs.RacedYards.{HasRaced, IsWhole, count_in, kind_in, races_over, world_in}
 use Rattle.tlsf_trace.specs.declared.raced_yard.PortKind.{PortKind}
 use Rattle.tlsf_trace.specs.declared.raced_yard.PortKind.TheVariants.{Lanes, Queues}
@@ -72,26 +72,26 @@ has_raced yard was left scripts records is kind whole race =
     })
 
 -- before the first phase
-pub none_raced : {sli : ℕ} → (Races : Racing sli) (n : ℕ) (w : World sli) (known learnt : ℕ → Option Name) (phases : List (List Line)) (old : List ℕ) → learnt ≡ known
-    → IsRaceSoFar Races n w known phases old w learnt phases old
-none_raced Races n w known learnt phases old is = record {
+pub none_raced : {sli : ℕ} → (Races : Racing sli) (n : ℕ) (phases : List (List Line)) (from : RacePoint sli) (learnt : ℕ → Option Name) → learnt ≡ from.known
+    → IsRaceSoFar Races n phases phases from (record { world = from.world; known = learnt; text = from.text })
+none_raced Races n phases from learnt is = record {
   told = [];
-  text_is = sym (append-nil old);
-  rest = λ tail t. subst (λ (k : ℕ → Option Name). IsRaceText Races n w k phases tail) is t;
+  text_is = sym (append-nil from.text);
+  rest = λ tail t. subst (λ (k : ℕ → Option Name). IsRaceText Races n from.world k phases tail) is t;
 }
 
-pub one_raced : {sli : ℕ} → (Races : Racing sli) (n : ℕ) (w : World sli) (known learnt more : ℕ → Option Name) (phases left : List (List Line)) (phase : List Line) (old new newer : List ℕ) (v u : World sli)
-    → IsRaceSoFar Races n w known phases old v learnt (phase ∷ left) new → IsPhaseRaced Races n v learnt phase new u more newer → IsRaceSoFar Races n w known phases old u more left newer
-one_raced Races n w known learnt more phases left phase old new newer v u before one =
-    let records = one.records in
-    let lines = records_text phase records n in
+-- one phase more
+one_raced : {sli n : ℕ} {Races : Racing sli} {phases left : List (List Line)} {phase : List Line} {from between to : RacePoint sli}
+    → IsRaceSoFar Races n phases (phase ∷ left) from between → IsPhaseRaced Races n phase between to → IsRaceSoFar Races n phases left from to
+one_raced {n = n} {Races = Races} {phases = phases} {left = left} {phase = phase} {from = from} {between = between} {to = to} before one =
+    let lines = records_text phase one.records n in
     record {
       told = before.told ++ lines;
-      text_is = one.text_is ∙ (ap (λ t. t ++ lines) before.text_is ∙ append_assoc old before.told lines);
+      text_is = one.text_is ∙ (ap (λ t. t ++ lines) before.text_is ∙ append_assoc from.text before.told lines);
       rest = λ tail t.
-          let after : IsRaceText Races n u (known_below learnt phase records n) left tail = subst (λ (k : ℕ → Option Name). IsRaceText Races n u k left tail) one.known_are t in
-          subst (IsRaceText Races n w known phases) (sym (append_assoc before.told lines tail))
-          (before.rest (lines ++ tail) (records, u, tail, one.raced, refl, after));
+          let after : IsRaceText Races n to.world (known_below between.known phase one.records n) left tail = subst (λ (k : ℕ → Option Name). IsRaceText Races n to.world k left tail) one.known_are t in
+          subst (IsRaceText Races n from.world from.known phases) (sym (append_assoc before.told lines tail))
+          (before.rest (lines ++ tail) (one.records, to.world, tail, one.raced, refl, after));
     }
 
 -- the phases that are left behind the first, and their lines
@@ -104,23 +104,22 @@ pub few_behind : (behind : Option (Bor (List Line))) (n : ℕ) → IfSome behind
 few_behind None n shorter few = tt
 few_behind (Some rest) n shorter few = omega (arith, shorter, few)
 
-pub more_raced : {sli : ℕ} → (Races : Racing sli) (n : ℕ) (w : World sli) (known learnt more : ℕ → Option Name) (phases : List (List Line)) (rest behind : Option (Bor (List Line))) (lines : Bor (List Line)) (phase : List Line) (old new newer : List ℕ) (v u : World sli)
+pub more_raced : {sli n : ℕ} {Races : Racing sli} {phases : List (List Line)} {phase : List Line} {from between to : RacePoint sli} (rest behind : Option (Bor (List Line))) (lines : Bor (List Line))
     → rest ≡ Some lines → phases_of lines.now ≡ phase ∷ phases_left behind
-    → IsRaceSoFar Races n w known phases old v learnt (phases_left rest) new → IsPhaseRaced Races n v learnt phase new u more newer → IsRaceSoFar Races n w known phases old u more (phases_left behind) newer
-more_raced Races n w known learnt more phases rest behind lines phase old new newer v u is first before one =
-    one_raced Races n w known learnt more phases (phases_left behind) phase old new newer v u
-    (subst (λ left. IsRaceSoFar Races n w known phases old v learnt left new) (ap phases_left is ∙ first) before) one
+    → IsRaceSoFar Races n phases (phases_left rest) from between → IsPhaseRaced Races n phase between to → IsRaceSoFar Races n phases (phases_left behind) from to
+more_raced {n = n} {Races = Races} {phases = phases} {from = from} {between = between} rest behind lines is first before one =
+    one_raced (subst (λ left. IsRaceSoFar Races n phases left from between) (ap phases_left is ∙ first) before) one
 
 -- the lines of the heaps behind those of all phases
-pub all_raced : {sli : ℕ} → (Races : Racing sli) (header : Header) (lines : List Line) (w v : World sli) (n : ℕ) (learnt : ℕ → Option Name) (old new out : List ℕ) → n ≡ header.workers → w ≡ yard_of header → old ≡ []
-    → IsRaceSoFar Races n w none_known (phases_of lines) old v learnt [] new → out ≡ new ++ report_text sli v.heaps → IsOutputBy Races (record { header = header; lines = lines }) out
-all_raced {sli} Races header lines w v n learnt old new out count yard empty raced out_is =
-    let reports = report_text sli v.heaps in
-    let text : IsRaceText Races n w none_known (phases_of lines) (raced.told ++ reports) = raced.rest reports refl in
-    let said : out ≡ raced.told ++ reports = out_is ∙ ap (λ t. t ++ reports) (raced.text_is ∙ ap (λ t. t ++ raced.told) empty) in
+pub all_raced : {sli n : ℕ} {Races : Racing sli} {from to : RacePoint sli} (header : Header) (lines : List Line) (out : List ℕ) → n ≡ header.workers → from ≡ race_start header
+    → IsRaceSoFar Races n (phases_of lines) [] from to → out ≡ to.text ++ report_text sli to.world.heaps → IsOutputBy Races (record { header = header; lines = lines }) out
+all_raced {sli} {n = n} {Races = Races} {from = from} {to = to} header lines out count start raced out_is =
+    let reports = report_text sli to.world.heaps in
+    let text : IsRaceText Races n from.world from.known (phases_of lines) (raced.told ++ reports) = raced.rest reports refl in
+    let said : out ≡ raced.told ++ reports = out_is ∙ ap (λ t. t ++ reports) (raced.text_is ∙ ap (λ (p : RacePoint sli). p.text ++ raced.told) start) in
     subst (λ (k : ℕ). IsRaceText Races k (yard_of header) none_known (phases_of lines) out) count
-    (subst (λ (x : World sli). IsRaceText Races n x none_known (phases_of lines) out) yard
-    (subst (IsRaceText Races n w none_known (phases_of lines)) (sym said) text))
+    (subst (λ (p : RacePoint sli). IsRaceText Races n p.world p.known (phases_of lines) out) start
+    (subst (IsRaceText Races n from.world from.known (phases_of lines)) (sym said) text))
 
 -- a new yard has as many workers as its header says
 pub opened_count : {sli : ℕ} → (w : World sli) (n : ℕ) (header : Header) → length w.heaps ≡ n → w ≡ yard_of header → n ≡ header.workers

@@ -1,12 +1,9 @@
 -- A replay that is done.
-use Rattle.std.proofs.Common.{◌≡◌, ℕ, List, Option, Some, None, Result, Ok, Err, IfSome, length, sym, ap, ◌∙◌, subst, refl, inr, arith}
-use Rattle.std.specs.Io.KnownBytes.{Appends, IsAtEnd}
-use Rattle.tlsf_trace.specs.Finish.{Finishes}
+use Rattle.std.proofs.Common.{◌≡◌, ℕ, List, Option, Some, None, Result, Ok, Err, IfSome, sym, ap, ◌∙◌, subst, inr, arith}
+use Rattle.tlsf_trace.specs.Ended.{IsReadWhole}
+use Rattle.tlsf_trace.specs.Finish.{Finishes, IsCutShort, IsFinished}
 use Rattle.tlsf_lines.specs.Limits.{IsWithinLimits}
-use Rattle.tlsf_lines.specs.Trace.{calls_of}
-use Rattle.tlsf_lines.specs.Prefixes.{AppendsFront}
-use Rattle.tlsf_trace.specs.Replay.{IsRun, Outputs, Writes, WritesPrefix}
-use Rattle.tlsf_lines.specs.Trace.{Trace, trace_of}
+use Rattle.tlsf_trace.specs.Replay.{AsksFor, IsRun, Outputs, Writes, WritesPrefix}
 use Rattle.tlsf_lines.specs.TraceFaults.{too_long_fault, write_fault, IsLineFault}
 use Rattle.tlsf_lines.specs.declared.line_fault.LineFault.TheVariants.{BadHeader, BadLine, BadNumber, LabelOrder}
 use Rattle.tlsf_trace.specs.declared.summary.Summary.{Summary}
@@ -18,15 +15,13 @@ of_read P None text same h = tt
 of_read P (Some l) text same h = subst P same h
 
 -- the text was read to its end and within the limits, and all that it asks for was written
-all_written : (Puts : Outputs) (left left' held holds : Option (List ℕ)) (text : List ℕ) → IfSome left (λ l. text ≡ l) → IsAtEnd left' → IsWithinLimits text
-    → (trace : Trace) → trace_of text ≡ Ok trace → (output : List ℕ) → Puts trace output
-    → (summary : Summary) → Appends held holds output → summary.calls ≡ calls_of trace → summary.bytes ≡ length output
-    → IsRun Puts (Ok summary) left left' held holds
-all_written Puts left left' held holds text whole end limits trace spelled output puts summary all calls bytes = record {
-  ok = of_read (λ t. Writes Puts summary t held holds) left text whole
-      (record { output = output; asked = record { trace = trace; spelled = spelled; puts = puts; calls_are = calls }; all = all; bytes = bytes });
-  end = end;
-  limits = of_read IsWithinLimits left text whole limits;
+all_written : {Puts : Outputs} {left left' held holds : Option (List ℕ)} {text output : List ℕ} {calls : ℕ} {summary : Summary}
+    → IsReadWhole text left left' → AsksFor Puts text output calls → IsFinished summary calls output held holds → IsRun Puts (Ok summary) left left' held holds
+all_written {Puts = Puts} {left = left} {held = held} {holds = holds} {text = text} {output = output} {summary = summary} read asked done = record {
+  ok = of_read (λ t. Writes Puts summary t held holds) left text read.whole
+      (record { output = output; asked = record { trace = asked.trace; spelled = asked.spelled; puts = asked.puts; calls_are = done.calls_are ∙ asked.calls_are }; all = done.all; bytes = done.bytes });
+  end = read.end;
+  limits = of_read IsWithinLimits left text read.whole read.limits;
   fault = tt;
   line = tt;
   too_long = tt;
@@ -45,26 +40,21 @@ no_length : (fault : TraceFault) → fault ≡ write_fault → fault ≡ too_lon
 no_length fault is long = let no : 17 ≡ 15 = ap (λ (f : TraceFault). f.no) (sym is ∙ long) in absurd (omega (arith, no))
 
 -- a prefix of what the text asks for was written, and then a write failed
-cut_short : (Puts : Outputs) (left left' held holds : Option (List ℕ)) (text : List ℕ) → IfSome left (λ l. text ≡ l) → IsWithinLimits text
-    → (trace : Trace) → trace_of text ≡ Ok trace → (output : List ℕ) → Puts trace output → AppendsFront held holds output
-    → (fault : TraceFault) → fault ≡ write_fault → IsRun Puts (Err fault) left left' held holds
-cut_short Puts left left' held holds text whole limits trace spelled output puts front fault is = record {
+cut_short : {Puts : Outputs} {left left' held holds : Option (List ℕ)} {text output : List ℕ} {calls : ℕ} {fault : TraceFault}
+    → IsReadWhole text left left' → AsksFor Puts text output calls → IsCutShort fault output held holds → IsRun Puts (Err fault) left left' held holds
+cut_short {Puts = Puts} {left = left} {held = held} {holds = holds} {text = text} {output = output} {calls = calls} {fault = fault} read asked cut = record {
   ok = tt;
   end = tt;
   limits = tt;
-  fault = inr (inr (inr (inr is)));
-  line = λ of_line. absurd (no_line fault is of_line);
-  too_long = λ long. absurd (no_length fault is long);
-  front = λ _. of_read (λ t. WritesPrefix Puts t held holds × IsWithinLimits t) left text whole
-      (record { output = output; calls = calls_of trace; asked = record { trace = trace; spelled = spelled; puts = puts; calls_are = refl }; front = front }, limits);
-  kept = λ no. absurd (no is);
+  fault = inr (inr (inr (inr cut.fault_is)));
+  line = λ of_line. absurd (no_line fault cut.fault_is of_line);
+  too_long = λ long. absurd (no_length fault cut.fault_is long);
+  front = λ _. of_read (λ t. WritesPrefix Puts t held holds × IsWithinLimits t) left text read.whole (record { output = output; calls = calls; asked = asked; front = cut.front }, read.limits);
+  kept = λ no. absurd (no cut.fault_is);
 }
 
 -- the text was read and its trace's output was written, or a write failed
-pub run_is_done : (Puts : Outputs) (left left' held holds : Option (List ℕ)) (text : List ℕ) → IfSome left (λ l. text ≡ l) → IsAtEnd left' → IsWithinLimits text
-    → (trace : Trace) → trace_of text ≡ Ok trace → (calls : ℕ) → calls ≡ calls_of trace → (output : List ℕ) → Puts trace output
+pub run_is_done : {Puts : Outputs} {left left' held holds : Option (List ℕ)} (text output : List ℕ) (calls : ℕ) → IsReadWhole text left left' → AsksFor Puts text output calls
     → (answer : Result Summary TraceFault) → Finishes answer calls output held holds → IsRun Puts answer left left' held holds
-run_is_done Puts left left' held holds text whole end limits trace spelled calls are output puts (Ok summary) done =
-    all_written Puts left left' held holds text whole end limits trace spelled output puts summary done.all (done.calls_are ∙ are) done.bytes
-run_is_done Puts left left' held holds text whole end limits trace spelled calls are output puts (Err fault) failed =
-    cut_short Puts left left' held holds text whole limits trace spelled output puts failed.front fault failed.fault_is
+run_is_done text output calls read asked (Ok summary) done = all_written read asked done
+run_is_done text output calls read asked (Err fault) failed = cut_short read asked failed

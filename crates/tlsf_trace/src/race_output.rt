@@ -4,8 +4,8 @@ ghost use Rattle.tlsf_heap.specs.declared.name.Name.{Name};
 ghost use Rattle.tlsf_lines.specs.Phases.{known_in, none_known, phases_of};
 ghost use Rattle.tlsf_class.specs.Classes.{IsLevel};
 ghost use Rattle.tlsf_trace.specs.RaceOutput.{IsOutputBy};
-ghost use Rattle.tlsf_trace.specs.RacedYards.{IsWhole, PutsOver, count_in, kind_in, races_over, world_in};
-ghost use Rattle.tlsf_trace.specs.RaceSoFar.{IsPhaseRaced, IsRaceSoFar};
+ghost use Rattle.tlsf_trace.specs.RacedYards.{IsWhole, PutsOver, count_in, kind_in, races_over};
+ghost use Rattle.tlsf_trace.specs.RaceSoFar.{IsPhaseRaced, IsRaceSoFar, point_at};
 ghost use Rattle.tlsf_lines.specs.Ranges.{IsHeaderInRange};
 ghost use Rattle.tlsf_lines.specs.Views.{view_trace};
 
@@ -34,7 +34,8 @@ fn race_phase<const SLI: u32, R: Threads + Wait + Sync, G: Gate>(
     ensures kind { IfOk result (λ left. kind_in left ≡ kind_in yard.entry) }
     ensures whole { IfOk result (λ left. IsWhole left) }
     ensures count { IfOk result (λ left. count_in left ≡ count_in yard.entry) }
-    ensures raced { IfOk result (λ left. IsPhaseRaced (races_over (kind_in yard.entry)) (count_in yard.entry) (world_in yard.entry) (known_in names.old) phase.now (string_bytes text.old) (world_in left) (known_in names.new) (string_bytes text.new)) }
+    ensures raced { IfOk result (λ left. IsPhaseRaced (races_over (kind_in yard.entry)) (count_in yard.entry) phase.now
+        (point_at yard.entry (known_in names.old) (string_bytes text.old)) (point_at left (known_in names.new) (string_bytes text.new))) }
 {
     let count = count_workers(&yard);
     let scripts = PhaseScripts::of(alloc, count, names, phase)?;
@@ -55,7 +56,8 @@ fn race_lines<const SLI: u32, R: Threads + Wait + Sync, G: Gate>(
     requires whole { IsWhole yard }
     requires few { length lines.now ≤ 32768 }
     ensures whole { IfOk result (λ left. IsWhole left) }
-    ensures raced { IfOk result (λ left. (learnt : ℕ → Option Name) × IsRaceSoFar (races_over (kind_in yard.entry)) (count_in yard.entry) (world_in yard.entry) none_known (phases_of lines.now) (string_bytes text.old) (world_in left) learnt [] (string_bytes text.new)) }
+    ensures raced { IfOk result (λ left. (learnt : ℕ → Option Name) × IsRaceSoFar (races_over (kind_in yard.entry)) (count_in yard.entry) (phases_of lines.now) []
+        (point_at yard.entry none_known (string_bytes text.old)) (point_at left learnt (string_bytes text.new))) }
 {
     let mut yard = yard;
     let mut names = Names::new(alloc);

@@ -3,13 +3,12 @@ use Rattle.std.proofs.lemmas.List.Sums.{count_by-le-length}
 use Rattle.tlsf_lines.specs.Lines.{is_call}
 use Rattle.tlsf_lines.specs.Views.{view_trace}
 use Rattle.tlsf_trace.proofs.WholeReplay.{run_is_done}
-use Rattle.tlsf_check.specs.Checks.{Checks}
 use Rattle.tlsf_check.proofs.checking.check_trace.Goals as goal
 
 pub returns-clause-run : goal.returns-clause-run
 returns-clause-run g c =
-    run_is_done Checks _ _ _ _ c.in_ok-text.text.items c.in_ok-text.ensures.whole c.in_ok-text.ensures.end c.in_ok-text.ensures.limits
-    (view_trace c.in-Ok.trace) (rw c.deref.ensures.value at c.in-Ok.ensures.ok) _ c.count_calls.ensures (string_bytes c.in_ok-line.line) c.in_ok-line.ensures
+    run_is_done c.in_ok-text.text.items (string_bytes c.in_ok-line.line) _ (record { whole = c.in_ok-text.ensures.whole; end = c.in_ok-text.ensures.end; limits = c.in_ok-text.ensures.limits })
+    (record { trace = view_trace c.in-Ok.trace; spelled = rw c.deref.ensures.value at c.in-Ok.ensures.ok; puts = c.in_ok-line.ensures; calls_are = c.count_calls.ensures })
     c.finish.result (rw c.deref-2.ensures at c.finish.ensures)
 
 pub overflow_cast-count_calls : goal.overflow_cast-count_calls

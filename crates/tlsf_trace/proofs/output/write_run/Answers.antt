@@ -1,6 +1,8 @@
-use Rattle.std.proofs.Common.{◌≡◌, ◌++◌, [], rules, refl, string_bytes, ◌∙◌}
+use Rattle.std.proofs.Common.{◌≡◌, ◌++◌, [], ℕ, List, ap, append_assoc, rules, refl, string_bytes, sym, ◌∙◌}
 use Rattle.std.proofs.lemmas.List.{nil_from_length}
 use Rattle.tlsf_crew.specs.lanes.Yard.{world_of}
+use Rattle.tlsf_crew.specs.model.World.{replies_behind}
+use Rattle.tlsf_lines.specs.ReplyLines.{reply_text}
 use Rattle.tlsf_crew.proofs.lemmas.model.InParts.{replies_alone}
 use Rattle.tlsf_trace.proofs.PartByPart.{all_left, all_made, all_told, part_left, part_made, part_told}
 use Rattle.tlsf_trace.proofs.output.write_run.Goals as goal
@@ -19,21 +21,21 @@ pub loop-events-preserved : goal.loop-events-preserved
 loop-events-preserved g c =
     let inv = c.loop-events.invariant in
     let w = world_of c.loop-events.workers in
-    let u = world_of c.replay_behind.new.workers in
     let made = c.loop-events.made.items in
-    let names = c.replay_behind.new.made.items in
     let part = c.split_at.result.0.now in
     let rest = c.split_at.result.1.now in
+    let labels = c.loop-events.labels.now in
+    let old = string_bytes c.loop-events.text in
     let whole : c.loop-events.events.now ≡ part ++ rest = c.split_at.ensures.by_index.0 in
     let told = c.in-Ok.ensures in
     let text = rw c.deref.ensures.value at c.in_ok-labels.ensures.text in
     let left = rw c.deref.ensures.value at c.in_ok-labels.ensures.left in
     record {
       yard = c.replay_behind.ensures.yard;
-      so_far = part_told w u made names part rest c.in-Ok.entries.items c.loop-events.labels.now c.in_ok-labels.labels.now (string_bytes c.loop-events.text) (string_bytes c.write_replies.new.text) _
-          (rw whole at inv.so_far) told.entries told.made told.world text left;
-      world = part_left w u _ made names part rest (rw whole at inv.world) told.made told.world;
-      made = part_made w u _ made names part rest (rw whole at inv.made) told.made told.world;
+      so_far = rw (text, left, told.world, told.made, told.entries)
+          (append_assoc old (reply_text (replies_behind w made part).entries labels) _ ∙ (ap (λ (l : List ℕ). old ++ l) (sym (part_told w made part rest labels)) ∙ (rw whole at inv.so_far)));
+      world = rw (told.made, told.world) (part_left w made part rest ∙ (rw whole at inv.world));
+      made = rw (told.made, told.world) (part_made w made part rest ∙ (rw whole at inv.made));
     }
 
 pub returns-clause-text : goal.returns-clause-text

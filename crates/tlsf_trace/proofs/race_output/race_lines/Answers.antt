@@ -1,8 +1,8 @@
 use Rattle.std.proofs.Common.{refl, ℕ, ◌∙◌, string_bytes, length, IfSome, ◌≤◌, subst}
 use Rattle.tlsf_lines.specs.Phases.{known_in, none_known, phases_of}
 use Rattle.tlsf_trace.proofs.RacedPhases.{few_behind, left_behind, more_raced, none_raced}
-use Rattle.tlsf_trace.specs.RaceSoFar.{IsPhaseRaced}
-use Rattle.tlsf_trace.specs.RacedYards.{count_in, kind_in, races_over, world_in}
+use Rattle.tlsf_trace.specs.RaceSoFar.{IsPhaseRaced, RacePoint, point_at}
+use Rattle.tlsf_trace.specs.RacedYards.{count_in, kind_in, races_over}
 use Rattle.tlsf_trace.specs.declared.raced_yard.PortKind.{PortKind}
 use Rattle.tlsf_trace.proofs.race_output.race_lines.Goals as goal
 
@@ -11,7 +11,7 @@ loop-rest-init g c = record {
   kind = refl;
   whole = c.requires.whole;
   count = refl;
-  raced = none_raced (races_over (kind_in c.args.yard)) (count_in c.args.yard) (world_in c.args.yard) none_known (known_in c.new-names.result) (phases_of c.args.lines.now) (string_bytes c.args.text.now) c.new-names.ensures;
+  raced = none_raced (races_over (kind_in c.args.yard)) (count_in c.args.yard) (phases_of c.args.lines.now) (point_at c.args.yard none_known (string_bytes c.args.text.now)) (known_in c.new-names.result) c.new-names.ensures;
   few = c.requires.few;
 }
 
@@ -21,23 +21,17 @@ loop-rest-preserved g c =
     let lines = c.in-Some.lines in
     let behind = c.cut_phase.result.1 in
     let phase = c.cut_phase.result.0.now in
-    let known = known_in c.loop-rest.names in
-    let learnt = known_in c.race_phase.new.names in
-    let kind = kind_in c.args.yard in
     let n = count_in c.args.yard in
-    let w = world_in c.loop-rest.yard in
-    let v = world_in c.in_ok-yard.yard in
-    let told = string_bytes c.loop-rest.text in
-    let more = string_bytes c.race_phase.new.text in
-    let counted : IsPhaseRaced (races_over (kind_in c.loop-rest.yard)) n w known phase told v learnt more
-    = subst (λ (k : ℕ). IsPhaseRaced (races_over (kind_in c.loop-rest.yard)) k w known phase told v learnt more) inv.count c.in_ok-yard.ensures.raced in
-    let one : IsPhaseRaced (races_over kind) n w known phase told v learnt more
-    = subst (λ (k : PortKind). IsPhaseRaced (races_over k) n w known phase told v learnt more) inv.kind counted in
+    let from : RacePoint g.row.SLI = point_at c.loop-rest.yard (known_in c.loop-rest.names) (string_bytes c.loop-rest.text) in
+    let to : RacePoint g.row.SLI = point_at c.in_ok-yard.yard (known_in c.race_phase.new.names) (string_bytes c.race_phase.new.text) in
+    let counted : IsPhaseRaced (races_over (kind_in c.loop-rest.yard)) n phase from to
+    = subst (λ (k : ℕ). IsPhaseRaced (races_over (kind_in c.loop-rest.yard)) k phase from to) inv.count c.in_ok-yard.ensures.raced in
+    let one : IsPhaseRaced (races_over (kind_in c.args.yard)) n phase from to
+    = subst (λ (k : PortKind). IsPhaseRaced (races_over k) n phase from to) inv.kind counted in
     record {
       kind = c.in_ok-yard.ensures.kind ∙ inv.kind;
       whole = c.in_ok-yard.ensures.whole;
       count = c.in_ok-yard.ensures.count ∙ inv.count;
-      raced = more_raced (races_over kind) n (world_in c.args.yard) none_known known learnt (phases_of c.args.lines.now) c.loop-rest.rest behind lines phase
-          (string_bytes c.args.text.now) told more w v c.in-Some.is (left_behind behind (phases_of lines.now) phase c.cut_phase.ensures.phases) inv.raced one;
+      raced = more_raced c.loop-rest.rest behind lines c.in-Some.is (left_behind behind (phases_of lines.now) phase c.cut_phase.ensures.phases) inv.raced one;
       few = few_behind behind (length lines.now) c.cut_phase.ensures.shorter (subst (λ r. IfSome r (λ lines. length lines.now ≤ 32768)) c.in-Some.is inv.few);
     }

@@ -1,7 +1,7 @@
 use Rattle.std.proofs.Common.{◌≡◌, ◌≤◌, IfSome, length, string_bytes}
 use Rattle.tlsf_lines.specs.Phases.{known_in, none_known, phases_of}
-use Rattle.tlsf_trace.specs.RaceSoFar.{IsRaceSoFar}
-use Rattle.tlsf_trace.specs.RacedYards.{IsWhole, count_in, kind_in, races_over, world_in}
+use Rattle.tlsf_trace.specs.RaceSoFar.{IsRaceSoFar, point_at}
+use Rattle.tlsf_trace.specs.RacedYards.{IsWhole, count_in, kind_in, races_over}
 use Rattle.tlsf_trace.proofs.RacedPhases.{lines_left, phases_left}
 use Rattle.tlsf_trace.proofs.race_output.race_lines.Given as goal
 
@@ -11,7 +11,8 @@ invariant-loop-rest g l = record {
   kind : kind_in l.yard ≡ kind_in l.fn.yard;
   whole : IsWhole l.yard;
   count : count_in l.yard ≡ count_in l.fn.yard;
-  raced : IsRaceSoFar (races_over (kind_in l.fn.yard)) (count_in l.fn.yard) (world_in l.fn.yard) none_known (phases_of l.fn.lines) (string_bytes l.fn.text) (world_in l.yard) (known_in l.names) (phases_left l.rest) (string_bytes l.text);
+  raced : IsRaceSoFar (races_over (kind_in l.fn.yard)) (count_in l.fn.yard) (phases_of l.fn.lines) (phases_left l.rest)
+      (point_at l.fn.yard none_known (string_bytes l.fn.text)) (point_at l.yard (known_in l.names) (string_bytes l.text));
   few : IfSome l.rest (λ lines. length lines.now ≤ 32768);
 }
 

@@ -2,14 +2,13 @@ use Rattle.std.proofs.Common.{arith, string_bytes}
 use Rattle.std.proofs.lemmas.List.Sums.{count_by-le-length}
 use Rattle.tlsf_lines.specs.Lines.{is_call}
 use Rattle.tlsf_lines.specs.Views.{view_trace}
-use Rattle.tlsf_trace.specs.RacedYards.{PutsOver}
 use Rattle.tlsf_trace.proofs.WholeReplay.{run_is_done}
 use Rattle.tlsf_trace.proofs.stages.race_trace_over.Goals as goal
 
 pub returns : goal.returns
 returns g c =
-    run_is_done (PutsOver c.args.kind) _ _ _ _ c.in_ok-bytes.bytes.items c.in_ok-bytes.ensures.whole c.in_ok-bytes.ensures.end c.in_ok-bytes.ensures.limits
-    (view_trace c.in_ok-trace.trace) (rw c.deref.ensures.value at c.in_ok-trace.ensures.ok) _ c.count_calls.ensures (string_bytes c.in_ok-output.output) c.in_ok-output.ensures
+    run_is_done c.in_ok-bytes.bytes.items (string_bytes c.in_ok-output.output) _ (record { whole = c.in_ok-bytes.ensures.whole; end = c.in_ok-bytes.ensures.end; limits = c.in_ok-bytes.ensures.limits })
+    (record { trace = view_trace c.in_ok-trace.trace; spelled = rw c.deref.ensures.value at c.in_ok-trace.ensures.ok; puts = c.in_ok-output.ensures; calls_are = c.count_calls.ensures })
     c.finish.result (rw c.deref-2.ensures at c.finish.ensures)
 
 pub overflow_cast-count_calls : goal.overflow_cast-count_calls
