@@ -1,9 +1,9 @@
 -- A block for several values: its type and its parts, a piece as room for it, and what `moved` gave. Assumes `Logic`.
-use Rattle.std.proofs.Common.{◌≡◌, ℕ, ◌+◌, ◌-◌, ◌*◌, ◌/◌, ◌≤◌, List, [], ◌∷◌, ◌++◌, MatchResult, Ok, Err, refl, sym, ap, ◌∙◌, arith}
+use Rattle.std.proofs.Common.{◌≡◌, ℕ, ◌+◌, ◌-◌, ◌*◌, ◌/◌, ◌%◌, ◌≤◌, List, [], ◌∷◌, ◌++◌, MatchResult, Ok, Err, refl, sym, ap, ◌∙◌, arith}
 use seplogic.Ra.Ura.{Ura}
-use mir.Syntax.{Ty, ty_array}
+use mir.Syntax.{Ty, Width, ty_array}
 use mir.Raw.{raw as bare}
-use mir.Val.{Val, vstruct, vcons, vnil, of_list}
+use mir.Val.{Val, vstruct, vcons, vnil, of_list, bytes}
 use prog.Memory.{size}
 use prog.RawLaws.{size-raw}
 use base.Logic.{SProp, ent, sep, emp, never, fst∗}
@@ -20,12 +20,11 @@ use Rattle.std.specs.Allocator.{array_of, block_with_items}
 use Rattle.core.proofs.ptr.Rows.{El, room_split, glued, add_times}
 use Rattle.core.specs.contracts.result.Result as result
 use Rattle.linked_list_allocator.specs.Region.{Region}
+use Rattle.linked_list_allocator.specs.Ownership.{bytes_at, units_of}
 use Rattle.linked_list_allocator.proofs.Values.{plainly}
-use Rattle.tlsf_arena.specs.Places.{IsUnit, piece_size}
 use Rattle.tlsf_arena.specs.Ownership.{ints, ways, behind, block_token}
 use Rattle.tlsf_arena.proofs.Taken.{even, as_ints, from_ints}
-use Rattle.tlsf_arena.proofs.UnitCases.{piece_holds}
-use Rattle.tlsf_arena.proofs.Ways.{ints_cut, ints_glue}
+use Rattle.tlsf_arena.proofs.Ways.{ints_cut, ints_glue, left_even, opens, closes, ways_cut, ways_glue}
 use prog.Align.{align_w}
 use Rattle.tlsf_arena.specs.contracts.buffer.Buffer as buffer
 
@@ -83,41 +82,100 @@ module _ (E : El) where
         qed 𝓛 (‵ (froom (block_type cap) b o) ∷ []) ∵ use1 𝓛 (raw (room cap b o)) (𝓛.laws.raw-room (ty_array τ cap) b o) $
         use1 𝓛 (raw (room len b o) ⊛ raw (room (cap - len) b (o + len * s))) (room_split E 𝓛 len cap b o within) $ split ! $ frame ! $ by ! (𝓛.laws.room-raw (ty_array τ (cap - len)) b (o + len * s))
 
-    -- the places behind the values, and the bytes behind the block, for another number of values
-    pub refits : (u len old new b at : ℕ) → IsUnit u → len ≤ old → len ≤ new → piece_size u (new * s) ≡ piece_size u (old * s)
-        → H.room (block_type (old - len)) b (at + len * s) ∗ sem 𝓛 (behind (block_type old) b at (piece_size u (size (block_type old))))
-        ⊢ H.room (block_type (new - len)) b (at + len * s) ∗ sem 𝓛 (behind (block_type new) b at (piece_size u (size (block_type new))))
-    refits u len old new b at unit le le' same =
-        let n = piece_size u (size (block_type old)) in
-        let n' = piece_size u (size (block_type new)) in
-        let w = align_w (block_type old) in
-        let x = at + len * s in
-        let both : n ≡ n' = ap (piece_size u) (block_size old) ∙ sym same ∙ ap (piece_size u) (sym (block_size new)) in
-        let left = size (block_type (old - len)) in
-        let left' = size (block_type (new - len)) in
-        let rest = n - size (block_type old) in
-        let rest' = n' - size (block_type new) in
-        let spread : size (block_type old) ≡ len * s + left = block_size old ∙ ap (λ (k : ℕ). k * s) (let z : old ≡ len + (old - len) = omega (arith, le) in z) ∙ add_times len (old - len) s ∙ ap (λ (k : ℕ). len * s + k) (sym (block_size (old - len))) in
-        let spread' : size (block_type new) ≡ len * s + left' = block_size new ∙ ap (λ (k : ℕ). k * s) (let z : new ≡ len + (new - len) = omega (arith, le') in z) ∙ add_times len (new - len) s ∙ ap (λ (k : ℕ). len * s + k) (sym (block_size (new - len))) in
-        let holds : size (block_type old) ≤ n = piece_holds u (size (block_type old)) unit in
-        let holds' : size (block_type new) ≤ n' = piece_holds u (size (block_type new)) unit in
-        let here : at + size (block_type old) ≡ x + left = omega (arith, spread) in
-        let there : x + left' ≡ at + size (block_type new) = omega (arith, spread') in
-        let all : left + rest ≡ left' + rest' = omega (arith, spread, spread', holds, holds', both) in
-        qed 𝓛 (‵ (froom (block_type (old - len)) b x) ∷ ‵ (behind (block_type old) b at n) ∷ []) ∵
-        use1 𝓛 (‵ (froom (ints w left) b x)) (as_ints 𝓛 (block_type (old - len)) b x) $ move ! (1 ∷ []) $ fsplit ! $
-        rewrite ! 0 (λ (d : ℕ). ‵ (froom (ints w rest) b d)) here refl $ move ! (2 ∷ 0 ∷ []) $
-        use2 𝓛 (‵ (froom (ints w (left + rest)) b x)) (ints_glue 𝓛 w b x left rest (even (block_type (old - len)))) $
-        rewrite ! 0 (λ (k : ℕ). ‵ (froom (ints w k) b x)) all refl $
-        use1 𝓛 (‵ (froom (ints w left') b x) ⊛ ‵ (froom (ints w rest') b (x + left'))) (ints_cut 𝓛 w b x left' rest' (even (block_type (new - len)))) $ split ! $
-        use1 𝓛 (‵ (froom (block_type (new - len)) b x)) (from_ints 𝓛 (block_type (new - len)) b x) $ frame ! $
-        rewrite ! 0 (λ (d : ℕ). ‵ (froom (ints w rest') b d)) there refl $ rewrite ! 1 (λ (k : ℕ). ‵ (ways w b at (k / 16))) both refl $ fjoin ! $ done !
+    -- ---- the room behind the values
+
+    abbrev w : Width
+    w = align_w (block_type 0)
+
+    -- what lies behind the values of a piece of n bytes at `at`, where there is room for `cap` of them
+    abbrev pub spare : (len cap b at n : ℕ) → SProp 𝓤
+    spare len cap b at n = H.room (block_type (cap - len)) b (at + len * s) ∗ sem 𝓛 (behind (block_type cap) b at n)
+
+    -- the same whatever there is room for: integers of the values' alignment, and each grain's way back
+    abbrev loose : (len b at n : ℕ) → SProp 𝓤
+    loose len b at n = H.room (ints w (n - len * s)) b (at + len * s) ∗ sem 𝓛 (ways w b at (n / 16))
+
+    module _ (len cap b at n : ℕ) (within : len ≤ cap) (holds : size (block_type cap) ≤ n) where
+      abbrev room_left : ℕ
+      room_left = size (block_type (cap - len))
+
+      abbrev rest : ℕ
+      rest = n - size (block_type cap)
+
+      spread : size (block_type cap) ≡ len * s + room_left
+      spread = block_size cap ∙ ap (λ (k : ℕ). k * s) (let z : cap ≡ len + (cap - len) = omega (arith, within) in z) ∙ add_times len (cap - len) s ∙ ap (λ (k : ℕ). len * s + k) (sym (block_size (cap - len)))
+
+      loosens : spare len cap b at n ⊢ loose len b at n
+      loosens =
+          let x = at + len * s in
+          qed 𝓛 (‵ (froom (block_type (cap - len)) b x) ∷ ‵ (behind (block_type cap) b at n) ∷ []) ∵
+          use1 𝓛 (‵ (froom (ints w room_left) b x)) (as_ints 𝓛 (block_type (cap - len)) b x) $ move ! (1 ∷ []) $ fsplit ! $
+          rewrite ! 0 (λ (d : ℕ). ‵ (froom (ints w rest) b d)) (let z : at + size (block_type cap) ≡ x + room_left = omega (arith, spread) in z) refl $ move ! (2 ∷ 0 ∷ []) $
+          use2 𝓛 (‵ (froom (ints w (room_left + rest)) b x)) (ints_glue 𝓛 w b x room_left rest (even (block_type (cap - len)))) $
+          rewrite ! 0 (λ (k : ℕ). ‵ (froom (ints w k) b x)) (let z : room_left + rest ≡ n - len * s = omega (arith, spread, holds) in z) refl $ done !
+
+      fastens : loose len b at n ⊢ spare len cap b at n
+      fastens =
+          let x = at + len * s in
+          qed 𝓛 (‵ (froom (ints w (n - len * s)) b x) ∷ ‵ (ways w b at (n / 16)) ∷ []) ∵
+          rewrite ! 0 (λ (k : ℕ). ‵ (froom (ints w k) b x)) (let z : n - len * s ≡ room_left + rest = omega (arith, spread, holds) in z) refl $
+          use1 𝓛 (‵ (froom (ints w room_left) b x) ⊛ ‵ (froom (ints w rest) b (x + room_left))) (ints_cut 𝓛 w b x room_left rest (even (block_type (cap - len)))) $ split ! $
+          use1 𝓛 (‵ (froom (block_type (cap - len)) b x)) (from_ints 𝓛 (block_type (cap - len)) b x) $ frame ! $
+          rewrite ! 0 (λ (d : ℕ). ‵ (froom (ints w rest) b d)) (let z : x + room_left ≡ at + size (block_type cap) = omega (arith, spread) in z) refl $ fjoin ! $ done !
+
+      -- the values leave whole integers
+      loose_even : n % 16 ≡ 0 → (n - len * s) % bytes w ≡ 0
+      loose_even grains = left_even w (len * s) n (ap (λ (k : ℕ). k % bytes w) (sym (block_size len)) ∙ even (block_type len)) grains (omega (arith, spread, holds))
+
+    module _ (len old new b at : ℕ) (le : len ≤ old) (le' : len ≤ new) where
+      -- for another number of values in a piece of as many bytes
+      pub refits : (n n' : ℕ) → size (block_type old) ≤ n → size (block_type new) ≤ n' → n ≡ n' → spare len old b at n ⊢ spare len new b at n'
+      refits n n' holds holds' same =
+          let x = at + len * s in
+          qed 𝓛 (raw (spare len old b at n) ∷ []) ∵ use1 𝓛 (‵ (froom (ints w (n - len * s)) b x) ⊛ ‵ (ways w b at (n / 16))) (loosens len old b at n le holds) $ split ! $
+          rewrite ! 0 (λ (k : ℕ). ‵ (froom (ints w (k - len * s)) b x)) same refl $ rewrite ! 1 (λ (k : ℕ). ‵ (ways w b at (k / 16))) same refl $ by ! (fastens len new b at n' le' holds')
+
+      -- with the d bytes behind the piece
+      pub extends : (n d n' : ℕ) → size (block_type old) ≤ n → size (block_type new) ≤ n' → n + d ≡ n' → n % 16 ≡ 0 → d % 16 ≡ 0
+          → H.room (block_type (old - len)) b (at + len * s) ∗ (sem 𝓛 (behind (block_type old) b at n) ∗ sem 𝓛 (bytes_at (block_ptr b (at + n)) d)) ⊢ spare len new b at n'
+      extends n d n' holds holds' sums' grains grains' =
+          let x = at + len * s in let k = d / 16 in let front = n - len * s in let y = at + n in
+          let fits : len * s ≤ n = omega (arith, spread len old b at n le holds, holds) in
+          let whole : d ≡ 16 * k = omega (arith, grains') in
+          qed 𝓛 (‵ (froom (block_type (old - len)) b x) ∷ ‵ (behind (block_type old) b at n) ∷ ‵ (froom (units_of d) b y) ∷ []) ∵ use2 𝓛 (‵ (froom (ints w front) b x) ⊛ ‵ (ways w b at (n / 16))) (loosens len old b at n le holds) $ split ! $ move ! (2 ∷ []) $
+          rewrite ! 0 (λ (j : ℕ). ‵ (froom (units_of j) b y)) whole refl $ use1 𝓛 (‵ (froom (ints w (16 * k)) b y) ⊛ ‵ (ways w b y k)) (opens 𝓛 w b y k) $ split ! $ move ! (2 ∷ 0 ∷ []) $
+          rewrite ! 1 (λ (j : ℕ). ‵ (froom (ints w (16 * k)) b j)) (let z : y ≡ x + front = omega (arith, fits) in z) refl $
+          use2 𝓛 (‵ (froom (ints w (front + 16 * k)) b x)) (ints_glue 𝓛 w b x front (16 * k) (loose_even len old b at n le holds grains)) $
+          rewrite ! 0 (λ (j : ℕ). ‵ (froom (ints w j) b x)) (let z : front + 16 * k ≡ n' - len * s = omega (arith, fits, whole, sums') in z) refl $ move ! (2 ∷ 1 ∷ []) $
+          rewrite ! 1 (λ (j : ℕ). ‵ (ways w b j k)) (let z : y ≡ at + 16 * (n / 16) = omega (arith, grains) in z) refl $ use2 𝓛 (‵ (ways w b at (n / 16 + k))) (ways_glue 𝓛 w b at (n / 16) k) $
+          rewrite ! 0 (λ (j : ℕ). ‵ (ways w b at j)) (let z : n / 16 + k ≡ n' / 16 = omega (arith, grains, whole, sums') in z) refl $ move ! (1 ∷ 0 ∷ []) $ by ! (fastens len new b at n' le' holds')
+
+      -- without the d bytes at the piece's end
+      pub shortens : (n d n' : ℕ) → size (block_type old) ≤ n → size (block_type new) ≤ n' → n ≡ n' + d → n' % 16 ≡ 0 → d % 16 ≡ 0
+          → spare len old b at n ⊢ H.room (block_type (new - len)) b (at + len * s) ∗ (sem 𝓛 (behind (block_type new) b at n') ∗ sem 𝓛 (bytes_at (block_ptr b (at + n')) d))
+      shortens n d n' holds holds' sums' grains grains' =
+          let x = at + len * s in let k = d / 16 in let front = n' - len * s in let y = at + n' in
+          let fits : len * s ≤ n' = omega (arith, spread len new b at n' le' holds', holds') in
+          let whole : d ≡ 16 * k = omega (arith, grains') in
+          qed 𝓛 (raw (spare len old b at n) ∷ []) ∵ use1 𝓛 (‵ (froom (ints w (n - len * s)) b x) ⊛ ‵ (ways w b at (n / 16))) (loosens len old b at n le holds) $ split ! $
+          rewrite ! 0 (λ (j : ℕ). ‵ (froom (ints w j) b x)) (let z : n - len * s ≡ front + 16 * k = omega (arith, fits, whole, sums') in z) refl $
+          use1 𝓛 (‵ (froom (ints w front) b x) ⊛ ‵ (froom (ints w (16 * k)) b (x + front))) (ints_cut 𝓛 w b x front (16 * k) (loose_even len new b at n' le' holds' grains)) $ split ! $
+          rewrite ! 1 (λ (j : ℕ). ‵ (froom (ints w (16 * k)) b j)) (let z : x + front ≡ y = omega (arith, fits) in z) refl $ move ! (2 ∷ []) $
+          rewrite ! 0 (λ (j : ℕ). ‵ (ways w b at j)) (let z : n / 16 ≡ n' / 16 + k = omega (arith, grains, whole, sums') in z) refl $
+          use1 𝓛 (‵ (ways w b at (n' / 16)) ⊛ ‵ (ways w b (at + 16 * (n' / 16)) k)) (ways_cut 𝓛 w b at (n' / 16) k) $ split ! $
+          rewrite ! 1 (λ (j : ℕ). ‵ (ways w b j k)) (let z : at + 16 * (n' / 16) ≡ y = omega (arith, grains) in z) refl $ move ! (3 ∷ 1 ∷ []) $
+          use2 𝓛 (‵ (froom (units_of (16 * k)) b y)) (closes 𝓛 w b y k) $ rewrite ! 0 (λ (j : ℕ). ‵ (froom (units_of j) b y)) (sym whole) refl $ move ! (2 ∷ 1 ∷ []) $
+          use2 𝓛 (‵ (froom (block_type (new - len)) b x) ⊛ ‵ (behind (block_type new) b at n')) (fastens len new b at n' le' holds') $ split ! $ done !
 
 -- ---- what `moved` gave
 
 module _ (R : RattleType) where
   abbrev Buf : RattleType
   Buf = buffer.the_row R
+
+  -- two buffers are the same where they have the same parts
+  pub same_buffer : (x y : Buf.Denot) → x.ptr ≡ y.ptr → (x.unit ≡ y.unit) × (x.region ≡ y.region) × (x.len ≡ y.len) × (x.cap ≡ y.cap) × (x.items ≡ y.items) → x ≡ y
+  same_buffer x y at e = λ i. record { ptr = at i; marker = x.marker; unit = e.0 i; region = e.1 i; len = e.2 i; cap = e.3 i; items = e.4 i }
 
   abbrev pub Moved : RattleType
   Moved = result.the_row Buf Buf

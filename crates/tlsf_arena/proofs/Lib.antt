@@ -7,6 +7,7 @@ pub mod Resizes
 pub mod Rooms
 pub mod SameBlock
 pub mod Spread
+pub mod Stretches
 pub mod Taken
 pub mod UnitCases
 pub mod Ways

@@ -2,7 +2,7 @@
 use Rattle.std.proofs.lemmas.Bool.{cases_lt, cases_cond}
 use Rattle.tlsf_class.specs.Classes.{most_words}
 use Rattle.tlsf_heap.specs.Lawful.{IsRegion}
-use Rattle.std.proofs.Common.{◌≡◌, ℕ, ◌*◌, ◌/◌, ◌^◌, ◌≤◌, Bool, true, false, eqb, List, length, replicate, Some, Ok, inl, inr, refl, sym, ap, subst, ◌∙◌, arith}
+use Rattle.std.proofs.Common.{◌≡◌, ℕ, ◌+◌, ◌-◌, ◌*◌, ◌/◌, ◌%◌, ◌^◌, ◌<◌, ◌≤◌, Bool, true, false, eqb, List, length, replicate, Some, Ok, inl, inr, refl, sym, ap, subst, ◌∙◌, arith}
 use Rattle.std.proofs.lemmas.List.{length-replicate, append-nil}
 use Rattle.tlsf_class.specs.Classes.{IsLevel}
 use Rattle.tlsf_heap.specs.Blocks.{HeapState}
@@ -16,6 +16,7 @@ use Rattle.tlsf_arena.proofs.Maps.{Tells, arena_carves, arena_frees, whole_map}
 use Rattle.tlsf_arena.proofs.Resizes.{arena_refits}
 use Rattle.tlsf_arena.proofs.Rooms.{marked_length}
 use Rattle.tlsf_arena.proofs.Spread.{spread-replicate, length-spread}
+use Rattle.tlsf_arena.proofs.Stretches.{grown, shrunk}
 use Rattle.tlsf_arena.proofs.UnitCases.{grains_of, units_apart}
 
 abbrev Bits : Type 0
@@ -24,30 +25,65 @@ Bits = List Bool
 pub lacks : (k : ℕ) → Tells k (lacking k)
 lacks k size least most = omega (arith, least, most)
 
-module _ (sli u units : ℕ) (old new : HeapState) (free : Bits) (name : Name) (k at size : ℕ) (mapped : IsMapped sli u units old free) (lawful : IsLawful old) (starts : at ≡ u / 16 * name.at) (long : size / 16 ≡ u / 16 * k) where
-  -- the heap has the units of a run of grains marked so
-  marks : (v w : Bool) → IsRun free (u / 16 * name.at) (u / 16 * k) v × (spread (u / 16) (free_map new.blocks) ≡ marked free (u / 16 * name.at) (u / 16 * k) w)
-      → IsRun free at (size / 16) v × ((after : Bits) → after ≡ marked free at (size / 16) w → IsMapped sli u units new after)
-  marks v w got =
-      let run : IsRun free at (size / 16) v = subst (λ (p : ℕ × ℕ). IsRun free p.0 p.1 v) (λ i. (sym starts i, sym long i)) got.0 in (
-        run,
-        λ after is. record {
-          level = mapped.level;
-          unit = mapped.unit;
-          least = mapped.least;
-          most = mapped.most;
-          map = is ∙ (λ i. marked free (starts i) (long i) w) ∙ sym got.1;
-          whole = ap length is ∙ marked_length free at (size / 16) v w run ∙ mapped.whole;
-        },
-      )
+-- the heap has the units of one run of grains marked so
+marks : (sli u units : ℕ) (old new : HeapState) (free : Bits) (at j : ℕ) → IsMapped sli u units old free → (v w : Bool) → IsRun free at j v × (spread (u / 16) (free_map new.blocks) ≡ marked free at j w)
+    → (at' size : ℕ) → at' ≡ at → size / 16 ≡ j → IsRun free at' (size / 16) v × ((after : Bits) → after ≡ marked free at' (size / 16) w → IsMapped sli u units new after)
+marks sli u units old new free at j mapped v w got at' size starts long =
+    let run : IsRun free at' (size / 16) v = subst (λ (p : ℕ × ℕ). IsRun free p.0 p.1 v) (λ i. (sym starts i, sym long i)) got.0 in (
+      run,
+      λ after is. record {
+        level = mapped.level;
+        unit = mapped.unit;
+        least = mapped.least;
+        most = mapped.most;
+        map = is ∙ (λ i. marked free (starts i) (long i) w) ∙ sym got.1;
+        whole = ap length is ∙ marked_length free at' (size / 16) v w run ∙ mapped.whole;
+      },
+    )
 
+module _ (sli u units : ℕ) (old new : HeapState) (free : Bits) (name : Name) (k at size : ℕ) (mapped : IsMapped sli u units old free) (lawful : IsLawful old) (starts : at ≡ u / 16 * name.at) (long : size / 16 ≡ u / 16 * k) where
   pub carves : Ok name ≡ (allocated_words sli old k (lacking k)).answer → new ≡ (allocated_words sli old k (lacking k)).heap
       → IsRun free at (size / 16) true × ((after : Bits) → after ≡ marked free at (size / 16) false → IsMapped sli u units new after)
-  carves answer heap = marks true false (arena_carves sli (u / 16) mapped.level old new free k (lacking k) name mapped.map lawful (lacks k) answer heap)
+  carves answer heap =
+      marks sli u units old new free (u / 16 * name.at) (u / 16 * k) mapped true false (arena_carves sli (u / 16) mapped.level old new free k (lacking k) name mapped.map lawful (lacks k) answer heap) at size starts long
 
   pub frees : held_at old.blocks name.at ≡ Some k → Ok tt ≡ (released old name).answer → new ≡ (released old name).heap
       → IsRun free at (size / 16) false × ((after : Bits) → after ≡ marked free at (size / 16) true → IsMapped sli u units new after)
-  frees held answer heap = marks false true (arena_frees (u / 16) old new free k name mapped.map lawful held answer heap)
+  frees held answer heap = marks sli u units old new free (u / 16 * name.at) (u / 16 * k) mapped false true (arena_frees (u / 16) old new free k name mapped.map lawful held answer heap) at size starts long
+
+-- a block of k units that is to have n keeps the grains of the fewer
+module _ (sli u units : ℕ) (old new : HeapState) (free : Bits) (name : Name) (k n : ℕ) (mapped : IsMapped sli u units old free) (lawful : IsLawful old) (held : held_at old.blocks name.at ≡ Some k)
+    (answer : Ok tt ≡ (resized_words old name n (lacking n)).answer) (heap : new ≡ (resized_words old name n (lacking n)).heap) where
+  abbrev g : ℕ
+  g = u / 16
+
+  abbrev place : ℕ
+  place = g * name.at
+
+  has : u * k ≡ 16 * (g * k)
+  has = grains_of u k mapped.unit
+
+  wants : u * n ≡ 16 * (g * n)
+  wants = grains_of u n mapped.unit
+
+  resized : IsRun free place (g * k) false × (IsRun (marked free place (g * k) true) place (g * n) true × (spread g (free_map new.blocks) ≡ marked (marked free place (g * k) true) place (g * n) false))
+  resized = arena_refits g old new free n (lacking n) k name mapped.map lawful (lacks n) held answer heap
+
+  -- those behind it are lent
+  pub extends : (at bytes size : ℕ) → at ≡ place → bytes ≡ u * n → size ≡ u * k → size < bytes
+      → (IsRun free (at + size / 16) ((bytes - size) / 16) true × (16 ≤ bytes - size) × ((bytes - size) % 16 ≡ 0))
+      × ((after : Bits) → after ≡ marked free (at + size / 16) ((bytes - size) / 16) false → IsMapped sli u units new after)
+  extends at bytes size starts all first within =
+      let more = grown free place (g * k) (g * n) (omega (arith, all, first, within, has, wants)) resized.0 resized.1.0 in
+      let got = marks sli u units old new free (place + g * k) (g * n - g * k) mapped true false (more.0, resized.1.1 ∙ more.1) (at + size / 16) (bytes - size) (omega (arith, starts, first, has)) (omega (arith, all, first, has, wants)) in
+      ((got.0, omega (arith, all, first, within, has, wants), omega (arith, all, first, has, wants)), got.1)
+
+  -- those at its end come back
+  pub shortens : (start at size : ℕ) → at ≡ start + u * name.at + u * n → u * k ≡ u * n + size
+      → IsRun free ((at - start) / 16) (size / 16) false × ((after : Bits) → after ≡ marked free ((at - start) / 16) (size / 16) true → IsMapped sli u units new after)
+  shortens start at size starts sums =
+      let less = shrunk free place (g * k) (g * n) (omega (arith, sums, has, wants)) resized.0 in
+      marks sli u units old new free (place + g * n) (g * k - g * n) mapped false true (less.0, resized.1.1 ∙ less.1) ((at - start) / 16) size (omega (arith, starts, grains_of u name.at mapped.unit, wants)) (omega (arith, sums, has, wants))
 
 -- a block that is resized gives the grains of its piece back, and those from the same place on are lent
 pub refits : (sli u units : ℕ) (old new : HeapState) (free : Bits) (name : Name) (k n at size at' size' : ℕ) (mapped : IsMapped sli u units old free) → IsLawful old → held_at old.blocks name.at ≡ Some k

@@ -14,7 +14,7 @@ use Rattle.tlsf_arena.specs.Places.{IsRun, marked}
 
 -- ---- maps
 
-take_front : (xs ys : List Bool) → take (length xs) (xs ++ ys) ≡ xs
+pub take_front : (xs ys : List Bool) → take (length xs) (xs ++ ys) ≡ xs
 take_front [] ys = refl
 take_front (x ∷ xs) ys = ap (λ (l : List Bool). x ∷ l) (take_front xs ys)
 
@@ -22,7 +22,7 @@ drop_front : (xs ys : List Bool) → drop (length xs) (xs ++ ys) ≡ ys
 drop_front [] ys = refl
 drop_front (x ∷ xs) ys = drop_front xs ys
 
-drop_both : (xs ys zs : List Bool) → drop (length xs + length ys) (xs ++ (ys ++ zs)) ≡ zs
+pub drop_both : (xs ys zs : List Bool) → drop (length xs + length ys) (xs ++ (ys ++ zs)) ≡ zs
 drop_both [] ys zs = ap (λ (k : ℕ). drop k (ys ++ zs)) (let e : 0 + length ys ≡ length ys = omega arith in e) ∙ drop_front ys zs
 drop_both (x ∷ xs) ys zs = ap (λ (k : ℕ). drop k (x ∷ (xs ++ (ys ++ zs)))) (let e : suc (length xs) + length ys ≡ suc (length xs + length ys) = omega arith in e) ∙ drop_both xs ys zs
 

@@ -31,13 +31,6 @@ Taken = option.the_row block.the_row
 abbrev pub Told : ℕ → Region → ℕ → ℕ → Taken.Denot → Type 0
 Told u r n a x = IfSome x (λ b. (b.region ≡ r) × (b.size ≡ piece_size u n) × (n < 2 ^ 63) × (a ≤ 16))
 
-divides_16 : (w : Width) → Dv (bytes w) 16
-divides_16 w8 = tt
-divides_16 w16 = tt
-divides_16 w32 = tt
-divides_16 w64 = tt
-divides_16 w128 = tt
-
 pub even : (τ : Ty) → size τ % bytes (align_w τ) ≡ 0
 even τ = dv→ (bytes (align_w τ)) (size τ) (subst (λ (k : ℕ). Dv k (size τ)) (align-bytes τ) (align_size τ))
 

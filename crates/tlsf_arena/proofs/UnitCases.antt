@@ -1,5 +1,5 @@
 -- What holds of a unit of 16, 32 and 64 bytes holds of each.
-use Rattle.std.proofs.Common.{◌≡◌, ℕ, ◌+◌, ◌-◌, ◌*◌, ◌/◌, ◌≤◌, eqb, ◌||◌, inl, inr, sym, subst, arith}
+use Rattle.std.proofs.Common.{◌≡◌, ℕ, ◌+◌, ◌-◌, ◌*◌, ◌/◌, ◌%◌, ◌≤◌, eqb, ◌||◌, inl, inr, sym, subst, arith}
 use Rattle.std.proofs.lemmas.Bool.{eqb-true, or_cases}
 use Rattle.tlsf_arena.specs.Places.{IsUnit, piece_size}
 
@@ -17,15 +17,15 @@ grains_of u k is = by_unit (λ u. u * k ≡ 16 * (u / 16 * k)) (omega arith) (om
 pub piece_holds : (u n : ℕ) → IsUnit u → n ≤ piece_size u n
 piece_holds u n is = by_unit (λ u. n ≤ piece_size u n) (omega arith) (omega arith) (omega arith) u is
 
--- and no piece has fewer than 64 bytes
-pub least_piece : (u k : ℕ) → IsUnit u → 4 ≤ k → 64 ≤ u * k
-least_piece u k is least = by_unit (λ u. 64 ≤ u * k) (omega (arith, least)) (omega (arith, least)) (omega (arith, least)) u is
+-- and is whole grains, one at least
+pub piece_grains : (u n : ℕ) → IsUnit u → piece_size u n % 16 ≡ 0
+piece_grains u n is = by_unit (λ u. piece_size u n % 16 ≡ 0) (omega arith) (omega arith) (omega arith) u is
+
+pub least_piece : (u n : ℕ) → IsUnit u → 16 ≤ piece_size u n
+least_piece u n is = by_unit (λ u. 16 ≤ piece_size u n) (omega arith) (omega arith) (omega arith) u is
 
 pub units_apart : (u j k : ℕ) → IsUnit u → u * j ≡ u * k → j ≡ k
 units_apart u j k is = by_unit (λ u. u * j ≡ u * k → j ≡ k) (λ e. omega (arith, e)) (λ e. omega (arith, e)) (λ e. omega (arith, e)) u is
-
-pub units_in : (u j k : ℕ) → IsUnit u → j ≤ k → u * j ≤ u * k
-units_in u j k is within = by_unit (λ u. u * j ≤ u * k) (omega (arith, within)) (omega (arith, within)) (omega (arith, within)) u is
 
 -- the grain at which a unit begins
 pub first_grain : (u start at unit : ℕ) → IsUnit u → at ≡ start + u * unit → (at - start) / 16 ≡ u / 16 * unit

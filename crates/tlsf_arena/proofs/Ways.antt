@@ -1,5 +1,5 @@
 -- Grains as integers of a width, and the ways back. Assumes `Logic`.
-use Rattle.std.proofs.Common.{◌≡◌, ℕ, zero, suc, ◌+◌, ◌*◌, ◌/◌, ◌%◌, [], ◌∷◌, refl, sym, ap, ◌∙◌, arith, suc-mul}
+use Rattle.std.proofs.Common.{◌≡◌, ℕ, zero, suc, ◌+◌, ◌-◌, ◌*◌, ◌/◌, ◌%◌, ◌≤◌, [], ◌∷◌, refl, sym, ap, ◌∙◌, arith, suc-mul}
 use seplogic.Ra.Ura.{Ura}
 use mir.Syntax.{Width, w8, w16, w32, w64, w128, ty_int, ty_array}
 use mir.Val.{bytes}
@@ -29,6 +29,10 @@ exact w m = by_width (λ a. m % a ≡ 0 → m / a * a ≡ m) (λ e. omega (arith
 
 pub grains_even : (w : Width) (k : ℕ) → (16 * k) % bytes w ≡ 0
 grains_even w k = by_width (λ a. (16 * k) % a ≡ 0) (omega arith) (omega arith) (omega arith) (omega arith) (omega arith) w
+
+-- what is left of grains behind some integers are integers
+pub left_even : (w : Width) (m n : ℕ) → m % bytes w ≡ 0 → n % 16 ≡ 0 → m ≤ n → (n - m) % bytes w ≡ 0
+left_even w m n = by_width (λ a. m % a ≡ 0 → n % 16 ≡ 0 → m ≤ n → (n - m) % a ≡ 0) (λ e f g. omega (arith, e, f, g)) (λ e f g. omega (arith, e, f, g)) (λ e f g. omega (arith, e, f, g)) (λ e f g. omega (arith, e, f, g)) (λ e f g. omega (arith, e, f, g)) w
 
 none : (w : Width) → 0 ≡ 16 * 0 / bytes w
 none w = by_width (λ a. 0 ≡ 16 * 0 / a) refl refl refl refl refl w

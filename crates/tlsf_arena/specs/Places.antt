@@ -30,7 +30,7 @@ lacking k = (4 - k % 4) % 4
 
 -- a size that a piece at this distance from the region's start may have
 abbrev pub IsPieceSize : ℕ → ℕ → Type 0
-IsPieceSize n distance = (64 ≤ n) × (n % 16 ≡ 0) × (distance % 16 ≡ 0)
+IsPieceSize n distance = (16 ≤ n) × (n % 16 ≡ 0) × (distance % 16 ≡ 0)
 
 -- p is the place `at` of the region, and n bytes from there lie in it
 abbrev pub IsPiece : Region → Ptr → ℕ → ℕ → Type 0

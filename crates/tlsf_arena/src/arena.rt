@@ -10,10 +10,10 @@ ghost use Rattle.tlsf_heap.specs.Placed.{placed_at};
 ghost use Rattle.tlsf_heap.specs.Reports.{report_of};
 ghost use Rattle.tlsf_heap.specs.declared.name.Name.{Name};
 ghost use Rattle.tlsf_arena.specs.Arenas.{Holds, SameArena, if_held, released_block, requested, resized_block};
-ghost use Rattle.tlsf_arena.specs.Places.{IsUnit, lacking, units_for, piece_size, held_at, free_in};
+ghost use Rattle.tlsf_arena.specs.Places.{IsPiece, IsUnit, lacking, units_for, piece_size, held_at, free_in};
 
 use crate::block::Block;
-use crate::memory::{Lease, Memory};
+use crate::memory::{GRAIN, Lease, Memory};
 use crate::piece::Piece;
 use crate::space::{Run, Space, begins_at, lend_run, lies_before};
 use crate::units::{bytes_of, grains_before, held_units, lacking, units_of};
@@ -298,14 +298,10 @@ impl<const SLI: u32, const UNIT: usize> Arena<SLI, UNIT> {
         ensures region { self.new.region ≡ self.old.region }
     {
         let (ptr, piece) = piece.with_ptr();
-        let Some(at) = unit_at(ptr, self.base, self.units, UNIT, guesses) else {
+        let Some((name, held)) = self.live_at(ptr, guesses) else {
             return Err((Refusal::Stale, piece));
         };
-        let heap = self.id;
-        let Some((serial, units)) = self.held_block(at) else {
-            return Err((Refusal::Stale, piece));
-        };
-        self.give_held(Name { heap, at, serial }, units, piece)
+        self.give_held(name, held, piece)
     }
 
     /// Makes a block `len` bytes long or more where it stands: its name and its address stay, and no byte is moved. It then has as many whole
@@ -403,6 +399,168 @@ impl<const SLI: u32, const UNIT: usize> Arena<SLI, UNIT> {
         }
     }
 
+    /// Makes a block `len` bytes long or more where it stands, and lends the units that it is to have besides: the `size` bytes before them stay
+    /// their owner's, with all that lies in them. It then has as many whole units as hold `len` bytes, more than before.
+    ///
+    /// Refused as [`Arena::resize`] refuses a block of that name and of `size` bytes. Takes no memory.
+    ///
+    /// ```text
+    /// let block = arena.allocate(100)?;        // of a new arena of 64 units of 16 bytes: 7 of them
+    /// let (ptr, size) = block.piece.into_raw_parts();
+    /// let rest = arena.extend(block.name, size, 200)?;     // 6 more, at ptr + size
+    /// ```
+    pub fn extend(&mut self, name: Name, size: usize, len: u32) -> Result<Piece, Refusal>
+        requires longer { size < piece_size UNIT len }
+        ensures answer { MatchResult result (λ _. (resized_block UNIT self.old.heap name size len).answer ≡ Ok tt) (λ why. (resized_block UNIT self.old.heap name size len).answer ≡ Err why) }
+        ensures heap { self.new.heap ≡ (resized_block UNIT self.old.heap name size len).heap }
+
+        // What that comes to.
+        ensures rest { IfOk result (λ p. (p.region ≡ self.old.region) × (p.at ≡ self.old.region.start + UNIT * name.at + size) × (size + p.size ≡ piece_size UNIT len)) }
+        ensures err { OnErr result (self.new.heap ≡ self.old.heap) }
+        ensures held { IfErr result (λ why. (units : ℕ) → size ≡ UNIT * units → Holds self.old.heap name units → (why ≢ Refusal.Stale) × (why ≢ Refusal.Foreign)) }
+        ensures others { (other : Name) (units : ℕ) → other ≢ name → Holds self.old.heap other units → Holds self.new.heap other units }
+        ensures region { self.new.region ≡ self.old.region }
+        ensures touches { self.new.touches ≤ self.old.touches + 68 }
+        ensures touches_rise { self.old.touches ≤ self.new.touches }
+    {
+        let Some((_, held)) = self.held_block(name.at) else {
+            return Err(Refusal::Stale);
+        };
+        self.extend_held(name, held, size, units_of(len as usize, UNIT) as u32)
+    }
+
+    /// Lends the units behind a block that holds `held`, so that it has so many.
+    fn extend_held(
+        &mut self,
+        name: Name,
+        held: u32,
+        size: usize,
+        units: u32,
+    ) -> Result<Piece, Refusal>
+        requires held { held_at self.old.heap.blocks name.at ≡ Some held }
+        requires least { 4 ≤ units }
+        requires longer { size < UNIT * units }
+        requires lawful { IsLawful self.old.heap }
+        requires unit { IsUnit UNIT }
+        ensures answer { MatchResult result (λ _. (if_held UNIT self.old.heap name size (resized_words self.old.heap name units (lacking units))).answer ≡ Ok tt) (λ why. (if_held UNIT self.old.heap name size (resized_words self.old.heap name units (lacking units))).answer ≡ Err why) }
+        ensures heap { self.new.heap ≡ (if_held UNIT self.old.heap name size (resized_words self.old.heap name units (lacking units))).heap }
+        ensures rest { IfOk result (λ p. (p.region ≡ self.old.region) × (p.at ≡ self.old.region.start + UNIT * name.at + size) × (size + p.size ≡ UNIT * units)) }
+        ensures err { OnErr result (self.new.heap ≡ self.old.heap) }
+        ensures named { IfErr result (λ why. (units : ℕ) → size ≡ UNIT * units → Holds self.old.heap name units → (why ≢ Refusal.Stale) × (why ≢ Refusal.Foreign)) }
+        ensures lawful { IsLawful self.new.heap }
+        ensures region { self.new.region ≡ self.old.region }
+        ensures touches { self.new.touches ≤ self.old.touches + 64 }
+        ensures touches_rise { self.old.touches ≤ self.new.touches }
+    {
+        if bytes_of(held, UNIT) != size {
+            return Err(Refusal::Stale);
+        }
+        self.heap.resize_words(name, units, lacking(units))?;
+        let at = grains_before(name.at, UNIT) + size / GRAIN;
+        let size = bytes_of(units, UNIT) - size;
+        Ok(replace_with(&mut self.space, Run { at, size }, lend_run))
+    }
+
+    /// [`Arena::extend`] of a block that has lost its name: its address tells the place.
+    pub(crate) fn extend_at(
+        &mut self,
+        ptr: *mut u8,
+        size: usize,
+        len: u32,
+        guesses: (u32, u32),
+    ) -> Result<Piece, Refusal>
+        requires place { IsPiece self.old.region ptr (count_of ptr) size }
+        requires longer { size < piece_size UNIT len }
+        ensures rest { IfOk result (λ p. (p.region ≡ self.old.region) × (p.at ≡ count_of ptr + size) × (size + p.size ≡ piece_size UNIT len)) }
+        ensures region { self.new.region ≡ self.old.region }
+    {
+        let Some((name, held)) = self.live_at(ptr, guesses) else {
+            return Err(Refusal::Stale);
+        };
+        self.extend_held(name, held, size, units_of(len as usize, UNIT) as u32)
+    }
+
+    /// Takes the units at a block's end back, so that it has as many whole units as hold `len` bytes. The bytes before them stay their owner's,
+    /// with all that lies in them.
+    ///
+    /// Refused, with the units, as [`Arena::resize`] refuses a block of that name, whose bytes end with theirs. Takes no memory.
+    ///
+    /// ```text
+    /// arena.trim(block.name, rest, 100)?;      // what `Arena::extend` lent
+    /// ```
+    pub fn trim(&mut self, name: Name, tail: Piece, len: u32) -> Result<(), (Refusal, Piece)>
+        requires region { tail.region ≡ self.old.region }
+        requires place { tail.at ≡ tail.region.start + UNIT * name.at + piece_size UNIT len }
+        ensures answer { MatchResult result (λ _. (resized_block UNIT self.old.heap name (piece_size UNIT len + tail.size) len).answer ≡ Ok tt) (λ e. (resized_block UNIT self.old.heap name (piece_size UNIT len + tail.size) len).answer ≡ Err e.0) }
+        ensures heap { self.new.heap ≡ (resized_block UNIT self.old.heap name (piece_size UNIT len + tail.size) len).heap }
+
+        // What that comes to.
+        ensures err { IfErr result (λ e. (self.new.heap ≡ self.old.heap) × (e.1 ≡ tail)) }
+        ensures held { IfErr result (λ e. (units : ℕ) → piece_size UNIT len + tail.size ≡ UNIT * units → Holds self.old.heap name units → (e.0 ≢ Refusal.Stale) × (e.0 ≢ Refusal.Foreign)) }
+        ensures others { (other : Name) (units : ℕ) → other ≢ name → Holds self.old.heap other units → Holds self.new.heap other units }
+        ensures region { self.new.region ≡ self.old.region }
+        ensures touches { self.new.touches ≤ self.old.touches + 68 }
+        ensures touches_rise { self.old.touches ≤ self.new.touches }
+    {
+        let Some((_, held)) = self.held_block(name.at) else {
+            return Err((Refusal::Stale, tail));
+        };
+        self.trim_held(name, held, units_of(len as usize, UNIT) as u32, tail)
+    }
+
+    /// Takes the units at the end of a block that holds `held` back, so that it has so many.
+    fn trim_held(
+        &mut self,
+        name: Name,
+        held: u32,
+        units: u32,
+        tail: Piece,
+    ) -> Result<(), (Refusal, Piece)>
+        requires region { tail.region ≡ self.old.region }
+        requires place { tail.at ≡ tail.region.start + UNIT * name.at + UNIT * units }
+        requires held { held_at self.old.heap.blocks name.at ≡ Some held }
+        requires least { 4 ≤ units }
+        requires lawful { IsLawful self.old.heap }
+        requires unit { IsUnit UNIT }
+        ensures answer { MatchResult result (λ _. (if_held UNIT self.old.heap name (UNIT * units + tail.size) (resized_words self.old.heap name units (lacking units))).answer ≡ Ok tt) (λ e. (if_held UNIT self.old.heap name (UNIT * units + tail.size) (resized_words self.old.heap name units (lacking units))).answer ≡ Err e.0) }
+        ensures heap { self.new.heap ≡ (if_held UNIT self.old.heap name (UNIT * units + tail.size) (resized_words self.old.heap name units (lacking units))).heap }
+        ensures err { IfErr result (λ e. (self.new.heap ≡ self.old.heap) × (e.1 ≡ tail)) }
+        ensures named { IfErr result (λ e. (k : ℕ) → UNIT * units + tail.size ≡ UNIT * k → Holds self.old.heap name k → (e.0 ≢ Refusal.Stale) × (e.0 ≢ Refusal.Foreign)) }
+        ensures lawful { IsLawful self.new.heap }
+        ensures region { self.new.region ≡ self.old.region }
+        ensures touches { self.new.touches ≤ self.old.touches + 64 }
+        ensures touches_rise { self.old.touches ≤ self.new.touches }
+    {
+        let (size, tail) = tail.with_size();
+        if bytes_of(held, UNIT) != bytes_of(units, UNIT) + size {
+            return Err((Refusal::Stale, tail));
+        }
+        if let Err(why) = self.heap.resize_words(name, units, lacking(units)) {
+            return Err((why, tail));
+        }
+        replace_with(&mut self.space, tail, Space::take_back);
+        Ok(())
+    }
+
+    /// [`Arena::trim`] of a block that has lost its name: its address tells the place.
+    pub(crate) fn trim_at(
+        &mut self,
+        ptr: *mut u8,
+        tail: Piece,
+        len: u32,
+        guesses: (u32, u32),
+    ) -> Result<(), (Refusal, Piece)>
+        requires place { IsPiece self.old.region ptr (count_of ptr) (piece_size UNIT len + tail.size) }
+        requires tail { (tail.region ≡ self.old.region) × (tail.at ≡ count_of ptr + piece_size UNIT len) }
+        ensures err { IfErr result (λ e. e.1 ≡ tail) }
+        ensures region { self.new.region ≡ self.old.region }
+    {
+        let Some((name, held)) = self.live_at(ptr, guesses) else {
+            return Err((Refusal::Stale, tail));
+        };
+        self.trim_held(name, held, units_of(len as usize, UNIT) as u32, tail)
+    }
+
     /// The units of the arena: 4 to 2^20, or to 2^24 at level 5.
     pub fn units(&self) -> u32
         ensures region { self.now.region.end ≡ self.now.region.start + UNIT * result }
@@ -470,6 +628,21 @@ impl<const SLI: u32, const UNIT: usize> Arena<SLI, UNIT> {
             ) => Some((serial, held_units(size, length))),
             _ => None,
         }
+    }
+
+    /// The name of the live block at an address of the arena's memory, and the units that it holds; `None` where none begins there. The place is
+    /// sought where neither of two guesses is it.
+    fn live_at(&mut self, ptr: *mut u8, guesses: (u32, u32)) -> Option<(Name, u32)>
+        requires pointer { InBlock ptr × (block_of ptr ≡ self.old.region.block) × (count_of ptr < 2 ^ 63) }
+        ensures live { IfSome result (λ b. (count_of ptr ≡ self.old.region.start + UNIT * b.0.at) × (held_at self.old.heap.blocks b.0.at ≡ Some b.1)) }
+        ensures same { SameArena self.old self.new }
+        ensures lawful { IfSome result (λ _. IsLawful self.old.heap) }
+        ensures unit { IsUnit UNIT }
+    {
+        let at = unit_at(ptr, self.base, self.units, UNIT, guesses)?;
+        let heap = self.id;
+        let (serial, units) = self.held_block(at)?;
+        Some((Name { heap, at, serial }, units))
     }
 }
 

@@ -1,9 +1,10 @@
 // A block for values that is to grow or shrink.
-ghost use Rattle.std.specs.Prelude.{◌≡◌, ℕ, ◌*◌, ◌^◌, ◌<◌, ◌≤◌, List};
+ghost use Rattle.std.specs.Prelude.{◌≡◌, ℕ, ◌+◌, ◌*◌, ◌^◌, ◌<◌, ◌≤◌, List};
+ghost use denote.RawPtr.{count_of};
 ghost use Rattle.std.specs.Mem.{type_size};
 ghost use Rattle.std.specs.Allocator.{block_with_items};
 ghost use Rattle.linked_list_allocator.specs.Region.{Region};
-ghost use Rattle.tlsf_arena.specs.Places.{IsUnit, piece_size};
+ghost use Rattle.tlsf_arena.specs.Places.{IsPiece, IsUnit, piece_size};
 ghost use Rattle.tlsf_arena.specs.Ownership.{block_token};
 
 use crate::piece::Piece;
@@ -35,6 +36,46 @@ impl<T> Buffer<T> {
     {
         let Buffer { ptr, marker } = self;
         Buffer { ptr, marker }
+    }
+
+    // The address, and the buffer again.
+    pub(crate) fn with_ptr(self) -> (*mut u8, Buffer<T>)
+        ensures place { IsPiece self.region result.0 (count_of result.0) (piece_size self.unit (self.cap * type_size T.row)) }
+        ensures same { (result.0 ≡ self.ptr) × (result.1 ≡ self) }
+    {
+        let Buffer { ptr, marker } = self;
+        (ptr as *mut u8, Buffer { ptr, marker })
+    }
+
+    // The values stay, and the piece behind theirs is room for more of them.
+    pub(crate) fn extended(self, rest: Piece, _cap: usize) -> Buffer<T>
+        requires unit { IsUnit self.unit }
+        requires region { rest.region ≡ self.region }
+        requires place { rest.at ≡ count_of self.ptr + piece_size self.unit (self.cap * type_size T.row) }
+        requires size { piece_size self.unit (_cap * type_size T.row) ≡ piece_size self.unit (self.cap * type_size T.row) + rest.size }
+        requires counts { (self.len ≤ _cap) × (self.len ≤ self.cap) }
+        ensures { (result.ptr ≡ self.ptr) × (result.unit ≡ self.unit) × (result.region ≡ self.region) × (result.len ≡ self.len) × (result.cap ≡ _cap) × (result.items ≡ self.items) }
+    {
+        let Buffer { ptr, marker } = self;
+        let Piece { ptr: _, size: _ } = rest;
+        Buffer { ptr, marker }
+    }
+
+    // The values stay, and the bytes behind the first `size` of their piece come back.
+    pub(crate) fn trimmed(self, _cap: usize, size: usize, rest: usize) -> (Buffer<T>, Piece)
+        requires unit { IsUnit self.unit }
+        requires size { (size ≡ piece_size self.unit (_cap * type_size T.row)) × (piece_size self.unit (self.cap * type_size T.row) ≡ size + rest) × (size < piece_size self.unit (self.cap * type_size T.row)) }
+        requires counts { (self.len ≤ _cap) × (self.len ≤ self.cap) }
+        ensures stays { (result.0.ptr ≡ self.ptr) × (result.0.unit ≡ self.unit) × (result.0.region ≡ self.region) × (result.0.len ≡ self.len) × (result.0.cap ≡ _cap) × (result.0.items ≡ self.items) }
+        ensures tail { (result.1.region ≡ self.region) × (result.1.at ≡ count_of self.ptr + size) × (result.1.size ≡ rest) }
+    {
+        let Buffer { ptr, marker } = self;
+        let tail = unsafe { (ptr as *mut u8).add(size) };
+        let tail = Piece {
+            ptr: tail,
+            size: rest,
+        };
+        (Buffer { ptr, marker }, tail)
     }
 
     // The values move to a new piece, and the old one comes back.

@@ -91,10 +91,9 @@ impl<const SLI: u32, const UNIT: usize> LocalArena<SLI, UNIT> {
     fn give(&self, piece: Piece)
         requires { piece.region ≡ self.now.slot }
     {
-        let guesses = (self.last.get(), self.before_last.get());
         match self.slot.replace(None) {
             Some(mut arena) => {
-                let answer = arena.give_back(piece, guesses);
+                let answer = arena.give_back(piece, self.guesses());
                 self.slot.replace(Some(arena));
                 if let Err((_, piece)) = answer {
                     let _lost = unsafe { ManuallyDrop::new_unchecked(piece) };
@@ -106,7 +105,13 @@ impl<const SLI: u32, const UNIT: usize> LocalArena<SLI, UNIT> {
         }
     }
 
-    // The values stay where a piece of as many units is wanted. Else they move to a new block, which is aligned enough for every type.
+    // The places of the last two pieces that went out.
+    fn guesses(&self) -> (u32, u32) {
+        (self.last.get(), self.before_last.get())
+    }
+
+    // The values stay where a piece of as many units is wanted, and where the arena has the others behind it or takes them back. Else they move to
+    // a new block, which is aligned enough for every type.
     fn moved<T>(
         &self,
         buffer: Buffer<T>,
@@ -119,15 +124,82 @@ impl<const SLI: u32, const UNIT: usize> LocalArena<SLI, UNIT> {
         ensures { MatchResult result (λ b. (b.unit ≡ buffer.unit) × (b.region ≡ buffer.region) × (b.len ≡ len) × (b.cap ≡ new_cap) × (b.items ≡ buffer.items)) (λ b. b ≡ buffer) }
     {
         let old_size = piece_bytes(old_cap * size_of::<T>(), UNIT);
-        if piece_bytes(new_cap * size_of::<T>(), UNIT) == old_size {
+        let new_size = piece_bytes(new_cap * size_of::<T>(), UNIT);
+        if new_size == old_size {
             return Ok(buffer.refitted(new_cap));
         }
+        let in_place = if old_size < new_size {
+            self.extended(buffer, old_size, new_cap)
+        } else {
+            self.trimmed(buffer, old_size, old_cap, new_cap)
+        };
+        let buffer = match in_place {
+            Ok(buffer) => return Ok(buffer),
+            Err(buffer) => buffer,
+        };
         let Some(piece) = self.take(new_cap * size_of::<T>(), GRAIN) else {
             return Err(buffer);
         };
         let (buffer, old) = buffer.move_to(piece, len, new_cap, old_size);
         self.give(old);
         Ok(buffer)
+    }
+
+    // The arena lends the units behind the values' piece.
+    fn extended<T>(
+        &self,
+        buffer: Buffer<T>,
+        old_size: usize,
+        new_cap: usize,
+    ) -> Result<Buffer<T>, Buffer<T>>
+        requires buffer { (buffer.unit ≡ UNIT) × (buffer.region ≡ self.now.slot) × (buffer.len ≤ buffer.cap) × (buffer.len ≤ new_cap) }
+        requires sizes { (old_size ≡ piece_size UNIT (buffer.cap * type_size T.row)) × (new_cap * type_size T.row < 2 ^ 63) × (old_size < piece_size UNIT (new_cap * type_size T.row)) }
+        ensures { MatchResult result (λ b. (b.ptr ≡ buffer.ptr) × (b.unit ≡ buffer.unit) × (b.region ≡ buffer.region) × (b.len ≡ buffer.len) × (b.cap ≡ new_cap) × (b.items ≡ buffer.items)) (λ b. b ≡ buffer) }
+    {
+        let size = new_cap * size_of::<T>();
+        if size > u32::MAX as usize {
+            return Err(buffer);
+        }
+        let Some(mut arena) = self.slot.replace(None) else {
+            return Err(buffer);
+        };
+        let (ptr, buffer) = buffer.with_ptr();
+        let answer = arena.extend_at(ptr, old_size, size as u32, self.guesses());
+        self.slot.replace(Some(arena));
+        match answer {
+            Ok(rest) => Ok(buffer.extended(rest, new_cap)),
+            Err(_) => Err(buffer),
+        }
+    }
+
+    // The arena takes the units at the end of the values' piece back.
+    fn trimmed<T>(
+        &self,
+        buffer: Buffer<T>,
+        old_size: usize,
+        old_cap: usize,
+        new_cap: usize,
+    ) -> Result<Buffer<T>, Buffer<T>>
+        requires buffer { (buffer.unit ≡ UNIT) × (buffer.region ≡ self.now.slot) × (buffer.len ≤ buffer.cap) × (buffer.len ≤ new_cap) × (buffer.cap ≡ old_cap) }
+        requires sizes { (old_size ≡ piece_size UNIT (buffer.cap * type_size T.row)) × (new_cap * type_size T.row < 2 ^ 63) × (piece_size UNIT (new_cap * type_size T.row) < old_size) }
+        ensures { MatchResult result (λ b. (b.ptr ≡ buffer.ptr) × (b.unit ≡ buffer.unit) × (b.region ≡ buffer.region) × (b.len ≡ buffer.len) × (b.cap ≡ new_cap) × (b.items ≡ buffer.items)) (λ b. b ≡ buffer) }
+    {
+        let size = new_cap * size_of::<T>();
+        if size > u32::MAX as usize {
+            return Err(buffer);
+        }
+        let Some(mut arena) = self.slot.replace(None) else {
+            return Err(buffer);
+        };
+        let new_size = piece_bytes(size, UNIT);
+        let (ptr, buffer) = buffer.with_ptr();
+        let (buffer, tail) = buffer.trimmed(new_cap, new_size, old_size - new_size);
+        let answer = arena.trim_at(ptr, tail, size as u32, self.guesses());
+        self.slot.replace(Some(arena));
+        match answer {
+            Ok(()) => Ok(buffer),
+            Err((_, tail)) => Err(buffer.extended(tail, old_cap)),
+        }
     }
 }
 

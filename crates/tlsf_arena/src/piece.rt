@@ -23,7 +23,7 @@ impl Model for Piece {
 }
 
 impl Piece {
-    /// The piece's size in bytes, a multiple of 16 from 64 on, and the piece again.
+    /// The piece's size in bytes, a multiple of 16, of a whole block 64 or more, and the piece again.
     ///
     /// ```text
     /// let (size, piece) = block.piece.with_size();     // of 100 bytes in units of 16: 112

@@ -46,7 +46,7 @@ impl Space {
 
     // Gives the bytes of some free grains out.
     pub(crate) fn lend(self, at: usize, size: usize) -> (Space, Piece)
-        requires { IsRun self.free at (size / 16) true × (64 ≤ size) × (size % 16 ≡ 0) }
+        requires { IsRun self.free at (size / 16) true × (16 ≤ size) × (size % 16 ≡ 0) }
         ensures { (result.0.base ≡ self.base) × (result.0.region ≡ self.region) × (result.0.free ≡ marked self.free at (size / 16) false) × (result.1.region ≡ self.region) × (result.1.at ≡ self.region.start + 16 * at) × (result.1.size ≡ size) }
     {
         let Space { base } = self;
@@ -93,7 +93,7 @@ pub(crate) struct Run {
 }
 
 pub(crate) fn lend_run(space: Space, run: Run) -> (Space, Piece)
-    requires { IsRun space.free run.at (run.size / 16) true × (64 ≤ run.size) × (run.size % 16 ≡ 0) }
+    requires { IsRun space.free run.at (run.size / 16) true × (16 ≤ run.size) × (run.size % 16 ≡ 0) }
     ensures { (result.0.base ≡ space.base) × (result.0.region ≡ space.region) × (result.0.free ≡ marked space.free run.at (run.size / 16) false) × (result.1.region ≡ space.region) × (result.1.at ≡ space.region.start + 16 * run.at) × (result.1.size ≡ run.size) }
 {
     space.lend(run.at, run.size)

@@ -1,8 +1,10 @@
-ghost use Rattle.std.specs.Prelude.{◌≡◌};
+ghost use Rattle.std.specs.Prelude.{◌≡◌, ◌<◌};
+ghost use Rattle.tlsf_arena.specs.Places.{piece_size};
 
 use std::mem::ManuallyDrop;
 use std::test::Fail;
 use tlsf_arena::{Arena, Block};
+use tlsf_heap::{Name, Refusal};
 
 #[test]
 fn blocks_go_out_and_come_back(rt: HostRuntime) -> Result<(), Fail> {
@@ -35,6 +37,42 @@ fn a_block_is_resized_where_it_stands(rt: HostRuntime) -> Result<(), Fail> {
     assert!(rt; is_back(&mut arena, block));
     assert_eq!(rt; arena.report().free_words, 64);
     Ok(())
+}
+
+#[test]
+fn units_behind_a_block_are_lent_and_come_back(rt: HostRuntime) -> Result<(), Fail> {
+    let mut arena = Arena::<4, 16>::open(rt.alloc(), 7, 64).expect(&rt, "open");
+    let block = arena.allocate(100).expect(&rt, "100 bytes");
+    let name = block.name;
+    let rest = arena.extend(name, 112, 200).expect(&rt, "100 more");
+    assert_eq!(rt; arena.report().free_words, 51);
+    assert_eq!(rt; why_not(&mut arena, name, 112, 300), Some(Refusal::Stale));
+    assert_eq!(rt; why_not(&mut arena, name, 208, 2000), Some(Refusal::NoRoom));
+    let (size, rest) = rest.with_size();
+    assert_eq!(rt; size, 96);
+    let (left, trimmed) = match arena.trim(name, rest, 100) {
+        Ok(()) => (None, true),
+        Err((_, rest)) => (Some(rest), false),
+    };
+    let _none = unsafe { ManuallyDrop::new_unchecked(left) };
+    assert!(rt; trimmed);
+    assert_eq!(rt; arena.report().free_words, 57);
+    assert!(rt; is_back(&mut arena, block));
+    assert_eq!(rt; arena.report().free_words, 64);
+    Ok(())
+}
+
+fn why_not(arena: &mut Arena<4, 16>, name: Name, size: usize, len: u32) -> Option<Refusal>
+    requires { size < piece_size 16 len }
+    ensures { arena.new.region ≡ arena.old.region }
+{
+    match arena.extend(name, size, len) {
+        Ok(rest) => {
+            let _lost = unsafe { ManuallyDrop::new_unchecked(rest) };
+            None
+        }
+        Err(why) => Some(why),
+    }
 }
 
 fn resized(arena: &mut Arena<4, 32>, block: Block<32>, len: u32) -> (Block<32>, bool)

@@ -28,6 +28,7 @@ use Rattle.std.specs.Allocator.{block_with_items}
 use Rattle.core.proofs.ptr.Rows.{El}
 use Rattle.tlsf_arena.specs.Places.{IsUnit, piece_size, IsPiece}
 use Rattle.tlsf_arena.specs.Ownership.{behind}
+use Rattle.tlsf_arena.proofs.UnitCases.{piece_holds}
 use Rattle.tlsf_arena.proofs.Buffers.{buffer_val, buffer_own, buffer_told, buffer_made, refits, block_type, block_size}
 use Rattle.tlsf_arena.specs.contracts.buffer.Buffer as buffer
 use Rattle.tlsf_arena.specs.contracts.buffer.Buffer.refitted.{ended, clauses}
@@ -75,7 +76,7 @@ refitted_spec 𝓤 𝓛 𝓜 𝓡 wired T L =
     let both : n ≡ n' = ap (piece_size u) (block_size E cap) ∙ sym same ∙ ap (piece_size u) (sym (block_size E cap')) in
     let is' : IsPiece r p at n' = subst (λ (j : ℕ). IsPiece r p at j) both (refl, lies.1, lies.2, lies.3, lies.4) in
     move ! (3 ∷ []) $ drop ! $ move ! (1 ∷ 2 ∷ []) $
-    use2 𝓛 (‵ (froom (block_type E (cap' - len)) b (at + len * s)) ⊛ ‵ (behind (block_type E cap') b at n')) (refits E 𝓛 u len cap cap' b at unit counts.1 counts.0 same) $ split ! $ move ! (1 ∷ []) $
+    use2 𝓛 (‵ (froom (block_type E (cap' - len)) b (at + len * s)) ⊛ ‵ (behind (block_type E cap') b at n')) (refits E 𝓛 len cap cap' b at counts.1 counts.0 n n' (piece_holds u (size (block_type E cap)) unit) (piece_holds u (size (block_type E cap')) unit) both) $ split ! $ move ! (1 ∷ []) $
     fpack ! (IsPiece r p at n') (λ _. behind (block_type E cap') b at n') is' $ fpack ! ℕ (λ j. fex (IsPiece r p j n') (λ _. behind (block_type E cap') b j n')) at $ move ! (2 ∷ 1 ∷ 0 ∷ []) $ fjoin3 ! $
     regoal ! (λ (us : List Val). prop (WpFn 𝓤 H C Λ fn us Post)) (λ i. told i ++ (are.1.0.0 i ++ [])) refl $
     enter ! C Λ fn (buffer_val p ∷ vint w64 cap' ∷ []) Post $

@@ -59,7 +59,7 @@ lend_spec 𝓤 𝓛 𝓜 𝓡 wired =
     let start : Ptr = block_ptr b r.start in
     let told : vss.0 ≡ list_val start ∷ [] = (list_told x.base vss.0 are.0.0).0 ∙ ap (λ (p : Ptr). list_val p ∷ []) x.placed.0 in
     let k = n / 16 - 1 in
-    let Asked : Type 0 = IsRun x.free i₀ (n / 16) true × (64 ≤ n) × (n % 16 ≡ 0) in
+    let Asked : Type 0 = IsRun x.free i₀ (n / 16) true × (16 ≤ n) × (n % 16 ≡ 0) in
     qed 𝓛 (Owned ∷ raw (fact 𝓤 Asked) ∷ []) ∵ move ! (1 ∷ []) $ heard ! Asked (λ asked. split ! $ move ! (1 ∷ []) $
     let pre : List Bool = asked.0.0.0 in let post : List Bool = asked.0.0.1 in
     let many : n / 16 ≡ suc k = omega (arith, asked.1) in
