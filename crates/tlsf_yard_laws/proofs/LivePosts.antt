@@ -43,30 +43,10 @@ not_taken map own name false e ne some = some
 
 stays : (map : Contents) (name : Name) (call : heap.Call) (answer : heap.Answer) → Spares name call answer → IsSome (map name) → IsSome (after map call answer name)
 stays map name (heap.Allocate len) (heap.Allocated (Ok own)) spares some = given_bytes (is_same own name) (replicate len 0) (map name) some
-stays map name (heap.Allocate len) (heap.Allocated (Err why)) spares some = some
-stays map name (heap.Allocate len) (heap.Released r) spares some = some
-stays map name (heap.Allocate len) (heap.Written r) spares some = some
-stays map name (heap.Allocate len) (heap.Resized r) spares some = some
-stays map name (heap.Allocate len) (heap.Got r) spares some = some
 stays map name (heap.Write own at bytes) (heap.Written (Ok done)) spares some = new_bytes map own name (λ old. heap.overwritten old at bytes) (is_same own name) refl some
-stays map name (heap.Write own at bytes) (heap.Written (Err why)) spares some = some
-stays map name (heap.Write own at bytes) (heap.Allocated r) spares some = some
-stays map name (heap.Write own at bytes) (heap.Released r) spares some = some
-stays map name (heap.Write own at bytes) (heap.Resized r) spares some = some
-stays map name (heap.Write own at bytes) (heap.Got r) spares some = some
 stays map name (heap.Resize own len) (heap.Resized (Ok done)) spares some = new_bytes map own name (λ old. heap.fitted old len) (is_same own name) refl some
-stays map name (heap.Resize own len) (heap.Resized (Err why)) spares some = some
-stays map name (heap.Resize own len) (heap.Allocated r) spares some = some
-stays map name (heap.Resize own len) (heap.Released r) spares some = some
-stays map name (heap.Resize own len) (heap.Written r) spares some = some
-stays map name (heap.Resize own len) (heap.Got r) spares some = some
 stays map name (heap.Release own) (heap.Released (Ok done)) spares some = not_taken map own name (is_same own name) refl spares some
-stays map name (heap.Release own) (heap.Released (Err why)) spares some = some
-stays map name (heap.Release own) (heap.Allocated r) spares some = some
-stays map name (heap.Release own) (heap.Written r) spares some = some
-stays map name (heap.Release own) (heap.Resized r) spares some = some
-stays map name (heap.Release own) (heap.Got r) spares some = some
-stays map name (heap.Read own at n) answer spares some = some
+stays map name call answer spares some = some
 
 -- one call leaves it live
 call_spares : (sli : ℕ) (h : HeapState) (call : heap.Call) (name : Name) → IsLawful h → IsLive h name → Spares name call (heap.answered sli h call).0 → IsLive (heap.answered sli h call).1 name
@@ -82,10 +62,6 @@ SparesIn j made name e = e.worker ≡ j → (own : Name) → call_on_own made e.
 
 spares_call : (sli : ℕ) (h : HeapState) (call : heap.Call) (name : Name) (a : Option heap.Answer) → handed_on (heap.answered sli h call).0 ∷ [] ≡ cons_option a []
     → ((own : Name) → call ≡ heap.Release own → a ≡ Some (heap.Released (Ok tt)) → own ≢ name) → Spares name call (heap.answered sli h call).0
-spares_call sli h (heap.Allocate len) name a told spares = tt
-spares_call sli h (heap.Write own at bytes) name a told spares = tt
-spares_call sli h (heap.Resize own len) name a told spares = tt
-spares_call sli h (heap.Read own at n) name a told spares = tt
 spares_call sli h (heap.Release own) name None told spares = let e : ◌≡◌ {A = List heap.Answer} (heap.Released (heap.released h own).answer ∷ []) [] = told in cc
 spares_call sli h (heap.Release own) name (Some x) told spares =
     let e : heap.Released (heap.released h own).answer ∷ [] ≡ x ∷ [] = told in
@@ -95,6 +71,7 @@ spares_call sli h (heap.Release own) name (Some x) told spares =
     on : (r : Result (Unit {0}) Refusal) → (r ≡ Ok tt → own ≢ name) → Spares name (heap.Release own) (heap.Released r)
     on (Ok done) ne = ne refl
     on (Err why) ne = tt
+spares_call sli h call name a told spares = tt
 
 one_live : {sli : ℕ} (j : ℕ) (made : List (Option Name)) (name : Name) (h g : HeapState) (call : Option heap.Call) (a : Option heap.Answer) → IsLawful h → IsLive h name
     → ((own : Name) → call ≡ Some (heap.Release own) → a ≡ Some (heap.Released (Ok tt)) → own ≢ name) → RunsTo sli h (cons_option call []) (cons_option a []) g → IsLive g name

@@ -154,7 +154,8 @@ module _ {sli : ℕ} (carrier : Carrier) (level : IsLevel sli) (w v : World sli)
   modest_call : (before later : List Entry) (e : Entry) (c : heap.Call) → record_of records j ≡ before ++ e ∷ later → call_on_own (made j) e.worker e.call e.reply ≡ Some c
       → IsModest (most + most_under_way carrier w) len (held_after_all 0 (all_calls before) (all_answers before)) c
   modest_call before later e (heap.Allocate n) whole is =
-      let s = (sparing before e (later, whole)).0 n (allocate_asks (made j) e.worker e.call e.reply n is) in
+      let asked = (sparing before e (later, whole)).0 n (allocate_asks (made j) e.worker e.call e.reply n is) in
+      let s = asked.1 in
       let now = history before (e ∷ later) whole in
       let live = ledger_after_all [] (all_calls before) (all_answers before) in
       let agrees : Agrees now.0 live = past_agrees level j words first (all_calls before) (all_answers before) now.0 now.1 four in
@@ -162,7 +163,7 @@ module _ {sli : ℕ} (carrier : Carrier) (level : IsLevel sli) (w v : World sli)
       let ps = all_under_way j s.moment.under_way (length w.heaps) in
       let count : length live ≤ length (unreleased live ps) + length ps = unreleased_few now.0 live ps agrees in
       let away : length ps ≤ most_under_way carrier w = under_way carrier s.moment.under_way s.moment.short in
-      (s.short, omega (arith, held, count, away, s.few))
+      (asked.0, omega (arith, held, count, away, s.few))
     where
       under_way : (carrier : Carrier) (lanes : ℕ → List Post) → IsShort carrier w j lanes → length (all_under_way j lanes (length w.heaps)) ≤ most_under_way carrier w
       under_way OverQueues lanes short = short

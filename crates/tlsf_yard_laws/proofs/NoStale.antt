@@ -106,21 +106,7 @@ post_gives : (j : ℕ) (made : List (Option Name)) (e : Entry) (p : Post) (call 
 post_gives j made e p (Release target) Posted c r is =
     let n = named_post j e.worker made target (name_of made target) p is in
     record { gives = record { target = target; call = c; means = n.0; reply = inr r }; reply = r; heap = n.1 }
-post_gives j made e p (Release target) (Made name) c r is = cc
-post_gives j made e p (Release target) Freed c r is = cc
-post_gives j made e p (Release target) (Wrote n) c r is = cc
-post_gives j made e p (Release target) (Got bytes) c r is = cc
-post_gives j made e p (Release target) Resized c r is = cc
-post_gives j made e p (Release target) (Taken t) c r is = cc
-post_gives j made e p (Release target) Empty c r is = cc
-post_gives j made e p (Release target) (Drained n) c r is = cc
-post_gives j made e p (Release target) (Refused why) c r is = cc
-post_gives j made e p (Allocate len) reply c r is = cc
-post_gives j made e p (Write target from bytes) reply c r is = cc
-post_gives j made e p (Read target from n) reply c r is = cc
-post_gives j made e p (Resize target len) reply c r is = cc
-post_gives j made e p (Take from) reply c r is = cc
-post_gives j made e p (Drain most) reply c r is = cc
+post_gives j made e p call reply c r is = cc
 
 -- the post that a take of worker j took, in its poster's record
 record Poster {sli : ℕ} (w : World sli) (made : ℕ → List (Option Name)) (records : List (List Entry)) (j from : ℕ) (b : List Entry) (name : Name) : Type 0 where

@@ -12,7 +12,7 @@ use Rattle.tlsf_calls.specs.declared.call.Call.TheVariants.{Allocate, Release, W
 use Rattle.tlsf_calls.specs.declared.crew_refusal.CrewRefusal.TheVariants.{Stranger}
 use Rattle.tlsf_calls.specs.declared.entry.Entry.{Entry}
 use Rattle.tlsf_calls.specs.declared.reply.Reply.{Reply}
-use Rattle.tlsf_calls.specs.declared.reply.Reply.TheVariants.{Made, Freed, Posted, Wrote, Got, Resized, Took as Taken, Empty, Drained, Refused}
+use Rattle.tlsf_calls.specs.declared.reply.Reply.TheVariants.{Took as Taken, Drained, Refused}
 use Rattle.tlsf_crew.specs.model.QueueTold.{MayTellQueue, MayTellQueueAll, IsFromOther, told_reply, told_takes}
 use Rattle.tlsf_crew.specs.race_laws.Alone.{TakesNoPost}
 use Rattle.tlsf_crew.specs.scripts.Scripts.{last_call, script_of}
@@ -45,16 +45,8 @@ refused_take x at k from e far is = ap (λ (y : Entry). post_of_take k y.call y.
 ]
   where
     not_from : (k from : ℕ) (reply : Reply) → from ≢ k → post_of_take k (Take from) reply ≡ None
-    not_from k from (Made name) ne = refl
-    not_from k from Freed ne = refl
-    not_from k from Posted ne = refl
-    not_from k from (Wrote n) ne = refl
-    not_from k from (Got bytes) ne = refl
-    not_from k from Resized ne = refl
     not_from k from (Taken t) ne = let b : (from == k) ≡ false = grind (arith, nat_tests) in rw b refl
-    not_from k from Empty ne = refl
-    not_from k from (Drained n) ne = refl
-    not_from k from (Refused why) ne = refl
+    not_from k from reply ne = refl
 
 -- a call takes none from there
 abbrev pub Away : ℕ → ℕ → ℕ → Type 0

@@ -29,7 +29,7 @@ use Rattle.tlsf_calls.specs.declared.call.Call.{Call}
 use Rattle.tlsf_calls.specs.declared.call.Call.TheVariants.{Allocate, Release, Write, Read, Resize, Take, Drain}
 use Rattle.tlsf_calls.specs.declared.target.Target.{Target}
 use Rattle.tlsf_calls.specs.declared.reply.Reply.{Reply}
-use Rattle.tlsf_calls.specs.declared.reply.Reply.TheVariants.{Made, Freed, Posted, Wrote, Got, Resized, Took as Taken, Empty, Drained, Refused}
+use Rattle.tlsf_calls.specs.declared.reply.Reply.TheVariants.{Took as Taken}
 use Rattle.tlsf_crew.proofs.lemmas.histories.JoinedEntries.{told_other, told_own, told_then}
 use Rattle.tlsf_yard_laws.specs.Sharing.{AreSparing, IsSparing, unreleased_after, with_call, without_post}
 use Rattle.tlsf_yard_laws.proofs.Told.{noted_same, served_on}
@@ -173,26 +173,12 @@ no_post p e = cc
 
 -- an entry that takes a post tells the release of its name
 take_asks : (made : List (Option Name)) (i at : ℕ) (call : Call) (reply : Reply) (p : Post) → post_of_take i call reply ≡ Some p → call_on_own made at call reply ≡ Some (heap.Release p.name)
-take_asks made i at (Allocate len) reply p e = absurd (no_post p e)
-take_asks made i at (Release target) reply p e = absurd (no_post p e)
-take_asks made i at (Write target from bytes) reply p e = absurd (no_post p e)
-take_asks made i at (Read target from n) reply p e = absurd (no_post p e)
-take_asks made i at (Resize target len) reply p e = absurd (no_post p e)
-take_asks made i at (Take from) (Made name) p e = absurd (no_post p e)
-take_asks made i at (Take from) Freed p e = absurd (no_post p e)
-take_asks made i at (Take from) Posted p e = absurd (no_post p e)
-take_asks made i at (Take from) (Wrote n) p e = absurd (no_post p e)
-take_asks made i at (Take from) (Got chunk) p e = absurd (no_post p e)
-take_asks made i at (Take from) Resized p e = absurd (no_post p e)
 take_asks made i at (Take from) (Taken t) p e = on (from == i) e
   where
     on : (c : Bool) → cond c (Some (record { from = t.from; name = t.name })) None ≡ Some p → ◌≡◌ {A = Option heap.Call} (Some (heap.Release t.name)) (Some (heap.Release p.name))
     on true e = let same : ◌≡◌ {A = Post} (record { from = t.from; name = t.name }) p = cc in ap (λ (post : Post). Some (heap.Release post.name)) same
     on false e = absurd (no_post p e)
-take_asks made i at (Take from) Empty p e = absurd (no_post p e)
-take_asks made i at (Take from) (Drained n) p e = absurd (no_post p e)
-take_asks made i at (Take from) (Refused why) p e = absurd (no_post p e)
-take_asks made i at (Drain most) reply p e = absurd (no_post p e)
+take_asks made i at call reply p e = absurd (no_post p e)
 
 -- an entry that tells an allocate is one
 pub allocate_asks : (made : List (Option Name)) (at : ℕ) (call : Call) (reply : Reply) (m : ℕ) → call_on_own made at call reply ≡ Some (heap.Allocate m) → call ≡ Allocate m
@@ -304,10 +290,8 @@ module _ (sli : ℕ) (level : IsLevel sli) (words most len : ℕ) (region : want
 
   is_modest : (h : HeapState) (c : heap.Call) → Allows h (Some c) → IsModest most len (live_count h) c
   is_modest h (heap.Allocate m) allows = allows.0 m refl
-  is_modest h (heap.Release name) allows = tt
-  is_modest h (heap.Write name at bytes) allows = tt
   is_modest h (heap.Resize name m) allows = allows.1 name m refl
-  is_modest h (heap.Read name at m) allows = tt
+  is_modest h c allows = tt
 
   own_next : (h g : HeapState) (l u : Ledger) (lanes later : ℕ → List Post) (o : Option heap.Call) (a : Option heap.Answer) → RunsTo sli h (cons_option o []) (cons_option a []) g
       → IsShared j n words (want len + 3) h l u lanes → Leaves j lanes later o → Allows h o → h.tick < heap.last_tick → Next j n words (want len + 3) h (with_call u o a) g later (cons_option a [])

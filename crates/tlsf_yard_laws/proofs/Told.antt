@@ -49,12 +49,8 @@ modest most len held (call ∷ calls) (answer ∷ answers) m =
     (m.0, modest most len (held_after held call answer) calls answers (subst (λ (n : ℕ). AreModest most len n calls (map handed_on answers)) (held_same held call answer) m.1))
 
 room_same : (answer : Answer) → HasRoomFor answer → HasRoomFor (handed_on answer)
-room_same (Allocated r) room = room
-room_same (Released r) room = room
-room_same (Written r) room = room
-room_same (Resized r) room = room
 room_same (Got (Ok bytes)) room = λ e. cc
-room_same (Got (Err why)) room = room
+room_same answer room = room
 
 all_room : (answers : List Answer) → AllByRecursion HasRoomFor answers → AllByRecursion HasRoomFor (map handed_on answers)
 all_room [] all = tt
@@ -80,12 +76,8 @@ all_after bytes (call ∷ calls) (answer ∷ answers) =
 
 -- an answer as it is handed on serves, and is noted in a ledger, as the heap's own
 pub served_on : (answer : Answer) → IsServed answer → IsServed (handed_on answer)
-served_on (Allocated r) s = s
-served_on (Released r) s = s
-served_on (Written r) s = s
-served_on (Resized r) s = s
 served_on (Got (Ok bytes)) s = tt
-served_on (Got (Err why)) s = s
+served_on answer s = s
 
 pub noted_same : (l : Ledger) (call : Call) (answer : Answer) → ledger_after l call (handed_on answer) ≡ ledger_after l call answer
 noted_same l call (Allocated r) = refl

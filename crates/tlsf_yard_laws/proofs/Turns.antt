@@ -203,13 +203,8 @@ module _ (sli : ℕ) (level : IsLevel sli) (made : List (Option Name)) (n j capa
       none_post p e = cc
 
       quiet_far : (at : ℕ) (call : Call) → post_of_release j made at call (Refused Stranger) ≡ None
-      quiet_far at (Allocate len) = refl
       quiet_far at (Release target) = refl
-      quiet_far at (Write target from bytes) = refl
-      quiet_far at (Read target from k) = refl
-      quiet_far at (Resize target len) = refl
-      quiet_far at (Take from) = refl
-      quiet_far at (Drain most) = refl
+      quiet_far at call = refl
 
   turn : (r : Replayed sli) (e : Event) → Before r → Knows made r.made → Turn r (after r e)
   turn r e b known = elim (cases_lt e.worker (length r.world.heaps)) [

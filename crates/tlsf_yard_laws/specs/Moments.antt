@@ -62,18 +62,17 @@ OrdersHaveMoments sli carrier = (w : World sli) (made : ℕ → List (Option Nam
 abbrev pub unreleased : Ledger → List Post → Ledger
 unreleased live posts = fold (λ ledger post. without_post ledger (Some post)) live posts
 
--- a request of worker j, of n bytes where these blocks of its heap are live, is for at most `len`, and fewer than `most` of them are
--- held by the programs at some moment that the records admit
-pub record IsSparingNow {sli : ℕ} (carrier : Carrier) (w : World sli) (made : ℕ → List (Option Name)) (records : List (List Entry)) (j most len : ℕ) (before : List Entry) (live : Ledger) (n : ℕ) : Type 0 where
-  pub short : n ≤ len
+-- where worker j had been told the entries `before` and these blocks of its heap are live, the programs hold fewer than `most` of them at
+-- some moment that the records admit
+pub record IsSparingNow {sli : ℕ} (carrier : Carrier) (w : World sli) (made : ℕ → List (Option Name)) (records : List (List Entry)) (j most : ℕ) (before : List Entry) (live : Ledger) : Type 0 where
   pub moment : Moment carrier w made records j before
   pub few : length (unreleased live (all_under_way j moment.under_way (length w.heaps))) < most
 
--- so is each request in its record, behind earlier calls on its heap; and it resizes blocks to at most `len` bytes
+-- so it is at each request in its record, behind earlier calls on its heap; and it asks for blocks of at most `len` bytes and resizes them to no more
 abbrev pub AreSparingInRace : {sli : ℕ} (carrier : Carrier) (w : World sli) → (ℕ → List (Option Name)) → List (List Entry) → (j most len : ℕ) → List heap.Call → List heap.Answer → Type 0
 AreSparingInRace carrier w made records j most len calls answers = (before : List Entry) (e : Entry) → StandsBehind (record_of records j) before e
     → ((n : ℕ) → e.call ≡ Allocate n
-    → IsSparingNow carrier w made records j most len before (ledger_after_all [] (calls ++ calls_on j (made j) before) (answers ++ answers_on j before)) n)
+    → (n ≤ len) × IsSparingNow carrier w made records j most before (ledger_after_all [] (calls ++ calls_on j (made j) before) (answers ++ answers_on j before)))
     × ((target : Target) (n : ℕ) → e.call ≡ Resize target n → n ≤ len)
 
 -- a heap with room for what the programs hold and for what may be under way serves each request of its worker, while the ticks last

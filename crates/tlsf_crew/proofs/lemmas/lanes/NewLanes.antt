@@ -59,14 +59,42 @@ end_laid P old new i j e here others own before x y q is =
       | inr xi ↦ other (λ f _. xi f)
     ]
 
+-- worker i got its end to put into a new lane to worker j, and worker j then its end to take from it
+pub record LaneGiven {sli : ℕ} (ws : List (Worker sli Lanes)) (n capacity i j : ℕ) (v w : Worker sli Lanes) : Type 0 where
+  pub near : (i < n) × (j < n) × (i ≢ j)
+  pub poster : Worker sli Lanes
+  pub taker : Worker sli Lanes
+  pub post : PostEnd
+  pub take : TakeEnd
+  pub poster_is : slice_get ws i ≡ Some poster
+  pub posts : v.ports.posts.items ≡ set poster.ports.posts.items j (Some post)
+  pub poster_same : (v.heap ≡ poster.heap) × (id_and_capacity v ≡ id_and_capacity poster) × (v.ports.takes ≡ poster.ports.takes)
+  pub taker_is : slice_get (set ws i v) j ≡ Some taker
+  pub takes : w.ports.takes.items ≡ set taker.ports.takes.items i (Some take)
+  pub taker_same : (w.heap ≡ taker.heap) × (id_and_capacity w ≡ id_and_capacity taker) × (w.ports.posts ≡ taker.ports.posts)
+  pub lane : IsLane post take
+  pub size : (capacity_of post ≡ capacity) × (free_slots post ≡ capacity)
+  pub unsent : posts_sent post ≡ []
+  pub untaken : (waited take ≡ []) × (taken take ≡ []) × (ready take ≡ [])
+
 -- one lane more
-pub lane_laid : {sli : ℕ} (ws : List (Worker sli Lanes)) (n words capacity i j : ℕ) (a v b w : Worker sli Lanes) (p : PostEnd) (t : TakeEnd)
-    → IsLaid ws n words capacity i j → i < n → j < n → i ≢ j
-    → slice_get ws i ≡ Some a → v.ports.posts.items ≡ set a.ports.posts.items j (Some p) → (v.heap ≡ a.heap) × (id_and_capacity v ≡ id_and_capacity a) × (v.ports.takes ≡ a.ports.takes)
-    → slice_get (set ws i v) j ≡ Some b → w.ports.takes.items ≡ set b.ports.takes.items i (Some t) → (w.heap ≡ b.heap) × (id_and_capacity w ≡ id_and_capacity b) × (w.ports.posts ≡ b.ports.posts)
-    → IsLane p t → capacity_of p ≡ capacity → free_slots p ≡ capacity → posts_sent p ≡ [] → (waited t ≡ []) × (taken t ≡ []) × (ready t ≡ [])
+pub lane_laid : {sli : ℕ} (ws : List (Worker sli Lanes)) (n words capacity i j : ℕ) (v w : Worker sli Lanes) → IsLaid ws n words capacity i j → LaneGiven ws n capacity i j v w
     → IsLaid (set (set ws i v) j w) n words capacity i (j + 1)
-lane_laid ws n words capacity i j a v b w p t l i_in j_in ne a_is posts a_same b_is takes b_same lane same_capacity all_free unsent untaken =
+lane_laid ws n words capacity i j v w l g =
+    let a = g.poster in
+    let b = g.taker in
+    let p = g.post in
+    let t = g.take in
+    let ne = g.near.2 in
+    let posts = g.posts in
+    let takes = g.takes in
+    let a_is = g.poster_is in
+    let b_is = g.taker_is in
+    let a_same = g.poster_same in
+    let b_same = g.taker_same in
+    let unsent = g.unsent in
+    let untaken = g.untaken in
+    let near = g.near in
     let us = set ws i v in
     let vs = set us j w in
     let len_u = length-set ws i v in
@@ -100,7 +128,7 @@ lane_laid ws n words capacity i j a v b w p t l i_in j_in ne a_is posts a_same b
             ]
             | inr xi ↦ rw (post_other x y (λ f _. xi f), take_other x y (λ f _. xi f)) (l.empty x y)
           ];
-      free = end_laid (λ q. free_slots q ≡ capacity) (post_at ws) (post_at vs) i j p post_here post_other all_free l.free;
+      free = end_laid (λ q. free_slots q ≡ capacity) (post_at ws) (post_at vs) i j p post_here post_other g.size.1 l.free;
       fresh = record {
         sent = end_laid (λ q. posts_sent q ≡ []) (post_at ws) (post_at vs) i j p post_here post_other unsent l.fresh.sent;
         taken = end_laid (λ u. (waited u ≡ []) × (taken u ≡ []) × (ready u ≡ [])) (take_at ws) (take_at vs) i j t second.here take_other untaken l.fresh.taken;
@@ -109,7 +137,7 @@ lane_laid ws n words capacity i j a v b w p t l i_in j_in ne a_is posts a_same b
       laid = λ x y x_in y_in apart before.
           elim (cases_eq x i) [
             | inl xi ↦ elim (cases_eq y j) [
-              | inl yj ↦ rw (xi, yj) (p, t, post_here, second.here, lane, same_capacity)
+              | inl yj ↦ rw (xi, yj) (p, t, post_here, second.here, g.lane, g.size.0)
               | inr yj ↦ let h = l.laid x y x_in y_in apart (before_more i j x y before (λ _ f. yj f)) in
                   (h.0, h.1, post_other x y (λ _ f. yj f) ∙ h.2, take_other x y (λ _ f. yj f) ∙ h.3, h.4, h.5)
             ]

@@ -12,7 +12,7 @@ use Rattle.tlsf_post.specs.Rule.{posts_of}
 use Rattle.tlsf_post.specs.Mailboxes.{got_by, known_to}
 use Rattle.tlsf_calls.specs.declared.entry.Entry.{Entry}
 use Rattle.tlsf_calls.specs.declared.reply.Reply.TheVariants.{Drained}
-use Rattle.tlsf_crew.specs.scripts.Scripts.{last_call, at_stage}
+use Rattle.tlsf_crew.specs.scripts.Scripts.{Stage, last_call}
 use Rattle.tlsf_calls.specs.Entries.{record_of}
 use Rattle.tlsf_crew.specs.model.Sums.{sum_of}
 use Rattle.tlsf_crew.specs.histories.History.{posts_taken, post_of_take}
@@ -30,21 +30,22 @@ use Rattle.tlsf_crew.proofs.lemmas.queues.QueueYards.{all_kept}
 
 -- ---- one worker
 
-pub drained_last : {sli : ℕ} (n : ℕ) (a v : Worker sli Queues) (limits left : List ℕ) (at taken : ℕ) (entries between longer : List Entry) → taken ≤ sum_of limits → sum_of limits < 8192 → at ≡ id_of v
-    → ((made : List (Option Name)) → QueueStepped n (at_stage a limits entries) last_call made (at_stage v left between) (Drained taken)) → queue_end_to v ≡ queue_end_to a
-    → longer ≡ between ++ record { worker = at; call = last_call; reply = Drained taken } ∷ [] → QueueLastDrained n a v entries longer
-drained_last n a v limits left at taken entries between longer few less is step ends more =
+pub drained_last : {sli : ℕ} (n : ℕ) (s t : Stage sli Queues) (at taken : ℕ) (longer : List Entry) → taken ≤ sum_of s.limits → sum_of s.limits < 8192 → at ≡ id_of t.worker
+    → ((made : List (Option Name)) → QueueStepped n s last_call made t (Drained taken)) → queue_end_to t.worker ≡ queue_end_to s.worker
+    → longer ≡ t.entries ++ entry_by at last_call (Drained taken) ∷ [] → QueueLastDrained n s.worker t.worker s.entries longer
+drained_last n s t at taken longer few less is step ends more =
+    let a = s.worker in
     let x = step [] in
     let m = x.moved [] in
     let id : at ≡ id_of a = is ∙ m.yard.number in
     let z = entry_by (id_of a) last_call (Drained taken) in
-    let g : longer ≡ between ++ z ∷ [] = more ∙ ap (λ (i : ℕ). between ++ entry_by i last_call (Drained taken) ∷ []) id in
+    let g : longer ≡ t.entries ++ z ∷ [] = more ∙ ap (λ (i : ℕ). t.entries ++ entry_by i last_call (Drained taken) ∷ []) id in
     record {
       own = x.own ++ z ∷ [];
-      entries_are = g ∙ (ap (λ l. l ++ z ∷ []) x.entries_are ∙ append_assoc entries x.own (z ∷ []));
+      entries_are = g ∙ (ap (λ l. l ++ z ∷ []) x.entries_are ∙ append_assoc s.entries x.own (z ∷ []));
       told = λ made. let y = step made in rw g y.told;
-      limits = limits;
-      left = left;
+      limits = s.limits;
+      left = t.limits;
       moved = λ made. x.moved made;
       all = λ i.
           let at_end = m.drained x.own z 8192 taken ([], refl) refl refl (omega arith) i in

@@ -11,10 +11,24 @@ returns g c =
     let us = set c.args.workers.now c.args.i c.set_post_end.new.worker in
     let n = length-set c.args.workers.now c.args.i c.set_post_end.new.worker in
     let j_in : c.args.j < length us = omega (arith, c.requires.inside.1) in
-    lane_laid c.args.workers.now _ _ _ _ _ _ _ _ _ c.in_ok-post.post c.in_ok-post.take c.requires.laid c.requires.inside.0 c.requires.inside.1 c.requires.apart
-    (slice_get-get_or c.args.workers.now c.args.i c.index-workers-i.result c.requires.inside.0) c.set_post_end.ensures.posts c.set_post_end.ensures.same
-    (slice_get-get_or us c.args.j c.index-workers-j.result j_in) c.set_take_end.ensures.takes c.set_take_end.ensures.same
-    c.in_ok-post.ensures.lane c.in_ok-post.ensures.post.2 c.in_ok-post.ensures.post.1 c.in_ok-post.ensures.post.0 c.in_ok-post.ensures.take
+    let e = c.in_ok-post.ensures in
+    lane_laid c.args.workers.now _ _ _ _ _ _ _ c.requires.laid (record {
+      near = (c.requires.inside.0, c.requires.inside.1, c.requires.apart);
+      poster = get_or c.args.workers.now c.args.i c.index-workers-i.result;
+      taker = get_or us c.args.j c.index-workers-j.result;
+      post = c.in_ok-post.post;
+      take = c.in_ok-post.take;
+      poster_is = slice_get-get_or c.args.workers.now c.args.i c.index-workers-i.result c.requires.inside.0;
+      posts = c.set_post_end.ensures.posts;
+      poster_same = c.set_post_end.ensures.same;
+      taker_is = slice_get-get_or us c.args.j c.index-workers-j.result j_in;
+      takes = c.set_take_end.ensures.takes;
+      taker_same = c.set_take_end.ensures.same;
+      lane = e.lane;
+      size = (e.post.2, e.post.1);
+      unsent = e.post.0;
+      untaken = e.take;
+    })
 
 pub set_post_end-requires : goal.set_post_end-requires
 set_post_end-requires g c = (
