@@ -10,6 +10,8 @@ pub mod OwnReplies
 pub mod QueueTold
 -- Sums over numbers, and how many posts wait in a world.
 pub mod Sums
+-- The name that the target of a call means.
+pub mod Targets
 -- What a worker is told by its calls, one after another.
 pub mod Told
 -- The world that a yard shows, and one step of it.

@@ -1,10 +1,11 @@
 //! Events, one after another.
-ghost use Rattle.std.specs.Prelude.{◌≡◌, ◌≢◌, ℕ, ◌+◌, ◌*◌, ◌<◌, ◌≤◌, length, Some, vec_len, vec_capacity, IfOk, OnOk, OnErr};
+ghost use Rattle.std.specs.Prelude.{◌≡◌, ◌≢◌, ℕ, ◌+◌, ◌*◌, ◌<◌, ◌≤◌, length, List, Option, Some, vec_len, vec_capacity, IfOk, OnOk, OnErr};
 ghost use Rattle.tlsf_heap.specs.declared.name.Name.{Name};
 ghost use Rattle.tlsf_crew.specs.model.Sums.{sum_below, waiting_count};
 ghost use Rattle.tlsf_crew.specs.scripts.Counts.{releases_in, entry_room};
 ghost use Rattle.tlsf_crew.specs.lanes.Yard.{IsYard, waits_in, world_of};
 ghost use Rattle.tlsf_crew.specs.model.World.{after, replies, replies_behind};
+ghost use Rattle.tlsf_crew.specs.model.Targets.{target_name};
 ghost use Rattle.tlsf_crew.specs.fair_runs.FairRuns.{IsFairRun, NoneStale, WaitLive};
 ghost use Rattle.tlsf_crew.specs.lanes.Settle.{LaneSettled};
 ghost use Rattle.tlsf_crew.specs.replays.ReplaySteps.{replay_of, Concerns, AreLimits, IsReplied};
@@ -13,7 +14,7 @@ use crate::lanes::pairs::settle_lane;
 use crate::lanes::settle::{settle, settle_column};
 use crate::scripts::executor::{answer, reply_to};
 use crate::scripts::journal::Journal;
-use crate::scripts::own_replies::named;
+use crate::scripts::own_replies::target_name;
 use crate::scripts::room::{count_each, room_for};
 use crate::worker::worker::Worker;
 use std::alloc::Global;
@@ -48,17 +49,18 @@ fn settle_named<const SLI: u32>(workers: &mut [Worker<SLI>], at: usize, name: Op
     }
 }
 
-/// Settles the lanes that an event concerns. Answers how many posts the worker may take then from each other one: all
+/// Settles the lanes that an event concerns whose target means this name. Answers how many posts the worker may take then from each other one: all
 /// that wait, where it takes any.
 #[inline(always)]
 fn settle_for<const SLI: u32>(
     workers: &mut [Worker<SLI>],
     event: Event,
-    made: &[Option<Name>],
+    name: Option<Name>,
 ) -> [u64; 8]
     requires yard { IsYard workers.old }
     requires inside { event.worker < length workers.old }
-    ensures settled { (i j : ℕ) → i < length workers.old → j < length workers.old → i ≢ j → Concerns made.now event i j → LaneSettled workers.old workers.new i j }
+    ensures settled { (made : List (Option Name)) → target_name made event.call ≡ name → (i j : ℕ) → i < length workers.old → j < length workers.old → i ≢ j → Concerns made event i j
+        → LaneSettled workers.old workers.new i j }
     ensures yard { IsYard workers.new }
     ensures count { length workers.new ≡ length workers.old }
     ensures world { world_of workers.new ≡ world_of workers.old }
@@ -66,8 +68,8 @@ fn settle_for<const SLI: u32>(
 {
     let at = event.worker as usize;
     match event.call {
-        Call::Release { target } => {
-            settle_named(workers, at, named(target, made));
+        Call::Release { .. } => {
+            settle_named(workers, at, name);
             [0; 8]
         }
         Call::Take { .. } | Call::Drain { .. } => {
@@ -81,24 +83,25 @@ fn settle_for<const SLI: u32>(
     }
 }
 
-/// Makes the call of an event by a worker of the yard, with the lanes settled before and after. A drain writes its
-/// takes; the event's own entry is still to come.
+/// Makes the call of an event by a worker of the yard, whose target means this name, with the lanes settled before and after.
+/// A drain writes its takes; the event's own entry is still to come.
 pub(crate) fn reply_in_yard<const SLI: u32>(
     workers: &mut [Worker<SLI>],
     event: Event,
-    made: &[Option<Name>],
+    name: Option<Name>,
     journal: &mut Journal,
 ) -> Reply
     requires yard { IsYard workers.old }
     requires inside { event.worker < length workers.old }
     requires room { vec_len journal.old.entries + sum_below 8 (λ i. length (waits_in workers.old i event.worker)) ≤ vec_capacity journal.old.entries }
-    ensures replied { IsReplied (replay_of made.now journal.old.entries.items workers.old) event journal.new.entries.items workers.new result }
+    requires meant { (made : List (Option Name)) × (target_name made event.call ≡ name) }
+    ensures replied { (made : List (Option Name)) → target_name made event.call ≡ name → IsReplied (replay_of made journal.old.entries.items workers.old) event journal.new.entries.items workers.new result }
     ensures capacity { vec_capacity journal.new.entries ≡ vec_capacity journal.old.entries }
 {
-    journal.limits = settle_for(workers, event, made);
+    journal.limits = settle_for(workers, event, name);
     let worker = &mut workers[event.worker as usize];
-    let reply = reply_to(worker, &(), journal, event.call, made);
-    settle_for(workers, event, made);
+    let reply = reply_to(worker, &(), journal, event.call, name);
+    settle_for(workers, event, name);
     reply
 }
 
@@ -123,7 +126,8 @@ fn run_event<const SLI: u32>(
         answer(event, stranger, made, &mut journal.entries);
         return;
     }
-    let reply = reply_in_yard(workers, event, made, journal);
+    let name = target_name(event.call, made);
+    let reply = reply_in_yard(workers, event, name, journal);
     answer(event, reply, made, &mut journal.entries);
 }
 

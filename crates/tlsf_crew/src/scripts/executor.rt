@@ -3,20 +3,22 @@ ghost use Rattle.std.specs.Prelude.{◌≡◌, ℕ, ◌+◌, ◌<◌, [], ◌∷
 ghost use Rattle.tlsf_heap.specs.declared.name.Name.{Name};
 ghost use Rattle.tlsf_calls.specs.declared.call.Call.TheVariants.{Release, Take};
 ghost use Rattle.tlsf_calls.specs.declared.entry.Entry.{Entry};
-ghost use Rattle.tlsf_crew.specs.model.World.{made_by};
+ghost use Rattle.tlsf_calls.specs.declared.target.Target.{Target};
+ghost use Rattle.tlsf_crew.specs.model.World.{made_by, name_of};
+ghost use Rattle.tlsf_crew.specs.model.Targets.{target_name};
 ghost use Rattle.tlsf_crew.specs.model.Sums.{sum_of};
 ghost use Rattle.tlsf_crew.specs.scripts.Journals.{HasTakePlaces};
 ghost use Rattle.tlsf_crew.specs.scripts.Scripts.{CallMade, at_stage, stage_of, reply_released};
 
 use crate::scripts::journal::Journal;
 use crate::scripts::own_replies::{
-    named, reply_to_own_allocate, reply_to_own_read, reply_to_own_resize, reply_to_own_write,
+    reply_to_own_allocate, reply_to_own_read, reply_to_own_resize, reply_to_own_write, target_name,
 };
 use crate::scripts::scripted::Scripted;
 use crate::worker::notes::Notes;
 use crate::worker::ports::Ports;
 use crate::worker::worker::{Worker, drain_each, release, take_next};
-use tlsf_calls::{Call, CrewRefusal, Entry, Event, Released, Reply, Target};
+use tlsf_calls::{Call, CrewRefusal, Entry, Event, Released, Reply};
 use tlsf_heap::Name;
 
 /// The name that a reply made.
@@ -61,19 +63,19 @@ fn as_reply(answer: Result<Released, CrewRefusal>) -> Reply
     }
 }
 
-/// Releases what a target means: a block of the own heap, or by a post another's.
+/// Releases what the target meant: a block of the own heap, or by a post another's.
 fn reply_to_release<const SLI: u32, C, P: Scripted<C>>(
     worker: &mut Worker<SLI, P>,
     context: &C,
-    target: Target,
-    made: &[Option<Name>],
+    name: Option<Name>,
 ) -> Reply
-    ensures { (n : ℕ) (limits : List ℕ) (entries : List Entry) → (P.telling SLI).knows n worker.old → P.steps SLI n (at_stage worker.old limits entries) (Release target) made.now (at_stage worker.new limits entries) result }
+    ensures { (n : ℕ) (limits : List ℕ) (target : Target) (made : List (Option Name)) (entries : List Entry) → name_of made target ≡ name → (P.telling SLI).knows n worker.old
+        → P.steps SLI n (at_stage worker.old limits entries) (Release target) made (at_stage worker.new limits entries) result }
 {
     P::heap_keeps();
     P::quiet_step();
     P::posts_step();
-    let Some(name) = named(target, made) else {
+    let Some(name) = name else {
         return Reply::Refused(CrewRefusal::Unmade);
     };
     as_reply(release(worker, context, name))
@@ -117,18 +119,19 @@ fn reply_to_take<const SLI: u32, C, P: Scripted<C>>(
     Reply::Took(took)
 }
 
-/// Makes one call, and answers the reply. A drain's takes get their entries here, the call gets its own later.
+/// Makes one call, whose target means this name, and answers the reply. A drain's takes get their entries here, the call
+/// gets its own later.
 #[inline(always)]
 pub(crate) fn reply_to<const SLI: u32, C, P: Scripted<C>>(
     worker: &mut Worker<SLI, P>,
     context: &C,
     journal: &mut Journal,
     call: Call,
-    made: &[Option<Name>],
+    name: Option<Name>,
 ) -> Reply
     requires room { HasTakePlaces journal.old }
-    ensures stepped { (n : ℕ) → (P.telling SLI).knows n worker.old
-        → P.steps SLI n (stage_of worker.old journal.old) call made.now (stage_of worker.new journal.new) result }
+    ensures stepped { (n : ℕ) (made : List (Option Name)) → target_name made call ≡ name → (P.telling SLI).knows n worker.old
+        → P.steps SLI n (stage_of worker.old journal.old) call made (stage_of worker.new journal.new) result }
     ensures capacity { vec_capacity journal.new.entries ≡ vec_capacity journal.old.entries }
 {
     P::heap_keeps();
@@ -136,10 +139,10 @@ pub(crate) fn reply_to<const SLI: u32, C, P: Scripted<C>>(
     P::drains_step();
     match call {
         Call::Allocate { len } => reply_to_own_allocate(worker, len),
-        Call::Release { target } => reply_to_release(worker, context, target, made),
-        Call::Write { target, at, bytes } => { reply_to_own_write(worker, target, at, bytes, made) }
-        Call::Read { target, at, n } => reply_to_own_read(worker, target, at, n, made),
-        Call::Resize { target, len } => reply_to_own_resize(worker, target, len, made),
+        Call::Release { .. } => reply_to_release(worker, context, name),
+        Call::Write { at, bytes, .. } => reply_to_own_write(worker, name, at, bytes),
+        Call::Read { at, n, .. } => reply_to_own_read(worker, name, at, n),
+        Call::Resize { len, .. } => reply_to_own_resize(worker, name, len),
         Call::Take { from } => reply_to_take(worker, context, journal, from),
         Call::Drain { most } => Reply::Drained(drain_each(worker, context, most, journal).taken),
     }
@@ -162,7 +165,8 @@ pub(crate) fn run_call<const SLI: u32, C, P: Scripted<C>>(
 {
     P::moves_join();
     P::steps_tell();
-    let reply = reply_to(worker, context, journal, call, made);
+    let name = target_name(call, made);
+    let reply = reply_to(worker, context, journal, call, name);
     let event = Event {
         worker: worker.id,
         call,

@@ -6,15 +6,16 @@ ghost use Rattle.tlsf_crew.specs.worker.Calls.{by_heap};
 ghost use Rattle.tlsf_crew.specs.model.Heaps.{as_chunk, chunk_read};
 ghost use Rattle.tlsf_crew.specs.worker.Workers.{heap_of, SameButHeap};
 ghost use Rattle.tlsf_crew.specs.model.World.{name_of};
+ghost use Rattle.tlsf_crew.specs.model.Targets.{target_name};
 ghost use Rattle.tlsf_crew.specs.model.OwnReplies.{HeapReplies, own_allocating, own_writing, own_reading, own_resizing};
 
 use crate::worker::ports::Ports;
 use crate::worker::worker::Worker;
-use tlsf_calls::{Chunk, CrewRefusal, Reply, Target};
+use tlsf_calls::{Call, Chunk, CrewRefusal, Reply, Target};
 use tlsf_heap::{Name, Refusal};
 
 /// The name that a target means.
-pub(crate) fn named(target: Target, made: &[Option<Name>]) -> Option<Name>
+fn named(target: Target, made: &[Option<Name>]) -> Option<Name>
     ensures { result ≡ name_of made.now target }
 {
     match target {
@@ -26,6 +27,19 @@ pub(crate) fn named(target: Target, made: &[Option<Name>]) -> Option<Name>
             None
         }
         Target::Absent => None,
+    }
+}
+
+/// The name that the target of a call means, None where the call has no target or its target means none.
+pub(crate) fn target_name(call: Call, made: &[Option<Name>]) -> Option<Name>
+    ensures { result ≡ target_name made.now call }
+{
+    match call {
+        Call::Release { target }
+        | Call::Write { target, .. }
+        | Call::Read { target, .. }
+        | Call::Resize { target, .. } => named(target, made),
+        Call::Allocate { .. } | Call::Take { .. } | Call::Drain { .. } => None,
     }
 }
 
@@ -44,18 +58,17 @@ pub(crate) fn reply_to_own_allocate<const SLI: u32, P: Ports>(
     }
 }
 
-/// Writes into the block that a target means, from byte `from` of it on.
+/// Writes into the block that the target meant, from byte `from` of it on.
 pub(crate) fn reply_to_own_write<const SLI: u32, P: Ports>(
     worker: &mut Worker<SLI, P>,
-    target: Target,
+    name: Option<Name>,
     from: u32,
     bytes: Chunk,
-    made: &[Option<Name>],
 ) -> Reply
-    ensures replied { HeapReplies result (heap_of worker.new) (own_writing (heap_of worker.old) (name_of made.now target) from (bytes_of bytes)) }
+    ensures replied { HeapReplies result (heap_of worker.new) (own_writing (heap_of worker.old) name from (bytes_of bytes)) }
     ensures same { SameButHeap worker.old worker.new }
 {
-    let Some(name) = named(target, made) else {
+    let Some(name) = name else {
         return Reply::Refused(CrewRefusal::Unmade);
     };
     let list = bytes.as_slice();
@@ -109,18 +122,17 @@ fn read_own_chunk<const SLI: u32, P: Ports>(
     read_own_into(worker, name, from, &mut bytes[..n as usize])
 }
 
-/// Reads `n` bytes of the block that a target means, from byte `from` of it on. More than 64 are refused.
+/// Reads `n` bytes of the block that the target meant, from byte `from` of it on. More than 64 are refused.
 pub(crate) fn reply_to_own_read<const SLI: u32, P: Ports>(
     worker: &mut Worker<SLI, P>,
-    target: Target,
+    name: Option<Name>,
     from: u32,
     n: u32,
-    made: &[Option<Name>],
 ) -> Reply
-    ensures replied { HeapReplies result (heap_of worker.new) (own_reading (heap_of worker.old) (name_of made.now target) from n) }
+    ensures replied { HeapReplies result (heap_of worker.new) (own_reading (heap_of worker.old) name from n) }
     ensures same { SameButHeap worker.old worker.new }
 {
-    let Some(name) = named(target, made) else {
+    let Some(name) = name else {
         return Reply::Refused(CrewRefusal::Unmade);
     };
     match read_own_chunk(worker, name, from, n) {
@@ -129,17 +141,16 @@ pub(crate) fn reply_to_own_read<const SLI: u32, P: Ports>(
     }
 }
 
-/// Resizes the block that a target means, where it stands.
+/// Resizes the block that the target meant, where it stands.
 pub(crate) fn reply_to_own_resize<const SLI: u32, P: Ports>(
     worker: &mut Worker<SLI, P>,
-    target: Target,
+    name: Option<Name>,
     len: u32,
-    made: &[Option<Name>],
 ) -> Reply
-    ensures replied { HeapReplies result (heap_of worker.new) (own_resizing (heap_of worker.old) (name_of made.now target) len) }
+    ensures replied { HeapReplies result (heap_of worker.new) (own_resizing (heap_of worker.old) name len) }
     ensures same { SameButHeap worker.old worker.new }
 {
-    let Some(name) = named(target, made) else {
+    let Some(name) = name else {
         return Reply::Refused(CrewRefusal::Unmade);
     };
     match worker.resize(name, len) {

@@ -1,4 +1,4 @@
-use Rattle.std.proofs.Common.{[], ◌∙◌, ap, arith, vec_capacity}
+use Rattle.std.proofs.Common.{[], ◌∙◌, ap, arith, refl, vec_capacity}
 use Rattle.std.specs.declared.vec.Vec.{Vec}
 use Rattle.std.specs.declared.alloc.Global.{Global}
 use Rattle.tlsf_calls.specs.declared.entry.Entry.{Entry}
@@ -7,7 +7,7 @@ use Rattle.tlsf_crew.proofs.races.race.drain_one.Goals as goal
 
 pub push_reserved-requires : goal.push_reserved-requires
 push_reserved-requires g c =
-    let told = rw c.replace.ensures.value at c.reply_in_yard-reply.ensures.replied in
+    let told = rw c.replace.ensures.value at (c.reply_in_yard-reply.ensures.replied [] refl) in
     let few = last_fits c.args.workers.now c.reply_in_yard-reply.new.workers [] c.args.entries.now.items c.reply_in_yard-reply.new.journal.entries.items c.args.at c.reply_in_yard-reply.result
     c.requires.yard c.requires.few c.requires.inside told in
     let room = c.requires.room in
@@ -24,13 +24,13 @@ returns-clause-capacity g c =
 
 pub returns-clause-told : goal.returns-clause-told
 returns-clause-told g c = λ made.
-    let told = rw c.replace.ensures.value at c.reply_in_yard-reply.ensures.replied in
+    let told = rw c.replace.ensures.value at (c.reply_in_yard-reply.ensures.replied [] refl) in
     rw c.push_reserved.ensures.items (last_told c.args.workers.now c.reply_in_yard-reply.new.workers c.args.entries.now.items c.reply_in_yard-reply.new.journal.entries.items c.args.at c.reply_in_yard-reply.result
     c.requires.inside told made)
 
 pub reply_in_yard-reply-requires : goal.reply_in_yard-reply-requires
 reply_in_yard-reply-requires g c =
-    (omega arith, (c.requires.yard, (c.requires.inside, rw c.replace.ensures.value (omega (arith, c.requires.room)))))
+    (omega arith, (c.requires.yard, (c.requires.inside, (rw c.replace.ensures.value (omega (arith, c.requires.room)), ([], refl)))))
 
 pub returns-clause-yard : goal.returns-clause-yard
-returns-clause-yard g c = c.reply_in_yard-reply.ensures.replied.yard
+returns-clause-yard g c = (c.reply_in_yard-reply.ensures.replied [] refl).yard

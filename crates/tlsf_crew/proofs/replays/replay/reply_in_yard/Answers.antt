@@ -1,6 +1,8 @@
 use Rattle.std.proofs.lemmas.List.{length-set}
-use Rattle.std.proofs.Common.{[], ◌≡◌, ◌∙◌, ◌<◌, ap, sym, arith, length, refl, Some, get_or, slice_get}
+use Rattle.std.proofs.Common.{[], ◌≡◌, ◌∙◌, ◌<◌, ap, sym, arith, length, refl, List, Option, Some, get_or, slice_get}
 use Rattle.std.proofs.lemmas.Option.{slice_get-get_or}
+use Rattle.tlsf_heap.specs.declared.name.Name.{Name}
+use Rattle.tlsf_crew.specs.model.Targets.{target_name}
 use Rattle.tlsf_crew.specs.declared.worker.worker.Worker.{Worker}
 use Rattle.tlsf_crew.specs.declared.worker.lanes.Lanes.{Lanes}
 use Rattle.tlsf_crew.specs.worker.Workers.{id_of}
@@ -16,8 +18,8 @@ reply_to-reply-requires g c =
     let room = c.requires.room in
     (omega arith, omega arith)
 
-run_of : (g : Over) → goal.After-workers-2-1 g → Run g.row.SLI
-run_of g c =
+run_of : (g : Over) (c : goal.After-workers-2-1 g) (made : List (Option Name)) → target_name made c.args.event.call ≡ c.args.name → Run g.row.SLI
+run_of g c made known =
     let vs = c.settle_for-journal.new.workers in
     let e = c.settle_for-journal.ensures in
     let n = e.count in
@@ -30,7 +32,7 @@ run_of g c =
       vs = vs;
       a = a;
       v = c.reply_to-reply.new.worker;
-      made = c.args.made.now;
+      made = made;
       es = c.args.journal.now.entries.items;
       longer = c.reply_to-reply.new.journal.entries.items;
       limits = c.settle_for-journal.result;
@@ -40,7 +42,7 @@ run_of g c =
       yard = e.yard;
       is = ap (slice_get vs) own ∙ is;
       knows = each_knows (length vs) vs refl e.yard c.args.event.worker c.index-workers-event.result lt;
-      step = c.reply_to-reply.ensures.stepped (length vs) (each_knows (length vs) vs refl e.yard c.args.event.worker c.index-workers-event.result lt);
+      step = c.reply_to-reply.ensures.stepped (length vs) made known (each_knows (length vs) vs refl e.yard c.args.event.worker c.index-workers-event.result lt);
     }
 
 pub settle_for-requires : goal.settle_for-requires
@@ -54,7 +56,7 @@ settle_for-requires g c = (
         let lt : c.args.event.worker < length vs = omega arith in
         let a : Worker g.row.SLI Lanes = get_or vs c.args.event.worker c.index-workers-event.result in
         let is : slice_get vs c.args.event.worker ≡ Some a = slice_get-get_or vs c.args.event.worker c.index-workers-event.result lt in
-        let step = c.reply_to-reply.ensures.stepped (length vs) (each_knows (length vs) vs refl e.yard c.args.event.worker c.index-workers-event.result lt) in
+        let step = c.reply_to-reply.ensures.stepped (length vs) c.requires.meant.0 c.requires.meant.1 (each_knows (length vs) vs refl e.yard c.args.event.worker c.index-workers-event.result lt) in
         let m = step.step.moved [] in
         m.yard vs c.args.event.worker is e.yard,
     let vs = c.settle_for-journal.new.workers in
@@ -66,7 +68,7 @@ settle_for-requires g c = (
 
 pub returns-clause-replied : goal.returns-clause-replied
 unfolding run_of
-returns-clause-replied g c =
+returns-clause-replied g c = λ made known.
     let vs = c.settle_for-journal.new.workers in
     let e = c.settle_for-journal.ensures in
     let f = c.settle_for.ensures in
@@ -76,8 +78,8 @@ returns-clause-replied g c =
     let a : Worker g.row.SLI Lanes = get_or vs c.args.event.worker c.index-workers-event.result in
     let is : slice_get vs c.args.event.worker ≡ Some a = slice_get-get_or vs c.args.event.worker c.index-workers-event.result lt in
     let own : id_of a ≡ c.args.event.worker = own_number vs c.args.event.worker a e.yard is in
-    let s = settles (run_of g c) c.args.workers.now c.settle_for.new.workers c.args.event.worker own e.count e.settled f.settled (λ may i t near q. e.limits.all may i t near q) f.yard f.count f.world in
-    replied (run_of g c) c.args.workers.now c.settle_for.new.workers c.args.event s e.world (sym own) refl
+    let s = settles (run_of g c made known) c.args.workers.now c.settle_for.new.workers c.args.event.worker own e.count (e.settled made known) (f.settled made known) (λ may i t near q. e.limits.all may i t near q) f.yard f.count f.world in
+    replied (run_of g c made known) c.args.workers.now c.settle_for.new.workers c.args.event s e.world (sym own) refl
 
 pub settle_for-journal-requires : goal.settle_for-journal-requires
 settle_for-journal-requires g c =

@@ -1,6 +1,7 @@
-use Rattle.std.proofs.Common.{◌≤◌, ◌∙◌, sym, ap, length, Option, arith}
+use Rattle.std.proofs.Common.{◌≡◌, ◌≤◌, ◌∙◌, subst, sym, ap, length, Option, arith}
 use Rattle.std.proofs.lemmas.List.{length-append}
 use Rattle.tlsf_heap.specs.declared.name.Name.{Name}
+use Rattle.tlsf_crew.specs.model.Targets.{target_name}
 use Rattle.tlsf_crew.specs.replays.ReplaySteps.{replay_of}
 use Rattle.tlsf_crew.proofs.lemmas.lanes.LaneChanges.{heaps_count}
 use Rattle.tlsf_crew.proofs.lemmas.model.EventSteps.{after_far, single_room}
@@ -24,21 +25,21 @@ returns-then-event-workers-clause-after g c =
 
 pub answer-requires-2-clause-room : goal.answer-requires-2-clause-room
 answer-requires-2-clause-room g c =
-    let told = rw c.deref.ensures.value at c.reply_in_yard-reply.ensures.replied in
+    let told = c.reply_in_yard-reply.ensures.replied c.args.made.now.items (subst (λ made. target_name made c.args.event.call ≡ c.target_name-name.result) c.deref.ensures.value (sym c.target_name-name.ensures)) in
     let k = replied_room _ _ _ _ _ _ told c.requires.room in
     omega (arith, c.reply_in_yard-reply.ensures.capacity)
 
 pub returns-clause-yard : goal.returns-clause-yard
-returns-clause-yard g c = c.reply_in_yard-reply.ensures.replied.yard
+returns-clause-yard g c = (c.reply_in_yard-reply.ensures.replied _ (sym c.target_name-name.ensures)).yard
 
 pub returns-clause-after : goal.returns-clause-after
 returns-clause-after g c =
-    let told = rw c.deref.ensures.value at c.reply_in_yard-reply.ensures.replied in
+    let told = c.reply_in_yard-reply.ensures.replied c.args.made.now.items (subst (λ made. target_name made c.args.event.call ≡ c.target_name-name.result) c.deref.ensures.value (sym c.target_name-name.ensures)) in
     rw (c.answer-2.ensures.made, c.answer-2.ensures.entries) (sym told.after)
 
 pub reply_in_yard-reply-requires : goal.reply_in_yard-reply-requires
 reply_in_yard-reply-requires g c =
-    (omega arith, (c.requires.yard, (omega arith, c.requires.takes)))
+    (omega arith, (c.requires.yard, (omega arith, (c.requires.takes, (_, sym c.target_name-name.ensures)))))
 
 pub answer-requires-clause-made : goal.answer-requires-clause-made
 answer-requires-clause-made g c = c.requires.made

@@ -1,16 +1,18 @@
 use Rattle.std.proofs.Common.{◌≡◌, ◌∙◌, ap, sym, refl, subst, arith, Some, slice_get}
 use Rattle.std.proofs.lemmas.Option.{slice_get-get_or}
+use Rattle.tlsf_crew.specs.model.Targets.{target_name}
 use Rattle.tlsf_crew.specs.replays.ReplaySteps.{ConcernsCall, MayTake}
 use Rattle.tlsf_crew.proofs.lemmas.replays.Exact.{limits_are, zero_limits}
 use Rattle.tlsf_crew.proofs.replays.replay.settle_for.Goals as goal
 
 pub returns-in-Release-clause-settled : goal.returns-in-Release-clause-settled
-returns-in-Release-clause-settled g c = λ i j a b ne k.
-    let m = subst (λ x. ConcernsCall c.args.made.now c.args.event.worker x i j) c.in-Release.is k in
+returns-in-Release-clause-settled g c = λ made known i j a b ne k.
+    let meant = subst (λ x. target_name made x ≡ c.args.name) c.in-Release.is known in
+    let m = subst (λ x. ConcernsCall made c.args.event.worker x i j) c.in-Release.is k in
     let ie : i ≡ c.args.event.worker = m.0 in
     let je : j ≡ m.1.heap = m.3 in
     let p = c.requires.inside in
-    rw (ie, je) (c.settle_named.ensures.settled m.1 (c.named.ensures ∙ m.2) (omega arith) (omega arith) (λ q. ne (ie ∙ (q ∙ sym je))))
+    rw (ie, je) (c.settle_named.ensures.settled m.1 (sym meant ∙ m.2) (omega arith) (omega arith) (λ q. ne (ie ∙ (q ∙ sym je))))
 
 pub returns-in-Take-clause-limits : goal.returns-in-Take-clause-limits
 returns-in-Take-clause-limits g c =
@@ -44,7 +46,7 @@ pub returns-in-Take-clause-world : goal.returns-in-Take-clause-world
 returns-in-Take-clause-world g c = c.settle_column.ensures.world
 
 pub returns-in-Allocate-clause-settled : goal.returns-in-Allocate-clause-settled
-returns-in-Allocate-clause-settled g c = λ i j a b ne k. absurd (subst (λ x. ConcernsCall c.args.made.now c.args.event.worker x i j) c.in-Allocate.is k)
+returns-in-Allocate-clause-settled g c = λ made known i j a b ne k. absurd (subst (λ x. ConcernsCall made c.args.event.worker x i j) c.in-Allocate.is k)
 
 pub returns-in-Allocate-clause-limits : goal.returns-in-Allocate-clause-limits
 returns-in-Allocate-clause-limits g c = zero_limits _ c.args.event (λ m. subst MayTake c.in-Allocate.is m)
@@ -59,7 +61,7 @@ pub returns-in-Allocate-clause-world : goal.returns-in-Allocate-clause-world
 returns-in-Allocate-clause-world g c = refl
 
 pub returns-in-Write-clause-settled : goal.returns-in-Write-clause-settled
-returns-in-Write-clause-settled g c = λ i j a b ne k. absurd (subst (λ x. ConcernsCall c.args.made.now c.args.event.worker x i j) c.in-Write.is k)
+returns-in-Write-clause-settled g c = λ made known i j a b ne k. absurd (subst (λ x. ConcernsCall made c.args.event.worker x i j) c.in-Write.is k)
 
 pub returns-in-Write-clause-limits : goal.returns-in-Write-clause-limits
 returns-in-Write-clause-limits g c = zero_limits _ c.args.event (λ m. subst MayTake c.in-Write.is m)
@@ -74,7 +76,7 @@ pub returns-in-Write-clause-world : goal.returns-in-Write-clause-world
 returns-in-Write-clause-world g c = refl
 
 pub returns-in-Read-clause-settled : goal.returns-in-Read-clause-settled
-returns-in-Read-clause-settled g c = λ i j a b ne k. absurd (subst (λ x. ConcernsCall c.args.made.now c.args.event.worker x i j) c.in-Read.is k)
+returns-in-Read-clause-settled g c = λ made known i j a b ne k. absurd (subst (λ x. ConcernsCall made c.args.event.worker x i j) c.in-Read.is k)
 
 pub returns-in-Read-clause-limits : goal.returns-in-Read-clause-limits
 returns-in-Read-clause-limits g c = zero_limits _ c.args.event (λ m. subst MayTake c.in-Read.is m)
@@ -89,7 +91,7 @@ pub returns-in-Read-clause-world : goal.returns-in-Read-clause-world
 returns-in-Read-clause-world g c = refl
 
 pub returns-in-Resize-clause-settled : goal.returns-in-Resize-clause-settled
-returns-in-Resize-clause-settled g c = λ i j a b ne k. absurd (subst (λ x. ConcernsCall c.args.made.now c.args.event.worker x i j) c.in-Resize.is k)
+returns-in-Resize-clause-settled g c = λ made known i j a b ne k. absurd (subst (λ x. ConcernsCall made c.args.event.worker x i j) c.in-Resize.is k)
 
 pub returns-in-Resize-clause-limits : goal.returns-in-Resize-clause-limits
 returns-in-Resize-clause-limits g c = zero_limits _ c.args.event (λ m. subst MayTake c.in-Resize.is m)

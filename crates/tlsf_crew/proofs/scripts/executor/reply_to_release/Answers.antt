@@ -1,4 +1,4 @@
-use Rattle.std.proofs.Common.{refl, sym}
+use Rattle.std.proofs.Common.{◌∙◌, refl}
 use Rattle.tlsf_calls.specs.declared.call.Call.TheVariants.{Release}
 use Rattle.tlsf_calls.specs.declared.crew_refusal.CrewRefusal.TheVariants.{Unmade}
 use Rattle.tlsf_calls.specs.declared.reply.Reply.TheVariants.{Refused}
@@ -8,19 +8,19 @@ use Rattle.tlsf_crew.proofs.lemmas.scripts.OwnTold.{release_by, unmade_call}
 use Rattle.tlsf_crew.proofs.scripts.executor.reply_to_release.Goals as goal
 
 pub returns-in_default : goal.returns-in_default
-returns-in_default g c = λ n limits entries k.
+returns-in_default g c = λ n limits target made entries known k.
     let a = c.args.worker.now in
-    c.quiet_step.ensures g.row.SLI n a a limits (Release c.args.target) c.args.made.now entries (Refused Unmade) k (c.heap_keeps.ensures g.row.SLI a a (refl, refl) (same_heap_keeps _ _ refl))
-    (unmade_call n a c.args.target c.args.made.now entries (sym c.in_default.ensures))
+    c.quiet_step.ensures g.row.SLI n a a limits (Release target) made entries (Refused Unmade) k (c.heap_keeps.ensures g.row.SLI a a (refl, refl) (same_heap_keeps _ _ refl))
+    (unmade_call n a target made entries (known ∙ c.in_default.is))
 
 pub returns : goal.returns
-returns g c = λ n limits entries k.
+returns g c = λ n limits target made entries known k.
     let a = c.args.worker.now in
     let v = c.release.new.worker in
-    let made = c.args.made.now in
+    let meant = known ∙ c.in-Some.is in
     let e = c.release.ensures in
     rw c.as_reply.ensures
-    (release_by n g.P.Ports.reaches g.P.Exchange.puts a v c.args.target c.in-Some.name made entries c.release.result (λ u reply. g.P.Scripted.steps g.row.SLI n (at_stage a limits entries) (Release c.args.target) made (at_stage u limits entries) reply) (sym c.in-Some.ensures)
+    (release_by n g.P.Ports.reaches g.P.Exchange.puts a v target c.in-Some.name made entries c.release.result (λ u reply. g.P.Scripted.steps g.row.SLI n (at_stage a limits entries) (Release target) made (at_stage u limits entries) reply) meant
     (record { here = e.here; there = e.there; nowhere = e.nowhere }) (c.posts_step.ensures.reached g.row.SLI n a c.in-Some.name.heap k)
-    (λ u reply kept q. c.quiet_step.ensures g.row.SLI n a u limits (Release c.args.target) made entries reply k (c.heap_keeps.ensures g.row.SLI a u q.same kept) q)
-    (λ ne has there. c.posts_step.ensures.posted g.row.SLI n a v limits c.args.target c.in-Some.name made entries c.release.result k (sym c.in-Some.ensures) ne has there))
+    (λ u reply kept q. c.quiet_step.ensures g.row.SLI n a u limits (Release target) made entries reply k (c.heap_keeps.ensures g.row.SLI a u q.same kept) q)
+    (λ ne has there. c.posts_step.ensures.posted g.row.SLI n a v limits target c.in-Some.name made entries c.release.result k meant ne has there))

@@ -1,4 +1,5 @@
-use Rattle.std.proofs.Common.{arith, refl, subst}
+use Rattle.std.proofs.Common.{◌≡◌, arith, refl, subst, sym}
+use Rattle.tlsf_crew.specs.model.Targets.{target_name}
 use Rattle.tlsf_crew.specs.scripts.Scripts.{stage_of}
 use Rattle.tlsf_crew.proofs.lemmas.scripts.ScriptRuns.{step_called, step_room}
 use Rattle.tlsf_crew.proofs.scripts.executor.run_call.Goals as goal
@@ -6,7 +7,7 @@ use Rattle.tlsf_crew.proofs.scripts.executor.run_call.Goals as goal
 pub answer-requires-clause-room : goal.answer-requires-clause-room
 answer-requires-clause-room g c =
     let n = c.requires.knows.0 in
-    let step = c.reply_to-reply.ensures.stepped n c.requires.knows.1 in
+    let step = c.reply_to-reply.ensures.stepped n c.args.made.now.items (subst (λ made. target_name made c.args.call ≡ c.target_name-name.result) c.deref.ensures.value (sym c.target_name-name.ensures)) c.requires.knows.1 in
     let r = step_room _ (c.moves_join.ensures g.row.SLI) _ _ _ _ _ _ (c.steps_tell.ensures g.row.SLI n _ _ _ _ _ step) in
     let capacity = c.reply_to-reply.ensures.capacity in
     omega (arith, c.requires.room)
@@ -17,6 +18,6 @@ returns-clause-called g c = λ n k.
     let s = stage_of c.args.worker.now c.args.journal.now in
     let t = stage_of v c.reply_to-reply.new.journal in
     let reply = c.reply_to-reply.result in
-    let step = subst (λ made. g.P.Scripted.steps g.row.SLI n s c.args.call made t reply) c.deref.ensures.value (c.reply_to-reply.ensures.stepped n k) in
+    let step = c.reply_to-reply.ensures.stepped n c.args.made.now.items (subst (λ made. target_name made c.args.call ≡ c.target_name-name.result) c.deref.ensures.value (sym c.target_name-name.ensures)) k in
     step_called (g.P.Scripted.telling g.row.SLI) (c.moves_join.ensures g.row.SLI) n s t c.args.call c.args.made.now.items c.answer.new.made.items c.answer.new.entries.items _ reply
     (c.steps_tell.ensures g.row.SLI n s t _ _ _ step) refl c.answer.ensures.made c.answer.ensures.entries
