@@ -55,6 +55,13 @@ class Body:
     opens: int
     last: int
 
+    def has_proof(self, file):
+        """Whether a file is one of the function's own proof: in a folder of its name, below that of its source file."""
+        parts, module = file.split("/"), self.file.removesuffix(".rt").split("/")[1:]
+        if module in (["lib"], ["main"]):
+            module = []
+        return parts[0] == "proofs" and parts[1 : len(module) + 1] == module and parts[-2].removeprefix("+") == self.name
+
 
 def bodies_in(file, text):
     """The functions of a source file as `rt fmt` sets it, with their bodies."""
