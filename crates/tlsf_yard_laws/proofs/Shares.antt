@@ -243,17 +243,25 @@ resize_asks made at (Drain most) reply name m e = absurd cc
 
 -- ---- one entry after another
 
--- an entry leads from a heap, and what waits for its worker, to another
-pub record Leads (sli : ℕ) (j n capacity : ℕ) (made : List (Option Name)) (h : HeapState) (lanes : ℕ → List Post) (e : Entry) (g : HeapState) (later : ℕ → List Post) : Type 0 where
-  pub run : RunsTo sli h (calls_on j made (e ∷ [])) (answers_on j (e ∷ [])) g
-  pub posts : (i : ℕ) → lanes i ++ posts_made i j made (e ∷ []) ≡ posts_taken i j (e ∷ []) ++ later i
-  pub short : (i : ℕ) → length (later i) ≤ capacity
+-- a heap, and what waits for its worker
+pub record OwnSide : Type 0 where
+  pub heap : HeapState
+  pub lanes : ℕ → List Post
+
+abbrev pub side : HeapState → (ℕ → List Post) → OwnSide
+side h lanes = record { heap = h; lanes = lanes }
+
+-- an entry leads from the one to the other
+pub record Leads (sli : ℕ) (j n capacity : ℕ) (made : List (Option Name)) (s : OwnSide) (e : Entry) (t : OwnSide) : Type 0 where
+  pub run : RunsTo sli s.heap (calls_on j made (e ∷ [])) (answers_on j (e ∷ [])) t.heap
+  pub posts : (i : ℕ) → s.lanes i ++ posts_made i j made (e ∷ []) ≡ posts_taken i j (e ∷ []) ++ t.lanes i
+  pub short : (i : ℕ) → length (t.lanes i) ≤ capacity
   pub near : (p : Post) → post_of_release j made e.worker e.call e.reply ≡ Some p → e.worker < n
 
 -- and so does each of some entries
 abbrev pub AllLead : (sli : ℕ) (j n capacity : ℕ) → List (Option Name) → HeapState → (ℕ → List Post) → List Entry → Type 0
 AllLead sli j n capacity made h lanes [] = ⊤
-AllLead sli j n capacity made h lanes (e ∷ es) = (g : HeapState) × (later : ℕ → List Post) × Leads sli j n capacity made h lanes e g later × AllLead sli j n capacity made g later es
+AllLead sli j n capacity made h lanes (e ∷ es) = (g : HeapState) × (later : ℕ → List Post) × Leads sli j n capacity made (side h lanes) e (side g later) × AllLead sli j n capacity made g later es
 
 -- what holds of the heap on the way. The first ledger is of what is live, the second of what the programs hold
 pub record IsShared (j n words k : ℕ) (h : HeapState) (l u : Ledger) (lanes : ℕ → List Post) : Type 0 where
@@ -334,7 +342,7 @@ posted_right name [] qs a = a
 posted_right name (p ∷ ps) qs a = inr (posted_right name ps qs a)
 
 -- an entry of the heap's own worker takes no name out of a lane but that which it releases
-own_leaves : {sli : ℕ} (j n capacity : ℕ) (made : List (Option Name)) (h g : HeapState) (lanes later : ℕ → List Post) (e : Entry) → e.worker ≡ j → Leads sli j n capacity made h lanes e g later
+own_leaves : {sli : ℕ} (j n capacity : ℕ) (made : List (Option Name)) (h g : HeapState) (lanes later : ℕ → List Post) (e : Entry) → e.worker ≡ j → Leads sli j n capacity made (side h lanes) e (side g later)
     → Leaves j lanes later (call_on_own made e.worker e.call e.reply)
 own_leaves j n capacity made h g lanes later e own leads i ne name among =
     let none : posts_made i j made (e ∷ []) ≡ [] = told_other (λ e. post_of_release j made e.worker e.call e.reply) i e (λ q. ne (sym q ∙ own)) in
@@ -352,13 +360,13 @@ own_leaves j n capacity made h g lanes later e own leads i ne name among =
     ]
 
 -- an entry of another worker takes no name out of a lane
-other_waits : {sli : ℕ} (j n capacity : ℕ) (made : List (Option Name)) (h g : HeapState) (lanes later : ℕ → List Post) (e : Entry) → e.worker ≢ j → Leads sli j n capacity made h lanes e g later
+other_waits : {sli : ℕ} (j n capacity : ℕ) (made : List (Option Name)) (h g : HeapState) (lanes later : ℕ → List Post) (e : Entry) → e.worker ≢ j → Leads sli j n capacity made (side h lanes) e (side g later)
     → (i : ℕ) → later i ≡ lanes i ++ posts_made i j made (e ∷ [])
 other_waits j n capacity made h g lanes later e other leads i =
     sym (leads.posts i ∙ ap (λ l. l ++ later i) (told_other (λ e. post_of_take i e.call e.reply) j e other))
 
 -- and what it posts waits
-other_covers : {sli : ℕ} (j n capacity : ℕ) (made : List (Option Name)) (h g : HeapState) (l u : Ledger) (lanes later : ℕ → List Post) (e : Entry) → e.worker ≢ j → Leads sli j n capacity made h lanes e g later
+other_covers : {sli : ℕ} (j n capacity : ℕ) (made : List (Option Name)) (h g : HeapState) (l u : Ledger) (lanes later : ℕ → List Post) (e : Entry) → e.worker ≢ j → Leads sli j n capacity made (side h lanes) e (side g later)
     → Covers j n l u lanes → Covers j n l (without_post u (post_of_release j made e.worker e.call e.reply)) later
 other_covers j n capacity made h g l u lanes later e other leads covers name len found = at (post_of_release j made e.worker e.call e.reply) refl (covers name len found)
   where
@@ -388,7 +396,7 @@ module _ (sli : ℕ) (level : IsLevel sli) (words most len : ℕ) (region : want
   n = suc m
 
   next : (h g : HeapState) (l u : Ledger) (lanes later : ℕ → List Post) (e : Entry) → IsShared j n words (want len + 3) h l u lanes → ((i : ℕ) → length (lanes i) ≤ capacity)
-      → Leads sli j n capacity made h lanes e g later → IsSparing j most len u e → h.tick < heap.last_tick → Next j n words (want len + 3) h (unreleased_after j made u e) g later (answers_on j (e ∷ []))
+      → Leads sli j n capacity made (side h lanes) e (side g later) → IsSparing j most len u e → h.tick < heap.last_tick → Next j n words (want len + 3) h (unreleased_after j made u e) g later (answers_on j (e ∷ []))
   next h g l u lanes later e shared short leads sparing fresh = elim (cases_eq e.worker j) [
     | inl own ↦
         let o = call_on_own made e.worker e.call e.reply in

@@ -28,16 +28,6 @@ pub record Turn {sli : ℕ} (w : World sli) (i : ℕ) (script : List Call) (end 
   pub ran : MayTellAll sli (length w.heaps) i (untold (heap_in w i)) script between
   pub last : LastDrain sli (length w.heaps) i between end
 
--- what worker j was told at the end of a race
-abbrev pub told_in : {sli : ℕ} (w v : World sli) (scripts : List (List Call)) (records : List (List Entry)) → IsRace w scripts records v → ℕ → Told
-told_in w v scripts records race j = record { made = race.made j; entries = record_of records j; heap = heap_in v j }
-
-pub turn_of : {sli : ℕ} (w v : World sli) (scripts : List (List Call)) (records : List (List Entry)) (race : IsRace w scripts records v) (j : ℕ) → j < length w.heaps
-    → Turn w j (script_of scripts j) (told_in w v scripts records race j)
-turn_of w v scripts records race j j_in =
-    let l = race.legal j j_in in
-    record { between = l.between; ran = l.script; last = last_drain (length w.heaps) j l.between (told_in w v scripts records race j) j_in l.last }
-
 -- its posts are those of its script
 own_posts : {sli : ℕ} (w : World sli) (i j : ℕ) (script : List Call) (end : Told) (t : Turn w i script end) → posts_made i j end.made end.entries ≡ posts_made i j (t.between).made (t.between).entries
 own_posts w i j script end t =
@@ -57,55 +47,66 @@ last_takes {sli} w i j script end t j_in free =
 
 -- ---- one race
 
--- what worker j took from worker i in its last drain: all that had waited, and all that i posted
-pub drained : {sli : ℕ} (w v : World sli) (scripts : List (List Call)) (records : List (List Entry)) (race : IsRace w scripts records v) → OnlyLastDrains scripts → (i j : ℕ) (i_in : i < length w.heaps) (j_in : j < length w.heaps) → i ≢ j
-    → posts_taken i j ((turn_of w v scripts records race j j_in).last).own
-    ≡ w.waiting i j ++ posts_made i j ((turn_of w v scripts records race i i_in).between).made ((turn_of w v scripts records race i i_in).between).entries
-drained w v scripts records race free i j i_in j_in ne =
-    let t = turn_of w v scripts records race i i_in in
-    let u = turn_of w v scripts records race j j_in in
-    sym (last_takes w i j (script_of scripts j) (told_in w v scripts records race j) u j_in (free j)) ∙ (sym (race.agree i j i_in j_in ne).posts
-    ∙ ap (λ l. w.waiting i j ++ l) (own_posts w i j (script_of scripts i) (told_in w v scripts records race i) t))
+module _ {sli : ℕ} (w v : World sli) (scripts : List (List Call)) (records : List (List Entry)) (race : IsRace w scripts records v) where
+  -- what worker j was told at the end of a race
+  abbrev pub told_in : ℕ → Told
+  told_in j = record { made = race.made j; entries = record_of records j; heap = heap_in v j }
 
-lanes_of : {sli : ℕ} (w v : World sli) (scripts : List (List Call)) (records : List (List Entry)) (race : IsRace w scripts records v) → OnlyLastDrains scripts → (i : ℕ) (i_in : i < length w.heaps)
-    → HasLanes w i ((turn_of w v scripts records race i i_in).between).made ((turn_of w v scripts records race i i_in).between).entries
-unfolding turn_of
-lanes_of w v scripts records race free i i_in =
-    let t = turn_of w v scripts records race i i_in in
-    let z = t.between in
-    record {
-      room = λ j j_in ne.
-          let u = turn_of w v scripts records race j j_in in
-          let all = ap length (drained w v scripts records race free i j i_in j_in ne) in
-          let both = length-append (w.waiting i j) (posts_made i j z.made z.entries) in
-          let scripted : race.scripted j ≡ (u.between).entries = sym (race.legal j j_in).entries in
-          let behind : drop (length (race.scripted j)) (record_of records j) ≡ (u.last).own
-          = ap (λ l. drop (length l) (record_of records j)) scripted ∙ (ap (drop (length (u.between).entries)) (u.last).entries ∙ drop-append_seam (u.between).entries (u.last).own) in
-          let le = (race.agree i j i_in j_in ne).last in
-          let n = ap (λ l. length (posts_taken i j l)) behind in
-          omega arith;
-      full = λ j j_in ne before e name stands reply here.
-          let d = t.last in
-          let later : StandsBehind (record_of records i) before e
-          = (stands.0 ++ d.own, d.entries ∙ (ap (λ l. l ++ d.own) stands.1 ∙ append_assoc before (e ∷ stands.0) d.own)) in
-          let le = (race.agree i j i_in j_in ne).full before e name later reply here in
-          let n = ap length (ap (λ (made : List (Option Name)). posts_made i j made before) d.names ∙ each_post_same i j z.made before) in
-          omega arith;
-    }
+  pub turn_of : (j : ℕ) → j < length w.heaps
+      → Turn w j (script_of scripts j) (told_in j)
+  turn_of j j_in =
+      let l = race.legal j j_in in
+      record { between = l.between; ran = l.script; last = last_drain (length w.heaps) j l.between (told_in j) j_in l.last }
 
-pub told_alone : {sli : ℕ} (w v : World sli) (scripts : List (List Call)) (records : List (List Entry)) (race : IsRace w scripts records v) → OnlyLastDrains scripts → (i : ℕ) (i_in : i < length w.heaps)
-    → IsAlone w i ((turn_of w v scripts records race i i_in).between).made (turn_of w v scripts records race i i_in).between (alone w scripts i)
-unfolding replies
-told_alone w v scripts records race free i i_in =
-    let t = turn_of w v scripts records race i i_in in
-    alone_runs w i t.between (untold (heap_in w i)) (script_of scripts i) (begun w) (lanes_of w v scripts records race free i i_in) i_in (free i) t.ran
-    (record { names = refl; entries = refl; heap = refl; count = refl; capacity = refl; waits = λ j. sym (append-nil (w.waiting i j)) })
+  -- what worker j took from worker i in its last drain: all that had waited, and all that i posted
+  pub drained : OnlyLastDrains scripts → (i j : ℕ) (i_in : i < length w.heaps) (j_in : j < length w.heaps) → i ≢ j
+      → posts_taken i j ((turn_of j j_in).last).own
+      ≡ w.waiting i j ++ posts_made i j ((turn_of i i_in).between).made ((turn_of i i_in).between).entries
+  drained free i j i_in j_in ne =
+      let t = turn_of i i_in in
+      let u = turn_of j j_in in
+      sym (last_takes w i j (script_of scripts j) (told_in j) u j_in (free j)) ∙ (sym (race.agree i j i_in j_in ne).posts
+      ∙ ap (λ l. w.waiting i j ++ l) (own_posts w i j (script_of scripts i) (told_in i) t))
 
-alone_is : {sli : ℕ} (w v : World sli) (scripts : List (List Call)) (records : List (List Entry)) (race : IsRace w scripts records v) → OnlyLastDrains scripts → (i : ℕ) (i_in : i < length w.heaps)
-    → told_by i (alone w scripts i) ≡ (turn_of w v scripts records race i i_in).between
-alone_is w v scripts records race free i i_in =
-    let z = (turn_of w v scripts records race i i_in).between in
-    alone_told w i z.made z (alone w scripts i) (told_alone w v scripts records race free i i_in)
+  lanes_of : OnlyLastDrains scripts → (i : ℕ) (i_in : i < length w.heaps)
+      → HasLanes w i ((turn_of i i_in).between).made ((turn_of i i_in).between).entries
+  unfolding turn_of
+  lanes_of free i i_in =
+      let t = turn_of i i_in in
+      let z = t.between in
+      record {
+        room = λ j j_in ne.
+            let u = turn_of j j_in in
+            let all = ap length (drained free i j i_in j_in ne) in
+            let both = length-append (w.waiting i j) (posts_made i j z.made z.entries) in
+            let scripted : race.scripted j ≡ (u.between).entries = sym (race.legal j j_in).entries in
+            let behind : drop (length (race.scripted j)) (record_of records j) ≡ (u.last).own
+            = ap (λ l. drop (length l) (record_of records j)) scripted ∙ (ap (drop (length (u.between).entries)) (u.last).entries ∙ drop-append_seam (u.between).entries (u.last).own) in
+            let le = (race.agree i j i_in j_in ne).last in
+            let n = ap (λ l. length (posts_taken i j l)) behind in
+            omega arith;
+        full = λ j j_in ne before e name stands reply here.
+            let d = t.last in
+            let later : StandsBehind (record_of records i) before e
+            = (stands.0 ++ d.own, d.entries ∙ (ap (λ l. l ++ d.own) stands.1 ∙ append_assoc before (e ∷ stands.0) d.own)) in
+            let le = (race.agree i j i_in j_in ne).full before e name later reply here in
+            let n = ap length (ap (λ (made : List (Option Name)). posts_made i j made before) d.names ∙ each_post_same i j z.made before) in
+            omega arith;
+      }
+
+  pub told_alone : OnlyLastDrains scripts → (i : ℕ) (i_in : i < length w.heaps)
+      → IsAlone w i ((turn_of i i_in).between).made (turn_of i i_in).between (alone w scripts i)
+  unfolding replies
+  told_alone free i i_in =
+      let t = turn_of i i_in in
+      alone_runs w i t.between (untold (heap_in w i)) (script_of scripts i) (begun w) (lanes_of free i i_in) i_in (free i) t.ran
+      (record { names = refl; entries = refl; heap = refl; count = refl; capacity = refl; waits = λ j. sym (append-nil (w.waiting i j)) })
+
+  alone_is : OnlyLastDrains scripts → (i : ℕ) (i_in : i < length w.heaps)
+      → told_by i (alone w scripts i) ≡ (turn_of i i_in).between
+  alone_is free i i_in =
+      let z = (turn_of i i_in).between in
+      alone_told w i z.made z (alone w scripts i) (told_alone free i i_in)
 
 -- ---- two races
 

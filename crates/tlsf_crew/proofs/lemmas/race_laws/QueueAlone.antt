@@ -113,65 +113,65 @@ same_script x i script s t i_in free m k one two = sym (script_told x i script s
 
 -- ---- one race
 
--- what worker j was told at the end of a race
-abbrev told_in : {sli : ℕ} (w v : World sli) (scripts : List (List Call)) (records : List (List Entry)) → IsUncontendedRace w scripts records v → ℕ → Told
-told_in w v scripts records race j = record { made = race.race.made j; entries = record_of records j; heap = heap_in v j }
+module _ {sli : ℕ} (w v : World sli) (scripts : List (List Call)) (records : List (List Entry)) (race : IsUncontendedRace w scripts records v) (free : OnlyLastDrains scripts) where
+  -- what worker j was told at the end of a race
+  abbrev told_in : ℕ → Told
+  told_in j = record { made = race.race.made j; entries = record_of records j; heap = heap_in v j }
 
-turn_of : {sli : ℕ} (w v : World sli) (scripts : List (List Call)) (records : List (List Entry)) (race : IsUncontendedRace w scripts records v) → OnlyLastDrains scripts → (j : ℕ) → j < length w.heaps
-    → QueueTurn sli (length w.heaps) j (untold (heap_in w j)) (script_of scripts j) (told_in w v scripts records race j)
-turn_of {sli} w v scripts records race free j j_in =
-    queue_turn sli (length w.heaps) j (untold (heap_in w j)) (told_in w v scripts records race j) (script_of scripts j) (free j) (race.race.legal j j_in)
+  turn_of : (j : ℕ) → j < length w.heaps
+      → QueueTurn sli (length w.heaps) j (untold (heap_in w j)) (script_of scripts j) (told_in j)
+  turn_of j j_in =
+      queue_turn sli (length w.heaps) j (untold (heap_in w j)) (told_in j) (script_of scripts j) (free j) (race.race.legal j j_in)
 
-meets_none : {sli : ℕ} (w v : World sli) (scripts : List (List Call)) (records : List (List Entry)) (race : IsUncontendedRace w scripts records v) (free : OnlyLastDrains scripts) (j : ℕ) (j_in : j < length w.heaps)
-    → 2 < length w.heaps → MeetsNoFull (turn_of w v scripts records race free j j_in).between.entries
-meets_none w v scripts records race free j j_in many =
-    let t = turn_of w v scripts records race free j j_in in
-    script_meets_none j t.between (told_in w v scripts records race j) t.last.0 t.last.3 (race.posted many j j_in)
+  meets_none : (j : ℕ) (j_in : j < length w.heaps)
+      → 2 < length w.heaps → MeetsNoFull (turn_of j j_in).between.entries
+  meets_none j j_in many =
+      let t = turn_of j j_in in
+      script_meets_none j t.between (told_in j) t.last.0 t.last.3 (race.posted many j j_in)
 
--- what worker j took of worker i in its last drain is what its record tells
-drained_is : {sli : ℕ} (w v : World sli) (scripts : List (List Call)) (records : List (List Entry)) (race : IsUncontendedRace w scripts records v) (free : OnlyLastDrains scripts) (i j : ℕ) (j_in : j < length w.heaps)
-    → posts_taken i j (record_of records j) ≡ posts_of i (turn_of w v scripts records race free j j_in).last.0
-drained_is {sli} w v scripts records race free i j j_in =
-    let t = turn_of w v scripts records race free j j_in in
-    let none = none_taken sli (length w.heaps) i j j (untold (heap_in w j)) t.between (script_of scripts j) j_in (free j) t.ran refl in
-    end_takes i j t.between (told_in w v scripts records race j) t.last.0 t.last.3 ∙ ap (λ l. l ++ posts_of i t.last.0) none
+  -- what worker j took of worker i in its last drain is what its record tells
+  drained_is : (i j : ℕ) (j_in : j < length w.heaps)
+      → posts_taken i j (record_of records j) ≡ posts_of i (turn_of j j_in).last.0
+  drained_is i j j_in =
+      let t = turn_of j j_in in
+      let none = none_taken sli (length w.heaps) i j j (untold (heap_in w j)) t.between (script_of scripts j) j_in (free j) t.ran refl in
+      end_takes i j t.between (told_in j) t.last.0 t.last.3 ∙ ap (λ l. l ++ posts_of i t.last.0) none
 
--- all that had waited, and all that i posted
-drained : {sli : ℕ} (w v : World sli) (scripts : List (List Call)) (records : List (List Entry)) (race : IsUncontendedRace w scripts records v) (free : OnlyLastDrains scripts)
-    (i j : ℕ) (i_in : i < length w.heaps) (j_in : j < length w.heaps) → i ≢ j
-    → posts_of i (turn_of w v scripts records race free j j_in).last.0
-    ≡ w.waiting i j ++ posts_made i j (turn_of w v scripts records race free i i_in).between.made (turn_of w v scripts records race free i i_in).between.entries
-drained w v scripts records race free i j i_in j_in ne =
-    let t = turn_of w v scripts records race free i i_in in
-    sym (drained_is w v scripts records race free i j j_in) ∙ (sym (race.race.agree i j i_in j_in ne).posts
-    ∙ ap (λ l. w.waiting i j ++ l) (end_posts i j i t.between (told_in w v scripts records race i) t.last.0 t.last.3))
+  -- all that had waited, and all that i posted
+  drained : (i j : ℕ) (i_in : i < length w.heaps) (j_in : j < length w.heaps) → i ≢ j
+      → posts_of i (turn_of j j_in).last.0
+      ≡ w.waiting i j ++ posts_made i j (turn_of i i_in).between.made (turn_of i i_in).between.entries
+  drained i j i_in j_in ne =
+      let t = turn_of i i_in in
+      sym (drained_is i j j_in) ∙ (sym (race.race.agree i j i_in j_in ne).posts
+      ∙ ap (λ l. w.waiting i j ++ l) (end_posts i j i t.between (told_in i) t.last.0 t.last.3))
 
--- of two workers each was told what lanes of the queues' capacity would have told it
-two_lanes : {sli : ℕ} (w v : World sli) (scripts : List (List Call)) (records : List (List Entry)) (race : IsUncontendedRace w scripts records v) (free : OnlyLastDrains scripts) (i : ℕ) (i_in : i < length w.heaps)
-    → length w.heaps ≤ 2 → HasLanes w i (turn_of w v scripts records race free i i_in).between.made (turn_of w v scripts records race free i i_in).between.entries
-two_lanes {sli} w v scripts records race free i i_in few =
-    let one = race.race in
-    let t = turn_of w v scripts records race free i i_in in
-    let end = told_in w v scripts records race i in
-    let names : (j : ℕ) (es : List Entry) → posts_made i j (one.made i) es ≡ posts_made i j t.between.made es
-    = λ j es. ap (λ (u : Told). posts_made i j u.made es) t.last.3 ∙ (each_post_same i j (told_takes i t.between t.last.0).made es ∙ ap (λ made. posts_made i j made es) (takes_name i t.last.0 t.between)) in
-    record {
-      room = λ j j_in ne.
-          let u = turn_of w v scripts records race free j j_in in
-          let most = one.last j j_in (told_takes j u.between u.last.0).entries (length u.last.0) (ap (λ (t : Told). t.entries) u.last.3) in
-          let all = drained w v scripts records race free i j i_in j_in ne in
-          omega (arith, most, ap length all, length-append (w.waiting i j) (posts_made i j t.between.made t.between.entries), parts i u.last.0);
-      full = λ j j_in ne before e name stands reply here.
-          let agree = one.agree i j i_in j_in ne in
-          let more = end_adds i t.between end t.last.0 t.last.3 in
-          let found = agree.full (omega (arith, few, i_in, j_in, ne)) before e name (stands.0 ++ more.0, more.1 ∙ (ap (λ l. l ++ more.0) stands.1 ∙ append_assoc before (e ∷ stands.0) more.0)) reply here in
-          omega (arith, found, ap length (names j before));
-    }
+  -- of two workers each was told what lanes of the queues' capacity would have told it
+  two_lanes : (i : ℕ) (i_in : i < length w.heaps)
+      → length w.heaps ≤ 2 → HasLanes w i (turn_of i i_in).between.made (turn_of i i_in).between.entries
+  two_lanes i i_in few =
+      let one = race.race in
+      let t = turn_of i i_in in
+      let end = told_in i in
+      let names : (j : ℕ) (es : List Entry) → posts_made i j (one.made i) es ≡ posts_made i j t.between.made es
+      = λ j es. ap (λ (u : Told). posts_made i j u.made es) t.last.3 ∙ (each_post_same i j (told_takes i t.between t.last.0).made es ∙ ap (λ made. posts_made i j made es) (takes_name i t.last.0 t.between)) in
+      record {
+        room = λ j j_in ne.
+            let u = turn_of j j_in in
+            let most = one.last j j_in (told_takes j u.between u.last.0).entries (length u.last.0) (ap (λ (t : Told). t.entries) u.last.3) in
+            let all = drained i j i_in j_in ne in
+            omega (arith, most, ap length all, length-append (w.waiting i j) (posts_made i j t.between.made t.between.entries), parts i u.last.0);
+        full = λ j j_in ne before e name stands reply here.
+            let agree = one.agree i j i_in j_in ne in
+            let more = end_adds i t.between end t.last.0 t.last.3 in
+            let found = agree.full (omega (arith, few, i_in, j_in, ne)) before e name (stands.0 ++ more.0, more.1 ∙ (ap (λ l. l ++ more.0) stands.1 ∙ append_assoc before (e ∷ stands.0) more.0)) reply here in
+            omega (arith, found, ap length (names j before));
+      }
 
 -- ---- two races
 
 told_same : {sli : ℕ} (w v u : World sli) (scripts : List (List Call)) (records others : List (List Entry)) (race : IsUncontendedRace w scripts records v) (other : IsUncontendedRace w scripts others u)
-    → OnlyLastDrains scripts → (j : ℕ) → j < length w.heaps → told_in w v scripts records race j ≡ told_in w u scripts others other j
+    → (free : OnlyLastDrains scripts) → (j : ℕ) → j < length w.heaps → told_in w v scripts records race free j ≡ told_in w u scripts others other free j
 told_same {sli} w v u scripts records others race other free j j_in =
     let n = length w.heaps in
     let one = turn_of w v scripts records race free j j_in in
