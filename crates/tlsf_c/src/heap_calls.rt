@@ -64,7 +64,7 @@ pub extern "C" fn tlsf_open(
     }
 }
 
-/// The words of the least region in which a program of at most `most` blocks at once, of at most `len` bytes each, is never refused for want
+/// The words of a region in which a program of at most `most` blocks at once, of at most `len` bytes each, is never refused for want
 /// of room. They go to `words`.
 ///
 /// Refused as BadLevel where `level` is neither 4 nor 5, else as BadSize where no region of that level is so large.

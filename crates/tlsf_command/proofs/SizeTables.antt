@@ -1,8 +1,10 @@
 -- Tables of kinds, and the numbers of texts.
-use Rattle.std.proofs.Common.{◌≡◌, ◌≤◌, ◌<◌, ◌+◌, ◌*◌, ◌^◌, ℕ, zero, suc, Bool, true, false, cond, List, [], ◌∷◌, Option, Some, None, Result, Ok, Err, fold, map, max, get_or, ◌∙◌, length, drop, refl, sym, ap, arith}
+use Rattle.std.proofs.Common.{◌≡◌, ◌≤◌, ◌<◌, ◌+◌, ◌*◌, ◌^◌, ℕ, zero, suc, Bool, true, false, cond, List, [], ◌∷◌, Option, Some, None, Result, Ok, Err, fold, map, max, nat_le, nat_lt, get_or, ◌∙◌, length, drop, refl, sym, ap, arith}
 use Rattle.std.proofs.Math.Nat.{mul-le-mul}
 use Rattle.std.specs.Prelude.{IfSome}
-use Rattle.std.specs.List.{AllByRecursion}
+use Rattle.std.specs.List.{AllByRecursion, list_all}
+use Rattle.std.proofs.lemmas.Bool.{leb-true, lt-ltb}
+use Rattle.std.proofs.lemmas.Bool.Decides.{nat_tests}
 use Rattle.std.specs.Result.{result_unwrap_or}
 use Rattle.std.specs.Str.Parse.{ParsesUnsigned, digits_value, without_leading_plus}
 use Rattle.clap.specs.ValueTests.{accepts}
@@ -16,7 +18,8 @@ use Rattle.tlsf_command.specs.declared.size_question.SizeQuestion.TheVariants.{T
 use Rattle.tlsf_class.specs.Classes.{most_words}
 use Rattle.tlsf_class.proofs.TwoLevels.{most_words_any}
 use Rattle.tlsf_heap.specs.Blocks.{want}
-use Rattle.tlsf_laws.specs.Kinds.{kinds_words, table_words, words_with, HasClass}
+use Rattle.tlsf_heap.proofs.Finding.{and_left, and_right}
+use Rattle.tlsf_laws.specs.Kinds.{are_fours, count_in, kinds_words, resized_words, table_words, used, words_with, HasClass}
 use Rattle.tlsf_laws.specs.declared.kind.Kind.{Kind}
 
 -- ---- numbers
@@ -79,12 +82,39 @@ max_least : (a : ℕ) (xs : List ℕ) → a ≤ fold max a xs
 max_least a [] = omega arith
 max_least a (x ∷ xs) = omega (arith, max_least (max a x) xs)
 
+short_bytes : (m n a c : ℕ) → m * n ≤ m * 8 → a ≤ 8 * c → m * n + a ≤ 8 * (m + c)
+short_bytes m n a c f g = omega (arith, f, g)
+
+nothing : (m n : ℕ) → m ≤ 0 → m * n ≤ m * 8
+nothing m n none = let zero_is : m ≡ 0 = omega (arith, none) in rw zero_is (omega arith)
+
+-- one whose blocks all want four words asks for no more than eight bytes for each
+fours_bytes : (kinds : List Kind) → are_fours kinds ≡ true → asked_bytes kinds ≤ 8 * count_in kinds
+fours_bytes [] all = omega arith
+fours_bytes (k ∷ kinds) all = at (nat_lt 0 k.most) refl (fours_bytes kinds) all
+  where
+    at : (c : Bool) → nat_lt 0 k.most ≡ c → (are_fours kinds ≡ true → asked_bytes kinds ≤ 8 * count_in kinds) → list_all (λ kind. nat_le kind.len 8) (cond c (k ∷ used kinds) (used kinds)) ≡ true
+        → asked_bytes (k ∷ kinds) ≤ 8 * count_in (k ∷ kinds)
+    at true is rest all = short_bytes k.most k.len (asked_bytes kinds) (count_in kinds) (products k.most k.most k.len 8 (same k.most) (leb-true k.len 8 (and_left _ _ all))) (rest (and_right _ _ all))
+    at false is rest all =
+        let none : k.most ≤ 0 = grind (arith, nat_tests) in
+        short_bytes k.most k.len (asked_bytes kinds) (count_in kinds) (nothing k.most k.len none) (rest all)
+
 -- a table that is reached asks for few bytes
 pub few_bytes : (sli : ℕ) (kinds : List Kind) → AreReached sli kinds → asked_bytes kinds ≤ 2 ^ 32
 few_bytes sli [] reached = omega arith
-few_bytes sli (k ∷ kinds) reached =
-    let first = max_least (max 0 (words_with sli (k ∷ kinds) k)) (map (words_with sli (k ∷ kinds)) kinds) in
-    omega (arith, table_fits (k ∷ kinds), first, reached.1, reached.0.0.2, most_words_any sli)
+few_bytes sli (k ∷ kinds) reached = at (are_fours (k ∷ kinds)) refl reached.1
+  where
+    all : List Kind
+    all = k ∷ kinds
+
+    at : (c : Bool) → are_fours all ≡ c → cond c (max 4 (count_in all * 4)) (resized_words sli all) ≤ most_words sli → asked_bytes all ≤ 2 ^ 32
+    at true is few = omega (arith, fours_bytes all is, few, most_words_any sli)
+    at false is few =
+        let first = max_least (max 4 (words_with sli all k)) (map (words_with sli all) (used kinds)) in
+        let whole : fold max 4 (map (words_with sli all) (k ∷ used kinds)) ≡ resized_words sli all
+        = ap (λ (c : Bool). fold max 4 (map (words_with sli all) (cond c (k ∷ used kinds) (used kinds)))) (sym (lt-ltb 0 k.most reached.0.0.0)) in
+        omega (arith, table_fits all, first, whole, few, reached.0.0.2, most_words_any sli)
 
 one_byte : (a b c : ℕ) → 1 ≤ a → 1 ≤ b → 1 ≤ a * b + c
 one_byte a b c f g = omega (arith, products 1 a 1 b f g)

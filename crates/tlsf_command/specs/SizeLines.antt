@@ -54,7 +54,7 @@ size_line sli kinds =
 abbrev pub counted : ℕ → List ℕ → List ℕ
 counted n name = decimal n ++ (codes " " ++ (name ++ (if n == 1 then [] else codes "s")))
 
--- the words of the least region of level 5 for such a table, if one has so many
+-- the words of a region of level 5 for such a table, if one has so many
 abbrev pub IsFiner : List Kind → Option ℕ → Type 0
 IsFiner kinds None = ¬ (AreReached 5 kinds)
 IsFiner kinds (Some words) = AreReached 5 kinds × (words ≡ kinds_words 5 kinds)

@@ -28,7 +28,7 @@ pub enum Choice {
     /// `tlsf classes N`: write the class and the search class of a size of N words, 4 to 2^20, to
     /// standard output. With `--sli 5` those at level 5, of 4 to 2^24 words.
     Classes(ClassQuestion),
-    /// `tlsf size --blocks B --bytes N ..`: write the words of the least region that never refuses a
+    /// `tlsf size --blocks B --bytes N ..`: write the words of a region that never refuses a
     /// program of at most B blocks of at most N bytes each at once, for each pair, to standard output.
     Size(SizeQuestion),
     /// `tlsf map --at K`: write a picture of the heaps of a trace as they stand behind its line K, 1 to 2^32 - 1, in this form.

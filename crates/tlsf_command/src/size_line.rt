@@ -39,7 +39,7 @@ fn are_servable<const SLI: u32>(kinds: &[Kind]) -> bool
     true
 }
 
-/// The words of the least region of the level that the law admits for a table of kinds, 1,024 at most or 64 at level 5; None
+/// The words that the law of the level asks for a table of kinds, 1,024 at most or 64 at level 5; None
 /// where no region has so many, or where a kind has no block or no byte.
 ///
 /// ```

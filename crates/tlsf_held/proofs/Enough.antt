@@ -12,6 +12,7 @@ use Rattle.tlsf_heap.specs.Calls.{Call, Allocate, Release, Write, Resize, Read, 
 use Rattle.tlsf_heap.specs.declared.refusal.Refusal.{Refusal}
 use Rattle.tlsf_laws.specs.Held.{held_after}
 use Rattle.tlsf_laws.specs.Pools.{pool_region, pool_words, AreModest, HasRoomFor}
+use Rattle.tlsf_laws.proofs.ModestCalls.{region_is}
 use Rattle.tlsf_calls.specs.declared.event.Event.{Event}
 use Rattle.tlsf_crew.specs.histories.History.{answers_on, calls_on, handed_on}
 use Rattle.tlsf_crew.specs.model.World.{World, heap_in, replies, no_heap}
@@ -35,15 +36,8 @@ record HasWords (sli most len words : ℕ) : Type 0 where
   class : want len ≤ most_words sli
   enough : pool_words sli most len ≤ words
 
-words_by : (a b : Bool) (pool words : ℕ) → cond (a && b) (Some (max 4 pool)) None ≡ Some words → (a ≡ true) × (pool ≤ words)
-words_by true true pool words is = let same : max 4 pool ≡ words = cc in (refl, omega (arith, same))
-words_by true false pool words is = absurd cc
-words_by false b pool words is = absurd cc
-
 has_words : (sli most len words : ℕ) → pool_region sli most len ≡ Some words → HasWords sli most len words
-has_words sli most len words is =
-    let by = words_by (nat_le (want len) (most_words sli)) (nat_le (pool_words sli most len) (most_words sli)) (pool_words sli most len) words is in
-    record { class = leb-true (want len) (most_words sli) by.0; enough = by.1 }
+has_words sli most len words is = let region = (region_is sli most len words).0 is in record { class = region.0.0; enough = omega (arith, region.1) }
 
 -- ---- where no block is asked for
 

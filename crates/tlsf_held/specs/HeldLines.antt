@@ -8,7 +8,7 @@ abbrev pub words_text : Option ℕ → List ℕ
 words_text (Some words) = decimal words
 words_text None = codes "none"
 
--- the words of the least region in which calls of these bounds are never refused for want of room: the least of all where no block is asked for
+-- the words of a region in which calls of these bounds are never refused for want of room: 4 where no block is asked for
 unfoldable pub held_region : ℕ → (most len : ℕ) → Option ℕ
 held_region sli most len = if most == 0 then Some 4 else pool_region sli most len
 

@@ -56,7 +56,7 @@ fn lines_of(alloc: Global, script: &Script) -> Result<String, AllocError>
 /// Reads a whole trace, runs it on a new yard of workers, and writes for each worker what its calls asked of its heap.
 ///
 /// A worker's line has the most blocks of its heap that were held at once, the one that was asked for included; the most bytes of an
-/// allocate or a resize; the words of the least region in which such calls are never refused for want of room, or `none` where no
+/// allocate or a resize; the words of a region in which such calls are never refused for want of room, or `none` where no
 /// region has so many; the words that the trace gives each heap; and the most words that the held blocks wanted at once, the one
 /// that was asked for included. A block is held until its heap has taken it back: where another worker releases it, until its owner
 /// drains. The trace is read to its end and checked before a line runs, and the whole text is made before a byte is written. The

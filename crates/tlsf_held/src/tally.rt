@@ -135,8 +135,8 @@ impl Tally {
         }
     }
 
-    /// The words of the least region in which such calls are never refused for want of room, 4 to 2^20, at level 5 to 2^24. None where no region has so
-    /// many. Calls that ask for no block are served by the least region of all, however long a resize among them is.
+    /// The words of a region in which such calls are never refused for want of room, 4 to 2^20, at level 5 to 2^24. None where no region has so
+    /// many. Calls that ask for no block are served by a region of 4 words, however long a resize among them is.
     #[tactic(auto, unfolding(crate::specs::HeldLines::held_region))]
     pub fn region<const SLI: u32>(&self) -> Option<u32>
         requires { IsLevel SLI }

@@ -15,12 +15,13 @@ use Rattle.tlsf_heap.specs.Reports.{live_among, free_among}
 use Rattle.tlsf_heap.proofs.Finding.{not_true}
 use Rattle.tlsf_heap.proofs.Sites.{fits_nothing}
 use Rattle.tlsf_laws.specs.Room.{sure, RoomIsTight}
-use Rattle.tlsf_laws.specs.Pools.{OneBlockIsTight}
+use Rattle.tlsf_laws.specs.Pools.{pool_words, OneBlockIsTight}
 use Rattle.tlsf_laws.proofs.FreeRoom.{sure_enough, sure_is}
+use Rattle.tlsf_laws.proofs.ModestCalls.{pool_of_fours, pool_of_more}
 use Rattle.tlsf_heap.proofs.Served.{no_fit}
 
 -- a free block below the least size of the search class doesn't serve
-too_small : (sli : ℕ) (level : IsLevel sli) (n m s : ℕ) → n ≤ most_words sli → m < sure sli n → is_fit sli n (Free m s) ≡ false
+pub too_small : (sli : ℕ) (level : IsLevel sli) (n m s : ℕ) → n ≤ most_words sli → m < sure sli n → is_fit sli n (Free m s) ≡ false
 too_small sli level n m s region below = not_true _ (λ fit.
     let search = search_of-is sli level n region in
     let under : search.0 ≤ class_of sli m = leb-true search.0 (class_of sli m) (sym (serves-from sli level n search.0 (class_of sli m) search.1.found) ∙ fit) in
@@ -102,6 +103,13 @@ room_tight sli level count len region more =
       fits_nothing sli (want len) blocks (none_fits sli (want len) k count 0 (λ s. too_small sli level (want len) k s region (omega (arith, more)))),
     )
 
+-- the words of a pool of one block
+one_block_words : (sli : ℕ) (level : IsLevel sli) (len : ℕ) → want len ≤ most_words sli → pool_words sli 1 len ≤ sure sli (want len)
+one_block_words sli level len region = elim (cases_lt 8 len) [
+  | inl more ↦ omega (arith, pool_of_more sli 1 len more, sure_enough sli level (want len) region)
+  | inr four ↦ omega (arith, pool_of_fours sli 1 len four, sure_enough sli level (want len) region)
+]
+
 pub one_block_tight : (sli : ℕ) (level : IsLevel sli) → OneBlockIsTight sli
 one_block_tight sli level id words first len region below =
-    (no_fit sli (opened id words first) len).1 (fits_nothing sli (want len) (Free words first ∷ []) (none_fits sli (want len) words 0 first (λ s. too_small sli level (want len) words s region (omega (arith, below, sure_enough sli level (want len) region)))))
+    (no_fit sli (opened id words first) len).1 (fits_nothing sli (want len) (Free words first ∷ []) (none_fits sli (want len) words 0 first (λ s. too_small sli level (want len) words s region (omega (arith, below, one_block_words sli level len region)))))

@@ -1,5 +1,5 @@
 -- Room by counting: free blocks are few, and those that don't serve are small.
-use Rattle.std.proofs.Common.{◌≡◌, ℕ, suc, ◌+◌, ◌-◌, ◌*◌, ◌<◌, ◌≤◌, true, List, [], ◌∷◌, length, sym, ap, ◌∙◌, inl, inr, arith}
+use Rattle.std.proofs.Common.{◌≡◌, ℕ, suc, ◌+◌, ◌-◌, ◌*◌, ◌<◌, ◌≤◌, true, List, [], ◌∷◌, length, refl, sym, ap, ◌∙◌, inl, inr, arith}
 use Rattle.std.specs.List.{AllByRecursion}
 use Rattle.std.specs.Option.{option_map_or}
 use Rattle.std.proofs.Math.Nat.{mul-le-mul_right}
@@ -7,7 +7,7 @@ use Rattle.std.proofs.lemmas.Bool.{false≢true, cases_lt, le-leb}
 use Rattle.tlsf_class.specs.Classes.{IsLevel, low, class_of, most_words}
 use Rattle.tlsf_class.proofs.Lows.{low-rises_or_same}
 use Rattle.tlsf_class.proofs.ClassOfSize.{IsSearchOf, class_of-is, search_of-is, serves-from}
-use Rattle.tlsf_heap.specs.Blocks.{Block, Live, Free, HeapState, words_in, want}
+use Rattle.tlsf_heap.specs.Blocks.{Block, Live, Free, HeapState, size_of, is_free, words_in, want}
 use Rattle.tlsf_heap.specs.GoodFit.{fits, is_fit}
 use Rattle.tlsf_heap.specs.Chosen.{NoneFits}
 use Rattle.tlsf_heap.specs.Lawful.{IsLawful, HasRoom, AreApart}
@@ -17,7 +17,7 @@ use Rattle.tlsf_heap.proofs.Granting.{fits_something}
 use Rattle.tlsf_laws.specs.Room.{live_count, free_words, sure}
 
 -- free blocks don't touch, so at most one more is free than live
-few_free : (bs : List Block) → AreApart bs → length (free_among bs) ≤ length (live_among bs) + 1
+pub few_free : (bs : List Block) → AreApart bs → length (free_among bs) ≤ length (live_among bs) + 1
 few_free [] a = omega arith
 few_free (Live m s xs ∷ bs) a = let e = few_free bs a in omega arith
 few_free (Free m s ∷ []) a = omega arith
@@ -31,7 +31,7 @@ pub sure_enough : (sli : ℕ) (level : IsLevel sli) (n : ℕ) → n ≤ most_wor
 sure_enough sli level n region = let search = search_of-is sli level n region in omega (arith, sure_is sli level n search.0 search.1, search.1.enough)
 
 -- a free block serves from the least size of the search class on
-serves_sure : (sli : ℕ) (level : IsLevel sli) (n c m s : ℕ) → IsSearchOf sli level n c → 4 ≤ m → low sli c ≤ m → is_fit sli n (Free m s) ≡ true
+pub serves_sure : (sli : ℕ) (level : IsLevel sli) (n c m s : ℕ) → IsSearchOf sli level n c → 4 ≤ m → low sli c ≤ m → is_fit sli n (Free m s) ≡ true
 serves_sure sli level n c m s is four h =
     let own = class_of-is sli level m four in
     serves-from sli level n c (class_of sli m) is.found ∙ le-leb c (class_of sli m) (elim (cases_lt (class_of sli m) c) [
@@ -39,22 +39,34 @@ serves_sure sli level n c m s is four h =
       | inr fine ↦ fine
     ])
 
+-- a free block has at most t words
+abbrev pub IsHole : ℕ → Block → Type 0
+IsHole t block = is_free block ≡ true → size_of block ≤ t
+
 -- blocks that don't serve are below it
-small_free : (sli : ℕ) (level : IsLevel sli) (n : ℕ) → n ≤ most_words sli → (bs : List Block) → AllByRecursion HasRoom bs → NoneFits sli n bs → words_in (free_among bs) ≤ length (free_among bs) * (sure sli n - 1)
-small_free sli level n region [] rooms none = omega arith
-small_free sli level n region (Live m s xs ∷ bs) rooms none = small_free sli level n region bs rooms.1 (λ i l. none (suc i) (omega arith))
-small_free sli level n region (Free m s ∷ bs) rooms none =
-    let rest = small_free sli level n region bs rooms.1 (λ i l. none (suc i) (omega arith)) in
+pub holes_below : (sli : ℕ) (level : IsLevel sli) (n : ℕ) → n ≤ most_words sli → (bs : List Block) → AllByRecursion HasRoom bs → NoneFits sli n bs → AllByRecursion (IsHole (sure sli n - 1)) bs
+holes_below sli level n region [] rooms none = tt
+holes_below sli level n region (Live m s xs ∷ bs) rooms none = ((λ free. absurd (false≢true free)), holes_below sli level n region bs rooms.1 (λ i l. none (suc i) (omega arith)))
+holes_below sli level n region (Free m s ∷ bs) rooms none =
     let search = search_of-is sli level n region in
     let below : m ≤ sure sli n - 1 = elim (cases_lt m (low sli search.0)) [
       | inl below ↦ omega (arith, sure_is sli level n search.0 search.1)
       | inr above ↦ absurd (false≢true (sym (none 0 (omega arith)) ∙ serves_sure sli level n search.0 m s search.1 rooms.0 above))
     ] in
-    omega (arith, rest, below)
+    ((λ _. below), holes_below sli level n region bs rooms.1 (λ i l. none (suc i) (omega arith)))
+
+pub holes_sum : (t : ℕ) (bs : List Block) → AllByRecursion (IsHole t) bs → words_in (free_among bs) ≤ length (free_among bs) * t
+holes_sum t [] holes = omega arith
+holes_sum t (Live m s xs ∷ bs) holes = holes_sum t bs holes.1
+holes_sum t (Free m s ∷ bs) holes = let few = holes.0 refl in let rest = holes_sum t bs holes.1 in omega (arith, few, rest)
+
+-- where no block serves, each is below it
+pub holes_where_none : (sli : ℕ) (level : IsLevel sli) (n : ℕ) → n ≤ most_words sli → (bs : List Block) → AllByRecursion HasRoom bs → fits sli n bs ≡ [] → AllByRecursion (IsHole (sure sli n - 1)) bs
+holes_where_none sli level n region bs rooms none = holes_below sli level n region bs rooms (λ i within. not_true _ (λ fit. fits_something sli n bs i within fit none))
 
 pub finds_room : (sli : ℕ) (level : IsLevel sli) (h : HeapState) (len : ℕ) → IsLawful h → want len ≤ most_words sli → (live_count h + 1) * (sure sli (want len) - 1) < free_words h → ¬ (fits sli (want len) h.blocks ≡ [])
 finds_room sli level h len lawful region more none =
-    let small = small_free sli level (want len) region h.blocks lawful.rooms (λ i within. not_true _ (λ fit. fits_something sli (want len) h.blocks i within fit none)) in
+    let small = holes_sum (sure sli (want len) - 1) h.blocks (holes_where_none sli level (want len) region h.blocks lawful.rooms none) in
     let few = mul-le-mul_right (sure sli (want len) - 1) (few_free h.blocks lawful.apart) in
     omega (arith, small, few, more)
 

@@ -1,14 +1,14 @@
 -- A pool that never refuses: what each call leaves of its bounds.
-use Rattle.std.proofs.Common.{◌≡◌, ◌≢◌, ℕ, ◌+◌, ◌-◌, ◌*◌, ◌<◌, ◌≤◌, true, List, [], ◌∷◌, ◌++◌, length, Option, Some, None, Err, refl, sym, ◌∙◌, subst, inl, inr, arith}
+use Rattle.std.proofs.Common.{◌≡◌, ◌≢◌, ℕ, ◌+◌, ◌-◌, ◌*◌, ◌<◌, ◌≤◌, ◌&&◌, max, Bool, true, false, cond, nat_le, List, [], ◌∷◌, ◌++◌, length, Option, Some, None, Err, refl, sym, ap, ap₂, ◌∙◌, subst, inl, inr, arith}
 use Rattle.std.specs.List.{AllByRecursion}
 use Rattle.std.proofs.Math.Nat.{mul-le-mul, mul-le-mul_right}
-use Rattle.std.proofs.lemmas.Bool.{false≢true, cases_lt, ne_eqb}
+use Rattle.std.proofs.lemmas.Bool.{false≢true, cases_lt, ne_eqb, le-leb, leb-true, lt-leb}
 use Rattle.tlsf_class.specs.Classes.{IsLevel, most_words}
 use Rattle.tlsf_heap.specs.Blocks.{Block, Live, Free, HeapState, size_of, words_in, want}
-use Rattle.tlsf_heap.specs.GoodFit.{Site, choice}
+use Rattle.tlsf_heap.specs.GoodFit.{Site, choice, fits}
 use Rattle.tlsf_heap.specs.Lawful.{IsLawful, IsRegion}
 use Rattle.tlsf_heap.specs.Calls.{Outcome, Call, Allocate, Release, Write, Resize, Read, Allocated, allocated, allocated_at, refused, carved, before_free, with_bytes, has_serial, refitted, answered, opened, run, is_worn, last_tick}
-use Rattle.tlsf_heap.specs.Reports.{live_among}
+use Rattle.tlsf_heap.specs.Reports.{live_among, free_among}
 use Rattle.tlsf_heap.specs.declared.name.Name.{Name}
 use Rattle.tlsf_heap.specs.declared.refusal.Refusal.TheVariants.{NoFit, Worn}
 use Rattle.tlsf_heap.proofs.Finding.{and_left}
@@ -19,8 +19,9 @@ use Rattle.tlsf_heap.proofs.Outcomes.{by_test, gives, by_allocated, by_released,
 use Rattle.tlsf_heap.proofs.Served.{no_fit}
 use Rattle.tlsf_laws.specs.Room.{live_count, sure}
 use Rattle.tlsf_laws.specs.Held.{held_after}
-use Rattle.tlsf_laws.specs.Pools.{pool_words, IsSmall, IsModest, AreModest, HasRoomFor, IsServed, PoolSuffices, PoolServes}
-use Rattle.tlsf_laws.proofs.FreeRoom.{finds_room, sure_rises}
+use Rattle.tlsf_laws.specs.Pools.{pool_region, pool_words, BeginAtFours, HasRegion, IsSmall, IsModest, AreModest, HasRoomFor, IsServed, PoolSuffices, PoolServes, RegionIsThePools}
+use Rattle.tlsf_laws.proofs.FreeRoom.{finds_room, holes_sum, holes_where_none, sure_rises}
+use Rattle.tlsf_laws.proofs.Fours.{WantsFour, fours_kept, free_least, packed, sure_four}
 use Rattle.tlsf_laws.proofs.Around.{past_all, before_all, around_site, words_kept}
 use Rattle.tlsf_laws.proofs.Held.{held_is}
 use Rattle.tlsf_laws.proofs.Refits.{by_refit, by_resize}
@@ -57,42 +58,94 @@ pub record InPool (words k : ℕ) (h : HeapState) : Type 0 where
   pub lawful : IsLawful h
   pub words_are : h.words ≡ words
   pub small : AreSmall k h.blocks
+  pub fours : k ≤ 7 → BeginAtFours 0 h.blocks
+
+-- the words of a pool by its cases
+pub pool_of_fours : (sli most len : ℕ) → len ≤ 8 → pool_words sli most len ≡ max 4 (most * 4)
+pool_of_fours sli most len h =
+    ap (λ (c : Bool). max 4 (cond c (most * 4) ((most - 1) * (want len + 3) + most * (sure sli (want len) - 1) + 1))) (le-leb len 8 h)
+
+pub pool_of_more : (sli most len : ℕ) → 8 < len → pool_words sli most len ≡ max 4 ((most - 1) * (want len + 3) + most * (sure sli (want len) - 1) + 1)
+pool_of_more sli most len h =
+    ap (λ (c : Bool). max 4 (cond c (most * 4) ((most - 1) * (want len + 3) + most * (sure sli (want len) - 1) + 1))) (lt-leb len 8 h)
+
+-- the region of a pool
+pub region_is : (sli : ℕ) → RegionIsThePools sli
+region_is sli most len words = (at (nat_le (want len) (most_words sli)) (nat_le (pool_words sli most len) (most_words sli)) refl refl, λ has. on has)
+  where
+    at : (a b : Bool) → nat_le (want len) (most_words sli) ≡ a → nat_le (pool_words sli most len) (most_words sli) ≡ b → cond (a && b) (Some (pool_words sli most len)) None ≡ Some words → HasRegion sli most len × (words ≡ pool_words sli most len)
+    at true true class few is = ((leb-true _ _ class, (omega arith, leb-true _ _ few)), cc)
+    at true false class few is = absurd cc
+    at false b class few is = absurd cc
+
+    on : HasRegion sli most len × (words ≡ pool_words sli most len) → pool_region sli most len ≡ Some words
+    on has =
+        let class : nat_le (want len) (most_words sli) ≡ true = le-leb _ _ has.0.0 in
+        let few : nat_le (pool_words sli most len) (most_words sli) ≡ true = le-leb _ _ has.0.1.1 in
+        ap₂ (λ (a b : Bool). cond (a && b) (Some (pool_words sli most len)) None) class few ∙ ap Some (sym has.1)
+
+wants_four : (most len held : ℕ) (call : Call) → want len + 3 ≤ 7 → IsModest most len held call → WantsFour call
+wants_four most len held (Allocate n) few modest = omega (arith, few, modest.0)
+wants_four most len held (Release name) few modest = tt
+wants_four most len held (Write name at bytes) few modest = tt
+wants_four most len held (Resize name n) few modest = omega (arith, few, modest)
+wants_four most len held (Read name at n) few modest = tt
+
+module _ (sli most len : ℕ) where
+  pub small_kept : (h : HeapState) (call : Call) → AreSmall (want len + 3) h.blocks → IsModest most len (live_count h) call → AreSmall (want len + 3) (answered sli h call).1.blocks
+  small_kept h (Allocate n) small modest = by_allocated sli (λ o. AreSmall (want len + 3) o.heap.blocks) h n (λ why. small) (λ s site fit.
+      let a = around_site (IsSmall (want len + 3)) h s site small in
+      all_append (IsSmall (want len + 3)) (s.before ++ carved (size_of s.block) (want n) h.tick n) s.after
+      (all_append (IsSmall (want len + 3)) s.before (carved (size_of s.block) (want n) h.tick n) a.0 (small_carved (want len + 3) (size_of s.block) (want n) h.tick n (omega (arith, modest.0)))) a.2)
+  small_kept h (Release name) small modest = by_released (λ o. AreSmall (want len + 3) o.heap.blocks) h name (λ why. small) (λ s own site is.
+      let a = around_site (IsSmall (want len + 3)) h s site small in
+      all_append (IsSmall (want len + 3)) (before_free s.before) _ (before_all (IsSmall (want len + 3)) s.before a.0) ((λ f. absurd (false≢true (sym f))), past_all (IsSmall (want len + 3)) s.after a.2))
+  small_kept h (Write name at bytes) small modest = by_written (λ o. AreSmall (want len + 3) o.heap.blocks) h name at bytes (λ why. small) (λ s site has.
+      let a = around_site (IsSmall (want len + 3)) h s site small in
+      all_append (IsSmall (want len + 3)) s.before _ a.0 (small_with (want len + 3) s.block _ a.1, a.2))
+  small_kept h (Resize name n) small modest = by_resize (λ o. AreSmall (want len + 3) o.heap.blocks) h name n (λ why. small) (λ s own e site is.
+      let a = around_site (IsSmall (want len + 3)) h s site small in
+      all_append (IsSmall (want len + 3)) s.before _ a.0 (small_refitted (want len + 3) h.tick (want n) n name.serial s.block s.after (omega (arith, modest)) (and_left _ _ is) a.2))
+  small_kept h (Read name at n) small modest = small
 
 module _ (sli : ℕ) (level : IsLevel sli) (words most len : ℕ) (region : want len ≤ most_words sli) (enough : pool_words sli most len ≤ words) where
   abbrev k : ℕ
   k = want len + 3
 
-  small_kept : (h : HeapState) (call : Call) → AreSmall k h.blocks → IsModest most len (live_count h) call → AreSmall k (answered sli h call).1.blocks
-  small_kept h (Allocate n) small modest = by_allocated sli (λ o. AreSmall k o.heap.blocks) h n (λ why. small) (λ s site fit.
-      let a = around_site (IsSmall k) h s site small in
-      all_append (IsSmall k) (s.before ++ carved (size_of s.block) (want n) h.tick n) s.after
-      (all_append (IsSmall k) s.before (carved (size_of s.block) (want n) h.tick n) a.0 (small_carved k (size_of s.block) (want n) h.tick n (omega (arith, modest.0)))) a.2)
-  small_kept h (Release name) small modest = by_released (λ o. AreSmall k o.heap.blocks) h name (λ why. small) (λ s own site is.
-      let a = around_site (IsSmall k) h s site small in
-      all_append (IsSmall k) (before_free s.before) _ (before_all (IsSmall k) s.before a.0) ((λ f. absurd (false≢true (sym f))), past_all (IsSmall k) s.after a.2))
-  small_kept h (Write name at bytes) small modest = by_written (λ o. AreSmall k o.heap.blocks) h name at bytes (λ why. small) (λ s site has.
-      let a = around_site (IsSmall k) h s site small in
-      all_append (IsSmall k) s.before _ a.0 (small_with k s.block _ a.1, a.2))
-  small_kept h (Resize name n) small modest = by_resize (λ o. AreSmall k o.heap.blocks) h name n (λ why. small) (λ s own e site is.
-      let a = around_site (IsSmall k) h s site small in
-      all_append (IsSmall k) s.before _ a.0 (small_refitted k h.tick (want n) n name.serial s.block s.after (omega (arith, modest)) (and_left _ _ is) a.2))
-  small_kept h (Read name at n) small modest = small
-
   pub kept : (h : HeapState) (call : Call) → InPool words k h → IsModest most len (live_count h) call → InPool words k (answered sli h call).1
   kept h call pool modest = record {
     lawful = lawful_run sli level h (call ∷ []) pool.lawful;
     words_are = words_kept sli h call ∙ pool.words_are;
-    small = small_kept h call pool.small modest;
+    small = small_kept sli most len h call pool.small modest;
+    fours = λ few. fours_kept sli h call (wants_four most len (live_count h) call few modest) (pool.fours few);
   }
 
-  -- a modest request finds room
-  pub has_room : (h : HeapState) (n : ℕ) → InPool words k h → n ≤ len → live_count h < most → (allocated sli h n).answer ≢ Err NoFit
-  has_room h n pool short few e =
+  -- where four words are wanted, any free block serves, and where none is free, as many blocks are live as have room
+  fours_room : (h : HeapState) (n : ℕ) → InPool words k h → len ≤ 8 → n ≤ len → live_count h < most → (fits sli (want n) h.blocks ≡ []) → ⊥
+  fours_room h n pool four short few none =
+      let wanted : want n ≡ 4 = omega (arith, four, short) in
+      let serves : sure sli (want n) ≡ 4 = rw wanted (sure_four sli level) in
+      let lacking = holes_sum (sure sli (want n) - 1) h.blocks (holes_where_none sli level (want n) (omega (arith, wanted, region)) h.blocks pool.lawful.rooms none) in
+      let bound : words_in (free_among h.blocks) ≤ length (free_among h.blocks) * 3 = rw serves at lacking in
+      let nothing : length (free_among h.blocks) ≡ 0 = omega (arith, bound, free_least h.blocks pool.lawful.rooms) in
+      let full = packed 0 h.blocks (pool.fours (omega (arith, four))) (subst (λ (j : ℕ). AreSmall j h.blocks) (omega (arith, four)) pool.small) nothing in
+      omega (arith, full, pool.lawful.whole, pool.words_are, enough, pool_of_fours sli most len four, few)
+
+  -- where more are wanted, more is free than holes that are too small may have
+  holes_room : (h : HeapState) (n : ℕ) → InPool words k h → 8 < len → n ≤ len → live_count h < most → (fits sli (want n) h.blocks ≡ []) → ⊥
+  holes_room h n pool more short few =
       let rises = sure_rises sli level (want n) (want len) (omega arith) region in
       let live = live_small k h.blocks pool.small in
       let most_live : live_count h * k ≤ (most - 1) * k = mul-le-mul_right k (omega arith) in
       let most_lost : (live_count h + 1) * (sure sli (want n) - 1) ≤ most * (sure sli (want len) - 1) = mul-le-mul (omega arith) (omega arith) in
-      finds_room sli level h n pool.lawful (omega arith) (omega (arith, words_apart h.blocks, pool.lawful.whole, pool.words_are, live, most_live, most_lost, enough)) ((no_fit sli h n).0 e)
+      finds_room sli level h n pool.lawful (omega arith) (omega (arith, words_apart h.blocks, pool.lawful.whole, pool.words_are, live, most_live, most_lost, enough, pool_of_more sli most len more))
+
+  -- a modest request finds room
+  pub has_room : (h : HeapState) (n : ℕ) → InPool words k h → n ≤ len → live_count h < most → (allocated sli h n).answer ≢ Err NoFit
+  has_room h n pool short few e = elim (cases_lt 8 len) [
+    | inl more ↦ holes_room h n pool more short few ((no_fit sli h n).0 e)
+    | inr four ↦ fours_room h n pool four short few ((no_fit sli h n).0 e)
+  ]
 
   not_refused : (h : HeapState) (call : Call) → InPool words k h → IsModest most len (live_count h) call → (answered sli h call).0 ≢ Allocated (Err NoFit)
   not_refused h (Allocate n) pool modest = λ e. let same : (allocated sli h n).answer ≡ Err NoFit = cc in has_room h n pool modest.0 modest.1 same
@@ -139,7 +192,7 @@ module _ (sli : ℕ) (level : IsLevel sli) (words most len : ℕ) (region : want
 
 -- a new heap is a pool
 pub opens : (sli id words first k : ℕ) → IsRegion sli words → InPool words k (opened id words first)
-opens sli id words first k region = record { lawful = opened_lawful id words first region.0; words_are = refl; small = ((λ f. absurd (false≢true (sym f))), tt) }
+opens sli id words first k region = record { lawful = opened_lawful id words first region.0; words_are = refl; small = ((λ f. absurd (false≢true (sym f))), tt); fours = λ _. (refl, tt) }
 
 pub suffices : (sli : ℕ) (level : IsLevel sli) → PoolSuffices sli
 suffices sli level id words first most len calls region upto enough modest = none_refused sli level words most len upto enough (opened id words first) calls (opens sli id words first (want len + 3) region) modest

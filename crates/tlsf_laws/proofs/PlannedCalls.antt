@@ -1,28 +1,32 @@
 -- A table of kinds that never refuses: what each call leaves of its bounds.
-use Rattle.std.proofs.Common.{◌≡◌, ◌≢◌, ℕ, zero, suc, ◌+◌, ◌-◌, ◌*◌, ◌<◌, ◌≤◌, List, [], ◌∷◌, length, Err, refl, ap, ◌∙◌, max, add-zero, arith, le_trans}
-use Rattle.std.specs.List.{AllByRecursion}
+use Rattle.std.proofs.Common.{◌≡◌, ◌≢◌, ℕ, zero, suc, ◌+◌, ◌-◌, ◌*◌, ◌<◌, ◌≤◌, Bool, true, false, cond, nat_le, nat_lt, List, [], ◌∷◌, length, map, fold, Err, refl, ap, ◌∙◌, subst, max, add-zero, arith, le_trans}
+use Rattle.std.specs.List.{AllByRecursion, list_all}
 use Rattle.std.proofs.Math.Nat.{mul-le-mul}
+use Rattle.std.proofs.lemmas.Bool.{leb-true}
+use Rattle.std.proofs.lemmas.Bool.Decides.{nat_tests}
 use Rattle.tlsf_class.specs.Classes.{IsLevel, most_words}
 use Rattle.tlsf_heap.specs.Blocks.{Block, Live, Free, HeapState, words_in, want}
 use Rattle.tlsf_heap.specs.Lawful.{IsLawful}
 use Rattle.tlsf_heap.specs.Calls.{Call, Allocate, Release, Write, Resize, Read, allocated, answered, opened, run}
 use Rattle.tlsf_heap.specs.Reports.{live_among}
 use Rattle.tlsf_heap.specs.declared.refusal.Refusal.TheVariants.{NoFit}
+use Rattle.tlsf_heap.proofs.Finding.{and_left, and_right}
 use Rattle.tlsf_heap.proofs.Summing.{words_apart}
 use Rattle.tlsf_heap.proofs.Outcomes.{lawful_run}
 use Rattle.tlsf_heap.proofs.Served.{no_fit}
 use Rattle.tlsf_heap.proofs.Lawfulness.{opened_lawful}
 use Rattle.tlsf_laws.specs.Room.{live_count, free_words, sure, IsSnug}
-use Rattle.tlsf_laws.specs.Pools.{HasRoomFor}
-use Rattle.tlsf_laws.specs.Kinds.{Ledger, lengths, ledger_after, AreOfKinds, IsPlanned, ArePlanned, count_in, table_words, words_with, kinds_words, HasClass, KindsSuffice, OneKindIsAPool}
+use Rattle.tlsf_laws.specs.Pools.{AreModest, HasRoomFor, IsModest}
+use Rattle.tlsf_laws.specs.Kinds.{Ledger, lengths, ledger_after, AreOfKinds, IsPlanned, ArePlanned, count_in, table_words, used, words_with, resized_words, are_fours, HasClass, StaysFour, KindsSuffice, ResizedSuffice, OneKindIsAPool}
 use Rattle.tlsf_laws.specs.declared.kind.Kind.{Kind}
 use Rattle.tlsf_laws.proofs.Around.{words_kept}
 use Rattle.tlsf_laws.proofs.FreeRoom.{finds_room, sure_rises}
-use Rattle.tlsf_laws.proofs.Held.{one, counted}
+use Rattle.tlsf_laws.proofs.Held.{one, counted, held_is}
 use Rattle.tlsf_laws.proofs.Ledgers.{Agrees, agrees_call, new_agrees, sum_of, sum_one}
 use Rattle.tlsf_laws.proofs.Loads.{load}
+use Rattle.tlsf_laws.proofs.ModestCalls.{suffices}
 use Rattle.tlsf_laws.proofs.Snug.{snug_kept}
-use Rattle.tlsf_laws.proofs.Tables.{spend, HasKind, has_kind, counted_in, least_words, class_of_kind}
+use Rattle.tlsf_laws.proofs.Tables.{spend, HasKind, has_kind, counted_in, least_words, all_used, of_all}
 
 record InTable (words : ℕ) (h : HeapState) (l : Ledger) : Type 0 where
   lawful : IsLawful h
@@ -30,7 +34,7 @@ record InTable (words : ℕ) (h : HeapState) (l : Ledger) : Type 0 where
   snug : AllByRecursion IsSnug h.blocks
   agrees : Agrees h l
 
-live_spent : (bs : List Block) → AllByRecursion IsSnug bs → words_in (live_among bs) ≤ load spend bs
+pub live_spent : (bs : List Block) → AllByRecursion IsSnug bs → words_in (live_among bs) ≤ load spend bs
 live_spent [] all = omega arith
 live_spent (Live m s xs ∷ bs) all = let e = live_spent bs all.1 in let f = all.0 in omega arith
 live_spent (Free m s ∷ bs) all = live_spent bs all.1
@@ -39,17 +43,17 @@ live_spent (Free m s ∷ bs) all = live_spent bs all.1
 enough : (live free words spent kind table lost least : ℕ) → live + free ≡ words → live ≤ spent → spent + kind ≤ table → table - kind + least + 1 ≤ words → lost ≤ least → lost < free
 enough live free words spent kind table lost least a b c d e = omega (arith, a, b, c, d, e)
 
-module _ (sli : ℕ) (level : IsLevel sli) (words : ℕ) (kinds : List Kind) (classes : AllByRecursion (HasClass sli) kinds) (large : kinds_words sli kinds ≤ words) where
+module _ (sli : ℕ) (level : IsLevel sli) (words : ℕ) (kinds : List Kind) (classes : AllByRecursion (HasClass sli) kinds) (large : resized_words sli kinds ≤ words) where
   has_room : (h : HeapState) (l : Ledger) (n : ℕ) → InTable words h l → AreOfKinds kinds (n ∷ lengths l) → (allocated sli h n).answer ≢ Err NoFit
   has_room h l n table fit e =
       let has : HasKind kinds n (lengths l) = has_kind kinds n (lengths l) fit in
-      let region : want has.kind.len ≤ most_words sli = class_of_kind sli kinds has.kind has.of classes in
+      let region : want has.kind.len ≤ most_words sli = of_all (HasClass sli) (used kinds) has.kind has.of (all_used (HasClass sli) kinds classes) in
       let wanted : want n ≤ want has.kind.len = wants n has.kind.len has.short in
       let rises : sure sli (want n) ≤ sure sli (want has.kind.len) = sure_rises sli level (want n) (want has.kind.len) wanted region in
       let count : live_count h ≡ length (lengths l) = counted h.blocks ∙ table.agrees.totals one ∙ sum_one (lengths l) in
       let lost : (live_count h + 1) * (sure sli (want n) - 1) ≤ count_in kinds * (sure sli (want has.kind.len) - 1) =
       mul-le-mul (bounded _ _ _ count (counted_in kinds (n ∷ lengths l) fit)) (less _ _ rises) in
-      let least : words_with sli kinds has.kind ≤ words = le_trans (least_words sli kinds kinds 0 has.kind has.of) large in
+      let least : words_with sli kinds has.kind ≤ words = le_trans (least_words sli kinds (used kinds) 4 has.kind has.of) large in
       finds_room sli level h n table.lawful (le_trans wanted region) (enough (words_in (live_among h.blocks)) (free_words h) words (sum_of spend (lengths l)) (spend has.kind.len) (table_words kinds) _ _
       (words_apart h.blocks ∙ (table.lawful.whole ∙ table.words_are)) (le_trans (live_spent h.blocks table.snug) (same _ _ (table.agrees.totals spend))) has.left least lost)
       ((no_fit sli h n).0 e)
@@ -86,22 +90,78 @@ module _ (sli : ℕ) (level : IsLevel sli) (words : ℕ) (kinds : List Kind) (cl
   none_refused h l (call ∷ calls) table planned =
       (not_refused h l call table planned.0, none_refused (answered sli h call).1 (ledger_after l call (answered sli h call).0) calls (kept h l call table) planned.1)
 
-pub kinds_suffice : (sli : ℕ) (level : IsLevel sli) → KindsSuffice sli
-kinds_suffice sli level id words first kinds calls region classes large planned =
+-- to whatever blocks are resized
+pub resized_suffice : (sli : ℕ) (level : IsLevel sli) → ResizedSuffice sli
+resized_suffice sli level id words first kinds calls region classes large planned =
     none_refused sli level words kinds classes large (opened id words first) [] calls
     (record { lawful = opened_lawful id words first region.0; words_are = refl; snug = (tt, tt); agrees = new_agrees id words first }) planned
+
+-- ---- where all requests want four words
+
+fours_short : (kinds : List Kind) → list_all (λ kind. nat_le kind.len 8) kinds ≡ true → AllByRecursion (λ kind. kind.len ≤ 8) kinds
+fours_short [] all = tt
+fours_short (kind ∷ kinds) all = (leb-true kind.len 8 (and_left _ _ all), fours_short kinds (and_right _ _ all))
+
+module _ (sli : ℕ) (level : IsLevel sli) (kinds : List Kind) (fours : are_fours kinds ≡ true) where
+  modest : (h : HeapState) (l : Ledger) (call : Call) → Agrees h l → IsPlanned kinds l call → StaysFour call → IsModest (count_in kinds) 8 (live_count h) call
+  modest h l (Allocate n) agrees planned stays =
+      let has : HasKind kinds n (lengths l) = has_kind kinds n (lengths l) planned in
+      let short : has.kind.len ≤ 8 = of_all (λ kind. kind.len ≤ 8) (used kinds) has.kind has.of (fours_short (used kinds) fours) in
+      let count : live_count h ≡ length (lengths l) = counted h.blocks ∙ agrees.totals one ∙ sum_one (lengths l) in
+      let most : suc (length (lengths l)) ≤ count_in kinds = counted_in kinds (n ∷ lengths l) planned in
+      (le_trans has.short short, omega (arith, count, most))
+  modest h l (Release name) agrees planned stays = tt
+  modest h l (Write name at bytes) agrees planned stays = tt
+  modest h l (Resize name n) agrees planned stays = stays
+  modest h l (Read name at n) agrees planned stays = tt
+
+  all_modest : (h : HeapState) (l : Ledger) (calls : List Call) → Agrees h l → IsLawful h → ArePlanned kinds l calls (run sli h calls).0 → AllByRecursion StaysFour calls
+      → AreModest (count_in kinds) 8 (live_count h) calls (run sli h calls).0
+  all_modest h l [] agrees lawful planned stay = tt
+  all_modest h l (call ∷ calls) agrees lawful planned stay =
+      let next : HeapState = (answered sli h call).1 in
+      let rest = all_modest next (ledger_after l call (answered sli h call).0) calls (agrees_call sli h call l agrees lawful) (lawful_run sli level h (call ∷ []) lawful) planned.1 stay.1 in
+      (modest h l call agrees planned.0 stay.0, subst (λ (held : ℕ). AreModest (count_in kinds) 8 held calls (run sli next calls).0) (held_is sli h call) rest)
+
+pub kinds_suffice : (sli : ℕ) (level : IsLevel sli) → KindsSuffice sli
+kinds_suffice sli level id words first kinds calls region classes large stay planned = at (are_fours kinds) refl large
+  where
+    start : HeapState
+    start = opened id words first
+
+    at : (c : Bool) → are_fours kinds ≡ c → cond c (max 4 (count_in kinds * 4)) (resized_words sli kinds) ≤ words → AllByRecursion HasRoomFor (run sli start calls).0
+    at true is enough =
+        suffices sli level id words first (count_in kinds) 8 calls region (omega (arith, region)) enough
+        (all_modest sli level kinds is start [] calls (new_agrees id words first) (opened_lawful id words first region.0) planned (stay is))
+    at false is enough = resized_suffice sli level id words first kinds calls region classes enough planned
+
+-- ---- one kind
 
 most_but_one : (m w : ℕ) → m * w - w ≡ (m - 1) * w
 most_but_one zero w = omega arith
 most_but_one (suc m) w = let less : suc m - 1 ≡ m = omega arith in rw less (omega arith)
 
 pub one_kind : (sli : ℕ) → OneKindIsAPool sli
-one_kind sli kind =
-    plain (kind.most * spend kind.len) ((kind.most - 1) * spend kind.len) (spend kind.len) ((kind.most + 0) * lost) (kind.most * lost)
-    (most_but_one kind.most (spend kind.len)) (ap (λ (n : ℕ). n * lost) (add-zero kind.most))
+one_kind sli kind = at (nat_lt 0 kind.most) (nat_le kind.len 8) refl refl
   where
     lost : ℕ
     lost = sure sli (want kind.len) - 1
 
-    plain : (p q w t u : ℕ) → p - w ≡ q → t ≡ u → max 0 ((p + 0) - w + t + 1) ≡ q + u + 1
+    asks : List Kind → ℕ
+    asks ks = cond (list_all (λ k. nat_le k.len 8) ks) (max 4 ((kind.most + 0) * 4)) (fold max 4 (map (words_with sli (kind ∷ [])) ks))
+
+    words : Bool → ℕ
+    words short = max 4 (cond short (kind.most * 4) ((kind.most - 1) * (want kind.len + 3) + kind.most * lost + 1))
+
+    none : (m w t : ℕ) (short : Bool) → m ≡ 0 → max 4 ((m + 0) * 4) ≡ max 4 (cond short (m * 4) ((m - 1) * (w + 3) + m * t + 1))
+    none m w t true is = rw is (omega arith)
+    none m w t false is = rw is (omega arith)
+
+    plain : (p q w t u : ℕ) → p - w ≡ q → t ≡ u → max 4 ((p + 0) - w + t + 1) ≡ max 4 (q + u + 1)
     plain p q w t u e f = omega (arith, e, f)
+
+    at : (some short : Bool) → nat_lt 0 kind.most ≡ some → nat_le kind.len 8 ≡ short → asks (cond some (kind ∷ []) []) ≡ words short
+    at true true is len = rw len (omega arith)
+    at true false is len = rw len (plain (kind.most * spend kind.len) ((kind.most - 1) * spend kind.len) (spend kind.len) ((kind.most + 0) * lost) (kind.most * lost)
+        (most_but_one kind.most (spend kind.len)) (ap (λ (n : ℕ). n * lost) (add-zero kind.most)))
+    at false short is len = none kind.most (want kind.len) lost short (grind (arith, nat_tests))

@@ -1,10 +1,12 @@
 -- Blocks that fit a table of kinds: how many they are, and how many words they take.
-use Rattle.std.proofs.Common.{◌≡◌, ℕ, ◌+◌, ◌*◌, ◌<◌, ◌≤◌, ◌⊎◌, suc, Bool, true, false, cond, List, [], ◌∷◌, length, map, filter, fold, max, nat_le, nat_lt, refl, sym, ap, ◌∙◌, subst, inl, inr, arith, le_trans}
-use Rattle.std.specs.List.{AllByRecursion}
+use Rattle.std.proofs.Common.{◌≡◌, ℕ, ◌+◌, ◌-◌, ◌*◌, ◌<◌, ◌≤◌, ◌⊎◌, suc, Bool, true, false, cond, List, [], ◌∷◌, length, map, filter, fold, max, nat_le, nat_lt, refl, sym, ap, ap₂, ◌∙◌, subst, inl, inr, arith, le_trans}
+use Rattle.std.specs.List.{AllByRecursion, list_all}
 use Rattle.std.proofs.Math.Nat.{mul-le-mul_right}
 use Rattle.std.proofs.lemmas.Bool.{cases_lt, lt-ltb, le-ltb, le-leb, lt-leb}
+use Rattle.std.proofs.lemmas.Bool.Decides.{nat_tests}
 use Rattle.tlsf_heap.specs.Blocks.{want}
-use Rattle.tlsf_laws.specs.Kinds.{AreOfKinds, count_in, table_words, words_with, HasClass}
+use Rattle.tlsf_laws.specs.Room.{sure}
+use Rattle.tlsf_laws.specs.Kinds.{AreOfKinds, count_in, table_words, used, words_with, EmptyKindsAreNothing}
 use Rattle.tlsf_laws.specs.declared.kind.Kind.{Kind}
 use Rattle.tlsf_laws.proofs.Ledgers.{sum_of, sum_one}
 use Rattle.tlsf_laws.proofs.Held.{one}
@@ -13,10 +15,10 @@ use Rattle.tlsf_laws.proofs.Held.{one}
 abbrev pub spend : ℕ → ℕ
 spend n = want n + 3
 
-abbrev short : ℕ → List ℕ → List ℕ
+abbrev pub short : ℕ → List ℕ → List ℕ
 short k lens = filter (λ n. nat_le n k) lens
 
-abbrev long : ℕ → List ℕ → List ℕ
+abbrev pub long : ℕ → List ℕ → List ℕ
 long k lens = filter (λ n. nat_lt k n) lens
 
 abbrev Add : Bool → ℕ → List ℕ → List ℕ
@@ -33,7 +35,7 @@ beside : (a b c d : ℕ) → b ≡ c + d → a + b ≡ c + (a + d)
 beside a b c d e = omega (arith, e)
 
 module _ (f : ℕ → ℕ) where
-  split : (k : ℕ) (lens : List ℕ) → sum_of f lens ≡ sum_of f (short k lens) + sum_of f (long k lens)
+  pub split : (k : ℕ) (lens : List ℕ) → sum_of f lens ≡ sum_of f (short k lens) + sum_of f (long k lens)
   split k [] = refl
   split k (n ∷ lens) = elim (parted k n) [
     | inl s ↦
@@ -83,14 +85,25 @@ counted_in (kind ∷ kinds) lens fit =
 
 -- ---- one block more
 
-abbrev IsOf : Kind → List Kind → Type 0
+abbrev pub IsOf : Kind → List Kind → Type 0
 IsOf kind [] = ⊥
 IsOf kind (k ∷ kinds) = (k ≡ kind) ⊎ IsOf kind kinds
+
+-- a kind of which a block may be held is used, and so it is in a table that has one kind more
+of_first : (kind : Kind) (kinds : List Kind) → 0 < kind.most → IsOf kind (used (kind ∷ kinds))
+of_first kind kinds some = subst (λ (c : Bool). IsOf kind (cond c (kind ∷ used kinds) (used kinds))) (sym (lt-ltb 0 kind.most some)) (inl refl)
+
+of_rest : (kind first : Kind) (kinds : List Kind) → IsOf kind (used kinds) → IsOf kind (used (first ∷ kinds))
+of_rest kind first kinds of = at (nat_lt 0 first.most)
+  where
+    at : (c : Bool) → IsOf kind (cond c (first ∷ used kinds) (used kinds))
+    at true = inr of
+    at false = of
 
 -- a length has a kind of the table, and the other blocks leave the words of one of it
 pub record HasKind (kinds : List Kind) (n : ℕ) (lens : List ℕ) : Type 0 where
   pub kind : Kind
-  pub of : IsOf kind kinds
+  pub of : IsOf kind (used kinds)
   pub short : n ≤ kind.len
   pub left : sum_of spend lens + spend kind.len ≤ table_words kinds
 
@@ -107,7 +120,7 @@ has_kind (kind ∷ kinds) n lens fit = elim (parted kind.len n) [
       let most : suc (length (short kind.len lens)) ≤ kind.most = subst (λ (c : Bool). length (Add c n (short kind.len lens)) ≤ kind.most) s.1 fit.0 in
       let rest : AreOfKinds kinds (long kind.len lens) = subst (λ (c : Bool). AreOfKinds kinds (Add c n (long kind.len lens))) s.2 fit.1 in record {
         kind = kind;
-        of = inl refl;
+        of = of_first kind kinds (omega (arith, most));
         short = s.0;
         left = room_for (sum_of spend lens) (sum_of spend (short kind.len lens)) (sum_of spend (long kind.len lens)) (length (short kind.len lens)) (spend kind.len) (kind.most * spend kind.len) (table_words kinds)
             (split spend kind.len lens) (short_spent kind.len lens) (mul-le-mul_right (spend kind.len) most) (spent kinds (long kind.len lens) rest);
@@ -116,7 +129,7 @@ has_kind (kind ∷ kinds) n lens fit = elim (parted kind.len n) [
       let most : length (short kind.len lens) ≤ kind.most = subst (λ (c : Bool). length (Add c n (short kind.len lens)) ≤ kind.most) s.1 fit.0 in
       let has : HasKind kinds n (long kind.len lens) = has_kind kinds n (long kind.len lens) (subst (λ (c : Bool). AreOfKinds kinds (Add c n (long kind.len lens))) s.2 fit.1) in record {
         kind = has.kind;
-        of = inr has.of;
+        of = of_rest has.kind kind kinds has.of;
         short = has.short;
         left = behind (sum_of spend lens) (sum_of spend (short kind.len lens)) (sum_of spend (long kind.len lens)) (spend has.kind.len) (kind.most * spend kind.len) (table_words kinds)
             (split spend kind.len lens) (le_trans (short_spent kind.len lens) (mul-le-mul_right (spend kind.len) most)) has.left;
@@ -141,6 +154,52 @@ least_words sli all (k ∷ kinds) best kind of = elim of [
     top : (a b : ℕ) → b ≤ max a b
     top a b = omega arith
 
-pub class_of_kind : (sli : ℕ) (kinds : List Kind) (kind : Kind) → IsOf kind kinds → AllByRecursion (HasClass sli) kinds → HasClass sli kind
-class_of_kind sli [] kind of all = absurd of
-class_of_kind sli (k ∷ kinds) kind of all = elim of [ inl same ↦ subst (HasClass sli) same all.0 | inr rest ↦ class_of_kind sli kinds kind rest all.1 ]
+-- what holds of each kind holds of one of them
+pub of_all : (P : Kind → Type 0) (kinds : List Kind) (kind : Kind) → IsOf kind kinds → AllByRecursion P kinds → P kind
+of_all P [] kind of all = absurd of
+of_all P (k ∷ kinds) kind of all = elim of [ inl same ↦ subst P same all.0 | inr rest ↦ of_all P kinds kind rest all.1 ]
+
+-- and of each that is used
+pub all_used : (P : Kind → Type 0) (kinds : List Kind) → AllByRecursion P kinds → AllByRecursion P (used kinds)
+all_used P [] all = tt
+all_used P (k ∷ kinds) all = at (nat_lt 0 k.most) (all_used P kinds all.1)
+  where
+    at : (c : Bool) → AllByRecursion P (used kinds) → AllByRecursion P (cond c (k ∷ used kinds) (used kinds))
+    at true rest = (all.0, rest)
+    at false rest = rest
+
+-- ---- the kinds that are used
+
+twice : (kinds : List Kind) → used (used kinds) ≡ used kinds
+twice [] = refl
+twice (k ∷ kinds) = at (nat_lt 0 k.most) refl (twice kinds)
+  where
+    at : (c : Bool) → nat_lt 0 k.most ≡ c → used (used kinds) ≡ used kinds → used (cond c (k ∷ used kinds) (used kinds)) ≡ cond c (k ∷ used kinds) (used kinds)
+    at true is rest = ap (λ (c : Bool). cond c (k ∷ used (used kinds)) (used (used kinds))) is ∙ ap (λ (ks : List Kind). k ∷ ks) rest
+    at false is rest = rest
+
+sum_used : (f : List Kind → ℕ) (g : Kind → ℕ) → ((k : Kind) (kinds : List Kind) → f (k ∷ kinds) ≡ k.most * g k + f kinds) → f [] ≡ 0 → (kinds : List Kind) → f (used kinds) ≡ f kinds
+sum_used f g step none [] = refl
+sum_used f g step none (k ∷ kinds) = at (nat_lt 0 k.most) refl (sum_used f g step none kinds)
+  where
+    nothing : (m w rest : ℕ) → m ≡ 0 → rest ≡ m * w + rest
+    nothing m w rest is = rw is (omega arith)
+
+    at : (c : Bool) → nat_lt 0 k.most ≡ c → f (used kinds) ≡ f kinds → f (cond c (k ∷ used kinds) (used kinds)) ≡ f (k ∷ kinds)
+    at true is rest = step k (used kinds) ∙ (ap (λ (n : ℕ). k.most * g k + n) rest ∙ sym (step k kinds))
+    at false is rest = rest ∙ (nothing k.most (g k) (f kinds) (grind (arith, nat_tests)) ∙ sym (step k kinds))
+
+pub table_used : (kinds : List Kind) → table_words (used kinds) ≡ table_words kinds
+table_used = sum_used table_words (λ k. want k.len + 3) (λ k kinds. refl) refl
+
+pub count_used : (kinds : List Kind) → count_in (used kinds) ≡ count_in kinds
+count_used = sum_used count_in (λ k. 1) (λ k kinds. omega arith) refl
+
+-- a kind of which no block is held asks for no words
+pub empty_are_nothing : (sli : ℕ) → EmptyKindsAreNothing sli
+empty_are_nothing sli kinds =
+    sym (ap (λ (ks : List Kind). asks (table_words (used kinds)) (count_in (used kinds)) ks) (twice kinds)
+    ∙ ap₂ (λ (t c : ℕ). asks t c (used kinds)) (table_used kinds) (count_used kinds))
+  where
+    asks : ℕ → ℕ → List Kind → ℕ
+    asks table count ks = cond (list_all (λ kind. nat_le kind.len 8) ks) (max 4 (count * 4)) (fold max 4 (map (λ kind. table - (want kind.len + 3) + count * (sure sli (want kind.len) - 1) + 1) ks))

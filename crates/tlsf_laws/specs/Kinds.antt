@@ -1,6 +1,6 @@
 -- How large a region must be for several kinds of request.
-use Rattle.std.specs.Prelude.{◌≡◌, ℕ, ◌+◌, ◌*◌, ◌-◌, ◌≤◌, List, [], ◌∷◌, Ok, length, map, filter, fold, max, nat_le, nat_lt, not, if◌then◌else◌, ⊤}
-use Rattle.std.specs.List.{AllByRecursion}
+use Rattle.std.specs.Prelude.{◌≡◌, ℕ, ◌+◌, ◌*◌, ◌-◌, ◌≤◌, List, [], ◌∷◌, Ok, Bool, IsTrue, length, map, filter, fold, max, nat_le, nat_lt, not, if◌then◌else◌, ⊤}
+use Rattle.std.specs.List.{AllByRecursion, list_all}
 use Rattle.tlsf_class.specs.Classes.{most_words}
 use Rattle.tlsf_heap.specs.Blocks.{want}
 use Rattle.tlsf_heap.specs.Lawful.{IsRegion}
@@ -69,18 +69,48 @@ table_words (kind ∷ kinds) = kind.most * (want kind.len + 3) + table_words kin
 abbrev pub words_with : ℕ → List Kind → Kind → ℕ
 words_with sli kinds kind = table_words kinds - (want kind.len + 3) + count_in kinds * (sure sli (want kind.len) - 1) + 1
 
--- the words of a region in which a request of each kind does
+-- the kinds of which a block may be held
+abbrev pub used : List Kind → List Kind
+used kinds = filter (λ kind. nat_lt 0 kind.most) kinds
+
+-- the words of a region in which a request of each of these does, however blocks are resized
+abbrev pub resized_words : ℕ → List Kind → ℕ
+resized_words sli kinds = fold max 4 (map (words_with sli kinds) (used kinds))
+
+-- no request of the table is longer than 8 bytes, which want four words
+abbrev pub are_fours : List Kind → Bool
+are_fours kinds = list_all (λ kind. nat_le kind.len 8) (used kinds)
+
+-- the words of a region in which a request of each kind does: where all want four words, none are lost to holes
 abbrev pub kinds_words : ℕ → List Kind → ℕ
-kinds_words sli kinds = fold max 0 (map (words_with sli kinds) kinds)
+kinds_words sli kinds = if are_fours kinds then max 4 (count_in kinds * 4) else resized_words sli kinds
+
+-- no block is resized to more than 8 bytes
+abbrev pub StaysFour : Call → Type 0
+StaysFour (Allocate n) = ⊤
+StaysFour (Release name) = ⊤
+StaysFour (Write name at bytes) = ⊤
+StaysFour (Resize name n) = n ≤ 8
+StaysFour (Read name at n) = ⊤
 
 -- a request of this kind finds a class
 abbrev pub HasClass : ℕ → Kind → Type 0
 HasClass sli kind = want kind.len ≤ most_words sli
 
--- a program whose requests fit the table is never answered NoFit in a region of kinds_words
+-- a program whose requests fit the table is never answered NoFit in a region of kinds_words, where a table of blocks of four words has no
+-- block resized to more
 abbrev pub KindsSuffice : ℕ → Type 0
 KindsSuffice sli = (id words first : ℕ) (kinds : List Kind) (calls : List Call) → IsRegion sli words → AllByRecursion (HasClass sli) kinds → kinds_words sli kinds ≤ words
+    → (IsTrue (are_fours kinds) → AllByRecursion StaysFour calls) → let answers = (run sli (opened id words first) calls).0 in ArePlanned kinds [] calls answers → AllByRecursion HasRoomFor answers
+
+-- nor in one of resized_words, to whatever a block of any table is resized
+abbrev pub ResizedSuffice : ℕ → Type 0
+ResizedSuffice sli = (id words first : ℕ) (kinds : List Kind) (calls : List Call) → IsRegion sli words → AllByRecursion (HasClass sli) kinds → resized_words sli kinds ≤ words
     → let answers = (run sli (opened id words first) calls).0 in ArePlanned kinds [] calls answers → AllByRecursion HasRoomFor answers
+
+-- a kind of which no block is held asks for no words
+abbrev pub EmptyKindsAreNothing : ℕ → Type 0
+EmptyKindsAreNothing sli = (kinds : List Kind) → kinds_words sli kinds ≡ kinds_words sli (used kinds)
 
 -- a table of one kind asks for the words of a pool
 abbrev pub OneKindIsAPool : ℕ → Type 0

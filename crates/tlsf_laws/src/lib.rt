@@ -11,6 +11,7 @@
 //! | how many words are free, and how many blocks are live | whether a request finds room, however the free words are cut up | [`enough_free_words_serve`] |
 //! | the greatest number of blocks held at once, and the greatest request | how many words of region are enough for ever | [`pool_never_refuses`] |
 //! | a table of sizes, with how many of each may be held | the same by sums | [`kinds_suffice`] |
+//! | the same, with one block in it that is longer than all others, and no resize | fewer words where it is much longer | [`one_large_suffices`] |
 //! | what the live blocks were asked for | how many words they take at most | [`blocks_are_snug`] |
 //!
 //! A program counts what it holds by the answers that it gets: one more after each accepted allocate, one fewer after each
@@ -26,6 +27,7 @@
 mod contents;
 mod kind;
 mod kinds;
+mod one_large;
 mod places;
 mod pools;
 mod room;
@@ -33,6 +35,7 @@ mod room;
 pub use contents::heap_is_a_map;
 pub use kind::Kind;
 pub use kinds::kinds_suffice;
+pub use one_large::one_large_suffices;
 pub use places::{names_share_no_word, whole_again};
 pub use pools::pool_never_refuses;
 pub use room::{blocks_are_snug, enough_free_words_serve};

@@ -1,7 +1,7 @@
 ghost use Rattle.std.specs.Prelude.{ℕ};
 ghost use Rattle.tlsf_class.specs.Classes.{IsLevel};
 ghost use Rattle.tlsf_laws.specs.Held.{HoldsWhatIsLive};
-ghost use Rattle.tlsf_laws.specs.Pools.{HundredBlocks, OneBlockIsTight, PoolServes, PoolSuffices};
+ghost use Rattle.tlsf_laws.specs.Pools.{HundredBlocks, OneBlockIsTight, PoolServes, PoolSuffices, RegionIsThePools};
 
 /// How large a region must be, so that no request is ever refused for want of room.
 ///
@@ -17,7 +17,8 @@ pub fn pool_never_refuses()
     ensures room { (sli : ℕ) → IsLevel sli → PoolSuffices sli }
     ensures served { (sli : ℕ) → IsLevel sli → PoolServes sli }
 
-    // One block needs just so many words. As many blocks are live as are held.
+    // A pool's region has just these words, where any may. One block needs them all. As many blocks are live as are held.
+    ensures region { (sli : ℕ) → RegionIsThePools sli }
     ensures tight { (sli : ℕ) → IsLevel sli → OneBlockIsTight sli }
     ensures held { (sli : ℕ) → HoldsWhatIsLive sli }
     ensures example { HundredBlocks }

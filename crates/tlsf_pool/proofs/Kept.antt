@@ -2,15 +2,17 @@
 use Rattle.std.proofs.Common.{◌≡◌, ◌≢◌, ℕ, ◌+◌, ◌-◌, ◌<◌, ◌≤◌, false, true, List, [], Option, Some, None, Result, Ok, Err, refl, sym, ap, ◌∙◌, subst, arith}
 use Rattle.std.specs.List.{AllByRecursion}
 use Rattle.std.proofs.lemmas.Bool.{false≢true}
+use Rattle.tlsf_class.specs.Classes.{IsLevel, most_words}
 use Rattle.tlsf_heap.specs.Blocks.{Block, Live, Free, HeapState, is_free, want}
 use Rattle.tlsf_heap.specs.GoodFit.{Site, fits}
 use Rattle.tlsf_heap.specs.Given.{payload_words_at}
 use Rattle.tlsf_heap.specs.Reports.{IsGrant}
-use Rattle.tlsf_heap.specs.Calls.{Call, Allocate, Release, Write, Allocated, Released, allocated, released, written, answered, has_serial, named, last_tick}
+use Rattle.tlsf_heap.specs.Calls.{Call, Allocate, Release, Write, Allocated, Released, allocated, released, written, answered, has_serial, named, opened, last_tick}
 use Rattle.tlsf_heap.specs.declared.name.Name.{Name}
 use Rattle.tlsf_heap.specs.declared.refusal.Refusal.{Refusal}
 use Rattle.tlsf_heap.specs.declared.refusal.Refusal.TheVariants.{NoFit}
 use Rattle.tlsf_heap.proofs.Finding.{and_left}
+use Rattle.tlsf_heap.proofs.Lawfulness.{opened_lawful}
 use Rattle.tlsf_heap.proofs.Outcomes.{named_site}
 use Rattle.tlsf_heap.proofs.Served.{no_fit}
 use Rattle.tlsf_laws.specs.Room.{live_count}
@@ -21,9 +23,24 @@ use Rattle.tlsf_laws.proofs.Held.{held_is}
 use Rattle.tlsf_laws.proofs.ModestCalls.{InPool, has_room, kept}
 use Rattle.tlsf_pool.specs.Pools.{PoolState, IsPool}
 
+-- a new pool
+pub new_pool : (sli id most longest first touches : ℕ) (h : HeapState) → IsLevel sli → want longest ≤ most_words sli → h ≡ opened id (pool_words sli most longest) first
+    → IsPool sli (record { heap = h; most = most; longest = longest; held = 0; touches = touches })
+new_pool sli id most longest first touches h level class is =
+    subst (λ (x : HeapState). IsPool sli (record { heap = x; most = most; longest = longest; held = 0; touches = touches })) (sym is) (record {
+      level = level;
+      lawful = opened_lawful id (pool_words sli most longest) first (omega arith);
+      words = refl;
+      class = class;
+      live = refl;
+      few = omega arith;
+      small = ((λ f. absurd (false≢true (sym f))), tt);
+      fours = λ _. (refl, tt);
+    })
+
 module _ (sli : ℕ) where
   in_pool : (p : PoolState) → IsPool sli p → InPool p.heap.words (want p.longest + 3) p.heap
-  in_pool p is = record { lawful = is.lawful; words_are = refl; small = is.small }
+  in_pool p is = record { lawful = is.lawful; words_are = refl; small = is.small; fours = λ few. is.fours (omega (arith, few)) }
 
   enough : (p : PoolState) → IsPool sli p → pool_words sli p.most p.longest ≤ p.heap.words
   enough p is = omega (arith, is.words)
@@ -49,6 +66,7 @@ module _ (sli : ℕ) where
         live = held_is sli p.heap call ∙ counts;
         few = few;
         small = left.small;
+        fours = λ short. left.fours (omega (arith, short));
       }
 
   on : (p : PoolState) (h left : HeapState) (held touches : ℕ) → left ≡ h → IsPool sli (record { heap = h; most = p.most; longest = p.longest; held = held; touches = touches })

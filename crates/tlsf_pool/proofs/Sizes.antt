@@ -1,5 +1,5 @@
 -- Sizes of regions by sums, and how large they get.
-use Rattle.std.proofs.Common.{◌≡◌, ℕ, zero, suc, ◌+◌, ◌*◌, ◌^◌, ◌<◌, ◌≤◌, List, [], ◌∷◌, length, get_or, refl, arith, le_trans}
+use Rattle.std.proofs.Common.{◌≡◌, ℕ, zero, suc, ◌+◌, ◌*◌, ◌^◌, ◌<◌, ◌≤◌, Bool, true, false, cond, max, ap, List, [], ◌∷◌, length, get_or, refl, arith, le_trans}
 use Rattle.std.specs.List.{AllByRecursion}
 use Rattle.std.proofs.Math.Nat.{mul-le-mul}
 use Rattle.tlsf_class.specs.Classes.{IsLevel, most_words, low, classes, search_of}
@@ -7,11 +7,11 @@ use Rattle.tlsf_class.proofs.TwoLevels.{by_level}
 use Rattle.tlsf_heap.specs.Blocks.{want}
 use Rattle.tlsf_heap.specs.Lawful.{IsRegion}
 use Rattle.tlsf_laws.specs.Room.{sure}
-use Rattle.tlsf_laws.specs.Kinds.{HasClass}
-use Rattle.tlsf_laws.specs.Pools.{pool_words}
+use Rattle.tlsf_laws.specs.Kinds.{are_fours, count_in, kinds_words, resized_words, HasClass}
+use Rattle.tlsf_laws.specs.Pools.{pool_words, HasRegion}
 use Rattle.tlsf_laws.specs.declared.kind.Kind.{Kind}
 use Rattle.tlsf_laws.proofs.FreeRoom.{sure_rises}
-use Rattle.tlsf_pool.specs.Pools.{HasRegion, most_kinds}
+use Rattle.tlsf_pool.specs.Pools.{most_kinds}
 
 last_4 : sure 4 (2 ^ 20) ≡ 2 ^ 20
 unfolding low classes search_of
@@ -68,6 +68,13 @@ lost_limit = by_level (λ sli. most_kinds sli * 2 ^ 32 * most_words sli ≤ 2 ^ 
 
 pub lost_small : (sli : ℕ) → IsLevel sli → (count lost : ℕ) → count ≤ most_kinds sli * 2 ^ 32 → lost ≤ most_words sli → count * lost ≤ 2 ^ 62
 lost_small sli level count lost f g = le_trans (products count (most_kinds sli * 2 ^ 32) lost (most_words sli) f g) (lost_limit sli level)
+
+-- the words of a table by its cases
+pub kinds_of_fours : (sli : ℕ) (kinds : List Kind) → are_fours kinds ≡ true → kinds_words sli kinds ≡ max 4 (count_in kinds * 4)
+kinds_of_fours sli kinds is = ap (λ (c : Bool). cond c (max 4 (count_in kinds * 4)) (resized_words sli kinds)) is
+
+pub kinds_of_more : (sli : ℕ) (kinds : List Kind) → are_fours kinds ≡ false → kinds_words sli kinds ≡ resized_words sli kinds
+kinds_of_more sli kinds is = ap (λ (c : Bool). cond c (max 4 (count_in kinds * 4)) (resized_words sli kinds)) is
 
 -- the largest region has words
 pub some_words : (sli : ℕ) → IsLevel sli → 4 ≤ most_words sli

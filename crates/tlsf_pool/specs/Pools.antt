@@ -3,9 +3,9 @@ use Rattle.std.specs.Prelude.{◌≡◌, ℕ, ◌+◌, ◌≤◌, ◌==◌, if�
 use Rattle.std.specs.List.{AllByRecursion}
 use Rattle.tlsf_class.specs.Classes.{IsLevel, most_words}
 use Rattle.tlsf_heap.specs.Blocks.{HeapState, want}
-use Rattle.tlsf_heap.specs.Lawful.{IsLawful, IsRegion}
+use Rattle.tlsf_heap.specs.Lawful.{IsLawful}
 use Rattle.tlsf_laws.specs.Room.{live_count}
-use Rattle.tlsf_laws.specs.Pools.{pool_words, IsSmall}
+use Rattle.tlsf_laws.specs.Pools.{pool_words, BeginAtFours, IsSmall}
 
 -- what a pool shows: its heap, how many blocks may be held at once and the bytes of the longest request, how many are held, and
 -- the heap's touches
@@ -16,12 +16,8 @@ pub record PoolState : Type 0 where
   pub held : ℕ
   pub touches : ℕ
 
--- some class has blocks for a request of the longest length, and a region may have the words of the pool
-abbrev pub HasRegion : ℕ → ℕ → ℕ → Type 0
-HasRegion sli most longest = (want longest ≤ most_words sli) × IsRegion sli (pool_words sli most longest)
-
 -- the heap has a level, is lawful and has the words of the pool; as many blocks are live as are held, no more than may be, and none is longer
--- than the longest request wants and three words more
+-- than the longest request wants and three words more. Where it wants four words, each block begins at a multiple of four
 pub record IsPool (sli : ℕ) (p : PoolState) : Type 0 where
   pub level : IsLevel sli
   pub lawful : IsLawful p.heap
@@ -30,6 +26,7 @@ pub record IsPool (sli : ℕ) (p : PoolState) : Type 0 where
   pub live : live_count p.heap ≡ p.held
   pub few : p.held ≤ p.most
   pub small : AllByRecursion (IsSmall (want p.longest + 3)) p.heap.blocks
+  pub fours : p.longest ≤ 8 → BeginAtFours 0 p.heap.blocks
 
 -- the same bounds: how many blocks may be held, and how long a request may be
 pub record SameBounds (old new : PoolState) : Type 0 where

@@ -28,6 +28,9 @@ pub fn most_blocks<const SLI: u32>(len: u32) -> u32
     ensures reached { Pools.pool_words SLI result len ≤ most_words SLI }
     ensures greatest { (most : ℕ) → Pools.pool_words SLI most len ≤ most_words SLI → most ≤ result }
 {
+    if len <= 8 {
+        return most_words::<SLI>() / 4;
+    }
     let wanted = want(len);
     (most_words::<SLI>() + wanted + 2) / (wanted + 2 + sure::<SLI>(wanted))
 }

@@ -10,8 +10,8 @@ ghost use Rattle.tlsf_heap.specs.InPlace.{ArePayload, Alters, Inspects, IsRefuse
 ghost use Rattle.tlsf_heap.specs.Laws.{IsLive};
 ghost use Rattle.tlsf_heap.specs.Placed.{placed_at};
 ghost use Rattle.tlsf_heap.specs.Reports.{report_of};
-ghost use Rattle.tlsf_laws.specs.Pools.{pool_words};
-ghost use Rattle.tlsf_pool.specs.Pools.{HasRegion, IsPool, SameBounds, SamePool};
+ghost use Rattle.tlsf_laws.specs.Pools.{HasRegion, pool_words};
+ghost use Rattle.tlsf_pool.specs.Pools.{IsPool, SameBounds, SamePool};
 
 use crate::pool_refusal::PoolRefusal;
 use crate::sizing::{kinds_words, most_bytes};

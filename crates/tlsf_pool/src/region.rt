@@ -6,12 +6,9 @@ use crate::sizing::{kinds_words, most_bytes};
 use tlsf_class::most_words;
 use tlsf_laws::Kind;
 
-/// The fewest words that a region has.
-const LEAST_WORDS: u32 = 4;
-
-/// The words of the least region in which a program of at most `most` blocks at once, of at most `len` bytes each, is never refused
-/// for want of room, from 4 on; None where no region has so many. It is the region that a [`Pool`](crate::Pool) of these bounds takes,
-/// where `most` isn't 0.
+/// The words of a region in which a program of at most `most` blocks at once, of at most `len` bytes each, is never refused for want of
+/// room, by [`pool_never_refuses`](tlsf_laws::pool_never_refuses); None where no region has so many. It is the region that a
+/// [`Pool`](crate::Pool) of these bounds takes.
 ///
 /// ```
 /// let words = pool_region::<4>(100, 512);      // Some(13631)
@@ -28,5 +25,5 @@ pub fn pool_region<const SLI: u32>(most: u32, len: u32) -> Option<u32>
     if words > u64::from(most_words::<SLI>()) {
         return None;
     }
-    Some((words as u32).max(LEAST_WORDS))
+    Some(words as u32)
 }

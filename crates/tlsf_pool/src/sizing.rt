@@ -38,13 +38,13 @@ pub(crate) fn sure<const SLI: u32>(words: u32) -> u32
 
 /// How many blocks a table of kinds has, and the words that they take, at most.
 #[derive(Clone, Copy)]
-struct Totals {
-    count: u64,
-    words: u64,
+pub(crate) struct Totals {
+    pub(crate) count: u64,
+    pub(crate) words: u64,
 }
 
 /// The totals of a table of kinds.
-fn totals_of<const SLI: u32>(kinds: &[Kind]) -> Totals
+pub(crate) fn totals_of<const SLI: u32>(kinds: &[Kind]) -> Totals
     requires level { IsLevel SLI }
     requires classes { AllByRecursion (HasClass SLI) kinds.now }
     requires few { length kinds.now ≤ most_kinds SLI }
@@ -76,10 +76,23 @@ fn words_beside<const SLI: u32>(totals: Totals, kind: Kind) -> u64
     totals.words.saturating_sub(u64::from(wanted + 3)) + totals.count * lost + 1
 }
 
+/// Whether no request of a table is longer than 8 bytes, which want four words.
+fn are_fours(kinds: &[Kind]) -> bool
+    ensures { result ≡ Kinds.are_fours kinds.now }
+{
+    for kind in kinds {
+        if kind.most > 0 && kind.len > 8 {
+            return false;
+        }
+    }
+    true
+}
+
 /// The words of a region in which no request of these kinds is ever refused for want of room, by
 /// [`kinds_suffice`](tlsf_laws::kinds_suffice): at most so many blocks of each kind held at once, 1,024 kinds at most or
 /// 64 at level 5, none longer than [`most_bytes`]. No region has more than 2^20 words, or 2^24 at level 5, so there is one where
-/// the answer is at most that.
+/// the answer is at most that. A kind of which no block is held asks for nothing. Where no request is longer than 8 bytes these are four
+/// words for each block, and no block may be resized to more.
 ///
 /// ```
 /// let words = kinds_words::<4>(&[Kind { most: 100, len: 512 }]);   // 13,631
@@ -91,9 +104,15 @@ pub fn kinds_words<const SLI: u32>(kinds: &[Kind]) -> u64
     ensures { result ≡ Kinds.kinds_words SLI kinds.now }
 {
     let totals = totals_of::<SLI>(kinds);
-    let mut words = 0;
+    if are_fours(kinds) {
+        let words = totals.count * 4;
+        return words.max(4);
+    }
+    let mut words = 4;
     for kind in kinds {
-        words = words.max(words_beside::<SLI>(totals, *kind));
+        if kind.most > 0 {
+            words = words.max(words_beside::<SLI>(totals, *kind));
+        }
     }
     words
 }

@@ -20,9 +20,10 @@ use Rattle.tlsf_heap.proofs.Living.{new_words}
 use Rattle.tlsf_heap.proofs.Outcomes.{IsSiteOf, by_allocated_words, by_resized_words, gives_words, lawful_allocated_words, lawful_resized_words, resizes}
 use Rattle.tlsf_heap.proofs.Served.{no_fit}
 use Rattle.tlsf_laws.specs.Held.{held_after}
-use Rattle.tlsf_laws.specs.Pools.{IsSmall}
+use Rattle.tlsf_laws.specs.Pools.{BeginAtFours, IsSmall}
 use Rattle.tlsf_laws.specs.Room.{live_count}
 use Rattle.tlsf_laws.proofs.Around.{around_site}
+use Rattle.tlsf_laws.proofs.Fours.{fours_given, fours_resized}
 use Rattle.tlsf_laws.proofs.Held.{held_is}
 use Rattle.tlsf_laws.proofs.ModestCalls.{AreSmall, InPool, has_room, kept, small_carved, small_refitted}
 use Rattle.tlsf_laws.proofs.Refits.{by_refit}
@@ -125,7 +126,12 @@ released_is u h name n = by_bool (is_held u n (held_at h.blocks name.at))
 
 module _ (sli u : ℕ) where
   in_pool : (p : PoolArenaState) → IsPoolArena sli u p → InPool p.heap.words (want (length_for u p.longest) + 3) p.heap
-  in_pool p is = record { lawful = is.lawful; words_are = refl; small = subst (λ (k : ℕ). AreSmall (k + 3) p.heap.blocks) (sym (wants_units u p.longest)) is.small }
+  in_pool p is = record {
+    lawful = is.lawful;
+    words_are = refl;
+    small = subst (λ (k : ℕ). AreSmall (k + 3) p.heap.blocks) (sym (wants_units u p.longest)) is.small;
+    fours = λ few. is.fours (omega (arith, few, wants_units u p.longest));
+  }
 
   in_class : (p : PoolArenaState) → IsPoolArena sli u p → want (length_for u p.longest) ≤ most_words sli
   in_class p is = omega (arith, wants_units u p.longest, is.class)
@@ -143,13 +149,14 @@ module _ (sli u : ℕ) where
       let n : ℕ = units_for u len in
       let k : ℕ = units_for u p.longest + 3 in
       let fits : n + 3 ≤ k = omega (arith, units_rise u len p.longest is.unit short) in
-      let Left : Outcome Name → Type 0 = λ o. o.answer ≡ Ok name → (live_count o.heap ≡ live_count p.heap + 1) × (o.heap.words ≡ p.heap.words) × AreSmall k o.heap.blocks in
+      let Left : Outcome Name → Type 0 = λ o. o.answer ≡ Ok name → (live_count o.heap ≡ live_count p.heap + 1) × (o.heap.words ≡ p.heap.words) × AreSmall k o.heap.blocks × (units_for u p.longest ≤ 4 → BeginAtFours 0 o.heap.blocks) in
       let left_is : Left (requested sli u p.heap len) = by_allocated_words sli Left p.heap n (lacking n) (λ why e. absurd (let no : ⊥ = cc in no)) (λ s site fit e.
       let a = around_site (IsSmall k) p.heap s site is.small in (
         count_given sli n (lacking n) p.heap s site fit,
         refl,
         all_append (IsSmall k) (s.before ++ carved (size_of s.block) n p.heap.tick (lacking n)) s.after
             (all_append (IsSmall k) s.before (carved (size_of s.block) n p.heap.tick (lacking n)) a.0 (small_carved k (size_of s.block) n p.heap.tick (lacking n) fits)) a.2,
+        λ four. fours_given n p.heap.tick (lacking n) p.heap s (omega (arith, four, fits, least_units u len)) site (is.fours four),
       )) in
       let now = left_is answer in
       record {
@@ -161,6 +168,7 @@ module _ (sli u : ℕ) where
         live = ap live_count heap ∙ now.0 ∙ ap (λ (n : ℕ). n + 1) is.live;
         few = omega (arith, few);
         small = subst (λ (h : HeapState). AreSmall k h.blocks) (sym heap) now.2;
+        fours = λ four. subst (λ (h : HeapState). BeginAtFours 0 h.blocks) (sym heap) (now.3 four);
       }
 
   -- the name that is given is no block's that is held
@@ -187,6 +195,7 @@ module _ (sli u : ℕ) where
         live = ap live_count heap ∙ counts ∙ ap (λ (n : ℕ). n - 1) is.live;
         few = omega (arith, is.few);
         small = subst (λ (h : HeapState). AreSmall (units_for u p.longest + 3) h.blocks) (sym heap) (subst (λ (k : ℕ). AreSmall (k + 3) (released p.heap name).heap.blocks) (wants_units u p.longest) after.small);
+        fours = λ four. subst (λ (h : HeapState). BeginAtFours 0 h.blocks) (sym heap) (after.fours (omega (arith, four, wants_units u p.longest)));
       }
 
   -- after a resize, done or refused
@@ -196,8 +205,8 @@ module _ (sli u : ℕ) where
       let units : ℕ = units_for u len in
       let k : ℕ = units_for u p.longest + 3 in
       let fits : units + 3 ≤ k = omega (arith, units_rise u len p.longest is.unit short) in
-      let Left : Outcome (Unit {0}) → Type 0 = λ o. (live_count o.heap ≡ live_count p.heap) × (o.heap.words ≡ p.heap.words) × IsLawful o.heap × AreSmall k o.heap.blocks in
-      let was : Left (refused p.heap Stale) = (refl, refl, is.lawful, is.small) in
+      let Left : Outcome (Unit {0}) → Type 0 = λ o. (live_count o.heap ≡ live_count p.heap) × (o.heap.words ≡ p.heap.words) × IsLawful o.heap × AreSmall k o.heap.blocks × (units_for u p.longest ≤ 4 → BeginAtFours 0 o.heap.blocks) in
+      let was : Left (refused p.heap Stale) = (refl, refl, is.lawful, is.small, is.fours) in
       let lawful = lawful_resized_words p.heap name units (lacking units) (lacks_few u len) is.lawful in
       let now : Left (resized_words p.heap name units (lacking units)) = (
         by_resized_words (λ o. live_count o.heap ≡ live_count p.heap) p.heap name units (lacking units) (λ why. refl) (λ s own site has room. count_resized p.heap units (lacking units) name.serial s site (and_left _ _ has)),
@@ -206,6 +215,8 @@ module _ (sli u : ℕ) where
         by_resized_words (λ o. AreSmall k o.heap.blocks) p.heap name units (lacking units) (λ why. is.small) (λ s own site has room.
             let a = around_site (IsSmall k) p.heap s site is.small in
             all_append (IsSmall k) s.before _ a.0 (small_refitted k p.heap.tick units (lacking units) name.serial s.block s.after fits (and_left _ _ has) a.2)),
+        λ four. by_resized_words (λ o. BeginAtFours 0 o.heap.blocks) p.heap name units (lacking units) (λ why. is.fours four) (λ s own site has room.
+            fours_resized units p.heap.tick (lacking units) name.serial p.heap s (omega (arith, four, fits, least_units u len)) (and_left _ _ has) site (is.fours four)),
       ) in
       let all = by_held Left (is_held u n (held_at p.heap.blocks name.at)) p.heap (resized_words p.heap name units (lacking units)) now was in
       record {
@@ -217,6 +228,7 @@ module _ (sli u : ℕ) where
         live = ap live_count left_is ∙ all.0 ∙ is.live;
         few = is.few;
         small = subst (λ (h : HeapState). AreSmall k h.blocks) (sym left_is) all.3;
+        fours = λ four. subst (λ (h : HeapState). BeginAtFours 0 h.blocks) (sym left_is) (all.4 four);
       }
 
   -- an arena that refuses within the bounds is at its last tick

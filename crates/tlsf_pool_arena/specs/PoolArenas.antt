@@ -8,7 +8,7 @@ use Rattle.tlsf_heap.specs.Calls.{Outcome, refused}
 use Rattle.tlsf_heap.specs.Lawful.{IsLawful}
 use Rattle.tlsf_heap.specs.declared.name.Name.{Name}
 use Rattle.tlsf_heap.specs.declared.refusal.Refusal.TheVariants.{NoRoom}
-use Rattle.tlsf_laws.specs.Pools.{IsSmall, pool_region, pool_words}
+use Rattle.tlsf_laws.specs.Pools.{BeginAtFours, IsSmall, pool_region, pool_words}
 use Rattle.tlsf_laws.specs.Room.{live_count}
 use Rattle.tlsf_arena.specs.Arenas.{resized_block}
 use Rattle.tlsf_arena.specs.Places.{IsUnit, units_for}
@@ -36,7 +36,7 @@ abbrev pub resized_in_pool : ℕ → PoolArenaState → Name → ℕ → ℕ →
 resized_in_pool u p name n m = if nat_lt p.longest m then refused p.heap NoRoom else resized_block u p.heap name n m
 
 -- the heap has a level, is lawful and has words enough; as many blocks are live as are held, no more than may be, and none has more units
--- than the longest request gets and three more
+-- than the longest request gets and three more. Where it gets four, each block begins at a multiple of four
 pub record IsPoolArena (sli u : ℕ) (p : PoolArenaState) : Type 0 where
   pub level : IsLevel sli
   pub unit : IsUnit u
@@ -46,6 +46,7 @@ pub record IsPoolArena (sli u : ℕ) (p : PoolArenaState) : Type 0 where
   pub live : live_count p.heap ≡ p.held
   pub few : p.held ≤ p.most
   pub small : AllByRecursion (IsSmall (units_for u p.longest + 3)) p.heap.blocks
+  pub fours : units_for u p.longest ≤ 4 → BeginAtFours 0 p.heap.blocks
 
 -- the same bounds over the same memory: how many blocks may be held, and how long a request may be
 pub record SamePlan (old new : PoolArenaState) : Type 0 where

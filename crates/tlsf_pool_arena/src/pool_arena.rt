@@ -39,8 +39,8 @@ impl<const SLI: u32, const UNIT: usize> Model for PoolArena<SLI, UNIT> {
     ghost invariant = { λ p. IsPoolArena SLI UNIT (record { heap = p.arena.heap; region = p.arena.region; most = p.most; longest = p.longest; held = p.held; touches = p.arena.touches }) };
 }
 
-/// The units of the least arena in which a program of at most `most` blocks at once, of at most `longest` bytes each, is never refused for
-/// want of room, from 4 on; None where no arena has so many. It is what a [`PoolArena`] of these bounds has.
+/// The units of an arena in which a program of at most `most` blocks at once, of at most `longest` bytes each, is never refused for
+/// want of room; None where no arena has so many. It is what a [`PoolArena`] of these bounds has.
 ///
 /// ```
 /// let units = pool_units::<4, 16>(100, 512);       // Some(6566)

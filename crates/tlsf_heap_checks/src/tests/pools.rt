@@ -42,7 +42,7 @@ fn pool_is_filled_and_emptied(rt: HostRuntime) -> Result<(), Fail> {
 #[test]
 fn pools_open_by_their_words(rt: HostRuntime) -> Result<(), Fail> {
     for (most, longest, wanted) in [
-        (0, 8, Some(OpenFault::BadSize)),
+        (0, 8, None),
         (1, LONGEST + 1, Some(OpenFault::BadSize)),
         (1, LONGEST, None),
         (7655, 512, Some(OpenFault::BadSize)),
@@ -62,13 +62,20 @@ fn words_of_tables(rt: HostRuntime) {
     };
     let small = Kind { most: 100, len: 64 };
     let large = Kind { most: 4, len: 4096 };
+    let none = Kind {
+        most: 0,
+        len: LONGEST,
+    };
+    let tiny = Kind { most: 3, len: 8 };
     let found = [
         kinds_words::<4>(&[]),
         kinds_words::<4>(&[hundred]),
         kinds_words::<4>(&[small, large]),
         kinds_words::<4>(&[large, small]),
+        kinds_words::<4>(&[none, small, large]),
+        kinds_words::<4>(&[tiny, none]),
     ];
-    same(found, [0, 13_631, 59_427, 59_427]).expect(&rt, "differ");
+    same(found, [4, 13_631, 59_427, 59_427, 59_427, 12]).expect(&rt, "differ");
 }
 
 #[test]
@@ -102,7 +109,7 @@ fn how_far_the_greatest_region_goes(rt: HostRuntime) {
     same(lengths, [Some(LONGEST), Some(41_248), None]).expect(&rt, "differ");
 }
 
-// A request of 480 bytes wants 63 words, which have a class of their own at level 5: at level 4 the least region has one word more.
+// A request of 480 bytes wants 63 words, which have a class of their own at level 5: at level 4 the region has one word more.
 #[test]
 fn pool_of_one_block_at_level_5(rt: HostRuntime) -> Result<(), Fail> {
     let regions = [pool_region::<4>(1, 480), pool_region::<5>(1, 480)];

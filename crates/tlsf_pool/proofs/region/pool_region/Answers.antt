@@ -14,8 +14,8 @@ kinds_words-words-requires g c = record {
   few = (few_kinds g.row.SLI c.requires).0;
 }
 
-pub overflow_cast-words : goal.overflow_cast-words
-overflow_cast-words g c = omega (arith, c.if-words-from.false, c.from.ensures, c.most_words.ensures, most_words_any g.row.SLI)
+pub overflow_cast-result : goal.overflow_cast-result
+overflow_cast-result g c = omega (arith, c.if-words-from.false, c.from.ensures, c.most_words.ensures, most_words_any g.row.SLI)
 
 pub returns : goal.returns
 returns g c =
