@@ -1,5 +1,5 @@
 -- Sizes of regions by sums, and how large they get.
-use Rattle.std.proofs.Common.{◌≡◌, ℕ, zero, suc, ◌+◌, ◌*◌, ◌^◌, ◌<◌, ◌≤◌, Bool, true, false, cond, max, ap, List, [], ◌∷◌, length, get_or, refl, arith, le_trans}
+use Rattle.std.proofs.Common.{◌≡◌, ℕ, zero, suc, ◌+◌, ◌*◌, ◌^◌, ◌<◌, ◌≤◌, Bool, true, false, cond, fold, map, max, ap, List, [], ◌∷◌, length, get_or, refl, arith, le_trans}
 use Rattle.std.specs.List.{AllByRecursion}
 use Rattle.std.proofs.Math.Nat.{mul-le-mul}
 use Rattle.tlsf_class.specs.Classes.{IsLevel, most_words, low, classes, search_of}
@@ -8,6 +8,7 @@ use Rattle.tlsf_heap.specs.Blocks.{want}
 use Rattle.tlsf_heap.specs.Lawful.{IsRegion}
 use Rattle.tlsf_laws.specs.Room.{sure}
 use Rattle.tlsf_laws.specs.Kinds.{are_fours, count_in, kinds_words, resized_words, HasClass}
+use Rattle.tlsf_laws.specs.OneLarge.{longest_of}
 use Rattle.tlsf_laws.specs.Pools.{pool_words, HasRegion}
 use Rattle.tlsf_laws.specs.declared.kind.Kind.{Kind}
 use Rattle.tlsf_laws.proofs.FreeRoom.{sure_rises}
@@ -87,3 +88,11 @@ region_words sli most longest words same class = (
   λ region. (class, (omega (arith, same, region.0), omega (arith, same, region.1))),
   λ has. (omega (arith, same, has.1.0), omega (arith, same, has.1.1)),
 )
+
+-- the longest request of a table has a class
+pub longest_class : (sli : ℕ) → IsLevel sli → (kinds : List Kind) → AllByRecursion (HasClass sli) kinds → want (longest_of kinds) ≤ most_words sli
+longest_class sli level kinds all = at 0 kinds (omega (arith, some_words sli level)) all
+  where
+    at : (best : ℕ) (kinds : List Kind) → want best ≤ most_words sli → AllByRecursion (HasClass sli) kinds → want (fold max best (map (λ kind. kind.len) kinds)) ≤ most_words sli
+    at best [] class all = class
+    at best (kind ∷ kinds) class all = at (max best kind.len) kinds (omega (arith, class, all.0)) all.1

@@ -11,11 +11,12 @@
 //! ```
 //!
 //! [`kinds_words`] tells how many words a heap needs for several kinds of request, [`cheapest_split`] how these are given to several heaps
-//! by the fewest words, [`pool_region`] the words of the region for one kind, [`most_blocks`] and [`longest_request`] how far the greatest
-//! region goes.
+//! by the fewest words, [`one_large_words`] how many are enough for one large block beside small ones, [`pool_region`] the words of the
+//! region for one kind, [`most_blocks`] and [`longest_request`] how far the greatest region goes.
 #![tactic(auto)]
 
 mod greatest;
+mod one_large;
 mod pool;
 mod pool_refusal;
 mod region;
@@ -23,6 +24,7 @@ mod sizing;
 mod split;
 
 pub use greatest::{longest_request, most_blocks};
+pub use one_large::one_large_words;
 pub use pool::Pool;
 pub use pool_refusal::PoolRefusal;
 pub use region::pool_region;
