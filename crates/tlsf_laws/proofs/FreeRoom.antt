@@ -70,13 +70,17 @@ finds_room sli level h len lawful region more none =
     let few = mul-le-mul_right (sure sli (want len) - 1) (few_free h.blocks lawful.apart) in
     omega (arith, small, few, more)
 
--- a greater request has no lower least size
-pub sure_rises : (sli : ℕ) (level : IsLevel sli) (n m : ℕ) → n ≤ m → m ≤ most_words sli → sure sli n ≤ sure sli m
-sure_rises sli level n m h region =
-    let a = search_of-is sli level n (omega arith) in
+-- a request that is no greater than the least size of another has no higher one
+pub sure_upto : (sli : ℕ) (level : IsLevel sli) (n m : ℕ) → n ≤ sure sli m → n ≤ most_words sli → m ≤ most_words sli → sure sli n ≤ sure sli m
+sure_upto sli level n m h small region =
+    let a = search_of-is sli level n small in
     let b = search_of-is sli level m region in
     let below : low sli a.0 ≤ low sli b.0 = elim (cases_lt b.0 a.0) [
-      | inl l ↦ absurd (omega (arith, a.1.tight (omega (arith, l, b.1.least)), b.1.enough, h, low-rises_or_same sli level b.0 (a.0 - 1) (omega (arith, l)) (omega (arith, a.1.most))))
+      | inl l ↦ absurd (omega (arith, a.1.tight (omega (arith, l, b.1.least)), sure_is sli level m b.0 b.1, h, low-rises_or_same sli level b.0 (a.0 - 1) (omega (arith, l)) (omega (arith, a.1.most))))
       | inr g ↦ low-rises_or_same sli level a.0 b.0 g (omega (arith, b.1.most))
     ] in
     omega (arith, below, sure_is sli level n a.0 a.1, sure_is sli level m b.0 b.1)
+
+-- a greater request has no lower least size
+pub sure_rises : (sli : ℕ) (level : IsLevel sli) (n m : ℕ) → n ≤ m → m ≤ most_words sli → sure sli n ≤ sure sli m
+sure_rises sli level n m h region = sure_upto sli level n m (omega (arith, h, sure_enough sli level m region)) (omega (arith, h, region)) region

@@ -1,7 +1,7 @@
 -- The lemmas of this crate, a line a file.
 --   Around: what a call leaves of a fact about each block, and of the words of a region
 --   Choices: the block that good fit chooses
---   Comb: heaps that have one word less, and refuse
+--   Comb: a heap of one block that has one word less, and refuses
 --   Fours: where all blocks want four words, and none is free, they have four each
 --   FreeRoom: room by counting free blocks, and those too small
 --   Held: as many blocks are live as are held
@@ -18,6 +18,7 @@
 --   Snug: no live block has four words that it doesn't want
 --   Spans: names by the sites of their blocks
 --   Tables: how many blocks fit a table of kinds, and the words they take
+--   TightRuns: calls that leave holes just too small for a request
 pub mod Around
 pub mod Choices
 pub mod Comb
@@ -37,3 +38,4 @@ pub mod Reserves
 pub mod Snug
 pub mod Spans
 pub mod Tables
+pub mod TightRuns

@@ -27,10 +27,12 @@ abbrev pub FindsRoom : ℕ → Type 0
 FindsRoom sli = (h : HeapState) (len : ℕ) → IsLawful h → want len ≤ most_words sli → (live_count h + 1) * (sure sli (want len) - 1) < free_words h
     → ¬ (fits sli (want len) h.blocks ≡ [])
 
--- no fewer free words would do, however many blocks are live: with just so many, a lawful heap may have room for no such request
+-- no fewer free words would do, however many blocks are live: where a region may have so many words, calls on it leave just so many free, and
+-- no room for such a request
 abbrev pub RoomIsTight : ℕ → Type 0
-RoomIsTight sli = (live len : ℕ) → want len ≤ most_words sli → 4 < sure sli (want len)
-    → (h : HeapState) × IsLawful h × (live_count h ≡ live) × (free_words h ≡ (live + 1) * (sure sli (want len) - 1)) × (fits sli (want len) h.blocks ≡ [])
+RoomIsTight sli = (live len : ℕ) → want len ≤ most_words sli → 4 < sure sli (want len) → (live + 1) * (sure sli (want len) - 1) + live * 4 ≤ most_words sli
+    → (calls : List Call) × (let h = (run sli (opened 0 ((live + 1) * (sure sli (want len) - 1) + live * 4) 0) calls).1 in
+    (live_count h ≡ live) × (free_words h ≡ (live + 1) * (sure sli (want len) - 1)) × (fits sli (want len) h.blocks ≡ []))
 
 -- a live block has at most three words more than were wanted
 abbrev pub IsSnug : Block → Type 0

@@ -6,7 +6,7 @@ ghost use Rattle.tlsf_laws.specs.Room.{BlocksAreSnug, FindsRoom, RoomIsTight, Su
 ///
 /// A request that wants n words is served by each free block of at least `sure n` words, the least size of its search class.
 /// Free blocks don't touch, so at most one more is free than live: more than (live + 1) * (sure n - 1) free words are enough.
-/// For each number of live blocks there is a heap with just so many free words that refuses.
+/// For each number of live blocks for which a region has the words, calls on it leave just so many free, and the request is refused.
 ///
 /// ```text
 /// 512 bytes want 67 words, and blocks of 68 words or more serve them. With 2 live blocks and 202 free words
