@@ -1,10 +1,9 @@
 -- The block that good fit chooses: no other that may serve is of a lower class.
-use Rattle.std.proofs.Common.{◌≡◌, ℕ, ◌<◌, ◌≤◌, ◌||◌, ◌&&◌, ◌==◌, Bool, true, false, cond, nat_le, nat_lt, List, [], ◌∷◌, ◌++◌, filter, find, Option, Some, None, refl, sym, ◌∙◌, subst, arith, append_assoc}
+use Rattle.std.proofs.Common.{◌≡◌, ℕ, ◌≤◌, ◌||◌, ◌&&◌, ◌==◌, Bool, true, false, cond, nat_lt, List, [], ◌∷◌, ◌++◌, filter, find, Option, Some, None, refl, sym, ◌∙◌, subst, arith, append_assoc}
 use Rattle.std.specs.List.{AllByRecursion, list_all}
 use Rattle.std.proofs.lemmas.Bool.Decides.{nat_tests}
-use Rattle.tlsf_class.specs.Classes.{class_of}
-use Rattle.tlsf_heap.specs.Blocks.{Block, Free, HeapState, want}
-use Rattle.tlsf_heap.specs.GoodFit.{Site, sites, sites_behind, is_fit, is_as_good, fits, choice}
+use Rattle.tlsf_heap.specs.Blocks.{Block, HeapState, want}
+use Rattle.tlsf_heap.specs.GoodFit.{Site, sites_behind, is_fit, is_as_good, fits, choice}
 use Rattle.tlsf_heap.specs.Calls.{Outcome, allocated, allocated_at, refused, is_worn}
 use Rattle.tlsf_heap.specs.declared.name.Name.{Name}
 use Rattle.tlsf_heap.specs.declared.refusal.Refusal.{Refusal}

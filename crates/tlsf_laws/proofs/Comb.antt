@@ -1,20 +1,16 @@
 -- The bound for one block can't be lowered: a heap that has one word less refuses.
-use Rattle.std.proofs.Common.{◌≡◌, ◌≢◌, ℕ, zero, suc, ◌+◌, ◌-◌, ◌*◌, ◌<◌, ◌≤◌, false, List, [], ◌∷◌, length, refl, sym, ◌∙◌, inl, inr, arith}
-use Rattle.std.specs.List.{AllByRecursion}
+use Rattle.std.proofs.Common.{◌≡◌, ℕ, zero, suc, ◌<◌, ◌≤◌, false, [], ◌∷◌, sym, ◌∙◌, inl, inr, arith}
 use Rattle.std.proofs.lemmas.Bool.{cases_lt, leb-true}
 use Rattle.tlsf_class.specs.Classes.{IsLevel, class_of, most_words}
 use Rattle.tlsf_class.proofs.Lows.{low-rises_or_same}
 use Rattle.tlsf_class.proofs.ClassOfSize.{class_of-is, class_of-small, search_of-is, serves-from}
-use Rattle.tlsf_heap.specs.Blocks.{Block, Live, Free, words_in, serials, stamps, want}
+use Rattle.tlsf_heap.specs.Blocks.{Free, want}
 use Rattle.tlsf_heap.specs.GoodFit.{is_fit}
 use Rattle.tlsf_heap.specs.Chosen.{NoneFits}
-use Rattle.tlsf_words.specs.Lists.{AreDistinct}
-use Rattle.tlsf_heap.specs.Lawful.{HasRoom, AreApart}
 use Rattle.tlsf_heap.specs.Calls.{opened}
-use Rattle.tlsf_heap.specs.Reports.{live_among, free_among}
 use Rattle.tlsf_heap.proofs.Finding.{not_true}
 use Rattle.tlsf_heap.proofs.Sites.{fits_nothing}
-use Rattle.tlsf_laws.specs.Room.{sure, RoomIsTight}
+use Rattle.tlsf_laws.specs.Room.{sure}
 use Rattle.tlsf_laws.specs.Pools.{pool_words, OneBlockIsTight}
 use Rattle.tlsf_laws.proofs.FreeRoom.{sure_enough, sure_is}
 use Rattle.tlsf_laws.proofs.ModestCalls.{pool_of_fours, pool_of_more}

@@ -1,13 +1,13 @@
 -- Many small blocks and one large one: what each call leaves of the reserve.
-use Rattle.std.proofs.Common.{◌≡◌, ◌≢◌, ℕ, suc, ◌+◌, ◌-◌, ◌*◌, ◌<◌, ◌≤◌, ◌⊎◌, Bool, true, false, cond, max, nat_le, nat_lt, List, [], ◌∷◌, ◌++◌, length, map, filter, fold, replicate, Err, refl, sym, ap, ◌∙◌, subst, inl, inr, arith, le_trans, append_assoc}
+use Rattle.std.proofs.Common.{◌≡◌, ◌≢◌, ℕ, ◌+◌, ◌-◌, ◌*◌, ◌<◌, ◌≤◌, ◌⊎◌, Bool, true, false, cond, max, nat_le, nat_lt, List, [], ◌∷◌, ◌++◌, length, map, fold, replicate, Err, refl, sym, ap, ◌∙◌, subst, inl, inr, arith, le_trans}
 use Rattle.std.specs.List.{AllByRecursion}
-use Rattle.std.proofs.Math.Nat.{mul-le-mul, mul-le-mul_right}
+use Rattle.std.proofs.Math.Nat.{mul-le-mul_right}
 use Rattle.std.proofs.lemmas.Bool.{cases_lt, false≢true, le-leb, leb-true, lt-ltb, le-ltb}
 use Rattle.std.proofs.lemmas.List.{length-replicate}
-use Rattle.tlsf_class.specs.Classes.{IsLevel, class_of, low, most_words, search_of}
+use Rattle.tlsf_class.specs.Classes.{IsLevel, class_of, most_words}
 use Rattle.tlsf_class.proofs.ClassOfSize.{search_of-is, serves-from}
 use Rattle.tlsf_heap.specs.Blocks.{Block, Live, Free, HeapState, size_of, words_in, bytes_of, is_free, want}
-use Rattle.tlsf_heap.specs.GoodFit.{Site, is_fit, is_as_good, fits}
+use Rattle.tlsf_heap.specs.GoodFit.{Site, is_fit}
 use Rattle.tlsf_heap.specs.Lawful.{IsLawful, HasRoom}
 use Rattle.tlsf_heap.specs.Calls.{Call, Allocate, Release, Write, Resize, Read, carved, allocated, answered, opened, run, has_serial, overwritten}
 use Rattle.tlsf_heap.specs.Reports.{live_among, free_among}
@@ -21,7 +21,7 @@ use Rattle.tlsf_heap.proofs.Summing.{words_apart}
 use Rattle.tlsf_heap.proofs.Writing.{length-overwritten, range_fits}
 use Rattle.tlsf_laws.specs.Room.{live_count, sure, IsSnug}
 use Rattle.tlsf_laws.specs.Pools.{HasRoomFor, IsModest, IsSmall}
-use Rattle.tlsf_laws.specs.Kinds.{Ledger, lengths, ledger_after, AreOfKinds, ArePlanned, IsPlanned, HasClass, count_in, table_words, used}
+use Rattle.tlsf_laws.specs.Kinds.{Ledger, lengths, ledger_after, AreOfKinds, ArePlanned, IsPlanned, count_in, table_words, used}
 use Rattle.tlsf_laws.specs.OneLarge.{longest_of, scattered_words, one_large_words, ResizesNone, OneLargeSuffices}
 use Rattle.tlsf_laws.specs.declared.kind.Kind.{Kind}
 use Rattle.tlsf_laws.proofs.Around.{around_site, words_kept}
@@ -35,7 +35,7 @@ use Rattle.tlsf_laws.proofs.ModestCalls.{AreSmall, small_kept}
 use Rattle.tlsf_laws.proofs.PlannedCalls.{live_spent}
 use Rattle.tlsf_laws.proofs.Reserves.{HasHole, next_free, other_hole, reserve, reserve_append, reserve_holes, reserve_limit, reserve_released, reserve_short, reserve_written}
 use Rattle.tlsf_laws.proofs.Snug.{snug_kept}
-use Rattle.tlsf_laws.proofs.Tables.{HasKind, IsOf, all_used, counted_in, has_kind, of_all, short, long, spend, spend_rises, split}
+use Rattle.tlsf_laws.proofs.Tables.{all_used, counted_in, has_kind, of_all, short, long, spend, spend_rises, split}
 
 -- ---- the table
 
