@@ -33,6 +33,40 @@ fn an_arena_of_a_pool_has_so_many_units(rt: HostRuntime) -> Result<(), Fail> {
     Ok(())
 }
 
+#[test]
+fn a_block_grows_where_it_stands_or_moves(rt: HostRuntime) -> Result<(), Fail> {
+    let mut arena = PoolArena::<4, 16>::open(rt.alloc(), 7, 2, 200).expect(&rt, "open");
+    let units = arena.free_units();
+    let block = arena.allocate(100).expect(&rt, "100 bytes");
+    assert_eq!(rt; (arena.tick(), arena.free_units()), (2, units - 7));
+    let (block, grown) = resized(&mut arena, block, 200);
+    assert_eq!(rt; (grown, arena.report().live_words), (true, 13));
+    let (block, above) = resized(&mut arena, block, 201);
+    assert_eq!(rt; (above, arena.held()), (false, 1));
+    let (block, shrunk) = resized(&mut arena, block, 100);
+    let behind = arena.allocate(100).expect(&rt, "a block behind");
+    assert_eq!(rt; (shrunk, behind.name.at), (true, 7));
+    let (block, fits) = resized(&mut arena, block, 200);
+    assert!(rt; !fits);
+    assert!(rt; is_back(&mut arena, behind));
+    let second = arena.allocate(200).expect(&rt, "where it moves");
+    assert!(rt; is_back(&mut arena, block));
+    assert!(rt; is_back(&mut arena, second));
+    assert_eq!(rt; arena.block_at(0).map(|free| free.size), Some(units));
+    assert_eq!(rt; (arena.held(), arena.free_units()), (0, units));
+    Ok(())
+}
+
+fn resized(arena: &mut PoolArena<4, 16>, block: Block<16>, len: u32) -> (Block<16>, bool)
+    requires { block.piece.region ≡ arena.old.region }
+    ensures { (result.0.piece.region ≡ arena.new.region) × (arena.new.region ≡ arena.old.region) }
+{
+    match arena.resize(block, len) {
+        Ok(block) => (block, true),
+        Err((_, block)) => (block, false),
+    }
+}
+
 /// Why a request is refused. A block that is given all the same is lost.
 fn why(arena: &mut PoolArena<4, 16>, len: u32) -> Option<PoolRefusal>
     ensures { arena.new.region ≡ arena.old.region }
