@@ -1,7 +1,7 @@
 -- The two cases of what `take` gave, and a block as room for a type. Assumes `Logic`.
 use Rattle.std.proofs.Common.{◌+◌, ◌-◌, ◌*◌, ◌/◌, ◌%◌, ◌≡◌, ℕ, ◌^◌, ◌<◌, ◌≤◌, List, [], ◌∷◌, ◌++◌, IfSome, None, Some, refl, sym, ap, subst, ◌∙◌, arith}
 use seplogic.Ra.Ura.{Ura}
-use mir.Syntax.{Ty, Width, w8, w16, w32, w64, w128}
+use mir.Syntax.{Ty}
 use mir.Val.{Val, vcons, vnil, of_list, bytes}
 use base.Logic.{ent, sep}
 use base.Fml.{fex, fwand, froom}

@@ -1,4 +1,4 @@
-use Rattle.std.proofs.Common.{◌≡◌, sym, ap, ◌∙◌}
+use Rattle.std.proofs.Common.{sym, ap, ◌∙◌}
 use Rattle.tlsf_arena.proofs.Buffers.{same_buffer}
 use Rattle.tlsf_arena.proofs.local.LocalArena.trimmed.Goals as goal
 
