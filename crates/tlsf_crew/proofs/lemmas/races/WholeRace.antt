@@ -217,57 +217,57 @@ told_as : (sli : ℕ) (n m i j : ℕ) (h g x y : HeapState) (script : List Call)
     → MayTellAll sli n i (untold h) script (record { made = made; entries = es; heap = x }) → MayTellAll sli m j (untold g) script (record { made = made; entries = es; heap = y })
 told_as sli n m i j h g x y script made es a b c d t = rw (sym a, sym b, sym c, sym d) t
 
-legal_in : {sli : ℕ} (zs ws vs us xs : List (Worker sli Lanes)) (scripts : List (List Call)) (rs ss : List (List Entry)) → length ws ≡ length zs → world_of ws ≡ world_of zs → IsYard ws
-    → (run : EachLaneWorkerRan ws scripts rs vs) → length us ≡ length vs → world_of us ≡ world_of vs → EachLastDrained us rs ss xs (length us) → (j : ℕ) → j < length zs
-    → IsLegal sli (length zs) j (yard_heap zs j) (script_of scripts j) (record_of rs j) (record { made = run.made j ++ None ∷ []; entries = record_of ss j; heap = yard_heap xs j })
-legal_in {sli} zs ws vs us xs scripts rs ss len same yard run later_len later_same last j j_in =
-    let found = some_at ws j (omega arith) in
-    let w = worker_ran ws vs scripts rs yard run j found.0 found.1 in
-    let c = run.worker_count in
-    let told = last.told j (omega arith) in
-    let first : heap_of w.old ≡ yard_heap zs j = sym (heap_at ws j w.old w.old_is) ∙ heap_same zs ws same j in
-    let then : heap_of w.new ≡ yard_heap us j = sym (heap_at vs j w.new w.new_is) ∙ sym (heap_same vs us later_same j) in
-    let n : length us ≡ length zs = later_len ∙ (c ∙ len) in
-    record {
-      between = record { made = run.made j; entries = record_of rs j; heap = yard_heap us j };
-      entries = refl;
-      script = told_as sli _ _ _ _ _ _ _ _ (script_of scripts j) (run.made j) (record_of rs j) len w.number first then w.ran.told;
-      last = subst (λ (k : ℕ). MayTell sli k j (record { made = run.made j; entries = record_of rs j; heap = yard_heap us j }) last_call
-          (record { made = run.made j ++ None ∷ []; entries = record_of ss j; heap = yard_heap xs j })) n (told.told (run.made j));
-    }
-
 agree_as : (c d i j : ℕ) (W V : List Post) (made : List (Option Name)) (s t r u v : List Entry) → c ≡ d → W ≡ V → u ≡ s → v ≡ t → Agree c i j W made s r t → Agree d i j V made u r v
 agree_as c d i j W V made s t r u v a b e f agree = rw (sym a, sym b, e, f) agree
 
-pub race_is : {sli : ℕ} (zs ws vs us xs : List (Worker sli Lanes)) (scripts : List (List Call)) (rs ss : List (List Entry)) → length ws ≡ length zs → EachLaneSettled zs ws → world_of ws ≡ world_of zs → IsYard ws
-    → (run : EachLaneWorkerRan ws scripts rs vs) → length us ≡ length vs → EachLaneSettled vs us → world_of us ≡ world_of vs → IsYard us → EachLastDrained us rs ss xs (length us)
-    → IsRace (world_of zs) scripts ss (world_of xs)
-unfolding world_of
-race_is zs ws vs us xs scripts rs ss len settled same yard run later_len later_settled later_same later last =
-    let c = run.worker_count in
-    let o = last.worker_count in
-    let n : length (map heap_of zs) ≡ length zs = length-map zs heap_of in
-    let kept : capacity_in us ≡ capacity_in ws = capacity_same vs us later_same ∙ capacity_kept ws vs scripts rs run in
-    record {
-      made = λ j. run.made j ++ None ∷ [];
-      scripted = λ j. record_of rs j;
-      heaps = length-map xs heap_of ∙ (o ∙ (later_len ∙ (c ∙ (len ∙ sym n))));
-      records = last.record_count ∙ (run.record_count ∙ (len ∙ sym n));
-      capacity = last.capacity ∙ (kept ∙ capacity_same zs ws same);
-      legal = λ j j_in.
-          rw n (legal_in zs ws vs us xs scripts rs ss len same yard run later_len later_same last j (omega arith));
-      agree = λ i j i_in j_in ne.
-          let l = lane_ran ws vs scripts rs yard run zs us len settled later_len later_settled later kept i j (omega arith) (omega arith) ne in
-          let p = last.told i (omega arith) in
-          let q = last.told j (omega arith) in
-          agree_as (capacity_in ws) (capacity_in zs) i j (waits_in ws i j) (waits_in zs i j) (run.made i ++ None ∷ []) (record_of rs i ++ p.own) (record_of rs j ++ q.own) (record_of rs j)
-          (record_of ss i) (record_of ss j) (capacity_same zs ws same) (waits_same zs ws same i j) p.entries q.entries
-          (records_agree (capacity_in ws) i j (waits_in ws i j) (waits_in us i j) (run.made i) (record_of rs i) (record_of rs j) l.agree p.own q.own p.is_drain q.is_drain (q.posts i));
-      taken = λ i j. elim (cases_lt j (length us)) [
-        | inl j_in ↦ last.empty i j j_in
-        | inr far ↦ none_for xs i j last.yard (omega arith)
-      ];
-    }
+-- the workers of a yard were settled, ran their scripts, were settled and drained one after another
+module _ {sli : ℕ} (zs ws vs us xs : List (Worker sli Lanes)) (scripts : List (List Call)) (rs ss : List (List Entry)) (len : length ws ≡ length zs) (settled : EachLaneSettled zs ws) (same : world_of ws ≡ world_of zs) (yard : IsYard ws)
+    (run : EachLaneWorkerRan ws scripts rs vs) (later_len : length us ≡ length vs) (later_settled : EachLaneSettled vs us) (later_same : world_of us ≡ world_of vs) (later : IsYard us) (last : EachLastDrained us rs ss xs (length us)) where
+  legal_in : (j : ℕ) → j < length zs
+      → IsLegal sli (length zs) j (yard_heap zs j) (script_of scripts j) (record_of rs j) (record { made = run.made j ++ None ∷ []; entries = record_of ss j; heap = yard_heap xs j })
+  legal_in j j_in =
+      let found = some_at ws j (omega arith) in
+      let w = worker_ran ws vs scripts rs yard run j found.0 found.1 in
+      let c = run.worker_count in
+      let told = last.told j (omega arith) in
+      let first : heap_of w.old ≡ yard_heap zs j = sym (heap_at ws j w.old w.old_is) ∙ heap_same zs ws same j in
+      let then : heap_of w.new ≡ yard_heap us j = sym (heap_at vs j w.new w.new_is) ∙ sym (heap_same vs us later_same j) in
+      let n : length us ≡ length zs = later_len ∙ (c ∙ len) in
+      record {
+        between = record { made = run.made j; entries = record_of rs j; heap = yard_heap us j };
+        entries = refl;
+        script = told_as sli _ _ _ _ _ _ _ _ (script_of scripts j) (run.made j) (record_of rs j) len w.number first then w.ran.told;
+        last = subst (λ (k : ℕ). MayTell sli k j (record { made = run.made j; entries = record_of rs j; heap = yard_heap us j }) last_call
+            (record { made = run.made j ++ None ∷ []; entries = record_of ss j; heap = yard_heap xs j })) n (told.told (run.made j));
+      }
+
+  pub race_is : IsRace (world_of zs) scripts ss (world_of xs)
+  unfolding world_of
+  race_is =
+      let c = run.worker_count in
+      let o = last.worker_count in
+      let n : length (map heap_of zs) ≡ length zs = length-map zs heap_of in
+      let kept : capacity_in us ≡ capacity_in ws = capacity_same vs us later_same ∙ capacity_kept ws vs scripts rs run in
+      record {
+        made = λ j. run.made j ++ None ∷ [];
+        scripted = λ j. record_of rs j;
+        heaps = length-map xs heap_of ∙ (o ∙ (later_len ∙ (c ∙ (len ∙ sym n))));
+        records = last.record_count ∙ (run.record_count ∙ (len ∙ sym n));
+        capacity = last.capacity ∙ (kept ∙ capacity_same zs ws same);
+        legal = λ j j_in.
+            rw n (legal_in j (omega arith));
+        agree = λ i j i_in j_in ne.
+            let l = lane_ran ws vs scripts rs yard run zs us len settled later_len later_settled later kept i j (omega arith) (omega arith) ne in
+            let p = last.told i (omega arith) in
+            let q = last.told j (omega arith) in
+            agree_as (capacity_in ws) (capacity_in zs) i j (waits_in ws i j) (waits_in zs i j) (run.made i ++ None ∷ []) (record_of rs i ++ p.own) (record_of rs j ++ q.own) (record_of rs j)
+            (record_of ss i) (record_of ss j) (capacity_same zs ws same) (waits_same zs ws same i j) p.entries q.entries
+            (records_agree (capacity_in ws) i j (waits_in ws i j) (waits_in us i j) (run.made i) (record_of rs i) (record_of rs j) l.agree p.own q.own p.is_drain q.is_drain (q.posts i));
+        taken = λ i j. elim (cases_lt j (length us)) [
+          | inl j_in ↦ last.empty i j j_in
+          | inr far ↦ none_for xs i j last.yard (omega arith)
+        ];
+      }
 
 -- what a vector holds after all of its elements were written
 pub written_back : {X : Type 0} (n : ℕ) (new old : List X) → n ≡ length new → take n (new ++ drop (length new) old) ≡ new
