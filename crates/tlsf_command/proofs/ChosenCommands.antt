@@ -132,7 +132,7 @@ answerable words (Trace run) asks = tt
 answerable words (File run tip) asks = tt
 answerable words (At form line) asks = tt
 answerable words (Classes question) asks = has_classes (texts_given (codes "N") words) (texts_given (codes "sli") words) question asks.parts
-answerable words (Size question) asks = has_table (texts_given (codes "B") words) (texts_given (codes "N") words) (texts_given (codes "sli") words) question asks.parts
+answerable words (Size question) asks = has_table (texts_given (codes "B") words) (texts_given (codes "N") words) (texts_given (codes "sli") words) (texts_given (codes "split") words) question asks.parts
 
 -- ---- by what `clap` answers
 
@@ -268,18 +268,17 @@ asks_map words matches given form (Size question) answers called entered has on 
 pub asks_size : (words : List Text) (matches given : ArgMatches) (question : SizeQuestion) → Answers words matches
     → subcommand_name_of matches ≡ Some (codes "size")
     → option_map (λ (entered : Text × List Row). entered.1) (subcommand_rows_of matches) ≡ Some (rows_of (found_of given))
-    → IsQuestion (texts_read (codes "B") given) (texts_read (codes "N") given) (texts_read (codes "sli") given) question
+    → IsQuestion (texts_read (codes "B") given) (texts_read (codes "N") given) (texts_read (codes "sli") given) (texts_read (codes "split") given) question
     → Asks words (Size question)
-asks_size words matches given question answers called entered made = record {
-  faultless = answers.0;
-  named = sym (label_of_words words matches answers) ∙ called;
-  parts = subst (λ (texts : List Text). IsQuestion (texts_given (codes "B") words) (texts_given (codes "N") words) texts question)
-      (texts_entered words matches given (codes "sli") answers entered)
-      (subst (λ (texts : List Text). IsQuestion (texts_given (codes "B") words) texts (texts_read (codes "sli") given) question)
-      (texts_entered words matches given (codes "N") answers entered)
-      (subst (λ (texts : List Text). IsQuestion texts (texts_read (codes "N") given) (texts_read (codes "sli") given) question)
-      (texts_entered words matches given (codes "B") answers entered) made));
-}
+asks_size words matches given question answers called entered made =
+    let texts = λ (id : Text). texts_entered words matches given id answers entered in record {
+      faultless = answers.0;
+      named = sym (label_of_words words matches answers) ∙ called;
+      parts = subst (λ (ts : List Text). IsQuestion (texts_given (codes "B") words) (texts_given (codes "N") words) (texts_given (codes "sli") words) ts question) (texts (codes "split"))
+          (subst (λ (ts : List Text). IsQuestion (texts_given (codes "B") words) (texts_given (codes "N") words) ts (texts_read (codes "split") given) question) (texts (codes "sli"))
+          (subst (λ (ts : List Text). IsQuestion (texts_given (codes "B") words) ts (texts_read (codes "sli") given) (texts_read (codes "split") given) question) (texts (codes "N"))
+          (subst (λ (ts : List Text). IsQuestion ts (texts_read (codes "N") given) (texts_read (codes "sli") given) (texts_read (codes "split") given) question) (texts (codes "B")) made)));
+    }
 
 -- and where it is `classes`
 pub asks_classes : (words : List Text) (matches given : ArgMatches) (question : ClassQuestion) → Answers words matches

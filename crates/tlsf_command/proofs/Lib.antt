@@ -9,4 +9,5 @@ pub mod Notes  -- what is noted of a fault
 pub mod RunEnds  -- how a run ends, by what its words name
 pub mod Greatest  -- the most bytes for so many blocks
 pub mod SizeTables  -- tables of kinds, and the numbers of texts
+pub mod SplitParts  -- the heaps of a split, one after the other
 pub mod SizeOptions  -- the words after `size`: options in any order come to no fault, and give their texts

@@ -4,7 +4,7 @@ use Rattle.clap.specs.Words.{IsAmong, Text}
 use Rattle.clap.specs.declared.error.kind.ErrorKind.{ErrorKind}
 use Rattle.clap.specs.declared.error.kind.ErrorKind.TheVariants.{OutOfMemory}
 use Rattle.tlsf_command.specs.CommandLine.{Asks, command_in, faults_of, words_of, IsPlainWord}
-use Rattle.tlsf_command.specs.Runs.{Streams, Does, Ends, LacksMemory, RunsOrLacksMemory, ShowsAnswer, ShowsOptionsOrLacksMemory, ShowsPairsOrLacksMemory, TipsOrLacksMemory}
+use Rattle.tlsf_command.specs.Runs.{Streams, unset, Does, Ends, LacksMemory, RunsOrLacksMemory, ShowsAnswer, ShowsOptionsOrLacksMemory, ShowsPairsOrLacksMemory, TipsOrLacksMemory}
 use Rattle.tlsf_command.specs.SizeQuestions.{blocks_of, bytes_in, option_words, pair_words, AreOptions, ArePairs, IsQuestion, Pair, SizeOption}
 use Rattle.tlsf_command.specs.declared.command_line.Choice.{Choice}
 use Rattle.tlsf_command.specs.declared.trace_run.TraceRun.{TraceRun}
@@ -66,6 +66,6 @@ module _ (words : List Text) (called : Text) (status : ℕ) (old new : Streams) 
       let options = ends_options (options_of pairs) (are_options pairs are) (is ∙ ap (λ (given : List Text). called ∷ codes "size" ∷ given) (pair_words_are pairs)) in
       elim options [
         | inl shown ↦
-            inl (shown.0, subst (λ (texts : List Text). IsQuestion (blocks_of pairs) texts [] shown.0) (pair_bytes pairs) (subst (λ (texts : List Text). IsQuestion texts (bytes_in (options_of pairs)) [] shown.0) (pair_blocks pairs) shown.1), shown.2)
+            inl (shown.0, subst (λ (texts : List Text). IsQuestion (blocks_of pairs) texts [] unset shown.0) (pair_bytes pairs) (subst (λ (texts : List Text). IsQuestion texts (bytes_in (options_of pairs)) [] unset shown.0) (pair_blocks pairs) shown.1), shown.2)
         | inr lacks ↦ inr lacks
       ]

@@ -15,12 +15,13 @@ use Rattle.clap.specs.ValueTests.{accepts, fits_i64, is_numeral}
 use Rattle.clap.specs.Walk.{Held, Row, Rule, Step, Text, Waiting, Walk, all_of, idle, option, trailing}
 use Rattle.clap.specs.Walk.{after_step, finished, long_or_other, nothing_held, plain_word, rows_after, settled, settled_rows, short_or_plain, subcommand_or_other, walk, walk_from, walked, with_default}
 use Rattle.clap.specs.Words.{subcommand_of}
-use Rattle.clap.specs.declared.builder.value_parser.Reading.TheVariants.{WithoutMinus}
+use Rattle.clap.specs.declared.builder.value_parser.Reading.TheVariants.{AsWritten, WithoutMinus}
 use Rattle.clap.specs.declared.builder.value_parser.ValueParser.TheVariants.{Signed}
-use Rattle.clap.specs.declared.parser.matches.ValueSource.TheVariants.{CommandLine}
+use Rattle.clap.specs.declared.parser.matches.ValueSource.TheVariants.{CommandLine, DefaultValue}
 use Rattle.clap.proofs.OnLiterals.{clap_on_literals}
 use Rattle.clap.proofs.WalkLemmas.{walk_stopped}
 use Rattle.tlsf_command.specs.CommandLine.{command_in, faults_of, size_app, texts_given, tlsf_app, Asks}
+use Rattle.tlsf_command.specs.Runs.{unset}
 use Rattle.tlsf_command.specs.SizeQuestions.{blocks_in, blocks_of, bytes_in, bytes_of, option_words, pair_words, AreOptions, ArePairs, IsCount, IsOption, IsPair, IsQuestion, Pair, SizeOption, Blocks, Bytes}
 use Rattle.tlsf_command.proofs.NamedRuns.{IsPlain}
 use Rattle.tlsf_command.specs.declared.command_line.Choice.TheVariants.{Size}
@@ -93,6 +94,10 @@ rows_for [] (n ∷ ns) first = row (codes "N") (n ∷ ns) ∷ []
 rows_for (m ∷ ms) [] first = row (codes "B") (m ∷ ms) ∷ []
 rows_for (m ∷ ms) (n ∷ ns) true = row (codes "B") (m ∷ ms) ∷ row (codes "N") (n ∷ ns) ∷ []
 rows_for (m ∷ ms) (n ∷ ns) false = row (codes "N") (n ∷ ns) ∷ row (codes "B") (m ∷ ms) ∷ []
+
+-- and the row of `--split`, which isn't given
+abbrev rows_unsplit : List Row → List Row
+rows_unsplit rows = rows ++ record { id = codes "split"; values = codes "false" ∷ []; count = None; source = Some DefaultValue; reading = AsWritten } ∷ []
 
 -- these are the rows
 abbrev AreRows : List Row → (blocks bytes : List Text) → Type 0
@@ -295,7 +300,7 @@ end_fault h = or_else (settle_fault rules false h)
 record IsWhole (end : Walk) (blocks bytes : List Text) : Type 0 where
   faultless : end_fault end.held ≡ []
   first : Bool
-  rows : finished rules end.held ≡ rows_for blocks bytes first
+  rows : finished rules end.held ≡ rows_unsplit (rows_for blocks bytes first)
 
 rest_passes_by : (blocks bytes : List Text) (first : Bool) → 1 ≤ length blocks → 1 ≤ length bytes
     → or_else (defaults_fault (rows_for blocks bytes first) rules) (check_fault size (fold with_default (rows_for blocks bytes first) rules) false) ≡ []
@@ -305,7 +310,7 @@ rest_passes_by (m ∷ ms) [] first some_blocks some_bytes = absurd (omega (arith
 rest_passes_by (m ∷ ms) (n ∷ ns) true some_blocks some_bytes = refl
 rest_passes_by (m ∷ ms) (n ∷ ns) false some_blocks some_bytes = refl
 
-finished_by : (blocks bytes : List Text) (first : Bool) → 1 ≤ length blocks → 1 ≤ length bytes → fold with_default (rows_for blocks bytes first) rules ≡ rows_for blocks bytes first
+finished_by : (blocks bytes : List Text) (first : Bool) → 1 ≤ length blocks → 1 ≤ length bytes → fold with_default (rows_for blocks bytes first) rules ≡ rows_unsplit (rows_for blocks bytes first)
 unfolding clap_on_literals
 finished_by [] bytes first some_blocks some_bytes = absurd (omega (arith, some_blocks))
 finished_by (m ∷ ms) [] first some_blocks some_bytes = absurd (omega (arith, some_bytes))
@@ -343,7 +348,7 @@ level_passes options are =
     let gives = all_give options are.each in
     ap₂ or_else gives.passes.1 (ap (λ (w : Walk). end_fault w.held) gives.passes.0 ∙ (options_whole options are).faultless)
 
-rows_given : (options : List SizeOption) (are : AreOptions options) → rows_after rules [] (option_words options) ≡ rows_for (blocks_in options) (bytes_in options) (options_whole options are).first
+rows_given : (options : List SizeOption) (are : AreOptions options) → rows_after rules [] (option_words options) ≡ rows_unsplit (rows_for (blocks_in options) (bytes_in options) (options_whole options are).first)
 rows_given options are = ap (λ (w : Walk). finished rules w.held) (all_give options are.each).passes.0 ∙ (options_whole options are).rows
 
 -- ---- the program
@@ -388,7 +393,7 @@ options_faultless called options are =
 
 -- and give their texts to `size`
 options_entered : (called : Text) (options : List SizeOption) (are : AreOptions options)
-    → subcommand_of tlsf_app (called ∷ codes "size" ∷ option_words options) ≡ Some (codes "size", rows_for (blocks_in options) (bytes_in options) (options_whole options are).first)
+    → subcommand_of tlsf_app (called ∷ codes "size" ∷ option_words options) ≡ Some (codes "size", rows_unsplit (rows_for (blocks_in options) (bytes_in options) (options_whole options are).first))
 options_entered called options are =
     ap (λ (w : Walk). entered program w.stopped) (stop_is (option_words options))
     ∙ ap (λ (rs : List Row). Some (codes "size", rs)) (rows_given options are)
@@ -397,27 +402,33 @@ options_entered called options are =
 pub options_named : (called : Text) (options : List SizeOption) → AreOptions options → command_in (called ∷ codes "size" ∷ option_words options) ≡ Some (codes "size")
 options_named called options are = ap (option_map (λ (named : Text × List Row). named.0)) (options_entered called options are)
 
-blocks_read : (blocks bytes : List Text) (first : Bool) → 1 ≤ length blocks → 1 ≤ length bytes → unwrap_or (all_of (codes "B") (rows_for blocks bytes first)) [] ≡ blocks
+blocks_read : (blocks bytes : List Text) (first : Bool) → 1 ≤ length blocks → 1 ≤ length bytes → unwrap_or (all_of (codes "B") (rows_unsplit (rows_for blocks bytes first))) [] ≡ blocks
 blocks_read [] bytes first some_blocks some_bytes = absurd (omega (arith, some_blocks))
 blocks_read (m ∷ ms) [] first some_blocks some_bytes = absurd (omega (arith, some_bytes))
 blocks_read (m ∷ ms) (n ∷ ns) true some_blocks some_bytes = refl
 blocks_read (m ∷ ms) (n ∷ ns) false some_blocks some_bytes = refl
 
-bytes_read : (blocks bytes : List Text) (first : Bool) → 1 ≤ length blocks → 1 ≤ length bytes → unwrap_or (all_of (codes "N") (rows_for blocks bytes first)) [] ≡ bytes
+bytes_read : (blocks bytes : List Text) (first : Bool) → 1 ≤ length blocks → 1 ≤ length bytes → unwrap_or (all_of (codes "N") (rows_unsplit (rows_for blocks bytes first))) [] ≡ bytes
 bytes_read [] bytes first some_blocks some_bytes = absurd (omega (arith, some_blocks))
 bytes_read (m ∷ ms) [] first some_blocks some_bytes = absurd (omega (arith, some_bytes))
 bytes_read (m ∷ ms) (n ∷ ns) true some_blocks some_bytes = refl
 bytes_read (m ∷ ms) (n ∷ ns) false some_blocks some_bytes = refl
 
-levels_read : (blocks bytes : List Text) (first : Bool) → 1 ≤ length blocks → 1 ≤ length bytes → unwrap_or (all_of (codes "sli") (rows_for blocks bytes first)) [] ≡ []
+levels_read : (blocks bytes : List Text) (first : Bool) → 1 ≤ length blocks → 1 ≤ length bytes → unwrap_or (all_of (codes "sli") (rows_unsplit (rows_for blocks bytes first))) [] ≡ []
 levels_read [] bytes first some_blocks some_bytes = absurd (omega (arith, some_blocks))
 levels_read (m ∷ ms) [] first some_blocks some_bytes = absurd (omega (arith, some_bytes))
 levels_read (m ∷ ms) (n ∷ ns) true some_blocks some_bytes = refl
 levels_read (m ∷ ms) (n ∷ ns) false some_blocks some_bytes = refl
 
--- and the question that they ask is that of the options, which give no level
+flags_read : (blocks bytes : List Text) (first : Bool) → 1 ≤ length blocks → 1 ≤ length bytes → unwrap_or (all_of (codes "split") (rows_unsplit (rows_for blocks bytes first))) [] ≡ unset
+flags_read [] bytes first some_blocks some_bytes = absurd (omega (arith, some_blocks))
+flags_read (m ∷ ms) [] first some_blocks some_bytes = absurd (omega (arith, some_bytes))
+flags_read (m ∷ ms) (n ∷ ns) true some_blocks some_bytes = refl
+flags_read (m ∷ ms) (n ∷ ns) false some_blocks some_bytes = refl
+
+-- and the question that they ask is that of the options, which give no level and no flag
 pub options_question : (words : List Text) (called : Text) (options : List SizeOption) (question : SizeQuestion) → Asks words (Size question) → AreOptions options
-    → words ≡ called ∷ codes "size" ∷ option_words options → IsQuestion (blocks_in options) (bytes_in options) [] question
+    → words ≡ called ∷ codes "size" ∷ option_words options → IsQuestion (blocks_in options) (bytes_in options) [] unset question
 options_question words called options question asks are is =
     let given = ap (subcommand_of tlsf_app) is ∙ options_entered called options are in
     let texts = λ (id : Text). ap (λ (named : Option (Text × List Row)). unwrap_or (option_and_then (λ (n : Text × List Row). all_of id n.1) named) []) given in
@@ -425,9 +436,11 @@ options_question words called options question asks are is =
     let blocks = texts (codes "B") ∙ blocks_read (blocks_in options) (bytes_in options) first are.blocks are.bytes in
     let bytes = texts (codes "N") ∙ bytes_read (blocks_in options) (bytes_in options) first are.blocks are.bytes in
     let levels = texts (codes "sli") ∙ levels_read (blocks_in options) (bytes_in options) first are.blocks are.bytes in
-    subst (λ (texts : List Text). IsQuestion (blocks_in options) (bytes_in options) texts question) levels
-    (subst (λ (texts : List Text). IsQuestion (blocks_in options) texts (texts_given (codes "sli") words) question) bytes
-    (subst (λ (texts : List Text). IsQuestion texts (texts_given (codes "N") words) (texts_given (codes "sli") words) question) blocks asks.parts))
+    let flags = texts (codes "split") ∙ flags_read (blocks_in options) (bytes_in options) first are.blocks are.bytes in
+    subst (λ (ts : List Text). IsQuestion (blocks_in options) (bytes_in options) [] ts question) flags
+    (subst (λ (ts : List Text). IsQuestion (blocks_in options) (bytes_in options) ts (texts_given (codes "split") words) question) levels
+    (subst (λ (ts : List Text). IsQuestion (blocks_in options) ts (texts_given (codes "sli") words) (texts_given (codes "split") words) question) bytes
+    (subst (λ (ts : List Text). IsQuestion ts (texts_given (codes "N") words) (texts_given (codes "sli") words) (texts_given (codes "split") words) question) blocks asks.parts)))
 
 -- ---- pairs
 

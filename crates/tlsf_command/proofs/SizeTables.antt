@@ -12,9 +12,9 @@ use Rattle.clap.specs.declared.builder.value_parser.ValueParser.TheVariants.{Uns
 use Rattle.clap.proofs.ValueTestLemmas.{accepts-Accepts, Accepts-accepts}
 use Rattle.tlsf_command.specs.SizeLines.{asked_bytes, AreReached, IsFiner, IsServable}
 use Rattle.clap.specs.Words.{Text}
-use Rattle.tlsf_command.specs.SizeQuestions.{kinds_in, number_of, HasTable, IsQuestion}
+use Rattle.tlsf_command.specs.SizeQuestions.{kinds_in, number_of, AreOfTexts, HasKinds, HasTable, IsQuestion}
 use Rattle.tlsf_command.specs.declared.size_question.SizeQuestion.{SizeQuestion}
-use Rattle.tlsf_command.specs.declared.size_question.SizeQuestion.TheVariants.{Table, FineTable, Unpaired}
+use Rattle.tlsf_command.specs.declared.size_question.SizeQuestion.TheVariants.{Table, FineTable, Split, FineSplit, Unpaired}
 use Rattle.tlsf_class.specs.Classes.{most_words}
 use Rattle.tlsf_class.proofs.TwoLevels.{most_words_any}
 use Rattle.tlsf_heap.specs.Blocks.{want}
@@ -136,12 +136,16 @@ kinds_count [] bytes same = refl
 kinds_count (most ∷ blocks) [] same = sym same
 kinds_count (most ∷ blocks) (len ∷ bytes) same = let fewer : length blocks ≡ length bytes = omega (arith, same) in ap (λ n. suc n) (kinds_count blocks bytes fewer)
 
--- the table of a question has 1 to 64 kinds
-pub has_table : (blocks bytes levels : List Text) (question : SizeQuestion) → IsQuestion blocks bytes levels question → HasTable question
-has_table blocks bytes levels (Table kinds) is =
-    let count : length kinds.items ≡ length blocks = ap (λ (ks : List Kind). length ks) is.1 ∙ kinds_count blocks bytes is.0.0 in
-    (omega (arith, count, is.0.1), omega (arith, count, is.0.2))
-has_table blocks bytes levels (FineTable kinds) is =
-    let count : length kinds.items ≡ length blocks = ap (λ (ks : List Kind). length ks) is.1 ∙ kinds_count blocks bytes is.0.0 in
-    (omega (arith, count, is.0.1), omega (arith, count, is.0.2))
-has_table blocks bytes levels (Unpaired m n) is = tt
+-- the table of texts has 1 to 64 kinds
+of_texts : (blocks bytes : List Text) (kinds : List Kind) → AreOfTexts blocks bytes kinds → HasKinds kinds
+of_texts blocks bytes kinds are =
+    let count : length kinds ≡ length blocks = ap (λ (ks : List Kind). length ks) are.1 ∙ kinds_count blocks bytes are.0.0 in
+    (omega (arith, count, are.0.1), omega (arith, count, are.0.2))
+
+-- and so has that of a question
+pub has_table : (blocks bytes levels flags : List Text) (question : SizeQuestion) → IsQuestion blocks bytes levels flags question → HasTable question
+has_table blocks bytes levels flags (Table kinds) is = of_texts blocks bytes kinds.items is.0
+has_table blocks bytes levels flags (FineTable kinds) is = of_texts blocks bytes kinds.items is.0
+has_table blocks bytes levels flags (Split kinds) is = of_texts blocks bytes kinds.items is.0
+has_table blocks bytes levels flags (FineSplit kinds) is = of_texts blocks bytes kinds.items is.0
+has_table blocks bytes levels flags (Unpaired m n) is = tt

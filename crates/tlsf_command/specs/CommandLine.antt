@@ -42,14 +42,14 @@ count_rule id name = record (new_rule id) {
   parser = Some (Signed (pos 1) (pos 4294967295));
 }
 
--- the command `size`
-abbrev pub size_app : App
-size_app = with_rule (with_rule (with_rule (new_app (codes "size")) (count_rule (codes "B") (codes "blocks")))
-    (count_rule (codes "N") (codes "bytes"))) level_rule
-
 -- a flag, which is given or not
 abbrev pub flag_rule : Text → Rule
 flag_rule name = record (new_rule name) { long = Some name; action = Some SetTrue }
+
+-- the command `size`, with the flag by which it gives the kinds to several heaps
+abbrev pub size_app : App
+size_app = with_rule (with_rule (with_rule (with_rule (new_app (codes "size")) (count_rule (codes "B") (codes "blocks")))
+    (count_rule (codes "N") (codes "bytes"))) level_rule) (flag_rule (codes "split"))
 
 -- words behind a command that reads a trace from standard input, as the names of files
 abbrev pub file_rule : Rule
@@ -202,7 +202,8 @@ abbrev pub HasParts : List Text → Choice → Type 0
 HasParts words (Trace run) = HasForm run words × (texts_given (codes "FILE") words ≡ []) × NamesNoLine run words
 HasParts words (File run tip) = HasForm run words × IsTip run (texts_given (codes "FILE") words) (string_bytes tip)
 HasParts words (Classes question) = IsClassQuestion (texts_given (codes "N") words) (texts_given (codes "sli") words) question
-HasParts words (Size question) = IsQuestion (texts_given (codes "B") words) (texts_given (codes "N") words) (texts_given (codes "sli") words) question
+HasParts words (Size question) =
+    IsQuestion (texts_given (codes "B") words) (texts_given (codes "N") words) (texts_given (codes "sli") words) (texts_given (codes "split") words) question
 HasParts words (At form line) = HasForm (run_in form) words × (texts_given (codes "FILE") words ≡ []) × (line ≢ 0) × (line ≡ line_given words)
 
 -- the size of the choice, where it has one, has a class, and a table has 1 to 64 kinds

@@ -1,5 +1,5 @@
 -- What a run of the program does.
-use Rattle.std.specs.Prelude.{◌≡◌, ◌⊎◌, ◌++◌, ℕ, List, [], ◌∷◌, Option, Result, Ok, Err, IfSome, string_bytes}
+use Rattle.std.specs.Prelude.{◌≡◌, ◌⊎◌, ◌++◌, ℕ, List, [], ◌∷◌, Option, Result, Ok, Err, IfSome, codes, string_bytes}
 use Rattle.std.specs.Io.KnownBytes.{Appends, Keeps}
 use Rattle.clap.specs.Words.{IsAmong, Text}
 use Rattle.clap.specs.declared.error.kind.ErrorKind.{ErrorKind}
@@ -7,13 +7,15 @@ use Rattle.clap.specs.declared.error.kind.ErrorKind.TheVariants.{DisplayHelp, Di
 use Rattle.tlsf_command.specs.ClassLines.{class_line, no_class_line}
 use Rattle.tlsf_command.specs.CommandLine.{Asks, faults_of, tip_line}
 use Rattle.tlsf_command.specs.FaultLines.{fault_line, status_of_fault}
-use Rattle.tlsf_command.specs.SizeLines.{size_line, unpaired_line, unreached_line, unreached_table_line, AreReached, IsFiner, IsFirstUnreached, IsGreatest, IsReached}
+use Rattle.tlsf_command.specs.SizeLines.{no_split_line, size_line, split_lines, unpaired_line, unreached_line, unreached_table_line, AreReached, HasNoSplit, IsCheapest, IsFiner, IsFirstUnreached, IsGreatest, IsReached}
 use Rattle.tlsf_command.specs.SizeQuestions.{blocks_in, blocks_of, bytes_in, bytes_of, IsQuestion, Pair, SizeOption}
 use Rattle.tlsf_command.specs.declared.class_question.ClassQuestion.{ClassQuestion}
 use Rattle.tlsf_command.specs.declared.class_question.ClassQuestion.TheVariants.{Coarse, Fine, NoClass}
 use Rattle.tlsf_command.specs.declared.size_question.SizeQuestion.{SizeQuestion}
-use Rattle.tlsf_command.specs.declared.size_question.SizeQuestion.TheVariants.{Table, FineTable, Unpaired}
+use Rattle.tlsf_command.specs.declared.size_question.SizeQuestion.TheVariants.{Table, FineTable, Split as Splits, FineSplit as FineSplits, Unpaired}
 use Rattle.tlsf_laws.specs.declared.kind.Kind.{Kind}
+use Rattle.tlsf_pool.specs.Splits.{parts_of}
+use Rattle.tlsf_pool.specs.declared.split.Split.{Split}
 use Rattle.tlsf_command.specs.declared.command_line.Choice.{Choice}
 use Rattle.tlsf_command.specs.declared.command_line.Choice.TheVariants.{Trace, File, Classes, Size, At}
 use Rattle.tlsf_command.specs.declared.trace_run.TraceRun.{TraceRun}
@@ -105,12 +107,16 @@ AnswersClasses (Coarse n) = ShowsClasses 4 n
 AnswersClasses (Fine n) = ShowsClasses 5 n
 AnswersClasses NoClass = Refuses no_class_line
 
--- the line on the kinds of a table was written, or a prefix of it, where a write failed and was reported
+-- this text was written, or a prefix of it, where a write failed and was reported
+pub record ShowsLines (text : List ℕ) (status : ℕ) (old new : Streams) : Type 0 where
+  pub front : AppendsFront old.written new.written text
+  pub ended : ((status ≡ 0) × Appends old.written new.written text × (new.errors ≡ old.errors))
+      ⊎ ((status ≡ 1) × AppendsFront old.errors new.errors (fault_line write_fault))
+
+-- the line on the kinds of a table was written so
 pub record ShowsWords (sli : ℕ) (kinds : List Kind) (status : ℕ) (old new : Streams) : Type 0 where
   pub reached : AreReached sli kinds
-  pub front : AppendsFront old.written new.written (size_line sli kinds)
-  pub ended : ((status ≡ 0) × Appends old.written new.written (size_line sli kinds) × (new.errors ≡ old.errors))
-      ⊎ ((status ≡ 1) × AppendsFront old.errors new.errors (fault_line write_fault))
+  pub lines : ShowsLines (size_line sli kinds) status old new
 
 -- the line that says how far a region does reach was reported: of one kind, the most blocks and the most bytes; of several, how
 -- many of the table a region has room for, and the next one; and the hint at level 5 exactly where a region of it has the words
@@ -134,10 +140,28 @@ pub record ShowsKinds (sli : ℕ) (kinds : List Kind) (status : ℕ) (old new : 
   pub left : new.left ≡ old.left
   pub shown : ShowsWords sli kinds status old new ⊎ ShowsUnreached sli kinds status old new
 
+-- the lines on the cheapest split of a table were written so
+pub record ShowsSplit (sli : ℕ) (kinds : List Kind) (status : ℕ) (old new : Streams) : Type 0 where
+  pub split : Split
+  pub cheapest : IsCheapest sli kinds split
+  pub lines : ShowsLines (split_lines sli (parts_of split kinds) kinds) status old new
+
+-- there is no split
+pub record ShowsNoSplit (sli : ℕ) (kinds : List Kind) (status : ℕ) (old new : Streams) : Type 0 where
+  pub none : HasNoSplit sli kinds
+  pub refused : Refuses no_split_line status old new
+
+-- a table was split into the regions of several heaps, or refused; nothing was read
+pub record ShowsHeaps (sli : ℕ) (kinds : List Kind) (status : ℕ) (old new : Streams) : Type 0 where
+  pub left : new.left ≡ old.left
+  pub shown : ShowsSplit sli kinds status old new ⊎ ShowsNoSplit sli kinds status old new
+
 -- the question was answered
 abbrev pub ShowsSize : SizeQuestion → ℕ → Streams → Streams → Type 0
 ShowsSize (Table kinds) = ShowsKinds 4 kinds.items
 ShowsSize (FineTable kinds) = ShowsKinds 5 kinds.items
+ShowsSize (Splits kinds) = ShowsHeaps 4 kinds.items
+ShowsSize (FineSplits kinds) = ShowsHeaps 5 kinds.items
 ShowsSize (Unpaired blocks bytes) = Refuses (unpaired_line blocks bytes)
 
 -- a text was shown, or a write failed and was reported
@@ -182,14 +206,18 @@ RunsOrLacksMemory run status old new = RunsAs run status old new ⊎ LacksMemory
 abbrev pub TipsOrLacksMemory : TraceRun → Text → ℕ → Streams → Streams → Type 0
 TipsOrLacksMemory run file status old new = Refuses (tip_line run file) status old new ⊎ LacksMemory status old new
 
+-- what `clap` gives for a flag that isn't among the words
+abbrev pub unset : List Text
+unset = codes "false" ∷ []
+
 -- the question that the pairs make was answered, unless memory ran out before
 abbrev pub ShowsPairsOrLacksMemory : List Pair → ℕ → Streams → Streams → Type 0
 ShowsPairsOrLacksMemory pairs status old new =
-    ((question : SizeQuestion) × IsQuestion (blocks_of pairs) (bytes_of pairs) [] question × ShowsSize question status old new)
+    ((question : SizeQuestion) × IsQuestion (blocks_of pairs) (bytes_of pairs) [] unset question × ShowsSize question status old new)
     ⊎ LacksMemory status old new
 
 -- the question that the options make was answered, unless memory ran out before
 abbrev pub ShowsOptionsOrLacksMemory : List SizeOption → ℕ → Streams → Streams → Type 0
 ShowsOptionsOrLacksMemory options status old new =
-    ((question : SizeQuestion) × IsQuestion (blocks_in options) (bytes_in options) [] question × ShowsSize question status old new)
+    ((question : SizeQuestion) × IsQuestion (blocks_in options) (bytes_in options) [] unset question × ShowsSize question status old new)
     ⊎ LacksMemory status old new

@@ -1,5 +1,5 @@
 -- The lines that `tlsf size` writes and reports.
-use Rattle.std.specs.Prelude.{◌≡◌, ◌⊎◌, ◌≤◌, ◌+◌, ◌*◌, ◌/◌, ◌%◌, ◌==◌, ℕ, List, [], ◌∷◌, ◌++◌, Option, Some, None, codes, slice_get, take, if◌then◌else◌}
+use Rattle.std.specs.Prelude.{◌≡◌, ◌⊎◌, ◌≤◌, ◌+◌, ◌*◌, ◌/◌, ◌%◌, ◌==◌, ℕ, List, [], ◌∷◌, ◌++◌, Option, Some, None, codes, length, slice_get, take, if◌then◌else◌}
 use Rattle.std.specs.List.{AllByRecursion}
 use Rattle.std.specs.Fmt.{decimal}
 use Rattle.tlsf_class.specs.Classes.{most_words}
@@ -7,6 +7,8 @@ use Rattle.tlsf_heap.specs.Blocks.{want}
 use Rattle.tlsf_laws.specs.Kinds.{kinds_words, HasClass}
 use Rattle.tlsf_laws.specs.Pools.{pool_words}
 use Rattle.tlsf_laws.specs.declared.kind.Kind.{Kind}
+use Rattle.tlsf_pool.specs.Splits.{words_together, HasNoCut, IsLeast}
+use Rattle.tlsf_pool.specs.declared.split.Split.{Split}
 
 -- some region of the level has the words that the law asks for, for so many blocks of so many bytes
 abbrev pub IsReached : ℕ → ℕ → ℕ → Type 0
@@ -39,16 +41,49 @@ asked_bytes (kind ∷ kinds) = kind.most * kind.len + asked_bytes kinds
 abbrev pub hundredths : ℕ → ℕ → ℕ
 hundredths a b = (100 * a + b / 2) / b
 
--- hundredths with two digits behind the point, at the end of a line, as `2.13`
-abbrev pub ratio_end : ℕ → List ℕ
-ratio_end n = decimal (n / 100) ++ (codes "." ++ (decimal (n / 10 % 10) ++ (decimal (n % 10) ++ codes "\n")))
+-- so many words, their bytes, and so many hundredths with two digits behind the point, as `words 13631 bytes 109048 ratio 2.13`
+abbrev pub words_text : (words ratio : ℕ) → List ℕ
+words_text words ratio =
+    codes "words " ++ (decimal words ++ (codes " bytes " ++ (decimal (8 * words)
+    ++ (codes " ratio " ++ (decimal (ratio / 100) ++ (codes "." ++ (decimal (ratio / 10 % 10) ++ decimal (ratio % 10))))))))
 
--- the words of the region, its bytes, and their ratio to the bytes asked for, as `words 13631 bytes 109048 ratio 2.13`
+-- so many words, and the ratio of their bytes to those that are asked for
+abbrev pub words_line : (words asked : ℕ) → List ℕ
+words_line words asked = words_text words (hundredths (8 * words) asked) ++ codes "\n"
+
+-- the line on the region for a table
 abbrev pub size_line : ℕ → List Kind → List ℕ
-size_line sli kinds =
-    codes "words " ++ (decimal (kinds_words sli kinds)
-    ++ (codes " bytes " ++ (decimal (8 * kinds_words sli kinds)
-    ++ (codes " ratio " ++ ratio_end (hundredths (8 * kinds_words sli kinds) (asked_bytes kinds))))))
+size_line sli kinds = words_line (kinds_words sli kinds) (asked_bytes kinds)
+
+-- the line on a heap of a split: its number, its pairs by their places in the table, from 1 on, and its region, as
+-- `heap 0 pairs 1 to 2 words 13631 bytes 109048 ratio 2.13`
+abbrev pub heap_line : ℕ → (heap before : ℕ) → List Kind → List ℕ
+heap_line sli heap before part =
+    codes "heap " ++ (decimal heap ++ (codes " pairs " ++ (decimal (before + 1) ++ (codes " to " ++ (decimal (before + length part)
+    ++ (codes " " ++ size_line sli part))))))
+
+-- those on the heaps of these tables, from a number and a place on
+abbrev pub heap_lines : ℕ → (heap before : ℕ) → List (List Kind) → List ℕ
+heap_lines sli heap before [] = []
+heap_lines sli heap before (part ∷ parts) = heap_line sli heap before part ++ heap_lines sli (heap + 1) (before + length part) parts
+
+-- the lines on a table that is split into these: one for each heap, and `heaps 2 words 56691 bytes 453528 ratio 2.34` for all
+abbrev pub split_lines : ℕ → List (List Kind) → List Kind → List ℕ
+split_lines sli parts kinds =
+    heap_lines sli 0 0 parts ++ (codes "heaps " ++ (decimal (length parts) ++ (codes " " ++ words_line (words_together sli parts) (asked_bytes kinds))))
+
+-- the cheapest split of a table of such kinds
+pub record IsCheapest (sli : ℕ) (kinds : List Kind) (split : Split) : Type 0 where
+  pub servable : AllByRecursion (IsServable sli) kinds
+  pub least : IsLeast sli 8 kinds split
+
+-- there is none
+abbrev pub HasNoSplit : ℕ → List Kind → Type 0
+HasNoSplit sli kinds = AllByRecursion (IsServable sli) kinds → HasNoCut sli 8 kinds
+
+-- the refusal of such a table
+abbrev pub no_split_line : List ℕ
+no_split_line = codes "tlsf: no region has so many words, however the pairs are given to 8 heaps in their order\n"
 
 -- so many of them, as `1 block` and `2 blocks`
 abbrev pub counted : ℕ → List ℕ → List ℕ

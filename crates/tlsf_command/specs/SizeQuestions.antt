@@ -1,12 +1,14 @@
--- What `tlsf size` is asked for: a table of kinds of request, of the texts behind `--blocks` and `--bytes`, at the level behind `--sli`.
-use Rattle.std.specs.Prelude.{◌≡◌, ◌≢◌, ◌≤◌, ◌<◌, ⊤, ℕ, List, [], ◌∷◌, codes, length, map, if◌then◌else◌}
+-- What `tlsf size` is asked for: a table of kinds of request, of the texts behind `--blocks` and `--bytes`, at the level behind `--sli`, for
+-- one heap or, by `--split`, for several.
+use Rattle.std.specs.Prelude.{◌≡◌, ◌≢◌, ◌≤◌, ◌<◌, ⊤, ℕ, Bool, false, true, List, [], ◌∷◌, codes, length, map, if◌then◌else◌}
 use Rattle.std.specs.List.{AllByRecursion}
+use Rattle.std.specs.Str.{bytes_eq}
 use Rattle.std.specs.Str.Parse.{digits_value, without_leading_plus, IsNumeral}
 use Rattle.clap.specs.ValueTests.{is_unsigned_in}
 use Rattle.clap.specs.Words.{Text}
 use Rattle.tlsf_laws.specs.declared.kind.Kind.{Kind}
 use Rattle.tlsf_command.specs.declared.size_question.SizeQuestion.{SizeQuestion}
-use Rattle.tlsf_command.specs.declared.size_question.SizeQuestion.TheVariants.{Table, FineTable, Unpaired}
+use Rattle.tlsf_command.specs.declared.size_question.SizeQuestion.TheVariants.{Table, FineTable, Split, FineSplit, Unpaired}
 
 -- the number of 32 bits that the text spells, behind a plus sign if there is one; 0 where it spells none
 abbrev pub number_of : Text → ℕ
@@ -27,21 +29,38 @@ kinds_in (most ∷ blocks) (len ∷ bytes) = record { most = number_of most; len
 abbrev pub MakesTable : (blocks bytes : ℕ) → Type 0
 MakesTable blocks bytes = (blocks ≡ bytes) × (1 ≤ blocks) × (blocks ≤ 64)
 
--- the question about the pairs of these texts at a level: about their table at level 5 or at another, which is 4 since `clap` refuses the rest,
--- or about none
-abbrev pub IsOfTexts : (blocks bytes : List Text) → ℕ → SizeQuestion → Type 0
-IsOfTexts blocks bytes level (Table kinds) = MakesTable (length blocks) (length bytes) × (kinds.items ≡ kinds_in blocks bytes) × (level ≢ 5)
-IsOfTexts blocks bytes level (FineTable kinds) = MakesTable (length blocks) (length bytes) × (kinds.items ≡ kinds_in blocks bytes) × (level ≡ 5)
-IsOfTexts blocks bytes level (Unpaired m n) = ¬ (MakesTable (length blocks) (length bytes)) × (m ≡ length blocks) × (n ≡ length bytes)
+-- the kinds of so many pairs of texts as there are
+abbrev pub AreOfTexts : (blocks bytes : List Text) → List Kind → Type 0
+AreOfTexts blocks bytes kinds = MakesTable (length blocks) (length bytes) × (kinds ≡ kinds_in blocks bytes)
 
--- the question that these texts make, with the level that the last ones give, 4 where there is none
-abbrev pub IsQuestion : (blocks bytes levels : List Text) → SizeQuestion → Type 0
-IsQuestion blocks bytes levels = IsOfTexts blocks bytes (first_number 4 levels)
+-- the question about the pairs of these texts at a level, for one heap or for several: about their table at level 5 or at another, which is 4
+-- since `clap` refuses the rest, or about none
+abbrev pub IsOfTexts : (blocks bytes : List Text) → ℕ → Bool → SizeQuestion → Type 0
+IsOfTexts blocks bytes level split (Table kinds) = AreOfTexts blocks bytes kinds.items × (level ≢ 5) × (split ≡ false)
+IsOfTexts blocks bytes level split (FineTable kinds) = AreOfTexts blocks bytes kinds.items × (level ≡ 5) × (split ≡ false)
+IsOfTexts blocks bytes level split (Split kinds) = AreOfTexts blocks bytes kinds.items × (level ≢ 5) × (split ≡ true)
+IsOfTexts blocks bytes level split (FineSplit kinds) = AreOfTexts blocks bytes kinds.items × (level ≡ 5) × (split ≡ true)
+IsOfTexts blocks bytes level split (Unpaired m n) = ¬ (MakesTable (length blocks) (length bytes)) × (m ≡ length blocks) × (n ≡ length bytes)
 
--- its table, if it has one, has 1 to 64 kinds
+-- whether the first text says that a flag is given
+abbrev pub is_set : List Text → Bool
+is_set [] = false
+is_set (text ∷ texts) = bytes_eq text (codes "true")
+
+-- the question that these texts make, with the level that those behind `--sli` give, 4 where there is none, and the flag `--split`
+abbrev pub IsQuestion : (blocks bytes levels flags : List Text) → SizeQuestion → Type 0
+IsQuestion blocks bytes levels flags = IsOfTexts blocks bytes (first_number 4 levels) (is_set flags)
+
+-- 1 to 64 kinds
+abbrev pub HasKinds : List Kind → Type 0
+HasKinds kinds = (0 < length kinds) × (length kinds ≤ 64)
+
+-- its table, if it has one, has so many
 abbrev pub HasTable : SizeQuestion → Type 0
-HasTable (Table kinds) = (0 < length kinds.items) × (length kinds.items ≤ 64)
-HasTable (FineTable kinds) = (0 < length kinds.items) × (length kinds.items ≤ 64)
+HasTable (Table kinds) = HasKinds kinds.items
+HasTable (FineTable kinds) = HasKinds kinds.items
+HasTable (Split kinds) = HasKinds kinds.items
+HasTable (FineSplit kinds) = HasKinds kinds.items
 HasTable (Unpaired m n) = ⊤
 
 -- digits that spell a number from 1 to 2^32 - 1

@@ -29,7 +29,8 @@ pub enum Choice {
     /// standard output. With `--sli 5` those at level 5, of 4 to 2^24 words.
     Classes(ClassQuestion),
     /// `tlsf size --blocks B --bytes N ..`: write the words of a region that never refuses a
-    /// program of at most B blocks of at most N bytes each at once, for each pair, to standard output.
+    /// program of at most B blocks of at most N bytes each at once, for each pair, to standard output. With `--split` those of
+    /// several heaps.
     Size(SizeQuestion),
     /// `tlsf map --at K`: write a picture of the heaps of a trace as they stand behind its line K, 1 to 2^32 - 1, in this form.
     At(Form, u32),
@@ -208,7 +209,9 @@ fn size_command<'a>(alloc: Global) -> Result<Command<'a>, AllocError>
         blocks_help,
     ))?;
     let paired = command.arg(count_option(alloc, "N", "bytes", bytes_help))?;
-    paired.arg(level_argument(alloc))
+    let split_help = "Give the pairs to several heaps, for the fewest words";
+    let fine = paired.arg(level_argument(alloc))?;
+    fine.arg(flag(alloc, "split", split_help))
 }
 
 // The program's version and texts, with no command yet.

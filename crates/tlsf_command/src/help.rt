@@ -221,6 +221,15 @@ where at level 4 it is
 
   words 15920 bytes 127360 ratio 2.12
 
+With --split the pairs are given to several heaps, 8 at most, in their order, so
+that all take the fewest words; the law holds for each heap and its own pairs.
+For '--blocks 2000 --bytes 64 --blocks 1 --bytes 65536 --split', for which one
+heap is too small, there is a line for each heap and one for all:
+
+  heap 0 pairs 1 to 1 words 47987 bytes 383896 ratio 3.00
+  heap 1 pairs 2 to 2 words 8704 bytes 69632 ratio 1.06
+  heaps 2 words 56691 bytes 453528 ratio 2.34
+
 Not promised: an allocate or a free is refused as Worn (2) once the ticks of the
 heap have ended, and a request above these bounds may find room or not. Each
 heap has words of its own.

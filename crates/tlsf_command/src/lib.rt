@@ -6,8 +6,8 @@
 //! phase run in threads, one for each worker. `map` writes a picture of the heaps that a trace leaves. `check` says what a
 //! trace is, or where its first fault is and what was expected there. A file that is named behind one of these isn't read: a
 //! line tells how it is given as standard input. `classes N` writes the size class and the search class of N words, and
-//! `size --blocks B --bytes N ..` the words of a region that never refuses B blocks of N bytes, for each pair; both at level 4
-//! or, with `--sli 5`, at level 5. Help and version texts are written, and words that are refused are answered on the error
+//! `size --blocks B --bytes N ..` the words of a region that never refuses B blocks of N bytes, for each pair, with `--split` those of the
+//! heaps to which the pairs are given for the fewest words; all at level 4 or, with `--sli 5`, at level 5. Help and version texts are written, and words that are refused are answered on the error
 //! stream. A [`RaceNotice`] shows that a long race is alive.
 //!
 //! | Exit status | When |
@@ -30,9 +30,11 @@ mod fault_report;
 mod finer_hint;
 mod help;
 mod race_notice;
+mod region_size;
 mod size_line;
 mod size_question;
 mod size_run;
+mod split_lines;
 mod trace_run;
 mod unreached_table;
 

@@ -1,8 +1,8 @@
-ghost use Rattle.std.specs.Prelude.{◌≡◌, ◌≤◌, ◌<◌, ◌*◌, ◌^◌, ◌↔◌, ℕ, [], ◌∷◌, length, IfOk, IfSome, IsTrue, Option, None, OnOk};
+ghost use Rattle.std.specs.Prelude.{◌≡◌, ◌≤◌, ◌<◌, ◌^◌, ◌↔◌, ℕ, [], ◌∷◌, length, IfOk, IfSome, IsTrue, Option, None, OnOk};
 ghost use Rattle.std.specs.List.{AllByRecursion};
 ghost use Rattle.std.specs.Io.KnownBytes.{Appends};
 ghost use Rattle.tlsf_class.specs.Classes.{IsLevel, most_words};
-ghost use Rattle.tlsf_command.specs.SizeLines.{hundredths, size_line, unreached_line, AreReached, IsFiner, IsGreatest, IsReached, IsServable};
+ghost use Rattle.tlsf_command.specs.SizeLines.{size_line, unreached_line, AreReached, IsFiner, IsGreatest, IsReached, IsServable};
 ghost use Rattle.tlsf_command.specs.SizeLines as spelled;
 ghost use Rattle.tlsf_laws.specs.Kinds as table;
 ghost use Rattle.tlsf_pool.specs.Pools.{most_kinds};
@@ -10,6 +10,7 @@ ghost use Rattle.tlsf_lines.specs.Prefixes.{AppendsFront};
 
 use crate::counted::Counted;
 use crate::finer_hint::FinerHint;
+use crate::region_size::RegionSize;
 use arrayvec::ArrayString;
 use std::fmt;
 use std::fmt::Write as _;
@@ -26,8 +27,8 @@ fn is_servable<const SLI: u32>(kind: Kind) -> bool
     kind.most != 0 && kind.len != 0 && kind.len <= most_bytes::<SLI>()
 }
 
-// Whether each kind of the table is such.
-fn are_servable<const SLI: u32>(kinds: &[Kind]) -> bool
+/// Whether each kind of the table has a block and a byte, and a class for its requests.
+pub fn are_servable<const SLI: u32>(kinds: &[Kind]) -> bool
     requires { IsLevel SLI }
     ensures { IsTrue result ↔ AllByRecursion (IsServable SLI) kinds.now }
 {
@@ -61,9 +62,9 @@ pub fn words_for<const SLI: u32>(kinds: &[Kind]) -> Option<u32>
     Some(words as u32)
 }
 
-// The bytes of all blocks of a table.
-fn asked_bytes(kinds: &[Kind]) -> u64
-    requires { spelled.asked_bytes kinds.now ≤ 2 ^ 32 }
+/// The bytes of all blocks of a table, 2^35 at most.
+pub fn asked_bytes(kinds: &[Kind]) -> u64
+    requires { spelled.asked_bytes kinds.now ≤ 2 ^ 35 }
     ensures { result ≡ spelled.asked_bytes kinds.now }
 {
     let mut bytes = 0;
@@ -71,17 +72,6 @@ fn asked_bytes(kinds: &[Kind]) -> u64
         bytes += u64::from(kind.most) * u64::from(kind.len);
     }
     bytes
-}
-
-// How many hundredths of the bytes asked for there are in `words` words, to the nearest.
-fn ratio_of(kinds: &[Kind], words: u32) -> u64
-    requires some { 1 ≤ spelled.asked_bytes kinds.now }
-    requires small { spelled.asked_bytes kinds.now ≤ 2 ^ 32 }
-    requires most { words ≤ 2 ^ 24 }
-    ensures { result ≡ hundredths (8 * words) (spelled.asked_bytes kinds.now) }
-{
-    let asked = asked_bytes(kinds);
-    (100 * (8 * u64::from(words)) + asked / 2) / asked
 }
 
 // The line on a region of `words` for these kinds, as `words 13631 bytes 109048 ratio 2.13`.
@@ -92,16 +82,9 @@ fn line_of<const SLI: u32>(kinds: &[Kind], words: u32) -> Result<ArrayString<96>
     requires law { words ≡ table.kinds_words SLI kinds.now }
     ensures { IfOk result (λ line. line.bytes ≡ size_line SLI kinds.now) }
 {
-    let bytes = 8 * words;
-    let ratio = ratio_of(kinds, words);
-    let whole = ratio / 100;
-    let tenth = ratio / 10 % 10;
-    let hundredth = ratio % 10;
+    let sized = RegionSize::new(words, asked_bytes(kinds));
     let mut line = ArrayString::new();
-    writeln!(
-        line,
-        "words {words} bytes {bytes} ratio {whole}.{tenth}{hundredth}"
-    )?;
+    writeln!(line, "{sized}")?;
     Ok(line)
 }
 

@@ -19,6 +19,10 @@ pub enum SizeQuestion {
     Table(Vec<Kind>),
     /// Those at level 5.
     FineTable(Vec<Kind>),
+    /// The words of several heaps, to which such kinds are given at level 4.
+    Split(Vec<Kind>),
+    /// Those at level 5.
+    FineSplit(Vec<Kind>),
     /// No table: so many times `--blocks`, and so many times `--bytes`.
     Unpaired(usize, usize),
 }
@@ -51,6 +55,27 @@ pub fn level_given(given: &ArgMatches<'_>) -> u32
     }
 }
 
+// Whether the first text says that a flag is given.
+fn is_set(texts: &[&str]) -> bool
+    ensures { result ≡ SizeQuestions.is_set (map (λ text. text.now) texts.now) }
+{
+    match texts.first() {
+        Some(text) => *text == "true",
+        None => false,
+    }
+}
+
+// Whether `--split` is given.
+fn split_given(given: &ArgMatches<'_>) -> bool
+    ensures { result ≡ SizeQuestions.is_set
+        (unwrap_or (option_map raw_values (matched_of (found_of given.now) (codes "split"))) []) }
+{
+    match given.get_raw("split") {
+        Some(texts) => is_set(texts),
+        None => false,
+    }
+}
+
 // The kinds of as many numbers of blocks as of bytes, the i-th of these with the i-th of those.
 fn kinds_of(alloc: Global, blocks: &[&str], bytes: &[&str]) -> Result<Vec<Kind>, AllocError>
     requires { length blocks.now ≡ length bytes.now }
@@ -77,21 +102,23 @@ fn count_of(texts: Option<&[&str]>) -> usize
 }
 
 impl SizeQuestion {
-    // The question of so many texts behind `--blocks` and behind `--bytes` at a level.
+    // The question of so many texts behind `--blocks` and behind `--bytes` at a level, for several heaps or for one.
     fn of_texts(
         alloc: Global,
         blocks: &[&str],
         bytes: &[&str],
         level: u32,
+        split: bool,
     ) -> Result<SizeQuestion, AllocError>
-        ensures { IfOk result (IsOfTexts (map (λ text. text.now) blocks.now) (map (λ text. text.now) bytes.now) level) }
+        ensures { IfOk result (IsOfTexts (map (λ text. text.now) blocks.now) (map (λ text. text.now) bytes.now) level split) }
     {
         if blocks.len() == bytes.len() && !blocks.is_empty() && blocks.len() <= MOST_KINDS {
             let kinds = kinds_of(alloc, blocks, bytes)?;
-            return Ok(if level == 5 {
-                SizeQuestion::FineTable(kinds)
-            } else {
-                SizeQuestion::Table(kinds)
+            return Ok(match (level == 5, split) {
+                (false, false) => SizeQuestion::Table(kinds),
+                (true, false) => SizeQuestion::FineTable(kinds),
+                (false, true) => SizeQuestion::Split(kinds),
+                (true, true) => SizeQuestion::FineSplit(kinds),
             });
         }
         Ok(SizeQuestion::Unpaired(blocks.len(), bytes.len()))
@@ -102,17 +129,18 @@ impl SizeQuestion {
     /// ```
     /// // of "--blocks 100 --bytes 64 --blocks 4 --bytes 4096"
     /// let question = SizeQuestion::given(alloc, &matches)?;
-    /// // question is about the table of 100 blocks of 64 bytes and 4 of 4096, at level 4
+    /// // question is about the table of 100 blocks of 64 bytes and 4 of 4096, at level 4, for one heap
     /// ```
     pub fn given(alloc: Global, given: &ArgMatches<'_>) -> Result<SizeQuestion, AllocError>
         ensures { IfOk result (IsQuestion
             (unwrap_or (option_map raw_values (matched_of (found_of given.now) (codes "B"))) [])
             (unwrap_or (option_map raw_values (matched_of (found_of given.now) (codes "N"))) [])
-            (unwrap_or (option_map raw_values (matched_of (found_of given.now) (codes "sli"))) [])) }
+            (unwrap_or (option_map raw_values (matched_of (found_of given.now) (codes "sli"))) [])
+            (unwrap_or (option_map raw_values (matched_of (found_of given.now) (codes "split"))) [])) }
     {
         match (given.get_raw("B"), given.get_raw("N")) {
             (Some(blocks), Some(bytes)) => {
-                SizeQuestion::of_texts(alloc, blocks, bytes, level_given(given))
+                SizeQuestion::of_texts(alloc, blocks, bytes, level_given(given), split_given(given))
             }
             (blocks, bytes) => Ok(SizeQuestion::Unpaired(count_of(blocks), count_of(bytes))),
         }

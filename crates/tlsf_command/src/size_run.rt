@@ -1,13 +1,14 @@
 ghost use Rattle.std.specs.Prelude.{◌≤◌, ◌<◌, ℕ, List, Option, length};
 ghost use Rattle.tlsf_class.specs.Classes.{IsLevel};
-ghost use Rattle.tlsf_command.specs.Runs.{streams, ReportsUnreached, ShowsKinds, ShowsSize};
+ghost use Rattle.tlsf_command.specs.Runs.{streams, ReportsUnreached, ShowsHeaps, ShowsKinds, ShowsSize};
 ghost use Rattle.tlsf_command.specs.SizeLines.{AreReached};
-ghost use Rattle.tlsf_command.specs.SizeQuestions.{HasTable};
+ghost use Rattle.tlsf_command.specs.SizeQuestions.{HasKinds, HasTable};
 ghost use Rattle.tlsf_pool.specs.Pools.{most_kinds};
 
 use crate::commands::report;
 use crate::size_line::{words_for, write_size_line, write_unreached_line};
 use crate::size_question::SizeQuestion;
+use crate::split_lines::{split_of, write_no_split_line, write_split_lines};
 use crate::unreached_table::{write_unpaired_line, write_unreached_table_line};
 use std::io::Write;
 use tlsf_pool::Kind;
@@ -54,6 +55,30 @@ fn show_kinds<const SLI: u32, W: Write, E: Write>(
     }
 }
 
+// Writes the lines on the cheapest split of these kinds, and reports a write that fails, or that there is none.
+fn show_split<const SLI: u32, W: Write, E: Write>(
+    kinds: &[Kind],
+    writer: &mut W,
+    errors: &mut E,
+) -> u8
+    requires level { IsLevel SLI }
+    requires kinds { HasKinds kinds.now }
+    ensures { (left : Option (List ℕ)) → ShowsHeaps SLI kinds.now result
+        (streams left (W.contents writer.old) (E.contents errors.old))
+        (streams left (W.contents writer.new) (E.contents errors.new)) }
+{
+    match split_of::<SLI>(kinds) {
+        Some(split) => match write_split_lines::<SLI, W>(kinds, &split, writer) {
+            Ok(()) => 0,
+            Err(fault) => report(TraceFault::from(fault), errors),
+        },
+        None => {
+            let _ = write_no_split_line(errors);
+            2
+        }
+    }
+}
+
 /// Answers the question, and gives the exit status: 0 where the line is written, 1 where a write failed, and 2 where no
 /// region is large enough, or where the options are no pairs.
 ///
@@ -69,6 +94,8 @@ pub fn run_size<W: Write, E: Write>(question: SizeQuestion, writer: &mut W, erro
     match question {
         SizeQuestion::Table(kinds) => show_kinds::<4, W, E>(&kinds, writer, errors),
         SizeQuestion::FineTable(kinds) => show_kinds::<5, W, E>(&kinds, writer, errors),
+        SizeQuestion::Split(kinds) => show_split::<4, W, E>(&kinds, writer, errors),
+        SizeQuestion::FineSplit(kinds) => show_split::<5, W, E>(&kinds, writer, errors),
         SizeQuestion::Unpaired(blocks, bytes) => {
             let _ = write_unpaired_line(blocks, bytes, errors);
             2

@@ -1,0 +1,142 @@
+//! The lines that `tlsf size --split` writes.
+ghost use Rattle.std.specs.Prelude.{◌≡◌, ◌++◌, ◌≤◌, ◌<◌, length, None, IfOk, IfSome, OnOk};
+ghost use Rattle.std.specs.List.{AllByRecursion};
+ghost use Rattle.std.specs.Io.KnownBytes.{Appends};
+ghost use Rattle.tlsf_class.specs.Classes.{IsLevel};
+ghost use Rattle.tlsf_command.specs.SizeLines.{heap_line, heap_lines, no_split_line, split_lines, HasNoSplit, IsCheapest, IsServable};
+ghost use Rattle.tlsf_pool.specs.Splits.{parts_of, IsPart};
+ghost use Rattle.tlsf_lines.specs.Prefixes.{AppendsFront};
+
+use crate::region_size::RegionSize;
+use crate::size_line::{are_servable, asked_bytes};
+use arrayvec::ArrayString;
+use std::fmt;
+use std::fmt::Write as _;
+use std::io::Write;
+use tlsf_pool::{Kind, MOST_HEAPS, Split, cheapest_split, kinds_words};
+use tlsf_trace::{WriteError, write_out};
+
+const NO_SPLIT: &str =
+    "tlsf: no region has so many words, however the pairs are given to 8 heaps in their order\n";
+
+// Lines for eight heaps and for all, of 96 bytes each at most.
+type Lines = ArrayString<1024>;
+
+/// The cheapest way to give the kinds of a table, 64 at most, to at most eight heaps of the level. None where there is none,
+/// or where a kind has no block or no byte.
+///
+/// ```
+/// // of 2,000 blocks of 64 bytes and one of 65,536: two heaps, of 56,691 words
+/// let split = split_of::<4>(&kinds);
+/// ```
+pub fn split_of<const SLI: u32>(kinds: &[Kind]) -> Option<Split>
+    requires level { IsLevel SLI }
+    requires few { length kinds.now ≤ 64 }
+    ensures some { IfSome result (IsCheapest SLI kinds.now) }
+    ensures none { result ≡ None → HasNoSplit SLI kinds.now }
+{
+    if !are_servable::<SLI>(kinds) {
+        return None;
+    }
+    cheapest_split::<SLI>(kinds, MOST_HEAPS)
+}
+
+// Adds the line on a heap, which has these kinds behind so many others of the table.
+fn add_heap_line<const SLI: u32>(
+    lines: &mut Lines,
+    heap: usize,
+    before: usize,
+    part: &[Kind],
+) -> Result<(), fmt::Error>
+    requires level { IsLevel SLI }
+    requires is { IsPart SLI part.now }
+    requires servable { AllByRecursion (IsServable SLI) part.now }
+    requires few { length part.now ≤ 64 }
+    requires front { before ≤ 64 }
+    ensures { OnOk result (lines.new.bytes ≡ lines.old.bytes ++ heap_line SLI heap before part.now) }
+{
+    let first = before + 1;
+    let last = before + part.len();
+    let sized = RegionSize::new(kinds_words::<SLI>(part) as u32, asked_bytes(part));
+    writeln!(lines, "heap {heap} pairs {first} to {last} {sized}")?;
+    Ok(())
+}
+
+// Adds the lines on all heaps of a split.
+fn add_heap_lines<const SLI: u32>(
+    lines: &mut Lines,
+    kinds: &[Kind],
+    split: &Split,
+) -> Result<(), fmt::Error>
+    requires level { IsLevel SLI }
+    requires few { length kinds.now ≤ 64 }
+    requires cheapest { IsCheapest SLI kinds.now split.now }
+    ensures { OnOk result (lines.new.bytes ≡ lines.old.bytes ++ heap_lines SLI 0 0 (parts_of split.now kinds.now)) }
+{
+    let mut left = kinds;
+    let mut before = 0;
+    for heap in 0..split.heaps {
+        let len = split.lens[split.heaps - 1 - heap].min(left.len());
+        let (part, rest) = left.split_at(len);
+        add_heap_line::<SLI>(lines, heap, before, part)?;
+        left = rest;
+        before += len;
+    }
+    Ok(())
+}
+
+// The lines on a split, and on all its heaps together.
+fn lines_of<const SLI: u32>(kinds: &[Kind], split: &Split) -> Result<Lines, fmt::Error>
+    requires level { IsLevel SLI }
+    requires some { 0 < length kinds.now }
+    requires few { length kinds.now ≤ 64 }
+    requires cheapest { IsCheapest SLI kinds.now split.now }
+    ensures { IfOk result (λ lines. lines.bytes ≡ split_lines SLI (parts_of split.now kinds.now) kinds.now) }
+{
+    let mut lines = ArrayString::new();
+    add_heap_lines::<SLI>(&mut lines, kinds, split)?;
+    let heaps = split.heaps;
+    let sized = RegionSize::new(split.words as u32, asked_bytes(kinds));
+    writeln!(lines, "heaps {heaps} {sized}")?;
+    Ok(lines)
+}
+
+/// Writes the lines on the cheapest split of a table, 1 to 64 kinds, and flushes: for each heap its number, its pairs by their places
+/// in the table, its words, its bytes, and how many times the bytes asked for these are; and these three numbers of all heaps. After an `Err` a
+/// prefix of the lines was written.
+///
+/// ```
+/// write_split_lines::<4, _>(&kinds, &split, &mut writer)?;
+/// // writer holds "heap 0 pairs 1 to 1 words 47987 bytes 383896 ratio 3.00\n" more, and two lines behind it
+/// ```
+pub fn write_split_lines<const SLI: u32, W: Write>(
+    kinds: &[Kind],
+    split: &Split,
+    writer: &mut W,
+) -> Result<(), WriteError>
+    requires level { IsLevel SLI }
+    requires some { 0 < length kinds.now }
+    requires few { length kinds.now ≤ 64 }
+    requires cheapest { IsCheapest SLI kinds.now split.now }
+    ensures front { AppendsFront (W.contents writer.old) (W.contents writer.new)
+        (split_lines SLI (parts_of split.now kinds.now) kinds.now) }
+    ensures ok { OnOk result (Appends (W.contents writer.old) (W.contents writer.new)
+        (split_lines SLI (parts_of split.now kinds.now) kinds.now)) }
+{
+    match lines_of::<SLI>(kinds, split) {
+        Ok(lines) => write_out(writer, lines.as_bytes()),
+        // Nine lines of at most 80 bytes and 1,024 have room, but no clause of the lines says so.
+        Err(_) => Err(WriteError),
+    }
+}
+
+/// Writes the line that refuses a table that has no split, and flushes. After an `Err` a prefix of the line was written.
+///
+/// ```
+/// let _ = write_no_split_line(&mut errors);
+/// ```
+pub fn write_no_split_line<E: Write>(errors: &mut E) -> Result<(), WriteError>
+    ensures { AppendsFront (E.contents errors.old) (E.contents errors.new) no_split_line }
+{
+    write_out(errors, NO_SPLIT.as_bytes())
+}
