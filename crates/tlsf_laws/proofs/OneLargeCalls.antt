@@ -14,7 +14,7 @@ use Rattle.tlsf_heap.specs.Reports.{live_among, free_among}
 use Rattle.tlsf_heap.specs.declared.refusal.Refusal.TheVariants.{NoFit}
 use Rattle.tlsf_heap.proofs.Edits.{carved_small, carved_large}
 use Rattle.tlsf_heap.proofs.Finding.{and_left}
-use Rattle.tlsf_heap.proofs.Lawfulness.{opened_lawful}
+use Rattle.tlsf_heap.proofs.Lawfulness.{all_weaker, opened_lawful}
 use Rattle.tlsf_heap.proofs.Outcomes.{IsSiteOf, by_released, by_written, lawful_run}
 use Rattle.tlsf_heap.proofs.Served.{no_fit}
 use Rattle.tlsf_heap.proofs.Summing.{words_apart}
@@ -35,21 +35,13 @@ use Rattle.tlsf_laws.proofs.ModestCalls.{AreSmall, small_kept}
 use Rattle.tlsf_laws.proofs.PlannedCalls.{live_spent}
 use Rattle.tlsf_laws.proofs.Reserves.{HasHole, next_free, other_hole, reserve, reserve_append, reserve_holes, reserve_limit, reserve_released, reserve_short, reserve_written}
 use Rattle.tlsf_laws.proofs.Snug.{snug_kept}
-use Rattle.tlsf_laws.proofs.Tables.{all_used, counted_in, has_kind, of_all, short, long, spend, spend_rises, split}
+use Rattle.tlsf_laws.proofs.Tables.{best_least, all_used, counted_in, has_kind, of_all, short, long, spend, spend_rises, split}
 
 -- ---- the table
-
-best_least : (best : ℕ) (xs : List ℕ) → best ≤ fold max best xs
-best_least best [] = omega arith
-best_least best (x ∷ xs) = let e = best_least (max best x) xs in omega arith
 
 all_longest : (best : ℕ) (kinds : List Kind) → AllByRecursion (λ kind. kind.len ≤ fold max best (map (λ kind. kind.len) kinds)) kinds
 all_longest best [] = tt
 all_longest best (kind ∷ kinds) = (omega (arith, best_least (max best kind.len) (map (λ kind. kind.len) kinds)), all_longest (max best kind.len) kinds)
-
-all_weaker : (P Q : Kind → Type 0) (kinds : List Kind) → ((kind : Kind) → P kind → Q kind) → AllByRecursion P kinds → AllByRecursion Q kinds
-all_weaker P Q [] f all = tt
-all_weaker P Q (kind ∷ kinds) f all = (f kind all.0, all_weaker P Q kinds f all.1)
 
 all_with : (P : Kind → Type 0) (smalls : List Kind) (large : Kind) → AllByRecursion P smalls → P large → AllByRecursion P (smalls ++ large ∷ [])
 all_with P [] large all is = (is, tt)
@@ -179,7 +171,7 @@ module _ (sli : ℕ) (level : IsLevel sli) (words : ℕ) (smalls : List Kind) (l
   least_hole = let search = search_of-is sli level (outside + 1) classed in omega (arith, sure_is sli level (outside + 1) search.0 search.1, search.1.enough)
 
   all_lens : AllByRecursion (λ kind. kind.len ≤ large.len) kinds
-  all_lens = all_with (λ kind. kind.len ≤ large.len) smalls large (all_weaker (λ kind. kind.len ≤ k) (λ kind. kind.len ≤ large.len) smalls (λ kind upto. omega (arith, upto, longer)) (all_longest 0 smalls)) (omega arith)
+  all_lens = all_with (λ kind. kind.len ≤ large.len) smalls large (all_weaker (λ kind. kind.len ≤ k) (λ kind. kind.len ≤ large.len) (λ kind upto. omega (arith, upto, longer)) smalls (all_longest 0 smalls)) (omega arith)
 
   short_len : (n : ℕ) (lens : List ℕ) → AreOfKinds kinds (n ∷ lens) → n ≤ large.len
   short_len n lens fit = let has = has_kind kinds n lens fit in le_trans has.short (of_all (λ kind. kind.len ≤ large.len) (used kinds) has.kind has.of (all_used (λ kind. kind.len ≤ large.len) kinds all_lens))

@@ -138,7 +138,7 @@ has_kind (kind ∷ kinds) n lens fit = elim (parted kind.len n) [
 
 -- ---- the greatest of the table
 
-best_least : (best : ℕ) (xs : List ℕ) → best ≤ fold max best xs
+pub best_least : (best : ℕ) (xs : List ℕ) → best ≤ fold max best xs
 best_least best [] = omega arith
 best_least best (x ∷ xs) = let e = best_least (max best x) xs in omega arith
 

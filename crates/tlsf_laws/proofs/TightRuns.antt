@@ -15,7 +15,7 @@ use Rattle.tlsf_heap.specs.declared.name.Name.{Name}
 use Rattle.tlsf_heap.specs.declared.refusal.Refusal.TheVariants.{Worn}
 use Rattle.tlsf_heap.proofs.Edits.{carved_large}
 use Rattle.tlsf_heap.proofs.Ends.{ends_live}
-use Rattle.tlsf_heap.proofs.Lawfulness.{serials-append, words_in-append, all_append}
+use Rattle.tlsf_heap.proofs.Lawfulness.{all_weaker, serials-append, words_in-append, all_append}
 use Rattle.tlsf_heap.proofs.Outcomes.{takes}
 use Rattle.tlsf_heap.proofs.Sites.{fits_nothing}
 use Rattle.tlsf_laws.specs.Room.{live_count, free_words, sure, RoomIsTight}
@@ -123,10 +123,6 @@ taken sli at t m words tick bytes front after place older ends fresh first past 
     ∙ (ap (λ (n : ℕ). heap_with words (tick + 1) (before_free front ++ Free n tick ∷ past_free after)) sum
     ∙ ap₂ (λ (x y : List Block). heap_with words (tick + 1) (x ++ Free m tick ∷ y)) ends.1 past))
 
-older_more : (a b : ℕ) (ys : List ℕ) → a ≤ b → AllByRecursion (λ y. y < a) ys → AllByRecursion (λ y. y < b) ys
-older_more a b [] h all = tt
-older_more a b (y ∷ ys) h all = (omega (arith, h, all.0), older_more a b ys h all.1)
-
 module _ (sli : ℕ) (level : IsLevel sli) (k words : ℕ) (least : 4 ≤ k) (class : k ≤ most_words sli) (upto : sure sli k ≤ k + 1) where
   served : (n m t : ℕ) → n ≤ most_words sli → 4 ≤ m → sure sli n ≤ m → is_fit sli n (Free m t) ≡ true
   served n m t region four enough = let search = search_of-is sli level n region in serves_sure sli level n search.0 m t search.1 four (omega (arith, enough, sure_is sli level n search.0 search.1))
@@ -175,7 +171,7 @@ module _ (sli : ℕ) (level : IsLevel sli) (k words : ℕ) (least : 4 ≤ k) (cl
       (append_assoc front (pairs k (suc n) t) rest)
       ∙ (ap (λ (h : HeapState). (run sli h (digs k n (at + (k + 4)) (t + 1 + 1))).1) (first ∙ ap (heap_with words (tick + 1)) (sym (append_assoc next more rest ∙ append_assoc front pair (more ++ rest))))
       ∙ (dug n (at + (k + 4)) (t + 1 + 1) (tick + 1) last next rest (omega (arith, words_in-append front pair, place))
-      (subst (AllByRecursion (λ y. y < t + 1 + 1)) (sym serials_are) (all_append (λ y. y < t + 1 + 1) (serials front) ((t + 1) ∷ []) (older_more t (t + 1 + 1) (serials front) (omega arith) older) (omega arith, tt)))
+      (subst (AllByRecursion (λ y. y < t + 1 + 1)) (sym serials_are) (all_append (λ y. y < t + 1 + 1) (serials front) ((t + 1) ∷ []) (all_weaker (λ y. y < t) (λ y. y < t + 1 + 1) (λ y h. omega (arith, h)) (serials front) older) (omega arith, tt)))
       (subst EndsLive (append_assoc front (Free k tick ∷ []) (Live 4 (t + 1) [] ∷ [])) (ends_live (front ++ Free k tick ∷ []) 4 (t + 1) [])) (omega (arith, end)) fresh
       ∙ ap (λ (l : List Block). heap_with words last (l ++ rest)) (append_assoc front pair (holes k n (t + 1 + 1) (tick + 1)))))
 
