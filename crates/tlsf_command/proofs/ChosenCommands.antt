@@ -20,7 +20,7 @@ use Rattle.tlsf_command.specs.declared.command_line.Choice.TheVariants.{Trace, F
 use Rattle.tlsf_picture.specs.declared.form.Form.{Form}
 use Rattle.tlsf_picture.specs.declared.form.Form.TheVariants.{Svg, Text as Characters}
 use Rattle.tlsf_command.specs.declared.trace_run.TraceRun.{TraceRun}
-use Rattle.tlsf_command.specs.declared.trace_run.TraceRun.TheVariants.{Replay, Held, Race, RaceQueues, Map, MapText, Check}
+use Rattle.tlsf_command.specs.declared.trace_run.TraceRun.TheVariants.{Replay, Held, Race, RaceQueues, Map, MapText, Plot, PlotText, Check}
 use Rattle.tlsf_command.specs.Runs.{Does, Refuses, Streams}
 use Rattle.tlsf_command.proofs.NamedCommands.{faultless_named, subcommand_name-rows}
 use Rattle.tlsf_command.proofs.NamedRuns.{GivesForm}
@@ -52,6 +52,8 @@ no_classes Race = refl
 no_classes RaceQueues = refl
 no_classes Map = refl
 no_classes MapText = refl
+no_classes Plot = refl
+no_classes PlotText = refl
 no_classes Check = refl
 
 no_size : (run : TraceRun) → bytes_eq (codes "size") (command_of run) ≡ false
@@ -61,6 +63,8 @@ no_size Race = refl
 no_size RaceQueues = refl
 no_size Map = refl
 no_size MapText = refl
+no_size Plot = refl
+no_size PlotText = refl
 no_size Check = refl
 
 itself : (run : TraceRun) → bytes_eq (command_of run) (command_of run) ≡ true
@@ -70,6 +74,8 @@ itself Race = refl
 itself RaceQueues = refl
 itself Map = refl
 itself MapText = refl
+itself Plot = refl
+itself PlotText = refl
 itself Check = refl
 
 -- a run is told by its command and its flag
@@ -86,6 +92,10 @@ same_run words Map Map is gives has = refl
 same_run words Map MapText is gives has = absurd (has.0 gives)
 same_run words MapText Map is gives has = absurd (has gives)
 same_run words MapText MapText is gives has = refl
+same_run words Plot Plot is gives has = refl
+same_run words Plot PlotText is gives has = absurd (has.0 gives)
+same_run words PlotText Plot is gives has = absurd (has gives)
+same_run words PlotText PlotText is gives has = refl
 same_run words Check Check is gives has = refl
 same_run words run other is gives has = absurd (no_other (command_of other) (command_of run) is refl refl)
 
@@ -140,8 +150,8 @@ answerable words (Size question) asks = has_table (texts_given (codes "B") words
 pub some_named : (words : List Text) (matches : ArgMatches) → Answers words matches
     → (subcommand_name_of matches ≡ Some (codes "classes") → ⊥) → (subcommand_name_of matches ≡ Some (codes "race") → ⊥)
     → (subcommand_name_of matches ≡ Some (codes "size") → ⊥) → (subcommand_name_of matches ≡ Some (codes "map") → ⊥)
-    → (subcommand_name_of matches ≡ Some (codes "check") → ⊥) → (subcommand_name_of matches ≡ Some (codes "replay") → ⊥) → ⊥
-some_named words matches answers no_classes no_race no_size no_map no_check no_replay =
+    → (subcommand_name_of matches ≡ Some (codes "plot") → ⊥) → (subcommand_name_of matches ≡ Some (codes "check") → ⊥) → (subcommand_name_of matches ≡ Some (codes "replay") → ⊥) → ⊥
+some_named words matches answers no_classes no_race no_size no_map no_plot no_check no_replay =
     let called = label_of_words words matches answers in
     elim (faultless_named words answers.0) [
       | inl is ↦ no_replay (called ∙ ap label is.1)
@@ -149,7 +159,8 @@ some_named words matches answers no_classes no_race no_size no_map no_check no_r
       | inr (inr (inl is)) ↦ no_classes (called ∙ ap label is.1)
       | inr (inr (inr (inl is))) ↦ no_size (called ∙ ap label is.1)
       | inr (inr (inr (inr (inl is)))) ↦ no_map (called ∙ ap label is.1)
-      | inr (inr (inr (inr (inr is)))) ↦ no_check (called ∙ ap label is.1)
+      | inr (inr (inr (inr (inr (inl is))))) ↦ no_plot (called ∙ ap label is.1)
+      | inr (inr (inr (inr (inr (inr is))))) ↦ no_check (called ∙ ap label is.1)
     ]
 
 -- what is read of the command that was entered

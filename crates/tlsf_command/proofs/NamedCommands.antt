@@ -36,12 +36,15 @@ size_name = codes "size"
 abbrev map_name : Text
 map_name = codes "map"
 
+abbrev plot_name : Text
+plot_name = codes "plot"
+
 abbrev check_name : Text
 check_name = codes "check"
 
 -- the name of a command of the program
 abbrev IsOwn : Text → Type 0
-IsOwn name = (name ≡ replay_name) ⊎ ((name ≡ race_name) ⊎ ((name ≡ classes_name) ⊎ ((name ≡ size_name) ⊎ ((name ≡ map_name) ⊎ (name ≡ check_name)))))
+IsOwn name = (name ≡ replay_name) ⊎ ((name ≡ race_name) ⊎ ((name ≡ classes_name) ⊎ ((name ≡ size_name) ⊎ ((name ≡ map_name) ⊎ ((name ≡ plot_name) ⊎ (name ≡ check_name))))))
 
 -- a step that is no subcommand but these
 abbrev IsAllowed : Step → Type 0
@@ -81,24 +84,25 @@ other_allowed : (b : Bool) (rules : List Rule) (waiting : Waiting) (position : �
 other_allowed true rules waiting position word h = tt
 other_allowed false rules waiting position word h = long_allowed rules waiting word (long_of word) h
 
--- the name of the subcommand that is found, of `replay`, `race`, `classes`, `size`, `map`, `check` and `help`
-abbrev name_found : Bool → Bool → Bool → Bool → Bool → Bool → Bool → Option Text
-name_found a b c d m k e = option_map (λ (s : Text × List Text). s.0)
+-- the name of the subcommand that is found, of `replay`, `race`, `classes`, `size`, `map`, `plot`, `check` and `help`
+abbrev name_found : Bool → Bool → Bool → Bool → Bool → Bool → Bool → Bool → Option Text
+name_found a b c d m p k e = option_map (λ (s : Text × List Text). s.0)
     (cond a (Some (replay_name, [])) (cond b (Some (race_name, [])) (cond c (Some (classes_name, []))
-    (cond d (Some (size_name, [])) (cond m (Some (map_name, [])) (cond k (Some (check_name, [])) (cond e (Some (codes "help", [])) None)))))))
+    (cond d (Some (size_name, [])) (cond m (Some (map_name, [])) (cond p (Some (plot_name, [])) (cond k (Some (check_name, [])) (cond e (Some (codes "help", [])) None))))))))
 
--- by whether the word is `replay`, `race`, `classes`, `size`, `map`, `check`, and `help`
-named_allowed : (a b c d m k e : Bool) (waiting : Waiting) (position : ℕ) (word : Text) (h : Held)
-    → other_fault program.top (name_found a b c d m k e) word h ≡ []
-    → IsAllowed (subcommand_or_other program.top.rules (name_found a b c d m k e) waiting position word h).1
-named_allowed true b c d m k e waiting position word h none = inl refl
-named_allowed false true c d m k e waiting position word h none = inr (inl refl)
-named_allowed false false true d m k e waiting position word h none = inr (inr (inl refl))
-named_allowed false false false true m k e waiting position word h none = inr (inr (inr (inl refl)))
-named_allowed false false false false true k e waiting position word h none = inr (inr (inr (inr (inl refl))))
-named_allowed false false false false false true e waiting position word h none = inr (inr (inr (inr (inr refl))))
-named_allowed false false false false false false true waiting position word h none = let counted : 2 ≡ 0 = ap length none in absurd (omega (arith, counted))
-named_allowed false false false false false false false waiting position word h none =
+-- by whether the word is `replay`, `race`, `classes`, `size`, `map`, `plot`, `check`, and `help`
+named_allowed : (a b c d m p k e : Bool) (waiting : Waiting) (position : ℕ) (word : Text) (h : Held)
+    → other_fault program.top (name_found a b c d m p k e) word h ≡ []
+    → IsAllowed (subcommand_or_other program.top.rules (name_found a b c d m p k e) waiting position word h).1
+named_allowed true b c d m p k e waiting position word h none = inl refl
+named_allowed false true c d m p k e waiting position word h none = inr (inl refl)
+named_allowed false false true d m p k e waiting position word h none = inr (inr (inl refl))
+named_allowed false false false true m p k e waiting position word h none = inr (inr (inr (inl refl)))
+named_allowed false false false false true p k e waiting position word h none = inr (inr (inr (inr (inl refl))))
+named_allowed false false false false false true k e waiting position word h none = inr (inr (inr (inr (inr (inl refl)))))
+named_allowed false false false false false false true e waiting position word h none = inr (inr (inr (inr (inr (inr refl)))))
+named_allowed false false false false false false false true waiting position word h none = let counted : 2 ≡ 0 = ap length none in absurd (omega (arith, counted))
+named_allowed false false false false false false false false waiting position word h none =
     other_allowed (bytes_eq word (45 ∷ 45 ∷ [])) program.top.rules waiting position word h
 
 met_allowed : (waiting : Waiting) (position : ℕ) (word : Text) (h : Held)
@@ -106,7 +110,7 @@ met_allowed : (waiting : Waiting) (position : ℕ) (word : Text) (h : Held)
     → IsAllowed (subcommand_or_other program.top.rules (subcommand_met (names_of program) waiting word) waiting position word h).1
 met_allowed idle position word h none =
     named_allowed (answers_to word (replay_name, [])) (answers_to word (race_name, [])) (answers_to word (classes_name, []))
-    (answers_to word (size_name, [])) (answers_to word (map_name, [])) (answers_to word (check_name, [])) (answers_to word (codes "help", [])) idle position word h none
+    (answers_to word (size_name, [])) (answers_to word (map_name, [])) (answers_to word (plot_name, [])) (answers_to word (check_name, [])) (answers_to word (codes "help", [])) idle position word h none
 met_allowed (option id) position word h none = other_allowed (bytes_eq word (45 ∷ 45 ∷ [])) program.top.rules (option id) position word h
 met_allowed positional position word h none = other_allowed (bytes_eq word (45 ∷ 45 ∷ [])) program.top.rules positional position word h
 
@@ -150,21 +154,23 @@ walk_allowed w (word ∷ words) allowed none =
 
 -- ---- the command that was entered
 
--- the command that was entered is `replay`, `race`, `classes`, `size`, `map`, or `check`
+-- the command that was entered is `replay`, `race`, `classes`, `size`, `map`, `plot`, or `check`
 abbrev pub IsNamed : Option (Text × List Row) → Type 0
 IsNamed named = ((rows : List Row) × (named ≡ Some (replay_name, rows)))
     ⊎ (((rows : List Row) × (named ≡ Some (race_name, rows)))
     ⊎ (((rows : List Row) × (named ≡ Some (classes_name, rows)))
     ⊎ (((rows : List Row) × (named ≡ Some (size_name, rows)))
     ⊎ (((rows : List Row) × (named ≡ Some (map_name, rows)))
-    ⊎ ((rows : List Row) × (named ≡ Some (check_name, rows)))))))
+    ⊎ (((rows : List Row) × (named ≡ Some (plot_name, rows)))
+    ⊎ ((rows : List Row) × (named ≡ Some (check_name, rows))))))))
 
 own_entered : (stop : Text × List Text) → IsOwn stop.0 → IsNamed (entered program (Some stop))
 own_entered stop (inl is) = inl (_, ap (λ (name : Text). entered program (Some (name, stop.1))) is)
 own_entered stop (inr (inl is)) = inr (inl (_, ap (λ (name : Text). entered program (Some (name, stop.1))) is))
 own_entered stop (inr (inr (inr (inl is)))) = inr (inr (inr (inl (_, ap (λ (name : Text). entered program (Some (name, stop.1))) is))))
 own_entered stop (inr (inr (inr (inr (inl is))))) = inr (inr (inr (inr (inl (_, ap (λ (name : Text). entered program (Some (name, stop.1))) is)))))
-own_entered stop (inr (inr (inr (inr (inr is))))) = inr (inr (inr (inr (inr (_, ap (λ (name : Text). entered program (Some (name, stop.1))) is)))))
+own_entered stop (inr (inr (inr (inr (inr (inl is)))))) = inr (inr (inr (inr (inr (inl (_, ap (λ (name : Text). entered program (Some (name, stop.1))) is))))))
+own_entered stop (inr (inr (inr (inr (inr (inr is)))))) = inr (inr (inr (inr (inr (inr (_, ap (λ (name : Text). entered program (Some (name, stop.1))) is))))))
 own_entered stop (inr (inr (inl is))) = inr (inr (inl (_, ap (λ (name : Text). entered program (Some (name, stop.1))) is)))
 
 stop_named : (stop : Option (Text × List Text)) (rows : List Row) → StopsAllowed stop

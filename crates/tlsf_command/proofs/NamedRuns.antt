@@ -7,7 +7,7 @@ use Rattle.clap.specs.Words.{Text}
 use Rattle.clap.proofs.OnLiterals.{clap_on_literals}
 use Rattle.tlsf_command.specs.CommandLine.{command_in, command_of, faults_of, flag_given, line_given, texts_given, words_of, IsPlainWord}
 use Rattle.tlsf_command.specs.declared.trace_run.TraceRun.{TraceRun}
-use Rattle.tlsf_command.specs.declared.trace_run.TraceRun.TheVariants.{Replay, Held, Race, RaceQueues, Map, MapText, Check}
+use Rattle.tlsf_command.specs.declared.trace_run.TraceRun.TheVariants.{Replay, Held, Race, RaceQueues, Map, MapText, Plot, PlotText, Check}
 
 -- the words give the flag of a run, or don't give it
 abbrev pub GivesForm : TraceRun → List Text → Type 0
@@ -17,6 +17,8 @@ GivesForm Race words = flag_given (codes "queues") words ≡ Some (codes "false"
 GivesForm RaceQueues words = flag_given (codes "queues") words ≡ Some (codes "true")
 GivesForm Map words = flag_given (codes "text") words ≡ Some (codes "false")
 GivesForm MapText words = flag_given (codes "text") words ≡ Some (codes "true")
+GivesForm Plot words = flag_given (codes "text") words ≡ Some (codes "false")
+GivesForm PlotText words = flag_given (codes "text") words ≡ Some (codes "true")
 GivesForm Check words = Unit {0}
 
 -- the words name the command of a run, give its flag or don't, and give these words besides
@@ -36,6 +38,8 @@ run_named called Race = record { faultless = refl; named = refl; form = refl; gi
 run_named called RaceQueues = record { faultless = refl; named = refl; form = refl; given = refl; no_line = refl }
 run_named called Map = record { faultless = refl; named = refl; form = refl; given = refl; no_line = refl }
 run_named called MapText = record { faultless = refl; named = refl; form = refl; given = refl; no_line = refl }
+run_named called Plot = record { faultless = refl; named = refl; form = refl; given = refl; no_line = refl }
+run_named called PlotText = record { faultless = refl; named = refl; form = refl; given = refl; no_line = refl }
 run_named called Check = record { faultless = refl; named = refl; form = tt; given = refl; no_line = refl }
 
 no_hyphen : (code : ℕ) → code ≢ 45 → (code == 45) ≡ false
@@ -57,6 +61,8 @@ by_plain called Race file plain = record { faultless = rw (plain.0, plain.1, pla
 by_plain called RaceQueues file plain = record { faultless = rw (plain.0, plain.1, plain.2) refl; named = refl; form = rw (plain.0, plain.1, plain.2) refl; given = rw (plain.0, plain.1, plain.2) refl; no_line = rw (plain.0, plain.1, plain.2) refl }
 by_plain called Map file plain = record { faultless = rw (plain.0, plain.1, plain.2) refl; named = refl; form = rw (plain.0, plain.1, plain.2) refl; given = rw (plain.0, plain.1, plain.2) refl; no_line = rw (plain.0, plain.1, plain.2) refl }
 by_plain called MapText file plain = record { faultless = rw (plain.0, plain.1, plain.2) refl; named = refl; form = rw (plain.0, plain.1, plain.2) refl; given = rw (plain.0, plain.1, plain.2) refl; no_line = rw (plain.0, plain.1, plain.2) refl }
+by_plain called Plot file plain = record { faultless = rw (plain.0, plain.1, plain.2) refl; named = refl; form = rw (plain.0, plain.1, plain.2) refl; given = rw (plain.0, plain.1, plain.2) refl; no_line = rw (plain.0, plain.1, plain.2) refl }
+by_plain called PlotText file plain = record { faultless = rw (plain.0, plain.1, plain.2) refl; named = refl; form = rw (plain.0, plain.1, plain.2) refl; given = rw (plain.0, plain.1, plain.2) refl; no_line = rw (plain.0, plain.1, plain.2) refl }
 by_plain called Check file plain = record { faultless = rw (plain.0, plain.1, plain.2) refl; named = refl; form = tt; given = rw (plain.0, plain.1, plain.2) refl; no_line = rw (plain.0, plain.1, plain.2) refl }
 
 -- and a word behind them that begins with no hyphen

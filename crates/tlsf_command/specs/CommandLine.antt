@@ -1,5 +1,7 @@
 -- The command line, by the definitions of `clap`.
 use Rattle.std.specs.Prelude.{◌≡◌, ◌≢◌, ◌^◌, ⊤, ℕ, true, pos, List, [], ◌∷◌, ◌++◌, Option, Some, None, codes, option_and_then, option_map, string_bytes, unwrap_or}
+use Rattle.clap.specs.Matches.{found_of, subcommand_name_of}
+use Rattle.clap.specs.Walk.{Row, rows_of}
 use Rattle.clap.specs.Words.{App, Kinds, Rule, Text, all_of, fault_of, new_app, new_rule, one_of, subcommand_of, subcommand_rows_of, with_rule, with_subcommand}
 use Rattle.clap.specs.declared.builder.action.ArgAction.TheVariants.{Append, Set, SetTrue}
 use Rattle.clap.specs.declared.builder.value_parser.ValueParser.TheVariants.{Signed}
@@ -11,7 +13,7 @@ use Rattle.tlsf_command.specs.declared.command_line.Choice.TheVariants.{Trace, F
 use Rattle.tlsf_picture.specs.declared.form.Form.{Form}
 use Rattle.tlsf_picture.specs.declared.form.Form.TheVariants.{Svg, Text as Characters}
 use Rattle.tlsf_command.specs.declared.trace_run.TraceRun.{TraceRun}
-use Rattle.tlsf_command.specs.declared.trace_run.TraceRun.TheVariants.{Replay, Held, Race, RaceQueues, Map, MapText, Check}
+use Rattle.tlsf_command.specs.declared.trace_run.TraceRun.TheVariants.{Replay, Held, Race, RaceQueues, Map, MapText, Plot, PlotText, Check}
 
 -- the size that `classes` asks for, a number from 4 to 2^24
 abbrev pub size_rule : Rule
@@ -79,6 +81,10 @@ line_rule = record (new_rule (codes "K")) {
 abbrev pub map_app : App
 map_app = with_rule (trace_app (codes "map") (codes "text")) line_rule
 
+-- the command `plot`, with the flag by which the heaps are plotted in characters
+abbrev pub plot_app : App
+plot_app = trace_app (codes "plot") (codes "text")
+
 -- the command `check`
 abbrev pub check_app : App
 check_app = with_rule (new_app (codes "check")) file_rule
@@ -95,7 +101,8 @@ tlsf_app =
     let replaying = with_subcommand bare_app replay_app.top in
     let racing = with_subcommand replaying race_app.top in
     let sizing = with_subcommand (with_subcommand racing classes_app.top) size_app.top in
-    with_subcommand (with_subcommand sizing map_app.top) check_app.top
+    let mapping = with_subcommand sizing map_app.top in
+    with_subcommand (with_subcommand mapping plot_app.top) check_app.top
 
 -- the kinds of error that the words may come to, none where they name a command
 abbrev pub faults_of : List Text → Kinds
@@ -108,6 +115,11 @@ command_in words = option_map (λ named. named.0) (subcommand_of tlsf_app words)
 -- the words come to no fault, and the matches give the command that they name
 abbrev pub Answers : List Text → ArgMatches → Type 0
 Answers words matches = (faults_of words ≡ []) × (subcommand_rows_of matches ≡ subcommand_of tlsf_app words)
+
+-- the command of this name was entered, and these are its own matches
+abbrev pub Enters : ArgMatches → Text → ArgMatches → Type 0
+Enters matches name given = (subcommand_name_of matches ≡ Some name)
+    × (option_map (λ (entered : Text × List Row). entered.1) (subcommand_rows_of matches) ≡ Some (rows_of (found_of given)))
 
 -- what the words give for a flag of the command that they name: `true` where it stands among them, `false` where it doesn't
 abbrev pub flag_given : Text → List Text → Option Text
@@ -130,6 +142,8 @@ command_of Race = codes "race"
 command_of RaceQueues = codes "race"
 command_of Map = codes "map"
 command_of MapText = codes "map"
+command_of Plot = codes "plot"
+command_of PlotText = codes "plot"
 command_of Check = codes "check"
 
 -- the words that ask for it, behind the program's name
@@ -140,6 +154,8 @@ words_of Race = codes "race" ∷ []
 words_of RaceQueues = codes "race" ∷ codes "--queues" ∷ []
 words_of Map = codes "map" ∷ []
 words_of MapText = codes "map" ∷ codes "--text" ∷ []
+words_of Plot = codes "plot" ∷ []
+words_of PlotText = codes "plot" ∷ codes "--text" ∷ []
 words_of Check = codes "check" ∷ []
 
 -- these words in one text
@@ -150,6 +166,8 @@ spelled Race = codes "race"
 spelled RaceQueues = codes "race --queues"
 spelled Map = codes "map"
 spelled MapText = codes "map --text"
+spelled Plot = codes "plot"
+spelled PlotText = codes "plot --text"
 spelled Check = codes "check"
 
 -- how a trace is read from this file, as `tlsf: a trace is read from standard input: tlsf replay < first.trace`
@@ -184,6 +202,8 @@ HasForm Race words = LacksFlag (codes "queues") words
 HasForm RaceQueues words = HasFlag (codes "queues") words
 HasForm Map words = LacksFlag (codes "text") words
 HasForm MapText words = HasFlag (codes "text") words
+HasForm Plot words = LacksFlag (codes "text") words
+HasForm PlotText words = HasFlag (codes "text") words
 HasForm Check words = ⊤
 
 -- the run by which heaps are drawn in this form

@@ -2,14 +2,15 @@ ghost use Rattle.std.specs.Prelude.{◌≡◌, List, [], codes, false, map, opti
 ghost use Rattle.std.specs.Option.{unwrap_or};
 ghost use Rattle.clap.specs.declared.builder.command.Command.{Command};
 ghost use Rattle.clap.specs.Words.{app_of, found_of, matched_of, new_app, raw_values, rule_of, subcommand_of, subcommand_rows_of, with_subcommand, FailsBy, Text};
+ghost use Rattle.clap.specs.declared.parser.matches.ArgMatches.{ArgMatches as Matches};
 ghost use Rattle.clap.specs.declared.builder.command.Command.TheViews.{out-Command};
 ghost use Rattle.tlsf_command.specs.SizeQuestions;
-ghost use Rattle.tlsf_command.specs.CommandLine.{bare_app, check_app, classes_app, count_rule, file_rule, flag_rule, level_rule, line_rule, map_app, race_app, replay_app, size_app, size_rule, tlsf_app, trace_app, faults_of, run_in, Answers, Asks, IsMapOn, IsRunOn};
+ghost use Rattle.tlsf_command.specs.CommandLine.{bare_app, check_app, classes_app, count_rule, file_rule, flag_rule, level_rule, line_rule, map_app, plot_app, race_app, replay_app, size_app, size_rule, tlsf_app, trace_app, faults_of, run_in, Answers, Asks, Enters, IsMapOn, IsRunOn};
 
 use crate::VERSION;
 use crate::class_question::ClassQuestion;
 use crate::help::{
-    CHECK_HELP, CLASSES_HELP, MAP_HELP, PROGRAM_HELP, RACE_HELP, REPLAY_HELP, SIZE_HELP,
+    CHECK_HELP, CLASSES_HELP, MAP_HELP, PLOT_HELP, PROGRAM_HELP, RACE_HELP, REPLAY_HELP, SIZE_HELP,
 };
 use crate::size_question::{SizeQuestion, first_number};
 use crate::trace_run::TraceRun;
@@ -182,6 +183,17 @@ fn map_command<'a>(alloc: Global) -> Result<Command<'a>, AllocError>
     command.arg(line_argument(alloc))
 }
 
+// The command `plot`.
+fn plot_command<'a>(alloc: Global) -> Result<Command<'a>, AllocError>
+    ensures app { IfOk result (λ command. app_of command ≡ plot_app) }
+    ensures local { IfOk result (λ command. (out-Command command).has_globals ≡ false) }
+{
+    let usage = "tlsf plot [OPTIONS] < TRACE";
+    let about = "Plot the heaps over the lines of the trace on standard input";
+    let flag_help = "Plot the heaps in the characters of a terminal";
+    trace_command(alloc, "plot", usage, about, PLOT_HELP, "text", flag_help)
+}
+
 // The command `check`.
 fn check_command<'a>(alloc: Global) -> Result<Command<'a>, AllocError>
     ensures app { IfOk result (λ command. app_of command ≡ check_app) }
@@ -245,7 +257,8 @@ fn tlsf_command<'a>(alloc: Global) -> Result<Command<'a>, AllocError>
     let counting = with_command(racing, classes_command(alloc))?;
     let sizing = with_command(counting, size_command(alloc))?;
     let mapping = with_command(sizing, map_command(alloc))?;
-    with_command(mapping, check_command(alloc))?.bin_name("tlsf")
+    let plotting = with_command(mapping, plot_command(alloc))?;
+    with_command(plotting, check_command(alloc))?.bin_name("tlsf")
 }
 
 // What `clap` makes of the words.
@@ -325,6 +338,18 @@ fn map_given(alloc: Global, form: Form, given: &ArgMatches<'_>) -> Result<Choice
     }
 }
 
+// The choice of a plot by the matches of `plot`.
+fn plot_given(alloc: Global, given: &ArgMatches<'_>) -> Result<Choice, AllocError>
+    ensures { (words : List Text) (matches : Matches) → Answers words matches → Enters matches (codes "plot") given.now → IfOk result (Asks words) }
+{
+    let run = if given.get_flag("text") {
+        TraceRun::PlotText
+    } else {
+        TraceRun::Plot
+    };
+    run_given(alloc, run, given)
+}
+
 // What matches of the words ask for.
 fn chosen(alloc: Global, matches: &ArgMatches<'_>) -> Result<Choice, AllocError>
     requires { (words : List Text) × Answers words matches.now }
@@ -351,6 +376,9 @@ fn chosen(alloc: Global, matches: &ArgMatches<'_>) -> Result<Choice, AllocError>
             Form::Svg
         };
         return map_given(alloc, form, given);
+    }
+    if let Some(given) = matches.subcommand_matches("plot") {
+        return plot_given(alloc, given);
     }
     if let Some(given) = matches.subcommand_matches("check") {
         return run_given(alloc, TraceRun::Check, given);

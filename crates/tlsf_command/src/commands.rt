@@ -25,6 +25,7 @@ use tlsf_check::check_trace;
 use tlsf_crew::Gate;
 use tlsf_held::measure_trace;
 use tlsf_picture::{Form, draw_trace, draw_trace_as_text, draw_trace_at};
+use tlsf_plot::plot_trace;
 use tlsf_trace::{
     Summary, TraceFault, WriteError, race_trace, race_trace_over_queues, replay, write_out,
 };
@@ -90,6 +91,8 @@ fn traced<T: Threads + Wait + Sync, R: Read, W: Write, G: Gate>(
         TraceRun::RaceQueues => race_trace_over_queues(rt, alloc, reader, writer, gate),
         TraceRun::Map => draw_trace(alloc, reader, writer),
         TraceRun::MapText => draw_trace_as_text(alloc, reader, writer),
+        TraceRun::Plot => plot_trace(alloc, Form::Svg, reader, writer),
+        TraceRun::PlotText => plot_trace(alloc, Form::Text, reader, writer),
         TraceRun::Check => check_trace(alloc, reader, writer, note),
     }
 }

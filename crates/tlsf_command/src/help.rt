@@ -19,6 +19,7 @@ In a file, as first.trace, it is run by 'tlsf replay < first.trace'.
 'tlsf race --queues' does so with one queue for the posts to each worker.
 'tlsf map' draws the heaps that a trace leaves, as an SVG file, and
 'tlsf map --text' in the characters of a terminal; '--at K' behind line K.
+'tlsf plot' plots them over its lines, and says which line to look at.
 'tlsf check' says where a trace that is refused is faulty, and what was expected
 there.
 'tlsf classes N' and 'tlsf size' read nothing and write one line.
@@ -150,6 +151,32 @@ lines they are drawn as it leaves them.
 The exit status is 0 where the picture is written, 1 where a fault of the
 trace, of a read or of a write ends the run, and 3 where memory runs out. Faults
 are those of 'tlsf replay'.";
+
+/// What `tlsf plot --help` says behind its options.
+pub const PLOT_HELP: &str = "\
+Standard input is a trace, as 'tlsf replay --help' tells. It is run to its end,
+with the drains there, and no reply is written.
+
+Standard output is an SVG file, for a browser: for each heap, over the lines of
+the trace, the words that are live and those that each line asks for; the free
+words and those of the largest free block; the fragmentation; and where a call
+of its worker was refused. A point is the report on the heap behind a line.
+Where there are more than 2000 lines, several are drawn as one point, which
+shows the worst of each number: the most live words, the fewest free ones, the
+smallest of the largest free blocks, the most fragmentation.
+
+  tlsf plot < two_workers.trace > heaps.svg
+
+Above each heap stands the line to look at by 'tlsf map --at K': of all lines
+behind which the longest request of its worker would find no room, the first
+behind which the most words are free. A line behind the last is the end.
+
+With --text it is rows of 56 columns for a terminal of 80 columns, with bars of
+block characters (UTF-8), and '!' where a call was refused.
+
+The exit status is 0 where the plot is written, 1 where a fault of the trace, of
+a read or of a write ends the run, and 3 where memory runs out. Faults are those
+of 'tlsf replay'.";
 
 /// What `tlsf check --help` says behind its options.
 pub const CHECK_HELP: &str = "\

@@ -15,6 +15,10 @@ pub enum TraceRun {
     Map,
     /// `tlsf map --text`: write that picture in the characters of a terminal.
     MapText,
+    /// `tlsf plot`: write a plot of each heap over its lines, as an SVG file.
+    Plot,
+    /// `tlsf plot --text`: write that plot in the characters of a terminal.
+    PlotText,
     /// `tlsf check`: say what it is, or where its first fault is and what was expected there.
     Check,
 }
@@ -34,6 +38,8 @@ impl TraceRun {
             TraceRun::RaceQueues => "race --queues",
             TraceRun::Map => "map",
             TraceRun::MapText => "map --text",
+            TraceRun::Plot => "plot",
+            TraceRun::PlotText => "plot --text",
             TraceRun::Check => "check",
         }
     }

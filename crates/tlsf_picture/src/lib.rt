@@ -20,4 +20,5 @@ mod text_drawing;
 pub use drawing::draw_trace;
 pub use form::Form;
 pub use moment_drawing::draw_trace_at;
+pub use recording::{Recording, event_count, record_trace};
 pub use text_drawing::draw_trace_as_text;

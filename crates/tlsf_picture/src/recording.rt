@@ -32,8 +32,8 @@ pub fn record_trace<R: Read>(alloc: Global, reader: &mut R) -> Result<Recording,
     })
 }
 
-// How many events a line stands for: the end of a phase is a drain of each worker.
-fn width(workers: u32, line: &Line) -> usize
+/// How many events a line stands for: the end of a phase is a drain of each of so many workers.
+pub fn event_count(workers: u32, line: &Line) -> usize
     ensures { result ≡ width_of workers line.now }
 {
     match line {
@@ -56,7 +56,7 @@ fn count_events(workers: u32, lines: &[Line], first: usize) -> usize
 {
     let mut count = 0;
     for index in 0..first {
-        count += width(workers, &lines[index]);
+        count += event_count(workers, &lines[index]);
     }
     count
 }

@@ -4,7 +4,7 @@
 //! standard output. The whole trace is read and checked before a line runs, and the whole text is made before a byte is
 //! written. `tlsf race` does so with each phase run in threads, one for each worker; where it is long, it says on standard
 //! error about every ten seconds that it still runs. `tlsf map` writes a picture of the heaps that a trace leaves,
-//! with `--text` in the characters of a terminal. `tlsf check` says what a trace is, or where its first fault is and what was
+//! with `--text` in the characters of a terminal, and `tlsf plot` a plot of them over its lines. `tlsf check` says what a trace is, or where its first fault is and what was
 //! expected there. A file that is named behind one of these isn't read: a line says how it is given as standard input.
 //! `tlsf classes N` writes the size class and the search class of N words, and `tlsf size` the words of a region that never
 //! refuses. `tlsf --help` and `tlsf --version` say the rest. What it does with words and streams is [`tlsf_command::run`];

@@ -42,9 +42,14 @@ returns-in-Some-subcommand_matches-3 c = λ words answers.
 
 pub returns-in-Some-subcommand_matches-4 : goal.returns-in-Some-subcommand_matches-4
 returns-in-Some-subcommand_matches-4 c = λ words answers.
-    let check = c.in-Some-subcommand_matches-4 in
-    IfOk-weaker c.run_given-in-Some-subcommand_matches-4.result _ _ (λ choice on. asks_run words c.args.matches.now check.given.now Check choice answers (check.ensures.found.0 refl) check.ensures.rows tt (λ _. tt) on)
-    c.run_given-in-Some-subcommand_matches-4.ensures
+    let plot = c.in-Some-subcommand_matches-4 in
+    c.plot_given.ensures words c.args.matches.now answers (plot.ensures.found.0 refl, plot.ensures.rows)
+
+pub returns-in-Some-subcommand_matches-5 : goal.returns-in-Some-subcommand_matches-5
+returns-in-Some-subcommand_matches-5 c = λ words answers.
+    let check = c.in-Some-subcommand_matches-5 in
+    IfOk-weaker c.run_given-in-Some-subcommand_matches-5.result _ _ (λ choice on. asks_run words c.args.matches.now check.given.now Check choice answers (check.ensures.found.0 refl) check.ensures.rows tt (λ _. tt) on)
+    c.run_given-in-Some-subcommand_matches-5.ensures
 
 -- a value that is no `Some` is none
 not_some : {X : Type 0} (o : Option X) → ((x : X) → o ≡ Some x → ⊥) → IsSome o → ⊥
@@ -59,15 +64,16 @@ unreachable-requires c =
     (λ called. not_some c.subcommand_matches-3.result c.in_default-subcommand_matches-2.not-Some (c.subcommand_matches-3.ensures.found.1 called))
     (λ called. not_some c.subcommand_matches-4.result c.in_default-subcommand_matches-3.not-Some (c.subcommand_matches-4.ensures.found.1 called))
     (λ called. not_some c.subcommand_matches-5.result c.in_default-subcommand_matches-4.not-Some (c.subcommand_matches-5.ensures.found.1 called))
-    (λ called. true≢false (sym (rw c.in-None.is at (c.subcommand_matches-6.ensures.found.1 called))))
+    (λ called. not_some c.subcommand_matches-6.result c.in_default-subcommand_matches-5.not-Some (c.subcommand_matches-6.ensures.found.1 called))
+    (λ called. true≢false (sym (rw c.in-None.is at (c.subcommand_matches-7.ensures.found.1 called))))
 
 pub returns : goal.returns
 returns c = λ words answers.
-    let replay = c.in-Some-subcommand_matches-5 in
-    let flag = c.get_flag-in-Some-subcommand_matches-5 in
-    IfOk-weaker c.run_given-in-Some-subcommand_matches-5.result _ _ (λ choice on. elim c.if-get_flag-3.branch [
+    let replay = c.in-Some-subcommand_matches-6 in
+    let flag = c.get_flag-in-Some-subcommand_matches-6 in
+    IfOk-weaker c.run_given-in-Some-subcommand_matches-6.result _ _ (λ choice on. elim c.if-get_flag-3.branch [
       | then-get_flag-3 w ↦ asks_run words c.args.matches.now replay.given.now Held choice answers (replay.ensures.found.0 refl) replay.ensures.rows
           (flag_has words c.args.matches.now replay.given.now (codes "held") flag.result answers replay.ensures.rows flag.ensures.other flag.ensures.none w.if-get_flag-3.true) (λ _. tt) (rw w.run-is at on)
       | else-get_flag-3 w ↦ asks_run words c.args.matches.now replay.given.now Replay choice answers (replay.ensures.found.0 refl) replay.ensures.rows
           (flag_lacks words c.args.matches.now replay.given.now (codes "held") flag.result answers replay.ensures.rows flag.ensures.value w.if-get_flag-3.false) (λ _. tt) (rw w.run-is at on)
-    ]) c.run_given-in-Some-subcommand_matches-5.ensures
+    ]) c.run_given-in-Some-subcommand_matches-6.ensures

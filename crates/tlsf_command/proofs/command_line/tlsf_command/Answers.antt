@@ -5,7 +5,7 @@ use Rattle.clap.specs.Simple.{app_of_fields}
 use Rattle.clap.specs.Words.{App, app_of, with_subcommand}
 use Rattle.clap.specs.declared.builder.command.Command.{Command}
 use Rattle.clap.specs.declared.builder.command.Command.TheViews.{out-Command}
-use Rattle.tlsf_command.specs.CommandLine.{check_app, classes_app, map_app, race_app, replay_app, size_app}
+use Rattle.tlsf_command.specs.CommandLine.{check_app, classes_app, map_app, plot_app, race_app, replay_app, size_app}
 use Rattle.tlsf_command.proofs.command_line.tlsf_command.Goals as goal
 
 -- the program with a command that could be made
@@ -33,7 +33,10 @@ returns c =
     let fifth = joined c.map_command.result c.in_ok-mapping.ensures.0 c.in_ok-mapping.mapping (app_of c.in_ok-sizing.sizing) map_app
     c.map_command.ensures.app c.map_command.ensures.local c.in_ok-mapping.ensures.1 c.in_ok-mapping.ensures.2
     ∙ ap (λ (a : App). with_subcommand a map_app.top) fourth in
-    let sixth = joined c.check_command.result c.in_ok-with_command.ensures.0 c.in_ok-with_command.field-0 (app_of c.in_ok-mapping.mapping) check_app
+    let sixth = joined c.plot_command.result c.in_ok-plotting.ensures.0 c.in_ok-plotting.plotting (app_of c.in_ok-mapping.mapping) plot_app
+    c.plot_command.ensures.app c.plot_command.ensures.local c.in_ok-plotting.ensures.1 c.in_ok-plotting.ensures.2
+    ∙ ap (λ (a : App). with_subcommand a plot_app.top) fifth in
+    let seventh = joined c.check_command.result c.in_ok-with_command.ensures.0 c.in_ok-with_command.field-0 (app_of c.in_ok-plotting.plotting) check_app
     c.check_command.ensures.app c.check_command.ensures.local c.in_ok-with_command.ensures.1 c.in_ok-with_command.ensures.2
-    ∙ ap (λ (a : App). with_subcommand a check_app.top) fifth in
-    IfOk-weaker c.bin_name.result _ _ (λ command named. ap app_of_fields named.0 ∙ sixth) c.bin_name.ensures
+    ∙ ap (λ (a : App). with_subcommand a check_app.top) sixth in
+    IfOk-weaker c.bin_name.result _ _ (λ command named. ap app_of_fields named.0 ∙ seventh) c.bin_name.ensures

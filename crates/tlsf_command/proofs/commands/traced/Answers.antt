@@ -38,6 +38,18 @@ returns-in-MapText-clause-ran g c = rw c.in-MapText.is c.draw_trace_as_text.ensu
 pub returns-in-MapText-clause-noted : goal.returns-in-MapText-clause-noted
 returns-in-MapText-clause-noted g c = rw c.in-MapText.is c.requires
 
+pub returns-in-Plot-clause-ran : goal.returns-in-Plot-clause-ran
+returns-in-Plot-clause-ran g c = rw c.in-Plot.is c.plot_trace.ensures
+
+pub returns-in-Plot-clause-noted : goal.returns-in-Plot-clause-noted
+returns-in-Plot-clause-noted g c = rw c.in-Plot.is c.requires
+
+pub returns-in-PlotText-clause-ran : goal.returns-in-PlotText-clause-ran
+returns-in-PlotText-clause-ran g c = rw c.in-PlotText.is c.plot_trace-in-PlotText.ensures
+
+pub returns-in-PlotText-clause-noted : goal.returns-in-PlotText-clause-noted
+returns-in-PlotText-clause-noted g c = rw c.in-PlotText.is c.requires
+
 pub returns-in-Check-clause-ran : goal.returns-in-Check-clause-ran
 returns-in-Check-clause-ran g c = rw c.in-Check.is c.check_trace.ensures.run
 

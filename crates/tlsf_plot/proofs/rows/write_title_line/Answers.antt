@@ -1,0 +1,6 @@
+use Rattle.tlsf_plot.specs.Rows.{title_line}
+use Rattle.tlsf_plot.proofs.rows.write_title_line.Goals as goal
+
+pub returns : goal.returns
+unfolding title_line
+returns c = c.write.ensures.bytes

@@ -1,0 +1,6 @@
+use Rattle.tlsf_plot.specs.Rows.{worst_row}
+use Rattle.tlsf_plot.proofs.rows.write_worst_row.Goals as goal
+
+pub returns : goal.returns
+unfolding worst_row
+returns c = c.write.ensures.bytes

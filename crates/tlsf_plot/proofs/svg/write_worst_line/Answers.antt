@@ -1,0 +1,6 @@
+use Rattle.tlsf_plot.specs.Svg.{worst_line}
+use Rattle.tlsf_plot.proofs.svg.write_worst_line.Goals as goal
+
+pub returns : goal.returns
+unfolding worst_line
+returns c = c.write.ensures.bytes

@@ -1,0 +1,18 @@
+use crate::point::Point;
+
+/// What the plot of a heap is made of.
+#[derive(Drop)]
+pub struct Chart {
+    /// The number of the heap.
+    pub heap: u32,
+    /// The words of the heap.
+    pub words: u32,
+    /// How many lines of the trace are drawn as one point.
+    pub span: usize,
+    /// The bytes of the longest request of its worker.
+    pub longest: u32,
+    /// The line behind which that finds no room and the most words are free, if it ever finds none.
+    pub worst: Option<u32>,
+    /// The points that are drawn, each the worst of its lines.
+    pub curve: Vec<Point>,
+}
