@@ -4,3 +4,5 @@ mod arenas;
 mod collections;
 mod handed_in;
 mod pools;
+mod remotes;
+mod returns;
