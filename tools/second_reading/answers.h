@@ -86,7 +86,7 @@ class Yard {
 
     std::string reports() const {
         std::string lines;
-        for (const Heap& heap : heaps) lines += heap.report() + "\n";
+        for (const Heap& heap : heaps) lines += heap.report_line() + "\n";
         return lines;
     }
 
@@ -97,6 +97,8 @@ class Yard {
                 + words_text(asked[i], classes) + " region " + std::to_string(region) + " wanted " + std::to_string(asked[i].wanted) + "\n";
         return lines;
     }
+
+    Report report(uint64_t worker) const { return heaps[worker].report(); }
 
     uint64_t count() const { return heaps.size(); }
 

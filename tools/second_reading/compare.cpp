@@ -1,7 +1,7 @@
 // usage: compare PROGRAM COUNT SEED JOBS
 // Runs the built program on so many traces, a third of them damaged, and compares status, output and errors with those of a
 // second reading. Each is replayed, and every second with --held too; every fourth is raced too, where its text is the same for
-// every schedule. A trace that is answered otherwise is kept in the file differs-SEED-NUMBER of this folder. The last line is 'N traces, M runs, K different';
+// every schedule, and every fourth is plotted in characters. A trace that is answered otherwise is kept in the file differs-SEED-NUMBER of this folder. The last line is 'N traces, M runs, K different';
 // the exit status is 0 where K is 0.
 #include <fcntl.h>
 #include <spawn.h>
@@ -11,7 +11,7 @@
 #include <cstdio>
 #include <cstdlib>
 #include <fstream>
-#include "answers.h"
+#include "plot.h"
 #include "traces.h"
 
 // What was seen, each kind by its words.
@@ -89,11 +89,9 @@ void note(Tally& tally, const Answer& wanted) {
     tally["text"]++;
     for (const std::string& line : split(wanted.output, '\n')) {
         const Fields fields = split(line, ' ');
-        if (fields.size() < 3 || fields[0] == "heap") continue;
-        if (fields[0] == "held") {
-            tally[fields[7] == "none" ? "line held, no region has so many words" : "line held"]++;
-            continue;
-        }
+        if (fields[0] == "held") tally[fields[7] == "none" ? "line held, no region has so many words" : "line held"]++;
+        // A reply line begins with a worker.
+        if (fields.size() < 3 || !isdigit(static_cast<unsigned char>(fields[0][0]))) continue;
         const bool refused = fields[fields.size() - 2] == "refused";
         tally["line " + fields[1] + (refused ? " refused " + fields.back() : fields[1] == "f" || fields[1] == "take" ? " " + fields.back() : "")]++;
     }
@@ -110,16 +108,20 @@ bool agrees(const Program& program, const Words& words, const std::string& text,
 
 // What each trace is tried with besides a replay.
 struct Tries {
-    bool held, raced;
+    bool held, raced, plotted;
 };
 
 bool judge(const Program& program, const std::string& text, Tries tries, Tally& tally) {
-    const Words replay = {"replay"}, held = {"replay", "--held"}, race = {"race"};
+    const Words replay = {"replay"}, held = {"replay", "--held"}, race = {"race"}, plot = {"plot", "--text"};
     const auto read = trace_in(text);
-    if (const Fault* fault = std::get_if<Fault>(&read)) return agrees(program, tries.raced ? race : tries.held ? held : replay, text, fault_answer(*fault), tally);
+    if (const Fault* fault = std::get_if<Fault>(&read)) {
+        const Words& words = tries.raced ? race : tries.plotted ? plot : tries.held ? held : replay;
+        return agrees(program, words, text, fault_answer(*fault), tally);
+    }
     const Trace& trace = std::get<Trace>(read);
     bool agree = agrees(program, replay, text, {0, replay_text(trace), ""}, tally);
     if (tries.held) agree = agrees(program, held, text, {0, held_text(trace), ""}, tally) && agree;
+    if (tries.plotted && trace.lines.size() <= 5000) agree = agrees(program, plot, text, {0, plot_text(trace), ""}, tally) && agree;
     // A race starts a thread for each worker and phase, so one of very many phases takes seconds.
     if (!tries.raced || has_drain_lines(trace) || trace.lines.size() > 5000) return agree;
     return agrees(program, race, text, {0, race_text(trace), ""}, tally) && agree;
@@ -132,7 +134,7 @@ void judge_share(const char* path, uint64_t count, uint64_t seed, uint64_t first
     for (uint64_t which = first; which < count; which += step) {
         const std::string text = trace_number(seed, which);
         tally["traces"]++;
-        if (judge(program, text, {which % 2 == 1, which % 4 == 0}, tally)) continue;
+        if (judge(program, text, {which % 2 == 1, which % 4 == 0, which % 4 == 3}, tally)) continue;
         tally["different"]++;
         const std::string name = "differs-" + std::to_string(seed) + "-" + std::to_string(which);
         std::ofstream(name, std::ios::binary) << text;
@@ -176,8 +178,12 @@ int main(int count, char** words) {
         return 2;
     }
     Tally tally = judge_all(words[1], strtoull(words[2], nullptr, 10), strtoull(words[3], nullptr, 10), strtoull(words[4], nullptr, 10));
-    for (const auto& [what, times] : tally) printf("%s: %lu\n", what.c_str(), static_cast<unsigned long>(times));
-    printf("%lu traces, %lu runs, %lu different\n", static_cast<unsigned long>(tally["traces"]),
-        static_cast<unsigned long>(tally["runs of replay"] + tally["runs of replay --held"] + tally["runs of race"]), static_cast<unsigned long>(tally["different"]));
+    uint64_t runs = 0;
+    for (const auto& [what, times] : tally) {
+        printf("%s: %lu\n", what.c_str(), static_cast<unsigned long>(times));
+        if (what.starts_with("runs of ")) runs += times;
+    }
+    printf("%lu traces, %lu runs, %lu different\n", static_cast<unsigned long>(tally["traces"]), static_cast<unsigned long>(runs),
+        static_cast<unsigned long>(tally["different"]));
     return tally["different"] == 0 ? 0 : 1;
 }

@@ -26,6 +26,11 @@ struct Block {
     std::map<uint64_t, uint8_t> bytes = {};
 };
 
+// What a report line has.
+struct Report {
+    uint64_t live = 0, live_words = 0, live_bytes = 0, free = 0, free_words = 0, largest = 0, grant = 0, fragmentation = 0, waste = 0, age = 0;
+};
+
 // The size classes of a level, 4 or 5.
 class Classes {
   public:
@@ -135,25 +140,33 @@ class Heap {
         return bytes;
     }
 
-    // The report line, without its line feed.
-    std::string report() const {
-        uint64_t live = 0, live_words = 0, live_bytes = 0, free = 0, free_words = 0, largest = 0, oldest = tick;
+    Report report() const {
+        Report told;
+        uint64_t oldest = tick;
         for (const auto& [place, block] : blocks) {
             if (block.live) {
-                live++, live_words += block.size, live_bytes += block.length;
+                told.live++, told.live_words += block.size, told.live_bytes += block.length;
             } else {
-                free++, free_words += block.size;
-                largest = std::max(largest, block.size);
+                told.free++, told.free_words += block.size;
+                told.largest = std::max(told.largest, block.size);
                 oldest = std::min(oldest, block.tick);
             }
         }
-        const uint64_t grant = free ? 8 * (classes->low(classes->class_of(largest)) - 3) : 0;
-        const uint64_t fragmentation = free ? 1000 - 1000 * largest / free_words : 0;
+        told.grant = told.free ? 8 * (classes->low(classes->class_of(told.largest)) - 3) : 0;
+        told.fragmentation = told.free ? 1000 - 1000 * told.largest / told.free_words : 0;
+        told.waste = 8 * told.live_words - told.live_bytes;
+        told.age = tick - oldest;
+        return told;
+    }
+
+    // The report line, without its line feed.
+    std::string report_line() const {
+        const Report told = report();
         std::string line = "heap " + std::to_string(id);
         const auto add = [&](const char* word, uint64_t number) { line += word + std::to_string(number); };
-        add(" live ", live), add(" ", live_words), add(" ", live_bytes), add(" free ", free), add(" ", free_words);
-        add(" largest ", largest), add(" grant ", grant), add(" fragmentation ", fragmentation);
-        add(" waste ", 8 * live_words - live_bytes), add(" age ", tick - oldest);
+        add(" live ", told.live), add(" ", told.live_words), add(" ", told.live_bytes), add(" free ", told.free), add(" ", told.free_words);
+        add(" largest ", told.largest), add(" grant ", told.grant), add(" fragmentation ", told.fragmentation);
+        add(" waste ", told.waste), add(" age ", told.age);
         return line;
     }
 
