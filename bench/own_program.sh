@@ -11,6 +11,7 @@ own_program() {
     name=$1
     line=$2
     shift 2
+    command -v rt > /dev/null || { echo "$name.sh: rt is missing" >&2; exit 1; }
     cp "$top/HANDLES" "$work"
     mkdir -p "$work/crates/${name}_bench/src"
     for crate in "$@"; do
