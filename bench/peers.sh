@@ -6,11 +6,11 @@
 # supercollider, where none is given: by apt-get, into a folder that is removed; nothing is installed. Each that is absent is named and
 # left out. Payload is made zero in each. Behind the table stands that of bench/frees.sh, remote frees, where four processors are there.
 #
-# - Instructions of a call, the mean, and below it the worst of these: each counts from the function's first to its return, also those that
+# - Instructions of a call, the mean, and in parentheses the worst: each counts from the function's first to its return, also those that
 #   fill and copy payload; the kernel's don't. memset and memcpy are kept from instructions that move many bytes each.
 # - The worst allocate or release beside 100 to 100,000 holes, which fit none of the requests.
 # - Nanoseconds of an allocate and a release, or of a resize: the median of 11 runs, or as many as ROUNDS in the environment says. All take
-#   turns, on one processor, which should do nothing else.
+#   turns, on one processor, which should do nothing else. With ROUNDS=0 these rows are left out; the others are the same beside other work.
 # - How full 8 MiB get, in percent: bytes asked for at the first refusal, and behind the comma where 100,000 blocks have come and gone. Of the
 #   last three it is 8 MiB of resident memory, or the most that it was while blocks came and went.
 #
@@ -115,17 +115,16 @@ function median(list, of, n, i, k, kept) {
         for (k = i; k > 1 && of[k - 1] + 0 > of[k] + 0; k--) { kept = of[k]; of[k] = of[k - 1]; of[k - 1] = kept }
     return of[int((n + 1) / 2)]
 }
-# What stands in a cell; with `worst`, in that of the row below it.
-function cell(list, row, worst, of) {
+function cell(list, row, of) {
     if (row ~ /^time/) return grouped(median(list))
     split(list, of, " ")
     if (row ~ /^full/) return sprintf("%.1f, %.1f", of[1] / 10, of[2] / 10)
-    return grouped(of[worst ? 2 : 1])
+    return grouped(of[1]) (row ~ /^(allocate|release|resize)/ ? " (" grouped(of[2]) ")" : "")
 }
-function print_row(name, row, worst, line, k) {
-    line = "| " name " |"
+function print_row(row, line, k) {
+    line = "| " row " |"
     for (k = 1; k <= columns; k++)
-        line = line (((column[k], row) in of) ? " " cell(of[column[k], row], row, worst) " |" : " |")
+        line = line (((column[k], row) in of) ? " " cell(of[column[k], row], row) " |" : " |")
     print line
 }
 FNR == 1 { column[++columns] = FILENAME }
@@ -143,10 +142,7 @@ END {
     head = "| Row |"; rule = "|---|"
     for (k = 1; k <= columns; k++) { name = column[k]; sub(/\.lines/, "", name); head = head " " says[name] " |"; rule = rule "---|" }
     print head "\n" rule
-    for (i = 1; i <= count; i++) {
-        print_row(rows[i], rows[i])
-        if (rows[i] ~ /^(allocate|release|resize)/) print_row("the worst of these", rows[i], 1)
-    }
+    for (i = 1; i <= count; i++) print_row(rows[i])
 }' $(for column in $columns; do echo "$column.lines"; done)
 cd "$top"
 [ "${FREES:-}" != no ] || exit 0
