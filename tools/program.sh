@@ -141,5 +141,7 @@ show_progress() {
 find_progress() {
     proved=$(($(wc -l < "$build/done")))
     seconds=$(($(date +%s) - $(cat "$build/start")))
-    progress="$proved of $(($(wc -l < "$build/all"))) crates proved, after $seconds seconds"
+    unit=seconds
+    [ "$seconds" -ne 1 ] || unit=second
+    progress="$proved of $(($(wc -l < "$build/all"))) crates proved, after $seconds $unit"
 }
