@@ -11,6 +11,7 @@
 #     KEY/all, done  the crates to prove, of which the goal is the last, and those proved so far, a line each
 #     KEY/failed     why that build failed, in one line; not there after one that was interrupted
 #     KEY/origin     the repository that asked for it
+#     KEY/beginner   the process that began it, which copies the sources
 #     KEY/builder    its process, which leads a group of its own; KEY/lock is locked as long as one of that group lives
 #     KEY/work       what is being made; removed at the end
 #     rlibs/         proved libraries for the next build, each named by the checksum of all that it is made from
@@ -76,9 +77,13 @@ find_key() {
     program=$build/$product
 }
 
-# Whether a process that builds in this folder lives; those whose leader was killed don't count.
+# Whether a process that builds in this folder, or begins to, lives; those whose leader was killed don't count.
 is_building() {
-    [ -e "$1/lock" ] && ! flock -n -s "$1/lock" true && [ -s "$1/builder" ] && is_alive "$(cat "$1/builder")"
+    [ -e "$1/lock" ] && ! flock -n -s "$1/lock" true || return 1
+    for leader in builder beginner; do
+        [ ! -s "$1/$leader" ] || ! is_alive "$(cat "$1/$leader")" || return 0
+    done
+    return 1
 }
 
 is_alive() {
