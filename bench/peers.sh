@@ -1,7 +1,7 @@
 #!/bin/sh
 # usage: bench/peers.sh [PATH/tlsf.c]
 #
-# Prints one table: what calls of the C library of ./library cost at level 4 and 5, beside TLSF 2.4 of its authors and the system's malloc,
+# Prints one table, and above it revision, date and processor: what calls of the C library of ./library cost at level 4 and 5, beside TLSF 2.4 of its authors and the system's malloc,
 # mimalloc and jemalloc. The last two come from the system's packages, and so does the C file of TLSF 2.4, from the sources of
 # supercollider, where none is given: by apt-get, into a folder that is removed; nothing is installed. Each that is absent is named and
 # left out. Payload is made zero in each. Behind the table stands that of bench/frees.sh, remote frees, where four processors are there.
@@ -101,6 +101,8 @@ for _ in $(seq "${ROUNDS:-11}"); do
     done
 done
 
+processor=$(sed -n 's/^model name[[:space:]]*: //p' /proc/cpuinfo | head -n 1)
+printf 'The heap of %s, %s, %s.\n\n' "$(git -C "$top" rev-parse --short=7 HEAD 2> /dev/null || echo unknown)" "$(date +%F)" "$processor"
 cd "$work"
 # The lines are 'ROW: NUMBER [NUMBER]', where a row of times comes as often as it was run.
 awk '

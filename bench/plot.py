@@ -97,6 +97,7 @@ class Plot:
 
 
 def peers(text):
+    told = re.match(r"The heap of (\w+), ([\d-]+)", text)
     rows = [[cell.strip() for cell in line.strip().strip("|").split("|")] for line in text.split("\n") if line.startswith("|")]
     lines = {}
     for row in rows:
@@ -105,6 +106,7 @@ def peers(text):
                 if cell:
                     lines.setdefault(name, []).append((int(found[1]), int(cell.replace(",", ""))))
     title, across = "The worst allocate or release, in instructions", "holes in which no request fits"
+    title += f" ({told[1]}, {told[2]})" if told else ""
     return [Plot(title, across, lines, by_powers=True)] if lines else []
 
 
