@@ -6,7 +6,7 @@
 # supercollider, where none is given: by apt-get, into a folder that is removed; nothing is installed. Each that is absent is named and
 # left out. Payload is made zero in each. Behind the table stands that of bench/frees.sh, remote frees, where four processors are there.
 #
-# - Instructions of a call, the mean, and in parentheses the worst: each counts from the function's first to its return, also those that
+# - Instructions of a call, the mean, and behind a stroke the worst: each counts from the function's first to its return, also those that
 #   fill and copy payload; the kernel's don't. memset and memcpy are kept from instructions that move many bytes each.
 # - The worst allocate or release beside 100 to 100,000 holes, which fit none of the requests.
 # - Nanoseconds of an allocate and a release, or of a resize: the median of 11 runs, or as many as ROUNDS in the environment says. All take
@@ -121,10 +121,12 @@ function cell(list, row, of) {
     if (row ~ /^time/) return grouped(median(list))
     split(list, of, " ")
     if (row ~ /^full/) return sprintf("%.1f, %.1f", of[1] / 10, of[2] / 10)
-    return grouped(of[1]) (row ~ /^(allocate|release|resize)/ ? " (" grouped(of[2]) ")" : "")
+    return grouped(of[1]) (row ~ /^(allocate|release|resize)/ ? "/" grouped(of[2]) : "")
 }
 function print_row(row, line, k) {
-    line = "| " row " |"
+    line = row
+    sub(/ bytes/, " B", line)
+    line = "| " line " |"
     for (k = 1; k <= columns; k++)
         line = line (((column[k], row) in of) ? " " cell(of[column[k], row], row) " |" : " |")
     print line
