@@ -1,15 +1,19 @@
 #!/usr/bin/env python3
 """usage: bench/adversary.py [B N].. [--mix B N B N]
 
-How many words a region needs at least: forces `NoFit` in `tlsf replay`, by programs that keep within the bounds of a pool.
+How many words a region needs at least: forces `NoFit` in `tlsf replay`, by
+programs that keep within the bounds of a pool.
 
-For each B and N this makes two traces of one worker that never holds more than B blocks and never asks for more than N bytes,
-replays them in smaller and smaller regions, from the words of `tlsf size --blocks B --bytes N` on, and prints the greatest region
-in which a request of theirs is answered NoFit. So what is needed lies above that, and no higher than the law's words. The calls
-are the same in each region: they follow no answer. Run by hand: the gate doesn't. With no pair B N there are four pairs.
-Behind --mix stand many small blocks and two or more large ones: there each small block is put between two holes that are too
-small for a large one.
-The variable TLSF names another program than that of this tree.
+For each B and N this makes two traces of one worker that never holds more than
+B blocks and never asks for more than N bytes, replays them in smaller and
+smaller regions, from the words of `tlsf size --blocks B --bytes N` on, and
+prints the greatest region in which a request of theirs is answered NoFit. So
+what is needed lies above that, and no higher than the law's words. The calls
+are the same in each region: they follow no answer. Run by hand: the gate
+doesn't. With no pair B N there are four pairs. Behind --mix stand many small
+blocks and two or more large ones: there each small block is put between two
+holes that are too small for a large one. The variable TLSF names another
+program than that of this tree.
 """
 import functools
 import os

@@ -1,15 +1,20 @@
 #!/bin/sh
 # usage: bench/arena.sh [PROGRAM]
 #
-# Prints one table of what memory in place costs, in instructions: those of a vector of 64 bytes that is made, gets one number and is
-# dropped; of another in the place of one of 1,000, of 8 to 512 bytes; and of one of 64 KiB. They come from `Global`, from the kit's
-# `LocalHeap` and from a `LocalArena`. Beside them stand a `Block` of an `Arena` that goes out and comes back, and allocate and release of
-# a heap by itself, of as many words as an arena asks for and of payload, which is made zero. In parentheses stands the ratio to the
-# heap's words.
+# Prints one table of what memory in place costs, in instructions: those of a
+# vector of 64 bytes that is made, gets one number and is dropped; of another in
+# the place of one of 1,000, of 8 to 512 bytes; and of one of 64 KiB. They come
+# from `Global`, from the kit's `LocalHeap` and from a `LocalArena`. Beside them
+# stand a `Block` of an `Arena` that goes out and comes back, and allocate and
+# release of a heap by itself, of as many words as an arena asks for and of
+# payload, which is made zero. In parentheses stands the ratio to the heap's
+# words.
 #
-# Callgrind counts 10,000 rounds, and what the same program takes with none is subtracted. Numbers that choose place and size are counted
-# with the second row, and pushes with the vectors. The system's memset is kept from instructions that fill many bytes each. The program is
-# bench/arena's, built of a copy of the repository where none is named. Run by hand: the gate doesn't. Needs valgrind.
+# Callgrind counts 10,000 rounds, and what the same program takes with none is
+# subtracted. Numbers that choose place and size are counted with the second row,
+# and pushes with the vectors. The system's memset is kept from instructions that
+# fill many bytes each. The program is bench/arena's, built of a copy of the
+# repository where none is named. Run by hand: the gate doesn't. Needs valgrind.
 set -eu
 most_words=1
 . "$(dirname "$0")/own_program.sh"

@@ -1,15 +1,21 @@
 #!/bin/sh
 # usage: bench/frees.sh [PATH/tlsf.c]
 #
-# Prints one table: millions of remote frees a second, over lanes, over a queue, and of a heap of the C library of ./library under a mutex,
-# beside those of the system's malloc, of mimalloc and jemalloc where these are there (Debian: libmimalloc2.0, libjemalloc2), and of
-# TLSF 2.4 with its own lock, where its C file is given (bench/peers.sh finds it). One thread owns 80,000 blocks of 8 bytes for each of the
-# others, and these free them: one other, and three. Over lanes and the queue a block counts once the owner, who drains meanwhile, has it
-# back, and a free that is refused as Full is made again; elsewhere it counts once the call that frees it returned, and the owner waits.
-# Each thread has a processor of its own.
+# Prints one table: millions of remote frees a second, over lanes, over a queue,
+# and of a heap of the C library of ./library under a mutex, beside those of the
+# system's malloc, of mimalloc and jemalloc where these are there (Debian:
+# libmimalloc2.0, libjemalloc2), and of TLSF 2.4 with its own lock, where its C
+# file is given (bench/peers.sh finds it). One thread owns 80,000 blocks of 8
+# bytes for each of the others, and these free them: one other, and three. Over
+# lanes and the queue a block counts once the owner, who drains meanwhile, has it
+# back, and a free that is refused as Full is made again; elsewhere it counts once
+# the call that frees it returned, and the owner waits. Each thread has a
+# processor of its own.
 #
-# All take turns, eleven times or as often as ROUNDS in the environment says. Each figure is the median, with the least and the most in
-# parentheses. Wants four processors that do nothing else. On a copy of the repository. Run by hand: the gate doesn't. Needs cc.
+# All take turns, eleven times or as often as ROUNDS in the environment says. Each
+# figure is the median, with the least and the most in parentheses. Wants four
+# processors that do nothing else. On a copy of the repository. Run by hand: the
+# gate doesn't. Needs cc.
 set -eu
 most_words=1
 . "$(dirname "$0")/own_program.sh"

@@ -1,10 +1,12 @@
 #!/bin/sh
 # usage: bench/growths.sh
 #
-# Refuses memory to the library calls that take it, one growth after another, on a copy of the repository: Heap::open, Pool::open,
-# LockedHeap::new, lane, mailbox, open_queue_yard, open_yard and replay_events. Each refused growth makes just the call that asked for
-# it answer NoMemory, and a yard on which replay_events lacked memory has run nothing. bench/refusals.sh does the same to the program,
-# races and threads included. Run by hand: the gate doesn't. Needs cc and python3.
+# Refuses memory to the library calls that take it, one growth after another, on a
+# copy of the repository: Heap::open, Pool::open, LockedHeap::new, lane, mailbox,
+# open_queue_yard, open_yard and replay_events. Each refused growth makes just the
+# call that asked for it answer NoMemory, and a yard on which replay_events lacked
+# memory has run nothing. bench/refusals.sh does the same to the program, races
+# and threads included. Run by hand: the gate doesn't. Needs cc and python3.
 set -eu
 export PYTHONDONTWRITEBYTECODE=1
 . "$(dirname "$0")/own_program.sh"

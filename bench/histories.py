@@ -1,12 +1,17 @@
 #!/usr/bin/env python3
 """usage: bench/histories.py [--table] [B N]..
 
-How many words are enough for at most B blocks of at most N bytes, found by trying all histories of calls, beside those of the law.
+How many words are enough for at most B blocks of at most N bytes, found by
+trying all histories of calls, beside those of the law.
 
-For each pair, or with --table for one table of all pairs (at most three), this follows every list of allocates and releases, and
-then of resizes besides, through a model of the heap (bench/histories/histories.cpp), in smaller and smaller regions from the
-law's words on (`tlsf size`), until one refuses a request for want of room. With no pair B and N are 1 to 4 and 8, 16 and 24: a minute or two. The law's words are at most 63; the states of
-5 blocks take minutes and gigabytes. The variable TLSF names another program than that of this tree, CXX another compiler than g++.
+For each pair, or with --table for one table of all pairs (at most three), this
+follows every list of allocates and releases, and then of resizes besides,
+through a model of the heap (bench/histories/histories.cpp), in smaller and
+smaller regions from the law's words on (`tlsf size`), until one refuses a
+request for want of room. With no pair B and N are 1 to 4 and 8, 16 and 24: a
+minute or two. The law's words are at most 63; the states of 5 blocks take
+minutes and gigabytes. The variable TLSF names another program than that of this
+tree, CXX another compiler than g++.
 """
 import os
 import pathlib

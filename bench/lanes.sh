@@ -1,13 +1,18 @@
 #!/bin/sh
 # usage: bench/lanes.sh
 #
-# Prints what a post through a lane takes, in nanoseconds: by one thread, which puts and takes by turns; between two, in a stream; and
-# between two that send one name to and fro. Beside it stands what one cache line takes from thread to thread, where two write it by
-# turns. A post needs two: that of its slot, and that of the count of posts. The last line says how far it is from what they take.
+# Prints what a post through a lane takes, in nanoseconds: by one thread, which
+# puts and takes by turns; between two, in a stream; and between two that send one
+# name to and fro. Beside it stands what one cache line takes from thread to
+# thread, where two write it by turns. A post needs two: that of its slot, and
+# that of the count of posts. The last line says how far it is from what they
+# take.
 #
-# The four take turns, eleven times or as often as ROUNDS in the environment says. Each figure is the median, with the least and the most
-# in parentheses. Each thread has a processor of its own. Wants two that do nothing else. By the C library of ./library, which is built
-# first. Run by hand: the gate doesn't. Needs cc.
+# The four take turns, eleven times or as often as ROUNDS in the environment says.
+# Each figure is the median, with the least and the most in parentheses. Each
+# thread has a processor of its own. Wants two that do nothing else. By the C
+# library of ./library, which is built first. Run by hand: the gate doesn't. Needs
+# cc.
 set -eu
 . "$(dirname "$0")/help.sh"
 top=$(cd "$(dirname "$0")/.." && pwd)

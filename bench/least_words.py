@@ -1,11 +1,14 @@
 #!/usr/bin/env python3
 """usage: bench/least_words.py TRACE..
 
-Finds for each trace how few words its heaps may have so that no request of it finds no room, and no resize: by halving between 4 and
-the words of its header, which have to serve. Fewer words may serve besides, since more aren't always better. Beside them stand the
-most words that one of its heaps wanted at once, the ratio of the two, and the words of the law (`tlsf replay --held`).
+Finds for each trace how few words its heaps may have so that no request of it
+finds no room, and no resize: by halving between 4 and the words of its header,
+which have to serve. Fewer words may serve besides, since more aren't always
+better. Beside them stand the most words that one of its heaps wanted at once,
+the ratio of the two, and the words of the law (`tlsf replay --held`).
 
-The last line is 'N traces'. Run by hand: the gate doesn't. The variable TLSF names another program than that of this tree.
+The last line is 'N traces'. Run by hand: the gate doesn't. The variable TLSF
+names another program than that of this tree.
 """
 import pathlib
 import sys

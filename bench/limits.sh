@@ -1,12 +1,14 @@
 #!/bin/sh
 # usage: bench/limits.sh
 #
-# Measures `tlsf replay` on a trace at the limits of the format: 2^20 bytes and 32,768 lines, eight workers. Run by hand: the
-# gate doesn't. Each figure is a ratio in one run; instructions are counted by valgrind's callgrind or, where that isn't
-# there, by `perf stat`, and times are the best of nine:
+# Measures `tlsf replay` on a trace at the limits of the format: 2^20 bytes and
+# 32,768 lines, eight workers. Run by hand: the gate doesn't. Each figure is a
+# ratio in one run; instructions are counted by valgrind's callgrind or, where
+# that isn't there, by `perf stat`, and times are the best of nine:
 #
-# - instructions of a replay and of a race, to `sha256sum` on the same file. Under valgrind that runs without the processor's
-#   SHA instructions, which valgrind doesn't offer; `perf stat` counts it as it is;
+# - instructions of a replay and of a race, to `sha256sum` on the same file. Under
+#   valgrind that runs without the processor's SHA instructions, which valgrind
+#   doesn't offer; `perf stat` counts it as it is;
 # - page faults and peak memory, to `sha256sum` on the same file;
 # - time to `sha256sum` on the same file;
 # - to the trace's first half, which shows growth;

@@ -1,8 +1,9 @@
 #!/bin/sh
 # usage: bench/payload.sh
 #
-# Times writes and reads of 8 to 4,096 payload bytes, at a word's start and 3 bytes behind it, and memcpy of as many, by the C library
-# of ./library, which is built first. Run by hand: the gate doesn't. Needs cc.
+# Times writes and reads of 8 to 4,096 payload bytes, at a word's start and 3
+# bytes behind it, and memcpy of as many, by the C library of ./library, which is
+# built first. Run by hand: the gate doesn't. Needs cc.
 set -eu
 . "$(dirname "$0")/help.sh"
 top=$(cd "$(dirname "$0")/.." && pwd)

@@ -1,21 +1,33 @@
 #!/bin/sh
 # usage: bench/peers.sh [PATH/tlsf.c]
 #
-# Prints one table, and above it revision, date and processor: what calls of the C library of ./library cost at level 4 and 5, beside TLSF 2.4 of its authors and the system's malloc,
-# mimalloc and jemalloc. The last two come from the system's packages, and so does the C file of TLSF 2.4, from the sources of
-# supercollider, where none is given: by apt-get, into a folder that is removed; nothing is installed. Each that is absent is named and
-# left out. Payload is made zero in each. Behind the table stands that of bench/frees.sh, remote frees, where four processors are there.
+# Prints one table, and above it revision, date and processor: what calls of the C
+# library of ./library cost at level 4 and 5, beside TLSF 2.4 of its authors and
+# the system's malloc, mimalloc and jemalloc. The last two come from the system's
+# packages, and so does the C file of TLSF 2.4, from the sources of supercollider,
+# where none is given: by apt-get, into a folder that is removed; nothing is
+# installed. Each that is absent is named and left out. Payload is made zero in
+# each. Behind the table stands that of bench/frees.sh, remote frees, where four
+# processors are there.
 #
-# - Instructions of a call, the mean, and behind a stroke the worst: each counts from the function's first to its return, also those that
-#   fill and copy payload; the kernel's don't. memset and memcpy are kept from instructions that move many bytes each.
-# - The worst allocate or release beside 100 to 100,000 holes, which fit none of the requests.
-# - Nanoseconds of an allocate and a release, or of a resize: the median of 11 runs, or as many as ROUNDS in the environment says. All take
-#   turns, on one processor, which should do nothing else. With ROUNDS=0 these rows are left out; the others are the same beside other work.
-# - How full 8 MiB get, in percent: bytes asked for at the first refusal, and behind the comma where 100,000 blocks have come and gone. Of the
-#   last three it is 8 MiB of resident memory, or the most that it was while blocks came and went.
+# - Instructions of a call, the mean, and behind a stroke the worst: each counts
+#   from the function's first to its return, also those that fill and copy
+#   payload; the kernel's don't. memset and memcpy are kept from instructions that
+#   move many bytes each.
+# - The worst allocate or release beside 100 to 100,000 holes, which fit none of
+#   the requests.
+# - Nanoseconds of an allocate and a release, or of a resize: the median of 11
+#   runs, or as many as ROUNDS in the environment says. All take turns, on one
+#   processor, which should do nothing else. With ROUNDS=0 these rows are left
+#   out; the others are the same beside other work.
+# - How full 8 MiB get, in percent: bytes asked for at the first refusal, and
+#   behind the comma where 100,000 blocks have come and gone. Of the last three it
+#   is 8 MiB of resident memory, or the most that it was while blocks came and
+#   went.
 #
-# With FREES=no in the environment the second table is left out, which needs rt and proves a program. Takes some minutes. Run by hand: the
-# gate doesn't. Needs cc.
+# With FREES=no in the environment the second table is left out, which needs rt
+# and proves a program. Takes some minutes. Run by hand: the gate doesn't. Needs
+# cc.
 set -eu
 most_words=1
 . "$(dirname "$0")/help.sh"

@@ -2,13 +2,17 @@
 """usage: bench/plot.py peers < TABLE > PICTURE
        bench/plot.py soak < LINES > PICTURE
 
-Draws what bench/peers.sh or bench/soak.sh printed as an SVG file, light or dark as the reader's screen is:
+Draws what bench/peers.sh or bench/soak.sh printed as an SVG file, light or dark
+as the reader's screen is:
 
-    peers    the worst allocate or release beside so many holes, in instructions, both by powers of ten
-    soak     over the minutes, the worst allocate, release and resize, in instructions, and the mean and the most
-             fragmentation of a heap, in thousandths, over lanes and over queues
+    peers    the worst allocate or release beside so many holes, in
+             instructions, both by powers of ten
+    soak     over the minutes, the worst allocate, release and resize, in
+             instructions, and the mean and the most fragmentation of a heap, in
+             thousandths, over lanes and over queues
 
-The exit status is 0 where it is drawn, 1 where the input has none of it, and 2 where the command line is refused.
+The exit status is 0 where it is drawn, 1 where the input has none of it, and 2
+where the command line is refused.
 """
 import math
 import re

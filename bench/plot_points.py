@@ -1,12 +1,15 @@
 #!/usr/bin/env python3
 """usage: bench/plot_points.py TRACE..
 
-Reads the plot of each trace and compares it with what the rest of the program says of the same lines: each point with the numbers of
-`tlsf map --text --at K`, the words asked for with the trace's own `a` lines, refused calls with the reply lines of `tlsf replay`, and the
-line that is named with all of these. A trace of more than 400 lines is looked at in 400 of its points.
+Reads the plot of each trace and compares it with what the rest of the program
+says of the same lines: each point with the numbers of `tlsf map --text --at K`,
+the words asked for with the trace's own `a` lines, refused calls with the reply
+lines of `tlsf replay`, and the line that is named with all of these. A trace of
+more than 400 lines is looked at in 400 of its points.
 
-A line for each point that differs goes to standard error. The last line is 'N traces, M points', and the exit status 0 where all agree.
-Run by hand: the gate doesn't. The variable TLSF names another program than that of this tree.
+A line for each point that differs goes to standard error. The last line is 'N
+traces, M points', and the exit status 0 where all agree. Run by hand: the gate
+doesn't. The variable TLSF names another program than that of this tree.
 """
 import pathlib
 import re

@@ -1,14 +1,17 @@
 #!/bin/sh
 # usage: bench/races.sh [RUNS]
 #
-# Races one trace RUNS times, or a thousand, under load, on four processors and on two, over lanes and over queues, and has
-# each text judged by bench/races/judge.py, from the trace and the text alone. Run by hand: the gate doesn't. Needs python3
-# and taskset.
+# Races one trace RUNS times, or a thousand, under load, on four processors and on
+# two, over lanes and over queues, and has each text judged by
+# bench/races/judge.py, from the trace and the text alone. Run by hand: the gate
+# doesn't. Needs python3 and taskset.
 #
-# Under load means: beside each race runs a busy loop for each processor that it may use. The judge also damages a text in
-# 500 ways, and has to refuse each. The last line for each number of processors and each kind is 'N texts, D different,
-# R refused'. Then the same trace without its `d` lines is raced as often over lanes, and has to give one text. The exit
-# status is 0 where none was refused and the last texts are one.
+# Under load means: beside each race runs a busy loop for each processor that it
+# may use. The judge also damages a text in 500 ways, and has to refuse each. The
+# last line for each number of processors and each kind is 'N texts, D different,
+# R refused'. Then the same trace without its `d` lines is raced as often over
+# lanes, and has to give one text. The exit status is 0 where none was refused and
+# the last texts are one.
 set -eu
 most_words=1
 . "$(dirname "$0")/help.sh"

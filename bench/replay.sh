@@ -1,8 +1,9 @@
 #!/bin/sh
 # usage: bench/replay.sh
 #
-# Times `tlsf replay` on traces of 32,767 calls, the most that a trace has, and on their first eighths, so that growth
-# with the number of calls is seen. Run by hand: the gate doesn't.
+# Times `tlsf replay` on traces of 32,767 calls, the most that a trace has, and on
+# their first eighths, so that growth with the number of calls is seen. Run by
+# hand: the gate doesn't.
 set -eu
 . "$(dirname "$0")/help.sh"
 top=$(cd "$(dirname "$0")/.." && pwd)

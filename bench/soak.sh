@@ -1,23 +1,33 @@
 #!/bin/sh
 # usage: bench/soak.sh HOURS
 #
-# Runs eight workers in threads for so many hours, as 1 or 0.05, over lanes, and then for a third of that time over queues, half of it at
-# each level. They allocate and resize by the lengths of examples/recorded, release at random, lend blocks to each other, and post back those
-# that they were lent. Half of each region is payload.
+# Runs eight workers in threads for so many hours, as 1 or 0.05, over lanes, and
+# then for a third of that time over queues, half of it at each level. They
+# allocate and resize by the lengths of examples/recorded, release at random, lend
+# blocks to each other, and post back those that they were lent. Half of each
+# region is payload.
 #
-# Over lanes it is the C library of ./library: each worker has a heap of 2 MiB, four of level 4 and four of level 5, and rests for four fifths
-# of the time. Each minute, and at the end, each worker holds its heap against a plain table: its report, each block's bytes, that no two
-# blocks overlap, and that names which are used up, or of another heap, are refused. Behind that comes a line of numbers, parted by tabs:
-# minutes; calls, posts, posts refused as full and allocates without room since the start; payload, in percent of the regions; the mean and
-# the most fragmentation of a heap, in thousandths; free blocks; and the worst allocate, release and resize since the line before, in
-# instructions but those of memset and memcpy, of one call in 4,096. At the end all blocks go back, and each heap has to be one free block.
+# Over lanes it is the C library of ./library: each worker has a heap of 2 MiB,
+# four of level 4 and four of level 5, and rests for four fifths of the time. Each
+# minute, and at the end, each worker holds its heap against a plain table: its
+# report, each block's bytes, that no two blocks overlap, and that names which are
+# used up, or of another heap, are refused. Behind that comes a line of numbers,
+# parted by tabs: minutes; calls, posts, posts refused as full and allocates
+# without room since the start; payload, in percent of the regions; the mean and
+# the most fragmentation of a heap, in thousandths; free blocks; and the worst
+# allocate, release and resize since the line before, in instructions but those of
+# memset and memcpy, of one call in 4,096. At the end all blocks go back, and each
+# heap has to be one free block.
 #
-# Over queues it is a proved program of the workers of tlsf_crew (bench/queues), which does and checks the same, and ends its threads for
-# that each minute. Its lines, behind an empty one for each level, count turns for calls, and lack the last three numbers.
+# Over queues it is a proved program of the workers of tlsf_crew (bench/queues),
+# which does and checks the same, and ends its threads for that each minute. Its
+# lines, behind an empty one for each level, count turns for calls, and lack the
+# last three numbers.
 #
-# The exit status is 0 where nothing is wrong, and no call took more instructions than tools/longest_path.bounds says, with one for the jump
-# to memset. Else a line says what is wrong, and it is 1. Before each begins, three faults are made, and each has to be noticed. Run by hand:
-# the gate doesn't. Needs rt and cc.
+# The exit status is 0 where nothing is wrong, and no call took more instructions
+# than tools/longest_path.bounds says, with one for the jump to memset. Else a
+# line says what is wrong, and it is 1. Before each begins, three faults are made,
+# and each has to be noticed. Run by hand: the gate doesn't. Needs rt and cc.
 set -eu
 most_words=1
 . "$(dirname "$0")/own_program.sh"

@@ -1,13 +1,16 @@
 #!/bin/sh
 # usage: bench/steps.sh [SEEDS [STEPS [PROGRAM]]]
 #
-# Does random steps to collections on an arena, and the same ones to plain ones: `Vec`, `String`, `BTreeMap` and boxes, eight of each.
-# Compares what each step gives back, the contents of those that were changed at each 64th step, and all at the end, and whether all units
-# are back once all are dropped. The arena has 32 KiB, so now and then it refuses: what was there then has to be there still.
+# Does random steps to collections on an arena, and the same ones to plain ones:
+# `Vec`, `String`, `BTreeMap` and boxes, eight of each. Compares what each step
+# gives back, the contents of those that were changed at each 64th step, and all
+# at the end, and whether all units are back once all are dropped. The arena has
+# 32 KiB, so now and then it refuses: what was there then has to be there still.
 #
-# 10 seeds from 1 on and 1,000,000 steps each, where nothing else is said. Each seed has a line. The exit status is 0 where nothing was
-# answered wrongly and all units are back. The program is bench/steps', built of a copy of the repository where none is named. The gate
-# doesn't run this; ./attack does, with one seed.
+# 10 seeds from 1 on and 1,000,000 steps each, where nothing else is said. Each
+# seed has a line. The exit status is 0 where nothing was answered wrongly and all
+# units are back. The program is bench/steps', built of a copy of the repository
+# where none is named. The gate doesn't run this; ./attack does, with one seed.
 set -eu
 most_words=3
 . "$(dirname "$0")/own_program.sh"

@@ -1,13 +1,17 @@
 #!/bin/sh
 # usage: bench/traces.sh [COUNT [SEED [JOBS [PROGRAM]]]]
 #
-# Compares the program with a second reading of docs/FORMATS.md and docs/MODEL.md on generated traces, a third of them damaged:
-# status, standard output and standard error, byte for byte. The second reading is tools/second_reading, in C++, and shares nothing
-# with the program: its heap is a plain list of blocks. Each trace is replayed, every second with --held too, and every fourth raced
+# Compares the program with a second reading of docs/FORMATS.md and docs/MODEL.md
+# on generated traces, a third of them damaged: status, standard output and
+# standard error, byte for byte. The second reading is tools/second_reading, in
+# C++, and shares nothing with the program: its heap is a plain list of blocks.
+# Each trace is replayed, every second with --held too, and every fourth raced
 # where it has no 'd' line.
 #
-# 100,000 traces from seed 1 in one process, where nothing else is said, of the program of this tree. What was answered is counted.
-# The last line is 'N traces, M runs, K different'; the exit status is 0 where K is 0. Run by hand: the gate doesn't. Needs c++.
+# 100,000 traces from seed 1 in one process, where nothing else is said, of the
+# program of this tree. What was answered is counted. The last line is 'N traces,
+# M runs, K different'; the exit status is 0 where K is 0. Run by hand: the gate
+# doesn't. Needs c++.
 set -eu
 most_words=4
 . "$(dirname "$0")/help.sh"

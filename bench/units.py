@@ -1,15 +1,19 @@
 #!/usr/bin/env python3
 """usage: bench/units.py
 
-How full an arena of 8 MiB gets, by the bytes of its unit, beside a heap whose words hold payload: the bytes that were asked for to all
-those that their memory takes, in percent. An arena's are those of its units and 8 for the word of each, a heap's are its words, and
-neither the start bits nor the heads of the lists.
+How full an arena of 8 MiB gets, by the bytes of its unit, beside a heap whose
+words hold payload: the bytes that were asked for to all those that their memory
+takes, in percent. An arena's are those of its units and 8 for the word of each,
+a heap's are its words, and neither the start bits nor the heads of the lists.
 
-A model of the heap in numbers alone, at level 4, without payload, decides what is granted: docs/MODEL.md tells it in words. Requests come
-by chance, the same in each column: first until one is refused, then 200,000 more, for each of which blocks are released at random until it
-is granted. The first figure of a cell is what was live at the first refusal, the second the mean over the later half of those requests.
-Those of a heap are within a percent of what bench/peers.sh measures of the library, where the requests are the same. Run by hand: the gate doesn't. Takes
-about two minutes.
+A model of the heap in numbers alone, at level 4, without payload, decides what
+is granted: docs/MODEL.md tells it in words. Requests come by chance, the same
+in each column: first until one is refused, then 200,000 more, for each of which
+blocks are released at random until it is granted. The first figure of a cell is
+what was live at the first refusal, the second the mean over the later half of
+those requests. Those of a heap are within a percent of what bench/peers.sh
+measures of the library, where the requests are the same. Run by hand: the gate
+doesn't. Takes about two minutes.
 """
 import sys
 
