@@ -5,8 +5,8 @@
 # on generated traces, a third of them damaged: status, standard output and
 # standard error, byte for byte. The second reading is tools/second_reading, in
 # C++, and shares nothing with the program: its heap is a plain list of blocks.
-# Each trace is replayed, every second with --held too, and every fourth raced
-# where it has no 'd' line.
+# Each trace is replayed, every second with --held too, every fourth raced where
+# it has no 'd' line, and every fourth plotted in characters.
 #
 # 100,000 traces from seed 1 in one process, where nothing else is said, of the
 # program of this tree. What was answered is counted. The last line is 'N traces,
