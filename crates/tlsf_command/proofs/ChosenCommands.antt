@@ -9,7 +9,7 @@ use Rattle.clap.specs.Walk.{Row, Text, all_of, one_of, rows_of}
 use Rattle.clap.specs.Words.{subcommand_of, subcommand_rows_of}
 use Rattle.clap.specs.declared.parser.matches.ArgMatches.{ArgMatches}
 use Rattle.clap.proofs.WalkLemmas.{one_text-rows, raw_values-rows}
-use Rattle.tlsf_command.specs.CommandLine.{Answers, Asks, HasFlag, HasForm, IsAnswerable, IsMapOn, IsRunOn, IsTip, LacksFlag, NamesNoLine, command_in, command_of, flag_given, line_given, name_of, run_in, texts_given, tip_line, tlsf_app}
+use Rattle.tlsf_command.specs.CommandLine.{Answers, Asks, HasFlag, HasForm, IsAnswerable, IsMapOn, IsRunOn, IsTip, LacksFlag, NamesNoLine, command_in, command_of, flag_given, line_given, name_of, replay_by, run_in, texts_given, tip_line, tlsf_app}
 use Rattle.tlsf_command.specs.ClassQuestions.{HasClasses, IsClassQuestion}
 use Rattle.tlsf_command.specs.SizeQuestions.{IsQuestion, first_number}
 use Rattle.tlsf_command.specs.declared.class_question.ClassQuestion.{ClassQuestion}
@@ -20,7 +20,7 @@ use Rattle.tlsf_command.specs.declared.command_line.Choice.TheVariants.{Trace, F
 use Rattle.tlsf_picture.specs.declared.form.Form.{Form}
 use Rattle.tlsf_picture.specs.declared.form.Form.TheVariants.{Svg, Text as Characters}
 use Rattle.tlsf_command.specs.declared.trace_run.TraceRun.{TraceRun}
-use Rattle.tlsf_command.specs.declared.trace_run.TraceRun.TheVariants.{Replay, Held, Race, RaceQueues, Map, MapText, Plot, PlotText, Check}
+use Rattle.tlsf_command.specs.declared.trace_run.TraceRun.TheVariants.{Replay, Held, HeldKinds, Race, RaceQueues, Map, MapText, Plot, PlotText, Check}
 use Rattle.tlsf_command.specs.Runs.{Does, Refuses, Streams}
 use Rattle.tlsf_command.proofs.NamedCommands.{faultless_named, subcommand_name-rows}
 use Rattle.tlsf_command.proofs.NamedRuns.{GivesForm}
@@ -48,6 +48,7 @@ same_name words choice name asks is = ap (λ (o : Option Text). unwrap_or o []) 
 no_classes : (run : TraceRun) → bytes_eq (codes "classes") (command_of run) ≡ false
 no_classes Replay = refl
 no_classes Held = refl
+no_classes HeldKinds = refl
 no_classes Race = refl
 no_classes RaceQueues = refl
 no_classes Map = refl
@@ -59,6 +60,7 @@ no_classes Check = refl
 no_size : (run : TraceRun) → bytes_eq (codes "size") (command_of run) ≡ false
 no_size Replay = refl
 no_size Held = refl
+no_size HeldKinds = refl
 no_size Race = refl
 no_size RaceQueues = refl
 no_size Map = refl
@@ -70,6 +72,7 @@ no_size Check = refl
 itself : (run : TraceRun) → bytes_eq (command_of run) (command_of run) ≡ true
 itself Replay = refl
 itself Held = refl
+itself HeldKinds = refl
 itself Race = refl
 itself RaceQueues = refl
 itself Map = refl
@@ -78,12 +81,17 @@ itself Plot = refl
 itself PlotText = refl
 itself Check = refl
 
--- a run is told by its command and its flag
+-- a run is told by its command and its flags
 same_run : (words : List Text) (run other : TraceRun) → command_of other ≡ command_of run → GivesForm run words → HasForm other words → other ≡ run
 same_run words Replay Replay is gives has = refl
-same_run words Replay Held is gives has = absurd (has.0 gives)
-same_run words Held Replay is gives has = absurd (has gives)
+same_run words Replay Held is gives has = absurd (has.1.0 gives.1)
+same_run words Replay HeldKinds is gives has = absurd (has.0 gives.0)
+same_run words Held Replay is gives has = absurd (has.1 gives.1)
 same_run words Held Held is gives has = refl
+same_run words Held HeldKinds is gives has = absurd (has.0 gives.0)
+same_run words HeldKinds Replay is gives has = absurd (has.0 gives)
+same_run words HeldKinds Held is gives has = absurd (has.0 gives)
+same_run words HeldKinds HeldKinds is gives has = refl
 same_run words Race Race is gives has = refl
 same_run words Race RaceQueues is gives has = absurd (has.0 gives)
 same_run words RaceQueues Race is gives has = absurd (has gives)
@@ -233,6 +241,31 @@ asks_run words matches given run (File other tip) answers called entered form no
 asks_run words matches given run (Classes question) answers called entered form no_line on = absurd on
 asks_run words matches given run (Size question) answers called entered form no_line on = absurd on
 asks_run words matches given run (At form line) answers called entered has no_line on = absurd on
+
+-- the run of `replay` by its flags
+pub replay_called : (kinds held : Bool) → codes "replay" ≡ command_of (replay_by kinds held)
+replay_called true held = refl
+replay_called false true = refl
+replay_called false false = refl
+
+pub no_line_in_replay : (kinds held : Bool) (words : List Text) → NamesNoLine (replay_by kinds held) words
+no_line_in_replay true held words = tt
+no_line_in_replay false true words = tt
+no_line_in_replay false false words = tt
+
+-- a flag is given as its test says
+abbrev pub IsGiven : Text → Bool → List Text → Type 0
+IsGiven name true words = HasFlag name words
+IsGiven name false words = LacksFlag name words
+
+pub flag_told : (words : List Text) (name : Text) (flag : Bool) → (flag ≡ true → HasFlag name words) → (flag ≡ false → LacksFlag name words) → IsGiven name flag words
+flag_told words name true has lacks = has refl
+flag_told words name false has lacks = lacks refl
+
+pub replay_form : (kinds held : Bool) (words : List Text) → IsGiven (codes "kinds") kinds words → IsGiven (codes "held") held words → HasForm (replay_by kinds held) words
+replay_form true held words kinds_told held_told = kinds_told
+replay_form false true words kinds_told held_told = (kinds_told, held_told)
+replay_form false false words kinds_told held_told = (kinds_told, held_told)
 
 -- the heaps are drawn by `map` in each form
 drawn_by : (form : Form) → codes "map" ≡ command_of (run_in form)

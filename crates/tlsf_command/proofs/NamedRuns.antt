@@ -7,12 +7,13 @@ use Rattle.clap.specs.Words.{Text}
 use Rattle.clap.proofs.OnLiterals.{clap_on_literals}
 use Rattle.tlsf_command.specs.CommandLine.{command_in, command_of, faults_of, flag_given, line_given, texts_given, words_of, IsPlainWord}
 use Rattle.tlsf_command.specs.declared.trace_run.TraceRun.{TraceRun}
-use Rattle.tlsf_command.specs.declared.trace_run.TraceRun.TheVariants.{Replay, Held, Race, RaceQueues, Map, MapText, Plot, PlotText, Check}
+use Rattle.tlsf_command.specs.declared.trace_run.TraceRun.TheVariants.{Replay, Held, HeldKinds, Race, RaceQueues, Map, MapText, Plot, PlotText, Check}
 
--- the words give the flag of a run, or don't give it
+-- the words give the flags of a run, or don't give them
 abbrev pub GivesForm : TraceRun → List Text → Type 0
-GivesForm Replay words = flag_given (codes "held") words ≡ Some (codes "false")
-GivesForm Held words = flag_given (codes "held") words ≡ Some (codes "true")
+GivesForm Replay words = (flag_given (codes "kinds") words ≡ Some (codes "false")) × (flag_given (codes "held") words ≡ Some (codes "false"))
+GivesForm Held words = (flag_given (codes "kinds") words ≡ Some (codes "false")) × (flag_given (codes "held") words ≡ Some (codes "true"))
+GivesForm HeldKinds words = flag_given (codes "kinds") words ≡ Some (codes "true")
 GivesForm Race words = flag_given (codes "queues") words ≡ Some (codes "false")
 GivesForm RaceQueues words = flag_given (codes "queues") words ≡ Some (codes "true")
 GivesForm Map words = flag_given (codes "text") words ≡ Some (codes "false")
@@ -32,8 +33,9 @@ pub record NameRun (words : List Text) (run : TraceRun) (files : List Text) : Ty
 -- the program's name, whatever that is, and the words of a run
 pub run_named : (called : Text) (run : TraceRun) → NameRun (called ∷ words_of run) run []
 unfolding clap_on_literals
-run_named called Replay = record { faultless = refl; named = refl; form = refl; given = refl; no_line = refl }
-run_named called Held = record { faultless = refl; named = refl; form = refl; given = refl; no_line = refl }
+run_named called Replay = record { faultless = refl; named = refl; form = (refl, refl); given = refl; no_line = refl }
+run_named called Held = record { faultless = refl; named = refl; form = (refl, refl); given = refl; no_line = refl }
+run_named called HeldKinds = record { faultless = refl; named = refl; form = refl; given = refl; no_line = refl }
 run_named called Race = record { faultless = refl; named = refl; form = refl; given = refl; no_line = refl }
 run_named called RaceQueues = record { faultless = refl; named = refl; form = refl; given = refl; no_line = refl }
 run_named called Map = record { faultless = refl; named = refl; form = refl; given = refl; no_line = refl }
@@ -55,8 +57,9 @@ plain_word (code ∷ rest) plain = let no = no_hyphen code plain in (rw no refl,
 
 by_plain : (called : Text) (run : TraceRun) (file : Text) → IsPlain file → NameRun (called ∷ (words_of run ++ file ∷ [])) run (file ∷ [])
 unfolding clap_on_literals
-by_plain called Replay file plain = record { faultless = rw (plain.0, plain.1, plain.2) refl; named = refl; form = rw (plain.0, plain.1, plain.2) refl; given = rw (plain.0, plain.1, plain.2) refl; no_line = rw (plain.0, plain.1, plain.2) refl }
-by_plain called Held file plain = record { faultless = rw (plain.0, plain.1, plain.2) refl; named = refl; form = rw (plain.0, plain.1, plain.2) refl; given = rw (plain.0, plain.1, plain.2) refl; no_line = rw (plain.0, plain.1, plain.2) refl }
+by_plain called Replay file plain = record { faultless = rw (plain.0, plain.1, plain.2) refl; named = refl; form = (rw (plain.0, plain.1, plain.2) refl, rw (plain.0, plain.1, plain.2) refl); given = rw (plain.0, plain.1, plain.2) refl; no_line = rw (plain.0, plain.1, plain.2) refl }
+by_plain called Held file plain = record { faultless = rw (plain.0, plain.1, plain.2) refl; named = refl; form = (rw (plain.0, plain.1, plain.2) refl, rw (plain.0, plain.1, plain.2) refl); given = rw (plain.0, plain.1, plain.2) refl; no_line = rw (plain.0, plain.1, plain.2) refl }
+by_plain called HeldKinds file plain = record { faultless = rw (plain.0, plain.1, plain.2) refl; named = refl; form = rw (plain.0, plain.1, plain.2) refl; given = rw (plain.0, plain.1, plain.2) refl; no_line = rw (plain.0, plain.1, plain.2) refl }
 by_plain called Race file plain = record { faultless = rw (plain.0, plain.1, plain.2) refl; named = refl; form = rw (plain.0, plain.1, plain.2) refl; given = rw (plain.0, plain.1, plain.2) refl; no_line = rw (plain.0, plain.1, plain.2) refl }
 by_plain called RaceQueues file plain = record { faultless = rw (plain.0, plain.1, plain.2) refl; named = refl; form = rw (plain.0, plain.1, plain.2) refl; given = rw (plain.0, plain.1, plain.2) refl; no_line = rw (plain.0, plain.1, plain.2) refl }
 by_plain called Map file plain = record { faultless = rw (plain.0, plain.1, plain.2) refl; named = refl; form = rw (plain.0, plain.1, plain.2) refl; given = rw (plain.0, plain.1, plain.2) refl; no_line = rw (plain.0, plain.1, plain.2) refl }

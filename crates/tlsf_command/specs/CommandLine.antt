@@ -1,5 +1,5 @@
 -- The command line, by the definitions of `clap`.
-use Rattle.std.specs.Prelude.{◌≡◌, ◌≢◌, ◌^◌, ⊤, ℕ, true, pos, List, [], ◌∷◌, ◌++◌, Option, Some, None, codes, option_and_then, option_map, string_bytes, unwrap_or}
+use Rattle.std.specs.Prelude.{◌≡◌, ◌≢◌, ◌^◌, ⊤, ℕ, Bool, false, true, pos, List, [], ◌∷◌, ◌++◌, Option, Some, None, codes, option_and_then, option_map, string_bytes, unwrap_or}
 use Rattle.clap.specs.Matches.{found_of, subcommand_name_of}
 use Rattle.clap.specs.Walk.{Row, rows_of}
 use Rattle.clap.specs.Words.{App, Kinds, Rule, Text, all_of, fault_of, new_app, new_rule, one_of, subcommand_of, subcommand_rows_of, with_rule, with_subcommand}
@@ -13,7 +13,7 @@ use Rattle.tlsf_command.specs.declared.command_line.Choice.TheVariants.{Trace, F
 use Rattle.tlsf_picture.specs.declared.form.Form.{Form}
 use Rattle.tlsf_picture.specs.declared.form.Form.TheVariants.{Svg, Text as Characters}
 use Rattle.tlsf_command.specs.declared.trace_run.TraceRun.{TraceRun}
-use Rattle.tlsf_command.specs.declared.trace_run.TraceRun.TheVariants.{Replay, Held, Race, RaceQueues, Map, MapText, Plot, PlotText, Check}
+use Rattle.tlsf_command.specs.declared.trace_run.TraceRun.TheVariants.{Replay, Held, HeldKinds, Race, RaceQueues, Map, MapText, Plot, PlotText, Check}
 
 -- the size that `classes` asks for, a number from 4 to 2^24
 abbrev pub size_rule : Rule
@@ -61,9 +61,9 @@ file_rule = record (new_rule (codes "FILE")) { action = Some Append }
 abbrev pub trace_app : Text → Text → App
 trace_app name flag = with_rule (with_rule (new_app name) (flag_rule flag)) file_rule
 
--- the command `replay`, with the flag by which it writes what the workers ask of their heaps
+-- the command `replay`, with the flags by which it writes what the workers ask of their heaps, and of which kinds
 abbrev pub replay_app : App
-replay_app = trace_app (codes "replay") (codes "held")
+replay_app = with_rule (trace_app (codes "replay") (codes "held")) (flag_rule (codes "kinds"))
 
 -- the command `race`, with the flag by which it goes over queues
 abbrev pub race_app : App
@@ -138,6 +138,7 @@ line_given words = first_number 0 (texts_given (codes "K") words)
 abbrev pub command_of : TraceRun → Text
 command_of Replay = codes "replay"
 command_of Held = codes "replay"
+command_of HeldKinds = codes "replay"
 command_of Race = codes "race"
 command_of RaceQueues = codes "race"
 command_of Map = codes "map"
@@ -150,6 +151,7 @@ command_of Check = codes "check"
 abbrev pub words_of : TraceRun → List Text
 words_of Replay = codes "replay" ∷ []
 words_of Held = codes "replay" ∷ codes "--held" ∷ []
+words_of HeldKinds = codes "replay" ∷ codes "--held" ∷ codes "--kinds" ∷ []
 words_of Race = codes "race" ∷ []
 words_of RaceQueues = codes "race" ∷ codes "--queues" ∷ []
 words_of Map = codes "map" ∷ []
@@ -162,6 +164,7 @@ words_of Check = codes "check" ∷ []
 abbrev pub spelled : TraceRun → Text
 spelled Replay = codes "replay"
 spelled Held = codes "replay --held"
+spelled HeldKinds = codes "replay --held --kinds"
 spelled Race = codes "race"
 spelled RaceQueues = codes "race --queues"
 spelled Map = codes "map"
@@ -194,10 +197,11 @@ HasFlag name words = (flag_given name words ≢ Some (codes "false")) × (flag_g
 abbrev pub LacksFlag : Text → List Text → Type 0
 LacksFlag name words = flag_given name words ≢ Some (codes "true")
 
--- the words give the flag by which the run is asked for, or lack that by which another one is
+-- the words give the flag by which the run is asked for, or lack those by which another one is. Kinds are held ones, with `--held` and without
 abbrev pub HasForm : TraceRun → List Text → Type 0
-HasForm Replay words = LacksFlag (codes "held") words
-HasForm Held words = HasFlag (codes "held") words
+HasForm Replay words = LacksFlag (codes "kinds") words × LacksFlag (codes "held") words
+HasForm Held words = LacksFlag (codes "kinds") words × HasFlag (codes "held") words
+HasForm HeldKinds words = HasFlag (codes "kinds") words
 HasForm Race words = LacksFlag (codes "queues") words
 HasForm RaceQueues words = HasFlag (codes "queues") words
 HasForm Map words = LacksFlag (codes "text") words
@@ -205,6 +209,12 @@ HasForm MapText words = HasFlag (codes "text") words
 HasForm Plot words = LacksFlag (codes "text") words
 HasForm PlotText words = HasFlag (codes "text") words
 HasForm Check words = ⊤
+
+-- the run that `replay` asks for, by whether it has the flag `--kinds`, and `--held`
+abbrev pub replay_by : (kinds held : Bool) → TraceRun
+replay_by true held = HeldKinds
+replay_by false true = Held
+replay_by false false = Replay
 
 -- the run by which heaps are drawn in this form
 abbrev pub run_in : Form → TraceRun

@@ -19,9 +19,9 @@ use Rattle.tlsf_pool.specs.declared.split.Split.{Split}
 use Rattle.tlsf_command.specs.declared.command_line.Choice.{Choice}
 use Rattle.tlsf_command.specs.declared.command_line.Choice.TheVariants.{Trace, File, Classes, Size, At}
 use Rattle.tlsf_command.specs.declared.trace_run.TraceRun.{TraceRun}
-use Rattle.tlsf_command.specs.declared.trace_run.TraceRun.TheVariants.{Replay, Held, Race, RaceQueues, Map, MapText, Plot, PlotText, Check}
+use Rattle.tlsf_command.specs.declared.trace_run.TraceRun.TheVariants.{Replay, Held, HeldKinds, Race, RaceQueues, Map, MapText, Plot, PlotText, Check}
 use Rattle.tlsf_check.specs.Checks.{Checks, Notes}
-use Rattle.tlsf_held.specs.Measures.{Measures}
+use Rattle.tlsf_held.specs.Measures.{Measures, TellsKinds}
 use Rattle.tlsf_picture.specs.Drawn.{Draws, DrawsAt, DrawsText}
 use Rattle.tlsf_picture.specs.declared.form.Form.TheVariants.{Svg, Text as Characters}
 use Rattle.tlsf_plot.specs.Plots.{Plots}
@@ -55,11 +55,12 @@ abbrev pub IsNote : TraceRun → (text : Option (List ℕ)) → Result Summary T
 IsNote Check text (Err fault) note = IfSome text (λ bytes. Notes bytes fault [] note)
 IsNote run text answer note = note ≡ []
 
--- what a run may put out: what a replay does, or what its workers asked of their heaps; what a race does, each phase in threads, over lanes or over
+-- what a run may put out: what a replay does, or what its workers asked of their heaps, or the kinds of blocks that these held; what a race does, each phase in threads, over lanes or over
 -- queues; the heaps that the trace leaves, or these over its lines, as an SVG file or in the characters of a terminal; or what a check says of it
 abbrev pub puts_of : TraceRun → Outputs
 puts_of Replay = Replays
 puts_of Held = Measures
+puts_of HeldKinds = TellsKinds
 puts_of Race = Races
 puts_of RaceQueues = RacesQueues
 puts_of Map = Draws

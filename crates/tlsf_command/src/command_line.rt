@@ -5,7 +5,7 @@ ghost use Rattle.clap.specs.Words.{app_of, found_of, matched_of, new_app, raw_va
 ghost use Rattle.clap.specs.declared.parser.matches.ArgMatches.{ArgMatches as Matches};
 ghost use Rattle.clap.specs.declared.builder.command.Command.TheViews.{out-Command};
 ghost use Rattle.tlsf_command.specs.SizeQuestions;
-ghost use Rattle.tlsf_command.specs.CommandLine.{bare_app, check_app, classes_app, count_rule, file_rule, flag_rule, level_rule, line_rule, map_app, plot_app, race_app, replay_app, size_app, size_rule, tlsf_app, trace_app, faults_of, run_in, Answers, Asks, Enters, IsMapOn, IsRunOn};
+ghost use Rattle.tlsf_command.specs.CommandLine.{bare_app, check_app, classes_app, count_rule, file_rule, flag_rule, level_rule, line_rule, map_app, plot_app, race_app, replay_app, size_app, size_rule, tlsf_app, trace_app, faults_of, replay_by, run_in, Answers, Asks, Enters, IsMapOn, IsRunOn};
 
 use crate::VERSION;
 use crate::class_question::ClassQuestion;
@@ -137,7 +137,7 @@ fn replay_command<'a>(alloc: Global) -> Result<Command<'a>, AllocError>
     let usage = "tlsf replay [OPTIONS] < TRACE";
     let about = "Run the trace on standard input, and write its replies";
     let flag_help = "Write how large the heaps must be for these calls";
-    trace_command(
+    let command = trace_command(
         alloc,
         "replay",
         usage,
@@ -145,7 +145,9 @@ fn replay_command<'a>(alloc: Global) -> Result<Command<'a>, AllocError>
         REPLAY_HELP,
         "held",
         flag_help,
-    )
+    )?;
+    let kinds_help = "Write the kinds of blocks that are held, for 'tlsf size'";
+    command.arg(flag(alloc, "kinds", kinds_help))
 }
 
 // The command `race`.
@@ -350,6 +352,26 @@ fn plot_given(alloc: Global, given: &ArgMatches<'_>) -> Result<Choice, AllocErro
     run_given(alloc, run, given)
 }
 
+// The run that `replay` asks for by its flags.
+fn replay_of(kinds: bool, held: bool) -> TraceRun
+    ensures { result ≡ replay_by kinds held }
+{
+    match (kinds, held) {
+        (true, _) => TraceRun::HeldKinds,
+        (false, true) => TraceRun::Held,
+        (false, false) => TraceRun::Replay,
+    }
+}
+
+// The choice of a replay by the matches of `replay`.
+fn replay_given(alloc: Global, given: &ArgMatches<'_>) -> Result<Choice, AllocError>
+    ensures { (words : List Text) (matches : Matches) → Answers words matches → Enters matches (codes "replay") given.now → IfOk result (Asks words) }
+{
+    let kinds = given.get_flag("kinds");
+    let held = given.get_flag("held");
+    run_given(alloc, replay_of(kinds, held), given)
+}
+
 // What matches of the words ask for.
 fn chosen(alloc: Global, matches: &ArgMatches<'_>) -> Result<Choice, AllocError>
     requires { (words : List Text) × Answers words matches.now }
@@ -384,14 +406,7 @@ fn chosen(alloc: Global, matches: &ArgMatches<'_>) -> Result<Choice, AllocError>
         return run_given(alloc, TraceRun::Check, given);
     }
     match matches.subcommand_matches("replay") {
-        Some(given) => {
-            let run = if given.get_flag("held") {
-                TraceRun::Held
-            } else {
-                TraceRun::Replay
-            };
-            run_given(alloc, run, given)
-        }
+        Some(given) => replay_given(alloc, given),
         // A command is required, so words without one came to an error before.
         None => unreachable!(),
     }

@@ -12,6 +12,7 @@ ghost use Rattle.tlsf_trace.specs.Replay.{IsRun};
 use crate::class_run::run_classes;
 use crate::command_line::{Choice, choose};
 use crate::fault_report::FaultReport;
+use crate::number_tip::{NUMBER_TIP, have_marked_number};
 use crate::size_run::run_size;
 use crate::trace_run::TraceRun;
 use clap::error::ErrorKind;
@@ -23,7 +24,7 @@ use std::sync::Wait;
 use std::thread::Threads;
 use tlsf_check::check_trace;
 use tlsf_crew::Gate;
-use tlsf_held::measure_trace;
+use tlsf_held::{measure_kinds, measure_trace};
 use tlsf_picture::{Form, draw_trace, draw_trace_as_text, draw_trace_at};
 use tlsf_plot::plot_trace;
 use tlsf_trace::{
@@ -87,6 +88,7 @@ fn traced<T: Threads + Wait + Sync, R: Read, W: Write, G: Gate>(
     match run {
         TraceRun::Replay => replay(alloc, reader, writer),
         TraceRun::Held => measure_trace(alloc, reader, writer),
+        TraceRun::HeldKinds => measure_kinds(alloc, reader, writer),
         TraceRun::Race => race_trace(rt, alloc, reader, writer, gate),
         TraceRun::RaceQueues => race_trace_over_queues(rt, alloc, reader, writer, gate),
         TraceRun::Map => draw_trace(alloc, reader, writer),
@@ -148,8 +150,26 @@ fn show<W: Write>(error: &clap::Error, writer: &mut W) -> Result<(), WriteError>
     written.map_err(|_| WriteError)
 }
 
-// Shows what `clap` has to say, and gives the exit status.
-fn answer<W: Write, E: Write>(error: &clap::Error, writer: &mut W, errors: &mut E) -> u8
+// Says why `clap` refuses the words. Where that is a number with a suffix or separators, a tip says how numbers are written.
+fn refuse<S: AsStr, E: Write>(
+    error: &clap::Error,
+    words: &[S],
+    errors: &mut E,
+) -> Result<(), WriteError> {
+    show(error, errors)?;
+    if matches!(error.kind(), ErrorKind::ValueValidation) && have_marked_number(words) {
+        write_out(errors, NUMBER_TIP.as_bytes())?;
+    }
+    Ok(())
+}
+
+// Shows what `clap` has to say of these words, and gives the exit status.
+fn answer<S: AsStr, W: Write, E: Write>(
+    error: &clap::Error,
+    words: &[S],
+    writer: &mut W,
+    errors: &mut E,
+) -> u8
     ensures { (left : Option (List ℕ)) → ShowsAnswer (kind_of error.now) result
         (streams left (W.contents writer.old) (E.contents errors.old))
         (streams left (W.contents writer.new) (E.contents errors.new)) }
@@ -161,7 +181,7 @@ fn answer<W: Write, E: Write>(error: &clap::Error, writer: &mut W, errors: &mut 
             Err(fault) => report(TraceFault::from(fault), errors),
         },
         _ => {
-            let _ = show(error, errors);
+            let _ = refuse(error, words, errors);
             2
         }
     }
@@ -197,7 +217,8 @@ fn act<T: Threads + Wait + Sync, R: Read, W: Write, E: Write, G: Gate>(
 ///
 /// The status is 0 where the run is done, 1 where a fault ended it, 2 where the words are refused,
 /// and 3 where memory ran out. A fault's line and the text on refused words go to `errors`, where
-/// a write that fails changes nothing. Help and version texts go to `writer`.
+/// a write that fails changes nothing. Help and version texts go to `writer`. Behind a refused number with a suffix or separators,
+/// as `64KiB` or `1,000`, a tip says that numbers are plain digits.
 ///
 /// ```
 /// // words are "tlsf", "classes" and "460"
@@ -246,6 +267,6 @@ pub fn run<T: Threads + Wait + Sync, S: AsStr, R: Read, W: Write, E: Write, G: G
 {
     match choose(alloc, words) {
         Ok(choice) => act(rt, alloc, choice, reader, writer, errors, gate),
-        Err(error) => answer(&error, writer, errors),
+        Err(error) => answer(&error, words, writer, errors),
     }
 }

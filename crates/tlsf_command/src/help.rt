@@ -14,7 +14,8 @@ and frees the first block:
 
 In a file, as first.trace, it is run by 'tlsf replay < first.trace'.
 
-'tlsf replay --held' writes how large the heaps must be for a trace's calls.
+'tlsf replay --held' writes how large the heaps must be for a trace's calls, and
+with '--kinds' the blocks that these hold, as options of 'tlsf size'.
 'tlsf race' replays with the workers of each phase in threads of their own;
 'tlsf race --queues' does so with one queue for the posts to each worker.
 'tlsf map' draws the heaps that a trace leaves, as an SVG file, and
@@ -76,6 +77,17 @@ NoFit (1) to such calls; 'none' says that no heap is so large. The heaps of the
 trace have 64 words. The blocks that were held at once, and the one that was
 asked for, wanted at most 139 words. A block that another worker frees is held
 until its owner takes the post.
+
+With --held --kinds it is one line for each worker, with options of 'tlsf size':
+
+  --sli 4 --blocks 100 --bytes 64 --blocks 4 --bytes 4096
+
+At most 100 blocks of one size class were held at once, of at most 64 bytes, and
+4 of another. Where there are more than 64 classes, a few make a pair. So
+
+  tlsf size $(tlsf replay --held --kinds < TRACE)
+
+writes the words of a heap for the blocks of one worker.
 
 The exit status is 0 where the lines are written, 1 where a fault of the
 trace, of a read or of a write ends the run, and 3 where memory runs out. A

@@ -2,7 +2,8 @@
 //! status.
 //!
 //! [`run`] does what the words ask for. `replay` reads a trace, runs it, and writes the reply lines and a report on each
-//! heap; `replay --held` writes what each worker asks of its heap, and how large that must be for it. `race` replays with each
+//! heap; `replay --held` writes what each worker asks of its heap, and how large that must be for it, and with `--kinds` the kinds of
+//! blocks that it holds, as options of `size`. `race` replays with each
 //! phase run in threads, one for each worker. `map` writes a picture of the heaps that a trace leaves. `check` says what a
 //! trace is, or where its first fault is and what was expected there. A file that is named behind one of these isn't read: a
 //! line tells how it is given as standard input. `classes N` writes the size class and the search class of N words, and
@@ -17,7 +18,7 @@
 //! | 2 | the words of the command line are refused, and the usage is on the error stream; or a file is named, a size has no class of its level, no region is large enough or the options are no pairs, and that line is there |
 //! | 3 | memory ran out; the line `tlsf: out of memory (6)` is on the error stream |
 //!
-//! A write to the error stream that fails changes nothing. [`FaultReport`] is the line of a fault, and its status.
+//! Behind a number with a suffix or separators a tip says how numbers are written. A write to the error stream that fails changes nothing. [`FaultReport`] is the line of a fault, and its status.
 #![tactic(auto)]
 
 mod class_line;
@@ -29,6 +30,7 @@ mod counted;
 mod fault_report;
 mod finer_hint;
 mod help;
+mod number_tip;
 mod race_notice;
 mod region_size;
 mod size_line;

@@ -7,6 +7,8 @@ pub enum TraceRun {
     Replay,
     /// `tlsf replay --held`: write what each worker asks of its heap, and the words of a pool for that.
     Held,
+    /// `tlsf replay --held --kinds`, or `tlsf replay --kinds`: write the kinds of blocks that each worker holds, as options of `tlsf size`.
+    HeldKinds,
     /// `tlsf race`: run each phase in threads, one for each worker, and write its replies and reports.
     Race,
     /// `tlsf race --queues`: do so over queues, one for each worker, in place of lanes.
@@ -34,6 +36,7 @@ impl TraceRun {
         match self {
             TraceRun::Replay => "replay",
             TraceRun::Held => "replay --held",
+            TraceRun::HeldKinds => "replay --held --kinds",
             TraceRun::Race => "race",
             TraceRun::RaceQueues => "race --queues",
             TraceRun::Map => "map",

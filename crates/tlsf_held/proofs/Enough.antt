@@ -6,7 +6,6 @@ use Rattle.std.proofs.lemmas.Bool.{cases_eq, leb-true}
 use Rattle.std.proofs.lemmas.Bool.Decides.{nat_tests}
 use Rattle.std.proofs.lemmas.List.FromFn.{get_or-map-range_with_len, length-map-range_with_len}
 use Rattle.tlsf_class.specs.Classes.{IsLevel, most_words}
-use Rattle.tlsf_class.proofs.TwoLevels.{level_4, level_5}
 use Rattle.tlsf_heap.specs.Blocks.{HeapState, want}
 use Rattle.tlsf_heap.specs.Calls.{Call, Allocate, Release, Write, Resize, Read, Got, answered, opened, read_of, run}
 use Rattle.tlsf_heap.specs.declared.refusal.Refusal.{Refusal}
@@ -19,17 +18,10 @@ use Rattle.tlsf_crew.specs.model.World.{World, heap_in, replies, no_heap}
 use Rattle.tlsf_crew.proofs.lemmas.histories.AllEntries.{replies_tell}
 use Rattle.tlsf_yard_laws.proofs.Told.{never_refuses}
 use Rattle.tlsf_lines.specs.Events.{events_of}
-use Rattle.tlsf_lines.specs.Versions.{level_of}
-use Rattle.tlsf_lines.specs.declared.version.Version.{Version}
-use Rattle.tlsf_lines.specs.declared.version.Version.TheVariants.{One, Two}
 use Rattle.tlsf_trace.specs.Output.{level_in, yard_of}
 use Rattle.tlsf_held.specs.HeldLines.{held_region}
 use Rattle.tlsf_held.specs.Measures.{HeldWordsSuffice}
-
--- a version names a level
-is_level : (version : Version) → IsLevel (level_of version)
-is_level One = level_4
-is_level Two = level_5
+use Rattle.tlsf_held.proofs.Measured.{is_level}
 
 -- a region that has the words is one for which the law speaks
 record HasWords (sli most len words : ℕ) : Type 0 where

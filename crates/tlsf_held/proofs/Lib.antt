@@ -2,10 +2,20 @@
 --   Lent: loans as a ledger
 --   LeastBounds: what is tallied is the least bounds of the calls that the entries tell
 --   MostWanted: what is accounted is the most words that they want at once
+--   RowEntries: what is told of rows, by the calls on the heap
+--   LeastRows: it is the least that the calls keep within
+--   FirstFew: the first list of rows that is short enough
+--   TablesTold: it is the table that they keep to
 --   Measured: what is told of a run's entries is what the trace asks for
 --   Enough: the words of a pool are enough
+--   KindsEnough: and so are those of a table of kinds
 pub mod Lent
 pub mod LeastBounds
 pub mod MostWanted
+pub mod RowEntries
+pub mod LeastRows
+pub mod FirstFew
+pub mod TablesTold
 pub mod Measured
 pub mod Enough
+pub mod KindsEnough

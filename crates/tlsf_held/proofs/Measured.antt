@@ -9,36 +9,72 @@ use Rattle.tlsf_crew.specs.histories.History.{answers_on, calls_on}
 use Rattle.tlsf_crew.specs.model.World.{World, replies}
 use Rattle.tlsf_lines.specs.Events.{events_of}
 use Rattle.tlsf_lines.specs.Trace.{Trace}
+use Rattle.tlsf_lines.specs.Versions.{level_of}
 use Rattle.tlsf_lines.specs.declared.header.Header.{Header}
-use Rattle.tlsf_trace.specs.Output.{level_in, run_at, yard_of}
+use Rattle.tlsf_lines.specs.declared.version.Version.{Version}
+use Rattle.tlsf_lines.specs.declared.version.Version.TheVariants.{One, Two}
+use Rattle.tlsf_class.specs.Classes.{IsLevel}
+use Rattle.tlsf_class.proofs.TwoLevels.{level_4, level_5}
+use Rattle.tlsf_trace.specs.Output.{level_in, run_at, run_of, yard_of}
 use Rattle.tlsf_held.specs.HeldLines.{held_text}
-use Rattle.tlsf_held.specs.Loans.{account_of, IsMostWanted}
-use Rattle.tlsf_held.specs.Measures.{AreLeastBounds, Measures}
+use Rattle.tlsf_held.specs.KindLines.{kinds_text}
+use Rattle.tlsf_held.specs.Loans.{account_of}
+use Rattle.tlsf_held.specs.Measures.{Measures, TellsKinds}
+use Rattle.tlsf_held.specs.RowTallies.{table_of}
+use Rattle.tlsf_held.specs.Runs.{IsRunOf}
 use Rattle.tlsf_held.specs.Tallies.{tally_of}
 use Rattle.tlsf_held.proofs.LeastBounds.{tally_bounds}
 use Rattle.tlsf_held.proofs.MostWanted.{account_bounds}
+use Rattle.tlsf_held.proofs.TablesTold.{table_is}
+
+-- a version names a level
+pub is_level : (version : Version) → IsLevel (level_of version)
+is_level One = level_4
+is_level Two = level_5
+
+-- what a new yard of a trace answers to its events is its run
+pub run_told : {sli : ℕ} (trace : Trace) (header : Header) (w : World sli) (events : List Event) (entries : List Entry) (made : List (Option Name))
+    → level_in trace.header ≡ sli → header ≡ trace.header → w ≡ yard_of header → events ≡ events_of trace → entries ≡ (replies w events).entries
+    → made ≡ (replies w events).made → IsRunOf trace made entries
+run_told {sli} trace header w events entries made level_is header_is world_is events_are entries_are made_is =
+    let yard : w ≡ yard_of trace.header = world_is ∙ ap yard_of header_is in
+    subst (λ (n : ℕ). (made ≡ (run_at n trace).made) × (entries ≡ (run_at n trace).entries)) (sym level_is) (
+      made_is ∙ ap₂ (λ (v : World sli) (es : List Event). (replies v es).made) yard events_are,
+      entries_are ∙ ap₂ (λ (v : World sli) (es : List Event). (replies v es).entries) yard events_are,
+    )
 
 -- the lines of a run's tallies are those of the trace
-pub tallies_measure : {sli : ℕ} (trace : Trace) (header : Header) (w : World sli) (events : List Event) (entries : List Entry) (made : List (Option Name)) (text : List ℕ)
-    → level_in trace.header ≡ sli → header ≡ trace.header → w ≡ yard_of header → events ≡ events_of trace → entries ≡ (replies w events).entries
-    → made ≡ (replies w events).made
+pub tallies_measure : (trace : Trace) (sli : ℕ) (header : Header) (entries : List Entry) (made : List (Option Name)) (text : List ℕ)
+    → level_in trace.header ≡ sli → header ≡ trace.header → IsRunOf trace made entries
     → text ≡ held_text sli header.words (λ j. (tally_of j entries).most) (λ j. (tally_of j entries).longest) (λ j. (account_of j made entries).most) header.workers → Measures trace text
-tallies_measure {sli} trace header w events entries made text level_is header_is world_is events_are entries_are made_is text_is =
-    let run = run_at sli trace in
-    let yard : w ≡ yard_of trace.header = world_is ∙ ap yard_of header_is in
-    let same : entries ≡ run.entries = entries_are ∙ ap₂ (λ (v : World sli) (es : List Event). (replies v es).entries) yard events_are in
-    let names : made ≡ run.made = made_is ∙ ap₂ (λ (v : World sli) (es : List Event). (replies v es).made) yard events_are in
+tallies_measure trace sli header entries made text level_is header_is is text_is =
+    let run = run_of trace in
+    let level = level_in trace.header in
     let count = length-map-range_with_len (λ (i : ℕ). heap.opened i trace.header.words 0) 0 trace.header.workers in
-    let lines = λ (h : Header) (es : List Entry). held_text sli h.words (λ j. (tally_of j es).most) (λ j. (tally_of j es).longest) (λ j. (account_of j made es).most) h.workers in
-    let named = λ (m : List (Option Name)). held_text sli trace.header.words (λ j. (tally_of j run.entries).most) (λ j. (tally_of j run.entries).longest) (λ j. (account_of j m run.entries).most) trace.header.workers in
+    let lines = λ (n : ℕ) (h : Header) (m : List (Option Name)) (es : List Entry).
+    held_text n h.words (λ j. (tally_of j es).most) (λ j. (tally_of j es).longest) (λ j. (account_of j m es).most) h.workers in
     record {
       most = λ j. (tally_of j run.entries).most;
       len = λ j. (tally_of j run.entries).longest;
       wanted = λ j. (account_of j run.made run.entries).most;
-      bounds = λ j inside. subst (λ (n : ℕ). let r = run_at n trace in AreLeastBounds (calls_on j r.made r.entries) (answers_on j r.entries) (tally_of j run.entries).most (tally_of j run.entries).longest) (sym level_is)
-          (tally_bounds (yard_of {sli = sli} trace.header) (events_of trace) j (omega (arith, count, inside)));
-      words_wanted = λ j inside. subst (λ (n : ℕ). let r = run_at n trace in IsMostWanted (calls_on j r.made r.entries) (answers_on j r.entries) (account_of j run.made run.entries).most) (sym level_is)
-          (account_bounds (yard_of {sli = sli} trace.header) (events_of trace) j (omega (arith, count, inside)));
-      written = subst (λ (n : ℕ). text ≡ held_text n trace.header.words (λ j. (tally_of j run.entries).most) (λ j. (tally_of j run.entries).longest) (λ j. (account_of j run.made run.entries).most) trace.header.workers) (sym level_is)
-          (text_is ∙ (ap₂ lines header_is same ∙ ap named names));
+      bounds = λ j inside. tally_bounds (yard_of {sli = level} trace.header) (events_of trace) j (omega (arith, count, inside));
+      words_wanted = λ j inside. account_bounds (yard_of {sli = level} trace.header) (events_of trace) j (omega (arith, count, inside));
+      written = text_is ∙ (ap₂ (λ (n : ℕ) (h : Header). lines n h made entries) (sym level_is) header_is
+          ∙ ap₂ (λ (m : List (Option Name)) (es : List Entry). lines level trace.header m es) is.0 is.1);
+    }
+
+-- and so are those of its tables
+pub tables_told : (trace : Trace) (sli : ℕ) (header : Header) (entries : List Entry) (made : List (Option Name)) (text : List ℕ)
+    → level_in trace.header ≡ sli → header ≡ trace.header → IsRunOf trace made entries
+    → text ≡ kinds_text sli (λ j. table_of sli j made entries) header.workers → TellsKinds trace text
+tables_told trace sli header entries made text level_is header_is is text_is =
+    let run = run_of trace in
+    let level = level_in trace.header in
+    let count = length-map-range_with_len (λ (i : ℕ). heap.opened i trace.header.words 0) 0 trace.header.workers in
+    let lines = λ (n : ℕ) (h : Header) (m : List (Option Name)) (es : List Entry). kinds_text n (λ j. table_of n j m es) h.workers in
+    record {
+      tables = λ j. table_of level j run.made run.entries;
+      each = λ j inside. table_is (is_level trace.header.version) (yard_of {sli = level} trace.header) (events_of trace) j (omega (arith, count, inside));
+      written = text_is ∙ (ap₂ (λ (n : ℕ) (h : Header). lines n h made entries) (sym level_is) header_is
+          ∙ ap₂ (λ (m : List (Option Name)) (es : List Entry). lines level trace.header m es) is.0 is.1);
     }

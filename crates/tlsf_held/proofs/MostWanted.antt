@@ -29,12 +29,12 @@ use Rattle.tlsf_held.proofs.LeastBounds.{one_told}
 -- ---- by the calls on the heap and its answers
 
 -- a block resized, or not
-abbrev resized_after : Account → Name → ℕ → heap.Answer → Account
+abbrev pub resized_after : Account → Name → ℕ → heap.Answer → Account
 resized_after a name len (heap.Resized (Ok done)) = with_resized a len (Some name)
 resized_after a name len answer = a
 
 -- a call more
-abbrev account_after : Account → heap.Call → heap.Answer → Account
+abbrev pub account_after : Account → heap.Call → heap.Answer → Account
 account_after a (heap.Allocate len) answer = record { ledger = ledger_after a.ledger (heap.Allocate len) answer; most = max a.most (want len + wanted_in a.ledger) }
 account_after a (heap.Release name) answer = record a { ledger = ledger_after a.ledger (heap.Release name) answer }
 account_after a (heap.Write name at bytes) answer = a
@@ -42,7 +42,7 @@ account_after a (heap.Resize name len) answer = resized_after a name len answer
 account_after a (heap.Read name at n) answer = a
 
 -- what an entry may tell of a call
-abbrev account_with : Account → Option heap.Call → Option heap.Answer → Account
+abbrev pub account_with : Account → Option heap.Call → Option heap.Answer → Account
 account_with a None answer = a
 account_with a (Some call) None = a
 account_with a (Some call) (Some answer) = account_after a call answer
@@ -96,7 +96,7 @@ of_post a name (Ok done) = refl
 of_post a name (Err why) = refl
 
 -- what is accounted of an entry that tells an answer of its worker's heap where it tells a call
-entry_accounted : (made : List (Option Name)) (at : ℕ) (a : Account) (call : Call) (reply : Reply) → is_some (call_on_own made at call reply) ≡ is_some (answer_told call reply)
+pub entry_accounted : (made : List (Option Name)) (at : ℕ) (a : Account) (call : Call) (reply : Reply) → is_some (call_on_own made at call reply) ≡ is_some (answer_told call reply)
     → accounted made a call reply ≡ account_with a (call_on_own made at call reply) (answer_told call reply)
 entry_accounted made at a (Allocate len) (Made name) even = refl
 entry_accounted made at a (Allocate len) Freed even = absurd (true≢false even)
@@ -212,14 +212,14 @@ freed_words ledger name (heap.Resized r) = omega arith
 freed_words ledger name (heap.Got r) = omega arith
 
 -- the ledger is that of the law
-written_ledger : (ledger : Ledger) (name : Name) (at : ℕ) (bytes : List ℕ) (answer : heap.Answer) → ledger ≡ ledger_after ledger (heap.Write name at bytes) answer
+pub written_ledger : (ledger : Ledger) (name : Name) (at : ℕ) (bytes : List ℕ) (answer : heap.Answer) → ledger ≡ ledger_after ledger (heap.Write name at bytes) answer
 written_ledger ledger name at bytes (heap.Allocated r) = refl
 written_ledger ledger name at bytes (heap.Released r) = refl
 written_ledger ledger name at bytes (heap.Written r) = refl
 written_ledger ledger name at bytes (heap.Resized r) = refl
 written_ledger ledger name at bytes (heap.Got r) = refl
 
-read_ledger : (ledger : Ledger) (name : Name) (at n : ℕ) (answer : heap.Answer) → ledger ≡ ledger_after ledger (heap.Read name at n) answer
+pub read_ledger : (ledger : Ledger) (name : Name) (at n : ℕ) (answer : heap.Answer) → ledger ≡ ledger_after ledger (heap.Read name at n) answer
 read_ledger ledger name at n (heap.Allocated r) = refl
 read_ledger ledger name at n (heap.Released r) = refl
 read_ledger ledger name at n (heap.Written r) = refl
@@ -234,7 +234,7 @@ resized_ledger a name len (heap.Resized (Ok done)) = refl
 resized_ledger a name len (heap.Resized (Err why)) = refl
 resized_ledger a name len (heap.Got r) = refl
 
-ledger_is : (a : Account) (call : heap.Call) (answer : heap.Answer) → (account_after a call answer).ledger ≡ ledger_after a.ledger call answer
+pub ledger_is : (a : Account) (call : heap.Call) (answer : heap.Answer) → (account_after a call answer).ledger ≡ ledger_after a.ledger call answer
 ledger_is a (heap.Allocate len) answer = refl
 ledger_is a (heap.Release name) answer = refl
 ledger_is a (heap.Write name at bytes) answer = written_ledger a.ledger name at bytes answer

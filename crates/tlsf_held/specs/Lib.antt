@@ -1,8 +1,13 @@
 -- What the clauses of public functions cite: the lines, and what they tell.
 pub mod HeldLines
+pub mod KindLines
+pub mod KindTables
 pub mod Loans
 pub mod Measures
+pub mod Rows
 -- What the clauses of private functions cite besides.
 pub mod Lent
 pub mod Replies
+pub mod RowTallies
+pub mod Runs
 pub mod Tallies

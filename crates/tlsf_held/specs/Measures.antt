@@ -1,12 +1,16 @@
 -- What a trace tells that its workers asked of their heaps.
-use Rattle.std.specs.Prelude.{◌≡◌, ◌↔◌, ℕ, ◌<◌, ◌≤◌, List, Option, Some, Result}
+use Rattle.std.specs.Prelude.{◌≡◌, ◌↔◌, ℕ, ◌<◌, ◌≤◌, IsTrue, List, Option, Some, Result}
 use Rattle.std.specs.List.{AllByRecursion}
 use Rattle.tlsf_heap.specs.Calls.{Call, Answer}
 use Rattle.tlsf_heap.specs.Lawful.{IsRegion}
 use Rattle.tlsf_laws.specs.Pools.{AreModest, HasRoomFor}
 use Rattle.tlsf_crew.specs.histories.History.{answers_on, calls_on}
+use Rattle.tlsf_laws.specs.Kinds.{kinds_words, HasClass, StaysFour, are_fours}
 use Rattle.tlsf_held.specs.HeldLines.{held_region, held_text}
+use Rattle.tlsf_held.specs.KindLines.{kinds_text}
+use Rattle.tlsf_held.specs.KindTables.{kinds_of, IsTable}
 use Rattle.tlsf_held.specs.Loans.{IsMostWanted}
+use Rattle.tlsf_held.specs.declared.row.Row.{Row}
 use Rattle.tlsf_lines.specs.Trace.{Trace}
 use Rattle.tlsf_lines.specs.declared.trace_fault.TraceFault.{TraceFault}
 use Rattle.tlsf_trace.specs.Output.{level_in, run_of}
@@ -45,4 +49,28 @@ IsMeasurement = IsRun Measures
 abbrev pub HeldWordsSuffice : Type 0
 HeldWordsSuffice = (trace : Trace) (j most len words : ℕ) → IsRegion (level_in trace.header) trace.header.words → j < trace.header.workers
     → AreBoundsOf trace j most len → held_region (level_in trace.header) most len ≡ Some words → words ≤ trace.header.words
+    → AllByRecursion HasRoomFor (answers_on j (run_of trace).entries)
+
+-- ---- tables of kinds
+
+-- the table that the calls on heap j keep to
+abbrev pub IsTableOf : Trace → ℕ → List Row → Type 0
+IsTableOf trace j rows = let run = run_of trace in IsTable (level_in trace.header) (calls_on j run.made run.entries) (answers_on j run.entries) rows
+
+-- the text has a line for each worker, in rising number, with the table that the calls on its heap keep to
+pub record TellsKinds (trace : Trace) (text : List ℕ) : Type 0 where
+  pub tables : ℕ → List Row
+  pub each : (j : ℕ) → j < trace.header.workers → IsTableOf trace j (tables j)
+  pub written : text ≡ kinds_text (level_in trace.header) tables trace.header.workers
+
+-- a run of a trace that puts out the kinds of blocks that its workers hold
+abbrev pub IsKindMeasurement : Result Summary TraceFault → Option (List ℕ) → Option (List ℕ) → Option (List ℕ) → Option (List ℕ) → Type 0
+IsKindMeasurement = IsRun TellsKinds
+
+-- where the heaps of a trace have the words of this table, no request of the worker's is answered NoFit
+abbrev pub HeldKindsSuffice : Type 0
+HeldKindsSuffice = (trace : Trace) (j : ℕ) (rows : List Row) → IsRegion (level_in trace.header) trace.header.words → j < trace.header.workers
+    → IsTableOf trace j rows → let kinds = kinds_of rows in AllByRecursion (HasClass (level_in trace.header)) kinds
+    → kinds_words (level_in trace.header) kinds ≤ trace.header.words
+    → (IsTrue (are_fours kinds) → AllByRecursion StaysFour (calls_on j (run_of trace).made (run_of trace).entries))
     → AllByRecursion HasRoomFor (answers_on j (run_of trace).entries)

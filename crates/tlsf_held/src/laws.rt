@@ -1,4 +1,4 @@
-ghost use Rattle.tlsf_held.specs.Measures.{HeldWordsSuffice};
+ghost use Rattle.tlsf_held.specs.Measures.{HeldKindsSuffice, HeldWordsSuffice};
 
 /// A worker whose heap has the words that its line names was never refused for want of room in that trace.
 ///
@@ -11,4 +11,16 @@ ghost use Rattle.tlsf_held.specs.Measures.{HeldWordsSuffice};
 /// ```
 pub fn held_words_suffice()
     ensures { HeldWordsSuffice }
+{}
+
+/// A worker whose heap has the words of the table of kinds that its calls keep to was never refused for want of room in that trace.
+///
+/// The words are those of `tlsf_laws::kinds_suffice`, which `tlsf size` writes for the table's options. Where all rows are of blocks of
+/// up to 8 bytes, no block may be resized to more.
+///
+/// ```text
+/// tlsf 1 1 64 1, a 0 1 100, a 0 2 8, f 0 1:   --sli 4 --blocks 1 --bytes 8 --blocks 1 --bytes 100
+/// ```
+pub fn held_kinds_suffice()
+    ensures { HeldKindsSuffice }
 {}

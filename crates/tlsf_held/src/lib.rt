@@ -4,6 +4,8 @@
 //! that were held at once, the longest request, and the words of the region in which such calls are never refused for want of
 //! room, beside the words that the trace gives each heap and the most words that the held blocks wanted at once. No reply line is written.
 //!
+//! [`measure_kinds`] writes for each worker the table of the kinds of blocks that it held, as options of `tlsf size`.
+//!
 //! Held is what the law for a heap of a yard counts (`tlsf_yard_laws::yard_never_refuses`): the accepted allocates of the heap's own worker less the
 //! releases that its heap accepted, at once or in a drain. So a block that another worker has released is held until its owner drains.
 //!
@@ -11,11 +13,14 @@
 //! `Measures` of `specs/Measures.antt` joins them with the laws: the numbers of a line are the least bounds within which the worker's calls keep.
 #![tactic(auto)]
 
+mod kind_lines;
 mod laws;
 mod lines;
 mod loans;
 mod measuring;
+mod row;
+mod rows;
 mod tally;
 
-pub use laws::held_words_suffice;
-pub use measuring::measure_trace;
+pub use laws::{held_kinds_suffice, held_words_suffice};
+pub use measuring::{measure_kinds, measure_trace};

@@ -1,9 +1,14 @@
-ghost use Rattle.std.specs.Prelude.{◌≡◌, ◌≤◌, ◌*◌, ◌^◌, length, map, vec_len};
+ghost use Rattle.std.specs.Prelude.{◌≡◌, ◌+◌, ◌<◌, ◌≤◌, ◌*◌, ◌^◌, length, map, vec_len};
+ghost use Rattle.tlsf_class.specs.Classes.{IsLevel};
 ghost use Rattle.tlsf_crew.specs.model.World as crew;
 ghost use Rattle.tlsf_held.specs.Lent as lent;
 ghost use Rattle.tlsf_held.specs.Loans as told;
+ghost use Rattle.tlsf_held.specs.Rows as rows;
 ghost use Rattle.tlsf_laws.specs.Contents as laws;
+ghost use Rattle.tlsf_laws.specs.Kinds.{lengths};
 
+use crate::row::Row;
+use crate::rows::row_of;
 use std::alloc::{AllocError, Global};
 use std::marker::Model;
 use tlsf_crew::{Call, Entry, Reply, Target};
@@ -55,6 +60,22 @@ fn words_of(loans: &[Loan]) -> u128
         words += u128::from(want(loan.len));
     }
     words
+}
+
+// What the loans come to in a row, where 2^grain classes make one.
+fn row_in<const SLI: u32>(loans: &[Loan], grain: u32, at: usize) -> Row
+    requires level { IsLevel SLI }
+    requires grain { grain ≤ 4 }
+    ensures row { result ≡ rows.row_in (rows.row_of SLI grain) at (lengths (lent.ledger_of loans.now)) }
+    ensures few { result.most + 1 < 2 ^ 64 }
+{
+    let mut row = Row::new();
+    for loan in loans {
+        if row_of::<SLI>(grain, loan.len) == at {
+            row = row.with_one(loan.len);
+        }
+    }
+    row
 }
 
 // Takes the loans of a name out.
@@ -132,8 +153,8 @@ impl Loans {
     ghost use Rattle.std.specs.Prelude.{◌≡◌, OnOk, IfOk};
     ghost use Rattle.tlsf_held.specs.Loans.{account_of, accounted, no_loans, with_asked, with_given, with_resized, with_taken};
 
-    // Of no call.
-    fn new(alloc: Global) -> Loans
+    /// Of no call.
+    pub fn new(alloc: Global) -> Loans
         ensures { result ≡ no_loans }
     {
         Loans {
@@ -209,8 +230,18 @@ impl Loans {
         }
     }
 
-    // Notes an entry of the worker.
-    fn note(&mut self, made: &[Option<Name>], entry: &Entry) -> Result<(), AllocError>
+    /// What the held blocks come to in a row, where 2^grain classes make one.
+    pub fn row_in<const SLI: u32>(&self, grain: u32, at: usize) -> Row
+        requires level { IsLevel SLI }
+        requires grain { grain ≤ 4 }
+        ensures row { result ≡ rows.row_in (rows.row_of SLI grain) at (lengths self.now.ledger) }
+        ensures few { result.most + 1 < 2 ^ 64 }
+    {
+        row_in::<SLI>(&self.items, grain, at)
+    }
+
+    /// Notes an entry of the worker.
+    pub fn note(&mut self, made: &[Option<Name>], entry: &Entry) -> Result<(), AllocError>
         ensures { OnOk result (self.new ≡ accounted made.now self.old entry.now.call entry.now.reply) }
     {
         match entry.call {

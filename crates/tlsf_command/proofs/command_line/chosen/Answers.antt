@@ -1,10 +1,10 @@
 use Rattle.std.proofs.Common.{◌≡◌, Option, Some, None, codes, refl, sym, true≢false}
 use Rattle.std.specs.Prelude.{IsSome}
 use Rattle.std.proofs.lemmas.Result.{IfOk-weaker}
-use Rattle.tlsf_command.specs.declared.trace_run.TraceRun.TheVariants.{Replay, Held, Race, RaceQueues, Check}
+use Rattle.tlsf_command.specs.declared.trace_run.TraceRun.TheVariants.{Race, RaceQueues, Check}
 use Rattle.tlsf_picture.specs.declared.form.Form.TheVariants.{Svg, Text as Characters}
 use Rattle.tlsf_command.proofs.ChosenCommands.{asks_classes, asks_map, asks_run, asks_size, flag_has, flag_lacks, some_named}
-use Rattle.tlsf_command.proofs.command_line.chosen.Goals.{then-get_flag, else-get_flag, then-get_flag-2, else-get_flag-2, then-get_flag-3, else-get_flag-3}
+use Rattle.tlsf_command.proofs.command_line.chosen.Goals.{then-get_flag, else-get_flag, then-get_flag-2, else-get_flag-2}
 use Rattle.tlsf_command.proofs.command_line.chosen.Goals as goal
 
 pub returns-in-Some : goal.returns-in-Some
@@ -70,10 +70,4 @@ unreachable-requires c =
 pub returns : goal.returns
 returns c = λ words answers.
     let replay = c.in-Some-subcommand_matches-6 in
-    let flag = c.get_flag-in-Some-subcommand_matches-6 in
-    IfOk-weaker c.run_given-in-Some-subcommand_matches-6.result _ _ (λ choice on. elim c.if-get_flag-3.branch [
-      | then-get_flag-3 w ↦ asks_run words c.args.matches.now replay.given.now Held choice answers (replay.ensures.found.0 refl) replay.ensures.rows
-          (flag_has words c.args.matches.now replay.given.now (codes "held") flag.result answers replay.ensures.rows flag.ensures.other flag.ensures.none w.if-get_flag-3.true) (λ _. tt) (rw w.run-is at on)
-      | else-get_flag-3 w ↦ asks_run words c.args.matches.now replay.given.now Replay choice answers (replay.ensures.found.0 refl) replay.ensures.rows
-          (flag_lacks words c.args.matches.now replay.given.now (codes "held") flag.result answers replay.ensures.rows flag.ensures.value w.if-get_flag-3.false) (λ _. tt) (rw w.run-is at on)
-    ]) c.run_given-in-Some-subcommand_matches-6.ensures
+    c.replay_given.ensures words c.args.matches.now answers (replay.ensures.found.0 refl, replay.ensures.rows)

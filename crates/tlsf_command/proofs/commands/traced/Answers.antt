@@ -14,6 +14,12 @@ returns-in-Held-clause-ran g c = rw c.in-Held.is c.measure_trace.ensures
 pub returns-in-Held-clause-noted : goal.returns-in-Held-clause-noted
 returns-in-Held-clause-noted g c = rw c.in-Held.is c.requires
 
+pub returns-in-HeldKinds-clause-ran : goal.returns-in-HeldKinds-clause-ran
+returns-in-HeldKinds-clause-ran g c = rw c.in-HeldKinds.is c.measure_kinds.ensures
+
+pub returns-in-HeldKinds-clause-noted : goal.returns-in-HeldKinds-clause-noted
+returns-in-HeldKinds-clause-noted g c = rw c.in-HeldKinds.is c.requires
+
 pub returns-in-Race-clause-ran : goal.returns-in-Race-clause-ran
 returns-in-Race-clause-ran g c = rw c.in-Race.is c.race_trace.ensures
 

@@ -1,0 +1,9 @@
+use Rattle.std.proofs.Common.{◌≡◌, ◌≤◌, take}
+use Rattle.tlsf_laws.specs.Kinds.{lengths}
+use Rattle.tlsf_held.specs.Lent.{ledger_of}
+use Rattle.tlsf_held.specs.Rows.{row_in, row_of}
+use Rattle.tlsf_held.proofs.loans.row_in.Given as goal
+
+-- what the loans so far come to
+abbrev pub invariant-loop-loan : goal.invariant-loop-loan
+invariant-loop-loan g l = record { is : l.row ≡ row_in (row_of g.row.SLI l.grain) l.at (lengths (ledger_of (take l.loan-index l.loans))); few : l.row.most ≤ l.loan-index }
