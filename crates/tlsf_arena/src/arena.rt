@@ -593,6 +593,20 @@ impl<const SLI: u32, const UNIT: usize> Arena<SLI, UNIT> {
         self.heap.report()
     }
 
+    /// How many units are free, all told: a walk over all blocks, as [`report`](Arena::report).
+    ///
+    /// ```text
+    /// arena.free_units()                       // of a new arena of 64 units: 64
+    /// ```
+    pub fn free_units(&mut self) -> u32
+        ensures free { result ≡ (report_of SLI self.old.heap).free_words }
+        ensures same { SameArena self.old self.new }
+        ensures touches { self.new.touches ≤ self.old.touches + 2 * length self.old.heap.blocks }
+        ensures touches_rise { self.old.touches ≤ self.new.touches }
+    {
+        self.report().free_words
+    }
+
     /// The block that begins at a unit, None where none does. Its size is in units, those that good fit gave it beyond the wanted ones with
     /// them. The next begins at its end, `at + size`, so that a walk from unit 0 meets all blocks. Takes no memory.
     ///
