@@ -182,6 +182,8 @@ impl<const SLI: u32, const UNIT: usize> Arena<SLI, UNIT> {
     /// let block = arena.allocate(100)?;        // 7 units: 112 bytes
     /// arena.allocate(1000) == Err(Refusal::NoFit)
     /// ```
+    // Always inline: behind a call the answer goes through memory.
+    #[inline(always)]
     pub fn allocate(&mut self, len: u32) -> Result<Block<UNIT>, Refusal>
         ensures answer { MatchResult result (λ b. (requested SLI UNIT self.old.heap len).answer ≡ Ok b.name) (λ why. (requested SLI UNIT self.old.heap len).answer ≡ Err why) }
         ensures heap { self.new.heap ≡ (requested SLI UNIT self.old.heap len).heap }
@@ -697,14 +699,14 @@ fn place_of(ptr: *mut u8, base: *mut u8, units: u32, unit: usize) -> u32
     ensures { result < units }
 {
     let mut at = 0u32;
-    let mut end = units;
-    while at + 1 < end {
-        let middle = at + (end - at) / 2;
-        if lies_before(ptr, base, grains_before(middle, unit)) {
-            end = middle;
-        } else {
+    let mut count = units;
+    'halves: while count > 1 {
+        let half = count / 2;
+        let middle = at + half;
+        if !lies_before(ptr, base, grains_before(middle, unit)) {
             at = middle;
         }
+        count -= half;
     }
     at
 }
