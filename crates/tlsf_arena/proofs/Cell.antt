@@ -24,10 +24,10 @@ use Rattle.core.proofs.option.Option.TheLaws.{the_row_laws as option_laws}
 use Rattle.core.proofs.cell.Inside.{Good, round, wraps, unwraps}
 use Rattle.linked_list_allocator.specs.Region.{Region}
 use Rattle.linked_list_allocator.specs.Ownership.{fields_with}
-use Rattle.tlsf_arena.specs.contracts.arena.Arena as arena
+use Rattle.tlsf_arena.specs.contracts.boxed.BoxedArena as arena
 use Rattle.tlsf_arena.specs.contracts.slot.Slot as slot
 use Rattle.tlsf_arena.specs.contracts.slot.Slot.TheInside as inside
-use Rattle.tlsf_arena.proofs.arena.Arena.TheLaws as arena_laws
+use Rattle.tlsf_arena.proofs.boxed.BoxedArena.TheLaws as arena_laws
 
 module _ (sli u : ℕ) where
   abbrev pub Level : RattleType

@@ -182,6 +182,8 @@ impl<const SLI: u32, const UNIT: usize> Arena<SLI, UNIT> {
     /// let block = arena.allocate(100)?;        // 7 units: 112 bytes
     /// arena.allocate(1000) == Err(Refusal::NoFit)
     /// ```
+    // Always inline: behind a call the answer goes through memory.
+    #[inline(always)]
     pub fn allocate(&mut self, len: u32) -> Result<Block<UNIT>, Refusal>
         ensures answer { MatchResult result (λ b. (requested SLI UNIT self.old.heap len).answer ≡ Ok b.name) (λ why. (requested SLI UNIT self.old.heap len).answer ≡ Err why) }
         ensures heap { self.new.heap ≡ (requested SLI UNIT self.old.heap len).heap }
@@ -593,6 +595,20 @@ impl<const SLI: u32, const UNIT: usize> Arena<SLI, UNIT> {
         self.heap.report()
     }
 
+    /// How many units are free, all told: a walk over all blocks, as [`report`](Arena::report).
+    ///
+    /// ```text
+    /// arena.free_units()                       // of a new arena of 64 units: 64
+    /// ```
+    pub fn free_units(&mut self) -> u32
+        ensures free { result ≡ (report_of SLI self.old.heap).free_words }
+        ensures same { SameArena self.old self.new }
+        ensures touches { self.new.touches ≤ self.old.touches + 2 * length self.old.heap.blocks }
+        ensures touches_rise { self.old.touches ≤ self.new.touches }
+    {
+        self.report().free_words
+    }
+
     /// The block that begins at a unit, None where none does. Its size is in units, those that good fit gave it beyond the wanted ones with
     /// them. The next begins at its end, `at + size`, so that a walk from unit 0 meets all blocks. Takes no memory.
     ///
@@ -683,14 +699,14 @@ fn place_of(ptr: *mut u8, base: *mut u8, units: u32, unit: usize) -> u32
     ensures { result < units }
 {
     let mut at = 0u32;
-    let mut end = units;
-    while at + 1 < end {
-        let middle = at + (end - at) / 2;
-        if lies_before(ptr, base, grains_before(middle, unit)) {
-            end = middle;
-        } else {
+    let mut count = units;
+    'halves: while count > 1 {
+        let half = count / 2;
+        let middle = at + half;
+        if !lies_before(ptr, base, grains_before(middle, unit)) {
             at = middle;
         }
+        count -= half;
     }
     at
 }

@@ -20,6 +20,7 @@
 
 mod arena;
 mod block;
+mod boxed;
 mod buffer;
 mod local;
 mod memory;

@@ -7,6 +7,7 @@ ghost use Rattle.tlsf_arena.specs.Ownership.{block_token};
 
 use crate::arena::Arena;
 use crate::block::Block;
+use crate::boxed::BoxedArena;
 use crate::buffer::Buffer;
 use crate::memory::GRAIN;
 use crate::piece::Piece;
@@ -46,8 +47,12 @@ impl<const SLI: u32, const UNIT: usize> LocalArena<SLI, UNIT> {
         ensures bad_size { IsErrOf result OpenFault.BadSize ↔ ¬ (IsRegion SLI units) }
         ensures not_worn { ¬ (IsErrOf result OpenFault.Worn) }
     {
+        let arena = Arena::open(alloc, id, units)?;
+        let Ok(arena) = Box::new(alloc, arena) else {
+            return Err(OpenFault::NoMemory);
+        };
         Ok(LocalArena {
-            slot: Slot::new(Arena::open(alloc, id, units)?),
+            slot: Slot::new(BoxedArena { arena }),
             last: Cell::new(0),
             before_last: Cell::new(0),
         })
@@ -59,11 +64,11 @@ impl<const SLI: u32, const UNIT: usize> LocalArena<SLI, UNIT> {
     /// arena.free_units()                       // of a new arena of 64 units: 64
     /// ```
     pub fn free_units(&self) -> u32 {
-        let Some(mut arena) = self.slot.replace(None) else {
+        let Some(mut boxed) = self.slot.replace(None) else {
             return 0;
         };
-        let free = arena.report().free_words;
-        self.slot.replace(Some(arena));
+        let free = boxed.arena.free_units();
+        self.slot.replace(Some(boxed));
         free
     }
 
@@ -75,9 +80,9 @@ impl<const SLI: u32, const UNIT: usize> LocalArena<SLI, UNIT> {
         if align > GRAIN || size > u32::MAX as usize {
             return None;
         }
-        let mut arena = self.slot.replace(None)?;
-        let answer = arena.allocate(size as u32);
-        self.slot.replace(Some(arena));
+        let mut boxed = self.slot.replace(None)?;
+        let answer = boxed.arena.allocate(size as u32);
+        self.slot.replace(Some(boxed));
         match answer {
             Ok(Block { name, piece }) => {
                 self.before_last.set(self.last.get());
@@ -92,9 +97,9 @@ impl<const SLI: u32, const UNIT: usize> LocalArena<SLI, UNIT> {
         requires { piece.region ≡ self.now.slot }
     {
         match self.slot.replace(None) {
-            Some(mut arena) => {
-                let answer = arena.give_back(piece, self.guesses());
-                self.slot.replace(Some(arena));
+            Some(mut boxed) => {
+                let answer = boxed.arena.give_back(piece, self.guesses());
+                self.slot.replace(Some(boxed));
                 if let Err((_, piece)) = answer {
                     let _lost = unsafe { ManuallyDrop::new_unchecked(piece) };
                 }
@@ -160,12 +165,14 @@ impl<const SLI: u32, const UNIT: usize> LocalArena<SLI, UNIT> {
         if size > u32::MAX as usize {
             return Err(buffer);
         }
-        let Some(mut arena) = self.slot.replace(None) else {
+        let Some(mut boxed) = self.slot.replace(None) else {
             return Err(buffer);
         };
         let (ptr, buffer) = buffer.with_ptr();
-        let answer = arena.extend_at(ptr, old_size, size as u32, self.guesses());
-        self.slot.replace(Some(arena));
+        let answer = boxed
+            .arena
+            .extend_at(ptr, old_size, size as u32, self.guesses());
+        self.slot.replace(Some(boxed));
         match answer {
             Ok(rest) => Ok(buffer.extended(rest, new_cap)),
             Err(_) => Err(buffer),
@@ -188,14 +195,14 @@ impl<const SLI: u32, const UNIT: usize> LocalArena<SLI, UNIT> {
         if size > u32::MAX as usize {
             return Err(buffer);
         }
-        let Some(mut arena) = self.slot.replace(None) else {
+        let Some(mut boxed) = self.slot.replace(None) else {
             return Err(buffer);
         };
         let new_size = piece_bytes(size, UNIT);
         let (ptr, buffer) = buffer.with_ptr();
         let (buffer, tail) = buffer.trimmed(new_cap, new_size, old_size - new_size);
-        let answer = arena.trim_at(ptr, tail, size as u32, self.guesses());
-        self.slot.replace(Some(arena));
+        let answer = boxed.arena.trim_at(ptr, tail, size as u32, self.guesses());
+        self.slot.replace(Some(boxed));
         match answer {
             Ok(()) => Ok(buffer),
             Err((_, tail)) => Err(buffer.extended(tail, old_cap)),

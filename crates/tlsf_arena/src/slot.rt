@@ -4,11 +4,11 @@ ghost use base.Fml.{fex, fsep, ftrue};
 ghost use Rattle.linked_list_allocator.specs.Region.{Region};
 ghost use Rattle.linked_list_allocator.specs.Ownership.{behind_a_ref};
 
-use crate::arena::Arena;
+use crate::boxed::BoxedArena;
 use std::marker::{Move, Owns};
 
 pub(crate) struct Slot<const SLI: u32, const UNIT: usize> {
-    arena: Option<Arena<SLI, UNIT>>,
+    arena: Option<BoxedArena<SLI, UNIT>>,
 }
 
 impl<const SLI: u32, const UNIT: usize> Owns for Slot<SLI, UNIT> {
@@ -22,17 +22,20 @@ impl<const SLI: u32, const UNIT: usize> Move for Slot<SLI, UNIT> {
 }
 
 impl<const SLI: u32, const UNIT: usize> Slot<SLI, UNIT> {
-    pub(crate) fn new(arena: Arena<SLI, UNIT>) -> Slot<SLI, UNIT>
+    pub(crate) fn new(arena: BoxedArena<SLI, UNIT>) -> Slot<SLI, UNIT>
         ensures { result ≡ arena.entry.region }
     {
         Slot { arena: Some(arena) }
     }
 
-    pub(crate) fn replace(&self, arena: Option<Arena<SLI, UNIT>>) -> Option<Arena<SLI, UNIT>>
+    pub(crate) fn replace(
+        &self,
+        arena: Option<BoxedArena<SLI, UNIT>>,
+    ) -> Option<BoxedArena<SLI, UNIT>>
         requires { IfSome arena (λ a. a.region ≡ self.now) }
         ensures { IfSome result (λ a. a.region ≡ self.now) }
     {
-        let place = &raw const self.arena as *mut Option<Arena<SLI, UNIT>>;
+        let place = &raw const self.arena as *mut Option<BoxedArena<SLI, UNIT>>;
         unsafe {
             let old = place.read();
             place.write(arena);
@@ -40,7 +43,7 @@ impl<const SLI: u32, const UNIT: usize> Slot<SLI, UNIT> {
         }
     }
 
-    pub(crate) fn into_inner(self) -> Option<Arena<SLI, UNIT>> {
+    pub(crate) fn into_inner(self) -> Option<BoxedArena<SLI, UNIT>> {
         let Slot { arena } = self;
         arena
     }

@@ -32,6 +32,10 @@ module _ {T : Type 0} where
   abbrev pub value_for : Ticket T → Option T
   value_for t = value_of t.seat.me.0
 
+  -- the place by which its value comes home
+  abbrev pub place_by : Ticket T → ℕ
+  place_by t = t.at
+
   -- it is the owner's end of these places
   abbrev pub IsOwnerOf : Places T → OwnerEnd T → Type 0
   IsOwnerOf places o = owner_id o ≡ id_of places

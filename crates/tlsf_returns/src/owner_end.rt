@@ -16,14 +16,14 @@ pub struct OwnerEnd<T> {
 }
 
 impl<T> OwnerEnd<T> {
-    ghost use Rattle.tlsf_returns.specs.Ends.{IsOwnerOf, IsTicketFor, away_by, looks_of};
+    ghost use Rattle.tlsf_returns.specs.Ends.{IsOwnerOf, IsTicketFor, away_by, looks_of, place_by};
 
     /// Sends a value out by a place by which none is away. It comes back at once, with the ticket that is to go with it. It takes no memory
     /// and doesn't wait.
     ///
     /// - It requires that nothing is away by the place, which is one of those that were opened (`idle`).
     /// - `own`: it stays the owner's end of its places, and has looked at none.
-    /// - `value`, `ticket`: the very value, and a ticket for it.
+    /// - `value`, `ticket`, `place`: the very value, and a ticket for it, by this place.
     /// - `away`: it is away by the place, and by each other place what was before.
     ///
     /// ```text
@@ -35,6 +35,7 @@ impl<T> OwnerEnd<T> {
         ensures own { IsOwnerOf places.now self.new × (looks_of self.new ≡ looks_of self.old) }
         ensures value { result.0 ≡ value }
         ensures ticket { IsTicketFor places.now value result.1 }
+        ensures place { place_by result.1 ≡ at }
         ensures away { away_by self.new ≡ slice_set (away_by self.old) at (Some value) }
     {
         let shared = &places.table.shared;

@@ -16,7 +16,18 @@ pub struct Ticket<T> {
 }
 
 impl<T> Ticket<T> {
-    ghost use Rattle.tlsf_returns.specs.Ends.{IsTicketFor, IsReceiptFor};
+    ghost use Rattle.tlsf_returns.specs.Ends.{IsTicketFor, IsReceiptFor, place_by};
+
+    /// The number of the place by which the value comes home.
+    ///
+    /// ```text
+    /// ticket.place()                           // the place that `OwnerEnd::send_out` got
+    /// ```
+    pub fn place(&self) -> usize
+        ensures place { result ≡ place_by self.now }
+    {
+        self.at
+    }
 
     /// Puts the value back. It is never refused, takes no memory and doesn't wait: two steps on the place's word, and between them the
     /// value is written.
@@ -29,7 +40,7 @@ impl<T> Ticket<T> {
     /// ```
     pub fn put(self, places: &Places<T>, value: T) -> Receipt<T>
         requires ticket { IsTicketFor places.now value self }
-        ensures put { IsReceiptFor places.now self.at value result }
+        ensures put { IsReceiptFor places.now (place_by self) value result }
     {
         let Ticket { mut seat, at } = self;
         let shared = &places.table.shared;

@@ -32,7 +32,7 @@ use Rattle.tlsf_arena.specs.contracts.slot.Slot as slot
 use Rattle.tlsf_arena.proofs.Cell.{Level, Unit_bytes, Held_arena, Held, Fields, contents_in}
 use denote.Laws.{Typed}
 use Rattle.linked_list_allocator.proofs.Walks.{slot_at}
-use Rattle.tlsf_arena.proofs.arena.Arena.TheLaws as arena_laws
+use Rattle.tlsf_arena.proofs.boxed.BoxedArena.TheLaws as arena_laws
 use Rattle.tlsf_arena.specs.contracts.slot.Slot.new.{ended, clauses}
 use Rattle.tlsf_arena.specs.contracts.slot.Slot.new.Key.{name as #self}
 use Rattle.tlsf_arena.proofs.slot.Slot.new.Statement.{statement}
