@@ -1,0 +1,45 @@
+use Rattle.std.proofs.Common.{◌≡◌, ◌≢◌, ◌↔◌, List, Some, None, sym, ap, ◌∙◌, subst}
+use Rattle.std.specs.Prelude.{IsErrOf, IsOk, IsSomeAnd}
+use Rattle.tlsf_heap.specs.Calls.{last_tick}
+use Rattle.tlsf_pool.specs.declared.pool_refusal.PoolRefusal.TheVariants.{Full, TooLong}
+use Rattle.tlsf_pools.specs.Parts.{PoolsState, part_at, part_in, part_of}
+use Rattle.tlsf_pools.specs.Tables.{HasPlace, IsFull, TableState, row_of}
+use Rattle.tlsf_pools.proofs.Heaps.{given_number, is_part, lift_iff, lift_kept, not_none, part_has}
+use Rattle.tlsf_pools.proofs.pools.Pools.allocate.Goals as goal
+
+pub invariant_of-self : goal.invariant_of-self
+invariant_of-self g c =
+    let p : PoolsState = record { id = c.self.inside.id; parts = c.self.inside.parts.items } in
+    let found : part_in p.parts c.args.len ≡ Some c.in-Some.part = sym (c.in-Some.ensures ∙ ap (λ (parts : List TableState). part_in parts c.args.len) c.deref.ensures.value) in
+    let e = c.allocate.ensures in
+    lift_kept p c.in-Some.part c.index_mut.result.now c.allocate.new.self (part_of p c.args.len) found (part_has p.parts c.args.len c.in-Some.part found).0 c.index_mut.ensures.value g.row.SLI c.self.invariant e.table
+    (given_number g.row.SLI c.index_mut.result.now c.allocate.new.self c.args.len c.allocate.result e.heap e.err)
+
+pub returns-clause-pools : goal.returns-clause-pools
+returns-clause-pools g c = invariant_of-self g c
+
+pub returns-clause-ok : goal.returns-clause-ok
+returns-clause-ok g c =
+    let p : PoolsState = record { id = c.self.inside.id; parts = c.self.inside.parts.items } in
+    let found : part_in p.parts c.args.len ≡ Some c.in-Some.part = sym (c.in-Some.ensures ∙ ap (λ (parts : List TableState). part_in parts c.args.len) c.deref.ensures.value) in
+    subst (λ (q : PoolsState). IsOk c.allocate.result ↔ IsSomeAnd (part_of q c.args.len) (λ i. HasPlace (part_at q i) c.args.len × ¬ ((part_at q i).heap.tick ≡ last_tick))) c.self.view_is
+    (lift_iff p c.in-Some.part c.index_mut.result.now c.allocate.new.self (part_of p c.args.len) found (part_has p.parts c.args.len c.in-Some.part found).0 c.index_mut.ensures.value
+    (λ t. HasPlace t c.args.len × ¬ (t.heap.tick ≡ last_tick)) c.allocate.ensures.ok)
+
+pub returns-clause-full : goal.returns-clause-full
+returns-clause-full g c =
+    let p : PoolsState = record { id = c.self.inside.id; parts = c.self.inside.parts.items } in
+    let found : part_in p.parts c.args.len ≡ Some c.in-Some.part = sym (c.in-Some.ensures ∙ ap (λ (parts : List TableState). part_in parts c.args.len) c.deref.ensures.value) in
+    subst (λ (q : PoolsState). IsErrOf c.allocate.result Full ↔ IsSomeAnd (part_of q c.args.len) (λ i. IsFull (part_at q i) c.args.len)) c.self.view_is
+    (lift_iff p c.in-Some.part c.index_mut.result.now c.allocate.new.self (part_of p c.args.len) found (part_has p.parts c.args.len c.in-Some.part found).0 c.index_mut.ensures.value
+    (λ t. IsFull t c.args.len) c.allocate.ensures.full)
+
+pub returns-clause-too_long : goal.returns-clause-too_long
+returns-clause-too_long g c =
+    let p : PoolsState = record { id = c.self.inside.id; parts = c.self.inside.parts.items } in
+    let found : part_in p.parts c.args.len ≡ Some c.in-Some.part = sym (c.in-Some.ensures ∙ ap (λ (parts : List TableState). part_in parts c.args.len) c.deref.ensures.value) in
+    let has = part_has p.parts c.args.len c.in-Some.part found in
+    let row : row_of c.index_mut.result.now.kinds c.args.len ≢ None =
+    subst (λ (t : TableState). row_of t.kinds c.args.len ≢ None) (sym (is_part p c.in-Some.part c.index_mut.result.now has.0 c.index_mut.ensures.value)) has.1 in
+    subst (λ (q : PoolsState). IsErrOf c.allocate.result TooLong ↔ (part_of q c.args.len ≡ None)) c.self.view_is
+    (λ e. absurd (row (c.allocate.ensures.too_long.0 e)), λ none. absurd (not_none (part_of p c.args.len) c.in-Some.part found none))

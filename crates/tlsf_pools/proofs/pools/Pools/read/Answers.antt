@@ -1,0 +1,17 @@
+use Rattle.std.proofs.Common.{◌≡◌, List, Some, sym, ap, ◌∙◌}
+use Rattle.tlsf_heap.specs.Blocks.{HeapState}
+use Rattle.tlsf_pools.specs.Parts.{PoolsState, named_in}
+use Rattle.tlsf_pools.specs.Tables.{TableState}
+use Rattle.tlsf_pools.proofs.Heaps.{lift_kept, named_within}
+use Rattle.tlsf_pools.proofs.pools.Pools.read.Goals as goal
+
+pub invariant_of-self : goal.invariant_of-self
+invariant_of-self g c =
+    let p : PoolsState = record { id = c.self.inside.id; parts = c.self.inside.parts.items } in
+    let found : named_in p.id p.parts c.args.name ≡ Some c.in-Some.part = sym (c.in-Some.ensures ∙ ap (λ (parts : List TableState). named_in p.id parts c.args.name) c.deref.ensures.value) in
+    let within = (named_within p.id p.parts c.args.name c.in-Some.part found).0 in
+    lift_kept p c.in-Some.part c.index_mut.result.now c.read.new.self (named_in p.id p.parts c.args.name) found within c.index_mut.ensures.value g.row.SLI c.self.invariant c.read.ensures.table
+    (ap (λ (h : HeapState). h.id) c.read.ensures.same.heap)
+
+pub returns-clause-pools : goal.returns-clause-pools
+returns-clause-pools g c = invariant_of-self g c
