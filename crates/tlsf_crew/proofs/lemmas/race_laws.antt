@@ -4,6 +4,8 @@
 pub mod AloneDrains
 -- A worker whose script takes no post is told in a race what it is told alone.
 pub mod AloneRuns
+-- The entries of some calls of a worker, whatever its ports, tell each call and the history of its heap.
+pub mod CallsTold
 -- Two races of the same scripts, which take no post, are the same.
 pub mod OneRace
 -- Two races over queues of the same scripts, which take no post, are the same where no worker met a full queue and each queue has one poster.

@@ -93,11 +93,11 @@ end_of ws i j b yard i_in b_is ne =
     let e = k.to j (slice_get_within ws j b b_is, λ f. ne (sym (f ∙ w.number))) in
     record { p = e.0; is = ap (λ o. queue_end_in o j) s.1 ∙ e.1; number = e.2 ∙ w.number; mailbox = yard.mailboxes i j s.0 b e.0 s.1 b_is e.1 }
 
+pub owner_none : {sli : ℕ} (ws : List (Worker sli Queues)) (j : ℕ) (b : Worker sli Queues) → IsQueueYard ws → slice_get ws j ≡ Some b → queue_end_to b j ≡ None
+owner_none ws j b yard b_is = let w = yard.workers j b b_is in w.knows.none j (λ other. other.1 (sym w.number))
+
 pub own_end : {sli : ℕ} (ws : List (Worker sli Queues)) (j : ℕ) (b : Worker sli Queues) → IsQueueYard ws → slice_get ws j ≡ Some b → end_at ws j j ≡ None
-own_end ws j b yard b_is =
-    let w = yard.workers j b b_is in
-    let k = w.knows in
-    ap (λ o. queue_end_in o j) b_is ∙ k.none j (λ other. other.1 (sym w.number))
+own_end ws j b yard b_is = ap (λ o. queue_end_in o j) b_is ∙ owner_none ws j b yard b_is
 
 -- a fact of all ends below one number, and of the next
 pub each_below : {sli : ℕ} (P : PosterEnd → Type 0) (ws : List (Worker sli Queues)) (j k : ℕ) (b : Worker sli Queues) → IsQueueYard ws → slice_get ws j ≡ Some b → k ≤ length ws → ((i : ℕ) → EndOf ws i j b → (p : PosterEnd) → end_at ws i j ≡ Some p → P p)
@@ -215,10 +215,6 @@ pub record Resettling {sli : ℕ} (ws us : List (Worker sli Queues)) (j : ℕ) (
 -- the owner's ends to other queues stay
 owner_end : {sli : ℕ} (b w : Worker sli Queues) (k : ℕ) → w.ports.posts ≡ b.ports.posts → queue_end_to w k ≡ queue_end_to b k
 owner_end b w k same = ap (λ (ps : Vec (Option PosterEnd) Global). slot_of (slice_get ps.items k)) same
-
--- and it has none to its own
-owner_none : {sli : ℕ} (ws : List (Worker sli Queues)) (j : ℕ) (b : Worker sli Queues) → IsQueueYard ws → slice_get ws j ≡ Some b → queue_end_to b j ≡ None
-owner_none ws j b yard is = sym (ap (λ o. queue_end_in o j) is) ∙ own_end ws j b yard is
 
 -- the same of what v was
 record StillIs {sli : ℕ} (a v : Worker sli Queues) (j : ℕ) : Type 0 where

@@ -14,6 +14,7 @@ use Rattle.tlsf_crew.specs.queues.QueueYard.{IsQueueYard, first_capacity, queue_
 use Rattle.tlsf_crew.specs.queues.QueueSettle.{EachQueueSettled, StaysPut}
 use Rattle.tlsf_crew.proofs.lemmas.queues.QueueOpened.{map_at}
 use Rattle.tlsf_crew.proofs.lemmas.worker.Slots.{some_at}
+use Rattle.tlsf_crew.proofs.lemmas.queues.QueueSettled.{owner_none}
 
 -- a worker before and after
 record Kept {sli : ℕ} (ws vs : List (Worker sli Queues)) (i : ℕ) : Type 0 where
@@ -58,10 +59,6 @@ ends_kept ws vs n i j yard s j_in ne x y =
     let put : put_by q.0 ≡ put_by p.0 = poster.put j p.0 q.0 p.1 q.1 in
     ap (waits_of (Some y.new)) q.1 ∙ ((λ t. drop (length (posts_of (from t) (owner.own.0 t))) (put t)) ∙ sym (ap (waits_of (Some y.old)) p.1))
 
--- a worker has no end to its own queue
-own_kept : {sli : ℕ} (ws : List (Worker sli Queues)) (i : ℕ) (a : Worker sli Queues) → IsQueueYard ws → slice_get ws i ≡ Some a → queue_end_to a i ≡ None
-own_kept ws i a yard is = let w = yard.workers i a is in w.knows.none i (λ other. other.1 (sym w.number))
-
 waits_kept : {sli : ℕ} (ws vs : List (Worker sli Queues)) (n : ℕ) → IsQueueYard ws → EachQueueSettled ws n vs → (i j : ℕ) → queue_waits_in vs i j ≡ queue_waits_in ws i j
 waits_kept {sli} ws vs n yard s i j = elim (cases_lt j (length ws)) [
   | inr ge ↦ rw (slice_get_past vs j (omega (arith, s.count)), slice_get_past ws j ge) refl
@@ -73,8 +70,8 @@ waits_kept {sli} ws vs n yard s i j = elim (cases_lt j (length ws)) [
             let x = kept ws vs n i s i_in in
             rw (x.new_is, x.old_is, y.new_is, y.old_is) (elim (cases_eq i j) [
               | inl e ↦
-                  let new : queue_end_to x.new j ≡ None = ap (queue_end_to x.new) (sym e) ∙ own_kept vs i x.new s.yard x.new_is in
-                  let old : queue_end_to x.old j ≡ None = ap (queue_end_to x.old) (sym e) ∙ own_kept ws i x.old yard x.old_is in
+                  let new : queue_end_to x.new j ≡ None = ap (queue_end_to x.new) (sym e) ∙ owner_none vs i x.new s.yard x.new_is in
+                  let old : queue_end_to x.old j ≡ None = ap (queue_end_to x.old) (sym e) ∙ owner_none ws i x.old yard x.old_is in
                   ap (waits_of (Some y.new)) new ∙ sym (ap (waits_of (Some y.old)) old)
               | inr ne ↦ ends_kept ws vs n i j yard s j_in ne x y
             ])

@@ -26,7 +26,8 @@ use Rattle.tlsf_crew.proofs.lemmas.histories.JoinedEntries.{told_nothing, told_o
 use Rattle.tlsf_crew.proofs.lemmas.histories.LaneCalls.{of_same}
 use Rattle.tlsf_crew.proofs.lemmas.model.OneEvent.{releasing_far, releasing_post}
 use Rattle.tlsf_crew.proofs.lemmas.scripts.OwnTold.{own_name, posted_world, full_world}
-use Rattle.tlsf_crew.proofs.lemmas.race_laws.RecordHistory.{knows_all, knows_one}
+use Rattle.tlsf_crew.proofs.lemmas.race_laws.CallsTold.{knows_all}
+use Rattle.tlsf_crew.proofs.lemmas.race_laws.RecordHistory.{knows_one}
 use Rattle.tlsf_crew.specs.race_laws.Alone.{TakesNoPost}
 
 -- ---- one call
@@ -264,7 +265,7 @@ alone_step {sli} w i z s u call calls r lanes i_in free m later a =
     let e = next_entry i s.made x call in
     let told_entries : u.entries ≡ s.entries ++ e ∷ [] = sym (ap (λ (t : Told). t.entries) m.2) ∙ ap (λ (v : Replayed sli). v.entries) second in
     let whole : z.entries ≡ s.entries ++ (e ∷ rest.0) = rest.1 ∙ (ap (λ l. l ++ rest.0) told_entries ∙ append_assoc s.entries (e ∷ []) rest.0) in
-    let known = knows_all sli n i u z calls later in
+    let known = knows_all (MayTell sli n i) (knows_one sli n i) u z calls later in
     let before : (target : Target) (name : Name) → name_of s.made target ≡ Some name → name_of z.made target ≡ Some name = λ target name found. known target name (knows_one sli n i s u call m target name found) in
     let alike : Alike n i x r.world = record { at_in = i_in; here = m.1.0; there = a.count; heap = m.1.1 ∙ sym a.heap } in
     let room = room_for w i z s x r call rest.0 lanes i_in m.1.0 a before whole in

@@ -2,9 +2,7 @@
 use Rattle.std.proofs.Common.{[], ◌∷◌, ◌++◌, ◌≡◌, ◌≢◌, ℕ, suc, ◌<◌, ◌≤◌, List, Option, None, All, length, sym, ◌∙◌, ap, arith, refl, subst, append_assoc, append-nil}
 use Rattle.std.proofs.lemmas.List.Elements.{All-nil, All-cons, All-head, All-tail, All-append}
 use Rattle.tlsf_heap.specs.Blocks.{HeapState}
-use Rattle.tlsf_heap.specs.Lawful.{IsLawful}
 use Rattle.tlsf_heap.specs.declared.name.Name.{Name}
-use Rattle.tlsf_heap.proofs.Outcomes.{lawful_run}
 use Rattle.tlsf_post.specs.declared.post.Post.{Post}
 use Rattle.tlsf_calls.specs.declared.call.Call.{Call}
 use Rattle.tlsf_calls.specs.declared.call.Call.TheVariants.{Allocate, Release, Write, Read, Resize, Take, Drain}
@@ -13,31 +11,29 @@ use Rattle.tlsf_calls.specs.declared.crew_refusal.CrewRefusal.TheVariants.{Stran
 use Rattle.tlsf_calls.specs.declared.reply.Reply.TheVariants.{Drained, Refused}
 use Rattle.tlsf_crew.specs.model.Heaps.{released}
 use Rattle.tlsf_crew.specs.histories.History.{AreLawful, RunsThrough, RunsTo, answer_told, answers_on, call_on_own, calls_on, posts_made, posts_taken}
-use Rattle.tlsf_crew.specs.model.Told.{Told, untold}
+use Rattle.tlsf_crew.specs.model.Told.{Told}
 use Rattle.tlsf_crew.specs.model.World.{World, heap_in}
 use Rattle.tlsf_crew.specs.scripts.Scripts.{last_call, script_of}
 use Rattle.tlsf_calls.specs.Entries.{record_of}
-use Rattle.tlsf_crew.specs.model.QueueTold.{IsFromOther, MayTellQueue, MayTellQueueAll, take_entry, told_reply, told_take, told_takes}
+use Rattle.tlsf_crew.specs.model.QueueTold.{IsFromOther, MayTellQueue, take_entry, told_reply, told_take, told_takes}
 use Rattle.tlsf_crew.specs.histories.QueueHistory.{AreQueueTakes, TellsQueue, TellsQueueCall}
 use Rattle.tlsf_crew.specs.races.QueueRace.{IsQueueRace}
 use Rattle.tlsf_crew.proofs.lemmas.histories.AllEntries.{more_knows}
-use Rattle.tlsf_crew.proofs.lemmas.histories.Fronts.{runs_through}
-use Rattle.tlsf_crew.proofs.lemmas.histories.JoinedEntries.{HasItsAnswer, runs_then, told_nothing, told_own, told_then}
+use Rattle.tlsf_crew.proofs.lemmas.histories.JoinedEntries.{HasItsAnswer, told_nothing, told_own}
 use Rattle.tlsf_crew.proofs.lemmas.histories.OwnCalls.{Knows}
+use Rattle.tlsf_crew.proofs.lemmas.race_laws.CallsTold.{Account, CallTold, RecordTold, RunsBy, TellsEach, race_leaves_lawful, record_always, record_told, runs_by_then}
 use Rattle.tlsf_crew.proofs.lemmas.race_laws.RecordHistory.{knows_one, one_told}
 use Rattle.tlsf_crew.proofs.lemmas.races.QueueTakes.{takes_name}
 
--- ---- runs that entries tell
-
--- the calls on a worker's heap that some entries tell, run on it, give the answers that they tell
-abbrev RunsBy : ℕ → List (Option Name) → ℕ → HeapState → List Entry → HeapState → Type 0
-RunsBy sli made at h own g = RunsTo sli h (calls_on at made own) (answers_on at own) g
-
-runs_by_then : (sli : ℕ) (made : List (Option Name)) (at : ℕ) (h g k : HeapState) (xs ys : List Entry) → RunsBy sli made at h xs g → RunsBy sli made at g ys k → RunsBy sli made at h (xs ++ ys) k
-runs_by_then sli made at h g k xs ys a b =
-    let c = told_then (λ e. call_on_own made e.worker e.call e.reply) at xs ys in
-    let d = told_then (λ e. answer_told e.call e.reply) at xs ys in
-    rw (c, d) (runs_then h g k (calls_on at made xs) (calls_on at made ys) (answers_on at xs) (answers_on at ys) a b)
+-- how a worker over queues is told its calls
+abbrev pub by_queues : (sli n at : ℕ) → Account n at
+by_queues sli n at = record {
+  may_tell = MayTellQueue sli n at;
+  one = TellsQueueCall n at;
+  all = TellsQueue n at;
+  none = λ made. refl;
+  more = λ made call calls name later own rest first behind. (own, rest, refl, first, behind);
+}
 
 -- an entry that tells of no heap
 quiet_run : (sli : ℕ) (made : List (Option Name)) (at : ℕ) (h : HeapState) (e : Entry) → call_on_own made e.worker e.call e.reply ≡ None → answer_told e.call e.reply ≡ None → RunsBy sli made at h (e ∷ []) h
@@ -93,16 +89,7 @@ takes_told {sli} made n at (post ∷ posts) s all =
 
 -- ---- one call
 
-record QueueCallTold (sli : ℕ) (made : List (Option Name)) (n at : ℕ) (s : Told) (call : Call) (t : Told) : Type 0 where
-  own : List Entry
-  name : Option Name
-  entries : t.entries ≡ s.entries ++ own
-  names : t.made ≡ s.made ++ name ∷ []
-  tells : TellsQueueCall n at s.made call name own
-  run : RunsBy sli made at s.heap own t.heap
-  each : All (HasItsAnswer made n) own
-
-refused_take : {sli : ℕ} (made : List (Option Name)) (n at : ℕ) (s t : Told) (from : ℕ) → t ≡ told_reply at s (Take from) (Refused Stranger) → QueueCallTold sli made n at s (Take from) t
+refused_take : {sli : ℕ} (made : List (Option Name)) (n at : ℕ) (s t : Told) (from : ℕ) → t ≡ told_reply at s (Take from) (Refused Stranger) → CallTold (by_queues sli n at) sli made s (Take from) t
 refused_take {sli} made n at s t from e =
     let x : Entry = record { worker = at; call = Take from; reply = Refused Stranger } in
     rw e (record {
@@ -116,7 +103,7 @@ refused_take {sli} made n at s t from e =
     })
 
 drained_queue : {sli : ℕ} (made : List (Option Name)) (n at : ℕ) (s t : Told) (most : ℕ) (posts : List Post) → All (IsFromOther n at) posts → length posts ≤ most
-    → t ≡ told_reply at (told_takes at s posts) (Drain most) (Drained (length posts)) → QueueCallTold sli made n at s (Drain most) t
+    → t ≡ told_reply at (told_takes at s posts) (Drain most) (Drained (length posts)) → CallTold (by_queues sli n at) sli made s (Drain most) t
 drained_queue {sli} made n at s t most posts all few e =
     let x : Entry = record { worker = at; call = Drain most; reply = Drained (length posts) } in
     let u = told_takes at s posts in
@@ -139,7 +126,7 @@ drained_queue {sli} made n at s t most posts all few e =
       each = All-append (HasItsAnswer made n) taken.own (x ∷ []) taken.each (All-cons (HasItsAnswer made n) x [] (λ _. refl) (All-nil (HasItsAnswer made n)));
     })
 
-queue_call_told : {sli : ℕ} (made : List (Option Name)) (n at : ℕ) (s t : Told) (call : Call) → at < n → Knows made s.made → MayTellQueue sli n at s call t → QueueCallTold sli made n at s call t
+queue_call_told : {sli : ℕ} (made : List (Option Name)) (n at : ℕ) (s t : Told) (call : Call) → at < n → Knows made s.made → MayTellQueue sli n at s call t → CallTold (by_queues sli n at) sli made s call t
 queue_call_told made n at s t (Allocate len) at_in known m =
     let o = one_told made n at s t (Allocate len) at_in known m in
     record { own = o.own; name = o.name; entries = o.entries; names = o.names; tells = o.tells.near at_in; run = o.run; each = o.each }
@@ -171,67 +158,14 @@ queue_knows_one sli n at s t (Take from) m = subst (λ (made : List (Option Name
 queue_knows_one sli n at s t (Drain most) m =
     subst (λ (made : List (Option Name)). Knows made s.made) (ap (λ l. l ++ None ∷ []) (sym (takes_name at m.0 s)) ∙ sym (ap (λ (u : Told). u.made) m.3)) (more_knows s.made (None ∷ []))
 
-queue_knows_all : (sli : ℕ) (n at : ℕ) (s t : Told) (calls : List Call) → MayTellQueueAll sli n at s calls t → Knows t.made s.made
-queue_knows_all sli n at s t [] m = rw m (λ target name e. e)
-queue_knows_all sli n at s t (call ∷ calls) m = λ target name e. queue_knows_all sli n at m.0 t calls m.2 target name (queue_knows_one sli n at s m.0 call m.1 target name e)
-
-record QueueCallsTold (sli : ℕ) (made : List (Option Name)) (n at : ℕ) (s : Told) (calls : List Call) (t : Told) : Type 0 where
-  own : List Entry
-  later : List (Option Name)
-  entries : t.entries ≡ s.entries ++ own
-  names : t.made ≡ s.made ++ later
-  tells : TellsQueue n at s.made calls later own
-  run : RunsBy sli made at s.heap own t.heap
-  each : All (HasItsAnswer made n) own
-
-queue_calls_told : {sli : ℕ} (made : List (Option Name)) (n at : ℕ) (s t : Told) (calls : List Call) → at < n → Knows made t.made → MayTellQueueAll sli n at s calls t → QueueCallsTold sli made n at s calls t
-queue_calls_told {sli} made n at s t [] at_in known m =
-    record {
-      own = [];
-      later = [];
-      entries = ap (λ (t : Told). t.entries) m ∙ sym (append-nil s.entries);
-      names = ap (λ (t : Told). t.made) m ∙ sym (append-nil s.made);
-      tells = refl;
-      run = record { told = refl; left = sym (ap (λ (t : Told). t.heap) m) };
-      each = All-nil (HasItsAnswer made n);
-    }
-queue_calls_told {sli} made n at s t (call ∷ calls) at_in known m =
-    let u = m.0 in
-    let first = queue_call_told made n at s u call at_in
-    (λ target name e. known target name (queue_knows_all sli n at u t calls m.2 target name (queue_knows_one sli n at s u call m.1 target name e))) m.1 in
-    let rest = queue_calls_told made n at u t calls at_in known m.2 in
-    record {
-      own = first.own ++ rest.own;
-      later = first.name ∷ rest.later;
-      entries = rest.entries ∙ (ap (λ l. l ++ rest.own) first.entries ∙ append_assoc s.entries first.own rest.own);
-      names = rest.names ∙ (ap (λ l. l ++ rest.later) first.names ∙ append_assoc s.made (first.name ∷ []) rest.later);
-      tells = (first.own, rest.own, refl, first.tells, subst (λ m. TellsQueue n at m calls rest.later rest.own) first.names rest.tells);
-      run = runs_by_then sli made at s.heap u.heap t.heap first.own rest.own first.run rest.run;
-      each = All-append (HasItsAnswer made n) first.own rest.own first.each rest.each;
-    }
-
--- a whole record: its names are all that its calls made
-record QueueRecordTold (sli : ℕ) (n at : ℕ) (h : HeapState) (calls : List Call) (end : Told) : Type 0 where
-  tells : TellsQueue n at [] calls end.made end.entries
-  run : RunsBy sli end.made at h end.entries end.heap
-  each : All (HasItsAnswer end.made n) end.entries
-
-queue_record_told : {sli : ℕ} (n at : ℕ) (h : HeapState) (calls : List Call) (end : Told) → at < n → MayTellQueueAll sli n at (untold h) calls end → QueueRecordTold sli n at h calls end
-queue_record_told {sli} n at h calls end at_in m =
-    let t = queue_calls_told end.made n at (untold h) end calls at_in (λ target name e. e) m in
-    let entries : t.own ≡ end.entries = sym t.entries in
-    let names : t.later ≡ end.made = sym t.names in
-    record {
-      tells = subst (λ l. TellsQueue n at [] calls end.made l) entries (subst (λ m. TellsQueue n at [] calls m t.own) names t.tells);
-      run = subst (λ l. RunsBy sli end.made at h l end.heap) entries t.run;
-      each = subst (All (HasItsAnswer end.made n)) entries t.each;
-    }
+queues_tell_each : {sli n at : ℕ} → at < n → TellsEach (by_queues sli n at) sli
+queues_tell_each {sli} {n} {at} at_in = record { knows = queue_knows_one sli n at; told = λ made s t call known m. queue_call_told made n at s t call at_in known m }
 
 -- ---- the records of a race
 
 race_told : {sli : ℕ} (w v : World sli) (scripts : List (List Call)) (records : List (List Entry)) (race : IsQueueRace w scripts records v) (j : ℕ) → j < length w.heaps
-    → QueueRecordTold sli (length w.heaps) j (heap_in w j) (script_of scripts j ++ last_call ∷ []) (record { made = race.made j; entries = record_of records j; heap = heap_in v j })
-race_told w v scripts records race j j_in = queue_record_told (length w.heaps) j (heap_in w j) (script_of scripts j ++ last_call ∷ []) _ j_in (race.legal j j_in)
+    → RecordTold (by_queues sli (length w.heaps) j) sli (heap_in w j) (script_of scripts j ++ last_call ∷ []) (record { made = race.made j; entries = record_of records j; heap = heap_in v j })
+race_told {sli} w v scripts records race j j_in = record_told _ sli (queues_tell_each j_in) (heap_in w j) (script_of scripts j ++ last_call ∷ []) _ (race.legal j j_in)
 
 -- each entry tells an answer where it tells a call on its worker's own heap
 pub queue_race_answered : {sli : ℕ} (w v : World sli) (scripts : List (List Call)) (records : List (List Entry)) (race : IsQueueRace w scripts records v) (j : ℕ) → j < length w.heaps
@@ -251,17 +185,8 @@ pub queue_race_posts : {sli : ℕ} (w v : World sli) (scripts : List (List Call)
 queue_race_posts w v scripts records race i j i_in j_in ne = (race.agree i j i_in j_in ne).posts
 
 pub queue_race_lawful : {sli : ℕ} (w v : World sli) (scripts : List (List Call)) (records : List (List Entry)) → IsQueueRace w scripts records v → AreLawful w → AreLawful v
-queue_race_lawful {sli} w v scripts records race lawful = (
-  lawful.0,
-  λ j j_in.
-      let k : j < length w.heaps = omega (arith, race.heaps) in
-      subst IsLawful (queue_race_runs w v scripts records race j k).left (lawful_run sli lawful.0 (heap_in w j) (calls_on j (race.made j) (record_of records j)) (lawful.1 j k)),
-)
+queue_race_lawful w v scripts records race lawful = race_leaves_lawful w v race.made records race.heaps (queue_race_runs w v scripts records race) lawful
 
 pub queue_race_always : {sli : ℕ} (w v : World sli) (scripts : List (List Call)) (records : List (List Entry)) (race : IsQueueRace w scripts records v) (before later : List Entry) (j : ℕ) → AreLawful w → j < length w.heaps
     → record_of records j ≡ before ++ later → RunsThrough sli (heap_in w j) j (race.made j) before later (heap_in v j)
-queue_race_always {sli} w v scripts records race before later j lawful j_in whole =
-    let t = race_told w v scripts records race j j_in in
-    runs_through (race.made j) (length w.heaps) j (heap_in w j) (heap_in v j) before later j_in lawful.0 (lawful.1 j j_in)
-    (subst (All (HasItsAnswer (race.made j) (length w.heaps))) whole t.each)
-    (subst (λ l. RunsTo sli (heap_in w j) (calls_on j (race.made j) l) (answers_on j l) (heap_in v j)) whole t.run)
+queue_race_always {sli} w v scripts records race before later j lawful j_in whole = record_always _ sli _ _ _ before later j_in lawful.0 (lawful.1 j j_in) (race_told w v scripts records race j j_in) whole

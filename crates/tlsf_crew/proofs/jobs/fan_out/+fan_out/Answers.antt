@@ -1,4 +1,4 @@
-use Rattle.std.proofs.Common.{◌≡◌, ◌∙◌, ◌∷◌, [], ◌++◌, Some, ap, length, arith, subst}
+use Rattle.std.proofs.Common.{◌≡◌, ◌∷◌, [], ◌++◌, Some, arith, subst}
 use Rattle.std.proofs.lemmas.Grind.{common_steps}
 use Rattle.std.proofs.lemmas.List.{nil_from_length}
 use Rattle.std.proofs.lemmas.List.Elements.{All-pop}
@@ -16,29 +16,11 @@ returns-clause-done g t c =
     let rest : AllDone is_done c.pop.new.self.items c.fan_out.new.done.items = c.in_ok-fan_out.ensures.done in
     rw (items, c.push_reserved.ensures.items) (done_last is_done _ _ _ _ rest (subst (λ j. is_done j d) same c.join.ensures))
 
-pub returns-clause-len : goal.returns-clause-len
-returns-clause-len g t c = omega (arith, c.push_reserved.ensures.len, c.in_ok-fan_out.ensures.len, c.in-Some.ensures.len)
-
-pub returns-clause-capacity : goal.returns-clause-capacity
-returns-clause-capacity g t c = c.push_reserved.ensures.capacity ∙ c.in_ok-fan_out.ensures.capacity
-
-pub returns-in_err-fan_out-clause-capacity : goal.returns-in_err-fan_out-clause-capacity
-returns-in_err-fan_out-clause-capacity g t c = c.in_err-fan_out.ensures.capacity
-
 pub fan_out-requires-clause-ready : goal.fan_out-requires-clause-ready
 fan_out-requires-clause-ready g t c κs within = (All-pop g.W.Work.is_ready c.args.jobs.now.items c.pop.new.self.items (Some c.in-Some.job) c.in-Some.ensures.items c.requires.ready).0
-
-pub fan_out-requires-clause-room : goal.fan_out-requires-clause-room
-fan_out-requires-clause-room g t c κs within = (c.requires.room.0, omega (arith, c.requires.room.1, c.in-Some.ensures.len))
-
-pub push_reserved-requires : goal.push_reserved-requires
-push_reserved-requires g t c = omega (arith, c.requires.room.1, c.in-Some.ensures.len, c.in_ok-fan_out.ensures.len, c.in_ok-fan_out.ensures.capacity)
 
 pub returns-in_default-clause-done : goal.returns-in_default-clause-done
 returns-in_default-clause-done g t c =
     let l = c.args.jobs.now.ok in
     let e : c.args.jobs.now.items ≡ [] = nil_from_length _ (omega (arith, c.in_default.ensures.cases.0)) in
     rw (e, c.requires.room.0) tt
-
-pub returns-in_default-clause-len : goal.returns-in_default-clause-len
-returns-in_default-clause-len g t c = let l = c.args.done.now.ok in omega (arith, ap length c.requires.room.0, c.in_default.ensures.cases.0)

@@ -1,4 +1,4 @@
-use Rattle.std.proofs.Common.{◌≡◌, [], ap, length, refl, arith}
+use Rattle.std.proofs.Common.{◌≡◌, [], ap, length, arith}
 use Rattle.std.proofs.lemmas.List.{nil_from_length}
 use Rattle.tlsf_crew.proofs.jobs.fan_out.+take_apart.Goals as goal
 
@@ -7,9 +7,6 @@ returns-in_default-clause-parts g t c =
     let l = c.args.done.now.ok in
     let e : c.args.done.now.items ≡ [] = nil_from_length _ (omega (arith, c.in_default.ensures.cases.0)) in
     rw e c.requires.empty
-
-pub returns-in_default-clause-capacity : goal.returns-in_default-clause-capacity
-returns-in_default-clause-capacity g t c = (refl, refl)
 
 pub returns-in_default-clause-len : goal.returns-in_default-clause-len
 returns-in_default-clause-len g t c =

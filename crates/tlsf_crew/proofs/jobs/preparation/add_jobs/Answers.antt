@@ -20,9 +20,6 @@ loop-worker-init g c = record {
   capacity = refl;
 }
 
-pub unreachable-requires : goal.unreachable-requires
-unreachable-requires g c = omega (arith, c.loop-worker.invariant.same, c.in-Some.ensures.cases, c.in_default-pop.ensures.cases.0)
-
 pub make_job-requires : goal.make_job-requires
 make_job-requires g c = (
   omega arith,
@@ -34,12 +31,6 @@ make_job-requires g c = (
     ),
   ),
 )
-
-pub push_reserved-requires : goal.push_reserved-requires
-push_reserved-requires g c = omega (arith, c.loop-worker.invariant.room, c.in-Some.ensures.cases)
-
-pub loop-worker-smaller : goal.loop-worker-smaller
-loop-worker-smaller g c = omega (arith, c.in-Some.ensures.cases)
 
 pub loop-worker-preserved : goal.loop-worker-preserved
 loop-worker-preserved g c =
@@ -54,9 +45,6 @@ loop-worker-preserved g c =
       room = omega (arith, i.room, c.push_reserved.ensures.len, c.push_reserved.ensures.capacity, c.in-Some.ensures.cases);
       capacity = c.push_reserved.ensures.capacity ∙ i.capacity;
     }
-
-pub returns-in_err-job-clause-capacity : goal.returns-in_err-job-clause-capacity
-returns-in_err-job-clause-capacity g c = c.loop-worker.invariant.capacity
 
 pub returns-clause-workers : goal.returns-clause-workers
 returns-clause-workers g c =
@@ -76,6 +64,3 @@ returns-clause-len g c =
     let l = c.loop-worker.workers.ok in
     let whole = popped_all (λ (j : Job g.row.SLI _). j.worker) c.loop-worker.workers.items c.args.workers.now.items c.loop-worker.jobs.items c.reverse.new.self.items (nil_from_length c.loop-worker.workers.items (omega (arith, c.in_default.ensures.cases.0))) c.reverse.ensures.items c.loop-worker.invariant.workers in
     omega (arith, ap length whole, length-map c.reverse.new.self.items (λ (j : Job g.row.SLI _). j.worker), c.reverse.new.self.ok, c.args.workers.now.ok)
-
-pub returns-clause-capacity : goal.returns-clause-capacity
-returns-clause-capacity g c = c.reverse.ensures.capacity ∙ c.loop-worker.invariant.capacity

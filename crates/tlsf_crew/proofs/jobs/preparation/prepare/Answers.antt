@@ -18,15 +18,3 @@ add_jobs-requires g c = (
     ),
   ),
 )
-
-pub returns-clause-workers : goal.returns-clause-workers
-returns-clause-workers g c = c.in_ok-add_jobs.ensures.workers
-
-pub returns-clause-scripts : goal.returns-clause-scripts
-returns-clause-scripts g c = c.in_ok-add_jobs.ensures.scripts
-
-pub returns-clause-ready : goal.returns-clause-ready
-returns-clause-ready g c = c.in_ok-add_jobs.ensures.ready
-
-pub returns-clause-len : goal.returns-clause-len
-returns-clause-len g c = c.in_ok-add_jobs.ensures.len

@@ -25,9 +25,6 @@ give_ends-requires g c =
       ),
     )
 
-pub loop-posters-smaller : goal.loop-posters-smaller
-loop-posters-smaller g c = omega (arith, c.in-Some.ensures.cases)
-
 pub loop-posters-preserved : goal.loop-posters-preserved
 loop-posters-preserved g c =
     let before = c.loop-posters.invariant in

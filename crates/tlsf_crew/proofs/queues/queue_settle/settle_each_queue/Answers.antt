@@ -28,6 +28,3 @@ pub returns-clause-settled : goal.returns-clause-settled
 returns-clause-settled g c =
     let e : c.loop-j.j ≡ length c.args.workers.now = omega arith in
     subst (λ (k : ℕ). EachQueueSettled c.args.workers.now k c.loop-j.workers) e c.loop-j.invariant.settled
-
-pub returns-clause-capacity : goal.returns-clause-capacity
-returns-clause-capacity g c = c.loop-j.invariant.capacity

@@ -7,10 +7,6 @@ use Rattle.tlsf_crew.specs.queues.QueueOpening.{GaveEnds}
 use Rattle.tlsf_crew.proofs.lemmas.queues.QueueSettled.{ends_whole, numbers_still, owner_there, queue_settled, slots_still}
 use Rattle.tlsf_crew.proofs.queues.queue_settle.settle_one_queue.Goals as goal
 
-pub gather_all-requires : goal.gather_all-requires
-gather_all-requires g c =
-    (omega arith, (c.requires.yard, (c.requires.inside, (c.clear.ensures.items, omega (arith, c.clear.ensures.capacity, c.requires.room)))))
-
 pub owner_beside-requires : goal.owner_beside-requires
 owner_beside-requires g c = (
   omega arith,

@@ -43,6 +43,3 @@ loop-j-preserved g c =
       rooms = keeps_set c.args.records.now c.loop-j.records c.loop-j.j _ c.drain_one.new.entries i.rooms (omega (arith, c.requires.count)) here c.drain_one.ensures.capacity;
       later = λ k after. get_set_other c.loop-j.records c.loop-j.j k c.drain_one.new.entries (λ e. omega arith) ∙ i.later k (omega arith);
     }
-
-pub returns-clause-rooms : goal.returns-clause-rooms
-returns-clause-rooms g c = c.loop-j.invariant.rooms

@@ -9,9 +9,6 @@ returns-clause-stepped g c = λ n made k.
     let y = c.drain_source.new.notes in
     rw d.2.0 (drain_stepped n c.args.worker.now c.drain_source.new.worker x y c.args.most made d.0 k d.1)
 
-pub returns-clause-capacity : goal.returns-clause-capacity
-returns-clause-capacity g c = c.drain_source.ensures.kept
-
 pub returns-clause-few : goal.returns-clause-few
 returns-clause-few g c =
     let d = c.drain_source.ensures.drained in

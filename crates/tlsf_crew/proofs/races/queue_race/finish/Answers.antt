@@ -21,9 +21,6 @@ settle_each_queue-requires-2 g c = (
   ),
 )
 
-pub returns-clause-rooms : goal.returns-clause-rooms
-returns-clause-rooms g c = c.drain_all.ensures.rooms
-
 pub returns-clause-finished : goal.returns-clause-finished
 returns-clause-finished g c = record {
   settled = c.settle_each_queue.new.workers;

@@ -67,10 +67,6 @@ returns g c =
           c.settle.ensures.count c.settle.ensures.settled c.settle.ensures.world c.settle.ensures.yard run c.settle-2.ensures.count c.settle-2.ensures.settled c.settle-2.ensures.world c.settle-2.ensures.yard last);
     }
 
-pub settle-requires : goal.settle-requires
-settle-requires g c =
-    (omega arith, rw c.deref_mut.ensures.value c.requires.yard)
-
 pub run_scripts-requires : goal.run_scripts-requires
 run_scripts-requires g c = (
   search sendable,
@@ -88,7 +84,3 @@ run_scripts-requires g c = (
     ),
   ),
 )
-
-pub settle-requires-2 : goal.settle-requires-2
-settle-requires-2 g c =
-    (omega arith, rw c.deref_mut-2.ensures.value c.in_ok-outcome.ensures.run.yard)

@@ -78,6 +78,3 @@ loop-event-init g c = record {
   room = c.in_ok-journal.ensures.room;
   replayed = rw (c.reserve.ensures.items, c.in_ok-journal.ensures.empty) refl;
 }
-
-pub returns-clause-yard : goal.returns-clause-yard
-returns-clause-yard g c = c.loop-event.invariant.yard

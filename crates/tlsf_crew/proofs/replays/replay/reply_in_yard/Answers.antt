@@ -80,10 +80,3 @@ returns-clause-replied g c = λ made known.
     let own : id_of a ≡ c.args.event.worker = own_number vs c.args.event.worker a e.yard is in
     let s = settles (run_of g c made known) c.args.workers.now c.settle_for.new.workers c.args.event.worker own e.count (e.settled made known) (f.settled made known) (λ may i t near q. e.limits.all may i t near q) f.yard f.count f.world in
     replied (run_of g c made known) c.args.workers.now c.settle_for.new.workers c.args.event s e.world (sym own) refl
-
-pub settle_for-journal-requires : goal.settle_for-journal-requires
-settle_for-journal-requires g c =
-    (omega arith, (c.requires.yard, c.requires.inside))
-
-pub returns-clause-capacity : goal.returns-clause-capacity
-returns-clause-capacity g c = c.reply_to-reply.ensures.capacity

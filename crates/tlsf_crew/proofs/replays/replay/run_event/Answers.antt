@@ -1,6 +1,4 @@
-use Rattle.std.proofs.Common.{◌≡◌, ◌≤◌, ◌∙◌, subst, sym, ap, length, Option, arith}
-use Rattle.std.proofs.lemmas.List.{length-append}
-use Rattle.tlsf_heap.specs.declared.name.Name.{Name}
+use Rattle.std.proofs.Common.{◌≡◌, ◌≤◌, subst, sym, length, arith}
 use Rattle.tlsf_crew.specs.model.Targets.{target_name}
 use Rattle.tlsf_crew.specs.replays.ReplaySteps.{replay_of}
 use Rattle.tlsf_crew.proofs.lemmas.lanes.LaneChanges.{heaps_count}
@@ -36,34 +34,3 @@ pub returns-clause-after : goal.returns-clause-after
 returns-clause-after g c =
     let told = c.reply_in_yard-reply.ensures.replied c.args.made.now.items (subst (λ made. target_name made c.args.event.call ≡ c.target_name-name.result) c.deref.ensures.value (sym c.target_name-name.ensures)) in
     rw (c.answer-2.ensures.made, c.answer-2.ensures.entries) (sym told.after)
-
-pub reply_in_yard-reply-requires : goal.reply_in_yard-reply-requires
-reply_in_yard-reply-requires g c =
-    (omega arith, (c.requires.yard, (omega arith, (c.requires.takes, (_, sym c.target_name-name.ensures)))))
-
-pub answer-requires-clause-made : goal.answer-requires-clause-made
-answer-requires-clause-made g c = c.requires.made
-
-pub answer-requires-2-clause-made : goal.answer-requires-2-clause-made
-answer-requires-2-clause-made g c = c.requires.made
-
-pub returns-clause-capacity : goal.returns-clause-capacity
-returns-clause-capacity g c = (c.answer-2.ensures.capacity.0, c.answer-2.ensures.capacity.1 ∙ c.reply_in_yard-reply.ensures.capacity)
-
-pub returns-then-event-workers-clause-yard : goal.returns-then-event-workers-clause-yard
-returns-then-event-workers-clause-yard g c = c.requires.yard
-
-pub returns-then-event-workers-clause-capacity : goal.returns-then-event-workers-clause-capacity
-returns-then-event-workers-clause-capacity g c = c.answer.ensures.capacity
-
-pub returns-clause-made : goal.returns-clause-made
-returns-clause-made g c =
-    let l = c.args.made.now.ok in
-    let m = c.answer-2.new.made.ok in
-    omega (arith, ap length c.answer-2.ensures.made, length-append {A = Option Name})
-
-pub returns-then-event-workers-clause-made : goal.returns-then-event-workers-clause-made
-returns-then-event-workers-clause-made g c =
-    let l = c.args.made.now.ok in
-    let m = c.answer.new.made.ok in
-    omega (arith, ap length c.answer.ensures.made, length-append {A = Option Name})

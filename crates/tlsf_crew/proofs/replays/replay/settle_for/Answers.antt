@@ -1,4 +1,4 @@
-use Rattle.std.proofs.Common.{◌≡◌, ◌∙◌, ap, sym, refl, subst, arith, Some, slice_get}
+use Rattle.std.proofs.Common.{◌≡◌, ◌∙◌, ap, sym, subst, arith, Some, slice_get}
 use Rattle.std.proofs.lemmas.Option.{slice_get-get_or}
 use Rattle.tlsf_crew.specs.model.Targets.{target_name}
 use Rattle.tlsf_crew.specs.replays.ReplaySteps.{ConcernsCall, MayTake}
@@ -27,38 +27,11 @@ returns-in-Take-clause-limits g c =
 pub returns-in-Release-clause-limits : goal.returns-in-Release-clause-limits
 returns-in-Release-clause-limits g c = zero_limits _ c.args.event (λ m. subst MayTake c.in-Release.is m)
 
-pub returns-in-Release-clause-yard : goal.returns-in-Release-clause-yard
-returns-in-Release-clause-yard g c = c.settle_named.ensures.yard
-
-pub returns-in-Release-clause-count : goal.returns-in-Release-clause-count
-returns-in-Release-clause-count g c = c.settle_named.ensures.count
-
-pub returns-in-Release-clause-world : goal.returns-in-Release-clause-world
-returns-in-Release-clause-world g c = c.settle_named.ensures.world
-
-pub returns-in-Take-clause-yard : goal.returns-in-Take-clause-yard
-returns-in-Take-clause-yard g c = c.settle_column.ensures.yard
-
-pub returns-in-Take-clause-count : goal.returns-in-Take-clause-count
-returns-in-Take-clause-count g c = c.settle_column.ensures.count
-
-pub returns-in-Take-clause-world : goal.returns-in-Take-clause-world
-returns-in-Take-clause-world g c = c.settle_column.ensures.world
-
 pub returns-in-Allocate-clause-settled : goal.returns-in-Allocate-clause-settled
 returns-in-Allocate-clause-settled g c = λ made known i j a b ne k. absurd (subst (λ x. ConcernsCall made c.args.event.worker x i j) c.in-Allocate.is k)
 
 pub returns-in-Allocate-clause-limits : goal.returns-in-Allocate-clause-limits
 returns-in-Allocate-clause-limits g c = zero_limits _ c.args.event (λ m. subst MayTake c.in-Allocate.is m)
-
-pub returns-in-Allocate-clause-yard : goal.returns-in-Allocate-clause-yard
-returns-in-Allocate-clause-yard g c = c.requires.yard
-
-pub returns-in-Allocate-clause-count : goal.returns-in-Allocate-clause-count
-returns-in-Allocate-clause-count g c = refl
-
-pub returns-in-Allocate-clause-world : goal.returns-in-Allocate-clause-world
-returns-in-Allocate-clause-world g c = refl
 
 pub returns-in-Write-clause-settled : goal.returns-in-Write-clause-settled
 returns-in-Write-clause-settled g c = λ made known i j a b ne k. absurd (subst (λ x. ConcernsCall made c.args.event.worker x i j) c.in-Write.is k)
@@ -66,41 +39,14 @@ returns-in-Write-clause-settled g c = λ made known i j a b ne k. absurd (subst 
 pub returns-in-Write-clause-limits : goal.returns-in-Write-clause-limits
 returns-in-Write-clause-limits g c = zero_limits _ c.args.event (λ m. subst MayTake c.in-Write.is m)
 
-pub returns-in-Write-clause-yard : goal.returns-in-Write-clause-yard
-returns-in-Write-clause-yard g c = c.requires.yard
-
-pub returns-in-Write-clause-count : goal.returns-in-Write-clause-count
-returns-in-Write-clause-count g c = refl
-
-pub returns-in-Write-clause-world : goal.returns-in-Write-clause-world
-returns-in-Write-clause-world g c = refl
-
 pub returns-in-Read-clause-settled : goal.returns-in-Read-clause-settled
 returns-in-Read-clause-settled g c = λ made known i j a b ne k. absurd (subst (λ x. ConcernsCall made c.args.event.worker x i j) c.in-Read.is k)
 
 pub returns-in-Read-clause-limits : goal.returns-in-Read-clause-limits
 returns-in-Read-clause-limits g c = zero_limits _ c.args.event (λ m. subst MayTake c.in-Read.is m)
 
-pub returns-in-Read-clause-yard : goal.returns-in-Read-clause-yard
-returns-in-Read-clause-yard g c = c.requires.yard
-
-pub returns-in-Read-clause-count : goal.returns-in-Read-clause-count
-returns-in-Read-clause-count g c = refl
-
-pub returns-in-Read-clause-world : goal.returns-in-Read-clause-world
-returns-in-Read-clause-world g c = refl
-
 pub returns-in-Resize-clause-settled : goal.returns-in-Resize-clause-settled
 returns-in-Resize-clause-settled g c = λ made known i j a b ne k. absurd (subst (λ x. ConcernsCall made c.args.event.worker x i j) c.in-Resize.is k)
 
 pub returns-in-Resize-clause-limits : goal.returns-in-Resize-clause-limits
 returns-in-Resize-clause-limits g c = zero_limits _ c.args.event (λ m. subst MayTake c.in-Resize.is m)
-
-pub returns-in-Resize-clause-yard : goal.returns-in-Resize-clause-yard
-returns-in-Resize-clause-yard g c = c.requires.yard
-
-pub returns-in-Resize-clause-count : goal.returns-in-Resize-clause-count
-returns-in-Resize-clause-count g c = refl
-
-pub returns-in-Resize-clause-world : goal.returns-in-Resize-clause-world
-returns-in-Resize-clause-world g c = refl

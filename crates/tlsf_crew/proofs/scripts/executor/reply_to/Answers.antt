@@ -55,6 +55,3 @@ pub returns-in-Drain-clause-stepped : goal.returns-in-Drain-clause-stepped
 returns-in-Drain-clause-stepped g c = λ n made known k.
     rw c.in-Drain.is
     (c.drains_step.ensures g.row.SLI n c.args.worker.now c.drain_each.new.worker c.args.journal.now c.drain_each.new.notes c.in-Drain.most made c.drain_each.result k c.drain_each.ensures.drained)
-
-pub returns-in-Drain-clause-capacity : goal.returns-in-Drain-clause-capacity
-returns-in-Drain-clause-capacity g c = c.drain_each.ensures.kept

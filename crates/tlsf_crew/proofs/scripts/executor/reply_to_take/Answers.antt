@@ -12,9 +12,6 @@ returns-then-not-admits-clause-stepped g c = λ n made k.
     c.takes_step.ensures.taken g.row.SLI n c.args.worker.now c.args.worker.now c.args.journal.now.limits c.args.journal.now.limits c.args.from made c.args.journal.now.entries.items None k s.0 s.1
     (refl, inl (c.admits.ensures.no c.if-not-admits.true, refl))
 
-pub take_next-requires : goal.take_next-requires
-take_next-requires g c = (omega arith, (c.is_source_of.ensures.yes c.if-not-is_source_of.false).1)
-
 pub returns-in_default-clause-stepped : goal.returns-in_default-clause-stepped
 returns-in_default-clause-stepped g c = λ n made k.
     let s = c.is_source_of.ensures.yes c.if-not-is_source_of.false in

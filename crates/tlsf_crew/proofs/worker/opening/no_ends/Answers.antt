@@ -10,12 +10,6 @@ returns g c =
 pub loop-ends-init : goal.loop-ends-init
 loop-ends-init g c = record { room = c.in_ok-ends.ensures.capacity; most = omega (arith, c.in_ok-ends.ensures.len); none = rw (c.in_ok-ends.ensures.items, c.in_ok-ends.ensures.len) refl }
 
-pub push_reserved-requires : goal.push_reserved-requires
-push_reserved-requires g c = omega (arith, c.loop-ends.invariant.room)
-
-pub loop-ends-smaller : goal.loop-ends-smaller
-loop-ends-smaller g c = omega (arith, c.push_reserved.ensures.len)
-
 pub loop-ends-preserved : goal.loop-ends-preserved
 loop-ends-preserved g c =
     let i = c.loop-ends.invariant in

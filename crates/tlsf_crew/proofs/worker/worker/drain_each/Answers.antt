@@ -14,10 +14,6 @@ loop-source-init g c = record {
   rise = omega arith;
 }
 
-pub drain_source-here-requires : goal.drain_source-here-requires
-drain_source-here-requires g c =
-    (omega arith, (c.has_source.ensures.yes c.if-has_source.true, c.loop-source.invariant.room))
-
 pub loop-source-preserved : goal.loop-source-preserved
 loop-source-preserved g c =
     let a = c.args.worker.now in
@@ -64,28 +60,10 @@ returns-clause-drained g c =
       count = l.2;
     }
 
-pub returns-clause-most : goal.returns-clause-most
-returns-clause-most g c = c.loop-source.invariant.few
-
 pub returns-clause-freed : goal.returns-clause-freed
 returns-clause-freed g c = counted_few c.loop-source.drained c.loop-source.invariant.each.0 c.loop-source.invariant.each.2
-
-pub returns-clause-touches : goal.returns-clause-touches
-returns-clause-touches g c = c.loop-source.invariant.touches
-
-pub returns-clause-touches_rise : goal.returns-clause-touches_rise
-returns-clause-touches_rise g c = c.loop-source.invariant.rise
-
-pub overflow_sub-most : goal.overflow_sub-most
-overflow_sub-most g c = c.loop-source.invariant.few
-
-pub overflow_add-drained : goal.overflow_add-drained
-overflow_add-drained g c = omega (arith, c.drain_source-here.ensures.most, c.loop-source.invariant.few)
 
 pub overflow_add-drained-then-has_source : goal.overflow_add-drained-then-has_source
 overflow_add-drained-then-has_source g c =
     let few = counted_few c.loop-source.drained c.loop-source.invariant.each.0 c.loop-source.invariant.each.2 in
     omega (arith, few, c.drain_source-here.ensures.most, c.drain_source-here.ensures.freed, c.loop-source.invariant.few)
-
-pub returns-clause-kept : goal.returns-clause-kept
-returns-clause-kept g c = c.loop-source.invariant.kept

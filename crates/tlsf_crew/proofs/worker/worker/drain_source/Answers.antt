@@ -97,24 +97,5 @@ returns-in_default g c =
       touches_rise = omega (arith, i.rise, c.in_default.ensures.touches_rise);
     }
 
-pub take_next-requires : goal.take_next-requires
-take_next-requires g c =
-    (omega arith, c.loop-drained.invariant.source)
-
-pub note-requires-clause-admitted : goal.note-requires-clause-admitted
-note-requires-clause-admitted g c = c.admits.ensures.yes c.if-not-admits.false
-
-pub note-requires-clause-room : goal.note-requires-clause-room
-note-requires-clause-room g c = c.loop-drained.invariant.room
-
-pub overflow_add-drained : goal.overflow_add-drained
-overflow_add-drained g c = omega arith
-
 pub overflow_add-drained-then-is_ok : goal.overflow_add-drained-then-is_ok
 overflow_add-drained-then-is_ok g c = let few = counted_few c.loop-drained.drained c.loop-drained.invariant.takes.0 c.loop-drained.invariant.takes.2 in omega (arith, few)
-
-pub loop-drained-smaller : goal.loop-drained-smaller
-loop-drained-smaller g c = omega arith
-
-pub loop-drained-smaller-then-is_ok : goal.loop-drained-smaller-then-is_ok
-loop-drained-smaller-then-is_ok g c = omega arith

@@ -4,12 +4,3 @@ use Rattle.tlsf_crew.proofs.worker.worker.Worker.allocate.Goals as goal
 
 pub returns-clause-yard : goal.returns-clause-yard
 returns-clause-yard g c = c.as_crew.ensures.yard g.row.SLI _ _ (refl, refl) (allocate_keeps g.row.SLI _ _ c.args.len c.allocate.ensures.heap c.allocate.ensures.lawful)
-
-pub returns-clause-heap : goal.returns-clause-heap
-returns-clause-heap g c = c.allocate.ensures.heap
-
-pub returns-clause-same : goal.returns-clause-same
-returns-clause-same g c = (refl, refl)
-
-pub returns-clause-touches_rise : goal.returns-clause-touches_rise
-returns-clause-touches_rise g c = c.allocate.ensures.touches_rise

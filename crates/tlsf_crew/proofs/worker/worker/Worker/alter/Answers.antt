@@ -4,12 +4,3 @@ use Rattle.tlsf_crew.proofs.worker.worker.Worker.alter.Goals as goal
 
 pub returns-clause-yard : goal.returns-clause-yard
 returns-clause-yard g c = c.as_crew.ensures.yard g.row.SLI _ _ (refl, refl) (alter_keeps g.F.FnOnce c.args.f _ _ c.args.name c.alter.result c.alter.ensures.altered c.alter.ensures.err)
-
-pub returns-clause-same : goal.returns-clause-same
-returns-clause-same g c = (refl, refl)
-
-pub returns-clause-touches : goal.returns-clause-touches
-returns-clause-touches g c = c.alter.ensures.touches
-
-pub returns-clause-touches_rise : goal.returns-clause-touches_rise
-returns-clause-touches_rise g c = c.alter.ensures.touches_rise

@@ -5,12 +5,3 @@ use Rattle.tlsf_crew.proofs.worker.worker.Worker.resize.Goals as goal
 
 pub returns-clause-yard : goal.returns-clause-yard
 returns-clause-yard g c = c.as_crew.ensures.yard g.row.SLI _ _ (refl, refl) (call_keeps _ _ (Resize c.args.name c.args.len) c.resize.ensures.heap)
-
-pub returns-clause-heap : goal.returns-clause-heap
-returns-clause-heap g c = c.resize.ensures.heap
-
-pub returns-clause-same : goal.returns-clause-same
-returns-clause-same g c = (refl, refl)
-
-pub returns-clause-touches_rise : goal.returns-clause-touches_rise
-returns-clause-touches_rise g c = c.resize.ensures.touches_rise
