@@ -140,7 +140,7 @@ fn write_line_item(text: &mut String, line: u32) -> Result<(), AllocError>
 ///
 /// ```text
 /// write_page_head(&mut text)?;
-/// write_moment(&mut text, 64, 1, &heaps)?;    // "line 1\nheap 0: 64 words at tick 0\nlive 0 blocks, ..\nf64,0;\n"
+/// write_moment(&mut text, 64, 1, &heaps)?;    // "line 1\nheap 0: 64 words at tick 1\nlive 0 blocks, ..\nf64,0;\n"
 /// write_page_foot(&mut text)?;
 /// ```
 ///
