@@ -9,7 +9,7 @@ use Rattle.clap.specs.Walk.{Row, Text, all_of, one_of, rows_of}
 use Rattle.clap.specs.Words.{subcommand_of, subcommand_rows_of}
 use Rattle.clap.specs.declared.parser.matches.ArgMatches.{ArgMatches}
 use Rattle.clap.proofs.WalkLemmas.{one_text-rows, raw_values-rows}
-use Rattle.tlsf_command.specs.CommandLine.{Answers, Asks, HasFlag, HasForm, IsAnswerable, IsMapOn, IsRunOn, IsTip, LacksFlag, NamesNoLine, command_in, command_of, flag_given, line_given, name_of, replay_by, run_in, texts_given, tip_line, tlsf_app}
+use Rattle.tlsf_command.specs.CommandLine.{Answers, Asks, HasFlag, HasForm, IsAnswerable, IsFormOf, IsMapOn, IsRunOn, IsTip, LacksFlag, NamesNoLine, command_in, command_of, flag_given, line_given, name_of, replay_by, run_in, texts_given, tip_line, tlsf_app, worst_in}
 use Rattle.tlsf_command.specs.ClassQuestions.{HasClasses, IsClassQuestion}
 use Rattle.tlsf_command.specs.SizeQuestions.{IsQuestion, first_number}
 use Rattle.tlsf_command.specs.declared.class_question.ClassQuestion.{ClassQuestion}
@@ -20,7 +20,7 @@ use Rattle.tlsf_command.specs.declared.command_line.Choice.TheVariants.{Trace, F
 use Rattle.tlsf_picture.specs.declared.form.Form.{Form}
 use Rattle.tlsf_picture.specs.declared.form.Form.TheVariants.{Svg, Text as Characters}
 use Rattle.tlsf_command.specs.declared.trace_run.TraceRun.{TraceRun}
-use Rattle.tlsf_command.specs.declared.trace_run.TraceRun.TheVariants.{Replay, Held, HeldKinds, Race, RaceQueues, Map, MapText, Plot, PlotText, Check}
+use Rattle.tlsf_command.specs.declared.trace_run.TraceRun.TheVariants.{Replay, Held, HeldKinds, Race, RaceQueues, Map, MapText, MapHtml, MapWorst, MapWorstText, Plot, PlotText, Check}
 use Rattle.tlsf_command.specs.Runs.{Does, Refuses, Streams}
 use Rattle.tlsf_command.proofs.NamedCommands.{faultless_named, subcommand_name-rows}
 use Rattle.tlsf_command.proofs.NamedRuns.{GivesForm}
@@ -53,6 +53,9 @@ no_classes Race = refl
 no_classes RaceQueues = refl
 no_classes Map = refl
 no_classes MapText = refl
+no_classes MapHtml = refl
+no_classes MapWorst = refl
+no_classes MapWorstText = refl
 no_classes Plot = refl
 no_classes PlotText = refl
 no_classes Check = refl
@@ -65,6 +68,9 @@ no_size Race = refl
 no_size RaceQueues = refl
 no_size Map = refl
 no_size MapText = refl
+no_size MapHtml = refl
+no_size MapWorst = refl
+no_size MapWorstText = refl
 no_size Plot = refl
 no_size PlotText = refl
 no_size Check = refl
@@ -77,6 +83,9 @@ itself Race = refl
 itself RaceQueues = refl
 itself Map = refl
 itself MapText = refl
+itself MapHtml = refl
+itself MapWorst = refl
+itself MapWorstText = refl
 itself Plot = refl
 itself PlotText = refl
 itself Check = refl
@@ -97,9 +106,30 @@ same_run words Race RaceQueues is gives has = absurd (has.0 gives)
 same_run words RaceQueues Race is gives has = absurd (has gives)
 same_run words RaceQueues RaceQueues is gives has = refl
 same_run words Map Map is gives has = refl
-same_run words Map MapText is gives has = absurd (has.0 gives)
-same_run words MapText Map is gives has = absurd (has gives)
+same_run words Map MapText is gives has = absurd (has.2.0 gives.2)
+same_run words Map MapHtml is gives has = absurd (has.0 gives.0)
+same_run words Map MapWorst is gives has = absurd (has.1.0 gives.1)
+same_run words Map MapWorstText is gives has = absurd (has.1.0 gives.1)
+same_run words MapText Map is gives has = absurd (has.2 gives.2)
 same_run words MapText MapText is gives has = refl
+same_run words MapText MapHtml is gives has = absurd (has.0 gives.0)
+same_run words MapText MapWorst is gives has = absurd (has.1.0 gives.1)
+same_run words MapText MapWorstText is gives has = absurd (has.1.0 gives.1)
+same_run words MapHtml Map is gives has = absurd (has.0 gives)
+same_run words MapHtml MapText is gives has = absurd (has.0 gives)
+same_run words MapHtml MapHtml is gives has = refl
+same_run words MapHtml MapWorst is gives has = absurd (has.0 gives)
+same_run words MapHtml MapWorstText is gives has = absurd (has.0 gives)
+same_run words MapWorst Map is gives has = absurd (has.1 gives.1)
+same_run words MapWorst MapText is gives has = absurd (has.1 gives.1)
+same_run words MapWorst MapHtml is gives has = absurd (has.0 gives.0)
+same_run words MapWorst MapWorst is gives has = refl
+same_run words MapWorst MapWorstText is gives has = absurd (has.2.0 gives.2)
+same_run words MapWorstText Map is gives has = absurd (has.1 gives.1)
+same_run words MapWorstText MapText is gives has = absurd (has.1 gives.1)
+same_run words MapWorstText MapHtml is gives has = absurd (has.0 gives.0)
+same_run words MapWorstText MapWorst is gives has = absurd (has.2 gives.2)
+same_run words MapWorstText MapWorstText is gives has = refl
 same_run words Plot Plot is gives has = refl
 same_run words Plot PlotText is gives has = absurd (has.0 gives)
 same_run words PlotText Plot is gives has = absurd (has gives)
@@ -271,6 +301,33 @@ replay_form false false words kinds_told held_told = (kinds_told, held_told)
 drawn_by : (form : Form) → codes "map" ≡ command_of (run_in form)
 drawn_by Svg = refl
 drawn_by Characters = refl
+
+worst_by : (form : Form) → codes "map" ≡ command_of (worst_in form)
+worst_by Svg = refl
+worst_by Characters = refl
+
+worst_has_no_line : (form : Form) (words : List Text) → NamesNoLine (worst_in form) words
+worst_has_no_line Svg words = tt
+worst_has_no_line Characters words = tt
+
+-- the flags of a picture that isn't a page, behind the line to look at and elsewhere
+pub map_form : (form : Form) (words : List Text) → LacksFlag (codes "html") words → LacksFlag (codes "worst") words → IsFormOf form words → HasForm (run_in form) words
+map_form Svg words html worst text = (html, worst, text)
+map_form Characters words html worst text = (html, worst, text)
+
+worst_form : (form : Form) (words : List Text) → LacksFlag (codes "html") words → HasFlag (codes "worst") words → IsFormOf form words → HasForm (worst_in form) words
+worst_form Svg words html worst text = (html, worst, text)
+worst_form Characters words html worst text = (html, worst, text)
+
+-- where the command is `map` and the words give its flag of the line to look at
+pub asks_worst : (words : List Text) (matches given : ArgMatches) (form : Form) (choice : Choice) → Answers words matches
+    → subcommand_name_of matches ≡ Some (codes "map")
+    → option_map (λ (entered : Text × List Row). entered.1) (subcommand_rows_of matches) ≡ Some (rows_of (found_of given))
+    → LacksFlag (codes "html") words → HasFlag (codes "worst") words → IsFormOf form words
+    → IsRunOn (worst_in form) (texts_read (codes "FILE") given) choice → Asks words choice
+asks_worst words matches given form choice answers called entered html worst text on =
+    asks_run words matches given (worst_in form) choice answers (called ∙ ap (λ (name : Text). Some name) (worst_by form)) entered
+    (worst_form form words html worst text) (λ none. worst_has_no_line form words) on
 
 no_line_in : (form : Form) (words : List Text) → line_given words ≡ 0 → NamesNoLine (run_in form) words
 no_line_in Svg words none = none

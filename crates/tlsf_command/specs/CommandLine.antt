@@ -13,7 +13,7 @@ use Rattle.tlsf_command.specs.declared.command_line.Choice.TheVariants.{Trace, F
 use Rattle.tlsf_picture.specs.declared.form.Form.{Form}
 use Rattle.tlsf_picture.specs.declared.form.Form.TheVariants.{Svg, Text as Characters}
 use Rattle.tlsf_command.specs.declared.trace_run.TraceRun.{TraceRun}
-use Rattle.tlsf_command.specs.declared.trace_run.TraceRun.TheVariants.{Replay, Held, HeldKinds, Race, RaceQueues, Map, MapText, Plot, PlotText, Check}
+use Rattle.tlsf_command.specs.declared.trace_run.TraceRun.TheVariants.{Replay, Held, HeldKinds, Race, RaceQueues, Map, MapText, MapHtml, MapWorst, MapWorstText, Plot, PlotText, Check}
 
 -- the size that `classes` asks for, a number from 4 to 2^24
 abbrev pub size_rule : Rule
@@ -77,9 +77,9 @@ line_rule = record (new_rule (codes "K")) {
   parser = Some (Signed (pos 1) (pos 4294967295));
 }
 
--- the command `map`, with the flag by which the heaps are drawn in characters
+-- the command `map`, with the flags by which the heaps are drawn in characters, behind the line to look at, and on a page
 abbrev pub map_app : App
-map_app = with_rule (trace_app (codes "map") (codes "text")) line_rule
+map_app = with_rule (with_rule (with_rule (trace_app (codes "map") (codes "text")) line_rule) (flag_rule (codes "worst"))) (flag_rule (codes "html"))
 
 -- the command `plot`, with the flag by which the heaps are plotted in characters
 abbrev pub plot_app : App
@@ -143,6 +143,9 @@ command_of Race = codes "race"
 command_of RaceQueues = codes "race"
 command_of Map = codes "map"
 command_of MapText = codes "map"
+command_of MapHtml = codes "map"
+command_of MapWorst = codes "map"
+command_of MapWorstText = codes "map"
 command_of Plot = codes "plot"
 command_of PlotText = codes "plot"
 command_of Check = codes "check"
@@ -156,6 +159,9 @@ words_of Race = codes "race" ∷ []
 words_of RaceQueues = codes "race" ∷ codes "--queues" ∷ []
 words_of Map = codes "map" ∷ []
 words_of MapText = codes "map" ∷ codes "--text" ∷ []
+words_of MapHtml = codes "map" ∷ codes "--html" ∷ []
+words_of MapWorst = codes "map" ∷ codes "--worst" ∷ []
+words_of MapWorstText = codes "map" ∷ codes "--worst" ∷ codes "--text" ∷ []
 words_of Plot = codes "plot" ∷ []
 words_of PlotText = codes "plot" ∷ codes "--text" ∷ []
 words_of Check = codes "check" ∷ []
@@ -169,6 +175,9 @@ spelled Race = codes "race"
 spelled RaceQueues = codes "race --queues"
 spelled Map = codes "map"
 spelled MapText = codes "map --text"
+spelled MapHtml = codes "map --html"
+spelled MapWorst = codes "map --worst"
+spelled MapWorstText = codes "map --worst --text"
 spelled Plot = codes "plot"
 spelled PlotText = codes "plot --text"
 spelled Check = codes "check"
@@ -204,8 +213,11 @@ HasForm Held words = LacksFlag (codes "kinds") words × HasFlag (codes "held") w
 HasForm HeldKinds words = HasFlag (codes "kinds") words
 HasForm Race words = LacksFlag (codes "queues") words
 HasForm RaceQueues words = HasFlag (codes "queues") words
-HasForm Map words = LacksFlag (codes "text") words
-HasForm MapText words = HasFlag (codes "text") words
+HasForm Map words = LacksFlag (codes "html") words × LacksFlag (codes "worst") words × LacksFlag (codes "text") words
+HasForm MapText words = LacksFlag (codes "html") words × LacksFlag (codes "worst") words × HasFlag (codes "text") words
+HasForm MapHtml words = HasFlag (codes "html") words
+HasForm MapWorst words = LacksFlag (codes "html") words × HasFlag (codes "worst") words × LacksFlag (codes "text") words
+HasForm MapWorstText words = LacksFlag (codes "html") words × HasFlag (codes "worst") words × HasFlag (codes "text") words
 HasForm Plot words = LacksFlag (codes "text") words
 HasForm PlotText words = HasFlag (codes "text") words
 HasForm Check words = ⊤
@@ -216,12 +228,22 @@ replay_by true held = HeldKinds
 replay_by false true = Held
 replay_by false false = Replay
 
+-- the words give the flag of this form, or don't
+abbrev pub IsFormOf : Form → List Text → Type 0
+IsFormOf Svg words = LacksFlag (codes "text") words
+IsFormOf Characters words = HasFlag (codes "text") words
+
 -- the run by which heaps are drawn in this form
 abbrev pub run_in : Form → TraceRun
 run_in Svg = Map
 run_in Characters = MapText
 
--- where the heaps are drawn, the words give no line
+-- the run by which they are drawn so behind the line to look at
+abbrev pub worst_in : Form → TraceRun
+worst_in Svg = MapWorst
+worst_in Characters = MapWorstText
+
+-- where the heaps are drawn at the end, the words give no line
 abbrev pub NamesNoLine : TraceRun → List Text → Type 0
 NamesNoLine Map words = line_given words ≡ 0
 NamesNoLine MapText words = line_given words ≡ 0

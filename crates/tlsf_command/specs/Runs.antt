@@ -19,12 +19,14 @@ use Rattle.tlsf_pool.specs.declared.split.Split.{Split}
 use Rattle.tlsf_command.specs.declared.command_line.Choice.{Choice}
 use Rattle.tlsf_command.specs.declared.command_line.Choice.TheVariants.{Trace, File, Classes, Size, At}
 use Rattle.tlsf_command.specs.declared.trace_run.TraceRun.{TraceRun}
-use Rattle.tlsf_command.specs.declared.trace_run.TraceRun.TheVariants.{Replay, Held, HeldKinds, Race, RaceQueues, Map, MapText, Plot, PlotText, Check}
+use Rattle.tlsf_command.specs.declared.trace_run.TraceRun.TheVariants.{Replay, Held, HeldKinds, Race, RaceQueues, Map, MapText, MapHtml, MapWorst, MapWorstText, Plot, PlotText, Check}
 use Rattle.tlsf_check.specs.Checks.{Checks, Notes}
 use Rattle.tlsf_held.specs.Measures.{Measures, TellsKinds}
 use Rattle.tlsf_picture.specs.Drawn.{Draws, DrawsAt, DrawsText}
+use Rattle.tlsf_picture.specs.Pages.{DrawsPage}
 use Rattle.tlsf_picture.specs.declared.form.Form.TheVariants.{Svg, Text as Characters}
 use Rattle.tlsf_plot.specs.Plots.{Plots}
+use Rattle.tlsf_plot.specs.Worst.{DrawsWorst}
 use Rattle.tlsf_lines.specs.Prefixes.{AppendsFront}
 use Rattle.tlsf_trace.specs.Replay.{IsRun, Outputs, Races, RacesQueues, Replays}
 use Rattle.tlsf_lines.specs.TraceFaults.{no_memory_fault, write_fault}
@@ -56,7 +58,7 @@ IsNote Check text (Err fault) note = IfSome text (λ bytes. Notes bytes fault []
 IsNote run text answer note = note ≡ []
 
 -- what a run may put out: what a replay does, or what its workers asked of their heaps, or the kinds of blocks that these held; what a race does, each phase in threads, over lanes or over
--- queues; the heaps that the trace leaves, or these over its lines, as an SVG file or in the characters of a terminal; or what a check says of it
+-- queues; the heaps that the trace leaves, those behind the line to look at, or these over its lines, as an SVG file or in the characters of a terminal, and on a page; or what a check says of it
 abbrev pub puts_of : TraceRun → Outputs
 puts_of Replay = Replays
 puts_of Held = Measures
@@ -65,6 +67,9 @@ puts_of Race = Races
 puts_of RaceQueues = RacesQueues
 puts_of Map = Draws
 puts_of MapText = DrawsText
+puts_of MapHtml = DrawsPage
+puts_of MapWorst = DrawsWorst Svg
+puts_of MapWorstText = DrawsWorst Characters
 puts_of Plot = Plots Svg
 puts_of PlotText = Plots Characters
 puts_of Check = Checks

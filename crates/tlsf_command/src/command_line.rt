@@ -5,7 +5,7 @@ ghost use Rattle.clap.specs.Words.{app_of, found_of, matched_of, new_app, raw_va
 ghost use Rattle.clap.specs.declared.parser.matches.ArgMatches.{ArgMatches as Matches};
 ghost use Rattle.clap.specs.declared.builder.command.Command.TheViews.{out-Command};
 ghost use Rattle.tlsf_command.specs.SizeQuestions;
-ghost use Rattle.tlsf_command.specs.CommandLine.{bare_app, check_app, classes_app, count_rule, file_rule, flag_rule, level_rule, line_rule, map_app, plot_app, race_app, replay_app, size_app, size_rule, tlsf_app, trace_app, faults_of, replay_by, run_in, Answers, Asks, Enters, IsMapOn, IsRunOn};
+ghost use Rattle.tlsf_command.specs.CommandLine.{bare_app, check_app, classes_app, count_rule, file_rule, flag_rule, level_rule, line_rule, map_app, plot_app, race_app, replay_app, size_app, size_rule, tlsf_app, trace_app, worst_in, faults_of, replay_by, run_in, Answers, Asks, Enters, IsFormOf, IsMapOn, IsRunOn, LacksFlag};
 
 use crate::VERSION;
 use crate::class_question::ClassQuestion;
@@ -182,7 +182,11 @@ fn map_command<'a>(alloc: Global) -> Result<Command<'a>, AllocError>
     let about = "Draw the heaps that the trace on standard input leaves";
     let flag_help = "Draw the heaps in the characters of a terminal";
     let command = trace_command(alloc, "map", usage, about, MAP_HELP, "text", flag_help)?;
-    command.arg(line_argument(alloc))
+    let lined = command.arg(line_argument(alloc))?;
+    let worst_help = "Draw the heaps behind the line that 'tlsf plot' names";
+    let worst = lined.arg(flag(alloc, "worst", worst_help))?;
+    let html_help = "Write a page that shows the heaps at one moment at a time";
+    worst.arg(flag(alloc, "html", html_help))
 }
 
 // The command `plot`.
@@ -303,6 +307,16 @@ fn run_of(form: Form) -> TraceRun
     }
 }
 
+// The run by which they are drawn in a form behind the line to look at.
+fn worst_run_of(form: Form) -> TraceRun
+    ensures { result ≡ worst_in form }
+{
+    match form {
+        Form::Svg => TraceRun::MapWorst,
+        Form::Text => TraceRun::MapWorstText,
+    }
+}
+
 // The line behind `--at`, 0 where none is given.
 fn line_given(given: &ArgMatches<'_>) -> u32
     ensures { result ≡ SizeQuestions.first_number 0
@@ -338,6 +352,30 @@ fn map_given(alloc: Global, form: Form, given: &ArgMatches<'_>) -> Result<Choice
         Some(files) => map_on(alloc, form, line, files),
         None => map_on(alloc, form, line, &[]),
     }
+}
+
+// The choice of a picture in a form by the matches of `map`, which hasn't the flag of the page.
+fn drawing_given(alloc: Global, form: Form, given: &ArgMatches<'_>) -> Result<Choice, AllocError>
+    ensures { (words : List Text) (matches : Matches) → Answers words matches → Enters matches (codes "map") given.now
+        → LacksFlag (codes "html") words → IsFormOf form words → IfOk result (Asks words) }
+{
+    if given.get_flag("worst") {
+        return run_given(alloc, worst_run_of(form), given);
+    }
+    map_given(alloc, form, given)
+}
+
+// The choice of a picture or of a page by the matches of `map`.
+fn picture_given(alloc: Global, given: &ArgMatches<'_>) -> Result<Choice, AllocError>
+    ensures { (words : List Text) (matches : Matches) → Answers words matches → Enters matches (codes "map") given.now → IfOk result (Asks words) }
+{
+    if given.get_flag("html") {
+        return run_given(alloc, TraceRun::MapHtml, given);
+    }
+    if given.get_flag("text") {
+        return drawing_given(alloc, Form::Text, given);
+    }
+    drawing_given(alloc, Form::Svg, given)
 }
 
 // The choice of a plot by the matches of `plot`.
@@ -392,12 +430,7 @@ fn chosen(alloc: Global, matches: &ArgMatches<'_>) -> Result<Choice, AllocError>
         return Ok(Choice::Size(SizeQuestion::given(alloc, given)?));
     }
     if let Some(given) = matches.subcommand_matches("map") {
-        let form = if given.get_flag("text") {
-            Form::Text
-        } else {
-            Form::Svg
-        };
-        return map_given(alloc, form, given);
+        return picture_given(alloc, given);
     }
     if let Some(given) = matches.subcommand_matches("plot") {
         return plot_given(alloc, given);

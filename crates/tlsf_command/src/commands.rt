@@ -25,8 +25,8 @@ use std::thread::Threads;
 use tlsf_check::check_trace;
 use tlsf_crew::Gate;
 use tlsf_held::{measure_kinds, measure_trace};
-use tlsf_picture::{Form, draw_trace, draw_trace_as_text, draw_trace_at};
-use tlsf_plot::plot_trace;
+use tlsf_picture::{Form, draw_trace, draw_trace_as_page, draw_trace_as_text, draw_trace_at};
+use tlsf_plot::{draw_trace_at_worst, plot_trace};
 use tlsf_trace::{
     Summary, TraceFault, WriteError, race_trace, race_trace_over_queues, replay, write_out,
 };
@@ -93,6 +93,9 @@ fn traced<T: Threads + Wait + Sync, R: Read, W: Write, G: Gate>(
         TraceRun::RaceQueues => race_trace_over_queues(rt, alloc, reader, writer, gate),
         TraceRun::Map => draw_trace(alloc, reader, writer),
         TraceRun::MapText => draw_trace_as_text(alloc, reader, writer),
+        TraceRun::MapHtml => draw_trace_as_page(alloc, reader, writer),
+        TraceRun::MapWorst => draw_trace_at_worst(alloc, Form::Svg, reader, writer),
+        TraceRun::MapWorstText => draw_trace_at_worst(alloc, Form::Text, reader, writer),
         TraceRun::Plot => plot_trace(alloc, Form::Svg, reader, writer),
         TraceRun::PlotText => plot_trace(alloc, Form::Text, reader, writer),
         TraceRun::Check => check_trace(alloc, reader, writer, note),

@@ -158,7 +158,13 @@ so many words, 1 where a heap has at most 1024:
 
 With '--at K' the heaps are drawn as they stand behind line K of the trace, its
 header being line 1, and before the drains at its end. Where it has less than K
-lines they are drawn as it leaves them.
+lines they are drawn as it leaves them. With --worst K is the line to look at,
+which 'tlsf plot' names; of several that with the most free words, and where it
+names none, the end. With --html, which goes before --text, --at and --worst, it
+is a page for a browser that shows the heaps behind each line, or at 200 such
+moments: the slider or the arrow keys choose one.
+
+  tlsf map --html < two_workers.trace > heaps.html
 
 The exit status is 0 where the picture is written, 1 where a fault of the
 trace, of a read or of a write ends the run, and 3 where memory runs out. Faults

@@ -17,6 +17,12 @@ pub enum TraceRun {
     Map,
     /// `tlsf map --text`: write that picture in the characters of a terminal.
     MapText,
+    /// `tlsf map --html`: write a page that shows its heaps at one moment at a time.
+    MapHtml,
+    /// `tlsf map --worst`: write a picture of the heaps behind the line to look at, as an SVG file.
+    MapWorst,
+    /// `tlsf map --worst --text`: write that picture in the characters of a terminal.
+    MapWorstText,
     /// `tlsf plot`: write a plot of each heap over its lines, as an SVG file.
     Plot,
     /// `tlsf plot --text`: write that plot in the characters of a terminal.
@@ -41,6 +47,9 @@ impl TraceRun {
             TraceRun::RaceQueues => "race --queues",
             TraceRun::Map => "map",
             TraceRun::MapText => "map --text",
+            TraceRun::MapHtml => "map --html",
+            TraceRun::MapWorst => "map --worst",
+            TraceRun::MapWorstText => "map --worst --text",
             TraceRun::Plot => "plot",
             TraceRun::PlotText => "plot --text",
             TraceRun::Check => "check",

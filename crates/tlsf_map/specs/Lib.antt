@@ -6,3 +6,4 @@ pub mod Groups
 pub mod Page
 pub mod Columns
 pub mod Text
+pub mod Html

@@ -7,9 +7,11 @@
 //! are framed. Above each heap stand the words of a row and the numbers of its [`Report`](tlsf_heap::Report). Neighbours that are
 //! too narrow to be seen are drawn as one.
 //!
-//! [`write_text`] makes one in the characters of a terminal, each for as many words as the picture says.
+//! [`write_text`] makes one in the characters of a terminal, each for as many words as the picture says. [`write_page_head`],
+//! [`write_moment`] and [`write_page_foot`] make an HTML page that shows heaps at one moment at a time.
 //!
-//! Contracts see the pictures as the texts that `svg_text` of `specs/Page.antt` and `text_of` of `specs/Text.antt` spell. Rows and
+//! Contracts see the pictures as the texts that `svg_text` of `specs/Page.antt`, `text_of` of `specs/Text.antt`
+//! and `page_of` of `specs/Html.antt` spell. Rows and
 //! pieces are those of `specs/Grids.antt`, rows of which one is drawn for all those of `specs/Folds.antt`, neighbours that are drawn
 //! as one those of `specs/Groups.antt`, and characters those of `specs/Columns.antt`.
 #![tactic(auto)]
@@ -19,6 +21,7 @@ mod drawn_blocks;
 mod fold;
 mod grid;
 mod group;
+mod html;
 mod laws;
 mod mapped_heap;
 mod marks;
@@ -27,6 +30,7 @@ mod page;
 mod rectangles;
 mod text_page;
 
+pub use html::{write_moment, write_page_foot, write_page_head};
 pub use laws::{groups_are_the_blocks, pieces_are_the_block};
 pub use mapped_heap::{LabelledBlock, MappedHeap};
 pub use page::write_svg;

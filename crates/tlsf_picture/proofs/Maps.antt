@@ -15,7 +15,8 @@ use Rattle.tlsf_lines.specs.Trace.{Trace}
 use Rattle.tlsf_trace.specs.declared.ended.EndedTrace.{EndedTrace}
 use Rattle.tlsf_trace.proofs.WholeOutput.{heaps_in}
 
-push_both : {A B : Type 0} (R : A → B → Type 0) (xs : List A) (ys : List B) (x : A) (y : B) → AllZip R xs ys → R x y → AllZip R (xs ++ x ∷ []) (ys ++ y ∷ [])
+-- one of each more
+pub push_both : {A B : Type 0} (R : A → B → Type 0) (xs : List A) (ys : List B) (x : A) (y : B) → AllZip R xs ys → R x y → AllZip R (xs ++ x ∷ []) (ys ++ y ∷ [])
 push_both R [] [] x y all one = (one, tt)
 push_both R [] (b ∷ ys) x y all one = absurd all
 push_both R (a ∷ xs) [] x y all one = absurd all

@@ -13,12 +13,14 @@ mod drawing;
 mod form;
 mod mapping;
 mod moment_drawing;
+mod page_drawing;
 mod recording;
 mod stage;
 mod text_drawing;
 
 pub use drawing::draw_trace;
 pub use form::Form;
-pub use moment_drawing::draw_trace_at;
+pub use moment_drawing::{draw_trace_at, picture_by};
+pub use page_drawing::draw_trace_as_page;
 pub use recording::{Recording, event_count, record_trace};
 pub use text_drawing::draw_trace_as_text;

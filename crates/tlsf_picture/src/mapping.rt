@@ -1,7 +1,7 @@
 //! What pictures of the heaps of workers are made of.
 ghost use Rattle.std.specs.Prelude.{◌≡◌, ◌<◌, ◌≤◌, ℕ, List, Option, length, map, IfOk};
-ghost use Rattle.tlsf_crew.specs.worker.Workers.{heap_of};
-ghost use Rattle.tlsf_crew.specs.lanes.Yard.{IsYard};
+ghost use Rattle.tlsf_crew.specs.worker.Workers.{heap_of, SameButHeap};
+ghost use Rattle.tlsf_crew.specs.lanes.Yard.{IsYard, world_of};
 ghost use Rattle.tlsf_heap.specs.Placed.{placed_blocks};
 ghost use Rattle.tlsf_picture.specs.Drawn.{AreMaps, IsMap, IsMapBy};
 ghost use Rattle.tlsf_picture.specs.Labelled.{known_in, labelled};
@@ -19,6 +19,7 @@ fn blocks_of<const SLI: u32>(
     labels: &BlockLabels,
 ) -> Result<Vec<LabelledBlock>, AllocError>
     ensures heap { heap_of worker.new ≡ heap_of worker.old }
+    ensures same { SameButHeap worker.old worker.new }
     ensures blocks { IfOk result (λ blocks. blocks.items
         ≡ map (labelled (known_in labels.now)) (placed_blocks (heap_of worker.old).blocks)) }
 {
@@ -40,6 +41,7 @@ fn map_heap<const SLI: u32>(
 ) -> Result<MappedHeap, AllocError>
     requires { (heap_of worker.old).id ≡ id }
     ensures heap { heap_of worker.new ≡ heap_of worker.old }
+    ensures same { SameButHeap worker.old worker.new }
     ensures mapped { IfOk result (IsMapBy SLI (known_in labels.now) (heap_of worker.old)) }
 {
     let report = worker.report();
@@ -52,7 +54,7 @@ fn map_heap<const SLI: u32>(
     })
 }
 
-/// What a picture of the workers' heaps is made of, by the name that each event made and the label of each.
+/// What a picture of the workers' heaps is made of, by the name that each event made and the label of each. The yard stays as it is.
 pub fn map_heaps<const SLI: u32>(
     alloc: Global,
     workers: &mut [Worker<SLI>],
@@ -60,7 +62,9 @@ pub fn map_heaps<const SLI: u32>(
     labels: &[Option<u32>],
 ) -> Result<Vec<MappedHeap>, AllocError>
     requires { IsYard workers.old }
-    ensures { IfOk result (λ maps. AreMaps SLI made.now labels.now (map heap_of workers.old) maps.items) }
+    ensures yard { IsYard workers.new }
+    ensures world { world_of workers.new ≡ world_of workers.old }
+    ensures maps { IfOk result (λ maps. AreMaps SLI made.now labels.now (map heap_of workers.old) maps.items) }
 {
     let mut maps = Vec::new(alloc);
     for number in 0..workers.len() {

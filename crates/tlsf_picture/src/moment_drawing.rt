@@ -38,8 +38,17 @@ fn picture_behind<const SLI: u32>(
     Ok(text)
 }
 
-// The picture behind a line, at the level of the trace.
-fn picture_by(
+/// The picture of the heaps of a trace as they stand behind a line, in this form.
+///
+/// ```
+/// let recording = record_trace(alloc, &mut reader)?;
+/// let text = picture_by(alloc, &recording, Form::Text, 2)?;
+/// ```
+///
+/// # Errors
+///
+/// Where memory runs out.
+pub fn picture_by(
     alloc: Global,
     recording: &Recording,
     form: Form,

@@ -4,5 +4,6 @@ pub mod Curves
 pub mod Svg
 pub mod Rows
 pub mod Plots
+pub mod Worst
 -- What the clauses of private functions cite besides.
 pub mod Steps

@@ -5,6 +5,8 @@
 //!
 //! Contracts see the trace that a text spells and the moments of it by the definitions of `tlsf_trace` and `tlsf_picture`, a point as
 //! `point_at` of `specs/Points.antt`, and the text by `svg_text` of `specs/Svg.antt` and `text_of` of `specs/Rows.antt`; `Plots` of `specs/Plots.antt` joins them.
+//!
+//! [`draw_trace_at_worst`] draws the heaps behind the line that the plot names (`specs/Worst.antt`).
 #![tactic(auto)]
 
 mod chart;
@@ -16,5 +18,7 @@ mod points;
 mod rows;
 mod series;
 mod svg;
+mod worst;
 
 pub use plotting::plot_trace;
+pub use worst::draw_trace_at_worst;

@@ -2,9 +2,8 @@ use Rattle.std.proofs.Common.{◌≡◌, Option, Some, None, codes, refl, sym, t
 use Rattle.std.specs.Prelude.{IsSome}
 use Rattle.std.proofs.lemmas.Result.{IfOk-weaker}
 use Rattle.tlsf_command.specs.declared.trace_run.TraceRun.TheVariants.{Race, RaceQueues, Check}
-use Rattle.tlsf_picture.specs.declared.form.Form.TheVariants.{Svg, Text as Characters}
-use Rattle.tlsf_command.proofs.ChosenCommands.{asks_classes, asks_map, asks_run, asks_size, flag_has, flag_lacks, some_named}
-use Rattle.tlsf_command.proofs.command_line.chosen.Goals.{then-get_flag, else-get_flag, then-get_flag-2, else-get_flag-2}
+use Rattle.tlsf_command.proofs.ChosenCommands.{asks_classes, asks_run, asks_size, flag_has, flag_lacks, some_named}
+use Rattle.tlsf_command.proofs.command_line.chosen.Goals.{then-get_flag, else-get_flag}
 use Rattle.tlsf_command.proofs.command_line.chosen.Goals as goal
 
 pub returns-in-Some : goal.returns-in-Some
@@ -32,13 +31,7 @@ returns-in-Some-subcommand_matches-2 c = λ words answers.
 pub returns-in-Some-subcommand_matches-3 : goal.returns-in-Some-subcommand_matches-3
 returns-in-Some-subcommand_matches-3 c = λ words answers.
     let map = c.in-Some-subcommand_matches-3 in
-    let flag = c.get_flag-in-Some-subcommand_matches-3 in
-    IfOk-weaker c.map_given.result _ _ (λ choice on. elim c.if-get_flag-2.branch [
-      | then-get_flag-2 w ↦ asks_map words c.args.matches.now map.given.now Characters choice answers (map.ensures.found.0 refl) map.ensures.rows
-          (flag_has words c.args.matches.now map.given.now (codes "text") flag.result answers map.ensures.rows flag.ensures.other flag.ensures.none w.if-get_flag-2.true) (rw w.form-is at on)
-      | else-get_flag-2 w ↦ asks_map words c.args.matches.now map.given.now Svg choice answers (map.ensures.found.0 refl) map.ensures.rows
-          (flag_lacks words c.args.matches.now map.given.now (codes "text") flag.result answers map.ensures.rows flag.ensures.value w.if-get_flag-2.false) (rw w.form-is at on)
-    ]) c.map_given.ensures
+    c.picture_given.ensures words c.args.matches.now answers (map.ensures.found.0 refl, map.ensures.rows)
 
 pub returns-in-Some-subcommand_matches-4 : goal.returns-in-Some-subcommand_matches-4
 returns-in-Some-subcommand_matches-4 c = λ words answers.

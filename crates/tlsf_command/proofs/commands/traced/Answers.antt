@@ -44,6 +44,24 @@ returns-in-MapText-clause-ran g c = rw c.in-MapText.is c.draw_trace_as_text.ensu
 pub returns-in-MapText-clause-noted : goal.returns-in-MapText-clause-noted
 returns-in-MapText-clause-noted g c = rw c.in-MapText.is c.requires
 
+pub returns-in-MapHtml-clause-ran : goal.returns-in-MapHtml-clause-ran
+returns-in-MapHtml-clause-ran g c = rw c.in-MapHtml.is c.draw_trace_as_page.ensures
+
+pub returns-in-MapHtml-clause-noted : goal.returns-in-MapHtml-clause-noted
+returns-in-MapHtml-clause-noted g c = rw c.in-MapHtml.is c.requires
+
+pub returns-in-MapWorst-clause-ran : goal.returns-in-MapWorst-clause-ran
+returns-in-MapWorst-clause-ran g c = rw c.in-MapWorst.is c.draw_trace_at_worst.ensures
+
+pub returns-in-MapWorst-clause-noted : goal.returns-in-MapWorst-clause-noted
+returns-in-MapWorst-clause-noted g c = rw c.in-MapWorst.is c.requires
+
+pub returns-in-MapWorstText-clause-ran : goal.returns-in-MapWorstText-clause-ran
+returns-in-MapWorstText-clause-ran g c = rw c.in-MapWorstText.is c.draw_trace_at_worst-in-MapWorstText.ensures
+
+pub returns-in-MapWorstText-clause-noted : goal.returns-in-MapWorstText-clause-noted
+returns-in-MapWorstText-clause-noted g c = rw c.in-MapWorstText.is c.requires
+
 pub returns-in-Plot-clause-ran : goal.returns-in-Plot-clause-ran
 returns-in-Plot-clause-ran g c = rw c.in-Plot.is c.plot_trace.ensures
 

@@ -8,7 +8,7 @@ use Rattle.tlsf_picture.proofs.drawing.picture_at.Goals as goal
 
 pub write_svg-requires : goal.write_svg-requires
 write_svg-requires g c =
-    let mapped = rw (c.deref.ensures.value, c.deref-2.ensures.value, c.deref_mut.ensures.value) at c.in_ok-maps.ensures in
+    let mapped = rw (c.deref.ensures.value, c.deref-2.ensures.value, c.deref_mut.ensures.value) at c.in_ok-maps.ensures.maps in
     let many = as_many (IsMap g.row.SLI c.args.ended.made.items c.args.ended.labels.items) (map heap_of c.args.ended.workers.items) c.in_ok-maps.maps.items mapped in
     let heaps = length-map c.args.ended.workers.items heap_of in
     let shown = ap length c.deref-3.ensures.value in
@@ -16,7 +16,7 @@ write_svg-requires g c =
 
 pub returns : goal.returns
 returns g c = λ trace level is.
-    let mapped = rw (c.deref.ensures.value, c.deref-2.ensures.value, c.deref_mut.ensures.value) at c.in_ok-maps.ensures in
+    let mapped = rw (c.deref.ensures.value, c.deref-2.ensures.value, c.deref_mut.ensures.value) at c.in_ok-maps.ensures.maps in
     record {
       maps = c.in_ok-maps.maps.items;
       mapped = maps_of_end trace c.args.ended c.in_ok-maps.maps.items level is mapped;

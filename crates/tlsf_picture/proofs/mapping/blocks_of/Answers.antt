@@ -40,6 +40,7 @@ loop-block-preserved g c =
     c.in_ok-push.ensures.items ∙ ap (λ (b : LabelledBlock). c.loop-block.blocks.items ++ b ∷ []) c.labelled.ensures in
     record {
       heap = c.in-Some.ensures.heap ∙ same;
+      same = (c.in-Some.ensures.same.0 ∙ c.loop-block.invariant.same.0, c.in-Some.ensures.same.1 ∙ c.loop-block.invariant.same.1);
       walked = subst (HasWalked label h.blocks (c.loop-block.at + c.in-Some.block.size)) (sym items) goes.walked;
     }
 

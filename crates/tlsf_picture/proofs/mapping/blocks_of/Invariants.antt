@@ -1,5 +1,5 @@
 use Rattle.std.proofs.Common.{◌≡◌, ◌-◌}
-use Rattle.tlsf_crew.specs.worker.Workers.{heap_of}
+use Rattle.tlsf_crew.specs.worker.Workers.{SameButHeap, heap_of}
 use Rattle.tlsf_picture.specs.Labelled.{known_in, labelled}
 use Rattle.tlsf_picture.proofs.Walking.{HasWalked}
 use Rattle.tlsf_picture.proofs.mapping.blocks_of.Given as goal
@@ -8,6 +8,7 @@ use Rattle.tlsf_picture.proofs.mapping.blocks_of.Given as goal
 abbrev pub invariant-loop-block : goal.invariant-loop-block
 invariant-loop-block g l = record {
   heap : heap_of l.worker ≡ heap_of l.fn.worker;
+  same : SameButHeap l.fn.worker l.worker;
   walked : HasWalked (labelled (known_in l.labels)) (heap_of l.fn.worker).blocks l.at l.blocks.items;
 }
 

@@ -6,6 +6,8 @@ use Rattle.tlsf_crew.specs.worker.Workers.{heap_of}
 use Rattle.tlsf_crew.specs.model.World.{no_heap}
 use Rattle.tlsf_heap.specs.Blocks.{HeapState}
 use Rattle.tlsf_picture.specs.Drawn.{AreMaps}
+use Rattle.std.proofs.lemmas.Option.{slice_get-get_or}
+use Rattle.tlsf_picture.proofs.Yards.{same_yard, yard_stays}
 use Rattle.tlsf_picture.proofs.Maps.{map_more}
 use Rattle.tlsf_picture.proofs.mapping.map_heaps.Goals as goal
 
@@ -36,9 +38,45 @@ loop-number-preserved g c =
     let here : get_or heaps i no_heap ≡ heap_of (get_or ws i found) =
     get_or_default heaps i no_heap (heap_of found) within ∙ (ap (λ (l : List HeapState). get_or l i (heap_of found)) (sym inv.heaps) ∙ get_or-map heap_of ws i found) in
     let id = ap (λ (h : HeapState). h.id) (sym here) ∙ (c.requires.heaps i (omega (arith, within, count))).0 in
+    let was = get_or ws i found in
+    let is = slice_get-get_or ws i found (omega (arith, c.loop-number-test.true)) in
     record {
+      yard = yard_stays ws i was c.map_heap.new.worker is c.map_heap.ensures.same c.map_heap.ensures.heap inv.yard;
+      world = same_yard ws i was c.map_heap.new.worker is c.map_heap.ensures.same c.map_heap.ensures.heap ∙ inv.world;
       heaps = map-set_same heap_of ws i c.map_heap.new.worker found c.map_heap.ensures.heap ∙ inv.heaps;
       so_far = subst (AreMaps g.row.SLI c.args.made.now c.args.labels.now (take (i + 1) heaps)) (sym c.in_ok-push.ensures.items)
           (map_more g.row.SLI c.args.made.now c.args.labels.now heaps i no_heap (heap_of (get_or ws i found)) c.loop-number.maps.items _ c.in_ok-map_heap.field-0
           within here id c.in_ok-known.ensures c.in_ok-map_heap.ensures.mapped inv.so_far);
     }
+
+pub returns-in_err-map_heap-clause-yard : goal.returns-in_err-map_heap-clause-yard
+returns-in_err-map_heap-clause-yard g c =
+    let ws = c.loop-number.workers in
+    let i = c.loop-number.number in
+    let was = get_or ws i c.index-workers-number.result in
+    let is = slice_get-get_or ws i c.index-workers-number.result (omega (arith, c.loop-number-test.true)) in
+    yard_stays ws i was c.map_heap.new.worker is c.map_heap.ensures.same c.map_heap.ensures.heap c.loop-number.invariant.yard
+
+pub returns-in_err-map_heap-clause-world : goal.returns-in_err-map_heap-clause-world
+returns-in_err-map_heap-clause-world g c =
+    let ws = c.loop-number.workers in
+    let i = c.loop-number.number in
+    let was = get_or ws i c.index-workers-number.result in
+    let is = slice_get-get_or ws i c.index-workers-number.result (omega (arith, c.loop-number-test.true)) in
+    same_yard ws i was c.map_heap.new.worker is c.map_heap.ensures.same c.map_heap.ensures.heap ∙ c.loop-number.invariant.world
+
+pub returns-in_err-push-clause-yard : goal.returns-in_err-push-clause-yard
+returns-in_err-push-clause-yard g c =
+    let ws = c.loop-number.workers in
+    let i = c.loop-number.number in
+    let was = get_or ws i c.index-workers-number.result in
+    let is = slice_get-get_or ws i c.index-workers-number.result (omega (arith, c.loop-number-test.true)) in
+    yard_stays ws i was c.map_heap.new.worker is c.map_heap.ensures.same c.map_heap.ensures.heap c.loop-number.invariant.yard
+
+pub returns-in_err-push-clause-world : goal.returns-in_err-push-clause-world
+returns-in_err-push-clause-world g c =
+    let ws = c.loop-number.workers in
+    let i = c.loop-number.number in
+    let was = get_or ws i c.index-workers-number.result in
+    let is = slice_get-get_or ws i c.index-workers-number.result (omega (arith, c.loop-number-test.true)) in
+    same_yard ws i was c.map_heap.new.worker is c.map_heap.ensures.same c.map_heap.ensures.heap ∙ c.loop-number.invariant.world

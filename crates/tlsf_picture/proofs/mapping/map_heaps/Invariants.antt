@@ -1,4 +1,5 @@
 use Rattle.std.proofs.Common.{◌≡◌, map, take}
+use Rattle.tlsf_crew.specs.lanes.Yard.{IsYard, world_of}
 use Rattle.tlsf_crew.specs.worker.Workers.{heap_of}
 use Rattle.tlsf_picture.specs.Drawn.{AreMaps}
 use Rattle.tlsf_picture.proofs.mapping.map_heaps.Given as goal
@@ -6,6 +7,8 @@ use Rattle.tlsf_picture.proofs.mapping.map_heaps.Given as goal
 -- the heaps stay, and those below this number have their maps
 abbrev pub invariant-loop-number : goal.invariant-loop-number
 invariant-loop-number g l = record {
+  yard : IsYard l.workers;
+  world : world_of l.workers ≡ world_of l.fn.workers;
   heaps : map heap_of l.workers ≡ map heap_of l.fn.workers;
   so_far : AreMaps g.row.SLI l.made l.labels (take l.number (map heap_of l.fn.workers)) l.maps.items;
 }

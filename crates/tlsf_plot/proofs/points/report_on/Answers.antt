@@ -2,7 +2,7 @@ use Rattle.std.proofs.Common.{get_or, sym, ap, ◌∙◌}
 use Rattle.std.proofs.lemmas.Option.{slice_get-get_or}
 use Rattle.tlsf_crew.proofs.lemmas.lanes.LaneChanges.{heap_in_is}
 use Rattle.tlsf_heap.specs.Reports.{report_of}
-use Rattle.tlsf_plot.proofs.Yards.{same_yard}
+use Rattle.tlsf_picture.proofs.Yards.{same_yard}
 use Rattle.tlsf_plot.proofs.points.report_on.Goals as goal
 
 pub returns-clause-yard : goal.returns-clause-yard

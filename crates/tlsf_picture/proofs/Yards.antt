@@ -4,11 +4,12 @@ use Rattle.std.specs.List.{slice_get}
 use Rattle.tlsf_crew.specs.declared.worker.lanes.Lanes.{Lanes}
 use Rattle.tlsf_crew.specs.declared.worker.worker.Worker.{Worker}
 use Rattle.tlsf_crew.specs.lanes.LaneWorkers.{id_and_capacity}
-use Rattle.tlsf_crew.specs.lanes.Yard.{lane_waits, post_at, take_at, world_of}
+use Rattle.tlsf_crew.specs.lanes.Yard.{IsYard, lane_waits, post_at, take_at, world_of}
 use Rattle.tlsf_crew.specs.worker.Workers.{SameButHeap, heap_of}
-use Rattle.tlsf_crew.proofs.lemmas.lanes.LaneChanges.{heap_lanes}
+use Rattle.tlsf_crew.proofs.lemmas.lanes.LaneChanges.{heap_lanes, heap_yard}
 use Rattle.tlsf_crew.proofs.lemmas.lanes.LaneSlots.{map_same, same_parts}
 use Rattle.tlsf_crew.proofs.lemmas.model.Edits.{same_world}
+use Rattle.tlsf_crew.proofs.lemmas.worker.OwnHeaps.{same_heap_keeps}
 
 -- where the heap stays, the world does
 pub same_yard : {sli : ℕ} (ws : List (Worker sli Lanes)) (i : ℕ) (a v : Worker sli Lanes) → slice_get ws i ≡ Some a → SameButHeap a v → heap_of v ≡ heap_of a
@@ -18,3 +19,8 @@ same_yard ws i a v is same heap =
     same_world (world_of (set ws i v)) (world_of ws) (map_same heap_of ws i a v is heap)
     (λ x y. let lanes = heap_lanes ws i a v is same x y in rw (lanes.0, lanes.1) refl)
     (ap (λ (l : List (ℕ × ℕ)). (get_or l 0 (0, 0)).1) (map_same id_and_capacity ws i a v is (same_parts a v same).0))
+
+-- and it stays a yard
+pub yard_stays : {sli : ℕ} (ws : List (Worker sli Lanes)) (i : ℕ) (a v : Worker sli Lanes) → slice_get ws i ≡ Some a → SameButHeap a v → heap_of v ≡ heap_of a
+    → IsYard ws → IsYard (set ws i v)
+yard_stays ws i a v is same heap yard = heap_yard ws i a v is same (same_heap_keeps (heap_of a) (heap_of v) heap) yard

@@ -1,0 +1,59 @@
+// Put behind the script of a page of `tlsf map --html`, whose names it uses. It turns over some moments, and writes what it found as
+// lines of a <pre>: 'wrong ..' for what isn't as it should be, 'line K' for a moment, and below that what is told of each block.
+const found = [];
+const want = (fact, what) => { if (!fact) found.push('wrong ' + what); };
+const press = (key, more) => dispatchEvent(new KeyboardEvent('keydown', { key, cancelable: true, ...more }));
+const rgb = name => {
+    const probe = document.createElement('i');
+    probe.style.color = 'var(--' + name + ')';
+    document.body.append(probe);
+    const numbers = getComputedStyle(probe).color.match(/\d+/g).map(Number);
+    probe.remove();
+    return numbers;
+};
+const near = (pixel, color) => color.every((part, at) => Math.abs(part - pixel[at]) < 6);
+const dark = matchMedia('(prefers-color-scheme: dark)').matches;
+want((rgb('page')[0] < 128) === dark, 'scheme');
+
+// The colour of a live block's first word, and what stands under the pointer there.
+const judgeBlock = (canvas, heap, block) => {
+    const { row, pitch, high } = grid(heap.words), wide = 1024 / row, scale = devicePixelRatio || 1;
+    const x = 64 + block.place % row * wide + wide / 2, y = Math.floor(block.place / row) * pitch + high - 4;
+    const box = canvas.getBoundingClientRect();
+    canvas.dispatchEvent(new PointerEvent('pointermove', { clientX: box.left + x, clientY: box.top + y }));
+    want(!tip.hidden && tip.textContent === told(block), 'tip at place ' + block.place + ': ' + tip.textContent);
+    if (wide < 6) return;
+    const pixel = canvas.getContext('2d').getImageData(x * scale, y * scale, 1, 1).data;
+    const free = rgb('free'), page = rgb('page');
+    if (block.live) want(near(pixel, rgb('head')), 'colour at place ' + block.place + ': ' + pixel);
+    else want(free.every((part, at) => pixel[at] >= Math.min(part, page[at]) - 6 && pixel[at] <= Math.max(part, page[at]) + 6), 'colour of a free block: ' + pixel);
+};
+const judgeMoment = (at, telling) => {
+    want(moment === at && Number(slider.value) === at, 'moment ' + moment + ' for ' + at);
+    want(element('moment').textContent.startsWith('Moment ' + (at + 1) + ' of ' + begins.length), 'text ' + element('moment').textContent);
+    const canvases = document.querySelectorAll('canvas');
+    want(canvases.length === heaps.length && heaps.length > 0, canvases.length + ' pictures of ' + heaps.length + ' heaps');
+    found.push('line ' + lineOf(at));
+    heaps.forEach((heap, number) => {
+        want(heap.words === Number(heap.name.match(/: (\d+) words/)[1]), heap.words + ' words in ' + heap.name);
+        want(heap.name.startsWith('heap ' + number + ':'), 'name ' + heap.name);
+        const report = heap.report.match(/live (\d+) blocks?.*free (\d+) blocks?/), live = heap.blocks.filter(block => block.live).length;
+        want(Number(report[1]) === live && Number(report[2]) === heap.blocks.length - live, 'blocks of ' + heap.report);
+        heap.blocks.slice(0, 200).forEach(block => judgeBlock(canvases[number], heap, block));
+        if (telling) heap.blocks.forEach(block => found.push(told(block)));
+    });
+};
+const telling = new URLSearchParams(location.search).has('told');
+const middle = Math.floor(last / 2);
+press('Home'); judgeMoment(0, telling);
+press('ArrowRight'); judgeMoment(Math.min(1, last), telling);
+press('ArrowRight', { shiftKey: true }); judgeMoment(Math.min(11, last), telling);
+press('ArrowLeft'); judgeMoment(Math.min(11, last) - 1, telling);
+slider.value = middle; slider.dispatchEvent(new Event('input')); judgeMoment(middle, telling);
+press('End'); judgeMoment(last, telling);
+const begun = performance.now(); for (let at = 0; at < 20; at++) show(at * last / 19 | 0);
+const each = Math.round((performance.now() - begun) / 20);
+document.querySelectorAll('script, style').forEach(part => part.remove());
+const pre = document.createElement('pre');
+pre.textContent = 'judged ' + begins.length + ' moments, ' + each + ' ms each, ' + (dark ? 'dark' : 'light') + '\n' + found.join('\n') + '\n';
+document.body.replaceChildren(pre);

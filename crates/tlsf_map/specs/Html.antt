@@ -1,0 +1,102 @@
+-- The heaps at some moments, as the text of an HTML page that shows one of them at a time.
+use Rattle.std.specs.Prelude.{ℕ, List, [], ◌∷◌, ◌++◌, Option, Some, None, codes}
+use Rattle.std.specs.Fmt.{decimal}
+use Rattle.tlsf_heap.specs.declared.placed_block.Content.{Content}
+use Rattle.tlsf_heap.specs.declared.placed_block.Content.TheVariants.{Free, Live}
+use Rattle.tlsf_map.specs.Numbers.{age_numbers, free_numbers, live_numbers}
+use Rattle.tlsf_map.specs.declared.mapped_heap.LabelledBlock.{LabelledBlock}
+use Rattle.tlsf_map.specs.declared.mapped_heap.MappedHeap.{MappedHeap}
+
+-- some heaps as they stand behind a line of their trace
+pub record Moment : Type 0 where
+  pub line : ℕ
+  pub heaps : List MappedHeap
+
+-- ---- its data, each block told by its words alone, so that its place is the words of all before it
+
+-- a free block: its words, and the tick since which it is free
+unfoldable pub free_item : ℕ → ℕ → List ℕ
+free_item size stamp = codes "f" ++ (decimal size ++ (codes "," ++ (decimal stamp ++ codes ";")))
+
+-- a live one: its words, its bytes, its serial, and its label where it has one
+unfoldable pub live_begin : ℕ → ℕ → ℕ → List ℕ
+live_begin size length serial = codes "l" ++ (decimal size ++ (codes "," ++ (decimal length ++ (codes "," ++ decimal serial))))
+
+unfoldable pub label_item : ℕ → List ℕ
+label_item label = codes "," ++ (decimal label ++ codes ";")
+
+abbrev pub item_end : Option ℕ → List ℕ
+item_end None = codes ";"
+item_end (Some label) = label_item label
+
+unfoldable pub live_item : ℕ → ℕ → ℕ → Option ℕ → List ℕ
+live_item size length serial label = live_begin size length serial ++ item_end label
+
+abbrev pub content_item : ℕ → Option ℕ → Content → List ℕ
+content_item size label (Free stamp) = free_item size stamp
+content_item size label (Live serial length) = live_item size length serial label
+
+abbrev pub item_of : LabelledBlock → List ℕ
+item_of drawn = content_item drawn.block.size drawn.label drawn.block.content
+
+-- blocks in the order of their places
+abbrev pub items_of : List LabelledBlock → List ℕ
+items_of [] = []
+items_of (drawn ∷ others) = item_of drawn ++ items_of others
+
+-- a heap with so many words: its number and its tick, the numbers of its report, and its blocks, a line each
+unfoldable pub name_item : ℕ → MappedHeap → List ℕ
+name_item words heap =
+    codes "heap " ++ (decimal heap.id ++ (codes ": " ++ (decimal words ++ (codes " words at tick " ++ (decimal heap.tick ++ codes "\n")))))
+
+unfoldable pub heap_data : ℕ → MappedHeap → List ℕ
+heap_data words heap =
+    name_item words heap ++ live_numbers heap.report ++ codes "; " ++ free_numbers heap.report ++ codes "; " ++ age_numbers heap.report ++ codes "\n"
+    ++ items_of heap.blocks.items ++ codes "\n"
+
+abbrev pub heaps_data : ℕ → List MappedHeap → List ℕ
+heaps_data words [] = []
+heaps_data words (heap ∷ heaps) = heap_data words heap ++ heaps_data words heaps
+
+-- a moment: its line, and its heaps
+unfoldable pub line_item : ℕ → List ℕ
+line_item line = codes "line " ++ (decimal line ++ codes "\n")
+
+unfoldable pub moment_data : ℕ → Moment → List ℕ
+moment_data words moment = line_item moment.line ++ heaps_data words moment.heaps
+
+abbrev pub moments_data : ℕ → List Moment → List ℕ
+moments_data words [] = []
+moments_data words (moment ∷ moments) = moment_data words moment ++ moments_data words moments
+
+-- ---- what stands before the data, and behind it
+
+-- the colours
+unfoldable pub style_part : List ℕ
+style_part = codes "<!doctype html>\n<html lang='en'><head><meta charset='utf-8'><meta name='viewport' content='width=device-width'><title>tlsf: heaps over time</title>\n<style>:root{color-scheme:light dark;--page:#fff;--ink:#1f2328;--live:#4f83cc;--head:#2b4f86;--slack:#e3a04f;--free:#2e9e6b;--largest:#b4232a;--on-live:#fff}@media(prefers-color-scheme:dark){:root{--page:#0d1117;--ink:#e6edf3;--live:#3f6fb5;--head:#1d3c6b;--slack:#b97a2e;--largest:#ff7b72;--on-live:#e6edf3}}body{margin:16px;background:var(--page);color:var(--ink);font:13px ui-monospace,Menlo,Consolas,monospace}nav{position:sticky;top:0;padding:8px 0;background:var(--page);z-index:1}#slider{width:1088px;max-width:100%}h2{font-size:13px;margin:16px 0 4px}p{margin:4px 0}canvas{display:block;width:1088px}b{display:inline-block;width:16px;height:12px;margin:0 6px 0 16px;vertical-align:-1px}#tip{position:fixed;left:0;top:0;padding:4px 8px;background:var(--ink);color:var(--page);pointer-events:none;z-index:2}</style></head>\n"
+
+-- the slider, what each colour is, and where the heaps are drawn
+unfoldable pub slider_part : List ℕ
+slider_part = codes "<body><nav><input id='slider' type='range' min='0' value='0' aria-label='moment'><p><output id='moment'></output>. Arrow keys go one moment, with Shift ten; Home and End to the first and the last.</p><p><b style='background:var(--head);margin-left:0'></b>header<b style='background:var(--live)'></b>payload<b style='background:var(--slack)'></b>left empty<b style='background:var(--free)'></b>free, the stronger the longer<b style='box-sizing:border-box;border:2px solid var(--largest)'></b>largest free. Under the pointer: a block's label, place, words and bytes.</p></nav><main id='heaps'></main><div id='tip' hidden></div><noscript>This page draws by a script.</noscript>\n<script id='moments' type='text/plain'>\n"
+
+-- the script: it reads the data
+unfoldable pub reading_part : List ℕ
+reading_part = codes "</script><script>'use strict';\nconst element=id=>document.getElementById(id),lines=element('moments').textContent.split(String.fromCharCode(10)),begins=lines.flatMap((line,at)=>line.startsWith('line ')?[at]:[]),last=begins.length-1;\nconst most=numbers=>numbers.reduce((one,other)=>Math.max(one,other),0),lineOf=moment=>Number(lines[begins[moment]].slice(5));\nconst blocksIn=text=>{let place=0;return text.split(';').slice(0,-1).map(item=>{const numbers=item.slice(1).split(',').map(Number),block={live:item[0]=='l',place,size:numbers[0],numbers};place+=block.size;return block})};\nconst heapsIn=moment=>{const heaps=[];for(let at=begins[moment]+1;at+2<lines.length&&!lines[at].startsWith('line ');at+=3){const blocks=blocksIn(lines[at+2]),free=blocks.filter(block=>!block.live),tick=Number(lines[at].split('tick ')[1]);heaps.push({name:lines[at],report:lines[at+1],blocks,words:blocks.reduce((sum,block)=>sum+block.size,0),tick,largest:most(free.map(block=>block.size)),oldest:most(free.map(block=>tick-block.numbers[1]))})}return heaps};\nconst used=block=>Math.min(block.size,3+Math.ceil(block.numbers[1]/8)),bytes=count=>count+(count==1?' byte':' bytes');\nconst caption=block=>block.live?[block.numbers.length>3?'label '+block.numbers[3]:'live',bytes(block.numbers[1])]:['free',block.size+' words'];\nconst told=block=>block.live?caption(block)[0]+', place '+block.place+', '+block.size+' words, '+bytes(block.numbers[1])+', serial '+block.numbers[2]:'free since tick '+block.numbers[1]+', place '+block.place+', '+block.size+' words';\n"
+
+-- it draws a heap
+unfoldable pub drawing_part : List ℕ
+drawing_part = codes "const grid=words=>{let row=64;while(words/row>64)row*=2;const rows=Math.ceil(words/row),high=rows>24?14:36;return{row,rows,high,pitch:high+4}};\nconst draw=(canvas,heap)=>{const {row,rows,high,pitch}=grid(heap.words),scale=devicePixelRatio||1,wide=1024/row,colors=getComputedStyle(document.documentElement),color=name=>colors.getPropertyValue('--'+name),ink=canvas.getContext('2d');canvas.width=1088*scale;canvas.height=rows*pitch*scale;ink.scale(scale,scale);ink.translate(64,0);\nconst spread=(place,words,paint)=>{for(let left=words,at=place;left>0;){const here=Math.min(left,row-at%row);paint(at%row*wide,Math.floor(at/row)*pitch,here*wide,here==left);at+=here;left-=here}};\nconst fill=(place,words,name,alpha)=>{ink.fillStyle=color(name);ink.globalAlpha=alpha;spread(place,words,(x,y,width)=>ink.fillRect(x,y,width,high));ink.globalAlpha=1};\nconst frame=(block,name,width)=>{ink.strokeStyle=color(name);ink.lineWidth=width;spread(block.place,block.size,(x,y,across)=>ink.strokeRect(x+width/2,y+width/2,Math.max(0,across-width),high-width))};\nink.font='10px ui-monospace,Menlo,Consolas,monospace';ink.textAlign='right';ink.fillStyle=color('ink');for(let at=0;at<rows;at++)ink.fillText(at*row,-8,at*pitch+high/2+4);ink.textAlign='left';ink.font='11px ui-monospace,Menlo,Consolas,monospace';\nfor(const block of heap.blocks){if(block.live){fill(block.place,block.size,'live',1);fill(block.place,3,'head',1);fill(block.place+used(block),block.size-used(block),'slack',1)}else fill(block.place,block.size,'free',(15+Math.min((heap.tick-block.numbers[1])/(heap.oldest/70+1),70))/100);\nconst width=Math.min(block.size,row-block.place%row)*wide;if(block.size*wide>=4)frame(block,'page',1);if(width>=80&&high>24){const x=block.place%row*wide+4,y=Math.floor(block.place/row)*pitch;ink.fillStyle=color(block.live?'on-live':'ink');caption(block).forEach((text,line)=>ink.fillText(text,x,y+14+14*line))}}\nfor(const block of heap.blocks)if(!block.live&&block.size==heap.largest)frame(block,'largest',2)};\n"
+
+-- and it shows the moment that is chosen, and the block under the pointer
+unfoldable pub showing_part : List ℕ
+showing_part = codes "const slider=element('slider'),tip=element('tip');let moment=0,heaps=[];\nconst atPointer=(event,canvas,heap)=>{const {row,high,pitch}=grid(heap.words),box=canvas.getBoundingClientRect(),across=event.clientX-box.left-64,down=event.clientY-box.top;if(across<0||across>=1024||down%pitch>=high)return;const place=Math.floor(down/pitch)*row+Math.floor(across*row/1024);return heap.blocks.find(block=>block.place<=place&&place<block.place+block.size)};\nconst point=(event,canvas,heap)=>{const block=atPointer(event,canvas,heap);tip.hidden=!block;if(block){tip.textContent=told(block);tip.style.transform='translate('+Math.max(0,Math.min(event.clientX+12,innerWidth-tip.offsetWidth-8))+'px,'+(event.clientY+16)+'px)'}};\nconst redraw=()=>document.querySelectorAll('canvas').forEach((canvas,at)=>draw(canvas,heaps[at]));\nconst section=heap=>{const part=document.createElement('section');[['h2',heap.name],['p',heap.report],['canvas','']].forEach(([kind,text])=>{const child=document.createElement(kind);child.textContent=text;part.append(child)});const canvas=part.lastChild;canvas.setAttribute('role','img');canvas.setAttribute('aria-label',heap.blocks.length+' blocks');canvas.onpointermove=canvas.onpointerdown=event=>point(event,canvas,heap);canvas.onpointerleave=()=>{tip.hidden=true};return part};\nconst show=wanted=>{moment=Math.max(0,Math.min(last,wanted));slider.value=moment;heaps=heapsIn(moment);tip.hidden=true;element('moment').textContent='Moment '+(moment+1)+' of '+(last+1)+(moment==last?', at the end':', behind line '+lineOf(moment)+' of '+(lineOf(last)-1));element('heaps').replaceChildren(...heaps.map(section));redraw()};\nconst steps={ArrowLeft:-1,ArrowRight:1,Home:-Infinity,End:Infinity};\nslider.max=last;slider.oninput=()=>show(Number(slider.value));addEventListener('keydown',event=>{const step=steps[event.key];if(step&&!event.altKey&&!event.ctrlKey&&!event.metaKey){event.preventDefault();show(moment+(event.shiftKey?10:1)*step)}});\nmatchMedia('(prefers-color-scheme: dark)').addEventListener('change',redraw);addEventListener('resize',redraw);\nconst opened=()=>{const line=Number(location.hash.slice(1));show(line>0?begins.findLastIndex((begin,at)=>lineOf(at)<=line):0)};\naddEventListener('hashchange',opened);opened();</script></body></html>\n"
+
+unfoldable pub page_head : List ℕ
+page_head = style_part ++ slider_part
+
+unfoldable pub page_foot : List ℕ
+page_foot = reading_part ++ drawing_part ++ showing_part
+
+-- the page of some moments of heaps with so many words each
+abbrev pub page_of : ℕ → List Moment → List ℕ
+page_of words moments = page_head ++ moments_data words moments ++ page_foot

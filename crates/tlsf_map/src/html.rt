@@ -1,0 +1,210 @@
+//! The heaps at some moments, as an HTML page that shows one of them at a time.
+ghost use Rattle.std.specs.Prelude.{◌≡◌, ◌++◌, ◌≤◌, length, OnOk, string_bytes};
+ghost use Rattle.tlsf_map.specs.Html.{Moment, content_item, drawing_part, free_item, heap_data, heaps_data, item_end, item_of, items_of, label_item, line_item, live_begin, live_item, moment_data, name_item, page_foot, page_head, reading_part, showing_part, slider_part, style_part};
+
+use crate::mapped_heap::{LabelledBlock, MappedHeap};
+use crate::numbers::{write_age_numbers, write_free_numbers, write_live_numbers};
+use std::alloc::AllocError;
+use tlsf_heap::Content;
+
+// Colours by the reader's scheme, those of the picture.
+const PAGE_STYLE: &str =
+    "<!doctype html>\n<html lang='en'><head><meta charset='utf-8'><meta name='viewport' content='width=device-width'><title>tlsf: heaps over time</title>\n<style>:root{color-scheme:light dark;--page:#fff;--ink:#1f2328;--live:#4f83cc;--head:#2b4f86;--slack:#e3a04f;--free:#2e9e6b;--largest:#b4232a;--on-live:#fff}@media(prefers-color-scheme:dark){:root{--page:#0d1117;--ink:#e6edf3;--live:#3f6fb5;--head:#1d3c6b;--slack:#b97a2e;--largest:#ff7b72;--on-live:#e6edf3}}body{margin:16px;background:var(--page);color:var(--ink);font:13px ui-monospace,Menlo,Consolas,monospace}nav{position:sticky;top:0;padding:8px 0;background:var(--page);z-index:1}#slider{width:1088px;max-width:100%}h2{font-size:13px;margin:16px 0 4px}p{margin:4px 0}canvas{display:block;width:1088px}b{display:inline-block;width:16px;height:12px;margin:0 6px 0 16px;vertical-align:-1px}#tip{position:fixed;left:0;top:0;padding:4px 8px;background:var(--ink);color:var(--page);pointer-events:none;z-index:2}</style></head>\n";
+
+// The slider, what each colour is, and the place of the heaps. The data stand behind it, in an element that is never drawn.
+const SLIDER: &str =
+    "<body><nav><input id='slider' type='range' min='0' value='0' aria-label='moment'><p><output id='moment'></output>. Arrow keys go one moment, with Shift ten; Home and End to the first and the last.</p><p><b style='background:var(--head);margin-left:0'></b>header<b style='background:var(--live)'></b>payload<b style='background:var(--slack)'></b>left empty<b style='background:var(--free)'></b>free, the stronger the longer<b style='box-sizing:border-box;border:2px solid var(--largest)'></b>largest free. Under the pointer: a block's label, place, words and bytes.</p></nav><main id='heaps'></main><div id='tip' hidden></div><noscript>This page draws by a script.</noscript>\n<script id='moments' type='text/plain'>\n";
+
+// The script. It reads the data: the lines of each moment, and of a heap the blocks in the order of their places.
+const READING: &str =
+    "</script><script>'use strict';\nconst element=id=>document.getElementById(id),lines=element('moments').textContent.split(String.fromCharCode(10)),begins=lines.flatMap((line,at)=>line.startsWith('line ')?[at]:[]),last=begins.length-1;\nconst most=numbers=>numbers.reduce((one,other)=>Math.max(one,other),0),lineOf=moment=>Number(lines[begins[moment]].slice(5));\nconst blocksIn=text=>{let place=0;return text.split(';').slice(0,-1).map(item=>{const numbers=item.slice(1).split(',').map(Number),block={live:item[0]=='l',place,size:numbers[0],numbers};place+=block.size;return block})};\nconst heapsIn=moment=>{const heaps=[];for(let at=begins[moment]+1;at+2<lines.length&&!lines[at].startsWith('line ');at+=3){const blocks=blocksIn(lines[at+2]),free=blocks.filter(block=>!block.live),tick=Number(lines[at].split('tick ')[1]);heaps.push({name:lines[at],report:lines[at+1],blocks,words:blocks.reduce((sum,block)=>sum+block.size,0),tick,largest:most(free.map(block=>block.size)),oldest:most(free.map(block=>tick-block.numbers[1]))})}return heaps};\nconst used=block=>Math.min(block.size,3+Math.ceil(block.numbers[1]/8)),bytes=count=>count+(count==1?' byte':' bytes');\nconst caption=block=>block.live?[block.numbers.length>3?'label '+block.numbers[3]:'live',bytes(block.numbers[1])]:['free',block.size+' words'];\nconst told=block=>block.live?caption(block)[0]+', place '+block.place+', '+block.size+' words, '+bytes(block.numbers[1])+', serial '+block.numbers[2]:'free since tick '+block.numbers[1]+', place '+block.place+', '+block.size+' words';\n";
+
+// It draws a heap into a canvas, in rows as the picture does, but all of one height.
+const DRAWING: &str =
+    "const grid=words=>{let row=64;while(words/row>64)row*=2;const rows=Math.ceil(words/row),high=rows>24?14:36;return{row,rows,high,pitch:high+4}};\nconst draw=(canvas,heap)=>{const {row,rows,high,pitch}=grid(heap.words),scale=devicePixelRatio||1,wide=1024/row,colors=getComputedStyle(document.documentElement),color=name=>colors.getPropertyValue('--'+name),ink=canvas.getContext('2d');canvas.width=1088*scale;canvas.height=rows*pitch*scale;ink.scale(scale,scale);ink.translate(64,0);\nconst spread=(place,words,paint)=>{for(let left=words,at=place;left>0;){const here=Math.min(left,row-at%row);paint(at%row*wide,Math.floor(at/row)*pitch,here*wide,here==left);at+=here;left-=here}};\nconst fill=(place,words,name,alpha)=>{ink.fillStyle=color(name);ink.globalAlpha=alpha;spread(place,words,(x,y,width)=>ink.fillRect(x,y,width,high));ink.globalAlpha=1};\nconst frame=(block,name,width)=>{ink.strokeStyle=color(name);ink.lineWidth=width;spread(block.place,block.size,(x,y,across)=>ink.strokeRect(x+width/2,y+width/2,Math.max(0,across-width),high-width))};\nink.font='10px ui-monospace,Menlo,Consolas,monospace';ink.textAlign='right';ink.fillStyle=color('ink');for(let at=0;at<rows;at++)ink.fillText(at*row,-8,at*pitch+high/2+4);ink.textAlign='left';ink.font='11px ui-monospace,Menlo,Consolas,monospace';\nfor(const block of heap.blocks){if(block.live){fill(block.place,block.size,'live',1);fill(block.place,3,'head',1);fill(block.place+used(block),block.size-used(block),'slack',1)}else fill(block.place,block.size,'free',(15+Math.min((heap.tick-block.numbers[1])/(heap.oldest/70+1),70))/100);\nconst width=Math.min(block.size,row-block.place%row)*wide;if(block.size*wide>=4)frame(block,'page',1);if(width>=80&&high>24){const x=block.place%row*wide+4,y=Math.floor(block.place/row)*pitch;ink.fillStyle=color(block.live?'on-live':'ink');caption(block).forEach((text,line)=>ink.fillText(text,x,y+14+14*line))}}\nfor(const block of heap.blocks)if(!block.live&&block.size==heap.largest)frame(block,'largest',2)};\n";
+
+// It shows the moment of the slider, or of the line behind `#` in the address, and tells of the block under the pointer.
+const SHOWING: &str =
+    "const slider=element('slider'),tip=element('tip');let moment=0,heaps=[];\nconst atPointer=(event,canvas,heap)=>{const {row,high,pitch}=grid(heap.words),box=canvas.getBoundingClientRect(),across=event.clientX-box.left-64,down=event.clientY-box.top;if(across<0||across>=1024||down%pitch>=high)return;const place=Math.floor(down/pitch)*row+Math.floor(across*row/1024);return heap.blocks.find(block=>block.place<=place&&place<block.place+block.size)};\nconst point=(event,canvas,heap)=>{const block=atPointer(event,canvas,heap);tip.hidden=!block;if(block){tip.textContent=told(block);tip.style.transform='translate('+Math.max(0,Math.min(event.clientX+12,innerWidth-tip.offsetWidth-8))+'px,'+(event.clientY+16)+'px)'}};\nconst redraw=()=>document.querySelectorAll('canvas').forEach((canvas,at)=>draw(canvas,heaps[at]));\nconst section=heap=>{const part=document.createElement('section');[['h2',heap.name],['p',heap.report],['canvas','']].forEach(([kind,text])=>{const child=document.createElement(kind);child.textContent=text;part.append(child)});const canvas=part.lastChild;canvas.setAttribute('role','img');canvas.setAttribute('aria-label',heap.blocks.length+' blocks');canvas.onpointermove=canvas.onpointerdown=event=>point(event,canvas,heap);canvas.onpointerleave=()=>{tip.hidden=true};return part};\nconst show=wanted=>{moment=Math.max(0,Math.min(last,wanted));slider.value=moment;heaps=heapsIn(moment);tip.hidden=true;element('moment').textContent='Moment '+(moment+1)+' of '+(last+1)+(moment==last?', at the end':', behind line '+lineOf(moment)+' of '+(lineOf(last)-1));element('heaps').replaceChildren(...heaps.map(section));redraw()};\nconst steps={ArrowLeft:-1,ArrowRight:1,Home:-Infinity,End:Infinity};\nslider.max=last;slider.oninput=()=>show(Number(slider.value));addEventListener('keydown',event=>{const step=steps[event.key];if(step&&!event.altKey&&!event.ctrlKey&&!event.metaKey){event.preventDefault();show(moment+(event.shiftKey?10:1)*step)}});\nmatchMedia('(prefers-color-scheme: dark)').addEventListener('change',redraw);addEventListener('resize',redraw);\nconst opened=()=>{const line=Number(location.hash.slice(1));show(line>0?begins.findLastIndex((begin,at)=>lineOf(at)<=line):0)};\naddEventListener('hashchange',opened);opened();</script></body></html>\n";
+
+fn write_free_item(text: &mut String, size: u32, stamp: u64) -> Result<(), AllocError>
+    ensures { OnOk result (string_bytes text.new ≡ string_bytes text.old ++ free_item size stamp) }
+{
+    write!(text, "f{size},{stamp};")
+}
+
+fn write_live_begin(
+    text: &mut String,
+    size: u32,
+    length: u32,
+    serial: u64,
+) -> Result<(), AllocError>
+    ensures { OnOk result (string_bytes text.new ≡ string_bytes text.old ++ live_begin size length serial) }
+{
+    write!(text, "l{size},{length},{serial}")
+}
+
+fn write_label_item(text: &mut String, label: u32) -> Result<(), AllocError>
+    ensures { OnOk result (string_bytes text.new ≡ string_bytes text.old ++ label_item label) }
+{
+    write!(text, ",{label};")
+}
+
+fn write_item_end(text: &mut String, label: Option<u32>) -> Result<(), AllocError>
+    ensures { OnOk result (string_bytes text.new ≡ string_bytes text.old ++ item_end label) }
+{
+    match label {
+        None => text.push_str(";"),
+        Some(label) => write_label_item(text, label),
+    }
+}
+
+#[tactic(auto, unfolding(crate::specs::Html::live_item))]
+fn write_live_item(
+    text: &mut String,
+    size: u32,
+    length: u32,
+    serial: u64,
+    label: Option<u32>,
+) -> Result<(), AllocError>
+    ensures { OnOk result (string_bytes text.new ≡ string_bytes text.old ++ live_item size length serial label) }
+{
+    write_live_begin(text, size, length, serial)?;
+    write_item_end(text, label)
+}
+
+fn write_item(text: &mut String, drawn: LabelledBlock) -> Result<(), AllocError>
+    ensures { OnOk result (string_bytes text.new ≡ string_bytes text.old ++ item_of drawn) }
+{
+    let size = drawn.block.size;
+    match drawn.block.content {
+        Content::Free { stamp } => write_free_item(text, size, stamp),
+        Content::Live { serial, length } => write_live_item(
+            text,
+            size,
+            length,
+            serial,
+            drawn.label,
+        ),
+    }
+}
+
+fn write_items(text: &mut String, blocks: &[LabelledBlock]) -> Result<(), AllocError>
+    ensures { OnOk result (string_bytes text.new ≡ string_bytes text.old ++ items_of blocks.now) }
+{
+    for number in 0..blocks.len() {
+        write_item(text, blocks[number])?;
+    }
+    Ok(())
+}
+
+fn write_name_item(text: &mut String, words: u32, heap: &MappedHeap) -> Result<(), AllocError>
+    ensures { OnOk result (string_bytes text.new ≡ string_bytes text.old ++ name_item words heap.now) }
+{
+    let id = heap.id;
+    let tick = heap.tick;
+    write!(text, "heap {id}: {words} words at tick {tick}\n")
+}
+
+#[tactic(auto, unfolding(crate::specs::Html::heap_data))]
+fn write_heap_data(text: &mut String, words: u32, heap: &MappedHeap) -> Result<(), AllocError>
+    ensures { OnOk result (string_bytes text.new ≡ string_bytes text.old ++ heap_data words heap.now) }
+{
+    write_name_item(text, words, heap)?;
+    write_live_numbers(text, &heap.report)?;
+    text.push_str("; ")?;
+    write_free_numbers(text, &heap.report)?;
+    text.push_str("; ")?;
+    write_age_numbers(text, &heap.report)?;
+    text.push_str("\n")?;
+    write_items(text, &heap.blocks)?;
+    text.push_str("\n")
+}
+
+fn write_heaps_data(text: &mut String, words: u32, heaps: &[MappedHeap]) -> Result<(), AllocError>
+    ensures { OnOk result (string_bytes text.new ≡ string_bytes text.old ++ heaps_data words heaps.now) }
+{
+    for number in 0..heaps.len() {
+        write_heap_data(text, words, &heaps[number])?;
+    }
+    Ok(())
+}
+
+fn write_line_item(text: &mut String, line: u32) -> Result<(), AllocError>
+    ensures { OnOk result (string_bytes text.new ≡ string_bytes text.old ++ line_item line) }
+{
+    write!(text, "line {line}\n")
+}
+
+/// Adds to the page a moment of heaps with so many words each: how they stand behind a line of their trace.
+///
+/// ```text
+/// write_page_head(&mut text)?;
+/// write_moment(&mut text, 64, 1, &heaps)?;    // "line 1\nheap 0: 64 words at tick 1\nlive 0 blocks, ..\nf64,0;\n"
+/// write_page_foot(&mut text)?;
+/// ```
+///
+/// # Errors
+///
+/// Where memory runs out.
+#[tactic(auto, unfolding(crate::specs::Html::moment_data))]
+pub fn write_moment(
+    text: &mut String,
+    words: u32,
+    line: u32,
+    heaps: &[MappedHeap],
+) -> Result<(), AllocError>
+    ensures { OnOk result (string_bytes text.new ≡ string_bytes text.old ++ moment_data words (record { line = line; heaps = heaps.now })) }
+{
+    write_line_item(text, line)?;
+    write_heaps_data(text, words, heaps)
+}
+
+#[tactic(auto, unfolding(crate::specs::Html::style_part))]
+fn write_style(text: &mut String) -> Result<(), AllocError>
+    ensures { OnOk result (string_bytes text.new ≡ string_bytes text.old ++ style_part) }
+{
+    text.push_str(PAGE_STYLE)
+}
+
+#[tactic(auto, unfolding(crate::specs::Html::slider_part))]
+fn write_slider(text: &mut String) -> Result<(), AllocError>
+    ensures { OnOk result (string_bytes text.new ≡ string_bytes text.old ++ slider_part) }
+{
+    text.push_str(SLIDER)
+}
+
+/// Adds what stands on the page before the moments.
+///
+/// ```text
+/// write_page_head(&mut text)?;                // "<!doctype html>\n<html lang='en'>.."
+/// ```
+///
+/// # Errors
+///
+/// Where memory runs out.
+#[tactic(auto, unfolding(crate::specs::Html::page_head))]
+pub fn write_page_head(text: &mut String) -> Result<(), AllocError>
+    ensures { OnOk result (string_bytes text.new ≡ string_bytes text.old ++ page_head) }
+{
+    write_style(text)?;
+    write_slider(text)
+}
+
+/// Adds what stands on the page behind the moments: the script that shows them.
+///
+/// ```text
+/// write_page_foot(&mut text)?;                // "</script><script>'use strict';.."
+/// ```
+///
+/// # Errors
+///
+/// Where memory runs out.
+#[tactic(auto, unfolding(crate::specs::Html::page_foot, crate::specs::Html::reading_part, crate::specs::Html::drawing_part, crate::specs::Html::showing_part))]
+pub fn write_page_foot(text: &mut String) -> Result<(), AllocError>
+    ensures { OnOk result (string_bytes text.new ≡ string_bytes text.old ++ page_foot) }
+{
+    text.push_str(READING)?;
+    text.push_str(DRAWING)?;
+    text.push_str(SHOWING)
+}

@@ -1,0 +1,10 @@
+use Rattle.std.proofs.Common.{string_bytes}
+use Rattle.tlsf_trace.proofs.WholeReplay.{run_is_done}
+use Rattle.tlsf_picture.proofs.page_drawing.draw_trace_as_page.Goals as goal
+
+pub returns : goal.returns
+returns g c =
+    let recording = c.in_ok-recording.ensures in
+    run_is_done recording.text (string_bytes c.in_ok-page.page) c.in_ok-recording.recording.script.calls recording.read
+    (record { trace = recording.trace; spelled = recording.spelled; puts = c.in_ok-page.ensures recording.trace recording.recorded; calls_are = recording.recorded.script.calls })
+    c.finish.result (rw c.deref.ensures at c.finish.ensures)

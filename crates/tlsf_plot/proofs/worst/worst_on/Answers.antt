@@ -1,0 +1,5 @@
+use Rattle.tlsf_plot.proofs.worst.worst_on.Goals as goal
+
+pub loop-heap-preserved : goal.loop-heap-preserved
+loop-heap-preserved g c = λ trace level is.
+    c.worse_named-worst.ensures trace c.loop-heap.heap (c.loop-heap.invariant trace level is) (c.in_ok-named_above.ensures trace level is)

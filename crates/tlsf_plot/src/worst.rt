@@ -1,0 +1,132 @@
+//! The line to look at, and the picture of the heaps behind it.
+ghost use Rattle.std.specs.Prelude.{◌≡◌, ℕ, ◌+◌, ◌<◌, ◌≤◌, length, IfOk, string_bytes};
+ghost use Rattle.tlsf_class.specs.Classes.{IsLevel};
+ghost use Rattle.tlsf_lines.specs.Ranges.{IsHeaderInRange};
+ghost use Rattle.tlsf_lines.specs.Trace.{Trace};
+ghost use Rattle.tlsf_picture.specs.Moments.{IsRecording};
+ghost use Rattle.tlsf_plot.specs.Steps.{HasNamed, HasWorst};
+ghost use Rattle.tlsf_plot.specs.Worst.{DrawsWorst};
+ghost use Rattle.tlsf_trace.specs.Output.{level_in};
+ghost use Rattle.tlsf_trace.specs.Replay.{IsRun};
+
+use crate::curve::worst_line;
+use crate::points::{longest_of, points_of};
+use std::alloc::{AllocError, Global};
+use std::io::{Read, Write};
+use tlsf_lines::Version;
+use tlsf_picture::{Form, Recording, picture_by, record_trace};
+use tlsf_trace::{Summary, TraceFault, finish};
+
+// A line that the plot names above a heap.
+#[derive(Clone, Copy)]
+struct Named {
+    line: u32,
+    // The heap's free words behind it.
+    free: u32,
+}
+
+// What the plot names above a heap, None where the longest request finds room behind each line.
+fn named_above<const SLI: u32>(
+    alloc: Global,
+    recording: &Recording,
+    heap: u32,
+) -> Result<Option<Named>, AllocError>
+    requires level { IsLevel SLI }
+    requires header { IsHeaderInRange recording.now.script.header }
+    requires lines { length recording.now.lines.items ≤ 32768 }
+    requires heap { heap < recording.now.script.header.workers }
+    ensures { (trace : Trace) → level_in trace.header ≡ SLI → IsRecording recording.now trace → IfOk result (HasNamed trace heap) }
+{
+    let points = points_of::<SLI>(alloc, recording, heap)?;
+    let longest = longest_of(heap, &recording.lines);
+    let Some(line) = worst_line(longest, &points) else {
+        return Ok(None);
+    };
+    let free = points[line as usize - 1].free;
+    Ok(Some(Named { line, free }))
+}
+
+// The one of two with more free words, the first where they have equally many.
+fn worse_named(worst: Option<Named>, next: Option<Named>) -> Option<Named>
+    ensures { (trace : Trace) (heap : ℕ) → HasWorst trace heap worst → HasNamed trace heap next → HasWorst trace (heap + 1) result }
+{
+    let Some(own) = next else {
+        return worst;
+    };
+    let Some(other) = worst else {
+        return next;
+    };
+    if own.free > other.free { next } else { worst }
+}
+
+// The line to look at of a trace, at its level.
+fn worst_on<const SLI: u32>(
+    alloc: Global,
+    recording: &Recording,
+) -> Result<Option<Named>, AllocError>
+    requires level { IsLevel SLI }
+    requires header { IsHeaderInRange recording.now.script.header }
+    requires lines { length recording.now.lines.items ≤ 32768 }
+    ensures { (trace : Trace) → level_in trace.header ≡ SLI → IsRecording recording.now trace → IfOk result (HasWorst trace trace.header.workers) }
+{
+    let mut worst = None;
+    for heap in 0..recording.script.header.workers {
+        worst = worse_named(worst, named_above::<SLI>(alloc, recording, heap)?);
+    }
+    Ok(worst)
+}
+
+// The line to look at of a trace.
+fn worst_of(alloc: Global, recording: &Recording) -> Result<Option<Named>, AllocError>
+    requires header { IsHeaderInRange recording.now.script.header }
+    requires lines { length recording.now.lines.items ≤ 32768 }
+    ensures { (trace : Trace) → IsRecording recording.now trace → IfOk result (HasWorst trace trace.header.workers) }
+{
+    match recording.script.header.version {
+        Version::One => worst_on::<4>(alloc, recording),
+        Version::Two => worst_on::<5>(alloc, recording),
+    }
+}
+
+// The picture of the heaps behind the line to look at.
+fn picture_of_worst(alloc: Global, recording: &Recording, form: Form) -> Result<String, AllocError>
+    requires header { IsHeaderInRange recording.now.script.header }
+    requires lines { length recording.now.lines.items ≤ 32768 }
+    ensures { (trace : Trace) → IsRecording recording.now trace → IfOk result (λ text. DrawsWorst form trace (string_bytes text)) }
+{
+    let worst = worst_of(alloc, recording)?;
+    match worst {
+        Some(named) => picture_by(alloc, recording, form, named.line),
+        None => picture_by(alloc, recording, form, recording.lines.len() as u32 + 2),
+    }
+}
+
+/// Reads a whole trace, and writes a picture of each heap as it stands behind the line to look at.
+///
+/// That is the line that [`plot_trace`](crate::plot_trace) names: behind it the longest request of a heap's worker would find no room,
+/// with the most of that heap's words free. Where the plot names lines above several heaps, it is that with the most free words, and of
+/// equal ones that of the first heap. Where it names none the heaps are drawn as they stand at the end. All else is as at
+/// [`draw_trace_at`](tlsf_picture::draw_trace_at); to find the line, the trace is run once for each heap.
+///
+/// ```
+/// // reader gives "tlsf 1 1 64 1\na 0 7 400\nf 0 7\n", whose longest request finds no room behind line 2
+/// let summary = draw_trace_at_worst(alloc, Form::Text, &mut reader, &mut writer)?;
+/// // the picture is that of draw_trace_at(alloc, Form::Text, 2, ..)
+/// ```
+///
+/// # Errors
+///
+/// Those of [`replay`](tlsf_trace::replay), each where a replay of that trace has it.
+pub fn draw_trace_at_worst<R: Read, W: Write>(
+    alloc: Global,
+    form: Form,
+    reader: &mut R,
+    writer: &mut W,
+) -> Result<Summary, TraceFault>
+    ensures { IsRun (DrawsWorst form) result (R.remaining reader.old) (R.remaining reader.new)
+        (W.contents writer.old) (W.contents writer.new) }
+{
+    let recording = record_trace(alloc, reader)?;
+    let picture = picture_of_worst(alloc, &recording, form)?;
+    finish(writer, recording.script.calls, &picture)
+}
