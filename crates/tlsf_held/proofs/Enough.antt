@@ -1,11 +1,10 @@
 -- The words of a pool are enough.
-use Rattle.std.proofs.Common.{◌≡◌, ◌==◌, ℕ, ◌≤◌, ◌<◌, ◌&&◌, Bool, true, false, true≢false, cond, List, [], ◌∷◌, length, map, Option, Some, None, Result, Ok, Err, max, inl, inr, refl, sym, subst, arith}
-use Rattle.std.specs.Prelude.{nat_le}
+use Rattle.std.proofs.Common.{◌≡◌, ◌==◌, ℕ, ◌≤◌, ◌<◌, Bool, true, false, true≢false, cond, List, [], ◌∷◌, length, map, Option, Some, Result, Ok, Err, inl, inr, sym, subst, arith}
 use Rattle.std.specs.List.{AllByRecursion}
-use Rattle.std.proofs.lemmas.Bool.{cases_eq, leb-true}
+use Rattle.std.proofs.lemmas.Bool.{cases_eq}
 use Rattle.std.proofs.lemmas.Bool.Decides.{nat_tests}
 use Rattle.std.proofs.lemmas.List.FromFn.{get_or-map-range_with_len, length-map-range_with_len}
-use Rattle.tlsf_class.specs.Classes.{IsLevel, most_words}
+use Rattle.tlsf_class.specs.Classes.{most_words}
 use Rattle.tlsf_heap.specs.Blocks.{HeapState, want}
 use Rattle.tlsf_heap.specs.Calls.{Call, Allocate, Release, Write, Resize, Read, Got, answered, opened, read_of, run}
 use Rattle.tlsf_heap.specs.declared.refusal.Refusal.{Refusal}

@@ -1,5 +1,5 @@
 -- The words of a table of kinds are enough.
-use Rattle.std.proofs.Common.{◌≡◌, ◌≢◌, ◌==◌, ℕ, zero, suc, ◌+◌, ◌<◌, ◌≤◌, Bool, true, false, cond, nat_le, nat_lt, List, [], ◌∷◌, length, map, max, Ok, Err, inl, inr, refl, sym, subst, arith, le_trans}
+use Rattle.std.proofs.Common.{◌≡◌, ◌≢◌, ◌==◌, ℕ, zero, suc, ◌+◌, ◌<◌, ◌≤◌, Bool, true, false, cond, nat_le, nat_lt, List, [], ◌∷◌, length, map, max, Ok, inl, inr, refl, sym, subst, arith, le_trans}
 use Rattle.std.specs.Prelude.{filter}
 use Rattle.std.specs.List.{range_with_len, AllByRecursion}
 use Rattle.std.proofs.Math.Pow.{shr_mono}
@@ -15,14 +15,14 @@ use Rattle.tlsf_laws.specs.Pools.{HasRoomFor}
 use Rattle.tlsf_laws.specs.declared.kind.Kind.{Kind}
 use Rattle.tlsf_laws.proofs.PlannedCalls.{kinds_suffice}
 use Rattle.tlsf_crew.specs.histories.History.{answers_on, calls_on, handed_on}
-use Rattle.tlsf_crew.specs.model.World.{heap_in, no_heap, replies}
+use Rattle.tlsf_crew.specs.model.World.{heap_in, no_heap}
 use Rattle.tlsf_crew.proofs.lemmas.histories.AllEntries.{replies_tell}
 use Rattle.tlsf_yard_laws.proofs.Told.{noted_same}
 use Rattle.tlsf_lines.specs.Events.{events_of}
 use Rattle.tlsf_trace.specs.Output.{level_in, run_of, yard_of}
 use Rattle.tlsf_held.specs.KindTables.{kinds_of, AreRows, IsOfRow, KeepWithin}
 use Rattle.tlsf_held.specs.Measures.{HeldKindsSuffice}
-use Rattle.tlsf_held.specs.Rows.{class_number, row_count, row_in, row_of, used, with_one, IsWithin}
+use Rattle.tlsf_held.specs.Rows.{class_number, row_count, row_in, row_of, used, IsWithin}
 use Rattle.tlsf_held.specs.declared.row.Row.{Row}
 use Rattle.tlsf_held.proofs.LeastRows.{both_within, cons_within, one_within, same_within, within_trans}
 use Rattle.tlsf_held.proofs.Measured.{is_level}

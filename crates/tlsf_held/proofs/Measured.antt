@@ -5,7 +5,6 @@ use Rattle.tlsf_heap.specs.Calls as heap
 use Rattle.tlsf_heap.specs.declared.name.Name.{Name}
 use Rattle.tlsf_calls.specs.declared.entry.Entry.{Entry}
 use Rattle.tlsf_calls.specs.declared.event.Event.{Event}
-use Rattle.tlsf_crew.specs.histories.History.{answers_on, calls_on}
 use Rattle.tlsf_crew.specs.model.World.{World, replies}
 use Rattle.tlsf_lines.specs.Events.{events_of}
 use Rattle.tlsf_lines.specs.Trace.{Trace}
