@@ -67,7 +67,15 @@ fn writes_classes(rt: HostRuntime) {
 #[test]
 fn measures_what_a_trace_asks(rt: HostRuntime) {
     let line = "held 0 blocks 0 bytes 0 words 4 region 64 wanted 0\n";
-    check_lines(&rt, rt.alloc(), &[("tlsf,replay,--held", 0, line)]);
+    check_lines(
+        &rt,
+        rt.alloc(),
+        &[
+            ("tlsf,replay,--held", 0, line),
+            ("tlsf,replay,--held,--kinds", 0, "--sli 4\n"),
+            ("tlsf,replay,--kinds", 0, "--sli 4\n"),
+        ],
+    );
 }
 
 /// A run on these words and this text ends with this status, and with these texts written and reported.
@@ -344,6 +352,7 @@ fn tells_how_a_file_is_read(rt: HostRuntime) {
     for (words, call) in [
         ("tlsf,replay,first.trace", "replay < first.trace"),
         ("other,replay,--held,a b.trace", "replay --held < a b.trace"),
+        ("tlsf,replay,--kinds,x", "replay --held --kinds < x"),
         ("tlsf,replay,../x,--held", "replay --held < ../x"),
         ("tlsf,race,now", "race < now"),
         ("tlsf,race,--queues,a,b,c", "race --queues < a"),

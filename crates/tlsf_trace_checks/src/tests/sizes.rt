@@ -1,6 +1,8 @@
 //! `tlsf size`: the words of a region, and how far one reaches.
 
 use crate::tests::commands::{check_lines, check_told};
+use crate::tests::streams::Streams;
+use tlsf_fixtures::same;
 
 #[test]
 fn writes_the_words_of_a_region(rt: HostRuntime) {
@@ -140,4 +142,27 @@ fn tells_what_a_size_is(rt: HostRuntime) {
             ("tlsf,size,-h", 0, "The most blocks that are held at once"),
         ],
     );
+}
+
+// A number with more in it than digits is refused with a tip, one way for every number of the command line, and no other word is.
+#[test]
+fn tells_how_numbers_are_written(rt: HostRuntime) {
+    let tip = "tip: numbers are plain digits, as 65536 for 64 KiB\n";
+    for (words, tipped) in [
+        ("tlsf,classes,1k", true),
+        ("tlsf,classes,460,--sli,5x", true),
+        ("tlsf,size,--blocks,1,--bytes,64KiB", true),
+        ("tlsf,size,--blocks=2_000,--bytes=64", true),
+        ("tlsf,map,--at,0x10", true),
+        ("tlsf,classes,3", false),
+        ("tlsf,classes,x", false),
+        ("tlsf,size,--blocks,0,--bytes,64", false),
+        ("tlsf,2nd", false),
+    ] {
+        let mut streams = Streams::new(rt.alloc(), b"");
+        let status = streams.run(&rt, rt.alloc(), words);
+        let errors = streams.errors.text();
+        let found = (status, errors.ends_with(tip), streams.writer.text());
+        same((words, found), (words, (2, tipped, ""))).expect(&rt, "differ");
+    }
 }
