@@ -1,5 +1,5 @@
 #!/usr/bin/env python3
-"""usage: bench/adversary.py [B N].. [--mix B N B N]
+"""usage: bench/adversary.py [B N].. [--mix B N B N] [--table TABLE]
 
 How many words a region needs at least: forces `NoFit` in `tlsf replay`, by
 programs that keep within the bounds of a pool.
@@ -12,7 +12,10 @@ what is needed lies above that, and no higher than the law's words. The calls
 are the same in each region: they follow no answer. Run by hand: the gate
 doesn't. With no pair B N there are four pairs. Behind --mix stand many small
 blocks and two or more large ones: there each small block is put between two
-holes that are too small for a large one. The variable TLSF names another
+holes that are too small for a large one. Behind --table stands a line of
+'tlsf replay --held --kinds', and the same is done with each row that has two
+blocks or more of 1,032 bytes or more, and the blocks of the rows before it; the
+line is that of the row which gets furthest. The variable TLSF names another
 program than that of this tree.
 """
 import functools
@@ -125,24 +128,23 @@ def poisoned(words):
     return next((n for n in range(words, 0, -1) if low(n) <= n - 4 and n >= LEAST_POISONED), 0)
 
 
-def mixed_attack(small, length, large):
-    """The lines of a program of at most `small` blocks of `length` bytes, and two of `large` bytes.
+def mixed_attack(smalls, words):
+    """The lines of a program of small blocks of these lengths, and of two large ones, which want at most so many words.
 
     Behind each small block it leaves a hole that is just too small for a large block; then come a large block and what is left of the
     region. The next large block goes behind that one, which is released. In the hole that it makes with the one before, a
     large block leaves a rest of the same class, the last that became free: so the next small block goes there, and the hole
     before it stays.
     """
-    program = Program(small + 2, max(length, large))
-    words = poisoned(want(large))
+    program = Program(len(smalls) + 2, max(payload(words), *smalls))
     first, last = program.allocate(payload(words)), program.allocate(payload(words))
     program.release(first)
-    program.allocate(min(8, length))
-    for _ in range(small - 1):
+    program.allocate(smalls[0])
+    for length, following in zip(smalls, smalls[1:]):
         ahead = program.allocate(payload(words))
         program.release(last)
-        before = program.allocate(payload(words - 4))
-        program.allocate(min(8, length))
+        before = program.allocate(payload(words - want(length)))
+        program.allocate(following)
         program.release(before)
         last = ahead
     program.allocate(payload(words))
@@ -174,18 +176,46 @@ def report_mix(small, length, large_most, large):
     left = sure(words) - 1      # behind the last large block
     used = min(small, (MOST_WORDS - left) // words - 1)
     forced = (used + 1) * words + left
-    assert refuses(mixed_attack(used, length, large), forced), "the mix was not refused"
+    assert refuses(mixed_attack([min(8, length)] * used, words), forced), "the mix was not refused"
     asks = f"the law asks for {law[1]}" if law else f"no region is enough by the law, and {used} of the small blocks do it"
     print(f"blocks {small} bytes {length}, blocks {large_most} bytes {large}: NoFit is forced in {forced} words, {asks}", flush=True)
 
 
+def ways_of(table):
+    """Of each row that may be the large one, and each number of words, the region that is cut up, the lengths of small blocks, and the words."""
+    shortest = [1] + [length + 1 for _, length in table]
+    for row, (most, large) in enumerate(table):
+        smalls = [shortest[i] for i in range(row) for _ in range(table[i][0])]
+        for words in range((large // 8) + 3, LEAST_POISONED - 1, -1) if most >= 2 else []:
+            # A hole has to stay in the class, and the block that makes it has to count for the row.
+            widest = min(words - low(words) - 1, words - want(shortest[row]))
+            used = [length for length in smalls if want(length) <= widest]
+            left = sure(words) - 1
+            used = used[: max(0, (MOST_WORDS - left) // words - 1)]
+            if used:
+                yield (len(used) + 1) * words + left, used, words
+
+
+def report_table(table):
+    """The greatest region in which calls within a table are refused so."""
+    for forced, smalls, words in sorted(ways_of(table), key=lambda way: (-way[0], way[2])):
+        if refuses(mixed_attack(smalls, words), forced):
+            print(f"{len(table)} rows: NoFit is forced in {forced} words, by {len(smalls)} small blocks and two of {payload(words)} bytes", flush=True)
+            return
+    sys.exit("no row of the table has two large blocks, of 1,032 bytes or more, behind one with small blocks")
+
+
 if __name__ == "__main__":
     given = sys.argv[1:]
-    mix = given[:1] == ["--mix"]
-    given = given[1:] if mix else given
     if given[:1] in (["-h"], ["--help"]):
         print(__doc__.strip())
         sys.exit(0)
+    if given[:1] == ["--table"]:
+        numbers = [int(word) for word in given if word.isdecimal()][1:]
+        report_table(list(zip(numbers[0::2], numbers[1::2])))
+        sys.exit(0)
+    mix = given[:1] == ["--mix"]
+    given = given[1:] if mix else given
     if len(given) % (4 if mix else 2) or not all(word.isdecimal() for word in given):
         print(__doc__.strip(), file=sys.stderr)
         sys.exit(2)
