@@ -8,11 +8,12 @@ For each B and N this makes two traces of one worker that never holds more than
 B blocks and never asks for more than N bytes, replays them in smaller and
 smaller regions, from the words of `tlsf size --blocks B --bytes N` on, and
 prints the greatest region in which a request of theirs is answered NoFit. So
-what is needed lies above that, and no higher than the law's words. The calls
-are the same in each region: they follow no answer. Run by hand: the gate
-doesn't. With no pair B N there are four pairs. Behind --mix stand many small
-blocks and two or more large ones: there each small block is put between two
-holes that are too small for a large one. Behind --table stands a line of
+what is needed lies above that, and no higher than the law's words. Above 16,384
+words each 64th region is tried, and then those in one gap. The calls are the
+same in each region: they follow no answer. Run by hand: the gate doesn't. With
+no pair B N there are four pairs. Behind --mix stand many small blocks and two
+or more large ones: there each small block is put between two holes that are too
+small for a large one. Behind --table stands a line of
 'tlsf replay --held --kinds', and the same is done with each row that has two
 blocks or more of 1,032 bytes or more, and the blocks of the rows before it; the
 line is that of the row which gets furthest. The variable TLSF names another
@@ -29,6 +30,7 @@ NO_FIT = "refused 1"
 MOST_WORDS = 2**20      # of a region of level 4
 LEAST_POISONED = 132    # from 128 words on a class has eight sizes
 LEAST_TO_WIDEN = 5      # a round of wide blocks needs as many places
+LEAST_TO_STEP = 2**14   # words from which not each region is tried
 
 
 @functools.cache
@@ -157,13 +159,17 @@ def refuses(lines, words):
     return any(line.endswith(NO_FIT) for line in tlsf("replay", text=text).splitlines())
 
 
+def refused_by(traces, words):
+    return any(refuses(lines, words) for lines in traces)
+
+
 def report(most, length):
     law = int(tlsf("size", "--blocks", str(most), "--bytes", str(length)).split()[1])
     traces = [attack(most, length, widen) for widen in (False, True)]
-    forced = law
-    while forced > 3 and not any(refuses(lines, forced) for lines in traces):
-        forced -= 1
-    assert forced < law, "a region of the law's words refused a request"
+    step = 64 if law > LEAST_TO_STEP else 1
+    assert not refused_by(traces, law), "a region of the law's words refused a request"
+    found = next((words for words in range(law - 1, 3, -step) if refused_by(traces, words)), 3)
+    forced = next((words for words in range(min(found + step, law) - 1, found, -1) if refused_by(traces, words)), found)
     apart = 100 * (law - forced - 1) / (forced + 1)
     print(f"blocks {most} bytes {length}: NoFit is forced up to {forced} words, {forced + 1} to {law} are enough, {apart:.1f} % apart", flush=True)
 
