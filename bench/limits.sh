@@ -8,7 +8,8 @@
 #
 # - instructions of a replay and of a race, to `sha256sum` on the same file. Under
 #   valgrind that runs without the processor's SHA instructions, which valgrind
-#   doesn't offer; `perf stat` counts it as it is;
+#   doesn't offer; `perf stat` counts it as it is. memset and memcpy are kept from
+#   instructions that move many bytes each, which valgrind counts byte by byte;
 # - page faults and peak memory, to `sha256sum` on the same file;
 # - time to `sha256sum` on the same file;
 # - to the trace's first half, which shows growth;
@@ -79,9 +80,10 @@ least() {
 instructions() {
     file=$1
     shift
+    tunables=glibc.cpu.x86_rep_stosb_threshold=1073741824:glibc.cpu.x86_rep_movsb_threshold=1073741824
     case $counter in
     valgrind)
-        valgrind --tool=callgrind --callgrind-out-file=/dev/null "$@" < "$file" 2>&1 > "$work/out" |
+        GLIBC_TUNABLES=$tunables valgrind --tool=callgrind --callgrind-out-file=/dev/null "$@" < "$file" 2>&1 > "$work/out" |
             awk '/Collected/ { print $4 }'
         ;;
     perf)

@@ -42,25 +42,35 @@ fi
 [ -z "$authors" ] || authors=$(readlink -f "$authors")
 work=$(mktemp -d)
 trap 'rm -rf "$work"' EXIT
-mkdir -p "$work/apt/lists/partial" "$work/loaded"
 
-# Where no C file is given: that of the system's source packages, whose list is kept apart.
-if [ -z "$authors" ] && command -v apt-get > /dev/null; then (
+# fetch LISTS SOURCES WORD..: apt-get, with lists and files of packages in a folder of this run.
+fetch() {
+    lists=$1 sources=$2
+    shift 2
+    mkdir -p "$work/apt/$lists/partial"
+    # shellcheck disable=SC2086
+    apt-get -qq -o "Dir::State::Lists=$work/apt/$lists" -o "Dir::Cache=$work/apt" $sources "$@"
+}
+
+# The lists of the system's packages are fetched anew: on a new machine there are none. The sources of TLSF 2.4, where no C
+# file is given, are in a list that the system may not name.
+mkdir -p "$work/apt" "$work/loaded"
+if command -v apt-get > /dev/null; then (
     cd "$work/apt"
-    release=$(. /etc/os-release && echo "$VERSION_CODENAME")
-    apt-get indextargets --format 'deb-src $(REPO_URI) $(CODENAME) $(COMPONENT)' "Codename: $release" "Component: main" |
-        sort -u > list
-    for what in update 'source --download-only supercollider'; do
-        # shellcheck disable=SC2086
-        apt-get -qq -o "Dir::Etc::SourceList=$PWD/list" -o Dir::Etc::SourceParts=/dev/null -o "Dir::State::Lists=$PWD/lists" \
-            -o "Dir::Cache=$PWD" $what
+    fetch lists '' update
+    for package in libmimalloc2.0 libjemalloc2; do
+        fetch lists '' download "$package" && dpkg -x "$package"_*.deb "$work/packages" || :
     done
+    [ -z "$authors" ] || exit 0
+    release=$(. /etc/os-release && echo "$VERSION_CODENAME")
+    fetch lists '' indextargets --format 'deb-src $(REPO_URI) $(CODENAME) $(COMPONENT)' "Codename: $release" "Component: main" |
+        sort -u > list
+    only="-o Dir::Etc::SourceList=$PWD/list -o Dir::Etc::SourceParts=/dev/null"
+    fetch sources "$only" update
+    fetch sources "$only" source --download-only supercollider
     tar xf ./*.orig.tar.* --wildcards '*/TLSF*/src/tlsf.*' --strip-components 4
 ) > "$work/log" 2>&1 || :; fi
 [ -n "$authors" ] || authors=$work/apt/tlsf.c
-for package in libmimalloc2.0 libjemalloc2; do
-    (cd "$work/apt" && apt-get download "$package" && dpkg -x "$package"_*.deb "$work/packages") >> "$work/log" 2>&1 || :
-done
 
 "$top/library" "$work" >&2
 columns='level4 level5'
