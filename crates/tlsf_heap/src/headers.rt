@@ -1,6 +1,6 @@
 //! The words of headers: what is written where a block is given or taken back. Each word is written once. Sizes and places are in
 //! words.
-ghost use Rattle.std.specs.Prelude.{◌≡◌, ℕ, ◌+◌, ◌-◌, ◌<◌, ◌≤◌, ◌^◌, true, length, slice_set};
+ghost use Rattle.std.specs.Prelude.{◌≡◌, ℕ, ◌+◌, ◌-◌, ◌<◌, ◌≤◌, ◌^◌, false, true, length, slice_set};
 ghost use Rattle.tlsf_heap.specs.Blocks.{want};
 ghost use Rattle.tlsf_heap.specs.Headers.{HasFree, HasLive, NamesBefore, OnlyFrom, RisesBy, Wholes, Splits, Merges, Widens, Recuts, without_start};
 ghost use Rattle.tlsf_heap.specs.Regions.{image_of};
@@ -86,9 +86,23 @@ pub fn split_header(
 }
 
 /// Writes the header of the free block of this tag that a block at a place becomes with the free one of `before` words before it and
-/// the one of `after` words behind it. Where there is none, that is 0.
+/// the one of `after` words behind it. Where there is none, that is 0. `previous` and `next` say whether there is one: callers know, so
+/// that no size is tested.
 #[inline(always)]
-pub fn merge_headers(words: &mut Words, at: u32, before: u32, after: u32, tag: Tag, stamp: u64)
+pub fn merge_headers(
+    words: &mut Words,
+    at: u32,
+    before: u32,
+    after: u32,
+    previous: bool,
+    next: bool,
+    tag: Tag,
+    stamp: u64,
+)
+    requires previous { previous ≡ true → 0 < before }
+    requires no_previous { previous ≡ false → before ≡ 0 }
+    requires next { next ≡ true → 0 < after }
+    requires no_next { next ≡ false → after ≡ 0 }
     requires free { tag.free ≡ true }
     requires before { before ≤ at }
     requires after { before + after + 4 ≤ tag.size }
@@ -99,31 +113,41 @@ pub fn merge_headers(words: &mut Words, at: u32, before: u32, after: u32, tag: T
 {
     let place = at - before;
     let end = place + tag.size();
-    clear_start(words, at, before);
-    clear_start(words, end - after, after);
+    clear_start(words, at, before, previous);
+    clear_start(words, end - after, after, next);
     free_header(words, place, tag, stamp);
     set_back(words, end, place);
 }
 
-/// Writes the header of the live block of this tag that a live block at a place and the `after` free words behind it become. Its
-/// mark, its length and its payload stay.
-pub fn widen_header(words: &mut Words, at: u32, tag: Tag, after: u32)
+/// Writes the header of the live block of this tag that a live block at a place and the `after` free words behind it, `both`
+/// words together, become. Its mark, its length and its payload stay.
+pub fn widen_header(words: &mut Words, at: u32, both: u32, tag: Tag, after: u32)
+    requires both { both ≡ tag.size }
     requires after { after + 4 ≤ tag.size }
     requires within { at + tag.size ≤ length words.old.words }
     requires small { length words.old.words ≤ 2 ^ 24 }
     ensures change { Widens (image_of words.old) (image_of words.new) at tag after }
     ensures touches { RisesBy words.old.touches words.new.touches 4 }
 {
-    let end = at + tag.size();
-    clear_start(words, end - after, after);
+    let end = at + both;
+    clear_start(words, end - after, after, after > 0);
     set_back(words, end, at);
     let live = tag.as_live();
     words.set_tag(at, live);
 }
 
-/// Makes the live block at a place and the `after` free words behind it, which have this free tag together, a live block of `size`
-/// words and a free rest. The mark, the length and the payload of the first stay.
-pub fn recut_header(words: &mut Words, at: u32, tag: Tag, after: u32, size: u32, stamp: u64)
+/// Makes the live block at a place and the `after` free words behind it, `both` words of this free tag together, a live block of
+/// `size` words and a free rest. The mark, the length and the payload of the first stay.
+pub fn recut_header(
+    words: &mut Words,
+    at: u32,
+    both: u32,
+    tag: Tag,
+    after: u32,
+    size: u32,
+    stamp: u64,
+)
+    requires both { both ≡ tag.size }
     requires free { tag.free ≡ true }
     requires least { 4 ≤ size }
     requires room { size + 4 ≤ tag.size }
@@ -133,8 +157,8 @@ pub fn recut_header(words: &mut Words, at: u32, tag: Tag, after: u32, size: u32,
     ensures change { Recuts (image_of words.old) (image_of words.new) at tag after size stamp }
     ensures touches { RisesBy words.old.touches words.new.touches 7 }
 {
-    let behind = at + tag.size();
-    clear_start(words, behind - after, after);
+    let behind = at + both;
+    clear_start(words, behind - after, after, after > 0);
     let place = at + size;
     let rest = tag.rest(size, at);
     free_header(words, place, rest, stamp);
@@ -144,14 +168,17 @@ pub fn recut_header(words: &mut Words, at: u32, tag: Tag, after: u32, size: u32,
 }
 
 /// Says that no block starts at a place where a block is merged with `size` words of a neighbour. Where that is 0 there is none.
+#[inline(always)]
 #[tactic(auto, unfolding(crate::specs::Headers::without_start))]
-fn clear_start(words: &mut Words, at: u32, size: u32)
+fn clear_start(words: &mut Words, at: u32, size: u32, is_merged: bool)
+    requires some { is_merged ≡ true → 0 < size }
+    requires none { is_merged ≡ false → size ≡ 0 }
     requires within { 0 < size → at < length words.old.words }
     ensures starts { words.new.starts ≡ without_start words.old.starts at size }
     ensures words { words.new.words ≡ words.old.words }
     ensures touches { RisesBy words.old.touches words.new.touches 1 }
 {
-    if size > 0 {
+    if is_merged {
         words.set_start(at, false);
     }
 }

@@ -15,7 +15,7 @@ widen_header-requires g c =
     let shows = shows_state g.row.SLI c.self.invariant c.self.view_is in
     let live = c.requires.live in
     let is = whole_is c.new-whole.result (ap (λ (r : RegionState). r.words) c.self.view_is) (c.requires.own live.0 live.1) (c.requires.next live.0 live.1) c.size-after.ensures.value (c.new-whole.ensures.size ∙ ap (λ n. n + c.size-after.result) c.size.ensures.value) (c.new-whole.ensures.last ∙ c.is_last.ensures) (c.new-whole.ensures.back ∙ c.back.ensures) in
-    record { after = whole_least shows live.1 is; within = whole_ends shows live.1 is; small = shows.small }
+    record { both = omega (arith, c.new-whole.ensures.size); after = whole_least shows live.1 is; within = whole_ends shows live.1 is; small = shows.small }
 
 -- the block takes all
 wide : (g : Over) (c : goal.After-widen_header g) → (i : ℕ) → StandsAt c.args.self.now.blocks c.args.at i
