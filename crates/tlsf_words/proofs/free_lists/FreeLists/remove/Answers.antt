@@ -2,7 +2,6 @@ use Rattle.std.proofs.Common.{◌≡◌, ap, ◌∙◌, arith}
 use Rattle.tlsf_class.specs.Classes.{class_of}
 use Rattle.tlsf_class.proofs.Lows.{low-first, low-most, low-rises_or_same}
 use Rattle.tlsf_class.proofs.ClassOfSize.{class_of-low}
-use Rattle.tlsf_words.proofs.free_lists.FreeLists.remove.Given.{Over}
 use Rattle.tlsf_words.proofs.free_lists.FreeLists.remove.Goals as goal
 
 pub unlink-requires : goal.unlink-requires
@@ -22,14 +21,14 @@ unlink-requires g c =
       ),
     )
 
--- the class of the size that is passed on
-same : (g : Over) (c : goal.After-unlink g) → class_of g.row.SLI c.low.result ≡ c.args.class
-same g c =
-    let n = c.number-number.ensures in
-    ap (class_of g.row.SLI) c.low.ensures ∙ class_of-low g.row.SLI n.level c.args.class n.least n.most
-
 pub returns-clause-list : goal.returns-clause-list
-returns-clause-list g c = rw (same g c) at c.unlink.ensures.list
+returns-clause-list g c =
+    let n = c.number-number.ensures in
+    let same : class_of g.row.SLI c.low.result ≡ c.args.class = ap (class_of g.row.SLI) c.low.ensures ∙ class_of-low g.row.SLI n.level c.args.class n.least n.most in
+    rw same at c.unlink.ensures.list
 
 pub returns-clause-others : goal.returns-clause-others
-returns-clause-others g c = rw (same g c) at c.unlink.ensures.others
+returns-clause-others g c =
+    let n = c.number-number.ensures in
+    let same : class_of g.row.SLI c.low.result ≡ c.args.class = ap (class_of g.row.SLI) c.low.ensures ∙ class_of-low g.row.SLI n.level c.args.class n.least n.most in
+    rw same at c.unlink.ensures.others
