@@ -46,17 +46,26 @@ pub fn first_header(words: &mut Words, stamp: u64)
     words.set_start(0, true);
 }
 
-/// Writes the header of a live block of this tag with `len` bytes of payload, and makes its words behind the header zero, but for the
-/// last `spare`, which aren't of the payload.
-pub fn live_header(words: &mut Words, at: u32, tag: Tag, serial: u64, len: u32, spare: u32)
-    requires payload { want len + spare ≤ tag.size }
-    requires within { at + tag.size ≤ length words.old.words }
+/// Writes the header of a live block of this tag and `size` words, with `len` bytes of payload, and makes its words behind the header
+/// zero, but for the last `spare`, which aren't of the payload.
+pub fn live_header(
+    words: &mut Words,
+    at: u32,
+    tag: Tag,
+    size: u32,
+    serial: u64,
+    len: u32,
+    spare: u32,
+)
+    requires live { tag.free ≡ false }
+    requires size { size ≡ tag.size }
+    requires payload { want len + spare ≤ size }
+    requires within { at + size ≤ length words.old.words }
     requires small { length words.old.words ≤ 2 ^ 24 }
     ensures change { Wholes (image_of words.old) (image_of words.new) at tag serial len }
-    ensures touches { words.new.touches ≡ words.old.touches + 3 + (tag.size - 3 - spare) }
+    ensures touches { words.new.touches ≡ words.old.touches + 3 + (size - 3 - spare) }
 {
-    words.set_header(at, tag.as_live(), serial, len);
-    words.zero(at + 4, tag.size() - 4 - spare);
+    words.set_header(at, tag, serial, len, size - 4 - spare);
 }
 
 /// Makes the free block at a place, of this tag, a live one of `size` words with `len` bytes of payload, all zero, and a free rest.
@@ -82,7 +91,7 @@ pub fn split_header(
     free_header(words, at + size, rest, serial);
     words.set_start(at + size, true);
     set_back(words, at + tag.size(), at + size);
-    live_header(words, at, tag.without(rest), serial, len, spare);
+    live_header(words, at, tag.without(rest), size, serial, len, spare);
 }
 
 /// Writes the header of the free block of this tag that a block at a place becomes with the free one of `before` words before it and

@@ -265,11 +265,12 @@ impl<const SLI: u32> Region<SLI> {
         let tag = self.words.tag(at);
         let all = tag.size();
         if all < size + 4 {
-            live_header(&mut self.words, at, tag, serial, len, spare);
+            live_header(&mut self.words, at, tag.as_live(), all, serial, len, spare);
             return 0;
         }
+        let rest = all - size;
         split_header(&mut self.words, at, tag, size, serial, len, spare);
-        all - size
+        rest
     }
 
     /// Makes the live block at a place, of this tag, neither of whose neighbours is free, a free one.

@@ -76,10 +76,12 @@ impl<const SLI: u32> FreeLists<SLI> {
         ensures rise { self.old.touches ≤ self.new.touches }
         ensures words_rise { words.old.touches ≤ words.new.touches }
     {
+        // Read, so that the proof has the range of a place.
+        let _count = words.len();
         let next = self.heads.place(class);
         self.heads.set_place(class, at);
         // Each case writes its own links: those of a place that is alone are a constant.
-        if next == NO_PLACE {
+        if !is_place(next) {
             words.set_links(
                 at,
                 Links {

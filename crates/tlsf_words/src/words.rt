@@ -174,21 +174,22 @@ impl Words {
     }
 
     /// Writes the header of a live block at a place, its tag, its mark and its payload length in bytes, and makes its first payload
-    /// word zero, which each block has. Four touches.
+    /// word zero, which each block has, and `n` more behind it. Four touches, and one for each of these.
     ///
     /// ```
-    /// words.set_header(at, tag.as_live(), serial, 8);     // of a block of 4 words: its payload is zero
+    /// words.set_header(at, tag.as_live(), serial, 8, 0);     // of a block of 4 words: its payload is zero
     /// ```
     #[inline]
     #[tactic(auto, unfolding(crate::specs::Fields::length_word))]
-    pub fn set_header(&mut self, at: u32, tag: Tag, mark: u64, bytes: u32)
-        requires { at + 3 < length self.old.words }
-        ensures words { self.new.words ≡ slice_set (slice_set (slice_set (slice_set self.old.words at (tag_word tag.size tag.last tag.free tag.back)) (at + 1) mark) (at + 2) (length_word bytes)) (at + 3) 0 }
+    pub fn set_header(&mut self, at: u32, tag: Tag, mark: u64, bytes: u32, n: u32)
+        requires { at + 4 + n ≤ length self.old.words }
+        ensures words { self.new.words ≡ take (at + 4) (slice_set (slice_set (slice_set (slice_set self.old.words at (tag_word tag.size tag.last tag.free tag.back)) (at + 1) mark) (at + 2) (length_word bytes)) (at + 3) 0)
+            ++ replicate n 0 ++ drop (at + 4 + n) (slice_set (slice_set (slice_set (slice_set self.old.words at (tag_word tag.size tag.last tag.free tag.back)) (at + 1) mark) (at + 2) (length_word bytes)) (at + 3) 0) }
         ensures starts { self.new.starts ≡ self.old.starts }
-        ensures touches { self.new.touches ≡ self.old.touches + 4 }
+        ensures touches { self.new.touches ≡ self.old.touches + 4 + n }
     {
         self.words
-            .write_four(at as usize, tag.to_word(), mark, u64::from(bytes), 0);
+            .write_and_zero(at as usize, tag.to_word(), mark, u64::from(bytes), n as usize);
     }
 
     /// The payload length in bytes of the live block at a place, from the third word of its header. Of a free block it would
