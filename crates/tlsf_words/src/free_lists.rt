@@ -91,14 +91,13 @@ impl<const SLI: u32> FreeLists<SLI> {
             );
             self.bitmaps.set(class);
         } else {
-            words.set_links(
+            words.link(
                 at,
                 Links {
                     next,
                     previous: NO_PLACE,
                 },
             );
-            set_previous(words, next, at);
         }
     }
 
@@ -263,9 +262,17 @@ fn tie(words: &mut Words, links: Links)
     ensures touches { words.new.touches ≤ words.old.touches + 4 }
     ensures rise { words.old.touches ≤ words.new.touches }
 {
-    set_next(words, links.previous, links.next);
-    if links.next != NO_PLACE {
-        set_previous(words, links.next, links.previous);
+    if links.next == NO_PLACE {
+        set_next(words, links.previous, NO_PLACE);
+    } else {
+        let before = words.links(links.previous);
+        words.link(
+            links.previous,
+            Links {
+                next: links.next,
+                ..before
+            },
+        );
     }
 }
 

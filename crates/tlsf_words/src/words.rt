@@ -259,6 +259,22 @@ impl Words {
         self.write(at as usize + 2, links.to_word());
     }
 
+    /// Writes the links of the free block at a place, and the place as the previous one into the links of the next, which is a place.
+    /// Three touches. The address of the words is read once, where two calls read it twice.
+    #[inline]
+    pub(crate) fn link(&mut self, at: u32, links: Links)
+        requires at { at + 2 < length self.old.words }
+        requires next { links.next + 2 < length self.old.words }
+        ensures small { length self.old.words ≤ 2 ^ 24 }
+        ensures words { self.new.words ≡ slice_set (slice_set self.old.words (at + 2) (links_word links.next links.previous)) (links.next + 2)
+            (links_word (low_half (slice_index (slice_set self.old.words (at + 2) (links_word links.next links.previous)) (links.next + 2))) at) }
+        ensures starts { self.new.starts ≡ self.old.starts }
+        ensures touches { self.new.touches ≡ self.old.touches + 3 }
+    {
+        self.words
+            .write_and_upper(at as usize + 2, links.to_word(), links.next as usize + 2, at);
+    }
+
     /// Whether a block starts at a place. A forged name is caught so, before a word of it is read.
     ///
     /// ```
