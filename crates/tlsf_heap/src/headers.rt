@@ -1,6 +1,6 @@
 //! The words of headers: what is written where a block is given or taken back. Each word is written once. Sizes and places are in
 //! words.
-ghost use Rattle.std.specs.Prelude.{◌≡◌, ℕ, ◌+◌, ◌-◌, ◌<◌, ◌≤◌, ◌^◌, false, true, length, slice_set};
+ghost use Rattle.std.specs.Prelude.{◌≡◌, ℕ, ◌+◌, ◌-◌, ◌<◌, ◌≤◌, ◌==◌, ◌^◌, false, true, length, slice_set};
 ghost use Rattle.tlsf_heap.specs.Blocks.{want};
 ghost use Rattle.tlsf_heap.specs.Headers.{HasFree, HasLive, NamesBefore, OnlyFrom, RisesBy, Wholes, Splits, Merges, Widens, Recuts, without_start};
 ghost use Rattle.tlsf_heap.specs.Regions.{image_of};
@@ -8,18 +8,21 @@ ghost use Rattle.tlsf_words.specs.Lists.{nowhere};
 
 use tlsf_words::{NO_PLACE, Tag, Words};
 
-/// Writes the place of the block before into the header at a place, unless the region ends there.
-#[tactic(auto, using(crate::proofs::Written::size_in_below), unfolding(crate::specs::Headers::with_back))]
-fn set_back(words: &mut Words, at: u32, back: u32)
+/// Writes the place of the block before into the header at a place, where a block of tag `own` ends, unless that is the last one.
+#[tactic(auto, using(crate::proofs::Written::size_in_below, crate::proofs::Written::inner_below), unfolding(crate::specs::Headers::with_back))]
+fn set_back(words: &mut Words, own: Tag, at: u32, back: u32)
+    requires last { own.last ≡ (at == length words.old.words) }
+    requires within { at ≤ length words.old.words }
     ensures header { NamesBefore words.old.words words.new.words at back }
     ensures only { OnlyFrom words.old.words words.new.words at (at + 1) }
     ensures starts { words.new.starts ≡ words.old.starts }
     ensures touches { RisesBy words.old.touches words.new.touches 2 }
 {
-    if at < words.len() {
-        let tag = words.tag(at);
-        words.set_tag(at, tag.with_back(back));
+    if own.is_last() {
+        return;
     }
+    let tag = words.tag(at);
+    words.set_tag(at, tag.with_back(back));
 }
 
 /// Writes the tag and the mark of a free block. No neighbour's header says otherwise where its size stays.
@@ -83,6 +86,7 @@ pub fn split_header(
     requires payload { want len + spare ≤ size }
     requires room { size + 4 ≤ tag.size }
     requires within { at + tag.size ≤ length words.old.words }
+    requires last { tag.last ≡ (at + tag.size == length words.old.words) }
     requires small { length words.old.words ≤ 2 ^ 24 }
     ensures change { Splits (image_of words.old) (image_of words.new) at tag size serial len }
     ensures touches { RisesBy words.old.touches words.new.touches (8 + (size - 3 - spare)) }
@@ -90,7 +94,7 @@ pub fn split_header(
     let rest = tag.rest(size, at);
     free_header(words, at + size, rest, serial);
     words.set_start(at + size, true);
-    set_back(words, at + tag.size(), at + size);
+    set_back(words, tag, at + tag.size(), at + size);
     live_header(words, at, tag.without(rest), size, serial, len, spare);
 }
 
@@ -116,6 +120,7 @@ pub fn merge_headers(
     requires before { before ≤ at }
     requires after { before + after + 4 ≤ tag.size }
     requires within { at - before + tag.size ≤ length words.old.words }
+    requires last { tag.last ≡ (at - before + tag.size == length words.old.words) }
     requires small { length words.old.words ≤ 2 ^ 24 }
     ensures change { Merges (image_of words.old) (image_of words.new) at before after tag stamp }
     ensures touches { RisesBy words.old.touches words.new.touches 6 }
@@ -125,7 +130,7 @@ pub fn merge_headers(
     clear_start(words, at, before, previous);
     clear_start(words, end - after, after, next);
     free_header(words, place, tag, stamp);
-    set_back(words, end, place);
+    set_back(words, tag, end, place);
 }
 
 /// Writes the header of the live block of this tag that a live block at a place and the `after` free words behind it, `both`
@@ -134,13 +139,14 @@ pub fn widen_header(words: &mut Words, at: u32, both: u32, tag: Tag, after: u32)
     requires both { both ≡ tag.size }
     requires after { after + 4 ≤ tag.size }
     requires within { at + tag.size ≤ length words.old.words }
+    requires last { tag.last ≡ (at + tag.size == length words.old.words) }
     requires small { length words.old.words ≤ 2 ^ 24 }
     ensures change { Widens (image_of words.old) (image_of words.new) at tag after }
     ensures touches { RisesBy words.old.touches words.new.touches 4 }
 {
     let end = at + both;
     clear_start(words, end - after, after, after > 0);
-    set_back(words, end, at);
+    set_back(words, tag, end, at);
     let live = tag.as_live();
     words.set_tag(at, live);
 }
@@ -162,6 +168,7 @@ pub fn recut_header(
     requires room { size + 4 ≤ tag.size }
     requires after { after + 4 ≤ tag.size }
     requires within { at + tag.size ≤ length words.old.words }
+    requires last { tag.last ≡ (at + tag.size == length words.old.words) }
     requires small { length words.old.words ≤ 2 ^ 24 }
     ensures change { Recuts (image_of words.old) (image_of words.new) at tag after size stamp }
     ensures touches { RisesBy words.old.touches words.new.touches 7 }
@@ -172,7 +179,7 @@ pub fn recut_header(
     let rest = tag.rest(size, at);
     free_header(words, place, rest, stamp);
     words.set_start(place, true);
-    set_back(words, behind, place);
+    set_back(words, tag, behind, place);
     words.set_tag(at, tag.without(rest));
 }
 

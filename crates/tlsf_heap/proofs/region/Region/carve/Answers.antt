@@ -1,5 +1,5 @@
 -- A block that is carved, whole or with a rest: the words show the blocks, and leave the lists.
-use Rattle.std.proofs.Common.{◌≡◌, ℕ, suc, ◌-◌, ◌≤◌, ◌++◌, take, drop, length, sym, ap, ◌∙◌, arith, get_or}
+use Rattle.std.proofs.Common.{◌≡◌, ℕ, ◌+◌, eqb, List, suc, ◌-◌, ◌≤◌, ◌++◌, take, drop, length, sym, ap, ◌∙◌, arith, get_or}
 use Rattle.tlsf_heap.specs.Blocks.{StandsAt, size_of}
 use Rattle.tlsf_heap.specs.Calls.{carved}
 use Rattle.tlsf_heap.specs.GoodFit.{block_at}
@@ -80,6 +80,12 @@ split_header-requires-clause-free g c =
 pub split_header-requires-clause-within : goal.split_header-requires-clause-within
 split_header-requires-clause-within g c =
     let says = says_here (shows_state g.row.SLI c.self.invariant c.self.view_is) c.requires.room.1 in omega (arith, c.tag-tag.ensures.size ∙ says.size, says.ends, ap length c.tag-tag.ensures.words)
+
+pub split_header-requires-clause-last : goal.split_header-requires-clause-last
+split_header-requires-clause-last g c =
+    let says = says_here (shows_state g.row.SLI c.self.invariant c.self.view_is) c.requires.room.1 in
+    let e = c.tag-tag.ensures in
+    e.last ∙ says.last ∙ ap (λ n. eqb (c.args.at + n) (length c.self.inside.words.words)) (sym (e.size ∙ says.size)) ∙ ap (λ (l : List ℕ). eqb (c.args.at + c.tag-tag.result.size) (length l)) (sym e.words)
 
 splits : (g : Over) (c : After-split_header g) → Splits (image_of c.self.inside.words) (image_of c.split_header.new.words) c.args.at c.tag-tag.result c.args.size c.args.serial c.args.len
 splits g c = rw (c.tag-tag.ensures.words, c.tag-tag.ensures.starts) at c.split_header.ensures.change
