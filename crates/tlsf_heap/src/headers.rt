@@ -179,7 +179,7 @@ pub fn recut_header(
     let rest = tag.rest(size, at);
     free_header(words, place, rest, stamp);
     words.set_start(place, true);
-    set_back(words, tag, behind, place);
+    set_back(words, rest, behind, place);
     words.set_tag(at, tag.without(rest));
 }
 

@@ -188,8 +188,13 @@ impl Words {
         ensures starts { self.new.starts ≡ self.old.starts }
         ensures touches { self.new.touches ≡ self.old.touches + 4 + n }
     {
-        self.words
-            .write_and_zero(at as usize, tag.to_word(), mark, u64::from(bytes), n as usize);
+        self.words.write_and_zero(
+            at as usize,
+            tag.to_word(),
+            mark,
+            u64::from(bytes),
+            n as usize,
+        );
     }
 
     /// The payload length in bytes of the live block at a place, from the third word of its header. Of a free block it would
@@ -271,8 +276,12 @@ impl Words {
         ensures starts { self.new.starts ≡ self.old.starts }
         ensures touches { self.new.touches ≡ self.old.touches + 3 }
     {
-        self.words
-            .write_and_upper(at as usize + 2, links.to_word(), links.next as usize + 2, at);
+        self.words.write_and_upper(
+            at as usize + 2,
+            links.to_word(),
+            links.next as usize + 2,
+            at,
+        );
     }
 
     /// Whether a block starts at a place. A forged name is caught so, before a word of it is read.
