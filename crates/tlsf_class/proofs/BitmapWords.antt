@@ -6,7 +6,7 @@ use Rattle.std.proofs.lemmas.List.{length-set}
 use Rattle.std.proofs.lemmas.Bool.{cases_eq, cases_lt, eq-eqb, ne_eqb, cases_order}
 use Rattle.std.proofs.lemmas.Nat.Bits.{bit_at-zero}
 use Rattle.tlsf_class.specs.Classes.{IsLevel, level_classes, last_class, classes}
-use Rattle.tlsf_class.proofs.TwoLevels.{by_level, split, first_at, second_at, second_below, first_inside, first_rises, second_rises, same_class, first_below, second_less}
+use Rattle.tlsf_class.proofs.TwoLevels.{by_level, split, first_at, second_at, second_below, first_inside, first_rises, second_more, same_class, first_below, second_less}
 use Rattle.tlsf_class.specs.Members.{with_member, without_member, next_member}
 use Rattle.tlsf_class.specs.Bitmaps.{is_set, members_of, AreLevels}
 use Rattle.tlsf_class.proofs.Members.{filter-classes_same, Contains-filter, with_member-filter, without_member-filter, next_member-filter, next_member-filter_none}
@@ -202,39 +202,46 @@ module _ (sli : ℕ) (level : IsLevel sli) where
       next_member-filter sli level (is_set sli second) c (level_classes sli * first_level + second_level) least most next.above passes
       (λ d _ l h. ap (λ b. eqb b 1) (next.before d l h))
 
-  -- n classes further on the first level of c, by its two levels
-  pub further : (c first_level from n : ℕ) → first_level ≡ c / level_classes sli → from ≡ c % level_classes sli → level_classes sli * first_level + (from + n) ≡ c + n
-  further c first_level from n first_is from_is = let s = split sli c in rw (first_is, from_is) (omega arith)
+  -- n + 1 classes further on the first level of b, by its two levels
+  pub further : (b first_level from n : ℕ) → first_level ≡ b / level_classes sli → from ≡ b % level_classes sli → level_classes sli * first_level + (from + 1 + n) ≡ b + 1 + n
+  further b first_level from n first_is from_is = let s = split sli b in rw (first_is, from_is) (omega arith)
 
-  -- it is in the first level of c
-  pub next-same_level : (first : ℕ) (second : List ℕ) (c first_level from n : ℕ) → AreLevels sli first second → first_level ≡ c / level_classes sli → from ≡ c % level_classes sli → bit_at (get_or second first_level 0) (from + n) ≡ 1 → ((k : ℕ) → from ≤ k → k < from + n → bit_at (get_or second first_level 0) k ≡ 0) → next_member (members_of sli second) c ≡ Some (c + n)
-  next-same_level first second c first_level from n levels first_is from_is here lowest =
-      let inside = (levels.in_use first_level (from + n) here).0 in
-      next_is first second c first_level (from + n) levels record {
-        above = omega (arith, further c first_level from n first_is from_is);
+  -- a class above b on its first level is above it on the second
+  above_from : (b first_level from d : ℕ) → first_level ≡ b / level_classes sli → from ≡ b % level_classes sli → b + 1 ≤ d → d / level_classes sli ≡ first_level → from < d % level_classes sli
+  above_from b first_level from d first_is from_is l e = let more = second_more sli b d first_level (omega arith) (sym first_is) e in omega arith
+
+  -- and no class above b is on a first level below its own
+  above_first : (b first_level d : ℕ) → first_level ≡ b / level_classes sli → b + 1 ≤ d → first_level ≤ d / level_classes sli
+  above_first b first_level d first_is l = let rises = first_rises sli level b d (omega arith) in omega arith
+
+  -- it is in the first level of the number below
+  pub next-same_level : (first : ℕ) (second : List ℕ) (b first_level from n : ℕ) → AreLevels sli first second → first_level ≡ b / level_classes sli → from ≡ b % level_classes sli → bit_at (get_or second first_level 0) (from + 1 + n) ≡ 1 → ((k : ℕ) → from < k → k < from + 1 + n → bit_at (get_or second first_level 0) k ≡ 0) → next_member (members_of sli second) (b + 1) ≡ Some (b + 1 + n)
+  next-same_level first second b first_level from n levels first_is from_is here lowest =
+      let inside = (levels.in_use first_level (from + 1 + n) here).0 in
+      next_is first second (b + 1) first_level (from + 1 + n) levels record {
+        above = omega (arith, further b first_level from n first_is from_is);
         here = here;
         before = λ d l h.
-            let rises = first_rises sli level c d l in
-            let under = first_below sli level d first_level (from + n) inside h in
+            let rises = above_first b first_level d first_is l in
+            let under = first_below sli level d first_level (from + 1 + n) inside h in
             let e : d / level_classes sli ≡ first_level = omega arith in
-            let from_d = second_rises sli c d first_level l (sym first_is) e in
-            rw e (lowest (d % level_classes sli) (omega arith) (second_less sli d first_level (from + n) h e));
-      } ∙ ap Some (further c first_level from n first_is from_is)
+            rw e (lowest (d % level_classes sli) (above_from b first_level from d first_is from_is l e) (second_less sli d first_level (from + 1 + n) h e));
+      } ∙ ap Some (further b first_level from n first_is from_is)
 
   -- it is the least of the next first level that has a member
-  pub next-later_level : (first : ℕ) (second : List ℕ) (c first_level from later second_level : ℕ) → AreLevels sli first second → first_level ≡ c / level_classes sli → from ≡ c % level_classes sli → ((k : ℕ) → from ≤ k → bit_at (get_or second first_level 0) k ≡ 0) → first_level + 1 ≤ later → ((k : ℕ) → first_level + 1 ≤ k → k < later → bit_at first k ≡ 0) → bit_at (get_or second later 0) second_level ≡ 1 → ((k : ℕ) → k < second_level → bit_at (get_or second later 0) k ≡ 0) → next_member (members_of sli second) c ≡ Some (level_classes sli * later + second_level)
-  next-later_level first second c first_level from later second_level levels first_is from_is none past skipped here lowest =
+  pub next-later_level : (first : ℕ) (second : List ℕ) (b first_level from later second_level : ℕ) → AreLevels sli first second → first_level ≡ b / level_classes sli → from ≡ b % level_classes sli → ((k : ℕ) → from < k → bit_at (get_or second first_level 0) k ≡ 0) → first_level + 1 ≤ later → ((k : ℕ) → first_level + 1 ≤ k → k < later → bit_at first k ≡ 0) → bit_at (get_or second later 0) second_level ≡ 1 → ((k : ℕ) → k < second_level → bit_at (get_or second later 0) k ≡ 0) → next_member (members_of sli second) (b + 1) ≡ Some (level_classes sli * later + second_level)
+  next-later_level first second b first_level from later second_level levels first_is from_is none past skipped here lowest =
       let inside = (levels.in_use later second_level here).0 in
-      next_is first second c later second_level levels record {
-        above = elim (cases_lt c (level_classes sli * later + second_level)) [
+      next_is first second (b + 1) later second_level levels record {
+        above = elim (cases_lt b (level_classes sli * later + second_level)) [
           | inl fine ↦ omega arith
-          | inr under ↦ let rises = first_rises sli level (level_classes sli * later + second_level) c under in let at = first_at sli later second_level inside in absurd (omega arith)
+          | inr under ↦ let rises = first_rises sli level (level_classes sli * later + second_level) b under in let at = first_at sli later second_level inside in absurd (omega arith)
         ];
         here = here;
         before = λ d l h. elim (cases_order (d / level_classes sli) first_level) [
-          | inl e ↦ rw e (none (d % level_classes sli) (let from_d = second_rises sli c d first_level l (sym first_is) e in omega arith))
+          | inl e ↦ rw e (none (d % level_classes sli) (above_from b first_level from d first_is from_is l e))
           | inr other ↦ elim other [
-            | inl below ↦ absurd (let rises = first_rises sli level c d l in omega arith)
+            | inl below ↦ absurd (let rises = above_first b first_level d first_is l in omega arith)
             | inr above ↦ elim (cases_order (d / level_classes sli) later) [
               | inl e ↦ rw e (lowest (d % level_classes sli) (second_less sli d later second_level h e))
               | inr other ↦ elim other [
@@ -246,15 +253,15 @@ module _ (sli : ℕ) (level : IsLevel sli) where
         ];
       }
 
-  -- there is none in the first level of c from c on, and no first level above has one
-  pub next-none : (first : ℕ) (second : List ℕ) (c first_level from : ℕ) → AreLevels sli first second → first_level ≡ c / level_classes sli → from ≡ c % level_classes sli → ((k : ℕ) → from ≤ k → bit_at (get_or second first_level 0) k ≡ 0) → ((k : ℕ) → first_level + 1 ≤ k → bit_at first k ≡ 0) → next_member (members_of sli second) c ≡ None
+  -- there is none in the first level of b above b, and no first level above has one
+  pub next-none : (first : ℕ) (second : List ℕ) (b first_level from : ℕ) → AreLevels sli first second → first_level ≡ b / level_classes sli → from ≡ b % level_classes sli → ((k : ℕ) → from < k → bit_at (get_or second first_level 0) k ≡ 0) → ((k : ℕ) → first_level + 1 ≤ k → bit_at first k ≡ 0) → next_member (members_of sli second) (b + 1) ≡ None
   unfolding members_of
-  next-none first second c first_level from levels first_is from_is none above_none =
-      next_member-filter_none sli level (is_set sli second) c (λ d _ l _.
+  next-none first second b first_level from levels first_is from_is none above_none =
+      next_member-filter_none sli level (is_set sli second) (b + 1) (λ d _ l _.
       let zero : bit_at (get_or second (d / level_classes sli) 0) (d % level_classes sli) ≡ 0 = elim (cases_order (d / level_classes sli) first_level) [
-        | inl e ↦ rw e (none (d % level_classes sli) (let from_d = second_rises sli c d first_level l (sym first_is) e in omega arith))
+        | inl e ↦ rw e (none (d % level_classes sli) (above_from b first_level from d first_is from_is l e))
         | inr other ↦ elim other [
-          | inl below ↦ absurd (let rises = first_rises sli level c d l in omega arith)
+          | inl below ↦ absurd (let rises = above_first b first_level d first_is l in omega arith)
           | inr above ↦ no_bit first second (d / level_classes sli) (d % level_classes sli) levels (above_none (d / level_classes sli) (omega arith))
         ]
       ] in

@@ -16,6 +16,10 @@ module _ (sli : ℕ) (level : IsLevel sli) where
       (λ d l g. le-leb (low sli d) n (omega (arith, low-rises_or_same sli level c c (omega arith) (omega arith), low-rises_or_same sli level d c g (omega arith))))
       (λ d l g. lt-leb (low sli d) n (omega (arith, passed (omega arith), low-rises_or_same sli level (c + 1) d (omega arith) (omega arith))))
 
+  -- the class of the least size of a class is that class
+  pub class_of-low : (c : ℕ) → 4 ≤ c → c ≤ last_class sli → class_of sli (low sli c) ≡ c
+  class_of-low c least most = class_of-between (low sli c) c least most (omega arith) (λ below. low-next sli level c most)
+
   -- below the first class there is none, and the number is 0
   pub class_of-small : (n : ℕ) → n < 4 → class_of sli n ≡ 0
   unfolding classes class_of

@@ -64,6 +64,10 @@ first_rises = by_level (λ sli. (c d : ℕ) → c ≤ d → c / level_classes sl
 pub second_rises : (sli : ℕ) → (c d first_level : ℕ) → c ≤ d → c / level_classes sli ≡ first_level → d / level_classes sli ≡ first_level → c % level_classes sli ≤ d % level_classes sli
 second_rises sli c d first_level h e f = let a = rw e at (split sli c) in let b = rw f at (split sli d) in omega arith
 
+-- and a greater class on one first level at a greater second level
+pub second_more : (sli : ℕ) → (c d first_level : ℕ) → c < d → c / level_classes sli ≡ first_level → d / level_classes sli ≡ first_level → c % level_classes sli < d % level_classes sli
+second_more sli c d first_level h e f = let a = rw e at (split sli c) in let b = rw f at (split sli d) in omega arith
+
 -- the first level of a class in use is below 21
 pub first_inside : (sli : ℕ) → IsLevel sli → (c : ℕ) → c ≤ last_class sli → c / level_classes sli < 21
 first_inside = by_level (λ sli. (c : ℕ) → c ≤ last_class sli → c / level_classes sli < 21) (λ c h. omega arith) (λ c h. omega arith)

@@ -2,7 +2,9 @@ ghost use Rattle.std.specs.Prelude.{◌≡◌, ◌↔◌, ◌+◌, ◌≤◌, []
 ghost use Rattle.tlsf_class.specs.Classes.{IsLevel};
 ghost use Rattle.tlsf_class.specs.Members.{with_member, without_member, next_member};
 
-use crate::bits::{is_bit_set, lowest_bit, lowest_bit_from, steps_to_bit, with_bit, without_bit};
+use crate::bits::{
+    is_bit_set, lowest_bit, lowest_bit_from, steps_above_bit, with_bit, without_bit,
+};
 use crate::class::Class;
 use crate::levels::Levels;
 use std::marker::Model;
@@ -106,8 +108,8 @@ impl<const SLI: u32> Bitmaps<SLI> {
         is_bit_set(word, class.second_level())
     }
 
-    /// The least member at or above a class, `None` where there is none. One touch where the class's first level has it,
-    /// else two or three, however many classes lie between (ECRTS 2004, section 3).
+    /// The least member at or above a class, `None` where there is none. One touch where the first level of the number below
+    /// has it, else two or three, however many classes lie between (ECRTS 2004, section 3).
     ///
     /// ```
     /// let class = bitmaps.next_from(search_of(33))?;     // of blocks of 34 words or more
@@ -118,9 +120,11 @@ impl<const SLI: u32> Bitmaps<SLI> {
         ensures touches { self.new.touches ≤ self.old.touches + 3 }
         ensures rise { self.old.touches ≤ self.new.touches }
     {
-        let first_level = class.first_level();
+        // From the number below on, and then one above: a search class is one above a number that is at hand, and a shift by a constant
+        // tells that nothing is left.
+        let first_level = class.first_level_below();
         let word = self.levels.second_word(first_level);
-        if let Some(n) = steps_to_bit(word, class.second_level()) {
+        if let Some(n) = steps_above_bit(word, class.second_level_below()) {
             return Some(class.plus(n));
         }
         let first_word = self.levels.first_word();

@@ -1,4 +1,4 @@
-ghost use Rattle.std.specs.Prelude.{◌≡◌, ◌+◌, ◌*◌, ◌/◌, ◌%◌, ◌<◌, ◌≤◌, Some};
+ghost use Rattle.std.specs.Prelude.{◌≡◌, ◌+◌, ◌-◌, ◌*◌, ◌/◌, ◌%◌, ◌<◌, ◌≤◌, Some};
 ghost use Rattle.tlsf_class.specs.Classes.{IsLevel, level_classes, last_class, most_words, low, class_of, search_of};
 ghost use Rattle.tlsf_class.specs.Steps.{IsStep};
 
@@ -87,6 +87,25 @@ impl<const SLI: u32> Class<SLI> {
         ensures bound { result < 32 }
     {
         self.number % (1 << SLI)
+    }
+
+    /// The first level of the number below that of the class, 0 to 17, or to 20 at level 5.
+    pub(crate) fn first_level_below(self) -> u32
+        ensures value { result ≡ (self.entry - 1) / level_classes SLI }
+        ensures bound { result < 21 }
+        ensures level { IsLevel SLI }
+        ensures least { 4 ≤ self.entry }
+        ensures most { self.entry ≤ last_class SLI }
+    {
+        (self.number - 1) >> SLI
+    }
+
+    /// The second level of the number below that of the class, 0 to 15, or to 31 at level 5.
+    pub(crate) fn second_level_below(self) -> u32
+        ensures value { result ≡ (self.entry - 1) % level_classes SLI }
+        ensures bound { result < 32 }
+    {
+        (self.number - 1) % (1 << SLI)
     }
 }
 

@@ -6,7 +6,7 @@ use Rattle.tlsf_heap.specs.Image.{Image, BlockAt, StartsOnce, back_behind, Shows
 use Rattle.tlsf_words.specs.Lists.{nowhere}
 use Rattle.tlsf_heap.specs.Blocks.{Block, Free, size_of, words_in, StandsAt}
 use Rattle.tlsf_heap.specs.Calls.{first_free, past_free, last_free, before_free, coalesced}
-use Rattle.tlsf_heap.specs.GoodFit.{block_at, site_at}
+use Rattle.tlsf_heap.specs.GoodFit.{block_at, site_at, place_of}
 use Rattle.tlsf_heap.specs.Headers.{Merges, without_start}
 use Rattle.tlsf_heap.specs.Regions.{AreNeighbours}
 use Rattle.tlsf_words.specs.declared.tag.Tag.{Tag}
@@ -97,6 +97,11 @@ module _ {m : Image} {bs : List Block} (shows : Shows m bs) {at i : ℕ} (stands
     -- what the writes of a merge ask for
     pub merge_within : at - before + tag.size ≤ length m.words
     merge_within = omega (arith, lies.ends, lies.within, is.before, is.size)
+
+    pub merge_last : tag.last ≡ eqb (at - before + tag.size) (length m.words)
+    merge_last =
+        let e : place_of (site_at bs i) + size_of block + first_free back ≡ at - before + tag.size = omega (arith, stands.place, lies.within, is.before, is.size) in
+        is.last ∙ ap (λ n. eqb n (length m.words)) e
 
     pub merge_before : before ≤ at
     merge_before = omega (arith, lies.within, is.before)

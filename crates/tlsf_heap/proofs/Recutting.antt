@@ -74,6 +74,11 @@ module _ {m : Image} {bs : List Block} (shows : Shows m bs) {at i : ℕ} (stands
     | inr none ↦ omega (arith, says.ends, is.size, is.behind)
   ]
 
+  pub whole_last : tag.last ≡ eqb (at + tag.size) (length m.words)
+  whole_last =
+      let e : place_of (site_at bs i) + size_of block + first_free back ≡ at + tag.size = omega (arith, stands.place, is.size, is.behind) in
+      is.last ∙ ap (λ n. eqb n (length m.words)) e
+
   pub whole_least : after + 4 ≤ tag.size
   whole_least = omega (arith, is.size, says.least)
 

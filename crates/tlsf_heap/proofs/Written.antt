@@ -1,5 +1,6 @@
 -- What the writes of a header leave.
-use Rattle.std.proofs.Common.{◌≡◌, ℕ, ◌+◌, ◌<◌, ◌≤◌, ◌^◌, List, ◌++◌, length, get_or, take, drop, replicate, ◌∙◌, arith, length-take-le, length-append, get_or-take}
+use Rattle.std.proofs.Common.{◌≡◌, Bool, false, eqb, ℕ, ◌+◌, ◌<◌, ◌≤◌, ◌^◌, List, ◌++◌, length, get_or, take, drop, replicate, ◌∙◌, sym, arith, length-take-le, length-append, get_or-take}
+use Rattle.std.proofs.lemmas.Bool.{eqb-false}
 use Rattle.std.proofs.lemmas.List.{get_or_append_left}
 use Rattle.tlsf_words.specs.Fields.{size_in, low_half}
 
@@ -7,6 +8,10 @@ use Rattle.tlsf_words.specs.Fields.{size_in, low_half}
 pub size_in_below : (word : ℕ) → size_in word < 2 ^ 30
 unfolding size_in low_half
 size_in_below word = omega arith
+
+-- a block that isn't the last ends before the words do
+pub inner_below : (at n : ℕ) (last : Bool) → last ≡ eqb at n → at ≤ n → last ≡ false → at < n
+inner_below at n last is within inner = omega (arith, within, eqb-false at n (sym is ∙ inner))
 
 -- words before those that are made zero stay
 pub zeroed_before : (words : List ℕ) (at n k : ℕ) → k < at → at ≤ length words → get_or (take at words ++ replicate n 0 ++ drop (at + n) words) k 0 ≡ get_or words k 0

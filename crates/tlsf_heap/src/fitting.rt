@@ -176,19 +176,19 @@ fn join<const SLI: u32>(
     let before = previous.size();
     let after = next.size();
     if !next.is_free() {
-        region.remove(class_of(before), at - before);
+        region.remove(before, at - before);
         let whole = own.as_free().with_previous(previous);
-        region.merge(at, before, 0, whole, tick);
+        region.merge(at, before, 0, true, false, whole, tick);
         return (at - before, whole.size());
     }
-    region.remove(class_of(after), at + own.size());
+    region.remove(after, at + own.size());
     let behind = own.with_next(next);
     if !previous.is_free() {
-        region.merge(at, 0, after, behind, tick);
+        region.merge(at, 0, after, false, true, behind, tick);
         return (at, behind.size());
     }
-    region.remove(class_of(before), at - before);
+    region.remove(before, at - before);
     let whole = behind.with_previous(previous);
-    region.merge(at, before, after, whole, tick);
+    region.merge(at, before, after, true, true, whole, tick);
     (at - before, whole.size())
 }

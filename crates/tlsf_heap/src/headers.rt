@@ -1,6 +1,6 @@
 //! The words of headers: what is written where a block is given or taken back. Each word is written once. Sizes and places are in
 //! words.
-ghost use Rattle.std.specs.Prelude.{◌≡◌, ℕ, ◌+◌, ◌-◌, ◌<◌, ◌≤◌, ◌^◌, true, length, slice_set};
+ghost use Rattle.std.specs.Prelude.{◌≡◌, ℕ, ◌+◌, ◌-◌, ◌<◌, ◌≤◌, ◌==◌, ◌^◌, false, true, length, slice_set};
 ghost use Rattle.tlsf_heap.specs.Blocks.{want};
 ghost use Rattle.tlsf_heap.specs.Headers.{HasFree, HasLive, NamesBefore, OnlyFrom, RisesBy, Wholes, Splits, Merges, Widens, Recuts, without_start};
 ghost use Rattle.tlsf_heap.specs.Regions.{image_of};
@@ -8,18 +8,21 @@ ghost use Rattle.tlsf_words.specs.Lists.{nowhere};
 
 use tlsf_words::{NO_PLACE, Tag, Words};
 
-/// Writes the place of the block before into the header at a place, unless the region ends there.
-#[tactic(auto, using(crate::proofs::Written::size_in_below), unfolding(crate::specs::Headers::with_back))]
-fn set_back(words: &mut Words, at: u32, back: u32)
+/// Writes the place of the block before into the header at a place, where a block of tag `own` ends, unless that is the last one.
+#[tactic(auto, using(crate::proofs::Written::size_in_below, crate::proofs::Written::inner_below), unfolding(crate::specs::Headers::with_back))]
+fn set_back(words: &mut Words, own: Tag, at: u32, back: u32)
+    requires last { own.last ≡ (at == length words.old.words) }
+    requires within { at ≤ length words.old.words }
     ensures header { NamesBefore words.old.words words.new.words at back }
     ensures only { OnlyFrom words.old.words words.new.words at (at + 1) }
     ensures starts { words.new.starts ≡ words.old.starts }
     ensures touches { RisesBy words.old.touches words.new.touches 2 }
 {
-    if at < words.len() {
-        let tag = words.tag(at);
-        words.set_tag(at, tag.with_back(back));
+    if own.is_last() {
+        return;
     }
+    let tag = words.tag(at);
+    words.set_tag(at, tag.with_back(back));
 }
 
 /// Writes the tag and the mark of a free block. No neighbour's header says otherwise where its size stays.
@@ -46,17 +49,26 @@ pub fn first_header(words: &mut Words, stamp: u64)
     words.set_start(0, true);
 }
 
-/// Writes the header of a live block of this tag with `len` bytes of payload, and makes its words behind the header zero, but for the
-/// last `spare`, which aren't of the payload.
-pub fn live_header(words: &mut Words, at: u32, tag: Tag, serial: u64, len: u32, spare: u32)
-    requires payload { want len + spare ≤ tag.size }
-    requires within { at + tag.size ≤ length words.old.words }
+/// Writes the header of a live block of this tag and `size` words, with `len` bytes of payload, and makes its words behind the header
+/// zero, but for the last `spare`, which aren't of the payload.
+pub fn live_header(
+    words: &mut Words,
+    at: u32,
+    tag: Tag,
+    size: u32,
+    serial: u64,
+    len: u32,
+    spare: u32,
+)
+    requires live { tag.free ≡ false }
+    requires size { size ≡ tag.size }
+    requires payload { want len + spare ≤ size }
+    requires within { at + size ≤ length words.old.words }
     requires small { length words.old.words ≤ 2 ^ 24 }
     ensures change { Wholes (image_of words.old) (image_of words.new) at tag serial len }
-    ensures touches { words.new.touches ≡ words.old.touches + 3 + (tag.size - 3 - spare) }
+    ensures touches { words.new.touches ≡ words.old.touches + 3 + (size - 3 - spare) }
 {
-    words.set_header(at, tag.as_live(), serial, len);
-    words.zero(at + 4, tag.size() - 4 - spare);
+    words.set_header(at, tag, serial, len, size - 4 - spare);
 }
 
 /// Makes the free block at a place, of this tag, a live one of `size` words with `len` bytes of payload, all zero, and a free rest.
@@ -74,6 +86,7 @@ pub fn split_header(
     requires payload { want len + spare ≤ size }
     requires room { size + 4 ≤ tag.size }
     requires within { at + tag.size ≤ length words.old.words }
+    requires last { tag.last ≡ (at + tag.size == length words.old.words) }
     requires small { length words.old.words ≤ 2 ^ 24 }
     ensures change { Splits (image_of words.old) (image_of words.new) at tag size serial len }
     ensures touches { RisesBy words.old.touches words.new.touches (8 + (size - 3 - spare)) }
@@ -81,77 +94,107 @@ pub fn split_header(
     let rest = tag.rest(size, at);
     free_header(words, at + size, rest, serial);
     words.set_start(at + size, true);
-    set_back(words, at + tag.size(), at + size);
-    live_header(words, at, tag.without(rest), serial, len, spare);
+    set_back(words, tag, at + tag.size(), at + size);
+    live_header(words, at, tag.without(rest), size, serial, len, spare);
 }
 
 /// Writes the header of the free block of this tag that a block at a place becomes with the free one of `before` words before it and
-/// the one of `after` words behind it. Where there is none, that is 0.
+/// the one of `after` words behind it. Where there is none, that is 0. `previous` and `next` say whether there is one: callers know, so
+/// that no size is tested.
 #[inline(always)]
-pub fn merge_headers(words: &mut Words, at: u32, before: u32, after: u32, tag: Tag, stamp: u64)
+pub fn merge_headers(
+    words: &mut Words,
+    at: u32,
+    before: u32,
+    after: u32,
+    previous: bool,
+    next: bool,
+    tag: Tag,
+    stamp: u64,
+)
+    requires previous { previous ≡ true → 0 < before }
+    requires no_previous { previous ≡ false → before ≡ 0 }
+    requires next { next ≡ true → 0 < after }
+    requires no_next { next ≡ false → after ≡ 0 }
     requires free { tag.free ≡ true }
     requires before { before ≤ at }
     requires after { before + after + 4 ≤ tag.size }
     requires within { at - before + tag.size ≤ length words.old.words }
+    requires last { tag.last ≡ (at - before + tag.size == length words.old.words) }
     requires small { length words.old.words ≤ 2 ^ 24 }
     ensures change { Merges (image_of words.old) (image_of words.new) at before after tag stamp }
     ensures touches { RisesBy words.old.touches words.new.touches 6 }
 {
     let place = at - before;
     let end = place + tag.size();
-    clear_start(words, at, before);
-    clear_start(words, end - after, after);
+    clear_start(words, at, before, previous);
+    clear_start(words, end - after, after, next);
     free_header(words, place, tag, stamp);
-    set_back(words, end, place);
+    set_back(words, tag, end, place);
 }
 
-/// Writes the header of the live block of this tag that a live block at a place and the `after` free words behind it become. Its
-/// mark, its length and its payload stay.
-pub fn widen_header(words: &mut Words, at: u32, tag: Tag, after: u32)
+/// Writes the header of the live block of this tag that a live block at a place and the `after` free words behind it, `both`
+/// words together, become. Its mark, its length and its payload stay.
+pub fn widen_header(words: &mut Words, at: u32, both: u32, tag: Tag, after: u32)
+    requires both { both ≡ tag.size }
     requires after { after + 4 ≤ tag.size }
     requires within { at + tag.size ≤ length words.old.words }
+    requires last { tag.last ≡ (at + tag.size == length words.old.words) }
     requires small { length words.old.words ≤ 2 ^ 24 }
     ensures change { Widens (image_of words.old) (image_of words.new) at tag after }
     ensures touches { RisesBy words.old.touches words.new.touches 4 }
 {
-    let end = at + tag.size();
-    clear_start(words, end - after, after);
-    set_back(words, end, at);
+    let end = at + both;
+    clear_start(words, end - after, after, after > 0);
+    set_back(words, tag, end, at);
     let live = tag.as_live();
     words.set_tag(at, live);
 }
 
-/// Makes the live block at a place and the `after` free words behind it, which have this free tag together, a live block of `size`
-/// words and a free rest. The mark, the length and the payload of the first stay.
-pub fn recut_header(words: &mut Words, at: u32, tag: Tag, after: u32, size: u32, stamp: u64)
+/// Makes the live block at a place and the `after` free words behind it, `both` words of this free tag together, a live block of
+/// `size` words and a free rest. The mark, the length and the payload of the first stay.
+pub fn recut_header(
+    words: &mut Words,
+    at: u32,
+    both: u32,
+    tag: Tag,
+    after: u32,
+    size: u32,
+    stamp: u64,
+)
+    requires both { both ≡ tag.size }
     requires free { tag.free ≡ true }
     requires least { 4 ≤ size }
     requires room { size + 4 ≤ tag.size }
     requires after { after + 4 ≤ tag.size }
     requires within { at + tag.size ≤ length words.old.words }
+    requires last { tag.last ≡ (at + tag.size == length words.old.words) }
     requires small { length words.old.words ≤ 2 ^ 24 }
     ensures change { Recuts (image_of words.old) (image_of words.new) at tag after size stamp }
     ensures touches { RisesBy words.old.touches words.new.touches 7 }
 {
-    let behind = at + tag.size();
-    clear_start(words, behind - after, after);
+    let behind = at + both;
+    clear_start(words, behind - after, after, after > 0);
     let place = at + size;
     let rest = tag.rest(size, at);
     free_header(words, place, rest, stamp);
     words.set_start(place, true);
-    set_back(words, behind, place);
+    set_back(words, rest, behind, place);
     words.set_tag(at, tag.without(rest));
 }
 
 /// Says that no block starts at a place where a block is merged with `size` words of a neighbour. Where that is 0 there is none.
+#[inline(always)]
 #[tactic(auto, unfolding(crate::specs::Headers::without_start))]
-fn clear_start(words: &mut Words, at: u32, size: u32)
+fn clear_start(words: &mut Words, at: u32, size: u32, is_merged: bool)
+    requires some { is_merged ≡ true → 0 < size }
+    requires none { is_merged ≡ false → size ≡ 0 }
     requires within { 0 < size → at < length words.old.words }
     ensures starts { words.new.starts ≡ without_start words.old.starts at size }
     ensures words { words.new.words ≡ words.old.words }
     ensures touches { RisesBy words.old.touches words.new.touches 1 }
 {
-    if size > 0 {
+    if is_merged {
         words.set_start(at, false);
     }
 }

@@ -46,7 +46,7 @@ fn forget<const SLI: u32>(region: &mut Region<SLI>, at: u32, size: u32)
     ensures rise { region.old.touches ≤ region.new.touches }
 {
     if size > 0 {
-        region.remove(class_of(size), at);
+        region.remove(size, at);
     }
 }
 

@@ -1,7 +1,7 @@
 ghost use Rattle.std.specs.Fn.{FnOnceReturnsAt, FnOnceReturnsAtMut, FnOnceTakesAt, FnOnceTakesAtMut};
 ghost use Rattle.std.specs.Prelude.{◌≡◌, ℕ, ◌+◌, ◌*◌, ◌/◌, ◌-◌, ◌<◌, ◌≤◌, ◌^◌, [], ◌∷◌, ◌++◌, false, true, length, take, drop, Some, slice_get, Contains, IfOk};
 ghost use Rattle.std.specs.List.{AllByRecursion};
-ghost use Rattle.tlsf_class.specs.Classes.{IsLevel, most_words};
+ghost use Rattle.tlsf_class.specs.Classes.{IsLevel, most_words, class_of};
 ghost use Rattle.tlsf_class.specs.Members.{next_member};
 ghost use Rattle.tlsf_words.specs.Bytes.{bytes_in, payload_byte};
 ghost use Rattle.tlsf_words.specs.Lists.{listed_classes, IsUnlisted};
@@ -244,10 +244,10 @@ impl<const SLI: u32> Region<SLI> {
         let both = own.size() + after;
         let whole = Tag::new(both, true, next.is_last(), own.back());
         if both < size + 4 {
-            widen_header(&mut self.words, at, whole, after);
+            widen_header(&mut self.words, at, both, whole, after);
             return 0;
         }
-        recut_header(&mut self.words, at, whole, after, size, stamp);
+        recut_header(&mut self.words, at, both, whole, after, size, stamp);
         both - size
     }
 
@@ -265,11 +265,12 @@ impl<const SLI: u32> Region<SLI> {
         let tag = self.words.tag(at);
         let all = tag.size();
         if all < size + 4 {
-            live_header(&mut self.words, at, tag, serial, len, spare);
+            live_header(&mut self.words, at, tag.as_live(), all, serial, len, spare);
             return 0;
         }
+        let rest = all - size;
         split_header(&mut self.words, at, tag, size, serial, len, spare);
-        all - size
+        rest
     }
 
     /// Makes the live block at a place, of this tag, neither of whose neighbours is free, a free one.
@@ -283,14 +284,36 @@ impl<const SLI: u32> Region<SLI> {
     }
 
     /// Makes the block at a place, the free one of `before` words before it and the one of `after` words behind it, none of which is in
-    /// a list, one free block of this tag. Where there is none, that is 0.
+    /// a list, one free block of this tag. Where there is none, that is 0. `previous` and `next` say whether there is one.
     #[inline(always)]
-    pub fn merge(&mut self, at: u32, before: u32, after: u32, tag: Tag, stamp: u64)
+    pub fn merge(
+        &mut self,
+        at: u32,
+        before: u32,
+        after: u32,
+        previous: bool,
+        next: bool,
+        tag: Tag,
+        stamp: u64,
+    )
+        requires previous { previous ≡ true → 0 < before }
+        requires no_previous { previous ≡ false → before ≡ 0 }
+        requires next { next ≡ true → 0 < after }
+        requires no_next { next ≡ false → after ≡ 0 }
         requires around { HasAt self.old.blocks at (λ s. AreNeighbours self.old.words s before after tag) }
         requires unlisted { AreUnlisted (list_in self.old.lists) (at - before) (at - before + tag.size) }
         ensures { EachAt self.old.blocks at (λ s. Rewrites self.old self.new (Calls.coalesced stamp s) 6) }
     {
-        merge_headers(&mut self.words, at, before, after, tag, stamp);
+        merge_headers(
+            &mut self.words,
+            at,
+            before,
+            after,
+            previous,
+            next,
+            tag,
+            stamp,
+        );
     }
 
     /// Puts a free block that is in no list in front of the list of a class.
@@ -302,12 +325,15 @@ impl<const SLI: u32> Region<SLI> {
         self.lists.push(&mut self.words, class, at);
     }
 
-    /// Takes a block out of the list of its class.
-    pub fn remove(&mut self, class: Class<SLI>, at: u32)
-        requires listed { Contains (list_in self.old.lists class) at }
-        ensures { TakenOut self.old self.new class.entry at 6 }
+    /// Takes a block of this size out of the list of its class.
+    pub fn remove(&mut self, size: u32, at: u32)
+        requires level { IsLevel SLI }
+        requires least { 4 ≤ size }
+        requires most { size ≤ most_words SLI }
+        requires listed { Contains (list_in self.old.lists (class_of SLI size)) at }
+        ensures { TakenOut self.old self.new (class_of SLI size) at 6 }
     {
-        self.lists.remove(&mut self.words, class, at);
+        self.lists.unlink(&mut self.words, size, at);
     }
 
     /// Takes the head of the list of a class, which isn't empty, out of it.

@@ -1,5 +1,5 @@
 ghost use Rattle.std.specs.Prelude.{◌≡◌, ◌≢◌, ℕ, ◌+◌, ◌^◌, ◌<◌, ◌≤◌, true, false, [], ◌∷◌, List, length, Contains, slice_get, slice_index, slice_index_or, slice_set};
-ghost use Rattle.tlsf_class.specs.Classes.{IsLevel};
+ghost use Rattle.tlsf_class.specs.Classes.{IsLevel, most_words, class_of};
 ghost use Rattle.tlsf_class.specs.Members.{next_member, without_member};
 ghost use Rattle.tlsf_words.specs.Fields.{links_word, low_half, high_half};
 ghost use Rattle.tlsf_words.specs.Lists.{nowhere, list_of, without_place, AreThreaded, IsUnlisted, OnlyLinksChange};
@@ -9,7 +9,7 @@ use crate::heads::{Heads, NO_PLACE};
 use crate::links::Links;
 use crate::words::Words;
 use std::marker::Model;
-use tlsf_class::{Bitmaps, Class};
+use tlsf_class::{Bitmaps, Class, class_of, low};
 
 /// Lists of places, one for each class, threaded through the third words of their headers, and bitmaps of the classes whose
 /// lists aren't empty: the segregated lists of two-level segregated fit (ECRTS 2004, section 3). A list is last in, first out.
@@ -76,10 +76,12 @@ impl<const SLI: u32> FreeLists<SLI> {
         ensures rise { self.old.touches ≤ self.new.touches }
         ensures words_rise { words.old.touches ≤ words.new.touches }
     {
+        // Read, so that the proof has the range of a place.
+        let _count = words.len();
         let next = self.heads.place(class);
         self.heads.set_place(class, at);
         // Each case writes its own links: those of a place that is alone are a constant.
-        if next == NO_PLACE {
+        if !is_place(next) {
             words.set_links(
                 at,
                 Links {
@@ -89,19 +91,17 @@ impl<const SLI: u32> FreeLists<SLI> {
             );
             self.bitmaps.set(class);
         } else {
-            words.set_links(
+            words.link(
                 at,
                 Links {
                     next,
                     previous: NO_PLACE,
                 },
             );
-            set_previous(words, next, at);
         }
     }
 
-    /// Takes a place out of the list of its class, in six touches at most. It reads the place's own links and writes those of
-    /// its two neighbours, so that the list isn't walked.
+    /// Takes a place out of the list of its class, in six touches at most: an [`FreeLists::unlink`] for those who know the class alone.
     ///
     /// ```
     /// lists.remove(&mut words, class_of(12), 20);     // 20 was in the list of class 12, anywhere
@@ -119,11 +119,39 @@ impl<const SLI: u32> FreeLists<SLI> {
         ensures rise { self.old.touches ≤ self.new.touches }
         ensures words_rise { words.old.touches ≤ words.new.touches }
     {
+        // Read, so that the proof has the range of the class.
+        let _number = class.number();
+        self.unlink(words, low(class), at);
+    }
+
+    /// Takes the place of a block of `size` words out of the list of its class, in six touches at most. It reads the place's own links
+    /// and writes those of its two neighbours, so that the list isn't walked. Only the head of a list needs the class, which is worked
+    /// out there alone.
+    ///
+    /// ```
+    /// lists.unlink(&mut words, 12, 20);     // 20 was in the list of the class of 12 words, anywhere
+    /// ```
+    pub fn unlink(&mut self, words: &mut Words, size: u32, at: u32)
+        requires level { IsLevel SLI }
+        requires least { 4 ≤ size }
+        requires most { size ≤ most_words SLI }
+        requires threaded { AreThreaded SLI self.old.heads self.old.members words.old.words }
+        requires listed { Contains (list_of self.old.heads words.old.words (class_of SLI size)) at }
+        ensures threaded { AreThreaded SLI self.new.heads self.new.members words.new.words }
+        ensures list { list_of self.new.heads words.new.words (class_of SLI size) ≡ without_place at (list_of self.old.heads words.old.words (class_of SLI size)) }
+        ensures others { (other : ℕ) → other ≢ class_of SLI size → list_of self.new.heads words.new.words other ≡ list_of self.old.heads words.old.words other }
+        ensures words { OnlyLinksChange (list_of self.new.heads words.new.words) words.old.words words.new.words }
+        ensures length { length words.new.words ≡ length words.old.words }
+        ensures starts { words.new.starts ≡ words.old.starts }
+        ensures touches { self.new.touches + words.new.touches ≤ self.old.touches + words.old.touches + 6 }
+        ensures rise { self.old.touches ≤ self.new.touches }
+        ensures words_rise { words.old.touches ≤ words.new.touches }
+    {
         let links = words.links(at);
         if is_place(links.previous) {
             tie(words, links);
         } else {
-            self.begin_at(words, class, links.next);
+            self.begin_at(words, class_of(size), links.next);
         }
     }
 
@@ -234,9 +262,17 @@ fn tie(words: &mut Words, links: Links)
     ensures touches { words.new.touches ≤ words.old.touches + 4 }
     ensures rise { words.old.touches ≤ words.new.touches }
 {
-    set_next(words, links.previous, links.next);
-    if links.next != NO_PLACE {
-        set_previous(words, links.next, links.previous);
+    if links.next == NO_PLACE {
+        set_next(words, links.previous, NO_PLACE);
+    } else {
+        let before = words.links(links.previous);
+        words.link(
+            links.previous,
+            Links {
+                next: links.next,
+                ..before
+            },
+        );
     }
 }
 

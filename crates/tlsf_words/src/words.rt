@@ -174,21 +174,27 @@ impl Words {
     }
 
     /// Writes the header of a live block at a place, its tag, its mark and its payload length in bytes, and makes its first payload
-    /// word zero, which each block has. Four touches.
+    /// word zero, which each block has, and `n` more behind it. Four touches, and one for each of these.
     ///
     /// ```
-    /// words.set_header(at, tag.as_live(), serial, 8);     // of a block of 4 words: its payload is zero
+    /// words.set_header(at, tag.as_live(), serial, 8, 0);     // of a block of 4 words: its payload is zero
     /// ```
     #[inline]
     #[tactic(auto, unfolding(crate::specs::Fields::length_word))]
-    pub fn set_header(&mut self, at: u32, tag: Tag, mark: u64, bytes: u32)
-        requires { at + 3 < length self.old.words }
-        ensures words { self.new.words ≡ slice_set (slice_set (slice_set (slice_set self.old.words at (tag_word tag.size tag.last tag.free tag.back)) (at + 1) mark) (at + 2) (length_word bytes)) (at + 3) 0 }
+    pub fn set_header(&mut self, at: u32, tag: Tag, mark: u64, bytes: u32, n: u32)
+        requires { at + 4 + n ≤ length self.old.words }
+        ensures words { self.new.words ≡ take (at + 4) (slice_set (slice_set (slice_set (slice_set self.old.words at (tag_word tag.size tag.last tag.free tag.back)) (at + 1) mark) (at + 2) (length_word bytes)) (at + 3) 0)
+            ++ replicate n 0 ++ drop (at + 4 + n) (slice_set (slice_set (slice_set (slice_set self.old.words at (tag_word tag.size tag.last tag.free tag.back)) (at + 1) mark) (at + 2) (length_word bytes)) (at + 3) 0) }
         ensures starts { self.new.starts ≡ self.old.starts }
-        ensures touches { self.new.touches ≡ self.old.touches + 4 }
+        ensures touches { self.new.touches ≡ self.old.touches + 4 + n }
     {
-        self.words
-            .write_four(at as usize, tag.to_word(), mark, u64::from(bytes), 0);
+        self.words.write_and_zero(
+            at as usize,
+            tag.to_word(),
+            mark,
+            u64::from(bytes),
+            n as usize,
+        );
     }
 
     /// The payload length in bytes of the live block at a place, from the third word of its header. Of a free block it would
@@ -256,6 +262,26 @@ impl Words {
         ensures touches { self.new.touches ≡ self.old.touches + 1 }
     {
         self.write(at as usize + 2, links.to_word());
+    }
+
+    /// Writes the links of the free block at a place, and the place as the previous one into the links of the next, which is a place.
+    /// Three touches. The address of the words is read once, where two calls read it twice.
+    #[inline]
+    pub(crate) fn link(&mut self, at: u32, links: Links)
+        requires at { at + 2 < length self.old.words }
+        requires next { links.next + 2 < length self.old.words }
+        ensures small { length self.old.words ≤ 2 ^ 24 }
+        ensures words { self.new.words ≡ slice_set (slice_set self.old.words (at + 2) (links_word links.next links.previous)) (links.next + 2)
+            (links_word (low_half (slice_index (slice_set self.old.words (at + 2) (links_word links.next links.previous)) (links.next + 2))) at) }
+        ensures starts { self.new.starts ≡ self.old.starts }
+        ensures touches { self.new.touches ≡ self.old.touches + 3 }
+    {
+        self.words.write_and_upper(
+            at as usize + 2,
+            links.to_word(),
+            links.next as usize + 2,
+            at,
+        );
     }
 
     /// Whether a block starts at a place. A forged name is caught so, before a word of it is read.

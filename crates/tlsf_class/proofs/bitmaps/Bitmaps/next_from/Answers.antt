@@ -1,46 +1,54 @@
-use Rattle.std.proofs.Common.{◌≡◌, ◌+◌, sym, ap, refl, ◌∙◌, arith}
+use Rattle.std.proofs.Common.{◌≡◌, ◌+◌, ◌-◌, sym, ap, refl, ◌∙◌, arith}
 use Rattle.std.specs.Int.{bit_at}
 use Rattle.tlsf_class.proofs.BitmapWords.{further, next-same_level, next-later_level, next-none}
 use Rattle.tlsf_class.proofs.bitmaps.Bitmaps.next_from.Goals as goal
 
 pub plus-requires : goal.plus-requires
 plus-requires g c =
-    let used = c.self.invariant.in_use c.first_level-first_level.result (c.second_level.result + c.in-Some.n) (ap (λ w. bit_at w (c.second_level.result + c.in-Some.n)) (sym c.second_word-word.ensures.value) ∙ c.in-Some.ensures.set) in
-    omega (arith, used.2, further g.row.SLI c.self.invariant.level c.args.class c.first_level-first_level.result c.second_level.result c.in-Some.n c.first_level-first_level.ensures.value c.second_level.ensures.value)
+    let e = c.first_level_below-first_level.ensures in
+    let below : c.args.class - 1 + 1 ≡ c.args.class = omega (arith, e.least) in
+    let used = c.self.invariant.in_use c.first_level_below-first_level.result (c.second_level_below.result + 1 + c.in-Some.n) (ap (λ w. bit_at w (c.second_level_below.result + 1 + c.in-Some.n)) (sym c.second_word-word.ensures.value) ∙ c.in-Some.ensures.set) in
+    omega (arith, used.2, below, further g.row.SLI c.self.invariant.level (c.args.class - 1) c.first_level_below-first_level.result c.second_level_below.result c.in-Some.n e.value c.second_level_below.ensures.value)
 
 pub returns-in-Some-clause-least : goal.returns-in-Some-clause-least
 returns-in-Some-clause-least g c =
+    let e = c.first_level_below-first_level.ensures in
+    let below : c.args.class - 1 + 1 ≡ c.args.class = omega (arith, e.least) in
     let word = sym c.second_word-word.ensures.value in
     let found = c.in-Some.ensures in
     rw (c.plus.ensures, ← c.self.view_is)
-    (sym (next-same_level g.row.SLI c.self.invariant.level _ _ c.args.class c.first_level-first_level.result c.second_level.result c.in-Some.n c.self.invariant
-    c.first_level-first_level.ensures.value c.second_level.ensures.value
-    (ap (λ w. bit_at w (c.second_level.result + c.in-Some.n)) word ∙ found.set)
-    (λ k above below. ap (λ w. bit_at w k) word ∙ found.lowest k above below)))
+    (sym (rw below at (next-same_level g.row.SLI c.self.invariant.level _ _ (c.args.class - 1) c.first_level_below-first_level.result c.second_level_below.result c.in-Some.n c.self.invariant
+    e.value c.second_level_below.ensures.value
+    (ap (λ w. bit_at w (c.second_level_below.result + 1 + c.in-Some.n)) word ∙ found.set)
+    (λ k above under. ap (λ w. bit_at w k) word ∙ found.lowest k above under))))
 
 pub returns-in_err-first_level-clause-least : goal.returns-in_err-first_level-clause-least
 returns-in_err-first_level-clause-least g c =
+    let e = c.first_level_below-first_level.ensures in
+    let below : c.args.class - 1 + 1 ≡ c.args.class = omega (arith, e.least) in
     let word = sym c.second_word-word.ensures.value in
     let first_word : c.self.inside.levels.first ≡ c.first_word-first_word.result =
     sym (c.first_word-first_word.ensures.value ∙ rw c.second_word-word.ensures.first refl)
     in
     rw (c.from_residual.ensures, ← c.self.view_is)
-    (sym (next-none g.row.SLI c.self.invariant.level _ _ c.args.class c.first_level-first_level.result c.second_level.result c.self.invariant c.first_level-first_level.ensures.value c.second_level.ensures.value
+    (sym (rw below at (next-none g.row.SLI c.self.invariant.level _ _ (c.args.class - 1) c.first_level_below-first_level.result c.second_level_below.result c.self.invariant e.value c.second_level_below.ensures.value
     (λ k above. ap (λ w. bit_at w k) word ∙ c.in_default.ensures.none k above)
-    (λ k above. ap (λ w. bit_at w k) first_word ∙ c.in_err-first_level.ensures.none k above)))
+    (λ k above. ap (λ w. bit_at w k) first_word ∙ c.in_err-first_level.ensures.none k above))))
 
 pub returns-clause-least : goal.returns-clause-least
 returns-clause-least g c =
+    let e = c.first_level_below-first_level.ensures in
+    let below : c.args.class - 1 + 1 ≡ c.args.class = omega (arith, e.least) in
     let word = sym c.second_word-word.ensures.value in
     let first_word : c.self.inside.levels.first ≡ c.first_word-first_word.result =
     sym (c.first_word-first_word.ensures.value ∙ rw c.second_word-word.ensures.first refl)
     in
     let later = sym (c.second_word-word-2.ensures.value ∙ rw (c.first_word-first_word.ensures.second, c.second_word-word.ensures.second) refl) in
     rw (c.at.ensures, ← c.self.view_is)
-    (sym (next-later_level g.row.SLI c.self.invariant.level _ _ c.args.class c.first_level-first_level.result c.second_level.result c.in_ok-first_level.first_level c.lowest_bit.result c.self.invariant
-    c.first_level-first_level.ensures.value c.second_level.ensures.value
+    (sym (rw below at (next-later_level g.row.SLI c.self.invariant.level _ _ (c.args.class - 1) c.first_level_below-first_level.result c.second_level_below.result c.in_ok-first_level.first_level c.lowest_bit.result c.self.invariant
+    e.value c.second_level_below.ensures.value
     (λ k above. ap (λ w. bit_at w k) word ∙ c.in_default.ensures.none k above)
     c.in_ok-first_level.ensures.at_or_above
-    (λ k above below. ap (λ w. bit_at w k) first_word ∙ c.in_ok-first_level.ensures.lowest k above below)
+    (λ k above under. ap (λ w. bit_at w k) first_word ∙ c.in_ok-first_level.ensures.lowest k above under)
     (ap (λ w. bit_at w c.lowest_bit.result) later ∙ c.lowest_bit.ensures.set)
-    (λ k below. ap (λ w. bit_at w k) later ∙ c.lowest_bit.ensures.lowest k below)))
+    (λ k under. ap (λ w. bit_at w k) later ∙ c.lowest_bit.ensures.lowest k under))))

@@ -1,9 +1,11 @@
 -- A block that is carved, whole or with a rest: the words show the blocks, and leave the lists.
-use Rattle.std.proofs.Common.{ℕ, suc, ◌-◌, ◌≤◌, ◌++◌, take, drop, length, sym, ap, ◌∙◌, arith, get_or}
+use Rattle.std.proofs.Common.{◌≡◌, ℕ, ◌+◌, eqb, List, suc, ◌-◌, ◌≤◌, ◌++◌, take, drop, length, sym, ap, ◌∙◌, arith, get_or}
 use Rattle.tlsf_heap.specs.Blocks.{StandsAt, size_of}
 use Rattle.tlsf_heap.specs.Calls.{carved}
 use Rattle.tlsf_heap.specs.GoodFit.{block_at}
+use Rattle.tlsf_words.specs.declared.tag.Tag.{Tag}
 use Rattle.tlsf_heap.specs.Headers.{IsTagIn, Splits, Wholes}
+use Rattle.tlsf_heap.specs.Image.{Image}
 use Rattle.tlsf_heap.specs.Regions.{RegionState, image_of}
 use Rattle.tlsf_heap.proofs.Reading.{shows_state, says_here, at_index}
 use Rattle.tlsf_heap.proofs.Edits.{rest_small, rest_large}
@@ -26,10 +28,15 @@ live_header-requires g c =
     let says = says_here shows c.requires.room.1 in
     let size = c.tag-tag.ensures.size ∙ says.size in
     let long = ap length c.tag-tag.ensures.words in
-    record { payload = omega (arith, size, c.requires.payload, c.requires.room.2.1); within = omega (arith, size, says.ends, long); small = omega (arith, shows.small, long) }
+    let all = c.size-all.ensures.value in
+    record { live = c.as_live.ensures.free; size = all ∙ sym c.as_live.ensures.size; payload = omega (arith, all, size, c.requires.payload, c.requires.room.2.1); within = omega (arith, all, size, says.ends, long); small = omega (arith, shows.small, long) }
+
+-- the same of a tag with the same fields
+wholes_as : {old new : Image} {at serial len : ℕ} (tag other : Tag) → Wholes old new at tag serial len → other.size ≡ tag.size → other.last ≡ tag.last → other.back ≡ tag.back → Wholes old new at other serial len
+wholes_as tag other w size last back = record { live = rw (size, last, back) w.live; only = rw size w.only; starts = w.starts }
 
 wholes : (g : Over) (c : goal.After-live_header g) → Wholes (image_of c.self.inside.words) (image_of c.live_header.new.words) c.args.at c.tag-tag.result c.args.serial c.args.len
-wholes g c = rw (c.tag-tag.ensures.words, c.tag-tag.ensures.starts) at c.live_header.ensures.change
+wholes g c = wholes_as c.as_live.result c.tag-tag.result (rw (c.tag-tag.ensures.words, c.tag-tag.ensures.starts) at c.live_header.ensures.change) (sym c.as_live.ensures.size) (sym c.as_live.ensures.last) (sym c.as_live.ensures.back)
 
 whole : (g : Over) (c : goal.After-live_header g) → (i : ℕ) → StandsAt c.args.self.now.blocks c.args.at i
     → Reshapes g.row.SLI (image_of c.live_header.new.words) c.self.inside.lists (take i c.args.self.now.blocks ++ carved (size_of (block_at c.args.self.now.blocks i)) c.args.size c.args.serial c.args.len ++ drop (suc i) c.args.self.now.blocks) c.args.self.now.lists
@@ -61,7 +68,7 @@ returns-then-all-size-clause-change g c i stands =
         words = c.live_header.ensures.change.only.length ∙ ap length c.tag-tag.ensures.words ∙ words;
         shows = left.holds.shows;
         linked = linked_lists g.row.SLI _ _ left.holds;
-        touches = omega (arith, c.live_header.ensures.touches, c.tag-tag.ensures.touches, touches, size);
+        touches = omega (arith, c.live_header.ensures.touches, c.tag-tag.ensures.touches, touches, size, c.size-all.ensures.value);
         rise = omega (arith, c.live_header.ensures.touches, c.tag-tag.ensures.touches, touches);
       };
     }
@@ -73,6 +80,12 @@ split_header-requires-clause-free g c =
 pub split_header-requires-clause-within : goal.split_header-requires-clause-within
 split_header-requires-clause-within g c =
     let says = says_here (shows_state g.row.SLI c.self.invariant c.self.view_is) c.requires.room.1 in omega (arith, c.tag-tag.ensures.size ∙ says.size, says.ends, ap length c.tag-tag.ensures.words)
+
+pub split_header-requires-clause-last : goal.split_header-requires-clause-last
+split_header-requires-clause-last g c =
+    let says = says_here (shows_state g.row.SLI c.self.invariant c.self.view_is) c.requires.room.1 in
+    let e = c.tag-tag.ensures in
+    e.last ∙ says.last ∙ ap (λ n. eqb (c.args.at + n) (length c.self.inside.words.words)) (sym (e.size ∙ says.size)) ∙ ap (λ (l : List ℕ). eqb (c.args.at + c.tag-tag.result.size) (length l)) (sym e.words)
 
 splits : (g : Over) (c : After-split_header g) → Splits (image_of c.self.inside.words) (image_of c.split_header.new.words) c.args.at c.tag-tag.result c.args.size c.args.serial c.args.len
 splits g c = rw (c.tag-tag.ensures.words, c.tag-tag.ensures.starts) at c.split_header.ensures.change

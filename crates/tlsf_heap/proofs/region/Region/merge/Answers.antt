@@ -5,7 +5,7 @@ use Rattle.tlsf_heap.specs.Blocks.{StandsAt}
 use Rattle.tlsf_heap.specs.GoodFit.{site_at}
 use Rattle.tlsf_heap.proofs.Reading.{shows_state, at_index}
 use Rattle.tlsf_heap.proofs.Freeing.{merged}
-use Rattle.tlsf_heap.proofs.Merging.{merge_within, merge_before, merge_after}
+use Rattle.tlsf_heap.proofs.Merging.{merge_within, merge_last, merge_before, merge_after}
 use Rattle.tlsf_heap.proofs.Linking.{linked_lists, Reshapes, holds_state}
 use Rattle.tlsf_heap.specs.Regions.{RegionState, AreNeighbours, image_of}
 use Rattle.tlsf_heap.proofs.region.Region.merge.Given.{Over}
@@ -21,7 +21,7 @@ merge_headers-requires g c =
     let shows = shows_state g.row.SLI c.self.invariant c.self.view_is in
     let stands = c.requires.around.1 in
     let is = neighbours g c c.requires.around.0 stands in
-    record { free = is.free; before = merge_before shows stands is; after = merge_after shows stands is; within = merge_within shows stands is; small = shows.small }
+    record { previous = c.requires.previous; no_previous = c.requires.no_previous; next = c.requires.next; no_next = c.requires.no_next; free = is.free; before = merge_before shows stands is; after = merge_after shows stands is; within = merge_within shows stands is; last = merge_last shows stands is; small = shows.small }
 
 reshapes : (g : Over) (c : goal.After-merge_headers g) → (i : ℕ) → StandsAt c.args.self.now.blocks c.args.at i
     → Reshapes g.row.SLI (image_of c.merge_headers.new.words) c.self.inside.lists (coalesced c.args.stamp (site_at c.args.self.now.blocks i)) c.args.self.now.lists

@@ -5,7 +5,7 @@ use Rattle.tlsf_heap.specs.GoodFit.{block_at}
 use Rattle.tlsf_heap.specs.Regions.{RegionState, image_of}
 use Rattle.tlsf_heap.proofs.Linking.{linked_lists, Reshapes, holds_state}
 use Rattle.tlsf_heap.proofs.Reading.{shows_state, at_index}
-use Rattle.tlsf_heap.proofs.Recutting.{whole_is, whole_ends, whole_least, left_wide, left_recut}
+use Rattle.tlsf_heap.proofs.Recutting.{whole_is, whole_ends, whole_last, whole_least, left_wide, left_recut}
 use Rattle.tlsf_heap.proofs.region.Region.recut.Goals.{After-recut_header}
 use Rattle.tlsf_heap.proofs.region.Region.recut.Given.{Over}
 use Rattle.tlsf_heap.proofs.region.Region.recut.Goals as goal
@@ -15,7 +15,7 @@ widen_header-requires g c =
     let shows = shows_state g.row.SLI c.self.invariant c.self.view_is in
     let live = c.requires.live in
     let is = whole_is c.new-whole.result (ap (λ (r : RegionState). r.words) c.self.view_is) (c.requires.own live.0 live.1) (c.requires.next live.0 live.1) c.size-after.ensures.value (c.new-whole.ensures.size ∙ ap (λ n. n + c.size-after.result) c.size.ensures.value) (c.new-whole.ensures.last ∙ c.is_last.ensures) (c.new-whole.ensures.back ∙ c.back.ensures) in
-    record { after = whole_least shows live.1 is; within = whole_ends shows live.1 is; small = shows.small }
+    record { both = omega (arith, c.new-whole.ensures.size); after = whole_least shows live.1 is; within = whole_ends shows live.1 is; last = whole_last shows live.1 is; small = shows.small }
 
 -- the block takes all
 wide : (g : Over) (c : goal.After-widen_header g) → (i : ℕ) → StandsAt c.args.self.now.blocks c.args.at i
@@ -46,6 +46,11 @@ pub recut_header-requires-clause-within : goal.recut_header-requires-clause-with
 recut_header-requires-clause-within g c =
     let live = c.requires.live in
     whole_ends (shows_state g.row.SLI c.self.invariant c.self.view_is) live.1 (whole_is c.new-whole.result (ap (λ (r : RegionState). r.words) c.self.view_is) (c.requires.own live.0 live.1) (c.requires.next live.0 live.1) c.size-after.ensures.value (c.new-whole.ensures.size ∙ ap (λ n. n + c.size-after.result) c.size.ensures.value) (c.new-whole.ensures.last ∙ c.is_last.ensures) (c.new-whole.ensures.back ∙ c.back.ensures))
+
+pub recut_header-requires-clause-last : goal.recut_header-requires-clause-last
+recut_header-requires-clause-last g c =
+    let live = c.requires.live in
+    whole_last (shows_state g.row.SLI c.self.invariant c.self.view_is) live.1 (whole_is c.new-whole.result (ap (λ (r : RegionState). r.words) c.self.view_is) (c.requires.own live.0 live.1) (c.requires.next live.0 live.1) c.size-after.ensures.value (c.new-whole.ensures.size ∙ ap (λ n. n + c.size-after.result) c.size.ensures.value) (c.new-whole.ensures.last ∙ c.is_last.ensures) (c.new-whole.ensures.back ∙ c.back.ensures))
 
 -- it leaves a rest
 cut : (g : Over) (c : After-recut_header g) → (i : ℕ) → StandsAt c.args.self.now.blocks c.args.at i

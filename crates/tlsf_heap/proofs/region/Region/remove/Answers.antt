@@ -1,29 +1,36 @@
 -- The free lists with one place less: only links have changed.
 use Rattle.std.proofs.Common.{ℕ, List, sym, ap, ◌∙◌, subst, arith}
 use Rattle.std.specs.Prelude.{Contains}
+use Rattle.tlsf_class.specs.Classes.{class_of}
 use Rattle.tlsf_words.specs.Lists.{without_place}
 use Rattle.tlsf_heap.proofs.Linking.{linked_lists, Relinks, holds_state, list_in-lists_of, relinked, free_removed}
 use Rattle.tlsf_heap.specs.Regions.{RegionState, image_of}
 use Rattle.tlsf_heap.proofs.region.Region.remove.Given.{Over}
 use Rattle.tlsf_heap.proofs.region.Region.remove.Goals as goal
 
-pub remove-requires : goal.remove-requires
-remove-requires g c = (
+pub unlink-requires : goal.unlink-requires
+unlink-requires g c = (
   omega arith,
   (
-    omega arith,
+    c.requires.level,
     (
-      c.self.invariant.threaded,
-      subst (λ (places : List ℕ). Contains places c.args.at) ((holds_state g.row.SLI c.self.invariant c.self.view_is).lists c.args.class) c.requires.listed,
+      c.requires.least,
+      (
+        c.requires.most,
+        (
+          c.self.invariant.threaded,
+          subst (λ (places : List ℕ). Contains places c.args.at) ((holds_state g.row.SLI c.self.invariant c.self.view_is).lists (class_of g.row.SLI c.args.size)) c.requires.listed,
+        ),
+      ),
     ),
   ),
 )
 
-relinks : (g : Over) (c : goal.After-remove g) → Relinks g.row.SLI (image_of c.remove.new.words) c.remove.new.self c.args.self.now.blocks
+relinks : (g : Over) (c : goal.After-unlink g) → Relinks g.row.SLI (image_of c.unlink.new.words) c.unlink.new.self c.args.self.now.blocks
 relinks g c =
-    let new = c.remove.ensures in
+    let new = c.unlink.ensures in
     let state = holds_state g.row.SLI c.self.invariant c.self.view_is in
-    relinked g.row.SLI state new.threaded (free_removed g.row.SLI state (image_of c.remove.new.words) c.remove.new.self c.args.class c.args.at new.others new.list) new.words new.length new.starts
+    relinked g.row.SLI state new.threaded (free_removed g.row.SLI state (image_of c.unlink.new.words) c.unlink.new.self (class_of g.row.SLI c.args.size) c.args.at new.others new.list) new.words new.length new.starts
 
 pub invariant_of-self : goal.invariant_of-self
 invariant_of-self g c = (relinks g c).holds
@@ -34,8 +41,8 @@ returns g c =
     let words = ap (λ (r : RegionState). r.words) c.self.view_is in
     record {
       blocks = (relinks g c).same;
-      list = list_in-lists_of c.remove.new.self.heads c.remove.new.words.words c.args.class ∙ c.remove.ensures.list
-          ∙ ap (without_place c.args.at) (sym ((holds_state g.row.SLI c.self.invariant c.self.view_is).lists c.args.class));
-      others = λ other differs. list_in-lists_of c.remove.new.self.heads c.remove.new.words.words other ∙ c.remove.ensures.others other differs ∙ sym ((holds_state g.row.SLI c.self.invariant c.self.view_is).lists other);
-      edits = record { words = c.remove.ensures.length ∙ words; shows = (relinks g c).holds.shows; linked = linked_lists g.row.SLI _ _ (relinks g c).holds; touches = omega (arith, c.remove.ensures.touches, touches); rise = omega (arith, c.remove.ensures.rise, c.remove.ensures.words_rise, touches) };
+      list = list_in-lists_of c.unlink.new.self.heads c.unlink.new.words.words (class_of g.row.SLI c.args.size) ∙ c.unlink.ensures.list
+          ∙ ap (without_place c.args.at) (sym ((holds_state g.row.SLI c.self.invariant c.self.view_is).lists (class_of g.row.SLI c.args.size)));
+      others = λ other differs. list_in-lists_of c.unlink.new.self.heads c.unlink.new.words.words other ∙ c.unlink.ensures.others other differs ∙ sym ((holds_state g.row.SLI c.self.invariant c.self.view_is).lists other);
+      edits = record { words = c.unlink.ensures.length ∙ words; shows = (relinks g c).holds.shows; linked = linked_lists g.row.SLI _ _ (relinks g c).holds; touches = omega (arith, c.unlink.ensures.touches, touches); rise = omega (arith, c.unlink.ensures.rise, c.unlink.ensures.words_rise, touches) };
     }

@@ -1,4 +1,4 @@
-use Rattle.std.proofs.Common.{◌≡◌, ◌+◌, ℕ, List, length, get_or, refl, sym, ap, ◌∙◌, subst, arith}
+use Rattle.std.proofs.Common.{◌≡◌, ◌+◌, ℕ, List, length, get_or, set, refl, sym, ap, ◌∙◌, subst, arith}
 use Rattle.std.proofs.lemmas.List.{length-set}
 use Rattle.tlsf_class.specs.Members.{with_member}
 use Rattle.tlsf_words.specs.Fields.{links_word}
@@ -6,21 +6,24 @@ use Rattle.tlsf_words.specs.Lists.{ListHeads, nowhere}
 use Rattle.tlsf_words.proofs.Push.{IsAtHead, IsAtHead-alone, IsAtHead-more, class_in_use, next_within, next_apart, PushWrites, push-threaded, push-list, push-others, push-words}
 use Rattle.tlsf_words.proofs.free_lists.FreeLists.push.Given.{Over}
 use Rattle.tlsf_words.proofs.free_lists.FreeLists.push.Goals as goal
-use Rattle.tlsf_words.proofs.free_lists.FreeLists.push.Goals.{After-set, After-set_previous}
+use Rattle.tlsf_words.proofs.free_lists.FreeLists.push.Goals.{After-set, After-link}
 
 -- a head, by what the lists show
 abbrev head_of : ℕ → ListHeads → ℕ
 head_of class lists = get_or lists.heads class nowhere
 
-pub set_previous-requires : goal.set_previous-requires
-set_previous-requires g c =
+pub is_place-requires : goal.is_place-requires
+is_place-requires g c = λ some.
     let head : c.place-next.result ≡ head_of c.args.class c.args.self.now = c.place-next.ensures.value ∙ ap (head_of c.args.class) c.self.view_is in
-    omega (
-      arith,
-      ap length c.set_links-else-next.ensures.words,
-      length-set c.args.words.now.words (c.args.at + 2) (links_word c.place-next.result nowhere),
-      next_within g.row.SLI c.args.self.now.heads c.args.self.now.members c.args.words.now.words c.args.class c.place-next.result c.requires.threaded head c.if-next.false,
-    )
+    omega (arith, c.len-count.ensures.words, c.len-count.ensures.most, next_within g.row.SLI c.args.self.now.heads c.args.self.now.members c.args.words.now.words c.args.class c.place-next.result c.requires.threaded head some)
+
+pub link-requires : goal.link-requires
+link-requires g c =
+    let head : c.place-next.result ≡ head_of c.args.class c.args.self.now = c.place-next.ensures.value ∙ ap (head_of c.args.class) c.self.view_is in
+    record {
+      at = c.requires.inside;
+      next = next_within g.row.SLI c.args.self.now.heads c.args.self.now.members c.args.words.now.words c.args.class c.place-next.result c.requires.threaded head (c.is_place.ensures.yes c.if-not-is_place.false);
+    }
 
 -- what is written where the list was empty
 writes_to_empty : (g : Over) (c : After-set g) → PushWrites g.row.SLI c.args.self.now.heads c.args.self.now.members c.args.words.now.words c.args.class c.args.at c.set_place.new.self.places c.set.new.self.members c.set_links.new.self.words
@@ -33,56 +36,56 @@ writes_to_empty g c =
       unlisted = c.requires.unlisted;
       in_use = class_in_use g.row.SLI c.set_place.ensures.level c.args.class c.set_place.ensures.least c.set_place.ensures.most;
       long = ap length c.set_links.ensures.words ∙ length-set c.args.words.now.words (c.args.at + 2) (links_word nowhere nowhere);
-      at_head = subst (IsAtHead c.args.words.now.words c.set_links.new.self.words c.args.at) (sym c.if-next.true ∙ head)
+      at_head = subst (IsAtHead c.args.words.now.words c.set_links.new.self.words c.args.at) (sym (c.is_place.ensures.no c.if-not-is_place.true) ∙ head)
           (IsAtHead-alone c.args.words.now.words c.set_links.new.self.words c.args.at nowhere c.requires.inside c.set_links.ensures.words refl);
       head = c.set_place.ensures.value;
       heads_kept = λ k n. c.set_place.ensures.others k n ∙ ap (λ (ps : List ℕ). get_or ps k nowhere) c.place-next.ensures.places ∙ ap (head_of k) c.self.view_is;
       was_empty = λ _. c.set.ensures.members ∙ ap (λ (f : ListHeads). with_member g.row.SLI f.members c.args.class) c.self.view_is;
-      was_some = λ some. absurd (some (sym head ∙ c.if-next.true));
+      was_some = λ some. absurd (some (sym head ∙ c.is_place.ensures.no c.if-not-is_place.true));
     }
 
 -- and where it had places
-writes_to_more : (g : Over) (c : After-set_previous g) → PushWrites g.row.SLI c.args.self.now.heads c.args.self.now.members c.args.words.now.words c.args.class c.args.at c.set_place.new.self.places c.self.inside.bitmaps.members c.set_previous.new.words.words
+writes_to_more : (g : Over) (c : After-link g) → PushWrites g.row.SLI c.args.self.now.heads c.args.self.now.members c.args.words.now.words c.args.class c.args.at c.set_place.new.self.places c.self.inside.bitmaps.members c.link.new.self.words
 writes_to_more g c =
     let head : c.place-next.result ≡ head_of c.args.class c.args.self.now = c.place-next.ensures.value ∙ ap (head_of c.args.class) c.self.view_is in
-    let within = next_within g.row.SLI c.args.self.now.heads c.args.self.now.members c.args.words.now.words c.args.class c.place-next.result c.requires.threaded head c.if-next.false in
+    let within = next_within g.row.SLI c.args.self.now.heads c.args.self.now.members c.args.words.now.words c.args.class c.place-next.result c.requires.threaded head (c.is_place.ensures.yes c.if-not-is_place.false) in
     record {
       level = c.set_place.ensures.level;
-      small = c.set_links-else-next.ensures.small;
+      small = c.link.ensures.small;
       inside = c.requires.inside;
       unlisted = c.requires.unlisted;
       in_use = class_in_use g.row.SLI c.set_place.ensures.level c.args.class c.set_place.ensures.least c.set_place.ensures.most;
-      long = ap length c.set_previous.ensures.words ∙ length-set c.set_links-else-next.new.self.words (c.place-next.result + 2) _ ∙ ap length c.set_links-else-next.ensures.words ∙ length-set c.args.words.now.words (c.args.at + 2) (links_word c.place-next.result nowhere);
-      at_head = subst (IsAtHead c.args.words.now.words c.set_previous.new.words.words c.args.at) head
-          (IsAtHead-more c.args.words.now.words c.set_links-else-next.new.self.words c.set_previous.new.words.words c.args.at c.place-next.result c.requires.inside within
-          (next_apart c.args.self.now.heads c.args.words.now.words c.args.class c.args.at c.place-next.result c.requires.unlisted head c.if-next.false)
-          c.if-next.false c.set_links-else-next.ensures.words c.set_previous.ensures.words);
+      long = ap length c.link.ensures.words ∙ length-set (set c.args.words.now.words (c.args.at + 2) (links_word c.place-next.result nowhere)) (c.place-next.result + 2) _ ∙ length-set c.args.words.now.words (c.args.at + 2) (links_word c.place-next.result nowhere);
+      at_head = subst (IsAtHead c.args.words.now.words c.link.new.self.words c.args.at) head
+          (IsAtHead-more c.args.words.now.words (set c.args.words.now.words (c.args.at + 2) (links_word c.place-next.result nowhere)) c.link.new.self.words c.args.at c.place-next.result c.requires.inside within
+          (next_apart c.args.self.now.heads c.args.words.now.words c.args.class c.args.at c.place-next.result c.requires.unlisted head (c.is_place.ensures.yes c.if-not-is_place.false))
+          (c.is_place.ensures.yes c.if-not-is_place.false) refl c.link.ensures.words);
       head = c.set_place.ensures.value;
       heads_kept = λ k n. c.set_place.ensures.others k n ∙ ap (λ (ps : List ℕ). get_or ps k nowhere) c.place-next.ensures.places ∙ ap (head_of k) c.self.view_is;
-      was_empty = λ none. absurd (c.if-next.false (head ∙ none));
+      was_empty = λ none. absurd ((c.is_place.ensures.yes c.if-not-is_place.false) (head ∙ none));
       was_some = λ _. ap (λ (f : ListHeads). f.members) c.self.view_is;
     }
 
-pub returns-then-next-clause-threaded : goal.returns-then-next-clause-threaded
-returns-then-next-clause-threaded g c = push-threaded g.row.SLI c.args.self.now.heads c.args.self.now.members c.args.words.now.words c.args.class c.args.at c.set_place.new.self.places c.set.new.self.members c.set_links.new.self.words c.requires.threaded (writes_to_empty g c)
+pub returns-then-not-is_place-clause-threaded : goal.returns-then-not-is_place-clause-threaded
+returns-then-not-is_place-clause-threaded g c = push-threaded g.row.SLI c.args.self.now.heads c.args.self.now.members c.args.words.now.words c.args.class c.args.at c.set_place.new.self.places c.set.new.self.members c.set_links.new.self.words c.requires.threaded (writes_to_empty g c)
 
-pub returns-then-next-clause-list : goal.returns-then-next-clause-list
-returns-then-next-clause-list g c = push-list g.row.SLI c.args.self.now.heads c.args.self.now.members c.args.words.now.words c.args.class c.args.at c.set_place.new.self.places c.set.new.self.members c.set_links.new.self.words c.requires.threaded (writes_to_empty g c)
+pub returns-then-not-is_place-clause-list : goal.returns-then-not-is_place-clause-list
+returns-then-not-is_place-clause-list g c = push-list g.row.SLI c.args.self.now.heads c.args.self.now.members c.args.words.now.words c.args.class c.args.at c.set_place.new.self.places c.set.new.self.members c.set_links.new.self.words c.requires.threaded (writes_to_empty g c)
 
-pub returns-then-next-clause-others : goal.returns-then-next-clause-others
-returns-then-next-clause-others g c = push-others g.row.SLI c.args.self.now.heads c.args.self.now.members c.args.words.now.words c.args.class c.args.at c.set_place.new.self.places c.set.new.self.members c.set_links.new.self.words c.requires.threaded (writes_to_empty g c)
+pub returns-then-not-is_place-clause-others : goal.returns-then-not-is_place-clause-others
+returns-then-not-is_place-clause-others g c = push-others g.row.SLI c.args.self.now.heads c.args.self.now.members c.args.words.now.words c.args.class c.args.at c.set_place.new.self.places c.set.new.self.members c.set_links.new.self.words c.requires.threaded (writes_to_empty g c)
 
-pub returns-then-next-clause-words : goal.returns-then-next-clause-words
-returns-then-next-clause-words g c = push-words g.row.SLI c.args.self.now.heads c.args.self.now.members c.args.words.now.words c.args.class c.args.at c.set_place.new.self.places c.set.new.self.members c.set_links.new.self.words c.requires.threaded (writes_to_empty g c)
+pub returns-then-not-is_place-clause-words : goal.returns-then-not-is_place-clause-words
+returns-then-not-is_place-clause-words g c = push-words g.row.SLI c.args.self.now.heads c.args.self.now.members c.args.words.now.words c.args.class c.args.at c.set_place.new.self.places c.set.new.self.members c.set_links.new.self.words c.requires.threaded (writes_to_empty g c)
 
-pub returns-else-next-clause-threaded : goal.returns-else-next-clause-threaded
-returns-else-next-clause-threaded g c = push-threaded g.row.SLI c.args.self.now.heads c.args.self.now.members c.args.words.now.words c.args.class c.args.at c.set_place.new.self.places c.self.inside.bitmaps.members c.set_previous.new.words.words c.requires.threaded (writes_to_more g c)
+pub returns-else-not-is_place-clause-threaded : goal.returns-else-not-is_place-clause-threaded
+returns-else-not-is_place-clause-threaded g c = push-threaded g.row.SLI c.args.self.now.heads c.args.self.now.members c.args.words.now.words c.args.class c.args.at c.set_place.new.self.places c.self.inside.bitmaps.members c.link.new.self.words c.requires.threaded (writes_to_more g c)
 
-pub returns-else-next-clause-list : goal.returns-else-next-clause-list
-returns-else-next-clause-list g c = push-list g.row.SLI c.args.self.now.heads c.args.self.now.members c.args.words.now.words c.args.class c.args.at c.set_place.new.self.places c.self.inside.bitmaps.members c.set_previous.new.words.words c.requires.threaded (writes_to_more g c)
+pub returns-else-not-is_place-clause-list : goal.returns-else-not-is_place-clause-list
+returns-else-not-is_place-clause-list g c = push-list g.row.SLI c.args.self.now.heads c.args.self.now.members c.args.words.now.words c.args.class c.args.at c.set_place.new.self.places c.self.inside.bitmaps.members c.link.new.self.words c.requires.threaded (writes_to_more g c)
 
-pub returns-else-next-clause-others : goal.returns-else-next-clause-others
-returns-else-next-clause-others g c = push-others g.row.SLI c.args.self.now.heads c.args.self.now.members c.args.words.now.words c.args.class c.args.at c.set_place.new.self.places c.self.inside.bitmaps.members c.set_previous.new.words.words c.requires.threaded (writes_to_more g c)
+pub returns-else-not-is_place-clause-others : goal.returns-else-not-is_place-clause-others
+returns-else-not-is_place-clause-others g c = push-others g.row.SLI c.args.self.now.heads c.args.self.now.members c.args.words.now.words c.args.class c.args.at c.set_place.new.self.places c.self.inside.bitmaps.members c.link.new.self.words c.requires.threaded (writes_to_more g c)
 
-pub returns-else-next-clause-words : goal.returns-else-next-clause-words
-returns-else-next-clause-words g c = push-words g.row.SLI c.args.self.now.heads c.args.self.now.members c.args.words.now.words c.args.class c.args.at c.set_place.new.self.places c.self.inside.bitmaps.members c.set_previous.new.words.words c.requires.threaded (writes_to_more g c)
+pub returns-else-not-is_place-clause-words : goal.returns-else-not-is_place-clause-words
+returns-else-not-is_place-clause-words g c = push-words g.row.SLI c.args.self.now.heads c.args.self.now.members c.args.words.now.words c.args.class c.args.at c.set_place.new.self.places c.self.inside.bitmaps.members c.link.new.self.words c.requires.threaded (writes_to_more g c)

@@ -1,113 +1,34 @@
-use Rattle.std.proofs.Common.{◌<◌, ◌+◌, ℕ, List, length, refl, sym, ap, ◌∙◌, subst, arith}
-use Rattle.tlsf_words.specs.Lists.{nowhere}
-use Rattle.tlsf_words.specs.Ties.{AreTied}
-use Rattle.tlsf_words.proofs.Threads.{listed_within}
-use Rattle.tlsf_words.proofs.Remove.{RemoveWrites, next_within, previous_within, neighbours_apart, remove-threaded, remove-list, remove-others, remove-words}
-use Rattle.tlsf_words.proofs.free_lists.FreeLists.remove.Given.{Over}
+use Rattle.std.proofs.Common.{◌≡◌, ap, ◌∙◌, arith}
+use Rattle.tlsf_class.specs.Classes.{class_of}
+use Rattle.tlsf_class.proofs.Lows.{low-first, low-most, low-rises_or_same}
+use Rattle.tlsf_class.proofs.ClassOfSize.{class_of-low}
 use Rattle.tlsf_words.proofs.free_lists.FreeLists.remove.Goals as goal
-use Rattle.tlsf_words.proofs.free_lists.FreeLists.remove.Goals.{After-begin_at, After-tie}
 
-pub links-links-requires : goal.links-links-requires
-links-links-requires g c = listed_within g.row.SLI c.args.self.now.heads c.args.self.now.members c.args.words.now.words c.requires.threaded c.args.class c.args.at c.requires.listed
-
-pub is_place-requires : goal.is_place-requires
-is_place-requires g c = λ some.
-    omega (
-      arith,
-      c.links-links.ensures.small,
-      previous_within g.row.SLI c.args.self.now.heads c.args.self.now.members c.args.words.now.words c.args.class c.args.at c.requires.threaded c.links-links.ensures.small c.requires.listed
-          c.links-links.result.next c.links-links.result.previous c.links-links.ensures.next c.links-links.ensures.previous some,
+pub unlink-requires : goal.unlink-requires
+unlink-requires g c =
+    let n = c.number-number.ensures in
+    let same : class_of g.row.SLI c.low.result ≡ c.args.class = ap (class_of g.row.SLI) c.low.ensures ∙ class_of-low g.row.SLI n.level c.args.class n.least n.most in (
+      omega arith,
+      (
+        n.level,
+        (
+          omega (arith, c.low.ensures, low-first g.row.SLI n.level, low-rises_or_same g.row.SLI n.level 4 c.args.class n.least (omega (arith, n.most))),
+          (
+            omega (arith, c.low.ensures, low-most g.row.SLI n.level c.args.class n.most),
+            (c.requires.threaded, rw same c.requires.listed),
+          ),
+        ),
+      ),
     )
 
-pub tie-requires-clause-next : goal.tie-requires-clause-next
-tie-requires-clause-next g c = λ some.
-    subst (λ (w : List ℕ). c.links-links.result.next + 2 < length w) (sym c.links-links.ensures.words)
-    (next_within g.row.SLI c.args.self.now.heads c.args.self.now.members c.args.words.now.words c.args.class c.args.at c.requires.threaded c.links-links.ensures.small c.requires.listed
-    c.links-links.result.next c.links-links.result.previous c.links-links.ensures.next c.links-links.ensures.previous some)
+pub returns-clause-list : goal.returns-clause-list
+returns-clause-list g c =
+    let n = c.number-number.ensures in
+    let same : class_of g.row.SLI c.low.result ≡ c.args.class = ap (class_of g.row.SLI) c.low.ensures ∙ class_of-low g.row.SLI n.level c.args.class n.least n.most in
+    rw same at c.unlink.ensures.list
 
-pub tie-requires-clause-some : goal.tie-requires-clause-some
-tie-requires-clause-some g c = c.is_place.ensures.yes c.if-is_place.true
-
-pub tie-requires-clause-previous : goal.tie-requires-clause-previous
-tie-requires-clause-previous g c =
-    subst (λ (w : List ℕ). c.links-links.result.previous + 2 < length w) (sym c.links-links.ensures.words)
-    (previous_within g.row.SLI c.args.self.now.heads c.args.self.now.members c.args.words.now.words c.args.class c.args.at c.requires.threaded c.links-links.ensures.small c.requires.listed
-    c.links-links.result.next c.links-links.result.previous c.links-links.ensures.next c.links-links.ensures.previous (c.is_place.ensures.yes c.if-is_place.true))
-
-pub tie-requires-clause-apart : goal.tie-requires-clause-apart
-tie-requires-clause-apart g c = neighbours_apart g.row.SLI c.args.self.now.heads c.args.self.now.members c.args.words.now.words c.args.class c.args.at c.requires.threaded c.links-links.ensures.small c.requires.listed
-    c.links-links.result.next c.links-links.result.previous c.links-links.ensures.next c.links-links.ensures.previous
-
-pub begin_at-requires : goal.begin_at-requires
-begin_at-requires g c = (
-  omega arith,
-  (
-    omega arith,
-    λ some.
-        subst (λ (w : List ℕ). c.links-links.result.next + 2 < length w) (sym c.links-links.ensures.words)
-        (next_within g.row.SLI c.args.self.now.heads c.args.self.now.members c.args.words.now.words c.args.class c.args.at c.requires.threaded c.links-links.ensures.small c.requires.listed
-        c.links-links.result.next c.links-links.result.previous c.links-links.ensures.next c.links-links.ensures.previous some),
-  ),
-)
-
--- what is written where a place stands before it
-writes_behind : (g : Over) (c : After-tie g) → RemoveWrites g.row.SLI c.args.self.now.heads c.args.self.now.members c.args.words.now.words c.args.class c.args.at c.links-links.result.next c.links-links.result.previous c.args.self.now.heads c.args.self.now.members c.tie.new.words.words
-writes_behind g c =
-    let some = c.is_place.ensures.yes c.if-is_place.true in
-    record {
-      next_is = c.links-links.ensures.next;
-      previous_is = c.links-links.ensures.previous;
-      long = c.tie.ensures.length ∙ ap length c.links-links.ensures.words;
-      tied = subst (λ (w : List ℕ). AreTied w c.tie.new.words.words c.links-links.result.next c.links-links.result.previous) c.links-links.ensures.words c.tie.ensures.tied;
-      first = λ none. absurd (some none);
-      later = λ _. refl;
-      heads_kept = λ _ _. refl;
-      emptied = λ none _. absurd (some none);
-      left = λ _. refl;
-    }
-
--- and where it is the head
-writes_first : (g : Over) (c : After-begin_at g) → RemoveWrites g.row.SLI c.args.self.now.heads c.args.self.now.members c.args.words.now.words c.args.class c.args.at c.links-links.result.next nowhere c.begin_at.new.self.heads c.begin_at.new.self.members c.begin_at.new.words.words
-writes_first g c = record {
-  next_is = c.links-links.ensures.next;
-  previous_is = sym (c.is_place.ensures.no c.if-is_place.false) ∙ c.links-links.ensures.previous;
-  long = c.begin_at.ensures.length ∙ ap length c.links-links.ensures.words;
-  tied = subst (λ (w : List ℕ). AreTied w c.begin_at.new.words.words c.links-links.result.next nowhere) c.links-links.ensures.words c.begin_at.ensures.tied;
-  first = λ _. c.begin_at.ensures.head;
-  later = λ some. absurd (some refl);
-  heads_kept = λ k n. c.begin_at.ensures.heads k n;
-  emptied = λ _ none. c.begin_at.ensures.emptied none;
-  left = λ some. c.begin_at.ensures.members (λ e. some refl e);
-}
-
-pub returns-then-is_place-clause-threaded : goal.returns-then-is_place-clause-threaded
-returns-then-is_place-clause-threaded g c = remove-threaded g.row.SLI c.args.self.now.heads c.args.self.now.members c.args.words.now.words c.args.class c.args.at c.requires.threaded c.links-links.ensures.small c.requires.listed
-    c.links-links.result.next c.links-links.result.previous c.args.self.now.heads c.args.self.now.members c.tie.new.words.words (writes_behind g c)
-
-pub returns-then-is_place-clause-list : goal.returns-then-is_place-clause-list
-returns-then-is_place-clause-list g c = remove-list g.row.SLI c.args.self.now.heads c.args.self.now.members c.args.words.now.words c.args.class c.args.at c.requires.threaded c.links-links.ensures.small c.requires.listed
-    c.links-links.result.next c.links-links.result.previous c.args.self.now.heads c.args.self.now.members c.tie.new.words.words (writes_behind g c)
-
-pub returns-then-is_place-clause-others : goal.returns-then-is_place-clause-others
-returns-then-is_place-clause-others g c = remove-others g.row.SLI c.args.self.now.heads c.args.self.now.members c.args.words.now.words c.args.class c.args.at c.requires.threaded c.links-links.ensures.small c.requires.listed
-    c.links-links.result.next c.links-links.result.previous c.args.self.now.heads c.args.self.now.members c.tie.new.words.words (writes_behind g c)
-
-pub returns-then-is_place-clause-words : goal.returns-then-is_place-clause-words
-returns-then-is_place-clause-words g c = remove-words g.row.SLI c.args.self.now.heads c.args.self.now.members c.args.words.now.words c.args.class c.args.at c.requires.threaded c.links-links.ensures.small c.requires.listed
-    c.links-links.result.next c.links-links.result.previous c.args.self.now.heads c.args.self.now.members c.tie.new.words.words (writes_behind g c)
-
-pub returns-else-is_place-clause-threaded : goal.returns-else-is_place-clause-threaded
-returns-else-is_place-clause-threaded g c = remove-threaded g.row.SLI c.args.self.now.heads c.args.self.now.members c.args.words.now.words c.args.class c.args.at c.requires.threaded c.links-links.ensures.small c.requires.listed
-    c.links-links.result.next nowhere c.begin_at.new.self.heads c.begin_at.new.self.members c.begin_at.new.words.words (writes_first g c)
-
-pub returns-else-is_place-clause-list : goal.returns-else-is_place-clause-list
-returns-else-is_place-clause-list g c = remove-list g.row.SLI c.args.self.now.heads c.args.self.now.members c.args.words.now.words c.args.class c.args.at c.requires.threaded c.links-links.ensures.small c.requires.listed
-    c.links-links.result.next nowhere c.begin_at.new.self.heads c.begin_at.new.self.members c.begin_at.new.words.words (writes_first g c)
-
-pub returns-else-is_place-clause-others : goal.returns-else-is_place-clause-others
-returns-else-is_place-clause-others g c = remove-others g.row.SLI c.args.self.now.heads c.args.self.now.members c.args.words.now.words c.args.class c.args.at c.requires.threaded c.links-links.ensures.small c.requires.listed
-    c.links-links.result.next nowhere c.begin_at.new.self.heads c.begin_at.new.self.members c.begin_at.new.words.words (writes_first g c)
-
-pub returns-else-is_place-clause-words : goal.returns-else-is_place-clause-words
-returns-else-is_place-clause-words g c = remove-words g.row.SLI c.args.self.now.heads c.args.self.now.members c.args.words.now.words c.args.class c.args.at c.requires.threaded c.links-links.ensures.small c.requires.listed
-    c.links-links.result.next nowhere c.begin_at.new.self.heads c.begin_at.new.self.members c.begin_at.new.words.words (writes_first g c)
+pub returns-clause-others : goal.returns-clause-others
+returns-clause-others g c =
+    let n = c.number-number.ensures in
+    let same : class_of g.row.SLI c.low.result ≡ c.args.class = ap (class_of g.row.SLI) c.low.ensures ∙ class_of-low g.row.SLI n.level c.args.class n.least n.most in
+    rw same at c.unlink.ensures.others

@@ -1,5 +1,5 @@
-use Rattle.std.proofs.Common.{◌≡◌, ◌-◌, ◌≤◌, ap, sym, ◌∙◌, arith, subst}
-use Rattle.tlsf_words.specs.Fields.{size_in, free_in, last_in, low_half}
+use Rattle.std.proofs.Common.{◌-◌, ap, ◌∙◌, arith}
+use Rattle.tlsf_words.specs.Fields.{size_in, free_in, last_in}
 use Rattle.tlsf_words.proofs.TagSums.{Says, says_rest, rest_fits}
 use Rattle.tlsf_words.proofs.tag.Tag.rest.Goals as goal
 

@@ -1,5 +1,4 @@
-use Rattle.std.proofs.Common.{sym, subst}
-use Rattle.tlsf_words.specs.Fields.{tag_word}
+use Rattle.std.proofs.Common.{sym}
 use Rattle.tlsf_words.proofs.FieldLaws.{tag_word-fields}
 use Rattle.tlsf_words.proofs.tag.Tag.to_word.Goals as goal
 

@@ -1,6 +1,5 @@
 use Rattle.std.proofs.Common.{ap, ◌∙◌}
-use Rattle.tlsf_words.proofs.TagSums.{Says, says_back}
-use Rattle.tlsf_words.specs.Fields.{size_in, free_in, last_in}
+use Rattle.tlsf_words.proofs.TagSums.{says_back}
 use Rattle.tlsf_words.proofs.tag.Tag.with_back.Goals as goal
 
 pub returns-clause-size : goal.returns-clause-size

@@ -1,5 +1,5 @@
-use Rattle.std.proofs.Common.{◌≡◌, ◌+◌, ◌<◌, ◌^◌, true, ap, sym, ◌∙◌, arith, subst}
-use Rattle.tlsf_words.specs.Fields.{size_in, free_in, last_in, back_in, low_half}
+use Rattle.std.proofs.Common.{◌+◌, true, ap, ◌∙◌, arith}
+use Rattle.tlsf_words.specs.Fields.{size_in, last_in, back_in}
 use Rattle.tlsf_words.proofs.TagSums.{Says, says_next, next_fits}
 use Rattle.tlsf_words.proofs.tag.Tag.with_next.Goals as goal
 

@@ -1,5 +1,5 @@
-use Rattle.std.proofs.Common.{◌≡◌, ◌+◌, ◌-◌, ◌<◌, ◌≤◌, ◌^◌, false, ap, sym, ◌∙◌, arith, subst}
-use Rattle.tlsf_words.specs.Fields.{size_in, free_in, last_in, back_in, low_half}
+use Rattle.std.proofs.Common.{◌-◌, false, ap, sym, ◌∙◌, arith}
+use Rattle.tlsf_words.specs.Fields.{size_in, back_in}
 use Rattle.tlsf_words.proofs.TagSums.{Says, says_without, without_fits}
 use Rattle.tlsf_words.proofs.tag.Tag.without.Goals as goal
 
