@@ -117,6 +117,17 @@ resized_keeps h name other n len own apart = by_resized_words (λ o. Keeps name 
       ];
 })
 
+-- the number of the heap stays
+
+pub allocated_id : (sli n len : ℕ) (h : HeapState) → (allocated_words sli h n len).heap.id ≡ h.id
+allocated_id sli n len h = by_allocated_words sli (λ o. o.heap.id ≡ h.id) h n len (λ why. refl) (λ s site fit. refl)
+
+pub released_id : (h : HeapState) (name : Name) → (released h name).heap.id ≡ h.id
+released_id h name = by_released (λ o. o.heap.id ≡ h.id) h name (λ why. refl) (λ s mine site is. refl)
+
+pub resized_id : (h : HeapState) (name : Name) (n len : ℕ) → (resized_words h name n len).heap.id ≡ h.id
+resized_id h name n len = by_resized_words (λ o. o.heap.id ≡ h.id) h name n len (λ why. refl) (λ s mine site is room. refl)
+
 -- also where the arena refuses what comes back
 pub held_keeps : (u n : ℕ) (h : HeapState) (name other : Name) (o : Outcome (Unit {0})) → Keeps name h o.heap → Keeps name h (if_held u h other n o).heap
 held_keeps u n h name other o keeps = by_bool (is_held u n (held_at h.blocks other.at))

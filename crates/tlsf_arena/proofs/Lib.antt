@@ -1,11 +1,15 @@
+pub mod Apart
 pub mod Buffers
 pub mod Cell
 pub mod Holding
 pub mod Mapped
 pub mod Maps
+pub mod Named
 pub mod Resizes
+pub mod Results
 pub mod Rooms
 pub mod SameBlock
+pub mod Searching
 pub mod Spread
 pub mod Stretches
 pub mod Taken

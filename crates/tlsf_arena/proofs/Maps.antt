@@ -115,7 +115,7 @@ before_map bs = by_last (λ l k left. free_map l ≡ free_map left ++ replicate 
 abbrev pub Frees : HeapState → Name → ℕ → Outcome (Unit {0}) → Type 0
 Frees h name k o = o.answer ≡ Ok tt → IsRun (free_map h.blocks) name.at k false × (free_map o.heap.blocks ≡ marked (free_map h.blocks) name.at k true)
 
-stands : (bs : List Block) (s : Site) → IsSiteOf bs s → StandsAt bs (place_of s) (length s.before) × (block_at bs (length s.before) ≡ s.block)
+pub stands : (bs : List Block) (s : Site) → IsSiteOf bs s → StandsAt bs (place_of s) (length s.before) × (block_at bs (length s.before) ≡ s.block)
 stands bs s site = subst (λ (l : List Block). StandsAt l (place_of s) (length s.before) × (block_at l (length s.before) ≡ s.block)) site (front s.before s.block s.after)
   where
     took : (f r : List Block) → take (length f) (f ++ r) ≡ f

@@ -9,11 +9,12 @@ use Rattle.tlsf_heap.specs.declared.name.Name.{Name}
 use Rattle.tlsf_heap.specs.declared.refusal.Refusal.TheVariants.{Stale}
 use Rattle.tlsf_arena.specs.Places.{IsUnit, units_for, lacking, held_units, held_at, is_held, free_map, spread}
 
--- the heap that decides, the memory that is cut, and the heap's touches
+-- the heap that decides, the memory that is cut, the heap's touches, and how often an address was compared with that of a unit
 pub record ArenaState : Type 0 where
   pub heap : HeapState
   pub region : Region
   pub touches : ℕ
+  pub compared : ℕ
 
 -- what the heap answers to a request of n bytes, in units of u bytes
 abbrev pub requested : ℕ → ℕ → HeapState → ℕ → Outcome Name
@@ -39,7 +40,7 @@ resized_block u h name n m = if_held u h name n (refitted u h name m)
 abbrev pub Holds : HeapState → Name → ℕ → Type 0
 Holds h name k = (s : Site) × (name.heap ≡ h.id) × (named name h.blocks ≡ Some s) × (held_units (size_of s.block) (length (bytes_of s.block)) ≡ k)
 
--- the same heap over the same memory. Only the touches may differ
+-- the same heap over the same memory. Only the counts of steps may differ
 abbrev pub SameArena : ArenaState → ArenaState → Type 0
 SameArena old new = (new.heap ≡ old.heap) × (new.region ≡ old.region)
 

@@ -82,6 +82,19 @@ held_in (Some block) = held_by block.size block.content
 abbrev pub held_at : List Block → ℕ → Option ℕ
 held_at blocks at = held_in (placed_at blocks at)
 
+-- its serial, where it is live
+abbrev pub serial_by : Content → Option ℕ
+serial_by (content.Live serial len) = Some serial
+serial_by (content.Free stamp) = None
+
+abbrev pub serial_in : Option PlacedBlock → Option ℕ
+serial_in None = None
+serial_in (Some block) = serial_by block.content
+
+-- the serial of the live block at a place
+abbrev pub serial_at : List Block → ℕ → Option ℕ
+serial_at blocks at = serial_in (placed_at blocks at)
+
 -- whether these are units of u bytes each, n bytes in all
 abbrev pub is_held : ℕ → ℕ → Option ℕ → Bool
 is_held u n None = false

@@ -1,4 +1,4 @@
-ghost use Rattle.std.specs.Prelude.{true, ◌≡◌, ◌≢◌, ℕ, ◌+◌, ◌-◌, ◌*◌, ◌/◌, ◌%◌, ◌^◌, ◌<◌, ◌≤◌, ◌↔◌, [], length, Ok, Err, IfOk, IfErr, IfSome, IsOk, IsErrOf, OnErr, OnOk, MatchResult, Some, option_map};
+ghost use Rattle.std.specs.Prelude.{true, ◌≡◌, ◌≢◌, ℕ, ◌+◌, ◌-◌, ◌*◌, ◌/◌, ◌%◌, ◌^◌, ◌<◌, ◌≤◌, ◌↔◌, false, [], length, Ok, Err, IfOk, IfErr, IfSome, IsOk, IsErrOf, OnErr, OnOk, MatchResult, Some, option_map};
 ghost use denote.RawPtr.{block_of, count_of, InBlock};
 ghost use Rattle.linked_list_allocator.specs.Region.{region_of};
 ghost use Rattle.tlsf_class.specs.Classes.{IsLevel};
@@ -10,18 +10,20 @@ ghost use Rattle.tlsf_heap.specs.Placed.{placed_at};
 ghost use Rattle.tlsf_heap.specs.Reports.{report_of};
 ghost use Rattle.tlsf_heap.specs.declared.name.Name.{Name};
 ghost use Rattle.tlsf_arena.specs.Arenas.{Holds, SameArena, if_held, released_block, requested, resized_block};
-ghost use Rattle.tlsf_arena.specs.Places.{IsPiece, IsUnit, lacking, units_for, piece_size, held_at, free_in};
+ghost use Rattle.tlsf_arena.specs.Places.{IsPiece, IsRun, IsUnit, lacking, units_for, piece_size, held_at, serial_at, free_in, free_map, grain_of, spread};
 
 use crate::block::Block;
 use crate::memory::{GRAIN, Lease, Memory};
 use crate::piece::Piece;
-use crate::space::{Run, Space, begins_at, lend_run, lies_before};
+use crate::search::unit_at;
+use crate::space::{Run, Space, lend_run};
 use crate::units::{bytes_of, grains_before, held_units, lacking, units_of};
 use core::mem::replace_with;
 use std::alloc::Global;
 use std::fmt;
 use std::marker::Model;
 use std::mem::ManuallyDrop;
+use tlsf_class::Touches;
 use tlsf_heap::{Content, Heap, Name, OpenFault, PlacedBlock, Refusal, Report};
 
 /// Memory of which a heap decides: word p of the heap stands for the `UNIT` bytes of unit p.
@@ -29,8 +31,8 @@ use tlsf_heap::{Content, Heap, Name, OpenFault, PlacedBlock, Refusal, Report};
 /// The level is the heap's, 4 or 5, and a unit has 16, 32 or 64 bytes. The heap's words hold its headers and no payload, and the memory
 /// holds payload and no headers.
 ///
-/// Contracts see it as its heap, the region of its memory, and the heap's touches. The bytes of the units that no live block holds are the
-/// arena's; those of a block are its holder's alone.
+/// Contracts see it as its heap, the region of its memory, the heap's touches, and how often an address was compared with that of a unit.
+/// The bytes of the units that no live block holds are the arena's; those of a block are its holder's alone.
 pub struct Arena<const SLI: u32, const UNIT: usize> {
     heap: Box<Heap<SLI>, Global>,
     space: Space,
@@ -39,6 +41,8 @@ pub struct Arena<const SLI: u32, const UNIT: usize> {
     units: u32,
     alloc: Global,
     lease: Option<Lease<Global>>,
+    // The comparisons of addresses are counted as touches are.
+    compared: Touches,
 }
 
 impl<const SLI: u32, const UNIT: usize> Model for Arena<SLI, UNIT> {
@@ -47,9 +51,9 @@ impl<const SLI: u32, const UNIT: usize> Model for Arena<SLI, UNIT> {
 
     ghost Value = { ArenaState };
 
-    ghost view = { λ a. record { heap = a.heap.value.heap; region = a.space.region; touches = a.heap.value.touches } };
+    ghost view = { λ a. record { heap = a.heap.value.heap; region = a.space.region; touches = a.heap.value.touches; compared = a.compared.count } };
 
-    ghost invariant = { λ a. IsMapped SLI UNIT a.units a.heap.value.heap a.space.free × ((a.space.base ≡ a.base) × IfSome a.lease (λ l. (l.alloc ≡ a.alloc) × ((l.ptr ≡ a.base) × (l.size ≡ UNIT * a.units)))) };
+    ghost invariant = { λ a. IsMapped SLI UNIT a.units a.heap.value.heap a.space.free × ((a.space.base ≡ a.base) × IfSome a.lease (λ l. (l.alloc ≡ a.alloc) × ((l.ptr ≡ a.base) × (l.size ≡ UNIT * a.units)))) × (a.id ≡ a.heap.value.heap.id) };
 }
 
 impl<const SLI: u32, const UNIT: usize> Arena<SLI, UNIT> {
@@ -90,6 +94,7 @@ impl<const SLI: u32, const UNIT: usize> Arena<SLI, UNIT> {
             units,
             alloc,
             lease: Some(lease),
+            compared: Touches::new(),
         })
     }
 
@@ -133,6 +138,7 @@ impl<const SLI: u32, const UNIT: usize> Arena<SLI, UNIT> {
             units,
             alloc,
             lease: None,
+            compared: Touches::new(),
         })
     }
 
@@ -152,6 +158,7 @@ impl<const SLI: u32, const UNIT: usize> Arena<SLI, UNIT> {
             units,
             alloc,
             lease,
+            compared,
         } = self;
         let mut heap = heap;
         let free = free_at_start(&mut heap);
@@ -169,6 +176,7 @@ impl<const SLI: u32, const UNIT: usize> Arena<SLI, UNIT> {
             units,
             alloc,
             lease,
+            compared,
         })
     }
 
@@ -274,6 +282,7 @@ impl<const SLI: u32, const UNIT: usize> Arena<SLI, UNIT> {
         ensures held { IfErr result (λ e. (units : ℕ) → piece.size ≡ UNIT * units → Holds self.old.heap name units → e.0 ≡ Refusal.Worn) }
         ensures lawful { IsLawful self.new.heap }
         ensures region { self.new.region ≡ self.old.region }
+        ensures compared { self.new.compared ≡ self.old.compared }
         ensures touches { self.new.touches ≤ self.old.touches + 60 }
         ensures touches_rise { self.old.touches ≤ self.new.touches }
     {
@@ -290,20 +299,51 @@ impl<const SLI: u32, const UNIT: usize> Arena<SLI, UNIT> {
         }
     }
 
-    /// Takes a piece back that has lost its name: its address tells the place, which is sought where neither of two guesses is it.
-    pub(crate) fn give_back(
-        &mut self,
-        piece: Piece,
-        guesses: (u32, u32),
-    ) -> Result<(), (Refusal, Piece)>
+    /// Takes a piece back that has lost its name: its address tells the place. Two places are tried first, as those of blocks that went out
+    /// last, else the place is sought by halves. At most 27 comparisons of addresses, whatever the arena holds.
+    ///
+    /// It goes as [`Arena::release`] of the block that begins at that place, with the name that the heap has for it: so a piece of a block
+    /// that is held is refused for nothing but Worn. Refused, with the piece, as `Stale` where no live block of so many units begins there.
+    ///
+    /// ```text
+    /// let Block { name, piece } = arena.allocate(100)?;
+    /// arena.release_at(piece, (name.at, 0)).is_ok()
+    /// ```
+    pub fn release_at(&mut self, piece: Piece, guesses: (u32, u32)) -> Result<(), (Refusal, Piece)>
         requires { piece.region ≡ self.old.region }
+        ensures answer { (name : Name) (units : ℕ) → piece.at ≡ piece.region.start + UNIT * name.at → Holds self.old.heap name units → MatchResult result (λ _. (released_block UNIT self.old.heap name piece.size).answer ≡ Ok tt) (λ e. (released_block UNIT self.old.heap name piece.size).answer ≡ Err e.0) }
+        ensures heap { (name : Name) (units : ℕ) → piece.at ≡ piece.region.start + UNIT * name.at → Holds self.old.heap name units → self.new.heap ≡ (released_block UNIT self.old.heap name piece.size).heap }
+
+        // What that comes to: a refusal changes nothing and gives the piece back, and that of a block that is held is refused at the last
+        // tick alone. Live blocks hold all that a piece has, so it never comes back a second time.
+        ensures err { IfErr result (λ e. (self.new.heap ≡ self.old.heap) × (e.1 ≡ piece)) }
+        ensures held { IfErr result (λ e. (name : Name) (units : ℕ) → piece.at ≡ piece.region.start + UNIT * name.at → piece.size ≡ UNIT * units → Holds self.old.heap name units → e.0 ≡ Refusal.Worn) }
+        ensures lent { IsRun (spread (UNIT / 16) (free_map self.old.heap.blocks)) (grain_of self.old.region piece.at) (piece.size / 16) false }
         ensures region { self.new.region ≡ self.old.region }
+
+        // However many units there are: at most 27 comparisons, and 64 touches.
+        ensures compared { self.new.compared ≤ self.old.compared + 27 }
+        ensures touches { self.new.touches ≤ self.old.touches + 64 }
+        ensures touches_rise { self.old.touches ≤ self.new.touches }
     {
-        let (ptr, piece) = piece.with_ptr();
+        let (ptr, piece) = self.lent(piece).with_ptr();
         let Some((name, held)) = self.live_at(ptr, guesses) else {
             return Err((Refusal::Stale, piece));
         };
         self.give_held(name, held, piece)
+    }
+
+    /// Nothing is done: whoever has a piece knows that live blocks hold all of it.
+    #[inline(always)]
+    fn lent(&mut self, piece: Piece) -> Piece
+        requires { piece.region ≡ self.old.region }
+        ensures lent { IsRun (spread (UNIT / 16) (free_map self.old.heap.blocks)) (grain_of self.old.region piece.at) (piece.size / 16) false }
+        ensures piece { result ≡ piece }
+        ensures same { SameArena self.old self.new }
+        ensures compared { self.new.compared ≡ self.old.compared }
+        ensures touches { self.new.touches ≡ self.old.touches }
+    {
+        replace_with(&mut self.space, piece, Space::beside)
     }
 
     /// Makes a block `len` bytes long or more where it stands: its name and its address stay, and no byte is moved. It then has as many whole
@@ -451,6 +491,7 @@ impl<const SLI: u32, const UNIT: usize> Arena<SLI, UNIT> {
         ensures named { IfErr result (λ why. (units : ℕ) → size ≡ UNIT * units → Holds self.old.heap name units → (why ≢ Refusal.Stale) × (why ≢ Refusal.Foreign)) }
         ensures lawful { IsLawful self.new.heap }
         ensures region { self.new.region ≡ self.old.region }
+        ensures compared { self.new.compared ≡ self.old.compared }
         ensures touches { self.new.touches ≤ self.old.touches + 64 }
         ensures touches_rise { self.old.touches ≤ self.new.touches }
     {
@@ -474,7 +515,10 @@ impl<const SLI: u32, const UNIT: usize> Arena<SLI, UNIT> {
         requires place { IsPiece self.old.region ptr (count_of ptr) size }
         requires longer { size < piece_size UNIT len }
         ensures rest { IfOk result (λ p. (p.region ≡ self.old.region) × (p.at ≡ count_of ptr + size) × (size + p.size ≡ piece_size UNIT len)) }
+        ensures held { IfErr result (λ why. (name : Name) (units : ℕ) → count_of ptr ≡ self.old.region.start + UNIT * name.at → size ≡ UNIT * units → Holds self.old.heap name units → (why ≢ Refusal.Stale) × (why ≢ Refusal.Foreign)) }
         ensures region { self.new.region ≡ self.old.region }
+        ensures compared { self.new.compared ≤ self.old.compared + 27 }
+        ensures touches { self.new.touches ≤ self.old.touches + 68 }
     {
         let Some((name, held)) = self.live_at(ptr, guesses) else {
             return Err(Refusal::Stale);
@@ -530,6 +574,7 @@ impl<const SLI: u32, const UNIT: usize> Arena<SLI, UNIT> {
         ensures named { IfErr result (λ e. (k : ℕ) → UNIT * units + tail.size ≡ UNIT * k → Holds self.old.heap name k → (e.0 ≢ Refusal.Stale) × (e.0 ≢ Refusal.Foreign)) }
         ensures lawful { IsLawful self.new.heap }
         ensures region { self.new.region ≡ self.old.region }
+        ensures compared { self.new.compared ≡ self.old.compared }
         ensures touches { self.new.touches ≤ self.old.touches + 64 }
         ensures touches_rise { self.old.touches ≤ self.new.touches }
     {
@@ -555,7 +600,10 @@ impl<const SLI: u32, const UNIT: usize> Arena<SLI, UNIT> {
         requires place { IsPiece self.old.region ptr (count_of ptr) (piece_size UNIT len + tail.size) }
         requires tail { (tail.region ≡ self.old.region) × (tail.at ≡ count_of ptr + piece_size UNIT len) }
         ensures err { IfErr result (λ e. e.1 ≡ tail) }
+        ensures held { IfErr result (λ e. (name : Name) (units : ℕ) → count_of ptr ≡ self.old.region.start + UNIT * name.at → piece_size UNIT len + tail.size ≡ UNIT * units → Holds self.old.heap name units → (e.0 ≢ Refusal.Stale) × (e.0 ≢ Refusal.Foreign)) }
         ensures region { self.new.region ≡ self.old.region }
+        ensures compared { self.new.compared ≤ self.old.compared + 27 }
+        ensures touches { self.new.touches ≤ self.old.touches + 68 }
     {
         let Some((name, held)) = self.live_at(ptr, guesses) else {
             return Err((Refusal::Stale, tail));
@@ -628,9 +676,11 @@ impl<const SLI: u32, const UNIT: usize> Arena<SLI, UNIT> {
     /// The serial of the live block at a place, and the units that it holds; `None` where none begins there.
     fn held_block(&mut self, at: u32) -> Option<(u64, u32)>
         ensures held { held_at self.old.heap.blocks at ≡ option_map (λ p. p.1) result }
+        ensures serial { serial_at self.old.heap.blocks at ≡ option_map (λ p. p.0) result }
         ensures same { SameArena self.old self.new }
         ensures lawful { IsLawful self.old.heap }
         ensures unit { IsUnit UNIT }
+        ensures compared { self.new.compared ≡ self.old.compared }
         ensures touches { self.new.touches ≤ self.old.touches + 4 }
         ensures touches_rise { self.old.touches ≤ self.new.touches }
     {
@@ -651,64 +701,30 @@ impl<const SLI: u32, const UNIT: usize> Arena<SLI, UNIT> {
     fn live_at(&mut self, ptr: *mut u8, guesses: (u32, u32)) -> Option<(Name, u32)>
         requires pointer { InBlock ptr × (block_of ptr ≡ self.old.region.block) × (count_of ptr < 2 ^ 63) }
         ensures live { IfSome result (λ b. (count_of ptr ≡ self.old.region.start + UNIT * b.0.at) × (held_at self.old.heap.blocks b.0.at ≡ Some b.1)) }
+        ensures held { (name : Name) (units : ℕ) → count_of ptr ≡ self.old.region.start + UNIT * name.at → Holds self.old.heap name units → result ≡ Some (name, units) }
         ensures same { SameArena self.old self.new }
         ensures lawful { IfSome result (λ _. IsLawful self.old.heap) }
         ensures unit { IsUnit UNIT }
+        ensures compared { self.new.compared ≤ self.old.compared + 27 }
+        ensures touches { self.new.touches ≤ self.old.touches + 4 }
+        ensures touches_rise { self.old.touches ≤ self.new.touches }
     {
-        let at = unit_at(ptr, self.base, self.units, UNIT, guesses)?;
+        let Some(at) = unit_at(
+            ptr,
+            self.base,
+            self.units,
+            UNIT,
+            guesses,
+            &mut self.compared,
+        ) else {
+            // No block begins there: it would begin at one of the heap's words, each of which is a unit.
+            let _none = self.held_block(self.units);
+            return None;
+        };
         let heap = self.id;
         let (serial, units) = self.held_block(at)?;
         Some((Name { heap, at, serial }, units))
     }
-}
-
-/// The unit that begins at an address, None where none does: one of two guesses, else the one that a search finds.
-fn unit_at(ptr: *mut u8, base: *mut u8, units: u32, unit: usize, guesses: (u32, u32)) -> Option<u32>
-    requires pointers { InBlock base × InBlock ptr × (block_of ptr ≡ block_of base) × (count_of base + unit * units < 2 ^ 63) × (count_of ptr < 2 ^ 63) }
-    requires some { 0 < units }
-    requires unit { IsUnit unit }
-    ensures { IfSome result (λ at. count_of ptr ≡ count_of base + unit * at) }
-{
-    if is_unit_at(ptr, base, units, unit, guesses.0) {
-        return Some(guesses.0);
-    }
-    if is_unit_at(ptr, base, units, unit, guesses.1) {
-        return Some(guesses.1);
-    }
-    let at = place_of(ptr, base, units, unit);
-    if is_unit_at(ptr, base, units, unit, at) {
-        return Some(at);
-    }
-    None
-}
-
-/// Whether a unit begins at an address, and is one of so many.
-fn is_unit_at(ptr: *mut u8, base: *mut u8, units: u32, unit: usize, at: u32) -> bool
-    requires pointers { InBlock base × InBlock ptr × (block_of ptr ≡ block_of base) × (count_of base + unit * units < 2 ^ 63) × (count_of ptr < 2 ^ 63) }
-    requires unit { IsUnit unit }
-    ensures { (result ≡ true) → (count_of ptr ≡ count_of base + unit * at) }
-{
-    at < units && begins_at(ptr, base, grains_before(at, unit))
-}
-
-/// The number of the last unit that begins at an address or before it: each comparison halves the units in question.
-fn place_of(ptr: *mut u8, base: *mut u8, units: u32, unit: usize) -> u32
-    requires pointers { InBlock base × InBlock ptr × (block_of ptr ≡ block_of base) × (count_of base + unit * units < 2 ^ 63) × (count_of ptr < 2 ^ 63) }
-    requires some { 0 < units }
-    requires unit { IsUnit unit }
-    ensures { result < units }
-{
-    let mut at = 0u32;
-    let mut count = units;
-    'halves: while count > 1 {
-        let half = count / 2;
-        let middle = at + half;
-        if !lies_before(ptr, base, grains_before(middle, unit)) {
-            at = middle;
-        }
-        count -= half;
-    }
-    at
 }
 
 /// The words of the free block at place 0, or 0.
@@ -739,6 +755,7 @@ impl<const SLI: u32, const UNIT: usize> Drop for Arena<SLI, UNIT> {
             units,
             alloc,
             lease,
+            compared: _,
         } = self;
         let mut heap = heap;
         let free = free_at_start(&mut heap);

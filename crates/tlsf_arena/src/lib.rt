@@ -25,6 +25,7 @@ mod buffer;
 mod local;
 mod memory;
 mod piece;
+mod search;
 mod slot;
 mod space;
 mod units;

@@ -98,7 +98,7 @@ impl<const SLI: u32, const UNIT: usize> LocalArena<SLI, UNIT> {
     {
         match self.slot.replace(None) {
             Some(mut boxed) => {
-                let answer = boxed.arena.give_back(piece, self.guesses());
+                let answer = boxed.arena.release_at(piece, self.guesses());
                 self.slot.replace(Some(boxed));
                 if let Err((_, piece)) = answer {
                     let _lost = unsafe { ManuallyDrop::new_unchecked(piece) };

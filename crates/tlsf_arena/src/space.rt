@@ -1,5 +1,6 @@
 // The memory of an arena, and the order of two addresses in it.
 ghost use Rattle.std.specs.Prelude.{◌≡◌, ℕ, ◌+◌, ◌*◌, ◌/◌, ◌%◌, ◌^◌, ◌<◌, ◌≤◌, Bool, true, false, List, length, replicate, nat_le, ◌==◌};
+ghost use Rattle.std.specs.Bool.{Decides};
 ghost use denote.RawPtr.{block_ptr, block_of, count_of, InBlock};
 ghost use Rattle.linked_list_allocator.specs.Region.{Region, IsRegionSize, region_of};
 ghost use Rattle.tlsf_arena.specs.Places.{IsRun, marked, grain_of};
@@ -54,6 +55,16 @@ impl Space {
         (Space { base }, Piece { ptr, size })
     }
 
+    // Nothing is done: whoever has a piece knows that none of its grains is free.
+    pub(crate) fn beside(self, piece: Piece) -> (Space, Piece)
+        requires { piece.region ≡ self.region }
+        ensures { (result.0 ≡ self) × (result.1 ≡ piece) × IsRun self.free (grain_of self.region piece.at) (piece.size / 16) false }
+    {
+        let Space { base } = self;
+        let Piece { ptr, size } = piece;
+        (Space { base }, Piece { ptr, size })
+    }
+
     // Takes them back.
     pub(crate) fn take_back(self, piece: Piece) -> (Space, ())
         requires { (piece.region ≡ self.region) × IsRun self.free (grain_of self.region piece.at) (piece.size / 16) false }
@@ -68,6 +79,7 @@ impl Space {
 // Whether `ptr` lies before grain `at` of the memory at `base`.
 pub(crate) fn lies_before(ptr: *mut u8, base: *mut u8, at: usize) -> bool
     requires { InBlock base × InBlock ptr × (block_of ptr ≡ block_of base) × (count_of base + 16 * at < 2 ^ 63) × (count_of ptr < 2 ^ 63) }
+    ensures { Decides result (count_of ptr < count_of base + 16 * at) }
 {
     let grain = unsafe { base.add(at * GRAIN) };
     ptr < grain
@@ -76,7 +88,7 @@ pub(crate) fn lies_before(ptr: *mut u8, base: *mut u8, at: usize) -> bool
 // Whether grain `at` of the memory at `base` begins at `ptr`.
 pub(crate) fn begins_at(ptr: *mut u8, base: *mut u8, at: usize) -> bool
     requires { InBlock base × InBlock ptr × (block_of ptr ≡ block_of base) × (count_of base + 16 * at < 2 ^ 63) × (count_of ptr < 2 ^ 63) }
-    ensures { (result ≡ true) → (count_of ptr ≡ count_of base + 16 * at) }
+    ensures { Decides result (count_of ptr ≡ count_of base + 16 * at) }
 {
     let grain = unsafe { base.add(at * GRAIN) };
     if ptr == grain {

@@ -3,7 +3,7 @@ ghost use Rattle.tlsf_arena.specs.Places.{piece_size};
 
 use std::mem::ManuallyDrop;
 use std::test::Fail;
-use tlsf_arena::{Arena, Block};
+use tlsf_arena::{Arena, Block, Piece};
 use tlsf_heap::{Name, Refusal};
 
 #[test]
@@ -60,6 +60,32 @@ fn units_behind_a_block_are_lent_and_come_back(rt: HostRuntime) -> Result<(), Fa
     assert!(rt; is_back(&mut arena, block));
     assert_eq!(rt; arena.report().free_words, 64);
     Ok(())
+}
+
+#[test]
+fn a_piece_comes_back_by_its_address(rt: HostRuntime) -> Result<(), Fail> {
+    let mut arena = Arena::<4, 16>::open(rt.alloc(), 7, 64).expect(&rt, "open");
+    let first = arena.allocate(100).expect(&rt, "100 bytes");
+    let Block { name, piece } = arena.allocate(1).expect(&rt, "a byte");
+    assert!(rt; is_home(&mut arena, piece, (0, name.at)));
+    let Block { name: _, piece } = arena.allocate(1).expect(&rt, "a byte again");
+    assert!(rt; is_home(&mut arena, piece, (1, 63)));
+    assert!(rt; is_back(&mut arena, first));
+    assert_eq!(rt; arena.report().free_words, 64);
+    Ok(())
+}
+
+fn is_home(arena: &mut Arena<4, 16>, piece: Piece, guesses: (u32, u32)) -> bool
+    requires { piece.region ≡ arena.old.region }
+    ensures { arena.new.region ≡ arena.old.region }
+{
+    match arena.release_at(piece, guesses) {
+        Ok(()) => true,
+        Err((_, back)) => {
+            let _lost = unsafe { ManuallyDrop::new_unchecked(back) };
+            false
+        }
+    }
 }
 
 fn why_not(arena: &mut Arena<4, 16>, name: Name, size: usize, len: u32) -> Option<Refusal>

@@ -1,5 +1,6 @@
 -- Assumes `Logic`.
-use Rattle.std.proofs.Common.{◌≡◌, ℕ, ◌+◌, ◌*◌, ◌^◌, ◌<◌, true, false, List, [], ◌∷◌, ◌++◌, refl, ap, ◌∙◌, arith, eqb→eq, w64}
+use Rattle.std.proofs.Common.{◌≡◌, ℕ, ◌+◌, ◌*◌, ◌^◌, ◌<◌, true, false, List, [], ◌∷◌, ◌++◌, refl, sym, ap, subst, ◌∙◌, arith, eqb, eqb→eq, eq-eqb, T, T_not, w64}
+use Rattle.std.specs.Bool.{Decides}
 use Rattle.std.proofs.lemmas.Bool.{false≢true}
 use mir.Syntax.{Fn}
 use mir.Val.{Val, vbool, vint, vptr}
@@ -60,12 +61,12 @@ begins_at_spec 𝓤 𝓛 𝓜 𝓡 wired =
     first ! $ branches ! (get ! refl)
     (λ y. sets ! (of_opd ! (true_lit !)) refl (tt, tt) $
     returns_within ! Post refl (look_at ! 0 refl) $ free_all ! refl $
-    use0 𝓛 (raw (fact 𝓤 ((true ≡ true) → o ≡ u))) (fact_i 𝓤 ((true ≡ true) → o ≡ u) (emp 𝓤) (λ _. eqb→eq o u y)) $
+    use0 𝓛 (raw (fact 𝓤 (Decides true (o ≡ u)))) (fact_i 𝓤 (Decides true (o ≡ u)) (emp 𝓤) ((λ _. eqb→eq o u y), (λ _. refl))) $
     feq_i ! (List Val) (vbool true ∷ []) (vbool true ∷ []) refl $ nothing ! $ nothing ! $ fjoin ! $ nothing ! $ fjoin ! $ nothing ! $ fjoin ! $ move ! (3 ∷ 0 ∷ 1 ∷ 2 ∷ []) $
     by ! (leaves 𝓛 En₀ stays c z (vbool true) true (tt, (tt, (tt, tt))) (tt, (tt, (tt, tt)))))
     (λ n. skips ! $ exec ! C Λ En (after 4 fn.body) (at_ret En Post) $
     sets ! (of_opd ! (false_lit !)) refl (tt, tt) $
     returns ! (look_at ! 0 refl) $ free_all ! refl $
-    use0 𝓛 (raw (fact 𝓤 ((false ≡ true) → o ≡ u))) (fact_i 𝓤 ((false ≡ true) → o ≡ u) (emp 𝓤) (λ e. absurd (false≢true e))) $
+    use0 𝓛 (raw (fact 𝓤 (Decides false (o ≡ u)))) (fact_i 𝓤 (Decides false (o ≡ u)) (emp 𝓤) ((λ e. absurd (false≢true e)), (λ e. absurd (T_not (eqb o u) n (subst T (sym (eq-eqb o u e)) tt))))) $
     feq_i ! (List Val) (vbool false ∷ []) (vbool false ∷ []) refl $ nothing ! $ nothing ! $ fjoin ! $ nothing ! $ fjoin ! $ nothing ! $ fjoin ! $ move ! (3 ∷ 0 ∷ 1 ∷ 2 ∷ []) $
     by ! (leaves 𝓛 En₀ stays c z (vbool false) false (tt, (tt, (tt, tt))) (tt, (tt, (tt, tt))))))))

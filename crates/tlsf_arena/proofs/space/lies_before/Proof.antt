@@ -1,12 +1,14 @@
 -- Assumes `Logic`.
 use Rattle.std.proofs.Common.{◌≡◌, ℕ, ◌+◌, ◌*◌, ◌^◌, ◌<◌, List, [], ◌∷◌, ◌++◌, refl, ap, ◌∙◌, arith, ltb, w64}
+use Rattle.std.specs.Bool.{Decides}
+use Rattle.std.proofs.lemmas.Bool.Decides.{Decides-ltb}
 use mir.Syntax.{Fn}
 use mir.Val.{Val, vbool, vint, vptr}
-use base.Logic.{SProp}
+use base.Logic.{SProp, emp}
 use prog.Wp.{Env, WpFn}
-use contract.Monad.{fact}
+use contract.Monad.{fact, fact_i}
 use contract.Running.{tables}
-use types.Kit.{‵, raw, ◌⊛◌, prop, at_ret, ◌$◌, ◌∵◌, !, qed, by, move, drop, split, regoal, fjoin, feq_i}
+use types.Kit.{‵, raw, ◌⊛◌, prop, at_ret, ◌$◌, ◌∵◌, !, qed, by, move, drop, use0, split, regoal, fjoin, feq_i}
 use types.Run.{lit, bin, of_opd, first, blocks, exec, returns, enter}
 use types.ByLocal.{alloc_all, pass_all, free_all, look_at, get, sets, sets_last, is, env}
 use denote.RattleType.{owns}
@@ -57,5 +59,6 @@ lies_before_spec 𝓤 𝓛 𝓜 𝓡 wired =
     sets ! (of_opd ! (get ! refl)) refl (tt, tt) $
     sets ! (bin ! (get ! refl) (get ! refl) (tests_order b o u asked.4 asked.3)) refl (tt, tt) $
     returns ! (look_at ! 0 refl) $ free_all ! refl $
-    feq_i ! (List Val) (vbool (ltb o u) ∷ []) (vbool (ltb o u) ∷ []) refl $ nothing ! $ nothing ! $ nothing ! $ fjoin ! $ nothing ! $ fjoin ! $ nothing ! $ fjoin ! $ move ! (3 ∷ 0 ∷ 2 ∷ 1 ∷ []) $
+    use0 𝓛 (raw (fact 𝓤 (Decides (ltb o u) (o < u)))) (fact_i 𝓤 (Decides (ltb o u) (o < u)) (emp 𝓤) (Decides-ltb o u)) $
+    feq_i ! (List Val) (vbool (ltb o u) ∷ []) (vbool (ltb o u) ∷ []) refl $ nothing ! $ nothing ! $ fjoin ! $ nothing ! $ fjoin ! $ nothing ! $ fjoin ! $ move ! (3 ∷ 0 ∷ 1 ∷ 2 ∷ []) $
     by ! (leaves 𝓛 En₀ stays c z (vbool (ltb o u)) (ltb o u) (tt, (tt, (tt, tt))) (tt, (tt, (tt, tt)))))))

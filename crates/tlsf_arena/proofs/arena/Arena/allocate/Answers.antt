@@ -4,7 +4,7 @@ use Rattle.tlsf_heap.specs.Blocks.{HeapState}
 use Rattle.tlsf_heap.specs.Lawful.{IsLawful}
 use Rattle.tlsf_arena.specs.Arenas.{Holds, IsMapped}
 use Rattle.tlsf_arena.specs.Places.{lacking}
-use Rattle.tlsf_arena.proofs.Holding.{Keeps, allocated_keeps, kept}
+use Rattle.tlsf_arena.proofs.Holding.{Keeps, allocated_id, allocated_keeps, kept}
 use Rattle.tlsf_arena.proofs.Mapped.{carves, lacks}
 use Rattle.tlsf_arena.proofs.Maps.{holds_given}
 use Rattle.tlsf_arena.proofs.arena.Arena.allocate.Goals as goal
@@ -32,7 +32,7 @@ invariant_of-self-2 g c =
     mapped e.was_lawful c.grains_before.ensures.grains c.bytes_of.ensures.grains (sym c.in_ok-name.was ∙ e.answer ∙ ap (λ (j : ℕ). (allocated_words g.row.SLI c.deref_mut.result.now.heap k j).answer) c.lacking.ensures)
     (e.heap ∙ ap (λ (j : ℕ). (allocated_words g.row.SLI c.deref_mut.result.now.heap k j).heap) c.lacking.ensures) in
     let lent = c.replace_with-piece.ensures in
-    (got.1 c.replace_with-piece.new.dest.free lent.2, (lent.0 ∙ c.self.invariant.1.0, c.self.invariant.1.1))
+    (got.1 c.replace_with-piece.new.dest.free lent.2, (lent.0 ∙ c.self.invariant.1.0, c.self.invariant.1.1), c.self.invariant.2 ∙ ap (λ s. s.heap.id) (sym c.deref_mut.ensures.value) ∙ sym (ap (λ (h : HeapState). h.id) e.heap ∙ allocated_id g.row.SLI k c.lacking.result c.deref_mut.result.now.heap))
 
 pub returns-clause-holds : goal.returns-clause-holds
 returns-clause-holds g c =

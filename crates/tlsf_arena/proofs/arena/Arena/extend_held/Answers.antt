@@ -3,6 +3,7 @@ use Rattle.tlsf_heap.specs.Blocks.{HeapState}
 use Rattle.tlsf_heap.specs.Calls.{resized_words}
 use Rattle.tlsf_arena.specs.Arenas.{IsMapped}
 use Rattle.tlsf_arena.specs.Places.{held_at}
+use Rattle.tlsf_arena.proofs.Holding.{resized_id}
 use Rattle.tlsf_arena.proofs.Mapped.{extends}
 use Rattle.tlsf_arena.proofs.Maps.{held_of}
 use Rattle.tlsf_arena.proofs.arena.Arena.extend_held.Goals as goal
@@ -46,4 +47,4 @@ invariant_of-self-2 g c =
     c.grains_before.result c.bytes_of-2.result c.args.size c.grains_before.ensures.grains c.bytes_of-2.ensures.bytes (sym c.if-bytes_of-size.false ∙ c.bytes_of.ensures.bytes)
     (subst (λ (j : ℕ). c.args.size < j) (sym c.bytes_of-2.ensures.bytes) c.requires.longer) in
     let lent = c.replace_with.ensures in
-    (got.1 c.replace_with.new.dest.free lent.2, (lent.0 ∙ c.self.invariant.1.0, c.self.invariant.1.1))
+    (got.1 c.replace_with.new.dest.free lent.2, (lent.0 ∙ c.self.invariant.1.0, c.self.invariant.1.1), c.self.invariant.2 ∙ ap (λ s. s.heap.id) (sym value) ∙ sym (ap (λ (h : HeapState). h.id) e.heap ∙ resized_id heap c.args.name n c.lacking.result))

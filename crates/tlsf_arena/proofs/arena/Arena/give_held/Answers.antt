@@ -2,6 +2,7 @@ use Rattle.std.proofs.Common.{◌≡◌, ℕ, ◌+◌, ◌*◌, ◌/◌, Some, s
 use Rattle.tlsf_heap.specs.Blocks.{HeapState}
 use Rattle.tlsf_arena.specs.Arenas.{IsMapped}
 use Rattle.tlsf_arena.specs.Places.{held_at, grain_of}
+use Rattle.tlsf_arena.proofs.Holding.{released_id}
 use Rattle.tlsf_arena.proofs.Mapped.{frees}
 use Rattle.tlsf_arena.proofs.Maps.{held_of}
 use Rattle.tlsf_arena.proofs.UnitCases.{first_grain}
@@ -51,4 +52,4 @@ invariant_of-self g c =
     let got = frees g.row.SLI g.row.UNIT a.units c.deref_mut.result.now.heap c.release.new.self.heap a.space.free c.args.name c.args.units (grain_of a.space.region piece.at) piece.size
     mapped e.was_lawful place long (ap (λ (h : HeapState). held_at h.blocks c.args.name.at) same ∙ c.requires.units) (sym c.in-Ok.is ∙ e.answer) e.heap in
     let back = c.replace_with.ensures in
-    (got.1 c.replace_with.new.dest.free back.2, (back.0 ∙ c.self.invariant.1.0, c.self.invariant.1.1))
+    (got.1 c.replace_with.new.dest.free back.2, (back.0 ∙ c.self.invariant.1.0, c.self.invariant.1.1), c.self.invariant.2 ∙ ap (λ s. s.heap.id) (sym value) ∙ sym (ap (λ (h : HeapState). h.id) e.heap ∙ released_id c.deref_mut.result.now.heap c.args.name))

@@ -19,4 +19,5 @@ invariant_of-result g c =
       opens g.row.SLI u c.args.units c.args.id c.args.memory.size c.in-Ok-new.heap.value.heap c.new-space.result.free c.requires.level c.requires.unit rooms.0 most (is ∙ opened.heap) long
           (space.2 ∙ ap (λ (m : ℕ). replicate (m / 16) true) (ap (λ m. m.size) same)),
       (space.1 ∙ ap (λ m. m.ptr) same ∙ sym c.with_ptr-base.ensures.0, tt),
+      sym (ap (λ (h : HeapState). h.id) (is ∙ opened.heap)),
     )

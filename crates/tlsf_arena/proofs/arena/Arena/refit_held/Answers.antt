@@ -3,6 +3,7 @@ use Rattle.tlsf_heap.specs.Blocks.{HeapState}
 use Rattle.tlsf_heap.specs.Calls.{resized_words}
 use Rattle.tlsf_arena.specs.Arenas.{IsMapped}
 use Rattle.tlsf_arena.specs.Places.{held_at, grain_of}
+use Rattle.tlsf_arena.proofs.Holding.{resized_id}
 use Rattle.tlsf_arena.proofs.Mapped.{refits}
 use Rattle.tlsf_arena.proofs.Maps.{held_of}
 use Rattle.tlsf_arena.proofs.UnitCases.{first_grain}
@@ -86,4 +87,4 @@ invariant_of-self g c =
     c.grains_before-at.ensures.grains c.bytes_of-size.ensures.grains in
     let opened = got.1 c.replace_with.new.dest.free c.replace_with.ensures.2 in
     let lent = c.replace_with-in-Ok.ensures in
-    (opened.1 c.replace_with-in-Ok.new.dest.free lent.2, (lent.0 ∙ c.replace_with.ensures.0 ∙ c.self.invariant.1.0, c.self.invariant.1.1))
+    (opened.1 c.replace_with-in-Ok.new.dest.free lent.2, (lent.0 ∙ c.replace_with.ensures.0 ∙ c.self.invariant.1.0, c.self.invariant.1.1), c.self.invariant.2 ∙ ap (λ s. s.heap.id) (sym value) ∙ sym (ap (λ (h : HeapState). h.id) e.heap ∙ resized_id heap c.args.name n c.lacking.result))

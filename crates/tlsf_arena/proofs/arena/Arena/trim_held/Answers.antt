@@ -3,6 +3,7 @@ use Rattle.tlsf_heap.specs.Blocks.{HeapState}
 use Rattle.tlsf_heap.specs.Calls.{resized_words}
 use Rattle.tlsf_arena.specs.Arenas.{IsMapped}
 use Rattle.tlsf_arena.specs.Places.{held_at}
+use Rattle.tlsf_arena.proofs.Holding.{resized_id}
 use Rattle.tlsf_arena.proofs.Mapped.{shortens}
 use Rattle.tlsf_arena.proofs.Maps.{held_of}
 use Rattle.tlsf_arena.proofs.arena.Arena.trim_held.Goals as goal
@@ -52,4 +53,4 @@ invariant_of-self-2 g c =
     a.space.region.start tail.at tail.size (ap (λ p. p.at) is ∙ c.requires.place ∙ ap (λ r. r.start + u * c.args.name.at + u * n) (c.requires.region ∙ sym (ap (λ s. s.region) c.self.view_is)))
     (sym c.bytes_of.ensures.bytes ∙ c.if-bytes_of-size.false ∙ (λ i. c.bytes_of-2.ensures.bytes i + (c.with_size-size.ensures.0 ∙ sym (ap (λ p. p.size) is)) i)) in
     let back = c.replace_with.ensures in
-    (got.1 c.replace_with.new.dest.free back.2, (back.0 ∙ c.self.invariant.1.0, c.self.invariant.1.1))
+    (got.1 c.replace_with.new.dest.free back.2, (back.0 ∙ c.self.invariant.1.0, c.self.invariant.1.1), c.self.invariant.2 ∙ ap (λ s. s.heap.id) (sym value) ∙ sym (ap (λ (h : HeapState). h.id) e.heap ∙ resized_id heap c.args.name n c.lacking.result))

@@ -1,0 +1,82 @@
+-- What stands at the place of a name that is held.
+use Rattle.std.proofs.Common.{◌≡◌, ℕ, ◌+◌, ◌*◌, ◌/◌, ◌<◌, ◌≤◌, ◌≢◌, true, eqb, Bool, List, ◌∷◌, length, Option, Some, None, sym, ap, subst, ◌∙◌, arith}
+use Rattle.std.specs.List.{AllByRecursion}
+use Rattle.std.proofs.lemmas.Bool.{eqb-true, false≢true}
+use Rattle.tlsf_heap.specs.Blocks.{Block, Live, Free, HeapState, size_of, words_in}
+use Rattle.tlsf_heap.specs.GoodFit.{Site, place_of, block_at}
+use Rattle.tlsf_heap.specs.Calls.{has_serial, named}
+use Rattle.tlsf_heap.specs.Lawful.{IsLawful, HasRoom}
+use Rattle.tlsf_heap.specs.Placed.{placed_at, placed}
+use Rattle.tlsf_heap.specs.declared.name.Name.{Name}
+use Rattle.tlsf_heap.proofs.Finding.{and_left, and_right}
+use Rattle.tlsf_heap.proofs.Lawfulness.{all_right, words_in-append}
+use Rattle.tlsf_heap.proofs.Outcomes.{named_site}
+use Rattle.tlsf_heap.proofs.Placing.{placed_found}
+use Rattle.tlsf_arena.specs.Arenas.{Holds, IsMapped}
+use Rattle.tlsf_arena.specs.Places.{free_map, held_at, serial_at, serial_in}
+use Rattle.tlsf_arena.proofs.Maps.{held_of, length-map, stands}
+use Rattle.tlsf_arena.proofs.Spread.{length-spread}
+use Rattle.tlsf_arena.proofs.UnitCases.{by_unit, units_apart}
+
+module _ (h : HeapState) (name : Name) (s : Site) (lawful : IsLawful h) (found : named name h.blocks ≡ Some s) where
+  has : has_serial name.serial s.block ≡ true
+  has = and_left (has_serial name.serial s.block) (eqb (place_of s) name.at) (named_site name h.blocks s found).1
+
+  place : place_of s ≡ name.at
+  place = eqb-true (place_of s) name.at (and_right (has_serial name.serial s.block) (eqb (place_of s) name.at) (named_site name h.blocks s found).1)
+
+  -- its serial is seen there
+  pub serial_of : serial_at h.blocks name.at ≡ Some name.serial
+  serial_of =
+      let there = stands h.blocks s (named_site name h.blocks s found).0 in
+      let seen : placed_at h.blocks name.at ≡ Some (placed name.at s.block) =
+      subst (λ (p : ℕ). placed_at h.blocks p ≡ Some (placed p (block_at h.blocks (length s.before)))) place (placed_found lawful.rooms there.0) ∙ ap (λ (b : Block). Some (placed name.at b)) there.1 in
+      ap serial_in seen ∙ own s.block has
+    where
+      own : (b : Block) → has_serial name.serial b ≡ true → serial_in (Some (placed name.at b)) ≡ Some name.serial
+      own (Live m t xs) e = ap Some (eqb-true t name.serial e)
+      own (Free m t) e = absurd (false≢true e)
+
+  -- it is one of the heap's words
+  pub place_within : name.at < words_in h.blocks
+  place_within =
+      let site = (named_site name h.blocks s found).0 in
+      let rooms = all_right HasRoom s.before (s.block ∷ s.after) (subst (AllByRecursion HasRoom) (sym site) lawful.rooms) in
+      omega (arith, place, ap words_in site, words_in-append s.before (s.block ∷ s.after), large s.block rooms.0)
+    where
+      large : (b : Block) → HasRoom b → 4 ≤ size_of b
+      large (Live m t xs) room = room.0
+      large (Free m t) room = room
+
+-- an arena has a unit for each word of its heap
+pub words_mapped : (sli u units : ℕ) (h : HeapState) (free : List Bool) → IsMapped sli u units h free → IsLawful h → words_in h.blocks ≡ units
+words_mapped sli u units h free mapped lawful =
+    by_unit (λ u. u / 16 * words_in h.blocks ≡ u / 16 * units → words_in h.blocks ≡ units) (λ e. omega (arith, e)) (λ e. omega (arith, e)) (λ e. omega (arith, e)) u mapped.unit
+    (ap (λ (k : ℕ). u / 16 * k) (sym (length-map h.blocks lawful.rooms)) ∙ sym (length-spread (u / 16) (free_map h.blocks)) ∙ sym (ap length mapped.map) ∙ mapped.whole)
+
+-- ---- a block that is held, sought by its address p in the memory at b
+
+module _ (sli u units : ℕ) (h : HeapState) (free : List Bool) (mapped : IsMapped sli u units h free) (lawful : IsLawful h) (name : Name) (k : ℕ) (holds : Holds h name k) (b p : ℕ) (here : p ≡ b + u * name.at) where
+  -- it begins at a unit
+  pub at_a_unit : ((at : ℕ) → at < units → p ≢ b + u * at) → ⊥
+  at_a_unit none = none name.at (subst (λ (m : ℕ). name.at < m) (words_mapped sli u units h free mapped lawful) (place_within h name holds.0 lawful holds.2)) here
+
+  module _ (at : ℕ) (found : p ≡ b + u * at) where
+    same_place : at ≡ name.at
+    same_place = units_apart u at name.at mapped.unit (omega (arith, here, found))
+
+    held : held_at h.blocks at ≡ Some k
+    held = ap (held_at h.blocks) same_place ∙ held_of h name k holds.0 lawful holds.2 holds.3
+
+    -- a look there shows a block
+    pub seen_there : held_at h.blocks at ≡ None → ⊥
+    seen_there none = let no : None ≡ Some k = sym none ∙ held in cc
+
+    -- and it is the one
+    pub the_one : (id serial n : ℕ) → id ≡ h.id → held_at h.blocks at ≡ Some n → serial_at h.blocks at ≡ Some serial → ◌≡◌ {A = Option (Name × ℕ)} (Some (record { heap = id; at = at; serial = serial }, n)) (Some (name, k))
+    the_one id serial n own is told =
+        let units : Some n ≡ Some k = sym is ∙ held in
+        let serials : Some serial ≡ Some name.serial = sym told ∙ ap (serial_at h.blocks) same_place ∙ serial_of h name holds.0 lawful holds.2 in
+        let n_is : n ≡ k = cc in
+        let serial_is : serial ≡ name.serial = cc in
+        λ i. Some (record { heap = (own ∙ sym holds.1) i; at = same_place i; serial = serial_is i }, n_is i)
