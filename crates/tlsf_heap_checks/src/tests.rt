@@ -14,4 +14,5 @@ mod mailboxes;
 mod payloads;
 mod pools;
 mod resizes;
+mod table_pools;
 mod words;

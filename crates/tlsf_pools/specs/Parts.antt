@@ -1,18 +1,22 @@
 -- Several heaps, one for each part of a table.
-use Rattle.std.specs.Prelude.{◌≡◌, ℕ, ◌+◌, ◌-◌, ◌*◌, ◌/◌, ◌<◌, ◌≤◌, List, [], ◌∷◌, Option, Some, None, Result, Ok, IfOk, OnErr, OnOk, is_some, length, nat_le, nat_lt, position, replicate, set, slice_index_or, ⊤, ◌&&◌, if◌then◌else◌}
+use Rattle.std.specs.Prelude.{◌≡◌, ℕ, ◌+◌, ◌-◌, ◌*◌, ◌/◌, ◌<◌, ◌≤◌, List, [], ◌∷◌, ◌++◌, Option, Some, None, Result, Ok, IfOk, OnErr, OnOk, is_some, length, nat_le, nat_lt, position, replicate, set, slice_index_or, sum, take, ⊤, ◌&&◌, if◌then◌else◌}
 use Rattle.std.specs.List.{AllByRecursion}
 use Rattle.std.specs.Result.{result_unwrap_or}
 use Rattle.tlsf_heap.specs.Blocks.{want}
 use Rattle.tlsf_heap.specs.Calls.{allocated, opened, read_answer, read_of, released, written}
 use Rattle.tlsf_heap.specs.Given.{payload_words_given}
 use Rattle.tlsf_heap.specs.InPlace.{payload_of}
+use Rattle.tlsf_heap.specs.Placed.{placed_at}
+use Rattle.tlsf_heap.specs.Reports.{report_of}
 use Rattle.tlsf_heap.specs.Touched.{FollowsNoForgery, allocate_touches}
 use Rattle.tlsf_heap.specs.declared.name.Name.{Name}
+use Rattle.tlsf_heap.specs.declared.placed_block.PlacedBlock.{PlacedBlock}
 use Rattle.tlsf_heap.specs.declared.refusal.Refusal.{Refusal}
+use Rattle.tlsf_heap.specs.declared.report.Report.{Report}
 use Rattle.tlsf_laws.specs.Kinds.{kinds_words}
 use Rattle.tlsf_laws.specs.declared.kind.Kind.{Kind}
 use Rattle.tlsf_pool.specs.declared.pool_refusal.PoolRefusal.{PoolRefusal}
-use Rattle.tlsf_pools.specs.Tables.{TableState, IsTable, SameTable, HoldsOneMore, row_of}
+use Rattle.tlsf_pools.specs.Tables.{TableState, IsTable, SameTable, HasPlace, HoldsOneMore, row_of}
 
 -- what several heaps show: the number of the first, and each with its part of the table
 pub record PoolsState : Type 0 where
@@ -39,6 +43,31 @@ named_in id parts name = if nat_le id name.heap && nat_lt (name.heap - id) (leng
 
 abbrev pub part_named : PoolsState → Name → Option ℕ
 part_named p name = named_in p.id p.parts name
+
+-- the rows of these parts, one part behind the other
+abbrev pub rows_in : List TableState → List Kind
+rows_in [] = []
+rows_in (t ∷ parts) = t.kinds ++ rows_in parts
+
+-- how many blocks are held of each of these rows
+abbrev pub held_in : List TableState → List ℕ
+held_in [] = []
+held_in (t ∷ parts) = t.held ++ held_in parts
+
+-- how many rows stand before those of a part
+abbrev pub rows_before : List TableState → ℕ → ℕ
+rows_before parts i = length (rows_in (take i parts))
+
+-- the whole table, and how many blocks are held of each of its rows
+abbrev pub table_of : PoolsState → List Kind
+table_of p = rows_in p.parts
+
+abbrev pub held_by : PoolsState → List ℕ
+held_by p = held_in p.parts
+
+-- this row of the whole table is one of a part
+abbrev pub HasRow : PoolsState → ℕ → ℕ → Type 0
+HasRow p row i = (rows_before p.parts i ≤ row) × (row < rows_before p.parts i + length (part_at p i).kinds)
 
 -- each part is a heap for its table, and their numbers follow one another
 pub record ArePools (sli : ℕ) (p : PoolsState) : Type 0 where
@@ -105,3 +134,20 @@ pub record Reads (old new : TableState) (name : Name) (at : ℕ) (bytes filled :
   pub touches : new.touches ≤ old.touches + 4 + (length bytes / 8 + 2)
   pub rise : old.touches ≤ new.touches
   pub forged : FollowsNoForgery old.heap name old.touches new.touches
+
+-- a report on one, which counts the blocks that are held; no request that has a place is longer than its grant
+pub record Reports (sli : ℕ) (old new : TableState) (report : Report) : Type 0 where
+  pub report_is : report ≡ report_of sli old.heap
+  pub held : report.live_blocks ≡ sum old.held
+  pub grant : (len : ℕ) → HasPlace old len → len ≤ report.grant
+  pub same : SameTable old new
+  pub touches : new.touches ≤ old.touches + 2 * length old.heap.blocks
+  pub few : 4 * length old.heap.blocks ≤ old.heap.words
+  pub rise : old.touches ≤ new.touches
+
+-- a look at what begins at a place of one
+pub record Looks (old new : TableState) (at : ℕ) (answer : Option PlacedBlock) : Type 0 where
+  pub answer_is : answer ≡ placed_at old.heap.blocks at
+  pub same : SameTable old new
+  pub touches : new.touches ≤ old.touches + 4
+  pub rise : old.touches ≤ new.touches

@@ -1,17 +1,17 @@
-ghost use Rattle.std.specs.Prelude.{◌≡◌, ◌≢◌, ◌+◌, ◌≤◌, ◌^◌, ◌↔◌, Err, None, length, IfOk, IfSome, IsSomeAnd, IsOk, IsErrOf};
+ghost use Rattle.std.specs.Prelude.{◌≡◌, ◌≢◌, ◌+◌, ◌<◌, ◌≤◌, ◌^◌, ◌↔◌, Err, None, length, IfOk, IfSome, IsSomeAnd, OnOk, IsOk, IsErrOf};
 ghost use Rattle.tlsf_class.specs.Classes.{IsLevel};
 ghost use Rattle.tlsf_heap.specs.Calls.{allocated, last_tick};
 ghost use Rattle.tlsf_pool.specs.Splits.{HasNoCut, IsLeast, parts_of};
 ghost use Rattle.tlsf_pool.specs.declared.split.Split.{Split};
-ghost use Rattle.tlsf_pools.specs.Tables.{HasPlace, IsFull};
+ghost use Rattle.tlsf_pools.specs.Tables.{HasPlace, HoldsOneMore, IsFull, row_of};
 ghost use Rattle.tlsf_pools.specs.Parts as cut;
-ghost use Rattle.tlsf_pools.specs.Parts.{Allocates, AreNew, ArePools, OnlyPart, Reads, Releases, Writes, part_at};
+ghost use Rattle.tlsf_pools.specs.Parts.{Allocates, AreNew, ArePools, HasRow, Looks, OnlyPart, Reads, Releases, Reports, Writes, held_by, part_at, table_of};
 
 use crate::opening::open_parts;
 use crate::table_pool::TablePool;
 use std::alloc::Global;
 use std::marker::Model;
-use tlsf_heap::{Name, OpenFault, Refusal};
+use tlsf_heap::{Name, OpenFault, PlacedBlock, Refusal, Report};
 use tlsf_laws::Kind;
 use tlsf_pool::{MOST_HEAPS, PoolRefusal, cheapest_split};
 
@@ -74,6 +74,7 @@ impl<const SLI: u32> Pools<SLI> {
         // The heaps are new, for the parts of a way to cut the table that has the fewest words of all.
         ensures new { IfOk result (λ pools. (split : Split) × IsLeast SLI 8 kinds.now split × AreNew SLI id first (parts_of split kinds.now) pools.parts) }
         ensures id { IfOk result (λ pools. pools.id ≡ id) }
+        ensures table { IfOk result (λ pools. table_of pools ≡ kinds.now) }
 
         // The refusals.
         ensures bad_size { IsErrOf result OpenFault.BadSize ↔ HasNoCut SLI 8 kinds.now }
@@ -107,6 +108,13 @@ impl<const SLI: u32> Pools<SLI> {
         ensures allocates { IfSome (cut.part_of self.old len) (λ i. Allocates SLI (part_at self.old i) (part_at self.new i) len result) }
         ensures others { IfSome (cut.part_of self.old len) (OnlyPart self.old self.new) }
         ensures none { cut.part_of self.old len ≡ None → self.new ≡ self.old }
+
+        // In the rows of the whole table: a request counts for the first that is long enough, and its block is of the heap that has this
+        // row. One more is held of it, of all others as many as before.
+        ensures no_row { IsErrOf result PoolRefusal.TooLong ↔ (row_of (table_of self.old) len ≡ None) }
+        ensures row { IfOk result (λ name. IsSomeAnd (row_of (table_of self.old) len) (λ row. IsSomeAnd (cut.part_named self.old name) (HasRow self.old row))) }
+        ensures held { OnOk result (HoldsOneMore (table_of self.old) len (held_by self.old) (held_by self.new)) }
+        ensures kinds { table_of self.new ≡ table_of self.old }
         ensures were_pools { ArePools SLI self.old }
         ensures pools { ArePools SLI self.new }
     {
@@ -129,6 +137,7 @@ impl<const SLI: u32> Pools<SLI> {
         ensures releases { IfSome (cut.part_named self.old name) (λ i. Releases (part_at self.old i) (part_at self.new i) name result) }
         ensures others { IfSome (cut.part_named self.old name) (OnlyPart self.old self.new) }
         ensures foreign { cut.part_named self.old name ≡ None → (result ≡ Err Refusal.Foreign) × (self.new ≡ self.old) }
+        ensures kinds { table_of self.new ≡ table_of self.old }
         ensures were_pools { ArePools SLI self.old }
         ensures pools { ArePools SLI self.new }
     {
@@ -150,6 +159,7 @@ impl<const SLI: u32> Pools<SLI> {
         ensures writes { IfSome (cut.part_named self.old name) (λ i. Writes (part_at self.old i) (part_at self.new i) name at bytes.now result) }
         ensures others { IfSome (cut.part_named self.old name) (OnlyPart self.old self.new) }
         ensures foreign { cut.part_named self.old name ≡ None → (result ≡ Err Refusal.Foreign) × (self.new ≡ self.old) }
+        ensures kinds { table_of self.new ≡ table_of self.old }
         ensures were_pools { ArePools SLI self.old }
         ensures pools { ArePools SLI self.new }
     {
@@ -173,6 +183,7 @@ impl<const SLI: u32> Pools<SLI> {
         ensures reads { IfSome (cut.part_named self.old name) (λ i. Reads (part_at self.old i) (part_at self.new i) name at out.old out.new result) }
         ensures others { IfSome (cut.part_named self.old name) (OnlyPart self.old self.new) }
         ensures foreign { cut.part_named self.old name ≡ None → (result ≡ Err Refusal.Foreign) × (out.new ≡ out.old) × (self.new ≡ self.old) }
+        ensures kinds { table_of self.new ≡ table_of self.old }
         ensures were_pools { ArePools SLI self.old }
         ensures pools { ArePools SLI self.new }
     {
@@ -180,5 +191,65 @@ impl<const SLI: u32> Pools<SLI> {
             return Err(Refusal::Foreign);
         };
         self.parts[part].read(name, at, out)
+    }
+
+    /// What the heap of a part holds, and how well it serves, as [`TablePool::report`] tells. The parts have numbers from 0 on, in the
+    /// order of the table. None where there is no such part, so that a walk from 0 on meets all. Takes no memory.
+    ///
+    /// ```text
+    /// let report = pools.report(1);           // of new pools as above: Some, with 8,704 free words
+    /// pools.report(2) == None
+    /// ```
+    pub fn report(&mut self, part: usize) -> Option<Report>
+        ensures none { (result ≡ None) ↔ (length self.old.parts ≤ part) }
+        ensures reports { IfSome result (Reports SLI (part_at self.old part) (part_at self.new part)) }
+        ensures others { part < length self.old.parts → OnlyPart self.old self.new part }
+        ensures unchanged { length self.old.parts ≤ part → self.new ≡ self.old }
+        ensures kinds { table_of self.new ≡ table_of self.old }
+        ensures were_pools { ArePools SLI self.old }
+        ensures pools { ArePools SLI self.new }
+    {
+        if part >= self.parts.len() {
+            return None;
+        }
+        Some(self.parts[part].report())
+    }
+
+    /// The block that begins at a place in the heap of a part, None where none does or there is no such part, as
+    /// [`TablePool::block_at`] looks. Takes no memory.
+    ///
+    /// ```text
+    /// pools.block_at(1, 0)                    // of new pools as above: Some, with a free block of 8,704 words
+    /// pools.block_at(2, 0) == None
+    /// ```
+    pub fn block_at(&mut self, part: usize, at: u32) -> Option<PlacedBlock>
+        ensures none { length self.old.parts ≤ part → (result ≡ None) × (self.new ≡ self.old) }
+        ensures looks { part < length self.old.parts → Looks (part_at self.old part) (part_at self.new part) at result }
+        ensures others { part < length self.old.parts → OnlyPart self.old self.new part }
+        ensures kinds { table_of self.new ≡ table_of self.old }
+        ensures were_pools { ArePools SLI self.old }
+        ensures pools { ArePools SLI self.new }
+    {
+        if part >= self.parts.len() {
+            return None;
+        }
+        self.parts[part].block_at(at)
+    }
+
+    /// The tick of the heap of a part: that which its next accepted allocate or release stamps, 1 to 2^64 - 1. None where there is no
+    /// such part.
+    ///
+    /// ```text
+    /// pools.tick(1)                           // of new pools as above: Some(1)
+    /// ```
+    pub fn tick(&self, part: usize) -> Option<u64>
+        ensures none { (result ≡ None) ↔ (length self.now.parts ≤ part) }
+        ensures tick { IfSome result (λ tick. tick ≡ (part_at self.now part).heap.tick) }
+        ensures pools { ArePools SLI self.now }
+    {
+        if part >= self.parts.len() {
+            return None;
+        }
+        Some(self.parts[part].tick())
     }
 }

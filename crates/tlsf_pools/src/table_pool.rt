@@ -268,6 +268,7 @@ impl<const SLI: u32> TablePool<SLI> {
         ensures grant { (len : ℕ) → HasPlace self.old len → len ≤ result.grant }
         ensures same { SameTable self.old self.new }
         ensures was_table { IsTable SLI self.old }
+        ensures table { IsTable SLI self.new }
 
         // Two for each block, and no block has fewer than four words.
         ensures touches { self.new.touches ≤ self.old.touches + 2 * length self.old.heap.blocks }
@@ -289,6 +290,7 @@ impl<const SLI: u32> TablePool<SLI> {
         ensures block { result ≡ placed_at self.old.heap.blocks at }
         ensures same { SameTable self.old self.new }
         ensures was_table { IsTable SLI self.old }
+        ensures table { IsTable SLI self.new }
         ensures touches { self.new.touches ≤ self.old.touches + 4 }
         ensures touches_rise { self.old.touches ≤ self.new.touches }
     {
