@@ -62,7 +62,7 @@ returns-clause-idle g c =
     let some = c.in-Some.ensures.some in
     let held = c.held.ensures in
     let left = home_idle a.count a.arena.most c.held.result c.release.new.self.held c.args.at a.idle.items away now c.in-Some.parcel
-        (as_many a.count (a.count - a.arena.held) (a.count - c.held.result) a.idle.items away (ap (λ (j : ℕ). a.count - j) (sym held.held)) c.self.invariant.3) c.self.invariant.2 (e.held ∙ sym held.held) held.few some.0 some.1 in
+    (as_many a.count (a.count - a.arena.held) (a.count - c.held.result) a.idle.items away (ap (λ (j : ℕ). a.count - j) (sym held.held)) c.self.invariant.3) c.self.invariant.2 (e.held ∙ sym held.held) held.few some.0 some.1 in
     let long = c.self.invariant.1 ∙ sym (ap (λ (l : List (Option (Parcel g.row.UNIT))). length l) some.1 ∙ length-set away c.args.at None) in
     let kept = kept_places a.count c.release.new.self.most c.release.new.self.held (set a.idle.items (a.count - c.held.result) c.args.at) now left long (c.self.invariant.2 ∙ sym e.plan.most) (omega (arith, e.held, c.self.invariant.4)) in
     record { all = kept.0; idle = kept.1 }
