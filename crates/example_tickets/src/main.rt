@@ -37,7 +37,8 @@ fn main(rt: HostRuntime) -> Result<(), Error> {
     let (places, mut owner) = open_places(rt.alloc(), 2)?;
     let (low, first) = owner.send_out(&places, 0, vec![in rt.alloc(); 1, 2, 3]?);
     let (high, second) = owner.send_out(&places, 1, vec![in rt.alloc(); 400, 500]?);
-    println!(rt; "home before the workers ran: {}", is_home(&mut owner, &places, 0))?;
+    let early = is_home(&mut owner, &places, 0);
+    println!(rt; "the first is home before the workers ran: {early}")?;
     let shared = &places;
     let (one, two) = join(
         &rt,
@@ -45,8 +46,8 @@ fn main(rt: HostRuntime) -> Result<(), Error> {
         move || sum_up(shared, high, second),
     );
     println!(rt; "the sums are {one} and {two}")?;
-    for at in 0..2 {
-        println!(rt; "place {at} is home: {}", is_home(&mut owner, &places, at))?;
-    }
+    let first_home = is_home(&mut owner, &places, 0);
+    let second_home = is_home(&mut owner, &places, 1);
+    println!(rt; "the first is home: {first_home}, the second: {second_home}")?;
     Ok(())
 }
