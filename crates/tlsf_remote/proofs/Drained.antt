@@ -1,5 +1,5 @@
 -- What a look at each place in turn leaves.
-use Rattle.std.proofs.Common.{◌≡◌, ℕ, zero, suc, ◌+◌, ◌≤◌, Bool, true, false, List, [], ◌∷◌, ◌++◌, length, length-set, set, slice_get, Option, Some, None, refl, sym, ap, ◌∙◌, ◌⊎◌, inl, inr, ⊎_elim, append_assoc, arith}
+use Rattle.std.proofs.Common.{◌≡◌, ℕ, zero, suc, ◌+◌, ◌*◌, ◌≤◌, Bool, true, false, List, [], ◌∷◌, ◌++◌, length, length-set, set, slice_get, Option, Some, None, refl, sym, ap, ◌∙◌, ◌⊎◌, inl, inr, ⊎_elim, append_assoc, arith}
 use Rattle.std.specs.List.{range_with_len}
 use Rattle.std.proofs.lemmas.Bool.{false≢true}
 use Rattle.tlsf_heap.specs.Blocks.{HeapState}
@@ -17,6 +17,7 @@ pub record Drained {u : ℕ} (first now : RemoteState u) (n : ℕ) : Type 0 wher
   pub looks : ¬ (now.arena.heap.tick ≡ last_tick) → now.looks ≡ first.looks ++ range_with_len 0 n
   pub plan : SamePlan first.arena now.arena
   pub long : length now.away ≡ length first.away
+  pub touches : now.arena.touches ≤ first.arena.touches + 64 * n
 
 -- an entry that changed, or another
 either_way : {A : Type 0} (l : List A) (at k : ℕ) (a : A) → (slice_get (set l at a) k ≡ slice_get l k) ⊎ (slice_get (set l at a) k ≡ Some a)
@@ -30,14 +31,17 @@ one_more : (a n : ℕ) → range_with_len a (suc n) ≡ range_with_len a n ++ (a
 one_more a zero = ap (λ (j : ℕ). j ∷ []) (let e : a ≡ a + 0 = omega arith in e)
 one_more a (suc n) = ap (λ (l : List ℕ). a ∷ l) (one_more (a + 1) n ∙ ap (λ (j : ℕ). range_with_len (a + 1) n ++ j ∷ []) (let e : a + 1 + n ≡ a + suc n = omega arith in e))
 
-module _ {u : ℕ} (first old new : RemoteState u) (at : ℕ) (was : Drained first old at) (own : new.places ≡ old.places) (plan : SamePlan old.arena new.arena) where
+pub next_range : (at : ℕ) → range_with_len 0 at ++ at ∷ [] ≡ range_with_len 0 (at + 1)
+next_range at =
+    sym (one_more 0 at ∙ ap (λ (j : ℕ). range_with_len 0 at ++ j ∷ []) (let e : 0 + at ≡ at = omega arith in e)) ∙ ap (λ (j : ℕ). range_with_len 0 j) (let e : suc at ≡ at + 1 = omega arith in e)
+
+module _ {u : ℕ} (first old new : RemoteState u) (at : ℕ) (was : Drained first old at) (own : new.places ≡ old.places) (plan : SamePlan old.arena new.arena) (touches : new.arena.touches ≤ old.arena.touches + 64) where
   plans : SamePlan first.arena new.arena
   plans = record { region = plan.region ∙ was.plan.region; most = plan.most ∙ was.plan.most; longest = plan.longest ∙ was.plan.longest }
 
   seen : (¬ (old.arena.heap.tick ≡ last_tick) → new.looks ≡ old.looks ++ at ∷ []) → ¬ (old.arena.heap.tick ≡ last_tick) → new.looks ≡ first.looks ++ range_with_len 0 (at + 1)
   seen looks fresh =
-      looks fresh ∙ ap (λ (l : List ℕ). l ++ at ∷ []) (was.looks fresh) ∙ append_assoc first.looks (range_with_len 0 at) (at ∷ []) ∙ ap (λ (l : List ℕ). first.looks ++ l) (sym (one_more 0 at ∙ ap (λ (j : ℕ). range_with_len 0 at ++ j ∷ []) (let e : 0 + at ≡ at = omega arith in e)))
-      ∙ ap (λ (j : ℕ). first.looks ++ range_with_len 0 j) (let e : suc at ≡ at + 1 = omega arith in e)
+      looks fresh ∙ ap (λ (l : List ℕ). l ++ at ∷ []) (was.looks fresh) ∙ append_assoc first.looks (range_with_len 0 at) (at ∷ []) ∙ ap (λ (l : List ℕ). first.looks ++ l) (next_range at)
 
   pub one_drained : (result : Bool)
       → (result ≡ true → (b : Parcel u) × (slice_get old.away at ≡ Some (Some b)) × (new.away ≡ set old.away at None) × (new.arena.heap ≡ (released_block u old.arena.heap b.block.name b.block.piece.size).heap) × (new.arena.held + 1 ≡ old.arena.held))
@@ -54,6 +58,7 @@ module _ {u : ℕ} (first old new : RemoteState u) (at : ℕ) (was : Drained fir
         looks = λ last. seen looks fresh;
         plan = plans;
         long = ap (λ (l : List (Option (Parcel u))). length l) h.2 ∙ length-set old.away at None ∙ was.long;
+        touches = omega (arith, was.touches, touches);
       }
   one_drained false home none looks worn =
       let h = none refl in record {
@@ -64,4 +69,5 @@ module _ {u : ℕ} (first old new : RemoteState u) (at : ℕ) (was : Drained fir
         looks = λ last. seen looks (λ before. last (ap (λ (h : HeapState). h.tick) h.1 ∙ before));
         plan = plans;
         long = ap (λ (l : List (Option (Parcel u))). length l) h.0 ∙ was.long;
+        touches = omega (arith, was.touches, touches);
       }

@@ -1,2 +1,3 @@
 pub mod Drained
+pub mod Idle
 pub mod Lent

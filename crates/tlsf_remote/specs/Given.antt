@@ -1,5 +1,5 @@
 -- What a receipt for a block shows.
-use Rattle.std.specs.Prelude.{◌≡◌, ℕ}
+use Rattle.std.specs.Prelude.{ℕ}
 use Rattle.tlsf_remote.specs.declared.parcel.Parcel.{Parcel}
 use Rattle.tlsf_returns.specs.Ends.{IsReceiptFor}
 use Rattle.tlsf_returns.specs.declared.places.Places.{Places}

@@ -1,5 +1,5 @@
 -- An arena whose blocks are away by places.
-use Rattle.std.specs.Prelude.{◌≡◌, ℕ, ◌*◌, List, Option, Some, slice_get}
+use Rattle.std.specs.Prelude.{◌≡◌, ℕ, ◌+◌, ◌*◌, ◌<◌, List, length, count_by, Option, Some, None, is_none, slice_get, slice_set}
 use Rattle.linked_list_allocator.specs.Region.{Region}
 use Rattle.atomic_table.specs.Seated.{TableId}
 use Rattle.tlsf_heap.specs.Blocks.{HeapState}
@@ -18,3 +18,23 @@ pub record RemoteState (u : ℕ) : Type 0 where
 pub record AreAway (u : ℕ) (h : HeapState) (region : Region) (away : List (Option (Parcel u))) : Type 0 where
   pub held : (k : ℕ) (b : Parcel u) → slice_get away k ≡ Some (Some b) → (b.block.piece.region ≡ region) × ((units : ℕ) × (b.block.piece.size ≡ u * units) × Holds h b.block.name units)
   pub apart : (j k : ℕ) (b c : Parcel u) → slice_get away j ≡ Some (Some b) → slice_get away k ≡ Some (Some c) → b.block.name ≡ c.block.name → j ≡ k
+
+-- a block is away from now on by a place by which none was
+abbrev pub IsAwayBy : {u : ℕ} → List (Option (Parcel u)) → List (Option (Parcel u)) → ℕ → Parcel u → Type 0
+IsAwayBy old new at b = (slice_get old at ≡ Some None) × (new ≡ slice_set old at (Some b))
+
+-- by how many places none is away
+abbrev pub idle_places : {u : ℕ} → List (Option (Parcel u)) → ℕ
+idle_places away = count_by is_none away
+
+-- no place is lost: there are as many as blocks may be held, and by all but as many as are held none is away
+pub record NoneLost {u : ℕ} (r : RemoteState u) : Type 0 where
+  pub all : length r.away ≡ r.arena.most
+  pub idle : idle_places r.away + r.arena.held ≡ r.arena.most
+
+-- the first n entries of a list of so many are the places by which none is away, each another one
+pub record AreIdle (u count n : ℕ) (idle : List ℕ) (away : List (Option (Parcel u))) : Type 0 where
+  pub long : length idle ≡ count
+  pub all : idle_places away ≡ n
+  pub free : (k at : ℕ) → k < n → slice_get idle k ≡ Some at → slice_get away at ≡ Some None
+  pub apart : (j k at : ℕ) → j < n → k < n → slice_get idle j ≡ Some at → slice_get idle k ≡ Some at → j ≡ k

@@ -1,5 +1,5 @@
-ghost use Rattle.std.specs.Prelude.{◌≡◌, Some};
-ghost use Rattle.tlsf_returns.specs.Ends.{id_of, ticket_id, value_for};
+ghost use Rattle.std.specs.Prelude.{◌≡◌, ◌^◌, ◌<◌, Some};
+ghost use Rattle.tlsf_returns.specs.Ends.{id_of, place_by, ticket_id, value_for};
 ghost use Rattle.tlsf_remote.specs.Given.{IsGivenBack};
 
 use crate::parcel::Parcel;
@@ -10,7 +10,7 @@ use tlsf_returns::{Places, Receipt, Ticket};
 /// home: the arena's next `drain` releases it. That is never refused, takes no memory and doesn't wait.
 ///
 /// ```text
-/// let block = arena.lend(&places, 0, 512)?;
+/// let block = arena.lend(&places, 512)?;
 /// scope.spawn(move || drop(block))?;
 /// ```
 pub struct RemoteBlock<'a, const UNIT: usize> {
@@ -19,6 +19,7 @@ pub struct RemoteBlock<'a, const UNIT: usize> {
     pub(crate) places: &'a Places<Parcel<UNIT>>,
     ghost paired: { value_for ticket ≡ Some parcel },
     ghost own: { ticket_id ticket ≡ id_of places.now },
+    ghost small: { place_by ticket < 2 ^ 32 },
 }
 
 impl<'a, const UNIT: usize> RemoteBlock<'a, UNIT> {
@@ -49,6 +50,19 @@ impl<'a, const UNIT: usize> RemoteBlock<'a, UNIT> {
                 places,
             },
         )
+    }
+
+    /// The number of the place by which it comes home, as [`RemoteArena::take_home`](crate::RemoteArena::take_home) wants it.
+    ///
+    /// ```text
+    /// let at = block.place();
+    /// drop(block);
+    /// arena.take_home(&places, at) == true
+    /// ```
+    pub fn place(&self) -> u32
+        ensures place { result ≡ place_by self.now.ticket }
+    {
+        self.ticket.place() as u32
     }
 
     /// Gives the block back, as its drop does. The receipt shows that it was put back by its place.

@@ -25,6 +25,7 @@ impl<T> OwnerEnd<T> {
     /// - `own`: it stays the owner's end of its places, and has looked at none.
     /// - `value`, `ticket`, `place`: the very value, and a ticket for it, by this place.
     /// - `away`: it is away by the place, and by each other place what was before.
+    /// - `count`: there are as many places as before.
     ///
     /// ```text
     /// let (value, ticket) = owner.send_out(&places, 0, value);
@@ -37,6 +38,7 @@ impl<T> OwnerEnd<T> {
         ensures ticket { IsTicketFor places.now value result.1 }
         ensures place { place_by result.1 ≡ at }
         ensures away { away_by self.new ≡ slice_set (away_by self.old) at (Some value) }
+        ensures count { length (away_by self.new) ≡ length (away_by self.old) }
     {
         let shared = &places.table.shared;
         let said = Some(value);
@@ -52,6 +54,7 @@ impl<T> OwnerEnd<T> {
     /// - `some`: the value is the one that was away by the place, and none is from now on.
     /// - `none`: it hadn't come home at one moment of the call, and nothing changes.
     /// - `looks`: the place was looked at, once.
+    /// - `count`: there are as many places as before.
     ///
     /// ```text
     /// let value = owner.take(&places, 0);      // None until the ticket's holder has put it
@@ -63,6 +66,7 @@ impl<T> OwnerEnd<T> {
         ensures some { IfSome result (λ x. (slice_get (away_by self.old) at ≡ Some (Some x)) × (away_by self.new ≡ slice_set (away_by self.old) at None)) }
         ensures none { IfNone result (away_by self.new ≡ away_by self.old) }
         ensures looks { looks_of self.new ≡ looks_of self.old ++ at ∷ [] }
+        ensures count { length (away_by self.new) ≡ length (away_by self.old) }
     {
         let shared = &places.table.shared;
         if shared.load::<Look>(&mut self.seat, at) != 1 {

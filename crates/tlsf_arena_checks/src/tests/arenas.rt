@@ -16,9 +16,10 @@ fn blocks_go_out_and_come_back(rt: HostRuntime) -> Result<(), Fail> {
         (a.name.at, b.name.at, arena.report().free_words),
         (0, 7, 53)
     );
+    assert_eq!(rt; arena.free_units(), 53);
     assert!(rt; is_back(&mut arena, a));
     assert!(rt; is_back(&mut arena, b));
-    assert_eq!(rt; arena.report().free_words, 64);
+    assert_eq!(rt; arena.free_units(), 64);
     Ok(())
 }
 

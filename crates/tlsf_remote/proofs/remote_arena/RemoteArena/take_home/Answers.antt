@@ -1,8 +1,11 @@
-use Rattle.std.proofs.Common.{◌≡◌, ◌+◌, Some, None, ap, set, slice_get, subst, ◌∙◌}
+use Rattle.std.proofs.Common.{◌≡◌, ◌+◌, ◌-◌, ℕ, List, Option, Some, None, ap, length, length-set, set, slice_get, subst, sym, ◌∙◌, arith}
 use Rattle.tlsf_arena.specs.Arenas.{released_block}
 use Rattle.tlsf_arena.specs.declared.block.Block.{Block}
-use Rattle.tlsf_returns.specs.Ends.{away_by}
-use Rattle.tlsf_remote.specs.Remotes.{RemoteState}
+use Rattle.tlsf_returns.specs.Ends.{away_by, looks_of, owner_id}
+use Rattle.tlsf_remote.specs.Remotes.{NoneLost, RemoteState, idle_places}
+use Rattle.tlsf_remote.specs.declared.parcel.Parcel.{Parcel}
+use Rattle.tlsf_remote.proofs.Idle.{as_many, home_idle, kept_places, none_lost}
+use Rattle.tlsf_remote.proofs.Lent.{home, never_refused}
 use Rattle.tlsf_remote.proofs.remote_arena.RemoteArena.take_home.Goals as goal
 
 pub returns-clause-home : goal.returns-clause-home
@@ -13,3 +16,53 @@ returns-clause-home g c =
     let all = subst (λ (v : RemoteState g.row.UNIT). (slice_get v.away c.args.at ≡ Some (Some b)) × (away_by c.take.new.self ≡ set v.away c.args.at None)
     × (c.release.new.self.heap ≡ (released_block g.row.UNIT v.arena.heap b.block.name b.block.piece.size).heap) × (c.release.new.self.held + 1 ≡ v.arena.held)) c.self.view_is (some.0, some.1, heap, c.in-Ok.ensures.held) in
     λ yes. (b, all.0, all.1, all.2, all.3)
+
+pub unreachable-requires : goal.unreachable-requires
+unreachable-requires g c =
+    let a = c.self.inside in
+    let e = c.in-Err.ensures in
+    never_refused a.arena.heap a.arena.region (away_by a.owner) c.args.at c.in-Some.parcel c.into_block.result c.in-Err.field-0.0 c.self.invariant.0 c.in-Some.ensures.some.0 c.into_block.ensures (λ last. c.if-tick.false (c.tick.ensures.tick ∙ last)) e.worn e.answer
+
+pub invariant_of-self-in-Ok : goal.invariant_of-self-in-Ok
+invariant_of-self-in-Ok g c =
+    let a = c.self.inside in
+    let e = c.in-Ok.ensures in
+    let away = away_by a.owner in
+    let now = away_by c.take.new.self in
+    let some = c.in-Some.ensures.some in
+    let held = c.held.ensures in (
+      home a.arena.heap c.release.new.self.heap a.arena.region c.release.new.self.region away now c.args.at c.in-Some.parcel c.self.invariant.0 e.plan.region some.1 some.0
+          (λ other units differs h. e.others other units (λ same. differs (same ∙ ap (λ (b : Block g.row.UNIT). b.name) c.into_block.ensures)) h),
+      c.self.invariant.1 ∙ sym (ap (λ (l : List (Option (Parcel g.row.UNIT))). length l) some.1 ∙ length-set away c.args.at None),
+      c.self.invariant.2 ∙ sym e.plan.most,
+      home_idle a.count a.arena.most c.held.result c.release.new.self.held c.args.at a.idle.items away now c.in-Some.parcel
+          (as_many a.count (a.count - a.arena.held) (a.count - c.held.result) a.idle.items away (ap (λ (j : ℕ). a.count - j) (sym held.held)) c.self.invariant.3) c.self.invariant.2 (e.held ∙ sym held.held) held.few some.0 some.1,
+      omega (arith, e.held, c.self.invariant.4),
+    )
+
+pub returns-then-tick-clause-idle : goal.returns-then-tick-clause-idle
+returns-then-tick-clause-idle g c =
+    let a = c.self.inside in
+    let was = none_lost (record { arena = a.arena; away = away_by a.owner; looks = looks_of a.owner; places = owner_id a.owner }) a.count a.idle.items c.self.invariant.3 c.self.invariant.1 c.self.invariant.2 c.self.invariant.4 in
+    subst (λ (v : RemoteState g.row.UNIT). NoneLost v) c.self.view_is was
+
+pub returns-in_default-clause-idle : goal.returns-in_default-clause-idle
+returns-in_default-clause-idle g c =
+    let a = c.self.inside in
+    let kept = kept_places a.count a.arena.most a.arena.held a.idle.items (away_by a.owner) c.self.invariant.3 c.self.invariant.1 c.self.invariant.2 c.self.invariant.4 in
+    let same = subst (λ (away : List (Option (Parcel g.row.UNIT))). (length away ≡ a.arena.most) × (idle_places away + a.arena.held ≡ a.arena.most)) (sym c.in_default.ensures.none) kept in
+    record { all = same.0; idle = same.1 }
+
+pub returns-clause-idle : goal.returns-clause-idle
+returns-clause-idle g c =
+    let a = c.self.inside in
+    let e = c.in-Ok.ensures in
+    let away = away_by a.owner in
+    let now = away_by c.take.new.self in
+    let some = c.in-Some.ensures.some in
+    let held = c.held.ensures in
+    let left = home_idle a.count a.arena.most c.held.result c.release.new.self.held c.args.at a.idle.items away now c.in-Some.parcel
+    (as_many a.count (a.count - a.arena.held) (a.count - c.held.result) a.idle.items away (ap (λ (j : ℕ). a.count - j) (sym held.held)) c.self.invariant.3) c.self.invariant.2 (e.held ∙ sym held.held) held.few some.0 some.1 in
+    let long = c.self.invariant.1 ∙ sym (ap (λ (l : List (Option (Parcel g.row.UNIT))). length l) some.1 ∙ length-set away c.args.at None) in
+    let kept = kept_places a.count c.release.new.self.most c.release.new.self.held (set a.idle.items (a.count - c.held.result) c.args.at) now left long (c.self.invariant.2 ∙ sym e.plan.most) (omega (arith, e.held, c.self.invariant.4)) in
+    record { all = kept.0; idle = kept.1 }

@@ -62,3 +62,10 @@ returns-clause-away g c =
     let first = c.args.self.now.seat in
     let went = owner_sent first.me c.compare_exchange_with.new.seat.me c.split_seat-seat.new.seat.me c.args.at c.args.value c.args.self.now.rests (c.compare_exchange_with.ensures.2 c.args.value refl) c.split_seat-seat.ensures.2 in
     ap (λ (m : Seated g.row.T.Denot). out_by m.0) went
+
+pub returns-clause-count : goal.returns-clause-count
+returns-clause-count g c =
+    let first = c.args.self.now.seat in
+    let third = c.split_seat-seat.new.seat in
+    let went = owner_sent first.me c.compare_exchange_with.new.seat.me third.me c.args.at c.args.value c.args.self.now.rests (c.compare_exchange_with.ensures.2 c.args.value refl) c.split_seat-seat.ensures.2 in
+    sized_as third.me (out_by first.me.0) (looks_by first.me.0) c.args.at (Some c.args.value) went

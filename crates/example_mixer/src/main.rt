@@ -1,0 +1,61 @@
+//! The collections of a mixer in memory that was counted beforehand: at most so many blocks are held at once, of at most so many bytes each,
+//! and an arena of `pool_units` units has room for them, in whatever order they come and go. No voice, sample or note lacks room.
+#![tactic(auto)]
+
+use anyhow::{Error, bail};
+use std::alloc::AllocError;
+use std::collections::BTreeMap;
+use tlsf_arena::DefaultArena;
+use tlsf_pool_arena::pool_units;
+
+/// What a piece has at most: voices in boxes, samples in a line that grows by pushes, and notes in a map.
+const VOICES: u32 = 4;
+
+const SAMPLES: u32 = 1_024;
+
+const NOTES: u32 = 50;
+
+/// The blocks that it holds at once: a box for each voice and the list of them, the map's, the line, and one more while it grows.
+const MOST: u32 = (VOICES + 1) + (1 + (NOTES - 1) / 7) + 1 + 1;
+
+/// The longest of them is the line, with 4 bytes for each sample.
+const LONGEST: u32 = 4 * SAMPLES;
+
+/// A voice that sounds: its note, and how loud each of its partials is.
+#[derive(Drop)]
+struct Voice {
+    note: u32,
+    partials: [f32; 16],
+}
+
+/// Plays a piece, and answers how many units are free where all is held. At the end all of it goes back.
+fn play(memory: &DefaultArena, piece: u32) -> Result<u32, AllocError> {
+    let mut voices = Vec::with_capacity(memory, VOICES as usize)?;
+    let mut notes = BTreeMap::new(memory);
+    let mut line: Vec<f32, &DefaultArena> = Vec::new(memory);
+    for note in 0..VOICES {
+        let partials = [0.5; 16];
+        voices.push(Box::new(memory, Voice { note, partials })?)?;
+    }
+    for note in 0..NOTES {
+        notes.insert(u64::from(note), u64::from(piece))?;
+    }
+    for _ in 0..SAMPLES {
+        line.push(0.25)?;
+    }
+    Ok(memory.free_units())
+}
+
+fn main(rt: HostRuntime) -> Result<(), Error> {
+    let Some(units) = pool_units::<4, 16>(MOST, LONGEST) else {
+        bail!("no arena has so many units");
+    };
+    let memory = DefaultArena::open(rt.alloc(), 0, units)?;
+    println!(rt; "{units} units for {MOST} blocks of up to {LONGEST} bytes")?;
+    for piece in 1..=3 {
+        let free = play(&memory, piece)?;
+        println!(rt; "piece {piece} is played, with {free} units to spare")?;
+    }
+    println!(rt; "{} units are free again", memory.free_units())?;
+    Ok(())
+}
