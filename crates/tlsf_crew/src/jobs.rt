@@ -6,5 +6,6 @@ pub(crate) mod gate;
 pub(crate) mod job;
 pub(crate) mod outcome;
 pub(crate) mod preparation;
+pub(crate) mod running;
 pub(crate) mod work;
 pub(crate) mod work_promise;

@@ -18,7 +18,7 @@ use Rattle.tlsf_calls.specs.declared.entry.Entry.{Entry}
 use Rattle.tlsf_calls.specs.declared.event.Event.{Event}
 use Rattle.tlsf_calls.specs.declared.reply.Reply.{Reply}
 use Rattle.tlsf_calls.specs.declared.reply.Reply.TheVariants.{Made, Freed, Posted, Wrote, Got, Resized, Took, Empty, Drained, Refused}
-use Rattle.tlsf_crew.specs.histories.History.{answer_told, answers_on, call_on_own, calls_on, entries_of, meant, of_heap}
+use Rattle.tlsf_crew.specs.histories.History.{answer_told, answers_on, call_on_own, calls_on, entries_of, meant, name_on_heap}
 use Rattle.tlsf_crew.specs.model.World.{World, replies}
 use Rattle.tlsf_crew.proofs.lemmas.histories.AllEntries.{replies_tell}
 use Rattle.tlsf_crew.proofs.lemmas.histories.JoinedEntries.{HasItsAnswer}
@@ -90,7 +90,7 @@ entry_noted made at t (Allocate len) (Refused (Full name)) even = absurd (true鈮
 entry_noted made at t (Allocate len) (Refused Stranger) even = absurd (true鈮alse even)
 entry_noted made at t (Allocate len) (Refused Unmade) even = absurd (true鈮alse even)
 entry_noted made at t (Release target) (Made name) even = no_answer t _
-entry_noted made at t (Release target) Freed even = by_call t _ heap.Release (of_heap at (meant made target Freed)) (heap.Released (Ok tt)) even (位 name. refl)
+entry_noted made at t (Release target) Freed even = by_call t _ heap.Release (name_on_heap at (meant made target Freed)) (heap.Released (Ok tt)) even (位 name. refl)
 entry_noted made at t (Release target) Posted even = no_answer t _
 entry_noted made at t (Release target) (Wrote n) even = no_answer t _
 entry_noted made at t (Release target) (Got bytes) even = no_answer t _
@@ -99,7 +99,7 @@ entry_noted made at t (Release target) (Took took) even = no_answer t _
 entry_noted made at t (Release target) Empty even = no_answer t _
 entry_noted made at t (Release target) (Drained n) even = no_answer t _
 entry_noted made at t (Release target) (Refused (Heap why)) even =
-    by_call t _ heap.Release (of_heap at (meant made target (Refused (Heap why)))) (heap.Released (Err why)) even (位 name. refl)
+    by_call t _ heap.Release (name_on_heap at (meant made target (Refused (Heap why)))) (heap.Released (Err why)) even (位 name. refl)
 entry_noted made at t (Release target) (Refused (Full name)) even = no_answer t _
 entry_noted made at t (Release target) (Refused Stranger) even = no_answer t _
 entry_noted made at t (Release target) (Refused Unmade) even = no_answer t (call_on_own made at (Release target) (Refused Unmade))

@@ -19,7 +19,7 @@ use Rattle.tlsf_calls.specs.declared.entry.Entry.{Entry}
 use Rattle.tlsf_calls.specs.declared.event.Event.{Event}
 use Rattle.tlsf_calls.specs.declared.reply.Reply.{Reply}
 use Rattle.tlsf_calls.specs.declared.reply.Reply.TheVariants.{Made, Freed, Posted, Wrote, Got, Resized, Took, Empty, Drained, Refused}
-use Rattle.tlsf_crew.specs.histories.History.{answer_told, answers_on, call_on_own, calls_on, entries_of, meant, of_heap}
+use Rattle.tlsf_crew.specs.histories.History.{answer_told, answers_on, call_on_own, calls_on, entries_of, meant, name_on_heap}
 use Rattle.tlsf_crew.specs.model.World.{World, name_of, replies}
 use Rattle.tlsf_crew.proofs.lemmas.histories.AllEntries.{replies_tell}
 use Rattle.tlsf_crew.proofs.lemmas.histories.JoinedEntries.{HasItsAnswer}
@@ -74,8 +74,8 @@ own_freed : (a : Account) (name : Name) (own : Bool) → is_some (option_map hea
 own_freed a name true some = refl
 own_freed a name false some = absurd (true≢false (sym some))
 
-of_freed : (a : Account) (at : ℕ) (o : Option Name) → is_some (option_map heap.Release (of_heap at o)) ≡ true
-    → with_taken a o ≡ account_with a (option_map heap.Release (of_heap at o)) (Some (heap.Released (Ok tt)))
+of_freed : (a : Account) (at : ℕ) (o : Option Name) → is_some (option_map heap.Release (name_on_heap at o)) ≡ true
+    → with_taken a o ≡ account_with a (option_map heap.Release (name_on_heap at o)) (Some (heap.Released (Ok tt)))
 of_freed a at None some = absurd (true≢false (sym some))
 of_freed a at (Some name) some = own_freed a name (name.heap == at) some
 
@@ -121,7 +121,7 @@ entry_accounted made at a (Release target) (Took took) even = no_answer a _
 entry_accounted made at a (Release target) Empty even = no_answer a _
 entry_accounted made at a (Release target) (Drained n) even = no_answer a _
 entry_accounted made at a (Release target) (Refused (Heap why)) even =
-    not_freed a why (of_heap at (name_of made target))
+    not_freed a why (name_on_heap at (name_of made target))
 entry_accounted made at a (Release target) (Refused (Full name)) even = no_answer a _
 entry_accounted made at a (Release target) (Refused Stranger) even = no_answer a _
 entry_accounted made at a (Release target) (Refused Unmade) even = no_answer a (call_on_own made at (Release target) (Refused Unmade))

@@ -18,7 +18,7 @@ use Rattle.tlsf_lines.specs.declared.line.Line.{Line}
 use Rattle.tlsf_lines.specs.declared.line.Line.TheVariants.{Allocate, Release, Write, Read, Resize, Drain, Phase}
 use Rattle.tlsf_trace.specs.OneText.{HasNoDrain, IsNoDrain, IsUncontendedOutput, RaceGivesOneText}
 use Rattle.tlsf_trace.specs.Output.{level_in, yard_of}
-use Rattle.tlsf_trace.specs.RaceOutput.{IsOutputBy, IsQueueRaceOutput, IsRaceText, Racing}
+use Rattle.tlsf_trace.specs.RaceOutput.{IsOutputBy, IsQueueRaceOutput, IsRaceText, RaceRelation}
 use Rattle.tlsf_trace.proofs.RacedPhases.{opened_count}
 
 -- ---- a phase without `d` lines
@@ -70,11 +70,11 @@ free_scripts known phase all (w ∷ workers) (suc j) = free_scripts known phase 
 -- ---- phase after phase
 
 -- two races of the same scripts, which take no post, from the same world tell the same records and leave the same world
-abbrev AreOne : {sli : ℕ} → Racing sli → Type 0
+abbrev AreOne : {sli : ℕ} → RaceRelation sli → Type 0
 AreOne {sli} Races = (w v u : World sli) (scripts : List (List Call)) (records others : List (List Entry)) → OnlyLastDrains scripts
     → Races w scripts records v → Races w scripts others u → (records ≡ others) × (v ≡ u)
 
-same_text : {sli : ℕ} → (Races : Racing sli) → AreOne Races → (n : ℕ) (phases : List (List Line)) (w : World sli) (known : ℕ → Option Name) (text other : List ℕ) → AllByRecursion HasNone phases
+same_text : {sli : ℕ} → (Races : RaceRelation sli) → AreOne Races → (n : ℕ) (phases : List (List Line)) (w : World sli) (known : ℕ → Option Name) (text other : List ℕ) → AllByRecursion HasNone phases
     → IsRaceText Races n w known phases text → IsRaceText Races n w known phases other → text ≡ other
 same_text {sli} Races are_one n [] w known text other all is was = is ∙ sym was
 same_text {sli} Races are_one n (phase ∷ phases) w known text other all (records, v, tail, race, text_is, more) (others, u, end, again, other_is, later) =
@@ -86,7 +86,7 @@ same_text {sli} Races are_one n (phase ∷ phases) w known text other all (recor
     text_is ∙ (ap (λ rs. records_text phase rs n ++ tail) one.0 ∙ (ap (λ t. records_text phase others n ++ t) rest ∙ sym other_is))
 
 -- a whole trace
-output_is_one : {sli : ℕ} → (Races : Racing sli) → AreOne Races → (trace : Trace) (text other : List ℕ) → HasNoDrain trace → IsOutputBy Races trace text → IsOutputBy Races trace other → text ≡ other
+output_is_one : {sli : ℕ} → (Races : RaceRelation sli) → AreOne Races → (trace : Trace) (text other : List ℕ) → HasNoDrain trace → IsOutputBy Races trace text → IsOutputBy Races trace other → text ≡ other
 output_is_one Races are_one trace text other none is was = same_text Races are_one trace.header.workers (phases_of trace.lines) (yard_of trace.header) none_known text other (phases_none trace.lines none) is was
 
 pub one_text : RaceGivesOneText

@@ -4,7 +4,7 @@ use Rattle.tlsf_heap.specs.declared.name.Name.{Name}
 use Rattle.tlsf_calls.specs.declared.entry.Entry.{Entry}
 use Rattle.tlsf_calls.specs.declared.event.Event.{Event}
 use Rattle.tlsf_crew.specs.model.World.{World, replies_behind}
-use Rattle.tlsf_crew.proofs.lemmas.model.InParts.{replies_in_parts, replies_none}
+use Rattle.tlsf_crew.proofs.lemmas.model.InParts.{replies_in_parts, replies_of_nothing}
 use Rattle.tlsf_lines.specs.ReplyLines.{labels_left, reply_text}
 use Rattle.tlsf_lines.proofs.ReplySteps.{reply_text-append}
 
@@ -26,10 +26,10 @@ module _ {sli : ℕ} (w : World sli) (made : List (Option Name)) (part rest : Li
 
 -- no event is left, and so no line
 pub all_told : {sli : ℕ} → (w : World sli) (made : List (Option Name)) (labels : List (Option ℕ)) (text : List ℕ) → text ≡ text ++ reply_text (replies_behind w made []).entries labels
-all_told w made labels text = rw (replies_none w made) (sym (append-nil text))
+all_told w made labels text = rw (replies_of_nothing w made) (sym (append-nil text))
 
 pub all_left : {sli : ℕ} → (w : World sli) (made : List (Option Name)) → w ≡ (replies_behind w made []).world
-all_left w made = rw (replies_none w made) refl
+all_left w made = rw (replies_of_nothing w made) refl
 
 pub all_made : {sli : ℕ} → (w : World sli) (made : List (Option Name)) → made ≡ (replies_behind w made []).made
-all_made w made = rw (replies_none w made) refl
+all_made w made = rw (replies_of_nothing w made) refl

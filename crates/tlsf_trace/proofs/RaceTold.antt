@@ -34,14 +34,14 @@ use Rattle.tlsf_lines.specs.declared.line.Line.{Line}
 use Rattle.tlsf_lines.specs.declared.version.Version.{Version}
 use Rattle.tlsf_lines.specs.declared.version.Version.TheVariants.{One, Two}
 use Rattle.tlsf_trace.specs.Output.{level_in, yard_of}
-use Rattle.tlsf_trace.specs.RaceHistory.{ArePhasesTold, HasHistory, IsPhaseTold, LeadsThrough, LeadsTo, PhaseTold, Accounts, TellsOverLanes, TellsOverQueues, ToldEntry, answers_told, calls_told, history_of, phases_text}
-use Rattle.tlsf_trace.specs.RaceOutput.{IsOutputBy, IsQueueRaceOutput, IsRaceOutput, IsRaceText, Racing}
+use Rattle.tlsf_trace.specs.RaceHistory.{ArePhasesTold, HasHistory, IsPhaseTold, LeadsThrough, LeadsTo, PhaseTold, RecordRelation, TellsOverLanes, TellsOverQueues, ToldEntry, answers_in_history, calls_in_history, history_of, phases_text}
+use Rattle.tlsf_trace.specs.RaceOutput.{IsOutputBy, IsQueueRaceOutput, IsRaceOutput, IsRaceText, RaceRelation}
 use Rattle.tlsf_trace.specs.ReportLines.{report_text}
 
 -- ---- one race
 
 -- what the records of a race tell
-record OneRaceTold {sli : ℕ} (TellsCalls : Accounts) (w : World sli) (scripts : List (List Call)) (records : List (List Entry)) (v : World sli) : Type 0 where
+record OneRaceTold {sli : ℕ} (TellsCalls : RecordRelation) (w : World sli) (scripts : List (List Call)) (records : List (List Entry)) (v : World sli) : Type 0 where
   made : ℕ → List (Option Name)
   count : length v.heaps ≡ length w.heaps
   told : (j : ℕ) → j < length w.heaps → TellsCalls (length w.heaps) j (script_of scripts j ++ last_call ∷ []) (made j) (record_of records j)
@@ -50,7 +50,7 @@ record OneRaceTold {sli : ℕ} (TellsCalls : Accounts) (w : World sli) (scripts 
   runs : (j : ℕ) → j < length w.heaps → RunsTo sli (heap_in w j) (calls_on j (made j) (record_of records j)) (answers_on j (record_of records j)) (heap_in v j)
   answered : (j : ℕ) → j < length w.heaps → All (HasItsAnswer (made j) (length w.heaps)) (record_of records j)
 
-abbrev AllRacesTold : {sli : ℕ} → Accounts → Racing sli → Type 0
+abbrev AllRacesTold : {sli : ℕ} → RecordRelation → RaceRelation sli → Type 0
 AllRacesTold {sli} TellsCalls Races = (w v : World sli) (scripts : List (List Call)) (records : List (List Entry)) → Races w scripts records v → OneRaceTold TellsCalls w scripts records v
 
 lanes_tell : {sli : ℕ} → AllRacesTold {sli = sli} TellsOverLanes IsRace
@@ -86,7 +86,7 @@ record IsBetween {sli : ℕ} (n : ℕ) (w : World sli) : Type 0 where
   count : length w.heaps ≡ n
   none : (i j : ℕ) → w.waiting i j ≡ []
 
-phase_told : {sli : ℕ} {TellsCalls : Accounts} {w v : World sli} {records : List (List Entry)} (n : ℕ) (known : ℕ → Option Name) (lines : List Line) → IsBetween n w
+phase_told : {sli : ℕ} {TellsCalls : RecordRelation} {w v : World sli} {records : List (List Entry)} (n : ℕ) (known : ℕ → Option Name) (lines : List Line) → IsBetween n w
     → (one : OneRaceTold TellsCalls w (scripts_in n known lines) records v) → IsPhaseTold TellsCalls n known lines (record { made = one.made; records = records })
 phase_told {TellsCalls = TellsCalls} {records = records} n known lines between one = record {
   told = λ j j_in.
@@ -106,11 +106,11 @@ HasAnswers j x = length (calls_on j x.made (x.entry ∷ [])) ≡ length (answers
 abbrev in_history : List (Option Name) → List Entry → List ToldEntry
 in_history made entries = map (λ e. record { made = made; entry = e }) entries
 
-record_calls : (j : ℕ) (made : List (Option Name)) (entries : List Entry) → calls_told j (in_history made entries) ≡ calls_on j made entries
+record_calls : (j : ℕ) (made : List (Option Name)) (entries : List Entry) → calls_in_history j (in_history made entries) ≡ calls_on j made entries
 record_calls j made [] = refl
 record_calls j made (e ∷ es) = ap (λ l. calls_on j made (e ∷ []) ++ l) (record_calls j made es) ∙ sym (told_then (λ e. call_on_own made e.worker e.call e.reply) j (e ∷ []) es)
 
-record_answers : (j : ℕ) (made : List (Option Name)) (entries : List Entry) → answers_told j (in_history made entries) ≡ answers_on j entries
+record_answers : (j : ℕ) (made : List (Option Name)) (entries : List Entry) → answers_in_history j (in_history made entries) ≡ answers_on j entries
 record_answers j made [] = refl
 record_answers j made (e ∷ es) = ap (λ l. answers_on j (e ∷ []) ++ l) (record_answers j made es) ∙ sym (told_then (λ e. answer_told e.call e.reply) j (e ∷ []) es)
 
@@ -120,20 +120,20 @@ record_answered j n made (e ∷ es) j_in each =
     let one = All-cons (HasItsAnswer made n) e [] (All-head (HasItsAnswer made n) e es each) (All-nil (HasItsAnswer made n)) in
     All-cons (HasAnswers j) (record { made = made; entry = e }) (in_history made es) (as_many made n j (e ∷ []) j_in one) (record_answered j n made es j_in (All-tail (HasItsAnswer made n) e es each))
 
-even : (j : ℕ) (history : List ToldEntry) → All (HasAnswers j) history → length (calls_told j history) ≡ length (answers_told j history)
+even : (j : ℕ) (history : List ToldEntry) → All (HasAnswers j) history → length (calls_in_history j history) ≡ length (answers_in_history j history)
 even j [] each = refl
 even j (x ∷ xs) each =
     let one = All-head (HasAnswers j) x xs each in
     let rest = even j xs (All-tail (HasAnswers j) x xs each) in
-    let calls = length-append (calls_on j x.made (x.entry ∷ [])) (calls_told j xs) in
-    let answers = length-append (answers_on j (x.entry ∷ [])) (answers_told j xs) in
+    let calls = length-append (calls_on j x.made (x.entry ∷ [])) (calls_in_history j xs) in
+    let answers = length-append (answers_on j (x.entry ∷ [])) (answers_in_history j xs) in
     omega arith
 
 leads_then : {sli : ℕ} (j : ℕ) (h g k : HeapState) (xs ys : List ToldEntry) → LeadsTo sli j h xs g → LeadsTo sli j g ys k → LeadsTo sli j h (xs ++ ys) k
 leads_then j h g k xs ys a b =
     let calls = flat_map-append (λ (x : ToldEntry). calls_on j x.made (x.entry ∷ [])) xs ys in
     let answers = flat_map-append (λ (x : ToldEntry). answers_on j (x.entry ∷ [])) xs ys in
-    rw (calls, answers) (runs_then h g k (calls_told j xs) (calls_told j ys) (answers_told j xs) (answers_told j ys) a b)
+    rw (calls, answers) (runs_then h g k (calls_in_history j xs) (calls_in_history j ys) (answers_in_history j xs) (answers_in_history j ys) a b)
 
 -- behind some of a history that starts in a lawful heap
 leads_through : {sli : ℕ} (j : ℕ) (h last : HeapState) (before later : List ToldEntry) → IsLevel sli → IsLawful h → All (HasAnswers j) (before ++ later) → LeadsTo sli j h (before ++ later) last
@@ -142,13 +142,13 @@ leads_through {sli} j h last before later level lawful each leads =
     let front : All (HasAnswers j) before = subst (All (HasAnswers j)) (take-append_seam before later) (All-take (HasAnswers j) (length before) (before ++ later) each) in
     let calls = flat_map-append (λ (x : ToldEntry). calls_on j x.made (x.entry ∷ [])) before later in
     let answers = flat_map-append (λ (x : ToldEntry). answers_on j (x.entry ∷ [])) before later in
-    let both = run_split h last (calls_told j before) (calls_told j later) (answers_told j before) (answers_told j later) (even j before front) (rw (calls, answers) at leads) in
-    record { between = (heap.run sli h (calls_told j before)).1; first = both.0; lawful = lawful_run sli level h (calls_told j before) lawful; rest = both.1 }
+    let both = run_split h last (calls_in_history j before) (calls_in_history j later) (answers_in_history j before) (answers_in_history j later) (even j before front) (rw (calls, answers) at leads) in
+    record { between = (heap.run sli h (calls_in_history j before)).1; first = both.0; lawful = lawful_run sli level h (calls_in_history j before) lawful; rest = both.1 }
 
 -- ---- phase after phase
 
 -- what the text of some phases tells, from a world on
-record PhasesTell {sli : ℕ} (TellsCalls : Accounts) (n : ℕ) (w : World sli) (known : ℕ → Option Name) (phases : List (List Line)) (text : List ℕ) : Type 0 where
+record PhasesTell {sli : ℕ} (TellsCalls : RecordRelation) (n : ℕ) (w : World sli) (known : ℕ → Option Name) (phases : List (List Line)) (text : List ℕ) : Type 0 where
   told : List PhaseTold
   world : World sli
   count : length world.heaps ≡ n
@@ -157,7 +157,7 @@ record PhasesTell {sli : ℕ} (TellsCalls : Accounts) (n : ℕ) (w : World sli) 
   heaps : (j : ℕ) → j < n → LeadsTo sli j (heap_in w j) (history_of j told) (heap_in world j)
   answered : (j : ℕ) → j < n → All (HasAnswers j) (history_of j told)
 
-phases_tell : {sli : ℕ} {TellsCalls : Accounts} {Races : Racing sli} → AllRacesTold TellsCalls Races → (n : ℕ) (phases : List (List Line)) (w : World sli) (known : ℕ → Option Name) (text : List ℕ)
+phases_tell : {sli : ℕ} {TellsCalls : RecordRelation} {Races : RaceRelation sli} → AllRacesTold TellsCalls Races → (n : ℕ) (phases : List (List Line)) (w : World sli) (known : ℕ → Option Name) (text : List ℕ)
     → IsBetween n w → IsRaceText Races n w known phases text → PhasesTell TellsCalls n w known phases text
 phases_tell tell n [] w known text between is = record {
   told = [];
@@ -202,7 +202,7 @@ yard_heap sli header j j_in = get_or-map-range_with_len (λ j. opened j header.w
 yard_count : (sli : ℕ) (header : Header) → length (yard_of {sli = sli} header).heaps ≡ header.workers
 yard_count sli header = length-map-range_with_len (λ j. opened j header.words 0) 0 header.workers
 
-output_told : (TellsCalls : Accounts) (trace : Trace) (Races : Racing (level_in trace.header)) → AllRacesTold TellsCalls Races → (text : List ℕ) → IsOutputBy Races trace text → HasHistory TellsCalls trace text
+output_told : (TellsCalls : RecordRelation) (trace : Trace) (Races : RaceRelation (level_in trace.header)) → AllRacesTold TellsCalls Races → (text : List ℕ) → IsOutputBy Races trace text → HasHistory TellsCalls trace text
 output_told TellsCalls trace Races tell text is =
     let w = yard_of {sli = level_in trace.header} trace.header in
     let all = phases_tell {Races = Races} tell trace.header.workers (phases_of trace.lines) w none_known text (record { count = yard_count (level_in trace.header) trace.header; none = λ i j. refl }) is in

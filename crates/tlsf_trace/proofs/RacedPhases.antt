@@ -13,7 +13,7 @@ use Rattle.tlsf_crew.specs.worker.Workers.{heap_of}
 use Rattle.tlsf_crew.specs.model.World.{World}
 use Rattle.tlsf_crew.specs.lanes.Yard.{world_of}
 use Rattle.tlsf_lines.specs.Phases.{known_below, none_known, phases_of}
-use Rattle.tlsf_trace.specs.RaceOutput.{IsOutputBy, IsRaceText, Racing}
+use Rattle.tlsf_trace.specs.RaceOutput.{IsOutputBy, IsRaceText, RaceRelation}
 use Rattle.tlsf_lines.specs.Records.{records_text}
 use Rattle.tlsf_trace.specs.Output.{yard_of}
 use Rattle.tlsf_trace.specs.RaceSoFar.{IsPhaseRaced, IsRaceSoFar, RacePoint, race_start}
@@ -72,7 +72,7 @@ has_raced yard was left scripts records is kind whole race =
     })
 
 -- before the first phase
-pub none_raced : {sli : ℕ} → (Races : Racing sli) (n : ℕ) (phases : List (List Line)) (from : RacePoint sli) (learnt : ℕ → Option Name) → learnt ≡ from.known
+pub none_raced : {sli : ℕ} → (Races : RaceRelation sli) (n : ℕ) (phases : List (List Line)) (from : RacePoint sli) (learnt : ℕ → Option Name) → learnt ≡ from.known
     → IsRaceSoFar Races n phases phases from (record { world = from.world; known = learnt; text = from.text })
 none_raced Races n phases from learnt is = record {
   told = [];
@@ -81,7 +81,7 @@ none_raced Races n phases from learnt is = record {
 }
 
 -- one phase more
-one_raced : {sli n : ℕ} {Races : Racing sli} {phases left : List (List Line)} {phase : List Line} {from between to : RacePoint sli}
+one_raced : {sli n : ℕ} {Races : RaceRelation sli} {phases left : List (List Line)} {phase : List Line} {from between to : RacePoint sli}
     → IsRaceSoFar Races n phases (phase ∷ left) from between → IsPhaseRaced Races n phase between to → IsRaceSoFar Races n phases left from to
 one_raced {n = n} {Races = Races} {phases = phases} {left = left} {phase = phase} {from = from} {between = between} {to = to} before one =
     let lines = records_text phase one.records n in
@@ -104,14 +104,14 @@ pub few_behind : (behind : Option (Bor (List Line))) (n : ℕ) → IfSome behind
 few_behind None n shorter few = tt
 few_behind (Some rest) n shorter few = omega (arith, shorter, few)
 
-pub more_raced : {sli n : ℕ} {Races : Racing sli} {phases : List (List Line)} {phase : List Line} {from between to : RacePoint sli} (rest behind : Option (Bor (List Line))) (lines : Bor (List Line))
+pub more_raced : {sli n : ℕ} {Races : RaceRelation sli} {phases : List (List Line)} {phase : List Line} {from between to : RacePoint sli} (rest behind : Option (Bor (List Line))) (lines : Bor (List Line))
     → rest ≡ Some lines → phases_of lines.now ≡ phase ∷ phases_left behind
     → IsRaceSoFar Races n phases (phases_left rest) from between → IsPhaseRaced Races n phase between to → IsRaceSoFar Races n phases (phases_left behind) from to
 more_raced {n = n} {Races = Races} {phases = phases} {from = from} {between = between} rest behind lines is first before one =
     one_raced (subst (λ left. IsRaceSoFar Races n phases left from between) (ap phases_left is ∙ first) before) one
 
 -- the lines of the heaps behind those of all phases
-pub all_raced : {sli n : ℕ} {Races : Racing sli} {from to : RacePoint sli} (header : Header) (lines : List Line) (out : List ℕ) → n ≡ header.workers → from ≡ race_start header
+pub all_raced : {sli n : ℕ} {Races : RaceRelation sli} {from to : RacePoint sli} (header : Header) (lines : List Line) (out : List ℕ) → n ≡ header.workers → from ≡ race_start header
     → IsRaceSoFar Races n (phases_of lines) [] from to → out ≡ to.text ++ report_text sli to.world.heaps → IsOutputBy Races (record { header = header; lines = lines }) out
 all_raced {sli} {n = n} {Races = Races} {from = from} {to = to} header lines out count start raced out_is =
     let reports = report_text sli to.world.heaps in

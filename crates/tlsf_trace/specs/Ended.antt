@@ -59,6 +59,6 @@ pub record IsFaultBefore (fault : TraceFault) (left : Option (List ℕ)) : Type 
   pub too_long : fault ≡ too_long_fault → IfSome left IsTooLong
 
 -- the trace that was left has run to its end, or its fault is told
-abbrev pub Ends : Result Ended TraceFault → Option (List ℕ) → Option (List ℕ) → Type 0
-Ends (Ok ended) left left' = HasEnded ended left left'
-Ends (Err fault) left left' = IsFaultBefore fault left
+abbrev pub RunsToEnd : Result Ended TraceFault → Option (List ℕ) → Option (List ℕ) → Type 0
+RunsToEnd (Ok ended) left left' = HasEnded ended left left'
+RunsToEnd (Err fault) left left' = IsFaultBefore fault left

@@ -25,13 +25,13 @@ use Rattle.tlsf_trace.specs.ReportLines.{report_text}
 -- ---- one phase
 
 -- a record gives an account of the calls of one of so many workers: each once and in order, with the name that it made
-abbrev pub Accounts : Type 1
-Accounts = ℕ → ℕ → List Call → List (Option Name) → List Entry → Type 0
+abbrev pub RecordRelation : Type 1
+RecordRelation = ℕ → ℕ → List Call → List (Option Name) → List Entry → Type 0
 
-abbrev pub TellsOverLanes : Accounts
+abbrev pub TellsOverLanes : RecordRelation
 TellsOverLanes n at calls made entries = Tells n [] (events_by at calls) made entries
 
-abbrev pub TellsOverQueues : Accounts
+abbrev pub TellsOverQueues : RecordRelation
 TellsOverQueues n at calls made entries = TellsQueue n at [] calls made entries
 
 -- a phase as it was told: the names that each worker's calls made, and the records
@@ -40,7 +40,7 @@ pub record PhaseTold : Type 0 where
   pub records : List (List Entry)
 
 -- a phase of these lines was told, in which labels stood for these names at first
-pub record IsPhaseTold (TellsCalls : Accounts) (n : ℕ) (known : ℕ → Option Name) (lines : List Line) (p : PhaseTold) : Type 0 where
+pub record IsPhaseTold (TellsCalls : RecordRelation) (n : ℕ) (known : ℕ → Option Name) (lines : List Line) (p : PhaseTold) : Type 0 where
   -- record j tells the lines of worker j, each once and in their order, and then the last drain
   pub told : (j : ℕ) → j < n → TellsCalls n j (script_in known lines j ++ last_call ∷ []) (p.made j) (record_of p.records j)
   -- what i was answered to have posted to j is what j took from i, in order and each once: nothing waits for the next phase
@@ -49,7 +49,7 @@ pub record IsPhaseTold (TellsCalls : Accounts) (n : ℕ) (known : ℕ → Option
 -- ---- one phase after another
 
 -- each phase was told, where labels stood for these names before the first; each phase gives names to those behind it
-abbrev pub ArePhasesTold : Accounts → ℕ → (ℕ → Option Name) → List (List Line) → List PhaseTold → Type 0
+abbrev pub ArePhasesTold : RecordRelation → ℕ → (ℕ → Option Name) → List (List Line) → List PhaseTold → Type 0
 ArePhasesTold TellsCalls n known [] [] = ⊤
 ArePhasesTold TellsCalls n known (lines ∷ phases) (p ∷ told) =
     IsPhaseTold TellsCalls n known lines p × ArePhasesTold TellsCalls n (known_below known lines p.records n) phases told
@@ -73,15 +73,15 @@ abbrev pub history_of : ℕ → List PhaseTold → List ToldEntry
 history_of j told = flat_map (λ p. map (λ e. record { made = p.made j; entry = e }) (record_of p.records j)) told
 
 -- the calls on heap j that some of its history tells, and the answers to them
-abbrev pub calls_told : ℕ → List ToldEntry → List heap.Call
-calls_told j history = flat_map (λ x. calls_on j x.made (x.entry ∷ [])) history
+abbrev pub calls_in_history : ℕ → List ToldEntry → List heap.Call
+calls_in_history j history = flat_map (λ x. calls_on j x.made (x.entry ∷ [])) history
 
-abbrev pub answers_told : ℕ → List ToldEntry → List heap.Answer
-answers_told j history = flat_map (λ x. answers_on j (x.entry ∷ [])) history
+abbrev pub answers_in_history : ℕ → List ToldEntry → List heap.Answer
+answers_in_history j history = flat_map (λ x. answers_on j (x.entry ∷ [])) history
 
 -- the calls that some of its history tells, run in turn on heap j, give the answers that it tells and leave the other heap
 abbrev pub LeadsTo : ℕ → ℕ → HeapState → List ToldEntry → HeapState → Type 0
-LeadsTo sli j h history g = RunsTo sli h (calls_told j history) (answers_told j history) g
+LeadsTo sli j h history g = RunsTo sli h (calls_in_history j history) (answers_in_history j history) g
 
 -- some of it leads to a lawful heap, and the rest from there to the last one
 pub record LeadsThrough (sli j : ℕ) (h : HeapState) (before later : List ToldEntry) (last : HeapState) : Type 0 where
@@ -94,7 +94,7 @@ pub record LeadsThrough (sli j : ℕ) (h : HeapState) (before later : List ToldE
 
 -- the text is that of the records of the trace's phases and of the report of its heaps behind the last, and each heap has one
 -- history from the first line to that report
-pub record HasHistory (TellsCalls : Accounts) (trace : Trace) (text : List ℕ) : Type 0 where
+pub record HasHistory (TellsCalls : RecordRelation) (trace : Trace) (text : List ℕ) : Type 0 where
   pub told : List PhaseTold
   pub world : World (level_in trace.header)
   pub count : length world.heaps ≡ trace.header.workers

@@ -8,7 +8,7 @@ use Rattle.tlsf_crew.specs.races.Race.{IsRace}
 use Rattle.tlsf_crew.specs.model.World.{World}
 use Rattle.tlsf_crew.specs.lanes.Yard.{world_of, IsYard}
 use Rattle.tlsf_trace.specs.Output.{level_in}
-use Rattle.tlsf_trace.specs.RaceOutput.{IsOutputBy, Racing}
+use Rattle.tlsf_trace.specs.RaceOutput.{IsOutputBy, RaceRelation}
 use Rattle.tlsf_trace.specs.Replay.{Outputs}
 use Rattle.tlsf_trace.specs.declared.raced_yard.PortKind.{PortKind}
 use Rattle.tlsf_trace.specs.declared.raced_yard.PortKind.TheVariants.{Lanes, Queues}
@@ -16,7 +16,7 @@ use Rattle.tlsf_trace.specs.declared.raced_yard.RacedYard.{RacedYard}
 use Rattle.tlsf_trace.specs.declared.raced_yard.RacedYard.TheVariants.{OverLanes, OverQueues}
 
 -- what a race over ports of a kind may leave
-abbrev pub races_over : PortKind → {sli : ℕ} → Racing sli
+abbrev pub races_over : PortKind → {sli : ℕ} → RaceRelation sli
 races_over Lanes = IsRace
 races_over Queues = IsQueueRace
 

@@ -1,7 +1,7 @@
 //! A trace that has run to its end, for those who look at what it leaves.
 ghost use Rattle.std.specs.Prelude.{◌≡◌, IfOk};
 ghost use Rattle.tlsf_class.specs.Classes.{IsLevel};
-ghost use Rattle.tlsf_trace.specs.Ended.{calls_in, Ends, IsEnd};
+ghost use Rattle.tlsf_trace.specs.Ended.{calls_in, RunsToEnd, IsEnd};
 ghost use Rattle.tlsf_lines.specs.Ranges.{IsHeaderInRange};
 ghost use Rattle.tlsf_lines.specs.ScriptSoFar.{IsScript};
 ghost use Rattle.tlsf_lines.specs.Trace.{Trace};
@@ -91,7 +91,7 @@ fn run_script<const SLI: u32>(alloc: Global, script: Script) -> Result<EndedTrac
 ///
 /// Those of [`replay`](crate::replay) but 17, since nothing is written.
 pub fn run_to_end<R: Read>(alloc: Global, reader: &mut R) -> Result<Ended, TraceFault>
-    ensures { Ends result (R.remaining reader.old) (R.remaining reader.new) }
+    ensures { RunsToEnd result (R.remaining reader.old) (R.remaining reader.new) }
 {
     let text = read_all(alloc, reader)?;
     let script = script_in(alloc, &text)?;

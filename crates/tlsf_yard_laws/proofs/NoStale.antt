@@ -18,7 +18,7 @@ use Rattle.tlsf_calls.specs.declared.crew_refusal.CrewRefusal.TheVariants.{Heap,
 use Rattle.tlsf_calls.specs.declared.target.Target.{Target}
 use Rattle.tlsf_calls.specs.declared.took.Took.{Took}
 use Rattle.tlsf_crew.specs.model.World.{World, heap_in, name_of}
-use Rattle.tlsf_crew.specs.histories.History.{StandsBehind, answer_told, call_on_own, entries_of, meant, of_heap, post_of_release, posts_made, posts_taken}
+use Rattle.tlsf_crew.specs.histories.History.{StandsBehind, answer_told, call_on_own, entries_of, meant, name_on_heap, post_of_release, posts_made, posts_taken}
 use Rattle.tlsf_crew.specs.races.Race.{record_of}
 use Rattle.tlsf_crew.proofs.lemmas.race_laws.SameDrains.{own_post, ran_take, take_entry}
 use Rattle.tlsf_crew.proofs.lemmas.histories.LaneCalls.{of_other, of_same}
@@ -90,7 +90,7 @@ record Posts (j : ℕ) (made : List (Option Name)) (e : Entry) (name : Name) : T
   reply : e.reply ≡ Posted
   heap : name.heap ≡ j
 
-named_post : (j i : ℕ) (made : List (Option Name)) (target : Target) (o : Option Name) (p : Post) → option_map (λ name. record { from = i; name = name }) (of_heap j o) ≡ Some p → (o ≡ Some p.name) × ((p.name).heap ≡ j)
+named_post : (j i : ℕ) (made : List (Option Name)) (target : Target) (o : Option Name) (p : Post) → option_map (λ name. record { from = i; name = name }) (name_on_heap j o) ≡ Some p → (o ≡ Some p.name) × ((p.name).heap ≡ j)
 named_post j i made target None p e = cc
 named_post j i made target (Some name) p e = elim (cases_eq name.heap j) [
   | inl here ↦
@@ -149,7 +149,7 @@ not_written : (o : Option Name) (f : Name → heap.Call) (own : Name) → ((name
 not_written None f own ne e = cc
 not_written (Some name) f own ne e = let q : f name ≡ heap.Release own = cc in ne name q
 
-own_name : (j : ℕ) (o : Option Name) (own : Name) → option_map heap.Release (of_heap j o) ≡ Some (heap.Release own) → o ≡ Some own
+own_name : (j : ℕ) (o : Option Name) (own : Name) → option_map heap.Release (name_on_heap j o) ≡ Some (heap.Release own) → o ≡ Some own
 own_name j None own e = cc
 own_name j (Some name) own e = elim (cases_eq name.heap j) [
   | inl here ↦

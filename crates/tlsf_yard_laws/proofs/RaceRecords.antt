@@ -13,15 +13,15 @@ use Rattle.tlsf_calls.specs.declared.crew_refusal.CrewRefusal.TheVariants.{Stran
 use Rattle.tlsf_calls.specs.declared.entry.Entry.{Entry}
 use Rattle.tlsf_calls.specs.declared.reply.Reply.{Reply}
 use Rattle.tlsf_calls.specs.declared.reply.Reply.TheVariants.{Took as Taken, Drained, Refused}
-use Rattle.tlsf_crew.specs.model.QueueTold.{MayTellQueue, MayTellQueueAll, IsFromOther, told_reply, told_takes}
+use Rattle.tlsf_crew.specs.model.QueueProgress.{MayTellQueue, MayTellQueueAll, IsFromOther, with_reply, with_takes}
 use Rattle.tlsf_crew.specs.race_laws.Alone.{TakesNoPost}
 use Rattle.tlsf_crew.specs.scripts.Scripts.{last_call, script_of}
 use Rattle.tlsf_crew.specs.races.Race.{record_of}
 use Rattle.tlsf_crew.specs.histories.History.{RunsThrough, RunsTo, answers_on, calls_on, post_of_take, posts_made, posts_taken}
-use Rattle.tlsf_crew.specs.model.Told.{Told, MayTell, MayTellAll, untold}
+use Rattle.tlsf_crew.specs.model.Progress.{Progress, MayTell, MayTellAll, untold}
 use Rattle.tlsf_crew.specs.model.World.{World, Replayed, called, draining, heap_in, taking}
 use Rattle.tlsf_crew.proofs.lemmas.race_laws.QueueRecords.{queue_race_answered, queue_race_runs}
-use Rattle.tlsf_crew.proofs.lemmas.races.QueueTakes.{none_of_others, takes_take}
+use Rattle.tlsf_crew.proofs.lemmas.races.QueueTakes.{none_of_others, takes_of_posts}
 use Rattle.tlsf_crew.proofs.lemmas.race_laws.AloneRuns.{takes_none}
 use Rattle.tlsf_crew.proofs.lemmas.race_laws.RecordHistory.{race_answered, race_runs}
 use Rattle.tlsf_crew.proofs.lemmas.race_laws.SameDrains.{drain_apart, nothing_before}
@@ -55,13 +55,13 @@ Away n at k = k ≢ at → n ≤ k
 behind_none : (k at : ℕ) (before own after : List Entry) → after ≡ before ++ own → posts_taken k at before ≡ [] → posts_taken k at own ≡ [] → posts_taken k at after ≡ []
 behind_none k at before own after e none own_none = ap (posts_taken k at) e ∙ (taken_then k at before own ∙ (ap (λ l. l ++ posts_taken k at own) none ∙ own_none))
 
-quiet_away : (sli : ℕ) (n at k : ℕ) (s t : Told) (call : Call) → at < n → TakesNoPost call → MayTell sli n at s call t → posts_taken k at s.entries ≡ [] → posts_taken k at t.entries ≡ []
+quiet_away : (sli : ℕ) (n at k : ℕ) (s t : Progress) (call : Call) → at < n → TakesNoPost call → MayTell sli n at s call t → posts_taken k at s.entries ≡ [] → posts_taken k at t.entries ≡ []
 quiet_away sli n at k s t call at_in free m none =
     let r : Replayed sli = record { made = s.made; entries = s.entries; world = m.0 } in
     let c = called_told (called r at call).made r at call (omega (arith, at_in, m.1.0)) (called_knows r at call) in
-    behind_none k at s.entries c.own t.entries (sym (ap (λ (t : Told). t.entries) m.2) ∙ c.entries) none (takes_none k at at s.made call c.name c.own free c.tells)
+    behind_none k at s.entries c.own t.entries (sym (ap (λ (t : Progress). t.entries) m.2) ∙ c.entries) none (takes_none k at at s.made call c.name c.own free c.tells)
 
-drain_away : (sli : ℕ) (n at k most : ℕ) (s t : Told) → at < n → Away n at k → MayTell sli n at s (Drain most) t → posts_taken k at s.entries ≡ [] → posts_taken k at t.entries ≡ []
+drain_away : (sli : ℕ) (n at k most : ℕ) (s t : Progress) → at < n → Away n at k → MayTell sli n at s (Drain most) t → posts_taken k at s.entries ≡ [] → posts_taken k at t.entries ≡ []
 drain_away sli n at k most s t at_in far m none =
     let x = m.0 in
     let r : Replayed sli = record { made = s.made; entries = s.entries; world = x } in
@@ -70,15 +70,15 @@ drain_away sli n at k most s t at_in far m none =
     let same : v.world.waiting k at ≡ x.waiting k at = drain_apart r at most k (λ ne. let le = far ne in omega (arith, le, m.1.0)) in
     let own = nothing_before (posts_taken k at c.own) (x.waiting k at)
     (sym (append-nil (x.waiting k at)) ∙ (sym (ap (λ l. x.waiting k at ++ l) (drain_makes k at at most s.made c.own c.tells.1)) ∙ (c.history.posts k at ∙ ap (λ l. posts_taken k at c.own ++ l) same))) in
-    behind_none k at s.entries c.own t.entries (sym (ap (λ (t : Told). t.entries) m.2) ∙ c.entries) none own
+    behind_none k at s.entries c.own t.entries (sym (ap (λ (t : Progress). t.entries) m.2) ∙ c.entries) none own
 
-take_away : (sli : ℕ) (n at k from : ℕ) (s t : Told) → Away n at k → MayTell sli n at s (Take from) t → posts_taken k at s.entries ≡ [] → posts_taken k at t.entries ≡ []
+take_away : (sli : ℕ) (n at k from : ℕ) (s t : Progress) → Away n at k → MayTell sli n at s (Take from) t → posts_taken k at s.entries ≡ [] → posts_taken k at t.entries ≡ []
 take_away sli n at k from s t far m none =
     let e : Entry = record { worker = at; call = Take from; reply = (taking m.0 at from).reply } in
-    behind_none k at s.entries (e ∷ []) t.entries (sym (ap (λ (t : Told). t.entries) m.2)) none
+    behind_none k at s.entries (e ∷ []) t.entries (sym (ap (λ (t : Progress). t.entries) m.2)) none
     (told_nothing (λ e. post_of_take k e.call e.reply) at e (refused_take m.0 at k from e (λ ne. let le = far ne in omega (arith, le, m.1.0)) refl))
 
-one_away : (sli : ℕ) (n at k : ℕ) (s t : Told) (call : Call) → at < n → Away n at k → MayTell sli n at s call t → posts_taken k at s.entries ≡ [] → posts_taken k at t.entries ≡ []
+one_away : (sli : ℕ) (n at k : ℕ) (s t : Progress) (call : Call) → at < n → Away n at k → MayTell sli n at s call t → posts_taken k at s.entries ≡ [] → posts_taken k at t.entries ≡ []
 one_away sli n at k s t (Allocate len) at_in far m none = quiet_away sli n at k s t (Allocate len) at_in tt m none
 one_away sli n at k s t (Release target) at_in far m none = quiet_away sli n at k s t (Release target) at_in tt m none
 one_away sli n at k s t (Write target from bytes) at_in far m none = quiet_away sli n at k s t (Write target from bytes) at_in tt m none
@@ -87,20 +87,20 @@ one_away sli n at k s t (Resize target len) at_in far m none = quiet_away sli n 
 one_away sli n at k s t (Take from) at_in far m none = take_away sli n at k from s t far m none
 one_away sli n at k s t (Drain most) at_in far m none = drain_away sli n at k most s t at_in far m none
 
-all_away : (sli : ℕ) (n at k : ℕ) (s t : Told) (calls : List Call) → at < n → Away n at k → MayTellAll sli n at s calls t → posts_taken k at s.entries ≡ [] → posts_taken k at t.entries ≡ []
-all_away sli n at k s t [] at_in far m none = ap (λ (t : Told). posts_taken k at t.entries) m ∙ none
+all_away : (sli : ℕ) (n at k : ℕ) (s t : Progress) (calls : List Call) → at < n → Away n at k → MayTellAll sli n at s calls t → posts_taken k at s.entries ≡ [] → posts_taken k at t.entries ≡ []
+all_away sli n at k s t [] at_in far m none = ap (λ (t : Progress). posts_taken k at t.entries) m ∙ none
 all_away sli n at k s t (call ∷ calls) at_in far m none = all_away sli n at k m.0 t calls at_in far m.2 (one_away sli n at k s m.0 call at_in far m.1 none)
 
 -- so it is over queues
-queue_drain_away : (n at k most : ℕ) (s t : Told) (posts : List Post) → Away n at k → All (IsFromOther n at) posts → t ≡ told_reply at (told_takes at s posts) (Drain most) (Drained (length posts)) → posts_taken k at s.entries ≡ []
+queue_drain_away : (n at k most : ℕ) (s t : Progress) (posts : List Post) → Away n at k → All (IsFromOther n at) posts → t ≡ with_reply at (with_takes at s posts) (Drain most) (Drained (length posts)) → posts_taken k at s.entries ≡ []
     → posts_taken k at t.entries ≡ []
 queue_drain_away n at k most s t posts far others is none =
     let e : Entry = record { worker = at; call = Drain most; reply = Drained (length posts) } in
-    let taken : posts_taken k at (told_takes at s posts).entries ≡ []
-    = takes_take k at posts s ∙ (ap (λ l. l ++ posts_of k posts) none ∙ none_of_others n at k posts others (λ o. let le = far o.1 in omega (arith, le, o.0))) in
-    behind_none k at (told_takes at s posts).entries (e ∷ []) t.entries (ap (λ (t : Told). t.entries) is) taken (told_nothing (λ e. post_of_take k e.call e.reply) at e refl)
+    let taken : posts_taken k at (with_takes at s posts).entries ≡ []
+    = takes_of_posts k at posts s ∙ (ap (λ l. l ++ posts_of k posts) none ∙ none_of_others n at k posts others (λ o. let le = far o.1 in omega (arith, le, o.0))) in
+    behind_none k at (with_takes at s posts).entries (e ∷ []) t.entries (ap (λ (t : Progress). t.entries) is) taken (told_nothing (λ e. post_of_take k e.call e.reply) at e refl)
 
-queue_one_away : (sli : ℕ) (n at k : ℕ) (s t : Told) (call : Call) → at < n → Away n at k → MayTellQueue sli n at s call t → posts_taken k at s.entries ≡ [] → posts_taken k at t.entries ≡ []
+queue_one_away : (sli : ℕ) (n at k : ℕ) (s t : Progress) (call : Call) → at < n → Away n at k → MayTellQueue sli n at s call t → posts_taken k at s.entries ≡ [] → posts_taken k at t.entries ≡ []
 queue_one_away sli n at k s t (Allocate len) at_in far m none = quiet_away sli n at k s t (Allocate len) at_in tt m none
 queue_one_away sli n at k s t (Release target) at_in far m none = quiet_away sli n at k s t (Release target) at_in tt m none
 queue_one_away sli n at k s t (Write target from bytes) at_in far m none = quiet_away sli n at k s t (Write target from bytes) at_in tt m none
@@ -108,11 +108,11 @@ queue_one_away sli n at k s t (Read target from count) at_in far m none = quiet_
 queue_one_away sli n at k s t (Resize target len) at_in far m none = quiet_away sli n at k s t (Resize target len) at_in tt m none
 queue_one_away sli n at k s t (Take from) at_in far m none =
     let e : Entry = record { worker = at; call = Take from; reply = Refused Stranger } in
-    behind_none k at s.entries (e ∷ []) t.entries (ap (λ (t : Told). t.entries) m) none (told_nothing (λ e. post_of_take k e.call e.reply) at e refl)
+    behind_none k at s.entries (e ∷ []) t.entries (ap (λ (t : Progress). t.entries) m) none (told_nothing (λ e. post_of_take k e.call e.reply) at e refl)
 queue_one_away sli n at k s t (Drain most) at_in far m none = queue_drain_away n at k most s t m.0 far m.1 m.3 none
 
-queue_all_away : (sli : ℕ) (n at k : ℕ) (s t : Told) (calls : List Call) → at < n → Away n at k → MayTellQueueAll sli n at s calls t → posts_taken k at s.entries ≡ [] → posts_taken k at t.entries ≡ []
-queue_all_away sli n at k s t [] at_in far m none = ap (λ (t : Told). posts_taken k at t.entries) m ∙ none
+queue_all_away : (sli : ℕ) (n at k : ℕ) (s t : Progress) (calls : List Call) → at < n → Away n at k → MayTellQueueAll sli n at s calls t → posts_taken k at s.entries ≡ [] → posts_taken k at t.entries ≡ []
+queue_all_away sli n at k s t [] at_in far m none = ap (λ (t : Progress). posts_taken k at t.entries) m ∙ none
 queue_all_away sli n at k s t (call ∷ calls) at_in far m none = queue_all_away sli n at k m.0 t calls at_in far m.2 (queue_one_away sli n at k s m.0 call at_in far m.1 none)
 
 -- ---- the records of a race
@@ -150,12 +150,12 @@ pub takes_none_of : {sli : ℕ} (carrier : Carrier) (w v : World sli) (scripts :
 takes_none_of {sli} OverLanes w v scripts made records race j k j_in far =
     let own = (race.0).made j in
     let l = (race.0).legal j j_in in
-    let end : Told = record { made = own; entries = record_of records j; heap = heap_in v j } in
+    let end : Progress = record { made = own; entries = record_of records j; heap = heap_in v j } in
     all_away sli (length w.heaps) j k (untold (heap_in w j)) end (script_of scripts j ++ last_call ∷ []) j_in far
     (tell_more (MayTell sli (length w.heaps) j) (untold (heap_in w j)) l.between end (script_of scripts j) last_call l.script l.last) refl
 takes_none_of {sli} OverQueues w v scripts made records race j k j_in far =
     let own = (race.0).made j in
-    let end : Told = record { made = own; entries = record_of records j; heap = heap_in v j } in
+    let end : Progress = record { made = own; entries = record_of records j; heap = heap_in v j } in
     queue_all_away sli (length w.heaps) j k (untold (heap_in w j)) end (script_of scripts j ++ last_call ∷ []) j_in far ((race.0).legal j j_in) refl
 
 -- what some entries of a record leave, behind which the others come

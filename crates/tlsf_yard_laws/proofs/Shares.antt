@@ -23,7 +23,7 @@ use Rattle.tlsf_laws.proofs.Names.{same_is, same_self}
 use Rattle.tlsf_laws.proofs.Ledgers.{Agrees, agrees_call, live_agrees, lookup, lookup_without}
 use Rattle.tlsf_laws.proofs.ModestCalls.{InPool, is_served, kept, tick_kept}
 use Rattle.tlsf_calls.specs.Bytes.{bytes_of}
-use Rattle.tlsf_crew.specs.histories.History.{RunsTo, answer_told, answers_on, call_on_own, calls_on, handed_on, meant, of_heap, post_of_release, post_of_take, posts_made, posts_taken, taken_name}
+use Rattle.tlsf_crew.specs.histories.History.{RunsTo, answer_told, answers_on, call_on_own, calls_on, handed_on, meant, name_on_heap, post_of_release, post_of_take, posts_made, posts_taken, taken_name}
 use Rattle.tlsf_calls.specs.declared.entry.Entry.{Entry}
 use Rattle.tlsf_calls.specs.declared.call.Call.{Call}
 use Rattle.tlsf_calls.specs.declared.call.Call.TheVariants.{Allocate, Release, Write, Read, Resize, Take, Drain}
@@ -219,7 +219,7 @@ resize_asks made at (Resize target len) reply name m e = (target, on (meant made
     on None e = cc
     on (Some own) e = let same : len ≡ m = cc in ap (λ (n : ℕ). Resize target n) same
 resize_asks made at (Allocate len) reply name m e = absurd cc
-resize_asks made at (Release target) reply name m e = absurd (on (of_heap at (meant made target reply)) e)
+resize_asks made at (Release target) reply name m e = absurd (on (name_on_heap at (meant made target reply)) e)
   where
     on : (o : Option Name) → option_map heap.Release o ≡ Some (heap.Resize name m) → ⊥
     on None e = cc

@@ -10,8 +10,8 @@ use Rattle.tlsf_post.specs.declared.post.Post.{Post}
 use Rattle.tlsf_calls.specs.Bytes.{bytes_of}
 use Rattle.tlsf_calls.specs.declared.call.Call.{Call}
 use Rattle.tlsf_calls.specs.declared.call.Call.TheVariants.{Allocate, Release, Write, Read, Resize, Take, Drain}
-use Rattle.tlsf_crew.specs.model.OwnReplies.{OwnReplied, own_reading, own_resizing, own_writing}
-use Rattle.tlsf_crew.specs.model.World.{World, Replayed, Draining, by_own, called, draining, after_drain, drained_below, drained_lane, name_of, posting, releasing_named, taking, taking_next, took_first, took_more, with_waiting}
+use Rattle.tlsf_crew.specs.model.OwnReplies.{HeapReply, own_reading, own_resizing, own_writing}
+use Rattle.tlsf_crew.specs.model.World.{World, Replayed, DrainState, by_own, called, draining, after_drain, drained_below, drained_waiting, name_of, posting, releasing_named, taking, taking_next, took_first, took_more, with_waiting}
 use Rattle.tlsf_crew.proofs.lemmas.model.Edits.{edited_other, edited_same}
 use Rattle.tlsf_crew.proofs.lemmas.model.OneEvent.{from_other, from_own, releasing_far, releasing_post, taking_far, taking_lane, taking_own}
 
@@ -81,12 +81,12 @@ take_short j w at from = elim (cases_eq from at) [
   ]
 ]
 
-own_short : {sli : ℕ} (j : ℕ) (w : World sli) (at : ℕ) (by : HeapState → OwnReplied) → StayShort j w (by_own w at by).world
+own_short : {sli : ℕ} (j : ℕ) (w : World sli) (at : ℕ) (by : HeapState → HeapReply) → StayShort j w (by_own w at by).world
 own_short j w at by = record { capacity = refl; short = λ s. s }
 
 -- ---- a drain
 
-more_short : {sli : ℕ} (j at from : ℕ) (ps : List Post) (d : Draining sli) → StayShort j d.world (fold (took_more at from) d ps).world
+more_short : {sli : ℕ} (j at from : ℕ) (ps : List Post) (d : DrainState sli) → StayShort j d.world (fold (took_more at from) d ps).world
 more_short j at from [] d = stay j d.world
 more_short j at from (p ∷ ps) d =
     let rest = drop 1 (d.world.waiting from at) in
@@ -94,21 +94,21 @@ more_short j at from (p ∷ ps) d =
     = record { capacity = refl; short = lane_short j d.world from at rest (λ le. let n = length-drop 1 (d.world.waiting from at) in omega arith) } in
     then j d.world (took_more at from d p).world _ one (more_short j at from ps (took_more at from d p))
 
-one_lane_short : {sli : ℕ} (j at most from : ℕ) (d : Draining sli) → StayShort j d.world (drained_lane at most from d).world
-unfolding drained_lane
+one_lane_short : {sli : ℕ} (j at most from : ℕ) (d : DrainState sli) → StayShort j d.world (drained_waiting at most from d).world
+unfolding drained_waiting
 one_lane_short j at most from d = more_short j at from (take (most - d.taken) (d.world.waiting from at)) d
 
-below_short : {sli : ℕ} (j at most : ℕ) (d : Draining sli) (k : ℕ) → StayShort j d.world (drained_below at most d k).world
+below_short : {sli : ℕ} (j at most : ℕ) (d : DrainState sli) (k : ℕ) → StayShort j d.world (drained_below at most d k).world
 below_short j at most d zero = stay j d.world
 below_short j at most d (suc k) =
     let b = drained_below at most d k in
     let rest = below_short j at most d k in
     elim (cases_eq k at) [
       | inl own ↦ rw (from_own at most b k own) rest
-      | inr ne ↦ rw (from_other at most b k ne) (then j d.world b.world (drained_lane at most k b).world rest (one_lane_short j at most k b))
+      | inr ne ↦ rw (from_other at most b k ne) (then j d.world b.world (drained_waiting at most k b).world rest (one_lane_short j at most k b))
     ]
 
-all_short : {sli : ℕ} (j at most : ℕ) (d : Draining sli) → StayShort j d.world (after_drain at most d).world
+all_short : {sli : ℕ} (j at most : ℕ) (d : DrainState sli) → StayShort j d.world (after_drain at most d).world
 unfolding after_drain
 all_short j at most d = below_short j at most d (length d.world.heaps)
 

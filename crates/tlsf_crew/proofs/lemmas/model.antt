@@ -13,6 +13,6 @@ pub mod InParts
 -- A call that a worker makes on its yard is the model's step of the world.
 pub mod OneEvent
 -- What a heap answers is what its worker replies: where the call's target means a name, and where it means none.
-pub mod OwnReplied
+pub mod HeapReply
 -- The sum of two sums, the bound of a sum by its greatest part, the sum over more numbers, and that of changed parts.
 pub mod Sums

@@ -57,14 +57,14 @@ abbrev pub IsAnswered : {sli : ℕ} → Replayed sli → Event → Reply → Typ
 IsAnswered r event reply = (after r event).entries ≡ r.entries ++ record { worker = event.worker; call = event.call; reply = reply } ∷ []
 
 -- the event is a Release of this name, and answered Freed or Posted
-abbrev pub Releases : {sli : ℕ} → Replayed sli → Event → Name → Type 0
-Releases r event name =
+abbrev pub GivesBack : {sli : ℕ} → Replayed sli → Event → Name → Type 0
+GivesBack r event name =
     (target : Target) × (event.call ≡ Release target) × (name_of r.made target ≡ Some name) × (IsAnswered r event Freed ⊎ IsAnswered r event Posted)
 
 -- each event has only a target that was made before it and is not gone. Gone are some names at first, and each name from its release on
 abbrev pub IsFair : {sli : ℕ} → Replayed sli → (Name → Type 0) → List Event → Type 0
 IsFair r gone [] = ⊤
-IsFair r gone (event ∷ events) = IsFairCall r gone event.call × IsFair (after r event) (λ name. gone name ⊎ Releases r event name) events
+IsFair r gone (event ∷ events) = IsFairCall r gone event.call × IsFair (after r event) (λ name. gone name ⊎ GivesBack r event name) events
 
 -- a run from a world where nothing waits, in which each target was made before and not yet released
 pub record IsFairRun {sli : ℕ} (w : World sli) (events : List Event) : Type 0 where

@@ -94,9 +94,9 @@ meant made target (Refused Unmade) = None
 meant made target reply = name_of made target
 
 -- the name, where it is of heap j
-abbrev pub of_heap : ℕ → Option Name → Option Name
-of_heap j None = None
-of_heap j (Some name) = if name.heap == j then Some name else None
+abbrev pub name_on_heap : ℕ → Option Name → Option Name
+name_on_heap j None = None
+name_on_heap j (Some name) = if name.heap == j then Some name else None
 
 abbrev pub taken_name : Reply → Option Name
 taken_name (Taken t) = Some t.name
@@ -105,7 +105,7 @@ taken_name reply = None
 -- the call on the worker's own heap that its call comes to; a take releases there the name that it took
 abbrev pub call_on_own : List (Option Name) → ℕ → Call → Reply → Option heap.Call
 call_on_own made at (Allocate len) reply = Some (heap.Allocate len)
-call_on_own made at (Release target) reply = option_map heap.Release (of_heap at (meant made target reply))
+call_on_own made at (Release target) reply = option_map heap.Release (name_on_heap at (meant made target reply))
 call_on_own made at (Write target from bytes) reply = option_map (λ name. heap.Write name from (bytes_of bytes)) (meant made target reply)
 call_on_own made at (Read target from n) reply = option_map (λ name. heap.Read name from n) (meant made target reply)
 call_on_own made at (Resize target len) reply = option_map (λ name. heap.Resize name len) (meant made target reply)
@@ -156,7 +156,7 @@ pub record RunsThrough (sli : ℕ) (h : HeapState) (j : ℕ) (made : List (Optio
 
 -- the post for heap j that the call of worker i made
 abbrev pub post_of_release : ℕ → List (Option Name) → ℕ → Call → Reply → Option Post
-post_of_release j made i (Release target) Posted = option_map (λ name. record { from = i; name = name }) (of_heap j (name_of made target))
+post_of_release j made i (Release target) Posted = option_map (λ name. record { from = i; name = name }) (name_on_heap j (name_of made target))
 post_of_release j made i call reply = None
 
 -- the post that the call took from worker i

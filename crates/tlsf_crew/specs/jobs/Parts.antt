@@ -9,12 +9,12 @@ use Rattle.tlsf_calls.specs.declared.call.Call.{Call}
 use Rattle.tlsf_crew.specs.declared.jobs.job.Job.{Job}
 use Rattle.tlsf_crew.specs.model.Sums.{sum_of}
 use Rattle.tlsf_crew.specs.scripts.Counts.{releases_of}
-use Rattle.tlsf_crew.specs.scripts.Scripts.{script_of, ScriptRun, Telling, at_stage}
+use Rattle.tlsf_crew.specs.scripts.Scripts.{script_of, ScriptRun, ScriptPromise, at_stage}
 use Rattle.tlsf_crew.specs.jobs.Job.{IsReady}
 
 -- a job that is ready to run, with the room for all entries of its record: one for each call, one for each post that may be taken,
 -- where so many releases stand in each script, and one for the last drain
-pub record IsPrepared {sli : ℕ} {P : Type 0} (by : Telling sli P) (releases : List ℕ) (job : Job sli P) : Type 0 where
+pub record IsPrepared {sli : ℕ} {P : Type 0} (by : ScriptPromise sli P) (releases : List ℕ) (job : Job sli P) : Type 0 where
   pub ready : IsReady by job
   pub limits : by.limited job.worker.ports releases job.limits
   pub room : vec_capacity job.entries ≡ vec_len job.script + sum_of job.limits + 1
@@ -27,7 +27,7 @@ AllDone P (j ∷ js) [] = ⊥
 AllDone P (j ∷ js) (d ∷ ds) = P j d × AllDone P js ds
 
 -- a worker with ports of any kind ran a script, and became v; its record has the room that was made
-pub record JobRan {sli : ℕ} {P : Type 0} (by : Telling sli P) (releases : List ℕ) (a : Worker sli P) (script : List Call) (made : List (Option Name)) (r : Vec Entry Global) (v : Worker sli P) : Type 0 where
+pub record JobRan {sli : ℕ} {P : Type 0} (by : ScriptPromise sli P) (releases : List ℕ) (a : Worker sli P) (script : List Call) (made : List (Option Name)) (r : Vec Entry Global) (v : Worker sli P) : Type 0 where
   pub limits : List ℕ
   pub left : List ℕ
   pub limits_are : by.limited a.ports releases limits
@@ -35,7 +35,7 @@ pub record JobRan {sli : ℕ} {P : Type 0} (by : Telling sli P) (releases : List
   pub room : vec_capacity r ≡ length script + sum_of limits + 1
 
 -- so did each of them
-pub record EachJobRan {sli : ℕ} {P : Type 0} (by : Telling sli P) (ws : List (Worker sli P)) (scripts : List (List Call)) (records : List (Vec Entry Global)) (vs : List (Worker sli P)) : Type 0 where
+pub record EachJobRan {sli : ℕ} {P : Type 0} (by : ScriptPromise sli P) (ws : List (Worker sli P)) (scripts : List (List Call)) (records : List (Vec Entry Global)) (vs : List (Worker sli P)) : Type 0 where
   pub releases : List ℕ
   pub counts : (i : ℕ) → i < 8 → slice_index releases i ≡ releases_of (script_of scripts i)
   pub made : ℕ → List (Option Name)

@@ -28,8 +28,8 @@ abbrev pub take_at : {sli : ℕ} → List (Worker sli Lanes) → ℕ → ℕ →
 take_at ws i j = end_from_in (slice_get ws j) i
 
 -- the heap of worker i
-abbrev pub yard_heap : {sli : ℕ} → List (Worker sli Lanes) → ℕ → HeapState
-yard_heap ws i = get_or (map heap_of ws) i no_heap
+abbrev pub heap_of_worker : {sli : ℕ} → List (Worker sli Lanes) → ℕ → HeapState
+heap_of_worker ws i = get_or (map heap_of ws) i no_heap
 
 -- the number of worker i
 abbrev pub id_in : {sli : ℕ} → List (Worker sli Lanes) → ℕ → ℕ
@@ -61,8 +61,8 @@ pub record BothBeside (p : PostEnd) (t : TakeEnd) (q : PostEnd) (u : TakeEnd) : 
 abbrev pub HasPair : {sli : ℕ} → List (Worker sli Lanes) → ℕ → ℕ → ℕ → Type 0
 HasPair ws i j capacity = (p : PostEnd) × (t : TakeEnd) × (post_at ws i j ≡ Some p) × (take_at ws i j ≡ Some t) × IsLane p t × (capacity_of p ≡ capacity)
 
-abbrev pub HasEnds : {sli : ℕ} → List (Worker sli Lanes) → ℕ → ℕ → Type 0
-HasEnds ws i j = HasPair ws i j (capacity_in ws)
+abbrev pub HasYardLane : {sli : ℕ} → List (Worker sli Lanes) → ℕ → ℕ → Type 0
+HasYardLane ws i j = HasPair ws i j (capacity_in ws)
 
 -- a whole yard of a level that there is: at most eight workers, numbered from 0 in their order, each with a lawful heap of its number. From each to
 -- each other goes a lane that has both ends, of the yard's capacity, at most 1,024 posts; none has an end to or from itself, or
@@ -71,10 +71,10 @@ pub record IsYard {sli : ℕ} (ws : List (Worker sli Lanes)) : Type 0 where
   pub level : IsLevel sli
   pub few : length ws ≤ 8
   pub ids : (i : ℕ) → i < length ws → id_in ws i ≡ i
-  pub heaps : (i : ℕ) → i < length ws → IsHeapOf i (yard_heap ws i)
+  pub heaps : (i : ℕ) → i < length ws → IsHeapOf i (heap_of_worker ws i)
   pub alone : (i : ℕ) → (post_at ws i i ≡ None) × (take_at ws i i ≡ None)
   pub outside : (i j : ℕ) → length ws ≤ j → (post_at ws i j ≡ None) × (take_at ws j i ≡ None)
-  pub lanes : (i j : ℕ) → i < length ws → j < length ws → i ≢ j → HasEnds ws i j
+  pub lanes : (i j : ℕ) → i < length ws → j < length ws → i ≢ j → HasYardLane ws i j
   pub small : capacity_in ws ≤ 1024
   pub signed : (i j : ℕ) → All (λ post. post.from ≡ i) (lane_waits (post_at ws i j) (take_at ws i j))
 

@@ -34,35 +34,35 @@ reply_resized r = reply_by (λ done. Resized) r
 -- ---- calls
 
 -- a reply and the heap that it leaves
-pub record OwnReplied : Type 0 where
+pub record HeapReply : Type 0 where
   pub reply : Reply
   pub heap : HeapState
 
 -- the reply to a call is this one, and so is the heap that it leaves
-pub record HeapReplies (reply : Reply) (g : HeapState) (x : OwnReplied) : Type 0 where
+pub record IsHeapReply (reply : Reply) (g : HeapState) (x : HeapReply) : Type 0 where
   pub same : reply ≡ x.reply
   pub left : g ≡ x.heap
 
 -- the target means no name
-abbrev pub own_unmade : HeapState → OwnReplied
+abbrev pub own_unmade : HeapState → HeapReply
 own_unmade h = record { reply = Refused Unmade; heap = h }
 
-abbrev pub own_allocating : ℕ → HeapState → ℕ → OwnReplied
+abbrev pub own_allocating : ℕ → HeapState → ℕ → HeapReply
 own_allocating sli h len = record { reply = reply_made (allocated sli h len).answer; heap = (allocated sli h len).heap }
 
-abbrev pub own_freeing : HeapState → Name → OwnReplied
+abbrev pub own_freeing : HeapState → Name → HeapReply
 own_freeing h name = record { reply = reply_freed (released h name).answer; heap = (released h name).heap }
 
 -- a call whose target means this name, or none
-abbrev pub own_named : HeapState → (Name → OwnReplied) → Option Name → OwnReplied
+abbrev pub own_named : HeapState → (Name → HeapReply) → Option Name → HeapReply
 own_named h by None = own_unmade h
 own_named h by (Some name) = by name
 
-abbrev pub own_writing : HeapState → Option Name → ℕ → List ℕ → OwnReplied
+abbrev pub own_writing : HeapState → Option Name → ℕ → List ℕ → HeapReply
 own_writing h o from bytes = own_named h (λ name. record { reply = reply_wrote (length bytes) (written h name from bytes).answer; heap = (written h name from bytes).heap }) o
 
-abbrev pub own_reading : HeapState → Option Name → ℕ → ℕ → OwnReplied
+abbrev pub own_reading : HeapState → Option Name → ℕ → ℕ → HeapReply
 own_reading h o from n = own_named h (λ name. record { reply = reply_got (chunk_read h name from n); heap = h }) o
 
-abbrev pub own_resizing : HeapState → Option Name → ℕ → OwnReplied
+abbrev pub own_resizing : HeapState → Option Name → ℕ → HeapReply
 own_resizing h o len = own_named h (λ name. record { reply = reply_resized (resized h name len).answer; heap = (resized h name len).heap }) o

@@ -6,7 +6,7 @@ use Rattle.tlsf_heap.specs.declared.name.Name.{Name}
 use Rattle.tlsf_heap.specs.Blocks.{HeapState}
 use Rattle.tlsf_calls.specs.Bytes.{bytes_of}
 use Rattle.tlsf_crew.specs.model.Heaps.{released}
-use Rattle.tlsf_crew.specs.model.OwnReplies.{OwnReplied, own_allocating, own_freeing, own_writing, own_reading, own_resizing}
+use Rattle.tlsf_crew.specs.model.OwnReplies.{HeapReply, own_allocating, own_freeing, own_writing, own_reading, own_resizing}
 use Rattle.tlsf_calls.specs.declared.event.Event.{Event}
 use Rattle.tlsf_calls.specs.declared.entry.Entry.{Entry}
 use Rattle.tlsf_calls.specs.declared.call.Call.{Call}
@@ -43,85 +43,85 @@ abbrev pub heap_in : {sli : ℕ} → World sli → ℕ → HeapState
 heap_in w i = get_or w.heaps i no_heap
 
 -- a reply and the world that it leaves
-pub record Replied (sli : ℕ) : Type 0 where
+pub record WorldReply (sli : ℕ) : Type 0 where
   pub reply : Reply
   pub world : World sli
 
 -- what the heap of worker `at` replies to a call, and the world with what the call leaves there
-abbrev pub by_own : {sli : ℕ} → World sli → ℕ → (HeapState → OwnReplied) → Replied sli
+abbrev pub by_own : {sli : ℕ} → World sli → ℕ → (HeapState → HeapReply) → WorldReply sli
 by_own w at call = let own = call (heap_in w at) in record { reply = own.reply; world = with_heap w at own.heap }
 
-abbrev pub allocating : {sli : ℕ} → World sli → ℕ → ℕ → Replied sli
+abbrev pub allocating : {sli : ℕ} → World sli → ℕ → ℕ → WorldReply sli
 allocating {sli} w at len = by_own w at (λ h. own_allocating sli h len)
 
-abbrev pub freeing : {sli : ℕ} → World sli → ℕ → Name → Replied sli
+abbrev pub freeing : {sli : ℕ} → World sli → ℕ → Name → WorldReply sli
 freeing w at name = by_own w at (λ h. own_freeing h name)
 
-abbrev pub writing_named : {sli : ℕ} → World sli → ℕ → Option Name → ℕ → List ℕ → Replied sli
+abbrev pub writing_named : {sli : ℕ} → World sli → ℕ → Option Name → ℕ → List ℕ → WorldReply sli
 writing_named w at name from bytes = by_own w at (λ h. own_writing h name from bytes)
 
-abbrev pub reading_named : {sli : ℕ} → World sli → ℕ → Option Name → ℕ → ℕ → Replied sli
+abbrev pub reading_named : {sli : ℕ} → World sli → ℕ → Option Name → ℕ → ℕ → WorldReply sli
 reading_named w at name from n = by_own w at (λ h. own_reading h name from n)
 
-abbrev pub resizing_named : {sli : ℕ} → World sli → ℕ → Option Name → ℕ → Replied sli
+abbrev pub resizing_named : {sli : ℕ} → World sli → ℕ → Option Name → ℕ → WorldReply sli
 resizing_named w at name len = by_own w at (λ h. own_resizing h name len)
 
 -- a post into the lane from `at` to another worker
-unfoldable pub posting : {sli : ℕ} → World sli → ℕ → Name → Replied sli
+unfoldable pub posting : {sli : ℕ} → World sli → ℕ → Name → WorldReply sli
 posting w at name =
     if length (w.waiting at name.heap) == w.capacity
     then record { reply = Refused (Full name); world = w }
     else record { reply = Posted; world = with_waiting w at name.heap (w.waiting at name.heap ++ record { from = at; name = name } ∷ []) }
 
-abbrev pub releasing : {sli : ℕ} → World sli → ℕ → Name → Replied sli
+abbrev pub releasing : {sli : ℕ} → World sli → ℕ → Name → WorldReply sli
 releasing w at name =
     if name.heap == at then freeing w at name
     else (if nat_lt name.heap (length w.heaps) then posting w at name else record { reply = Refused Stranger; world = w })
 
 -- the first post from another worker is taken and released
-abbrev pub took : {sli : ℕ} → World sli → ℕ → ℕ → Post → List Post → Replied sli
+abbrev pub took : {sli : ℕ} → World sli → ℕ → ℕ → Post → List Post → WorldReply sli
 took w at from p rest = record {
   reply = Taken (record { from = p.from; name = p.name; answer = (released (heap_in w at) p.name).answer });
   world = with_heap (with_waiting w from at rest) at (released (heap_in w at) p.name).heap;
 }
 
-abbrev pub took_first : {sli : ℕ} → World sli → ℕ → ℕ → List Post → Replied sli
+abbrev pub took_first : {sli : ℕ} → World sli → ℕ → ℕ → List Post → WorldReply sli
 took_first w at from [] = record { reply = Empty; world = w }
 took_first w at from (p ∷ rest) = took w at from p rest
 
-unfoldable pub taking_next : {sli : ℕ} → World sli → ℕ → ℕ → Replied sli
+unfoldable pub taking_next : {sli : ℕ} → World sli → ℕ → ℕ → WorldReply sli
 taking_next w at from = took_first w at from (w.waiting from at)
 
-abbrev pub taking : {sli : ℕ} → World sli → ℕ → ℕ → Replied sli
+abbrev pub taking : {sli : ℕ} → World sli → ℕ → ℕ → WorldReply sli
 taking w at from =
     if from == at then record { reply = Refused Stranger; world = w }
     else (if nat_lt from (length w.heaps) then taking_next w at from else record { reply = Refused Stranger; world = w })
 
 -- a drain under way
-pub record Draining (sli : ℕ) : Type 0 where
+pub record DrainState (sli : ℕ) : Type 0 where
   pub entries : List Entry
   pub world : World sli
   pub taken : ℕ
 
 -- one post more
-abbrev pub took_more : {sli : ℕ} → ℕ → ℕ → Draining sli → Post → Draining sli
+abbrev pub took_more : {sli : ℕ} → ℕ → ℕ → DrainState sli → Post → DrainState sli
 took_more at from d p =
     let r = took d.world at from p (drop 1 (d.world.waiting from at)) in
     record { entries = d.entries ++ record { worker = at; call = Take from; reply = r.reply } ∷ []; world = r.world; taken = d.taken + 1 }
 
 -- all that waits from one worker, while fewer than `most` were taken
-unfoldable pub drained_lane : {sli : ℕ} → ℕ → ℕ → ℕ → Draining sli → Draining sli
-drained_lane at most from d = fold (took_more at from) d (take (most - d.taken) (d.world.waiting from at))
+unfoldable pub drained_waiting : {sli : ℕ} → ℕ → ℕ → ℕ → DrainState sli → DrainState sli
+drained_waiting at most from d = fold (took_more at from) d (take (most - d.taken) (d.world.waiting from at))
 
-abbrev pub drained_from : {sli : ℕ} → ℕ → ℕ → Draining sli → ℕ → Draining sli
-drained_from at most d from = if from == at then d else drained_lane at most from d
+abbrev pub drained_from : {sli : ℕ} → ℕ → ℕ → DrainState sli → ℕ → DrainState sli
+drained_from at most d from = if from == at then d else drained_waiting at most from d
 
 -- the lanes from the workers below a number, in rising order
-abbrev pub drained_below : {sli : ℕ} → ℕ → ℕ → Draining sli → ℕ → Draining sli
+abbrev pub drained_below : {sli : ℕ} → ℕ → ℕ → DrainState sli → ℕ → DrainState sli
 drained_below at most d zero = d
 drained_below at most d (suc from) = drained_from at most (drained_below at most d from) from
 
-unfoldable pub after_drain : {sli : ℕ} → ℕ → ℕ → Draining sli → Draining sli
+unfoldable pub after_drain : {sli : ℕ} → ℕ → ℕ → DrainState sli → DrainState sli
 after_drain at most d = drained_below at most d (length d.world.heaps)
 
 -- the name that a target means, by what the events so far made
@@ -130,7 +130,7 @@ name_of made (Named name) = Some name
 name_of made (MadeBy k) = get_or made k None
 name_of made Absent = None
 
-abbrev pub releasing_named : {sli : ℕ} → World sli → ℕ → Option Name → Replied sli
+abbrev pub releasing_named : {sli : ℕ} → World sli → ℕ → Option Name → WorldReply sli
 releasing_named w at None = record { reply = Refused Unmade; world = w }
 releasing_named w at (Some name) = releasing w at name
 
@@ -141,7 +141,7 @@ pub record Replayed (sli : ℕ) : Type 0 where
   pub world : World sli
 
 -- one answer more
-abbrev pub answered : {sli : ℕ} → Replayed sli → ℕ → Call → Replied sli → Replayed sli
+abbrev pub answered : {sli : ℕ} → Replayed sli → ℕ → Call → WorldReply sli → Replayed sli
 answered r at call a = record {
   made = r.made ++ made_by a.reply ∷ [];
   entries = r.entries ++ record { worker = at; call = call; reply = a.reply } ∷ [];

@@ -5,7 +5,7 @@ use Rattle.tlsf_calls.specs.declared.call.Call.{Call}
 use Rattle.tlsf_calls.specs.declared.call.Call.TheVariants.{Take, Drain}
 use Rattle.tlsf_calls.specs.declared.entry.Entry.{Entry}
 use Rattle.tlsf_crew.specs.model.World.{World, Replayed, called, heap_in, replies}
-use Rattle.tlsf_crew.specs.model.Told.{told_by}
+use Rattle.tlsf_crew.specs.model.Progress.{told_by}
 use Rattle.tlsf_crew.specs.races.Race.{IsRace, events_by}
 use Rattle.tlsf_crew.specs.scripts.Scripts.{last_call, script_of}
 use Rattle.tlsf_calls.specs.Entries.{record_of}

@@ -7,14 +7,14 @@ use Rattle.tlsf_crew.specs.declared.worker.worker.Worker.{Worker}
 use Rattle.tlsf_crew.specs.declared.worker.lanes.Lanes.{Lanes}
 use Rattle.tlsf_calls.specs.declared.entry.Entry.{Entry}
 use Rattle.tlsf_calls.specs.declared.call.Call.{Call}
-use Rattle.tlsf_crew.specs.lanes.Yard.{IsYard, yard_heap, capacity_in, waits_in}
+use Rattle.tlsf_crew.specs.lanes.Yard.{IsYard, heap_of_worker, capacity_in, waits_in}
 use Rattle.tlsf_crew.specs.model.Sums.{sum_below}
 use Rattle.tlsf_crew.specs.lanes.Ready.{ready_from}
 use Rattle.tlsf_crew.specs.scripts.Counts.{releases_of}
 use Rattle.tlsf_crew.specs.histories.History.{IsDrain, posts_taken, posts_made, StandsBehind}
 use Rattle.tlsf_crew.specs.scripts.Scripts.{last_call, script_of}
 use Rattle.tlsf_calls.specs.Entries.{record_of}
-use Rattle.tlsf_crew.specs.model.Told.{MayTell, untold, MayTellAll}
+use Rattle.tlsf_crew.specs.model.Progress.{MayTell, untold, MayTellAll}
 use mathlib.Core.List.{IsPrefix}
 use Rattle.tlsf_post.specs.declared.post_end.PostEnd.{PostEnd}
 use Rattle.tlsf_post.specs.declared.take_end.TakeEnd.{TakeEnd}
@@ -93,8 +93,8 @@ pub record LastTold {sli : ℕ} (ws vs : List (Worker sli Lanes)) (j : ℕ) (bef
   pub entries : after ≡ before ++ own
   pub is_drain : IsDrain j 8192 own
   pub posts : (i : ℕ) → posts_taken i j own ≡ waits_in ws i j
-  pub told : (made : List (Option Name)) → MayTell sli (length ws) j (record { made = made; entries = before; heap = yard_heap ws j }) last_call
-      (record { made = made ++ None ∷ []; entries = after; heap = yard_heap vs j })
+  pub told : (made : List (Option Name)) → MayTell sli (length ws) j (record { made = made; entries = before; heap = heap_of_worker ws j }) last_call
+      (record { made = made ++ None ∷ []; entries = after; heap = heap_of_worker vs j })
 
 -- so did each worker below k; the others are as they were
 pub record EachLastDrained {sli : ℕ} (ws : List (Worker sli Lanes)) (rs ss : List (List Entry)) (vs : List (Worker sli Lanes)) (k : ℕ) : Type 0 where
@@ -105,4 +105,4 @@ pub record EachLastDrained {sli : ℕ} (ws : List (Worker sli Lanes)) (rs ss : L
   pub told : (j : ℕ) → j < k → LastTold ws vs j (record_of rs j) (record_of ss j)
   pub empty : (i j : ℕ) → j < k → waits_in vs i j ≡ []
   pub later_waits : (i j : ℕ) → k ≤ j → waits_in vs i j ≡ waits_in ws i j
-  pub later_heaps : (j : ℕ) → k ≤ j → yard_heap vs j ≡ yard_heap ws j
+  pub later_heaps : (j : ℕ) → k ≤ j → heap_of_worker vs j ≡ heap_of_worker ws j

@@ -11,13 +11,13 @@ use Rattle.tlsf_calls.specs.declared.crew_refusal.CrewRefusal.TheVariants.{Full}
 use Rattle.tlsf_calls.specs.declared.reply.Reply.TheVariants.{Drained, Refused}
 use Rattle.tlsf_crew.specs.model.World.{World, heap_in}
 use Rattle.tlsf_crew.specs.histories.History.{posts_made, posts_taken, StandsBehind}
-use Rattle.tlsf_crew.specs.model.Told.{Told, untold}
+use Rattle.tlsf_crew.specs.model.Progress.{Progress, untold}
 use Rattle.tlsf_crew.specs.scripts.Scripts.{last_call, script_of}
 use Rattle.tlsf_calls.specs.Entries.{record_of}
-use Rattle.tlsf_crew.specs.model.QueueTold.{MayTellQueueAll}
+use Rattle.tlsf_crew.specs.model.QueueProgress.{MayTellQueueAll}
 
 -- the worker made the calls of its script and then the last one, and was told so
-abbrev pub IsLegalQueue : ℕ → ℕ → ℕ → HeapState → List Call → Told → Type 0
+abbrev pub IsLegalQueue : ℕ → ℕ → ℕ → HeapState → List Call → Progress → Type 0
 IsLegalQueue sli n at start calls end = MayTellQueueAll sli n at (untold start) (calls ++ last_call ∷ []) end
 
 -- the records of workers i and j of n fit together, where these posts of i waited for j

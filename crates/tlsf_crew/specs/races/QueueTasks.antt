@@ -15,8 +15,8 @@ use Rattle.tlsf_crew.specs.declared.worker.worker.Worker.{Worker}
 use Rattle.tlsf_crew.specs.declared.queues.queues.Queues.{Queues}
 use Rattle.tlsf_crew.specs.worker.Workers.{heap_of, id_of}
 use Rattle.tlsf_crew.specs.queues.QueueWorkers.{queue_end_to, KnowsQueueYard}
-use Rattle.tlsf_crew.specs.model.QueueTold.{MayTellQueue}
-use Rattle.tlsf_crew.specs.scripts.QueueMoves.{QueueMoved, queue_telling, told_of}
+use Rattle.tlsf_crew.specs.model.QueueProgress.{MayTellQueue}
+use Rattle.tlsf_crew.specs.scripts.QueueMoves.{QueueMoved, queue_promise, told_of}
 use Rattle.tlsf_crew.specs.queues.QueueSettle.{EachQueueSettled}
 
 -- ---- one worker
@@ -29,7 +29,7 @@ KnowsSomeYard a = KnowsSome KnowsQueueYard a
 pub record QueueWorkerRan {sli : ℕ} (n : ℕ) (a : Worker sli Queues) (script : List Call) (made : List (Option Name)) (entries : List Entry) (v : Worker sli Queues) : Type 0 where
   pub limits : List ℕ
   pub left : List ℕ
-  pub run : ScriptRun (queue_telling sli) n a limits script made (at_stage v left entries)
+  pub run : ScriptRun (queue_promise sli) n a limits script made (at_stage v left entries)
 
 -- there is room for one entry more
 abbrev pub HasPlace : Vec Entry Global → Type 0
@@ -67,7 +67,7 @@ pub record EachQueueLastDrained {sli : ℕ} (ws : List (Worker sli Queues)) (rs 
   pub later_workers : (j : ℕ) → k ≤ j → slice_get vs j ≡ slice_get ws j
 
 -- the queues were settled, drained, and settled again
-pub record Finished {sli : ℕ} (ws : List (Worker sli Queues)) (rs ss : List (List Entry)) (xs : List (Worker sli Queues)) : Type 0 where
+pub record SettledAndDrained {sli : ℕ} (ws : List (Worker sli Queues)) (rs ss : List (List Entry)) (xs : List (Worker sli Queues)) : Type 0 where
   pub settled : List (Worker sli Queues)
   pub emptied : List (Worker sli Queues)
   pub first : EachQueueSettled ws (length ws) settled

@@ -13,14 +13,14 @@ use Rattle.tlsf_calls.specs.declared.crew_refusal.CrewRefusal.TheVariants.{Full}
 pub use Rattle.tlsf_calls.specs.Entries.{record_of}
 use Rattle.tlsf_crew.specs.model.World.{World, heap_in}
 use Rattle.tlsf_crew.specs.histories.History.{posts_made, posts_taken, StandsBehind}
-use Rattle.tlsf_crew.specs.model.Told.{Told, untold, MayTell, MayTellAll}
+use Rattle.tlsf_crew.specs.model.Progress.{Progress, untold, MayTell, MayTellAll}
 use Rattle.tlsf_crew.specs.scripts.Scripts.{last_call, script_of}
 
 -- ---- one record
 
 -- the worker made the calls of its script and then the last one, and was told so; `scripted` are the entries of its script
-pub record IsLegal (sli : ℕ) (n at : ℕ) (start : HeapState) (calls : List Call) (scripted : List Entry) (end : Told) : Type 0 where
-  pub between : Told
+pub record IsLegal (sli : ℕ) (n at : ℕ) (start : HeapState) (calls : List Call) (scripted : List Entry) (end : Progress) : Type 0 where
+  pub between : Progress
   pub entries : between.entries ≡ scripted
   pub script : MayTellAll sli n at (untold start) calls between
   pub last : MayTell sli n at between last_call end

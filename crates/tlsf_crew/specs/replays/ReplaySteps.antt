@@ -11,9 +11,9 @@ use Rattle.tlsf_calls.specs.declared.call.Call.{Call}
 use Rattle.tlsf_calls.specs.declared.call.Call.TheVariants.{Allocate, Release, Write, Read, Resize, Take, Drain}
 use Rattle.tlsf_calls.specs.declared.reply.Reply.{Reply}
 use Rattle.tlsf_crew.specs.lanes.Yard.{IsYard, take_at, waits_in, world_of}
-use Rattle.tlsf_crew.specs.model.World.{name_of, made_by, after, Draining, Replayed}
+use Rattle.tlsf_crew.specs.model.World.{name_of, made_by, after, DrainState, Replayed}
 
-abbrev pub drain_of : {sli : ℕ} → List Entry → List (Worker sli Lanes) → ℕ → Draining sli
+abbrev pub drain_of : {sli : ℕ} → List Entry → List (Worker sli Lanes) → ℕ → DrainState sli
 drain_of entries ws taken = record { entries = entries; world = world_of ws; taken = taken }
 
 abbrev pub replay_of : {sli : ℕ} → List (Option Name) → List Entry → List (Worker sli Lanes) → Replayed sli

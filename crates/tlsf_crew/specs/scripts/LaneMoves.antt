@@ -23,10 +23,10 @@ use Rattle.tlsf_crew.specs.lanes.LaneWorkers.{id_and_capacity, end_to, end_from,
 use Rattle.tlsf_crew.specs.lanes.LaneCalls.{KeepsYards}
 use Rattle.tlsf_crew.specs.model.Sums.{sum_below}
 use Rattle.tlsf_crew.specs.scripts.Counts.{AreLaneLimits, releases_of}
-use Rattle.tlsf_crew.specs.scripts.Scripts.{Stage, Step, Telling, told_of}
+use Rattle.tlsf_crew.specs.scripts.Scripts.{Stage, Step, ScriptPromise, told_of}
 use Rattle.tlsf_crew.specs.histories.History.{posts_made, posts_taken, StandsBehind}
 use Rattle.tlsf_crew.specs.model.World.{World, made_by, called}
-use Rattle.tlsf_crew.specs.model.Told.{HasHeap, MayTell, Suits, told_by}
+use Rattle.tlsf_crew.specs.model.Progress.{HasHeap, MayTell, Suits, told_by}
 
 abbrev pub one : ℕ → Call → Reply → List Entry
 one at call reply = record { worker = at; call = call; reply = reply } ∷ []
@@ -70,8 +70,8 @@ pub record LaneMoved {sli : ℕ} (at : ℕ) (made : List (Option Name)) (a : Wor
   pub few_entries : length entries ≤ length calls + sum_below 8 (λ i. length (posts_taken i at entries))
 
 -- what the calls of a script tell over lanes
-abbrev pub lane_telling : (sli : ℕ) → Telling sli Lanes
-lane_telling sli = record { limited = AreLaneLimits; knows = KnowsYard; tells = MayTell sli; moves = LaneMoved }
+abbrev pub lane_promise : (sli : ℕ) → ScriptPromise sli Lanes
+lane_promise sli = record { limited = AreLaneLimits; knows = KnowsYard; tells = MayTell sli; moves = LaneMoved }
 
 -- ---- takes
 
@@ -88,36 +88,36 @@ LaneTakenWithin a limits from v left (Some took) =
     × (post : Post) × (took ≡ took_by (heap_of a) post) × (heap_of v ≡ (released (heap_of a) post.name).heap)
 
 -- a drain under way, as its worker sees it
-pub record OwnDrain : Type 0 where
+pub record WorkerDrain : Type 0 where
   pub entries : List Entry
   pub heap : HeapState
   pub taken : ℕ
 
-abbrev pub took_own : ℕ → ℕ → OwnDrain → Post → OwnDrain
-took_own at from d p = record {
+abbrev pub took_post : ℕ → ℕ → WorkerDrain → Post → WorkerDrain
+took_post at from d p = record {
   entries = d.entries ++ one at (Take from) (Taken (took_by d.heap p));
   heap = (released d.heap p.name).heap;
   taken = d.taken + 1;
 }
 
 -- these posts from one worker
-abbrev pub lane_own : ℕ → ℕ → OwnDrain → List Post → OwnDrain
-lane_own at from d posts = fold (took_own at from) d posts
+abbrev pub took_posts : ℕ → ℕ → WorkerDrain → List Post → WorkerDrain
+took_posts at from d posts = fold (took_post at from) d posts
 
 -- the posts from each other worker below a number
-abbrev pub each_lane_own : ℕ → (ℕ → List Post) → OwnDrain → ℕ → OwnDrain
-each_lane_own at posts d zero = d
-each_lane_own at posts d (suc from) = if from == at then each_lane_own at posts d from else lane_own at from (each_lane_own at posts d from) (posts from)
+abbrev pub took_each_lane : ℕ → (ℕ → List Post) → WorkerDrain → ℕ → WorkerDrain
+took_each_lane at posts d zero = d
+took_each_lane at posts d (suc from) = if from == at then took_each_lane at posts d from else took_posts at from (took_each_lane at posts d from) (posts from)
 
-abbrev pub own_drain : {sli : ℕ} → Stage sli Lanes → ℕ → OwnDrain
-own_drain s taken = record { entries = s.entries; heap = heap_of s.worker; taken = taken }
+abbrev pub drain_at : {sli : ℕ} → Stage sli Lanes → ℕ → WorkerDrain
+drain_at s taken = record { entries = s.entries; heap = heap_of s.worker; taken = taken }
 
 -- takes from one lane, after any count of them from others
 pub record LaneTaken {sli : ℕ} (s : Stage sli Lanes) (from : ℕ) (t : Stage sli Lanes) (count : ℕ) : Type 0 where
   pub own : List Entry
   pub entries_are : t.entries ≡ s.entries ++ own
   pub posts : List Post
-  pub told : (n : ℕ) → own_drain t (n + count) ≡ lane_own (id_of s.worker) from (own_drain s n) posts
+  pub told : (n : ℕ) → drain_at t (n + count) ≡ took_posts (id_of s.worker) from (drain_at s n) posts
   pub here : posts_taken from (id_of s.worker) own ≡ posts
   pub others : (k : ℕ) → k ≢ from → posts_taken k (id_of s.worker) own ≡ []
   pub count_is : count ≡ length posts
@@ -134,7 +134,7 @@ pub record EachLaneTaken {sli : ℕ} (s : Stage sli Lanes) (below : ℕ) (t : St
   pub own : List Entry
   pub entries_are : t.entries ≡ s.entries ++ own
   pub posts : ℕ → List Post
-  pub told : own_drain t count ≡ each_lane_own (id_of s.worker) posts (own_drain s 0) below
+  pub told : drain_at t count ≡ took_each_lane (id_of s.worker) posts (drain_at s 0) below
   pub posts_are : (k : ℕ) → posts_taken k (id_of s.worker) own ≡ posts k
   pub only : (k : ℕ) → (k < below → ¬ (HasTake s.worker k)) → posts k ≡ []
   pub moved : (made : List (Option Name)) → LaneMoved (id_of s.worker) made s.worker s.limits [] own t.worker t.limits
@@ -161,7 +161,7 @@ pub record SuitsCall {sli : ℕ} (w : World sli) (n at : ℕ) (made : List (Opti
 
 -- the call was answered so; the entries got longer by those of a drain, and have not its own yet
 pub record LaneStepped {sli : ℕ} (n : ℕ) (s : Stage sli Lanes) (call : Call) (made : List (Option Name)) (t : Stage sli Lanes) (reply : Reply) : Type 0 where
-  pub step : Step (lane_telling sli) n s call made t reply
+  pub step : Step (lane_promise sli) n s call made t reply
   pub exact : (w : World sli) → HasHeap w n (id_of s.worker) (heap_of s.worker) → SuitsCall w n (id_of s.worker) made call reply step.own
       → told_by (id_of s.worker) (called (record { made = made; entries = s.entries; world = w }) (id_of s.worker) call)
       ≡ told_of (made ++ made_by reply ∷ []) (t.entries ++ one (id_of s.worker) call reply) (heap_of t.worker)

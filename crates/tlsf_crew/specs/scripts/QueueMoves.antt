@@ -14,11 +14,11 @@ use Rattle.tlsf_calls.specs.declared.reply.Reply.TheVariants.{Drained, Refused}
 use Rattle.tlsf_crew.specs.model.Sums.{sum_of}
 use Rattle.tlsf_crew.specs.histories.History.{posts_made, posts_taken, StandsBehind}
 pub use Rattle.tlsf_crew.specs.scripts.Scripts.{told_of, entry_by}
-use Rattle.tlsf_crew.specs.scripts.Scripts.{Stage, Step, Telling}
+use Rattle.tlsf_crew.specs.scripts.Scripts.{Stage, Step, ScriptPromise}
 use Rattle.tlsf_crew.specs.declared.worker.worker.Worker.{Worker}
 use Rattle.tlsf_crew.specs.declared.queues.queues.Queues.{Queues}
 use Rattle.tlsf_crew.specs.queues.QueueWorkers.{queue_end_to, KeepsQueueYards, KnowsQueueYard}
-use Rattle.tlsf_crew.specs.model.QueueTold.{MayTellQueue}
+use Rattle.tlsf_crew.specs.model.QueueProgress.{MayTellQueue}
 
 -- so many posts may be taken: as many as a queue may hold, and one for each release of any script
 abbrev pub IsQueueLimit : List ℕ → List ℕ → Type 0
@@ -40,9 +40,9 @@ pub record QueueMoved {sli : ℕ} (at : ℕ) (made : List (Option Name)) (a : Wo
   pub room : length entries + sum_of left ≤ length calls + sum_of limits
 
 -- what the calls of a script tell over queues
-abbrev pub queue_telling : (sli : ℕ) → Telling sli Queues
-queue_telling sli = record { limited = λ queues releases limits. IsQueueLimit releases limits; knows = KnowsQueueYard; tells = MayTellQueue sli; moves = QueueMoved }
+abbrev pub queue_promise : (sli : ℕ) → ScriptPromise sli Queues
+queue_promise sli = record { limited = λ queues releases limits. IsQueueLimit releases limits; knows = KnowsQueueYard; tells = MayTellQueue sli; moves = QueueMoved }
 
 -- the call was answered so; the entries got longer by those of a drain's takes, and have not its own yet
 abbrev pub QueueStepped : {sli : ℕ} → ℕ → Stage sli Queues → Call → List (Option Name) → Stage sli Queues → Reply → Type 0
-QueueStepped {sli} n s call made t reply = Step (queue_telling sli) n s call made t reply
+QueueStepped {sli} n s call made t reply = Step (queue_promise sli) n s call made t reply

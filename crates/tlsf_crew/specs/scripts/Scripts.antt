@@ -19,7 +19,7 @@ use Rattle.tlsf_crew.specs.worker.Calls.{ReleasedHere, ReleasedThere, TakenFrom}
 use Rattle.tlsf_crew.specs.model.Sums.{sum_of}
 use Rattle.tlsf_crew.specs.histories.History.{IsNoPost}
 use Rattle.tlsf_crew.specs.scripts.Journals.{OneFewer}
-use Rattle.tlsf_crew.specs.model.Told.{Told, AllTold, IsModelAnswer, untold}
+use Rattle.tlsf_crew.specs.model.Progress.{Progress, AllTold, IsModelAnswer, untold}
 use Rattle.tlsf_crew.specs.worker.Workers.{heap_of, id_of, SameButHeap}
 use Rattle.tlsf_crew.specs.model.World.{made_by}
 
@@ -34,7 +34,7 @@ last_call = Drain 8192
 abbrev pub script_of : List (List Call) → ℕ → List Call
 script_of scripts j = get_or scripts j []
 
-abbrev pub told_of : List (Option Name) → List Entry → HeapState → Told
+abbrev pub told_of : List (Option Name) → List Entry → HeapState → Progress
 told_of made entries h = record { made = made; entries = entries; heap = h }
 
 abbrev pub entry_by : ℕ → Call → Reply → Entry
@@ -92,30 +92,30 @@ TakenWithin takes a limits source v left (Some took) = (source < 8) × OneFewer 
 -- ---- what calls tell of a worker
 
 -- what the calls of a script may tell over ports of some kind, and what they leave
-pub record Telling (sli : ℕ) (P : Type 0) : Type 1 where
+pub record ScriptPromise (sli : ℕ) (P : Type 0) : Type 1 where
   -- they may take so many posts of each source, where so many releases stand in each script
   pub limited : P → List ℕ → List ℕ → Type 0
   -- the worker is one of so many
   pub knows : ℕ → Worker sli P → Type 0
   -- a worker, one of so many and of that number, may be told one call more so
-  pub tells : ℕ → ℕ → Told → Call → Told → Type 0
+  pub tells : ℕ → ℕ → Progress → Call → Progress → Type 0
   -- the worker of that number, whose calls made these names, has become the other by these calls, as the entries tell. It might take so
   -- many posts of each source, and may take what is left
   pub moves : ℕ → List (Option Name) → Worker sli P → List ℕ → List Call → List Entry → Worker sli P → List ℕ → Type 0
 
 -- what was told at a stage
-abbrev pub told_at : {sli : ℕ} {P : Type 0} → List (Option Name) → Stage sli P → Told
+abbrev pub told_at : {sli : ℕ} {P : Type 0} → List (Option Name) → Stage sli P → Progress
 told_at made s = told_of made s.entries (heap_of s.worker)
 
 -- the call was answered so; the entries got longer by those of a drain's takes, and have not its own yet
-pub record Step {sli : ℕ} {P : Type 0} (by : Telling sli P) (n : ℕ) (s : Stage sli P) (call : Call) (made : List (Option Name)) (t : Stage sli P) (reply : Reply) : Type 0 where
+pub record Step {sli : ℕ} {P : Type 0} (by : ScriptPromise sli P) (n : ℕ) (s : Stage sli P) (call : Call) (made : List (Option Name)) (t : Stage sli P) (reply : Reply) : Type 0 where
   pub own : List Entry
   pub entries_are : t.entries ≡ s.entries ++ own
   pub told : by.tells n (id_of s.worker) (told_at made s) call (told_of (made ++ made_by reply ∷ []) (t.entries ++ entry_by (id_of s.worker) call reply ∷ []) (heap_of t.worker))
   pub moved : (rest : List (Option Name)) → by.moves (id_of s.worker) (made ++ rest) s.worker s.limits (call ∷ []) (own ++ entry_by (id_of s.worker) call reply ∷ []) t.worker t.limits
 
 -- the call was made, and told in full
-pub record CallMade {sli : ℕ} {P : Type 0} (by : Telling sli P) (n : ℕ) (s : Stage sli P) (call : Call) (made : List (Option Name)) (t : Stage sli P) (more : List (Option Name)) : Type 0 where
+pub record CallMade {sli : ℕ} {P : Type 0} (by : ScriptPromise sli P) (n : ℕ) (s : Stage sli P) (call : Call) (made : List (Option Name)) (t : Stage sli P) (more : List (Option Name)) : Type 0 where
   pub name : Option Name
   pub made_are : more ≡ made ++ name ∷ []
   pub own : List Entry
@@ -124,13 +124,13 @@ pub record CallMade {sli : ℕ} {P : Type 0} (by : Telling sli P) (n : ℕ) (s :
   pub moved : (rest : List (Option Name)) → by.moves (id_of s.worker) (made ++ rest) s.worker s.limits (call ∷ []) own t.worker t.limits
 
 -- a worker has made these calls of its script
-pub record ScriptRun {sli : ℕ} {P : Type 0} (by : Telling sli P) (n : ℕ) (a : Worker sli P) (limits : List ℕ) (calls : List Call) (made : List (Option Name)) (t : Stage sli P) : Type 0 where
+pub record ScriptRun {sli : ℕ} {P : Type 0} (by : ScriptPromise sli P) (n : ℕ) (a : Worker sli P) (limits : List ℕ) (calls : List Call) (made : List (Option Name)) (t : Stage sli P) : Type 0 where
   pub told : AllTold (by.tells n (id_of a)) (untold (heap_of a)) calls (told_at made t)
   pub names : length made ≡ length calls
   pub moved : (rest : List (Option Name)) → by.moves (id_of a) (made ++ rest) a limits calls t.entries t.worker t.limits
 
 -- moves join: none, and some behind others. They keep the worker's number and place, and leave room for what may still be taken
-pub record AreMoves {sli : ℕ} {P : Type 0} (by : Telling sli P) : Type 0 where
+pub record AreMoves {sli : ℕ} {P : Type 0} (by : ScriptPromise sli P) : Type 0 where
   pub none : (made : List (Option Name)) (a : Worker sli P) (limits : List ℕ) → by.moves (id_of a) made a limits [] [] a limits
   pub then : (at : ℕ) (made : List (Option Name)) (a b v : Worker sli P) (limits mid left : List ℕ) (calls ds : List Call) (xs ys : List Entry) → by.moves at made a limits calls xs b mid → by.moves at made b mid ds ys v left
       → by.moves at made a limits (calls ++ ds) (xs ++ ys) v left

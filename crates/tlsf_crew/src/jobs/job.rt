@@ -27,9 +27,9 @@ pub(crate) struct Job<const SLI: u32, P = Lanes> {
 impl<const SLI: u32, R, P: Scripted<R>> Work<R> for Job<SLI, P> {
     type Done = Done<SLI, P>;
 
-    ghost is_ready = { λ job. IsReady (P.telling SLI) job };
+    ghost is_ready = { λ job. IsReady (P.promise SLI) job };
 
-    ghost is_done = { λ job done. IsDone (P.telling SLI) job done };
+    ghost is_done = { λ job done. IsDone (P.promise SLI) job done };
 
     /// Runs the script. The gate is passed before each call, and once after the last.
     fn run<G: Gate>(self, rt: &R, gate: &G) -> Done<SLI, P> {

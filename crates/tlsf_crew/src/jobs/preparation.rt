@@ -75,9 +75,9 @@ fn make_job<const SLI: u32, R, P: Scripted<R> + Drop>(
     script: Vec<Call>,
     releases: &[u32; 8],
 ) -> Result<Job<SLI, P>, NoMemory>
-    requires yard { KnowsSome (P.telling SLI).knows worker }
+    requires yard { KnowsSome (P.promise SLI).knows worker }
     requires short { vec_len script < 2 ^ 32 }
-    ensures { IfOk result (λ job. (job.worker ≡ worker) × (job.script ≡ script) × IsPrepared (P.telling SLI) releases.now job) }
+    ensures { IfOk result (λ job. (job.worker ≡ worker) × (job.script ≡ script) × IsPrepared (P.promise SLI) releases.now job) }
 {
     let limits = worker.ports.limits(releases);
     let (made, entries) = room_for_job(alloc, &limits, script.len())?;
@@ -99,12 +99,12 @@ fn add_jobs<const SLI: u32, R, P: Scripted<R> + Drop>(
     jobs: &mut Vec<Job<SLI, P>>,
 ) -> Result<(), NoMemory>
     requires same { vec_len scripts.old ≡ vec_len workers.old }
-    requires yard { All (KnowsSome (P.telling SLI).knows) workers.old.items }
+    requires yard { All (KnowsSome (P.promise SLI).knows) workers.old.items }
     requires short { All (λ s. vec_len s < 2 ^ 32) scripts.old.items }
     requires room { (jobs.old.items ≡ []) × (vec_len workers.old ≤ vec_capacity jobs.old) }
     ensures workers { OnOk result (map (λ j. j.worker) jobs.new.items ≡ workers.old.items) }
     ensures scripts { OnOk result (map (λ j. j.script) jobs.new.items ≡ scripts.old.items) }
-    ensures ready { OnOk result (All (IsPrepared (P.telling SLI) releases.now) jobs.new.items) }
+    ensures ready { OnOk result (All (IsPrepared (P.promise SLI) releases.now) jobs.new.items) }
     ensures len { OnOk result (vec_len jobs.new ≡ vec_len workers.old) }
     ensures capacity { vec_capacity jobs.new ≡ vec_capacity jobs.old }
 {
@@ -126,12 +126,12 @@ pub(crate) fn prepare<const SLI: u32, R, P: Scripted<R> + Drop>(
     scripts: Vec<Vec<Call>>,
     releases: &[u32; 8],
 ) -> Result<Vec<Job<SLI, P>>, NoMemory>
-    requires yard { All (KnowsSome (P.telling SLI).knows) workers.items }
+    requires yard { All (KnowsSome (P.promise SLI).knows) workers.items }
     requires count { vec_len scripts ≡ vec_len workers }
     requires short { All (λ s. vec_len s < 2 ^ 32) scripts.items }
     ensures workers { IfOk result (λ jobs. map (λ j. j.worker) jobs.items ≡ workers.items) }
     ensures scripts { IfOk result (λ jobs. map (λ j. j.script) jobs.items ≡ scripts.items) }
-    ensures ready { IfOk result (λ jobs. All (IsPrepared (P.telling SLI) releases.now) jobs.items) }
+    ensures ready { IfOk result (λ jobs. All (IsPrepared (P.promise SLI) releases.now) jobs.items) }
     ensures len { IfOk result (λ jobs. vec_len jobs ≡ vec_len workers) }
 {
     let mut workers = workers;

@@ -1,7 +1,8 @@
 //! What a worker does over lanes.
-ghost use Rattle.std.specs.Prelude.{◌≡◌, ◌≢◌, ◌+◌, ◌*◌, ◌≤◌, length, Option, None, Some, Ok, Err};
+ghost use Rattle.std.specs.Prelude.{◌≡◌, ◌≢◌, ◌+◌, ◌*◌, ◌≤◌, length, Option, None, Some, Ok, Err, IfOk, IfSome};
 ghost use Rattle.tlsf_calls.specs.declared.took.Took.{Took};
-ghost use Rattle.tlsf_crew.specs.worker.Workers.{touches_of, id_of};
+ghost use Rattle.tlsf_heap.specs.Touched.{FollowsNoForgery};
+ghost use Rattle.tlsf_crew.specs.worker.Workers.{heap_of, touches_of, id_of};
 ghost use Rattle.tlsf_crew.specs.lanes.LaneWorkers.{HasPost, HasTake, HearsLane, ReachesLane, TookThrough};
 ghost use Rattle.tlsf_crew.specs.lanes.LaneCalls.{KeepsYards, PutsIntoLane, TakenFromLane};
 ghost use Rattle.tlsf_crew.specs.worker.Calls.{ReleasedHere, ReleasedThere};
@@ -95,6 +96,7 @@ impl<const SLI: u32> Worker<SLI> {
         ensures yard { KeepsYards self.old self.new }
         ensures touches { touches_of self.new ≤ touches_of self.old + 64 }
         ensures touches_rise { touches_of self.old ≤ touches_of self.new }
+        ensures forged { name.heap ≡ id_of self.old → FollowsNoForgery (heap_of self.old) name (touches_of self.old) (touches_of self.new) }
     {
         release(self, &(), name)
     }
@@ -117,6 +119,7 @@ impl<const SLI: u32> Worker<SLI> {
         ensures yard { KeepsYards self.old self.new }
         ensures touches { touches_of self.new ≤ touches_of self.old + 64 }
         ensures touches_rise { touches_of self.old ≤ touches_of self.new }
+        ensures forged { IfOk result (λ answer. IfSome answer (λ took. FollowsNoForgery (heap_of self.old) took.name (touches_of self.old) (touches_of self.new))) }
     {
         if !self.ports.has_source(from as usize) {
             return Err(CrewRefusal::Stranger);

@@ -1,6 +1,6 @@
 // One lane, both ends in hand.
 ghost use Rattle.std.specs.Prelude.{◌≡◌, ◌≢◌, ℕ, ◌+◌, ◌<◌, ◌≤◌, [], ◌∷◌, ◌++◌, length, vec_len, Some, slice_get, slice_set};
-ghost use Rattle.tlsf_crew.specs.lanes.Yard.{HasEnds, IsYard};
+ghost use Rattle.tlsf_crew.specs.lanes.Yard.{HasYardLane, IsYard};
 ghost use Rattle.tlsf_crew.specs.lanes.LaneSteps.{HasLane, PairSettled, InYard, OnlyLaneSettled};
 ghost use Rattle.tlsf_crew.specs.lanes.LaneWorkers.{HasPost, HasTake, PostEndPut, TakeEndTook};
 
@@ -30,7 +30,7 @@ fn settle_pair<const SLI: u32>(
 pub(crate) fn settle_lane<const SLI: u32>(workers: &mut [Worker<SLI>], i: usize, j: usize)
     requires apart { i ≢ j }
     requires inside { (i < length workers.old) × (j < length workers.old) }
-    requires lane { HasEnds workers.old i j }
+    requires lane { HasYardLane workers.old i j }
     ensures { OnlyLaneSettled workers.old i j workers.new }
 {
     if i < j {

@@ -1,6 +1,7 @@
 //! The queues of a worker, and what it does over them.
-ghost use Rattle.std.specs.Prelude.{◌≡◌, ◌≢◌, ◌+◌, ◌*◌, ◌≤◌, ⊤, Some, Err};
+ghost use Rattle.std.specs.Prelude.{◌≡◌, ◌≢◌, ◌+◌, ◌*◌, ◌≤◌, ⊤, Some, Err, IfSome};
 ghost use Rattle.tlsf_heap.specs.declared.refusal.Refusal.TheVariants.{Foreign};
+ghost use Rattle.tlsf_heap.specs.Touched.{FollowsNoForgery};
 ghost use Rattle.tlsf_crew.specs.worker.Workers.{heap_of, touches_of, id_of};
 ghost use Rattle.tlsf_crew.specs.worker.Calls.{PostedThere, ReleasedHere, ReleasedThere};
 ghost use Rattle.tlsf_crew.specs.queues.QueueWorkers.{HasQueueEnd, KeepsQueueYards, ReachesQueue, PutsIntoQueue, AsksQueue};
@@ -125,6 +126,7 @@ impl<const SLI: u32> QueueWorker<SLI> {
         ensures yard { KeepsQueueYards self.old self.new }
         ensures touches { touches_of self.new ≤ touches_of self.old + 64 }
         ensures touches_rise { touches_of self.old ≤ touches_of self.new }
+        ensures forged { name.heap ≡ id_of self.old → FollowsNoForgery (heap_of self.old) name (touches_of self.old) (touches_of self.new) }
     {
         release(self, rt, name)
     }
@@ -146,6 +148,7 @@ impl<const SLI: u32> QueueWorker<SLI> {
         ensures yard { KeepsQueueYards self.old self.new }
         ensures touches { touches_of self.new ≤ touches_of self.old + 64 }
         ensures touches_rise { touches_of self.old ≤ touches_of self.new }
+        ensures forged { IfSome result (λ took. FollowsNoForgery (heap_of self.old) took.name (touches_of self.old) (touches_of self.new)) }
     {
         take_next(self, rt, 0)
     }

@@ -10,19 +10,18 @@ ghost use Rattle.tlsf_heap.specs.declared.name.Name.{Name};
 ghost use Rattle.tlsf_calls.specs.declared.call.Call.TheVariants.{Drain};
 ghost use Rattle.tlsf_crew.specs.races.LaneTasks.{KeepRooms};
 ghost use Rattle.tlsf_crew.specs.races.Rooms.{HaveQueueRecordRooms};
-ghost use Rattle.tlsf_crew.specs.races.QueueTasks.{QueueLastDrained, Finished, HasPlace, EachQueueWorkerRan, KnowsSomeYard, EachQueueLastDrained};
+ghost use Rattle.tlsf_crew.specs.races.QueueTasks.{QueueLastDrained, SettledAndDrained, HasPlace, KnowsSomeYard, EachQueueLastDrained};
 ghost use Rattle.tlsf_crew.specs.scripts.Scripts.{stage_of};
 
-use crate::jobs::fan_out::{run_all, take_apart};
 use crate::jobs::gate::Gate;
-use crate::jobs::outcome::{Outcome, QueueOutcome};
-use crate::jobs::preparation::{count_all, prepare};
+use crate::jobs::outcome::QueueOutcome;
+use crate::jobs::running::run_scripts;
 use crate::queues::queue_settle::settle_each_queue;
-use crate::queues::queues::{QueueWorker, Queues};
+use crate::queues::queues::QueueWorker;
 use crate::scripts::journal::Journal;
 use crate::worker::worker::drain_source;
 use std::alloc::Global;
-use std::marker::Sync;
+use std::marker::{PhantomData, Sync};
 use std::mem;
 use std::sync::Wait;
 use std::thread::Threads;
@@ -70,7 +69,7 @@ pub fn race_queues<const SLI: u32, R: Threads + Wait + Sync, G: Gate>(
     let mut workers = workers;
     let mut posters = Vec::with_capacity(alloc, workers.len())?;
     settle_each_queue(&mut workers, &mut posters);
-    let mut outcome = run_scripts(rt, alloc, workers, scripts, gate)?;
+    let mut outcome = run_scripts(rt, alloc, workers, scripts, gate, PhantomData)?;
     finish(
         rt,
         alloc,
@@ -78,29 +77,6 @@ pub fn race_queues<const SLI: u32, R: Threads + Wait + Sync, G: Gate>(
         &mut outcome.records,
         &mut posters,
     );
-    Ok(outcome)
-}
-
-/// Makes all room, and runs each script in a thread of its own.
-fn run_scripts<const SLI: u32, R: Threads + Wait + Sync, G: Gate>(
-    rt: &R,
-    alloc: Global,
-    workers: Vec<QueueWorker<SLI>>,
-    scripts: Vec<Vec<Call>>,
-    gate: &G,
-) -> Result<QueueOutcome<SLI>, NoMemory>
-    requires yard { IsQueueYard workers.items }
-    requires count { vec_len scripts ≡ vec_len workers }
-    requires short { All (λ s. vec_len s < 2 ^ 32) scripts.items }
-    ensures run { IfOk result (λ o. EachQueueWorkerRan workers.entry.items (map (λ s. s.items) scripts.items) (map (λ r. r.items) o.records.items) o.workers.items) }
-    ensures places { IfOk result (λ o. All HasPlace o.records.items) }
-    ensures rooms { IfOk result (λ o. HaveQueueRecordRooms (map (λ s. s.items) scripts.items) o.records.items) }
-{
-    let releases = count_all(&scripts);
-    let jobs = prepare::<SLI, R, Queues>(alloc, workers, scripts, &releases)?;
-    let mut outcome = Outcome::with_room(alloc, jobs.len())?;
-    let mut done = run_all(rt, alloc, jobs, gate)?;
-    take_apart(&mut done, &mut outcome);
     Ok(outcome)
 }
 
@@ -117,7 +93,7 @@ fn finish<const SLI: u32, R: Wait>(
     requires places { All HasPlace records.old }
     requires room { length workers.old ≤ vec_capacity posters.old }
     ensures rooms { KeepRooms records.old records.new }
-    ensures finished { Finished workers.old (map (λ r. r.items) records.old) (map (λ r. r.items) records.new) workers.new }
+    ensures finished { SettledAndDrained workers.old (map (λ r. r.items) records.old) (map (λ r. r.items) records.new) workers.new }
 {
     settle_each_queue(workers, posters);
     drain_all(rt, alloc, workers, records);

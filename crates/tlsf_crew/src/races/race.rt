@@ -7,19 +7,17 @@ ghost use Rattle.tlsf_crew.specs.replays.ReplaySteps.{replay_of};
 ghost use Rattle.tlsf_crew.specs.scripts.Scripts.{last_call};
 ghost use Rattle.tlsf_crew.specs.races.Race.{IsRace};
 ghost use Rattle.tlsf_crew.specs.races.Rooms.{HaveRecordRooms};
-ghost use Rattle.tlsf_crew.specs.races.LaneTasks.{EachLaneWorkerRan, HaveRooms, KeepRooms, HasFew, HasLastRoom, EachHasLastRoom, EachLastDrained};
+ghost use Rattle.tlsf_crew.specs.races.LaneTasks.{KeepRooms, HasFew, HasLastRoom, EachHasLastRoom, EachLastDrained};
 
-use crate::jobs::fan_out::{run_all, take_apart};
 use crate::jobs::gate::Gate;
 use crate::jobs::outcome::Outcome;
-use crate::jobs::preparation::{count_all, prepare};
+use crate::jobs::running::run_scripts;
 use crate::lanes::settle::settle;
 use crate::replays::replay::reply_in_yard;
 use crate::scripts::journal::Journal;
-use crate::worker::lanes::Lanes;
 use crate::worker::worker::Worker;
 use std::alloc::Global;
-use std::marker::Sync;
+use std::marker::{PhantomData, Sync};
 use std::mem;
 use std::sync::Wait;
 use std::thread::Threads;
@@ -66,31 +64,9 @@ pub fn race<const SLI: u32, R: Threads + Wait + Sync, G: Gate>(
 {
     let mut workers = workers;
     settle(&mut workers);
-    let mut outcome = run_scripts(rt, alloc, workers, scripts, gate)?;
+    let mut outcome = run_scripts(rt, alloc, workers, scripts, gate, PhantomData)?;
     settle(&mut outcome.workers);
     drain_all(alloc, &mut outcome.workers, &mut outcome.records);
-    Ok(outcome)
-}
-
-/// Makes all room, and runs each script in a thread of its own.
-fn run_scripts<const SLI: u32, R: Threads + Wait + Sync, G: Gate>(
-    rt: &R,
-    alloc: Global,
-    workers: Vec<Worker<SLI>>,
-    scripts: Vec<Vec<Call>>,
-    gate: &G,
-) -> Result<Outcome<SLI>, NoMemory>
-    requires yard { IsYard workers.items }
-    requires count { vec_len scripts ≡ vec_len workers }
-    requires short { All (λ s. vec_len s < 2 ^ 32) scripts.items }
-    ensures run { IfOk result (λ o. EachLaneWorkerRan workers.entry.items (map (λ s. s.items) scripts.items) (map (λ r. r.items) o.records.items) o.workers.items) }
-    ensures rooms { IfOk result (λ o. HaveRooms workers.entry.items (map (λ s. s.items) scripts.items) o.records.items) }
-{
-    let releases = count_all(&scripts);
-    let jobs = prepare::<SLI, R, Lanes>(alloc, workers, scripts, &releases)?;
-    let mut outcome = Outcome::with_room(alloc, jobs.len())?;
-    let mut done = run_all(rt, alloc, jobs, gate)?;
-    take_apart(&mut done, &mut outcome);
     Ok(outcome)
 }
 

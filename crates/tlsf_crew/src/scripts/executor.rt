@@ -69,7 +69,7 @@ fn reply_to_release<const SLI: u32, C, P: Scripted<C>>(
     context: &C,
     name: Option<Name>,
 ) -> Reply
-    ensures { (n : ℕ) (limits : List ℕ) (target : Target) (made : List (Option Name)) (entries : List Entry) → name_of made target ≡ name → (P.telling SLI).knows n worker.old
+    ensures { (n : ℕ) (limits : List ℕ) (target : Target) (made : List (Option Name)) (entries : List Entry) → name_of made target ≡ name → (P.promise SLI).knows n worker.old
         → P.steps SLI n (at_stage worker.old limits entries) (Release target) made (at_stage worker.new limits entries) result }
 {
     P::heap_keeps();
@@ -100,7 +100,7 @@ fn reply_to_take<const SLI: u32, C, P: Scripted<C>>(
     journal: &mut Journal,
     from: u32,
 ) -> Reply
-    ensures stepped { (n : ℕ) (made : List (Option Name)) → (P.telling SLI).knows n worker.old
+    ensures stepped { (n : ℕ) (made : List (Option Name)) → (P.promise SLI).knows n worker.old
         → P.steps SLI n (stage_of worker.old journal.old) (Take from) made (at_stage worker.new journal.new.limits journal.old.entries.items) result }
     ensures entries { journal.new.entries ≡ journal.old.entries }
 {
@@ -130,7 +130,7 @@ pub(crate) fn reply_to<const SLI: u32, C, P: Scripted<C>>(
     name: Option<Name>,
 ) -> Reply
     requires room { HasTakePlaces journal.old }
-    ensures stepped { (n : ℕ) (made : List (Option Name)) → target_name made call ≡ name → (P.telling SLI).knows n worker.old
+    ensures stepped { (n : ℕ) (made : List (Option Name)) → target_name made call ≡ name → (P.promise SLI).knows n worker.old
         → P.steps SLI n (stage_of worker.old journal.old) call made (stage_of worker.new journal.new) result }
     ensures capacity { vec_capacity journal.new.entries ≡ vec_capacity journal.old.entries }
 {
@@ -156,11 +156,11 @@ pub(crate) fn run_call<const SLI: u32, C, P: Scripted<C>>(
     call: Call,
     made: &mut Vec<Option<Name>>,
 )
-    requires knows { (n : ℕ) × (P.telling SLI).knows n worker.old }
+    requires knows { (n : ℕ) × (P.promise SLI).knows n worker.old }
     requires names { vec_len made.old < vec_capacity made.old }
     requires room { vec_len journal.old.entries + sum_of journal.old.limits < vec_capacity journal.old.entries }
-    ensures called { (n : ℕ) → (P.telling SLI).knows n worker.old
-        → CallMade (P.telling SLI) n (stage_of worker.old journal.old) call made.old.items (stage_of worker.new journal.new) made.new.items }
+    ensures called { (n : ℕ) → (P.promise SLI).knows n worker.old
+        → CallMade (P.promise SLI) n (stage_of worker.old journal.old) call made.old.items (stage_of worker.new journal.new) made.new.items }
     ensures capacity { (vec_capacity made.new ≡ vec_capacity made.old) × (vec_capacity journal.new.entries ≡ vec_capacity journal.old.entries) }
 {
     P::moves_join();

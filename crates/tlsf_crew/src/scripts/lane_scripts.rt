@@ -1,13 +1,13 @@
 //! What the calls of a script tell over lanes.
 ghost use Rattle.std.specs.Prelude.{◌+◌};
-ghost use Rattle.tlsf_crew.specs.scripts.LaneMoves.{LaneStepped, lane_telling};
+ghost use Rattle.tlsf_crew.specs.scripts.LaneMoves.{LaneStepped, lane_promise};
 
 use crate::scripts::room::count_from;
 use crate::scripts::scripted::Scripted;
 use crate::worker::lanes::Lanes;
 
 impl<C> Scripted<C> for Lanes {
-    ghost telling = { lane_telling };
+    ghost promise = { lane_promise };
 
     ghost steps = { λ sli n s call made t reply. LaneStepped n s call made t reply };
 

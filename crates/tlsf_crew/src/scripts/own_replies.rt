@@ -7,7 +7,7 @@ ghost use Rattle.tlsf_crew.specs.model.Heaps.{as_chunk, chunk_read};
 ghost use Rattle.tlsf_crew.specs.worker.Workers.{heap_of, SameButHeap};
 ghost use Rattle.tlsf_crew.specs.model.World.{name_of};
 ghost use Rattle.tlsf_crew.specs.model.Targets.{target_name};
-ghost use Rattle.tlsf_crew.specs.model.OwnReplies.{HeapReplies, own_allocating, own_writing, own_reading, own_resizing};
+ghost use Rattle.tlsf_crew.specs.model.OwnReplies.{IsHeapReply, own_allocating, own_writing, own_reading, own_resizing};
 
 use crate::worker::ports::Ports;
 use crate::worker::worker::Worker;
@@ -48,7 +48,7 @@ pub(crate) fn reply_to_own_allocate<const SLI: u32, P: Ports>(
     worker: &mut Worker<SLI, P>,
     len: u32,
 ) -> Reply
-    ensures replied { HeapReplies result (heap_of worker.new) (own_allocating SLI (heap_of worker.old) len) }
+    ensures replied { IsHeapReply result (heap_of worker.new) (own_allocating SLI (heap_of worker.old) len) }
     ensures same { SameButHeap worker.old worker.new }
     ensures yard { P.keeps_yards SLI worker.old worker.new }
 {
@@ -65,7 +65,7 @@ pub(crate) fn reply_to_own_write<const SLI: u32, P: Ports>(
     from: u32,
     bytes: Chunk,
 ) -> Reply
-    ensures replied { HeapReplies result (heap_of worker.new) (own_writing (heap_of worker.old) name from (bytes_of bytes)) }
+    ensures replied { IsHeapReply result (heap_of worker.new) (own_writing (heap_of worker.old) name from (bytes_of bytes)) }
     ensures same { SameButHeap worker.old worker.new }
 {
     let Some(name) = name else {
@@ -129,7 +129,7 @@ pub(crate) fn reply_to_own_read<const SLI: u32, P: Ports>(
     from: u32,
     n: u32,
 ) -> Reply
-    ensures replied { HeapReplies result (heap_of worker.new) (own_reading (heap_of worker.old) name from n) }
+    ensures replied { IsHeapReply result (heap_of worker.new) (own_reading (heap_of worker.old) name from n) }
     ensures same { SameButHeap worker.old worker.new }
 {
     let Some(name) = name else {
@@ -147,7 +147,7 @@ pub(crate) fn reply_to_own_resize<const SLI: u32, P: Ports>(
     name: Option<Name>,
     len: u32,
 ) -> Reply
-    ensures replied { HeapReplies result (heap_of worker.new) (own_resizing (heap_of worker.old) name len) }
+    ensures replied { IsHeapReply result (heap_of worker.new) (own_resizing (heap_of worker.old) name len) }
     ensures same { SameButHeap worker.old worker.new }
 {
     let Some(name) = name else {

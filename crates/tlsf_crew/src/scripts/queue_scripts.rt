@@ -1,6 +1,6 @@
 //! What the calls of a script tell over queues.
 ghost use Rattle.std.specs.Prelude.{◌+◌};
-ghost use Rattle.tlsf_crew.specs.scripts.QueueMoves.{QueueStepped, queue_telling};
+ghost use Rattle.tlsf_crew.specs.scripts.QueueMoves.{QueueStepped, queue_promise};
 
 use crate::queues::queues::Queues;
 use crate::scripts::scripted::Scripted;
@@ -8,7 +8,7 @@ use crate::worker::opening::MOST_CAPACITY;
 use std::sync::Wait;
 
 impl<R: Wait> Scripted<R> for Queues {
-    ghost telling = { queue_telling };
+    ghost promise = { queue_promise };
 
     ghost steps = { λ sli n s call made t reply. QueueStepped n s call made t reply };
 

@@ -17,7 +17,7 @@ ghost use Rattle.tlsf_crew.specs.declared.scripts.journal.Journal.{Journal};
 ghost use Rattle.tlsf_crew.specs.worker.Notes.{AllNoted};
 ghost use Rattle.tlsf_crew.specs.scripts.Journals.{IsAdmitted, EntersTake};
 ghost use Rattle.tlsf_crew.specs.worker.Calls.{ReleasedThere};
-ghost use Rattle.tlsf_crew.specs.scripts.Scripts.{reply_took, AreMoves, QuietCall, Stage, Step, TakenWithin, Telling, at_stage, stage_of, reply_released};
+ghost use Rattle.tlsf_crew.specs.scripts.Scripts.{reply_took, AreMoves, QuietCall, Stage, Step, TakenWithin, ScriptPromise, at_stage, stage_of, reply_released};
 ghost use Rattle.tlsf_crew.specs.worker.Workers.{id_of};
 ghost use Rattle.tlsf_crew.specs.model.World.{name_of};
 
@@ -26,7 +26,7 @@ use crate::worker::ports::Exchange;
 /// Ports over which the calls of a script are made. All of its functions but the first do nothing but say what holds of them.
 pub(crate) trait Scripted<C>: Exchange<C> {
     // What the calls of a script may tell of such workers, and what they leave.
-    ghost telling: { (sli : ℕ) → Telling sli Self };
+    ghost promise: { (sli : ℕ) → ScriptPromise sli Self };
 
     // A call of a worker, one of so many, was answered so. The entries got longer by those of a drain's takes, and have not its own yet.
     ghost steps: { (sli : ℕ) → ℕ → Stage sli Self → Call → List (Option Name) → Stage sli Self → Reply → Type 0 };
@@ -34,39 +34,39 @@ pub(crate) trait Scripted<C>: Exchange<C> {
     /// How many posts of each source the calls of a script may take: all that may wait at its start, and one for each release
     /// of a script that may post one.
     fn limits(&self, releases: &[u32; 8]) -> [u64; 8]
-        ensures limited { (sli : ℕ) → (telling sli).limited self.now releases.now result }
+        ensures limited { (sli : ℕ) → (promise sli).limited self.now releases.now result }
         ensures few { (i : ℕ) → i < 8 → slice_index result i ≤ 2 ^ 36 };
 
     /// Moves join.
     fn moves_join()
-        ensures { (sli : ℕ) → AreMoves (telling sli) };
+        ensures { (sli : ℕ) → AreMoves (promise sli) };
 
     /// A step tells its call and is a move.
     fn steps_tell()
-        ensures { (sli n : ℕ) (s t : Stage sli Self) (call : Call) (made : List (Option Name)) (reply : Reply) → steps sli n s call made t reply → Step (telling sli) n s call made t reply };
+        ensures { (sli n : ℕ) (s t : Stage sli Self) (call : Call) (made : List (Option Name)) (reply : Reply) → steps sli n s call made t reply → Step (promise sli) n s call made t reply };
 
     /// A call that posts and takes nothing, and is answered as the model answers it, is a step.
     fn quiet_step()
-        ensures { (sli n : ℕ) (a v : Worker sli Self) (limits : List ℕ) (call : Call) (made : List (Option Name)) (entries : List Entry) (reply : Reply) → (telling sli).knows n a → Self.keeps_yards sli a v
+        ensures { (sli n : ℕ) (a v : Worker sli Self) (limits : List ℕ) (call : Call) (made : List (Option Name)) (entries : List Entry) (reply : Reply) → (promise sli).knows n a → Self.keeps_yards sli a v
             → QuietCall n a v call made entries reply → steps sli n (at_stage a limits entries) call made (at_stage v limits entries) reply };
 
     /// What a post answers is a step. There is a port to each other worker, and to none else.
     fn posts_step()
-        ensures posted { (sli n : ℕ) (a v : Worker sli Self) (limits : List ℕ) (target : Target) (name : Name) (made : List (Option Name)) (entries : List Entry) (answer : Result Released CrewRefusal) → (telling sli).knows n a
+        ensures posted { (sli n : ℕ) (a v : Worker sli Self) (limits : List ℕ) (target : Target) (name : Name) (made : List (Option Name)) (entries : List Entry) (answer : Result Released CrewRefusal) → (promise sli).knows n a
             → name_of made target ≡ Some name → name.heap ≢ id_of a → Self.reaches a.ports name.heap → ReleasedThere Self.puts a v name answer
             → steps sli n (at_stage a limits entries) (Release target) made (at_stage v limits entries) (reply_released answer) }
-        ensures reached { (sli n : ℕ) (a : Worker sli Self) (j : ℕ) → (telling sli).knows n a → Self.reaches a.ports j ⊎ ((j ≢ id_of a → n ≤ j) × ¬ (Self.reaches a.ports j)) };
+        ensures reached { (sli n : ℕ) (a : Worker sli Self) (j : ℕ) → (promise sli).knows n a → Self.reaches a.ports j ⊎ ((j ≢ id_of a → n ≤ j) × ¬ (Self.reaches a.ports j)) };
 
     /// What a take answers is a step: it is refused where no source is that worker's.
     fn takes_step()
-        ensures stranger { (sli n : ℕ) (a : Worker sli Self) (limits : List ℕ) (from : ℕ) (made : List (Option Name)) (entries : List Entry) → (telling sli).knows n a → ((Self.sent_by from ≡ None) → ¬ (Self.hears a.ports from))
+        ensures stranger { (sli n : ℕ) (a : Worker sli Self) (limits : List ℕ) (from : ℕ) (made : List (Option Name)) (entries : List Entry) → (promise sli).knows n a → ((Self.sent_by from ≡ None) → ¬ (Self.hears a.ports from))
             → steps sli n (at_stage a limits entries) (Take from) made (at_stage a limits entries) (Refused Stranger) }
-        ensures taken { (sli n : ℕ) (a v : Worker sli Self) (limits left : List ℕ) (from : ℕ) (made : List (Option Name)) (entries : List Entry) (answer : Option Took) → (telling sli).knows n a → Self.sent_by from ≡ None → Self.hears a.ports from
+        ensures taken { (sli n : ℕ) (a v : Worker sli Self) (limits left : List ℕ) (from : ℕ) (made : List (Option Name)) (entries : List Entry) (answer : Option Took) → (promise sli).knows n a → Self.sent_by from ≡ None → Self.hears a.ports from
             → TakenWithin Self.takes a limits from v left answer → steps sli n (at_stage a limits entries) (Take from) made (at_stage v left entries) (reply_took answer) };
 
     /// What a drain answers is a step.
     fn drains_step()
-        ensures { (sli n : ℕ) (a v : Worker sli Self) (x y : Journal) (most : ℕ) (made : List (Option Name)) (answer : WasDrained) → (telling sli).knows n a
+        ensures { (sli n : ℕ) (a v : Worker sli Self) (x y : Journal) (most : ℕ) (made : List (Option Name)) (answer : WasDrained) → (promise sli).knows n a
             → AllNoted (record { hears = Self.hears; takes = Self.takes; stops = Self.stops; sent_by = Self.sent_by; admitted = IsAdmitted; noted = EntersTake }) a v x y (Self.sources a.ports) most answer
             → steps sli n (stage_of a x) (Drain most) made (stage_of v y) (Drained answer.taken) };
 }

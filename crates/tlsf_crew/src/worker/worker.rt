@@ -1,5 +1,5 @@
 ghost use Rattle.std.specs.Fn.{FnOnceTakesAt, FnOnceTakesAtMut};
-ghost use Rattle.std.specs.Prelude.{◌≡◌, ◌≢◌, ℕ, ◌+◌, ◌*◌, ◌/◌, ◌≤◌, List, length, Err, OnSome, IfNone, IfOk, OnErr};
+ghost use Rattle.std.specs.Prelude.{◌≡◌, ◌≢◌, ℕ, ◌+◌, ◌*◌, ◌/◌, ◌≤◌, List, length, Err, OnSome, IfSome, IfNone, IfOk, OnErr};
 ghost use Rattle.std.specs.Result.{result_unwrap_or};
 ghost use Rattle.tlsf_class.specs.Classes.{most_words};
 ghost use Rattle.tlsf_heap.specs.Calls.{allocated, released, written, read_of, read_answer, resized};
@@ -9,6 +9,7 @@ ghost use Rattle.tlsf_heap.specs.Lawful.{IsLawful};
 ghost use Rattle.tlsf_heap.specs.Laws.{IsLive};
 ghost use Rattle.tlsf_heap.specs.Placed.{placed_at};
 ghost use Rattle.tlsf_heap.specs.Reports.{report_of};
+ghost use Rattle.tlsf_heap.specs.Touched.{FollowsNoForgery};
 ghost use Rattle.tlsf_calls.specs.declared.took.Took.{Took};
 ghost use Rattle.tlsf_crew.specs.declared.worker.worker.Worker.{Worker};
 ghost use Rattle.tlsf_crew.specs.worker.Workers.{heap_of, touches_of, id_of, SameButHeap, KeepsHeap};
@@ -77,6 +78,7 @@ pub(crate) fn release<const SLI: u32, C, P: Exchange<C>>(
     ensures nowhere { name.heap ≢ id_of worker.old → ¬ (P.reaches worker.old.ports name.heap) → (result ≡ Err CrewRefusal.Stranger) × (worker.new ≡ worker.old) }
     ensures touches { touches_of worker.new ≤ touches_of worker.old + 64 }
     ensures touches_rise { touches_of worker.old ≤ touches_of worker.new }
+    ensures forged { name.heap ≡ id_of worker.old → FollowsNoForgery (heap_of worker.old) name (touches_of worker.old) (touches_of worker.new) }
 {
     if name.heap == worker.id {
         return match worker.heap.release(name) {
@@ -102,6 +104,7 @@ pub(crate) fn take_next<const SLI: u32, C, P: Exchange<C>>(
     ensures touches { OnSome result (touches_of worker.new ≤ touches_of worker.old + 64) }
     ensures untouched { IfNone result (touches_of worker.new ≡ touches_of worker.old) }
     ensures touches_rise { touches_of worker.old ≤ touches_of worker.new }
+    ensures forged { IfSome result (λ took. FollowsNoForgery (heap_of worker.old) took.name (touches_of worker.old) (touches_of worker.new)) }
 {
     let post = worker.ports.take(context, source)?;
     let answer = worker.heap.release(post.name);
@@ -208,6 +211,7 @@ impl<const SLI: u32, P: Ports> Worker<SLI, P> {
         ensures yard { P.keeps_yards SLI self.old self.new }
         ensures touches { touches_of self.new ≤ touches_of self.old + 64 }
         ensures touches_rise { touches_of self.old ≤ touches_of self.new }
+        ensures forged { FollowsNoForgery (heap_of self.old) name (touches_of self.old) (touches_of self.new) }
     {
         as_crew::<P, _>(self.heap.release(name))
     }
@@ -224,6 +228,7 @@ impl<const SLI: u32, P: Ports> Worker<SLI, P> {
         ensures yard { P.keeps_yards SLI self.old self.new }
         ensures touches { touches_of self.new ≤ touches_of self.old + 4 + 2 * (length bytes.now / 8 + 2) }
         ensures touches_rise { touches_of self.old ≤ touches_of self.new }
+        ensures forged { FollowsNoForgery (heap_of self.old) name (touches_of self.old) (touches_of self.new) }
     {
         as_crew::<P, _>(self.heap.write(name, at, bytes))
     }
@@ -242,6 +247,7 @@ impl<const SLI: u32, P: Ports> Worker<SLI, P> {
         ensures yard { P.keeps_yards SLI self.old self.new }
         ensures touches { touches_of self.new ≤ touches_of self.old + 4 + (length out.old / 8 + 2) }
         ensures touches_rise { touches_of self.old ≤ touches_of self.new }
+        ensures forged { FollowsNoForgery (heap_of self.old) name (touches_of self.old) (touches_of self.new) }
     {
         as_crew::<P, _>(self.heap.read(name, at, out))
     }
@@ -269,6 +275,7 @@ impl<const SLI: u32, P: Ports> Worker<SLI, P> {
         ensures yard { P.keeps_yards SLI self.old self.new }
         ensures touches { touches_of self.new ≤ touches_of self.old + 4 }
         ensures touches_rise { touches_of self.old ≤ touches_of self.new }
+        ensures forged { FollowsNoForgery (heap_of self.old) name (touches_of self.old) (touches_of self.new) }
     {
         as_crew::<P, _>(self.heap.alter(name, f))
     }
@@ -292,6 +299,7 @@ impl<const SLI: u32, P: Ports> Worker<SLI, P> {
         ensures yard { P.keeps_yards SLI self.old self.new }
         ensures touches { touches_of self.new ≤ touches_of self.old + 4 }
         ensures touches_rise { touches_of self.old ≤ touches_of self.new }
+        ensures forged { FollowsNoForgery (heap_of self.old) name (touches_of self.old) (touches_of self.new) }
     {
         as_crew::<P, _>(self.heap.inspect(name, f))
     }
@@ -315,6 +323,7 @@ impl<const SLI: u32, P: Ports> Worker<SLI, P> {
         ensures yard { P.keeps_yards SLI self.old self.new }
         ensures touches { touches_of self.new ≤ touches_of self.old + 64 + payload_words_left (resized (heap_of self.old) name len).answer (heap_of self.new) name }
         ensures touches_rise { touches_of self.old ≤ touches_of self.new }
+        ensures forged { FollowsNoForgery (heap_of self.old) name (touches_of self.old) (touches_of self.new) }
     {
         as_crew::<P, _>(self.heap.resize(name, len))
     }

@@ -14,7 +14,7 @@ use Rattle.tlsf_crew.specs.model.Heaps.{allocated, released}
 use Rattle.tlsf_calls.specs.declared.reply.Reply.TheVariants.{Freed, Posted, Refused}
 use Rattle.tlsf_calls.specs.declared.crew_refusal.CrewRefusal.{CrewRefusal}
 use Rattle.tlsf_calls.specs.declared.crew_refusal.CrewRefusal.TheVariants.{Heap, Full}
-use Rattle.tlsf_crew.specs.model.World.{World, Replied, Replayed, with_heap, with_waiting, heap_in, made_by, reply_made, reply_freed, releasing, freeing, posting}
+use Rattle.tlsf_crew.specs.model.World.{World, WorldReply, Replayed, with_heap, with_waiting, heap_in, made_by, reply_made, reply_freed, releasing, freeing, posting}
 use Rattle.tlsf_crew.specs.fair_runs.FairRuns.{IsNotStale}
 use Rattle.tlsf_crew.proofs.lemmas.worker.Slots.{some_same}
 use Rattle.tlsf_crew.proofs.lemmas.model.OneEvent.{releasing_post}
@@ -37,7 +37,7 @@ module _ {sli : ℕ} (r : Replayed sli) (gone gone2 : Name → Type 0) (more : (
   Before = IsKept (IsMade r.made) gone r.world
 
   -- one answer more
-  abbrev pub After : Replied sli → Type 0
+  abbrev pub After : WorldReply sli → Type 0
   After x = IsKept (IsMade (r.made ++ made_by x.reply ∷ [])) gone2 x.world × IsNotStale x.reply
 
   -- with no name more

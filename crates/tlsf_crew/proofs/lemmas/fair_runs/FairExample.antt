@@ -6,7 +6,7 @@ use Rattle.tlsf_calls.specs.declared.event.Event.{Event}
 use Rattle.tlsf_calls.specs.declared.call.Call.TheVariants.{Allocate}
 use Rattle.tlsf_crew.specs.model.Heaps.{allocated, released}
 use Rattle.tlsf_crew.specs.model.Opening.{opened_world}
-use Rattle.tlsf_crew.specs.model.World.{after, after_drain, begun, drained_lane, draining, posting, replies}
+use Rattle.tlsf_crew.specs.model.World.{after, after_drain, begun, drained_waiting, draining, posting, replies}
 use Rattle.tlsf_crew.specs.fair_runs.FairRuns.{IsFairRun, fair_entries, fair_events}
 
 abbrev allocates : Event
@@ -26,5 +26,5 @@ run_is_fair = record {
 }
 
 pub run_is_told : (replies (opened_world {sli = 4} 2 64 4) fair_events).entries ≡ fair_entries
-unfolding replies after allocated released posting draining after_drain drained_lane search_of classes low class_of
+unfolding replies after allocated released posting draining after_drain drained_waiting search_of classes low class_of
 run_is_told = refl

@@ -18,8 +18,8 @@ use Rattle.tlsf_calls.specs.declared.target.Target.{Target}
 use Rattle.tlsf_calls.specs.declared.reply.Reply.{Reply}
 use Rattle.tlsf_calls.specs.declared.reply.Reply.TheVariants.{Freed, Posted, Refused}
 use Rattle.tlsf_calls.specs.declared.crew_refusal.CrewRefusal.TheVariants.{Stranger}
-use Rattle.tlsf_crew.specs.model.World.{World, Replied, Replayed, with_heap, heap_in, reply_wrote, reply_got, reply_resized, releasing, releasing_named, writing_named, reading_named, resizing_named, taking, taking_next, took_first, took, name_of, called, after, draining, begun, replies}
-use Rattle.tlsf_crew.specs.fair_runs.FairRuns.{NoneStale, IsUsable, IsFairCall, IsAnswered, Releases, IsFair, HasIds, IsFairRun, WaitLive}
+use Rattle.tlsf_crew.specs.model.World.{World, WorldReply, Replayed, with_heap, heap_in, reply_wrote, reply_got, reply_resized, releasing, releasing_named, writing_named, reading_named, resizing_named, taking, taking_next, took_first, took, name_of, called, after, draining, begun, replies}
+use Rattle.tlsf_crew.specs.fair_runs.FairRuns.{NoneStale, IsUsable, IsFairCall, IsAnswered, GivesBack, IsFair, HasIds, IsFairRun, WaitLive}
 use Rattle.tlsf_crew.proofs.lemmas.model.OneEvent.{same_heap, taking_lane, taking_own, taking_far}
 use Rattle.tlsf_crew.proofs.lemmas.model.EventSteps.{after_far, after_near, replies_is}
 use Rattle.tlsf_crew.proofs.lemmas.fair_runs.HeapNames.{written_known, written_id, written_stays, resized_known, resized_id, resized_stays, chunk_known}
@@ -28,7 +28,7 @@ use Rattle.tlsf_crew.proofs.lemmas.fair_runs.PostsKept.{took_kept, none_push, al
 use Rattle.tlsf_crew.proofs.lemmas.fair_runs.FairEvents.{IsMade, After, same_made, more_gone, idle, refused_kept, stays_kept, allocate_kept, release_kept}
 
 module _ {sli : ℕ} (r : Replayed sli) (gone gone2 : Name → Type 0) (more : (n : Name) → gone n → gone2 n) (kept : IsKept (IsMade r.made) gone r.world) where
-  abbrev Next : Replied sli → Type 0
+  abbrev Next : WorldReply sli → Type 0
   Next x = After r gone gone2 more x
 
   -- a usable name of the own heap is live in it
@@ -146,7 +146,7 @@ list_kept : {sli : ℕ} (es : List Event) (r : Replayed sli) (gone : Name → Ty
 list_kept [] r gone fair kept none =
     (none, λ i j k d k_in. let o = kept.waits i j k (get_or (r.world.waiting i j) k d) (slice_get-get_or (r.world.waiting i j) k d k_in) in (o.0, o.1))
 list_kept (e ∷ es) r gone fair kept none =
-    let gone2 : Name → Type 0 = λ n. gone n ⊎ Releases r e n in
+    let gone2 : Name → Type 0 = λ n. gone n ⊎ GivesBack r e n in
     let a = event_kept r gone gone2 (λ n g. inl g) kept e fair.0 (λ lt target is n meant o. inr (
       target,
       is,

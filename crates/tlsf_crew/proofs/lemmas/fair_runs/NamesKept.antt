@@ -1,5 +1,5 @@
 -- Names stay live while they are not gone, and each that waits is gone.
-use Rattle.std.proofs.Common.{suc, zero, [], ◌∷◌, ◌++◌, ◌≡◌, ◌≢◌, ℕ, ◌<◌, List, Some, length, sym, ◌∙◌, ap, arith, refl, inl, inr, subst, ◌⊎◌}
+use Rattle.std.proofs.Common.{[], ◌∷◌, ◌++◌, ◌≡◌, ◌≢◌, ℕ, ◌<◌, Some, length, sym, ◌∙◌, ap, arith, inl, inr, subst, ◌⊎◌}
 use Rattle.std.specs.List.{slice_get}
 use Rattle.std.proofs.lemmas.Bool.{cases_eq}
 use Rattle.std.proofs.lemmas.List.{length-set, get_or-set_same, get_or-set_other}
@@ -9,7 +9,7 @@ use Rattle.tlsf_heap.specs.Blocks.{HeapState}
 use Rattle.tlsf_heap.specs.Laws.{IsLive}
 use Rattle.tlsf_crew.specs.model.World.{World, with_waiting, with_heap, heap_in, no_heap}
 use Rattle.tlsf_crew.specs.fair_runs.FairRuns.{HasIds, IsLiveIn}
-use Rattle.tlsf_crew.proofs.lemmas.worker.Slots.{some_same}
+use Rattle.tlsf_crew.proofs.lemmas.worker.Slots.{at_push}
 use Rattle.tlsf_crew.proofs.lemmas.model.Edits.{edited_same, edited_other}
 
 -- of the names made so far all are live but those that are gone; a name that waits is gone, but live still, and waits once
@@ -31,8 +31,8 @@ kept_by made made2 gone gone2 w fewer more kept = record {
 
 -- ---- one heap becomes another
 
-heap_same : {sli : ℕ} (w : World sli) (at : ℕ) (h : HeapState) → at < length w.heaps → heap_in (with_heap w at h) at ≡ h
-heap_same w at h at_in = get_or-set_same w.heaps at h no_heap at_in
+with_heap_in : {sli : ℕ} (w : World sli) (at : ℕ) (h : HeapState) → at < length w.heaps → heap_in (with_heap w at h) at ≡ h
+with_heap_in w at h at_in = get_or-set_same w.heaps at h no_heap at_in
 
 heap_other : {sli : ℕ} (w : World sli) (at j : ℕ) (h : HeapState) → j ≢ at → heap_in (with_heap w at h) j ≡ heap_in w j
 heap_other w at j h ne = get_or-set_other w.heaps at j h no_heap ne
@@ -45,7 +45,7 @@ live_after w at h m at_in stays live =
     elim (cases_eq m.heap at) [
       | inl e ↦
           let was : IsLive (heap_in w at) m = subst (λ (z : ℕ). IsLive (heap_in w z) m) e live.1 in
-          (within, subst (λ (z : HeapState). IsLive z m) (sym (ap (heap_in v) e ∙ heap_same w at h at_in)) (stays was))
+          (within, subst (λ (z : HeapState). IsLive z m) (sym (ap (heap_in v) e ∙ with_heap_in w at h at_in)) (stays was))
       | inr e ↦ (within, subst (λ (z : HeapState). IsLive z m) (sym (heap_other w at m.heap h e)) live.1)
     ]
 
@@ -54,7 +54,7 @@ ids_after w at h at_in same ids j j_in =
     let v = with_heap w at h in
     let j_was : j < length w.heaps = omega (arith, length-set w.heaps at h, j_in) in
     elim (cases_eq j at) [
-      | inl e ↦ ap (λ z. (heap_in v z).id) e ∙ (ap (λ z. z.id) (heap_same w at h at_in) ∙ (same ∙ (ids at at_in ∙ sym e)))
+      | inl e ↦ ap (λ z. (heap_in v z).id) e ∙ (ap (λ z. z.id) (with_heap_in w at h at_in) ∙ (same ∙ (ids at at_in ∙ sym e)))
       | inr e ↦ ap (λ z. z.id) (heap_other w at j h e) ∙ ids j j_was
     ]
 
@@ -80,15 +80,9 @@ more_kept made gone w n new kept = record {
 
 pub live_here : {sli : ℕ} (w : World sli) (at : ℕ) (h : HeapState) (n : Name) → at < length w.heaps → n.heap ≡ at → IsLive h n → IsLiveIn (with_heap w at h) n
 live_here w at h n at_in here live =
-    (omega (arith, length-set w.heaps at h), subst (λ (z : HeapState). IsLive z n) (sym (ap (heap_in (with_heap w at h)) here ∙ heap_same w at h at_in)) live)
+    (omega (arith, length-set w.heaps at h), subst (λ (z : HeapState). IsLive z n) (sym (ap (heap_in (with_heap w at h)) here ∙ with_heap_in w at h at_in)) live)
 
 -- ---- a post more
-
-push_at : (ps : List Post) (x p : Post) (k : ℕ) → slice_get (ps ++ x ∷ []) k ≡ Some p → (slice_get ps k ≡ Some p) ⊎ ((k ≡ length ps) × (p ≡ x))
-push_at [] x p zero e = inr (refl, sym (some_same x p e))
-push_at [] x p (suc k) e = cc
-push_at (y ∷ ys) x p zero e = inl e
-push_at (y ∷ ys) x p (suc k) e = elim (push_at ys x p k e) [ inl a ↦ inl a | inr a ↦ inr (ap suc a.0, a.1) ]
 
 seen_pushed : {sli : ℕ} (w : World sli) (at to : ℕ) (x : Post) (i j k : ℕ) (p : Post) → slice_get ((with_waiting w at to (w.waiting at to ++ x ∷ [])).waiting i j) k ≡ Some p
     → (slice_get (w.waiting i j) k ≡ Some p) ⊎ ((i ≡ at) × (j ≡ to) × (k ≡ length (w.waiting at to)) × (p ≡ x))
@@ -98,9 +92,9 @@ seen_pushed w at to x i j k p e =
       | inl a ↦ elim (cases_eq j to) [
         | inl b ↦
             let same : (with_waiting w at to all).waiting i j ≡ all = rw (a, b) (edited_same w.waiting at to all) in
-            elim (push_at (w.waiting at to) x p k (sym (ap (λ l. slice_get l k) same) ∙ e)) [
+            elim (at_push (w.waiting at to) x k p (sym (ap (λ l. slice_get l k) same) ∙ e)) [
               | inl g ↦ inl (rw (a, b) g)
-              | inr g ↦ inr (a, b, g.0, g.1)
+              | inr g ↦ inr (a, b, g.0, sym g.1)
             ]
         | inr b ↦ inl (sym (ap (λ l. slice_get l k) (edited_other w.waiting at to i j all (λ _ f. b f))) ∙ e)
       ]

@@ -10,7 +10,7 @@ use Rattle.tlsf_heap.specs.Laws.{IsLive}
 use Rattle.tlsf_crew.specs.model.Heaps.{released}
 use Rattle.tlsf_calls.specs.declared.took.Took.{Took}
 use Rattle.tlsf_calls.specs.declared.entry.Entry.{Entry}
-use Rattle.tlsf_crew.specs.model.World.{World, with_waiting, heap_in, took, took_more, Draining, drained_lane, drained_below, after_drain}
+use Rattle.tlsf_crew.specs.model.World.{World, with_waiting, heap_in, took, took_more, DrainState, drained_waiting, drained_below, after_drain}
 use Rattle.tlsf_crew.specs.fair_runs.FairRuns.{IsNotStale, NoneStale}
 use Rattle.tlsf_crew.proofs.lemmas.model.Edits.{edited_same, edited_other}
 use Rattle.tlsf_crew.proofs.lemmas.model.OneEvent.{from_other, from_own}
@@ -80,13 +80,13 @@ took_kept made gone w at from p rest waits kept =
 
 -- ---- a drain
 
-abbrev IsDrainKept : {sli : ℕ} (made gone : Name → Type 0) → Draining sli → Type 0
+abbrev IsDrainKept : {sli : ℕ} (made gone : Name → Type 0) → DrainState sli → Type 0
 IsDrainKept made gone d = IsKept made gone d.world × NoneStale d.entries
 
 pub none_push : (es : List Entry) (e : Entry) → NoneStale es → IsNotStale e.reply → NoneStale (es ++ e ∷ [])
 none_push es e none not = All-push (λ entry. IsNotStale entry.reply) es e none not
 
-lane_kept : {sli : ℕ} (made gone : Name → Type 0) (at from : ℕ) (rest ps : List Post) (d : Draining sli) → d.world.waiting from at ≡ ps ++ rest
+lane_kept : {sli : ℕ} (made gone : Name → Type 0) (at from : ℕ) (rest ps : List Post) (d : DrainState sli) → d.world.waiting from at ≡ ps ++ rest
     → IsDrainKept made gone d → IsDrainKept made gone (fold (took_more at from) d ps)
 lane_kept made gone at from rest [] d e k = k
 lane_kept made gone at from rest (p ∷ ps) d e k =
@@ -96,13 +96,13 @@ lane_kept made gone at from rest (p ∷ ps) d e k =
     lane_kept made gone at from rest ps (took_more at from d p)
     (edited_same d.world.waiting from at (drop 1 (d.world.waiting from at)) ∙ next) (t.1, none_push d.entries _ k.1 t.0)
 
-drained_kept : {sli : ℕ} (made gone : Name → Type 0) (at most from : ℕ) (d : Draining sli) → IsDrainKept made gone d → IsDrainKept made gone (drained_lane at most from d)
-unfolding drained_lane
+drained_kept : {sli : ℕ} (made gone : Name → Type 0) (at most from : ℕ) (d : DrainState sli) → IsDrainKept made gone d → IsDrainKept made gone (drained_waiting at most from d)
+unfolding drained_waiting
 drained_kept made gone at most from d k =
     let m = most - d.taken in
     lane_kept made gone at from (drop m (d.world.waiting from at)) (take m (d.world.waiting from at)) d (sym (take-append-drop m (d.world.waiting from at))) k
 
-below_kept : {sli : ℕ} (made gone : Name → Type 0) (at most : ℕ) (d : Draining sli) (j : ℕ) → IsDrainKept made gone d → IsDrainKept made gone (drained_below at most d j)
+below_kept : {sli : ℕ} (made gone : Name → Type 0) (at most : ℕ) (d : DrainState sli) (j : ℕ) → IsDrainKept made gone d → IsDrainKept made gone (drained_below at most d j)
 below_kept made gone at most d zero k = k
 below_kept made gone at most d (suc j) k =
     let b = below_kept made gone at most d j k in
@@ -111,6 +111,6 @@ below_kept made gone at most d (suc j) k =
       | inr e ↦ rw (from_other at most (drained_below at most d j) j e) (drained_kept made gone at most j (drained_below at most d j) b)
     ]
 
-pub all_kept : {sli : ℕ} (made gone : Name → Type 0) (at most : ℕ) (d : Draining sli) → IsDrainKept made gone d → IsDrainKept made gone (after_drain at most d)
+pub all_kept : {sli : ℕ} (made gone : Name → Type 0) (at most : ℕ) (d : DrainState sli) → IsDrainKept made gone d → IsDrainKept made gone (after_drain at most d)
 unfolding after_drain
 all_kept made gone at most d k = below_kept made gone at most d (length d.world.heaps) k

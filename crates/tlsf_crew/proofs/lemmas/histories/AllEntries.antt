@@ -115,7 +115,7 @@ after_told made r e known =
 -- ---- all events
 
 -- the entries of all events, and the names that they made
-record ToldAll {sli : ℕ} (made : List (Option Name)) (es : List Event) (r s : Replayed sli) : Type 0 where
+record EventsTold {sli : ℕ} (made : List (Option Name)) (es : List Event) (r s : Replayed sli) : Type 0 where
   own : List Entry
   later : List (Option Name)
   entries : s.entries ≡ r.entries ++ own
@@ -123,13 +123,13 @@ record ToldAll {sli : ℕ} (made : List (Option Name)) (es : List Event) (r s : 
   tells : Tells (length r.world.heaps) r.made es later own
   history : IsHistory made r.world own s.world
 
-all_told : {sli : ℕ} (made : List (Option Name)) (es : List Event) (r : Replayed sli) → Knows made (fold after r es).made → ToldAll made es r (fold after r es)
-all_told made [] r known = record { own = []; later = []; entries = sym (append-nil r.entries); names = sym (append-nil r.made); tells = refl; history = history_none made r.world }
-all_told made (e ∷ es) r known =
+events_told : {sli : ℕ} (made : List (Option Name)) (es : List Event) (r : Replayed sli) → Knows made (fold after r es).made → EventsTold made es r (fold after r es)
+events_told made [] r known = record { own = []; later = []; entries = sym (append-nil r.entries); names = sym (append-nil r.made); tells = refl; history = history_none made r.world }
+events_told made (e ∷ es) r known =
     let v = after r e in
     let z = fold after v es in
     let first = after_told made r e (λ target name q. known target name (rest_knows (e ∷ es) r target name q)) in
-    let rest = all_told made es v known in
+    let rest = events_told made es v known in
     let counted : Tells (length r.world.heaps) v.made es rest.later rest.own = subst (λ (n : ℕ). Tells n v.made es rest.later rest.own) first.history.count rest.tells in
     let tells : Tells (length r.world.heaps) (r.made ++ first.name ∷ []) es rest.later rest.own = subst (λ m. Tells (length r.world.heaps) m es rest.later rest.own) first.names counted in
     record {
@@ -146,7 +146,7 @@ pub record RepliesTell {sli : ℕ} (w : World sli) (es : List Event) : Type 0 wh
   pub told : Tells (length w.heaps) [] es (replies w es).made (replies w es).entries
   pub history : IsHistory (replies w es).made w (replies w es).entries (replies w es).world
 
-told_from_start : {sli : ℕ} (w : World sli) (es : List Event) (z : Replayed sli) → ToldAll z.made es (begun w) z → Tells (length w.heaps) [] es z.made z.entries × IsHistory z.made w z.entries z.world
+told_from_start : {sli : ℕ} (w : World sli) (es : List Event) (z : Replayed sli) → EventsTold z.made es (begun w) z → Tells (length w.heaps) [] es z.made z.entries × IsHistory z.made w z.entries z.world
 told_from_start w es z t =
     let names : z.made ≡ t.later = t.names in
     (subst (λ made. Tells (length w.heaps) [] es made z.entries) (sym names) (rw t.entries t.tells), rw t.entries t.history)
@@ -155,7 +155,7 @@ pub replies_tell : {sli : ℕ} (w : World sli) (es : List Event) → RepliesTell
 unfolding replies
 replies_tell w es =
     let z = fold after (begun w) es in
-    let t = told_from_start w es z (all_told z.made es (begun w) (λ target name e. e)) in
+    let t = told_from_start w es z (events_told z.made es (begun w) (λ target name e. e)) in
     record { told = t.0; history = t.1 }
 
 pub replies_lawful : {sli : ℕ} (w : World sli) (es : List Event) → AreLawful w → AreLawful (replies w es).world

@@ -11,7 +11,7 @@ use Rattle.tlsf_calls.specs.declared.call.Call.TheVariants.{Take, Drain}
 use Rattle.tlsf_calls.specs.declared.took.Took.{Took}
 use Rattle.tlsf_calls.specs.declared.reply.Reply.TheVariants.{Took as Taken, Drained}
 use Rattle.tlsf_crew.specs.histories.History.{AreTakes, TellsCall, TookFromOther, IsDrain, post_of_release, posts_made}
-use Rattle.tlsf_crew.specs.model.World.{Replayed, Draining, took, took_more, drained_lane, drained_below, after_drain, draining}
+use Rattle.tlsf_crew.specs.model.World.{Replayed, DrainState, took, took_more, drained_waiting, drained_below, after_drain, draining}
 use Rattle.tlsf_crew.proofs.lemmas.histories.LaneCalls.{took_told}
 use Rattle.tlsf_crew.proofs.lemmas.model.OneEvent.{from_other, from_own}
 use Rattle.tlsf_crew.proofs.lemmas.histories.OwnCalls.{none_done}
@@ -50,7 +50,7 @@ within_then at low mid high [] ys le a b = within_lower at low mid high ys a b
 within_then at low mid high (e ∷ es) ys le a b = let c = a.4 in (a.0, a.1, a.2, a.3, omega arith, within_then at a.0 mid high es ys le a.5 b)
 
 -- takes that lead from one state of a drain to the other
-record TookSome {sli : ℕ} (made : List (Option Name)) (n at low high : ℕ) (d b : Draining sli) : Type 0 where
+record TookSome {sli : ℕ} (made : List (Option Name)) (n at low high : ℕ) (d b : DrainState sli) : Type 0 where
   takes : List Entry
   entries : b.entries ≡ d.entries ++ takes
   taken : b.taken ≡ d.taken + length takes
@@ -58,7 +58,7 @@ record TookSome {sli : ℕ} (made : List (Option Name)) (n at low high : ℕ) (d
   others : All (TookFromOther n) takes
   history : IsHistory made d.world takes b.world
 
-took_none : {sli : ℕ} (made : List (Option Name)) (n at low high : ℕ) (d : Draining sli) → low ≤ high → TookSome made n at low high d d
+took_none : {sli : ℕ} (made : List (Option Name)) (n at low high : ℕ) (d : DrainState sli) → low ≤ high → TookSome made n at low high d d
 took_none made n at low high d le = record {
   takes = [];
   entries = sym (append-nil d.entries);
@@ -68,7 +68,7 @@ took_none made n at low high d le = record {
   history = history_none made d.world;
 }
 
-took_then : {sli : ℕ} (made : List (Option Name)) (n at low mid high : ℕ) (d b c : Draining sli) → mid ≤ high → TookSome made n at low mid d b → TookSome made n at mid high b c → TookSome made n at low high d c
+took_then : {sli : ℕ} (made : List (Option Name)) (n at low mid high : ℕ) (d b c : DrainState sli) → mid ≤ high → TookSome made n at low mid d b → TookSome made n at mid high b c → TookSome made n at low high d c
 took_then made n at low mid high d b c le x y = record {
   takes = x.takes ++ y.takes;
   entries = y.entries ∙ (ap (λ l. l ++ y.takes) x.entries ∙ append_assoc d.entries x.takes y.takes);
@@ -79,7 +79,7 @@ took_then made n at low mid high d b c le x y = record {
 }
 
 -- one post more
-one_more : {sli : ℕ} (made : List (Option Name)) (n at from : ℕ) (d : Draining sli) (p : Post) → from < n → from ≢ at → at < length d.world.heaps → d.world.waiting from at ≡ p ∷ drop 1 (d.world.waiting from at)
+one_more : {sli : ℕ} (made : List (Option Name)) (n at from : ℕ) (d : DrainState sli) (p : Post) → from < n → from ≢ at → at < length d.world.heaps → d.world.waiting from at ≡ p ∷ drop 1 (d.world.waiting from at)
     → TookSome made n at from from d (took_more at from d p)
 one_more made n at from d p lt ne at_in full =
     let a = took d.world at from p (drop 1 (d.world.waiting from at)) in
@@ -94,7 +94,7 @@ one_more made n at from d p lt ne at_in full =
     }
 
 -- the posts of one lane, and how many they are
-lane_took : {sli : ℕ} (made : List (Option Name)) (n at from : ℕ) (rest ps : List Post) (d : Draining sli) → from < n → from ≢ at → at < length d.world.heaps → d.world.waiting from at ≡ ps ++ rest
+lane_took : {sli : ℕ} (made : List (Option Name)) (n at from : ℕ) (rest ps : List Post) (d : DrainState sli) → from < n → from ≢ at → at < length d.world.heaps → d.world.waiting from at ≡ ps ++ rest
     → TookSome made n at from from d (fold (took_more at from) d ps)
 lane_took made n at from rest [] d lt ne at_in e = took_none made n at from from d (omega arith)
 lane_took made n at from rest (p ∷ ps) d lt ne at_in e =
@@ -105,13 +105,13 @@ lane_took made n at from rest (p ∷ ps) d lt ne at_in e =
     let more = lane_took made n at from rest ps b lt ne (let count = one.history.count in omega arith) (edited_same d.world.waiting from at (drop 1 (d.world.waiting from at)) ∙ next) in
     took_then made n at from from from d b (fold (took_more at from) b ps) (omega arith) one more
 
-pub lane_count : {sli : ℕ} (at from : ℕ) (ps : List Post) (d : Draining sli) → (fold (took_more at from) d ps).taken ≡ d.taken + length ps
+pub lane_count : {sli : ℕ} (at from : ℕ) (ps : List Post) (d : DrainState sli) → (fold (took_more at from) d ps).taken ≡ d.taken + length ps
 lane_count at from [] d = omega arith
 lane_count at from (p ∷ ps) d = let a = lane_count at from ps (took_more at from d p) in omega arith
 
-drained_took : {sli : ℕ} (made : List (Option Name)) (n at most from : ℕ) (d : Draining sli) → from < n → from ≢ at → at < length d.world.heaps → d.taken ≤ most
-    → TookSome made n at from from d (drained_lane at most from d) × ((drained_lane at most from d).taken ≤ most)
-unfolding drained_lane
+drained_took : {sli : ℕ} (made : List (Option Name)) (n at most from : ℕ) (d : DrainState sli) → from < n → from ≢ at → at < length d.world.heaps → d.taken ≤ most
+    → TookSome made n at from from d (drained_waiting at most from d) × ((drained_waiting at most from d).taken ≤ most)
+unfolding drained_waiting
 drained_took made n at most from d lt ne at_in le =
     let m = most - d.taken in
     let waits = d.world.waiting from at in
@@ -120,7 +120,7 @@ drained_took made n at most from d lt ne at_in le =
     (lane_took made n at from (drop m waits) (take m waits) d lt ne at_in (sym (take-append-drop m waits)), omega arith)
 
 -- the lanes from the workers below k
-below_took : {sli : ℕ} (made : List (Option Name)) (n at most : ℕ) (d : Draining sli) (k : ℕ) → k ≤ n → at < length d.world.heaps → d.taken ≤ most
+below_took : {sli : ℕ} (made : List (Option Name)) (n at most : ℕ) (d : DrainState sli) (k : ℕ) → k ≤ n → at < length d.world.heaps → d.taken ≤ most
     → TookSome made n at 0 k d (drained_below at most d k) × ((drained_below at most d k).taken ≤ most)
 below_took made n at most d zero few at_in le = (took_none made n at 0 0 d (omega arith), le)
 below_took made n at most d (suc k) few at_in le =
@@ -131,12 +131,12 @@ below_took made n at most d (suc k) few at_in le =
       | inl e ↦ rw (from_own at most b k e) (higher, first.1)
       | inr e ↦
           let lane = drained_took made n at most k b (omega arith) e (let count = first.0.history.count in omega arith) first.1 in
-          let c = drained_lane at most k b in
+          let c = drained_waiting at most k b in
           let this = took_then made n at 0 k k d b c (omega arith) first.0 lane.0 in
           rw (from_other at most b k e) (took_then made n at 0 k (suc k) d c c (omega arith) this (took_none made n at k (suc k) c (omega arith)), lane.1)
     ]
 
-all_took : {sli : ℕ} (made : List (Option Name)) (at most : ℕ) (d : Draining sli) → at < length d.world.heaps → d.taken ≤ most
+all_took : {sli : ℕ} (made : List (Option Name)) (at most : ℕ) (d : DrainState sli) → at < length d.world.heaps → d.taken ≤ most
     → TookSome made (length d.world.heaps) at 0 (length d.world.heaps) d (after_drain at most d) × ((after_drain at most d).taken ≤ most)
 unfolding after_drain
 all_took made at most d at_in le = below_took made (length d.world.heaps) at most d (length d.world.heaps) (omega arith) at_in le
@@ -154,7 +154,7 @@ pub record ToldOnce {sli : ℕ} (made : List (Option Name)) (r s : Replayed sli)
 pub drain_told : {sli : ℕ} (made : List (Option Name)) (r : Replayed sli) (at most : ℕ) → at < length r.world.heaps → ToldOnce made r (draining r at most) (TellsCall at r.made (Drain most))
 unfolding draining
 drain_told {sli} made r at most at_in =
-    let d : Draining sli = record { entries = r.entries; world = r.world; taken = 0 } in
+    let d : DrainState sli = record { entries = r.entries; world = r.world; taken = 0 } in
     let b = after_drain at most d in
     let t = all_took made at most d at_in (omega arith) in
     let last : Entry = record { worker = at; call = Drain most; reply = Drained b.taken } in

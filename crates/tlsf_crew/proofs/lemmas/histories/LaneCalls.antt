@@ -15,17 +15,17 @@ use Rattle.tlsf_calls.specs.declared.reply.Reply.{Reply}
 use Rattle.tlsf_calls.specs.declared.reply.Reply.TheVariants.{Freed, Posted, Empty, Refused}
 use Rattle.tlsf_calls.specs.declared.crew_refusal.CrewRefusal.TheVariants.{Full, Stranger, Unmade}
 use Rattle.tlsf_crew.specs.model.Heaps.{released}
-use Rattle.tlsf_crew.specs.histories.History.{answer_told, call_on_own, meant, of_heap, post_of_release, post_of_take, posts_made, posts_taken}
+use Rattle.tlsf_crew.specs.histories.History.{answer_told, call_on_own, meant, name_on_heap, post_of_release, post_of_take, posts_made, posts_taken}
 use Rattle.tlsf_crew.specs.model.World.{World, heap_in, with_heap, with_waiting, freeing, posting, releasing_named, taking, taking_next, took, took_first, reply_freed, name_of}
 use Rattle.tlsf_crew.proofs.lemmas.model.OneEvent.{releasing_post, releasing_far, taking_lane, taking_own, taking_far}
 use Rattle.tlsf_crew.proofs.lemmas.model.Edits.{edited_same, edited_other}
 use Rattle.tlsf_crew.proofs.lemmas.histories.OwnCalls.{Tells1, by_meant, done_here, done_told, none_done}
 use Rattle.tlsf_crew.proofs.lemmas.histories.JoinedEntries.{history_quiet, own_each, heap_of_own_call, told_nothing, told_other, told_own}
 
-pub of_same : (j : ℕ) (name : Name) → name.heap ≡ j → of_heap j (Some name) ≡ Some name
+pub of_same : (j : ℕ) (name : Name) → name.heap ≡ j → name_on_heap j (Some name) ≡ Some name
 of_same j name e = let b : (name.heap == j) ≡ true = grind (arith, nat_tests) in rw b refl
 
-pub of_other : (j : ℕ) (name : Name) → name.heap ≢ j → of_heap j (Some name) ≡ None
+pub of_other : (j : ℕ) (name : Name) → name.heap ≢ j → name_on_heap j (Some name) ≡ None
 of_other j name ne = let b : (name.heap == j) ≡ false = grind (arith, nat_tests) in rw b refl
 
 -- ---- release of an own name
@@ -183,13 +183,13 @@ untaken_told made w at from reply a b c =
     history_quiet made w w (record { worker = at; call = Take from; reply = reply }) (none_done made w w at (Take from) reply a b refl)
     (record { made_none = λ j. refl; taken_none = c }) refl refl
 
-first_told : {sli : ℕ} (made : List (Option Name)) (w : World sli) (at from : ℕ) (ps : List Post) → at < length w.heaps → w.waiting from at ≡ ps → Tells1 made w at (Take from) (took_first w at from ps)
-first_told made w at from [] at_in waits = untaken_told made w at from Empty refl refl (λ i. refl)
-first_told made w at from (p ∷ rest) at_in waits = took_told made w at from p rest at_in waits
+took_first_told : {sli : ℕ} (made : List (Option Name)) (w : World sli) (at from : ℕ) (ps : List Post) → at < length w.heaps → w.waiting from at ≡ ps → Tells1 made w at (Take from) (took_first w at from ps)
+took_first_told made w at from [] at_in waits = untaken_told made w at from Empty refl refl (λ i. refl)
+took_first_told made w at from (p ∷ rest) at_in waits = took_told made w at from p rest at_in waits
 
 next_told : {sli : ℕ} (made : List (Option Name)) (w : World sli) (at from : ℕ) → at < length w.heaps → Tells1 made w at (Take from) (taking_next w at from)
 unfolding taking_next
-next_told made w at from at_in = first_told made w at from (w.waiting from at) at_in refl
+next_told made w at from at_in = took_first_told made w at from (w.waiting from at) at_in refl
 
 pub take_told : {sli : ℕ} (made : List (Option Name)) (w : World sli) (at from : ℕ) → at < length w.heaps → Tells1 made w at (Take from) (taking w at from)
 take_told made w at from at_in =

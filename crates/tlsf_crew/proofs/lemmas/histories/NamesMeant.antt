@@ -11,7 +11,7 @@ use Rattle.tlsf_calls.specs.declared.call.Call.TheVariants.{Take}
 use Rattle.tlsf_calls.specs.declared.reply.Reply.{Reply}
 use Rattle.tlsf_calls.specs.declared.reply.Reply.TheVariants.{Freed, Made, Wrote, Got, Resized, Refused}
 use Rattle.tlsf_calls.specs.declared.crew_refusal.CrewRefusal.TheVariants.{Unmade}
-use Rattle.tlsf_crew.specs.model.OwnReplies.{OwnReplied, own_named, reply_by}
+use Rattle.tlsf_crew.specs.model.OwnReplies.{HeapReply, own_named, reply_by}
 use Rattle.tlsf_crew.specs.histories.History.{AnswersPost, TookFromOther}
 use Rattle.tlsf_crew.specs.model.Heaps.{allocated, chunk_read, released, resized, written}
 use Rattle.tlsf_crew.specs.model.World.{World, allocating, heap_in, posting, reading_named, releasing, releasing_named, resizing_named, taking, taking_next, took_first, writing_named}
@@ -70,7 +70,7 @@ pub release_unmade : {sli : ℕ} (w : World sli) (at : ℕ) (o : Option Name) �
 release_unmade w at None = ((λ e. refl), (λ e. refl))
 release_unmade w at (Some name) = some_named name (releasing w at name).reply (release_meant w at name)
 
-named_unmade : (h : HeapState) (by : Name → OwnReplied) (o : Option Name) → ((name : Name) → (by name).reply ≢ Refused Unmade) → ((own_named h by o).reply ≡ Refused Unmade) ↔ (o ≡ None)
+named_unmade : (h : HeapState) (by : Name → HeapReply) (o : Option Name) → ((name : Name) → (by name).reply ≢ Refused Unmade) → ((own_named h by o).reply ≡ Refused Unmade) ↔ (o ≡ None)
 named_unmade h by None f = ((λ e. refl), (λ e. refl))
 named_unmade h by (Some name) f = some_named name (by name).reply (f name)
 

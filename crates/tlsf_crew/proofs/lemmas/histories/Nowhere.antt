@@ -10,8 +10,8 @@ use Rattle.tlsf_calls.specs.declared.call.Call.TheVariants.{Take, Drain}
 use Rattle.tlsf_calls.specs.declared.reply.Reply.{Reply}
 use Rattle.tlsf_calls.specs.declared.reply.Reply.TheVariants.{Took as Taken}
 use Rattle.tlsf_crew.specs.histories.History.{post_of_take, posts_taken}
-use Rattle.tlsf_crew.specs.model.World.{World, Draining, Replayed, took, took_more, taking, drained_lane, drained_below, after_drain, draining, called}
-use Rattle.tlsf_crew.specs.model.Told.{Told, MayTell, MayTellAll}
+use Rattle.tlsf_crew.specs.model.World.{World, DrainState, Replayed, took, took_more, taking, drained_waiting, drained_below, after_drain, draining, called}
+use Rattle.tlsf_crew.specs.model.Progress.{Progress, MayTell, MayTellAll}
 use Rattle.tlsf_crew.proofs.lemmas.model.OneEvent.{from_other, from_own, taking_own, taking_far}
 use Rattle.tlsf_crew.proofs.lemmas.histories.JoinedEntries.{told_nothing, taken_then}
 
@@ -26,32 +26,32 @@ none_more i at es e none silent =
 
 -- ---- drains
 
-lane_none : {sli : ℕ} (i at from : ℕ) (ps : List Post) (d : Draining sli) → from ≢ i → posts_taken i at d.entries ≡ [] → posts_taken i at (fold (took_more at from) d ps).entries ≡ []
+lane_none : {sli : ℕ} (i at from : ℕ) (ps : List Post) (d : DrainState sli) → from ≢ i → posts_taken i at d.entries ≡ [] → posts_taken i at (fold (took_more at from) d ps).entries ≡ []
 lane_none i at from [] d ne none = none
 lane_none i at from (p ∷ ps) d ne none =
     lane_none i at from ps (took_more at from d p) ne (none_more i at d.entries _ none (other_take i from (took d.world at from p (drop 1 (d.world.waiting from at))).reply ne))
 
-drained_none : {sli : ℕ} (i at most from : ℕ) (d : Draining sli) → from ≢ i → posts_taken i at d.entries ≡ [] → posts_taken i at (drained_lane at most from d).entries ≡ []
-unfolding drained_lane
-drained_none i at most from d ne none = lane_none i at from (take (most - d.taken) (d.world.waiting from at)) d ne none
+lane_takes_none : {sli : ℕ} (i at most from : ℕ) (d : DrainState sli) → from ≢ i → posts_taken i at d.entries ≡ [] → posts_taken i at (drained_waiting at most from d).entries ≡ []
+unfolding drained_waiting
+lane_takes_none i at most from d ne none = lane_none i at from (take (most - d.taken) (d.world.waiting from at)) d ne none
 
-below_none : {sli : ℕ} (i at most n : ℕ) (d : Draining sli) (k : ℕ) → (i ≢ at → n ≤ i) → k ≤ n → posts_taken i at d.entries ≡ [] → posts_taken i at (drained_below at most d k).entries ≡ []
-below_none i at most n d zero far le none = none
-below_none i at most n d (suc k) far le none =
+none_from_below : {sli : ℕ} (i at most n : ℕ) (d : DrainState sli) (k : ℕ) → (i ≢ at → n ≤ i) → k ≤ n → posts_taken i at d.entries ≡ [] → posts_taken i at (drained_below at most d k).entries ≡ []
+none_from_below i at most n d zero far le none = none
+none_from_below i at most n d (suc k) far le none =
     let b = drained_below at most d k in
-    let first = below_none i at most n d k far (omega arith) none in
+    let first = none_from_below i at most n d k far (omega arith) none in
     elim (cases_eq k at) [
       | inl e ↦ rw (from_own at most b k e) first
       | inr e ↦
           let apart : k ≢ i = λ f. let h : n ≤ i = far (λ g. e (f ∙ g)) in omega arith in
-          rw (from_other at most b k e) (drained_none i at most k b apart first)
+          rw (from_other at most b k e) (lane_takes_none i at most k b apart first)
     ]
 
-drain_none : {sli : ℕ} (i at most : ℕ) (r : Replayed sli) → (i ≢ at → length r.world.heaps ≤ i) → posts_taken i at r.entries ≡ [] → posts_taken i at (draining r at most).entries ≡ []
+draining_takes_none : {sli : ℕ} (i at most : ℕ) (r : Replayed sli) → (i ≢ at → length r.world.heaps ≤ i) → posts_taken i at r.entries ≡ [] → posts_taken i at (draining r at most).entries ≡ []
 unfolding draining after_drain
-drain_none {sli} i at most r far none =
-    let d : Draining sli = record { entries = r.entries; world = r.world; taken = 0 } in
-    none_more i at (drained_below at most d (length r.world.heaps)).entries _ (below_none i at most (length r.world.heaps) d (length r.world.heaps) far (omega arith) none) refl
+draining_takes_none {sli} i at most r far none =
+    let d : DrainState sli = record { entries = r.entries; world = r.world; taken = 0 } in
+    none_more i at (drained_below at most d (length r.world.heaps)).entries _ (none_from_below i at most (length r.world.heaps) d (length r.world.heaps) far (omega arith) none) refl
 
 -- ---- calls
 
@@ -67,16 +67,16 @@ take_none i at from w far =
 
 call_none : {sli : ℕ} (i at : ℕ) (r : Replayed sli) (call : Call) → (i ≢ at → length r.world.heaps ≤ i) → posts_taken i at r.entries ≡ [] → posts_taken i at (called r at call).entries ≡ []
 call_none i at r (Take from) far none = none_more i at r.entries _ none (take_none i at from r.world far)
-call_none i at r (Drain most) far none = drain_none i at most r far none
+call_none i at r (Drain most) far none = draining_takes_none i at most r far none
 call_none i at r call far none = none_more i at r.entries _ none refl
 
-none_after_one : (sli : ℕ) (n i at : ℕ) (s t : Told) (call : Call) → (i ≢ at → n ≤ i) → MayTell sli n at s call t → posts_taken i at s.entries ≡ [] → posts_taken i at t.entries ≡ []
+none_after_one : (sli : ℕ) (n i at : ℕ) (s t : Progress) (call : Call) → (i ≢ at → n ≤ i) → MayTell sli n at s call t → posts_taken i at s.entries ≡ [] → posts_taken i at t.entries ≡ []
 none_after_one sli n i at s t call far may none =
     let r : Replayed sli = record { made = s.made; entries = s.entries; world = may.0 } in
-    let same : (called r at call).entries ≡ t.entries = ap (λ (x : Told). x.entries) may.2 in
+    let same : (called r at call).entries ≡ t.entries = ap (λ (x : Progress). x.entries) may.2 in
     let here : i ≢ at → length may.0.heaps ≤ i = λ ne. let h : n ≤ i = far ne in omega (arith, may.1.0) in
     subst (λ (es : List Entry). posts_taken i at es ≡ []) same (call_none i at r call here none)
 
-pub tells_none : (sli : ℕ) (n i at : ℕ) (s t : Told) (calls : List Call) → (i ≢ at → n ≤ i) → MayTellAll sli n at s calls t → posts_taken i at s.entries ≡ [] → posts_taken i at t.entries ≡ []
+pub tells_none : (sli : ℕ) (n i at : ℕ) (s t : Progress) (calls : List Call) → (i ≢ at → n ≤ i) → MayTellAll sli n at s calls t → posts_taken i at s.entries ≡ [] → posts_taken i at t.entries ≡ []
 tells_none sli n i at s t [] far may none = rw may none
 tells_none sli n i at s t (call ∷ calls) far may none = tells_none sli n i at may.0 t calls far may.2 (none_after_one sli n i at s may.0 call far may.1 none)

@@ -21,14 +21,14 @@ use Rattle.tlsf_calls.specs.declared.reply.Reply.TheVariants.{Got, Resized, Wrot
 use Rattle.tlsf_calls.specs.declared.crew_refusal.CrewRefusal.TheVariants.{Unmade}
 use Rattle.tlsf_crew.specs.model.Heaps.{allocated, written, resized, chunk_read, as_chunk, too_many}
 use Rattle.tlsf_crew.specs.histories.History.{IsNoPost, RunsTo, answer_told, call_on_own, handed_on, meant}
-use Rattle.tlsf_crew.specs.model.World.{World, Replied, by_own, heap_in, with_heap, allocating, writing_named, reading_named, resizing_named, reply_made, reply_wrote, reply_got, reply_resized, name_of, no_heap}
+use Rattle.tlsf_crew.specs.model.World.{World, WorldReply, by_own, heap_in, with_heap, allocating, writing_named, reading_named, resizing_named, reply_made, reply_wrote, reply_got, reply_resized, name_of, no_heap}
 use Rattle.tlsf_crew.specs.model.OwnReplies.{own_unmade, reply_by}
 use Rattle.tlsf_calls.proofs.Padding.{bytes_back}
-use Rattle.tlsf_crew.proofs.lemmas.model.ChunkReads.{read_few, read_many}
+use Rattle.tlsf_crew.proofs.lemmas.model.ChunkReads.{chunk_of_few, read_many}
 use Rattle.tlsf_crew.proofs.lemmas.histories.JoinedEntries.{IsHistory, IsOwnCall, history_quiet}
 
 -- the entry of a call that was answered so tells what it did
-abbrev pub Tells1 : {sli : ℕ} → List (Option Name) → World sli → ℕ → Call → Replied sli → Type 0
+abbrev pub Tells1 : {sli : ℕ} → List (Option Name) → World sli → ℕ → Call → WorldReply sli → Type 0
 Tells1 made w at call a = IsHistory made w (record { worker = at; call = call; reply = a.reply } ∷ []) a.world
 
 -- names that earlier events made are known later on
@@ -192,7 +192,7 @@ read_handed : (h : HeapState) (name : Name) (at n : ℕ) → heap.Got (bytes_got
 read_handed h name at n =
     elim (cases_lt 64 n) [
       | inl lt ↦ rw (read_many h name at n lt) (by_id_many h name at n (name.heap == h.id) lt)
-      | inr le ↦ rw (read_few h name at n le) (by_id_few h name at n (name.heap == h.id) le)
+      | inr le ↦ rw (chunk_of_few h name at n le) (by_id_few h name at n (name.heap == h.id) le)
     ]
 
 pub read_told : {sli : ℕ} (made : List (Option Name)) (w : World sli) (at from n : ℕ) (target : Target) (o : Option Name) → at < length w.heaps

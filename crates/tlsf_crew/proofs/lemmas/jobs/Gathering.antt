@@ -13,7 +13,7 @@ use Rattle.tlsf_calls.specs.declared.call.Call.{Call}
 use Rattle.tlsf_crew.specs.declared.jobs.job.Job.{Job}
 use Rattle.tlsf_crew.specs.declared.jobs.done.Done.{Done}
 use Rattle.tlsf_crew.specs.scripts.Counts.{releases_of}
-use Rattle.tlsf_crew.specs.scripts.Scripts.{Telling, script_of}
+use Rattle.tlsf_crew.specs.scripts.Scripts.{ScriptPromise, script_of}
 use Rattle.tlsf_calls.specs.Entries.{record_of}
 use Rattle.tlsf_crew.specs.jobs.Job.{IsDone}
 use Rattle.tlsf_crew.specs.jobs.Parts.{AllDone, IsPrepared, JobRan, EachJobRan}
@@ -65,12 +65,12 @@ made_at : {sli : ℕ} {P : Type 0} (ds : List (Done sli P)) (k : ℕ) (d : Done 
 made_at {sli} {P} ds k d e = get_or_from_slice_get (map (λ (x : Done sli P). x.made.items) ds) k d.made.items [] (map_at (λ (x : Done sli P). x.made.items) ds k d e)
 
 -- what leads from this worker to one of the others
-abbrev RanTo : {sli : ℕ} {P : Type 0} (by : Telling sli P) → List ℕ → List (Job sli P) → List (Done sli P) → ℕ → Worker sli P → Type 0
+abbrev RanTo : {sli : ℕ} {P : Type 0} (by : ScriptPromise sli P) → List ℕ → List (Job sli P) → List (Done sli P) → ℕ → Worker sli P → Type 0
 RanTo {sli} {P} by releases js ds k a =
     (v : Worker sli P) × (r : Vec Entry Global) × (slice_get (map (λ d. d.worker) ds) k ≡ Some v) × (slice_get (map (λ d. d.entries) ds) k ≡ Some r)
     × JobRan by releases a (script_of (scripts_in js) k) (names_made_by ds k) r v
 
-job_ran : {sli : ℕ} {P : Type 0} (by : Telling sli P) (releases : List ℕ) (js : List (Job sli P)) (ds : List (Done sli P)) → AllDone (IsDone by) js ds → All (IsPrepared by releases) js → (k : ℕ) (j : Job sli P) → slice_get js k ≡ Some j
+job_ran : {sli : ℕ} {P : Type 0} (by : ScriptPromise sli P) (releases : List ℕ) (js : List (Job sli P)) (ds : List (Done sli P)) → AllDone (IsDone by) js ds → All (IsPrepared by releases) js → (k : ℕ) (j : Job sli P) → slice_get js k ≡ Some j
     → RanTo by releases js ds k j.worker
 job_ran {sli} {P} by releases js ds done all k j e =
     let r = done_at (IsDone by) js ds done k j e in
@@ -89,7 +89,7 @@ job_ran {sli} {P} by releases js ds done all k j e =
       record { limits = j.limits; left = is.left; limits_are = p.limits; run = rw (script, made_at ds k d r.1) is.ran; room = omega arith },
     )
 
-done_ran : {sli : ℕ} {P : Type 0} (by : Telling sli P) (releases : List ℕ) (js : List (Job sli P)) (ds : List (Done sli P)) → AllDone (IsDone by) js ds → All (IsPrepared by releases) js
+done_ran : {sli : ℕ} {P : Type 0} (by : ScriptPromise sli P) (releases : List ℕ) (js : List (Job sli P)) (ds : List (Done sli P)) → AllDone (IsDone by) js ds → All (IsPrepared by releases) js
     → (k : ℕ) (a : Worker sli P) → slice_get (map (λ j. j.worker) js) k ≡ Some a → RanTo by releases js ds k a
 done_ran {sli} {P} by releases js ds done all k a e =
     let f = from_map (λ (x : Job sli P). x.worker) js k a e in
@@ -97,11 +97,11 @@ done_ran {sli} {P} by releases js ds done all k a e =
 
 -- ---- all together
 
-pub gathered : {sli : ℕ} {P : Type 0} (by : Telling sli P) (releases : List ℕ) (js : List (Job sli P)) (ds : List (Done sli P)) (ws : List (Worker sli P)) (scripts : List (Vec Call Global)) (records : List (Vec Entry Global)) (vs : List (Worker sli P))
+pub jobs_gathered : {sli : ℕ} {P : Type 0} (by : ScriptPromise sli P) (releases : List ℕ) (js : List (Job sli P)) (ds : List (Done sli P)) (ws : List (Worker sli P)) (scripts : List (Vec Call Global)) (records : List (Vec Entry Global)) (vs : List (Worker sli P))
     → map (λ j. j.worker) js ≡ ws → map (λ j. j.script) js ≡ scripts → vs ≡ map (λ d. d.worker) ds → records ≡ map (λ d. d.entries) ds
     → ((i : ℕ) → i < 8 → slice_index releases i ≡ releases_of (script_of (map (λ s. s.items) scripts) i)) → All (IsPrepared by releases) js → AllDone (IsDone by) js ds
     → EachJobRan by ws (map (λ s. s.items) scripts) records vs
-gathered {sli} {P} by releases js ds ws scripts records vs a b c d counts all done =
+jobs_gathered {sli} {P} by releases js ds ws scripts records vs a b c d counts all done =
     let n = done_count (IsDone by) js ds done in
     let count : length (map (λ (e : Done sli P). e.worker) ds) ≡ length (map (λ (j : Job sli P). j.worker) js) = length-map ds (λ e. e.worker) ∙ (n ∙ sym (length-map js (λ j. j.worker))) in
     let told : length (map (λ (e : Done sli P). e.entries) ds) ≡ length (map (λ (j : Job sli P). j.worker) js) = length-map ds (λ e. e.entries) ∙ (n ∙ sym (length-map js (λ j. j.worker))) in

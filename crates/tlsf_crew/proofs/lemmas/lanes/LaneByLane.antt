@@ -22,8 +22,8 @@ step_settled ws vs i j ne s =
       beside = s.settled.beside;
     }
 
-settled_then : {sli : ℕ} (ws vs us : List (Worker sli Lanes)) (i j : ℕ) → LaneSettled ws vs i j → SameLane vs us i j → LaneSettled ws us i j
-settled_then ws vs us i j m s = record {
+settled_before_same : {sli : ℕ} (ws vs us : List (Worker sli Lanes)) (i j : ℕ) → LaneSettled ws vs i j → SameLane vs us i j → LaneSettled ws us i j
+settled_before_same ws vs us i j m s = record {
   post = m.post;
   take = m.take;
   new_post = m.new_post;
@@ -35,8 +35,8 @@ settled_then ws vs us i j m s = record {
   beside = m.beside;
 }
 
-then_settled : {sli : ℕ} (ws vs us : List (Worker sli Lanes)) (i j : ℕ) → SameLane ws vs i j → LaneSettled vs us i j → LaneSettled ws us i j
-then_settled ws vs us i j s m = record {
+settled_behind_same : {sli : ℕ} (ws vs us : List (Worker sli Lanes)) (i j : ℕ) → SameLane ws vs i j → LaneSettled vs us i j → LaneSettled ws us i j
+settled_behind_same ws vs us i j s m = record {
   post = m.post;
   take = m.take;
   new_post = m.new_post;
@@ -60,8 +60,8 @@ column_step ws vs us i j r ne s =
       len = (step_change vs us i j ne s).len ∙ r.len;
       done = λ x lt apart.
           elim (cases_eq x i) [
-            | inl e ↦ rw e (then_settled ws vs us i j (r.same i j (λ _. omega arith)) (step_settled vs us i j ne s))
-            | inr n ↦ settled_then ws vs us x j (r.done x (omega arith) apart) (step_same vs us i j x j ne s (λ e _. n e))
+            | inl e ↦ rw e (settled_behind_same ws vs us i j (r.same i j (λ _. omega arith)) (step_settled vs us i j ne s))
+            | inr n ↦ settled_before_same ws vs us x j (r.done x (omega arith) apart) (step_same vs us i j x j ne s (λ e _. n e))
           ];
       same = λ x y low.
           same_then ws vs us x y (r.same x y (λ e. let h : i + 1 ≤ x = low e in omega arith))
@@ -89,8 +89,8 @@ yard_step ws vs us j a r =
       done = λ x y lt inside ne.
           elim (cases_eq y j) [
             | inl e ↦ let apart : x ≢ j = λ f. ne (f ∙ sym e) in let m : x < length vs = omega (arith, a.len) in
-                rw e (then_settled ws vs us x j (a.same x j (omega arith)) (r.done x m apart))
-            | inr n ↦ settled_then ws vs us x y (a.done x y (omega arith) inside ne) (r.same x y (λ e. absurd (n e)))
+                rw e (settled_behind_same ws vs us x j (a.same x j (omega arith)) (r.done x m apart))
+            | inr n ↦ settled_before_same ws vs us x y (a.done x y (omega arith) inside ne) (r.same x y (λ e. absurd (n e)))
           ];
       same = λ x y low. same_then ws vs us x y (a.same x y (omega arith)) (r.same x y (λ e. absurd (omega arith)));
     }

@@ -9,7 +9,7 @@ use Rattle.tlsf_heap.specs.Lawful.{IsLawful}
 use Rattle.tlsf_crew.specs.declared.worker.worker.Worker.{Worker}
 use Rattle.tlsf_crew.specs.declared.worker.lanes.Lanes.{Lanes}
 use Rattle.tlsf_crew.specs.worker.Workers.{heap_of, KeepsHeap, IsHeapOf, SameButHeap}
-use Rattle.tlsf_crew.specs.lanes.Yard.{yard_heap, world_of, post_at, take_at, HasEnds, IsYard, capacity_in, lane_waits}
+use Rattle.tlsf_crew.specs.lanes.Yard.{heap_of_worker, world_of, post_at, take_at, HasYardLane, IsYard, capacity_in, lane_waits}
 use Rattle.tlsf_crew.specs.model.World.{no_heap, with_waiting, heap_in}
 use Rattle.tlsf_crew.proofs.lemmas.worker.Slots.{get_set_same, get_set_other, some_same, none_or_some}
 use Rattle.tlsf_crew.proofs.lemmas.lanes.LaneSlots.{heap_at, same_parts, map_same}
@@ -25,7 +25,7 @@ use Rattle.tlsf_crew.proofs.lemmas.model.Edits.{same_world, edited_same, edited_
 
 -- each worker has a lawful heap of its number
 abbrev pub OwnHeaps : {sli : ℕ} → List (Worker sli Lanes) → Type 0
-OwnHeaps ws = (i : ℕ) → i < length ws → IsHeapOf i (yard_heap ws i)
+OwnHeaps ws = (i : ℕ) → i < length ws → IsHeapOf i (heap_of_worker ws i)
 
 pub heaps_along : {sli : ℕ} (ws vs : List (Worker sli Lanes)) → map heap_of vs ≡ map heap_of ws → length vs ≡ length ws → OwnHeaps ws → OwnHeaps vs
 heaps_along ws vs e len heaps i i_in = subst (λ (l : List HeapState). IsHeapOf i (get_or l i no_heap)) (sym e) (heaps i (omega (arith, len)))
@@ -36,12 +36,12 @@ heaps_set ws i a v is kept heaps x x_in =
     let h = heaps x x_old in
     elim (cases_eq x i) [
       | inl xi ↦
-          let old : yard_heap ws x ≡ heap_of a = ap (yard_heap ws) xi ∙ heap_at ws i a is in
-          let new : yard_heap (set ws i v) x ≡ heap_of v = ap (yard_heap (set ws i v)) xi ∙ heap_at (set ws i v) i v (get_set_same ws i v (slice_get_within ws i a is)) in
+          let old : heap_of_worker ws x ≡ heap_of a = ap (heap_of_worker ws) xi ∙ heap_at ws i a is in
+          let new : heap_of_worker (set ws i v) x ≡ heap_of v = ap (heap_of_worker (set ws i v)) xi ∙ heap_at (set ws i v) i v (get_set_same ws i v (slice_get_within ws i a is)) in
           rw new (kept.0 ∙ (sym (ap (λ k. k.id) old) ∙ h.0), kept.1 (subst IsLawful old h.1))
       | inr xi ↦
           let there = slice_get-get_or ws x a x_old in
-          let e : yard_heap (set ws i v) x ≡ yard_heap ws x = heap_at (set ws i v) x (get_or ws x a) (get_set_other ws i x v xi ∙ there) ∙ sym (heap_at ws x (get_or ws x a) there) in
+          let e : heap_of_worker (set ws i v) x ≡ heap_of_worker ws x = heap_at (set ws i v) x (get_or ws x a) (get_set_other ws i x v xi ∙ there) ∙ sym (heap_at ws x (get_or ws x a) there) in
           subst (IsHeapOf x) (sym e) h
     ]
 
@@ -69,7 +69,7 @@ unfolding world_of
 waits_between ws i j p t a b = rw (a, b) refl
 
 changed_lanes : {sli : ℕ} (ws vs : List (Worker sli Lanes)) (i j : ℕ) (p : PostEnd) (t : TakeEnd) (q : PostEnd) (u : TakeEnd)
-    → LaneChange ws vs i j p t q u → IsYard ws → (x y : ℕ) → x < length vs → y < length vs → x ≢ y → HasEnds vs x y
+    → LaneChange ws vs i j p t q u → IsYard ws → (x y : ℕ) → x < length vs → y < length vs → x ≢ y → HasYardLane vs x y
 changed_lanes ws vs i j p t q u c yard x y x_in y_in ne =
     let same_capacity : capacity_in vs ≡ capacity_in ws = ap (λ (l : List (ℕ × ℕ)). (get_or l 0 (0, 0)).1) c.numbers in
     let a : x < length ws = omega (arith, c.len) in
@@ -124,7 +124,7 @@ heap_lanes ws i a v is same x y =
       ],
     )
 
-heap_ends : {sli : ℕ} (ws : List (Worker sli Lanes)) (i : ℕ) (a v : Worker sli Lanes) → slice_get ws i ≡ Some a → SameButHeap a v → IsYard ws → (x y : ℕ) → x < length (set ws i v) → y < length (set ws i v) → x ≢ y → HasEnds (set ws i v) x y
+heap_ends : {sli : ℕ} (ws : List (Worker sli Lanes)) (i : ℕ) (a v : Worker sli Lanes) → slice_get ws i ≡ Some a → SameButHeap a v → IsYard ws → (x y : ℕ) → x < length (set ws i v) → y < length (set ws i v) → x ≢ y → HasYardLane (set ws i v) x y
 heap_ends ws i a v is same yard x y x_in y_in ne =
     let n = length-set ws i v in
     let xi : x < length ws = omega arith in

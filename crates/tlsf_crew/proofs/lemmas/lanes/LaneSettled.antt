@@ -5,7 +5,7 @@ use Rattle.tlsf_post.specs.declared.post_end.PostEnd.{PostEnd}
 use Rattle.tlsf_post.specs.declared.take_end.TakeEnd.{TakeEnd}
 use Rattle.tlsf_crew.specs.declared.worker.worker.Worker.{Worker}
 use Rattle.tlsf_crew.specs.declared.worker.lanes.Lanes.{Lanes}
-use Rattle.tlsf_crew.specs.lanes.Yard.{IsYard, post_at, take_at, lane_waits, waits_in, yard_heap, capacity_in, world_of}
+use Rattle.tlsf_crew.specs.lanes.Yard.{IsYard, post_at, take_at, lane_waits, waits_in, heap_of_worker, capacity_in, world_of}
 use Rattle.tlsf_post.specs.Lanes.{free_slots, capacity_of, waited}
 use Rattle.tlsf_crew.specs.model.World.{World}
 use Rattle.tlsf_crew.specs.lanes.Settle.{LaneSettled}
@@ -41,13 +41,13 @@ settled_room ws vs i j i_in j_in ne yard m =
     let room = m.beside.room in
     omega arith
 
-pub capacity_same : {sli : ℕ} (ws vs : List (Worker sli Lanes)) → world_of vs ≡ world_of ws → capacity_in vs ≡ capacity_in ws
+pub capacity_by_world : {sli : ℕ} (ws vs : List (Worker sli Lanes)) → world_of vs ≡ world_of ws → capacity_in vs ≡ capacity_in ws
 unfolding world_of
-capacity_same {sli} ws vs e = ap (λ (w : World sli). w.capacity) e
+capacity_by_world {sli} ws vs e = ap (λ (w : World sli). w.capacity) e
 
-pub heap_same : {sli : ℕ} (ws vs : List (Worker sli Lanes)) → world_of vs ≡ world_of ws → (j : ℕ) → yard_heap vs j ≡ yard_heap ws j
+pub heap_by_world : {sli : ℕ} (ws vs : List (Worker sli Lanes)) → world_of vs ≡ world_of ws → (j : ℕ) → heap_of_worker vs j ≡ heap_of_worker ws j
 unfolding world_of
-heap_same {sli} ws vs e j = ap (λ (w : World sli). get_or w.heaps j (yard_heap {sli = sli} [] 0)) e
+heap_by_world {sli} ws vs e j = ap (λ (w : World sli). get_or w.heaps j (heap_of_worker {sli = sli} [] 0)) e
 
 pub waits_same : {sli : ℕ} (ws vs : List (Worker sli Lanes)) → world_of vs ≡ world_of ws → (i j : ℕ) → waits_in vs i j ≡ waits_in ws i j
 unfolding world_of

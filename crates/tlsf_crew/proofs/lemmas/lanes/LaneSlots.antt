@@ -11,7 +11,7 @@ use Rattle.std.proofs.Math.ListN.{length-set}
 use Rattle.std.proofs.Math.Seq.{map-set_same}
 use Rattle.tlsf_post.specs.declared.post_end.PostEnd.{PostEnd}
 use Rattle.tlsf_post.specs.declared.take_end.TakeEnd.{TakeEnd}
-use Rattle.tlsf_crew.specs.lanes.Yard.{end_to_in, end_from_in, yard_heap, HasEnds}
+use Rattle.tlsf_crew.specs.lanes.Yard.{end_to_in, end_from_in, heap_of_worker, HasYardLane}
 use Rattle.tlsf_crew.specs.lanes.LaneSteps.{OnlyLaneSettled, LaneChange, SameLane, InYard}
 use Rattle.tlsf_crew.proofs.lemmas.worker.Slots.{get_set_same, get_set_other, got, got_first, got_second, from_slot, some_same}
 
@@ -63,7 +63,7 @@ from_take None i t h = cc
 from_take (Some w) i t h = (w, refl, from_slot (slice_get w.ports.takes.items i) t h)
 
 -- both ends stand in the yard
-pub in_yard : {sli : ℕ} (ws : List (Worker sli Lanes)) (i j : ℕ) → HasEnds ws i j → InYard ws i j
+pub in_yard : {sli : ℕ} (ws : List (Worker sli Lanes)) (i j : ℕ) → HasYardLane ws i j → InYard ws i j
 in_yard ws i j h =
     let a = from_post (slice_get ws i) j h.0 h.2 in
     let b = from_take (slice_get ws j) i h.1 h.3 in
@@ -93,7 +93,7 @@ step_change ws vs i j ne s =
       capacity = m.beside.capacity;
     }
 
-pub heap_at : {sli : ℕ} (ws : List (Worker sli Lanes)) (i : ℕ) (a : Worker sli Lanes) → slice_get ws i ≡ Some a → yard_heap ws i ≡ heap_of a
+pub heap_at : {sli : ℕ} (ws : List (Worker sli Lanes)) (i : ℕ) (a : Worker sli Lanes) → slice_get ws i ≡ Some a → heap_of_worker ws i ≡ heap_of a
 heap_at [] i a e = cc
 heap_at (w ∷ ws) zero a e = ap heap_of (some_same w a e)
 heap_at (w ∷ ws) (suc i) a e = heap_at ws i a e

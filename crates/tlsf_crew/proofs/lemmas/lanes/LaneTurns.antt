@@ -84,8 +84,8 @@ one_turn_keeps a v from answer t = keeps_then a t.between v (take_keeps a t.betw
 all_turns_keep : {sli : ℕ} (a v : Worker sli Lanes) (from : ℕ) (tooks : List Took) → TakesInTurn TookThrough a v from tooks → KeepsYards a v
 all_turns_keep a v from tooks = turns_keep TookThrough KeepsYards same_keeps keeps_then one_turn_keeps a v from tooks
 
-turn_keeps : {sli : ℕ} (a v : Worker sli Lanes) (from most : ℕ) (tooks : List Took) → TurnDrained a v from most tooks → KeepsYards a v
-turn_keeps a v from most tooks t = elim (end_or (end_from a from)) [
+drained_turn_keeps : {sli : ℕ} (a v : Worker sli Lanes) (from most : ℕ) (tooks : List Took) → TurnDrained a v from most tooks → KeepsYards a v
+drained_turn_keeps a v from most tooks t = elim (end_or (end_from a from)) [
   | inl has ↦
       let l = t.lane has in
       let k = all_turns_keep a l.last from tooks l.takes in
@@ -98,7 +98,7 @@ turn_keeps a v from most tooks t = elim (end_or (end_from a from)) [
 
 lanes_keep : {sli : ℕ} (a v : Worker sli Lanes) (most k : ℕ) (tooks : List Took) → EachLaneDrained a v most k tooks → KeepsYards a v
 lanes_keep a v most zero tooks l = subst (KeepsYards a) (sym l.1) (same_keeps a)
-lanes_keep a v most (suc k) tooks l = keeps_then a l.0 v (lanes_keep a l.0 most k l.1 l.4) (turn_keeps l.0 v k (most - length l.1) l.2 l.5)
+lanes_keep a v most (suc k) tooks l = keeps_then a l.0 v (lanes_keep a l.0 most k l.1 l.4) (drained_turn_keeps l.0 v k (most - length l.1) l.2 l.5)
 
 pub all_drained : {sli : ℕ} {N : Type 0} (admitted : N → ℕ → Type 0) (noted : N → ℕ → ℕ → Option ℕ → Took → N → Type 0) (a v : Worker sli Lanes) (x y : N) (most : ℕ) (answer : Drained) → ((z : N) (i : ℕ) → admitted z i)
     → AllNoted (lane_rules admitted noted) a v x y (lane_places a) most answer → DrainedAll a v most answer × KeepsYards a v

@@ -20,8 +20,8 @@ id_at (w ∷ ws) (suc i) a e = id_at ws i a e
 pub own_number : {sli : ℕ} (ws : List (Worker sli Lanes)) (i : ℕ) (a : Worker sli Lanes) → IsYard ws → slice_get ws i ≡ Some a → id_of a ≡ i
 own_number ws i a yard is = sym (id_at ws i a is) ∙ yard.ids i (slice_get_within ws i a is)
 
-pub own_heap : {sli : ℕ} (ws : List (Worker sli Lanes)) (i : ℕ) (a : Worker sli Lanes) → IsYard ws → slice_get ws i ≡ Some a → IsHeapOf i (heap_of a)
-own_heap ws i a yard is = subst (IsHeapOf i) (heap_at ws i a is) (yard.heaps i (slice_get_within ws i a is))
+pub heap_of_its_number : {sli : ℕ} (ws : List (Worker sli Lanes)) (i : ℕ) (a : Worker sli Lanes) → IsYard ws → slice_get ws i ≡ Some a → IsHeapOf i (heap_of a)
+heap_of_its_number ws i a yard is = subst (IsHeapOf i) (heap_at ws i a is) (yard.heaps i (slice_get_within ws i a is))
 
 other : {sli : ℕ} (ws : List (Worker sli Lanes)) (i j : ℕ) → (j ≡ i → ⊥) → (length ws ≤ j → ⊥) → IsOther (length ws) i j
 other ws i j own far = (elim (cases_lt j (length ws)) [ inl lt ↦ lt | inr le ↦ absurd (far le) ], own)

@@ -13,7 +13,7 @@ use Rattle.tlsf_post.specs.declared.take_end.TakeEnd.{TakeEnd}
 use Rattle.tlsf_post.specs.Lanes.{posts_sent, free_slots, capacity_of, waited, taken, ready, IsLane}
 use Rattle.tlsf_crew.specs.declared.worker.worker.Worker.{Worker}
 use Rattle.tlsf_crew.specs.declared.worker.lanes.Lanes.{Lanes}
-use Rattle.tlsf_crew.specs.lanes.Yard.{post_at, take_at, capacity_in, lane_waits, IsYard, yard_heap, world_of}
+use Rattle.tlsf_crew.specs.lanes.Yard.{post_at, take_at, capacity_in, lane_waits, IsYard, heap_of_worker, world_of}
 use Rattle.tlsf_crew.specs.model.World.{no_heap}
 use Rattle.tlsf_crew.specs.worker.Sizes.{AreSizes}
 use Rattle.tlsf_crew.specs.model.Opening.{opened_heaps, opened_world}
@@ -192,7 +192,7 @@ laid_yard {sli} ws n words capacity level sizes l =
           ∙ ap (λ (k : ℕ × ℕ). k.0) (get_or-map-range_with_len (λ (j : ℕ). (j, capacity)) 0 n i i (0, 0) (omega arith) (omega arith));
       heaps = λ i i_in.
           let i_n : i < n = omega arith in
-          let e : yard_heap ws i ≡ opened i words 0 =
+          let e : heap_of_worker ws i ≡ opened i words 0 =
           ap (λ (k : List HeapState). get_or k i no_heap) l.heaps ∙ get_or-map-range_with_len (λ (j : ℕ). opened j words 0) 0 n i i no_heap i_n (omega arith) in
           rw e (opened_lawful sli i words sizes.1);
       alone = l.alone;

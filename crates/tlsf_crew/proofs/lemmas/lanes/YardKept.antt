@@ -10,7 +10,7 @@ use Rattle.tlsf_post.specs.declared.take_end.TakeEnd.{TakeEnd}
 use Rattle.tlsf_post.specs.Lanes.{capacity_of, IsLane}
 use Rattle.tlsf_crew.specs.declared.worker.worker.Worker.{Worker}
 use Rattle.tlsf_crew.specs.declared.worker.lanes.Lanes.{Lanes}
-use Rattle.tlsf_crew.specs.lanes.Yard.{post_at, take_at, capacity_in, HasEnds, IsYard}
+use Rattle.tlsf_crew.specs.lanes.Yard.{post_at, take_at, capacity_in, HasYardLane, IsYard}
 use Rattle.tlsf_crew.specs.lanes.LaneWorkers.{id_and_capacity, PostEndPut, TakeEndTook}
 use Rattle.tlsf_crew.specs.worker.Workers.{SameButHeap, KeepsHeap, heap_of, id_of}
 use Rattle.tlsf_crew.specs.lanes.LaneCalls.{KeepsYards}
@@ -36,7 +36,7 @@ set_twice (w ∷ ws) zero b v = refl
 set_twice (w ∷ ws) (suc i) b v = ap (λ l. w ∷ l) (set_twice ws i b v)
 
 put_ends : {sli : ℕ} (ws : List (Worker sli Lanes)) (i j : ℕ) (a v : Worker sli Lanes) (post : Post) (answer : Result (Unit {0}) Post) → slice_get ws i ≡ Some a → (put : PostEndPut a v j post answer)
-    → post_at ws i j ≡ Some put.1.end → PostSet ws (set ws i v) i j put.1.new_end → IsYard ws → (x y : ℕ) → x < length ws → y < length ws → x ≢ y → HasEnds (set ws i v) x y
+    → post_at ws i j ≡ Some put.1.end → PostSet ws (set ws i v) i j put.1.new_end → IsYard ws → (x y : ℕ) → x < length ws → y < length ws → x ≢ y → HasYardLane (set ws i v) x y
 put_ends ws i j a v post answer is put here there yard x y x_in y_in apart =
     let h = yard.lanes x y x_in y_in apart in
     let same : capacity_in (set ws i v) ≡ capacity_in ws = ap (λ (l : List (ℕ × ℕ)). (get_or l 0 (0, 0)).1) (map_same id_and_capacity ws i a v is (ports_numbers a v put.0 put.1.same.0)) in
@@ -86,7 +86,7 @@ put_keeps a v j post answer own put ws i is yard =
     }
 
 take_ends : {sli : ℕ} (ws : List (Worker sli Lanes)) (i j : ℕ) (a v : Worker sli Lanes) (post : Option Post) → slice_get ws j ≡ Some a → (got : TakeEndTook a v i post)
-    → take_at ws i j ≡ Some got.1.end → TakeSet ws (set ws j v) i j got.1.new_end → IsYard ws → (x y : ℕ) → x < length ws → y < length ws → x ≢ y → HasEnds (set ws j v) x y
+    → take_at ws i j ≡ Some got.1.end → TakeSet ws (set ws j v) i j got.1.new_end → IsYard ws → (x y : ℕ) → x < length ws → y < length ws → x ≢ y → HasYardLane (set ws j v) x y
 take_ends ws i j a v post is got here there yard x y x_in y_in apart =
     let h = yard.lanes x y x_in y_in apart in
     let same : capacity_in (set ws j v) ≡ capacity_in ws = ap (λ (l : List (ℕ × ℕ)). (get_or l 0 (0, 0)).1) (map_same id_and_capacity ws j a v is (ports_numbers a v got.0 got.1.same.0)) in

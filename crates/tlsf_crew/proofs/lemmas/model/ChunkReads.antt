@@ -14,12 +14,12 @@ use Rattle.tlsf_calls.specs.declared.crew_refusal.CrewRefusal.TheVariants.{Heap}
 use Rattle.tlsf_crew.specs.worker.Calls.{by_heap}
 use Rattle.tlsf_crew.specs.model.Heaps.{chunk_read, as_chunk, too_many}
 
-pub read_few : (h : HeapState) (name : Name) (from n : ℕ) → n ≤ 64 → chunk_read h name from n ≡ as_chunk (read_of h name from n)
+pub chunk_of_few : (h : HeapState) (name : Name) (from n : ℕ) → n ≤ 64 → chunk_read h name from n ≡ as_chunk (read_of h name from n)
 unfolding chunk_read
-read_few h name from n le = let b : nat_le n 64 ≡ true = grind (arith, nat_tests) in rw b refl
+chunk_of_few h name from n le = let b : nat_le n 64 ≡ true = grind (arith, nat_tests) in rw b refl
 
-pub few_read : (h : HeapState) (name : Name) (from n k : ℕ) (answer : Result Chunk CrewRefusal) → answer ≡ by_heap (as_chunk (read_of h name from k)) → k ≡ n → n ≤ 64 → answer ≡ by_heap (chunk_read h name from n)
-few_read h name from n k answer a e le = a ∙ (ap (λ x. by_heap (as_chunk (read_of h name from x))) e ∙ ap by_heap (sym (read_few h name from n le)))
+pub answer_of_few : (h : HeapState) (name : Name) (from n k : ℕ) (answer : Result Chunk CrewRefusal) → answer ≡ by_heap (as_chunk (read_of h name from k)) → k ≡ n → n ≤ 64 → answer ≡ by_heap (chunk_read h name from n)
+answer_of_few h name from n k answer a e le = a ∙ (ap (λ x. by_heap (as_chunk (read_of h name from x))) e ∙ ap by_heap (sym (chunk_of_few h name from n le)))
 
 pub read_many : (h : HeapState) (name : Name) (from n : ℕ) → 64 < n → chunk_read h name from n ≡ as_chunk (too_many (read_of h name from 0))
 unfolding chunk_read

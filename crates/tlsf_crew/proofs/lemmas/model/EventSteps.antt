@@ -7,7 +7,7 @@ use Rattle.tlsf_calls.specs.declared.event.Event.{Event}
 use Rattle.tlsf_calls.specs.declared.call.Call.{Call}
 use Rattle.tlsf_calls.specs.declared.reply.Reply.TheVariants.{Refused}
 use Rattle.tlsf_calls.specs.declared.crew_refusal.CrewRefusal.TheVariants.{Stranger}
-use Rattle.tlsf_crew.specs.model.World.{World, Replied, Replayed, answered, called, after, replies, begun}
+use Rattle.tlsf_crew.specs.model.World.{World, WorldReply, Replayed, answered, called, after, replies, begun}
 
 pub after_far : {sli : ℕ} (r : Replayed sli) (e : Event) → length r.world.heaps ≤ e.worker → after r e ≡ answered r e.worker e.call (record { reply = Refused Stranger; world = r.world })
 unfolding after
@@ -17,7 +17,7 @@ pub after_near : {sli : ℕ} (r : Replayed sli) (e : Event) (call : Call) → e.
 unfolding after
 after_near r e call lt is = let b : nat_lt e.worker (length r.world.heaps) ≡ true = grind (arith, nat_tests) in rw b (ap (called r e.worker) is)
 
-pub single_room : {sli : ℕ} (r s : Replayed sli) (at n : ℕ) (call : Call) (rp : Replied sli) → s ≡ answered r at call rp → length s.entries ≤ n → length r.entries + 1 ≤ n
+pub single_room : {sli : ℕ} (r s : Replayed sli) (at n : ℕ) (call : Call) (rp : WorldReply sli) → s ≡ answered r at call rp → length s.entries ≤ n → length r.entries + 1 ≤ n
 single_room r s at n call rp e le =
     let a = ap (λ x. length x.entries) e in
     let b = length_push r.entries (record { worker = at; call = call; reply = rp.reply }) in

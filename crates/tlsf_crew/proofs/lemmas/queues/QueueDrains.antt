@@ -18,16 +18,16 @@ use Rattle.tlsf_crew.proofs.lemmas.worker.OwnHeaps.{call_keeps}
 use Rattle.tlsf_crew.proofs.lemmas.worker.PortsKept.{Keeping}
 use Rattle.tlsf_crew.proofs.lemmas.worker.Slots.{end_or}
 use Rattle.tlsf_crew.proofs.lemmas.worker.SourceTurns.{none_heap, takes_heap, takes_of, turns_keep}
-use Rattle.tlsf_crew.proofs.lemmas.queues.QueueKept.{keeps_all, keeps_heap, keeps_put, keeps_take, keeps_then}
+use Rattle.tlsf_crew.proofs.lemmas.queues.QueueKept.{keeps_all, queues_keep_heap, queues_keep_put, queues_keep_take, keeps_then}
 
 -- ---- what a take leaves
 
 after_keeps : {sli : ℕ} (c b : Worker sli Queues) (post : Option Post) (answer : Option Took) → AfterTake c b post answer → KeepsQueueYards c b
 after_keeps c b None answer after = subst (KeepsQueueYards c) (sym after.1) (keeps_all c)
-after_keeps c b (Some p) answer after = keeps_heap c b after.2 (call_keeps (heap_of c) (heap_of b) (heap.Release p.name) after.1)
+after_keeps c b (Some p) answer after = queues_keep_heap c b after.2 (call_keeps (heap_of c) (heap_of b) (heap.Release p.name) after.1)
 
 pub taken_keeps : {sli : ℕ} (a b : Worker sli Queues) (source : ℕ) (answer : Option Took) → TakenFrom AsksQueue a b source answer → KeepsQueueYards a b
-taken_keeps a b source answer t = keeps_then a t.between b (keeps_take a t.between t.post t.took) (after_keeps t.between b t.post answer t.then)
+taken_keeps a b source answer t = keeps_then a t.between b (queues_keep_take a t.between t.post t.took) (after_keeps t.between b t.post answer t.then)
 
 -- a queue that was seen empty shows no post
 pub seen_empty : {sli : ℕ} (a v : Worker sli Queues) → SameButPorts a v → StopsAtQueue a.ports v.ports 0 → TakenFromQueue a v None
@@ -64,6 +64,6 @@ all_queue_drained {sli} admitted noted a v x y most tooks d n count =
 pub queues_keep_yards : {sli : ℕ} → Keeping {sli = sli} {P = Queues} (λ p j. (end : PosterEnd) × (queue_to p j ≡ Some end)) PutsIntoQueue KeepsQueueYards
 queues_keep_yards = record {
   either = λ p j. end_or (queue_to p j);
-  heap = keeps_heap;
-  put = λ a v name answer same puts. keeps_put a v name.heap name answer (same, puts);
+  heap = queues_keep_heap;
+  put = λ a v name answer same puts. queues_keep_put a v name.heap name answer (same, puts);
 }

@@ -50,8 +50,8 @@ slot_none (Some p) s k e = absurd cc
 
 -- ---- places in a yard
 
-pub keeps_heap : {sli : ℕ} (a v : Worker sli Queues) → SameButHeap a v → KeepsHeap (heap_of a) (heap_of v) → KeepsQueueYards a v
-keeps_heap a v same kept = record {
+pub queues_keep_heap : {sli : ℕ} (a v : Worker sli Queues) → SameButHeap a v → KeepsHeap (heap_of a) (heap_of v) → KeepsQueueYards a v
+queues_keep_heap a v same kept = record {
   number = same.0;
   heap = kept;
   own = same_owner a.ports.own v.ports.own (λ t. (same.1 t).own);
@@ -59,10 +59,10 @@ keeps_heap a v same kept = record {
 }
 
 pub keeps_all : {sli : ℕ} (a : Worker sli Queues) → KeepsQueueYards a a
-keeps_all a = keeps_heap a a (refl, refl) (same_heap_keeps (heap_of a) (heap_of a) refl)
+keeps_all a = queues_keep_heap a a (refl, refl) (same_heap_keeps (heap_of a) (heap_of a) refl)
 
-pub keeps_put : {sli : ℕ} (a v : Worker sli Queues) (j : ℕ) (name : Name) (answer : Result (Unit {0}) Name) → PosterEndPut a v j name answer → KeepsQueueYards a v
-keeps_put a v j name answer put = record {
+pub queues_keep_put : {sli : ℕ} (a v : Worker sli Queues) (j : ℕ) (name : Name) (answer : Result (Unit {0}) Name) → PosterEndPut a v j name answer → KeepsQueueYards a v
+queues_keep_put a v j name answer put = record {
   number = put.0.0;
   heap = same_heap_keeps (heap_of a) (heap_of v) (ports_heap a v put.0);
   own = same_owner a.ports.own v.ports.own put.1.same;
@@ -72,8 +72,8 @@ keeps_put a v j name answer put = record {
   ];
 }
 
-pub keeps_take : {sli : ℕ} (a v : Worker sli Queues) (answer : Option Post) → OwnEndTook a v answer → KeepsQueueYards a v
-keeps_take a v answer took = record {
+pub queues_keep_take : {sli : ℕ} (a v : Worker sli Queues) (answer : Option Post) → OwnEndTook a v answer → KeepsQueueYards a v
+queues_keep_take a v answer took = record {
   number = took.0.0;
   heap = same_heap_keeps (heap_of a) (heap_of v) (ports_heap a v took.0);
   own = took.1.mailbox;

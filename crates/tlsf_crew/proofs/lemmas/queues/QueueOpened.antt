@@ -26,7 +26,7 @@ use Rattle.tlsf_crew.specs.queues.QueueYard.{FitsQueueYard, IsQueueYard, first_c
 use Rattle.tlsf_crew.specs.queues.QueueOpening.{AreUngiven, AreFreshQueues, AreGiven, GaveEnds, GotEnd, IsNewQueueWorker}
 use Rattle.tlsf_post.proofs.RoundSteps.{no_items}
 use Rattle.tlsf_post.proofs.Numbers.{but_more, but_skip}
-use Rattle.tlsf_crew.proofs.lemmas.worker.Slots.{no_slot, get_set_same, get_set_other, none_or_some, slot_new, slot_other, some_same, some_at}
+use Rattle.tlsf_crew.proofs.lemmas.worker.Slots.{at_push, no_slot, get_set_same, get_set_other, none_or_some, slot_new, slot_other, some_same, some_at}
 use Rattle.tlsf_crew.proofs.lemmas.worker.OwnHeaps.{opened_lawful}
 
 -- ---- ends are given one after another
@@ -88,8 +88,8 @@ gave_more ws vs j i k ps rest one a v next whole apart at number posts same g =
 
 -- ---- the numbers of the ends that are left
 
-pub own_numbers : (j i k : ℕ) → k ≡ i + 1 → i ≡ j → below_but j k ≡ below_but j i
-own_numbers j i k e own = let s : k ≡ suc j = omega arith in ap (below_but j) s ∙ (but_skip j ∙ ap (below_but j) (sym own))
+pub below_but_own : (j i k : ℕ) → k ≡ i + 1 → i ≡ j → below_but j k ≡ below_but j i
+below_but_own j i k e own = let s : k ≡ suc j = omega arith in ap (below_but j) s ∙ (but_skip j ∙ ap (below_but j) (sym own))
 
 pub last_end : (j i k : ℕ) (ps rest : List PosterEnd) (one : PosterEnd) → k ≡ i + 1 → i ≢ j → ps ≡ rest ++ one ∷ [] → map number_of ps ≡ below_but j k → (map number_of rest ≡ below_but j i) × (number_of one ≡ i)
 last_end j i k ps rest one e ne whole numbers =
@@ -117,8 +117,8 @@ all_middle : (P : PosterEnd → Type 0) (before after : List PosterEnd) (p : Pos
 all_middle P [] after p all = All-head P p after all
 all_middle P (b ∷ before) after p all = all_middle P before after p (All-tail P b (before ++ p ∷ after) all)
 
-pub of_all : (P : PosterEnd → Type 0) (ps before after : List PosterEnd) (p : PosterEnd) → ps ≡ before ++ p ∷ after → All P ps → P p
-of_all P ps before after p e all = all_middle P before after p (subst (All P) e all)
+pub holds_of_member : (P : PosterEnd → Type 0) (ps before after : List PosterEnd) (p : PosterEnd) → ps ≡ before ++ p ∷ after → All P ps → P p
+holds_of_member P ps before after p e all = all_middle P before after p (subst (All P) e all)
 
 -- the worker that was there before, and how it has changed: the owner of the queue is the same, all others got an end
 record Earlier {sli : ℕ} (ws : List (Worker sli Queues)) (m i : ℕ) (v : Worker sli Queues) (ps : List PosterEnd) : Type 0 where
@@ -182,8 +182,8 @@ given_more {sli} n words capacity m ws vs b ps g m_in b_is whole fresh gave = re
                 got.end,
                 ap (queue_end_to v) e ∙ here,
                 got.number,
-                of_all (λ p. put_by p ≡ []) ps got.before got.after got.end got.stands fresh,
-                subst (λ (o : OwnerEnd). IsMailbox o got.end) (sym b_own) (of_all (IsMailbox b.ports.own) ps got.before got.after got.end got.stands whole.0),
+                holds_of_member (λ p. put_by p ≡ []) ps got.before got.after got.end got.stands fresh,
+                subst (λ (o : OwnerEnd). IsMailbox o got.end) (sym b_own) (holds_of_member (IsMailbox b.ports.own) ps got.before got.after got.end got.stands whole.0),
               )
         ]
         | inr ne_m ↦
@@ -369,10 +369,10 @@ none_left ws fresh i j w v None a b e = refl
 none_left ws fresh i j w v (Some p) a b e =
     ap (λ (l : List Post). drop (length (posts_of (number_of p) l)) (put_by p)) (let taken = fresh.taken j w a in taken.0) ∙ fresh.put i j v p b e
 
-none_waits : {sli : ℕ} (ws : List (Worker sli Queues)) → AreFreshQueues ws → (i j : ℕ) (o s : Option (Worker sli Queues)) → slice_get ws j ≡ o → slice_get ws i ≡ s → waits_of o (queue_end_in s j) ≡ []
-none_waits ws fresh i j None s a b = refl
-none_waits ws fresh i j (Some w) None a b = refl
-none_waits ws fresh i j (Some w) (Some v) a b = none_left ws fresh i j w v (queue_end_to v j) a b refl
+fresh_queue_waits : {sli : ℕ} (ws : List (Worker sli Queues)) → AreFreshQueues ws → (i j : ℕ) (o s : Option (Worker sli Queues)) → slice_get ws j ≡ o → slice_get ws i ≡ s → waits_of o (queue_end_in s j) ≡ []
+fresh_queue_waits ws fresh i j None s a b = refl
+fresh_queue_waits ws fresh i j (Some w) None a b = refl
+fresh_queue_waits ws fresh i j (Some w) (Some v) a b = none_left ws fresh i j w v (queue_end_to v j) a b refl
 
 pub given_world : {sli : ℕ} (n words capacity : ℕ) (ws : List (Worker sli Queues)) → AreSizes sli n words capacity → AreGiven n words capacity 0 ws → queue_world_of ws ≡ opened_world n words capacity
 unfolding queue_world_of
@@ -381,7 +381,7 @@ given_world n words capacity ws sizes g =
     let heaps = given_heaps n words capacity ws g in
     let first = some_at ws 0 (omega (arith, sizes.0.0, g.count)) in
     let room = given_capacity n words capacity ws 0 first.0 g first.1 in
-    let nothing : (i j : ℕ) → queue_waits_in ws i j ≡ [] = λ i j. none_waits ws fresh i j (slice_get ws j) (slice_get ws i) refl refl in
+    let nothing : (i j : ℕ) → queue_waits_in ws i j ≡ [] = λ i j. fresh_queue_waits ws fresh i j (slice_get ws j) (slice_get ws i) refl refl in
     λ t. record { heaps = heaps t; waiting = λ i j. nothing i j t; capacity = room t }
 
 -- ---- workers without ends
@@ -402,16 +402,6 @@ bare_new n words capacity i a o ps b = record {
   own = subst (λ (o : OwnerEnd). (owner_of o ≡ i) × (out_of o ≡ n) × (most_of o ≡ capacity) × (got_by o ≡ []) × (known_to o ≡ [])) (sym b.numbers.1) b.owner;
   slots = ap length b.posts ∙ length-replicate n None;
 }
-
--- a worker was pushed behind others
-at_push : {X : Type 0} (xs : List X) (x : X) (i : ℕ) (a : X) → slice_get (xs ++ x ∷ []) i ≡ Some a → (slice_get xs i ≡ Some a) ⊎ ((i ≡ length xs) × (x ≡ a))
-at_push [] x zero a e = inr (refl, some_same x a e)
-at_push [] x (suc i) a e = cc
-at_push (y ∷ xs) x zero a e = inl e
-at_push (y ∷ xs) x (suc i) a e = elim (at_push xs x i a e) [
-  | inl h ↦ inl h
-  | inr h ↦ inr (ap suc h.0, h.1)
-]
 
 -- workers without ends, and the ends apart
 pub record AreBare {sli : ℕ} (n words capacity : ℕ) (ws : List (Worker sli Queues)) (ends : List (Vec PosterEnd Global)) : Type 0 where

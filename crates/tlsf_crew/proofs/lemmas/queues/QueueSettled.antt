@@ -21,7 +21,7 @@ use Rattle.tlsf_crew.specs.queues.QueueYard.{FitsQueueYard, IsQueueYard, first_c
 use Rattle.tlsf_crew.specs.queues.QueueOpening.{GaveEnds, GotEnd}
 use Rattle.tlsf_crew.specs.queues.QueueSettle.{Gathered, GaveUpEnd, QueueKnown, QueueSettled, EachQueueSettled, StaysPut, StaysSettled, end_at, ends_below}
 use Rattle.tlsf_post.proofs.Numbers.{but_more, but_skip}
-use Rattle.tlsf_crew.proofs.lemmas.queues.QueueOpened.{of_all}
+use Rattle.tlsf_crew.proofs.lemmas.queues.QueueOpened.{holds_of_member}
 use Rattle.tlsf_crew.proofs.lemmas.worker.Slots.{from_slot, get_set_same, get_set_other, none_or_some, slot_emptied, slot_new, slot_other, some_same, some_at}
 
 -- ---- ends are taken out one after another
@@ -340,7 +340,7 @@ module _ {sli : ℕ} (ws us : List (Worker sli Queues)) (j : ℕ) (b w : Worker 
               | inr d ↦
                   let got = d.1 in
                   let q_is : got.end ≡ q = some_same got.end q (sym got.here ∙ here) in
-                  subst (λ (z : OwnerEnd × PosterEnd). IsMailbox z.0 z.1) (λ t. (sym owner t, q_is t)) (of_all (IsMailbox w.ports.own) qs got.before got.after got.end got.stands m.whole.0)
+                  subst (λ (z : OwnerEnd × PosterEnd). IsMailbox z.0 z.1) (λ t. (sym owner t, q_is t)) (holds_of_member (IsMailbox w.ports.own) qs got.before got.after got.end got.stands m.whole.0)
             ]
         | inr ne ↦
             let s = still i v x in
@@ -383,7 +383,7 @@ module _ {sli : ℕ} (ws us : List (Worker sli Queues)) (j : ℕ) (b w : Worker 
         let g = r.gathered in
         let m = r.beside in
         let all = were_put ws j b qs r.yard r.owner (m.numbers ∙ ap (map number_of) g.ends) (m.put ∙ ap (map put_by) g.ends) in
-        let was = of_all (λ q. WasPut ws j (number_of q) (put_by q)) qs got.before got.after got.end got.stands all in
+        let was = holds_of_member (λ q. WasPut ws j (number_of q) (put_by q)) qs got.before got.after got.end got.stands all in
         let p_is : was.0 ≡ p = some_same was.0 p (sym was.1 ∙ (ap (λ k. end_at ws k j) got.number ∙ (ap (λ o. queue_end_in o j) x.is ∙ is_p))) in
         let q_is : got.end ≡ q = some_same got.end q (sym got.here ∙ is_q) in
         sym (ap put_by q_is) ∙ (sym was.2 ∙ ap put_by p_is)
@@ -402,7 +402,7 @@ module _ {sli : ℕ} (ws us : List (Worker sli Queues)) (j : ℕ) (b w : Worker 
           | inr e ↦
               let got = e.1 in
               let q_is : got.end ≡ q = some_same got.end q (sym got.here ∙ is_q) in
-              let all = of_all (λ q. posts_of (number_of q) (known_to w.ports.own) ≡ put_by q) qs got.before got.after got.end got.stands m.known in
+              let all = holds_of_member (λ q. posts_of (number_of q) (known_to w.ports.own) ≡ put_by q) qs got.before got.after got.end got.stands m.known in
               ap (λ (z : Worker sli Queues). posts_of i (known_to z.ports.own)) (owner c is_c) ∙ (ap (λ k. posts_of k (known_to w.ports.own)) (sym got.number) ∙ (all ∙ ap put_by q_is))
         ];
         order = λ c is_c.
@@ -414,7 +414,7 @@ module _ {sli : ℕ} (ws us : List (Worker sli Queues)) (j : ℕ) (b w : Worker 
           | inr e ↦
               let got = e.1 in
               let q_is : got.end ≡ q = some_same got.end q (sym got.here ∙ is_q) in
-              let all = of_all (λ q. gone_from q ≡ posts_of (number_of q) (got_by w.ports.own)) qs got.before got.after got.end got.stands m.gone in
+              let all = holds_of_member (λ q. gone_from q ≡ posts_of (number_of q) (got_by w.ports.own)) qs got.before got.after got.end got.stands m.gone in
               sym (ap gone_from q_is) ∙ (all ∙ (ap (λ k. posts_of k (got_by w.ports.own)) got.number ∙ ap (λ (z : Worker sli Queues). posts_of i (got_by z.ports.own)) (sym (owner c is_c))))
         ];
       }

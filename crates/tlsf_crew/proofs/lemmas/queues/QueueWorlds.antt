@@ -30,8 +30,8 @@ kept ws vs n i s i_in =
     let v = some_at vs i (omega (arith, s.count)) in
     record { old = a.0; new = v.0; old_is = a.1; new_is = v.1; stays = s.stays i a.0 v.0 a.1 v.1 }
 
-heaps_kept : {sli : ℕ} (ws vs : List (Worker sli Queues)) (n : ℕ) → EachQueueSettled ws n vs → map heap_of vs ≡ map heap_of ws
-heaps_kept ws vs n s =
+heaps_stay : {sli : ℕ} (ws vs : List (Worker sli Queues)) (n : ℕ) → EachQueueSettled ws n vs → map heap_of vs ≡ map heap_of ws
+heaps_stay ws vs n s =
     same_lists (map heap_of vs) (map heap_of ws) (length-map vs heap_of ∙ (s.count ∙ sym (length-map ws heap_of)))
     (λ k d k_in.
     let w = kept ws vs n k s (omega (arith, length-map vs heap_of, s.count)) in
@@ -81,7 +81,7 @@ waits_kept {sli} ws vs n yard s i j = elim (cases_lt j (length ws)) [
 pub settled_world : {sli : ℕ} (ws vs : List (Worker sli Queues)) (n : ℕ) → IsQueueYard ws → EachQueueSettled ws n vs → queue_world_of vs ≡ queue_world_of ws
 unfolding queue_world_of
 settled_world ws vs n yard s =
-    let heaps = heaps_kept ws vs n s in
+    let heaps = heaps_stay ws vs n s in
     let waits = waits_kept ws vs n yard s in
     let capacity = capacity_kept ws vs n s in
     λ t. record { heaps = heaps t; waiting = λ i j. waits i j t; capacity = capacity t }

@@ -7,8 +7,8 @@ use Rattle.tlsf_post.specs.declared.post.Post.{Post}
 use Rattle.tlsf_calls.specs.declared.call.Call.{Call}
 use Rattle.tlsf_calls.specs.declared.entry.Entry.{Entry}
 use Rattle.tlsf_calls.specs.declared.took.Took.{Took}
-use Rattle.tlsf_crew.specs.model.World.{World, Replayed, Draining, called, after_drain, drained_below, drained_lane, draining, took_more}
-use Rattle.tlsf_crew.specs.model.Told.{MayTell, told_by}
+use Rattle.tlsf_crew.specs.model.World.{World, Replayed, DrainState, called, after_drain, drained_below, drained_waiting, draining, took_more}
+use Rattle.tlsf_crew.specs.model.Progress.{MayTell, told_by}
 use Rattle.tlsf_crew.specs.model.Sums.{sum_below}
 use Rattle.tlsf_crew.specs.histories.History.{AreTakes, posts_taken}
 use Rattle.tlsf_crew.specs.races.Race.{IsRace}
@@ -50,29 +50,29 @@ sum_taken n at low (e ∷ es) a =
 
 -- ---- a drain that may take all takes all
 
-lane_left : {sli : ℕ} (at from : ℕ) (rest ps : List Post) (d : Draining sli) → d.world.waiting from at ≡ ps ++ rest → (fold (took_more at from) d ps).world.waiting from at ≡ rest
+lane_left : {sli : ℕ} (at from : ℕ) (rest ps : List Post) (d : DrainState sli) → d.world.waiting from at ≡ ps ++ rest → (fold (took_more at from) d ps).world.waiting from at ≡ rest
 lane_left at from rest [] d e = e
 lane_left at from rest (p ∷ ps) d e = lane_left at from rest ps (took_more at from d p) (edited_same d.world.waiting from at (drop 1 (d.world.waiting from at)) ∙ ap (drop 1) e)
 
 -- the lane from one worker is empty, and so many posts were taken
-record LaneOut {sli : ℕ} (at from : ℕ) (d b : Draining sli) : Type 0 where
+record LaneOut {sli : ℕ} (at from : ℕ) (d b : DrainState sli) : Type 0 where
   empty : b.world.waiting from at ≡ []
   taken : b.taken ≡ d.taken + length (d.world.waiting from at)
 
-lane_out : {sli : ℕ} (at most from : ℕ) (d : Draining sli) → d.taken + length (d.world.waiting from at) ≤ most → LaneOut at from d (drained_lane at most from d)
-unfolding drained_lane
+lane_out : {sli : ℕ} (at most from : ℕ) (d : DrainState sli) → d.taken + length (d.world.waiting from at) ≤ most → LaneOut at from d (drained_waiting at most from d)
+unfolding drained_waiting
 lane_out at most from d le =
     let waits = d.world.waiting from at in
     let all : take (most - d.taken) waits ≡ waits = take_all (most - d.taken) waits (omega arith) in
     rw all (record { empty = lane_left at from [] waits d (sym (append-nil waits)); taken = lane_count at from waits d })
 
 -- the lanes from the other workers below k are empty, and no more was taken than these bounds
-record OthersOut {sli : ℕ} (at k : ℕ) (bound : ℕ → ℕ) (d b : Draining sli) : Type 0 where
+record OthersOut {sli : ℕ} (at k : ℕ) (bound : ℕ → ℕ) (d b : DrainState sli) : Type 0 where
   empty : (x : ℕ) → x < k → x ≢ at → b.world.waiting x at ≡ []
   later : (x : ℕ) → k ≤ x → b.world.waiting x at ≡ d.world.waiting x at
   taken : b.taken ≤ d.taken + sum_below k bound
 
-others_out : {sli : ℕ} (at most : ℕ) (bound : ℕ → ℕ) (d : Draining sli) (k : ℕ) → ((x : ℕ) → x < k → x ≢ at → length (d.world.waiting x at) ≤ bound x) → d.taken + sum_below k bound ≤ most
+others_out : {sli : ℕ} (at most : ℕ) (bound : ℕ → ℕ) (d : DrainState sli) (k : ℕ) → ((x : ℕ) → x < k → x ≢ at → length (d.world.waiting x at) ≤ bound x) → d.taken + sum_below k bound ≤ most
     → OthersOut at k bound d (drained_below at most d k)
 others_out at most bound d zero few le = record { empty = λ x lt ne. absurd (omega arith); later = λ x le. refl; taken = omega arith }
 others_out at most bound d (suc k) few le =

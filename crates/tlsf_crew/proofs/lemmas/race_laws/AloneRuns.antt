@@ -1,8 +1,7 @@
 -- A worker whose script takes no post is told in a race what it is told alone.
-use Rattle.std.proofs.Common.{◌==◌, true, false, [], ◌∷◌, ◌++◌, ◌≡◌, ◌≢◌, ℕ, ◌+◌, ◌<◌, ◌≤◌, List, Option, Some, None, length, sym, ◌∙◌, ap, arith, refl, inl, inr, subst, append_assoc, append-nil, length-append, get_or-set_same}
+use Rattle.std.proofs.Common.{[], ◌∷◌, ◌++◌, ◌≡◌, ◌≢◌, ℕ, ◌+◌, ◌<◌, ◌≤◌, List, Option, Some, None, length, sym, ◌∙◌, ap, arith, refl, inl, inr, subst, append_assoc, append-nil, length-append, get_or-set_same}
 use Rattle.std.specs.List.{AllByRecursion, fold}
 use Rattle.std.proofs.lemmas.Bool.{cases_eq, cases_lt}
-use Rattle.std.proofs.lemmas.Bool.Decides.{nat_tests}
 use Rattle.tlsf_heap.specs.Blocks.{HeapState}
 use Rattle.tlsf_heap.specs.declared.name.Name.{Name}
 use Rattle.tlsf_post.specs.declared.post.Post.{Post}
@@ -14,17 +13,17 @@ use Rattle.tlsf_calls.specs.declared.reply.Reply.{Reply}
 use Rattle.tlsf_calls.specs.declared.reply.Reply.TheVariants.{Posted, Empty, Refused}
 use Rattle.tlsf_calls.specs.declared.crew_refusal.CrewRefusal.TheVariants.{Full}
 use Rattle.tlsf_calls.specs.declared.target.Target.{Target}
-use Rattle.tlsf_crew.specs.model.OwnReplies.{OwnReplied, own_allocating, own_freeing, own_reading, own_resizing, own_writing}
-use Rattle.tlsf_crew.specs.model.World.{no_heap, World, Replied, Replayed, after, allocating, answered, by_own, called, heap_in, name_of, posting, reading_named, releasing_named, resizing_named, with_heap, writing_named}
+use Rattle.tlsf_crew.specs.model.OwnReplies.{HeapReply, own_allocating, own_freeing, own_reading, own_resizing, own_writing}
+use Rattle.tlsf_crew.specs.model.World.{no_heap, World, WorldReply, Replayed, after, allocating, answered, by_own, called, heap_in, name_of, posting, reading_named, releasing_named, resizing_named, with_heap, writing_named}
 use Rattle.tlsf_calls.specs.Entries.{made_by}
-use Rattle.tlsf_crew.specs.model.Told.{Told, MayTell, MayTellAll, told_by}
+use Rattle.tlsf_crew.specs.model.Progress.{Progress, MayTell, MayTellAll, told_by}
 use Rattle.tlsf_crew.specs.histories.History.{StandsBehind, TellsCall, post_of_release, post_of_take, posts_made, posts_taken}
 use Rattle.tlsf_crew.specs.races.Race.{events_by}
 use Rattle.tlsf_crew.proofs.lemmas.histories.AllEntries.{called_knows, called_told}
 use Rattle.tlsf_crew.proofs.lemmas.model.EventSteps.{after_near}
 use Rattle.tlsf_crew.proofs.lemmas.histories.JoinedEntries.{told_nothing, told_own, made_then, taken_then}
 use Rattle.tlsf_crew.proofs.lemmas.histories.LaneCalls.{of_same}
-use Rattle.tlsf_crew.proofs.lemmas.model.OneEvent.{releasing_far, releasing_post}
+use Rattle.tlsf_crew.proofs.lemmas.model.OneEvent.{release_capacity, releasing_far, releasing_post}
 use Rattle.tlsf_crew.proofs.lemmas.scripts.OwnTold.{own_name, posted_world, full_world}
 use Rattle.tlsf_crew.proofs.lemmas.race_laws.CallsTold.{knows_all}
 use Rattle.tlsf_crew.proofs.lemmas.race_laws.RecordHistory.{knows_one}
@@ -33,7 +32,7 @@ use Rattle.tlsf_crew.specs.race_laws.Alone.{TakesNoPost}
 -- ---- one call
 
 -- the reply to a call that takes no post
-abbrev reply_to : {sli : ℕ} → List (Option Name) → World sli → ℕ → Call → Replied sli
+abbrev reply_to : {sli : ℕ} → List (Option Name) → World sli → ℕ → Call → WorldReply sli
 reply_to made w at (Allocate len) = allocating w at len
 reply_to made w at (Release target) = releasing_named w at (name_of made target)
 reply_to made w at (Write target from bytes) = writing_named w at (name_of made target) from (bytes_of bytes)
@@ -47,10 +46,10 @@ called_is r at (Drain most) none = absurd none
 called_is r at call none = refl
 
 -- the same reply, and the same heap behind it
-abbrev SameReply : {sli : ℕ} → ℕ → Replied sli → Replied sli → Type 0
+abbrev SameReply : {sli : ℕ} → ℕ → WorldReply sli → WorldReply sli → Type 0
 SameReply at a b = (a.reply ≡ b.reply) × (heap_in a.world at ≡ heap_in b.world at)
 
-same_told : {sli : ℕ} (r q : Replayed sli) (at : ℕ) (call : Call) (a b : Replied sli) → r.made ≡ q.made → r.entries ≡ q.entries → SameReply at a b → told_by at (answered r at call a) ≡ told_by at (answered q at call b)
+same_told : {sli : ℕ} (r q : Replayed sli) (at : ℕ) (call : Call) (a b : WorldReply sli) → r.made ≡ q.made → r.entries ≡ q.entries → SameReply at a b → told_by at (answered r at call a) ≡ told_by at (answered q at call b)
 same_told r q at call a b made entries same = λ k. record {
   made = made k ++ made_by (same.0 k) ∷ [];
   entries = entries k ++ record { worker = at; call = call; reply = same.0 k } ∷ [];
@@ -70,7 +69,7 @@ left : {sli : ℕ} (n at : ℕ) (x : World sli) (h : HeapState) → at < n → l
 left n at x h at_in count = let near : at < length x.heaps = omega (arith, count) in get_or-set_same x.heaps at h no_heap near
 
 -- a call on it
-own_same : {sli : ℕ} (n at : ℕ) (x y : World sli) (by : HeapState → OwnReplied) → Alike n at x y → SameReply at (by_own x at by) (by_own y at by)
+own_same : {sli : ℕ} (n at : ℕ) (x y : World sli) (by : HeapState → HeapReply) → Alike n at x y → SameReply at (by_own x at by) (by_own y at by)
 own_same n at x y by a = (
   ap (λ h. (by h).reply) a.heap,
   left n at x (by (heap_in x at)).heap a.at_in a.here ∙ (ap (λ h. (by h).heap) a.heap ∙ sym (left n at y (by (heap_in y at)).heap a.at_in a.there)),
@@ -136,23 +135,6 @@ same_reply {sli} n at made x y (Drain most) none a room = absurd none
 
 -- ---- the capacity of the lanes
 
-post_capacity : {sli : ℕ} (w : World sli) (at : ℕ) (name : Name) → ((posting w at name).world).capacity ≡ w.capacity
-unfolding posting
-post_capacity w at name = elim (cases_eq (length (w.waiting at name.heap)) w.capacity) [
-  | inl e ↦ let b : (length (w.waiting at name.heap) == w.capacity) ≡ true = grind (arith, nat_tests) in rw b refl
-  | inr ne ↦ let b : (length (w.waiting at name.heap) == w.capacity) ≡ false = grind (arith, nat_tests) in rw b refl
-]
-
-release_capacity : {sli : ℕ} (w : World sli) (at : ℕ) (o : Option Name) → ((releasing_named w at o).world).capacity ≡ w.capacity
-release_capacity w at None = refl
-release_capacity w at (Some name) = elim (cases_eq name.heap at) [
-  | inl own ↦ rw (own_name w at name own) refl
-  | inr ne ↦ elim (cases_lt name.heap (length w.heaps)) [
-    | inl lt ↦ rw (releasing_post w at name ne lt) (post_capacity w at name)
-    | inr ge ↦ rw (releasing_far w at name ne ge) refl
-  ]
-]
-
 same_capacity : {sli : ℕ} (r : Replayed sli) (at : ℕ) (call : Call) → TakesNoPost call → ((called r at call).world).capacity ≡ (r.world).capacity
 same_capacity r at (Release target) none = release_capacity r.world at (name_of r.made target)
 same_capacity r at (Take from) none = absurd none
@@ -168,26 +150,26 @@ takes_none i j at made (Drain most) name own none t = absurd none
 takes_none i j at made call name own none t = ap (posts_taken i j) t.whole ∙ told_nothing (λ e. post_of_take i e.call e.reply) j _ refl
 
 -- the worker's own state before a call
-abbrev at_call : {sli : ℕ} → Told → World sli → Replayed sli
+abbrev at_call : {sli : ℕ} → Progress → World sli → Replayed sli
 at_call s x = record { made = s.made; entries = s.entries; world = x }
 
 -- later calls add entries behind
-grown : (sli : ℕ) (n at : ℕ) (s t : Told) (calls : List Call) → at < n → MayTellAll sli n at s calls t → (rest : List Entry) × (t.entries ≡ s.entries ++ rest)
-grown sli n at s t [] at_in m = ([], ap (λ (t : Told). t.entries) m ∙ sym (append-nil s.entries))
+grown : (sli : ℕ) (n at : ℕ) (s t : Progress) (calls : List Call) → at < n → MayTellAll sli n at s calls t → (rest : List Entry) × (t.entries ≡ s.entries ++ rest)
+grown sli n at s t [] at_in m = ([], ap (λ (t : Progress). t.entries) m ∙ sym (append-nil s.entries))
 grown sli n at s t (call ∷ calls) at_in m =
     let x = m.1.0 in
     let c = called_told (called (at_call s x) at call).made (at_call s x) at call (omega (arith, m.1.1.0)) (called_knows (at_call s x) at call) in
-    let first : m.0.entries ≡ s.entries ++ c.own = sym (ap (λ (t : Told). t.entries) m.1.2) ∙ c.entries in
+    let first : m.0.entries ≡ s.entries ++ c.own = sym (ap (λ (t : Progress). t.entries) m.1.2) ∙ c.entries in
     let later = grown sli n at m.0 t calls at_in m.2 in
     (c.own ++ later.0, later.1 ∙ (ap (λ l. l ++ later.0) first ∙ append_assoc s.entries c.own later.0))
 
 -- the entries of a script that takes none tell of no post that was taken
-pub none_taken : (sli : ℕ) (n i j at : ℕ) (s t : Told) (calls : List Call) → at < n → AllByRecursion TakesNoPost calls → MayTellAll sli n at s calls t → posts_taken i j s.entries ≡ [] → posts_taken i j t.entries ≡ []
-none_taken sli n i j at s t [] at_in free m none = ap (λ (t : Told). posts_taken i j t.entries) m ∙ none
+pub none_taken : (sli : ℕ) (n i j at : ℕ) (s t : Progress) (calls : List Call) → at < n → AllByRecursion TakesNoPost calls → MayTellAll sli n at s calls t → posts_taken i j s.entries ≡ [] → posts_taken i j t.entries ≡ []
+none_taken sli n i j at s t [] at_in free m none = ap (λ (t : Progress). posts_taken i j t.entries) m ∙ none
 none_taken sli n i j at s t (call ∷ calls) at_in free m none =
     let x = m.1.0 in
     let c = called_told (called (at_call s x) at call).made (at_call s x) at call (omega (arith, m.1.1.0)) (called_knows (at_call s x) at call) in
-    let first : m.0.entries ≡ s.entries ++ c.own = sym (ap (λ (t : Told). t.entries) m.1.2) ∙ c.entries in
+    let first : m.0.entries ≡ s.entries ++ c.own = sym (ap (λ (t : Progress). t.entries) m.1.2) ∙ c.entries in
     none_taken sli n i j at m.0 t calls at_in free.1 m.2
     (ap (posts_taken i j) first ∙ (taken_then i j s.entries c.own ∙ (ap (λ l. l ++ posts_taken i j c.own) none ∙ takes_none i j at s.made call c.name c.own free.0 c.tells)))
 
@@ -200,7 +182,7 @@ pub record HasLanes {sli : ℕ} (w : World sli) (i : ℕ) (made : List (Option N
       → w.capacity ≤ length (w.waiting i j) + length (posts_made i j made before)
 
 -- what it was told so far is what it was told alone
-pub record IsAlone {sli : ℕ} (w : World sli) (i : ℕ) (made : List (Option Name)) (s : Told) (r : Replayed sli) : Type 0 where
+pub record IsAlone {sli : ℕ} (w : World sli) (i : ℕ) (made : List (Option Name)) (s : Progress) (r : Replayed sli) : Type 0 where
   pub names : r.made ≡ s.made
   pub entries : r.entries ≡ s.entries
   pub heap : heap_in r.world i ≡ s.heap
@@ -208,7 +190,7 @@ pub record IsAlone {sli : ℕ} (w : World sli) (i : ℕ) (made : List (Option Na
   pub capacity : r.world.capacity ≡ w.capacity
   pub waits : (j : ℕ) → r.world.waiting i j ≡ w.waiting i j ++ posts_made i j made s.entries
 
-pub alone_told : {sli : ℕ} (w : World sli) (i : ℕ) (made : List (Option Name)) (s : Told) (r : Replayed sli) → IsAlone w i made s r → told_by i r ≡ s
+pub alone_told : {sli : ℕ} (w : World sli) (i : ℕ) (made : List (Option Name)) (s : Progress) (r : Replayed sli) → IsAlone w i made s r → told_by i r ≡ s
 alone_told w i made s r a =
     let names = a.names in
     let entries = a.entries in
@@ -229,14 +211,14 @@ abbrev next_entry : {sli : ℕ} → ℕ → List (Option Name) → World sli →
 next_entry i made x call = record { worker = i; call = call; reply = (reply_to made x i call).reply }
 
 -- the lane is full in the race where it is full alone
-same_room : {sli : ℕ} (w : World sli) (i : ℕ) (z s : Told) (x y : World sli) (target : Target) (name : Name) (rest : List Entry) → HasLanes w i z.made z.entries
+same_room : {sli : ℕ} (w : World sli) (i : ℕ) (z s : Progress) (x y : World sli) (target : Target) (name : Name) (rest : List Entry) → HasLanes w i z.made z.entries
     → y.capacity ≡ w.capacity → ((j : ℕ) → y.waiting i j ≡ w.waiting i j ++ posts_made i j z.made s.entries)
     → name_of s.made target ≡ Some name → name_of z.made target ≡ Some name → name.heap ≢ i → name.heap < length w.heaps → name.heap < length x.heaps
     → z.entries ≡ s.entries ++ (next_entry i s.made x (Release target) ∷ rest) → SameRoom i x y name
 same_room {sli} w i z s x y target name rest lanes capacity waits known later ne lt near whole =
     let j = name.heap in
     let e = next_entry i s.made x (Release target) in
-    let replied : e.reply ≡ (posting x i name).reply = ap (λ o. (releasing_named x i o).reply) known ∙ ap (λ (r : Replied sli). r.reply) (releasing_post x i name ne near) in
+    let replied : e.reply ≡ (posting x i name).reply = ap (λ o. (releasing_named x i o).reply) known ∙ ap (λ (r : WorldReply sli). r.reply) (releasing_post x i name ne near) in
     let apart : i ≢ j = λ q. ne (sym q) in
     let made = posts_made i j z.made in
     let held : length (y.waiting i j) ≡ length (w.waiting i j) + length (made s.entries) = ap length (waits j) ∙ length-append (w.waiting i j) (made s.entries) in
@@ -253,7 +235,7 @@ same_room {sli} w i z s x y target name rest lanes capacity waits known later ne
           absurd (omega (arith, held, count, most, one, capacity, q)),
     )
 
-alone_step : {sli : ℕ} (w : World sli) (i : ℕ) (z s u : Told) (call : Call) (calls : List Call) (r : Replayed sli) → HasLanes w i z.made z.entries → i < length w.heaps → TakesNoPost call
+alone_step : {sli : ℕ} (w : World sli) (i : ℕ) (z s u : Progress) (call : Call) (calls : List Call) (r : Replayed sli) → HasLanes w i z.made z.entries → i < length w.heaps → TakesNoPost call
     → MayTell sli (length w.heaps) i s call u → MayTellAll sli (length w.heaps) i u calls z → IsAlone w i z.made s r → IsAlone w i z.made u (called r i call)
 alone_step {sli} w i z s u call calls r lanes i_in free m later a =
     let n = length w.heaps in
@@ -263,7 +245,7 @@ alone_step {sli} w i z s u call calls r lanes i_in free m later a =
     let second = called_is q i call free in
     let rest = grown sli n i u z calls i_in later in
     let e = next_entry i s.made x call in
-    let told_entries : u.entries ≡ s.entries ++ e ∷ [] = sym (ap (λ (t : Told). t.entries) m.2) ∙ ap (λ (v : Replayed sli). v.entries) second in
+    let told_entries : u.entries ≡ s.entries ++ e ∷ [] = sym (ap (λ (t : Progress). t.entries) m.2) ∙ ap (λ (v : Replayed sli). v.entries) second in
     let whole : z.entries ≡ s.entries ++ (e ∷ rest.0) = rest.1 ∙ (ap (λ l. l ++ rest.0) told_entries ∙ append_assoc s.entries (e ∷ []) rest.0) in
     let known = knows_all (MayTell sli n i) (knows_one sli n i) u z calls later in
     let before : (target : Target) (name : Name) → name_of s.made target ≡ Some name → name_of z.made target ≡ Some name = λ target name found. known target name (knows_one sli n i s u call m target name found) in
@@ -276,21 +258,21 @@ alone_step {sli} w i z s u call calls r lanes i_in free m later a =
     ∙ (sym (ap (told_by i) second) ∙ m.2)) in
     let c = called_told z.made r i call (omega (arith, i_in, a.count)) (λ target name found. before target name (subst (λ made. name_of made target ≡ Some name) a.names found)) in
     record {
-      names = ap (λ (t : Told). t.made) told;
-      entries = ap (λ (t : Told). t.entries) told;
-      heap = ap (λ (t : Told). t.heap) told;
+      names = ap (λ (t : Progress). t.made) told;
+      entries = ap (λ (t : Progress). t.entries) told;
+      heap = ap (λ (t : Progress). t.heap) told;
       count = c.history.count ∙ a.count;
       capacity = same_capacity r i call free ∙ a.capacity;
       waits = λ j.
           let none = takes_none i j i r.made call c.name c.own free c.tells in
           let posts = c.history.posts i j in
-          let added : u.entries ≡ s.entries ++ c.own = sym (ap (λ (t : Told). t.entries) told) ∙ (c.entries ∙ ap (λ l. l ++ c.own) a.entries) in
+          let added : u.entries ≡ s.entries ++ c.own = sym (ap (λ (t : Progress). t.entries) told) ∙ (c.entries ∙ ap (λ l. l ++ c.own) a.entries) in
           let moved : (called r i call).world.waiting i j ≡ r.world.waiting i j ++ posts_made i j z.made c.own = sym (posts ∙ ap (λ l. l ++ (called r i call).world.waiting i j) none) in
           moved ∙ (ap (λ l. l ++ posts_made i j z.made c.own) (a.waits j) ∙ (append_assoc (w.waiting i j) (posts_made i j z.made s.entries) (posts_made i j z.made c.own)
           ∙ ap (λ l. w.waiting i j ++ l) (sym (ap (posts_made i j z.made) added ∙ made_then i j z.made s.entries c.own))));
     }
   where
-    room_for : (w : World sli) (i : ℕ) (z s : Told) (x : World sli) (r : Replayed sli) (call : Call) (rest : List Entry) → HasLanes w i z.made z.entries → i < length w.heaps → length x.heaps ≡ length w.heaps
+    room_for : (w : World sli) (i : ℕ) (z s : Progress) (x : World sli) (r : Replayed sli) (call : Call) (rest : List Entry) → HasLanes w i z.made z.entries → i < length w.heaps → length x.heaps ≡ length w.heaps
         → IsAlone w i z.made s r → ((target : Target) (name : Name) → name_of s.made target ≡ Some name → name_of z.made target ≡ Some name)
         → z.entries ≡ s.entries ++ (next_entry i s.made x call ∷ rest) → RoomFor s.made (length w.heaps) i x r.world call
     room_for w i z s x r (Release target) rest lanes i_in count a known whole =
@@ -298,7 +280,7 @@ alone_step {sli} w i z s u call calls r lanes i_in free m later a =
     room_for w i z s x r call rest lanes i_in count a known whole = tt
 
 -- a whole script
-pub alone_runs : {sli : ℕ} (w : World sli) (i : ℕ) (z s : Told) (calls : List Call) (r : Replayed sli) → HasLanes w i z.made z.entries → i < length w.heaps → AllByRecursion TakesNoPost calls
+pub alone_runs : {sli : ℕ} (w : World sli) (i : ℕ) (z s : Progress) (calls : List Call) (r : Replayed sli) → HasLanes w i z.made z.entries → i < length w.heaps → AllByRecursion TakesNoPost calls
     → MayTellAll sli (length w.heaps) i s calls z → IsAlone w i z.made s r → IsAlone w i z.made z (fold after r (events_by i calls))
 alone_runs w i z s [] r lanes i_in free m a = subst (λ t. IsAlone w i z.made t r) (sym m) a
 alone_runs w i z s (call ∷ calls) r lanes i_in free m a =

@@ -9,7 +9,7 @@ use Rattle.tlsf_heap.proofs.Outcomes.{lawful_run}
 use Rattle.tlsf_calls.specs.declared.call.Call.{Call}
 use Rattle.tlsf_calls.specs.declared.entry.Entry.{Entry}
 use Rattle.tlsf_crew.specs.histories.History.{AreLawful, RunsThrough, RunsTo, answer_told, answers_on, call_on_own, calls_on}
-use Rattle.tlsf_crew.specs.model.Told.{AllTold, Told, untold}
+use Rattle.tlsf_crew.specs.model.Progress.{AllTold, Progress, untold}
 use Rattle.tlsf_crew.specs.model.World.{World, heap_in}
 use Rattle.tlsf_calls.specs.Entries.{record_of}
 use Rattle.tlsf_crew.proofs.lemmas.histories.Fronts.{runs_through}
@@ -30,7 +30,7 @@ runs_by_then sli made at h g k xs ys a b =
 
 -- how worker `at` of n is told a call more, and what the entries tell of one call, and of several in turn
 pub record Account (n at : ℕ) : Type 1 where
-  pub may_tell : Told → Call → Told → Type 0
+  pub may_tell : Progress → Call → Progress → Type 0
   pub one : List (Option Name) → Call → Option Name → List Entry → Type 0
   pub all : List (Option Name) → List Call → List (Option Name) → List Entry → Type 0
   pub none : (made : List (Option Name)) → all made [] [] []
@@ -38,7 +38,7 @@ pub record Account (n at : ℕ) : Type 1 where
       → one made call name own → all (made ++ name ∷ []) calls later rest → all made (call ∷ calls) (name ∷ later) (own ++ rest)
 
 -- the entries of one call, and the name that it made; `made` has all names of its record
-pub record CallTold {n at : ℕ} (by : Account n at) (sli : ℕ) (made : List (Option Name)) (s : Told) (call : Call) (t : Told) : Type 0 where
+pub record CallTold {n at : ℕ} (by : Account n at) (sli : ℕ) (made : List (Option Name)) (s : Progress) (call : Call) (t : Progress) : Type 0 where
   pub own : List Entry
   pub name : Option Name
   pub entries : t.entries ≡ s.entries ++ own
@@ -49,16 +49,16 @@ pub record CallTold {n at : ℕ} (by : Account n at) (sli : ℕ) (made : List (O
 
 -- names that were made stay known, and each call is told so
 pub record TellsEach {n at : ℕ} (by : Account n at) (sli : ℕ) : Type 0 where
-  pub knows : (s t : Told) (call : Call) → by.may_tell s call t → Knows t.made s.made
-  pub told : (made : List (Option Name)) (s t : Told) (call : Call) → Knows made s.made → by.may_tell s call t → CallTold by sli made s call t
+  pub knows : (s t : Progress) (call : Call) → by.may_tell s call t → Knows t.made s.made
+  pub told : (made : List (Option Name)) (s t : Progress) (call : Call) → Knows made s.made → by.may_tell s call t → CallTold by sli made s call t
 
 -- ---- some calls
 
-pub knows_all : (tells : Told → Call → Told → Type 0) → ((s t : Told) (call : Call) → tells s call t → Knows t.made s.made) → (s t : Told) (calls : List Call) → AllTold tells s calls t → Knows t.made s.made
+pub knows_all : (tells : Progress → Call → Progress → Type 0) → ((s t : Progress) (call : Call) → tells s call t → Knows t.made s.made) → (s t : Progress) (calls : List Call) → AllTold tells s calls t → Knows t.made s.made
 knows_all tells one s t [] m = rw m (λ target name e. e)
 knows_all tells one s t (call ∷ calls) m = λ target name e. knows_all tells one m.0 t calls m.2 target name (one s m.0 call m.1 target name e)
 
-record CallsTold {n at : ℕ} (by : Account n at) (sli : ℕ) (made : List (Option Name)) (s : Told) (calls : List Call) (t : Told) : Type 0 where
+record CallsTold {n at : ℕ} (by : Account n at) (sli : ℕ) (made : List (Option Name)) (s : Progress) (calls : List Call) (t : Progress) : Type 0 where
   own : List Entry
   later : List (Option Name)
   entries : t.entries ≡ s.entries ++ own
@@ -67,15 +67,15 @@ record CallsTold {n at : ℕ} (by : Account n at) (sli : ℕ) (made : List (Opti
   run : RunsBy sli made at s.heap own t.heap
   each : All (HasItsAnswer made n) own
 
-calls_told : {n at : ℕ} (by : Account n at) (sli : ℕ) → TellsEach by sli → (made : List (Option Name)) (s t : Told) (calls : List Call) → Knows made t.made → AllTold by.may_tell s calls t → CallsTold by sli made s calls t
+calls_told : {n at : ℕ} (by : Account n at) (sli : ℕ) → TellsEach by sli → (made : List (Option Name)) (s t : Progress) (calls : List Call) → Knows made t.made → AllTold by.may_tell s calls t → CallsTold by sli made s calls t
 calls_told {n} {at} by sli one made s t [] known m =
     record {
       own = [];
       later = [];
-      entries = ap (λ (t : Told). t.entries) m ∙ sym (append-nil s.entries);
-      names = ap (λ (t : Told). t.made) m ∙ sym (append-nil s.made);
+      entries = ap (λ (t : Progress). t.entries) m ∙ sym (append-nil s.entries);
+      names = ap (λ (t : Progress). t.made) m ∙ sym (append-nil s.made);
       tells = by.none s.made;
-      run = record { told = refl; left = sym (ap (λ (t : Told). t.heap) m) };
+      run = record { told = refl; left = sym (ap (λ (t : Progress). t.heap) m) };
       each = All-nil (HasItsAnswer made n);
     }
 calls_told {n} {at} by sli one made s t (call ∷ calls) known m =
@@ -94,12 +94,12 @@ calls_told {n} {at} by sli one made s t (call ∷ calls) known m =
 
 -- ---- a whole record: its names are all that its calls made
 
-pub record RecordTold {n at : ℕ} (by : Account n at) (sli : ℕ) (h : HeapState) (calls : List Call) (end : Told) : Type 0 where
+pub record RecordTold {n at : ℕ} (by : Account n at) (sli : ℕ) (h : HeapState) (calls : List Call) (end : Progress) : Type 0 where
   pub tells : by.all [] calls end.made end.entries
   pub run : RunsBy sli end.made at h end.entries end.heap
   pub each : All (HasItsAnswer end.made n) end.entries
 
-pub record_told : {n at : ℕ} (by : Account n at) (sli : ℕ) → TellsEach by sli → (h : HeapState) (calls : List Call) (end : Told) → AllTold by.may_tell (untold h) calls end → RecordTold by sli h calls end
+pub record_told : {n at : ℕ} (by : Account n at) (sli : ℕ) → TellsEach by sli → (h : HeapState) (calls : List Call) (end : Progress) → AllTold by.may_tell (untold h) calls end → RecordTold by sli h calls end
 record_told {n} {at} by sli one h calls end m =
     let t = calls_told by sli one end.made (untold h) end calls (λ target name e. e) m in
     let entries : t.own ≡ end.entries = sym t.entries in
@@ -111,7 +111,7 @@ record_told {n} {at} by sli one h calls end m =
     }
 
 -- behind each entry the heap is lawful
-pub record_always : {n at : ℕ} (by : Account n at) (sli : ℕ) (h : HeapState) (calls : List Call) (end : Told) (before later : List Entry) → at < n → IsLevel sli → IsLawful h → RecordTold by sli h calls end → end.entries ≡ before ++ later
+pub record_always : {n at : ℕ} (by : Account n at) (sli : ℕ) (h : HeapState) (calls : List Call) (end : Progress) (before later : List Entry) → at < n → IsLevel sli → IsLawful h → RecordTold by sli h calls end → end.entries ≡ before ++ later
     → RunsThrough sli h at end.made before later end.heap
 record_always {n} {at} by sli h calls end before later at_in level lawful t whole =
     runs_through end.made n at h end.heap before later at_in level lawful

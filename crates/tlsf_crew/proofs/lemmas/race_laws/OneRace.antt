@@ -7,7 +7,7 @@ use Rattle.tlsf_heap.specs.declared.name.Name.{Name}
 use Rattle.tlsf_calls.specs.declared.call.Call.{Call}
 use Rattle.tlsf_calls.specs.declared.entry.Entry.{Entry}
 use Rattle.tlsf_crew.specs.model.World.{no_heap, World, begun, heap_in, replies}
-use Rattle.tlsf_crew.specs.model.Told.{Told, MayTellAll, told_by, untold}
+use Rattle.tlsf_crew.specs.model.Progress.{Progress, MayTellAll, told_by, untold}
 use Rattle.tlsf_crew.specs.histories.History.{StandsBehind, posts_made, posts_taken}
 use Rattle.tlsf_crew.specs.races.Race.{IsRace}
 use Rattle.tlsf_calls.specs.Entries.{record_of}
@@ -23,14 +23,14 @@ use Rattle.tlsf_crew.specs.race_laws.Alone.{OnlyLastDrains, alone, RaceIsOne, Ta
 -- ---- what one worker was told
 
 -- its script, and then its last drain
-pub record Turn {sli : ℕ} (w : World sli) (i : ℕ) (script : List Call) (end : Told) : Type 0 where
-  pub between : Told
+pub record Turn {sli : ℕ} (w : World sli) (i : ℕ) (script : List Call) (end : Progress) : Type 0 where
+  pub between : Progress
   pub ran : MayTellAll sli (length w.heaps) i (untold (heap_in w i)) script between
   pub last : LastDrain sli (length w.heaps) i between end
 
 -- its posts are those of its script
-own_posts : {sli : ℕ} (w : World sli) (i j : ℕ) (script : List Call) (end : Told) (t : Turn w i script end) → posts_made i j end.made end.entries ≡ posts_made i j (t.between).made (t.between).entries
-own_posts w i j script end t =
+turn_posts : {sli : ℕ} (w : World sli) (i j : ℕ) (script : List Call) (end : Progress) (t : Turn w i script end) → posts_made i j end.made end.entries ≡ posts_made i j (t.between).made (t.between).entries
+turn_posts w i j script end t =
     let z = t.between in
     let d = t.last in
     let longer = z.made ++ None ∷ [] in
@@ -38,7 +38,7 @@ own_posts w i j script end t =
     ∙ (ap (λ l. posts_made i j longer z.entries ++ l) (drain_makes i j i 8192 longer d.own d.is_drain) ∙ (append-nil (posts_made i j longer z.entries) ∙ each_post_same i j z.made z.entries))))
 
 -- what it took, it took in its last drain
-last_takes : {sli : ℕ} (w : World sli) (i j : ℕ) (script : List Call) (end : Told) (t : Turn w j script end) → j < length w.heaps → AllByRecursion TakesNoPost script
+last_takes : {sli : ℕ} (w : World sli) (i j : ℕ) (script : List Call) (end : Progress) (t : Turn w j script end) → j < length w.heaps → AllByRecursion TakesNoPost script
     → posts_taken i j end.entries ≡ posts_taken i j (t.last).own
 last_takes {sli} w i j script end t j_in free =
     let z = t.between in
@@ -49,7 +49,7 @@ last_takes {sli} w i j script end t j_in free =
 
 module _ {sli : ℕ} (w v : World sli) (scripts : List (List Call)) (records : List (List Entry)) (race : IsRace w scripts records v) where
   -- what worker j was told at the end of a race
-  abbrev pub told_in : ℕ → Told
+  abbrev pub told_in : ℕ → Progress
   told_in j = record { made = race.made j; entries = record_of records j; heap = heap_in v j }
 
   pub turn_of : (j : ℕ) → j < length w.heaps
@@ -66,7 +66,7 @@ module _ {sli : ℕ} (w v : World sli) (scripts : List (List Call)) (records : L
       let t = turn_of i i_in in
       let u = turn_of j j_in in
       sym (last_takes w i j (script_of scripts j) (told_in j) u j_in (free j)) ∙ (sym (race.agree i j i_in j_in ne).posts
-      ∙ ap (λ l. w.waiting i j ++ l) (own_posts w i j (script_of scripts i) (told_in i) t))
+      ∙ ap (λ l. w.waiting i j ++ l) (turn_posts w i j (script_of scripts i) (told_in i) t))
 
   lanes_of : OnlyLastDrains scripts → (i : ℕ) (i_in : i < length w.heaps)
       → HasLanes w i ((turn_of i i_in).between).made ((turn_of i i_in).between).entries
@@ -110,9 +110,9 @@ module _ {sli : ℕ} (w v : World sli) (scripts : List (List Call)) (records : L
 
 -- ---- two races
 
-told_same : {sli : ℕ} (w v u : World sli) (scripts : List (List Call)) (records others : List (List Entry)) (race : IsRace w scripts records v) (other : IsRace w scripts others u) → OnlyLastDrains scripts → (j : ℕ) → j < length w.heaps
+races_tell_same : {sli : ℕ} (w v u : World sli) (scripts : List (List Call)) (records others : List (List Entry)) (race : IsRace w scripts records v) (other : IsRace w scripts others u) → OnlyLastDrains scripts → (j : ℕ) → j < length w.heaps
     → told_in w v scripts records race j ≡ told_in w u scripts others other j
-told_same w v u scripts records others race other free j j_in =
+races_tell_same w v u scripts records others race other free j j_in =
     let n = length w.heaps in
     let one = turn_of w v scripts records race j j_in in
     let two = turn_of w u scripts others other j j_in in
@@ -121,13 +121,13 @@ told_same w v u scripts records others race other free j j_in =
     same_last n j two.between (told_in w v scripts records race j) (told_in w u scripts others other j)
     (drain_along n j one.between two.between (told_in w v scripts records race j) (same j j_in) one.last) two.last
     (λ i i_in ne. drained w v scripts records race free i j i_in j_in ne
-    ∙ (ap (λ (t : Told). w.waiting i j ++ posts_made i j t.made t.entries) (same i i_in) ∙ sym (drained w u scripts others other free i j i_in j_in ne)))
+    ∙ (ap (λ (t : Progress). w.waiting i j ++ posts_made i j t.made t.entries) (same i i_in) ∙ sym (drained w u scripts others other free i j i_in j_in ne)))
 
 pub race_is_one : (sli : ℕ) → RaceIsOne sli
 race_is_one sli w v u scripts records others free race other =
-    let same = told_same w v u scripts records others race other free in (
-      ext_get_or [] records others (race.records ∙ sym other.records) (λ j lt. ap (λ (t : Told). t.entries) (same j (omega (arith, lt, race.records)))),
+    let same = races_tell_same w v u scripts records others race other free in (
+      ext_get_or [] records others (race.records ∙ sym other.records) (λ j lt. ap (λ (t : Progress). t.entries) (same j (omega (arith, lt, race.records)))),
       same_world v u
-          (ext_get_or no_heap v.heaps u.heaps (race.heaps ∙ sym other.heaps) (λ j lt. ap (λ (t : Told). t.heap) (same j (omega (arith, lt, race.heaps)))))
+          (ext_get_or no_heap v.heaps u.heaps (race.heaps ∙ sym other.heaps) (λ j lt. ap (λ (t : Progress). t.heap) (same j (omega (arith, lt, race.heaps)))))
           (λ i j. race.taken i j ∙ sym (other.taken i j)) (race.capacity ∙ sym other.capacity),
     )

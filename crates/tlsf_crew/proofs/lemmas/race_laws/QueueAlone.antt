@@ -13,7 +13,7 @@ use Rattle.tlsf_calls.specs.declared.call.Call.TheVariants.{Take, Drain}
 use Rattle.tlsf_calls.specs.declared.entry.Entry.{Entry}
 use Rattle.tlsf_calls.specs.declared.reply.Reply.TheVariants.{Drained}
 use Rattle.tlsf_crew.specs.model.World.{no_heap, World, after, begun, heap_in}
-use Rattle.tlsf_crew.specs.model.Told.{Told, MayTell, MayTellAll, told_by, untold}
+use Rattle.tlsf_crew.specs.model.Progress.{Progress, MayTell, MayTellAll, told_by, untold}
 use Rattle.tlsf_crew.specs.histories.History.{post_of_release, posts_made, posts_taken}
 use Rattle.tlsf_crew.specs.race_laws.Alone.{OnlyLastDrains, TakesNoPost}
 use Rattle.tlsf_crew.specs.races.Race.{events_by}
@@ -21,28 +21,28 @@ use Rattle.tlsf_crew.specs.scripts.Scripts.{last_call, script_of}
 use Rattle.tlsf_calls.specs.Entries.{record_of}
 use Rattle.tlsf_crew.specs.race_laws.QueueAlone.{IsUncontendedRace, MeetsNoFull, QueueRaceIsOne}
 use Rattle.tlsf_crew.specs.races.QueueRace.{IsQueueRace}
-use Rattle.tlsf_crew.specs.model.QueueTold.{MayTellQueue, MayTellQueueAll, told_reply, told_takes}
+use Rattle.tlsf_crew.specs.model.QueueProgress.{MayTellQueue, MayTellQueueAll, with_reply, with_takes}
 use Rattle.tlsf_crew.proofs.lemmas.histories.JoinedEntries.{told_nothing, told_other, told_own, made_then}
 use Rattle.tlsf_crew.proofs.lemmas.model.Edits.{same_world}
 use Rattle.tlsf_crew.proofs.lemmas.scripts.ManyEntries.{count_made}
 use Rattle.tlsf_crew.proofs.lemmas.race_laws.AloneRuns.{HasLanes, IsAlone, alone_runs, alone_told, none_taken}
 use Rattle.tlsf_crew.proofs.lemmas.races.TwoRecords.{each_post_same}
-use Rattle.tlsf_crew.proofs.lemmas.races.QueueTakes.{DrainTold, drain_entry, end_takes, same_posts, takes_add, takes_make, takes_name}
+use Rattle.tlsf_crew.proofs.lemmas.races.QueueTakes.{DrainTold, drain_entry, end_takes, takes_with_same_posts, takes_add, takes_make, takes_name}
 
 -- ---- one worker
 
 -- its script, told as over lanes, and then its last drain
-record QueueTurn (sli n at : ℕ) (start : Told) (script : List Call) (end : Told) : Type 0 where
-  between : Told
+record QueueTurn (sli n at : ℕ) (start : Progress) (script : List Call) (end : Progress) : Type 0 where
+  between : Progress
   ran : MayTellAll sli n at start script between
   last : MayTellQueue sli n at between last_call end
 
-as_over_lanes : (sli n at : ℕ) (s t : Told) (call : Call) → TakesNoPost call → MayTellQueue sli n at s call t → MayTell sli n at s call t
+as_over_lanes : (sli n at : ℕ) (s t : Progress) (call : Call) → TakesNoPost call → MayTellQueue sli n at s call t → MayTell sli n at s call t
 as_over_lanes sli n at s t (Take from) free m = absurd free
 as_over_lanes sli n at s t (Drain most) free m = absurd free
 as_over_lanes sli n at s t call free m = m
 
-queue_turn : (sli n at : ℕ) (start end : Told) (script : List Call) → AllByRecursion TakesNoPost script → MayTellQueueAll sli n at start (script ++ last_call ∷ []) end → QueueTurn sli n at start script end
+queue_turn : (sli n at : ℕ) (start end : Progress) (script : List Call) → AllByRecursion TakesNoPost script → MayTellQueueAll sli n at start (script ++ last_call ∷ []) end → QueueTurn sli n at start script end
 queue_turn sli n at start end [] free m = record { between = start; ran = refl; last = subst (MayTellQueue sli n at start last_call) (sym m.2) m.1 }
 queue_turn sli n at start end (call ∷ calls) free m =
     let rest = queue_turn sli n at m.0 end calls free.1 m.2 in
@@ -50,25 +50,25 @@ queue_turn sli n at start end (call ∷ calls) free m =
 
 -- ---- what the last drain leaves
 
-end_adds : (at : ℕ) (s end : Told) (posts : List Post) → DrainTold at s posts end → (own : List Entry) × (end.entries ≡ s.entries ++ own)
+end_adds : (at : ℕ) (s end : Progress) (posts : List Post) → DrainTold at s posts end → (own : List Entry) × (end.entries ≡ s.entries ++ own)
 end_adds at s end posts told =
     let x = drain_entry at posts in
     let takes = takes_add at posts s in
-    (takes.0 ++ x ∷ [], ap (λ (t : Told). t.entries) told ∙ (ap (λ l. l ++ x ∷ []) takes.1 ∙ append_assoc s.entries takes.0 (x ∷ [])))
+    (takes.0 ++ x ∷ [], ap (λ (t : Progress). t.entries) told ∙ (ap (λ l. l ++ x ∷ []) takes.1 ∙ append_assoc s.entries takes.0 (x ∷ [])))
 
 -- the worker's posts are those of its script
-end_posts : (i j at : ℕ) (s end : Told) (posts : List Post) → DrainTold at s posts end → posts_made i j end.made end.entries ≡ posts_made i j s.made s.entries
+end_posts : (i j at : ℕ) (s end : Progress) (posts : List Post) → DrainTold at s posts end → posts_made i j end.made end.entries ≡ posts_made i j s.made s.entries
 end_posts i j at s end posts told =
     let x = drain_entry at posts in
-    let t = told_takes at s posts in
+    let t = with_takes at s posts in
     let longer = t.made ++ None ∷ [] in
     let none = told_nothing (λ e. post_of_release j longer e.worker e.call e.reply) i x refl in
-    ap (λ (t : Told). posts_made i j t.made t.entries) told ∙ (made_then i j longer t.entries (x ∷ []) ∙ (ap (λ l. posts_made i j longer t.entries ++ l) none
+    ap (λ (t : Progress). posts_made i j t.made t.entries) told ∙ (made_then i j longer t.entries (x ∷ []) ∙ (ap (λ l. posts_made i j longer t.entries ++ l) none
     ∙ (append-nil (posts_made i j longer t.entries) ∙ (each_post_same i j t.made t.entries
     ∙ (ap (λ made. posts_made i j made t.entries) (takes_name at posts s) ∙ takes_make i j at s.made posts s)))))
 
 -- its script met no full queue
-script_meets_none : (at : ℕ) (s end : Told) (posts : List Post) → DrainTold at s posts end → MeetsNoFull end.entries → MeetsNoFull s.entries
+script_meets_none : (at : ℕ) (s end : Progress) (posts : List Post) → DrainTold at s posts end → MeetsNoFull end.entries → MeetsNoFull s.entries
 script_meets_none at s end posts told meets before e name stands reply =
     let more = end_adds at s end posts told in
     meets before e name (stands.0 ++ more.0, more.1 ∙ (ap (λ l. l ++ more.0) stands.1 ∙ append_assoc before (e ∷ stands.0) more.0)) reply
@@ -101,13 +101,13 @@ lanes_hold w i capacity made es few meets = record {
 }
 
 -- over lanes that fit what it was told, a script is told so
-script_told : {sli : ℕ} (x : World sli) (i : ℕ) (script : List Call) (s : Told) → i < length x.heaps → AllByRecursion TakesNoPost script → MayTellAll sli (length x.heaps) i (untold (heap_in x i)) script s
+script_told : {sli : ℕ} (x : World sli) (i : ℕ) (script : List Call) (s : Progress) → i < length x.heaps → AllByRecursion TakesNoPost script → MayTellAll sli (length x.heaps) i (untold (heap_in x i)) script s
     → HasLanes x i s.made s.entries → told_by i (fold after (begun x) (events_by i script)) ≡ s
 script_told {sli} x i script s i_in free m lanes =
     let start : IsAlone x i s.made (untold (heap_in x i)) (begun x) = record { names = refl; entries = refl; heap = refl; count = refl; capacity = refl; waits = λ j. sym (append-nil (x.waiting i j)) } in
     alone_told x i s.made s (fold after (begun x) (events_by i script)) (alone_runs x i s (untold (heap_in x i)) script (begun x) lanes i_in free m start)
 
-same_script : {sli : ℕ} (x : World sli) (i : ℕ) (script : List Call) (s t : Told) → i < length x.heaps → AllByRecursion TakesNoPost script → MayTellAll sli (length x.heaps) i (untold (heap_in x i)) script s
+same_script : {sli : ℕ} (x : World sli) (i : ℕ) (script : List Call) (s t : Progress) → i < length x.heaps → AllByRecursion TakesNoPost script → MayTellAll sli (length x.heaps) i (untold (heap_in x i)) script s
     → MayTellAll sli (length x.heaps) i (untold (heap_in x i)) script t → HasLanes x i s.made s.entries → HasLanes x i t.made t.entries → s ≡ t
 same_script x i script s t i_in free m k one two = sym (script_told x i script s i_in free m one) ∙ script_told x i script t i_in free k two
 
@@ -115,7 +115,7 @@ same_script x i script s t i_in free m k one two = sym (script_told x i script s
 
 module _ {sli : ℕ} (w v : World sli) (scripts : List (List Call)) (records : List (List Entry)) (race : IsUncontendedRace w scripts records v) (free : OnlyLastDrains scripts) where
   -- what worker j was told at the end of a race
-  abbrev told_in : ℕ → Told
+  abbrev told_in : ℕ → Progress
   told_in j = record { made = race.race.made j; entries = record_of records j; heap = heap_in v j }
 
   turn_of : (j : ℕ) → j < length w.heaps
@@ -154,11 +154,11 @@ module _ {sli : ℕ} (w v : World sli) (scripts : List (List Call)) (records : L
       let t = turn_of i i_in in
       let end = told_in i in
       let names : (j : ℕ) (es : List Entry) → posts_made i j (one.made i) es ≡ posts_made i j t.between.made es
-      = λ j es. ap (λ (u : Told). posts_made i j u.made es) t.last.3 ∙ (each_post_same i j (told_takes i t.between t.last.0).made es ∙ ap (λ made. posts_made i j made es) (takes_name i t.last.0 t.between)) in
+      = λ j es. ap (λ (u : Progress). posts_made i j u.made es) t.last.3 ∙ (each_post_same i j (with_takes i t.between t.last.0).made es ∙ ap (λ made. posts_made i j made es) (takes_name i t.last.0 t.between)) in
       record {
         room = λ j j_in ne.
             let u = turn_of j j_in in
-            let most = one.last j j_in (told_takes j u.between u.last.0).entries (length u.last.0) (ap (λ (t : Told). t.entries) u.last.3) in
+            let most = one.last j j_in (with_takes j u.between u.last.0).entries (length u.last.0) (ap (λ (t : Progress). t.entries) u.last.3) in
             let all = drained i j i_in j_in ne in
             omega (arith, most, ap length all, length-append (w.waiting i j) (posts_made i j t.between.made t.between.entries), parts i u.last.0);
         full = λ j j_in ne before e name stands reply here.
@@ -170,9 +170,9 @@ module _ {sli : ℕ} (w v : World sli) (scripts : List (List Call)) (records : L
 
 -- ---- two races
 
-told_same : {sli : ℕ} (w v u : World sli) (scripts : List (List Call)) (records others : List (List Entry)) (race : IsUncontendedRace w scripts records v) (other : IsUncontendedRace w scripts others u)
+races_tell_same : {sli : ℕ} (w v u : World sli) (scripts : List (List Call)) (records others : List (List Entry)) (race : IsUncontendedRace w scripts records v) (other : IsUncontendedRace w scripts others u)
     → (free : OnlyLastDrains scripts) → (j : ℕ) → j < length w.heaps → told_in w v scripts records race free j ≡ told_in w u scripts others other free j
-told_same {sli} w v u scripts records others race other free j j_in =
+races_tell_same {sli} w v u scripts records others race other free j j_in =
     let n = length w.heaps in
     let one = turn_of w v scripts records race free j j_in in
     let two = turn_of w u scripts others other free j j_in in
@@ -192,21 +192,21 @@ told_same {sli} w v u scripts records others race other free j j_in =
     ] in
     let alone = race.alone j j_in in
     let posts : one.last.0 ≡ two.last.0
-    = same_posts n j alone.0 one.last.0 two.last.0 one.last.1 two.last.1
+    = takes_with_same_posts n j alone.0 one.last.0 two.last.0 one.last.1 two.last.1
     (λ i i_in ne. drained w v scripts records race free i j i_in j_in ne
-    ∙ (ap (λ (t : Told). w.waiting i j ++ posts_made i j t.made t.entries) (same i i_in) ∙ sym (drained w u scripts others other free i j i_in j_in ne)))
+    ∙ (ap (λ (t : Progress). w.waiting i j ++ posts_made i j t.made t.entries) (same i i_in) ∙ sym (drained w u scripts others other free i j i_in j_in ne)))
     (λ i i_in ne apart. sym (drained_is w v scripts records race free i j j_in) ∙ alone.1 i i_in ne apart) in
-    one.last.3 ∙ (ap (λ (t : Told). told_reply j (told_takes j t one.last.0) last_call (Drained (length one.last.0))) (same j j_in)
-    ∙ (ap (λ (l : List Post). told_reply j (told_takes j two.between l) last_call (Drained (length l))) posts ∙ sym two.last.3))
+    one.last.3 ∙ (ap (λ (t : Progress). with_reply j (with_takes j t one.last.0) last_call (Drained (length one.last.0))) (same j j_in)
+    ∙ (ap (λ (l : List Post). with_reply j (with_takes j two.between l) last_call (Drained (length l))) posts ∙ sym two.last.3))
 
 pub queue_race_is_one : (sli : ℕ) → QueueRaceIsOne sli
 queue_race_is_one sli w v u scripts records others free race other =
-    let same = told_same w v u scripts records others race other free in
+    let same = races_tell_same w v u scripts records others race other free in
     let one = race.race in
     let two = other.race in (
-      ext_get_or [] records others (one.records ∙ sym two.records) (λ j lt. ap (λ (t : Told). t.entries) (same j (omega (arith, lt, one.records)))),
+      ext_get_or [] records others (one.records ∙ sym two.records) (λ j lt. ap (λ (t : Progress). t.entries) (same j (omega (arith, lt, one.records)))),
       same_world v u
-          (ext_get_or no_heap v.heaps u.heaps (one.heaps ∙ sym two.heaps) (λ j lt. ap (λ (t : Told). t.heap) (same j (omega (arith, lt, one.heaps)))))
+          (ext_get_or no_heap v.heaps u.heaps (one.heaps ∙ sym two.heaps) (λ j lt. ap (λ (t : Progress). t.heap) (same j (omega (arith, lt, one.heaps)))))
           (λ i j. one.taken i j ∙ sym (two.taken i j)) (one.capacity ∙ sym two.capacity),
     )
 

@@ -11,11 +11,11 @@ use Rattle.tlsf_calls.specs.declared.crew_refusal.CrewRefusal.TheVariants.{Stran
 use Rattle.tlsf_calls.specs.declared.reply.Reply.TheVariants.{Drained, Refused}
 use Rattle.tlsf_crew.specs.model.Heaps.{released}
 use Rattle.tlsf_crew.specs.histories.History.{AreLawful, RunsThrough, RunsTo, answer_told, answers_on, call_on_own, calls_on, posts_made, posts_taken}
-use Rattle.tlsf_crew.specs.model.Told.{Told}
+use Rattle.tlsf_crew.specs.model.Progress.{Progress}
 use Rattle.tlsf_crew.specs.model.World.{World, heap_in}
 use Rattle.tlsf_crew.specs.scripts.Scripts.{last_call, script_of}
 use Rattle.tlsf_calls.specs.Entries.{record_of}
-use Rattle.tlsf_crew.specs.model.QueueTold.{IsFromOther, MayTellQueue, take_entry, told_reply, told_take, told_takes}
+use Rattle.tlsf_crew.specs.model.QueueProgress.{IsFromOther, MayTellQueue, take_entry, with_reply, with_take, with_takes}
 use Rattle.tlsf_crew.specs.histories.QueueHistory.{AreQueueTakes, TellsQueue, TellsQueueCall}
 use Rattle.tlsf_crew.specs.races.QueueRace.{IsQueueRace}
 use Rattle.tlsf_crew.proofs.lemmas.histories.AllEntries.{more_knows}
@@ -53,7 +53,7 @@ take_run sli made at h post =
     rw (c, d) (record { told = refl; left = refl })
 
 -- the entries of some takes
-record TakesTold (sli : ℕ) (made : List (Option Name)) (n at : ℕ) (s : Told) (t : Told) (count : ℕ) : Type 0 where
+record TakesTold (sli : ℕ) (made : List (Option Name)) (n at : ℕ) (s : Progress) (t : Progress) (count : ℕ) : Type 0 where
   own : List Entry
   entries : t.entries ≡ s.entries ++ own
   names : t.made ≡ s.made
@@ -62,7 +62,7 @@ record TakesTold (sli : ℕ) (made : List (Option Name)) (n at : ℕ) (s : Told)
   run : RunsBy sli made at s.heap own t.heap
   each : All (HasItsAnswer made n) own
 
-takes_told : {sli : ℕ} (made : List (Option Name)) (n at : ℕ) (posts : List Post) (s : Told) → All (IsFromOther n at) posts → TakesTold sli made n at s (told_takes at s posts) (length posts)
+takes_told : {sli : ℕ} (made : List (Option Name)) (n at : ℕ) (posts : List Post) (s : Progress) → All (IsFromOther n at) posts → TakesTold sli made n at s (with_takes at s posts) (length posts)
 takes_told {sli} made n at [] s all = record {
   own = [];
   entries = sym (append-nil s.entries);
@@ -75,7 +75,7 @@ takes_told {sli} made n at [] s all = record {
 takes_told {sli} made n at (post ∷ posts) s all =
     let other = All-head (IsFromOther n at) post posts all in
     let e = take_entry at s.heap post in
-    let u = told_take at s post in
+    let u = with_take at s post in
     let rest = takes_told made n at posts u (All-tail (IsFromOther n at) post posts all) in
     record {
       own = e ∷ rest.own;
@@ -83,13 +83,13 @@ takes_told {sli} made n at (post ∷ posts) s all =
       names = rest.names;
       count_is = ap suc rest.count_is;
       are_takes = (record { from = post.from; name = post.name; answer = (released s.heap post.name).answer }, refl, other.0, other.1, rest.are_takes);
-      run = runs_by_then sli made at s.heap u.heap (told_takes at u posts).heap (e ∷ []) rest.own (take_run sli made at s.heap post) rest.run;
+      run = runs_by_then sli made at s.heap u.heap (with_takes at u posts).heap (e ∷ []) rest.own (take_run sli made at s.heap post) rest.run;
       each = All-cons (HasItsAnswer made n) e rest.own (λ _. refl) rest.each;
     }
 
 -- ---- one call
 
-refused_take : {sli : ℕ} (made : List (Option Name)) (n at : ℕ) (s t : Told) (from : ℕ) → t ≡ told_reply at s (Take from) (Refused Stranger) → CallTold (by_queues sli n at) sli made s (Take from) t
+refused_take : {sli : ℕ} (made : List (Option Name)) (n at : ℕ) (s t : Progress) (from : ℕ) → t ≡ with_reply at s (Take from) (Refused Stranger) → CallTold (by_queues sli n at) sli made s (Take from) t
 refused_take {sli} made n at s t from e =
     let x : Entry = record { worker = at; call = Take from; reply = Refused Stranger } in
     rw e (record {
@@ -102,11 +102,11 @@ refused_take {sli} made n at s t from e =
       each = All-cons (HasItsAnswer made n) x [] (λ _. refl) (All-nil (HasItsAnswer made n));
     })
 
-drained_queue : {sli : ℕ} (made : List (Option Name)) (n at : ℕ) (s t : Told) (most : ℕ) (posts : List Post) → All (IsFromOther n at) posts → length posts ≤ most
-    → t ≡ told_reply at (told_takes at s posts) (Drain most) (Drained (length posts)) → CallTold (by_queues sli n at) sli made s (Drain most) t
+drained_queue : {sli : ℕ} (made : List (Option Name)) (n at : ℕ) (s t : Progress) (most : ℕ) (posts : List Post) → All (IsFromOther n at) posts → length posts ≤ most
+    → t ≡ with_reply at (with_takes at s posts) (Drain most) (Drained (length posts)) → CallTold (by_queues sli n at) sli made s (Drain most) t
 drained_queue {sli} made n at s t most posts all few e =
     let x : Entry = record { worker = at; call = Drain most; reply = Drained (length posts) } in
-    let u = told_takes at s posts in
+    let u = with_takes at s posts in
     let taken = takes_told {sli = sli} made n at posts s all in
     rw e (record {
       own = taken.own ++ x ∷ [];
@@ -126,7 +126,7 @@ drained_queue {sli} made n at s t most posts all few e =
       each = All-append (HasItsAnswer made n) taken.own (x ∷ []) taken.each (All-cons (HasItsAnswer made n) x [] (λ _. refl) (All-nil (HasItsAnswer made n)));
     })
 
-queue_call_told : {sli : ℕ} (made : List (Option Name)) (n at : ℕ) (s t : Told) (call : Call) → at < n → Knows made s.made → MayTellQueue sli n at s call t → CallTold (by_queues sli n at) sli made s call t
+queue_call_told : {sli : ℕ} (made : List (Option Name)) (n at : ℕ) (s t : Progress) (call : Call) → at < n → Knows made s.made → MayTellQueue sli n at s call t → CallTold (by_queues sli n at) sli made s call t
 queue_call_told made n at s t (Allocate len) at_in known m =
     let o = one_told made n at s t (Allocate len) at_in known m in
     record { own = o.own; name = o.name; entries = o.entries; names = o.names; tells = o.tells.near at_in; run = o.run; each = o.each }
@@ -148,15 +148,15 @@ queue_call_told made n at s t (Drain most) at_in known m = drained_queue made n 
 -- ---- all calls
 
 -- names that were made stay known
-queue_knows_one : (sli : ℕ) (n at : ℕ) (s t : Told) (call : Call) → MayTellQueue sli n at s call t → Knows t.made s.made
+queue_knows_one : (sli : ℕ) (n at : ℕ) (s t : Progress) (call : Call) → MayTellQueue sli n at s call t → Knows t.made s.made
 queue_knows_one sli n at s t (Allocate len) m = knows_one sli n at s t (Allocate len) m
 queue_knows_one sli n at s t (Release target) m = knows_one sli n at s t (Release target) m
 queue_knows_one sli n at s t (Write target from bytes) m = knows_one sli n at s t (Write target from bytes) m
 queue_knows_one sli n at s t (Read target from k) m = knows_one sli n at s t (Read target from k) m
 queue_knows_one sli n at s t (Resize target len) m = knows_one sli n at s t (Resize target len) m
-queue_knows_one sli n at s t (Take from) m = subst (λ (made : List (Option Name)). Knows made s.made) (sym (ap (λ (u : Told). u.made) m)) (more_knows s.made (None ∷ []))
+queue_knows_one sli n at s t (Take from) m = subst (λ (made : List (Option Name)). Knows made s.made) (sym (ap (λ (u : Progress). u.made) m)) (more_knows s.made (None ∷ []))
 queue_knows_one sli n at s t (Drain most) m =
-    subst (λ (made : List (Option Name)). Knows made s.made) (ap (λ l. l ++ None ∷ []) (sym (takes_name at m.0 s)) ∙ sym (ap (λ (u : Told). u.made) m.3)) (more_knows s.made (None ∷ []))
+    subst (λ (made : List (Option Name)). Knows made s.made) (ap (λ l. l ++ None ∷ []) (sym (takes_name at m.0 s)) ∙ sym (ap (λ (u : Progress). u.made) m.3)) (more_knows s.made (None ∷ []))
 
 queues_tell_each : {sli n at : ℕ} → at < n → TellsEach (by_queues sli n at) sli
 queues_tell_each {sli} {n} {at} at_in = record { knows = queue_knows_one sli n at; told = λ made s t call known m. queue_call_told made n at s t call at_in known m }

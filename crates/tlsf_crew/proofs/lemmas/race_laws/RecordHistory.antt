@@ -6,7 +6,7 @@ use Rattle.tlsf_heap.specs.declared.name.Name.{Name}
 use Rattle.tlsf_calls.specs.declared.call.Call.{Call}
 use Rattle.tlsf_calls.specs.declared.entry.Entry.{Entry}
 use Rattle.tlsf_crew.specs.histories.History.{AreLawful, RunsThrough, RunsTo, Tells, TellsEvent, TookFromOther, answers_on, calls_on, posts_made, posts_taken}
-use Rattle.tlsf_crew.specs.model.Told.{Told, MayTell, untold}
+use Rattle.tlsf_crew.specs.model.Progress.{Progress, MayTell, untold}
 use Rattle.tlsf_crew.specs.model.World.{World, Replayed, called, heap_in}
 use Rattle.tlsf_crew.specs.races.Race.{IsRace, events_by, events_of_race}
 use Rattle.tlsf_crew.specs.scripts.Scripts.{last_call, script_of}
@@ -28,13 +28,13 @@ by_lanes sli n at = record {
 }
 
 -- names that were made stay known
-pub knows_one : (sli : ℕ) (n at : ℕ) (s t : Told) (call : Call) → MayTell sli n at s call t → Knows t.made s.made
+pub knows_one : (sli : ℕ) (n at : ℕ) (s t : Progress) (call : Call) → MayTell sli n at s call t → Knows t.made s.made
 knows_one sli n at s t call m =
     let r : Replayed sli = record { made = s.made; entries = s.entries; world = m.0 } in
-    subst (λ (made : List (Option Name)). Knows made s.made) (ap (λ (t : Told). t.made) m.2) (called_knows r at call)
+    subst (λ (made : List (Option Name)). Knows made s.made) (ap (λ (t : Progress). t.made) m.2) (called_knows r at call)
 
 -- the entries of one call
-pub one_told : {sli : ℕ} (made : List (Option Name)) (n at : ℕ) (s t : Told) (call : Call) → at < n → Knows made s.made → MayTell sli n at s call t → CallTold (by_lanes sli n at) sli made s call t
+pub one_told : {sli : ℕ} (made : List (Option Name)) (n at : ℕ) (s t : Progress) (call : Call) → at < n → Knows made s.made → MayTell sli n at s call t → CallTold (by_lanes sli n at) sli made s call t
 one_told {sli} made n at s t call at_in known m =
     let w = m.0 in
     let r : Replayed sli = record { made = s.made; entries = s.entries; world = w } in
@@ -44,10 +44,10 @@ one_told {sli} made n at s t call at_in known m =
     record {
       own = c.own;
       name = c.name;
-      entries = sym (ap (λ (t : Told). t.entries) m.2) ∙ c.entries;
-      names = sym (ap (λ (t : Told). t.made) m.2) ∙ c.names;
+      entries = sym (ap (λ (t : Progress). t.entries) m.2) ∙ c.entries;
+      names = sym (ap (λ (t : Progress). t.made) m.2) ∙ c.names;
       tells = record { near = λ _. c.tells; others = subst (λ (k : ℕ). All (TookFromOther k) c.own) count c.others; far = λ far. absurd (omega arith) };
-      run = subst (λ h. RunsTo sli s.heap (calls_on at made c.own) (answers_on at c.own) h) (ap (λ (t : Told). t.heap) m.2)
+      run = subst (λ h. RunsTo sli s.heap (calls_on at made c.own) (answers_on at c.own) h) (ap (λ (t : Progress). t.heap) m.2)
           (subst (λ h. RunsTo sli h (calls_on at made c.own) (answers_on at c.own) (heap_in v.world at)) m.1.1 (c.history.heaps at (omega (arith, count))));
       each = subst (λ (n : ℕ). All (HasItsAnswer made n) c.own) count c.history.each;
     }
@@ -63,7 +63,7 @@ race_told : {sli : ℕ} (w v : World sli) (scripts : List (List Call)) (records 
 race_told {sli} w v scripts records race j j_in =
     let l = race.legal j j_in in
     let n = length w.heaps in
-    let end : Told = record { made = race.made j; entries = record_of records j; heap = heap_in v j } in
+    let end : Progress = record { made = race.made j; entries = record_of records j; heap = heap_in v j } in
     record_told (by_lanes sli n j) sli (lanes_tell_each j_in) (heap_in w j) (script_of scripts j ++ last_call ∷ []) end
     (tell_more (MayTell sli n j) (untold (heap_in w j)) l.between end (script_of scripts j) last_call l.script l.last)
 

@@ -11,8 +11,8 @@ use Rattle.tlsf_calls.specs.declared.call.Call.TheVariants.{Take, Drain}
 use Rattle.tlsf_calls.specs.declared.entry.Entry.{Entry}
 use Rattle.tlsf_calls.specs.declared.reply.Reply.TheVariants.{Took as Taken, Drained}
 use Rattle.tlsf_calls.specs.declared.took.Took.{Took}
-use Rattle.tlsf_crew.specs.model.World.{Replayed, Draining, after_drain, drained_below, drained_lane, draining, heap_in, took_more}
-use Rattle.tlsf_crew.specs.model.Told.{Told, MayTell}
+use Rattle.tlsf_crew.specs.model.World.{Replayed, DrainState, after_drain, drained_below, drained_waiting, draining, heap_in, took_more}
+use Rattle.tlsf_crew.specs.model.Progress.{Progress, MayTell}
 use Rattle.tlsf_crew.specs.histories.History.{AreTakes, IsDrain, RunsTo, answer_told, answers_on, call_on_own, calls_on, post_of_take, posts_taken}
 use Rattle.tlsf_crew.specs.scripts.Scripts.{last_call}
 use Rattle.tlsf_crew.proofs.lemmas.histories.DrainEntries.{drain_makes, drain_told}
@@ -26,17 +26,17 @@ use Rattle.tlsf_crew.proofs.lemmas.model.OneEvent.{from_other, from_own}
 abbrev pub take_entry : ℕ → ℕ → Took → Entry
 take_entry at from t = record { worker = at; call = Take from; reply = Taken t }
 
-abbrev post_of : Took → Post
-post_of t = record { from = t.from; name = t.name }
+abbrev post_in : Took → Post
+post_in t = record { from = t.from; name = t.name }
 
-pub own_post : (at from : ℕ) (t : Took) (es : List Entry) → posts_taken from at (take_entry at from t ∷ es) ≡ post_of t ∷ posts_taken from at es
+pub own_post : (at from : ℕ) (t : Took) (es : List Entry) → posts_taken from at (take_entry at from t ∷ es) ≡ post_in t ∷ posts_taken from at es
 own_post at from t es =
     let e = take_entry at from t in
     let f : Entry → Option Post = λ x. post_of_take from x.call x.reply in
-    let here : f e ≡ Some (post_of t) = same from in
+    let here : f e ≡ Some (post_in t) = same from in
     taken_then from at (e ∷ []) es ∙ ap (λ l. l ++ posts_taken from at es) (told_own f at e refl ∙ ap (λ o. cons_option o []) here)
   where
-    same : (from : ℕ) → post_of_take from (Take from) (Taken t) ≡ Some (post_of t)
+    same : (from : ℕ) → post_of_take from (Take from) (Taken t) ≡ Some (post_in t)
     same from = let b : (from == from) ≡ true = grind (arith, nat_tests) in rw b refl
 
 pub other_post : (at i from : ℕ) (t : Took) (es : List Entry) → from ≢ i → posts_taken i at (take_entry at from t ∷ es) ≡ posts_taken i at es
@@ -98,17 +98,17 @@ same_takes : (sli : ℕ) (at low high : ℕ) (made : List (Option Name)) (h g k 
     → ((i : ℕ) → posts_taken i at xs ≡ posts_taken i at ys) → Ran sli h at made xs g → Ran sli h at made ys k → SameTakes xs ys g k
 same_takes sli at low high made h g k [] [] a b same p q = record { entries = refl; left = sym p.left ∙ q.left }
 same_takes sli at low high made h g k [] (y ∷ ys) a b same p q =
-    absurd (some_post (post_of b.1) (posts_taken b.0 at ys) (same b.0 ∙ (ap (λ e. posts_taken b.0 at (e ∷ ys)) b.2 ∙ own_post at b.0 b.1 ys)))
+    absurd (some_post (post_in b.1) (posts_taken b.0 at ys) (same b.0 ∙ (ap (λ e. posts_taken b.0 at (e ∷ ys)) b.2 ∙ own_post at b.0 b.1 ys)))
 same_takes sli at low high made h g k (x ∷ xs) [] a b same p q =
-    absurd (some_post (post_of a.1) (posts_taken a.0 at xs) (sym (same a.0) ∙ (ap (λ e. posts_taken a.0 at (e ∷ xs)) a.2 ∙ own_post at a.0 a.1 xs)))
+    absurd (some_post (post_in a.1) (posts_taken a.0 at xs) (sym (same a.0) ∙ (ap (λ e. posts_taken a.0 at (e ∷ xs)) a.2 ∙ own_post at a.0 a.1 xs)))
 same_takes sli at low high made h g k (x ∷ xs) (y ∷ ys) a b same p q =
     let first : (i : ℕ) → posts_taken i at (take_entry at a.0 a.1 ∷ xs) ≡ posts_taken i at (take_entry at b.0 b.1 ∷ ys)
     = λ i. sym (ap (λ e. posts_taken i at (e ∷ xs)) a.2) ∙ (same i ∙ ap (λ e. posts_taken i at (e ∷ ys)) b.2) in
     elim (cases_eq a.0 b.0) [
       | inl e ↦
           let n = subst (λ (m : ℕ). posts_taken a.0 at (take_entry at a.0 a.1 ∷ xs) ≡ posts_taken a.0 at (take_entry at m b.1 ∷ ys)) (sym e) (first a.0) in
-          let lists : post_of a.1 ∷ posts_taken a.0 at xs ≡ post_of b.1 ∷ posts_taken a.0 at ys = sym (own_post at a.0 a.1 xs) ∙ (n ∙ own_post at a.0 b.1 ys) in
-          let post : post_of a.1 ≡ post_of b.1 = cc in
+          let lists : post_in a.1 ∷ posts_taken a.0 at xs ≡ post_in b.1 ∷ posts_taken a.0 at ys = sym (own_post at a.0 a.1 xs) ∙ (n ∙ own_post at a.0 b.1 ys) in
+          let post : post_in a.1 ≡ post_in b.1 = cc in
           let c = ran_take h g at a.0 made a.1 xs (subst (λ e. Ran sli h at made (e ∷ xs) g) a.2 p) in
           let d = ran_take h k at b.0 made b.1 ys (subst (λ e. Ran sli h at made (e ∷ ys) k) b.2 q) in
           let name : (a.1).name ≡ (b.1).name = ap (λ (p : Post). p.name) post in
@@ -125,29 +125,29 @@ same_takes sli at low high made h g k (x ∷ xs) (y ∷ ys) a b same p q =
           }
       | inr ne ↦ elim (cases_lt a.0 b.0) [
         | inl lt ↦
-            absurd (some_post (post_of a.1) (posts_taken a.0 at xs)
+            absurd (some_post (post_in a.1) (posts_taken a.0 at xs)
             (sym (sym (own_post at a.0 a.1 xs) ∙ (first a.0 ∙ (other_post at a.0 b.0 b.1 ys (λ f. ne (sym f)) ∙ none_below at b.0 a.0 ys b.4 lt)))))
         | inr ge ↦
-            absurd (some_post (post_of b.1) (posts_taken b.0 at ys)
+            absurd (some_post (post_in b.1) (posts_taken b.0 at ys)
             (sym (sym (own_post at b.0 b.1 ys) ∙ (sym (first b.0) ∙ (other_post at b.0 a.0 a.1 xs ne ∙ none_below at a.0 b.0 xs a.4 (omega arith))))))
       ]
     ]
   where
-    same_took : (t u : Took) → post_of t ≡ post_of u → t.answer ≡ u.answer → t ≡ u
+    same_took : (t u : Took) → post_in t ≡ post_in u → t.answer ≡ u.answer → t ≡ u
     same_took t u post answer = λ k. record { from = (post k).from; name = (post k).name; answer = answer k }
 
 -- ---- the lanes that a drain leaves alone
 
-more_apart : {sli : ℕ} (at from x : ℕ) (ps : List Post) (d : Draining sli) → x ≢ from → (fold (took_more at from) d ps).world.waiting x at ≡ d.world.waiting x at
+more_apart : {sli : ℕ} (at from x : ℕ) (ps : List Post) (d : DrainState sli) → x ≢ from → (fold (took_more at from) d ps).world.waiting x at ≡ d.world.waiting x at
 more_apart at from x [] d ne = refl
 more_apart at from x (p ∷ ps) d ne = more_apart at from x ps (took_more at from d p) ne ∙ edited_other d.world.waiting from at x at _ (λ e _. ne e)
 
-pub lane_apart : {sli : ℕ} (at most from x : ℕ) (d : Draining sli) → x ≢ from → (drained_lane at most from d).world.waiting x at ≡ d.world.waiting x at
-unfolding drained_lane
+pub lane_apart : {sli : ℕ} (at most from x : ℕ) (d : DrainState sli) → x ≢ from → (drained_waiting at most from d).world.waiting x at ≡ d.world.waiting x at
+unfolding drained_waiting
 lane_apart at most from x d ne = more_apart at from x (take (most - d.taken) (d.world.waiting from at)) d ne
 
 -- its own lane, and those from workers past the last
-below_apart : {sli : ℕ} (at most x : ℕ) (d : Draining sli) (k : ℕ) → (x ≢ at → k ≤ x) → (drained_below at most d k).world.waiting x at ≡ d.world.waiting x at
+below_apart : {sli : ℕ} (at most x : ℕ) (d : DrainState sli) (k : ℕ) → (x ≢ at → k ≤ x) → (drained_below at most d k).world.waiting x at ≡ d.world.waiting x at
 below_apart at most x d zero far = refl
 below_apart at most x d (suc k) far =
     let b = drained_below at most d k in
@@ -168,7 +168,7 @@ nothing_before (x ∷ xs) ys e = let n = ap length e in let m = length-append xs
 
 -- ---- the last drain of a worker
 
-pub record LastDrain (sli : ℕ) (n at : ℕ) (z end : Told) : Type 0 where
+pub record LastDrain (sli : ℕ) (n at : ℕ) (z end : Progress) : Type 0 where
   pub own : List Entry
   pub entries : end.entries ≡ z.entries ++ own
   pub names : end.made ≡ z.made ++ None ∷ []
@@ -176,7 +176,7 @@ pub record LastDrain (sli : ℕ) (n at : ℕ) (z end : Told) : Type 0 where
   pub run : Ran sli z.heap at z.made own end.heap
   pub apart : (x : ℕ) → (x ≢ at → n ≤ x) → posts_taken x at own ≡ []
 
-pub last_drain : {sli : ℕ} (n at : ℕ) (z end : Told) → at < n → MayTell sli n at z last_call end → LastDrain sli n at z end
+pub last_drain : {sli : ℕ} (n at : ℕ) (z end : Progress) → at < n → MayTell sli n at z last_call end → LastDrain sli n at z end
 last_drain {sli} n at z end at_in m =
     let x = m.0 in
     let count : length x.heaps ≡ n = m.1.0 in
@@ -185,10 +185,10 @@ last_drain {sli} n at z end at_in m =
     let v = draining r at 8192 in
     record {
       own = c.own;
-      entries = sym (ap (λ (t : Told). t.entries) m.2) ∙ c.entries;
-      names = sym (ap (λ (t : Told). t.made) m.2) ∙ (c.names ∙ ap (λ name. z.made ++ name ∷ []) c.tells.0);
+      entries = sym (ap (λ (t : Progress). t.entries) m.2) ∙ c.entries;
+      names = sym (ap (λ (t : Progress). t.made) m.2) ∙ (c.names ∙ ap (λ name. z.made ++ name ∷ []) c.tells.0);
       is_drain = c.tells.1;
-      run = subst (λ h. Ran sli z.heap at z.made c.own h) (ap (λ (t : Told). t.heap) m.2)
+      run = subst (λ h. Ran sli z.heap at z.made c.own h) (ap (λ (t : Progress). t.heap) m.2)
           (subst (λ h. Ran sli h at z.made c.own (heap_in v.world at)) m.1.1 (c.history.heaps at (omega (arith, at_in, count))));
       apart = λ k far.
           let posts = c.history.posts k at in
@@ -198,7 +198,7 @@ last_drain {sli} n at z end at_in m =
     }
 
 -- what had waited is what it took and what still waits
-pub last_posts : (sli : ℕ) (n at : ℕ) (z end : Told) (at_in : at < n) (m : MayTell sli n at z last_call end) (x : ℕ)
+pub last_posts : (sli : ℕ) (n at : ℕ) (z end : Progress) (at_in : at < n) (m : MayTell sli n at z last_call end) (x : ℕ)
     → (m.0).waiting x at ≡ posts_taken x at (last_drain n at z end at_in m).own ++ ((draining (record { made = z.made; entries = z.entries; world = m.0 }) at 8192).world).waiting x at
 unfolding last_drain
 last_posts sli n at z end at_in m x =
@@ -208,13 +208,13 @@ last_posts sli n at z end at_in m x =
     sym (append-nil waits) ∙ (sym (ap (λ l. waits ++ l) (drain_makes x at at 8192 z.made c.own c.tells.1)) ∙ c.history.posts x at)
 
 -- the same behind what is the same
-abbrev pub drain_along : {sli : ℕ} (n at : ℕ) (z y end : Told) → z ≡ y → LastDrain sli n at z end → LastDrain sli n at y end
+abbrev pub drain_along : {sli : ℕ} (n at : ℕ) (z y end : Progress) → z ≡ y → LastDrain sli n at z end → LastDrain sli n at y end
 drain_along {sli} n at z y end e a = record {
   own = a.own;
-  entries = a.entries ∙ ap (λ (t : Told). t.entries ++ a.own) e;
-  names = a.names ∙ ap (λ (t : Told). t.made ++ None ∷ []) e;
+  entries = a.entries ∙ ap (λ (t : Progress). t.entries ++ a.own) e;
+  names = a.names ∙ ap (λ (t : Progress). t.made ++ None ∷ []) e;
   is_drain = a.is_drain;
-  run = subst (λ (t : Told). Ran sli t.heap at t.made a.own end.heap) e a.run;
+  run = subst (λ (t : Progress). Ran sli t.heap at t.made a.own end.heap) e a.run;
   apart = a.apart;
 }
 
@@ -231,7 +231,7 @@ drain_ran sli at made h g own d run =
     subst (λ a. RunsTo sli h (calls_on at made d.takes) a g) answers (subst (λ c. RunsTo sli h c (answers_on at own) g) calls run)
 
 -- two last drains behind the same, which took the same from each other worker
-pub same_last : {sli : ℕ} (n at : ℕ) (z end other : Told) (a : LastDrain sli n at z end) (b : LastDrain sli n at z other) → ((x : ℕ) → x < n → x ≢ at → posts_taken x at a.own ≡ posts_taken x at b.own) → end ≡ other
+pub same_last : {sli : ℕ} (n at : ℕ) (z end other : Progress) (a : LastDrain sli n at z end) (b : LastDrain sli n at z other) → ((x : ℕ) → x < n → x ≢ at → posts_taken x at a.own ≡ posts_taken x at b.own) → end ≡ other
 same_last {sli} n at z end other a b same =
     let all : (x : ℕ) → posts_taken x at a.own ≡ posts_taken x at b.own = λ x. elim (cases_lt x n) [
       | inl lt ↦ elim (cases_eq x at) [ inl e ↦ a.apart x (λ ne. absurd (ne e)) ∙ sym (b.apart x (λ ne. absurd (ne e))) | inr ne ↦ same x lt ne ]

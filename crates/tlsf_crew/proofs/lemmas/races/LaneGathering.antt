@@ -14,7 +14,7 @@ use Rattle.tlsf_crew.specs.worker.Workers.{id_of}
 use Rattle.tlsf_crew.specs.lanes.LaneWorkers.{end_from, KnowsYard}
 use Rattle.tlsf_crew.specs.races.LaneTasks.{LaneWorkerRan, EachLaneWorkerRan, HaveRooms}
 use Rattle.tlsf_crew.specs.histories.History.{posts_taken}
-use Rattle.tlsf_crew.specs.scripts.LaneMoves.{LaneMoved, Spent, lane_telling}
+use Rattle.tlsf_crew.specs.scripts.LaneMoves.{LaneMoved, Spent, lane_promise}
 use Rattle.tlsf_crew.specs.scripts.Scripts.{ScriptRun, at_stage, script_of}
 use Rattle.std.specs.List.{slice_get, All}
 use Rattle.std.specs.declared.vec.Vec.{Vec}
@@ -61,7 +61,7 @@ kept_yard {sli} pre (w ∷ ws) (v ∷ vs) n each yard =
     subst IsYard (append_assoc pre (v ∷ []) vs) (kept_yard (pre ++ v ∷ []) ws vs (omega arith) (λ j a is. each (suc j) a is) shifted)
 
 abbrev LanesRan : {sli : ℕ} → List (Worker sli Lanes) → List (List Call) → List (Vec Entry Global) → List (Worker sli Lanes) → Type 0
-LanesRan {sli} ws scripts records vs = EachJobRan (lane_telling sli) ws scripts records vs
+LanesRan {sli} ws scripts records vs = EachJobRan (lane_promise sli) ws scripts records vs
 
 enough : {sli : ℕ} (n : ℕ) (a : Worker sli Lanes) (releases limits : List ℕ) → KnowsYard n a → AreLaneLimits a.ports releases limits → (i : ℕ) (t : TakeEnd) → end_from a i ≡ Some t → length (ready t) ≤ slice_index limits i
 enough n a releases limits k are i t e =
@@ -71,7 +71,7 @@ enough n a releases limits k are i t e =
     omega arith
 
 script_ran : {sli : ℕ} (n : ℕ) (a v : Worker sli Lanes) (limits left : List ℕ) (calls : List Call) (made : List (Option Name)) (entries : List Entry)
-    → ((i : ℕ) (t : TakeEnd) → end_from a i ≡ Some t → length (ready t) ≤ slice_index limits i) → ScriptRun (lane_telling sli) n a limits calls made (at_stage v left entries) → LaneWorkerRan n a calls made entries v
+    → ((i : ℕ) (t : TakeEnd) → end_from a i ≡ Some t → length (ready t) ≤ slice_index limits i) → ScriptRun (lane_promise sli) n a limits calls made (at_stage v left entries) → LaneWorkerRan n a calls made entries v
 script_ran {sli} n a v limits left calls made entries enough x =
     let at = id_of a in
     let m : LaneMoved at made a limits calls entries v left = subst (λ l. LaneMoved at l a limits calls entries v left) (append-nil made) (x.moved []) in

@@ -12,7 +12,7 @@ use Rattle.tlsf_post.specs.declared.post.Post.{Post}
 use Rattle.tlsf_crew.specs.declared.worker.worker.Worker.{Worker}
 use Rattle.tlsf_crew.specs.declared.worker.lanes.Lanes.{Lanes}
 use Rattle.tlsf_calls.specs.declared.entry.Entry.{Entry}
-use Rattle.tlsf_crew.specs.lanes.Yard.{IsYard, yard_heap, capacity_in, waits_in, world_of}
+use Rattle.tlsf_crew.specs.lanes.Yard.{IsYard, heap_of_worker, capacity_in, waits_in, world_of}
 use Rattle.tlsf_crew.specs.model.World.{World, Replayed, made_by, called, after_drain, draining}
 use Rattle.tlsf_crew.specs.model.Sums.{sum_below}
 use Rattle.tlsf_crew.specs.histories.History.{posts_made, posts_taken}
@@ -23,7 +23,7 @@ use Rattle.tlsf_calls.specs.declared.reply.Reply.TheVariants.{Drained}
 use Rattle.tlsf_crew.proofs.lemmas.model.EventSteps.{after_near}
 use Rattle.tlsf_crew.specs.scripts.Scripts.{last_call}
 use Rattle.tlsf_calls.specs.Entries.{record_of}
-use Rattle.tlsf_crew.specs.model.Told.{MayTell}
+use Rattle.tlsf_crew.specs.model.Progress.{MayTell}
 use Rattle.tlsf_crew.specs.races.LaneTasks.{HasFew, HasLastRoom, LastTold, EachLastDrained}
 use Rattle.tlsf_crew.proofs.lemmas.lanes.LaneChanges.{heaps_count}
 use Rattle.tlsf_crew.proofs.lemmas.histories.DrainEntries.{drain_told, drain_makes}
@@ -93,7 +93,7 @@ pub record OneDrained {sli : ℕ} (ws vs : List (Worker sli Lanes)) (j : ℕ) (e
   pub capacity : capacity_in vs ≡ capacity_in ws
   pub empty : (i : ℕ) → waits_in vs i j ≡ []
   pub waits : (i y : ℕ) → y ≢ j → waits_in vs i y ≡ waits_in ws i y
-  pub heaps : (y : ℕ) → y ≢ j → yard_heap vs y ≡ yard_heap ws y
+  pub heaps : (y : ℕ) → y ≢ j → heap_of_worker vs y ≡ heap_of_worker ws y
 
 abbrev TellsLast : {sli : ℕ} → List (Worker sli Lanes) → List (Worker sli Lanes) → ℕ → List Entry → List Entry → Type 0
 TellsLast ws vs j es fs = (made : List (Option Name)) → replay_of (made ++ None ∷ []) fs vs ≡ draining (replay_of made es ws) j 8192
@@ -102,19 +102,19 @@ waits_of : {sli : ℕ} (w : World sli) (vs : List (Worker sli Lanes)) → world_
 unfolding world_of
 waits_of {sli} w vs e i j = ap (λ (x : World sli). x.waiting i j) e
 
-heap_of_world : {sli : ℕ} (w : World sli) (vs : List (Worker sli Lanes)) → world_of vs ≡ w → (j : ℕ) → yard_heap vs j ≡ get_or w.heaps j (yard_heap {sli = sli} [] 0)
+heap_of_world : {sli : ℕ} (w : World sli) (vs : List (Worker sli Lanes)) → world_of vs ≡ w → (j : ℕ) → heap_of_worker vs j ≡ get_or w.heaps j (heap_of_worker {sli = sli} [] 0)
 unfolding world_of
-heap_of_world {sli} w vs e j = ap (λ (x : World sli). get_or x.heaps j (yard_heap {sli = sli} [] 0)) e
+heap_of_world {sli} w vs e j = ap (λ (x : World sli). get_or x.heaps j (heap_of_worker {sli = sli} [] 0)) e
 
 capacity_of_world : {sli : ℕ} (w : World sli) (vs : List (Worker sli Lanes)) → world_of vs ≡ w → capacity_in vs ≡ w.capacity
 unfolding world_of
 capacity_of_world {sli} w vs e = ap (λ (x : World sli). x.capacity) e
 
 may_tell_last : {sli : ℕ} (ws vs : List (Worker sli Lanes)) (j : ℕ) (es fs : List Entry) (made : List (Option Name)) → replay_of (made ++ None ∷ []) fs vs ≡ draining (replay_of made es ws) j 8192
-    → MayTell sli (length ws) j (record { made = made; entries = es; heap = yard_heap ws j }) last_call (record { made = made ++ None ∷ []; entries = fs; heap = yard_heap vs j })
+    → MayTell sli (length ws) j (record { made = made; entries = es; heap = heap_of_worker ws j }) last_call (record { made = made ++ None ∷ []; entries = fs; heap = heap_of_worker vs j })
 unfolding world_of
 may_tell_last {sli} ws vs j es fs made e =
-    (world_of ws, (heaps_count ws, refl), ap (λ (r : Replayed sli). record { made = r.made; entries = r.entries; heap = get_or r.world.heaps j (yard_heap {sli = sli} [] 0) }) (sym e))
+    (world_of ws, (heaps_count ws, refl), ap (λ (r : Replayed sli). record { made = r.made; entries = r.entries; heap = get_or r.world.heaps j (heap_of_worker {sli = sli} [] 0) }) (sym e))
 
 nothing_left : (ps qs ms : List Post) (waits : List Post) → waits ++ ms ≡ ps ++ qs → ms ≡ [] → qs ≡ [] → ps ≡ waits
 nothing_left ps qs ms waits e m q = sym (append-nil ps) ∙ (ap (λ l. ps ++ l) (sym q) ∙ (sym e ∙ (ap (λ l. waits ++ l) m ∙ append-nil waits)))
@@ -154,7 +154,7 @@ one_drained {sli} ws vs j es fs yard j_in few after tells =
 
 -- ---- drain after drain
 
-told_along : {sli : ℕ} (ws vs us : List (Worker sli Lanes)) (j : ℕ) (es fs : List Entry) → yard_heap us j ≡ yard_heap vs j → LastTold ws vs j es fs → LastTold ws us j es fs
+told_along : {sli : ℕ} (ws vs us : List (Worker sli Lanes)) (j : ℕ) (es fs : List Entry) → heap_of_worker us j ≡ heap_of_worker vs j → LastTold ws vs j es fs → LastTold ws us j es fs
 told_along ws vs us j es fs e t = record {
   own = t.own;
   entries = t.entries;
@@ -163,9 +163,9 @@ told_along ws vs us j es fs e t = record {
   told = λ made. rw e (t.told made);
 }
 
-told_first : {sli : ℕ} (ws vs us : List (Worker sli Lanes)) (j : ℕ) (es fs : List Entry) → length vs ≡ length ws → yard_heap vs j ≡ yard_heap ws j → ((i : ℕ) → waits_in vs i j ≡ waits_in ws i j)
+first_worker_told : {sli : ℕ} (ws vs us : List (Worker sli Lanes)) (j : ℕ) (es fs : List Entry) → length vs ≡ length ws → heap_of_worker vs j ≡ heap_of_worker ws j → ((i : ℕ) → waits_in vs i j ≡ waits_in ws i j)
     → LastTold vs us j es fs → LastTold ws us j es fs
-told_first ws vs us j es fs len heap waits t = record {
+first_worker_told ws vs us j es fs len heap waits t = record {
   own = t.own;
   entries = t.entries;
   is_drain = t.is_drain;
@@ -182,7 +182,7 @@ last_step ws vs us rs ss j fs a j_in same one = record {
   capacity = one.capacity ∙ a.capacity;
   told = λ y lt. elim (cases_eq y j) [
     | inl e ↦
-        let first = told_first ws vs us j (record_of ss j) fs a.worker_count (a.later_heaps j (omega arith)) (λ i. a.later_waits i j (omega arith)) one.last in
+        let first = first_worker_told ws vs us j (record_of ss j) fs a.worker_count (a.later_heaps j (omega arith)) (λ i. a.later_waits i j (omega arith)) one.last in
         let at : record_of (set ss j fs) j ≡ fs = get_or-set_same ss j fs [] j_in in
         rw (e, at, sym same) first
     | inr ne ↦
@@ -204,10 +204,10 @@ pub record_items : (rs : List (Vec Entry Global)) (j : ℕ) (r : Vec Entry Globa
 record_items rs j r e = get_or_from_slice_get (items_of rs) j r.items [] (slice_get-map (λ (x : Vec Entry Global). x.items) rs j ∙ ap (option_map (λ (x : Vec Entry Global). x.items)) e)
 
 -- the next worker is drained
-pub drain_next : {sli : ℕ} (ws vs us : List (Worker sli Lanes)) (rs ss : List (Vec Entry Global)) (j : ℕ) (r new : Vec Entry Global) → EachLastDrained ws (items_of rs) (items_of ss) vs j
+pub lane_drain_next : {sli : ℕ} (ws vs us : List (Worker sli Lanes)) (rs ss : List (Vec Entry Global)) (j : ℕ) (r new : Vec Entry Global) → EachLastDrained ws (items_of rs) (items_of ss) vs j
     → HasFew ws j → j < length ws → slice_get ss j ≡ Some r → slice_get rs j ≡ Some r → IsYard us → TellsLast vs us j r.items new.items
     → EachLastDrained ws (items_of rs) (items_of (set ss j new)) us (j + 1)
-drain_next ws vs us rs ss j r new a few j_in here there after tells =
+lane_drain_next ws vs us rs ss j r new a few j_in here there after tells =
     let at = record_items ss j r here in
     let before = record_items rs j r there in
     let few_now : HasFew vs j = λ i. rw (a.later_waits i j (omega arith)) (few i) in

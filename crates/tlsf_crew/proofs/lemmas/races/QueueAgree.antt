@@ -14,8 +14,8 @@ same_prefix put got rest more a b =
     sym (append-nil put) ∙ ap (λ l. put ++ l) (sym (nil_from_length rest n)) ∙ a
 
 -- all that worker i had put was taken
-pub all_taken : (i : ℕ) (last left whole : List Post) → whole ≡ posts_of i (last ++ left) → IsPrefix whole (posts_of i last) → whole ≡ posts_of i last
-all_taken i last left whole end all = same_prefix whole (posts_of i last) all.0 (posts_of i left) all.1 (sym (of_append i last left) ∙ sym end)
+pub whole_taken : (i : ℕ) (last left whole : List Post) → whole ≡ posts_of i (last ++ left) → IsPrefix whole (posts_of i last) → whole ≡ posts_of i last
+whole_taken i last left whole end all = same_prefix whole (posts_of i last) all.0 (posts_of i left) all.1 (sym (of_append i last left) ∙ sym end)
 
 -- what waits of worker i: what it has put less what was taken of it
 waits_is : (i : ℕ) (got waited put : List Post) → put ≡ posts_of i (got ++ waited) → drop (length (posts_of i got)) put ≡ posts_of i waited
@@ -27,7 +27,7 @@ pub queue_posts_agree : (i : ℕ) (got waited put made taken last left whole : L
     → put ≡ posts_of i (got ++ waited) → whole ≡ put ++ made → posts_of i last ≡ posts_of i got ++ taken → whole ≡ posts_of i (last ++ left) → IsPrefix whole (posts_of i last)
     → drop (length (posts_of i got)) put ++ made ≡ taken
 queue_posts_agree i got waited put made taken last left whole start posted took end all =
-    let here : whole ≡ posts_of i last = all_taken i last left whole end all in
+    let here : whole ≡ posts_of i last = whole_taken i last left whole end all in
     append_cancel_left (posts_of i got) (drop (length (posts_of i got)) put ++ made) taken
     (ap (λ l. posts_of i got ++ (l ++ made)) (waits_is i got waited put start)
     ∙ (sym (append_assoc (posts_of i got) (posts_of i waited) made) ∙ (ap (λ l. l ++ made) (sym (start ∙ of_append i got waited)) ∙ (sym posted ∙ (here ∙ took)))))
@@ -35,7 +35,7 @@ queue_posts_agree i got waited put made taken last left whole start posted took 
 -- then nothing waits
 pub queue_nothing_waits : (i : ℕ) (last left whole : List Post) → whole ≡ posts_of i (last ++ left) → IsPrefix whole (posts_of i last) → drop (length (posts_of i last)) whole ≡ []
 queue_nothing_waits i last left whole end all =
-    let here : whole ≡ posts_of i last = all_taken i last left whole end all in
+    let here : whole ≡ posts_of i last = whole_taken i last left whole end all in
     ap (drop (length (posts_of i last))) (here ∙ sym (append-nil (posts_of i last))) ∙ drop-append_seam (posts_of i last) []
 
 -- what had waited is the beginning of what was taken, where all was taken that was known then

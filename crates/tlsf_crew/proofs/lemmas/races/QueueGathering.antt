@@ -14,7 +14,7 @@ use Rattle.tlsf_crew.specs.jobs.Parts.{EachJobRan}
 use Rattle.tlsf_crew.specs.scripts.Scripts.{script_of}
 use Rattle.tlsf_crew.specs.races.Rooms.{HaveQueueRecordRooms}
 use Rattle.tlsf_crew.specs.scripts.Counts.{releases_of}
-use Rattle.tlsf_crew.specs.scripts.QueueMoves.{queue_telling}
+use Rattle.tlsf_crew.specs.scripts.QueueMoves.{queue_promise}
 use Rattle.tlsf_crew.specs.races.QueueTasks.{HasPlace, EachQueueWorkerRan, KnowsSomeYard}
 use Rattle.tlsf_crew.specs.queues.QueueYard.{IsQueueYard}
 use Rattle.tlsf_crew.proofs.lemmas.scripts.QueueRuns.{queue_moves}
@@ -28,7 +28,7 @@ pub each_knows_some : {sli : ℕ} (ws : List (Worker sli Queues)) → IsQueueYar
 each_knows_some ws yard k d lt = let w = yard.workers k (get_or ws k d) (slice_get-get_or ws k d lt) in (length ws, w.knows)
 
 abbrev QueuesRan : {sli : ℕ} → List (Worker sli Queues) → List (List Call) → List (Vec Entry Global) → List (Worker sli Queues) → Type 0
-QueuesRan {sli} ws scripts records vs = EachJobRan (queue_telling sli) ws scripts records vs
+QueuesRan {sli} ws scripts records vs = EachJobRan (queue_promise sli) ws scripts records vs
 
 pub queues_ran : {sli : ℕ} (ws vs : List (Worker sli Queues)) (scripts : List (List Call)) (records : List (Vec Entry Global)) → QueuesRan ws scripts records vs → EachQueueWorkerRan ws scripts (map (λ r. r.items) records) vs
 queues_ran ws vs scripts records run = record {

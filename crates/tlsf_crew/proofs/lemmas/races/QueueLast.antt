@@ -30,10 +30,10 @@ use Rattle.tlsf_crew.proofs.lemmas.queues.QueueYards.{all_kept}
 
 -- ---- one worker
 
-pub drained_last : {sli : ℕ} (n : ℕ) (s t : Stage sli Queues) (at taken : ℕ) (longer : List Entry) → taken ≤ sum_of s.limits → sum_of s.limits < 8192 → at ≡ id_of t.worker
+pub queue_drain_is_last : {sli : ℕ} (n : ℕ) (s t : Stage sli Queues) (at taken : ℕ) (longer : List Entry) → taken ≤ sum_of s.limits → sum_of s.limits < 8192 → at ≡ id_of t.worker
     → ((made : List (Option Name)) → QueueStepped n s last_call made t (Drained taken)) → queue_end_to t.worker ≡ queue_end_to s.worker
     → longer ≡ t.entries ++ entry_by at last_call (Drained taken) ∷ [] → QueueLastDrained n s.worker t.worker s.entries longer
-drained_last n s t at taken longer few less is step ends more =
+queue_drain_is_last n s t at taken longer few less is step ends more =
     let a = s.worker in
     let x = step [] in
     let m = x.moved [] in
@@ -58,9 +58,9 @@ drained_last n s t at taken longer few less is step ends more =
 
 -- ---- all workers
 
-pub drained_next : {sli : ℕ} (ws us : List (Worker sli Queues)) (rs ss : List (Vec Entry Global)) (j : ℕ) (u w : Worker sli Queues) (r s : Vec Entry Global) → EachQueueLastDrained ws (items_of rs) (items_of ss) us j → slice_get us j ≡ Some u
+pub queue_drain_next : {sli : ℕ} (ws us : List (Worker sli Queues)) (rs ss : List (Vec Entry Global)) (j : ℕ) (u w : Worker sli Queues) (r s : Vec Entry Global) → EachQueueLastDrained ws (items_of rs) (items_of ss) us j → slice_get us j ≡ Some u
     → slice_get ss j ≡ Some r → slice_get rs j ≡ Some r → ((n : ℕ) → KnowsQueueYard n u → QueueLastDrained n u w r.items s.items) → EachQueueLastDrained ws (items_of rs) (items_of (set ss j s)) (set us j w) (j + 1)
-drained_next {sli} ws us rs ss j u w r s x at here there step =
+queue_drain_next {sli} ws us rs ss j u w r s x at here there step =
     let j_in = slice_get_within us j u at in
     let le : j ≤ j = omega arith in
     let was : slice_get ws j ≡ Some u = sym (x.later_workers j le) ∙ at in

@@ -21,7 +21,7 @@ use Rattle.tlsf_calls.specs.declared.entry.Entry.{Entry}
 use Rattle.tlsf_calls.specs.declared.crew_refusal.CrewRefusal.TheVariants.{Full}
 use Rattle.tlsf_calls.specs.declared.reply.Reply.TheVariants.{Drained, Refused}
 use Rattle.tlsf_crew.specs.histories.History.{StandsBehind, posts_made, posts_taken}
-use Rattle.tlsf_crew.specs.model.Told.{Told, untold}
+use Rattle.tlsf_crew.specs.model.Progress.{Progress, untold}
 use Rattle.tlsf_crew.specs.model.World.{heap_in, no_heap}
 use Rattle.tlsf_crew.specs.scripts.Scripts.{last_call, script_of}
 use Rattle.tlsf_calls.specs.Entries.{record_of}
@@ -30,16 +30,16 @@ use Rattle.tlsf_crew.specs.declared.queues.queues.Queues.{Queues}
 use Rattle.tlsf_crew.specs.worker.Workers.{heap_of, id_of}
 use Rattle.tlsf_crew.specs.queues.QueueWorkers.{queue_end_to, KeepsQueueYards, KnowsQueueYard}
 use Rattle.tlsf_crew.specs.queues.QueueYard.{IsQueueYard, first_capacity, queue_capacity_in, queue_end_in, queue_waits_in, queue_world_of, waits_of}
-use Rattle.tlsf_crew.specs.model.QueueTold.{MayTellQueue, told_takes}
+use Rattle.tlsf_crew.specs.model.QueueProgress.{MayTellQueue, with_takes}
 use Rattle.tlsf_crew.specs.scripts.QueueMoves.{told_of}
 use Rattle.tlsf_crew.specs.races.QueueRace.{AgreeQueue, IsLegalQueue, IsQueueRace}
 use Rattle.tlsf_crew.specs.queues.QueueSettle.{QueueKnown, EachQueueSettled, StaysPut, end_at}
-use Rattle.tlsf_crew.specs.races.QueueTasks.{QueueLastDrained, Finished, EachQueueWorkerRan, QueueWorkerRan}
+use Rattle.tlsf_crew.specs.races.QueueTasks.{QueueLastDrained, SettledAndDrained, EachQueueWorkerRan, QueueWorkerRan}
 use Rattle.tlsf_crew.proofs.lemmas.jobs.Gathering.{map_at}
 use Rattle.tlsf_crew.proofs.lemmas.histories.JoinedEntries.{made_then, taken_then}
 use Rattle.tlsf_crew.proofs.lemmas.scripts.ManyEntries.{prefix_then, stands_split}
 use Rattle.tlsf_crew.proofs.lemmas.worker.Slots.{some_same, some_at}
-use Rattle.tlsf_crew.proofs.lemmas.races.QueueAgree.{all_taken, queue_drained_early, queue_nothing_waits, queue_posts_agree}
+use Rattle.tlsf_crew.proofs.lemmas.races.QueueAgree.{whole_taken, queue_drained_early, queue_nothing_waits, queue_posts_agree}
 use Rattle.tlsf_crew.proofs.lemmas.queues.QueueKept.{slot_kept}
 use Rattle.tlsf_crew.proofs.lemmas.scripts.ScriptRuns.{tell_more}
 use Rattle.tlsf_crew.proofs.lemmas.queues.QueueSettled.{own_end}
@@ -91,11 +91,11 @@ none_more xs ys e = nil_from_length ys (omega (arith, ap length e, length-append
 
 -- ---- posts and their posters
 
-all_of : (i : ℕ) (ps : List Post) → All (λ (post : Post). post.from ≡ i) (posts_of i ps)
-all_of i [] = All-nil (λ (post : Post). post.from ≡ i)
-all_of i (p ∷ ps) = elim (cases_eq p.from i) [
-  | inl e ↦ let b : (p.from == i) ≡ true = grind (arith, nat_tests) in rw b (All-cons (λ (post : Post). post.from ≡ i) p (posts_of i ps) e (all_of i ps))
-  | inr ne ↦ let b : (p.from == i) ≡ false = grind (arith, nat_tests) in rw b (all_of i ps)
+all_by_poster : (i : ℕ) (ps : List Post) → All (λ (post : Post). post.from ≡ i) (posts_of i ps)
+all_by_poster i [] = All-nil (λ (post : Post). post.from ≡ i)
+all_by_poster i (p ∷ ps) = elim (cases_eq p.from i) [
+  | inl e ↦ let b : (p.from == i) ≡ true = grind (arith, nat_tests) in rw b (All-cons (λ (post : Post). post.from ≡ i) p (posts_of i ps) e (all_by_poster i ps))
+  | inr ne ↦ let b : (p.from == i) ≡ false = grind (arith, nat_tests) in rw b (all_by_poster i ps)
 ]
 
 all_behind : {X : Type 0} (P : X → Type 0) (xs ys : List X) → All P (xs ++ ys) → All P ys
@@ -146,7 +146,7 @@ heap_there ws j a is = get_or_from_slice_get (map heap_of ws) j (heap_of a) no_h
 -- ---- a whole race
 
 -- the yard was given, and settled before the threads; the workers ran their scripts, were settled, drained and settled again
-module _ {sli : ℕ} (zs ws vs ts : List (Worker sli Queues)) (scripts : List (List Call)) (rs ss : List (List Entry)) (yard : IsQueueYard zs) (s : EachQueueSettled zs (length zs) ws) (run : EachQueueWorkerRan ws scripts rs vs) (done : Finished vs rs ss ts) where
+module _ {sli : ℕ} (zs ws vs ts : List (Worker sli Queues)) (scripts : List (List Call)) (rs ss : List (List Entry)) (yard : IsQueueYard zs) (s : EachQueueSettled zs (length zs) ws) (run : EachQueueWorkerRan ws scripts rs vs) (done : SettledAndDrained vs rs ss ts) where
   -- ---- one worker on its way
 
   record Way (j : ℕ) : Type 0 where
@@ -369,7 +369,7 @@ module _ {sli : ℕ} (zs ws vs ts : List (Worker sli Queues)) (scripts : List (L
       = append_cancel_left (posts_taken p at script) (posts_taken p at own) (posts_of p posts)
       (sym (taken_then p at script own) ∙ (ap (posts_taken p at) (sym y.last.entries_are) ∙ end_takes p at (told_of (run.made j) script (heap_of y.settled)) (told_of (run.made j ++ None ∷ []) (record_of ss j) (heap_of y.empty)) posts drain)) in
       let at_end : posts_of p (got_by y.empty.ports.own) ≡ posts_of p got ++ posts_of p posts = moved.taken p ∙ ap (λ l. posts_of p got ++ l) took in
-      let here : whole ≡ posts_of p (got_by y.empty.ports.own) = all_taken p (got_by y.empty.ports.own) both.end.waiting whole both.end.is both.all in
+      let here : whole ≡ posts_of p (got_by y.empty.ports.own) = whole_taken p (got_by y.empty.ports.own) both.end.waiting whole both.end.is both.all in
       append_cancel_left (posts_of p got) (posts_of p posts) (posts_of p waiting) (sym at_end ∙ (sym here ∙ at_settled))
 
   last_few : (j : ℕ) → j < length zs → (before : List Entry) (k : ℕ) → record_of ss j ≡ before ++ record { worker = j; call = last_call; reply = Drained k } ∷ [] → k ≤ queue_capacity_in zs
@@ -380,7 +380,7 @@ module _ {sli : ℕ} (zs ws vs ts : List (Worker sli Queues)) (scripts : List (L
       let drain = y.last.told (run.made j) in
       let posts = drain.0 in
       let start = told_of (run.made j) (record_of rs j) (heap_of y.settled) in
-      let ends = same_from_push (told_takes at start posts).entries before (drain_entry at posts) (record { worker = j; call = last_call; reply = Drained k }) (sym (ap (λ (t : Told). t.entries) drain.3) ∙ is) in
+      let ends = same_from_push (with_takes at start posts).entries before (drain_entry at posts) (record { worker = j; call = last_call; reply = Drained k }) (sym (ap (λ (t : Progress). t.entries) drain.3) ∙ is) in
       let reply : Drained (length posts) ≡ Drained k = ap (λ (e : Entry). e.reply) ends.1 in
       let count : length posts ≡ k = cc in
       let f = done.first in
@@ -418,7 +418,7 @@ module _ {sli : ℕ} (zs ws vs ts : List (Worker sli Queues)) (scripts : List (L
         full = λ two before e name stands r at_j.
             let found = found_full i j j_in x y made t two before e name stands r at_j in
             omega (arith, found, ap length waits);
-        signed = all_behind (λ (post : Post). post.from ≡ i) (posts_of i got) (posts_taken i j (record_of ss j)) (subst (All (λ (post : Post). post.from ≡ i)) p.took (all_of i (got_by y.empty.ports.own)));
+        signed = all_behind (λ (post : Post). post.from ≡ i) (posts_of i got) (posts_taken i j (record_of ss j)) (subst (All (λ (post : Post). post.from ≡ i)) p.took (all_by_poster i (got_by y.empty.ports.own)));
         drained = λ before e most k stands call reply less.
             subst (λ g. IsPrefix g (posts_taken i j before)) (sym waits)
             (queue_drained_early i got p.start.waiting t.put (posts_taken i j before) p.start.is (early_drain i j j_in x y made t before e most k stands call reply less));

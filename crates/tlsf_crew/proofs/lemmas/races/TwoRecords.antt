@@ -18,7 +18,7 @@ use Rattle.tlsf_calls.specs.declared.reply.Reply.{Reply}
 use Rattle.tlsf_calls.specs.declared.reply.Reply.TheVariants.{Posted, Took as Taken, Empty, Drained, Refused}
 use Rattle.tlsf_calls.specs.declared.crew_refusal.CrewRefusal.TheVariants.{Full}
 use Rattle.tlsf_crew.specs.model.World.{name_of}
-use Rattle.tlsf_crew.specs.histories.History.{AreTakes, IsDrain, of_heap, post_of_release, post_of_take, posts_made, posts_taken, entries_of, StandsBehind}
+use Rattle.tlsf_crew.specs.histories.History.{AreTakes, IsDrain, name_on_heap, post_of_release, post_of_take, posts_made, posts_taken, entries_of, StandsBehind}
 use Rattle.tlsf_crew.specs.races.Race.{Agree}
 use Rattle.tlsf_crew.proofs.lemmas.lanes.Signed.{AreFrom}
 use Rattle.tlsf_crew.proofs.lemmas.histories.JoinedEntries.{told_own, told_other, told_nothing, made_then, taken_then}
@@ -40,7 +40,7 @@ same_name made (MadeBy k) = same_at made k
 same_name made Absent = refl
 
 same_post : (j : ℕ) (made : List (Option Name)) (i : ℕ) (call : Call) (reply : Reply) → post_of_release j (made ++ None ∷ []) i call reply ≡ post_of_release j made i call reply
-same_post j made i (Release target) Posted = ap (λ (n : Option Name). option_map (λ name. record { from = i; name = name }) (of_heap j n)) (same_name made target)
+same_post j made i (Release target) Posted = ap (λ (n : Option Name). option_map (λ name. record { from = i; name = name }) (name_on_heap j n)) (same_name made target)
 same_post j made i call reply = refl
 
 pub each_post_same : (i j : ℕ) (made : List (Option Name)) (es : List Entry) → posts_made i j (made ++ None ∷ []) es ≡ posts_made i j made es
@@ -53,7 +53,7 @@ from_name i None = All-nil (λ (post : Post). post.from ≡ i)
 from_name i (Some name) = All-push (λ (post : Post). post.from ≡ i) [] (record { from = i; name = name }) (All-nil (λ (post : Post). post.from ≡ i)) refl
 
 from_call : (j : ℕ) (made : List (Option Name)) (i : ℕ) (call : Call) (reply : Reply) → AreFrom i (cons_option (post_of_release j made i call reply) [])
-from_call j made i (Release target) Posted = from_name i (of_heap j (name_of made target))
+from_call j made i (Release target) Posted = from_name i (name_on_heap j (name_of made target))
 from_call j made i call reply = All-nil (λ (post : Post). post.from ≡ i)
 
 from_entry : (i j : ℕ) (made : List (Option Name)) (e : Entry) → AreFrom i (posts_made i j made (e ∷ []))
@@ -97,22 +97,22 @@ takes_stand at low (x ∷ es) [] after e a eq = let h : x ≡ e = cc in (a.0, a.
 takes_stand at low (x ∷ es) (b ∷ before) after e a eq = let t : es ≡ before ++ e ∷ after = cc in takes_stand at a.0 es before after e a.4 t
 
 -- an entry of a drain is a take that took a post, or it is the last one
-abbrev OfDrain : ℕ → ℕ → List Entry → List Entry → Entry → Type 0
-OfDrain at most takes mid e =
+abbrev StandsInDrain : ℕ → ℕ → List Entry → List Entry → Entry → Type 0
+StandsInDrain at most takes mid e =
     ((from : ℕ) × (t : Took) × (e ≡ record { worker = at; call = Take from; reply = Taken t }))
     ⊎ ((mid ≡ takes) × (e ≡ record { worker = at; call = Drain most; reply = Drained (length takes) }))
 
-last_stands : (last e : Entry) (m after : List Entry) → last ∷ [] ≡ m ++ e ∷ after → (m ≡ []) × (e ≡ last)
-last_stands last e [] after eq = let h : last ≡ e = cc in (refl, sym h)
-last_stands last e (x ∷ []) after eq = let t : ◌≡◌ {A = List Entry} [] (e ∷ after) = cc in cc
-last_stands last e (x ∷ y ∷ m) after eq = let t : ◌≡◌ {A = List Entry} [] (y ∷ (m ++ e ∷ after)) = cc in cc
+only_entry : (last e : Entry) (m after : List Entry) → last ∷ [] ≡ m ++ e ∷ after → (m ≡ []) × (e ≡ last)
+only_entry last e [] after eq = let h : last ≡ e = cc in (refl, sym h)
+only_entry last e (x ∷ []) after eq = let t : ◌≡◌ {A = List Entry} [] (e ∷ after) = cc in cc
+only_entry last e (x ∷ y ∷ m) after eq = let t : ◌≡◌ {A = List Entry} [] (y ∷ (m ++ e ∷ after)) = cc in cc
 
-pub of_drain : (at most : ℕ) (own mid after : List Entry) (e : Entry) (d : IsDrain at most own) → own ≡ mid ++ e ∷ after → OfDrain at most d.takes mid e
-of_drain at most own mid after e d eq =
+pub stands_in_drain : (at most : ℕ) (own mid after : List Entry) (e : Entry) (d : IsDrain at most own) → own ≡ mid ++ e ∷ after → StandsInDrain at most d.takes mid e
+stands_in_drain at most own mid after e d eq =
     let last : Entry = record { worker = at; call = Drain most; reply = Drained (length d.takes) } in
     elim (stands_split d.takes (last ∷ []) mid after e (sym d.whole ∙ eq)) [
       | inl f ↦ inl (takes_stand at 0 d.takes mid f.0 e d.are_takes f.1)
-      | inr f ↦ let g = last_stands last e f.0 after f.2 in inr (f.1 ∙ (ap (λ m. d.takes ++ m) g.0 ∙ append-nil d.takes), g.1)
+      | inr f ↦ let g = only_entry last e f.0 after f.2 in inr (f.1 ∙ (ap (λ m. d.takes ++ m) g.0 ∙ append-nil d.takes), g.1)
     ]
 
 -- ---- a drain makes no posts
@@ -143,7 +143,7 @@ module _ (capacity i j : ℕ) (W waits : List Post) (made : List (Option Name)) 
   agree_full own d before e name stands reply here =
       elim (stands_split s own before stands.0 e stands.1) [
         | inl f ↦ rw (each_post_same i j made before) (a.full before e name f reply here)
-        | inr f ↦ elim (of_drain i 8192 own f.0 stands.0 e d f.2) [
+        | inr f ↦ elim (stands_in_drain i 8192 own f.0 stands.0 e d f.2) [
           | inl g ↦ let q = sym reply ∙ ap (λ (x : Entry). x.reply) g.2 in cc
           | inr g ↦ let q = sym reply ∙ ap (λ (x : Entry). x.reply) g.1 in cc
         ]
@@ -153,7 +153,7 @@ module _ (capacity i j : ℕ) (W waits : List Post) (made : List (Option Name)) 
   agree_empty own d before e stands call reply =
       elim (stands_split t own before stands.0 e stands.1) [
         | inl f ↦ a.empty before e f call reply
-        | inr f ↦ elim (of_drain j 8192 own f.0 stands.0 e d f.2) [
+        | inr f ↦ elim (stands_in_drain j 8192 own f.0 stands.0 e d f.2) [
           | inl g ↦ let q = sym reply ∙ ap (λ (x : Entry). x.reply) g.2 in cc
           | inr g ↦ let q = sym reply ∙ ap (λ (x : Entry). x.reply) g.1 in cc
         ]
@@ -165,7 +165,7 @@ module _ (capacity i j : ℕ) (W waits : List Post) (made : List (Option Name)) 
   agree_drained own d took before e most k stands call reply lt =
       elim (stands_split t own before stands.0 e stands.1) [
         | inl f ↦ a.drained before e most k f call reply lt
-        | inr f ↦ elim (of_drain j 8192 own f.0 stands.0 e d f.2) [
+        | inr f ↦ elim (stands_in_drain j 8192 own f.0 stands.0 e d f.2) [
           | inl g ↦ let q = sym call ∙ ap (λ (x : Entry). x.call) g.2 in cc
           | inr g ↦
               let all : posts_taken i j before ≡ posts_taken i j t ++ waits =

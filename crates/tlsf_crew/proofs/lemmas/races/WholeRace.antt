@@ -20,7 +20,7 @@ use Rattle.tlsf_calls.specs.declared.entry.Entry.{Entry}
 use Rattle.tlsf_calls.specs.declared.call.Call.{Call}
 use Rattle.tlsf_crew.specs.worker.Workers.{heap_of, id_of}
 use Rattle.tlsf_crew.specs.lanes.LaneWorkers.{id_and_capacity, end_to, end_from}
-use Rattle.tlsf_crew.specs.lanes.Yard.{IsYard, yard_heap, post_at, take_at, end_to_in, end_from_in, capacity_in, waits_in, world_of}
+use Rattle.tlsf_crew.specs.lanes.Yard.{IsYard, heap_of_worker, post_at, take_at, end_to_in, end_from_in, capacity_in, waits_in, world_of}
 use Rattle.tlsf_crew.specs.lanes.Settle.{EachLaneSettled}
 use Rattle.tlsf_crew.specs.model.Sums.{sum_below}
 use Rattle.tlsf_crew.specs.lanes.Ready.{count_of, ready_from}
@@ -29,14 +29,14 @@ use Rattle.tlsf_crew.specs.histories.History.{posts_made, posts_taken}
 use Rattle.tlsf_crew.specs.scripts.Scripts.{last_call, script_of}
 use Rattle.tlsf_crew.specs.races.Race.{IsLegal, Agree, IsRace}
 use Rattle.tlsf_calls.specs.Entries.{record_of}
-use Rattle.tlsf_crew.specs.model.Told.{untold, MayTell, MayTellAll}
+use Rattle.tlsf_crew.specs.model.Progress.{untold, MayTell, MayTellAll}
 use Rattle.tlsf_crew.specs.races.LaneTasks.{LaneWorkerRan, EachLaneWorkerRan, HaveRooms, EachHasLastRoom, HasFew, EachLastDrained}
 use Rattle.tlsf_crew.proofs.lemmas.worker.Slots.{some_same, some_at}
 use Rattle.tlsf_crew.proofs.lemmas.lanes.LaneSlots.{from_post, from_take, heap_at}
 use Rattle.tlsf_crew.proofs.lemmas.lanes.LanesOfOne.{own_number}
 use Rattle.tlsf_crew.proofs.lemmas.model.Sums.{least_sum, sum_both}
 use Rattle.tlsf_crew.proofs.lemmas.races.TwoRecords.{ScriptsAgree, records_agree}
-use Rattle.tlsf_crew.proofs.lemmas.lanes.LaneSettled.{none_wait, none_for, settled_waits, settled_room, capacity_same, heap_same, waits_same}
+use Rattle.tlsf_crew.proofs.lemmas.lanes.LaneSettled.{none_wait, none_for, settled_waits, settled_room, capacity_by_world, heap_by_world, waits_same}
 use Rattle.tlsf_crew.proofs.lemmas.races.LastDrains.{items_of, record_items}
 use Rattle.tlsf_crew.proofs.lemmas.histories.Nowhere.{tells_none}
 
@@ -194,7 +194,7 @@ pub last_rooms : {sli : ℕ} (zs ws vs us : List (Worker sli Lanes)) (scripts : 
 last_rooms zs ws vs us scripts records len settled yard run rooms later_len later_settled later same j r there =
     let rs = items_of records in
     let j_in : j < length ws = let n = slice_get_within records j r there in let m = length-map records (λ (x : Vec Entry Global). x.items) in let c = run.record_count in omega arith in
-    let capacity = capacity_same vs us same ∙ capacity_kept ws vs scripts rs run in
+    let capacity = capacity_by_world vs us same ∙ capacity_kept ws vs scripts rs run in
     let found = some_at ws j j_in in
     let a = found.0 in
     let w = worker_ran ws vs scripts rs yard run j a found.1 in
@@ -224,21 +224,21 @@ agree_as c d i j W V made s t r u v a b e f agree = rw (sym a, sym b, e, f) agre
 module _ {sli : ℕ} (zs ws vs us xs : List (Worker sli Lanes)) (scripts : List (List Call)) (rs ss : List (List Entry)) (len : length ws ≡ length zs) (settled : EachLaneSettled zs ws) (same : world_of ws ≡ world_of zs) (yard : IsYard ws)
     (run : EachLaneWorkerRan ws scripts rs vs) (later_len : length us ≡ length vs) (later_settled : EachLaneSettled vs us) (later_same : world_of us ≡ world_of vs) (later : IsYard us) (last : EachLastDrained us rs ss xs (length us)) where
   legal_in : (j : ℕ) → j < length zs
-      → IsLegal sli (length zs) j (yard_heap zs j) (script_of scripts j) (record_of rs j) (record { made = run.made j ++ None ∷ []; entries = record_of ss j; heap = yard_heap xs j })
+      → IsLegal sli (length zs) j (heap_of_worker zs j) (script_of scripts j) (record_of rs j) (record { made = run.made j ++ None ∷ []; entries = record_of ss j; heap = heap_of_worker xs j })
   legal_in j j_in =
       let found = some_at ws j (omega arith) in
       let w = worker_ran ws vs scripts rs yard run j found.0 found.1 in
       let c = run.worker_count in
       let told = last.told j (omega arith) in
-      let first : heap_of w.old ≡ yard_heap zs j = sym (heap_at ws j w.old w.old_is) ∙ heap_same zs ws same j in
-      let then : heap_of w.new ≡ yard_heap us j = sym (heap_at vs j w.new w.new_is) ∙ sym (heap_same vs us later_same j) in
+      let first : heap_of w.old ≡ heap_of_worker zs j = sym (heap_at ws j w.old w.old_is) ∙ heap_by_world zs ws same j in
+      let then : heap_of w.new ≡ heap_of_worker us j = sym (heap_at vs j w.new w.new_is) ∙ sym (heap_by_world vs us later_same j) in
       let n : length us ≡ length zs = later_len ∙ (c ∙ len) in
       record {
-        between = record { made = run.made j; entries = record_of rs j; heap = yard_heap us j };
+        between = record { made = run.made j; entries = record_of rs j; heap = heap_of_worker us j };
         entries = refl;
         script = told_as sli _ _ _ _ _ _ _ _ (script_of scripts j) (run.made j) (record_of rs j) len w.number first then w.ran.told;
-        last = subst (λ (k : ℕ). MayTell sli k j (record { made = run.made j; entries = record_of rs j; heap = yard_heap us j }) last_call
-            (record { made = run.made j ++ None ∷ []; entries = record_of ss j; heap = yard_heap xs j })) n (told.told (run.made j));
+        last = subst (λ (k : ℕ). MayTell sli k j (record { made = run.made j; entries = record_of rs j; heap = heap_of_worker us j }) last_call
+            (record { made = run.made j ++ None ∷ []; entries = record_of ss j; heap = heap_of_worker xs j })) n (told.told (run.made j));
       }
 
   pub race_is : IsRace (world_of zs) scripts ss (world_of xs)
@@ -247,13 +247,13 @@ module _ {sli : ℕ} (zs ws vs us xs : List (Worker sli Lanes)) (scripts : List 
       let c = run.worker_count in
       let o = last.worker_count in
       let n : length (map heap_of zs) ≡ length zs = length-map zs heap_of in
-      let kept : capacity_in us ≡ capacity_in ws = capacity_same vs us later_same ∙ capacity_kept ws vs scripts rs run in
+      let kept : capacity_in us ≡ capacity_in ws = capacity_by_world vs us later_same ∙ capacity_kept ws vs scripts rs run in
       record {
         made = λ j. run.made j ++ None ∷ [];
         scripted = λ j. record_of rs j;
         heaps = length-map xs heap_of ∙ (o ∙ (later_len ∙ (c ∙ (len ∙ sym n))));
         records = last.record_count ∙ (run.record_count ∙ (len ∙ sym n));
-        capacity = last.capacity ∙ (kept ∙ capacity_same zs ws same);
+        capacity = last.capacity ∙ (kept ∙ capacity_by_world zs ws same);
         legal = λ j j_in.
             rw n (legal_in j (omega arith));
         agree = λ i j i_in j_in ne.
@@ -261,7 +261,7 @@ module _ {sli : ℕ} (zs ws vs us xs : List (Worker sli Lanes)) (scripts : List 
             let p = last.told i (omega arith) in
             let q = last.told j (omega arith) in
             agree_as (capacity_in ws) (capacity_in zs) i j (waits_in ws i j) (waits_in zs i j) (run.made i ++ None ∷ []) (record_of rs i ++ p.own) (record_of rs j ++ q.own) (record_of rs j)
-            (record_of ss i) (record_of ss j) (capacity_same zs ws same) (waits_same zs ws same i j) p.entries q.entries
+            (record_of ss i) (record_of ss j) (capacity_by_world zs ws same) (waits_same zs ws same i j) p.entries q.entries
             (records_agree (capacity_in ws) i j (waits_in ws i j) (waits_in us i j) (run.made i) (record_of rs i) (record_of rs j) l.agree p.own q.own p.is_drain q.is_drain (q.posts i));
         taken = λ i j. elim (cases_lt j (length us)) [
           | inl j_in ↦ last.empty i j j_in

@@ -6,7 +6,7 @@ use Rattle.tlsf_crew.specs.declared.worker.lanes.Lanes.{Lanes}
 use Rattle.tlsf_calls.specs.declared.reply.Reply.{Reply}
 use Rattle.tlsf_calls.specs.declared.entry.Entry.{Entry}
 use Rattle.tlsf_calls.specs.declared.event.Event.{Event}
-use Rattle.tlsf_crew.specs.model.World.{Replayed, after, no_heap, World, Draining, heap_in, made_by, name_of, called, draining, posting, releasing_named, taking, taking_next, took_first, took_more, drained_lane, drained_below, after_drain}
+use Rattle.tlsf_crew.specs.model.World.{Replayed, after, no_heap, World, DrainState, heap_in, made_by, name_of, called, draining, posting, releasing_named, taking, taking_next, took_first, took_more, drained_waiting, drained_below, after_drain}
 use Rattle.tlsf_crew.specs.replays.ReplaySteps.{IsReplied, replay_of, ConcernsCall, MayTake, AreLimits}
 use mathlib.Core.List.{IsPrefix}
 use Rattle.std.specs.Prelude.{slice_index}
@@ -39,12 +39,12 @@ use Rattle.tlsf_crew.specs.scripts.LaneMoves.{one, LaneMoved, Spent, SuitsCall, 
 use Rattle.tlsf_crew.proofs.lemmas.histories.DrainEntries.{drain_makes}
 use Rattle.tlsf_crew.proofs.lemmas.model.EventSteps.{after_near}
 use Rattle.tlsf_crew.proofs.lemmas.histories.AllEntries.{called_told, more_knows}
-use Rattle.tlsf_crew.proofs.lemmas.scripts.LaneMoves.{posted_same, taken_same}
+use Rattle.tlsf_crew.proofs.lemmas.scripts.LaneMoves.{posts_made_by_post, taken_same}
 use Rattle.tlsf_crew.proofs.lemmas.histories.LaneCalls.{of_other}
-use Rattle.tlsf_crew.proofs.lemmas.lanes.LaneSettled.{none_wait, none_for, settled_waits, settled_room, capacity_same, waits_same}
+use Rattle.tlsf_crew.proofs.lemmas.lanes.LaneSettled.{none_wait, none_for, settled_waits, settled_room, capacity_by_world, waits_same}
 use Rattle.tlsf_crew.proofs.lemmas.histories.JoinedEntries.{taken_then, IsHistory, told_nothing}
 use Rattle.tlsf_crew.proofs.lemmas.lanes.LaneChanges.{heaps_count, heap_in_is}
-use Rattle.tlsf_crew.proofs.lemmas.model.OneEvent.{from_other, from_own, releasing_post, releasing_far, taking_own, taking_far, taking_lane}
+use Rattle.tlsf_crew.proofs.lemmas.model.OneEvent.{from_other, from_own, release_capacity, releasing_post, releasing_far, taking_own, taking_far, taking_lane}
 use Rattle.tlsf_crew.proofs.lemmas.model.Sums.{least_sum}
 use Rattle.tlsf_crew.proofs.lemmas.worker.Slots.{get_set_same, get_set_other, some_same}
 use Rattle.tlsf_crew.proofs.lemmas.lanes.LaneSlots.{map_same}
@@ -112,14 +112,14 @@ at_us r = get_set_same r.vs (at_of r) r.v (at_in r)
 us_capacity : {sli : ℕ} (r : Run sli) → capacity_in (us_of r) ≡ capacity_in r.vs
 us_capacity r = let m = moved_of r in ap (λ (l : List (ℕ × ℕ)). (get_or l 0 (0, 0)).1) (map_same id_and_capacity r.vs (at_of r) r.a r.v r.is m.numbers)
 
-post_other : {sli : ℕ} (r : Run sli) (i j : ℕ) → i ≢ at_of r → post_at (us_of r) i j ≡ post_at r.vs i j
-post_other r i j ne = ap (λ o. end_to_in o j) (get_set_other r.vs (at_of r) i r.v ne)
+post_at_other : {sli : ℕ} (r : Run sli) (i j : ℕ) → i ≢ at_of r → post_at (us_of r) i j ≡ post_at r.vs i j
+post_at_other r i j ne = ap (λ o. end_to_in o j) (get_set_other r.vs (at_of r) i r.v ne)
 
-take_other : {sli : ℕ} (r : Run sli) (i j : ℕ) → j ≢ at_of r → take_at (us_of r) i j ≡ take_at r.vs i j
-take_other r i j ne = ap (λ o. end_from_in o i) (get_set_other r.vs (at_of r) j r.v ne)
+take_at_other : {sli : ℕ} (r : Run sli) (i j : ℕ) → j ≢ at_of r → take_at (us_of r) i j ≡ take_at r.vs i j
+take_at_other r i j ne = ap (λ o. end_from_in o i) (get_set_other r.vs (at_of r) j r.v ne)
 
-post_own : {sli : ℕ} (r : Run sli) (j : ℕ) → post_at (us_of r) (at_of r) j ≡ end_to r.v j
-post_own r j = ap (λ o. end_to_in o j) (at_us r)
+post_at_own : {sli : ℕ} (r : Run sli) (j : ℕ) → post_at (us_of r) (at_of r) j ≡ end_to r.v j
+post_at_own r j = ap (λ o. end_to_in o j) (at_us r)
 
 own_end : {sli : ℕ} (r : Run sli) (i : ℕ) → take_at (us_of r) i (at_of r) ≡ end_from r.v i
 own_end r i = ap (λ o. end_from_in o i) (at_us r)
@@ -140,7 +140,7 @@ lane_took r ws zs i ne m n =
     let t = mv.taken i m.new_take (take_was r i ∙ m.new_take_is) in
     let took = posts_taken i at (own_of r) in
     let take_is : n.take ≡ t.end = some_same n.take t.end (sym n.take_is ∙ (own_end r i ∙ t.end_is)) in
-    let post_is : n.post ≡ m.new_post = some_same n.post m.new_post (sym n.post_is ∙ (post_other r i at ne ∙ m.new_post_is)) in
+    let post_is : n.post ≡ m.new_post = some_same n.post m.new_post (sym n.post_is ∙ (post_at_other r i at ne ∙ m.new_post_is)) in
     let gone : taken n.take ≡ took = ap taken take_is ∙ (t.taken ∙ ap (λ l. l ++ took) m.beside.fresh.1) in
     let had : waited n.take ≡ waited m.new_take = ap waited take_is ∙ t.waited in
     let sent : posts_sent n.post ≡ [] = ap posts_sent post_is ∙ m.beside.fresh.0 in
@@ -154,8 +154,8 @@ lane_sent r ws zs s j j_in ne m n =
     let mv = moved_of r in
     let e = mv.sent j m.new_post (post_was r j ∙ m.new_post_is) in
     let posts = posts_made at j (r.made ++ []) (own_of r) in
-    let post_is : n.post ≡ e.end = some_same n.post e.end (sym n.post_is ∙ (post_own r j ∙ e.end_is)) in
-    let take_is : n.take ≡ m.new_take = some_same n.take m.new_take (sym n.take_is ∙ (take_other r at j (λ q. ne (sym q)) ∙ m.new_take_is)) in
+    let post_is : n.post ≡ e.end = some_same n.post e.end (sym n.post_is ∙ (post_at_own r j ∙ e.end_is)) in
+    let take_is : n.take ≡ m.new_take = some_same n.take m.new_take (sym n.take_is ∙ (take_at_other r at j (λ q. ne (sym q)) ∙ m.new_take_is)) in
     let sent : posts_sent n.post ≡ posts = ap posts_sent post_is ∙ (e.sent ∙ ap (λ l. l ++ posts) m.beside.fresh.0) in
     let gone : taken n.take ≡ [] = ap taken take_is ∙ m.beside.fresh.1 in
     let order : waited n.new_take ≡ waited m.new_take ++ posts =
@@ -167,7 +167,7 @@ lane_sent r ws zs s j j_in ne m n =
     let room = settled_room (us_of r) zs at j (omega arith) (omega arith) ne s.yard n in
     let now = ap length (settled_waits (us_of r) zs at j n) in
     let before = ap length (settled_waits ws r.vs at j m) in
-    omega (arith, capacity_same (us_of r) zs s.world, us_capacity r)
+    omega (arith, capacity_by_world (us_of r) zs s.world, us_capacity r)
 
 no_rest : (waits took rest : List Post) → waits ≡ took ++ rest → IsPrefix waits took → rest ≡ []
 no_rest waits took rest e p =
@@ -175,9 +175,9 @@ no_rest waits took rest e p =
     let b = sym (length-append waits p.0) ∙ ap length p.1 in
     nil_from_length rest (omega arith)
 
-spent_all : {sli : ℕ} (r : Run sli) (ws : List (Worker sli Lanes)) (i : ℕ) (own : List Entry) → (m : LaneSettled ws r.vs i (at_of r)) → length (ready m.new_take) ≤ slice_index r.limits i → Spent r.a r.limits (at_of r) i own
+spent_within : {sli : ℕ} (r : Run sli) (ws : List (Worker sli Lanes)) (i : ℕ) (own : List Entry) → (m : LaneSettled ws r.vs i (at_of r)) → length (ready m.new_take) ≤ slice_index r.limits i → Spent r.a r.limits (at_of r) i own
     → IsPrefix (waits_in r.vs i (at_of r)) (posts_taken i (at_of r) own)
-spent_all r ws i own m le spent =
+spent_within r ws i own m le spent =
     let known : ready m.new_take ≡ waits_in r.vs i (at_of r) = m.beside.fresh.2 ∙ sym (settled_waits ws r.vs i (at_of r) m) in
     subst (λ l. IsPrefix l (posts_taken i (at_of r) own)) (take_all (slice_index r.limits i) (ready m.new_take) le ∙ known) (spent m.new_take (take_was r i ∙ m.new_take_is))
 
@@ -199,7 +199,7 @@ room_in r ws zs s target name c known ne lt e full =
     let own = single_of r (λ most d. let q : Release target ≡ Drain most = sym c ∙ d in cc) in
     let posted : posts_made at j (r.made ++ []) (own_of r) ≡ record { from = at; name = name } ∷ [] =
     ap (posts_made at j (r.made ++ [])) (own ∙ (ap (λ x. one at x r.reply) c ∙ ap (λ y. one at (Release target) y) e))
-    ∙ posted_same at (r.made ++ []) target name (more_knows r.made [] target name known) in
+    ∙ posts_made_by_post at (r.made ++ []) target name (more_knows r.made [] target name known) in
     let p = ap length posted in
     absurd (omega arith)
 
@@ -242,7 +242,7 @@ empty_in r ws zs s from c ne lt e =
     let spent = mv.empty [] entry from ([], own) c e in
     let few = r.yard.few in
     let le = s.limits (subst MayTake (sym c) tt) from m.new_take (omega arith) (take_was r from ∙ m.new_take_is) in
-    let p = spent_all r ws from [] m le spent in
+    let p = spent_within r ws from [] m le spent in
     let k = sym (length-append (waits_in r.vs from at) p.0) ∙ ap length p.1 in
     nil_from_length (waits_in r.vs from at) (omega arith)
 
@@ -264,7 +264,7 @@ drain_in r ws zs s most c k lt ne =
       waits,
       elim (r.step.each most c k lt ne) [
         | inl all ↦ inl all
-        | inr spent ↦ inr (no_rest (waits_in r.vs k at) (posts_taken k at r.step.step.own) (waited n.new_take) waits (spent_all r ws k r.step.step.own m le spent))
+        | inr spent ↦ inr (no_rest (waits_in r.vs k at) (posts_taken k at r.step.step.own) (waited n.new_take) waits (spent_within r ws k r.step.step.own m le spent))
       ],
     )
 
@@ -365,23 +365,6 @@ far_lane_waits w at j (Some name) far = elim (cases_eq name.heap at) [
 
 -- ---- the capacity of a world
 
-posting_capacity : {sli : ℕ} (w : World sli) (at : ℕ) (name : Name) → (posting w at name).world.capacity ≡ w.capacity
-unfolding posting
-posting_capacity w at name = elim (cases_eq (length (w.waiting at name.heap)) w.capacity) [
-  | inl e ↦ let b : (length (w.waiting at name.heap) == w.capacity) ≡ true = grind (arith, nat_tests) in rw b refl
-  | inr e ↦ let b : (length (w.waiting at name.heap) == w.capacity) ≡ false = grind (arith, nat_tests) in rw b refl
-]
-
-release_capacity : {sli : ℕ} (w : World sli) (at : ℕ) (o : Option Name) → (releasing_named w at o).world.capacity ≡ w.capacity
-release_capacity w at None = refl
-release_capacity w at (Some name) = elim (cases_eq name.heap at) [
-  | inl own ↦ let b : (name.heap == at) ≡ true = grind (arith, nat_tests) in rw b refl
-  | inr ne ↦ elim (cases_lt name.heap (length w.heaps)) [
-    | inl lt ↦ rw (releasing_post w at name ne lt) (posting_capacity w at name)
-    | inr ge ↦ rw (releasing_far w at name ne ge) refl
-  ]
-]
-
 first_capacity : {sli : ℕ} (w : World sli) (at from : ℕ) (ps : List Post) → (took_first w at from ps).world.capacity ≡ w.capacity
 first_capacity w at from [] = refl
 first_capacity w at from (p ∷ rest) = refl
@@ -399,31 +382,31 @@ take_capacity w at from = elim (cases_eq from at) [
   ]
 ]
 
-lane_capacity : {sli : ℕ} (at from : ℕ) (ps : List Post) (d : Draining sli) → (fold (took_more at from) d ps).world.capacity ≡ d.world.capacity
+lane_capacity : {sli : ℕ} (at from : ℕ) (ps : List Post) (d : DrainState sli) → (fold (took_more at from) d ps).world.capacity ≡ d.world.capacity
 lane_capacity at from [] d = refl
 lane_capacity at from (p ∷ ps) d = lane_capacity at from ps (took_more at from d p)
 
-drained_capacity : {sli : ℕ} (at most from : ℕ) (d : Draining sli) → (drained_lane at most from d).world.capacity ≡ d.world.capacity
-unfolding drained_lane
-drained_capacity at most from d = lane_capacity at from (take (most - d.taken) (d.world.waiting from at)) d
+drained_waiting_capacity : {sli : ℕ} (at most from : ℕ) (d : DrainState sli) → (drained_waiting at most from d).world.capacity ≡ d.world.capacity
+unfolding drained_waiting
+drained_waiting_capacity at most from d = lane_capacity at from (take (most - d.taken) (d.world.waiting from at)) d
 
-below_capacity : {sli : ℕ} (at most : ℕ) (d : Draining sli) (k : ℕ) → (drained_below at most d k).world.capacity ≡ d.world.capacity
+below_capacity : {sli : ℕ} (at most : ℕ) (d : DrainState sli) (k : ℕ) → (drained_below at most d k).world.capacity ≡ d.world.capacity
 below_capacity at most d zero = refl
 below_capacity at most d (suc k) =
     let b = drained_below at most d k in
     elim (cases_eq k at) [
       | inl e ↦ rw (from_own at most b k e) (below_capacity at most d k)
-      | inr ne ↦ rw (from_other at most b k ne) (drained_capacity at most k b ∙ below_capacity at most d k)
+      | inr ne ↦ rw (from_other at most b k ne) (drained_waiting_capacity at most k b ∙ below_capacity at most d k)
     ]
 
-drain_capacity : {sli : ℕ} (r : Replayed sli) (at most : ℕ) → (draining r at most).world.capacity ≡ r.world.capacity
+draining_capacity : {sli : ℕ} (r : Replayed sli) (at most : ℕ) → (draining r at most).world.capacity ≡ r.world.capacity
 unfolding draining after_drain
-drain_capacity r at most = below_capacity at most (record { entries = r.entries; world = r.world; taken = 0 }) (length r.world.heaps)
+draining_capacity r at most = below_capacity at most (record { entries = r.entries; world = r.world; taken = 0 }) (length r.world.heaps)
 
 called_capacity : {sli : ℕ} (r : Replayed sli) (at : ℕ) (call : Call) → (called r at call).world.capacity ≡ r.world.capacity
 called_capacity r at (Release target) = release_capacity r.world at (name_of r.made target)
 called_capacity r at (Take from) = take_capacity r.world at from
-called_capacity r at (Drain most) = drain_capacity r at most
+called_capacity r at (Drain most) = draining_capacity r at most
 called_capacity r at call = refl
 
 -- ---- the model's world is the yard's
@@ -542,8 +525,8 @@ sent_same r ws zs s m j lt ne =
     let e = mv.sent j h.0 (post_was r j ∙ h.2) in
     let t = h.1 in
     let was : waits_in r.vs at j ≡ drop (length (taken t)) (waited t ++ posts_sent h.0) = rw (h.2, h.3) refl in
-    let post_is : post_at (us_of r) at j ≡ Some e.end = post_own r j ∙ e.end_is in
-    let take_is : take_at (us_of r) at j ≡ Some t = take_other r at j ne ∙ h.3 in
+    let post_is : post_at (us_of r) at j ≡ Some e.end = post_at_own r j ∙ e.end_is in
+    let take_is : take_at (us_of r) at j ≡ Some t = take_at_other r at j ne ∙ h.3 in
     let now : waits_in (us_of r) at j ≡ drop (length (taken t)) (waited t ++ (posts_sent h.0 ++ posts)) = lane_of (post_at (us_of r) at j) (take_at (us_of r) at j) e.end t post_is take_is ∙ ap (λ l. drop (length (taken t)) (waited t ++ l)) e.sent in
     model ∙ elim (posts_or at j r.made (r.made ++ []) r.call m.name (own_of r) m.tells) [
       | inl quiet ↦
@@ -572,7 +555,7 @@ taken_same_lane r m i lt ne =
     let t = h.1 in
     let e = mv.taken i t (take_was r i ∙ h.3) in
     let was : waits_in r.vs i at ≡ drop (length (taken t)) (waited t ++ posts_sent h.0) = rw (h.2, h.3) refl in
-    let post_is : post_at (us_of r) i at ≡ Some h.0 = post_other r i at ne ∙ h.2 in
+    let post_is : post_at (us_of r) i at ≡ Some h.0 = post_at_other r i at ne ∙ h.2 in
     let take_is : take_at (us_of r) i at ≡ Some e.end = own_end r i ∙ e.end_is in
     let count : length (taken e.end) ≡ length (taken t) + length took = ap length e.taken ∙ length-append (taken t) took in
     let now : waits_in (us_of r) i at ≡ drop (length (taken t) + length took) (waited t ++ posts_sent h.0) =
@@ -609,21 +592,21 @@ lanes_same r ws zs s m i j =
             let model : waits_in r.vs i j ≡ (after_of r).world.waiting i j =
             sym (ap (λ l. waits_in r.vs i j ++ l) made ∙ append-nil (waits_in r.vs i j)) ∙ (m.history.posts i j ∙ ap (λ l. l ++ (after_of r).world.waiting i j) taken) in
             let now : waits_in (us_of r) i j ≡ waits_in r.vs i j =
-            ap (λ o. lane_waits o (take_at (us_of r) i j)) (post_other r i j ne) ∙ ap (λ o. lane_waits (post_at r.vs i j) o) (take_other r i j apart) in
+            ap (λ o. lane_waits o (take_at (us_of r) i j)) (post_at_other r i j ne) ∙ ap (λ o. lane_waits (post_at r.vs i j) o) (take_at_other r i j apart) in
             sym model ∙ sym now
       ]
     ]
 
-world_same : {sli : ℕ} (r : Run sli) (ws zs : List (Worker sli Lanes)) → Settles r ws zs → Model r (after_of r) → (after_of r).world ≡ world_of (us_of r)
+model_world : {sli : ℕ} (r : Run sli) (ws zs : List (Worker sli Lanes)) → Settles r ws zs → Model r (after_of r) → (after_of r).world ≡ world_of (us_of r)
 unfolding world_of
-world_same r ws zs s m =
+model_world r ws zs s m =
     same_world (after_of r).world (world_of (us_of r)) (heaps_stay r (after_of r) m) (lanes_same r ws zs s m) (called_capacity (begun_of r) (at_of r) r.call ∙ sym (us_capacity r))
 
 -- the call leaves what the model says
 ran : {sli : ℕ} (r : Run sli) (ws zs : List (Worker sli Lanes)) → Settles r ws zs → after_of r ≡ replay_of (r.made ++ made_by r.reply ∷ []) (r.longer ++ one (at_of r) r.call r.reply) zs
 ran r ws zs s =
     let m = model r ws zs s in
-    let w : (after_of r).world ≡ world_of zs = world_same r ws zs s m ∙ sym s.world in
+    let w : (after_of r).world ≡ world_of zs = model_world r ws zs s m ∙ sym s.world in
     λ k. record { made = m.made k; entries = m.entries k; world = w k }
 
 pub replied : {sli : ℕ} (r : Run sli) (ws zs : List (Worker sli Lanes)) (event : Event) → Settles r ws zs → world_of r.vs ≡ world_of ws → event.worker ≡ at_of r → event.call ≡ r.call

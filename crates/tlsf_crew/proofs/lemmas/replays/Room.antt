@@ -15,8 +15,8 @@ use Rattle.tlsf_calls.specs.declared.reply.Reply.TheVariants.{Drained, Refused}
 use Rattle.tlsf_calls.specs.declared.crew_refusal.CrewRefusal.TheVariants.{Stranger}
 use Rattle.tlsf_calls.specs.Bytes.{bytes_of}
 use Rattle.tlsf_crew.specs.model.Heaps.{released}
-use Rattle.tlsf_crew.specs.model.OwnReplies.{OwnReplied, own_allocating, own_reading, own_resizing, own_writing}
-use Rattle.tlsf_crew.specs.model.World.{World, Replied, Replayed, with_heap, with_waiting, heap_in, by_own, posting, releasing, releasing_named, taking, taking_next, took_first, took, took_more, Draining, drained_lane, drained_below, after_drain, draining, answered, called, after, resumed, name_of}
+use Rattle.tlsf_crew.specs.model.OwnReplies.{HeapReply, own_allocating, own_reading, own_resizing, own_writing}
+use Rattle.tlsf_crew.specs.model.World.{World, WorldReply, Replayed, with_heap, with_waiting, heap_in, by_own, posting, releasing, releasing_named, taking, taking_next, took_first, took, took_more, DrainState, drained_waiting, drained_below, after_drain, draining, answered, called, after, resumed, name_of}
 use Rattle.tlsf_crew.specs.lanes.Yard.{world_of, IsYard, waits_in}
 use Rattle.tlsf_crew.specs.model.Sums.{sum_below, waiting_count}
 use Rattle.tlsf_crew.specs.scripts.Counts.{is_release, releases_in}
@@ -68,7 +68,7 @@ named_waits : {sli : ℕ} (w : World sli) (at : ℕ) (name : Option Name) → at
 named_waits w at None at_in = omega arith
 named_waits w at (Some name) at_in = release_waits w at name at_in
 
-own_waits : {sli : ℕ} (w : World sli) (at : ℕ) (by : HeapState → OwnReplied) → waiting_count (by_own w at by).world ≤ waiting_count w
+own_waits : {sli : ℕ} (w : World sli) (at : ℕ) (by : HeapState → HeapReply) → waiting_count (by_own w at by).world ≤ waiting_count w
 own_waits w at by = let h = heap_waits w at (by (heap_in w at)).heap in omega arith
 
 -- a take takes one post out
@@ -80,13 +80,13 @@ took_waits w at from p rest at_in from_in e =
     let n : length (w.waiting from at) ≡ length rest + 1 = ap length e ∙ omega arith in
     omega arith
 
-first_waits : {sli : ℕ} (w : World sli) (at from : ℕ) (ps : List Post) → at < length w.heaps → from < length w.heaps → w.waiting from at ≡ ps → waiting_count (took_first w at from ps).world ≤ waiting_count w
-first_waits w at from [] at_in from_in e = omega arith
-first_waits w at from (p ∷ rest) at_in from_in e = let a = took_waits w at from p rest at_in from_in e in omega arith
+took_first_waits : {sli : ℕ} (w : World sli) (at from : ℕ) (ps : List Post) → at < length w.heaps → from < length w.heaps → w.waiting from at ≡ ps → waiting_count (took_first w at from ps).world ≤ waiting_count w
+took_first_waits w at from [] at_in from_in e = omega arith
+took_first_waits w at from (p ∷ rest) at_in from_in e = let a = took_waits w at from p rest at_in from_in e in omega arith
 
 next_waits : {sli : ℕ} (w : World sli) (at from : ℕ) → at < length w.heaps → from < length w.heaps → waiting_count (taking_next w at from).world ≤ waiting_count w
 unfolding taking_next
-next_waits w at from at_in from_in = first_waits w at from (w.waiting from at) at_in from_in refl
+next_waits w at from at_in from_in = took_first_waits w at from (w.waiting from at) at_in from_in refl
 
 take_waits : {sli : ℕ} (w : World sli) (at from : ℕ) → at < length w.heaps → waiting_count (taking w at from).world ≤ waiting_count w
 take_waits w at from at_in =
@@ -99,13 +99,13 @@ take_waits w at from at_in =
     ]
 
 -- each post that a drain takes makes one entry
-abbrev IsEven : {sli : ℕ} → Draining sli → Draining sli → Type 0
+abbrev IsEven : {sli : ℕ} → DrainState sli → DrainState sli → Type 0
 IsEven d b = (length b.entries + waiting_count b.world ≡ length d.entries + waiting_count d.world) × (length b.world.heaps ≡ length d.world.heaps)
 
-even_then : {sli : ℕ} (d b e : Draining sli) → IsEven d b → IsEven b e → IsEven d e
+even_then : {sli : ℕ} (d b e : DrainState sli) → IsEven d b → IsEven b e → IsEven d e
 even_then d b e x y = (y.0 ∙ x.0, y.1 ∙ x.1)
 
-lane_even : {sli : ℕ} (at from : ℕ) (rest ps : List Post) (d : Draining sli) → at < length d.world.heaps → from < length d.world.heaps → d.world.waiting from at ≡ ps ++ rest
+lane_even : {sli : ℕ} (at from : ℕ) (rest ps : List Post) (d : DrainState sli) → at < length d.world.heaps → from < length d.world.heaps → d.world.waiting from at ≡ ps ++ rest
     → IsEven d (fold (took_more at from) d ps)
 lane_even at from rest [] d at_in from_in e = (refl, refl)
 lane_even at from rest (p ∷ ps) d at_in from_in e =
@@ -118,13 +118,13 @@ lane_even at from rest (p ∷ ps) d at_in from_in e =
     even_then d (took_more at from d p) (fold (took_more at from) (took_more at from d p) ps) step (lane_even at from rest ps (took_more at from d p) (omega arith) (omega arith)
     (edited_same d.world.waiting from at (drop 1 (d.world.waiting from at)) ∙ next))
 
-drained_even : {sli : ℕ} (at most from : ℕ) (d : Draining sli) → at < length d.world.heaps → from < length d.world.heaps → IsEven d (drained_lane at most from d)
-unfolding drained_lane
-drained_even at most from d at_in from_in =
+drained_waiting_even : {sli : ℕ} (at most from : ℕ) (d : DrainState sli) → at < length d.world.heaps → from < length d.world.heaps → IsEven d (drained_waiting at most from d)
+unfolding drained_waiting
+drained_waiting_even at most from d at_in from_in =
     let m = most - d.taken in
     lane_even at from (drop m (d.world.waiting from at)) (take m (d.world.waiting from at)) d at_in from_in (sym (take-append-drop m (d.world.waiting from at)))
 
-below_even : {sli : ℕ} (at most : ℕ) (d : Draining sli) (k : ℕ) → at < length d.world.heaps → k ≤ length d.world.heaps → IsEven d (drained_below at most d k)
+below_even : {sli : ℕ} (at most : ℕ) (d : DrainState sli) (k : ℕ) → at < length d.world.heaps → k ≤ length d.world.heaps → IsEven d (drained_below at most d k)
 below_even at most d zero at_in le = (refl, refl)
 below_even at most d (suc k) at_in le =
     let b = drained_below at most d k in
@@ -132,17 +132,17 @@ below_even at most d (suc k) at_in le =
     let len = h.1 in
     elim (cases_eq k at) [
       | inl e ↦ rw (from_own at most b k e) h
-      | inr e ↦ rw (from_other at most b k e) (even_then d b (drained_lane at most k b) h (drained_even at most k b (omega arith) (omega arith)))
+      | inr e ↦ rw (from_other at most b k e) (even_then d b (drained_waiting at most k b) h (drained_waiting_even at most k b (omega arith) (omega arith)))
     ]
 
-all_even : {sli : ℕ} (at most : ℕ) (d : Draining sli) → at < length d.world.heaps → IsEven d (after_drain at most d)
+all_even : {sli : ℕ} (at most : ℕ) (d : DrainState sli) → at < length d.world.heaps → IsEven d (after_drain at most d)
 unfolding after_drain
 all_even at most d at_in = below_even at most d (length d.world.heaps) at_in (omega arith)
 
-drain_even : {sli : ℕ} (r : Replayed sli) (at most : ℕ) → at < length r.world.heaps → length (draining r at most).entries + waiting_count (draining r at most).world ≡ length r.entries + waiting_count r.world + 1
+draining_even : {sli : ℕ} (r : Replayed sli) (at most : ℕ) → at < length r.world.heaps → length (draining r at most).entries + waiting_count (draining r at most).world ≡ length r.entries + waiting_count r.world + 1
 unfolding draining
-drain_even {sli} r at most at_in =
-    let d : Draining sli = record { entries = r.entries; world = r.world; taken = 0 } in
+draining_even {sli} r at most at_in =
+    let d : DrainState sli = record { entries = r.entries; world = r.world; taken = 0 } in
     let a = (all_even at most d at_in).0 in
     let n = length_push (after_drain at most d).entries (record { worker = at; call = Drain most; reply = Drained (after_drain at most d).taken }) in
     omega arith
@@ -151,7 +151,7 @@ drain_even {sli} r at most at_in =
 abbrev later : Call → ℕ
 later call = cond (is_release call) 1 0
 
-answered_room : {sli : ℕ} (r : Replayed sli) (at : ℕ) (call : Call) (a : Replied sli) → waiting_count a.world ≤ waiting_count r.world + later call
+answered_room : {sli : ℕ} (r : Replayed sli) (at : ℕ) (call : Call) (a : WorldReply sli) → waiting_count a.world ≤ waiting_count r.world + later call
     → length (answered r at call a).entries + waiting_count (answered r at call a).world ≤ length r.entries + waiting_count r.world + 1 + later call
 answered_room r at call a le = let n = length_push r.entries (record { worker = at; call = call; reply = a.reply }) in omega arith
 
@@ -163,7 +163,7 @@ called_room {sli} r at (Write target from bytes) at_in = answered_room r at (Wri
 called_room {sli} r at (Read target from n) at_in = answered_room r at (Read target from n) _ (let h = own_waits r.world at (λ h. own_reading h (name_of r.made target) from n) in omega arith)
 called_room {sli} r at (Resize target len) at_in = answered_room r at (Resize target len) _ (let h = own_waits r.world at (λ h. own_resizing h (name_of r.made target) len) in omega arith)
 called_room {sli} r at (Take from) at_in = answered_room r at (Take from) _ (let h = take_waits r.world at from at_in in omega arith)
-called_room {sli} r at (Drain most) at_in = let a = drain_even r at most at_in in omega arith
+called_room {sli} r at (Drain most) at_in = let a = draining_even r at most at_in in omega arith
 
 after_room : {sli : ℕ} (r : Replayed sli) (e : Event) → length (after r e).entries + waiting_count (after r e).world ≤ length r.entries + waiting_count r.world + 1 + later e.call
 after_room r e =

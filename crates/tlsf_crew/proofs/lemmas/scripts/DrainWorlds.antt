@@ -14,13 +14,13 @@ use Rattle.tlsf_calls.specs.declared.reply.Reply.TheVariants.{Drained}
 use Rattle.tlsf_crew.specs.model.Heaps.{released}
 use Rattle.tlsf_crew.specs.worker.Workers.{heap_of, id_of}
 use Rattle.tlsf_crew.specs.lanes.LaneWorkers.{KnowsYard}
-use Rattle.tlsf_crew.specs.model.World.{no_heap, World, Draining, heap_in, called, draining, after_drain, drained_below, drained_lane, took_more}
-use Rattle.tlsf_crew.specs.model.Told.{MayTell, HasHeap, told_by}
+use Rattle.tlsf_crew.specs.model.World.{no_heap, World, DrainState, heap_in, called, draining, after_drain, drained_below, drained_waiting, took_more}
+use Rattle.tlsf_crew.specs.model.Progress.{MayTell, HasHeap, told_by}
 use Rattle.tlsf_crew.specs.model.Sums.{sum_below}
 use Rattle.tlsf_crew.specs.histories.History.{posts_taken}
-use Rattle.tlsf_crew.specs.scripts.LaneMoves.{one, Spent, OwnDrain, lane_own, each_lane_own, own_drain, EachLaneTaken, EachLaneSpent, SuitsDrain, LaneStepped}
+use Rattle.tlsf_crew.specs.scripts.LaneMoves.{one, Spent, WorkerDrain, took_posts, took_each_lane, drain_at, EachLaneTaken, EachLaneSpent, SuitsDrain, LaneStepped}
 use Rattle.tlsf_crew.specs.scripts.Scripts.{Stage, told_of}
-use Rattle.tlsf_crew.proofs.lemmas.scripts.LaneTakes.{lanes_other_turn, each_lane_own_turn, count_below, lanes_taken_count}
+use Rattle.tlsf_crew.proofs.lemmas.scripts.LaneTakes.{lanes_other_turn, took_each_lane_turn, count_below, lanes_taken_count}
 use Rattle.tlsf_crew.proofs.lemmas.model.Sums.{same_sum, sum_longer}
 use Rattle.tlsf_crew.proofs.lemmas.model.OneEvent.{from_other, from_own}
 use Rattle.tlsf_crew.proofs.lemmas.scripts.OneEntry.{IsIdle, moved_idle}
@@ -28,16 +28,16 @@ use Rattle.tlsf_crew.proofs.lemmas.scripts.Witnesses.{a_world, world_has}
 use Rattle.tlsf_crew.proofs.lemmas.model.Edits.{edited_other}
 
 -- what its worker sees of a drain
-abbrev own_of : {sli : ℕ} → ℕ → Draining sli → OwnDrain
+abbrev own_of : {sli : ℕ} → ℕ → DrainState sli → WorkerDrain
 own_of at d = record { entries = d.entries; heap = heap_in d.world at; taken = d.taken }
 
 -- takes from one lane leave the heaps' count and the other lanes
-record LaneWorld {sli : ℕ} (at from : ℕ) (posts : List Post) (d c : Draining sli) : Type 0 where
-  own : own_of at c ≡ lane_own at from (own_of at d) posts
+record LaneWorld {sli : ℕ} (at from : ℕ) (posts : List Post) (d c : DrainState sli) : Type 0 where
+  own : own_of at c ≡ took_posts at from (own_of at d) posts
   count : length c.world.heaps ≡ length d.world.heaps
   waits : (x : ℕ) → x ≢ from → c.world.waiting x at ≡ d.world.waiting x at
 
-one_world : {sli : ℕ} (at from : ℕ) (p : Post) (d : Draining sli) → at < length d.world.heaps → LaneWorld at from (p ∷ []) d (took_more at from d p)
+one_world : {sli : ℕ} (at from : ℕ) (p : Post) (d : DrainState sli) → at < length d.world.heaps → LaneWorld at from (p ∷ []) d (took_more at from d p)
 one_world at from p d lt =
     let h = (released (heap_in d.world at) p.name).heap in
     let c = took_more at from d p in
@@ -47,39 +47,39 @@ one_world at from p d lt =
       waits = λ x ne. edited_other d.world.waiting from at x at (drop 1 (d.world.waiting from at)) (λ e _. ne e);
     }
 
-lane_world : {sli : ℕ} (at from : ℕ) (posts : List Post) (d : Draining sli) → at < length d.world.heaps → LaneWorld at from posts d (fold (took_more at from) d posts)
+lane_world : {sli : ℕ} (at from : ℕ) (posts : List Post) (d : DrainState sli) → at < length d.world.heaps → LaneWorld at from posts d (fold (took_more at from) d posts)
 lane_world at from [] d lt = record { own = refl; count = refl; waits = λ x ne. refl }
 lane_world at from (p ∷ posts) d lt =
     let x = one_world at from p d lt in
     let y = lane_world at from posts (took_more at from d p) (omega (arith, x.count)) in
     record {
-      own = y.own ∙ ap (λ o. lane_own at from o posts) x.own;
+      own = y.own ∙ ap (λ o. took_posts at from o posts) x.own;
       count = y.count ∙ x.count;
       waits = λ i ne. y.waits i ne ∙ x.waits i ne;
     }
 
 -- the lanes below a number
-record WorldBelow {sli : ℕ} (at : ℕ) (posts : ℕ → List Post) (k : ℕ) (d c : Draining sli) : Type 0 where
-  own : own_of at c ≡ each_lane_own at posts (own_of at d) k
+record WorldBelow {sli : ℕ} (at : ℕ) (posts : ℕ → List Post) (k : ℕ) (d c : DrainState sli) : Type 0 where
+  own : own_of at c ≡ took_each_lane at posts (own_of at d) k
   count : length c.world.heaps ≡ length d.world.heaps
   waits : (x : ℕ) → k ≤ x → c.world.waiting x at ≡ d.world.waiting x at
 
 -- one lane more, of which these posts are taken
-next_lane : {sli : ℕ} (at most k : ℕ) (posts : ℕ → List Post) (d c : Draining sli) → at < length d.world.heaps → WorldBelow at posts k d c → take (most - c.taken) (c.world.waiting k at) ≡ posts k → k ≢ at
-    → WorldBelow at posts (k + 1) d (drained_lane at most k c)
-unfolding drained_lane
+next_lane : {sli : ℕ} (at most k : ℕ) (posts : ℕ → List Post) (d c : DrainState sli) → at < length d.world.heaps → WorldBelow at posts k d c → take (most - c.taken) (c.world.waiting k at) ≡ posts k → k ≢ at
+    → WorldBelow at posts (k + 1) d (drained_waiting at most k c)
+unfolding drained_waiting
 next_lane at most k posts d c lt w all ne =
     let x = lane_world at k (posts k) c (omega (arith, w.count)) in
     let y : WorldBelow at posts (k + 1) d (fold (took_more at k) c (posts k)) = record {
-      own = x.own ∙ (ap (λ o. lane_own at k o (posts k)) w.own ∙ sym (lanes_other_turn at posts (own_of at d) k ne));
+      own = x.own ∙ (ap (λ o. took_posts at k o (posts k)) w.own ∙ sym (lanes_other_turn at posts (own_of at d) k ne));
       count = x.count ∙ w.count;
       waits = λ i le. x.waits i (λ e. absurd (omega arith)) ∙ w.waits i (omega arith);
     } in
     subst (λ l. WorldBelow at posts (k + 1) d (fold (took_more at k) c l)) (sym all) y
 
-own_lane : {sli : ℕ} (at k : ℕ) (posts : ℕ → List Post) (d c : Draining sli) → WorldBelow at posts k d c → k ≡ at → WorldBelow at posts (k + 1) d c
-own_lane at k posts d c w e = record {
-  own = w.own ∙ sym (each_lane_own_turn at posts (own_of at d) k e);
+own_turn_of_drain : {sli : ℕ} (at k : ℕ) (posts : ℕ → List Post) (d c : DrainState sli) → WorldBelow at posts k d c → k ≡ at → WorldBelow at posts (k + 1) d c
+own_turn_of_drain at k posts d c w e = record {
+  own = w.own ∙ sym (took_each_lane_turn at posts (own_of at d) k e);
   count = w.count;
   waits = λ i le. w.waits i (omega arith);
 }
@@ -99,7 +99,7 @@ take_first posts most k taken waits e le w =
       | inr none ↦ ap (λ r. take m (posts k ++ r)) none ∙ (ap (take m) (append-nil (posts k)) ∙ take_all m (posts k) (omega arith))
     ]
 
-world_below : {sli : ℕ} (at most n : ℕ) (posts : ℕ → List Post) (d : Draining sli) (k : ℕ) → k ≤ n → at < length d.world.heaps → d.taken ≡ 0 → ((i : ℕ) → i ≡ at → posts i ≡ [])
+world_below : {sli : ℕ} (at most n : ℕ) (posts : ℕ → List Post) (d : DrainState sli) (k : ℕ) → k ≤ n → at < length d.world.heaps → d.taken ≡ 0 → ((i : ℕ) → i ≡ at → posts i ≡ [])
     → ((x : ℕ) → x < n → x ≢ at → WaitsFirst posts most x (d.world.waiting x at)) → sum_below n (λ i. length (posts i)) ≤ most → WorldBelow at posts k d (drained_below at most d k)
 world_below at most n posts d zero le lt start none waits few = record { own = refl; count = refl; waits = λ x le. refl }
 world_below at most n posts d (suc k) le lt start none waits few =
@@ -107,25 +107,25 @@ world_below at most n posts d (suc k) le lt start none waits few =
     let next : k + 1 ≡ suc k = omega arith in
     let w = world_below at most n posts d k (omega arith) lt start none waits few in
     elim (cases_eq k at) [
-      | inl e ↦ rw (from_own at most c k e) (subst (λ n. WorldBelow at posts n d c) next (own_lane at k posts d c w e))
+      | inl e ↦ rw (from_own at most c k e) (subst (λ n. WorldBelow at posts n d c) next (own_turn_of_drain at k posts d c w e))
       | inr ne ↦
           let taken = ap (λ o. o.taken) w.own in
           let count = count_below at posts (own_of at d) k none in
           let longer = sum_longer (suc k) n (λ i. length (posts i)) le in
           let here = subst (WaitsFirst posts most k) (sym (w.waits k (omega arith))) (waits k (omega arith) ne) in
           let all = take_first posts most k c.taken (c.world.waiting k at) (omega arith) (omega arith) here in
-          rw (from_other at most c k ne) (subst (λ n. WorldBelow at posts n d (drained_lane at most k c)) next (next_lane at most k posts d c lt w all ne))
+          rw (from_other at most c k ne) (subst (λ n. WorldBelow at posts n d (drained_waiting at most k c)) next (next_lane at most k posts d c lt w all ne))
     ]
 
-all_world : {sli : ℕ} (at most n : ℕ) (posts : ℕ → List Post) (d : Draining sli) → length d.world.heaps ≡ n → at < n → d.taken ≡ 0 → ((i : ℕ) → i ≡ at → posts i ≡ [])
-    → ((x : ℕ) → x < n → x ≢ at → WaitsFirst posts most x (d.world.waiting x at)) → sum_below n (λ i. length (posts i)) ≤ most → own_of at (after_drain at most d) ≡ each_lane_own at posts (own_of at d) n
+all_world : {sli : ℕ} (at most n : ℕ) (posts : ℕ → List Post) (d : DrainState sli) → length d.world.heaps ≡ n → at < n → d.taken ≡ 0 → ((i : ℕ) → i ≡ at → posts i ≡ [])
+    → ((x : ℕ) → x < n → x ≢ at → WaitsFirst posts most x (d.world.waiting x at)) → sum_below n (λ i. length (posts i)) ≤ most → own_of at (after_drain at most d) ≡ took_each_lane at posts (own_of at d) n
 unfolding after_drain
 all_world at most n posts d len lt start none waits few =
     let w = world_below at most n posts d n (omega arith) (omega arith) start none waits few in
     ap (λ k. own_of at (drained_below at most d k)) len ∙ w.own
 
 -- what a drain tells, as its worker sees it
-drain_tells : {sli : ℕ} (made : List (Option Name)) (at most : ℕ) (es : List Entry) (w : World sli) (o : OwnDrain) → own_of at (after_drain at most (record { entries = es; world = w; taken = 0 })) ≡ o
+drain_tells : {sli : ℕ} (made : List (Option Name)) (at most : ℕ) (es : List Entry) (w : World sli) (o : WorkerDrain) → own_of at (after_drain at most (record { entries = es; world = w; taken = 0 })) ≡ o
     → told_by at (called (record { made = made; entries = es; world = w }) at (Drain most))
     ≡ record { made = made ++ None ∷ []; entries = o.entries ++ one at (Drain most) (Drained o.taken); heap = o.heap }
 unfolding draining
@@ -137,9 +137,9 @@ drain_exact : {sli : ℕ} (n : ℕ) (s t : Stage sli Lanes) (most : ℕ) (made :
     ≡ record { made = made ++ None ∷ []; entries = t.entries ++ one (id_of s.worker) (Drain most) (Drained count); heap = heap_of t.worker }
 drain_exact {sli} n s t most made count k few x w has suits =
     let at = id_of s.worker in
-    let d : Draining sli = record { entries = s.entries; world = w; taken = 0 } in
-    let start : own_of at d ≡ own_drain s 0 = ap (λ h. record { entries = s.entries; heap = h; taken = 0 }) has.1 in
-    let told : each_lane_own at x.posts (own_of at d) n ≡ own_drain t count = ap (λ o. each_lane_own at x.posts o n) start ∙ sym x.told in
+    let d : DrainState sli = record { entries = s.entries; world = w; taken = 0 } in
+    let start : own_of at d ≡ drain_at s 0 = ap (λ h. record { entries = s.entries; heap = h; taken = 0 }) has.1 in
+    let told : took_each_lane at x.posts (own_of at d) n ≡ drain_at t count = ap (λ o. took_each_lane at x.posts o n) start ∙ sym x.told in
     let none : (i : ℕ) → i ≡ at → x.posts i ≡ [] = λ i own. x.only i (λ _ h. let y = (k.from i).0 h in y.1 own) in
     let m = lanes_taken_count n s t n count k x in
     let waits : (i : ℕ) → i < n → i ≢ at → WaitsFirst x.posts most i (w.waiting i at) = λ i lt ne.
@@ -147,7 +147,7 @@ drain_exact {sli} n s t most made count k few x w has suits =
     let sums = same_sum (suc i) (λ j. length (x.posts j)) (λ j. length (posts_taken j at x.own)) (λ j _. ap length (x.posts_are j)) in
     (suit.0, suit.1 ∙ ap (λ l. l ++ suit.0) (x.posts_are i), elim suit.2 [ inl all ↦ inl (sym sums ∙ all) | inr rest ↦ inr rest ]) in
     let all = all_world at most n x.posts d has.0 k.self refl none waits (omega arith) in
-    drain_tells made at most s.entries w (own_drain t count) (all ∙ told)
+    drain_tells made at most s.entries w (drain_at t count) (all ∙ told)
 
 -- there is a world that suits
 drain_told : {sli : ℕ} (n : ℕ) (s t : Stage sli Lanes) (most : ℕ) (made : List (Option Name)) (count : ℕ) → KnowsYard n s.worker → count ≤ most → EachLaneTaken s n t count

@@ -79,9 +79,9 @@ none_free a v j post back p put is =
       | inr le ↦ omega (arith, ap free_slots q)
     ]
 
-pub posted_same : (at : ℕ) (made : List (Option Name)) (target : Target) (name : Name) → name_of made target ≡ Some name
+pub posts_made_by_post : (at : ℕ) (made : List (Option Name)) (target : Target) (name : Name) → name_of made target ≡ Some name
     → posts_made at name.heap made (one at (Release target) Posted) ≡ record { from = at; name = name } ∷ []
-posted_same at made target name known =
+posts_made_by_post at made target name known =
     let e : Entry = record { worker = at; call = Release target; reply = Posted } in
     let one = told_own (λ e. post_of_release name.heap made e.worker e.call e.reply) at e refl in
     rw (one, known, of_same name.heap name refl) refl
@@ -97,7 +97,7 @@ release_posts_elsewhere at j made target name known ne =
 posted_few : (at j : ℕ) (made : List (Option Name)) (target : Target) (name : Name) → name_of made target ≡ Some name
     → length (posts_made at j made (one at (Release target) Posted)) ≤ 1
 posted_few at j made target name known = elim (cases_eq j name.heap) [
-  | inl e ↦ let q = ap length (posted_same at made target name known) in rw e (omega arith)
+  | inl e ↦ let q = ap length (posts_made_by_post at made target name known) in rw e (omega arith)
   | inr e ↦ omega (arith, ap length (release_posts_elsewhere at j made target name known e))
 ]
 
@@ -106,7 +106,7 @@ post_sends : {sli : ℕ} (at : ℕ) (made : List (Option Name)) (a v : Worker sl
 post_sends at made a v target name done known put j p is = elim (cases_eq j name.heap) [
   | inl e ↦
       let q : p ≡ put.1.end = some_same p put.1.end (sym is ∙ (ap (end_to a) e ∙ put.1.end_is)) in
-      let m = posted_same at made target name known in
+      let m = posts_made_by_post at made target name known in
       record {
         end = put.1.new_end;
         end_is = ap (end_to v) e ∙ put.1.new_end_is;
@@ -220,9 +220,9 @@ taken_elsewhere at i k t ne =
     let none : f e ≡ None = rw other refl in
     told_nothing f at e none
 
-take_takes : {sli : ℕ} (at : ℕ) (a v : Worker sli Lanes) (i : ℕ) (t : Took) → TakeEndTook a v i (Some (record { from = t.from; name = t.name })) → (k : ℕ) (end : TakeEnd) → end_from a k ≡ Some end
+take_end_takes : {sli : ℕ} (at : ℕ) (a v : Worker sli Lanes) (i : ℕ) (t : Took) → TakeEndTook a v i (Some (record { from = t.from; name = t.name })) → (k : ℕ) (end : TakeEnd) → end_from a k ≡ Some end
     → TakeEndMoved at v k (one at (Take i) (Taken t)) end
-take_takes at a v i t took k end is = elim (cases_eq k i) [
+take_end_takes at a v i t took k end is = elim (cases_eq k i) [
   | inl e ↦
       let q : end ≡ took.1.end = some_same end took.1.end (sym is ∙ (ap (end_from a) e ∙ took.1.end_is)) in
       let m = taken_same at i t in
@@ -262,7 +262,7 @@ moved_take at made a v limits left i t near fewer took =
       numbers = (ports_numbers a v took.0 took.1.same.0);
       knows = λ n. knows_same n a v (same_after_take a v i (Some p) took);
       sent = λ j x is. same_sends at made a v j x (e ∷ []) took.1.same.1 (none j) is;
-      taken = take_takes at a v i t took;
+      taken = take_end_takes at a v i t took;
       left_is = taken_left at limits left i t fewer;
       full = λ before x name q s r is. let y = ap (λ z. z.reply) (the_one e before x s).1 in absurd cc;
       empty = λ before x k s c r. let y = ap (λ z. z.reply) (the_one e before x s).1 in absurd cc;

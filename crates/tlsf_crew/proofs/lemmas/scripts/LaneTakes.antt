@@ -23,7 +23,7 @@ use Rattle.tlsf_crew.specs.histories.History.{posts_taken}
 use Rattle.tlsf_crew.specs.worker.Notes.{SourceNoted, EachNoted, AllNoted, EachTakeNoted}
 use Rattle.tlsf_crew.specs.lanes.LaneNotes.{lane_rules}
 use Rattle.tlsf_crew.specs.scripts.Journals.{EntersTake, IsAdmitted}
-use Rattle.tlsf_crew.specs.scripts.LaneMoves.{one, Spent, LaneMoved, LaneTakenWithin, took_by, OwnDrain, took_own, lane_own, each_lane_own, own_drain, LaneTaken, LaneSpent, EachLaneTaken, EachLaneSpent}
+use Rattle.tlsf_crew.specs.scripts.LaneMoves.{one, Spent, LaneMoved, LaneTakenWithin, took_by, WorkerDrain, took_post, took_posts, took_each_lane, drain_at, LaneTaken, LaneSpent, EachLaneTaken, EachLaneSpent}
 use Rattle.tlsf_crew.specs.scripts.Scripts.{Stage, at_stage, stage_of}
 use Rattle.tlsf_crew.proofs.lemmas.lanes.YardKept.{same_keeps}
 use Rattle.tlsf_crew.proofs.lemmas.scripts.ManyEntries.{moved_then, spent_then, spent_more}
@@ -44,7 +44,7 @@ lane_none s from = record {
   own = [];
   entries_are = sym (append-nil s.entries);
   posts = [];
-  told = λ n. let e : n + 0 ≡ n = omega arith in ap (own_drain s) e;
+  told = λ n. let e : n + 0 ≡ n = omega arith in ap (drain_at s) e;
   here = refl;
   others = λ k ne. refl;
   count_is = refl;
@@ -77,15 +77,15 @@ lane_more {sli} s t v left from count took x y =
       count_is = omega (arith, x.count_is, length-append x.posts (p ∷ []));
       told = λ n.
           let e : n + (count + 1) ≡ n + count + 1 = omega arith in
-          let step : own_drain (at_stage v left (t.entries ++ last)) (n + count + 1) ≡ took_own at from (own_drain t (n + count)) p = lane_step at from t v left (n + count) p took y.2 y.3 in
-          ap (λ l. own_drain (at_stage v left l) (n + (count + 1))) all ∙ (ap (own_drain (at_stage v left (t.entries ++ last))) e ∙ (step ∙ (ap (λ d. took_own at from d p) (x.told n)
-          ∙ sym (fold-append (took_own at from) (own_drain s n) x.posts (p ∷ [])))));
+          let step : drain_at (at_stage v left (t.entries ++ last)) (n + count + 1) ≡ took_post at from (drain_at t (n + count)) p = lane_step at from t v left (n + count) p took y.2 y.3 in
+          ap (λ l. drain_at (at_stage v left l) (n + (count + 1))) all ∙ (ap (drain_at (at_stage v left (t.entries ++ last))) e ∙ (step ∙ (ap (λ d. took_post at from d p) (x.told n)
+          ∙ sym (fold-append (took_post at from) (drain_at s n) x.posts (p ∷ [])))));
       moved = λ made. moved_then at made s.worker t.worker v s.limits t.limits left [] [] x.own last (x.moved made)
           (moved_at at made t.worker v t.limits left (λ i. one i (Take from) (Taken took)) q (y.0 made));
     }
   where
     lane_step : (at from : ℕ) (t : Stage sli Lanes) (v : Worker sli Lanes) (left : List ℕ) (n : ℕ) (p : Post) (took : Took) → took ≡ took_by (heap_of t.worker) p → heap_of v ≡ (released (heap_of t.worker) p.name).heap
-        → own_drain (at_stage v left (t.entries ++ one at (Take from) (Taken took))) (n + 1) ≡ took_own at from (own_drain t n) p
+        → drain_at (at_stage v left (t.entries ++ one at (Take from) (Taken took))) (n + 1) ≡ took_post at from (drain_at t n) p
     lane_step at from t v left n p took e h = rw (e, h) refl
 
 -- the lane showed no more, or no more might be taken
@@ -129,19 +129,19 @@ lanes_knows : {sli : ℕ} (n : ℕ) (s t : Stage sli Lanes) (below count : ℕ) 
 lanes_knows n s t below count x k = let m = x.moved [] in m.knows n k
 
 -- what the lanes below a number tell rests on their posts alone
-lanes_same : (at : ℕ) (f g : ℕ → List Post) (d : OwnDrain) (k : ℕ) → ((i : ℕ) → i < k → f i ≡ g i) → each_lane_own at f d k ≡ each_lane_own at g d k
+lanes_same : (at : ℕ) (f g : ℕ → List Post) (d : WorkerDrain) (k : ℕ) → ((i : ℕ) → i < k → f i ≡ g i) → took_each_lane at f d k ≡ took_each_lane at g d k
 lanes_same at f g d zero e = refl
 lanes_same at f g d (suc k) e = two (k == at) (lanes_same at f g d k (λ i lt. e i (omega arith)))
   where
-    two : (b : Bool) → each_lane_own at f d k ≡ each_lane_own at g d k
-        → (if b then each_lane_own at f d k else lane_own at k (each_lane_own at f d k) (f k)) ≡ (if b then each_lane_own at g d k else lane_own at k (each_lane_own at g d k) (g k))
+    two : (b : Bool) → took_each_lane at f d k ≡ took_each_lane at g d k
+        → (if b then took_each_lane at f d k else took_posts at k (took_each_lane at f d k) (f k)) ≡ (if b then took_each_lane at g d k else took_posts at k (took_each_lane at g d k) (g k))
     two true before = before
-    two false before = ap (λ x. lane_own at k x (f k)) before ∙ ap (λ ps. lane_own at k (each_lane_own at g d k) ps) (e k (omega arith))
+    two false before = ap (λ x. took_posts at k x (f k)) before ∙ ap (λ ps. took_posts at k (took_each_lane at g d k) ps) (e k (omega arith))
 
-pub each_lane_own_turn : (at : ℕ) (f : ℕ → List Post) (d : OwnDrain) (k : ℕ) → k ≡ at → each_lane_own at f d (k + 1) ≡ each_lane_own at f d k
-each_lane_own_turn at f d k e = let b : (k == at) ≡ true = grind (arith, nat_tests) in rw (add-one k, b) refl
+pub took_each_lane_turn : (at : ℕ) (f : ℕ → List Post) (d : WorkerDrain) (k : ℕ) → k ≡ at → took_each_lane at f d (k + 1) ≡ took_each_lane at f d k
+took_each_lane_turn at f d k e = let b : (k == at) ≡ true = grind (arith, nat_tests) in rw (add-one k, b) refl
 
-pub lanes_other_turn : (at : ℕ) (f : ℕ → List Post) (d : OwnDrain) (k : ℕ) → k ≢ at → each_lane_own at f d (k + 1) ≡ lane_own at k (each_lane_own at f d k) (f k)
+pub lanes_other_turn : (at : ℕ) (f : ℕ → List Post) (d : WorkerDrain) (k : ℕ) → k ≢ at → took_each_lane at f d (k + 1) ≡ took_posts at k (took_each_lane at f d k) (f k)
 lanes_other_turn at f d k ne = let b : (k == at) ≡ false = grind (arith, nat_tests) in rw (add-one k, b) refl
 
 -- with these posts from one more
@@ -163,14 +163,14 @@ after_other_lane s t u from n count ne has x y =
     let at = id_of s.worker in
     let q : id_of t.worker ≡ at = id_below s t from n x in
     let f = with_lane x.posts from y.posts in
-    let d = own_drain s 0 in
-    let below : each_lane_own at f d from ≡ each_lane_own at x.posts d from = lanes_same at f x.posts d from (with_lane_below x.posts from y.posts) in
+    let d = drain_at s 0 in
+    let below : took_each_lane at f d from ≡ took_each_lane at x.posts d from = lanes_same at f x.posts d from (with_lane_below x.posts from y.posts) in
     record {
       own = x.own ++ y.own;
       entries_are = y.entries_are ∙ (ap (λ l. l ++ y.own) x.entries_are ∙ append_assoc s.entries x.own y.own);
       posts = f;
-      told = y.told n ∙ (ap (λ i. lane_own i from (own_drain t n) y.posts) q
-          ∙ (ap (λ z. lane_own at from z y.posts) (x.told ∙ sym below) ∙ (ap (lane_own at from (each_lane_own at f d from)) (sym (with_lane_same x.posts from y.posts))
+      told = y.told n ∙ (ap (λ i. took_posts i from (drain_at t n) y.posts) q
+          ∙ (ap (λ z. took_posts at from z y.posts) (x.told ∙ sym below) ∙ (ap (took_posts at from (took_each_lane at f d from)) (sym (with_lane_same x.posts from y.posts))
           ∙ sym (lanes_other_turn at f d from ne))));
       posts_are = λ k. taken_then k at x.own y.own ∙ elim (cases_eq k from) [
         | inl e ↦
@@ -188,31 +188,31 @@ after_other_lane s t u from n count ne has x y =
       moved = λ made. moved_then at made s.worker t.worker u.worker s.limits t.limits u.limits [] [] x.own y.own (x.moved made) (moved_at at made t.worker u.worker t.limits u.limits (λ i. y.own) q (y.moved made));
     }
 
-lane_count : (at from : ℕ) (posts : List Post) (d : OwnDrain) → (lane_own at from d posts).taken ≡ d.taken + length posts
+lane_count : (at from : ℕ) (posts : List Post) (d : WorkerDrain) → (took_posts at from d posts).taken ≡ d.taken + length posts
 lane_count at from [] d = omega arith
-lane_count at from (p ∷ posts) d = omega (arith, lane_count at from posts (took_own at from d p))
+lane_count at from (p ∷ posts) d = omega (arith, lane_count at from posts (took_post at from d p))
 
 -- how many were taken from the lanes below a number
-pub count_below : (at : ℕ) (posts : ℕ → List Post) (d : OwnDrain) (k : ℕ) → ((i : ℕ) → i ≡ at → posts i ≡ []) → (each_lane_own at posts d k).taken ≡ d.taken + sum_below k (λ i. length (posts i))
+pub count_below : (at : ℕ) (posts : ℕ → List Post) (d : WorkerDrain) (k : ℕ) → ((i : ℕ) → i ≡ at → posts i ≡ []) → (took_each_lane at posts d k).taken ≡ d.taken + sum_below k (λ i. length (posts i))
 count_below at posts d zero none = omega arith
 count_below at posts d (suc k) none =
     let e : k + 1 ≡ suc k = omega arith in
     let before = count_below at posts d k none in
     elim (cases_eq k at) [
       | inl own ↦
-          let a = ap (λ o. o.taken) (subst (λ m. each_lane_own at posts d m ≡ each_lane_own at posts d k) e (each_lane_own_turn at posts d k own)) in
+          let a = ap (λ o. o.taken) (subst (λ m. took_each_lane at posts d m ≡ took_each_lane at posts d k) e (took_each_lane_turn at posts d k own)) in
           let b = ap length (none k own) in
           omega arith
       | inr ne ↦
-          let a = ap (λ o. o.taken) (subst (λ m. each_lane_own at posts d m ≡ lane_own at k (each_lane_own at posts d k) (posts k)) e (lanes_other_turn at posts d k ne)) in
-          let b = lane_count at k (posts k) (each_lane_own at posts d k) in
+          let a = ap (λ o. o.taken) (subst (λ m. took_each_lane at posts d m ≡ took_posts at k (took_each_lane at posts d k) (posts k)) e (lanes_other_turn at posts d k ne)) in
+          let b = lane_count at k (posts k) (took_each_lane at posts d k) in
           omega arith
     ]
 
 pub lanes_taken_count : {sli : ℕ} (n : ℕ) (s t : Stage sli Lanes) (below count : ℕ) → KnowsYard n s.worker → (x : EachLaneTaken s below t count)
     → count ≡ sum_below below (λ i. length (x.posts i))
 lanes_taken_count n s t below count k x =
-    let c = count_below (id_of s.worker) x.posts (own_drain s 0) below (λ i own. x.only i (λ _ has. let y = (k.from i).0 has in y.1 own)) in
+    let c = count_below (id_of s.worker) x.posts (drain_at s 0) below (λ i own. x.only i (λ _ has. let y = (k.from i).0 has in y.1 own)) in
     let told = ap (λ o. o.taken) x.told in
     omega arith
 
@@ -257,11 +257,11 @@ no_turn : {sli : ℕ} (s t : Stage sli Lanes) (from most count : ℕ) → ¬ (Ha
 no_turn s t from most count none x =
     let o = x.takes in
     let at = id_of s.worker in
-    let d = own_drain s 0 in
+    let d = drain_at s 0 in
     let nothing = o.only from (λ _. none) in
-    let same : each_lane_own at o.posts d (from + 1) ≡ each_lane_own at o.posts d from = elim (cases_eq from at) [
-      | inl own ↦ each_lane_own_turn at o.posts d from own
-      | inr ne ↦ lanes_other_turn at o.posts d from ne ∙ ap (lane_own at from (each_lane_own at o.posts d from)) nothing
+    let same : took_each_lane at o.posts d (from + 1) ≡ took_each_lane at o.posts d from = elim (cases_eq from at) [
+      | inl own ↦ took_each_lane_turn at o.posts d from own
+      | inr ne ↦ lanes_other_turn at o.posts d from ne ∙ ap (took_posts at from (took_each_lane at o.posts d from)) nothing
     ] in
     record {
       takes = record {
@@ -359,32 +359,32 @@ each_lane_spent {sli} n a v x y most (suc k) tooks known l =
     ]
 
 -- the lanes above the last one tell nothing
-lanes_past : (at : ℕ) (posts : ℕ → List Post) (d : OwnDrain) (m e : ℕ) → ((k : ℕ) → m ≤ k → posts k ≡ []) → each_lane_own at posts d (m + e) ≡ each_lane_own at posts d m
-lanes_past at posts d m zero none = let q : m + 0 ≡ m = omega arith in ap (each_lane_own at posts d) q
+lanes_past : (at : ℕ) (posts : ℕ → List Post) (d : WorkerDrain) (m e : ℕ) → ((k : ℕ) → m ≤ k → posts k ≡ []) → took_each_lane at posts d (m + e) ≡ took_each_lane at posts d m
+lanes_past at posts d m zero none = let q : m + 0 ≡ m = omega arith in ap (took_each_lane at posts d) q
 lanes_past at posts d m (suc e) none =
     let q : m + suc e ≡ m + e + 1 = omega arith in
-    let step : each_lane_own at posts d (m + e + 1) ≡ each_lane_own at posts d (m + e) = elim (cases_eq (m + e) at) [
-      | inl own ↦ each_lane_own_turn at posts d (m + e) own
-      | inr ne ↦ lanes_other_turn at posts d (m + e) ne ∙ ap (lane_own at (m + e) (each_lane_own at posts d (m + e))) (none (m + e) (omega arith))
+    let step : took_each_lane at posts d (m + e + 1) ≡ took_each_lane at posts d (m + e) = elim (cases_eq (m + e) at) [
+      | inl own ↦ took_each_lane_turn at posts d (m + e) own
+      | inr ne ↦ lanes_other_turn at posts d (m + e) ne ∙ ap (took_posts at (m + e) (took_each_lane at posts d (m + e))) (none (m + e) (omega arith))
     ] in
-    ap (each_lane_own at posts d) q ∙ (step ∙ lanes_past at posts d m e none)
+    ap (took_each_lane at posts d) q ∙ (step ∙ lanes_past at posts d m e none)
 
 has_place : {sli : ℕ} (a : Worker sli Lanes) (k : ℕ) → HasTake a k → k < lane_places a
 has_place a k h = slice_get_within a.ports.takes.items k (Some h.0) (from_slot (slice_get a.ports.takes.items k) h.0 h.1)
 
 -- a drain of all places is one of the lanes from all workers
-pub all_spent : {sli : ℕ} (n : ℕ) (a v : Worker sli Lanes) (x y : Journal) (most : ℕ) (answer : Drained) → KnowsYard n a → AllNoted (lane_rules IsAdmitted EntersTake) a v x y (lane_places a) most answer → EachLaneSpent (stage_of a x) n most (stage_of v y) answer.taken
-all_spent n a v x y most answer known d =
+pub noted_lanes_spent : {sli : ℕ} (n : ℕ) (a v : Worker sli Lanes) (x y : Journal) (most : ℕ) (answer : Drained) → KnowsYard n a → AllNoted (lane_rules IsAdmitted EntersTake) a v x y (lane_places a) most answer → EachLaneSpent (stage_of a x) n most (stage_of v y) answer.taken
+noted_lanes_spent n a v x y most answer known d =
     let places = lane_places a in
     let c = d.count.0 in
     let s = subst (EachLaneSpent (stage_of a x) places most (stage_of v y)) (sym c) (each_lane_spent n a v x y most places d.tooks known d.each) in
     let t = s.takes in
     let at = id_of a in
-    let o = own_drain (stage_of a x) 0 in
+    let o = drain_at (stage_of a x) 0 in
     let beyond : (k : ℕ) → places ≤ k → t.posts k ≡ [] = λ k le. t.only k (λ lt. absurd (omega arith)) in
     let away : (k : ℕ) → n ≤ k → t.posts k ≡ [] = λ k le. t.only k (λ lt h. let near = (known.from k).0 h in absurd (omega (arith, near.0))) in
     let swap : places + n ≡ n + places = omega arith in
-    let same : each_lane_own at t.posts o places ≡ each_lane_own at t.posts o n = sym (lanes_past at t.posts o places n beyond) ∙ (ap (each_lane_own at t.posts o) swap ∙ lanes_past at t.posts o n places away) in
+    let same : took_each_lane at t.posts o places ≡ took_each_lane at t.posts o n = sym (lanes_past at t.posts o places n beyond) ∙ (ap (took_each_lane at t.posts o) swap ∙ lanes_past at t.posts o n places away) in
     record {
       takes = record {
         own = t.own;

@@ -30,13 +30,13 @@ pub prefix_then : {A : Type 0} (xs ys zs : List A) → IsPrefix xs ys → IsPref
 prefix_then xs ys zs p q = (p.0 ++ q.0, sym (append_assoc xs p.0 q.0) ∙ (ap (λ l. l ++ q.0) p.1 ∙ q.1))
 
 -- the first of a beginning
-take_prefix : {A : Type 0} (n : ℕ) (xs t : List A) → IsPrefix (take n xs) (take n (xs ++ t))
-take_prefix zero xs t = ([], refl)
-take_prefix (suc n) [] t = (take (suc n) t, refl)
-take_prefix (suc n) (x ∷ xs) t = let p = take_prefix n xs t in (p.0, ap (λ l. x ∷ l) p.1)
+take_of_longer : {A : Type 0} (n : ℕ) (xs t : List A) → IsPrefix (take n xs) (take n (xs ++ t))
+take_of_longer zero xs t = ([], refl)
+take_of_longer (suc n) [] t = (take (suc n) t, refl)
+take_of_longer (suc n) (x ∷ xs) t = let p = take_of_longer n xs t in (p.0, ap (λ l. x ∷ l) p.1)
 
 pub prefix_take : {A : Type 0} (n : ℕ) (xs ys : List A) → IsPrefix xs ys → IsPrefix (take n xs) (take n ys)
-prefix_take n xs ys p = subst (λ l. IsPrefix (take n xs) (take n l)) p.1 (take_prefix n xs p.0)
+prefix_take n xs ys p = subst (λ l. IsPrefix (take n xs) (take n l)) p.1 (take_of_longer n xs p.0)
 
 -- as many as there are of the first, and more of the second
 pub take_past : {A : Type 0} (n m : ℕ) (xs ys : List A) → m + length xs ≡ n → take n (xs ++ ys) ≡ xs ++ take m ys

@@ -1,5 +1,5 @@
 -- A worker who makes no entry, or one that tells of no lane, has moved as it tells.
-use Rattle.std.proofs.Common.{[], ◌∷◌, ◌++◌, ◌≡◌, ℕ, zero, suc, ◌<◌, ◌≤◌, List, Option, Some, length, sym, ◌∙◌, ap, arith, refl, inl, inr, ◌⊎◌, subst, append-nil, length-append}
+use Rattle.std.proofs.Common.{[], ◌∷◌, ◌++◌, ◌≡◌, ℕ, ◌<◌, ◌≤◌, List, Option, Some, length, sym, ◌∙◌, ap, arith, refl, inl, inr, ◌⊎◌, subst, append-nil, length-append}
 use mathlib.Core.List.{IsPrefix}
 use Rattle.std.specs.Prelude.{◌↔◌}
 use Rattle.tlsf_post.specs.declared.post_end.PostEnd.{PostEnd}
@@ -16,10 +16,10 @@ use Rattle.tlsf_calls.specs.declared.crew_refusal.CrewRefusal.TheVariants.{Full}
 use Rattle.tlsf_crew.specs.worker.Workers.{id_of, SameButHeap}
 use Rattle.tlsf_crew.specs.lanes.LaneWorkers.{id_and_capacity, end_to, end_from, HasPost, HasTake, KnowsYard}
 use Rattle.tlsf_crew.specs.lanes.LaneCalls.{KeepsYards}
-use Rattle.tlsf_crew.specs.model.Sums.{sum_below}
 use Rattle.tlsf_crew.specs.histories.History.{IsNoPost, posts_made, posts_taken, post_of_release, post_of_take, StandsBehind}
 use Rattle.tlsf_crew.specs.scripts.LaneMoves.{PostEndMoved, TakeEndMoved, Spent, LaneMoved}
 use Rattle.tlsf_crew.proofs.lemmas.lanes.LaneSlots.{same_parts}
+use Rattle.tlsf_crew.proofs.lemmas.model.Sums.{same_sum}
 use Rattle.tlsf_crew.proofs.lemmas.histories.JoinedEntries.{made_then, taken_then, told_nothing}
 use Rattle.tlsf_crew.proofs.lemmas.scripts.ManyEntries.{stands_split}
 
@@ -113,10 +113,6 @@ none_taken : (i at : ℕ) (made : List (Option Name)) (xs : List Entry) (e : Ent
 none_taken i at made xs e n =
     taken_then i at xs (e ∷ []) ∙ (ap (λ l. posts_taken i at xs ++ l) (told_nothing (λ x. post_of_take i x.call x.reply) at e (n.taken_none i)) ∙ append-nil (posts_taken i at xs))
 
-sum_same : (n : ℕ) (f g : ℕ → ℕ) → ((i : ℕ) → f i ≡ g i) → sum_below n f ≡ sum_below n g
-sum_same zero f g e = refl
-sum_same (suc n) f g e = omega (arith, sum_same n f g e, e n)
-
 pub moved_idle : {sli : ℕ} (at : ℕ) (made : List (Option Name)) (a v : Worker sli Lanes) (limits left : List ℕ) (xs : List Entry) (e : Entry) (call : Call)
     → LaneMoved at made a limits [] xs v left → IsIdle at made a limits xs e → LaneMoved at made a limits (call ∷ []) (xs ++ e ∷ []) v left
 moved_idle at made a v limits left xs e call m idle =
@@ -156,6 +152,6 @@ moved_idle at made a v limits left xs e call m idle =
         arith,
         m.few_entries,
         length-append xs (e ∷ []),
-        sum_same 8 (λ i. length (posts_taken i at (xs ++ e ∷ []))) (λ i. length (posts_taken i at xs)) (λ i. ap length (none_taken i at made xs e n)),
+        same_sum 8 (λ i. length (posts_taken i at xs)) (λ i. length (posts_taken i at (xs ++ e ∷ []))) (λ i _. ap length (none_taken i at made xs e n)),
       );
     }

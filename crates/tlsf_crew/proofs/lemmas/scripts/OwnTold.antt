@@ -21,31 +21,31 @@ use Rattle.tlsf_crew.specs.declared.worker.worker.Worker.{Worker}
 use Rattle.tlsf_crew.specs.model.Heaps.{allocated, chunk_read, released, resized, written}
 use Rattle.tlsf_crew.specs.worker.Workers.{heap_of, id_of, SameButHeap, KeepsHeap}
 use Rattle.tlsf_crew.specs.worker.Calls.{ReleasedHere, ReleasedThere, freed_by, posted_as, put_answer}
-use Rattle.tlsf_crew.specs.model.OwnReplies.{HeapReplies, OwnReplied, own_allocating, own_freeing, own_named, own_writing, own_reading, own_resizing, reply_by, reply_freed}
+use Rattle.tlsf_crew.specs.model.OwnReplies.{IsHeapReply, HeapReply, own_allocating, own_freeing, own_named, own_writing, own_reading, own_resizing, reply_by, reply_freed}
 use Rattle.tlsf_crew.specs.scripts.Scripts.{IsQuiet, ReleasedAnywhere, QuietCall, entry_by, reply_released, told_of}
-use Rattle.tlsf_crew.specs.model.Told.{HasHeap, IsModelAnswer, MayTell, Told, told_by, told_more}
-use Rattle.tlsf_crew.specs.model.World.{World, Replied, answered, by_own, called, freeing, heap_in, name_of, posting, releasing, releasing_named}
+use Rattle.tlsf_crew.specs.model.Progress.{HasHeap, IsModelAnswer, MayTell, Progress, told_by, told_more}
+use Rattle.tlsf_crew.specs.model.World.{World, WorldReply, answered, by_own, called, freeing, heap_in, name_of, posting, releasing, releasing_named}
 use Rattle.tlsf_crew.proofs.lemmas.model.OneEvent.{releasing_post, releasing_far}
 use Rattle.tlsf_crew.proofs.lemmas.worker.OwnHeaps.{call_keeps, same_heap_keeps}
 use Rattle.tlsf_crew.proofs.lemmas.scripts.Witnesses.{a_suit, heap_left}
 
 -- what the model answers, and the heap that it leaves the worker
-pub record ModelReplies {sli : ℕ} (at : ℕ) (reply : Reply) (g : HeapState) (x : Replied sli) : Type 0 where
+pub record ModelReplies {sli : ℕ} (at : ℕ) (reply : Reply) (g : HeapState) (x : WorldReply sli) : Type 0 where
   pub same : reply ≡ x.reply
   pub left : g ≡ heap_in x.world at
 
 -- one answer, as it is told
-answer_told : {sli : ℕ} (at : ℕ) (s : Told) (w : World sli) (call : Call) (reply : Reply) (g : HeapState) (x : Replied sli) → reply ≡ x.reply → g ≡ heap_in x.world at
+answer_told : {sli : ℕ} (at : ℕ) (s : Progress) (w : World sli) (call : Call) (reply : Reply) (g : HeapState) (x : WorldReply sli) → reply ≡ x.reply → g ≡ heap_in x.world at
     → told_by at (answered (record { made = s.made; entries = s.entries; world = w }) at call x) ≡ told_more at s call reply g
 answer_told at s w call reply g x e f = rw (e, f) refl
 
-pub told_where : {sli : ℕ} (at : ℕ) (s : Told) (w : World sli) (call : Call) (reply : Reply) (g : HeapState) (x : Replied sli)
+pub told_where : {sli : ℕ} (at : ℕ) (s : Progress) (w : World sli) (call : Call) (reply : Reply) (g : HeapState) (x : WorldReply sli)
     → called (record { made = s.made; entries = s.entries; world = w }) at call ≡ answered (record { made = s.made; entries = s.entries; world = w }) at call x → ModelReplies at reply g x
     → told_by at (called (record { made = s.made; entries = s.entries; world = w }) at call) ≡ told_more at s call reply g
 told_where at s w call reply g x is a = ap (told_by at) is ∙ answer_told at s w call reply g x a.same a.left
 
 -- so it may be told
-pub model_tells : (sli n at : ℕ) (s : Told) (call : Call) (reply : Reply) (g : HeapState) → at < n → IsModelAnswer sli n at s call reply g → MayTell sli n at s call (told_more at s call reply g)
+pub model_tells : (sli n at : ℕ) (s : Progress) (call : Call) (reply : Reply) (g : HeapState) → at < n → IsModelAnswer sli n at s call reply g → MayTell sli n at s call (told_more at s call reply g)
 model_tells sli n at s call reply g lt is = let x = a_suit sli n at s.heap s.made call reply lt in (x.0, x.1, is lt x.0 x.1 x.2)
 
 -- ---- calls on the own heap
@@ -57,20 +57,20 @@ by_unfilled : {A : Type 0} (given : A → Reply) (r : Result A Refusal) → ((x 
 by_unfilled given (Ok x) f = f x
 by_unfilled given (Err why) f = λ name e. cc
 
-named_unfilled : (h : HeapState) (by : Name → OwnReplied) (o : Option Name) → ((name : Name) → IsNotFull (by name).reply) → IsNotFull (own_named h by o).reply
+named_unfilled : (h : HeapState) (by : Name → HeapReply) (o : Option Name) → ((name : Name) → IsNotFull (by name).reply) → IsNotFull (own_named h by o).reply
 named_unfilled h by None f = λ name e. cc
 named_unfilled h by (Some name) f = f name
 
-own_here : {sli : ℕ} (n at : ℕ) (w : World sli) (h g : HeapState) (reply : Reply) (by : HeapState → OwnReplied) → at < n → HasHeap w n at h → reply ≡ (by h).reply → g ≡ (by h).heap → ModelReplies at reply g (by_own w at by)
+own_here : {sli : ℕ} (n at : ℕ) (w : World sli) (h g : HeapState) (reply : Reply) (by : HeapState → HeapReply) → at < n → HasHeap w n at h → reply ≡ (by h).reply → g ≡ (by h).heap → ModelReplies at reply g (by_own w at by)
 own_here n at w h g reply by lt has e f = record {
   same = e ∙ ap (λ (x : HeapState). (by x).reply) (sym has.1);
   left = f ∙ (ap (λ (x : HeapState). (by x).heap) (sym has.1) ∙ sym (heap_left n at w h (by (heap_in w at)).heap lt has));
 }
 
-own_call : {sli : ℕ} {P : Type 0} (n : ℕ) (a v : Worker sli P) (call : Call) (made : List (Option Name)) (entries : List Entry) (reply : Reply) (by : HeapState → OwnReplied) → SameButHeap a v
+own_call : {sli : ℕ} {P : Type 0} (n : ℕ) (a v : Worker sli P) (call : Call) (made : List (Option Name)) (entries : List Entry) (reply : Reply) (by : HeapState → HeapReply) → SameButHeap a v
     → IsQuiet (entry_by (id_of a) call reply)
     → ((w : World sli) → called (record { made = made; entries = entries; world = w }) (id_of a) call ≡ answered (record { made = made; entries = entries; world = w }) (id_of a) call (by_own w (id_of a) by))
-    → HeapReplies reply (heap_of v) (by (heap_of a)) → QuietCall n a v call made entries reply
+    → IsHeapReply reply (heap_of v) (by (heap_of a)) → QuietCall n a v call made entries reply
 own_call n a v call made entries reply by same quiet is own = record {
   same = same;
   quiet = quiet;
@@ -79,7 +79,7 @@ own_call n a v call made entries reply by same quiet is own = record {
 }
 
 pub allocate_call : {sli : ℕ} {P : Type 0} (n : ℕ) (a v : Worker sli P) (len : ℕ) (made : List (Option Name)) (entries : List Entry) (reply : Reply) → SameButHeap a v
-    → HeapReplies reply (heap_of v) (own_allocating sli (heap_of a) len) → QuietCall n a v (Allocate len) made entries reply
+    → IsHeapReply reply (heap_of v) (own_allocating sli (heap_of a) len) → QuietCall n a v (Allocate len) made entries reply
 allocate_call {sli} n a v len made entries reply same is =
     own_call n a v (Allocate len) made entries reply (λ x. own_allocating sli x len) same
     (record {
@@ -89,7 +89,7 @@ allocate_call {sli} n a v len made entries reply same is =
     }) (λ w. refl) is
 
 pub write_call : {sli : ℕ} {P : Type 0} (n : ℕ) (a v : Worker sli P) (target : Target) (from : ℕ) (bytes : Chunk) (made : List (Option Name)) (entries : List Entry) (reply : Reply) → SameButHeap a v
-    → HeapReplies reply (heap_of v) (own_writing (heap_of a) (name_of made target) from (bytes_of bytes))
+    → IsHeapReply reply (heap_of v) (own_writing (heap_of a) (name_of made target) from (bytes_of bytes))
     → QuietCall n a v (Write target from bytes) made entries reply
 write_call n a v target from bytes made entries reply same is =
     own_call n a v (Write target from bytes) made entries reply (λ x. own_writing x (name_of made target) from (bytes_of bytes)) same
@@ -101,7 +101,7 @@ write_call n a v target from bytes made entries reply same is =
     }) (λ w. refl) is
 
 pub read_call : {sli : ℕ} {P : Type 0} (n : ℕ) (a v : Worker sli P) (target : Target) (from k : ℕ) (made : List (Option Name)) (entries : List Entry) (reply : Reply) → SameButHeap a v
-    → HeapReplies reply (heap_of v) (own_reading (heap_of a) (name_of made target) from k)
+    → IsHeapReply reply (heap_of v) (own_reading (heap_of a) (name_of made target) from k)
     → QuietCall n a v (Read target from k) made entries reply
 read_call n a v target from k made entries reply same is =
     own_call n a v (Read target from k) made entries reply (λ x. own_reading x (name_of made target) from k) same
@@ -112,7 +112,7 @@ read_call n a v target from k made entries reply same is =
     }) (λ w. refl) is
 
 pub resize_call : {sli : ℕ} {P : Type 0} (n : ℕ) (a v : Worker sli P) (target : Target) (len : ℕ) (made : List (Option Name)) (entries : List Entry) (reply : Reply) → SameButHeap a v
-    → HeapReplies reply (heap_of v) (own_resizing (heap_of a) (name_of made target) len)
+    → IsHeapReply reply (heap_of v) (own_resizing (heap_of a) (name_of made target) len)
     → QuietCall n a v (Resize target len) made entries reply
 resize_call n a v target len made entries reply same is =
     own_call n a v (Resize target len) made entries reply (λ x. own_resizing x (name_of made target) len) same
@@ -136,10 +136,10 @@ unfolding posting
 full_world w at name e = let b : (length (w.waiting at name.heap) == w.capacity) ≡ true = grind (arith, nat_tests) in rw b refl
 
 -- a release of what the target means
-release_called : {sli : ℕ} (at : ℕ) (s : Told) (w : World sli) (target : Target) (o : Option Name) (x : Replied sli) → name_of s.made target ≡ o → releasing_named w at o ≡ x
+release_called : {sli : ℕ} (at : ℕ) (s : Progress) (w : World sli) (target : Target) (o : Option Name) (x : WorldReply sli) → name_of s.made target ≡ o → releasing_named w at o ≡ x
     → called (record { made = s.made; entries = s.entries; world = w }) at (Release target) ≡ answered (record { made = s.made; entries = s.entries; world = w }) at (Release target) x
 release_called at s w target o x known is = ap (λ (o : Option Name). answered (record { made = s.made; entries = s.entries; world = w }) at (Release target) (releasing_named w at o)) known
-    ∙ ap (λ (y : Replied _). answered (record { made = s.made; entries = s.entries; world = w }) at (Release target) y) is
+    ∙ ap (λ (y : WorldReply _). answered (record { made = s.made; entries = s.entries; world = w }) at (Release target) y) is
 
 -- the worker itself refuses, and nothing changes
 refused_call : {sli : ℕ} {P : Type 0} (n : ℕ) (a : Worker sli P) (target : Target) (made : List (Option Name)) (entries : List Entry) (o : Option Name) (why : CrewRefusal) → name_of made target ≡ o
@@ -161,9 +161,9 @@ far_call : {sli : ℕ} {P : Type 0} (n : ℕ) (a : Worker sli P) (target : Targe
     → QuietCall n a a (Release target) made entries (Refused Stranger)
 far_call n a target name made entries known ne far = refused_call n a target made entries (Some name) Stranger known (λ other e. cc) (λ w len. releasing_far w (id_of a) name ne (omega (arith, len)))
 
-freed_reply : (r : Result (Unit {0}) Refusal) → reply_released (freed_by r) ≡ reply_freed r
-freed_reply (Ok done) = refl
-freed_reply (Err why) = refl
+released_by_heap : (r : Result (Unit {0}) Refusal) → reply_released (freed_by r) ≡ reply_freed r
+released_by_heap (Ok done) = refl
+released_by_heap (Err why) = refl
 
 freed_quiet : (at : ℕ) (target : Target) (r : Result (Unit {0}) Refusal) → IsQuiet (entry_by at (Release target) (reply_freed r))
 freed_quiet at target (Ok done) = record { call = tt; posts = λ made. record { made_none = λ j. refl; taken_none = λ i. refl }; unfilled = λ name e. cc }
@@ -174,7 +174,7 @@ here_call : {sli : ℕ} {P : Type 0} (n : ℕ) (a v : Worker sli P) (target : Ta
 unfolding released
 here_call n a v target name made entries answer known own here =
     let r = (heap.released (heap_of a) name).answer in
-    let e : reply_released answer ≡ reply_freed r = ap reply_released here.answer_is ∙ freed_reply r in
+    let e : reply_released answer ≡ reply_freed r = ap reply_released here.answer_is ∙ released_by_heap r in
     own_call n a v (Release target) made entries (reply_released answer) (λ x. own_freeing x name) here.same (subst (λ y. IsQuiet (entry_by (id_of a) (Release target) y)) (sym e) (freed_quiet (id_of a) target r))
     (λ w. release_called (id_of a) (told_of made entries (heap_of a)) w target (Some name) _ known (own_name w (id_of a) name own)) (record { same = e; left = here.heap })
 

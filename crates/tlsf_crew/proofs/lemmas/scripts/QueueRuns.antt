@@ -12,7 +12,7 @@ use Rattle.tlsf_crew.specs.declared.queues.queues.Queues.{Queues}
 use Rattle.tlsf_crew.specs.histories.History.{posts_made, posts_taken}
 use Rattle.tlsf_crew.specs.worker.Workers.{id_of}
 use Rattle.tlsf_crew.specs.queues.QueueWorkers.{queue_end_to}
-use Rattle.tlsf_crew.specs.scripts.QueueMoves.{QueueMoved, queue_telling}
+use Rattle.tlsf_crew.specs.scripts.QueueMoves.{QueueMoved, queue_promise}
 use Rattle.tlsf_crew.specs.scripts.Scripts.{AreMoves}
 use Rattle.tlsf_crew.proofs.lemmas.histories.JoinedEntries.{made_then, taken_then}
 use Rattle.tlsf_crew.proofs.lemmas.scripts.ManyEntries.{stands_split}
@@ -66,7 +66,7 @@ queue_moved_then at made a b v limits mid left calls ds xs ys x y =
       room = omega (arith, x.room, y.room, length-append xs ys, length-append calls ds);
     }
 
-pub queue_moves : {sli : ℕ} → AreMoves (queue_telling sli)
+pub queue_moves : {sli : ℕ} → AreMoves (queue_promise sli)
 queue_moves = record {
   none = λ made a limits. queue_moved_none (id_of a) made a limits;
   then = queue_moved_then;

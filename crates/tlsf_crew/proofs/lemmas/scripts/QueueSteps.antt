@@ -28,7 +28,7 @@ use Rattle.tlsf_calls.specs.declared.reply.Reply.TheVariants.{Posted, Took as Ta
 use Rattle.tlsf_crew.specs.model.Heaps.{released}
 use Rattle.tlsf_crew.specs.model.Sums.{sum_of}
 use Rattle.tlsf_crew.specs.histories.History.{IsNoPost, StandsBehind, posts_made, posts_taken, post_of_release, post_of_take}
-use Rattle.tlsf_crew.specs.model.Told.{IsModelAnswer, MayTell, Told}
+use Rattle.tlsf_crew.specs.model.Progress.{IsModelAnswer, MayTell, Progress}
 use Rattle.tlsf_crew.specs.model.World.{name_of}
 use Rattle.tlsf_crew.specs.declared.worker.worker.Worker.{Worker}
 use Rattle.tlsf_crew.specs.declared.queues.queues.Queues.{Queues}
@@ -41,19 +41,19 @@ use Rattle.tlsf_crew.specs.scripts.Scripts.{IsNoTake, QuietCall, at_stage, stage
 use Rattle.tlsf_crew.specs.queues.QueueWorkers.{queue_to, queue_end_to, PutsIntoQueue, HasQueueEnd, KnowsQueueYard, KeepsQueueYards, PosterEndPut, OwnEndTook}
 use Rattle.tlsf_crew.specs.queues.QueueCalls.{TakenFromQueue}
 use Rattle.tlsf_crew.specs.queues.QueueNotes.{queue_rules}
-use Rattle.tlsf_crew.specs.model.QueueTold.{IsFromOther, MayTellQueue, take_entry, told_reply, told_take, told_takes}
+use Rattle.tlsf_crew.specs.model.QueueProgress.{IsFromOther, MayTellQueue, take_entry, with_reply, with_take, with_takes}
 use Rattle.tlsf_crew.specs.scripts.QueueMoves.{QueueMoved, QueueStepped, entry_by, told_of}
 use Rattle.tlsf_post.proofs.RuleSteps.{of_append}
 use Rattle.tlsf_crew.proofs.lemmas.histories.AllEntries.{more_knows}
 use Rattle.tlsf_crew.proofs.lemmas.histories.JoinedEntries.{told_nothing, told_own, made_then, taken_then}
-use Rattle.tlsf_crew.proofs.lemmas.scripts.LaneMoves.{posted_same, release_posts_elsewhere}
+use Rattle.tlsf_crew.proofs.lemmas.scripts.LaneMoves.{posts_made_by_post, release_posts_elsewhere}
 use Rattle.tlsf_crew.proofs.lemmas.worker.SameParts.{ports_heap}
 use Rattle.tlsf_crew.proofs.lemmas.scripts.ManyEntries.{stands_split}
 use Rattle.tlsf_crew.proofs.lemmas.scripts.OneEntry.{no_entry, the_one, stands_last}
 use Rattle.tlsf_crew.proofs.lemmas.worker.OwnHeaps.{call_keeps}
 use Rattle.tlsf_crew.proofs.lemmas.worker.Slots.{end_or, some_same}
 use Rattle.tlsf_crew.proofs.lemmas.queues.QueueDrains.{queue_ends}
-use Rattle.tlsf_crew.proofs.lemmas.queues.QueueKept.{keeps_all, keeps_heap, keeps_put, keeps_take, keeps_then, knows_kept}
+use Rattle.tlsf_crew.proofs.lemmas.queues.QueueKept.{keeps_all, queues_keep_heap, queues_keep_put, queues_keep_take, keeps_then, knows_kept}
 use Rattle.tlsf_crew.proofs.lemmas.scripts.OwnTold.{IsNotFull, model_tells, put_answered}
 
 -- ---- an entry that tells of no queue
@@ -68,9 +68,9 @@ record TellsNone (e : Entry) : Type 0 where
 same_end : {sli : ℕ} (a v : Worker sli Queues) (j : ℕ) (p q : PosterEnd) → queue_end_to v j ≡ queue_end_to a j → queue_end_to a j ≡ Some p → queue_end_to v j ≡ Some q → q ≡ p
 same_end a v j p q same is_p is_q = some_same q p (sym is_q ∙ (same ∙ is_p))
 
-none_moved : {sli : ℕ} (at : ℕ) (made : List (Option Name)) (a v : Worker sli Queues) (limits : List ℕ) (call : Call) (e : Entry) → SameButHeap a v → KeepsQueueYards a v → TellsNone e
+queue_moved_none : {sli : ℕ} (at : ℕ) (made : List (Option Name)) (a v : Worker sli Queues) (limits : List ℕ) (call : Call) (e : Entry) → SameButHeap a v → KeepsQueueYards a v → TellsNone e
     → QueueMoved at made a limits (call ∷ []) (e ∷ []) v limits
-none_moved at made a v limits call e same keeps none = record {
+queue_moved_none at made a v limits call e same keeps none = record {
   yard = keeps;
   sent = λ j p q is_p is_q.
       let n = none.posts made in
@@ -83,7 +83,7 @@ none_moved at made a v limits call e same keeps none = record {
   room = omega arith;
 }
 
-tells_queue : (sli n at : ℕ) (s : Told) (call : Call) (t : Told) → IsNoTake call → MayTell sli n at s call t → MayTellQueue sli n at s call t
+tells_queue : (sli n at : ℕ) (s : Progress) (call : Call) (t : Progress) → IsNoTake call → MayTell sli n at s call t → MayTellQueue sli n at s call t
 tells_queue sli n at s (Take from) t plain told = absurd plain
 tells_queue sli n at s (Drain most) t plain told = absurd plain
 tells_queue sli n at s call t plain told = told
@@ -95,7 +95,7 @@ quiet_stepped {sli} n a v limits call made entries reply k keeps q = record {
   entries_are = sym (append-nil entries);
   told = tells_queue sli n (id_of a) _ call _ q.quiet.call (model_tells sli n (id_of a) (told_of made entries (heap_of a)) call reply (heap_of v) k.self q.told);
   moved = λ rest.
-      none_moved (id_of a) (made ++ rest) a v limits call _ q.same keeps (record { posts = q.quiet.posts; drain = λ most d. subst IsNoTake d q.quiet.call; unfilled = q.quiet.unfilled });
+      queue_moved_none (id_of a) (made ++ rest) a v limits call _ q.same keeps (record { posts = q.quiet.posts; drain = λ most d. subst IsNoTake d q.quiet.call; unfilled = q.quiet.unfilled });
 }
 
 -- ---- a post
@@ -122,16 +122,16 @@ put_sent a v target name done made n k known put j p q is_p is_q =
           let other : IsOther n at name.heap = ends_are n a k name.heap put.1.end put.1.end_is in
           let known_end = k.to name.heap other in
           let by : number_of put.1.end ≡ at = ap number_of (some_same put.1.end known_end.0 (sym put.1.end_is ∙ known_end.1)) ∙ known_end.2 in
-          rw (old, new, e, posted_same at made target name known) (put.1.ok ∙ ap (λ (i : ℕ). put_by put.1.end ++ record { from = i; name = name } ∷ []) by)
+          rw (old, new, e, posts_made_by_post at made target name known) (put.1.ok ∙ ap (λ (i : ℕ). put_by put.1.end ++ record { from = i; name = name } ∷ []) by)
       | inr e ↦ rw (release_posts_elsewhere at j made target name known e) (ap put_by (same_end a v j p q (put.1.others j e) is_p is_q) ∙ sym (append-nil (put_by p)))
     ]
 
-posted_moved : {sli : ℕ} (n : ℕ) (made : List (Option Name)) (a v : Worker sli Queues) (limits : List ℕ) (target : Target) (name : Name) (done : Unit {0}) → KnowsQueueYard n a → name_of made target ≡ Some name
+queue_moved_post : {sli : ℕ} (n : ℕ) (made : List (Option Name)) (a v : Worker sli Queues) (limits : List ℕ) (target : Target) (name : Name) (done : Unit {0}) → KnowsQueueYard n a → name_of made target ≡ Some name
     → PosterEndPut a v name.heap name (Ok done) → QueueMoved (id_of a) made a limits (Release target ∷ []) (entry_by (id_of a) (Release target) Posted ∷ []) v limits
-posted_moved n made a v limits target name done k known put =
+queue_moved_post n made a v limits target name done k known put =
     let e = entry_by (id_of a) (Release target) Posted in
     record {
-      yard = keeps_put a v name.heap name (Ok done) put;
+      yard = queues_keep_put a v name.heap name (Ok done) put;
       sent = put_sent a v target name done made n k known put;
       taken = λ i. let none = told_nothing (λ e. post_of_take i e.call e.reply) (id_of a) e refl in
           rw none (ap (λ (o : OwnerEnd). posts_of i (got_by o)) put.1.same ∙ sym (append-nil (posts_of i (got_by a.ports.own))));
@@ -145,7 +145,7 @@ full_moved : {sli : ℕ} (made : List (Option Name)) (a v : Worker sli Queues) (
 full_moved made a v limits target name back put =
     let e = entry_by (id_of a) (Release target) (Refused (Full name)) in
     record {
-      yard = keeps_put a v name.heap name (Err back) put;
+      yard = queues_keep_put a v name.heap name (Err back) put;
       sent = λ j p q is_p is_q.
           let none = told_nothing (λ e. post_of_release j made e.worker e.call e.reply) (id_of a) e refl in
           rw none (elim (cases_eq j name.heap) [
@@ -170,7 +170,7 @@ full_moved made a v limits target name back put =
 
 put_moved : {sli : ℕ} (n : ℕ) (made : List (Option Name)) (a v : Worker sli Queues) (limits : List ℕ) (target : Target) (name : Name) (put : Result (Unit {0}) Name) → KnowsQueueYard n a → name_of made target ≡ Some name
     → PosterEndPut a v name.heap name put → QueueMoved (id_of a) made a limits (Release target ∷ []) (entry_by (id_of a) (Release target) (reply_released (posted_as (put_answer name put))) ∷ []) v limits
-put_moved n made a v limits target name (Ok done) k known put = posted_moved n made a v limits target name done k known put
+put_moved n made a v limits target name (Ok done) k known put = queue_moved_post n made a v limits target name done k known put
 put_moved n made a v limits target name (Err back) k known put = full_moved made a v limits target name back put
 
 pub has_port_or : {sli : ℕ} (n : ℕ) (a : Worker sli Queues) (j : ℕ) → KnowsQueueYard n a → HasQueueEnd a j ⊎ ((j ≢ id_of a → n ≤ j) × ¬ (HasQueueEnd a j))
@@ -226,7 +226,7 @@ taken_by n a c b (Some p) took k q after =
       heap = after.1 ∙ ap (λ (g : HeapState). (heap.released g p.name).heap) h;
       got = (λ t. got_by (after.2.1 t).own) ∙ q.1.some;
       ends = (λ t. queue_to (after.2.1 t)) ∙ q.1.same;
-      keeps = keeps_then a c b (keeps_take a c (Some p) q) (keeps_heap c b after.2 (call_keeps (heap_of c) (heap_of b) (heap.Release p.name) after.1));
+      keeps = keeps_then a c b (queues_keep_take a c (Some p) q) (queues_keep_heap c b after.2 (call_keeps (heap_of c) (heap_of b) (heap.Release p.name) after.1));
     }
 
 one_taken : {sli : ℕ} (n : ℕ) (a b : Worker sli Queues) (took : Took) → KnowsQueueYard n a → TakenFromQueue a b (Some took) → OneTaken n a b took
@@ -264,7 +264,7 @@ record TakenAll {sli : ℕ} (n at : ℕ) (a v : Worker sli Queues) (x y : Journa
   others : All (IsFromOther n at) posts
   count_is : (length posts ≡ count) × (length own ≡ count)
   entries : y.entries.items ≡ x.entries.items ++ own
-  told : (made : List (Option Name)) → told_takes at (told_of made x.entries.items (heap_of a)) posts ≡ told_of made y.entries.items (heap_of v)
+  told : (made : List (Option Name)) → with_takes at (told_of made x.entries.items (heap_of a)) posts ≡ told_of made y.entries.items (heap_of v)
   got : got_by v.ports.own ≡ got_by a.ports.own ++ posts
   ends : queue_end_to v ≡ queue_end_to a
   keeps : KeepsQueueYards a v
@@ -311,9 +311,9 @@ taken_all n at a v x y (took ∷ tooks) is k t =
       told = λ made.
           let noted_is : x.entries.items ++ take_entry at (heap_of a) one.post ∷ [] ≡ z.entries.items
           = ap (λ (r : Took). x.entries.items ++ entry_by at (Take r.from) (Taken r) ∷ []) (sym one.told) ∙ sym longer in
-          let step : told_take at (told_of made x.entries.items (heap_of a)) one.post ≡ told_of made z.entries.items (heap_of b)
+          let step : with_take at (told_of made x.entries.items (heap_of a)) one.post ≡ told_of made z.entries.items (heap_of b)
           = λ i. told_of made (noted_is i) (sym one.heap i) in
-          ap (λ (s : Told). told_takes at s rest.posts) step ∙ rest.told made;
+          ap (λ (s : Progress). with_takes at s rest.posts) step ∙ rest.told made;
       got = rest.got ∙ (ap (λ l. l ++ rest.posts) one.got ∙ append_assoc (got_by a.ports.own) (one.post ∷ []) rest.posts);
       ends = rest.ends ∙ one.ends;
       keeps = keeps_then a b v one.keeps rest.keeps;
@@ -345,7 +345,7 @@ record EndSeen {sli : ℕ} (a v : Worker sli Queues) (most count : ℕ) : Type 0
   early : count < most → IsAllTaken v.ports.own
 
 none_by : {sli : ℕ} (a c v : Worker sli Queues) (post : Option Post) (most count : ℕ) → OwnEndTook a c post → AfterTake c v post None → EndSeen a v most count
-none_by a c v None most count q after = rw after.1 (record { keeps = keeps_take a c None q; heap = ports_heap a c q.0; got = q.1.none.0; ends = q.1.same; early = λ lt. q.1.none.1 })
+none_by a c v None most count q after = rw after.1 (record { keeps = queues_keep_take a c None q; heap = ports_heap a c q.0; got = q.1.none.0; ends = q.1.same; early = λ lt. q.1.none.1 })
 none_by a c v (Some p) most count q after = let e = after.0 in absurd cc
 
 end_seen : {sli : ℕ} (a v : Worker sli Queues) (most count : ℕ) → ((count ≡ most) × (v ≡ a)) ⊎ ((count < most) × TakenFromQueue a v None) → EndSeen a v most count
@@ -413,7 +413,7 @@ drain_stepped n a v x y most made tooks k noted =
         t.posts,
         t.others,
         few,
-        left ∙ sym (ap (λ (s : Told). told_reply at s (Drain most) (Drained (length t.posts))) (t.told made)),
+        left ∙ sym (ap (λ (s : Progress). with_reply at s (Drain most) (Drained (length t.posts))) (t.told made)),
       );
       moved = λ rest. drained_queue_moved n a noted.last v x y most count (made ++ rest) seen t;
     }
@@ -454,6 +454,6 @@ take_stepped n a limits from made entries = record {
   entries_are = sym (append-nil entries);
   told = refl;
   moved = λ rest.
-      none_moved (id_of a) (made ++ rest) a a limits (Take from) _ (refl, refl) (keeps_all a)
+      queue_moved_none (id_of a) (made ++ rest) a a limits (Take from) _ (refl, refl) (keeps_all a)
       (record { posts = λ made. record { made_none = λ j. refl; taken_none = λ i. refl }; drain = λ most c. cc; unfilled = λ name r. cc });
 }

@@ -17,9 +17,9 @@ use Rattle.tlsf_calls.specs.declared.target.Target.{Target}
 use Rattle.tlsf_calls.specs.declared.took.Took.{Took}
 use Rattle.tlsf_crew.specs.lanes.LaneCalls.{KeepsYards, PutsIntoLane, name_back}
 use Rattle.tlsf_crew.specs.worker.Calls.{ReleasedThere, posted_as, put_answer}
-use Rattle.tlsf_crew.specs.scripts.LaneMoves.{one, LaneMoved, LaneStepped, lane_telling}
+use Rattle.tlsf_crew.specs.scripts.LaneMoves.{one, LaneMoved, LaneStepped, lane_promise}
 use Rattle.tlsf_crew.specs.scripts.Scripts.{reply_took, AreMoves, IsNoTake, IsQuiet, QuietCall, TakenWithin, at_stage, reply_released, told_of}
-use Rattle.tlsf_crew.specs.model.Told.{IsModelAnswer}
+use Rattle.tlsf_crew.specs.model.Progress.{IsModelAnswer}
 use Rattle.tlsf_crew.specs.worker.Workers.{heap_of, id_of}
 use Rattle.tlsf_crew.specs.lanes.LaneWorkers.{end_to, HasPost, HasTake, KnowsYard, PostEndPut, TookThrough}
 use Rattle.tlsf_crew.specs.model.World.{name_of}
@@ -31,7 +31,7 @@ use Rattle.tlsf_crew.proofs.lemmas.scripts.OneEntry.{IsIdle, moved_idle, moved_s
 use Rattle.tlsf_crew.proofs.lemmas.scripts.OwnTold.{model_tells, put_answered}
 use Rattle.tlsf_crew.proofs.lemmas.worker.SameParts.{ports_heap}
 use Rattle.tlsf_crew.proofs.lemmas.worker.Slots.{end_or}
-use Rattle.tlsf_crew.proofs.lemmas.scripts.WithinTakes.{stranger_moved, stranger_answered, take_moved, take_answered, taken_within}
+use Rattle.tlsf_crew.proofs.lemmas.scripts.WithinTakes.{stranger_moved, stranger_answered, taken_within_moved, take_answered, taken_within}
 
 single_stepped : {sli : ℕ} (n : ℕ) (a v : Worker sli Lanes) (limits left : List ℕ) (call : Call) (made : List (Option Name)) (es : List Entry) (reply : Reply) → KnowsYard n a
     → ((most : ℕ) → call ≡ Drain most → ⊥) → IsModelAnswer sli n (id_of a) (told_of made es (heap_of a)) call reply (heap_of v)
@@ -99,7 +99,7 @@ there_stepped {sli} n a v limits target name made es answer k known ne has there
 
 -- ---- over lanes
 
-pub lanes_moves : {sli : ℕ} → AreMoves (lane_telling sli)
+pub lanes_moves : {sli : ℕ} → AreMoves (lane_promise sli)
 lanes_moves = record {
   none = moved_none;
   then = moved_then;
@@ -126,4 +126,4 @@ pub take_stepped : {sli : ℕ} (n : ℕ) (a v : Worker sli Lanes) (limits left :
 take_stepped n a v limits left from made es answer k has t =
     let near = (k.from from).0 has in
     let w = taken_within a v limits left from answer (omega (arith, near.0, k.few)) t in
-    single_stepped n a v limits left (Take from) made es (reply_took answer) k (λ most e. cc) (take_answered n a v limits left from made es answer near.1 near.0 w) (λ rest. take_moved (made ++ rest) a v limits left from answer w)
+    single_stepped n a v limits left (Take from) made es (reply_took answer) k (λ most e. cc) (take_answered n a v limits left from made es answer near.1 near.0 w) (λ rest. taken_within_moved (made ++ rest) a v limits left from answer w)

@@ -7,18 +7,18 @@ use Rattle.tlsf_calls.specs.declared.entry.Entry.{Entry}
 use Rattle.tlsf_calls.specs.declared.call.Call.{Call}
 use Rattle.tlsf_calls.specs.declared.reply.Reply.{Reply}
 use Rattle.tlsf_crew.specs.worker.Workers.{heap_of, id_of}
-use Rattle.tlsf_crew.specs.model.Told.{Told, AllTold, untold}
+use Rattle.tlsf_crew.specs.model.Progress.{Progress, AllTold, untold}
 use Rattle.tlsf_crew.specs.model.Sums.{sum_of}
-use Rattle.tlsf_crew.specs.scripts.Scripts.{AreMoves, CallMade, ScriptRun, Stage, Step, Telling, at_stage, entry_by, told_at}
+use Rattle.tlsf_crew.specs.scripts.Scripts.{AreMoves, CallMade, ScriptRun, Stage, Step, ScriptPromise, at_stage, entry_by, told_at}
 use Rattle.tlsf_crew.specs.model.World.{made_by}
 
-pub tell_more : (tells : Told → Call → Told → Type 0) (s u t : Told) (calls : List Call) (call : Call) → AllTold tells s calls u → tells u call t → AllTold tells s (calls ++ call ∷ []) t
-tell_more tells s u t [] call all more = (t, subst (λ (x : Told). tells x call t) all more, refl)
+pub tell_more : (tells : Progress → Call → Progress → Type 0) (s u t : Progress) (calls : List Call) (call : Call) → AllTold tells s calls u → tells u call t → AllTold tells s (calls ++ call ∷ []) t
+tell_more tells s u t [] call all more = (t, subst (λ (x : Progress). tells x call t) all more, refl)
 tell_more tells s u t (first ∷ calls) call all more = (all.0, all.1, tell_more tells all.0 u t calls call all.2 more)
 
 -- ---- the own entry
 
-module _ {sli : ℕ} {P : Type 0} (by : Telling sli P) (m : AreMoves by) where
+module _ {sli : ℕ} {P : Type 0} (by : ScriptPromise sli P) (m : AreMoves by) where
   pub step_called : (n : ℕ) (s t : Stage sli P) (call : Call) (made more : List (Option Name)) (longer : List Entry) (at : ℕ) (reply : Reply) → Step by n s call made t reply
       → at ≡ id_of t.worker → more ≡ made ++ made_by reply ∷ [] → longer ≡ t.entries ++ entry_by at call reply ∷ [] → CallMade by n s call made (at_stage t.worker t.limits longer) more
   step_called n s t call made more longer at reply x is e f =

@@ -21,8 +21,8 @@ use Rattle.tlsf_crew.specs.worker.Workers.{heap_of, id_of}
 use Rattle.tlsf_crew.specs.lanes.LaneWorkers.{TakeEndTook, TookThrough}
 use Rattle.tlsf_crew.specs.worker.Calls.{AfterTake}
 use Rattle.tlsf_crew.specs.lanes.LaneCalls.{TakenFromLane}
-use Rattle.tlsf_crew.specs.model.Told.{IsModelAnswer, Told}
-use Rattle.tlsf_crew.specs.model.World.{World, Replied, answered, called, heap_in, taking, taking_next, took, took_first}
+use Rattle.tlsf_crew.specs.model.Progress.{IsModelAnswer, Progress}
+use Rattle.tlsf_crew.specs.model.World.{World, WorldReply, answered, called, heap_in, taking, taking_next, took, took_first}
 use Rattle.tlsf_crew.specs.scripts.Scripts.{reply_took, TakenWithin, told_of}
 use Rattle.tlsf_crew.specs.scripts.LaneMoves.{one, Spent, LaneMoved, LaneTakenWithin, took_by}
 use Rattle.tlsf_crew.proofs.lemmas.worker.SameParts.{ports_heap}
@@ -100,7 +100,7 @@ taken_within a v limits left from (Some took) near t = within_some a v limits le
 
 -- ---- a take of its own
 
-take_called : {sli : ℕ} (at : ℕ) (s : Told) (w : World sli) (from : ℕ) (x : Replied sli) → taking w at from ≡ x
+take_called : {sli : ℕ} (at : ℕ) (s : Progress) (w : World sli) (from : ℕ) (x : WorldReply sli) → taking w at from ≡ x
     → called (record { made = s.made; entries = s.entries; world = w }) at (Take from) ≡ answered (record { made = s.made; entries = s.entries; world = w }) at (Take from) x
 take_called at s w from x is = ap (answered (record { made = s.made; entries = s.entries; world = w }) at (Take from)) is
 
@@ -112,9 +112,9 @@ refused_take at from later a limits = record {
   drained = λ most k i e. cc;
 }
 
-pub stranger_answered : (sli n at from : ℕ) (s : Told) → (from ≡ at) ⊎ (n ≤ from) → IsModelAnswer sli n at s (Take from) (Refused Stranger) s.heap
+pub stranger_answered : (sli n at from : ℕ) (s : Progress) → (from ≡ at) ⊎ (n ≤ from) → IsModelAnswer sli n at s (Take from) (Refused Stranger) s.heap
 stranger_answered sli n at from s away = λ lt w has suits.
-    let x : Replied sli = record { reply = Refused Stranger; world = w } in
+    let x : WorldReply sli = record { reply = Refused Stranger; world = w } in
     let e : taking w at from ≡ x = elim away [ inl own ↦ taking_own w at from own | inr far ↦ taking_far w at from (omega (arith, has.0)) ] in
     told_where at s w (Take from) (Refused Stranger) s.heap x (take_called at s w from x e) (record { same = refl; left = sym has.1 })
 
@@ -155,7 +155,7 @@ pub take_answered : {sli : ℕ} (n : ℕ) (a v : Worker sli Lanes) (limits left 
 take_answered {sli} n a v limits left from made es None ne lt t = λ self w has s.
     let at = id_of a in
     let inside : from < length w.heaps = omega (arith, has.0) in
-    let x : Replied sli = record { reply = Empty; world = w } in
+    let x : WorldReply sli = record { reply = Empty; world = w } in
     let e : taking w at from ≡ x = taking_lane w at from ne inside ∙ first_world w at from [] (s.empty from refl ne inside refl) in
     told_where at (told_of made es (heap_of a)) w (Take from) Empty (heap_of v) x (take_called at (told_of made es (heap_of a)) w from x e) (record { same = refl; left = t.1 ∙ sym has.1 })
 take_answered {sli} n a v limits left from made es (Some y) ne lt t = λ self w has s.
@@ -170,7 +170,7 @@ take_answered {sli} n a v limits left from made es (Some y) ne lt t = λ self w 
       left = t.3 ∙ (ap (λ g. (released g p.name).heap) (sym has.1) ∙ sym (heap_left n at w (heap_of a) (released (heap_in w at) p.name).heap self has));
     })
 
-pub take_moved : {sli : ℕ} (made : List (Option Name)) (a v : Worker sli Lanes) (limits left : List ℕ) (from : ℕ) (answer : Option Took) → LaneTakenWithin a limits from v left answer
+pub taken_within_moved : {sli : ℕ} (made : List (Option Name)) (a v : Worker sli Lanes) (limits left : List ℕ) (from : ℕ) (answer : Option Took) → LaneTakenWithin a limits from v left answer
     → LaneMoved (id_of a) made a limits (Take from ∷ []) (one (id_of a) (Take from) (reply_took answer)) v left
-take_moved made a v limits left from None t = moved_idle (id_of a) made a v limits left [] _ (Take from) (t.0 made) (empty_idle (id_of a) from made a limits t.2)
-take_moved made a v limits left from (Some x) t = more_calls (id_of a) made a v limits left (Take from) _ (t.0 made)
+taken_within_moved made a v limits left from None t = moved_idle (id_of a) made a v limits left [] _ (Take from) (t.0 made) (empty_idle (id_of a) from made a limits t.2)
+taken_within_moved made a v limits left from (Some x) t = more_calls (id_of a) made a v limits left (Take from) _ (t.0 made)

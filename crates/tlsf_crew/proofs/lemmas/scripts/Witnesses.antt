@@ -9,7 +9,7 @@ use Rattle.tlsf_calls.specs.declared.reply.Reply.{Reply}
 use Rattle.tlsf_calls.specs.declared.reply.Reply.TheVariants.{Took as Taken, Refused}
 use Rattle.tlsf_calls.specs.declared.crew_refusal.CrewRefusal.TheVariants.{Full}
 use Rattle.tlsf_crew.specs.model.World.{no_heap, World, heap_in, with_heap}
-use Rattle.tlsf_crew.specs.model.Told.{HasHeap, Suits}
+use Rattle.tlsf_crew.specs.model.Progress.{HasHeap, Suits}
 
 -- n workers, one of whom has this heap; these posts wait in all lanes from each
 abbrev pub a_world : {sli : ℕ} → ℕ → ℕ → HeapState → (ℕ → List Post) → ℕ → World sli
@@ -26,9 +26,9 @@ pub heap_left : {sli : ℕ} (n at : ℕ) (w : World sli) (h g : HeapState) → a
 heap_left n at w h g lt has = let m : at < length w.heaps = omega (arith, has.0) in get_or-set_same w.heaps at g no_heap m
 
 -- the post that a reply tells of, and how many a lane holds where it is answered so
-posts_of : Reply → List Post
-posts_of (Taken t) = record { from = t.from; name = t.name } ∷ []
-posts_of reply = []
+posts_in_reply : Reply → List Post
+posts_in_reply (Taken t) = record { from = t.from; name = t.name } ∷ []
+posts_in_reply reply = []
 
 room_of : Reply → ℕ
 room_of (Refused (Full name)) = 0
@@ -36,17 +36,17 @@ room_of reply = 1
 
 -- a world that suits
 pub a_suit : (sli n at : ℕ) (h : HeapState) (made : List (Option Name)) (call : Call) (reply : Reply) → at < n → (w : World sli) × HasHeap w n at h × Suits w at made call reply
-unfolding posts_of room_of
+unfolding posts_in_reply room_of
 a_suit sli n at h made call reply lt = (
-  a_world n at h (λ i. posts_of reply) (room_of reply),
-  world_has sli n at h (λ i. posts_of reply) (room_of reply) lt,
+  a_world n at h (λ i. posts_in_reply reply) (room_of reply),
+  world_has sli n at h (λ i. posts_in_reply reply) (room_of reply) lt,
   record {
     room = λ target name c known ne lt e full.
-        let p = ap (λ r. length (posts_of r)) e in
+        let p = ap (λ r. length (posts_in_reply r)) e in
         let q = ap room_of e in
         absurd (omega arith);
-    full = λ target name c known ne lt e. ap (λ r. length (posts_of r)) e ∙ sym (ap room_of e);
-    first = λ from t c ne lt e. ([], ap posts_of e);
-    empty = λ from c ne lt e. ap posts_of e;
+    full = λ target name c known ne lt e. ap (λ r. length (posts_in_reply r)) e ∙ sym (ap room_of e);
+    first = λ from t c ne lt e. ([], ap posts_in_reply e);
+    empty = λ from c ne lt e. ap posts_in_reply e;
   },
 )

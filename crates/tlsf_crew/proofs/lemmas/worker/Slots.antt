@@ -1,5 +1,5 @@
 -- A slot that was written has what was written, and each other slot what it had.
-use Rattle.std.proofs.Common.{◌⊎◌, ◌≡◌, ◌≢◌, ℕ, ◌<◌, ◌≤◌, List, Option, Some, None, length, set, sym, ◌∙◌, ap, arith, refl, inl, inr, get_or-set_same, get_or-set_other, suc, zero, replicate, ◌∷◌, []}
+use Rattle.std.proofs.Common.{◌⊎◌, ◌≡◌, ◌≢◌, ℕ, ◌<◌, ◌≤◌, List, Option, Some, None, length, set, sym, ◌∙◌, ap, arith, refl, inl, inr, get_or-set_same, get_or-set_other, suc, zero, replicate, ◌∷◌, ◌++◌, []}
 use Rattle.std.specs.List.{slice_get}
 use Rattle.std.proofs.lemmas.Option.{slice_get-get_or, slice_get_past}
 use Rattle.std.proofs.lemmas.Bool.{cases_lt}
@@ -67,3 +67,13 @@ pub some_at : {X : Type 0} (xs : List X) (k : ℕ) → k < length xs → (x : X)
 some_at [] k lt = absurd (omega arith)
 some_at (x ∷ xs) zero lt = (x, refl)
 some_at (x ∷ xs) (suc k) lt = some_at xs k (omega arith)
+
+-- one was pushed behind others
+pub at_push : {X : Type 0} (xs : List X) (x : X) (i : ℕ) (a : X) → slice_get (xs ++ x ∷ []) i ≡ Some a → (slice_get xs i ≡ Some a) ⊎ ((i ≡ length xs) × (x ≡ a))
+at_push [] x zero a e = inr (refl, some_same x a e)
+at_push [] x (suc i) a e = cc
+at_push (y ∷ xs) x zero a e = inl e
+at_push (y ∷ xs) x (suc i) a e = elim (at_push xs x i a e) [
+  | inl h ↦ inl h
+  | inr h ↦ inr (ap suc h.0, h.1)
+]

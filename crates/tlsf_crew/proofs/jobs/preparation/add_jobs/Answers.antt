@@ -26,7 +26,7 @@ make_job-requires g c = (
   (
     omega arith,
     (
-      (All-pop (KnowsSome (g.P.Scripted.telling g.row.SLI).knows) c.loop-worker.workers.items c.pop.new.self.items (Some c.in-Some.worker) c.in-Some.ensures.items c.loop-worker.invariant.yard).1,
+      (All-pop (KnowsSome (g.P.Scripted.promise g.row.SLI).knows) c.loop-worker.workers.items c.pop.new.self.items (Some c.in-Some.worker) c.in-Some.ensures.items c.loop-worker.invariant.yard).1,
       (All-pop (λ s. vec_len s < 2 ^ 32) c.loop-worker.scripts.items c.pop-in-Some.new.self.items (Some c.in-Some-pop.script) c.in-Some-pop.ensures.items c.loop-worker.invariant.short).1,
     ),
   ),
@@ -37,11 +37,11 @@ loop-worker-preserved g c =
     let i = c.loop-worker.invariant in
     record {
       same = omega (arith, i.same, c.in-Some.ensures.cases, c.in-Some-pop.ensures.cases);
-      yard = (All-pop (KnowsSome (g.P.Scripted.telling g.row.SLI).knows) c.loop-worker.workers.items c.pop.new.self.items (Some c.in-Some.worker) c.in-Some.ensures.items c.loop-worker.invariant.yard).0;
+      yard = (All-pop (KnowsSome (g.P.Scripted.promise g.row.SLI).knows) c.loop-worker.workers.items c.pop.new.self.items (Some c.in-Some.worker) c.in-Some.ensures.items c.loop-worker.invariant.yard).0;
       short = (All-pop (λ s. vec_len s < 2 ^ 32) c.loop-worker.scripts.items c.pop-in-Some.new.self.items (Some c.in-Some-pop.script) c.in-Some-pop.ensures.items c.loop-worker.invariant.short).0;
       workers = popped_more (λ (j : Job g.row.SLI _). j.worker) _ _ _ c.in-Some.worker _ _ c.in_ok-job.job c.in-Some.ensures.items c.push_reserved.ensures.items c.in_ok-job.ensures.0 i.workers;
       scripts = popped_more (λ (j : Job g.row.SLI _). j.script) _ _ _ c.in-Some-pop.script _ _ c.in_ok-job.job c.in-Some-pop.ensures.items c.push_reserved.ensures.items c.in_ok-job.ensures.1 i.scripts;
-      ready = rw c.push_reserved.ensures.items (All-push (IsPrepared (g.P.Scripted.telling g.row.SLI) c.args.releases.now) _ _ i.ready c.in_ok-job.ensures.2);
+      ready = rw c.push_reserved.ensures.items (All-push (IsPrepared (g.P.Scripted.promise g.row.SLI) c.args.releases.now) _ _ i.ready c.in_ok-job.ensures.2);
       room = omega (arith, i.room, c.push_reserved.ensures.len, c.push_reserved.ensures.capacity, c.in-Some.ensures.cases);
       capacity = c.push_reserved.ensures.capacity ∙ i.capacity;
     }
@@ -57,7 +57,7 @@ returns-clause-scripts g c =
     popped_all (λ (j : Job g.row.SLI _). j.script) c.loop-worker.scripts.items c.args.scripts.now.items c.loop-worker.jobs.items c.reverse.new.self.items (nil_from_length c.loop-worker.scripts.items (omega (arith, c.loop-worker.invariant.same, c.in_default.ensures.cases.0))) c.reverse.ensures.items c.loop-worker.invariant.scripts
 
 pub returns-clause-ready : goal.returns-clause-ready
-returns-clause-ready g c = All-permutation (IsPrepared (g.P.Scripted.telling g.row.SLI) c.args.releases.now) _ _ c.reverse.ensures.permutation c.loop-worker.invariant.ready
+returns-clause-ready g c = All-permutation (IsPrepared (g.P.Scripted.promise g.row.SLI) c.args.releases.now) _ _ c.reverse.ensures.permutation c.loop-worker.invariant.ready
 
 pub returns-clause-len : goal.returns-clause-len
 returns-clause-len g c =

@@ -5,7 +5,7 @@ use Rattle.std.proofs.lemmas.Option.{slice_get-get_or}
 use Rattle.tlsf_crew.specs.declared.worker.worker.Worker.{Worker}
 use Rattle.tlsf_crew.specs.declared.queues.queues.Queues.{Queues}
 use Rattle.tlsf_crew.specs.queues.QueueOpening.{GaveEnds}
-use Rattle.tlsf_crew.proofs.lemmas.queues.QueueOpened.{end_left, gave_none, gave_own, gave_more, last_end, own_numbers, popped_none, slots_set}
+use Rattle.tlsf_crew.proofs.lemmas.queues.QueueOpened.{end_left, gave_none, gave_own, gave_more, last_end, below_but_own, popped_none, slots_set}
 use Rattle.tlsf_crew.proofs.queues.queue_opening.give_ends.Goals as goal
 
 pub loop-i-preserved-then-i-j : goal.loop-i-preserved-then-i-j
@@ -16,7 +16,7 @@ loop-i-preserved-then-i-j g c =
     record {
       inside = omega (arith, before.inside);
       slots = before.slots;
-      numbers = before.numbers ∙ own_numbers c.args.j i c.loop-i.i next c.if-i-j.true;
+      numbers = before.numbers ∙ below_but_own c.args.j i c.loop-i.i next c.if-i-j.true;
       rest = λ vs gave. before.rest vs (gave_own c.loop-i.workers vs c.args.j i c.loop-i.i c.loop-i.posters.items next c.if-i-j.true gave);
       capacity = before.capacity;
     }

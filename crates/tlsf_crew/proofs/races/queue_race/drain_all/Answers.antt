@@ -1,7 +1,7 @@
 use Rattle.std.proofs.Common.{◌≤◌, ◌∙◌, get_or, arith, refl, subst, sym}
 use Rattle.std.proofs.lemmas.Option.{slice_get-get_or}
 use Rattle.tlsf_crew.specs.races.QueueTasks.{HasPlace, KnowsSomeYard}
-use Rattle.tlsf_crew.proofs.lemmas.races.QueueLast.{drained_next}
+use Rattle.tlsf_crew.proofs.lemmas.races.QueueLast.{queue_drain_next}
 use Rattle.tlsf_crew.proofs.lemmas.races.RecordRooms.{keeps_set}
 use Rattle.tlsf_crew.proofs.lemmas.worker.Slots.{get_set_other, some_same}
 use Rattle.tlsf_crew.proofs.races.queue_race.drain_all.Goals as goal
@@ -38,7 +38,7 @@ loop-j-preserved g c =
     let at = slice_get-get_or c.loop-j.workers c.loop-j.j c.index-workers-j.result (omega (arith, i.drained.worker_count)) in
     let here = slice_get-get_or c.loop-j.records c.loop-j.j c.index-records-j.result (omega (arith, c.requires.count)) in
     record {
-      drained = drained_next c.args.workers.now c.loop-j.workers c.args.records.now c.loop-j.records c.loop-j.j _ c.drain_one.new.worker _ c.drain_one.new.entries i.drained at here (sym (i.later c.loop-j.j le) ∙ here)
+      drained = queue_drain_next c.args.workers.now c.loop-j.workers c.args.records.now c.loop-j.records c.loop-j.j _ c.drain_one.new.worker _ c.drain_one.new.entries i.drained at here (sym (i.later c.loop-j.j le) ∙ here)
           c.drain_one.ensures.drained;
       rooms = keeps_set c.args.records.now c.loop-j.records c.loop-j.j _ c.drain_one.new.entries i.rooms (omega (arith, c.requires.count)) here c.drain_one.ensures.capacity;
       later = λ k after. get_set_other c.loop-j.records c.loop-j.j k c.drain_one.new.entries (λ e. omega arith) ∙ i.later k (omega arith);

@@ -4,7 +4,7 @@ use Rattle.std.specs.declared.alloc.Global.{Global}
 use Rattle.tlsf_calls.specs.declared.entry.Entry.{Entry}
 use Rattle.tlsf_crew.specs.races.QueueTasks.{QueueLastDrained}
 use Rattle.tlsf_crew.specs.scripts.Scripts.{at_stage, stage_of}
-use Rattle.tlsf_crew.proofs.lemmas.races.QueueLast.{drained_last}
+use Rattle.tlsf_crew.proofs.lemmas.races.QueueLast.{queue_drain_is_last}
 use Rattle.tlsf_crew.proofs.lemmas.scripts.ScriptRuns.{step_room}
 use Rattle.tlsf_crew.proofs.lemmas.scripts.QueueRuns.{queue_moves}
 use Rattle.tlsf_crew.proofs.races.queue_race.drain_one.Goals as goal
@@ -35,5 +35,5 @@ returns-clause-drained g c = λ n k.
     let e = c.drain_into_queue_journal-taken.ensures in
     let items = ap (λ (v : Vec Entry Global). v.items) c.replace.ensures.value in
     subst (λ (es : List Entry). QueueLastDrained n c.args.worker.now v es c.push_reserved.new.self.items) items
-    (drained_last n (at_stage c.args.worker.now (c.last_limit.result ∷ 0 ∷ 0 ∷ 0 ∷ 0 ∷ 0 ∷ 0 ∷ 0 ∷ []) c.replace.result.items) (stage_of v c.drain_into_queue_journal-taken.new.journal) v.id c.drain_into_queue_journal-taken.result c.push_reserved.new.self.items e.few (omega (arith, c.last_limit.ensures.few)) refl
+    (queue_drain_is_last n (at_stage c.args.worker.now (c.last_limit.result ∷ 0 ∷ 0 ∷ 0 ∷ 0 ∷ 0 ∷ 0 ∷ 0 ∷ []) c.replace.result.items) (stage_of v c.drain_into_queue_journal-taken.new.journal) v.id c.drain_into_queue_journal-taken.result c.push_reserved.new.self.items e.few (omega (arith, c.last_limit.ensures.few)) refl
     (λ made. e.stepped n made k) (e.ends n k) c.push_reserved.ensures.items)

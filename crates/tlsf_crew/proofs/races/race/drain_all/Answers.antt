@@ -1,6 +1,6 @@
 use Rattle.std.proofs.Common.{◌≡◌, ◌∙◌, ap, sym, refl, arith, Some, slice_get}
 use Rattle.std.proofs.lemmas.Option.{slice_get-get_or}
-use Rattle.tlsf_crew.proofs.lemmas.races.LastDrains.{drain_next, room_next}
+use Rattle.tlsf_crew.proofs.lemmas.races.LastDrains.{lane_drain_next, room_next}
 use Rattle.tlsf_crew.proofs.lemmas.races.RecordRooms.{keeps_set}
 use Rattle.tlsf_crew.proofs.lemmas.worker.Slots.{get_set_other}
 use Rattle.tlsf_crew.proofs.races.race.drain_all.Goals as goal
@@ -47,7 +47,7 @@ loop-j-preserved g c =
     let here : slice_get c.loop-j.records j ≡ Some r = slice_get-get_or c.loop-j.records j r (omega arith) ∙ ap Some (sym c.index-records-j.is) in
     let there : slice_get c.args.records.now j ≡ Some r = sym (c.loop-j.invariant.later j (omega arith)) ∙ here in
     record {
-      last = drain_next _ _ _ _ _ j r c.drain_one.new.entries c.loop-j.invariant.last (c.requires.few j) (omega arith) here there c.drain_one.ensures.yard
+      last = lane_drain_next _ _ _ _ _ j r c.drain_one.new.entries c.loop-j.invariant.last (c.requires.few j) (omega arith) here there c.drain_one.ensures.yard
           (rw (sym c.index-records-j.is) at c.drain_one.ensures.told);
       rooms = keeps_set _ _ j r c.drain_one.new.entries c.loop-j.invariant.rooms (omega arith) here (rw (sym c.index-records-j.is) at c.drain_one.ensures.capacity);
       later = λ k le. get_set_other c.loop-j.records j k c.drain_one.new.entries (λ e. omega arith) ∙ c.loop-j.invariant.later k (omega arith);

@@ -1,10 +1,12 @@
 use denote.Param.Send.{sendable}
+use Rattle.tlsf_crew.proofs.worker.lanes.Lanes.TheSendSync.{the_send}
 use Rattle.std.proofs.Common.{◌++◌, ap, length, map, take, drop, sym, arith}
 use Rattle.std.specs.declared.vec.Vec.{Vec}
 use Rattle.std.specs.declared.alloc.Global.{Global}
 use Rattle.std.proofs.lemmas.List.{length-map}
 use Rattle.tlsf_calls.specs.declared.entry.Entry.{Entry}
 use Rattle.tlsf_crew.proofs.lemmas.races.WholeRace.{settled_few, last_rooms, race_is, written_back}
+use Rattle.tlsf_crew.proofs.lemmas.races.LaneGathering.{each_knows_some, lanes_ran, lanes_rooms}
 use Rattle.tlsf_crew.proofs.lemmas.races.RecordRooms.{record_rooms}
 use Rattle.tlsf_crew.proofs.races.race.race.Goals as goal
 
@@ -19,10 +21,9 @@ drain_all-requires g c = (
       let us = c.settle-2.new.workers in
           let out = c.in_ok-outcome.outcome in
           let run = c.in_ok-outcome.ensures.run in
-          let records = length-map out.records.items (λ (r : Vec Entry Global). r.items) in
           let workers = ap length c.deref_mut-2.ensures.value in
           let back = written_back out.workers.len us out.workers.items (omega (arith, c.settle-2.ensures.count, c.deref_mut-2.ensures.len)) in
-          rw (c.deref_mut-3.ensures.value, back, c.deref_mut-4.ensures.value) (omega (arith, run.worker_count, run.record_count, records, workers, c.settle-2.ensures.count)),
+          rw (c.deref_mut-3.ensures.value, back, c.deref_mut-4.ensures.value) (omega (arith, run.worker_count, run.record_count, workers, c.settle-2.ensures.count)),
       (
         let us = c.settle-2.new.workers in
             let back = written_back c.in_ok-outcome.outcome.workers.len us c.in_ok-outcome.outcome.workers.items (omega (arith, c.settle-2.ensures.count, c.deref_mut-2.ensures.len)) in
@@ -31,9 +32,12 @@ drain_all-requires g c = (
             let us = c.settle-2.new.workers in
             let first = written_back c.args.workers.len ws c.args.workers.items (omega (arith, c.settle.ensures.count, c.deref_mut.ensures.len)) in
             let back = written_back c.in_ok-outcome.outcome.workers.len us c.in_ok-outcome.outcome.workers.items (omega (arith, c.settle-2.ensures.count, c.deref_mut-2.ensures.len)) in
-            let run = rw (first, sym c.deref_mut-2.ensures.value) at c.in_ok-outcome.ensures.run in
-            let rooms = rw first at c.in_ok-outcome.ensures.rooms in
-            rw (c.deref_mut-3.ensures.value, back, c.deref_mut-4.ensures.value) (last_rooms c.deref_mut.result.now ws c.deref_mut-2.result.now us (map (λ s. s.items) c.args.scripts.items) c.in_ok-outcome.outcome.records.items c.settle.ensures.count c.settle.ensures.settled c.settle.ensures.yard run rooms c.settle-2.ensures.count c.settle-2.ensures.settled c.settle-2.ensures.yard c.settle-2.ensures.world),
+            let ran = rw first at c.in_ok-outcome.ensures.run in
+            let scripts = map (λ s. s.items) c.args.scripts.items in
+            let out = c.in_ok-outcome.outcome in
+            let run = rw (sym c.deref_mut-2.ensures.value) at (lanes_ran ws out.workers.items scripts out.records.items c.settle.ensures.yard ran) in
+            let rooms = lanes_rooms ws out.workers.items scripts out.records.items ran in
+            rw (c.deref_mut-3.ensures.value, back, c.deref_mut-4.ensures.value) (last_rooms c.deref_mut.result.now ws c.deref_mut-2.result.now us scripts out.records.items c.settle.ensures.count c.settle.ensures.settled c.settle.ensures.yard run rooms c.settle-2.ensures.count c.settle-2.ensures.settled c.settle-2.ensures.yard c.settle-2.ensures.world),
       ),
     ),
   ),
@@ -53,9 +57,10 @@ returns g c =
     let records = written_back out.records.len c.drain_all.new.records out.records.items (omega (arith, c.deref_mut-4.ensures.len)) in
     let workers = written_back out.workers.len c.drain_all.new.workers (take out.workers.len (us ++ drop (length us) out.workers.items))
     (omega (arith, c.drain_all.ensures.drained.worker_count, c.deref_mut-3.ensures.len)) in
-    let run = rw (first, sym c.deref_mut-2.ensures.value) at c.in_ok-outcome.ensures.run in
+    let ran = rw first at c.in_ok-outcome.ensures.run in
+    let run = rw (sym c.deref_mut-2.ensures.value) at (lanes_ran ws out.workers.items scripts out.records.items c.settle.ensures.yard ran) in
     let last = rw (c.deref_mut-3.ensures.value, back, c.deref_mut-4.ensures.value) at c.drain_all.ensures.drained in
-    let rooms = rw first at c.in_ok-outcome.ensures.rooms in
+    let rooms = lanes_rooms ws out.workers.items scripts out.records.items ran in
     let keep = rw c.deref_mut-4.ensures.value at c.drain_all.ensures.rooms in
     let made = length-map out.records.items (λ (r : Vec Entry Global). r.items) in
     record {
@@ -67,20 +72,20 @@ returns g c =
           c.settle.ensures.count c.settle.ensures.settled c.settle.ensures.world c.settle.ensures.yard run c.settle-2.ensures.count c.settle-2.ensures.settled c.settle-2.ensures.world c.settle-2.ensures.yard last);
     }
 
-pub run_scripts-requires : goal.run_scripts-requires
-run_scripts-requires g c = (
-  search sendable,
-  (
-    search sendable,
-    (
-      omega arith,
-      (
-        omega arith,
-        (
-          rw (written_back c.args.workers.len c.settle.new.workers c.args.workers.items (omega (arith, c.settle.ensures.count, c.deref_mut.ensures.len))) c.settle.ensures.yard,
-          (c.requires.count, c.requires.short),
-        ),
-      ),
-    ),
-  ),
-)
+pub settle-requires-2 : goal.settle-requires-2
+settle-requires-2 g c =
+    let ws = c.settle.new.workers in
+    let out = c.in_ok-outcome.outcome in
+    let first = written_back c.args.workers.len ws c.args.workers.items (omega (arith, c.settle.ensures.count, c.deref_mut.ensures.len)) in
+    let run = lanes_ran ws out.workers.items (map (λ s. s.items) c.args.scripts.items) out.records.items c.settle.ensures.yard (rw first at c.in_ok-outcome.ensures.run) in
+    (omega arith, rw c.deref_mut-2.ensures.value run.yard)
+
+pub run_scripts-requires-send-P : goal.run_scripts-requires-send-P
+run_scripts-requires-send-P g c κs within = search (sendable, the_send)
+
+pub run_scripts-requires-after_bounds : goal.run_scripts-requires-after_bounds
+run_scripts-requires-after_bounds g c κs within =
+    let ws = c.settle.new.workers in
+    let yard = c.settle.ensures.yard in
+    let first = written_back c.args.workers.len ws c.args.workers.items (omega (arith, c.settle.ensures.count, c.deref_mut.ensures.len)) in
+    (omega arith, (omega arith, (omega arith, (omega arith, (rw first (each_knows_some ws yard), (rw first yard.few, (c.requires.count, c.requires.short)))))))

@@ -1,9 +1,9 @@
 use Rattle.std.proofs.Common.{◌≡◌, subst, sym}
 use Rattle.tlsf_calls.specs.Bytes.{bytes_of}
-use Rattle.tlsf_crew.specs.model.OwnReplies.{HeapReplies, own_writing, own_reading, own_resizing}
+use Rattle.tlsf_crew.specs.model.OwnReplies.{IsHeapReply, own_writing, own_reading, own_resizing}
 use Rattle.tlsf_crew.specs.model.Targets.{target_name}
 use Rattle.tlsf_crew.specs.worker.Workers.{heap_of}
-use Rattle.tlsf_crew.proofs.lemmas.model.OwnReplied.{read_keeps, resize_keeps, write_keeps}
+use Rattle.tlsf_crew.proofs.lemmas.model.HeapReply.{read_keeps, resize_keeps, write_keeps}
 use Rattle.tlsf_crew.proofs.lemmas.scripts.OwnTold.{allocate_call, read_call, resize_call, write_call}
 use Rattle.tlsf_crew.proofs.scripts.executor.reply_to.Goals as goal
 
@@ -22,7 +22,7 @@ returns-in-Write-clause-stepped g c = λ n made known k.
     rw c.in-Write.is
     (c.quiet_step.ensures g.row.SLI n _ _ c.args.journal.now.limits _ _ _ _ k (c.heap_keeps.ensures g.row.SLI _ _ e.same kept)
     (write_call n c.args.worker.now c.reply_to_own_write.new.worker c.in-Write.target c.in-Write.at c.in-Write.bytes made c.args.journal.now.entries.items c.reply_to_own_write.result e.same
-    (subst (λ o. HeapReplies c.reply_to_own_write.result (heap_of c.reply_to_own_write.new.worker) (own_writing (heap_of c.args.worker.now) o c.in-Write.at (bytes_of c.in-Write.bytes))) (sym meant) e.replied)))
+    (subst (λ o. IsHeapReply c.reply_to_own_write.result (heap_of c.reply_to_own_write.new.worker) (own_writing (heap_of c.args.worker.now) o c.in-Write.at (bytes_of c.in-Write.bytes))) (sym meant) e.replied)))
 
 pub returns-in-Read-clause-stepped : goal.returns-in-Read-clause-stepped
 returns-in-Read-clause-stepped g c = λ n made known k.
@@ -32,7 +32,7 @@ returns-in-Read-clause-stepped g c = λ n made known k.
     rw c.in-Read.is
     (c.quiet_step.ensures g.row.SLI n _ _ c.args.journal.now.limits _ _ _ _ k (c.heap_keeps.ensures g.row.SLI _ _ e.same kept)
     (read_call n c.args.worker.now c.reply_to_own_read.new.worker c.in-Read.target c.in-Read.at c.in-Read.n made c.args.journal.now.entries.items c.reply_to_own_read.result e.same
-    (subst (λ o. HeapReplies c.reply_to_own_read.result (heap_of c.reply_to_own_read.new.worker) (own_reading (heap_of c.args.worker.now) o c.in-Read.at c.in-Read.n)) (sym meant) e.replied)))
+    (subst (λ o. IsHeapReply c.reply_to_own_read.result (heap_of c.reply_to_own_read.new.worker) (own_reading (heap_of c.args.worker.now) o c.in-Read.at c.in-Read.n)) (sym meant) e.replied)))
 
 pub returns-in-Resize-clause-stepped : goal.returns-in-Resize-clause-stepped
 returns-in-Resize-clause-stepped g c = λ n made known k.
@@ -42,7 +42,7 @@ returns-in-Resize-clause-stepped g c = λ n made known k.
     rw c.in-Resize.is
     (c.quiet_step.ensures g.row.SLI n _ _ c.args.journal.now.limits _ _ _ _ k (c.heap_keeps.ensures g.row.SLI _ _ e.same kept)
     (resize_call n c.args.worker.now c.reply_to_own_resize.new.worker c.in-Resize.target c.in-Resize.len made c.args.journal.now.entries.items c.reply_to_own_resize.result e.same
-    (subst (λ o. HeapReplies c.reply_to_own_resize.result (heap_of c.reply_to_own_resize.new.worker) (own_resizing (heap_of c.args.worker.now) o c.in-Resize.len)) (sym meant) e.replied)))
+    (subst (λ o. IsHeapReply c.reply_to_own_resize.result (heap_of c.reply_to_own_resize.new.worker) (own_resizing (heap_of c.args.worker.now) o c.in-Resize.len)) (sym meant) e.replied)))
 
 pub returns-in-Release-clause-stepped : goal.returns-in-Release-clause-stepped
 returns-in-Release-clause-stepped g c = λ n made known k.

@@ -19,5 +19,5 @@ returns-clause-called g c = λ n k.
     let t = stage_of v c.reply_to-reply.new.journal in
     let reply = c.reply_to-reply.result in
     let step = c.reply_to-reply.ensures.stepped n c.args.made.now.items (subst (λ made. target_name made c.args.call ≡ c.target_name-name.result) c.deref.ensures.value (sym c.target_name-name.ensures)) k in
-    step_called (g.P.Scripted.telling g.row.SLI) (c.moves_join.ensures g.row.SLI) n s t c.args.call c.args.made.now.items c.answer.new.made.items c.answer.new.entries.items _ reply
+    step_called (g.P.Scripted.promise g.row.SLI) (c.moves_join.ensures g.row.SLI) n s t c.args.call c.args.made.now.items c.answer.new.made.items c.answer.new.entries.items _ reply
     (c.steps_tell.ensures g.row.SLI n s t _ _ _ step) refl c.answer.ensures.made c.answer.ensures.entries

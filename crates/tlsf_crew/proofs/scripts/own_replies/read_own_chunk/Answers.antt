@@ -3,7 +3,7 @@ use Rattle.std.proofs.lemmas.List.{length-take-le}
 use Rattle.tlsf_heap.specs.Calls.{read_of}
 use Rattle.tlsf_crew.specs.worker.Workers.{heap_of}
 use Rattle.tlsf_crew.specs.worker.Calls.{by_heap}
-use Rattle.tlsf_crew.proofs.lemmas.model.ChunkReads.{few_read, read_many, many_ok, many_err}
+use Rattle.tlsf_crew.proofs.lemmas.model.ChunkReads.{answer_of_few, read_many, many_ok, many_err}
 use Rattle.tlsf_crew.proofs.scripts.own_replies.read_own_chunk.Goals as goal
 
 pub returns-in-Ok-clause-answer : goal.returns-in-Ok-clause-answer
@@ -16,4 +16,4 @@ returns-in-Err-clause-answer g c =
 
 pub returns-clause-answer : goal.returns-clause-answer
 returns-clause-answer g c =
-    few_read (heap_of c.args.worker.now) c.args.name c.args.from c.args.n _ _ c.read_own_into.ensures.answer (length-take-le c.args.n (replicate 64 0) (omega arith)) (omega arith)
+    answer_of_few (heap_of c.args.worker.now) c.args.name c.args.from c.args.n _ _ c.read_own_into.ensures.answer (length-take-le c.args.n (replicate 64 0) (omega arith)) (omega arith)

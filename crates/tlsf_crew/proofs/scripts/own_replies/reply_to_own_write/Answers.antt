@@ -1,20 +1,20 @@
 use Rattle.std.proofs.Common.{length, sym}
 use Rattle.tlsf_calls.specs.declared.reply.Reply.TheVariants.{Wrote}
 use Rattle.tlsf_crew.specs.worker.Workers.{heap_of}
-use Rattle.tlsf_crew.proofs.lemmas.model.OwnReplied.{by_ok, by_err, none_replied, write_replied}
+use Rattle.tlsf_crew.proofs.lemmas.model.HeapReply.{by_ok, by_err, own_unmade_is, own_write_is}
 use Rattle.tlsf_crew.proofs.scripts.own_replies.reply_to_own_write.Goals as goal
 
 pub returns-in_default-clause-replied : goal.returns-in_default-clause-replied
-returns-in_default-clause-replied g c = none_replied (heap_of c.args.worker.now) _ _ (sym c.in_default.is)
+returns-in_default-clause-replied g c = own_unmade_is (heap_of c.args.worker.now) _ _ (sym c.in_default.is)
 
 pub returns-in-Ok-clause-replied : goal.returns-in-Ok-clause-replied
 returns-in-Ok-clause-replied g c =
     let list = c.as_slice-list.result.now in
-    write_replied (heap_of c.args.worker.now) _ _ c.in-Some.name c.args.from list _ _ (sym c.in-Some.is) c.as_slice-list.ensures.bytes
+    own_write_is (heap_of c.args.worker.now) _ _ c.in-Some.name c.args.from list _ _ (sym c.in-Some.is) c.as_slice-list.ensures.bytes
     (by_ok (λ done. Wrote (length list)) _ c.in-Ok.field-0 c.in-Ok.ensures.answer) c.in-Ok.ensures.heap
 
 pub returns-in-Err-clause-replied : goal.returns-in-Err-clause-replied
 returns-in-Err-clause-replied g c =
     let list = c.as_slice-list.result.now in
-    write_replied (heap_of c.args.worker.now) _ _ c.in-Some.name c.args.from list _ _ (sym c.in-Some.is) c.as_slice-list.ensures.bytes
+    own_write_is (heap_of c.args.worker.now) _ _ c.in-Some.name c.args.from list _ _ (sym c.in-Some.is) c.as_slice-list.ensures.bytes
     (by_err (λ done. Wrote (length list)) _ c.in-Err.why c.in-Err.ensures.answer) c.in-Err.ensures.heap

@@ -11,7 +11,7 @@ use Rattle.tlsf_calls.specs.declared.crew_refusal.CrewRefusal.TheVariants.{Heap,
 use Rattle.tlsf_crew.specs.worker.Workers.{KeepsHeap}
 use Rattle.tlsf_crew.specs.worker.Calls.{by_heap}
 use Rattle.tlsf_crew.specs.model.Heaps.{written, resized, chunk_read}
-use Rattle.tlsf_crew.specs.model.OwnReplies.{HeapReplies, OwnReplied, own_named, own_writing, own_reading, own_resizing, reply_by, reply_wrote, reply_got, reply_resized}
+use Rattle.tlsf_crew.specs.model.OwnReplies.{IsHeapReply, HeapReply, own_named, own_writing, own_reading, own_resizing, reply_by, reply_wrote, reply_got, reply_resized}
 use Rattle.tlsf_crew.proofs.lemmas.worker.OwnHeaps.{call_keeps, same_heap_keeps}
 
 pub by_ok : {A : Type 0} (given : A → Reply) (o : Result A Refusal) (x : A) → Ok x ≡ by_heap o → given x ≡ reply_by given o
@@ -23,28 +23,28 @@ by_err given (Ok y) why e = cc
 by_err given (Err x) why e = let q : why ≡ Heap x = cc in ap Refused q
 
 -- of a target that means no name
-pub none_replied : (h : HeapState) (by : Name → OwnReplied) (o : Option Name) → None ≡ o → HeapReplies (Refused Unmade) h (own_named h by o)
-none_replied h by o none = subst (λ o. HeapReplies (Refused Unmade) h (own_named h by o)) none (record { same = refl; left = refl })
+pub own_unmade_is : (h : HeapState) (by : Name → HeapReply) (o : Option Name) → None ≡ o → IsHeapReply (Refused Unmade) h (own_named h by o)
+own_unmade_is h by o none = subst (λ o. IsHeapReply (Refused Unmade) h (own_named h by o)) none (record { same = refl; left = refl })
 
-some_replied : (h g : HeapState) (by : Name → OwnReplied) (o : Option Name) (name : Name) (reply : Reply) → Some name ≡ o → reply ≡ (by name).reply → g ≡ (by name).heap → HeapReplies reply g (own_named h by o)
-some_replied h g by o name reply known e f = subst (λ o. HeapReplies reply g (own_named h by o)) known (record { same = e; left = f })
+own_named_is : (h g : HeapState) (by : Name → HeapReply) (o : Option Name) (name : Name) (reply : Reply) → Some name ≡ o → reply ≡ (by name).reply → g ≡ (by name).heap → IsHeapReply reply g (own_named h by o)
+own_named_is h g by o name reply known e f = subst (λ o. IsHeapReply reply g (own_named h by o)) known (record { same = e; left = f })
 
-pub write_replied : (h g : HeapState) (o : Option Name) (name : Name) (from : ℕ) (list bytes : List ℕ) (reply : Reply) → Some name ≡ o → list ≡ bytes
-    → reply ≡ reply_wrote (length list) (heap.written h name from list).answer → g ≡ (heap.written h name from list).heap → HeapReplies reply g (own_writing h o from bytes)
+pub own_write_is : (h g : HeapState) (o : Option Name) (name : Name) (from : ℕ) (list bytes : List ℕ) (reply : Reply) → Some name ≡ o → list ≡ bytes
+    → reply ≡ reply_wrote (length list) (heap.written h name from list).answer → g ≡ (heap.written h name from list).heap → IsHeapReply reply g (own_writing h o from bytes)
 unfolding written
-write_replied h g o name from list bytes reply known are e f = subst (λ l. HeapReplies reply g (own_writing h o from l)) are (some_replied h g _ o name reply known e f)
+own_write_is h g o name from list bytes reply known are e f = subst (λ l. IsHeapReply reply g (own_writing h o from l)) are (own_named_is h g _ o name reply known e f)
 
-pub read_replied : (h g : HeapState) (o : Option Name) (name : Name) (from n : ℕ) (reply : Reply) → Some name ≡ o → reply ≡ reply_got (chunk_read h name from n) → g ≡ h → HeapReplies reply g (own_reading h o from n)
-read_replied h g o name from n reply = some_replied h g _ o name reply
+pub own_read_is : (h g : HeapState) (o : Option Name) (name : Name) (from n : ℕ) (reply : Reply) → Some name ≡ o → reply ≡ reply_got (chunk_read h name from n) → g ≡ h → IsHeapReply reply g (own_reading h o from n)
+own_read_is h g o name from n reply = own_named_is h g _ o name reply
 
-pub resize_replied : (h g : HeapState) (o : Option Name) (name : Name) (len : ℕ) (reply : Reply) → Some name ≡ o
-    → reply ≡ reply_resized (heap.resized h name len).answer → g ≡ (heap.resized h name len).heap → HeapReplies reply g (own_resizing h o len)
+pub own_resize_is : (h g : HeapState) (o : Option Name) (name : Name) (len : ℕ) (reply : Reply) → Some name ≡ o
+    → reply ≡ reply_resized (heap.resized h name len).answer → g ≡ (heap.resized h name len).heap → IsHeapReply reply g (own_resizing h o len)
 unfolding resized
-resize_replied h g o name len reply = some_replied h g _ o name reply
+own_resize_is h g o name len reply = own_named_is h g _ o name reply
 
 -- ---- the heap that is left keeps its number, and stays lawful
 
-named_keeps : (h g : HeapState) (by : Name → OwnReplied) (o : Option Name) → g ≡ (own_named h by o).heap → ((name : Name) → g ≡ (by name).heap → KeepsHeap h g) → KeepsHeap h g
+named_keeps : (h g : HeapState) (by : Name → HeapReply) (o : Option Name) → g ≡ (own_named h by o).heap → ((name : Name) → g ≡ (by name).heap → KeepsHeap h g) → KeepsHeap h g
 named_keeps h g by None e keeps = same_heap_keeps h g e
 named_keeps h g by (Some name) e keeps = keeps name e
 

@@ -10,7 +10,7 @@ use Rattle.tlsf_calls.specs.declared.crew_refusal.CrewRefusal.TheVariants.{Stran
 use Rattle.tlsf_calls.specs.declared.reply.Reply.{Reply}
 use Rattle.tlsf_calls.specs.declared.reply.Reply.TheVariants.{Took as Taken, Drained, Refused}
 use Rattle.tlsf_crew.specs.model.Heaps.{released}
-use Rattle.tlsf_crew.specs.model.Told.{Told, AllTold, MayTell, told_more}
+use Rattle.tlsf_crew.specs.model.Progress.{Progress, AllTold, MayTell, told_more}
 
 -- a post of another of n workers
 abbrev pub IsFromOther : ℕ → ℕ → Post → Type 0
@@ -25,26 +25,26 @@ take_entry at h post = record {
 }
 
 -- one post was taken
-abbrev pub told_take : ℕ → Told → Post → Told
-told_take at s post = record { made = s.made; entries = s.entries ++ take_entry at s.heap post ∷ []; heap = (released s.heap post.name).heap }
+abbrev pub with_take : ℕ → Progress → Post → Progress
+with_take at s post = record { made = s.made; entries = s.entries ++ take_entry at s.heap post ∷ []; heap = (released s.heap post.name).heap }
 
 -- these posts were taken, one after another, whoever posted each
-abbrev pub told_takes : ℕ → Told → List Post → Told
-told_takes at s posts = fold (told_take at) s posts
+abbrev pub with_takes : ℕ → Progress → List Post → Progress
+with_takes at s posts = fold (with_take at) s posts
 
 -- a call was answered so, and left the heap as it was
-abbrev pub told_reply : ℕ → Told → Call → Reply → Told
-told_reply at s call reply = told_more at s call reply s.heap
+abbrev pub with_reply : ℕ → Progress → Call → Reply → Progress
+with_reply at s call reply = told_more at s call reply s.heap
 
 -- one call more over queues of n workers. A take is refused, since a queue has no single poster; a drain takes some posts of
 -- others, in whatever order they come; all else is answered as over lanes
-abbrev pub MayTellQueue : ℕ → ℕ → ℕ → Told → Call → Told → Type 0
-MayTellQueue sli n at s (Take from) t = t ≡ told_reply at s (Take from) (Refused Stranger)
+abbrev pub MayTellQueue : ℕ → ℕ → ℕ → Progress → Call → Progress → Type 0
+MayTellQueue sli n at s (Take from) t = t ≡ with_reply at s (Take from) (Refused Stranger)
 MayTellQueue sli n at s (Drain most) t =
     (posts : List Post) × All (IsFromOther n at) posts × (length posts ≤ most)
-    × (t ≡ told_reply at (told_takes at s posts) (Drain most) (Drained (length posts)))
+    × (t ≡ with_reply at (with_takes at s posts) (Drain most) (Drained (length posts)))
 MayTellQueue sli n at s call t = MayTell sli n at s call t
 
 -- the calls of a script, one after another
-abbrev pub MayTellQueueAll : ℕ → ℕ → ℕ → Told → List Call → Told → Type 0
+abbrev pub MayTellQueueAll : ℕ → ℕ → ℕ → Progress → List Call → Progress → Type 0
 MayTellQueueAll sli n at s calls t = AllTold (MayTellQueue sli n at) s calls t

@@ -14,17 +14,17 @@ use Rattle.tlsf_calls.specs.declared.took.Took.{Took}
 use Rattle.tlsf_crew.specs.model.World.{World, Replayed, heap_in, called, made_by, name_of}
 
 -- what a worker was told so far: the names that its calls made, its entries, and its heap
-pub record Told : Type 0 where
+pub record Progress : Type 0 where
   pub made : List (Option Name)
   pub entries : List Entry
   pub heap : HeapState
 
 -- a worker that was told nothing
-abbrev pub untold : HeapState → Told
+abbrev pub untold : HeapState → Progress
 untold h = record { made = []; entries = []; heap = h }
 
 -- what worker `at` was told by the model
-abbrev pub told_by : {sli : ℕ} → ℕ → Replayed sli → Told
+abbrev pub told_by : {sli : ℕ} → ℕ → Replayed sli → Progress
 told_by at r = record { made = r.made; entries = r.entries; heap = heap_in r.world at }
 
 -- a world of n workers in which worker `at` has this heap
@@ -42,7 +42,7 @@ pub record Suits {sli : ℕ} (w : World sli) (at : ℕ) (made : List (Option Nam
   pub empty : (from : ℕ) → call ≡ Take from → from ≢ at → from < length w.heaps → answer ≡ Empty → w.waiting from at ≡ []
 
 -- one call more, with this reply, that leaves this heap
-abbrev pub told_more : ℕ → Told → Call → Reply → HeapState → Told
+abbrev pub told_more : ℕ → Progress → Call → Reply → HeapState → Progress
 told_more at s call reply g = record {
   made = s.made ++ made_by reply ∷ [];
   entries = s.entries ++ record { worker = at; call = call; reply = reply } ∷ [];
@@ -50,20 +50,20 @@ told_more at s call reply g = record {
 }
 
 -- so the model answers a worker of n in each world that suits
-abbrev pub IsModelAnswer : ℕ → ℕ → ℕ → Told → Call → Reply → HeapState → Type 0
+abbrev pub IsModelAnswer : ℕ → ℕ → ℕ → Progress → Call → Reply → HeapState → Type 0
 IsModelAnswer sli n at s call reply g =
     at < n → (w : World sli) → HasHeap w n at s.heap → Suits w at s.made call reply
     → told_by at (called (record { made = s.made; entries = s.entries; world = w }) at call) ≡ told_more at s call reply g
 
 -- one call more, answered as in some world in which the worker has its heap: what waits in the lanes is free to choose
-abbrev pub MayTell : ℕ → ℕ → ℕ → Told → Call → Told → Type 0
+abbrev pub MayTell : ℕ → ℕ → ℕ → Progress → Call → Progress → Type 0
 MayTell sli n at s call t =
     (w : World sli) × HasHeap w n at s.heap × (told_by at (called (record { made = s.made; entries = s.entries; world = w }) at call) ≡ t)
 
 -- the calls of a script, one after another
-abbrev pub AllTold : (Told → Call → Told → Type 0) → Told → List Call → Told → Type 0
+abbrev pub AllTold : (Progress → Call → Progress → Type 0) → Progress → List Call → Progress → Type 0
 AllTold tells s [] t = t ≡ s
-AllTold tells s (call ∷ calls) t = (u : Told) × tells s call u × AllTold tells u calls t
+AllTold tells s (call ∷ calls) t = (u : Progress) × tells s call u × AllTold tells u calls t
 
-abbrev pub MayTellAll : ℕ → ℕ → ℕ → Told → List Call → Told → Type 0
+abbrev pub MayTellAll : ℕ → ℕ → ℕ → Progress → List Call → Progress → Type 0
 MayTellAll sli n at s calls t = AllTold (MayTell sli n at) s calls t

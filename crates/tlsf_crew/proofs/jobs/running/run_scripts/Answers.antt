@@ -1,0 +1,28 @@
+use Rattle.std.proofs.Common.{arith}
+use Rattle.tlsf_crew.proofs.lemmas.jobs.Gathering.{jobs_gathered, room_of_done}
+use Rattle.tlsf_crew.proofs.jobs.running.run_scripts.Goals as goal
+
+pub returns : goal.returns
+returns g c = record {
+  run = jobs_gathered (g.P.Scripted.promise g.row.SLI) c.count_all-releases.result c.in_ok-jobs.jobs.items c.in_ok-done.done.items c.args.workers.items c.args.scripts.items c.take_apart.new.out.records.items c.take_apart.new.out.workers.items c.in_ok-jobs.ensures.workers c.in_ok-jobs.ensures.scripts
+      c.take_apart.ensures.parts.0 c.take_apart.ensures.parts.1 (rw c.deref.ensures.value at c.count_all-releases.ensures) c.in_ok-jobs.ensures.ready c.in_ok-done.ensures.done;
+}
+
+pub prepare-requires : goal.prepare-requires
+prepare-requires g c = (omega arith, (omega arith, (c.requires.yard, (c.requires.count, c.requires.short))))
+
+pub take_apart-requires : goal.take_apart-requires
+take_apart-requires g c =
+    (omega arith, (omega arith, (c.in_ok-outcome.ensures.empty, room_of_done _ _ _ _ _ c.in_ok-done.ensures.len c.len.ensures c.in_ok-outcome.ensures.room)))
+
+pub count_all-releases-requires-clause-short : goal.count_all-releases-requires-clause-short
+count_all-releases-requires-clause-short g c = rw c.deref.ensures.value c.requires.short
+
+pub count_all-releases-requires-clause-few : goal.count_all-releases-requires-clause-few
+count_all-releases-requires-clause-few g c =
+    let l = c.args.workers.ok in
+    let m = c.args.scripts.ok in
+    rw c.deref.ensures.value (omega (arith, c.requires.few, c.requires.count))
+
+pub run_all-requires-clause-ready : goal.run_all-requires-clause-ready
+run_all-requires-clause-ready g c κs within = λ k d lt. (c.in_ok-jobs.ensures.ready k d lt).ready
