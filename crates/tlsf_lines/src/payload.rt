@@ -43,6 +43,7 @@ fn read_pairs(digits: &[u8], bytes: &mut [u8]) -> bool
 /// ```
 /// // of "4869" it is the bytes 48 69 (hexadecimal), of "486" none
 /// ```
+#[inline(always)]
 pub fn chunk_in(field: &[u8]) -> Option<Chunk>
     ensures { result ≡ Payloads.chunk_in field.now }
 {

@@ -95,6 +95,7 @@ fn make_drain(worker: Option<u32>, most: Option<u32>) -> Option<Line>
 }
 
 // The worker and the label that the first two fields say, and the fields behind them.
+#[inline(always)]
 fn next_block(
     workers: u32,
     fields: Option<&[u8]>,
@@ -109,6 +110,7 @@ fn next_block(
 }
 
 // A place in a block: the worker, the label and the byte that the first three fields say, and the fields behind them.
+#[inline(always)]
 fn next_place(
     workers: u32,
     fields: Option<&[u8]>,
@@ -123,6 +125,7 @@ fn next_place(
 }
 
 // The worker, the label and the length that all three fields say.
+#[inline(always)]
 fn last_length(
     workers: u32,
     fields: Option<&[u8]>,

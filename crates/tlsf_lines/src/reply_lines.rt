@@ -11,7 +11,17 @@ use std::alloc::AllocError;
 use tlsf_calls::{Call, Chunk, Entry, Reply};
 use tlsf_heap::{Name, Refusal};
 
+// Adds a number in decimal digits. It stands apart, so that a single digit, which is written without it, saves no
+// registers.
+#[inline(never)]
+fn write_long(text: &mut String, number: u64) -> Result<(), AllocError>
+    ensures { OnOk result (string_bytes text.new ≡ string_bytes text.old ++ decimal number) }
+{
+    text.push_str(Buffer::new().format(number))
+}
+
 // Adds a number in decimal digits. A line has up to five, so each is written without the formatter's machinery.
+#[inline(always)]
 #[tactic(auto, using(std::proofs::lemmas::Fmt::decimal_digit))]
 fn write_number(text: &mut String, number: u64) -> Result<(), AllocError>
     ensures { OnOk result (string_bytes text.new ≡ string_bytes text.old ++ decimal number) }
@@ -20,7 +30,7 @@ fn write_number(text: &mut String, number: u64) -> Result<(), AllocError>
     if number < 10 {
         return text.push(char::from(b'0' + number as u8));
     }
-    text.push_str(Buffer::new().format(number))
+    write_long(text, number)
 }
 
 // Adds the word of a call.

@@ -79,6 +79,7 @@ impl Script {
     }
 
     // Adds an event and its label.
+    #[inline(always)]
     fn push(&mut self, worker: u32, call: Call, label: Option<u32>) -> Result<(), AllocError>
         ensures events { OnOk result (self.new.events.items ≡ self.old.events.items ++ record { worker = worker; call = call } ∷ []) }
         ensures labels { OnOk result (self.new.labels.items ≡ self.old.labels.items ++ label ∷ []) }

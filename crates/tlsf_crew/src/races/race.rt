@@ -108,7 +108,7 @@ fn drain_one<const SLI: u32>(
         limits: [0; 8],
         entries: mem::replace(entries, Vec::new(alloc)),
     };
-    let reply = reply_in_yard(workers, event, None, &mut journal);
+    let reply = reply_in_yard(workers, &event, None, &mut journal);
     journal.entries.push_reserved(Entry {
         worker: at,
         call: event.call,

@@ -49,37 +49,38 @@ fn settle_named<const SLI: u32>(workers: &mut [Worker<SLI>], at: usize, name: Op
     }
 }
 
-/// Settles the lanes that an event concerns whose target means this name. Answers how many posts the worker may take then from each other one: all
-/// that wait, where it takes any.
+/// Settles the lanes that an event concerns whose target means this name. `limits` says then how many posts the worker may take from each other one:
+/// all that wait, where it takes any.
 #[inline(always)]
 fn settle_for<const SLI: u32>(
     workers: &mut [Worker<SLI>],
-    event: Event,
+    event: &Event,
     name: Option<Name>,
-) -> [u64; 8]
+    limits: &mut [u64; 8],
+)
     requires yard { IsYard workers.old }
-    requires inside { event.worker < length workers.old }
-    ensures settled { (made : List (Option Name)) → target_name made event.call ≡ name → (i j : ℕ) → i < length workers.old → j < length workers.old → i ≢ j → Concerns made event i j
+    requires inside { event.now.worker < length workers.old }
+    ensures settled { (made : List (Option Name)) → target_name made event.now.call ≡ name → (i j : ℕ) → i < length workers.old → j < length workers.old → i ≢ j → Concerns made event.now i j
         → LaneSettled workers.old workers.new i j }
     ensures yard { IsYard workers.new }
     ensures count { length workers.new ≡ length workers.old }
     ensures world { world_of workers.new ≡ world_of workers.old }
-    ensures limits { AreLimits workers.new event result }
+    ensures limits { AreLimits workers.new event.now limits.new }
 {
     let at = event.worker as usize;
     match event.call {
         Call::Release { .. } => {
             settle_named(workers, at, name);
-            [0; 8]
+            *limits = [0; 8];
         }
         Call::Take { .. } | Call::Drain { .. } => {
             settle_column(workers, at);
-            count_each(&workers[at])
+            *limits = count_each(&workers[at]);
         }
-        Call::Allocate { .. } => [0; 8],
-        Call::Write { .. } => [0; 8],
-        Call::Read { .. } => [0; 8],
-        Call::Resize { .. } => [0; 8],
+        Call::Allocate { .. } => *limits = [0; 8],
+        Call::Write { .. } => *limits = [0; 8],
+        Call::Read { .. } => *limits = [0; 8],
+        Call::Resize { .. } => *limits = [0; 8],
     }
 }
 
@@ -87,46 +88,46 @@ fn settle_for<const SLI: u32>(
 /// A drain writes its takes; the event's own entry is still to come.
 pub(crate) fn reply_in_yard<const SLI: u32>(
     workers: &mut [Worker<SLI>],
-    event: Event,
+    event: &Event,
     name: Option<Name>,
     journal: &mut Journal,
 ) -> Reply
     requires yard { IsYard workers.old }
-    requires inside { event.worker < length workers.old }
-    requires room { vec_len journal.old.entries + sum_below 8 (λ i. length (waits_in workers.old i event.worker)) ≤ vec_capacity journal.old.entries }
-    requires meant { (made : List (Option Name)) × (target_name made event.call ≡ name) }
-    ensures replied { (made : List (Option Name)) → target_name made event.call ≡ name → IsReplied (replay_of made journal.old.entries.items workers.old) event journal.new.entries.items workers.new result }
+    requires inside { event.now.worker < length workers.old }
+    requires room { vec_len journal.old.entries + sum_below 8 (λ i. length (waits_in workers.old i event.now.worker)) ≤ vec_capacity journal.old.entries }
+    requires meant { (made : List (Option Name)) × (target_name made event.now.call ≡ name) }
+    ensures replied { (made : List (Option Name)) → target_name made event.now.call ≡ name → IsReplied (replay_of made journal.old.entries.items workers.old) event.now journal.new.entries.items workers.new result }
     ensures capacity { vec_capacity journal.new.entries ≡ vec_capacity journal.old.entries }
 {
-    journal.limits = settle_for(workers, event, name);
+    settle_for(workers, event, name, &mut journal.limits);
     let worker = &mut workers[event.worker as usize];
-    let reply = reply_to(worker, &(), journal, event.call, name);
-    settle_for(workers, event, name);
+    let reply = reply_to(worker, &(), journal, &event.call, name);
+    settle_for(workers, event, name, &mut [0; 8]);
     reply
 }
 
 /// Runs one event.
 fn run_event<const SLI: u32>(
     workers: &mut [Worker<SLI>],
-    event: Event,
+    event: &Event,
     made: &mut Vec<Option<Name>>,
     journal: &mut Journal,
 )
     requires yard { IsYard workers.old }
     requires made { vec_len made.old < vec_capacity made.old }
-    requires takes { vec_len journal.old.entries + sum_below 8 (λ i. length (waits_in workers.old i event.worker)) ≤ vec_capacity journal.old.entries }
-    requires room { length (after (replay_of made.old.items journal.old.entries.items workers.old) event).entries ≤ vec_capacity journal.old.entries }
+    requires takes { vec_len journal.old.entries + sum_below 8 (λ i. length (waits_in workers.old i event.now.worker)) ≤ vec_capacity journal.old.entries }
+    requires room { length (after (replay_of made.old.items journal.old.entries.items workers.old) event.now).entries ≤ vec_capacity journal.old.entries }
     ensures yard { IsYard workers.new }
     ensures capacity { (vec_capacity made.new ≡ vec_capacity made.old) × (vec_capacity journal.new.entries ≡ vec_capacity journal.old.entries) }
     ensures made { vec_len made.new ≡ vec_len made.old + 1 }
-    ensures after { replay_of made.new.items journal.new.entries.items workers.new ≡ after (replay_of made.old.items journal.old.entries.items workers.old) event }
+    ensures after { replay_of made.new.items journal.new.entries.items workers.new ≡ after (replay_of made.old.items journal.old.entries.items workers.old) event.now }
 {
     if (event.worker as usize) >= workers.len() {
         let stranger = Reply::Refused(CrewRefusal::Stranger);
         answer(event, stranger, made, &mut journal.entries);
         return;
     }
-    let name = target_name(event.call, made);
+    let name = target_name(&event.call, made);
     let reply = reply_in_yard(workers, event, name, journal);
     answer(event, reply, made, &mut journal.entries);
 }
@@ -210,7 +211,7 @@ fn replay_within<const SLI: u32>(
     made.reserve(events.len())?;
     let mut journal = Journal::with_room(alloc, room)?;
     for event in events.iter() {
-        run_event(workers, *event, made, &mut journal);
+        run_event(workers, event, made, &mut journal);
     }
     Ok(journal.entries)
 }

@@ -33,7 +33,7 @@ fn made_name(reply: Reply) -> Option<Name>
 
 /// One answer more.
 pub(crate) fn answer(
-    event: Event,
+    event: &Event,
     reply: Reply,
     made: &mut Vec<Option<Name>>,
     entries: &mut Vec<Entry>,
@@ -41,7 +41,7 @@ pub(crate) fn answer(
     requires made { vec_len made.old < vec_capacity made.old }
     requires room { vec_len entries.old < vec_capacity entries.old }
     ensures made { made.new.items ≡ made.old.items ++ made_by reply ∷ [] }
-    ensures entries { entries.new.items ≡ entries.old.items ++ record { worker = event.worker; call = event.call; reply = reply } ∷ [] }
+    ensures entries { entries.new.items ≡ entries.old.items ++ record { worker = event.now.worker; call = event.now.call; reply = reply } ∷ [] }
     ensures capacity { (vec_capacity made.new ≡ vec_capacity made.old) × (vec_capacity entries.new ≡ vec_capacity entries.old) }
 {
     made.push_reserved(made_name(reply));
@@ -126,25 +126,25 @@ pub(crate) fn reply_to<const SLI: u32, C, P: Scripted<C>>(
     worker: &mut Worker<SLI, P>,
     context: &C,
     journal: &mut Journal,
-    call: Call,
+    call: &Call,
     name: Option<Name>,
 ) -> Reply
     requires room { HasTakePlaces journal.old }
-    ensures stepped { (n : ℕ) (made : List (Option Name)) → target_name made call ≡ name → (P.promise SLI).knows n worker.old
-        → P.steps SLI n (stage_of worker.old journal.old) call made (stage_of worker.new journal.new) result }
+    ensures stepped { (n : ℕ) (made : List (Option Name)) → target_name made call.now ≡ name → (P.promise SLI).knows n worker.old
+        → P.steps SLI n (stage_of worker.old journal.old) call.now made (stage_of worker.new journal.new) result }
     ensures capacity { vec_capacity journal.new.entries ≡ vec_capacity journal.old.entries }
 {
     P::heap_keeps();
     P::quiet_step();
     P::drains_step();
     match call {
-        Call::Allocate { len } => reply_to_own_allocate(worker, len),
+        Call::Allocate { len } => reply_to_own_allocate(worker, *len),
         Call::Release { .. } => reply_to_release(worker, context, name),
-        Call::Write { at, bytes, .. } => reply_to_own_write(worker, name, at, bytes),
-        Call::Read { at, n, .. } => reply_to_own_read(worker, name, at, n),
-        Call::Resize { len, .. } => reply_to_own_resize(worker, name, len),
-        Call::Take { from } => reply_to_take(worker, context, journal, from),
-        Call::Drain { most } => Reply::Drained(drain_each(worker, context, most, journal).taken),
+        Call::Write { at, bytes, .. } => reply_to_own_write(worker, name, *at, bytes),
+        Call::Read { at, n, .. } => reply_to_own_read(worker, name, *at, *n),
+        Call::Resize { len, .. } => reply_to_own_resize(worker, name, *len),
+        Call::Take { from } => reply_to_take(worker, context, journal, *from),
+        Call::Drain { most } => Reply::Drained(drain_each(worker, context, *most, journal).taken),
     }
 }
 
@@ -165,11 +165,11 @@ pub(crate) fn run_call<const SLI: u32, C, P: Scripted<C>>(
 {
     P::moves_join();
     P::steps_tell();
-    let name = target_name(call, made);
-    let reply = reply_to(worker, context, journal, call, name);
+    let name = target_name(&call, made);
+    let reply = reply_to(worker, context, journal, &call, name);
     let event = Event {
         worker: worker.id,
         call,
     };
-    answer(event, reply, made, &mut journal.entries);
+    answer(&event, reply, made, &mut journal.entries);
 }

@@ -31,14 +31,14 @@ fn named(target: Target, made: &[Option<Name>]) -> Option<Name>
 }
 
 /// The name that the target of a call means, None where the call has no target or its target means none.
-pub(crate) fn target_name(call: Call, made: &[Option<Name>]) -> Option<Name>
-    ensures { result ≡ target_name made.now call }
+pub(crate) fn target_name(call: &Call, made: &[Option<Name>]) -> Option<Name>
+    ensures { result ≡ target_name made.now call.now }
 {
     match call {
         Call::Release { target }
         | Call::Write { target, .. }
         | Call::Read { target, .. }
-        | Call::Resize { target, .. } => named(target, made),
+        | Call::Resize { target, .. } => named(*target, made),
         Call::Allocate { .. } | Call::Take { .. } | Call::Drain { .. } => None,
     }
 }
@@ -63,9 +63,9 @@ pub(crate) fn reply_to_own_write<const SLI: u32, P: Ports>(
     worker: &mut Worker<SLI, P>,
     name: Option<Name>,
     from: u32,
-    bytes: Chunk,
+    bytes: &Chunk,
 ) -> Reply
-    ensures replied { IsHeapReply result (heap_of worker.new) (own_writing (heap_of worker.old) name from (bytes_of bytes)) }
+    ensures replied { IsHeapReply result (heap_of worker.new) (own_writing (heap_of worker.old) name from (bytes_of bytes.now)) }
     ensures same { SameButHeap worker.old worker.new }
 {
     let Some(name) = name else {
@@ -123,6 +123,7 @@ fn read_own_chunk<const SLI: u32, P: Ports>(
 }
 
 /// Reads `n` bytes of the block that the target meant, from byte `from` of it on. More than 64 are refused.
+#[inline(always)]
 pub(crate) fn reply_to_own_read<const SLI: u32, P: Ports>(
     worker: &mut Worker<SLI, P>,
     name: Option<Name>,
