@@ -125,12 +125,16 @@ module _ {bs : List Block} {words : ℕ} (whole : words_in bs ≡ words) where
         ap (λ (k : ℕ). back_behind 0 nowhere (take k bs)) (sym more) ∙ back_next before,
       )
 
-  -- where a tag names none before, none is
-  pub none_before : words_in bs ≤ 2 ^ 24 → {at i : ℕ} → StandsAt bs at i → back_behind 0 nowhere (take i bs) ≡ nowhere → last_free (take i bs) ≡ 0
-  none_before small {i = zero} stands none = refl
-  none_before small {i = suc j} stands none = let b = before_here stands in absurd (omega (arith, b.2, none, small, words_around (around bs _ j b.0)))
+  -- nothing is before the block at place 0
+  pub none_before : {at i : ℕ} → StandsAt bs at i → at ≡ 0 → last_free (take i bs) ≡ 0
+  none_before {i = i} stands first = omega (arith, last_words (take i bs), stands.place, first)
 
-  -- else a block begins there
+  -- the tag of any other names a block before it
+  pub some_before : words_in bs ≤ 2 ^ 24 → {at i : ℕ} → StandsAt bs at i → at ≢ 0 → back_behind 0 nowhere (take i bs) ≢ nowhere
+  some_before small {i = zero} stands later = absurd (later (sym stands.place))
+  some_before small {i = suc j} stands later = let b = before_here stands in (λ none. omega (arith, b.2, none, small, words_around (around bs _ j b.0)))
+
+  -- and one begins there
   pub place_before : {at i : ℕ} → StandsAt bs at i → back_behind 0 nowhere (take i bs) ≢ nowhere → IsPlace bs (back_behind 0 nowhere (take i bs))
   place_before {i = zero} stands some = absurd (some refl)
   place_before {i = suc j} stands some = let b = before_here stands in (j, subst (λ (k : ℕ). StandsAt bs k j) (sym b.2) b.0)

@@ -1,17 +1,17 @@
 //! Good fit, splitting and coalescing over a region and the lists of its free blocks. Sizes and places are in words.
-ghost use Rattle.std.specs.Prelude.{◌≡◌, ℕ, ◌+◌, ◌-◌, ◌<◌, ◌≤◌, ◌++◌, true, false, Some, slice_get};
+ghost use Rattle.std.specs.Prelude.{◌≡◌, ◌≢◌, ℕ, ◌+◌, ◌-◌, ◌<◌, ◌≤◌, ◌++◌, true, false, Some, slice_get};
 ghost use Rattle.std.specs.List.{AllByRecursion};
 ghost use Rattle.tlsf_heap.specs.Blocks.{size_of, words_in, payload_words, is_free, stamps, want, StandsAt};
 ghost use Rattle.tlsf_class.specs.Classes.{IsLevel, most_words};
 ghost use Rattle.tlsf_heap.specs.Regions.{AreRegions, EachAt, HasAt, IsTagOf, IsNextTag, IsPreviousTag, AreTagsAround, withheld, list_in, OnlyReads, Edits};
 ghost use Rattle.tlsf_heap.specs.GoodFit.{block_at};
 ghost use Rattle.tlsf_heap.specs.Chosen.{IsHead, IsBestClass};
-ghost use Rattle.tlsf_heap.specs.Calls.{carved, coalesced, first_free, last_free};
+ghost use Rattle.tlsf_heap.specs.Calls.{carved, coalesced, first_free, last_free, last_tick};
 ghost use Rattle.tlsf_heap.specs.FreePlaces.{AreFreeLists};
 
 use crate::region::Region;
 use tlsf_class::{Class, class_of, most_words, search_of};
-use tlsf_words::{NO_PLACE, Tag};
+use tlsf_words::Tag;
 
 /// The class whose list has the block that serves a request of `words` words as its head.
 pub fn choose<const SLI: u32>(region: &mut Region<SLI>, words: u32) -> Option<Class<SLI>>
@@ -59,11 +59,12 @@ pub fn carve<const SLI: u32>(
     at
 }
 
-/// Makes the live block at a place, of this tag, and its free neighbours one free block.
+/// Makes the live block at a place, of this tag, and its free neighbours one free block, stamped with the tick, which then rises by one.
 // Where neither neighbour is free, most often, a release is this alone. Always inline: behind a call the tag is taken apart for all
-// releases, and not where a merge needs a part of it.
+// releases, and not where a merge needs a part of it. The tick rises before a merge, so that no register is kept for it over the call,
+// and else behind the stores of the header, where one instruction does it.
 #[inline(always)]
-pub fn coalesce<const SLI: u32>(region: &mut Region<SLI>, at: u32, own: Tag, tick: u64)
+pub fn coalesce<const SLI: u32>(region: &mut Region<SLI>, tick: &mut u64, at: u32, own: Tag)
     requires level { IsLevel SLI }
     requires live { HasAt region.old.blocks at (λ s. is_free s.block ≡ false) }
     requires own { EachAt region.old.blocks at (λ s. IsTagOf region.old.words s own) }
@@ -71,18 +72,23 @@ pub fn coalesce<const SLI: u32>(region: &mut Region<SLI>, at: u32, own: Tag, tic
     requires sized { AreRegions SLI region.old.blocks }
     requires small { words_in region.old.blocks ≤ most_words SLI }
     requires listed { AreFreeLists SLI region.old.blocks (list_in region.old.lists) }
-    requires stamped { AllByRecursion (λ s. s < tick) (stamps region.old.blocks) }
-    ensures blocks { EachAt region.old.blocks at (λ s. region.new.blocks ≡ coalesced tick s) }
+    requires stamped { AllByRecursion (λ s. s < tick.old) (stamps region.old.blocks) }
+    requires left { tick.old ≢ last_tick }
+    ensures blocks { EachAt region.old.blocks at (λ s. region.new.blocks ≡ coalesced tick.old s) }
     ensures listed { AreFreeLists SLI region.new.blocks (list_in region.new.lists) }
     ensures edits { Edits region.old region.new 27 }
+    ensures tick { tick.new ≡ tick.old + 1 }
 {
     let next = next_tag(region, at, own);
     let previous = previous_tag(region, at, own);
     if next.is_free() || previous.is_free() {
-        merge(region, at, own, next, previous, tick);
+        let stamp = *tick;
+        *tick = stamp + 1;
+        merge(region, next, previous, stamp, at, own);
         return;
     }
-    region.free(at, own, tick);
+    region.free(at, own, *tick);
+    *tick += 1;
     region.push(class_of(own.size()), at);
 }
 
@@ -112,22 +118,25 @@ fn previous_tag<const SLI: u32>(region: &mut Region<SLI>, at: u32, own: Tag) -> 
     ensures tag { EachAt region.old.blocks at (λ s. IsPreviousTag s result) }
     ensures reads { OnlyReads region.old region.new 1 }
 {
-    if own.back() == NO_PLACE {
+    // No block is before the one at place 0, whose tag names none: a compare with 0 takes no constant.
+    if at == 0 {
         return Tag::new(0, false, false, 0);
     }
     region.tag(own.back())
 }
 
 /// Makes the live block at a place and its free neighbours, of which there is one at least, one free block. The tags are theirs.
-// Always inline: out of line it costs the releases that merge three times what it saves the others.
-#[inline(always)]
+// Never inline: so a release that merges nothing saves no registers. What a caller knows last comes first, since the register of the
+// second argument holds the name until its serial is read; and the stamp is the fourth, since that one's register is wanted for
+// shifts, and the stamp is needed last.
+#[inline(never)]
 fn merge<const SLI: u32>(
     region: &mut Region<SLI>,
-    at: u32,
-    own: Tag,
     next: Tag,
     previous: Tag,
     tick: u64,
+    at: u32,
+    own: Tag,
 )
     requires level { IsLevel SLI }
     requires live { HasAt region.old.blocks at (λ s. is_free s.block ≡ false) }
@@ -173,20 +182,21 @@ fn join<const SLI: u32>(
     ensures listed { EachAt region.old.blocks at (λ s. AreFreeLists SLI (withheld s) (list_in region.new.lists)) }
     ensures edits { Edits region.old region.new 18 }
 {
-    let before = previous.size();
-    let after = next.size();
     if !next.is_free() {
+        let before = previous.size();
         region.remove(before, at - before);
         let whole = own.as_free().with_previous(previous);
         region.merge(at, before, 0, true, false, whole, tick);
         return (at - before, whole.size());
     }
+    let after = next.size();
     region.remove(after, at + own.size());
     let behind = own.with_next(next);
     if !previous.is_free() {
         region.merge(at, 0, after, false, true, behind, tick);
         return (at, behind.size());
     }
+    let before = previous.size();
     region.remove(before, at - before);
     let whole = behind.with_previous(previous);
     region.merge(at, before, after, true, true, whole, tick);

@@ -46,9 +46,10 @@ use tlsf_words::{Tag, Words};
 /// Places and sizes are in words of 8 bytes, lengths in bytes.
 #[derive(Drop)]
 pub struct Heap<const SLI: u32> {
+    // First, so that the address of the heap is that of its region.
+    region: Region<SLI>,
     id: u32,
     tick: u64,
-    region: Region<SLI>,
 }
 
 impl<const SLI: u32> Model for Heap<SLI> {
@@ -239,12 +240,10 @@ impl<const SLI: u32> Heap<SLI> {
         ensures forged { FollowsNoForgery self.old.heap name self.old.touches self.new.touches }
     {
         let own = self.check(name)?;
-        let tick = self.tick;
-        if tick == u64::MAX {
+        if self.tick == u64::MAX {
             return Err(Refusal::Worn);
         }
-        self.tick = tick + 1;
-        coalesce(&mut self.region, name.at, own, tick);
+        coalesce(&mut self.region, &mut self.tick, name.at, own);
         Ok(())
     }
 

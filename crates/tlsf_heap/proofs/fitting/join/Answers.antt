@@ -188,7 +188,7 @@ overflow_sub-at-2 g c =
     let tags = c.requires.tags live.0 live.1 in
     let f = is_between g.row.SLI live c.requires.sized c.requires.stamped c.requires.listed refl in
     let not_live = sym c.is_free-2.ensures ∙ c.if-not-is_free-2.false in
-    let ahead = c.size-before.ensures.value ∙ tags.is_previous.size not_live in
+    let ahead = c.size-before-2.ensures.value ∙ tags.is_previous.size not_live in
     omega (arith, ahead, before_within g.row.SLI f)
 
 pub remove-requires-3 : goal.remove-requires-3
@@ -198,7 +198,7 @@ remove-requires-3 g c =
     let f = is_between g.row.SLI live c.requires.sized c.requires.stamped c.requires.listed refl in
     let next_free = sym c.is_free.ensures ∙ c.if-not-is_free.false in
     let not_live = sym c.is_free-2.ensures ∙ c.if-not-is_free-2.false in
-    let ahead = c.size-before.ensures.value ∙ tags.is_previous.size not_live in
+    let ahead = c.size-before-2.ensures.value ∙ tags.is_previous.size not_live in
     let behind = c.size-after.ensures.value ∙ tags.is_next.size next_free in
     let place = ap (λ n. c.args.at + n) (c.size-2.ensures.value ∙ tags.is_own.size) in
     let out = taken_out g.row.SLI (tags.is_next.some next_free) (ap (class_of g.row.SLI) behind) place c.remove-2.ensures.list c.remove-2.ensures.others in
@@ -231,14 +231,14 @@ merge-requires-2 g c =
     let f = is_between g.row.SLI live c.requires.sized c.requires.stamped c.requires.listed refl in
     let next_free = sym c.is_free.ensures ∙ c.if-not-is_free.false in
     let not_live = sym c.is_free-2.ensures ∙ c.if-not-is_free-2.false in
-    let ahead = c.size-before.ensures.value ∙ tags.is_previous.size not_live in
+    let ahead = c.size-before-2.ensures.value ∙ tags.is_previous.size not_live in
     let behind = c.size-after.ensures.value ∙ tags.is_next.size next_free in
     let place = ap (λ n. c.args.at + n) (c.size-2.ensures.value ∙ tags.is_own.size) in
     let out = taken_out g.row.SLI (tags.is_next.some next_free) (ap (class_of g.row.SLI) behind) place c.remove-2.ensures.list c.remove-2.ensures.others in
     let out_too = taken_out g.row.SLI (tags.is_previous.some not_live) (ap (class_of g.row.SLI) ahead) (ap (λ n. c.args.at - n) ahead) c.remove-3.ensures.list c.remove-3.ensures.others in
     let whole = c.with_previous-whole-2.ensures in
     let first = c.with_next-behind.ensures in
-    let are = with_both_are tags whole.free c.size-before.ensures.value c.size-after.ensures.value next_free not_live (whole.size ∙ ap (λ n. c.args.previous.size + n) first.size) (whole.last ∙ first.last) whole.back in
+    let are = with_both_are tags whole.free c.size-before-2.ensures.value c.size-after.ensures.value next_free not_live (whole.size ∙ ap (λ n. c.args.previous.size + n) first.size) (whole.last ∙ first.last) whole.back in
     let left = withheld_listed g.row.SLI f out out_too (λ class. refl) live.0 live.1 in
     let blocks = c.remove-3.ensures.blocks ∙ c.remove-2.ensures.blocks in
     let words = c.remove-3.ensures.edits.words ∙ c.remove-2.ensures.edits.words in
@@ -269,7 +269,7 @@ overflow_sub-result-2 g c =
     let tags = c.requires.tags live.0 live.1 in
     let f = is_between g.row.SLI live c.requires.sized c.requires.stamped c.requires.listed refl in
     let not_live = sym c.is_free-2.ensures ∙ c.if-not-is_free-2.false in
-    let ahead = c.size-before.ensures.value ∙ tags.is_previous.size not_live in
+    let ahead = c.size-before-2.ensures.value ∙ tags.is_previous.size not_live in
     omega (arith, ahead, before_within g.row.SLI f)
 
 pub returns-clause-listed : goal.returns-clause-listed
@@ -279,7 +279,7 @@ returns-clause-listed g c =
     let f = is_between g.row.SLI live c.requires.sized c.requires.stamped c.requires.listed refl in
     let next_free = sym c.is_free.ensures ∙ c.if-not-is_free.false in
     let not_live = sym c.is_free-2.ensures ∙ c.if-not-is_free-2.false in
-    let ahead = c.size-before.ensures.value ∙ tags.is_previous.size not_live in
+    let ahead = c.size-before-2.ensures.value ∙ tags.is_previous.size not_live in
     let behind = c.size-after.ensures.value ∙ tags.is_next.size next_free in
     let place = ap (λ n. c.args.at + n) (c.size-2.ensures.value ∙ tags.is_own.size) in
     let out = taken_out g.row.SLI (tags.is_next.some next_free) (ap (class_of g.row.SLI) behind) place c.remove-2.ensures.list c.remove-2.ensures.others in

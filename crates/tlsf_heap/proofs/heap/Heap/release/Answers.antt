@@ -1,4 +1,4 @@
-use Rattle.std.proofs.Common.{◌≡◌, ℕ, ◌+◌, sym, ap, ◌∙◌, subst, Ok, Err, arith}
+use Rattle.std.proofs.Common.{◌≡◌, ℕ, sym, ap, ◌∙◌, subst, Ok, Err, arith}
 use Rattle.std.proofs.lemmas.Result.{err_from_is_err_and}
 use Rattle.tlsf_heap.specs.Blocks.{HeapState}
 use Rattle.tlsf_heap.specs.GoodFit.{site_at}
@@ -29,17 +29,17 @@ returns-in_err-own-clause-heap g c =
 
 -- ---- the tick is at its last value
 
-worn : (g : Over) (c : goal.Then-tick g) → Releases c.args.self.now.heap c.args.name (Err Worn) c.check.new.self.heap
+worn : (g : Over) (c : goal.Then-self g) → Releases c.args.self.now.heap c.args.name (Err Worn) c.check.new.self.heap
 worn g c =
     let same : state_of g.row.SLI c.self.inside ≡ c.args.self.now.heap = ap (λ (s : Shown). s.heap) c.self.view_is ∙ c.in_ok-own.ensures.heap in
     releases_worn c.args.self.now.heap c.check.new.self.heap c.args.name c.in_ok-own.ensures.lawful c.in_ok-own.ensures.heap c.in_ok-own.ensures.answer.0
-    (sym (ap (λ (s : HeapState). s.tick) same) ∙ c.if-tick.true)
+    (sym (ap (λ (s : HeapState). s.tick) same) ∙ c.if-self.true)
 
-pub returns-then-tick-clause-answer : goal.returns-then-tick-clause-answer
-returns-then-tick-clause-answer g c = (worn g c).is_answer
+pub returns-then-self-clause-answer : goal.returns-then-self-clause-answer
+returns-then-self-clause-answer g c = (worn g c).is_answer
 
-pub returns-then-tick-clause-heap : goal.returns-then-tick-clause-heap
-returns-then-tick-clause-heap g c = (worn g c).is_heap
+pub returns-then-self-clause-heap : goal.returns-then-self-clause-heap
+returns-then-self-clause-heap g c = (worn g c).is_heap
 
 -- ---- the block is released
 
@@ -63,7 +63,7 @@ coalesce-requires g c =
                   omega (arith, c.self.invariant.lawful.whole, c.self.invariant.small),
                   (
                     c.self.invariant.listed,
-                    c.self.invariant.lawful.stamps_past,
+                    (c.self.invariant.lawful.stamps_past, c.if-self.false),
                   ),
                 ),
               ),
@@ -73,13 +73,14 @@ coalesce-requires g c =
       ),
     )
 
-freed : (g : Over) (c : goal.After-coalesce g) → Releases c.args.self.now.heap c.args.name (Ok tt) (with_region (state_of g.row.SLI c.self.inside) (c.self.inside.tick + 1) c.coalesce.new.region)
+freed : (g : Over) (c : goal.After-coalesce g) → Releases c.args.self.now.heap c.args.name (Ok tt) (with_region (state_of g.row.SLI c.self.inside) c.coalesce.new.tick c.coalesce.new.region)
 freed g c =
     let same : state_of g.row.SLI c.self.inside ≡ c.args.self.now.heap = ap (λ (s : Shown). s.heap) c.self.view_is ∙ c.in_ok-own.ensures.heap in
     let named = named_same (state_of g.row.SLI c.self.inside) c.args.self.now.heap c.args.name same c.in_ok-own.ensures.answer.0 in
-    subst (λ (s : HeapState). Releases s c.args.name (Ok tt) (with_region (state_of g.row.SLI c.self.inside) (c.self.inside.tick + 1) c.coalesce.new.region)) same
+    subst (λ (s : HeapState). Releases s c.args.name (Ok tt) (with_region (state_of g.row.SLI c.self.inside) c.coalesce.new.tick c.coalesce.new.region)) same
+    (subst (λ (t : ℕ). Releases (state_of g.row.SLI c.self.inside) c.args.name (Ok tt) (with_region (state_of g.row.SLI c.self.inside) t c.coalesce.new.region)) (sym c.coalesce.ensures.tick)
     (releases_block (state_of g.row.SLI c.self.inside) c.args.name c.coalesce.new.region named c.self.invariant.lawful c.coalesce.ensures.edits.words
-    (c.coalesce.ensures.blocks named.1.0 (named_stands _ _ _ _ named.1.1)) c.if-tick.false)
+    (c.coalesce.ensures.blocks named.1.0 (named_stands _ _ _ _ named.1.1)) c.if-self.false))
 
 pub returns-clause-answer : goal.returns-clause-answer
 returns-clause-answer g c = (freed g c).is_answer
@@ -102,8 +103,8 @@ invariant_of-self g c = record {
 
 -- ---- the name was not forged
 
-pub returns-then-tick-clause-forged : goal.returns-then-tick-clause-forged
-returns-then-tick-clause-forged g c = not_forged c.args.self.now.heap c.args.name c.in_ok-own.ensures.lawful c.in_ok-own.ensures.answer.0 _ _
+pub returns-then-self-clause-forged : goal.returns-then-self-clause-forged
+returns-then-self-clause-forged g c = not_forged c.args.self.now.heap c.args.name c.in_ok-own.ensures.lawful c.in_ok-own.ensures.answer.0 _ _
 
 pub returns-clause-forged : goal.returns-clause-forged
 returns-clause-forged g c = not_forged c.args.self.now.heap c.args.name c.in_ok-own.ensures.lawful c.in_ok-own.ensures.answer.0 _ _
